@@ -1,0 +1,24 @@
+-- What the absence of a fault says of the tests behind it.
+use Rattle.std.proofs.Common.{◌≡◌, ℕ, ◌<◌, ◌≤◌, Bool, true, false, not, nat_lt, Option, Some, None, refl, ⊎_elim, lt-ltb, le-ltb}
+use Rattle.std.specs.Option.{option_or}
+use Rattle.std.proofs.lemmas.Bool.{cases_lt}
+use Rattle.const_oid.specs.declared.error.Error.{Error}
+use Rattle.const_oid.specs.Faults.{fault_if}
+
+pub both_none : {X : Type 0} (a b : Option X) → option_or a b ≡ None → (a ≡ None) × (b ≡ None)
+both_none None b h = (refl, h)
+both_none (Some x) b h = cc
+
+pub false_from_none : (test : Bool) (fault : Error) → fault_if test fault ≡ None → test ≡ false
+false_from_none true fault h = cc
+false_from_none false fault h = refl
+
+pub true_from_none : (test : Bool) (fault : Error) → fault_if (not test) fault ≡ None → test ≡ true
+true_from_none true fault h = refl
+true_from_none false fault h = cc
+
+pub below_from_none : (m n : ℕ) (fault : Error) → fault_if (nat_lt m n) fault ≡ None → n ≤ m
+below_from_none m n fault h = ⊎_elim (λ (over : m < n). let e = rw (lt-ltb m n over) at h in cc) (λ fits. fits) (cases_lt m n)
+
+pub none_from_below : (m n : ℕ) (fault : Error) → n ≤ m → fault_if (nat_lt m n) fault ≡ None
+none_from_below m n fault h = rw (le-ltb m n h)

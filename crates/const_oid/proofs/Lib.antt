@@ -1,0 +1,16 @@
+pub mod Faults
+pub mod Groups
+pub mod Subidentifiers
+pub mod Cutting
+pub mod Encodings
+pub mod Whole
+pub mod Roots
+pub mod Prefix
+pub mod Orders
+pub mod Items
+pub mod Numbers
+pub mod Texts
+pub mod Children
+pub mod Ranges
+pub mod OctetPass
+pub mod TextPass

@@ -1,0 +1,158 @@
+-- Texts: what is printed is read back, and texts have no fault exactly where they denote arcs that fit.
+use Rattle.std.proofs.Common.{◌≡◌, ℕ, ◌<◌, ◌≤◌, false, not, List, [], ◌∷◌, ◌++◌, length, map, Option, Some, None, option_map, refl, sym, ap, ◌∙◌, ⊎_elim, arith, decimal, find, ◌==◌, append-nil, le-ltb}
+use Rattle.std.proofs.lemmas.Bool.{cases_lt}
+use Rattle.std.specs.List.{AllByRecursion, join_with_byte}
+use Rattle.std.specs.Char.{is_ascii_digit}
+use Rattle.std.proofs.lemmas.List.Splits.{slice_split_at, slice_split_none, length-slice_split}
+use Rattle.const_oid.specs.declared.error.Error.TheVariants.{ArcTooBig, DigitExpected}
+use Rattle.const_oid.specs.Identifier.{RootRule, Narrow, Wide, most_arc, most_second, IsIdentifier, size}
+use Rattle.const_oid.specs.Items.{arc_fault}
+use Rattle.const_oid.specs.Text.{text_of, pieces_of, number_of, is_empty, is_one_empty, empty_fault, single_fault, piece_fault, pieces_fault, text_fault, IsNumber, Denotes, strip_piece, strip}
+use Rattle.const_oid.proofs.Subidentifiers.{second_low}
+use Rattle.const_oid.proofs.Faults.{both_none, false_from_none, below_from_none, none_from_below}
+use Rattle.const_oid.proofs.Items.{IsBegun, begun_more, arc_none, append-cons}
+use Rattle.const_oid.proofs.Numbers.{find-none, digits_from_find, undotted, decimal_is, number_of-decimal, decimal-number_of}
+
+-- ---- pieces joined and cut again
+
+pub pieces_of-join : (piece : List ℕ) (pieces : List (List ℕ)) → AllByRecursion IsNumber (piece ∷ pieces) → pieces_of (join_with_byte 46 (piece ∷ pieces)) ≡ piece ∷ pieces
+pieces_of-join piece [] h = slice_split_none (λ b. b == 46) piece (undotted piece h.0.1)
+pieces_of-join piece (next ∷ more) h =
+    slice_split_at (λ b. b == 46) piece 46 (join_with_byte 46 (next ∷ more)) (undotted piece h.0.1) refl ∙ ap (λ ps. piece ∷ ps) (pieces_of-join next more h.1)
+
+-- ---- what is printed is read back
+
+decimals_are : (arcs : List ℕ) → AllByRecursion (λ n. n ≤ most_arc) arcs → AllByRecursion IsNumber (map decimal arcs)
+decimals_are [] l = tt
+decimals_are (n ∷ ns) l = (decimal_is n l.0, decimals_are ns l.1)
+
+numbers_of-decimals : (arcs : List ℕ) → AllByRecursion (λ n. n ≤ most_arc) arcs → map number_of (map decimal arcs) ≡ arcs
+numbers_of-decimals [] l = refl
+numbers_of-decimals (n ∷ ns) l = let e = number_of-decimal n l.0 in let f = numbers_of-decimals ns l.1 in cc
+
+pub second_small : (rule : RootRule) (a b : ℕ) → b ≤ most_second rule a → b ≤ most_arc
+second_small Narrow a b h = omega arith
+second_small Wide a b h = ⊎_elim
+    (λ (low : a < 2). let l = second_low Wide a b h low in omega arith)
+    (λ (high : 2 ≤ a). rw (le-ltb a 2 high) at h)
+    (cases_lt a 2)
+
+pub arcs_small : (rule : RootRule) (arcs : List ℕ) → IsIdentifier rule arcs → AllByRecursion (λ n. n ≤ most_arc) arcs
+arcs_small rule [] i = absurd i
+arcs_small rule (a ∷ []) i = absurd i
+arcs_small rule (a ∷ b ∷ later) i = (omega (arith, i.0), (second_small rule a b i.1, i.2))
+
+pieces_of-text_of : (rule : RootRule) (arcs : List ℕ) → IsIdentifier rule arcs → pieces_of (text_of arcs) ≡ map decimal arcs
+pieces_of-text_of rule [] i = absurd i
+pieces_of-text_of rule (a ∷ arcs) i = pieces_of-join (decimal a) (map decimal arcs) (decimals_are (a ∷ arcs) (arcs_small rule (a ∷ arcs) i))
+
+pub text_denotes : (rule : RootRule) (arcs : List ℕ) → IsIdentifier rule arcs → Denotes rule (text_of arcs) arcs
+text_denotes rule arcs i =
+    let e = pieces_of-text_of rule arcs i in
+    let l = arcs_small rule arcs i in
+    record { numbers = rw e (decimals_are arcs l); values = rw e (sym (numbers_of-decimals arcs l)); identifier = i }
+
+-- no text denotes two lists
+pub same_denoted : (rule : RootRule) (text a b : List ℕ) → Denotes rule text a → Denotes rule text b → a ≡ b
+same_denoted rule text a b p q = p.values ∙ sym q.values
+
+pub same_text : (rule : RootRule) (a b : List ℕ) → IsIdentifier rule a → IsIdentifier rule b → text_of a ≡ text_of b → a ≡ b
+same_text rule a b i j e = same_denoted rule (text_of b) a b (rw e at (text_denotes rule a i)) (text_denotes rule b j)
+
+-- ---- a text is printed without its leading zeros
+
+stripped_pieces : (pieces : List (List ℕ)) → AllByRecursion IsNumber pieces → AllByRecursion (λ n. n ≤ most_arc) (map number_of pieces) → map decimal (map number_of pieces) ≡ map strip_piece pieces
+stripped_pieces [] p l = refl
+stripped_pieces (piece ∷ pieces) p l = let e = decimal-number_of piece p.0 l.0 in let f = stripped_pieces pieces p.1 l.1 in cc
+
+pub text_of-denoted : (rule : RootRule) (text arcs : List ℕ) → Denotes rule text arcs → text_of arcs ≡ strip text
+text_of-denoted rule text arcs d =
+    let l = arcs_small rule arcs d.identifier in
+    ap text_of d.values ∙ ap (join_with_byte 46) (stripped_pieces (pieces_of text) d.numbers (rw d.values at l))
+
+-- ---- pieces without a fault
+
+not_empty : (piece : List ℕ) → 0 < length piece → is_empty piece ≡ false
+not_empty [] h = absurd (omega arith)
+not_empty (b ∷ bs) h = refl
+
+some_from_not_empty : (piece : List ℕ) → is_empty piece ≡ false → 0 < length piece
+some_from_not_empty [] h = cc
+some_from_not_empty (b ∷ bs) h = omega arith
+
+not_one_empty : (pieces : List (List ℕ)) → AllByRecursion IsNumber pieces → is_one_empty pieces ≡ false
+not_one_empty [] h = refl
+not_one_empty (piece ∷ []) h = not_empty piece h.0.0
+not_one_empty (piece ∷ next ∷ more) h = refl
+
+piece_none : (rule : RootRule) (before piece : List ℕ) (after : List (List ℕ)) → AllByRecursion IsNumber (piece ∷ after) → number_of piece ≤ most_arc → arc_fault rule 39 before (number_of piece) ≡ None → single_fault before after ≡ None → piece_fault rule before piece after ≡ None
+piece_none rule before piece after p l a s =
+    rw (none_from_below most_arc (number_of piece) ArcTooBig l, find-none piece p.0.1, not_empty piece p.0.0, not_one_empty after p.1, a, s)
+
+-- what a piece without a fault is
+pub record IsSound (rule : RootRule) (before piece : List ℕ) (after : List (List ℕ)) : Type 0 where
+  pub number : IsNumber piece
+  pub small : number_of piece ≤ most_arc
+  pub arc : arc_fault rule 39 before (number_of piece) ≡ None
+  pub several : single_fault before after ≡ None
+
+map_none : {X Y : Type 0} (f : X → Y) (x : Option X) → option_map f x ≡ None → x ≡ None
+map_none f None h = refl
+map_none f (Some x) h = cc
+
+pub piece_sound : (rule : RootRule) (before piece : List ℕ) (after : List (List ℕ)) → piece_fault rule before piece after ≡ None → IsSound rule before piece after
+piece_sound rule before piece after h =
+    let (big, h1) = both_none _ _ h in
+    let (digit, h2) = both_none _ _ h1 in
+    let (empty, h3) = both_none _ _ h2 in
+    let (trailing, h4) = both_none _ _ h3 in
+    let (arc, several) = both_none _ _ h4 in
+    record {
+      number = (some_from_not_empty piece (false_from_none (is_empty piece) (empty_fault before after) empty), digits_from_find piece (map_none (λ b. DigitExpected b) (find (λ b. not (is_ascii_digit b)) piece) digit));
+      small = below_from_none most_arc (number_of piece) ArcTooBig big;
+      arc = arc;
+      several = several;
+    }
+
+-- ---- whole texts
+
+pub all_at : (P : ℕ → Type 0) (before : List ℕ) (x : ℕ) (rest : List ℕ) → AllByRecursion P (before ++ x ∷ rest) → P x
+all_at P [] x rest h = h.0
+all_at P (y ∷ ys) x rest h = all_at P ys x rest h.1
+
+several_none : (rule : RootRule) (before piece : List ℕ) (after : List (List ℕ)) → IsIdentifier rule (before ++ number_of piece ∷ map number_of after) → single_fault before after ≡ None
+several_none rule [] piece [] i = absurd i
+several_none rule [] piece (next ∷ more) i = refl
+several_none rule (a ∷ before) piece after i = refl
+
+pieces_none : (rule : RootRule) (before : List ℕ) (pieces : List (List ℕ)) → AllByRecursion IsNumber pieces → IsIdentifier rule (before ++ map number_of pieces) → size (before ++ map number_of pieces) ≤ 39 → pieces_fault rule before pieces ≡ None
+pieces_none rule before [] p i s = refl
+pieces_none rule before (piece ∷ after) p i s =
+    let n = number_of piece in
+    let l = all_at (λ n. n ≤ most_arc) before n (map number_of after) (arcs_small rule (before ++ n ∷ map number_of after) i) in
+    let e = append-cons before n (map number_of after) in
+    rw (piece_none rule before piece after p l (arc_none rule before n (map number_of after) i s) (several_none rule before piece after i))
+    (pieces_none rule (before ++ n ∷ []) after p.1 (rw (← e) at i) (rw (← e) at s))
+
+pub text_fault-none : (rule : RootRule) (text arcs : List ℕ) → Denotes rule text arcs → size arcs ≤ 39 → text_fault rule text ≡ None
+text_fault-none rule text arcs d s = pieces_none rule [] (pieces_of text) d.numbers (rw d.values at d.identifier) (rw d.values at s)
+
+pieces_sound : (rule : RootRule) (before : List ℕ) (pieces : List (List ℕ)) → IsBegun rule before → pieces_fault rule before pieces ≡ None → IsBegun rule (before ++ map number_of pieces) × AllByRecursion IsNumber pieces
+pieces_sound rule before [] b h = (rw append-nil b, tt)
+pieces_sound rule before (piece ∷ after) b h =
+    let (p, q) = both_none (piece_fault rule before piece after) (pieces_fault rule (before ++ number_of piece ∷ []) after) h in
+    let s = piece_sound rule before piece after p in
+    let (more, numbers) = pieces_sound rule (before ++ number_of piece ∷ []) after (begun_more rule before (number_of piece) b s.small s.arc) q in
+    (rw (append-cons before (number_of piece) (map number_of after)) at more, (s.number, numbers))
+
+whole_sound : (rule : RootRule) (pieces : List (List ℕ)) → 0 < length pieces → pieces_fault rule [] pieces ≡ None → AllByRecursion IsNumber pieces × IsIdentifier rule (map number_of pieces) × (size (map number_of pieces) ≤ 39)
+whole_sound rule [] some h = absurd (omega arith)
+whole_sound rule (piece ∷ []) some h =
+    let e = (piece_sound rule [] piece [] (both_none (piece_fault rule [] piece []) None h).0).several in
+    cc
+whole_sound rule (piece ∷ next ∷ more) some h = let (b, numbers) = pieces_sound rule [] (piece ∷ next ∷ more) tt h in (numbers, b.0, b.1)
+
+pub denoted_from_none : (rule : RootRule) (text : List ℕ) → text_fault rule text ≡ None → Denotes rule text (map number_of (pieces_of text)) × (size (map number_of (pieces_of text)) ≤ 39)
+denoted_from_none rule text h =
+    let (numbers, identifier, fits) = whole_sound rule (pieces_of text) (omega (arith, length-slice_split (λ b. b == 46) text)) h in
+    (record { numbers = numbers; values = refl; identifier = identifier }, fits)

@@ -1,0 +1,73 @@
+-- Contents octets as they come: the parts, and the first fault (ITU-T X.690, 8.19.2 to 8.19.4).
+use Rattle.std.specs.Prelude.{ℕ, ◌-◌, ◌/◌, ◌%◌, Bool, false, List, [], ◌∷◌, length, map, nat_lt, ◌==◌, if◌then◌else◌, Option, Some, None, Result, not}
+use Rattle.std.specs.List.{onto_first}
+use Rattle.std.specs.Option.{option_or}
+use Rattle.const_oid.specs.declared.error.Error.{Error}
+use Rattle.const_oid.specs.declared.error.Error.TheVariants.{ArcInvalid, ArcTooBig, Base128, Empty, Length}
+use Rattle.const_oid.specs.Base128.{value_of}
+use Rattle.const_oid.specs.Faults.{fault_if, answer}
+use Rattle.const_oid.specs.Identifier.{RootRule, Narrow, Wide, most_arc}
+
+-- an octet put before the parts that follow it
+abbrev pub cut_behind : ℕ → List (List ℕ) → List (List ℕ)
+cut_behind x parts = if nat_lt x 128 then (x ∷ []) ∷ parts else onto_first x parts
+
+-- the parts into which the octets are cut behind each octet below 128; what is left at the end is one more part
+abbrev pub cut : List ℕ → List (List ℕ)
+cut [] = []
+cut (x ∷ xs) = cut_behind x (cut xs)
+
+-- a part ends with an octet below 128
+abbrev pub is_finished : List ℕ → Bool
+is_finished [] = false
+is_finished (x ∷ []) = nat_lt x 128
+is_finished (x ∷ y ∷ ys) = is_finished (y ∷ ys)
+
+abbrev pub begins_with_128 : List ℕ → Bool
+begins_with_128 [] = false
+begins_with_128 (x ∷ xs) = x == 128
+
+-- what is wrong with a part, of a number that may be at most the limit
+abbrev pub part_fault : ℕ → List ℕ → Option Error
+part_fault limit part =
+    option_or (fault_if (begins_with_128 part) Base128)
+    (option_or (fault_if (nat_lt limit (value_of part)) ArcTooBig)
+    (fault_if (not (is_finished part)) Base128))
+
+-- the first fault of parts that stand for later arcs
+abbrev pub later_fault : List (List ℕ) → Option Error
+later_fault [] = None
+later_fault (part ∷ parts) = option_or (part_fault most_arc part) (later_fault parts)
+
+-- the greatest first subidentifier
+abbrev pub most_first : RootRule → ℕ
+most_first Narrow = 119
+most_first Wide = 4294967375
+
+-- what is wrong with the first part
+abbrev pub first_fault : RootRule → List ℕ → Option Error
+first_fault Narrow [] = None
+first_fault Narrow (x ∷ xs) = fault_if (nat_lt 119 x) (ArcInvalid (x / 40))
+first_fault Wide part = part_fault (most_first Wide) part
+
+abbrev pub parts_fault : RootRule → List (List ℕ) → Option Error
+parts_fault rule [] = Some Empty
+parts_fault rule (part ∷ parts) = option_or (first_fault rule part) (later_fault parts)
+
+-- the fault of the octets at a capacity, if there is one
+abbrev pub octet_fault : RootRule → List ℕ → ℕ → Option Error
+octet_fault rule octets capacity =
+    option_or (parts_fault rule (cut octets)) (fault_if (nat_lt capacity (length octets)) Length)
+
+-- the arcs behind the first subidentifier and the later ones
+abbrev pub arcs_from : List ℕ → List ℕ
+arcs_from [] = []
+arcs_from (first ∷ later) = if nat_lt first 80 then first / 40 ∷ first % 40 ∷ later else 2 ∷ (first - 80) ∷ later
+
+-- the arcs that octets stand for
+abbrev pub arcs_of_octets : List ℕ → List ℕ
+arcs_of_octets octets = arcs_from (map value_of (cut octets))
+
+-- what the octets are read as at a capacity: their fault, or their arcs
+abbrev pub octet_answer : RootRule → List ℕ → ℕ → Result (List ℕ) Error
+octet_answer rule octets capacity = answer (octet_fault rule octets capacity) (arcs_of_octets octets)

@@ -1,0 +1,46 @@
+-- Identifiers as lists of arcs (ITU-T X.660), and their contents octets (ITU-T X.690, 8.19).
+use Rattle.std.specs.Prelude.{◌≡◌, ℕ, ◌+◌, ◌*◌, ◌≤◌, List, [], ◌∷◌, sum_by, nat_lt, if◌then◌else◌}
+use Rattle.std.specs.List.{AllByRecursion, AllZip, concat}
+use Rattle.const_oid.specs.Base128.{IsGroup, width}
+
+-- which second arcs stand under the root arc 2: up to 39, as under 0 and 1, or all
+pub data RootRule : Type 0 where
+  Narrow : RootRule
+  Wide : RootRule
+
+-- the rule that this crate keeps
+abbrev pub root_rule : RootRule
+root_rule = Narrow
+
+-- the greatest arc
+abbrev pub most_arc : ℕ
+most_arc = 4294967295
+
+-- the greatest second arc below a first arc
+abbrev pub most_second : RootRule → ℕ → ℕ
+most_second Narrow first = 39
+most_second Wide first = if nat_lt first 2 then 39 else most_arc
+
+-- a path of at least two arcs, each in range
+abbrev pub IsIdentifier : RootRule → List ℕ → Type 0
+IsIdentifier rule [] = ⊥
+IsIdentifier rule (first ∷ []) = ⊥
+IsIdentifier rule (first ∷ second ∷ later) =
+    (first ≤ 2) × (second ≤ most_second rule first) × AllByRecursion (λ arc. arc ≤ most_arc) later
+
+-- the numbers that are encoded: one for the first two arcs, and each later arc
+abbrev pub subidentifiers : List ℕ → List ℕ
+subidentifiers [] = []
+subidentifiers (first ∷ []) = []
+subidentifiers (first ∷ second ∷ later) = (40 * first + second) ∷ later
+
+-- the octets are the encoding of the arcs: a group for each subidentifier, joined
+pub record IsEncoding (rule : RootRule) (arcs octets : List ℕ) : Type 0 where
+  pub identifier : IsIdentifier rule arcs
+  pub groups : List (List ℕ)
+  pub each : AllZip IsGroup (subidentifiers arcs) groups
+  pub joined : octets ≡ concat groups
+
+-- how many octets the encoding has
+abbrev pub size : List ℕ → ℕ
+size arcs = sum_by width (subidentifiers arcs)

@@ -1,0 +1,34 @@
+-- Lists of arcs as they come.
+use Rattle.std.specs.Prelude.{ℕ, List, [], ◌∷◌, ◌++◌, nat_lt, Option, Some, None, Result}
+use Rattle.std.specs.Option.{option_or}
+use Rattle.const_oid.specs.declared.error.Error.{Error}
+use Rattle.const_oid.specs.declared.error.Error.TheVariants.{ArcInvalid, Empty, Length}
+use Rattle.const_oid.specs.Faults.{fault_if, answer}
+use Rattle.const_oid.specs.Identifier.{RootRule, most_second, size}
+
+-- what is wrong with an arc that follows others, at a capacity in octets: its range, or the length of the encoding so far
+abbrev pub arc_fault : RootRule → ℕ → List ℕ → ℕ → Option Error
+arc_fault rule capacity [] arc = fault_if (nat_lt 2 arc) (ArcInvalid arc)
+arc_fault rule capacity (first ∷ []) arc =
+    option_or (fault_if (nat_lt (most_second rule first) arc) (ArcInvalid arc))
+    (fault_if (nat_lt capacity (size (first ∷ arc ∷ []))) Length)
+arc_fault rule capacity (first ∷ second ∷ later) arc = fault_if (nat_lt capacity (size (first ∷ second ∷ later ++ arc ∷ []))) Length
+
+-- fewer than two arcs
+abbrev pub few_fault : List ℕ → Option Error
+few_fault [] = Some Empty
+few_fault (arc ∷ []) = Some Empty
+few_fault (first ∷ second ∷ later) = None
+
+-- the fault of the first item that has one, behind the arcs before it
+abbrev pub items_fault : RootRule → List ℕ → List ℕ → Option Error
+items_fault rule before [] = few_fault before
+items_fault rule before (item ∷ items) = option_or (arc_fault rule 39 before item) (items_fault rule (before ++ item ∷ []) items)
+
+-- the fault of the list, if there is one
+abbrev pub item_fault : RootRule → List ℕ → Option Error
+item_fault rule items = items_fault rule [] items
+
+-- what the list is taken as: its fault, or itself
+abbrev pub item_answer : RootRule → List ℕ → Result (List ℕ) Error
+item_answer rule items = answer (item_fault rule items) items

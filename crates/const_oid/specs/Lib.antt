@@ -1,0 +1,9 @@
+pub mod Base128
+pub mod Identifier
+pub mod Faults
+pub mod Contents
+pub mod Items
+pub mod Text
+pub mod Tree
+pub mod Orders
+pub mod Message

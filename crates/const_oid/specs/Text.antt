@@ -1,0 +1,91 @@
+-- Dotted text.
+use Rattle.std.specs.Prelude.{◌≡◌, ℕ, ◌<◌, Bool, true, false, not, List, [], ◌∷◌, ◌++◌, length, map, decimal, nat_lt, ◌==◌, if◌then◌else◌, Option, Some, None, Result, take_while, find}
+use Rattle.std.specs.List.{slice_split, join_with_byte, AllByRecursion}
+use Rattle.std.specs.Str.{all_ascii_digits}
+use Rattle.std.specs.Option.{option_or, option_map}
+use Rattle.std.specs.Char.{is_ascii_digit}
+use Rattle.std.specs.Str.Parse.{digits_value}
+use Rattle.const_oid.specs.declared.error.Error.{Error}
+use Rattle.const_oid.specs.declared.error.Error.TheVariants.{ArcTooBig, DigitExpected, Empty, RepeatedDot, TrailingDot}
+use Rattle.const_oid.specs.Identifier.{RootRule, most_arc, IsIdentifier}
+use Rattle.const_oid.specs.Faults.{fault_if, answer}
+use Rattle.const_oid.specs.Items.{arc_fault}
+
+-- the arcs' decimals, joined by dots
+abbrev pub text_of : List ℕ → List ℕ
+text_of arcs = join_with_byte 46 (map decimal arcs)
+
+-- the pieces between the dots
+abbrev pub pieces_of : List ℕ → List (List ℕ)
+pieces_of text = slice_split (λ b. b == 46) text
+
+-- the decimal number of a piece's leading digits, 0 where there is none
+abbrev pub number_of : List ℕ → ℕ
+number_of piece = digits_value 10 (take_while is_ascii_digit piece)
+
+abbrev pub is_empty : {X : Type 0} → List X → Bool
+is_empty [] = true
+is_empty (x ∷ xs) = false
+
+-- what follows the piece is a last piece that is empty
+abbrev pub is_one_empty : List (List ℕ) → Bool
+is_one_empty [] = false
+is_one_empty (piece ∷ []) = is_empty piece
+is_one_empty (piece ∷ next ∷ more) = false
+
+-- the fault of an empty piece, by the arcs before it and the pieces after it
+abbrev pub empty_fault : List ℕ → List (List ℕ) → Error
+empty_fault [] [] = Empty
+empty_fault [] (next ∷ more) = DigitExpected 46
+empty_fault (arc ∷ arcs) [] = TrailingDot
+empty_fault (arc ∷ arcs) (next ∷ more) = RepeatedDot
+
+-- a piece that is the only one is no identifier
+abbrev pub single_fault : List ℕ → List (List ℕ) → Option Error
+single_fault [] [] = Some Empty
+single_fault [] (next ∷ more) = None
+single_fault (arc ∷ arcs) after = None
+
+-- what is wrong with a piece, by the arcs before it and the pieces after it: the first that applies
+abbrev pub piece_fault : RootRule → List ℕ → List ℕ → List (List ℕ) → Option Error
+piece_fault rule before piece after =
+    option_or (fault_if (nat_lt most_arc (number_of piece)) ArcTooBig)
+    (option_or (option_map (λ b. DigitExpected b) (find (λ b. not (is_ascii_digit b)) piece))
+    (option_or (fault_if (is_empty piece) (empty_fault before after))
+    (option_or (fault_if (is_one_empty after) TrailingDot)
+    (option_or (arc_fault rule 39 before (number_of piece))
+    (single_fault before after)))))
+
+-- the fault of the first piece that has one
+abbrev pub pieces_fault : RootRule → List ℕ → List (List ℕ) → Option Error
+pieces_fault rule before [] = None
+pieces_fault rule before (piece ∷ after) =
+    option_or (piece_fault rule before piece after) (pieces_fault rule (before ++ number_of piece ∷ []) after)
+
+-- the fault of the text, if there is one
+abbrev pub text_fault : RootRule → List ℕ → Option Error
+text_fault rule text = pieces_fault rule [] (pieces_of text)
+
+-- a piece is a number in digits
+abbrev pub IsNumber : List ℕ → Type 0
+IsNumber piece = (0 < length piece) × (all_ascii_digits piece ≡ true)
+
+-- the text denotes the arcs
+pub record Denotes (rule : RootRule) (text arcs : List ℕ) : Type 0 where
+  pub numbers : AllByRecursion IsNumber (pieces_of text)
+  pub values : arcs ≡ map number_of (pieces_of text)
+  pub identifier : IsIdentifier rule arcs
+
+-- a piece without its leading zeros, one of zeros alone keeping one
+abbrev pub strip_piece : List ℕ → List ℕ
+strip_piece [] = []
+strip_piece (b ∷ []) = b ∷ []
+strip_piece (b ∷ c ∷ bs) = if b == 48 then strip_piece (c ∷ bs) else b ∷ c ∷ bs
+
+-- the text without the leading zeros of its pieces
+abbrev pub strip : List ℕ → List ℕ
+strip text = join_with_byte 46 (map strip_piece (pieces_of text))
+
+-- what the text is read as: its fault, or the numbers of its pieces
+abbrev pub text_answer : RootRule → List ℕ → Result (List ℕ) Error
+text_answer rule text = answer (text_fault rule text) (map number_of (pieces_of text))

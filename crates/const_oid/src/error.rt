@@ -1,0 +1,71 @@
+//! The errors of this crate.
+ghost use Rattle.std.specs.Prelude.{Some};
+
+type Arc = u32;
+
+use std::fmt;
+
+/// A result whose error is [`Error`].
+pub type Result<T> = std::result::Result<T, Error>;
+
+/// Why a text, a list of arcs or octets are refused.
+#[derive(Copy, Clone, Debug, Eq, PartialEq, PartialOrd, Ord)]
+pub enum Error {
+    /// An arc is out of range for its place.
+    ArcInvalid {
+        /// The arc.
+        arc: Arc,
+    },
+
+    /// An arc is past 32 bits.
+    ArcTooBig,
+
+    /// A group of octets begins with 0x80 or does not end (X.690, 8.19.2).
+    Base128,
+
+    /// Something else stands where a digit belongs.
+    DigitExpected {
+        /// The byte, in UTF-8 the first one of its character.
+        actual: u8,
+    },
+
+    /// There is nothing, or no more than one arc.
+    Empty,
+
+    /// The encoding is longer than the capacity.
+    Length,
+
+    /// Never answered: no sum of this crate overflows.
+    Overflow,
+
+    /// A dot follows another.
+    RepeatedDot,
+
+    /// The text ends with a dot.
+    TrailingDot,
+}
+
+impl fmt::Display for Error {
+    ghost use Rattle.const_oid.specs.Message.{message_of};
+
+    ghost output = { λ error. Some (message_of error) };
+
+    fn fmt<W: fmt::Write>(&self, f: &mut fmt::Formatter<W>) -> fmt::Result {
+        match *self {
+            Error::ArcInvalid { arc } => write!(f, "OID contains out-of-range arc: {arc}"),
+            Error::ArcTooBig => f.write_str("OID contains arc which is larger than 32-bits"),
+            Error::Base128 => f.write_str("OID contains arc with invalid base 128 encoding"),
+            Error::DigitExpected { actual } => {
+                let character = char::from(actual);
+                write!(f, "expected digit, got '{character}'")
+            }
+            Error::Empty => f.write_str("OID value is empty"),
+            Error::Length => f.write_str("OID length invalid"),
+            Error::Overflow => f.write_str("arithmetic calculation overflowed"),
+            Error::RepeatedDot => f.write_str("repeated consecutive '..' characters in OID"),
+            Error::TrailingDot => f.write_str("OID ends with invalid trailing '.'"),
+        }
+    }
+}
+
+impl std::error::Error for Error {}
