@@ -1,5 +1,5 @@
 -- Octets without a fault are the encoding of their arcs, and encodings have no fault but their length.
-use Rattle.std.proofs.Common.{◌≡◌, ◌≢◌, ℕ, ◌+◌, ◌*◌, ◌/◌, ◌%◌, ◌^◌, ◌<◌, ◌≤◌, false, List, [], ◌∷◌, length, map, slice_index, Some, None, refl, sym, ◌∙◌, arith, lt-ltb, le-ltb, ne_eqb}
+use Rattle.std.proofs.Common.{true, ◌≡◌, ◌≢◌, ℕ, ◌+◌, ◌*◌, ◌/◌, ◌%◌, ◌^◌, ◌<◌, ◌≤◌, false, List, [], ◌∷◌, length, map, slice_index, Some, None, refl, sym, ◌∙◌, arith, lt-ltb, le-ltb, ne_eqb}
 use Rattle.std.specs.List.{AllByRecursion, AllZip}
 use Rattle.std.proofs.lemmas.Bool.{eqb-false}
 use Rattle.const_oid.specs.declared.error.Error.TheVariants.{ArcInvalid, ArcTooBig, Base128, Length}
@@ -25,13 +25,17 @@ begins_with_128-not (x ∷ xs) h = ne_eqb x 128 h
 abbrev pub IsGroupUpTo : ℕ → List ℕ → Type 0
 IsGroupUpTo limit part = IsGroup (value_of part) part × (value_of part ≤ limit)
 
+-- what a part without a fault is not
+pub part_tests : (limit : ℕ) (part : List ℕ) → part_fault limit part ≡ None → (begins_with_128 part ≡ false) × (value_of part ≤ limit) × (is_finished part ≡ true)
+part_tests limit part h =
+    let (first, more) = both_none _ _ h in
+    let (small, last) = both_none _ _ more in
+    (false_from_none (begins_with_128 part) Base128 first, below_from_none limit (value_of part) ArcTooBig small, true_from_none (is_finished part) Base128 last)
+
 part_sound : (limit : ℕ) (part : List ℕ) → IsPart part → part_fault limit part ≡ None → IsGroupUpTo limit part
 part_sound limit part p h =
-    let (first, h1) = both_none _ _ h in
-    let (small, last) = both_none _ _ h1 in (
-      record { chained = chain_from_part part p (true_from_none (is_finished part) Base128 last); shortest = shortest part (false_from_none (begins_with_128 part) Base128 first); value = refl },
-      below_from_none limit (value_of part) ArcTooBig small,
-    )
+    let (first, small, last) = part_tests limit part h in
+    (record { chained = chain_from_part part p last; shortest = shortest part first; value = refl }, small)
 
 pub part_none : (limit n : ℕ) (part : List ℕ) → IsGroup n part → n ≤ limit → part_fault limit part ≡ None
 part_none limit n part g l =

@@ -13,4 +13,7 @@ pub mod Texts
 pub mod Children
 pub mod Ranges
 pub mod OctetPass
+pub mod NumberPass
+pub mod PartsFault
+pub mod Printed
 pub mod TextPass

@@ -1,5 +1,5 @@
 -- Contents octets as they come: the parts, and the first fault (ITU-T X.690, 8.19.2 to 8.19.4).
-use Rattle.std.specs.Prelude.{ℕ, ◌-◌, ◌/◌, ◌%◌, Bool, false, List, [], ◌∷◌, length, map, nat_lt, ◌==◌, if◌then◌else◌, Option, Some, None, Result, not}
+use Rattle.std.specs.Prelude.{ℕ, ◌-◌, ◌^◌, ◌/◌, ◌%◌, Bool, false, List, [], ◌∷◌, length, map, nat_lt, ◌==◌, if◌then◌else◌, Option, Some, None, Result, not}
 use Rattle.std.specs.List.{onto_first}
 use Rattle.std.specs.Option.{option_or}
 use Rattle.const_oid.specs.declared.error.Error.{Error}
@@ -67,6 +67,10 @@ arcs_from (first ∷ later) = if nat_lt first 80 then first / 40 ∷ first % 40 
 -- the arcs that octets stand for
 abbrev pub arcs_of_octets : List ℕ → List ℕ
 arcs_of_octets octets = arcs_from (map value_of (cut octets))
+
+-- how many octets a borrowed identifier may have: no slice is longer
+abbrev pub borrowed_capacity : ℕ
+borrowed_capacity = 2 ^ 63 - 1
 
 -- what the octets are read as at a capacity: their fault, or their arcs
 abbrev pub octet_answer : RootRule → List ℕ → ℕ → Result (List ℕ) Error

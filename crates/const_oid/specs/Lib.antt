@@ -7,3 +7,5 @@ pub mod Text
 pub mod Tree
 pub mod Orders
 pub mod Message
+pub mod Arcs
+pub mod OidRef

@@ -1,7 +1,7 @@
 //! The errors of this crate.
 ghost use Rattle.std.specs.Prelude.{Some};
 
-type Arc = u32;
+use crate::arcs::Arc;
 
 use std::fmt;
 

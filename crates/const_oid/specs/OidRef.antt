@@ -1,0 +1,12 @@
+-- What a borrowed identifier shows.
+use Rattle.std.specs.Prelude.{ℕ, ◌-◌, ◌^◌, List}
+use Rattle.const_oid.specs.declared.oid_ref.ObjectIdentifierRef.{ObjectIdentifierRef}
+use Rattle.const_oid.specs.Contents.{arcs_of_octets}
+
+-- the octets that it holds
+abbrev pub ref_octets : ObjectIdentifierRef → List ℕ
+ref_octets oid = oid.ber.now
+
+-- its arcs
+abbrev pub ref_arcs : ObjectIdentifierRef → List ℕ
+ref_arcs oid = arcs_of_octets (ref_octets oid)

@@ -1,0 +1,152 @@
+//! Contents octets read as arcs (X.690, 8.19.2 to 8.19.4).
+ghost use Rattle.std.specs.Prelude.{◌≡◌, ℕ, ◌≤◌, List, ◌∷◌, map, None, Some, MatchResult};
+ghost use Rattle.std.specs.Iterator.{YieldsFirst, item_count};
+ghost use Rattle.const_oid.specs.Base128.{value_of};
+ghost use Rattle.const_oid.specs.Identifier.{root_rule, Wide};
+ghost use Rattle.const_oid.specs.Contents.{cut, later_fault, parts_fault, most_first, arcs_from, arcs_of_octets};
+
+use crate::error::{Error, Result};
+use std::marker::Model;
+
+/// An arc: a number of a path, of 32 bits.
+pub type Arc = u32;
+
+/// The arcs of an identifier that are left, in order; after the last there is none for ever.
+#[derive(Drop)]
+pub struct Arcs<'a> {
+    ahead: Ahead,
+    octets: &'a [u8],
+}
+
+/// What comes next of the octets.
+#[derive(Clone, Copy)]
+enum Ahead {
+    /// The first subidentifier, which holds the first two arcs.
+    Root,
+    /// The second arc, and then later ones.
+    Second(Arc),
+    /// Later arcs, of which each is a subidentifier.
+    Later,
+}
+
+impl<'a> Model for Arcs<'a> {
+    ghost use Rattle.std.specs.Prelude.{◌≡◌, ℕ, List, None};
+    ghost use Rattle.const_oid.specs.Arcs.{arcs_ahead, fault_ahead};
+
+    ghost Value = { List ℕ };
+
+    ghost view = { λ arcs. arcs_ahead arcs.ahead arcs.octets.now };
+
+    ghost invariant = { λ arcs. fault_ahead arcs.ahead arcs.octets.now ≡ None };
+}
+
+impl<'a> Arcs<'a> {
+    /// All arcs of octets without a fault.
+    pub(crate) fn new(octets: &'a [u8]) -> Self
+        requires { parts_fault root_rule (cut octets.now) ≡ None }
+        ensures { result ≡ arcs_of_octets octets.now }
+    {
+        Arcs {
+            ahead: Ahead::Root,
+            octets,
+        }
+    }
+}
+
+impl Iterator for Arcs<'_> {
+    type Item = Arc;
+
+    ghost next_gives = { YieldsFirst (λ arcs. arcs) };
+
+    ghost remaining = { item_count (λ arcs. arcs) };
+
+    fn next(&mut self) -> Option<Arc> {
+        match self.ahead {
+            Ahead::Root => {
+                let (root, later) = read_group(self.octets);
+                let (first, second) = split_root(root);
+                self.octets = later;
+                self.ahead = Ahead::Second(second);
+                Some(first)
+            }
+            Ahead::Second(arc) => {
+                self.ahead = Ahead::Later;
+                Some(arc)
+            }
+            Ahead::Later => {
+                if self.octets.is_empty() {
+                    return None;
+                }
+                let (arc, later) = read_group(self.octets);
+                self.octets = later;
+                Some(arc as Arc)
+            }
+        }
+    }
+}
+
+/// The number of the first group, and the octets after it.
+fn read_group(octets: &[u8]) -> (u64, &[u8])
+    requires { parts_fault Wide (cut octets.now) ≡ None }
+    ensures numbers { map value_of (cut octets.now) ≡ result.0 ∷ map value_of (cut result.1.now) }
+    ensures small { result.0 ≤ most_first Wide }
+    ensures later { later_fault (cut result.1.now) ≡ None }
+{
+    let mut number: u64 = 0;
+    for (i, octet) in octets.iter().enumerate() {
+        number = number * 128 + (*octet % 128) as u64;
+        if *octet < 128 {
+            return (number, &octets[i + 1..]);
+        }
+    }
+    unreachable!()
+}
+
+/// The two arcs that the first subidentifier holds.
+fn split_root(root: u64) -> (Arc, Arc)
+    requires { root ≤ most_first Wide }
+    ensures { (later : List ℕ) → arcs_from (root ∷ later) ≡ result.0 ∷ result.1 ∷ later }
+{
+    if root < 80 {
+        ((root / 40) as Arc, (root % 40) as Arc)
+    } else {
+        (2, (root - 80) as Arc)
+    }
+}
+
+/// Whether octets have no fault, whatever their number.
+pub(crate) fn check(octets: &[u8]) -> Result<()>
+    ensures { MatchResult result (λ _. parts_fault root_rule (cut octets.now) ≡ None) (λ fault. parts_fault root_rule (cut octets.now) ≡ Some fault) }
+{
+    let [root, later @ ..] = octets else {
+        return Err(Error::Empty);
+    };
+    if *root >= 120 {
+        return Err(Error::ArcInvalid {
+            arc: Arc::from(*root / 40),
+        });
+    }
+    check_later(later)
+}
+
+/// Whether the octets behind the root octet have no fault.
+fn check_later(octets: &[u8]) -> Result<()>
+    ensures { MatchResult result (λ _. later_fault (cut octets.now) ≡ None) (λ fault. later_fault (cut octets.now) ≡ Some fault) }
+{
+    let mut number: u64 = 0;
+    let mut begun = false;
+    for octet in octets {
+        if !begun && *octet == 0x80 {
+            return Err(Error::Base128);
+        }
+        number = number * 128 + u64::from(*octet % 128);
+        if number > u64::from(Arc::MAX) {
+            return Err(Error::ArcTooBig);
+        }
+        begun = *octet >= 128;
+        if !begun {
+            number = 0;
+        }
+    }
+    if begun { Err(Error::Base128) } else { Ok(()) }
+}
