@@ -2,8 +2,10 @@
 ghost use Rattle.std.specs.Prelude.{Some};
 
 use crate::arcs::Arc;
-
 use std::fmt;
+
+#[cfg(test)]
+mod tests;
 
 /// A result whose error is [`Error`].
 pub type Result<T> = std::result::Result<T, Error>;

@@ -9,6 +9,9 @@ use crate::arcs::{Arc, Arcs, check};
 use crate::error::{Error, Result};
 use std::fmt;
 
+#[cfg(test)]
+mod tests;
+
 /// An object identifier over the caller's contents octets, without tag and length.
 ///
 /// Its octets have no fault: they are the one encoding of its arcs (X.690, 8.19).

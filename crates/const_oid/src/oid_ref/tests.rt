@@ -1,0 +1,246 @@
+use crate::error::Error;
+use crate::oid_ref::ObjectIdentifierRef;
+use std::fmt;
+use std::fmt::Write;
+use std::test::Fail;
+
+/// Texts, their contents octets and their arcs.
+const ACCEPTED: [(&str, &[u8], &[u32]); 27] = [
+    ("0.0", &[0x00], &[0, 0]),
+    ("0.39", &[0x27], &[0, 39]),
+    ("1.0", &[0x28], &[1, 0]),
+    ("1.2", &[0x2A], &[1, 2]),
+    ("1.39", &[0x4F], &[1, 39]),
+    ("2.0", &[0x50], &[2, 0]),
+    ("2.39", &[0x77], &[2, 39]),
+    ("1.2.0", &[0x2A, 0x00], &[1, 2, 0]),
+    ("1.2.127", &[0x2A, 0x7F], &[1, 2, 127]),
+    ("1.2.128", &[0x2A, 0x81, 0x00], &[1, 2, 128]),
+    ("1.2.16383", &[0x2A, 0xFF, 0x7F], &[1, 2, 16383]),
+    ("1.2.16384", &[0x2A, 0x81, 0x80, 0x00], &[1, 2, 16384]),
+    ("1.2.2097151", &[0x2A, 0xFF, 0xFF, 0x7F], &[1, 2, 2097151]),
+    (
+        "1.2.2097152",
+        &[0x2A, 0x81, 0x80, 0x80, 0x00],
+        &[1, 2, 2097152],
+    ),
+    (
+        "1.2.268435455",
+        &[0x2A, 0xFF, 0xFF, 0xFF, 0x7F],
+        &[1, 2, 268435455],
+    ),
+    (
+        "1.2.268435456",
+        &[0x2A, 0x81, 0x80, 0x80, 0x80, 0x00],
+        &[1, 2, 268435456],
+    ),
+    (
+        "1.2.1144201745",
+        &[0x2A, 0x84, 0xA1, 0xCC, 0xC4, 0x11],
+        &[1, 2, 1144201745],
+    ),
+    (
+        "1.2.4294967295",
+        &[0x2A, 0x8F, 0xFF, 0xFF, 0xFF, 0x7F],
+        &[1, 2, 4294967295],
+    ),
+    ("1.23.456", &[0x3F, 0x83, 0x48], &[1, 23, 456]),
+    (
+        "1.1.1.60817410.1",
+        &[0x29, 0x01, 0x9D, 0x80, 0x80, 0x02, 0x01],
+        &[1, 1, 1, 60817410, 1],
+    ),
+    (
+        "0.9.2342.19200300.100.1.1",
+        &[0x09, 0x92, 0x26, 0x89, 0x93, 0xF2, 0x2C, 0x64, 0x01, 0x01],
+        &[0, 9, 2342, 19200300, 100, 1, 1],
+    ),
+    (
+        "1.2.840.10045.2.1",
+        &[0x2A, 0x86, 0x48, 0xCE, 0x3D, 0x02, 0x01],
+        &[1, 2, 840, 10045, 2, 1],
+    ),
+    (
+        "2.16.840.1.101.3.4.1.42",
+        &[0x60, 0x86, 0x48, 0x01, 0x65, 0x03, 0x04, 0x01, 0x2A],
+        &[2, 16, 840, 1, 101, 3, 4, 1, 42],
+    ),
+    (
+        "1.2.840.113549.1.1.1",
+        &[0x2A, 0x86, 0x48, 0x86, 0xF7, 0x0D, 0x01, 0x01, 0x01],
+        &[1, 2, 840, 113549, 1, 1, 1],
+    ),
+    ("2.5.4.3", &[0x55, 0x04, 0x03], &[2, 5, 4, 3]),
+    ("2.5.4.6", &[0x55, 0x04, 0x06], &[2, 5, 4, 6]),
+    (
+        "0.1.2.3.4.5.6.7.8.9",
+        &[0x01, 0x02, 0x03, 0x04, 0x05, 0x06, 0x07, 0x08, 0x09],
+        &[0, 1, 2, 3, 4, 5, 6, 7, 8, 9],
+    ),
+];
+
+/// Octets that are refused, and the error.
+const REFUSED: [(&[u8], Error); 22] = [
+    (&[], Error::Empty),
+    (&[0x78], Error::ArcInvalid { arc: 3 }),
+    (&[0x9F], Error::ArcInvalid { arc: 3 }),
+    (&[0xA0], Error::ArcInvalid { arc: 4 }),
+    (&[0xC7], Error::ArcInvalid { arc: 4 }),
+    (&[0xC8], Error::ArcInvalid { arc: 5 }),
+    (&[0xEF], Error::ArcInvalid { arc: 5 }),
+    (&[0xF0], Error::ArcInvalid { arc: 6 }),
+    (&[0xFF], Error::ArcInvalid { arc: 6 }),
+    (&[0x78, 0x80, 0x01], Error::ArcInvalid { arc: 3 }),
+    (&[0x2A, 0x80], Error::Base128),
+    (&[0x2A, 0x81], Error::Base128),
+    (&[0x2A, 0x81, 0x80], Error::Base128),
+    (&[0x2A, 0x80, 0x01], Error::Base128),
+    (&[0x2A, 0x01, 0x80, 0x01], Error::Base128),
+    (&[0x2A, 0x80, 0x80, 0x80, 0x80, 0x80, 0x10], Error::Base128),
+    (&[0x2A, 0x8F, 0xFF, 0xFF, 0xFF, 0xFF], Error::Base128),
+    (
+        &[0x2A, 0x8F, 0xFF, 0xFF, 0xFF, 0xFF, 0x00],
+        Error::ArcTooBig,
+    ),
+    (&[0x2A, 0x90, 0x80, 0x80, 0x80, 0x00], Error::ArcTooBig),
+    (&[0x2A, 0x90, 0x80, 0x80, 0x80, 0x80], Error::ArcTooBig),
+    (&[0x2A, 0xFF, 0xFF, 0xFF, 0xFF, 0x7F], Error::ArcTooBig),
+    (
+        &[0x2A, 0x81, 0x80, 0x80, 0x80, 0x80, 0x00],
+        Error::ArcTooBig,
+    ),
+];
+
+/// Groups with two faults, of which the first in the written order is answered.
+const TWO_FAULTS: [(&[u8], Error); 3] = [
+    (&[0x2A, 0x80, 0x90, 0x80, 0x80, 0x80, 0x00], Error::Base128),
+    (&[0x2A, 0x80, 0x90, 0x80, 0x80, 0x80], Error::Base128),
+    (
+        &[0x2A, 0x80, 0xFF, 0xFF, 0xFF, 0xFF, 0xFF, 0x7F],
+        Error::Base128,
+    ),
+];
+
+/// Octets that the Rust crate was seen to take, or to refuse by another error.
+const ANSWERED_OTHERWISE: [(&[u8], Error); 4] = [
+    (&[0x00, 0x80, 0x00], Error::Base128),
+    (&[0x2A, 0x80, 0x80, 0x80, 0x80, 0x80, 0x0F], Error::Base128),
+    (&[0x00, 0x80, 0x80, 0x81, 0xB5, 0xC6, 0xBA], Error::Base128),
+    (&[0x00, 0x90, 0x80, 0x80, 0x80, 0x80], Error::ArcTooBig),
+];
+
+#[test]
+fn accepted(rt: HostRuntime) -> Result<(), Fail> {
+    for (text, octets, arcs) in ACCEPTED {
+        let oid = ObjectIdentifierRef::from_bytes(octets)?;
+        let printed = format!(in rt.alloc(); "{oid}")?;
+        assert_eq!(rt; printed.as_str(), text);
+        assert_eq!(rt; oid.as_bytes(), octets);
+        let read = oid.arcs().collect::<Vec<u32>>(rt.alloc())?;
+        assert_eq!(rt; read.as_slice(), arcs);
+        assert_eq!(rt; oid.len(), arcs.len());
+        assert_eq!(rt; oid.arc(arcs.len()), None);
+    }
+    Ok(())
+}
+
+#[test]
+fn refused(rt: HostRuntime) -> Result<(), Fail> {
+    for (octets, error) in REFUSED {
+        assert_eq!(rt; ObjectIdentifierRef::from_bytes(octets).err(), Some(error));
+    }
+    for (octets, error) in TWO_FAULTS {
+        assert_eq!(rt; ObjectIdentifierRef::from_bytes(octets).err(), Some(error));
+    }
+    for (octets, error) in ANSWERED_OTHERWISE {
+        assert_eq!(rt; ObjectIdentifierRef::from_bytes(octets).err(), Some(error));
+    }
+    Ok(())
+}
+
+/// 41 arcs are no fault here, an unfinished group is.
+#[test]
+fn longer_than_an_owned_one(rt: HostRuntime) -> Result<(), Fail> {
+    let mut octets = [1; 41];
+    octets[0] = 0x2A;
+    let oid = ObjectIdentifierRef::from_bytes(&octets[..40])?;
+    assert_eq!(rt; oid.len(), 41);
+    octets[40] = 0x81;
+    assert_eq!(rt;
+        ObjectIdentifierRef::from_bytes(&octets).err(),
+        Some(Error::Base128)
+    );
+    Ok(())
+}
+
+#[test]
+fn places(rt: HostRuntime) -> Result<(), Fail> {
+    let oid = ObjectIdentifierRef::from_bytes(&[0x2A, 0x86, 0x48, 0xCE, 0x3D, 0x02, 0x01])?;
+    assert_eq!(rt; oid.len(), 6);
+    assert_eq!(rt; oid.arc(2), Some(840));
+    assert_eq!(rt; oid.arc(3), Some(10045));
+    assert_eq!(rt; oid.arc(6), None);
+    assert_eq!(rt; oid.arc(usize::MAX), None);
+    let short = ObjectIdentifierRef::from_bytes(&[0x2A])?;
+    assert_eq!(rt; short.len(), 2);
+    assert_eq!(rt; short.arc(1), Some(2));
+    Ok(())
+}
+
+#[test]
+fn nothing_follows_the_last_arc(rt: HostRuntime) -> Result<(), Fail> {
+    let mut arcs = ObjectIdentifierRef::from_bytes(&[0x2A, 0x03])?.arcs();
+    for arc in [Some(1), Some(2), Some(3), None, None] {
+        assert_eq!(rt; arcs.next(), arc);
+    }
+    Ok(())
+}
+
+#[test]
+fn options_change_nothing(rt: HostRuntime) -> Result<(), Fail> {
+    let oid = ObjectIdentifierRef::from_bytes(&[0x2A, 0x03])?;
+    let wide = format!(in rt.alloc(); "{oid:>20}")?;
+    assert_eq!(rt; wide.as_str(), "1.2.3");
+    let signed = format!(in rt.alloc(); "{oid:*^+020.1}")?;
+    assert_eq!(rt; signed.as_str(), "1.2.3");
+    let debug = format!(in rt.alloc(); "{oid:?}")?;
+    assert_eq!(rt; debug.as_str(), "ObjectIdentifierRef(1.2.3)");
+    Ok(())
+}
+
+/// Refuses the write numbered `bad`, counted from 1.
+#[derive(Drop)]
+struct Refusing {
+    writes: usize,
+    bad: usize,
+}
+
+impl Write for Refusing {
+    fn write_str(&mut self, _text: &str) -> fmt::Result {
+        self.writes = self.writes.saturating_add(1);
+        if self.writes == self.bad {
+            Err(fmt::Error)
+        } else {
+            Ok(())
+        }
+    }
+}
+
+/// Each write that is refused is told, whichever it is.
+#[test]
+fn a_refused_write_is_told(rt: HostRuntime) -> Result<(), Fail> {
+    let octets = [0x2A, 0x86, 0x48, 0x86, 0xF7, 0x0D, 0x01, 0x01, 0x01];
+    let oid = ObjectIdentifierRef::from_bytes(&octets)?;
+    let mut accepted = 0;
+    for bad in 1..50 {
+        let mut target = Refusing { writes: 0, bad };
+        if write!(target, "{oid}").is_ok() {
+            accepted = bad;
+            assert_eq!(rt; target.writes.saturating_add(1), bad);
+            break;
+        }
+        assert_eq!(rt; target.writes, bad);
+    }
+    assert!(rt; accepted > 7);
+    Ok(())
+}
