@@ -17,3 +17,5 @@ pub mod NumberPass
 pub mod PartsFault
 pub mod Printed
 pub mod TextPass
+pub mod Written
+pub mod Octets

@@ -9,3 +9,4 @@ pub mod Orders
 pub mod Message
 pub mod Arcs
 pub mod OidRef
+pub mod Buffer

@@ -2,10 +2,12 @@
 #![tactic(auto)]
 
 pub mod arcs;
+pub mod buffer;
 pub mod error;
 pub mod laws;
 pub mod oid_ref;
 
 pub use arcs::{Arc, Arcs};
+pub use buffer::Buffer;
 pub use error::{Error, Result};
 pub use oid_ref::ObjectIdentifierRef;

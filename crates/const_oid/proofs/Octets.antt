@@ -1,0 +1,42 @@
+-- Octets in an array that is zero past those in use.
+use Rattle.std.proofs.Common.{◌≡◌, ℕ, ◌+◌, ◌-◌, ◌≤◌, List, [], ◌∷◌, ◌++◌, length, take, drop, replicate, refl, sym, ap, ◌∙◌, arith}
+use Rattle.std.proofs.lemmas.List.{take_at, drop-replicate, drop-drop}
+use Rattle.std.proofs.lemmas.Slice.{drop-append-drop, take-put_mid, drop-put_mid}
+use borrow.Rule.Slice.PartMut.{put_mid}
+use Rattle.const_oid.specs.Base128.{IsChained, AreOctets}
+
+pub octets_append : (xs ys : List ℕ) → AreOctets xs → AreOctets ys → AreOctets (xs ++ ys)
+octets_append [] ys p q = q
+octets_append (x ∷ xs) ys p q = (p.0, octets_append xs ys p.1 q)
+
+pub octets_from_chain : (octets : List ℕ) → IsChained octets → AreOctets octets
+octets_from_chain [] c = absurd c
+octets_from_chain (x ∷ []) c = (omega arith, tt)
+octets_from_chain (x ∷ y ∷ ys) c = (c.1, octets_from_chain (y ∷ ys) c.2)
+
+-- octets copied to the front of an array
+pub octets_copied : (octets front rest : List ℕ) → front ≡ octets → AreOctets octets → AreOctets (take (length octets) (front ++ rest))
+octets_copied octets front rest e p = rw (e, take_at octets rest (length octets) refl) p
+
+-- octets copied to the front of an array of zeros
+pub zeros_copied : (size : ℕ) (octets front : List ℕ) → front ≡ octets → drop (length octets) (front ++ drop (length octets) (replicate size 0)) ≡ replicate (size - length octets) 0
+zeros_copied size octets front e =
+    drop-append-drop (length octets) (replicate size 0) front (length octets) (omega arith) (ap length e)
+    ∙ drop-replicate (length octets) size 0
+
+-- zeros past a place are zeros past each later one
+zeros_past : (size used more : ℕ) (bytes : List ℕ) → drop used bytes ≡ replicate (size - used) 0 → drop (used + more) bytes ≡ replicate (size - (used + more)) 0
+zeros_past size used more bytes zeros =
+    let fewer : size - used - more ≡ size - (used + more) = omega arith in
+    sym (drop-drop more used bytes) ∙ ap (drop more) zeros ∙ drop-replicate more (size - used) 0 ∙ ap (λ n. replicate n 0) fewer
+
+-- more octets written past those in use
+pub zeros_written : (size used more : ℕ) (bytes octets : List ℕ) → used ≤ length bytes → length octets ≡ more → drop used bytes ≡ replicate (size - used) 0 → drop (used + more) (put_mid used (used + more - used) bytes octets) ≡ replicate (size - (used + more)) 0
+zeros_written size used more bytes octets inside l zeros =
+    drop-put_mid used (used + more - used) bytes octets (used + more) (omega arith) inside (omega arith) ∙ zeros_past size used more bytes zeros
+
+pub take_written : (used more : ℕ) (bytes octets : List ℕ) → used ≤ length bytes → length octets ≡ more → take (used + more) (put_mid used (used + more - used) bytes octets) ≡ take used bytes ++ octets
+take_written used more bytes octets inside l = take-put_mid used (used + more - used) bytes octets (used + more) (omega arith) inside
+
+pub octets_written : (used more : ℕ) (bytes octets : List ℕ) → used ≤ length bytes → length octets ≡ more → AreOctets (take used bytes) → AreOctets octets → AreOctets (take (used + more) (put_mid used (used + more - used) bytes octets))
+octets_written used more bytes octets inside l p q = rw (take_written used more bytes octets inside l) (octets_append (take used bytes) octets p q)

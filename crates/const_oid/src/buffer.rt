@@ -1,0 +1,202 @@
+//! Octets in an array of which the first are in use.
+
+ghost use Rattle.std.specs.Prelude.{◌≡◌, ℕ, ◌+◌, ◌-◌, ◌^◌, ◌<◌, ◌≤◌, ◌↔◌, List, [], ◌++◌, length, take, drop, replicate, min, IsTrue, IfOk, OnOk, OnErr, MatchResult};
+ghost use Rattle.std.proofs.Props.{props};
+ghost use Rattle.const_oid.specs.Base128.{AreOctets, IsGroup, width};
+
+use crate::error::{Error, Result};
+use std::cmp::Ordering;
+use std::hash::{Hash, Hasher};
+
+/// Octets in use, at most the smaller of `SIZE` and 255.
+#[derive(Copy, Clone)]
+pub struct Buffer<const SIZE: usize> {
+    used: u8,
+    bytes: [u8; SIZE],
+    ghost within: { used ≤ min SIZE 255 },
+    ghost octets: { AreOctets (take used bytes) } by { Prim.hlevel props },
+    ghost zeros: { drop used bytes ≡ replicate (SIZE - used) 0 },
+}
+
+impl<const SIZE: usize> Buffer<SIZE> {
+    ghost use Rattle.const_oid.specs.Buffer.{octets_of};
+
+    /// A buffer with no octet in use.
+    pub(crate) fn empty() -> Self
+        ensures { octets_of result ≡ [] }
+    {
+        Buffer {
+            used: 0,
+            bytes: [0; SIZE],
+        }
+    }
+
+    /// The octets copied, or `Length` where they do not fit.
+    pub(crate) fn from_slice(octets: &[u8]) -> Result<Self>
+        ensures fits { MatchResult result (λ _. length octets.now ≤ min SIZE 255) (λ fault. (fault ≡ Error.Length) × (min SIZE 255 < length octets.now)) }
+        ensures copied { IfOk result (λ buffer. octets_of buffer ≡ octets.now) }
+    {
+        let count = octets.len();
+        if count > SIZE.min(255) {
+            return Err(Error::Length);
+        }
+        let mut bytes = [0; SIZE];
+        bytes[..count].copy_from_slice(octets);
+        Ok(Buffer {
+            used: count as u8,
+            bytes,
+        })
+    }
+
+    /// Appends the group of a number, or answers `Length` where it does not fit.
+    pub(crate) fn push_group(&mut self, number: u64) -> Result<()>
+        requires { number < 2 ^ 35 }
+        ensures fits { let long = length (octets_of self.old) + width number in MatchResult result (λ _. long ≤ min SIZE 255) (λ fault. (fault ≡ Error.Length) × (min SIZE 255 < long)) }
+        ensures appended { OnOk result ((group : List ℕ) × IsGroup number group × (octets_of self.new ≡ octets_of self.old ++ group)) }
+        ensures unchanged { OnErr result (self.new ≡ self.old) }
+    {
+        let start = self.used as usize;
+        let end = start + group_len(number);
+        if end > SIZE.min(255) {
+            return Err(Error::Length);
+        }
+        let bytes = &mut self.bytes[..];
+        write_group(&mut bytes[start..end], number);
+        self.used = end as u8;
+        Ok(())
+    }
+
+    /// The octets in use.
+    pub fn as_bytes(&self) -> &[u8]
+        ensures { result.now ≡ octets_of self.now }
+    {
+        &self.bytes[..self.used as usize]
+    }
+
+    /// How many octets are in use.
+    pub fn len(&self) -> usize
+        ensures value { result ≡ length (octets_of self.now) }
+        ensures fits { result ≤ min SIZE 255 }
+    {
+        self.used as usize
+    }
+
+    /// Whether the octets in use are equal.
+    pub fn eq(&self, rhs: &Self) -> bool
+        ensures { IsTrue result ↔ (octets_of self.now ≡ octets_of rhs.now) }
+    {
+        self.as_bytes() == rhs.as_bytes()
+    }
+}
+
+/// How many octets the group of a number takes.
+fn group_len(number: u64) -> usize
+    requires { number < 2 ^ 35 }
+    ensures width { result ≡ width number }
+    ensures short { result ≤ 5 }
+{
+    match number {
+        0..=0x7f => 1,
+        0x80..=0x3fff => 2,
+        0x4000..=0x1f_ffff => 3,
+        0x20_0000..=0xfff_ffff => 4,
+        _ => 5,
+    }
+}
+
+/// Fills a slice with the group of a number, which takes just so many octets.
+fn write_group(octets: &mut [u8], number: u64)
+    requires small { number < 2 ^ 35 }
+    requires wide { length octets.old ≡ width number }
+    ensures { IsGroup number octets.new }
+{
+    let last = octets.len() - 1;
+    for (index, octet) in octets[..last].iter_mut().enumerate() {
+        let digit = ((number >> (7 * (last - index))) & 0x7f) as u8;
+        *octet = digit | 0x80;
+    }
+    octets[last] = (number & 0x7f) as u8;
+}
+
+impl<const SIZE: usize> PartialEq for Buffer<SIZE> {
+    ghost use Rattle.std.specs.Prelude.{◌≡◌, ◌↔◌, IsTrue, nat_eq};
+    ghost use Rattle.std.specs.Cmp.{on_per, partial_equiv_from_equiv};
+    ghost use Rattle.std.specs.Cmp.Lexicographic.{pointwise, nat_list_eq_equiv};
+    ghost use Rattle.const_oid.specs.Buffer.{octets_of};
+
+    ghost eq = { λ a b. pointwise nat_eq (octets_of a) (octets_of b) };
+
+    ghost laws = { on_per octets_of (partial_equiv_from_equiv nat_list_eq_equiv) };
+
+    fn eq(&self, other: &Self) -> bool
+        ensures value { result ≡ pointwise nat_eq (octets_of self.now) (octets_of other.now) }
+        ensures meaning { IsTrue result ↔ (octets_of self.now ≡ octets_of other.now) }
+    {
+        self.as_bytes() == other.as_bytes()
+    }
+}
+
+impl<const SIZE: usize> Eq for Buffer<SIZE> {
+    ghost use Rattle.std.specs.Cmp.{on_equiv};
+    ghost use Rattle.std.specs.Cmp.Lexicographic.{nat_list_eq_equiv};
+    ghost use Rattle.const_oid.specs.Buffer.{octets_of};
+
+    ghost laws = { on_equiv octets_of nat_list_eq_equiv };
+}
+
+impl<const SIZE: usize> PartialOrd for Buffer<SIZE> {
+    ghost use Rattle.std.specs.Prelude.{Some};
+    ghost use Rattle.std.specs.Cmp.{on_po};
+    ghost use Rattle.const_oid.specs.Buffer.{octets_of};
+    ghost use Rattle.const_oid.specs.Orders.{short_cmp, short_cmp_po};
+
+    ghost partial_cmp = { λ a b. Some (short_cmp (octets_of a) (octets_of b)) };
+
+    ghost laws = { on_po octets_of short_cmp_po };
+
+    fn partial_cmp(&self, other: &Self) -> Option<Ordering> {
+        Some(self.cmp(other))
+    }
+}
+
+impl<const SIZE: usize> Ord for Buffer<SIZE> {
+    ghost use Rattle.std.specs.Prelude.{◌≡◌, refl};
+    ghost use Rattle.std.specs.Cmp.{on_total};
+    ghost use Rattle.const_oid.specs.Buffer.{octets_of};
+    ghost use Rattle.const_oid.specs.Orders.{short_cmp, short_cmp_total, short_cmp_ties};
+
+    ghost cmp = { λ a b. short_cmp (octets_of a) (octets_of b) };
+
+    ghost total = { on_total octets_of short_cmp_total };
+
+    ghost matches_partial_cmp = { λ a b. refl };
+
+    ghost matches_eq = { λ a b. short_cmp_ties (octets_of a) (octets_of b) };
+
+    fn cmp(&self, other: &Self) -> Ordering
+        ensures { result ≡ short_cmp (octets_of self.now) (octets_of other.now) }
+    {
+        match self.len().cmp(&other.len()) {
+            Ordering::Equal => self.as_bytes().cmp(&other.as_bytes()),
+            unequal => unequal,
+        }
+    }
+}
+
+impl<const SIZE: usize> Hash for Buffer<SIZE> {
+    ghost use Rattle.std.specs.Hash as fed;
+    ghost use Rattle.std.specs.Cmp.Rules.{hashing};
+    ghost use Rattle.std.proofs.Common.{rules};
+    ghost use Rattle.const_oid.specs.Buffer.{octets_of};
+
+    ghost hash_input = { λ a. fed.slice fed.u8 (octets_of a) };
+
+    ghost respects_eq = { Prim.search (hashing, rules) };
+
+    fn hash<H: Hasher>(&self, state: &mut H) {
+        self.as_bytes().hash(state);
+    }
+}
+
+#[cfg(test)]
+mod tests;
