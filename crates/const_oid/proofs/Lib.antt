@@ -19,3 +19,4 @@ pub mod Printed
 pub mod TextPass
 pub mod Written
 pub mod Octets
+pub mod OidRef

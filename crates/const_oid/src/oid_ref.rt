@@ -1,24 +1,29 @@
 //! Borrowed object identifiers.
-ghost use Rattle.std.specs.Prelude.{◌≡◌, ◌<◌, length, slice_get, slice_index, EachIndex, None, Some, IfOk};
+ghost use Rattle.std.specs.Prelude.{◌≡◌, length, slice_get, None, Some, IfOk};
 ghost use Rattle.std.specs.Result.{result_map_both};
+ghost use Rattle.std.proofs.Props.{props};
+ghost use Rattle.const_oid.specs.Base128.{AreOctets};
 ghost use Rattle.const_oid.specs.Contents.{cut, parts_fault, octet_answer, borrowed_capacity};
 ghost use Rattle.const_oid.specs.Identifier.{root_rule, IsEncoding};
 ghost use Rattle.const_oid.specs.Text.{text_of};
 
 use crate::arcs::{Arc, Arcs, check};
 use crate::error::{Error, Result};
+use std::cmp::Ordering;
 use std::fmt;
 
+#[cfg(test)]
+mod order_tests;
 #[cfg(test)]
 mod tests;
 
 /// An object identifier over the caller's contents octets, without tag and length.
 ///
 /// Its octets have no fault: they are the one encoding of its arcs (X.690, 8.19).
-#[derive(Copy, Clone)]
+#[derive(Copy, Clone, Eq, Hash)]
 pub struct ObjectIdentifierRef<'a> {
     ber: &'a [u8],
-    ghost octets: { EachIndex ber.now (λ k. slice_index ber.now k < 256) },
+    ghost octets: { AreOctets ber.now } by { Prim.hlevel props },
     ghost sound: { parts_fault root_rule (cut ber.now) ≡ None },
 }
 
@@ -95,5 +100,62 @@ impl fmt::Display for ObjectIdentifierRef<'_> {
 impl fmt::Debug for ObjectIdentifierRef<'_> {
     fn fmt<W: fmt::Write>(&self, f: &mut fmt::Formatter<W>) -> fmt::Result {
         write!(f, "ObjectIdentifierRef({self})")
+    }
+}
+
+impl PartialEq for ObjectIdentifierRef<'_> {
+    ghost use Rattle.std.specs.Prelude.{◌↔◌, IsTrue, nat_eq};
+    ghost use Rattle.std.specs.Cmp.{on_per, partial_equiv_from_equiv};
+    ghost use Rattle.std.specs.Cmp.Lexicographic.{pointwise, nat_list_eq_equiv};
+    ghost use Rattle.const_oid.specs.OidRef.{ref_octets, ref_arcs};
+
+    ghost eq = { λ a b. pointwise nat_eq (ref_octets a) (ref_octets b) };
+
+    ghost laws = { on_per ref_octets (partial_equiv_from_equiv nat_list_eq_equiv) };
+
+    fn eq(&self, other: &Self) -> bool
+        ensures value { result ≡ pointwise nat_eq (ref_octets self.now) (ref_octets other.now) }
+        ensures octets { IsTrue result ↔ (ref_octets self.now ≡ ref_octets other.now) }
+        ensures arcs { IsTrue result ↔ (ref_arcs self.now ≡ ref_arcs other.now) }
+    {
+        self.ber == other.ber
+    }
+}
+
+impl PartialOrd for ObjectIdentifierRef<'_> {
+    ghost use Rattle.std.specs.Ordering.{nat_cmp};
+    ghost use Rattle.std.specs.Cmp.{on_po};
+    ghost use Rattle.std.specs.Cmp.Lexicographic.{slice_cmp, texts_po};
+    ghost use Rattle.const_oid.specs.OidRef.{ref_octets};
+
+    ghost partial_cmp = { λ a b. Some (slice_cmp nat_cmp (ref_octets a) (ref_octets b)) };
+
+    ghost laws = { on_po ref_octets texts_po };
+
+    fn partial_cmp(&self, other: &Self) -> Option<Ordering> {
+        Some(self.cmp(other))
+    }
+}
+
+/// The octets in list order, a front before what begins with it.
+impl Ord for ObjectIdentifierRef<'_> {
+    ghost use Rattle.std.specs.Prelude.{refl};
+    ghost use Rattle.std.specs.Ordering.{nat_cmp};
+    ghost use Rattle.std.specs.Cmp.{on_total};
+    ghost use Rattle.std.specs.Cmp.Lexicographic.{slice_cmp, nat_list_cmp_total, texts_ties};
+    ghost use Rattle.const_oid.specs.OidRef.{ref_octets};
+
+    ghost cmp = { λ a b. slice_cmp nat_cmp (ref_octets a) (ref_octets b) };
+
+    ghost total = { on_total ref_octets nat_list_cmp_total };
+
+    ghost matches_partial_cmp = { λ a b. refl };
+
+    ghost matches_eq = { λ a b. texts_ties (ref_octets a) (ref_octets b) };
+
+    fn cmp(&self, other: &Self) -> Ordering
+        ensures { result ≡ slice_cmp nat_cmp (ref_octets self.now) (ref_octets other.now) }
+    {
+        self.ber.cmp(&other.ber)
     }
 }
