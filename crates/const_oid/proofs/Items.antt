@@ -1,13 +1,16 @@
 -- Lists of arcs have no fault exactly where they are identifiers that fit.
-use Rattle.std.proofs.Common.{◌≡◌, ℕ, ◌+◌, ◌*◌, ◌≤◌, List, [], ◌∷◌, ◌++◌, None, refl, arith, sum_by, append_assoc, append-nil, le-ltb}
+use Rattle.std.proofs.Common.{◌≡◌, ℕ, ◌+◌, ◌*◌, ◌≤◌, List, [], ◌∷◌, ◌++◌, None, refl, arith, sum_by, append_assoc, append-nil, le-ltb, nat_lt, lt-ltb, ⊎_elim, ◌<◌}
+use Rattle.std.proofs.lemmas.Bool.{cases_lt}
 use Rattle.std.specs.List.{AllByRecursion}
 use Rattle.std.proofs.lemmas.List.Sums.{sum_by-cons, sum_by-append}
 use Rattle.const_oid.specs.declared.error.Error.TheVariants.{ArcInvalid, Length}
 use Rattle.const_oid.specs.Base128.{width}
 use Rattle.const_oid.specs.Identifier.{RootRule, Narrow, Wide, most_arc, most_second, IsIdentifier, size}
 use Rattle.const_oid.specs.Contents.{most_first}
+use Rattle.const_oid.specs.Faults.{fault_if}
 use Rattle.const_oid.specs.Items.{arc_fault, few_fault, items_fault, item_fault}
 use Rattle.const_oid.proofs.Groups.{width_is}
+use Rattle.const_oid.proofs.Subidentifiers.{first_in_range}
 use Rattle.const_oid.proofs.Faults.{both_none, below_from_none, none_from_below}
 
 -- ---- sizes
@@ -23,6 +26,15 @@ size_front a b later more = omega (arith, size-cons a b later, size-cons a b (la
 root_short : (rule : RootRule) (n : ℕ) → n ≤ most_first rule → width n ≤ 5
 root_short Narrow n h = (width_is n).least 5 (omega arith) (omega arith)
 root_short Wide n h = (width_is n).least 5 (omega arith) (omega arith)
+
+-- so a second arc is refused by its range alone
+pub second_fits : (rule : RootRule) (first second : ℕ) → first ≤ 2 → arc_fault rule 39 (first ∷ []) second ≡ fault_if (nat_lt (most_second rule first) second) (ArcInvalid second)
+second_fits rule first second low = ⊎_elim
+    (λ (out : most_second rule first < second). rw (lt-ltb (most_second rule first) second out))
+    (λ (inside : second ≤ most_second rule first).
+    let five = root_short rule (40 * first + second) (first_in_range rule first second low inside) in
+    rw (le-ltb (most_second rule first) second inside, le-ltb 39 (size (first ∷ second ∷ [])) (omega (arith, size-cons first second []))))
+    (cases_lt (most_second rule first) second)
 
 -- ---- arcs so far
 

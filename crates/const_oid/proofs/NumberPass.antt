@@ -4,8 +4,8 @@ use Rattle.std.proofs.lemmas.Bool.{cases_lt, cases_Bool}
 use Rattle.std.proofs.lemmas.List.{drop_more}
 use Rattle.std.proofs.lemmas.Grind.{common_steps}
 use Rattle.const_oid.specs.Base128.{value_of}
-use Rattle.const_oid.specs.Contents.{cut, later_fault, parts_fault, most_first, part_fault}
-use Rattle.const_oid.specs.Identifier.{RootRule, Wide, most_arc}
+use Rattle.const_oid.specs.Contents.{cut, later_fault}
+use Rattle.const_oid.specs.Identifier.{most_arc}
 use Rattle.const_oid.specs.Text.{is_empty}
 use Rattle.const_oid.proofs.OctetPass.{pass, onto_all, IsBegun, begun_none, begun_push, value-push, onto_all-behind, onto_all-more, later_pass}
 

@@ -1,12 +1,12 @@
 -- Octets without a fault have none under the wide rule, which takes more.
-use Rattle.std.proofs.Common.{◌≡◌, ◌≢◌, ℕ, ◌+◌, ◌*◌, ◌/◌, ◌<◌, ◌≤◌, List, [], ◌∷◌, length, map, None, refl, ⊎_elim, arith, le-ltb, lt-ltb, ne_eqb}
+use Rattle.std.proofs.Common.{◌≡◌, ◌≢◌, ℕ, ◌+◌, ◌/◌, ◌<◌, ◌≤◌, List, [], ◌∷◌, length, map, None, refl, ⊎_elim, arith, le-ltb, lt-ltb, ne_eqb}
 use Rattle.std.specs.List.{onto_first}
 use Rattle.std.proofs.lemmas.List.{length-map}
 use Rattle.std.proofs.lemmas.Bool.{cases_lt}
 use Rattle.const_oid.specs.declared.error.Error.TheVariants.{ArcInvalid}
 use Rattle.const_oid.specs.Base128.{value_of}
 use Rattle.const_oid.specs.Identifier.{RootRule, Narrow, Wide, most_arc}
-use Rattle.const_oid.specs.Contents.{cut, cut_behind, part_fault, first_fault, later_fault, parts_fault, most_first, arcs_from, arcs_of_octets}
+use Rattle.const_oid.specs.Contents.{cut, cut_behind, part_fault, later_fault, parts_fault, most_first, arcs_from, arcs_of_octets}
 use Rattle.const_oid.proofs.Faults.{both_none, below_from_none}
 use Rattle.const_oid.proofs.Encodings.{part_tests}
 use Rattle.const_oid.proofs.Subidentifiers.{arcs_from-below, arcs_from-above}

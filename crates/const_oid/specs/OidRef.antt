@@ -1,5 +1,5 @@
 -- What a borrowed identifier shows.
-use Rattle.std.specs.Prelude.{ℕ, ◌-◌, ◌^◌, List}
+use Rattle.std.specs.Prelude.{ℕ, List}
 use Rattle.const_oid.specs.declared.oid_ref.ObjectIdentifierRef.{ObjectIdentifierRef}
 use Rattle.const_oid.specs.Contents.{arcs_of_octets}
 

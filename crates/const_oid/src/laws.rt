@@ -1,50 +1,36 @@
-//! Worked rows, and laws over the definitions.
+//! Laws over the definitions: functions without effect, whose contracts say what holds.
+//!
+//! A `rule` is any of the two rules of the root; the crate keeps `root_rule`.
 
-ghost use Rattle.std.specs.Prelude.{◌≡◌, ◌≢◌, ◌↔◌, ◌⊎◌, ℕ, ◌+◌, ◌*◌, ◌<◌, ◌≤◌, List, [], ◌∷◌, ◌++◌, length, map, drop, nat_lt, sum_by, count_by, Some, None, codes};
+ghost use Rattle.std.specs.Prelude.{◌≡◌, ◌≢◌, ◌↔◌, ℕ, ◌+◌, ◌*◌, ◌<◌, ◌≤◌, List, [], ◌∷◌, ◌++◌, length, map, nat_lt, sum_by, Some, None, codes};
 ghost use Rattle.std.specs.Cmp.Lexicographic.{slice_cmp};
 ghost use Rattle.std.specs.List.{AllByRecursion, AllZip, concat};
 ghost use Rattle.std.specs.Ordering.{nat_cmp};
 ghost use Rattle.std.specs.declared.cmp.Ordering.TheVariants.{Less, Greater};
-ghost use Rattle.const_oid.specs.Items.{item_fault};
-ghost use Rattle.const_oid.specs.declared.error.Error.TheVariants.{ArcInvalid, ArcTooBig, Base128, DigitExpected, Empty, Length, RepeatedDot, TrailingDot};
-ghost use Rattle.const_oid.specs.Base128.{AreOctets, value_of, IsGroup, IsWidth, width};
+ghost use Rattle.const_oid.specs.Faults.{fault_if};
+ghost use Rattle.const_oid.specs.Items.{arc_fault, item_fault};
+ghost use Rattle.const_oid.specs.declared.error.Error.TheVariants.{ArcInvalid, ArcTooBig, Base128, DigitExpected, Empty, Length, TrailingDot};
+ghost use Rattle.const_oid.specs.Base128.{AreOctets, IsGroup, IsWidth, width};
 ghost use Rattle.const_oid.specs.Contents.{cut, octet_fault, arcs_of_octets};
-ghost use Rattle.const_oid.specs.Identifier.{RootRule, Narrow, Wide, most_arc, IsIdentifier, IsEncoding, size};
+ghost use Rattle.const_oid.specs.Identifier.{RootRule, Narrow, most_arc, most_second, IsIdentifier, IsEncoding, size};
 ghost use Rattle.const_oid.specs.Orders.{short_cmp};
 ghost use Rattle.const_oid.specs.Text.{text_fault, text_of, pieces_of, number_of, Denotes, strip};
 ghost use Rattle.const_oid.specs.Tree.{BeginsWith};
 
-/// Rows of octets.
-pub fn octet_rows()
-    ensures a { octet_fault Narrow [] 39 ≡ Some Empty }
-    ensures b { octet_fault Narrow (0x2A ∷ 0x90 ∷ 0x80 ∷ 0x80 ∷ 0x80 ∷ 0x80 ∷ []) 39 ≡ Some ArcTooBig }
-    ensures c { octet_fault Narrow (0x2A ∷ 0x81 ∷ []) 39 ≡ Some Base128 }
-    ensures d { octet_fault Narrow (0xFF ∷ []) 39 ≡ Some (ArcInvalid 6) }
-    ensures e { octet_fault Wide (0x90 ∷ 0x80 ∷ 0x80 ∷ 0x80 ∷ 0x4F ∷ []) 39 ≡ None }
-    ensures f { arcs_of_octets (0x2A ∷ 0x86 ∷ 0x48 ∷ 0xCE ∷ 0x3D ∷ 2 ∷ 1 ∷ []) ≡ 1 ∷ 2 ∷ 840 ∷ 10045 ∷ 2 ∷ 1 ∷ [] }
-{}
-
-/// Rows of text.
-pub fn text_rows()
-    ensures a { text_fault Narrow (codes "3.") ≡ Some TrailingDot }
-    ensures b { text_fault Narrow (codes "3..") ≡ Some (ArcInvalid 3) }
-    ensures c { text_fault Narrow (codes "1..") ≡ Some RepeatedDot }
-    ensures d { text_fault Narrow (codes "1.2.4294967296X") ≡ Some ArcTooBig }
-    ensures e { text_fault Narrow (codes "1.2.429496729X") ≡ Some (DigitExpected 0x58) }
-    ensures f { text_fault Narrow (codes "1.2") ≡ None }
-    ensures g { text_fault Wide (codes "2.999") ≡ None }
-    ensures h { text_fault Narrow (codes "1") ≡ Some Empty }
-    ensures i { text_fault Narrow (codes "2.40..") ≡ Some (ArcInvalid 40) }
-    ensures j { text_fault Narrow (codes "1..X") ≡ Some RepeatedDot }
-    ensures k { text_of (1 ∷ 2 ∷ 840 ∷ []) ≡ codes "1.2.840" }
-    ensures l { width 4294967295 ≡ 5 }
-{}
-
-/// Rows of items.
-pub fn item_rows()
-    ensures a { item_fault Narrow (1 ∷ 40 ∷ 840 ∷ []) ≡ Some (ArcInvalid 40) }
-    ensures b { item_fault Narrow (1 ∷ []) ≡ Some Empty }
-    ensures c { item_fault Wide (2 ∷ 999 ∷ 3 ∷ []) ≡ None }
+/// Worked rows, which the definitions compute.
+pub fn worked_rows()
+    ensures read { arcs_of_octets (0x2A ∷ 0x86 ∷ 0x48 ∷ 0xCE ∷ 0x3D ∷ 2 ∷ 1 ∷ []) ≡ 1 ∷ 2 ∷ 840 ∷ 10045 ∷ 2 ∷ 1 ∷ [] }
+    ensures root_past_119 { octet_fault Narrow (0xFF ∷ []) 39 ≡ Some (ArcInvalid 6) }
+    ensures unfinished { octet_fault Narrow (0x2A ∷ 0x81 ∷ []) 39 ≡ Some Base128 }
+    ensures past_32_bits { octet_fault Narrow (0x2A ∷ 0x90 ∷ 0x80 ∷ 0x80 ∷ 0x80 ∷ 0x80 ∷ []) 39 ≡ Some ArcTooBig }
+    ensures width { width 4294967295 ≡ 5 }
+    ensures dot_before_range { text_fault Narrow (codes "3.") ≡ Some TrailingDot }
+    ensures range_before_second_dot { text_fault Narrow (codes "3..") ≡ Some (ArcInvalid 3) }
+    ensures size_before_digit { text_fault Narrow (codes "1.2.4294967296X") ≡ Some ArcTooBig }
+    ensures digit { text_fault Narrow (codes "1.2.429496729X") ≡ Some (DigitExpected 0x58) }
+    ensures single { text_fault Narrow (codes "1") ≡ Some Empty }
+    ensures printed { text_of (1 ∷ 2 ∷ 840 ∷ []) ≡ codes "1.2.840" }
+    ensures second_past_39 { item_fault Narrow (1 ∷ 40 ∷ 840 ∷ []) ≡ Some (ArcInvalid 40) }
 {}
 
 /// Each number has exactly one group, whose length is the number's width.
@@ -76,6 +62,11 @@ pub fn one_encoding()
     ensures one { (rule : RootRule) (arcs : List ℕ) → IsIdentifier rule arcs → (octets : List ℕ) × IsEncoding rule arcs octets }
     ensures only { (rule : RootRule) (arcs a b : List ℕ) → IsEncoding rule arcs a → IsEncoding rule arcs b → a ≡ b }
     ensures size { (rule : RootRule) (arcs octets : List ℕ) → IsEncoding rule arcs octets → length octets ≡ size arcs }
+{}
+
+/// A second arc in range never makes an encoding of more than 39 octets, nor one out of range.
+pub fn second_fits()
+    ensures { (rule : RootRule) (first second : ℕ) → first ≤ 2 → arc_fault rule 39 (first ∷ []) second ≡ fault_if (nat_lt (most_second rule first) second) (ArcInvalid second) }
 {}
 
 /// An encoding begins another exactly where its arcs begin the other's.
@@ -119,12 +110,8 @@ pub fn narrow_root()
     ensures size { (a b : ℕ) (later : List ℕ) → IsIdentifier Narrow (a ∷ b ∷ later) → size (a ∷ b ∷ later) ≡ 1 + sum_by width later }
 {}
 
-/// How many arcs octets have, which they are behind the first two, and what a child's and a parent's
-/// octets are.
-pub fn parts()
-    ensures count { (rule : RootRule) (arcs octets : List ℕ) → IsEncoding rule arcs octets → length arcs ≡ 1 + count_by (λ x. nat_lt x 128) octets }
-    ensures parts { (rule : RootRule) (arcs octets : List ℕ) → IsEncoding rule arcs octets → length arcs ≡ 1 + length (cut octets) }
-    ensures later { (rule : RootRule) (arcs octets : List ℕ) → IsEncoding rule arcs octets → drop 2 arcs ≡ map value_of (drop 1 (cut octets)) }
+/// A child's octets go on by one group; a parent's are those without the last part.
+pub fn tree()
     ensures child { (rule : RootRule) (arcs octets : List ℕ) (arc : ℕ) (group : List ℕ) → IsEncoding rule arcs octets → arc ≤ most_arc → IsGroup arc group → IsEncoding rule (arcs ++ arc ∷ []) (octets ++ group) }
     ensures parent { (rule : RootRule) (arcs octets : List ℕ) (arc : ℕ) → IsIdentifier rule arcs → IsEncoding rule (arcs ++ arc ∷ []) octets → (parts : List (List ℕ)) × (last : List ℕ) × (cut octets ≡ parts ++ last ∷ []) × IsEncoding rule arcs (concat parts) }
 {}

@@ -1,6 +1,5 @@
-use Rattle.std.proofs.Common.{arith, ap, ◌∙◌, sym}
+use Rattle.std.proofs.Common.{arith}
 use Rattle.std.proofs.lemmas.Grind.{common_steps}
-use Rattle.const_oid.specs.Arcs.{fault_ahead}
 use Rattle.const_oid.specs.Contents.{cut}
 use Rattle.const_oid.specs.Identifier.{root_rule}
 use Rattle.const_oid.proofs.PartsFault.{wide_from_none, wide_from_later, later_small}
