@@ -1,0 +1,70 @@
+-- Lines and their answers, the first one taken off.
+use Rattle.std.proofs.Common.{◌≡◌, ◌≢◌, ℕ, ◌+◌, ◌<◌, ◌≤◌, ◌==◌, true, false, nat_eq, List, [], ◌∷◌, ◌++◌, length, ap, sym, ◌∙◌, refl, arith, ⊎_elim}
+use Rattle.std.specs.List.{before_first, after_first, position_or_len, flat_map}
+use Rattle.std.proofs.lemmas.Bool.{cases_lt}
+use Rattle.std.proofs.lemmas.Bool.Decides.{nat_tests}
+use Rattle.std.proofs.lemmas.List.{take_all, drop_all, length-append, length-drop, nil_from_length}
+use Rattle.std.proofs.lemmas.List.Concat.{flat_map-cons}
+use Rattle.std.proofs.lemmas.List.Splits.{slice_split_first, slice_split_none, length-slice_split}
+use Rattle.std.proofs.lemmas.List.Sums.{fails_before_first}
+use Rattle.oid_tool.specs.Answers.{without_empty_last, lines, answer_row, answers}
+
+-- what stands before the first newline, and what follows it
+abbrev first_line : List ℕ → List ℕ
+first_line text = before_first (λ b. b == 10) text
+
+abbrev after_line : List ℕ → List ℕ
+after_line text = after_first (λ b. b == 10) text
+
+-- a piece that is not the last stays
+more_pieces : (piece : List ℕ) (pieces : List (List ℕ)) → 0 < length pieces → without_empty_last (piece ∷ pieces) ≡ piece ∷ without_empty_last pieces
+more_pieces piece [] h = absurd (omega arith)
+more_pieces piece (next ∷ more) h = refl
+
+-- a last piece stays where it is not empty
+last_piece : (piece : List ℕ) → piece ≢ [] → without_empty_last (piece ∷ []) ≡ piece ∷ []
+last_piece [] full = absurd (full refl)
+last_piece (b ∷ bs) full = refl
+
+-- a text with no newline
+one_line : (text : List ℕ) → text ≢ [] → length text ≤ position_or_len (λ b. b == 10) text → lines text ≡ first_line text ∷ lines (after_line text)
+one_line text full none =
+    let one = slice_split_none (λ b. b == 10) text (λ k d lt. fails_before_first (λ b. b == 10) text k d (omega arith)) in
+    rw (one, last_piece text full, take_all (position_or_len (λ b. b == 10) text) text none, drop_all (position_or_len (λ b. b == 10) text + 1) text (omega arith)) refl
+
+-- the first line, and those of what follows its newline
+lines_step : (text : List ℕ) → text ≢ [] → lines text ≡ first_line text ∷ lines (after_line text)
+lines_step text full = ⊎_elim
+    (λ (some : position_or_len (λ b. b == 10) text < length text).
+    ap without_empty_last (slice_split_first (λ b. b == 10) text 0 some)
+    ∙ more_pieces (first_line text) _ (omega (arith, length-slice_split (λ b. b == 10) (after_line text))))
+    (λ (none : length text ≤ position_or_len (λ b. b == 10) text). one_line text full none)
+    (cases_lt (position_or_len (λ b. b == 10) text) (length text))
+
+-- the first answer, and those of what follows
+pub answers_step : (text : List ℕ) → text ≢ [] → answers text ≡ answer_row (first_line text) ++ answers (after_line text)
+unfolding answers
+answers_step text full = ap (flat_map answer_row) (lines_step text full) ∙ flat_map-cons answer_row (first_line text) (lines (after_line text))
+
+pub answers_none : answers [] ≡ []
+unfolding answers
+answers_none = refl
+
+-- some line is answered
+pub answers_full : (text : List ℕ) → text ≢ [] → answers text ≢ []
+answers_full text full none = let e = ap length (sym (answers_step text full) ∙ none) in omega (arith, simp length-append at e)
+
+-- the answer to the first line, and those to what follows
+pub next_answers : (text line after row : List ℕ) → text ≢ [] → line ≡ first_line text → after ≡ after_line text → row ≡ answer_row line → answers text ≡ row ++ answers after
+next_answers text line after row full front back e = rw (e, front, back) (answers_step text full)
+
+pub length-after_line : (text : List ℕ) → length (after_line text) ≤ length text
+length-after_line text = omega (arith, length-drop (position_or_len (λ b. b == 10) text + 1) text)
+
+-- what is not empty by its length
+pub full_by_length : (text : List ℕ) → false ≡ nat_eq (length text) 0 → text ≢ []
+full_by_length [] e = cc
+full_by_length (b ∷ bs) e = λ none. cc
+
+pub empty_by_length : (text : List ℕ) → true ≡ nat_eq (length text) 0 → text ≡ []
+empty_by_length text e = nil_from_length text (grind (arith, nat_tests))

@@ -1,0 +1,52 @@
+-- Bytes written one part after another, and bytes read into the room that is left.
+use Rattle.std.proofs.Common.{◌≡◌, ◌≢◌, ℕ, ◌+◌, ◌≤◌, List, [], ◌++◌, length, take, drop, sym, ◌∙◌, ap, arith, subst, append_assoc, take-append-drop}
+use Rattle.std.specs.Prelude.{Option}
+use Rattle.std.specs.Io.KnownBytes.{Appends}
+use Rattle.std.proofs.KnownBytes.{Appends-trans}
+use Rattle.std.proofs.lemmas.List.{append-nil, nil_from_length, take-append-le, length-take-le, length-append}
+use Rattle.std.proofs.Math.Seq.{take-append-add}
+use Rattle.oid_tool.specs.Output.{AppendsFront}
+use borrow.Rule.Slice.PartMut.{put_mid, post_of}
+
+-- known bytes grew by all that is not left of the whole
+pub record AppendsAllBut (old new : Option (List ℕ)) (left whole : List ℕ) : Type 0 where
+  pub done : List ℕ
+  pub appends : Appends old new done
+  pub joined : done ++ left ≡ whole
+
+-- one more part
+pub appends_more : (old mid new : Option (List ℕ)) (part left rest whole : List ℕ) → AppendsAllBut old mid rest whole → rest ≡ part ++ left → Appends mid new part → AppendsAllBut old new left whole
+appends_more old mid new part left rest whole p cut q = record {
+  done = p.done ++ part;
+  appends = Appends-trans old mid new p.done part p.appends q;
+  joined = append_assoc p.done part left ∙ ap (λ l. p.done ++ l) (sym cut) ∙ p.joined;
+}
+
+-- nothing is left
+pub appends_all : (old new : Option (List ℕ)) (left whole : List ℕ) → AppendsAllBut old new left whole → left ≡ [] → Appends old new whole
+appends_all old new left whole p none = subst (Appends old new) (sym (append-nil p.done) ∙ ap (λ l. p.done ++ l) (sym none) ∙ p.joined) p.appends
+
+-- something is left
+pub appends_front : (old new : Option (List ℕ)) (left whole : List ℕ) → AppendsAllBut old new left whole → left ≢ [] → AppendsFront old new whole
+appends_front old new left whole p some = record { front = p.done; missing = left; appends = p.appends; whole = p.joined; shorter = some }
+
+-- a front of the next part
+pub appends_front_within : (old mid new : Option (List ℕ)) (part left rest whole : List ℕ) → AppendsAllBut old mid rest whole → rest ≡ part ++ left → AppendsFront mid new part → AppendsFront old new whole
+appends_front_within old mid new part left rest whole p cut f = record {
+  front = p.done ++ f.front;
+  missing = f.missing ++ left;
+  appends = Appends-trans old mid new p.done f.front p.appends f.appends;
+  whole = append_assoc p.done f.front (f.missing ++ left) ∙ ap (λ l. p.done ++ l) (sym (append_assoc f.front f.missing left) ∙ ap (λ l. l ++ left) f.whole ∙ sym cut) ∙ p.joined;
+  shorter = λ none. f.shorter (nil_from_length f.missing (let e = ap length none in omega (arith, simp length-append at e)));
+}
+
+-- the first n bytes, and what is left behind them
+pub first_and_left : (n : ℕ) (bytes left : List ℕ) → left ≡ drop n bytes → bytes ≡ take n bytes ++ left
+first_and_left n bytes left e = sym (take-append-drop n bytes) ∙ ap (λ l. take n bytes ++ l) (sym e)
+
+-- n bytes read behind the first a of the room
+pub take_grown : (a k n : ℕ) (room bytes : List ℕ) → a ≤ length room → n ≤ length bytes → take (a + n) (put_mid a k room bytes) ≡ take a room ++ take n bytes
+take_grown a k n room bytes within fits =
+    let len = length-take-le a room within in
+    ap (λ j. take (j + n) (put_mid a k room bytes)) (sym len) ∙ take-append-add (take a room) (bytes ++ post_of a k room) n
+    ∙ ap (λ l. take a room ++ l) (take-append-le n bytes (post_of a k room) fits)

@@ -1,0 +1,57 @@
+-- What the tool answers: one line for each line of its input.
+use Rattle.std.specs.Prelude.{ℕ, ◌==◌, List, [], ◌∷◌, ◌++◌, if◌then◌else◌, codes, bytes_eq, Result, Ok, Err}
+use Rattle.std.specs.List.{slice_split, before_first, after_first, flat_map}
+use Rattle.hex.specs.Hex.{decode_of}
+use Rattle.hex.specs.declared.error.FromHexError.{FromHexError}
+use Rattle.const_oid.specs.declared.error.Error.{Error}
+use Rattle.const_oid.specs.Contents.{octet_answer, borrowed_capacity}
+use Rattle.const_oid.specs.Identifier.{root_rule}
+use Rattle.const_oid.specs.Message.{message_of}
+use Rattle.const_oid.specs.Text.{text_of}
+
+-- a refusal
+abbrev pub error_line : List ℕ → List ℕ
+error_line reason = codes "error: " ++ reason
+
+-- arcs as dotted text, or what is wrong with them
+abbrev pub arcs_line : Result (List ℕ) Error → List ℕ
+arcs_line (Ok arcs) = text_of arcs
+arcs_line (Err fault) = error_line (message_of fault)
+
+-- the arcs of octets
+abbrev pub octets_line : Result (List ℕ) FromHexError → List ℕ
+octets_line (Ok octets) = arcs_line (octet_answer root_rule octets borrowed_capacity)
+octets_line (Err fault) = error_line (codes "not hex")
+
+-- what `text` answers, of hexadecimal digits
+unfoldable pub text_line : List ℕ → List ℕ
+text_line digits = octets_line (decode_of digits)
+
+-- what a command answers of its argument
+abbrev pub command_line : List ℕ → List ℕ → List ℕ
+command_line command argument =
+    if bytes_eq command (codes "text") then text_line argument
+    else error_line (codes "unknown command")
+
+-- the answer to a line, whose command ends at its first space
+unfoldable pub answer_line : List ℕ → List ℕ
+answer_line line = command_line (before_first (λ b. b == 32) line) (after_first (λ b. b == 32) line)
+
+-- all pieces but an empty last one
+abbrev pub without_empty_last : List (List ℕ) → List (List ℕ)
+without_empty_last [] = []
+without_empty_last ([] ∷ []) = []
+without_empty_last ((b ∷ bs) ∷ []) = (b ∷ bs) ∷ []
+without_empty_last (piece ∷ next ∷ more) = piece ∷ without_empty_last (next ∷ more)
+
+-- the lines of the input: the pieces between its newlines, an empty last one dropped
+abbrev pub lines : List ℕ → List (List ℕ)
+lines input = without_empty_last (slice_split (λ b. b == 10) input)
+
+-- the answer to a line, and a newline
+abbrev pub answer_row : List ℕ → List ℕ
+answer_row line = answer_line line ++ 10 ∷ []
+
+-- the answers to all lines of the input
+unfoldable pub answers : List ℕ → List ℕ
+answers input = flat_map answer_row (lines input)

@@ -1,0 +1,120 @@
+//! The whole input read, and then the answers to its lines written.
+ghost use Rattle.std.specs.Prelude.{◌≡◌, ◌+◌, ◌≤◌, ◌⊎◌, ◌++◌, length, take, IsOk, OnOk, IfOk, IfErr, IfSome};
+ghost use Rattle.std.specs.Io.KnownBytes.{Appends, Consumes, IsAtEnd};
+ghost use Rattle.oid_tool.specs.Answers.{answers, answer_row};
+ghost use Rattle.oid_tool.specs.Output.{AppendsFront, ConsumesNumber};
+
+use crate::command::{MAX_INPUT, answer, cut};
+use crate::line::Line;
+use std::fmt;
+use std::fmt::Write as _;
+use std::io::{Read, Write};
+
+/// Why the tool stopped.
+#[derive(Clone, Copy, Debug, PartialEq, Eq)]
+pub enum ToolError {
+    /// A read failed.
+    Read,
+
+    /// A write failed or took no byte, or an answer had no room in its line.
+    Write,
+
+    /// The input has more than [`MAX_INPUT`] bytes.
+    TooLong,
+}
+
+impl fmt::Display for ToolError {
+    fn fmt<W: fmt::Write>(&self, f: &mut fmt::Formatter<W>) -> fmt::Result {
+        f.write_str(match self {
+            ToolError::Read => "read failed",
+            ToolError::Write => "write failed",
+            ToolError::TooLong => "input too long",
+        })
+    }
+}
+
+/// Writes the answer to each line of the input, once all of it was read. Memory is not taken, and the output not flushed.
+pub fn run<R: Read, W: Write>(input: &mut R, output: &mut W) -> Result<(), ToolError>
+    ensures ok { OnOk result (IfSome (R.remaining input.old) (λ text.
+        (length text ≤ MAX_INPUT) × Appends (W.contents output.old) (W.contents output.new) (answers text))) }
+    ensures ended { IsOk result ⊎ (result ≡ Err ToolError.Write) → IsAtEnd (R.remaining input.new) }
+    ensures untouched { (result ≡ Err ToolError.Read) ⊎ (result ≡ Err ToolError.TooLong) → output.new ≡ output.old }
+    ensures too_long { result ≡ Err ToolError.TooLong → ConsumesNumber (R.remaining input.old) (R.remaining input.new) (MAX_INPUT + 1) }
+    ensures write { result ≡ Err ToolError.Write → IfSome (R.remaining input.old) (λ text.
+        (length text ≤ MAX_INPUT) × AppendsFront (W.contents output.old) (W.contents output.new) (answers text)) }
+{
+    let mut room = [0; ROOM];
+    let len = read_all(input, &mut room)?;
+    write_answers(&room[..len], output)
+}
+
+/// A byte more than the input may have, so that a longer one is found.
+const ROOM: usize = MAX_INPUT + 1;
+
+/// Reads to the end of the input, and gives the number of bytes, which stand at the front of the room.
+fn read_all<R: Read>(input: &mut R, room: &mut [u8]) -> Result<usize, ToolError>
+    requires { length room.old ≡ ROOM }
+    ensures within { IfOk result (λ len. len ≤ MAX_INPUT) }
+    ensures ok { IfOk result (λ len. Consumes (R.remaining input.old) (R.remaining input.new) (take len room.new) × IsAtEnd (R.remaining input.new)) }
+    ensures err { IfErr result (λ e. (e ≡ ToolError.Read) ⊎ (e ≡ ToolError.TooLong)) }
+    ensures too_long { result ≡ Err ToolError.TooLong → ConsumesNumber (R.remaining input.old) (R.remaining input.new) ROOM }
+{
+    let mut len = 0;
+    while len < ROOM {
+        match input.read(&mut room[len..]) {
+            Ok(0) => return Ok(len),
+            Ok(count) => len += count,
+            Err(_) => return Err(ToolError::Read),
+        }
+    }
+    Err(ToolError::TooLong)
+}
+
+/// Writes the answer to each line of the text, as soon as it is whole.
+fn write_answers<W: Write>(text: &[u8], output: &mut W) -> Result<(), ToolError>
+    requires { length text.now ≤ MAX_INPUT }
+    ensures ok { OnOk result (Appends (W.contents output.old) (W.contents output.new) (answers text.now)) }
+    ensures err { IfErr result (λ e. (e ≡ ToolError.Write) × AppendsFront (W.contents output.old) (W.contents output.new) (answers text.now)) }
+{
+    let mut rest = text;
+    while !rest.is_empty() {
+        let (line, after) = cut(b'\n', rest);
+        let Ok(row) = answer_row(line) else {
+            return Err(ToolError::Write);
+        };
+        write_out(row.as_bytes(), output)?;
+        rest = after;
+    }
+    Ok(())
+}
+
+/// The answer to a line, and a newline, or an error where they have no room.
+fn answer_row(line: &[u8]) -> Result<Line, fmt::Error>
+    requires { length line.now ≤ MAX_INPUT }
+    ensures { IfOk result (λ row. row ≡ answer_row line.now) }
+{
+    let mut row = Line::new();
+    answer(line, &mut row)?;
+    row.write_char('\n')?;
+    Ok(row)
+}
+
+/// Writes all the bytes.
+fn write_out<W: Write>(bytes: &[u8], output: &mut W) -> Result<(), ToolError>
+    ensures ok { OnOk result (Appends (W.contents output.old) (W.contents output.new) bytes.now) }
+    ensures err { IfErr result (λ e. (e ≡ ToolError.Write) × AppendsFront (W.contents output.old) (W.contents output.new) bytes.now) }
+{
+    let mut rest = bytes;
+    while !rest.is_empty() {
+        match output.write(rest) {
+            Ok(0) | Err(_) => return Err(ToolError::Write),
+            Ok(count) => rest = &rest[count..],
+        }
+    }
+    Ok(())
+}
+
+#[cfg(test)]
+mod devices;
+#[cfg(test)]
+mod tests;
