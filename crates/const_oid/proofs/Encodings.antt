@@ -122,6 +122,10 @@ pub arcs_of_encoding : (rule : RootRule) (arcs octets : List ℕ) → IsEncoding
 arcs_of_encoding rule arcs octets e =
     rw (cut_encoding rule arcs octets e, groups_valued (subidentifiers arcs) e.groups e.each) (arcs_back rule arcs e.identifier)
 
+-- an encoding is that of the arcs that are read from it
+pub encoding_back : (rule : RootRule) (arcs octets : List ℕ) → IsEncoding rule arcs octets → IsEncoding rule (arcs_of_octets octets) octets
+encoding_back rule arcs octets e = rw (arcs_of_encoding rule arcs octets e) e
+
 -- no two lists of arcs have one encoding
 pub same_arcs : (rule : RootRule) (a b octets : List ℕ) → IsEncoding rule a octets → IsEncoding rule b octets → a ≡ b
 same_arcs rule a b octets p q = sym (arcs_of_encoding rule a octets p) ∙ arcs_of_encoding rule b octets q

@@ -22,3 +22,6 @@ below_from_none m n fault h = ⊎_elim (λ (over : m < n). let e = rw (lt-ltb m 
 
 pub none_from_below : (m n : ℕ) (fault : Error) → n ≤ m → fault_if (nat_lt m n) fault ≡ None
 none_from_below m n fault h = rw (le-ltb m n h)
+
+pub some_from_above : (m n : ℕ) (fault : Error) → m < n → fault_if (nat_lt m n) fault ≡ Some fault
+some_from_above m n fault h = rw (lt-ltb m n h)

@@ -19,4 +19,7 @@ pub mod Printed
 pub mod TextPass
 pub mod Written
 pub mod Octets
+pub mod Told
 pub mod OidRef
+pub mod Owned
+pub mod Started

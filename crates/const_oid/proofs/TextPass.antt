@@ -1,8 +1,9 @@
 -- One pass over the bytes of a text, which ends at its first refusal, finds the fault of the first faulty piece.
-use Rattle.std.proofs.Common.{◌≡◌, ℕ, ◌+◌, ◌-◌, ◌*◌, ◌<◌, ◌≤◌, Bool, true, false, not, List, [], ◌∷◌, ◌++◌, length, nat_lt, ◌==◌, map, Option, Some, None, Result, Err, if◌then◌else◌, refl, sym, ap, ◌∙◌, ⊎_elim, arith, append-nil, find, count_by, take_while, leb, lt-ltb, le-ltb, eq-eqb, ne_eqb, one-add}
+use Rattle.std.proofs.Common.{◌≡◌, ℕ, ◌+◌, ◌-◌, ◌*◌, ◌<◌, ◌≤◌, Bool, true, false, not, List, [], ◌∷◌, ◌++◌, length, nat_lt, ◌==◌, map, Option, Some, None, Result, Ok, Err, IfOk, is_some, unwrap_or, if◌then◌else◌, refl, sym, ap, ◌∙◌, ⊎_elim, arith, append-nil, find, count_by, take_while, leb, lt-ltb, le-ltb, eq-eqb, ne_eqb, one-add}
 use Rattle.std.proofs.lemmas.List.{take_at}
 use Rattle.std.specs.List.{onto_first}
 use Rattle.std.specs.Option.{option_or}
+use Rattle.std.specs.Result.{result_err, result_map_both}
 use Rattle.std.specs.Char.{is_ascii_digit, digit_value}
 use Rattle.std.specs.Str.{all_ascii_digits}
 use Rattle.std.specs.Str.Parse.{digits_value}
@@ -13,10 +14,13 @@ use Rattle.std.proofs.lemmas.Str.{digit_value_digit}
 use Rattle.std.proofs.lemmas.Str.Parse.{digits_value-take-le}
 use Rattle.const_oid.specs.declared.error.Error.{Error}
 use Rattle.const_oid.specs.declared.error.Error.TheVariants.{ArcTooBig, DigitExpected, RepeatedDot, TrailingDot}
-use Rattle.const_oid.specs.Identifier.{RootRule, most_arc}
+use Rattle.const_oid.specs.Identifier.{RootRule, most_arc, IsEncoding}
+use Rattle.const_oid.specs.Contents.{arcs_of_octets}
+use Rattle.const_oid.specs.Parser.{end_fault}
 use Rattle.const_oid.specs.Items.{arc_fault}
 use Rattle.const_oid.specs.Text.{pieces_of, number_of, is_empty, is_one_empty, empty_fault, single_fault, piece_fault, pieces_fault, text_answer}
 use Rattle.const_oid.specs.Faults.{fault_if, answer}
+use Rattle.const_oid.proofs.Encodings.{arcs_of_encoding}
 use Rattle.const_oid.proofs.Items.{append-cons}
 use Rattle.const_oid.proofs.Numbers.{number_of_digits, find-none}
 use Rattle.const_oid.proofs.OctetPass.{onto_all, onto_all-first, not_empty_push}
@@ -225,3 +229,14 @@ text_pass_is (b ∷ bs) rule before front begun value s = ⊎_elim
 
 pub text_answer_is : (rule : RootRule) (text : List ℕ) → text_pass rule [] false 0 text ≡ text_answer rule text
 text_answer_is rule text = text_pass_is text rule [] [] false 0 read_none
+
+-- ---- the end of the text
+
+-- what is encoded from the arcs so far and the last piece's number, if it has one, is what the pass comes to
+pub text_pass-end : {X : Type 0} (octets_in : X → List ℕ) (rule : RootRule) (before : List ℕ) (number : Option ℕ) (result : Result X Error) →
+    result_err result ≡ end_fault rule before number → IfOk result (λ x. IsEncoding rule (before ++ unwrap_or number 0 ∷ []) (octets_in x)) →
+    result_map_both (λ x. arcs_of_octets (octets_in x)) (λ fault. fault) result ≡ text_pass rule before (is_some number) (unwrap_or number 0) []
+text_pass-end octets_in rule before None (Ok x) f e = cc
+text_pass-end octets_in rule before None (Err fault) f e = cc
+text_pass-end octets_in rule before (Some arc) (Ok x) f e = rw (← f) (ap Ok (arcs_of_encoding rule (before ++ arc ∷ []) (octets_in x) e))
+text_pass-end octets_in rule before (Some arc) (Err fault) f e = rw (← f) refl

@@ -10,3 +10,6 @@ pub mod Message
 pub mod Arcs
 pub mod OidRef
 pub mod Buffer
+pub mod Oid
+pub mod Encoder
+pub mod Parser

@@ -3,11 +3,15 @@
 
 pub mod arcs;
 pub mod buffer;
+mod encoder;
 pub mod error;
 pub mod laws;
+pub mod oid;
 pub mod oid_ref;
+mod parser;
 
 pub use arcs::{Arc, Arcs};
 pub use buffer::Buffer;
 pub use error::{Error, Result};
+pub use oid::ObjectIdentifier;
 pub use oid_ref::ObjectIdentifierRef;

@@ -1,5 +1,5 @@
 //! Borrowed object identifiers.
-ghost use Rattle.std.specs.Prelude.{◌≡◌, length, slice_get, None, Some, IfOk};
+ghost use Rattle.std.specs.Prelude.{◌≡◌, ◌↔◌, length, slice_get, None, Some, IfOk, IsTrue};
 ghost use Rattle.std.specs.Result.{result_map_both};
 ghost use Rattle.std.proofs.Props.{props};
 ghost use Rattle.const_oid.specs.Base128.{AreOctets};
@@ -9,6 +9,7 @@ ghost use Rattle.const_oid.specs.Text.{text_of};
 
 use crate::arcs::{Arc, Arcs, check};
 use crate::error::{Error, Result};
+use crate::oid::ObjectIdentifier;
 use std::cmp::Ordering;
 use std::fmt;
 
@@ -28,6 +29,7 @@ pub struct ObjectIdentifierRef<'a> {
 }
 
 impl<'a> ObjectIdentifierRef<'a> {
+    ghost use Rattle.const_oid.specs.Oid.{oid_octets, oid_arcs};
     ghost use Rattle.const_oid.specs.OidRef.{ref_octets, ref_arcs};
 
     /// Reads contents octets (X.690, 8.19). The first of these that applies is the error:
@@ -46,6 +48,14 @@ impl<'a> ObjectIdentifierRef<'a> {
             return Err(Error::Length);
         }
         Ok(ObjectIdentifierRef { ber })
+    }
+
+    /// The identifier over octets without a fault.
+    pub(crate) fn from_checked(ber: &'a [u8]) -> Self
+        requires { parts_fault root_rule (cut ber.now) ≡ None }
+        ensures { ref_octets result ≡ ber.now }
+    {
+        ObjectIdentifierRef { ber }
     }
 
     /// The contents octets, which are the caller's.
@@ -75,6 +85,14 @@ impl<'a> ObjectIdentifierRef<'a> {
         ensures { result ≡ length (ref_arcs self.now) }
     {
         self.arcs().count()
+    }
+
+    /// Whether an owned identifier, of any capacity, has the same octets, and so the same arcs.
+    pub fn eq_oid<const N: usize>(&self, other: &ObjectIdentifier<N>) -> bool
+        ensures octets { IsTrue result ↔ (ref_octets self.now ≡ oid_octets other.now) }
+        ensures arcs { IsTrue result ↔ (ref_arcs self.now ≡ oid_arcs other.now) }
+    {
+        self.as_bytes() == other.as_bytes()
     }
 }
 

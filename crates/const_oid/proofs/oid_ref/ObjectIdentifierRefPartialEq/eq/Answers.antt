@@ -1,10 +1,14 @@
 use Rattle.std.proofs.Common.{◌≡◌, rules}
 use Rattle.std.specs.Prelude.{◌↔◌, IsTrue}
-use Rattle.const_oid.specs.OidRef.{ref_octets}
-use Rattle.const_oid.proofs.OidRef.{arcs_told}
+use Rattle.const_oid.specs.Identifier.{root_rule}
+use Rattle.const_oid.specs.OidRef.{ref_octets, ref_arcs}
+use Rattle.const_oid.proofs.OidRef.{ref_encoding}
+use Rattle.const_oid.proofs.Told.{told_arcs}
 use Rattle.const_oid.proofs.oid_ref.ObjectIdentifierRefPartialEq.eq.Goals as goal
 
 pub returns-clause-arcs : goal.returns-clause-arcs
 returns-clause-arcs c =
-    let told : IsTrue c.eq.result ↔ (ref_octets c.args.self.now ≡ ref_octets c.args.other.now) = search rules in
-    arcs_told c.args.self.now c.args.other.now (IsTrue c.eq.result) told
+    let a = c.args.self.now in
+    let b = c.args.other.now in
+    let told : IsTrue c.eq.result ↔ (ref_octets a ≡ ref_octets b) = search rules in
+    told_arcs root_rule (ref_arcs a) (ref_arcs b) (ref_octets a) (ref_octets b) (IsTrue c.eq.result) (ref_encoding a) (ref_encoding b) told

@@ -1,0 +1,7 @@
+use Rattle.const_oid.specs.Identifier.{root_rule, IsEncoding}
+use Rattle.const_oid.specs.Oid.{oid_arcs}
+use Rattle.const_oid.proofs.Owned.{oid_encoding}
+use Rattle.const_oid.proofs.oid.ObjectIdentifier.as_bytes.Goals as goal
+
+pub returns-clause-encoding : goal.returns-clause-encoding
+returns-clause-encoding g c = rw (c.as_bytes.ensures) (oid_encoding c.args.self.now)

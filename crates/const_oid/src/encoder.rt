@@ -1,0 +1,128 @@
+//! Arcs, one after another, to octets.
+
+ghost use Rattle.std.specs.Prelude.{◌≡◌, ℕ, List, [], ◌∷◌, ◌++◌, min, ◌↔◌, IsTrue, IfOk, OnOk, OnErr};
+ghost use Rattle.std.specs.Result.{result_err};
+ghost use Rattle.const_oid.specs.Identifier.{root_rule, IsEncoding, most_second};
+ghost use Rattle.const_oid.specs.Items.{arc_fault, few_fault};
+ghost use Rattle.const_oid.specs.Buffer.{octets_of};
+
+use crate::arcs::Arc;
+use crate::buffer::Buffer;
+use crate::error::{Error, Result};
+use std::marker::Model;
+
+/// How far an encoder has come.
+#[derive(Copy, Clone)]
+pub(crate) enum State {
+    /// No arc was given.
+    Initial,
+
+    /// One arc was given.
+    FirstArc(Arc),
+
+    /// Two arcs or more were given.
+    Body,
+}
+
+/// An encoder of arcs at a capacity, the smaller of `SIZE` and 255 octets.
+#[derive(Drop)]
+pub(crate) struct Encoder<const SIZE: usize> {
+    state: State,
+    octets: Buffer<SIZE>,
+}
+
+impl<const SIZE: usize> Model for Encoder<SIZE> {
+    ghost use Rattle.std.specs.Prelude.{ℕ, List};
+    ghost use Rattle.const_oid.specs.Identifier.{root_rule};
+
+    ghost Value = { List ℕ };
+
+    ghost use Rattle.const_oid.specs.Buffer.{octets_of};
+    ghost use Rattle.const_oid.specs.Encoder.{arcs_given, IsStarted};
+
+    ghost view = { λ encoder. arcs_given encoder.state (octets_of encoder.octets) };
+
+    ghost invariant = { λ encoder. IsStarted root_rule encoder.state (octets_of encoder.octets) };
+}
+
+impl<const SIZE: usize> Encoder<SIZE> {
+    /// An encoder that was given no arc.
+    pub(crate) fn new() -> Self
+        ensures { result ≡ [] }
+    {
+        Encoder {
+            state: State::Initial,
+            octets: Buffer::empty(),
+        }
+    }
+
+    /// Whether no arc was given.
+    pub(crate) fn is_new(&self) -> bool
+        ensures { IsTrue result ↔ (self.now ≡ []) }
+    {
+        matches!(self.state, State::Initial)
+    }
+
+    /// Encodes one more arc.
+    pub(crate) fn arc(&mut self, arc: Arc) -> Result<()>
+        ensures fault { result_err result ≡ arc_fault root_rule (min SIZE 255) self.old arc }
+        ensures given { OnOk result (self.new ≡ self.old ++ arc ∷ []) }
+        ensures unchanged { OnErr result (self.new ≡ self.old) }
+    {
+        match self.state {
+            State::Initial => {
+                if arc > 2 {
+                    return Err(Error::ArcInvalid { arc });
+                }
+                self.state = State::FirstArc(arc);
+            }
+            State::FirstArc(first) => {
+                if arc > greatest_second(first) {
+                    return Err(Error::ArcInvalid { arc });
+                }
+                self.octets.push_group(40 * first as u64 + arc as u64)?;
+                self.state = State::Body;
+            }
+            State::Body => self.octets.push_group(arc as u64)?,
+        }
+        Ok(())
+    }
+
+    /// The encoding of the arcs given, which are two or more.
+    pub(crate) fn finish(self) -> Result<Buffer<SIZE>>
+        ensures fault { result_err result ≡ few_fault self.entry }
+        ensures encoding { IfOk result (λ octets. IsEncoding root_rule self.entry (octets_of octets)) }
+    {
+        match self.state {
+            State::Body => Ok(self.octets),
+            _ => Err(Error::Empty),
+        }
+    }
+}
+
+/// The greatest second arc below a first arc.
+fn greatest_second(first: Arc) -> Arc
+    ensures { result ≡ most_second root_rule first }
+{
+    39
+}
+
+#[cfg(test)]
+mod tests {
+    use super::*;
+    use std::test::Fail;
+
+    #[test]
+    fn fills_its_capacity(rt: HostRuntime) -> std::result::Result<(), Fail> {
+        let mut encoder = Encoder::<7>::new();
+        for arc in [1, 2, 840, 10045, 2, 1] {
+            encoder.arc(arc)?;
+        }
+        assert_eq!(rt; encoder.arc(1).err(), Some(Error::Length));
+        assert_eq!(rt;
+            encoder.finish()?.as_bytes(),
+            [0x2A, 0x86, 0x48, 0xCE, 0x3D, 0x02, 0x01].as_slice()
+        );
+        Ok(())
+    }
+}

@@ -1,0 +1,164 @@
+//! Owned object identifiers.
+
+ghost use Rattle.std.specs.Prelude.{◌≡◌, ◌<◌, ◌≤◌, length, min, slice_get, None, Some, IfOk, MatchResult};
+ghost use Rattle.std.specs.Result.{result_map_both};
+ghost use Rattle.const_oid.specs.Buffer.{octets_of};
+ghost use Rattle.const_oid.specs.Contents.{cut, parts_fault, octet_answer};
+ghost use Rattle.const_oid.specs.Identifier.{root_rule, IsEncoding};
+ghost use Rattle.const_oid.specs.Text.{text_of};
+
+use crate::arcs::{Arc, Arcs};
+use crate::buffer::Buffer;
+use crate::error::{Error, Result};
+use crate::oid_ref::ObjectIdentifierRef;
+use std::cmp::Ordering;
+use std::fmt;
+
+/// An object identifier that holds its contents octets, without tag and length: at most `MAX_SIZE`,
+/// and never more than 255.
+///
+/// Its octets have no fault: they are the one encoding of its arcs (X.690, 8.19).
+#[derive(Copy, Clone, Eq, PartialOrd, Hash)]
+pub struct ObjectIdentifier<const MAX_SIZE: usize> {
+    ber: Buffer<MAX_SIZE>,
+    ghost sound: { parts_fault root_rule (cut (octets_of ber)) ≡ None },
+}
+
+impl ObjectIdentifier<39> {
+    ghost use Rattle.const_oid.specs.Oid.{oid_octets, oid_arcs};
+
+    /// The capacity in octets.
+    pub const MAX_SIZE: usize = 39;
+
+    /// Reads contents octets (X.690, 8.19), of which at most 39 fit, as
+    /// [`from_bytes_sized`](Self::from_bytes_sized) does.
+    pub fn from_bytes(ber_bytes: &[u8]) -> Result<Self>
+        ensures answer { result_map_both oid_arcs (λ fault. fault) result ≡ octet_answer root_rule ber_bytes.now 39 }
+        ensures octets { IfOk result (λ oid. oid_octets oid ≡ ber_bytes.now) }
+    {
+        Self::from_bytes_sized(ber_bytes)
+    }
+}
+
+impl<const MAX_SIZE: usize> ObjectIdentifier<MAX_SIZE> {
+    ghost use Rattle.const_oid.specs.Oid.{oid_octets, oid_arcs};
+    ghost use Rattle.const_oid.specs.OidRef.{ref_octets, ref_arcs};
+
+    /// Reads contents octets (X.690, 8.19). The first of these that applies is the error:
+    ///
+    /// - [`Error::Empty`]: there is no octet;
+    /// - [`Error::ArcInvalid`] of a first arc of 3 to 6: the first octet is 120 or more;
+    /// - [`Error::Base128`] or [`Error::ArcTooBig`]: of the first group with a fault, that it begins
+    ///   with 0x80, that its number is past 32 bits, or that it does not end;
+    /// - [`Error::Length`]: there are more octets than fit.
+    pub fn from_bytes_sized(ber_bytes: &[u8]) -> Result<Self>
+        ensures answer { result_map_both oid_arcs (λ fault. fault) result ≡ octet_answer root_rule ber_bytes.now (min MAX_SIZE 255) }
+        ensures octets { IfOk result (λ oid. oid_octets oid ≡ ber_bytes.now) }
+    {
+        Self::try_from_ref(ObjectIdentifierRef::from_bytes(ber_bytes)?)
+    }
+
+    /// Copies a borrowed identifier, or answers [`Error::Length`] where its octets do not fit.
+    pub fn try_from_ref(oid_ref: ObjectIdentifierRef<'_>) -> Result<Self>
+        ensures fits { let count = length (ref_octets oid_ref.entry) in MatchResult result (λ _. count ≤ min MAX_SIZE 255) (λ fault. (fault ≡ Error.Length) × (min MAX_SIZE 255 < count)) }
+        ensures octets { IfOk result (λ oid. oid_octets oid ≡ ref_octets oid_ref.entry) }
+        ensures arcs { IfOk result (λ oid. oid_arcs oid ≡ ref_arcs oid_ref.entry) }
+    {
+        let ber = Buffer::from_slice(oid_ref.as_bytes())?;
+        Ok(ObjectIdentifier { ber })
+    }
+
+    /// The contents octets.
+    pub fn as_bytes(&self) -> &[u8]
+        ensures octets { result.now ≡ oid_octets self.now }
+        ensures encoding { IsEncoding root_rule (oid_arcs self.now) result.now }
+    {
+        self.ber.as_bytes()
+    }
+
+    /// The borrowed form of the same octets.
+    pub fn as_oid_ref(&self) -> ObjectIdentifierRef<'_>
+        ensures octets { ref_octets result ≡ oid_octets self.now }
+        ensures arcs { ref_arcs result ≡ oid_arcs self.now }
+    {
+        ObjectIdentifierRef::from_checked(self.as_bytes())
+    }
+
+    /// The arc at a place, counted from 0, or `None` past the last.
+    pub fn arc(&self, index: usize) -> Option<Arc>
+        ensures { result ≡ slice_get (oid_arcs self.now) index }
+    {
+        self.as_oid_ref().arc(index)
+    }
+
+    /// All arcs, in order.
+    pub fn arcs(&self) -> Arcs<'_>
+        ensures { result ≡ oid_arcs self.now }
+    {
+        self.as_oid_ref().arcs()
+    }
+
+    /// How many arcs there are.
+    pub fn len(&self) -> usize
+        ensures { result ≡ length (oid_arcs self.now) }
+    {
+        self.as_oid_ref().len()
+    }
+}
+
+impl<const MAX_SIZE: usize> fmt::Display for ObjectIdentifier<MAX_SIZE> {
+    ghost use Rattle.const_oid.specs.Oid.{oid_arcs};
+
+    ghost output = { λ oid. Some (text_of (oid_arcs oid)) };
+
+    fn fmt<W: fmt::Write>(&self, f: &mut fmt::Formatter<W>) -> fmt::Result {
+        self.as_oid_ref().fmt(f)
+    }
+}
+
+impl<const MAX_SIZE: usize> fmt::Debug for ObjectIdentifier<MAX_SIZE> {
+    fn fmt<W: fmt::Write>(&self, f: &mut fmt::Formatter<W>) -> fmt::Result {
+        write!(f, "ObjectIdentifier({self})")
+    }
+}
+
+impl<const MAX_SIZE: usize> PartialEq for ObjectIdentifier<MAX_SIZE> {
+    ghost use Rattle.std.specs.Prelude.{◌↔◌, IsTrue, nat_eq};
+    ghost use Rattle.std.specs.Cmp.{on_per, partial_equiv_from_equiv};
+    ghost use Rattle.std.specs.Cmp.Lexicographic.{pointwise, nat_list_eq_equiv};
+    ghost use Rattle.const_oid.specs.Oid.{oid_octets, oid_arcs};
+
+    ghost eq = { λ a b. pointwise nat_eq (oid_octets a) (oid_octets b) };
+
+    ghost laws = { on_per oid_octets (partial_equiv_from_equiv nat_list_eq_equiv) };
+
+    fn eq(&self, other: &Self) -> bool
+        ensures value { result ≡ pointwise nat_eq (oid_octets self.now) (oid_octets other.now) }
+        ensures octets { IsTrue result ↔ (oid_octets self.now ≡ oid_octets other.now) }
+        ensures arcs { IsTrue result ↔ (oid_arcs self.now ≡ oid_arcs other.now) }
+    {
+        self.as_bytes() == other.as_bytes()
+    }
+}
+
+/// Fewer octets first, and with as many the octets in list order.
+impl<const MAX_SIZE: usize> Ord for ObjectIdentifier<MAX_SIZE> {
+    ghost use Rattle.std.specs.Prelude.{refl};
+    ghost use Rattle.std.specs.Cmp.{on_total};
+    ghost use Rattle.const_oid.specs.Oid.{oid_octets};
+    ghost use Rattle.const_oid.specs.Orders.{short_cmp, short_cmp_total, short_cmp_ties};
+
+    ghost cmp = { λ a b. short_cmp (oid_octets a) (oid_octets b) };
+
+    ghost total = { on_total oid_octets short_cmp_total };
+
+    ghost matches_partial_cmp = { λ a b. refl };
+
+    ghost matches_eq = { λ a b. short_cmp_ties (oid_octets a) (oid_octets b) };
+
+    fn cmp(&self, other: &Self) -> Ordering
+        ensures { result ≡ short_cmp (oid_octets self.now) (oid_octets other.now) }
+    {
+        self.ber.cmp(&other.ber)
+    }
+}

@@ -1,0 +1,94 @@
+//! Dotted text to octets.
+
+ghost use Rattle.std.specs.Prelude.{◌≡◌, ℕ, ◌+◌, ◌-◌, ◌*◌, ◌<◌, ◌≤◌, List, [], ◌∷◌, ◌++◌, IfOk, OnOk, MatchResult, unwrap_or};
+ghost use Rattle.std.specs.Char.{IsAsciiDigit};
+ghost use Rattle.std.specs.Result.{result_err, result_map_both};
+ghost use Rattle.const_oid.specs.Buffer.{octets_of};
+ghost use Rattle.const_oid.specs.Contents.{arcs_of_octets};
+ghost use Rattle.const_oid.specs.Identifier.{root_rule, most_arc, IsEncoding};
+ghost use Rattle.const_oid.specs.Parser.{dot_fault, end_fault};
+ghost use Rattle.const_oid.specs.Text.{text_answer};
+
+use crate::arcs::Arc;
+use crate::buffer::Buffer;
+use crate::encoder::Encoder;
+use crate::error::{Error, Result};
+
+/// The encoding of the identifier that a text denotes.
+pub(crate) fn parse(text: &str) -> Result<Buffer<39>>
+    ensures answer { result_map_both (λ octets. arcs_of_octets (octets_of octets)) (λ fault. fault) result ≡ text_answer root_rule text.now }
+    ensures encoding { IfOk result (λ octets. IsEncoding root_rule (arcs_of_octets (octets_of octets)) (octets_of octets)) }
+{
+    let bytes = text.as_bytes();
+    let mut encoder = Encoder::new();
+    let mut number = None;
+    for (index, byte) in bytes.iter().enumerate() {
+        let byte = *byte;
+        if byte.is_ascii_digit() {
+            number = Some(with_digit(number, byte)?);
+        } else if byte == b'.' {
+            end_piece(&mut encoder, number, index + 1 == bytes.len())?;
+            number = None;
+        } else {
+            return Err(Error::DigitExpected { actual: byte });
+        }
+    }
+    end_text(encoder, number)
+}
+
+/// The number of a piece with one more digit.
+fn with_digit(number: Option<Arc>, digit: u8) -> Result<Arc>
+    requires { IsAsciiDigit digit }
+    ensures { let longer = unwrap_or number 0 * 10 + (digit - 48) in MatchResult result (λ arc. (arc ≡ longer) × (longer ≤ most_arc)) (λ fault. (fault ≡ Error.ArcTooBig) × (most_arc < longer)) }
+{
+    number
+        .unwrap_or(0)
+        .checked_mul(10)
+        .and_then(|tens| tens.checked_add(u32::from(digit - b'0')))
+        .ok_or(Error::ArcTooBig)
+}
+
+/// Ends a piece at a dot.
+fn end_piece(encoder: &mut Encoder<39>, number: Option<Arc>, text_ends: bool) -> Result<()>
+    ensures fault { result_err result ≡ dot_fault root_rule encoder.old number text_ends }
+    ensures given { OnOk result (encoder.new ≡ encoder.old ++ unwrap_or number 0 ∷ []) }
+{
+    match number {
+        None if encoder.is_new() => Err(Error::DigitExpected { actual: b'.' }),
+        None => Err(Error::RepeatedDot),
+        Some(_) if text_ends => Err(Error::TrailingDot),
+        Some(arc) => encoder.arc(arc),
+    }
+}
+
+/// Ends the last piece, and with it the text.
+fn end_text(mut encoder: Encoder<39>, number: Option<Arc>) -> Result<Buffer<39>>
+    ensures fault { result_err result ≡ end_fault root_rule encoder number }
+    ensures encoding { IfOk result (λ octets. IsEncoding root_rule (encoder ++ unwrap_or number 0 ∷ []) (octets_of octets)) }
+{
+    match number {
+        None if encoder.is_new() => Err(Error::Empty),
+        None => Err(Error::TrailingDot),
+        Some(arc) => {
+            encoder.arc(arc)?;
+            encoder.finish()
+        }
+    }
+}
+
+#[cfg(test)]
+mod tests {
+    use super::*;
+    use std::test::Fail;
+
+    #[test]
+    fn leading_zeros(rt: HostRuntime) -> std::result::Result<(), Fail> {
+        let mut text = String::from_str(rt.alloc(), "1.2.")?;
+        for _ in 0..100_000 {
+            text.push_str("0")?;
+        }
+        text.push_str("7")?;
+        assert_eq!(rt; parse(text.as_str())?.as_bytes(), [0x2A, 0x07].as_slice());
+        Ok(())
+    }
+}
