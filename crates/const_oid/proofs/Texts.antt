@@ -5,9 +5,12 @@ use Rattle.std.specs.List.{AllByRecursion, join_with_byte}
 use Rattle.std.specs.Char.{is_ascii_digit}
 use Rattle.std.proofs.lemmas.List.Splits.{slice_split_at, slice_split_none, length-slice_split}
 use Rattle.const_oid.specs.declared.error.Error.TheVariants.{ArcTooBig, DigitExpected}
+use Rattle.std.specs.Prelude.{Result, Ok}
+use Rattle.const_oid.specs.declared.error.Error.{Error}
+use Rattle.const_oid.specs.Faults.{answer}
 use Rattle.const_oid.specs.Identifier.{RootRule, Narrow, Wide, most_arc, most_second, IsIdentifier, size}
 use Rattle.const_oid.specs.Items.{arc_fault}
-use Rattle.const_oid.specs.Text.{text_of, pieces_of, number_of, is_empty, is_one_empty, empty_fault, single_fault, piece_fault, pieces_fault, text_fault, IsNumber, Denotes, strip_piece, strip}
+use Rattle.const_oid.specs.Text.{text_of, pieces_of, number_of, is_empty, is_one_empty, empty_fault, single_fault, piece_fault, pieces_fault, text_fault, IsNumber, Denotes, strip_piece, strip, text_answer}
 use Rattle.const_oid.proofs.Subidentifiers.{second_low}
 use Rattle.const_oid.proofs.Faults.{both_none, false_from_none, below_from_none, none_from_below}
 use Rattle.const_oid.proofs.Items.{IsBegun, begun_more, arc_none, append-cons}
@@ -156,3 +159,11 @@ pub denoted_from_none : (rule : RootRule) (text : List ℕ) → text_fault rule 
 denoted_from_none rule text h =
     let (numbers, identifier, fits) = whole_sound rule (pieces_of text) (omega (arith, length-slice_split (λ b. b == 46) text)) h in
     (record { numbers = numbers; values = refl; identifier = identifier }, fits)
+
+-- the arcs that a text is read as are those that it denotes
+pub denoted_from_answer : (rule : RootRule) (text arcs : List ℕ) → Ok arcs ≡ text_answer rule text → Denotes rule text arcs
+denoted_from_answer rule text arcs e = by (text_fault rule text) refl e
+  where
+    by : (fault : Option Error) → text_fault rule text ≡ fault → Ok arcs ≡ answer fault (map number_of (pieces_of text)) → Denotes rule text arcs
+    by None none e = let same : map number_of (pieces_of text) ≡ arcs = cc in rw same at ((denoted_from_none rule text none).0)
+    by (Some fault) some e = cc

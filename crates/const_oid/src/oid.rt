@@ -5,14 +5,16 @@ ghost use Rattle.std.specs.Result.{result_map_both};
 ghost use Rattle.const_oid.specs.Buffer.{octets_of};
 ghost use Rattle.const_oid.specs.Contents.{cut, parts_fault, octet_answer};
 ghost use Rattle.const_oid.specs.Identifier.{root_rule, IsEncoding};
-ghost use Rattle.const_oid.specs.Text.{text_of};
+ghost use Rattle.const_oid.specs.Text.{text_of, text_fault, text_answer, Denotes};
 
 use crate::arcs::{Arc, Arcs};
 use crate::buffer::Buffer;
 use crate::error::{Error, Result};
 use crate::oid_ref::ObjectIdentifierRef;
+use crate::parser::parse;
 use std::cmp::Ordering;
 use std::fmt;
+use std::str::FromStr;
 
 /// An object identifier that holds its contents octets, without tag and length: at most `MAX_SIZE`,
 /// and never more than 255.
@@ -30,6 +32,35 @@ impl ObjectIdentifier<39> {
     /// The capacity in octets.
     pub const MAX_SIZE: usize = 39;
 
+    /// Reads dotted text, as `1.2.840.10045.2.1`, with any number of leading zeros in an arc. The text
+    /// is cut at its dots; the first piece with a fault decides, by the first of these that applies:
+    ///
+    /// - [`Error::ArcTooBig`]: its leading digits are a number past 32 bits;
+    /// - [`Error::DigitExpected`]: it has another byte than a digit, or it is empty and the first of several;
+    /// - [`Error::RepeatedDot`] or [`Error::TrailingDot`]: it is empty, and not the first one;
+    /// - [`Error::TrailingDot`]: an empty last piece follows it;
+    /// - [`Error::ArcInvalid`]: it is the first one and past 2, or the second and past 39 (X.660);
+    /// - [`Error::Length`]: the arcs up to it take more than 39 octets (X.690, 8.19);
+    /// - [`Error::Empty`]: it is the only one.
+    pub fn new(s: &str) -> Result<Self>
+        ensures answer { result_map_both oid_arcs (λ fault. fault) result ≡ text_answer root_rule s.now }
+        ensures denoted { IfOk result (λ oid. Denotes root_rule s.now (oid_arcs oid)) }
+    {
+        let ber = parse(s)?;
+        Ok(ObjectIdentifier { ber })
+    }
+
+    /// Reads dotted text that is known to have no fault, as a literal.
+    pub fn new_unwrap(s: &str) -> Self
+        requires { text_fault root_rule s.now ≡ None }
+        ensures { Denotes root_rule s.now (oid_arcs result) }
+    {
+        match Self::new(s) {
+            Ok(oid) => oid,
+            Err(_) => unreachable!(),
+        }
+    }
+
     /// Reads contents octets (X.690, 8.19), of which at most 39 fit, as
     /// [`from_bytes_sized`](Self::from_bytes_sized) does.
     pub fn from_bytes(ber_bytes: &[u8]) -> Result<Self>
@@ -37,6 +68,19 @@ impl ObjectIdentifier<39> {
         ensures octets { IfOk result (λ oid. oid_octets oid ≡ ber_bytes.now) }
     {
         Self::from_bytes_sized(ber_bytes)
+    }
+}
+
+impl FromStr for ObjectIdentifier<39> {
+    ghost use Rattle.const_oid.specs.Oid.{ReadsText};
+
+    type Err = Error;
+
+    ghost from_str_gives = { ReadsText };
+
+    /// Reads dotted text, as [`new`](Self::new) does.
+    fn from_str(s: &str) -> Result<Self> {
+        Self::new(s)
     }
 }
 
