@@ -16,6 +16,9 @@ use std::cmp::Ordering;
 use std::fmt;
 use std::str::FromStr;
 
+#[cfg(test)]
+mod text_tests;
+
 /// An object identifier that holds its contents octets, without tag and length: at most `MAX_SIZE`,
 /// and never more than 255.
 ///
