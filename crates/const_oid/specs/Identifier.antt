@@ -1,7 +1,7 @@
 -- Identifiers as lists of arcs (ITU-T X.660), and their contents octets (ITU-T X.690, 8.19).
-use Rattle.std.specs.Prelude.{◌≡◌, ℕ, ◌+◌, ◌*◌, ◌≤◌, List, [], ◌∷◌, sum_by, nat_lt, if◌then◌else◌}
+use Rattle.std.specs.Prelude.{◌≡◌, ℕ, ◌+◌, ◌*◌, ◌≤◌, List, [], ◌∷◌, sum_by, map, nat_lt, if◌then◌else◌}
 use Rattle.std.specs.List.{AllByRecursion, AllZip, concat}
-use Rattle.const_oid.specs.Base128.{IsGroup, width}
+use Rattle.const_oid.specs.Base128.{IsGroup, width, group_of}
 
 -- which second arcs stand under the root arc 2: up to 39, as under 0 and 1, or all
 pub data RootRule : Type 0 where
@@ -44,3 +44,7 @@ pub record IsEncoding (rule : RootRule) (arcs octets : List ℕ) : Type 0 where
 -- how many octets the encoding has
 abbrev pub size : List ℕ → ℕ
 size arcs = sum_by width (subidentifiers arcs)
+
+-- the encoding of the arcs, where they are an identifier
+unfoldable pub encoding_of : List ℕ → List ℕ
+encoding_of arcs = concat (map group_of (subidentifiers arcs))

@@ -10,9 +10,9 @@ ghost use Rattle.std.specs.declared.cmp.Ordering.TheVariants.{Less, Greater};
 ghost use Rattle.const_oid.specs.Faults.{fault_if};
 ghost use Rattle.const_oid.specs.Items.{arc_fault, item_fault};
 ghost use Rattle.const_oid.specs.declared.error.Error.TheVariants.{ArcInvalid, ArcTooBig, Base128, DigitExpected, Empty, Length, TrailingDot};
-ghost use Rattle.const_oid.specs.Base128.{AreOctets, IsGroup, IsWidth, width};
+ghost use Rattle.const_oid.specs.Base128.{AreOctets, IsGroup, IsWidth, group_of, width};
 ghost use Rattle.const_oid.specs.Contents.{cut, octet_fault, arcs_of_octets};
-ghost use Rattle.const_oid.specs.Identifier.{RootRule, Narrow, most_arc, most_second, IsIdentifier, IsEncoding, size};
+ghost use Rattle.const_oid.specs.Identifier.{RootRule, Narrow, most_arc, most_second, IsIdentifier, IsEncoding, encoding_of, size};
 ghost use Rattle.const_oid.specs.Orders.{short_cmp};
 ghost use Rattle.const_oid.specs.Text.{text_fault, text_of, pieces_of, number_of, Denotes, strip};
 ghost use Rattle.const_oid.specs.Tree.{BeginsWith};
@@ -35,7 +35,7 @@ pub fn worked_rows()
 
 /// Each number has exactly one group, whose length is the number's width.
 pub fn unique_groups()
-    ensures one { (n : ℕ) → (g : List ℕ) × IsGroup n g }
+    ensures one { (n : ℕ) → IsGroup n (group_of n) }
     ensures only { (n : ℕ) (g h : List ℕ) → IsGroup n g → IsGroup n h → g ≡ h }
     ensures width { (n : ℕ) (g : List ℕ) → IsGroup n g → length g ≡ width n }
     ensures least { (n : ℕ) → IsWidth n (width n) }
@@ -59,7 +59,7 @@ pub fn octets_denote()
 
 /// Each identifier has exactly one encoding, of as many octets as its size.
 pub fn one_encoding()
-    ensures one { (rule : RootRule) (arcs : List ℕ) → IsIdentifier rule arcs → (octets : List ℕ) × IsEncoding rule arcs octets }
+    ensures one { (rule : RootRule) (arcs : List ℕ) → IsIdentifier rule arcs → IsEncoding rule arcs (encoding_of arcs) }
     ensures only { (rule : RootRule) (arcs a b : List ℕ) → IsEncoding rule arcs a → IsEncoding rule arcs b → a ≡ b }
     ensures size { (rule : RootRule) (arcs octets : List ℕ) → IsEncoding rule arcs octets → length octets ≡ size arcs }
 {}
