@@ -23,3 +23,5 @@ pub mod Told
 pub mod OidRef
 pub mod Owned
 pub mod Started
+pub mod Parents
+pub mod Pushed

@@ -3,7 +3,8 @@ use Rattle.std.proofs.Common.{◌≡◌, ℕ, ◌+◌, ◌*◌, ◌≤◌, List,
 use Rattle.const_oid.specs.declared.encoder.State.{State}
 use Rattle.const_oid.specs.declared.encoder.State.TheVariants.{FirstArc, Body}
 use Rattle.const_oid.specs.declared.error.Error.TheVariants.{Length}
-use Rattle.const_oid.specs.Base128.{IsGroup, width}
+use Rattle.const_oid.specs.Base128.{width}
+use Rattle.const_oid.specs.Buffer.{GoesOn}
 use Rattle.const_oid.specs.Identifier.{RootRule, most_arc, most_second, IsEncoding}
 use Rattle.const_oid.specs.Contents.{arcs_of_octets}
 use Rattle.const_oid.specs.Faults.{fault_if}
@@ -11,10 +12,6 @@ use Rattle.const_oid.specs.Items.{arc_fault}
 use Rattle.const_oid.specs.Encoder.{arcs_given, IsStarted}
 use Rattle.const_oid.proofs.Encodings.{arcs_of_encoding, encoding_back}
 use Rattle.const_oid.proofs.Children.{encoding_push, encoding_two, size_push}
-
--- the octets go on by a group of the number
-abbrev pub GoesOn : ℕ → List ℕ → List ℕ → Type 0
-GoesOn number octets longer = (group : List ℕ) × IsGroup number group × (longer ≡ octets ++ group)
 
 -- the octets in use are the encoding of the arcs given
 body_from_encoding : (rule : RootRule) (octets given : List ℕ) → IsEncoding rule given octets → IsStarted rule Body octets × (arcs_given Body octets ≡ given)

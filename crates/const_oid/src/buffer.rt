@@ -19,7 +19,7 @@ pub struct Buffer<const SIZE: usize> {
 }
 
 impl<const SIZE: usize> Buffer<SIZE> {
-    ghost use Rattle.const_oid.specs.Buffer.{octets_of};
+    ghost use Rattle.const_oid.specs.Buffer.{octets_of, GoesOn};
 
     /// A buffer with no octet in use.
     pub(crate) fn empty() -> Self
@@ -33,7 +33,8 @@ impl<const SIZE: usize> Buffer<SIZE> {
 
     /// The octets copied, or `Length` where they do not fit.
     pub(crate) fn from_slice(octets: &[u8]) -> Result<Self>
-        ensures fits { MatchResult result (λ _. length octets.now ≤ min SIZE 255) (λ fault. (fault ≡ Error.Length) × (min SIZE 255 < length octets.now)) }
+        ensures fits { MatchResult result (λ _. length octets.now ≤ min SIZE 255)
+            (λ fault. (fault ≡ Error.Length) × (min SIZE 255 < length octets.now)) }
         ensures copied { IfOk result (λ buffer. octets_of buffer ≡ octets.now) }
     {
         let count = octets.len();
@@ -51,8 +52,10 @@ impl<const SIZE: usize> Buffer<SIZE> {
     /// Appends the group of a number, or answers `Length` where it does not fit.
     pub(crate) fn push_group(&mut self, number: u64) -> Result<()>
         requires { number < 2 ^ 35 }
-        ensures fits { let long = length (octets_of self.old) + width number in MatchResult result (λ _. long ≤ min SIZE 255) (λ fault. (fault ≡ Error.Length) × (min SIZE 255 < long)) }
-        ensures appended { OnOk result ((group : List ℕ) × IsGroup number group × (octets_of self.new ≡ octets_of self.old ++ group)) }
+        ensures fits { let long = length (octets_of self.old) + width number in
+            MatchResult result (λ _. long ≤ min SIZE 255)
+            (λ fault. (fault ≡ Error.Length) × (min SIZE 255 < long)) }
+        ensures appended { OnOk result (GoesOn number (octets_of self.old) (octets_of self.new)) }
         ensures unchanged { OnErr result (self.new ≡ self.old) }
     {
         let start = self.used as usize;

@@ -13,7 +13,7 @@ use std::marker::Model;
 
 /// How far an encoder has come.
 #[derive(Copy, Clone)]
-pub(crate) enum State {
+enum State {
     /// No arc was given.
     Initial,
 

@@ -1,11 +1,13 @@
 //! Owned object identifiers.
 
-ghost use Rattle.std.specs.Prelude.{◌≡◌, ◌<◌, ◌≤◌, length, min, slice_get, None, Some, IfOk, MatchResult};
+ghost use Rattle.std.specs.Prelude.{◌≡◌, ◌-◌, ◌<◌, ◌≤◌, ◌↔◌, length, min, take, slice_get, None, Some, IfOk, IsTrue, MatchResult};
+ghost use Rattle.std.specs.Option.{option_map};
 ghost use Rattle.std.specs.Result.{result_map_both};
 ghost use Rattle.const_oid.specs.Buffer.{octets_of};
 ghost use Rattle.const_oid.specs.Contents.{cut, parts_fault, octet_answer};
-ghost use Rattle.const_oid.specs.Identifier.{root_rule, IsEncoding};
 ghost use Rattle.const_oid.specs.Text.{text_of, text_fault, text_answer, Denotes};
+ghost use Rattle.const_oid.specs.Identifier.{root_rule, IsEncoding, size};
+ghost use Rattle.const_oid.specs.Tree.{BeginsWith, child_of, parent_of};
 
 use crate::arcs::{Arc, Arcs};
 use crate::buffer::Buffer;
@@ -150,6 +152,49 @@ impl<const MAX_SIZE: usize> ObjectIdentifier<MAX_SIZE> {
         ensures { result ≡ length (oid_arcs self.now) }
     {
         self.as_oid_ref().len()
+    }
+
+    /// The identifier of all arcs but the last, or `None` of two arcs.
+    pub fn parent(&self) -> Option<Self>
+        ensures { option_map oid_arcs result ≡ parent_of (oid_arcs self.now) }
+    {
+        let front = without_last_part(self.as_bytes());
+        if front.is_empty() {
+            return None;
+        }
+        let ber = Buffer::from_slice(front).ok()?;
+        Some(ObjectIdentifier { ber })
+    }
+
+    /// The identifier of these arcs and one more, or [`Error::Length`] where its octets do not fit.
+    pub fn push_arc(self, arc: Arc) -> Result<Self>
+        ensures fits { let count = size (child_of (oid_arcs self.entry) arc) in MatchResult result (λ _. count ≤ min MAX_SIZE 255) (λ fault. (fault ≡ Error.Length) × (min MAX_SIZE 255 < count)) }
+        ensures child { IfOk result (λ oid. oid_arcs oid ≡ child_of (oid_arcs self.entry) arc) }
+    {
+        let mut ber = self.ber;
+        ber.push_group(arc as u64)?;
+        Ok(ObjectIdentifier { ber })
+    }
+
+    /// Whether the arcs begin with all those of another identifier, which may be all of these.
+    pub fn starts_with<const SIZE: usize>(&self, other: ObjectIdentifier<SIZE>) -> bool
+        ensures { IsTrue result ↔ BeginsWith (oid_arcs self.now) (oid_arcs other.entry) }
+    {
+        self.as_bytes().starts_with(other.as_bytes())
+    }
+}
+
+/// The octets before the last part: up to the last octet below 128 that others follow.
+fn without_last_part(octets: &[u8]) -> &[u8]
+    ensures parts { let parts = cut octets.now in cut result.now ≡ take (length parts - 1) parts }
+    ensures short { length result.now ≤ length octets.now }
+{
+    let Some((_, front)) = octets.split_last() else {
+        return octets;
+    };
+    match front.iter().rposition(|octet| *octet < 128) {
+        Some(index) => &front[..index + 1],
+        None => &front[..0],
     }
 }
 

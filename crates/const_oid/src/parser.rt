@@ -16,14 +16,14 @@ use crate::error::{Error, Result};
 
 /// The encoding of the identifier that a text denotes.
 pub(crate) fn parse(text: &str) -> Result<Buffer<39>>
-    ensures answer { result_map_both (λ octets. arcs_of_octets (octets_of octets)) (λ fault. fault) result ≡ text_answer root_rule text.now }
+    ensures answer { result_map_both (λ octets. arcs_of_octets (octets_of octets)) (λ fault. fault) result
+        ≡ text_answer root_rule text.now }
     ensures encoding { IfOk result (λ octets. IsEncoding root_rule (arcs_of_octets (octets_of octets)) (octets_of octets)) }
 {
     let bytes = text.as_bytes();
     let mut encoder = Encoder::new();
     let mut number = None;
-    for (index, byte) in bytes.iter().enumerate() {
-        let byte = *byte;
+    for (index, &byte) in bytes.iter().enumerate() {
         if byte.is_ascii_digit() {
             number = Some(with_digit(number, byte)?);
         } else if byte == b'.' {
@@ -39,7 +39,9 @@ pub(crate) fn parse(text: &str) -> Result<Buffer<39>>
 /// The number of a piece with one more digit.
 fn with_digit(number: Option<Arc>, digit: u8) -> Result<Arc>
     requires { IsAsciiDigit digit }
-    ensures { let longer = unwrap_or number 0 * 10 + (digit - 48) in MatchResult result (λ arc. (arc ≡ longer) × (longer ≤ most_arc)) (λ fault. (fault ≡ Error.ArcTooBig) × (most_arc < longer)) }
+    ensures { let longer = unwrap_or number 0 * 10 + (digit - 48) in
+        MatchResult result (λ arc. (arc ≡ longer) × (longer ≤ most_arc))
+        (λ fault. (fault ≡ Error.ArcTooBig) × (most_arc < longer)) }
 {
     number
         .unwrap_or(0)
