@@ -1,37 +1,60 @@
 -- What the tool answers: one line for each line of its input.
-use Rattle.std.specs.Prelude.{ℕ, ◌==◌, List, [], ◌∷◌, ◌++◌, if◌then◌else◌, codes, bytes_eq, Result, Ok, Err}
+use Rattle.std.specs.Prelude.{ℕ, ◌==◌, List, [], ◌∷◌, ◌++◌, if◌then◌else◌, codes, bytes_eq, Option, Some, None, Result, Ok, Err}
 use Rattle.std.specs.List.{slice_split, before_first, after_first, flat_map}
-use Rattle.hex.specs.Hex.{decode_of}
+use Rattle.std.specs.Str.{is_utf8}
+use Rattle.hex.specs.Hex.{decode_of, encode_lower}
 use Rattle.hex.specs.declared.error.FromHexError.{FromHexError}
 use Rattle.const_oid.specs.declared.error.Error.{Error}
 use Rattle.const_oid.specs.Contents.{octet_answer, borrowed_capacity}
-use Rattle.const_oid.specs.Identifier.{root_rule}
+use Rattle.const_oid.specs.Identifier.{root_rule, encoding_of}
 use Rattle.const_oid.specs.Message.{message_of}
-use Rattle.const_oid.specs.Text.{text_of}
+use Rattle.const_oid.specs.Text.{text_of, text_answer}
+use Rattle.const_oid.specs.Tree.{parent_of}
 
 -- a refusal
 abbrev pub error_line : List ℕ → List ℕ
 error_line reason = codes "error: " ++ reason
 
--- arcs as dotted text, or what is wrong with them
-abbrev pub arcs_line : Result (List ℕ) Error → List ℕ
-arcs_line (Ok arcs) = text_of arcs
-arcs_line (Err fault) = error_line (message_of fault)
+-- what is shown of arcs, or what is wrong with them
+abbrev pub arcs_line : (List ℕ → List ℕ) → Result (List ℕ) Error → List ℕ
+arcs_line show (Ok arcs) = show arcs
+arcs_line show (Err fault) = error_line (message_of fault)
 
--- the arcs of octets
+-- the arcs of octets as dotted text
 abbrev pub octets_line : Result (List ℕ) FromHexError → List ℕ
-octets_line (Ok octets) = arcs_line (octet_answer root_rule octets borrowed_capacity)
+octets_line (Ok octets) = arcs_line text_of (octet_answer root_rule octets borrowed_capacity)
 octets_line (Err fault) = error_line (codes "not hex")
 
 -- what `text` answers, of hexadecimal digits
 unfoldable pub text_line : List ℕ → List ℕ
 text_line digits = octets_line (decode_of digits)
 
+-- what is shown of the arcs that a text denotes
+abbrev pub denoted_line : (List ℕ → List ℕ) → List ℕ → List ℕ
+denoted_line show text =
+    if is_utf8 text then arcs_line show (text_answer root_rule text)
+    else error_line (codes "not UTF-8")
+
+-- what `hex` answers, of dotted text: the contents octets in lower-case hexadecimal digits
+unfoldable pub hex_line : List ℕ → List ℕ
+hex_line text = denoted_line (λ arcs. encode_lower (encoding_of arcs)) text
+
+-- the text of the arcs, if there are any
+abbrev pub text_or_none : Option (List ℕ) → List ℕ
+text_or_none None = codes "none"
+text_or_none (Some arcs) = text_of arcs
+
+-- what `parent` answers, of dotted text
+unfoldable pub parent_line : List ℕ → List ℕ
+parent_line text = denoted_line (λ arcs. text_or_none (parent_of arcs)) text
+
 -- what a command answers of its argument
 abbrev pub command_line : List ℕ → List ℕ → List ℕ
 command_line command argument =
     if bytes_eq command (codes "text") then text_line argument
-    else error_line (codes "unknown command")
+    else (if bytes_eq command (codes "hex") then hex_line argument
+    else (if bytes_eq command (codes "parent") then parent_line argument
+    else error_line (codes "unknown command")))
 
 -- the answer to a line, whose command ends at its first space
 unfoldable pub answer_line : List ℕ → List ℕ

@@ -1,13 +1,13 @@
 //! The answer to one line: what its command says of its argument.
 ghost use Rattle.std.specs.Prelude.{◌≡◌, ◌*◌, ◌≤◌, ◌==◌, ◌++◌, length, take, position, OnOk, IfSome, IsErr, MatchOption, Ok};
 ghost use Rattle.std.specs.List.{before_first, after_first};
-ghost use Rattle.hex.specs.Hex.{decode_of};
-ghost use Rattle.oid_tool.specs.Answers.{answer_line, text_line};
+ghost use Rattle.hex.specs.Hex.{decode_of, encode_lower};
+ghost use Rattle.oid_tool.specs.Answers.{answer_line, text_line, hex_line, parent_line};
 
 use crate::line::Line;
-use const_oid::ObjectIdentifierRef;
-use std::fmt;
+use const_oid::{ObjectIdentifier, ObjectIdentifierRef};
 use std::fmt::Write;
+use std::{fmt, str};
 
 /// How many bytes the input may have, and so a line of it.
 pub const MAX_INPUT: usize = 4096;
@@ -21,6 +21,10 @@ pub fn answer(line: &[u8], out: &mut Line) -> fmt::Result
     let (command, argument) = cut(b' ', line);
     if command == b"text".as_slice() {
         text(argument, out)
+    } else if command == b"hex".as_slice() {
+        hex(argument, out)
+    } else if command == b"parent".as_slice() {
+        parent(argument, out)
     } else {
         out.write_str("error: unknown command")
     }
@@ -39,6 +43,58 @@ fn text(digits: &[u8], out: &mut Line) -> fmt::Result
     match ObjectIdentifierRef::from_bytes(&room[..count]) {
         Ok(oid) => write!(out, "{oid}"),
         Err(fault) => write!(out, "error: {fault}"),
+    }
+}
+
+/// `hex T`: the contents octets of the identifier that the text T denotes, in hexadecimal digits.
+fn hex(text: &[u8], out: &mut Line) -> fmt::Result
+    ensures { OnOk result (out.new ≡ out.old ++ hex_line text.now) }
+{
+    let Ok(text) = str::from_utf8(text) else {
+        return out.write_str("error: not UTF-8");
+    };
+    match ObjectIdentifier::new(text) {
+        Ok(oid) => append_digits(oid.as_bytes(), out),
+        Err(fault) => write!(out, "error: {fault}"),
+    }
+}
+
+/// `parent T`: the parent of the identifier that the text T denotes, or `none`.
+fn parent(text: &[u8], out: &mut Line) -> fmt::Result
+    ensures { OnOk result (out.new ≡ out.old ++ parent_line text.now) }
+{
+    let Ok(text) = str::from_utf8(text) else {
+        return out.write_str("error: not UTF-8");
+    };
+    match ObjectIdentifier::new(text) {
+        Ok(oid) => match oid.parent() {
+            Some(parent) => write!(out, "{parent}"),
+            None => out.write_str("none"),
+        },
+        Err(fault) => write!(out, "error: {fault}"),
+    }
+}
+
+/// Appends octets in lower-case hexadecimal digits.
+fn append_digits(octets: &[u8], out: &mut Line) -> fmt::Result
+    requires { length octets.now ≤ 39 }
+    ensures { OnOk result (out.new ≡ out.old ++ encode_lower octets.now) }
+{
+    let mut room = [0; 78];
+    let count = encode(octets, &mut room);
+    out.append(&room[..count])
+}
+
+/// Writes octets to the front of the room in lower-case hexadecimal digits, and gives their number.
+fn encode(octets: &[u8], room: &mut [u8]) -> usize
+    requires { 2 * length octets.now ≤ length room.old }
+    ensures within { result ≤ length room.new }
+    ensures value { take result room.new ≡ encode_lower octets.now }
+{
+    let count = 2 * octets.len();
+    match hex::encode_to_slice(octets, &mut room[..count]) {
+        Ok(()) => count,
+        Err(_) => unreachable!(),
     }
 }
 
