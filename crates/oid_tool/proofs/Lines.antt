@@ -17,54 +17,54 @@ abbrev after_line : List ℕ → List ℕ
 after_line text = after_first (λ b. b == 10) text
 
 -- a piece that is not the last stays
-more_pieces : (piece : List ℕ) (pieces : List (List ℕ)) → 0 < length pieces → without_empty_last (piece ∷ pieces) ≡ piece ∷ without_empty_last pieces
-more_pieces piece [] h = absurd (omega arith)
-more_pieces piece (next ∷ more) h = refl
+without_empty_last-more : (piece : List ℕ) (pieces : List (List ℕ)) → 0 < length pieces → without_empty_last (piece ∷ pieces) ≡ piece ∷ without_empty_last pieces
+without_empty_last-more piece [] h = absurd (omega arith)
+without_empty_last-more piece (next ∷ more) h = refl
 
 -- a last piece stays where it is not empty
-last_piece : (piece : List ℕ) → piece ≢ [] → without_empty_last (piece ∷ []) ≡ piece ∷ []
-last_piece [] full = absurd (full refl)
-last_piece (b ∷ bs) full = refl
+without_empty_last-one : (piece : List ℕ) → piece ≢ [] → without_empty_last (piece ∷ []) ≡ piece ∷ []
+without_empty_last-one [] some = absurd (some refl)
+without_empty_last-one (b ∷ bs) some = refl
 
 -- a text with no newline
-one_line : (text : List ℕ) → text ≢ [] → length text ≤ position_or_len (λ b. b == 10) text → lines text ≡ first_line text ∷ lines (after_line text)
-one_line text full none =
+lines-one : (text : List ℕ) → text ≢ [] → length text ≤ position_or_len (λ b. b == 10) text → lines text ≡ first_line text ∷ lines (after_line text)
+lines-one text some none =
     let one = slice_split_none (λ b. b == 10) text (λ k d lt. fails_before_first (λ b. b == 10) text k d (omega arith)) in
-    rw (one, last_piece text full, take_all (position_or_len (λ b. b == 10) text) text none, drop_all (position_or_len (λ b. b == 10) text + 1) text (omega arith)) refl
+    rw (one, without_empty_last-one text some, take_all (position_or_len (λ b. b == 10) text) text none, drop_all (position_or_len (λ b. b == 10) text + 1) text (omega arith)) refl
 
 -- the first line, and those of what follows its newline
-lines_step : (text : List ℕ) → text ≢ [] → lines text ≡ first_line text ∷ lines (after_line text)
-lines_step text full = ⊎_elim
-    (λ (some : position_or_len (λ b. b == 10) text < length text).
-    ap without_empty_last (slice_split_first (λ b. b == 10) text 0 some)
-    ∙ more_pieces (first_line text) _ (omega (arith, length-slice_split (λ b. b == 10) (after_line text))))
-    (λ (none : length text ≤ position_or_len (λ b. b == 10) text). one_line text full none)
+lines-first : (text : List ℕ) → text ≢ [] → lines text ≡ first_line text ∷ lines (after_line text)
+lines-first text some = ⊎_elim
+    (λ (found : position_or_len (λ b. b == 10) text < length text).
+    ap without_empty_last (slice_split_first (λ b. b == 10) text 0 found)
+    ∙ without_empty_last-more (first_line text) _ (omega (arith, length-slice_split (λ b. b == 10) (after_line text))))
+    (λ (none : length text ≤ position_or_len (λ b. b == 10) text). lines-one text some none)
     (cases_lt (position_or_len (λ b. b == 10) text) (length text))
 
 -- the first answer, and those of what follows
-pub answers_step : (text : List ℕ) → text ≢ [] → answers text ≡ answer_row (first_line text) ++ answers (after_line text)
+pub answers-first : (text : List ℕ) → text ≢ [] → answers text ≡ answer_row (first_line text) ++ answers (after_line text)
 unfolding answers
-answers_step text full = ap (flat_map answer_row) (lines_step text full) ∙ flat_map-cons answer_row (first_line text) (lines (after_line text))
+answers-first text some = ap (flat_map answer_row) (lines-first text some) ∙ flat_map-cons answer_row (first_line text) (lines (after_line text))
 
-pub answers_none : answers [] ≡ []
+pub answers-nil : answers [] ≡ []
 unfolding answers
-answers_none = refl
+answers-nil = refl
 
 -- some line is answered
-pub answers_full : (text : List ℕ) → text ≢ [] → answers text ≢ []
-answers_full text full none = let e = ap length (sym (answers_step text full) ∙ none) in omega (arith, simp length-append at e)
+pub answers_not_empty : (text : List ℕ) → text ≢ [] → answers text ≢ []
+answers_not_empty text some none = let e = ap length (sym (answers-first text some) ∙ none) in omega (arith, simp length-append at e)
 
 -- the answer to the first line, and those to what follows
-pub next_answers : (text line after row : List ℕ) → text ≢ [] → line ≡ first_line text → after ≡ after_line text → row ≡ answer_row line → answers text ≡ row ++ answers after
-next_answers text line after row full front back e = rw (e, front, back) (answers_step text full)
+pub answers-next : (text line after row : List ℕ) → text ≢ [] → line ≡ first_line text → after ≡ after_line text → row ≡ answer_row line → answers text ≡ row ++ answers after
+answers-next text line after row some front back e = rw (e, front, back) (answers-first text some)
 
 pub length-after_line : (text : List ℕ) → length (after_line text) ≤ length text
 length-after_line text = omega (arith, length-drop (position_or_len (λ b. b == 10) text + 1) text)
 
--- what is not empty by its length
-pub full_by_length : (text : List ℕ) → false ≡ nat_eq (length text) 0 → text ≢ []
-full_by_length [] e = cc
-full_by_length (b ∷ bs) e = λ none. cc
+-- what `is_empty` tells
+pub not_empty_by_length : (text : List ℕ) → false ≡ nat_eq (length text) 0 → text ≢ []
+not_empty_by_length [] e = cc
+not_empty_by_length (b ∷ bs) e = λ none. cc
 
 pub empty_by_length : (text : List ℕ) → true ≡ nat_eq (length text) 0 → text ≡ []
 empty_by_length text e = nil_from_length text (grind (arith, nat_tests))

@@ -49,8 +49,8 @@ unfoldable pub parent_line : List ℕ → List ℕ
 parent_line text = denoted_line (λ arcs. text_or_none (parent_of arcs)) text
 
 -- what a command answers of its argument
-abbrev pub command_line : List ℕ → List ℕ → List ℕ
-command_line command argument =
+abbrev pub answer_to : List ℕ → List ℕ → List ℕ
+answer_to command argument =
     if bytes_eq command (codes "text") then text_line argument
     else (if bytes_eq command (codes "hex") then hex_line argument
     else (if bytes_eq command (codes "parent") then parent_line argument
@@ -58,7 +58,7 @@ command_line command argument =
 
 -- the answer to a line, whose command ends at its first space
 unfoldable pub answer_line : List ℕ → List ℕ
-answer_line line = command_line (before_first (λ b. b == 32) line) (after_first (λ b. b == 32) line)
+answer_line line = answer_to (before_first (λ b. b == 32) line) (after_first (λ b. b == 32) line)
 
 -- all pieces but an empty last one
 abbrev pub without_empty_last : List (List ℕ) → List (List ℕ)

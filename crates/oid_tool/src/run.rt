@@ -1,5 +1,5 @@
 //! The whole input read, and then the answers to its lines written.
-ghost use Rattle.std.specs.Prelude.{◌≡◌, ◌+◌, ◌≤◌, ◌⊎◌, ◌++◌, length, take, IsOk, OnOk, IfOk, IfErr, IfSome};
+ghost use Rattle.std.specs.Prelude.{◌≡◌, ◌+◌, ◌≤◌, ◌⊎◌, ◌++◌, length, take, IsOk, OnOk, OnErr, IfOk, IfErr, IfSome, Some};
 ghost use Rattle.std.specs.Io.KnownBytes.{Appends, Consumes, IsAtEnd};
 ghost use Rattle.oid_tool.specs.Answers.{answers, answer_row};
 ghost use Rattle.oid_tool.specs.Output.{AppendsFront, ConsumesNumber};
@@ -24,40 +24,53 @@ pub enum ToolError {
 }
 
 impl fmt::Display for ToolError {
+    ghost use Rattle.oid_tool.specs.ToolError.{reason_of};
+
+    ghost output = { λ error. Some (reason_of error) };
+
     fn fmt<W: fmt::Write>(&self, f: &mut fmt::Formatter<W>) -> fmt::Result {
-        f.write_str(match self {
-            ToolError::Read => "read failed",
-            ToolError::Write => "write failed",
-            ToolError::TooLong => "input too long",
-        })
+        match self {
+            ToolError::Read => f.write_str("read failed"),
+            ToolError::Write => f.write_str("write failed"),
+            ToolError::TooLong => f.write_str("input too long"),
+        }
     }
 }
 
-/// Writes the answer to each line of the input, once all of it was read. Memory is not taken, and the output not flushed.
+/// Reads the input to its end, and then writes the answer to each of its lines.
+///
+/// Each answer is whole before it is written. No read and no write that failed is tried again, the
+/// output is not flushed, and no memory is taken.
 pub fn run<R: Read, W: Write>(input: &mut R, output: &mut W) -> Result<(), ToolError>
-    ensures ok { OnOk result (IfSome (R.remaining input.old) (λ text.
-        (length text ≤ MAX_INPUT) × Appends (W.contents output.old) (W.contents output.new) (answers text))) }
-    ensures ended { IsOk result ⊎ (result ≡ Err ToolError.Write) → IsAtEnd (R.remaining input.new) }
+    ensures ok { OnOk result (IfSome (R.remaining input.old)
+        (λ text. Appends (W.contents output.old) (W.contents output.new) (answers text))) }
+    ensures write { result ≡ Err ToolError.Write → IfSome (R.remaining input.old)
+        (λ text. AppendsFront (W.contents output.old) (W.contents output.new) (answers text)) }
     ensures untouched { (result ≡ Err ToolError.Read) ⊎ (result ≡ Err ToolError.TooLong) → output.new ≡ output.old }
-    ensures too_long { result ≡ Err ToolError.TooLong → ConsumesNumber (R.remaining input.old) (R.remaining input.new) (MAX_INPUT + 1) }
-    ensures write { result ≡ Err ToolError.Write → IfSome (R.remaining input.old) (λ text.
-        (length text ≤ MAX_INPUT) × AppendsFront (W.contents output.old) (W.contents output.new) (answers text)) }
+
+    ensures ended { IsOk result ⊎ (result ≡ Err ToolError.Write) → IsAtEnd (R.remaining input.new) }
+    ensures within { IsOk result ⊎ (result ≡ Err ToolError.Write) → IfSome (R.remaining input.old)
+        (λ text. length text ≤ MAX_INPUT) }
+    ensures too_long { result ≡ Err ToolError.TooLong →
+        ConsumesNumber (R.remaining input.old) (R.remaining input.new) (MAX_INPUT + 1) }
 {
     let mut room = [0; ROOM];
     let len = read_all(input, &mut room)?;
     write_answers(&room[..len], output)
 }
 
-/// A byte more than the input may have, so that a longer one is found.
+/// Room for a byte more than the input may have, by which a longer one is told.
 const ROOM: usize = MAX_INPUT + 1;
 
-/// Reads to the end of the input, and gives the number of bytes, which stand at the front of the room.
+/// Reads to the end of the input into the front of the room, and gives the number of bytes.
 fn read_all<R: Read>(input: &mut R, room: &mut [u8]) -> Result<usize, ToolError>
     requires { length room.old ≡ ROOM }
     ensures within { IfOk result (λ len. len ≤ MAX_INPUT) }
-    ensures ok { IfOk result (λ len. Consumes (R.remaining input.old) (R.remaining input.new) (take len room.new) × IsAtEnd (R.remaining input.new)) }
+    ensures bytes { IfOk result (λ len. Consumes (R.remaining input.old) (R.remaining input.new) (take len room.new)) }
+    ensures ended { OnOk result (IsAtEnd (R.remaining input.new)) }
     ensures err { IfErr result (λ e. (e ≡ ToolError.Read) ⊎ (e ≡ ToolError.TooLong)) }
-    ensures too_long { result ≡ Err ToolError.TooLong → ConsumesNumber (R.remaining input.old) (R.remaining input.new) ROOM }
+    ensures too_long { result ≡ Err ToolError.TooLong →
+        ConsumesNumber (R.remaining input.old) (R.remaining input.new) ROOM }
 {
     let mut len = 0;
     while len < ROOM {
@@ -70,11 +83,12 @@ fn read_all<R: Read>(input: &mut R, room: &mut [u8]) -> Result<usize, ToolError>
     Err(ToolError::TooLong)
 }
 
-/// Writes the answer to each line of the text, as soon as it is whole.
+/// Writes the answer to each line of the text.
 fn write_answers<W: Write>(text: &[u8], output: &mut W) -> Result<(), ToolError>
     requires { length text.now ≤ MAX_INPUT }
     ensures ok { OnOk result (Appends (W.contents output.old) (W.contents output.new) (answers text.now)) }
-    ensures err { IfErr result (λ e. (e ≡ ToolError.Write) × AppendsFront (W.contents output.old) (W.contents output.new) (answers text.now)) }
+    ensures front { OnErr result (AppendsFront (W.contents output.old) (W.contents output.new) (answers text.now)) }
+    ensures err { IfErr result (λ e. e ≡ ToolError.Write) }
 {
     let mut rest = text;
     while !rest.is_empty() {
@@ -88,7 +102,7 @@ fn write_answers<W: Write>(text: &[u8], output: &mut W) -> Result<(), ToolError>
     Ok(())
 }
 
-/// The answer to a line, and a newline, or an error where they have no room.
+/// The answer to a line, and a newline, or an error where there is no room for them.
 fn answer_row(line: &[u8]) -> Result<Line, fmt::Error>
     requires { length line.now ≤ MAX_INPUT }
     ensures { IfOk result (λ row. row ≡ answer_row line.now) }
@@ -102,7 +116,8 @@ fn answer_row(line: &[u8]) -> Result<Line, fmt::Error>
 /// Writes all the bytes.
 fn write_out<W: Write>(bytes: &[u8], output: &mut W) -> Result<(), ToolError>
     ensures ok { OnOk result (Appends (W.contents output.old) (W.contents output.new) bytes.now) }
-    ensures err { IfErr result (λ e. (e ≡ ToolError.Write) × AppendsFront (W.contents output.old) (W.contents output.new) bytes.now) }
+    ensures front { OnErr result (AppendsFront (W.contents output.old) (W.contents output.new) bytes.now) }
+    ensures err { IfErr result (λ e. e ≡ ToolError.Write) }
 {
     let mut rest = bytes;
     while !rest.is_empty() {

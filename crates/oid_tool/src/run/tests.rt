@@ -159,16 +159,3 @@ fn no_byte_taken(rt: HostRuntime) -> Result<(), Fail> {
     assert_eq!(rt; output.writes, 1);
     Ok(())
 }
-
-#[test]
-fn refusals(rt: HostRuntime) -> Result<(), Fail> {
-    for (error, wanted) in [
-        (ToolError::Read, "read failed"),
-        (ToolError::Write, "write failed"),
-        (ToolError::TooLong, "input too long"),
-    ] {
-        let told = format!(in rt.alloc(); "{error}")?;
-        assert_eq!(rt; told.as_str(), wanted);
-    }
-    Ok(())
-}
