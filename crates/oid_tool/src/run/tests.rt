@@ -20,7 +20,7 @@ fn rows(rt: HostRuntime) -> Result<(), Fail> {
         ("", ""),
         ("\n", "error: unknown command\n"),
         ("TEXT 2A\n", "error: unknown command\n"),
-        ("text 00\nhex 1.2", "0.0\nerror: unknown command\n"),
+        ("text 00\nhex 1.2", "0.0\n2a\n"),
         ("text 77\n", "2.39\n"),
         ("text 2A8648CE3D0201\n", "1.2.840.10045.2.1\n"),
         ("text 2a8648ce3d0201\n", "1.2.840.10045.2.1\n"),
@@ -43,6 +43,23 @@ fn rows(rt: HostRuntime) -> Result<(), Fail> {
             "error: OID contains arc which is larger than 32-bits\n",
         ),
         ("text 78\n", "error: OID contains out-of-range arc: 3\n"),
+        ("hex 1.2.840.113549.1.1.1\n", "2a864886f70d010101\n"),
+        (
+            "hex 1.2..3.4\n",
+            "error: repeated consecutive '..' characters in OID\n",
+        ),
+        ("hex 1.2.\n", "error: OID ends with invalid trailing '.'\n"),
+        ("hex 1.2.X\n", "error: expected digit, got 'X'\n"),
+        ("hex  1.2\n", "error: expected digit, got ' '\n"),
+        ("hex é1\n", "error: expected digit, got 'Ã'\n"),
+        (
+            "hex 1.2.1.1.1.1.1.1.1.1.1.1.1.1.1.1.1.1.1.1.1.1.1.1.1.1.1.1.1.1.1.1.1.1.1.1.1.1.1.1.1\n",
+            "error: OID length invalid\n",
+        ),
+        ("parent 1.2.3.4\n", "1.2.3\n"),
+        ("parent 1.2\n", "none\n"),
+        ("parent 1\n", "error: OID value is empty\n"),
+        ("parent 1.2.3\nhex 1.2", "1.2\n2a\n"),
     ] {
         let mut output = Vec::new(rt.alloc());
         assert_eq!(rt;
@@ -52,6 +69,33 @@ fn rows(rt: HostRuntime) -> Result<(), Fail> {
         );
         assert_eq!(rt; output.as_slice(), wanted.as_bytes(), "of {input:?}");
     }
+    Ok(())
+}
+
+/// A text that is no UTF-8 is refused before it is read.
+#[test]
+fn no_text(rt: HostRuntime) -> Result<(), Fail> {
+    for input in [b"hex \xFF\n".as_slice(), b"parent 3.\xFF\n".as_slice()] {
+        let mut output = Vec::new(rt.alloc());
+        assert_eq!(rt; run_over_memory(input, &mut output), Ok(()));
+        assert_eq!(rt; output.as_slice(), b"error: not UTF-8\n".as_slice());
+    }
+    Ok(())
+}
+
+/// The longest input: many zeros, which are read.
+#[test]
+fn longest_text(rt: HostRuntime) -> Result<(), Fail> {
+    let mut input = Vec::new(rt.alloc());
+    input.extend_from_slice(b"hex 1.2.")?;
+    for _ in 0..4086 {
+        input.push(b'0')?;
+    }
+    input.extend_from_slice(b"3\n")?;
+    assert_eq!(rt; input.len(), MAX_INPUT);
+    let mut output = Vec::new(rt.alloc());
+    assert_eq!(rt; run_over_memory(&input, &mut output), Ok(()));
+    assert_eq!(rt; output.as_slice(), b"2a03\n".as_slice());
     Ok(())
 }
 
@@ -116,7 +160,7 @@ fn each_read_fails(rt: HostRuntime) -> Result<(), Fail> {
     let mut output = SlowWriter::new(64, 0);
     assert_eq!(rt; run(&mut input, &mut output), Ok(()));
     assert_eq!(rt; input.reads, 14);
-    assert_eq!(rt; output.written(), b"error: unknown command\n".as_slice());
+    assert_eq!(rt; output.written(), b"1.2\n".as_slice());
     Ok(())
 }
 
