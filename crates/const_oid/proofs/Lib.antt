@@ -25,3 +25,6 @@ pub mod Owned
 pub mod Started
 pub mod Parents
 pub mod Pushed
+pub mod Points
+pub mod Begins
+pub mod Subtree

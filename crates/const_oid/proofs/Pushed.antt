@@ -1,5 +1,5 @@
 -- One arc more.
-use Rattle.std.proofs.Common.{◌≡◌, ℕ, ◌+◌, ◌≤◌, List, [], ◌∷◌, ◌++◌, length, length-append, sym, ◌∙◌, arith, None}
+use Rattle.std.proofs.Common.{◌≡◌, ℕ, ◌+◌, ◌≤◌, List, ◌++◌, length, length-append, arith, None}
 use Rattle.const_oid.specs.Base128.{group_of, IsGroup, width}
 use Rattle.const_oid.specs.Identifier.{RootRule, most_arc, IsEncoding, size}
 use Rattle.const_oid.specs.Contents.{cut, parts_fault, arcs_of_octets}

@@ -1,5 +1,8 @@
 //! Borrowed object identifiers.
-ghost use Rattle.std.specs.Prelude.{◌≡◌, ◌↔◌, length, slice_get, None, Some, IfOk, IsTrue};
+ghost use Rattle.std.specs.Prelude.{◌≡◌, ◌≤◌, ◌<◌, ◌↔◌, ℕ, length, slice_get, count_by, None, Some, IfOk, IfSome, IsTrue};
+ghost use Rattle.std.specs.Cmp.Lexicographic.{slice_cmp};
+ghost use Rattle.std.specs.List.Sorted.{IsSortedByKey};
+ghost use Rattle.std.specs.Ordering.{nat_cmp, is_lt};
 ghost use Rattle.std.specs.Result.{result_map_both};
 ghost use Rattle.std.proofs.Props.{props};
 ghost use Rattle.const_oid.specs.Base128.{AreOctets};
@@ -31,6 +34,7 @@ pub struct ObjectIdentifierRef<'a> {
 impl<'a> ObjectIdentifierRef<'a> {
     ghost use Rattle.const_oid.specs.Oid.{oid_octets, oid_arcs};
     ghost use Rattle.const_oid.specs.OidRef.{ref_octets, ref_arcs};
+    ghost use Rattle.const_oid.specs.Tree.{BeginsWith};
 
     /// Reads contents octets (X.690, 8.19). The first of these that applies is the error:
     ///
@@ -93,6 +97,26 @@ impl<'a> ObjectIdentifierRef<'a> {
         ensures arcs { IsTrue result ↔ (ref_arcs self.now ≡ oid_arcs other.now) }
     {
         self.as_bytes() == other.as_bytes()
+    }
+
+    /// Where the identifiers that begin with this one, itself among them, stand in a sorted list:
+    /// from the first place on, counted from 0, and below the second. Without any of them both are
+    /// the place where this one would stand.
+    ///
+    /// The list does not descend in the order of `cmp`. It may hold an identifier more than once.
+    pub fn subtree(&self, sorted: &[ObjectIdentifierRef<'_>]) -> (usize, usize)
+        requires { IsSortedByKey ref_octets (slice_cmp nat_cmp) sorted.now }
+        ensures bounds { (result.0 ≤ result.1) × (result.1 ≤ length sorted.now) }
+        ensures from { result.0 ≡ count_by (λ oid. is_lt (slice_cmp nat_cmp (ref_octets oid) (ref_octets self.now))) sorted.now }
+        ensures places { (k : ℕ) → IfSome (slice_get sorted.now k) (λ oid.
+            BeginsWith (ref_arcs oid) (ref_arcs self.now) ↔ ((result.0 ≤ k) × (k < result.1))) }
+    {
+        let from = sorted.iter().filter(|oid| **oid < *self).count();
+        let inside = sorted
+            .iter()
+            .filter(|oid| oid.ber.starts_with(self.ber))
+            .count();
+        (from, from + inside)
     }
 }
 

@@ -1,5 +1,3 @@
-use Rattle.const_oid.specs.Identifier.{root_rule, IsEncoding}
-use Rattle.const_oid.specs.Oid.{oid_arcs}
 use Rattle.const_oid.proofs.Owned.{oid_encoding}
 use Rattle.const_oid.proofs.oid.ObjectIdentifier.as_bytes.Goals as goal
 
