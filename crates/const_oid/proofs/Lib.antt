@@ -24,7 +24,6 @@ pub mod OidRef
 pub mod Owned
 pub mod Started
 pub mod Parents
-pub mod Pushed
 pub mod Points
 pub mod Begins
 pub mod Subtree

@@ -2,7 +2,7 @@
 
 ghost use Rattle.std.specs.Prelude.{◌≡◌, ℕ, ◌+◌, ◌-◌, ◌^◌, ◌<◌, ◌≤◌, ◌↔◌, List, [], ◌++◌, length, take, drop, replicate, min, IsTrue, IfOk, OnOk, OnErr, MatchResult};
 ghost use Rattle.std.proofs.Props.{props};
-ghost use Rattle.const_oid.specs.Base128.{AreOctets, IsGroup, width};
+ghost use Rattle.const_oid.specs.Base128.{AreOctets, IsGroup, GoesOn, width};
 
 use crate::error::{Error, Result};
 use std::cmp::Ordering;
@@ -19,7 +19,7 @@ pub struct Buffer<const SIZE: usize> {
 }
 
 impl<const SIZE: usize> Buffer<SIZE> {
-    ghost use Rattle.const_oid.specs.Buffer.{octets_of, GoesOn};
+    ghost use Rattle.const_oid.specs.Buffer.{octets_of};
 
     /// A buffer with no octet in use.
     pub(crate) fn empty() -> Self

@@ -2,7 +2,7 @@
 //!
 //! A `rule` is any of the two rules of the root; the crate keeps `root_rule`.
 
-ghost use Rattle.std.specs.Prelude.{◌≡◌, ◌≢◌, ◌↔◌, ℕ, ◌+◌, ◌*◌, ◌<◌, ◌≤◌, List, [], ◌∷◌, ◌++◌, length, map, nat_lt, sum_by, Some, None, codes};
+ghost use Rattle.std.specs.Prelude.{◌≡◌, ◌≢◌, ◌↔◌, ℕ, ◌+◌, ◌*◌, ◌<◌, ◌≤◌, List, [], ◌∷◌, ◌++◌, length, map, drop, nat_lt, sum_by, count_by, Some, None, codes};
 ghost use Rattle.std.specs.Cmp.Lexicographic.{slice_cmp};
 ghost use Rattle.std.specs.List.{AllByRecursion, AllZip, concat};
 ghost use Rattle.std.specs.Ordering.{nat_cmp};
@@ -10,7 +10,7 @@ ghost use Rattle.std.specs.declared.cmp.Ordering.TheVariants.{Less, Greater};
 ghost use Rattle.const_oid.specs.Faults.{fault_if};
 ghost use Rattle.const_oid.specs.Items.{arc_fault, item_fault};
 ghost use Rattle.const_oid.specs.declared.error.Error.TheVariants.{ArcInvalid, ArcTooBig, Base128, DigitExpected, Empty, Length, TrailingDot};
-ghost use Rattle.const_oid.specs.Base128.{AreOctets, IsGroup, IsWidth, group_of, width};
+ghost use Rattle.const_oid.specs.Base128.{AreOctets, value_of, IsGroup, IsWidth, group_of, width};
 ghost use Rattle.const_oid.specs.Contents.{cut, octet_fault, arcs_of_octets};
 ghost use Rattle.const_oid.specs.Identifier.{RootRule, Narrow, most_arc, most_second, IsIdentifier, IsEncoding, encoding_of, size};
 ghost use Rattle.const_oid.specs.Orders.{short_cmp};
@@ -108,6 +108,13 @@ pub fn narrow_root()
     ensures octets { (a b : ℕ) (later octets : List ℕ) → IsEncoding Narrow (a ∷ b ∷ later) octets → (groups : List (List ℕ)) × AllZip IsGroup later groups × (octets ≡ (40 * a + b) ∷ concat groups) }
     ensures encoding { (a b : ℕ) (later : List ℕ) (groups : List (List ℕ)) → IsIdentifier Narrow (a ∷ b ∷ later) → AllZip IsGroup later groups → IsEncoding Narrow (a ∷ b ∷ later) ((40 * a + b) ∷ concat groups) }
     ensures size { (a b : ℕ) (later : List ℕ) → IsIdentifier Narrow (a ∷ b ∷ later) → size (a ∷ b ∷ later) ≡ 1 + sum_by width later }
+{}
+
+/// How many arcs octets have, and which they are behind the first two.
+pub fn parts()
+    ensures count { (rule : RootRule) (arcs octets : List ℕ) → IsEncoding rule arcs octets → length arcs ≡ 1 + count_by (λ x. nat_lt x 128) octets }
+    ensures parts { (rule : RootRule) (arcs octets : List ℕ) → IsEncoding rule arcs octets → length arcs ≡ 1 + length (cut octets) }
+    ensures later { (rule : RootRule) (arcs octets : List ℕ) → IsEncoding rule arcs octets → drop 2 arcs ≡ map value_of (drop 1 (cut octets)) }
 {}
 
 /// A child's octets go on by one group; a parent's are those without the last part.
