@@ -27,3 +27,4 @@ pub mod Parents
 pub mod Points
 pub mod Begins
 pub mod Subtree
+pub mod Taken

@@ -4,7 +4,6 @@ use Rattle.const_oid.specs.declared.encoder.State.{State}
 use Rattle.const_oid.specs.declared.encoder.State.TheVariants.{FirstArc, Body}
 use Rattle.const_oid.specs.declared.error.Error.TheVariants.{Length}
 use Rattle.const_oid.specs.Base128.{width, GoesOn}
-
 use Rattle.const_oid.specs.Identifier.{RootRule, most_arc, most_second, IsEncoding}
 use Rattle.const_oid.specs.Contents.{arcs_of_octets}
 use Rattle.const_oid.specs.Faults.{fault_if}

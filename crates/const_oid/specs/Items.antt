@@ -1,5 +1,6 @@
 -- Lists of arcs as they come.
-use Rattle.std.specs.Prelude.{ℕ, List, [], ◌∷◌, ◌++◌, nat_lt, Option, Some, None, Result}
+use Rattle.std.specs.Prelude.{◌≡◌, ℕ, List, [], ◌∷◌, ◌++◌, nat_lt, Option, Some, None, Result, MatchResult}
+use Rattle.std.specs.Iterator.Runs.{SomeRun, WholeRun, ItemsAre}
 use Rattle.std.specs.Option.{option_or}
 use Rattle.const_oid.specs.declared.error.Error.{Error}
 use Rattle.const_oid.specs.declared.error.Error.TheVariants.{ArcInvalid, Empty, Length}
@@ -32,3 +33,9 @@ item_fault rule items = items_fault rule [] items
 -- what the list is taken as: its fault, or itself
 abbrev pub item_answer : RootRule → List ℕ → Result (List ℕ) Error
 item_answer rule items = answer (item_fault rule items) items
+
+-- the iterator gave items: at `Ok` they are all that it has, without a fault, and the arcs; at `Err` the fault is that of each list which begins with them, or of them where they are all
+abbrev pub TakesItems : {S : Type 0} → RootRule → (S → Option ℕ → S → Type 0) → S → Result (List ℕ) Error → Type 0
+TakesItems rule steps iterator result = MatchResult result
+    (λ arcs. WholeRun steps iterator (λ run. (run.items ≡ arcs) × (item_fault rule arcs ≡ None)))
+    (λ fault. SomeRun steps iterator (λ run. (items : List ℕ) → ItemsAre run items → item_fault rule items ≡ Some fault))

@@ -9,6 +9,8 @@ pub mod laws;
 pub mod oid;
 pub mod oid_ref;
 mod parser;
+#[cfg(test)]
+mod vectors;
 
 pub use arcs::{Arc, Arcs};
 pub use buffer::Buffer;

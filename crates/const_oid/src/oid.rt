@@ -1,16 +1,19 @@
 //! Owned object identifiers.
 
 ghost use Rattle.std.specs.Prelude.{◌≡◌, ◌-◌, ◌<◌, ◌≤◌, ◌↔◌, length, min, take, slice_get, None, Some, IfOk, IsTrue, MatchResult};
+ghost use Rattle.std.specs.Iterator.{IsFiniteIterable};
 ghost use Rattle.std.specs.Option.{option_map};
 ghost use Rattle.std.specs.Result.{result_map_both};
 ghost use Rattle.const_oid.specs.Buffer.{octets_of};
 ghost use Rattle.const_oid.specs.Contents.{cut, parts_fault, octet_answer};
 ghost use Rattle.const_oid.specs.Text.{text_of, text_fault, text_answer, Denotes};
 ghost use Rattle.const_oid.specs.Identifier.{root_rule, IsEncoding, size};
+ghost use Rattle.const_oid.specs.Items.{TakesItems};
 ghost use Rattle.const_oid.specs.Tree.{BeginsWith, child_of, parent_of};
 
 use crate::arcs::{Arc, Arcs};
 use crate::buffer::Buffer;
+use crate::encoder::Encoder;
 use crate::error::{Error, Result};
 use crate::oid_ref::ObjectIdentifierRef;
 use crate::parser::parse;
@@ -18,6 +21,8 @@ use std::cmp::Ordering;
 use std::fmt;
 use std::str::FromStr;
 
+#[cfg(test)]
+mod items_tests;
 #[cfg(test)]
 mod text_tests;
 
@@ -64,6 +69,30 @@ impl ObjectIdentifier<39> {
             Ok(oid) => oid,
             Err(_) => unreachable!(),
         }
+    }
+
+    /// Encodes the arcs that an iterator gives. The first of these that applies is the error:
+    ///
+    /// - of the first item with a fault, [`Error::ArcInvalid`] of it where it is past 2 as the first
+    ///   arc or past 39 as the second, or [`Error::Length`] where the encoding up to it is longer than
+    ///   39 octets;
+    /// - [`Error::Empty`]: there are fewer than two items.
+    ///
+    /// Items past the first fault do not matter. For an array, a slice's `iter().copied()`, a `Vec` or
+    /// [`Arcs`], whose items are known, the checker finds the exact answer by itself.
+    pub fn from_arcs<I: IntoIterator<Item = Arc>>(arcs: I) -> Result<Self>
+    where
+        I::IntoIter: Drop,
+        // The iterator may be asked for its items, and it ends.
+        requires { IsFiniteIterable I.into_iter_gives I.IntoIter.can_next I.IntoIter.remaining arcs }
+        ensures takes { (iterator : I.IntoIter) × I.into_iter_gives arcs iterator × TakesItems root_rule I.IntoIter.next_gives iterator (result_map_both oid_arcs (λ fault. fault) result) }
+    {
+        let mut encoder = Encoder::new();
+        for arc in arcs {
+            encoder.arc(arc)?;
+        }
+        let ber = encoder.finish()?;
+        Ok(ObjectIdentifier { ber })
     }
 
     /// Reads contents octets (X.690, 8.19), of which at most 39 fit, as
