@@ -28,3 +28,4 @@ pub mod Points
 pub mod Begins
 pub mod Subtree
 pub mod Taken
+pub mod Overflow

@@ -9,7 +9,7 @@ ghost use Rattle.std.specs.Ordering.{nat_cmp};
 ghost use Rattle.std.specs.declared.cmp.Ordering.TheVariants.{Less, Greater};
 ghost use Rattle.const_oid.specs.Faults.{fault_if};
 ghost use Rattle.const_oid.specs.Items.{arc_fault, item_fault};
-ghost use Rattle.const_oid.specs.declared.error.Error.TheVariants.{ArcInvalid, ArcTooBig, Base128, DigitExpected, Empty, Length, TrailingDot};
+ghost use Rattle.const_oid.specs.declared.error.Error.TheVariants.{ArcInvalid, ArcTooBig, Base128, DigitExpected, Empty, Length, Overflow, TrailingDot};
 ghost use Rattle.const_oid.specs.Base128.{AreOctets, value_of, IsGroup, IsWidth, group_of, width};
 ghost use Rattle.const_oid.specs.Contents.{cut, octet_fault, arcs_of_octets};
 ghost use Rattle.const_oid.specs.Identifier.{RootRule, Narrow, most_arc, most_second, IsIdentifier, IsEncoding, encoding_of, size};
@@ -129,4 +129,11 @@ pub fn ranges()
     ensures short { (rule : RootRule) (p x a b : List ℕ) → IsEncoding rule p a → IsEncoding rule x b → BeginsWith x p → length p < length x → short_cmp a b ≡ Less }
     ensures before { (rule : RootRule) (p x a b : List ℕ) → IsEncoding rule p a → IsEncoding rule x b → BeginsWith x p → length p < length x → slice_cmp nat_cmp a b ≡ Less }
     ensures between { (rule : RootRule) (p x y z a b c d : List ℕ) → IsEncoding rule p a → IsEncoding rule x b → IsEncoding rule y c → IsEncoding rule z d → BeginsWith x p → BeginsWith z p → slice_cmp nat_cmp c b ≢ Less → slice_cmp nat_cmp c d ≢ Greater → BeginsWith y p }
+{}
+
+/// No input has the fault `Overflow`.
+pub fn no_overflow()
+    ensures octets { (rule : RootRule) (octets : List ℕ) (capacity : ℕ) → octet_fault rule octets capacity ≢ Some Overflow }
+    ensures texts { (rule : RootRule) (text : List ℕ) → text_fault rule text ≢ Some Overflow }
+    ensures items { (rule : RootRule) (items : List ℕ) → item_fault rule items ≢ Some Overflow }
 {}
