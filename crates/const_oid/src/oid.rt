@@ -24,6 +24,8 @@ use std::str::FromStr;
 #[cfg(test)]
 mod items_tests;
 #[cfg(test)]
+mod tests;
+#[cfg(test)]
 mod text_tests;
 
 /// An object identifier that holds its contents octets, without tag and length: at most `MAX_SIZE`,
@@ -98,7 +100,8 @@ impl ObjectIdentifier<39> {
     /// Reads contents octets (X.690, 8.19), of which at most 39 fit, as
     /// [`from_bytes_sized`](Self::from_bytes_sized) does.
     pub fn from_bytes(ber_bytes: &[u8]) -> Result<Self>
-        ensures answer { result_map_both oid_arcs (λ fault. fault) result ≡ octet_answer root_rule ber_bytes.now 39 }
+        ensures answer { result_map_both oid_arcs (λ fault. fault) result
+            ≡ octet_answer root_rule ber_bytes.now 39 }
         ensures octets { IfOk result (λ oid. oid_octets oid ≡ ber_bytes.now) }
     {
         Self::from_bytes_sized(ber_bytes)
@@ -130,7 +133,8 @@ impl<const MAX_SIZE: usize> ObjectIdentifier<MAX_SIZE> {
     ///   with 0x80, that its number is past 32 bits, or that it does not end;
     /// - [`Error::Length`]: there are more octets than fit.
     pub fn from_bytes_sized(ber_bytes: &[u8]) -> Result<Self>
-        ensures answer { result_map_both oid_arcs (λ fault. fault) result ≡ octet_answer root_rule ber_bytes.now (min MAX_SIZE 255) }
+        ensures answer { result_map_both oid_arcs (λ fault. fault) result
+            ≡ octet_answer root_rule ber_bytes.now (min MAX_SIZE 255) }
         ensures octets { IfOk result (λ oid. oid_octets oid ≡ ber_bytes.now) }
     {
         Self::try_from_ref(ObjectIdentifierRef::from_bytes(ber_bytes)?)
@@ -138,7 +142,9 @@ impl<const MAX_SIZE: usize> ObjectIdentifier<MAX_SIZE> {
 
     /// Copies a borrowed identifier, or answers [`Error::Length`] where its octets do not fit.
     pub fn try_from_ref(oid_ref: ObjectIdentifierRef<'_>) -> Result<Self>
-        ensures fits { let count = length (ref_octets oid_ref.entry) in MatchResult result (λ _. count ≤ min MAX_SIZE 255) (λ fault. (fault ≡ Error.Length) × (min MAX_SIZE 255 < count)) }
+        ensures fits { let count = length (ref_octets oid_ref.entry) in
+            MatchResult result (λ _. count ≤ min MAX_SIZE 255)
+            (λ fault. (fault ≡ Error.Length) × (min MAX_SIZE 255 < count)) }
         ensures octets { IfOk result (λ oid. oid_octets oid ≡ ref_octets oid_ref.entry) }
         ensures arcs { IfOk result (λ oid. oid_arcs oid ≡ ref_arcs oid_ref.entry) }
     {
@@ -197,7 +203,9 @@ impl<const MAX_SIZE: usize> ObjectIdentifier<MAX_SIZE> {
 
     /// The identifier of these arcs and one more, or [`Error::Length`] where its octets do not fit.
     pub fn push_arc(self, arc: Arc) -> Result<Self>
-        ensures fits { let count = size (child_of (oid_arcs self.entry) arc) in MatchResult result (λ _. count ≤ min MAX_SIZE 255) (λ fault. (fault ≡ Error.Length) × (min MAX_SIZE 255 < count)) }
+        ensures fits { let count = size (child_of (oid_arcs self.entry) arc) in
+            MatchResult result (λ _. count ≤ min MAX_SIZE 255)
+            (λ fault. (fault ≡ Error.Length) × (min MAX_SIZE 255 < count)) }
         ensures child { IfOk result (λ oid. oid_arcs oid ≡ child_of (oid_arcs self.entry) arc) }
     {
         let mut ber = self.ber;
