@@ -17,9 +17,6 @@ use Rattle.const_oid.proofs.Items.{append-cons}
 abbrev pub AreTaken : RootRule → List ℕ → Type 0
 AreTaken rule given = (later : List ℕ) → item_fault rule (given ++ later) ≡ items_fault rule given later
 
-pub taken_more : (rule : RootRule) (given : List ℕ) (item : ℕ) → AreTaken rule given → arc_fault rule 39 given item ≡ None → AreTaken rule (given ++ item ∷ [])
-taken_more rule given item taken none later = rw (append-cons given item later, taken (item ∷ later), none) refl
-
 -- a list begins with the items that a run gave of it
 begins_with_run : {S : Type 0} {steps : S → Option ℕ → S → Type 0} (p : Run steps) (items : List ℕ) → ItemsAre p items → items ≡ p.items ++ drop (length p.items) items
 begins_with_run p items are = front_from_reads 0 items p.items (omega (arith, are.0, p.long)) (λ k below.
