@@ -1,9 +1,9 @@
 -- No fault is `Overflow`.
-use Rattle.std.proofs.Common.{◌≡◌, ◌≢◌, ℕ, Bool, true, false, not, List, [], ◌∷◌, ◌++◌, length, map, nat_lt, Option, Some, None, option_map, find}
+use Rattle.std.proofs.Common.{◌≢◌, ℕ, Bool, true, false, not, List, [], ◌∷◌, ◌++◌, length, nat_lt, Option, Some, None, option_map, find}
 use Rattle.std.specs.Option.{option_or}
 use Rattle.std.specs.Char.{is_ascii_digit}
 use Rattle.const_oid.specs.declared.error.Error.{Error}
-use Rattle.const_oid.specs.declared.error.Error.TheVariants.{ArcInvalid, ArcTooBig, Base128, DigitExpected, Empty, Length, Overflow, RepeatedDot, TrailingDot}
+use Rattle.const_oid.specs.declared.error.Error.TheVariants.{ArcTooBig, Base128, DigitExpected, Length, Overflow, TrailingDot}
 use Rattle.const_oid.specs.Base128.{value_of}
 use Rattle.const_oid.specs.Identifier.{RootRule, Narrow, Wide, most_arc, most_second, size}
 use Rattle.const_oid.specs.Faults.{fault_if}

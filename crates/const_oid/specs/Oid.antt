@@ -16,6 +16,10 @@ oid_octets oid = octets_of oid.ber
 abbrev pub oid_arcs : {N : ℕ} → ObjectIdentifier N → List ℕ
 oid_arcs oid = arcs_of_octets (oid_octets oid)
 
+-- what a call answers, by the arcs of the identifier
+abbrev pub oid_answer : {N : ℕ} → Result (ObjectIdentifier N) Error → Result (List ℕ) Error
+oid_answer result = result_map_both oid_arcs (λ fault. fault) result
+
 -- the answer to a text: its fault, or an identifier of the arcs that it denotes
 abbrev pub ReadsText : List ℕ → Result (ObjectIdentifier 39) Error → Type 0
-ReadsText text result = result_map_both oid_arcs (λ fault. fault) result ≡ text_answer root_rule text
+ReadsText text result = oid_answer result ≡ text_answer root_rule text

@@ -1,5 +1,7 @@
 -- What a borrowed identifier shows.
-use Rattle.std.specs.Prelude.{ℕ, List}
+use Rattle.std.specs.Prelude.{ℕ, List, Result}
+use Rattle.std.specs.Result.{result_map_both}
+use Rattle.const_oid.specs.declared.error.Error.{Error}
 use Rattle.const_oid.specs.declared.oid_ref.ObjectIdentifierRef.{ObjectIdentifierRef}
 use Rattle.const_oid.specs.Contents.{arcs_of_octets}
 
@@ -10,3 +12,7 @@ ref_octets oid = oid.ber.now
 -- its arcs
 abbrev pub ref_arcs : ObjectIdentifierRef → List ℕ
 ref_arcs oid = arcs_of_octets (ref_octets oid)
+
+-- what a call answers, by the arcs of the identifier
+abbrev pub ref_answer : Result ObjectIdentifierRef Error → Result (List ℕ) Error
+ref_answer result = result_map_both ref_arcs (λ fault. fault) result

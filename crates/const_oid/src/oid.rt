@@ -3,7 +3,6 @@
 ghost use Rattle.std.specs.Prelude.{◌≡◌, ◌-◌, ◌<◌, ◌≤◌, ◌↔◌, length, min, take, slice_get, None, Some, IfOk, IsTrue, MatchResult};
 ghost use Rattle.std.specs.Iterator.{IsFiniteIterable};
 ghost use Rattle.std.specs.Option.{option_map};
-ghost use Rattle.std.specs.Result.{result_map_both};
 ghost use Rattle.const_oid.specs.Buffer.{octets_of};
 ghost use Rattle.const_oid.specs.Contents.{cut, parts_fault, octet_answer};
 ghost use Rattle.const_oid.specs.Text.{text_of, text_fault, text_answer, Denotes};
@@ -39,7 +38,7 @@ pub struct ObjectIdentifier<const MAX_SIZE: usize> {
 }
 
 impl ObjectIdentifier<39> {
-    ghost use Rattle.const_oid.specs.Oid.{oid_octets, oid_arcs};
+    ghost use Rattle.const_oid.specs.Oid.{oid_octets, oid_arcs, oid_answer};
 
     /// The capacity in octets.
     pub const MAX_SIZE: usize = 39;
@@ -55,7 +54,7 @@ impl ObjectIdentifier<39> {
     /// - [`Error::Length`]: the arcs up to it take more than 39 octets (X.690, 8.19);
     /// - [`Error::Empty`]: it is the only one.
     pub fn new(s: &str) -> Result<Self>
-        ensures answer { result_map_both oid_arcs (λ fault. fault) result ≡ text_answer root_rule s.now }
+        ensures answer { oid_answer result ≡ text_answer root_rule s.now }
         ensures denoted { IfOk result (λ oid. Denotes root_rule s.now (oid_arcs oid)) }
     {
         let ber = parse(s)?;
@@ -87,7 +86,8 @@ impl ObjectIdentifier<39> {
         I::IntoIter: Drop,
         // The iterator may be asked for its items, and it ends.
         requires { IsFiniteIterable I.into_iter_gives I.IntoIter.can_next I.IntoIter.remaining arcs }
-        ensures takes { (iterator : I.IntoIter) × I.into_iter_gives arcs iterator × TakesItems root_rule I.IntoIter.next_gives iterator (result_map_both oid_arcs (λ fault. fault) result) }
+        ensures takes { (iterator : I.IntoIter) × I.into_iter_gives arcs iterator
+            × TakesItems root_rule I.IntoIter.next_gives iterator (oid_answer result) }
     {
         let mut encoder = Encoder::new();
         for arc in arcs {
@@ -100,8 +100,7 @@ impl ObjectIdentifier<39> {
     /// Reads contents octets (X.690, 8.19), of which at most 39 fit, as
     /// [`from_bytes_sized`](Self::from_bytes_sized) does.
     pub fn from_bytes(ber_bytes: &[u8]) -> Result<Self>
-        ensures answer { result_map_both oid_arcs (λ fault. fault) result
-            ≡ octet_answer root_rule ber_bytes.now 39 }
+        ensures answer { oid_answer result ≡ octet_answer root_rule ber_bytes.now 39 }
         ensures octets { IfOk result (λ oid. oid_octets oid ≡ ber_bytes.now) }
     {
         Self::from_bytes_sized(ber_bytes)
@@ -122,7 +121,7 @@ impl FromStr for ObjectIdentifier<39> {
 }
 
 impl<const MAX_SIZE: usize> ObjectIdentifier<MAX_SIZE> {
-    ghost use Rattle.const_oid.specs.Oid.{oid_octets, oid_arcs};
+    ghost use Rattle.const_oid.specs.Oid.{oid_octets, oid_arcs, oid_answer};
     ghost use Rattle.const_oid.specs.OidRef.{ref_octets, ref_arcs};
 
     /// Reads contents octets (X.690, 8.19). The first of these that applies is the error:
@@ -133,8 +132,7 @@ impl<const MAX_SIZE: usize> ObjectIdentifier<MAX_SIZE> {
     ///   with 0x80, that its number is past 32 bits, or that it does not end;
     /// - [`Error::Length`]: there are more octets than fit.
     pub fn from_bytes_sized(ber_bytes: &[u8]) -> Result<Self>
-        ensures answer { result_map_both oid_arcs (λ fault. fault) result
-            ≡ octet_answer root_rule ber_bytes.now (min MAX_SIZE 255) }
+        ensures answer { oid_answer result ≡ octet_answer root_rule ber_bytes.now (min MAX_SIZE 255) }
         ensures octets { IfOk result (λ oid. oid_octets oid ≡ ber_bytes.now) }
     {
         Self::try_from_ref(ObjectIdentifierRef::from_bytes(ber_bytes)?)
@@ -236,7 +234,7 @@ fn without_last_part(octets: &[u8]) -> &[u8]
 }
 
 impl<const MAX_SIZE: usize> fmt::Display for ObjectIdentifier<MAX_SIZE> {
-    ghost use Rattle.const_oid.specs.Oid.{oid_arcs};
+    ghost use Rattle.const_oid.specs.Oid.{oid_arcs, oid_answer};
 
     ghost output = { λ oid. Some (text_of (oid_arcs oid)) };
 
@@ -255,7 +253,7 @@ impl<const MAX_SIZE: usize> PartialEq for ObjectIdentifier<MAX_SIZE> {
     ghost use Rattle.std.specs.Prelude.{◌↔◌, IsTrue, nat_eq};
     ghost use Rattle.std.specs.Cmp.{on_per, partial_equiv_from_equiv};
     ghost use Rattle.std.specs.Cmp.Lexicographic.{pointwise, nat_list_eq_equiv};
-    ghost use Rattle.const_oid.specs.Oid.{oid_octets, oid_arcs};
+    ghost use Rattle.const_oid.specs.Oid.{oid_octets, oid_arcs, oid_answer};
 
     ghost eq = { λ a b. pointwise nat_eq (oid_octets a) (oid_octets b) };
 

@@ -3,7 +3,6 @@ ghost use Rattle.std.specs.Prelude.{◌≡◌, ◌≤◌, ◌<◌, ◌↔◌, �
 ghost use Rattle.std.specs.Cmp.Lexicographic.{slice_cmp};
 ghost use Rattle.std.specs.List.Sorted.{IsSortedByKey};
 ghost use Rattle.std.specs.Ordering.{nat_cmp, is_lt};
-ghost use Rattle.std.specs.Result.{result_map_both};
 ghost use Rattle.std.proofs.Props.{props};
 ghost use Rattle.const_oid.specs.Base128.{AreOctets};
 ghost use Rattle.const_oid.specs.Contents.{cut, parts_fault, octet_answer, borrowed_capacity};
@@ -33,7 +32,7 @@ pub struct ObjectIdentifierRef<'a> {
 
 impl<'a> ObjectIdentifierRef<'a> {
     ghost use Rattle.const_oid.specs.Oid.{oid_octets, oid_arcs};
-    ghost use Rattle.const_oid.specs.OidRef.{ref_octets, ref_arcs};
+    ghost use Rattle.const_oid.specs.OidRef.{ref_octets, ref_arcs, ref_answer};
     ghost use Rattle.const_oid.specs.Tree.{BeginsWith};
 
     /// Reads contents octets (X.690, 8.19). The first of these that applies is the error:
@@ -44,7 +43,7 @@ impl<'a> ObjectIdentifierRef<'a> {
     ///   with 0x80, that its number is past 32 bits, or that it does not end;
     /// - [`Error::Length`]: there are more than 2^63 - 1 octets, which no slice has.
     pub fn from_bytes(ber: &'a [u8]) -> Result<Self>
-        ensures answer { result_map_both ref_arcs (λ fault. fault) result ≡ octet_answer root_rule ber.now borrowed_capacity }
+        ensures answer { ref_answer result ≡ octet_answer root_rule ber.now borrowed_capacity }
         ensures octets { IfOk result (λ oid. ref_octets oid ≡ ber.now) }
     {
         check(ber)?;

@@ -1,9 +1,8 @@
 //! Identifiers from lists of arcs, as callers meet them.
 ghost use Rattle.std.specs.Prelude.{◌≡◌};
-ghost use Rattle.std.specs.Result.{result_map_both};
 ghost use Rattle.const_oid.specs.Identifier.{root_rule};
 ghost use Rattle.const_oid.specs.Items.{item_answer};
-ghost use Rattle.const_oid.specs.Oid.{oid_arcs};
+ghost use Rattle.const_oid.specs.Oid.{oid_arcs, oid_answer};
 
 use super::ObjectIdentifier;
 use crate::arcs::{Arc, Arcs};
@@ -21,32 +20,32 @@ const REFUSED: [(&[Arc], Error); 5] = [
 ];
 
 fn from_array(arcs: [Arc; 3]) -> Result<ObjectIdentifier<39>>
-    ensures { result_map_both oid_arcs (λ fault. fault) result ≡ item_answer root_rule arcs }
+    ensures { oid_answer result ≡ item_answer root_rule arcs }
 {
     ObjectIdentifier::from_arcs(arcs)
 }
 
 fn from_slice(arcs: &[Arc]) -> Result<ObjectIdentifier<39>>
-    ensures { result_map_both oid_arcs (λ fault. fault) result ≡ item_answer root_rule arcs.now }
+    ensures { oid_answer result ≡ item_answer root_rule arcs.now }
 {
     ObjectIdentifier::from_arcs(arcs.iter().copied())
 }
 
 fn from_vec(arcs: Vec<Arc>) -> Result<ObjectIdentifier<39>>
-    ensures { result_map_both oid_arcs (λ fault. fault) result ≡ item_answer root_rule arcs.items }
+    ensures { oid_answer result ≡ item_answer root_rule arcs.items }
 {
     ObjectIdentifier::from_arcs(arcs)
 }
 
 fn from_rest(arcs: Arcs<'_>) -> Result<ObjectIdentifier<39>>
-    ensures { result_map_both oid_arcs (λ fault. fault) result ≡ item_answer root_rule arcs.entry }
+    ensures { oid_answer result ≡ item_answer root_rule arcs.entry }
 {
     ObjectIdentifier::from_arcs(arcs)
 }
 
 /// Encodes the arcs of an identifier again.
 fn again(oid: &ObjectIdentifier<39>) -> Result<ObjectIdentifier<39>>
-    ensures { result_map_both oid_arcs (λ fault. fault) result ≡ Ok (oid_arcs oid.now) }
+    ensures { oid_answer result ≡ Ok (oid_arcs oid.now) }
 {
     from_rest(oid.arcs())
 }
