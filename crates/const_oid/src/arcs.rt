@@ -1,5 +1,6 @@
 //! Contents octets read as arcs (X.690, 8.19.2 to 8.19.4).
-ghost use Rattle.std.specs.Prelude.{◌≡◌, ℕ, ◌≤◌, List, ◌∷◌, map, None, Some, MatchResult};
+ghost use Rattle.std.specs.Prelude.{◌≡◌, ℕ, ◌≤◌, List, ◌∷◌, map, None};
+ghost use Rattle.std.specs.Result.{result_err};
 ghost use Rattle.std.specs.Iterator.{YieldsFirst, item_count};
 ghost use Rattle.const_oid.specs.Base128.{value_of};
 ghost use Rattle.const_oid.specs.Identifier.{root_rule, Wide};
@@ -114,9 +115,9 @@ fn split_root(root: u64) -> (Arc, Arc)
     }
 }
 
-/// Whether octets have no fault, whatever their number.
+/// The fault of octets, whatever their number, if there is one.
 pub(crate) fn check(octets: &[u8]) -> Result<()>
-    ensures { MatchResult result (λ _. parts_fault root_rule (cut octets.now) ≡ None) (λ fault. parts_fault root_rule (cut octets.now) ≡ Some fault) }
+    ensures { result_err result ≡ parts_fault root_rule (cut octets.now) }
 {
     let [root, later @ ..] = octets else {
         return Err(Error::Empty);
@@ -129,9 +130,9 @@ pub(crate) fn check(octets: &[u8]) -> Result<()>
     check_later(later)
 }
 
-/// Whether the octets behind the root octet have no fault.
+/// The fault of the octets behind the root octet, if there is one.
 fn check_later(octets: &[u8]) -> Result<()>
-    ensures { MatchResult result (λ _. later_fault (cut octets.now) ≡ None) (λ fault. later_fault (cut octets.now) ≡ Some fault) }
+    ensures { result_err result ≡ later_fault (cut octets.now) }
 {
     let mut number: u64 = 0;
     let mut begun = false;

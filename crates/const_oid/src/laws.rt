@@ -43,97 +43,144 @@ pub fn unique_groups()
 
 /// No group begins a group of another number, whatever follows.
 pub fn prefix_free()
-    ensures { (m n : ℕ) (g h x y : List ℕ) → IsGroup m g → IsGroup n h → g ++ x ≡ h ++ y → (g ≡ h) × (m ≡ n) }
+    ensures { (m n : ℕ) (g h x y : List ℕ) → IsGroup m g → IsGroup n h → g ++ x ≡ h ++ y
+        → (g ≡ h) × (m ≡ n) }
 {}
 
 /// Octets without a fault are the encoding of their arcs, and of no others; an encoding has no fault
 /// but its length.
 pub fn octets_denote()
-    ensures cut { (numbers : List ℕ) (groups : List (List ℕ)) → AllZip IsGroup numbers groups → cut (concat groups) ≡ groups }
-    ensures accepted { (rule : RootRule) (octets : List ℕ) (capacity : ℕ) → AreOctets octets → octet_fault rule octets capacity ≡ None → IsEncoding rule (arcs_of_octets octets) octets × (length octets ≤ capacity) }
-    ensures fits { (rule : RootRule) (arcs octets : List ℕ) (capacity : ℕ) → IsEncoding rule arcs octets → length octets ≤ capacity → octet_fault rule octets capacity ≡ None }
-    ensures long { (rule : RootRule) (arcs octets : List ℕ) (capacity : ℕ) → IsEncoding rule arcs octets → capacity < length octets → octet_fault rule octets capacity ≡ Some Length }
-    ensures denoted { (rule : RootRule) (arcs octets : List ℕ) → IsEncoding rule arcs octets → arcs_of_octets octets ≡ arcs }
-    ensures only { (rule : RootRule) (a b octets : List ℕ) → IsEncoding rule a octets → IsEncoding rule b octets → a ≡ b }
+    ensures cut { (numbers : List ℕ) (groups : List (List ℕ)) → AllZip IsGroup numbers groups
+        → cut (concat groups) ≡ groups }
+    ensures accepted { (rule : RootRule) (octets : List ℕ) (capacity : ℕ) → AreOctets octets
+        → octet_fault rule octets capacity ≡ None
+        → IsEncoding rule (arcs_of_octets octets) octets × (length octets ≤ capacity) }
+    ensures fits { (rule : RootRule) (arcs octets : List ℕ) (capacity : ℕ)
+        → IsEncoding rule arcs octets → length octets ≤ capacity
+        → octet_fault rule octets capacity ≡ None }
+    ensures long { (rule : RootRule) (arcs octets : List ℕ) (capacity : ℕ)
+        → IsEncoding rule arcs octets → capacity < length octets
+        → octet_fault rule octets capacity ≡ Some Length }
+    ensures denoted { (rule : RootRule) (arcs octets : List ℕ) → IsEncoding rule arcs octets
+        → arcs_of_octets octets ≡ arcs }
+    ensures only { (rule : RootRule) (a b octets : List ℕ) → IsEncoding rule a octets
+        → IsEncoding rule b octets → a ≡ b }
 {}
 
 /// Each identifier has exactly one encoding, of as many octets as its size.
 pub fn one_encoding()
-    ensures one { (rule : RootRule) (arcs : List ℕ) → IsIdentifier rule arcs → IsEncoding rule arcs (encoding_of arcs) }
-    ensures only { (rule : RootRule) (arcs a b : List ℕ) → IsEncoding rule arcs a → IsEncoding rule arcs b → a ≡ b }
-    ensures size { (rule : RootRule) (arcs octets : List ℕ) → IsEncoding rule arcs octets → length octets ≡ size arcs }
+    ensures one { (rule : RootRule) (arcs : List ℕ) → IsIdentifier rule arcs
+        → IsEncoding rule arcs (encoding_of arcs) }
+    ensures only { (rule : RootRule) (arcs a b : List ℕ) → IsEncoding rule arcs a
+        → IsEncoding rule arcs b → a ≡ b }
+    ensures size { (rule : RootRule) (arcs octets : List ℕ) → IsEncoding rule arcs octets
+        → length octets ≡ size arcs }
 {}
 
 /// A second arc in range never makes an encoding of more than 39 octets, nor one out of range.
 pub fn second_fits()
-    ensures { (rule : RootRule) (first second : ℕ) → first ≤ 2 → arc_fault rule 39 (first ∷ []) second ≡ fault_if (nat_lt (most_second rule first) second) (ArcInvalid second) }
+    ensures { (rule : RootRule) (first second : ℕ) → first ≤ 2
+        → arc_fault rule 39 (first ∷ []) second ≡ fault_if (nat_lt (most_second rule first) second) (ArcInvalid second) }
 {}
 
 /// An encoding begins another exactly where its arcs begin the other's.
 pub fn fronts()
-    ensures { (rule : RootRule) (p x a b : List ℕ) → IsEncoding rule p a → IsEncoding rule x b → BeginsWith b a ↔ BeginsWith x p }
+    ensures { (rule : RootRule) (p x a b : List ℕ) → IsEncoding rule p a → IsEncoding rule x b
+        → BeginsWith b a ↔ BeginsWith x p }
 {}
 
 /// A greater number has no smaller width; encodings that differ in the last arc stand as these arcs do.
 pub fn siblings()
     ensures width { (m n : ℕ) → m ≤ n → width m ≤ width n }
-    ensures level { (rule : RootRule) (parent : List ℕ) (m n : ℕ) (x y : List ℕ) → IsEncoding rule (parent ++ m ∷ []) x → IsEncoding rule (parent ++ n ∷ []) y → length x ≡ length y → slice_cmp nat_cmp x y ≡ nat_cmp m n }
-    ensures short { (rule : RootRule) (parent : List ℕ) (m n : ℕ) (x y : List ℕ) → IsEncoding rule (parent ++ m ∷ []) x → IsEncoding rule (parent ++ n ∷ []) y → short_cmp x y ≡ nat_cmp m n }
+    ensures level { (rule : RootRule) (parent : List ℕ) (m n : ℕ) (x y : List ℕ)
+        → IsEncoding rule (parent ++ m ∷ []) x → IsEncoding rule (parent ++ n ∷ []) y
+        → length x ≡ length y → slice_cmp nat_cmp x y ≡ nat_cmp m n }
+    ensures short { (rule : RootRule) (parent : List ℕ) (m n : ℕ) (x y : List ℕ)
+        → IsEncoding rule (parent ++ m ∷ []) x → IsEncoding rule (parent ++ n ∷ []) y
+        → short_cmp x y ≡ nat_cmp m n }
 {}
 
 /// Equal arcs, equal encodings and equal printed texts are one.
 pub fn same_identifiers()
-    ensures octets { (rule : RootRule) (a b x y : List ℕ) → IsEncoding rule a x → IsEncoding rule b y → (a ≡ b) ↔ (x ≡ y) }
-    ensures texts { (rule : RootRule) (a b : List ℕ) → IsIdentifier rule a → IsIdentifier rule b → (a ≡ b) ↔ (text_of a ≡ text_of b) }
+    ensures octets { (rule : RootRule) (a b x y : List ℕ) → IsEncoding rule a x
+        → IsEncoding rule b y → (a ≡ b) ↔ (x ≡ y) }
+    ensures texts { (rule : RootRule) (a b : List ℕ) → IsIdentifier rule a → IsIdentifier rule b
+        → (a ≡ b) ↔ (text_of a ≡ text_of b) }
 {}
 
 /// What is printed denotes its arcs; a text has no fault exactly where it denotes arcs that fit; it is
 /// printed again without its leading zeros.
 pub fn texts_denote()
-    ensures printed { (rule : RootRule) (arcs : List ℕ) → IsIdentifier rule arcs → Denotes rule (text_of arcs) arcs }
-    ensures fits { (rule : RootRule) (text arcs : List ℕ) → Denotes rule text arcs → size arcs ≤ 39 → text_fault rule text ≡ None }
-    ensures accepted { (rule : RootRule) (text : List ℕ) → text_fault rule text ≡ None → Denotes rule text (map number_of (pieces_of text)) × (size (map number_of (pieces_of text)) ≤ 39) }
-    ensures only { (rule : RootRule) (text a b : List ℕ) → Denotes rule text a → Denotes rule text b → a ≡ b }
-    ensures stripped { (rule : RootRule) (text arcs : List ℕ) → Denotes rule text arcs → text_of arcs ≡ strip text }
+    ensures printed { (rule : RootRule) (arcs : List ℕ) → IsIdentifier rule arcs
+        → Denotes rule (text_of arcs) arcs }
+    ensures fits { (rule : RootRule) (text arcs : List ℕ) → Denotes rule text arcs
+        → size arcs ≤ 39 → text_fault rule text ≡ None }
+    ensures accepted { (rule : RootRule) (text : List ℕ) → text_fault rule text ≡ None
+        → Denotes rule text (map number_of (pieces_of text)) × (size (map number_of (pieces_of text)) ≤ 39) }
+    ensures only { (rule : RootRule) (text a b : List ℕ) → Denotes rule text a
+        → Denotes rule text b → a ≡ b }
+    ensures stripped { (rule : RootRule) (text arcs : List ℕ) → Denotes rule text arcs
+        → text_of arcs ≡ strip text }
 {}
 
 /// A list of numbers of 32 bits has no fault exactly where it is an identifier that fits.
 pub fn items_denote()
-    ensures fits { (rule : RootRule) (arcs : List ℕ) → IsIdentifier rule arcs → size arcs ≤ 39 → item_fault rule arcs ≡ None }
-    ensures accepted { (rule : RootRule) (items : List ℕ) → AllByRecursion (λ n. n ≤ most_arc) items → item_fault rule items ≡ None → IsIdentifier rule items × (size items ≤ 39) }
+    ensures fits { (rule : RootRule) (arcs : List ℕ) → IsIdentifier rule arcs → size arcs ≤ 39
+        → item_fault rule arcs ≡ None }
+    ensures accepted { (rule : RootRule) (items : List ℕ)
+        → AllByRecursion (λ n. n ≤ most_arc) items → item_fault rule items ≡ None
+        → IsIdentifier rule items × (size items ≤ 39) }
 {}
 
 /// Under the narrow rule the first two arcs take one octet.
 pub fn narrow_root()
-    ensures octets { (a b : ℕ) (later octets : List ℕ) → IsEncoding Narrow (a ∷ b ∷ later) octets → (groups : List (List ℕ)) × AllZip IsGroup later groups × (octets ≡ (40 * a + b) ∷ concat groups) }
-    ensures encoding { (a b : ℕ) (later : List ℕ) (groups : List (List ℕ)) → IsIdentifier Narrow (a ∷ b ∷ later) → AllZip IsGroup later groups → IsEncoding Narrow (a ∷ b ∷ later) ((40 * a + b) ∷ concat groups) }
-    ensures size { (a b : ℕ) (later : List ℕ) → IsIdentifier Narrow (a ∷ b ∷ later) → size (a ∷ b ∷ later) ≡ 1 + sum_by width later }
+    ensures octets { (a b : ℕ) (later octets : List ℕ) → IsEncoding Narrow (a ∷ b ∷ later) octets
+        → (groups : List (List ℕ)) × AllZip IsGroup later groups × (octets ≡ (40 * a + b) ∷ concat groups) }
+    ensures encoding { (a b : ℕ) (later : List ℕ) (groups : List (List ℕ))
+        → IsIdentifier Narrow (a ∷ b ∷ later) → AllZip IsGroup later groups
+        → IsEncoding Narrow (a ∷ b ∷ later) ((40 * a + b) ∷ concat groups) }
+    ensures size { (a b : ℕ) (later : List ℕ) → IsIdentifier Narrow (a ∷ b ∷ later)
+        → size (a ∷ b ∷ later) ≡ 1 + sum_by width later }
 {}
 
 /// How many arcs octets have, and which they are behind the first two.
 pub fn parts()
-    ensures count { (rule : RootRule) (arcs octets : List ℕ) → IsEncoding rule arcs octets → length arcs ≡ 1 + count_by (λ x. nat_lt x 128) octets }
-    ensures parts { (rule : RootRule) (arcs octets : List ℕ) → IsEncoding rule arcs octets → length arcs ≡ 1 + length (cut octets) }
-    ensures later { (rule : RootRule) (arcs octets : List ℕ) → IsEncoding rule arcs octets → drop 2 arcs ≡ map value_of (drop 1 (cut octets)) }
+    ensures count { (rule : RootRule) (arcs octets : List ℕ) → IsEncoding rule arcs octets
+        → length arcs ≡ 1 + count_by (λ x. nat_lt x 128) octets }
+    ensures parts { (rule : RootRule) (arcs octets : List ℕ) → IsEncoding rule arcs octets
+        → length arcs ≡ 1 + length (cut octets) }
+    ensures later { (rule : RootRule) (arcs octets : List ℕ) → IsEncoding rule arcs octets
+        → drop 2 arcs ≡ map value_of (drop 1 (cut octets)) }
 {}
 
 /// A child's octets go on by one group; a parent's are those without the last part.
 pub fn tree()
-    ensures child { (rule : RootRule) (arcs octets : List ℕ) (arc : ℕ) (group : List ℕ) → IsEncoding rule arcs octets → arc ≤ most_arc → IsGroup arc group → IsEncoding rule (arcs ++ arc ∷ []) (octets ++ group) }
-    ensures parent { (rule : RootRule) (arcs octets : List ℕ) (arc : ℕ) → IsIdentifier rule arcs → IsEncoding rule (arcs ++ arc ∷ []) octets → (parts : List (List ℕ)) × (last : List ℕ) × (cut octets ≡ parts ++ last ∷ []) × IsEncoding rule arcs (concat parts) }
+    ensures child { (rule : RootRule) (arcs octets : List ℕ) (arc : ℕ) (group : List ℕ)
+        → IsEncoding rule arcs octets → arc ≤ most_arc → IsGroup arc group
+        → IsEncoding rule (arcs ++ arc ∷ []) (octets ++ group) }
+    ensures parent { (rule : RootRule) (arcs octets : List ℕ) (arc : ℕ) → IsIdentifier rule arcs
+        → IsEncoding rule (arcs ++ arc ∷ []) octets
+        → (parts : List (List ℕ)) × (last : List ℕ) × (cut octets ≡ parts ++ last ∷ []) × IsEncoding rule arcs (concat parts) }
 {}
 
 /// Descendants stand together behind their ancestor in list order, and behind it where shorter
 /// encodings stand first.
 pub fn ranges()
-    ensures short { (rule : RootRule) (p x a b : List ℕ) → IsEncoding rule p a → IsEncoding rule x b → BeginsWith x p → length p < length x → short_cmp a b ≡ Less }
-    ensures before { (rule : RootRule) (p x a b : List ℕ) → IsEncoding rule p a → IsEncoding rule x b → BeginsWith x p → length p < length x → slice_cmp nat_cmp a b ≡ Less }
-    ensures between { (rule : RootRule) (p x y z a b c d : List ℕ) → IsEncoding rule p a → IsEncoding rule x b → IsEncoding rule y c → IsEncoding rule z d → BeginsWith x p → BeginsWith z p → slice_cmp nat_cmp c b ≢ Less → slice_cmp nat_cmp c d ≢ Greater → BeginsWith y p }
+    ensures short { (rule : RootRule) (p x a b : List ℕ) → IsEncoding rule p a
+        → IsEncoding rule x b → BeginsWith x p → length p < length x → short_cmp a b ≡ Less }
+    ensures before { (rule : RootRule) (p x a b : List ℕ) → IsEncoding rule p a
+        → IsEncoding rule x b → BeginsWith x p → length p < length x
+        → slice_cmp nat_cmp a b ≡ Less }
+    ensures between { (rule : RootRule) (p x y z a b c d : List ℕ) → IsEncoding rule p a
+        → IsEncoding rule x b → IsEncoding rule y c → IsEncoding rule z d → BeginsWith x p
+        → BeginsWith z p → slice_cmp nat_cmp c b ≢ Less → slice_cmp nat_cmp c d ≢ Greater
+        → BeginsWith y p }
 {}
 
 /// No input has the fault `Overflow`.
 pub fn no_overflow()
-    ensures octets { (rule : RootRule) (octets : List ℕ) (capacity : ℕ) → octet_fault rule octets capacity ≢ Some Overflow }
+    ensures octets { (rule : RootRule) (octets : List ℕ) (capacity : ℕ)
+        → octet_fault rule octets capacity ≢ Some Overflow }
     ensures texts { (rule : RootRule) (text : List ℕ) → text_fault rule text ≢ Some Overflow }
     ensures items { (rule : RootRule) (items : List ℕ) → item_fault rule items ≢ Some Overflow }
 {}
