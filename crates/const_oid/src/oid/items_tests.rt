@@ -52,12 +52,12 @@ fn again(oid: &ObjectIdentifier<39>) -> Result<ObjectIdentifier<39>>
 
 #[test]
 fn accepted(rt: HostRuntime) -> std::result::Result<(), Fail> {
-    for (_, octets, arcs) in ACCEPTED {
+    for (_, octets, arcs) in &ACCEPTED {
         let oid = from_slice(arcs)?;
-        assert_eq!(rt; oid.as_bytes(), octets);
-        assert_eq!(rt; again(&oid)?.as_bytes(), octets);
+        assert_eq!(rt; oid.as_bytes(), *octets);
+        assert_eq!(rt; again(&oid)?.as_bytes(), *octets);
         let owned = from_vec(arcs.to_vec(rt.alloc())?)?;
-        assert_eq!(rt; owned.as_bytes(), octets);
+        assert_eq!(rt; owned.as_bytes(), *octets);
     }
     assert_eq!(rt;
         from_array([1, 2, 1144201745])?.as_bytes(),
@@ -68,8 +68,8 @@ fn accepted(rt: HostRuntime) -> std::result::Result<(), Fail> {
 
 #[test]
 fn refused(rt: HostRuntime) -> std::result::Result<(), Fail> {
-    for (arcs, error) in REFUSED {
-        assert_eq!(rt; from_slice(arcs).err(), Some(error));
+    for (arcs, error) in &REFUSED {
+        assert_eq!(rt; from_slice(arcs).err(), Some(*error));
     }
     Ok(())
 }

@@ -17,13 +17,13 @@ use std::test::Fail;
 
 #[test]
 fn accepted(rt: HostRuntime) -> Result<(), Fail> {
-    for (text, octets, arcs) in ACCEPTED {
+    for (text, octets, arcs) in &ACCEPTED {
         let oid = ObjectIdentifier::from_bytes(octets)?;
-        assert_eq!(rt; oid.as_bytes(), octets, "{oid}");
-        assert_eq!(rt; ObjectIdentifier::new(text)?.as_bytes(), octets, "{oid}");
-        assert_eq!(rt; format!(in rt.alloc(); "{oid}")?.as_str(), text);
+        assert_eq!(rt; oid.as_bytes(), *octets, "{oid}");
+        assert_eq!(rt; ObjectIdentifier::new(text)?.as_bytes(), *octets, "{oid}");
+        assert_eq!(rt; format!(in rt.alloc(); "{oid}")?.as_str(), *text);
         let listed = oid.arcs().collect::<Vec<Arc>>(rt.alloc())?;
-        assert_eq!(rt; listed.as_slice(), arcs, "{oid}");
+        assert_eq!(rt; listed.as_slice(), *arcs, "{oid}");
         assert_eq!(rt; oid.len(), arcs.len(), "{oid}");
         assert_eq!(rt; oid.arc(1), arcs.get(1).copied(), "{oid}");
         assert_eq!(rt; oid.arc(arcs.len()), None, "{oid}");
@@ -33,10 +33,10 @@ fn accepted(rt: HostRuntime) -> Result<(), Fail> {
 
 #[test]
 fn refused(rt: HostRuntime) {
-    for (octets, error) in REFUSED_OCTETS {
+    for (octets, error) in &REFUSED_OCTETS {
         assert_eq!(rt;
             ObjectIdentifier::from_bytes(octets).err(),
-            Some(error),
+            Some(*error),
             "{octets:?}"
         );
     }
@@ -257,12 +257,12 @@ fn compares_every_pair(rt: HostRuntime) -> Result<(), Fail> {
 fn finds_keys(rt: HostRuntime) -> Result<(), Fail> {
     let mut hashed = HashMap::new(rt.alloc());
     let mut sorted = BTreeMap::new(rt.alloc());
-    for (_, octets, arcs) in ACCEPTED {
+    for (_, octets, arcs) in &ACCEPTED {
         hashed.insert(ObjectIdentifier::from_bytes(octets)?, arcs.len())?;
         sorted.insert(ObjectIdentifier::from_bytes(octets)?, arcs.len())?;
     }
     assert_eq!(rt; hashed.len(), ACCEPTED.len());
-    for (text, _, arcs) in ACCEPTED {
+    for (text, _, arcs) in &ACCEPTED {
         let oid = ObjectIdentifier::new(text)?;
         assert_eq!(rt; hashed.get(&oid).copied(), Some(arcs.len()), "{oid}");
         assert_eq!(rt; sorted.get(&oid).copied(), Some(arcs.len()), "{oid}");

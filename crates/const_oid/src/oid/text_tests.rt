@@ -60,20 +60,24 @@ const LEADING_ZEROS: [(&str, &str, &[u8]); 5] = [
 
 #[test]
 fn refused(rt: HostRuntime) -> Result<(), Fail> {
-    for (text, error) in REFUSED {
-        assert_eq!(rt; ObjectIdentifier::new(text).err(), Some(error), "of {text}");
-        assert_eq!(rt; text.parse::<ObjectIdentifier<39>>().err(), Some(error));
+    for (text, error) in &REFUSED {
+        assert_eq!(rt;
+            ObjectIdentifier::new(text).err(),
+            Some(*error),
+            "of {text}"
+        );
+        assert_eq!(rt; text.parse::<ObjectIdentifier<39>>().err(), Some(*error));
     }
     Ok(())
 }
 
 #[test]
 fn leading_zeros(rt: HostRuntime) -> Result<(), Fail> {
-    for (text, printed, octets) in LEADING_ZEROS {
+    for (text, printed, octets) in &LEADING_ZEROS {
         let oid = ObjectIdentifier::new(text)?;
         let again = format!(in rt.alloc(); "{oid}")?;
-        assert_eq!(rt; again.as_str(), printed);
-        assert_eq!(rt; oid.as_bytes(), octets);
+        assert_eq!(rt; again.as_str(), *printed);
+        assert_eq!(rt; oid.as_bytes(), *octets);
     }
     Ok(())
 }
@@ -98,10 +102,10 @@ const LONG: [(usize, &str, Option<Error>); 4] = [
 
 #[test]
 fn longest(rt: HostRuntime) -> Result<(), Fail> {
-    for (count, end, error) in LONG {
-        let text = long_text(rt.alloc(), count, end)?;
+    for (count, end, error) in &LONG {
+        let text = long_text(rt.alloc(), *count, end)?;
         let answer = ObjectIdentifier::new(text.as_str());
-        assert_eq!(rt; answer.err(), error);
+        assert_eq!(rt; answer.err(), *error);
         if let Ok(oid) = answer {
             assert_eq!(rt; oid.as_bytes().len(), 39);
         }

@@ -7,13 +7,13 @@ use std::test::Fail;
 
 #[test]
 fn accepted(rt: HostRuntime) -> Result<(), Fail> {
-    for (text, octets, arcs) in ACCEPTED {
+    for (text, octets, arcs) in &ACCEPTED {
         let oid = ObjectIdentifierRef::from_bytes(octets)?;
         let printed = format!(in rt.alloc(); "{oid}")?;
-        assert_eq!(rt; printed.as_str(), text);
-        assert_eq!(rt; oid.as_bytes(), octets);
+        assert_eq!(rt; printed.as_str(), *text);
+        assert_eq!(rt; oid.as_bytes(), *octets);
         let read = oid.arcs().collect::<Vec<u32>>(rt.alloc())?;
-        assert_eq!(rt; read.as_slice(), arcs);
+        assert_eq!(rt; read.as_slice(), *arcs);
         assert_eq!(rt; oid.len(), arcs.len());
         assert_eq!(rt; oid.arc(arcs.len()), None);
     }
@@ -22,10 +22,10 @@ fn accepted(rt: HostRuntime) -> Result<(), Fail> {
 
 #[test]
 fn refused(rt: HostRuntime) {
-    for (octets, error) in REFUSED_OCTETS {
+    for (octets, error) in &REFUSED_OCTETS {
         assert_eq!(rt;
             ObjectIdentifierRef::from_bytes(octets).err(),
-            Some(error),
+            Some(*error),
             "{octets:?}"
         );
     }
