@@ -29,3 +29,4 @@ pub mod Begins
 pub mod Subtree
 pub mod Taken
 pub mod Overflow
+pub mod Tree

@@ -140,8 +140,8 @@ fn check_later(octets: &[u8]) -> Result<()>
         if !begun && *octet == 0x80 {
             return Err(Error::Base128);
         }
-        number = number * 128 + u64::from(*octet % 128);
-        if number > u64::from(Arc::MAX) {
+        number = number * 128 + (*octet % 128) as u64;
+        if number > Arc::MAX as u64 {
             return Err(Error::ArcTooBig);
         }
         begun = *octet >= 128;

@@ -180,7 +180,7 @@ impl<const SIZE: usize> Ord for Buffer<SIZE> {
         ensures { result ≡ short_cmp (octets_of self.now) (octets_of other.now) }
     {
         match self.len().cmp(&other.len()) {
-            Ordering::Equal => self.as_bytes().cmp(&other.as_bytes()),
+            Ordering::Equal => self.as_bytes().cmp(other.as_bytes()),
             unequal => unequal,
         }
     }

@@ -95,7 +95,7 @@ impl<const SIZE: usize> Encoder<SIZE> {
     {
         match self.state {
             State::Body => Ok(self.octets),
-            _ => Err(Error::Empty),
+            State::Initial | State::FirstArc(_) => Err(Error::Empty),
         }
     }
 }

@@ -15,7 +15,7 @@ ghost use Rattle.const_oid.specs.Contents.{cut, octet_fault, arcs_of_octets};
 ghost use Rattle.const_oid.specs.Identifier.{RootRule, Narrow, most_arc, most_second, IsIdentifier, IsEncoding, encoding_of, size};
 ghost use Rattle.const_oid.specs.Orders.{short_cmp};
 ghost use Rattle.const_oid.specs.Text.{text_fault, text_of, pieces_of, number_of, Denotes, strip};
-ghost use Rattle.const_oid.specs.Tree.{BeginsWith};
+ghost use Rattle.const_oid.specs.Tree.{BeginsWith, child_of, parent_of};
 
 /// Worked rows, which the definitions compute.
 pub fn worked_rows()
@@ -153,7 +153,8 @@ pub fn parts()
         → drop 2 arcs ≡ map value_of (drop 1 (cut octets)) }
 {}
 
-/// A child's octets go on by one group; a parent's are those without the last part.
+/// A child's octets go on by one group; a parent's are those without the last part. A child's parent
+/// is the one that it was made of, and a parent has the one that it came from as a child.
 pub fn tree()
     ensures child { (rule : RootRule) (arcs octets : List ℕ) (arc : ℕ) (group : List ℕ)
         → IsEncoding rule arcs octets → arc ≤ most_arc → IsGroup arc group
@@ -161,6 +162,11 @@ pub fn tree()
     ensures parent { (rule : RootRule) (arcs octets : List ℕ) (arc : ℕ) → IsIdentifier rule arcs
         → IsEncoding rule (arcs ++ arc ∷ []) octets
         → (parts : List (List ℕ)) × (last : List ℕ) × (cut octets ≡ parts ++ last ∷ []) × IsEncoding rule arcs (concat parts) }
+    ensures undone { (rule : RootRule) (arcs : List ℕ) (arc : ℕ) → IsIdentifier rule arcs
+        → parent_of (child_of arcs arc) ≡ Some arcs }
+    ensures again { (rule : RootRule) (arcs parent : List ℕ) → IsIdentifier rule arcs
+        → parent_of arcs ≡ Some parent
+        → IsIdentifier rule parent × (last : ℕ) × (last ≤ most_arc) × (child_of parent last ≡ arcs) }
 {}
 
 /// Descendants stand together behind their ancestor in list order, and behind it where shorter

@@ -154,6 +154,7 @@ impl<const MAX_SIZE: usize> ObjectIdentifier<MAX_SIZE> {
     pub fn as_bytes(&self) -> &[u8]
         ensures octets { result.now ≡ oid_octets self.now }
         ensures encoding { IsEncoding root_rule (oid_arcs self.now) result.now }
+        ensures fits { length result.now ≤ min MAX_SIZE 255 }
     {
         self.ber.as_bytes()
     }
@@ -239,7 +240,7 @@ impl<const MAX_SIZE: usize> fmt::Display for ObjectIdentifier<MAX_SIZE> {
     ghost output = { λ oid. Some (text_of (oid_arcs oid)) };
 
     fn fmt<W: fmt::Write>(&self, f: &mut fmt::Formatter<W>) -> fmt::Result {
-        self.as_oid_ref().fmt(f)
+        fmt::Display::fmt(&self.as_oid_ref(), f)
     }
 }
 

@@ -1,6 +1,8 @@
-//! Rows that several tests share.
+//! Rows, and a formatter's target, that several tests share.
 
 use crate::error::Error;
+use std::fmt;
+use std::fmt::Write;
 
 /// Texts, their contents octets and their arcs.
 pub(crate) const ACCEPTED: [(&str, &[u8], &[u32]); 27] = [
@@ -120,3 +122,27 @@ pub(crate) const REFUSED_OCTETS: [(&[u8], Error); 29] = [
     (&[0x00, 0x80, 0x80, 0x81, 0xB5, 0xC6, 0xBA], Error::Base128),
     (&[0x00, 0x90, 0x80, 0x80, 0x80, 0x80], Error::ArcTooBig),
 ];
+
+/// Refuses the write numbered `bad`, counted from 1.
+#[derive(Drop)]
+pub(crate) struct Refusing {
+    pub(crate) writes: usize,
+    bad: usize,
+}
+
+impl Refusing {
+    pub(crate) fn new(bad: usize) -> Self {
+        Refusing { writes: 0, bad }
+    }
+}
+
+impl Write for Refusing {
+    fn write_str(&mut self, _text: &str) -> fmt::Result {
+        self.writes = self.writes.saturating_add(1);
+        if self.writes == self.bad {
+            Err(fmt::Error)
+        } else {
+            Ok(())
+        }
+    }
+}

@@ -47,33 +47,34 @@ pub fn run<R: Read, W: Write>(input: &mut R, output: &mut W) -> Result<(), ToolE
     ensures write { result ≡ Err ToolError.Write → IfSome (R.remaining input.old)
         (λ text. AppendsFront (W.contents output.old) (W.contents output.new) (answers text)) }
     ensures untouched { (result ≡ Err ToolError.Read) ⊎ (result ≡ Err ToolError.TooLong) → output.new ≡ output.old }
-
     ensures ended { IsOk result ⊎ (result ≡ Err ToolError.Write) → IsAtEnd (R.remaining input.new) }
+    ensures whole { IsOk result ⊎ (result ≡ Err ToolError.Write) → IfSome (R.remaining input.old)
+        (λ text. Consumes (R.remaining input.old) (R.remaining input.new) text) }
     ensures within { IsOk result ⊎ (result ≡ Err ToolError.Write) → IfSome (R.remaining input.old)
         (λ text. length text ≤ MAX_INPUT) }
     ensures too_long { result ≡ Err ToolError.TooLong →
         ConsumesNumber (R.remaining input.old) (R.remaining input.new) (MAX_INPUT + 1) }
 {
-    let mut room = [0; ROOM];
+    let mut room = [0; INPUT_ROOM];
     let len = read_all(input, &mut room)?;
     write_answers(&room[..len], output)
 }
 
 /// Room for a byte more than the input may have, by which a longer one is told.
-const ROOM: usize = MAX_INPUT + 1;
+const INPUT_ROOM: usize = MAX_INPUT + 1;
 
 /// Reads to the end of the input into the front of the room, and gives the number of bytes.
 fn read_all<R: Read>(input: &mut R, room: &mut [u8]) -> Result<usize, ToolError>
-    requires { length room.old ≡ ROOM }
+    requires { length room.old ≡ INPUT_ROOM }
     ensures within { IfOk result (λ len. len ≤ MAX_INPUT) }
     ensures bytes { IfOk result (λ len. Consumes (R.remaining input.old) (R.remaining input.new) (take len room.new)) }
     ensures ended { OnOk result (IsAtEnd (R.remaining input.new)) }
     ensures err { IfErr result (λ e. (e ≡ ToolError.Read) ⊎ (e ≡ ToolError.TooLong)) }
     ensures too_long { result ≡ Err ToolError.TooLong →
-        ConsumesNumber (R.remaining input.old) (R.remaining input.new) ROOM }
+        ConsumesNumber (R.remaining input.old) (R.remaining input.new) INPUT_ROOM }
 {
     let mut len = 0;
-    while len < ROOM {
+    while len < INPUT_ROOM {
         match input.read(&mut room[len..]) {
             Ok(0) => return Ok(len),
             Ok(count) => len += count,

@@ -2,8 +2,10 @@ ghost use Rattle.std.specs.Prelude.{◌≡◌, ◌↔◌, IsTrue, IsOk, IfOk};
 ghost use Rattle.const_oid.specs.Orders.{error_cmp};
 
 use crate::error::Error;
+use crate::vectors::Refusing;
 use std::alloc::AllocError;
 use std::cmp::Ordering;
+use std::fmt::Write;
 use std::test::Fail;
 
 /// `==` is true exactly for the same variant with the same number.
@@ -56,4 +58,20 @@ fn options_change_nothing(rt: HostRuntime) -> Result<(), Fail> {
     let text = format!(in rt.alloc(); "{:>40.3}", Error::Empty)?;
     assert_eq!(rt; text.as_str(), "OID value is empty");
     Ok(())
+}
+
+/// Each write that is refused is told, whichever it is.
+#[test]
+fn a_refused_write_is_told(rt: HostRuntime) {
+    let error = Error::ArcInvalid { arc: 40 };
+    let mut accepted = 0;
+    for bad in 1..50 {
+        let mut target = Refusing::new(bad);
+        if write!(target, "{error}").is_ok() {
+            accepted = bad;
+            break;
+        }
+        assert_eq!(rt; target.writes, bad);
+    }
+    assert!(rt; accepted > 1);
 }

@@ -8,10 +8,11 @@ use super::ObjectIdentifier;
 use crate::arcs::Arc;
 use crate::error::Error;
 use crate::oid_ref::ObjectIdentifierRef;
-use crate::vectors::{ACCEPTED, REFUSED_OCTETS};
+use crate::vectors::{ACCEPTED, REFUSED_OCTETS, Refusing};
 use std::alloc::AllocError;
 use std::cmp::Ordering;
 use std::collections::{BTreeMap, HashMap};
+use std::fmt::Write;
 use std::result::Result;
 use std::test::Fail;
 
@@ -99,6 +100,8 @@ fn keeps_to_its_capacity(rt: HostRuntime) -> Result<(), Fail> {
     for (index, (answer, wanted)) in answers.iter().enumerate() {
         assert_eq!(rt; answer, wanted, "row {index}");
     }
+    let short = ObjectIdentifier::<1>::from_bytes_sized(&[0x2A])?;
+    assert_eq!(rt; short.as_bytes(), [0x2A].as_slice());
     let long = ObjectIdentifier::<300>::from_bytes_sized(&ones[..255])?;
     assert_eq!(rt; long.push_arc(0).err(), Some(Error::Length));
     assert_eq!(rt; long.push_arc(1).err(), Some(Error::Length));
@@ -131,6 +134,25 @@ fn prints(rt: HostRuntime) -> Result<(), Fail> {
         format!(in rt.alloc(); "{oid:?}")?.as_str(),
         "ObjectIdentifier(1.2.3)"
     );
+    Ok(())
+}
+
+/// Each write that is refused is told, whichever it is.
+#[test]
+fn a_refused_write_is_told(rt: HostRuntime) -> Result<(), Fail> {
+    let oid = ObjectIdentifier::from_bytes(&[
+        0x2A, 0x86, 0x48, 0x86, 0xF7, 0x0D, 0x01, 0x01, 0x01,
+    ])?;
+    let mut accepted = 0;
+    for bad in 1..50 {
+        let mut target = Refusing::new(bad);
+        if write!(target, "{oid}").is_ok() {
+            accepted = bad;
+            break;
+        }
+        assert_eq!(rt; target.writes, bad);
+    }
+    assert!(rt; accepted > 7);
     Ok(())
 }
 
@@ -176,6 +198,19 @@ fn appends_arcs(rt: HostRuntime) -> Result<(), Fail> {
     assert_eq!(rt; short.as_bytes(), [0x2A].as_slice());
     let full = ObjectIdentifier::<1>::from_bytes_sized(&[0x2A])?;
     assert_eq!(rt; full.push_arc(0).err(), Some(Error::Length));
+    Ok(())
+}
+
+/// The parent of a child, and a child of the parent.
+#[test]
+fn parents_undo_children(rt: HostRuntime) -> Result<(), Fail> {
+    for (_, octets, arcs) in &ACCEPTED {
+        let oid = ObjectIdentifier::from_bytes(octets)?;
+        assert_eq!(rt; oid.push_arc(128)?.parent(), Some(oid), "{oid}");
+        if let (Some(parent), Some(last)) = (oid.parent(), arcs.last()) {
+            assert_eq!(rt; parent.push_arc(*last)?, oid, "{oid}");
+        }
+    }
     Ok(())
 }
 

@@ -1,7 +1,6 @@
 use crate::error::Error;
 use crate::oid_ref::ObjectIdentifierRef;
-use crate::vectors::{ACCEPTED, REFUSED_OCTETS};
-use std::fmt;
+use crate::vectors::{ACCEPTED, REFUSED_OCTETS, Refusing};
 use std::fmt::Write;
 use std::test::Fail;
 
@@ -81,24 +80,6 @@ fn options_change_nothing(rt: HostRuntime) -> Result<(), Fail> {
     Ok(())
 }
 
-/// Refuses the write numbered `bad`, counted from 1.
-#[derive(Drop)]
-struct Refusing {
-    writes: usize,
-    bad: usize,
-}
-
-impl Write for Refusing {
-    fn write_str(&mut self, _text: &str) -> fmt::Result {
-        self.writes = self.writes.saturating_add(1);
-        if self.writes == self.bad {
-            Err(fmt::Error)
-        } else {
-            Ok(())
-        }
-    }
-}
-
 /// Each write that is refused is told, whichever it is.
 #[test]
 fn a_refused_write_is_told(rt: HostRuntime) -> Result<(), Fail> {
@@ -106,7 +87,7 @@ fn a_refused_write_is_told(rt: HostRuntime) -> Result<(), Fail> {
     let oid = ObjectIdentifierRef::from_bytes(&octets)?;
     let mut accepted = 0;
     for bad in 1..50 {
-        let mut target = Refusing { writes: 0, bad };
+        let mut target = Refusing::new(bad);
         if write!(target, "{oid}").is_ok() {
             accepted = bad;
             assert_eq!(rt; target.writes.saturating_add(1), bad);

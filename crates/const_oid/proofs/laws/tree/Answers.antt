@@ -1,3 +1,4 @@
+use Rattle.const_oid.proofs.Tree.{parent_of-child_of, child_of-parent_of}
 use Rattle.const_oid.proofs.Children.{encoding_push, encoding_parent}
 use Rattle.const_oid.proofs.laws.tree.Goals as goal
 
@@ -6,3 +7,9 @@ returns-clause-child c = encoding_push
 
 pub returns-clause-parent : goal.returns-clause-parent
 returns-clause-parent c = encoding_parent
+
+pub returns-clause-undone : goal.returns-clause-undone
+returns-clause-undone c = parent_of-child_of
+
+pub returns-clause-again : goal.returns-clause-again
+returns-clause-again c = child_of-parent_of
