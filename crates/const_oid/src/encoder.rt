@@ -100,7 +100,7 @@ impl<const SIZE: usize> Encoder<SIZE> {
     }
 }
 
-/// The greatest second arc below a first arc.
+/// The greatest second arc below a first arc, which under the narrow rule is one for all.
 fn greatest_second(first: Arc) -> Arc
     ensures { result ≡ most_second root_rule first }
 {

@@ -197,6 +197,6 @@ impl Ord for ObjectIdentifierRef<'_> {
     fn cmp(&self, other: &Self) -> Ordering
         ensures { result ≡ slice_cmp nat_cmp (ref_octets self.now) (ref_octets other.now) }
     {
-        self.ber.cmp(&other.ber)
+        self.ber.cmp(other.ber)
     }
 }

@@ -80,7 +80,7 @@ fn append_digits(octets: &[u8], out: &mut Line) -> fmt::Result
     requires { length octets.now ≤ 39 }
     ensures { OnOk result (out.new ≡ out.old ++ encode_lower octets.now) }
 {
-    let mut room = [0; 78];
+    let mut room = [0; 2 * ObjectIdentifier::<39>::MAX_SIZE];
     let count = encode(octets, &mut room);
     out.append(&room[..count])
 }
