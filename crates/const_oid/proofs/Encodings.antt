@@ -1,14 +1,21 @@
--- Octets without a fault are the encoding of their arcs, and encodings have no fault but their length.
-use Rattle.std.proofs.Common.{true, ◌≡◌, ◌≢◌, ℕ, ◌+◌, ◌*◌, ◌/◌, ◌%◌, ◌^◌, ◌<◌, ◌≤◌, false, List, [], ◌∷◌, length, map, slice_index, Some, None, refl, sym, ◌∙◌, arith, lt-ltb, le-ltb, ne_eqb}
-use Rattle.std.specs.List.{AllByRecursion, AllZip}
+-- Octets without a fault are the encoding of their arcs, and encodings have no fault but their length; each identifier has just one encoding.
+use Rattle.std.proofs.Common.{true, ◌≡◌, ◌≢◌, ℕ, ◌+◌, ◌*◌, ◌/◌, ◌%◌, ◌^◌, ◌<◌, ◌≤◌, false, List, [], ◌∷◌, length, map, slice_index, Some, None, refl, sym, ◌∙◌, arith, lt-ltb, le-ltb, ne_eqb, ◌++◌, drop, ap}
+use Rattle.std.specs.List.{AllByRecursion, AllZip, concat}
+use Rattle.std.specs.Prelude.{◌↔◌}
 use Rattle.std.proofs.lemmas.Bool.{eqb-false}
-use Rattle.const_oid.specs.declared.error.Error.TheVariants.{ArcInvalid, ArcTooBig, Base128, Length}
-use Rattle.const_oid.specs.Base128.{value_of, IsChained, AreOctets, IsGroup}
-use Rattle.const_oid.specs.Identifier.{RootRule, Narrow, Wide, most_arc, IsEncoding, subidentifiers}
+use Rattle.std.proofs.lemmas.List.{drop-map}
+use Rattle.std.proofs.lemmas.Bool.Decides.{nat_tests}
+use Rattle.const_oid.specs.declared.error.Error.TheVariants.{ArcInvalid, Length}
+use Rattle.const_oid.specs.declared.oid_ref.ObjectIdentifierRef.{ObjectIdentifierRef}
+use Rattle.const_oid.specs.declared.oid.ObjectIdentifier.{ObjectIdentifier}
+use Rattle.const_oid.specs.Base128.{value_of, IsChained, AreOctets, IsGroup, group_of}
+use Rattle.const_oid.specs.Identifier.{RootRule, Narrow, Wide, most_arc, IsEncoding, subidentifiers, IsIdentifier, encoding_of, root_rule}
 use Rattle.const_oid.specs.Contents.{cut, is_finished, begins_with_128, part_fault, first_fault, later_fault, parts_fault, most_first, octet_fault, arcs_of_octets}
-use Rattle.const_oid.proofs.Faults.{both_none, false_from_none, true_from_none, below_from_none}
-use Rattle.const_oid.proofs.Groups.{small_is, group-small}
-use Rattle.const_oid.proofs.Subidentifiers.{InRange, in_range, identifier, arcs_back, numbers_back}
+use Rattle.const_oid.specs.OidRef.{ref_octets, ref_arcs}
+use Rattle.const_oid.specs.Oid.{oid_octets, oid_arcs}
+use Rattle.const_oid.proofs.Faults.{both_none, below_from_none}
+use Rattle.const_oid.proofs.Groups.{small_is, group-small, group_is, same_group}
+use Rattle.const_oid.proofs.Subidentifiers.{InRange, in_range, identifier, arcs_back, numbers_back, first_in_range}
 use Rattle.const_oid.proofs.Cutting.{cut_chains, concat-cut, IsPart, parts_are, chain_from_part, finished_from_chain}
 
 -- ---- one part
@@ -22,22 +29,19 @@ begins_with_128-not [] h = refl
 begins_with_128-not (x ∷ xs) h = ne_eqb x 128 h
 
 -- the part is the group of a number that is at most the limit
-abbrev pub IsGroupUpTo : ℕ → List ℕ → Type 0
+abbrev IsGroupUpTo : ℕ → List ℕ → Type 0
 IsGroupUpTo limit part = IsGroup (value_of part) part × (value_of part ≤ limit)
 
 -- what a part without a fault is not
 pub part_tests : (limit : ℕ) (part : List ℕ) → part_fault limit part ≡ None → (begins_with_128 part ≡ false) × (value_of part ≤ limit) × (is_finished part ≡ true)
-part_tests limit part h =
-    let (first, more) = both_none _ _ h in
-    let (small, last) = both_none _ _ more in
-    (false_from_none (begins_with_128 part) Base128 first, below_from_none limit (value_of part) ArcTooBig small, true_from_none (is_finished part) Base128 last)
+part_tests limit part h = (grind (arith, nat_tests), grind (arith, nat_tests), grind (arith, nat_tests))
 
 part_sound : (limit : ℕ) (part : List ℕ) → IsPart part → part_fault limit part ≡ None → IsGroupUpTo limit part
 part_sound limit part p h =
     let (first, small, last) = part_tests limit part h in
     (record { chained = chain_from_part part p last; shortest = shortest part first; value = refl }, small)
 
-pub part_none : (limit n : ℕ) (part : List ℕ) → IsGroup n part → n ≤ limit → part_fault limit part ≡ None
+part_none : (limit n : ℕ) (part : List ℕ) → IsGroup n part → n ≤ limit → part_fault limit part ≡ None
 part_none limit n part g l =
     rw (begins_with_128-not part g.shortest, le-ltb limit (value_of part) (rw g.value at l), finished_from_chain part g.chained)
 
@@ -70,7 +74,7 @@ first_none : (rule : RootRule) (n : ℕ) (part : List ℕ) → IsGroup n part �
 first_none Narrow n part g l = rw (group-small n part (omega arith) g, le-ltb 119 n l)
 first_none Wide n part g l = part_none (most_first Wide) n part g l
 
-pub parts_sound : (rule : RootRule) (parts : List (List ℕ)) → AllByRecursion IsPart parts → parts_fault rule parts ≡ None → AllZip IsGroup (map value_of parts) parts × InRange rule (map value_of parts)
+parts_sound : (rule : RootRule) (parts : List (List ℕ)) → AllByRecursion IsPart parts → parts_fault rule parts ≡ None → AllZip IsGroup (map value_of parts) parts × InRange rule (map value_of parts)
 parts_sound rule [] p h = cc
 parts_sound rule (part ∷ parts) p h =
     let (a, b) = both_none (first_fault rule part) (later_fault parts) h in
@@ -78,7 +82,7 @@ parts_sound rule (part ∷ parts) p h =
     let (gs, ls) = later_sound parts p.1 b in
     ((g, gs), (l, ls))
 
-pub parts_none : (rule : RootRule) (numbers : List ℕ) (groups : List (List ℕ)) → AllZip IsGroup numbers groups → InRange rule numbers → parts_fault rule groups ≡ None
+parts_none : (rule : RootRule) (numbers : List ℕ) (groups : List (List ℕ)) → AllZip IsGroup numbers groups → InRange rule numbers → parts_fault rule groups ≡ None
 parts_none rule [] groups g l = absurd l
 parts_none rule (n ∷ ns) [] g l = absurd g
 parts_none rule (n ∷ ns) (p ∷ ps) g l = rw (first_none rule n p g.0 l.0) (later_none ns ps g.1 l.1)
@@ -91,7 +95,7 @@ groups_chained [] (p ∷ ps) g = absurd g
 groups_chained (n ∷ ns) [] g = absurd g
 groups_chained (n ∷ ns) (p ∷ ps) g = (g.0.chained, groups_chained ns ps g.1)
 
-pub groups_valued : (numbers : List ℕ) (groups : List (List ℕ)) → AllZip IsGroup numbers groups → map value_of groups ≡ numbers
+groups_valued : (numbers : List ℕ) (groups : List (List ℕ)) → AllZip IsGroup numbers groups → map value_of groups ≡ numbers
 groups_valued [] [] g = refl
 groups_valued [] (p ∷ ps) g = absurd g
 groups_valued (n ∷ ns) [] g = absurd g
@@ -126,6 +130,14 @@ arcs_of_encoding rule arcs octets e =
 pub encoding_back : (rule : RootRule) (arcs octets : List ℕ) → IsEncoding rule arcs octets → IsEncoding rule (arcs_of_octets octets) octets
 encoding_back rule arcs octets e = rw (arcs_of_encoding rule arcs octets e) e
 
+-- the later arcs are the values of the later parts
+pub later_arcs : (rule : RootRule) (arcs octets : List ℕ) → IsEncoding rule arcs octets → drop 2 arcs ≡ map value_of (drop 1 (cut octets))
+later_arcs rule [] octets e = absurd e.identifier
+later_arcs rule (a ∷ []) octets e = absurd e.identifier
+later_arcs rule (a ∷ b ∷ later) octets e =
+    let numbers = subidentifiers (a ∷ b ∷ later) in
+    ap (drop 1) (sym (groups_valued numbers e.groups e.each)) ∙ drop-map value_of 1 e.groups ∙ ap (λ ps. map value_of (drop 1 ps)) (sym (cut_encoding rule (a ∷ b ∷ later) octets e))
+
 -- no two lists of arcs have one encoding
 pub same_arcs : (rule : RootRule) (a b octets : List ℕ) → IsEncoding rule a octets → IsEncoding rule b octets → a ≡ b
 same_arcs rule a b octets p q = sym (arcs_of_encoding rule a octets p) ∙ arcs_of_encoding rule b octets q
@@ -142,3 +154,57 @@ pub fits_from_none : (rule : RootRule) (octets : List ℕ) (capacity : ℕ) → 
 fits_from_none rule octets capacity h =
     let (none, fits) = both_none _ _ h in
     (none, below_from_none capacity (length octets) Length fits)
+
+-- ---- each identifier has just one
+
+groups_are : (numbers : List ℕ) → AllZip IsGroup numbers (map group_of numbers)
+groups_are [] = tt
+groups_are (n ∷ ns) = (group_is n, groups_are ns)
+
+pub encoding_is : (rule : RootRule) (arcs : List ℕ) → IsIdentifier rule arcs → IsEncoding rule arcs (encoding_of arcs)
+unfolding encoding_of
+encoding_is rule arcs h = record { identifier = h; groups = map group_of (subidentifiers arcs); each = groups_are (subidentifiers arcs); joined = refl }
+
+same_groups : (numbers : List ℕ) (gs hs : List (List ℕ)) → AllZip IsGroup numbers gs → AllZip IsGroup numbers hs → gs ≡ hs
+same_groups [] [] [] p q = refl
+same_groups [] [] (h ∷ hs) p q = absurd q
+same_groups [] (g ∷ gs) hs p q = absurd p
+same_groups (n ∷ ns) [] hs p q = absurd p
+same_groups (n ∷ ns) (g ∷ gs) [] p q = absurd q
+same_groups (n ∷ ns) (g ∷ gs) (h ∷ hs) p q = let s = same_group n g h p.0 q.0 in let t = same_groups ns gs hs p.1 q.1 in cc
+
+pub same_octets : (rule : RootRule) (arcs a b : List ℕ) → IsEncoding rule arcs a → IsEncoding rule arcs b → a ≡ b
+same_octets rule arcs a b p q = p.joined ∙ ap concat (same_groups (subidentifiers arcs) p.groups q.groups p.each q.each) ∙ sym q.joined
+
+pub encoding_of-encoded : (rule : RootRule) (arcs octets : List ℕ) → IsEncoding rule arcs octets → encoding_of arcs ≡ octets
+encoding_of-encoded rule arcs octets e = same_octets rule arcs (encoding_of arcs) octets (encoding_is rule arcs e.identifier) e
+
+-- what tells whether two encodings are one tells it of their arcs
+pub told_arcs : (rule : RootRule) (x y a b : List ℕ) (P : Type 0) → IsEncoding rule x a → IsEncoding rule y b → P ↔ (a ≡ b) → P ↔ (x ≡ y)
+told_arcs rule x y a b P e f told =
+    (λ p. same_arcs rule x y b (rw (told.0 p) at e) f, λ s. told.1 (same_octets rule y a b (rw s at e) f))
+
+-- ---- the narrow rule: one octet for the first two arcs
+
+pub root_octet : (a b : ℕ) (later octets : List ℕ) → IsEncoding Narrow (a ∷ b ∷ later) octets → (groups : List (List ℕ)) × AllZip IsGroup later groups × (octets ≡ (40 * a + b) ∷ concat groups)
+root_octet a b later octets e = by e.groups e.each e.joined
+  where
+    by : (groups : List (List ℕ)) → AllZip IsGroup ((40 * a + b) ∷ later) groups → octets ≡ concat groups → (groups : List (List ℕ)) × AllZip IsGroup later groups × (octets ≡ (40 * a + b) ∷ concat groups)
+    by [] z j = absurd z
+    by (g ∷ gs) z j =
+        let i = e.identifier in
+        let small = first_in_range Narrow a b i.0 i.1 in
+        (gs, z.1, j ∙ ap (λ x. x ++ concat gs) (group-small (40 * a + b) g (omega arith) z.0))
+
+pub encoding_from_root : (a b : ℕ) (later : List ℕ) (groups : List (List ℕ)) → IsIdentifier Narrow (a ∷ b ∷ later) → AllZip IsGroup later groups → IsEncoding Narrow (a ∷ b ∷ later) ((40 * a + b) ∷ concat groups)
+encoding_from_root a b later groups i z =
+    let small = first_in_range Narrow a b i.0 i.1 in
+    record { identifier = i; groups = ((40 * a + b) ∷ []) ∷ groups; each = (small_is (40 * a + b) (omega arith), z); joined = refl }
+
+-- ---- what identifiers hold encodes their arcs
+
+pub oid_encoding : {N : ℕ} (oid : ObjectIdentifier N) → IsEncoding root_rule (oid_arcs oid) (oid_octets oid)
+oid_encoding oid = encoding_from_none root_rule (oid_octets oid) oid.ber.octets oid.sound
+
+pub ref_encoding : (oid : ObjectIdentifierRef) → IsEncoding root_rule (ref_arcs oid) (ref_octets oid)
+ref_encoding oid = encoding_from_none root_rule (ref_octets oid) oid.octets oid.sound

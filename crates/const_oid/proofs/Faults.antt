@@ -1,7 +1,7 @@
 -- What the absence of a fault says of the tests behind it.
-use Rattle.std.proofs.Common.{◌≡◌, ℕ, ◌<◌, ◌≤◌, Bool, true, false, not, nat_lt, Option, Some, None, refl, ⊎_elim, lt-ltb, le-ltb}
+use Rattle.std.proofs.Common.{◌≡◌, ℕ, ◌<◌, ◌≤◌, Bool, true, false, nat_lt, Option, Some, None, refl, lt-ltb, le-ltb}
 use Rattle.std.specs.Option.{option_or}
-use Rattle.std.proofs.lemmas.Bool.{cases_lt}
+use Rattle.std.proofs.lemmas.Bool.{ltb-false}
 use Rattle.const_oid.specs.declared.error.Error.{Error}
 use Rattle.const_oid.specs.Faults.{fault_if}
 
@@ -13,12 +13,8 @@ pub false_from_none : (test : Bool) (fault : Error) → fault_if test fault ≡ 
 false_from_none true fault h = cc
 false_from_none false fault h = refl
 
-pub true_from_none : (test : Bool) (fault : Error) → fault_if (not test) fault ≡ None → test ≡ true
-true_from_none true fault h = refl
-true_from_none false fault h = cc
-
 pub below_from_none : (m n : ℕ) (fault : Error) → fault_if (nat_lt m n) fault ≡ None → n ≤ m
-below_from_none m n fault h = ⊎_elim (λ (over : m < n). let e = rw (lt-ltb m n over) at h in cc) (λ fits. fits) (cases_lt m n)
+below_from_none m n fault h = ltb-false m n (false_from_none (nat_lt m n) fault h)
 
 pub none_from_below : (m n : ℕ) (fault : Error) → n ≤ m → fault_if (nat_lt m n) fault ≡ None
 none_from_below m n fault h = rw (le-ltb m n h)

@@ -1,40 +1,28 @@
--- Lists of arcs have no fault exactly where they are identifiers that fit.
-use Rattle.std.proofs.Common.{◌≡◌, ℕ, ◌+◌, ◌*◌, ◌≤◌, List, [], ◌∷◌, ◌++◌, None, refl, arith, sum_by, append_assoc, append-nil, le-ltb, nat_lt, lt-ltb, ⊎_elim, ◌<◌}
-use Rattle.std.proofs.lemmas.Bool.{cases_lt}
+-- Lists of arcs have no fault exactly where they are identifiers that fit, and what the items that an iterator gave say of each list that they begin.
+use Rattle.std.proofs.Common.{◌≡◌, ℕ, ◌+◌, ◌*◌, ◌≤◌, List, [], ◌∷◌, ◌++◌, None, refl, arith, append_assoc, append-nil, le-ltb, nat_lt, true, false, drop, length, Option, Some, sym, ap, ◌∙◌}
 use Rattle.std.specs.List.{AllByRecursion}
-use Rattle.std.proofs.lemmas.List.Sums.{sum_by-cons, sum_by-append}
+use Rattle.std.specs.Prelude.{Result, Ok, Err, IsErrAnd}
+use Rattle.std.specs.Iterator.{Yields}
+use Rattle.std.specs.Iterator.Runs.{Run, ItemsAre}
+use Rattle.std.specs.Result.{result_map_both}
+use Rattle.std.proofs.iter.runs.Made.{run, to_end, to_item}
+use Rattle.std.proofs.lemmas.List.Prefix.{front_from_reads}
+use Rattle.std.proofs.lemmas.Bool.Decides.{nat_tests}
 use Rattle.const_oid.specs.declared.error.Error.TheVariants.{ArcInvalid, Length}
-use Rattle.const_oid.specs.Base128.{width}
-use Rattle.const_oid.specs.Identifier.{RootRule, Narrow, Wide, most_arc, most_second, IsIdentifier, size}
-use Rattle.const_oid.specs.Contents.{most_first}
+use Rattle.const_oid.specs.declared.error.Error.{Error}
+use Rattle.const_oid.specs.Identifier.{RootRule, most_arc, most_second, IsIdentifier, size, IsEncoding}
+use Rattle.const_oid.specs.Contents.{arcs_of_octets}
 use Rattle.const_oid.specs.Faults.{fault_if}
-use Rattle.const_oid.specs.Items.{arc_fault, few_fault, items_fault, item_fault}
-use Rattle.const_oid.proofs.Groups.{width_is}
-use Rattle.const_oid.proofs.Subidentifiers.{first_in_range}
+use Rattle.const_oid.specs.Items.{arc_fault, few_fault, items_fault, item_fault, TakesItems}
+use Rattle.const_oid.proofs.Lists.{append-cons, all_append}
 use Rattle.const_oid.proofs.Faults.{both_none, below_from_none, none_from_below}
+use Rattle.const_oid.proofs.Subidentifiers.{first_in_range}
+use Rattle.const_oid.proofs.Encodings.{arcs_of_encoding}
+use Rattle.const_oid.proofs.Lengths.{size-cons, size_front, root_short}
 
--- ---- sizes
-
-size-cons : (a b : ℕ) (later : List ℕ) → size (a ∷ b ∷ later) ≡ width (40 * a + b) + sum_by width later
-size-cons a b later = sum_by-cons width (40 * a + b) later
-
--- more arcs have no smaller size
-size_front : (a b : ℕ) (later more : List ℕ) → size (a ∷ b ∷ later) ≤ size (a ∷ b ∷ later ++ more)
-size_front a b later more = omega (arith, size-cons a b later, size-cons a b (later ++ more), sum_by-append width later more)
-
--- the two first arcs take few octets
-root_short : (rule : RootRule) (n : ℕ) → n ≤ most_first rule → width n ≤ 5
-root_short Narrow n h = (width_is n).least 5 (omega arith) (omega arith)
-root_short Wide n h = (width_is n).least 5 (omega arith) (omega arith)
-
--- so a second arc is refused by its range alone
+-- a second arc is refused by its range alone
 pub second_fits : (rule : RootRule) (first second : ℕ) → first ≤ 2 → arc_fault rule 39 (first ∷ []) second ≡ fault_if (nat_lt (most_second rule first) second) (ArcInvalid second)
-second_fits rule first second low = ⊎_elim
-    (λ (out : most_second rule first < second). rw (lt-ltb (most_second rule first) second out))
-    (λ (inside : second ≤ most_second rule first).
-    let five = root_short rule (40 * first + second) (first_in_range rule first second low inside) in
-    rw (le-ltb (most_second rule first) second inside, le-ltb 39 (size (first ∷ second ∷ [])) (omega (arith, size-cons first second []))))
-    (cases_lt (most_second rule first) second)
+second_fits rule first second low = grind (arith, nat_tests, root_short rule (40 * first + second), first_in_range rule first second low, size-cons first second [])
 
 -- ---- arcs so far
 
@@ -44,17 +32,13 @@ IsBegun rule [] = Unit {0}
 IsBegun rule (a ∷ []) = a ≤ 2
 IsBegun rule (a ∷ b ∷ later) = IsIdentifier rule (a ∷ b ∷ later) × (size (a ∷ b ∷ later) ≤ 39)
 
-pub all_push : (P : ℕ → Type 0) (xs : List ℕ) (x : ℕ) → AllByRecursion P xs → P x → AllByRecursion P (xs ++ x ∷ [])
-all_push P [] x h p = (p, tt)
-all_push P (y ∷ ys) x h p = (h.0, all_push P ys x h.1 p)
-
 -- one more arc without a fault
 pub begun_more : (rule : RootRule) (before : List ℕ) (arc : ℕ) → IsBegun rule before → arc ≤ most_arc → arc_fault rule 39 before arc ≡ None → IsBegun rule (before ++ arc ∷ [])
 begun_more rule [] arc b l h = below_from_none 2 arc (ArcInvalid arc) h
 begun_more rule (a ∷ []) arc b l h =
     let (range, fits) = both_none _ _ h in
     ((b, below_from_none (most_second rule a) arc (ArcInvalid arc) range, tt), below_from_none 39 (size (a ∷ arc ∷ [])) Length fits)
-begun_more rule (a ∷ c ∷ later) arc b l h = ((b.0.0, b.0.1, all_push (λ n. n ≤ most_arc) later arc b.0.2 l), below_from_none 39 _ Length h)
+begun_more rule (a ∷ c ∷ later) arc b l h = ((b.0.0, b.0.1, all_append (λ n. n ≤ most_arc) later (arc ∷ []) b.0.2 (l, tt)), below_from_none 39 _ Length h)
 
 -- an arc of an identifier that fits has no fault
 pub arc_none : (rule : RootRule) (before : List ℕ) (arc : ℕ) (rest : List ℕ) → IsIdentifier rule (before ++ arc ∷ rest) → size (before ++ arc ∷ rest) ≤ 39 → arc_fault rule 39 before arc ≡ None
@@ -72,18 +56,15 @@ arc_none rule (a ∷ b ∷ later) arc rest i s =
 -- ---- whole lists
 
 -- two arcs or more that begin an identifier are one
-pub whole_from_begun : (rule : RootRule) (arcs : List ℕ) → IsBegun rule arcs → few_fault arcs ≡ None → IsIdentifier rule arcs × (size arcs ≤ 39)
+whole_from_begun : (rule : RootRule) (arcs : List ℕ) → IsBegun rule arcs → few_fault arcs ≡ None → IsIdentifier rule arcs × (size arcs ≤ 39)
 whole_from_begun rule [] b h = cc
 whole_from_begun rule (a ∷ []) b h = cc
 whole_from_begun rule (a ∷ c ∷ later) b h = b
 
-pub few_none : (rule : RootRule) (arcs : List ℕ) → IsIdentifier rule arcs → few_fault arcs ≡ None
+few_none : (rule : RootRule) (arcs : List ℕ) → IsIdentifier rule arcs → few_fault arcs ≡ None
 few_none rule [] i = absurd i
 few_none rule (a ∷ []) i = absurd i
 few_none rule (a ∷ b ∷ later) i = refl
-
-pub append-cons : (before : List ℕ) (x : ℕ) (xs : List ℕ) → (before ++ x ∷ []) ++ xs ≡ before ++ x ∷ xs
-append-cons before x xs = append_assoc before (x ∷ []) xs
 
 items_none : (rule : RootRule) (before items : List ℕ) → IsIdentifier rule (before ++ items) → size (before ++ items) ≤ 39 → items_fault rule before items ≡ None
 items_none rule before [] i s = few_none rule before (rw append-nil at i)
@@ -104,3 +85,49 @@ item_fault-none rule arcs = items_none rule [] arcs
 -- and a list of numbers of 32 bits without a fault is one
 pub identifier_from_none : (rule : RootRule) (items : List ℕ) → AllByRecursion (λ n. n ≤ most_arc) items → item_fault rule items ≡ None → IsIdentifier rule items × (size items ≤ 39)
 identifier_from_none rule items = items_sound rule [] items tt
+
+-- ---- items that an iterator gave
+
+-- none of the items is refused, whatever follows them
+abbrev pub AreTaken : RootRule → List ℕ → Type 0
+AreTaken rule given = (later : List ℕ) → item_fault rule (given ++ later) ≡ items_fault rule given later
+
+-- a list begins with the items that a run gave of it
+begins_with_run : {S : Type 0} {steps : S → Option ℕ → S → Type 0} (p : Run steps) (items : List ℕ) → ItemsAre p items → items ≡ p.items ++ drop (length p.items) items
+begins_with_run p items are = front_from_reads 0 items p.items (omega (arith, are.0, p.long)) (λ k below.
+    let here = are.2 k 0 (omega (arith, p.long)) in
+    let there = p.reads k 0 (omega (arith, p.long)) in
+    cc)
+
+-- calls gave the items, of which none is refused
+module _ {S : Type 0} (rule : RootRule) (steps : S → Option ℕ → S → Type 0) (s : S) (given : List ℕ) (t u : S) (yielded : Yields steps s given t) (taken : AreTaken rule given) where
+  whole : item_fault rule given ≡ few_fault given
+  whole = rw append-nil at (taken [])
+
+  -- no item is left, and the arcs were encoded
+  pub takes_all : steps t None u → (octets : List ℕ) → None ≡ few_fault given → IsEncoding rule given octets → TakesItems rule steps s (Ok (arcs_of_octets octets))
+  takes_all none octets few e =
+      let back : arcs_of_octets octets ≡ given = arcs_of_encoding rule given octets e in
+      (run steps s given true (to_end steps s given (u, (t, yielded, none))), refl, refl, (sym back, rw back (whole ∙ sym few)))
+
+  -- no item is left, and there are too few
+  pub takes_few : steps t None u → (fault : Error) → Some fault ≡ few_fault given → TakesItems rule steps s (Err fault)
+  takes_few none fault few = (run steps s given true (to_end steps s given (u, (t, yielded, none))), refl, λ items are. ap (item_fault rule) (sym (are.4 refl)) ∙ whole ∙ sym few)
+
+  -- the next item is refused
+  pub takes_front : (item : ℕ) (fault : Error) → steps t (Some item) u → Some fault ≡ arc_fault rule 39 given item → TakesItems rule steps s (Err fault)
+  takes_front item fault next refused =
+      let front = given ++ item ∷ [] in
+      let p = run steps s front false (to_item steps s u given item (t, yielded, next)) in (
+        p,
+        refl,
+        λ items are.
+            let later = drop (length front) items in
+            let split : items ≡ given ++ item ∷ later = begins_with_run p items are ∙ append-cons given item later in
+            rw (split, taken (item ∷ later), ← refused) refl,
+      )
+
+-- the fault that `?` hands on
+pub handed_on : {X Y E : Type 0} (f : X → Y) (result : Result X E) (fault : E) → IsErrAnd result (λ handed. handed ≡ fault) → result_map_both f (λ fault. fault) result ≡ Err fault
+handed_on f (Ok x) fault h = absurd h
+handed_on f (Err handed) fault h = ap Err h

@@ -1,13 +1,14 @@
 -- One pass over octets without a fault reads the numbers of their parts.
 use Rattle.std.proofs.Common.{◌≡◌, ℕ, ◌+◌, ◌*◌, ◌%◌, ◌<◌, ◌≤◌, Bool, true, false, not, List, [], ◌∷◌, ◌++◌, length, map, drop, get_or, nat_lt, ◌==◌, ◌&&◌, None, if◌then◌else◌, refl, sym, ap, ◌∙◌, ⊎_elim, arith, lt-ltb, le-ltb}
-use Rattle.std.proofs.lemmas.Bool.{cases_lt, cases_Bool}
+use Rattle.std.proofs.lemmas.Bool.{cases_lt}
 use Rattle.std.proofs.lemmas.List.{drop_more}
 use Rattle.std.proofs.lemmas.Grind.{common_steps}
 use Rattle.const_oid.specs.Base128.{value_of}
 use Rattle.const_oid.specs.Contents.{cut, later_fault}
 use Rattle.const_oid.specs.Identifier.{most_arc}
 use Rattle.const_oid.specs.Text.{is_empty}
-use Rattle.const_oid.proofs.OctetPass.{pass, onto_all, IsBegun, begun_none, begun_push, value-push, onto_all-behind, onto_all-more, later_pass}
+use Rattle.const_oid.proofs.Lists.{onto_all}
+use Rattle.const_oid.proofs.OctetPass.{pass, IsPartRead, part_read-none, part_read-push, value-push, onto_all-behind, onto_all-more, later_pass}
 
 -- the numbers that a pass reads, from the value of what was read of the first part
 abbrev pub number_pass : ℕ → List ℕ → List ℕ
@@ -17,10 +18,7 @@ number_pass value (x ∷ xs) = if nat_lt x 128 then (value * 128 + x % 128) ∷ 
 -- ---- what a pass without a fault has passed
 
 goes_first : (limit : ℕ) (begun : Bool) (value x : ℕ) (xs : List ℕ) → pass limit begun value (x ∷ xs) ≡ None → (not begun && (x == 128)) ≡ false
-goes_first limit begun value x xs none = ⊎_elim
-    (λ (t : (not begun && (x == 128)) ≡ true). let e = rw t at none in cc)
-    (λ f. f)
-    (cases_Bool (not begun && (x == 128)))
+goes_first limit begun value x xs none = grind (arith, common_steps)
 
 goes_small : (limit : ℕ) (begun : Bool) (value x : ℕ) (xs : List ℕ) → pass limit begun value (x ∷ xs) ≡ None → value * 128 + x % 128 ≤ limit
 goes_small limit begun value x xs none = grind (arith, common_steps)
@@ -45,24 +43,24 @@ number_pass-more value x xs more = rw (le-ltb x 128 more)
 
 numbers_end : (front : List ℕ) (begun : Bool) (value : ℕ) → begun ≡ not (is_empty front) → pass 0 begun value [] ≡ None → [] ≡ map value_of (onto_all front [])
 numbers_end [] begun value b none = refl
-numbers_end (y ∷ ys) begun value b none = let e = rw b at none in cc
+numbers_end (y ∷ ys) begun value b none = grind (arith, common_steps)
 
-numbers_on : (octets : List ℕ) (limit : ℕ) (front : List ℕ) (begun : Bool) (value : ℕ) → IsBegun limit front begun value → pass limit begun value octets ≡ None → number_pass value octets ≡ map value_of (onto_all front (cut octets))
+numbers_on : (octets : List ℕ) (limit : ℕ) (front : List ℕ) (begun : Bool) (value : ℕ) → IsPartRead limit front begun value → pass limit begun value octets ≡ None → number_pass value octets ≡ map value_of (onto_all front (cut octets))
 numbers_on [] limit front begun value s none = numbers_end front begun value s.begun_is none
 numbers_on (x ∷ xs) limit front begun value s none = ⊎_elim
     (λ (last : x < 128).
-    let rest = numbers_on xs most_arc [] false 0 (begun_none most_arc) (goes_last limit begun value x xs last none) in
+    let rest = numbers_on xs most_arc [] false 0 (part_read-none most_arc) (goes_last limit begun value x xs last none) in
     let v = value-push front begun value x s in
     rw (onto_all-behind front x (cut xs) last, number_pass-last value x xs last) (cc (v, rest)))
     (λ (more : 128 ≤ x).
-    let s' = begun_push limit front begun value x s more (goes_first limit begun value x xs none) (goes_small limit begun value x xs none) in
+    let s' = part_read-push limit front begun value x s more (goes_first limit begun value x xs none) (goes_small limit begun value x xs none) in
     rw (onto_all-more front x (cut xs) more, number_pass-more value x xs more)
     (numbers_on xs limit (front ++ x ∷ []) true (value * 128 + x % 128) s' (goes_more limit begun value x xs more none)))
     (cases_lt x 128)
 
 -- octets without a fault from their start
 pub numbers_are : (limit : ℕ) (octets : List ℕ) → pass limit false 0 octets ≡ None → number_pass 0 octets ≡ map value_of (cut octets)
-numbers_are limit octets none = numbers_on octets limit [] false 0 (begun_none limit) none
+numbers_are limit octets none = numbers_on octets limit [] false 0 (part_read-none limit) none
 
 -- at the last octet of the first part
 pub numbers_behind : (limit : ℕ) (begun : Bool) (value : ℕ) (octets rest : List ℕ) (i : ℕ) → i < length octets → get_or octets i 0 < 128 → rest ≡ drop (i + 1) octets → pass limit begun value (drop i octets) ≡ None

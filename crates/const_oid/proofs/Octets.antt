@@ -1,13 +1,15 @@
 -- Octets in an array that is zero past those in use.
-use Rattle.std.proofs.Common.{◌≡◌, ℕ, ◌+◌, ◌-◌, ◌≤◌, List, [], ◌∷◌, ◌++◌, length, take, drop, replicate, refl, sym, ap, ◌∙◌, arith}
+use Rattle.std.proofs.Common.{◌≡◌, ℕ, ◌+◌, ◌-◌, ◌≤◌, List, [], ◌∷◌, ◌++◌, length, take, drop, replicate, refl, sym, ap, ◌∙◌, arith, suc, slice_index, EachIndex, ◌<◌}
 use Rattle.std.proofs.lemmas.List.{take_at, drop-replicate, drop-drop}
 use Rattle.std.proofs.lemmas.Slice.{drop-append-drop, take-put_mid, drop-put_mid}
 use borrow.Rule.Slice.PartMut.{put_mid}
 use Rattle.const_oid.specs.Base128.{IsChained, AreOctets}
+use Rattle.const_oid.proofs.Lists.{all_append}
 
-pub octets_append : (xs ys : List ℕ) → AreOctets xs → AreOctets ys → AreOctets (xs ++ ys)
-octets_append [] ys p q = q
-octets_append (x ∷ xs) ys p q = (p.0, octets_append xs ys p.1 q)
+-- octets by what is read at each place
+pub are_octets : (octets : List ℕ) → EachIndex octets (λ k. slice_index octets k < 256) → AreOctets octets
+are_octets [] h = tt
+are_octets (x ∷ xs) h = (h 0 (omega arith), are_octets xs (λ k l. h (suc k) (omega arith)))
 
 pub octets_from_chain : (octets : List ℕ) → IsChained octets → AreOctets octets
 octets_from_chain [] c = absurd c
@@ -35,8 +37,5 @@ pub zeros_written : (size used more : ℕ) (bytes octets : List ℕ) → used �
 zeros_written size used more bytes octets inside l zeros =
     drop-put_mid used (used + more - used) bytes octets (used + more) (omega arith) inside (omega arith) ∙ zeros_past size used more bytes zeros
 
-pub take_written : (used more : ℕ) (bytes octets : List ℕ) → used ≤ length bytes → length octets ≡ more → take (used + more) (put_mid used (used + more - used) bytes octets) ≡ take used bytes ++ octets
-take_written used more bytes octets inside l = take-put_mid used (used + more - used) bytes octets (used + more) (omega arith) inside
-
 pub octets_written : (used more : ℕ) (bytes octets : List ℕ) → used ≤ length bytes → length octets ≡ more → AreOctets (take used bytes) → AreOctets octets → AreOctets (take (used + more) (put_mid used (used + more - used) bytes octets))
-octets_written used more bytes octets inside l p q = rw (take_written used more bytes octets inside l) (octets_append (take used bytes) octets p q)
+octets_written used more bytes octets inside l p q = rw (take-put_mid used (used + more - used) bytes octets (used + more) (omega arith) inside) (all_append (λ x. x < 256) (take used bytes) octets p q)

@@ -1,42 +1,25 @@
 -- Octets without their last part.
-use Rattle.std.proofs.Common.{◌≡◌, ◌≢◌, ℕ, zero, suc, ◌+◌, ◌-◌, ◌/◌, ◌%◌, ◌<◌, ◌≤◌, List, [], ◌∷◌, ◌++◌, length, map, take, slice_index, Some, None, refl, sym, ap, ◌∙◌, ⊎_elim, arith, lt-ltb, length-append}
+use Rattle.std.proofs.Common.{◌≡◌, ◌≢◌, ℕ, zero, suc, ◌+◌, ◌-◌, ◌/◌, ◌%◌, ◌<◌, ◌≤◌, List, [], ◌∷◌, ◌++◌, length, map, take, slice_index, Some, None, refl, sym, ap, ◌∙◌, arith, lt-ltb, length-append}
 use Rattle.std.specs.List.{onto_first}
-use Rattle.std.proofs.lemmas.Bool.{cases_lt}
 use Rattle.std.proofs.lemmas.List.{length-map, take-map}
 use Rattle.std.proofs.Math.Seq.{take-append_seam}
+use Rattle.std.proofs.lemmas.Bool.Decides.{nat_tests}
 use Rattle.const_oid.specs.Base128.{value_of}
 use Rattle.const_oid.specs.Identifier.{RootRule, most_arc}
 use Rattle.const_oid.specs.Contents.{cut, cut_behind, part_fault, first_fault, later_fault, parts_fault, arcs_from, arcs_of_octets}
 use Rattle.const_oid.specs.Tree.{parent_of}
-use Rattle.const_oid.proofs.Cutting.{cut_behind-last, cut_behind-more}
 use Rattle.const_oid.proofs.Faults.{both_none}
-use Rattle.const_oid.proofs.Subidentifiers.{arcs_from-below, arcs_from-above}
+use Rattle.const_oid.proofs.Cutting.{cut_behind-last, cut_behind-more, cut_behind-some, cut-some}
 
 -- ---- where the last part begins
 
-cut_behind-some : (x : ℕ) (parts : List (List ℕ)) → cut_behind x parts ≢ []
-cut_behind-some x parts = ⊎_elim
-    (λ (last : x < 128). rw (cut_behind-last x parts last) (λ e. cc))
-    (λ (more : 128 ≤ x). rw (cut_behind-more x parts more) (onto parts))
-    (cases_lt x 128)
-  where
-    onto : (parts : List (List ℕ)) → onto_first x parts ≢ []
-    onto [] = λ e. cc
-    onto (part ∷ parts) = λ e. cc
-
 cut_behind-push : (x : ℕ) (parts : List (List ℕ)) (last : List ℕ) → parts ≢ [] → cut_behind x (parts ++ last ∷ []) ≡ cut_behind x parts ++ last ∷ []
 cut_behind-push x [] last some = absurd (some refl)
-cut_behind-push x (part ∷ parts) last some = ⊎_elim
-    (λ (final : x < 128). rw (cut_behind-last x (part ∷ parts ++ last ∷ []) final, cut_behind-last x (part ∷ parts) final))
-    (λ (more : 128 ≤ x). rw (cut_behind-more x (part ∷ parts ++ last ∷ []) more, cut_behind-more x (part ∷ parts) more))
-    (cases_lt x 128)
+cut_behind-push x (part ∷ parts) last some = grind (arith, nat_tests)
 
 -- one part, of whose octets all but the last are 128 at least
 cut_one : (front : List ℕ) (x : ℕ) → ((k : ℕ) → k < length front → 128 ≤ slice_index front k) → cut (front ++ x ∷ []) ≡ (front ++ x ∷ []) ∷ []
-cut_one [] x more = ⊎_elim
-    (λ (last : x < 128). cut_behind-last x [] last)
-    (λ (more : 128 ≤ x). cut_behind-more x [] more)
-    (cases_lt x 128)
+cut_one [] x more = grind (arith, nat_tests)
 cut_one (y ∷ ys) x more =
     cut_behind-more y (cut (ys ++ x ∷ [])) (more 0 (omega arith))
     ∙ ap (onto_first y) (cut_one ys x (λ k l. more (suc k) (omega arith)))
@@ -79,9 +62,7 @@ cut-before_only octets front x is more = before_last octets front x 0 is (omega 
 later_fault-take : (k : ℕ) (parts : List (List ℕ)) → later_fault parts ≡ None → later_fault (take k parts) ≡ None
 later_fault-take zero parts h = refl
 later_fault-take (suc k) [] h = refl
-later_fault-take (suc k) (part ∷ parts) h =
-    let (first, later) = both_none (part_fault most_arc part) (later_fault parts) h in
-    rw first (later_fault-take k parts later)
+later_fault-take (suc k) (part ∷ parts) h = grind (arith, nat_tests, both_none (part_fault most_arc part) (later_fault parts) h, later_fault-take k parts)
 
 fault_before : (rule : RootRule) (k : ℕ) (parts : List (List ℕ)) → take k parts ≢ [] → parts_fault rule parts ≡ None → parts_fault rule (take k parts) ≡ None
 fault_before rule zero parts some h = absurd (some refl)
@@ -90,19 +71,12 @@ fault_before rule (suc k) (part ∷ parts) some h =
     let (first, later) = both_none (first_fault rule part) (later_fault parts) h in
     rw first (later_fault-take k parts later)
 
-parts_some : (octets : List ℕ) → octets ≢ [] → cut octets ≢ []
-parts_some [] some = absurd (some refl)
-parts_some (x ∷ xs) some = cut_behind-some x (cut xs)
-
 -- they have no fault
 pub none_before_last : (rule : RootRule) (octets front : List ℕ) → (let parts = cut octets in cut front ≡ take (length parts - 1) parts) → front ≢ [] → parts_fault rule (cut octets) ≡ None → parts_fault rule (cut front) ≡ None
-none_before_last rule octets front e some h = rw e (fault_before rule (length (cut octets) - 1) (cut octets) (rw e at (parts_some front some)) h)
+none_before_last rule octets front e some h = rw e (fault_before rule (length (cut octets) - 1) (cut octets) (rw e at (cut-some front some)) h)
 
 parent_of-none : (first : ℕ) → parent_of (arcs_from (first ∷ [])) ≡ None
-parent_of-none first = ⊎_elim
-    (λ (below : first < 80). rw (arcs_from-below first [] below))
-    (λ (above : 80 ≤ first). rw (arcs_from-above first [] above))
-    (cases_lt first 80)
+parent_of-none first = grind (arith, nat_tests)
 
 parent_of-some : (a b c : ℕ) (later : List ℕ) → parent_of (a ∷ b ∷ c ∷ later) ≡ Some (a ∷ b ∷ take (length later) (c ∷ later))
 parent_of-some a b c later =
@@ -110,10 +84,7 @@ parent_of-some a b c later =
     rw (lt-ltb 2 (length (a ∷ b ∷ c ∷ later)) (omega arith), e)
 
 parent_of-more : (first next : ℕ) (later : List ℕ) → parent_of (arcs_from (first ∷ next ∷ later)) ≡ Some (arcs_from (first ∷ take (length later) (next ∷ later)))
-parent_of-more first next later = ⊎_elim
-    (λ (below : first < 80). rw (arcs_from-below first (next ∷ later) below, arcs_from-below first (take (length later) (next ∷ later)) below) (parent_of-some (first / 40) (first % 40) next later))
-    (λ (above : 80 ≤ first). rw (arcs_from-above first (next ∷ later) above, arcs_from-above first (take (length later) (next ∷ later)) above) (parent_of-some 2 (first - 80) next later))
-    (cases_lt first 80)
+parent_of-more first next later = grind (arith, nat_tests, parent_of-some (first / 40) (first % 40) next later, parent_of-some 2 (first - 80) next later)
 
 parent_of-parts : (parts : List (List ℕ)) → take (length parts - 1) parts ≢ [] → parent_of (arcs_from (map value_of parts)) ≡ Some (arcs_from (map value_of (take (length parts - 1) parts)))
 parent_of-parts [] some = absurd (some refl)
@@ -125,7 +96,7 @@ parent_of-parts (part ∷ next ∷ later) some =
 -- their arcs are the parent's
 pub parent_before_last : (octets front : List ℕ) → (let parts = cut octets in cut front ≡ take (length parts - 1) parts) → front ≢ [] → parent_of (arcs_of_octets octets) ≡ Some (arcs_of_octets front)
 parent_before_last octets front e some =
-    parent_of-parts (cut octets) (rw e at (parts_some front some)) ∙ ap (λ parts. Some (arcs_from (map value_of parts))) (sym e)
+    parent_of-parts (cut octets) (rw e at (cut-some front some)) ∙ ap (λ parts. Some (arcs_from (map value_of parts))) (sym e)
 
 -- and where there are none, there is no parent
 pub no_parent : (rule : RootRule) (octets : List ℕ) → (let parts = cut octets in [] ≡ take (length parts - 1) parts) → parts_fault rule (cut octets) ≡ None → parent_of (arcs_of_octets octets) ≡ None

@@ -10,7 +10,8 @@ use Rattle.const_oid.specs.Faults.{fault_if}
 use Rattle.const_oid.specs.Items.{arc_fault}
 use Rattle.const_oid.specs.Encoder.{arcs_given, IsStarted}
 use Rattle.const_oid.proofs.Encodings.{arcs_of_encoding, encoding_back}
-use Rattle.const_oid.proofs.Children.{encoding_push, encoding_two, size_push}
+use Rattle.const_oid.proofs.Lengths.{size_push}
+use Rattle.const_oid.proofs.Children.{encoding_two, child_encoding}
 
 -- the octets in use are the encoding of the arcs given
 body_from_encoding : (rule : RootRule) (octets given : List ℕ) → IsEncoding rule given octets → IsStarted rule Body octets × (arcs_given Body octets ≡ given)
@@ -25,15 +26,15 @@ module _ (rule : RootRule) (state : State) (octets given : List ℕ) (arc : ℕ)
       subst (λ arcs. IsEncoding rule arcs octets) e (subst (λ s. IsStarted rule s octets) is started)
 
   pub later_step : (longer : List ℕ) → GoesOn arc octets longer → IsStarted rule state longer × (arcs_given state longer ≡ given ++ arc ∷ [])
-  later_step longer (group, g, on) = rw (is, on) (body_from_encoding rule (octets ++ group) (given ++ arc ∷ []) (encoding_push rule given octets arc group encoding small g))
+  later_step longer more = rw is (body_from_encoding rule longer (given ++ arc ∷ []) (child_encoding rule given octets longer arc encoding small more))
 
-  pub later_fault : (capacity : ℕ) → arc_fault rule capacity given arc ≡ fault_if (nat_lt capacity (length octets + width arc)) Length
-  later_fault capacity = by given encoding
+  pub later_arc_fault : (capacity : ℕ) → arc_fault rule capacity given arc ≡ fault_if (nat_lt capacity (length octets + width arc)) Length
+  later_arc_fault capacity = by given encoding
     where
       by : (arcs : List ℕ) → IsEncoding rule arcs octets → arc_fault rule capacity arcs arc ≡ fault_if (nat_lt capacity (length octets + width arc)) Length
       by [] e = absurd e.identifier
       by (a ∷ []) e = absurd e.identifier
-      by (a ∷ b ∷ later) e = ap (λ n. fault_if (nat_lt capacity n) Length) (size_push rule (a ∷ b ∷ later) octets arc e small)
+      by (a ∷ b ∷ later) e = ap (λ n. fault_if (nat_lt capacity n) Length) (size_push rule (a ∷ b ∷ later) octets arc e)
 
 -- ---- behind one arc
 

@@ -1,20 +1,64 @@
--- Where a sorted list of borrowed identifiers holds those that begin with one.
-use Rattle.std.proofs.Common.{◌≡◌, ℕ, ◌+◌, ◌<◌, ◌≤◌, Bool, true, false, List, length, count_by, ⊎_elim, arith, nat_cmp}
+-- Where a test cuts a sorted list, and where a sorted list holds the identifiers that begin with one.
+use Rattle.std.proofs.Common.{◌≡◌, ◌+◌, ◌<◌, ◌≤◌, ℕ, suc, Bool, true, false, cond, ◌||◌, List, [], ◌∷◌, length, get_or, count_by, refl, arith, ⊎_elim, nat_cmp}
 use Rattle.std.specs.Prelude.{◌↔◌, IfSome, slice_get}
+use Rattle.std.specs.Cmp.{IsStrictWeakOrder}
+use Rattle.std.specs.List.{prefix_len}
+use Rattle.std.specs.List.Sorted.{IsSortedBy, IsPartitionedBy, IsPartitionPoint, IsSortedByKey}
 use Rattle.std.specs.Cmp.Lexicographic.{slice_cmp}
-use Rattle.std.specs.List.Sorted.{IsSortedByKey, IsPartitionedBy, IsPartitionPoint}
+use Rattle.std.proofs.lemmas.Bool.{false_from_ne_true}
+use Rattle.std.proofs.lemmas.Grind.{common_steps}
+use Rattle.std.proofs.lemmas.List.Sorted.{sorted_far, ranks_by}
+use Rattle.std.proofs.lemmas.List.Sums.{sum_by-cons, sum_by-le, prefix_len_passes, prefix_len_stops, count_by-le-length}
 use Rattle.std.proofs.lemmas.Cmp.{nat_list_cmp_total}
-use Rattle.std.proofs.lemmas.List.Sorted.{ranks_by}
-use Rattle.std.proofs.lemmas.List.Sums.{count_by-le-length}
 use Rattle.std.proofs.lemmas.Option.{slice_get_cases}
 use Rattle.const_oid.specs.declared.oid_ref.ObjectIdentifierRef.{ObjectIdentifierRef}
 use Rattle.const_oid.specs.Identifier.{root_rule}
 use Rattle.const_oid.specs.OidRef.{ref_octets, ref_arcs}
 use Rattle.const_oid.specs.Tree.{BeginsWith}
-use Rattle.const_oid.proofs.Begins.{is_before, is_under, is_within, under_told, under_apart, before_down, within_down}
-use Rattle.const_oid.proofs.OidRef.{ref_encoding}
-use Rattle.const_oid.proofs.Points.{partitioned, point_from_count, count_by-either, between_points}
-use Rattle.const_oid.proofs.Prefix.{arcs_front, encoding_front}
+use Rattle.const_oid.proofs.Encodings.{ref_encoding}
+use Rattle.const_oid.proofs.BeginsWith.{is_before, is_under, is_within, under_told, under_apart, before_down, within_down, told_begins}
+
+-- a test that goes down the order cuts a sorted list
+partitioned : {X : Type 0} (lt : X → X → Bool) → IsStrictWeakOrder lt → (p : X → Bool) → ((x z : X) → lt z x ≡ false → p z ≡ true → p x ≡ true) → (xs : List X) → IsSortedBy lt xs → IsPartitionedBy p xs
+partitioned lt order p down xs up i j d le l = down (get_or xs i d) (get_or xs j d) (sorted_far lt order xs up i j d le l)
+
+module _ {X : Type 0} (p : X → Bool) where
+  count_by-none : (xs : List X) → ((k : ℕ) (d : X) → k < length xs → p (get_or xs k d) ≡ false) → count_by p xs ≡ 0
+  count_by-none xs none =
+      let most = sum_by-le (λ x. cond (p x) 1 0) 0 xs (λ k d l. rw (none k d l) (omega arith)) in
+      omega arith
+
+  -- where the test cuts the list, the first ones that pass are all that pass
+  count_by-prefix : (xs : List X) → IsPartitionedBy p xs → count_by p xs ≡ prefix_len p xs
+  count_by-prefix [] cut = refl
+  count_by-prefix (x ∷ xs) cut = elim (p x) as (λ b. p x ≡ b → count_by p (x ∷ xs) ≡ prefix_len p (x ∷ xs)) [
+    | true ↦ λ e. rw (sum_by-cons (λ y. cond (p y) 1 0) x xs, e) (omega (arith, count_by-prefix xs (λ i j d le l. cut (suc i) (suc j) d (omega arith) (omega arith))))
+    | false ↦ λ e. rw (sum_by-cons (λ y. cond (p y) 1 0) x xs, e) (omega (arith, count_by-none xs (λ k d l. false_from_ne_true (p (get_or xs k d)) (λ t. cc (cut 0 (suc k) d (omega arith) (omega arith) t, e)))))
+  ] refl
+
+  -- there the place of the cut is the number of those that pass
+  point_from_count : (xs : List X) → IsPartitionedBy p xs → IsPartitionPoint (λ x. p x ≡ true) (λ x. p x ≡ false) xs (count_by p xs)
+  point_from_count xs cut =
+      let e = count_by-prefix xs cut in (
+        λ k d _ m. prefix_len_passes p xs k d (omega arith),
+        λ k d m l. false_from_ne_true (p (get_or xs k d)) (λ t. cc (prefix_len_stops p xs d (omega arith), cut (prefix_len p xs) k d (omega arith) l t)),
+      )
+
+-- as many pass one of two tests that no element passes both of
+count_by-either : {X : Type 0} (p b : X → Bool) → ((x : X) → b x ≡ true → p x ≡ false) → (xs : List X) → count_by p xs + count_by b xs ≡ count_by (λ x. p x || b x) xs
+count_by-either p b apart [] = refl
+count_by-either p b apart (x ∷ xs) = grind (arith, common_steps, sum_by-cons (λ y. cond (p y) 1 0) x xs, sum_by-cons (λ y. cond (b y) 1 0) x xs, sum_by-cons (λ y. cond (p y || b y) 1 0) x xs, count_by-either p b apart xs, apart x)
+
+place : (from to k : ℕ) (p b : Bool) → (k < from → p ≡ true) → (from ≤ k → p ≡ false) → (k < to → (p || b) ≡ true) → (to ≤ k → (p || b) ≡ false) → (b ≡ true → p ≡ false) → (b ≡ true) ↔ ((from ≤ k) × (k < to))
+place from to k p b pa pb qa qb apart = (λ t. (grind (arith, common_steps), grind (arith, common_steps)), λ h. grind (arith, common_steps))
+
+-- between the cut of one test and that of either stand those that pass the other
+between_points : {X : Type 0} (p b : X → Bool) → ((x : X) → b x ≡ true → p x ≡ false) → (xs : List X) (from to : ℕ) → IsPartitionPoint (λ x. p x ≡ true) (λ x. p x ≡ false) xs from → IsPartitionPoint (λ x. (p x || b x) ≡ true) (λ x. (p x || b x) ≡ false) xs to → (k : ℕ) (d : X) → k < length xs → (b (get_or xs k d) ≡ true) ↔ ((from ≤ k) × (k < to))
+between_points p b apart xs from to first second k d l =
+    let x = get_or xs k d in
+    place from to k (p x) (b x) (λ m. first.0 k d (omega arith) m) (λ m. first.1 k d m l) (λ m. second.0 k d (omega arith) m) (λ m. second.1 k d m l) (apart x)
+
+-- ---- what stands before and under a front
 
 module _ (front : ObjectIdentifierRef) where
   abbrev pub ref_is_before : ObjectIdentifierRef → Bool
@@ -23,22 +67,19 @@ module _ (front : ObjectIdentifierRef) where
   abbrev pub ref_is_under : ObjectIdentifierRef → Bool
   ref_is_under oid = is_under (ref_octets front) (ref_octets oid)
 
-  abbrev pub ref_is_within : ObjectIdentifierRef → Bool
+  abbrev ref_is_within : ObjectIdentifierRef → Bool
   ref_is_within oid = is_within (ref_octets front) (ref_octets oid)
 
   -- beginning in octets is beginning in arcs
-  pub ref_under_told : (oid : ObjectIdentifierRef) → (ref_is_under oid ≡ true) ↔ BeginsWith (ref_arcs oid) (ref_arcs front)
+  ref_under_told : (oid : ObjectIdentifierRef) → (ref_is_under oid ≡ true) ↔ BeginsWith (ref_arcs oid) (ref_arcs front)
   ref_under_told oid =
-      let (told, given) = under_told (ref_octets front) (ref_octets oid) in (
-        λ t. arcs_front root_rule (ref_arcs front) (ref_arcs oid) (ref_octets front) (ref_octets oid) (told t).0 (ref_encoding front) (ref_encoding oid) (told t).1,
-        λ b. given (encoding_front root_rule (ref_arcs front) (ref_arcs oid) (ref_octets front) (ref_octets oid) b.0 (ref_encoding front) (ref_encoding oid) b.1),
-      )
+      told_begins root_rule (ref_arcs oid) (ref_arcs front) (ref_octets oid) (ref_octets front) (ref_is_under oid ≡ true) (ref_encoding oid) (ref_encoding front) (under_told (ref_octets front) (ref_octets oid))
 
   ref_under_apart : (oid : ObjectIdentifierRef) → ref_is_under oid ≡ true → ref_is_before oid ≡ false
   ref_under_apart oid = under_apart (ref_octets front) (ref_octets oid)
 
   -- what stands where, by the places where the two tests cut the list
-  pub places_between : (sorted : List ObjectIdentifierRef) (from to : ℕ) → IsPartitionPoint (λ oid. ref_is_before oid ≡ true) (λ oid. ref_is_before oid ≡ false) sorted from → IsPartitionPoint (λ oid. ref_is_within oid ≡ true) (λ oid. ref_is_within oid ≡ false) sorted to → (k : ℕ) → IfSome (slice_get sorted k) (λ oid. BeginsWith (ref_arcs oid) (ref_arcs front) ↔ ((from ≤ k) × (k < to)))
+  places_between : (sorted : List ObjectIdentifierRef) (from to : ℕ) → IsPartitionPoint (λ oid. ref_is_before oid ≡ true) (λ oid. ref_is_before oid ≡ false) sorted from → IsPartitionPoint (λ oid. ref_is_within oid ≡ true) (λ oid. ref_is_within oid ≡ false) sorted to → (k : ℕ) → IfSome (slice_get sorted k) (λ oid. BeginsWith (ref_arcs oid) (ref_arcs front) ↔ ((from ≤ k) × (k < to)))
   places_between sorted from to first second k = ⊎_elim
       (λ (oid, l, e, read).
       let (places, inside) = rw read at (between_points ref_is_before ref_is_under ref_under_apart sorted from to first second k oid l) in
@@ -51,10 +92,10 @@ module _ (front : ObjectIdentifierRef) where
     cut_by : (p : ObjectIdentifierRef → Bool) → ((x z : ObjectIdentifierRef) → is_before (ref_octets x) (ref_octets z) ≡ false → p z ≡ true → p x ≡ true) → IsPartitionedBy p sorted
     cut_by p down = partitioned (λ x y. is_before (ref_octets y) (ref_octets x)) (ranks_by nat_list_cmp_total ref_octets) p down sorted up
 
-    pub cut_before : IsPartitionedBy ref_is_before sorted
+    cut_before : IsPartitionedBy ref_is_before sorted
     cut_before = cut_by ref_is_before (λ x z. before_down (ref_octets front) (ref_octets x) (ref_octets z))
 
-    pub cut_within : IsPartitionedBy ref_is_within sorted
+    cut_within : IsPartitionedBy ref_is_within sorted
     cut_within = cut_by ref_is_within (λ x z. within_down (ref_octets front) (ref_octets x) (ref_octets z))
 
     -- the same by the numbers of what is before and under the front

@@ -1,17 +1,18 @@
 -- One pass over the bytes of a text, which ends at its first refusal, finds the fault of the first faulty piece.
-use Rattle.std.proofs.Common.{◌≡◌, ℕ, ◌+◌, ◌-◌, ◌*◌, ◌<◌, ◌≤◌, Bool, true, false, not, List, [], ◌∷◌, ◌++◌, length, nat_lt, ◌==◌, map, Option, Some, None, Result, Ok, Err, IfOk, is_some, unwrap_or, if◌then◌else◌, refl, sym, ap, ◌∙◌, ⊎_elim, arith, append-nil, find, count_by, take_while, leb, lt-ltb, le-ltb, eq-eqb, ne_eqb, one-add}
-use Rattle.std.proofs.lemmas.List.{take_at}
+use Rattle.std.proofs.Common.{◌≡◌, ℕ, ◌+◌, ◌-◌, ◌*◌, ◌<◌, ◌≤◌, Bool, true, false, not, List, [], ◌∷◌, ◌++◌, length, nat_lt, ◌==◌, map, Option, Some, None, Result, Ok, Err, IfOk, is_some, unwrap_or, if◌then◌else◌, refl, sym, ap, ◌∙◌, ⊎_elim, arith, append-nil, count_by, take_while, leb, lt-ltb, le-ltb, eq-eqb, ne_eqb}
 use Rattle.std.specs.List.{onto_first}
 use Rattle.std.specs.Option.{option_or}
 use Rattle.std.specs.Result.{result_err, result_map_both}
 use Rattle.std.specs.Char.{is_ascii_digit, digit_value}
 use Rattle.std.specs.Str.{all_ascii_digits}
 use Rattle.std.specs.Str.Parse.{digits_value}
+use Rattle.std.proofs.lemmas.List.{take_at}
 use Rattle.std.proofs.lemmas.Bool.{cases_lt, cases_Bool, cases_eq, leb-true, and_parts}
 use Rattle.std.proofs.lemmas.Int.Digits.{digits_value_push}
-use Rattle.std.proofs.lemmas.List.Splits.{length-slice_split}
+use Rattle.std.proofs.lemmas.List.Splits.{length-slice_split, slice_split-cons_yes, slice_split-cons_no}
 use Rattle.std.proofs.lemmas.Str.{digit_value_digit}
 use Rattle.std.proofs.lemmas.Str.Parse.{digits_value-take-le}
+use Rattle.std.proofs.lemmas.Grind.{common_steps}
 use Rattle.const_oid.specs.declared.error.Error.{Error}
 use Rattle.const_oid.specs.declared.error.Error.TheVariants.{ArcTooBig, DigitExpected, RepeatedDot, TrailingDot}
 use Rattle.const_oid.specs.Identifier.{RootRule, most_arc, IsEncoding}
@@ -20,10 +21,9 @@ use Rattle.const_oid.specs.Parser.{end_fault}
 use Rattle.const_oid.specs.Items.{arc_fault}
 use Rattle.const_oid.specs.Text.{pieces_of, number_of, is_empty, is_one_empty, empty_fault, single_fault, piece_fault, pieces_fault, text_answer}
 use Rattle.const_oid.specs.Faults.{fault_if, answer}
+use Rattle.const_oid.proofs.Lists.{append-cons, onto_all, onto_all-first, not_empty_push, onto_all-cons}
 use Rattle.const_oid.proofs.Encodings.{arcs_of_encoding}
-use Rattle.const_oid.proofs.Items.{append-cons}
-use Rattle.const_oid.proofs.Numbers.{number_of_digits, find-none}
-use Rattle.const_oid.proofs.OctetPass.{onto_all, onto_all-first, not_empty_push}
+use Rattle.const_oid.proofs.Numbers.{number_of_digits, find-none, take_while-digits, find-digits, digit-undotted}
 
 -- an answer behind a fault, if there is one
 abbrev pub behind : Option Error → Result (List ℕ) Error → Result (List ℕ) Error
@@ -40,18 +40,18 @@ text_pass rule before begun value (b ∷ bs) =
     else Err (DigitExpected b))
 
 -- the answer of pieces
-abbrev pub pieces_answer : RootRule → List ℕ → List (List ℕ) → Result (List ℕ) Error
+abbrev pieces_answer : RootRule → List ℕ → List (List ℕ) → Result (List ℕ) Error
 pieces_answer rule before pieces = answer (pieces_fault rule before pieces) (before ++ map number_of pieces)
 
 -- what a pass has read of a piece
-pub record IsRead (front : List ℕ) (begun : Bool) (value : ℕ) : Type 0 where
-  pub digits : all_ascii_digits front ≡ true
-  pub begun_is : begun ≡ not (is_empty front)
-  pub value_is : value ≡ digits_value 10 front
-  pub small : value ≤ most_arc
+record IsPieceRead (front : List ℕ) (begun : Bool) (value : ℕ) : Type 0 where
+  digits : all_ascii_digits front ≡ true
+  begun_is : begun ≡ not (is_empty front)
+  value_is : value ≡ digits_value 10 front
+  small : value ≤ most_arc
 
-pub read_none : IsRead [] false 0
-read_none = record { digits = refl; begun_is = refl; value_is = refl; small = omega arith }
+piece_read-none : IsPieceRead [] false 0
+piece_read-none = record { digits = refl; begun_is = refl; value_is = refl; small = omega arith }
 
 -- ---- digits
 
@@ -62,29 +62,19 @@ digit_is b h =
 
 digits_push : (front : List ℕ) (b : ℕ) → all_ascii_digits front ≡ true → is_ascii_digit b ≡ true → all_ascii_digits (front ++ b ∷ []) ≡ true
 digits_push [] b h d = rw d
-digits_push (y ∷ ys) b h d = let (p, q) = and_parts (is_ascii_digit y) (all_ascii_digits ys) h in rw (p, digits_push ys b q d)
+digits_push (y ∷ ys) b h d = grind (arith, common_steps, digits_push ys b)
 
 value_push : (front : List ℕ) (b : ℕ) → is_ascii_digit b ≡ true → digits_value 10 (front ++ b ∷ []) ≡ digits_value 10 front * 10 + (b - 48)
 value_push front b d = digits_value_push 10 front b ∙ ap (λ v. digits_value 10 front * 10 + v) (digit_is b d)
 
-take_while-digits : (front rest : List ℕ) → all_ascii_digits front ≡ true → take_while is_ascii_digit (front ++ rest) ≡ front ++ take_while is_ascii_digit rest
-take_while-digits [] rest h = refl
-take_while-digits (y ∷ ys) rest h =
-    let (p, q) = and_parts (is_ascii_digit y) (all_ascii_digits ys) h in
-    rw (p, one-add) (ap (λ xs. y ∷ xs) (take_while-digits ys rest q))
-
 take_while-other : (b : ℕ) (bs : List ℕ) → is_ascii_digit b ≡ false → take_while is_ascii_digit (b ∷ bs) ≡ []
 take_while-other b bs d = rw d
-
-find-digits : (front rest : List ℕ) → all_ascii_digits front ≡ true → find (λ b. not (is_ascii_digit b)) (front ++ rest) ≡ find (λ b. not (is_ascii_digit b)) rest
-find-digits [] rest h = refl
-find-digits (y ∷ ys) rest h = let (p, q) = and_parts (is_ascii_digit y) (all_ascii_digits ys) h in rw p (find-digits ys rest q)
 
 -- ---- the piece that is read
 
 -- a digit takes its number past the limit
-too_big : (rule : RootRule) (before front : List ℕ) (b : ℕ) (more : List ℕ) (after : List (List ℕ)) → all_ascii_digits front ≡ true → is_ascii_digit b ≡ true → most_arc < digits_value 10 front * 10 + (b - 48) → piece_fault rule before (front ++ b ∷ more) after ≡ Some ArcTooBig
-too_big rule before front b more after h d l = rw (lt-ltb most_arc (number_of (front ++ b ∷ more)) grown)
+piece_too_big : (rule : RootRule) (before front : List ℕ) (b : ℕ) (more : List ℕ) (after : List (List ℕ)) → all_ascii_digits front ≡ true → is_ascii_digit b ≡ true → most_arc < digits_value 10 front * 10 + (b - 48) → piece_fault rule before (front ++ b ∷ more) after ≡ Some ArcTooBig
+piece_too_big rule before front b more after h d l = rw (lt-ltb most_arc (number_of (front ++ b ∷ more)) grown)
   where
     front' : List ℕ
     front' = front ++ b ∷ []
@@ -111,21 +101,9 @@ digits_piece rule before front value after h n l = rw (n, le-ltb most_arc value 
 
 -- ---- pieces
 
-onto_all-dot : (front : List ℕ) (pieces : List (List ℕ)) → onto_all front ([] ∷ pieces) ≡ front ∷ pieces
-onto_all-dot [] pieces = refl
-onto_all-dot (y ∷ ys) pieces = ap (λ p. p ∷ pieces) (append-nil (y ∷ ys))
-
 onto_all-some : (front : List ℕ) (b : ℕ) (pieces : List (List ℕ)) → (more : List ℕ) × (after : List (List ℕ)) × (onto_all (front ++ b ∷ []) pieces ≡ (front ++ b ∷ more) ∷ after)
-onto_all-some [] b [] = ([], [], refl)
-onto_all-some [] b (p ∷ ps) = (p, ps, refl)
-onto_all-some (y ∷ ys) b [] = ([], [], refl)
-onto_all-some (y ∷ ys) b (p ∷ ps) = (p, ps, ap (λ q. q ∷ ps) (append-cons (y ∷ ys) b p))
-
-pieces_of-dot : (b : ℕ) (bs : List ℕ) → b ≡ 46 → pieces_of (b ∷ bs) ≡ [] ∷ pieces_of bs
-pieces_of-dot b bs h = rw (eq-eqb b 46 h)
-
-pieces_of-other : (b : ℕ) (bs : List ℕ) → (b ≡ 46 → ⊥) → pieces_of (b ∷ bs) ≡ onto_first b (pieces_of bs)
-pieces_of-other b bs h = rw (ne_eqb b 46 h)
+onto_all-some front b [] = ([], [], sym (onto_all-first front b []) ∙ onto_all-cons front (b ∷ []) [])
+onto_all-some front b (p ∷ ps) = (p, ps, sym (onto_all-first front b (p ∷ ps)) ∙ onto_all-cons front (b ∷ p) ps)
 
 pieces_of-some : (bs : List ℕ) → (piece : List ℕ) × (more : List (List ℕ)) × (pieces_of bs ≡ piece ∷ more)
 pieces_of-some bs = by (pieces_of bs) (length-slice_split (λ b. b == 46) bs)
@@ -140,8 +118,8 @@ one_empty-pieces [] = refl
 one_empty-pieces (b ∷ bs) =
     let (p, ps, e) = pieces_of-some bs in
     ⊎_elim
-    (λ (dot : b ≡ 46). rw (pieces_of-dot b bs dot, e))
-    (λ (other : b ≡ 46 → ⊥). rw (pieces_of-other b bs other, e) (by p ps))
+    (λ (dot : b ≡ 46). rw (slice_split-cons_yes (λ c. c == 46) b bs (eq-eqb b 46 dot), e))
+    (λ (other : b ≡ 46 → ⊥). rw (slice_split-cons_no (λ c. c == 46) b bs (ne_eqb b 46 other), e) (by p ps))
     (cases_eq b 46)
   where
     by : (p : List ℕ) (ps : List (List ℕ)) → is_one_empty (onto_first b (p ∷ ps)) ≡ false
@@ -168,7 +146,7 @@ or_none : {X : Type 0} (o : Option X) → option_or o None ≡ o
 or_none None = refl
 or_none (Some x) = refl
 
-read_number : (front : List ℕ) (begun : Bool) (value : ℕ) → IsRead front begun value → number_of front ≡ value
+read_number : (front : List ℕ) (begun : Bool) (value : ℕ) → IsPieceRead front begun value → number_of front ≡ value
 read_number front begun value s = number_of_digits front s.digits ∙ sym s.value_is
 
 behind-answer : (fault other : Option Error) (arcs : List ℕ) → behind fault (answer other arcs) ≡ answer (option_or fault other) arcs
@@ -176,14 +154,14 @@ behind-answer None other arcs = refl
 behind-answer (Some x) other arcs = refl
 
 -- at the end of the text
-end_is : (rule : RootRule) (before front : List ℕ) (begun : Bool) (value : ℕ) → IsRead front begun value → text_pass rule before begun value [] ≡ pieces_answer rule before (front ∷ [])
+end_is : (rule : RootRule) (before front : List ℕ) (begun : Bool) (value : ℕ) → IsPieceRead front begun value → text_pass rule before begun value [] ≡ pieces_answer rule before (front ∷ [])
 end_is rule before [] begun value s = rw s.begun_is
 end_is rule before (y ∷ ys) begun value s =
     let n = read_number (y ∷ ys) begun value s in
     rw (s.begun_is, digits_piece rule before (y ∷ ys) value [] s.digits n s.small, n, or_none (option_or (arc_fault rule 39 before value) (single_fault before [])))
 
 -- at a dot, where what follows is passed over as it should be
-dot_is : (rule : RootRule) (before front : List ℕ) (begun : Bool) (value : ℕ) (bs : List ℕ) → IsRead front begun value → text_pass rule (before ++ value ∷ []) false 0 bs ≡ pieces_answer rule (before ++ value ∷ []) (pieces_of bs) →
+dot_is : (rule : RootRule) (before front : List ℕ) (begun : Bool) (value : ℕ) (bs : List ℕ) → IsPieceRead front begun value → text_pass rule (before ++ value ∷ []) false 0 bs ≡ pieces_answer rule (before ++ value ∷ []) (pieces_of bs) →
     (if begun then (if is_empty bs then Err TrailingDot else behind (arc_fault rule 39 before value) (text_pass rule (before ++ value ∷ []) false 0 bs)) else Err (if is_empty before then DigitExpected 46 else RepeatedDot)) ≡ pieces_answer rule before (front ∷ pieces_of bs)
 dot_is rule before [] begun value bs s rest = rw (s.begun_is, empty-several before bs)
 dot_is rule before (y ∷ ys) begun value [] s rest =
@@ -195,20 +173,17 @@ dot_is rule before (y ∷ ys) begun value (c ∷ cs) s rest =
     rw (s.begun_is, digits_piece rule before (y ∷ ys) value ps s.digits n s.small, one_empty-pieces (c ∷ cs), single-several before (c ∷ cs), or_none (arc_fault rule 39 before value), n, rest, append-cons before value (map number_of ps))
     (behind-answer (arc_fault rule 39 before value) (pieces_fault rule (before ++ value ∷ []) ps) (before ++ value ∷ map number_of ps))
 
-digit_not_dot : (b : ℕ) → is_ascii_digit b ≡ true → b ≡ 46 → ⊥
-digit_not_dot b d e = let (low, high) = and_parts (leb 48 b) (leb b 57) d in omega (arith, leb-true 48 b low)
-
-pub text_pass_is : (bytes : List ℕ) (rule : RootRule) (before front : List ℕ) (begun : Bool) (value : ℕ) → IsRead front begun value → text_pass rule before begun value bytes ≡ pieces_answer rule before (onto_all front (pieces_of bytes))
-text_pass_is [] rule before front begun value s = rw (onto_all-dot front []) (end_is rule before front begun value s)
+text_pass_is : (bytes : List ℕ) (rule : RootRule) (before front : List ℕ) (begun : Bool) (value : ℕ) → IsPieceRead front begun value → text_pass rule before begun value bytes ≡ pieces_answer rule before (onto_all front (pieces_of bytes))
+text_pass_is [] rule before front begun value s = rw (onto_all-cons front [] [], append-nil front) (end_is rule before front begun value s)
 text_pass_is (b ∷ bs) rule before front begun value s = ⊎_elim
     (λ (d : is_ascii_digit b ≡ true).
     let value' = value * 10 + (b - 48) in
     let v : value' ≡ digits_value 10 (front ++ b ∷ []) = ap (λ w. w * 10 + (b - 48)) s.value_is ∙ sym (value_push front b d) in
     let (more, after, e) = onto_all-some front b (pieces_of bs) in
-    rw (pieces_of-other b bs (digit_not_dot b d), onto_all-first front b (pieces_of bs), d) (⊎_elim
+    rw (slice_split-cons_no (λ c. c == 46) b bs (digit-undotted b d), onto_all-first front b (pieces_of bs), d) (⊎_elim
     (λ (big : most_arc < value').
     let l : most_arc < digits_value 10 front * 10 + (b - 48) = rw s.value_is at big in
-    rw (lt-ltb most_arc value' big, e, too_big rule before front b more after s.digits d l))
+    rw (lt-ltb most_arc value' big, e, piece_too_big rule before front b more after s.digits d l))
     (λ (small : value' ≤ most_arc).
     rw (le-ltb most_arc value' small) (text_pass_is bs rule before (front ++ b ∷ []) true value' (record {
       digits = digits_push front b s.digits d;
@@ -219,16 +194,16 @@ text_pass_is (b ∷ bs) rule before front begun value s = ⊎_elim
     (cases_lt most_arc value')))
     (λ (d : is_ascii_digit b ≡ false). ⊎_elim
     (λ (dot : b ≡ 46).
-    rw (pieces_of-dot b bs dot, onto_all-dot front (pieces_of bs), d, eq-eqb b 46 dot)
-    (dot_is rule before front begun value bs s (text_pass_is bs rule (before ++ value ∷ []) [] false 0 read_none)))
+    rw (slice_split-cons_yes (λ c. c == 46) b bs (eq-eqb b 46 dot), onto_all-cons front [] (pieces_of bs), append-nil front, d, eq-eqb b 46 dot)
+    (dot_is rule before front begun value bs s (text_pass_is bs rule (before ++ value ∷ []) [] false 0 piece_read-none)))
     (λ (other : b ≡ 46 → ⊥).
     let (more, after, e) = onto_all-some front b (pieces_of bs) in
-    rw (pieces_of-other b bs other, onto_all-first front b (pieces_of bs), e, d, ne_eqb b 46 other, bad_byte rule before front b more after s.digits d (rw s.value_is at s.small)))
+    rw (slice_split-cons_no (λ c. c == 46) b bs (ne_eqb b 46 other), onto_all-first front b (pieces_of bs), e, d, ne_eqb b 46 other, bad_byte rule before front b more after s.digits d (rw s.value_is at s.small)))
     (cases_eq b 46))
     (cases_Bool (is_ascii_digit b))
 
 pub text_answer_is : (rule : RootRule) (text : List ℕ) → text_pass rule [] false 0 text ≡ text_answer rule text
-text_answer_is rule text = text_pass_is text rule [] [] false 0 read_none
+text_answer_is rule text = text_pass_is text rule [] [] false 0 piece_read-none
 
 -- ---- the end of the text
 

@@ -1,24 +1,24 @@
 -- Texts: what is printed is read back, and texts have no fault exactly where they denote arcs that fit.
-use Rattle.std.proofs.Common.{◌≡◌, ℕ, ◌<◌, ◌≤◌, false, not, List, [], ◌∷◌, ◌++◌, length, map, Option, Some, None, option_map, refl, sym, ap, ◌∙◌, ⊎_elim, arith, decimal, find, ◌==◌, append-nil, le-ltb}
-use Rattle.std.proofs.lemmas.Bool.{cases_lt}
+use Rattle.std.proofs.Common.{◌≡◌, ℕ, ◌<◌, ◌≤◌, false, not, List, [], ◌∷◌, ◌++◌, length, map, Option, Some, None, option_map, refl, sym, ap, ◌∙◌, arith, decimal, find, ◌==◌, append-nil, Bool, true, append_assoc}
 use Rattle.std.specs.List.{AllByRecursion, join_with_byte}
 use Rattle.std.specs.Char.{is_ascii_digit}
-use Rattle.std.proofs.lemmas.List.Splits.{slice_split_at, slice_split_none, length-slice_split}
-use Rattle.const_oid.specs.declared.error.Error.TheVariants.{ArcTooBig, DigitExpected}
 use Rattle.std.specs.Prelude.{Ok}
+use Rattle.std.proofs.lemmas.List.Splits.{slice_split_at, slice_split_none, length-slice_split}
+use Rattle.std.proofs.lemmas.Bool.Decides.{nat_tests}
+use Rattle.const_oid.specs.declared.error.Error.TheVariants.{ArcTooBig, DigitExpected}
 use Rattle.const_oid.specs.declared.error.Error.{Error}
 use Rattle.const_oid.specs.Faults.{answer}
 use Rattle.const_oid.specs.Identifier.{RootRule, Narrow, Wide, most_arc, most_second, IsIdentifier, size}
 use Rattle.const_oid.specs.Items.{arc_fault}
 use Rattle.const_oid.specs.Text.{text_of, pieces_of, number_of, is_empty, is_one_empty, empty_fault, single_fault, piece_fault, pieces_fault, text_fault, IsNumber, Denotes, strip_piece, strip, text_answer}
-use Rattle.const_oid.proofs.Subidentifiers.{second_low}
+use Rattle.const_oid.proofs.Lists.{append-cons, all_at}
 use Rattle.const_oid.proofs.Faults.{both_none, false_from_none, below_from_none, none_from_below}
-use Rattle.const_oid.proofs.Items.{IsBegun, begun_more, arc_none, append-cons}
+use Rattle.const_oid.proofs.Items.{IsBegun, begun_more, arc_none}
 use Rattle.const_oid.proofs.Numbers.{find-none, digits_from_find, undotted, decimal_is, number_of-decimal, decimal-number_of}
 
 -- ---- pieces joined and cut again
 
-pub pieces_of-join : (piece : List ℕ) (pieces : List (List ℕ)) → AllByRecursion IsNumber (piece ∷ pieces) → pieces_of (join_with_byte 46 (piece ∷ pieces)) ≡ piece ∷ pieces
+pieces_of-join : (piece : List ℕ) (pieces : List (List ℕ)) → AllByRecursion IsNumber (piece ∷ pieces) → pieces_of (join_with_byte 46 (piece ∷ pieces)) ≡ piece ∷ pieces
 pieces_of-join piece [] h = slice_split_none (λ b. b == 46) piece (undotted piece h.0.1)
 pieces_of-join piece (next ∷ more) h =
     slice_split_at (λ b. b == 46) piece 46 (join_with_byte 46 (next ∷ more)) (undotted piece h.0.1) refl ∙ ap (λ ps. piece ∷ ps) (pieces_of-join next more h.1)
@@ -33,12 +33,9 @@ numbers_of-decimals : (arcs : List ℕ) → AllByRecursion (λ n. n ≤ most_arc
 numbers_of-decimals [] l = refl
 numbers_of-decimals (n ∷ ns) l = let e = number_of-decimal n l.0 in let f = numbers_of-decimals ns l.1 in cc
 
-pub second_small : (rule : RootRule) (a b : ℕ) → b ≤ most_second rule a → b ≤ most_arc
+second_small : (rule : RootRule) (a b : ℕ) → b ≤ most_second rule a → b ≤ most_arc
 second_small Narrow a b h = omega arith
-second_small Wide a b h = ⊎_elim
-    (λ (low : a < 2). let l = second_low Wide a b h low in omega arith)
-    (λ (high : 2 ≤ a). rw (le-ltb a 2 high) at h)
-    (cases_lt a 2)
+second_small Wide a b h = grind (arith, nat_tests)
 
 pub arcs_small : (rule : RootRule) (arcs : List ℕ) → IsIdentifier rule arcs → AllByRecursion (λ n. n ≤ most_arc) arcs
 arcs_small rule [] i = absurd i
@@ -93,17 +90,17 @@ piece_none rule before piece after p l a s =
     rw (none_from_below most_arc (number_of piece) ArcTooBig l, find-none piece p.0.1, not_empty piece p.0.0, not_one_empty after p.1, a, s)
 
 -- what a piece without a fault is
-pub record IsSound (rule : RootRule) (before piece : List ℕ) (after : List (List ℕ)) : Type 0 where
-  pub number : IsNumber piece
-  pub small : number_of piece ≤ most_arc
-  pub arc : arc_fault rule 39 before (number_of piece) ≡ None
-  pub several : single_fault before after ≡ None
+record IsSound (rule : RootRule) (before piece : List ℕ) (after : List (List ℕ)) : Type 0 where
+  number : IsNumber piece
+  small : number_of piece ≤ most_arc
+  arc : arc_fault rule 39 before (number_of piece) ≡ None
+  several : single_fault before after ≡ None
 
 map_none : {X Y : Type 0} (f : X → Y) (x : Option X) → option_map f x ≡ None → x ≡ None
 map_none f None h = refl
 map_none f (Some x) h = cc
 
-pub piece_sound : (rule : RootRule) (before piece : List ℕ) (after : List (List ℕ)) → piece_fault rule before piece after ≡ None → IsSound rule before piece after
+piece_sound : (rule : RootRule) (before piece : List ℕ) (after : List (List ℕ)) → piece_fault rule before piece after ≡ None → IsSound rule before piece after
 piece_sound rule before piece after h =
     let (big, h1) = both_none _ _ h in
     let (digit, h2) = both_none _ _ h1 in
@@ -118,10 +115,6 @@ piece_sound rule before piece after h =
     }
 
 -- ---- whole texts
-
-pub all_at : (P : ℕ → Type 0) (before : List ℕ) (x : ℕ) (rest : List ℕ) → AllByRecursion P (before ++ x ∷ rest) → P x
-all_at P [] x rest h = h.0
-all_at P (y ∷ ys) x rest h = all_at P ys x rest h.1
 
 several_none : (rule : RootRule) (before piece : List ℕ) (after : List (List ℕ)) → IsIdentifier rule (before ++ number_of piece ∷ map number_of after) → single_fault before after ≡ None
 several_none rule [] piece [] i = absurd i
@@ -167,3 +160,30 @@ denoted_from_answer rule text arcs e = by (text_fault rule text) refl e
     by : (fault : Option Error) → text_fault rule text ≡ fault → Ok arcs ≡ answer fault (map number_of (pieces_of text)) → Denotes rule text arcs
     by None none e = let same : map number_of (pieces_of text) ≡ arcs = cc in rw same at ((denoted_from_none rule text none).0)
     by (Some fault) some e = cc
+
+-- ---- one arc printed after another
+
+-- what follows where some arcs are printed, or none
+abbrev pub text_left : Bool → List ℕ → List ℕ
+text_left true arcs = text_of arcs
+text_left false [] = []
+text_left false (arc ∷ arcs) = 46 ∷ text_of (arc ∷ arcs)
+
+text_of-first : (arc : ℕ) (arcs : List ℕ) → text_of (arc ∷ arcs) ≡ decimal arc ++ text_left false arcs
+text_of-first arc [] = sym (append-nil (decimal arc))
+text_of-first arc (next ∷ arcs) = refl
+
+-- the first arc printed
+pub printed_first : (done : List ℕ) (is_first : Bool) (arc : ℕ) (arcs all : List ℕ) → is_first ≡ true → done ++ text_left is_first (arc ∷ arcs) ≡ all → (done ++ decimal arc) ++ text_left false arcs ≡ all
+printed_first done true arc arcs all b h = append_assoc done (decimal arc) (text_left false arcs) ∙ ap (λ l. done ++ l) (sym (text_of-first arc arcs)) ∙ h
+printed_first done false arc arcs all b h = cc
+
+-- one more, behind a dot
+pub printed_next : (done : List ℕ) (is_first : Bool) (arc : ℕ) (arcs all : List ℕ) → is_first ≡ false → done ++ text_left is_first (arc ∷ arcs) ≡ all → (done ++ (46 ∷ decimal arc)) ++ text_left false arcs ≡ all
+printed_next done true arc arcs all b h = cc
+printed_next done false arc arcs all b h = append_assoc done (46 ∷ decimal arc) (text_left false arcs) ∙ ap (λ l. done ++ 46 ∷ l) (sym (text_of-first arc arcs)) ∙ h
+
+-- and none is left
+pub printed_all : (done : List ℕ) (is_first : Bool) (all : List ℕ) → done ++ text_left is_first [] ≡ all → done ≡ all
+printed_all done true all h = sym (append-nil done) ∙ h
+printed_all done false all h = sym (append-nil done) ∙ h

@@ -5,21 +5,21 @@ use Rattle.std.proofs.Math.Nat.{div-div-eq-div-mul, div-eq_of_lt}
 use Rattle.std.proofs.lemmas.List.{take_more_set, take_all, set-append_right}
 use Rattle.std.proofs.lemmas.Nat.{pow-add, and_mask, or_comm, or_shifted}
 use Rattle.const_oid.specs.Base128.{value_of, IsChained, IsGroup, width}
+use Rattle.const_oid.proofs.Lists.{all_append}
 use Rattle.const_oid.proofs.Groups.{value_below, width_is}
-use Rattle.const_oid.proofs.Items.{all_push}
 use Rattle.const_oid.proofs.OctetPass.{value_of-push}
 
 -- octets with bit 8 set
 abbrev pub AreMore : List ℕ → Type 0
 AreMore octets = AllByRecursion (λ x. (128 ≤ x) × (x < 256)) octets
 
-pub chain_push : (front : List ℕ) (x : ℕ) → AreMore front → x < 128 → IsChained (front ++ x ∷ [])
+chain_push : (front : List ℕ) (x : ℕ) → AreMore front → x < 128 → IsChained (front ++ x ∷ [])
 chain_push [] x m l = l
 chain_push (y ∷ []) x m l = (m.0.0, m.0.1, l)
 chain_push (y ∷ z ∷ ys) x m l = (m.0.0, m.0.1, chain_push (z ∷ ys) x m.1 l)
 
 -- a chain of just as many octets as its value takes is a group
-pub group_from_width : (octets : List ℕ) (n : ℕ) → IsChained octets → value_of octets ≡ n → length octets ≡ width n → IsGroup n octets
+group_from_width : (octets : List ℕ) (n : ℕ) → IsChained octets → value_of octets ≡ n → length octets ≡ width n → IsGroup n octets
 group_from_width [] n c v l = absurd c
 group_from_width (x ∷ []) n c v l = record { chained = c; shortest = λ e. omega arith; value = sym v }
 group_from_width (x ∷ y ∷ ys) n c v l = record {
@@ -42,7 +42,7 @@ pow_places (suc p) =
     ap (λ v. 2 ^ v) more ∙ pow-add 2 (7 * p) 7 ∙ ap (λ v. v * 128) (pow_places p) ∙ sym (pow-suc 128 p)
 
 -- the octet with places behind it, as it is computed
-pub octet_more : (n p : ℕ) → bit_or (bit_and (n / 2 ^ (7 * p)) 127) 128 ≡ 128 + n / 128 ^ p % 128
+octet_more : (n p : ℕ) → bit_or (bit_and (n / 2 ^ (7 * p)) 127) 128 ≡ 128 + n / 128 ^ p % 128
 octet_more n p =
     let q : ℕ = n / 2 ^ (7 * p) in
     or_comm (bit_and q 127) 128 ∙ ap (bit_or 128) (and_mask q 7) ∙ or_shifted 1 7 (q % 128) (omega arith) ∙ ap (λ v. 128 + n / v % 128) (pow_places p)
@@ -68,7 +68,7 @@ written_more n last place octets before inside w =
     let v : value_of (take place octets) ≡ n / 128 ^ behind / 128 = w.value ∙ ap (λ k. n / 128 ^ k) e ∙ q in
     let octet = 128 + n / 128 ^ behind % 128 in
     record {
-      more = rw (take_more_set octets place _ inside, octet_more n behind) (all_push (λ x. (128 ≤ x) × (x < 256)) (take place octets) octet w.more (omega arith, omega arith));
+      more = rw (take_more_set octets place _ inside, octet_more n behind) (all_append (λ x. (128 ≤ x) × (x < 256)) (take place octets) (octet ∷ []) w.more ((omega arith, omega arith), tt));
       value = rw (take_more_set octets place _ inside, octet_more n behind, f) (value_of-push (take place octets) octet ∙ omega (arith, v));
     }
 

@@ -1,8 +1,8 @@
 -- What is written of the answers.
-use Rattle.std.proofs.Common.{◌≡◌, ℕ, true, false, List, ◌++◌, refl, ap, ◌∙◌, ⊎_elim}
+use Rattle.std.proofs.Common.{◌≡◌, ℕ, List, ◌++◌, refl, ap, ◌∙◌}
 use Rattle.std.specs.Prelude.{Result, Ok, Err, OnOk, IsOk, codes}
 use Rattle.std.specs.Str.{IsUtf8, is_utf8}
-use Rattle.std.proofs.lemmas.Bool.{cases_Bool}
+use Rattle.std.proofs.lemmas.Bool.{false_from_ne_true}
 use Rattle.std.proofs.lemmas.Str.{IsUtf8-from_is_utf8, is_utf8-from_IsUtf8}
 use Rattle.std.specs.Fmt.{WritesInCalls}
 use Rattle.std.proofs.lemmas.Fmt.{contents_after_writes}
@@ -38,7 +38,4 @@ denoted_line-read show bytes text answer same utf8 e = rw (is_utf8-from_IsUtf8 b
 
 -- the line of bytes that are no text
 pub denoted_line-no_text : (show : List ℕ → List ℕ) (bytes : List ℕ) → ¬ (IsUtf8 bytes) → codes "error: not UTF-8" ≡ denoted_line show bytes
-denoted_line-no_text show bytes none = ⊎_elim
-    (λ (t : is_utf8 bytes ≡ true). absurd (none (IsUtf8-from_is_utf8 bytes t)))
-    (λ (f : is_utf8 bytes ≡ false). rw f refl)
-    (cases_Bool (is_utf8 bytes))
+denoted_line-no_text show bytes none = rw (false_from_ne_true (is_utf8 bytes) (λ t. none (IsUtf8-from_is_utf8 bytes t))) refl

@@ -42,7 +42,7 @@ lines-first text some = ⊎_elim
     (cases_lt (position_or_len (λ b. b == 10) text) (length text))
 
 -- the first answer, and those of what follows
-pub answers-first : (text : List ℕ) → text ≢ [] → answers text ≡ answer_row (first_line text) ++ answers (after_line text)
+answers-first : (text : List ℕ) → text ≢ [] → answers text ≡ answer_row (first_line text) ++ answers (after_line text)
 unfolding answers
 answers-first text some = ap (flat_map answer_row) (lines-first text some) ∙ flat_map-cons answer_row (first_line text) (lines (after_line text))
 

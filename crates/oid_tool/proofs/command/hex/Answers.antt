@@ -1,7 +1,7 @@
 use Rattle.std.proofs.Common.{ap, sym, ◌∙◌}
 use Rattle.hex.specs.Hex.{encode_lower}
 use Rattle.const_oid.specs.Identifier.{root_rule}
-use Rattle.const_oid.proofs.Whole.{encoding_of-encoded}
+use Rattle.const_oid.proofs.Encodings.{encoding_of-encoded}
 use Rattle.oid_tool.specs.Answers.{hex_line}
 use Rattle.oid_tool.proofs.Commands.{line_written, line_told, line_appended, denoted_line-read, denoted_line-no_text}
 use Rattle.oid_tool.proofs.command.hex.Goals as goal

@@ -1,6 +1,5 @@
 use Rattle.std.proofs.Common.{arith}
-use Rattle.const_oid.proofs.Cutting.{are_octets}
-use Rattle.const_oid.proofs.Octets.{octets_copied, zeros_copied}
+use Rattle.const_oid.proofs.Octets.{are_octets, octets_copied, zeros_copied}
 use Rattle.const_oid.proofs.buffer.Buffer.from_slice.Goals as goal
 
 pub invariant_of-result-clause-octets : goal.invariant_of-result-clause-octets

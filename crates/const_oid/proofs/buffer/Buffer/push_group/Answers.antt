@@ -1,6 +1,7 @@
 use Rattle.std.proofs.Common.{arith}
+use Rattle.std.proofs.lemmas.Slice.{take-put_mid}
 use Rattle.const_oid.proofs.Groups.{length_is}
-use Rattle.const_oid.proofs.Octets.{octets_from_chain, zeros_written, take_written, octets_written}
+use Rattle.const_oid.proofs.Octets.{octets_from_chain, zeros_written, octets_written}
 use Rattle.const_oid.proofs.buffer.Buffer.push_group.Goals as goal
 
 pub invariant_of-self-clause-octets : goal.invariant_of-self-clause-octets
@@ -19,4 +20,4 @@ pub returns-clause-appended : goal.returns-clause-appended
 returns-clause-appended g c =
     let group = c.write_group.new.octets in
     let l = length_is c.args.number group c.write_group.ensures in
-    (group, c.write_group.ensures, take_written c.args.self.now.used c.group_len.result c.args.self.now.bytes group (omega arith) (omega arith))
+    (group, c.write_group.ensures, take-put_mid _ _ c.args.self.now.bytes group _ (omega arith) (omega arith))

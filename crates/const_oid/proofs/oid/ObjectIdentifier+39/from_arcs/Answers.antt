@@ -2,7 +2,7 @@ use Rattle.const_oid.specs.Buffer.{octets_of}
 use Rattle.const_oid.specs.Identifier.{root_rule}
 use Rattle.const_oid.specs.Oid.{oid_arcs}
 use Rattle.const_oid.proofs.Encodings.{none_from_encoding}
-use Rattle.const_oid.proofs.Taken.{takes_all, takes_few, takes_front, handed_on}
+use Rattle.const_oid.proofs.Items.{takes_all, takes_few, takes_front, handed_on}
 use Rattle.const_oid.proofs.oid.ObjectIdentifier+39.from_arcs.Goals as goal
 
 pub invariant_of-result : goal.invariant_of-result

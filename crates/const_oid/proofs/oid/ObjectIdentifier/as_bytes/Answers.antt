@@ -1,4 +1,4 @@
-use Rattle.const_oid.proofs.Owned.{oid_encoding}
+use Rattle.const_oid.proofs.Encodings.{oid_encoding}
 use Rattle.const_oid.proofs.oid.ObjectIdentifier.as_bytes.Goals as goal
 
 pub returns-clause-encoding : goal.returns-clause-encoding

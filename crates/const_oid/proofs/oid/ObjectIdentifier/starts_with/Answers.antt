@@ -2,7 +2,7 @@ use Rattle.std.proofs.lemmas.Bool.Decides.{Decides-eqb}
 use Rattle.std.proofs.lemmas.Slice.Eq.{starts_is}
 use Rattle.std.specs.Prelude.{IsTrue}
 use Rattle.const_oid.specs.Identifier.{root_rule}
-use Rattle.const_oid.proofs.Told.{told_begins}
+use Rattle.const_oid.proofs.BeginsWith.{told_begins}
 use Rattle.const_oid.proofs.oid.ObjectIdentifier.starts_with.Goals as goal
 
 pub returns : goal.returns

@@ -1,7 +1,7 @@
 use Rattle.std.proofs.Common.{◌≡◌, rules}
 use Rattle.std.specs.Prelude.{◌↔◌, IsTrue}
 use Rattle.const_oid.specs.Identifier.{root_rule}
-use Rattle.const_oid.proofs.Told.{told_arcs}
+use Rattle.const_oid.proofs.Encodings.{told_arcs}
 use Rattle.const_oid.proofs.oid.ObjectIdentifierPartialEq.eq.Goals as goal
 
 pub returns-clause-arcs : goal.returns-clause-arcs

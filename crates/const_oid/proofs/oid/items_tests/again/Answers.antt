@@ -6,8 +6,8 @@ use Rattle.const_oid.specs.Identifier.{root_rule}
 use Rattle.const_oid.specs.Items.{item_fault, item_answer}
 use Rattle.const_oid.specs.Oid.{oid_octets, oid_arcs}
 use Rattle.const_oid.proofs.Items.{item_fault-none}
-use Rattle.const_oid.proofs.Owned.{oid_encoding}
-use Rattle.const_oid.proofs.Whole.{length_is_size}
+use Rattle.const_oid.proofs.Encodings.{oid_encoding}
+use Rattle.const_oid.proofs.Lengths.{length_is_size}
 use Rattle.const_oid.proofs.oid.items_tests.again.Goals as goal
 
 no_fault : (oid : ObjectIdentifier 39) → item_fault root_rule (oid_arcs oid) ≡ None

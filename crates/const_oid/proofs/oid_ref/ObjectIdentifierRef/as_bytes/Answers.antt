@@ -1,4 +1,4 @@
-use Rattle.const_oid.proofs.OidRef.{ref_encoding}
+use Rattle.const_oid.proofs.Encodings.{ref_encoding}
 use Rattle.const_oid.proofs.oid_ref.ObjectIdentifierRef.as_bytes.Goals as goal
 
 pub returns-clause-encoding : goal.returns-clause-encoding

@@ -1,5 +1,5 @@
 use Rattle.std.proofs.Common.{inl, arith, ap, length}
-use Rattle.const_oid.proofs.PartsFault.{length-arcs_of_octets}
+use Rattle.const_oid.proofs.Lengths.{length-arcs_of_octets}
 use Rattle.const_oid.proofs.oid_ref.ObjectIdentifierRef.len.Goals as goal
 
 pub count-requires-clause-fits : goal.count-requires-clause-fits

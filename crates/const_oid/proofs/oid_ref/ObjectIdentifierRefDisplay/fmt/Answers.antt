@@ -1,7 +1,7 @@
 use Rattle.std.proofs.Common.{[], ◌∷◌, ◌++◌, ◌∙◌, ap, decimal, rules}
 use Rattle.std.proofs.Output.{has_written_append, has_written_of_eq}
 use Rattle.const_oid.specs.Text.{text_of}
-use Rattle.const_oid.proofs.Printed.{printed_first, printed_next, printed_all}
+use Rattle.const_oid.proofs.Texts.{printed_first, printed_next, printed_all}
 use Rattle.const_oid.proofs.oid_ref.ObjectIdentifierRefDisplay.fmt.Goals as goal
 
 pub loop-arc-init : goal.loop-arc-init

@@ -2,7 +2,7 @@ use Rattle.std.proofs.Common.{◌≡◌, ℕ, List, ◌++◌}
 use Rattle.std.specs.Fmt.{HasWritten, IsPlainFormatter}
 use Rattle.const_oid.specs.OidRef.{ref_arcs}
 use Rattle.const_oid.specs.Text.{text_of}
-use Rattle.const_oid.proofs.Printed.{text_left}
+use Rattle.const_oid.proofs.Texts.{text_left}
 use Rattle.const_oid.proofs.oid_ref.ObjectIdentifierRefDisplay.fmt.Given as goal
 
 -- what is written, and the text of the arcs left, are the text of all

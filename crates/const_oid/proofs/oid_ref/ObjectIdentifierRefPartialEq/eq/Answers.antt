@@ -2,8 +2,7 @@ use Rattle.std.proofs.Common.{◌≡◌, rules}
 use Rattle.std.specs.Prelude.{◌↔◌, IsTrue}
 use Rattle.const_oid.specs.Identifier.{root_rule}
 use Rattle.const_oid.specs.OidRef.{ref_octets, ref_arcs}
-use Rattle.const_oid.proofs.OidRef.{ref_encoding}
-use Rattle.const_oid.proofs.Told.{told_arcs}
+use Rattle.const_oid.proofs.Encodings.{ref_encoding, told_arcs}
 use Rattle.const_oid.proofs.oid_ref.ObjectIdentifierRefPartialEq.eq.Goals as goal
 
 pub returns-clause-arcs : goal.returns-clause-arcs

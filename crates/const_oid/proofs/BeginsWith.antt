@@ -1,0 +1,160 @@
+-- What begins with a front: encodings do exactly where their arcs do, and stand together in list order.
+use Rattle.std.proofs.Common.{◌≡◌, ℕ, ◌+◌, ◌*◌, List, [], ◌∷◌, ◌++◌, refl, sym, ap, ap₂, ◌∙◌, append_assoc, ◌≢◌, ◌<◌, length, ⊎_elim, arith, Less, Greater, nat_cmp, append-nil, length-append, Bool, true, false, ◌||◌, drop, nat_eq}
+use Rattle.std.specs.List.{AllZip, concat, starts_with}
+use Rattle.std.specs.Prelude.{◌↔◌}
+use Rattle.std.specs.Cmp.Lexicographic.{slice_cmp}
+use Rattle.std.specs.Cmp.{unsigned_Decides, ranks}
+use Rattle.std.specs.Ordering.{is_lt, ordering_reverse}
+use Rattle.std.proofs.lemmas.Bool.{cases_Bool, or_cases, or_left, or_right, true_from_ne_false}
+use Rattle.std.proofs.lemmas.Cmp.{nat_list_cmp_total, by_ranked}
+use Rattle.std.proofs.lemmas.List.Sorted.{ranks_by}
+use Rattle.std.proofs.lemmas.Slice.Eq.{starts_is}
+use Rattle.const_oid.specs.Base128.{value_of, IsChained, IsGroup}
+use Rattle.const_oid.specs.Identifier.{RootRule, IsEncoding, subidentifiers}
+use Rattle.const_oid.specs.Contents.{arcs_from}
+use Rattle.const_oid.specs.Tree.{BeginsWith}
+use Rattle.const_oid.specs.Orders.{short_cmp}
+use Rattle.const_oid.proofs.Groups.{same_front, same_group}
+use Rattle.const_oid.proofs.Subidentifiers.{arcs_back, arcs_from-append}
+use Rattle.const_oid.proofs.Encodings.{same_arcs}
+use Rattle.const_oid.proofs.Orders.{short_cmp-less, slice_cmp-front}
+
+chain_not_empty : (g x : List ℕ) → IsChained g → [] ≡ g ++ x → ⊥
+chain_not_empty [] x c e = c
+chain_not_empty (a ∷ g) x c e = cc
+
+-- numbers whose groups begin others
+numbers_front : (ns ms : List ℕ) (gs hs : List (List ℕ)) (rest : List ℕ) → AllZip IsGroup ns gs → AllZip IsGroup ms hs → concat hs ≡ concat gs ++ rest → (more : List ℕ) × (ms ≡ ns ++ more)
+numbers_front [] ms [] hs rest p q e = (ms, refl)
+numbers_front [] ms (g ∷ gs) hs rest p q e = absurd p
+numbers_front (n ∷ ns) ms [] hs rest p q e = absurd p
+numbers_front (n ∷ ns) [] (g ∷ gs) [] rest p q e = absurd (chain_not_empty g (concat gs ++ rest) p.0.chained (e ∙ append_assoc g (concat gs) rest))
+numbers_front (n ∷ ns) [] (g ∷ gs) (h ∷ hs) rest p q e = absurd q
+numbers_front (n ∷ ns) (m ∷ ms) (g ∷ gs) [] rest p q e = absurd q
+numbers_front (n ∷ ns) (m ∷ ms) (g ∷ gs) (h ∷ hs) rest p q e =
+    let (same, others) = same_front h g (concat hs) (concat gs ++ rest) q.0.chained p.0.chained (e ∙ append_assoc g (concat gs) rest) in
+    let (more, f) = numbers_front ns ms gs hs rest p.1 q.1 others in
+    let s : m ≡ n = q.0.value ∙ ap value_of same ∙ sym p.0.value in
+    (more, cc)
+
+-- groups of numbers that begin others
+octets_front : (ns more : List ℕ) (gs hs : List (List ℕ)) → AllZip IsGroup ns gs → AllZip IsGroup (ns ++ more) hs → (rest : List ℕ) × (concat hs ≡ concat gs ++ rest)
+octets_front [] more [] hs p q = (concat hs, refl)
+octets_front [] more (g ∷ gs) hs p q = absurd p
+octets_front (n ∷ ns) more [] hs p q = absurd p
+octets_front (n ∷ ns) more (g ∷ gs) [] p q = absurd q
+octets_front (n ∷ ns) more (g ∷ gs) (h ∷ hs) p q =
+    let (rest, e) = octets_front ns more gs hs p.1 q.1 in
+    (rest, ap₂ (λ x y. x ++ y) (same_group n h g q.0 p.0) e ∙ sym (append_assoc g (concat gs) rest))
+
+-- the arcs of p begin those of x
+pub arcs_front : (rule : RootRule) (p x a b : List ℕ) → IsEncoding rule p a → IsEncoding rule x b → BeginsWith b a → BeginsWith x p
+arcs_front rule [] x a b e f s = absurd e.identifier
+arcs_front rule (c ∷ []) x a b e f s = absurd e.identifier
+arcs_front rule (c ∷ d ∷ later) x a b e f (rest, s) =
+    let p = c ∷ d ∷ later in
+    let (more, t) = numbers_front (subidentifiers p) (subidentifiers x) e.groups f.groups rest e.each f.each (sym f.joined ∙ s ∙ ap (λ y. y ++ rest) e.joined) in
+    (more, sym (arcs_back rule x f.identifier) ∙ ap arcs_from t ∙ arcs_from-append (40 * c + d) later more ∙ ap (λ y. y ++ more) (arcs_back rule p e.identifier))
+
+-- the octets of p begin those of x
+pub encoding_front : (rule : RootRule) (p x a b : List ℕ) → IsEncoding rule p a → IsEncoding rule x b → BeginsWith x p → BeginsWith b a
+encoding_front rule [] x a b e f s = absurd e.identifier
+encoding_front rule (c ∷ []) x a b e f s = absurd e.identifier
+encoding_front rule (c ∷ d ∷ later) x a b e f (more, s) =
+    let p = c ∷ d ∷ later in
+    let (rest, t) = octets_front (subidentifiers p) more e.groups f.groups e.each (rw (ap subidentifiers s) at f.each) in
+    (rest, f.joined ∙ t ∙ ap (λ y. y ++ rest) (sym e.joined))
+
+-- what tells whether an encoding begins another tells it of their arcs
+pub told_begins : (rule : RootRule) (x p b a : List ℕ) (P : Type 0) → IsEncoding rule x b → IsEncoding rule p a → P ↔ BeginsWith b a → P ↔ BeginsWith x p
+told_begins rule x p b a P f e told =
+    (λ t. arcs_front rule p x a b e f (told.0 t), λ h. told.1 (encoding_front rule p x a b e f h))
+
+-- ---- ranges in list order
+
+-- what stands between two lists that begin with the front begins with it too
+between : (front x y z : List ℕ) → slice_cmp nat_cmp y (front ++ x) ≢ Less → slice_cmp nat_cmp y (front ++ z) ≢ Greater → BeginsWith y front
+between [] x y z h k = (y, refl)
+between (b ∷ front) x [] z h k = absurd (h refl)
+between (b ∷ front) x (d ∷ y) z h k = by_ranked _ _ _ (nat_cmp d b) (ranks d b)
+    (λ is l. absurd (h (rw is refl)))
+    (λ is same. let (rest, e) = between front x y z (λ l. h (rw is l)) (λ g. k (rw is g)) in (rest, cc))
+    (λ is g. absurd (k (rw is refl)))
+
+-- the same of identifiers
+pub encodings_between : (rule : RootRule) (p x y z a b c d : List ℕ) → IsEncoding rule p a → IsEncoding rule x b → IsEncoding rule y c → IsEncoding rule z d → BeginsWith x p → BeginsWith z p → slice_cmp nat_cmp c b ≢ Less → slice_cmp nat_cmp c d ≢ Greater → BeginsWith y p
+encodings_between rule p x y z a b c d ep ex ey ez bx bz h k =
+    let (xs, e) = encoding_front rule p x a b ep ex bx in
+    let (zs, f) = encoding_front rule p z a d ep ez bz in
+    arcs_front rule p y a c ep ey (between a xs c zs (rw e at h) (rw f at k))
+
+-- a descendant's encoding is longer
+longer : (rule : RootRule) (p x a b : List ℕ) → IsEncoding rule p a → IsEncoding rule x b → BeginsWith x p → length p < length x → (rest : List ℕ) × (b ≡ a ++ rest) × (0 < length rest)
+longer rule p x a b ep ex bx l = let (rest, e) = encoding_front rule p x a b ep ex bx in by rest e
+  where
+    by : (rest : List ℕ) → b ≡ a ++ rest → (rest : List ℕ) × (b ≡ a ++ rest) × (0 < length rest)
+    by [] e = let s = same_arcs rule p x b (rw (e ∙ append-nil a) ep) ex in absurd (omega (arith, ap length s))
+    by (y ∷ ys) e = (y ∷ ys, e, omega arith)
+
+-- an ancestor comes before its descendants, in both orders
+pub ancestor_short : (rule : RootRule) (p x a b : List ℕ) → IsEncoding rule p a → IsEncoding rule x b → BeginsWith x p → length p < length x → short_cmp a b ≡ Less
+ancestor_short rule p x a b ep ex bx l =
+    let (rest, e, some) = longer rule p x a b ep ex bx l in
+    short_cmp-less a b (omega (arith, ap length e, length-append a rest))
+
+before_more : (a rest : List ℕ) → 0 < length rest → slice_cmp nat_cmp a (a ++ rest) ≡ Less
+before_more a [] some = absurd (omega arith)
+before_more a (y ∷ ys) some = rw append-nil at (slice_cmp-front a [] (y ∷ ys))
+
+pub ancestor_before : (rule : RootRule) (p x a b : List ℕ) → IsEncoding rule p a → IsEncoding rule x b → BeginsWith x p → length p < length x → slice_cmp nat_cmp a b ≡ Less
+ancestor_before rule p x a b ep ex bx l =
+    let (rest, e, some) = longer rule p x a b ep ex bx l in
+    rw e (before_more a rest some)
+
+-- ---- by tests
+
+abbrev pub is_before : List ℕ → List ℕ → Bool
+is_before front list = is_lt (slice_cmp nat_cmp list front)
+
+abbrev pub is_under : List ℕ → List ℕ → Bool
+is_under front list = starts_with nat_eq list front
+
+abbrev pub is_within : List ℕ → List ℕ → Bool
+is_within front list = is_before front list || is_under front list
+
+pub under_told : (front list : List ℕ) → (is_under front list ≡ true) ↔ BeginsWith list front
+under_told front list =
+    let (rest, given) = starts_is unsigned_Decides list front (is_under front list) refl in
+    (λ t. (drop (length front) list, rest t), λ b. given b.0 b.1)
+
+not_before_nil : (list : List ℕ) → is_before [] list ≡ false
+not_before_nil [] = refl
+not_before_nil (x ∷ xs) = refl
+
+-- what begins with the front is not before it
+pub under_apart : (front list : List ℕ) → is_under front list ≡ true → is_before front list ≡ false
+under_apart front list t =
+    let (rest, e) = (under_told front list).0 t in
+    let compared = rw append-nil at (slice_cmp-front front rest []) in
+    rw e (ap is_lt compared ∙ not_before_nil rest)
+
+-- what is not after a list before the front is before it
+pub before_down : (front x z : List ℕ) → is_before x z ≡ false → is_before front z ≡ true → is_before front x ≡ true
+before_down front x z level t =
+    true_from_ne_false (is_before front x) (λ f. cc (t, (ranks_by nat_list_cmp_total (λ (list : List ℕ). list)).chain z x front level f))
+
+not_greater : (x z : List ℕ) → is_before x z ≡ false → slice_cmp nat_cmp x z ≢ Greater
+not_greater x z level greater = cc (level, ap is_lt (nat_list_cmp_total.antisymm z x ∙ ap ordering_reverse greater))
+
+-- what is not after a list that is before the front or begins with it is so too
+pub within_down : (front x z : List ℕ) → is_before x z ≡ false → is_within front z ≡ true → is_within front x ≡ true
+within_down front x z level t = ⊎_elim
+    (λ (early : is_before front z ≡ true). or_left _ _ (before_down front x z level early))
+    (λ (under : is_under front z ≡ true). ⊎_elim
+    (λ (early : is_before front x ≡ true). or_left _ _ early)
+    (λ (late : is_before front x ≡ false).
+    let (rest, e) = (under_told front z).0 under in
+    let b = between front [] x rest (rw append-nil (λ less. cc (late, ap is_lt less))) (rw (← e) (not_greater x z level)) in
+    or_right _ _ ((under_told front x).1 b))
+    (cases_Bool (is_before front x)))
+    (or_cases (is_before front z) (is_under front z) t)

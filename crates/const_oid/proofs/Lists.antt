@@ -1,0 +1,37 @@
+-- Lists put together, and put before the first of some lists.
+use Rattle.std.proofs.Common.{◌≡◌, ℕ, List, [], ◌∷◌, ◌++◌, append_assoc, true, not, refl, sym, ap}
+use Rattle.std.specs.List.{AllByRecursion, onto_first}
+use Rattle.const_oid.specs.Text.{is_empty}
+
+pub append-cons : (before : List ℕ) (x : ℕ) (xs : List ℕ) → (before ++ x ∷ []) ++ xs ≡ before ++ x ∷ xs
+append-cons before x xs = append_assoc before (x ∷ []) xs
+
+-- what holds of the elements of both holds of those of the joined list
+pub all_append : (P : ℕ → Type 0) (xs ys : List ℕ) → AllByRecursion P xs → AllByRecursion P ys → AllByRecursion P (xs ++ ys)
+all_append P [] ys p q = q
+all_append P (x ∷ xs) ys p q = (p.0, all_append P xs ys p.1 q)
+
+pub all_at : (P : ℕ → Type 0) (before : List ℕ) (x : ℕ) (rest : List ℕ) → AllByRecursion P (before ++ x ∷ rest) → P x
+all_at P [] x rest h = h.0
+all_at P (y ∷ ys) x rest h = all_at P ys x rest h.1
+
+pub not_empty_push : (front : List ℕ) (x : ℕ) → true ≡ not (is_empty (front ++ x ∷ []))
+not_empty_push [] x = refl
+not_empty_push (y ∷ ys) x = refl
+
+-- ---- a list put before the first
+
+abbrev pub onto_all : List ℕ → List (List ℕ) → List (List ℕ)
+onto_all [] parts = parts
+onto_all (y ∷ ys) [] = (y ∷ ys) ∷ []
+onto_all (y ∷ ys) (part ∷ parts) = ((y ∷ ys) ++ part) ∷ parts
+
+pub onto_all-first : (front : List ℕ) (x : ℕ) (parts : List (List ℕ)) → onto_all front (onto_first x parts) ≡ onto_all (front ++ x ∷ []) parts
+onto_all-first [] x [] = refl
+onto_all-first [] x (part ∷ parts) = refl
+onto_all-first (y ∷ ys) x [] = refl
+onto_all-first (y ∷ ys) x (part ∷ parts) = ap (λ p. p ∷ parts) (sym (append_assoc (y ∷ ys) (x ∷ []) part))
+
+pub onto_all-cons : (front part : List ℕ) (parts : List (List ℕ)) → onto_all front (part ∷ parts) ≡ (front ++ part) ∷ parts
+onto_all-cons [] part parts = refl
+onto_all-cons (y ∷ ys) part parts = refl
