@@ -235,7 +235,7 @@ fn without_last_part(octets: &[u8]) -> &[u8]
 }
 
 impl<const MAX_SIZE: usize> fmt::Display for ObjectIdentifier<MAX_SIZE> {
-    ghost use Rattle.const_oid.specs.Oid.{oid_arcs, oid_answer};
+    ghost use Rattle.const_oid.specs.Oid.{oid_arcs};
 
     ghost output = { λ oid. Some (text_of (oid_arcs oid)) };
 
@@ -254,7 +254,7 @@ impl<const MAX_SIZE: usize> PartialEq for ObjectIdentifier<MAX_SIZE> {
     ghost use Rattle.std.specs.Prelude.{◌↔◌, IsTrue, nat_eq};
     ghost use Rattle.std.specs.Cmp.{on_per, partial_equiv_from_equiv};
     ghost use Rattle.std.specs.Cmp.Lexicographic.{pointwise, nat_list_eq_equiv};
-    ghost use Rattle.const_oid.specs.Oid.{oid_octets, oid_arcs, oid_answer};
+    ghost use Rattle.const_oid.specs.Oid.{oid_octets, oid_arcs};
 
     ghost eq = { λ a b. pointwise nat_eq (oid_octets a) (oid_octets b) };
 

@@ -12,10 +12,9 @@ use std::process::ExitCode;
 fn main(rt: HostRuntime) -> ExitCode {
     let mut input = rt.stdin();
     let mut output = rt.stdout();
-    let told = match run(&mut input, &mut output) {
-        Ok(()) => output.flush().map_err(|_| ToolError::Write),
-        failed => failed,
-    };
+    let told = run(&mut input, &mut output).and_then(|()| output
+        .flush()
+        .map_err(|_| ToolError::Write));
     if let Err(error) = told {
         let _ = eprintln!(rt; "oid_tool: {error}");
         return ExitCode::FAILURE;
