@@ -22,3 +22,4 @@ pub mod Parents
 pub mod Subtree
 pub mod Overflow
 pub mod Tree
+pub mod Names

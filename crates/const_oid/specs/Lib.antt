@@ -11,5 +11,6 @@ pub mod Arcs
 pub mod OidRef
 pub mod Buffer
 pub mod Oid
+pub mod Names
 pub mod Encoder
 pub mod Parser

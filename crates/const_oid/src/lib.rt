@@ -3,12 +3,14 @@
 
 pub mod arcs;
 pub mod buffer;
+pub mod db;
 mod encoder;
 pub mod error;
 pub mod laws;
 pub mod oid;
 pub mod oid_ref;
 mod parser;
+pub mod traits;
 #[cfg(test)]
 mod vectors;
 
@@ -17,3 +19,4 @@ pub use buffer::Buffer;
 pub use error::{Error, Result};
 pub use oid::ObjectIdentifier;
 pub use oid_ref::ObjectIdentifierRef;
+pub use traits::{AssociatedOid, DynAssociatedOid};

@@ -7,7 +7,7 @@ use Rattle.std.proofs.lemmas.List.{take_all, drop_all, length-append, length-dro
 use Rattle.std.proofs.lemmas.List.Concat.{flat_map-cons}
 use Rattle.std.proofs.lemmas.List.Splits.{slice_split_first, slice_split_none, length-slice_split}
 use Rattle.std.proofs.lemmas.List.Sums.{fails_before_first}
-use Rattle.oid_tool.specs.Answers.{without_empty_last, lines, answer_row, answers}
+use Rattle.oid_tool.specs.Answers.{Row, without_empty_last, lines, answer_row, answers}
 
 -- what stands before the first newline, and what follows it
 abbrev first_line : List ℕ → List ℕ
@@ -42,21 +42,21 @@ lines-first text some = ⊎_elim
     (cases_lt (position_or_len (λ b. b == 10) text) (length text))
 
 -- the first answer, and those of what follows
-answers-first : (text : List ℕ) → text ≢ [] → answers text ≡ answer_row (first_line text) ++ answers (after_line text)
+answers-first : (table : List Row) (text : List ℕ) → text ≢ [] → answers table text ≡ answer_row table (first_line text) ++ answers table (after_line text)
 unfolding answers
-answers-first text some = ap (flat_map answer_row) (lines-first text some) ∙ flat_map-cons answer_row (first_line text) (lines (after_line text))
+answers-first table text some = ap (flat_map (answer_row table)) (lines-first text some) ∙ flat_map-cons (answer_row table) (first_line text) (lines (after_line text))
 
-pub answers-nil : answers [] ≡ []
+pub answers-nil : (table : List Row) → answers table [] ≡ []
 unfolding answers
-answers-nil = refl
+answers-nil table = refl
 
 -- some line is answered
-pub answers_not_empty : (text : List ℕ) → text ≢ [] → answers text ≢ []
-answers_not_empty text some none = let e = ap length (sym (answers-first text some) ∙ none) in omega (arith, simp length-append at e)
+pub answers_not_empty : (table : List Row) (text : List ℕ) → text ≢ [] → answers table text ≢ []
+answers_not_empty table text some none = let e = ap length (sym (answers-first table text some) ∙ none) in omega (arith, simp length-append at e)
 
 -- the answer to the first line, and those to what follows
-pub answers-next : (text line after row : List ℕ) → text ≢ [] → line ≡ first_line text → after ≡ after_line text → row ≡ answer_row line → answers text ≡ row ++ answers after
-answers-next text line after row some front back e = rw (e, front, back) (answers-first text some)
+pub answers-next : (table : List Row) (text line after row : List ℕ) → text ≢ [] → line ≡ first_line text → after ≡ after_line text → row ≡ answer_row table line → answers table text ≡ row ++ answers table after
+answers-next table text line after row some front back e = rw (e, front, back) (answers-first table text some)
 
 pub length-after_line : (text : List ℕ) → length (after_line text) ≤ length text
 length-after_line text = omega (arith, length-drop (position_or_len (λ b. b == 10) text + 1) text)

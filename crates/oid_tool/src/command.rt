@@ -2,9 +2,10 @@
 ghost use Rattle.std.specs.Prelude.{◌≡◌, ◌*◌, ◌≤◌, ◌==◌, ◌++◌, length, take, position, OnOk, IfSome, IsErr, MatchOption, Ok};
 ghost use Rattle.std.specs.List.{before_first, after_first};
 ghost use Rattle.hex.specs.Hex.{decode_of, encode_lower};
-ghost use Rattle.oid_tool.specs.Answers.{answer_line, text_line, hex_line, parent_line};
+ghost use Rattle.oid_tool.specs.Answers.{answer_line, text_line, hex_line, parent_line, name_line, rows_of};
 
 use crate::line::Line;
+use const_oid::db::Database;
 use const_oid::{ObjectIdentifier, ObjectIdentifierRef};
 use std::fmt::Write;
 use std::{fmt, str};
@@ -12,11 +13,11 @@ use std::{fmt, str};
 /// How many bytes the input may have, and so a line of it.
 pub const MAX_INPUT: usize = 4096;
 
-/// Appends the answer to a line.
+/// Appends the answer to a line, with the names of a table.
 #[tactic(auto, unfolding(crate::specs::Answers::answer_line))]
-pub fn answer(line: &[u8], out: &mut Line) -> fmt::Result
+pub fn answer(line: &[u8], names: Database<'_>, out: &mut Line) -> fmt::Result
     requires { length line.now ≤ MAX_INPUT }
-    ensures { OnOk result (out.new ≡ out.old ++ answer_line line.now) }
+    ensures { OnOk result (out.new ≡ out.old ++ answer_line (rows_of names.entry) line.now) }
 {
     let (command, argument) = cut(b' ', line);
     if command == b"text".as_slice() {
@@ -25,6 +26,8 @@ pub fn answer(line: &[u8], out: &mut Line) -> fmt::Result
         hex(argument, out)
     } else if command == b"parent".as_slice() {
         parent(argument, out)
+    } else if command == b"name".as_slice() {
+        name(argument, names, out)
     } else {
         out.write_str("error: unknown command")
     }
@@ -71,6 +74,19 @@ fn parent(text: &[u8], out: &mut Line) -> fmt::Result
             Some(parent) => write!(out, "{parent}"),
             None => out.write_str("none"),
         },
+        Err(fault) => write!(out, "error: {fault}"),
+    }
+}
+
+/// `name T`: the name of the identifier that the text T denotes, or T itself where it has none.
+fn name(text: &[u8], names: Database<'_>, out: &mut Line) -> fmt::Result
+    ensures { OnOk result (out.new ≡ out.old ++ name_line (rows_of names.entry) text.now) }
+{
+    let Ok(text) = str::from_utf8(text) else {
+        return out.write_str("error: not UTF-8");
+    };
+    match names.resolve(text) {
+        Ok(name) => out.write_str(name),
         Err(fault) => write!(out, "error: {fault}"),
     }
 }

@@ -1,11 +1,13 @@
 //! The whole input read, and then the answers to its lines written.
 ghost use Rattle.std.specs.Prelude.{◌≡◌, ◌+◌, ◌≤◌, ◌⊎◌, length, take, IsOk, OnOk, OnErr, IfOk, IfErr, IfSome, Some};
 ghost use Rattle.std.specs.Io.KnownBytes.{Appends, Consumes, IsAtEnd};
-ghost use Rattle.oid_tool.specs.Answers.{answers, answer_row};
+ghost use Rattle.oid_tool.specs.Answers.{answers, answer_row, known_names, rows_of};
 ghost use Rattle.oid_tool.specs.Output.{AppendsFront, ConsumesNumber};
 
 use crate::command::{MAX_INPUT, answer, cut};
 use crate::line::Line;
+use const_oid::ObjectIdentifier;
+use const_oid::db::Database;
 use std::fmt;
 use std::fmt::Write as _;
 use std::io::{Read, Write};
@@ -43,9 +45,9 @@ impl fmt::Display for ToolError {
 /// output is not flushed, and no memory is taken.
 pub fn run<R: Read, W: Write>(input: &mut R, output: &mut W) -> Result<(), ToolError>
     ensures ok { OnOk result (IfSome (R.remaining input.old)
-        (λ text. Appends (W.contents output.old) (W.contents output.new) (answers text))) }
+        (λ text. Appends (W.contents output.old) (W.contents output.new) (answers known_names text))) }
     ensures write { result ≡ Err ToolError.Write → IfSome (R.remaining input.old)
-        (λ text. AppendsFront (W.contents output.old) (W.contents output.new) (answers text)) }
+        (λ text. AppendsFront (W.contents output.old) (W.contents output.new) (answers known_names text)) }
     ensures untouched { (result ≡ Err ToolError.Read) ⊎ (result ≡ Err ToolError.TooLong) → output.new ≡ output.old }
     ensures ended { IsOk result ⊎ (result ≡ Err ToolError.Write) → IsAtEnd (R.remaining input.new) }
     ensures whole { IsOk result ⊎ (result ≡ Err ToolError.Write) → IfSome (R.remaining input.old)
@@ -57,7 +59,17 @@ pub fn run<R: Read, W: Write>(input: &mut R, output: &mut W) -> Result<(), ToolE
 {
     let mut room = [0; INPUT_ROOM];
     let len = read_all(input, &mut room)?;
-    write_answers(&room[..len], output)
+    let cn = ObjectIdentifier::new_unwrap("2.5.4.3");
+    let c = ObjectIdentifier::new_unwrap("2.5.4.6");
+    let common_name = ObjectIdentifier::new_unwrap("2.5.4.3");
+    let rsa_encryption = ObjectIdentifier::new_unwrap("1.2.840.113549.1.1.1");
+    let entries = [
+        (&cn, "cn"),
+        (&c, "c"),
+        (&common_name, "commonName"),
+        (&rsa_encryption, "rsaEncryption"),
+    ];
+    write_answers(&room[..len], Database::new(&entries), output)
 }
 
 /// Room for a byte more than the input may have, by which a longer one is told.
@@ -84,17 +96,21 @@ fn read_all<R: Read>(input: &mut R, room: &mut [u8]) -> Result<usize, ToolError>
     Err(ToolError::TooLong)
 }
 
-/// Writes the answer to each line of the text.
-fn write_answers<W: Write>(text: &[u8], output: &mut W) -> Result<(), ToolError>
+/// Writes the answer to each line of the text, with the names of a table.
+fn write_answers<W: Write>(
+    text: &[u8],
+    names: Database<'_>,
+    output: &mut W,
+) -> Result<(), ToolError>
     requires { length text.now ≤ MAX_INPUT }
-    ensures ok { OnOk result (Appends (W.contents output.old) (W.contents output.new) (answers text.now)) }
-    ensures front { OnErr result (AppendsFront (W.contents output.old) (W.contents output.new) (answers text.now)) }
+    ensures ok { OnOk result (Appends (W.contents output.old) (W.contents output.new) (answers (rows_of names.entry) text.now)) }
+    ensures front { OnErr result (AppendsFront (W.contents output.old) (W.contents output.new) (answers (rows_of names.entry) text.now)) }
     ensures err { IfErr result (λ e. e ≡ ToolError.Write) }
 {
     let mut rest = text;
     while !rest.is_empty() {
         let (line, after) = cut(b'\n', rest);
-        let Ok(row) = answer_row(line) else {
+        let Ok(row) = answer_row(line, names) else {
             return Err(ToolError::Write);
         };
         write_out(row.as_bytes(), output)?;
@@ -104,12 +120,12 @@ fn write_answers<W: Write>(text: &[u8], output: &mut W) -> Result<(), ToolError>
 }
 
 /// The answer to a line, and a newline, or an error where there is no room for them.
-fn answer_row(line: &[u8]) -> Result<Line, fmt::Error>
+fn answer_row(line: &[u8], names: Database<'_>) -> Result<Line, fmt::Error>
     requires { length line.now ≤ MAX_INPUT }
-    ensures { IfOk result (λ row. row ≡ answer_row line.now) }
+    ensures { IfOk result (λ row. row ≡ answer_row (rows_of names.entry) line.now) }
 {
     let mut row = Line::new();
-    answer(line, &mut row)?;
+    answer(line, names, &mut row)?;
     row.write_char('\n')?;
     Ok(row)
 }

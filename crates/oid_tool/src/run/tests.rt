@@ -1,6 +1,6 @@
 //! What `run` answers over memory, and where a reader or a writer fails.
 ghost use Rattle.std.specs.Prelude.{◌≡◌, ◌≤◌, ◌++◌, length, OnOk};
-ghost use Rattle.oid_tool.specs.Answers.{answers};
+ghost use Rattle.oid_tool.specs.Answers.{answers, known_names};
 
 use super::devices::{EndlessReader, OneByteReader, SlowWriter};
 use super::*;
@@ -8,7 +8,7 @@ use std::test::Fail;
 
 /// What [`run`] says where both sides tell their bytes.
 fn run_over_memory(input: &[u8], output: &mut Vec<u8>) -> Result<(), ToolError>
-    ensures { OnOk result ((length input.now ≤ MAX_INPUT) × (output.new.items ≡ output.old.items ++ answers input.now)) }
+    ensures { OnOk result ((length input.now ≤ MAX_INPUT) × (output.new.items ≡ output.old.items ++ answers known_names input.now)) }
 {
     let mut rest = input;
     run(&mut rest, output)
@@ -63,6 +63,12 @@ fn rows(rt: HostRuntime) -> Result<(), Fail> {
         ("parent 1.2\n", "none\n"),
         ("parent 1\n", "error: OID value is empty\n"),
         ("parent 1.2.3\nhex 1.2", "1.2\n2a\n"),
+        ("name 2.5.4.3\n", "cn\n"),
+        ("name 2.05.4.3\n", "cn\n"),
+        ("name 2.5.4.6\n", "c\n"),
+        ("name 1.2.840.113549.1.1.1\n", "rsaEncryption\n"),
+        ("name 1.02.3\n", "1.02.3\n"),
+        ("name cn\n", "error: expected digit, got 'c'\n"),
     ] {
         let mut output = Vec::new(rt.alloc());
         assert_eq!(rt;

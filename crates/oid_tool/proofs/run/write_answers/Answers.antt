@@ -7,17 +7,17 @@ use Rattle.oid_tool.proofs.run.write_answers.Goals as goal
 
 pub returns-in_default-clause-front : goal.returns-in_default-clause-front
 returns-in_default-clause-front g c =
-    appends_front _ _ _ _ c.loop-rest.invariant.written (answers_not_empty _ (not_empty_by_length _ c.loop-rest-test.ensures))
+    appends_front _ _ _ _ c.loop-rest.invariant.written (answers_not_empty _ _ (not_empty_by_length _ c.loop-rest-test.ensures))
 
 pub returns-in_err-write_out-clause-front : goal.returns-in_err-write_out-clause-front
 returns-in_err-write_out-clause-front g c =
-    let next = answers-next c.loop-rest.rest.now c.cut.result.0.now c.cut.result.1.now _ (not_empty_by_length _ c.loop-rest-test.ensures) c.cut.ensures.front c.cut.ensures.back (c.as_bytes.ensures ∙ c.in-Ok.ensures) in
+    let next = answers-next _ c.loop-rest.rest.now c.cut.result.0.now c.cut.result.1.now _ (not_empty_by_length _ c.loop-rest-test.ensures) c.cut.ensures.front c.cut.ensures.back (c.as_bytes.ensures ∙ c.in-Ok.ensures) in
     let p = err_from_is_err_and c.from_residual.result c.from_residual.ensures.1 in
     rw p.1 (appends_front_within _ _ _ _ _ _ _ c.loop-rest.invariant.written next c.in_err-write_out.ensures.front)
 
 pub loop-rest-preserved : goal.loop-rest-preserved
 loop-rest-preserved g c =
-    let next = answers-next c.loop-rest.rest.now c.cut.result.0.now c.cut.result.1.now _ (not_empty_by_length _ c.loop-rest-test.ensures) c.cut.ensures.front c.cut.ensures.back (c.as_bytes.ensures ∙ c.in-Ok.ensures) in
+    let next = answers-next _ c.loop-rest.rest.now c.cut.result.0.now c.cut.result.1.now _ (not_empty_by_length _ c.loop-rest-test.ensures) c.cut.ensures.front c.cut.ensures.back (c.as_bytes.ensures ∙ c.in-Ok.ensures) in
     record {
       short = omega (arith, ap length c.cut.ensures.back, length-after_line c.loop-rest.rest.now);
       written = appends_more _ _ _ _ _ _ _ c.loop-rest.invariant.written next c.in_ok-write_out.ensures.ok;
@@ -25,4 +25,4 @@ loop-rest-preserved g c =
 
 pub returns-clause-ok : goal.returns-clause-ok
 returns-clause-ok g c =
-    appends_all _ _ _ _ c.loop-rest.invariant.written (ap answers (empty_by_length _ c.loop-rest-test.ensures) ∙ answers-nil)
+    appends_all _ _ _ _ c.loop-rest.invariant.written (ap (answers _) (empty_by_length _ c.loop-rest-test.ensures) ∙ answers-nil _)

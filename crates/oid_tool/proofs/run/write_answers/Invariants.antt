@@ -1,13 +1,13 @@
 use Rattle.std.proofs.Common.{◌≤◌, length}
 use Rattle.oid_tool.specs.declared.command.TheConstants.{MAX_INPUT}
-use Rattle.oid_tool.specs.Answers.{answers}
+use Rattle.oid_tool.specs.Answers.{answers, rows_of}
 use Rattle.oid_tool.proofs.Output.{AppendsAllBut}
 use Rattle.oid_tool.proofs.run.write_answers.Given as goal
 
 abbrev pub invariant-loop-rest : goal.invariant-loop-rest
 invariant-loop-rest g l = record {
   short : length l.rest ≤ MAX_INPUT;
-  written : AppendsAllBut (g.W.Write.contents l.initial.output) (g.W.Write.contents l.output) (answers l.rest) (answers l.text);
+  written : AppendsAllBut (g.W.Write.contents l.initial.output) (g.W.Write.contents l.output) (answers (rows_of l.names) l.rest) (answers (rows_of l.names) l.text);
 }
 
 abbrev pub decreases-loop-rest : goal.decreases-loop-rest

@@ -1,0 +1,63 @@
+//! Identifiers of types and of values.
+
+ghost use Rattle.std.specs.Prelude.{◌≡◌, ◌≢◌, ◌<◌, ◌↔◌, ℕ, List, length, All, IfSome, IfNone, IsTrue};
+ghost use Rattle.std.specs.List.{HoldsAt, AllWithin};
+ghost use Rattle.const_oid.specs.Oid.{oid_arcs};
+
+use crate::oid::ObjectIdentifier;
+
+#[cfg(test)]
+mod tests;
+
+/// A type that has an identifier, always the same.
+pub trait AssociatedOid {
+    /// The arcs of the type's identifier.
+    ghost type_arcs: { List ℕ };
+
+    /// The identifier of the type.
+    fn associated_oid() -> ObjectIdentifier<39>
+        ensures { oid_arcs result ≡ type_arcs };
+}
+
+/// A value that has an identifier, by what it holds. A value of a type with an identifier has the type's.
+pub trait DynAssociatedOid {
+    /// The arcs of a value's identifier.
+    ghost value_arcs: { Self → List ℕ };
+
+    /// The identifier of the value.
+    fn oid(&self) -> ObjectIdentifier<39>
+        ensures { oid_arcs result ≡ value_arcs self.now };
+}
+
+impl<T: AssociatedOid> DynAssociatedOid for T {
+    ghost value_arcs = { λ _. T.type_arcs };
+
+    fn oid(&self) -> ObjectIdentifier<39> {
+        T::associated_oid()
+    }
+}
+
+/// The first place, counted from 0, whose value has this identifier.
+pub fn position_of(
+    values: &[Box<dyn DynAssociatedOid + Drop>],
+    oid: &ObjectIdentifier<39>,
+) -> Option<usize>
+    ensures found { IfSome result (λ i. (i < length values.now)
+        × HoldsAt (λ value. value_arcs value ≡ oid_arcs oid.now) values.now i) }
+    ensures first { IfSome result (λ i. AllWithin (λ value. value_arcs value ≢ oid_arcs oid.now) values.now 0 i) }
+    ensures none { IfNone result (All (λ value. value_arcs value ≢ oid_arcs oid.now) values.now) }
+{
+    for (i, value) in values.iter().enumerate() {
+        if has_oid(value, oid) {
+            return Some(i);
+        }
+    }
+    None
+}
+
+/// Whether the value has this identifier.
+fn has_oid(value: &Box<dyn DynAssociatedOid + Drop>, oid: &ObjectIdentifier<39>) -> bool
+    ensures { IsTrue result ↔ (value_arcs value.now ≡ oid_arcs oid.now) }
+{
+    value.oid() == *oid
+}
