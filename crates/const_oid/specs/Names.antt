@@ -1,12 +1,17 @@
 -- Tables of identifiers and names.
-use Rattle.std.specs.Prelude.{ℕ, Bool, List, map, filter, drop, find, bytes_eq, Option, unwrap_or}
+use Rattle.std.specs.Prelude.{ℕ, Bool, List, map, filter, drop, find, nat_eq, Option, unwrap_or, Result}
 use Rattle.std.specs.Borrow.{Bor}
+use Rattle.std.specs.Cmp.Lexicographic.{pointwise}
 use Rattle.std.specs.Option.{option_map}
+use Rattle.std.specs.Result.{result_map_both}
 use Rattle.std.specs.Str.{str_eq_ignore_ascii_case}
 use Rattle.const_oid.specs.declared.db.Database.{Database}
 use Rattle.const_oid.specs.declared.db.Names.{Names}
+use Rattle.const_oid.specs.declared.error.Error.{Error}
 use Rattle.const_oid.specs.declared.oid.ObjectIdentifier.{ObjectIdentifier}
+use Rattle.const_oid.specs.Identifier.{root_rule}
 use Rattle.const_oid.specs.Oid.{oid_arcs}
+use Rattle.const_oid.specs.Text.{text_answer}
 
 -- an entry: a reference to an identifier, and one to its name
 abbrev pub Entry : Type 0
@@ -22,7 +27,7 @@ name_of entry = entry.1
 
 -- its identifier has these arcs
 abbrev pub has_arcs : List ℕ → Entry → Bool
-has_arcs arcs entry = bytes_eq (oid_arcs (oid_of entry).now) arcs
+has_arcs arcs entry = pointwise nat_eq (oid_arcs (oid_of entry).now) arcs
 
 -- its name is the same once the ASCII letters are folded
 abbrev pub has_name : List ℕ → Entry → Bool
@@ -32,9 +37,14 @@ has_name name entry = str_eq_ignore_ascii_case (name_of entry).now name
 abbrev pub first_name : List Entry → List ℕ → Option (Bor (List ℕ))
 first_name entries arcs = option_map name_of (find (has_arcs arcs) entries)
 
--- the same, or a text where there is no such entry
+-- that name, or a text where there is no such entry
 abbrev pub name_or : List Entry → Bor (List ℕ) → List ℕ → Bor (List ℕ)
 name_or entries text arcs = unwrap_or (first_name entries arcs) text
+
+-- what a text is resolved to: its fault, or the first name of the arcs that it denotes, or the text itself
+abbrev pub resolve_answer : List Entry → Bor (List ℕ) → Result (Bor (List ℕ)) Error
+resolve_answer entries text =
+    result_map_both (name_or entries text) (λ fault. fault) (text_answer root_rule text.now)
 
 -- the names of all entries with these arcs, in table order
 abbrev pub all_names : List Entry → List ℕ → List (Bor (List ℕ))

@@ -1,13 +1,18 @@
 -- What a borrowed identifier shows.
+use Rattle.std.specs.Borrow.{Bor}
 use Rattle.std.specs.Prelude.{ℕ, List, Result}
 use Rattle.std.specs.Result.{result_map_both}
 use Rattle.const_oid.specs.declared.error.Error.{Error}
 use Rattle.const_oid.specs.declared.oid_ref.ObjectIdentifierRef.{ObjectIdentifierRef}
 use Rattle.const_oid.specs.Contents.{arcs_of_octets}
 
--- the octets that it holds
+-- the slice that it holds
+abbrev pub ref_slice : ObjectIdentifierRef → Bor (List ℕ)
+ref_slice oid = oid.ber
+
+-- the octets of the slice
 abbrev pub ref_octets : ObjectIdentifierRef → List ℕ
-ref_octets oid = oid.ber.now
+ref_octets oid = (ref_slice oid).now
 
 -- its arcs
 abbrev pub ref_arcs : ObjectIdentifierRef → List ℕ

@@ -1,12 +1,9 @@
 //! Names of identifiers, by a table that the caller holds.
 
 ghost use Rattle.std.specs.Prelude.{◌≡◌};
-ghost use Rattle.std.specs.Result.{result_map_both};
 ghost use Rattle.std.specs.Iterator.{YieldsFirst, item_count};
-ghost use Rattle.const_oid.specs.Identifier.{root_rule};
-ghost use Rattle.const_oid.specs.Names.{entries_of, has_arcs, first_name, name_or, all_names, first_oid, names_left};
+ghost use Rattle.const_oid.specs.Names.{entries_of, has_arcs, first_name, resolve_answer, all_names, first_oid, names_left};
 ghost use Rattle.const_oid.specs.Oid.{oid_arcs};
-ghost use Rattle.const_oid.specs.Text.{text_answer};
 
 use crate::error::Result;
 use crate::oid::ObjectIdentifier;
@@ -30,7 +27,7 @@ impl<'a> Database<'a> {
         Database { entries }
     }
 
-    /// The name of the first entry with this identifier.
+    /// The name of the first entry with this identifier, or `None` where no entry has it.
     pub fn by_oid(&self, oid: &ObjectIdentifier<39>) -> Option<&'a str>
         ensures { result ≡ first_name (entries_of self.now) (oid_arcs oid.now) }
     {
@@ -40,7 +37,7 @@ impl<'a> Database<'a> {
             .map(|entry| entry.1)
     }
 
-    /// The identifier of the first entry with the same name.
+    /// The identifier of the first entry with the same name, or `None` where no entry has it.
     pub fn by_name(&self, name: &str) -> Option<&'a ObjectIdentifier<39>>
         ensures { result ≡ first_oid (entries_of self.now) name.now }
     {
@@ -66,8 +63,7 @@ impl<'a> Database<'a> {
     pub fn resolve<'b>(&self, oid: &'b str) -> Result<&'b str>
     where
         'a: 'b,
-        ensures { result ≡ result_map_both (name_or (entries_of self.now) oid.entry) (λ fault. fault)
-            (text_answer root_rule oid.now) }
+        ensures { result ≡ resolve_answer (entries_of self.now) oid.entry }
     {
         let name = self.by_oid(&ObjectIdentifier::new(oid)?);
         Ok(name.unwrap_or(oid))
@@ -94,9 +90,10 @@ impl<'a> Iterator for Names<'a> {
     fn next(&mut self) -> Option<&'a str> {
         let entries = self.database.entries;
         for place in self.position..entries.len() {
-            if has_oid(&entries[place], &self.oid) {
+            let entry = entries[place];
+            if has_oid(&entry, &self.oid) {
                 self.position = place + 1;
-                return Some(entries[place].1);
+                return Some(entry.1);
             }
         }
         self.position = entries.len();

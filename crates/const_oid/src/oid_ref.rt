@@ -32,7 +32,7 @@ pub struct ObjectIdentifierRef<'a> {
 
 impl<'a> ObjectIdentifierRef<'a> {
     ghost use Rattle.const_oid.specs.Oid.{oid_octets, oid_arcs};
-    ghost use Rattle.const_oid.specs.OidRef.{ref_octets, ref_arcs, ref_answer};
+    ghost use Rattle.const_oid.specs.OidRef.{ref_slice, ref_octets, ref_arcs, ref_answer};
     ghost use Rattle.const_oid.specs.Tree.{BeginsWith};
 
     /// Reads contents octets (X.690, 8.19). The first of these that applies is the error:
@@ -44,7 +44,7 @@ impl<'a> ObjectIdentifierRef<'a> {
     /// - [`Error::Length`]: there are more than 2^63 - 1 octets, which no slice has.
     pub fn from_bytes(ber: &'a [u8]) -> Result<Self>
         ensures answer { ref_answer result ≡ octet_answer root_rule ber.now borrowed_capacity }
-        ensures octets { IfOk result (λ oid. ref_octets oid ≡ ber.now) }
+        ensures slice { IfOk result (λ oid. ref_slice oid ≡ ber.entry) }
     {
         check(ber)?;
         if ber.len() > isize::MAX as usize {
@@ -56,14 +56,14 @@ impl<'a> ObjectIdentifierRef<'a> {
     /// The identifier over octets without a fault.
     pub(crate) fn from_checked(ber: &'a [u8]) -> Self
         requires { parts_fault root_rule (cut ber.now) ≡ None }
-        ensures { ref_octets result ≡ ber.now }
+        ensures { ref_slice result ≡ ber.entry }
     {
         ObjectIdentifierRef { ber }
     }
 
     /// The contents octets, which are the caller's.
     pub fn as_bytes(&self) -> &'a [u8]
-        ensures octets { result.now ≡ ref_octets self.now }
+        ensures slice { result ≡ ref_slice self.now }
         ensures encoding { IsEncoding root_rule (ref_arcs self.now) result.now }
     {
         self.ber

@@ -37,14 +37,16 @@ impl<T: AssociatedOid> DynAssociatedOid for T {
     }
 }
 
-/// The first place, counted from 0, whose value has this identifier.
+/// The first place, counted from 0, whose value has this identifier, or `None` where no value has it.
 pub fn position_of(
     values: &[Box<dyn DynAssociatedOid + Drop>],
     oid: &ObjectIdentifier<39>,
 ) -> Option<usize>
-    ensures found { IfSome result (λ i. (i < length values.now)
-        × HoldsAt (λ value. value_arcs value ≡ oid_arcs oid.now) values.now i) }
-    ensures first { IfSome result (λ i. AllWithin (λ value. value_arcs value ≢ oid_arcs oid.now) values.now 0 i) }
+    ensures within { IfSome result (λ i. i < length values.now) }
+    ensures found { IfSome result (λ i.
+        HoldsAt (λ value. value_arcs value ≡ oid_arcs oid.now) values.now i) }
+    ensures first { IfSome result (λ i.
+        AllWithin (λ value. value_arcs value ≢ oid_arcs oid.now) values.now 0 i) }
     ensures none { IfNone result (All (λ value. value_arcs value ≢ oid_arcs oid.now) values.now) }
 {
     for (i, value) in values.iter().enumerate() {

@@ -7,7 +7,7 @@ use Rattle.std.proofs.lemmas.List.{take_all, drop_all, length-append, length-dro
 use Rattle.std.proofs.lemmas.List.Concat.{flat_map-cons}
 use Rattle.std.proofs.lemmas.List.Splits.{slice_split_first, slice_split_none, length-slice_split}
 use Rattle.std.proofs.lemmas.List.Sums.{fails_before_first}
-use Rattle.oid_tool.specs.Answers.{Row, without_empty_last, lines, answer_row, answers}
+use Rattle.oid_tool.specs.Answers.{Row, without_empty_last, lines, output_line, answers}
 
 -- what stands before the first newline, and what follows it
 abbrev first_line : List ℕ → List ℕ
@@ -42,9 +42,9 @@ lines-first text some = ⊎_elim
     (cases_lt (position_or_len (λ b. b == 10) text) (length text))
 
 -- the first answer, and those of what follows
-answers-first : (table : List Row) (text : List ℕ) → text ≢ [] → answers table text ≡ answer_row table (first_line text) ++ answers table (after_line text)
+answers-first : (table : List Row) (text : List ℕ) → text ≢ [] → answers table text ≡ output_line table (first_line text) ++ answers table (after_line text)
 unfolding answers
-answers-first table text some = ap (flat_map (answer_row table)) (lines-first text some) ∙ flat_map-cons (answer_row table) (first_line text) (lines (after_line text))
+answers-first table text some = ap (flat_map (output_line table)) (lines-first text some) ∙ flat_map-cons (output_line table) (first_line text) (lines (after_line text))
 
 pub answers-nil : (table : List Row) → answers table [] ≡ []
 unfolding answers
@@ -55,7 +55,7 @@ pub answers_not_empty : (table : List Row) (text : List ℕ) → text ≢ [] →
 answers_not_empty table text some none = let e = ap length (sym (answers-first table text some) ∙ none) in omega (arith, simp length-append at e)
 
 -- the answer to the first line, and those to what follows
-pub answers-next : (table : List Row) (text line after row : List ℕ) → text ≢ [] → line ≡ first_line text → after ≡ after_line text → row ≡ answer_row table line → answers table text ≡ row ++ answers table after
+pub answers-next : (table : List Row) (text line after row : List ℕ) → text ≢ [] → line ≡ first_line text → after ≡ after_line text → row ≡ output_line table line → answers table text ≡ row ++ answers table after
 answers-next table text line after row some front back e = rw (e, front, back) (answers-first table text some)
 
 pub length-after_line : (text : List ℕ) → length (after_line text) ≤ length text

@@ -1,6 +1,7 @@
 -- What the tool answers: one line for each line of its input.
-use Rattle.std.specs.Prelude.{ℕ, Bool, ◌==◌, List, [], ◌∷◌, ◌++◌, if◌then◌else◌, codes, bytes_eq, map, find, Option, Some, None, unwrap_or, Result, Ok, Err}
+use Rattle.std.specs.Prelude.{ℕ, Bool, ◌==◌, List, [], ◌∷◌, ◌++◌, if◌then◌else◌, codes, bytes_eq, nat_eq, map, find, Option, Some, None, unwrap_or, Result, Ok, Err}
 use Rattle.std.specs.Option.{option_map}
+use Rattle.std.specs.Cmp.Lexicographic.{pointwise}
 use Rattle.std.specs.List.{slice_split, before_first, after_first, flat_map}
 use Rattle.std.specs.Str.{is_utf8}
 use Rattle.hex.specs.Hex.{decode_of, encode_lower}
@@ -19,14 +20,14 @@ use Rattle.const_oid.specs.Tree.{parent_of}
 abbrev pub error_line : List ℕ → List ℕ
 error_line reason = codes "error: " ++ reason
 
--- what is shown of arcs, or what is wrong with them
-abbrev pub arcs_line : (List ℕ → List ℕ) → Result (List ℕ) Error → List ℕ
-arcs_line show (Ok arcs) = show arcs
-arcs_line show (Err fault) = error_line (message_of fault)
+-- what is shown of a value, or what is wrong with it
+abbrev pub shown_line : {T : Type 0} → (T → List ℕ) → Result T Error → List ℕ
+shown_line show (Ok value) = show value
+shown_line show (Err fault) = error_line (message_of fault)
 
 -- the arcs of octets as dotted text
 abbrev pub octets_line : Result (List ℕ) FromHexError → List ℕ
-octets_line (Ok octets) = arcs_line text_of (octet_answer root_rule octets borrowed_capacity)
+octets_line (Ok octets) = shown_line text_of (octet_answer root_rule octets borrowed_capacity)
 octets_line (Err fault) = error_line (codes "not hex")
 
 -- what `text` answers, of hexadecimal digits
@@ -36,7 +37,7 @@ text_line digits = octets_line (decode_of digits)
 -- what is shown of the arcs that a text denotes
 abbrev pub denoted_line : (List ℕ → List ℕ) → List ℕ → List ℕ
 denoted_line show text =
-    if is_utf8 text then arcs_line show (text_answer root_rule text)
+    if is_utf8 text then shown_line show (text_answer root_rule text)
     else error_line (codes "not UTF-8")
 
 -- what `hex` answers, of dotted text: the contents octets in lower-case hexadecimal digits
@@ -56,24 +57,27 @@ parent_line text = denoted_line (λ arcs. text_or_none (parent_of arcs)) text
 abbrev pub Row : Type 0
 Row = List ℕ × List ℕ
 
+-- it has these arcs
 abbrev pub row_has_arcs : List ℕ → Row → Bool
-row_has_arcs arcs row = bytes_eq row.0 arcs
+row_has_arcs arcs row = pointwise nat_eq row.0 arcs
 
+-- its name
 abbrev pub row_name : Row → List ℕ
 row_name row = row.1
 
 -- the name of the first row with these arcs, or a text where there is none
-abbrev pub known_name : List Row → List ℕ → List ℕ → List ℕ
-known_name table text arcs = unwrap_or (option_map row_name (find (row_has_arcs arcs) table)) text
+abbrev pub row_name_or : List Row → List ℕ → List ℕ → List ℕ
+row_name_or table text arcs = unwrap_or (option_map row_name (find (row_has_arcs arcs) table)) text
 
 -- what `name` answers, of dotted text: a name of the table, or the text itself
 unfoldable pub name_line : List Row → List ℕ → List ℕ
-name_line table text = denoted_line (known_name table text) text
+name_line table text = denoted_line (row_name_or table text) text
 
--- the rows of a database
+-- the row of an entry
 abbrev pub row_of : Entry → Row
 row_of entry = (oid_arcs (oid_of entry).now, (name_of entry).now)
 
+-- the rows of a database
 abbrev pub rows_of : Database → List Row
 rows_of database = map row_of (entries_of database)
 
@@ -111,9 +115,9 @@ abbrev pub lines : List ℕ → List (List ℕ)
 lines input = without_empty_last (slice_split (λ b. b == 10) input)
 
 -- the answer to a line, and a newline
-abbrev pub answer_row : List Row → List ℕ → List ℕ
-answer_row table line = answer_line table line ++ 10 ∷ []
+abbrev pub output_line : List Row → List ℕ → List ℕ
+output_line table line = answer_line table line ++ 10 ∷ []
 
 -- the answers to all lines of the input
 unfoldable pub answers : List Row → List ℕ → List ℕ
-answers table input = flat_map (answer_row table) (lines input)
+answers table input = flat_map (output_line table) (lines input)

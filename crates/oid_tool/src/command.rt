@@ -13,11 +13,11 @@ use std::{fmt, str};
 /// How many bytes the input may have, and so a line of it.
 pub const MAX_INPUT: usize = 4096;
 
-/// Appends the answer to a line, with the names of a table.
+/// Appends the answer to a line, with a table of names.
 #[tactic(auto, unfolding(crate::specs::Answers::answer_line))]
-pub fn answer(line: &[u8], names: Database<'_>, out: &mut Line) -> fmt::Result
+pub fn answer(line: &[u8], table: Database<'_>, out: &mut Line) -> fmt::Result
     requires { length line.now ≤ MAX_INPUT }
-    ensures { OnOk result (out.new ≡ out.old ++ answer_line (rows_of names.entry) line.now) }
+    ensures { OnOk result (out.new ≡ out.old ++ answer_line (rows_of table.entry) line.now) }
 {
     let (command, argument) = cut(b' ', line);
     if command == b"text".as_slice() {
@@ -27,7 +27,7 @@ pub fn answer(line: &[u8], names: Database<'_>, out: &mut Line) -> fmt::Result
     } else if command == b"parent".as_slice() {
         parent(argument, out)
     } else if command == b"name".as_slice() {
-        name(argument, names, out)
+        name(argument, table, out)
     } else {
         out.write_str("error: unknown command")
     }
@@ -79,13 +79,13 @@ fn parent(text: &[u8], out: &mut Line) -> fmt::Result
 }
 
 /// `name T`: the name of the identifier that the text T denotes, or T itself where it has none.
-fn name(text: &[u8], names: Database<'_>, out: &mut Line) -> fmt::Result
-    ensures { OnOk result (out.new ≡ out.old ++ name_line (rows_of names.entry) text.now) }
+fn name(text: &[u8], table: Database<'_>, out: &mut Line) -> fmt::Result
+    ensures { OnOk result (out.new ≡ out.old ++ name_line (rows_of table.entry) text.now) }
 {
     let Ok(text) = str::from_utf8(text) else {
         return out.write_str("error: not UTF-8");
     };
-    match names.resolve(text) {
+    match table.resolve(text) {
         Ok(name) => out.write_str(name),
         Err(fault) => write!(out, "error: {fault}"),
     }

@@ -1,7 +1,7 @@
 //! The whole input read, and then the answers to its lines written.
 ghost use Rattle.std.specs.Prelude.{◌≡◌, ◌+◌, ◌≤◌, ◌⊎◌, length, take, IsOk, OnOk, OnErr, IfOk, IfErr, IfSome, Some};
 ghost use Rattle.std.specs.Io.KnownBytes.{Appends, Consumes, IsAtEnd};
-ghost use Rattle.oid_tool.specs.Answers.{answers, answer_row, known_names, rows_of};
+ghost use Rattle.oid_tool.specs.Answers.{answers, output_line, known_names, rows_of};
 ghost use Rattle.oid_tool.specs.Output.{AppendsFront, ConsumesNumber};
 
 use crate::command::{MAX_INPUT, answer, cut};
@@ -45,9 +45,11 @@ impl fmt::Display for ToolError {
 /// output is not flushed, and no memory is taken.
 pub fn run<R: Read, W: Write>(input: &mut R, output: &mut W) -> Result<(), ToolError>
     ensures ok { OnOk result (IfSome (R.remaining input.old)
-        (λ text. Appends (W.contents output.old) (W.contents output.new) (answers known_names text))) }
+        (λ text. Appends (W.contents output.old) (W.contents output.new)
+        (answers known_names text))) }
     ensures write { result ≡ Err ToolError.Write → IfSome (R.remaining input.old)
-        (λ text. AppendsFront (W.contents output.old) (W.contents output.new) (answers known_names text)) }
+        (λ text. AppendsFront (W.contents output.old) (W.contents output.new)
+        (answers known_names text)) }
     ensures untouched { (result ≡ Err ToolError.Read) ⊎ (result ≡ Err ToolError.TooLong) → output.new ≡ output.old }
     ensures ended { IsOk result ⊎ (result ≡ Err ToolError.Write) → IsAtEnd (R.remaining input.new) }
     ensures whole { IsOk result ⊎ (result ≡ Err ToolError.Write) → IfSome (R.remaining input.old)
@@ -96,38 +98,40 @@ fn read_all<R: Read>(input: &mut R, room: &mut [u8]) -> Result<usize, ToolError>
     Err(ToolError::TooLong)
 }
 
-/// Writes the answer to each line of the text, with the names of a table.
+/// Writes the answer to each line of the text, with a table of names.
 fn write_answers<W: Write>(
     text: &[u8],
-    names: Database<'_>,
+    table: Database<'_>,
     output: &mut W,
 ) -> Result<(), ToolError>
     requires { length text.now ≤ MAX_INPUT }
-    ensures ok { OnOk result (Appends (W.contents output.old) (W.contents output.new) (answers (rows_of names.entry) text.now)) }
-    ensures front { OnErr result (AppendsFront (W.contents output.old) (W.contents output.new) (answers (rows_of names.entry) text.now)) }
+    ensures ok { OnOk result (Appends (W.contents output.old) (W.contents output.new)
+        (answers (rows_of table.entry) text.now)) }
+    ensures front { OnErr result (AppendsFront (W.contents output.old) (W.contents output.new)
+        (answers (rows_of table.entry) text.now)) }
     ensures err { IfErr result (λ e. e ≡ ToolError.Write) }
 {
     let mut rest = text;
     while !rest.is_empty() {
         let (line, after) = cut(b'\n', rest);
-        let Ok(row) = answer_row(line, names) else {
+        let Ok(shown) = output_line(line, table) else {
             return Err(ToolError::Write);
         };
-        write_out(row.as_bytes(), output)?;
+        write_out(shown.as_bytes(), output)?;
         rest = after;
     }
     Ok(())
 }
 
 /// The answer to a line, and a newline, or an error where there is no room for them.
-fn answer_row(line: &[u8], names: Database<'_>) -> Result<Line, fmt::Error>
+fn output_line(line: &[u8], table: Database<'_>) -> Result<Line, fmt::Error>
     requires { length line.now ≤ MAX_INPUT }
-    ensures { IfOk result (λ row. row ≡ answer_row (rows_of names.entry) line.now) }
+    ensures { IfOk result (λ shown. shown ≡ output_line (rows_of table.entry) line.now) }
 {
-    let mut row = Line::new();
-    answer(line, names, &mut row)?;
-    row.write_char('\n')?;
-    Ok(row)
+    let mut shown = Line::new();
+    answer(line, table, &mut shown)?;
+    shown.write_char('\n')?;
+    Ok(shown)
 }
 
 /// Writes all the bytes.

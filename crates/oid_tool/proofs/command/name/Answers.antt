@@ -1,5 +1,6 @@
 use Rattle.oid_tool.specs.Answers.{name_line}
-use Rattle.oid_tool.proofs.Commands.{line_written, line_told, denoted_line-no_text, name_line-resolved}
+use Rattle.oid_tool.proofs.Commands.{line_written, line_told, denoted_line-no_text}
+use Rattle.oid_tool.proofs.Names.{name_line-resolved}
 use Rattle.oid_tool.proofs.command.name.Goals as goal
 
 pub returns-in_default : goal.returns-in_default
@@ -9,8 +10,8 @@ returns-in_default c =
 
 pub returns-in-Ok-resolve : goal.returns-in-Ok-resolve
 returns-in-Ok-resolve c =
-    line_told _ _ _ _ _ c.write_str-in-Ok-resolve.ensures.ok (name_line-resolved c.args.names.entries.now c.in-Ok.text _ _ c.in-Ok.ensures.cases.0 c.in-Ok.ensures.cases.1 c.in-Ok-resolve.ensures)
+    line_told _ _ _ _ _ c.write_str-in-Ok-resolve.ensures.ok (name_line-resolved c.args.table.entries.now c.in-Ok.text _ _ c.in-Ok.ensures.cases.0 c.in-Ok.ensures.cases.1 c.in-Ok-resolve.ensures)
 
 pub returns-in-Err : goal.returns-in-Err
 returns-in-Err c =
-    line_written _ _ _ _ _ c.write.ensures.writes (name_line-resolved c.args.names.entries.now c.in-Ok.text _ _ c.in-Ok.ensures.cases.0 c.in-Ok.ensures.cases.1 c.in-Err.ensures)
+    line_written _ _ _ _ _ c.write.ensures.writes (name_line-resolved c.args.table.entries.now c.in-Ok.text _ _ c.in-Ok.ensures.cases.0 c.in-Ok.ensures.cases.1 c.in-Err.ensures)

@@ -7,7 +7,7 @@ use Rattle.oid_tool.proofs.run.write_answers.Given as goal
 abbrev pub invariant-loop-rest : goal.invariant-loop-rest
 invariant-loop-rest g l = record {
   short : length l.rest ≤ MAX_INPUT;
-  written : AppendsAllBut (g.W.Write.contents l.initial.output) (g.W.Write.contents l.output) (answers (rows_of l.names) l.rest) (answers (rows_of l.names) l.text);
+  written : AppendsAllBut (g.W.Write.contents l.initial.output) (g.W.Write.contents l.output) (answers (rows_of l.table) l.rest) (answers (rows_of l.table) l.text);
 }
 
 abbrev pub decreases-loop-rest : goal.decreases-loop-rest
