@@ -1,16 +1,18 @@
 -- Names that a table gives, and those of its rows.
-use Rattle.std.proofs.Common.{◌≡◌, ℕ, List, [], ◌∷◌, cond, true, false, map, refl, sym, ap, ◌∙◌}
+use Rattle.std.proofs.Common.{◌≡◌, ℕ, List, [], ◌∷◌, cond, true, false, map, refl, sym, ap, ◌∙◌, subst}
 use Rattle.std.specs.Borrow.{Bor}
+use Rattle.std.specs.Io.KnownBytes.{Consumes, IsAtEnd}
 use Rattle.std.specs.Option.{option_map}
-use Rattle.std.specs.Prelude.{Some, Result, Ok, Err, codes, unwrap_or, find}
+use Rattle.std.specs.Prelude.{Option, Some, IfSome, Result, Ok, Err, codes, unwrap_or, find}
 use Rattle.std.specs.Str.{IsUtf8}
 use Rattle.const_oid.specs.declared.db.Database.{Database}
 use Rattle.const_oid.specs.declared.error.Error.{Error}
 use Rattle.const_oid.specs.Identifier.{root_rule}
 use Rattle.const_oid.specs.Names.{Entry, has_arcs, name_of, name_or, entries_of, resolve_answer}
 use Rattle.const_oid.specs.Text.{Denotes, text_answer}
-use Rattle.oid_tool.specs.Answers.{shown_line, denoted_line, name_line, row_of, rows_of, row_name, row_has_arcs, row_name_or, known_names}
+use Rattle.oid_tool.specs.Answers.{shown_line, denoted_line, name_line, row_of, rows_of, row_name, row_has_arcs, row_name_or, known_names, answers}
 use Rattle.oid_tool.proofs.Commands.{denoted_line-read}
+use Rattle.oid_tool.proofs.Output.{known_from_read}
 
 -- the name that a table gives is that of its rows
 name_or-rows : (entries : List Entry) (text : Bor (List ℕ)) (arcs : List ℕ) → (name_or entries text arcs).now ≡ row_name_or (map row_of entries) text.now arcs
@@ -45,3 +47,8 @@ pub rows_of-known : (table : Database) (entries : List Entry) (cn c common_name 
 unfolding known_names
 rows_of-known table entries cn c common_name rsa_encryption made rows d e f g =
     ap (map row_of) made ∙ rows ∙ rw (d.values, e.values, f.values, g.values) refl
+
+-- the answers to the bytes that were read are those to all that were known, with the tool's table
+pub answered : (W : List ℕ → Type 0) (table : Database) (old new : Option (List ℕ)) (bytes : List ℕ) → rows_of table ≡ known_names → Consumes old new bytes → IsAtEnd new → W (answers (rows_of table) bytes) → IfSome old (λ text. W (answers known_names text))
+answered W table old new bytes known read ended written =
+    known_from_read (λ text. W (answers known_names text)) old new bytes read ended (subst (λ rows. W (answers rows bytes)) known written)

@@ -1,7 +1,7 @@
--- Bytes written one part after another, and bytes read into the room that is left.
+-- Bytes written one part after another, bytes read into the room that is left, and bytes that were all read.
 use Rattle.std.proofs.Common.{◌≡◌, ◌≢◌, ℕ, ◌+◌, ◌≤◌, List, [], ◌++◌, length, take, drop, sym, ◌∙◌, ap, arith, subst, append_assoc, take-append-drop}
-use Rattle.std.specs.Prelude.{Option}
-use Rattle.std.specs.Io.KnownBytes.{Appends}
+use Rattle.std.specs.Prelude.{Option, Some, None, IfSome}
+use Rattle.std.specs.Io.KnownBytes.{Appends, Consumes, IsAtEnd}
 use Rattle.std.proofs.KnownBytes.{Appends-trans}
 use Rattle.std.proofs.lemmas.List.{append-nil, nil_from_length, take-append-le, length-take-le, length-append}
 use Rattle.std.proofs.Math.Seq.{take-append-add}
@@ -43,6 +43,12 @@ appends_front_within old mid new part left rest whole p cut f = record {
 -- the first n bytes, and what is left behind them
 pub first_and_left : (n : ℕ) (bytes left : List ℕ) → left ≡ drop n bytes → bytes ≡ take n bytes ++ left
 first_and_left n bytes left e = sym (take-append-drop n bytes) ∙ ap (λ l. take n bytes ++ l) (sym e)
+
+-- what holds of the bytes that were read holds of all that were known, where none is left
+pub known_from_read : (P : List ℕ → Type 0) (old new : Option (List ℕ)) (bytes : List ℕ) → Consumes old new bytes → IsAtEnd new → P bytes → IfSome old P
+known_from_read P None new bytes read ended p = tt
+known_from_read P (Some text) None bytes read ended p = absurd read
+known_from_read P (Some text) (Some left) bytes read ended p = subst P (sym (read ∙ ap (λ l. bytes ++ l) ended ∙ append-nil bytes)) p
 
 -- n bytes read behind the first a of the room
 pub take_grown : (a k n : ℕ) (room bytes : List ℕ) → a ≤ length room → n ≤ length bytes → take (a + n) (put_mid a k room bytes) ≡ take a room ++ take n bytes
