@@ -7,7 +7,8 @@ use Rattle.std.proofs.lemmas.List.{take_all, drop_all, length-append, length-dro
 use Rattle.std.proofs.lemmas.List.Concat.{flat_map-cons}
 use Rattle.std.proofs.lemmas.List.Splits.{slice_split_first, slice_split_none, length-slice_split}
 use Rattle.std.proofs.lemmas.List.Sums.{fails_before_first}
-use Rattle.oid_tool.specs.Answers.{Row, without_empty_last, lines, output_line, answers}
+use Rattle.oid_tool.specs.Answers.{without_empty_last, lines, output_line, answers}
+use Rattle.oid_tool.specs.Names.{Row}
 
 -- what stands before the first newline, and what follows it
 abbrev first_line : List ℕ → List ℕ

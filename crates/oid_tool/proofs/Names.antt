@@ -10,7 +10,8 @@ use Rattle.const_oid.specs.declared.error.Error.{Error}
 use Rattle.const_oid.specs.Identifier.{root_rule}
 use Rattle.const_oid.specs.Names.{Entry, has_arcs, name_of, name_or, entries_of, resolve_answer}
 use Rattle.const_oid.specs.Text.{Denotes, text_answer}
-use Rattle.oid_tool.specs.Answers.{shown_line, denoted_line, name_line, row_of, rows_of, row_name, row_has_arcs, row_name_or, known_names, answers}
+use Rattle.oid_tool.specs.Answers.{shown_line, denoted_line, name_line, answers}
+use Rattle.oid_tool.specs.Names.{row_of, rows_of, row_name, row_has_arcs, row_name_or, known_names}
 use Rattle.oid_tool.proofs.Commands.{denoted_line-read}
 use Rattle.oid_tool.proofs.Output.{known_from_read}
 

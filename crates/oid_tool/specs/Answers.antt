@@ -1,20 +1,16 @@
 -- What the tool answers: one line for each line of its input.
-use Rattle.std.specs.Prelude.{ℕ, Bool, ◌==◌, List, [], ◌∷◌, ◌++◌, if◌then◌else◌, codes, bytes_eq, nat_eq, map, find, Option, Some, None, unwrap_or, Result, Ok, Err}
-use Rattle.std.specs.Option.{option_map}
-use Rattle.std.specs.Cmp.Lexicographic.{pointwise}
+use Rattle.std.specs.Prelude.{ℕ, ◌==◌, List, [], ◌∷◌, ◌++◌, if◌then◌else◌, codes, bytes_eq, Option, Some, None, Result, Ok, Err}
 use Rattle.std.specs.List.{slice_split, before_first, after_first, flat_map}
 use Rattle.std.specs.Str.{is_utf8}
 use Rattle.hex.specs.Hex.{decode_of, encode_lower}
 use Rattle.hex.specs.declared.error.FromHexError.{FromHexError}
-use Rattle.const_oid.specs.declared.db.Database.{Database}
 use Rattle.const_oid.specs.declared.error.Error.{Error}
 use Rattle.const_oid.specs.Contents.{octet_answer, borrowed_capacity}
 use Rattle.const_oid.specs.Identifier.{root_rule, encoding_of}
 use Rattle.const_oid.specs.Message.{message_of}
-use Rattle.const_oid.specs.Names.{Entry, oid_of, name_of, entries_of}
-use Rattle.const_oid.specs.Oid.{oid_arcs}
 use Rattle.const_oid.specs.Text.{text_of, text_answer}
 use Rattle.const_oid.specs.Tree.{parent_of}
+use Rattle.oid_tool.specs.Names.{Row, row_name_or}
 
 -- a refusal
 abbrev pub error_line : List ℕ → List ℕ
@@ -53,42 +49,9 @@ text_or_none (Some arcs) = text_of arcs
 unfoldable pub parent_line : List ℕ → List ℕ
 parent_line text = denoted_line (λ arcs. text_or_none (parent_of arcs)) text
 
--- a row of a table: arcs, and their name
-abbrev pub Row : Type 0
-Row = List ℕ × List ℕ
-
--- it has these arcs
-abbrev pub row_has_arcs : List ℕ → Row → Bool
-row_has_arcs arcs row = pointwise nat_eq row.0 arcs
-
--- its name
-abbrev pub row_name : Row → List ℕ
-row_name row = row.1
-
--- the name of the first row with these arcs, or a text where there is none
-abbrev pub row_name_or : List Row → List ℕ → List ℕ → List ℕ
-row_name_or table text arcs = unwrap_or (option_map row_name (find (row_has_arcs arcs) table)) text
-
 -- what `name` answers, of dotted text: a name of the table, or the text itself
 unfoldable pub name_line : List Row → List ℕ → List ℕ
 name_line table text = denoted_line (row_name_or table text) text
-
--- the row of an entry
-abbrev pub row_of : Entry → Row
-row_of entry = (oid_arcs (oid_of entry).now, (name_of entry).now)
-
--- the rows of a database
-abbrev pub rows_of : Database → List Row
-rows_of database = map row_of (entries_of database)
-
--- the table that the tool knows
-unfoldable pub known_names : List Row
-known_names =
-    (2 ∷ 5 ∷ 4 ∷ 3 ∷ [], codes "cn")
-    ∷ (2 ∷ 5 ∷ 4 ∷ 6 ∷ [], codes "c")
-    ∷ (2 ∷ 5 ∷ 4 ∷ 3 ∷ [], codes "commonName")
-    ∷ (1 ∷ 2 ∷ 840 ∷ 113549 ∷ 1 ∷ 1 ∷ 1 ∷ [], codes "rsaEncryption")
-    ∷ []
 
 -- what a command answers of its argument, with the names of a table
 abbrev pub answer_to : List Row → List ℕ → List ℕ → List ℕ

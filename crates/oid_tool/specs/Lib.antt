@@ -1,3 +1,4 @@
+pub mod Names
 pub mod Answers
 pub mod Output
 pub mod ToolError

@@ -2,7 +2,8 @@
 ghost use Rattle.std.specs.Prelude.{◌≡◌, ◌*◌, ◌≤◌, ◌==◌, ◌++◌, length, take, position, OnOk, IfSome, IsErr, MatchOption, Ok};
 ghost use Rattle.std.specs.List.{before_first, after_first};
 ghost use Rattle.hex.specs.Hex.{decode_of, encode_lower};
-ghost use Rattle.oid_tool.specs.Answers.{answer_line, text_line, hex_line, parent_line, name_line, rows_of};
+ghost use Rattle.oid_tool.specs.Answers.{answer_line, text_line, hex_line, parent_line, name_line};
+ghost use Rattle.oid_tool.specs.Names.{rows_of};
 
 use crate::line::Line;
 use const_oid::db::Database;

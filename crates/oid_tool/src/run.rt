@@ -1,7 +1,8 @@
 //! The whole input read, and then the answers to its lines written.
 ghost use Rattle.std.specs.Prelude.{◌≡◌, ◌+◌, ◌≤◌, ◌⊎◌, length, take, IsOk, OnOk, OnErr, IfOk, IfErr, IfSome, Some};
 ghost use Rattle.std.specs.Io.KnownBytes.{Appends, Consumes, IsAtEnd};
-ghost use Rattle.oid_tool.specs.Answers.{answers, output_line, known_names, rows_of};
+ghost use Rattle.oid_tool.specs.Answers.{answers, output_line};
+ghost use Rattle.oid_tool.specs.Names.{known_names, rows_of};
 ghost use Rattle.oid_tool.specs.Output.{AppendsFront, ConsumesNumber};
 
 use crate::command::{MAX_INPUT, answer, cut};

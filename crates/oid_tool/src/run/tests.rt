@@ -1,6 +1,7 @@
 //! What `run` answers over memory, and where a reader or a writer fails.
 ghost use Rattle.std.specs.Prelude.{◌≡◌, ◌≤◌, ◌++◌, length, OnOk};
-ghost use Rattle.oid_tool.specs.Answers.{answers, known_names};
+ghost use Rattle.oid_tool.specs.Answers.{answers};
+ghost use Rattle.oid_tool.specs.Names.{known_names};
 
 use super::devices::{EndlessReader, OneByteReader, SlowWriter};
 use super::*;
