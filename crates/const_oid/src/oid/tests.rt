@@ -18,17 +18,23 @@ use std::test::Fail;
 
 #[test]
 fn accepted(rt: HostRuntime) -> Result<(), Fail> {
-    for (text, octets, arcs) in &ACCEPTED {
+    for (text, octets, _) in &ACCEPTED {
         let oid = ObjectIdentifier::from_bytes(octets)?;
         assert_eq!(rt; oid.as_bytes(), *octets, "{oid}");
-        assert_eq!(rt; ObjectIdentifier::new(text)?.as_bytes(), *octets, "{oid}");
+        assert_eq!(rt; ObjectIdentifier::new(text)?, oid, "{oid}");
         assert_eq!(rt; format!(in rt.alloc(); "{oid}")?.as_str(), *text);
-        let listed = oid.arcs().collect::<Vec<Arc>>(rt.alloc())?;
-        assert_eq!(rt; listed.as_slice(), *arcs, "{oid}");
-        assert_eq!(rt; oid.len(), arcs.len(), "{oid}");
-        assert_eq!(rt; oid.arc(1), arcs.get(1).copied(), "{oid}");
-        assert_eq!(rt; oid.arc(arcs.len()), None, "{oid}");
     }
+    Ok(())
+}
+
+#[test]
+fn places(rt: HostRuntime) -> Result<(), Fail> {
+    let oid = ObjectIdentifier::new("1.2.840.10045.2.1")?;
+    let arcs = oid.arcs().collect::<Vec<Arc>>(rt.alloc())?;
+    assert_eq!(rt; arcs.as_slice(), [1, 2, 840, 10045, 2, 1].as_slice());
+    assert_eq!(rt; oid.len(), 6);
+    assert_eq!(rt; oid.arc(3), Some(10045));
+    assert_eq!(rt; oid.arc(6), None);
     Ok(())
 }
 
@@ -45,67 +51,72 @@ fn refused(rt: HostRuntime) {
 
 #[test]
 fn keeps_to_its_capacity(rt: HostRuntime) -> Result<(), Fail> {
-    let mut ones = [0x01; 300];
-    ones[0] = 0x2A;
-    let mut unfinished = ones;
-    unfinished[40] = 0x81;
-    let answers = [
-        (
-            ObjectIdentifier::<0>::from_bytes_sized(&[0x2A]).err(),
-            Some(Error::Length),
-        ),
-        (
-            ObjectIdentifier::<0>::from_bytes_sized(&[0x2A, 0x80, 0x01]).err(),
-            Some(Error::Base128),
-        ),
-        (ObjectIdentifier::<1>::from_bytes_sized(&[0x2A]).err(), None),
-        (
-            ObjectIdentifier::<2>::from_bytes_sized(&[0x2A, 0x81, 0x80]).err(),
-            Some(Error::Base128),
-        ),
-        (
-            ObjectIdentifier::<3>::from_bytes_sized(&[0x2A, 0x81, 0x80, 0x00]).err(),
-            Some(Error::Length),
-        ),
-        (ObjectIdentifier::from_bytes(&ones[..39]).err(), None),
-        (
-            ObjectIdentifier::from_bytes(&ones[..40]).err(),
-            Some(Error::Length),
-        ),
-        (
-            ObjectIdentifier::from_bytes(&unfinished[..41]).err(),
-            Some(Error::Base128),
-        ),
-        (
-            ObjectIdentifier::<255>::from_bytes_sized(&ones[..255]).err(),
-            None,
-        ),
-        (
-            ObjectIdentifier::<255>::from_bytes_sized(&ones[..256]).err(),
-            Some(Error::Length),
-        ),
-        (
-            ObjectIdentifier::<256>::from_bytes_sized(&ones[..256]).err(),
-            Some(Error::Length),
-        ),
-        (
-            ObjectIdentifier::<300>::from_bytes_sized(&ones[..256]).err(),
-            Some(Error::Length),
-        ),
-        (
-            ObjectIdentifier::<300>::from_bytes_sized(&ones).err(),
-            Some(Error::Length),
-        ),
-    ];
-    for (index, (answer, wanted)) in answers.iter().enumerate() {
-        assert_eq!(rt; answer, wanted, "row {index}");
-    }
+    assert_eq!(rt;
+        ObjectIdentifier::<0>::from_bytes_sized(&[0x2A]).err(),
+        Some(Error::Length)
+    );
+    assert_eq!(rt;
+        ObjectIdentifier::<0>::from_bytes_sized(&[0x2A, 0x80, 0x01]).err(),
+        Some(Error::Base128)
+    );
+    assert_eq!(rt;
+        ObjectIdentifier::<2>::from_bytes_sized(&[0x2A, 0x81, 0x80]).err(),
+        Some(Error::Base128)
+    );
+    assert_eq!(rt;
+        ObjectIdentifier::<3>::from_bytes_sized(&[0x2A, 0x81, 0x80, 0x00]).err(),
+        Some(Error::Length)
+    );
     let short = ObjectIdentifier::<1>::from_bytes_sized(&[0x2A])?;
     assert_eq!(rt; short.as_bytes(), [0x2A].as_slice());
-    let long = ObjectIdentifier::<300>::from_bytes_sized(&ones[..255])?;
+    Ok(())
+}
+
+#[test]
+fn keeps_to_the_usual_capacity(rt: HostRuntime) {
+    let mut octets = [0x01; 41];
+    octets[0] = 0x2A;
+    octets[40] = 0x81;
+    assert_eq!(rt; ObjectIdentifier::from_bytes(&octets[..39]).err(), None);
+    assert_eq!(rt;
+        ObjectIdentifier::from_bytes(&octets[..40]).err(),
+        Some(Error::Length)
+    );
+    assert_eq!(rt;
+        ObjectIdentifier::from_bytes(&octets).err(),
+        Some(Error::Base128)
+    );
+}
+
+/// 255 octets fit where `MAX_SIZE` is past 255, and no more.
+#[test]
+fn keeps_to_the_most_octets(rt: HostRuntime) -> Result<(), Fail> {
+    let mut octets = [0x01; 300];
+    octets[0] = 0x2A;
+    assert_eq!(rt;
+        ObjectIdentifier::<255>::from_bytes_sized(&octets[..255]).err(),
+        None
+    );
+    assert_eq!(rt;
+        ObjectIdentifier::<255>::from_bytes_sized(&octets[..256]).err(),
+        Some(Error::Length)
+    );
+    assert_eq!(rt;
+        ObjectIdentifier::<256>::from_bytes_sized(&octets[..256]).err(),
+        Some(Error::Length)
+    );
+    assert_eq!(rt;
+        ObjectIdentifier::<300>::from_bytes_sized(&octets[..256]).err(),
+        Some(Error::Length)
+    );
+    assert_eq!(rt;
+        ObjectIdentifier::<300>::from_bytes_sized(&octets).err(),
+        Some(Error::Length)
+    );
+    let long = ObjectIdentifier::<300>::from_bytes_sized(&octets[..255])?;
     assert_eq!(rt; long.push_arc(0).err(), Some(Error::Length));
     assert_eq!(rt; long.push_arc(1).err(), Some(Error::Length));
-    assert_eq!(rt; long.as_bytes(), &ones[..255]);
+    assert_eq!(rt; long.as_bytes(), &octets[..255]);
     Ok(())
 }
 
@@ -156,39 +167,37 @@ fn a_refused_write_is_told(rt: HostRuntime) -> Result<(), Fail> {
     Ok(())
 }
 
+/// The octets of an identifier, and those of its parent.
+const PARENTS: [(&[u8], Option<&[u8]>); 6] = [
+    (&[0x2A], None),
+    (&[0x2A, 0x03], Some(&[0x2A])),
+    (&[0x2A, 0x81, 0x00], Some(&[0x2A])),
+    (&[0x2A, 0x8F, 0xFF, 0xFF, 0xFF, 0x7F], Some(&[0x2A])),
+    (
+        &[0x2A, 0x81, 0x80, 0x00, 0x00],
+        Some(&[0x2A, 0x81, 0x80, 0x00]),
+    ),
+    (&[0x2A, 0x03, 0x81, 0x00], Some(&[0x2A, 0x03])),
+];
+
 #[test]
 fn gives_parents(rt: HostRuntime) -> Result<(), Fail> {
-    let rows: [(&[u8], Option<&[u8]>); 6] = [
-        (&[0x2A], None),
-        (&[0x2A, 0x03], Some(&[0x2A])),
-        (&[0x2A, 0x81, 0x00], Some(&[0x2A])),
-        (&[0x2A, 0x8F, 0xFF, 0xFF, 0xFF, 0x7F], Some(&[0x2A])),
-        (
-            &[0x2A, 0x81, 0x80, 0x00, 0x00],
-            Some(&[0x2A, 0x81, 0x80, 0x00]),
-        ),
-        (&[0x2A, 0x03, 0x81, 0x00], Some(&[0x2A, 0x03])),
-    ];
-    for (octets, wanted) in &rows {
-        let oid = ObjectIdentifier::from_bytes(octets)?;
-        match (oid.parent(), wanted) {
-            (Some(parent), Some(wanted)) => assert_eq!(rt; parent.as_bytes(), *wanted, "{oid}"),
-            (parent, wanted) => assert_eq!(rt; parent.is_some(), wanted.is_some(), "{oid}"),
-        }
+    for (octets, wanted) in &PARENTS {
+        let parent = ObjectIdentifier::from_bytes(octets)?.parent();
+        let octets = parent.as_ref().map(|oid| oid.as_bytes());
+        assert_eq!(rt; octets, *wanted);
     }
     Ok(())
 }
 
 #[test]
 fn appends_arcs(rt: HostRuntime) -> Result<(), Fail> {
-    let rows: [(&[u8], Arc, &[u8]); 2] = [
-        (&[0x2A, 0x03], 4, &[0x2A, 0x03, 0x04]),
-        (&[0x2A, 0x03], 128, &[0x2A, 0x03, 0x81, 0x00]),
-    ];
-    for (octets, arc, wanted) in &rows {
-        let oid = ObjectIdentifier::from_bytes(octets)?.push_arc(*arc)?;
-        assert_eq!(rt; oid.as_bytes(), *wanted, "{oid}");
-    }
+    let oid = ObjectIdentifier::from_bytes(&[0x2A, 0x03])?;
+    assert_eq!(rt; oid.push_arc(4)?.as_bytes(), [0x2A, 0x03, 0x04].as_slice());
+    assert_eq!(rt;
+        oid.push_arc(128)?.as_bytes(),
+        [0x2A, 0x03, 0x81, 0x00].as_slice()
+    );
     let short = ObjectIdentifier::<3>::from_bytes_sized(&[0x2A])?;
     assert_eq!(rt;
         short.push_arc(16383)?.as_bytes(),
@@ -214,32 +223,34 @@ fn parents_undo_children(rt: HostRuntime) -> Result<(), Fail> {
     Ok(())
 }
 
+/// The octets of two identifiers, and whether the first begins with the second.
+const BEGINNINGS: [(&[u8], &[u8], bool); 10] = [
+    (&[0x2A, 0x22], &[0x2A, 0x03], false),
+    (&[0x2A, 0x03, 0x04, 0x05], &[0x2A, 0x03, 0x04, 0x05], true),
+    (&[0x2A, 0x03, 0x04, 0x05], &[0x2A, 0x03, 0x04], true),
+    (&[0x2A, 0x03, 0x04, 0x05], &[0x2A, 0x03], true),
+    (&[0x2A, 0x03, 0x04, 0x05], &[0x2A, 0x04], false),
+    (&[0x2A, 0x03, 0x04, 0x05], &[0x52, 0x03], false),
+    (
+        &[0x2A, 0x03, 0x04, 0x05],
+        &[0x2A, 0x03, 0x04, 0x05, 0x06],
+        false,
+    ),
+    (&[0x2A, 0x81, 0x80, 0x00], &[0x2A, 0x81, 0x00], false),
+    (&[0x2A], &[0x2A], true),
+    (&[0x2A, 0x81, 0x00, 0x05], &[0x2A, 0x81, 0x00], true),
+];
+
 #[test]
 fn tells_what_it_starts_with(rt: HostRuntime) -> Result<(), Fail> {
-    let rows: [(&[u8], &[u8], bool); 10] = [
-        (&[0x2A, 0x22], &[0x2A, 0x03], false),
-        (&[0x2A, 0x03, 0x04, 0x05], &[0x2A, 0x03, 0x04, 0x05], true),
-        (&[0x2A, 0x03, 0x04, 0x05], &[0x2A, 0x03, 0x04], true),
-        (&[0x2A, 0x03, 0x04, 0x05], &[0x2A, 0x03], true),
-        (&[0x2A, 0x03, 0x04, 0x05], &[0x2A, 0x04], false),
-        (&[0x2A, 0x03, 0x04, 0x05], &[0x52, 0x03], false),
-        (
-            &[0x2A, 0x03, 0x04, 0x05],
-            &[0x2A, 0x03, 0x04, 0x05, 0x06],
-            false,
-        ),
-        (&[0x2A, 0x81, 0x80, 0x00], &[0x2A, 0x81, 0x00], false),
-        (&[0x2A], &[0x2A], true),
-        (&[0x2A, 0x81, 0x00, 0x05], &[0x2A, 0x81, 0x00], true),
-    ];
-    for (octets, front, wanted) in &rows {
+    for (octets, front, wanted) in &BEGINNINGS {
         let oid = ObjectIdentifier::from_bytes(octets)?;
-        let wide = ObjectIdentifier::from_bytes(front)?;
-        assert_eq!(rt; oid.starts_with(wide), *wanted, "{oid} and {wide}");
+        let front = ObjectIdentifier::from_bytes(front)?;
+        assert_eq!(rt; oid.starts_with(front), *wanted, "{oid} and {front}");
     }
     let oid = ObjectIdentifier::from_bytes(&[0x2A, 0x81, 0x00, 0x05])?;
-    let narrow = ObjectIdentifier::<3>::from_bytes_sized(&[0x2A, 0x81, 0x00])?;
-    assert!(rt; oid.starts_with(narrow));
+    let front = ObjectIdentifier::<3>::from_bytes_sized(&[0x2A, 0x81, 0x00])?;
+    assert!(rt; oid.starts_with(front));
     Ok(())
 }
 
