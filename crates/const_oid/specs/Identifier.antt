@@ -10,7 +10,7 @@ pub data RootRule : Type 0 where
 
 -- the rule that this crate keeps
 abbrev pub root_rule : RootRule
-root_rule = Narrow
+root_rule = Wide
 
 -- the greatest arc
 abbrev pub most_arc : ℕ

@@ -119,34 +119,24 @@ fn split_root(root: u64) -> (Arc, Arc)
 pub(crate) fn check(octets: &[u8]) -> Result<()>
     ensures { result_err result ≡ parts_fault root_rule (cut octets.now) }
 {
-    let [root, later @ ..] = octets else {
+    if octets.is_empty() {
         return Err(Error::Empty);
-    };
-    if *root >= 120 {
-        return Err(Error::ArcInvalid {
-            arc: Arc::from(*root / 40),
-        });
     }
-    check_later(later)
-}
-
-/// The fault of the octets behind the root octet, if there is one.
-fn check_later(octets: &[u8]) -> Result<()>
-    ensures { result_err result ≡ later_fault (cut octets.now) }
-{
     let mut number: u64 = 0;
+    let mut limit: u64 = 4294967375;
     let mut begun = false;
     for octet in octets {
         if !begun && *octet == 0x80 {
             return Err(Error::Base128);
         }
         number = number * 128 + (*octet % 128) as u64;
-        if number > Arc::MAX as u64 {
+        if number > limit {
             return Err(Error::ArcTooBig);
         }
         begun = *octet >= 128;
         if !begun {
             number = 0;
+            limit = Arc::MAX as u64;
         }
     }
     if begun { Err(Error::Base128) } else { Ok(()) }

@@ -100,11 +100,11 @@ impl<const SIZE: usize> Encoder<SIZE> {
     }
 }
 
-/// The greatest second arc below a first arc, which under the narrow rule is one for all.
+/// The greatest second arc below a first arc (X.660): 39 under 0 and 1, any under 2.
 fn greatest_second(first: Arc) -> Arc
     ensures { result ≡ most_second root_rule first }
 {
-    39
+    if first < 2 { 39 } else { Arc::MAX }
 }
 
 #[cfg(test)]

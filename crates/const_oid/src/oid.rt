@@ -50,7 +50,7 @@ impl ObjectIdentifier<39> {
     /// - [`Error::DigitExpected`]: it has another byte than a digit, or it is empty and the first of several;
     /// - [`Error::RepeatedDot`] or [`Error::TrailingDot`]: it is empty, and not the first one;
     /// - [`Error::TrailingDot`]: an empty last piece follows it;
-    /// - [`Error::ArcInvalid`]: it is the first one and past 2, or the second and past 39 (X.660);
+    /// - [`Error::ArcInvalid`]: it is the first one and past 2, or the second, past 39 and behind 0 or 1 (X.660);
     /// - [`Error::Length`]: the arcs up to it take more than 39 octets (X.690, 8.19);
     /// - [`Error::Empty`]: it is the only one.
     pub fn new(s: &str) -> Result<Self>
@@ -75,8 +75,8 @@ impl ObjectIdentifier<39> {
     /// Encodes the arcs that an iterator gives. The first of these that applies is the error:
     ///
     /// - of the first item with a fault, [`Error::ArcInvalid`] of it where it is past 2 as the first
-    ///   arc or past 39 as the second, or [`Error::Length`] where the encoding up to it is longer than
-    ///   39 octets;
+    ///   arc, or past 39 as the second behind 0 or 1, or [`Error::Length`] where the encoding up to it
+    ///   is longer than 39 octets;
     /// - [`Error::Empty`]: there are fewer than two items.
     ///
     /// Items past the first fault do not matter. For an array, a slice's `iter().copied()`, a `Vec` or
@@ -127,9 +127,9 @@ impl<const MAX_SIZE: usize> ObjectIdentifier<MAX_SIZE> {
     /// Reads contents octets (X.690, 8.19). The first of these that applies is the error:
     ///
     /// - [`Error::Empty`]: there is no octet;
-    /// - [`Error::ArcInvalid`] of a first arc of 3 to 6: the first octet is 120 or more;
     /// - [`Error::Base128`] or [`Error::ArcTooBig`]: of the first group with a fault, that it begins
-    ///   with 0x80, that its number is past 32 bits, or that it does not end;
+    ///   with 0x80, that its number is past 32 bits (past 4294967375 in the first group, which holds
+    ///   two arcs), or that it does not end;
     /// - [`Error::Length`]: there are more octets than fit.
     pub fn from_bytes_sized(ber_bytes: &[u8]) -> Result<Self>
         ensures answer { oid_answer result ≡ octet_answer root_rule ber_bytes.now (min MAX_SIZE 255) }

@@ -25,7 +25,8 @@ mod tests;
 /// Its octets have no fault: they are the one encoding of its arcs (X.690, 8.19).
 #[derive(Copy, Clone, Eq, Hash)]
 pub struct ObjectIdentifierRef<'a> {
-    ber: &'a [u8],
+    /// The contents octets, which have no fault: where a literal stands here, the checker reads it.
+    pub ber: &'a [u8],
     ghost octets: { AreOctets ber.now } by { Prim.hlevel props },
     ghost sound: { parts_fault root_rule (cut ber.now) ≡ None },
 }
@@ -38,9 +39,9 @@ impl<'a> ObjectIdentifierRef<'a> {
     /// Reads contents octets (X.690, 8.19). The first of these that applies is the error:
     ///
     /// - [`Error::Empty`]: there is no octet;
-    /// - [`Error::ArcInvalid`] of a first arc of 3 to 6: the first octet is 120 or more;
     /// - [`Error::Base128`] or [`Error::ArcTooBig`]: of the first group with a fault, that it begins
-    ///   with 0x80, that its number is past 32 bits, or that it does not end;
+    ///   with 0x80, that its number is past 32 bits (past 4294967375 in the first group, which holds
+    ///   two arcs), or that it does not end;
     /// - [`Error::Length`]: there are more than 2^63 - 1 octets, which no slice has.
     pub fn from_bytes(ber: &'a [u8]) -> Result<Self>
         ensures answer { ref_answer result ≡ octet_answer root_rule ber.now borrowed_capacity }

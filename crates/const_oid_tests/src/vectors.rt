@@ -1,0 +1,169 @@
+//! Rows, and a formatter's target, that several tests share.
+
+use const_oid::Error;
+use std::fmt;
+use std::fmt::Write;
+
+/// Texts, their contents octets and their arcs.
+pub const ACCEPTED: [(&str, &[u8], &[u32]); 35] = [
+    ("0.0", &[0x00], &[0, 0]),
+    ("0.39", &[0x27], &[0, 39]),
+    ("1.0", &[0x28], &[1, 0]),
+    ("1.2", &[0x2A], &[1, 2]),
+    ("1.39", &[0x4F], &[1, 39]),
+    ("2.0", &[0x50], &[2, 0]),
+    ("2.39", &[0x77], &[2, 39]),
+    ("1.2.0", &[0x2A, 0x00], &[1, 2, 0]),
+    ("1.2.127", &[0x2A, 0x7F], &[1, 2, 127]),
+    ("1.2.128", &[0x2A, 0x81, 0x00], &[1, 2, 128]),
+    ("1.2.16383", &[0x2A, 0xFF, 0x7F], &[1, 2, 16383]),
+    ("1.2.16384", &[0x2A, 0x81, 0x80, 0x00], &[1, 2, 16384]),
+    ("1.2.2097151", &[0x2A, 0xFF, 0xFF, 0x7F], &[1, 2, 2097151]),
+    (
+        "1.2.2097152",
+        &[0x2A, 0x81, 0x80, 0x80, 0x00],
+        &[1, 2, 2097152],
+    ),
+    (
+        "1.2.268435455",
+        &[0x2A, 0xFF, 0xFF, 0xFF, 0x7F],
+        &[1, 2, 268435455],
+    ),
+    (
+        "1.2.268435456",
+        &[0x2A, 0x81, 0x80, 0x80, 0x80, 0x00],
+        &[1, 2, 268435456],
+    ),
+    (
+        "1.2.1144201745",
+        &[0x2A, 0x84, 0xA1, 0xCC, 0xC4, 0x11],
+        &[1, 2, 1144201745],
+    ),
+    (
+        "1.2.4294967295",
+        &[0x2A, 0x8F, 0xFF, 0xFF, 0xFF, 0x7F],
+        &[1, 2, 4294967295],
+    ),
+    ("1.23.456", &[0x3F, 0x83, 0x48], &[1, 23, 456]),
+    (
+        "1.1.1.60817410.1",
+        &[0x29, 0x01, 0x9D, 0x80, 0x80, 0x02, 0x01],
+        &[1, 1, 1, 60817410, 1],
+    ),
+    (
+        "0.9.2342.19200300.100.1.1",
+        &[0x09, 0x92, 0x26, 0x89, 0x93, 0xF2, 0x2C, 0x64, 0x01, 0x01],
+        &[0, 9, 2342, 19200300, 100, 1, 1],
+    ),
+    (
+        "1.2.840.10045.2.1",
+        &[0x2A, 0x86, 0x48, 0xCE, 0x3D, 0x02, 0x01],
+        &[1, 2, 840, 10045, 2, 1],
+    ),
+    (
+        "2.16.840.1.101.3.4.1.42",
+        &[0x60, 0x86, 0x48, 0x01, 0x65, 0x03, 0x04, 0x01, 0x2A],
+        &[2, 16, 840, 1, 101, 3, 4, 1, 42],
+    ),
+    (
+        "1.2.840.113549.1.1.1",
+        &[0x2A, 0x86, 0x48, 0x86, 0xF7, 0x0D, 0x01, 0x01, 0x01],
+        &[1, 2, 840, 113549, 1, 1, 1],
+    ),
+    ("2.5.4.3", &[0x55, 0x04, 0x03], &[2, 5, 4, 3]),
+    ("2.5.4.6", &[0x55, 0x04, 0x06], &[2, 5, 4, 6]),
+    (
+        "0.1.2.3.4.5.6.7.8.9",
+        &[0x01, 0x02, 0x03, 0x04, 0x05, 0x06, 0x07, 0x08, 0x09],
+        &[0, 1, 2, 3, 4, 5, 6, 7, 8, 9],
+    ),
+    // Second arcs past 39 under 2.
+    ("2.40", &[0x78], &[2, 40]),
+    ("2.47", &[0x7F], &[2, 47]),
+    ("2.48", &[0x81, 0x00], &[2, 48]),
+    ("2.100.3", &[0x81, 0x34, 0x03], &[2, 100, 3]),
+    ("2.999", &[0x88, 0x37], &[2, 999]),
+    ("2.999.3", &[0x88, 0x37, 0x03], &[2, 999, 3]),
+    (
+        "2.4294967215",
+        &[0x8F, 0xFF, 0xFF, 0xFF, 0x7F],
+        &[2, 4294967215],
+    ),
+    (
+        "2.4294967295",
+        &[0x90, 0x80, 0x80, 0x80, 0x4F],
+        &[2, 4294967295],
+    ),
+];
+
+/// Octets that are refused, and the error.
+pub const REFUSED_OCTETS: [(&[u8], Error); 33] = [
+    (&[], Error::Empty),
+    (&[0x80], Error::Base128),
+    (&[0x80, 0x01], Error::Base128),
+    (&[0x9F], Error::Base128),
+    (&[0xA0], Error::Base128),
+    (&[0xC7], Error::Base128),
+    (&[0xC8], Error::Base128),
+    (&[0xEF], Error::Base128),
+    (&[0xF0], Error::Base128),
+    (&[0xFF], Error::Base128),
+    (&[0x78, 0x80, 0x01], Error::Base128),
+    (&[0x90, 0x80, 0x80, 0x80, 0x50], Error::ArcTooBig),
+    (&[0x90, 0x80, 0x80, 0x80, 0x80], Error::Base128),
+    (&[0x90, 0x80, 0x80, 0x80, 0xD0], Error::ArcTooBig),
+    (&[0x2A, 0x80], Error::Base128),
+    (&[0x2A, 0x81], Error::Base128),
+    (&[0x2A, 0x81, 0x80], Error::Base128),
+    (&[0x2A, 0x80, 0x01], Error::Base128),
+    (&[0x2A, 0x01, 0x80, 0x01], Error::Base128),
+    (&[0x2A, 0x80, 0x80, 0x80, 0x80, 0x80, 0x10], Error::Base128),
+    (&[0x2A, 0x8F, 0xFF, 0xFF, 0xFF, 0xFF], Error::Base128),
+    (
+        &[0x2A, 0x8F, 0xFF, 0xFF, 0xFF, 0xFF, 0x00],
+        Error::ArcTooBig,
+    ),
+    (&[0x2A, 0x90, 0x80, 0x80, 0x80, 0x00], Error::ArcTooBig),
+    (&[0x2A, 0x90, 0x80, 0x80, 0x80, 0x80], Error::ArcTooBig),
+    (&[0x2A, 0xFF, 0xFF, 0xFF, 0xFF, 0x7F], Error::ArcTooBig),
+    (
+        &[0x2A, 0x81, 0x80, 0x80, 0x80, 0x80, 0x00],
+        Error::ArcTooBig,
+    ),
+    // Groups with two faults, of which the first in the written order is answered.
+    (&[0x2A, 0x80, 0x90, 0x80, 0x80, 0x80, 0x00], Error::Base128),
+    (&[0x2A, 0x80, 0x90, 0x80, 0x80, 0x80], Error::Base128),
+    (
+        &[0x2A, 0x80, 0xFF, 0xFF, 0xFF, 0xFF, 0xFF, 0x7F],
+        Error::Base128,
+    ),
+    // Octets that the Rust crate was seen to take, or to refuse by another error.
+    (&[0x00, 0x80, 0x00], Error::Base128),
+    (&[0x2A, 0x80, 0x80, 0x80, 0x80, 0x80, 0x0F], Error::Base128),
+    (&[0x00, 0x80, 0x80, 0x81, 0xB5, 0xC6, 0xBA], Error::Base128),
+    (&[0x00, 0x90, 0x80, 0x80, 0x80, 0x80], Error::ArcTooBig),
+];
+
+/// Refuses the write numbered `bad`, counted from 1.
+#[derive(Drop)]
+pub struct Refusing {
+    pub writes: usize,
+    bad: usize,
+}
+
+impl Refusing {
+    pub fn new(bad: usize) -> Self {
+        Refusing { writes: 0, bad }
+    }
+}
+
+impl Write for Refusing {
+    fn write_str(&mut self, _text: &str) -> fmt::Result {
+        self.writes = self.writes.saturating_add(1);
+        if self.writes == self.bad {
+            Err(fmt::Error)
+        } else {
+            Ok(())
+        }
+    }
+}
