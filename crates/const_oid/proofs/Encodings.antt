@@ -41,7 +41,7 @@ part_sound limit part p h =
     let (first, small, last) = part_tests limit part h in
     (record { chained = chain_from_part part p last; shortest = shortest part first; value = refl }, small)
 
-part_none : (limit n : ℕ) (part : List ℕ) → IsGroup n part → n ≤ limit → part_fault limit part ≡ None
+pub part_none : (limit n : ℕ) (part : List ℕ) → IsGroup n part → n ≤ limit → part_fault limit part ≡ None
 part_none limit n part g l =
     rw (begins_with_128-not part g.shortest, le-ltb limit (value_of part) (rw g.value at l), finished_from_chain part g.chained)
 

@@ -18,8 +18,12 @@ pub mod TextPass
 pub mod Octets
 pub mod Written
 pub mod Started
+pub mod Parts
 pub mod Parents
+pub mod Printed
 pub mod Subtree
 pub mod Overflow
 pub mod Tree
 pub mod Names
+pub mod Wider
+pub mod Widened

@@ -1,14 +1,19 @@
 -- Octets without their last part.
-use Rattle.std.proofs.Common.{◌≡◌, ◌≢◌, ℕ, zero, suc, ◌+◌, ◌-◌, ◌/◌, ◌%◌, ◌<◌, ◌≤◌, List, [], ◌∷◌, ◌++◌, length, map, take, slice_index, Some, None, refl, sym, ap, ◌∙◌, arith, lt-ltb, length-append}
-use Rattle.std.specs.List.{onto_first}
+use Rattle.std.proofs.Common.{◌≡◌, ◌≢◌, ℕ, zero, suc, ◌+◌, ◌-◌, ◌/◌, ◌%◌, ◌<◌, ◌≤◌, List, [], ◌∷◌, ◌++◌, length, map, take, slice_index, Some, None, refl, sym, ap, ◌∙◌, arith, lt-ltb, le-ltb, length-append, ⊎_elim}
+use Rattle.std.specs.Prelude.{◌↔◌}
+use Rattle.std.specs.List.{onto_first, concat}
+use Rattle.std.proofs.lemmas.Bool.{cases_lt}
 use Rattle.std.proofs.lemmas.List.{length-map, take-map}
 use Rattle.std.proofs.Math.Seq.{take-append_seam}
 use Rattle.std.proofs.lemmas.Bool.Decides.{nat_tests}
 use Rattle.const_oid.specs.Base128.{value_of}
-use Rattle.const_oid.specs.Identifier.{RootRule, most_arc}
+use Rattle.const_oid.specs.Identifier.{RootRule, most_arc, IsIdentifier, IsEncoding}
 use Rattle.const_oid.specs.Contents.{cut, cut_behind, part_fault, first_fault, later_fault, parts_fault, arcs_from, arcs_of_octets}
 use Rattle.const_oid.specs.Tree.{parent_of}
 use Rattle.const_oid.proofs.Faults.{both_none}
+use Rattle.const_oid.proofs.Tree.{child_of-parent_of}
+use Rattle.const_oid.proofs.Children.{encoding_parent}
+use Rattle.const_oid.proofs.Lengths.{length_by_parts}
 use Rattle.const_oid.proofs.Cutting.{cut_behind-last, cut_behind-more, cut_behind-some, cut-some}
 
 -- ---- where the last part begins
@@ -109,3 +114,33 @@ no_parent rule octets e h = at (cut octets) e h
         let n : length (part ∷ next ∷ later) - 1 ≡ suc (length later) = omega arith in
         let f = rw n at e in
         cc
+
+-- ---- a parent's octets, whatever the rule
+
+-- they are those without the last part
+pub parent_octets : (rule : RootRule) (arcs parent octets : List ℕ) → IsEncoding rule arcs octets → parent_of arcs ≡ Some parent → let parts = cut octets in IsEncoding rule parent (concat (take (length parts - 1) parts))
+parent_octets rule arcs parent octets e p =
+    let (i, arc, small, joined) = child_of-parent_of rule arcs parent e.identifier p in
+    let (front, last, parts, encoding) = encoding_parent rule parent octets arc i (rw joined e) in
+    rw (parts, but_last front last) encoding
+
+none_of_two : (arcs : List ℕ) → 2 ≤ length arcs → (parent_of arcs ≡ None) ↔ (length arcs ≡ 2)
+none_of_two arcs two = ⊎_elim
+    (λ (more : 2 < length arcs). (λ none. cc (none, some more), λ e. absurd (omega (arith, e))))
+    (λ (few : length arcs ≤ 2). (λ none. omega arith, λ e. rw (le-ltb 2 (length arcs) few)))
+    (cases_lt 2 (length arcs))
+  where
+    some : 2 < length arcs → parent_of arcs ≡ Some (take (length arcs - 1) arcs)
+    some more = rw (lt-ltb 2 (length arcs) more)
+
+two_arcs : (rule : RootRule) (arcs : List ℕ) → IsIdentifier rule arcs → 2 ≤ length arcs
+two_arcs rule [] i = absurd i
+two_arcs rule (a ∷ []) i = absurd i
+two_arcs rule (a ∷ b ∷ later) i = omega arith
+
+-- and of one part there are none
+pub parent_of_one : (rule : RootRule) (arcs octets : List ℕ) → IsEncoding rule arcs octets → (parent_of arcs ≡ None) ↔ (length (cut octets) ≡ 1)
+parent_of_one rule arcs octets e =
+    let long = length_by_parts rule arcs octets e in
+    let (to, from) = none_of_two arcs (two_arcs rule arcs e.identifier) in
+    (λ none. omega (arith, to none), λ one. from (omega arith))

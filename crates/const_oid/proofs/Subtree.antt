@@ -1,5 +1,5 @@
 -- Where a test cuts a sorted list, and where a sorted list holds the identifiers that begin with one.
-use Rattle.std.proofs.Common.{◌≡◌, ◌+◌, ◌<◌, ◌≤◌, ℕ, suc, Bool, true, false, cond, ◌||◌, List, [], ◌∷◌, length, get_or, count_by, refl, arith, ⊎_elim, nat_cmp}
+use Rattle.std.proofs.Common.{◌≡◌, ◌+◌, ◌<◌, ℕ, suc, Bool, true, false, cond, ◌||◌, List, [], ◌∷◌, length, get_or, count_by, refl, arith, sym, zero, ◌∙◌, ◌≤◌, ⊎_elim, nat_cmp}
 use Rattle.std.specs.Prelude.{◌↔◌, IfSome, slice_get}
 use Rattle.std.specs.Cmp.{IsStrictWeakOrder}
 use Rattle.std.specs.List.{prefix_len}
@@ -8,7 +8,7 @@ use Rattle.std.specs.Cmp.Lexicographic.{slice_cmp}
 use Rattle.std.proofs.lemmas.Bool.{false_from_ne_true}
 use Rattle.std.proofs.lemmas.Grind.{common_steps}
 use Rattle.std.proofs.lemmas.List.Sorted.{sorted_far, ranks_by}
-use Rattle.std.proofs.lemmas.List.Sums.{sum_by-cons, sum_by-le, prefix_len_passes, prefix_len_stops, count_by-le-length}
+use Rattle.std.proofs.lemmas.List.Sums.{sum_by-cons, sum_by-le}
 use Rattle.std.proofs.lemmas.Cmp.{nat_list_cmp_total}
 use Rattle.std.proofs.lemmas.Option.{slice_get_cases}
 use Rattle.const_oid.specs.declared.oid_ref.ObjectIdentifierRef.{ObjectIdentifierRef}
@@ -36,13 +36,22 @@ module _ {X : Type 0} (p : X → Bool) where
     | false ↦ λ e. rw (sum_by-cons (λ y. cond (p y) 1 0) x xs, e) (omega (arith, count_by-none xs (λ k d l. false_from_ne_true (p (get_or xs k d)) (λ t. cc (cut 0 (suc k) d (omega arith) (omega arith) t, e)))))
   ] refl
 
-  -- there the place of the cut is the number of those that pass
-  point_from_count : (xs : List X) → IsPartitionedBy p xs → IsPartitionPoint (λ x. p x ≡ true) (λ x. p x ≡ false) xs (count_by p xs)
-  point_from_count xs cut =
-      let e = count_by-prefix xs cut in (
-        λ k d _ m. prefix_len_passes p xs k d (omega arith),
-        λ k d m l. false_from_ne_true (p (get_or xs k d)) (λ t. cc (prefix_len_stops p xs d (omega arith), cut (prefix_len p xs) k d (omega arith) l t)),
-      )
+-- a place where a test cuts a list is the number of those that pass
+point_is_prefix : {X : Type 0} (p : X → Bool) (xs : List X) (a : ℕ) → a ≤ length xs → IsPartitionPoint (λ x. p x ≡ true) (λ x. p x ≡ false) xs a → a ≡ prefix_len p xs
+point_is_prefix p [] a l cut = omega (arith)
+point_is_prefix p (x ∷ xs) zero l cut = rw (cut.1 0 x (omega arith) (omega arith)) refl
+point_is_prefix p (x ∷ xs) (suc a) l cut =
+    rw (cut.0 0 x (omega arith) (omega arith))
+    (omega (
+      arith,
+      point_is_prefix p xs a (omega arith) (
+        λ k d m n. cut.0 (suc k) d (omega arith) (omega arith),
+        λ k d m n. cut.1 (suc k) d (omega arith) (omega arith),
+      ),
+    ))
+
+pub point_is_count : {X : Type 0} (p : X → Bool) (xs : List X) (a : ℕ) → IsPartitionedBy p xs → a ≤ length xs → IsPartitionPoint (λ x. p x ≡ true) (λ x. p x ≡ false) xs a → a ≡ count_by p xs
+point_is_count p xs a by l cut = point_is_prefix p xs a l cut ∙ sym (count_by-prefix p xs by)
 
 -- as many pass one of two tests that no element passes both of
 count_by-either : {X : Type 0} (p b : X → Bool) → ((x : X) → b x ≡ true → p x ≡ false) → (xs : List X) → count_by p xs + count_by b xs ≡ count_by (λ x. p x || b x) xs
@@ -67,7 +76,7 @@ module _ (front : ObjectIdentifierRef) where
   abbrev pub ref_is_under : ObjectIdentifierRef → Bool
   ref_is_under oid = is_under (ref_octets front) (ref_octets oid)
 
-  abbrev ref_is_within : ObjectIdentifierRef → Bool
+  abbrev pub ref_is_within : ObjectIdentifierRef → Bool
   ref_is_within oid = is_within (ref_octets front) (ref_octets oid)
 
   -- beginning in octets is beginning in arcs
@@ -79,7 +88,7 @@ module _ (front : ObjectIdentifierRef) where
   ref_under_apart oid = under_apart (ref_octets front) (ref_octets oid)
 
   -- what stands where, by the places where the two tests cut the list
-  places_between : (sorted : List ObjectIdentifierRef) (from to : ℕ) → IsPartitionPoint (λ oid. ref_is_before oid ≡ true) (λ oid. ref_is_before oid ≡ false) sorted from → IsPartitionPoint (λ oid. ref_is_within oid ≡ true) (λ oid. ref_is_within oid ≡ false) sorted to → (k : ℕ) → IfSome (slice_get sorted k) (λ oid. BeginsWith (ref_arcs oid) (ref_arcs front) ↔ ((from ≤ k) × (k < to)))
+  pub places_between : (sorted : List ObjectIdentifierRef) (from to : ℕ) → IsPartitionPoint (λ oid. ref_is_before oid ≡ true) (λ oid. ref_is_before oid ≡ false) sorted from → IsPartitionPoint (λ oid. ref_is_within oid ≡ true) (λ oid. ref_is_within oid ≡ false) sorted to → (k : ℕ) → IfSome (slice_get sorted k) (λ oid. BeginsWith (ref_arcs oid) (ref_arcs front) ↔ ((from ≤ k) × (k < to)))
   places_between sorted from to first second k = ⊎_elim
       (λ (oid, l, e, read).
       let (places, inside) = rw read at (between_points ref_is_before ref_is_under ref_under_apart sorted from to first second k oid l) in
@@ -92,19 +101,12 @@ module _ (front : ObjectIdentifierRef) where
     cut_by : (p : ObjectIdentifierRef → Bool) → ((x z : ObjectIdentifierRef) → is_before (ref_octets x) (ref_octets z) ≡ false → p z ≡ true → p x ≡ true) → IsPartitionedBy p sorted
     cut_by p down = partitioned (λ x y. is_before (ref_octets y) (ref_octets x)) (ranks_by nat_list_cmp_total ref_octets) p down sorted up
 
-    cut_before : IsPartitionedBy ref_is_before sorted
+    pub cut_before : IsPartitionedBy ref_is_before sorted
     cut_before = cut_by ref_is_before (λ x z. before_down (ref_octets front) (ref_octets x) (ref_octets z))
 
-    cut_within : IsPartitionedBy ref_is_within sorted
+    pub cut_within : IsPartitionedBy ref_is_within sorted
     cut_within = cut_by ref_is_within (λ x z. within_down (ref_octets front) (ref_octets x) (ref_octets z))
 
-    -- the same by the numbers of what is before and under the front
-    pub counted_places : (from inside : ℕ) → from ≡ count_by ref_is_before sorted → inside ≡ count_by ref_is_under sorted → (k : ℕ) → IfSome (slice_get sorted k) (λ oid. BeginsWith (ref_arcs oid) (ref_arcs front) ↔ ((from ≤ k) × (k < from + inside)))
-    counted_places from inside e f =
-        let first = point_from_count ref_is_before sorted cut_before in
-        let second = point_from_count ref_is_within sorted cut_within in
-        rw (e, f, count_by-either ref_is_before ref_is_under ref_under_apart sorted)
-        (places_between sorted (count_by ref_is_before sorted) (count_by ref_is_within sorted) first second)
-
-  pub counted_bounds : (sorted : List ObjectIdentifierRef) (from inside : ℕ) → from ≡ count_by ref_is_before sorted → inside ≡ count_by ref_is_under sorted → from + inside ≤ length sorted
-  counted_bounds sorted from inside e f = omega (arith, count_by-either ref_is_before ref_is_under ref_under_apart sorted, count_by-le-length ref_is_within sorted)
+  -- no more stand before the front than before or under it
+  pub counted_to : (sorted : List ObjectIdentifierRef) → count_by ref_is_before sorted ≤ count_by ref_is_within sorted
+  counted_to sorted = omega (arith, count_by-either ref_is_before ref_is_under ref_under_apart sorted)

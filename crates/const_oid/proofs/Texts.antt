@@ -33,7 +33,7 @@ numbers_of-decimals : (arcs : List ℕ) → AllByRecursion (λ n. n ≤ most_arc
 numbers_of-decimals [] l = refl
 numbers_of-decimals (n ∷ ns) l = let e = number_of-decimal n l.0 in let f = numbers_of-decimals ns l.1 in cc
 
-second_small : (rule : RootRule) (a b : ℕ) → b ≤ most_second rule a → b ≤ most_arc
+pub second_small : (rule : RootRule) (a b : ℕ) → b ≤ most_second rule a → b ≤ most_arc
 second_small Narrow a b h = omega arith
 second_small Wide a b h = grind (arith, nat_tests)
 
@@ -113,6 +113,9 @@ piece_sound rule before piece after h =
       arc = arc;
       several = several;
     }
+
+pub arc_from_piece : (rule : RootRule) (before piece : List ℕ) (after : List (List ℕ)) → piece_fault rule before piece after ≡ None → arc_fault rule 39 before (number_of piece) ≡ None
+arc_from_piece rule before piece after h = (piece_sound rule before piece after h).arc
 
 -- ---- whole texts
 

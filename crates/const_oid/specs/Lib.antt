@@ -5,6 +5,7 @@ pub mod Contents
 pub mod Items
 pub mod Text
 pub mod Tree
+pub mod Wider
 pub mod Orders
 pub mod Message
 pub mod Arcs

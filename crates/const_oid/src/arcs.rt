@@ -1,12 +1,13 @@
 //! Contents octets read as arcs (X.690, 8.19.2 to 8.19.4).
-ghost use Rattle.std.specs.Prelude.{◌≡◌, ℕ, ◌≤◌, List, ◌∷◌, map, None};
+ghost use Rattle.std.specs.Prelude.{◌≡◌, ℕ, ◌≤◌, List, ◌∷◌, map, slice_get, None};
 ghost use Rattle.std.specs.Result.{result_err};
 ghost use Rattle.std.specs.Iterator.{YieldsFirst, item_count};
 ghost use Rattle.const_oid.specs.Base128.{value_of};
-ghost use Rattle.const_oid.specs.Identifier.{root_rule, Wide};
+ghost use Rattle.const_oid.specs.Identifier.{root_rule, most_arc};
 ghost use Rattle.const_oid.specs.Contents.{cut, later_fault, parts_fault, most_first, arcs_from, arcs_of_octets};
 
 use crate::error::{Error, Result};
+use crate::scan::part;
 use std::marker::Model;
 
 /// An arc: a number of a path, of 32 bits.
@@ -86,11 +87,36 @@ impl Iterator for Arcs<'_> {
     }
 }
 
+/// The arc at a place, counted from 0, of octets without a fault, or `None` past the last. Parts
+/// before the one that holds it are passed over unread.
+pub(crate) fn arc_at(octets: &[u8], index: usize) -> Option<Arc>
+    requires { parts_fault root_rule (cut octets.now) ≡ None }
+    ensures { result ≡ slice_get (arcs_of_octets octets.now) index }
+{
+    if index < 2 {
+        let (first, second) = split_root(read_group(octets).0);
+        return Some(if index == 0 { first } else { second });
+    }
+    Some(read_part(part(octets, index - 1)?))
+}
+
+/// The arc that a part stands for.
+fn read_part(part: &[u8]) -> Arc
+    requires { value_of part.now ≤ most_arc }
+    ensures { result ≡ value_of part.now }
+{
+    let mut arc: Arc = 0;
+    for octet in part {
+        arc = arc * 128 + (*octet % 128) as Arc;
+    }
+    arc
+}
+
 /// The number of the first group, and the octets after it.
 fn read_group(octets: &[u8]) -> (u64, &[u8])
-    requires { parts_fault Wide (cut octets.now) ≡ None }
+    requires { parts_fault root_rule (cut octets.now) ≡ None }
     ensures numbers { map value_of (cut octets.now) ≡ result.0 ∷ map value_of (cut result.1.now) }
-    ensures small { result.0 ≤ most_first Wide }
+    ensures small { result.0 ≤ most_first root_rule }
     ensures later { later_fault (cut result.1.now) ≡ None }
 {
     let mut number: u64 = 0;
@@ -105,7 +131,7 @@ fn read_group(octets: &[u8]) -> (u64, &[u8])
 
 /// The two arcs that the first subidentifier holds.
 fn split_root(root: u64) -> (Arc, Arc)
-    requires { root ≤ most_first Wide }
+    requires { root ≤ most_first root_rule }
     ensures { (later : List ℕ) → arcs_from (root ∷ later) ≡ result.0 ∷ result.1 ∷ later }
 {
     if root < 80 {
@@ -115,6 +141,9 @@ fn split_root(root: u64) -> (Arc, Arc)
     }
 }
 
+/// The greatest first subidentifier: of the first arc 2 and the greatest second arc.
+const MOST_FIRST: u64 = 2 * 40 + Arc::MAX as u64;
+
 /// The fault of octets, whatever their number, if there is one.
 pub(crate) fn check(octets: &[u8]) -> Result<()>
     ensures { result_err result ≡ parts_fault root_rule (cut octets.now) }
@@ -123,7 +152,7 @@ pub(crate) fn check(octets: &[u8]) -> Result<()>
         return Err(Error::Empty);
     }
     let mut number: u64 = 0;
-    let mut limit: u64 = 4294967375;
+    let mut limit = MOST_FIRST;
     let mut begun = false;
     for octet in octets {
         if !begun && *octet == 0x80 {

@@ -37,16 +37,25 @@ impl<const SIZE: usize> Buffer<SIZE> {
             (λ fault. (fault ≡ Error.Length) × (min SIZE 255 < length octets.now)) }
         ensures copied { IfOk result (λ buffer. octets_of buffer ≡ octets.now) }
     {
-        let count = octets.len();
-        if count > SIZE.min(255) {
+        if octets.len() > SIZE.min(255) {
             return Err(Error::Length);
         }
+        Ok(Self::copied(octets))
+    }
+
+    /// The octets copied, which fit.
+    #[inline(always)]
+    pub(crate) fn copied(octets: &[u8]) -> Self
+        requires { length octets.now ≤ min SIZE 255 }
+        ensures { octets_of result ≡ octets.now }
+    {
+        let count = octets.len();
         let mut bytes = [0; SIZE];
         bytes[..count].copy_from_slice(octets);
-        Ok(Buffer {
+        Buffer {
             used: count as u8,
             bytes,
-        })
+        }
     }
 
     /// Appends the group of a number, or answers `Length` where it does not fit.

@@ -2,35 +2,46 @@
 //!
 //! A `rule` is any of the two rules of the root; the crate keeps `root_rule`.
 
-ghost use Rattle.std.specs.Prelude.{◌≡◌, ◌≢◌, ◌↔◌, ℕ, ◌+◌, ◌*◌, ◌<◌, ◌≤◌, List, [], ◌∷◌, ◌++◌, length, map, drop, nat_lt, sum_by, count_by, Some, None, codes};
+ghost use Rattle.std.specs.Prelude.{◌≡◌, ◌≢◌, ◌↔◌, ℕ, ◌+◌, ◌*◌, ◌<◌, ◌≤◌, List, [], ◌∷◌, ◌++◌, length, map, drop, nat_lt, sum_by, count_by, Some, None, Ok, codes, ◌-◌, take, slice_get};
 ghost use Rattle.std.specs.Cmp.Lexicographic.{slice_cmp};
 ghost use Rattle.std.specs.List.{AllByRecursion, AllZip, concat};
+ghost use Rattle.std.specs.Option.{option_map};
 ghost use Rattle.std.specs.Ordering.{nat_cmp};
 ghost use Rattle.std.specs.declared.cmp.Ordering.TheVariants.{Less, Greater};
 ghost use Rattle.const_oid.specs.Faults.{fault_if};
-ghost use Rattle.const_oid.specs.Items.{arc_fault, item_fault};
+ghost use Rattle.const_oid.specs.Items.{arc_fault, item_fault, item_answer};
 ghost use Rattle.const_oid.specs.declared.error.Error.TheVariants.{ArcInvalid, ArcTooBig, Base128, DigitExpected, Empty, Length, Overflow, TrailingDot};
 ghost use Rattle.const_oid.specs.Base128.{AreOctets, value_of, IsGroup, IsWidth, group_of, width};
-ghost use Rattle.const_oid.specs.Contents.{cut, octet_fault, arcs_of_octets};
-ghost use Rattle.const_oid.specs.Identifier.{RootRule, Narrow, most_arc, most_second, IsIdentifier, IsEncoding, encoding_of, size};
+ghost use Rattle.const_oid.specs.Contents.{cut, octet_fault, octet_answer, arcs_of_octets, arcs_from};
+ghost use Rattle.const_oid.specs.Identifier.{RootRule, Narrow, Wide, root_rule, most_arc, most_second, IsIdentifier, IsEncoding, encoding_of, size};
 ghost use Rattle.const_oid.specs.Orders.{short_cmp};
-ghost use Rattle.const_oid.specs.Text.{text_fault, text_of, pieces_of, number_of, Denotes, strip};
+ghost use Rattle.const_oid.specs.Text.{text_fault, text_answer, text_of, pieces_of, number_of, Denotes, strip};
 ghost use Rattle.const_oid.specs.Tree.{BeginsWith, child_of, parent_of};
+ghost use Rattle.const_oid.specs.Wider.{IsPastNarrow, RefusesSecond};
 
-/// Worked rows, which the definitions compute.
+/// Worked rows, which the definitions compute: under the rule that is kept, and the last one under the
+/// narrow rule.
 pub fn worked_rows()
     ensures read { arcs_of_octets (0x2A ∷ 0x86 ∷ 0x48 ∷ 0xCE ∷ 0x3D ∷ 2 ∷ 1 ∷ []) ≡ 1 ∷ 2 ∷ 840 ∷ 10045 ∷ 2 ∷ 1 ∷ [] }
-    ensures root_past_119 { octet_fault Narrow (0xFF ∷ []) 39 ≡ Some (ArcInvalid 6) }
-    ensures unfinished { octet_fault Narrow (0x2A ∷ 0x81 ∷ []) 39 ≡ Some Base128 }
-    ensures past_32_bits { octet_fault Narrow (0x2A ∷ 0x90 ∷ 0x80 ∷ 0x80 ∷ 0x80 ∷ 0x80 ∷ []) 39 ≡ Some ArcTooBig }
+    ensures two_octets { octet_answer root_rule (0x88 ∷ 0x37 ∷ []) 39 ≡ Ok (2 ∷ 999 ∷ []) }
+    ensures greatest { octet_answer root_rule (0x90 ∷ 0x80 ∷ 0x80 ∷ 0x80 ∷ 0x4F ∷ []) 39 ≡ Ok (2 ∷ 4294967295 ∷ []) }
+    ensures past_greatest { octet_fault root_rule (0x90 ∷ 0x80 ∷ 0x80 ∷ 0x80 ∷ 0x50 ∷ []) 39 ≡ Some ArcTooBig }
+    ensures zero_first { octet_fault root_rule (0x80 ∷ 1 ∷ []) 39 ≡ Some Base128 }
+    ensures one_unfinished { octet_fault root_rule (0xFF ∷ []) 39 ≡ Some Base128 }
+    ensures unfinished { octet_fault root_rule (0x2A ∷ 0x81 ∷ []) 39 ≡ Some Base128 }
+    ensures past_32_bits { octet_fault root_rule (0x2A ∷ 0x90 ∷ 0x80 ∷ 0x80 ∷ 0x80 ∷ 0x80 ∷ []) 39 ≡ Some ArcTooBig }
     ensures width { width 4294967295 ≡ 5 }
-    ensures dot_before_range { text_fault Narrow (codes "3.") ≡ Some TrailingDot }
-    ensures range_before_second_dot { text_fault Narrow (codes "3..") ≡ Some (ArcInvalid 3) }
-    ensures size_before_digit { text_fault Narrow (codes "1.2.4294967296X") ≡ Some ArcTooBig }
-    ensures digit { text_fault Narrow (codes "1.2.429496729X") ≡ Some (DigitExpected 0x58) }
-    ensures single { text_fault Narrow (codes "1") ≡ Some Empty }
+    ensures size { size (2 ∷ 4294967295 ∷ []) ≡ 5 }
+    ensures dot_before_range { text_fault root_rule (codes "3.") ≡ Some TrailingDot }
+    ensures range_before_second_dot { text_fault root_rule (codes "3..") ≡ Some (ArcInvalid 3) }
+    ensures range { text_fault root_rule (codes "1.40") ≡ Some (ArcInvalid 40) }
+    ensures size_before_digit { text_fault root_rule (codes "1.2.4294967296X") ≡ Some ArcTooBig }
+    ensures digit { text_fault root_rule (codes "1.2.429496729X") ≡ Some (DigitExpected 0x58) }
+    ensures single { text_fault root_rule (codes "1") ≡ Some Empty }
+    ensures taken { text_answer root_rule (codes "2.999") ≡ Ok (2 ∷ 999 ∷ []) }
     ensures printed { text_of (1 ∷ 2 ∷ 840 ∷ []) ≡ codes "1.2.840" }
-    ensures second_past_39 { item_fault Narrow (1 ∷ 40 ∷ 840 ∷ []) ≡ Some (ArcInvalid 40) }
+    ensures second_past_39 { item_fault root_rule (1 ∷ 40 ∷ 840 ∷ []) ≡ Some (ArcInvalid 40) }
+    ensures narrow { octet_fault Narrow (0xFF ∷ []) 39 ≡ Some (ArcInvalid 6) }
 {}
 
 /// Each number has exactly one group, whose length is the number's width.
@@ -132,6 +143,53 @@ pub fn items_denote()
         → IsIdentifier rule items × (size items ≤ 39) }
 {}
 
+/// The wide rule keeps the answers of the narrow one, but where that refused the second arc under 2;
+/// what was accepted keeps its arcs, its octets, and so its text and both orders.
+pub fn wide_keeps()
+    ensures no_octets { (capacity : ℕ) → octet_answer Wide [] capacity ≡ octet_answer Narrow [] capacity }
+    ensures octets { (x : ℕ) (xs : List ℕ) (capacity : ℕ) → x < 120
+        → octet_answer Wide (x ∷ xs) capacity ≡ octet_answer Narrow (x ∷ xs) capacity }
+    ensures texts { (text : List ℕ)
+        → (RefusesSecond (map number_of (pieces_of text)) (text_fault Narrow text) → ⊥)
+        → text_answer Wide text ≡ text_answer Narrow text }
+    ensures items { (items : List ℕ) → (RefusesSecond items (item_fault Narrow items) → ⊥)
+        → item_answer Wide items ≡ item_answer Narrow items }
+    ensures octets_accepted { (octets arcs : List ℕ) (capacity : ℕ)
+        → octet_answer Narrow octets capacity ≡ Ok arcs → octet_answer Wide octets capacity ≡ Ok arcs }
+    ensures texts_accepted { (text arcs : List ℕ) → text_answer Narrow text ≡ Ok arcs
+        → text_answer Wide text ≡ Ok arcs }
+    ensures items_accepted { (items arcs : List ℕ) → item_answer Narrow items ≡ Ok arcs
+        → item_answer Wide items ≡ Ok arcs }
+    ensures encodings { (arcs octets : List ℕ) → IsEncoding Narrow arcs octets
+        → IsEncoding Wide arcs octets }
+    ensures denoted { (text arcs : List ℕ) → Denotes Narrow text arcs → Denotes Wide text arcs }
+    ensures short_order { (a b v w x y : List ℕ) → IsEncoding Narrow a v → IsEncoding Narrow b w
+        → IsEncoding Wide a x → IsEncoding Wide b y → short_cmp x y ≡ short_cmp v w }
+    ensures list_order { (a b v w x y : List ℕ) → IsEncoding Narrow a v → IsEncoding Narrow b w
+        → IsEncoding Wide a x → IsEncoding Wide b y
+        → slice_cmp nat_cmp x y ≡ slice_cmp nat_cmp v w }
+{}
+
+/// What the wide rule accepts and the narrow one refuses is exactly what denotes, within the capacity,
+/// a list with the first arc 2 and a second arc past 39.
+pub fn wide_adds()
+    ensures octets { (octets : List ℕ) (capacity : ℕ) → AreOctets octets
+        → (octet_fault Wide octets capacity ≡ None) × (octet_fault Narrow octets capacity ≢ None)
+        ↔ ((arcs : List ℕ) × IsEncoding Wide arcs octets × IsPastNarrow arcs × (length octets ≤ capacity)) }
+    ensures texts { (text : List ℕ)
+        → (text_fault Wide text ≡ None) × (text_fault Narrow text ≢ None)
+        ↔ ((arcs : List ℕ) × Denotes Wide text arcs × IsPastNarrow arcs × (size arcs ≤ 39)) }
+    ensures items { (items : List ℕ) → AllByRecursion (λ n. n ≤ most_arc) items
+        → (item_fault Wide items ≡ None) × (item_fault Narrow items ≢ None)
+        ↔ (IsIdentifier Wide items × IsPastNarrow items × (size items ≤ 39)) }
+{}
+
+/// Under the wide rule no octets have an arc out of range.
+pub fn octets_in_range()
+    ensures { (arc : ℕ) (octets : List ℕ) (capacity : ℕ)
+        → octet_fault Wide octets capacity ≢ Some (ArcInvalid arc) }
+{}
+
 /// Under the narrow rule the first two arcs take one octet.
 pub fn narrow_root()
     ensures octets { (a b : ℕ) (later octets : List ℕ) → IsEncoding Narrow (a ∷ b ∷ later) octets
@@ -143,7 +201,8 @@ pub fn narrow_root()
         → size (a ∷ b ∷ later) ≡ 1 + sum_by width later }
 {}
 
-/// How many arcs octets have, and which they are behind the first two.
+/// How many arcs octets have, and which part each is read from: the first two from the first part, a
+/// later one from a part of its own.
 pub fn parts()
     ensures count { (rule : RootRule) (arcs octets : List ℕ) → IsEncoding rule arcs octets
         → length arcs ≡ 1 + count_by (λ x. nat_lt x 128) octets }
@@ -151,6 +210,10 @@ pub fn parts()
         → length arcs ≡ 1 + length (cut octets) }
     ensures later { (rule : RootRule) (arcs octets : List ℕ) → IsEncoding rule arcs octets
         → drop 2 arcs ≡ map value_of (drop 1 (cut octets)) }
+    ensures root { (rule : RootRule) (arcs octets : List ℕ) → IsEncoding rule arcs octets
+        → take 2 arcs ≡ arcs_from (map value_of (take 1 (cut octets))) }
+    ensures arc { (rule : RootRule) (arcs octets : List ℕ) (i : ℕ) → IsEncoding rule arcs octets
+        → 2 ≤ i → slice_get arcs i ≡ option_map value_of (slice_get (cut octets) (i - 1)) }
 {}
 
 /// A child's octets go on by one group; a parent's are those without the last part. A child's parent
@@ -167,6 +230,17 @@ pub fn tree()
     ensures again { (rule : RootRule) (arcs parent : List ℕ) → IsIdentifier rule arcs
         → parent_of arcs ≡ Some parent
         → IsIdentifier rule parent × (last : ℕ) × (last ≤ most_arc) × (child_of parent last ≡ arcs) }
+    ensures octets { (rule : RootRule) (arcs parent octets : List ℕ) → IsEncoding rule arcs octets
+        → parent_of arcs ≡ Some parent
+        → let parts = cut octets in IsEncoding rule parent (concat (take (length parts - 1) parts)) }
+    ensures none { (rule : RootRule) (arcs octets : List ℕ) → IsEncoding rule arcs octets
+        → (parent_of arcs ≡ None) ↔ (length (cut octets) ≡ 1) }
+{}
+
+/// An identifier of n octets prints at most 4 n bytes.
+pub fn printed_length()
+    ensures { (rule : RootRule) (arcs octets : List ℕ) → IsEncoding rule arcs octets
+        → length (text_of arcs) ≤ 4 * length octets }
 {}
 
 /// Descendants stand together behind their ancestor in list order, and behind it where shorter

@@ -10,6 +10,7 @@ pub mod laws;
 pub mod oid;
 pub mod oid_ref;
 mod parser;
+mod scan;
 pub mod traits;
 #[cfg(test)]
 mod vectors;

@@ -16,6 +16,7 @@ use crate::encoder::Encoder;
 use crate::error::{Error, Result};
 use crate::oid_ref::ObjectIdentifierRef;
 use crate::parser::parse;
+use crate::scan::before_last;
 use std::cmp::Ordering;
 use std::fmt;
 use std::str::FromStr;
@@ -102,6 +103,7 @@ impl ObjectIdentifier<39> {
     pub fn from_bytes(ber_bytes: &[u8]) -> Result<Self>
         ensures answer { oid_answer result ≡ octet_answer root_rule ber_bytes.now 39 }
         ensures octets { IfOk result (λ oid. oid_octets oid ≡ ber_bytes.now) }
+        ensures encoding { IfOk result (λ oid. IsEncoding root_rule (oid_arcs oid) ber_bytes.now) }
     {
         Self::from_bytes_sized(ber_bytes)
     }
@@ -134,6 +136,7 @@ impl<const MAX_SIZE: usize> ObjectIdentifier<MAX_SIZE> {
     pub fn from_bytes_sized(ber_bytes: &[u8]) -> Result<Self>
         ensures answer { oid_answer result ≡ octet_answer root_rule ber_bytes.now (min MAX_SIZE 255) }
         ensures octets { IfOk result (λ oid. oid_octets oid ≡ ber_bytes.now) }
+        ensures encoding { IfOk result (λ oid. IsEncoding root_rule (oid_arcs oid) ber_bytes.now) }
     {
         Self::try_from_ref(ObjectIdentifierRef::from_bytes(ber_bytes)?)
     }
@@ -192,11 +195,11 @@ impl<const MAX_SIZE: usize> ObjectIdentifier<MAX_SIZE> {
     pub fn parent(&self) -> Option<Self>
         ensures { option_map oid_arcs result ≡ parent_of (oid_arcs self.now) }
     {
-        let front = without_last_part(self.as_bytes());
+        let front = before_last(self.as_bytes());
         if front.is_empty() {
             return None;
         }
-        let ber = Buffer::from_slice(front).ok()?;
+        let ber = Buffer::copied(front);
         Some(ObjectIdentifier { ber })
     }
 
@@ -217,20 +220,6 @@ impl<const MAX_SIZE: usize> ObjectIdentifier<MAX_SIZE> {
         ensures { IsTrue result ↔ BeginsWith (oid_arcs self.now) (oid_arcs other.entry) }
     {
         self.as_bytes().starts_with(other.as_bytes())
-    }
-}
-
-/// The octets before the last part: up to the last octet below 128 that others follow.
-fn without_last_part(octets: &[u8]) -> &[u8]
-    ensures parts { let parts = cut octets.now in cut result.now ≡ take (length parts - 1) parts }
-    ensures short { length result.now ≤ length octets.now }
-{
-    let Some((_, front)) = octets.split_last() else {
-        return octets;
-    };
-    match front.iter().rposition(|octet| *octet < 128) {
-        Some(index) => &front[..index + 1],
-        None => &front[..0],
     }
 }
 

@@ -9,9 +9,10 @@ ghost use Rattle.const_oid.specs.Contents.{cut, parts_fault, octet_answer, borro
 ghost use Rattle.const_oid.specs.Identifier.{root_rule, IsEncoding};
 ghost use Rattle.const_oid.specs.Text.{text_of};
 
-use crate::arcs::{Arc, Arcs, check};
+use crate::arcs::{Arc, Arcs, arc_at, check};
 use crate::error::{Error, Result};
 use crate::oid::ObjectIdentifier;
+use crate::scan::count_last;
 use std::cmp::Ordering;
 use std::fmt;
 
@@ -46,6 +47,7 @@ impl<'a> ObjectIdentifierRef<'a> {
     pub fn from_bytes(ber: &'a [u8]) -> Result<Self>
         ensures answer { ref_answer result ≡ octet_answer root_rule ber.now borrowed_capacity }
         ensures slice { IfOk result (λ oid. ref_slice oid ≡ ber.entry) }
+        ensures encoding { IfOk result (λ oid. IsEncoding root_rule (ref_arcs oid) ber.now) }
     {
         check(ber)?;
         if ber.len() > isize::MAX as usize {
@@ -74,7 +76,7 @@ impl<'a> ObjectIdentifierRef<'a> {
     pub fn arc(&self, index: usize) -> Option<Arc>
         ensures { result ≡ slice_get (ref_arcs self.now) index }
     {
-        self.arcs().nth(index)
+        arc_at(self.ber, index)
     }
 
     /// All arcs, in order.
@@ -88,7 +90,7 @@ impl<'a> ObjectIdentifierRef<'a> {
     pub fn len(&self) -> usize
         ensures { result ≡ length (ref_arcs self.now) }
     {
-        self.arcs().count()
+        count_last(self.ber) + 1
     }
 
     /// Whether an owned identifier, of any capacity, has the same octets, and so the same arcs.
@@ -111,12 +113,9 @@ impl<'a> ObjectIdentifierRef<'a> {
         ensures places { (k : ℕ) → IfSome (slice_get sorted.now k) (λ oid.
             BeginsWith (ref_arcs oid) (ref_arcs self.now) ↔ ((result.0 ≤ k) × (k < result.1))) }
     {
-        let from = sorted.iter().filter(|oid| **oid < *self).count();
-        let inside = sorted
-            .iter()
-            .filter(|oid| oid.ber.starts_with(self.ber))
-            .count();
-        (from, from + inside)
+        let from = sorted.partition_point(|oid| *oid < *self);
+        let to = sorted.partition_point(|oid| *oid < *self || oid.ber.starts_with(self.ber));
+        (from, to)
     }
 }
 

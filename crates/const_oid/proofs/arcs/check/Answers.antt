@@ -4,4 +4,4 @@ use Rattle.const_oid.proofs.OctetPass.{all_pass}
 use Rattle.const_oid.proofs.arcs.check.Goals as goal
 
 pub loop-octet-init : goal.loop-octet-init
-loop-octet-init c = (all_pass c.args.octets.now (grind (arith, common_steps)), omega arith, omega arith)
+loop-octet-init c = (all_pass c.args.octets.now (λ none. grind (arith, common_steps, none)), omega arith, omega arith)

@@ -1,8 +1,8 @@
-use Rattle.const_oid.proofs.Overflow.{octets_other, text_other, items_other}
+use Rattle.const_oid.proofs.Overflow.{octets_not_overflow, text_other, items_other}
 use Rattle.const_oid.proofs.laws.no_overflow.Goals as goal
 
 pub returns-clause-octets : goal.returns-clause-octets
-returns-clause-octets c = octets_other
+returns-clause-octets c = octets_not_overflow
 
 pub returns-clause-texts : goal.returns-clause-texts
 returns-clause-texts c = text_other

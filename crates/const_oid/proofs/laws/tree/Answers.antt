@@ -1,5 +1,6 @@
 use Rattle.const_oid.proofs.Tree.{parent_of-child_of, child_of-parent_of}
 use Rattle.const_oid.proofs.Children.{encoding_push, encoding_parent}
+use Rattle.const_oid.proofs.Parents.{parent_octets, parent_of_one}
 use Rattle.const_oid.proofs.laws.tree.Goals as goal
 
 pub returns-clause-child : goal.returns-clause-child
@@ -13,3 +14,9 @@ returns-clause-undone c = parent_of-child_of
 
 pub returns-clause-again : goal.returns-clause-again
 returns-clause-again c = child_of-parent_of
+
+pub returns-clause-octets : goal.returns-clause-octets
+returns-clause-octets c = parent_octets
+
+pub returns-clause-none : goal.returns-clause-none
+returns-clause-none c = parent_of_one

@@ -1,6 +1,11 @@
-use Rattle.std.proofs.Common.{inl, arith, ap, length}
-use Rattle.const_oid.proofs.Lengths.{length-arcs_of_octets}
+use Rattle.std.proofs.Common.{arith}
+use Rattle.const_oid.specs.Identifier.{root_rule}
+use Rattle.const_oid.specs.OidRef.{ref_arcs, ref_octets}
+use Rattle.const_oid.proofs.Encodings.{ref_encoding}
+use Rattle.const_oid.proofs.Lengths.{length_by_count}
 use Rattle.const_oid.proofs.oid_ref.ObjectIdentifierRef.len.Goals as goal
 
-pub count-requires-clause-fits : goal.count-requires-clause-fits
-count-requires-clause-fits c = inl (omega (arith, length-arcs_of_octets c.args.self.now.ber.now, ap length c.arcs.ensures))
+pub returns : goal.returns
+returns c =
+    let oid = c.args.self.now in
+    omega (arith, length_by_count root_rule (ref_arcs oid) (ref_octets oid) (ref_encoding oid), c.count_last.ensures.value)

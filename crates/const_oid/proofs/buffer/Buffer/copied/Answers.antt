@@ -1,6 +1,6 @@
 use Rattle.std.proofs.Common.{arith}
 use Rattle.const_oid.proofs.Octets.{are_octets, octets_copied, zeros_copied}
-use Rattle.const_oid.proofs.buffer.Buffer.from_slice.Goals as goal
+use Rattle.const_oid.proofs.buffer.Buffer.copied.Goals as goal
 
 pub invariant_of-result-clause-octets : goal.invariant_of-result-clause-octets
 invariant_of-result-clause-octets g c = octets_copied c.args.octets.now c.copy_from_slice.new.self _ c.copy_from_slice.ensures.after (are_octets c.args.octets.now (λ k _. omega (arith, c.type_inv.octets k)))

@@ -1,6 +1,6 @@
 use Rattle.std.proofs.Common.{rules}
 use Rattle.const_oid.proofs.Parents.{cut-before_last, cut-before_only}
-use Rattle.const_oid.proofs.oid.without_last_part.Goals as goal
+use Rattle.const_oid.proofs.scan.before_last.Goals as goal
 
 pub returns-in-Some-rposition-clause-parts : goal.returns-in-Some-rposition-clause-parts
 returns-in-Some-rposition-clause-parts c =

@@ -1,0 +1,69 @@
+-- An identifier of n octets prints at most 4 n bytes.
+use Rattle.std.proofs.Common.{◌≡◌, ℕ, ◌+◌, ◌*◌, ◌^◌, ◌<◌, ◌≤◌, List, [], ◌∷◌, length, ⊎_elim, arith, decimal, sum_by, length-append}
+use Rattle.std.specs.List.{AllByRecursion}
+use Rattle.std.proofs.Math.Nat.{pow-le-pow_right}
+use Rattle.std.proofs.lemmas.Bool.{cases_lt}
+use Rattle.std.proofs.lemmas.Fmt.{length-decimal-le}
+use Rattle.std.proofs.lemmas.List.Sums.{sum_by-cons}
+use Rattle.const_oid.specs.Base128.{width}
+use Rattle.const_oid.specs.Identifier.{RootRule, most_arc, most_second, IsEncoding}
+use Rattle.const_oid.specs.Text.{text_of}
+use Rattle.const_oid.proofs.Subidentifiers.{second_low}
+use Rattle.const_oid.proofs.Groups.{width_is}
+use Rattle.const_oid.proofs.Texts.{second_small}
+use Rattle.const_oid.proofs.Lengths.{length_is_size}
+
+-- a number past a power is wider than its exponent
+wider : (n k : ℕ) → 128 ^ k ≤ n → k < width n
+wider n k h = ⊎_elim
+    (λ (w : k < width n). w)
+    (λ (w : width n ≤ k).
+    let p : 128 ^ width n ≤ 128 ^ k = pow-le-pow_right (omega arith) w in
+    let e = (width_is n).enough in
+    absurd (omega arith))
+    (cases_lt k (width n))
+
+-- an arc, where the number that is encoded is at least the arc and takes two octets or more
+long_printed : (arc n : ℕ) → arc ≤ most_arc → arc ≤ n → 128 ≤ n → length (decimal arc) + 2 ≤ 4 * width n
+long_printed arc n small below two = ⊎_elim
+    (λ (b : n < 16384). omega (arith, length-decimal-le 5 arc (omega arith) (omega arith) (omega arith), wider n 1 two))
+    (λ (three : 16384 ≤ n). ⊎_elim
+    (λ (b : n < 2097152). omega (arith, length-decimal-le 7 arc (omega arith) (omega arith) (omega arith), wider n 2 three))
+    (λ (four : 2097152 ≤ n). omega (arith, length-decimal-le 10 arc (omega arith) (omega arith) (omega arith), wider n 3 four))
+    (cases_lt n 2097152))
+    (cases_lt n 16384)
+
+-- a later arc, with its dot
+arc_printed : (n : ℕ) → n ≤ most_arc → length (decimal n) + 1 ≤ 4 * width n
+arc_printed n h = ⊎_elim
+    (λ (b : n < 128). omega (arith, length-decimal-le 3 n (omega arith) (omega arith) (omega arith), (width_is n).positive))
+    (λ (m : 128 ≤ n). omega (arith, long_printed n n h (omega arith) m))
+    (cases_lt n 128)
+
+later_printed : (later : List ℕ) → AllByRecursion (λ n. n ≤ most_arc) later → sum_by (λ n. length (decimal n) + 1) later ≤ 4 * sum_by width later
+later_printed [] l = omega arith
+later_printed (n ∷ ns) l = omega (arith, sum_by-cons (λ m. length (decimal m) + 1) n ns, sum_by-cons width n ns, arc_printed n l.0, later_printed ns l.1)
+
+-- the first two arcs, with their dot
+root_printed : (rule : RootRule) (a b : ℕ) → a ≤ 2 → b ≤ most_second rule a → length (decimal a) + (length (decimal b) + 1) ≤ 4 * width (40 * a + b)
+root_printed rule a b p q =
+    let first = length-decimal-le 1 a (omega arith) (omega arith) (omega arith) in
+    let small = second_small rule a b q in
+    ⊎_elim
+    (λ (one : 40 * a + b < 128).
+    let low : b < 100 = ⊎_elim (λ (l : a < 2). omega (arith, second_low rule a b q l)) (λ (l : 2 ≤ a). omega arith) (cases_lt a 2) in
+    omega (arith, length-decimal-le 2 b (omega arith) (omega arith) (omega arith), (width_is (40 * a + b)).positive))
+    (λ (more : 128 ≤ 40 * a + b). omega (arith, long_printed b (40 * a + b) small (omega arith) more))
+    (cases_lt (40 * a + b) 128)
+
+length-text : (a : ℕ) (arcs : List ℕ) → length (text_of (a ∷ arcs)) ≡ length (decimal a) + sum_by (λ n. length (decimal n) + 1) arcs
+length-text a [] = omega arith
+length-text a (b ∷ arcs) =
+    omega (arith, length-append (decimal a) (46 ∷ text_of (b ∷ arcs)), length-text b arcs, sum_by-cons (λ n. length (decimal n) + 1) b arcs)
+
+pub printed_short : (rule : RootRule) (arcs octets : List ℕ) → IsEncoding rule arcs octets → length (text_of arcs) ≤ 4 * length octets
+printed_short rule [] octets e = absurd e.identifier
+printed_short rule (a ∷ []) octets e = absurd e.identifier
+printed_short rule (a ∷ b ∷ later) octets e =
+    let i = e.identifier in
+    omega (arith, length-text a (b ∷ later), sum_by-cons (λ n. length (decimal n) + 1) b later, root_printed rule a b i.0 i.1, later_printed later i.2, length_is_size rule (a ∷ b ∷ later) octets e, sum_by-cons width (40 * a + b) later)

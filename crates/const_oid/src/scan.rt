@@ -1,0 +1,74 @@
+//! Octets looked at for bit 8 alone: how many parts they end, and where parts begin and end.
+
+ghost use Rattle.std.specs.Prelude.{◌≡◌, ◌-◌, ◌≤◌, length, take, drop, count_by, nat_lt, slice_get};
+ghost use Rattle.std.specs.Option.{option_copied};
+ghost use Rattle.const_oid.specs.Contents.{cut};
+
+use std::simd::prelude::*;
+use std::simd::u8x32;
+
+/// How many octets are below 128, counted 32 at a time.
+pub(crate) fn count_last(octets: &[u8]) -> usize
+    ensures value { result ≡ count_by (λ x. nat_lt x 128) octets.now }
+    ensures fits { result ≤ length octets.now }
+{
+    let mut count = 0;
+    let mut rest = octets;
+    while rest.len() >= 32 {
+        let (lanes, behind) = rest.split_at(32);
+        count += count_lanes(lanes);
+        rest = behind;
+    }
+    count + rest.iter().filter(|octet| **octet < 128).count()
+}
+
+/// How many of 32 octets are below 128.
+#[inline(always)]
+fn count_lanes(octets: &[u8]) -> usize
+    requires { length octets.now ≡ 32 }
+    ensures value { result ≡ count_by (λ x. nat_lt x 128) octets.now }
+    ensures fits { result ≤ length octets.now }
+{
+    let lanes = u8x32::from_slice(octets).simd_lt(u8x32::splat(128));
+    lanes.to_bitmask().count_ones() as usize
+}
+
+/// The part at a place, counted from 0, or `None` past the last.
+pub(crate) fn part(octets: &[u8], index: usize) -> Option<&[u8]>
+    ensures { option_copied result ≡ slice_get (cut octets.now) index }
+{
+    let rest = behind(octets, index);
+    match rest.iter().position(|octet| *octet < 128) {
+        Some(last) => Some(&rest[..last + 1]),
+        None if rest.is_empty() => None,
+        None => Some(rest),
+    }
+}
+
+/// The octets behind so many parts.
+fn behind(octets: &[u8], parts: usize) -> &[u8]
+    ensures { cut result.now ≡ drop parts (cut octets.now) }
+{
+    let mut left = parts;
+    for (i, octet) in octets.iter().enumerate() {
+        if left == 0 {
+            return &octets[i..];
+        }
+        left -= usize::from(*octet < 128);
+    }
+    &octets[octets.len()..]
+}
+
+/// The octets before the last part: up to the last octet below 128 that others follow.
+pub(crate) fn before_last(octets: &[u8]) -> &[u8]
+    ensures parts { let parts = cut octets.now in cut result.now ≡ take (length parts - 1) parts }
+    ensures short { length result.now ≤ length octets.now }
+{
+    let Some((_, front)) = octets.split_last() else {
+        return octets;
+    };
+    match front.iter().rposition(|octet| *octet < 128) {
+        Some(index) => &front[..index + 1],
+        None => &front[..0],
+    }
+}
