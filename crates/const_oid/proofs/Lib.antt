@@ -19,6 +19,7 @@ pub mod Octets
 pub mod Written
 pub mod Started
 pub mod Parts
+pub mod Shapes
 pub mod Parents
 pub mod Printed
 pub mod Subtree
@@ -27,3 +28,4 @@ pub mod Tree
 pub mod Names
 pub mod Wider
 pub mod Widened
+pub mod Identifiers

@@ -39,12 +39,12 @@ abbrev pub later_fault : List (List ℕ) → Option Error
 later_fault [] = None
 later_fault (part ∷ parts) = option_or (part_fault most_arc part) (later_fault parts)
 
--- the greatest first subidentifier
+-- the greatest first subidentifier: 40 times 2 and the greatest second arc
 abbrev pub most_first : RootRule → ℕ
 most_first Narrow = 119
 most_first Wide = 4294967375
 
--- what is wrong with the first part
+-- what is wrong with the first part: under the wide rule it is judged as later ones are, at its own limit
 abbrev pub first_fault : RootRule → List ℕ → Option Error
 first_fault Narrow [] = None
 first_fault Narrow (x ∷ xs) = fault_if (nat_lt 119 x) (ArcInvalid (x / 40))

@@ -3,12 +3,12 @@ use Rattle.std.specs.Prelude.{◌≡◌, ℕ, ◌+◌, ◌*◌, ◌≤◌, List,
 use Rattle.std.specs.List.{AllByRecursion, AllZip, concat}
 use Rattle.const_oid.specs.Base128.{IsGroup, width, group_of}
 
--- which second arcs stand under the root arc 2: up to 39, as under 0 and 1, or all
+-- which second arcs stand under the first arc 2: up to 39 alone, as under 0 and 1, or all
 pub data RootRule : Type 0 where
   Narrow : RootRule
   Wide : RootRule
 
--- the rule that this crate keeps
+-- the rule that this crate keeps; the other one is for laws
 abbrev pub root_rule : RootRule
 root_rule = Wide
 
@@ -16,7 +16,7 @@ root_rule = Wide
 abbrev pub most_arc : ℕ
 most_arc = 4294967295
 
--- the greatest second arc below a first arc
+-- the greatest second arc under a first arc
 abbrev pub most_second : RootRule → ℕ → ℕ
 most_second Narrow first = 39
 most_second Wide first = if nat_lt first 2 then 39 else most_arc

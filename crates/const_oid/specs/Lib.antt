@@ -15,3 +15,4 @@ pub mod Oid
 pub mod Names
 pub mod Encoder
 pub mod Parser
+pub mod Windows

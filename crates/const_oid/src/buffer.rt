@@ -9,6 +9,9 @@ use std::cmp::Ordering;
 use std::hash::{Hash, Hasher};
 
 /// Octets in use, at most the smaller of `SIZE` and 255.
+///
+/// Owned identifiers hold their octets in one, and their contracts name it: so it is public. This crate
+/// alone makes it, so there is no public constructor.
 #[derive(Copy, Clone)]
 pub struct Buffer<const SIZE: usize> {
     used: u8,

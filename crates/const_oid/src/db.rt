@@ -8,9 +8,6 @@ ghost use Rattle.const_oid.specs.Oid.{oid_arcs};
 use crate::error::Result;
 use crate::oid::ObjectIdentifier;
 
-#[cfg(test)]
-mod tests;
-
 /// A table of identifiers and their names, in which both may stand more than once.
 ///
 /// Names are the same where their bytes are, after the ASCII letters are folded.

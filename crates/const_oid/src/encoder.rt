@@ -100,7 +100,7 @@ impl<const SIZE: usize> Encoder<SIZE> {
     }
 }
 
-/// The greatest second arc below a first arc (X.660): 39 under 0 and 1, any under 2.
+/// The greatest second arc under a first arc (X.660): 39 under 0 and 1, any of 32 bits under 2.
 fn greatest_second(first: Arc) -> Arc
     ensures { result ≡ most_second root_rule first }
 {

@@ -4,16 +4,13 @@ ghost use Rattle.std.specs.Prelude.{Some};
 use crate::arcs::Arc;
 use std::fmt;
 
-#[cfg(test)]
-mod tests;
-
 /// A result whose error is [`Error`].
 pub type Result<T> = std::result::Result<T, Error>;
 
 /// Why a text, a list of arcs or octets are refused.
 #[derive(Copy, Clone, Debug, Eq, PartialEq, PartialOrd, Ord)]
 pub enum Error {
-    /// An arc is out of range for its place.
+    /// An arc of a text or a list is out of range for its place.
     ArcInvalid {
         /// The arc.
         arc: Arc,
@@ -47,6 +44,7 @@ pub enum Error {
     TrailingDot,
 }
 
+/// The error in words. The contract speaks of a plain `{}`.
 impl fmt::Display for Error {
     ghost use Rattle.const_oid.specs.Message.{message_of};
 

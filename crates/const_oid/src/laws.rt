@@ -1,6 +1,6 @@
 //! Laws over the definitions: functions without effect, whose contracts say what holds.
 //!
-//! A `rule` is any of the two rules of the root; the crate keeps `root_rule`.
+//! A `rule` is any of the two rules of the root, `Wide`, which the crate keeps, and `Narrow`.
 
 ghost use Rattle.std.specs.Prelude.{◌≡◌, ◌≢◌, ◌↔◌, ℕ, ◌+◌, ◌*◌, ◌<◌, ◌≤◌, List, [], ◌∷◌, ◌++◌, length, map, drop, nat_lt, sum_by, count_by, Some, None, Ok, codes, ◌-◌, take, slice_get};
 ghost use Rattle.std.specs.Cmp.Lexicographic.{slice_cmp};
@@ -19,17 +19,20 @@ ghost use Rattle.const_oid.specs.Text.{text_fault, text_answer, text_of, pieces_
 ghost use Rattle.const_oid.specs.Tree.{BeginsWith, child_of, parent_of};
 ghost use Rattle.const_oid.specs.Wider.{IsPastNarrow, RefusesSecond};
 
-/// Worked rows, which the definitions compute: under the rule that is kept, and the last one under the
-/// narrow rule.
+/// Worked rows, which the definitions compute: under the rule that is kept, the last one apart.
 pub fn worked_rows()
-    ensures read { arcs_of_octets (0x2A ∷ 0x86 ∷ 0x48 ∷ 0xCE ∷ 0x3D ∷ 2 ∷ 1 ∷ []) ≡ 1 ∷ 2 ∷ 840 ∷ 10045 ∷ 2 ∷ 1 ∷ [] }
+    ensures read { arcs_of_octets (0x2A ∷ 0x86 ∷ 0x48 ∷ 0xCE ∷ 0x3D ∷ 2 ∷ 1 ∷ [])
+        ≡ 1 ∷ 2 ∷ 840 ∷ 10045 ∷ 2 ∷ 1 ∷ [] }
     ensures two_octets { octet_answer root_rule (0x88 ∷ 0x37 ∷ []) 39 ≡ Ok (2 ∷ 999 ∷ []) }
-    ensures greatest { octet_answer root_rule (0x90 ∷ 0x80 ∷ 0x80 ∷ 0x80 ∷ 0x4F ∷ []) 39 ≡ Ok (2 ∷ 4294967295 ∷ []) }
-    ensures past_greatest { octet_fault root_rule (0x90 ∷ 0x80 ∷ 0x80 ∷ 0x80 ∷ 0x50 ∷ []) 39 ≡ Some ArcTooBig }
+    ensures greatest { octet_answer root_rule (0x90 ∷ 0x80 ∷ 0x80 ∷ 0x80 ∷ 0x4F ∷ []) 39
+        ≡ Ok (2 ∷ 4294967295 ∷ []) }
+    ensures past_greatest { octet_fault root_rule (0x90 ∷ 0x80 ∷ 0x80 ∷ 0x80 ∷ 0x50 ∷ []) 39
+        ≡ Some ArcTooBig }
     ensures zero_first { octet_fault root_rule (0x80 ∷ 1 ∷ []) 39 ≡ Some Base128 }
     ensures one_unfinished { octet_fault root_rule (0xFF ∷ []) 39 ≡ Some Base128 }
     ensures unfinished { octet_fault root_rule (0x2A ∷ 0x81 ∷ []) 39 ≡ Some Base128 }
-    ensures past_32_bits { octet_fault root_rule (0x2A ∷ 0x90 ∷ 0x80 ∷ 0x80 ∷ 0x80 ∷ 0x80 ∷ []) 39 ≡ Some ArcTooBig }
+    ensures past_32_bits { octet_fault root_rule (0x2A ∷ 0x90 ∷ 0x80 ∷ 0x80 ∷ 0x80 ∷ 0x80 ∷ []) 39
+        ≡ Some ArcTooBig }
     ensures width { width 4294967295 ≡ 5 }
     ensures size { size (2 ∷ 4294967295 ∷ []) ≡ 5 }
     ensures dot_before_range { text_fault root_rule (codes "3.") ≡ Some TrailingDot }
@@ -58,8 +61,8 @@ pub fn prefix_free()
         → (g ≡ h) × (m ≡ n) }
 {}
 
-/// Octets without a fault are the encoding of their arcs, and of no others; an encoding has no fault
-/// but its length.
+/// Octets without a fault are the encoding of their arcs, and of no others; an encoding has no
+/// fault but its length.
 pub fn octets_denote()
     ensures cut { (numbers : List ℕ) (groups : List (List ℕ)) → AllZip IsGroup numbers groups
         → cut (concat groups) ≡ groups }
@@ -91,7 +94,8 @@ pub fn one_encoding()
 /// A second arc in range never makes an encoding of more than 39 octets, nor one out of range.
 pub fn second_fits()
     ensures { (rule : RootRule) (first second : ℕ) → first ≤ 2
-        → arc_fault rule 39 (first ∷ []) second ≡ fault_if (nat_lt (most_second rule first) second) (ArcInvalid second) }
+        → arc_fault rule 39 (first ∷ []) second
+        ≡ fault_if (nat_lt (most_second rule first) second) (ArcInvalid second) }
 {}
 
 /// An encoding begins another exactly where its arcs begin the other's.
@@ -100,7 +104,8 @@ pub fn fronts()
         → BeginsWith b a ↔ BeginsWith x p }
 {}
 
-/// A greater number has no smaller width; encodings that differ in the last arc stand as these arcs do.
+/// A greater number has no smaller width; encodings that differ in the last arc stand as these arcs
+/// do.
 pub fn siblings()
     ensures width { (m n : ℕ) → m ≤ n → width m ≤ width n }
     ensures level { (rule : RootRule) (parent : List ℕ) (m n : ℕ) (x y : List ℕ)
@@ -119,15 +124,16 @@ pub fn same_identifiers()
         → (a ≡ b) ↔ (text_of a ≡ text_of b) }
 {}
 
-/// What is printed denotes its arcs; a text has no fault exactly where it denotes arcs that fit; it is
-/// printed again without its leading zeros.
+/// What is printed denotes its arcs; a text has no fault exactly where it denotes arcs that fit; it
+/// is printed again without its leading zeros.
 pub fn texts_denote()
     ensures printed { (rule : RootRule) (arcs : List ℕ) → IsIdentifier rule arcs
         → Denotes rule (text_of arcs) arcs }
     ensures fits { (rule : RootRule) (text arcs : List ℕ) → Denotes rule text arcs
         → size arcs ≤ 39 → text_fault rule text ≡ None }
     ensures accepted { (rule : RootRule) (text : List ℕ) → text_fault rule text ≡ None
-        → Denotes rule text (map number_of (pieces_of text)) × (size (map number_of (pieces_of text)) ≤ 39) }
+        → Denotes rule text (map number_of (pieces_of text))
+        × (size (map number_of (pieces_of text)) ≤ 39) }
     ensures only { (rule : RootRule) (text a b : List ℕ) → Denotes rule text a
         → Denotes rule text b → a ≡ b }
     ensures stripped { (rule : RootRule) (text arcs : List ℕ) → Denotes rule text arcs
@@ -143,10 +149,11 @@ pub fn items_denote()
         → IsIdentifier rule items × (size items ≤ 39) }
 {}
 
-/// The wide rule keeps the answers of the narrow one, but where that refused the second arc under 2;
-/// what was accepted keeps its arcs, its octets, and so its text and both orders.
+/// The wide rule answers as the narrow one, but where octets begin with 120 or more, or the second
+/// arc under 2 was refused. What was accepted keeps its arcs and octets, and so its text and orders.
 pub fn wide_keeps()
-    ensures no_octets { (capacity : ℕ) → octet_answer Wide [] capacity ≡ octet_answer Narrow [] capacity }
+    ensures no_octets { (capacity : ℕ)
+        → octet_answer Wide [] capacity ≡ octet_answer Narrow [] capacity }
     ensures octets { (x : ℕ) (xs : List ℕ) (capacity : ℕ) → x < 120
         → octet_answer Wide (x ∷ xs) capacity ≡ octet_answer Narrow (x ∷ xs) capacity }
     ensures texts { (text : List ℕ)
@@ -155,7 +162,8 @@ pub fn wide_keeps()
     ensures items { (items : List ℕ) → (RefusesSecond items (item_fault Narrow items) → ⊥)
         → item_answer Wide items ≡ item_answer Narrow items }
     ensures octets_accepted { (octets arcs : List ℕ) (capacity : ℕ)
-        → octet_answer Narrow octets capacity ≡ Ok arcs → octet_answer Wide octets capacity ≡ Ok arcs }
+        → octet_answer Narrow octets capacity ≡ Ok arcs
+        → octet_answer Wide octets capacity ≡ Ok arcs }
     ensures texts_accepted { (text arcs : List ℕ) → text_answer Narrow text ≡ Ok arcs
         → text_answer Wide text ≡ Ok arcs }
     ensures items_accepted { (items arcs : List ℕ) → item_answer Narrow items ≡ Ok arcs
@@ -170,12 +178,13 @@ pub fn wide_keeps()
         → slice_cmp nat_cmp x y ≡ slice_cmp nat_cmp v w }
 {}
 
-/// What the wide rule accepts and the narrow one refuses is exactly what denotes, within the capacity,
-/// a list with the first arc 2 and a second arc past 39.
+/// What the wide rule accepts and the narrow one refuses is exactly what denotes, within the
+/// capacity, a list with the first arc 2 and a second arc past 39.
 pub fn wide_adds()
     ensures octets { (octets : List ℕ) (capacity : ℕ) → AreOctets octets
         → (octet_fault Wide octets capacity ≡ None) × (octet_fault Narrow octets capacity ≢ None)
-        ↔ ((arcs : List ℕ) × IsEncoding Wide arcs octets × IsPastNarrow arcs × (length octets ≤ capacity)) }
+        ↔ ((arcs : List ℕ) × IsEncoding Wide arcs octets × IsPastNarrow arcs
+        × (length octets ≤ capacity)) }
     ensures texts { (text : List ℕ)
         → (text_fault Wide text ≡ None) × (text_fault Narrow text ≢ None)
         ↔ ((arcs : List ℕ) × Denotes Wide text arcs × IsPastNarrow arcs × (size arcs ≤ 39)) }
@@ -193,7 +202,8 @@ pub fn octets_in_range()
 /// Under the narrow rule the first two arcs take one octet.
 pub fn narrow_root()
     ensures octets { (a b : ℕ) (later octets : List ℕ) → IsEncoding Narrow (a ∷ b ∷ later) octets
-        → (groups : List (List ℕ)) × AllZip IsGroup later groups × (octets ≡ (40 * a + b) ∷ concat groups) }
+        → (groups : List (List ℕ)) × AllZip IsGroup later groups
+        × (octets ≡ (40 * a + b) ∷ concat groups) }
     ensures encoding { (a b : ℕ) (later : List ℕ) (groups : List (List ℕ))
         → IsIdentifier Narrow (a ∷ b ∷ later) → AllZip IsGroup later groups
         → IsEncoding Narrow (a ∷ b ∷ later) ((40 * a + b) ∷ concat groups) }

@@ -11,9 +11,8 @@ pub mod oid;
 pub mod oid_ref;
 mod parser;
 mod scan;
+mod sound;
 pub mod traits;
-#[cfg(test)]
-mod vectors;
 
 pub use arcs::{Arc, Arcs};
 pub use buffer::Buffer;

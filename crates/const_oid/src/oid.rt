@@ -21,13 +21,6 @@ use std::cmp::Ordering;
 use std::fmt;
 use std::str::FromStr;
 
-#[cfg(test)]
-mod items_tests;
-#[cfg(test)]
-mod tests;
-#[cfg(test)]
-mod text_tests;
-
 /// An object identifier that holds its contents octets, without tag and length: at most `MAX_SIZE`,
 /// and never more than 255.
 ///
@@ -80,8 +73,10 @@ impl ObjectIdentifier<39> {
     ///   is longer than 39 octets;
     /// - [`Error::Empty`]: there are fewer than two items.
     ///
-    /// Items past the first fault do not matter. For an array, a slice's `iter().copied()`, a `Vec` or
-    /// [`Arcs`], whose items are known, the checker finds the exact answer by itself.
+    /// At `Err` the fault is that of every list which begins with the items drawn, or, where the
+    /// iterator ended, of exactly these: `[1]` is `Empty`, and `[1, 2]` is not. For an array, a slice's
+    /// `iter().copied()`, a `Vec` or [`Arcs`], whose items are known, the checker finds the exact answer
+    /// by itself.
     pub fn from_arcs<I: IntoIterator<Item = Arc>>(arcs: I) -> Result<Self>
     where
         I::IntoIter: Drop,
@@ -223,6 +218,7 @@ impl<const MAX_SIZE: usize> ObjectIdentifier<MAX_SIZE> {
     }
 }
 
+/// The arcs in decimal, joined by dots. The contract speaks of a plain `{}`.
 impl<const MAX_SIZE: usize> fmt::Display for ObjectIdentifier<MAX_SIZE> {
     ghost use Rattle.const_oid.specs.Oid.{oid_arcs};
 

@@ -9,17 +9,13 @@ ghost use Rattle.const_oid.specs.Contents.{cut, parts_fault, octet_answer, borro
 ghost use Rattle.const_oid.specs.Identifier.{root_rule, IsEncoding};
 ghost use Rattle.const_oid.specs.Text.{text_of};
 
-use crate::arcs::{Arc, Arcs, arc_at, check};
+use crate::arcs::{Arc, Arcs, arc_at};
 use crate::error::{Error, Result};
 use crate::oid::ObjectIdentifier;
 use crate::scan::count_last;
+use crate::sound::check;
 use std::cmp::Ordering;
 use std::fmt;
-
-#[cfg(test)]
-mod order_tests;
-#[cfg(test)]
-mod tests;
 
 /// An object identifier over the caller's contents octets, without tag and length.
 ///
@@ -119,6 +115,7 @@ impl<'a> ObjectIdentifierRef<'a> {
     }
 }
 
+/// The arcs in decimal, joined by dots. The contract speaks of a plain `{}`.
 impl fmt::Display for ObjectIdentifierRef<'_> {
     ghost use Rattle.const_oid.specs.OidRef.{ref_arcs};
 

@@ -72,3 +72,6 @@ pub(crate) fn before_last(octets: &[u8]) -> &[u8]
         None => &front[..0],
     }
 }
+
+#[cfg(test)]
+mod tests;

@@ -6,9 +6,6 @@ ghost use Rattle.const_oid.specs.Oid.{oid_arcs};
 
 use crate::oid::ObjectIdentifier;
 
-#[cfg(test)]
-mod tests;
-
 /// A type that has an identifier, always the same.
 pub trait AssociatedOid {
     /// The arcs of the type's identifier.

@@ -2,6 +2,32 @@
 #![tactic(auto)]
 
 #[cfg(test)]
-mod octets;
+mod borrowed;
+#[cfg(test)]
+mod errors;
+#[cfg(test)]
+mod formatter;
+#[cfg(test)]
+mod hostile;
+#[cfg(test)]
+mod items;
+#[cfg(test)]
+mod names;
+#[cfg(test)]
+mod order;
+#[cfg(test)]
+mod owned;
+#[cfg(test)]
+mod places;
+#[cfg(test)]
+mod printing;
+#[cfg(test)]
+mod subtree;
+#[cfg(test)]
+mod texts;
+#[cfg(test)]
+mod traits;
+#[cfg(test)]
+mod tree;
 #[cfg(test)]
 mod vectors;

@@ -1,8 +1,7 @@
-//! Rows, and a formatter's target, that several tests share.
+//! Rows that several tests share.
 
 use const_oid::Error;
-use std::fmt;
-use std::fmt::Write;
+use std::alloc::{AllocError, Global};
 
 /// Texts, their contents octets and their arcs.
 pub const ACCEPTED: [(&str, &[u8], &[u32]); 35] = [
@@ -144,26 +143,50 @@ pub const REFUSED_OCTETS: [(&[u8], Error); 33] = [
     (&[0x00, 0x90, 0x80, 0x80, 0x80, 0x80], Error::ArcTooBig),
 ];
 
-/// Refuses the write numbered `bad`, counted from 1.
-#[derive(Drop)]
-pub struct Refusing {
-    pub writes: usize,
-    bad: usize,
+/// Identifiers in the borrowed order, those of 1.2 at the places 1 to 7, counted from 0.
+pub const ASCENDING: [&[u8]; 14] = [
+    &[0x00],
+    &[0x2A],
+    &[0x2A, 0x03],
+    &[0x2A, 0x03, 0x04],
+    &[0x2A, 0x7F],
+    &[0x2A, 0x81, 0x00],
+    &[0x2A, 0x81, 0x80, 0x00],
+    &[0x2A, 0xFF, 0x7F],
+    &[0x55],
+    &[0x77],
+    &[0x78],
+    &[0x81, 0x00],
+    &[0x88, 0x37],
+    &[0x88, 0x37, 0x03],
+];
+
+/// A front, so many times `.1`, and an end.
+pub fn long_text(
+    alloc: Global,
+    front: &str,
+    count: usize,
+    end: &str,
+) -> Result<String, AllocError> {
+    let mut text = String::from_str(alloc, front)?;
+    for _ in 0..count {
+        text.push_str(".1")?;
+    }
+    text.push_str(end)?;
+    Ok(text)
 }
 
-impl Refusing {
-    pub fn new(bad: usize) -> Self {
-        Refusing { writes: 0, bad }
+/// A front, so many octets 01, and an end.
+pub fn long_octets(
+    alloc: Global,
+    front: &[u8],
+    count: usize,
+    end: &[u8],
+) -> Result<Vec<u8>, AllocError> {
+    let mut octets = front.to_vec(alloc)?;
+    for _ in 0..count {
+        octets.push(0x01)?;
     }
-}
-
-impl Write for Refusing {
-    fn write_str(&mut self, _text: &str) -> fmt::Result {
-        self.writes = self.writes.saturating_add(1);
-        if self.writes == self.bad {
-            Err(fmt::Error)
-        } else {
-            Ok(())
-        }
-    }
+    octets.extend_from_slice(end)?;
+    Ok(octets)
 }

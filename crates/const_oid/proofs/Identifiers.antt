@@ -1,0 +1,77 @@
+-- For callers: what follows of identifiers that are held.
+use Rattle.std.proofs.Common.{◌≡◌, ◌≢◌, ℕ, true, false, Equal, Greater, ◌<◌, ◌≤◌, List, [], ◌∷◌, ◌++◌, length, min, Some, Ok, Less, nat_cmp, refl, sym, ap, ◌∙◌, arith, slice_get, get_or, length-append, append-nil}
+use Rattle.std.proofs.Math.Seq.{get_or-append_seam}
+use Rattle.std.proofs.lemmas.List.{length-take}
+use Rattle.std.proofs.lemmas.Option.{get_or_from_slice_get}
+use Rattle.std.specs.Cmp.Lexicographic.{slice_cmp}
+use Rattle.std.specs.Fmt.{WritesInCalls}
+use Rattle.std.proofs.lemmas.Fmt.{contents_after_writes}
+use Rattle.std.specs.Ordering.{is_le, is_lt, ordering_reverse}
+use Rattle.std.specs.declared.cmp.Ordering.{Ordering}
+use Rattle.std.proofs.lemmas.Cmp.{nat_list_cmp_total}
+use Rattle.const_oid.specs.declared.oid.ObjectIdentifier.{ObjectIdentifier}
+use Rattle.const_oid.specs.Identifier.{root_rule, size, encoding_of}
+use Rattle.const_oid.specs.Oid.{oid_arcs, oid_octets}
+use Rattle.const_oid.specs.Orders.{short_cmp}
+use Rattle.const_oid.specs.Text.{text_of, text_answer}
+use Rattle.const_oid.specs.Tree.{BeginsWith, parent_of, child_of}
+use Rattle.const_oid.proofs.BeginsWith.{ancestor_short, ancestor_before}
+use Rattle.const_oid.proofs.Encodings.{oid_encoding, encoding_of-encoded}
+use Rattle.const_oid.proofs.Lengths.{length_is_size}
+use Rattle.const_oid.proofs.Texts.{text_denotes, text_fault-none}
+use Rattle.const_oid.proofs.Tree.{parent_of-child_of, child_of-parent_of}
+
+-- its octets, which compute where its arcs are known
+pub octets_are : {N : ℕ} (oid : ObjectIdentifier N) → oid_octets oid ≡ encoding_of (oid_arcs oid)
+octets_are oid = sym (encoding_of-encoded root_rule (oid_arcs oid) (oid_octets oid) (oid_encoding oid))
+
+-- its size is within the capacity
+pub size_fits : {N : ℕ} (oid : ObjectIdentifier N) → size (oid_arcs oid) ≤ min N 255
+size_fits oid = omega (arith, oid.ber.within, length-take oid.ber.used oid.ber.bytes, length_is_size root_rule (oid_arcs oid) (oid_octets oid) (oid_encoding oid))
+
+-- its printed text is read as its arcs
+pub printed_back : (oid : ObjectIdentifier 39) → text_answer root_rule (text_of (oid_arcs oid)) ≡ Ok (oid_arcs oid)
+printed_back oid =
+    let denoted = text_denotes root_rule (oid_arcs oid) (oid_encoding oid).identifier in
+    let short : size (oid_arcs oid) ≤ 39 = omega (arith, size_fits oid) in
+    rw (text_fault-none root_rule (text_of (oid_arcs oid)) (oid_arcs oid) denoted short, sym denoted.values) refl
+
+-- its child has it as the parent
+pub parent_of_child : {N : ℕ} (oid : ObjectIdentifier N) (arc : ℕ) → parent_of (child_of (oid_arcs oid) arc) ≡ Some (oid_arcs oid)
+parent_of_child oid arc = parent_of-child_of root_rule (oid_arcs oid) arc (oid_encoding oid).identifier
+
+-- it is the child of its parent, by the arc that follows the parent's
+pub child_of_parent : {N : ℕ} (oid : ObjectIdentifier N) (parent : List ℕ) (arc : ℕ) → parent_of (oid_arcs oid) ≡ Some parent → slice_get (oid_arcs oid) (length parent) ≡ Some arc → child_of parent arc ≡ oid_arcs oid
+child_of_parent oid parent arc e f =
+    let (i, last, l, again) = child_of-parent_of root_rule (oid_arcs oid) parent (oid_encoding oid).identifier e in
+    let found : get_or (parent ++ last ∷ []) (length parent) 0 ≡ arc = get_or_from_slice_get (parent ++ last ∷ []) (length parent) arc 0 (rw (← again) at f) in
+    let same : last ≡ arc = sym (get_or-append_seam parent last [] 0) ∙ found in
+    rw (← same) again
+
+longer_below : (xs ys : List ℕ) → BeginsWith ys xs → ys ≢ xs → length xs < length ys
+longer_below xs ys ([], e) other = absurd (other (e ∙ append-nil xs))
+longer_below xs ys (z ∷ zs, e) other = omega (arith, ap length e, length-append xs (z ∷ zs))
+
+-- it stands before others that begin with it, in both orders
+pub before_below : {N M : ℕ} (oid : ObjectIdentifier N) (below : ObjectIdentifier M) → BeginsWith (oid_arcs below) (oid_arcs oid) → oid_arcs below ≢ oid_arcs oid → slice_cmp nat_cmp (oid_octets oid) (oid_octets below) ≡ Less
+before_below oid below b other = ancestor_before root_rule _ _ _ _ (oid_encoding oid) (oid_encoding below) b (longer_below (oid_arcs oid) (oid_arcs below) b other)
+
+pub short_before_below : {N M : ℕ} (oid : ObjectIdentifier N) (below : ObjectIdentifier M) → BeginsWith (oid_arcs below) (oid_arcs oid) → oid_arcs below ≢ oid_arcs oid → short_cmp (oid_octets oid) (oid_octets below) ≡ Less
+short_before_below oid below b other = ancestor_short root_rule _ _ _ _ (oid_encoding oid) (oid_encoding below) b (longer_below (oid_arcs oid) (oid_arcs below) b other)
+
+-- ---- of borrowed ones in a list
+
+reversed : (o : Ordering) → is_le o ≡ true → is_lt (ordering_reverse o) ≡ false
+reversed Less t = refl
+reversed Equal t = refl
+reversed Greater t = cc
+
+-- what is not after a list of octets is not before it the other way round: so `is_sorted` tells what `subtree` asks
+pub not_before : (a b : List ℕ) → is_le (slice_cmp nat_cmp a b) ≡ true → is_lt (slice_cmp nat_cmp b a) ≡ false
+not_before a b level = rw (nat_list_cmp_total.antisymm b a) (reversed (slice_cmp nat_cmp a b) level)
+
+-- ---- in a writer of one's own
+
+-- a writer that appends each piece goes on by the whole text
+pub written_whole : (old text new : List ℕ) → WritesInCalls (λ old piece new. new ≡ old ++ piece) old text new → new ≡ old ++ text
+written_whole old text new h = contents_after_writes (λ old piece new. new ≡ old ++ piece) (λ held. held) (λ _ _ _ e. e) old text new h

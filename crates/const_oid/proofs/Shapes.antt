@@ -1,0 +1,97 @@
+-- Octets whose windows of five have no fault have none.
+use Rattle.std.proofs.Common.{◌≡◌, ℕ, suc, ◌+◌, ◌*◌, ◌%◌, ◌<◌, ◌≤◌, false, List, [], ◌∷◌, length, get_or, Option, None, arith, refl, sym, drop, ◌-◌, ⊎_elim, ◌∙◌}
+use Rattle.std.specs.Prelude.{◌≢◌}
+use Rattle.const_oid.specs.Windows.{NoEmptyFirst, NoLongGroup}
+use Rattle.std.proofs.lemmas.Bool.{cases_lt}
+use Rattle.std.proofs.lemmas.Bool.Decides.{nat_tests}
+use Rattle.const_oid.specs.Identifier.{most_arc}
+use Rattle.const_oid.specs.Contents.{cut, later_fault}
+use Rattle.const_oid.proofs.OctetPass.{pass, later_pass}
+
+-- a pass goes over a group by its shape
+pass_one : (x : ℕ) (xs : List ℕ) → x < 128 → pass most_arc false 0 (x ∷ xs) ≡ pass most_arc false 0 xs
+pass_one x xs l = grind (arith, nat_tests)
+
+pass_two : (x a : ℕ) (xs : List ℕ) → 128 < x → a < 128 → pass most_arc false 0 (x ∷ a ∷ xs) ≡ pass most_arc false 0 xs
+pass_two x a xs m e = grind (arith, nat_tests)
+
+pass_three : (x a b : ℕ) (xs : List ℕ) → 128 < x → 128 ≤ a → b < 128 → pass most_arc false 0 (x ∷ a ∷ b ∷ xs) ≡ pass most_arc false 0 xs
+pass_three x a b xs m am e = grind (arith, nat_tests)
+
+pass_four : (x a b c : ℕ) (xs : List ℕ) → 128 < x → 128 ≤ a → 128 ≤ b → c < 128 → pass most_arc false 0 (x ∷ a ∷ b ∷ c ∷ xs) ≡ pass most_arc false 0 xs
+pass_four x a b c xs m am bm e = grind (arith, nat_tests)
+
+pass_five : (x a b c d : ℕ) (xs : List ℕ) → 128 < x → x < 144 → 128 ≤ a → 128 ≤ b → 128 ≤ c → d < 128 → pass most_arc false 0 (x ∷ a ∷ b ∷ c ∷ d ∷ xs) ≡ pass most_arc false 0 xs
+pass_five x a b c d xs m l am bm cm e = grind (arith, nat_tests)
+
+pub record Fine (ys : List ℕ) : Type 0 where
+  pub first : NoEmptyFirst ys
+  pub long : NoLongGroup ys
+  pub last : (k : ℕ) → k + 1 ≡ length ys → get_or ys k 0 < 128
+
+after : (y : ℕ) (ys : List ℕ) (k n : ℕ) → get_or (y ∷ ys) (suc k + n) 0 ≡ get_or ys (k + n) 0
+after y ys k n = let e : suc k + n ≡ suc (k + n) = omega arith in rw e refl
+
+fine_tail : (y : ℕ) (ys : List ℕ) → Fine (y ∷ ys) → Fine ys
+fine_tail y ys f = record {
+  first = λ k l. rw (after y ys k 1) at (f.first (suc k) (omega arith));
+  long = λ k l. rw (after y ys k 1, after y ys k 2, after y ys k 3, after y ys k 4) at (f.long (suc k) (omega arith));
+  last = λ k e. f.last (suc k) (omega arith);
+}
+
+above : (a : ℕ) → 128 ≤ a → a ≢ 128 → 128 < a
+above a m n = ⊎_elim (λ (g : 128 < a). g) (λ (g : a ≤ 128). absurd (n (omega arith))) (cases_lt 128 a)
+
+pub fine_pass : (p : ℕ) (xs : List ℕ) → p < 128 → Fine (p ∷ xs) → pass most_arc false 0 xs ≡ None
+fine_pass p [] l f = refl
+fine_pass p (a ∷ []) l f = pass_one a [] (f.last 1 refl)
+fine_pass p (a ∷ b ∷ []) l f = ⊎_elim
+    (λ (e : a < 128). pass_one a (b ∷ []) e ∙ fine_pass a (b ∷ []) e (fine_tail p (a ∷ b ∷ []) f))
+    (λ (m : 128 ≤ a). pass_two a b [] (above a m (f.first 0 (omega arith) l)) (f.last 2 refl))
+    (cases_lt a 128)
+fine_pass p (a ∷ b ∷ c ∷ []) l f =
+    let g = fine_tail p (a ∷ b ∷ c ∷ []) f in ⊎_elim
+    (λ (e : a < 128). pass_one a (b ∷ c ∷ []) e ∙ fine_pass a (b ∷ c ∷ []) e g)
+    (λ (m : 128 ≤ a). let n = above a m (f.first 0 (omega arith) l) in ⊎_elim
+    (λ (e : b < 128). pass_two a b (c ∷ []) n e ∙ fine_pass b (c ∷ []) e (fine_tail a (b ∷ c ∷ []) g))
+    (λ (bm : 128 ≤ b). pass_three a b c [] n bm (f.last 3 refl))
+    (cases_lt b 128))
+    (cases_lt a 128)
+fine_pass p (a ∷ b ∷ c ∷ d ∷ []) l f =
+    let g = fine_tail p (a ∷ b ∷ c ∷ d ∷ []) f in
+    let h = fine_tail a (b ∷ c ∷ d ∷ []) g in ⊎_elim
+    (λ (e : a < 128). pass_one a (b ∷ c ∷ d ∷ []) e ∙ fine_pass a (b ∷ c ∷ d ∷ []) e g)
+    (λ (m : 128 ≤ a). let n = above a m (f.first 0 (omega arith) l) in ⊎_elim
+    (λ (e : b < 128). pass_two a b (c ∷ d ∷ []) n e ∙ fine_pass b (c ∷ d ∷ []) e h)
+    (λ (bm : 128 ≤ b). ⊎_elim
+    (λ (e : c < 128). pass_three a b c (d ∷ []) n bm e ∙ fine_pass c (d ∷ []) e (fine_tail b (c ∷ d ∷ []) h))
+    (λ (cm : 128 ≤ c). pass_four a b c d [] n bm cm (f.last 4 refl))
+    (cases_lt c 128))
+    (cases_lt b 128))
+    (cases_lt a 128)
+fine_pass p (a ∷ b ∷ c ∷ d ∷ e ∷ es) l f =
+    let g = fine_tail p (a ∷ b ∷ c ∷ d ∷ e ∷ es) f in
+    let h = fine_tail a (b ∷ c ∷ d ∷ e ∷ es) g in
+    let i = fine_tail b (c ∷ d ∷ e ∷ es) h in
+    let j = fine_tail c (d ∷ e ∷ es) i in ⊎_elim
+    (λ (s : a < 128). pass_one a (b ∷ c ∷ d ∷ e ∷ es) s ∙ fine_pass a (b ∷ c ∷ d ∷ e ∷ es) s g)
+    (λ (m : 128 ≤ a). let n = above a m (f.first 0 (omega arith) l) in ⊎_elim
+    (λ (s : b < 128). pass_two a b (c ∷ d ∷ e ∷ es) n s ∙ fine_pass b (c ∷ d ∷ e ∷ es) s h)
+    (λ (bm : 128 ≤ b). ⊎_elim
+    (λ (s : c < 128). pass_three a b c (d ∷ e ∷ es) n bm s ∙ fine_pass c (d ∷ e ∷ es) s i)
+    (λ (cm : 128 ≤ c). ⊎_elim
+    (λ (s : d < 128). pass_four a b c d (e ∷ es) n bm cm s ∙ fine_pass d (e ∷ es) s j)
+    (λ (dm : 128 ≤ d).
+    let short = f.long 0 (omega arith) m bm cm dm in ⊎_elim
+    (λ (s : e < 128). pass_five a b c d e es n short.0 bm cm dm s ∙ fine_pass e es s (fine_tail d (e ∷ es) j))
+    (λ (em : 128 ≤ e). let long = f.long 1 (omega arith) bm cm dm em in absurd (omega arith))
+    (cases_lt e 128))
+    (cases_lt d 128))
+    (cases_lt c 128))
+    (cases_lt b 128))
+    (cases_lt a 128)
+
+pub windows_fault : (ys : List ℕ) → get_or ys 0 0 < 128 → NoEmptyFirst ys → NoLongGroup ys → get_or ys (length ys - 1) 0 < 128 → later_fault (cut (drop 1 ys)) ≡ None
+windows_fault [] l first long last = refl
+windows_fault (p ∷ xs) l first long last =
+    sym (later_pass xs) ∙ fine_pass p xs l (record { first = first; long = long; last = λ k e. let n : k ≡ length (p ∷ xs) - 1 = omega arith in rw n last })

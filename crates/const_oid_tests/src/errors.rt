@@ -1,0 +1,92 @@
+//! Errors told apart, in order, and printed.
+ghost use Rattle.std.specs.Prelude.{◌≡◌, ◌↔◌, IsTrue, IsOk, IfOk};
+ghost use Rattle.const_oid.specs.Orders.{error_cmp};
+
+use crate::formatter::{prints, writes_of};
+use const_oid::Error;
+use std::alloc::AllocError;
+use std::cmp::Ordering;
+use std::test::Fail;
+
+/// `==` is true exactly for the same variant with the same number.
+fn same(a: Error, b: Error) -> bool
+    ensures { IsTrue result ↔ (a ≡ b) }
+{
+    a == b
+}
+
+/// The declared order, and then the number.
+fn order(a: Error, b: Error) -> Ordering
+    ensures { result ≡ error_cmp a b }
+{
+    a.cmp(&b)
+}
+
+fn cloned(error: &Error) -> Result<Error, AllocError>
+    ensures succeeds { IsOk result }
+    ensures same { IfOk result (λ copy. copy ≡ error.now) }
+{
+    error.clone()
+}
+
+#[test]
+fn told_apart(rt: HostRuntime) -> Result<(), Fail> {
+    let error = Error::ArcInvalid { arc: 40 };
+    assert!(rt; same(error, cloned(&error)?));
+    assert!(rt; !same(error, Error::ArcInvalid { arc: 3 }));
+    assert!(rt; order(error, Error::ArcTooBig) == Ordering::Less);
+    assert!(rt; order(error, Error::ArcInvalid { arc: 3 }) == Ordering::Greater);
+    Ok(())
+}
+
+/// Errors, and what they print. A byte past ASCII prints as a character.
+const MESSAGES: [(Error, &str); 11] = [
+    (
+        Error::ArcInvalid { arc: 40 },
+        "OID contains out-of-range arc: 40",
+    ),
+    (
+        Error::ArcInvalid { arc: 4294967295 },
+        "OID contains out-of-range arc: 4294967295",
+    ),
+    (
+        Error::ArcTooBig,
+        "OID contains arc which is larger than 32-bits",
+    ),
+    (
+        Error::Base128,
+        "OID contains arc with invalid base 128 encoding",
+    ),
+    (
+        Error::DigitExpected { actual: 0x58 },
+        "expected digit, got 'X'",
+    ),
+    (
+        Error::DigitExpected { actual: 0xC3 },
+        "expected digit, got 'Ã'",
+    ),
+    (Error::Empty, "OID value is empty"),
+    (Error::Length, "OID length invalid"),
+    (Error::Overflow, "arithmetic calculation overflowed"),
+    (
+        Error::RepeatedDot,
+        "repeated consecutive '..' characters in OID",
+    ),
+    (Error::TrailingDot, "OID ends with invalid trailing '.'"),
+];
+
+/// Each error prints its text, whatever the options.
+#[test]
+fn messages(rt: HostRuntime) {
+    for (error, text) in &MESSAGES {
+        assert!(rt; prints(rt.alloc(), error, text), "{text}");
+    }
+}
+
+/// Each write that is refused is told, whichever it is.
+#[test]
+fn a_refused_write_is_told(rt: HostRuntime) {
+    for (error, text) in &MESSAGES {
+        assert!(rt; writes_of(error).is_some_and(|writes| writes > 0), "{text}");
+    }
+}

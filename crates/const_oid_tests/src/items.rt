@@ -1,0 +1,105 @@
+//! Identifiers from lists of arcs.
+ghost use Rattle.std.specs.Prelude.{◌≡◌};
+ghost use Rattle.const_oid.specs.Identifier.{root_rule};
+ghost use Rattle.const_oid.specs.Items.{item_answer};
+ghost use Rattle.const_oid.specs.Oid.{oid_arcs, oid_answer};
+
+use crate::vectors::ACCEPTED;
+use const_oid::{Arc, Arcs, Error, ObjectIdentifier, Result};
+use std::alloc::Global;
+use std::test::Fail;
+
+fn from_array(arcs: [Arc; 3]) -> Result<ObjectIdentifier<39>>
+    ensures { oid_answer result ≡ item_answer root_rule arcs }
+{
+    ObjectIdentifier::from_arcs(arcs)
+}
+
+fn from_slice(arcs: &[Arc]) -> Result<ObjectIdentifier<39>>
+    ensures { oid_answer result ≡ item_answer root_rule arcs.now }
+{
+    ObjectIdentifier::from_arcs(arcs.iter().copied())
+}
+
+fn from_vec(arcs: Vec<Arc>) -> Result<ObjectIdentifier<39>>
+    ensures { oid_answer result ≡ item_answer root_rule arcs.items }
+{
+    ObjectIdentifier::from_arcs(arcs)
+}
+
+fn from_rest(arcs: Arcs<'_>) -> Result<ObjectIdentifier<39>>
+    ensures { oid_answer result ≡ item_answer root_rule arcs.entry }
+{
+    ObjectIdentifier::from_arcs(arcs)
+}
+
+/// Encodes the arcs of an identifier again.
+fn again(oid: &ObjectIdentifier<39>) -> Result<ObjectIdentifier<39>>
+    ensures { oid_answer result ≡ Ok (oid_arcs oid.now) }
+{
+    from_rest(oid.arcs())
+}
+
+/// Whether arcs have this encoding: those of a slice, of a list and of an identifier.
+fn encodes(alloc: Global, arcs: &[Arc], octets: &[u8]) -> bool {
+    let (Ok(oid), Ok(list)) = (from_slice(arcs), arcs.to_vec(alloc)) else {
+        return false;
+    };
+    oid.as_bytes() == octets
+        && again(&oid).is_ok_and(|oid| oid.as_bytes() == octets)
+        && from_vec(list).is_ok_and(|oid| oid.as_bytes() == octets)
+}
+
+#[test]
+fn accepted(rt: HostRuntime) {
+    for (text, octets, arcs) in &ACCEPTED {
+        assert!(rt; encodes(rt.alloc(), arcs, octets), "{text}");
+    }
+}
+
+/// Three arcs, and their encoding.
+const ARRAYS: [([Arc; 3], &[u8]); 3] = [
+    ([1, 2, 1144201745], &[0x2A, 0x84, 0xA1, 0xCC, 0xC4, 0x11]),
+    ([2, 40, 1], &[0x78, 0x01]),
+    ([2, 999, 3], &[0x88, 0x37, 0x03]),
+];
+
+#[test]
+fn arrays(rt: HostRuntime) {
+    for (arcs, octets) in &ARRAYS {
+        assert!(rt;
+            from_array(*arcs).is_ok_and(|oid| oid.as_bytes() == *octets),
+            "{arcs:?}"
+        );
+    }
+}
+
+/// Lists that are refused, and the error.
+const REFUSED: [(&[Arc], Error); 7] = [
+    (&[1, 40, 840, 10045, 3, 1, 7], Error::ArcInvalid { arc: 40 }),
+    (&[0, 40], Error::ArcInvalid { arc: 40 }),
+    (&[3, 2], Error::ArcInvalid { arc: 3 }),
+    (&[3], Error::ArcInvalid { arc: 3 }),
+    (&[], Error::Empty),
+    (&[1], Error::Empty),
+    (&[2], Error::Empty),
+];
+
+#[test]
+fn refused(rt: HostRuntime) {
+    for (arcs, error) in &REFUSED {
+        assert!(rt; from_slice(arcs).err() == Some(*error), "{arcs:?}");
+    }
+}
+
+/// 1.2 and 38 more arcs fill the capacity, and nothing behind the next arc matters.
+#[test]
+fn capacity(rt: HostRuntime) -> std::result::Result<(), Fail> {
+    let mut arcs = [1; 60];
+    arcs[1] = 2;
+    let longest = from_slice(&arcs[..40])?;
+    assert!(rt; longest.as_bytes().len() == 39 && longest.len() == 40);
+    assert!(rt; from_slice(&arcs[..41]).err() == Some(Error::Length));
+    assert!(rt; from_slice(&arcs).err() == Some(Error::Length));
+    Ok(())
+}

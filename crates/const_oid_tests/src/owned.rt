@@ -1,0 +1,150 @@
+//! Owned identifiers from octets, at their capacities.
+
+ghost use Rattle.std.specs.Prelude.{◌≡◌, ◌≤◌};
+
+use crate::formatter::is_printed;
+use crate::vectors::{ACCEPTED, REFUSED_OCTETS, long_octets};
+use const_oid::{Arc, Error, ObjectIdentifier, ObjectIdentifierRef};
+use std::alloc::Global;
+use std::test::Fail;
+
+/// Whether octets are read as these arcs and printed as this text, which is read as these octets.
+fn reads(alloc: Global, text: &str, octets: &[u8], arcs: &[Arc]) -> bool {
+    let (Ok(oid), Ok(again)) = (
+        ObjectIdentifier::from_bytes(octets),
+        ObjectIdentifier::new(text),
+    ) else {
+        return false;
+    };
+    oid.as_bytes() == octets
+        && again.as_bytes() == octets
+        && oid.arcs().eq(arcs.iter().copied())
+        && oid.len() == arcs.len()
+        && oid.arc(1) == arcs.get(1).copied()
+        && oid.arc(arcs.len()).is_none()
+        && is_printed(format!(in alloc; "{oid}"), text)
+}
+
+#[test]
+fn accepted(rt: HostRuntime) {
+    for (text, octets, arcs) in &ACCEPTED {
+        assert!(rt; reads(rt.alloc(), text, octets, arcs), "{text}");
+    }
+}
+
+#[test]
+fn refused(rt: HostRuntime) {
+    for (octets, error) in &REFUSED_OCTETS {
+        assert!(rt;
+            ObjectIdentifier::from_bytes(octets).err() == Some(*error),
+            "{octets:?}"
+        );
+    }
+}
+
+#[test]
+fn usual_capacity(rt: HostRuntime) {
+    assert!(rt; max_size() == 39);
+}
+
+fn max_size() -> usize
+    ensures { result ≡ 39 }
+{
+    ObjectIdentifier::<39>::MAX_SIZE
+}
+
+/// Whether a capacity takes octets as they are, or refuses them by this error.
+fn keeps<const N: usize>(octets: &[u8], error: Option<Error>) -> bool
+    requires { N ≤ 300 }
+{
+    match ObjectIdentifier::<N>::from_bytes_sized(octets) {
+        Ok(oid) => error.is_none() && oid.as_bytes() == octets,
+        Err(fault) => error == Some(fault),
+    }
+}
+
+/// The same for one of the capacities that the rows name.
+fn keeps_at(capacity: usize, octets: &[u8], error: Option<Error>) -> bool {
+    match capacity {
+        0 => keeps::<0>(octets, error),
+        1 => keeps::<1>(octets, error),
+        2 => keeps::<2>(octets, error),
+        3 => keeps::<3>(octets, error),
+        39 => keeps::<39>(octets, error),
+        255 => keeps::<255>(octets, error),
+        256 => keeps::<256>(octets, error),
+        300 => keeps::<300>(octets, error),
+        _ => false,
+    }
+}
+
+/// Capacities, octets, and the error, if there is one.
+const SHORT: [(usize, &[u8], Option<Error>); 6] = [
+    (0, &[0x2A], Some(Error::Length)),
+    (0, &[0x2A, 0x80, 0x01], Some(Error::Base128)),
+    (1, &[0x2A], None),
+    (1, &[0x88, 0x37], Some(Error::Length)),
+    (2, &[0x2A, 0x81, 0x80], Some(Error::Base128)),
+    (3, &[0x2A, 0x81, 0x80, 0x00], Some(Error::Length)),
+];
+
+#[test]
+fn keeps_to_its_capacity(rt: HostRuntime) {
+    for (capacity, octets, error) in &SHORT {
+        assert!(rt;
+            keeps_at(*capacity, octets, *error),
+            "{capacity} and {octets:?}"
+        );
+    }
+}
+
+/// Capacities, how many octets 01 stand behind 2A, the octets behind them, and the error, if there
+/// is one: 255 octets fit where the capacity is past 255, and no more.
+const LONG: [(usize, usize, &[u8], Option<Error>); 11] = [
+    (39, 38, &[], None),
+    (39, 39, &[], Some(Error::Length)),
+    (39, 39, &[0x81], Some(Error::Base128)),
+    (255, 254, &[], None),
+    (255, 255, &[], Some(Error::Length)),
+    (256, 255, &[], Some(Error::Length)),
+    (300, 254, &[], None),
+    (300, 255, &[], Some(Error::Length)),
+    (300, 299, &[], Some(Error::Length)),
+    (255, 254, &[0x81], Some(Error::Base128)),
+    (300, 254, &[0x81], Some(Error::Base128)),
+];
+
+#[test]
+fn keeps_to_the_most_octets(rt: HostRuntime) -> Result<(), Fail> {
+    for (capacity, count, end, error) in &LONG {
+        let octets = long_octets(rt.alloc(), &[0x2A], *count, end)?;
+        assert!(rt;
+            keeps_at(*capacity, octets.as_slice(), *error),
+            "{capacity} and {count}"
+        );
+    }
+    Ok(())
+}
+
+/// Whether a copy of a borrowed identifier, at a capacity, is equal to it.
+fn is_copied<const N: usize>(borrowed: ObjectIdentifierRef<'_>) -> bool
+    requires { N ≤ 300 }
+{
+    match ObjectIdentifier::<N>::try_from_ref(borrowed) {
+        Ok(oid) => oid.as_bytes() == borrowed.as_bytes() && borrowed.eq_oid(&oid),
+        Err(_) => false,
+    }
+}
+
+#[test]
+fn copies_a_borrowed_identifier(rt: HostRuntime) -> Result<(), Fail> {
+    let short = ObjectIdentifierRef::from_bytes(&[0x2A, 0x03])?;
+    let long = ObjectIdentifierRef::from_bytes(&[0x2A, 0xFF, 0x7F])?;
+    assert!(rt; is_copied::<2>(short));
+    assert!(rt; is_copied::<300>(short));
+    assert!(rt; is_copied::<3>(long));
+    assert!(rt; ObjectIdentifier::<2>::try_from_ref(long).err() == Some(Error::Length));
+    let other = ObjectIdentifierRef::from_bytes(&[0x2A, 0x81, 0x00])?;
+    assert!(rt; !other.eq_oid(&ObjectIdentifier::from_bytes(&[0x2A, 0x01])?));
+    Ok(())
+}

@@ -1,0 +1,90 @@
+//! Subtrees of borrowed identifiers.
+ghost use Rattle.std.specs.Prelude.{◌≡◌, ◌<◌, ◌≤◌, ◌↔◌, ℕ, IfOk, IfSome, slice_get};
+ghost use Rattle.std.specs.Ordering.{nat_cmp};
+ghost use Rattle.std.specs.Cmp.Lexicographic.{slice_cmp};
+ghost use Rattle.std.specs.List.Sorted.{IsSortedByKey};
+ghost use Rattle.const_oid.specs.OidRef.{ref_octets, ref_arcs};
+ghost use Rattle.const_oid.specs.Tree.{BeginsWith};
+
+use crate::vectors::ASCENDING;
+use const_oid::ObjectIdentifierRef;
+use std::alloc::{AllocError, Global};
+use std::collections::BTreeSet;
+use std::result::Result;
+use std::test::Fail;
+
+/// Sorts identifiers, and gives the places of those that begin with one.
+fn sorted_subtree(
+    front: &ObjectIdentifierRef<'_>,
+    oids: &mut Vec<ObjectIdentifierRef<'_>>,
+) -> Result<(usize, usize), AllocError>
+    ensures { IfOk result (λ range. (k : ℕ) → IfSome (slice_get oids.new.items k) (λ oid.
+        BeginsWith (ref_arcs oid) (ref_arcs front.now) ↔ ((range.0 ≤ k) × (k < range.1)))) }
+{
+    oids.sort()?;
+    Ok(front.subtree(oids))
+}
+
+/// The first identifier of a sorted list that begins with one.
+fn first_under<'a>(
+    front: &ObjectIdentifierRef<'_>,
+    sorted: &[ObjectIdentifierRef<'a>],
+) -> Option<ObjectIdentifierRef<'a>>
+    requires { IsSortedByKey ref_octets (slice_cmp nat_cmp) sorted.now }
+    ensures { IfSome result (λ oid. BeginsWith (ref_arcs oid) (ref_arcs front.now)) }
+{
+    let (from, to) = front.subtree(sorted);
+    if from < to { Some(sorted[from]) } else { None }
+}
+
+/// Whether a list has this range under a front, in any order of it, and a first one where it is not empty.
+fn ranges(
+    alloc: Global,
+    list: &[&[u8]],
+    front: &[u8],
+    range: (usize, usize),
+) -> Result<bool, Fail> {
+    let front = ObjectIdentifierRef::from_bytes(front)?;
+    let mut oids = Vec::new(alloc);
+    for ber in list {
+        oids.push(ObjectIdentifierRef::from_bytes(ber)?)?;
+    }
+    let found = sorted_subtree(&front, &mut oids)?;
+    oids.sort()?;
+    let is_found = first_under(&front, &oids).is_some();
+    Ok(found == range && is_found == (range.0 < range.1))
+}
+
+/// Lists, a front, and the range of those that begin with it.
+const ROWS: [(&[&[u8]], &[u8], (usize, usize)); 8] = [
+    (&ASCENDING, &[0x2A], (1, 8)),
+    (&ASCENDING, &[0x2A, 0x03], (2, 4)),
+    (&ASCENDING, &[0x2A, 0x04], (4, 4)),
+    (&ASCENDING, &[0x77], (9, 10)),
+    (&ASCENDING, &[0x88, 0x37], (12, 14)),
+    (&ASCENDING, &[0x89, 0x00], (14, 14)),
+    (&[&[0x2A], &[0x2A]], &[0x2A], (0, 2)),
+    (&[], &[0x2A], (0, 0)),
+];
+
+#[test]
+fn gives_the_range_of_a_subtree(rt: HostRuntime) -> Result<(), Fail> {
+    for (list, front, range) in &ROWS {
+        assert!(rt; ranges(rt.alloc(), list, front, *range)?, "{front:?}");
+    }
+    Ok(())
+}
+
+#[test]
+fn ordered_set_holds_a_subtree_together(rt: HostRuntime) -> Result<(), Fail> {
+    let mut oids = BTreeSet::new(rt.alloc());
+    for ber in ASCENDING.iter().rev() {
+        oids.insert(ObjectIdentifierRef::from_bytes(ber)?)?;
+    }
+    assert!(rt; oids.len() == ASCENDING.len());
+    for (place, oid) in oids.iter().enumerate() {
+        let is_under = oid.arc(0) == Some(1) && oid.arc(1) == Some(2);
+        assert!(rt; is_under == (1..8).contains(&place), "{oid}");
+    }
+    Ok(())
+}

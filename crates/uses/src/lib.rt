@@ -1,0 +1,14 @@
+//! Uses of `const_oid`, as callers write them, each proved and run by a test.
+#![tactic(auto)]
+
+pub mod algorithms;
+pub mod constants;
+#[cfg(test)]
+mod first;
+pub mod fixed;
+pub mod generic;
+pub mod schema;
+#[cfg(test)]
+mod tests;
+pub mod theorems;
+pub mod walk;

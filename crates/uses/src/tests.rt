@@ -1,0 +1,124 @@
+//! Each use, run once.
+
+use crate::algorithms::name_of;
+use crate::constants::{EC_PUBLIC_KEY, is_ec_public_key};
+use crate::fixed::printed;
+use crate::generic::child_in;
+use crate::schema::{Attribute, CommonName, Country, find, has_type};
+use crate::theorems;
+use crate::walk::{next_after, places};
+use const_oid::db::Database;
+use const_oid::{AssociatedOid, Error, ObjectIdentifier, ObjectIdentifierRef};
+use std::cmp::Ordering;
+use std::test::Fail;
+
+/// rsaEncryption (RFC 8017).
+const RSA: [u8; 9] = [0x2A, 0x86, 0x48, 0x86, 0xF7, 0x0D, 0x01, 0x01, 0x01];
+
+#[test]
+fn facts(rt: HostRuntime) -> Result<(), Fail> {
+    let rsa = theorems::rsa_encryption();
+    assert!(rt; rsa.as_bytes() == RSA.as_slice());
+    assert!(rt; theorems::is_rsa_encryption(&RSA));
+    let internet = ObjectIdentifier::new_unwrap("1.3.6.1");
+    let private = theorems::child(internet, 4)?;
+    let enterprise = theorems::child(private, 1)?;
+    assert!(rt; theorems::is_enterprise(&enterprise));
+    assert!(rt; !theorems::is_enterprise(&private));
+    assert!(rt; theorems::parent_of_child(private, 1)? == Some(private));
+    assert!(rt; theorems::child_of_parent(private) == Some(Ok(private)));
+    assert!(rt; theorems::through_text(rt.alloc(), rsa)? == Ok(rsa));
+    Ok(())
+}
+
+#[test]
+fn orders(rt: HostRuntime) {
+    let oid = ObjectIdentifier::new_unwrap("1.3.6.1");
+    let below = ObjectIdentifier::new_unwrap("1.3.6.1.4.1");
+    assert!(rt; below.starts_with(oid) && below != oid);
+    assert!(rt; theorems::both_orders(&oid, &below) == (Ordering::Less, Ordering::Less));
+}
+
+#[test]
+fn constant(rt: HostRuntime) -> Result<(), Fail> {
+    let oid = ObjectIdentifier::new("1.2.840.10045.2.1")?;
+    assert!(rt; is_ec_public_key(&oid.as_oid_ref()));
+    assert!(rt; format!(in rt.alloc(); "{EC_PUBLIC_KEY}")?.as_str() == "1.2.840.10045.2.1");
+    Ok(())
+}
+
+/// The longest text of 39 octets: 2.47 and 38 times .127.
+#[test]
+fn fullest(rt: HostRuntime) -> Result<(), Fail> {
+    let mut octets = [0x7F; 39];
+    let text = printed(&ObjectIdentifier::from_bytes(&octets)?)?;
+    assert!(rt; text.as_bytes().len() == 156);
+    assert!(rt; text.as_bytes().starts_with(b"2.47.127.127."));
+    Ok(())
+}
+
+#[test]
+fn capacity(rt: HostRuntime) -> Result<(), Fail> {
+    let oid = ObjectIdentifierRef::from_bytes(&RSA)?;
+    assert!(rt; child_in::<10>(oid, 127)?.as_bytes()[9] == 127);
+    assert!(rt; child_in::<10>(oid, 128) == Err(Error::Length));
+    Ok(())
+}
+
+#[test]
+fn attributes(rt: HostRuntime) -> Result<(), Fail> {
+    let common_name = CommonName::associated_oid();
+    let country = Country::associated_oid();
+    let entries = [
+        (&common_name, "cn"),
+        (&common_name, "commonName"),
+        (&country, "c"),
+    ];
+    let database = Database::new(&entries);
+    assert!(rt; find(&database, "COMMONNAME")? == common_name);
+    assert!(rt; find(&database, "2.5.4.6")? == country);
+    assert!(rt; find(&database, "x") == Err(Error::DigitExpected { actual: b'x' }));
+    let attribute = Attribute { kind: country };
+    assert!(rt; has_type::<Country>(&attribute) && !has_type::<CommonName>(&attribute));
+    Ok(())
+}
+
+#[test]
+fn algorithms(rt: HostRuntime) -> Result<(), Fail> {
+    let rsa = theorems::rsa_encryption();
+    let ed25519 = ObjectIdentifier::new_unwrap("1.3.101.112");
+    let entries = [(&rsa, "rsaEncryption"), (&ed25519, "Ed25519")];
+    let database = Database::new(&entries);
+    assert!(rt; name_of(&database, &RSA)? == Some("rsaEncryption"));
+    assert!(rt; name_of(&database, &[0x2B, 0x65, 0x70])? == Some("Ed25519"));
+    assert!(rt; name_of(&database, &[0x2B, 0x65, 0x71])? == None);
+    assert!(rt; name_of(&database, &[0x2A, 0x80, 0x01]) == Err(Error::Base128));
+    Ok(())
+}
+
+/// Ten columns of a hundred rows, as in the table of interfaces (RFC 2863).
+#[test]
+fn thousand(rt: HostRuntime) -> Result<(), Fail> {
+    let mut owned = Vec::new(rt.alloc());
+    for i in 0..1000u32 {
+        let place = (i * 37) % 1000;
+        let (column, row) = (place / 100 + 1, place % 100 + 1);
+        owned.push(ObjectIdentifier::from_arcs([1, 3, 6, 1, 2, 1, 2, 2, 1, column, row])?)?;
+    }
+    let mut oids = Vec::new(rt.alloc());
+    for oid in &owned {
+        oids.push(oid.as_oid_ref())?;
+    }
+    let third = ObjectIdentifier::new("1.3.6.1.2.1.2.2.1.3")?;
+    assert!(rt; places(&oids, &third.as_oid_ref()) == None);
+    oids.sort()?;
+    assert!(rt; places(&oids, &third.as_oid_ref()) == Some((200, 300)));
+    let mut last = third.as_oid_ref();
+    for row in 1..=100 {
+        let next = next_after(&oids, &last);
+        assert!(rt; next.and_then(|oid| oid.arc(10)) == Some(row));
+        last = next.unwrap_or(last);
+    }
+    assert!(rt; next_after(&oids, &last).and_then(|oid| oid.arc(9)) == Some(4));
+    Ok(())
+}

@@ -1,0 +1,77 @@
+//! What callers want to know of identifiers, as contracts of small functions.
+
+ghost use Rattle.std.specs.Prelude.{◌≡◌, ◌≢◌, ◌<◌, ◌↔◌, [], ◌∷◌, length, IsTrue, IsSome, IfOk, IfSome, IsOkAnd, IsSomeAnd};
+ghost use Rattle.std.specs.declared.cmp.Ordering.TheVariants.{Less};
+ghost use Rattle.const_oid.specs.Oid.{oid_arcs};
+ghost use Rattle.const_oid.specs.Tree.{BeginsWith};
+
+use const_oid::{Arc, ObjectIdentifier, Result};
+use std::alloc::{AllocError, Global};
+use std::cmp::Ordering;
+
+/// rsaEncryption (RFC 8017), by its arcs.
+pub fn rsa_encryption() -> ObjectIdentifier<39>
+    ensures { oid_arcs result ≡ 1 ∷ 2 ∷ 840 ∷ 113549 ∷ 1 ∷ 1 ∷ 1 ∷ [] }
+{
+    ObjectIdentifier::new_unwrap("1.2.840.113549.1.1.1")
+}
+
+/// Whether contents octets are those of rsaEncryption.
+pub fn is_rsa_encryption(octets: &[u8]) -> bool
+    ensures { IsTrue result ↔ (octets.now ≡ 42 ∷ 134 ∷ 72 ∷ 134 ∷ 247 ∷ 13 ∷ 1 ∷ 1 ∷ 1 ∷ []) }
+{
+    octets == ObjectIdentifier::new_unwrap("1.2.840.113549.1.1.1").as_bytes()
+}
+
+/// A child begins with its parent.
+pub fn child(parent: ObjectIdentifier<39>, arc: Arc) -> Result<ObjectIdentifier<39>>
+    ensures { IfOk result (λ child. BeginsWith (oid_arcs child) (oid_arcs parent)) }
+{
+    parent.push_arc(arc)
+}
+
+/// Whether an identifier stands below the enterprises, 1.3.6.1.4.1, or is that one.
+pub fn is_enterprise(oid: &ObjectIdentifier<39>) -> bool
+    ensures { IsTrue result ↔ BeginsWith (oid_arcs oid.now) (1 ∷ 3 ∷ 6 ∷ 1 ∷ 4 ∷ 1 ∷ []) }
+{
+    oid.starts_with(ObjectIdentifier::new_unwrap("1.3.6.1.4.1"))
+}
+
+/// The parent of a child is the identifier that it was made of.
+pub fn parent_of_child(oid: ObjectIdentifier<39>, arc: Arc) -> Result<Option<ObjectIdentifier<39>>>
+    ensures { IfOk result (λ parent. IsSomeAnd parent (λ parent. oid_arcs parent ≡ oid_arcs oid)) }
+{
+    Ok(oid.push_arc(arc)?.parent())
+}
+
+/// The child of a parent, by the last arc, fits and is the identifier that the parent is of.
+pub fn child_of_parent(oid: ObjectIdentifier<39>) -> Option<Result<ObjectIdentifier<39>>>
+    ensures found { IsSome result ↔ (2 < length (oid_arcs oid)) }
+    ensures again { IfSome result (λ child. IsOkAnd child (λ child. oid_arcs child ≡ oid_arcs oid)) }
+{
+    let parent = oid.parent()?;
+    let last = oid.arc(parent.len())?;
+    Some(parent.push_arc(last))
+}
+
+/// Both orders put an identifier before others that begin with it.
+pub fn both_orders(oid: &ObjectIdentifier<39>, below: &ObjectIdentifier<39>) -> (Ordering, Ordering)
+    requires begins { BeginsWith (oid_arcs below.now) (oid_arcs oid.now) }
+    requires other { oid_arcs below.now ≢ oid_arcs oid.now }
+    ensures owned { result.0 ≡ Less }
+    ensures borrowed { result.1 ≡ Less }
+{
+    (oid.cmp(below), oid.as_oid_ref().cmp(&below.as_oid_ref()))
+}
+
+/// What is printed is read as the same identifier.
+#[tactic(auto, using(const_oid::proofs::Identifiers::printed_back))]
+pub fn through_text(
+    alloc: Global,
+    oid: ObjectIdentifier<39>,
+) -> std::result::Result<Result<ObjectIdentifier<39>>, AllocError>
+    ensures { IfOk result (λ read. IsOkAnd read (λ read. oid_arcs read ≡ oid_arcs oid)) }
+{
+    let text = oid.to_string(alloc)?;
+    Ok(ObjectIdentifier::new(text.as_str()))
+}
