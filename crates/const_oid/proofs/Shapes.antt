@@ -1,5 +1,5 @@
 -- Octets whose windows of five have no fault have none.
-use Rattle.std.proofs.Common.{◌≡◌, ℕ, suc, ◌+◌, ◌*◌, ◌%◌, ◌<◌, ◌≤◌, false, List, [], ◌∷◌, length, get_or, Option, None, arith, refl, sym, drop, ◌-◌, ⊎_elim, ◌∙◌}
+use Rattle.std.proofs.Common.{◌≡◌, ℕ, suc, ◌+◌, ◌<◌, ◌≤◌, false, List, [], ◌∷◌, length, get_or, None, arith, refl, sym, drop, ◌-◌, ⊎_elim, ◌∙◌}
 use Rattle.std.specs.Prelude.{◌≢◌}
 use Rattle.const_oid.specs.Windows.{NoEmptyFirst, NoLongGroup}
 use Rattle.std.proofs.lemmas.Bool.{cases_lt}

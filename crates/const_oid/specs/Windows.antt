@@ -1,5 +1,5 @@
 -- Octets without a fault, told by each octet and the four before it.
-use Rattle.std.specs.Prelude.{◌≡◌, ◌≢◌, ℕ, ◌+◌, ◌<◌, ◌≤◌, List, length, slice_index_or}
+use Rattle.std.specs.Prelude.{◌≢◌, ℕ, ◌+◌, ◌<◌, ◌≤◌, List, length, slice_index_or}
 
 -- no octet 128 follows one below 128
 abbrev pub NoEmptyFirst : List ℕ → Type 0

@@ -5,6 +5,7 @@ ghost use Rattle.std.proofs.Props.{props};
 ghost use Rattle.const_oid.specs.Base128.{AreOctets, IsGroup, GoesOn, width};
 
 use crate::error::{Error, Result};
+use crate::scan::order;
 use std::cmp::Ordering;
 use std::hash::{Hash, Hasher};
 
@@ -35,6 +36,7 @@ impl<const SIZE: usize> Buffer<SIZE> {
     }
 
     /// The octets copied, or `Length` where they do not fit.
+    #[inline(always)]
     pub(crate) fn from_slice(octets: &[u8]) -> Result<Self>
         ensures fits { MatchResult result (λ _. length octets.now ≤ min SIZE 255)
             (λ fault. (fault ≡ Error.Length) × (min SIZE 255 < length octets.now)) }
@@ -192,7 +194,7 @@ impl<const SIZE: usize> Ord for Buffer<SIZE> {
         ensures { result ≡ short_cmp (octets_of self.now) (octets_of other.now) }
     {
         match self.len().cmp(&other.len()) {
-            Ordering::Equal => self.as_bytes().cmp(other.as_bytes()),
+            Ordering::Equal => order(self.as_bytes(), other.as_bytes()),
             unequal => unequal,
         }
     }

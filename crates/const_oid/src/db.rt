@@ -2,6 +2,7 @@
 
 ghost use Rattle.std.specs.Prelude.{◌≡◌};
 ghost use Rattle.std.specs.Iterator.{YieldsFirst, item_count};
+ghost use Rattle.const_oid.specs.Names as names;
 ghost use Rattle.const_oid.specs.Names.{entries_of, has_arcs, first_name, resolve_answer, all_names, first_oid, names_left};
 ghost use Rattle.const_oid.specs.Oid.{oid_arcs};
 
@@ -40,7 +41,7 @@ impl<'a> Database<'a> {
     {
         self.entries
             .iter()
-            .find(|entry| entry.1.eq_ignore_ascii_case(name))
+            .find(|entry| has_name(entry, name))
             .map(|entry| entry.0)
     }
 
@@ -103,4 +104,11 @@ fn has_oid(entry: &(&ObjectIdentifier<39>, &str), oid: &ObjectIdentifier<39>) ->
     ensures { result ≡ has_arcs (oid_arcs oid.now) entry.now }
 {
     *entry.0 == *oid
+}
+
+/// Whether an entry has the same name, of which the lengths are compared first.
+fn has_name(entry: &(&ObjectIdentifier<39>, &str), name: &str) -> bool
+    ensures { result ≡ names.has_name name.now entry.now }
+{
+    entry.1.len() == name.len() && entry.1.eq_ignore_ascii_case(name)
 }

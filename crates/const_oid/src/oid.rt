@@ -16,7 +16,7 @@ use crate::encoder::Encoder;
 use crate::error::{Error, Result};
 use crate::oid_ref::ObjectIdentifierRef;
 use crate::parser::parse;
-use crate::scan::before_last;
+use crate::scan::{before_last, begins_with};
 use std::cmp::Ordering;
 use std::fmt;
 use std::str::FromStr;
@@ -95,6 +95,7 @@ impl ObjectIdentifier<39> {
 
     /// Reads contents octets (X.690, 8.19), of which at most 39 fit, as
     /// [`from_bytes_sized`](Self::from_bytes_sized) does.
+    #[inline(always)]
     pub fn from_bytes(ber_bytes: &[u8]) -> Result<Self>
         ensures answer { oid_answer result ≡ octet_answer root_rule ber_bytes.now 39 }
         ensures octets { IfOk result (λ oid. oid_octets oid ≡ ber_bytes.now) }
@@ -128,6 +129,7 @@ impl<const MAX_SIZE: usize> ObjectIdentifier<MAX_SIZE> {
     ///   with 0x80, that its number is past 32 bits (past 4294967375 in the first group, which holds
     ///   two arcs), or that it does not end;
     /// - [`Error::Length`]: there are more octets than fit.
+    #[inline(always)]
     pub fn from_bytes_sized(ber_bytes: &[u8]) -> Result<Self>
         ensures answer { oid_answer result ≡ octet_answer root_rule ber_bytes.now (min MAX_SIZE 255) }
         ensures octets { IfOk result (λ oid. oid_octets oid ≡ ber_bytes.now) }
@@ -137,6 +139,7 @@ impl<const MAX_SIZE: usize> ObjectIdentifier<MAX_SIZE> {
     }
 
     /// Copies a borrowed identifier, or answers [`Error::Length`] where its octets do not fit.
+    #[inline(always)]
     pub fn try_from_ref(oid_ref: ObjectIdentifierRef<'_>) -> Result<Self>
         ensures fits { let count = length (ref_octets oid_ref.entry) in
             MatchResult result (λ _. count ≤ min MAX_SIZE 255)
@@ -211,10 +214,11 @@ impl<const MAX_SIZE: usize> ObjectIdentifier<MAX_SIZE> {
     }
 
     /// Whether the arcs begin with all those of another identifier, which may be all of these.
+    #[inline(always)]
     pub fn starts_with<const SIZE: usize>(&self, other: ObjectIdentifier<SIZE>) -> bool
         ensures { IsTrue result ↔ BeginsWith (oid_arcs self.now) (oid_arcs other.entry) }
     {
-        self.as_bytes().starts_with(other.as_bytes())
+        begins_with(self.as_bytes(), other.as_bytes())
     }
 }
 

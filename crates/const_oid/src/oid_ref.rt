@@ -12,7 +12,7 @@ ghost use Rattle.const_oid.specs.Text.{text_of};
 use crate::arcs::{Arc, Arcs, arc_at};
 use crate::error::{Error, Result};
 use crate::oid::ObjectIdentifier;
-use crate::scan::count_last;
+use crate::scan::{count_last, order};
 use crate::sound::check;
 use std::cmp::Ordering;
 use std::fmt;
@@ -40,6 +40,7 @@ impl<'a> ObjectIdentifierRef<'a> {
     ///   with 0x80, that its number is past 32 bits (past 4294967375 in the first group, which holds
     ///   two arcs), or that it does not end;
     /// - [`Error::Length`]: there are more than 2^63 - 1 octets, which no slice has.
+    #[inline(always)]
     pub fn from_bytes(ber: &'a [u8]) -> Result<Self>
         ensures answer { ref_answer result ≡ octet_answer root_rule ber.now borrowed_capacity }
         ensures slice { IfOk result (λ oid. ref_slice oid ≡ ber.entry) }
@@ -194,6 +195,6 @@ impl Ord for ObjectIdentifierRef<'_> {
     fn cmp(&self, other: &Self) -> Ordering
         ensures { result ≡ slice_cmp nat_cmp (ref_octets self.now) (ref_octets other.now) }
     {
-        self.ber.cmp(other.ber)
+        order(self.ber, other.ber)
     }
 }

@@ -22,32 +22,25 @@ pub(crate) fn parse(text: &str) -> Result<Buffer<39>>
 {
     let bytes = text.as_bytes();
     let mut encoder = Encoder::new();
-    let mut number = None;
+    let mut number: u64 = 0;
+    let mut begun = false;
     for (index, &byte) in bytes.iter().enumerate() {
         if byte.is_ascii_digit() {
-            number = Some(with_digit(number, byte)?);
+            number = number * 10 + u64::from(byte - b'0');
+            if number > Arc::MAX as u64 {
+                return Err(Error::ArcTooBig);
+            }
+            begun = true;
         } else if byte == b'.' {
-            end_piece(&mut encoder, number, index + 1 == bytes.len())?;
-            number = None;
+            let piece = begun.then_some(number as Arc);
+            end_piece(&mut encoder, piece, index + 1 == bytes.len())?;
+            number = 0;
+            begun = false;
         } else {
             return Err(Error::DigitExpected { actual: byte });
         }
     }
-    end_text(encoder, number)
-}
-
-/// The number of a piece with one more digit.
-fn with_digit(number: Option<Arc>, digit: u8) -> Result<Arc>
-    requires { IsAsciiDigit digit }
-    ensures { let longer = unwrap_or number 0 * 10 + (digit - 48) in
-        MatchResult result (λ arc. (arc ≡ longer) × (longer ≤ most_arc))
-        (λ fault. (fault ≡ Error.ArcTooBig) × (most_arc < longer)) }
-{
-    number
-        .unwrap_or(0)
-        .checked_mul(10)
-        .and_then(|tens| tens.checked_add(u32::from(digit - b'0')))
-        .ok_or(Error::ArcTooBig)
+    end_text(encoder, begun.then_some(number as Arc))
 }
 
 /// Ends a piece at a dot.

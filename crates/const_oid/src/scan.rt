@@ -1,9 +1,12 @@
-//! Octets looked at for bit 8 alone: how many parts they end, and where parts begin and end.
+//! Slices of octets: how many parts they have, where these begin and end, and how slices compare.
 
-ghost use Rattle.std.specs.Prelude.{◌≡◌, ◌-◌, ◌≤◌, length, take, drop, count_by, nat_lt, slice_get};
+ghost use Rattle.std.specs.Prelude.{◌≡◌, ◌↔◌, ℕ, ◌-◌, ◌≤◌, List, ◌++◌, length, take, drop, count_by, nat_eq, nat_lt, slice_get, IsTrue};
+ghost use Rattle.std.specs.Cmp.Lexicographic.{pointwise, slice_cmp};
+ghost use Rattle.std.specs.Ordering.{nat_cmp};
 ghost use Rattle.std.specs.Option.{option_copied};
 ghost use Rattle.const_oid.specs.Contents.{cut};
 
+use std::cmp::Ordering;
 use std::simd::prelude::*;
 use std::simd::u8x32;
 
@@ -71,6 +74,51 @@ pub(crate) fn before_last(octets: &[u8]) -> &[u8]
         Some(index) => &front[..index + 1],
         None => &front[..0],
     }
+}
+
+/// Whether octets begin with others.
+#[inline(always)]
+pub(crate) fn begins_with(octets: &[u8], front: &[u8]) -> bool
+    ensures { IsTrue result ↔ ((rest : List ℕ) × (octets.now ≡ front.now ++ rest)) }
+{
+    let count = front.len();
+    if count > octets.len() {
+        return false;
+    }
+    are_equal(front, &octets[..count])
+}
+
+/// Whether as many octets are the same: the first eight one by one, since most pairs differ there.
+#[inline(always)]
+fn are_equal(a: &[u8], b: &[u8]) -> bool
+    requires { length a.now ≡ length b.now }
+    ensures { result ≡ pointwise nat_eq a.now b.now }
+{
+    let near = a.len().min(8);
+    for i in 0..near {
+        if a[i] != b[i] {
+            return false;
+        }
+    }
+    if near < a.len() {
+        return &a[near..] == &b[near..];
+    }
+    true
+}
+
+/// The octets in list order: the first eight one by one, since most pairs differ there.
+#[inline(always)]
+pub(crate) fn order(a: &[u8], b: &[u8]) -> Ordering
+    ensures { result ≡ slice_cmp nat_cmp a.now b.now }
+{
+    let near = a.len().min(b.len()).min(8);
+    for i in 0..near {
+        if a[i] != b[i] {
+            return a[i].cmp(&b[i]);
+        }
+    }
+    let (a, b) = (&a[near..], &b[near..]);
+    a.cmp(&b)
 }
 
 #[cfg(test)]

@@ -1,13 +1,13 @@
-//! Callers of any capacity, and identifiers of types and of values.
+//! Callers of any capacity.
 
-ghost use Rattle.std.specs.Prelude.{◌≡◌, ◌≤◌, IfOk};
+ghost use Rattle.std.specs.Prelude.{◌≡◌, ◌≤◌, IfOk, IsOkAnd};
 ghost use Rattle.const_oid.specs.Oid.{oid_arcs};
 ghost use Rattle.const_oid.specs.OidRef.{ref_arcs};
 ghost use Rattle.const_oid.specs.Tree.{child_of};
 
 use const_oid::{Arc, ObjectIdentifier, ObjectIdentifierRef, Result};
 
-/// The child of a borrowed identifier, in a chosen capacity.
+/// The child of a borrowed identifier, in a capacity of the caller's choice, where it fits.
 pub fn child_in<const N: usize>(
     parent: ObjectIdentifierRef<'_>,
     arc: Arc,
@@ -15,4 +15,12 @@ pub fn child_in<const N: usize>(
     ensures { IfOk result (λ child. oid_arcs child ≡ child_of (ref_arcs parent.entry) arc) }
 {
     ObjectIdentifier::try_from_ref(parent)?.push_arc(arc)
+}
+
+/// The same identifier in another capacity, which holds all of the first.
+pub fn widened<const N: usize>(oid: &ObjectIdentifier<39>) -> Result<ObjectIdentifier<N>>
+    requires { 39 ≤ N }
+    ensures { IsOkAnd result (λ wide. oid_arcs wide ≡ oid_arcs oid.now) }
+{
+    ObjectIdentifier::try_from_ref(oid.as_oid_ref())
 }

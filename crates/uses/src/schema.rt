@@ -54,7 +54,8 @@ pub fn has_type<T: AssociatedOid>(attribute: &Attribute) -> bool
 
 /// The identifier that a user means: by a name in any case, or else by its dotted text.
 pub fn find(database: &Database<'_>, input: &str) -> Result<ObjectIdentifier<39>>
-    ensures named { IfSome (first_oid (entries_of database.now) input.now) (λ oid. result ≡ Ok oid.now) }
+    ensures named { IfSome (first_oid (entries_of database.now) input.now)
+        (λ oid. result ≡ Ok oid.now) }
     ensures dotted { IfNone (first_oid (entries_of database.now) input.now)
         (oid_answer result ≡ text_answer root_rule input.now) }
 {

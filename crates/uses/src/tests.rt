@@ -1,9 +1,9 @@
 //! Each use, run once.
 
-use crate::algorithms::name_of;
-use crate::constants::{EC_PUBLIC_KEY, is_ec_public_key};
+use crate::algorithms::{name_in, name_of};
+use crate::constants::{EC_PUBLIC_KEY, is_ec_public_key, is_its_text};
 use crate::fixed::printed;
-use crate::generic::child_in;
+use crate::generic::{child_in, widened};
 use crate::schema::{Attribute, CommonName, Country, find, has_type};
 use crate::theorems;
 use crate::walk::{next_after, places};
@@ -42,7 +42,7 @@ fn orders(rt: HostRuntime) {
 #[test]
 fn constant(rt: HostRuntime) -> Result<(), Fail> {
     let oid = ObjectIdentifier::new("1.2.840.10045.2.1")?;
-    assert!(rt; is_ec_public_key(&oid.as_oid_ref()));
+    assert!(rt; is_ec_public_key(&oid.as_oid_ref()) && is_its_text());
     assert!(rt; format!(in rt.alloc(); "{EC_PUBLIC_KEY}")?.as_str() == "1.2.840.10045.2.1");
     Ok(())
 }
@@ -62,6 +62,7 @@ fn capacity(rt: HostRuntime) -> Result<(), Fail> {
     let oid = ObjectIdentifierRef::from_bytes(&RSA)?;
     assert!(rt; child_in::<10>(oid, 127)?.as_bytes()[9] == 127);
     assert!(rt; child_in::<10>(oid, 128) == Err(Error::Length));
+    assert!(rt; widened::<255>(&theorems::rsa_encryption())?.as_bytes() == RSA.as_slice());
     Ok(())
 }
 
@@ -92,6 +93,7 @@ fn algorithms(rt: HostRuntime) -> Result<(), Fail> {
     assert!(rt; name_of(&database, &RSA)? == Some("rsaEncryption"));
     assert!(rt; name_of(&database, &[0x2B, 0x65, 0x70])? == Some("Ed25519"));
     assert!(rt; name_of(&database, &[0x2B, 0x65, 0x71])? == None);
+    assert!(rt; name_in(&Database::new(&[]), &database, &rsa) == Some("rsaEncryption"));
     assert!(rt; name_of(&database, &[0x2A, 0x80, 0x01]) == Err(Error::Base128));
     Ok(())
 }

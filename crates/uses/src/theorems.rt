@@ -1,6 +1,7 @@
 //! What callers want to know of identifiers, as contracts of small functions.
 
-ghost use Rattle.std.specs.Prelude.{◌≡◌, ◌≢◌, ◌<◌, ◌↔◌, [], ◌∷◌, length, IsTrue, IsSome, IfOk, IfSome, IsOkAnd, IsSomeAnd};
+ghost use Rattle.std.specs.Prelude.{◌≡◌, ◌≢◌, ◌<◌, ◌↔◌, [], ◌∷◌, length, IsTrue, IsSome};
+ghost use Rattle.std.specs.Prelude.{IfOk, IfSome, IsOkAnd, IsSomeAnd};
 ghost use Rattle.std.specs.declared.cmp.Ordering.TheVariants.{Less};
 ghost use Rattle.const_oid.specs.Oid.{oid_arcs};
 ghost use Rattle.const_oid.specs.Tree.{BeginsWith};
@@ -47,7 +48,8 @@ pub fn parent_of_child(oid: ObjectIdentifier<39>, arc: Arc) -> Result<Option<Obj
 /// The child of a parent, by the last arc, fits and is the identifier that the parent is of.
 pub fn child_of_parent(oid: ObjectIdentifier<39>) -> Option<Result<ObjectIdentifier<39>>>
     ensures found { IsSome result ↔ (2 < length (oid_arcs oid)) }
-    ensures again { IfSome result (λ child. IsOkAnd child (λ child. oid_arcs child ≡ oid_arcs oid)) }
+    ensures again { IfSome result (λ child.
+        IsOkAnd child (λ again. oid_arcs again ≡ oid_arcs oid)) }
 {
     let parent = oid.parent()?;
     let last = oid.arc(parent.len())?;

@@ -15,13 +15,14 @@ pub fn next_after<'a>(
     oid: &ObjectIdentifierRef<'_>,
 ) -> Option<ObjectIdentifierRef<'a>>
     requires { IsSortedByKey ref_octets (slice_cmp nat_cmp) sorted.now }
-    ensures { result ≡ find (λ next. is_lt (slice_cmp nat_cmp (ref_octets oid.now) (ref_octets next))) sorted.now }
+    ensures { result ≡ find (λ next. is_lt (slice_cmp nat_cmp (ref_octets oid.now)
+        (ref_octets next))) sorted.now }
 {
     let place = sorted.partition_point(|other| *other <= *oid);
     sorted.get(place).copied()
 }
 
-/// Where the identifiers of a list stand that begin with one, or `None` where the list descends.
+/// Where the identifiers that begin with one stand in a list, which a test shows to be sorted.
 #[tactic(auto, using(const_oid::proofs::Identifiers::not_before))]
 pub fn places(
     oids: &[ObjectIdentifierRef<'_>],

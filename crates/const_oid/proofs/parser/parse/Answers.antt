@@ -1,23 +1,30 @@
-use Rattle.std.proofs.Common.{◌≡◌, [], drop, arith, ◌∙◌, ap}
+use Rattle.std.proofs.Common.{◌≡◌, ℕ, Bool, true, false, List, [], drop, Option, is_some, unwrap_or, refl, arith, ◌∙◌, ap}
+use Rattle.std.specs.Bool.{then_some}
 use Rattle.std.proofs.lemmas.List.{drop_all}
 use Rattle.std.proofs.lemmas.Result.{IfOk-weaker}
 use Rattle.const_oid.specs.Buffer.{octets_of}
-use Rattle.const_oid.specs.Identifier.{root_rule}
+use Rattle.const_oid.specs.Identifier.{RootRule, root_rule}
 use Rattle.const_oid.specs.Text.{text_answer}
 use Rattle.const_oid.proofs.Encodings.{encoding_back}
-use Rattle.const_oid.proofs.TextPass.{text_answer_is, text_pass-end}
+use Rattle.const_oid.proofs.TextPass.{text_pass, text_answer_is, text_pass-end}
 use Rattle.const_oid.proofs.parser.parse.Goals as goal
 
 pub loop-index-init : goal.loop-index-init
-loop-index-init c = rw c.new-encoder.ensures (text_answer_is root_rule c.as_bytes-bytes.result.now)
+loop-index-init c = record { pass = rw c.new-encoder.ensures (text_answer_is root_rule c.as_bytes-bytes.result.now); small = omega arith }
+
+pub returns-clause-encoding : goal.returns-clause-encoding
+returns-clause-encoding c = IfOk-weaker c.end_text.result _ _ (λ octets e. encoding_back root_rule _ (octets_of octets) e) c.end_text.ensures.encoding
+
+-- no number of the last piece is asked for where it has no digit
+last_piece : (rule : RootRule) (before : List ℕ) (begun : Bool) (value : ℕ) (piece : Option ℕ) → piece ≡ then_some begun value → text_pass rule before (is_some piece) (unwrap_or piece 0) [] ≡ text_pass rule before begun value []
+last_piece rule before true value piece e = rw e refl
+last_piece rule before false value piece e = rw e refl
 
 pub returns-clause-answer : goal.returns-clause-answer
 returns-clause-answer c =
     let l = c.loop-index in
     let none : drop l.index c.as_bytes-bytes.result.now ≡ [] = drop_all l.index c.as_bytes-bytes.result.now (omega arith) in
-    text_pass-end octets_of root_rule l.encoder l.number c.end_text.result c.end_text.ensures.fault c.end_text.ensures.encoding
-    ∙ (rw none at l.invariant)
+    text_pass-end octets_of root_rule l.encoder c.then_some.result c.end_text.result c.end_text.ensures.fault c.end_text.ensures.encoding
+    ∙ last_piece root_rule l.encoder l.begun l.number c.then_some.result c.then_some.ensures
+    ∙ (rw none at l.invariant.pass)
     ∙ ap (text_answer root_rule) c.as_bytes-bytes.ensures.value
-
-pub returns-clause-encoding : goal.returns-clause-encoding
-returns-clause-encoding c = IfOk-weaker c.end_text.result _ _ (λ octets e. encoding_back root_rule _ (octets_of octets) e) c.end_text.ensures.encoding

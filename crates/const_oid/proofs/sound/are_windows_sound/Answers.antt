@@ -1,5 +1,4 @@
-use Rattle.std.proofs.Common.{◌≡◌, ◌<◌, ◌-◌, length, get_or, arith, Bool, true, false, not, rules, IsTrue}
-use Rattle.std.proofs.lemmas.Bool.{cases_Bool}
+use Rattle.std.proofs.Common.{◌≡◌, ◌<◌, ◌-◌, length, get_or, false, rules}
 use Rattle.const_oid.proofs.Shapes.{windows_fault}
 use Rattle.const_oid.proofs.sound.are_windows_sound.Goals as goal
 

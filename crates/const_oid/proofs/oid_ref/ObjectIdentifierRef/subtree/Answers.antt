@@ -1,4 +1,4 @@
-use Rattle.std.proofs.Common.{◌≡◌, ◌≤◌, arith, count_by, length, rules}
+use Rattle.std.proofs.Common.{◌≡◌, arith, count_by, rules}
 use Rattle.std.proofs.lemmas.List.Sorted.{IsPartitionPoint-from_clause}
 use Rattle.const_oid.proofs.Subtree.{ref_is_before, ref_is_within, cut_before, cut_within, point_is_count, places_between, counted_to}
 use Rattle.const_oid.proofs.oid_ref.ObjectIdentifierRef.subtree.Goals as goal

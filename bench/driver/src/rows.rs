@@ -1,0 +1,181 @@
+//! What is measured: operations, their sizes, and the goals of the ratios.
+
+use crate::sides::*;
+use std::hint::black_box;
+
+/// An operation at a size. `run` repeats it so many rounds on ours (0) or on the Rust crate (1), and sums the answers.
+pub struct Row {
+    pub name: String,
+    pub size: String,
+    pub goal: f64,
+    pub each_round: usize,
+    pub run: [Box<dyn Fn(u64) -> u64>; 2],
+}
+
+/// Numbers that are the same in each run (xorshift).
+pub struct Dice(u64);
+
+impl Dice {
+    pub fn new() -> Self {
+        Dice(0x2545_f491_4f6c_dd1d)
+    }
+
+    pub fn below(&mut self, limit: u64) -> u64 {
+        self.0 ^= self.0 << 13;
+        self.0 ^= self.0 >> 7;
+        self.0 ^= self.0 << 17;
+        (self.0 >> 11) % limit
+    }
+
+    /// An identifier of so many octets, in groups of one to three.
+    pub fn identifier(&mut self, octets: usize) -> Vec<u8> {
+        let mut made = vec![0x2a];
+        while made.len() < octets {
+            for _ in 0..self.below(3).min((octets - made.len() - 1) as u64) {
+                made.push(0x81 + self.below(127) as u8);
+            }
+            made.push(self.below(128) as u8);
+        }
+        made
+    }
+}
+
+/// The answer of a call and what it made.
+pub fn answer(call: Call, input: &[u8], number: u64) -> (u64, Vec<u8>) {
+    let mut output = vec![0; 64 + 4 * input.len()];
+    let answer = unsafe { call(input.as_ptr(), input.len(), number, output.as_mut_ptr(), output.len()) };
+    output.truncate(answer as usize);
+    (answer, output)
+}
+
+/// Calls: one operation each, on each input in turn.
+fn of_calls(name: &str, size: &str, goal: f64, inputs: &[Vec<u8>], number: u64, calls: [Call; 2]) -> Row {
+    let run = calls.map(|call| {
+        let inputs = inputs.to_vec();
+        Box::new(move |rounds: u64| {
+            let mut output = vec![0; 64 + 4 * inputs[0].len()];
+            let mut total = 0u64;
+            for _ in 0..rounds {
+                for input in &inputs {
+                    let room = output.len();
+                    let answer = unsafe { black_box(call)(input.as_ptr(), input.len(), number, output.as_mut_ptr(), room) };
+                    total = total.wrapping_mul(31).wrapping_add(answer);
+                }
+            }
+            output.iter().fold(total, |total, byte| total.wrapping_mul(31).wrapping_add(u64::from(*byte)))
+        }) as Box<dyn Fn(u64) -> u64>
+    });
+    Row { name: format!("call {name}"), size: size.into(), goal, each_round: inputs.len(), run }
+}
+
+/// One function that reads what it works on, and then repeats the operation.
+fn of_rounds(name: &str, size: &str, goal: f64, each_round: usize, run: impl Fn(bool, u64) -> u64 + Clone + 'static) -> Row {
+    let rust = run.clone();
+    Row {
+        name: name.into(),
+        size: size.into(),
+        goal,
+        each_round,
+        run: [Box::new(move |rounds| run(true, rounds)), Box::new(move |rounds| rust(false, rounds))],
+    }
+}
+
+/// All rows: small identifiers, long inputs, lists and tables.
+pub fn all(dice: &mut Dice) -> Vec<Row> {
+    let mut rows = vec![];
+    for (octets, size, goal) in [(3, "short", 1.0), (9, "typical", 0.55), (39, "long", 0.5)] {
+        let set: Vec<Vec<u8>> = (0..16).map(|place| small(octets, place, dice)).collect();
+        rows.extend(call_rows(size, goal, &set));
+        rows.extend(repeated_rows(size, goal, &set));
+    }
+    for zeros in [10, 100, 1000, 10_000, 100_000] {
+        let text = format!("1.2.{}7", "0".repeat(zeros)).into_bytes();
+        rows.push(of_calls("new", &format!("{zeros} zeros"), 1.0, &[text], 0, [ours_new, rust_new]));
+    }
+    for octets in [100, 1000, 10_000] {
+        let set: Vec<Vec<u8>> = (0..1 + 1600 / octets).map(|_| dice.identifier(octets)).collect();
+        let size = format!("{octets} octets");
+        let middle = octets as u64 / 4;
+        rows.push(of_calls("from_bytes, borrowed", &size, 1.0, &set, 0, [ours_borrowed, rust_borrowed]));
+        rows.push(of_calls("from_bytes and len", &size, 1.0, &set, 0, [ours_len, rust_len]));
+        rows.push(of_calls("from_bytes and arc of the middle", &size, 1.0, &set, middle, [ours_arc, rust_arc]));
+        rows.push(of_calls("from_bytes and Display", &size, 1.0, &set, 0, [ours_print, rust_print]));
+    }
+    for count in [1000, 10_000, 100_000, 1_000_000] {
+        let list = listed(count);
+        rows.push(of_rounds("subtree", &format!("{count} values"), 1.0, 1, move |ours, rounds| subtree(ours, &list, rounds)));
+    }
+    for (name, by_name) in [("by_oid", false), ("by_name", true)] {
+        for count in [10, 100, 1000] {
+            let (list, words) = (listed(count), words(count));
+            let run = move |ours, rounds| names(ours, &list, 5, &words, by_name, rounds);
+            rows.push(of_rounds(name, &format!("{count} entries"), 1.0, 1, run));
+        }
+    }
+    rows
+}
+
+/// One of sixteen identifiers: of 3 octets like 1.2.3.4, of 9 like 1.2.840.113549.1.1.1 or 2.16.840.1.101.3.4.2.1, of 39 any.
+fn small(octets: usize, place: u8, dice: &mut Dice) -> Vec<u8> {
+    match octets {
+        3 => vec![0x2a, 3 + place / 4, 4 + place % 4],
+        9 if place / 2 % 2 == 0 => vec![0x2a, 0x86, 0x48, 0x86, 0xf7, 0x0d, 1, 1, place + 1],
+        9 => vec![0x60, 0x86, 0x48, 1, 0x65, 3, 4, 2, place + 1],
+        _ => dice.identifier(octets),
+    }
+}
+
+fn call_rows(size: &str, goal: f64, set: &[Vec<u8>]) -> Vec<Row> {
+    let texts: Vec<Vec<u8>> = set.iter().map(|octets| answer(rust_print, octets, 0).1).collect();
+    vec![
+        of_calls("new", size, goal, &texts, 0, [ours_new, rust_new]),
+        of_calls("from_bytes, owned", size, goal, set, 0, [ours_owned, rust_owned]),
+        of_calls("from_bytes, borrowed", size, goal, set, 0, [ours_borrowed, rust_borrowed]),
+        of_calls("from_bytes and Display", size, goal, set, 0, [ours_print, rust_print]),
+        of_calls("from_bytes and len", size, goal, set, 0, [ours_len, rust_len]),
+        of_calls("from_bytes and arc(2)", size, goal, set, 2, [ours_arc, rust_arc]),
+        of_calls("from_bytes and parent", size, goal, set, 0, [ours_parent, rust_parent]),
+        of_calls("from_bytes and push_arc(300)", size, 1.0, set, 300, [ours_push_arc, rust_push_arc]),
+    ]
+}
+
+/// Each identifier has the next one, or a copy of itself, as its partner.
+fn repeated_rows(size: &str, goal: f64, set: &[Vec<u8>]) -> Vec<Row> {
+    let (next, itself) = ([set, &set[1..], &set[..1]].concat().concat(), [set, set].concat().concat());
+    let octets = set[0].len();
+    let operations = [
+        ("from_bytes, owned", goal, 0, 0, &next),
+        ("from_bytes, borrowed", goal, 3, 0, &next),
+        ("Display", goal, 11, 0, &next),
+        ("len", goal, 4, 0, &next),
+        ("arc(0)", 1.0, 5, 0, &next),
+        ("arc(2)", goal, 5, 2, &next),
+        ("arc(100), none", 1.0, 5, 100, &next),
+        ("arcs, all", 1.0, 6, 0, &next),
+        ("parent", goal, 1, 0, &next),
+        ("push_arc(1)", 1.0, 2, 1, &next),
+        ("push_arc(4294967295)", 1.0, 2, 0xffff_ffff, &next),
+        ("starts_with, the next", 1.0, 7, 0, &next),
+        ("starts_with, itself", 1.0, 7, 0, &itself),
+        ("cmp, owned", 1.0, 8, 0, &next),
+        ("cmp, borrowed", 1.0, 9, 0, &next),
+        ("==, the next", 1.0, 10, 0, &next),
+        ("==, itself", 1.0, 10, 0, &itself),
+    ];
+    let row = |(name, goal, operation, number, set): (&str, f64, u64, u64, &Vec<u8>)| {
+        let set = set.clone();
+        let run = move |ours, rounds| repeated(ours, &set, octets, operation, number, rounds);
+        of_rounds(&format!("repeated {name}"), size, goal, 16, run)
+    };
+    operations.into_iter().map(row).collect()
+}
+
+/// So many identifiers 1.3.6.A.B.C in order, of five octets each.
+fn listed(count: usize) -> Vec<u8> {
+    (0..count).flat_map(|place| [0x2b, 6, (place / 10_000) as u8, (place / 100 % 100) as u8, (place % 100) as u8]).collect()
+}
+
+/// So many lines of names, of different lengths.
+fn words(count: usize) -> String {
+    (0..count).map(|place| format!("id-{}{place}\n", "key".repeat(place % 5))).collect()
+}

@@ -1,0 +1,13 @@
+use Rattle.std.proofs.Common.{◌≡◌, length, take, nat_eq, rules}
+use Rattle.std.specs.Cmp.Lexicographic.{pointwise}
+use Rattle.std.proofs.lemmas.Bool.Decides.{Decides-eqb}
+use Rattle.std.proofs.lemmas.Slice.Eq.{starts_is}
+use Rattle.const_oid.proofs.scan.begins_with.Goals as goal
+
+pub returns : goal.returns
+returns c =
+    let octets = c.args.octets.now in
+    let front = c.args.front.now in
+    let same : c.are_equal.result ≡ pointwise nat_eq front (take (length front) octets) = search rules in
+    let is = starts_is Decides-eqb octets front c.are_equal.result same in
+    (λ t. (_, is.0 t), λ h. is.1 h.0 h.1)

@@ -1,0 +1,232 @@
+/* Answers each row of standard input by the library, and prints the row so that a right answer gives
+ * the very row: `call input = answer`. A row that begins with '#' is printed as it is. */
+#include "const_oid.h"
+
+#include <inttypes.h>
+#include <stdio.h>
+#include <stdlib.h>
+#include <string.h>
+
+enum { LINE = 4096, MOST = 512 };
+
+/* Octets that were read from hexadecimal digits. */
+typedef struct {
+    uint8_t octets[MOST];
+    size_t len;
+} bytes;
+
+static void fail(const char *why) {
+    fprintf(stderr, "demo: %s\n", why);
+    exit(1);
+}
+
+static bytes read_hex(const char *digits) {
+    bytes read = {{0}, strlen(digits) / 2};
+    if (read.len > MOST) fail("a row is too long");
+    for (size_t i = 0; i < read.len; i++) {
+        unsigned octet;
+        if (sscanf(digits + 2 * i, "%2x", &octet) != 1) fail("a row is not hex");
+        read.octets[i] = (uint8_t)octet;
+    }
+    return read;
+}
+
+/* The next word of a row, or "" behind the last. */
+static char *word(char **rest) {
+    char *start = *rest;
+    char *end = strchr(start, ' ');
+    if (end == NULL) {
+        *rest = start + strlen(start);
+    } else {
+        *end = 0;
+        *rest = end + 1;
+    }
+    return start;
+}
+
+static uint32_t number(char **rest) {
+    return (uint32_t)strtoul(word(rest), NULL, 10);
+}
+
+/* Prints why there is no answer. */
+static void refused(const_oid_status status) {
+    uint8_t text[CONST_OID_MAX_ERROR_TEXT];
+    const_oid_status told = const_oid_error_text(status.code, status.detail, text, sizeof text);
+    if (status.code == CONST_OID_NONE) {
+        printf("none");
+    } else if (status.code == CONST_OID_NOT_UTF8) {
+        printf("no text");
+    } else if (status.code == CONST_OID_UNSORTED) {
+        printf("unsorted");
+    } else if (told.code == CONST_OID_OK) {
+        printf("error %" PRIu32 " %" PRIu32 ": %.*s", status.code, status.detail, (int)told.len,
+            (const char *)text);
+    } else {
+        printf("code %" PRIu32, status.code);
+    }
+}
+
+/* Prints octets that were written, or why none were. */
+static void written(const_oid_status status, const uint8_t *octets) {
+    if (status.code != CONST_OID_OK) {
+        refused(status);
+        return;
+    }
+    for (size_t i = 0; i < status.len; i++) printf("%02X", octets[i]);
+}
+
+/* Whether a call with one item less of room than `status` tells wrote nothing, and wants `len`. */
+static void no_room(const_oid_status status, const_oid_status less, const uint8_t *out, size_t size) {
+    if (status.code != CONST_OID_OK) return;
+    if (less.code != CONST_OID_NO_ROOM || less.len != status.len) fail("no room is not told");
+    for (size_t i = 0; i < size; i++)
+        if (out[i] != 0xEE) fail("something was written where there is no room");
+}
+
+static void text_row(const uint8_t *text, size_t len) {
+    uint8_t out[CONST_OID_MAX_OCTETS];
+    uint8_t less[CONST_OID_MAX_OCTETS];
+    const_oid_status status = const_oid_from_text(text, len, out, sizeof out);
+    memset(less, 0xEE, sizeof less);
+    if (status.code == CONST_OID_OK)
+        no_room(status, const_oid_from_text(text, len, less, status.len - 1), less, sizeof less);
+    written(status, out);
+}
+
+static void octets_row(char *rest) {
+    bytes row = read_hex(word(&rest));
+    uint8_t text[4 * MOST];
+    uint8_t less[4 * MOST];
+    uint32_t arcs[MOST + 1];
+    uint32_t few[MOST + 1];
+    const_oid_status checked = const_oid_check(row.octets, row.len);
+    const_oid_status printed = const_oid_to_text(row.octets, row.len, text, sizeof text);
+    const_oid_status count = const_oid_len(row.octets, row.len);
+    const_oid_status all = const_oid_arcs(row.octets, row.len, arcs, MOST + 1);
+    if (checked.code != printed.code || checked.code != count.code || checked.code != all.code)
+        fail("calls over the same octets differ");
+    if (checked.code != CONST_OID_OK) {
+        refused(printed);
+        return;
+    }
+    memset(less, 0xEE, sizeof less);
+    no_room(printed, const_oid_to_text(row.octets, row.len, less, printed.len - 1), less, sizeof less);
+    memset(few, 0xEE, sizeof few);
+    no_room(all, const_oid_arcs(row.octets, row.len, few, all.len - 1), (const uint8_t *)few, sizeof few);
+    printf("%.*s, %zu arcs", (int)printed.len, (const char *)text, count.len);
+    for (size_t i = 0; i < count.len; i++) {
+        const_oid_status arc = const_oid_arc(row.octets, row.len, i);
+        if (arc.code != CONST_OID_OK || arc.detail != arcs[i]) fail("an arc differs");
+        printf(" %" PRIu32, arcs[i]);
+    }
+    if (const_oid_arc(row.octets, row.len, count.len).code != CONST_OID_NONE)
+        fail("there is an arc past the last");
+}
+
+static void arcs_row(char *rest) {
+    uint32_t arcs[MOST];
+    uint8_t out[CONST_OID_MAX_OCTETS];
+    size_t len = 0;
+    while (*rest != 0 && len < MOST) arcs[len++] = number(&rest);
+    written(const_oid_from_arcs(arcs, len, out, sizeof out), out);
+}
+
+static void subtree_row(char *rest) {
+    static bytes rows[MOST];
+    const_oid_octets sorted[MOST];
+    const_oid_places places = {7, 7};
+    bytes front = read_hex(word(&rest));
+    size_t count = 0;
+    while (*rest != 0 && count < MOST) {
+        rows[count] = read_hex(word(&rest));
+        sorted[count].octets = rows[count].octets;
+        sorted[count].len = rows[count].len;
+        count++;
+    }
+    const_oid_status status = const_oid_subtree(front.octets, front.len, sorted, count, &places);
+    if (status.code == CONST_OID_OK) {
+        printf("%zu %zu", places.from, places.to);
+        return;
+    }
+    if (places.from != 7 || places.to != 7) fail("places were written");
+    refused(status);
+    if (const_oid_check(front.octets, front.len).code == CONST_OID_OK) printf(" at %zu", status.len);
+}
+
+static void told(const_oid_status status, const char *const *words) {
+    if (status.code == CONST_OID_OK) {
+        printf("%s", words[status.detail]);
+    } else {
+        refused(status);
+    }
+}
+
+static void pair_row(const char *call, char *rest) {
+    static const char *const whether[] = {"no", "yes"};
+    static const char *const orders[] = {"less", "equal", "greater"};
+    bytes a = read_hex(word(&rest));
+    bytes b = read_hex(word(&rest));
+    if (strcmp(call, "begins") == 0) {
+        told(const_oid_starts_with(a.octets, a.len, b.octets, b.len), whether);
+    } else if (strcmp(call, "equal") == 0) {
+        told(const_oid_eq(a.octets, a.len, b.octets, b.len), whether);
+    } else if (strcmp(call, "owned") == 0) {
+        told(const_oid_cmp_owned(a.octets, a.len, b.octets, b.len), orders);
+    } else if (strcmp(call, "borrowed") == 0) {
+        told(const_oid_cmp(a.octets, a.len, b.octets, b.len), orders);
+    } else {
+        fail("a row has an unknown call");
+    }
+}
+
+static void answer(const char *call, char *rest) {
+    uint8_t out[CONST_OID_MAX_OCTETS];
+    uint8_t text[CONST_OID_MAX_ERROR_TEXT];
+    if (strcmp(call, "text") == 0) {
+        text_row((const uint8_t *)rest, strlen(rest));
+    } else if (strcmp(call, "bytes") == 0) {
+        bytes row = read_hex(word(&rest));
+        text_row(row.octets, row.len);
+    } else if (strcmp(call, "octets") == 0) {
+        octets_row(rest);
+    } else if (strcmp(call, "arcs") == 0) {
+        arcs_row(rest);
+    } else if (strcmp(call, "parent") == 0) {
+        bytes row = read_hex(word(&rest));
+        written(const_oid_parent(row.octets, row.len, out, sizeof out), out);
+    } else if (strcmp(call, "child") == 0) {
+        bytes row = read_hex(word(&rest));
+        written(const_oid_push_arc(row.octets, row.len, number(&rest), out, sizeof out), out);
+    } else if (strcmp(call, "subtree") == 0) {
+        subtree_row(rest);
+    } else if (strcmp(call, "error") == 0) {
+        uint32_t code = number(&rest);
+        const_oid_status status = const_oid_error_text(code, number(&rest), text, sizeof text);
+        if (status.code == CONST_OID_OK) {
+            printf("%.*s", (int)status.len, (const char *)text);
+        } else {
+            refused(status);
+        }
+    } else {
+        pair_row(call, rest);
+    }
+}
+
+int main(void) {
+    static char line[LINE];
+    while (fgets(line, sizeof line, stdin) != NULL) {
+        line[strcspn(line, "\n")] = 0;
+        char *end = strstr(line, " = ");
+        if (line[0] == '#' || end == NULL) {
+            printf("%s\n", line);
+            continue;
+        }
+        *end = 0;
+        printf("%s = ", line);
+        char *rest = line;
+        char *call = word(&rest);
+        answer(call, rest);
+        printf("\n");
+    }
+    return 0;
+}

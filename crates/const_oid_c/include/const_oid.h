@@ -1,0 +1,167 @@
+/* Object identifiers (ITU-T X.660) for C99 and C++: dotted text, arcs, and the contents octets of
+ * ITU-T X.690 section 8.19, without tag and length. Each call is proved to answer what stands at it.
+ *
+ * What a caller keeps, once for all calls:
+ *
+ * - Slices. An input is a pointer and a number of items, and an output is a pointer and the room
+ *   there. All belong to the caller. A call reads the input, writes within the room, and keeps no
+ *   pointer; it takes no memory and has no state.
+ * - Null. No pointer is null, also where its length is 0: hand in any address that is aligned.
+ * - Overlap. An output does not overlap an input, also where a length is 0 or no room is left.
+ * - Lengths. They are true, and no slice has more than 2^63 - 1 bytes. Texts are counted: nothing
+ *   looks for a zero byte, and none is written.
+ * - Threads. Calls may be made from any threads at once; only what is handed to a running call must
+ *   not be written meanwhile, and an output not be read.
+ * - usize. size_t has 64 bits.
+ *
+ * A status is returned by value. Its code is 0 where there is an answer; then `len` items were
+ * written or counted. Otherwise nothing was written: the output is as it was, bit for bit. Beyond
+ * the first `len` items an output is always as it was.
+ *
+ * Octets are refused by the first of these that applies: EMPTY, of no octet; of the first group with
+ * a fault BASE128 (it begins with 0x80), ARC_TOO_BIG (its number is past 32 bits, in the first group
+ * past 4294967375), BASE128 (it does not end); LENGTH, where a call takes 39 octets at most and more
+ * came. */
+#ifndef CONST_OID_H
+#define CONST_OID_H
+
+#include <stddef.h> /* size_t */
+#include <stdint.h> /* uint8_t, uint32_t */
+
+#ifdef __cplusplus
+extern "C" {
+#endif
+
+/* The octets that from_text, from_arcs, push_arc and parent write at most, and that push_arc, parent
+ * and cmp_owned take at most. The other calls take octets of any number. */
+#define CONST_OID_MAX_OCTETS 39
+
+/* The bytes of text that CONST_OID_MAX_OCTETS octets print at most: four for each octet. Longer
+ * octets print more, four bytes an octet at most. */
+#define CONST_OID_MAX_TEXT 156
+
+/* The arcs that CONST_OID_MAX_OCTETS octets have at most. */
+#define CONST_OID_MAX_ARCS 40
+
+/* The bytes of the longest text of an error. */
+#define CONST_OID_MAX_ERROR_TEXT 47
+
+/* How a call ended. */
+enum const_oid_code {
+    CONST_OID_OK = 0,             /* there is an answer */
+    CONST_OID_ARC_INVALID = 1,    /* an arc is out of range for its place; detail: the arc */
+    CONST_OID_ARC_TOO_BIG = 2,    /* an arc is past 32 bits */
+    CONST_OID_BASE128 = 3,        /* a group of octets begins with 0x80 or does not end */
+    CONST_OID_DIGIT_EXPECTED = 4, /* a byte that is no digit; detail: the byte */
+    CONST_OID_EMPTY = 5,          /* there is nothing, or no more than one arc */
+    CONST_OID_LENGTH = 6,         /* the octets would be, or are, more than 39 */
+    CONST_OID_OVERFLOW = 7,       /* never answered: no sum overflows */
+    CONST_OID_REPEATED_DOT = 8,   /* a dot follows another */
+    CONST_OID_TRAILING_DOT = 9,   /* the text ends with a dot */
+    CONST_OID_NO_ROOM = 10,       /* the answer is longer than the room; len: the items wanted */
+    CONST_OID_NOT_UTF8 = 11,      /* the text is not UTF-8 */
+    CONST_OID_NONE = 12,          /* there is no such arc, parent or error */
+    CONST_OID_UNSORTED = 13,      /* the list descends; len: the place of the later item */
+    CONST_OID_UNPRINTED = 14      /* the formatter failed, and the output may be overwritten: no test
+                                     sees it, but no proof rules it out */
+};
+
+/* What a comparison tells in `detail`. */
+enum const_oid_order {
+    CONST_OID_LESS = 0,   /* the first stands before the second */
+    CONST_OID_EQUAL = 1,  /* they are equal */
+    CONST_OID_GREATER = 2 /* the first stands after the second */
+};
+
+/* What a call tells. */
+typedef struct const_oid_status {
+    uint32_t code;   /* one of const_oid_code */
+    uint32_t detail; /* the number of an error, or the answer of a call without an output; else 0 */
+    size_t len;      /* items written, counted or wanted, or a place in a list; else 0 */
+} const_oid_status;
+
+/* The contents octets of one identifier in a list. */
+typedef struct const_oid_octets {
+    const uint8_t *octets; /* the first octet; not null */
+    size_t len;            /* how many */
+} const_oid_octets;
+
+/* Places in a list, counted from 0: from the first on, and below the second. */
+typedef struct const_oid_places {
+    size_t from; /* the first place inside */
+    size_t to;   /* the first place behind */
+} const_oid_places;
+
+/* Writes the contents octets of the identifier that dotted text denotes, as "1.2.840"; leading zeros
+ * of an arc are read. Refused by NOT_UTF8, or by the fault of the first piece between dots that has
+ * one: ARC_TOO_BIG, DIGIT_EXPECTED, REPEATED_DOT, TRAILING_DOT, ARC_INVALID, LENGTH, EMPTY. */
+const_oid_status const_oid_from_text(const uint8_t *text, size_t text_len, uint8_t *out, size_t room);
+
+/* Writes the dotted text of octets of any number: the decimals of the arcs, joined by dots. The text
+ * is printed twice, first to count it, and straight into the room. */
+const_oid_status const_oid_to_text(const uint8_t *octets, size_t len, uint8_t *out, size_t room);
+
+/* Checks octets of any number: code 0 where they are the encoding of an identifier. */
+const_oid_status const_oid_check(const uint8_t *octets, size_t len);
+
+/* Counts the arcs of octets of any number, into `len`. */
+const_oid_status const_oid_len(const uint8_t *octets, size_t len);
+
+/* Finds the arc at a place, counted from 0, of octets of any number: in `detail`, or NONE past the
+ * last. */
+const_oid_status const_oid_arc(const uint8_t *octets, size_t len, size_t index);
+
+/* Writes all arcs of octets of any number, in order; the room is counted in arcs. */
+const_oid_status const_oid_arcs(const uint8_t *octets, size_t len, uint32_t *out, size_t room);
+
+/* Writes the contents octets of arcs. Refused by the fault of the first arc that has one,
+ * ARC_INVALID or LENGTH, else by EMPTY where there are fewer than two. */
+const_oid_status const_oid_from_arcs(const uint32_t *arcs, size_t len, uint8_t *out, size_t room);
+
+/* Writes the contents octets of all arcs but the last, of 39 octets at most; NONE of two arcs. */
+const_oid_status const_oid_parent(const uint8_t *octets, size_t len, uint8_t *out, size_t room);
+
+/* Writes the contents octets of the arcs and one more; LENGTH where they would be more than 39. */
+const_oid_status const_oid_push_arc(
+    const uint8_t *octets, size_t len, uint32_t arc, uint8_t *out, size_t room);
+
+/* Tells in `detail`, by 1 or 0, whether the arcs begin with all those of a front, each of octets of
+ * any number. Refused by the fault of the first that has one. */
+const_oid_status const_oid_starts_with(
+    const uint8_t *octets, size_t len, const uint8_t *front, size_t front_len);
+
+/* Tells in `detail`, by 1 or 0, whether two identifiers are equal, each of octets of any number.
+ * Refused by the fault of the first that has one. */
+const_oid_status const_oid_eq(
+    const uint8_t *left, size_t left_len, const uint8_t *right, size_t right_len);
+
+/* Compares two identifiers of octets of any number, as memcmp does, a front before what begins with
+ * it; in `detail` one of const_oid_order. In this order the descendants of an identifier stand
+ * together, behind it. Refused by the fault of the first that has one. */
+const_oid_status const_oid_cmp(
+    const uint8_t *left, size_t left_len, const uint8_t *right, size_t right_len);
+
+/* Compares two identifiers of 39 octets at most: fewer octets first, and with as many as memcmp
+ * does; in `detail` one of const_oid_order. Refused by the fault of the first that has one. */
+const_oid_status const_oid_cmp_owned(
+    const uint8_t *left, size_t left_len, const uint8_t *right, size_t right_len);
+
+/* Finds where in a list those stand that begin with an identifier, itself among them. The list does
+ * not descend in the order of const_oid_cmp, may hold an identifier more than once, and is of octets
+ * of any number. At code 0 `from` is how many stand before the identifier, and `to - from` how many
+ * begin with it. Refused by the fault of the identifier; else by the first item, `len` being its
+ * place, that has a fault or, by UNSORTED, stands before the item at the place before; `places` is
+ * then as it was. */
+const_oid_status const_oid_subtree(
+    const uint8_t *octets, size_t len, const const_oid_octets *sorted, size_t count,
+    const_oid_places *places);
+
+/* Writes the text of the error that `code` and `detail` of a status tell, in UTF-8; NONE where they
+ * tell none of the nine errors. */
+const_oid_status const_oid_error_text(uint32_t code, uint32_t detail, uint8_t *out, size_t room);
+
+#ifdef __cplusplus
+}
+#endif
+
+#endif

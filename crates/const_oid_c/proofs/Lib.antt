@@ -1,0 +1,5 @@
+pub mod Printing
+pub mod Answers
+pub mod Telling
+pub mod Filling
+pub mod Refusals

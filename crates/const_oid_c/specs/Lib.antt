@@ -1,0 +1,4 @@
+pub mod Status
+pub mod Print
+pub mod Answers
+pub mod Subtree
