@@ -84,7 +84,7 @@ fn of_rounds(name: &str, size: &str, goal: f64, each_round: usize, run: impl Fn(
 pub fn all(dice: &mut Dice) -> Vec<Row> {
     let mut rows = vec![];
     for (octets, size, goal) in [(3, "short", 1.0), (9, "typical", 0.55), (39, "long", 0.5)] {
-        let set: Vec<Vec<u8>> = (0..16).map(|place| small(octets, place, dice)).collect();
+        let set = set_of(octets, dice);
         rows.extend(call_rows(size, goal, &set));
         rows.extend(repeated_rows(size, goal, &set));
     }
@@ -115,14 +115,36 @@ pub fn all(dice: &mut Dice) -> Vec<Row> {
     rows
 }
 
-/// One of sixteen identifiers: of 3 octets like 1.2.3.4, of 9 like 1.2.840.113549.1.1.1 or 2.16.840.1.101.3.4.2.1, of 39 any.
-fn small(octets: usize, place: u8, dice: &mut Dice) -> Vec<u8> {
-    match octets {
-        3 => vec![0x2a, 3 + place / 4, 4 + place % 4],
-        9 if place / 2 % 2 == 0 => vec![0x2a, 0x86, 0x48, 0x86, 0xf7, 0x0d, 1, 1, place + 1],
-        9 => vec![0x60, 0x86, 0x48, 1, 0x65, 3, 4, 2, place + 1],
-        _ => dice.identifier(octets),
+/// Registered identifiers of 3 octets: attribute types and extensions of X.500, 1.3.14.3, 1.3.132.
+const SHORT: [&[u8; 3]; 16] = [
+    b"\x55\x04\x03", b"\x55\x04\x06", b"\x55\x04\x07", b"\x55\x04\x08", b"\x55\x04\x0a", b"\x55\x04\x0b",
+    b"\x55\x1d\x0e", b"\x55\x1d\x0f", b"\x55\x1d\x11", b"\x55\x1d\x13", b"\x55\x1d\x1f", b"\x55\x1d\x20",
+    b"\x55\x1d\x23", b"\x55\x1d\x25", b"\x2b\x0e\x03", b"\x2b\x81\x04",
+];
+
+/// Registered identifiers of 9 octets: of PKCS #1, #5, #7 and #9, hashes and ciphers of NIST, curves, Netscape, Microsoft.
+const TYPICAL: [&[u8; 9]; 16] = [
+    b"\x2a\x86\x48\x86\xf7\x0d\x01\x01\x01", b"\x2a\x86\x48\x86\xf7\x0d\x01\x01\x0b",
+    b"\x2a\x86\x48\x86\xf7\x0d\x01\x05\x0c", b"\x2a\x86\x48\x86\xf7\x0d\x01\x07\x02",
+    b"\x2a\x86\x48\x86\xf7\x0d\x01\x09\x01", b"\x2a\x86\x48\x86\xf7\x0d\x01\x09\x03",
+    b"\x2a\x86\x48\x86\xf7\x0d\x01\x09\x05", b"\x2a\x86\x48\x86\xf7\x0d\x01\x09\x0e",
+    b"\x60\x86\x48\x01\x65\x03\x04\x02\x01", b"\x60\x86\x48\x01\x65\x03\x04\x02\x02",
+    b"\x60\x86\x48\x01\x65\x03\x04\x01\x02", b"\x60\x86\x48\x01\x65\x03\x04\x01\x2a",
+    b"\x2b\x24\x03\x03\x02\x08\x01\x01\x07", b"\x2b\x24\x03\x03\x02\x08\x01\x01\x0b",
+    b"\x60\x86\x48\x01\x86\xf8\x42\x01\x01", b"\x2b\x06\x01\x04\x01\x82\x37\x14\x02",
+];
+
+/// Sixteen identifiers of so many octets, in an order by chance.
+fn set_of(octets: usize, dice: &mut Dice) -> Vec<Vec<u8>> {
+    let mut set: Vec<Vec<u8>> = match octets {
+        3 => SHORT.iter().map(|octets| octets.to_vec()).collect(),
+        9 => TYPICAL.iter().map(|octets| octets.to_vec()).collect(),
+        _ => (0..16).map(|_| dice.identifier(octets)).collect(),
+    };
+    for place in (1..set.len()).rev() {
+        set.swap(place, dice.below(place as u64 + 1) as usize);
     }
+    set
 }
 
 fn call_rows(size: &str, goal: f64, set: &[Vec<u8>]) -> Vec<Row> {

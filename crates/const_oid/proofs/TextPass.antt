@@ -17,8 +17,8 @@ use Rattle.const_oid.specs.declared.error.Error.{Error}
 use Rattle.const_oid.specs.declared.error.Error.TheVariants.{ArcTooBig, DigitExpected, RepeatedDot, TrailingDot}
 use Rattle.const_oid.specs.Identifier.{RootRule, most_arc, IsEncoding}
 use Rattle.const_oid.specs.Contents.{arcs_of_octets}
-use Rattle.const_oid.specs.Parser.{end_fault}
-use Rattle.const_oid.specs.Items.{arc_fault}
+use Rattle.const_oid.specs.Parser.{last_fault}
+use Rattle.const_oid.specs.Items.{arc_fault, few_fault}
 use Rattle.const_oid.specs.Text.{pieces_of, number_of, is_empty, is_one_empty, empty_fault, single_fault, piece_fault, pieces_fault, text_answer}
 use Rattle.const_oid.specs.Faults.{fault_if, answer}
 use Rattle.const_oid.proofs.Lists.{append-cons, onto_all, onto_all-first, not_empty_push, onto_all-cons}
@@ -207,11 +207,15 @@ text_answer_is rule text = text_pass_is text rule [] [] false 0 piece_read-none
 
 -- ---- the end of the text
 
--- what is encoded from the arcs so far and the last piece's number, if it has one, is what the pass comes to
+few_is_single : (before : List ℕ) (arc : ℕ) → few_fault (before ++ arc ∷ []) ≡ single_fault before []
+few_is_single [] arc = refl
+few_is_single (a ∷ []) arc = refl
+few_is_single (a ∷ b ∷ later) arc = refl
+
+-- where the last piece has no fault, what is encoded of all arcs is what the pass comes to
 pub text_pass-end : {X : Type 0} (octets_in : X → List ℕ) (rule : RootRule) (before : List ℕ) (number : Option ℕ) (result : Result X Error) →
-    result_err result ≡ end_fault rule before number → IfOk result (λ x. IsEncoding rule (before ++ unwrap_or number 0 ∷ []) (octets_in x)) →
+    None ≡ last_fault rule before number → result_err result ≡ few_fault (before ++ unwrap_or number 0 ∷ []) → IfOk result (λ x. IsEncoding rule (before ++ unwrap_or number 0 ∷ []) (octets_in x)) →
     result_map_both (λ x. arcs_of_octets (octets_in x)) (λ fault. fault) result ≡ text_pass rule before (is_some number) (unwrap_or number 0) []
-text_pass-end octets_in rule before None (Ok x) f e = cc
-text_pass-end octets_in rule before None (Err fault) f e = cc
-text_pass-end octets_in rule before (Some arc) (Ok x) f e = rw (← f) (ap Ok (arcs_of_encoding rule (before ++ arc ∷ []) (octets_in x) e))
-text_pass-end octets_in rule before (Some arc) (Err fault) f e = rw (← f) refl
+text_pass-end octets_in rule before None result n f e = cc
+text_pass-end octets_in rule before (Some arc) (Ok x) n f e = rw (← n, ← few_is_single before arc, ← f) (ap Ok (arcs_of_encoding rule (before ++ arc ∷ []) (octets_in x) e))
+text_pass-end octets_in rule before (Some arc) (Err fault) n f e = rw (← n, ← few_is_single before arc, ← f) refl

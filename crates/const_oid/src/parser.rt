@@ -6,7 +6,7 @@ ghost use Rattle.std.specs.Result.{result_err, result_map_both};
 ghost use Rattle.const_oid.specs.Buffer.{octets_of};
 ghost use Rattle.const_oid.specs.Contents.{arcs_of_octets};
 ghost use Rattle.const_oid.specs.Identifier.{root_rule, most_arc, IsEncoding};
-ghost use Rattle.const_oid.specs.Parser.{dot_fault, end_fault};
+ghost use Rattle.const_oid.specs.Parser.{dot_fault, last_fault};
 ghost use Rattle.const_oid.specs.Text.{text_answer};
 
 use crate::arcs::Arc;
@@ -40,7 +40,8 @@ pub(crate) fn parse(text: &str) -> Result<Buffer<39>>
             return Err(Error::DigitExpected { actual: byte });
         }
     }
-    end_text(encoder, begun.then_some(number as Arc))
+    end_text(&mut encoder, begun.then_some(number as Arc))?;
+    encoder.finish()
 }
 
 /// Ends a piece at a dot.
@@ -57,17 +58,14 @@ fn end_piece(encoder: &mut Encoder<39>, number: Option<Arc>, text_ends: bool) ->
 }
 
 /// Ends the last piece, and with it the text.
-fn end_text(mut encoder: Encoder<39>, number: Option<Arc>) -> Result<Buffer<39>>
-    ensures fault { result_err result ≡ end_fault root_rule encoder number }
-    ensures encoding { IfOk result (λ octets. IsEncoding root_rule (encoder ++ unwrap_or number 0 ∷ []) (octets_of octets)) }
+fn end_text(encoder: &mut Encoder<39>, number: Option<Arc>) -> Result<()>
+    ensures fault { result_err result ≡ last_fault root_rule encoder.old number }
+    ensures given { OnOk result (encoder.new ≡ encoder.old ++ unwrap_or number 0 ∷ []) }
 {
     match number {
         None if encoder.is_new() => Err(Error::Empty),
         None => Err(Error::TrailingDot),
-        Some(arc) => {
-            encoder.arc(arc)?;
-            encoder.finish()
-        }
+        Some(arc) => encoder.arc(arc),
     }
 }
 

@@ -1,9 +1,8 @@
-//! What a hostile sender may choose: octets, texts, tables of names, and targets that refuse.
+//! What a hostile sender may choose: octets, texts and tables of names.
 
 mod lengths;
 mod names;
 mod octets;
-mod targets;
 mod texts;
 
 /// An identifier as its text, its contents octets and its arcs.

@@ -7,7 +7,7 @@ use std::alloc::Global;
 use std::test::Fail;
 
 /// Texts that are refused, and the error.
-const REFUSED: [(&str, Error); 45] = [
+pub const REFUSED: [(&str, Error); 45] = [
     ("", Error::Empty),
     ("0", Error::Empty),
     ("1", Error::Empty),
@@ -70,7 +70,7 @@ fn refused(rt: HostRuntime) {
 }
 
 /// Texts with leading zeros, what they print as, and their contents octets.
-const LEADING_ZEROS: [(&str, &str, &[u8]); 5] = [
+pub const LEADING_ZEROS: [(&str, &str, &[u8]); 5] = [
     ("00.00", "0.0", &[0x00]),
     ("01.02.003", "1.2.3", &[0x2A, 0x03]),
     ("2.039", "2.39", &[0x77]),

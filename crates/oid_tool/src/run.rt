@@ -112,10 +112,11 @@ fn write_answers<W: Write>(
         (answers (rows_of table.entry) text.now)) }
     ensures err { IfErr result (λ e. e ≡ ToolError.Write) }
 {
+    let mut shown = Line::new();
     let mut rest = text;
     while !rest.is_empty() {
         let (line, after) = cut(b'\n', rest);
-        let Ok(shown) = output_line(line, table) else {
+        let Ok(()) = show(line, table, &mut shown) else {
             return Err(ToolError::Write);
         };
         write_out(shown.as_bytes(), output)?;
@@ -124,15 +125,14 @@ fn write_answers<W: Write>(
     Ok(())
 }
 
-/// The answer to a line, and a newline, or an error where there is no room for them.
-fn output_line(line: &[u8], table: Database<'_>) -> Result<Line, fmt::Error>
+/// Puts the answer to a line, and a newline, in place of what is shown, or tells that there is no room.
+fn show(line: &[u8], table: Database<'_>, shown: &mut Line) -> fmt::Result
     requires { length line.now ≤ MAX_INPUT }
-    ensures { IfOk result (λ shown. shown ≡ output_line (rows_of table.entry) line.now) }
+    ensures { OnOk result (shown.new ≡ output_line (rows_of table.entry) line.now) }
 {
-    let mut shown = Line::new();
-    answer(line, table, &mut shown)?;
-    shown.write_char('\n')?;
-    Ok(shown)
+    shown.clear();
+    answer(line, table, shown)?;
+    shown.write_char('\n')
 }
 
 /// Writes all the bytes.

@@ -1,5 +1,10 @@
 //! Each use, run once.
 
+ghost use Rattle.std.specs.Cmp.Lexicographic.{slice_cmp};
+ghost use Rattle.std.specs.List.Sorted.{IsSortedByKey};
+ghost use Rattle.std.specs.Ordering.{nat_cmp};
+ghost use Rattle.const_oid.specs.OidRef.{ref_octets};
+
 use crate::algorithms::{name_in, name_of};
 use crate::constants::{EC_PUBLIC_KEY, is_ec_public_key, is_its_text};
 use crate::fixed::printed;
@@ -20,38 +25,34 @@ fn facts(rt: HostRuntime) -> Result<(), Fail> {
     let rsa = theorems::rsa_encryption();
     assert!(rt; rsa.as_bytes() == RSA.as_slice());
     assert!(rt; theorems::is_rsa_encryption(&RSA));
-    let internet = ObjectIdentifier::new_unwrap("1.3.6.1");
-    let private = theorems::child(internet, 4)?;
-    let enterprise = theorems::child(private, 1)?;
+    let enterprise = theorems::child(ObjectIdentifier::new("1.3.6.1.4")?, 1)?;
     assert!(rt; theorems::is_enterprise(&enterprise));
-    assert!(rt; !theorems::is_enterprise(&private));
-    assert!(rt; theorems::parent_of_child(private, 1)? == Some(private));
-    assert!(rt; theorems::child_of_parent(private) == Some(Ok(private)));
+    assert!(rt; theorems::parent_of_child(rsa, 1)? == Some(rsa));
+    assert!(rt; theorems::child_of_parent(rsa) == Some(Ok(rsa)));
     assert!(rt; theorems::through_text(rt.alloc(), rsa)? == Ok(rsa));
     Ok(())
 }
 
 #[test]
-fn orders(rt: HostRuntime) {
-    let oid = ObjectIdentifier::new_unwrap("1.3.6.1");
-    let below = ObjectIdentifier::new_unwrap("1.3.6.1.4.1");
+fn orders(rt: HostRuntime) -> Result<(), Fail> {
+    let oid = ObjectIdentifier::new("1.3.6.1")?;
+    let below = ObjectIdentifier::new("1.3.6.1.4.1")?;
     assert!(rt; below.starts_with(oid) && below != oid);
     assert!(rt; theorems::both_orders(&oid, &below) == (Ordering::Less, Ordering::Less));
+    Ok(())
 }
 
 #[test]
 fn constant(rt: HostRuntime) -> Result<(), Fail> {
-    let oid = ObjectIdentifier::new("1.2.840.10045.2.1")?;
-    assert!(rt; is_ec_public_key(&oid.as_oid_ref()) && is_its_text());
+    assert!(rt; is_its_text() && is_ec_public_key(&EC_PUBLIC_KEY));
     assert!(rt; format!(in rt.alloc(); "{EC_PUBLIC_KEY}")?.as_str() == "1.2.840.10045.2.1");
     Ok(())
 }
 
-/// The longest text of 39 octets: 2.47 and 38 times .127.
+/// The longest text of 39 octets: 2.47, and .127 for each octet that follows.
 #[test]
 fn fullest(rt: HostRuntime) -> Result<(), Fail> {
-    let mut octets = [0x7F; 39];
-    let text = printed(&ObjectIdentifier::from_bytes(&octets)?)?;
+    let text = printed(&ObjectIdentifier::from_bytes(&[0x7F; 39])?)?;
     assert!(rt; text.as_bytes().len() == 156);
     assert!(rt; text.as_bytes().starts_with(b"2.47.127.127."));
     Ok(())
@@ -60,9 +61,9 @@ fn fullest(rt: HostRuntime) -> Result<(), Fail> {
 #[test]
 fn capacity(rt: HostRuntime) -> Result<(), Fail> {
     let oid = ObjectIdentifierRef::from_bytes(&RSA)?;
-    assert!(rt; child_in::<10>(oid, 127)?.as_bytes()[9] == 127);
+    assert!(rt; child_in::<10>(oid, 127)?.as_bytes().last() == Some(&127));
     assert!(rt; child_in::<10>(oid, 128) == Err(Error::Length));
-    assert!(rt; widened::<255>(&theorems::rsa_encryption())?.as_bytes() == RSA.as_slice());
+    assert!(rt; oid.eq_oid(&widened::<255>(&theorems::rsa_encryption())?));
     Ok(())
 }
 
@@ -87,18 +88,41 @@ fn attributes(rt: HostRuntime) -> Result<(), Fail> {
 #[test]
 fn algorithms(rt: HostRuntime) -> Result<(), Fail> {
     let rsa = theorems::rsa_encryption();
-    let ed25519 = ObjectIdentifier::new_unwrap("1.3.101.112");
+    let ed25519 = ObjectIdentifier::new("1.3.101.112")?;
     let entries = [(&rsa, "rsaEncryption"), (&ed25519, "Ed25519")];
     let database = Database::new(&entries);
-    assert!(rt; name_of(&database, &RSA)? == Some("rsaEncryption"));
-    assert!(rt; name_of(&database, &[0x2B, 0x65, 0x70])? == Some("Ed25519"));
-    assert!(rt; name_of(&database, &[0x2B, 0x65, 0x71])? == None);
+    for (octets, name) in [
+        (RSA.as_slice(), Ok(Some("rsaEncryption"))),
+        (&[0x2B, 0x65, 0x70], Ok(Some("Ed25519"))),
+        (&[0x2B, 0x65, 0x71], Ok(None)),
+        (&[0x2A, 0x80, 0x01], Err(Error::Base128)),
+    ] {
+        assert!(rt; name_of(&database, octets) == name);
+    }
     assert!(rt; name_in(&Database::new(&[]), &database, &rsa) == Some("rsaEncryption"));
-    assert!(rt; name_of(&database, &[0x2A, 0x80, 0x01]) == Err(Error::Base128));
     Ok(())
 }
 
-/// Ten columns of a hundred rows, as in the table of interfaces (RFC 2863).
+/// Whether a walk from a column meets the rows 1 to 100, and then the next column.
+fn walks(sorted: &[ObjectIdentifierRef<'_>], column: &ObjectIdentifierRef<'_>) -> bool
+    requires { IsSortedByKey ref_octets (slice_cmp nat_cmp) sorted.now }
+{
+    let Some(mut last) = next_after(sorted, column) else {
+        return false;
+    };
+    for row in 1..=100 {
+        if last.arc(10) != Some(row) {
+            return false;
+        }
+        let Some(next) = next_after(sorted, &last) else {
+            return false;
+        };
+        last = next;
+    }
+    last.arc(10) == Some(1)
+}
+
+/// Ten columns of a hundred rows, as a table of interfaces has them (RFC 2863).
 #[test]
 fn thousand(rt: HostRuntime) -> Result<(), Fail> {
     let mut owned = Vec::new(rt.alloc());
@@ -115,12 +139,6 @@ fn thousand(rt: HostRuntime) -> Result<(), Fail> {
     assert!(rt; places(&oids, &third.as_oid_ref()) == None);
     oids.sort()?;
     assert!(rt; places(&oids, &third.as_oid_ref()) == Some((200, 300)));
-    let mut last = third.as_oid_ref();
-    for row in 1..=100 {
-        let next = next_after(&oids, &last);
-        assert!(rt; next.and_then(|oid| oid.arc(10)) == Some(row));
-        last = next.unwrap_or(last);
-    }
-    assert!(rt; next_after(&oids, &last).and_then(|oid| oid.arc(9)) == Some(4));
+    assert!(rt; walks(&oids, &third.as_oid_ref()));
     Ok(())
 }

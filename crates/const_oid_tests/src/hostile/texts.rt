@@ -1,29 +1,29 @@
 //! Texts of a hostile sender: every front of many texts, and long ones.
-use super::targets::prints_as;
+use crate::formatter::prints_into_array;
+use crate::texts::{LEADING_ZEROS, REFUSED};
 use crate::vectors::ACCEPTED;
 use const_oid::{Arc, Error, ObjectIdentifier};
 use std::alloc::{AllocError, Global};
 use std::test::Fail;
 
-/// The number of a piece's leading digits, if it is within 32 bits, and the first byte behind them.
-fn read_piece(piece: &str) -> (Option<Arc>, Option<u8>) {
-    let mut number = 0u64;
-    for byte in piece.bytes() {
-        if !byte.is_ascii_digit() {
-            return (Arc::try_from(number).ok(), Some(byte));
+/// How many digits a piece begins with.
+fn leading_digits(piece: &str) -> usize {
+    for (place, byte) in piece.as_bytes().iter().enumerate() {
+        if !matches!(byte, b'0'..=b'9') {
+            return place;
         }
-        let digit = byte.saturating_sub(b'0') as u64;
-        number = number.saturating_mul(10).saturating_add(digit);
     }
-    (Arc::try_from(number).ok(), None)
+    piece.len()
 }
 
 /// The arc of a piece by itself, or its fault: its place counts from 0, up to that of the last one.
 fn piece_arc(piece: &str, place: usize, last: usize) -> Result<Arc, Error> {
-    match read_piece(piece) {
-        (None, _) => Err(Error::ArcTooBig),
-        (_, Some(actual)) => Err(Error::DigitExpected { actual }),
-        (Some(arc), None) if !piece.is_empty() => Ok(arc),
+    let count = leading_digits(piece);
+    let number = piece.get(..count).unwrap_or("").parse::<Arc>().ok();
+    match (number, piece.as_bytes().get(count)) {
+        (None, _) if count > 0 => Err(Error::ArcTooBig),
+        (_, Some(actual)) => Err(Error::DigitExpected { actual: *actual }),
+        (Some(arc), None) => Ok(arc),
         _ if last == 0 => Err(Error::Empty),
         _ if place == 0 => Err(Error::DigitExpected { actual: b'.' }),
         _ if place < last => Err(Error::RepeatedDot),
@@ -69,7 +69,7 @@ fn text_fault(text: &str) -> Result<(), Error> {
 /// Whether the arcs are the numbers of the pieces.
 fn has_arcs(oid: &ObjectIdentifier<39>, text: &str) -> bool {
     for (place, piece) in text.split('.').enumerate() {
-        if oid.arc(place) != read_piece(piece).0 {
+        if oid.arc(place) != piece.parse::<Arc>().ok() {
             return false;
         }
     }
@@ -96,62 +96,55 @@ fn fronts_hold(text: &str) -> bool {
     true
 }
 
-/// Texts with faults, with leading zeros, and as long as the capacity. Their fronts are texts, too.
-const TEXTS: [&str; 39] = [
-    "0",
-    "4294967295",
-    "4294967296",
-    ".",
-    ".1",
-    "+1",
-    "-1",
-    "X",
-    "é1",
-    "1é",
-    "１.2",
-    "3X",
-    "3..",
-    "3.2.840.10045.2.1",
-    "1..X",
-    "1.2 ",
-    "1.2.X",
-    "1.2.٣",
-    "1.2.3.é",
-    "1.2..3.4",
-    "1.2.3.4..",
-    "1.23.",
-    "1.40X",
-    "1.40.840.10045.2.1",
-    "0.40.",
-    "1.2.840.10045.2.",
-    "1.2.4294967296X",
-    "1.2.429496729X",
-    "00.00",
-    "01.02.003",
-    "2.039",
-    "1.2.0000004294967295",
-    "2.40..",
-    "2.40.X",
-    "2.40.4294967296",
-    "2.4294967296.",
+/// Texts around the capacity.
+const LONG: [&str; 3] = [
     "1.2.1.1.1.1.1.1.1.1.1.1.1.1.1.1.1.1.1.1.1.1.1.1.1.1.1.1.1.1.1.1.1.1.1.1.1.1.1.1.1.1.",
     "2.999.1.1.1.1.1.1.1.1.1.1.1.1.1.1.1.1.1.1.1.1.1.1.1.1.1.1.1.1.1.1.1.1.1.1.1.1.1.1.1.1.",
     "2.4294967295.1.1.1.1.1.1.1.1.1.1.1.1.1.1.1.1.1.1.1.1.1.1.1.1.1.1.1.1.1.1.1.1.1.1.1.1.1.1.",
 ];
 
-/// The first text that is read otherwise, it or a front of it, than its pieces tell.
-fn first_wrong() -> Option<&'static str> {
+/// How many texts of identifiers hold, with all their fronts.
+fn accepted_held() -> usize {
+    let mut held = 0usize;
     for (text, _, _) in &ACCEPTED {
-        if !fronts_hold(text) {
-            return Some(text);
+        if fronts_hold(text) {
+            held = held.saturating_add(1);
         }
     }
-    for text in &TEXTS {
-        if !fronts_hold(text) {
-            return Some(text);
+    held
+}
+
+/// How many refused texts hold, with all their fronts.
+fn refused_held() -> usize {
+    let mut held = 0usize;
+    for (text, _) in &REFUSED {
+        if fronts_hold(text) {
+            held = held.saturating_add(1);
         }
     }
-    None
+    held
+}
+
+/// How many texts with leading zeros hold, with all their fronts.
+fn zeros_held() -> usize {
+    let mut held = 0usize;
+    for (text, _, _) in &LEADING_ZEROS {
+        if fronts_hold(text) {
+            held = held.saturating_add(1);
+        }
+    }
+    held
+}
+
+/// How many long texts hold, with all their fronts.
+fn long_held() -> usize {
+    let mut held = 0usize;
+    for text in &LONG {
+        if fronts_hold(text) {
+            held = held.saturating_add(1);
+        }
+    }
+    held
 }
 
 /// What stands before 100,000 zeros and behind them, and the octets or the error.
@@ -166,12 +159,8 @@ const ZEROS: [(&str, &str, Result<&[u8], Error>); 6] = [
 
 /// A text with 100,000 zeros in it.
 fn with_zeros(alloc: Global, front: &str, back: &str) -> Result<String, AllocError> {
-    let mut text = String::from_str(alloc, front)?;
-    for _ in 0..10_000 {
-        text.push_str("0000000000")?;
-    }
-    text.push_str(back)?;
-    Ok(text)
+    let zeros = "0000000000".repeat(alloc, 10_000)?;
+    format!(in alloc; "{front}{zeros}{back}")
 }
 
 /// Whether a text is read as octets, or refused.
@@ -196,10 +185,13 @@ fn zeros_read(alloc: Global) -> Result<usize, AllocError> {
 
 #[test]
 fn fronts_and_zeros(rt: HostRuntime) -> Result<(), Fail> {
-    assert_eq!(rt; first_wrong(), None);
-    assert_eq!(rt; zeros_read(rt.alloc())?, ZEROS.len());
+    assert!(rt; accepted_held() == ACCEPTED.len());
+    assert!(rt; refused_held() == REFUSED.len());
+    assert!(rt; zeros_held() == LEADING_ZEROS.len());
+    assert!(rt; long_held() == LONG.len());
+    assert!(rt; zeros_read(rt.alloc())? == ZEROS.len());
     let error = Error::DigitExpected { actual: 0xEF };
     assert!(rt; is_read_as("１.2", Err(error)));
-    assert!(rt; prints_as(&error, "expected digit, got 'ï'"));
+    assert!(rt; prints_into_array(&error, "expected digit, got 'ï'"));
     Ok(())
 }

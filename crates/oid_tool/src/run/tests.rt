@@ -5,6 +5,7 @@ ghost use Rattle.oid_tool.specs.Names.{known_names};
 
 use super::devices::{EndlessReader, OneByteReader, SlowWriter};
 use super::*;
+use std::alloc::{AllocError, Global};
 use std::test::Fail;
 
 /// What [`run`] says where both sides tell their bytes.
@@ -18,7 +19,7 @@ fn run_over_memory(input: &[u8], output: &mut Vec<u8>) -> Result<(), ToolError>
 }
 
 /// Inputs, and what is answered.
-const ROWS: [(&str, &str); 37] = [
+const ROWS: [(&str, &str); 60] = [
     ("", ""),
     ("\n", "error: unknown command\n"),
     ("TEXT 2A\n", "error: unknown command\n"),
@@ -44,7 +45,52 @@ const ROWS: [(&str, &str); 37] = [
         "text 2A9080808000\n",
         "error: OID contains arc which is larger than 32-bits\n",
     ),
-    ("text 78\n", "error: OID contains out-of-range arc: 3\n"),
+    // Octets and texts whose second arc is past 39, and their neighbours.
+    ("text 78\n", "2.40\n"),
+    ("text 7F\n", "2.47\n"),
+    ("text 8100\n", "2.48\n"),
+    ("text 813403\n", "2.100.3\n"),
+    ("text 8837\n", "2.999\n"),
+    ("text 883703\n", "2.999.3\n"),
+    ("text 8FFFFFFF7F\n", "2.4294967215\n"),
+    ("text 908080804F\n", "2.4294967295\n"),
+    (
+        "text 9080808050\n",
+        "error: OID contains arc which is larger than 32-bits\n",
+    ),
+    (
+        "text 9080808080\n",
+        "error: OID contains arc with invalid base 128 encoding\n",
+    ),
+    (
+        "text 90808080D0\n",
+        "error: OID contains arc which is larger than 32-bits\n",
+    ),
+    (
+        "text 80\n",
+        "error: OID contains arc with invalid base 128 encoding\n",
+    ),
+    (
+        "text 8001\n",
+        "error: OID contains arc with invalid base 128 encoding\n",
+    ),
+    (
+        "text FF\n",
+        "error: OID contains arc with invalid base 128 encoding\n",
+    ),
+    ("hex 2.40\n", "78\n"),
+    ("hex 2.999\n", "8837\n"),
+    ("hex 2.4294967295\n", "908080804f\n"),
+    (
+        "hex 2.4294967296\n",
+        "error: OID contains arc which is larger than 32-bits\n",
+    ),
+    ("hex 0.40\n", "error: OID contains out-of-range arc: 40\n"),
+    ("hex 1.40\n", "error: OID contains out-of-range arc: 40\n"),
+    ("hex 3.1\n", "error: OID contains out-of-range arc: 3\n"),
+    ("parent 2.999.3\n", "2.999\n"),
+    ("parent 2.999\n", "none\n"),
+    ("name 2.999\n", "2.999\n"),
     ("hex 1.2.840.113549.1.1.1\n", "2a864886f70d010101\n"),
     (
         "hex 1.2..3.4\n",
@@ -73,152 +119,184 @@ const ROWS: [(&str, &str); 37] = [
     ("name cn\n", "error: expected digit, got 'c'\n"),
 ];
 
+/// Whether an input is answered by an output.
+fn answers_with(alloc: Global, input: &[u8], wanted: &[u8]) -> bool {
+    let mut output = Vec::new(alloc);
+    run_over_memory(input, &mut output) == Ok(()) && output.as_slice() == wanted
+}
+
+/// Whether an input is too long, and nothing is written.
+fn is_too_long(alloc: Global, input: &[u8]) -> bool {
+    let mut output = Vec::new(alloc);
+    run_over_memory(input, &mut output) == Err(ToolError::TooLong) && output.is_empty()
+}
+
 #[test]
-fn rows(rt: HostRuntime) -> Result<(), Fail> {
-    for (row, (input, wanted)) in ROWS.iter().enumerate() {
-        let mut output = Vec::new(rt.alloc());
-        assert_eq!(rt;
-            run_over_memory(input.as_bytes(), &mut output),
-            Ok(()),
-            "row {row}"
+fn rows(rt: HostRuntime) {
+    for (input, wanted) in &ROWS {
+        assert!(rt;
+            answers_with(rt.alloc(), input.as_bytes(), wanted.as_bytes()),
+            "{input:?}"
         );
-        assert_eq!(rt; output.as_slice(), wanted.as_bytes(), "row {row}");
     }
-    Ok(())
 }
 
 /// A text that is no UTF-8 is refused before it is read.
 #[test]
-fn no_text(rt: HostRuntime) -> Result<(), Fail> {
+fn no_text(rt: HostRuntime) {
     for input in [
         b"hex \xFF\n".as_slice(),
         b"parent 3.\xFF\n".as_slice(),
         b"name cn\xFF\n".as_slice(),
     ] {
-        let mut output = Vec::new(rt.alloc());
-        assert_eq!(rt; run_over_memory(input, &mut output), Ok(()));
-        assert_eq!(rt; output.as_slice(), b"error: not UTF-8\n".as_slice());
+        assert!(rt;
+            answers_with(rt.alloc(), input, b"error: not UTF-8\n"),
+            "{input:?}"
+        );
+    }
+}
+
+/// Commands whose text is filled up by zeros and ends in `3`, and the answers.
+const FILLED: [(&str, &str); 5] = [
+    ("hex 1.2.", "2a03\n"),
+    ("hex 2.999.", "883703\n"),
+    ("parent 1.2.", "1.2\n"),
+    ("parent 2.999.", "2.999\n"),
+    ("name 2.5.4.", "cn\n"),
+];
+
+/// A text of so many bytes: a front, zeros, `3` and a newline.
+fn filled(alloc: Global, front: &str, len: usize) -> Result<String, AllocError> {
+    let zeros = "0".repeat(alloc, len.saturating_sub(front.len()).saturating_sub(2))?;
+    format!(in alloc; "{front}{zeros}3\n")
+}
+
+/// Whether a front, filled up to the longest input, has an answer, and a byte more is too long.
+fn fills(alloc: Global, front: &str, wanted: &str) -> Result<bool, AllocError> {
+    let most = filled(alloc, front, 4096)?;
+    let more = filled(alloc, front, 4097)?;
+    Ok(
+        most.len() == 4096
+            && answers_with(alloc, most.as_bytes(), wanted.as_bytes())
+            && is_too_long(alloc, more.as_bytes()),
+    )
+}
+
+#[test]
+fn longest_text(rt: HostRuntime) -> Result<(), Fail> {
+    for (front, wanted) in &FILLED {
+        assert!(rt; fills(rt.alloc(), front, wanted)?, "{front}");
     }
     Ok(())
 }
 
-/// The longest input: many zeros, which are read.
+/// A text that has no name is given back, however long it is.
 #[test]
-fn longest_text(rt: HostRuntime) -> Result<(), Fail> {
-    let mut input = Vec::new(rt.alloc());
-    input.extend_from_slice(b"hex 1.2.")?;
-    for _ in 0..4086 {
-        input.push(b'0')?;
-    }
-    input.extend_from_slice(b"3\n")?;
-    assert_eq!(rt; input.len(), MAX_INPUT);
-    let mut output = Vec::new(rt.alloc());
-    assert_eq!(rt; run_over_memory(&input, &mut output), Ok(()));
-    assert_eq!(rt; output.as_slice(), b"2a03\n".as_slice());
+fn longest_unknown_name(rt: HostRuntime) -> Result<(), Fail> {
+    let text = filled(rt.alloc(), "1.2.", 4091)?;
+    assert!(rt; fills(rt.alloc(), "name 1.2.", text.as_str())?);
     Ok(())
 }
 
 #[test]
 fn most_lines(rt: HostRuntime) -> Result<(), Fail> {
-    let newlines = [b'\n'; MAX_INPUT];
-    let mut output = Vec::new(rt.alloc());
-    assert_eq!(rt; run_over_memory(&newlines, &mut output), Ok(()));
-    assert_eq!(rt; output.len(), 94_208);
-    for line in output.as_slice().chunks(23) {
-        assert_eq!(rt; line, b"error: unknown command\n".as_slice());
-    }
+    let wanted = "error: unknown command\n".repeat(rt.alloc(), MAX_INPUT)?;
+    assert!(rt; wanted.len() == 94_208);
+    assert!(rt; answers_with(rt.alloc(), &[b'\n'; MAX_INPUT], wanted.as_bytes()));
+    assert!(rt; is_too_long(rt.alloc(), &[b'\n'; 4097]));
     Ok(())
 }
 
-#[test]
-fn one_byte_too_many(rt: HostRuntime) -> Result<(), Fail> {
-    let newlines = [b'\n'; 4097];
-    let mut output = Vec::new(rt.alloc());
-    assert_eq!(rt;
-        run_over_memory(&newlines, &mut output),
-        Err(ToolError::TooLong)
-    );
-    assert_eq!(rt; output.len(), 0);
-    Ok(())
+/// First groups in hexadecimal digits and their arcs, and how many groups 7F behind them fill the
+/// longest input.
+const LONGEST: [(&str, &str, usize); 3] = [
+    ("77", "2.39", 2044),
+    ("8837", "2.999", 2043),
+    ("908080804F", "2.4294967295", 2040),
+];
+
+/// Whether a first group and so many groups 7F are the longest input, and their arcs are printed.
+fn prints_longest(
+    alloc: Global,
+    first: &str,
+    arcs: &str,
+    count: usize,
+) -> Result<bool, AllocError> {
+    let groups = "7F".repeat(alloc, count)?;
+    let later = ".127".repeat(alloc, count)?;
+    let input = format!(in alloc; "text {first}{groups}\n")?;
+    let wanted = format!(in alloc; "{arcs}{later}\n")?;
+    Ok(input.len() == MAX_INPUT && answers_with(alloc, input.as_bytes(), wanted.as_bytes()))
 }
 
+/// The longest lines that are written: of the first row 8,180 bytes and a newline.
 #[test]
 fn longest_line(rt: HostRuntime) -> Result<(), Fail> {
-    let mut input = Vec::new(rt.alloc());
-    let mut wanted = Vec::new(rt.alloc());
-    input.extend_from_slice(b"text 77")?;
-    wanted.extend_from_slice(b"2.39")?;
-    for _ in 0..2044 {
-        input.extend_from_slice(b"7F")?;
-        wanted.extend_from_slice(b".127")?;
+    for (first, arcs, count) in &LONGEST {
+        assert!(rt; prints_longest(rt.alloc(), first, arcs, *count)?, "{first}");
     }
-    input.extend_from_slice(b"\n")?;
-    wanted.extend_from_slice(b"\n")?;
-    assert_eq!(rt; input.len(), MAX_INPUT);
-    assert_eq!(rt; wanted.len(), 8181);
-    let mut output = Vec::new(rt.alloc());
-    assert_eq!(rt; run_over_memory(&input, &mut output), Ok(()));
-    assert_eq!(rt; output.as_slice(), wanted.as_slice());
     Ok(())
 }
 
+/// Whether a failed read is told, is the last one, and nothing is written.
+fn fails_at_read(fails_at: usize) -> bool {
+    let mut input = OneByteReader::new(b"parent 1.2.3\n", fails_at);
+    let mut output = SlowWriter::new(64, 0);
+    run(&mut input, &mut output) == Err(ToolError::Read)
+        && input.reads == fails_at
+        && output.writes == 0
+}
+
 #[test]
-fn each_read_fails(rt: HostRuntime) -> Result<(), Fail> {
+fn each_read_fails(rt: HostRuntime) {
     for fails_at in 1..15 {
-        let mut input = OneByteReader::new(b"parent 1.2.3\n", fails_at);
-        let mut output = SlowWriter::new(64, 0);
-        assert_eq!(rt;
-            run(&mut input, &mut output),
-            Err(ToolError::Read),
-            "at read {fails_at}"
-        );
-        assert_eq!(rt; input.reads, fails_at);
-        assert_eq!(rt; output.writes, 0);
+        assert!(rt; fails_at_read(fails_at), "at read {fails_at}");
     }
     let mut input = OneByteReader::new(b"parent 1.2.3\n", 15);
     let mut output = SlowWriter::new(64, 0);
-    assert_eq!(rt; run(&mut input, &mut output), Ok(()));
-    assert_eq!(rt; input.reads, 14);
-    assert_eq!(rt; output.written(), b"1.2\n".as_slice());
-    Ok(())
+    assert!(rt; run(&mut input, &mut output) == Ok(()));
+    assert!(rt; input.reads == 14);
+    assert!(rt; output.written() == b"1.2\n".as_slice());
 }
 
 #[test]
-fn endless_input(rt: HostRuntime) -> Result<(), Fail> {
+fn endless_input(rt: HostRuntime) {
     let mut input = EndlessReader { reads: 0 };
     let mut output = SlowWriter::new(64, 0);
-    assert_eq!(rt; run(&mut input, &mut output), Err(ToolError::TooLong));
-    assert_eq!(rt; input.reads, 4097);
-    assert_eq!(rt; output.writes, 0);
-    Ok(())
+    assert!(rt; run(&mut input, &mut output) == Err(ToolError::TooLong));
+    assert!(rt; input.reads == 4097);
+    assert!(rt; output.writes == 0);
 }
 
-#[test]
-fn each_write_fails(rt: HostRuntime) -> Result<(), Fail> {
-    let wanted = b"1.2.3\nerror: not hex\n1.2\n".as_slice();
-    let mut reached = 0;
+/// In how many writes of at most three bytes an input is answered by an output, where each of them,
+/// failing in turn, is told as such, with a front written that is shorter than the whole.
+fn writes_of(input: &[u8], wanted: &[u8]) -> Option<usize> {
     for fails_at in 1..99 {
-        let mut input = b"text 2A03\ntext 2G\ntext 2A".as_slice();
+        let mut rest = input;
         let mut output = SlowWriter::new(3, fails_at);
-        let told = run(&mut input, &mut output);
+        let told = run(&mut rest, &mut output);
+        let written = output.written();
         if told == Ok(()) {
-            assert_eq!(rt; output.written(), wanted);
-            break;
+            return (written == wanted).then_some(output.writes);
         }
-        assert_eq!(rt; told, Err(ToolError::Write), "at write {fails_at}");
-        assert!(rt; wanted.starts_with(output.written()));
-        assert!(rt; output.written().len() < wanted.len());
-        reached = fails_at;
+        let is_front = wanted.starts_with(written) && written.len() < wanted.len();
+        if told != Err(ToolError::Write) || !is_front {
+            return None;
+        }
     }
-    assert_eq!(rt; reached, 9);
-    Ok(())
+    None
 }
 
 #[test]
-fn no_byte_taken(rt: HostRuntime) -> Result<(), Fail> {
+fn each_write_fails(rt: HostRuntime) {
+    let input = b"text 2A03\ntext 2G\ntext 8837";
+    assert!(rt; writes_of(input, b"1.2.3\nerror: not hex\n2.999\n") == Some(9));
+}
+
+#[test]
+fn no_byte_taken(rt: HostRuntime) {
     let mut input = b"text 2A".as_slice();
     let mut output = SlowWriter::new(0, 0);
-    assert_eq!(rt; run(&mut input, &mut output), Err(ToolError::Write));
-    assert_eq!(rt; output.writes, 1);
-    Ok(())
+    assert!(rt; run(&mut input, &mut output) == Err(ToolError::Write));
+    assert!(rt; output.writes == 1);
 }

@@ -13,7 +13,7 @@ pub loop-index-init : goal.loop-index-init
 loop-index-init c = record { pass = rw c.new-encoder.ensures (text_answer_is root_rule c.as_bytes-bytes.result.now); small = omega arith }
 
 pub returns-clause-encoding : goal.returns-clause-encoding
-returns-clause-encoding c = IfOk-weaker c.end_text.result _ _ (λ octets e. encoding_back root_rule _ (octets_of octets) e) c.end_text.ensures.encoding
+returns-clause-encoding c = IfOk-weaker c.finish.result _ _ (λ octets e. encoding_back root_rule _ (octets_of octets) e) c.finish.ensures.encoding
 
 -- no number of the last piece is asked for where it has no digit
 last_piece : (rule : RootRule) (before : List ℕ) (begun : Bool) (value : ℕ) (piece : Option ℕ) → piece ≡ then_some begun value → text_pass rule before (is_some piece) (unwrap_or piece 0) [] ≡ text_pass rule before begun value []
@@ -24,7 +24,8 @@ pub returns-clause-answer : goal.returns-clause-answer
 returns-clause-answer c =
     let l = c.loop-index in
     let none : drop l.index c.as_bytes-bytes.result.now ≡ [] = drop_all l.index c.as_bytes-bytes.result.now (omega arith) in
-    text_pass-end octets_of root_rule l.encoder c.then_some.result c.end_text.result c.end_text.ensures.fault c.end_text.ensures.encoding
+    let given = c.in_ok-end_text.ensures.given in
+    text_pass-end octets_of root_rule l.encoder c.then_some.result c.finish.result c.in_ok-end_text.ensures.fault (rw given at c.finish.ensures.fault) (rw given at c.finish.ensures.encoding)
     ∙ last_piece root_rule l.encoder l.begun l.number c.then_some.result c.then_some.ensures
     ∙ (rw none at l.invariant.pass)
     ∙ ap (text_answer root_rule) c.as_bytes-bytes.ensures.value
