@@ -7,10 +7,15 @@ use Rattle.std.specs.Cmp.Lexicographic.{slice_cmp}
 use Rattle.std.specs.Fmt.{WritesInCalls}
 use Rattle.std.proofs.lemmas.Fmt.{contents_after_writes}
 use Rattle.std.specs.Ordering.{is_le, is_lt, ordering_reverse}
+use Rattle.std.specs.Prelude.{Result, Err}
+use Rattle.std.specs.Iterator.{YieldsFirst}
+use Rattle.std.proofs.iter.Rest.{run_of_first}
 use Rattle.std.specs.declared.cmp.Ordering.{Ordering}
 use Rattle.std.proofs.lemmas.Cmp.{nat_list_cmp_total}
 use Rattle.const_oid.specs.declared.oid.ObjectIdentifier.{ObjectIdentifier}
-use Rattle.const_oid.specs.Identifier.{root_rule, size, encoding_of}
+use Rattle.const_oid.specs.declared.error.Error.{Error}
+use Rattle.const_oid.specs.Identifier.{RootRule, root_rule, size, encoding_of}
+use Rattle.const_oid.specs.Items.{item_answer, TakesItems}
 use Rattle.const_oid.specs.Oid.{oid_arcs, oid_octets}
 use Rattle.const_oid.specs.Orders.{short_cmp}
 use Rattle.const_oid.specs.Text.{text_of, text_answer}
@@ -75,3 +80,11 @@ not_before a b level = rw (nat_list_cmp_total.antisymm b a) (reversed (slice_cmp
 -- a writer that appends each piece goes on by the whole text
 pub written_whole : (old text new : List ℕ) → WritesInCalls (λ old piece new. new ≡ old ++ piece) old text new → new ≡ old ++ text
 written_whole old text new h = contents_after_writes (λ old piece new. new ≡ old ++ piece) (λ held. held) (λ _ _ _ e. e) old text new h
+
+-- the answer to the items of an iterator is exact where the iterator tells the list that it has left
+pub exact_answer : {S : Type 0} (rule : RootRule) (rest : S → List ℕ) (s : S) (result : Result (List ℕ) Error) → TakesItems rule (YieldsFirst rest) s result → result ≡ item_answer rule (rest s)
+exact_answer rule rest s (Ok arcs) (p, from, whole, (is, none)) =
+    let e : arcs ≡ rest s = sym is ∙ (run_of_first rest p).1.4 whole ∙ ap rest from in
+    rw (rw e at none) (ap Ok e)
+exact_answer rule rest s (Err fault) (p, from, refused) =
+    rw (rw from at (refused (rest p.from) (run_of_first rest p).1))

@@ -3,11 +3,11 @@ ghost use Rattle.std.specs.Prelude.{◌≡◌, ℕ, ◌≤◌, List, ◌∷◌, 
 ghost use Rattle.std.specs.Result.{result_err};
 ghost use Rattle.std.specs.Iterator.{YieldsFirst, item_count};
 ghost use Rattle.const_oid.specs.Base128.{value_of};
-ghost use Rattle.const_oid.specs.Identifier.{root_rule, most_arc};
+ghost use Rattle.const_oid.specs.Identifier.{root_rule};
 ghost use Rattle.const_oid.specs.Contents.{cut, later_fault, parts_fault, most_first, arcs_from, arcs_of_octets};
 
 use crate::error::{Error, Result};
-use crate::scan::part;
+use crate::scan::behind;
 use std::marker::Model;
 
 /// An arc: a number of a path, of 32 bits.
@@ -97,19 +97,11 @@ pub(crate) fn arc_at(octets: &[u8], index: usize) -> Option<Arc>
         let (first, second) = split_root(read_group(octets).0);
         return Some(if index == 0 { first } else { second });
     }
-    Some(read_part(part(octets, index - 1)?))
-}
-
-/// The arc that a part stands for.
-fn read_part(part: &[u8]) -> Arc
-    requires { value_of part.now ≤ most_arc }
-    ensures { result ≡ value_of part.now }
-{
-    let mut arc: Arc = 0;
-    for octet in part {
-        arc = arc * 128 + (*octet % 128) as Arc;
+    let rest = behind(octets, index - 1);
+    if rest.is_empty() {
+        return None;
     }
-    arc
+    Some(read_group(rest).0 as Arc)
 }
 
 /// The number of the first group, and the octets after it.

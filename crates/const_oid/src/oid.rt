@@ -1,6 +1,6 @@
 //! Owned object identifiers.
 
-ghost use Rattle.std.specs.Prelude.{◌≡◌, ◌-◌, ◌<◌, ◌≤◌, ◌↔◌, length, min, take, slice_get, None, Some, IfOk, IsTrue, MatchResult};
+ghost use Rattle.std.specs.Prelude.{◌≡◌, ◌<◌, ◌≤◌, ◌↔◌, length, min, slice_get, None, Some, IfOk, IsTrue, MatchResult};
 ghost use Rattle.std.specs.Iterator.{IsFiniteIterable};
 ghost use Rattle.std.specs.Option.{option_map};
 ghost use Rattle.const_oid.specs.Buffer.{octets_of};
@@ -75,8 +75,8 @@ impl ObjectIdentifier<39> {
     ///
     /// At `Err` the fault is that of every list which begins with the items drawn, or, where the
     /// iterator ended, of exactly these: `[1]` is `Empty`, and `[1, 2]` is not. For an array, a slice's
-    /// `iter().copied()`, a `Vec` or [`Arcs`], whose items are known, the checker finds the exact answer
-    /// by itself.
+    /// `iter().copied()` or a `Vec`, whose items are known, the checker finds the exact answer by
+    /// itself; for [`Arcs`] the lemma `exact_answer` gives it.
     pub fn from_arcs<I: IntoIterator<Item = Arc>>(arcs: I) -> Result<Self>
     where
         I::IntoIter: Drop,

@@ -1,11 +1,10 @@
 //! Dotted text to octets.
 
-ghost use Rattle.std.specs.Prelude.{◌≡◌, ◌+◌, ◌-◌, ◌*◌, ◌<◌, ◌≤◌, [], ◌∷◌, ◌++◌, IfOk, OnOk, MatchResult, unwrap_or};
-ghost use Rattle.std.specs.Char.{IsAsciiDigit};
+ghost use Rattle.std.specs.Prelude.{◌≡◌, [], ◌∷◌, ◌++◌, IfOk, OnOk, unwrap_or};
 ghost use Rattle.std.specs.Result.{result_err, result_map_both};
 ghost use Rattle.const_oid.specs.Buffer.{octets_of};
 ghost use Rattle.const_oid.specs.Contents.{arcs_of_octets};
-ghost use Rattle.const_oid.specs.Identifier.{root_rule, most_arc, IsEncoding};
+ghost use Rattle.const_oid.specs.Identifier.{root_rule, IsEncoding};
 ghost use Rattle.const_oid.specs.Parser.{dot_fault, last_fault};
 ghost use Rattle.const_oid.specs.Text.{text_answer};
 

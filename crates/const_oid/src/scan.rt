@@ -1,9 +1,8 @@
 //! Slices of octets: how many parts they have, where these begin and end, and how slices compare.
 
-ghost use Rattle.std.specs.Prelude.{◌≡◌, ◌↔◌, ℕ, ◌-◌, ◌≤◌, List, ◌++◌, length, take, drop, count_by, nat_eq, nat_lt, slice_get, IsTrue};
+ghost use Rattle.std.specs.Prelude.{◌≡◌, ◌↔◌, ℕ, ◌-◌, ◌≤◌, List, ◌++◌, length, take, drop, count_by, nat_eq, nat_lt, IsTrue};
 ghost use Rattle.std.specs.Cmp.Lexicographic.{pointwise, slice_cmp};
 ghost use Rattle.std.specs.Ordering.{nat_cmp};
-ghost use Rattle.std.specs.Option.{option_copied};
 ghost use Rattle.const_oid.specs.Contents.{cut};
 
 use std::cmp::Ordering;
@@ -36,20 +35,9 @@ fn count_lanes(octets: &[u8]) -> usize
     lanes.to_bitmask().count_ones() as usize
 }
 
-/// The part at a place, counted from 0, or `None` past the last.
-pub(crate) fn part(octets: &[u8], index: usize) -> Option<&[u8]>
-    ensures { option_copied result ≡ slice_get (cut octets.now) index }
-{
-    let rest = behind(octets, index);
-    match rest.iter().position(|octet| *octet < 128) {
-        Some(last) => Some(&rest[..last + 1]),
-        None if rest.is_empty() => None,
-        None => Some(rest),
-    }
-}
-
-/// The octets behind so many parts.
-fn behind(octets: &[u8], parts: usize) -> &[u8]
+/// The octets behind so many parts: where the next one begins, and those before it end.
+#[inline(always)]
+pub(crate) fn behind(octets: &[u8], parts: usize) -> &[u8]
     ensures { cut result.now ≡ drop parts (cut octets.now) }
 {
     let mut left = parts;

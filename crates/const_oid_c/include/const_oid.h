@@ -146,10 +146,10 @@ const_oid_status const_oid_cmp(
 const_oid_status const_oid_cmp_owned(
     const uint8_t *left, size_t left_len, const uint8_t *right, size_t right_len);
 
-/* Finds where in a list those stand that begin with an identifier, itself among them. The list does
- * not descend in the order of const_oid_cmp, may hold an identifier more than once, and is of octets
- * of any number. At code 0 `from` is how many stand before the identifier, and `to - from` how many
- * begin with it. Refused by the fault of the identifier; else by the first item, `len` being its
+/* Finds where in a list those stand that begin with an identifier, itself among them: at the places
+ * from `from` on and below `to`; `from` is how many stand before it. The list does not descend in the
+ * order of const_oid_cmp, may hold an identifier more than once, and is of octets of any number; all
+ * of it is checked. Refused by the fault of the identifier; else by the first item, `len` being its
  * place, that has a fault or, by UNSORTED, stands before the item at the place before; `places` is
  * then as it was. */
 const_oid_status const_oid_subtree(

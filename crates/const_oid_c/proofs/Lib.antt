@@ -3,3 +3,4 @@ pub mod Answers
 pub mod Telling
 pub mod Filling
 pub mod Refusals
+pub mod Places

@@ -1,8 +1,9 @@
 //! Where the identifiers of a list stand that begin with one.
-ghost use Rattle.std.specs.Prelude.{◌≡◌, ◌≢◌, ◌+◌, [], nat_eq, count_by};
+ghost use Rattle.std.specs.Prelude.{◌≡◌, ◌≢◌, ◌+◌, ◌<◌, ◌≤◌, ◌↔◌, ℕ, [], nat_eq, count_by, slice_get, IfSome};
 ghost use Rattle.std.specs.Cmp.Lexicographic.{slice_cmp};
 ghost use Rattle.std.specs.List.{starts_with};
 ghost use Rattle.std.specs.Ordering.{nat_cmp, is_lt};
+ghost use Rattle.const_oid.specs.Tree.{BeginsWith};
 ghost use Rattle.const_oid_c.specs.Subtree.{octets_at, item_refusal, list_refusal, subtree_status};
 
 use crate::status::{Status, UNSORTED, done, refuse};
@@ -17,6 +18,7 @@ pub struct Octets<'a> {
 
 /// Places of a list, counted from 0: from the first on, and below the second.
 #[repr(C)]
+#[derive(Clone, Copy)]
 pub struct Places {
     pub from: usize,
     pub to: usize,
@@ -35,6 +37,8 @@ pub extern "C" fn const_oid_subtree(
         ≡ count_by (λ item. is_lt (slice_cmp nat_cmp (octets_at item) octets.now)) sorted.now }
     ensures to { result.code ≡ 0 → places.new.to
         ≡ places.new.from + count_by (λ item. starts_with nat_eq (octets_at item) octets.now) sorted.now }
+    ensures places { result.code ≡ 0 → (k : ℕ) → IfSome (slice_get sorted.now k) (λ item.
+        BeginsWith (octets_at item) octets.now ↔ ((places.new.from ≤ k) × (k < places.new.to))) }
     ensures unchanged { result.code ≢ 0 → places.new ≡ places.old }
 {
     match ObjectIdentifierRef::from_bytes(octets) {
@@ -42,9 +46,21 @@ pub extern "C" fn const_oid_subtree(
         Err(fault) => return refuse(fault),
     }
     match list_refusal(sorted) {
-        Some(refused) => return refused,
-        None => {}
+        Some(refused) => refused,
+        None => {
+            *places = places_of(octets, sorted);
+            done(0)
+        }
     }
+}
+
+/// How many identifiers of a list stand before one, and that number with those that begin with it.
+fn places_of(octets: &[u8], sorted: &[Octets<'_>]) -> Places
+    ensures from { result.from
+        ≡ count_by (λ item. is_lt (slice_cmp nat_cmp (octets_at item) octets.now)) sorted.now }
+    ensures to { result.to
+        ≡ result.from + count_by (λ item. starts_with nat_eq (octets_at item) octets.now) sorted.now }
+{
     let from = sorted
         .iter()
         .filter(|item| item.octets.cmp(octets).is_lt())
@@ -53,9 +69,10 @@ pub extern "C" fn const_oid_subtree(
         .iter()
         .filter(|item| item.octets.starts_with(octets))
         .count();
-    places.from = from;
-    places.to = from + inside;
-    done(0)
+    Places {
+        from,
+        to: from + inside,
+    }
 }
 
 /// What is wrong with the first identifier of a list that has a fault or stands before the last one.

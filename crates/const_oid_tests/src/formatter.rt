@@ -4,17 +4,29 @@ use std::alloc::{AllocError, Global};
 use std::fmt;
 use std::fmt::{Display, Write};
 
-/// Whether `{}`, a width, and a fill with sign, zeros and precision print a value as this text.
+/// Whether a value prints as this text, plain and under width, fill, sign, zeros and precision.
 pub fn prints<T: Display>(alloc: Global, value: &T, text: &str) -> bool {
     is_printed(format!(in alloc; "{value}"), text)
-        && is_printed(format!(in alloc; "{value:>60}"), text)
+        && is_printed(format!(in alloc; "{value:>20}"), text)
         && is_printed(format!(in alloc; "{value:>40.3}"), text)
-        && is_printed(format!(in alloc; "{value:*^+080.1}"), text)
+        && is_printed(format!(in alloc; "{value:*^+020.1}"), text)
+        && is_printed(format!(in alloc; "{value:*^+80.3}"), text)
 }
 
 /// Whether this text was printed.
 pub fn is_printed(printed: Result<String, AllocError>, text: &str) -> bool {
-    printed.is_ok_and(|printed| printed.as_str() == text)
+    match printed {
+        Ok(printed) => printed.as_str() == text,
+        Err(_) => false,
+    }
+}
+
+/// Whether so many bytes were printed.
+pub fn has_length(printed: Result<String, AllocError>, count: usize) -> bool {
+    match printed {
+        Ok(printed) => printed.as_str().len() == count,
+        Err(_) => false,
+    }
 }
 
 /// Whether a value is printed as this text where no memory is at hand.

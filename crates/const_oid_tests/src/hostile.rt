@@ -1,5 +1,6 @@
 //! What a hostile sender may choose: octets, texts and tables of names.
 
+mod fronts;
 mod lengths;
 mod names;
 mod octets;

@@ -27,12 +27,8 @@ fn has_oid(database: &Database<'_>, name: &str, wanted: Option<ObjectIdentifier<
 }
 
 /// Whether a text is resolved to this name, or refused by this error.
-fn resolves(database: &Database<'_>, text: &str, wanted: Result<&str, Error>) -> bool {
-    match (database.resolve(text), wanted) {
-        (Ok(name), Ok(wanted)) => name == wanted,
-        (Err(fault), Err(wanted)) => fault == wanted,
-        _ => false,
-    }
+fn resolves<'a>(database: &Database<'a>, text: &'a str, wanted: Result<&'a str, Error>) -> bool {
+    database.resolve(text) == wanted
 }
 
 #[test]

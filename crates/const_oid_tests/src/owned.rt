@@ -8,6 +8,14 @@ use const_oid::{Arc, Error, ObjectIdentifier, ObjectIdentifierRef};
 use std::alloc::Global;
 use std::test::Fail;
 
+/// Whether an identifier has these arcs.
+fn has_arcs(oid: &ObjectIdentifier<39>, arcs: &[Arc]) -> bool {
+    oid.arcs().eq(arcs.iter().copied())
+        && oid.len() == arcs.len()
+        && oid.arc(1) == arcs.get(1).copied()
+        && oid.arc(arcs.len()).is_none()
+}
+
 /// Whether octets are read as these arcs and printed as this text, which is read as these octets.
 fn reads(alloc: Global, text: &str, octets: &[u8], arcs: &[Arc]) -> bool {
     let (Ok(oid), Ok(again)) = (
@@ -18,10 +26,7 @@ fn reads(alloc: Global, text: &str, octets: &[u8], arcs: &[Arc]) -> bool {
     };
     oid.as_bytes() == octets
         && again.as_bytes() == octets
-        && oid.arcs().eq(arcs.iter().copied())
-        && oid.len() == arcs.len()
-        && oid.arc(1) == arcs.get(1).copied()
-        && oid.arc(arcs.len()).is_none()
+        && has_arcs(&oid, arcs)
         && is_printed(format!(in alloc; "{oid}"), text)
 }
 

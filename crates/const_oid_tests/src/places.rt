@@ -53,10 +53,12 @@ fn holds(octets: &[u8], count: usize, places: &[(usize, Option<Arc>)]) -> bool {
     ) else {
         return false;
     };
-    borrowed.len() == count
-        && owned.len() == count
-        && places.iter().all(|(index, arc)| borrowed.arc(*index) == *arc
-            && owned.arc(*index) == *arc)
+    for (index, arc) in places {
+        if borrowed.arc(*index) != *arc || owned.arc(*index) != *arc {
+            return false;
+        }
+    }
+    borrowed.len() == count && owned.len() == count
 }
 
 #[test]

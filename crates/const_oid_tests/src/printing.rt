@@ -1,6 +1,6 @@
 //! Identifiers of both forms, printed.
 
-use crate::formatter::{is_printed, prints, writes_of};
+use crate::formatter::{has_length, is_printed, prints, writes_of};
 use crate::vectors::{long_octets, long_text};
 use const_oid::{ObjectIdentifier, ObjectIdentifierRef};
 use std::alloc::Global;
@@ -36,11 +36,29 @@ fn options_change_nothing(rt: HostRuntime) {
     }
 }
 
-/// No octet prints more than 4 bytes.
+/// Octets, and how many bytes they print, which are at most 4 an octet.
+const PRINTED_LENGTHS: [(&[u8], usize); 2] = [
+    (&[0x77], 4),
+    (&[0x2A, 0x8F, 0xFF, 0xFF, 0xFF, 0x7F], 14),
+];
+
+/// Whether both forms print so many bytes.
+fn both_take(alloc: Global, octets: &[u8], count: usize) -> bool {
+    let (Ok(borrowed), Ok(owned)) = (
+        ObjectIdentifierRef::from_bytes(octets),
+        ObjectIdentifier::from_bytes(octets),
+    ) else {
+        return false;
+    };
+    count <= octets.len().saturating_mul(4)
+        && has_length(format!(in alloc; "{borrowed}"), count)
+        && has_length(format!(in alloc; "{owned}"), count)
+}
+
 #[test]
 fn printed_lengths(rt: HostRuntime) {
-    for (octets, text) in &ROWS {
-        assert!(rt; text.len() <= octets.len().saturating_mul(4), "{text}");
+    for (octets, count) in &PRINTED_LENGTHS {
+        assert!(rt; both_take(rt.alloc(), octets, *count), "{octets:?}");
     }
 }
 

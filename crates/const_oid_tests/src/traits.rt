@@ -42,8 +42,8 @@ fn oid_of<T: AssociatedOid>(value: &T) -> ObjectIdentifier<39>
 
 #[test]
 fn of_a_type(rt: HostRuntime) {
-    assert_eq!(rt; Unit::associated_oid().as_bytes(), [0x2A, 0x03].as_slice());
-    assert_eq!(rt; oid_of(&Unit).as_bytes(), [0x2A, 0x03].as_slice());
+    assert!(rt; Unit::associated_oid().as_bytes() == [0x2A, 0x03].as_slice());
+    assert!(rt; oid_of(&Unit).as_bytes() == [0x2A, 0x03].as_slice());
 }
 
 #[test]
@@ -53,16 +53,17 @@ fn first_place(rt: HostRuntime) -> Result<(), Fail> {
     let name = ObjectIdentifier::new("2.5.4.3")?;
     let other = ObjectIdentifier::new("1.2")?;
     let mut values: Vec<Box<dyn DynAssociatedOid + Drop>> = Vec::new(alloc);
-    assert_eq!(rt; position_of(&values, &three), None);
+    assert!(rt; position_of(&values, &three).is_none());
     for oid in [three, name, three] {
         values.push(Box::new(alloc, Held { oid })?)?;
     }
-    assert_eq!(rt; position_of(&values, &three), Some(0));
-    assert_eq!(rt; position_of(&values, &name), Some(1));
-    assert_eq!(rt; position_of(&values, &other), None);
+    for (oid, place) in [(three, Some(0)), (name, Some(1)), (other, None)] {
+        assert!(rt; position_of(&values, &oid) == place, "{oid}");
+    }
     Ok(())
 }
 
+/// A value of a type with an identifier, and one that holds it, in both orders.
 #[test]
 fn of_both_kinds(rt: HostRuntime) -> Result<(), Fail> {
     let alloc = rt.alloc();
@@ -70,9 +71,9 @@ fn of_both_kinds(rt: HostRuntime) -> Result<(), Fail> {
     let unit: Box<dyn DynAssociatedOid + Drop> = Box::new(alloc, Unit)?;
     let held: Box<dyn DynAssociatedOid + Drop> = Box::new(alloc, Held { oid })?;
     let values = [unit, held];
-    assert_eq!(rt; position_of(&values, &oid), Some(0));
+    assert!(rt; position_of(&values, &oid) == Some(0));
     let [unit, held] = values;
     let values = [held, unit];
-    assert_eq!(rt; position_of(&values, &oid), Some(0));
+    assert!(rt; position_of(&values, &oid) == Some(0));
     Ok(())
 }

@@ -8,26 +8,31 @@ const OVER_THE_EDGE: [u8; 33] = [
     0x86, 0x48,
 ];
 
-/// Octets, how many are below 128, and the part at a place.
-const ROWS: [(&[u8], usize, usize, Option<&[u8]>); 9] = [
-    (&[], 0, 0, None),
-    (&[0x7F; 31], 31, 30, Some(&[0x7F])),
-    (&[0x7F; 31], 31, 31, None),
-    (&[0x7F; 32], 32, 31, Some(&[0x7F])),
-    (&[0x7F; 33], 33, 32, Some(&[0x7F])),
-    (&[0x80; 32], 0, 0, Some(&[0x80; 32])),
-    (&[0xFF; 33], 0, 1, None),
-    (&OVER_THE_EDGE, 32, 31, Some(&[0x86, 0x48])),
-    (&OVER_THE_EDGE, 32, 32, None),
+/// Octets, how many are below 128, and those behind so many parts.
+const ROWS: [(&[u8], usize, usize, &[u8]); 9] = [
+    (&[], 0, 0, &[]),
+    (&[0x7F; 31], 31, 30, &[0x7F]),
+    (&[0x7F; 31], 31, 31, &[]),
+    (&[0x7F; 32], 32, 31, &[0x7F]),
+    (&[0x7F; 33], 33, 32, &[0x7F]),
+    (&[0x80; 32], 0, 0, &[0x80; 32]),
+    (&[0xFF; 33], 0, 1, &[]),
+    (&OVER_THE_EDGE, 32, 31, &[0x86, 0x48]),
+    (&OVER_THE_EDGE, 32, 32, &[]),
 ];
 
-fn holds(row: &(&[u8], usize, usize, Option<&[u8]>)) -> bool {
-    count_last(row.0) == row.1 && part(row.0, row.2) == row.3
+fn holds(row: &(&[u8], usize, usize, &[u8])) -> bool {
+    count_last(row.0) == row.1 && behind(row.0, row.2) == row.3
 }
 
 #[test]
 fn counted_and_cut(rt: HostRuntime) {
     for row in &ROWS {
-        assert!(rt; holds(row), "{} octets, part {}", row.0.len(), row.2);
+        assert!(rt;
+            holds(row),
+            "{} octets, behind {} parts",
+            row.0.len(),
+            row.2
+        );
     }
 }

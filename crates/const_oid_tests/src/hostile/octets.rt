@@ -120,9 +120,8 @@ const COUNTS: [(Form, u16, u16, Option<Error>, usize); 32] = [
 #[test]
 fn every_short_slice(rt: HostRuntime) {
     for (row, (form, from, below, wanted, count)) in COUNTS.iter().enumerate() {
-        assert_eq!(rt;
-            how_many(*form, *from, *below, *wanted),
-            *count,
+        assert!(rt;
+            how_many(*form, *from, *below, *wanted) == *count,
             "row {row}"
         );
     }
@@ -225,18 +224,19 @@ fn hashes_the_same(octets: &[u8]) -> Result<bool, Error> {
     Ok(hash_of(&copy) == hash_of(&ObjectIdentifier::from_bytes(octets)?))
 }
 
-/// How many rows hold before the first that does not.
+/// How many rows hold.
 fn rows_held(rows: &[Row]) -> usize {
-    for (row, (text, octets, _)) in rows.iter().enumerate() {
-        if !fronts_hold(octets)
-            || !refused_with_0x80(octets)
-            || same_at_capacities(octets, text) != Ok(true)
-            || hashes_the_same(octets) != Ok(true)
+    let mut held = 0usize;
+    for (text, octets, _) in rows {
+        if fronts_hold(octets)
+            && refused_with_0x80(octets)
+            && same_at_capacities(octets, text) == Ok(true)
+            && hashes_the_same(octets) == Ok(true)
         {
-            return row;
+            held = held.saturating_add(1);
         }
     }
-    rows.len()
+    held
 }
 
 /// Fronts of the rows, their octets with 0x80 put in, and their values at other capacities. All are
@@ -244,6 +244,6 @@ fn rows_held(rows: &[Row]) -> usize {
 /// is called here has one. `rt try --test --fail-alloc 1` refuses the first request; there is none.
 #[test]
 fn rows_without_memory(rt: HostRuntime) {
-    assert_eq!(rt; rows_held(&ACCEPTED), ACCEPTED.len());
-    assert_eq!(rt; rows_held(&FIRST_GROUPS), FIRST_GROUPS.len());
+    assert!(rt; rows_held(&ACCEPTED) == ACCEPTED.len());
+    assert!(rt; rows_held(&FIRST_GROUPS) == FIRST_GROUPS.len());
 }

@@ -5,7 +5,7 @@ ghost use Rattle.oid_tool.specs.Names.{known_names};
 
 use super::devices::{EndlessReader, OneByteReader, SlowWriter};
 use super::*;
-use std::alloc::{AllocError, Global};
+use std::alloc::Global;
 use std::test::Fail;
 
 /// What [`run`] says where both sides tell their bytes.
@@ -119,23 +119,18 @@ const ROWS: [(&str, &str); 60] = [
     ("name cn\n", "error: expected digit, got 'c'\n"),
 ];
 
-/// Whether an input is answered by an output.
-fn answers_with(alloc: Global, input: &[u8], wanted: &[u8]) -> bool {
+/// Whether an input is answered by this output.
+fn answers_by(alloc: Global, input: &[u8], wanted: &[u8]) -> bool {
     let mut output = Vec::new(alloc);
-    run_over_memory(input, &mut output) == Ok(()) && output.as_slice() == wanted
-}
-
-/// Whether an input is too long, and nothing is written.
-fn is_too_long(alloc: Global, input: &[u8]) -> bool {
-    let mut output = Vec::new(alloc);
-    run_over_memory(input, &mut output) == Err(ToolError::TooLong) && output.is_empty()
+    let told = run_over_memory(input, &mut output);
+    told == Ok(()) && output.as_slice() == wanted
 }
 
 #[test]
 fn rows(rt: HostRuntime) {
     for (input, wanted) in &ROWS {
         assert!(rt;
-            answers_with(rt.alloc(), input.as_bytes(), wanted.as_bytes()),
+            answers_by(rt.alloc(), input.as_bytes(), wanted.as_bytes()),
             "{input:?}"
         );
     }
@@ -150,10 +145,17 @@ fn no_text(rt: HostRuntime) {
         b"name cn\xFF\n".as_slice(),
     ] {
         assert!(rt;
-            answers_with(rt.alloc(), input, b"error: not UTF-8\n"),
+            answers_by(rt.alloc(), input, b"error: not UTF-8\n"),
             "{input:?}"
         );
     }
+}
+
+/// Whether an input is too long, and nothing is written.
+fn is_too_long(alloc: Global, input: &[u8]) -> bool {
+    let mut output = Vec::new(alloc);
+    let told = run_over_memory(input, &mut output);
+    told == Err(ToolError::TooLong) && output.is_empty()
 }
 
 /// Commands whose text is filled up by zeros and ends in `3`, and the answers.
@@ -166,18 +168,18 @@ const FILLED: [(&str, &str); 5] = [
 ];
 
 /// A text of so many bytes: a front, zeros, `3` and a newline.
-fn filled(alloc: Global, front: &str, len: usize) -> Result<String, AllocError> {
+fn filled(alloc: Global, front: &str, len: usize) -> Result<String, Fail> {
     let zeros = "0".repeat(alloc, len.saturating_sub(front.len()).saturating_sub(2))?;
-    format!(in alloc; "{front}{zeros}3\n")
+    Ok(format!(in alloc; "{front}{zeros}3\n")?)
 }
 
 /// Whether a front, filled up to the longest input, has an answer, and a byte more is too long.
-fn fills(alloc: Global, front: &str, wanted: &str) -> Result<bool, AllocError> {
+fn fills(alloc: Global, front: &str, wanted: &str) -> Result<bool, Fail> {
     let most = filled(alloc, front, 4096)?;
     let more = filled(alloc, front, 4097)?;
     Ok(
         most.len() == 4096
-            && answers_with(alloc, most.as_bytes(), wanted.as_bytes())
+            && answers_by(alloc, most.as_bytes(), wanted.as_bytes())
             && is_too_long(alloc, more.as_bytes()),
     )
 }
@@ -202,7 +204,7 @@ fn longest_unknown_name(rt: HostRuntime) -> Result<(), Fail> {
 fn most_lines(rt: HostRuntime) -> Result<(), Fail> {
     let wanted = "error: unknown command\n".repeat(rt.alloc(), MAX_INPUT)?;
     assert!(rt; wanted.len() == 94_208);
-    assert!(rt; answers_with(rt.alloc(), &[b'\n'; MAX_INPUT], wanted.as_bytes()));
+    assert!(rt; answers_by(rt.alloc(), &[b'\n'; MAX_INPUT], wanted.as_bytes()));
     assert!(rt; is_too_long(rt.alloc(), &[b'\n'; 4097]));
     Ok(())
 }
@@ -216,17 +218,12 @@ const LONGEST: [(&str, &str, usize); 3] = [
 ];
 
 /// Whether a first group and so many groups 7F are the longest input, and their arcs are printed.
-fn prints_longest(
-    alloc: Global,
-    first: &str,
-    arcs: &str,
-    count: usize,
-) -> Result<bool, AllocError> {
+fn prints_longest(alloc: Global, first: &str, arcs: &str, count: usize) -> Result<bool, Fail> {
     let groups = "7F".repeat(alloc, count)?;
     let later = ".127".repeat(alloc, count)?;
     let input = format!(in alloc; "text {first}{groups}\n")?;
     let wanted = format!(in alloc; "{arcs}{later}\n")?;
-    Ok(input.len() == MAX_INPUT && answers_with(alloc, input.as_bytes(), wanted.as_bytes()))
+    Ok(input.len() == MAX_INPUT && answers_by(alloc, input.as_bytes(), wanted.as_bytes()))
 }
 
 /// The longest lines that are written: of the first row 8,180 bytes and a newline.

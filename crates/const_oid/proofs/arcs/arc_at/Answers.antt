@@ -1,17 +1,26 @@
-use Rattle.std.proofs.Common.{◌≡◌, ◌-◌, Some, slice_get, ap, sym, ◌∙◌, arith, rules}
-use Rattle.std.specs.Option.{option_map}
-use Rattle.const_oid.specs.Base128.{value_of}
+use Rattle.std.proofs.Common.{◌≡◌, [], arith}
+use Rattle.std.proofs.lemmas.Grind.{common_steps}
 use Rattle.const_oid.specs.Contents.{cut}
 use Rattle.const_oid.specs.Identifier.{root_rule}
-use Rattle.const_oid.proofs.Parts.{later_most, later_at}
+use Rattle.const_oid.proofs.PartsFault.{parts_from_later, later_small}
+use Rattle.const_oid.proofs.Parts.{sound_behind, none_behind, arc_behind}
 use Rattle.const_oid.proofs.arcs.arc_at.Goals as goal
 
-pub read_part-requires : goal.read_part-requires
-read_part-requires c =
-    let found : slice_get (cut c.args.octets.now) (c.args.index - 1) ≡ Some c.in_ok-part.field-0.now = search rules in
-    later_most root_rule (cut c.args.octets.now) c.args.index c.in_ok-part.field-0.now c.requires (omega arith) found
+pub returns-then-is_empty : goal.returns-then-is_empty
+returns-then-is_empty c =
+    let none : c.behind-rest.result.now ≡ [] = grind (arith, common_steps) in
+    none_behind c.args.octets.now c.args.index (omega arith) (rw none at c.behind-rest.ensures)
+
+pub read_group-requires-2 : goal.read_group-requires-2
+read_group-requires-2 c =
+    let rest = c.behind-rest.result.now in
+    parts_from_later rest (λ none. (grind (arith, common_steps, none))) (sound_behind root_rule c.args.octets.now rest c.args.index (omega arith) c.behind-rest.ensures c.requires)
+
+pub overflow_cast-result : goal.overflow_cast-result
+overflow_cast-result c =
+    let rest = c.behind-rest.result.now in
+    let small = later_small (cut rest) c.read_group-2.result.0 _ (sound_behind root_rule c.args.octets.now rest c.args.index (omega arith) c.behind-rest.ensures c.requires) c.read_group-2.ensures.numbers in
+    record { fits = omega arith }
 
 pub returns : goal.returns
-returns c =
-    let found : slice_get (cut c.args.octets.now) (c.args.index - 1) ≡ Some c.in_ok-part.field-0.now = search rules in
-    ap Some c.read_part.ensures ∙ sym (later_at (cut c.args.octets.now) c.args.index (omega arith) ∙ ap (option_map value_of) found)
+returns c = arc_behind c.args.octets.now c.behind-rest.result.now c.args.index c.read_group-2.result.0 _ (omega arith) c.behind-rest.ensures c.read_group-2.ensures.numbers

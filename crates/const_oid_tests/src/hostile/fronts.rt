@@ -1,0 +1,65 @@
+//! Every front of refused octets, whose groups are read whole.
+use crate::vectors::REFUSED_OCTETS;
+use const_oid::{Error, ObjectIdentifier, ObjectIdentifierRef};
+
+/// The fault of a group by itself, whose number is to be at most `limit`.
+fn group_fault(group: &[u8], limit: u64) -> Option<Error> {
+    let mut number = 0u64;
+    for octet in group {
+        let digit = (*octet % 128) as u64;
+        number = number.saturating_mul(128).saturating_add(digit);
+    }
+    match (group.first(), group.last()) {
+        (Some(0x80), _) => Some(Error::Base128),
+        _ if number > limit => Some(Error::ArcTooBig),
+        (_, Some(0..0x80)) => None,
+        _ => Some(Error::Base128),
+    }
+}
+
+/// The fault of octets, whose groups are read one after the other.
+fn octets_fault(octets: &[u8]) -> Option<Error> {
+    if octets.is_empty() {
+        return Some(Error::Empty);
+    }
+    // The first group holds two arcs, of which the first is 2 and adds 80.
+    let mut limit = 4294967375;
+    for group in octets.split_inclusive(|octet| *octet < 0x80) {
+        let fault = group_fault(group, limit);
+        if fault.is_some() {
+            return fault;
+        }
+        limit = 4294967295;
+    }
+    None
+}
+
+/// Whether both forms answer to every front by its groups.
+fn fronts_hold(octets: &[u8]) -> bool {
+    for end in 0..=octets.len() {
+        let front = octets.get(..end).unwrap_or(octets);
+        let fault = octets_fault(front);
+        if ObjectIdentifierRef::from_bytes(front).err() != fault
+            || ObjectIdentifier::from_bytes(front).err() != fault
+        {
+            return false;
+        }
+    }
+    true
+}
+
+/// How many refused octets hold, with all their fronts.
+fn refused_held() -> usize {
+    let mut held = 0usize;
+    for (octets, _) in &REFUSED_OCTETS {
+        if fronts_hold(octets) {
+            held = held.saturating_add(1);
+        }
+    }
+    held
+}
+
+#[test]
+fn of_refused_octets(rt: HostRuntime) {
+    assert!(rt; refused_held() == REFUSED_OCTETS.len());
+}
