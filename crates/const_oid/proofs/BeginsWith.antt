@@ -1,5 +1,6 @@
 -- What begins with a front: encodings do exactly where their arcs do, and stand together in list order.
-use Rattle.std.proofs.Common.{◌≡◌, ℕ, ◌+◌, ◌*◌, List, [], ◌∷◌, ◌++◌, refl, sym, ap, ap₂, ◌∙◌, append_assoc, ◌≢◌, ◌<◌, length, ⊎_elim, arith, Less, Greater, nat_cmp, append-nil, length-append, Bool, true, false, ◌||◌, drop, nat_eq}
+use Rattle.std.proofs.Common.{◌≡◌, ℕ, ◌+◌, ◌*◌, List, [], ◌∷◌, ◌++◌, refl, sym, ap, ap₂, ◌∙◌, append_assoc, ◌≢◌, ◌<◌, length, ⊎_elim, arith, Less, Greater, nat_cmp, append-nil, length-append, Bool, true, false, ◌||◌, drop, nat_eq, get_or}
+use Rattle.std.proofs.Math.Seq.{get_or-append_seam}
 use Rattle.std.specs.List.{AllZip, concat, starts_with}
 use Rattle.std.specs.Prelude.{◌↔◌}
 use Rattle.std.specs.Cmp.Lexicographic.{slice_cmp}
@@ -69,6 +70,16 @@ encoding_front rule (c ∷ d ∷ later) x a b e f (more, s) =
 pub told_begins : (rule : RootRule) (x p b a : List ℕ) (P : Type 0) → IsEncoding rule x b → IsEncoding rule p a → P ↔ BeginsWith b a → P ↔ BeginsWith x p
 told_begins rule x p b a P f e told =
     (λ t. arcs_front rule p x a b e f (told.0 t), λ h. told.1 (encoding_front rule p x a b e f h))
+
+-- what begins with a front and has a number behind it begins with both
+pub last_told : (list front : List ℕ) (x d : ℕ) → length front < length list → get_or list (length front) d ≡ x → BeginsWith list front ↔ BeginsWith list (front ++ x ∷ [])
+last_told list front x d l seen = (λ b. by b.0 b.1, λ h. (x ∷ h.0, h.1 ∙ append_assoc front (x ∷ []) h.0))
+  where
+    by : (rest : List ℕ) → list ≡ front ++ rest → BeginsWith list (front ++ x ∷ [])
+    by [] e = absurd (omega (arith, ap length e, length-append front []))
+    by (y ∷ ys) e =
+        let same : y ≡ x = sym (get_or-append_seam front y ys d) ∙ ap (λ zs. get_or zs (length front) d) (sym e) ∙ seen in
+        (ys, e ∙ ap (λ z. front ++ z ∷ ys) same ∙ sym (append_assoc front (x ∷ []) ys))
 
 -- ---- ranges in list order
 

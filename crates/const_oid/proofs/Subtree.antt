@@ -1,12 +1,13 @@
 -- Where a test cuts a sorted list, and where a sorted list holds the identifiers that begin with one.
-use Rattle.std.proofs.Common.{◌≡◌, ◌+◌, ◌<◌, ℕ, suc, Bool, true, false, cond, ◌||◌, List, [], ◌∷◌, length, get_or, count_by, refl, arith, sym, zero, ◌∙◌, ◌≤◌, ⊎_elim, nat_cmp}
+use Rattle.std.proofs.Common.{◌≡◌, ◌+◌, ◌<◌, ℕ, suc, Bool, true, false, cond, ◌||◌, List, [], ◌∷◌, length, get_or, count_by, refl, arith, sym, zero, ◌∙◌, ◌≤◌, ⊎_elim, nat_cmp, ◌-◌, ap, drop}
 use Rattle.std.specs.Prelude.{◌↔◌, IfSome, slice_get}
 use Rattle.std.specs.Cmp.{IsStrictWeakOrder}
 use Rattle.std.specs.List.{prefix_len}
 use Rattle.std.specs.List.Sorted.{IsSortedBy, IsPartitionedBy, IsPartitionPoint, IsSortedByKey}
 use Rattle.std.specs.Cmp.Lexicographic.{slice_cmp}
-use Rattle.std.proofs.lemmas.Bool.{false_from_ne_true}
+use Rattle.std.proofs.lemmas.Bool.{false_from_ne_true, or_right}
 use Rattle.std.proofs.lemmas.Grind.{common_steps}
+use Rattle.std.proofs.lemmas.List.{get_or-drop, length-drop}
 use Rattle.std.proofs.lemmas.List.Sorted.{sorted_far, ranks_by}
 use Rattle.std.proofs.lemmas.List.Sums.{sum_by-cons, sum_by-le}
 use Rattle.std.proofs.lemmas.Cmp.{nat_list_cmp_total}
@@ -53,19 +54,30 @@ point_is_prefix p (x ∷ xs) (suc a) l cut =
 pub point_is_count : {X : Type 0} (p : X → Bool) (xs : List X) (a : ℕ) → IsPartitionedBy p xs → a ≤ length xs → IsPartitionPoint (λ x. p x ≡ true) (λ x. p x ≡ false) xs a → a ≡ count_by p xs
 point_is_count p xs a by l cut = point_is_prefix p xs a l cut ∙ sym (count_by-prefix p xs by)
 
--- as many pass one of two tests that no element passes both of
-count_by-either : {X : Type 0} (p b : X → Bool) → ((x : X) → b x ≡ true → p x ≡ false) → (xs : List X) → count_by p xs + count_by b xs ≡ count_by (λ x. p x || b x) xs
-count_by-either p b apart [] = refl
-count_by-either p b apart (x ∷ xs) = grind (arith, common_steps, sum_by-cons (λ y. cond (p y) 1 0) x xs, sum_by-cons (λ y. cond (b y) 1 0) x xs, sum_by-cons (λ y. cond (p y || b y) 1 0) x xs, count_by-either p b apart xs, apart x)
+module _ {X : Type 0} (p b : X → Bool) (apart : (x : X) → b x ≡ true → p x ≡ false) (xs : List X) (from : ℕ) (first : IsPartitionPoint (λ x. p x ≡ true) (λ x. p x ≡ false) xs from) where
+  place_behind : (k : ℕ) (d : X) → from ≤ k → get_or (drop from xs) (k - from) d ≡ get_or xs k d
+  place_behind k d l = get_or-drop from xs (k - from) d ∙ ap (λ i. get_or xs i d) (omega arith)
 
-place : (from to k : ℕ) (p b : Bool) → (k < from → p ≡ true) → (from ≤ k → p ≡ false) → (k < to → (p || b) ≡ true) → (to ≤ k → (p || b) ≡ false) → (b ≡ true → p ≡ false) → (b ≡ true) ↔ ((from ≤ k) × (k < to))
-place from to k p b pa pb qa qb apart = (λ t. (grind (arith, common_steps), grind (arith, common_steps)), λ h. grind (arith, common_steps))
+  -- behind the cut of one test, what passes either of two is what passes the other
+  other_behind : IsPartitionedBy (λ x. p x || b x) xs → IsPartitionedBy b (drop from xs)
+  other_behind either i j d le l t =
+      let n = length-drop from xs in
+      let late = first.1 (from + i) d (omega arith) (omega (arith, n)) in
+      let passes = either (from + i) (from + j) d (omega arith) (omega (arith, n)) (or_right _ _ (rw (get_or-drop from xs j d) at t)) in
+      rw (get_or-drop from xs i d) (rw late at passes)
 
--- between the cut of one test and that of either stand those that pass the other
-between_points : {X : Type 0} (p b : X → Bool) → ((x : X) → b x ≡ true → p x ≡ false) → (xs : List X) (from to : ℕ) → IsPartitionPoint (λ x. p x ≡ true) (λ x. p x ≡ false) xs from → IsPartitionPoint (λ x. (p x || b x) ≡ true) (λ x. (p x || b x) ≡ false) xs to → (k : ℕ) (d : X) → k < length xs → (b (get_or xs k d) ≡ true) ↔ ((from ≤ k) × (k < to))
-between_points p b apart xs from to first second k d l =
-    let x = get_or xs k d in
-    place from to k (p x) (b x) (λ m. first.0 k d (omega arith) m) (λ m. first.1 k d m l) (λ m. second.0 k d (omega arith) m) (λ m. second.1 k d m l) (apart x)
+  place : (count k : ℕ) (q c : Bool) → (k < from → q ≡ true) → (from ≤ k → k < from + count → c ≡ true) → (from + count ≤ k → c ≡ false) → (c ≡ true → q ≡ false) → (c ≡ true) ↔ ((from ≤ k) × (k < from + count))
+  place count k q c early inside late apart = (λ t. (grind (arith, common_steps), grind (arith, common_steps)), λ h. inside h.0 h.1)
+
+  -- from there on to the other's cut stand those that pass it
+  between_points : (count : ℕ) → IsPartitionPoint (λ x. b x ≡ true) (λ x. b x ≡ false) (drop from xs) count → (k : ℕ) (d : X) → k < length xs → (b (get_or xs k d) ≡ true) ↔ ((from ≤ k) × (k < from + count))
+  between_points count second k d l =
+      let x = get_or xs k d in
+      place count k (p x) (b x)
+      (λ m. first.0 k d (omega arith) m)
+      (λ m n. rw (place_behind k d m) at (second.0 (k - from) d (omega arith) (omega arith)))
+      (λ m. rw (place_behind k d (omega arith)) at (second.1 (k - from) d (omega arith) (omega (arith, length-drop from xs))))
+      (apart x)
 
 -- ---- what stands before and under a front
 
@@ -87,11 +99,11 @@ module _ (front : ObjectIdentifierRef) where
   ref_under_apart : (oid : ObjectIdentifierRef) → ref_is_under oid ≡ true → ref_is_before oid ≡ false
   ref_under_apart oid = under_apart (ref_octets front) (ref_octets oid)
 
-  -- what stands where, by the places where the two tests cut the list
-  pub places_between : (sorted : List ObjectIdentifierRef) (from to : ℕ) → IsPartitionPoint (λ oid. ref_is_before oid ≡ true) (λ oid. ref_is_before oid ≡ false) sorted from → IsPartitionPoint (λ oid. ref_is_within oid ≡ true) (λ oid. ref_is_within oid ≡ false) sorted to → (k : ℕ) → IfSome (slice_get sorted k) (λ oid. BeginsWith (ref_arcs oid) (ref_arcs front) ↔ ((from ≤ k) × (k < to)))
-  places_between sorted from to first second k = ⊎_elim
+  -- what stands where, by the place where the one test cuts the list and that where the other cuts the rest
+  pub places_between : (sorted : List ObjectIdentifierRef) (from count : ℕ) → IsPartitionPoint (λ oid. ref_is_before oid ≡ true) (λ oid. ref_is_before oid ≡ false) sorted from → IsPartitionPoint (λ oid. ref_is_under oid ≡ true) (λ oid. ref_is_under oid ≡ false) (drop from sorted) count → (k : ℕ) → IfSome (slice_get sorted k) (λ oid. BeginsWith (ref_arcs oid) (ref_arcs front) ↔ ((from ≤ k) × (k < from + count)))
+  places_between sorted from count first second k = ⊎_elim
       (λ (oid, l, e, read).
-      let (places, inside) = rw read at (between_points ref_is_before ref_is_under ref_under_apart sorted from to first second k oid l) in
+      let (places, inside) = rw read at (between_points ref_is_before ref_is_under ref_under_apart sorted from first count second k oid l) in
       let (told, given) = ref_under_told oid in
       rw e (λ b. places (given b), λ h. told (inside h)))
       (λ (l, e). rw e tt)
@@ -104,9 +116,7 @@ module _ (front : ObjectIdentifierRef) where
     pub cut_before : IsPartitionedBy ref_is_before sorted
     cut_before = cut_by ref_is_before (λ x z. before_down (ref_octets front) (ref_octets x) (ref_octets z))
 
-    pub cut_within : IsPartitionedBy ref_is_within sorted
-    cut_within = cut_by ref_is_within (λ x z. within_down (ref_octets front) (ref_octets x) (ref_octets z))
-
-  -- no more stand before the front than before or under it
-  pub counted_to : (sorted : List ObjectIdentifierRef) → count_by ref_is_before sorted ≤ count_by ref_is_within sorted
-  counted_to sorted = omega (arith, count_by-either ref_is_before ref_is_under ref_under_apart sorted)
+    pub cut_behind : (from : ℕ) → IsPartitionPoint (λ oid. ref_is_before oid ≡ true) (λ oid. ref_is_before oid ≡ false) sorted from → IsPartitionedBy ref_is_under (drop from sorted)
+    cut_behind from first =
+        let either = cut_by ref_is_within (λ x z. within_down (ref_octets front) (ref_octets x) (ref_octets z)) in
+        other_behind ref_is_before ref_is_under ref_under_apart sorted from first either

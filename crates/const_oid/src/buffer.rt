@@ -64,6 +64,7 @@ impl<const SIZE: usize> Buffer<SIZE> {
     }
 
     /// Appends the group of a number, or answers `Length` where it does not fit.
+    #[inline(always)]
     pub(crate) fn push_group(&mut self, number: u64) -> Result<()>
         requires { number < 2 ^ 35 }
         ensures fits { let long = length (octets_of self.old) + width number in
@@ -72,8 +73,27 @@ impl<const SIZE: usize> Buffer<SIZE> {
         ensures appended { OnOk result (GoesOn number (octets_of self.old) (octets_of self.new)) }
         ensures unchanged { OnErr result (self.new ≡ self.old) }
     {
+        // The shortest group is the most frequent one.
+        if number < 128 {
+            self.push_octets(number, 1)
+        } else {
+            self.push_octets(number, group_len(number))
+        }
+    }
+
+    /// Appends the group of a number, which takes `count` octets, or answers `Length`.
+    #[inline(always)]
+    fn push_octets(&mut self, number: u64, count: usize) -> Result<()>
+        requires small { number < 2 ^ 35 }
+        requires wide { count ≡ width number }
+        ensures fits { let long = length (octets_of self.old) + count in
+            MatchResult result (λ _. long ≤ min SIZE 255)
+            (λ fault. (fault ≡ Error.Length) × (min SIZE 255 < long)) }
+        ensures appended { OnOk result (GoesOn number (octets_of self.old) (octets_of self.new)) }
+        ensures unchanged { OnErr result (self.new ≡ self.old) }
+    {
         let start = self.used as usize;
-        let end = start + group_len(number);
+        let end = start + count;
         if end > SIZE.min(255) {
             return Err(Error::Length);
         }
@@ -122,6 +142,7 @@ fn group_len(number: u64) -> usize
 }
 
 /// Fills a slice with the group of a number, which takes just so many octets.
+#[inline(always)]
 fn write_group(octets: &mut [u8], number: u64)
     requires small { number < 2 ^ 35 }
     requires wide { length octets.old ≡ width number }

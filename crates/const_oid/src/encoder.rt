@@ -64,27 +64,30 @@ impl<const SIZE: usize> Encoder<SIZE> {
     }
 
     /// Encodes one more arc.
+    #[inline(always)]
     pub(crate) fn arc(&mut self, arc: Arc) -> Result<()>
         ensures fault { result_err result ≡ arc_fault root_rule (min SIZE 255) self.old arc }
         ensures given { OnOk result (self.new ≡ self.old ++ arc ∷ []) }
         ensures unchanged { OnErr result (self.new ≡ self.old) }
     {
-        match self.state {
+        let number = match self.state {
             State::Initial => {
                 if arc > 2 {
                     return Err(Error::ArcInvalid { arc });
                 }
                 self.state = State::FirstArc(arc);
+                return Ok(());
             }
             State::FirstArc(first) => {
                 if arc > greatest_second(first) {
                     return Err(Error::ArcInvalid { arc });
                 }
-                self.octets.push_group(40 * first as u64 + arc as u64)?;
-                self.state = State::Body;
+                40 * first as u64 + arc as u64
             }
-            State::Body => self.octets.push_group(arc as u64)?,
-        }
+            State::Body => arc as u64,
+        };
+        self.octets.push_group(number)?;
+        self.state = State::Body;
         Ok(())
     }
 

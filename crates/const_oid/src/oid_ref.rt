@@ -111,8 +111,8 @@ impl<'a> ObjectIdentifierRef<'a> {
             BeginsWith (ref_arcs oid) (ref_arcs self.now) ↔ ((result.0 ≤ k) × (k < result.1))) }
     {
         let from = sorted.partition_point(|oid| *oid < *self);
-        let to = sorted.partition_point(|oid| *oid < *self || oid.ber.starts_with(self.ber));
-        (from, to)
+        let inside = sorted[from..].partition_point(|oid| oid.ber.starts_with(self.ber));
+        (from, from + inside)
     }
 }
 

@@ -64,7 +64,7 @@ pub(crate) fn before_last(octets: &[u8]) -> &[u8]
     }
 }
 
-/// Whether octets begin with others.
+/// Whether octets begin with others: the last of these first, since most pairs differ there.
 #[inline(always)]
 pub(crate) fn begins_with(octets: &[u8], front: &[u8]) -> bool
     ensures { IsTrue result ↔ ((rest : List ℕ) × (octets.now ≡ front.now ++ rest)) }
@@ -73,10 +73,16 @@ pub(crate) fn begins_with(octets: &[u8], front: &[u8]) -> bool
     if count > octets.len() {
         return false;
     }
-    are_equal(front, &octets[..count])
+    let Some((last, front)) = front.split_last() else {
+        return true;
+    };
+    if octets[count - 1] != *last {
+        return false;
+    }
+    are_equal(front, &octets[..count - 1])
 }
 
-/// Whether as many octets are the same: the first eight one by one, since most pairs differ there.
+/// Whether as many octets are the same: the first eight one by one, which costs short pairs no call.
 #[inline(always)]
 fn are_equal(a: &[u8], b: &[u8]) -> bool
     requires { length a.now ≡ length b.now }

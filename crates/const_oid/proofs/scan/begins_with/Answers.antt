@@ -1,13 +1,22 @@
-use Rattle.std.proofs.Common.{◌≡◌, length, take, nat_eq, rules}
+use Rattle.std.proofs.Common.{◌≡◌, ◌++◌, ◌∷◌, [], length, take, nat_eq, refl, rules}
 use Rattle.std.specs.Cmp.Lexicographic.{pointwise}
 use Rattle.std.proofs.lemmas.Bool.Decides.{Decides-eqb}
+use Rattle.std.proofs.lemmas.List.{nil_from_length}
 use Rattle.std.proofs.lemmas.Slice.Eq.{starts_is}
+use Rattle.const_oid.proofs.BeginsWith.{last_told}
 use Rattle.const_oid.proofs.scan.begins_with.Goals as goal
+
+pub returns-in_default : goal.returns-in_default
+returns-in_default c =
+    rw (nil_from_length c.args.front.now (search rules)) (λ t. (_, refl), λ h. refl)
 
 pub returns : goal.returns
 returns c =
     let octets = c.args.octets.now in
-    let front = c.args.front.now in
+    let front = c.in-Some.front.now in
+    let last = c.in-Some.last.now in
+    let joined : c.args.front.now ≡ front ++ last ∷ [] = search rules in
     let same : c.are_equal.result ≡ pointwise nat_eq front (take (length front) octets) = search rules in
     let is = starts_is Decides-eqb octets front c.are_equal.result same in
-    (λ t. (_, is.0 t), λ h. is.1 h.0 h.1)
+    let told = last_told octets front last 0 (search rules) (search rules) in
+    rw joined (λ t. told.0 (_, is.0 t), λ h. let b = told.1 h in is.1 b.0 b.1)

@@ -1,23 +1,10 @@
-use Rattle.std.proofs.Common.{arith}
-use Rattle.std.proofs.lemmas.Slice.{take-put_mid}
-use Rattle.const_oid.proofs.Groups.{length_is}
-use Rattle.const_oid.proofs.Octets.{octets_from_chain, zeros_written, octets_written}
+use Rattle.std.proofs.Common.{◌≡◌, arith}
+use Rattle.const_oid.specs.Base128.{width}
+use Rattle.const_oid.proofs.Groups.{width_is}
 use Rattle.const_oid.proofs.buffer.Buffer.push_group.Goals as goal
 
-pub invariant_of-self-clause-octets : goal.invariant_of-self-clause-octets
-invariant_of-self-clause-octets g c =
-    let group = c.write_group.new.octets in
-    let l = length_is c.args.number group c.write_group.ensures in
-    octets_written c.args.self.now.used c.group_len.result c.args.self.now.bytes group (omega arith) (omega arith) c.args.self.now.octets (octets_from_chain group c.write_group.ensures.chained)
-
-pub invariant_of-self-clause-zeros : goal.invariant_of-self-clause-zeros
-invariant_of-self-clause-zeros g c =
-    let group = c.write_group.new.octets in
-    let l = length_is c.args.number group c.write_group.ensures in
-    zeros_written g.row.SIZE c.args.self.now.used c.group_len.result c.args.self.now.bytes group (omega arith) (omega arith) c.args.self.now.zeros
-
-pub returns-clause-appended : goal.returns-clause-appended
-returns-clause-appended g c =
-    let group = c.write_group.new.octets in
-    let l = length_is c.args.number group c.write_group.ensures in
-    (group, c.write_group.ensures, take-put_mid _ _ c.args.self.now.bytes group _ (omega arith) (omega arith))
+pub returns-then-number-lt128-clause-fits : goal.returns-then-number-lt128-clause-fits
+returns-then-number-lt128-clause-fits g c =
+    let w = width_is c.args.number in
+    let one : width c.args.number ≡ 1 = omega (arith, w.positive, w.least 1 (omega arith) (omega arith)) in
+    rw one c.push_octets.ensures.fits
