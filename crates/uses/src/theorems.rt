@@ -1,10 +1,11 @@
 //! What callers want to know of identifiers, as contracts of small functions.
 
-ghost use Rattle.std.specs.Prelude.{◌≡◌, ◌≢◌, ◌<◌, ◌↔◌, [], ◌∷◌, length, IsTrue, IsSome};
-ghost use Rattle.std.specs.Prelude.{IfOk, IfSome, IsOkAnd, IsSomeAnd};
+ghost use Rattle.std.specs.Prelude.{◌≡◌, ◌≢◌, ◌<◌, ◌≤◌, ◌↔◌, [], ◌∷◌, length, IsTrue, IsSome};
+ghost use Rattle.std.specs.Prelude.{IfOk, IfSome, IsOk, IsOkAnd, IsSomeAnd};
 ghost use Rattle.std.specs.declared.cmp.Ordering.TheVariants.{Less};
+ghost use Rattle.const_oid.specs.Identifier.{size};
 ghost use Rattle.const_oid.specs.Oid.{oid_arcs};
-ghost use Rattle.const_oid.specs.Tree.{BeginsWith};
+ghost use Rattle.const_oid.specs.Tree.{BeginsWith, child_of};
 
 use const_oid::{Arc, ObjectIdentifier, Result};
 use std::alloc::{AllocError, Global};
@@ -40,7 +41,8 @@ pub fn is_enterprise(oid: &ObjectIdentifier<39>) -> bool
 
 /// The parent of a child is the identifier that it was made of.
 pub fn parent_of_child(oid: ObjectIdentifier<39>, arc: Arc) -> Result<Option<ObjectIdentifier<39>>>
-    ensures { IfOk result (λ parent. IsSomeAnd parent (λ parent. oid_arcs parent ≡ oid_arcs oid)) }
+    ensures fits { IsOk result ↔ (size (child_of (oid_arcs oid) arc) ≤ 39) }
+    ensures same { IfOk result (λ parent. IsSomeAnd parent (λ parent. oid_arcs parent ≡ oid_arcs oid)) }
 {
     Ok(oid.push_arc(arc)?.parent())
 }

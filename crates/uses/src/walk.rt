@@ -1,6 +1,6 @@
 //! A walk over identifiers in order, as an agent of SNMP makes it.
 
-ghost use Rattle.std.specs.Prelude.{◌≡◌, ◌≤◌, ◌<◌, ◌↔◌, ℕ, IfSome, find, slice_get};
+ghost use Rattle.std.specs.Prelude.{◌≡◌, ◌≤◌, ◌<◌, ◌↔◌, ℕ, IfSome, IsSome, find, slice_get};
 ghost use Rattle.std.specs.Cmp.Lexicographic.{slice_cmp};
 ghost use Rattle.std.specs.List.Sorted.{IsSortedByKey};
 ghost use Rattle.std.specs.Ordering.{nat_cmp, is_lt};
@@ -28,7 +28,8 @@ pub fn places(
     oids: &[ObjectIdentifierRef<'_>],
     front: &ObjectIdentifierRef<'_>,
 ) -> Option<(usize, usize)>
-    ensures { IfSome result (λ places. (k : ℕ) → IfSome (slice_get oids.now k) (λ oid.
+    ensures sorted { IsSome result ↔ IsSortedByKey ref_octets (slice_cmp nat_cmp) oids.now }
+    ensures places { IfSome result (λ places. (k : ℕ) → IfSome (slice_get oids.now k) (λ oid.
         BeginsWith (ref_arcs oid) (ref_arcs front.now) ↔ ((places.0 ≤ k) × (k < places.1)))) }
 {
     if oids.is_sorted() {
