@@ -6,7 +6,6 @@ use crate::formatter::{prints, writes_of};
 use const_oid::Error;
 use std::alloc::AllocError;
 use std::cmp::Ordering;
-use std::test::Fail;
 
 /// `==` is true exactly for the same variant with the same number.
 fn same(a: Error, b: Error) -> bool
@@ -30,7 +29,7 @@ fn cloned(error: &Error) -> Result<Error, AllocError>
 }
 
 #[test]
-fn told_apart(rt: HostRuntime) -> Result<(), Fail> {
+fn told_apart(rt: HostRuntime) -> Result<(), AllocError> {
     let error = Error::ArcInvalid { arc: 40 };
     assert!(rt; same(error, cloned(&error)?));
     assert!(rt; !same(error, Error::ArcInvalid { arc: 3 }));
@@ -87,6 +86,6 @@ fn messages(rt: HostRuntime) {
 #[test]
 fn a_refused_write_is_told(rt: HostRuntime) {
     for (error, text) in &MESSAGES {
-        assert!(rt; writes_of(error).is_some_and(|writes| writes > 0), "{text}");
+        assert!(rt; matches!(writes_of(error), Some(1..)), "{text}");
     }
 }

@@ -6,8 +6,7 @@ mod names;
 mod octets;
 mod texts;
 
-/// An identifier as its text, its contents octets and its arcs.
-type Row = (&'static str, &'static [u8], &'static [u32]);
+use crate::vectors::Row;
 
 /// First groups at the edges of one to five octets.
 const FIRST_GROUPS: [Row; 8] = [

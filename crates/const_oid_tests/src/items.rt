@@ -4,10 +4,9 @@ ghost use Rattle.const_oid.specs.Identifier.{root_rule};
 ghost use Rattle.const_oid.specs.Items.{item_answer};
 ghost use Rattle.const_oid.specs.Oid.{oid_arcs, oid_answer};
 
-use crate::vectors::ACCEPTED;
+use crate::vectors::accepted_rows;
 use const_oid::{Arc, Arcs, Error, ObjectIdentifier, Result};
 use std::alloc::Global;
-use std::test::Fail;
 
 fn from_array(arcs: [Arc; 3]) -> Result<ObjectIdentifier<39>>
     ensures { oid_answer result ≡ item_answer root_rule arcs }
@@ -40,19 +39,27 @@ fn again(oid: &ObjectIdentifier<39>) -> Result<ObjectIdentifier<39>>
     from_rest(oid.arcs())
 }
 
+/// Whether these octets were made.
+fn is_encoded(made: Result<ObjectIdentifier<39>>, octets: &[u8]) -> bool {
+    match made {
+        Ok(oid) => oid.as_bytes() == octets,
+        Err(_) => false,
+    }
+}
+
 /// Whether arcs have this encoding: those of a slice, of a list and of an identifier.
 fn encodes(alloc: Global, arcs: &[Arc], octets: &[u8]) -> bool {
     let (Ok(oid), Ok(list)) = (from_slice(arcs), arcs.to_vec(alloc)) else {
         return false;
     };
     oid.as_bytes() == octets
-        && again(&oid).is_ok_and(|oid| oid.as_bytes() == octets)
-        && from_vec(list).is_ok_and(|oid| oid.as_bytes() == octets)
+        && is_encoded(again(&oid), octets)
+        && is_encoded(from_vec(list), octets)
 }
 
 #[test]
 fn accepted(rt: HostRuntime) {
-    for (text, octets, arcs) in &ACCEPTED {
+    for (text, octets, arcs) in accepted_rows() {
         assert!(rt; encodes(rt.alloc(), arcs, octets), "{text}");
     }
 }
@@ -67,10 +74,7 @@ const ARRAYS: [([Arc; 3], &[u8]); 3] = [
 #[test]
 fn arrays(rt: HostRuntime) {
     for (arcs, octets) in &ARRAYS {
-        assert!(rt;
-            from_array(*arcs).is_ok_and(|oid| oid.as_bytes() == *octets),
-            "{arcs:?}"
-        );
+        assert!(rt; is_encoded(from_array(*arcs), octets), "{arcs:?}");
     }
 }
 
@@ -92,14 +96,20 @@ fn refused(rt: HostRuntime) {
     }
 }
 
+/// Whether arcs fill the capacity of 39.
+fn fills(arcs: &[Arc]) -> bool {
+    match from_slice(arcs) {
+        Ok(oid) => oid.as_bytes().len() == 39 && oid.len() == 40,
+        Err(_) => false,
+    }
+}
+
 /// 1.2 and 38 more arcs fill the capacity, and nothing behind the next arc matters.
 #[test]
-fn capacity(rt: HostRuntime) -> std::result::Result<(), Fail> {
+fn capacity(rt: HostRuntime) {
     let mut arcs = [1; 60];
     arcs[1] = 2;
-    let longest = from_slice(&arcs[..40])?;
-    assert!(rt; longest.as_bytes().len() == 39 && longest.len() == 40);
+    assert!(rt; fills(&arcs[..40]));
     assert!(rt; from_slice(&arcs[..41]).err() == Some(Error::Length));
     assert!(rt; from_slice(&arcs).err() == Some(Error::Length));
-    Ok(())
 }

@@ -7,13 +7,12 @@ ghost use Rattle.const_oid.specs.Oid.{oid_octets, oid_arcs};
 ghost use Rattle.const_oid.specs.OidRef.{ref_octets, ref_arcs};
 ghost use Rattle.const_oid.specs.Orders.{short_cmp};
 
-use crate::vectors::{ACCEPTED, ASCENDING};
+use crate::vectors::{ASCENDING, accepted_rows};
 use const_oid::{ObjectIdentifier, ObjectIdentifierRef};
 use std::alloc::AllocError;
 use std::cmp::Ordering;
 use std::collections::{BTreeMap, HashMap};
 use std::result::Result;
-use std::test::Fail;
 
 fn has_same_arcs<const N: usize>(a: &ObjectIdentifier<N>, b: &ObjectIdentifier<N>) -> bool
     ensures { IsTrue result ↔ (oid_arcs a.now ≡ oid_arcs b.now) }
@@ -71,6 +70,14 @@ const SHORT_FIRST: [&[u8]; 14] = [
     &[0x2A, 0x81, 0x80, 0x00],
 ];
 
+/// Whether an owned identifier is equal to the clone of another.
+fn equals_clone(a: &ObjectIdentifier<39>, b: &ObjectIdentifier<39>) -> Option<bool> {
+    match clone_of(b) {
+        Ok(copy) => Some(has_same_arcs(a, &copy)),
+        Err(_) => None,
+    }
+}
+
 /// Whether two owned identifiers stand so, and are equal where they tie.
 fn stand(a: &[u8], b: &[u8], order: Ordering) -> bool {
     let (Ok(a), Ok(b)) = (
@@ -81,7 +88,15 @@ fn stand(a: &[u8], b: &[u8], order: Ordering) -> bool {
     };
     order_of(&a, &b) == order
         && (a < b) == (order == Ordering::Less)
-        && clone_of(&b).is_ok_and(|copy| has_same_arcs(&a, &copy) == (order == Ordering::Equal))
+        && equals_clone(&a, &b) == Some(order == Ordering::Equal)
+}
+
+/// Whether a borrowed identifier is equal to the clone of another.
+fn ref_equals_clone(a: &ObjectIdentifierRef<'_>, b: &ObjectIdentifierRef<'_>) -> Option<bool> {
+    match ref_clone_of(b) {
+        Ok(copy) => Some(ref_has_same_arcs(a, &copy)),
+        Err(_) => None,
+    }
 }
 
 /// Whether two borrowed identifiers stand so, and are equal where they tie.
@@ -94,8 +109,7 @@ fn refs_stand(a: &[u8], b: &[u8], order: Ordering) -> bool {
     };
     ref_order_of(&a, &b) == order
         && (a < b) == (order == Ordering::Less)
-        && ref_clone_of(&b).is_ok_and(|copy| ref_has_same_arcs(&a, &copy)
-            == (order == Ordering::Equal))
+        && ref_equals_clone(&a, &b) == Some(order == Ordering::Equal)
 }
 
 #[test]
@@ -136,30 +150,60 @@ fn find(hashed: &Hashed, sorted: &Sorted, text: &str, number: usize) -> bool {
     hashed.get(&oid).copied() == Some(number) && sorted.get(&oid).copied() == Some(number)
 }
 
+/// The first text whose key the maps do not take.
+fn not_kept(hashed: &mut Hashed, sorted: &mut Sorted) -> Option<&'static str> {
+    for (text, octets, arcs) in accepted_rows() {
+        if !keep(hashed, sorted, octets, arcs.len()) {
+            return Some(text);
+        }
+    }
+    None
+}
+
+/// The first text whose key the maps do not have.
+fn not_found(hashed: &Hashed, sorted: &Sorted) -> Option<&'static str> {
+    for (text, _, arcs) in accepted_rows() {
+        if !find(hashed, sorted, text, arcs.len()) {
+            return Some(text);
+        }
+    }
+    None
+}
+
 #[test]
 fn finds_keys(rt: HostRuntime) {
     let mut hashed = HashMap::new(rt.alloc());
     let mut sorted = BTreeMap::new(rt.alloc());
-    for (text, octets, arcs) in &ACCEPTED {
-        assert!(rt;
-            keep(&mut hashed, &mut sorted, octets, arcs.len()),
-            "{text}"
-        );
+    let text = not_kept(&mut hashed, &mut sorted);
+    assert!(rt; text.is_none(), "{text:?}");
+    assert!(rt; hashed.len() == accepted_rows().len());
+    let text = not_found(&hashed, &sorted);
+    assert!(rt; text.is_none(), "{text:?}");
+}
+
+type Names<'a> = HashMap<ObjectIdentifierRef<'a>, &'static str>;
+
+/// Whether a map took a name of these octets.
+fn takes<'a>(names: &mut Names<'a>, octets: &'a [u8], name: &'static str) -> bool {
+    match ObjectIdentifierRef::from_bytes(octets) {
+        Ok(oid) => names.insert(oid, name).is_ok(),
+        Err(_) => false,
     }
-    assert!(rt; hashed.len() == ACCEPTED.len());
-    for (text, _, arcs) in &ACCEPTED {
-        assert!(rt; find(&hashed, &sorted, text, arcs.len()), "{text}");
+}
+
+/// Whether a map has this name of these octets, or none.
+fn has_name(names: &Names<'_>, octets: &[u8], wanted: Option<&str>) -> bool {
+    match ObjectIdentifierRef::from_bytes(octets) {
+        Ok(oid) => names.get(&oid).copied() == wanted,
+        Err(_) => false,
     }
 }
 
 #[test]
-fn hash_map_finds_an_equal_value(rt: HostRuntime) -> Result<(), Fail> {
+fn hash_map_finds_an_equal_value(rt: HostRuntime) {
     let octets: &[u8] = &[0x2A, 0x03, 0x2A, 0x03];
     let mut names = HashMap::new(rt.alloc());
-    names.insert(ObjectIdentifierRef::from_bytes(&octets[..2])?, "1.2.3")?;
-    let same = ObjectIdentifierRef::from_bytes(&octets[2..])?;
-    let other = ObjectIdentifierRef::from_bytes(&octets[2..3])?;
-    assert!(rt; names.get(&same).copied() == Some("1.2.3"));
-    assert!(rt; names.get(&other).is_none());
-    Ok(())
+    assert!(rt; takes(&mut names, &octets[..2], "1.2.3"));
+    assert!(rt; has_name(&names, &octets[2..], Some("1.2.3")));
+    assert!(rt; has_name(&names, &octets[2..3], None));
 }

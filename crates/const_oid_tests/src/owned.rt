@@ -3,10 +3,9 @@
 ghost use Rattle.std.specs.Prelude.{◌≡◌, ◌≤◌};
 
 use crate::formatter::is_printed;
-use crate::vectors::{ACCEPTED, REFUSED_OCTETS, long_octets};
+use crate::vectors::{accepted_rows, long_octets, refused_octets};
 use const_oid::{Arc, Error, ObjectIdentifier, ObjectIdentifierRef};
-use std::alloc::Global;
-use std::test::Fail;
+use std::alloc::{AllocError, Global};
 
 /// Whether an identifier has these arcs.
 fn has_arcs(oid: &ObjectIdentifier<39>, arcs: &[Arc]) -> bool {
@@ -32,14 +31,14 @@ fn reads(alloc: Global, text: &str, octets: &[u8], arcs: &[Arc]) -> bool {
 
 #[test]
 fn accepted(rt: HostRuntime) {
-    for (text, octets, arcs) in &ACCEPTED {
+    for (text, octets, arcs) in accepted_rows() {
         assert!(rt; reads(rt.alloc(), text, octets, arcs), "{text}");
     }
 }
 
 #[test]
 fn refused(rt: HostRuntime) {
-    for (octets, error) in &REFUSED_OCTETS {
+    for (octets, error) in refused_octets() {
         assert!(rt;
             ObjectIdentifier::from_bytes(octets).err() == Some(*error),
             "{octets:?}"
@@ -120,7 +119,7 @@ const LONG: [(usize, usize, &[u8], Option<Error>); 11] = [
 ];
 
 #[test]
-fn keeps_to_the_most_octets(rt: HostRuntime) -> Result<(), Fail> {
+fn keeps_to_the_most_octets(rt: HostRuntime) -> Result<(), AllocError> {
     for (capacity, count, end, error) in &LONG {
         let octets = long_octets(rt.alloc(), &[0x2A], *count, end)?;
         assert!(rt;
@@ -131,25 +130,37 @@ fn keeps_to_the_most_octets(rt: HostRuntime) -> Result<(), Fail> {
     Ok(())
 }
 
-/// Whether a copy of a borrowed identifier, at a capacity, is equal to it.
-fn is_copied<const N: usize>(borrowed: ObjectIdentifierRef<'_>) -> bool
+/// Whether a copy of a borrowed identifier, at a capacity, is equal to it, or is refused by this error.
+fn copies<const N: usize>(octets: &[u8], error: Option<Error>) -> bool
     requires { N ≤ 300 }
 {
+    let Ok(borrowed) = ObjectIdentifierRef::from_bytes(octets) else {
+        return false;
+    };
     match ObjectIdentifier::<N>::try_from_ref(borrowed) {
-        Ok(oid) => oid.as_bytes() == borrowed.as_bytes() && borrowed.eq_oid(&oid),
-        Err(_) => false,
+        Ok(oid) => {
+            error.is_none() && oid.as_bytes() == borrowed.as_bytes() && borrowed.eq_oid(&oid)
+        }
+        Err(fault) => error == Some(fault),
     }
 }
 
+/// Whether a borrowed identifier and an owned one are not equal.
+fn differ(borrowed: &[u8], owned: &[u8]) -> bool {
+    let (Ok(borrowed), Ok(owned)) = (
+        ObjectIdentifierRef::from_bytes(borrowed),
+        ObjectIdentifier::from_bytes(owned),
+    ) else {
+        return false;
+    };
+    !borrowed.eq_oid(&owned)
+}
+
 #[test]
-fn copies_a_borrowed_identifier(rt: HostRuntime) -> Result<(), Fail> {
-    let short = ObjectIdentifierRef::from_bytes(&[0x2A, 0x03])?;
-    let long = ObjectIdentifierRef::from_bytes(&[0x2A, 0xFF, 0x7F])?;
-    assert!(rt; is_copied::<2>(short));
-    assert!(rt; is_copied::<300>(short));
-    assert!(rt; is_copied::<3>(long));
-    assert!(rt; ObjectIdentifier::<2>::try_from_ref(long).err() == Some(Error::Length));
-    let other = ObjectIdentifierRef::from_bytes(&[0x2A, 0x81, 0x00])?;
-    assert!(rt; !other.eq_oid(&ObjectIdentifier::from_bytes(&[0x2A, 0x01])?));
-    Ok(())
+fn copies_a_borrowed_identifier(rt: HostRuntime) {
+    assert!(rt; copies::<2>(&[0x2A, 0x03], None));
+    assert!(rt; copies::<300>(&[0x2A, 0x03], None));
+    assert!(rt; copies::<3>(&[0x2A, 0xFF, 0x7F], None));
+    assert!(rt; copies::<2>(&[0x2A, 0xFF, 0x7F], Some(Error::Length)));
+    assert!(rt; differ(&[0x2A, 0x81, 0x00], &[0x2A, 0x01]));
 }

@@ -3,8 +3,7 @@
 use crate::formatter::{has_length, is_printed, prints, writes_of};
 use crate::vectors::{long_octets, long_text};
 use const_oid::{ObjectIdentifier, ObjectIdentifierRef};
-use std::alloc::Global;
-use std::test::Fail;
+use std::alloc::{AllocError, Global};
 
 /// Octets of up to 39, and what they print.
 const ROWS: [(&[u8], &str); 5] = [
@@ -62,44 +61,64 @@ fn printed_lengths(rt: HostRuntime) {
     }
 }
 
+/// Whether a borrowed identifier prints as this text for those who look for faults.
+fn shows_borrowed(alloc: Global, octets: &[u8], text: &str) -> bool {
+    match ObjectIdentifierRef::from_bytes(octets) {
+        Ok(oid) => is_printed(format!(in alloc; "{oid:?}"), text),
+        Err(_) => false,
+    }
+}
+
+/// The same for an owned identifier.
+fn shows_owned(alloc: Global, octets: &[u8], text: &str) -> bool {
+    match ObjectIdentifier::from_bytes(octets) {
+        Ok(oid) => is_printed(format!(in alloc; "{oid:?}"), text),
+        Err(_) => false,
+    }
+}
+
 #[test]
-fn debug(rt: HostRuntime) -> Result<(), Fail> {
-    let borrowed = ObjectIdentifierRef::from_bytes(&[0x2A, 0x03])?;
-    let owned = ObjectIdentifier::from_bytes(&[0x2A, 0x03])?;
-    assert!(rt;
-        is_printed(
-            format!(in rt.alloc(); "{borrowed:?}"),
-            "ObjectIdentifierRef(1.2.3)"
-        )
-    );
-    assert!(rt;
-        is_printed(
-            format!(in rt.alloc(); "{owned:?}"),
-            "ObjectIdentifier(1.2.3)"
-        )
-    );
+fn debug(rt: HostRuntime) {
+    assert!(rt; shows_borrowed(rt.alloc(), &[0x2A, 0x03], "ObjectIdentifierRef(1.2.3)"));
+    assert!(rt; shows_owned(rt.alloc(), &[0x2A, 0x03], "ObjectIdentifier(1.2.3)"));
+}
+
+/// Whether a capacity of 300 prints octets as this text, and as the other one for those who look for
+/// faults.
+fn prints_both(alloc: Global, octets: &[u8], text: &str, shown: &str) -> bool {
+    match ObjectIdentifier::<300>::from_bytes_sized(octets) {
+        Ok(oid) => prints(alloc, &oid, text) && is_printed(format!(in alloc; "{oid:?}"), shown),
+        Err(_) => false,
+    }
+}
+
+/// Whether 255 octets of as many arcs and one more are printed.
+fn prints_the_longest(alloc: Global) -> Result<bool, AllocError> {
+    let octets = long_octets(alloc, &[0x2A], 254, &[])?;
+    let text = long_text(alloc, "1.2", 254, "")?;
+    let shown = long_text(alloc, "ObjectIdentifier(1.2", 254, ")")?;
+    Ok(prints_both(alloc, octets.as_slice(), text.as_str(), shown.as_str()))
+}
+
+#[test]
+fn the_longest(rt: HostRuntime) -> Result<(), AllocError> {
+    assert!(rt; prints_the_longest(rt.alloc())?);
     Ok(())
 }
 
-/// 255 octets of as many arcs and one more.
-#[test]
-fn the_longest(rt: HostRuntime) -> Result<(), Fail> {
-    let octets = long_octets(rt.alloc(), &[0x2A], 254, &[])?;
-    let text = long_text(rt.alloc(), "1.2", 254, "")?;
-    let oid = ObjectIdentifier::<300>::from_bytes_sized(octets.as_slice())?;
-    assert!(rt; prints(rt.alloc(), &oid, text.as_str()));
-    let wanted = long_text(rt.alloc(), "ObjectIdentifier(1.2", 254, ")")?;
-    assert!(rt; is_printed(format!(in rt.alloc(); "{oid:?}"), wanted.as_str()));
-    Ok(())
+/// Whether both forms are printed in seven writes or more, each of which, refused, is told.
+fn both_tell(octets: &[u8]) -> bool {
+    let (Ok(borrowed), Ok(owned)) = (
+        ObjectIdentifierRef::from_bytes(octets),
+        ObjectIdentifier::from_bytes(octets),
+    ) else {
+        return false;
+    };
+    matches!(writes_of(&borrowed), Some(7..)) && matches!(writes_of(&owned), Some(7..))
 }
 
 /// Each write that is refused is told, whichever it is.
 #[test]
-fn a_refused_write_is_told(rt: HostRuntime) -> Result<(), Fail> {
-    let octets = [0x2A, 0x86, 0x48, 0x86, 0xF7, 0x0D, 0x01, 0x01, 0x01];
-    let borrowed = ObjectIdentifierRef::from_bytes(&octets)?;
-    let owned = ObjectIdentifier::from_bytes(&octets)?;
-    assert!(rt; writes_of(&borrowed).is_some_and(|writes| writes >= 7));
-    assert!(rt; writes_of(&owned).is_some_and(|writes| writes >= 7));
-    Ok(())
+fn a_refused_write_is_told(rt: HostRuntime) {
+    assert!(rt; both_tell(&[0x2A, 0x86, 0x48, 0x86, 0xF7, 0x0D, 0x01, 0x01, 0x01]));
 }

@@ -11,7 +11,6 @@ use const_oid::ObjectIdentifierRef;
 use std::alloc::{AllocError, Global};
 use std::collections::BTreeSet;
 use std::result::Result;
-use std::test::Fail;
 
 /// Sorts identifiers, and gives the places of those that begin with one.
 fn sorted_subtree(
@@ -37,22 +36,50 @@ fn first_under<'a>(
     if from < to { Some(sorted[from]) } else { None }
 }
 
-/// Whether a list has this range under a front, in any order of it, and a first one where it is not empty.
-fn ranges(
-    alloc: Global,
-    list: &[&[u8]],
-    front: &[u8],
-    range: (usize, usize),
-) -> Result<bool, Fail> {
-    let front = ObjectIdentifierRef::from_bytes(front)?;
+/// Whether a list took an identifier.
+fn takes<'a>(oids: &mut Vec<ObjectIdentifierRef<'a>>, ber: &'a [u8]) -> bool {
+    match ObjectIdentifierRef::from_bytes(ber) {
+        Ok(oid) => oids.push(oid).is_ok(),
+        Err(_) => false,
+    }
+}
+
+/// The identifiers of a list, if all are read.
+fn read<'a>(alloc: Global, list: &[&'a [u8]]) -> Option<Vec<ObjectIdentifierRef<'a>>> {
     let mut oids = Vec::new(alloc);
     for ber in list {
-        oids.push(ObjectIdentifierRef::from_bytes(ber)?)?;
+        if !takes(&mut oids, ber) {
+            return None;
+        }
     }
-    let found = sorted_subtree(&front, &mut oids)?;
-    oids.sort()?;
-    let is_found = first_under(&front, &oids).is_some();
-    Ok(found == range && is_found == (range.0 < range.1))
+    Some(oids)
+}
+
+/// Whether this range was found.
+fn is_found(found: Result<(usize, usize), AllocError>, range: (usize, usize)) -> bool {
+    match found {
+        Ok(found) => found == range,
+        Err(_) => false,
+    }
+}
+
+/// Whether a list, sorted, has an identifier that begins with one, or has none.
+fn has_first(
+    front: &ObjectIdentifierRef<'_>,
+    oids: &mut Vec<ObjectIdentifierRef<'_>>,
+    wanted: bool,
+) -> bool {
+    oids.sort().is_ok() && first_under(front, oids).is_some() == wanted
+}
+
+/// Whether a list has this range under a front, in any order of it, and a first one where it is not empty.
+fn ranges(alloc: Global, list: &[&[u8]], front: &[u8], range: (usize, usize)) -> bool {
+    let (Ok(front), Some(mut oids)) = (ObjectIdentifierRef::from_bytes(front), read(alloc, list))
+    else {
+        return false;
+    };
+    is_found(sorted_subtree(&front, &mut oids), range)
+        && has_first(&front, &mut oids, range.0 < range.1)
 }
 
 /// Lists, a front, and the range of those that begin with it.
@@ -68,11 +95,10 @@ const ROWS: [(&[&[u8]], &[u8], (usize, usize)); 8] = [
 ];
 
 #[test]
-fn gives_the_range_of_a_subtree(rt: HostRuntime) -> Result<(), Fail> {
+fn gives_the_range_of_a_subtree(rt: HostRuntime) {
     for (list, front, range) in &ROWS {
-        assert!(rt; ranges(rt.alloc(), list, front, *range)?, "{front:?}");
+        assert!(rt; ranges(rt.alloc(), list, front, *range), "{front:?}");
     }
-    Ok(())
 }
 
 /// Whether a set took an identifier.
@@ -83,9 +109,10 @@ fn keeps<'a>(oids: &mut BTreeSet<ObjectIdentifierRef<'a>>, ber: &'a [u8]) -> boo
     }
 }
 
-/// Whether an identifier begins with 1.2.
-fn is_under(oid: &ObjectIdentifierRef<'_>) -> bool {
-    oid.arc(0) == Some(1) && oid.arc(1) == Some(2)
+/// Whether an identifier begins with 1.2 exactly where it stands at one of the places 1 to 7.
+fn stands(oid: &ObjectIdentifierRef<'_>, place: usize) -> bool {
+    let is_under = oid.arc(0) == Some(1) && oid.arc(1) == Some(2);
+    is_under == (1..8).contains(&place)
 }
 
 #[test]
@@ -96,6 +123,6 @@ fn ordered_set_holds_a_subtree_together(rt: HostRuntime) {
     }
     assert!(rt; oids.len() == ASCENDING.len());
     for (place, oid) in oids.iter().enumerate() {
-        assert!(rt; is_under(oid) == (1..8).contains(&place), "{oid}");
+        assert!(rt; stands(oid, place), "{oid}");
     }
 }

@@ -3,8 +3,7 @@
 use crate::formatter::is_printed;
 use crate::vectors::long_text;
 use const_oid::{Error, ObjectIdentifier};
-use std::alloc::Global;
-use std::test::Fail;
+use std::alloc::{AllocError, Global};
 
 /// Texts that are refused, and the error.
 pub const REFUSED: [(&str, Error); 45] = [
@@ -119,7 +118,7 @@ fn fills(text: &str, error: Option<Error>) -> bool {
 }
 
 #[test]
-fn longest(rt: HostRuntime) -> Result<(), Fail> {
+fn longest(rt: HostRuntime) -> Result<(), AllocError> {
     for (front, count, end, error) in &LONG {
         let text = long_text(rt.alloc(), front, *count, end)?;
         assert!(rt; fills(text.as_str(), *error), "{text}");

@@ -5,7 +5,8 @@ ghost use Rattle.const_oid.specs.Oid.{oid_arcs};
 
 use const_oid::traits::position_of;
 use const_oid::{AssociatedOid, DynAssociatedOid, ObjectIdentifier};
-use std::test::Fail;
+use std::alloc::{AllocError, Global};
+use std::result::Result;
 
 /// A type with the identifier 1.2.3.
 #[derive(Drop)]
@@ -46,34 +47,60 @@ fn of_a_type(rt: HostRuntime) {
     assert!(rt; oid_of(&Unit).as_bytes() == [0x2A, 0x03].as_slice());
 }
 
-#[test]
-fn first_place(rt: HostRuntime) -> Result<(), Fail> {
-    let alloc = rt.alloc();
-    let three = ObjectIdentifier::new("1.2.3")?;
-    let name = ObjectIdentifier::new("2.5.4.3")?;
-    let other = ObjectIdentifier::new("1.2")?;
-    let mut values: Vec<Box<dyn DynAssociatedOid + Drop>> = Vec::new(alloc);
-    assert!(rt; position_of(&values, &three).is_none());
-    for oid in [three, name, three] {
-        values.push(Box::new(alloc, Held { oid })?)?;
-    }
-    for (oid, place) in [(three, Some(0)), (name, Some(1)), (other, None)] {
-        assert!(rt; position_of(&values, &oid) == place, "{oid}");
-    }
-    Ok(())
+/// A value that holds the identifier of a text.
+fn make_held(alloc: Global, text: &str) -> Option<Box<Held>> {
+    let oid = ObjectIdentifier::new(text).ok()?;
+    Box::new(alloc, Held { oid }).ok()
 }
 
-/// A value of a type with an identifier, and one that holds it, in both orders.
+/// The first place of an identifier among values that hold those of some texts, if these are made.
+fn place_among(alloc: Global, held: &[&str], oid: &ObjectIdentifier<39>) -> Option<Option<usize>> {
+    let mut values: Vec<Box<dyn DynAssociatedOid + Drop>> = Vec::new(alloc);
+    for text in held {
+        values.push(make_held(alloc, text)?).ok()?;
+    }
+    Some(position_of(&values, oid))
+}
+
+/// Whether the identifier of a text stands at this place first, or at none.
+fn stands(alloc: Global, held: &[&str], text: &str, place: Option<usize>) -> bool {
+    match ObjectIdentifier::new(text) {
+        Ok(oid) => place_among(alloc, held, &oid) == Some(place),
+        Err(_) => false,
+    }
+}
+
+/// The texts of identifiers that values hold, another text, and the first place of its identifier.
+const PLACES: [(&[&str], &str, Option<usize>); 4] = [
+    (&[], "1.2.3", None),
+    (&["1.2.3", "2.5.4.3", "1.2.3"], "1.2.3", Some(0)),
+    (&["1.2.3", "2.5.4.3", "1.2.3"], "2.5.4.3", Some(1)),
+    (&["1.2.3", "2.5.4.3", "1.2.3"], "1.2", None),
+];
+
 #[test]
-fn of_both_kinds(rt: HostRuntime) -> Result<(), Fail> {
-    let alloc = rt.alloc();
-    let oid = ObjectIdentifier::new("1.2.3")?;
-    let unit: Box<dyn DynAssociatedOid + Drop> = Box::new(alloc, Unit)?;
-    let held: Box<dyn DynAssociatedOid + Drop> = Box::new(alloc, Held { oid })?;
-    let values = [unit, held];
-    assert!(rt; position_of(&values, &oid) == Some(0));
-    let [unit, held] = values;
-    let values = [held, unit];
-    assert!(rt; position_of(&values, &oid) == Some(0));
+fn first_place(rt: HostRuntime) {
+    for (held, text, place) in &PLACES {
+        assert!(rt;
+            stands(rt.alloc(), held, text, *place),
+            "{text} in {held:?}"
+        );
+    }
+}
+
+/// Whether a value of a type with an identifier, and one that holds it, stand first in both orders.
+fn are_first(alloc: Global, oid: &ObjectIdentifier<39>) -> Result<bool, AllocError> {
+    let mut values: Vec<Box<dyn DynAssociatedOid + Drop>> = Vec::new(alloc);
+    values.push(Box::new(alloc, Unit)?)?;
+    values.push(Box::new(alloc, Held { oid: *oid })?)?;
+    let is_first = position_of(&values, oid) == Some(0);
+    values.reverse();
+    Ok(is_first && position_of(&values, oid) == Some(0))
+}
+
+#[test]
+fn of_both_kinds(rt: HostRuntime) -> Result<(), AllocError> {
+    let oid = ObjectIdentifier::new_unwrap("1.2.3");
+    assert!(rt; are_first(rt.alloc(), &oid)?);
     Ok(())
 }

@@ -3,8 +3,20 @@
 use const_oid::Error;
 use std::alloc::{AllocError, Global};
 
-/// Texts, their contents octets and their arcs.
-pub const ACCEPTED: [(&str, &[u8], &[u32]); 35] = [
+/// An identifier as its text, its contents octets and its arcs.
+pub type Row = (&'static str, &'static [u8], &'static [u32]);
+
+/// Identifiers that are accepted.
+pub fn accepted_rows() -> &'static [Row] {
+    &ACCEPTED
+}
+
+/// Octets that are refused, and the error.
+pub fn refused_octets() -> &'static [(&'static [u8], Error)] {
+    &REFUSED_OCTETS
+}
+
+const ACCEPTED: [Row; 35] = [
     ("0.0", &[0x00], &[0, 0]),
     ("0.39", &[0x27], &[0, 39]),
     ("1.0", &[0x28], &[1, 0]),
@@ -95,8 +107,7 @@ pub const ACCEPTED: [(&str, &[u8], &[u32]); 35] = [
     ),
 ];
 
-/// Octets that are refused, and the error.
-pub const REFUSED_OCTETS: [(&[u8], Error); 33] = [
+const REFUSED_OCTETS: [(&[u8], Error); 33] = [
     (&[], Error::Empty),
     (&[0x80], Error::Base128),
     (&[0x80, 0x01], Error::Base128),

@@ -1,5 +1,5 @@
 //! Every front of refused octets, whose groups are read whole.
-use crate::vectors::REFUSED_OCTETS;
+use crate::vectors::refused_octets;
 use const_oid::{Error, ObjectIdentifier, ObjectIdentifierRef};
 
 /// The fault of a group by itself, whose number is to be at most `limit`.
@@ -51,7 +51,7 @@ fn fronts_hold(octets: &[u8]) -> bool {
 /// How many refused octets hold, with all their fronts.
 fn refused_held() -> usize {
     let mut held = 0usize;
-    for (octets, _) in &REFUSED_OCTETS {
+    for (octets, _) in refused_octets() {
         if fronts_hold(octets) {
             held = held.saturating_add(1);
         }
@@ -61,5 +61,5 @@ fn refused_held() -> usize {
 
 #[test]
 fn of_refused_octets(rt: HostRuntime) {
-    assert!(rt; refused_held() == REFUSED_OCTETS.len());
+    assert!(rt; refused_held() == refused_octets().len());
 }

@@ -13,13 +13,18 @@ const FIRST_GROUPS: [&[u8]; 5] = [
 /// A first group, octets 1, and a last octet: so many octets in all, and then others.
 fn long(first: &[u8], len: usize, last: u8) -> [u8; 256] {
     let mut octets = [1; 256];
-    for (place, octet) in octets.iter_mut().zip(first) {
-        *place = *octet;
+    for (place, octet) in first.iter().enumerate() {
+        put(&mut octets, place, *octet);
     }
-    if let Some(place) = octets.get_mut(len.saturating_sub(1)) {
-        *place = last;
-    }
+    put(&mut octets, len.saturating_sub(1), last);
     octets
+}
+
+/// Writes an octet at a place, if there is one.
+fn put(octets: &mut [u8], place: usize, octet: u8) {
+    if let Some(room) = octets.get_mut(place) {
+        *room = octet;
+    }
 }
 
 /// How many octets, the last one, and what the capacities 255, 256 and 300 answer.
@@ -69,9 +74,9 @@ fn ends_with_1(octets: &[u8], count: usize) -> bool {
 fn lengths_held(first: &[u8]) -> usize {
     let octets = long(first, 256, 1);
     let mut held = 0usize;
-    for len in LENGTHS {
+    for len in &LENGTHS {
         let count = len.saturating_sub(first.len()).saturating_add(2);
-        if ends_with_1(octets.get(..len).unwrap_or(&[]), count) {
+        if ends_with_1(octets.get(..*len).unwrap_or(&[]), count) {
             held = held.saturating_add(1);
         }
     }

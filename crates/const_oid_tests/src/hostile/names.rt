@@ -1,26 +1,36 @@
 //! Tables of names that a hostile caller may hand in.
 use crate::formatter::prints_into_array;
-use const_oid::ObjectIdentifier;
 use const_oid::db::Database;
-use std::test::Fail;
+use const_oid::{Error, ObjectIdentifier};
 
 /// Whether a table without entries knows nothing, and gives the caller's text back.
 fn nothing_known(oid: &ObjectIdentifier<39>) -> bool {
     let table = Database::new(&[]);
+    nothing_found(&table, oid) && table.resolve("01.2") == Ok("01.2")
+}
+
+/// Whether a table has no name of an identifier, and no identifier of a name.
+fn nothing_found(table: &Database<'_>, oid: &ObjectIdentifier<39>) -> bool {
     table.by_oid(oid).is_none()
         && table.by_name("cn").is_none()
         && table.find_names_for_oid(*oid).next().is_none()
-        && table.resolve("01.2") == Ok("01.2")
 }
 
 /// Whether an entry that stands twice is named twice.
 fn named_twice(oid: &ObjectIdentifier<39>) -> bool {
     let entries = [(oid, "cn"), (oid, "cn")];
-    let mut names = Database::new(&entries).find_names_for_oid(*oid);
-    names.next() == Some("cn")
-        && names.next() == Some("cn")
-        && names.next().is_none()
-        && names.next().is_none()
+    has_two_names(&Database::new(&entries), oid)
+}
+
+/// Whether an identifier has the same name twice, and then none, each time.
+fn has_two_names(database: &Database<'_>, oid: &ObjectIdentifier<39>) -> bool {
+    let mut names = database.find_names_for_oid(*oid);
+    for _ in 0..2 {
+        if names.next() != Some("cn") {
+            return false;
+        }
+    }
+    names.next().is_none() && names.next().is_none()
 }
 
 /// Whether an empty name is the answer of an identifier that prints as a text.
@@ -28,29 +38,65 @@ fn resolves_to_nothing(oid: &ObjectIdentifier<39>, text: &str) -> bool {
     Database::new(&[(oid, "")]).resolve(text) == Ok("")
 }
 
-/// Whether a name finds an identifier, or none where its text is empty, among two entries.
-fn finds(entries: &[(&ObjectIdentifier<39>, &str)], name: &str, wanted: &str) -> bool {
-    match Database::new(entries).by_name(name) {
+/// Two entries as texts and names, a name, and the text of the identifier that it finds, which is empty
+/// where there is none: the first of two names that are the same is found, and only ASCII letters are
+/// folded.
+type Row = (
+    [(&'static str, &'static str); 2],
+    &'static str,
+    &'static str,
+);
+
+const ROWS: [Row; 4] = [
+    ([("2.5.4.6", "C"), ("1.2.3", "c")], "c", "2.5.4.6"),
+    ([("1.2.3", "É"), ("2.5.4.6", "c")], "é", ""),
+    ([("1.2.3", "É"), ("2.5.4.6", "c")], "É", "1.2.3"),
+    ([("2.5.4.6", "c"), ("1.2.3", "")], "", "1.2.3"),
+];
+
+/// Whether a name finds the identifier of a text, or none where that is empty.
+fn finds(database: &Database<'_>, name: &str, wanted: &str) -> bool {
+    match database.by_name(name) {
         Some(oid) => prints_into_array(oid, wanted),
         None => wanted.is_empty(),
     }
 }
 
-/// Whether the first of two names that are the same is found, and only ASCII letters are folded.
-fn names_fold(oid: &ObjectIdentifier<39>, other: &ObjectIdentifier<39>) -> bool {
-    finds(&[(other, "C"), (oid, "c")], "c", "2.5.4.6")
-        && finds(&[(oid, "É"), (other, "c")], "é", "")
-        && finds(&[(oid, "É"), (other, "c")], "É", "1.2.3")
-        && finds(&[(other, "c"), (oid, "")], "", "1.2.3")
+/// Whether a name finds the identifier of a text, or none, among two entries.
+fn finds_among(entries: &[(&ObjectIdentifier<39>, &str); 2], name: &str, wanted: &str) -> bool {
+    finds(&Database::new(entries), name, wanted)
+}
+
+/// Whether a row holds.
+fn row_holds(row: &Row) -> bool {
+    let ([(first, first_name), (second, second_name)], name, wanted) = row;
+    let (Ok(first), Ok(second)) = (ObjectIdentifier::new(first), ObjectIdentifier::new(second))
+    else {
+        return false;
+    };
+    finds_among(
+        &[(&first, first_name), (&second, second_name)],
+        name,
+        wanted,
+    )
+}
+
+/// Whether all rows hold.
+fn names_fold() -> bool {
+    for row in &ROWS {
+        if !row_holds(row) {
+            return false;
+        }
+    }
+    true
 }
 
 #[test]
-fn tables(rt: HostRuntime) -> Result<(), Fail> {
+fn tables(rt: HostRuntime) -> Result<(), Error> {
     let oid = ObjectIdentifier::new("1.2.3")?;
-    let other = ObjectIdentifier::new("2.5.4.6")?;
     assert!(rt; nothing_known(&oid));
     assert!(rt; named_twice(&oid));
     assert!(rt; resolves_to_nothing(&oid, "1.2.3"));
-    assert!(rt; names_fold(&oid, &other));
+    assert!(rt; names_fold());
     Ok(())
 }

@@ -1,7 +1,7 @@
 //! All slices of at most two octets, and what becomes of accepted octets that are cut or filled up.
-use super::{FIRST_GROUPS, Row};
+use super::FIRST_GROUPS;
 use crate::formatter::prints_into_array;
-use crate::vectors::ACCEPTED;
+use crate::vectors::{Row, accepted_rows};
 use const_oid::{Error, ObjectIdentifier, ObjectIdentifierRef};
 use std::hash::{DefaultHasher, Hash, Hasher};
 
@@ -191,6 +191,14 @@ fn same<const N: usize, const M: usize>(
         && prints_into_array(&b.as_oid_ref(), text)
 }
 
+/// Whether an identifier begins with another one, and is not it.
+fn is_below<const N: usize, const M: usize>(
+    child: &ObjectIdentifier<N>,
+    oid: &ObjectIdentifier<M>,
+) -> bool {
+    child.starts_with(*oid) && !oid.starts_with(*child) && !oid.as_oid_ref().eq_oid(child)
+}
+
 /// Whether octets are the same identifier at the capacities 10, 39 and 300, and a child of it another
 /// one.
 fn same_at_capacities(octets: &[u8], text: &str) -> Result<bool, Error> {
@@ -202,9 +210,7 @@ fn same_at_capacities(octets: &[u8], text: &str) -> Result<bool, Error> {
         same(&short, &usual, text)
             && same(&usual, &long, text)
             && same(&long, &short, text)
-            && child.starts_with(short)
-            && !short.starts_with(child)
-            && !short.as_oid_ref().eq_oid(&child),
+            && is_below(&child, &short),
     )
 }
 
@@ -230,8 +236,8 @@ fn rows_held(rows: &[Row]) -> usize {
     for (text, octets, _) in rows {
         if fronts_hold(octets)
             && refused_with_0x80(octets)
-            && same_at_capacities(octets, text) == Ok(true)
-            && hashes_the_same(octets) == Ok(true)
+            && matches!(same_at_capacities(octets, text), Ok(true))
+            && matches!(hashes_the_same(octets), Ok(true))
         {
             held = held.saturating_add(1);
         }
@@ -244,6 +250,6 @@ fn rows_held(rows: &[Row]) -> usize {
 /// is called here has one. `rt try --test --fail-alloc 1` refuses the first request; there is none.
 #[test]
 fn rows_without_memory(rt: HostRuntime) {
-    assert!(rt; rows_held(&ACCEPTED) == ACCEPTED.len());
+    assert!(rt; rows_held(accepted_rows()) == accepted_rows().len());
     assert!(rt; rows_held(&FIRST_GROUPS) == FIRST_GROUPS.len());
 }
