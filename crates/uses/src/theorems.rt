@@ -1,6 +1,6 @@
 //! What callers want to know of identifiers, as contracts of small functions.
 
-ghost use Rattle.std.specs.Prelude.{◌≡◌, ◌≢◌, ◌+◌, ◌<◌, ◌≤◌, ◌↔◌, [], ◌∷◌, length, IsTrue, IsSome};
+ghost use Rattle.std.specs.Prelude.{◌≡◌, ◌≢◌, ◌<◌, ◌≤◌, ◌↔◌, [], ◌∷◌, length, IsTrue, IsSome};
 ghost use Rattle.std.specs.Prelude.{IfOk, IfSome, IsOk, IsOkAnd, IsSomeAnd};
 ghost use Rattle.std.specs.declared.cmp.Ordering.TheVariants.{Less};
 ghost use Rattle.const_oid.specs.Identifier.{size};
@@ -25,10 +25,11 @@ pub fn is_rsa_encryption(octets: &[u8]) -> bool
     octets == ObjectIdentifier::new_unwrap("1.2.840.113549.1.1.1").as_bytes()
 }
 
-/// A child begins with its parent, and has an arc more.
+/// A child has one arc more than its parent, and begins with it.
 pub fn child(parent: ObjectIdentifier<39>, arc: Arc) -> Result<ObjectIdentifier<39>>
+    ensures fits { IsOk result ↔ (size (child_of (oid_arcs parent) arc) ≤ 39) }
+    ensures arcs { IfOk result (λ child. oid_arcs child ≡ child_of (oid_arcs parent) arc) }
     ensures begins { IfOk result (λ child. BeginsWith (oid_arcs child) (oid_arcs parent)) }
-    ensures longer { IfOk result (λ child. length (oid_arcs child) ≡ length (oid_arcs parent) + 1) }
 {
     parent.push_arc(arc)
 }
