@@ -121,10 +121,9 @@ mod tests {
         for arc in [1, 2, 840, 10045, 2, 1] {
             encoder.arc(arc)?;
         }
-        assert_eq!(rt; encoder.arc(1).err(), Some(Error::Length));
-        assert_eq!(rt;
-            encoder.finish()?.as_bytes(),
-            [0x2A, 0x86, 0x48, 0xCE, 0x3D, 0x02, 0x01].as_slice()
+        assert!(rt; encoder.arc(1) == Err(Error::Length));
+        assert!(rt;
+            encoder.finish()?.as_bytes() == [0x2A, 0x86, 0x48, 0xCE, 0x3D, 0x02, 0x01].as_slice()
         );
         Ok(())
     }

@@ -13,22 +13,33 @@ use crate::schema::{Attribute, CommonName, Country, find, has_type};
 use crate::theorems;
 use crate::walk::{next_after, places};
 use const_oid::db::Database;
-use const_oid::{AssociatedOid, Error, ObjectIdentifier, ObjectIdentifierRef};
+use const_oid::{Arc, AssociatedOid, Error, ObjectIdentifier, ObjectIdentifierRef};
+use std::alloc::{AllocError, Global};
 use std::cmp::Ordering;
 use std::test::Fail;
 
 /// rsaEncryption (RFC 8017).
 const RSA: [u8; 9] = [0x2A, 0x86, 0x48, 0x86, 0xF7, 0x0D, 0x01, 0x01, 0x01];
 
+/// Whether rsaEncryption has its octets, and its parent and its children lead back to it.
+fn is_known(rsa: ObjectIdentifier<39>) -> bool {
+    rsa.as_bytes() == RSA.as_slice()
+        && theorems::is_rsa_encryption(&RSA)
+        && theorems::parent_of_child(rsa, 1) == Ok(Some(rsa))
+        && theorems::child_of_parent(rsa) == Some(Ok(rsa))
+}
+
+/// Whether the enterprises are the child 1 of this text.
+fn is_above_enterprises(text: &str) -> Result<bool, Error> {
+    let child = theorems::child(ObjectIdentifier::new(text)?, 1)?;
+    Ok(theorems::is_enterprise(&child))
+}
+
 #[test]
 fn facts(rt: HostRuntime) -> Result<(), Fail> {
     let rsa = theorems::rsa_encryption();
-    assert!(rt; rsa.as_bytes() == RSA.as_slice());
-    assert!(rt; theorems::is_rsa_encryption(&RSA));
-    let enterprise = theorems::child(ObjectIdentifier::new("1.3.6.1.4")?, 1)?;
-    assert!(rt; theorems::is_enterprise(&enterprise));
-    assert!(rt; theorems::parent_of_child(rsa, 1)? == Some(rsa));
-    assert!(rt; theorems::child_of_parent(rsa) == Some(Ok(rsa)));
+    assert!(rt; is_known(rsa));
+    assert!(rt; is_above_enterprises("1.3.6.1.4") == Ok(true));
     assert!(rt; theorems::through_text(rt.alloc(), rsa)? == Ok(rsa));
     Ok(())
 }
@@ -58,17 +69,23 @@ fn fullest(rt: HostRuntime) -> Result<(), Fail> {
     Ok(())
 }
 
+/// The last octet of a child in a capacity of ten octets.
+fn last_of_child(oid: ObjectIdentifierRef<'_>, arc: Arc) -> Result<Option<u8>, Error> {
+    Ok(child_in::<10>(oid, arc)?.as_bytes().last().copied())
+}
+
 #[test]
-fn capacity(rt: HostRuntime) -> Result<(), Fail> {
+fn capacity(rt: HostRuntime) -> Result<(), Error> {
     let oid = ObjectIdentifierRef::from_bytes(&RSA)?;
-    assert!(rt; child_in::<10>(oid, 127)?.as_bytes().last() == Some(&127));
-    assert!(rt; child_in::<10>(oid, 128) == Err(Error::Length));
-    assert!(rt; oid.eq_oid(&widened::<255>(&theorems::rsa_encryption())?));
+    let wide = widened::<255>(&theorems::rsa_encryption())?;
+    assert!(rt; last_of_child(oid, 127) == Ok(Some(127)));
+    assert!(rt; last_of_child(oid, 128) == Err(Error::Length));
+    assert!(rt; oid.eq_oid(&wide));
     Ok(())
 }
 
 #[test]
-fn attributes(rt: HostRuntime) -> Result<(), Fail> {
+fn attributes(rt: HostRuntime) {
     let common_name = CommonName::associated_oid();
     let country = Country::associated_oid();
     let entries = [
@@ -77,30 +94,40 @@ fn attributes(rt: HostRuntime) -> Result<(), Fail> {
         (&country, "c"),
     ];
     let database = Database::new(&entries);
-    assert!(rt; find(&database, "COMMONNAME")? == common_name);
-    assert!(rt; find(&database, "2.5.4.6")? == country);
+    assert!(rt; find(&database, "COMMONNAME") == Ok(common_name));
+    assert!(rt; find(&database, "2.5.4.6") == Ok(country));
     assert!(rt; find(&database, "x") == Err(Error::DigitExpected { actual: b'x' }));
     let attribute = Attribute { kind: country };
     assert!(rt; has_type::<Country>(&attribute) && !has_type::<CommonName>(&attribute));
-    Ok(())
+}
+
+/// Octets, and the name of their algorithm or their fault.
+const NAMED: [(&[u8], Result<Option<&str>, Error>); 4] = [
+    (&RSA, Ok(Some("rsaEncryption"))),
+    (&[0x2B, 0x65, 0x70], Ok(Some("Ed25519"))),
+    (&[0x2B, 0x65, 0x71], Ok(None)),
+    (&[0x2A, 0x80, 0x01], Err(Error::Base128)),
+];
+
+/// Whether octets have this answer.
+fn is_answered(
+    database: &Database<'_>,
+    octets: &[u8],
+    answer: &Result<Option<&str>, Error>,
+) -> bool {
+    name_of(database, octets) == *answer
 }
 
 #[test]
-fn algorithms(rt: HostRuntime) -> Result<(), Fail> {
+fn algorithms(rt: HostRuntime) {
     let rsa = theorems::rsa_encryption();
-    let ed25519 = ObjectIdentifier::new("1.3.101.112")?;
+    let ed25519 = ObjectIdentifier::new_unwrap("1.3.101.112");
     let entries = [(&rsa, "rsaEncryption"), (&ed25519, "Ed25519")];
     let database = Database::new(&entries);
-    for (octets, name) in [
-        (RSA.as_slice(), Ok(Some("rsaEncryption"))),
-        (&[0x2B, 0x65, 0x70], Ok(Some("Ed25519"))),
-        (&[0x2B, 0x65, 0x71], Ok(None)),
-        (&[0x2A, 0x80, 0x01], Err(Error::Base128)),
-    ] {
-        assert!(rt; name_of(&database, octets) == name);
+    for (octets, answer) in &NAMED {
+        assert!(rt; is_answered(&database, octets, answer));
     }
     assert!(rt; name_in(&Database::new(&[]), &database, &rsa) == Some("rsaEncryption"));
-    Ok(())
 }
 
 /// Whether a walk from a column meets the rows 1 to 100, and then the next column.
@@ -122,23 +149,38 @@ fn walks(sorted: &[ObjectIdentifierRef<'_>], column: &ObjectIdentifierRef<'_>) -
     last.arc(10) == Some(1)
 }
 
-/// Ten columns of a hundred rows, as a table of interfaces has them (RFC 2863).
-#[test]
-fn thousand(rt: HostRuntime) -> Result<(), Fail> {
-    let mut owned = Vec::new(rt.alloc());
+/// Ten columns of a hundred rows, as a table of interfaces has them (RFC 2863), in no order.
+fn cells(alloc: Global) -> Result<Vec<ObjectIdentifier<39>>, Fail> {
+    let mut cells = Vec::new(alloc);
     for i in 0..1000u32 {
         let place = (i * 37) % 1000;
         let (column, row) = (place / 100 + 1, place % 100 + 1);
-        owned.push(ObjectIdentifier::from_arcs([1, 3, 6, 1, 2, 1, 2, 2, 1, column, row])?)?;
+        cells.push(ObjectIdentifier::from_arcs([1, 3, 6, 1, 2, 1, 2, 2, 1, column, row])?)?;
     }
-    let mut oids = Vec::new(rt.alloc());
-    for oid in &owned {
+    Ok(cells)
+}
+
+/// The borrowed forms of identifiers.
+fn borrowed(
+    alloc: Global,
+    owned: &[ObjectIdentifier<39>],
+) -> Result<Vec<ObjectIdentifierRef<'_>>, AllocError> {
+    let mut oids = Vec::new(alloc);
+    for oid in owned {
         oids.push(oid.as_oid_ref())?;
     }
-    let third = ObjectIdentifier::new("1.3.6.1.2.1.2.2.1.3")?;
-    assert!(rt; places(&oids, &third.as_oid_ref()) == None);
+    Ok(oids)
+}
+
+#[test]
+fn thousand(rt: HostRuntime) -> Result<(), Fail> {
+    let cells = cells(rt.alloc())?;
+    let mut oids = borrowed(rt.alloc(), &cells)?;
+    let third = ObjectIdentifier::new_unwrap("1.3.6.1.2.1.2.2.1.3");
+    let column = third.as_oid_ref();
+    assert!(rt; places(&oids, &column) == None);
     oids.sort()?;
-    assert!(rt; places(&oids, &third.as_oid_ref()) == Some((200, 300)));
-    assert!(rt; walks(&oids, &third.as_oid_ref()));
+    assert!(rt; places(&oids, &column) == Some((200, 300)));
+    assert!(rt; walks(&oids, &column));
     Ok(())
 }

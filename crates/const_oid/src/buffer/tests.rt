@@ -29,34 +29,47 @@ fn clone_buffer<const SIZE: usize>(
     buffer.clone()
 }
 
+/// Whether a buffer shows the octets, and is equal to itself alone and to its copy.
+fn shows(buffer: &Buffer<3>, octets: &[u8], others: &[Buffer<3>; 2]) -> bool {
+    let Ok(copy) = clone_buffer(buffer) else {
+        return false;
+    };
+    buffer.as_bytes() == octets
+        && buffer.len() == octets.len()
+        && buffer.eq(buffer)
+        && !buffer.eq(&others[0])
+        && !buffer.eq(&others[1])
+        && same_buffer(&copy, buffer)
+}
+
 #[test]
 fn octets_in_use(rt: HostRuntime) -> std::result::Result<(), Fail> {
     let short = Buffer::<3>::from_slice(&[0x55])?;
     let front = Buffer::<3>::from_slice(&[0x2A])?;
     let buffer = Buffer::<3>::from_slice(&[0x2A, 0x03])?;
     let next = Buffer::<3>::from_slice(&[0x2A, 0x04])?;
-    assert_eq!(rt; buffer.as_bytes(), [0x2A, 0x03].as_slice());
-    assert_eq!(rt; buffer.len(), 2);
-    assert!(rt; buffer.eq(&buffer));
-    assert!(rt; !buffer.eq(&next));
-    assert!(rt; !buffer.eq(&front));
-    assert_eq!(rt; order_buffer(&short, &buffer), Ordering::Less);
-    assert_eq!(rt; order_buffer(&buffer, &next), Ordering::Less);
-    assert!(rt; same_buffer(&clone_buffer(&buffer)?, &buffer));
+    assert!(rt; shows(&buffer, &[0x2A, 0x03], &[next, front]));
+    assert!(rt; order_buffer(&short, &buffer).is_lt() && order_buffer(&buffer, &next).is_lt());
     Ok(())
 }
 
+/// How many octets are in use, or that they do not fit.
+fn used(octets: &[u8]) -> Result<usize> {
+    Ok(Buffer::<300>::from_slice(octets)?.len())
+}
+
+/// Whether three octets take the group of 840 behind one octet, and no other.
+fn are_filled() -> bool {
+    let mut buffer = Buffer::<3>::copied(&[0x2A]);
+    buffer.push_group(840) == Ok(())
+        && buffer.as_bytes() == [0x2A, 0x86, 0x48].as_slice()
+        && buffer.push_group(1) == Err(Error::Length)
+}
+
 #[test]
-fn room(rt: HostRuntime) -> std::result::Result<(), Fail> {
+fn room(rt: HostRuntime) {
     let octets = [0x2A; 256];
-    assert_eq!(rt; Buffer::<300>::from_slice(&octets[..255])?.len(), 255);
-    assert_eq!(rt;
-        Buffer::<300>::from_slice(&octets).err(),
-        Some(Error::Length)
-    );
-    let mut buffer = Buffer::<3>::from_slice(&[0x2A])?;
-    buffer.push_group(840)?;
-    assert_eq!(rt; buffer.as_bytes(), [0x2A, 0x86, 0x48].as_slice());
-    assert_eq!(rt; buffer.push_group(1).err(), Some(Error::Length));
-    Ok(())
+    assert!(rt; used(&octets[..255]) == Ok(255));
+    assert!(rt; used(&octets) == Err(Error::Length));
+    assert!(rt; are_filled());
 }
