@@ -92,6 +92,10 @@ identifier_from_none rule items = items_sound rule [] items tt
 abbrev pub AreTaken : RootRule → List ℕ → Type 0
 AreTaken rule given = (later : List ℕ) → item_fault rule (given ++ later) ≡ items_fault rule given later
 
+-- one more item without a fault
+pub taken_more : (rule : RootRule) (given : List ℕ) (arc : ℕ) → AreTaken rule given → arc_fault rule 39 given arc ≡ None → AreTaken rule (given ++ arc ∷ [])
+taken_more rule given arc taken fits = λ later. ap (item_fault rule) (append_assoc given (arc ∷ []) later) ∙ taken (arc ∷ later) ∙ rw fits refl
+
 -- a list begins with the items that a run gave of it
 begins_with_run : {S : Type 0} {steps : S → Option ℕ → S → Type 0} (p : Run steps) (items : List ℕ) → ItemsAre p items → items ≡ p.items ++ drop (length p.items) items
 begins_with_run p items are = front_from_reads 0 items p.items (omega (arith, are.0, p.long)) (λ k below.

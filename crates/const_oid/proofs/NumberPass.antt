@@ -62,6 +62,16 @@ numbers_on (x ∷ xs) limit front begun value s none = ⊎_elim
 pub numbers_are : (limit : ℕ) (octets : List ℕ) → pass limit false 0 octets ≡ None → number_pass 0 octets ≡ map value_of (cut octets)
 numbers_are limit octets none = numbers_on octets limit [] false 0 (part_read-none limit) none
 
+-- at an octet that is not the last of the first part
+pub numbers_more : (limit : ℕ) (begun : Bool) (value : ℕ) (octets : List ℕ) (i : ℕ) → i < length octets → 128 ≤ get_or octets i 0 → pass limit begun value (drop i octets) ≡ None
+    → (number_pass (value * 128 + get_or octets i 0 % 128) (drop (i + 1) octets) ≡ number_pass value (drop i octets)) × (pass limit true (value * 128 + get_or octets i 0 % 128) (drop (i + 1) octets) ≡ None)
+numbers_more limit begun value octets i h more none =
+    let x = get_or octets i 0 in
+    let here = drop_more octets i 0 h in (
+      sym (ap (number_pass value) here ∙ number_pass-more value x (drop (i + 1) octets) more),
+      goes_more limit begun value x (drop (i + 1) octets) more (ap (pass limit begun value) (sym here) ∙ none),
+    )
+
 -- at the last octet of the first part
 pub numbers_behind : (limit : ℕ) (begun : Bool) (value : ℕ) (octets rest : List ℕ) (i : ℕ) → i < length octets → get_or octets i 0 < 128 → rest ≡ drop (i + 1) octets → pass limit begun value (drop i octets) ≡ None
     → (number_pass value (drop i octets) ≡ (value * 128 + get_or octets i 0 % 128) ∷ map value_of (cut rest)) × (later_fault (cut rest) ≡ None)

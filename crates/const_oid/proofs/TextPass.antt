@@ -1,12 +1,13 @@
 -- One pass over the bytes of a text, which ends at its first refusal, finds the fault of the first faulty piece.
-use Rattle.std.proofs.Common.{◌≡◌, ℕ, ◌+◌, ◌-◌, ◌*◌, ◌<◌, ◌≤◌, Bool, true, false, not, List, [], ◌∷◌, ◌++◌, length, nat_lt, ◌==◌, map, Option, Some, None, Result, Ok, Err, IfOk, is_some, unwrap_or, if◌then◌else◌, refl, sym, ap, ◌∙◌, ⊎_elim, arith, append-nil, count_by, take_while, leb, lt-ltb, le-ltb, eq-eqb, ne_eqb}
+use Rattle.std.proofs.Common.{◌≡◌, ◌≢◌, ℕ, suc, ◌+◌, ◌-◌, ◌*◌, ◌<◌, ◌≤◌, Bool, true, false, not, List, [], ◌∷◌, ◌++◌, length, drop, get_or, nat_lt, ◌==◌, map, Option, Some, None, Result, Ok, Err, IfOk, is_some, unwrap_or, if◌then◌else◌, refl, sym, ap, ◌∙◌, ⊎_elim, arith, add-one, append-nil, drop-cons, count_by, take_while, leb, lt-ltb, le-ltb, eq-eqb, ne_eqb}
+use Rattle.std.specs.Bool.{then_some}
 use Rattle.std.specs.List.{onto_first}
 use Rattle.std.specs.Option.{option_or}
 use Rattle.std.specs.Result.{result_err, result_map_both}
 use Rattle.std.specs.Char.{is_ascii_digit, digit_value}
 use Rattle.std.specs.Str.{all_ascii_digits}
 use Rattle.std.specs.Str.Parse.{digits_value}
-use Rattle.std.proofs.lemmas.List.{take_at}
+use Rattle.std.proofs.lemmas.List.{take_at, length-drop}
 use Rattle.std.proofs.lemmas.Bool.{cases_lt, cases_Bool, cases_eq, leb-true, and_parts}
 use Rattle.std.proofs.lemmas.Int.Digits.{digits_value_push}
 use Rattle.std.proofs.lemmas.List.Splits.{length-slice_split, slice_split-cons_yes, slice_split-cons_no}
@@ -17,7 +18,7 @@ use Rattle.const_oid.specs.declared.error.Error.{Error}
 use Rattle.const_oid.specs.declared.error.Error.TheVariants.{ArcTooBig, DigitExpected, RepeatedDot, TrailingDot}
 use Rattle.const_oid.specs.Identifier.{RootRule, most_arc, IsEncoding}
 use Rattle.const_oid.specs.Contents.{arcs_of_octets}
-use Rattle.const_oid.specs.Parser.{last_fault}
+use Rattle.const_oid.specs.Parser.{dot_fault, last_fault}
 use Rattle.const_oid.specs.Items.{arc_fault, few_fault}
 use Rattle.const_oid.specs.Text.{pieces_of, number_of, is_empty, is_one_empty, empty_fault, single_fault, piece_fault, pieces_fault, text_answer}
 use Rattle.const_oid.specs.Faults.{fault_if, answer}
@@ -219,3 +220,34 @@ pub text_pass-end : {X : Type 0} (octets_in : X → List ℕ) (rule : RootRule) 
 text_pass-end octets_in rule before None result n f e = cc
 text_pass-end octets_in rule before (Some arc) (Ok x) n f e = rw (← n, ← few_is_single before arc, ← f) (ap Ok (arcs_of_encoding rule (before ++ arc ∷ []) (octets_in x) e))
 text_pass-end octets_in rule before (Some arc) (Err fault) n f e = rw (← n, ← few_is_single before arc, ← f) refl
+
+-- ---- one byte of a text at a place
+
+-- a digit that takes the number past the limit
+pub text_pass-too_big : (rule : RootRule) (before : List ℕ) (begun : Bool) (value digit : ℕ) (text : List ℕ) (index : ℕ) → index < length text → is_ascii_digit (get_or text index 0) ≡ true → digit ≡ get_or text index 0 - 48 → most_arc < value * 10 + digit → text_pass rule before begun value (drop index text) ≡ Err ArcTooBig
+text_pass-too_big rule before begun value digit text index inside is_digit is big = rw (drop-cons text index 0 inside, is_digit, ← is, lt-ltb most_arc (value * 10 + digit) big) refl
+
+-- no byte is left exactly where the text ends
+none_left : (bytes : List ℕ) (index total : ℕ) → total ≡ index + length bytes → (index == total) ≡ is_empty bytes
+none_left [] index total all = eq-eqb index total (omega arith)
+none_left (b ∷ bs) index total all = ne_eqb index total (λ e. omega arith)
+
+first_dot : (rule : RootRule) (before : List ℕ) (begun : Bool) (value : ℕ) (piece : Option ℕ) (bs : List ℕ) → piece ≡ then_some begun value → text_pass rule before begun value (46 ∷ bs) ≡ behind (dot_fault rule before piece (is_empty bs)) (text_pass rule (before ++ unwrap_or piece 0 ∷ []) false 0 bs)
+first_dot rule before true value piece [] is = rw is refl
+first_dot rule before true value piece (b ∷ bs) is = rw is refl
+first_dot rule before false value piece bs is = rw is refl
+
+-- a dot, behind a piece with its number if it has digits
+pub text_pass-dot : (rule : RootRule) (before : List ℕ) (begun : Bool) (value : ℕ) (piece : Option ℕ) (fault : Option Error) (text : List ℕ) (index : ℕ) → index < length text → get_or text index 0 ≡ 46 → piece ≡ then_some begun value → fault ≡ dot_fault rule before piece (index + 1 == length text) → text_pass rule before begun value (drop index text) ≡ behind fault (text_pass rule (before ++ unwrap_or piece 0 ∷ []) false 0 (drop (index + 1) text))
+text_pass-dot rule before begun value piece fault text index inside dot is e =
+    let ends = none_left (drop (index + 1) text) (index + 1) (length text) (omega (arith, length-drop (index + 1) text)) in
+    rw (e, ends, add-one, drop-cons text index 0 inside, dot) (first_dot rule before begun value piece (drop (suc index) text) is)
+
+-- another byte
+pub text_pass-other : (rule : RootRule) (before : List ℕ) (begun : Bool) (value : ℕ) (text : List ℕ) (index : ℕ) → index < length text → is_ascii_digit (get_or text index 0) ≡ false → get_or text index 0 ≢ 46 → text_pass rule before begun value (drop index text) ≡ Err (DigitExpected (get_or text index 0))
+text_pass-other rule before begun value text index inside no_digit no_dot = rw (drop-cons text index 0 inside, no_digit, ne_eqb (get_or text index 0) 46 no_dot) refl
+
+-- a fault of the last piece
+pub text_pass-end_fault : (rule : RootRule) (before : List ℕ) (begun : Bool) (value : ℕ) (piece : Option ℕ) (fault : Error) → piece ≡ then_some begun value → Some fault ≡ last_fault rule before piece → text_pass rule before begun value [] ≡ Err fault
+text_pass-end_fault rule before true value piece fault is e = let e' : Some fault ≡ arc_fault rule 39 before value = rw is at e in rw (← e') refl
+text_pass-end_fault rule before false value piece fault is e = let e' : Some fault ≡ Some (empty_fault before []) = rw is at e in cc

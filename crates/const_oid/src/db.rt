@@ -84,7 +84,6 @@ impl<'a> Iterator for Names<'a> {
     ghost remaining = { item_count names_left };
 
     /// The next name; after the last one `None`, each time.
-    #[tactic(auto, using(crate::proofs::Names::all_names_past))]
     fn next(&mut self) -> Option<&'a str> {
         let entries = self.database.entries;
         for place in self.position..entries.len() {

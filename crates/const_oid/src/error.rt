@@ -51,20 +51,21 @@ impl fmt::Display for Error {
     ghost output = { λ error. Some (message_of error) };
 
     fn fmt<W: fmt::Write>(&self, f: &mut fmt::Formatter<W>) -> fmt::Result {
-        match *self {
-            Error::ArcInvalid { arc } => write!(f, "OID contains out-of-range arc: {arc}"),
-            Error::ArcTooBig => f.write_str("OID contains arc which is larger than 32-bits"),
-            Error::Base128 => f.write_str("OID contains arc with invalid base 128 encoding"),
+        let words = match *self {
+            Error::ArcInvalid { arc } => return write!(f, "OID contains out-of-range arc: {arc}"),
+            Error::ArcTooBig => "OID contains arc which is larger than 32-bits",
+            Error::Base128 => "OID contains arc with invalid base 128 encoding",
             Error::DigitExpected { actual } => {
                 let character = char::from(actual);
-                write!(f, "expected digit, got '{character}'")
+                return write!(f, "expected digit, got '{character}'");
             }
-            Error::Empty => f.write_str("OID value is empty"),
-            Error::Length => f.write_str("OID length invalid"),
-            Error::Overflow => f.write_str("arithmetic calculation overflowed"),
-            Error::RepeatedDot => f.write_str("repeated consecutive '..' characters in OID"),
-            Error::TrailingDot => f.write_str("OID ends with invalid trailing '.'"),
-        }
+            Error::Empty => "OID value is empty",
+            Error::Length => "OID length invalid",
+            Error::Overflow => "arithmetic calculation overflowed",
+            Error::RepeatedDot => "repeated consecutive '..' characters in OID",
+            Error::TrailingDot => "OID ends with invalid trailing '.'",
+        };
+        f.write_str(words)
     }
 }
 

@@ -2,3 +2,4 @@ pub mod Commands
 pub mod Lines
 pub mod Names
 pub mod Output
+pub mod ToolError

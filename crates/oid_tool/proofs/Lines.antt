@@ -3,7 +3,7 @@ use Rattle.std.proofs.Common.{◌≡◌, ◌≢◌, ℕ, ◌+◌, ◌<◌, ◌�
 use Rattle.std.specs.List.{before_first, after_first, position_or_len, flat_map}
 use Rattle.std.proofs.lemmas.Bool.{cases_lt}
 use Rattle.std.proofs.lemmas.Bool.Decides.{nat_tests}
-use Rattle.std.proofs.lemmas.List.{take_all, drop_all, length-append, length-drop, nil_from_length}
+use Rattle.std.proofs.lemmas.List.{take_all, drop_all, length-append, length-take, length-drop, nil_from_length}
 use Rattle.std.proofs.lemmas.List.Concat.{flat_map-cons}
 use Rattle.std.proofs.lemmas.List.Splits.{slice_split_first, slice_split_none, length-slice_split}
 use Rattle.std.proofs.lemmas.List.Sums.{fails_before_first}
@@ -59,8 +59,17 @@ answers_not_empty table text some none = let e = ap length (sym (answers-first t
 pub answers-next : (table : List Row) (text line after row : List ℕ) → text ≢ [] → line ≡ first_line text → after ≡ after_line text → row ≡ output_line table line → answers table text ≡ row ++ answers table after
 answers-next table text line after row some front back e = rw (e, front, back) (answers-first table text some)
 
+-- a part of a text is no longer than the text
+pub length-first_line : (text : List ℕ) → length (first_line text) ≤ length text
+length-first_line text = omega (arith, length-take (position_or_len (λ b. b == 10) text) text)
+
 pub length-after_line : (text : List ℕ) → length (after_line text) ≤ length text
 length-after_line text = omega (arith, length-drop (position_or_len (λ b. b == 10) text + 1) text)
+
+-- what follows the first line of some text is shorter
+pub after_line-shorter : (text : List ℕ) → text ≢ [] → length (after_line text) < length text
+after_line-shorter [] some = absurd (some refl)
+after_line-shorter (b ∷ bs) some = omega (arith, length-drop (position_or_len (λ b. b == 10) (b ∷ bs) + 1) (b ∷ bs))
 
 -- what `is_empty` tells
 pub not_empty_by_length : (text : List ℕ) → false ≡ nat_eq (length text) 0 → text ≢ []

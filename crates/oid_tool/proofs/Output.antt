@@ -2,7 +2,7 @@
 use Rattle.std.proofs.Common.{◌≡◌, ◌≢◌, ℕ, ◌+◌, ◌≤◌, List, [], ◌++◌, length, take, drop, sym, ◌∙◌, ap, arith, subst, append_assoc, take-append-drop}
 use Rattle.std.specs.Prelude.{Option, Some, None, IfSome}
 use Rattle.std.specs.Io.KnownBytes.{Appends, Consumes, IsAtEnd}
-use Rattle.std.proofs.KnownBytes.{Appends-trans}
+use Rattle.std.proofs.KnownBytes.{Appends-trans, Consumes-trans}
 use Rattle.std.proofs.lemmas.List.{append-nil, nil_from_length, take-append-le, length-take-le, length-append}
 use Rattle.std.proofs.Math.Seq.{take-append-add}
 use Rattle.oid_tool.specs.Output.{AppendsFront}
@@ -56,3 +56,10 @@ take_grown a k n room bytes within fits =
     let len = length-take-le a room within in
     ap (λ j. take (j + n) (put_mid a k room bytes)) (sym len) ∙ take-append-add (take a room) (bytes ++ post_of a k room) n
     ∙ ap (λ l. take a room ++ l) (take-append-le n bytes (post_of a k room) fits)
+
+-- the room as far as it was read, after a read of no byte
+pub consumed_same : (old mid new : Option (List ℕ)) (a k n : ℕ) (room bytes : List ℕ) → a ≤ length room → n ≡ 0 → Consumes old mid (take a room) → Consumes mid new (take n bytes) → Consumes old new (take a (put_mid a k room bytes))
+consumed_same old mid new a k n room bytes within none p q =
+    let same : a ≡ a + n = omega arith in
+    let grown = take_grown a k n room bytes within (omega arith) in
+    subst (Consumes old new) (sym (ap (λ j. take j (put_mid a k room bytes)) same ∙ grown)) (Consumes-trans old mid new (take a room) (take n bytes) p q)

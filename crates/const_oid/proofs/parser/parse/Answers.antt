@@ -1,12 +1,14 @@
-use Rattle.std.proofs.Common.{◌≡◌, ℕ, Bool, true, false, List, [], drop, Option, is_some, unwrap_or, refl, arith, ◌∙◌, ap}
+use Rattle.std.proofs.Common.{◌≡◌, ℕ, Bool, true, false, List, [], drop, Option, is_some, unwrap_or, Some, refl, arith, sym, ◌∙◌, ap}
 use Rattle.std.specs.Bool.{then_some}
 use Rattle.std.proofs.lemmas.List.{drop_all}
 use Rattle.std.proofs.lemmas.Result.{IfOk-weaker}
 use Rattle.const_oid.specs.Buffer.{octets_of}
+use Rattle.const_oid.specs.Contents.{arcs_of_octets}
 use Rattle.const_oid.specs.Identifier.{RootRule, root_rule}
 use Rattle.const_oid.specs.Text.{text_answer}
 use Rattle.const_oid.proofs.Encodings.{encoding_back}
-use Rattle.const_oid.proofs.TextPass.{text_pass, text_answer_is, text_pass-end}
+use Rattle.const_oid.proofs.Items.{handed_on}
+use Rattle.const_oid.proofs.TextPass.{text_pass, text_answer_is, text_pass-too_big, text_pass-dot, text_pass-other, text_pass-end, text_pass-end_fault}
 use Rattle.const_oid.proofs.parser.parse.Goals as goal
 
 pub loop-index-init : goal.loop-index-init
@@ -29,3 +31,38 @@ returns-clause-answer c =
     ∙ last_piece root_rule l.encoder l.begun l.number c.then_some.result c.then_some.ensures
     ∙ (rw none at l.invariant.pass)
     ∙ ap (text_answer root_rule) c.as_bytes-bytes.ensures.value
+
+pub returns-then-number-clause-answer : goal.returns-then-number-clause-answer
+returns-then-number-clause-answer c =
+    let l = c.loop-index in
+    let is_digit = sym c.is_ascii_digit.ensures.value ∙ c.if-is_ascii_digit.true in
+    sym (text_pass-too_big root_rule l.encoder l.begun l.number c.from.result c.as_bytes-bytes.result.now l.index c.loop-index-test.true is_digit c.from.ensures c.if-number.true)
+    ∙ l.invariant.pass
+    ∙ ap (text_answer root_rule) c.as_bytes-bytes.ensures.value
+
+pub returns-else-byte-eq46-clause-answer : goal.returns-else-byte-eq46-clause-answer
+returns-else-byte-eq46-clause-answer c =
+    let l = c.loop-index in
+    let no_digit = sym c.is_ascii_digit.ensures.value ∙ c.if-is_ascii_digit.false in
+    sym (text_pass-other root_rule l.encoder l.begun l.number c.as_bytes-bytes.result.now l.index c.loop-index-test.true no_digit c.if-byte-eq46.false)
+    ∙ l.invariant.pass
+    ∙ ap (text_answer root_rule) c.as_bytes-bytes.ensures.value
+
+pub returns-in_err-end_piece-clause-answer : goal.returns-in_err-end_piece-clause-answer
+returns-in_err-end_piece-clause-answer c =
+    let l = c.loop-index in
+    let fault = c.in_err-end_piece.field-0.0 in
+    rw (handed_on (λ octets. arcs_of_octets (octets_of octets)) c.from_residual.result fault c.from_residual.ensures.1)
+    (sym (text_pass-dot root_rule l.encoder l.begun l.number c.then_some-piece.result (Some fault) c.as_bytes-bytes.result.now l.index c.loop-index-test.true c.if-byte-eq46.true c.then_some-piece.ensures c.in_err-end_piece.ensures.fault)
+    ∙ l.invariant.pass
+    ∙ ap (text_answer root_rule) c.as_bytes-bytes.ensures.value)
+
+pub returns-in_err-end_text-clause-answer : goal.returns-in_err-end_text-clause-answer
+returns-in_err-end_text-clause-answer c =
+    let l = c.loop-index in
+    let none : drop l.index c.as_bytes-bytes.result.now ≡ [] = drop_all l.index c.as_bytes-bytes.result.now c.loop-index-test.false in
+    let fault = c.in_err-end_text.field-0.0 in
+    rw (handed_on (λ octets. arcs_of_octets (octets_of octets)) c.from_residual-in_err-end_text.result fault c.from_residual-in_err-end_text.ensures.1)
+    (sym (text_pass-end_fault root_rule l.encoder l.begun l.number c.then_some.result fault c.then_some.ensures c.in_err-end_text.ensures.fault)
+    ∙ (rw none at l.invariant.pass)
+    ∙ ap (text_answer root_rule) c.as_bytes-bytes.ensures.value)

@@ -1,8 +1,10 @@
 use Rattle.std.proofs.Common.{◌∙◌, ◌-◌, length, take, arith, subst, sym}
+use Rattle.std.specs.Prelude.{Ok}
 use Rattle.std.specs.Io.KnownBytes.{Consumes}
 use Rattle.std.proofs.KnownBytes.{Consumes-trans}
 use Rattle.std.proofs.lemmas.List.{length-take-le}
-use Rattle.oid_tool.proofs.Output.{take_grown}
+use Rattle.oid_tool.proofs.Output.{take_grown, consumed_same}
+use Rattle.oid_tool.proofs.ToolError.{not_too_long}
 use Rattle.oid_tool.proofs.run.read_all.Goals as goal
 
 pub loop-len-preserved : goal.loop-len-preserved
@@ -21,3 +23,10 @@ returns-clause-too_long g c = λ _. record {
   consumes = c.loop-len.invariant.consumed;
   number = length-take-le c.loop-len.len c.loop-len.room (omega arith) ∙ (omega arith);
 }
+
+pub returns-in-Ok-eq0-clause-bytes : goal.returns-in-Ok-eq0-clause-bytes
+returns-in-Ok-eq0-clause-bytes g c =
+    consumed_same _ _ _ c.loop-len.len _ c.in-Ok-eq0.field-0 c.loop-len.room c.read.new.buf (omega arith) c.in-Ok-eq0.field-0-test c.loop-len.invariant.consumed c.in-Ok-eq0.ensures.bytes.0
+
+pub returns-in-Ok-eq0-clause-too_long : goal.returns-in-Ok-eq0-clause-too_long
+returns-in-Ok-eq0-clause-too_long g c = λ told. absurd (not_too_long (Ok c.loop-len.len) tt told)

@@ -2,7 +2,7 @@ use Rattle.std.proofs.Common.{◌∙◌, ap, arith, length}
 use Rattle.std.proofs.lemmas.Result.{err_from_is_err_and}
 use Rattle.oid_tool.specs.Answers.{answers}
 use Rattle.oid_tool.proofs.Output.{appends_more, appends_all, appends_front, appends_front_within}
-use Rattle.oid_tool.proofs.Lines.{answers-nil, answers_not_empty, answers-next, length-after_line, not_empty_by_length, empty_by_length}
+use Rattle.oid_tool.proofs.Lines.{answers-nil, answers_not_empty, answers-next, length-first_line, length-after_line, after_line-shorter, not_empty_by_length, empty_by_length}
 use Rattle.oid_tool.proofs.run.write_answers.Goals as goal
 
 pub returns-in_default-clause-front : goal.returns-in_default-clause-front
@@ -26,3 +26,10 @@ loop-rest-preserved g c =
 pub returns-clause-ok : goal.returns-clause-ok
 returns-clause-ok g c =
     appends_all _ _ _ _ c.loop-rest.invariant.written (ap (answers _) (empty_by_length _ c.loop-rest-test.ensures) ∙ answers-nil _)
+
+pub show-requires : goal.show-requires
+show-requires g c = omega (arith, ap length c.cut.ensures.front, length-first_line c.loop-rest.rest.now)
+
+pub loop-rest-smaller : goal.loop-rest-smaller
+loop-rest-smaller g c =
+    omega (arith, ap length c.cut.ensures.back, after_line-shorter c.loop-rest.rest.now (not_empty_by_length _ c.loop-rest-test.ensures))
