@@ -34,12 +34,14 @@ octets_are oid = sym (encoding_of-encoded root_rule (oid_arcs oid) (oid_octets o
 pub size_fits : {N : ℕ} (oid : ObjectIdentifier N) → size (oid_arcs oid) ≤ min N 255
 size_fits oid = omega (arith, oid.ber.within, length-take oid.ber.used oid.ber.bytes, length_is_size root_rule (oid_arcs oid) (oid_octets oid) (oid_encoding oid))
 
--- its printed text is read as its arcs
-pub printed_back : (oid : ObjectIdentifier 39) → text_answer root_rule (text_of (oid_arcs oid)) ≡ Ok (oid_arcs oid)
-printed_back oid =
+-- its printed text is read as its arcs, at each capacity that it is within
+pub printed_back_within : {N : ℕ} (oid : ObjectIdentifier N) (capacity : ℕ) → size (oid_arcs oid) ≤ capacity → text_answer root_rule (text_of (oid_arcs oid)) capacity ≡ Ok (oid_arcs oid)
+printed_back_within oid capacity fits =
     let denoted = text_denotes root_rule (oid_arcs oid) (oid_encoding oid).identifier in
-    let short : size (oid_arcs oid) ≤ 39 = omega (arith, size_fits oid) in
-    rw (text_fault-none root_rule (text_of (oid_arcs oid)) (oid_arcs oid) denoted short, sym denoted.values) refl
+    rw (text_fault-none root_rule capacity (text_of (oid_arcs oid)) (oid_arcs oid) denoted fits, sym denoted.values) refl
+
+pub printed_back : (oid : ObjectIdentifier 39) → text_answer root_rule (text_of (oid_arcs oid)) 39 ≡ Ok (oid_arcs oid)
+printed_back oid = printed_back_within oid 39 (size_fits oid)
 
 -- its child has it as the parent
 pub parent_of_child : {N : ℕ} (oid : ObjectIdentifier N) (arc : ℕ) → parent_of (child_of (oid_arcs oid) arc) ≡ Some (oid_arcs oid)
@@ -82,9 +84,9 @@ pub written_whole : (old text new : List ℕ) → WritesInCalls (λ old piece ne
 written_whole old text new h = contents_after_writes (λ old piece new. new ≡ old ++ piece) (λ held. held) (λ _ _ _ e. e) old text new h
 
 -- the answer to the items of an iterator is exact where the iterator tells the list that it has left
-pub exact_answer : {S : Type 0} (rule : RootRule) (rest : S → List ℕ) (s : S) (result : Result (List ℕ) Error) → TakesItems rule (YieldsFirst rest) s result → result ≡ item_answer rule (rest s)
-exact_answer rule rest s (Ok arcs) (p, from, whole, (is, none)) =
+pub exact_answer : {S : Type 0} (rule : RootRule) (capacity : ℕ) (rest : S → List ℕ) (s : S) (result : Result (List ℕ) Error) → TakesItems rule capacity (YieldsFirst rest) s result → result ≡ item_answer rule (rest s) capacity
+exact_answer rule capacity rest s (Ok arcs) (p, from, whole, (is, none)) =
     let e : arcs ≡ rest s = sym is ∙ (run_of_first rest p).1.4 whole ∙ ap rest from in
     rw (rw e at none) (ap Ok e)
-exact_answer rule rest s (Err fault) (p, from, refused) =
+exact_answer rule capacity rest s (Err fault) (p, from, refused) =
     rw (rw from at (refused (rest p.from) (run_of_first rest p).1))

@@ -6,6 +6,7 @@ pub mod Cutting
 pub mod Encodings
 pub mod Lengths
 pub mod Orders
+pub mod ByParts
 pub mod BeginsWith
 pub mod Items
 pub mod Numbers

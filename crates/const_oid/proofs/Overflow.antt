@@ -64,12 +64,12 @@ few_other [] = λ e. cc
 few_other (arc ∷ []) = λ e. cc
 few_other (first ∷ second ∷ later) = λ e. cc
 
-behind_other : (rule : RootRule) (before items : List ℕ) → items_fault rule before items ≢ Some Overflow
-behind_other rule before [] = few_other before
-behind_other rule before (item ∷ items) = or_other Overflow _ _ (arc_other rule 39 before item) (behind_other rule (before ++ item ∷ []) items)
+behind_other : (rule : RootRule) (capacity : ℕ) (before items : List ℕ) → items_fault rule capacity before items ≢ Some Overflow
+behind_other rule capacity before [] = few_other before
+behind_other rule capacity before (item ∷ items) = or_other Overflow _ _ (arc_other rule capacity before item) (behind_other rule capacity (before ++ item ∷ []) items)
 
-pub items_other : (rule : RootRule) (items : List ℕ) → item_fault rule items ≢ Some Overflow
-items_other rule = behind_other rule []
+pub items_other : (rule : RootRule) (capacity : ℕ) (items : List ℕ) → item_fault rule items capacity ≢ Some Overflow
+items_other rule capacity = behind_other rule capacity []
 
 -- ---- texts
 
@@ -88,17 +88,17 @@ single_other [] [] = λ e. cc
 single_other [] (next ∷ more) = λ e. cc
 single_other (arc ∷ arcs) after = λ e. cc
 
-piece_other : (rule : RootRule) (before piece : List ℕ) (after : List (List ℕ)) → piece_fault rule before piece after ≢ Some Overflow
-piece_other rule before piece after =
+piece_other : (rule : RootRule) (capacity : ℕ) (before piece : List ℕ) (after : List (List ℕ)) → piece_fault rule capacity before piece after ≢ Some Overflow
+piece_other rule capacity before piece after =
     or_other Overflow _ _ (if_other Overflow (nat_lt most_arc (number_of piece)) ArcTooBig (λ e. cc))
     (or_other Overflow _ _ (digit_other (find (λ b. not (is_ascii_digit b)) piece))
     (or_other Overflow _ _ (if_other Overflow (is_empty piece) (empty_fault before after) (empty_other before after))
     (or_other Overflow _ _ (if_other Overflow (is_one_empty after) TrailingDot (λ e. cc))
-    (or_other Overflow _ _ (arc_other rule 39 before (number_of piece)) (single_other before after)))))
+    (or_other Overflow _ _ (arc_other rule capacity before (number_of piece)) (single_other before after)))))
 
-pieces_other : (rule : RootRule) (before : List ℕ) (pieces : List (List ℕ)) → pieces_fault rule before pieces ≢ Some Overflow
-pieces_other rule before [] = λ e. cc
-pieces_other rule before (piece ∷ after) = or_other Overflow _ _ (piece_other rule before piece after) (pieces_other rule (before ++ number_of piece ∷ []) after)
+pieces_other : (rule : RootRule) (capacity : ℕ) (before : List ℕ) (pieces : List (List ℕ)) → pieces_fault rule capacity before pieces ≢ Some Overflow
+pieces_other rule capacity before [] = λ e. cc
+pieces_other rule capacity before (piece ∷ after) = or_other Overflow _ _ (piece_other rule capacity before piece after) (pieces_other rule capacity (before ++ number_of piece ∷ []) after)
 
-pub text_other : (rule : RootRule) (text : List ℕ) → text_fault rule text ≢ Some Overflow
-text_other rule text = pieces_other rule [] (pieces_of text)
+pub text_other : (rule : RootRule) (capacity : ℕ) (text : List ℕ) → text_fault rule text capacity ≢ Some Overflow
+text_other rule capacity text = pieces_other rule capacity [] (pieces_of text)

@@ -1,20 +1,21 @@
 -- Octets without their last part.
-use Rattle.std.proofs.Common.{◌≡◌, ◌≢◌, ℕ, zero, suc, ◌+◌, ◌-◌, ◌/◌, ◌%◌, ◌<◌, ◌≤◌, List, [], ◌∷◌, ◌++◌, length, map, take, slice_index, Some, None, refl, sym, ap, ◌∙◌, arith, lt-ltb, le-ltb, length-append, ⊎_elim}
+use Rattle.std.proofs.Common.{◌≡◌, ◌≢◌, ℕ, zero, suc, ◌+◌, ◌-◌, ◌/◌, ◌%◌, ◌<◌, ◌≤◌, List, [], ◌∷◌, ◌++◌, length, map, take, drop, slice_index, Some, None, refl, sym, ap, ◌∙◌, arith, lt-ltb, le-ltb, length-append, ⊎_elim}
 use Rattle.std.specs.Prelude.{◌↔◌}
 use Rattle.std.specs.List.{onto_first, concat}
 use Rattle.std.proofs.lemmas.Bool.{cases_lt}
-use Rattle.std.proofs.lemmas.List.{length-map, take-map}
+use Rattle.std.proofs.lemmas.List.{length-map, take-map, take-append-drop}
+use Rattle.std.proofs.lemmas.List.Folds.{concat-append}
 use Rattle.std.proofs.Math.Seq.{take-append_seam}
 use Rattle.std.proofs.lemmas.Bool.Decides.{nat_tests}
 use Rattle.const_oid.specs.Base128.{value_of}
 use Rattle.const_oid.specs.Identifier.{RootRule, most_arc, IsIdentifier, IsEncoding}
 use Rattle.const_oid.specs.Contents.{cut, cut_behind, part_fault, first_fault, later_fault, parts_fault, arcs_from, arcs_of_octets}
-use Rattle.const_oid.specs.Tree.{parent_of}
+use Rattle.const_oid.specs.Tree.{BeginsWith, parent_of}
 use Rattle.const_oid.proofs.Faults.{both_none}
 use Rattle.const_oid.proofs.Tree.{child_of-parent_of}
 use Rattle.const_oid.proofs.Children.{encoding_parent}
 use Rattle.const_oid.proofs.Lengths.{length_by_parts}
-use Rattle.const_oid.proofs.Cutting.{cut_behind-last, cut_behind-more, cut_behind-some, cut-some}
+use Rattle.const_oid.proofs.Cutting.{cut_behind-last, cut_behind-more, cut_behind-some, cut-some, concat-cut}
 
 -- ---- where the last part begins
 
@@ -97,6 +98,14 @@ parent_of-parts (part ∷ []) some = absurd (some refl)
 parent_of-parts (part ∷ next ∷ later) some =
     let e : length (part ∷ next ∷ later) - 1 ≡ suc (length later) = omega arith in
     rw (e, ← take-map value_of (length later) (next ∷ later), ← length-map later value_of) (parent_of-more (value_of part) (value_of next) (map value_of later))
+
+-- they begin the octets
+pub front_from_parts : (octets front : List ℕ) (k : ℕ) → cut front ≡ take k (cut octets) → BeginsWith octets front
+front_from_parts octets front k e =
+    let parts = cut octets in (
+      concat (drop k parts),
+      sym (concat-cut octets) ∙ ap concat (sym (take-append-drop k parts)) ∙ concat-append (take k parts) (drop k parts) ∙ ap (λ f. f ++ concat (drop k parts)) (ap concat (sym e) ∙ concat-cut front),
+    )
 
 -- their arcs are the parent's
 pub parent_before_last : (octets front : List ℕ) → (let parts = cut octets in cut front ≡ take (length parts - 1) parts) → front ≢ [] → parent_of (arcs_of_octets octets) ≡ Some (arcs_of_octets front)

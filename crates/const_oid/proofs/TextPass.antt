@@ -32,17 +32,17 @@ behind None r = r
 behind (Some fault) r = Err fault
 
 -- what a pass over the bytes comes to first, behind the arcs before, from a piece that is begun or not and its number so far
-abbrev pub text_pass : RootRule → List ℕ → Bool → ℕ → List ℕ → Result (List ℕ) Error
-text_pass rule before begun value [] = if begun then answer (option_or (arc_fault rule 39 before value) (single_fault before [])) (before ++ value ∷ []) else Err (empty_fault before [])
-text_pass rule before begun value (b ∷ bs) =
-    if is_ascii_digit b then (if nat_lt most_arc (value * 10 + (b - 48)) then Err ArcTooBig else text_pass rule before true (value * 10 + (b - 48)) bs)
-    else (if b == 46 then (if begun then (if is_empty bs then Err TrailingDot else behind (arc_fault rule 39 before value) (text_pass rule (before ++ value ∷ []) false 0 bs))
+abbrev pub text_pass : RootRule → ℕ → List ℕ → Bool → ℕ → List ℕ → Result (List ℕ) Error
+text_pass rule capacity before begun value [] = if begun then answer (option_or (arc_fault rule capacity before value) (single_fault before [])) (before ++ value ∷ []) else Err (empty_fault before [])
+text_pass rule capacity before begun value (b ∷ bs) =
+    if is_ascii_digit b then (if nat_lt most_arc (value * 10 + (b - 48)) then Err ArcTooBig else text_pass rule capacity before true (value * 10 + (b - 48)) bs)
+    else (if b == 46 then (if begun then (if is_empty bs then Err TrailingDot else behind (arc_fault rule capacity before value) (text_pass rule capacity (before ++ value ∷ []) false 0 bs))
     else Err (if is_empty before then DigitExpected 46 else RepeatedDot))
     else Err (DigitExpected b))
 
 -- the answer of pieces
-abbrev pieces_answer : RootRule → List ℕ → List (List ℕ) → Result (List ℕ) Error
-pieces_answer rule before pieces = answer (pieces_fault rule before pieces) (before ++ map number_of pieces)
+abbrev pieces_answer : RootRule → ℕ → List ℕ → List (List ℕ) → Result (List ℕ) Error
+pieces_answer rule capacity before pieces = answer (pieces_fault rule capacity before pieces) (before ++ map number_of pieces)
 
 -- what a pass has read of a piece
 record IsPieceRead (front : List ℕ) (begun : Bool) (value : ℕ) : Type 0 where
@@ -74,8 +74,8 @@ take_while-other b bs d = rw d
 -- ---- the piece that is read
 
 -- a digit takes its number past the limit
-piece_too_big : (rule : RootRule) (before front : List ℕ) (b : ℕ) (more : List ℕ) (after : List (List ℕ)) → all_ascii_digits front ≡ true → is_ascii_digit b ≡ true → most_arc < digits_value 10 front * 10 + (b - 48) → piece_fault rule before (front ++ b ∷ more) after ≡ Some ArcTooBig
-piece_too_big rule before front b more after h d l = rw (lt-ltb most_arc (number_of (front ++ b ∷ more)) grown)
+piece_too_big : (rule : RootRule) (capacity : ℕ) (before front : List ℕ) (b : ℕ) (more : List ℕ) (after : List (List ℕ)) → all_ascii_digits front ≡ true → is_ascii_digit b ≡ true → most_arc < digits_value 10 front * 10 + (b - 48) → piece_fault rule capacity before (front ++ b ∷ more) after ≡ Some ArcTooBig
+piece_too_big rule capacity before front b more after h d l = rw (lt-ltb most_arc (number_of (front ++ b ∷ more)) grown)
   where
     front' : List ℕ
     front' = front ++ b ∷ []
@@ -90,15 +90,15 @@ piece_too_big rule before front b more after h d l = rw (lt-ltb most_arc (number
         omega (arith, n, k, value_push front b d)
 
 -- it has a byte that is no digit
-bad_byte : (rule : RootRule) (before front : List ℕ) (b : ℕ) (more : List ℕ) (after : List (List ℕ)) → all_ascii_digits front ≡ true → is_ascii_digit b ≡ false → digits_value 10 front ≤ most_arc → piece_fault rule before (front ++ b ∷ more) after ≡ Some (DigitExpected b)
-bad_byte rule before front b more after h d l =
+bad_byte : (rule : RootRule) (capacity : ℕ) (before front : List ℕ) (b : ℕ) (more : List ℕ) (after : List (List ℕ)) → all_ascii_digits front ≡ true → is_ascii_digit b ≡ false → digits_value 10 front ≤ most_arc → piece_fault rule capacity before (front ++ b ∷ more) after ≡ Some (DigitExpected b)
+bad_byte rule capacity before front b more after h d l =
     let e : number_of (front ++ b ∷ more) ≡ digits_value 10 front = ap (digits_value 10) (take_while-digits front (b ∷ more) h ∙ ap (λ xs. front ++ xs) (take_while-other b more d) ∙ append-nil front) in
     rw (e, le-ltb most_arc (digits_value 10 front) l, find-digits front (b ∷ more) h, d)
 
 -- it has digits alone
-digits_piece : (rule : RootRule) (before front : List ℕ) (value : ℕ) (after : List (List ℕ)) → all_ascii_digits front ≡ true → number_of front ≡ value → value ≤ most_arc →
-    piece_fault rule before front after ≡ option_or (fault_if (is_empty front) (empty_fault before after)) (option_or (fault_if (is_one_empty after) TrailingDot) (option_or (arc_fault rule 39 before value) (single_fault before after)))
-digits_piece rule before front value after h n l = rw (n, le-ltb most_arc value l, find-none front h)
+digits_piece : (rule : RootRule) (capacity : ℕ) (before front : List ℕ) (value : ℕ) (after : List (List ℕ)) → all_ascii_digits front ≡ true → number_of front ≡ value → value ≤ most_arc →
+    piece_fault rule capacity before front after ≡ option_or (fault_if (is_empty front) (empty_fault before after)) (option_or (fault_if (is_one_empty after) TrailingDot) (option_or (arc_fault rule capacity before value) (single_fault before after)))
+digits_piece rule capacity before front value after h n l = rw (n, le-ltb most_arc value l, find-none front h)
 
 -- ---- pieces
 
@@ -155,28 +155,28 @@ behind-answer None other arcs = refl
 behind-answer (Some x) other arcs = refl
 
 -- at the end of the text
-end_is : (rule : RootRule) (before front : List ℕ) (begun : Bool) (value : ℕ) → IsPieceRead front begun value → text_pass rule before begun value [] ≡ pieces_answer rule before (front ∷ [])
-end_is rule before [] begun value s = rw s.begun_is
-end_is rule before (y ∷ ys) begun value s =
+end_is : (rule : RootRule) (capacity : ℕ) (before front : List ℕ) (begun : Bool) (value : ℕ) → IsPieceRead front begun value → text_pass rule capacity before begun value [] ≡ pieces_answer rule capacity before (front ∷ [])
+end_is rule capacity before [] begun value s = rw s.begun_is
+end_is rule capacity before (y ∷ ys) begun value s =
     let n = read_number (y ∷ ys) begun value s in
-    rw (s.begun_is, digits_piece rule before (y ∷ ys) value [] s.digits n s.small, n, or_none (option_or (arc_fault rule 39 before value) (single_fault before [])))
+    rw (s.begun_is, digits_piece rule capacity before (y ∷ ys) value [] s.digits n s.small, n, or_none (option_or (arc_fault rule capacity before value) (single_fault before [])))
 
 -- at a dot, where what follows is passed over as it should be
-dot_is : (rule : RootRule) (before front : List ℕ) (begun : Bool) (value : ℕ) (bs : List ℕ) → IsPieceRead front begun value → text_pass rule (before ++ value ∷ []) false 0 bs ≡ pieces_answer rule (before ++ value ∷ []) (pieces_of bs) →
-    (if begun then (if is_empty bs then Err TrailingDot else behind (arc_fault rule 39 before value) (text_pass rule (before ++ value ∷ []) false 0 bs)) else Err (if is_empty before then DigitExpected 46 else RepeatedDot)) ≡ pieces_answer rule before (front ∷ pieces_of bs)
-dot_is rule before [] begun value bs s rest = rw (s.begun_is, empty-several before bs)
-dot_is rule before (y ∷ ys) begun value [] s rest =
+dot_is : (rule : RootRule) (capacity : ℕ) (before front : List ℕ) (begun : Bool) (value : ℕ) (bs : List ℕ) → IsPieceRead front begun value → text_pass rule capacity (before ++ value ∷ []) false 0 bs ≡ pieces_answer rule capacity (before ++ value ∷ []) (pieces_of bs) →
+    (if begun then (if is_empty bs then Err TrailingDot else behind (arc_fault rule capacity before value) (text_pass rule capacity (before ++ value ∷ []) false 0 bs)) else Err (if is_empty before then DigitExpected 46 else RepeatedDot)) ≡ pieces_answer rule capacity before (front ∷ pieces_of bs)
+dot_is rule capacity before [] begun value bs s rest = rw (s.begun_is, empty-several before bs)
+dot_is rule capacity before (y ∷ ys) begun value [] s rest =
     let n = read_number (y ∷ ys) begun value s in
-    rw (s.begun_is, digits_piece rule before (y ∷ ys) value ([] ∷ []) s.digits n s.small)
-dot_is rule before (y ∷ ys) begun value (c ∷ cs) s rest =
+    rw (s.begun_is, digits_piece rule capacity before (y ∷ ys) value ([] ∷ []) s.digits n s.small)
+dot_is rule capacity before (y ∷ ys) begun value (c ∷ cs) s rest =
     let n = read_number (y ∷ ys) begun value s in
     let ps = pieces_of (c ∷ cs) in
-    rw (s.begun_is, digits_piece rule before (y ∷ ys) value ps s.digits n s.small, one_empty-pieces (c ∷ cs), single-several before (c ∷ cs), or_none (arc_fault rule 39 before value), n, rest, append-cons before value (map number_of ps))
-    (behind-answer (arc_fault rule 39 before value) (pieces_fault rule (before ++ value ∷ []) ps) (before ++ value ∷ map number_of ps))
+    rw (s.begun_is, digits_piece rule capacity before (y ∷ ys) value ps s.digits n s.small, one_empty-pieces (c ∷ cs), single-several before (c ∷ cs), or_none (arc_fault rule capacity before value), n, rest, append-cons before value (map number_of ps))
+    (behind-answer (arc_fault rule capacity before value) (pieces_fault rule capacity (before ++ value ∷ []) ps) (before ++ value ∷ map number_of ps))
 
-text_pass_is : (bytes : List ℕ) (rule : RootRule) (before front : List ℕ) (begun : Bool) (value : ℕ) → IsPieceRead front begun value → text_pass rule before begun value bytes ≡ pieces_answer rule before (onto_all front (pieces_of bytes))
-text_pass_is [] rule before front begun value s = rw (onto_all-cons front [] [], append-nil front) (end_is rule before front begun value s)
-text_pass_is (b ∷ bs) rule before front begun value s = ⊎_elim
+text_pass_is : (bytes : List ℕ) (rule : RootRule) (capacity : ℕ) (before front : List ℕ) (begun : Bool) (value : ℕ) → IsPieceRead front begun value → text_pass rule capacity before begun value bytes ≡ pieces_answer rule capacity before (onto_all front (pieces_of bytes))
+text_pass_is [] rule capacity before front begun value s = rw (onto_all-cons front [] [], append-nil front) (end_is rule capacity before front begun value s)
+text_pass_is (b ∷ bs) rule capacity before front begun value s = ⊎_elim
     (λ (d : is_ascii_digit b ≡ true).
     let value' = value * 10 + (b - 48) in
     let v : value' ≡ digits_value 10 (front ++ b ∷ []) = ap (λ w. w * 10 + (b - 48)) s.value_is ∙ sym (value_push front b d) in
@@ -184,9 +184,9 @@ text_pass_is (b ∷ bs) rule before front begun value s = ⊎_elim
     rw (slice_split-cons_no (λ c. c == 46) b bs (digit-undotted b d), onto_all-first front b (pieces_of bs), d) (⊎_elim
     (λ (big : most_arc < value').
     let l : most_arc < digits_value 10 front * 10 + (b - 48) = rw s.value_is at big in
-    rw (lt-ltb most_arc value' big, e, piece_too_big rule before front b more after s.digits d l))
+    rw (lt-ltb most_arc value' big, e, piece_too_big rule capacity before front b more after s.digits d l))
     (λ (small : value' ≤ most_arc).
-    rw (le-ltb most_arc value' small) (text_pass_is bs rule before (front ++ b ∷ []) true value' (record {
+    rw (le-ltb most_arc value' small) (text_pass_is bs rule capacity before (front ++ b ∷ []) true value' (record {
       digits = digits_push front b s.digits d;
       begun_is = not_empty_push front b;
       value_is = v;
@@ -196,15 +196,15 @@ text_pass_is (b ∷ bs) rule before front begun value s = ⊎_elim
     (λ (d : is_ascii_digit b ≡ false). ⊎_elim
     (λ (dot : b ≡ 46).
     rw (slice_split-cons_yes (λ c. c == 46) b bs (eq-eqb b 46 dot), onto_all-cons front [] (pieces_of bs), append-nil front, d, eq-eqb b 46 dot)
-    (dot_is rule before front begun value bs s (text_pass_is bs rule (before ++ value ∷ []) [] false 0 piece_read-none)))
+    (dot_is rule capacity before front begun value bs s (text_pass_is bs rule capacity (before ++ value ∷ []) [] false 0 piece_read-none)))
     (λ (other : b ≡ 46 → ⊥).
     let (more, after, e) = onto_all-some front b (pieces_of bs) in
-    rw (slice_split-cons_no (λ c. c == 46) b bs (ne_eqb b 46 other), onto_all-first front b (pieces_of bs), e, d, ne_eqb b 46 other, bad_byte rule before front b more after s.digits d (rw s.value_is at s.small)))
+    rw (slice_split-cons_no (λ c. c == 46) b bs (ne_eqb b 46 other), onto_all-first front b (pieces_of bs), e, d, ne_eqb b 46 other, bad_byte rule capacity before front b more after s.digits d (rw s.value_is at s.small)))
     (cases_eq b 46))
     (cases_Bool (is_ascii_digit b))
 
-pub text_answer_is : (rule : RootRule) (text : List ℕ) → text_pass rule [] false 0 text ≡ text_answer rule text
-text_answer_is rule text = text_pass_is text rule [] [] false 0 piece_read-none
+pub text_answer_is : (rule : RootRule) (capacity : ℕ) (text : List ℕ) → text_pass rule capacity [] false 0 text ≡ text_answer rule text capacity
+text_answer_is rule capacity text = text_pass_is text rule capacity [] [] false 0 piece_read-none
 
 -- ---- the end of the text
 
@@ -214,40 +214,40 @@ few_is_single (a ∷ []) arc = refl
 few_is_single (a ∷ b ∷ later) arc = refl
 
 -- where the last piece has no fault, what is encoded of all arcs is what the pass comes to
-pub text_pass-end : {X : Type 0} (octets_in : X → List ℕ) (rule : RootRule) (before : List ℕ) (number : Option ℕ) (result : Result X Error) →
-    None ≡ last_fault rule before number → result_err result ≡ few_fault (before ++ unwrap_or number 0 ∷ []) → IfOk result (λ x. IsEncoding rule (before ++ unwrap_or number 0 ∷ []) (octets_in x)) →
-    result_map_both (λ x. arcs_of_octets (octets_in x)) (λ fault. fault) result ≡ text_pass rule before (is_some number) (unwrap_or number 0) []
-text_pass-end octets_in rule before None result n f e = cc
-text_pass-end octets_in rule before (Some arc) (Ok x) n f e = rw (← n, ← few_is_single before arc, ← f) (ap Ok (arcs_of_encoding rule (before ++ arc ∷ []) (octets_in x) e))
-text_pass-end octets_in rule before (Some arc) (Err fault) n f e = rw (← n, ← few_is_single before arc, ← f) refl
+pub text_pass-end : {X : Type 0} (octets_in : X → List ℕ) (rule : RootRule) (capacity : ℕ) (before : List ℕ) (number : Option ℕ) (result : Result X Error) →
+    None ≡ last_fault rule capacity before number → result_err result ≡ few_fault (before ++ unwrap_or number 0 ∷ []) → IfOk result (λ x. IsEncoding rule (before ++ unwrap_or number 0 ∷ []) (octets_in x)) →
+    result_map_both (λ x. arcs_of_octets (octets_in x)) (λ fault. fault) result ≡ text_pass rule capacity before (is_some number) (unwrap_or number 0) []
+text_pass-end octets_in rule capacity before None result n f e = cc
+text_pass-end octets_in rule capacity before (Some arc) (Ok x) n f e = rw (← n, ← few_is_single before arc, ← f) (ap Ok (arcs_of_encoding rule (before ++ arc ∷ []) (octets_in x) e))
+text_pass-end octets_in rule capacity before (Some arc) (Err fault) n f e = rw (← n, ← few_is_single before arc, ← f) refl
 
 -- ---- one byte of a text at a place
 
 -- a digit that takes the number past the limit
-pub text_pass-too_big : (rule : RootRule) (before : List ℕ) (begun : Bool) (value digit : ℕ) (text : List ℕ) (index : ℕ) → index < length text → is_ascii_digit (get_or text index 0) ≡ true → digit ≡ get_or text index 0 - 48 → most_arc < value * 10 + digit → text_pass rule before begun value (drop index text) ≡ Err ArcTooBig
-text_pass-too_big rule before begun value digit text index inside is_digit is big = rw (drop-cons text index 0 inside, is_digit, ← is, lt-ltb most_arc (value * 10 + digit) big) refl
+pub text_pass-too_big : (rule : RootRule) (capacity : ℕ) (before : List ℕ) (begun : Bool) (value digit : ℕ) (text : List ℕ) (index : ℕ) → index < length text → is_ascii_digit (get_or text index 0) ≡ true → digit ≡ get_or text index 0 - 48 → most_arc < value * 10 + digit → text_pass rule capacity before begun value (drop index text) ≡ Err ArcTooBig
+text_pass-too_big rule capacity before begun value digit text index inside is_digit is big = rw (drop-cons text index 0 inside, is_digit, ← is, lt-ltb most_arc (value * 10 + digit) big) refl
 
 -- no byte is left exactly where the text ends
 none_left : (bytes : List ℕ) (index total : ℕ) → total ≡ index + length bytes → (index == total) ≡ is_empty bytes
 none_left [] index total all = eq-eqb index total (omega arith)
 none_left (b ∷ bs) index total all = ne_eqb index total (λ e. omega arith)
 
-first_dot : (rule : RootRule) (before : List ℕ) (begun : Bool) (value : ℕ) (piece : Option ℕ) (bs : List ℕ) → piece ≡ then_some begun value → text_pass rule before begun value (46 ∷ bs) ≡ behind (dot_fault rule before piece (is_empty bs)) (text_pass rule (before ++ unwrap_or piece 0 ∷ []) false 0 bs)
-first_dot rule before true value piece [] is = rw is refl
-first_dot rule before true value piece (b ∷ bs) is = rw is refl
-first_dot rule before false value piece bs is = rw is refl
+first_dot : (rule : RootRule) (capacity : ℕ) (before : List ℕ) (begun : Bool) (value : ℕ) (piece : Option ℕ) (bs : List ℕ) → piece ≡ then_some begun value → text_pass rule capacity before begun value (46 ∷ bs) ≡ behind (dot_fault rule capacity before piece (is_empty bs)) (text_pass rule capacity (before ++ unwrap_or piece 0 ∷ []) false 0 bs)
+first_dot rule capacity before true value piece [] is = rw is refl
+first_dot rule capacity before true value piece (b ∷ bs) is = rw is refl
+first_dot rule capacity before false value piece bs is = rw is refl
 
 -- a dot, behind a piece with its number if it has digits
-pub text_pass-dot : (rule : RootRule) (before : List ℕ) (begun : Bool) (value : ℕ) (piece : Option ℕ) (fault : Option Error) (text : List ℕ) (index : ℕ) → index < length text → get_or text index 0 ≡ 46 → piece ≡ then_some begun value → fault ≡ dot_fault rule before piece (index + 1 == length text) → text_pass rule before begun value (drop index text) ≡ behind fault (text_pass rule (before ++ unwrap_or piece 0 ∷ []) false 0 (drop (index + 1) text))
-text_pass-dot rule before begun value piece fault text index inside dot is e =
+pub text_pass-dot : (rule : RootRule) (capacity : ℕ) (before : List ℕ) (begun : Bool) (value : ℕ) (piece : Option ℕ) (fault : Option Error) (text : List ℕ) (index : ℕ) → index < length text → get_or text index 0 ≡ 46 → piece ≡ then_some begun value → fault ≡ dot_fault rule capacity before piece (index + 1 == length text) → text_pass rule capacity before begun value (drop index text) ≡ behind fault (text_pass rule capacity (before ++ unwrap_or piece 0 ∷ []) false 0 (drop (index + 1) text))
+text_pass-dot rule capacity before begun value piece fault text index inside dot is e =
     let ends = none_left (drop (index + 1) text) (index + 1) (length text) (omega (arith, length-drop (index + 1) text)) in
-    rw (e, ends, add-one, drop-cons text index 0 inside, dot) (first_dot rule before begun value piece (drop (suc index) text) is)
+    rw (e, ends, add-one, drop-cons text index 0 inside, dot) (first_dot rule capacity before begun value piece (drop (suc index) text) is)
 
 -- another byte
-pub text_pass-other : (rule : RootRule) (before : List ℕ) (begun : Bool) (value : ℕ) (text : List ℕ) (index : ℕ) → index < length text → is_ascii_digit (get_or text index 0) ≡ false → get_or text index 0 ≢ 46 → text_pass rule before begun value (drop index text) ≡ Err (DigitExpected (get_or text index 0))
-text_pass-other rule before begun value text index inside no_digit no_dot = rw (drop-cons text index 0 inside, no_digit, ne_eqb (get_or text index 0) 46 no_dot) refl
+pub text_pass-other : (rule : RootRule) (capacity : ℕ) (before : List ℕ) (begun : Bool) (value : ℕ) (text : List ℕ) (index : ℕ) → index < length text → is_ascii_digit (get_or text index 0) ≡ false → get_or text index 0 ≢ 46 → text_pass rule capacity before begun value (drop index text) ≡ Err (DigitExpected (get_or text index 0))
+text_pass-other rule capacity before begun value text index inside no_digit no_dot = rw (drop-cons text index 0 inside, no_digit, ne_eqb (get_or text index 0) 46 no_dot) refl
 
 -- a fault of the last piece
-pub text_pass-end_fault : (rule : RootRule) (before : List ℕ) (begun : Bool) (value : ℕ) (piece : Option ℕ) (fault : Error) → piece ≡ then_some begun value → Some fault ≡ last_fault rule before piece → text_pass rule before begun value [] ≡ Err fault
-text_pass-end_fault rule before true value piece fault is e = let e' : Some fault ≡ arc_fault rule 39 before value = rw is at e in rw (← e') refl
-text_pass-end_fault rule before false value piece fault is e = let e' : Some fault ≡ Some (empty_fault before []) = rw is at e in cc
+pub text_pass-end_fault : (rule : RootRule) (capacity : ℕ) (before : List ℕ) (begun : Bool) (value : ℕ) (piece : Option ℕ) (fault : Error) → piece ≡ then_some begun value → Some fault ≡ last_fault rule capacity before piece → text_pass rule capacity before begun value [] ≡ Err fault
+text_pass-end_fault rule capacity before true value piece fault is e = let e' : Some fault ≡ arc_fault rule capacity before value = rw is at e in rw (← e') refl
+text_pass-end_fault rule capacity before false value piece fault is e = let e' : Some fault ≡ Some (empty_fault before []) = rw is at e in cc

@@ -85,23 +85,23 @@ not_one_empty [] h = refl
 not_one_empty (piece ∷ []) h = not_empty piece h.0.0
 not_one_empty (piece ∷ next ∷ more) h = refl
 
-piece_none : (rule : RootRule) (before piece : List ℕ) (after : List (List ℕ)) → AllByRecursion IsNumber (piece ∷ after) → number_of piece ≤ most_arc → arc_fault rule 39 before (number_of piece) ≡ None → single_fault before after ≡ None → piece_fault rule before piece after ≡ None
-piece_none rule before piece after p l a s =
+piece_none : (rule : RootRule) (capacity : ℕ) (before piece : List ℕ) (after : List (List ℕ)) → AllByRecursion IsNumber (piece ∷ after) → number_of piece ≤ most_arc → arc_fault rule capacity before (number_of piece) ≡ None → single_fault before after ≡ None → piece_fault rule capacity before piece after ≡ None
+piece_none rule capacity before piece after p l a s =
     rw (none_from_below most_arc (number_of piece) ArcTooBig l, find-none piece p.0.1, not_empty piece p.0.0, not_one_empty after p.1, a, s)
 
 -- what a piece without a fault is
-record IsSound (rule : RootRule) (before piece : List ℕ) (after : List (List ℕ)) : Type 0 where
+record IsSound (rule : RootRule) (capacity : ℕ) (before piece : List ℕ) (after : List (List ℕ)) : Type 0 where
   number : IsNumber piece
   small : number_of piece ≤ most_arc
-  arc : arc_fault rule 39 before (number_of piece) ≡ None
+  arc : arc_fault rule capacity before (number_of piece) ≡ None
   several : single_fault before after ≡ None
 
 map_none : {X Y : Type 0} (f : X → Y) (x : Option X) → option_map f x ≡ None → x ≡ None
 map_none f None h = refl
 map_none f (Some x) h = cc
 
-piece_sound : (rule : RootRule) (before piece : List ℕ) (after : List (List ℕ)) → piece_fault rule before piece after ≡ None → IsSound rule before piece after
-piece_sound rule before piece after h =
+piece_sound : (rule : RootRule) (capacity : ℕ) (before piece : List ℕ) (after : List (List ℕ)) → piece_fault rule capacity before piece after ≡ None → IsSound rule capacity before piece after
+piece_sound rule capacity before piece after h =
     let (big, h1) = both_none _ _ h in
     let (digit, h2) = both_none _ _ h1 in
     let (empty, h3) = both_none _ _ h2 in
@@ -114,8 +114,8 @@ piece_sound rule before piece after h =
       several = several;
     }
 
-pub arc_from_piece : (rule : RootRule) (before piece : List ℕ) (after : List (List ℕ)) → piece_fault rule before piece after ≡ None → arc_fault rule 39 before (number_of piece) ≡ None
-arc_from_piece rule before piece after h = (piece_sound rule before piece after h).arc
+pub arc_from_piece : (rule : RootRule) (capacity : ℕ) (before piece : List ℕ) (after : List (List ℕ)) → piece_fault rule capacity before piece after ≡ None → arc_fault rule capacity before (number_of piece) ≡ None
+arc_from_piece rule capacity before piece after h = (piece_sound rule capacity before piece after h).arc
 
 -- ---- whole texts
 
@@ -124,44 +124,44 @@ several_none rule [] piece [] i = absurd i
 several_none rule [] piece (next ∷ more) i = refl
 several_none rule (a ∷ before) piece after i = refl
 
-pieces_none : (rule : RootRule) (before : List ℕ) (pieces : List (List ℕ)) → AllByRecursion IsNumber pieces → IsIdentifier rule (before ++ map number_of pieces) → size (before ++ map number_of pieces) ≤ 39 → pieces_fault rule before pieces ≡ None
-pieces_none rule before [] p i s = refl
-pieces_none rule before (piece ∷ after) p i s =
+pieces_none : (rule : RootRule) (capacity : ℕ) (before : List ℕ) (pieces : List (List ℕ)) → AllByRecursion IsNumber pieces → IsIdentifier rule (before ++ map number_of pieces) → size (before ++ map number_of pieces) ≤ capacity → pieces_fault rule capacity before pieces ≡ None
+pieces_none rule capacity before [] p i s = refl
+pieces_none rule capacity before (piece ∷ after) p i s =
     let n = number_of piece in
     let l = all_at (λ n. n ≤ most_arc) before n (map number_of after) (arcs_small rule (before ++ n ∷ map number_of after) i) in
     let e = append-cons before n (map number_of after) in
-    rw (piece_none rule before piece after p l (arc_none rule before n (map number_of after) i s) (several_none rule before piece after i))
-    (pieces_none rule (before ++ n ∷ []) after p.1 (rw (← e) at i) (rw (← e) at s))
+    rw (piece_none rule capacity before piece after p l (arc_none rule capacity before n (map number_of after) i s) (several_none rule before piece after i))
+    (pieces_none rule capacity (before ++ n ∷ []) after p.1 (rw (← e) at i) (rw (← e) at s))
 
-pub text_fault-none : (rule : RootRule) (text arcs : List ℕ) → Denotes rule text arcs → size arcs ≤ 39 → text_fault rule text ≡ None
-text_fault-none rule text arcs d s = pieces_none rule [] (pieces_of text) d.numbers (rw d.values at d.identifier) (rw d.values at s)
+pub text_fault-none : (rule : RootRule) (capacity : ℕ) (text arcs : List ℕ) → Denotes rule text arcs → size arcs ≤ capacity → text_fault rule text capacity ≡ None
+text_fault-none rule capacity text arcs d s = pieces_none rule capacity [] (pieces_of text) d.numbers (rw d.values at d.identifier) (rw d.values at s)
 
-pieces_sound : (rule : RootRule) (before : List ℕ) (pieces : List (List ℕ)) → IsBegun rule before → pieces_fault rule before pieces ≡ None → IsBegun rule (before ++ map number_of pieces) × AllByRecursion IsNumber pieces
-pieces_sound rule before [] b h = (rw append-nil b, tt)
-pieces_sound rule before (piece ∷ after) b h =
-    let (p, q) = both_none (piece_fault rule before piece after) (pieces_fault rule (before ++ number_of piece ∷ []) after) h in
-    let s = piece_sound rule before piece after p in
-    let (more, numbers) = pieces_sound rule (before ++ number_of piece ∷ []) after (begun_more rule before (number_of piece) b s.small s.arc) q in
+pieces_sound : (rule : RootRule) (capacity : ℕ) (before : List ℕ) (pieces : List (List ℕ)) → IsBegun rule capacity before → pieces_fault rule capacity before pieces ≡ None → IsBegun rule capacity (before ++ map number_of pieces) × AllByRecursion IsNumber pieces
+pieces_sound rule capacity before [] b h = (rw append-nil b, tt)
+pieces_sound rule capacity before (piece ∷ after) b h =
+    let (p, q) = both_none (piece_fault rule capacity before piece after) (pieces_fault rule capacity (before ++ number_of piece ∷ []) after) h in
+    let s = piece_sound rule capacity before piece after p in
+    let (more, numbers) = pieces_sound rule capacity (before ++ number_of piece ∷ []) after (begun_more rule capacity before (number_of piece) b s.small s.arc) q in
     (rw (append-cons before (number_of piece) (map number_of after)) at more, (s.number, numbers))
 
-whole_sound : (rule : RootRule) (pieces : List (List ℕ)) → 0 < length pieces → pieces_fault rule [] pieces ≡ None → AllByRecursion IsNumber pieces × IsIdentifier rule (map number_of pieces) × (size (map number_of pieces) ≤ 39)
-whole_sound rule [] some h = absurd (omega arith)
-whole_sound rule (piece ∷ []) some h =
-    let e = (piece_sound rule [] piece [] (both_none (piece_fault rule [] piece []) None h).0).several in
+whole_sound : (rule : RootRule) (capacity : ℕ) (pieces : List (List ℕ)) → 0 < length pieces → pieces_fault rule capacity [] pieces ≡ None → AllByRecursion IsNumber pieces × IsIdentifier rule (map number_of pieces) × (size (map number_of pieces) ≤ capacity)
+whole_sound rule capacity [] some h = absurd (omega arith)
+whole_sound rule capacity (piece ∷ []) some h =
+    let e = (piece_sound rule capacity [] piece [] (both_none (piece_fault rule capacity [] piece []) None h).0).several in
     cc
-whole_sound rule (piece ∷ next ∷ more) some h = let (b, numbers) = pieces_sound rule [] (piece ∷ next ∷ more) tt h in (numbers, b.0, b.1)
+whole_sound rule capacity (piece ∷ next ∷ more) some h = let (b, numbers) = pieces_sound rule capacity [] (piece ∷ next ∷ more) tt h in (numbers, b.0, b.1)
 
-pub denoted_from_none : (rule : RootRule) (text : List ℕ) → text_fault rule text ≡ None → Denotes rule text (map number_of (pieces_of text)) × (size (map number_of (pieces_of text)) ≤ 39)
-denoted_from_none rule text h =
-    let (numbers, identifier, fits) = whole_sound rule (pieces_of text) (omega (arith, length-slice_split (λ b. b == 46) text)) h in
+pub denoted_from_none : (rule : RootRule) (capacity : ℕ) (text : List ℕ) → text_fault rule text capacity ≡ None → Denotes rule text (map number_of (pieces_of text)) × (size (map number_of (pieces_of text)) ≤ capacity)
+denoted_from_none rule capacity text h =
+    let (numbers, identifier, fits) = whole_sound rule capacity (pieces_of text) (omega (arith, length-slice_split (λ b. b == 46) text)) h in
     (record { numbers = numbers; values = refl; identifier = identifier }, fits)
 
 -- the arcs that a text is read as are those that it denotes
-pub denoted_from_answer : (rule : RootRule) (text arcs : List ℕ) → Ok arcs ≡ text_answer rule text → Denotes rule text arcs
-denoted_from_answer rule text arcs e = by (text_fault rule text) refl e
+pub denoted_from_answer : (rule : RootRule) (capacity : ℕ) (text arcs : List ℕ) → Ok arcs ≡ text_answer rule text capacity → Denotes rule text arcs
+denoted_from_answer rule capacity text arcs e = by (text_fault rule text capacity) refl e
   where
-    by : (fault : Option Error) → text_fault rule text ≡ fault → Ok arcs ≡ answer fault (map number_of (pieces_of text)) → Denotes rule text arcs
-    by None none e = let same : map number_of (pieces_of text) ≡ arcs = cc in rw same at ((denoted_from_none rule text none).0)
+    by : (fault : Option Error) → text_fault rule text capacity ≡ fault → Ok arcs ≡ answer fault (map number_of (pieces_of text)) → Denotes rule text arcs
+    by None none e = let same : map number_of (pieces_of text) ≡ arcs = cc in rw same at ((denoted_from_none rule capacity text none).0)
     by (Some fault) some e = cc
 
 -- ---- one arc printed after another

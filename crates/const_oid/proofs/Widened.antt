@@ -75,32 +75,32 @@ octets_new octets capacity bytes = (
       ),
 )
 
-pub texts_new : (text : List ℕ) → (text_fault Wide text ≡ None) × (text_fault Narrow text ≢ None) ↔ ((arcs : List ℕ) × Denotes Wide text arcs × IsPastNarrow arcs × (size arcs ≤ 39))
-texts_new text = (
+pub texts_new : (text : List ℕ) (capacity : ℕ) → (text_fault Wide text capacity ≡ None) × (text_fault Narrow text capacity ≢ None) ↔ ((arcs : List ℕ) × Denotes Wide text arcs × IsPastNarrow arcs × (size arcs ≤ capacity))
+texts_new text capacity = (
   λ h.
-      let (d, fits) = denoted_from_none Wide text h.0 in
+      let (d, fits) = denoted_from_none Wide capacity text h.0 in
       let arcs = map number_of (pieces_of text) in
       ⊎_elim
       (λ (narrow : IsIdentifier Narrow arcs).
-      absurd (h.1 (text_fault-none Narrow text arcs record { numbers = d.numbers; values = d.values; identifier = narrow } fits)))
+      absurd (h.1 (text_fault-none Narrow capacity text arcs record { numbers = d.numbers; values = d.values; identifier = narrow } fits)))
       (λ (past : IsPastNarrow arcs). (arcs, d, past, fits))
       (narrow_or_past arcs d.identifier),
   λ h.
       let (arcs, d, past, fits) = h in (
-        text_fault-none Wide text arcs d fits,
+        text_fault-none Wide capacity text arcs d fits,
         λ none.
-            let n = (denoted_from_none Narrow text none).0 in
+            let n = (denoted_from_none Narrow capacity text none).0 in
             narrow_not_past arcs (rw (sym d.values) at n.identifier) past,
       ),
 )
 
-pub items_new : (items : List ℕ) → AllByRecursion (λ n. n ≤ most_arc) items → (item_fault Wide items ≡ None) × (item_fault Narrow items ≢ None) ↔ (IsIdentifier Wide items × IsPastNarrow items × (size items ≤ 39))
-items_new items small = (
+pub items_new : (items : List ℕ) (capacity : ℕ) → AllByRecursion (λ n. n ≤ most_arc) items → (item_fault Wide items capacity ≡ None) × (item_fault Narrow items capacity ≢ None) ↔ (IsIdentifier Wide items × IsPastNarrow items × (size items ≤ capacity))
+items_new items capacity small = (
   λ h.
-      let (i, fits) = identifier_from_none Wide items small h.0 in
+      let (i, fits) = identifier_from_none Wide capacity items small h.0 in
       ⊎_elim
-      (λ (narrow : IsIdentifier Narrow items). absurd (h.1 (item_fault-none Narrow items narrow fits)))
+      (λ (narrow : IsIdentifier Narrow items). absurd (h.1 (item_fault-none Narrow capacity items narrow fits)))
       (λ (past : IsPastNarrow items). (i, past, fits))
       (narrow_or_past items i),
-  λ h. (item_fault-none Wide items h.0 h.2, λ none. narrow_not_past items (identifier_from_none Narrow items small none).0 h.1),
+  λ h. (item_fault-none Wide capacity items h.0 h.2, λ none. narrow_not_past items (identifier_from_none Narrow capacity items small none).0 h.1),
 )

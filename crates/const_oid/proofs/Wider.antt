@@ -8,7 +8,7 @@ use Rattle.std.proofs.lemmas.Bool.Decides.{nat_tests}
 use Rattle.const_oid.specs.declared.error.Error.{Error}
 use Rattle.const_oid.specs.declared.error.Error.TheVariants.{ArcInvalid, ArcTooBig, DigitExpected, Length, TrailingDot}
 use Rattle.const_oid.specs.Faults.{fault_if, answer}
-use Rattle.const_oid.specs.Identifier.{Narrow, Wide, most_arc, most_second}
+use Rattle.const_oid.specs.Identifier.{Narrow, Wide, most_arc, most_second, size}
 use Rattle.const_oid.specs.Contents.{cut, cut_behind, first_fault, later_fault, parts_fault, octet_fault, most_first}
 use Rattle.const_oid.specs.Items.{arc_fault, items_fault, item_fault}
 use Rattle.const_oid.specs.Text.{pieces_of, number_of, is_empty, is_one_empty, empty_fault, piece_fault, pieces_fault, text_fault}
@@ -17,7 +17,6 @@ use Rattle.const_oid.proofs.Faults.{both_none, below_from_none, none_from_below,
 use Rattle.const_oid.proofs.Groups.{small_is}
 use Rattle.const_oid.proofs.Cutting.{cut_behind-last}
 use Rattle.const_oid.proofs.Encodings.{part_none}
-use Rattle.const_oid.proofs.Items.{second_fits}
 use Rattle.const_oid.proofs.Texts.{arc_from_piece}
 
 -- ---- octets
@@ -34,8 +33,8 @@ octets_same x xs capacity h = ap (λ f. option_or f (fault_if (nat_lt capacity (
 -- ---- the second arc
 
 -- the two rules differ in the second arc alone, under 2
-second_same : (first second : ℕ) → first ≤ 2 → ((first ≡ 2) × (39 < second) → ⊥) → arc_fault Narrow 39 (first ∷ []) second ≡ arc_fault Wide 39 (first ∷ []) second
-second_same first second h not_past = second_fits Narrow first second h ∙ by ∙ sym (second_fits Wide first second h)
+second_same : (capacity first second : ℕ) → first ≤ 2 → ((first ≡ 2) × (39 < second) → ⊥) → arc_fault Narrow capacity (first ∷ []) second ≡ arc_fault Wide capacity (first ∷ []) second
+second_same capacity first second h not_past = ap (λ range. option_or range (fault_if (nat_lt capacity (size (first ∷ second ∷ []))) Length)) by
   where
     by : fault_if (nat_lt 39 second) (ArcInvalid second) ≡ fault_if (nat_lt (most_second Wide first) second) (ArcInvalid second)
     by = ⊎_elim
@@ -47,31 +46,31 @@ second_same first second h not_past = second_fits Narrow first second h ∙ by �
         (cases_lt first 2)
 
 -- under the narrow rule a second arc past 39 has a fault
-narrow_past : (first second : ℕ) → 39 < second → arc_fault Narrow 39 (first ∷ []) second ≡ Some (ArcInvalid second)
-narrow_past first second h = rw (lt-ltb 39 second h)
+narrow_past : (capacity first second : ℕ) → 39 < second → arc_fault Narrow capacity (first ∷ []) second ≡ Some (ArcInvalid second)
+narrow_past capacity first second h = rw (lt-ltb 39 second h)
 
 -- ---- lists
 
-items_later_same : (a b : ℕ) (before items : List ℕ) → items_fault Narrow (a ∷ b ∷ before) items ≡ items_fault Wide (a ∷ b ∷ before) items
-items_later_same a b before [] = refl
-items_later_same a b before (x ∷ xs) = ap (option_or (arc_fault Narrow 39 (a ∷ b ∷ before) x)) (items_later_same a b (before ++ x ∷ []) xs)
+items_later_same : (capacity a b : ℕ) (before items : List ℕ) → items_fault Narrow capacity (a ∷ b ∷ before) items ≡ items_fault Wide capacity (a ∷ b ∷ before) items
+items_later_same capacity a b before [] = refl
+items_later_same capacity a b before (x ∷ xs) = ap (option_or (arc_fault Narrow capacity (a ∷ b ∷ before) x)) (items_later_same capacity a b (before ++ x ∷ []) xs)
 
-pub items_same : (items : List ℕ) → (RefusesSecond items (item_fault Narrow items) → ⊥) → item_fault Narrow items ≡ item_fault Wide items
-items_same [] h = refl
-items_same (a ∷ []) h = refl
-items_same (a ∷ b ∷ later) h = ⊎_elim
+pub items_same : (items : List ℕ) (capacity : ℕ) → (RefusesSecond items (item_fault Narrow items capacity) → ⊥) → item_fault Narrow items capacity ≡ item_fault Wide items capacity
+items_same [] capacity h = refl
+items_same (a ∷ []) capacity h = refl
+items_same (a ∷ b ∷ later) capacity h = ⊎_elim
     (λ (past : 2 < a). rw (some_from_above 2 a (ArcInvalid a) past))
     (λ (within : a ≤ 2).
     let none = none_from_below 2 a (ArcInvalid a) within in
-    let not_past : (a ≡ 2) × (39 < b) → ⊥ = λ p. h (p.0, rw (none, narrow_past a b p.1)) in
-    rw (none, second_same a b within not_past, items_later_same a b [] later))
+    let not_past : (a ≡ 2) × (39 < b) → ⊥ = λ p. h (p.0, rw (none, narrow_past capacity a b p.1)) in
+    rw (none, second_same capacity a b within not_past, items_later_same capacity a b [] later))
     (cases_lt 2 a)
 
 -- ---- texts
 
-pieces_later_same : (a b : ℕ) (before : List ℕ) (pieces : List (List ℕ)) → pieces_fault Narrow (a ∷ b ∷ before) pieces ≡ pieces_fault Wide (a ∷ b ∷ before) pieces
-pieces_later_same a b before [] = refl
-pieces_later_same a b before (piece ∷ pieces) = ap (option_or (piece_fault Narrow (a ∷ b ∷ before) piece pieces)) (pieces_later_same a b (before ++ number_of piece ∷ []) pieces)
+pieces_later_same : (capacity a b : ℕ) (before : List ℕ) (pieces : List (List ℕ)) → pieces_fault Narrow capacity (a ∷ b ∷ before) pieces ≡ pieces_fault Wide capacity (a ∷ b ∷ before) pieces
+pieces_later_same capacity a b before [] = refl
+pieces_later_same capacity a b before (piece ∷ pieces) = ap (option_or (piece_fault Narrow capacity (a ∷ b ∷ before) piece pieces)) (pieces_later_same capacity a b (before ++ number_of piece ∷ []) pieces)
 
 -- what stands before the range of an arc decides where it has a fault
 range_same : (big digit empty trailing range range' single : Option Error) → (big ≡ None → digit ≡ None → empty ≡ None → trailing ≡ None → range ≡ range') →
@@ -82,10 +81,10 @@ range_same None None (Some x) trailing range range' single h = refl
 range_same None None None (Some x) range range' single h = refl
 range_same None None None None range range' single h = rw (h refl refl refl refl)
 
-pieces_same : (pieces : List (List ℕ)) → (RefusesSecond (map number_of pieces) (pieces_fault Narrow [] pieces) → ⊥) → pieces_fault Narrow [] pieces ≡ pieces_fault Wide [] pieces
-pieces_same [] h = refl
-pieces_same (p ∷ []) h = refl
-pieces_same (p ∷ q ∷ more) h = by (piece_fault Narrow [] p (q ∷ more)) refl
+pieces_same : (capacity : ℕ) (pieces : List (List ℕ)) → (RefusesSecond (map number_of pieces) (pieces_fault Narrow capacity [] pieces) → ⊥) → pieces_fault Narrow capacity [] pieces ≡ pieces_fault Wide capacity [] pieces
+pieces_same capacity [] h = refl
+pieces_same capacity (p ∷ []) h = refl
+pieces_same capacity (p ∷ q ∷ more) h = by (piece_fault Narrow capacity [] p (q ∷ more)) refl
   where
     a : ℕ
     a = number_of p
@@ -93,21 +92,21 @@ pieces_same (p ∷ q ∷ more) h = by (piece_fault Narrow [] p (q ∷ more)) ref
     b : ℕ
     b = number_of q
 
-    by : (f : Option Error) → piece_fault Narrow [] p (q ∷ more) ≡ f → pieces_fault Narrow [] (p ∷ q ∷ more) ≡ pieces_fault Wide [] (p ∷ q ∷ more)
+    by : (f : Option Error) → piece_fault Narrow capacity [] p (q ∷ more) ≡ f → pieces_fault Narrow capacity [] (p ∷ q ∷ more) ≡ pieces_fault Wide capacity [] (p ∷ q ∷ more)
     by (Some x) e = rw e
     by None e =
-        let within = below_from_none 2 a (ArcInvalid a) (arc_from_piece Narrow [] p (q ∷ more) e) in
+        let within = below_from_none 2 a (ArcInvalid a) (arc_from_piece Narrow capacity [] p (q ∷ more) e) in
         let second = range_same
         (fault_if (nat_lt most_arc b) ArcTooBig)
         (option_map (λ c. DigitExpected c) (find (λ c. not (is_ascii_digit c)) q))
         (fault_if (is_empty q) (empty_fault (a ∷ []) more))
         (fault_if (is_one_empty more) TrailingDot)
-        (arc_fault Narrow 39 (a ∷ []) b) (arc_fault Wide 39 (a ∷ []) b) None
-        (λ big digit empty trailing. second_same a b within (λ past. h (past.0, rw (e, big, digit, empty, trailing, narrow_past a b past.1)))) in
-        rw (e, second, pieces_later_same a b [] more)
+        (arc_fault Narrow capacity (a ∷ []) b) (arc_fault Wide capacity (a ∷ []) b) None
+        (λ big digit empty trailing. second_same capacity a b within (λ past. h (past.0, rw (e, big, digit, empty, trailing, narrow_past capacity a b past.1)))) in
+        rw (e, second, pieces_later_same capacity a b [] more)
 
-pub texts_same : (text : List ℕ) → (RefusesSecond (map number_of (pieces_of text)) (text_fault Narrow text) → ⊥) → text_fault Narrow text ≡ text_fault Wide text
-texts_same text = pieces_same (pieces_of text)
+pub texts_same : (text : List ℕ) (capacity : ℕ) → (RefusesSecond (map number_of (pieces_of text)) (text_fault Narrow text capacity) → ⊥) → text_fault Narrow text capacity ≡ text_fault Wide text capacity
+texts_same text capacity = pieces_same capacity (pieces_of text)
 
 -- ---- what was accepted
 
@@ -124,11 +123,11 @@ pub octets_kept : (octets : List ℕ) (capacity : ℕ) → octet_fault Narrow oc
 octets_kept [] capacity none = none
 octets_kept (x ∷ xs) capacity none = sym (octets_same x xs capacity (narrow_first x (cut xs) (both_none _ _ none).0)) ∙ none
 
-pub texts_kept : (text : List ℕ) → text_fault Narrow text ≡ None → text_fault Wide text ≡ None
-texts_kept text none = sym (texts_same text (none_refuses_none (map number_of (pieces_of text)) (text_fault Narrow text) none)) ∙ none
+pub texts_kept : (text : List ℕ) (capacity : ℕ) → text_fault Narrow text capacity ≡ None → text_fault Wide text capacity ≡ None
+texts_kept text capacity none = sym (texts_same text capacity (none_refuses_none (map number_of (pieces_of text)) (text_fault Narrow text capacity) none)) ∙ none
 
-pub items_kept : (items : List ℕ) → item_fault Narrow items ≡ None → item_fault Wide items ≡ None
-items_kept items none = sym (items_same items (none_refuses_none items (item_fault Narrow items) none)) ∙ none
+pub items_kept : (items : List ℕ) (capacity : ℕ) → item_fault Narrow items capacity ≡ None → item_fault Wide items capacity ≡ None
+items_kept items capacity none = sym (items_same items capacity (none_refuses_none items (item_fault Narrow items capacity) none)) ∙ none
 
 -- an answer that was arcs stays
 pub answer_kept : (narrow wide : Option Error) (numbers arcs : List ℕ) → (narrow ≡ None → wide ≡ None) → answer narrow numbers ≡ Ok arcs → answer wide numbers ≡ Ok arcs

@@ -17,6 +17,11 @@ abbrev pub cut : List ℕ → List (List ℕ)
 cut [] = []
 cut (x ∷ xs) = cut_behind x (cut xs)
 
+-- how many octets the first part has
+abbrev pub first_length : List (List ℕ) → ℕ
+first_length [] = 0
+first_length (part ∷ parts) = length part
+
 -- a part ends with an octet below 128
 abbrev pub is_finished : List ℕ → Bool
 is_finished [] = false

@@ -21,21 +21,21 @@ few_fault [] = Some Empty
 few_fault (arc ∷ []) = Some Empty
 few_fault (first ∷ second ∷ later) = None
 
--- the fault of the first item that has one, behind the arcs before it
-abbrev pub items_fault : RootRule → List ℕ → List ℕ → Option Error
-items_fault rule before [] = few_fault before
-items_fault rule before (item ∷ items) = option_or (arc_fault rule 39 before item) (items_fault rule (before ++ item ∷ []) items)
+-- the fault of the first item that has one, at a capacity and behind the arcs before it
+abbrev pub items_fault : RootRule → ℕ → List ℕ → List ℕ → Option Error
+items_fault rule capacity before [] = few_fault before
+items_fault rule capacity before (item ∷ items) = option_or (arc_fault rule capacity before item) (items_fault rule capacity (before ++ item ∷ []) items)
 
--- the fault of the list, if there is one
-abbrev pub item_fault : RootRule → List ℕ → Option Error
-item_fault rule items = items_fault rule [] items
+-- the fault of the list at a capacity, if there is one
+abbrev pub item_fault : RootRule → List ℕ → ℕ → Option Error
+item_fault rule items capacity = items_fault rule capacity [] items
 
--- what the list is taken as: its fault, or itself
-abbrev pub item_answer : RootRule → List ℕ → Result (List ℕ) Error
-item_answer rule items = answer (item_fault rule items) items
+-- what the list is taken as at a capacity: its fault, or itself
+abbrev pub item_answer : RootRule → List ℕ → ℕ → Result (List ℕ) Error
+item_answer rule items capacity = answer (item_fault rule items capacity) items
 
 -- the iterator gave items: at `Ok` they are all that it has, without a fault, and the arcs; at `Err` the fault is that of each list which begins with them, or of them where they are all
-abbrev pub TakesItems : {S : Type 0} → RootRule → (S → Option ℕ → S → Type 0) → S → Result (List ℕ) Error → Type 0
-TakesItems rule steps iterator result = MatchResult result
-    (λ arcs. WholeRun steps iterator (λ run. (run.items ≡ arcs) × (item_fault rule arcs ≡ None)))
-    (λ fault. SomeRun steps iterator (λ run. (items : List ℕ) → ItemsAre run items → item_fault rule items ≡ Some fault))
+abbrev pub TakesItems : {S : Type 0} → RootRule → ℕ → (S → Option ℕ → S → Type 0) → S → Result (List ℕ) Error → Type 0
+TakesItems rule capacity steps iterator result = MatchResult result
+    (λ arcs. WholeRun steps iterator (λ run. (run.items ≡ arcs) × (item_fault rule arcs capacity ≡ None)))
+    (λ fault. SomeRun steps iterator (λ run. (items : List ℕ) → ItemsAre run items → item_fault rule items capacity ≡ Some fault))

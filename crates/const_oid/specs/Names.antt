@@ -44,7 +44,7 @@ name_or entries text arcs = unwrap_or (first_name entries arcs) text
 -- what a text is resolved to: its fault, or the first name of the arcs that it denotes, or the text itself
 abbrev pub resolve_answer : List Entry → Bor (List ℕ) → Result (Bor (List ℕ)) Error
 resolve_answer entries text =
-    result_map_both (name_or entries text) (λ fault. fault) (text_answer root_rule text.now)
+    result_map_both (name_or entries text) (λ fault. fault) (text_answer root_rule text.now 39)
 
 -- the names of all entries with these arcs, in table order
 abbrev pub all_names : List Entry → List ℕ → List (Bor (List ℕ))

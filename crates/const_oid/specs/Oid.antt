@@ -22,4 +22,4 @@ oid_answer result = result_map_both oid_arcs (λ fault. fault) result
 
 -- the answer to a text: its fault, or an identifier of the arcs that it denotes
 abbrev pub ReadsText : List ℕ → Result (ObjectIdentifier 39) Error → Type 0
-ReadsText text result = oid_answer result ≡ text_answer root_rule text
+ReadsText text result = oid_answer result ≡ text_answer root_rule text 39

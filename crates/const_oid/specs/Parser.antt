@@ -6,12 +6,12 @@ use Rattle.const_oid.specs.Identifier.{RootRule}
 use Rattle.const_oid.specs.Items.{arc_fault}
 use Rattle.const_oid.specs.Text.{is_empty, empty_fault}
 
--- the fault at a dot, by the arcs before the piece that ends there, the piece's number if it has digits, and whether the text ends
-abbrev pub dot_fault : RootRule → List ℕ → Option ℕ → Bool → Option Error
-dot_fault rule before None ends = Some (if is_empty before then DigitExpected 46 else RepeatedDot)
-dot_fault rule before (Some arc) ends = if ends then Some TrailingDot else arc_fault rule 39 before arc
+-- the fault at a dot at a capacity, by the arcs before the piece that ends there, the piece's number if it has digits, and whether the text ends
+abbrev pub dot_fault : RootRule → ℕ → List ℕ → Option ℕ → Bool → Option Error
+dot_fault rule capacity before None ends = Some (if is_empty before then DigitExpected 46 else RepeatedDot)
+dot_fault rule capacity before (Some arc) ends = if ends then Some TrailingDot else arc_fault rule capacity before arc
 
 -- the fault of the last piece at the end of the text, by the arcs before it and its number if it has digits
-abbrev pub last_fault : RootRule → List ℕ → Option ℕ → Option Error
-last_fault rule before None = Some (empty_fault before [])
-last_fault rule before (Some arc) = arc_fault rule 39 before arc
+abbrev pub last_fault : RootRule → ℕ → List ℕ → Option ℕ → Option Error
+last_fault rule capacity before None = Some (empty_fault before [])
+last_fault rule capacity before (Some arc) = arc_fault rule capacity before arc

@@ -46,25 +46,25 @@ single_fault [] [] = Some Empty
 single_fault [] (next ∷ more) = None
 single_fault (arc ∷ arcs) after = None
 
--- what is wrong with a piece, by the arcs before it and the pieces after it: the first that applies
-abbrev pub piece_fault : RootRule → List ℕ → List ℕ → List (List ℕ) → Option Error
-piece_fault rule before piece after =
+-- what is wrong with a piece at a capacity, by the arcs before it and the pieces after it: the first that applies
+abbrev pub piece_fault : RootRule → ℕ → List ℕ → List ℕ → List (List ℕ) → Option Error
+piece_fault rule capacity before piece after =
     option_or (fault_if (nat_lt most_arc (number_of piece)) ArcTooBig)
     (option_or (option_map (λ b. DigitExpected b) (find (λ b. not (is_ascii_digit b)) piece))
     (option_or (fault_if (is_empty piece) (empty_fault before after))
     (option_or (fault_if (is_one_empty after) TrailingDot)
-    (option_or (arc_fault rule 39 before (number_of piece))
+    (option_or (arc_fault rule capacity before (number_of piece))
     (single_fault before after)))))
 
 -- the fault of the first piece that has one
-abbrev pub pieces_fault : RootRule → List ℕ → List (List ℕ) → Option Error
-pieces_fault rule before [] = None
-pieces_fault rule before (piece ∷ after) =
-    option_or (piece_fault rule before piece after) (pieces_fault rule (before ++ number_of piece ∷ []) after)
+abbrev pub pieces_fault : RootRule → ℕ → List ℕ → List (List ℕ) → Option Error
+pieces_fault rule capacity before [] = None
+pieces_fault rule capacity before (piece ∷ after) =
+    option_or (piece_fault rule capacity before piece after) (pieces_fault rule capacity (before ++ number_of piece ∷ []) after)
 
--- the fault of the text, if there is one
-abbrev pub text_fault : RootRule → List ℕ → Option Error
-text_fault rule text = pieces_fault rule [] (pieces_of text)
+-- the fault of the text at a capacity, if there is one
+abbrev pub text_fault : RootRule → List ℕ → ℕ → Option Error
+text_fault rule text capacity = pieces_fault rule capacity [] (pieces_of text)
 
 -- a piece is a number in digits
 abbrev pub IsNumber : List ℕ → Type 0
@@ -86,6 +86,6 @@ strip_piece (b ∷ c ∷ bs) = if b == 48 then strip_piece (c ∷ bs) else b ∷
 abbrev pub strip : List ℕ → List ℕ
 strip text = join_with_byte 46 (map strip_piece (pieces_of text))
 
--- what the text is read as: its fault, or the numbers of its pieces
-abbrev pub text_answer : RootRule → List ℕ → Result (List ℕ) Error
-text_answer rule text = answer (text_fault rule text) (map number_of (pieces_of text))
+-- what the text is read as at a capacity: its fault, or the numbers of its pieces
+abbrev pub text_answer : RootRule → List ℕ → ℕ → Result (List ℕ) Error
+text_answer rule text capacity = answer (text_fault rule text capacity) (map number_of (pieces_of text))

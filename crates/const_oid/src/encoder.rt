@@ -1,10 +1,12 @@
 //! Arcs, one after another, to octets.
 
-ghost use Rattle.std.specs.Prelude.{◌≡◌, ℕ, List, [], ◌∷◌, ◌++◌, min, ◌↔◌, IsTrue, IfOk, OnOk, OnErr};
+ghost use Rattle.std.specs.Prelude.{◌≡◌, ◌≤◌, ℕ, List, [], ◌∷◌, ◌++◌, min, ◌↔◌, IsTrue, IfOk, OnOk, OnErr};
 ghost use Rattle.std.specs.Result.{result_err};
 ghost use Rattle.const_oid.specs.Identifier.{root_rule, IsEncoding, most_second};
-ghost use Rattle.const_oid.specs.Items.{arc_fault, few_fault};
-ghost use Rattle.const_oid.specs.Buffer.{octets_of};
+ghost use Rattle.const_oid.specs.Items.{arc_fault, few_fault, TakesItems};
+ghost use Rattle.const_oid.specs.Contents.{arcs_of_octets};
+ghost use Rattle.std.specs.Iterator.{IsFiniteIterable};
+ghost use Rattle.const_oid.specs.Buffer.{octets_of, buffer_answer};
 
 use crate::arcs::Arc;
 use crate::buffer::Buffer;
@@ -101,6 +103,43 @@ impl<const SIZE: usize> Encoder<SIZE> {
             State::Initial | State::FirstArc(_) => Err(Error::Empty),
         }
     }
+}
+
+/// The encoding of the arcs that an iterator gives, in at most the smaller of `SIZE` and 255 octets.
+pub(crate) fn encode<const SIZE: usize, I: IntoIterator<Item = Arc>>(
+    arcs: I,
+) -> Result<Buffer<SIZE>>
+where
+    I::IntoIter: Drop,
+    // The iterator may be asked for its items, and it ends.
+    requires { IsFiniteIterable I.into_iter_gives I.IntoIter.can_next I.IntoIter.remaining arcs }
+    ensures takes { (iterator : I.IntoIter) × I.into_iter_gives arcs iterator
+        × TakesItems root_rule (min SIZE 255) I.IntoIter.next_gives iterator (buffer_answer result) }
+    ensures encoding { IfOk result (λ octets. IsEncoding root_rule (arcs_of_octets (octets_of octets)) (octets_of octets)) }
+{
+    // A longer array holds no more octets: an encoder of it could be too large for the memory.
+    if SIZE > 255 {
+        return Ok(Buffer::copied(encode_within::<255, I>(arcs)?.as_bytes()));
+    }
+    encode_within(arcs)
+}
+
+/// The same, where all of the array can be in use.
+#[inline(always)]
+fn encode_within<const SIZE: usize, I: IntoIterator<Item = Arc>>(arcs: I) -> Result<Buffer<SIZE>>
+where
+    I::IntoIter: Drop,
+    requires ends { IsFiniteIterable I.into_iter_gives I.IntoIter.can_next I.IntoIter.remaining arcs }
+    requires small { SIZE ≤ 255 }
+    ensures takes { (iterator : I.IntoIter) × I.into_iter_gives arcs iterator
+        × TakesItems root_rule (min SIZE 255) I.IntoIter.next_gives iterator (buffer_answer result) }
+    ensures encoding { IfOk result (λ octets. IsEncoding root_rule (arcs_of_octets (octets_of octets)) (octets_of octets)) }
+{
+    let mut encoder = Encoder::new();
+    for arc in arcs {
+        encoder.arc(arc)?;
+    }
+    encoder.finish()
 }
 
 /// The greatest second arc under a first arc (X.660): 39 under 0 and 1, any of 32 bits under 2.

@@ -35,15 +35,15 @@ pub fn worked_rows()
         ≡ Some ArcTooBig }
     ensures width { width 4294967295 ≡ 5 }
     ensures size { size (2 ∷ 4294967295 ∷ []) ≡ 5 }
-    ensures dot_before_range { text_fault root_rule (codes "3.") ≡ Some TrailingDot }
-    ensures range_before_second_dot { text_fault root_rule (codes "3..") ≡ Some (ArcInvalid 3) }
-    ensures range { text_fault root_rule (codes "1.40") ≡ Some (ArcInvalid 40) }
-    ensures size_before_digit { text_fault root_rule (codes "1.2.4294967296X") ≡ Some ArcTooBig }
-    ensures digit { text_fault root_rule (codes "1.2.429496729X") ≡ Some (DigitExpected 0x58) }
-    ensures single { text_fault root_rule (codes "1") ≡ Some Empty }
-    ensures taken { text_answer root_rule (codes "2.999") ≡ Ok (2 ∷ 999 ∷ []) }
+    ensures dot_before_range { text_fault root_rule (codes "3.") 39 ≡ Some TrailingDot }
+    ensures range_before_second_dot { text_fault root_rule (codes "3..") 39 ≡ Some (ArcInvalid 3) }
+    ensures range { text_fault root_rule (codes "1.40") 39 ≡ Some (ArcInvalid 40) }
+    ensures size_before_digit { text_fault root_rule (codes "1.2.4294967296X") 39 ≡ Some ArcTooBig }
+    ensures digit { text_fault root_rule (codes "1.2.429496729X") 39 ≡ Some (DigitExpected 0x58) }
+    ensures single { text_fault root_rule (codes "1") 39 ≡ Some Empty }
+    ensures taken { text_answer root_rule (codes "2.999") 39 ≡ Ok (2 ∷ 999 ∷ []) }
     ensures printed { text_of (1 ∷ 2 ∷ 840 ∷ []) ≡ codes "1.2.840" }
-    ensures second_past_39 { item_fault root_rule (1 ∷ 40 ∷ 840 ∷ []) ≡ Some (ArcInvalid 40) }
+    ensures second_past_39 { item_fault root_rule (1 ∷ 40 ∷ 840 ∷ []) 39 ≡ Some (ArcInvalid 40) }
     ensures narrow { octet_fault Narrow (0xFF ∷ []) 39 ≡ Some (ArcInvalid 6) }
 {}
 
@@ -91,10 +91,10 @@ pub fn one_encoding()
         → length octets ≡ size arcs }
 {}
 
-/// A second arc in range never makes an encoding of more than 39 octets, nor one out of range.
+/// A second arc in range never makes an encoding of more than five octets, nor one out of range.
 pub fn second_fits()
-    ensures { (rule : RootRule) (first second : ℕ) → first ≤ 2
-        → arc_fault rule 39 (first ∷ []) second
+    ensures { (rule : RootRule) (capacity first second : ℕ) → 5 ≤ capacity → first ≤ 2
+        → arc_fault rule capacity (first ∷ []) second
         ≡ fault_if (nat_lt (most_second rule first) second) (ArcInvalid second) }
 {}
 
@@ -116,6 +116,12 @@ pub fn siblings()
         → short_cmp x y ≡ nat_cmp m n }
 {}
 
+/// Encodings stand in the order of their parts, of which a shorter one is first, as their arcs do.
+pub fn order_of_arcs()
+    ensures { (rule : RootRule) (p x a b : List ℕ) → IsEncoding rule p a → IsEncoding rule x b
+        → slice_cmp short_cmp (cut a) (cut b) ≡ slice_cmp nat_cmp p x }
+{}
+
 /// Equal arcs, equal encodings and equal printed texts are one.
 pub fn same_identifiers()
     ensures octets { (rule : RootRule) (a b x y : List ℕ) → IsEncoding rule a x
@@ -129,11 +135,11 @@ pub fn same_identifiers()
 pub fn texts_denote()
     ensures printed { (rule : RootRule) (arcs : List ℕ) → IsIdentifier rule arcs
         → Denotes rule (text_of arcs) arcs }
-    ensures fits { (rule : RootRule) (text arcs : List ℕ) → Denotes rule text arcs
-        → size arcs ≤ 39 → text_fault rule text ≡ None }
-    ensures accepted { (rule : RootRule) (text : List ℕ) → text_fault rule text ≡ None
+    ensures fits { (rule : RootRule) (capacity : ℕ) (text arcs : List ℕ) → Denotes rule text arcs
+        → size arcs ≤ capacity → text_fault rule text capacity ≡ None }
+    ensures accepted { (rule : RootRule) (capacity : ℕ) (text : List ℕ) → text_fault rule text capacity ≡ None
         → Denotes rule text (map number_of (pieces_of text))
-        × (size (map number_of (pieces_of text)) ≤ 39) }
+        × (size (map number_of (pieces_of text)) ≤ capacity) }
     ensures only { (rule : RootRule) (text a b : List ℕ) → Denotes rule text a
         → Denotes rule text b → a ≡ b }
     ensures stripped { (rule : RootRule) (text arcs : List ℕ) → Denotes rule text arcs
@@ -142,11 +148,11 @@ pub fn texts_denote()
 
 /// A list of numbers of 32 bits has no fault exactly where it is an identifier that fits.
 pub fn items_denote()
-    ensures fits { (rule : RootRule) (arcs : List ℕ) → IsIdentifier rule arcs → size arcs ≤ 39
-        → item_fault rule arcs ≡ None }
-    ensures accepted { (rule : RootRule) (items : List ℕ)
-        → AllByRecursion (λ n. n ≤ most_arc) items → item_fault rule items ≡ None
-        → IsIdentifier rule items × (size items ≤ 39) }
+    ensures fits { (rule : RootRule) (capacity : ℕ) (arcs : List ℕ) → IsIdentifier rule arcs → size arcs ≤ capacity
+        → item_fault rule arcs capacity ≡ None }
+    ensures accepted { (rule : RootRule) (capacity : ℕ) (items : List ℕ)
+        → AllByRecursion (λ n. n ≤ most_arc) items → item_fault rule items capacity ≡ None
+        → IsIdentifier rule items × (size items ≤ capacity) }
 {}
 
 /// The wide rule answers as the narrow one, but where octets begin with 120 or more, or the second
@@ -156,18 +162,18 @@ pub fn wide_keeps()
         → octet_answer Wide [] capacity ≡ octet_answer Narrow [] capacity }
     ensures octets { (x : ℕ) (xs : List ℕ) (capacity : ℕ) → x < 120
         → octet_answer Wide (x ∷ xs) capacity ≡ octet_answer Narrow (x ∷ xs) capacity }
-    ensures texts { (text : List ℕ)
-        → (RefusesSecond (map number_of (pieces_of text)) (text_fault Narrow text) → ⊥)
-        → text_answer Wide text ≡ text_answer Narrow text }
-    ensures items { (items : List ℕ) → (RefusesSecond items (item_fault Narrow items) → ⊥)
-        → item_answer Wide items ≡ item_answer Narrow items }
+    ensures texts { (text : List ℕ) (capacity : ℕ)
+        → (RefusesSecond (map number_of (pieces_of text)) (text_fault Narrow text capacity) → ⊥)
+        → text_answer Wide text capacity ≡ text_answer Narrow text capacity }
+    ensures items { (items : List ℕ) (capacity : ℕ) → (RefusesSecond items (item_fault Narrow items capacity) → ⊥)
+        → item_answer Wide items capacity ≡ item_answer Narrow items capacity }
     ensures octets_accepted { (octets arcs : List ℕ) (capacity : ℕ)
         → octet_answer Narrow octets capacity ≡ Ok arcs
         → octet_answer Wide octets capacity ≡ Ok arcs }
-    ensures texts_accepted { (text arcs : List ℕ) → text_answer Narrow text ≡ Ok arcs
-        → text_answer Wide text ≡ Ok arcs }
-    ensures items_accepted { (items arcs : List ℕ) → item_answer Narrow items ≡ Ok arcs
-        → item_answer Wide items ≡ Ok arcs }
+    ensures texts_accepted { (text arcs : List ℕ) (capacity : ℕ) → text_answer Narrow text capacity ≡ Ok arcs
+        → text_answer Wide text capacity ≡ Ok arcs }
+    ensures items_accepted { (items arcs : List ℕ) (capacity : ℕ) → item_answer Narrow items capacity ≡ Ok arcs
+        → item_answer Wide items capacity ≡ Ok arcs }
     ensures encodings { (arcs octets : List ℕ) → IsEncoding Narrow arcs octets
         → IsEncoding Wide arcs octets }
     ensures denoted { (text arcs : List ℕ) → Denotes Narrow text arcs → Denotes Wide text arcs }
@@ -185,12 +191,12 @@ pub fn wide_adds()
         → (octet_fault Wide octets capacity ≡ None) × (octet_fault Narrow octets capacity ≢ None)
         ↔ ((arcs : List ℕ) × IsEncoding Wide arcs octets × IsPastNarrow arcs
         × (length octets ≤ capacity)) }
-    ensures texts { (text : List ℕ)
-        → (text_fault Wide text ≡ None) × (text_fault Narrow text ≢ None)
-        ↔ ((arcs : List ℕ) × Denotes Wide text arcs × IsPastNarrow arcs × (size arcs ≤ 39)) }
-    ensures items { (items : List ℕ) → AllByRecursion (λ n. n ≤ most_arc) items
-        → (item_fault Wide items ≡ None) × (item_fault Narrow items ≢ None)
-        ↔ (IsIdentifier Wide items × IsPastNarrow items × (size items ≤ 39)) }
+    ensures texts { (text : List ℕ) (capacity : ℕ)
+        → (text_fault Wide text capacity ≡ None) × (text_fault Narrow text capacity ≢ None)
+        ↔ ((arcs : List ℕ) × Denotes Wide text arcs × IsPastNarrow arcs × (size arcs ≤ capacity)) }
+    ensures items { (items : List ℕ) (capacity : ℕ) → AllByRecursion (λ n. n ≤ most_arc) items
+        → (item_fault Wide items capacity ≡ None) × (item_fault Narrow items capacity ≢ None)
+        ↔ (IsIdentifier Wide items × IsPastNarrow items × (size items ≤ capacity)) }
 {}
 
 /// Under the wide rule no octets have an arc out of range.
@@ -271,6 +277,6 @@ pub fn ranges()
 pub fn no_overflow()
     ensures octets { (rule : RootRule) (octets : List ℕ) (capacity : ℕ)
         → octet_fault rule octets capacity ≢ Some Overflow }
-    ensures texts { (rule : RootRule) (text : List ℕ) → text_fault rule text ≢ Some Overflow }
-    ensures items { (rule : RootRule) (items : List ℕ) → item_fault rule items ≢ Some Overflow }
+    ensures texts { (rule : RootRule) (capacity : ℕ) (text : List ℕ) → text_fault rule text capacity ≢ Some Overflow }
+    ensures items { (rule : RootRule) (capacity : ℕ) (items : List ℕ) → item_fault rule items capacity ≢ Some Overflow }
 {}

@@ -12,11 +12,10 @@ ghost use Rattle.const_oid.specs.Tree.{BeginsWith, child_of, parent_of};
 
 use crate::arcs::{Arc, Arcs};
 use crate::buffer::Buffer;
-use crate::encoder::Encoder;
+use crate::encoder::encode;
 use crate::error::{Error, Result};
 use crate::oid_ref::ObjectIdentifierRef;
 use crate::parser::parse;
-use crate::scan::{before_last, begins_with};
 use std::cmp::Ordering;
 use std::fmt;
 use std::str::FromStr;
@@ -48,16 +47,15 @@ impl ObjectIdentifier<39> {
     /// - [`Error::Length`]: the arcs up to it take more than 39 octets (X.690, 8.19);
     /// - [`Error::Empty`]: it is the only one.
     pub fn new(s: &str) -> Result<Self>
-        ensures answer { oid_answer result ≡ text_answer root_rule s.now }
+        ensures answer { oid_answer result ≡ text_answer root_rule s.now 39 }
         ensures denoted { IfOk result (λ oid. Denotes root_rule s.now (oid_arcs oid)) }
     {
-        let ber = parse(s)?;
-        Ok(ObjectIdentifier { ber })
+        Self::new_sized(s)
     }
 
     /// Reads dotted text that is known to have no fault, as a literal.
     pub fn new_unwrap(s: &str) -> Self
-        requires { text_fault root_rule s.now ≡ None }
+        requires { text_fault root_rule s.now 39 ≡ None }
         ensures { Denotes root_rule s.now (oid_arcs result) }
     {
         match Self::new(s) {
@@ -83,14 +81,9 @@ impl ObjectIdentifier<39> {
         // The iterator may be asked for its items, and it ends.
         requires { IsFiniteIterable I.into_iter_gives I.IntoIter.can_next I.IntoIter.remaining arcs }
         ensures takes { (iterator : I.IntoIter) × I.into_iter_gives arcs iterator
-            × TakesItems root_rule I.IntoIter.next_gives iterator (oid_answer result) }
+            × TakesItems root_rule 39 I.IntoIter.next_gives iterator (oid_answer result) }
     {
-        let mut encoder = Encoder::new();
-        for arc in arcs {
-            encoder.arc(arc)?;
-        }
-        let ber = encoder.finish()?;
-        Ok(ObjectIdentifier { ber })
+        Self::from_arcs_sized(arcs)
     }
 
     /// Reads contents octets (X.690, 8.19), of which at most 39 fit, as
@@ -136,6 +129,29 @@ impl<const MAX_SIZE: usize> ObjectIdentifier<MAX_SIZE> {
         ensures encoding { IfOk result (λ oid. IsEncoding root_rule (oid_arcs oid) ber_bytes.now) }
     {
         Self::try_from_ref(ObjectIdentifierRef::from_bytes(ber_bytes)?)
+    }
+
+    /// Reads dotted text as [`new`](Self::new) does, where [`Error::Length`] is of more octets than fit.
+    pub fn new_sized(s: &str) -> Result<Self>
+        ensures answer { oid_answer result ≡ text_answer root_rule s.now (min MAX_SIZE 255) }
+        ensures denoted { IfOk result (λ oid. Denotes root_rule s.now (oid_arcs oid)) }
+    {
+        let ber = parse(s)?;
+        Ok(ObjectIdentifier { ber })
+    }
+
+    /// Encodes the arcs that an iterator gives as [`from_arcs`](Self::from_arcs) does, where
+    /// [`Error::Length`] is of more octets than fit.
+    pub fn from_arcs_sized<I: IntoIterator<Item = Arc>>(arcs: I) -> Result<Self>
+    where
+        I::IntoIter: Drop,
+        // The iterator may be asked for its items, and it ends.
+        requires { IsFiniteIterable I.into_iter_gives I.IntoIter.can_next I.IntoIter.remaining arcs }
+        ensures takes { (iterator : I.IntoIter) × I.into_iter_gives arcs iterator
+            × TakesItems root_rule (min MAX_SIZE 255) I.IntoIter.next_gives iterator (oid_answer result) }
+    {
+        let ber = encode(arcs)?;
+        Ok(ObjectIdentifier { ber })
     }
 
     /// Copies a borrowed identifier, or answers [`Error::Length`] where its octets do not fit.
@@ -193,11 +209,8 @@ impl<const MAX_SIZE: usize> ObjectIdentifier<MAX_SIZE> {
     pub fn parent(&self) -> Option<Self>
         ensures { option_map oid_arcs result ≡ parent_of (oid_arcs self.now) }
     {
-        let front = before_last(self.as_bytes());
-        if front.is_empty() {
-            return None;
-        }
-        let ber = Buffer::copied(front);
+        let parent = self.as_oid_ref().parent()?;
+        let ber = Buffer::copied(parent.as_bytes());
         Some(ObjectIdentifier { ber })
     }
 
@@ -218,7 +231,7 @@ impl<const MAX_SIZE: usize> ObjectIdentifier<MAX_SIZE> {
     pub fn starts_with<const SIZE: usize>(&self, other: ObjectIdentifier<SIZE>) -> bool
         ensures { IsTrue result ↔ BeginsWith (oid_arcs self.now) (oid_arcs other.entry) }
     {
-        begins_with(self.as_bytes(), other.as_bytes())
+        self.as_oid_ref().starts_with(&other.as_oid_ref())
     }
 }
 

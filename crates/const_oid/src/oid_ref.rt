@@ -1,5 +1,6 @@
 //! Borrowed object identifiers.
 ghost use Rattle.std.specs.Prelude.{◌≡◌, ◌≤◌, ◌<◌, ◌↔◌, ℕ, length, slice_get, count_by, None, Some, IfOk, IfSome, IsTrue};
+ghost use Rattle.std.specs.Option.{option_map};
 ghost use Rattle.std.specs.Cmp.Lexicographic.{slice_cmp};
 ghost use Rattle.std.specs.List.Sorted.{IsSortedByKey};
 ghost use Rattle.std.specs.Ordering.{nat_cmp, is_lt};
@@ -12,7 +13,7 @@ ghost use Rattle.const_oid.specs.Text.{text_of};
 use crate::arcs::{Arc, Arcs, arc_at};
 use crate::error::{Error, Result};
 use crate::oid::ObjectIdentifier;
-use crate::scan::{count_last, order};
+use crate::scan::{before_last, begins_with, count_last, order, order_by_parts};
 use crate::sound::check;
 use std::cmp::Ordering;
 use std::fmt;
@@ -31,7 +32,7 @@ pub struct ObjectIdentifierRef<'a> {
 impl<'a> ObjectIdentifierRef<'a> {
     ghost use Rattle.const_oid.specs.Oid.{oid_octets, oid_arcs};
     ghost use Rattle.const_oid.specs.OidRef.{ref_slice, ref_octets, ref_arcs, ref_answer};
-    ghost use Rattle.const_oid.specs.Tree.{BeginsWith};
+    ghost use Rattle.const_oid.specs.Tree.{BeginsWith, parent_of};
 
     /// Reads contents octets (X.690, 8.19). The first of these that applies is the error:
     ///
@@ -96,6 +97,33 @@ impl<'a> ObjectIdentifierRef<'a> {
         ensures arcs { IsTrue result ↔ (ref_arcs self.now ≡ oid_arcs other.now) }
     {
         self.as_bytes() == other.as_bytes()
+    }
+
+    /// The identifier of all arcs but the last, over the front of the caller's octets, or `None` of two arcs.
+    pub fn parent(&self) -> Option<ObjectIdentifierRef<'a>>
+        ensures arcs { option_map ref_arcs result ≡ parent_of (ref_arcs self.now) }
+        ensures front { IfSome result (λ oid. BeginsWith (ref_octets self.now) (ref_octets oid)) }
+    {
+        let front = before_last(self.ber);
+        if front.is_empty() {
+            return None;
+        }
+        Some(ObjectIdentifierRef::from_checked(front))
+    }
+
+    /// Whether the arcs begin with all those of another identifier, which may be all of these.
+    #[inline(always)]
+    pub fn starts_with(&self, other: &ObjectIdentifierRef<'_>) -> bool
+        ensures { IsTrue result ↔ BeginsWith (ref_arcs self.now) (ref_arcs other.now) }
+    {
+        begins_with(self.ber, other.ber)
+    }
+
+    /// The order of the arcs, a front before what begins with it, as SNMP orders names (RFC 3416).
+    pub fn cmp_arcs(&self, other: &ObjectIdentifierRef<'_>) -> Ordering
+        ensures { result ≡ slice_cmp nat_cmp (ref_arcs self.now) (ref_arcs other.now) }
+    {
+        order_by_parts(self.ber, other.ber)
     }
 
     /// Where the identifiers that begin with this one, itself among them, stand in a sorted list:

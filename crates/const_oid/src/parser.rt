@@ -1,8 +1,8 @@
 //! Dotted text to octets.
 
-ghost use Rattle.std.specs.Prelude.{◌≡◌, [], ◌∷◌, ◌++◌, IfOk, OnOk, unwrap_or};
-ghost use Rattle.std.specs.Result.{result_err, result_map_both};
-ghost use Rattle.const_oid.specs.Buffer.{octets_of};
+ghost use Rattle.std.specs.Prelude.{◌≡◌, ◌≤◌, [], ◌∷◌, ◌++◌, IfOk, OnOk, min, unwrap_or};
+ghost use Rattle.std.specs.Result.{result_err};
+ghost use Rattle.const_oid.specs.Buffer.{octets_of, buffer_answer};
 ghost use Rattle.const_oid.specs.Contents.{arcs_of_octets};
 ghost use Rattle.const_oid.specs.Identifier.{root_rule, IsEncoding};
 ghost use Rattle.const_oid.specs.Parser.{dot_fault, last_fault};
@@ -13,10 +13,23 @@ use crate::buffer::Buffer;
 use crate::encoder::Encoder;
 use crate::error::{Error, Result};
 
-/// The encoding of the identifier that a text denotes.
-pub(crate) fn parse(text: &str) -> Result<Buffer<39>>
-    ensures answer { result_map_both (λ octets. arcs_of_octets (octets_of octets)) (λ fault. fault) result
-        ≡ text_answer root_rule text.now }
+/// The encoding of the identifier that a text denotes, in at most the smaller of `SIZE` and 255 octets.
+pub(crate) fn parse<const SIZE: usize>(text: &str) -> Result<Buffer<SIZE>>
+    ensures answer { buffer_answer result ≡ text_answer root_rule text.now (min SIZE 255) }
+    ensures encoding { IfOk result (λ octets. IsEncoding root_rule (arcs_of_octets (octets_of octets)) (octets_of octets)) }
+{
+    // A longer array holds no more octets: an encoder of it could be too large for the memory.
+    if SIZE > 255 {
+        return Ok(Buffer::copied(parse_within::<255>(text)?.as_bytes()));
+    }
+    parse_within(text)
+}
+
+/// The same, where all of the array can be in use.
+#[inline(always)]
+fn parse_within<const SIZE: usize>(text: &str) -> Result<Buffer<SIZE>>
+    requires { SIZE ≤ 255 }
+    ensures answer { buffer_answer result ≡ text_answer root_rule text.now (min SIZE 255) }
     ensures encoding { IfOk result (λ octets. IsEncoding root_rule (arcs_of_octets (octets_of octets)) (octets_of octets)) }
 {
     let bytes = text.as_bytes();
@@ -44,8 +57,12 @@ pub(crate) fn parse(text: &str) -> Result<Buffer<39>>
 }
 
 /// Ends a piece at a dot.
-fn end_piece(encoder: &mut Encoder<39>, number: Option<Arc>, text_ends: bool) -> Result<()>
-    ensures fault { result_err result ≡ dot_fault root_rule encoder.old number text_ends }
+fn end_piece<const SIZE: usize>(
+    encoder: &mut Encoder<SIZE>,
+    number: Option<Arc>,
+    text_ends: bool,
+) -> Result<()>
+    ensures fault { result_err result ≡ dot_fault root_rule (min SIZE 255) encoder.old number text_ends }
     ensures given { OnOk result (encoder.new ≡ encoder.old ++ unwrap_or number 0 ∷ []) }
 {
     match number {
@@ -57,8 +74,8 @@ fn end_piece(encoder: &mut Encoder<39>, number: Option<Arc>, text_ends: bool) ->
 }
 
 /// Ends the last piece, and with it the text.
-fn end_text(encoder: &mut Encoder<39>, number: Option<Arc>) -> Result<()>
-    ensures fault { result_err result ≡ last_fault root_rule encoder.old number }
+fn end_text<const SIZE: usize>(encoder: &mut Encoder<SIZE>, number: Option<Arc>) -> Result<()>
+    ensures fault { result_err result ≡ last_fault root_rule (min SIZE 255) encoder.old number }
     ensures given { OnOk result (encoder.new ≡ encoder.old ++ unwrap_or number 0 ∷ []) }
 {
     match number {
@@ -80,7 +97,10 @@ mod tests {
             text.push_str("0")?;
         }
         text.push_str("7")?;
-        assert_eq!(rt; parse(text.as_str())?.as_bytes(), [0x2A, 0x07].as_slice());
+        assert_eq!(rt;
+            parse::<39>(text.as_str())?.as_bytes(),
+            [0x2A, 0x07].as_slice()
+        );
         Ok(())
     }
 }

@@ -3,7 +3,8 @@
 ghost use Rattle.std.specs.Prelude.{◌≡◌, ◌↔◌, ℕ, ◌-◌, ◌≤◌, List, ◌++◌, length, take, drop, count_by, nat_eq, nat_lt, IsTrue};
 ghost use Rattle.std.specs.Cmp.Lexicographic.{pointwise, slice_cmp};
 ghost use Rattle.std.specs.Ordering.{nat_cmp};
-ghost use Rattle.const_oid.specs.Contents.{cut};
+ghost use Rattle.const_oid.specs.Contents.{cut, first_length};
+ghost use Rattle.const_oid.specs.Orders.{parts_cmp};
 
 use std::cmp::Ordering;
 use std::simd::prelude::*;
@@ -113,6 +114,37 @@ pub(crate) fn order(a: &[u8], b: &[u8]) -> Ordering
     }
     let (a, b) = (&a[near..], &b[near..]);
     a.cmp(&b)
+}
+
+/// The octets in the order of their parts, of which a shorter one is first.
+///
+/// Where they differ first, the parts begin at one place: so the part that goes on for longer from
+/// there is the longer one.
+pub(crate) fn order_by_parts(a: &[u8], b: &[u8]) -> Ordering
+    ensures { result ≡ parts_cmp a.now b.now }
+{
+    let near = a.len().min(b.len());
+    for i in 0..near {
+        if a[i] != b[i] {
+            return match first_len(&a[i..]).cmp(&first_len(&b[i..])) {
+                Ordering::Equal => a[i].cmp(&b[i]),
+                unequal => unequal,
+            };
+        }
+    }
+    a.len().cmp(&b.len())
+}
+
+/// How many octets the first part has.
+fn first_len(octets: &[u8]) -> usize
+    ensures { result ≡ first_length (cut octets.now) }
+{
+    for (i, octet) in octets.iter().enumerate() {
+        if *octet < 128 {
+            return i + 1;
+        }
+    }
+    octets.len()
 }
 
 #[cfg(test)]

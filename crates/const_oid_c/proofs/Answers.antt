@@ -18,7 +18,7 @@ pub held_encoding : (oid : ObjectIdentifier 39) → oid_octets oid ≡ encoding_
 held_encoding oid = sym (encoding_of-encoded root_rule (oid_arcs oid) (oid_octets oid) (oid_encoding oid))
 
 -- the octets of a text
-pub octets_of_text-read : (bytes text : List ℕ) (answer : Result (List ℕ) Error) → text ≡ bytes → IsUtf8 bytes → answer ≡ text_answer root_rule text → encoded answer ≡ octets_of_text bytes
+pub octets_of_text-read : (bytes text : List ℕ) (answer : Result (List ℕ) Error) → text ≡ bytes → IsUtf8 bytes → answer ≡ text_answer root_rule text 39 → encoded answer ≡ octets_of_text bytes
 octets_of_text-read bytes text answer same utf8 e = rw (is_utf8-from_IsUtf8 bytes utf8, e, same) refl
 
 -- bytes that are no text

@@ -45,7 +45,7 @@ TellsOfBoth tells (Ok first) (Ok second) status = tells first second status
 
 -- the contents octets of the arcs that a text denotes
 abbrev pub octets_of_text : List ℕ → Result (List ℕ) Status
-octets_of_text text = if is_utf8 text then encoded (text_answer root_rule text) else Err not_utf8
+octets_of_text text = if is_utf8 text then encoded (text_answer root_rule text 39) else Err not_utf8
 
 -- the arc, if there is one
 abbrev pub arc_status : Option ℕ → Status

@@ -48,8 +48,8 @@ pub extern "C" fn const_oid_arc(octets: &[u8], index: usize) -> Status
 /// Writes the contents octets of arcs.
 #[unsafe(no_mangle)]
 pub extern "C" fn const_oid_from_arcs(arcs: &[u32], out: &mut [u8]) -> Status
-    ensures status { result ≡ told (length out.old) (encoded (item_answer root_rule arcs.now)) }
-    ensures written { out.new ≡ filled out.old (encoded (item_answer root_rule arcs.now)) }
+    ensures status { result ≡ told (length out.old) (encoded (item_answer root_rule arcs.now 39)) }
+    ensures written { out.new ≡ filled out.old (encoded (item_answer root_rule arcs.now 39)) }
 {
     give(ObjectIdentifier::from_arcs(arcs.iter().copied()), out)
 }

@@ -9,25 +9,25 @@ use const_oid::{Arc, Arcs, Error, ObjectIdentifier, Result};
 use std::alloc::Global;
 
 fn from_array(arcs: [Arc; 3]) -> Result<ObjectIdentifier<39>>
-    ensures { oid_answer result ≡ item_answer root_rule arcs }
+    ensures { oid_answer result ≡ item_answer root_rule arcs 39 }
 {
     ObjectIdentifier::from_arcs(arcs)
 }
 
 fn from_slice(arcs: &[Arc]) -> Result<ObjectIdentifier<39>>
-    ensures { oid_answer result ≡ item_answer root_rule arcs.now }
+    ensures { oid_answer result ≡ item_answer root_rule arcs.now 39 }
 {
     ObjectIdentifier::from_arcs(arcs.iter().copied())
 }
 
 fn from_vec(arcs: Vec<Arc>) -> Result<ObjectIdentifier<39>>
-    ensures { oid_answer result ≡ item_answer root_rule arcs.items }
+    ensures { oid_answer result ≡ item_answer root_rule arcs.items 39 }
 {
     ObjectIdentifier::from_arcs(arcs)
 }
 
 fn from_rest(arcs: Arcs<'_>) -> Result<ObjectIdentifier<39>>
-    ensures { oid_answer result ≡ item_answer root_rule arcs.entry }
+    ensures { oid_answer result ≡ item_answer root_rule arcs.entry 39 }
 {
     ObjectIdentifier::from_arcs(arcs)
 }

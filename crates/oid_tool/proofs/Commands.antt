@@ -33,7 +33,7 @@ unfolding text_line
 text_line-decoded digits octets answer h e = rw (h, e) refl
 
 -- the line of a text that denotes these arcs, or has this fault
-pub denoted_line-read : (show : List ℕ → List ℕ) (bytes text : List ℕ) (answer : Result (List ℕ) Error) → text ≡ bytes → IsUtf8 bytes → answer ≡ text_answer root_rule text → shown_line show answer ≡ denoted_line show bytes
+pub denoted_line-read : (show : List ℕ → List ℕ) (bytes text : List ℕ) (answer : Result (List ℕ) Error) → text ≡ bytes → IsUtf8 bytes → answer ≡ text_answer root_rule text 39 → shown_line show answer ≡ denoted_line show bytes
 denoted_line-read show bytes text answer same utf8 e = rw (is_utf8-from_IsUtf8 bytes utf8, e, same) refl
 
 -- the line of bytes that are no text

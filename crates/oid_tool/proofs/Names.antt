@@ -28,7 +28,7 @@ abbrev bytes_of : Bor (List ℕ) → List ℕ
 bytes_of text = text.now
 
 -- the line of what a text is resolved to, by what it is read as
-shown_line-resolved : (entries : List Entry) (text : Bor (List ℕ)) (answer : Result (List ℕ) Error) → answer ≡ text_answer root_rule text.now → shown_line bytes_of (resolve_answer entries text) ≡ shown_line (row_name_or (map row_of entries) text.now) answer
+shown_line-resolved : (entries : List Entry) (text : Bor (List ℕ)) (answer : Result (List ℕ) Error) → answer ≡ text_answer root_rule text.now 39 → shown_line bytes_of (resolve_answer entries text) ≡ shown_line (row_name_or (map row_of entries) text.now) answer
 shown_line-resolved entries text (Ok arcs) e = rw (sym e) (name_or-rows entries text arcs)
 shown_line-resolved entries text (Err fault) e = rw (sym e) refl
 
@@ -36,8 +36,8 @@ shown_line-resolved entries text (Err fault) e = rw (sym e) refl
 pub name_line-resolved : (entries : List Entry) (text : Bor (List ℕ)) (bytes : List ℕ) (result : Result (Bor (List ℕ)) Error) → text.now ≡ bytes → IsUtf8 bytes → result ≡ resolve_answer entries text → shown_line bytes_of result ≡ name_line (map row_of entries) bytes
 unfolding name_line
 name_line-resolved entries text bytes result same utf8 e =
-    ap (shown_line bytes_of) e ∙ shown_line-resolved entries text (text_answer root_rule text.now) refl
-    ∙ denoted_line-read (row_name_or (map row_of entries) text.now) bytes text.now (text_answer root_rule text.now) same utf8 refl
+    ap (shown_line bytes_of) e ∙ shown_line-resolved entries text (text_answer root_rule text.now 39) refl
+    ∙ denoted_line-read (row_name_or (map row_of entries) text.now) bytes text.now (text_answer root_rule text.now 39) same utf8 refl
     ∙ ap (λ shown. denoted_line (row_name_or (map row_of entries) shown) bytes) same
 
 -- the tool's table is that of the arcs that its texts denote

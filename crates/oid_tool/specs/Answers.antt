@@ -33,7 +33,7 @@ text_line digits = octets_line (decode_of digits)
 -- what is shown of the arcs that a text denotes
 abbrev pub denoted_line : (List ℕ → List ℕ) → List ℕ → List ℕ
 denoted_line show text =
-    if is_utf8 text then shown_line show (text_answer root_rule text)
+    if is_utf8 text then shown_line show (text_answer root_rule text 39)
     else error_line (codes "not UTF-8")
 
 -- what `hex` answers, of dotted text: the contents octets in lower-case hexadecimal digits

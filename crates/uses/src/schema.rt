@@ -57,7 +57,7 @@ pub fn find(database: &Database<'_>, input: &str) -> Result<ObjectIdentifier<39>
     ensures named { IfSome (first_oid (entries_of database.now) input.now)
         (λ oid. result ≡ Ok oid.now) }
     ensures dotted { IfNone (first_oid (entries_of database.now) input.now)
-        (oid_answer result ≡ text_answer root_rule input.now) }
+        (oid_answer result ≡ text_answer root_rule input.now 39) }
 {
     match database.by_name(input) {
         Some(oid) => Ok(*oid),

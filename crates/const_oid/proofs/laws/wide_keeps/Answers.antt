@@ -12,22 +12,22 @@ pub returns-clause-octets : goal.returns-clause-octets
 returns-clause-octets c x xs capacity h = ap (λ f. answer f (arcs_of_octets (x ∷ xs))) (sym (octets_same x xs capacity h))
 
 pub returns-clause-texts : goal.returns-clause-texts
-returns-clause-texts c text h = ap (λ f. answer f (map number_of (pieces_of text))) (sym (texts_same text h))
+returns-clause-texts c text capacity h = ap (λ f. answer f (map number_of (pieces_of text))) (sym (texts_same text capacity h))
 
 pub returns-clause-items : goal.returns-clause-items
-returns-clause-items c items h = ap (λ f. answer f items) (sym (items_same items h))
+returns-clause-items c items capacity h = ap (λ f. answer f items) (sym (items_same items capacity h))
 
 pub returns-clause-octets_accepted : goal.returns-clause-octets_accepted
 returns-clause-octets_accepted c octets arcs capacity =
     answer_kept (octet_fault Narrow octets capacity) (octet_fault Wide octets capacity) (arcs_of_octets octets) arcs (octets_kept octets capacity)
 
 pub returns-clause-texts_accepted : goal.returns-clause-texts_accepted
-returns-clause-texts_accepted c text arcs =
-    answer_kept (text_fault Narrow text) (text_fault Wide text) (map number_of (pieces_of text)) arcs (texts_kept text)
+returns-clause-texts_accepted c text arcs capacity =
+    answer_kept (text_fault Narrow text capacity) (text_fault Wide text capacity) (map number_of (pieces_of text)) arcs (texts_kept text capacity)
 
 pub returns-clause-items_accepted : goal.returns-clause-items_accepted
-returns-clause-items_accepted c items arcs =
-    answer_kept (item_fault Narrow items) (item_fault Wide items) items arcs (items_kept items)
+returns-clause-items_accepted c items arcs capacity =
+    answer_kept (item_fault Narrow items capacity) (item_fault Wide items capacity) items arcs (items_kept items capacity)
 
 pub returns-clause-encodings : goal.returns-clause-encodings
 returns-clause-encodings c = encoding_wide

@@ -10,13 +10,13 @@ use Rattle.const_oid.proofs.Encodings.{oid_encoding}
 use Rattle.const_oid.proofs.Lengths.{length_is_size}
 use Rattle.const_oid_tests.proofs.items.again.Goals as goal
 
-no_fault : (oid : ObjectIdentifier 39) → item_fault root_rule (oid_arcs oid) ≡ None
+no_fault : (oid : ObjectIdentifier 39) → item_fault root_rule (oid_arcs oid) 39 ≡ None
 no_fault oid =
     let e = oid_encoding oid in
     let within : oid.ber.used ≤ 39 = oid.ber.within in
-    item_fault-none root_rule (oid_arcs oid) e.identifier (omega (arith, length_is_size root_rule (oid_arcs oid) (oid_octets oid) e, length-take oid.ber.used oid.ber.bytes))
+    item_fault-none root_rule 39 (oid_arcs oid) e.identifier (omega (arith, length_is_size root_rule (oid_arcs oid) (oid_octets oid) e, length-take oid.ber.used oid.ber.bytes))
 
 pub returns : goal.returns
 returns c =
     let oid = c.args.oid.now in
-    c.from_rest.ensures ∙ ap (item_answer root_rule) c.arcs.ensures ∙ ap (λ fault. answer fault (oid_arcs oid)) (no_fault oid)
+    c.from_rest.ensures ∙ ap (λ items. item_answer root_rule items 39) c.arcs.ensures ∙ ap (λ fault. answer fault (oid_arcs oid)) (no_fault oid)

@@ -8,4 +8,4 @@ use Rattle.const_oid_tests.proofs.items.from_rest.Goals as goal
 pub returns : goal.returns
 returns c =
     let (arcs, same, taken) = c.from_arcs.ensures.takes in
-    exact_answer root_rule (λ (left : List ℕ). left) arcs (oid_answer c.from_arcs.result) taken ∙ ap (item_answer root_rule) same
+    exact_answer root_rule 39 (λ (left : List ℕ). left) arcs (oid_answer c.from_arcs.result) taken ∙ ap (λ items. item_answer root_rule items 39) same

@@ -1,0 +1,15 @@
+use Rattle.std.proofs.Common.{min}
+use Rattle.const_oid.specs.Buffer.{octets_of}
+use Rattle.const_oid.specs.Contents.{arcs_of_octets}
+use Rattle.const_oid.specs.Identifier.{root_rule}
+use Rattle.const_oid.proofs.Encodings.{none_from_encoding}
+use Rattle.const_oid.proofs.Texts.{denoted_from_answer}
+use Rattle.const_oid.proofs.oid.ObjectIdentifier.new_sized.Goals as goal
+
+pub invariant_of-result : goal.invariant_of-result
+invariant_of-result g c =
+    let octets = octets_of c.in_ok-ber.ber in
+    record { sound = none_from_encoding root_rule (arcs_of_octets octets) octets c.in_ok-ber.ensures.encoding }
+
+pub returns-clause-denoted : goal.returns-clause-denoted
+returns-clause-denoted g c = denoted_from_answer root_rule (min g.row.MAX_SIZE 255) c.args.s.now (arcs_of_octets (octets_of c.in_ok-ber.ber)) c.in_ok-ber.ensures.answer

@@ -1,0 +1,68 @@
+use Rattle.std.proofs.Common.{min, ◌≡◌, ℕ, Bool, true, false, List, [], drop, Option, is_some, unwrap_or, Some, refl, arith, sym, ◌∙◌, ap}
+use Rattle.std.specs.Bool.{then_some}
+use Rattle.std.proofs.lemmas.List.{drop_all}
+use Rattle.std.proofs.lemmas.Result.{IfOk-weaker}
+use Rattle.const_oid.specs.Buffer.{octets_of}
+use Rattle.const_oid.specs.Contents.{arcs_of_octets}
+use Rattle.const_oid.specs.Identifier.{RootRule, root_rule}
+use Rattle.const_oid.specs.Text.{text_answer}
+use Rattle.const_oid.proofs.Encodings.{encoding_back}
+use Rattle.const_oid.proofs.Items.{handed_on}
+use Rattle.const_oid.proofs.TextPass.{text_pass, text_answer_is, text_pass-too_big, text_pass-dot, text_pass-other, text_pass-end, text_pass-end_fault}
+use Rattle.const_oid.proofs.parser.parse_within.Goals as goal
+
+pub loop-index-init : goal.loop-index-init
+loop-index-init g c = record { pass = rw c.new-encoder.ensures (text_answer_is root_rule (min g.row.SIZE 255) c.as_bytes-bytes.result.now); small = omega arith }
+
+pub returns-clause-encoding : goal.returns-clause-encoding
+returns-clause-encoding g c = IfOk-weaker c.finish.result _ _ (λ octets e. encoding_back root_rule _ (octets_of octets) e) c.finish.ensures.encoding
+
+-- no number of the last piece is asked for where it has no digit
+last_piece : (rule : RootRule) (capacity : ℕ) (before : List ℕ) (begun : Bool) (value : ℕ) (piece : Option ℕ) → piece ≡ then_some begun value → text_pass rule capacity before (is_some piece) (unwrap_or piece 0) [] ≡ text_pass rule capacity before begun value []
+last_piece rule capacity before true value piece e = rw e refl
+last_piece rule capacity before false value piece e = rw e refl
+
+pub returns-clause-answer : goal.returns-clause-answer
+returns-clause-answer g c =
+    let l = c.loop-index in
+    let none : drop l.index c.as_bytes-bytes.result.now ≡ [] = drop_all l.index c.as_bytes-bytes.result.now (omega arith) in
+    let given = c.in_ok-end_text.ensures.given in
+    text_pass-end octets_of root_rule (min g.row.SIZE 255) l.encoder c.then_some.result c.finish.result c.in_ok-end_text.ensures.fault (rw given at c.finish.ensures.fault) (rw given at c.finish.ensures.encoding)
+    ∙ last_piece root_rule (min g.row.SIZE 255) l.encoder l.begun l.number c.then_some.result c.then_some.ensures
+    ∙ (rw none at l.invariant.pass)
+    ∙ ap (λ text. text_answer root_rule text (min g.row.SIZE 255)) c.as_bytes-bytes.ensures.value
+
+pub returns-then-number-clause-answer : goal.returns-then-number-clause-answer
+returns-then-number-clause-answer g c =
+    let l = c.loop-index in
+    let is_digit = sym c.is_ascii_digit.ensures.value ∙ c.if-is_ascii_digit.true in
+    sym (text_pass-too_big root_rule (min g.row.SIZE 255) l.encoder l.begun l.number c.from.result c.as_bytes-bytes.result.now l.index c.loop-index-test.true is_digit c.from.ensures c.if-number.true)
+    ∙ l.invariant.pass
+    ∙ ap (λ text. text_answer root_rule text (min g.row.SIZE 255)) c.as_bytes-bytes.ensures.value
+
+pub returns-else-byte-eq46-clause-answer : goal.returns-else-byte-eq46-clause-answer
+returns-else-byte-eq46-clause-answer g c =
+    let l = c.loop-index in
+    let no_digit = sym c.is_ascii_digit.ensures.value ∙ c.if-is_ascii_digit.false in
+    sym (text_pass-other root_rule (min g.row.SIZE 255) l.encoder l.begun l.number c.as_bytes-bytes.result.now l.index c.loop-index-test.true no_digit c.if-byte-eq46.false)
+    ∙ l.invariant.pass
+    ∙ ap (λ text. text_answer root_rule text (min g.row.SIZE 255)) c.as_bytes-bytes.ensures.value
+
+pub returns-in_err-end_piece-clause-answer : goal.returns-in_err-end_piece-clause-answer
+returns-in_err-end_piece-clause-answer g c =
+    let l = c.loop-index in
+    let fault = c.in_err-end_piece.field-0.0 in
+    rw (handed_on (λ octets. arcs_of_octets (octets_of octets)) c.from_residual.result fault c.from_residual.ensures.1)
+    (sym (text_pass-dot root_rule (min g.row.SIZE 255) l.encoder l.begun l.number c.then_some-piece.result (Some fault) c.as_bytes-bytes.result.now l.index c.loop-index-test.true c.if-byte-eq46.true c.then_some-piece.ensures c.in_err-end_piece.ensures.fault)
+    ∙ l.invariant.pass
+    ∙ ap (λ text. text_answer root_rule text (min g.row.SIZE 255)) c.as_bytes-bytes.ensures.value)
+
+pub returns-in_err-end_text-clause-answer : goal.returns-in_err-end_text-clause-answer
+returns-in_err-end_text-clause-answer g c =
+    let l = c.loop-index in
+    let none : drop l.index c.as_bytes-bytes.result.now ≡ [] = drop_all l.index c.as_bytes-bytes.result.now c.loop-index-test.false in
+    let fault = c.in_err-end_text.field-0.0 in
+    rw (handed_on (λ octets. arcs_of_octets (octets_of octets)) c.from_residual-in_err-end_text.result fault c.from_residual-in_err-end_text.ensures.1)
+    (sym (text_pass-end_fault root_rule (min g.row.SIZE 255) l.encoder l.begun l.number c.then_some.result fault c.then_some.ensures c.in_err-end_text.ensures.fault)
+    ∙ (rw none at l.invariant.pass)
+    ∙ ap (λ text. text_answer root_rule text (min g.row.SIZE 255)) c.as_bytes-bytes.ensures.value)
