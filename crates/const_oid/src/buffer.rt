@@ -26,7 +26,7 @@ impl<const SIZE: usize> Buffer<SIZE> {
     ghost use Rattle.const_oid.specs.Buffer.{octets_of};
 
     /// A buffer with no octet in use.
-    pub(crate) fn empty() -> Self
+    pub(crate) const fn empty() -> Self
         ensures { octets_of result ≡ [] }
     {
         Buffer {
@@ -94,7 +94,7 @@ impl<const SIZE: usize> Buffer<SIZE> {
     {
         let start = self.used as usize;
         let end = start + count;
-        if end > SIZE.min(255) {
+        if end > SIZE || end > 255 {
             return Err(Error::Length);
         }
         let bytes = &mut self.bytes[..];
@@ -107,11 +107,11 @@ impl<const SIZE: usize> Buffer<SIZE> {
     pub fn as_bytes(&self) -> &[u8]
         ensures { result.now ≡ octets_of self.now }
     {
-        &self.bytes[..self.used as usize]
+        self.bytes.split_at(self.used as usize).0
     }
 
     /// How many octets are in use.
-    pub fn len(&self) -> usize
+    pub const fn len(&self) -> usize
         ensures value { result ≡ length (octets_of self.now) }
         ensures fits { result ≤ min SIZE 255 }
     {
@@ -127,7 +127,7 @@ impl<const SIZE: usize> Buffer<SIZE> {
 }
 
 /// How many octets the group of a number takes.
-fn group_len(number: u64) -> usize
+const fn group_len(number: u64) -> usize
     requires { number < 2 ^ 35 }
     ensures width { result ≡ width number }
     ensures short { result ≤ 5 }
@@ -149,11 +149,14 @@ fn write_group(octets: &mut [u8], number: u64)
     ensures { IsGroup number octets.new }
 {
     let last = octets.len() - 1;
-    for (index, octet) in octets[..last].iter_mut().enumerate() {
+    let (front, end) = octets.split_at_mut(last);
+    let mut index = 0;
+    while index < last {
         let digit = ((number >> (7 * (last - index))) & 0x7f) as u8;
-        *octet = digit | 0x80;
+        front[index] = digit | 0x80;
+        index += 1;
     }
-    octets[last] = (number & 0x7f) as u8;
+    end[0] = (number & 0x7f) as u8;
 }
 
 impl<const SIZE: usize> PartialEq for Buffer<SIZE> {

@@ -59,7 +59,7 @@ impl<const SIZE: usize> Encoder<SIZE> {
     }
 
     /// Whether no arc was given.
-    pub(crate) fn is_new(&self) -> bool
+    pub(crate) const fn is_new(&self) -> bool
         ensures { IsTrue result ↔ (self.now ≡ []) }
     {
         matches!(self.state, State::Initial)
@@ -88,7 +88,9 @@ impl<const SIZE: usize> Encoder<SIZE> {
             }
             State::Body => arc as u64,
         };
-        self.octets.push_group(number)?;
+        if let Err(fault) = self.octets.push_group(number) {
+            return Err(fault);
+        }
         self.state = State::Body;
         Ok(())
     }
@@ -143,7 +145,7 @@ where
 }
 
 /// The greatest second arc under a first arc (X.660): 39 under 0 and 1, any of 32 bits under 2.
-fn greatest_second(first: Arc) -> Arc
+const fn greatest_second(first: Arc) -> Arc
     ensures { result ≡ most_second root_rule first }
 {
     if first < 2 { 39 } else { Arc::MAX }

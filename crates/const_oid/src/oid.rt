@@ -247,6 +247,11 @@ impl<const MAX_SIZE: usize> fmt::Display for ObjectIdentifier<MAX_SIZE> {
 }
 
 impl<const MAX_SIZE: usize> fmt::Debug for ObjectIdentifier<MAX_SIZE> {
+    ghost use Rattle.std.specs.Prelude.{◌++◌, codes};
+    ghost use Rattle.const_oid.specs.Oid.{oid_arcs};
+
+    ghost debug_output = { λ oid. Some (codes "ObjectIdentifier(" ++ (text_of (oid_arcs oid) ++ codes ")")) };
+
     fn fmt<W: fmt::Write>(&self, f: &mut fmt::Formatter<W>) -> fmt::Result {
         write!(f, "ObjectIdentifier({self})")
     }

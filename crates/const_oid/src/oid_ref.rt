@@ -165,6 +165,11 @@ impl fmt::Display for ObjectIdentifierRef<'_> {
 }
 
 impl fmt::Debug for ObjectIdentifierRef<'_> {
+    ghost use Rattle.std.specs.Prelude.{◌++◌, codes};
+    ghost use Rattle.const_oid.specs.OidRef.{ref_arcs};
+
+    ghost debug_output = { λ oid. Some (codes "ObjectIdentifierRef(" ++ (text_of (ref_arcs oid) ++ codes ")")) };
+
     fn fmt<W: fmt::Write>(&self, f: &mut fmt::Formatter<W>) -> fmt::Result {
         write!(f, "ObjectIdentifierRef({self})")
     }

@@ -1,6 +1,7 @@
 //! Dotted text to octets.
 
-ghost use Rattle.std.specs.Prelude.{◌≡◌, ◌≤◌, [], ◌∷◌, ◌++◌, IfOk, OnOk, min, unwrap_or};
+ghost use Rattle.std.specs.Prelude.{◌≡◌, ◌≤◌, ◌-◌, [], ◌∷◌, ◌++◌, IfOk, OnOk, min, unwrap_or};
+ghost use Rattle.std.specs.Bool.{then_some};
 ghost use Rattle.std.specs.Result.{result_err};
 ghost use Rattle.const_oid.specs.Buffer.{octets_of, buffer_answer};
 ghost use Rattle.const_oid.specs.Contents.{arcs_of_octets};
@@ -20,7 +21,10 @@ pub(crate) fn parse<const SIZE: usize>(text: &str) -> Result<Buffer<SIZE>>
 {
     // A longer array holds no more octets: an encoder of it could be too large for the memory.
     if SIZE > 255 {
-        return Ok(Buffer::copied(parse_within::<255>(text)?.as_bytes()));
+        return match parse_within::<255>(text) {
+            Ok(octets) => Ok(Buffer::copied(octets.as_bytes())),
+            Err(fault) => Err(fault),
+        };
     }
     parse_within(text)
 }
@@ -36,24 +40,47 @@ fn parse_within<const SIZE: usize>(text: &str) -> Result<Buffer<SIZE>>
     let mut encoder = Encoder::new();
     let mut number: u64 = 0;
     let mut begun = false;
-    for (index, &byte) in bytes.iter().enumerate() {
+    let mut index = 0;
+    while index < bytes.len() {
+        let byte = bytes[index];
         if byte.is_ascii_digit() {
-            number = number * 10 + u64::from(byte - b'0');
+            number = number * 10 + digit(byte);
             if number > Arc::MAX as u64 {
                 return Err(Error::ArcTooBig);
             }
             begun = true;
         } else if byte == b'.' {
-            let piece = begun.then_some(number as Arc);
-            end_piece(&mut encoder, piece, index + 1 == bytes.len())?;
+            let piece = given(begun, number as Arc);
+            if let Err(fault) = end_piece(&mut encoder, piece, index + 1 == bytes.len()) {
+                return Err(fault);
+            }
             number = 0;
             begun = false;
         } else {
             return Err(Error::DigitExpected { actual: byte });
         }
+        index += 1;
     }
-    end_text(&mut encoder, begun.then_some(number as Arc))?;
+    let piece = given(begun, number as Arc);
+    if let Err(fault) = end_text(&mut encoder, piece) {
+        return Err(fault);
+    }
     encoder.finish()
+}
+
+/// The number that a digit stands for.
+const fn digit(byte: u8) -> u64
+    requires { 48 ≤ byte }
+    ensures { result ≡ byte - 48 }
+{
+    (byte - b'0') as u64
+}
+
+/// The number of a piece, where it has a digit.
+const fn given(begun: bool, number: Arc) -> Option<Arc>
+    ensures { result ≡ then_some begun number }
+{
+    if begun { Some(number) } else { None }
 }
 
 /// Ends a piece at a dot.

@@ -1,10 +1,11 @@
-use Rattle.std.proofs.Common.{◌≡◌, ◌-◌, arith, length, length-take, length-drop, drop, subst}
+use Rattle.std.proofs.lemmas.List.{set-append_right}
+use Rattle.std.proofs.Common.{◌≡◌, ◌-◌, arith, length, subst, bit_and}
 use Rattle.const_oid.proofs.Groups.{width_is}
 use Rattle.const_oid.proofs.Written.{IsWritten, written_none, written_more, written_group}
 use Rattle.const_oid.proofs.buffer.write_group.Goals as goal
 
 pub loop-index-init : goal.loop-index-init
-loop-index-init c = written_none c.args.number _ _ (omega (arith, (width_is c.args.number).positive))
+loop-index-init c = record { written = written_none c.args.number _ _ (omega (arith, (width_is c.args.number).positive)); within = omega arith }
 
 pub overflow_mul-digit : goal.overflow_mul-digit
 overflow_mul-digit c = omega (arith, (width_is c.args.number).least 5 (omega arith) (omega arith))
@@ -14,14 +15,17 @@ overflow_shr-digit c = omega (arith, (width_is c.args.number).least 5 (omega ari
 
 pub loop-index-preserved : goal.loop-index-preserved
 loop-index-preserved c =
-    let l = length-take (length c.args.octets.now - 1) c.args.octets.now in
-    written_more c.args.number _ c.loop-index.index c.loop-index.octet-items (omega arith) (omega arith) c.loop-index.invariant
+    let s = c.split_at_mut-front.ensures in
+    record { written = written_more c.args.number _ c.loop-index.index c.loop-index.front (omega (arith, s.front_len)) (omega (arith, s.front_len)) c.loop-index.invariant.written; within = omega arith }
 
 pub returns : goal.returns
 returns c =
     let last = length c.args.octets.now - 1 in
     let some = (width_is c.args.number).positive in
-    let l = length-take last c.args.octets.now in
-    let e : c.loop-index.index ≡ last = omega arith in
-    let w : IsWritten c.args.number last last c.loop-index.octet-items = subst (λ i. IsWritten c.args.number last i c.loop-index.octet-items) e c.loop-index.invariant in
-    written_group c.args.number last c.loop-index.octet-items (drop last c.args.octets.now) (omega arith) (omega (arith, length-drop last c.args.octets.now)) (omega arith) w
+    let s = c.split_at_mut-front.ensures in
+    let rest = c.split_at_mut-front.result.1.now in
+    let e : c.loop-index.index ≡ last = omega (arith, c.loop-index.invariant.within) in
+    let w : IsWritten c.args.number last last c.loop-index.front = subst (λ i. IsWritten c.args.number last i c.loop-index.front) e c.loop-index.invariant.written in
+    let f : length c.loop-index.front ≡ last = omega (arith, s.front_len) in
+    let z : last - last ≡ 0 = omega arith in
+    rw (set-append_right c.loop-index.front rest last last (bit_and c.args.number 127) f (omega arith), z) at (written_group c.args.number last c.loop-index.front rest f (omega (arith, s.back_len)) (omega arith) w)

@@ -26,9 +26,9 @@ pub returns-clause-answer : goal.returns-clause-answer
 returns-clause-answer g c =
     let l = c.loop-index in
     let none : drop l.index c.as_bytes-bytes.result.now ≡ [] = drop_all l.index c.as_bytes-bytes.result.now (omega arith) in
-    let given = c.in_ok-end_text.ensures.given in
-    text_pass-end octets_of root_rule (min g.row.SIZE 255) l.encoder c.then_some.result c.finish.result c.in_ok-end_text.ensures.fault (rw given at c.finish.ensures.fault) (rw given at c.finish.ensures.encoding)
-    ∙ last_piece root_rule (min g.row.SIZE 255) l.encoder l.begun l.number c.then_some.result c.then_some.ensures
+    let given = c.in_default-end_text.ensures.given in
+    text_pass-end octets_of root_rule (min g.row.SIZE 255) l.encoder c.given-piece-2.result c.finish.result c.in_default-end_text.ensures.fault (rw given at c.finish.ensures.fault) (rw given at c.finish.ensures.encoding)
+    ∙ last_piece root_rule (min g.row.SIZE 255) l.encoder l.begun l.number c.given-piece-2.result c.given-piece-2.ensures
     ∙ (rw none at l.invariant.pass)
     ∙ ap (λ text. text_answer root_rule text (min g.row.SIZE 255)) c.as_bytes-bytes.ensures.value
 
@@ -36,7 +36,7 @@ pub returns-then-number-clause-answer : goal.returns-then-number-clause-answer
 returns-then-number-clause-answer g c =
     let l = c.loop-index in
     let is_digit = sym c.is_ascii_digit.ensures.value ∙ c.if-is_ascii_digit.true in
-    sym (text_pass-too_big root_rule (min g.row.SIZE 255) l.encoder l.begun l.number c.from.result c.as_bytes-bytes.result.now l.index c.loop-index-test.true is_digit c.from.ensures c.if-number.true)
+    sym (text_pass-too_big root_rule (min g.row.SIZE 255) l.encoder l.begun l.number c.digit.result c.as_bytes-bytes.result.now l.index c.loop-index-test.true is_digit c.digit.ensures c.if-number.true)
     ∙ l.invariant.pass
     ∙ ap (λ text. text_answer root_rule text (min g.row.SIZE 255)) c.as_bytes-bytes.ensures.value
 
@@ -48,21 +48,10 @@ returns-else-byte-eq46-clause-answer g c =
     ∙ l.invariant.pass
     ∙ ap (λ text. text_answer root_rule text (min g.row.SIZE 255)) c.as_bytes-bytes.ensures.value
 
-pub returns-in_err-end_piece-clause-answer : goal.returns-in_err-end_piece-clause-answer
-returns-in_err-end_piece-clause-answer g c =
+pub returns-in-Err-end_text-clause-answer : goal.returns-in-Err-end_text-clause-answer
+returns-in-Err-end_text-clause-answer g c =
     let l = c.loop-index in
-    let fault = c.in_err-end_piece.field-0.0 in
-    rw (handed_on (λ octets. arcs_of_octets (octets_of octets)) c.from_residual.result fault c.from_residual.ensures.1)
-    (sym (text_pass-dot root_rule (min g.row.SIZE 255) l.encoder l.begun l.number c.then_some-piece.result (Some fault) c.as_bytes-bytes.result.now l.index c.loop-index-test.true c.if-byte-eq46.true c.then_some-piece.ensures c.in_err-end_piece.ensures.fault)
-    ∙ l.invariant.pass
-    ∙ ap (λ text. text_answer root_rule text (min g.row.SIZE 255)) c.as_bytes-bytes.ensures.value)
-
-pub returns-in_err-end_text-clause-answer : goal.returns-in_err-end_text-clause-answer
-returns-in_err-end_text-clause-answer g c =
-    let l = c.loop-index in
-    let none : drop l.index c.as_bytes-bytes.result.now ≡ [] = drop_all l.index c.as_bytes-bytes.result.now c.loop-index-test.false in
-    let fault = c.in_err-end_text.field-0.0 in
-    rw (handed_on (λ octets. arcs_of_octets (octets_of octets)) c.from_residual-in_err-end_text.result fault c.from_residual-in_err-end_text.ensures.1)
-    (sym (text_pass-end_fault root_rule (min g.row.SIZE 255) l.encoder l.begun l.number c.then_some.result fault c.then_some.ensures c.in_err-end_text.ensures.fault)
+    let none : drop l.index c.as_bytes-bytes.result.now ≡ [] = drop_all l.index c.as_bytes-bytes.result.now (omega arith) in
+    sym (text_pass-end_fault root_rule (min g.row.SIZE 255) l.encoder l.begun l.number c.given-piece-2.result c.in-Err-end_text.fault c.given-piece-2.ensures c.in-Err-end_text.ensures.fault)
     ∙ (rw none at l.invariant.pass)
-    ∙ ap (λ text. text_answer root_rule text (min g.row.SIZE 255)) c.as_bytes-bytes.ensures.value)
+    ∙ ap (λ text. text_answer root_rule text (min g.row.SIZE 255)) c.as_bytes-bytes.ensures.value

@@ -1,4 +1,4 @@
-use Rattle.std.proofs.Common.{min, ◌≡◌, ◌≤◌, drop}
+use Rattle.std.proofs.Common.{min, ◌≡◌, ◌≤◌, ◌-◌, drop, length}
 use Rattle.const_oid.specs.Identifier.{root_rule, most_arc}
 use Rattle.const_oid.specs.Text.{text_answer}
 use Rattle.const_oid.proofs.TextPass.{text_pass}
@@ -9,3 +9,6 @@ invariant-loop-index g l = record {
   pass : text_pass root_rule (min g.row.SIZE 255) l.encoder l.begun l.number (drop l.index l.bytes) ≡ text_answer root_rule l.bytes (min g.row.SIZE 255);
   small : l.number ≤ most_arc;
 }
+
+abbrev pub decreases-loop-index : goal.decreases-loop-index
+decreases-loop-index g l = length l.bytes - l.index

@@ -1,5 +1,4 @@
 use Rattle.std.proofs.Common.{arith, min, ap, sym, ◌∙◌, Some}
-use Rattle.std.proofs.lemmas.Result.{err_from_is_err_and}
 use Rattle.const_oid.specs.declared.error.Error.TheVariants.{Length}
 use Rattle.const_oid.specs.Buffer.{octets_of}
 use Rattle.const_oid.specs.Identifier.{root_rule}
@@ -8,15 +7,14 @@ use Rattle.const_oid.proofs.Started.{StandsFor, later_number, second_number}
 use Rattle.const_oid.proofs.encoder.Encoder.arc.Goals as goal
 use Rattle.const_oid.proofs.encoder.Encoder.arc.Goals.{in-FirstArc+else-arc-greatest_second, in-Body}
 
-pub returns-in_err-push_group-clause-fault : goal.returns-in_err-push_group-clause-fault
-returns-in_err-push_group-clause-fault g c =
+pub returns-in-Err-clause-fault : goal.returns-in-Err-clause-fault
+returns-in-Err-clause-fault g c =
     let n : StandsFor root_rule (octets_of c.self.inside.octets) c.args.self.now c.args.arc c.match-self.number = elim c.match-self.branch [
       | in-FirstArc+else-arc-greatest_second w ↦ second_number root_rule c.self.inside.state _ _ w.in-FirstArc.first c.args.arc _ w.in-FirstArc.is c.self.invariant c.self.view_is (omega (arith, w.greatest_second.ensures)) w.number-is
       | in-Body w ↦ later_number root_rule c.self.inside.state _ _ c.args.arc _ w.in-Body.is c.self.invariant c.self.view_is (omega arith) w.number-is
     ] in
-    let p = err_from_is_err_and c.from_residual.result c.from_residual.ensures.1 in
-    let fits = c.in_err-push_group.ensures.fits in
-    rw (p.1, p.2) (ap Some fits.0 ∙ sym (n.fault (min g.row.SIZE 255) ∙ some_from_above _ _ Length fits.1))
+    let fits = c.in-Err.ensures.fits in
+    ap Some fits.0 ∙ sym (n.fault (min g.row.SIZE 255) ∙ some_from_above _ _ Length fits.1)
 
 pub invariant_of-self-2 : goal.invariant_of-self-2
 invariant_of-self-2 g c =
@@ -24,7 +22,7 @@ invariant_of-self-2 g c =
       | in-FirstArc+else-arc-greatest_second w ↦ second_number root_rule c.self.inside.state _ _ w.in-FirstArc.first c.args.arc _ w.in-FirstArc.is c.self.invariant c.self.view_is (omega (arith, w.greatest_second.ensures)) w.number-is
       | in-Body w ↦ later_number root_rule c.self.inside.state _ _ c.args.arc _ w.in-Body.is c.self.invariant c.self.view_is (omega arith) w.number-is
     ] in
-    (n.step _ c.in_ok-push_group.ensures.appended).0
+    (n.step _ c.in_default.ensures.appended).0
 
 pub returns-clause-fault : goal.returns-clause-fault
 returns-clause-fault g c =
@@ -32,7 +30,7 @@ returns-clause-fault g c =
       | in-FirstArc+else-arc-greatest_second w ↦ second_number root_rule c.self.inside.state _ _ w.in-FirstArc.first c.args.arc _ w.in-FirstArc.is c.self.invariant c.self.view_is (omega (arith, w.greatest_second.ensures)) w.number-is
       | in-Body w ↦ later_number root_rule c.self.inside.state _ _ c.args.arc _ w.in-Body.is c.self.invariant c.self.view_is (omega arith) w.number-is
     ] in
-    sym (n.fault (min g.row.SIZE 255) ∙ none_from_below _ _ Length c.in_ok-push_group.ensures.fits)
+    sym (n.fault (min g.row.SIZE 255) ∙ none_from_below _ _ Length c.in_default.ensures.fits)
 
 pub returns-clause-given : goal.returns-clause-given
 returns-clause-given g c =
@@ -40,4 +38,4 @@ returns-clause-given g c =
       | in-FirstArc+else-arc-greatest_second w ↦ second_number root_rule c.self.inside.state _ _ w.in-FirstArc.first c.args.arc _ w.in-FirstArc.is c.self.invariant c.self.view_is (omega (arith, w.greatest_second.ensures)) w.number-is
       | in-Body w ↦ later_number root_rule c.self.inside.state _ _ c.args.arc _ w.in-Body.is c.self.invariant c.self.view_is (omega arith) w.number-is
     ] in
-    (n.step _ c.in_ok-push_group.ensures.appended).1
+    (n.step _ c.in_default.ensures.appended).1
