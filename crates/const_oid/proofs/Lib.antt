@@ -30,3 +30,5 @@ pub mod Names
 pub mod Wider
 pub mod Widened
 pub mod Identifiers
+pub mod Decimals
+pub mod PairTable

@@ -1,5 +1,5 @@
 -- Texts: what is printed is read back, and texts have no fault exactly where they denote arcs that fit.
-use Rattle.std.proofs.Common.{◌≡◌, ℕ, ◌<◌, ◌≤◌, false, not, List, [], ◌∷◌, ◌++◌, length, map, Option, Some, None, option_map, refl, sym, ap, ◌∙◌, arith, decimal, find, ◌==◌, append-nil, Bool, true, append_assoc}
+use Rattle.std.proofs.Common.{◌≡◌, ℕ, ◌<◌, ◌≤◌, false, not, List, [], ◌∷◌, ◌++◌, length, map, Option, Some, None, option_map, refl, sym, ap, ◌∙◌, arith, decimal, find, ◌==◌, append-nil, Bool, true}
 use Rattle.std.specs.List.{AllByRecursion, join_with_byte}
 use Rattle.std.specs.Char.{is_ascii_digit}
 use Rattle.std.specs.Prelude.{Ok}
@@ -10,7 +10,7 @@ use Rattle.const_oid.specs.declared.error.Error.{Error}
 use Rattle.const_oid.specs.Faults.{answer}
 use Rattle.const_oid.specs.Identifier.{RootRule, Narrow, Wide, most_arc, most_second, IsIdentifier, size}
 use Rattle.const_oid.specs.Items.{arc_fault}
-use Rattle.const_oid.specs.Text.{text_of, pieces_of, number_of, is_empty, is_one_empty, empty_fault, single_fault, piece_fault, pieces_fault, text_fault, IsNumber, Denotes, strip_piece, strip, text_answer}
+use Rattle.const_oid.specs.Text.{text_of, arc_text, pieces_of, number_of, is_empty, is_one_empty, empty_fault, single_fault, piece_fault, pieces_fault, text_fault, IsNumber, Denotes, strip_piece, strip, text_answer}
 use Rattle.const_oid.proofs.Lists.{append-cons, all_at}
 use Rattle.const_oid.proofs.Faults.{both_none, false_from_none, below_from_none, none_from_below}
 use Rattle.const_oid.proofs.Items.{IsBegun, begun_more, arc_none}
@@ -176,17 +176,11 @@ text_of-first : (arc : ℕ) (arcs : List ℕ) → text_of (arc ∷ arcs) ≡ dec
 text_of-first arc [] = sym (append-nil (decimal arc))
 text_of-first arc (next ∷ arcs) = refl
 
--- the first arc printed
-pub printed_first : (done : List ℕ) (is_first : Bool) (arc : ℕ) (arcs all : List ℕ) → is_first ≡ true → done ++ text_left is_first (arc ∷ arcs) ≡ all → (done ++ decimal arc) ++ text_left false arcs ≡ all
-printed_first done true arc arcs all b h = append_assoc done (decimal arc) (text_left false arcs) ∙ ap (λ l. done ++ l) (sym (text_of-first arc arcs)) ∙ h
-printed_first done false arc arcs all b h = cc
+-- the next arc, and what follows it
+pub text_left-cons : (is_first : Bool) (arc : ℕ) (arcs : List ℕ) → text_left is_first (arc ∷ arcs) ≡ arc_text is_first arc ++ text_left false arcs
+text_left-cons true arc arcs = text_of-first arc arcs
+text_left-cons false arc arcs = ap (λ l. 46 ∷ l) (text_of-first arc arcs)
 
--- one more, behind a dot
-pub printed_next : (done : List ℕ) (is_first : Bool) (arc : ℕ) (arcs all : List ℕ) → is_first ≡ false → done ++ text_left is_first (arc ∷ arcs) ≡ all → (done ++ (46 ∷ decimal arc)) ++ text_left false arcs ≡ all
-printed_next done true arc arcs all b h = cc
-printed_next done false arc arcs all b h = append_assoc done (46 ∷ decimal arc) (text_left false arcs) ∙ ap (λ l. done ++ 46 ∷ l) (sym (text_of-first arc arcs)) ∙ h
-
--- and none is left
-pub printed_all : (done : List ℕ) (is_first : Bool) (all : List ℕ) → done ++ text_left is_first [] ≡ all → done ≡ all
-printed_all done true all h = sym (append-nil done) ∙ h
-printed_all done false all h = sym (append-nil done) ∙ h
+pub text_left-nil : (is_first : Bool) → text_left is_first [] ≡ []
+text_left-nil true = refl
+text_left-nil false = refl

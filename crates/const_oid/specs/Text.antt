@@ -1,5 +1,5 @@
 -- Dotted text.
-use Rattle.std.specs.Prelude.{◌≡◌, ℕ, ◌<◌, Bool, true, false, not, List, [], ◌∷◌, ◌++◌, length, map, decimal, nat_lt, ◌==◌, if◌then◌else◌, Option, Some, None, Result, take_while, find}
+use Rattle.std.specs.Prelude.{◌≡◌, ℕ, ◌+◌, ◌/◌, ◌%◌, ◌<◌, Bool, true, false, not, List, [], ◌∷◌, ◌++◌, length, map, decimal, nat_lt, ◌==◌, if◌then◌else◌, Option, Some, None, Result, take_while, find}
 use Rattle.std.specs.List.{slice_split, join_with_byte, AllByRecursion}
 use Rattle.std.specs.Str.{all_ascii_digits}
 use Rattle.std.specs.Option.{option_or, option_map}
@@ -14,6 +14,15 @@ use Rattle.const_oid.specs.Items.{arc_fault}
 -- the arcs' decimals, joined by dots
 abbrev pub text_of : List ℕ → List ℕ
 text_of arcs = join_with_byte 46 (map decimal arcs)
+
+-- what an arc adds to the text, by whether it is the first
+abbrev pub arc_text : Bool → ℕ → List ℕ
+arc_text true arc = decimal arc
+arc_text false arc = 46 ∷ decimal arc
+
+-- two digits
+abbrev pub pair_text : ℕ → List ℕ
+pair_text pair = (48 + pair / 10) ∷ (48 + pair % 10) ∷ []
 
 -- the pieces between the dots
 abbrev pub pieces_of : List ℕ → List (List ℕ)

@@ -4,6 +4,7 @@
 pub mod arcs;
 pub mod buffer;
 pub mod db;
+mod digits;
 mod encoder;
 pub mod error;
 pub mod laws;
@@ -12,6 +13,7 @@ pub mod oid_ref;
 mod parser;
 mod scan;
 mod sound;
+mod text;
 pub mod traits;
 
 pub use arcs::{Arc, Arcs};

@@ -1,5 +1,5 @@
 //! Borrowed object identifiers.
-ghost use Rattle.std.specs.Prelude.{◌≡◌, ◌≤◌, ◌<◌, ◌↔◌, ℕ, length, slice_get, count_by, None, Some, IfOk, IfSome, IsTrue};
+ghost use Rattle.std.specs.Prelude.{◌≡◌, ◌≤◌, ◌<◌, ◌↔◌, ◌++◌, ℕ, length, drop, min, slice_get, count_by, None, Some, IfOk, IfSome, IsTrue, MatchOption};
 ghost use Rattle.std.specs.Option.{option_map};
 ghost use Rattle.std.specs.Cmp.Lexicographic.{slice_cmp};
 ghost use Rattle.std.specs.List.Sorted.{IsSortedByKey};
@@ -11,10 +11,12 @@ ghost use Rattle.const_oid.specs.Identifier.{root_rule, IsEncoding};
 ghost use Rattle.const_oid.specs.Text.{text_of};
 
 use crate::arcs::{Arc, Arcs, arc_at};
+use crate::digits::{MOST_ARC_LEN, write_arc};
 use crate::error::{Error, Result};
 use crate::oid::ObjectIdentifier;
 use crate::scan::{before_last, begins_with, count_last, order, order_by_parts};
 use crate::sound::check;
+use crate::text::{ascii, text_len, write_text};
 use std::cmp::Ordering;
 use std::fmt;
 
@@ -91,6 +93,27 @@ impl<'a> ObjectIdentifierRef<'a> {
         count_last(self.ber) + 1
     }
 
+    /// The length of the text that `{}` writes, or `usize::MAX` where it is past that.
+    pub fn text_len(&self) -> usize
+        ensures { result ≡ min (length (text_of (ref_arcs self.now))) usize.MAX }
+    {
+        text_len(self.arcs(), usize::MAX).unwrap_or(usize::MAX)
+    }
+
+    /// Writes the text that `{}` writes at the front of `out`, and tells its length. `None` where it
+    /// is longer than `out`, which then stays as it was.
+    pub fn encode_text(&self, out: &mut [u8]) -> Option<usize>
+        ensures cases { MatchOption result (length out.old < length (text_of (ref_arcs self.now))) (λ len. len ≡ length (text_of (ref_arcs self.now))) }
+        ensures written { IfSome result (λ len. out.new ≡ text_of (ref_arcs self.now) ++ drop len out.old) }
+        ensures kept { result ≡ None → out.new ≡ out.old }
+    {
+        // An octet takes four bytes of text at most.
+        if self.ber.len() > out.len() / 4 {
+            text_len(self.arcs(), out.len())?;
+        }
+        Some(write_text(self.arcs(), out))
+    }
+
     /// Whether an owned identifier, of any capacity, has the same octets, and so the same arcs.
     pub fn eq_oid<const N: usize>(&self, other: &ObjectIdentifier<N>) -> bool
         ensures octets { IsTrue result ↔ (ref_octets self.now ≡ oid_octets other.now) }
@@ -144,6 +167,9 @@ impl<'a> ObjectIdentifierRef<'a> {
     }
 }
 
+/// The most bytes of a text that `{}` hands on at a time.
+const PIECE: usize = 64;
+
 /// The arcs in decimal, joined by dots. The contract speaks of a plain `{}`.
 impl fmt::Display for ObjectIdentifierRef<'_> {
     ghost use Rattle.const_oid.specs.OidRef.{ref_arcs};
@@ -151,16 +177,20 @@ impl fmt::Display for ObjectIdentifierRef<'_> {
     ghost output = { λ oid. Some (text_of (ref_arcs oid)) };
 
     fn fmt<W: fmt::Write>(&self, f: &mut fmt::Formatter<W>) -> fmt::Result {
-        let mut is_first = true;
-        for arc in self.arcs() {
-            if is_first {
-                write!(f, "{arc}")?;
-            } else {
-                write!(f, ".{arc}")?;
+        let mut bytes = [0; PIECE];
+        let mut arcs = self.arcs();
+        let mut used = match arcs.next() {
+            Some(first) => write_arc(first, true, &mut bytes, 0),
+            None => 0,
+        };
+        for arc in arcs {
+            if used > PIECE - MOST_ARC_LEN {
+                f.write_str(ascii(&bytes[..used]))?;
+                used = 0;
             }
-            is_first = false;
+            used = write_arc(arc, false, &mut bytes, used);
         }
-        Ok(())
+        f.write_str(ascii(&bytes[..used]))
     }
 }
 

@@ -1,25 +1,74 @@
-use Rattle.std.proofs.Common.{[], ◌∷◌, ◌++◌, ◌∙◌, ap, decimal, rules}
+use Rattle.std.proofs.Common.{true, false, ◌≡◌, List, ℕ, append_assoc, append-nil, refl, sym, ◌≤◌, [], ◌++◌, ◌∙◌, ap, take, rules, arith}
 use Rattle.std.proofs.Output.{has_written_append, has_written_of_eq}
 use Rattle.const_oid.specs.Text.{text_of}
-use Rattle.const_oid.proofs.Texts.{printed_first, printed_next, printed_all}
+use Rattle.const_oid.proofs.Decimals.{arc_text_short, arc_text_ascii}
+use Rattle.const_oid.proofs.Texts.{text_left, text_left-cons, text_left-nil}
+use Rattle.const_oid.specs.OidRef.{ref_arcs}
+use Rattle.std.specs.Fmt.{HasWritten}
+use Rattle.std.specs.Str.{IsAscii}
+use Rattle.std.proofs.lemmas.Str.{IsAscii-append}
 use Rattle.const_oid.proofs.oid_ref.ObjectIdentifierRefDisplay.fmt.Goals as goal
+use Rattle.const_oid.proofs.oid_ref.ObjectIdentifierRefDisplay.fmt.Goals.{then-used+in_ok-write_str, else-used, in-Some, in-None}
+
+pub write_arc-used-requires : goal.write_arc-used-requires
+write_arc-used-requires g c = omega (arith, arc_text_short true c.in-Some.first (omega arith))
 
 pub loop-arc-init : goal.loop-arc-init
-loop-arc-init g c = λ plain. ([], search rules, ap text_of (c.into_iter-arc-iterator.ensures.into_iter_gives ∙ c.arcs-arc-items.ensures))
+loop-arc-init g c =
+    let rest = c.into_iter-arc-iterator.ensures.into_iter_gives in
+    let all = c.arcs-arcs.ensures in
+    record {
+      within = elim c.match-next.branch [ in-Some w ↦ omega (arith, arc_text_short true w.in-Some.first (omega arith)) | in-None w ↦ omega arith ];
+      ascii = elim c.match-next.branch [
+        | in-Some w ↦ rw (w.used-is, w.bytes-is, w.write_arc-used.ensures.front) (arc_text_ascii true w.in-Some.first (omega arith))
+        | in-None w ↦ rw w.used-is (λ i. omega arith)
+      ];
+      writes = λ plain. (
+        [],
+        search rules,
+        elim c.match-next.branch [
+          | in-Some w ↦ rw (w.used-is, w.bytes-is, w.write_arc-used.ensures.front, rest) (sym (text_left-cons true w.in-Some.first c.next.new.self) ∙ ap text_of (sym w.in-Some.ensures.steps ∙ all))
+          | in-None w ↦ rw (w.used-is, rest, w.in-None.ensures.steps.1) (ap text_of (sym w.in-None.ensures.steps.0 ∙ all))
+        ],
+      );
+    }
 
-pub loop-arc-preserved-in_ok-write : goal.loop-arc-preserved-in_ok-write
-loop-arc-preserved-in_ok-write g c = λ plain.
-    let (done, written, text) = c.loop-arc.invariant plain in
-    let text = rw c.in-Some.ensures.steps at text in
-    (done ++ decimal c.in-Some.arc, has_written_append _ _ _ _ _ _ written (search rules), printed_first done c.loop-arc.is_first c.in-Some.arc _ _ c.if-is_first.true text)
+pub write_arc-used-requires-in-loop-arc : goal.write_arc-used-requires-in-loop-arc
+write_arc-used-requires-in-loop-arc g c =
+    let short = arc_text_short false c.in-Some-arc.arc (omega arith) in
+    elim c.if-used.branch [ then-used+in_ok-write_str w ↦ omega arith | else-used w ↦ omega arith ]
 
 pub loop-arc-preserved : goal.loop-arc-preserved
-loop-arc-preserved g c = λ plain.
-    let (done, written, text) = c.loop-arc.invariant plain in
-    let text = rw c.in-Some.ensures.steps at text in
-    (done ++ (46 ∷ decimal c.in-Some.arc), has_written_append _ _ _ _ _ _ written (search rules), printed_next done c.loop-arc.is_first c.in-Some.arc _ _ c.if-is_first.false text)
+loop-arc-preserved g c =
+    let l = c.loop-arc in
+    let arc = c.in-Some-arc.arc in
+    let wrote = c.write_arc-used-in-loop-arc in
+    let short = arc_text_short false arc (omega arith) in
+    let room : c.if-used.used ≤ 53 = elim c.if-used.branch [ then-used+in_ok-write_str w ↦ omega arith | else-used w ↦ omega arith ] in
+    let ascii : IsAscii (take c.if-used.used l.bytes) = elim c.if-used.branch [ then-used+in_ok-write_str w ↦ rw w.used-is (λ i. omega arith) | else-used w ↦ rw w.used-is l.invariant.ascii ] in
+    record {
+      within = omega arith;
+      ascii = rw wrote.ensures.front (IsAscii-append _ _ ascii (arc_text_ascii false arc (omega arith)));
+      writes = λ plain.
+          let (done, written, text) = l.invariant.writes plain in
+          let at_hand : (done : List ℕ) × HasWritten g.W.Write.write_str_gives c.args.f.now done c.if-used.f
+          × (done ++ (take c.if-used.used l.bytes ++ text_left false l.arc-iterator) ≡ text_of (ref_arcs c.args.self.now)) =
+          elim c.if-used.branch [
+            | then-used+in_ok-write_str w ↦ rw (w.used-is, w.f-is) (done ++ take l.used l.bytes, has_written_append _ _ _ _ _ _ written (rw w.ascii.ensures at (w.in_ok-write_str.ensures.writes written.plain refl)), append_assoc done (take l.used l.bytes) (text_left false l.arc-iterator) ∙ text)
+            | else-used w ↦ rw (w.used-is, w.f-is) (done, written, text)
+          ] in
+          let (all, sent, left) = at_hand in
+          let left = rw c.in-Some-arc.ensures.steps at left in (
+            all,
+            sent,
+            rw (wrote.ensures.front, append_assoc)
+                (ap (λ t. all ++ (take c.if-used.used l.bytes ++ t)) (sym (text_left-cons false arc c.next-in-loop-arc.new.self)) ∙ left),
+          );
+    }
 
 pub returns-clause-writes : goal.returns-clause-writes
-returns-clause-writes g c = λ plain _.
-    let (done, written, text) = c.loop-arc.invariant plain in
-    has_written_of_eq _ _ _ _ _ (printed_all done c.loop-arc.is_first _ (rw c.in-None.ensures.steps.0 at text)) written
+returns-clause-writes g c = λ plain ok.
+    let l = c.loop-arc in
+    let (done, written, text) = l.invariant.writes plain in
+    let text = rw (c.in-None-arc.ensures.steps.0, text_left-nil false, append-nil) at text in
+    has_written_of_eq _ _ _ _ _ text (has_written_append _ _ _ _ _ _ written (rw c.ascii-2.ensures at (c.write_str-2.ensures.writes written.plain ok)))

@@ -1,0 +1,61 @@
+-- The digits of a number, counted, and written from the last to the first.
+use Rattle.std.proofs.Common.{◌≡◌, Bool, true, false, ℕ, zero, suc, ◌+◌, ◌/◌, ◌^◌, ◌<◌, ◌≤◌, List, ◌++◌, length, take, drop, ap, ◌∙◌, subst, sym, take-take, ◌%◌, arith, decimal, length-append, append_assoc, pow-suc}
+use Rattle.std.proofs.lemmas.Fmt.{decimal_digit, decimal_step, length-decimal-le, IsAscii-decimal}
+use Rattle.std.proofs.lemmas.Str.Ascii.{IsAscii-cons}
+use Rattle.std.specs.Str.{IsAscii}
+use Rattle.const_oid.specs.Text.{arc_text, pair_text}
+use Rattle.std.proofs.Math.Seq.{take-append_seam, drop-append_seam}
+use Rattle.std.proofs.lemmas.List.{take-append-drop, length-take-le}
+
+pub length_digit : (n : ℕ) → n < 10 → length (decimal n) ≡ 1
+length_digit n h = ap length (decimal_digit n h)
+
+pub length_step : (n : ℕ) → 10 ≤ n → n < 2 ^ 64 → length (decimal n) ≡ length (decimal (n / 10)) + 1
+length_step n low high = ap length (decimal_step n low high) ∙ length-append _ _
+
+-- a number between two powers of ten
+pub length_between : (k n : ℕ) → 10 ^ k ≤ n → n < 10 ^ suc k → n < 2 ^ 64 → length (decimal n) ≡ k + 1
+length_between zero n low below high = length_digit n (omega arith)
+length_between (suc k) n low below high =
+    let p = pow-suc 10 k in
+    let q = pow-suc 10 (suc k) in
+    let shorter = length_between k (n / 10) (omega arith) (omega arith) (omega arith) in
+    omega (arith, length_step n (omega arith) high)
+
+pub decimal_two : (n : ℕ) → 10 ≤ n → n < 100 → decimal n ≡ pair_text n
+decimal_two n low high = rw (decimal_step n low (omega arith), decimal_digit (n / 10) (omega arith))
+
+pub decimal_pair : (n : ℕ) → 100 ≤ n → n < 2 ^ 64 → decimal n ≡ decimal (n / 100) ++ pair_text (n % 100)
+decimal_pair n low high =
+    let a : n / 10 / 10 ≡ n / 100 = omega arith in
+    let b : n / 10 % 10 ≡ n % 100 / 10 = omega arith in
+    let c : n % 10 ≡ n % 100 % 10 = omega arith in
+    rw (decimal_step n (omega arith) high, decimal_step (n / 10) (omega arith) (omega arith), append_assoc, a, b, ← c)
+
+pub length_pair : (n : ℕ) → 100 ≤ n → n < 2 ^ 64 → length (decimal n) ≡ length (decimal (n / 100)) + 2
+length_pair n low high = ap length (decimal_pair n low high) ∙ length-append _ _
+
+pub arc_text_short : (is_first : Bool) (arc : ℕ) → arc < 2 ^ 32 → length (arc_text is_first arc) ≤ 11
+arc_text_short true arc h = omega (arith, length-decimal-le 10 arc (omega arith) (omega arith) (omega arith))
+arc_text_short false arc h = omega (arith, length-decimal-le 10 arc (omega arith) (omega arith) (omega arith))
+
+pub arc_text_ascii : (is_first : Bool) (arc : ℕ) → arc < 2 ^ 32 → IsAscii (arc_text is_first arc)
+arc_text_ascii true arc h = IsAscii-decimal arc (omega arith)
+arc_text_ascii false arc h = IsAscii-cons 46 (decimal arc) (omega arith) (IsAscii-decimal arc (omega arith))
+
+pub take_less : (n m : ℕ) (xs ys : List ℕ) → n ≤ m → take m xs ≡ take m ys → take n xs ≡ take n ys
+take_less n m xs ys h e = sym (take-take n m xs h) ∙ ap (take n) e ∙ take-take n m ys h
+
+cut_at : (front back : List ℕ) (at : ℕ) → length front ≡ at → (take at (front ++ back) ≡ front) × (drop at (front ++ back) ≡ back)
+cut_at front back at long = let P : ℕ → Type 0 = λ n. (take n (front ++ back) ≡ front) × (drop n (front ++ back) ≡ back) in subst P long (take-append_seam front back, drop-append_seam front back)
+
+-- a part written in the midst of a list
+pub part_written : (old new part : List ℕ) (at end : ℕ) → end ≡ at + length part → at ≤ length old → take at new ≡ take at old → drop at new ≡ part ++ drop end old → (take end new ≡ take at old ++ part) × (drop end new ≡ drop end old)
+part_written old new part at end e room front back =
+    let whole : (take at old ++ part) ++ drop end old ≡ new = rw (append_assoc, ← back, ← front) (take-append-drop at new) in
+    rw whole at (cut_at (take at old ++ part) (drop end old) end (omega (arith, length-append (take at old) part, length-take-le at old room)))
+
+-- the last of a part's pieces to be written, which is its first
+pub last_written : (old now new part piece : List ℕ) (at place end : ℕ) → place ≡ at + length piece → end ≡ at + length part → at ≤ length old → take at now ≡ take at old → piece ++ drop place now ≡ part ++ drop end old → take at new ≡ take at now → drop at new ≡ piece ++ drop (at + length piece) now → (take end new ≡ take at old ++ part) × (drop end new ≡ drop end old)
+last_written old now new part piece at place end p e room front back before written =
+    part_written old new part at end e room (before ∙ front) (written ∙ ap (λ n. piece ++ drop n now) (sym p) ∙ back)
