@@ -50,8 +50,6 @@ impl fmt::Display for Error {
 
     ghost output = { λ error. Some (message_of error) };
 
-    ghost styled_output = { λ error _. Some (message_of error) };
-
     fn fmt<W: fmt::Write>(&self, f: &mut fmt::Formatter<W>) -> fmt::Result {
         let words = match *self {
             Error::ArcInvalid { arc } => return write!(f, "OID contains out-of-range arc: {arc}"),
