@@ -1,4 +1,4 @@
--- What begins with a front: encodings do exactly where their arcs do, and stand together in list order.
+-- What begins with a prefix: encodings do exactly where their arcs do, and stand together in list order.
 use Rattle.std.proofs.Common.{◌≡◌, ℕ, ◌+◌, ◌*◌, List, [], ◌∷◌, ◌++◌, refl, sym, ap, ap₂, ◌∙◌, append_assoc, ◌≢◌, ◌<◌, length, ⊎_elim, arith, Less, Greater, nat_cmp, append-nil, length-append, Bool, true, false, ◌||◌, drop, nat_eq, get_or}
 use Rattle.std.proofs.Math.Seq.{get_or-append_seam}
 use Rattle.std.specs.List.{AllZip, concat, starts_with}
@@ -10,112 +10,112 @@ use Rattle.std.proofs.lemmas.Bool.{cases_Bool, or_cases, or_left, or_right, true
 use Rattle.std.proofs.lemmas.Cmp.{nat_list_cmp_total, by_ranked}
 use Rattle.std.proofs.lemmas.List.Sorted.{ranks_by}
 use Rattle.std.proofs.lemmas.Slice.Eq.{starts_is}
-use Rattle.const_oid.specs.Base128.{value_of, IsChained, IsGroup}
+use Rattle.const_oid.specs.Base128.{value_of, IsContinued, IsGroup}
 use Rattle.const_oid.specs.Identifier.{RootRule, IsEncoding, subidentifiers}
 use Rattle.const_oid.specs.Contents.{arcs_from}
 use Rattle.const_oid.specs.Tree.{BeginsWith}
-use Rattle.const_oid.specs.Orders.{short_cmp}
-use Rattle.const_oid.proofs.Groups.{same_front, same_group}
+use Rattle.const_oid.specs.Orders.{shortlex_cmp}
+use Rattle.const_oid.proofs.Groups.{same_prefix, same_group}
 use Rattle.const_oid.proofs.Subidentifiers.{arcs_back, arcs_from-append}
 use Rattle.const_oid.proofs.Encodings.{same_arcs}
-use Rattle.const_oid.proofs.Orders.{short_cmp-less, slice_cmp-front}
+use Rattle.const_oid.proofs.Orders.{shortlex_cmp-less, slice_cmp-prefix}
 
-chain_not_empty : (g x : List ℕ) → IsChained g → [] ≡ g ++ x → ⊥
+chain_not_empty : (g x : List ℕ) → IsContinued g → [] ≡ g ++ x → ⊥
 chain_not_empty [] x c e = c
 chain_not_empty (a ∷ g) x c e = cc
 
 -- numbers whose groups begin others
-numbers_front : (ns ms : List ℕ) (gs hs : List (List ℕ)) (rest : List ℕ) → AllZip IsGroup ns gs → AllZip IsGroup ms hs → concat hs ≡ concat gs ++ rest → (more : List ℕ) × (ms ≡ ns ++ more)
-numbers_front [] ms [] hs rest p q e = (ms, refl)
-numbers_front [] ms (g ∷ gs) hs rest p q e = absurd p
-numbers_front (n ∷ ns) ms [] hs rest p q e = absurd p
-numbers_front (n ∷ ns) [] (g ∷ gs) [] rest p q e = absurd (chain_not_empty g (concat gs ++ rest) p.0.chained (e ∙ append_assoc g (concat gs) rest))
-numbers_front (n ∷ ns) [] (g ∷ gs) (h ∷ hs) rest p q e = absurd q
-numbers_front (n ∷ ns) (m ∷ ms) (g ∷ gs) [] rest p q e = absurd q
-numbers_front (n ∷ ns) (m ∷ ms) (g ∷ gs) (h ∷ hs) rest p q e =
-    let (same, others) = same_front h g (concat hs) (concat gs ++ rest) q.0.chained p.0.chained (e ∙ append_assoc g (concat gs) rest) in
-    let (more, f) = numbers_front ns ms gs hs rest p.1 q.1 others in
+numbers_prefix : (ns ms : List ℕ) (gs hs : List (List ℕ)) (rest : List ℕ) → AllZip IsGroup ns gs → AllZip IsGroup ms hs → concat hs ≡ concat gs ++ rest → (more : List ℕ) × (ms ≡ ns ++ more)
+numbers_prefix [] ms [] hs rest p q e = (ms, refl)
+numbers_prefix [] ms (g ∷ gs) hs rest p q e = absurd p
+numbers_prefix (n ∷ ns) ms [] hs rest p q e = absurd p
+numbers_prefix (n ∷ ns) [] (g ∷ gs) [] rest p q e = absurd (chain_not_empty g (concat gs ++ rest) p.0.continued (e ∙ append_assoc g (concat gs) rest))
+numbers_prefix (n ∷ ns) [] (g ∷ gs) (h ∷ hs) rest p q e = absurd q
+numbers_prefix (n ∷ ns) (m ∷ ms) (g ∷ gs) [] rest p q e = absurd q
+numbers_prefix (n ∷ ns) (m ∷ ms) (g ∷ gs) (h ∷ hs) rest p q e =
+    let (same, others) = same_prefix h g (concat hs) (concat gs ++ rest) q.0.continued p.0.continued (e ∙ append_assoc g (concat gs) rest) in
+    let (more, f) = numbers_prefix ns ms gs hs rest p.1 q.1 others in
     let s : m ≡ n = q.0.value ∙ ap value_of same ∙ sym p.0.value in
     (more, cc)
 
 -- groups of numbers that begin others
-octets_front : (ns more : List ℕ) (gs hs : List (List ℕ)) → AllZip IsGroup ns gs → AllZip IsGroup (ns ++ more) hs → (rest : List ℕ) × (concat hs ≡ concat gs ++ rest)
-octets_front [] more [] hs p q = (concat hs, refl)
-octets_front [] more (g ∷ gs) hs p q = absurd p
-octets_front (n ∷ ns) more [] hs p q = absurd p
-octets_front (n ∷ ns) more (g ∷ gs) [] p q = absurd q
-octets_front (n ∷ ns) more (g ∷ gs) (h ∷ hs) p q =
-    let (rest, e) = octets_front ns more gs hs p.1 q.1 in
+octets_prefix : (ns more : List ℕ) (gs hs : List (List ℕ)) → AllZip IsGroup ns gs → AllZip IsGroup (ns ++ more) hs → (rest : List ℕ) × (concat hs ≡ concat gs ++ rest)
+octets_prefix [] more [] hs p q = (concat hs, refl)
+octets_prefix [] more (g ∷ gs) hs p q = absurd p
+octets_prefix (n ∷ ns) more [] hs p q = absurd p
+octets_prefix (n ∷ ns) more (g ∷ gs) [] p q = absurd q
+octets_prefix (n ∷ ns) more (g ∷ gs) (h ∷ hs) p q =
+    let (rest, e) = octets_prefix ns more gs hs p.1 q.1 in
     (rest, ap₂ (λ x y. x ++ y) (same_group n h g q.0 p.0) e ∙ sym (append_assoc g (concat gs) rest))
 
 -- the arcs of p begin those of x
-pub arcs_front : (rule : RootRule) (p x a b : List ℕ) → IsEncoding rule p a → IsEncoding rule x b → BeginsWith b a → BeginsWith x p
-arcs_front rule [] x a b e f s = absurd e.identifier
-arcs_front rule (c ∷ []) x a b e f s = absurd e.identifier
-arcs_front rule (c ∷ d ∷ later) x a b e f (rest, s) =
+pub arcs_prefix : (rule : RootRule) (p x a b : List ℕ) → IsEncoding rule p a → IsEncoding rule x b → BeginsWith b a → BeginsWith x p
+arcs_prefix rule [] x a b e f s = absurd e.identifier
+arcs_prefix rule (c ∷ []) x a b e f s = absurd e.identifier
+arcs_prefix rule (c ∷ d ∷ later) x a b e f (rest, s) =
     let p = c ∷ d ∷ later in
-    let (more, t) = numbers_front (subidentifiers p) (subidentifiers x) e.groups f.groups rest e.each f.each (sym f.joined ∙ s ∙ ap (λ y. y ++ rest) e.joined) in
+    let (more, t) = numbers_prefix (subidentifiers p) (subidentifiers x) e.groups f.groups rest e.each f.each (sym f.joined ∙ s ∙ ap (λ y. y ++ rest) e.joined) in
     (more, sym (arcs_back rule x f.identifier) ∙ ap arcs_from t ∙ arcs_from-append (40 * c + d) later more ∙ ap (λ y. y ++ more) (arcs_back rule p e.identifier))
 
 -- the octets of p begin those of x
-pub encoding_front : (rule : RootRule) (p x a b : List ℕ) → IsEncoding rule p a → IsEncoding rule x b → BeginsWith x p → BeginsWith b a
-encoding_front rule [] x a b e f s = absurd e.identifier
-encoding_front rule (c ∷ []) x a b e f s = absurd e.identifier
-encoding_front rule (c ∷ d ∷ later) x a b e f (more, s) =
+pub encoding_prefix : (rule : RootRule) (p x a b : List ℕ) → IsEncoding rule p a → IsEncoding rule x b → BeginsWith x p → BeginsWith b a
+encoding_prefix rule [] x a b e f s = absurd e.identifier
+encoding_prefix rule (c ∷ []) x a b e f s = absurd e.identifier
+encoding_prefix rule (c ∷ d ∷ later) x a b e f (more, s) =
     let p = c ∷ d ∷ later in
-    let (rest, t) = octets_front (subidentifiers p) more e.groups f.groups e.each (rw (ap subidentifiers s) at f.each) in
+    let (rest, t) = octets_prefix (subidentifiers p) more e.groups f.groups e.each (rw (ap subidentifiers s) at f.each) in
     (rest, f.joined ∙ t ∙ ap (λ y. y ++ rest) (sym e.joined))
 
 -- what tells whether an encoding begins another tells it of their arcs
 pub told_begins : (rule : RootRule) (x p b a : List ℕ) (P : Type 0) → IsEncoding rule x b → IsEncoding rule p a → P ↔ BeginsWith b a → P ↔ BeginsWith x p
 told_begins rule x p b a P f e told =
-    (λ t. arcs_front rule p x a b e f (told.0 t), λ h. told.1 (encoding_front rule p x a b e f h))
+    (λ t. arcs_prefix rule p x a b e f (told.0 t), λ h. told.1 (encoding_prefix rule p x a b e f h))
 
--- what begins with a front and has a number behind it begins with both
-pub last_told : (list front : List ℕ) (x d : ℕ) → length front < length list → get_or list (length front) d ≡ x → BeginsWith list front ↔ BeginsWith list (front ++ x ∷ [])
-last_told list front x d l seen = (λ b. by b.0 b.1, λ h. (x ∷ h.0, h.1 ∙ append_assoc front (x ∷ []) h.0))
+-- what begins with a prefix and has a number after it begins with both
+pub last_told : (list prefix : List ℕ) (x d : ℕ) → length prefix < length list → get_or list (length prefix) d ≡ x → BeginsWith list prefix ↔ BeginsWith list (prefix ++ x ∷ [])
+last_told list prefix x d l seen = (λ b. by b.0 b.1, λ h. (x ∷ h.0, h.1 ∙ append_assoc prefix (x ∷ []) h.0))
   where
-    by : (rest : List ℕ) → list ≡ front ++ rest → BeginsWith list (front ++ x ∷ [])
-    by [] e = absurd (omega (arith, ap length e, length-append front []))
+    by : (rest : List ℕ) → list ≡ prefix ++ rest → BeginsWith list (prefix ++ x ∷ [])
+    by [] e = absurd (omega (arith, ap length e, length-append prefix []))
     by (y ∷ ys) e =
-        let same : y ≡ x = sym (get_or-append_seam front y ys d) ∙ ap (λ zs. get_or zs (length front) d) (sym e) ∙ seen in
-        (ys, e ∙ ap (λ z. front ++ z ∷ ys) same ∙ sym (append_assoc front (x ∷ []) ys))
+        let same : y ≡ x = sym (get_or-append_seam prefix y ys d) ∙ ap (λ zs. get_or zs (length prefix) d) (sym e) ∙ seen in
+        (ys, e ∙ ap (λ z. prefix ++ z ∷ ys) same ∙ sym (append_assoc prefix (x ∷ []) ys))
 
 -- ---- ranges in list order
 
--- what stands between two lists that begin with the front begins with it too
-between : (front x y z : List ℕ) → slice_cmp nat_cmp y (front ++ x) ≢ Less → slice_cmp nat_cmp y (front ++ z) ≢ Greater → BeginsWith y front
+-- what stands between two lists that begin with the prefix begins with it too
+between : (prefix x y z : List ℕ) → slice_cmp nat_cmp y (prefix ++ x) ≢ Less → slice_cmp nat_cmp y (prefix ++ z) ≢ Greater → BeginsWith y prefix
 between [] x y z h k = (y, refl)
-between (b ∷ front) x [] z h k = absurd (h refl)
-between (b ∷ front) x (d ∷ y) z h k = by_ranked _ _ _ (nat_cmp d b) (ranks d b)
+between (b ∷ prefix) x [] z h k = absurd (h refl)
+between (b ∷ prefix) x (d ∷ y) z h k = by_ranked _ _ _ (nat_cmp d b) (ranks d b)
     (λ is l. absurd (h (rw is refl)))
-    (λ is same. let (rest, e) = between front x y z (λ l. h (rw is l)) (λ g. k (rw is g)) in (rest, cc))
+    (λ is same. let (rest, e) = between prefix x y z (λ l. h (rw is l)) (λ g. k (rw is g)) in (rest, cc))
     (λ is g. absurd (k (rw is refl)))
 
 -- the same of identifiers
 pub encodings_between : (rule : RootRule) (p x y z a b c d : List ℕ) → IsEncoding rule p a → IsEncoding rule x b → IsEncoding rule y c → IsEncoding rule z d → BeginsWith x p → BeginsWith z p → slice_cmp nat_cmp c b ≢ Less → slice_cmp nat_cmp c d ≢ Greater → BeginsWith y p
 encodings_between rule p x y z a b c d ep ex ey ez bx bz h k =
-    let (xs, e) = encoding_front rule p x a b ep ex bx in
-    let (zs, f) = encoding_front rule p z a d ep ez bz in
-    arcs_front rule p y a c ep ey (between a xs c zs (rw e at h) (rw f at k))
+    let (xs, e) = encoding_prefix rule p x a b ep ex bx in
+    let (zs, f) = encoding_prefix rule p z a d ep ez bz in
+    arcs_prefix rule p y a c ep ey (between a xs c zs (rw e at h) (rw f at k))
 
 -- a descendant's encoding is longer
 longer : (rule : RootRule) (p x a b : List ℕ) → IsEncoding rule p a → IsEncoding rule x b → BeginsWith x p → length p < length x → (rest : List ℕ) × (b ≡ a ++ rest) × (0 < length rest)
-longer rule p x a b ep ex bx l = let (rest, e) = encoding_front rule p x a b ep ex bx in by rest e
+longer rule p x a b ep ex bx l = let (rest, e) = encoding_prefix rule p x a b ep ex bx in by rest e
   where
     by : (rest : List ℕ) → b ≡ a ++ rest → (rest : List ℕ) × (b ≡ a ++ rest) × (0 < length rest)
     by [] e = let s = same_arcs rule p x b (rw (e ∙ append-nil a) ep) ex in absurd (omega (arith, ap length s))
     by (y ∷ ys) e = (y ∷ ys, e, omega arith)
 
 -- an ancestor comes before its descendants, in both orders
-pub ancestor_short : (rule : RootRule) (p x a b : List ℕ) → IsEncoding rule p a → IsEncoding rule x b → BeginsWith x p → length p < length x → short_cmp a b ≡ Less
+pub ancestor_short : (rule : RootRule) (p x a b : List ℕ) → IsEncoding rule p a → IsEncoding rule x b → BeginsWith x p → length p < length x → shortlex_cmp a b ≡ Less
 ancestor_short rule p x a b ep ex bx l =
     let (rest, e, some) = longer rule p x a b ep ex bx l in
-    short_cmp-less a b (omega (arith, ap length e, length-append a rest))
+    shortlex_cmp-less a b (omega (arith, ap length e, length-append a rest))
 
 before_more : (a rest : List ℕ) → 0 < length rest → slice_cmp nat_cmp a (a ++ rest) ≡ Less
 before_more a [] some = absurd (omega arith)
-before_more a (y ∷ ys) some = rw append-nil at (slice_cmp-front a [] (y ∷ ys))
+before_more a (y ∷ ys) some = rw append-nil at (slice_cmp-prefix a [] (y ∷ ys))
 
 pub ancestor_before : (rule : RootRule) (p x a b : List ℕ) → IsEncoding rule p a → IsEncoding rule x b → BeginsWith x p → length p < length x → slice_cmp nat_cmp a b ≡ Less
 ancestor_before rule p x a b ep ex bx l =
@@ -125,47 +125,47 @@ ancestor_before rule p x a b ep ex bx l =
 -- ---- by tests
 
 abbrev pub is_before : List ℕ → List ℕ → Bool
-is_before front list = is_lt (slice_cmp nat_cmp list front)
+is_before prefix list = is_lt (slice_cmp nat_cmp list prefix)
 
 abbrev pub is_under : List ℕ → List ℕ → Bool
-is_under front list = starts_with nat_eq list front
+is_under prefix list = starts_with nat_eq list prefix
 
 abbrev pub is_within : List ℕ → List ℕ → Bool
-is_within front list = is_before front list || is_under front list
+is_within prefix list = is_before prefix list || is_under prefix list
 
-pub under_told : (front list : List ℕ) → (is_under front list ≡ true) ↔ BeginsWith list front
-under_told front list =
-    let (rest, given) = starts_is unsigned_Decides list front (is_under front list) refl in
-    (λ t. (drop (length front) list, rest t), λ b. given b.0 b.1)
+pub under_told : (prefix list : List ℕ) → (is_under prefix list ≡ true) ↔ BeginsWith list prefix
+under_told prefix list =
+    let (rest, given) = starts_is unsigned_Decides list prefix (is_under prefix list) refl in
+    (λ t. (drop (length prefix) list, rest t), λ b. given b.0 b.1)
 
 not_before_nil : (list : List ℕ) → is_before [] list ≡ false
 not_before_nil [] = refl
 not_before_nil (x ∷ xs) = refl
 
--- what begins with the front is not before it
-pub under_apart : (front list : List ℕ) → is_under front list ≡ true → is_before front list ≡ false
-under_apart front list t =
-    let (rest, e) = (under_told front list).0 t in
-    let compared = rw append-nil at (slice_cmp-front front rest []) in
+-- what begins with the prefix is not before it
+pub under_apart : (prefix list : List ℕ) → is_under prefix list ≡ true → is_before prefix list ≡ false
+under_apart prefix list t =
+    let (rest, e) = (under_told prefix list).0 t in
+    let compared = rw append-nil at (slice_cmp-prefix prefix rest []) in
     rw e (ap is_lt compared ∙ not_before_nil rest)
 
--- what is not after a list before the front is before it
-pub before_down : (front x z : List ℕ) → is_before x z ≡ false → is_before front z ≡ true → is_before front x ≡ true
-before_down front x z level t =
-    true_from_ne_false (is_before front x) (λ f. cc (t, (ranks_by nat_list_cmp_total (λ (list : List ℕ). list)).chain z x front level f))
+-- what is not after a list before the prefix is before it
+pub before_down : (prefix x z : List ℕ) → is_before x z ≡ false → is_before prefix z ≡ true → is_before prefix x ≡ true
+before_down prefix x z level t =
+    true_from_ne_false (is_before prefix x) (λ f. cc (t, (ranks_by nat_list_cmp_total (λ (list : List ℕ). list)).chain z x prefix level f))
 
 not_greater : (x z : List ℕ) → is_before x z ≡ false → slice_cmp nat_cmp x z ≢ Greater
 not_greater x z level greater = cc (level, ap is_lt (nat_list_cmp_total.antisymm z x ∙ ap ordering_reverse greater))
 
--- what is not after a list that is before the front or begins with it is so too
-pub within_down : (front x z : List ℕ) → is_before x z ≡ false → is_within front z ≡ true → is_within front x ≡ true
-within_down front x z level t = ⊎_elim
-    (λ (early : is_before front z ≡ true). or_left _ _ (before_down front x z level early))
-    (λ (under : is_under front z ≡ true). ⊎_elim
-    (λ (early : is_before front x ≡ true). or_left _ _ early)
-    (λ (late : is_before front x ≡ false).
-    let (rest, e) = (under_told front z).0 under in
-    let b = between front [] x rest (rw append-nil (λ less. cc (late, ap is_lt less))) (rw (← e) (not_greater x z level)) in
-    or_right _ _ ((under_told front x).1 b))
-    (cases_Bool (is_before front x)))
-    (or_cases (is_before front z) (is_under front z) t)
+-- what is not after a list that is before the prefix or begins with it is so too
+pub within_down : (prefix x z : List ℕ) → is_before x z ≡ false → is_within prefix z ≡ true → is_within prefix x ≡ true
+within_down prefix x z level t = ⊎_elim
+    (λ (early : is_before prefix z ≡ true). or_left _ _ (before_down prefix x z level early))
+    (λ (under : is_under prefix z ≡ true). ⊎_elim
+    (λ (early : is_before prefix x ≡ true). or_left _ _ early)
+    (λ (late : is_before prefix x ≡ false).
+    let (rest, e) = (under_told prefix z).0 under in
+    let b = between prefix [] x rest (rw append-nil (λ less. cc (late, ap is_lt less))) (rw (← e) (not_greater x z level)) in
+    or_right _ _ ((under_told prefix x).1 b))
+    (cases_Bool (is_before prefix x)))
+    (or_cases (is_before prefix z) (is_under prefix z) t)

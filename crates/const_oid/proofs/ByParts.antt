@@ -9,11 +9,11 @@ use Rattle.std.proofs.lemmas.Cmp.{by_ranked, tied_itself}
 use Rattle.std.proofs.lemmas.List.{drop_more, length-drop}
 use Rattle.const_oid.specs.Base128.{IsGroup}
 use Rattle.const_oid.specs.Contents.{cut}
-use Rattle.const_oid.specs.Identifier.{RootRule, most_second, IsIdentifier, IsEncoding, subidentifiers}
-use Rattle.const_oid.specs.Orders.{short_cmp, short_cmp_total, parts_cmp}
-use Rattle.const_oid.proofs.Cutting.{cut_behind-last, cut_behind-more}
+use Rattle.const_oid.specs.Identifier.{RootRule, max_second, IsIdentifier, IsEncoding, subidentifiers}
+use Rattle.const_oid.specs.Orders.{shortlex_cmp, shortlex_cmp_total, parts_cmp}
+use Rattle.const_oid.proofs.Cutting.{cut_after-last, cut_after-more}
 use Rattle.const_oid.proofs.Encodings.{cut_encoding}
-use Rattle.const_oid.proofs.Orders.{groups_short, nat_cmp-add, short_cmp-less, short_cmp-front}
+use Rattle.const_oid.proofs.Orders.{groups_short, nat_cmp-add, shortlex_cmp-less, shortlex_cmp-prefix}
 use Rattle.const_oid.proofs.Subidentifiers.{second_low}
 
 -- ---- octets compared from a place on
@@ -21,28 +21,28 @@ use Rattle.const_oid.proofs.Subidentifiers.{second_low}
 -- the first part begins with the first octet
 begins : (x : ℕ) (xs : List ℕ) → (part : List ℕ) × (parts : List (List ℕ)) × (cut (x ∷ xs) ≡ (x ∷ part) ∷ parts)
 begins x xs = ⊎_elim
-    (λ (last : x < 128). ([], cut xs, cut_behind-last x (cut xs) last))
-    (λ (more : 128 ≤ x). by (cut xs) (cut_behind-more x (cut xs) more))
+    (λ (last : x < 128). ([], cut xs, cut_after-last x (cut xs) last))
+    (λ (more : 128 ≤ x). by (cut xs) (cut_after-more x (cut xs) more))
     (cases_lt x 128)
   where
     by : (rest : List (List ℕ)) → cut (x ∷ xs) ≡ onto_first x rest → (part : List ℕ) × (parts : List (List ℕ)) × (cut (x ∷ xs) ≡ (x ∷ part) ∷ parts)
     by [] e = ([], [], e)
     by (part ∷ parts) e = (part, parts, e)
 
--- behind an octet that both begin with, the order is the same
-onto_same : (x : ℕ) (xs ys : List ℕ) → slice_cmp short_cmp (onto_first x (cut xs)) (onto_first x (cut ys)) ≡ parts_cmp xs ys
-onto_same x [] [] = rw (tied_itself short_cmp_total (x ∷ []))
-onto_same x [] (y ∷ ys) = let (q, qs, f) = begins y ys in rw (f, short_cmp-less (x ∷ []) (x ∷ y ∷ q) (omega arith))
+-- after an octet that both begin with, the order is the same
+onto_same : (x : ℕ) (xs ys : List ℕ) → slice_cmp shortlex_cmp (onto_first x (cut xs)) (onto_first x (cut ys)) ≡ parts_cmp xs ys
+onto_same x [] [] = rw (tied_itself shortlex_cmp_total (x ∷ []))
+onto_same x [] (y ∷ ys) = let (q, qs, f) = begins y ys in rw (f, shortlex_cmp-less (x ∷ []) (x ∷ y ∷ q) (omega arith))
 onto_same x (y ∷ xs) [] = let (p, ps, e) = begins y xs in rw (e, ← nat_cmp_is (length (x ∷ y ∷ p)) 1 Greater (omega arith)) refl
 onto_same x (y ∷ xs) (z ∷ ys) =
     let (p, ps, e) = begins y xs in
     let (q, qs, f) = begins z ys in
-    rw (e, f, short_cmp-front (x ∷ []) (y ∷ p) (z ∷ q))
+    rw (e, f, shortlex_cmp-prefix (x ∷ []) (y ∷ p) (z ∷ q))
 
 same_first : (x : ℕ) (xs ys : List ℕ) → parts_cmp (x ∷ xs) (x ∷ ys) ≡ parts_cmp xs ys
 same_first x xs ys = ⊎_elim
-    (λ (last : x < 128). rw (cut_behind-last x (cut xs) last, cut_behind-last x (cut ys) last, tied_itself short_cmp_total (x ∷ [])))
-    (λ (more : 128 ≤ x). rw (cut_behind-more x (cut xs) more, cut_behind-more x (cut ys) more) (onto_same x xs ys))
+    (λ (last : x < 128). rw (cut_after-last x (cut xs) last, cut_after-last x (cut ys) last, tied_itself shortlex_cmp_total (x ∷ [])))
+    (λ (more : 128 ≤ x). rw (cut_after-more x (cut xs) more, cut_after-more x (cut ys) more) (onto_same x xs ys))
     (cases_lt x 128)
 
 pub same_at : (a b : List ℕ) (i : ℕ) → i < length a → i < length b → get_or a i 0 ≡ get_or b i 0 → parts_cmp (drop i a) (drop i b) ≡ parts_cmp (drop (i + 1) a) (drop (i + 1) b)
@@ -65,7 +65,7 @@ ended_at a b n e =
 
 -- ---- the order of the arcs
 
-numbers_cmp : (ns ms : List ℕ) (gs hs : List (List ℕ)) → AllZip IsGroup ns gs → AllZip IsGroup ms hs → slice_cmp short_cmp gs hs ≡ slice_cmp nat_cmp ns ms
+numbers_cmp : (ns ms : List ℕ) (gs hs : List (List ℕ)) → AllZip IsGroup ns gs → AllZip IsGroup ms hs → slice_cmp shortlex_cmp gs hs ≡ slice_cmp nat_cmp ns ms
 numbers_cmp [] [] [] [] p q = refl
 numbers_cmp [] (m ∷ ms) [] (h ∷ hs) p q = refl
 numbers_cmp (n ∷ ns) [] (g ∷ gs) [] p q = refl
@@ -76,7 +76,7 @@ numbers_cmp ns [] gs (h ∷ hs) p q = absurd q
 numbers_cmp ns (m ∷ ms) gs [] p q = absurd q
 
 -- the first number stands as the first two arcs do
-root_cmp : (rule : RootRule) (a b c d : ℕ) → b ≤ most_second rule a → d ≤ most_second rule c → a ≤ 2 → c ≤ 2 → nat_cmp (40 * a + b) (40 * c + d) ≡ ordering_then (nat_cmp a c) (nat_cmp b d)
+root_cmp : (rule : RootRule) (a b c d : ℕ) → b ≤ max_second rule a → d ≤ max_second rule c → a ≤ 2 → c ≤ 2 → nat_cmp (40 * a + b) (40 * c + d) ≡ ordering_then (nat_cmp a c) (nat_cmp b d)
 root_cmp rule a b c d p q l m = by_ranked _ _ _ (nat_cmp a c) (ranks a c)
     (λ is less. let low = second_low rule a b p (omega arith) in rw is (sym (nat_cmp_is (40 * a + b) (40 * c + d) Less (omega arith))))
     (λ is same. rw (is, same) (nat_cmp-add (40 * c) b d))

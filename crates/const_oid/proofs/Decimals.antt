@@ -46,16 +46,16 @@ arc_text_ascii false arc h = IsAscii-cons 46 (decimal arc) (omega arith) (IsAsci
 pub take_less : (n m : ℕ) (xs ys : List ℕ) → n ≤ m → take m xs ≡ take m ys → take n xs ≡ take n ys
 take_less n m xs ys h e = sym (take-take n m xs h) ∙ ap (take n) e ∙ take-take n m ys h
 
-cut_at : (front back : List ℕ) (at : ℕ) → length front ≡ at → (take at (front ++ back) ≡ front) × (drop at (front ++ back) ≡ back)
-cut_at front back at long = let P : ℕ → Type 0 = λ n. (take n (front ++ back) ≡ front) × (drop n (front ++ back) ≡ back) in subst P long (take-append_seam front back, drop-append_seam front back)
+cut_at : (prefix back : List ℕ) (at : ℕ) → length prefix ≡ at → (take at (prefix ++ back) ≡ prefix) × (drop at (prefix ++ back) ≡ back)
+cut_at prefix back at long = let P : ℕ → Type 0 = λ n. (take n (prefix ++ back) ≡ prefix) × (drop n (prefix ++ back) ≡ back) in subst P long (take-append_seam prefix back, drop-append_seam prefix back)
 
 -- a part written in the midst of a list
 pub part_written : (old new part : List ℕ) (at end : ℕ) → end ≡ at + length part → at ≤ length old → take at new ≡ take at old → drop at new ≡ part ++ drop end old → (take end new ≡ take at old ++ part) × (drop end new ≡ drop end old)
-part_written old new part at end e room front back =
-    let whole : (take at old ++ part) ++ drop end old ≡ new = rw (append_assoc, ← back, ← front) (take-append-drop at new) in
+part_written old new part at end e room prefix back =
+    let whole : (take at old ++ part) ++ drop end old ≡ new = rw (append_assoc, ← back, ← prefix) (take-append-drop at new) in
     rw whole at (cut_at (take at old ++ part) (drop end old) end (omega (arith, length-append (take at old) part, length-take-le at old room)))
 
 -- the last of a part's pieces to be written, which is its first
 pub last_written : (old now new part piece : List ℕ) (at place end : ℕ) → place ≡ at + length piece → end ≡ at + length part → at ≤ length old → take at now ≡ take at old → piece ++ drop place now ≡ part ++ drop end old → take at new ≡ take at now → drop at new ≡ piece ++ drop (at + length piece) now → (take end new ≡ take at old ++ part) × (drop end new ≡ drop end old)
-last_written old now new part piece at place end p e room front back before written =
-    part_written old new part at end e room (before ∙ front) (written ∙ ap (λ n. piece ++ drop n now) (sym p) ∙ back)
+last_written old now new part piece at place end p e room prefix back before written =
+    part_written old new part at end e room (before ∙ prefix) (written ∙ ap (λ n. piece ++ drop n now) (sym p) ∙ back)

@@ -8,9 +8,9 @@ use Rattle.std.proofs.lemmas.Bool.Decides.{nat_tests}
 use Rattle.const_oid.specs.declared.error.Error.TheVariants.{ArcInvalid, Length}
 use Rattle.const_oid.specs.declared.oid_ref.ObjectIdentifierRef.{ObjectIdentifierRef}
 use Rattle.const_oid.specs.declared.oid.ObjectIdentifier.{ObjectIdentifier}
-use Rattle.const_oid.specs.Base128.{value_of, IsChained, AreOctets, IsGroup, group_of}
-use Rattle.const_oid.specs.Identifier.{RootRule, Narrow, Wide, most_arc, IsEncoding, subidentifiers, IsIdentifier, encoding_of, root_rule}
-use Rattle.const_oid.specs.Contents.{cut, is_finished, begins_with_128, part_fault, first_fault, later_fault, parts_fault, most_first, octet_fault, arcs_of_octets}
+use Rattle.const_oid.specs.Base128.{value_of, IsContinued, AreOctets, IsGroup, group_of}
+use Rattle.const_oid.specs.Identifier.{RootRule, Narrow, Wide, max_arc, IsEncoding, subidentifiers, IsIdentifier, encoding_of, root_rule}
+use Rattle.const_oid.specs.Contents.{cut, is_finished, begins_with_128, part_fault, first_fault, later_fault, parts_fault, max_first, octet_fault, arcs_of_octets}
 use Rattle.const_oid.specs.OidRef.{ref_octets, ref_arcs}
 use Rattle.const_oid.specs.Oid.{oid_octets, oid_arcs}
 use Rattle.const_oid.proofs.Faults.{both_none, below_from_none}
@@ -36,50 +36,50 @@ IsGroupUpTo limit part = IsGroup (value_of part) part × (value_of part ≤ limi
 pub part_tests : (limit : ℕ) (part : List ℕ) → part_fault limit part ≡ None → (begins_with_128 part ≡ false) × (value_of part ≤ limit) × (is_finished part ≡ true)
 part_tests limit part h = (grind (arith, nat_tests), grind (arith, nat_tests), grind (arith, nat_tests))
 
-part_sound : (limit : ℕ) (part : List ℕ) → IsPart part → part_fault limit part ≡ None → IsGroupUpTo limit part
-part_sound limit part p h =
+part_valid : (limit : ℕ) (part : List ℕ) → IsPart part → part_fault limit part ≡ None → IsGroupUpTo limit part
+part_valid limit part p h =
     let (first, small, last) = part_tests limit part h in
-    (record { chained = chain_from_part part p last; shortest = shortest part first; value = refl }, small)
+    (record { continued = chain_from_part part p last; shortest = shortest part first; value = refl }, small)
 
 pub part_none : (limit n : ℕ) (part : List ℕ) → IsGroup n part → n ≤ limit → part_fault limit part ≡ None
 part_none limit n part g l =
-    rw (begins_with_128-not part g.shortest, le-ltb limit (value_of part) (rw g.value at l), finished_from_chain part g.chained)
+    rw (begins_with_128-not part g.shortest, le-ltb limit (value_of part) (rw g.value at l), finished_from_chain part g.continued)
 
 -- ---- all parts
 
-later_sound : (parts : List (List ℕ)) → AllByRecursion IsPart parts → later_fault parts ≡ None → AllZip IsGroup (map value_of parts) parts × AllByRecursion (λ n. n ≤ most_arc) (map value_of parts)
-later_sound [] p h = (tt, tt)
-later_sound (part ∷ parts) p h =
-    let (a, b) = both_none (part_fault most_arc part) (later_fault parts) h in
-    let (g, l) = part_sound most_arc part p.0 a in
-    let (gs, ls) = later_sound parts p.1 b in
+later_valid : (parts : List (List ℕ)) → AllByRecursion IsPart parts → later_fault parts ≡ None → AllZip IsGroup (map value_of parts) parts × AllByRecursion (λ n. n ≤ max_arc) (map value_of parts)
+later_valid [] p h = (tt, tt)
+later_valid (part ∷ parts) p h =
+    let (a, b) = both_none (part_fault max_arc part) (later_fault parts) h in
+    let (g, l) = part_valid max_arc part p.0 a in
+    let (gs, ls) = later_valid parts p.1 b in
     ((g, gs), (l, ls))
 
-later_none : (numbers : List ℕ) (groups : List (List ℕ)) → AllZip IsGroup numbers groups → AllByRecursion (λ n. n ≤ most_arc) numbers → later_fault groups ≡ None
+later_none : (numbers : List ℕ) (groups : List (List ℕ)) → AllZip IsGroup numbers groups → AllByRecursion (λ n. n ≤ max_arc) numbers → later_fault groups ≡ None
 later_none [] [] g l = refl
 later_none [] (p ∷ ps) g l = absurd g
 later_none (n ∷ ns) [] g l = absurd g
-later_none (n ∷ ns) (p ∷ ps) g l = rw (part_none most_arc n p g.0 l.0) (later_none ns ps g.1 l.1)
+later_none (n ∷ ns) (p ∷ ps) g l = rw (part_none max_arc n p g.0 l.0) (later_none ns ps g.1 l.1)
 
-first_sound : (rule : RootRule) (part : List ℕ) → IsPart part → first_fault rule part ≡ None → IsGroupUpTo (most_first rule) part
-first_sound Narrow [] p h = absurd p
-first_sound Narrow (x ∷ []) p h =
+first_valid : (rule : RootRule) (part : List ℕ) → IsPart part → first_fault rule part ≡ None → IsGroupUpTo (max_first rule) part
+first_valid Narrow [] p h = absurd p
+first_valid Narrow (x ∷ []) p h =
     let small = below_from_none 119 x (ArcInvalid (x / 40)) h in
     let e : x ≡ x % 128 * 128 ^ 0 + 0 = omega arith in
     (rw (← e) (small_is x (omega arith)), omega arith)
-first_sound Narrow (x ∷ y ∷ ys) p h = absurd (omega (arith, below_from_none 119 x (ArcInvalid (x / 40)) h))
-first_sound Wide part p h = part_sound (most_first Wide) part p h
+first_valid Narrow (x ∷ y ∷ ys) p h = absurd (omega (arith, below_from_none 119 x (ArcInvalid (x / 40)) h))
+first_valid Wide part p h = part_valid (max_first Wide) part p h
 
-first_none : (rule : RootRule) (n : ℕ) (part : List ℕ) → IsGroup n part → n ≤ most_first rule → first_fault rule part ≡ None
+first_none : (rule : RootRule) (n : ℕ) (part : List ℕ) → IsGroup n part → n ≤ max_first rule → first_fault rule part ≡ None
 first_none Narrow n part g l = rw (group-small n part (omega arith) g, le-ltb 119 n l)
-first_none Wide n part g l = part_none (most_first Wide) n part g l
+first_none Wide n part g l = part_none (max_first Wide) n part g l
 
-parts_sound : (rule : RootRule) (parts : List (List ℕ)) → AllByRecursion IsPart parts → parts_fault rule parts ≡ None → AllZip IsGroup (map value_of parts) parts × InRange rule (map value_of parts)
-parts_sound rule [] p h = cc
-parts_sound rule (part ∷ parts) p h =
+parts_valid : (rule : RootRule) (parts : List (List ℕ)) → AllByRecursion IsPart parts → parts_fault rule parts ≡ None → AllZip IsGroup (map value_of parts) parts × InRange rule (map value_of parts)
+parts_valid rule [] p h = cc
+parts_valid rule (part ∷ parts) p h =
     let (a, b) = both_none (first_fault rule part) (later_fault parts) h in
-    let (g, l) = first_sound rule part p.0 a in
-    let (gs, ls) = later_sound parts p.1 b in
+    let (g, l) = first_valid rule part p.0 a in
+    let (gs, ls) = later_valid parts p.1 b in
     ((g, gs), (l, ls))
 
 parts_none : (rule : RootRule) (numbers : List ℕ) (groups : List (List ℕ)) → AllZip IsGroup numbers groups → InRange rule numbers → parts_fault rule groups ≡ None
@@ -89,11 +89,11 @@ parts_none rule (n ∷ ns) (p ∷ ps) g l = rw (first_none rule n p g.0 l.0) (la
 
 -- ---- encodings
 
-pub groups_chained : (numbers : List ℕ) (groups : List (List ℕ)) → AllZip IsGroup numbers groups → AllByRecursion IsChained groups
-groups_chained [] [] g = tt
-groups_chained [] (p ∷ ps) g = absurd g
-groups_chained (n ∷ ns) [] g = absurd g
-groups_chained (n ∷ ns) (p ∷ ps) g = (g.0.chained, groups_chained ns ps g.1)
+pub groups_continued : (numbers : List ℕ) (groups : List (List ℕ)) → AllZip IsGroup numbers groups → AllByRecursion IsContinued groups
+groups_continued [] [] g = tt
+groups_continued [] (p ∷ ps) g = absurd g
+groups_continued (n ∷ ns) [] g = absurd g
+groups_continued (n ∷ ns) (p ∷ ps) g = (g.0.continued, groups_continued ns ps g.1)
 
 groups_valued : (numbers : List ℕ) (groups : List (List ℕ)) → AllZip IsGroup numbers groups → map value_of groups ≡ numbers
 groups_valued [] [] g = refl
@@ -103,13 +103,13 @@ groups_valued (n ∷ ns) (p ∷ ps) g = let e : n ≡ value_of p = g.0.value in 
 
 -- the groups of an encoding are what its octets are cut into
 pub cut_encoding : (rule : RootRule) (arcs octets : List ℕ) (e : IsEncoding rule arcs octets) → cut octets ≡ e.groups
-cut_encoding rule arcs octets e = rw e.joined (cut_chains e.groups (groups_chained (subidentifiers arcs) e.groups e.each))
+cut_encoding rule arcs octets e = rw e.joined (cut_chains e.groups (groups_continued (subidentifiers arcs) e.groups e.each))
 
 -- octets without a fault are the encoding of their arcs
 pub encoding_from_none : (rule : RootRule) (octets : List ℕ) → AreOctets octets → parts_fault rule (cut octets) ≡ None → IsEncoding rule (arcs_of_octets octets) octets
 encoding_from_none rule octets bytes h =
     let numbers = map value_of (cut octets) in
-    let (g, l) = parts_sound rule (cut octets) (parts_are octets bytes) h in
+    let (g, l) = parts_valid rule (cut octets) (parts_are octets bytes) h in
     record {
       identifier = identifier rule numbers l;
       groups = cut octets;
@@ -204,7 +204,7 @@ encoding_from_root a b later groups i z =
 -- ---- what identifiers hold encodes their arcs
 
 pub oid_encoding : {N : ℕ} (oid : ObjectIdentifier N) → IsEncoding root_rule (oid_arcs oid) (oid_octets oid)
-oid_encoding oid = encoding_from_none root_rule (oid_octets oid) oid.ber.octets oid.sound
+oid_encoding oid = encoding_from_none root_rule (oid_octets oid) oid.ber.octets oid.valid
 
 pub ref_encoding : (oid : ObjectIdentifierRef) → IsEncoding root_rule (ref_arcs oid) (ref_octets oid)
-ref_encoding oid = encoding_from_none root_rule (ref_octets oid) oid.octets oid.sound
+ref_encoding oid = encoding_from_none root_rule (ref_octets oid) oid.octets oid.valid

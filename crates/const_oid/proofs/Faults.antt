@@ -1,4 +1,4 @@
--- What the absence of a fault says of the tests behind it.
+-- What the absence of a fault says of the tests after it.
 use Rattle.std.proofs.Common.{◌≡◌, ℕ, ◌<◌, ◌≤◌, Bool, true, false, nat_lt, Option, Some, None, refl, lt-ltb, le-ltb}
 use Rattle.std.specs.Option.{option_or}
 use Rattle.std.proofs.lemmas.Bool.{ltb-false}

@@ -17,7 +17,7 @@ use Rattle.const_oid.specs.declared.error.Error.{Error}
 use Rattle.const_oid.specs.Identifier.{RootRule, root_rule, size, encoding_of}
 use Rattle.const_oid.specs.Items.{item_answer, TakesItems}
 use Rattle.const_oid.specs.Oid.{oid_arcs, oid_octets}
-use Rattle.const_oid.specs.Orders.{short_cmp}
+use Rattle.const_oid.specs.Orders.{shortlex_cmp}
 use Rattle.const_oid.specs.Text.{text_of, text_answer}
 use Rattle.const_oid.specs.Tree.{BeginsWith, parent_of, child_of}
 use Rattle.const_oid.proofs.BeginsWith.{ancestor_short, ancestor_before}
@@ -63,7 +63,7 @@ longer_below xs ys (z ∷ zs, e) other = omega (arith, ap length e, length-appen
 pub before_below : {N M : ℕ} (oid : ObjectIdentifier N) (below : ObjectIdentifier M) → BeginsWith (oid_arcs below) (oid_arcs oid) → oid_arcs below ≢ oid_arcs oid → slice_cmp nat_cmp (oid_octets oid) (oid_octets below) ≡ Less
 before_below oid below b other = ancestor_before root_rule _ _ _ _ (oid_encoding oid) (oid_encoding below) b (longer_below (oid_arcs oid) (oid_arcs below) b other)
 
-pub short_before_below : {N M : ℕ} (oid : ObjectIdentifier N) (below : ObjectIdentifier M) → BeginsWith (oid_arcs below) (oid_arcs oid) → oid_arcs below ≢ oid_arcs oid → short_cmp (oid_octets oid) (oid_octets below) ≡ Less
+pub short_before_below : {N M : ℕ} (oid : ObjectIdentifier N) (below : ObjectIdentifier M) → BeginsWith (oid_arcs below) (oid_arcs oid) → oid_arcs below ≢ oid_arcs oid → shortlex_cmp (oid_octets oid) (oid_octets below) ≡ Less
 short_before_below oid below b other = ancestor_short root_rule _ _ _ _ (oid_encoding oid) (oid_encoding below) b (longer_below (oid_arcs oid) (oid_arcs below) b other)
 
 -- ---- of borrowed ones in a list

@@ -5,12 +5,12 @@ use Rattle.std.proofs.lemmas.List.Sums.{sum_by-cons, sum_by-append}
 use Rattle.std.proofs.lemmas.List.{length-map}
 use Rattle.std.proofs.lemmas.Slice.Zip.{AllZip-long}
 use Rattle.std.proofs.lemmas.Bool.Decides.{nat_tests}
-use Rattle.const_oid.specs.Base128.{width, IsGroup, value_of, IsChained}
+use Rattle.const_oid.specs.Base128.{width, IsGroup, value_of, IsContinued}
 use Rattle.const_oid.specs.Identifier.{RootRule, Narrow, Wide, IsIdentifier, size, IsEncoding, subidentifiers}
-use Rattle.const_oid.specs.Contents.{most_first, cut, arcs_of_octets, arcs_from, cut_behind}
+use Rattle.const_oid.specs.Contents.{max_first, cut, arcs_of_octets, arcs_from, cut_after}
 use Rattle.const_oid.proofs.Groups.{width_is, length_is, small_is}
 use Rattle.const_oid.proofs.Subidentifiers.{first_in_range}
-use Rattle.const_oid.proofs.Encodings.{groups_chained, cut_encoding}
+use Rattle.const_oid.proofs.Encodings.{groups_continued, cut_encoding}
 
 -- ---- octets of arcs
 
@@ -18,11 +18,11 @@ pub size-cons : (a b : ℕ) (later : List ℕ) → size (a ∷ b ∷ later) ≡ 
 size-cons a b later = sum_by-cons width (40 * a + b) later
 
 -- more arcs have no smaller size
-pub size_front : (a b : ℕ) (later more : List ℕ) → size (a ∷ b ∷ later) ≤ size (a ∷ b ∷ later ++ more)
-size_front a b later more = omega (arith, size-cons a b later, size-cons a b (later ++ more), sum_by-append width later more)
+pub size_prefix : (a b : ℕ) (later more : List ℕ) → size (a ∷ b ∷ later) ≤ size (a ∷ b ∷ later ++ more)
+size_prefix a b later more = omega (arith, size-cons a b later, size-cons a b (later ++ more), sum_by-append width later more)
 
 -- the two first arcs take few octets
-pub root_short : (rule : RootRule) (n : ℕ) → n ≤ most_first rule → width n ≤ 5
+pub root_short : (rule : RootRule) (n : ℕ) → n ≤ max_first rule → width n ≤ 5
 root_short Narrow n h = (width_is n).least 5 (omega arith) (omega arith)
 root_short Wide n h = (width_is n).least 5 (omega arith) (omega arith)
 
@@ -54,12 +54,12 @@ count-cons : (x : ℕ) (xs : List ℕ) → count_by (λ y. nat_lt y 128) (x ∷ 
 count-cons x xs = sum_by-cons (λ y. cond (nat_lt y 128) 1 0) x xs
 
 -- a group has one octet below 128
-count_chain : (g : List ℕ) → IsChained g → count_by (λ y. nat_lt y 128) g ≡ 1
+count_chain : (g : List ℕ) → IsContinued g → count_by (λ y. nat_lt y 128) g ≡ 1
 count_chain [] c = absurd c
 count_chain (x ∷ []) c = rw (count-cons x [], lt-ltb x 128 c)
 count_chain (x ∷ y ∷ ys) c = rw (count-cons x (y ∷ ys), le-ltb x 128 c.0) (omega (arith, count_chain (y ∷ ys) c.2))
 
-count_chains : (gs : List (List ℕ)) → AllByRecursion IsChained gs → count_by (λ y. nat_lt y 128) (concat gs) ≡ length gs
+count_chains : (gs : List (List ℕ)) → AllByRecursion IsContinued gs → count_by (λ y. nat_lt y 128) (concat gs) ≡ length gs
 count_chains [] c = refl
 count_chains (g ∷ gs) c = sum_by-append (λ y. cond (nat_lt y 128) 1 0) g (concat gs) ∙ omega (arith, count_chain g c.0, count_chains gs c.1)
 
@@ -68,7 +68,7 @@ length_by_count rule [] octets e = absurd e.identifier
 length_by_count rule (a ∷ []) octets e = absurd e.identifier
 length_by_count rule (a ∷ b ∷ later) octets e =
     let numbers = subidentifiers (a ∷ b ∷ later) in
-    rw e.joined (omega (arith, count_chains e.groups (groups_chained numbers e.groups e.each), AllZip-long IsGroup numbers e.groups e.each))
+    rw e.joined (omega (arith, count_chains e.groups (groups_continued numbers e.groups e.each), AllZip-long IsGroup numbers e.groups e.each))
 
 pub length_by_parts : (rule : RootRule) (arcs octets : List ℕ) → IsEncoding rule arcs octets → length arcs ≡ 1 + length (cut octets)
 length_by_parts rule [] octets e = absurd e.identifier
@@ -77,13 +77,13 @@ length_by_parts rule (a ∷ b ∷ later) octets e =
     let arcs = a ∷ b ∷ later in
     rw (cut_encoding rule arcs octets e) (omega (arith, AllZip-long IsGroup (subidentifiers arcs) e.groups e.each))
 
-length-cut_behind : (x : ℕ) (parts : List (List ℕ)) → length (cut_behind x parts) ≤ length parts + 1
-length-cut_behind x [] = grind (arith, nat_tests)
-length-cut_behind x (part ∷ parts) = grind (arith, nat_tests)
+length-cut_after : (x : ℕ) (parts : List (List ℕ)) → length (cut_after x parts) ≤ length parts + 1
+length-cut_after x [] = grind (arith, nat_tests)
+length-cut_after x (part ∷ parts) = grind (arith, nat_tests)
 
 length-cut : (octets : List ℕ) → length (cut octets) ≤ length octets
 length-cut [] = omega arith
-length-cut (x ∷ xs) = omega (arith, length-cut xs, length-cut_behind x (cut xs))
+length-cut (x ∷ xs) = omega (arith, length-cut xs, length-cut_after x (cut xs))
 
 pub length-arcs_of_octets : (octets : List ℕ) → length (arcs_of_octets octets) ≤ length octets + 1
 length-arcs_of_octets octets = omega (arith, length-map (cut octets) value_of, length-cut octets, from (map value_of (cut octets)))

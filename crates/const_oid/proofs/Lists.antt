@@ -15,7 +15,7 @@ pub all_at : (P : ℕ → Type 0) (before : List ℕ) (x : ℕ) (rest : List ℕ
 all_at P [] x rest h = h.0
 all_at P (y ∷ ys) x rest h = all_at P ys x rest h.1
 
-pub not_empty_push : (front : List ℕ) (x : ℕ) → true ≡ not (is_empty (front ++ x ∷ []))
+pub not_empty_push : (prefix : List ℕ) (x : ℕ) → true ≡ not (is_empty (prefix ++ x ∷ []))
 not_empty_push [] x = refl
 not_empty_push (y ∷ ys) x = refl
 
@@ -26,12 +26,12 @@ onto_all [] parts = parts
 onto_all (y ∷ ys) [] = (y ∷ ys) ∷ []
 onto_all (y ∷ ys) (part ∷ parts) = ((y ∷ ys) ++ part) ∷ parts
 
-pub onto_all-first : (front : List ℕ) (x : ℕ) (parts : List (List ℕ)) → onto_all front (onto_first x parts) ≡ onto_all (front ++ x ∷ []) parts
+pub onto_all-first : (prefix : List ℕ) (x : ℕ) (parts : List (List ℕ)) → onto_all prefix (onto_first x parts) ≡ onto_all (prefix ++ x ∷ []) parts
 onto_all-first [] x [] = refl
 onto_all-first [] x (part ∷ parts) = refl
 onto_all-first (y ∷ ys) x [] = refl
 onto_all-first (y ∷ ys) x (part ∷ parts) = ap (λ p. p ∷ parts) (sym (append_assoc (y ∷ ys) (x ∷ []) part))
 
-pub onto_all-cons : (front part : List ℕ) (parts : List (List ℕ)) → onto_all front (part ∷ parts) ≡ (front ++ part) ∷ parts
+pub onto_all-cons : (prefix part : List ℕ) (parts : List (List ℕ)) → onto_all prefix (part ∷ parts) ≡ (prefix ++ part) ∷ parts
 onto_all-cons [] part parts = refl
 onto_all-cons (y ∷ ys) part parts = refl

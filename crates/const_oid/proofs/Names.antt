@@ -3,7 +3,7 @@ use Rattle.std.proofs.Common.{◌≡◌, ℕ, ◌+◌, ◌<◌, ◌≤◌, true,
 use Rattle.std.proofs.lemmas.List.{drop_all}
 use Rattle.const_oid.specs.Names.{Entry, name_of, has_arcs, all_names}
 
--- behind the last entry there are none
+-- after the last entry there are none
 pub all_names_past : (entries : List Entry) (arcs : List ℕ) (n : ℕ) → length entries ≤ n → all_names (drop n entries) arcs ≡ []
 all_names_past entries arcs n past = ap (λ left. all_names left arcs) (drop_all n entries past)
 

@@ -5,10 +5,10 @@ use Rattle.std.proofs.lemmas.List.{drop_more}
 use Rattle.std.proofs.lemmas.Grind.{common_steps}
 use Rattle.const_oid.specs.Base128.{value_of}
 use Rattle.const_oid.specs.Contents.{cut, later_fault}
-use Rattle.const_oid.specs.Identifier.{most_arc}
+use Rattle.const_oid.specs.Identifier.{max_arc}
 use Rattle.const_oid.specs.Text.{is_empty}
 use Rattle.const_oid.proofs.Lists.{onto_all}
-use Rattle.const_oid.proofs.OctetPass.{pass, IsPartRead, part_read-none, part_read-push, value-push, onto_all-behind, onto_all-more, later_pass}
+use Rattle.const_oid.proofs.OctetPass.{pass, IsPartRead, part_read-none, part_read-push, value-push, onto_all-after, onto_all-more, later_pass}
 
 -- the numbers that a pass reads, from the value of what was read of the first part
 abbrev pub number_pass : ℕ → List ℕ → List ℕ
@@ -23,7 +23,7 @@ goes_first limit begun value x xs none = grind (arith, common_steps)
 goes_small : (limit : ℕ) (begun : Bool) (value x : ℕ) (xs : List ℕ) → pass limit begun value (x ∷ xs) ≡ None → value * 128 + x % 128 ≤ limit
 goes_small limit begun value x xs none = grind (arith, common_steps)
 
-goes_last : (limit : ℕ) (begun : Bool) (value x : ℕ) (xs : List ℕ) → x < 128 → pass limit begun value (x ∷ xs) ≡ None → pass most_arc false 0 xs ≡ None
+goes_last : (limit : ℕ) (begun : Bool) (value x : ℕ) (xs : List ℕ) → x < 128 → pass limit begun value (x ∷ xs) ≡ None → pass max_arc false 0 xs ≡ None
 goes_last limit begun value x xs last none = grind (arith, common_steps)
 
 goes_more : (limit : ℕ) (begun : Bool) (value x : ℕ) (xs : List ℕ) → 128 ≤ x → pass limit begun value (x ∷ xs) ≡ None → pass limit true (value * 128 + x % 128) xs ≡ None
@@ -41,21 +41,21 @@ number_pass-last value x xs last = rw (lt-ltb x 128 last)
 number_pass-more : (value x : ℕ) (xs : List ℕ) → 128 ≤ x → number_pass value (x ∷ xs) ≡ number_pass (value * 128 + x % 128) xs
 number_pass-more value x xs more = rw (le-ltb x 128 more)
 
-numbers_end : (front : List ℕ) (begun : Bool) (value : ℕ) → begun ≡ not (is_empty front) → pass 0 begun value [] ≡ None → [] ≡ map value_of (onto_all front [])
+numbers_end : (prefix : List ℕ) (begun : Bool) (value : ℕ) → begun ≡ not (is_empty prefix) → pass 0 begun value [] ≡ None → [] ≡ map value_of (onto_all prefix [])
 numbers_end [] begun value b none = refl
 numbers_end (y ∷ ys) begun value b none = grind (arith, common_steps)
 
-numbers_on : (octets : List ℕ) (limit : ℕ) (front : List ℕ) (begun : Bool) (value : ℕ) → IsPartRead limit front begun value → pass limit begun value octets ≡ None → number_pass value octets ≡ map value_of (onto_all front (cut octets))
-numbers_on [] limit front begun value s none = numbers_end front begun value s.begun_is none
-numbers_on (x ∷ xs) limit front begun value s none = ⊎_elim
+numbers_on : (octets : List ℕ) (limit : ℕ) (prefix : List ℕ) (begun : Bool) (value : ℕ) → IsPartRead limit prefix begun value → pass limit begun value octets ≡ None → number_pass value octets ≡ map value_of (onto_all prefix (cut octets))
+numbers_on [] limit prefix begun value s none = numbers_end prefix begun value s.begun_is none
+numbers_on (x ∷ xs) limit prefix begun value s none = ⊎_elim
     (λ (last : x < 128).
-    let rest = numbers_on xs most_arc [] false 0 (part_read-none most_arc) (goes_last limit begun value x xs last none) in
-    let v = value-push front begun value x s in
-    rw (onto_all-behind front x (cut xs) last, number_pass-last value x xs last) (cc (v, rest)))
+    let rest = numbers_on xs max_arc [] false 0 (part_read-none max_arc) (goes_last limit begun value x xs last none) in
+    let v = value-push prefix begun value x s in
+    rw (onto_all-after prefix x (cut xs) last, number_pass-last value x xs last) (cc (v, rest)))
     (λ (more : 128 ≤ x).
-    let s' = part_read-push limit front begun value x s more (goes_first limit begun value x xs none) (goes_small limit begun value x xs none) in
-    rw (onto_all-more front x (cut xs) more, number_pass-more value x xs more)
-    (numbers_on xs limit (front ++ x ∷ []) true (value * 128 + x % 128) s' (goes_more limit begun value x xs more none)))
+    let s' = part_read-push limit prefix begun value x s more (goes_first limit begun value x xs none) (goes_small limit begun value x xs none) in
+    rw (onto_all-more prefix x (cut xs) more, number_pass-more value x xs more)
+    (numbers_on xs limit (prefix ++ x ∷ []) true (value * 128 + x % 128) s' (goes_more limit begun value x xs more none)))
     (cases_lt x 128)
 
 -- octets without a fault from their start
@@ -73,12 +73,12 @@ numbers_more limit begun value octets i h more none =
     )
 
 -- at the last octet of the first part
-pub numbers_behind : (limit : ℕ) (begun : Bool) (value : ℕ) (octets rest : List ℕ) (i : ℕ) → i < length octets → get_or octets i 0 < 128 → rest ≡ drop (i + 1) octets → pass limit begun value (drop i octets) ≡ None
+pub numbers_after : (limit : ℕ) (begun : Bool) (value : ℕ) (octets rest : List ℕ) (i : ℕ) → i < length octets → get_or octets i 0 < 128 → rest ≡ drop (i + 1) octets → pass limit begun value (drop i octets) ≡ None
     → (number_pass value (drop i octets) ≡ (value * 128 + get_or octets i 0 % 128) ∷ map value_of (cut rest)) × (later_fault (cut rest) ≡ None)
-numbers_behind limit begun value octets rest i h last e none =
+numbers_after limit begun value octets rest i h last e none =
     let x = get_or octets i 0 in
     let here = drop_more octets i 0 h in
-    let later : pass most_arc false 0 rest ≡ None = rw e (goes_last limit begun value x (drop (i + 1) octets) last (ap (pass limit begun value) (sym here) ∙ none)) in (
-      ap (number_pass value) here ∙ number_pass-last value x (drop (i + 1) octets) last ∙ ap (λ ns. (value * 128 + x % 128) ∷ ns) (ap (number_pass 0) (sym e) ∙ numbers_are most_arc rest later),
+    let later : pass max_arc false 0 rest ≡ None = rw e (goes_last limit begun value x (drop (i + 1) octets) last (ap (pass limit begun value) (sym here) ∙ none)) in (
+      ap (number_pass value) here ∙ number_pass-last value x (drop (i + 1) octets) last ∙ ap (λ ns. (value * 128 + x % 128) ∷ ns) (ap (number_pass 0) (sym e) ∙ numbers_are max_arc rest later),
       sym (later_pass rest) ∙ later,
     )

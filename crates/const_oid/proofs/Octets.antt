@@ -3,7 +3,7 @@ use Rattle.std.proofs.Common.{◌≡◌, ℕ, ◌+◌, ◌-◌, ◌≤◌, List,
 use Rattle.std.proofs.lemmas.List.{take_at, drop-replicate, drop-drop}
 use Rattle.std.proofs.lemmas.Slice.{drop-append-drop, take-put_mid, drop-put_mid}
 use borrow.Rule.Slice.PartMut.{put_mid}
-use Rattle.const_oid.specs.Base128.{IsChained, AreOctets}
+use Rattle.const_oid.specs.Base128.{IsContinued, AreOctets}
 use Rattle.const_oid.proofs.Lists.{all_append}
 
 -- octets by what is read at each place
@@ -11,19 +11,19 @@ pub are_octets : (octets : List ℕ) → EachIndex octets (λ k. slice_index oct
 are_octets [] h = tt
 are_octets (x ∷ xs) h = (h 0 (omega arith), are_octets xs (λ k l. h (suc k) (omega arith)))
 
-pub octets_from_chain : (octets : List ℕ) → IsChained octets → AreOctets octets
+pub octets_from_chain : (octets : List ℕ) → IsContinued octets → AreOctets octets
 octets_from_chain [] c = absurd c
 octets_from_chain (x ∷ []) c = (omega arith, tt)
 octets_from_chain (x ∷ y ∷ ys) c = (c.1, octets_from_chain (y ∷ ys) c.2)
 
--- octets copied to the front of an array
-pub octets_copied : (octets front rest : List ℕ) → front ≡ octets → AreOctets octets → AreOctets (take (length octets) (front ++ rest))
-octets_copied octets front rest e p = rw (e, take_at octets rest (length octets) refl) p
+-- octets copied to the prefix of an array
+pub octets_copied : (octets prefix rest : List ℕ) → prefix ≡ octets → AreOctets octets → AreOctets (take (length octets) (prefix ++ rest))
+octets_copied octets prefix rest e p = rw (e, take_at octets rest (length octets) refl) p
 
--- octets copied to the front of an array of zeros
-pub zeros_copied : (size : ℕ) (octets front : List ℕ) → front ≡ octets → drop (length octets) (front ++ drop (length octets) (replicate size 0)) ≡ replicate (size - length octets) 0
-zeros_copied size octets front e =
-    drop-append-drop (length octets) (replicate size 0) front (length octets) (omega arith) (ap length e)
+-- octets copied to the prefix of an array of zeros
+pub zeros_copied : (size : ℕ) (octets prefix : List ℕ) → prefix ≡ octets → drop (length octets) (prefix ++ drop (length octets) (replicate size 0)) ≡ replicate (size - length octets) 0
+zeros_copied size octets prefix e =
+    drop-append-drop (length octets) (replicate size 0) prefix (length octets) (omega arith) (ap length e)
     ∙ drop-replicate (length octets) size 0
 
 -- zeros past a place are zeros past each later one

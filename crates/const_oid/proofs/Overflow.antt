@@ -5,10 +5,10 @@ use Rattle.std.specs.Char.{is_ascii_digit}
 use Rattle.const_oid.specs.declared.error.Error.{Error}
 use Rattle.const_oid.specs.declared.error.Error.TheVariants.{ArcInvalid, ArcTooBig, Base128, DigitExpected, Empty, Length, Overflow, TrailingDot}
 use Rattle.const_oid.specs.Base128.{value_of}
-use Rattle.const_oid.specs.Identifier.{RootRule, Narrow, Wide, most_arc, most_second, size}
+use Rattle.const_oid.specs.Identifier.{RootRule, Narrow, Wide, max_arc, max_second, size}
 use Rattle.const_oid.specs.Faults.{fault_if}
-use Rattle.const_oid.specs.Contents.{cut, is_finished, begins_with_128, part_fault, later_fault, most_first, first_fault, parts_fault, octet_fault}
-use Rattle.const_oid.specs.Items.{arc_fault, few_fault, items_fault, item_fault}
+use Rattle.const_oid.specs.Contents.{cut, is_finished, begins_with_128, part_fault, later_fault, max_first, first_fault, parts_fault, octet_fault}
+use Rattle.const_oid.specs.Items.{arc_fault, too_few_fault, items_fault, item_fault}
 use Rattle.const_oid.specs.Text.{pieces_of, number_of, is_empty, is_one_empty, empty_fault, single_fault, piece_fault, pieces_fault, text_fault}
 
 or_other : (other : Error) (a b : Option Error) → a ≢ Some other → b ≢ Some other → option_or a b ≢ Some other
@@ -30,12 +30,12 @@ module _ (rule : RootRule) (other : Error) (range : (arc : ℕ) → rule ≡ Nar
 
   later_other : (parts : List (List ℕ)) → later_fault parts ≢ Some other
   later_other [] = λ e. cc
-  later_other (part ∷ parts) = or_other other _ _ (part_other most_arc part) (later_other parts)
+  later_other (part ∷ parts) = or_other other _ _ (part_other max_arc part) (later_other parts)
 
   first_other : (kept : RootRule) (part : List ℕ) → rule ≡ kept → first_fault kept part ≢ Some other
   first_other Narrow [] k = λ e. cc
   first_other Narrow (x ∷ xs) k = if_other other (nat_lt 119 x) (ArcInvalid (x / 40)) (range (x / 40) k)
-  first_other Wide part k = part_other (most_first Wide) part
+  first_other Wide part k = part_other (max_first Wide) part
 
   parts_other : (parts : List (List ℕ)) → parts_fault rule parts ≢ Some other
   parts_other [] = λ e. empty cc
@@ -56,20 +56,20 @@ octets_in_range arc = octets_other Wide (ArcInvalid arc) (λ arc narrow. λ e. c
 arc_other : (rule : RootRule) (capacity : ℕ) (before : List ℕ) (arc : ℕ) → arc_fault rule capacity before arc ≢ Some Overflow
 arc_other rule capacity [] arc = if_other Overflow (nat_lt 2 arc) _ (λ e. cc)
 arc_other rule capacity (first ∷ []) arc =
-    or_other Overflow _ _ (if_other Overflow (nat_lt (most_second rule first) arc) _ (λ e. cc)) (if_other Overflow (nat_lt capacity (size (first ∷ arc ∷ []))) Length (λ e. cc))
+    or_other Overflow _ _ (if_other Overflow (nat_lt (max_second rule first) arc) _ (λ e. cc)) (if_other Overflow (nat_lt capacity (size (first ∷ arc ∷ []))) Length (λ e. cc))
 arc_other rule capacity (first ∷ second ∷ later) arc = if_other Overflow (nat_lt capacity (size (first ∷ second ∷ later ++ arc ∷ []))) Length (λ e. cc)
 
-few_other : (items : List ℕ) → few_fault items ≢ Some Overflow
+few_other : (items : List ℕ) → too_few_fault items ≢ Some Overflow
 few_other [] = λ e. cc
 few_other (arc ∷ []) = λ e. cc
 few_other (first ∷ second ∷ later) = λ e. cc
 
-behind_other : (rule : RootRule) (capacity : ℕ) (before items : List ℕ) → items_fault rule capacity before items ≢ Some Overflow
-behind_other rule capacity before [] = few_other before
-behind_other rule capacity before (item ∷ items) = or_other Overflow _ _ (arc_other rule capacity before item) (behind_other rule capacity (before ++ item ∷ []) items)
+after_other : (rule : RootRule) (capacity : ℕ) (before items : List ℕ) → items_fault rule capacity before items ≢ Some Overflow
+after_other rule capacity before [] = few_other before
+after_other rule capacity before (item ∷ items) = or_other Overflow _ _ (arc_other rule capacity before item) (after_other rule capacity (before ++ item ∷ []) items)
 
 pub items_other : (rule : RootRule) (capacity : ℕ) (items : List ℕ) → item_fault rule items capacity ≢ Some Overflow
-items_other rule capacity = behind_other rule capacity []
+items_other rule capacity = after_other rule capacity []
 
 -- ---- texts
 
@@ -90,7 +90,7 @@ single_other (arc ∷ arcs) after = λ e. cc
 
 piece_other : (rule : RootRule) (capacity : ℕ) (before piece : List ℕ) (after : List (List ℕ)) → piece_fault rule capacity before piece after ≢ Some Overflow
 piece_other rule capacity before piece after =
-    or_other Overflow _ _ (if_other Overflow (nat_lt most_arc (number_of piece)) ArcTooBig (λ e. cc))
+    or_other Overflow _ _ (if_other Overflow (nat_lt max_arc (number_of piece)) ArcTooBig (λ e. cc))
     (or_other Overflow _ _ (digit_other (find (λ b. not (is_ascii_digit b)) piece))
     (or_other Overflow _ _ (if_other Overflow (is_empty piece) (empty_fault before after) (empty_other before after))
     (or_other Overflow _ _ (if_other Overflow (is_one_empty after) TrailingDot (λ e. cc))

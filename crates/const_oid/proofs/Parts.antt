@@ -9,30 +9,30 @@ use Rattle.std.proofs.lemmas.Option.{slice_get-map}
 use Rattle.std.proofs.lemmas.Bool.Decides.{nat_tests}
 use Rattle.const_oid.specs.Base128.{value_of}
 use Rattle.const_oid.specs.Identifier.{RootRule, IsEncoding}
-use Rattle.const_oid.specs.Contents.{cut, cut_behind, arcs_from, arcs_of_octets, parts_fault, later_fault}
+use Rattle.const_oid.specs.Contents.{cut, cut_after, arcs_from, arcs_of_octets, parts_fault, later_fault}
 use Rattle.const_oid.proofs.Faults.{both_none}
-use Rattle.const_oid.proofs.Cutting.{cut_behind-last, cut_behind-more}
+use Rattle.const_oid.proofs.Cutting.{cut_after-last, cut_after-more}
 use Rattle.const_oid.proofs.Encodings.{arcs_of_encoding}
 
--- ---- behind so many parts
+-- ---- after so many parts
 
 drop-onto_first : (x left : ℕ) (parts : List (List ℕ)) → drop (suc left) (onto_first x parts) ≡ drop (suc left) parts
 drop-onto_first x left [] = drop-nil left
 drop-onto_first x left (part ∷ parts) = refl
 
-drop-cut_behind : (x left ended : ℕ) (parts : List (List ℕ)) → left ≢ 0 → (x < 128 → ended ≡ 1) → (128 ≤ x → ended ≡ 0) → drop left (cut_behind x parts) ≡ drop (left - ended) parts
-drop-cut_behind x zero ended parts some one none = absurd (some refl)
-drop-cut_behind x (suc left) ended parts some one none = ⊎_elim
-    (λ (last : x < 128). let e : ended ≡ 1 = one last in let l : suc left - ended ≡ left = omega arith in rw (cut_behind-last x parts last, l))
-    (λ (more : 128 ≤ x). let e : ended ≡ 0 = none more in let l : suc left - ended ≡ suc left = omega arith in rw (cut_behind-more x parts more, l) (drop-onto_first x left parts))
+drop-cut_after : (x left ended : ℕ) (parts : List (List ℕ)) → left ≢ 0 → (x < 128 → ended ≡ 1) → (128 ≤ x → ended ≡ 0) → drop left (cut_after x parts) ≡ drop (left - ended) parts
+drop-cut_after x zero ended parts some one none = absurd (some refl)
+drop-cut_after x (suc left) ended parts some one none = ⊎_elim
+    (λ (last : x < 128). let e : ended ≡ 1 = one last in let l : suc left - ended ≡ left = omega arith in rw (cut_after-last x parts last, l))
+    (λ (more : 128 ≤ x). let e : ended ≡ 0 = none more in let l : suc left - ended ≡ suc left = omega arith in rw (cut_after-more x parts more, l) (drop-onto_first x left parts))
     (cases_lt x 128)
 
 -- one octet further, where it ends one of the parts that are left or none
-pub behind_more : (octets : List ℕ) (i left ended : ℕ) → i < length octets → left ≢ 0 → (get_or octets i 0 < 128 → ended ≡ 1) → (128 ≤ get_or octets i 0 → ended ≡ 0) → drop left (cut (drop i octets)) ≡ drop (left - ended) (cut (drop (i + 1) octets))
-behind_more octets i left ended inside some one none =
-    rw (add-one, drop-cons octets i 0 inside) (drop-cut_behind (get_or octets i 0) left ended (cut (drop (suc i) octets)) some one none)
+pub after_more : (octets : List ℕ) (i left ended : ℕ) → i < length octets → left ≢ 0 → (get_or octets i 0 < 128 → ended ≡ 1) → (128 ≤ get_or octets i 0 → ended ≡ 0) → drop left (cut (drop i octets)) ≡ drop (left - ended) (cut (drop (i + 1) octets))
+after_more octets i left ended inside some one none =
+    rw (add-one, drop-cons octets i 0 inside) (drop-cut_after (get_or octets i 0) left ended (cut (drop (suc i) octets)) some one none)
 
--- ---- the arc at a place, by the octets behind the parts before it
+-- ---- the arc at a place, by the octets after the parts before it
 
 none_left : {X : Type 0} (k : ℕ) (xs : List X) → [] ≡ drop k xs → None ≡ slice_get xs k
 none_left zero [] e = refl
@@ -58,23 +58,23 @@ later_fault-drop zero parts h = h
 later_fault-drop (suc k) [] h = refl
 later_fault-drop (suc k) (part ∷ parts) h = later_fault-drop k parts (both_none _ _ h).1
 
-pub sound_behind : (rule : RootRule) (octets rest : List ℕ) (index : ℕ) → 2 ≤ index → cut rest ≡ drop (index - 1) (cut octets) → parts_fault rule (cut octets) ≡ None → later_fault (cut rest) ≡ None
-sound_behind rule octets rest index later behind h =
+pub valid_after : (rule : RootRule) (octets rest : List ℕ) (index : ℕ) → 2 ≤ index → cut rest ≡ drop (index - 1) (cut octets) → parts_fault rule (cut octets) ≡ None → later_fault (cut rest) ≡ None
+valid_after rule octets rest index later after h =
     let k : index - 1 ≡ suc (index - 2) = omega arith in
-    rw (behind, k) (of (cut octets) h)
+    rw (after, k) (of (cut octets) h)
   where
     of : (parts : List (List ℕ)) → parts_fault rule parts ≡ None → later_fault (drop (suc (index - 2)) parts) ≡ None
     of [] h = cc
     of (part ∷ parts) h = later_fault-drop (index - 2) parts (both_none _ _ h).1
 
-pub none_behind : (octets : List ℕ) (index : ℕ) → 2 ≤ index → [] ≡ drop (index - 1) (cut octets) → None ≡ slice_get (arcs_of_octets octets) index
-none_behind octets index later behind = ap (option_map value_of) (none_left (index - 1) (cut octets) behind) ∙ sym (later_at (cut octets) index later)
+pub none_after : (octets : List ℕ) (index : ℕ) → 2 ≤ index → [] ≡ drop (index - 1) (cut octets) → None ≡ slice_get (arcs_of_octets octets) index
+none_after octets index later after = ap (option_map value_of) (none_left (index - 1) (cut octets) after) ∙ sym (later_at (cut octets) index later)
 
-pub arc_behind : (octets rest : List ℕ) (index n : ℕ) (ns : List ℕ) → 2 ≤ index → cut rest ≡ drop (index - 1) (cut octets) → map value_of (cut rest) ≡ n ∷ ns → Some n ≡ slice_get (arcs_of_octets octets) index
-arc_behind octets rest index n ns later behind e =
+pub arc_after : (octets rest : List ℕ) (index n : ℕ) (ns : List ℕ) → 2 ≤ index → cut rest ≡ drop (index - 1) (cut octets) → map value_of (cut rest) ≡ n ∷ ns → Some n ≡ slice_get (arcs_of_octets octets) index
+arc_after octets rest index n ns later after e =
     let parts = cut octets in
     let k = index - 1 in
-    first_left k (map value_of parts) n ns (sym e ∙ ap (map value_of) behind ∙ sym (drop-map value_of k parts))
+    first_left k (map value_of parts) n ns (sym e ∙ ap (map value_of) after ∙ sym (drop-map value_of k parts))
     ∙ slice_get-map value_of parts k
     ∙ sym (later_at parts index later)
 

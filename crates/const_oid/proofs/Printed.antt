@@ -6,7 +6,7 @@ use Rattle.std.proofs.lemmas.Bool.{cases_lt}
 use Rattle.std.proofs.lemmas.Fmt.{length-decimal-le}
 use Rattle.std.proofs.lemmas.List.Sums.{sum_by-cons}
 use Rattle.const_oid.specs.Base128.{width}
-use Rattle.const_oid.specs.Identifier.{RootRule, most_arc, most_second, IsEncoding}
+use Rattle.const_oid.specs.Identifier.{RootRule, max_arc, max_second, IsEncoding}
 use Rattle.const_oid.specs.Text.{text_of}
 use Rattle.const_oid.proofs.Subidentifiers.{second_low}
 use Rattle.const_oid.proofs.Groups.{width_is}
@@ -24,7 +24,7 @@ wider n k h = ⊎_elim
     (cases_lt k (width n))
 
 -- an arc, where the number that is encoded is at least the arc and takes two octets or more
-long_printed : (arc n : ℕ) → arc ≤ most_arc → arc ≤ n → 128 ≤ n → length (decimal arc) + 2 ≤ 4 * width n
+long_printed : (arc n : ℕ) → arc ≤ max_arc → arc ≤ n → 128 ≤ n → length (decimal arc) + 2 ≤ 4 * width n
 long_printed arc n small below two = ⊎_elim
     (λ (b : n < 16384). omega (arith, length-decimal-le 5 arc (omega arith) (omega arith) (omega arith), wider n 1 two))
     (λ (three : 16384 ≤ n). ⊎_elim
@@ -34,18 +34,18 @@ long_printed arc n small below two = ⊎_elim
     (cases_lt n 16384)
 
 -- a later arc, with its dot
-arc_printed : (n : ℕ) → n ≤ most_arc → length (decimal n) + 1 ≤ 4 * width n
+arc_printed : (n : ℕ) → n ≤ max_arc → length (decimal n) + 1 ≤ 4 * width n
 arc_printed n h = ⊎_elim
     (λ (b : n < 128). omega (arith, length-decimal-le 3 n (omega arith) (omega arith) (omega arith), (width_is n).positive))
     (λ (m : 128 ≤ n). omega (arith, long_printed n n h (omega arith) m))
     (cases_lt n 128)
 
-later_printed : (later : List ℕ) → AllByRecursion (λ n. n ≤ most_arc) later → sum_by (λ n. length (decimal n) + 1) later ≤ 4 * sum_by width later
+later_printed : (later : List ℕ) → AllByRecursion (λ n. n ≤ max_arc) later → sum_by (λ n. length (decimal n) + 1) later ≤ 4 * sum_by width later
 later_printed [] l = omega arith
 later_printed (n ∷ ns) l = omega (arith, sum_by-cons (λ m. length (decimal m) + 1) n ns, sum_by-cons width n ns, arc_printed n l.0, later_printed ns l.1)
 
 -- the first two arcs, with their dot
-root_printed : (rule : RootRule) (a b : ℕ) → a ≤ 2 → b ≤ most_second rule a → length (decimal a) + (length (decimal b) + 1) ≤ 4 * width (40 * a + b)
+root_printed : (rule : RootRule) (a b : ℕ) → a ≤ 2 → b ≤ max_second rule a → length (decimal a) + (length (decimal b) + 1) ≤ 4 * width (40 * a + b)
 root_printed rule a b p q =
     let first = length-decimal-le 1 a (omega arith) (omega arith) (omega arith) in
     let small = second_small rule a b q in

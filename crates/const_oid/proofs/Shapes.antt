@@ -5,66 +5,66 @@ use Rattle.const_oid.specs.Windows.{NoEmptyFirst, NoLongGroup}
 use Rattle.std.proofs.lemmas.List.{take_rest}
 use Rattle.std.proofs.lemmas.Bool.{cases_lt}
 use Rattle.std.proofs.lemmas.Bool.Decides.{nat_tests}
-use Rattle.const_oid.specs.Identifier.{most_arc}
+use Rattle.const_oid.specs.Identifier.{max_arc}
 use Rattle.const_oid.specs.Contents.{cut, later_fault}
 use Rattle.const_oid.proofs.OctetPass.{pass, later_pass}
 
 -- a pass goes over a group by its shape
-pass_one : (x : ℕ) (xs : List ℕ) → x < 128 → pass most_arc false 0 (x ∷ xs) ≡ pass most_arc false 0 xs
+pass_one : (x : ℕ) (xs : List ℕ) → x < 128 → pass max_arc false 0 (x ∷ xs) ≡ pass max_arc false 0 xs
 pass_one x xs l = grind (arith, nat_tests)
 
-pass_two : (x a : ℕ) (xs : List ℕ) → 128 < x → a < 128 → pass most_arc false 0 (x ∷ a ∷ xs) ≡ pass most_arc false 0 xs
+pass_two : (x a : ℕ) (xs : List ℕ) → 128 < x → a < 128 → pass max_arc false 0 (x ∷ a ∷ xs) ≡ pass max_arc false 0 xs
 pass_two x a xs m e = grind (arith, nat_tests)
 
-pass_three : (x a b : ℕ) (xs : List ℕ) → 128 < x → 128 ≤ a → b < 128 → pass most_arc false 0 (x ∷ a ∷ b ∷ xs) ≡ pass most_arc false 0 xs
+pass_three : (x a b : ℕ) (xs : List ℕ) → 128 < x → 128 ≤ a → b < 128 → pass max_arc false 0 (x ∷ a ∷ b ∷ xs) ≡ pass max_arc false 0 xs
 pass_three x a b xs m am e = grind (arith, nat_tests)
 
-pass_four : (x a b c : ℕ) (xs : List ℕ) → 128 < x → 128 ≤ a → 128 ≤ b → c < 128 → pass most_arc false 0 (x ∷ a ∷ b ∷ c ∷ xs) ≡ pass most_arc false 0 xs
+pass_four : (x a b c : ℕ) (xs : List ℕ) → 128 < x → 128 ≤ a → 128 ≤ b → c < 128 → pass max_arc false 0 (x ∷ a ∷ b ∷ c ∷ xs) ≡ pass max_arc false 0 xs
 pass_four x a b c xs m am bm e = grind (arith, nat_tests)
 
-pass_five : (x a b c d : ℕ) (xs : List ℕ) → 128 < x → x < 144 → 128 ≤ a → 128 ≤ b → 128 ≤ c → d < 128 → pass most_arc false 0 (x ∷ a ∷ b ∷ c ∷ d ∷ xs) ≡ pass most_arc false 0 xs
+pass_five : (x a b c d : ℕ) (xs : List ℕ) → 128 < x → x < 144 → 128 ≤ a → 128 ≤ b → 128 ≤ c → d < 128 → pass max_arc false 0 (x ∷ a ∷ b ∷ c ∷ d ∷ xs) ≡ pass max_arc false 0 xs
 pass_five x a b c d xs m l am bm cm e = grind (arith, nat_tests)
 
 above : (a : ℕ) → 128 ≤ a → a ≢ 128 → 128 < a
 above a m n = ⊎_elim (λ (g : 128 < a). g) (λ (g : a ≤ 128). absurd (n (omega arith))) (cases_lt 128 a)
 
--- the octets behind the first n, as a pattern of a slice takes them
-abbrev pub behind_first : ℕ → List ℕ → List ℕ
-behind_first n octets = take (length octets - n) (drop n octets)
+-- the octets after the first n, as a pattern of a slice takes them
+abbrev pub after_first : ℕ → List ℕ → List ℕ
+after_first n octets = take (length octets - n) (drop n octets)
 
 -- a pass goes over no octets
-pub group_none : (octets : List ℕ) → length octets < 1 → pass most_arc false 0 octets ≡ None
+pub group_none : (octets : List ℕ) → length octets < 1 → pass max_arc false 0 octets ≡ None
 group_none [] none = refl
 group_none (x ∷ xs) none = absurd (omega arith)
 
 -- the first octet is taken off
-pub group_first : (octets : List ℕ) → 1 ≤ length octets → pass most_arc false 0 octets ≡ pass most_arc false 0 (get_or octets 0 0 ∷ behind_first 1 octets)
+pub group_first : (octets : List ℕ) → 1 ≤ length octets → pass max_arc false 0 octets ≡ pass max_arc false 0 (get_or octets 0 0 ∷ after_first 1 octets)
 group_first [] some = absurd (omega arith)
 group_first (x ∷ xs) some = rw (take_rest (x ∷ xs) 1) refl
 
 -- a pass goes over a group of one octet
-pub group_one : (octets : List ℕ) → 1 ≤ length octets → get_or octets 0 0 < 128 → pass most_arc false 0 octets ≡ pass most_arc false 0 (behind_first 1 octets)
-group_one octets some last = group_first octets some ∙ pass_one (get_or octets 0 0) (behind_first 1 octets) last
+pub group_one : (octets : List ℕ) → 1 ≤ length octets → get_or octets 0 0 < 128 → pass max_arc false 0 octets ≡ pass max_arc false 0 (after_first 1 octets)
+group_one octets some last = group_first octets some ∙ pass_one (get_or octets 0 0) (after_first 1 octets) last
 
 -- of two
-pub group_two : (x : ℕ) (xs : List ℕ) → 128 ≤ x → x ≢ 128 → 1 ≤ length xs → get_or xs 0 0 < 128 → pass most_arc false 0 (x ∷ xs) ≡ pass most_arc false 0 (behind_first 1 xs)
+pub group_two : (x : ℕ) (xs : List ℕ) → 128 ≤ x → x ≢ 128 → 1 ≤ length xs → get_or xs 0 0 < 128 → pass max_arc false 0 (x ∷ xs) ≡ pass max_arc false 0 (after_first 1 xs)
 group_two x [] more some long last = absurd (omega arith)
 group_two x (a ∷ xs) more some long last = rw (take_rest (a ∷ xs) 1) (pass_two x a xs (above x more some) last)
 
 -- of three
-pub group_three : (x : ℕ) (xs : List ℕ) → 128 ≤ x → x ≢ 128 → 2 ≤ length xs → 128 ≤ get_or xs 0 0 → get_or xs 1 0 < 128 → pass most_arc false 0 (x ∷ xs) ≡ pass most_arc false 0 (behind_first 2 xs)
+pub group_three : (x : ℕ) (xs : List ℕ) → 128 ≤ x → x ≢ 128 → 2 ≤ length xs → 128 ≤ get_or xs 0 0 → get_or xs 1 0 < 128 → pass max_arc false 0 (x ∷ xs) ≡ pass max_arc false 0 (after_first 2 xs)
 group_three x [] more some long am last = absurd (omega arith)
 group_three x (a ∷ []) more some long am last = absurd (omega arith)
 group_three x (a ∷ b ∷ xs) more some long am last = rw (take_rest (a ∷ b ∷ xs) 2) (pass_three x a b xs (above x more some) am last)
 
 -- of four
-pub group_four : (x : ℕ) (xs : List ℕ) → 128 ≤ x → x ≢ 128 → 3 ≤ length xs → 128 ≤ get_or xs 0 0 → 128 ≤ get_or xs 1 0 → get_or xs 2 0 < 128 → pass most_arc false 0 (x ∷ xs) ≡ pass most_arc false 0 (behind_first 3 xs)
+pub group_four : (x : ℕ) (xs : List ℕ) → 128 ≤ x → x ≢ 128 → 3 ≤ length xs → 128 ≤ get_or xs 0 0 → 128 ≤ get_or xs 1 0 → get_or xs 2 0 < 128 → pass max_arc false 0 (x ∷ xs) ≡ pass max_arc false 0 (after_first 3 xs)
 group_four x [] more some long am bm last = absurd (omega arith)
 group_four x (a ∷ []) more some long am bm last = absurd (omega arith)
 group_four x (a ∷ b ∷ []) more some long am bm last = absurd (omega arith)
 group_four x (a ∷ b ∷ c ∷ xs) more some long am bm last = rw (take_rest (a ∷ b ∷ c ∷ xs) 3) (pass_four x a b c xs (above x more some) am bm last)
 
-pub record Fine (ys : List ℕ) : Type 0 where
+pub record IsWellFormed (ys : List ℕ) : Type 0 where
   pub first : NoEmptyFirst ys
   pub long : NoLongGroup ys
   pub last : (k : ℕ) → k + 1 ≡ length ys → get_or ys k 0 < 128
@@ -72,14 +72,14 @@ pub record Fine (ys : List ℕ) : Type 0 where
 after : (y : ℕ) (ys : List ℕ) (k n : ℕ) → get_or (y ∷ ys) (suc k + n) 0 ≡ get_or ys (k + n) 0
 after y ys k n = let e : suc k + n ≡ suc (k + n) = omega arith in rw e refl
 
-fine_tail : (y : ℕ) (ys : List ℕ) → Fine (y ∷ ys) → Fine ys
+fine_tail : (y : ℕ) (ys : List ℕ) → IsWellFormed (y ∷ ys) → IsWellFormed ys
 fine_tail y ys f = record {
   first = λ k l. rw (after y ys k 1) at (f.first (suc k) (omega arith));
   long = λ k l. rw (after y ys k 1, after y ys k 2, after y ys k 3, after y ys k 4) at (f.long (suc k) (omega arith));
   last = λ k e. f.last (suc k) (omega arith);
 }
 
-pub fine_pass : (p : ℕ) (xs : List ℕ) → p < 128 → Fine (p ∷ xs) → pass most_arc false 0 xs ≡ None
+pub fine_pass : (p : ℕ) (xs : List ℕ) → p < 128 → IsWellFormed (p ∷ xs) → pass max_arc false 0 xs ≡ None
 fine_pass p [] l f = refl
 fine_pass p (a ∷ []) l f = pass_one a [] (f.last 1 refl)
 fine_pass p (a ∷ b ∷ []) l f = ⊎_elim

@@ -4,7 +4,7 @@ use Rattle.const_oid.specs.declared.encoder.State.{State}
 use Rattle.const_oid.specs.declared.encoder.State.TheVariants.{FirstArc, Body}
 use Rattle.const_oid.specs.declared.error.Error.TheVariants.{ArcInvalid, Length}
 use Rattle.const_oid.specs.Base128.{width, GoesOn}
-use Rattle.const_oid.specs.Identifier.{RootRule, most_arc, most_second, IsEncoding}
+use Rattle.const_oid.specs.Identifier.{RootRule, max_arc, max_second, IsEncoding}
 use Rattle.const_oid.specs.Contents.{arcs_of_octets}
 use Rattle.const_oid.specs.Faults.{fault_if}
 use Rattle.const_oid.specs.Items.{arc_fault}
@@ -23,13 +23,13 @@ later_fault rule octets [] arc capacity e = absurd e.identifier
 later_fault rule octets (a ∷ []) arc capacity e = absurd e.identifier
 later_fault rule octets (a ∷ b ∷ later) arc capacity e = ap (λ n. fault_if (nat_lt capacity n) Length) (size_push rule (a ∷ b ∷ later) octets arc e)
 
--- the number stands for an arc behind those given: its group makes the encoding longer, and its width tells the fault
-pub record StandsFor (rule : RootRule) (octets given : List ℕ) (arc number : ℕ) : Type 0 where
+-- the number stands for an arc after those given: its group makes the encoding longer, and its width tells the fault
+pub record Encodes (rule : RootRule) (octets given : List ℕ) (arc number : ℕ) : Type 0 where
   pub step : (longer : List ℕ) → GoesOn number octets longer → IsStarted rule Body longer × (arcs_given Body longer ≡ given ++ arc ∷ [])
   pub fault : (capacity : ℕ) → arc_fault rule capacity given arc ≡ fault_if (nat_lt capacity (length octets + width number)) Length
 
--- behind two arcs or more, the arc itself
-pub later_number : (rule : RootRule) (state : State) (octets given : List ℕ) (arc number : ℕ) → state ≡ Body → IsStarted rule state octets → arcs_given state octets ≡ given → arc ≤ most_arc → number ≡ arc → StandsFor rule octets given arc number
+-- after two arcs or more, the arc itself
+pub later_number : (rule : RootRule) (state : State) (octets given : List ℕ) (arc number : ℕ) → state ≡ Body → IsStarted rule state octets → arcs_given state octets ≡ given → arc ≤ max_arc → number ≡ arc → Encodes rule octets given arc number
 later_number rule state octets given arc number is started view small value =
     let e : arcs_of_octets octets ≡ given = ap (λ s. arcs_given s octets) (sym is) ∙ view in
     let encoding : IsEncoding rule given octets = subst (λ arcs. IsEncoding rule arcs octets) e (subst (λ s. IsStarted rule s octets) is started) in
@@ -38,12 +38,12 @@ later_number rule state octets given arc number is started view small value =
       fault = λ capacity. later_fault rule octets given arc capacity encoding;
     }
 
--- behind one arc, the number of the first two
-pub second_number : (rule : RootRule) (state : State) (octets given : List ℕ) (first second number : ℕ) → state ≡ FirstArc first → IsStarted rule state octets → arcs_given state octets ≡ given → second ≤ most_second rule first → number ≡ 40 * first + second → StandsFor rule octets given second number
+-- after one arc, the number of the first two
+pub second_number : (rule : RootRule) (state : State) (octets given : List ℕ) (first second number : ℕ) → state ≡ FirstArc first → IsStarted rule state octets → arcs_given state octets ≡ given → second ≤ max_second rule first → number ≡ 40 * first + second → Encodes rule octets given second number
 second_number rule state octets given first second number is started view small value =
     let root : (octets ≡ []) × (first ≤ 2) = subst (λ s. IsStarted rule s octets) is started in
     let one : given ≡ first ∷ [] = sym view ∙ ap (λ s. arcs_given s octets) is in
     rw (value, root.0, one) record {
       step = λ longer (group, g, on). rw on (body_from_encoding rule group (first ∷ second ∷ []) (encoding_two rule first second group root.1 small g));
-      fault = λ capacity. rw (none_from_below (most_second rule first) second (ArcInvalid second) small) (ap (λ n. fault_if (nat_lt capacity n) Length) (omega arith));
+      fault = λ capacity. rw (none_from_below (max_second rule first) second (ArcInvalid second) small) (ap (λ n. fault_if (nat_lt capacity n) Length) (omega arith));
     }

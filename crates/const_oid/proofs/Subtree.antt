@@ -55,12 +55,12 @@ pub point_is_count : {X : Type 0} (p : X → Bool) (xs : List X) (a : ℕ) → I
 point_is_count p xs a by l cut = point_is_prefix p xs a l cut ∙ sym (count_by-prefix p xs by)
 
 module _ {X : Type 0} (p b : X → Bool) (apart : (x : X) → b x ≡ true → p x ≡ false) (xs : List X) (from : ℕ) (first : IsPartitionPoint (λ x. p x ≡ true) (λ x. p x ≡ false) xs from) where
-  place_behind : (k : ℕ) (d : X) → from ≤ k → get_or (drop from xs) (k - from) d ≡ get_or xs k d
-  place_behind k d l = get_or-drop from xs (k - from) d ∙ ap (λ i. get_or xs i d) (omega arith)
+  place_after : (k : ℕ) (d : X) → from ≤ k → get_or (drop from xs) (k - from) d ≡ get_or xs k d
+  place_after k d l = get_or-drop from xs (k - from) d ∙ ap (λ i. get_or xs i d) (omega arith)
 
-  -- behind the cut of one test, what passes either of two is what passes the other
-  other_behind : IsPartitionedBy (λ x. p x || b x) xs → IsPartitionedBy b (drop from xs)
-  other_behind either i j d le l t =
+  -- after the cut of one test, what passes either of two is what passes the other
+  other_after : IsPartitionedBy (λ x. p x || b x) xs → IsPartitionedBy b (drop from xs)
+  other_after either i j d le l t =
       let n = length-drop from xs in
       let late = first.1 (from + i) d (omega arith) (omega (arith, n)) in
       let passes = either (from + i) (from + j) d (omega arith) (omega (arith, n)) (or_right _ _ (rw (get_or-drop from xs j d) at t)) in
@@ -75,32 +75,32 @@ module _ {X : Type 0} (p b : X → Bool) (apart : (x : X) → b x ≡ true → p
       let x = get_or xs k d in
       place count k (p x) (b x)
       (λ m. first.0 k d (omega arith) m)
-      (λ m n. rw (place_behind k d m) at (second.0 (k - from) d (omega arith) (omega arith)))
-      (λ m. rw (place_behind k d (omega arith)) at (second.1 (k - from) d (omega arith) (omega (arith, length-drop from xs))))
+      (λ m n. rw (place_after k d m) at (second.0 (k - from) d (omega arith) (omega arith)))
+      (λ m. rw (place_after k d (omega arith)) at (second.1 (k - from) d (omega arith) (omega (arith, length-drop from xs))))
       (apart x)
 
--- ---- what stands before and under a front
+-- ---- what stands before and under a prefix
 
-module _ (front : ObjectIdentifierRef) where
+module _ (prefix : ObjectIdentifierRef) where
   abbrev pub ref_is_before : ObjectIdentifierRef → Bool
-  ref_is_before oid = is_before (ref_octets front) (ref_octets oid)
+  ref_is_before oid = is_before (ref_octets prefix) (ref_octets oid)
 
   abbrev pub ref_is_under : ObjectIdentifierRef → Bool
-  ref_is_under oid = is_under (ref_octets front) (ref_octets oid)
+  ref_is_under oid = is_under (ref_octets prefix) (ref_octets oid)
 
   abbrev pub ref_is_within : ObjectIdentifierRef → Bool
-  ref_is_within oid = is_within (ref_octets front) (ref_octets oid)
+  ref_is_within oid = is_within (ref_octets prefix) (ref_octets oid)
 
   -- beginning in octets is beginning in arcs
-  ref_under_told : (oid : ObjectIdentifierRef) → (ref_is_under oid ≡ true) ↔ BeginsWith (ref_arcs oid) (ref_arcs front)
+  ref_under_told : (oid : ObjectIdentifierRef) → (ref_is_under oid ≡ true) ↔ BeginsWith (ref_arcs oid) (ref_arcs prefix)
   ref_under_told oid =
-      told_begins root_rule (ref_arcs oid) (ref_arcs front) (ref_octets oid) (ref_octets front) (ref_is_under oid ≡ true) (ref_encoding oid) (ref_encoding front) (under_told (ref_octets front) (ref_octets oid))
+      told_begins root_rule (ref_arcs oid) (ref_arcs prefix) (ref_octets oid) (ref_octets prefix) (ref_is_under oid ≡ true) (ref_encoding oid) (ref_encoding prefix) (under_told (ref_octets prefix) (ref_octets oid))
 
   ref_under_apart : (oid : ObjectIdentifierRef) → ref_is_under oid ≡ true → ref_is_before oid ≡ false
-  ref_under_apart oid = under_apart (ref_octets front) (ref_octets oid)
+  ref_under_apart oid = under_apart (ref_octets prefix) (ref_octets oid)
 
   -- what stands where, by the place where the one test cuts the list and that where the other cuts the rest
-  pub places_between : (sorted : List ObjectIdentifierRef) (from count : ℕ) → IsPartitionPoint (λ oid. ref_is_before oid ≡ true) (λ oid. ref_is_before oid ≡ false) sorted from → IsPartitionPoint (λ oid. ref_is_under oid ≡ true) (λ oid. ref_is_under oid ≡ false) (drop from sorted) count → (k : ℕ) → IfSome (slice_get sorted k) (λ oid. BeginsWith (ref_arcs oid) (ref_arcs front) ↔ ((from ≤ k) × (k < from + count)))
+  pub places_between : (sorted : List ObjectIdentifierRef) (from count : ℕ) → IsPartitionPoint (λ oid. ref_is_before oid ≡ true) (λ oid. ref_is_before oid ≡ false) sorted from → IsPartitionPoint (λ oid. ref_is_under oid ≡ true) (λ oid. ref_is_under oid ≡ false) (drop from sorted) count → (k : ℕ) → IfSome (slice_get sorted k) (λ oid. BeginsWith (ref_arcs oid) (ref_arcs prefix) ↔ ((from ≤ k) × (k < from + count)))
   places_between sorted from count first second k = ⊎_elim
       (λ (oid, l, e, read).
       let (places, inside) = rw read at (between_points ref_is_before ref_is_under ref_under_apart sorted from first count second k oid l) in
@@ -114,9 +114,9 @@ module _ (front : ObjectIdentifierRef) where
     cut_by p down = partitioned (λ x y. is_before (ref_octets y) (ref_octets x)) (ranks_by nat_list_cmp_total ref_octets) p down sorted up
 
     pub cut_before : IsPartitionedBy ref_is_before sorted
-    cut_before = cut_by ref_is_before (λ x z. before_down (ref_octets front) (ref_octets x) (ref_octets z))
+    cut_before = cut_by ref_is_before (λ x z. before_down (ref_octets prefix) (ref_octets x) (ref_octets z))
 
-    pub cut_behind : (from : ℕ) → IsPartitionPoint (λ oid. ref_is_before oid ≡ true) (λ oid. ref_is_before oid ≡ false) sorted from → IsPartitionedBy ref_is_under (drop from sorted)
-    cut_behind from first =
-        let either = cut_by ref_is_within (λ x z. within_down (ref_octets front) (ref_octets x) (ref_octets z)) in
-        other_behind ref_is_before ref_is_under ref_under_apart sorted from first either
+    pub cut_after : (from : ℕ) → IsPartitionPoint (λ oid. ref_is_before oid ≡ true) (λ oid. ref_is_before oid ≡ false) sorted from → IsPartitionedBy ref_is_under (drop from sorted)
+    cut_after from first =
+        let either = cut_by ref_is_within (λ x z. within_down (ref_octets prefix) (ref_octets x) (ref_octets z)) in
+        other_after ref_is_before ref_is_under ref_under_apart sorted from first either

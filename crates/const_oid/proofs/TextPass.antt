@@ -16,27 +16,27 @@ use Rattle.std.proofs.lemmas.Str.Parse.{digits_value-take-le}
 use Rattle.std.proofs.lemmas.Grind.{common_steps}
 use Rattle.const_oid.specs.declared.error.Error.{Error}
 use Rattle.const_oid.specs.declared.error.Error.TheVariants.{ArcTooBig, DigitExpected, RepeatedDot, TrailingDot}
-use Rattle.const_oid.specs.Identifier.{RootRule, most_arc, IsEncoding}
+use Rattle.const_oid.specs.Identifier.{RootRule, max_arc, IsEncoding}
 use Rattle.const_oid.specs.Contents.{arcs_of_octets}
 use Rattle.const_oid.specs.Parser.{dot_fault, last_fault}
-use Rattle.const_oid.specs.Items.{arc_fault, few_fault}
+use Rattle.const_oid.specs.Items.{arc_fault, too_few_fault}
 use Rattle.const_oid.specs.Text.{pieces_of, number_of, is_empty, is_one_empty, empty_fault, single_fault, piece_fault, pieces_fault, text_answer}
 use Rattle.const_oid.specs.Faults.{fault_if, answer}
 use Rattle.const_oid.proofs.Lists.{append-cons, onto_all, onto_all-first, not_empty_push, onto_all-cons}
 use Rattle.const_oid.proofs.Encodings.{arcs_of_encoding}
 use Rattle.const_oid.proofs.Numbers.{number_of_digits, find-none, take_while-digits, find-digits, digit-undotted}
 
--- an answer behind a fault, if there is one
-abbrev pub behind : Option Error → Result (List ℕ) Error → Result (List ℕ) Error
-behind None r = r
-behind (Some fault) r = Err fault
+-- an answer after a fault, if there is one
+abbrev pub after : Option Error → Result (List ℕ) Error → Result (List ℕ) Error
+after None r = r
+after (Some fault) r = Err fault
 
--- what a pass over the bytes comes to first, behind the arcs before, from a piece that is begun or not and its number so far
+-- what a pass over the bytes comes to first, after the arcs before, from a piece that is begun or not and its number so far
 abbrev pub text_pass : RootRule → ℕ → List ℕ → Bool → ℕ → List ℕ → Result (List ℕ) Error
 text_pass rule capacity before begun value [] = if begun then answer (option_or (arc_fault rule capacity before value) (single_fault before [])) (before ++ value ∷ []) else Err (empty_fault before [])
 text_pass rule capacity before begun value (b ∷ bs) =
-    if is_ascii_digit b then (if nat_lt most_arc (value * 10 + (b - 48)) then Err ArcTooBig else text_pass rule capacity before true (value * 10 + (b - 48)) bs)
-    else (if b == 46 then (if begun then (if is_empty bs then Err TrailingDot else behind (arc_fault rule capacity before value) (text_pass rule capacity (before ++ value ∷ []) false 0 bs))
+    if is_ascii_digit b then (if nat_lt max_arc (value * 10 + (b - 48)) then Err ArcTooBig else text_pass rule capacity before true (value * 10 + (b - 48)) bs)
+    else (if b == 46 then (if begun then (if is_empty bs then Err TrailingDot else after (arc_fault rule capacity before value) (text_pass rule capacity (before ++ value ∷ []) false 0 bs))
     else Err (if is_empty before then DigitExpected 46 else RepeatedDot))
     else Err (DigitExpected b))
 
@@ -45,11 +45,11 @@ abbrev pieces_answer : RootRule → ℕ → List ℕ → List (List ℕ) → Res
 pieces_answer rule capacity before pieces = answer (pieces_fault rule capacity before pieces) (before ++ map number_of pieces)
 
 -- what a pass has read of a piece
-record IsPieceRead (front : List ℕ) (begun : Bool) (value : ℕ) : Type 0 where
-  digits : all_ascii_digits front ≡ true
-  begun_is : begun ≡ not (is_empty front)
-  value_is : value ≡ digits_value 10 front
-  small : value ≤ most_arc
+record IsPieceRead (prefix : List ℕ) (begun : Bool) (value : ℕ) : Type 0 where
+  digits : all_ascii_digits prefix ≡ true
+  begun_is : begun ≡ not (is_empty prefix)
+  value_is : value ≡ digits_value 10 prefix
+  small : value ≤ max_arc
 
 piece_read-none : IsPieceRead [] false 0
 piece_read-none = record { digits = refl; begun_is = refl; value_is = refl; small = omega arith }
@@ -61,12 +61,12 @@ digit_is b h =
     let (low, high) = and_parts (leb 48 b) (leb b 57) h in
     omega (arith, digit_value_digit b (leb-true 48 b low, leb-true b 57 high))
 
-digits_push : (front : List ℕ) (b : ℕ) → all_ascii_digits front ≡ true → is_ascii_digit b ≡ true → all_ascii_digits (front ++ b ∷ []) ≡ true
+digits_push : (prefix : List ℕ) (b : ℕ) → all_ascii_digits prefix ≡ true → is_ascii_digit b ≡ true → all_ascii_digits (prefix ++ b ∷ []) ≡ true
 digits_push [] b h d = rw d
 digits_push (y ∷ ys) b h d = grind (arith, common_steps, digits_push ys b)
 
-value_push : (front : List ℕ) (b : ℕ) → is_ascii_digit b ≡ true → digits_value 10 (front ++ b ∷ []) ≡ digits_value 10 front * 10 + (b - 48)
-value_push front b d = digits_value_push 10 front b ∙ ap (λ v. digits_value 10 front * 10 + v) (digit_is b d)
+value_push : (prefix : List ℕ) (b : ℕ) → is_ascii_digit b ≡ true → digits_value 10 (prefix ++ b ∷ []) ≡ digits_value 10 prefix * 10 + (b - 48)
+value_push prefix b d = digits_value_push 10 prefix b ∙ ap (λ v. digits_value 10 prefix * 10 + v) (digit_is b d)
 
 take_while-other : (b : ℕ) (bs : List ℕ) → is_ascii_digit b ≡ false → take_while is_ascii_digit (b ∷ bs) ≡ []
 take_while-other b bs d = rw d
@@ -74,37 +74,37 @@ take_while-other b bs d = rw d
 -- ---- the piece that is read
 
 -- a digit takes its number past the limit
-piece_too_big : (rule : RootRule) (capacity : ℕ) (before front : List ℕ) (b : ℕ) (more : List ℕ) (after : List (List ℕ)) → all_ascii_digits front ≡ true → is_ascii_digit b ≡ true → most_arc < digits_value 10 front * 10 + (b - 48) → piece_fault rule capacity before (front ++ b ∷ more) after ≡ Some ArcTooBig
-piece_too_big rule capacity before front b more after h d l = rw (lt-ltb most_arc (number_of (front ++ b ∷ more)) grown)
+piece_too_big : (rule : RootRule) (capacity : ℕ) (before prefix : List ℕ) (b : ℕ) (more : List ℕ) (after : List (List ℕ)) → all_ascii_digits prefix ≡ true → is_ascii_digit b ≡ true → max_arc < digits_value 10 prefix * 10 + (b - 48) → piece_fault rule capacity before (prefix ++ b ∷ more) after ≡ Some ArcTooBig
+piece_too_big rule capacity before prefix b more after h d l = rw (lt-ltb max_arc (number_of (prefix ++ b ∷ more)) grown)
   where
-    front' : List ℕ
-    front' = front ++ b ∷ []
+    prefix' : List ℕ
+    prefix' = prefix ++ b ∷ []
 
-    grown : most_arc < number_of (front ++ b ∷ more)
+    grown : max_arc < number_of (prefix ++ b ∷ more)
     grown =
-        let e = append-cons front b more in
+        let e = append-cons prefix b more in
         let t = take_while is_ascii_digit more in
-        let n : number_of (front ++ b ∷ more) ≡ digits_value 10 (front' ++ t) = ap number_of (sym e) ∙ ap (digits_value 10) (take_while-digits front' more (digits_push front b h d)) in
-        let m = digits_value-take-le 10 (front' ++ t) (length front') (omega arith) in
-        let k : digits_value 10 front' ≤ digits_value 10 (front' ++ t) = rw (take_at front' t (length front') refl) at m in
-        omega (arith, n, k, value_push front b d)
+        let n : number_of (prefix ++ b ∷ more) ≡ digits_value 10 (prefix' ++ t) = ap number_of (sym e) ∙ ap (digits_value 10) (take_while-digits prefix' more (digits_push prefix b h d)) in
+        let m = digits_value-take-le 10 (prefix' ++ t) (length prefix') (omega arith) in
+        let k : digits_value 10 prefix' ≤ digits_value 10 (prefix' ++ t) = rw (take_at prefix' t (length prefix') refl) at m in
+        omega (arith, n, k, value_push prefix b d)
 
 -- it has a byte that is no digit
-bad_byte : (rule : RootRule) (capacity : ℕ) (before front : List ℕ) (b : ℕ) (more : List ℕ) (after : List (List ℕ)) → all_ascii_digits front ≡ true → is_ascii_digit b ≡ false → digits_value 10 front ≤ most_arc → piece_fault rule capacity before (front ++ b ∷ more) after ≡ Some (DigitExpected b)
-bad_byte rule capacity before front b more after h d l =
-    let e : number_of (front ++ b ∷ more) ≡ digits_value 10 front = ap (digits_value 10) (take_while-digits front (b ∷ more) h ∙ ap (λ xs. front ++ xs) (take_while-other b more d) ∙ append-nil front) in
-    rw (e, le-ltb most_arc (digits_value 10 front) l, find-digits front (b ∷ more) h, d)
+bad_byte : (rule : RootRule) (capacity : ℕ) (before prefix : List ℕ) (b : ℕ) (more : List ℕ) (after : List (List ℕ)) → all_ascii_digits prefix ≡ true → is_ascii_digit b ≡ false → digits_value 10 prefix ≤ max_arc → piece_fault rule capacity before (prefix ++ b ∷ more) after ≡ Some (DigitExpected b)
+bad_byte rule capacity before prefix b more after h d l =
+    let e : number_of (prefix ++ b ∷ more) ≡ digits_value 10 prefix = ap (digits_value 10) (take_while-digits prefix (b ∷ more) h ∙ ap (λ xs. prefix ++ xs) (take_while-other b more d) ∙ append-nil prefix) in
+    rw (e, le-ltb max_arc (digits_value 10 prefix) l, find-digits prefix (b ∷ more) h, d)
 
 -- it has digits alone
-digits_piece : (rule : RootRule) (capacity : ℕ) (before front : List ℕ) (value : ℕ) (after : List (List ℕ)) → all_ascii_digits front ≡ true → number_of front ≡ value → value ≤ most_arc →
-    piece_fault rule capacity before front after ≡ option_or (fault_if (is_empty front) (empty_fault before after)) (option_or (fault_if (is_one_empty after) TrailingDot) (option_or (arc_fault rule capacity before value) (single_fault before after)))
-digits_piece rule capacity before front value after h n l = rw (n, le-ltb most_arc value l, find-none front h)
+digits_piece : (rule : RootRule) (capacity : ℕ) (before prefix : List ℕ) (value : ℕ) (after : List (List ℕ)) → all_ascii_digits prefix ≡ true → number_of prefix ≡ value → value ≤ max_arc →
+    piece_fault rule capacity before prefix after ≡ option_or (fault_if (is_empty prefix) (empty_fault before after)) (option_or (fault_if (is_one_empty after) TrailingDot) (option_or (arc_fault rule capacity before value) (single_fault before after)))
+digits_piece rule capacity before prefix value after h n l = rw (n, le-ltb max_arc value l, find-none prefix h)
 
 -- ---- pieces
 
-onto_all-some : (front : List ℕ) (b : ℕ) (pieces : List (List ℕ)) → (more : List ℕ) × (after : List (List ℕ)) × (onto_all (front ++ b ∷ []) pieces ≡ (front ++ b ∷ more) ∷ after)
-onto_all-some front b [] = ([], [], sym (onto_all-first front b []) ∙ onto_all-cons front (b ∷ []) [])
-onto_all-some front b (p ∷ ps) = (p, ps, sym (onto_all-first front b (p ∷ ps)) ∙ onto_all-cons front (b ∷ p) ps)
+onto_all-some : (prefix : List ℕ) (b : ℕ) (pieces : List (List ℕ)) → (more : List ℕ) × (after : List (List ℕ)) × (onto_all (prefix ++ b ∷ []) pieces ≡ (prefix ++ b ∷ more) ∷ after)
+onto_all-some prefix b [] = ([], [], sym (onto_all-first prefix b []) ∙ onto_all-cons prefix (b ∷ []) [])
+onto_all-some prefix b (p ∷ ps) = (p, ps, sym (onto_all-first prefix b (p ∷ ps)) ∙ onto_all-cons prefix (b ∷ p) ps)
 
 pieces_of-some : (bs : List ℕ) → (piece : List ℕ) × (more : List (List ℕ)) × (pieces_of bs ≡ piece ∷ more)
 pieces_of-some bs = by (pieces_of bs) (length-slice_split (λ b. b == 46) bs)
@@ -147,23 +147,23 @@ or_none : {X : Type 0} (o : Option X) → option_or o None ≡ o
 or_none None = refl
 or_none (Some x) = refl
 
-read_number : (front : List ℕ) (begun : Bool) (value : ℕ) → IsPieceRead front begun value → number_of front ≡ value
-read_number front begun value s = number_of_digits front s.digits ∙ sym s.value_is
+read_number : (prefix : List ℕ) (begun : Bool) (value : ℕ) → IsPieceRead prefix begun value → number_of prefix ≡ value
+read_number prefix begun value s = number_of_digits prefix s.digits ∙ sym s.value_is
 
-behind-answer : (fault other : Option Error) (arcs : List ℕ) → behind fault (answer other arcs) ≡ answer (option_or fault other) arcs
-behind-answer None other arcs = refl
-behind-answer (Some x) other arcs = refl
+after-answer : (fault other : Option Error) (arcs : List ℕ) → after fault (answer other arcs) ≡ answer (option_or fault other) arcs
+after-answer None other arcs = refl
+after-answer (Some x) other arcs = refl
 
 -- at the end of the text
-end_is : (rule : RootRule) (capacity : ℕ) (before front : List ℕ) (begun : Bool) (value : ℕ) → IsPieceRead front begun value → text_pass rule capacity before begun value [] ≡ pieces_answer rule capacity before (front ∷ [])
+end_is : (rule : RootRule) (capacity : ℕ) (before prefix : List ℕ) (begun : Bool) (value : ℕ) → IsPieceRead prefix begun value → text_pass rule capacity before begun value [] ≡ pieces_answer rule capacity before (prefix ∷ [])
 end_is rule capacity before [] begun value s = rw s.begun_is
 end_is rule capacity before (y ∷ ys) begun value s =
     let n = read_number (y ∷ ys) begun value s in
     rw (s.begun_is, digits_piece rule capacity before (y ∷ ys) value [] s.digits n s.small, n, or_none (option_or (arc_fault rule capacity before value) (single_fault before [])))
 
 -- at a dot, where what follows is passed over as it should be
-dot_is : (rule : RootRule) (capacity : ℕ) (before front : List ℕ) (begun : Bool) (value : ℕ) (bs : List ℕ) → IsPieceRead front begun value → text_pass rule capacity (before ++ value ∷ []) false 0 bs ≡ pieces_answer rule capacity (before ++ value ∷ []) (pieces_of bs) →
-    (if begun then (if is_empty bs then Err TrailingDot else behind (arc_fault rule capacity before value) (text_pass rule capacity (before ++ value ∷ []) false 0 bs)) else Err (if is_empty before then DigitExpected 46 else RepeatedDot)) ≡ pieces_answer rule capacity before (front ∷ pieces_of bs)
+dot_is : (rule : RootRule) (capacity : ℕ) (before prefix : List ℕ) (begun : Bool) (value : ℕ) (bs : List ℕ) → IsPieceRead prefix begun value → text_pass rule capacity (before ++ value ∷ []) false 0 bs ≡ pieces_answer rule capacity (before ++ value ∷ []) (pieces_of bs) →
+    (if begun then (if is_empty bs then Err TrailingDot else after (arc_fault rule capacity before value) (text_pass rule capacity (before ++ value ∷ []) false 0 bs)) else Err (if is_empty before then DigitExpected 46 else RepeatedDot)) ≡ pieces_answer rule capacity before (prefix ∷ pieces_of bs)
 dot_is rule capacity before [] begun value bs s rest = rw (s.begun_is, empty-several before bs)
 dot_is rule capacity before (y ∷ ys) begun value [] s rest =
     let n = read_number (y ∷ ys) begun value s in
@@ -172,34 +172,34 @@ dot_is rule capacity before (y ∷ ys) begun value (c ∷ cs) s rest =
     let n = read_number (y ∷ ys) begun value s in
     let ps = pieces_of (c ∷ cs) in
     rw (s.begun_is, digits_piece rule capacity before (y ∷ ys) value ps s.digits n s.small, one_empty-pieces (c ∷ cs), single-several before (c ∷ cs), or_none (arc_fault rule capacity before value), n, rest, append-cons before value (map number_of ps))
-    (behind-answer (arc_fault rule capacity before value) (pieces_fault rule capacity (before ++ value ∷ []) ps) (before ++ value ∷ map number_of ps))
+    (after-answer (arc_fault rule capacity before value) (pieces_fault rule capacity (before ++ value ∷ []) ps) (before ++ value ∷ map number_of ps))
 
-text_pass_is : (bytes : List ℕ) (rule : RootRule) (capacity : ℕ) (before front : List ℕ) (begun : Bool) (value : ℕ) → IsPieceRead front begun value → text_pass rule capacity before begun value bytes ≡ pieces_answer rule capacity before (onto_all front (pieces_of bytes))
-text_pass_is [] rule capacity before front begun value s = rw (onto_all-cons front [] [], append-nil front) (end_is rule capacity before front begun value s)
-text_pass_is (b ∷ bs) rule capacity before front begun value s = ⊎_elim
+text_pass_is : (bytes : List ℕ) (rule : RootRule) (capacity : ℕ) (before prefix : List ℕ) (begun : Bool) (value : ℕ) → IsPieceRead prefix begun value → text_pass rule capacity before begun value bytes ≡ pieces_answer rule capacity before (onto_all prefix (pieces_of bytes))
+text_pass_is [] rule capacity before prefix begun value s = rw (onto_all-cons prefix [] [], append-nil prefix) (end_is rule capacity before prefix begun value s)
+text_pass_is (b ∷ bs) rule capacity before prefix begun value s = ⊎_elim
     (λ (d : is_ascii_digit b ≡ true).
     let value' = value * 10 + (b - 48) in
-    let v : value' ≡ digits_value 10 (front ++ b ∷ []) = ap (λ w. w * 10 + (b - 48)) s.value_is ∙ sym (value_push front b d) in
-    let (more, after, e) = onto_all-some front b (pieces_of bs) in
-    rw (slice_split-cons_no (λ c. c == 46) b bs (digit-undotted b d), onto_all-first front b (pieces_of bs), d) (⊎_elim
-    (λ (big : most_arc < value').
-    let l : most_arc < digits_value 10 front * 10 + (b - 48) = rw s.value_is at big in
-    rw (lt-ltb most_arc value' big, e, piece_too_big rule capacity before front b more after s.digits d l))
-    (λ (small : value' ≤ most_arc).
-    rw (le-ltb most_arc value' small) (text_pass_is bs rule capacity before (front ++ b ∷ []) true value' (record {
-      digits = digits_push front b s.digits d;
-      begun_is = not_empty_push front b;
+    let v : value' ≡ digits_value 10 (prefix ++ b ∷ []) = ap (λ w. w * 10 + (b - 48)) s.value_is ∙ sym (value_push prefix b d) in
+    let (more, after, e) = onto_all-some prefix b (pieces_of bs) in
+    rw (slice_split-cons_no (λ c. c == 46) b bs (digit-undotted b d), onto_all-first prefix b (pieces_of bs), d) (⊎_elim
+    (λ (big : max_arc < value').
+    let l : max_arc < digits_value 10 prefix * 10 + (b - 48) = rw s.value_is at big in
+    rw (lt-ltb max_arc value' big, e, piece_too_big rule capacity before prefix b more after s.digits d l))
+    (λ (small : value' ≤ max_arc).
+    rw (le-ltb max_arc value' small) (text_pass_is bs rule capacity before (prefix ++ b ∷ []) true value' (record {
+      digits = digits_push prefix b s.digits d;
+      begun_is = not_empty_push prefix b;
       value_is = v;
       small = small;
     })))
-    (cases_lt most_arc value')))
+    (cases_lt max_arc value')))
     (λ (d : is_ascii_digit b ≡ false). ⊎_elim
     (λ (dot : b ≡ 46).
-    rw (slice_split-cons_yes (λ c. c == 46) b bs (eq-eqb b 46 dot), onto_all-cons front [] (pieces_of bs), append-nil front, d, eq-eqb b 46 dot)
-    (dot_is rule capacity before front begun value bs s (text_pass_is bs rule capacity (before ++ value ∷ []) [] false 0 piece_read-none)))
+    rw (slice_split-cons_yes (λ c. c == 46) b bs (eq-eqb b 46 dot), onto_all-cons prefix [] (pieces_of bs), append-nil prefix, d, eq-eqb b 46 dot)
+    (dot_is rule capacity before prefix begun value bs s (text_pass_is bs rule capacity (before ++ value ∷ []) [] false 0 piece_read-none)))
     (λ (other : b ≡ 46 → ⊥).
-    let (more, after, e) = onto_all-some front b (pieces_of bs) in
-    rw (slice_split-cons_no (λ c. c == 46) b bs (ne_eqb b 46 other), onto_all-first front b (pieces_of bs), e, d, ne_eqb b 46 other, bad_byte rule capacity before front b more after s.digits d (rw s.value_is at s.small)))
+    let (more, after, e) = onto_all-some prefix b (pieces_of bs) in
+    rw (slice_split-cons_no (λ c. c == 46) b bs (ne_eqb b 46 other), onto_all-first prefix b (pieces_of bs), e, d, ne_eqb b 46 other, bad_byte rule capacity before prefix b more after s.digits d (rw s.value_is at s.small)))
     (cases_eq b 46))
     (cases_Bool (is_ascii_digit b))
 
@@ -208,14 +208,14 @@ text_answer_is rule capacity text = text_pass_is text rule capacity [] [] false 
 
 -- ---- the end of the text
 
-few_is_single : (before : List ℕ) (arc : ℕ) → few_fault (before ++ arc ∷ []) ≡ single_fault before []
+few_is_single : (before : List ℕ) (arc : ℕ) → too_few_fault (before ++ arc ∷ []) ≡ single_fault before []
 few_is_single [] arc = refl
 few_is_single (a ∷ []) arc = refl
 few_is_single (a ∷ b ∷ later) arc = refl
 
 -- where the last piece has no fault, what is encoded of all arcs is what the pass comes to
 pub text_pass-end : {X : Type 0} (octets_in : X → List ℕ) (rule : RootRule) (capacity : ℕ) (before : List ℕ) (number : Option ℕ) (result : Result X Error) →
-    None ≡ last_fault rule capacity before number → result_err result ≡ few_fault (before ++ unwrap_or number 0 ∷ []) → IfOk result (λ x. IsEncoding rule (before ++ unwrap_or number 0 ∷ []) (octets_in x)) →
+    None ≡ last_fault rule capacity before number → result_err result ≡ too_few_fault (before ++ unwrap_or number 0 ∷ []) → IfOk result (λ x. IsEncoding rule (before ++ unwrap_or number 0 ∷ []) (octets_in x)) →
     result_map_both (λ x. arcs_of_octets (octets_in x)) (λ fault. fault) result ≡ text_pass rule capacity before (is_some number) (unwrap_or number 0) []
 text_pass-end octets_in rule capacity before None result n f e = cc
 text_pass-end octets_in rule capacity before (Some arc) (Ok x) n f e = rw (← n, ← few_is_single before arc, ← f) (ap Ok (arcs_of_encoding rule (before ++ arc ∷ []) (octets_in x) e))
@@ -224,21 +224,21 @@ text_pass-end octets_in rule capacity before (Some arc) (Err fault) n f e = rw (
 -- ---- one byte of a text at a place
 
 -- a digit that takes the number past the limit
-pub text_pass-too_big : (rule : RootRule) (capacity : ℕ) (before : List ℕ) (begun : Bool) (value digit : ℕ) (text : List ℕ) (index : ℕ) → index < length text → is_ascii_digit (get_or text index 0) ≡ true → digit ≡ get_or text index 0 - 48 → most_arc < value * 10 + digit → text_pass rule capacity before begun value (drop index text) ≡ Err ArcTooBig
-text_pass-too_big rule capacity before begun value digit text index inside is_digit is big = rw (drop-cons text index 0 inside, is_digit, ← is, lt-ltb most_arc (value * 10 + digit) big) refl
+pub text_pass-too_big : (rule : RootRule) (capacity : ℕ) (before : List ℕ) (begun : Bool) (value digit : ℕ) (text : List ℕ) (index : ℕ) → index < length text → is_ascii_digit (get_or text index 0) ≡ true → digit ≡ get_or text index 0 - 48 → max_arc < value * 10 + digit → text_pass rule capacity before begun value (drop index text) ≡ Err ArcTooBig
+text_pass-too_big rule capacity before begun value digit text index inside is_digit is big = rw (drop-cons text index 0 inside, is_digit, ← is, lt-ltb max_arc (value * 10 + digit) big) refl
 
 -- no byte is left exactly where the text ends
 none_left : (bytes : List ℕ) (index total : ℕ) → total ≡ index + length bytes → (index == total) ≡ is_empty bytes
 none_left [] index total all = eq-eqb index total (omega arith)
 none_left (b ∷ bs) index total all = ne_eqb index total (λ e. omega arith)
 
-first_dot : (rule : RootRule) (capacity : ℕ) (before : List ℕ) (begun : Bool) (value : ℕ) (piece : Option ℕ) (bs : List ℕ) → piece ≡ then_some begun value → text_pass rule capacity before begun value (46 ∷ bs) ≡ behind (dot_fault rule capacity before piece (is_empty bs)) (text_pass rule capacity (before ++ unwrap_or piece 0 ∷ []) false 0 bs)
+first_dot : (rule : RootRule) (capacity : ℕ) (before : List ℕ) (begun : Bool) (value : ℕ) (piece : Option ℕ) (bs : List ℕ) → piece ≡ then_some begun value → text_pass rule capacity before begun value (46 ∷ bs) ≡ after (dot_fault rule capacity before piece (is_empty bs)) (text_pass rule capacity (before ++ unwrap_or piece 0 ∷ []) false 0 bs)
 first_dot rule capacity before true value piece [] is = rw is refl
 first_dot rule capacity before true value piece (b ∷ bs) is = rw is refl
 first_dot rule capacity before false value piece bs is = rw is refl
 
--- a dot, behind a piece with its number if it has digits
-pub text_pass-dot : (rule : RootRule) (capacity : ℕ) (before : List ℕ) (begun : Bool) (value : ℕ) (piece : Option ℕ) (fault : Option Error) (text : List ℕ) (index : ℕ) → index < length text → get_or text index 0 ≡ 46 → piece ≡ then_some begun value → fault ≡ dot_fault rule capacity before piece (index + 1 == length text) → text_pass rule capacity before begun value (drop index text) ≡ behind fault (text_pass rule capacity (before ++ unwrap_or piece 0 ∷ []) false 0 (drop (index + 1) text))
+-- a dot, after a piece with its number if it has digits
+pub text_pass-dot : (rule : RootRule) (capacity : ℕ) (before : List ℕ) (begun : Bool) (value : ℕ) (piece : Option ℕ) (fault : Option Error) (text : List ℕ) (index : ℕ) → index < length text → get_or text index 0 ≡ 46 → piece ≡ then_some begun value → fault ≡ dot_fault rule capacity before piece (index + 1 == length text) → text_pass rule capacity before begun value (drop index text) ≡ after fault (text_pass rule capacity (before ++ unwrap_or piece 0 ∷ []) false 0 (drop (index + 1) text))
 text_pass-dot rule capacity before begun value piece fault text index inside dot is e =
     let ends = none_left (drop (index + 1) text) (index + 1) (length text) (omega (arith, length-drop (index + 1) text)) in
     rw (e, ends, add-one, drop-cons text index 0 inside, dot) (first_dot rule capacity before begun value piece (drop (suc index) text) is)

@@ -8,7 +8,7 @@ use Rattle.std.proofs.lemmas.Bool.Decides.{nat_tests}
 use Rattle.const_oid.specs.declared.error.Error.TheVariants.{ArcTooBig, DigitExpected}
 use Rattle.const_oid.specs.declared.error.Error.{Error}
 use Rattle.const_oid.specs.Faults.{answer}
-use Rattle.const_oid.specs.Identifier.{RootRule, Narrow, Wide, most_arc, most_second, IsIdentifier, size}
+use Rattle.const_oid.specs.Identifier.{RootRule, Narrow, Wide, max_arc, max_second, IsIdentifier, size}
 use Rattle.const_oid.specs.Items.{arc_fault}
 use Rattle.const_oid.specs.Text.{text_of, arc_text, pieces_of, number_of, is_empty, is_one_empty, empty_fault, single_fault, piece_fault, pieces_fault, text_fault, IsNumber, Denotes, strip_piece, strip, text_answer}
 use Rattle.const_oid.proofs.Lists.{append-cons, all_at}
@@ -25,19 +25,19 @@ pieces_of-join piece (next ∷ more) h =
 
 -- ---- what is printed is read back
 
-decimals_are : (arcs : List ℕ) → AllByRecursion (λ n. n ≤ most_arc) arcs → AllByRecursion IsNumber (map decimal arcs)
+decimals_are : (arcs : List ℕ) → AllByRecursion (λ n. n ≤ max_arc) arcs → AllByRecursion IsNumber (map decimal arcs)
 decimals_are [] l = tt
 decimals_are (n ∷ ns) l = (decimal_is n l.0, decimals_are ns l.1)
 
-numbers_of-decimals : (arcs : List ℕ) → AllByRecursion (λ n. n ≤ most_arc) arcs → map number_of (map decimal arcs) ≡ arcs
+numbers_of-decimals : (arcs : List ℕ) → AllByRecursion (λ n. n ≤ max_arc) arcs → map number_of (map decimal arcs) ≡ arcs
 numbers_of-decimals [] l = refl
 numbers_of-decimals (n ∷ ns) l = let e = number_of-decimal n l.0 in let f = numbers_of-decimals ns l.1 in cc
 
-pub second_small : (rule : RootRule) (a b : ℕ) → b ≤ most_second rule a → b ≤ most_arc
+pub second_small : (rule : RootRule) (a b : ℕ) → b ≤ max_second rule a → b ≤ max_arc
 second_small Narrow a b h = omega arith
 second_small Wide a b h = grind (arith, nat_tests)
 
-pub arcs_small : (rule : RootRule) (arcs : List ℕ) → IsIdentifier rule arcs → AllByRecursion (λ n. n ≤ most_arc) arcs
+pub arcs_small : (rule : RootRule) (arcs : List ℕ) → IsIdentifier rule arcs → AllByRecursion (λ n. n ≤ max_arc) arcs
 arcs_small rule [] i = absurd i
 arcs_small rule (a ∷ []) i = absurd i
 arcs_small rule (a ∷ b ∷ later) i = (omega (arith, i.0), (second_small rule a b i.1, i.2))
@@ -61,7 +61,7 @@ same_text rule a b i j e = same_denoted rule (text_of b) a b (rw e at (text_deno
 
 -- ---- a text is printed without its leading zeros
 
-stripped_pieces : (pieces : List (List ℕ)) → AllByRecursion IsNumber pieces → AllByRecursion (λ n. n ≤ most_arc) (map number_of pieces) → map decimal (map number_of pieces) ≡ map strip_piece pieces
+stripped_pieces : (pieces : List (List ℕ)) → AllByRecursion IsNumber pieces → AllByRecursion (λ n. n ≤ max_arc) (map number_of pieces) → map decimal (map number_of pieces) ≡ map strip_piece pieces
 stripped_pieces [] p l = refl
 stripped_pieces (piece ∷ pieces) p l = let e = decimal-number_of piece p.0 l.0 in let f = stripped_pieces pieces p.1 l.1 in cc
 
@@ -85,14 +85,14 @@ not_one_empty [] h = refl
 not_one_empty (piece ∷ []) h = not_empty piece h.0.0
 not_one_empty (piece ∷ next ∷ more) h = refl
 
-piece_none : (rule : RootRule) (capacity : ℕ) (before piece : List ℕ) (after : List (List ℕ)) → AllByRecursion IsNumber (piece ∷ after) → number_of piece ≤ most_arc → arc_fault rule capacity before (number_of piece) ≡ None → single_fault before after ≡ None → piece_fault rule capacity before piece after ≡ None
+piece_none : (rule : RootRule) (capacity : ℕ) (before piece : List ℕ) (after : List (List ℕ)) → AllByRecursion IsNumber (piece ∷ after) → number_of piece ≤ max_arc → arc_fault rule capacity before (number_of piece) ≡ None → single_fault before after ≡ None → piece_fault rule capacity before piece after ≡ None
 piece_none rule capacity before piece after p l a s =
-    rw (none_from_below most_arc (number_of piece) ArcTooBig l, find-none piece p.0.1, not_empty piece p.0.0, not_one_empty after p.1, a, s)
+    rw (none_from_below max_arc (number_of piece) ArcTooBig l, find-none piece p.0.1, not_empty piece p.0.0, not_one_empty after p.1, a, s)
 
 -- what a piece without a fault is
 record IsSound (rule : RootRule) (capacity : ℕ) (before piece : List ℕ) (after : List (List ℕ)) : Type 0 where
   number : IsNumber piece
-  small : number_of piece ≤ most_arc
+  small : number_of piece ≤ max_arc
   arc : arc_fault rule capacity before (number_of piece) ≡ None
   several : single_fault before after ≡ None
 
@@ -100,8 +100,8 @@ map_none : {X Y : Type 0} (f : X → Y) (x : Option X) → option_map f x ≡ No
 map_none f None h = refl
 map_none f (Some x) h = cc
 
-piece_sound : (rule : RootRule) (capacity : ℕ) (before piece : List ℕ) (after : List (List ℕ)) → piece_fault rule capacity before piece after ≡ None → IsSound rule capacity before piece after
-piece_sound rule capacity before piece after h =
+piece_valid : (rule : RootRule) (capacity : ℕ) (before piece : List ℕ) (after : List (List ℕ)) → piece_fault rule capacity before piece after ≡ None → IsSound rule capacity before piece after
+piece_valid rule capacity before piece after h =
     let (big, h1) = both_none _ _ h in
     let (digit, h2) = both_none _ _ h1 in
     let (empty, h3) = both_none _ _ h2 in
@@ -109,13 +109,13 @@ piece_sound rule capacity before piece after h =
     let (arc, several) = both_none _ _ h4 in
     record {
       number = (some_from_not_empty piece (false_from_none (is_empty piece) (empty_fault before after) empty), digits_from_find piece (map_none (λ b. DigitExpected b) (find (λ b. not (is_ascii_digit b)) piece) digit));
-      small = below_from_none most_arc (number_of piece) ArcTooBig big;
+      small = below_from_none max_arc (number_of piece) ArcTooBig big;
       arc = arc;
       several = several;
     }
 
 pub arc_from_piece : (rule : RootRule) (capacity : ℕ) (before piece : List ℕ) (after : List (List ℕ)) → piece_fault rule capacity before piece after ≡ None → arc_fault rule capacity before (number_of piece) ≡ None
-arc_from_piece rule capacity before piece after h = (piece_sound rule capacity before piece after h).arc
+arc_from_piece rule capacity before piece after h = (piece_valid rule capacity before piece after h).arc
 
 -- ---- whole texts
 
@@ -128,7 +128,7 @@ pieces_none : (rule : RootRule) (capacity : ℕ) (before : List ℕ) (pieces : L
 pieces_none rule capacity before [] p i s = refl
 pieces_none rule capacity before (piece ∷ after) p i s =
     let n = number_of piece in
-    let l = all_at (λ n. n ≤ most_arc) before n (map number_of after) (arcs_small rule (before ++ n ∷ map number_of after) i) in
+    let l = all_at (λ n. n ≤ max_arc) before n (map number_of after) (arcs_small rule (before ++ n ∷ map number_of after) i) in
     let e = append-cons before n (map number_of after) in
     rw (piece_none rule capacity before piece after p l (arc_none rule capacity before n (map number_of after) i s) (several_none rule before piece after i))
     (pieces_none rule capacity (before ++ n ∷ []) after p.1 (rw (← e) at i) (rw (← e) at s))
@@ -136,24 +136,24 @@ pieces_none rule capacity before (piece ∷ after) p i s =
 pub text_fault-none : (rule : RootRule) (capacity : ℕ) (text arcs : List ℕ) → Denotes rule text arcs → size arcs ≤ capacity → text_fault rule text capacity ≡ None
 text_fault-none rule capacity text arcs d s = pieces_none rule capacity [] (pieces_of text) d.numbers (rw d.values at d.identifier) (rw d.values at s)
 
-pieces_sound : (rule : RootRule) (capacity : ℕ) (before : List ℕ) (pieces : List (List ℕ)) → IsBegun rule capacity before → pieces_fault rule capacity before pieces ≡ None → IsBegun rule capacity (before ++ map number_of pieces) × AllByRecursion IsNumber pieces
-pieces_sound rule capacity before [] b h = (rw append-nil b, tt)
-pieces_sound rule capacity before (piece ∷ after) b h =
+pieces_valid : (rule : RootRule) (capacity : ℕ) (before : List ℕ) (pieces : List (List ℕ)) → IsBegun rule capacity before → pieces_fault rule capacity before pieces ≡ None → IsBegun rule capacity (before ++ map number_of pieces) × AllByRecursion IsNumber pieces
+pieces_valid rule capacity before [] b h = (rw append-nil b, tt)
+pieces_valid rule capacity before (piece ∷ after) b h =
     let (p, q) = both_none (piece_fault rule capacity before piece after) (pieces_fault rule capacity (before ++ number_of piece ∷ []) after) h in
-    let s = piece_sound rule capacity before piece after p in
-    let (more, numbers) = pieces_sound rule capacity (before ++ number_of piece ∷ []) after (begun_more rule capacity before (number_of piece) b s.small s.arc) q in
+    let s = piece_valid rule capacity before piece after p in
+    let (more, numbers) = pieces_valid rule capacity (before ++ number_of piece ∷ []) after (begun_more rule capacity before (number_of piece) b s.small s.arc) q in
     (rw (append-cons before (number_of piece) (map number_of after)) at more, (s.number, numbers))
 
-whole_sound : (rule : RootRule) (capacity : ℕ) (pieces : List (List ℕ)) → 0 < length pieces → pieces_fault rule capacity [] pieces ≡ None → AllByRecursion IsNumber pieces × IsIdentifier rule (map number_of pieces) × (size (map number_of pieces) ≤ capacity)
-whole_sound rule capacity [] some h = absurd (omega arith)
-whole_sound rule capacity (piece ∷ []) some h =
-    let e = (piece_sound rule capacity [] piece [] (both_none (piece_fault rule capacity [] piece []) None h).0).several in
+whole_valid : (rule : RootRule) (capacity : ℕ) (pieces : List (List ℕ)) → 0 < length pieces → pieces_fault rule capacity [] pieces ≡ None → AllByRecursion IsNumber pieces × IsIdentifier rule (map number_of pieces) × (size (map number_of pieces) ≤ capacity)
+whole_valid rule capacity [] some h = absurd (omega arith)
+whole_valid rule capacity (piece ∷ []) some h =
+    let e = (piece_valid rule capacity [] piece [] (both_none (piece_fault rule capacity [] piece []) None h).0).several in
     cc
-whole_sound rule capacity (piece ∷ next ∷ more) some h = let (b, numbers) = pieces_sound rule capacity [] (piece ∷ next ∷ more) tt h in (numbers, b.0, b.1)
+whole_valid rule capacity (piece ∷ next ∷ more) some h = let (b, numbers) = pieces_valid rule capacity [] (piece ∷ next ∷ more) tt h in (numbers, b.0, b.1)
 
 pub denoted_from_none : (rule : RootRule) (capacity : ℕ) (text : List ℕ) → text_fault rule text capacity ≡ None → Denotes rule text (map number_of (pieces_of text)) × (size (map number_of (pieces_of text)) ≤ capacity)
 denoted_from_none rule capacity text h =
-    let (numbers, identifier, fits) = whole_sound rule capacity (pieces_of text) (omega (arith, length-slice_split (λ b. b == 46) text)) h in
+    let (numbers, identifier, fits) = whole_valid rule capacity (pieces_of text) (omega (arith, length-slice_split (λ b. b == 46) text)) h in
     (record { numbers = numbers; values = refl; identifier = identifier }, fits)
 
 -- the arcs that a text is read as are those that it denotes

@@ -5,7 +5,7 @@ use Rattle.std.specs.Prelude.{◌↔◌}
 use Rattle.std.proofs.lemmas.Bool.{cases_lt}
 use Rattle.const_oid.specs.Base128.{AreOctets}
 use Rattle.const_oid.specs.Contents.{octet_fault, arcs_of_octets}
-use Rattle.const_oid.specs.Identifier.{Narrow, Wide, most_arc, most_second, IsIdentifier, IsEncoding, size}
+use Rattle.const_oid.specs.Identifier.{Narrow, Wide, max_arc, max_second, IsIdentifier, IsEncoding, size}
 use Rattle.const_oid.specs.Items.{item_fault}
 use Rattle.const_oid.specs.Text.{Denotes, pieces_of, number_of, text_fault}
 use Rattle.const_oid.specs.Wider.{IsPastNarrow}
@@ -21,7 +21,7 @@ wide_from_narrow [] i = absurd i
 wide_from_narrow (a ∷ []) i = absurd i
 wide_from_narrow (a ∷ b ∷ later) i = (i.0, second a b i.1, i.2)
   where
-    second : (a b : ℕ) → b ≤ 39 → b ≤ most_second Wide a
+    second : (a b : ℕ) → b ≤ 39 → b ≤ max_second Wide a
     second a b h = ⊎_elim
         (λ (low : a < 2). rw (lt-ltb a 2 low) h)
         (λ (high : 2 ≤ a). rw (le-ltb a 2 high) (omega arith))
@@ -94,7 +94,7 @@ texts_new text capacity = (
       ),
 )
 
-pub items_new : (items : List ℕ) (capacity : ℕ) → AllByRecursion (λ n. n ≤ most_arc) items → (item_fault Wide items capacity ≡ None) × (item_fault Narrow items capacity ≢ None) ↔ (IsIdentifier Wide items × IsPastNarrow items × (size items ≤ capacity))
+pub items_new : (items : List ℕ) (capacity : ℕ) → AllByRecursion (λ n. n ≤ max_arc) items → (item_fault Wide items capacity ≡ None) × (item_fault Narrow items capacity ≢ None) ↔ (IsIdentifier Wide items × IsPastNarrow items × (size items ≤ capacity))
 items_new items capacity small = (
   λ h.
       let (i, fits) = identifier_from_none Wide capacity items small h.0 in

@@ -8,27 +8,27 @@ use Rattle.std.proofs.lemmas.Bool.Decides.{nat_tests}
 use Rattle.const_oid.specs.declared.error.Error.{Error}
 use Rattle.const_oid.specs.declared.error.Error.TheVariants.{ArcInvalid, ArcTooBig, DigitExpected, Length, TrailingDot}
 use Rattle.const_oid.specs.Faults.{fault_if, answer}
-use Rattle.const_oid.specs.Identifier.{Narrow, Wide, most_arc, most_second, size}
-use Rattle.const_oid.specs.Contents.{cut, cut_behind, first_fault, later_fault, parts_fault, octet_fault, most_first}
+use Rattle.const_oid.specs.Identifier.{Narrow, Wide, max_arc, max_second, size}
+use Rattle.const_oid.specs.Contents.{cut, cut_after, first_fault, later_fault, parts_fault, octet_fault, max_first}
 use Rattle.const_oid.specs.Items.{arc_fault, items_fault, item_fault}
 use Rattle.const_oid.specs.Text.{pieces_of, number_of, is_empty, is_one_empty, empty_fault, piece_fault, pieces_fault, text_fault}
 use Rattle.const_oid.specs.Wider.{RefusesSecond}
 use Rattle.const_oid.proofs.Faults.{both_none, below_from_none, none_from_below, some_from_above}
 use Rattle.const_oid.proofs.Groups.{small_is}
-use Rattle.const_oid.proofs.Cutting.{cut_behind-last}
+use Rattle.const_oid.proofs.Cutting.{cut_after-last}
 use Rattle.const_oid.proofs.Encodings.{part_none}
 use Rattle.const_oid.proofs.Texts.{arc_from_piece}
 
 -- ---- octets
 
 root_same : (x : ℕ) → x < 120 → first_fault Narrow (x ∷ []) ≡ first_fault Wide (x ∷ [])
-root_same x h = none_from_below 119 x (ArcInvalid (x / 40)) (omega arith) ∙ sym (part_none (most_first Wide) x (x ∷ []) (small_is x (omega arith)) (omega arith))
+root_same x h = none_from_below 119 x (ArcInvalid (x / 40)) (omega arith) ∙ sym (part_none (max_first Wide) x (x ∷ []) (small_is x (omega arith)) (omega arith))
 
 pub octets_same : (x : ℕ) (xs : List ℕ) (capacity : ℕ) → x < 120 → octet_fault Narrow (x ∷ xs) capacity ≡ octet_fault Wide (x ∷ xs) capacity
 octets_same x xs capacity h = ap (λ f. option_or f (fault_if (nat_lt capacity (length (x ∷ xs))) Length)) parts
   where
     parts : parts_fault Narrow (cut (x ∷ xs)) ≡ parts_fault Wide (cut (x ∷ xs))
-    parts = rw (cut_behind-last x (cut xs) (omega arith)) (ap (λ f. option_or f (later_fault (cut xs))) (root_same x h))
+    parts = rw (cut_after-last x (cut xs) (omega arith)) (ap (λ f. option_or f (later_fault (cut xs))) (root_same x h))
 
 -- ---- the second arc
 
@@ -36,12 +36,12 @@ octets_same x xs capacity h = ap (λ f. option_or f (fault_if (nat_lt capacity (
 second_same : (capacity first second : ℕ) → first ≤ 2 → ((first ≡ 2) × (39 < second) → ⊥) → arc_fault Narrow capacity (first ∷ []) second ≡ arc_fault Wide capacity (first ∷ []) second
 second_same capacity first second h not_past = ap (λ range. option_or range (fault_if (nat_lt capacity (size (first ∷ second ∷ []))) Length)) by
   where
-    by : fault_if (nat_lt 39 second) (ArcInvalid second) ≡ fault_if (nat_lt (most_second Wide first) second) (ArcInvalid second)
+    by : fault_if (nat_lt 39 second) (ArcInvalid second) ≡ fault_if (nat_lt (max_second Wide first) second) (ArcInvalid second)
     by = ⊎_elim
         (λ (low : first < 2). rw (lt-ltb first 2 low))
         (λ (high : 2 ≤ first). ⊎_elim
         (λ (past : 39 < second). absurd (not_past (omega arith, past)))
-        (λ (within : second ≤ 39). none_from_below 39 second (ArcInvalid second) within ∙ sym (none_from_below (most_second Wide first) second (ArcInvalid second) (rw (le-ltb first 2 high) (omega arith))))
+        (λ (within : second ≤ 39). none_from_below 39 second (ArcInvalid second) within ∙ sym (none_from_below (max_second Wide first) second (ArcInvalid second) (rw (le-ltb first 2 high) (omega arith))))
         (cases_lt 39 second))
         (cases_lt first 2)
 
@@ -97,7 +97,7 @@ pieces_same capacity (p ∷ q ∷ more) h = by (piece_fault Narrow capacity [] p
     by None e =
         let within = below_from_none 2 a (ArcInvalid a) (arc_from_piece Narrow capacity [] p (q ∷ more) e) in
         let second = range_same
-        (fault_if (nat_lt most_arc b) ArcTooBig)
+        (fault_if (nat_lt max_arc b) ArcTooBig)
         (option_map (λ c. DigitExpected c) (find (λ c. not (is_ascii_digit c)) q))
         (fault_if (is_empty q) (empty_fault (a ∷ []) more))
         (fault_if (is_one_empty more) TrailingDot)
@@ -115,7 +115,7 @@ none_refuses_none [] fault none r = r
 none_refuses_none (a ∷ []) fault none r = r
 none_refuses_none (a ∷ b ∷ later) fault none r = let some = r.1 in cc
 
-narrow_first : (x : ℕ) (parts : List (List ℕ)) → parts_fault Narrow (cut_behind x parts) ≡ None → x < 120
+narrow_first : (x : ℕ) (parts : List (List ℕ)) → parts_fault Narrow (cut_after x parts) ≡ None → x < 120
 narrow_first x [] h = grind (arith, nat_tests)
 narrow_first x (part ∷ parts) h = grind (arith, nat_tests)
 

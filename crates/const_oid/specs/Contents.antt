@@ -6,16 +6,16 @@ use Rattle.const_oid.specs.declared.error.Error.{Error}
 use Rattle.const_oid.specs.declared.error.Error.TheVariants.{ArcInvalid, ArcTooBig, Base128, Empty, Length}
 use Rattle.const_oid.specs.Base128.{value_of}
 use Rattle.const_oid.specs.Faults.{fault_if, answer}
-use Rattle.const_oid.specs.Identifier.{RootRule, Narrow, Wide, most_arc}
+use Rattle.const_oid.specs.Identifier.{RootRule, Narrow, Wide, max_arc}
 
 -- an octet put before the parts that follow it
-abbrev pub cut_behind : ℕ → List (List ℕ) → List (List ℕ)
-cut_behind x parts = if nat_lt x 128 then (x ∷ []) ∷ parts else onto_first x parts
+abbrev pub cut_after : ℕ → List (List ℕ) → List (List ℕ)
+cut_after x parts = if nat_lt x 128 then (x ∷ []) ∷ parts else onto_first x parts
 
--- the parts into which the octets are cut behind each octet below 128; what is left at the end is one more part
+-- the parts into which the octets are cut after each octet below 128; what is left at the end is one more part
 abbrev pub cut : List ℕ → List (List ℕ)
 cut [] = []
-cut (x ∷ xs) = cut_behind x (cut xs)
+cut (x ∷ xs) = cut_after x (cut xs)
 
 -- how many octets the first part has
 abbrev pub first_length : List (List ℕ) → ℕ
@@ -42,18 +42,18 @@ part_fault limit part =
 -- the first fault of parts that stand for later arcs
 abbrev pub later_fault : List (List ℕ) → Option Error
 later_fault [] = None
-later_fault (part ∷ parts) = option_or (part_fault most_arc part) (later_fault parts)
+later_fault (part ∷ parts) = option_or (part_fault max_arc part) (later_fault parts)
 
 -- the greatest first subidentifier: 40 times 2 and the greatest second arc
-abbrev pub most_first : RootRule → ℕ
-most_first Narrow = 119
-most_first Wide = 4294967375
+abbrev pub max_first : RootRule → ℕ
+max_first Narrow = 119
+max_first Wide = 4294967375
 
 -- what is wrong with the first part: under the wide rule it is judged as later ones are, at its own limit
 abbrev pub first_fault : RootRule → List ℕ → Option Error
 first_fault Narrow [] = None
 first_fault Narrow (x ∷ xs) = fault_if (nat_lt 119 x) (ArcInvalid (x / 40))
-first_fault Wide part = part_fault (most_first Wide) part
+first_fault Wide part = part_fault (max_first Wide) part
 
 abbrev pub parts_fault : RootRule → List (List ℕ) → Option Error
 parts_fault rule [] = Some Empty
@@ -64,7 +64,7 @@ abbrev pub octet_fault : RootRule → List ℕ → ℕ → Option Error
 octet_fault rule octets capacity =
     option_or (parts_fault rule (cut octets)) (fault_if (nat_lt capacity (length octets)) Length)
 
--- the arcs behind the first subidentifier and the later ones
+-- the arcs after the first subidentifier and the later ones
 abbrev pub arcs_from : List ℕ → List ℕ
 arcs_from [] = []
 arcs_from (first ∷ later) = if nat_lt first 80 then first / 40 ∷ first % 40 ∷ later else 2 ∷ (first - 80) ∷ later

@@ -13,20 +13,20 @@ abbrev pub root_rule : RootRule
 root_rule = Wide
 
 -- the greatest arc
-abbrev pub most_arc : ℕ
-most_arc = 4294967295
+abbrev pub max_arc : ℕ
+max_arc = 4294967295
 
 -- the greatest second arc under a first arc
-abbrev pub most_second : RootRule → ℕ → ℕ
-most_second Narrow first = 39
-most_second Wide first = if nat_lt first 2 then 39 else most_arc
+abbrev pub max_second : RootRule → ℕ → ℕ
+max_second Narrow first = 39
+max_second Wide first = if nat_lt first 2 then 39 else max_arc
 
 -- a path of at least two arcs, each in range
 abbrev pub IsIdentifier : RootRule → List ℕ → Type 0
 IsIdentifier rule [] = ⊥
 IsIdentifier rule (first ∷ []) = ⊥
 IsIdentifier rule (first ∷ second ∷ later) =
-    (first ≤ 2) × (second ≤ most_second rule first) × AllByRecursion (λ arc. arc ≤ most_arc) later
+    (first ≤ 2) × (second ≤ max_second rule first) × AllByRecursion (λ arc. arc ≤ max_arc) later
 
 -- the numbers that are encoded: one for the first two arcs, and each later arc
 abbrev pub subidentifiers : List ℕ → List ℕ

@@ -5,25 +5,25 @@ use Rattle.std.specs.Option.{option_or}
 use Rattle.const_oid.specs.declared.error.Error.{Error}
 use Rattle.const_oid.specs.declared.error.Error.TheVariants.{ArcInvalid, Empty, Length}
 use Rattle.const_oid.specs.Faults.{fault_if, answer}
-use Rattle.const_oid.specs.Identifier.{RootRule, most_second, size}
+use Rattle.const_oid.specs.Identifier.{RootRule, max_second, size}
 
 -- what is wrong with an arc that follows others, at a capacity in octets: its range, or the length of the encoding so far
 abbrev pub arc_fault : RootRule → ℕ → List ℕ → ℕ → Option Error
 arc_fault rule capacity [] arc = fault_if (nat_lt 2 arc) (ArcInvalid arc)
 arc_fault rule capacity (first ∷ []) arc =
-    option_or (fault_if (nat_lt (most_second rule first) arc) (ArcInvalid arc))
+    option_or (fault_if (nat_lt (max_second rule first) arc) (ArcInvalid arc))
     (fault_if (nat_lt capacity (size (first ∷ arc ∷ []))) Length)
 arc_fault rule capacity (first ∷ second ∷ later) arc = fault_if (nat_lt capacity (size (first ∷ second ∷ later ++ arc ∷ []))) Length
 
 -- fewer than two arcs
-abbrev pub few_fault : List ℕ → Option Error
-few_fault [] = Some Empty
-few_fault (arc ∷ []) = Some Empty
-few_fault (first ∷ second ∷ later) = None
+abbrev pub too_few_fault : List ℕ → Option Error
+too_few_fault [] = Some Empty
+too_few_fault (arc ∷ []) = Some Empty
+too_few_fault (first ∷ second ∷ later) = None
 
--- the fault of the first item that has one, at a capacity and behind the arcs before it
+-- the fault of the first item that has one, at a capacity and after the arcs before it
 abbrev pub items_fault : RootRule → ℕ → List ℕ → List ℕ → Option Error
-items_fault rule capacity before [] = few_fault before
+items_fault rule capacity before [] = too_few_fault before
 items_fault rule capacity before (item ∷ items) = option_or (arc_fault rule capacity before item) (items_fault rule capacity (before ++ item ∷ []) items)
 
 -- the fault of the list at a capacity, if there is one

@@ -7,7 +7,7 @@ use Rattle.std.specs.Char.{is_ascii_digit}
 use Rattle.std.specs.Str.Parse.{digits_value}
 use Rattle.const_oid.specs.declared.error.Error.{Error}
 use Rattle.const_oid.specs.declared.error.Error.TheVariants.{ArcTooBig, DigitExpected, Empty, RepeatedDot, TrailingDot}
-use Rattle.const_oid.specs.Identifier.{RootRule, most_arc, IsIdentifier}
+use Rattle.const_oid.specs.Identifier.{RootRule, max_arc, IsIdentifier}
 use Rattle.const_oid.specs.Faults.{fault_if, answer}
 use Rattle.const_oid.specs.Items.{arc_fault}
 
@@ -58,7 +58,7 @@ single_fault (arc ∷ arcs) after = None
 -- what is wrong with a piece at a capacity, by the arcs before it and the pieces after it: the first that applies
 abbrev pub piece_fault : RootRule → ℕ → List ℕ → List ℕ → List (List ℕ) → Option Error
 piece_fault rule capacity before piece after =
-    option_or (fault_if (nat_lt most_arc (number_of piece)) ArcTooBig)
+    option_or (fault_if (nat_lt max_arc (number_of piece)) ArcTooBig)
     (option_or (option_map (λ b. DigitExpected b) (find (λ b. not (is_ascii_digit b)) piece))
     (option_or (fault_if (is_empty piece) (empty_fault before after))
     (option_or (fault_if (is_one_empty after) TrailingDot)

@@ -4,10 +4,10 @@ ghost use Rattle.std.specs.Result.{result_err};
 ghost use Rattle.std.specs.Iterator.{YieldsFirst, item_count};
 ghost use Rattle.const_oid.specs.Base128.{value_of};
 ghost use Rattle.const_oid.specs.Identifier.{root_rule};
-ghost use Rattle.const_oid.specs.Contents.{cut, later_fault, parts_fault, most_first, arcs_from, arcs_of_octets};
+ghost use Rattle.const_oid.specs.Contents.{cut, later_fault, parts_fault, max_first, arcs_from, arcs_of_octets};
 
 use crate::error::{Error, Result};
-use crate::scan::behind;
+use crate::scan::skip_parts;
 use std::marker::Model;
 
 /// An arc: a number of a path, of 32 bits.
@@ -16,15 +16,15 @@ pub type Arc = u32;
 /// The arcs of an identifier that are left, in order; after the last there is none for ever.
 #[derive(Drop)]
 pub struct Arcs<'a> {
-    ahead: Ahead,
+    next: Next,
     octets: &'a [u8],
 }
 
 /// What comes next of the octets.
 #[derive(Clone, Copy)]
-enum Ahead {
+enum Next {
     /// The first subidentifier, which holds the first two arcs.
-    Root,
+    First,
     /// The second arc, and then later ones.
     Second(Arc),
     /// Later arcs, of which each is a subidentifier.
@@ -33,13 +33,13 @@ enum Ahead {
 
 impl<'a> Model for Arcs<'a> {
     ghost use Rattle.std.specs.Prelude.{◌≡◌, ℕ, List, None};
-    ghost use Rattle.const_oid.specs.Arcs.{arcs_ahead, fault_ahead};
+    ghost use Rattle.const_oid.specs.Arcs.{arcs_left, fault_left};
 
     ghost Value = { List ℕ };
 
-    ghost view = { λ arcs. arcs_ahead arcs.ahead arcs.octets.now };
+    ghost view = { λ arcs. arcs_left arcs.next arcs.octets.now };
 
-    ghost invariant = { λ arcs. fault_ahead arcs.ahead arcs.octets.now ≡ None };
+    ghost invariant = { λ arcs. fault_left arcs.next arcs.octets.now ≡ None };
 }
 
 impl<'a> Arcs<'a> {
@@ -49,7 +49,7 @@ impl<'a> Arcs<'a> {
         ensures { result ≡ arcs_of_octets octets.now }
     {
         Arcs {
-            ahead: Ahead::Root,
+            next: Next::First,
             octets,
         }
     }
@@ -63,19 +63,19 @@ impl Iterator for Arcs<'_> {
     ghost remaining = { item_count (λ arcs. arcs) };
 
     fn next(&mut self) -> Option<Arc> {
-        match self.ahead {
-            Ahead::Root => {
+        match self.next {
+            Next::First => {
                 let (root, later) = read_group(self.octets);
                 let (first, second) = split_root(root);
                 self.octets = later;
-                self.ahead = Ahead::Second(second);
+                self.next = Next::Second(second);
                 Some(first)
             }
-            Ahead::Second(arc) => {
-                self.ahead = Ahead::Later;
+            Next::Second(arc) => {
+                self.next = Next::Later;
                 Some(arc)
             }
-            Ahead::Later => {
+            Next::Later => {
                 if self.octets.is_empty() {
                     return None;
                 }
@@ -97,7 +97,7 @@ pub(crate) fn arc_at(octets: &[u8], index: usize) -> Option<Arc>
         let (first, second) = split_root(read_group(octets).0);
         return Some(if index == 0 { first } else { second });
     }
-    let rest = behind(octets, index - 1);
+    let rest = skip_parts(octets, index - 1);
     if rest.is_empty() {
         return None;
     }
@@ -108,7 +108,7 @@ pub(crate) fn arc_at(octets: &[u8], index: usize) -> Option<Arc>
 fn read_group(octets: &[u8]) -> (u64, &[u8])
     requires { parts_fault root_rule (cut octets.now) ≡ None }
     ensures numbers { map value_of (cut octets.now) ≡ result.0 ∷ map value_of (cut result.1.now) }
-    ensures small { result.0 ≤ most_first root_rule }
+    ensures small { result.0 ≤ max_first root_rule }
     ensures later { later_fault (cut result.1.now) ≡ None }
 {
     let mut number: u64 = 0;
@@ -123,7 +123,7 @@ fn read_group(octets: &[u8]) -> (u64, &[u8])
 
 /// The two arcs that the first subidentifier holds.
 fn split_root(root: u64) -> (Arc, Arc)
-    requires { root ≤ most_first root_rule }
+    requires { root ≤ max_first root_rule }
     ensures { (later : List ℕ) → arcs_from (root ∷ later) ≡ result.0 ∷ result.1 ∷ later }
 {
     if root < 80 {
@@ -134,7 +134,7 @@ fn split_root(root: u64) -> (Arc, Arc)
 }
 
 /// The greatest first subidentifier: of the first arc 2 and the greatest second arc.
-const MOST_FIRST: u64 = 2 * 40 + Arc::MAX as u64;
+const MAX_FIRST: u64 = 2 * 40 + Arc::MAX as u64;
 
 /// The fault of octets, whatever their number, if there is one.
 pub(crate) fn check(octets: &[u8]) -> Result<()>
@@ -144,7 +144,7 @@ pub(crate) fn check(octets: &[u8]) -> Result<()>
         return Err(Error::Empty);
     }
     let mut number: u64 = 0;
-    let mut limit = MOST_FIRST;
+    let mut limit = MAX_FIRST;
     let mut begun = false;
     for octet in octets {
         if !begun && *octet == 0x80 {

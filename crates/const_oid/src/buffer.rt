@@ -149,11 +149,11 @@ fn write_group(octets: &mut [u8], number: u64)
     ensures { IsGroup number octets.new }
 {
     let last = octets.len() - 1;
-    let (front, end) = octets.split_at_mut(last);
+    let (prefix, end) = octets.split_at_mut(last);
     let mut index = 0;
     while index < last {
         let digit = ((number >> (7 * (last - index))) & 0x7f) as u8;
-        front[index] = digit | 0x80;
+        prefix[index] = digit | 0x80;
         index += 1;
     }
     end[0] = (number & 0x7f) as u8;
@@ -189,11 +189,11 @@ impl<const SIZE: usize> PartialOrd for Buffer<SIZE> {
     ghost use Rattle.std.specs.Prelude.{Some};
     ghost use Rattle.std.specs.Cmp.{on_po};
     ghost use Rattle.const_oid.specs.Buffer.{octets_of};
-    ghost use Rattle.const_oid.specs.Orders.{short_cmp, short_cmp_po};
+    ghost use Rattle.const_oid.specs.Orders.{shortlex_cmp, shortlex_cmp_po};
 
-    ghost partial_cmp = { λ a b. Some (short_cmp (octets_of a) (octets_of b)) };
+    ghost partial_cmp = { λ a b. Some (shortlex_cmp (octets_of a) (octets_of b)) };
 
-    ghost laws = { on_po octets_of short_cmp_po };
+    ghost laws = { on_po octets_of shortlex_cmp_po };
 
     fn partial_cmp(&self, other: &Self) -> Option<Ordering> {
         Some(self.cmp(other))
@@ -204,18 +204,18 @@ impl<const SIZE: usize> Ord for Buffer<SIZE> {
     ghost use Rattle.std.specs.Prelude.{◌≡◌, refl};
     ghost use Rattle.std.specs.Cmp.{on_total};
     ghost use Rattle.const_oid.specs.Buffer.{octets_of};
-    ghost use Rattle.const_oid.specs.Orders.{short_cmp, short_cmp_total, short_cmp_ties};
+    ghost use Rattle.const_oid.specs.Orders.{shortlex_cmp, shortlex_cmp_total, shortlex_cmp_ties};
 
-    ghost cmp = { λ a b. short_cmp (octets_of a) (octets_of b) };
+    ghost cmp = { λ a b. shortlex_cmp (octets_of a) (octets_of b) };
 
-    ghost total = { on_total octets_of short_cmp_total };
+    ghost total = { on_total octets_of shortlex_cmp_total };
 
     ghost matches_partial_cmp = { λ a b. refl };
 
-    ghost matches_eq = { λ a b. short_cmp_ties (octets_of a) (octets_of b) };
+    ghost matches_eq = { λ a b. shortlex_cmp_ties (octets_of a) (octets_of b) };
 
     fn cmp(&self, other: &Self) -> Ordering
-        ensures { result ≡ short_cmp (octets_of self.now) (octets_of other.now) }
+        ensures { result ≡ shortlex_cmp (octets_of self.now) (octets_of other.now) }
     {
         match self.len().cmp(&other.len()) {
             Ordering::Equal => order(self.as_bytes(), other.as_bytes()),

@@ -5,7 +5,7 @@ ghost use Rattle.const_oid.specs.Text.{arc_text, pair_text};
 use crate::arcs::Arc;
 
 /// The most bytes that an arc takes in a text: a dot, and ten digits.
-pub(crate) const MOST_ARC_LEN: usize = 11;
+pub(crate) const MAX_ARC_LEN: usize = 11;
 
 /// How many bytes an arc takes in a text: its digits, and a dot before them unless it is the first.
 #[inline]
@@ -17,13 +17,13 @@ pub(crate) fn arc_len(arc: Arc, is_first: bool) -> usize
     if is_first { digits } else { digits + 1 }
 }
 
-/// Writes an arc at a place, behind a dot unless it is the first, and tells the place behind it.
+/// Writes an arc at a place, after a dot unless it is the first, and tells the place after it.
 #[inline]
 pub(crate) fn write_arc(arc: Arc, is_first: bool, out: &mut [u8], at: usize) -> usize
     requires { at + length (arc_text is_first arc) ≤ length out.old }
     ensures end { result ≡ at + length (arc_text is_first arc) }
-    ensures front { take result out.new ≡ take at out.old ++ arc_text is_first arc }
-    ensures behind { drop result out.new ≡ drop result out.old }
+    ensures prefix { take result out.new ≡ take at out.old ++ arc_text is_first arc }
+    ensures after { drop result out.new ≡ drop result out.old }
 {
     if is_first {
         return write_digits(arc, out, at);
@@ -55,13 +55,13 @@ fn count_digits(arc: Arc) -> usize
     }
 }
 
-/// Writes the digits of an arc at a place, the last of them first, and tells the place behind them.
+/// Writes the digits of an arc at a place, the last of them first, and tells the place after them.
 #[inline]
 fn write_digits(arc: Arc, out: &mut [u8], at: usize) -> usize
     requires { at + length (decimal arc) ≤ length out.old }
     ensures end { result ≡ at + length (decimal arc) }
-    ensures front { take result out.new ≡ take at out.old ++ decimal arc }
-    ensures behind { drop result out.new ≡ drop result out.old }
+    ensures prefix { take result out.new ≡ take at out.old ++ decimal arc }
+    ensures after { drop result out.new ≡ drop result out.old }
 {
     if arc < 10 {
         out[at] = b'0' + arc as u8;
@@ -88,7 +88,7 @@ fn write_digits(arc: Arc, out: &mut [u8], at: usize) -> usize
 fn write_pair(pair: u32, out: &mut [u8], at: usize)
     requires { (pair < 100) × (at + 2 ≤ length out.old) }
     ensures written { drop at out.new ≡ pair_text pair ++ drop (at + 2) out.old }
-    ensures front { take at out.new ≡ take at out.old }
+    ensures prefix { take at out.new ≡ take at out.old }
 {
     let from = pair as usize * 2;
     let (tens, ones) = (PAIRS[from], PAIRS[from + 1]);

@@ -2,8 +2,8 @@
 
 ghost use Rattle.std.specs.Prelude.{◌≡◌, ◌≤◌, ℕ, List, [], ◌∷◌, ◌++◌, min, ◌↔◌, IsTrue, IfOk, OnOk, OnErr};
 ghost use Rattle.std.specs.Result.{result_err};
-ghost use Rattle.const_oid.specs.Identifier.{root_rule, IsEncoding, most_second};
-ghost use Rattle.const_oid.specs.Items.{arc_fault, few_fault, TakesItems};
+ghost use Rattle.const_oid.specs.Identifier.{root_rule, IsEncoding, max_second};
+ghost use Rattle.const_oid.specs.Items.{arc_fault, too_few_fault, TakesItems};
 ghost use Rattle.const_oid.specs.Contents.{arcs_of_octets};
 ghost use Rattle.std.specs.Iterator.{IsFiniteIterable};
 ghost use Rattle.const_oid.specs.Buffer.{octets_of, buffer_answer};
@@ -59,7 +59,7 @@ impl<const SIZE: usize> Encoder<SIZE> {
     }
 
     /// Whether no arc was given.
-    pub(crate) const fn is_new(&self) -> bool
+    pub(crate) const fn is_empty(&self) -> bool
         ensures { IsTrue result ↔ (self.now ≡ []) }
     {
         matches!(self.state, State::Initial)
@@ -81,7 +81,7 @@ impl<const SIZE: usize> Encoder<SIZE> {
                 return Ok(());
             }
             State::FirstArc(first) => {
-                if arc > greatest_second(first) {
+                if arc > max_second(first) {
                     return Err(Error::ArcInvalid { arc });
                 }
                 40 * first as u64 + arc as u64
@@ -97,7 +97,7 @@ impl<const SIZE: usize> Encoder<SIZE> {
 
     /// The encoding of the arcs given, which are two or more.
     pub(crate) fn finish(self) -> Result<Buffer<SIZE>>
-        ensures fault { result_err result ≡ few_fault self.entry }
+        ensures fault { result_err result ≡ too_few_fault self.entry }
         ensures encoding { IfOk result (λ octets. IsEncoding root_rule self.entry (octets_of octets)) }
     {
         match self.state {
@@ -145,8 +145,8 @@ where
 }
 
 /// The greatest second arc under a first arc (X.660): 39 under 0 and 1, any of 32 bits under 2.
-const fn greatest_second(first: Arc) -> Arc
-    ensures { result ≡ most_second root_rule first }
+const fn max_second(first: Arc) -> Arc
+    ensures { result ≡ max_second root_rule first }
 {
     if first < 2 { 39 } else { Arc::MAX }
 }

@@ -13,14 +13,14 @@ ghost use Rattle.const_oid.specs.Items.{arc_fault, item_fault, item_answer};
 ghost use Rattle.const_oid.specs.declared.error.Error.TheVariants.{ArcInvalid, ArcTooBig, Base128, DigitExpected, Empty, Length, Overflow, TrailingDot};
 ghost use Rattle.const_oid.specs.Base128.{AreOctets, value_of, IsGroup, IsWidth, group_of, width};
 ghost use Rattle.const_oid.specs.Contents.{cut, octet_fault, octet_answer, arcs_of_octets, arcs_from};
-ghost use Rattle.const_oid.specs.Identifier.{RootRule, Narrow, Wide, root_rule, most_arc, most_second, IsIdentifier, IsEncoding, encoding_of, size};
-ghost use Rattle.const_oid.specs.Orders.{short_cmp};
+ghost use Rattle.const_oid.specs.Identifier.{RootRule, Narrow, Wide, root_rule, max_arc, max_second, IsIdentifier, IsEncoding, encoding_of, size};
+ghost use Rattle.const_oid.specs.Orders.{shortlex_cmp};
 ghost use Rattle.const_oid.specs.Text.{text_fault, text_answer, text_of, pieces_of, number_of, Denotes, strip};
 ghost use Rattle.const_oid.specs.Tree.{BeginsWith, child_of, parent_of};
 ghost use Rattle.const_oid.specs.Wider.{IsPastNarrow, RefusesSecond};
 
 /// Worked rows, which the definitions compute: under the rule that is kept, the last one apart.
-pub fn worked_rows()
+pub fn examples()
     ensures read { arcs_of_octets (0x2A ∷ 0x86 ∷ 0x48 ∷ 0xCE ∷ 0x3D ∷ 2 ∷ 1 ∷ [])
         ≡ 1 ∷ 2 ∷ 840 ∷ 10045 ∷ 2 ∷ 1 ∷ [] }
     ensures two_octets { octet_answer root_rule (0x88 ∷ 0x37 ∷ []) 39 ≡ Ok (2 ∷ 999 ∷ []) }
@@ -95,11 +95,11 @@ pub fn one_encoding()
 pub fn second_fits()
     ensures { (rule : RootRule) (capacity first second : ℕ) → 5 ≤ capacity → first ≤ 2
         → arc_fault rule capacity (first ∷ []) second
-        ≡ fault_if (nat_lt (most_second rule first) second) (ArcInvalid second) }
+        ≡ fault_if (nat_lt (max_second rule first) second) (ArcInvalid second) }
 {}
 
 /// An encoding begins another exactly where its arcs begin the other's.
-pub fn fronts()
+pub fn prefixes()
     ensures { (rule : RootRule) (p x a b : List ℕ) → IsEncoding rule p a → IsEncoding rule x b
         → BeginsWith b a ↔ BeginsWith x p }
 {}
@@ -113,13 +113,13 @@ pub fn siblings()
         → length x ≡ length y → slice_cmp nat_cmp x y ≡ nat_cmp m n }
     ensures short { (rule : RootRule) (parent : List ℕ) (m n : ℕ) (x y : List ℕ)
         → IsEncoding rule (parent ++ m ∷ []) x → IsEncoding rule (parent ++ n ∷ []) y
-        → short_cmp x y ≡ nat_cmp m n }
+        → shortlex_cmp x y ≡ nat_cmp m n }
 {}
 
 /// Encodings stand in the order of their parts, of which a shorter one is first, as their arcs do.
 pub fn order_of_arcs()
     ensures { (rule : RootRule) (p x a b : List ℕ) → IsEncoding rule p a → IsEncoding rule x b
-        → slice_cmp short_cmp (cut a) (cut b) ≡ slice_cmp nat_cmp p x }
+        → slice_cmp shortlex_cmp (cut a) (cut b) ≡ slice_cmp nat_cmp p x }
 {}
 
 /// Equal arcs, equal encodings and equal printed texts are one.
@@ -151,7 +151,7 @@ pub fn items_denote()
     ensures fits { (rule : RootRule) (capacity : ℕ) (arcs : List ℕ) → IsIdentifier rule arcs → size arcs ≤ capacity
         → item_fault rule arcs capacity ≡ None }
     ensures accepted { (rule : RootRule) (capacity : ℕ) (items : List ℕ)
-        → AllByRecursion (λ n. n ≤ most_arc) items → item_fault rule items capacity ≡ None
+        → AllByRecursion (λ n. n ≤ max_arc) items → item_fault rule items capacity ≡ None
         → IsIdentifier rule items × (size items ≤ capacity) }
 {}
 
@@ -178,7 +178,7 @@ pub fn wide_keeps()
         → IsEncoding Wide arcs octets }
     ensures denoted { (text arcs : List ℕ) → Denotes Narrow text arcs → Denotes Wide text arcs }
     ensures short_order { (a b v w x y : List ℕ) → IsEncoding Narrow a v → IsEncoding Narrow b w
-        → IsEncoding Wide a x → IsEncoding Wide b y → short_cmp x y ≡ short_cmp v w }
+        → IsEncoding Wide a x → IsEncoding Wide b y → shortlex_cmp x y ≡ shortlex_cmp v w }
     ensures list_order { (a b v w x y : List ℕ) → IsEncoding Narrow a v → IsEncoding Narrow b w
         → IsEncoding Wide a x → IsEncoding Wide b y
         → slice_cmp nat_cmp x y ≡ slice_cmp nat_cmp v w }
@@ -194,7 +194,7 @@ pub fn wide_adds()
     ensures texts { (text : List ℕ) (capacity : ℕ)
         → (text_fault Wide text capacity ≡ None) × (text_fault Narrow text capacity ≢ None)
         ↔ ((arcs : List ℕ) × Denotes Wide text arcs × IsPastNarrow arcs × (size arcs ≤ capacity)) }
-    ensures items { (items : List ℕ) (capacity : ℕ) → AllByRecursion (λ n. n ≤ most_arc) items
+    ensures items { (items : List ℕ) (capacity : ℕ) → AllByRecursion (λ n. n ≤ max_arc) items
         → (item_fault Wide items capacity ≡ None) × (item_fault Narrow items capacity ≢ None)
         ↔ (IsIdentifier Wide items × IsPastNarrow items × (size items ≤ capacity)) }
 {}
@@ -236,7 +236,7 @@ pub fn parts()
 /// is the one that it was made of, and a parent has the one that it came from as a child.
 pub fn tree()
     ensures child { (rule : RootRule) (arcs octets : List ℕ) (arc : ℕ) (group : List ℕ)
-        → IsEncoding rule arcs octets → arc ≤ most_arc → IsGroup arc group
+        → IsEncoding rule arcs octets → arc ≤ max_arc → IsGroup arc group
         → IsEncoding rule (arcs ++ arc ∷ []) (octets ++ group) }
     ensures parent { (rule : RootRule) (arcs octets : List ℕ) (arc : ℕ) → IsIdentifier rule arcs
         → IsEncoding rule (arcs ++ arc ∷ []) octets
@@ -245,7 +245,7 @@ pub fn tree()
         → parent_of (child_of arcs arc) ≡ Some arcs }
     ensures again { (rule : RootRule) (arcs parent : List ℕ) → IsIdentifier rule arcs
         → parent_of arcs ≡ Some parent
-        → IsIdentifier rule parent × (last : ℕ) × (last ≤ most_arc) × (child_of parent last ≡ arcs) }
+        → IsIdentifier rule parent × (last : ℕ) × (last ≤ max_arc) × (child_of parent last ≡ arcs) }
     ensures octets { (rule : RootRule) (arcs parent octets : List ℕ) → IsEncoding rule arcs octets
         → parent_of arcs ≡ Some parent
         → let parts = cut octets in IsEncoding rule parent (concat (take (length parts - 1) parts)) }
@@ -259,11 +259,11 @@ pub fn printed_length()
         → length (text_of arcs) ≤ 4 * length octets }
 {}
 
-/// Descendants stand together behind their ancestor in list order, and behind it where shorter
+/// Descendants stand together after their ancestor in list order, and after it where shorter
 /// encodings stand first.
 pub fn ranges()
     ensures short { (rule : RootRule) (p x a b : List ℕ) → IsEncoding rule p a
-        → IsEncoding rule x b → BeginsWith x p → length p < length x → short_cmp a b ≡ Less }
+        → IsEncoding rule x b → BeginsWith x p → length p < length x → shortlex_cmp a b ≡ Less }
     ensures before { (rule : RootRule) (p x a b : List ℕ) → IsEncoding rule p a
         → IsEncoding rule x b → BeginsWith x p → length p < length x
         → slice_cmp nat_cmp a b ≡ Less }

@@ -12,9 +12,9 @@ pub mod oid;
 pub mod oid_ref;
 mod parser;
 mod scan;
-mod sound;
 mod text;
 pub mod traits;
+mod valid;
 
 pub use arcs::{Arc, Arcs};
 pub use buffer::Buffer;

@@ -27,7 +27,7 @@ use std::str::FromStr;
 #[derive(Copy, Clone, Eq, PartialOrd, Hash)]
 pub struct ObjectIdentifier<const MAX_SIZE: usize> {
     ber: Buffer<MAX_SIZE>,
-    ghost sound: { parts_fault root_rule (cut (octets_of ber)) ≡ None },
+    ghost valid: { parts_fault root_rule (cut (octets_of ber)) ≡ None },
 }
 
 impl ObjectIdentifier<39> {
@@ -43,7 +43,7 @@ impl ObjectIdentifier<39> {
     /// - [`Error::DigitExpected`]: it has another byte than a digit, or it is empty and the first of several;
     /// - [`Error::RepeatedDot`] or [`Error::TrailingDot`]: it is empty, and not the first one;
     /// - [`Error::TrailingDot`]: an empty last piece follows it;
-    /// - [`Error::ArcInvalid`]: it is the first one and past 2, or the second, past 39 and behind 0 or 1 (X.660);
+    /// - [`Error::ArcInvalid`]: it is the first one and past 2, or the second, past 39 and after 0 or 1 (X.660);
     /// - [`Error::Length`]: the arcs up to it take more than 39 octets (X.690, 8.19);
     /// - [`Error::Empty`]: it is the only one.
     pub fn new(s: &str) -> Result<Self>
@@ -67,7 +67,7 @@ impl ObjectIdentifier<39> {
     /// Encodes the arcs that an iterator gives. The first of these that applies is the error:
     ///
     /// - of the first item with a fault, [`Error::ArcInvalid`] of it where it is past 2 as the first
-    ///   arc, or past 39 as the second behind 0 or 1, or [`Error::Length`] where the encoding up to it
+    ///   arc, or past 39 as the second after 0 or 1, or [`Error::Length`] where the encoding up to it
     ///   is longer than 39 octets;
     /// - [`Error::Empty`]: there are fewer than two items.
     ///
@@ -281,18 +281,18 @@ impl<const MAX_SIZE: usize> Ord for ObjectIdentifier<MAX_SIZE> {
     ghost use Rattle.std.specs.Prelude.{refl};
     ghost use Rattle.std.specs.Cmp.{on_total};
     ghost use Rattle.const_oid.specs.Oid.{oid_octets};
-    ghost use Rattle.const_oid.specs.Orders.{short_cmp, short_cmp_total, short_cmp_ties};
+    ghost use Rattle.const_oid.specs.Orders.{shortlex_cmp, shortlex_cmp_total, shortlex_cmp_ties};
 
-    ghost cmp = { λ a b. short_cmp (oid_octets a) (oid_octets b) };
+    ghost cmp = { λ a b. shortlex_cmp (oid_octets a) (oid_octets b) };
 
-    ghost total = { on_total oid_octets short_cmp_total };
+    ghost total = { on_total oid_octets shortlex_cmp_total };
 
     ghost matches_partial_cmp = { λ a b. refl };
 
-    ghost matches_eq = { λ a b. short_cmp_ties (oid_octets a) (oid_octets b) };
+    ghost matches_eq = { λ a b. shortlex_cmp_ties (oid_octets a) (oid_octets b) };
 
     fn cmp(&self, other: &Self) -> Ordering
-        ensures { result ≡ short_cmp (oid_octets self.now) (oid_octets other.now) }
+        ensures { result ≡ shortlex_cmp (oid_octets self.now) (oid_octets other.now) }
     {
         self.ber.cmp(&other.ber)
     }

@@ -11,12 +11,12 @@ ghost use Rattle.const_oid.specs.Identifier.{root_rule, IsEncoding};
 ghost use Rattle.const_oid.specs.Text.{text_of};
 
 use crate::arcs::{Arc, Arcs, arc_at};
-use crate::digits::{MOST_ARC_LEN, write_arc};
+use crate::digits::{MAX_ARC_LEN, write_arc};
 use crate::error::{Error, Result};
 use crate::oid::ObjectIdentifier;
-use crate::scan::{before_last, begins_with, count_last, order, order_by_parts};
-use crate::sound::check;
+use crate::scan::{begins_with, count_parts, order, order_by_parts, without_last_part};
 use crate::text::{ascii, text_len, write_text};
+use crate::valid::check;
 use std::cmp::Ordering;
 use std::fmt;
 
@@ -28,7 +28,7 @@ pub struct ObjectIdentifierRef<'a> {
     /// The contents octets, which have no fault: where a literal stands here, the checker reads it.
     pub ber: &'a [u8],
     ghost octets: { AreOctets ber.now } by { Prim.hlevel props },
-    ghost sound: { parts_fault root_rule (cut ber.now) ≡ None },
+    ghost valid: { parts_fault root_rule (cut ber.now) ≡ None },
 }
 
 impl<'a> ObjectIdentifierRef<'a> {
@@ -90,7 +90,7 @@ impl<'a> ObjectIdentifierRef<'a> {
     pub fn len(&self) -> usize
         ensures { result ≡ length (ref_arcs self.now) }
     {
-        count_last(self.ber) + 1
+        count_parts(self.ber) + 1
     }
 
     /// The length of the text that `{}` writes, or `usize::MAX` where it is past that.
@@ -100,7 +100,7 @@ impl<'a> ObjectIdentifierRef<'a> {
         text_len(self.arcs(), usize::MAX).unwrap_or(usize::MAX)
     }
 
-    /// Writes the text that `{}` writes at the front of `out`, and tells its length. `None` where it
+    /// Writes the text that `{}` writes at the prefix of `out`, and tells its length. `None` where it
     /// is longer than `out`, which then stays as it was.
     pub fn encode_text(&self, out: &mut [u8]) -> Option<usize>
         ensures cases { MatchOption result (length out.old < length (text_of (ref_arcs self.now))) (λ len. len ≡ length (text_of (ref_arcs self.now))) }
@@ -122,16 +122,16 @@ impl<'a> ObjectIdentifierRef<'a> {
         self.as_bytes() == other.as_bytes()
     }
 
-    /// The identifier of all arcs but the last, over the front of the caller's octets, or `None` of two arcs.
+    /// The identifier of all arcs but the last, over the prefix of the caller's octets, or `None` of two arcs.
     pub fn parent(&self) -> Option<ObjectIdentifierRef<'a>>
         ensures arcs { option_map ref_arcs result ≡ parent_of (ref_arcs self.now) }
-        ensures front { IfSome result (λ oid. BeginsWith (ref_octets self.now) (ref_octets oid)) }
+        ensures prefix { IfSome result (λ oid. BeginsWith (ref_octets self.now) (ref_octets oid)) }
     {
-        let front = before_last(self.ber);
-        if front.is_empty() {
+        let prefix = without_last_part(self.ber);
+        if prefix.is_empty() {
             return None;
         }
-        Some(ObjectIdentifierRef::from_checked(front))
+        Some(ObjectIdentifierRef::from_checked(prefix))
     }
 
     /// Whether the arcs begin with all those of another identifier, which may be all of these.
@@ -142,7 +142,7 @@ impl<'a> ObjectIdentifierRef<'a> {
         begins_with(self.ber, other.ber)
     }
 
-    /// The order of the arcs, a front before what begins with it, as SNMP orders names (RFC 3416).
+    /// The order of the arcs, a prefix before what begins with it, as SNMP orders names (RFC 3416).
     pub fn cmp_arcs(&self, other: &ObjectIdentifierRef<'_>) -> Ordering
         ensures { result ≡ slice_cmp nat_cmp (ref_arcs self.now) (ref_arcs other.now) }
     {
@@ -184,7 +184,7 @@ impl fmt::Display for ObjectIdentifierRef<'_> {
             None => 0,
         };
         for arc in arcs {
-            if used > PIECE - MOST_ARC_LEN {
+            if used > PIECE - MAX_ARC_LEN {
                 f.write_str(ascii(&bytes[..used]))?;
                 used = 0;
             }
@@ -239,7 +239,7 @@ impl PartialOrd for ObjectIdentifierRef<'_> {
     }
 }
 
-/// The octets in list order, a front before what begins with it.
+/// The octets in list order, a prefix before what begins with it.
 impl Ord for ObjectIdentifierRef<'_> {
     ghost use Rattle.std.specs.Prelude.{refl};
     ghost use Rattle.std.specs.Ordering.{nat_cmp};

@@ -93,7 +93,7 @@ fn end_piece<const SIZE: usize>(
     ensures given { OnOk result (encoder.new ≡ encoder.old ++ unwrap_or number 0 ∷ []) }
 {
     match number {
-        None if encoder.is_new() => Err(Error::DigitExpected { actual: b'.' }),
+        None if encoder.is_empty() => Err(Error::DigitExpected { actual: b'.' }),
         None => Err(Error::RepeatedDot),
         Some(_) if text_ends => Err(Error::TrailingDot),
         Some(arc) => encoder.arc(arc),
@@ -106,7 +106,7 @@ fn end_text<const SIZE: usize>(encoder: &mut Encoder<SIZE>, number: Option<Arc>)
     ensures given { OnOk result (encoder.new ≡ encoder.old ++ unwrap_or number 0 ∷ []) }
 {
     match number {
-        None if encoder.is_new() => Err(Error::Empty),
+        None if encoder.is_empty() => Err(Error::Empty),
         None => Err(Error::TrailingDot),
         Some(arc) => encoder.arc(arc),
     }

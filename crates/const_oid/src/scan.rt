@@ -11,16 +11,16 @@ use std::simd::prelude::*;
 use std::simd::u8x32;
 
 /// How many octets are below 128, counted 32 at a time.
-pub(crate) fn count_last(octets: &[u8]) -> usize
+pub(crate) fn count_parts(octets: &[u8]) -> usize
     ensures value { result ≡ count_by (λ x. nat_lt x 128) octets.now }
     ensures fits { result ≤ length octets.now }
 {
     let mut count = 0;
     let mut rest = octets;
     while rest.len() >= 32 {
-        let (lanes, behind) = rest.split_at(32);
+        let (lanes, after) = rest.split_at(32);
         count += count_lanes(lanes);
-        rest = behind;
+        rest = after;
     }
     count + rest.iter().filter(|octet| **octet < 128).count()
 }
@@ -36,9 +36,9 @@ fn count_lanes(octets: &[u8]) -> usize
     lanes.to_bitmask().count_ones() as usize
 }
 
-/// The octets behind so many parts: where the next one begins, and those before it end.
+/// The octets after so many parts: where the next one begins, and those before it end.
 #[inline(always)]
-pub(crate) fn behind(octets: &[u8], parts: usize) -> &[u8]
+pub(crate) fn skip_parts(octets: &[u8], parts: usize) -> &[u8]
     ensures { cut result.now ≡ drop parts (cut octets.now) }
 {
     let mut left = parts;
@@ -52,35 +52,35 @@ pub(crate) fn behind(octets: &[u8], parts: usize) -> &[u8]
 }
 
 /// The octets before the last part: up to the last octet below 128 that others follow.
-pub(crate) fn before_last(octets: &[u8]) -> &[u8]
+pub(crate) fn without_last_part(octets: &[u8]) -> &[u8]
     ensures parts { let parts = cut octets.now in cut result.now ≡ take (length parts - 1) parts }
     ensures short { length result.now ≤ length octets.now }
 {
-    let Some((_, front)) = octets.split_last() else {
+    let Some((_, prefix)) = octets.split_last() else {
         return octets;
     };
-    match front.iter().rposition(|octet| *octet < 128) {
-        Some(index) => &front[..index + 1],
-        None => &front[..0],
+    match prefix.iter().rposition(|octet| *octet < 128) {
+        Some(index) => &prefix[..index + 1],
+        None => &prefix[..0],
     }
 }
 
 /// Whether octets begin with others: the last of these first, since most pairs differ there.
 #[inline(always)]
-pub(crate) fn begins_with(octets: &[u8], front: &[u8]) -> bool
-    ensures { IsTrue result ↔ ((rest : List ℕ) × (octets.now ≡ front.now ++ rest)) }
+pub(crate) fn begins_with(octets: &[u8], prefix: &[u8]) -> bool
+    ensures { IsTrue result ↔ ((rest : List ℕ) × (octets.now ≡ prefix.now ++ rest)) }
 {
-    let count = front.len();
+    let count = prefix.len();
     if count > octets.len() {
         return false;
     }
-    let Some((last, front)) = front.split_last() else {
+    let Some((last, prefix)) = prefix.split_last() else {
         return true;
     };
     if octets[count - 1] != *last {
         return false;
     }
-    are_equal(front, &octets[..count - 1])
+    are_equal(prefix, &octets[..count - 1])
 }
 
 /// Whether as many octets are the same: the first eight one by one, which costs short pairs no call.

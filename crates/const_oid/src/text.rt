@@ -22,7 +22,7 @@ pub(crate) fn text_len(arcs: Arcs<'_>, limit: usize) -> Option<usize>
     Some(limit - room)
 }
 
-/// Writes the arcs' text at the front, and tells its length.
+/// Writes the arcs' text at the prefix, and tells its length.
 pub(crate) fn write_text(arcs: Arcs<'_>, out: &mut [u8]) -> usize
     requires { length (text_of arcs) ≤ length out.old }
     ensures len { result ≡ length (text_of arcs.entry) }

@@ -1,4 +1,4 @@
--- Where those stand in a list that does not descend which begin with a front.
+-- Where those stand in a list that does not descend which begin with a prefix.
 use Rattle.std.proofs.Common.{◌≡◌, ℕ, zero, suc, ◌+◌, ◌<◌, ◌≤◌, Bool, true, false, cond, ◌||◌, List, [], ◌∷◌, count_by, refl, ◌∙◌, zero-add, arith, nat_cmp}
 use Rattle.std.specs.Prelude.{◌↔◌, IfSome, slice_get, Option, Some, None, Result, Ok, Err, if◌then◌else◌}
 use Rattle.std.specs.Cmp.Lexicographic.{slice_cmp}
@@ -34,7 +34,7 @@ at_later Q k false false cp cb n m e f g h apart told =
     (λ q. let (low, high) = told.0 q in absurd (omega (arith, g refl, h refl refl)), λ (low, high). absurd (omega (arith, g refl, h refl refl)))
 
 module _ {X : Type 0} (p b : X → Bool) where
-  -- behind what does not pass p nothing does, and behind what passes neither nothing passes b
+  -- after what does not pass p nothing does, and after what passes neither nothing passes b
   abbrev AreCut : List X → Type 0
   AreCut [] = Unit {0}
   AreCut (x ∷ xs) = (p x ≡ false → count_by p xs ≡ 0) × (p x ≡ false → b x ≡ false → count_by b xs ≡ 0) × (b x ≡ true → p x ≡ false) × AreCut xs
@@ -69,27 +69,27 @@ right_false false b e = e
 both_false : (a b : Bool) → a ≡ false → b ≡ false → (a || b) ≡ false
 both_false a b e f = rw (e, f) refl
 
-module _ (front : List ℕ) where
+module _ (prefix : List ℕ) where
   abbrev pub item_before : Octets → Bool
-  item_before item = is_before front (octets_at item)
+  item_before item = is_before prefix (octets_at item)
 
   abbrev pub item_under : Octets → Bool
-  item_under item = is_under front (octets_at item)
+  item_under item = is_under prefix (octets_at item)
 
-  none_before : (items : List Octets) (place : ℕ) (x : List ℕ) → is_before front x ≡ false → list_refusal place x items ≡ None → count_by item_before items ≡ 0
+  none_before : (items : List Octets) (place : ℕ) (x : List ℕ) → is_before prefix x ≡ false → list_refusal place x items ≡ None → count_by item_before items ≡ 0
   none_before [] place x late e = refl
   none_before (item ∷ items) place x late e =
       let (fine, rest) = neither (item_refusal place x (octets_at item)) (list_refusal (place + 1) (octets_at item) items) e in
       let up = level place x (octets_at item) (arcs_read (octets_at item)) fine in
-      let here : item_before item ≡ false = false_from_ne_true (item_before item) (λ t. cc (late, before_down front x (octets_at item) up t)) in
+      let here : item_before item ≡ false = false_from_ne_true (item_before item) (λ t. cc (late, before_down prefix x (octets_at item) up t)) in
       sum_by-cons (λ y. cond (item_before y) 1 0) item items ∙ rw (here, zero-add) (none_before items (place + 1) (octets_at item) here rest)
 
-  none_under : (items : List Octets) (place : ℕ) (x : List ℕ) → is_within front x ≡ false → list_refusal place x items ≡ None → count_by item_under items ≡ 0
+  none_under : (items : List Octets) (place : ℕ) (x : List ℕ) → is_within prefix x ≡ false → list_refusal place x items ≡ None → count_by item_under items ≡ 0
   none_under [] place x late e = refl
   none_under (item ∷ items) place x late e =
       let (fine, rest) = neither (item_refusal place x (octets_at item)) (list_refusal (place + 1) (octets_at item) items) e in
       let up = level place x (octets_at item) (arcs_read (octets_at item)) fine in
-      let here : is_within front (octets_at item) ≡ false = false_from_ne_true (is_within front (octets_at item)) (λ t. cc (late, within_down front x (octets_at item) up t)) in
+      let here : is_within prefix (octets_at item) ≡ false = false_from_ne_true (is_within prefix (octets_at item)) (λ t. cc (late, within_down prefix x (octets_at item) up t)) in
       let under : item_under item ≡ false = right_false (item_before item) (item_under item) here in
       sum_by-cons (λ y. cond (item_under y) 1 0) item items ∙ rw (under, zero-add) (none_under items (place + 1) (octets_at item) here rest)
 
@@ -99,15 +99,15 @@ module _ (front : List ℕ) where
       let (fine, rest) = neither (item_refusal place x (octets_at item)) (list_refusal (place + 1) (octets_at item) items) e in (
         λ late. none_before items (place + 1) (octets_at item) late rest,
         λ late apart. none_under items (place + 1) (octets_at item) (both_false (item_before item) (item_under item) late apart) rest,
-        λ under. under_apart front (octets_at item) under,
+        λ under. under_apart prefix (octets_at item) under,
         are_cut items (place + 1) (octets_at item) rest,
       )
 
-  -- what begins with the front stands behind what is before it
-  pub listed_places : (items : List Octets) → list_refusal 0 [] items ≡ None → (from to : ℕ) → from ≡ count_by item_before items → to ≡ from + count_by item_under items → (k : ℕ) → IfSome (slice_get items k) (λ item. BeginsWith (octets_at item) front ↔ ((from ≤ k) × (k < to)))
+  -- what begins with the prefix stands after what is before it
+  pub listed_places : (items : List Octets) → list_refusal 0 [] items ≡ None → (from to : ℕ) → from ≡ count_by item_before items → to ≡ from + count_by item_under items → (k : ℕ) → IfSome (slice_get items k) (λ item. BeginsWith (octets_at item) prefix ↔ ((from ≤ k) × (k < to)))
   listed_places items e from to f g k =
       if_some_map (slice_get items k) _ _
       (λ item told.
-      let (one, other) = under_told front (octets_at item) in
+      let (one, other) = under_told prefix (octets_at item) in
       (λ begins. rw g (told.0 (other begins)), λ inside. one (told.1 (rw g at inside))))
       (cut_places item_before item_under items (are_cut items 0 [] e) from (count_by item_under items) f refl k)

@@ -35,12 +35,12 @@ counted shown known t u zero h =
 -- ---- put into the slice
 
 extends_none : (t : Target) → Extends t [] t
-extends_none t = record { same = refl; front = sym (append-nil (take t.used t.room.now)); back = refl }
+extends_none t = record { same = refl; prefix = sym (append-nil (take t.used t.room.now)); back = refl }
 
 extends_more : (t u v : Target) (bs cs : List ℕ) → Extends t bs u → Extends u cs v → Extends t (bs ++ cs) v
 extends_more t u v bs cs a b = record {
   same = b.same ∙ a.same;
-  front = b.front ∙ ap (λ x. x ++ cs) a.front ∙ append_assoc (take t.used t.room.now) bs cs;
+  prefix = b.prefix ∙ ap (λ x. x ++ cs) a.prefix ∙ append_assoc (take t.used t.room.now) bs cs;
   back = b.back ∙ ap (drop (length cs)) a.back ∙ rw length-append (drop-drop (length cs) (length bs) (drop t.used t.room.now));
 }
 
@@ -49,17 +49,17 @@ extended shown known t u h = after_calls Extends Extends extends_none extends_mo
 
 extended_by : (t : Target) (bs : List ℕ) (u : Target) → u.room.ghost_name ≡ t.room.ghost_name → u.used ≡ t.used + length bs → t.used ≤ length t.room.now → u.room.now ≡ take t.used t.room.now ++ (bs ++ drop u.used t.room.now) → Extends t bs u
 extended_by t bs u same used within held =
-    let front = take t.used t.room.now ++ bs in
-    let behind = drop u.used t.room.now in
-    let all : u.room.now ≡ front ++ behind = held ∙ sym (append_assoc (take t.used t.room.now) bs behind) in
-    let long : length front ≡ u.used = omega (arith, length-append (take t.used t.room.now) bs, length-take-le t.used t.room.now within) in
+    let prefix = take t.used t.room.now ++ bs in
+    let after = drop u.used t.room.now in
+    let all : u.room.now ≡ prefix ++ after = held ∙ sym (append_assoc (take t.used t.room.now) bs after) in
+    let long : length prefix ≡ u.used = omega (arith, length-append (take t.used t.room.now) bs, length-take-le t.used t.room.now within) in
     record {
       same = same;
-      front = ap (take u.used) all ∙ take_at front behind u.used long;
-      back = ap (drop u.used) all ∙ drop_at front behind u.used long ∙ ap (λ n. drop n t.room.now) used ∙ sym (drop-drop (length bs) t.used t.room.now);
+      prefix = ap (take u.used) all ∙ take_at prefix after u.used long;
+      back = ap (drop u.used) all ∙ drop_at prefix after u.used long ∙ ap (λ n. drop n t.room.now) used ∙ sym (drop-drop (length bs) t.used t.room.now);
     }
 
--- bytes that are put behind those that were printed
-pub put_behind : {T E : Type 0} (r : Result T E) (t : Target) (bs : List ℕ) (u : Target) → u.room.ghost_name ≡ t.room.ghost_name → OnOk r (u.used ≡ t.used + length bs) → OnOk r (t.used ≤ length t.room.now) → OnOk r (u.room.now ≡ take t.used t.room.now ++ (bs ++ drop u.used t.room.now)) → IsOk r → Extends t bs u
-put_behind (Ok x) t bs u same used within held ok = extended_by t bs u same used within held
-put_behind (Err x) t bs u same used within held ok = cc
+-- bytes that are put after those that were printed
+pub put_after : {T E : Type 0} (r : Result T E) (t : Target) (bs : List ℕ) (u : Target) → u.room.ghost_name ≡ t.room.ghost_name → OnOk r (u.used ≡ t.used + length bs) → OnOk r (t.used ≤ length t.room.now) → OnOk r (u.room.now ≡ take t.used t.room.now ++ (bs ++ drop u.used t.room.now)) → IsOk r → Extends t bs u
+put_after (Ok x) t bs u same used within held ok = extended_by t bs u same used within held
+put_after (Err x) t bs u same used within held ok = cc

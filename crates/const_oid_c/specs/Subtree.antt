@@ -13,7 +13,7 @@ use Rattle.const_oid_c.specs.Answers.{arcs_read}
 abbrev pub octets_at : Octets → List ℕ
 octets_at item = item.octets.now
 
--- what is wrong with octets at a place that is told as the length, behind those before: their fault, or that they stand before those
+-- what is wrong with octets at a place that is told as the length, after those before: their fault, or that they stand before those
 abbrev pub read_refusal : ℕ → List ℕ → List ℕ → Result (List ℕ) Error → Option Status
 read_refusal place before octets (Ok arcs) = if is_lt (slice_cmp nat_cmp octets before) then Some (record { code = 13; detail = 0; len = place }) else None
 read_refusal place before octets (Err fault) = Some (record (fault_status fault) { len = place })

@@ -72,7 +72,7 @@ pub extern "C" fn const_oid_arcs(octets: &[u8], out: &mut [u32]) -> Status
     done(len)
 }
 
-/// Writes arcs to the front of the caller's slice, which has room for them.
+/// Writes arcs to the prefix of the caller's slice, which has room for them.
 fn fill(arcs: Arcs<'_>, out: &mut [u32])
     requires { length arcs ≤ length out.old }
     ensures { out.new ≡ arcs.entry ++ drop (length arcs.entry) out.old }

@@ -2,7 +2,7 @@
 ghost use Rattle.std.specs.Prelude.{◌≡◌};
 ghost use Rattle.std.specs.Cmp.Lexicographic.{slice_cmp};
 ghost use Rattle.std.specs.Ordering.{nat_cmp};
-ghost use Rattle.const_oid.specs.Orders.{short_cmp};
+ghost use Rattle.const_oid.specs.Orders.{shortlex_cmp};
 ghost use Rattle.const_oid.specs.Tree.{BeginsWith};
 ghost use Rattle.const_oid_c.specs.Status.{TellsWhether, ranked};
 ghost use Rattle.const_oid_c.specs.Answers.{TellsOfBoth, arcs_read, arcs_held};
@@ -26,24 +26,24 @@ pub extern "C" fn const_oid_eq(left: &[u8], right: &[u8]) -> Status
     }
 }
 
-/// Tells whether the arcs begin with all those of a front, each of any number of octets.
+/// Tells whether the arcs begin with all those of a prefix, each of any number of octets.
 #[unsafe(no_mangle)]
-pub extern "C" fn const_oid_starts_with(octets: &[u8], front: &[u8]) -> Status
-    ensures { TellsOfBoth (λ arcs front. TellsWhether (BeginsWith arcs front))
-        (arcs_read octets.now) (arcs_read front.now) result }
+pub extern "C" fn const_oid_starts_with(octets: &[u8], prefix: &[u8]) -> Status
+    ensures { TellsOfBoth (λ arcs prefix. TellsWhether (BeginsWith arcs prefix))
+        (arcs_read octets.now) (arcs_read prefix.now) result }
 {
     let oid = match ObjectIdentifierRef::from_bytes(octets) {
         Ok(oid) => oid,
         Err(fault) => return refuse(fault),
     };
-    match ObjectIdentifierRef::from_bytes(front) {
-        Ok(front) => flag(oid.as_bytes().starts_with(front.as_bytes())),
+    match ObjectIdentifierRef::from_bytes(prefix) {
+        Ok(prefix) => flag(oid.as_bytes().starts_with(prefix.as_bytes())),
         Err(fault) => refuse(fault),
     }
 }
 
 /// Compares two identifiers of any number of octets in the order of borrowed ones: octets in list
-/// order, a front before what begins with it.
+/// order, a prefix before what begins with it.
 #[unsafe(no_mangle)]
 pub extern "C" fn const_oid_cmp(left: &[u8], right: &[u8]) -> Status
     ensures { TellsOfBoth (λ _ _ status. status ≡ ranked (slice_cmp nat_cmp left.now right.now))
@@ -63,7 +63,7 @@ pub extern "C" fn const_oid_cmp(left: &[u8], right: &[u8]) -> Status
 /// with as many the octets in list order.
 #[unsafe(no_mangle)]
 pub extern "C" fn const_oid_cmp_owned(left: &[u8], right: &[u8]) -> Status
-    ensures { TellsOfBoth (λ _ _ status. status ≡ ranked (short_cmp left.now right.now))
+    ensures { TellsOfBoth (λ _ _ status. status ≡ ranked (shortlex_cmp left.now right.now))
         (arcs_held left.now) (arcs_held right.now) result }
 {
     let first = match ObjectIdentifier::from_bytes(left) {

@@ -34,7 +34,7 @@ fn count<T: Display>(shown: &T) -> Option<usize>
     }
 }
 
-/// The caller's slice, and how many bytes at its front are printed.
+/// The caller's slice, and how many bytes at its prefix are printed.
 #[derive(Drop)]
 struct Target<'a> {
     room: &'a mut [u8],
@@ -52,7 +52,7 @@ impl<'a> Target<'a> {
         Target { room, used: 0 }
     }
 
-    /// Puts a text behind what is printed, where there is room for it.
+    /// Puts a text after what is printed, where there is room for it.
     fn append(&mut self, text: &str) -> fmt::Result
         ensures same { self.new.room.ghost_name ≡ self.old.room.ghost_name }
         ensures used { OnOk result (self.new.used ≡ self.old.used + length text.now) }
@@ -70,7 +70,7 @@ impl<'a> Target<'a> {
         Ok(())
     }
 
-    /// Prints a value behind what is printed, where there is room for it.
+    /// Prints a value after what is printed, where there is room for it.
     fn print<T: Display>(&mut self, shown: &T) -> bool
         requires { IsSome (T.output shown.now) }
         ensures same { OnTrue result (self.new.room.ghost_name ≡ self.old.room.ghost_name) }
@@ -93,7 +93,7 @@ impl Write for Target<'_> {
     }
 }
 
-/// Prints a value at the front of the caller's slice, where it fits.
+/// Prints a value at the prefix of the caller's slice, where it fits.
 pub(crate) fn print<T: Display>(shown: &T, out: &mut [u8]) -> Status
     requires { IsSome (T.output shown.now) }
     ensures status { IsPrinted result

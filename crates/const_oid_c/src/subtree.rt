@@ -89,7 +89,7 @@ fn list_refusal(sorted: &[Octets<'_>]) -> Option<Status>
     None
 }
 
-/// What is wrong with the identifier at a place, behind the octets at the place before.
+/// What is wrong with the identifier at a place, after the octets at the place before.
 fn item_refusal(place: usize, before: &[u8], octets: &[u8]) -> Option<Status>
     ensures { result ≡ item_refusal place before.now octets.now }
 {

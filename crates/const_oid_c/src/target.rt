@@ -7,7 +7,7 @@ ghost use Rattle.const_oid.specs.Oid.{oid_answer};
 use crate::status::{Status, done, no_room, refuse};
 use const_oid::{ObjectIdentifier, Result};
 
-/// Copies bytes to the front of the caller's slice, where they fit.
+/// Copies bytes to the prefix of the caller's slice, where they fit.
 fn copy(bytes: &[u8], out: &mut [u8]) -> Status
     ensures status { result ≡ told (length out.old) (Ok bytes.now) }
     ensures written { out.new ≡ filled out.old (Ok bytes.now) }

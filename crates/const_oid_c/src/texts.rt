@@ -22,7 +22,7 @@ pub extern "C" fn const_oid_from_text(text: &[u8], out: &mut [u8]) -> Status
     }
 }
 
-/// Writes the dotted text of contents octets, of any number, with no zero byte behind it.
+/// Writes the dotted text of contents octets, of any number, with no zero byte after it.
 #[unsafe(no_mangle)]
 pub extern "C" fn const_oid_to_text(octets: &[u8], out: &mut [u8]) -> Status
     ensures status { IsPrinted result → result ≡ told (length out.old) (shown text_of (arcs_read octets.now)) }
@@ -34,7 +34,7 @@ pub extern "C" fn const_oid_to_text(octets: &[u8], out: &mut [u8]) -> Status
     }
 }
 
-/// Writes the text of the error that a status tells, with no zero byte behind it.
+/// Writes the text of the error that a status tells, with no zero byte after it.
 #[unsafe(no_mangle)]
 pub extern "C" fn const_oid_error_text(code: u32, detail: u32, out: &mut [u8]) -> Status
     ensures status { IsPrinted result → result ≡ told (length out.old) (text_of_error (error_of code detail)) }

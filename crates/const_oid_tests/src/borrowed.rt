@@ -93,11 +93,11 @@ fn order_of_arcs(rt: HostRuntime) -> Result<(), Error> {
 }
 
 #[test]
-fn fronts_and_parents(rt: HostRuntime) -> Result<(), Error> {
+fn prefixes_and_parents(rt: HostRuntime) -> Result<(), Error> {
     let oid = ObjectIdentifierRef::from_bytes(&[0x2A, 0x86, 0x48, 0x01])?;
-    let front = ObjectIdentifierRef::from_bytes(&[0x2A, 0x86, 0x48])?;
-    assert!(rt; oid.starts_with(&front) && oid.starts_with(&oid) && !front.starts_with(&oid));
-    assert!(rt; oid.parent() == Some(front));
+    let prefix = ObjectIdentifierRef::from_bytes(&[0x2A, 0x86, 0x48])?;
+    assert!(rt; oid.starts_with(&prefix) && oid.starts_with(&oid) && !prefix.starts_with(&oid));
+    assert!(rt; oid.parent() == Some(prefix));
     assert!(rt; ObjectIdentifierRef::from_bytes(&[0x88, 0x37])?.parent() == None);
     Ok(())
 }

@@ -36,7 +36,7 @@ pub fn prints_into_array<T: Display>(value: &T, text: &str) -> bool {
 }
 
 /// In how many writes a value is printed, where each of them, refused in turn, is told at once, and a
-/// front of the text was written.
+/// prefix of the text was written.
 pub fn writes_of<T: Display>(value: &T) -> Option<usize> {
     let mut whole = FixedTarget::new(0);
     write!(whole, "{value}").ok()?;

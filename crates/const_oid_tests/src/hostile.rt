@@ -1,9 +1,9 @@
 //! What a hostile sender may choose: octets, texts and tables of names.
 
-mod fronts;
 mod lengths;
 mod names;
 mod octets;
+mod prefixes;
 mod texts;
 
 use crate::vectors::Row;

@@ -104,7 +104,7 @@ fn fills(arcs: &[Arc]) -> bool {
     }
 }
 
-/// 1.2 and 38 more arcs fill the capacity, and nothing behind the next arc matters.
+/// 1.2 and 38 more arcs fill the capacity, and nothing after the next arc matters.
 #[test]
 fn capacity(rt: HostRuntime) {
     let mut arcs = [1; 60];

@@ -5,7 +5,7 @@ ghost use Rattle.std.specs.Ordering.{nat_cmp};
 ghost use Rattle.std.specs.Cmp.Lexicographic.{slice_cmp};
 ghost use Rattle.const_oid.specs.Oid.{oid_octets, oid_arcs};
 ghost use Rattle.const_oid.specs.OidRef.{ref_octets, ref_arcs};
-ghost use Rattle.const_oid.specs.Orders.{short_cmp};
+ghost use Rattle.const_oid.specs.Orders.{shortlex_cmp};
 
 use crate::vectors::{ASCENDING, accepted_rows};
 use const_oid::{ObjectIdentifier, ObjectIdentifierRef};
@@ -21,7 +21,7 @@ fn has_same_arcs<const N: usize>(a: &ObjectIdentifier<N>, b: &ObjectIdentifier<N
 }
 
 fn order_of<const N: usize>(a: &ObjectIdentifier<N>, b: &ObjectIdentifier<N>) -> Ordering
-    ensures { result ≡ short_cmp (oid_octets a.now) (oid_octets b.now) }
+    ensures { result ≡ shortlex_cmp (oid_octets a.now) (oid_octets b.now) }
 {
     a.cmp(b)
 }

@@ -102,7 +102,7 @@ fn keeps_to_its_capacity(rt: HostRuntime) {
     }
 }
 
-/// Capacities, how many octets 01 stand behind 2A, the octets behind them, and the error, if there
+/// Capacities, how many octets 01 stand after 2A, the octets after them, and the error, if there
 /// is one: 255 octets fit where the capacity is past 255, and no more.
 const LONG: [(usize, usize, &[u8], Option<Error>); 11] = [
     (39, 38, &[], None),

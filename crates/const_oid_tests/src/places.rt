@@ -72,8 +72,8 @@ fn holds(octets: &[u8], count: usize, places: &[(usize, Option<Arc>)]) -> bool {
 
 /// Whether a row holds.
 fn row_holds(alloc: Global, row: &Row) -> bool {
-    let (front, ones, end, count, places) = row;
-    match long_octets(alloc, front, *ones, end) {
+    let (prefix, ones, end, count, places) = row;
+    match long_octets(alloc, prefix, *ones, end) {
         Ok(octets) => holds(octets.as_slice(), *count, places),
         Err(_) => false,
     }

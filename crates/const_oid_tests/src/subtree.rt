@@ -14,25 +14,25 @@ use std::result::Result;
 
 /// Sorts identifiers, and gives the places of those that begin with one.
 fn sorted_subtree(
-    front: &ObjectIdentifierRef<'_>,
+    prefix: &ObjectIdentifierRef<'_>,
     oids: &mut Vec<ObjectIdentifierRef<'_>>,
 ) -> Result<(usize, usize), AllocError>
     ensures { IfOk result (λ range. (k : ℕ) → IfSome (slice_get oids.new.items k) (λ oid.
-        BeginsWith (ref_arcs oid) (ref_arcs front.now) ↔ ((range.0 ≤ k) × (k < range.1)))) }
+        BeginsWith (ref_arcs oid) (ref_arcs prefix.now) ↔ ((range.0 ≤ k) × (k < range.1)))) }
 {
     oids.sort()?;
-    Ok(front.subtree(oids))
+    Ok(prefix.subtree(oids))
 }
 
 /// The first identifier of a sorted list that begins with one.
 fn first_under<'a>(
-    front: &ObjectIdentifierRef<'_>,
+    prefix: &ObjectIdentifierRef<'_>,
     sorted: &[ObjectIdentifierRef<'a>],
 ) -> Option<ObjectIdentifierRef<'a>>
     requires { IsSortedByKey ref_octets (slice_cmp nat_cmp) sorted.now }
-    ensures { IfSome result (λ oid. BeginsWith (ref_arcs oid) (ref_arcs front.now)) }
+    ensures { IfSome result (λ oid. BeginsWith (ref_arcs oid) (ref_arcs prefix.now)) }
 {
-    let (from, to) = front.subtree(sorted);
+    let (from, to) = prefix.subtree(sorted);
     if from < to { Some(sorted[from]) } else { None }
 }
 
@@ -65,24 +65,24 @@ fn is_found(found: Result<(usize, usize), AllocError>, range: (usize, usize)) ->
 
 /// Whether a list, sorted, has an identifier that begins with one, or has none.
 fn has_first(
-    front: &ObjectIdentifierRef<'_>,
+    prefix: &ObjectIdentifierRef<'_>,
     oids: &mut Vec<ObjectIdentifierRef<'_>>,
     wanted: bool,
 ) -> bool {
-    oids.sort().is_ok() && first_under(front, oids).is_some() == wanted
+    oids.sort().is_ok() && first_under(prefix, oids).is_some() == wanted
 }
 
-/// Whether a list has this range under a front, in any order of it, and a first one where it is not empty.
-fn ranges(alloc: Global, list: &[&[u8]], front: &[u8], range: (usize, usize)) -> bool {
-    let (Ok(front), Some(mut oids)) = (ObjectIdentifierRef::from_bytes(front), read(alloc, list))
+/// Whether a list has this range under a prefix, in any order of it, and a first one where it is not empty.
+fn ranges(alloc: Global, list: &[&[u8]], prefix: &[u8], range: (usize, usize)) -> bool {
+    let (Ok(prefix), Some(mut oids)) = (ObjectIdentifierRef::from_bytes(prefix), read(alloc, list))
     else {
         return false;
     };
-    is_found(sorted_subtree(&front, &mut oids), range)
-        && has_first(&front, &mut oids, range.0 < range.1)
+    is_found(sorted_subtree(&prefix, &mut oids), range)
+        && has_first(&prefix, &mut oids, range.0 < range.1)
 }
 
-/// Lists, a front, and the range of those that begin with it.
+/// Lists, a prefix, and the range of those that begin with it.
 const ROWS: [(&[&[u8]], &[u8], (usize, usize)); 8] = [
     (&ASCENDING, &[0x2A], (1, 8)),
     (&ASCENDING, &[0x2A, 0x03], (2, 4)),
@@ -96,8 +96,8 @@ const ROWS: [(&[&[u8]], &[u8], (usize, usize)); 8] = [
 
 #[test]
 fn gives_the_range_of_a_subtree(rt: HostRuntime) {
-    for (list, front, range) in &ROWS {
-        assert!(rt; ranges(rt.alloc(), list, front, *range), "{front:?}");
+    for (list, prefix, range) in &ROWS {
+        assert!(rt; ranges(rt.alloc(), list, prefix, *range), "{prefix:?}");
     }
 }
 

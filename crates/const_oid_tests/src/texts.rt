@@ -119,8 +119,8 @@ fn fills(text: &str, error: Option<Error>) -> bool {
 
 #[test]
 fn longest(rt: HostRuntime) -> Result<(), AllocError> {
-    for (front, count, end, error) in &LONG {
-        let text = long_text(rt.alloc(), front, *count, end)?;
+    for (prefix, count, end, error) in &LONG {
+        let text = long_text(rt.alloc(), prefix, *count, end)?;
         assert!(rt; fills(text.as_str(), *error), "{text}");
     }
     Ok(())

@@ -42,12 +42,12 @@ fn gives_parents(rt: HostRuntime) {
     }
 }
 
-/// 32 octets in front of an arc of two.
+/// 32 octets before an arc of two.
 #[test]
 fn gives_a_long_parent(rt: HostRuntime) -> Result<(), AllocError> {
     let octets = long_octets(rt.alloc(), &[0x2A], 30, &[0x81, 0x00])?;
-    let front = octets.as_slice().get(..31).unwrap_or(&[]);
-    assert!(rt; has_parent(octets.as_slice(), front));
+    let prefix = octets.as_slice().get(..31).unwrap_or(&[]);
+    assert!(rt; has_parent(octets.as_slice(), prefix));
     Ok(())
 }
 
@@ -155,24 +155,24 @@ const BEGINNINGS: [(&[u8], &[u8], bool); 13] = [
 ];
 
 /// Whether it holds that an identifier begins with another, of a capacity of its own, or does not.
-fn begins<const N: usize>(octets: &[u8], front: &[u8], wanted: bool) -> bool
+fn begins<const N: usize>(octets: &[u8], prefix: &[u8], wanted: bool) -> bool
     requires { N ≤ 300 }
 {
-    let (Ok(oid), Ok(front)) = (
+    let (Ok(oid), Ok(prefix)) = (
         ObjectIdentifier::from_bytes(octets),
-        ObjectIdentifier::<N>::from_bytes_sized(front),
+        ObjectIdentifier::<N>::from_bytes_sized(prefix),
     ) else {
         return false;
     };
-    oid.starts_with(front) == wanted
+    oid.starts_with(prefix) == wanted
 }
 
 #[test]
 fn tells_what_it_starts_with(rt: HostRuntime) {
-    for (octets, front, wanted) in &BEGINNINGS {
+    for (octets, prefix, wanted) in &BEGINNINGS {
         assert!(rt;
-            begins::<39>(octets, front, *wanted),
-            "{octets:?} and {front:?}"
+            begins::<39>(octets, prefix, *wanted),
+            "{octets:?} and {prefix:?}"
         );
     }
     assert!(rt; begins::<3>(&[0x2A, 0x81, 0x00, 0x05], &[0x2A, 0x81, 0x00], true));

@@ -172,14 +172,14 @@ pub const ASCENDING: [&[u8]; 14] = [
     &[0x88, 0x37, 0x03],
 ];
 
-/// A front, so many times `.1`, and an end.
+/// A prefix, so many times `.1`, and an end.
 pub fn long_text(
     alloc: Global,
-    front: &str,
+    prefix: &str,
     count: usize,
     end: &str,
 ) -> Result<String, AllocError> {
-    let mut text = String::from_str(alloc, front)?;
+    let mut text = String::from_str(alloc, prefix)?;
     for _ in 0..count {
         text.push_str(".1")?;
     }
@@ -187,14 +187,14 @@ pub fn long_text(
     Ok(text)
 }
 
-/// A front, so many octets 01, and an end.
+/// A prefix, so many octets 01, and an end.
 pub fn long_octets(
     alloc: Global,
-    front: &[u8],
+    prefix: &[u8],
     count: usize,
     end: &[u8],
 ) -> Result<Vec<u8>, AllocError> {
-    let mut octets = front.to_vec(alloc)?;
+    let mut octets = prefix.to_vec(alloc)?;
     for _ in 0..count {
         octets.push(0x01)?;
     }

@@ -57,7 +57,7 @@ answers_not_empty table text some none = let e = ap length (sym (answers-first t
 
 -- the answer to the first line, and those to what follows
 pub answers-next : (table : List Row) (text line after row : List ℕ) → text ≢ [] → line ≡ first_line text → after ≡ after_line text → row ≡ output_line table line → answers table text ≡ row ++ answers table after
-answers-next table text line after row some front back e = rw (e, front, back) (answers-first table text some)
+answers-next table text line after row some prefix back e = rw (e, prefix, back) (answers-first table text some)
 
 -- a part of a text is no longer than the text
 pub length-first_line : (text : List ℕ) → length (first_line text) ≤ length text

@@ -27,20 +27,20 @@ pub appends_all : (old new : Option (List ℕ)) (left whole : List ℕ) → Appe
 appends_all old new left whole p none = subst (Appends old new) (sym (append-nil p.done) ∙ ap (λ l. p.done ++ l) (sym none) ∙ p.joined) p.appends
 
 -- something is left
-pub appends_front : (old new : Option (List ℕ)) (left whole : List ℕ) → AppendsAllBut old new left whole → left ≢ [] → AppendsFront old new whole
-appends_front old new left whole p some = record { front = p.done; missing = left; appends = p.appends; whole = p.joined; shorter = some }
+pub appends_prefix : (old new : Option (List ℕ)) (left whole : List ℕ) → AppendsAllBut old new left whole → left ≢ [] → AppendsFront old new whole
+appends_prefix old new left whole p some = record { prefix = p.done; missing = left; appends = p.appends; whole = p.joined; shorter = some }
 
--- a front of the next part
-pub appends_front_within : (old mid new : Option (List ℕ)) (part left rest whole : List ℕ) → AppendsAllBut old mid rest whole → rest ≡ part ++ left → AppendsFront mid new part → AppendsFront old new whole
-appends_front_within old mid new part left rest whole p cut f = record {
-  front = p.done ++ f.front;
+-- a prefix of the next part
+pub appends_prefix_within : (old mid new : Option (List ℕ)) (part left rest whole : List ℕ) → AppendsAllBut old mid rest whole → rest ≡ part ++ left → AppendsFront mid new part → AppendsFront old new whole
+appends_prefix_within old mid new part left rest whole p cut f = record {
+  prefix = p.done ++ f.prefix;
   missing = f.missing ++ left;
-  appends = Appends-trans old mid new p.done f.front p.appends f.appends;
-  whole = append_assoc p.done f.front (f.missing ++ left) ∙ ap (λ l. p.done ++ l) (sym (append_assoc f.front f.missing left) ∙ ap (λ l. l ++ left) f.whole ∙ sym cut) ∙ p.joined;
+  appends = Appends-trans old mid new p.done f.prefix p.appends f.appends;
+  whole = append_assoc p.done f.prefix (f.missing ++ left) ∙ ap (λ l. p.done ++ l) (sym (append_assoc f.prefix f.missing left) ∙ ap (λ l. l ++ left) f.whole ∙ sym cut) ∙ p.joined;
   shorter = λ none. f.shorter (nil_from_length f.missing (let e = ap length none in omega (arith, simp length-append at e)));
 }
 
--- the first n bytes, and what is left behind them
+-- the first n bytes, and what is left after them
 pub first_and_left : (n : ℕ) (bytes left : List ℕ) → left ≡ drop n bytes → bytes ≡ take n bytes ++ left
 first_and_left n bytes left e = sym (take-append-drop n bytes) ∙ ap (λ l. take n bytes ++ l) (sym e)
 
@@ -50,7 +50,7 @@ known_from_read P None new bytes read ended p = tt
 known_from_read P (Some text) None bytes read ended p = absurd read
 known_from_read P (Some text) (Some left) bytes read ended p = subst P (sym (read ∙ ap (λ l. bytes ++ l) ended ∙ append-nil bytes)) p
 
--- n bytes read behind the first a of the room
+-- n bytes read after the first a of the room
 pub take_grown : (a k n : ℕ) (room bytes : List ℕ) → a ≤ length room → n ≤ length bytes → take (a + n) (put_mid a k room bytes) ≡ take a room ++ take n bytes
 take_grown a k n room bytes within fits =
     let len = length-take-le a room within in

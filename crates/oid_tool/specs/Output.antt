@@ -2,12 +2,12 @@
 use Rattle.std.specs.Prelude.{◌≡◌, ◌≢◌, ℕ, length, Option, List, [], ◌++◌}
 use Rattle.std.specs.Io.KnownBytes.{Appends, Consumes}
 
--- known bytes grow by a front of `bytes` that is shorter than the whole
+-- known bytes grow by a prefix of `bytes` that is shorter than the whole
 pub record AppendsFront (old new : Option (List ℕ)) (bytes : List ℕ) : Type 0 where
-  pub front : List ℕ
+  pub prefix : List ℕ
   pub missing : List ℕ
-  pub appends : Appends old new front
-  pub whole : front ++ missing ≡ bytes
+  pub appends : Appends old new prefix
+  pub whole : prefix ++ missing ≡ bytes
   pub shorter : missing ≢ []
 
 -- known bytes lose their first n

@@ -102,7 +102,7 @@ fn append_digits(octets: &[u8], out: &mut Line) -> fmt::Result
     out.append(&room[..count])
 }
 
-/// Writes octets to the front of the room in lower-case hexadecimal digits, and gives their number.
+/// Writes octets to the prefix of the room in lower-case hexadecimal digits, and gives their number.
 fn encode(octets: &[u8], room: &mut [u8]) -> usize
     requires { 2 * length octets.now ≤ length room.old }
     ensures within { result ≤ length room.new }
@@ -115,7 +115,7 @@ fn encode(octets: &[u8], room: &mut [u8]) -> usize
     }
 }
 
-/// Reads hexadecimal digits into the front of the room, and gives the number of octets.
+/// Reads hexadecimal digits into the prefix of the room, and gives the number of octets.
 fn decode(digits: &[u8], room: &mut [u8]) -> Option<usize>
     requires { length digits.now ≤ 2 * length room.old }
     ensures within { IfSome result (λ count. count ≤ length room.new) }
@@ -128,7 +128,7 @@ fn decode(digits: &[u8], room: &mut [u8]) -> Option<usize>
 
 /// What stands before the first `byte` of a text, or all of it, and what follows that byte.
 pub fn cut(byte: u8, text: &[u8]) -> (&[u8], &[u8])
-    ensures front { result.0.now ≡ before_first (λ b. b == byte) text.now }
+    ensures prefix { result.0.now ≡ before_first (λ b. b == byte) text.now }
     ensures back { result.1.now ≡ after_first (λ b. b == byte) text.now }
 {
     match position(byte, text) {

@@ -78,7 +78,7 @@ pub fn run<R: Read, W: Write>(input: &mut R, output: &mut W) -> Result<(), ToolE
 /// Room for a byte more than the input may have, by which a longer one is told.
 const INPUT_ROOM: usize = MAX_INPUT + 1;
 
-/// Reads to the end of the input into the front of the room, and gives the number of bytes.
+/// Reads to the end of the input into the prefix of the room, and gives the number of bytes.
 fn read_all<R: Read>(input: &mut R, room: &mut [u8]) -> Result<usize, ToolError>
     requires { length room.old ≡ INPUT_ROOM }
     ensures within { IfOk result (λ len. len ≤ MAX_INPUT) }
@@ -108,7 +108,7 @@ fn write_answers<W: Write>(
     requires { length text.now ≤ MAX_INPUT }
     ensures ok { OnOk result (Appends (W.contents output.old) (W.contents output.new)
         (answers (rows_of table.entry) text.now)) }
-    ensures front { OnErr result (AppendsFront (W.contents output.old) (W.contents output.new)
+    ensures prefix { OnErr result (AppendsFront (W.contents output.old) (W.contents output.new)
         (answers (rows_of table.entry) text.now)) }
     ensures err { IfErr result (λ e. e ≡ ToolError.Write) }
 {
@@ -138,7 +138,7 @@ fn show(line: &[u8], table: Database<'_>, shown: &mut Line) -> fmt::Result
 /// Writes all the bytes.
 fn write_out<W: Write>(bytes: &[u8], output: &mut W) -> Result<(), ToolError>
     ensures ok { OnOk result (Appends (W.contents output.old) (W.contents output.new) bytes.now) }
-    ensures front { OnErr result (AppendsFront (W.contents output.old) (W.contents output.new) bytes.now) }
+    ensures prefix { OnErr result (AppendsFront (W.contents output.old) (W.contents output.new) bytes.now) }
     ensures err { IfErr result (λ e. e ≡ ToolError.Write) }
 {
     let mut rest = bytes;

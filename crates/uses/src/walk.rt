@@ -26,14 +26,14 @@ pub fn next_after<'a>(
 #[tactic(auto, using(const_oid::proofs::Identifiers::not_before))]
 pub fn places(
     oids: &[ObjectIdentifierRef<'_>],
-    front: &ObjectIdentifierRef<'_>,
+    prefix: &ObjectIdentifierRef<'_>,
 ) -> Option<(usize, usize)>
     ensures sorted { IsSome result ↔ IsSortedByKey ref_octets (slice_cmp nat_cmp) oids.now }
     ensures places { IfSome result (λ places. (k : ℕ) → IfSome (slice_get oids.now k) (λ oid.
-        BeginsWith (ref_arcs oid) (ref_arcs front.now) ↔ ((places.0 ≤ k) × (k < places.1)))) }
+        BeginsWith (ref_arcs oid) (ref_arcs prefix.now) ↔ ((places.0 ≤ k) × (k < places.1)))) }
 {
     if oids.is_sorted() {
-        Some(front.subtree(oids))
+        Some(prefix.subtree(oids))
     } else {
         None
     }

@@ -2,7 +2,7 @@
 
 ghost use Rattle.std.specs.Prelude.{◌≡◌, ◌↔◌, IsTrue, IsOk, IfOk};
 ghost use Rattle.const_oid.specs.Buffer.{octets_of};
-ghost use Rattle.const_oid.specs.Orders.{short_cmp};
+ghost use Rattle.const_oid.specs.Orders.{shortlex_cmp};
 
 use super::*;
 use std::alloc::AllocError;
@@ -15,7 +15,7 @@ fn same_buffer<const SIZE: usize>(a: &Buffer<SIZE>, b: &Buffer<SIZE>) -> bool
 }
 
 fn order_buffer<const SIZE: usize>(a: &Buffer<SIZE>, b: &Buffer<SIZE>) -> Ordering
-    ensures { result ≡ short_cmp (octets_of a.now) (octets_of b.now) }
+    ensures { result ≡ shortlex_cmp (octets_of a.now) (octets_of b.now) }
 {
     a.cmp(b)
 }
@@ -45,10 +45,10 @@ fn shows(buffer: &Buffer<3>, octets: &[u8], others: &[Buffer<3>; 2]) -> bool {
 #[test]
 fn octets_in_use(rt: HostRuntime) -> std::result::Result<(), Fail> {
     let short = Buffer::<3>::from_slice(&[0x55])?;
-    let front = Buffer::<3>::from_slice(&[0x2A])?;
+    let prefix = Buffer::<3>::from_slice(&[0x2A])?;
     let buffer = Buffer::<3>::from_slice(&[0x2A, 0x03])?;
     let next = Buffer::<3>::from_slice(&[0x2A, 0x04])?;
-    assert!(rt; shows(&buffer, &[0x2A, 0x03], &[next, front]));
+    assert!(rt; shows(&buffer, &[0x2A, 0x03], &[next, prefix]));
     assert!(rt; order_buffer(&short, &buffer).is_lt() && order_buffer(&buffer, &next).is_lt());
     Ok(())
 }
@@ -58,7 +58,7 @@ fn used(octets: &[u8]) -> Result<usize> {
     Ok(Buffer::<300>::from_slice(octets)?.len())
 }
 
-/// Whether three octets take the group of 840 behind one octet, and no other.
+/// Whether three octets take the group of 840 after one octet, and no other.
 fn are_filled() -> bool {
     let mut buffer = Buffer::<3>::copied(&[0x2A]);
     buffer.push_group(840) == Ok(())

@@ -8,7 +8,7 @@ const OVER_THE_EDGE: [u8; 33] = [
     0x86, 0x48,
 ];
 
-/// Octets, how many are below 128, and those behind so many parts.
+/// Octets, how many are below 128, and those after so many parts.
 const ROWS: [(&[u8], usize, usize, &[u8]); 9] = [
     (&[], 0, 0, &[]),
     (&[0x7F; 31], 31, 30, &[0x7F]),
@@ -22,17 +22,12 @@ const ROWS: [(&[u8], usize, usize, &[u8]); 9] = [
 ];
 
 fn holds(row: &(&[u8], usize, usize, &[u8])) -> bool {
-    count_last(row.0) == row.1 && behind(row.0, row.2) == row.3
+    count_parts(row.0) == row.1 && skip_parts(row.0, row.2) == row.3
 }
 
 #[test]
 fn counted_and_cut(rt: HostRuntime) {
     for row in &ROWS {
-        assert!(rt;
-            holds(row),
-            "{} octets, behind {} parts",
-            row.0.len(),
-            row.2
-        );
+        assert!(rt; holds(row), "{} octets, after {} parts", row.0.len(), row.2);
     }
 }

@@ -43,7 +43,7 @@ fn answer_with(octets: &[u8], error: Option<Error>) -> bool {
         && ObjectIdentifier::<300>::from_bytes_sized(octets).err() == error
 }
 
-/// How many rows hold behind a first group.
+/// How many rows hold after a first group.
 fn rows_at_capacity(first: &[u8]) -> usize {
     let mut held = 0usize;
     for (len, last, error) in &AT_CAPACITY {
@@ -70,7 +70,7 @@ fn ends_with_1(octets: &[u8], count: usize) -> bool {
     }
 }
 
-/// How many lengths have their arcs behind a first group, which holds two arcs.
+/// How many lengths have their arcs after a first group, which holds two arcs.
 fn lengths_held(first: &[u8]) -> usize {
     let octets = long(first, 256, 1);
     let mut held = 0usize;

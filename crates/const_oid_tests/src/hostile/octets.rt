@@ -51,7 +51,7 @@ fn borrowed_answer(form: Form, oid: ObjectIdentifierRef<'_>) -> Option<Error> {
 }
 
 /// The slices of at most two octets: what follows the first octet of a number that is not 0, where that
-/// is 1. They stand at the front of two octets, and a length past these says that there is none.
+/// is 1. They stand at the prefix of two octets, and a length past these says that there is none.
 fn slice_at(number: u32) -> ([u8; 2], usize) {
     match number.to_be_bytes() {
         [0, 0, 0, 1] => ([0, 0], 0),
@@ -133,24 +133,24 @@ fn answers_with(octets: &[u8], error: Option<Error>) -> bool {
         && ObjectIdentifier::from_bytes(octets).err() == error
 }
 
-/// Whether each front of accepted octets is answered by its last octet, which tells whether its last
+/// Whether each prefix of accepted octets is answered by its last octet, which tells whether its last
 /// group has ended.
-fn fronts_hold(octets: &[u8]) -> bool {
+fn prefixes_hold(octets: &[u8]) -> bool {
     for end in 0..=octets.len() {
-        let front = octets.get(..end).unwrap_or(octets);
-        let error = match front.last() {
+        let prefix = octets.get(..end).unwrap_or(octets);
+        let error = match prefix.last() {
             None => Some(Error::Empty),
             Some(0..0x80) => None,
             Some(_) => Some(Error::Base128),
         };
-        if !answers_with(front, error) {
+        if !answers_with(prefix, error) {
             return false;
         }
     }
     true
 }
 
-/// The octets with 0x80 put in at a place, and more of them behind the last.
+/// The octets with 0x80 put in at a place, and more of them after the last.
 fn with_0x80(octets: &[u8], place: usize) -> [u8; 12] {
     let mut longer = [0x80; 12];
     for (i, octet) in octets.iter().enumerate() {
@@ -162,7 +162,7 @@ fn with_0x80(octets: &[u8], place: usize) -> [u8; 12] {
     longer
 }
 
-/// Whether accepted octets are refused with 0x80 before any of their groups or behind the last.
+/// Whether accepted octets are refused with 0x80 before any of their groups or after the last.
 fn refused_with_0x80(octets: &[u8]) -> bool {
     for place in 0..=octets.len() {
         let longer = with_0x80(octets, place);
@@ -221,7 +221,7 @@ fn hash_of(oid: &ObjectIdentifier<39>) -> u64 {
     hasher.finish()
 }
 
-/// Whether the identifier has the hash of one that was read at another capacity, had an arc put behind
+/// Whether the identifier has the hash of one that was read at another capacity, had an arc put after
 /// it, and lost it again.
 fn hashes_the_same(octets: &[u8]) -> Result<bool, Error> {
     let child = ObjectIdentifier::<300>::from_bytes_sized(octets)?.push_arc(4294967295)?;
@@ -234,7 +234,7 @@ fn hashes_the_same(octets: &[u8]) -> Result<bool, Error> {
 fn rows_held(rows: &[Row]) -> usize {
     let mut held = 0usize;
     for (text, octets, _) in rows {
-        if fronts_hold(octets)
+        if prefixes_hold(octets)
             && refused_with_0x80(octets)
             && matches!(same_at_capacities(octets, text), Ok(true))
             && matches!(hashes_the_same(octets), Ok(true))
@@ -245,7 +245,7 @@ fn rows_held(rows: &[Row]) -> usize {
     held
 }
 
-/// Fronts of the rows, their octets with 0x80 put in, and their values at other capacities. All are
+/// Prefixes of the rows, their octets with 0x80 put in, and their values at other capacities. All are
 /// read and printed on fixed arrays alone: what takes memory is handed an allocator, and nothing that
 /// is called here has one. `rt try --test --fail-alloc 1` refuses the first request; there is none.
 #[test]

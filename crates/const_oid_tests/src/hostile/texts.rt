@@ -1,4 +1,4 @@
-//! Texts of a hostile sender: every front of many texts, and long ones.
+//! Texts of a hostile sender: every prefix of many texts, and long ones.
 use crate::formatter::prints_into_array;
 use crate::texts::{LEADING_ZEROS, REFUSED};
 use crate::vectors::accepted_rows;
@@ -37,7 +37,7 @@ fn octets_of(number: u64) -> u32 {
         .div_ceil(7)
 }
 
-/// Whether no identifier has an arc at this place, behind so many of the first number.
+/// Whether no identifier has an arc at this place, after so many of the first number.
 fn is_out_of_range(arc: Arc, place: usize, first: u64) -> bool {
     match place {
         0 => arc > 2,
@@ -60,8 +60,8 @@ fn text_fault(text: &str) -> Result<(), Error> {
             return Err(Error::ArcInvalid { arc });
         }
         // The first two arcs are one number.
-        let front: u64 = if place == 1 { first } else { 0 };
-        let number = front.saturating_add(arc as u64);
+        let prefix: u64 = if place == 1 { first } else { 0 };
+        let number = prefix.saturating_add(arc as u64);
         if place == 0 {
             first = number.saturating_mul(40);
         } else {
@@ -92,11 +92,11 @@ fn reads_by_pieces(text: &str) -> bool {
     }
 }
 
-/// Whether every front of a text is read by its pieces.
-fn fronts_hold(text: &str) -> bool {
+/// Whether every prefix of a text is read by its pieces.
+fn prefixes_hold(text: &str) -> bool {
     for end in 0..=text.len() {
-        if let Some(front) = text.get(..end)
-            && !reads_by_pieces(front)
+        if let Some(prefix) = text.get(..end)
+            && !reads_by_pieces(prefix)
         {
             return false;
         }
@@ -111,51 +111,51 @@ const LONG: [&str; 3] = [
     "2.4294967295.1.1.1.1.1.1.1.1.1.1.1.1.1.1.1.1.1.1.1.1.1.1.1.1.1.1.1.1.1.1.1.1.1.1.1.1.1.1.",
 ];
 
-/// How many texts of identifiers hold, with all their fronts.
+/// How many texts of identifiers hold, with all their prefixes.
 fn accepted_held() -> usize {
     let mut held = 0usize;
     for (text, _, _) in accepted_rows() {
-        if fronts_hold(text) {
+        if prefixes_hold(text) {
             held = held.saturating_add(1);
         }
     }
     held
 }
 
-/// How many refused texts hold, with all their fronts.
+/// How many refused texts hold, with all their prefixes.
 fn refused_held() -> usize {
     let mut held = 0usize;
     for (text, _) in &REFUSED {
-        if fronts_hold(text) {
+        if prefixes_hold(text) {
             held = held.saturating_add(1);
         }
     }
     held
 }
 
-/// How many texts with leading zeros hold, with all their fronts.
+/// How many texts with leading zeros hold, with all their prefixes.
 fn zeros_held() -> usize {
     let mut held = 0usize;
     for (text, _, _) in &LEADING_ZEROS {
-        if fronts_hold(text) {
+        if prefixes_hold(text) {
             held = held.saturating_add(1);
         }
     }
     held
 }
 
-/// How many long texts hold, with all their fronts.
+/// How many long texts hold, with all their prefixes.
 fn long_held() -> usize {
     let mut held = 0usize;
     for text in &LONG {
-        if fronts_hold(text) {
+        if prefixes_hold(text) {
             held = held.saturating_add(1);
         }
     }
     held
 }
 
-/// What stands before 100,000 zeros and behind them, and the octets, or the error, if there is one.
+/// What stands before 100,000 zeros and after them, and the octets, or the error, if there is one.
 const ZEROS: [(&str, &str, &[u8], Option<Error>); 6] = [
     ("1.2.", "3", &[0x2A, 0x03], None),
     ("1.2.", "", &[0x2A, 0x00], None),
@@ -166,9 +166,9 @@ const ZEROS: [(&str, &str, &[u8], Option<Error>); 6] = [
 ];
 
 /// A text with 100,000 zeros in it.
-fn with_zeros(alloc: Global, front: &str, back: &str) -> Result<String, AllocError> {
+fn with_zeros(alloc: Global, prefix: &str, back: &str) -> Result<String, AllocError> {
     let zeros = "0000000000".repeat(alloc, 10_000)?;
-    format!(in alloc; "{front}{zeros}{back}")
+    format!(in alloc; "{prefix}{zeros}{back}")
 }
 
 /// Whether a text is read as octets, or refused by this error.
@@ -180,7 +180,7 @@ fn is_read_as(text: &str, octets: &[u8], error: Option<Error>) -> bool {
 }
 
 /// The same for a text with zeros in it.
-fn is_read_behind_zeros(
+fn is_read_after_zeros(
     alloc: Global,
     ends: (&str, &str),
     octets: &[u8],
@@ -195,8 +195,8 @@ fn is_read_behind_zeros(
 /// How many of the texts with zeros are read as they are to be.
 fn zeros_read(alloc: Global) -> usize {
     let mut read = 0usize;
-    for (front, back, octets, error) in &ZEROS {
-        if is_read_behind_zeros(alloc, (front, back), octets, *error) {
+    for (prefix, back, octets, error) in &ZEROS {
+        if is_read_after_zeros(alloc, (prefix, back), octets, *error) {
             read = read.saturating_add(1);
         }
     }
@@ -204,7 +204,7 @@ fn zeros_read(alloc: Global) -> usize {
 }
 
 #[test]
-fn fronts_and_zeros(rt: HostRuntime) {
+fn prefixes_and_zeros(rt: HostRuntime) {
     assert!(rt; accepted_held() == accepted_rows().len());
     assert!(rt; refused_held() == REFUSED.len());
     assert!(rt; zeros_held() == LEADING_ZEROS.len());

@@ -167,16 +167,16 @@ const FILLED: [(&str, &str); 5] = [
     ("name 2.5.4.", "cn\n"),
 ];
 
-/// A text of so many bytes: a front, zeros, `3` and a newline.
-fn filled(alloc: Global, front: &str, len: usize) -> Result<String, Fail> {
-    let zeros = "0".repeat(alloc, len.saturating_sub(front.len()).saturating_sub(2))?;
-    Ok(format!(in alloc; "{front}{zeros}3\n")?)
+/// A text of so many bytes: a prefix, zeros, `3` and a newline.
+fn filled(alloc: Global, prefix: &str, len: usize) -> Result<String, Fail> {
+    let zeros = "0".repeat(alloc, len.saturating_sub(prefix.len()).saturating_sub(2))?;
+    Ok(format!(in alloc; "{prefix}{zeros}3\n")?)
 }
 
-/// Whether a front, filled up to the longest input, has an answer, and a byte more is too long.
-fn fills(alloc: Global, front: &str, wanted: &str) -> Result<bool, Fail> {
-    let most = filled(alloc, front, 4096)?;
-    let more = filled(alloc, front, 4097)?;
+/// Whether a prefix, filled up to the longest input, has an answer, and a byte more is too long.
+fn fills(alloc: Global, prefix: &str, wanted: &str) -> Result<bool, Fail> {
+    let most = filled(alloc, prefix, 4096)?;
+    let more = filled(alloc, prefix, 4097)?;
     Ok(
         most.len() == 4096
             && answers_by(alloc, most.as_bytes(), wanted.as_bytes())
@@ -186,8 +186,8 @@ fn fills(alloc: Global, front: &str, wanted: &str) -> Result<bool, Fail> {
 
 #[test]
 fn longest_text(rt: HostRuntime) -> Result<(), Fail> {
-    for (front, wanted) in &FILLED {
-        assert!(rt; fills(rt.alloc(), front, wanted)?, "{front}");
+    for (prefix, wanted) in &FILLED {
+        assert!(rt; fills(rt.alloc(), prefix, wanted)?, "{prefix}");
     }
     Ok(())
 }
@@ -201,7 +201,7 @@ fn longest_unknown_name(rt: HostRuntime) -> Result<(), Fail> {
 }
 
 #[test]
-fn most_lines(rt: HostRuntime) -> Result<(), Fail> {
+fn max_lines(rt: HostRuntime) -> Result<(), Fail> {
     let wanted = "error: unknown command\n".repeat(rt.alloc(), MAX_INPUT)?;
     assert!(rt; wanted.len() == 94_208);
     assert!(rt; answers_by(rt.alloc(), &[b'\n'; MAX_INPUT], wanted.as_bytes()));
@@ -209,7 +209,7 @@ fn most_lines(rt: HostRuntime) -> Result<(), Fail> {
     Ok(())
 }
 
-/// First groups in hexadecimal digits and their arcs, and how many groups 7F behind them fill the
+/// First groups in hexadecimal digits and their arcs, and how many groups 7F after them fill the
 /// longest input.
 const LONGEST: [(&str, &str, usize); 3] = [
     ("77", "2.39", 2044),
@@ -271,7 +271,7 @@ fn endless_input(rt: HostRuntime) {
 }
 
 /// In how many writes of at most three bytes an input is answered by an output, where each of them,
-/// failing in turn, is told as such, with a front written that is shorter than the whole.
+/// failing in turn, is told as such, with a prefix written that is shorter than the whole.
 fn writes_of(input: &[u8], wanted: &[u8]) -> Option<usize> {
     for fails_at in 1..99 {
         let mut rest = input;

@@ -15,17 +15,17 @@ overflow_shr-digit c = omega (arith, (width_is c.args.number).least 5 (omega ari
 
 pub loop-index-preserved : goal.loop-index-preserved
 loop-index-preserved c =
-    let s = c.split_at_mut-front.ensures in
-    record { written = written_more c.args.number _ c.loop-index.index c.loop-index.front (omega (arith, s.front_len)) (omega (arith, s.front_len)) c.loop-index.invariant.written; within = omega arith }
+    let s = c.split_at_mut-prefix.ensures in
+    record { written = written_more c.args.number _ c.loop-index.index c.loop-index.prefix (omega (arith, s.front_len)) (omega (arith, s.front_len)) c.loop-index.invariant.written; within = omega arith }
 
 pub returns : goal.returns
 returns c =
     let last = length c.args.octets.now - 1 in
     let some = (width_is c.args.number).positive in
-    let s = c.split_at_mut-front.ensures in
-    let rest = c.split_at_mut-front.result.1.now in
+    let s = c.split_at_mut-prefix.ensures in
+    let rest = c.split_at_mut-prefix.result.1.now in
     let e : c.loop-index.index ≡ last = omega (arith, c.loop-index.invariant.within) in
-    let w : IsWritten c.args.number last last c.loop-index.front = subst (λ i. IsWritten c.args.number last i c.loop-index.front) e c.loop-index.invariant.written in
-    let f : length c.loop-index.front ≡ last = omega (arith, s.front_len) in
+    let w : IsWritten c.args.number last last c.loop-index.prefix = subst (λ i. IsWritten c.args.number last i c.loop-index.prefix) e c.loop-index.invariant.written in
+    let f : length c.loop-index.prefix ≡ last = omega (arith, s.front_len) in
     let z : last - last ≡ 0 = omega arith in
-    rw (set-append_right c.loop-index.front rest last last (bit_and c.args.number 127) f (omega arith), z) at (written_group c.args.number last c.loop-index.front rest f (omega (arith, s.back_len)) (omega arith) w)
+    rw (set-append_right c.loop-index.prefix rest last last (bit_and c.args.number 127) f (omega arith), z) at (written_group c.args.number last c.loop-index.prefix rest f (omega (arith, s.back_len)) (omega arith) w)

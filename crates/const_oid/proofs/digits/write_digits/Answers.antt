@@ -19,7 +19,7 @@ loop-left-preserved c =
       place = omega arith;
       within = omega arith;
       written = rw (c.write_pair.ensures.written, e) (rw (decimal_pair l.left c.loop-left-test.true (omega arith), append_assoc) at l.invariant.written);
-      front = take_less c.args.at (l.place - 2) _ _ (omega arith) c.write_pair.ensures.front ∙ l.invariant.front;
+      prefix = take_less c.args.at (l.place - 2) _ _ (omega arith) c.write_pair.ensures.prefix ∙ l.invariant.prefix;
     }
 
 pub bounds-out-at-then-left-lt10 : goal.bounds-out-at-then-left-lt10
@@ -34,28 +34,28 @@ one_written c =
     let l = c.loop-left in
     let digit = decimal_digit l.left c.if-left-lt10.true in
     let some = ap length digit in
-    last_written c.args.out.now l.out _ (decimal c.args.arc) (decimal l.left) c.args.at l.place _ l.invariant.place (omega arith) (omega arith) l.invariant.front l.invariant.written
+    last_written c.args.out.now l.out _ (decimal c.args.arc) (decimal l.left) c.args.at l.place _ l.invariant.place (omega arith) (omega arith) l.invariant.prefix l.invariant.written
     (take-set l.out c.args.at (48 + l.left)) (rw digit (drop-set l.out c.args.at (48 + l.left) (omega arith)))
 
-pub returns-then-left-lt10-clause-front : goal.returns-then-left-lt10-clause-front
-returns-then-left-lt10-clause-front c = (one_written c).0
+pub returns-then-left-lt10-clause-prefix : goal.returns-then-left-lt10-clause-prefix
+returns-then-left-lt10-clause-prefix c = (one_written c).0
 
-pub returns-then-left-lt10-clause-behind : goal.returns-then-left-lt10-clause-behind
-returns-then-left-lt10-clause-behind c = (one_written c).1
+pub returns-then-left-lt10-clause-after : goal.returns-then-left-lt10-clause-after
+returns-then-left-lt10-clause-after c = (one_written c).1
 
-pub returns-else-left-lt10-clause-front : goal.returns-else-left-lt10-clause-front
-returns-else-left-lt10-clause-front c =
+pub returns-else-left-lt10-clause-prefix : goal.returns-else-left-lt10-clause-prefix
+returns-else-left-lt10-clause-prefix c =
     let l = c.loop-left in
     let w = c.write_pair-else-left-lt10.ensures in
-    (last_written c.args.out.now l.out _ (decimal c.args.arc) (decimal l.left) c.args.at l.place _ l.invariant.place (omega arith) (omega arith) l.invariant.front l.invariant.written
-    w.front (rw (decimal_two l.left c.if-left-lt10.false c.loop-left-test.false) w.written)).0
+    (last_written c.args.out.now l.out _ (decimal c.args.arc) (decimal l.left) c.args.at l.place _ l.invariant.place (omega arith) (omega arith) l.invariant.prefix l.invariant.written
+    w.prefix (rw (decimal_two l.left c.if-left-lt10.false c.loop-left-test.false) w.written)).0
 
-pub returns-else-left-lt10-clause-behind : goal.returns-else-left-lt10-clause-behind
-returns-else-left-lt10-clause-behind c =
+pub returns-else-left-lt10-clause-after : goal.returns-else-left-lt10-clause-after
+returns-else-left-lt10-clause-after c =
     let l = c.loop-left in
     let w = c.write_pair-else-left-lt10.ensures in
-    (last_written c.args.out.now l.out _ (decimal c.args.arc) (decimal l.left) c.args.at l.place _ l.invariant.place (omega arith) (omega arith) l.invariant.front l.invariant.written
-    w.front (rw (decimal_two l.left c.if-left-lt10.false c.loop-left-test.false) w.written)).1
+    (last_written c.args.out.now l.out _ (decimal c.args.arc) (decimal l.left) c.args.at l.place _ l.invariant.place (omega arith) (omega arith) l.invariant.prefix l.invariant.written
+    w.prefix (rw (decimal_two l.left c.if-left-lt10.false c.loop-left-test.false) w.written)).1
 
 pub bounds-out-at : goal.bounds-out-at
 bounds-out-at c = omega (arith, length_digit c.args.arc c.if-arc-lt10.true)
@@ -63,10 +63,10 @@ bounds-out-at c = omega (arith, length_digit c.args.arc c.if-arc-lt10.true)
 pub returns-then-arc-lt10-clause-end : goal.returns-then-arc-lt10-clause-end
 returns-then-arc-lt10-clause-end c = omega (arith, length_digit c.args.arc c.if-arc-lt10.true)
 
-pub returns-then-arc-lt10-clause-front : goal.returns-then-arc-lt10-clause-front
-returns-then-arc-lt10-clause-front c =
+pub returns-then-arc-lt10-clause-prefix : goal.returns-then-arc-lt10-clause-prefix
+returns-then-arc-lt10-clause-prefix c =
     let some = length_digit c.args.arc c.if-arc-lt10.true in
     rw (decimal_digit c.args.arc c.if-arc-lt10.true) (take_more_set c.args.out.now c.args.at (48 + c.args.arc) (omega arith))
 
-pub returns-then-arc-lt10-clause-behind : goal.returns-then-arc-lt10-clause-behind
-returns-then-arc-lt10-clause-behind c = drop-set-lt (c.args.at + 1) c.args.out.now c.args.at (48 + c.args.arc) (omega arith)
+pub returns-then-arc-lt10-clause-after : goal.returns-then-arc-lt10-clause-after
+returns-then-arc-lt10-clause-after c = drop-set-lt (c.args.at + 1) c.args.out.now c.args.at (48 + c.args.arc) (omega arith)

@@ -4,7 +4,7 @@ use Rattle.const_oid.specs.Buffer.{octets_of}
 use Rattle.const_oid.specs.Contents.{arcs_of_octets}
 use Rattle.const_oid.specs.Identifier.{root_rule}
 use Rattle.const_oid.proofs.Encodings.{encoding_back}
-use Rattle.const_oid.proofs.Items.{taken_more, takes_end, takes_front, handed_on}
+use Rattle.const_oid.proofs.Items.{taken_more, takes_end, takes_prefix, handed_on}
 use Rattle.const_oid.proofs.encoder.encode_within.Goals as goal
 
 pub returns-clause-takes : goal.returns-clause-takes
@@ -24,8 +24,8 @@ returns-in_err-arc-clause-takes g c =
     let l = c.loop-arc in
     let yielded = rw l.invariant.given at l.yielded_by in
     let fault = c.in_err-arc.field-0.0 in
-    let front = takes_front root_rule (min g.row.SIZE 255) g.I.IntoIter.Iterator.next_gives it.result l.encoder l.arc-iterator c.next.new.self yielded l.invariant.taken c.in-Some.arc fault c.in-Some.ensures.steps c.in_err-arc.ensures.fault in
-    (it.result, it.ensures.into_iter_gives, rw (handed_on (λ octets. arcs_of_octets (octets_of octets)) c.from_residual.result fault c.from_residual.ensures.1) front)
+    let prefix = takes_prefix root_rule (min g.row.SIZE 255) g.I.IntoIter.Iterator.next_gives it.result l.encoder l.arc-iterator c.next.new.self yielded l.invariant.taken c.in-Some.arc fault c.in-Some.ensures.steps c.in_err-arc.ensures.fault in
+    (it.result, it.ensures.into_iter_gives, rw (handed_on (λ octets. arcs_of_octets (octets_of octets)) c.from_residual.result fault c.from_residual.ensures.1) prefix)
 
 pub loop-arc-preserved : goal.loop-arc-preserved
 loop-arc-preserved g c =

@@ -1,5 +1,5 @@
 use Rattle.std.proofs.Common.{min, ◌≡◌, ◌≤◌, ◌-◌, drop, length}
-use Rattle.const_oid.specs.Identifier.{root_rule, most_arc}
+use Rattle.const_oid.specs.Identifier.{root_rule, max_arc}
 use Rattle.const_oid.specs.Text.{text_answer}
 use Rattle.const_oid.proofs.TextPass.{text_pass}
 use Rattle.const_oid.proofs.parser.parse_within.Given as goal
@@ -7,7 +7,7 @@ use Rattle.const_oid.proofs.parser.parse_within.Given as goal
 abbrev pub invariant-loop-index : goal.invariant-loop-index
 invariant-loop-index g l = record {
   pass : text_pass root_rule (min g.row.SIZE 255) l.encoder l.begun l.number (drop l.index l.bytes) ≡ text_answer root_rule l.bytes (min g.row.SIZE 255);
-  small : l.number ≤ most_arc;
+  small : l.number ≤ max_arc;
 }
 
 abbrev pub decreases-loop-index : goal.decreases-loop-index

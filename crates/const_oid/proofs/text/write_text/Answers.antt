@@ -11,7 +11,7 @@ loop-arc-preserved c =
     let more = w.result - l.at in
     let e : l.at + more ≡ w.result = omega arith in
     record {
-      text = rw (w.ensures.front, append_assoc, ← text_left-cons l.is_first c.in-Some.arc c.next.new.self, ← c.in-Some.ensures.steps) l.invariant.text;
+      text = rw (w.ensures.prefix, append_assoc, ← text_left-cons l.is_first c.in-Some.arc c.next.new.self, ← c.in-Some.ensures.steps) l.invariant.text;
       within = grind (arith, common_steps);
-      behind = w.ensures.behind ∙ rw (drop-drop, drop-drop, e) at (ap (drop more) l.invariant.behind);
+      after = w.ensures.after ∙ rw (drop-drop, drop-drop, e) at (ap (drop more) l.invariant.after);
     }

@@ -8,5 +8,5 @@ abbrev pub invariant-loop-arc : goal.invariant-loop-arc
 invariant-loop-arc l = record {
   text : take l.at l.out ++ text_left l.is_first l.arc-iterator ≡ text_of l.fn.arcs;
   within : l.at ≤ length l.out;
-  behind : drop l.at l.out ≡ drop l.at l.fn.out;
+  after : drop l.at l.out ≡ drop l.at l.fn.out;
 }

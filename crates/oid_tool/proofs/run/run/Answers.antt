@@ -17,7 +17,7 @@ returns-clause-ok g c =
 pub returns-clause-write : goal.returns-clause-write
 returns-clause-write g c = λ told.
     let known = rows_of-known c.new.result _ _ _ _ _ c.new.ensures refl c.new_unwrap-cn.ensures c.new_unwrap-c.ensures c.new_unwrap-common_name.ensures c.new_unwrap-rsa_encryption.ensures in
-    answered (AppendsFront _ _) c.new.result _ _ _ known c.in_ok-len.ensures.bytes c.in_ok-len.ensures.ended (IfErr-at_err _ told c.write_answers.ensures.front)
+    answered (AppendsFront _ _) c.new.result _ _ _ known c.in_ok-len.ensures.bytes c.in_ok-len.ensures.ended (IfErr-at_err _ told c.write_answers.ensures.prefix)
 
 pub returns-clause-whole : goal.returns-clause-whole
 returns-clause-whole g c = λ _. known_from_read (Consumes _ _) _ _ _ c.in_ok-len.ensures.bytes c.in_ok-len.ensures.ended c.in_ok-len.ensures.bytes

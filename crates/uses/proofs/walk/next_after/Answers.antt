@@ -26,13 +26,13 @@ reversed Less = refl
 reversed Equal = refl
 reversed Greater = refl
 
-after : (xs ys : List ℕ) → is_lt (slice_cmp nat_cmp xs ys) ≡ not (leb (ordering_index (slice_cmp nat_cmp ys xs)) 1)
-after xs ys = ap is_lt (nat_list_cmp_total.antisymm xs ys) ∙ reversed (slice_cmp nat_cmp ys xs)
+later : (xs ys : List ℕ) → is_lt (slice_cmp nat_cmp xs ys) ≡ not (leb (ordering_index (slice_cmp nat_cmp ys xs)) 1)
+later xs ys = ap is_lt (nat_list_cmp_total.antisymm xs ys) ∙ reversed (slice_cmp nat_cmp ys xs)
 
 pub returns : goal.returns
 returns c =
     let octets = ref_octets c.args.oid.now in
     let partitioned = IsPartitionedBy-leb (λ oid. ordering_index (slice_cmp nat_cmp (ref_octets oid) octets)) c.args.sorted.now 1 (searchable_from_sorted nat_list_cmp_total ref_octets c.args.sorted.now octets c.requires) in
-    let (before, behind) = IsPartitionPoint-from_clause (λ oid. leb (ordering_index (slice_cmp nat_cmp (ref_octets oid) octets)) 1) c.args.sorted.now c.partition_point-place.result c.partition_point-place.ensures.partitioned partitioned (λ a r f called. let e = numbered (slice_cmp nat_cmp (ref_octets a.0.now) octets) in search rules) in
+    let (before, after) = IsPartitionPoint-from_clause (λ oid. leb (ordering_index (slice_cmp nat_cmp (ref_octets oid) octets)) 1) c.args.sorted.now c.partition_point-place.result c.partition_point-place.ensures.partitioned partitioned (λ a r f called. let e = numbered (slice_cmp nat_cmp (ref_octets a.0.now) octets) in search rules) in
     let here : c.copied.result ≡ slice_get c.args.sorted.now c.partition_point-place.result = grind (arith, common_steps, gets) in
-    here ∙ found _ c.args.sorted.now c.partition_point-place.result (λ k d l m. after octets _ ∙ ap not (before k d (omega arith) l)) (λ d l. after octets _ ∙ ap not (behind c.partition_point-place.result d (omega arith) l))
+    here ∙ found _ c.args.sorted.now c.partition_point-place.result (λ k d l m. later octets _ ∙ ap not (before k d (omega arith) l)) (λ d l. later octets _ ∙ ap not (after c.partition_point-place.result d (omega arith) l))

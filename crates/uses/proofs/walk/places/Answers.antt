@@ -11,12 +11,12 @@ reversed Less level = refl
 reversed Equal level = refl
 reversed Greater level = cc
 
--- octets that do not stand behind others are not after them
+-- octets that do not stand after others are not after them
 level_with : (a b : List ℕ) → is_lt (slice_cmp nat_cmp b a) ≡ false → is_le (slice_cmp nat_cmp a b) ≡ true
 level_with a b level = reversed (slice_cmp nat_cmp a b) (rw (nat_list_cmp_total.antisymm b a) at level)
 
 pub returns-else-is_sorted-clause-sorted : goal.returns-else-is_sorted-clause-sorted
 returns-else-is_sorted-clause-sorted c =
     let (k, below, unordered) = c.if-is_sorted.ensures.cases in
-    let octets = λ (n : ℕ). ref_octets (slice_index_or c.args.oids.now n c.args.front.now) in
-    (λ e. cc, λ sorted. sym (unordered c.args.front.now) ∙ level_with (octets k) (octets (k + 1)) (sorted k c.args.front.now (omega arith) below))
+    let octets = λ (n : ℕ). ref_octets (slice_index_or c.args.oids.now n c.args.prefix.now) in
+    (λ e. cc, λ sorted. sym (unordered c.args.prefix.now) ∙ level_with (octets k) (octets (k + 1)) (sorted k c.args.prefix.now (omega arith) below))

@@ -11,7 +11,7 @@ pub invariant_of-self-clause-octets : goal.invariant_of-self-clause-octets
 invariant_of-self-clause-octets g c =
     let group = c.write_group.new.octets in
     let l = length_is c.args.number group c.write_group.ensures in
-    octets_written c.args.self.now.used c.args.count c.args.self.now.bytes group (omega arith) (omega arith) c.args.self.now.octets (octets_from_chain group c.write_group.ensures.chained)
+    octets_written c.args.self.now.used c.args.count c.args.self.now.bytes group (omega arith) (omega arith) c.args.self.now.octets (octets_from_chain group c.write_group.ensures.continued)
 
 pub invariant_of-self-clause-zeros : goal.invariant_of-self-clause-zeros
 invariant_of-self-clause-zeros g c =

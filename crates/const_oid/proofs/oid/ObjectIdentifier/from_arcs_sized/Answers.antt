@@ -7,4 +7,4 @@ use Rattle.const_oid.proofs.oid.ObjectIdentifier.from_arcs_sized.Goals as goal
 pub invariant_of-result : goal.invariant_of-result
 invariant_of-result g c =
     let octets = octets_of c.in_ok-ber.ber in
-    record { sound = none_from_encoding root_rule (arcs_of_octets octets) octets c.in_ok-ber.ensures.encoding }
+    record { valid = none_from_encoding root_rule (arcs_of_octets octets) octets c.in_ok-ber.ensures.encoding }

@@ -17,7 +17,7 @@ returns-in_err-push_group-clause-fits g c =
 pub invariant_of-result : goal.invariant_of-result
 invariant_of-result g c =
     let oid = c.args.self in
-    record { sound = child_none root_rule (oid_arcs oid) (oid_octets oid) _ c.args.arc (oid_encoding oid) (omega arith) c.in_ok-push_group.ensures.appended }
+    record { valid = child_none root_rule (oid_arcs oid) (oid_octets oid) _ c.args.arc (oid_encoding oid) (omega arith) c.in_ok-push_group.ensures.appended }
 
 pub returns-clause-fits : goal.returns-clause-fits
 returns-clause-fits g c =

@@ -10,5 +10,5 @@ invariant_of-result-clause-octets c = are_octets c.args.ber.now (λ k _. omega (
 
 pub returns-clause-encoding : goal.returns-clause-encoding
 returns-clause-encoding c =
-    let sound : parts_fault root_rule (cut c.args.ber.now) ≡ None = search rules in
-    encoding_from_none root_rule c.args.ber.now (are_octets c.args.ber.now (λ k _. omega (arith, c.type_inv.ber k))) sound
+    let valid : parts_fault root_rule (cut c.args.ber.now) ≡ None = search rules in
+    encoding_from_none root_rule c.args.ber.now (are_octets c.args.ber.now (λ k _. omega (arith, c.type_inv.ber k))) valid

@@ -8,4 +8,4 @@ use Rattle.const_oid.proofs.oid_ref.ObjectIdentifierRef.len.Goals as goal
 pub returns : goal.returns
 returns c =
     let oid = c.args.self.now in
-    omega (arith, length_by_count root_rule (ref_arcs oid) (ref_octets oid) (ref_encoding oid), c.count_last.ensures.value)
+    omega (arith, length_by_count root_rule (ref_arcs oid) (ref_octets oid) (ref_encoding oid), c.count_parts.ensures.value)

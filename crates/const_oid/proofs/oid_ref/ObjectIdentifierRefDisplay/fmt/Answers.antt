@@ -20,14 +20,14 @@ loop-arc-init g c =
     record {
       within = elim c.match-next.branch [ in-Some w ↦ omega (arith, arc_text_short true w.in-Some.first (omega arith)) | in-None w ↦ omega arith ];
       ascii = elim c.match-next.branch [
-        | in-Some w ↦ rw (w.used-is, w.bytes-is, w.write_arc-used.ensures.front) (arc_text_ascii true w.in-Some.first (omega arith))
+        | in-Some w ↦ rw (w.used-is, w.bytes-is, w.write_arc-used.ensures.prefix) (arc_text_ascii true w.in-Some.first (omega arith))
         | in-None w ↦ rw w.used-is (λ i. omega arith)
       ];
       writes = λ plain. (
         [],
         search rules,
         elim c.match-next.branch [
-          | in-Some w ↦ rw (w.used-is, w.bytes-is, w.write_arc-used.ensures.front, rest) (sym (text_left-cons true w.in-Some.first c.next.new.self) ∙ ap text_of (sym w.in-Some.ensures.steps ∙ all))
+          | in-Some w ↦ rw (w.used-is, w.bytes-is, w.write_arc-used.ensures.prefix, rest) (sym (text_left-cons true w.in-Some.first c.next.new.self) ∙ ap text_of (sym w.in-Some.ensures.steps ∙ all))
           | in-None w ↦ rw (w.used-is, rest, w.in-None.ensures.steps.1) (ap text_of (sym w.in-None.ensures.steps.0 ∙ all))
         ],
       );
@@ -48,7 +48,7 @@ loop-arc-preserved g c =
     let ascii : IsAscii (take c.if-used.used l.bytes) = elim c.if-used.branch [ then-used+in_ok-write_str w ↦ rw w.used-is (λ i. omega arith) | else-used w ↦ rw w.used-is l.invariant.ascii ] in
     record {
       within = omega arith;
-      ascii = rw wrote.ensures.front (IsAscii-append _ _ ascii (arc_text_ascii false arc (omega arith)));
+      ascii = rw wrote.ensures.prefix (IsAscii-append _ _ ascii (arc_text_ascii false arc (omega arith)));
       writes = λ plain.
           let (done, written, text) = l.invariant.writes plain in
           let at_hand : (done : List ℕ) × HasWritten g.W.Write.write_str_gives c.args.f.now done c.if-used.f
@@ -61,7 +61,7 @@ loop-arc-preserved g c =
           let left = rw c.in-Some-arc.ensures.steps at left in (
             all,
             sent,
-            rw (wrote.ensures.front, append_assoc)
+            rw (wrote.ensures.prefix, append_assoc)
                 (ap (λ t. all ++ (take c.if-used.used l.bytes ++ t)) (sym (text_left-cons false arc c.next-in-loop-arc.new.self)) ∙ left),
           );
     }

@@ -1,6 +1,6 @@
 use Rattle.std.proofs.Common.{◌≡◌, ◌<◌, ◌-◌, length, get_or, false, rules}
 use Rattle.const_oid.proofs.Shapes.{windows_fault}
-use Rattle.const_oid.proofs.sound.are_windows_sound.Goals as goal
+use Rattle.const_oid.proofs.valid.are_windows_valid.Goals as goal
 
 pub returns : goal.returns
 returns c =

@@ -15,7 +15,7 @@ use crate::error::Result;
 pub(crate) fn check(octets: &[u8]) -> Result<()>
     ensures { result_err result ≡ parts_fault root_rule (cut octets.now) }
 {
-    if is_sound(octets) {
+    if is_valid(octets) {
         Ok(())
     } else {
         arcs::check(octets)
@@ -24,23 +24,23 @@ pub(crate) fn check(octets: &[u8]) -> Result<()>
 
 /// Whether octets have no fault. It may miss it.
 #[inline(never)]
-fn is_sound(octets: &[u8]) -> bool
+fn is_valid(octets: &[u8]) -> bool
     ensures { IsTrue result → parts_fault root_rule (cut octets.now) ≡ None }
 {
     if octets.is_empty() {
         return false;
     }
     if octets.len() > 16 && octets[0] < 128 {
-        are_windows_sound(octets)
+        are_windows_valid(octets)
     } else {
-        are_groups_sound(octets)
+        are_groups_valid(octets)
     }
 }
 
-/// Whether octets behind one below 128 have no fault, told group by group. It may miss it, as it takes
+/// Whether octets after one below 128 have no fault, told group by group. It may miss it, as it takes
 /// groups of at most four octets.
 #[inline(always)]
-fn are_groups_sound(octets: &[u8]) -> bool
+fn are_groups_valid(octets: &[u8]) -> bool
     ensures { IsTrue result → later_fault (cut octets.now) ≡ None }
 {
     let mut rest = octets;
@@ -62,8 +62,8 @@ fn are_groups_sound(octets: &[u8]) -> bool
     true
 }
 
-/// Whether octets behind the first have no fault, told by each octet and the four before it.
-fn are_windows_sound(octets: &[u8]) -> bool
+/// Whether octets after the first have no fault, told by each octet and the four before it.
+fn are_windows_valid(octets: &[u8]) -> bool
     requires some { 0 < length octets.now }
     requires first { slice_index_or octets.now 0 0 < 128 }
     ensures { IsTrue result → later_fault (cut (drop 1 octets.now)) ≡ None }
@@ -86,7 +86,7 @@ fn has_empty_first(octets: &[u8]) -> bool
     found
 }
 
-/// Whether four octets of 128 or more in a row begin with 144 or more, or behind a fifth.
+/// Whether four octets of 128 or more in a row begin with 144 or more, or after a fifth.
 #[inline(always)]
 fn has_long_group(octets: &[u8]) -> bool
     ensures { result ≡ false → NoLongGroup octets.now }

@@ -1,4 +1,4 @@
-//! Every front of refused octets, whose groups are read whole.
+//! Every prefix of refused octets, whose groups are read whole.
 use crate::vectors::refused_octets;
 use const_oid::{Error, ObjectIdentifier, ObjectIdentifierRef};
 
@@ -34,13 +34,13 @@ fn octets_fault(octets: &[u8]) -> Option<Error> {
     None
 }
 
-/// Whether both forms answer to every front by its groups.
-fn fronts_hold(octets: &[u8]) -> bool {
+/// Whether both forms answer to every prefix by its groups.
+fn prefixes_hold(octets: &[u8]) -> bool {
     for end in 0..=octets.len() {
-        let front = octets.get(..end).unwrap_or(octets);
-        let fault = octets_fault(front);
-        if ObjectIdentifierRef::from_bytes(front).err() != fault
-            || ObjectIdentifier::from_bytes(front).err() != fault
+        let prefix = octets.get(..end).unwrap_or(octets);
+        let fault = octets_fault(prefix);
+        if ObjectIdentifierRef::from_bytes(prefix).err() != fault
+            || ObjectIdentifier::from_bytes(prefix).err() != fault
         {
             return false;
         }
@@ -48,11 +48,11 @@ fn fronts_hold(octets: &[u8]) -> bool {
     true
 }
 
-/// How many refused octets hold, with all their fronts.
+/// How many refused octets hold, with all their prefixes.
 fn refused_held() -> usize {
     let mut held = 0usize;
     for (octets, _) in refused_octets() {
-        if fronts_hold(octets) {
+        if prefixes_hold(octets) {
             held = held.saturating_add(1);
         }
     }

@@ -1,6 +1,6 @@
 use Rattle.std.proofs.Common.{refl}
 use Rattle.std.specs.Fmt.{digits}
-use Rattle.const_oid.proofs.laws.worked_rows.Goals as goal
+use Rattle.const_oid.proofs.laws.examples.Goals as goal
 
 pub returns-clause-printed : goal.returns-clause-printed
 unfolding digits
