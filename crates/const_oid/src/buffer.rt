@@ -238,6 +238,3 @@ impl<const SIZE: usize> Hash for Buffer<SIZE> {
         self.as_bytes().hash(state);
     }
 }
-
-#[cfg(test)]
-mod tests;

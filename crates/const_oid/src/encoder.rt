@@ -150,22 +150,3 @@ const fn max_second(first: Arc) -> Arc
 {
     if first < 2 { 39 } else { Arc::MAX }
 }
-
-#[cfg(test)]
-mod tests {
-    use super::*;
-    use std::test::Fail;
-
-    #[test]
-    fn fills_its_capacity(rt: HostRuntime) -> std::result::Result<(), Fail> {
-        let mut encoder = Encoder::<7>::new();
-        for arc in [1, 2, 840, 10045, 2, 1] {
-            encoder.arc(arc)?;
-        }
-        assert!(rt; encoder.arc(1) == Err(Error::Length));
-        assert!(rt;
-            encoder.finish()?.as_bytes() == [0x2A, 0x86, 0x48, 0xCE, 0x3D, 0x02, 0x01].as_slice()
-        );
-        Ok(())
-    }
-}

@@ -111,23 +111,3 @@ fn end_text<const SIZE: usize>(encoder: &mut Encoder<SIZE>, number: Option<Arc>)
         Some(arc) => encoder.arc(arc),
     }
 }
-
-#[cfg(test)]
-mod tests {
-    use super::*;
-    use std::test::Fail;
-
-    #[test]
-    fn leading_zeros(rt: HostRuntime) -> std::result::Result<(), Fail> {
-        let mut text = String::from_str(rt.alloc(), "1.2.")?;
-        for _ in 0..100_000 {
-            text.push_str("0")?;
-        }
-        text.push_str("7")?;
-        assert_eq!(rt;
-            parse::<39>(text.as_str())?.as_bytes(),
-            [0x2A, 0x07].as_slice()
-        );
-        Ok(())
-    }
-}

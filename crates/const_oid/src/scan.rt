@@ -146,6 +146,3 @@ fn first_len(octets: &[u8]) -> usize
     }
     octets.len()
 }
-
-#[cfg(test)]
-mod tests;

@@ -4,6 +4,8 @@
 #[cfg(test)]
 mod borrowed;
 #[cfg(test)]
+mod capacity;
+#[cfg(test)]
 mod errors;
 #[cfg(test)]
 mod formatter;
