@@ -19,7 +19,7 @@ pub mod TextPass
 pub mod Octets
 pub mod Written
 pub mod Started
-pub mod Parts
+pub mod PartBounds
 pub mod Shapes
 pub mod Parents
 pub mod Printed

@@ -7,7 +7,7 @@ ghost use Rattle.const_oid.specs.Identifier.{root_rule};
 ghost use Rattle.const_oid.specs.Contents.{cut, later_fault, parts_fault, max_first, arcs_from, arcs_of_octets};
 
 use crate::error::{Error, Result};
-use crate::scan::skip_parts;
+use crate::parts::skip_parts;
 use std::marker::Model;
 
 /// An arc: a number of a path, of 32 bits.

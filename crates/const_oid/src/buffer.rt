@@ -4,8 +4,8 @@ ghost use Rattle.std.specs.Prelude.{◌≡◌, ◌+◌, ◌-◌, ◌^◌, ◌<�
 ghost use Rattle.std.proofs.Props.{props};
 ghost use Rattle.const_oid.specs.Base128.{AreOctets, IsGroup, GoesOn, width};
 
+use crate::compare::order;
 use crate::error::{Error, Result};
-use crate::scan::order;
 use std::cmp::Ordering;
 use std::hash::{Hash, Hasher};
 
@@ -75,15 +75,15 @@ impl<const SIZE: usize> Buffer<SIZE> {
     {
         // The shortest group is the most frequent one.
         if number < 128 {
-            self.push_octets(number, 1)
+            self.push_number_of_len(number, 1)
         } else {
-            self.push_octets(number, group_len(number))
+            self.push_number_of_len(number, group_len(number))
         }
     }
 
     /// Appends the group of a number, which takes `count` octets, or answers `Length`.
     #[inline(always)]
-    fn push_octets(&mut self, number: u64, count: usize) -> Result<()>
+    fn push_number_of_len(&mut self, number: u64, count: usize) -> Result<()>
         requires small { number < 2 ^ 35 }
         requires wide { count ≡ width number }
         ensures fits { let long = length (octets_of self.old) + count in

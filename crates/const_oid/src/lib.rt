@@ -3,6 +3,7 @@
 
 pub mod arcs;
 pub mod buffer;
+mod compare;
 pub mod db;
 mod digits;
 mod encoder;
@@ -11,7 +12,7 @@ pub mod laws;
 pub mod oid;
 pub mod oid_ref;
 mod parser;
-mod scan;
+mod parts;
 mod text;
 pub mod traits;
 mod valid;

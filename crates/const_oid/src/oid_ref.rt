@@ -11,10 +11,11 @@ ghost use Rattle.const_oid.specs.Identifier.{root_rule, IsEncoding};
 ghost use Rattle.const_oid.specs.Text.{text_of};
 
 use crate::arcs::{Arc, Arcs, arc_at};
+use crate::compare::{begins_with, order, order_by_parts};
 use crate::digits::{MAX_ARC_LEN, write_arc};
 use crate::error::{Error, Result};
 use crate::oid::ObjectIdentifier;
-use crate::scan::{begins_with, count_parts, order, order_by_parts, without_last_part};
+use crate::parts::{count_parts, without_last_part};
 use crate::text::{ascii, text_len, write_text};
 use crate::valid::check;
 use std::cmp::Ordering;

@@ -3,7 +3,7 @@ use Rattle.std.proofs.lemmas.Grind.{common_steps}
 use Rattle.const_oid.specs.Contents.{cut}
 use Rattle.const_oid.specs.Identifier.{root_rule}
 use Rattle.const_oid.proofs.PartsFault.{parts_from_later, later_small}
-use Rattle.const_oid.proofs.Parts.{valid_after, none_after, arc_after}
+use Rattle.const_oid.proofs.PartBounds.{valid_after, none_after, arc_after}
 use Rattle.const_oid.proofs.arcs.arc_at.Goals as goal
 
 pub returns-then-is_empty : goal.returns-then-is_empty

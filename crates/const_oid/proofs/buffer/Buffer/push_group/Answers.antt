@@ -7,4 +7,4 @@ pub returns-then-number-lt128-clause-fits : goal.returns-then-number-lt128-claus
 returns-then-number-lt128-clause-fits g c =
     let w = width_is c.args.number in
     let one : width c.args.number ≡ 1 = omega (arith, w.positive, w.least 1 (omega arith) (omega arith)) in
-    rw one c.push_octets.ensures.fits
+    rw one c.push_number_of_len.ensures.fits

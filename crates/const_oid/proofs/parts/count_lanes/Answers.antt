@@ -3,7 +3,7 @@ use Rattle.std.specs.Int.RustNames.{count_ones}
 use Rattle.std.proofs.lemmas.List.Sums.{count_by-le-length}
 use Rattle.std.proofs.lemmas.List.{take_all}
 use Rattle.std.proofs.lemmas.Simd.{bitmask_splat, ones-mask_l}
-use Rattle.const_oid.proofs.scan.count_lanes.Goals as goal
+use Rattle.const_oid.proofs.parts.count_lanes.Goals as goal
 
 pub returns-clause-value : goal.returns-clause-value
 returns-clause-value c =

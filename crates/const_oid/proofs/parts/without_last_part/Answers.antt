@@ -1,6 +1,6 @@
 use Rattle.std.proofs.Common.{rules}
 use Rattle.const_oid.proofs.Parents.{cut-without_last_part, cut-before_only}
-use Rattle.const_oid.proofs.scan.without_last_part.Goals as goal
+use Rattle.const_oid.proofs.parts.without_last_part.Goals as goal
 
 pub returns-in-Some-rposition-clause-parts : goal.returns-in-Some-rposition-clause-parts
 returns-in-Some-rposition-clause-parts c =

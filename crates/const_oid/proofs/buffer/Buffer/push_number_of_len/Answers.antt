@@ -2,7 +2,7 @@ use Rattle.std.proofs.Common.{arith}
 use Rattle.std.proofs.lemmas.Slice.{take-put_mid}
 use Rattle.const_oid.proofs.Groups.{length_is, width_is}
 use Rattle.const_oid.proofs.Octets.{octets_from_chain, zeros_written, octets_written}
-use Rattle.const_oid.proofs.buffer.Buffer.push_octets.Goals as goal
+use Rattle.const_oid.proofs.buffer.Buffer.push_number_of_len.Goals as goal
 
 pub overflow_add-end : goal.overflow_add-end
 overflow_add-end g c = omega (arith, c.args.self.now.within, (width_is c.args.number).least 5 (omega arith) (omega arith))

@@ -4,7 +4,7 @@ use Rattle.std.proofs.lemmas.Bool.Decides.{Decides-eqb}
 use Rattle.std.proofs.lemmas.List.{nil_from_length}
 use Rattle.std.proofs.lemmas.Slice.Eq.{starts_is}
 use Rattle.const_oid.proofs.BeginsWith.{last_told}
-use Rattle.const_oid.proofs.scan.begins_with.Goals as goal
+use Rattle.const_oid.proofs.compare.begins_with.Goals as goal
 
 pub returns-in_default : goal.returns-in_default
 returns-in_default c =

@@ -1,6 +1,6 @@
 use Rattle.std.proofs.Common.{rules, sym, ◌∙◌}
 use Rattle.const_oid.proofs.ByParts.{same_at, ended_at}
-use Rattle.const_oid.proofs.scan.order_by_parts.Goals as goal
+use Rattle.const_oid.proofs.compare.order_by_parts.Goals as goal
 
 pub loop-i-preserved : goal.loop-i-preserved
 loop-i-preserved c =

@@ -1,7 +1,7 @@
 use Rattle.std.proofs.Common.{◌≡◌, arith, sym, refl, ◌∙◌, lt-ltb, le-ltb, get_or}
 use Rattle.std.proofs.lemmas.List.{take_rest}
-use Rattle.const_oid.proofs.Parts.{after_more}
-use Rattle.const_oid.proofs.scan.skip_parts.Goals as goal
+use Rattle.const_oid.proofs.PartBounds.{after_more}
+use Rattle.const_oid.proofs.parts.skip_parts.Goals as goal
 
 pub returns-then-left-eq0 : goal.returns-then-left-eq0
 returns-then-left-eq0 c =

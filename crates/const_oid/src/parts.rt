@@ -1,0 +1,74 @@
+//! How many parts octets have, where these begin, and where they end.
+
+ghost use Rattle.std.specs.Prelude.{◌≡◌, ◌-◌, ◌≤◌, length, take, drop, count_by, nat_lt};
+ghost use Rattle.const_oid.specs.Contents.{cut, first_length};
+
+use std::simd::prelude::*;
+use std::simd::u8x32;
+
+/// How many octets are below 128, counted 32 at a time.
+pub(crate) fn count_parts(octets: &[u8]) -> usize
+    ensures value { result ≡ count_by (λ x. nat_lt x 128) octets.now }
+    ensures fits { result ≤ length octets.now }
+{
+    let mut count = 0;
+    let mut rest = octets;
+    while rest.len() >= 32 {
+        let (lanes, after) = rest.split_at(32);
+        count += count_lanes(lanes);
+        rest = after;
+    }
+    count + rest.iter().filter(|octet| **octet < 128).count()
+}
+
+/// How many of 32 octets are below 128.
+#[inline(always)]
+fn count_lanes(octets: &[u8]) -> usize
+    requires { length octets.now ≡ 32 }
+    ensures value { result ≡ count_by (λ x. nat_lt x 128) octets.now }
+    ensures fits { result ≤ length octets.now }
+{
+    let lanes = u8x32::from_slice(octets).simd_lt(u8x32::splat(128));
+    lanes.to_bitmask().count_ones() as usize
+}
+
+/// The octets after so many parts: where the next one begins, and those before it end.
+#[inline(always)]
+pub(crate) fn skip_parts(octets: &[u8], parts: usize) -> &[u8]
+    ensures { cut result.now ≡ drop parts (cut octets.now) }
+{
+    let mut left = parts;
+    for (i, octet) in octets.iter().enumerate() {
+        if left == 0 {
+            return &octets[i..];
+        }
+        left -= usize::from(*octet < 128);
+    }
+    &octets[octets.len()..]
+}
+
+/// The octets before the last part: up to the last octet below 128 that others follow.
+pub(crate) fn without_last_part(octets: &[u8]) -> &[u8]
+    ensures parts { let parts = cut octets.now in cut result.now ≡ take (length parts - 1) parts }
+    ensures short { length result.now ≤ length octets.now }
+{
+    let Some((_, prefix)) = octets.split_last() else {
+        return octets;
+    };
+    match prefix.iter().rposition(|octet| *octet < 128) {
+        Some(index) => &prefix[..index + 1],
+        None => &prefix[..0],
+    }
+}
+
+/// How many octets the first part has.
+pub(crate) fn first_len(octets: &[u8]) -> usize
+    ensures { result ≡ first_length (cut octets.now) }
+{
+    for (i, octet) in octets.iter().enumerate() {
+        if *octet < 128 {
+            return i + 1;
+        }
+    }
+    octets.len()
+}
