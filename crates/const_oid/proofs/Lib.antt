@@ -26,7 +26,6 @@ pub mod Printed
 pub mod Subtree
 pub mod Overflow
 pub mod Tree
-pub mod Names
 pub mod Wider
 pub mod Widened
 pub mod Identifiers

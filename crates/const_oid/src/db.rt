@@ -2,10 +2,11 @@
 
 ghost use Rattle.std.specs.Prelude.{◌≡◌};
 ghost use Rattle.std.specs.Iterator.{YieldsFirst, item_count};
-ghost use Rattle.const_oid.specs.Names as names;
-ghost use Rattle.const_oid.specs.Names.{entries_of, has_arcs, first_name, resolve_answer, all_names, first_oid, names_left};
+ghost use Rattle.std.specs.Str.{str_eq_ignore_ascii_case};
+ghost use Rattle.const_oid.specs.Names.{lent_arcs, entries_of, has_arcs, first_name, resolve_answer, all_names, first_oid, names_left};
 ghost use Rattle.const_oid.specs.Oid.{oid_arcs};
 
+pub use crate::db_ref::{RefDatabase, RefNames};
 use crate::error::Result;
 use crate::oid::ObjectIdentifier;
 
@@ -27,32 +28,39 @@ impl<'a> Database<'a> {
 
     /// The name of the first entry with this identifier, or `None` where no entry has it.
     pub fn by_oid(&self, oid: &ObjectIdentifier<39>) -> Option<&'a str>
-        ensures { result ≡ first_name (entries_of self.now) (oid_arcs oid.now) }
+        ensures { result ≡ first_name lent_arcs (entries_of self.now) (oid_arcs oid.now) }
     {
-        self.entries
-            .iter()
-            .find(|entry| has_oid(entry, oid))
-            .map(|entry| entry.1)
+        let mut left = self.entries;
+        while let [entry, after @ ..] = left {
+            if has_oid(entry, oid) {
+                return Some(entry.1);
+            }
+            left = after;
+        }
+        None
     }
 
     /// The identifier of the first entry with the same name, or `None` where no entry has it.
     pub fn by_name(&self, name: &str) -> Option<&'a ObjectIdentifier<39>>
         ensures { result ≡ first_oid (entries_of self.now) name.now }
     {
-        self.entries
-            .iter()
-            .find(|entry| has_name(entry, name))
-            .map(|entry| entry.0)
+        let mut left = self.entries;
+        while let [entry, after @ ..] = left {
+            if is_same_name(entry.1, name) {
+                return Some(entry.0);
+            }
+            left = after;
+        }
+        None
     }
 
     /// The names of all entries with this identifier, in table order.
     pub fn find_names_for_oid(&self, oid: ObjectIdentifier<39>) -> Names<'a>
-        ensures { names_left result ≡ all_names (entries_of self.now) (oid_arcs oid) }
+        ensures { names_left result ≡ all_names lent_arcs (entries_of self.now) (oid_arcs oid) }
     {
         Names {
-            database: *self,
+            left: self.entries,
             oid,
-            position: 0,
         }
     }
 
@@ -71,9 +79,8 @@ impl<'a> Database<'a> {
 /// The names of an identifier in a table, in table order.
 #[derive(Drop)]
 pub struct Names<'a> {
-    database: Database<'a>,
+    left: &'a [(&'a ObjectIdentifier<39>, &'a str)],
     oid: ObjectIdentifier<39>,
-    position: usize,
 }
 
 impl<'a> Iterator for Names<'a> {
@@ -85,29 +92,37 @@ impl<'a> Iterator for Names<'a> {
 
     /// The next name; after the last one `None`, each time.
     fn next(&mut self) -> Option<&'a str> {
-        let entries = self.database.entries;
-        for place in self.position..entries.len() {
-            let entry = entries[place];
-            if has_oid(&entry, &self.oid) {
-                self.position = place + 1;
+        while let [entry, after @ ..] = self.left {
+            self.left = after;
+            if has_oid(entry, &self.oid) {
                 return Some(entry.1);
             }
         }
-        self.position = entries.len();
         None
     }
 }
 
 /// Whether an entry has this identifier.
 fn has_oid(entry: &(&ObjectIdentifier<39>, &str), oid: &ObjectIdentifier<39>) -> bool
-    ensures { result ≡ has_arcs (oid_arcs oid.now) entry.now }
+    ensures { result ≡ has_arcs lent_arcs (oid_arcs oid.now) entry.now }
 {
     *entry.0 == *oid
 }
 
-/// Whether an entry has the same name, of which the lengths are compared first.
-fn has_name(entry: &(&ObjectIdentifier<39>, &str), name: &str) -> bool
-    ensures { result ≡ names.has_name name.now entry.now }
+/// Whether names are the same, of which the lengths are compared first.
+pub(crate) fn is_same_name(a: &str, b: &str) -> bool
+    ensures { result ≡ str_eq_ignore_ascii_case a.now b.now }
 {
-    entry.1.len() == name.len() && entry.1.eq_ignore_ascii_case(name)
+    let (a, b) = (a.as_bytes(), b.as_bytes());
+    if a.len() != b.len() {
+        return false;
+    }
+    let mut index = 0;
+    while index < a.len() {
+        if !a[index].eq_ignore_ascii_case(&b[index]) {
+            return false;
+        }
+        index += 1;
+    }
+    true
 }

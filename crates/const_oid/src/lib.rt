@@ -5,6 +5,7 @@ pub mod arcs;
 pub mod buffer;
 mod compare;
 pub mod db;
+mod db_ref;
 mod digits;
 mod encoder;
 pub mod error;

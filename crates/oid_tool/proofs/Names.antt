@@ -6,9 +6,10 @@ use Rattle.std.specs.Option.{option_map}
 use Rattle.std.specs.Prelude.{Option, Some, IfSome, Result, Ok, Err, codes, unwrap_or, find}
 use Rattle.std.specs.Str.{IsUtf8}
 use Rattle.const_oid.specs.declared.db.Database.{Database}
+use Rattle.const_oid.specs.declared.oid.ObjectIdentifier.{ObjectIdentifier}
 use Rattle.const_oid.specs.declared.error.Error.{Error}
 use Rattle.const_oid.specs.Identifier.{root_rule}
-use Rattle.const_oid.specs.Names.{Entry, has_arcs, name_of, name_or, entries_of, resolve_answer}
+use Rattle.const_oid.specs.Names.{Entry, lent_arcs, has_arcs, name_of, name_or, entries_of, resolve_answer}
 use Rattle.const_oid.specs.Text.{Denotes, text_answer}
 use Rattle.oid_tool.specs.Answers.{shown_line, denoted_line, name_line, answers}
 use Rattle.oid_tool.specs.Names.{row_of, rows_of, row_name, row_has_arcs, row_name_or, known_names}
@@ -16,10 +17,10 @@ use Rattle.oid_tool.proofs.Commands.{denoted_line-read}
 use Rattle.oid_tool.proofs.Output.{known_from_read}
 
 -- the name that a table gives is that of its rows
-name_or-rows : (entries : List Entry) (text : Bor (List ℕ)) (arcs : List ℕ) → (name_or entries text arcs).now ≡ row_name_or (map row_of entries) text.now arcs
+name_or-rows : (entries : List (Entry (Bor (ObjectIdentifier 39)))) (text : Bor (List ℕ)) (arcs : List ℕ) → (name_or entries text arcs).now ≡ row_name_or (map row_of entries) text.now arcs
 name_or-rows [] text arcs = refl
 name_or-rows (entry ∷ entries) text arcs =
-    elim (has_arcs arcs entry) as (λ b. (unwrap_or (option_map name_of (cond b (Some entry) (find (has_arcs arcs) entries))) text).now
+    elim (has_arcs lent_arcs arcs entry) as (λ b. (unwrap_or (option_map name_of (cond b (Some entry) (find (has_arcs lent_arcs arcs) entries))) text).now
     ≡ unwrap_or (option_map row_name (cond b (Some (row_of entry)) (find (row_has_arcs arcs) (map row_of entries)))) text.now)
     [ true ↦ refl | false ↦ name_or-rows entries text arcs ]
 
@@ -28,12 +29,12 @@ abbrev bytes_of : Bor (List ℕ) → List ℕ
 bytes_of text = text.now
 
 -- the line of what a text is resolved to, by what it is read as
-shown_line-resolved : (entries : List Entry) (text : Bor (List ℕ)) (answer : Result (List ℕ) Error) → answer ≡ text_answer root_rule text.now 39 → shown_line bytes_of (resolve_answer entries text) ≡ shown_line (row_name_or (map row_of entries) text.now) answer
+shown_line-resolved : (entries : List (Entry (Bor (ObjectIdentifier 39)))) (text : Bor (List ℕ)) (answer : Result (List ℕ) Error) → answer ≡ text_answer root_rule text.now 39 → shown_line bytes_of (resolve_answer entries text) ≡ shown_line (row_name_or (map row_of entries) text.now) answer
 shown_line-resolved entries text (Ok arcs) e = rw (sym e) (name_or-rows entries text arcs)
 shown_line-resolved entries text (Err fault) e = rw (sym e) refl
 
 -- the line of a text that is resolved to a name, or has a fault
-pub name_line-resolved : (entries : List Entry) (text : Bor (List ℕ)) (bytes : List ℕ) (result : Result (Bor (List ℕ)) Error) → text.now ≡ bytes → IsUtf8 bytes → result ≡ resolve_answer entries text → shown_line bytes_of result ≡ name_line (map row_of entries) bytes
+pub name_line-resolved : (entries : List (Entry (Bor (ObjectIdentifier 39)))) (text : Bor (List ℕ)) (bytes : List ℕ) (result : Result (Bor (List ℕ)) Error) → text.now ≡ bytes → IsUtf8 bytes → result ≡ resolve_answer entries text → shown_line bytes_of result ≡ name_line (map row_of entries) bytes
 unfolding name_line
 name_line-resolved entries text bytes result same utf8 e =
     ap (shown_line bytes_of) e ∙ shown_line-resolved entries text (text_answer root_rule text.now 39) refl
@@ -41,7 +42,7 @@ name_line-resolved entries text bytes result same utf8 e =
     ∙ ap (λ shown. denoted_line (row_name_or (map row_of entries) shown) bytes) same
 
 -- the tool's table is that of the arcs that its texts denote
-pub rows_of-known : (table : Database) (entries : List Entry) (cn c common_name rsa_encryption : List ℕ) → entries_of table ≡ entries
+pub rows_of-known : (table : Database) (entries : List (Entry (Bor (ObjectIdentifier 39)))) (cn c common_name rsa_encryption : List ℕ) → entries_of table ≡ entries
     → map row_of entries ≡ (cn, codes "cn") ∷ (c, codes "c") ∷ (common_name, codes "commonName") ∷ (rsa_encryption, codes "rsaEncryption") ∷ []
     → Denotes root_rule (codes "2.5.4.3") cn → Denotes root_rule (codes "2.5.4.6") c → Denotes root_rule (codes "2.5.4.3") common_name → Denotes root_rule (codes "1.2.840.113549.1.1.1") rsa_encryption
     → rows_of table ≡ known_names

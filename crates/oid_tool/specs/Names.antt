@@ -1,10 +1,11 @@
 -- Names that the tool knows, as rows that can be read without a table in memory.
 use Rattle.std.specs.Prelude.{ℕ, Bool, List, [], ◌∷◌, codes, nat_eq, map, find, unwrap_or}
+use Rattle.std.specs.Borrow.{Bor}
 use Rattle.std.specs.Cmp.Lexicographic.{pointwise}
 use Rattle.std.specs.Option.{option_map}
 use Rattle.const_oid.specs.declared.db.Database.{Database}
-use Rattle.const_oid.specs.Names.{Entry, oid_of, name_of, entries_of}
-use Rattle.const_oid.specs.Oid.{oid_arcs}
+use Rattle.const_oid.specs.Names.{Entry, oid_of, name_of, entries_of, lent_arcs}
+use Rattle.const_oid.specs.declared.oid.ObjectIdentifier.{ObjectIdentifier}
 
 -- a row of a table: arcs, and their name
 abbrev pub Row : Type 0
@@ -23,8 +24,8 @@ abbrev pub row_name_or : List Row → List ℕ → List ℕ → List ℕ
 row_name_or table text arcs = unwrap_or (option_map row_name (find (row_has_arcs arcs) table)) text
 
 -- the row of an entry
-abbrev pub row_of : Entry → Row
-row_of entry = (oid_arcs (oid_of entry).now, (name_of entry).now)
+abbrev pub row_of : Entry (Bor (ObjectIdentifier 39)) → Row
+row_of entry = (lent_arcs (oid_of entry), (name_of entry).now)
 
 -- the rows of a database
 abbrev pub rows_of : Database → List Row

@@ -4,7 +4,7 @@ ghost use Rattle.std.specs.Prelude.{◌≡◌, Ok, Err, MatchResult};
 ghost use Rattle.std.specs.Option.{option_or};
 ghost use Rattle.const_oid.specs.Contents.{octet_answer};
 ghost use Rattle.const_oid.specs.Identifier.{root_rule};
-ghost use Rattle.const_oid.specs.Names.{entries_of, first_name};
+ghost use Rattle.const_oid.specs.Names.{entries_of, first_name, lent_arcs};
 ghost use Rattle.const_oid.specs.Oid.{oid_arcs};
 
 use const_oid::db::Database;
@@ -13,7 +13,7 @@ use const_oid::{ObjectIdentifier, Result};
 /// The name of the algorithm with these octets, `None` where the table has none, or the octets' fault.
 pub fn name_of<'a>(database: &Database<'a>, octets: &[u8]) -> Result<Option<&'a str>>
     ensures { MatchResult (octet_answer root_rule octets.now 39)
-        (λ arcs. result ≡ Ok (first_name (entries_of database.now) arcs))
+        (λ arcs. result ≡ Ok (first_name lent_arcs (entries_of database.now) arcs))
         (λ fault. result ≡ Err fault) }
 {
     let oid = ObjectIdentifier::from_bytes(octets)?;
@@ -26,8 +26,8 @@ pub fn name_in<'a>(
     others: &Database<'a>,
     oid: &ObjectIdentifier<39>,
 ) -> Option<&'a str>
-    ensures { result ≡ option_or (first_name (entries_of own.now) (oid_arcs oid.now))
-        (first_name (entries_of others.now) (oid_arcs oid.now)) }
+    ensures { result ≡ option_or (first_name lent_arcs (entries_of own.now) (oid_arcs oid.now))
+        (first_name lent_arcs (entries_of others.now) (oid_arcs oid.now)) }
 {
     own.by_oid(oid).or(others.by_oid(oid))
 }

@@ -1,0 +1,96 @@
+//! Names of borrowed identifiers, by a table that a constant can hold.
+
+ghost use Rattle.std.specs.Prelude.{◌≡◌};
+ghost use Rattle.std.specs.Iterator.{YieldsFirst, item_count};
+ghost use Rattle.const_oid.specs.Names.{ref_entries_of, has_arcs, first_name, all_names, first_oid, ref_names_left};
+ghost use Rattle.const_oid.specs.OidRef.{ref_arcs};
+
+use crate::db::is_same_name;
+use crate::oid_ref::ObjectIdentifierRef;
+
+/// A table of borrowed identifiers and their names, as a constant can hold it. Both may stand in it
+/// more than once, and names are the same as in a [`Database`](crate::db::Database).
+#[derive(Copy, Clone)]
+pub struct RefDatabase<'a> {
+    entries: &'a [(ObjectIdentifierRef<'a>, &'a str)],
+}
+
+impl<'a> RefDatabase<'a> {
+    /// A database over these entries.
+    pub fn new(entries: &'a [(ObjectIdentifierRef<'a>, &'a str)]) -> Self
+        ensures { ref_entries_of result ≡ entries.now }
+    {
+        RefDatabase { entries }
+    }
+
+    /// The name of the first entry with this identifier, or `None` where no entry has it.
+    pub fn by_oid(&self, oid: &ObjectIdentifierRef<'_>) -> Option<&'a str>
+        ensures { result ≡ first_name ref_arcs (ref_entries_of self.now) (ref_arcs oid.now) }
+    {
+        let mut left = self.entries;
+        while let [entry, after @ ..] = left {
+            if has_ref(entry, oid) {
+                return Some(entry.1);
+            }
+            left = after;
+        }
+        None
+    }
+
+    /// The identifier of the first entry with the same name, or `None` where no entry has it.
+    pub fn by_name(&self, name: &str) -> Option<ObjectIdentifierRef<'a>>
+        ensures { result ≡ first_oid (ref_entries_of self.now) name.now }
+    {
+        let mut left = self.entries;
+        while let [entry, after @ ..] = left {
+            if is_same_name(entry.1, name) {
+                return Some(entry.0);
+            }
+            left = after;
+        }
+        None
+    }
+
+    /// The names of all entries with this identifier, in table order.
+    pub fn find_names_for_oid<'b>(&self, oid: ObjectIdentifierRef<'b>) -> RefNames<'a, 'b>
+        ensures { ref_names_left result ≡ all_names ref_arcs (ref_entries_of self.now) (ref_arcs oid.entry) }
+    {
+        RefNames {
+            left: self.entries,
+            oid,
+        }
+    }
+}
+
+/// The names of an identifier in a table of borrowed ones, in table order.
+#[derive(Drop)]
+pub struct RefNames<'a, 'b> {
+    left: &'a [(ObjectIdentifierRef<'a>, &'a str)],
+    oid: ObjectIdentifierRef<'b>,
+}
+
+impl<'a, 'b> Iterator for RefNames<'a, 'b> {
+    type Item = &'a str;
+
+    ghost next_gives = { YieldsFirst ref_names_left };
+
+    ghost remaining = { item_count ref_names_left };
+
+    /// The next name; after the last one `None`, each time.
+    fn next(&mut self) -> Option<&'a str> {
+        while let [entry, after @ ..] = self.left {
+            self.left = after;
+            if has_ref(entry, &self.oid) {
+                return Some(entry.1);
+            }
+        }
+        None
+    }
+}
+
+/// Whether an entry has this borrowed identifier.
+fn has_ref(entry: &(ObjectIdentifierRef<'_>, &str), oid: &ObjectIdentifierRef<'_>) -> bool
+    ensures { result ≡ has_arcs ref_arcs (ref_arcs oid.now) entry.now }
+{
+    entry.0 == *oid
+}
