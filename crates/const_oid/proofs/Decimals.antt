@@ -1,11 +1,11 @@
 -- The digits of a number, counted, and written from the last to the first.
-use Rattle.std.proofs.Common.{◌≡◌, Bool, true, false, ℕ, zero, suc, ◌+◌, ◌/◌, ◌^◌, ◌<◌, ◌≤◌, List, ◌++◌, length, take, drop, ap, ◌∙◌, subst, sym, take-take, ◌%◌, arith, decimal, length-append, append_assoc, pow-suc}
+use Rattle.std.proofs.Common.{◌≡◌, Bool, true, false, ℕ, zero, suc, ◌+◌, ◌-◌, ◌/◌, ◌^◌, ◌<◌, ◌≤◌, List, ◌++◌, length, take, drop, ap, ◌∙◌, subst, sym, take-take, ◌%◌, arith, decimal, length-append, append_assoc, pow-suc}
 use Rattle.std.proofs.lemmas.Fmt.{decimal_digit, decimal_step, length-decimal-le, IsAscii-decimal}
 use Rattle.std.proofs.lemmas.Str.Ascii.{IsAscii-cons}
 use Rattle.std.specs.Str.{IsAscii}
 use Rattle.const_oid.specs.Text.{arc_text, pair_text}
 use Rattle.std.proofs.Math.Seq.{take-append_seam, drop-append_seam}
-use Rattle.std.proofs.lemmas.List.{take-append-drop, length-take-le}
+use Rattle.std.proofs.lemmas.List.{take-append-drop, length-take-le, drop-drop}
 
 pub length_digit : (n : ℕ) → n < 10 → length (decimal n) ≡ 1
 length_digit n h = ap length (decimal_digit n h)
@@ -45,6 +45,9 @@ arc_text_ascii false arc h = IsAscii-cons 46 (decimal arc) (omega arith) (IsAsci
 
 pub take_less : (n m : ℕ) (xs ys : List ℕ) → n ≤ m → take m xs ≡ take m ys → take n xs ≡ take n ys
 take_less n m xs ys h e = sym (take-take n m xs h) ∙ ap (take n) e ∙ take-take n m ys h
+
+pub drop_more : (n m : ℕ) (xs ys : List ℕ) → n ≤ m → drop n xs ≡ drop n ys → drop m xs ≡ drop m ys
+drop_more n m xs ys h e = let f : n + (m - n) ≡ m = omega arith in rw (drop-drop, drop-drop, f) at (ap (drop (m - n)) e)
 
 cut_at : (prefix back : List ℕ) (at : ℕ) → length prefix ≡ at → (take at (prefix ++ back) ≡ prefix) × (drop at (prefix ++ back) ≡ back)
 cut_at prefix back at long = let P : ℕ → Type 0 = λ n. (take n (prefix ++ back) ≡ prefix) × (drop n (prefix ++ back) ≡ back) in subst P long (take-append_seam prefix back, drop-append_seam prefix back)

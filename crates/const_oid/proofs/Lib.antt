@@ -10,6 +10,7 @@ pub mod ByParts
 pub mod BeginsWith
 pub mod Items
 pub mod Numbers
+pub mod Decimals
 pub mod Texts
 pub mod Children
 pub mod OctetPass
@@ -29,5 +30,5 @@ pub mod Tree
 pub mod Wider
 pub mod Widened
 pub mod Identifiers
-pub mod Decimals
 pub mod PairTable
+pub mod Messages

@@ -3,6 +3,8 @@ use Rattle.std.proofs.Common.{◌≡◌, ℕ, ◌<◌, ◌≤◌, false, not, Li
 use Rattle.std.specs.List.{AllByRecursion, join_with_byte}
 use Rattle.std.specs.Char.{is_ascii_digit}
 use Rattle.std.specs.Prelude.{Ok}
+use Rattle.std.specs.Str.{IsAscii}
+use Rattle.std.proofs.lemmas.Str.{IsAscii-append}
 use Rattle.std.proofs.lemmas.List.Splits.{slice_split_at, slice_split_none, length-slice_split}
 use Rattle.std.proofs.lemmas.Bool.Decides.{nat_tests}
 use Rattle.const_oid.specs.declared.error.Error.TheVariants.{ArcTooBig, DigitExpected}
@@ -11,6 +13,7 @@ use Rattle.const_oid.specs.Faults.{answer}
 use Rattle.const_oid.specs.Identifier.{RootRule, Narrow, Wide, max_arc, max_second, IsIdentifier, size}
 use Rattle.const_oid.specs.Items.{arc_fault}
 use Rattle.const_oid.specs.Text.{text_of, arc_text, pieces_of, number_of, is_empty, is_one_empty, empty_fault, single_fault, piece_fault, pieces_fault, text_fault, IsNumber, Denotes, strip_piece, strip, text_answer}
+use Rattle.const_oid.proofs.Decimals.{arc_text_ascii}
 use Rattle.const_oid.proofs.Lists.{append-cons, all_at}
 use Rattle.const_oid.proofs.Faults.{both_none, false_from_none, below_from_none, none_from_below}
 use Rattle.const_oid.proofs.Items.{IsBegun, begun_more, arc_none}
@@ -184,3 +187,11 @@ text_left-cons false arc arcs = ap (λ l. 46 ∷ l) (text_of-first arc arcs)
 pub text_left-nil : (is_first : Bool) → text_left is_first [] ≡ []
 text_left-nil true = refl
 text_left-nil false = refl
+
+texts_ascii : (is_first : Bool) (arcs : List ℕ) → AllByRecursion (λ n. n ≤ max_arc) arcs → IsAscii (text_left is_first arcs)
+texts_ascii is_first [] h = rw (text_left-nil is_first) (λ i. omega arith)
+texts_ascii is_first (arc ∷ arcs) h =
+    rw (text_left-cons is_first arc arcs) (IsAscii-append _ _ (arc_text_ascii is_first arc (omega (arith, h.0))) (texts_ascii false arcs h.1))
+
+pub text_ascii : (rule : RootRule) (arcs : List ℕ) → IsIdentifier rule arcs → IsAscii (text_of arcs)
+text_ascii rule arcs i = texts_ascii true arcs (arcs_small rule arcs i)

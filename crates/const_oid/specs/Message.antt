@@ -1,5 +1,5 @@
 -- The texts of the errors.
-use Rattle.std.specs.Prelude.{ℕ, List, ◌++◌, codes, decimal, encode_utf8}
+use Rattle.std.specs.Prelude.{ℕ, List, [], ◌++◌, codes, decimal, encode_utf8}
 use Rattle.const_oid.specs.declared.error.Error.{Error}
 use Rattle.const_oid.specs.declared.error.Error.TheVariants.{ArcInvalid, ArcTooBig, Base128, DigitExpected, Empty, Length, Overflow, RepeatedDot, TrailingDot}
 
@@ -14,3 +14,15 @@ message_of Length = codes "OID length invalid"
 message_of Overflow = codes "arithmetic calculation overflowed"
 message_of RepeatedDot = codes "repeated consecutive '..' characters in OID"
 message_of TrailingDot = codes "OID ends with invalid trailing '.'"
+
+-- what is printed of the number that an error carries
+abbrev pub shown_of : Error → List ℕ
+shown_of (ArcInvalid arc) = decimal arc
+shown_of ArcTooBig = []
+shown_of Base128 = []
+shown_of (DigitExpected actual) = encode_utf8 actual
+shown_of Empty = []
+shown_of Length = []
+shown_of Overflow = []
+shown_of RepeatedDot = []
+shown_of TrailingDot = []

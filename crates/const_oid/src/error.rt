@@ -1,7 +1,10 @@
 //! The errors of this crate.
-ghost use Rattle.std.specs.Prelude.{Some};
+ghost use Rattle.std.specs.Prelude.{◌≡◌, ◌+◌, ◌<◌, ◌≤◌, ◌++◌, length, take, drop, None, Some, IfSome, IsSome, MatchOption};
+ghost use Rattle.std.specs.Str.{IsUtf8};
 
 use crate::arcs::Arc;
+use crate::digits::{arc_len, write_arc};
+use crate::text::{utf8, write_bytes};
 use std::fmt;
 
 /// A result whose error is [`Error`].
@@ -44,28 +47,111 @@ pub enum Error {
     TrailingDot,
 }
 
-/// The error in words. The contract speaks of a plain `{}`.
+/// The most bytes that an error takes in words.
+const MAX_TEXT_LEN: usize = 47;
+
+impl Error {
+    ghost use Rattle.const_oid.specs.Message.{message_of, shown_of};
+
+    /// The length of the text that `{}` writes.
+    pub fn text_len(self) -> usize
+        ensures len { result ≡ length (message_of self) }
+        ensures short { result ≤ 47 }
+    {
+        let (before, after) = self.words();
+        before.len() + self.shown_len() + after.len()
+    }
+
+    /// Writes the text that `{}` writes at the prefix of `out`, and tells its length. `None` where it
+    /// is longer than `out`, which then stays as it was.
+    pub fn encode_text(self, out: &mut [u8]) -> Option<usize>
+        ensures cases { MatchOption result (length out.old < length (message_of self)) (λ len. len ≡ length (message_of self)) }
+        ensures written { IfSome result (λ len. out.new ≡ message_of self ++ drop len out.old) }
+        ensures kept { result ≡ None → out.new ≡ out.old }
+        ensures enough { 47 ≤ length out.old → IsSome result }
+        ensures utf8 { IfSome result (λ _. IsUtf8 (message_of self)) }
+    {
+        if out.len() < self.text_len() {
+            return None;
+        }
+        let (before, after) = self.words();
+        let at = write_bytes(before.as_bytes(), out, 0);
+        let at = self.write_shown(out, at);
+        Some(write_bytes(after.as_bytes(), out, at))
+    }
+
+    /// Writes the text as [`encode_text`](Self::encode_text) does, and lends it.
+    pub fn encode_str<'o>(self, out: &'o mut [u8]) -> Option<&'o str>
+        ensures cases { MatchOption result (length out.old < length (message_of self)) (λ text. text.now ≡ message_of self) }
+        ensures enough { 47 ≤ length out.old → IsSome result }
+    {
+        let len = self.encode_text(out)?;
+        Some(utf8(&out[..len]))
+    }
+
+    /// The words before the number that the error carries, and those after it.
+    fn words(self) -> (&'static str, &'static str)
+        ensures { message_of self ≡ result.0.now ++ (shown_of self ++ result.1.now) }
+    {
+        match self {
+            Error::ArcInvalid { .. } => ("OID contains out-of-range arc: ", ""),
+            Error::ArcTooBig => ("OID contains arc which is larger than 32-bits", ""),
+            Error::Base128 => ("OID contains arc with invalid base 128 encoding", ""),
+            Error::DigitExpected { .. } => ("expected digit, got '", "'"),
+            Error::Empty => ("OID value is empty", ""),
+            Error::Length => ("OID length invalid", ""),
+            Error::Overflow => ("arithmetic calculation overflowed", ""),
+            Error::RepeatedDot => ("repeated consecutive '..' characters in OID", ""),
+            Error::TrailingDot => ("OID ends with invalid trailing '.'", ""),
+        }
+    }
+
+    /// How many bytes the number that the error carries takes.
+    fn shown_len(self) -> usize
+        ensures len { result ≡ length (shown_of self) }
+        ensures short { length (message_of self) ≤ 47 }
+    {
+        match self {
+            Error::ArcInvalid { arc } => arc_len(arc, true),
+            Error::DigitExpected { actual } => char::from(actual).len_utf8(),
+            _ => 0,
+        }
+    }
+
+    /// Writes the number that the error carries at a place, and tells the place after it.
+    fn write_shown(self, out: &mut [u8], at: usize) -> usize
+        requires { at + length (shown_of self) ≤ length out.old }
+        ensures end { result ≡ at + length (shown_of self) }
+        ensures prefix { take result out.new ≡ take at out.old ++ shown_of self }
+        ensures after { drop result out.new ≡ drop result out.old }
+        ensures utf8 { IsUtf8 (shown_of self) }
+    {
+        match self {
+            Error::ArcInvalid { arc } => write_arc(arc, true, out, at),
+            Error::DigitExpected { actual } => {
+                let mut bytes = [0; 4];
+                let character = char::from(actual).encode_utf8(&mut bytes);
+                write_bytes(character.as_bytes(), out, at)
+            }
+            _ => at,
+        }
+    }
+}
+
+/// The error in words, whatever the options.
 impl fmt::Display for Error {
     ghost use Rattle.const_oid.specs.Message.{message_of};
 
     ghost output = { λ error. Some (message_of error) };
 
+    ghost styled_output = { λ error _. Some (message_of error) };
+
     fn fmt<W: fmt::Write>(&self, f: &mut fmt::Formatter<W>) -> fmt::Result {
-        let words = match *self {
-            Error::ArcInvalid { arc } => return write!(f, "OID contains out-of-range arc: {arc}"),
-            Error::ArcTooBig => "OID contains arc which is larger than 32-bits",
-            Error::Base128 => "OID contains arc with invalid base 128 encoding",
-            Error::DigitExpected { actual } => {
-                let character = char::from(actual);
-                return write!(f, "expected digit, got '{character}'");
-            }
-            Error::Empty => "OID value is empty",
-            Error::Length => "OID length invalid",
-            Error::Overflow => "arithmetic calculation overflowed",
-            Error::RepeatedDot => "repeated consecutive '..' characters in OID",
-            Error::TrailingDot => "OID ends with invalid trailing '.'",
-        };
-        f.write_str(words)
+        let mut out = [0; MAX_TEXT_LEN];
+        match self.encode_str(&mut out) {
+            Some(text) => f.write_str(text),
+            None => unreachable!(),
+        }
     }
 }
 

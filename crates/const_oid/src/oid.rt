@@ -1,6 +1,6 @@
 //! Owned object identifiers.
 
-ghost use Rattle.std.specs.Prelude.{◌≡◌, ◌<◌, ◌≤◌, ◌↔◌, length, min, slice_get, None, Some, IfOk, IsTrue, MatchResult};
+ghost use Rattle.std.specs.Prelude.{◌≡◌, ◌<◌, ◌≤◌, ◌↔◌, ◌++◌, length, drop, min, slice_get, None, Some, IfOk, IfSome, IsTrue, MatchOption, MatchResult};
 ghost use Rattle.std.specs.Iterator.{IsFiniteIterable};
 ghost use Rattle.std.specs.Option.{option_map};
 ghost use Rattle.const_oid.specs.Buffer.{octets_of};
@@ -203,6 +203,30 @@ impl<const MAX_SIZE: usize> ObjectIdentifier<MAX_SIZE> {
         ensures { result ≡ length (oid_arcs self.now) }
     {
         self.as_oid_ref().len()
+    }
+
+    /// The length of the text that `{}` writes.
+    pub fn text_len(&self) -> usize
+        ensures { result ≡ length (text_of (oid_arcs self.now)) }
+    {
+        self.as_oid_ref().text_len()
+    }
+
+    /// Writes the text that `{}` writes at the prefix of `out`, and tells its length. `None` where it
+    /// is longer than `out`, which then stays as it was.
+    pub fn encode_text(&self, out: &mut [u8]) -> Option<usize>
+        ensures cases { MatchOption result (length out.old < length (text_of (oid_arcs self.now))) (λ len. len ≡ length (text_of (oid_arcs self.now))) }
+        ensures written { IfSome result (λ len. out.new ≡ text_of (oid_arcs self.now) ++ drop len out.old) }
+        ensures kept { result ≡ None → out.new ≡ out.old }
+    {
+        self.as_oid_ref().encode_text(out)
+    }
+
+    /// Writes the text as [`encode_text`](Self::encode_text) does, and lends it.
+    pub fn encode_str<'o>(&self, out: &'o mut [u8]) -> Option<&'o str>
+        ensures { MatchOption result (length out.old < length (text_of (oid_arcs self.now))) (λ text. text.now ≡ text_of (oid_arcs self.now)) }
+    {
+        self.as_oid_ref().encode_str(out)
     }
 
     /// The identifier of all arcs but the last, or `None` of two arcs.

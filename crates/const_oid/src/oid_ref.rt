@@ -16,7 +16,7 @@ use crate::digits::{MAX_ARC_LEN, write_arc};
 use crate::error::{Error, Result};
 use crate::oid::ObjectIdentifier;
 use crate::parts::{count_parts, without_last_part};
-use crate::text::{ascii, text_len, write_text};
+use crate::text::{text_len, utf8, write_text};
 use crate::valid::check;
 use std::cmp::Ordering;
 use std::fmt;
@@ -115,6 +115,14 @@ impl<'a> ObjectIdentifierRef<'a> {
         Some(write_text(self.arcs(), out))
     }
 
+    /// Writes the text as [`encode_text`](Self::encode_text) does, and lends it.
+    pub fn encode_str<'o>(&self, out: &'o mut [u8]) -> Option<&'o str>
+        ensures { MatchOption result (length out.old < length (text_of (ref_arcs self.now))) (λ text. text.now ≡ text_of (ref_arcs self.now)) }
+    {
+        let len = self.encode_text(out)?;
+        Some(utf8(&out[..len]))
+    }
+
     /// Whether an owned identifier, of any capacity, has the same octets, and so the same arcs.
     pub fn eq_oid<const N: usize>(&self, other: &ObjectIdentifier<N>) -> bool
         ensures octets { IsTrue result ↔ (ref_octets self.now ≡ oid_octets other.now) }
@@ -186,12 +194,12 @@ impl fmt::Display for ObjectIdentifierRef<'_> {
         };
         for arc in arcs {
             if used > PIECE - MAX_ARC_LEN {
-                f.write_str(ascii(&bytes[..used]))?;
+                f.write_str(utf8(&bytes[..used]))?;
                 used = 0;
             }
             used = write_arc(arc, false, &mut bytes, used);
         }
-        f.write_str(ascii(&bytes[..used]))
+        f.write_str(utf8(&bytes[..used]))
     }
 }
 

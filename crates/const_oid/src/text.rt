@@ -1,9 +1,11 @@
 //! Arcs as text: their decimals joined by dots.
-ghost use Rattle.std.specs.Prelude.{◌≡◌, ◌<◌, ◌≤◌, ◌++◌, length, take, drop, IsAscii, MatchOption};
+ghost use Rattle.std.specs.Prelude.{◌≡◌, ◌+◌, ◌<◌, ◌≤◌, ◌++◌, length, take, drop, MatchOption};
+ghost use Rattle.std.specs.Str.{IsUtf8};
 ghost use Rattle.const_oid.specs.Text.{text_of};
 
 use crate::arcs::Arcs;
 use crate::digits::{arc_len, write_arc};
+use std::str;
 
 /// The length of the arcs' text, or `None` where it is over a limit.
 pub(crate) fn text_len(arcs: Arcs<'_>, limit: usize) -> Option<usize>
@@ -37,9 +39,22 @@ pub(crate) fn write_text(arcs: Arcs<'_>, out: &mut [u8]) -> usize
     at
 }
 
-/// The text of bytes that are ASCII.
-pub(crate) fn ascii(bytes: &[u8]) -> &str
-    requires { IsAscii bytes.now }
+/// Writes bytes at a place, and tells the place after them.
+pub(crate) fn write_bytes(bytes: &[u8], out: &mut [u8], at: usize) -> usize
+    requires { at + length bytes.now ≤ length out.old }
+    ensures end { result ≡ at + length bytes.now }
+    ensures prefix { take result out.new ≡ take at out.old ++ bytes.now }
+    ensures after { drop result out.new ≡ drop result out.old }
+{
+    let end = at + bytes.len();
+    out[at..end].copy_from_slice(bytes);
+    end
+}
+
+/// The text of bytes that are UTF-8. Each call is proved to pass such bytes, so they are not looked
+/// at again.
+pub(crate) fn utf8(bytes: &[u8]) -> &str
+    requires { IsUtf8 bytes.now }
     ensures { result.now ≡ bytes.now }
 {
     unsafe { str::from_utf8_unchecked(bytes) }

@@ -6,7 +6,7 @@ use Rattle.const_oid.proofs.Texts.{text_left, text_left-cons, text_left-nil}
 use Rattle.const_oid.specs.OidRef.{ref_arcs}
 use Rattle.std.specs.Fmt.{HasWritten}
 use Rattle.std.specs.Str.{IsAscii}
-use Rattle.std.proofs.lemmas.Str.{IsAscii-append}
+use Rattle.std.proofs.lemmas.Str.{IsAscii-append, IsUtf8-from_ascii}
 use Rattle.const_oid.proofs.oid_ref.ObjectIdentifierRefDisplay.fmt.Goals as goal
 use Rattle.const_oid.proofs.oid_ref.ObjectIdentifierRefDisplay.fmt.Goals.{then-used+in_ok-write_str, else-used, in-Some, in-None}
 
@@ -38,6 +38,12 @@ write_arc-used-requires-in-loop-arc g c =
     let short = arc_text_short false c.in-Some-arc.arc (omega arith) in
     elim c.if-used.branch [ then-used+in_ok-write_str w ↦ omega arith | else-used w ↦ omega arith ]
 
+pub utf8-requires : goal.utf8-requires
+utf8-requires g c = IsUtf8-from_ascii _ c.loop-arc.invariant.ascii
+
+pub utf8-requires-2 : goal.utf8-requires-2
+utf8-requires-2 g c = IsUtf8-from_ascii _ c.loop-arc.invariant.ascii
+
 pub loop-arc-preserved : goal.loop-arc-preserved
 loop-arc-preserved g c =
     let l = c.loop-arc in
@@ -54,7 +60,7 @@ loop-arc-preserved g c =
           let at_hand : (done : List ℕ) × HasWritten g.W.Write.write_str_gives c.args.f.now done c.if-used.f
           × (done ++ (take c.if-used.used l.bytes ++ text_left false l.arc-iterator) ≡ text_of (ref_arcs c.args.self.now)) =
           elim c.if-used.branch [
-            | then-used+in_ok-write_str w ↦ rw (w.used-is, w.f-is) (done ++ take l.used l.bytes, has_written_append _ _ _ _ _ _ written (rw w.ascii.ensures at (w.in_ok-write_str.ensures.writes written.plain refl)), append_assoc done (take l.used l.bytes) (text_left false l.arc-iterator) ∙ text)
+            | then-used+in_ok-write_str w ↦ rw (w.used-is, w.f-is) (done ++ take l.used l.bytes, has_written_append _ _ _ _ _ _ written (rw w.utf8-2.ensures at (w.in_ok-write_str.ensures.writes written.plain refl)), append_assoc done (take l.used l.bytes) (text_left false l.arc-iterator) ∙ text)
             | else-used w ↦ rw (w.used-is, w.f-is) (done, written, text)
           ] in
           let (all, sent, left) = at_hand in
@@ -71,4 +77,4 @@ returns-clause-writes g c = λ plain ok.
     let l = c.loop-arc in
     let (done, written, text) = l.invariant.writes plain in
     let text = rw (c.in-None-arc.ensures.steps.0, text_left-nil false, append-nil) at text in
-    has_written_of_eq _ _ _ _ _ text (has_written_append _ _ _ _ _ _ written (rw c.ascii-2.ensures at (c.write_str-2.ensures.writes written.plain ok)))
+    has_written_of_eq _ _ _ _ _ text (has_written_append _ _ _ _ _ _ written (rw c.utf8-2.ensures at (c.write_str-2.ensures.writes written.plain ok)))
