@@ -21,7 +21,6 @@ pub mod Octets
 pub mod Written
 pub mod Started
 pub mod PartBounds
-pub mod Shapes
 pub mod Parents
 pub mod Printed
 pub mod Subtree

@@ -44,6 +44,11 @@ abbrev pub later_fault : List (List ℕ) → Option Error
 later_fault [] = None
 later_fault (part ∷ parts) = option_or (part_fault max_arc part) (later_fault parts)
 
+-- the first fault of parts, of which the first one has a limit of its own
+abbrev pub fault_from : ℕ → List (List ℕ) → Option Error
+fault_from limit [] = None
+fault_from limit (part ∷ parts) = option_or (part_fault limit part) (later_fault parts)
+
 -- the greatest first subidentifier: 40 times 2 and the greatest second arc
 abbrev pub max_first : RootRule → ℕ
 max_first Narrow = 119

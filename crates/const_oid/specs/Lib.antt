@@ -15,4 +15,3 @@ pub mod Oid
 pub mod Names
 pub mod Encoder
 pub mod Parser
-pub mod Windows

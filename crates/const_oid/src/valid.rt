@@ -1,103 +1,79 @@
-//! Octets checked for faults, of which most have none: that is told first, by windows of five octets
-//! or by groups.
+//! Octets checked for faults (X.690, 8.19.2).
 
-ghost use Rattle.std.specs.Prelude.{◌≡◌, ◌<◌, None, false, length, drop, slice_index_or, IsTrue};
+ghost use Rattle.std.specs.Prelude.{◌≡◌, ◌≢◌, ◌<◌, ◌≤◌, Some, length, slice_index_or, IfOk, MatchResult};
 ghost use Rattle.std.specs.Result.{result_err};
-ghost use Rattle.const_oid.specs.Contents.{cut, later_fault, parts_fault};
-ghost use Rattle.const_oid.specs.Identifier.{root_rule};
-ghost use Rattle.const_oid.specs.Windows.{NoEmptyFirst, NoLongGroup};
+ghost use Rattle.const_oid.specs.Contents.{cut, fault_from, later_fault, parts_fault, max_first};
+ghost use Rattle.const_oid.specs.Identifier.{root_rule, max_arc};
 
-use crate::arcs;
-use crate::error::Result;
+use crate::arcs::Arc;
+use crate::error::{Error, Result};
+
+/// The greatest first subidentifier: of the first arc 2 and the greatest second arc.
+const MAX_FIRST: u64 = 2 * 40 + Arc::MAX as u64;
 
 /// The fault of octets, whatever their number, if there is one.
-#[inline(always)]
+#[inline(never)]
 pub(crate) fn check(octets: &[u8]) -> Result<()>
     ensures { result_err result ≡ parts_fault root_rule (cut octets.now) }
 {
-    if is_valid(octets) {
-        Ok(())
-    } else {
-        arcs::check(octets)
-    }
-}
-
-/// Whether octets have no fault. It may miss it.
-#[inline(never)]
-fn is_valid(octets: &[u8]) -> bool
-    ensures { IsTrue result → parts_fault root_rule (cut octets.now) ≡ None }
-{
     if octets.is_empty() {
-        return false;
+        return Err(Error::Empty);
     }
-    if octets.len() > 16 && octets[0] < 128 {
-        are_windows_valid(octets)
-    } else {
-        are_groups_valid(octets)
-    }
-}
-
-/// Whether octets after one below 128 have no fault, told group by group. It may miss it, as it takes
-/// groups of at most four octets.
-#[inline(always)]
-fn are_groups_valid(octets: &[u8]) -> bool
-    ensures { IsTrue result → later_fault (cut octets.now) ≡ None }
-{
     let mut rest = octets;
-    while let [first, after @ ..] = rest {
-        if *first < 128 {
-            rest = after;
-            continue;
-        }
-        if *first == 128 {
-            return false;
-        }
-        rest = match after {
-            [a, after @ ..] if *a < 128 => after,
-            [_, b, after @ ..] if *b < 128 => after,
-            [_, _, c, after @ ..] if *c < 128 => after,
-            _ => return false,
+    let mut limit = MAX_FIRST;
+    while !rest.is_empty() {
+        rest = match skip_group(rest, limit) {
+            Ok(after) => after,
+            Err(fault) => return Err(fault),
         };
+        limit = Arc::MAX as u64;
     }
-    true
+    Ok(())
 }
 
-/// Whether octets after the first have no fault, told by each octet and the four before it.
-fn are_windows_valid(octets: &[u8]) -> bool
+/// The octets after the first group, or its fault. Most groups are short, and too short for a number
+/// past the limit.
+#[inline(always)]
+fn skip_group(octets: &[u8], limit: u64) -> Result<&[u8]>
     requires some { 0 < length octets.now }
-    requires first { slice_index_or octets.now 0 0 < 128 }
-    ensures { IsTrue result → later_fault (cut (drop 1 octets.now)) ≡ None }
+    requires wide { max_arc ≤ limit }
+    requires small { limit ≤ max_first root_rule }
+    ensures fault { MatchResult result (λ after. fault_from limit (cut octets.now) ≡ later_fault (cut after.now))
+        (λ fault. fault_from limit (cut octets.now) ≡ Some fault) }
+    ensures shorter { IfOk result (λ after. length after.now < length octets.now) }
 {
-    if octets[octets.len() - 1] >= 128 || has_empty_first(octets) {
-        return false;
+    match octets {
+        [a, after @ ..] if *a < 128 => Ok(after),
+        [a, ..] if *a == 128 => Err(Error::Base128),
+        [_, b, after @ ..] if *b < 128 => Ok(after),
+        [_, _, c, after @ ..] if *c < 128 => Ok(after),
+        [_, _, _, d, after @ ..] if *d < 128 => Ok(after),
+        [a, _, _, _, e, after @ ..] if *a < 144 && *e < 128 => Ok(after),
+        _ => skip_long_group(octets, limit),
     }
-    !has_long_group(octets)
 }
 
-/// Whether an octet 128 follows one below 128.
-#[inline(always)]
-fn has_empty_first(octets: &[u8]) -> bool
-    ensures { result ≡ false → NoEmptyFirst octets.now }
+/// The octets after the first group, or its fault, by its number.
+fn skip_long_group(octets: &[u8], limit: u64) -> Result<&[u8]>
+    requires some { 0 < length octets.now }
+    requires first { slice_index_or octets.now 0 0 ≢ 128 }
+    requires small { limit ≤ max_first root_rule }
+    ensures fault { MatchResult result (λ after. fault_from limit (cut octets.now) ≡ later_fault (cut after.now))
+        (λ fault. fault_from limit (cut octets.now) ≡ Some fault) }
+    ensures shorter { IfOk result (λ after. length after.now < length octets.now) }
 {
-    let mut found = false;
-    for i in 1..octets.len() {
-        found |= (octets[i - 1] < 128) & (octets[i] == 0x80);
+    let mut number: u64 = 0;
+    let mut index = 0;
+    while index < octets.len() {
+        let octet = octets[index];
+        number = number * 128 + (octet % 128) as u64;
+        if number > limit {
+            return Err(Error::ArcTooBig);
+        }
+        if octet < 128 {
+            return Ok(octets.split_at(index + 1).1);
+        }
+        index += 1;
     }
-    found
-}
-
-/// Whether four octets of 128 or more in a row begin with 144 or more, or after a fifth.
-#[inline(always)]
-fn has_long_group(octets: &[u8]) -> bool
-    ensures { result ≡ false → NoLongGroup octets.now }
-{
-    let mut found = false;
-    for i in 4..octets.len() {
-        found |= (octets[i] >= 128)
-            & (octets[i - 1] >= 128)
-            & (octets[i - 2] >= 128)
-            & (octets[i - 3] >= 128)
-            & ((octets[i - 3] >= 144) | (octets[i - 4] >= 128));
-    }
-    found
+    Err(Error::Base128)
 }
