@@ -31,3 +31,4 @@ pub mod Widened
 pub mod Identifiers
 pub mod PairTable
 pub mod Messages
+pub mod Formatted

@@ -259,11 +259,13 @@ impl<const MAX_SIZE: usize> ObjectIdentifier<MAX_SIZE> {
     }
 }
 
-/// The arcs in decimal, joined by dots. The contract speaks of a plain `{}`.
+/// The arcs in decimal, joined by dots, whatever the options.
 impl<const MAX_SIZE: usize> fmt::Display for ObjectIdentifier<MAX_SIZE> {
     ghost use Rattle.const_oid.specs.Oid.{oid_arcs};
 
     ghost output = { λ oid. Some (text_of (oid_arcs oid)) };
+
+    ghost styled_output = { λ oid _. Some (text_of (oid_arcs oid)) };
 
     fn fmt<W: fmt::Write>(&self, f: &mut fmt::Formatter<W>) -> fmt::Result {
         fmt::Display::fmt(&self.as_oid_ref(), f)

@@ -179,11 +179,13 @@ impl<'a> ObjectIdentifierRef<'a> {
 /// The most bytes of a text that `{}` hands on at a time.
 const PIECE: usize = 64;
 
-/// The arcs in decimal, joined by dots. The contract speaks of a plain `{}`.
+/// The arcs in decimal, joined by dots, whatever the options.
 impl fmt::Display for ObjectIdentifierRef<'_> {
     ghost use Rattle.const_oid.specs.OidRef.{ref_arcs};
 
     ghost output = { λ oid. Some (text_of (ref_arcs oid)) };
+
+    ghost styled_output = { λ oid _. Some (text_of (ref_arcs oid)) };
 
     fn fmt<W: fmt::Write>(&self, f: &mut fmt::Formatter<W>) -> fmt::Result {
         let mut bytes = [0; PIECE];

@@ -1,10 +1,11 @@
 use Rattle.std.proofs.Common.{true, false, ◌≡◌, List, ℕ, append_assoc, append-nil, refl, sym, ◌≤◌, [], ◌++◌, ◌∙◌, ap, take, rules, arith}
-use Rattle.std.proofs.Output.{has_written_append, has_written_of_eq}
+use Rattle.std.proofs.Output.{has_written_styled_append, has_written_styled_of_eq}
 use Rattle.const_oid.specs.Text.{text_of}
 use Rattle.const_oid.proofs.Decimals.{arc_text_short, arc_text_ascii}
+use Rattle.const_oid.proofs.Formatted.{plain_written}
 use Rattle.const_oid.proofs.Texts.{text_left, text_left-cons, text_left-nil}
 use Rattle.const_oid.specs.OidRef.{ref_arcs}
-use Rattle.std.specs.Fmt.{HasWritten}
+use Rattle.std.specs.Fmt.{HasWrittenStyled}
 use Rattle.std.specs.Str.{IsAscii}
 use Rattle.std.proofs.lemmas.Str.{IsAscii-append, IsUtf8-from_ascii}
 use Rattle.const_oid.proofs.oid_ref.ObjectIdentifierRefDisplay.fmt.Goals as goal
@@ -23,7 +24,7 @@ loop-arc-init g c =
         | in-Some w ↦ rw (w.used-is, w.bytes-is, w.write_arc-used.ensures.prefix) (arc_text_ascii true w.in-Some.first (omega arith))
         | in-None w ↦ rw w.used-is (λ i. omega arith)
       ];
-      writes = λ plain. (
+      writes = λ flush. (
         [],
         search rules,
         elim c.match-next.branch [
@@ -55,12 +56,12 @@ loop-arc-preserved g c =
     record {
       within = omega arith;
       ascii = rw wrote.ensures.prefix (IsAscii-append _ _ ascii (arc_text_ascii false arc (omega arith)));
-      writes = λ plain.
-          let (done, written, text) = l.invariant.writes plain in
-          let at_hand : (done : List ℕ) × HasWritten g.W.Write.write_str_gives c.args.f.now done c.if-used.f
+      writes = λ flush.
+          let (done, written, text) = l.invariant.writes flush in
+          let at_hand : (done : List ℕ) × HasWrittenStyled g.W.Write.write_str_gives c.args.f.now done c.if-used.f
           × (done ++ (take c.if-used.used l.bytes ++ text_left false l.arc-iterator) ≡ text_of (ref_arcs c.args.self.now)) =
           elim c.if-used.branch [
-            | then-used+in_ok-write_str w ↦ rw (w.used-is, w.f-is) (done ++ take l.used l.bytes, has_written_append _ _ _ _ _ _ written (rw w.utf8-2.ensures at (w.in_ok-write_str.ensures.writes written.plain refl)), append_assoc done (take l.used l.bytes) (text_left false l.arc-iterator) ∙ text)
+            | then-used+in_ok-write_str w ↦ rw (w.used-is, w.f-is) (done ++ take l.used l.bytes, has_written_styled_append _ _ _ _ _ _ written (rw w.utf8-2.ensures at (w.in_ok-write_str.ensures.styled written.flush refl)), append_assoc done (take l.used l.bytes) (text_left false l.arc-iterator) ∙ text)
             | else-used w ↦ rw (w.used-is, w.f-is) (done, written, text)
           ] in
           let (all, sent, left) = at_hand in
@@ -72,9 +73,12 @@ loop-arc-preserved g c =
           );
     }
 
-pub returns-clause-writes : goal.returns-clause-writes
-returns-clause-writes g c = λ plain ok.
+pub returns-clause-styled : goal.returns-clause-styled
+returns-clause-styled g c = λ flush ok.
     let l = c.loop-arc in
-    let (done, written, text) = l.invariant.writes plain in
+    let (done, written, text) = l.invariant.writes flush in
     let text = rw (c.in-None-arc.ensures.steps.0, text_left-nil false, append-nil) at text in
-    has_written_of_eq _ _ _ _ _ text (has_written_append _ _ _ _ _ _ written (rw c.utf8-2.ensures at (c.write_str-2.ensures.writes written.plain ok)))
+    has_written_styled_of_eq _ _ _ _ _ text (has_written_styled_append _ _ _ _ _ _ written (rw c.utf8-2.ensures at (c.write_str-2.ensures.styled written.flush ok)))
+
+pub returns-clause-writes : goal.returns-clause-writes
+returns-clause-writes g c = λ plain ok. plain_written _ _ _ _ plain (returns-clause-styled g c plain.flush ok)
