@@ -84,7 +84,7 @@ last_told list prefix x d l seen = (λ b. by b.0 b.1, λ h. (x ∷ h.0, h.1 ∙ 
 -- ---- ranges in list order
 
 -- what stands between two lists that begin with the prefix begins with it too
-between : (prefix x y z : List ℕ) → slice_cmp nat_cmp y (prefix ++ x) ≢ Less → slice_cmp nat_cmp y (prefix ++ z) ≢ Greater → BeginsWith y prefix
+pub between : (prefix x y z : List ℕ) → slice_cmp nat_cmp y (prefix ++ x) ≢ Less → slice_cmp nat_cmp y (prefix ++ z) ≢ Greater → BeginsWith y prefix
 between [] x y z h k = (y, refl)
 between (b ∷ prefix) x [] z h k = absurd (h refl)
 between (b ∷ prefix) x (d ∷ y) z h k = by_ranked _ _ _ (nat_cmp d b) (ranks d b)
@@ -113,7 +113,7 @@ ancestor_short rule p x a b ep ex bx l =
     let (rest, e, some) = longer rule p x a b ep ex bx l in
     shortlex_cmp-less a b (omega (arith, ap length e, length-append a rest))
 
-before_more : (a rest : List ℕ) → 0 < length rest → slice_cmp nat_cmp a (a ++ rest) ≡ Less
+pub before_more : (a rest : List ℕ) → 0 < length rest → slice_cmp nat_cmp a (a ++ rest) ≡ Less
 before_more a [] some = absurd (omega arith)
 before_more a (y ∷ ys) some = rw append-nil at (slice_cmp-prefix a [] (y ∷ ys))
 

@@ -1,19 +1,22 @@
 -- The order of arcs is that of the parts of their encodings, of which a shorter one is first.
-use Rattle.std.proofs.Common.{◌≡◌, ℕ, ◌+◌, ◌*◌, ◌<◌, ◌≤◌, List, [], ◌∷◌, length, min, drop, get_or, refl, sym, ◌∙◌, ⊎_elim, arith, Ordering, Less, Equal, Greater, nat_cmp}
-use Rattle.std.specs.List.{AllZip, onto_first}
-use Rattle.std.specs.Ordering.{ordering_then}
-use Rattle.std.specs.Cmp.Lexicographic.{slice_cmp}
+use Rattle.std.proofs.Common.{◌≡◌, ◌≢◌, ℕ, suc, ◌+◌, ◌*◌, ◌<◌, ◌≤◌, List, [], ◌∷◌, ◌++◌, length, min, drop, get_or, refl, sym, ap, ◌∙◌, ⊎_elim, arith, Ordering, Less, Equal, Greater, nat_cmp, length-append, Some}
+use Rattle.std.specs.Prelude.{◌↔◌, slice_get}
+use Rattle.std.specs.List.{AllZip, onto_first, concat}
+use Rattle.std.specs.Ordering.{ordering_then, is_eq}
+use Rattle.std.specs.Cmp.Lexicographic.{slice_cmp, nat_list_cmp_total, texts_ties, same_text}
 use Rattle.std.specs.Cmp.{ranks, nat_cmp_is}
 use Rattle.std.proofs.lemmas.Bool.{cases_lt}
 use Rattle.std.proofs.lemmas.Cmp.{by_ranked, tied_itself}
 use Rattle.std.proofs.lemmas.List.{drop_more, length-drop}
-use Rattle.const_oid.specs.Base128.{IsGroup}
+use Rattle.const_oid.specs.Base128.{IsContinued, IsGroup}
 use Rattle.const_oid.specs.Contents.{cut}
 use Rattle.const_oid.specs.Identifier.{RootRule, max_second, IsIdentifier, IsEncoding, subidentifiers}
 use Rattle.const_oid.specs.Orders.{shortlex_cmp, shortlex_cmp_total, parts_cmp}
+use Rattle.const_oid.specs.Tree.{BeginsWith}
+use Rattle.const_oid.proofs.BeginsWith.{before_more, between}
 use Rattle.const_oid.proofs.Cutting.{cut_after-last, cut_after-more}
-use Rattle.const_oid.proofs.Encodings.{cut_encoding}
-use Rattle.const_oid.proofs.Orders.{groups_short, nat_cmp-add, shortlex_cmp-less, shortlex_cmp-prefix}
+use Rattle.const_oid.proofs.Encodings.{cut_encoding, same_arcs, same_octets}
+use Rattle.const_oid.proofs.Orders.{groups_cmp, groups_short, nat_cmp-add, shortlex_cmp-less, shortlex_cmp-prefix}
 use Rattle.const_oid.proofs.Subidentifiers.{second_low}
 
 -- ---- octets compared from a place on
@@ -87,6 +90,39 @@ then_assoc Less p q = refl
 then_assoc Equal p q = refl
 then_assoc Greater p q = refl
 
+-- where the groups at each place are of one length, the octets stand as the numbers do
+abbrev pub AreLevel : List (List ℕ) → List (List ℕ) → Type 0
+AreLevel gs hs = (i : ℕ) (g h : List ℕ) → slice_get gs i ≡ Some g → slice_get hs i ≡ Some h → length g ≡ length h
+
+level_append : (g h x y : List ℕ) → length g ≡ length h → slice_cmp nat_cmp (g ++ x) (h ++ y) ≡ ordering_then (slice_cmp nat_cmp g h) (slice_cmp nat_cmp x y)
+level_append [] [] x y l = refl
+level_append [] (b ∷ h) x y l = absurd (omega arith)
+level_append (a ∷ g) [] x y l = absurd (omega arith)
+level_append (a ∷ g) (b ∷ h) x y l =
+    rw (level_append g h x y (omega arith)) (sym (then_assoc (nat_cmp a b) (slice_cmp nat_cmp g h) (slice_cmp nat_cmp x y)))
+
+none_first : (h x : List ℕ) → IsContinued h → slice_cmp nat_cmp [] (h ++ x) ≡ Less
+none_first [] x c = absurd c
+none_first (b ∷ h) x c = refl
+
+none_last : (g x : List ℕ) → IsContinued g → slice_cmp nat_cmp (g ++ x) [] ≡ Greater
+none_last [] x c = absurd c
+none_last (a ∷ g) x c = refl
+
+level_numbers : (ns ms : List ℕ) (gs hs : List (List ℕ)) → AllZip IsGroup ns gs → AllZip IsGroup ms hs → AreLevel gs hs → slice_cmp nat_cmp (concat gs) (concat hs) ≡ slice_cmp nat_cmp ns ms
+level_numbers [] [] [] [] p q l = refl
+level_numbers [] (m ∷ ms) [] (h ∷ hs) p q l = none_first h (concat hs) q.0.continued
+level_numbers (n ∷ ns) [] (g ∷ gs) [] p q l = none_last g (concat gs) p.0.continued
+level_numbers (n ∷ ns) (m ∷ ms) (g ∷ gs) (h ∷ hs) p q l =
+    let long : length g ≡ length h = l 0 g h refl refl in
+    level_append g h (concat gs) (concat hs) long
+    ∙ rw (groups_cmp n m g h p.0 q.0 long, level_numbers ns ms gs hs p.1 q.1 (λ i a b e f. l (suc i) a b e f)) refl
+level_numbers [] ms (g ∷ gs) hs p q l = absurd p
+level_numbers (n ∷ ns) ms [] hs p q l = absurd p
+level_numbers [] [] [] (h ∷ hs) p q l = absurd q
+level_numbers ns (m ∷ ms) gs [] p q l = absurd q
+level_numbers (n ∷ ns) [] (g ∷ gs) (h ∷ hs) p q l = absurd q
+
 subidentifiers_cmp : (rule : RootRule) (xs ys : List ℕ) → IsIdentifier rule xs → IsIdentifier rule ys → slice_cmp nat_cmp (subidentifiers xs) (subidentifiers ys) ≡ slice_cmp nat_cmp xs ys
 subidentifiers_cmp rule (a ∷ b ∷ xs) (c ∷ d ∷ ys) i j =
     rw (root_cmp rule a b c d i.1 j.1 i.0 j.0) (then_assoc (nat_cmp a c) (nat_cmp b d) (slice_cmp nat_cmp xs ys))
@@ -100,3 +136,23 @@ pub arcs_cmp : (rule : RootRule) (p x a b : List ℕ) → IsEncoding rule p a �
 arcs_cmp rule p x a b e f =
     rw (cut_encoding rule p a e, cut_encoding rule x b f)
     (numbers_cmp (subidentifiers p) (subidentifiers x) e.groups f.groups e.each f.each ∙ subidentifiers_cmp rule p x e.identifier f.identifier)
+
+pub level_cmp : (rule : RootRule) (p x a b : List ℕ) → IsEncoding rule p a → IsEncoding rule x b → AreLevel (cut a) (cut b) → slice_cmp nat_cmp a b ≡ slice_cmp nat_cmp p x
+level_cmp rule p x a b e f level =
+    let l : AreLevel e.groups f.groups = rw (cut_encoding rule p a e, cut_encoding rule x b f) at level in
+    rw (e.joined, f.joined) (level_numbers (subidentifiers p) (subidentifiers x) e.groups f.groups e.each f.each l ∙ subidentifiers_cmp rule p x e.identifier f.identifier)
+
+-- they tie exactly where the octets are equal
+pub same_exactly : (rule : RootRule) (p x a b : List ℕ) → IsEncoding rule p a → IsEncoding rule x b → (slice_cmp nat_cmp p x ≡ Equal) ↔ (a ≡ b)
+same_exactly rule p x a b e f = (
+  λ tie. let same : p ≡ x = same_text p x (sym (texts_ties p x ∙ ap is_eq tie)) in same_octets rule p a b e (rw (sym same) at f),
+  λ same. rw (same_arcs rule p x b (rw same at e) f) (tied_itself nat_list_cmp_total x),
+)
+
+-- an ancestor is first
+pub ancestor_first : (p x : List ℕ) → BeginsWith x p → length p < length x → slice_cmp nat_cmp p x ≡ Less
+ancestor_first p x (rest, e) l = rw e (before_more p rest (omega (arith, ap length e, length-append p rest)))
+
+-- what begins with a list stands in one run
+pub run_between : (p x y z : List ℕ) → BeginsWith x p → BeginsWith z p → slice_cmp nat_cmp y x ≢ Less → slice_cmp nat_cmp y z ≢ Greater → BeginsWith y p
+run_between p x y z (xs, e) (zs, f) h k = between p xs y zs (rw e at h) (rw f at k)

@@ -3,18 +3,19 @@
 //! A `rule` is any of the two rules of the root, `Wide`, which the crate keeps, and `Narrow`.
 
 ghost use Rattle.std.specs.Prelude.{◌≡◌, ◌≢◌, ◌↔◌, ℕ, ◌+◌, ◌*◌, ◌<◌, ◌≤◌, List, [], ◌∷◌, ◌++◌, length, map, drop, nat_lt, sum_by, count_by, Some, None, Ok, codes, ◌-◌, take, slice_get};
+ghost use Rattle.std.specs.Cmp.{IsTotalOrder};
 ghost use Rattle.std.specs.Cmp.Lexicographic.{slice_cmp};
 ghost use Rattle.std.specs.List.{AllByRecursion, AllZip, concat};
 ghost use Rattle.std.specs.Option.{option_map};
 ghost use Rattle.std.specs.Ordering.{nat_cmp};
-ghost use Rattle.std.specs.declared.cmp.Ordering.TheVariants.{Less, Greater};
+ghost use Rattle.std.specs.declared.cmp.Ordering.TheVariants.{Less, Equal, Greater};
 ghost use Rattle.const_oid.specs.Faults.{fault_if};
 ghost use Rattle.const_oid.specs.Items.{arc_fault, item_fault, item_answer};
 ghost use Rattle.const_oid.specs.declared.error.Error.TheVariants.{ArcInvalid, ArcTooBig, Base128, DigitExpected, Empty, Length, Overflow, TrailingDot};
 ghost use Rattle.const_oid.specs.Base128.{AreOctets, value_of, IsGroup, IsWidth, group_of, width};
 ghost use Rattle.const_oid.specs.Contents.{cut, octet_fault, octet_answer, arcs_of_octets, arcs_from};
 ghost use Rattle.const_oid.specs.Identifier.{RootRule, Narrow, Wide, root_rule, max_arc, max_second, IsIdentifier, IsEncoding, encoding_of, size};
-ghost use Rattle.const_oid.specs.Orders.{shortlex_cmp};
+ghost use Rattle.const_oid.specs.Orders.{shortlex_cmp, parts_cmp};
 ghost use Rattle.const_oid.specs.Text.{text_fault, text_answer, text_of, pieces_of, number_of, Denotes, strip};
 ghost use Rattle.const_oid.specs.Tree.{BeginsWith, child_of, parent_of};
 ghost use Rattle.const_oid.specs.Wider.{IsPastNarrow, RefusesSecond};
@@ -116,10 +117,22 @@ pub fn siblings()
         → shortlex_cmp x y ≡ nat_cmp m n }
 {}
 
-/// Encodings stand in the order of their parts, of which a shorter one is first, as their arcs do.
+/// The order of arcs is that of their encodings by parts, of which a shorter one is first: total, equal
+/// where the octets are, an ancestor before its descendants, which stand together. Where the groups
+/// at each place are of one length, it is the order of the octets.
 pub fn order_of_arcs()
-    ensures { (rule : RootRule) (p x a b : List ℕ) → IsEncoding rule p a → IsEncoding rule x b
-        → slice_cmp shortlex_cmp (cut a) (cut b) ≡ slice_cmp nat_cmp p x }
+    ensures parts { (rule : RootRule) (p x a b : List ℕ) → IsEncoding rule p a → IsEncoding rule x b
+        → parts_cmp a b ≡ slice_cmp nat_cmp p x }
+    ensures total { IsTotalOrder (slice_cmp nat_cmp) }
+    ensures equal { (rule : RootRule) (p x a b : List ℕ) → IsEncoding rule p a → IsEncoding rule x b
+        → (slice_cmp nat_cmp p x ≡ Equal) ↔ (a ≡ b) }
+    ensures before { (p x : List ℕ) → BeginsWith x p → length p < length x
+        → slice_cmp nat_cmp p x ≡ Less }
+    ensures between { (p x y z : List ℕ) → BeginsWith x p → BeginsWith z p
+        → slice_cmp nat_cmp y x ≢ Less → slice_cmp nat_cmp y z ≢ Greater → BeginsWith y p }
+    ensures level { (rule : RootRule) (p x a b : List ℕ) → IsEncoding rule p a → IsEncoding rule x b
+        → ((i : ℕ) (g h : List ℕ) → slice_get (cut a) i ≡ Some g → slice_get (cut b) i ≡ Some h → length g ≡ length h)
+        → slice_cmp nat_cmp a b ≡ slice_cmp nat_cmp p x }
 {}
 
 /// Equal arcs, equal encodings and equal printed texts are one.

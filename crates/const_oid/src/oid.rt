@@ -2,7 +2,9 @@
 
 ghost use Rattle.std.specs.Prelude.{◌≡◌, ◌<◌, ◌≤◌, ◌↔◌, ◌++◌, length, drop, min, slice_get, None, Some, IfOk, IfSome, IsTrue, MatchOption, MatchResult};
 ghost use Rattle.std.specs.Iterator.{IsFiniteIterable};
+ghost use Rattle.std.specs.Cmp.Lexicographic.{slice_cmp};
 ghost use Rattle.std.specs.Option.{option_map};
+ghost use Rattle.std.specs.Ordering.{nat_cmp};
 ghost use Rattle.const_oid.specs.Buffer.{octets_of};
 ghost use Rattle.const_oid.specs.Contents.{cut, parts_fault, octet_answer};
 ghost use Rattle.const_oid.specs.Text.{text_of, text_fault, text_answer, Denotes};
@@ -256,6 +258,13 @@ impl<const MAX_SIZE: usize> ObjectIdentifier<MAX_SIZE> {
         ensures { IsTrue result ↔ BeginsWith (oid_arcs self.now) (oid_arcs other.entry) }
     {
         self.as_oid_ref().starts_with(&other.as_oid_ref())
+    }
+
+    /// The order of the arcs, a prefix before what begins with it, as SNMP orders names (RFC 3416).
+    pub fn cmp_arcs<const SIZE: usize>(&self, other: &ObjectIdentifier<SIZE>) -> Ordering
+        ensures { result ≡ slice_cmp nat_cmp (oid_arcs self.now) (oid_arcs other.now) }
+    {
+        self.as_oid_ref().cmp_arcs(&other.as_oid_ref())
     }
 }
 
