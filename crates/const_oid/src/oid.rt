@@ -88,7 +88,7 @@ impl ObjectIdentifier<39> {
         Self::from_arcs_sized(arcs)
     }
 
-    /// Reads contents octets (X.690, 8.19), of which at most 39 fit, as
+    /// Reads contents octets (X.690, 8.19), without tag and length, of which at most 39 fit, as
     /// [`from_bytes_sized`](Self::from_bytes_sized) does.
     #[inline(always)]
     pub fn from_bytes(ber_bytes: &[u8]) -> Result<Self>
@@ -124,6 +124,9 @@ impl<const MAX_SIZE: usize> ObjectIdentifier<MAX_SIZE> {
     ///   with 0x80, that its number is past 32 bits (past 4294967375 in the first group, which holds
     ///   two arcs), or that it does not end;
     /// - [`Error::Length`]: there are more octets than fit.
+    ///
+    /// Tag and length are not read away: a whole `06 09 2A ..` is no error, but another identifier,
+    /// 0.6.9.42 and so on.
     #[inline(always)]
     pub fn from_bytes_sized(ber_bytes: &[u8]) -> Result<Self>
         ensures answer { oid_answer result ≡ octet_answer root_rule ber_bytes.now (min MAX_SIZE 255) }
@@ -311,7 +314,8 @@ impl<const MAX_SIZE: usize> PartialEq for ObjectIdentifier<MAX_SIZE> {
     }
 }
 
-/// Fewer octets first, and with as many the octets in list order.
+/// Fewer octets first, and with as many the octets in list order. This is not the order of arcs: see
+/// [`cmp_arcs`](ObjectIdentifierRef::cmp_arcs).
 impl<const MAX_SIZE: usize> Ord for ObjectIdentifier<MAX_SIZE> {
     ghost use Rattle.std.specs.Prelude.{refl};
     ghost use Rattle.std.specs.Cmp.{on_total};

@@ -44,6 +44,9 @@ impl<'a> ObjectIdentifierRef<'a> {
     ///   with 0x80, that its number is past 32 bits (past 4294967375 in the first group, which holds
     ///   two arcs), or that it does not end;
     /// - [`Error::Length`]: there are more than 2^63 - 1 octets, which no slice has.
+    ///
+    /// Tag and length are not read away: a whole `06 09 2A ..` is no error, but another identifier,
+    /// 0.6.9.42 and so on.
     #[inline(always)]
     pub fn from_bytes(ber: &'a [u8]) -> Result<Self>
         ensures answer { ref_answer result ≡ octet_answer root_rule ber.now borrowed_capacity }
@@ -250,7 +253,10 @@ impl PartialOrd for ObjectIdentifierRef<'_> {
     }
 }
 
-/// The octets in list order, a prefix before what begins with it.
+/// The order of octets: list order, a prefix before what begins with it.
+///
+/// In it a subtree is one run. It is not the order of SNMP (RFC 3416), which is that of arcs: see
+/// [`cmp_arcs`](ObjectIdentifierRef::cmp_arcs).
 impl Ord for ObjectIdentifierRef<'_> {
     ghost use Rattle.std.specs.Prelude.{refl};
     ghost use Rattle.std.specs.Ordering.{nat_cmp};

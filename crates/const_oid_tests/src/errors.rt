@@ -2,9 +2,9 @@
 ghost use Rattle.std.specs.Prelude.{◌≡◌, ◌↔◌, IsTrue, IsOk, IfOk};
 ghost use Rattle.const_oid.specs.Orders.{error_cmp};
 
-use crate::formatter::{prints, writes_of};
+use crate::formatter::{prints, prints_as, tells};
 use const_oid::Error;
-use std::alloc::AllocError;
+use std::alloc::{AllocError, Global};
 use std::cmp::Ordering;
 
 /// `==` is true exactly for the same variant with the same number.
@@ -39,7 +39,7 @@ fn told_apart(rt: HostRuntime) -> Result<(), AllocError> {
 }
 
 /// Errors, and what they print. A byte past ASCII prints as a character.
-const MESSAGES: [(Error, &str); 11] = [
+const MESSAGES: [(Error, &str); 17] = [
     (
         Error::ArcInvalid { arc: 40 },
         "OID contains out-of-range arc: 40",
@@ -61,8 +61,32 @@ const MESSAGES: [(Error, &str); 11] = [
         "expected digit, got 'X'",
     ),
     (
+        Error::DigitExpected { actual: 0 },
+        "expected digit, got '\0'",
+    ),
+    (
+        Error::DigitExpected { actual: 9 },
+        "expected digit, got '\t'",
+    ),
+    (
+        Error::DigitExpected { actual: 13 },
+        "expected digit, got '\r'",
+    ),
+    (
+        Error::DigitExpected { actual: 0x7F },
+        "expected digit, got '\u{7F}'",
+    ),
+    (
+        Error::DigitExpected { actual: 0x80 },
+        "expected digit, got '\u{80}'",
+    ),
+    (
         Error::DigitExpected { actual: 0xC3 },
         "expected digit, got 'Ã'",
+    ),
+    (
+        Error::DigitExpected { actual: 0xFF },
+        "expected digit, got 'ÿ'",
     ),
     (Error::Empty, "OID value is empty"),
     (Error::Length, "OID length invalid"),
@@ -86,6 +110,26 @@ fn messages(rt: HostRuntime) {
 #[test]
 fn a_refused_write_is_told(rt: HostRuntime) {
     for (error, text) in &MESSAGES {
-        assert!(rt; matches!(writes_of(error), Some(1..)), "{text}");
+        assert!(rt; tells(error, text), "{text}");
     }
+}
+
+/// The first byte that is not shown as the character with its number.
+fn not_shown(alloc: Global) -> Result<Option<u8>, AllocError> {
+    for actual in 0..=255 {
+        let mut text = String::from_str(alloc, "expected digit, got '")?;
+        text.push(char::from(actual))?;
+        text.push_str("'")?;
+        if !prints_as(&Error::DigitExpected { actual }, text.as_str()) {
+            return Ok(Some(actual));
+        }
+    }
+    Ok(None)
+}
+
+#[test]
+fn each_byte(rt: HostRuntime) -> Result<(), AllocError> {
+    let byte = not_shown(rt.alloc())?;
+    assert!(rt; byte.is_none(), "{byte:?}");
+    Ok(())
 }

@@ -1,16 +1,32 @@
-//! What is printed, and a formatter's target of fixed size, which may refuse a write.
+//! What is printed, and a formatter's target that takes one text alone and may refuse a write.
 
 use std::alloc::{AllocError, Global};
 use std::fmt;
-use std::fmt::{Display, Write};
+use std::fmt::{Debug, Display, Write};
 
-/// Whether a value prints as this text, plain and under width, fill, sign, zeros and precision.
+/// Whether a value prints as this text, plain and under each option, alone and together.
 pub fn prints<T: Display>(alloc: Global, value: &T, text: &str) -> bool {
-    is_printed(format!(in alloc; "{value}"), text)
-        && is_printed(format!(in alloc; "{value:>20}"), text)
-        && is_printed(format!(in alloc; "{value:>40.3}"), text)
-        && is_printed(format!(in alloc; "{value:*^+020.1}"), text)
-        && is_printed(format!(in alloc; "{value:*^+80.3}"), text)
+    match under_options(alloc, value) {
+        Ok(printed) => is_each_piece(printed.as_str(), text),
+        Err(_) => false,
+    }
+}
+
+/// A value under each option, joined by bars.
+fn under_options<T: Display>(alloc: Global, value: &T) -> Result<String, AllocError> {
+    format!(in alloc;
+        "{value}|{value:#}|{value:+}|{value:.3}|{value:30}|{value:030}|{value:<30}|{value:^30}|{value:*>60}|{value:*^+#80.1}"
+    )
+}
+
+/// Whether each piece between bars is this text.
+fn is_each_piece(printed: &str, text: &str) -> bool {
+    for piece in printed.split('|') {
+        if piece != text {
+            return false;
+        }
+    }
+    true
 }
 
 /// Whether this text was printed.
@@ -21,75 +37,64 @@ pub fn is_printed(printed: Result<String, AllocError>, text: &str) -> bool {
     }
 }
 
-/// Whether so many bytes were printed.
-pub fn has_length(printed: Result<String, AllocError>, count: usize) -> bool {
-    match printed {
-        Ok(printed) => printed.as_str().len() == count,
-        Err(_) => false,
-    }
-}
-
 /// Whether a value is printed as this text where no memory is at hand.
-pub fn prints_into_array<T: Display>(value: &T, text: &str) -> bool {
-    let mut target = FixedTarget::new(0);
-    write!(target, "{value}").is_ok() && target.written() == text.as_bytes()
+pub fn prints_as<T: Display>(value: &T, text: &str) -> bool {
+    let mut target = OneText::new(text, 0);
+    write!(target, "{value}").is_ok() && target.rest.is_empty()
 }
 
-/// In how many writes a value is printed, where each of them, refused in turn, is told at once, and a
-/// prefix of the text was written.
-pub fn writes_of<T: Display>(value: &T) -> Option<usize> {
-    let mut whole = FixedTarget::new(0);
-    write!(whole, "{value}").ok()?;
+/// Whether a value is printed as this text, and each of its writes, refused in turn, is told at once.
+pub fn tells<T: Display>(value: &T, text: &str) -> bool {
     for bad in 1..100 {
-        let mut target = FixedTarget::new(bad);
+        let mut target = OneText::new(text, bad);
         if write!(target, "{value}").is_ok() {
-            let is_whole = target.written() == whole.written() && target.writes < bad;
-            return is_whole.then_some(target.writes);
+            return 1 < bad && target.writes < bad && target.rest.is_empty();
         }
-        if target.writes != bad || !whole.written().starts_with(target.written()) {
-            return None;
+        if target.writes != bad {
+            return false;
         }
     }
-    None
+    false
 }
 
-/// Keeps a short text, and refuses the write numbered `bad`, counted from 1.
+/// Prints what Debug shows of a value.
 #[derive(Drop)]
-struct FixedTarget {
-    room: [u8; 64],
-    used: usize,
+pub struct Shown<T>(pub T);
+
+impl<T: Debug> Display for Shown<T> {
+    fn fmt<W: Write>(&self, f: &mut fmt::Formatter<W>) -> fmt::Result {
+        write!(f, "{:?}", self.0)
+    }
+}
+
+/// Takes a text piece by piece and nothing else, and refuses the write numbered `bad`, counted from 1.
+#[derive(Drop)]
+struct OneText<'a> {
+    rest: &'a [u8],
     writes: usize,
     bad: usize,
 }
 
-impl FixedTarget {
-    fn new(bad: usize) -> Self {
-        FixedTarget {
-            room: [0; 64],
-            used: 0,
+impl<'a> OneText<'a> {
+    fn new(text: &'a str, bad: usize) -> Self {
+        OneText {
+            rest: text.as_bytes(),
             writes: 0,
             bad,
         }
     }
-
-    fn written(&self) -> &[u8] {
-        self.room.get(..self.used).unwrap_or(&[])
-    }
 }
 
-impl Write for FixedTarget {
+impl Write for OneText<'_> {
     fn write_str(&mut self, text: &str) -> fmt::Result {
         self.writes = self.writes.saturating_add(1);
         if self.writes == self.bad {
             return Err(fmt::Error);
         }
-        for byte in text.as_bytes() {
-            let Some(place) = self.room.get_mut(self.used) else {
-                return Err(fmt::Error);
-            };
-            *place = *byte;
-            self.used = self.used.saturating_add(1);
-        }
+        let Some(rest) = self.rest.strip_prefix(text.as_bytes()) else {
+            return Err(fmt::Error);
+        };
+        self.rest = rest;
         Ok(())
     }
 }

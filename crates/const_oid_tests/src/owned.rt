@@ -46,15 +46,16 @@ fn refused(rt: HostRuntime) {
     }
 }
 
-#[test]
-fn usual_capacity(rt: HostRuntime) {
-    assert!(rt; max_size() == 39);
-}
-
 fn max_size() -> usize
     ensures { result ≡ 39 }
 {
     ObjectIdentifier::<39>::MAX_SIZE
+}
+
+/// A call: what it answers is proved.
+#[test]
+fn usual_capacity(rt: HostRuntime) {
+    assert!(rt; max_size() == 39);
 }
 
 /// Whether a capacity takes octets as they are, or refuses them by this error.

@@ -1,7 +1,6 @@
 //! Identifiers of both forms, printed.
 
-use crate::formatter::{has_length, is_printed, prints, writes_of};
-use crate::vectors::{long_octets, long_text};
+use crate::formatter::{Shown, prints, prints_as, tells};
 use const_oid::{ObjectIdentifier, ObjectIdentifierRef};
 use std::alloc::{AllocError, Global};
 
@@ -35,90 +34,88 @@ fn options_change_nothing(rt: HostRuntime) {
     }
 }
 
-/// Octets, and how many bytes they print, which are at most 4 an octet.
-const PRINTED_LENGTHS: [(&[u8], usize); 2] = [
-    (&[0x77], 4),
-    (&[0x2A, 0x8F, 0xFF, 0xFF, 0xFF, 0x7F], 14),
-];
+/// An octet, the text of it alone, and what each one more adds.
+const REPEATED: [(&str, &str, &str); 2] = [("\u{7F}", "2.47", ".127"), ("\u{1}", "0.1", ".1")];
 
-/// Whether both forms print so many bytes.
-fn both_take(alloc: Global, octets: &[u8], count: usize) -> bool {
-    let (Ok(borrowed), Ok(owned)) = (
-        ObjectIdentifierRef::from_bytes(octets),
-        ObjectIdentifier::from_bytes(octets),
-    ) else {
+/// Whether octets are printed as this text, by the owned form where they are at most 255.
+fn print(octets: &[u8], text: &str) -> bool {
+    let Ok(borrowed) = ObjectIdentifierRef::from_bytes(octets) else {
         return false;
     };
-    count <= octets.len().saturating_mul(4)
-        && has_length(format!(in alloc; "{borrowed}"), count)
-        && has_length(format!(in alloc; "{owned}"), count)
+    let is_printed = match ObjectIdentifier::<300>::try_from_ref(borrowed) {
+        Ok(owned) => prints_as(&owned, text),
+        Err(_) => octets.len() > 255,
+    };
+    is_printed && prints_as(&borrowed, text)
+}
+
+/// Whether so many octets of a row are printed.
+fn prints_so_many(
+    alloc: Global,
+    row: &(&str, &str, &str),
+    count: usize,
+) -> Result<bool, AllocError> {
+    let (octet, first, later) = row;
+    let octets = octet.repeat(alloc, count)?;
+    let later = later.repeat(alloc, count.saturating_sub(1))?;
+    let text = format!(in alloc; "{first}{later}")?;
+    Ok(print(octets.as_bytes(), text.as_str()))
+}
+
+/// The first number of octets that are not printed: of 1 to 255, and past any room of a fixed size.
+fn not_printed(alloc: Global, row: &(&str, &str, &str)) -> Result<Option<usize>, AllocError> {
+    for count in (1..256).chain([256, 2046, 10_000]) {
+        if !prints_so_many(alloc, row, count)? {
+            return Ok(Some(count));
+        }
+    }
+    Ok(None)
 }
 
 #[test]
-fn printed_lengths(rt: HostRuntime) {
-    for (octets, count) in &PRINTED_LENGTHS {
-        assert!(rt; both_take(rt.alloc(), octets, *count), "{octets:?}");
+fn of_any_length(rt: HostRuntime) -> Result<(), AllocError> {
+    for row in &REPEATED {
+        let count = not_printed(rt.alloc(), row)?;
+        assert!(rt; count.is_none(), "{count:?} octets");
     }
-}
-
-/// Whether a borrowed identifier prints as this text for those who look for faults.
-fn shows_borrowed(alloc: Global, octets: &[u8], text: &str) -> bool {
-    match ObjectIdentifierRef::from_bytes(octets) {
-        Ok(oid) => is_printed(format!(in alloc; "{oid:?}"), text),
-        Err(_) => false,
-    }
-}
-
-/// The same for an owned identifier.
-fn shows_owned(alloc: Global, octets: &[u8], text: &str) -> bool {
-    match ObjectIdentifier::from_bytes(octets) {
-        Ok(oid) => is_printed(format!(in alloc; "{oid:?}"), text),
-        Err(_) => false,
-    }
-}
-
-#[test]
-fn debug(rt: HostRuntime) {
-    assert!(rt; shows_borrowed(rt.alloc(), &[0x2A, 0x03], "ObjectIdentifierRef(1.2.3)"));
-    assert!(rt; shows_owned(rt.alloc(), &[0x2A, 0x03], "ObjectIdentifier(1.2.3)"));
-}
-
-/// Whether a capacity of 300 prints octets as this text, and as the other one for those who look for
-/// faults.
-fn prints_both(alloc: Global, octets: &[u8], text: &str, shown: &str) -> bool {
-    match ObjectIdentifier::<300>::from_bytes_sized(octets) {
-        Ok(oid) => prints(alloc, &oid, text) && is_printed(format!(in alloc; "{oid:?}"), shown),
-        Err(_) => false,
-    }
-}
-
-/// Whether 255 octets of as many arcs and one more are printed.
-fn prints_the_longest(alloc: Global) -> Result<bool, AllocError> {
-    let octets = long_octets(alloc, &[0x2A], 254, &[])?;
-    let text = long_text(alloc, "1.2", 254, "")?;
-    let shown = long_text(alloc, "ObjectIdentifier(1.2", 254, ")")?;
-    Ok(prints_both(alloc, octets.as_slice(), text.as_str(), shown.as_str()))
-}
-
-#[test]
-fn the_longest(rt: HostRuntime) -> Result<(), AllocError> {
-    assert!(rt; prints_the_longest(rt.alloc())?);
     Ok(())
 }
 
-/// Whether both forms are printed, and each write, refused, is told.
-fn both_tell(octets: &[u8]) -> bool {
+/// Octets, and what Display prints of them, and Debug of both forms.
+const SHOWN: [(&[u8], &str, &str, &str); 2] = [
+    (
+        &[0x2A, 0x03],
+        "1.2.3",
+        "ObjectIdentifierRef(1.2.3)",
+        "ObjectIdentifier(1.2.3)",
+    ),
+    (
+        &[0x7F; 20],
+        "2.47.127.127.127.127.127.127.127.127.127.127.127.127.127.127.127.127.127.127.127",
+        "ObjectIdentifierRef(2.47.127.127.127.127.127.127.127.127.127.127.127.127.127.127.127.127.127.127.127)",
+        "ObjectIdentifier(2.47.127.127.127.127.127.127.127.127.127.127.127.127.127.127.127.127.127.127.127)",
+    ),
+];
+
+/// Whether both forms print and show a row, and each write, refused, is told.
+fn both_tell(row: &(&[u8], &str, &str, &str)) -> bool {
+    let (octets, text, borrowed_text, owned_text) = row;
     let (Ok(borrowed), Ok(owned)) = (
         ObjectIdentifierRef::from_bytes(octets),
         ObjectIdentifier::from_bytes(octets),
     ) else {
         return false;
     };
-    matches!(writes_of(&borrowed), Some(1..)) && matches!(writes_of(&owned), Some(1..))
+    tells(&borrowed, text)
+        && tells(&owned, text)
+        && tells(&Shown(borrowed), borrowed_text)
+        && tells(&Shown(owned), owned_text)
 }
 
 /// Each write that is refused is told, whichever it is.
 #[test]
 fn a_refused_write_is_told(rt: HostRuntime) {
-    assert!(rt; both_tell(&[0x2A, 0x86, 0x48, 0x86, 0xF7, 0x0D, 0x01, 0x01, 0x01]));
+    for row in &SHOWN {
+        assert!(rt; both_tell(row), "{}", row.1);
+    }
 }

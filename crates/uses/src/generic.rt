@@ -1,6 +1,7 @@
 //! Callers of any capacity.
 
-ghost use Rattle.std.specs.Prelude.{◌≡◌, ◌≤◌, IfOk, IsOkAnd};
+ghost use Rattle.std.specs.Prelude.{◌≡◌, ◌≤◌, ◌↔◌, min, IfOk, IsOk, IsOkAnd};
+ghost use Rattle.const_oid.specs.Identifier.{size};
 ghost use Rattle.const_oid.specs.Oid.{oid_arcs};
 ghost use Rattle.const_oid.specs.OidRef.{ref_arcs};
 ghost use Rattle.const_oid.specs.Tree.{child_of};
@@ -12,7 +13,8 @@ pub fn child_in<const N: usize>(
     parent: ObjectIdentifierRef<'_>,
     arc: Arc,
 ) -> Result<ObjectIdentifier<N>>
-    ensures { IfOk result (λ child. oid_arcs child ≡ child_of (ref_arcs parent.entry) arc) }
+    ensures fits { IsOk result ↔ (size (child_of (ref_arcs parent.entry) arc) ≤ min N 255) }
+    ensures arcs { IfOk result (λ child. oid_arcs child ≡ child_of (ref_arcs parent.entry) arc) }
 {
     ObjectIdentifier::try_from_ref(parent)?.push_arc(arc)
 }

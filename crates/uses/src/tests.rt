@@ -44,6 +44,7 @@ fn facts(rt: HostRuntime) -> Result<(), Fail> {
     Ok(())
 }
 
+/// A call: what both orders answer is proved.
 #[test]
 fn orders(rt: HostRuntime) -> Result<(), Fail> {
     let oid = ObjectIdentifier::new("1.3.6.1")?;
@@ -53,6 +54,7 @@ fn orders(rt: HostRuntime) -> Result<(), Fail> {
     Ok(())
 }
 
+/// The text stands for the octets; the first line is two calls, whose answers are proved.
 #[test]
 fn constant(rt: HostRuntime) -> Result<(), Fail> {
     assert!(rt; is_its_text() && is_ec_public_key(&EC_PUBLIC_KEY));
@@ -60,9 +62,11 @@ fn constant(rt: HostRuntime) -> Result<(), Fail> {
     Ok(())
 }
 
-/// The longest text of 39 octets: 2.47, and .127 for each octet that follows.
+/// The shortest text, and the longest of 39 octets: 2.47, and .127 for each octet that follows.
 #[test]
 fn fullest(rt: HostRuntime) -> Result<(), Fail> {
+    let least = printed(&ObjectIdentifier::new("0.0")?)?;
+    assert!(rt; least.as_bytes() == b"0.0".as_slice());
     let text = printed(&ObjectIdentifier::from_bytes(&[0x7F; 39])?)?;
     assert!(rt; text.as_bytes().len() == 156);
     assert!(rt; text.as_bytes().starts_with(b"2.47.127.127."));

@@ -43,16 +43,15 @@ fn answer_with(octets: &[u8], error: Option<Error>) -> bool {
         && ObjectIdentifier::<300>::from_bytes_sized(octets).err() == error
 }
 
-/// How many rows hold after a first group.
-fn rows_at_capacity(first: &[u8]) -> usize {
-    let mut held = 0usize;
+/// The first length at a capacity whose row does not hold after a first group.
+fn wrong_at_capacity(first: &[u8]) -> Option<usize> {
     for (len, last, error) in &AT_CAPACITY {
         let octets = long(first, *len, *last);
-        if answer_with(octets.get(..*len).unwrap_or(&[]), *error) {
-            held = held.saturating_add(1);
+        if !answer_with(octets.get(..*len).unwrap_or(&[]), *error) {
+            return Some(*len);
         }
     }
-    held
+    None
 }
 
 /// Numbers of octets around 32, 64 and 96.
@@ -70,23 +69,22 @@ fn ends_with_1(octets: &[u8], count: usize) -> bool {
     }
 }
 
-/// How many lengths have their arcs after a first group, which holds two arcs.
-fn lengths_held(first: &[u8]) -> usize {
+/// The first length whose arcs are others after a first group, which holds two arcs.
+fn wrong_len(first: &[u8]) -> Option<usize> {
     let octets = long(first, 256, 1);
-    let mut held = 0usize;
     for len in &LENGTHS {
         let count = len.saturating_sub(first.len()).saturating_add(2);
-        if ends_with_1(octets.get(..*len).unwrap_or(&[]), count) {
-            held = held.saturating_add(1);
+        if !ends_with_1(octets.get(..*len).unwrap_or(&[]), count) {
+            return Some(*len);
         }
     }
-    held
+    None
 }
 
 #[test]
 fn long_octets(rt: HostRuntime) {
-    for (row, first) in FIRST_GROUPS.iter().enumerate() {
-        assert!(rt; rows_at_capacity(first) == AT_CAPACITY.len(), "row {row}");
-        assert!(rt; lengths_held(first) == LENGTHS.len(), "row {row}");
+    for first in &FIRST_GROUPS {
+        let len = wrong_at_capacity(first).or(wrong_len(first));
+        assert!(rt; len.is_none(), "{len:?} octets after {first:?}");
     }
 }

@@ -1,5 +1,5 @@
 //! Tables of names that a hostile caller may hand in.
-use crate::formatter::prints_into_array;
+use crate::formatter::prints_as;
 use const_oid::db::Database;
 use const_oid::{Error, ObjectIdentifier};
 
@@ -57,7 +57,7 @@ const ROWS: [Row; 4] = [
 /// Whether a name finds the identifier of a text, or none where that is empty.
 fn finds(database: &Database<'_>, name: &str, wanted: &str) -> bool {
     match database.by_name(name) {
-        Some(oid) => prints_into_array(oid, wanted),
+        Some(oid) => prints_as(oid, wanted),
         None => wanted.is_empty(),
     }
 }
@@ -81,14 +81,14 @@ fn row_holds(row: &Row) -> bool {
     )
 }
 
-/// Whether all rows hold.
-fn names_fold() -> bool {
-    for row in &ROWS {
+/// The number of the first row that does not hold.
+fn wrong_row() -> Option<usize> {
+    for (number, row) in ROWS.iter().enumerate() {
         if !row_holds(row) {
-            return false;
+            return Some(number);
         }
     }
-    true
+    None
 }
 
 #[test]
@@ -97,6 +97,7 @@ fn tables(rt: HostRuntime) -> Result<(), Error> {
     assert!(rt; nothing_known(&oid));
     assert!(rt; named_twice(&oid));
     assert!(rt; resolves_to_nothing(&oid, "1.2.3"));
-    assert!(rt; names_fold());
+    let row = wrong_row();
+    assert!(rt; row.is_none(), "row {row:?}");
     Ok(())
 }

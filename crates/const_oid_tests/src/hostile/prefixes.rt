@@ -48,18 +48,18 @@ fn prefixes_hold(octets: &[u8]) -> bool {
     true
 }
 
-/// How many refused octets hold, with all their prefixes.
-fn refused_held() -> usize {
-    let mut held = 0usize;
+/// The first refused octets that do not hold, with all their prefixes.
+fn wrong_octets() -> Option<&'static [u8]> {
     for (octets, _) in refused_octets() {
-        if prefixes_hold(octets) {
-            held = held.saturating_add(1);
+        if !prefixes_hold(octets) {
+            return Some(octets);
         }
     }
-    held
+    None
 }
 
 #[test]
 fn of_refused_octets(rt: HostRuntime) {
-    assert!(rt; refused_held() == refused_octets().len());
+    let octets = wrong_octets();
+    assert!(rt; octets.is_none(), "{octets:?}");
 }

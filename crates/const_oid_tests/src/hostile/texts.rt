@@ -1,7 +1,7 @@
 //! Texts of a hostile sender: every prefix of many texts, and long ones.
-use crate::formatter::prints_into_array;
 use crate::texts::{LEADING_ZEROS, REFUSED};
 use crate::vectors::accepted_rows;
+use const_oid::db::Database;
 use const_oid::{Arc, Error, ObjectIdentifier};
 use std::alloc::{AllocError, Global};
 
@@ -111,48 +111,39 @@ const LONG: [&str; 3] = [
     "2.4294967295.1.1.1.1.1.1.1.1.1.1.1.1.1.1.1.1.1.1.1.1.1.1.1.1.1.1.1.1.1.1.1.1.1.1.1.1.1.1.",
 ];
 
-/// How many texts of identifiers hold, with all their prefixes.
-fn accepted_held() -> usize {
-    let mut held = 0usize;
+/// The first text of an identifier that does not hold, with all its prefixes.
+fn wrong_accepted() -> Option<&'static str> {
     for (text, _, _) in accepted_rows() {
-        if prefixes_hold(text) {
-            held = held.saturating_add(1);
+        if !prefixes_hold(text) {
+            return Some(text);
         }
     }
-    held
+    None
 }
 
-/// How many refused texts hold, with all their prefixes.
-fn refused_held() -> usize {
-    let mut held = 0usize;
+/// The first refused text that does not hold.
+fn wrong_refused() -> Option<&'static str> {
     for (text, _) in &REFUSED {
-        if prefixes_hold(text) {
-            held = held.saturating_add(1);
+        if !prefixes_hold(text) {
+            return Some(text);
         }
     }
-    held
+    None
 }
 
-/// How many texts with leading zeros hold, with all their prefixes.
-fn zeros_held() -> usize {
-    let mut held = 0usize;
+/// The first text with leading zeros, or long one, that does not hold.
+fn wrong_other() -> Option<&'static str> {
     for (text, _, _) in &LEADING_ZEROS {
-        if prefixes_hold(text) {
-            held = held.saturating_add(1);
+        if !prefixes_hold(text) {
+            return Some(text);
         }
     }
-    held
-}
-
-/// How many long texts hold, with all their prefixes.
-fn long_held() -> usize {
-    let mut held = 0usize;
     for text in &LONG {
-        if prefixes_hold(text) {
-            held = held.saturating_add(1);
+        if !prefixes_hold(text) {
+            return Some(text);
         }
     }
-    held
+    None
 }
 
 /// What stands before 100,000 zeros and after them, and the octets, or the error, if there is one.
@@ -171,46 +162,46 @@ fn with_zeros(alloc: Global, prefix: &str, back: &str) -> Result<String, AllocEr
     format!(in alloc; "{prefix}{zeros}{back}")
 }
 
-/// Whether a text is read as octets, or refused by this error.
-fn is_read_as(text: &str, octets: &[u8], error: Option<Error>) -> bool {
-    match ObjectIdentifier::new(text) {
+/// Whether an identifier was read as octets, or refused by this error.
+fn is_read(read: Result<ObjectIdentifier<39>, Error>, octets: &[u8], error: Option<Error>) -> bool {
+    match read {
         Ok(oid) => error.is_none() && oid.as_bytes() == octets,
         Err(fault) => error == Some(fault),
     }
 }
 
-/// The same for a text with zeros in it.
-fn is_read_after_zeros(
-    alloc: Global,
-    ends: (&str, &str),
-    octets: &[u8],
-    error: Option<Error>,
-) -> bool {
-    match with_zeros(alloc, ends.0, ends.1) {
-        Ok(text) => is_read_as(text.as_str(), octets, error),
-        Err(_) => false,
+/// Whether a table that does not know a text gives it back, or refuses it by this error.
+fn is_resolved(table: &Database<'_>, text: &str, error: Option<Error>) -> bool {
+    match table.resolve(text) {
+        Ok(name) => error.is_none() && name == text,
+        Err(fault) => error == Some(fault),
     }
 }
 
-/// How many of the texts with zeros are read as they are to be.
-fn zeros_read(alloc: Global) -> usize {
-    let mut read = 0usize;
-    for (prefix, back, octets, error) in &ZEROS {
-        if is_read_after_zeros(alloc, (prefix, back), octets, *error) {
-            read = read.saturating_add(1);
+/// Whether each call that reads a text reads a row, with zeros in it.
+fn row_holds(alloc: Global, row: &(&str, &str, &[u8], Option<Error>)) -> bool {
+    let Ok(text) = with_zeros(alloc, row.0, row.1) else {
+        return false;
+    };
+    is_read(ObjectIdentifier::new(text.as_str()), row.2, row.3)
+        && is_read(text.as_str().parse(), row.2, row.3)
+        && is_resolved(&Database::new(&[]), text.as_str(), row.3)
+}
+
+/// The number of the first row with zeros that does not hold.
+fn wrong_zeros(alloc: Global) -> Option<usize> {
+    for (number, row) in ZEROS.iter().enumerate() {
+        if !row_holds(alloc, row) {
+            return Some(number);
         }
     }
-    read
+    None
 }
 
 #[test]
 fn prefixes_and_zeros(rt: HostRuntime) {
-    assert!(rt; accepted_held() == accepted_rows().len());
-    assert!(rt; refused_held() == REFUSED.len());
-    assert!(rt; zeros_held() == LEADING_ZEROS.len());
-    assert!(rt; long_held() == LONG.len());
-    assert!(rt; zeros_read(rt.alloc()) == ZEROS.len());
-    let error = Error::DigitExpected { actual: 0xEF };
-    assert!(rt; is_read_as("１.2", &[], Some(error)));
-    assert!(rt; prints_into_array(&error, "expected digit, got 'ï'"));
+    let text = wrong_accepted().or(wrong_refused()).or(wrong_other());
+    assert!(rt; text.is_none(), "{text:?}");
+    let number = wrong_zeros(rt.alloc());
+    assert!(rt; number.is_none(), "row {number:?} of the zeros");
 }

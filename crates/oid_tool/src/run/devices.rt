@@ -2,20 +2,42 @@
 use std::io;
 use std::io::{ErrorKind, Read, Write};
 
-/// Gives a text one byte a read, and fails at one read, counted from 1.
+/// At which read or write a device fails, counted from 1, and the kind of its error.
+#[derive(Clone, Copy)]
+pub struct Failure {
+    pub at: usize,
+    pub kind: ErrorKind,
+}
+
+impl Failure {
+    /// A device that does not fail.
+    pub fn none() -> Self {
+        Failure::at(0)
+    }
+
+    /// A device whose other end is gone.
+    pub fn at(at: usize) -> Self {
+        Failure {
+            at,
+            kind: ErrorKind::BrokenPipe,
+        }
+    }
+}
+
+/// Gives a text one byte a read, and fails at one read.
 #[derive(Drop)]
 pub struct OneByteReader<'a> {
     text: &'a [u8],
     pub reads: usize,
-    fails_at: usize,
+    failure: Failure,
 }
 
 impl<'a> OneByteReader<'a> {
-    pub fn new(text: &'a [u8], fails_at: usize) -> Self {
+    pub fn new(text: &'a [u8], failure: Failure) -> Self {
         OneByteReader {
             text,
             reads: 0,
-            fails_at,
+            failure,
         }
     }
 }
@@ -23,8 +45,8 @@ impl<'a> OneByteReader<'a> {
 impl Read for OneByteReader<'_> {
     fn read(&mut self, buf: &mut [u8]) -> io::Result<usize> {
         self.reads = self.reads.saturating_add(1);
-        if self.reads == self.fails_at {
-            return Err(io::Error::from(ErrorKind::BrokenPipe));
+        if self.reads == self.failure.at {
+            return Err(io::Error::from(self.failure.kind));
         }
         match (self.text, buf.first_mut()) {
             ([byte, rest @ ..], Some(place)) => {
@@ -56,24 +78,26 @@ impl Read for EndlessReader {
     }
 }
 
-/// Takes a few bytes a write, and fails at one write, counted from 1.
+/// Takes a few bytes a write, and fails at one write.
 #[derive(Drop)]
 pub struct SlowWriter {
     room: [u8; 64],
     used: usize,
     most: usize,
     pub writes: usize,
-    fails_at: usize,
+    pub flushes: usize,
+    failure: Failure,
 }
 
 impl SlowWriter {
-    pub fn new(most: usize, fails_at: usize) -> Self {
+    pub fn new(most: usize, failure: Failure) -> Self {
         SlowWriter {
             room: [0; 64],
             used: 0,
             most,
             writes: 0,
-            fails_at,
+            flushes: 0,
+            failure,
         }
     }
 
@@ -85,8 +109,8 @@ impl SlowWriter {
 impl Write for SlowWriter {
     fn write(&mut self, buf: &[u8]) -> io::Result<usize> {
         self.writes = self.writes.saturating_add(1);
-        if self.writes == self.fails_at {
-            return Err(io::Error::from(ErrorKind::BrokenPipe));
+        if self.writes == self.failure.at {
+            return Err(io::Error::from(self.failure.kind));
         }
         let count = buf.len().min(self.most);
         for i in 0..count {
@@ -100,6 +124,53 @@ impl Write for SlowWriter {
     }
 
     fn flush(&mut self) -> io::Result<()> {
+        self.flushes = self.flushes.saturating_add(1);
         Ok(())
     }
 }
+
+/// The kinds of error that std has.
+pub const KINDS: [ErrorKind; 42] = [
+    ErrorKind::NotFound,
+    ErrorKind::PermissionDenied,
+    ErrorKind::ConnectionRefused,
+    ErrorKind::ConnectionReset,
+    ErrorKind::HostUnreachable,
+    ErrorKind::NetworkUnreachable,
+    ErrorKind::ConnectionAborted,
+    ErrorKind::NotConnected,
+    ErrorKind::AddrInUse,
+    ErrorKind::AddrNotAvailable,
+    ErrorKind::NetworkDown,
+    ErrorKind::BrokenPipe,
+    ErrorKind::AlreadyExists,
+    ErrorKind::WouldBlock,
+    ErrorKind::NotADirectory,
+    ErrorKind::IsADirectory,
+    ErrorKind::DirectoryNotEmpty,
+    ErrorKind::ReadOnlyFilesystem,
+    ErrorKind::FilesystemLoop,
+    ErrorKind::StaleNetworkFileHandle,
+    ErrorKind::InvalidInput,
+    ErrorKind::InvalidData,
+    ErrorKind::TimedOut,
+    ErrorKind::WriteZero,
+    ErrorKind::StorageFull,
+    ErrorKind::NotSeekable,
+    ErrorKind::QuotaExceeded,
+    ErrorKind::FileTooLarge,
+    ErrorKind::ResourceBusy,
+    ErrorKind::ExecutableFileBusy,
+    ErrorKind::Deadlock,
+    ErrorKind::CrossesDevices,
+    ErrorKind::TooManyLinks,
+    ErrorKind::InvalidFilename,
+    ErrorKind::ArgumentListTooLong,
+    ErrorKind::Interrupted,
+    ErrorKind::Unsupported,
+    ErrorKind::UnexpectedEof,
+    ErrorKind::OutOfMemory,
+    ErrorKind::InProgress,
+    ErrorKind::Other,
+    ErrorKind::Uncategorized,
+];

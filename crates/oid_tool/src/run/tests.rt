@@ -3,9 +3,10 @@ ghost use Rattle.std.specs.Prelude.{◌≡◌, ◌≤◌, ◌++◌, length, OnOk
 ghost use Rattle.oid_tool.specs.Answers.{answers};
 ghost use Rattle.oid_tool.specs.Names.{known_names};
 
-use super::devices::{EndlessReader, OneByteReader, SlowWriter};
+use super::devices::{EndlessReader, Failure, KINDS, OneByteReader, SlowWriter};
 use super::*;
 use std::alloc::Global;
+use std::io::ErrorKind;
 use std::test::Fail;
 
 /// What [`run`] says where both sides tell their bytes.
@@ -19,7 +20,7 @@ fn run_over_memory(input: &[u8], output: &mut Vec<u8>) -> Result<(), ToolError>
 }
 
 /// Inputs, and what is answered.
-const ROWS: [(&str, &str); 60] = [
+const ROWS: [(&str, &str); 68] = [
     ("", ""),
     ("\n", "error: unknown command\n"),
     ("TEXT 2A\n", "error: unknown command\n"),
@@ -104,6 +105,15 @@ const ROWS: [(&str, &str); 60] = [
         "hex 1.2.1.1.1.1.1.1.1.1.1.1.1.1.1.1.1.1.1.1.1.1.1.1.1.1.1.1.1.1.1.1.1.1.1.1.1.1.1.1.1\n",
         "error: OID length invalid\n",
     ),
+    // Bytes that a terminal or C would take for something else.
+    ("hex 1.2\0\n", "error: expected digit, got '\0'\n"),
+    ("hex 1.2\t\n", "error: expected digit, got '\t'\n"),
+    ("hex 1.2\r\n", "error: expected digit, got '\r'\n"),
+    ("hex 1.2\u{7F}\n", "error: expected digit, got '\u{7F}'\n"),
+    ("\0\n", "error: unknown command\n"),
+    ("text 2A\0\n", "error: not hex\n"),
+    ("parent \0\n", "error: expected digit, got '\0'\n"),
+    ("name 2.5.4.3\0\n", "error: expected digit, got '\0'\n"),
     ("parent 1.2.3.4\n", "1.2.3\n"),
     ("parent 1.2.128\n", "1.2\n"),
     ("parent 1.2.4294967295\n", "1.2\n"),
@@ -143,6 +153,7 @@ fn no_text(rt: HostRuntime) {
         b"hex \xFF\n".as_slice(),
         b"parent 3.\xFF\n".as_slice(),
         b"name cn\xFF\n".as_slice(),
+        b"hex 1.2\x80\n".as_slice(),
     ] {
         assert!(rt;
             answers_by(rt.alloc(), input, b"error: not UTF-8\n"),
@@ -236,27 +247,40 @@ fn longest_line(rt: HostRuntime) -> Result<(), Fail> {
 }
 
 /// Whether a failed read is told, is the last one, and nothing is written.
-fn fails_at_read(fails_at: usize) -> bool {
-    let mut input = OneByteReader::new(b"parent 1.2.3\n", fails_at);
-    let mut output = SlowWriter::new(64, 0);
+fn read_fails(failure: Failure) -> bool {
+    let mut input = OneByteReader::new(b"parent 1.2.3\n", failure);
+    let mut output = SlowWriter::new(64, Failure::none());
     run(&mut input, &mut output) == Err(ToolError::Read)
-        && input.reads == fails_at
+        && input.reads == failure.at
         && output.writes == 0
+        && output.flushes == 0
+}
+
+/// The first of 14 reads that fails otherwise, of this kind.
+fn wrong_read(kind: ErrorKind) -> Option<usize> {
+    for at in 1..15 {
+        if !read_fails(Failure { at, kind }) {
+            return Some(at);
+        }
+    }
+    None
 }
 
 /// Whether 14 reads are enough where the next one would fail.
 fn ends_after_14_reads() -> bool {
-    let mut input = OneByteReader::new(b"parent 1.2.3\n", 15);
-    let mut output = SlowWriter::new(64, 0);
+    let mut input = OneByteReader::new(b"parent 1.2.3\n", Failure::at(15));
+    let mut output = SlowWriter::new(64, Failure::none());
     run(&mut input, &mut output) == Ok(())
         && input.reads == 14
         && output.written() == b"1.2\n".as_slice()
 }
 
+/// Of each kind, that of a read that was interrupted among them.
 #[test]
 fn each_read_fails(rt: HostRuntime) {
-    for fails_at in 1..15 {
-        assert!(rt; fails_at_read(fails_at), "at read {fails_at}");
+    for kind in KINDS {
+        let read = wrong_read(kind);
+        assert!(rt; read.is_none(), "read {read:?}, {kind:?}");
     }
     assert!(rt; ends_after_14_reads());
 }
@@ -264,41 +288,65 @@ fn each_read_fails(rt: HostRuntime) {
 #[test]
 fn endless_input(rt: HostRuntime) {
     let mut input = EndlessReader { reads: 0 };
-    let mut output = SlowWriter::new(64, 0);
+    let mut output = SlowWriter::new(64, Failure::none());
     assert!(rt; run(&mut input, &mut output) == Err(ToolError::TooLong));
     assert!(rt; input.reads == 4097);
     assert!(rt; output.writes == 0);
 }
 
-/// In how many writes of at most three bytes an input is answered by an output, where each of them,
-/// failing in turn, is told as such, with a prefix written that is shorter than the whole.
-fn writes_of(input: &[u8], wanted: &[u8]) -> Option<usize> {
-    for fails_at in 1..99 {
-        let mut rest = input;
-        let mut output = SlowWriter::new(3, fails_at);
-        let told = run(&mut rest, &mut output);
-        let written = output.written();
-        if told == Ok(()) {
-            return (written == wanted).then_some(output.writes);
-        }
-        let is_front = wanted.starts_with(written) && written.len() < wanted.len();
-        if told != Err(ToolError::Write) || !is_front {
-            return None;
+/// Three lines, and their answers, of nine writes of at most three bytes.
+const THREE: (&[u8], &[u8]) = (
+    b"text 2A03\ntext 2G\ntext 8837",
+    b"1.2.3\nerror: not hex\n2.999\n",
+);
+
+/// Whether a failed write is told and is the last one, with a prefix written that is shorter than the
+/// whole.
+fn write_fails(failure: Failure) -> bool {
+    let mut rest = THREE.0;
+    let mut output = SlowWriter::new(3, failure);
+    let told = run(&mut rest, &mut output);
+    let written = output.written();
+    told == Err(ToolError::Write)
+        && output.writes == failure.at
+        && output.flushes == 0
+        && THREE.1.starts_with(written)
+        && written.len() < THREE.1.len()
+}
+
+/// The first of nine writes that fails otherwise, of this kind.
+fn wrong_write(kind: ErrorKind) -> Option<usize> {
+    for at in 1..10 {
+        if !write_fails(Failure { at, kind }) {
+            return Some(at);
         }
     }
     None
 }
 
+/// Whether nine writes and no flush are enough.
+fn ends_after_9_writes() -> bool {
+    let mut rest = THREE.0;
+    let mut output = SlowWriter::new(3, Failure::at(10));
+    run(&mut rest, &mut output) == Ok(())
+        && output.writes == 9
+        && output.flushes == 0
+        && output.written() == THREE.1
+}
+
 #[test]
 fn each_write_fails(rt: HostRuntime) {
-    let input = b"text 2A03\ntext 2G\ntext 8837";
-    assert!(rt; writes_of(input, b"1.2.3\nerror: not hex\n2.999\n") == Some(9));
+    for kind in KINDS {
+        let write = wrong_write(kind);
+        assert!(rt; write.is_none(), "write {write:?}, {kind:?}");
+    }
+    assert!(rt; ends_after_9_writes());
 }
 
 #[test]
 fn no_byte_taken(rt: HostRuntime) {
     let mut input = b"text 2A".as_slice();
-    let mut output = SlowWriter::new(0, 0);
+    let mut output = SlowWriter::new(0, Failure::none());
     assert!(rt; run(&mut input, &mut output) == Err(ToolError::Write));
     assert!(rt; output.writes == 1);
 }
