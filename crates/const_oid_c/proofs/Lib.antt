@@ -1,6 +1,6 @@
-pub mod Printing
 pub mod Answers
-pub mod Telling
+pub mod Capacities
+pub mod Flags
 pub mod Filling
-pub mod Refusals
+pub mod ListFaults
 pub mod Places

@@ -11,8 +11,8 @@ use Rattle.const_oid.specs.Tree.{BeginsWith}
 use Rattle.const_oid.proofs.BeginsWith.{is_before, is_under, is_within, under_told, under_apart, before_down, within_down}
 use Rattle.const_oid_c.specs.declared.status.Status.{Status}
 use Rattle.const_oid_c.specs.declared.subtree.Octets.{Octets}
-use Rattle.const_oid_c.specs.Answers.{arcs_read}
-use Rattle.const_oid_c.specs.Subtree.{octets_at, item_refusal, list_refusal, read_refusal}
+use Rattle.const_oid_c.specs.Answers.{borrowed_answer}
+use Rattle.const_oid_c.specs.Subtree.{octets_at, item_fault, list_fault, read_fault}
 
 if_some_map : {X : Type 0} (o : Option X) (P Q : X → Type 0) → ((x : X) → P x → Q x) → IfSome o P → IfSome o Q
 if_some_map None P Q f h = tt
@@ -58,7 +58,7 @@ untested : (t : Bool) (status : Status) → (if t then Some status else None) �
 untested true status e = cc
 untested false status e = refl
 
-level : (place : ℕ) (before octets : List ℕ) (answer : Result (List ℕ) Error) → read_refusal place before octets answer ≡ None → is_before before octets ≡ false
+level : (place : ℕ) (before octets : List ℕ) (answer : Result (List ℕ) Error) → read_fault place before octets answer ≡ None → is_before before octets ≡ false
 level place before octets (Ok arcs) e = untested (is_lt (slice_cmp nat_cmp octets before)) _ e
 level place before octets (Err fault) e = cc
 
@@ -76,27 +76,27 @@ module _ (prefix : List ℕ) where
   abbrev pub item_under : Octets → Bool
   item_under item = is_under prefix (octets_at item)
 
-  none_before : (items : List Octets) (place : ℕ) (x : List ℕ) → is_before prefix x ≡ false → list_refusal place x items ≡ None → count_by item_before items ≡ 0
+  none_before : (items : List Octets) (place : ℕ) (x : List ℕ) → is_before prefix x ≡ false → list_fault place x items ≡ None → count_by item_before items ≡ 0
   none_before [] place x late e = refl
   none_before (item ∷ items) place x late e =
-      let (fine, rest) = neither (item_refusal place x (octets_at item)) (list_refusal (place + 1) (octets_at item) items) e in
-      let up = level place x (octets_at item) (arcs_read (octets_at item)) fine in
+      let (fine, rest) = neither (item_fault place x (octets_at item)) (list_fault (place + 1) (octets_at item) items) e in
+      let up = level place x (octets_at item) (borrowed_answer (octets_at item)) fine in
       let here : item_before item ≡ false = false_from_ne_true (item_before item) (λ t. cc (late, before_down prefix x (octets_at item) up t)) in
       sum_by-cons (λ y. cond (item_before y) 1 0) item items ∙ rw (here, zero-add) (none_before items (place + 1) (octets_at item) here rest)
 
-  none_under : (items : List Octets) (place : ℕ) (x : List ℕ) → is_within prefix x ≡ false → list_refusal place x items ≡ None → count_by item_under items ≡ 0
+  none_under : (items : List Octets) (place : ℕ) (x : List ℕ) → is_within prefix x ≡ false → list_fault place x items ≡ None → count_by item_under items ≡ 0
   none_under [] place x late e = refl
   none_under (item ∷ items) place x late e =
-      let (fine, rest) = neither (item_refusal place x (octets_at item)) (list_refusal (place + 1) (octets_at item) items) e in
-      let up = level place x (octets_at item) (arcs_read (octets_at item)) fine in
+      let (fine, rest) = neither (item_fault place x (octets_at item)) (list_fault (place + 1) (octets_at item) items) e in
+      let up = level place x (octets_at item) (borrowed_answer (octets_at item)) fine in
       let here : is_within prefix (octets_at item) ≡ false = false_from_ne_true (is_within prefix (octets_at item)) (λ t. cc (late, within_down prefix x (octets_at item) up t)) in
       let under : item_under item ≡ false = right_false (item_before item) (item_under item) here in
       sum_by-cons (λ y. cond (item_under y) 1 0) item items ∙ rw (under, zero-add) (none_under items (place + 1) (octets_at item) here rest)
 
-  are_cut : (items : List Octets) (place : ℕ) (x : List ℕ) → list_refusal place x items ≡ None → AreCut item_before item_under items
+  are_cut : (items : List Octets) (place : ℕ) (x : List ℕ) → list_fault place x items ≡ None → AreCut item_before item_under items
   are_cut [] place x e = tt
   are_cut (item ∷ items) place x e =
-      let (fine, rest) = neither (item_refusal place x (octets_at item)) (list_refusal (place + 1) (octets_at item) items) e in (
+      let (fine, rest) = neither (item_fault place x (octets_at item)) (list_fault (place + 1) (octets_at item) items) e in (
         λ late. none_before items (place + 1) (octets_at item) late rest,
         λ late apart. none_under items (place + 1) (octets_at item) (both_false (item_before item) (item_under item) late apart) rest,
         λ under. under_apart prefix (octets_at item) under,
@@ -104,7 +104,7 @@ module _ (prefix : List ℕ) where
       )
 
   -- what begins with the prefix stands after what is before it
-  pub listed_places : (items : List Octets) → list_refusal 0 [] items ≡ None → (from to : ℕ) → from ≡ count_by item_before items → to ≡ from + count_by item_under items → (k : ℕ) → IfSome (slice_get items k) (λ item. BeginsWith (octets_at item) prefix ↔ ((from ≤ k) × (k < to)))
+  pub listed_places : (items : List Octets) → list_fault 0 [] items ≡ None → (from to : ℕ) → from ≡ count_by item_before items → to ≡ from + count_by item_under items → (k : ℕ) → IfSome (slice_get items k) (λ item. BeginsWith (octets_at item) prefix ↔ ((from ≤ k) × (k < to)))
   listed_places items e from to f g k =
       if_some_map (slice_get items k) _ _
       (λ item told.

@@ -1,4 +1,3 @@
 pub mod Status
-pub mod Print
 pub mod Answers
 pub mod Subtree

@@ -6,35 +6,35 @@ use Rattle.std.specs.Ordering.{nat_cmp, is_lt}
 use Rattle.const_oid.specs.declared.error.Error.{Error}
 use Rattle.const_oid_c.specs.declared.status.Status.{Status}
 use Rattle.const_oid_c.specs.declared.subtree.Octets.{Octets}
-use Rattle.const_oid_c.specs.Status.{fault_status, done}
-use Rattle.const_oid_c.specs.Answers.{arcs_read}
+use Rattle.const_oid_c.specs.Status.{error_status, len_status}
+use Rattle.const_oid_c.specs.Answers.{borrowed_answer}
 
 -- the octets of an item
 abbrev pub octets_at : Octets → List ℕ
 octets_at item = item.octets.now
 
 -- what is wrong with octets at a place that is told as the length, after those before: their fault, or that they stand before those
-abbrev pub read_refusal : ℕ → List ℕ → List ℕ → Result (List ℕ) Error → Option Status
-read_refusal place before octets (Ok arcs) = if is_lt (slice_cmp nat_cmp octets before) then Some (record { code = 13; detail = 0; len = place }) else None
-read_refusal place before octets (Err fault) = Some (record (fault_status fault) { len = place })
+abbrev pub read_fault : ℕ → List ℕ → List ℕ → Result (List ℕ) Error → Option Status
+read_fault place before octets (Ok arcs) = if is_lt (slice_cmp nat_cmp octets before) then Some (record { code = 13; detail = 0; len = place }) else None
+read_fault place before octets (Err fault) = Some (record (error_status fault) { len = place })
 
-abbrev pub item_refusal : ℕ → List ℕ → List ℕ → Option Status
-item_refusal place before octets = read_refusal place before octets (arcs_read octets)
+abbrev pub item_fault : ℕ → List ℕ → List ℕ → Option Status
+item_fault place before octets = read_fault place before octets (borrowed_answer octets)
 
 -- the same of the first item that has something wrong with it
-abbrev pub list_refusal : ℕ → List ℕ → List Octets → Option Status
-list_refusal place before [] = None
-list_refusal place before (item ∷ items) = option_or (item_refusal place before (octets_at item)) (list_refusal (place + 1) (octets_at item) items)
+abbrev pub list_fault : ℕ → List ℕ → List Octets → Option Status
+list_fault place before [] = None
+list_fault place before (item ∷ items) = option_or (item_fault place before (octets_at item)) (list_fault (place + 1) (octets_at item) items)
 
 -- what is told of a list: its first refusal, if there is one
 abbrev pub list_status : Option Status → Status
-list_status None = done 0
-list_status (Some refused) = refused
+list_status None = len_status 0
+list_status (Some status) = status
 
 -- what is told of octets and a list: the fault of the octets, or what is wrong with the list
 abbrev pub both_status : Result (List ℕ) Error → List Octets → Status
-both_status (Ok arcs) items = list_status (list_refusal 0 [] items)
-both_status (Err fault) items = fault_status fault
+both_status (Ok arcs) items = list_status (list_fault 0 [] items)
+both_status (Err fault) items = error_status fault
 
 abbrev pub subtree_status : List ℕ → List Octets → Status
-subtree_status octets items = both_status (arcs_read octets) items
+subtree_status octets items = both_status (borrowed_answer octets) items

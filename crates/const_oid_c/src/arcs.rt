@@ -1,75 +1,89 @@
 //! Contents octets as arcs, and arcs as contents octets.
-ghost use Rattle.std.specs.Prelude.{◌≡◌, ◌≤◌, ◌++◌, length, drop, slice_get};
+ghost use Rattle.std.specs.Prelude.{◌≡◌, ◌≤◌, ◌++◌, length, drop, min, slice_get};
 ghost use Rattle.const_oid.specs.Identifier.{root_rule};
 ghost use Rattle.const_oid.specs.Items.{item_answer};
-ghost use Rattle.const_oid_c.specs.Status.{told, filled, done};
-ghost use Rattle.const_oid_c.specs.Answers.{encoded, shown, told_of, arcs_read, arc_status};
+ghost use Rattle.const_oid.specs.Oid.{oid_answer};
+ghost use Rattle.const_oid_c.specs.Status.{output_status, output_after, len_status};
+ghost use Rattle.const_oid_c.specs.Answers.{octets_of_arcs, output_of, status_of, borrowed_answer, arc_status, owned_capacity};
 
-use crate::status::{NONE, Status, done, no_room, number, refusal, refuse};
-use crate::target::give;
-use const_oid::{Arcs, ObjectIdentifier, ObjectIdentifierRef};
+use crate::output::write_octets;
+use crate::owned::{MAX_OCTETS, is_too_long};
+use crate::status::{NONE, Status, code_status, error_status, len_status, no_room_status, number_status};
+use const_oid::{Arcs, ObjectIdentifier, ObjectIdentifierRef, Result};
 
 /// Checks contents octets, of any number.
 #[unsafe(no_mangle)]
 pub extern "C" fn const_oid_check(octets: &[u8]) -> Status
-    ensures { result ≡ told_of (λ _. done 0) (arcs_read octets.now) }
+    ensures { result ≡ status_of (λ _. len_status 0) (borrowed_answer octets.now) }
 {
     match ObjectIdentifierRef::from_bytes(octets) {
-        Ok(_) => done(0),
-        Err(fault) => refuse(fault),
+        Ok(_) => len_status(0),
+        Err(fault) => error_status(fault),
     }
 }
 
 /// Counts the arcs of contents octets, of any number.
 #[unsafe(no_mangle)]
 pub extern "C" fn const_oid_len(octets: &[u8]) -> Status
-    ensures { result ≡ told_of (λ arcs. done (length arcs)) (arcs_read octets.now) }
+    ensures { result ≡ status_of (λ arcs. len_status (length arcs)) (borrowed_answer octets.now) }
 {
     match ObjectIdentifierRef::from_bytes(octets) {
-        Ok(oid) => done(oid.len()),
-        Err(fault) => refuse(fault),
+        Ok(oid) => len_status(oid.len()),
+        Err(fault) => error_status(fault),
     }
 }
 
 /// Finds the arc at a place, counted from 0, of contents octets of any number.
 #[unsafe(no_mangle)]
 pub extern "C" fn const_oid_arc(octets: &[u8], index: usize) -> Status
-    ensures { result ≡ told_of (λ arcs. arc_status (slice_get arcs index)) (arcs_read octets.now) }
+    ensures { result ≡ status_of (λ arcs. arc_status (slice_get arcs index)) (borrowed_answer octets.now) }
 {
     match ObjectIdentifierRef::from_bytes(octets) {
         Ok(oid) => match oid.arc(index) {
-            Some(arc) => number(arc),
-            None => refusal(NONE),
+            Some(arc) => number_status(arc),
+            None => code_status(NONE),
         },
-        Err(fault) => refuse(fault),
+        Err(fault) => error_status(fault),
     }
 }
 
 /// Writes the contents octets of arcs.
 #[unsafe(no_mangle)]
 pub extern "C" fn const_oid_from_arcs(arcs: &[u32], out: &mut [u8]) -> Status
-    ensures status { result ≡ told (length out.old) (encoded (item_answer root_rule arcs.now 39)) }
-    ensures written { out.new ≡ filled out.old (encoded (item_answer root_rule arcs.now 39)) }
+    ensures status { result ≡ output_status (length out.old) (octets_of_arcs (item_answer root_rule arcs.now owned_capacity)) }
+    ensures written { out.new ≡ output_after out.old (octets_of_arcs (item_answer root_rule arcs.now owned_capacity)) }
 {
-    give(ObjectIdentifier::from_arcs(arcs.iter().copied()), out)
+    // A small identifier is quicker to make.
+    let small = encoded::<39>(arcs);
+    if is_too_long(&small) {
+        return write_octets(encoded::<MAX_OCTETS>(arcs), out);
+    }
+    write_octets(small, out)
+}
+
+/// The identifier of arcs.
+fn encoded<const N: usize>(arcs: &[u32]) -> Result<ObjectIdentifier<N>>
+    ensures { oid_answer result ≡ item_answer root_rule arcs.now (min N 255) }
+{
+    ObjectIdentifier::<N>::from_arcs_sized(arcs.iter().copied())
 }
 
 /// Writes all arcs of contents octets, of any number.
 #[unsafe(no_mangle)]
 pub extern "C" fn const_oid_arcs(octets: &[u8], out: &mut [u32]) -> Status
-    ensures status { result ≡ told (length out.old) (shown (λ arcs. arcs) (arcs_read octets.now)) }
-    ensures written { out.new ≡ filled out.old (shown (λ arcs. arcs) (arcs_read octets.now)) }
+    ensures status { result ≡ output_status (length out.old) (output_of (λ arcs. arcs) (borrowed_answer octets.now)) }
+    ensures written { out.new ≡ output_after out.old (output_of (λ arcs. arcs) (borrowed_answer octets.now)) }
 {
     let oid = match ObjectIdentifierRef::from_bytes(octets) {
         Ok(oid) => oid,
-        Err(fault) => return refuse(fault),
+        Err(fault) => return error_status(fault),
     };
     let len = oid.len();
     if len > out.len() {
-        return no_room(len);
+        return no_room_status(len);
     }
     fill(oid.arcs(), out);
-    done(len)
+    len_status(len)
 }
 
 /// Writes arcs to the prefix of the caller's slice, which has room for them.

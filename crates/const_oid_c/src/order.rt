@@ -2,43 +2,46 @@
 ghost use Rattle.std.specs.Prelude.{◌≡◌};
 ghost use Rattle.std.specs.Cmp.Lexicographic.{slice_cmp};
 ghost use Rattle.std.specs.Ordering.{nat_cmp};
+ghost use Rattle.const_oid.specs.OidRef.{ref_octets};
 ghost use Rattle.const_oid.specs.Orders.{shortlex_cmp};
 ghost use Rattle.const_oid.specs.Tree.{BeginsWith};
-ghost use Rattle.const_oid_c.specs.Status.{TellsWhether, ranked};
-ghost use Rattle.const_oid_c.specs.Answers.{TellsOfBoth, arcs_read, arcs_held};
+ghost use Rattle.const_oid_c.specs.Status.{IsFlagOf, order_status};
+ghost use Rattle.const_oid_c.specs.Answers.{IsStatusOfBoth, borrowed_answer, owned_answer};
 
-use crate::status::{Status, flag, ranked, refuse};
-use const_oid::{ObjectIdentifier, ObjectIdentifierRef};
+use crate::owned::read_owned;
+use crate::status::{Status, error_status, flag_status, order_status};
+use const_oid::ObjectIdentifierRef;
+use std::cmp::Ordering;
 
 /// Tells whether two identifiers, of any number of octets, are equal.
 #[unsafe(no_mangle)]
 pub extern "C" fn const_oid_eq(left: &[u8], right: &[u8]) -> Status
-    ensures { TellsOfBoth (λ xs ys. TellsWhether (xs ≡ ys))
-        (arcs_read left.now) (arcs_read right.now) result }
+    ensures { IsStatusOfBoth (λ xs ys. IsFlagOf (xs ≡ ys))
+        (borrowed_answer left.now) (borrowed_answer right.now) result }
 {
     let left = match ObjectIdentifierRef::from_bytes(left) {
         Ok(left) => left,
-        Err(fault) => return refuse(fault),
+        Err(fault) => return error_status(fault),
     };
     match ObjectIdentifierRef::from_bytes(right) {
-        Ok(right) => flag(left == right),
-        Err(fault) => refuse(fault),
+        Ok(right) => flag_status(left == right),
+        Err(fault) => error_status(fault),
     }
 }
 
 /// Tells whether the arcs begin with all those of a prefix, each of any number of octets.
 #[unsafe(no_mangle)]
 pub extern "C" fn const_oid_starts_with(octets: &[u8], prefix: &[u8]) -> Status
-    ensures { TellsOfBoth (λ arcs prefix. TellsWhether (BeginsWith arcs prefix))
-        (arcs_read octets.now) (arcs_read prefix.now) result }
+    ensures { IsStatusOfBoth (λ arcs prefix. IsFlagOf (BeginsWith arcs prefix))
+        (borrowed_answer octets.now) (borrowed_answer prefix.now) result }
 {
     let oid = match ObjectIdentifierRef::from_bytes(octets) {
         Ok(oid) => oid,
-        Err(fault) => return refuse(fault),
+        Err(fault) => return error_status(fault),
     };
     match ObjectIdentifierRef::from_bytes(prefix) {
-        Ok(prefix) => flag(oid.as_bytes().starts_with(prefix.as_bytes())),
-        Err(fault) => refuse(fault),
+        Ok(prefix) => flag_status(oid.starts_with(&prefix)),
+        Err(fault) => error_status(fault),
     }
 }
 
@@ -46,32 +49,59 @@ pub extern "C" fn const_oid_starts_with(octets: &[u8], prefix: &[u8]) -> Status
 /// order, a prefix before what begins with it.
 #[unsafe(no_mangle)]
 pub extern "C" fn const_oid_cmp(left: &[u8], right: &[u8]) -> Status
-    ensures { TellsOfBoth (λ _ _ status. status ≡ ranked (slice_cmp nat_cmp left.now right.now))
-        (arcs_read left.now) (arcs_read right.now) result }
+    ensures { IsStatusOfBoth (λ _ _ status. status ≡ order_status (slice_cmp nat_cmp left.now right.now))
+        (borrowed_answer left.now) (borrowed_answer right.now) result }
 {
     let left = match ObjectIdentifierRef::from_bytes(left) {
         Ok(left) => left,
-        Err(fault) => return refuse(fault),
+        Err(fault) => return error_status(fault),
     };
     match ObjectIdentifierRef::from_bytes(right) {
-        Ok(right) => ranked(left.cmp(&right)),
-        Err(fault) => refuse(fault),
+        Ok(right) => order_status(left.cmp(&right)),
+        Err(fault) => error_status(fault),
     }
 }
 
-/// Compares two identifiers of at most 39 octets in the order of owned ones: fewer octets first, and
+/// Compares two identifiers of any number of octets in the order of their arcs, a prefix before what
+/// begins with it.
+#[unsafe(no_mangle)]
+pub extern "C" fn const_oid_cmp_arcs(left: &[u8], right: &[u8]) -> Status
+    ensures { IsStatusOfBoth (λ xs ys status. status ≡ order_status (slice_cmp nat_cmp xs ys))
+        (borrowed_answer left.now) (borrowed_answer right.now) result }
+{
+    let left = match ObjectIdentifierRef::from_bytes(left) {
+        Ok(left) => left,
+        Err(fault) => return error_status(fault),
+    };
+    match ObjectIdentifierRef::from_bytes(right) {
+        Ok(right) => order_status(left.cmp_arcs(&right)),
+        Err(fault) => error_status(fault),
+    }
+}
+
+/// Compares two identifiers of at most 255 octets in the order of owned ones: fewer octets first, and
 /// with as many the octets in list order.
 #[unsafe(no_mangle)]
 pub extern "C" fn const_oid_cmp_owned(left: &[u8], right: &[u8]) -> Status
-    ensures { TellsOfBoth (λ _ _ status. status ≡ ranked (shortlex_cmp left.now right.now))
-        (arcs_held left.now) (arcs_held right.now) result }
+    ensures { IsStatusOfBoth (λ _ _ status. status ≡ order_status (shortlex_cmp left.now right.now))
+        (owned_answer left.now) (owned_answer right.now) result }
 {
-    let first = match ObjectIdentifier::from_bytes(left) {
+    let first = match read_owned(left) {
         Ok(first) => first,
-        Err(fault) => return refuse(fault),
+        Err(fault) => return error_status(fault),
     };
-    match ObjectIdentifier::from_bytes(right) {
-        Ok(second) => ranked(first.cmp(&second)),
-        Err(fault) => refuse(fault),
+    match read_owned(right) {
+        Ok(second) => order_status(shortlex(first, second)),
+        Err(fault) => error_status(fault),
+    }
+}
+
+/// The order of two identifiers by length, and with as many octets in list order.
+fn shortlex(left: ObjectIdentifierRef<'_>, right: ObjectIdentifierRef<'_>) -> Ordering
+    ensures { result ≡ shortlex_cmp (ref_octets left.entry) (ref_octets right.entry) }
+{
+    match left.as_bytes().len().cmp(&right.as_bytes().len()) {
+        Ordering::Equal => left.cmp(&right),
+        other => other,
     }
 }

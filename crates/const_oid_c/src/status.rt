@@ -1,26 +1,23 @@
-//! What a call tells.
+//! What a call answers besides its output.
 ghost use Rattle.std.specs.Prelude.{◌≡◌};
-ghost use Rattle.const_oid_c.specs.Status.{fault_status, refusal, done, number, no_room, flag, ranked};
+ghost use Rattle.const_oid_c.specs.Status.{error_status, code_status, len_status, number_status, no_room_status, flag_status, order_status};
 
 use const_oid::Error;
 use std::cmp::Ordering;
 
-/// The code of an answer that is longer than the caller's slice.
+/// The code of an answer that is longer than the output.
 pub(crate) const NO_ROOM: u32 = 10;
 
 /// The code of bytes that are no text.
 pub(crate) const NOT_UTF8: u32 = 11;
 
-/// The code where there is no such arc, parent or error.
+/// The code where there is no such arc, parent or text.
 pub(crate) const NONE: u32 = 12;
 
 /// The code of a list that descends.
 pub(crate) const UNSORTED: u32 = 13;
 
-/// The code of a formatter that failed.
-pub(crate) const UNPRINTED: u32 = 14;
-
-/// What a call tells: how it ended, and two numbers.
+/// How a call ended, and two numbers.
 #[repr(C)]
 #[derive(Clone, Copy)]
 pub struct Status {
@@ -32,9 +29,9 @@ pub struct Status {
     pub len: usize,
 }
 
-/// The status of an error.
-pub(crate) fn refuse(error: Error) -> Status
-    ensures { result ≡ fault_status error }
+/// An error.
+pub(crate) fn error_status(error: Error) -> Status
+    ensures { result ≡ error_status error }
 {
     let (code, detail) = match error {
         Error::ArcInvalid { arc } => (1, arc),
@@ -54,9 +51,9 @@ pub(crate) fn refuse(error: Error) -> Status
     }
 }
 
-/// The status of a refusal that is no error of `const_oid`.
-pub(crate) fn refusal(code: u32) -> Status
-    ensures { result ≡ refusal code }
+/// A code alone.
+pub(crate) fn code_status(code: u32) -> Status
+    ensures { result ≡ code_status code }
 {
     Status {
         code,
@@ -65,9 +62,9 @@ pub(crate) fn refusal(code: u32) -> Status
     }
 }
 
-/// The status where so many items are wanted.
-pub(crate) fn no_room(len: usize) -> Status
-    ensures { result ≡ no_room len }
+/// So many items are wanted, and there is no room for them.
+pub(crate) fn no_room_status(len: usize) -> Status
+    ensures { result ≡ no_room_status len }
 {
     Status {
         code: NO_ROOM,
@@ -76,9 +73,9 @@ pub(crate) fn no_room(len: usize) -> Status
     }
 }
 
-/// The status of so many items.
-pub(crate) fn done(len: usize) -> Status
-    ensures { result ≡ done len }
+/// So many items were written or counted.
+pub(crate) fn len_status(len: usize) -> Status
+    ensures { result ≡ len_status len }
 {
     Status {
         code: 0,
@@ -87,9 +84,9 @@ pub(crate) fn done(len: usize) -> Status
     }
 }
 
-/// The status of an answer that is a number.
-pub(crate) fn number(detail: u32) -> Status
-    ensures { result ≡ number detail }
+/// The answer is a number.
+pub(crate) fn number_status(detail: u32) -> Status
+    ensures { result ≡ number_status detail }
 {
     Status {
         code: 0,
@@ -98,18 +95,18 @@ pub(crate) fn number(detail: u32) -> Status
     }
 }
 
-/// The status of a yes or no.
-pub(crate) fn flag(holds: bool) -> Status
-    ensures { result ≡ flag holds }
+/// The answer is yes or no.
+pub(crate) fn flag_status(holds: bool) -> Status
+    ensures { result ≡ flag_status holds }
 {
-    number(if holds { 1 } else { 0 })
+    number_status(if holds { 1 } else { 0 })
 }
 
-/// The status of a comparison.
-pub(crate) fn ranked(ordering: Ordering) -> Status
-    ensures { result ≡ ranked ordering }
+/// The answer is an order.
+pub(crate) fn order_status(ordering: Ordering) -> Status
+    ensures { result ≡ order_status ordering }
 {
-    number(match ordering {
+    number_status(match ordering {
         Ordering::Less => 0,
         Ordering::Equal => 1,
         Ordering::Greater => 2,

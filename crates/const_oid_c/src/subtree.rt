@@ -4,9 +4,9 @@ ghost use Rattle.std.specs.Cmp.Lexicographic.{slice_cmp};
 ghost use Rattle.std.specs.List.{starts_with};
 ghost use Rattle.std.specs.Ordering.{nat_cmp, is_lt};
 ghost use Rattle.const_oid.specs.Tree.{BeginsWith};
-ghost use Rattle.const_oid_c.specs.Subtree.{octets_at, item_refusal, list_refusal, subtree_status};
+ghost use Rattle.const_oid_c.specs.Subtree.{octets_at, item_fault, list_fault, subtree_status};
 
-use crate::status::{Status, UNSORTED, done, refuse};
+use crate::status::{Status, UNSORTED, len_status, error_status};
 use const_oid::ObjectIdentifierRef;
 
 /// The contents octets of one identifier of a list.
@@ -43,13 +43,13 @@ pub extern "C" fn const_oid_subtree(
 {
     match ObjectIdentifierRef::from_bytes(octets) {
         Ok(_) => {}
-        Err(fault) => return refuse(fault),
+        Err(fault) => return error_status(fault),
     }
-    match list_refusal(sorted) {
-        Some(refused) => refused,
+    match list_fault(sorted) {
+        Some(status) => status,
         None => {
             *places = places_of(octets, sorted);
-            done(0)
+            len_status(0)
         }
     }
 }
@@ -76,13 +76,13 @@ fn places_of(octets: &[u8], sorted: &[Octets<'_>]) -> Places
 }
 
 /// What is wrong with the first identifier of a list that has a fault or stands before the last one.
-fn list_refusal(sorted: &[Octets<'_>]) -> Option<Status>
-    ensures { result ≡ list_refusal 0 [] sorted.now }
+fn list_fault(sorted: &[Octets<'_>]) -> Option<Status>
+    ensures { result ≡ list_fault 0 [] sorted.now }
 {
     let mut before: &[u8] = &[];
     for (place, item) in sorted.iter().enumerate() {
-        if let Some(refused) = item_refusal(place, before, item.octets) {
-            return Some(refused);
+        if let Some(status) = item_fault(place, before, item.octets) {
+            return Some(status);
         }
         before = item.octets;
     }
@@ -90,8 +90,8 @@ fn list_refusal(sorted: &[Octets<'_>]) -> Option<Status>
 }
 
 /// What is wrong with the identifier at a place, after the octets at the place before.
-fn item_refusal(place: usize, before: &[u8], octets: &[u8]) -> Option<Status>
-    ensures { result ≡ item_refusal place before.now octets.now }
+fn item_fault(place: usize, before: &[u8], octets: &[u8]) -> Option<Status>
+    ensures { result ≡ item_fault place before.now octets.now }
 {
     match ObjectIdentifierRef::from_bytes(octets) {
         Ok(_) if octets.cmp(before).is_lt() => Some(Status {
@@ -102,7 +102,7 @@ fn item_refusal(place: usize, before: &[u8], octets: &[u8]) -> Option<Status>
         Ok(_) => None,
         Err(fault) => Some(Status {
             len: place,
-            ..refuse(fault)
+            ..error_status(fault)
         }),
     }
 }

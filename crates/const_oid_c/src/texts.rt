@@ -1,67 +1,53 @@
-//! Dotted text, and the texts of errors.
+//! Dotted text.
 ghost use Rattle.std.specs.Prelude.{◌≡◌, length};
-ghost use Rattle.const_oid.specs.Text.{text_of};
-ghost use Rattle.const_oid_c.specs.Status.{told, filled, IsPrinted};
-ghost use Rattle.const_oid_c.specs.Answers.{octets_of_text, shown, arcs_read, error_of, text_of_error};
+ghost use Rattle.const_oid.specs.Text.{text_of, text_answer};
+ghost use Rattle.const_oid.specs.Identifier.{root_rule};
+ghost use Rattle.const_oid_c.specs.Status.{output_status, output_after};
+ghost use Rattle.const_oid_c.specs.Answers.{octets_of_text, octets_of_arcs, output_of, borrowed_answer, owned_capacity};
 
-use crate::print::print;
-use crate::status::{NONE, NOT_UTF8, Status, refusal, refuse};
-use crate::target::give;
-use const_oid::{Error, ObjectIdentifier, ObjectIdentifierRef};
+use crate::output::write_octets;
+use crate::owned::{MAX_OCTETS, is_too_long};
+use crate::status::{NOT_UTF8, Status, code_status, error_status, len_status, no_room_status};
+use const_oid::{ObjectIdentifier, ObjectIdentifierRef};
 use std::str;
 
 /// Writes the contents octets of the identifier that dotted text denotes.
 #[unsafe(no_mangle)]
 pub extern "C" fn const_oid_from_text(text: &[u8], out: &mut [u8]) -> Status
-    ensures status { result ≡ told (length out.old) (octets_of_text text.now) }
-    ensures written { out.new ≡ filled out.old (octets_of_text text.now) }
+    ensures status { result ≡ output_status (length out.old) (octets_of_text text.now) }
+    ensures written { out.new ≡ output_after out.old (octets_of_text text.now) }
 {
     match str::from_utf8(text) {
-        Ok(text) => give(ObjectIdentifier::new(text), out),
-        Err(_) => refusal(NOT_UTF8),
+        Ok(text) => write_denoted(text, out),
+        Err(_) => code_status(NOT_UTF8),
     }
+}
+
+/// Writes the contents octets of the identifier that a text denotes.
+fn write_denoted(text: &str, out: &mut [u8]) -> Status
+    ensures status { result ≡ output_status (length out.old) (octets_of_arcs (text_answer root_rule text.now owned_capacity)) }
+    ensures written { out.new ≡ output_after out.old (octets_of_arcs (text_answer root_rule text.now owned_capacity)) }
+{
+    // A small identifier is quicker to make.
+    let small = ObjectIdentifier::new(text);
+    if is_too_long(&small) {
+        return write_octets(ObjectIdentifier::<MAX_OCTETS>::new_sized(text), out);
+    }
+    write_octets(small, out)
 }
 
 /// Writes the dotted text of contents octets, of any number, with no zero byte after it.
 #[unsafe(no_mangle)]
 pub extern "C" fn const_oid_to_text(octets: &[u8], out: &mut [u8]) -> Status
-    ensures status { IsPrinted result → result ≡ told (length out.old) (shown text_of (arcs_read octets.now)) }
-    ensures written { IsPrinted result → out.new ≡ filled out.old (shown text_of (arcs_read octets.now)) }
+    ensures status { result ≡ output_status (length out.old) (output_of text_of (borrowed_answer octets.now)) }
+    ensures written { out.new ≡ output_after out.old (output_of text_of (borrowed_answer octets.now)) }
 {
-    match ObjectIdentifierRef::from_bytes(octets) {
-        Ok(oid) => print(&oid, out),
-        Err(fault) => refuse(fault),
-    }
-}
-
-/// Writes the text of the error that a status tells, with no zero byte after it.
-#[unsafe(no_mangle)]
-pub extern "C" fn const_oid_error_text(code: u32, detail: u32, out: &mut [u8]) -> Status
-    ensures status { IsPrinted result → result ≡ told (length out.old) (text_of_error (error_of code detail)) }
-    ensures written { IsPrinted result → out.new ≡ filled out.old (text_of_error (error_of code detail)) }
-{
-    match error_of(code, detail) {
-        Some(error) => print(&error, out),
-        None => refusal(NONE),
-    }
-}
-
-/// The error of a code and its number.
-fn error_of(code: u32, detail: u32) -> Option<Error>
-    ensures { result ≡ error_of code detail }
-{
-    match code {
-        1 => Some(Error::ArcInvalid { arc: detail }),
-        2 => Some(Error::ArcTooBig),
-        3 => Some(Error::Base128),
-        4 if detail < 256 => Some(Error::DigitExpected {
-            actual: detail as u8,
-        }),
-        5 => Some(Error::Empty),
-        6 => Some(Error::Length),
-        7 => Some(Error::Overflow),
-        8 => Some(Error::RepeatedDot),
-        9 => Some(Error::TrailingDot),
-        _ => None,
+    let oid = match ObjectIdentifierRef::from_bytes(octets) {
+        Ok(oid) => oid,
+        Err(fault) => return error_status(fault),
+    };
+    match oid.encode_text(out) {
+        Some(len) => len_status(len),
+        None => no_room_status(oid.text_len()),
     }
 }

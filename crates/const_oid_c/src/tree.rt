@@ -1,35 +1,54 @@
 //! Parents and children.
-ghost use Rattle.std.specs.Prelude.{◌≡◌, length};
-ghost use Rattle.const_oid_c.specs.Status.{told, filled};
-ghost use Rattle.const_oid_c.specs.Answers.{octets_of_parent, octets_of_child};
+ghost use Rattle.std.specs.Prelude.{◌≡◌, length, min};
+ghost use Rattle.const_oid.specs.Oid.{oid_answer};
+ghost use Rattle.const_oid.specs.OidRef.{ref_arcs};
+ghost use Rattle.const_oid_c.specs.Status.{output_status, output_after};
+ghost use Rattle.const_oid_c.specs.Answers.{octets_of_parent, octets_of_child, child_answer};
 
-use crate::status::{NONE, Status, refusal, refuse};
-use crate::target::give;
-use const_oid::ObjectIdentifier;
+use crate::output::{write_bytes, write_octets};
+use crate::owned::{MAX_OCTETS, is_too_long, read_owned};
+use crate::status::{NONE, Status, code_status, error_status};
+use const_oid::{Error, ObjectIdentifier, ObjectIdentifierRef, Result};
 
 /// Writes the contents octets of all arcs but the last.
 #[unsafe(no_mangle)]
 pub extern "C" fn const_oid_parent(octets: &[u8], out: &mut [u8]) -> Status
-    ensures status { result ≡ told (length out.old) (octets_of_parent octets.now) }
-    ensures written { out.new ≡ filled out.old (octets_of_parent octets.now) }
+    ensures status { result ≡ output_status (length out.old) (octets_of_parent octets.now) }
+    ensures written { out.new ≡ output_after out.old (octets_of_parent octets.now) }
 {
-    match ObjectIdentifier::from_bytes(octets) {
+    match read_owned(octets) {
         Ok(oid) => match oid.parent() {
-            Some(parent) => give(Ok(parent), out),
-            None => refusal(NONE),
+            Some(parent) => write_bytes(parent.as_bytes(), out),
+            None => code_status(NONE),
         },
-        Err(fault) => refuse(fault),
+        Err(fault) => error_status(fault),
     }
 }
 
 /// Writes the contents octets of these arcs and one more.
 #[unsafe(no_mangle)]
 pub extern "C" fn const_oid_push_arc(octets: &[u8], arc: u32, out: &mut [u8]) -> Status
-    ensures status { result ≡ told (length out.old) (octets_of_child octets.now arc) }
-    ensures written { out.new ≡ filled out.old (octets_of_child octets.now arc) }
+    ensures status { result ≡ output_status (length out.old) (octets_of_child octets.now arc) }
+    ensures written { out.new ≡ output_after out.old (octets_of_child octets.now arc) }
 {
-    match ObjectIdentifier::from_bytes(octets) {
-        Ok(oid) => give(oid.push_arc(arc), out),
-        Err(fault) => refuse(fault),
+    let oid = match read_owned(octets) {
+        Ok(oid) => oid,
+        Err(fault) => return error_status(fault),
+    };
+    // A small identifier is quicker to make.
+    let small = child::<39>(oid, arc);
+    if is_too_long(&small) {
+        return write_octets(child::<MAX_OCTETS>(oid, arc), out);
+    }
+    write_octets(small, out)
+}
+
+/// The identifier of these arcs and one more.
+fn child<const N: usize>(oid: ObjectIdentifierRef<'_>, arc: u32) -> Result<ObjectIdentifier<N>>
+    ensures { oid_answer result ≡ child_answer (ref_arcs oid.entry) arc (min N 255) }
+{
+    match ObjectIdentifier::<N>::try_from_ref(oid) {
+        Ok(oid) => oid.push_arc(arc),
+        Err(_) => Err(Error::Length),
     }
 }

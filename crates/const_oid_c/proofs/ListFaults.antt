@@ -9,9 +9,9 @@ use Rattle.const_oid.specs.declared.error.Error.TheVariants.{ArcInvalid, ArcTooB
 use Rattle.const_oid.specs.Orders.{place_of}
 use Rattle.const_oid_c.specs.declared.status.Status.{Status}
 use Rattle.const_oid_c.specs.declared.subtree.Octets.{Octets}
-use Rattle.const_oid_c.specs.Status.{fault_status}
-use Rattle.const_oid_c.specs.Answers.{arcs_read}
-use Rattle.const_oid_c.specs.Subtree.{octets_at, list_refusal, read_refusal}
+use Rattle.const_oid_c.specs.Status.{error_status}
+use Rattle.const_oid_c.specs.Answers.{borrowed_answer}
+use Rattle.const_oid_c.specs.Subtree.{octets_at, list_fault, read_fault}
 
 place_of-positive : (fault : Error) → 0 < place_of fault
 place_of-positive (ArcInvalid arc) = omega arith
@@ -29,15 +29,15 @@ tested : (b : Bool) (told status : Status) → 0 < told.code → (if b then Some
 tested true told status h e = let same : told ≡ status = cc in omega (arith, ap (λ (s : Status). s.code) same)
 tested false told status h e = cc
 
-read_code : (place : ℕ) (before octets : List ℕ) (answer : Result (List ℕ) Error) (status : Status) → read_refusal place before octets answer ≡ Some status → 0 < status.code
+read_code : (place : ℕ) (before octets : List ℕ) (answer : Result (List ℕ) Error) (status : Status) → read_fault place before octets answer ≡ Some status → 0 < status.code
 read_code place before octets (Ok arcs) status e = tested (is_lt (slice_cmp nat_cmp octets before)) _ status (omega arith) e
-read_code place before octets (Err fault) status e = tested true (record (fault_status fault) { len = place }) status (place_of-positive fault) e
+read_code place before octets (Err fault) status e = tested true (record (error_status fault) { len = place }) status (place_of-positive fault) e
 
 either_code : (first second : Option Status) (status : Status) → (first ≡ Some status → 0 < status.code) → (second ≡ Some status → 0 < status.code) → option_or first second ≡ Some status → 0 < status.code
 either_code None second status f s e = s e
 either_code (Some told) second status f s e = f e
 
-pub list_code : (place : ℕ) (before : List ℕ) (items : List Octets) (status : Status) → list_refusal place before items ≡ Some status → 0 < status.code
+pub list_code : (place : ℕ) (before : List ℕ) (items : List Octets) (status : Status) → list_fault place before items ≡ Some status → 0 < status.code
 list_code place before [] status e = cc
 list_code place before (item ∷ items) status e =
-    either_code _ _ status (read_code place before (octets_at item) (arcs_read (octets_at item)) status) (list_code (place + 1) (octets_at item) items status) e
+    either_code _ _ status (read_code place before (octets_at item) (borrowed_answer (octets_at item)) status) (list_code (place + 1) (octets_at item) items status) e

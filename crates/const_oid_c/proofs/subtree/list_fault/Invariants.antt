@@ -1,0 +1,7 @@
+use Rattle.std.proofs.Common.{◌≡◌, [], drop}
+use Rattle.const_oid_c.specs.Subtree.{list_fault}
+use Rattle.const_oid_c.proofs.subtree.list_fault.Given as goal
+
+-- what is wrong with the rest is what is wrong with the list
+abbrev pub invariant-loop-place : goal.invariant-loop-place
+invariant-loop-place l = list_fault l.place l.before (drop l.place l.sorted) ≡ list_fault 0 [] l.sorted

@@ -1,0 +1,44 @@
+//! The texts of codes.
+ghost use Rattle.std.specs.Prelude.{◌≡◌, length, Ok};
+ghost use Rattle.const_oid.specs.Message.{message_of};
+ghost use Rattle.const_oid_c.specs.Status.{output_status, output_after};
+ghost use Rattle.const_oid_c.specs.Answers.{text_of_code};
+
+use crate::output::write_bytes;
+use crate::status::{NO_ROOM, NONE, NOT_UTF8, Status, UNSORTED, code_status, len_status, no_room_status};
+use const_oid::Error;
+
+/// Writes the text of the code and the detail of a status, with no zero byte after it.
+#[unsafe(no_mangle)]
+pub extern "C" fn const_oid_error_text(code: u32, detail: u32, out: &mut [u8]) -> Status
+    ensures status { result ≡ output_status (length out.old) (text_of_code code detail) }
+    ensures written { out.new ≡ output_after out.old (text_of_code code detail) }
+{
+    match code {
+        1 => write_error(Error::ArcInvalid { arc: detail }, out),
+        2 => write_error(Error::ArcTooBig, out),
+        3 => write_error(Error::Base128, out),
+        4 if detail < 256 => write_error(Error::DigitExpected { actual: detail as u8 }, out),
+        5 => write_error(Error::Empty, out),
+        6 => write_error(Error::Length, out),
+        7 => write_error(Error::Overflow, out),
+        8 => write_error(Error::RepeatedDot, out),
+        9 => write_error(Error::TrailingDot, out),
+        NO_ROOM => write_bytes(b"the answer is longer than the output", out),
+        NOT_UTF8 => write_bytes(b"the text is not UTF-8", out),
+        NONE => write_bytes(b"there is no such arc, parent or text", out),
+        UNSORTED => write_bytes(b"the list is not sorted", out),
+        _ => code_status(NONE),
+    }
+}
+
+/// Writes the text of an error.
+fn write_error(error: Error, out: &mut [u8]) -> Status
+    ensures status { result ≡ output_status (length out.old) (Ok (message_of error)) }
+    ensures written { out.new ≡ output_after out.old (Ok (message_of error)) }
+{
+    match error.encode_text(out) {
+        Some(len) => len_status(len),
+        None => no_room_status(error.text_len()),
+    }
+}

@@ -1,0 +1,10 @@
+//! The version of these calls.
+ghost use Rattle.std.specs.Prelude.{◌≡◌};
+
+/// 65536 times the major, 256 times the minor and once the patch number, as `CONST_OID_VERSION`.
+#[unsafe(no_mangle)]
+pub extern "C" fn const_oid_version() -> u32
+    ensures { result ≡ 65536 }
+{
+    1 << 16
+}
