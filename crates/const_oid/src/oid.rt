@@ -62,7 +62,7 @@ impl ObjectIdentifier<39> {
     {
         match Self::new(s) {
             Ok(oid) => oid,
-            Err(_) => unreachable!(),
+            Err(_) => unreachable!("not the text of an object identifier"),
         }
     }
 
@@ -141,8 +141,10 @@ impl<const MAX_SIZE: usize> ObjectIdentifier<MAX_SIZE> {
         ensures answer { oid_answer result ≡ text_answer root_rule s.now (min MAX_SIZE 255) }
         ensures denoted { IfOk result (λ oid. Denotes root_rule s.now (oid_arcs oid)) }
     {
-        let ber = parse(s)?;
-        Ok(ObjectIdentifier { ber })
+        match parse(s) {
+            Ok(ber) => Ok(ObjectIdentifier { ber }),
+            Err(fault) => Err(fault),
+        }
     }
 
     /// Encodes the arcs that an iterator gives as [`from_arcs`](Self::from_arcs) does, where
@@ -251,8 +253,10 @@ impl<const MAX_SIZE: usize> ObjectIdentifier<MAX_SIZE> {
         ensures child { IfOk result (λ oid. oid_arcs oid ≡ child_of (oid_arcs self.entry) arc) }
     {
         let mut ber = self.ber;
-        ber.push_group(arc as u64)?;
-        Ok(ObjectIdentifier { ber })
+        match ber.push_group(arc as u64) {
+            Ok(()) => Ok(ObjectIdentifier { ber }),
+            Err(fault) => Err(fault),
+        }
     }
 
     /// Whether the arcs begin with all those of another identifier, which may be all of these.

@@ -173,8 +173,8 @@ impl<'a> ObjectIdentifierRef<'a> {
         ensures places { (k : ℕ) → IfSome (slice_get sorted.now k) (λ oid.
             BeginsWith (ref_arcs oid) (ref_arcs self.now) ↔ ((result.0 ≤ k) × (k < result.1))) }
     {
-        let from = sorted.partition_point(|oid| *oid < *self);
-        let inside = sorted[from..].partition_point(|oid| oid.ber.starts_with(self.ber));
+        let from = sorted.partition_point(|oid| order(oid.as_bytes(), self.ber).is_lt());
+        let inside = sorted[from..].partition_point(|oid| oid.as_bytes().starts_with(self.ber));
         (from, from + inside)
     }
 }

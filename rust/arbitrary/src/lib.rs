@@ -1,0 +1,59 @@
+//! As much of the crate arbitrary 1.4 as `const-oid` calls, over octets.
+//!
+//! The workspace has it in the place of that crate, so that the feature is built and tested without a
+//! registry. Who depends on `const-oid` gets the crate itself.
+
+use std::ops::RangeInclusive;
+
+pub type Result<T> = std::result::Result<T, Error>;
+
+#[derive(Debug)]
+pub enum Error {
+    NotEnoughData,
+    IncorrectFormat,
+}
+
+/// Octets to draw from.
+pub struct Unstructured<'a> {
+    data: &'a [u8],
+}
+
+impl<'a> Unstructured<'a> {
+    pub fn new(data: &'a [u8]) -> Self {
+        Unstructured { data }
+    }
+
+    pub fn is_empty(&self) -> bool {
+        self.data.is_empty()
+    }
+
+    pub fn arbitrary<T: Arbitrary<'a>>(&mut self) -> Result<T> {
+        T::arbitrary(self)
+    }
+
+    pub fn int_in_range(&mut self, range: RangeInclusive<u32>) -> Result<u32> {
+        let drawn: u32 = self.arbitrary()?;
+        let count = u64::from(range.end() - range.start()) + 1;
+        Ok(range.start() + (u64::from(drawn) % count) as u32)
+    }
+}
+
+pub trait Arbitrary<'a>: Sized {
+    fn arbitrary(u: &mut Unstructured<'a>) -> Result<Self>;
+}
+
+impl<'a> Arbitrary<'a> for bool {
+    fn arbitrary(u: &mut Unstructured<'a>) -> Result<Self> {
+        let (first, rest) = u.data.split_first().ok_or(Error::NotEnoughData)?;
+        u.data = rest;
+        Ok(first % 2 == 1)
+    }
+}
+
+impl<'a> Arbitrary<'a> for u32 {
+    fn arbitrary(u: &mut Unstructured<'a>) -> Result<Self> {
+        let (first, rest) = u.data.split_first_chunk().ok_or(Error::NotEnoughData)?;
+        u.data = rest;
+        Ok(u32::from_le_bytes(*first))
+    }
+}

@@ -1,0 +1,145 @@
+//! The calls of the static library, as `crates/const_oid_c/include/const_oid.h` declares them.
+
+use std::cmp::Ordering;
+
+#[repr(C)]
+struct Status {
+    code: u32,
+    detail: u32,
+    len: usize,
+}
+
+#[repr(C)]
+struct Octets {
+    octets: *const u8,
+    len: usize,
+}
+
+#[repr(C)]
+#[derive(Default)]
+struct Places {
+    from: usize,
+    to: usize,
+}
+
+unsafe extern "C" {
+    fn const_oid_from_text(text: *const u8, len: usize, out: *mut u8, room: usize) -> Status;
+    fn const_oid_to_text(octets: *const u8, len: usize, out: *mut u8, room: usize) -> Status;
+    fn const_oid_arc(octets: *const u8, len: usize, index: usize) -> Status;
+    fn const_oid_arcs(octets: *const u8, len: usize, out: *mut u32, room: usize) -> Status;
+    fn const_oid_from_arcs(arcs: *const u32, len: usize, out: *mut u8, room: usize) -> Status;
+    fn const_oid_parent(octets: *const u8, len: usize, out: *mut u8, room: usize) -> Status;
+    fn const_oid_push_arc(
+        octets: *const u8,
+        len: usize,
+        arc: u32,
+        out: *mut u8,
+        room: usize,
+    ) -> Status;
+    fn const_oid_starts_with(a: *const u8, len: usize, b: *const u8, other_len: usize) -> Status;
+    fn const_oid_eq(a: *const u8, len: usize, b: *const u8, other_len: usize) -> Status;
+    fn const_oid_cmp(a: *const u8, len: usize, b: *const u8, other_len: usize) -> Status;
+    fn const_oid_cmp_owned(a: *const u8, len: usize, b: *const u8, other_len: usize) -> Status;
+    fn const_oid_subtree(
+        octets: *const u8,
+        len: usize,
+        sorted: *const Octets,
+        count: usize,
+        places: *mut Places,
+    ) -> Status;
+    fn const_oid_error_text(code: u32, detail: u32, out: *mut u8, room: usize) -> Status;
+}
+
+/// An answer, or the code and the number of a refusal.
+pub type Answer<T> = Result<T, (u32, u32)>;
+
+/// What is told by a call that writes nothing.
+fn told(status: Status) -> Answer<u32> {
+    match status.code {
+        0 => Ok(status.detail),
+        code => Err((code, status.detail)),
+    }
+}
+
+/// What is written by a call that is given room for 1,024 items.
+fn written<T: Clone + Default>(call: impl Fn(*mut T, usize) -> Status) -> Answer<Vec<T>> {
+    let mut out = vec![T::default(); 1024];
+    let status = call(out.as_mut_ptr(), out.len());
+    let len = status.len;
+    told(status)?;
+    out.truncate(len);
+    Ok(out)
+}
+
+// SAFETY, of all that follows: each pointer is a slice's, with its length behind it.
+
+pub fn from_text(text: &[u8]) -> Answer<Vec<u8>> {
+    written(|out, room| unsafe { const_oid_from_text(text.as_ptr(), text.len(), out, room) })
+}
+
+pub fn from_arcs(arcs: &[u32]) -> Answer<Vec<u8>> {
+    written(|out, room| unsafe { const_oid_from_arcs(arcs.as_ptr(), arcs.len(), out, room) })
+}
+
+pub fn to_text(octets: &[u8]) -> Answer<Vec<u8>> {
+    written(|out, room| unsafe { const_oid_to_text(octets.as_ptr(), octets.len(), out, room) })
+}
+
+pub fn arcs(octets: &[u8]) -> Answer<Vec<u32>> {
+    written(|out, room| unsafe { const_oid_arcs(octets.as_ptr(), octets.len(), out, room) })
+}
+
+pub fn arc(octets: &[u8], index: usize) -> Answer<u32> {
+    told(unsafe { const_oid_arc(octets.as_ptr(), octets.len(), index) })
+}
+
+pub fn parent(octets: &[u8]) -> Answer<Vec<u8>> {
+    written(|out, room| unsafe { const_oid_parent(octets.as_ptr(), octets.len(), out, room) })
+}
+
+pub fn push_arc(octets: &[u8], arc: u32) -> Answer<Vec<u8>> {
+    let (octets, len) = (octets.as_ptr(), octets.len());
+    written(|out, room| unsafe { const_oid_push_arc(octets, len, arc, out, room) })
+}
+
+type OfTwo = unsafe extern "C" fn(*const u8, usize, *const u8, usize) -> Status;
+
+fn of_two(call: OfTwo, a: &[u8], b: &[u8]) -> Answer<u32> {
+    told(unsafe { call(a.as_ptr(), a.len(), b.as_ptr(), b.len()) })
+}
+
+fn order(number: u32) -> Ordering {
+    [Ordering::Less, Ordering::Equal, Ordering::Greater][number as usize]
+}
+
+pub fn starts_with(a: &[u8], b: &[u8]) -> Answer<bool> {
+    of_two(const_oid_starts_with, a, b).map(|holds| holds == 1)
+}
+
+pub fn eq(a: &[u8], b: &[u8]) -> Answer<bool> {
+    of_two(const_oid_eq, a, b).map(|holds| holds == 1)
+}
+
+pub fn cmp(a: &[u8], b: &[u8]) -> Answer<Ordering> {
+    of_two(const_oid_cmp, a, b).map(order)
+}
+
+pub fn cmp_owned(a: &[u8], b: &[u8]) -> Answer<Ordering> {
+    of_two(const_oid_cmp_owned, a, b).map(order)
+}
+
+pub fn subtree(octets: &[u8], sorted: &[&[u8]]) -> Answer<(usize, usize)> {
+    let lent = |octets: &&[u8]| Octets {
+        octets: octets.as_ptr(),
+        len: octets.len(),
+    };
+    let list: Vec<Octets> = sorted.iter().map(lent).collect();
+    let mut places = Places::default();
+    let (octets, len, list, count) = (octets.as_ptr(), octets.len(), list.as_ptr(), list.len());
+    told(unsafe { const_oid_subtree(octets, len, list, count, &mut places) })?;
+    Ok((places.from, places.to))
+}
+
+pub fn error_text(code: u32, detail: u32) -> Answer<Vec<u8>> {
+    written(|out, room| unsafe { const_oid_error_text(code, detail, out, room) })
+}

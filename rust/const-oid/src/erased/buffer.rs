@@ -1,0 +1,139 @@
+// Made from crates/const_oid/src/buffer.rt by rust/erase: edited there.
+
+//! Octets in an array of which the first are in use.
+
+use crate::erased::compare::order;
+use crate::erased::error::{Error, Result};
+use core::cmp::Ordering;
+use core::hash::{Hash, Hasher};
+
+/// Octets in use, at most the smaller of `SIZE` and 255.
+///
+/// Owned identifiers hold their octets in one, and their contracts name it: so it is public. This crate
+/// alone makes it, so there is no public constructor.
+#[derive(PartialEq, Eq, Copy, Clone)]
+pub struct Buffer<const SIZE: usize> {
+    used: u8,
+    bytes: [u8; SIZE],
+}
+
+impl<const SIZE: usize> Buffer<SIZE> {
+    /// A buffer with no octet in use.
+    pub(crate) const fn empty() -> Self {
+        Buffer {
+            used: 0,
+            bytes: [0; SIZE],
+        }
+    }
+
+    /// The octets copied, or `Length` where they do not fit.
+    #[inline(always)]
+    pub(crate) fn from_slice(octets: &[u8]) -> Result<Self> {
+        if octets.len() > SIZE.min(255) {
+            return Err(Error::Length);
+        }
+        Ok(Self::copied(octets))
+    }
+
+    /// The octets copied, which fit.
+    #[inline(always)]
+    pub(crate) const fn copied(octets: &[u8]) -> Self {
+        let mut bytes = [0; SIZE];
+        let mut index = 0;
+        while index < octets.len() {
+            bytes[index] = octets[index];
+            index += 1;
+        }
+        Buffer {
+            used: octets.len() as u8,
+            bytes,
+        }
+    }
+
+    /// Appends the group of a number, or answers `Length` where it does not fit.
+    #[inline(always)]
+    pub(crate) const fn push_group(&mut self, number: u64) -> Result<()> {
+        // The shortest group is the most frequent one.
+        if number < 128 {
+            self.push_number_of_len(number, 1)
+        } else {
+            self.push_number_of_len(number, group_len(number))
+        }
+    }
+
+    /// Appends the group of a number, which takes `count` octets, or answers `Length`.
+    #[inline(always)]
+    const fn push_number_of_len(&mut self, number: u64, count: usize) -> Result<()> {
+        let start = self.used as usize;
+        let end = start + count;
+        if end > SIZE || end > 255 {
+            return Err(Error::Length);
+        }
+        let bytes = self.bytes.split_at_mut(start).1;
+        write_group(bytes.split_at_mut(count).0, number);
+        self.used = end as u8;
+        Ok(())
+    }
+
+    /// The octets in use.
+    pub const fn as_bytes(&self) -> &[u8] {
+        self.bytes.split_at(self.used as usize).0
+    }
+
+    /// How many octets are in use.
+    pub const fn len(&self) -> usize {
+        self.used as usize
+    }
+
+    /// Whether the octets in use are equal.
+    pub const fn eq(&self, rhs: &Self) -> bool {
+        let (a, b) = (self.as_bytes(), rhs.as_bytes());
+        a.len() == b.len() && crate::erased::compare::are_equal(a, b)
+    }
+}
+
+/// How many octets the group of a number takes.
+const fn group_len(number: u64) -> usize {
+    match number {
+        0..=0x7f => 1,
+        0x80..=0x3fff => 2,
+        0x4000..=0x1f_ffff => 3,
+        0x20_0000..=0xfff_ffff => 4,
+        _ => 5,
+    }
+}
+
+/// Fills a slice with the group of a number, which takes just so many octets.
+#[inline(always)]
+const fn write_group(octets: &mut [u8], number: u64) {
+    let last = octets.len() - 1;
+    let (prefix, end) = octets.split_at_mut(last);
+    let mut index = 0;
+    while index < last {
+        let digit = ((number >> (7 * (last - index))) & 0x7f) as u8;
+        prefix[index] = digit | 0x80;
+        index += 1;
+    }
+    end[0] = (number & 0x7f) as u8;
+}
+
+impl<const SIZE: usize> PartialOrd for Buffer<SIZE> {
+    fn partial_cmp(&self, other: &Self) -> Option<Ordering> {
+        Some(self.cmp(other))
+    }
+}
+
+impl<const SIZE: usize> Ord for Buffer<SIZE> {
+    fn cmp(&self, other: &Self) -> Ordering {
+        match self.len().cmp(&other.len()) {
+            Ordering::Equal => order(self.as_bytes(), other.as_bytes()),
+            unequal => unequal,
+        }
+    }
+}
+
+impl<const SIZE: usize> Hash for Buffer<SIZE> {
+    fn hash<H: Hasher>(&self, state: &mut H) {
+        self.as_bytes().hash(state);
+    }
+}

@@ -1,0 +1,160 @@
+//! Borrowed identifiers as an unsized type, so that owned ones can be borrowed as one.
+
+use crate::erased;
+use crate::{Arc, Arcs, Error, ObjectIdentifier, Result};
+use core::cmp::Ordering;
+use core::fmt;
+use core::hash::{Hash, Hasher};
+
+/// An object identifier over contents octets, without tag and length.
+///
+/// Its octets have no fault: they are the one encoding of its arcs (X.690, 8.19).
+#[repr(transparent)]
+pub struct ObjectIdentifierRef {
+    ber: [u8],
+}
+
+impl ObjectIdentifierRef {
+    /// The identifier over octets without a fault.
+    #[allow(unsafe_code)]
+    pub(crate) const fn from_checked(ber: &[u8]) -> &Self {
+        // SAFETY: the type is laid out as its only field, and the reference lives as long.
+        unsafe { &*(ber as *const [u8] as *const Self) }
+    }
+
+    /// The sized form of the same octets.
+    pub(crate) fn erased(&self) -> erased::ObjectIdentifierRef<'_> {
+        erased::ObjectIdentifierRef::from_checked(&self.ber)
+    }
+
+    /// Reads contents octets (X.690, 8.19), of any number. The errors are those of
+    /// [`ObjectIdentifier::from_bytes`].
+    pub fn from_bytes(ber: &[u8]) -> Result<&Self> {
+        erased::ObjectIdentifierRef::from_bytes(ber).map(|oid| Self::from_checked(oid.as_bytes()))
+    }
+
+    /// The contents octets.
+    pub const fn as_bytes(&self) -> &[u8] {
+        &self.ber
+    }
+
+    /// The arc at a place, counted from 0, or `None` past the last.
+    pub fn arc(&self, index: usize) -> Option<Arc> {
+        self.erased().arc(index)
+    }
+
+    /// All arcs, in order.
+    pub fn arcs(&self) -> Arcs<'_> {
+        self.erased().arcs()
+    }
+
+    /// How many arcs there are.
+    pub fn len(&self) -> usize {
+        self.erased().len()
+    }
+
+    /// The identifier of all arcs but the last, over the prefix of the same octets, or `None` of two
+    /// arcs.
+    pub fn parent(&self) -> Option<&Self> {
+        self.erased()
+            .parent()
+            .map(|oid| Self::from_checked(oid.as_bytes()))
+    }
+
+    /// Whether the arcs begin with all those of another identifier, which may be all of these.
+    pub fn starts_with(&self, other: &Self) -> bool {
+        self.erased().starts_with(&other.erased())
+    }
+
+    /// The order of the arcs, a prefix before what begins with it, as SNMP orders names (RFC 3416).
+    pub fn cmp_arcs(&self, other: &Self) -> Ordering {
+        self.erased().cmp_arcs(&other.erased())
+    }
+
+    /// Where the identifiers that begin with this one, itself among them, stand in a sorted list:
+    /// from the first place on, counted from 0, and below the second. Without any of them both are
+    /// the place where this one would stand.
+    ///
+    /// The list does not descend in the order of `cmp`. It may hold an identifier more than once.
+    pub fn subtree(&self, sorted: &[&Self]) -> (usize, usize) {
+        self.erased().subtree(sorted)
+    }
+
+    /// The length of the text that `{}` writes, or `usize::MAX` where it is past that.
+    pub fn text_len(&self) -> usize {
+        self.erased().text_len()
+    }
+
+    /// Writes the text that `{}` writes at the prefix of `out`, and tells its length. `None` where it
+    /// is longer than `out`, which then stays as it was.
+    pub fn encode_text(&self, out: &mut [u8]) -> Option<usize> {
+        self.erased().encode_text(out)
+    }
+}
+
+impl AsRef<[u8]> for ObjectIdentifierRef {
+    fn as_ref(&self) -> &[u8] {
+        self.as_bytes()
+    }
+}
+
+impl<'a, const MAX_SIZE: usize> From<&'a ObjectIdentifier<MAX_SIZE>> for &'a ObjectIdentifierRef {
+    fn from(oid: &'a ObjectIdentifier<MAX_SIZE>) -> Self {
+        oid.as_oid_ref()
+    }
+}
+
+impl<'a> TryFrom<&'a [u8]> for &'a ObjectIdentifierRef {
+    type Error = Error;
+
+    fn try_from(ber: &'a [u8]) -> Result<Self> {
+        ObjectIdentifierRef::from_bytes(ber)
+    }
+}
+
+impl fmt::Display for ObjectIdentifierRef {
+    fn fmt(&self, f: &mut fmt::Formatter<'_>) -> fmt::Result {
+        fmt::Display::fmt(&self.erased(), f)
+    }
+}
+
+impl fmt::Debug for ObjectIdentifierRef {
+    fn fmt(&self, f: &mut fmt::Formatter<'_>) -> fmt::Result {
+        fmt::Debug::fmt(&self.erased(), f)
+    }
+}
+
+impl PartialEq for ObjectIdentifierRef {
+    fn eq(&self, other: &Self) -> bool {
+        self.erased() == other.erased()
+    }
+}
+
+impl Eq for ObjectIdentifierRef {}
+
+impl PartialOrd for ObjectIdentifierRef {
+    fn partial_cmp(&self, other: &Self) -> Option<Ordering> {
+        Some(self.cmp(other))
+    }
+}
+
+/// The octets in list order, a prefix before what begins with it.
+impl Ord for ObjectIdentifierRef {
+    fn cmp(&self, other: &Self) -> Ordering {
+        self.erased().cmp(&other.erased())
+    }
+}
+
+impl Hash for ObjectIdentifierRef {
+    fn hash<H: Hasher>(&self, state: &mut H) {
+        self.erased().hash(state);
+    }
+}
+
+// Without its mirror: a second type to compare an owned identifier to would leave the type of
+// `oid == text.parse()?` open, which callers write.
+impl<const MAX_SIZE: usize> PartialEq<ObjectIdentifier<MAX_SIZE>> for ObjectIdentifierRef {
+    fn eq(&self, other: &ObjectIdentifier<MAX_SIZE>) -> bool {
+        self.erased().eq_oid(other)
+    }
+}

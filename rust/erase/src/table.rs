@@ -1,0 +1,283 @@
+//! All that Rust has otherwise than the proved sources, beside the rules of [`crate::erase`]: heads of
+//! functions and types, derives, visibility, and the body of one function.
+
+/// What is made of the sources of a crate.
+pub struct Crate {
+    /// The folder of the sources, below the repository's.
+    pub from: &'static str,
+    /// The folder of the made files.
+    pub to: &'static str,
+    /// The module that these make up.
+    pub root: &'static str,
+    pub left_out: &'static [Name],
+    /// Functions that constants call, and that Rattle does not call constant.
+    pub constant: &'static [&'static str],
+    /// Impls by hand in whose place a derive stands.
+    pub derived: &'static [Name],
+    pub heads: &'static [Head],
+    pub renamed: &'static [Renamed],
+    pub bodies: &'static [Body],
+}
+
+/// A module, an import or an impl that goes, and why.
+pub struct Name {
+    pub name: &'static str,
+    pub why: &'static str,
+}
+
+/// A piece of the head of a type or of a function, its attributes included, which stands there once,
+/// and what stands in its place.
+pub struct Head {
+    pub of: &'static str,
+    pub from: &'static str,
+    pub to: &'static str,
+    pub why: &'static str,
+}
+
+/// A word, and the word in its place, by which other entries find what it names.
+pub struct Renamed {
+    pub from: &'static str,
+    pub to: &'static str,
+    pub why: &'static str,
+}
+
+/// The body of a function, which Rust cannot have as it is.
+pub struct Body {
+    pub of: &'static str,
+    pub rust: &'static str,
+    pub why: &'static str,
+}
+
+/// The kind of an entry, the name that it is found by, and its reason.
+pub type Entry = (&'static str, &'static str, &'static str);
+
+impl Crate {
+    pub fn entries(&self) -> Vec<Entry> {
+        let mut out = Vec::new();
+        let constant = |name: &&'static str| ("constant", *name, "a constant calls it");
+        out.extend(
+            self.left_out
+                .iter()
+                .map(|entry| ("left out", entry.name, entry.why)),
+        );
+        out.extend(self.constant.iter().map(constant));
+        out.extend(
+            self.derived
+                .iter()
+                .map(|entry| ("derived", entry.name, entry.why)),
+        );
+        out.extend(self.heads.iter().map(|entry| ("head", entry.of, entry.why)));
+        out.extend(
+            self.renamed
+                .iter()
+                .map(|entry| ("renamed", entry.from, entry.why)),
+        );
+        out.extend(
+            self.bodies
+                .iter()
+                .map(|entry| ("body", entry.of, entry.why)),
+        );
+        out
+    }
+}
+
+const EQUALITY: &str = "constants in patterns need the derived `==`; behind the octets in use stand zeros (`ghost zeros`)";
+const UNSIZED: &str = "the crate's function of this name is of the unsized form";
+const SHAPE: &str = "until the source has a shape that a constant function takes";
+
+pub const CRATES: &[Crate] = &[Crate {
+    from: "crates/const_oid/src",
+    to: "rust/const-oid/src/erased",
+    root: "crate::erased",
+    left_out: &[
+        Name {
+            name: "laws",
+            why: "its functions have contracts, and no effect",
+        },
+        Name {
+            name: "db_ref",
+            why: "a constant of Rust holds owned identifiers",
+        },
+        Name {
+            name: "traits",
+            why: "Rust's traits have a constant, which Rattle's have not",
+        },
+        Name {
+            name: "core::simd",
+            why: "unstable in Rust; `count_lanes` has a body without it",
+        },
+    ],
+    constant: &[
+        "Buffer::as_bytes",
+        "Buffer::copied",
+        "Buffer::eq",
+        "Buffer::push_group",
+        "Buffer::push_number_of_len",
+        "Database::by_name",
+        "Database::by_oid",
+        "Database::find_names_for_oid",
+        "Database::new",
+        "Encoder::arc",
+        "Encoder::finish",
+        "Encoder::new",
+        "ObjectIdentifier::as_bytes",
+        "ObjectIdentifier::borrowed",
+        "ObjectIdentifier::new",
+        "ObjectIdentifier::new_sized",
+        "ObjectIdentifier::new_unwrap",
+        "ObjectIdentifier::push_arc",
+        "ObjectIdentifier::starts_with",
+        "ObjectIdentifierRef::as_bytes",
+        "ObjectIdentifierRef::from_checked",
+        "ObjectIdentifierRef::starts_with",
+        "are_equal",
+        "begins_with",
+        "end_piece",
+        "end_text",
+        "is_same_name",
+        "has_oid",
+        "parse",
+        "parse_within",
+        "write_group",
+    ],
+    derived: &[
+        Name {
+            name: "PartialEq for ObjectIdentifier",
+            why: EQUALITY,
+        },
+        Name {
+            name: "PartialEq for Buffer",
+            why: EQUALITY,
+        },
+        Name {
+            name: "Eq for Buffer",
+            why: EQUALITY,
+        },
+    ],
+    heads: &[
+        Head {
+            of: "ObjectIdentifier",
+            from: "#[derive(",
+            to: "#[derive(PartialEq, ",
+            why: EQUALITY,
+        },
+        Head {
+            of: "Buffer",
+            from: "#[derive(",
+            to: "#[derive(PartialEq, Eq, ",
+            why: EQUALITY,
+        },
+        Head {
+            of: "ObjectIdentifier",
+            from: "const MAX_SIZE: usize",
+            to: "const MAX_SIZE: usize = 39",
+            why: "a capacity has a default",
+        },
+        Head {
+            of: "ObjectIdentifier::borrowed",
+            from: "pub fn",
+            to: "pub(crate) fn",
+            why: UNSIZED,
+        },
+        Head {
+            of: "ObjectIdentifier::try_from_ref",
+            from: "pub fn",
+            to: "pub(crate) fn",
+            why: "public as `TryFrom`, of the unsized form",
+        },
+        Head {
+            of: "ObjectIdentifierRef::subtree",
+            from: "&[ObjectIdentifierRef<'_>]",
+            to: "&[&crate::ObjectIdentifierRef]",
+            why: "a list of references to the unsized form",
+        },
+        Head {
+            of: "are_equal",
+            from: "fn ",
+            to: "pub(crate) fn ",
+            why: SHAPE,
+        },
+    ],
+    renamed: &[Renamed {
+        from: "as_oid_ref",
+        to: "borrowed",
+        why: UNSIZED,
+    }],
+    bodies: &[
+        Body {
+            of: "count_lanes",
+            rust: "{\n    octets.iter().filter(|octet| **octet < 128).count()\n}",
+            why: "lanes are unstable in Rust",
+        },
+        Body {
+            of: "Buffer::copied",
+            rust: "\
+{
+        let mut bytes = [0; SIZE];
+        let mut index = 0;
+        while index < octets.len() {
+            bytes[index] = octets[index];
+            index += 1;
+        }
+        Buffer {
+            used: octets.len() as u8,
+            bytes,
+        }
+    }",
+            why: SHAPE,
+        },
+        Body {
+            of: "Buffer::push_number_of_len",
+            rust: "\
+{
+        let start = self.used as usize;
+        let end = start + count;
+        if end > SIZE || end > 255 {
+            return Err(Error::Length);
+        }
+        let bytes = self.bytes.split_at_mut(start).1;
+        write_group(bytes.split_at_mut(count).0, number);
+        self.used = end as u8;
+        Ok(())
+    }",
+            why: SHAPE,
+        },
+        Body {
+            of: "Buffer::eq",
+            rust: "{
+        let (a, b) = (self.as_bytes(), rhs.as_bytes());
+        a.len() == b.len() && crate::erased::compare::are_equal(a, b)
+    }",
+            why: SHAPE,
+        },
+        Body {
+            of: "begins_with",
+            rust: "{
+    prefix.len() <= octets.len() && are_equal(prefix, octets.split_at(prefix.len()).0)
+}",
+            why: SHAPE,
+        },
+        Body {
+            of: "are_equal",
+            rust: "{
+    let mut index = 0;
+    while index < a.len() {
+        if a[index] != b[index] {
+            return false;
+        }
+        index += 1;
+    }
+    true
+}",
+            why: SHAPE,
+        },
+        Body {
+            of: "has_oid",
+            rust: "{
+    let (a, b) = (entry.0.as_bytes(), oid.as_bytes());
+    a.len() == b.len() && crate::erased::compare::are_equal(a, b)
+}",
+            why: SHAPE,
+        },
+    ],
+}];
