@@ -1,4 +1,4 @@
--- An identifier of n octets prints at most 4 n bytes.
+-- The length of printed text: four bytes an octet at most.
 use Rattle.std.proofs.Common.{◌≡◌, ℕ, ◌+◌, ◌*◌, ◌^◌, ◌<◌, ◌≤◌, List, [], ◌∷◌, length, ⊎_elim, arith, decimal, sum_by, length-append}
 use Rattle.std.specs.List.{AllByRecursion}
 use Rattle.std.proofs.Math.Nat.{pow-le-pow_right}

@@ -1,4 +1,4 @@
--- What the wide rule takes besides: the identifiers with first arc 2 and a second arc past 39, and nothing else.
+-- What the wide rule takes besides: identifiers under 2 whose second arc is past 39, and nothing else.
 use Rattle.std.proofs.Common.{◌≡◌, ◌≢◌, ◌⊎◌, ℕ, ◌<◌, ◌≤◌, List, [], ◌∷◌, length, map, None, inl, inr, sym, ⊎_elim, arith, lt-ltb, le-ltb}
 use Rattle.std.specs.List.{AllByRecursion}
 use Rattle.std.specs.Prelude.{◌↔◌}

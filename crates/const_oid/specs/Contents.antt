@@ -12,7 +12,7 @@ use Rattle.const_oid.specs.Identifier.{RootRule, Narrow, Wide, max_arc}
 abbrev pub cut_after : ℕ → List (List ℕ) → List (List ℕ)
 cut_after x parts = if nat_lt x 128 then (x ∷ []) ∷ parts else onto_first x parts
 
--- the parts into which the octets are cut after each octet below 128; what is left at the end is one more part
+-- the parts of octets, each up to an octet below 128; the rest, if there is one, is a part too
 abbrev pub cut : List ℕ → List (List ℕ)
 cut [] = []
 cut (x ∷ xs) = cut_after x (cut xs)

@@ -45,7 +45,7 @@ first_name arcs_of entries arcs = option_map name_of (find (has_arcs arcs_of arc
 abbrev pub all_names : {Oid : Type 0} → (Oid → List ℕ) → List (Entry Oid) → List ℕ → List (Bor (List ℕ))
 all_names arcs_of entries arcs = map name_of (filter (has_arcs arcs_of arcs) entries)
 
--- the identifier of the first entry with the same name
+-- the identifier that the first entry of this name has
 abbrev pub first_oid : {Oid : Type 0} → List (Entry Oid) → List ℕ → Option Oid
 first_oid entries name = option_map oid_of (find (has_name name) entries)
 

@@ -9,7 +9,7 @@ use crate::error::{Error, Result};
 use std::cmp::Ordering;
 use std::hash::{Hash, Hasher};
 
-/// Octets in use, at most the smaller of `SIZE` and 255.
+/// Octets in use: up to `SIZE`, and never past 255.
 ///
 /// Owned identifiers hold their octets in one, and their contracts name it: so it is public. This crate
 /// alone makes it, so there is no public constructor.

@@ -26,7 +26,7 @@ impl<'a> Database<'a> {
         Database { entries }
     }
 
-    /// The name of the first entry with this identifier, or `None` where no entry has it.
+    /// The name that the first entry of this identifier has, or `None` without such an entry.
     pub fn by_oid(&self, oid: &ObjectIdentifier<39>) -> Option<&'a str>
         ensures { result ≡ first_name lent_arcs (entries_of self.now) (oid_arcs oid.now) }
     {
@@ -40,7 +40,7 @@ impl<'a> Database<'a> {
         None
     }
 
-    /// The identifier of the first entry with the same name, or `None` where no entry has it.
+    /// The identifier that the first entry of this name has, or `None` without such an entry.
     pub fn by_name(&self, name: &str) -> Option<&'a ObjectIdentifier<39>>
         ensures { result ≡ first_oid (entries_of self.now) name.now }
     {
@@ -54,7 +54,7 @@ impl<'a> Database<'a> {
         None
     }
 
-    /// The names of all entries with this identifier, in table order.
+    /// The names of the identifier, one for each of its entries, as these stand in the table.
     pub fn find_names_for_oid(&self, oid: ObjectIdentifier<39>) -> Names<'a>
         ensures { names_left result ≡ all_names lent_arcs (entries_of self.now) (oid_arcs oid) }
     {

@@ -107,13 +107,13 @@ impl<const SIZE: usize> Encoder<SIZE> {
     }
 }
 
-/// The encoding of the arcs that an iterator gives, in at most the smaller of `SIZE` and 255 octets.
+/// The encoding of the arcs that an iterator gives, in up to `SIZE` octets, and never past 255.
 pub(crate) fn encode<const SIZE: usize, I: IntoIterator<Item = Arc>>(
     arcs: I,
 ) -> Result<Buffer<SIZE>>
 where
     I::IntoIter: Drop,
-    // The iterator may be asked for its items, and it ends.
+    // The iterator can be asked for all of its items, and ends.
     requires { IsFiniteIterable I.into_iter_gives I.IntoIter.can_next I.IntoIter.remaining arcs }
     ensures takes { (iterator : I.IntoIter) × I.into_iter_gives arcs iterator
         × TakesItems root_rule (min SIZE 255) I.IntoIter.next_gives iterator (buffer_answer result) }

@@ -62,7 +62,7 @@ pub fn unique_groups()
     ensures least { (n : ℕ) → IsWidth n (width n) }
 {}
 
-/// No group begins a group of another number, whatever follows.
+/// The group of one number never begins that of another, whatever follows.
 pub fn prefix_free()
     ensures { (m n : ℕ) (g h x y : List ℕ) → IsGroup m g → IsGroup n h → g ++ x ≡ h ++ y
         → (g ≡ h) × (m ≡ n) }
@@ -111,8 +111,8 @@ pub fn prefixes()
         → BeginsWith b a ↔ BeginsWith x p }
 {}
 
-/// A greater number has no smaller width; encodings that differ in the last arc stand as these arcs
-/// do.
+/// The greater of two numbers is as wide as the other, or wider; encodings that differ in the last arc
+/// stand as these arcs do.
 pub fn siblings()
     ensures width { (m n : ℕ) → m ≤ n → width m ≤ width n }
     ensures level { (rule : RootRule) (parent : List ℕ) (m n : ℕ) (x y : List ℕ)
@@ -203,8 +203,8 @@ pub fn wide_keeps()
         → slice_cmp nat_cmp x y ≡ slice_cmp nat_cmp v w }
 {}
 
-/// What the wide rule accepts and the narrow one refuses is exactly what denotes, within the
-/// capacity, a list with the first arc 2 and a second arc past 39.
+/// The wide rule accepts what the narrow one refuses exactly where that denotes arcs under 2, the
+/// second past 39, and fits.
 pub fn wide_adds()
     ensures octets { (octets : List ℕ) (capacity : ℕ) → AreOctets octets
         → (octet_fault Wide octets capacity ≡ None) × (octet_fault Narrow octets capacity ≢ None)
@@ -272,7 +272,7 @@ pub fn tree()
         → (parent_of arcs ≡ None) ↔ (length (cut octets) ≡ 1) }
 {}
 
-/// An identifier of n octets prints at most 4 n bytes.
+/// A text has at most four bytes for each octet.
 pub fn printed_length()
     ensures { (rule : RootRule) (arcs octets : List ℕ) → IsEncoding rule arcs octets
         → length (text_of arcs) ≤ 4 * length octets }

@@ -80,7 +80,7 @@ impl ObjectIdentifier<39> {
     pub fn from_arcs<I: IntoIterator<Item = Arc>>(arcs: I) -> Result<Self>
     where
         I::IntoIter: Drop,
-        // The iterator may be asked for its items, and it ends.
+        // The iterator can be asked for all of its items, and ends.
         requires { IsFiniteIterable I.into_iter_gives I.IntoIter.can_next I.IntoIter.remaining arcs }
         ensures takes { (iterator : I.IntoIter) × I.into_iter_gives arcs iterator
             × TakesItems root_rule 39 I.IntoIter.next_gives iterator (oid_answer result) }
@@ -152,7 +152,7 @@ impl<const MAX_SIZE: usize> ObjectIdentifier<MAX_SIZE> {
     pub fn from_arcs_sized<I: IntoIterator<Item = Arc>>(arcs: I) -> Result<Self>
     where
         I::IntoIter: Drop,
-        // The iterator may be asked for its items, and it ends.
+        // The iterator can be asked for all of its items, and ends.
         requires { IsFiniteIterable I.into_iter_gives I.IntoIter.can_next I.IntoIter.remaining arcs }
         ensures takes { (iterator : I.IntoIter) × I.into_iter_gives arcs iterator
             × TakesItems root_rule (min MAX_SIZE 255) I.IntoIter.next_gives iterator (oid_answer result) }

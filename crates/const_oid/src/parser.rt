@@ -14,7 +14,7 @@ use crate::buffer::Buffer;
 use crate::encoder::Encoder;
 use crate::error::{Error, Result};
 
-/// The encoding of the identifier that a text denotes, in at most the smaller of `SIZE` and 255 octets.
+/// The encoding of the identifier that a text denotes, in up to `SIZE` octets, and never past 255.
 pub(crate) fn parse<const SIZE: usize>(text: &str) -> Result<Buffer<SIZE>>
     ensures answer { buffer_answer result ≡ text_answer root_rule text.now (min SIZE 255) }
     ensures encoding { IfOk result (λ octets. IsEncoding root_rule (arcs_of_octets (octets_of octets)) (octets_of octets)) }

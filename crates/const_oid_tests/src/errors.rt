@@ -7,7 +7,7 @@ use const_oid::Error;
 use std::alloc::{AllocError, Global};
 use std::cmp::Ordering;
 
-/// `==` is true exactly for the same variant with the same number.
+/// Equal is the same variant, with an equal number.
 fn same(a: Error, b: Error) -> bool
     ensures { IsTrue result ↔ (a ≡ b) }
 {

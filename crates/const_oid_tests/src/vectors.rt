@@ -16,7 +16,7 @@ pub fn refused_octets() -> &'static [(&'static [u8], Error)] {
     &REFUSED_OCTETS
 }
 
-const ACCEPTED: [Row; 35] = [
+const ACCEPTED: [Row; 36] = [
     ("0.0", &[0x00], &[0, 0]),
     ("0.39", &[0x27], &[0, 39]),
     ("1.0", &[0x28], &[1, 0]),
@@ -88,6 +88,8 @@ const ACCEPTED: [Row; 35] = [
         &[0x01, 0x02, 0x03, 0x04, 0x05, 0x06, 0x07, 0x08, 0x09],
         &[0, 1, 2, 3, 4, 5, 6, 7, 8, 9],
     ),
+    // The tag and the length of 1.2.3, which are arcs to who does not take them off.
+    ("0.6.2.42.3", &[0x06, 0x02, 0x2A, 0x03], &[0, 6, 2, 42, 3]),
     // Second arcs past 39 under 2.
     ("2.40", &[0x78], &[2, 40]),
     ("2.47", &[0x7F], &[2, 47]),
