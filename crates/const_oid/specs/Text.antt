@@ -20,6 +20,12 @@ abbrev pub arc_text : Bool → ℕ → List ℕ
 arc_text true arc = decimal arc
 arc_text false arc = 46 ∷ decimal arc
 
+-- what arcs add to the text, by whether they are the first
+abbrev pub text_left : Bool → List ℕ → List ℕ
+text_left true arcs = text_of arcs
+text_left false [] = []
+text_left false (arc ∷ arcs) = 46 ∷ text_of (arc ∷ arcs)
+
 -- two digits
 abbrev pub pair_text : ℕ → List ℕ
 pair_text pair = (48 + pair / 10) ∷ (48 + pair % 10) ∷ []

@@ -16,7 +16,7 @@ use crate::digits::{MAX_ARC_LEN, write_arc};
 use crate::error::{Error, Result};
 use crate::oid::ObjectIdentifier;
 use crate::parts::{count_parts, without_last_part};
-use crate::text::{text_len, utf8, write_text};
+use crate::text::{text_len, utf8, write_root, write_text};
 use crate::valid::check;
 use std::cmp::Ordering;
 use std::fmt;
@@ -193,10 +193,7 @@ impl fmt::Display for ObjectIdentifierRef<'_> {
     fn fmt<W: fmt::Write>(&self, f: &mut fmt::Formatter<W>) -> fmt::Result {
         let mut bytes = [0; PIECE];
         let mut arcs = self.arcs();
-        let mut used = match arcs.next() {
-            Some(first) => write_arc(first, true, &mut bytes, 0),
-            None => 0,
-        };
+        let mut used = write_root(&mut arcs, &mut bytes);
         for arc in arcs {
             if used > PIECE - MAX_ARC_LEN {
                 f.write_str(utf8(&bytes[..used]))?;

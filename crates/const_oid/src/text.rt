@@ -1,7 +1,7 @@
 //! Arcs as text: their decimals joined by dots.
-ghost use Rattle.std.specs.Prelude.{◌≡◌, ◌+◌, ◌<◌, ◌≤◌, ◌++◌, length, take, drop, MatchOption};
+ghost use Rattle.std.specs.Prelude.{◌≡◌, ◌+◌, ◌<◌, ◌≤◌, ◌++◌, length, take, drop, false, MatchOption};
 ghost use Rattle.std.specs.Str.{IsUtf8};
-ghost use Rattle.const_oid.specs.Text.{text_of};
+ghost use Rattle.const_oid.specs.Text.{text_of, text_left};
 
 use crate::arcs::Arcs;
 use crate::digits::{arc_len, write_arc};
@@ -30,13 +30,30 @@ pub(crate) fn write_text(arcs: Arcs<'_>, out: &mut [u8]) -> usize
     ensures len { result ≡ length (text_of arcs.entry) }
     ensures written { out.new ≡ text_of arcs.entry ++ drop result out.old }
 {
-    let mut at = 0;
-    let mut is_first = true;
-    for arc in arcs {
-        at = write_arc(arc, is_first, out, at);
-        is_first = false;
+    let mut left = arcs;
+    let mut at = write_root(&mut left, out);
+    for arc in left {
+        at = write_arc(arc, false, out, at);
     }
     at
+}
+
+/// Takes the first two arcs, writes them at the prefix, and tells the length.
+#[inline(always)]
+pub(crate) fn write_root(arcs: &mut Arcs<'_>, out: &mut [u8]) -> usize
+    requires { length (text_of (take 2 arcs.old)) ≤ length out.old }
+    ensures within { result ≤ length out.new }
+    ensures prefix { take result out.new ++ text_left false arcs.new ≡ text_of arcs.old }
+    ensures after { drop result out.new ≡ drop result out.old }
+{
+    let Some(first) = arcs.next() else {
+        return 0;
+    };
+    let at = write_arc(first, true, out, 0);
+    let Some(second) = arcs.next() else {
+        return at;
+    };
+    write_arc(second, false, out, at)
 }
 
 /// Writes bytes at a place, and tells the place after them.

@@ -1,16 +1,13 @@
 use Rattle.std.proofs.Common.{false, ◌≡◌, ◌≤◌, ℕ, List, ◌++◌, take}
 use Rattle.std.specs.Fmt.{HasWrittenStyled, IsFlush}
-use Rattle.std.specs.Str.{IsAscii}
 use Rattle.const_oid.specs.OidRef.{ref_arcs}
-use Rattle.const_oid.specs.Text.{text_of}
-use Rattle.const_oid.proofs.Texts.{text_left}
+use Rattle.const_oid.specs.Text.{text_of, text_left}
 use Rattle.const_oid.proofs.oid_ref.ObjectIdentifierRefDisplay.fmt.Given as goal
 
 -- what is handed on, what is at hand, and the text of the arcs left, are the text of all
 abbrev pub invariant-loop-arc : goal.invariant-loop-arc
 invariant-loop-arc g l = record {
   within : l.used ≤ 64;
-  ascii : IsAscii (take l.used l.bytes);
-  writes : IsFlush l.initial.f → (done : List ℕ) × HasWrittenStyled g.W.Write.write_str_gives l.initial.f done l.f
+  writes : (done : List ℕ) × (IsFlush l.initial.f → HasWrittenStyled g.W.Write.write_str_gives l.initial.f done l.f)
       × (done ++ (take l.used l.bytes ++ text_left false l.arc-iterator) ≡ text_of (ref_arcs l.self));
 }
