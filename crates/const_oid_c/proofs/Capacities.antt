@@ -1,17 +1,18 @@
 -- A greater capacity answers the same, where the fault at a smaller one is not the length.
-use Rattle.std.proofs.Common.{◌≡◌, ◌≢◌, ◌⊎◌, ℕ, ◌<◌, ◌≤◌, List, [], ◌∷◌, ◌++◌, map, refl, ap, ⊎_elim, arith, lt-ltb, le-ltb}
+use Rattle.std.proofs.Common.{◌≡◌, ◌≢◌, ◌⊎◌, ℕ, ◌<◌, ◌≤◌, List, [], ◌∷◌, ◌++◌, length, map, refl, ap, ⊎_elim, arith, lt-ltb, le-ltb}
 use Rattle.std.proofs.lemmas.Bool.{cases_lt}
 use Rattle.std.specs.Prelude.{Option, Some, None, Result, Ok, Err, nat_lt, not, find}
 use Rattle.std.specs.Char.{is_ascii_digit}
 use Rattle.std.specs.Option.{option_or, option_map}
 use Rattle.const_oid.specs.declared.error.Error.{Error}
 use Rattle.const_oid.specs.declared.error.Error.TheVariants.{ArcTooBig, DigitExpected, Length, TrailingDot}
+use Rattle.const_oid.specs.Contents.{cut, parts_fault, arcs_of_octets}
 use Rattle.const_oid.specs.Faults.{fault_if, answer}
-use Rattle.const_oid.specs.Identifier.{RootRule, max_arc, size}
+use Rattle.const_oid.specs.Identifier.{RootRule, root_rule, max_arc, size}
 use Rattle.const_oid.specs.Items.{arc_fault, items_fault, item_answer}
 use Rattle.const_oid.specs.Text.{piece_fault, pieces_fault, pieces_of, number_of, text_answer, is_empty, empty_fault, is_one_empty, single_fault}
 use Rattle.const_oid.specs.Tree.{child_of}
-use Rattle.const_oid_c.specs.Answers.{child_answer}
+use Rattle.const_oid_c.specs.Answers.{pushed, child_answer}
 
 -- the fault is the length, or the other one
 abbrev IsSameBut : Option Error → Option Error → Type 0
@@ -59,8 +60,12 @@ module _ (rule : RootRule) (low high : ℕ) (wider : low ≤ high) where
   pub text_answer-wider : (text : List ℕ) → text_answer rule text low ≢ Err Length → text_answer rule text low ≡ text_answer rule text high
   text_answer-wider text = same_answer _ _ (map number_of (pieces_of text)) (same_pieces [] (pieces_of text))
 
-  pub child_answer-wider : (arcs : List ℕ) (arc : ℕ) → child_answer arcs arc low ≢ Err Length → child_answer arcs arc low ≡ child_answer arcs arc high
-  child_answer-wider arcs arc = same_answer _ _ (child_of arcs arc) (same_length (size (child_of arcs arc)))
+  same_pushed : (arc : ℕ) (small large : Result (List ℕ) Error) → (small ≢ Err Length → small ≡ large) → pushed low arc small ≢ Err Length → pushed low arc small ≡ pushed high arc large
+  same_pushed arc (Ok arcs) large s other = rw (← s (λ ok. cc)) (same_answer _ _ (child_of arcs arc) (same_length (size (child_of arcs arc))) other)
+  same_pushed arc (Err fault) large s other = rw (← s other) refl
+
+  pub child_answer-wider : (octets : List ℕ) (arc : ℕ) → child_answer octets arc low ≢ Err Length → child_answer octets arc low ≡ child_answer octets arc high
+  child_answer-wider octets arc = same_pushed arc _ _ (same_answer _ _ (arcs_of_octets octets) (same_first (parts_fault root_rule (cut octets)) _ _ (same_length (length octets))))
 
   pub item_answer-wider : (items : List ℕ) → item_answer rule items low ≢ Err Length → item_answer rule items low ≡ item_answer rule items high
   item_answer-wider items = same_answer _ _ items (same_items [] items)

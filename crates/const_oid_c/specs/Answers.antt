@@ -67,12 +67,17 @@ abbrev pub octets_of_parent : List ℕ → Result (List ℕ) Status
 octets_of_parent octets = output_by (λ arcs. octets_or_none (parent_of arcs)) (owned_answer octets)
 
 -- the arcs and one more, where they fit a capacity in octets
+abbrev pub pushed : ℕ → ℕ → Result (List ℕ) Error → Result (List ℕ) Error
+pushed capacity arc (Ok arcs) = answer (fault_if (nat_lt capacity (size (child_of arcs arc))) Length) (child_of arcs arc)
+pushed capacity arc (Err fault) = Err fault
+
+-- the arcs of octets and one more, or the fault
 abbrev pub child_answer : List ℕ → ℕ → ℕ → Result (List ℕ) Error
-child_answer arcs arc capacity = answer (fault_if (nat_lt capacity (size (child_of arcs arc))) Length) (child_of arcs arc)
+child_answer octets arc capacity = pushed capacity arc (octet_answer root_rule octets capacity)
 
 -- the contents octets of the arcs and one more
 abbrev pub octets_of_child : List ℕ → ℕ → Result (List ℕ) Status
-octets_of_child octets arc = output_by (λ arcs. octets_of_arcs (child_answer arcs arc owned_capacity)) (owned_answer octets)
+octets_of_child octets arc = octets_of_arcs (child_answer octets arc owned_capacity)
 
 -- the text of each code from 0 on, by the detail that comes with it
 abbrev pub code_texts : ℕ → List (Option (List ℕ))

@@ -56,9 +56,18 @@ pub extern "C" fn const_oid_from_arcs(arcs: &[u32], out: &mut [u8]) -> Status
     // A small identifier is quicker to make.
     let small = encoded::<39>(arcs);
     if is_too_long(&small) {
-        return write_octets(encoded::<MAX_OCTETS>(arcs), out);
+        return write_large(arcs, out);
     }
     write_octets(small, out)
+}
+
+/// Writes the contents octets of arcs that take many.
+#[inline(never)]
+fn write_large(arcs: &[u32], out: &mut [u8]) -> Status
+    ensures status { result ≡ output_status (length out.old) (octets_of_arcs (item_answer root_rule arcs.now owned_capacity)) }
+    ensures written { out.new ≡ output_after out.old (octets_of_arcs (item_answer root_rule arcs.now owned_capacity)) }
+{
+    write_octets(encoded::<MAX_OCTETS>(arcs), out)
 }
 
 /// The identifier of arcs.

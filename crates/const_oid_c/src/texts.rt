@@ -31,9 +31,18 @@ fn write_denoted(text: &str, out: &mut [u8]) -> Status
     // A small identifier is quicker to make.
     let small = ObjectIdentifier::new(text);
     if is_too_long(&small) {
-        return write_octets(ObjectIdentifier::<MAX_OCTETS>::new_sized(text), out);
+        return write_large(text, out);
     }
     write_octets(small, out)
+}
+
+/// Writes the contents octets that a text denotes where they are many.
+#[inline(never)]
+fn write_large(text: &str, out: &mut [u8]) -> Status
+    ensures status { result ≡ output_status (length out.old) (octets_of_arcs (text_answer root_rule text.now owned_capacity)) }
+    ensures written { out.new ≡ output_after out.old (octets_of_arcs (text_answer root_rule text.now owned_capacity)) }
+{
+    write_octets(ObjectIdentifier::<MAX_OCTETS>::new_sized(text), out)
 }
 
 /// Writes the dotted text of contents octets, of any number, with no zero byte after it.

@@ -1,14 +1,13 @@
 //! Parents and children.
 ghost use Rattle.std.specs.Prelude.{◌≡◌, length, min};
 ghost use Rattle.const_oid.specs.Oid.{oid_answer};
-ghost use Rattle.const_oid.specs.OidRef.{ref_arcs};
 ghost use Rattle.const_oid_c.specs.Status.{output_status, output_after};
 ghost use Rattle.const_oid_c.specs.Answers.{octets_of_parent, octets_of_child, child_answer};
 
 use crate::output::{write_bytes, write_octets};
 use crate::owned::{MAX_OCTETS, is_too_long, read_owned};
 use crate::status::{NONE, Status, code_status, error_status};
-use const_oid::{Error, ObjectIdentifier, ObjectIdentifierRef, Result};
+use const_oid::{ObjectIdentifier, Result};
 
 /// Writes the contents octets of all arcs but the last.
 #[unsafe(no_mangle)]
@@ -31,24 +30,29 @@ pub extern "C" fn const_oid_push_arc(octets: &[u8], arc: u32, out: &mut [u8]) ->
     ensures status { result ≡ output_status (length out.old) (octets_of_child octets.now arc) }
     ensures written { out.new ≡ output_after out.old (octets_of_child octets.now arc) }
 {
-    let oid = match read_owned(octets) {
-        Ok(oid) => oid,
-        Err(fault) => return error_status(fault),
-    };
     // A small identifier is quicker to make.
-    let small = child::<39>(oid, arc);
+    let small = child::<39>(octets, arc);
     if is_too_long(&small) {
-        return write_octets(child::<MAX_OCTETS>(oid, arc), out);
+        return write_large(octets, arc, out);
     }
     write_octets(small, out)
 }
 
-/// The identifier of these arcs and one more.
-fn child<const N: usize>(oid: ObjectIdentifierRef<'_>, arc: u32) -> Result<ObjectIdentifier<N>>
-    ensures { oid_answer result ≡ child_answer (ref_arcs oid.entry) arc (min N 255) }
+/// Writes the contents octets of arcs and one more that are many.
+#[inline(never)]
+fn write_large(octets: &[u8], arc: u32, out: &mut [u8]) -> Status
+    ensures status { result ≡ output_status (length out.old) (octets_of_child octets.now arc) }
+    ensures written { out.new ≡ output_after out.old (octets_of_child octets.now arc) }
 {
-    match ObjectIdentifier::<N>::try_from_ref(oid) {
+    write_octets(child::<MAX_OCTETS>(octets, arc), out)
+}
+
+/// The identifier of the arcs of octets and one more.
+fn child<const N: usize>(octets: &[u8], arc: u32) -> Result<ObjectIdentifier<N>>
+    ensures { oid_answer result ≡ child_answer octets.now arc (min N 255) }
+{
+    match ObjectIdentifier::<N>::from_bytes_sized(octets) {
         Ok(oid) => oid.push_arc(arc),
-        Err(_) => Err(Error::Length),
+        Err(fault) => Err(fault),
     }
 }

@@ -8,9 +8,9 @@ use Rattle.const_oid_c.proofs.arcs.const_oid_from_arcs.Goals as goal
 pub returns-clause-status : goal.returns-clause-status
 returns-clause-status c =
     let same = item_answer-wider root_rule 39 owned_capacity (omega arith) c.args.arcs.now (λ e. cc (c.if-is_too_long.ensures.1 (c.encoded-small.ensures ∙ e))) in
-    c.write_octets-2.ensures.status ∙ ap (λ answer. output_status (length c.args.out.now) (octets_of_arcs answer)) (c.encoded-small.ensures ∙ same)
+    c.write_octets.ensures.status ∙ ap (λ answer. output_status (length c.args.out.now) (octets_of_arcs answer)) (c.encoded-small.ensures ∙ same)
 
 pub returns-clause-written : goal.returns-clause-written
 returns-clause-written c =
     let same = item_answer-wider root_rule 39 owned_capacity (omega arith) c.args.arcs.now (λ e. cc (c.if-is_too_long.ensures.1 (c.encoded-small.ensures ∙ e))) in
-    c.write_octets-2.ensures.written ∙ ap (λ answer. output_after c.args.out.now (octets_of_arcs answer)) (c.encoded-small.ensures ∙ same)
+    c.write_octets.ensures.written ∙ ap (λ answer. output_after c.args.out.now (octets_of_arcs answer)) (c.encoded-small.ensures ∙ same)
