@@ -1,5 +1,5 @@
 -- One pass over the bytes of a text, which ends at its first refusal, finds the fault of the first faulty piece.
-use Rattle.std.proofs.Common.{◌≡◌, ◌≢◌, ℕ, suc, ◌+◌, ◌-◌, ◌*◌, ◌<◌, ◌≤◌, Bool, true, false, not, List, [], ◌∷◌, ◌++◌, length, drop, get_or, nat_lt, ◌==◌, map, Option, Some, None, Result, Ok, Err, IfOk, is_some, unwrap_or, if◌then◌else◌, refl, sym, ap, ◌∙◌, ⊎_elim, arith, add-one, append-nil, drop-cons, count_by, take_while, leb, lt-ltb, le-ltb, eq-eqb, ne_eqb}
+use Rattle.std.proofs.Common.{◌≡◌, ◌≢◌, ℕ, suc, ◌+◌, ◌-◌, ◌*◌, ◌<◌, ◌≤◌, Bool, true, false, not, List, [], ◌∷◌, ◌++◌, length, drop, get_or, nat_lt, ◌==◌, map, Option, Some, None, Result, Ok, Err, IfOk, is_some, unwrap_or, option_map, if◌then◌else◌, refl, sym, ap, ◌∙◌, ⊎_elim, arith, add-one, append-nil, drop-cons, count_by, take_while, leb, lt-ltb, le-ltb, eq-eqb, ne_eqb}
 use Rattle.std.specs.Bool.{then_some}
 use Rattle.std.specs.List.{onto_first}
 use Rattle.std.specs.Option.{option_or}
@@ -223,17 +223,40 @@ text_pass-end octets_in rule capacity before (Some arc) (Err fault) n f e = rw (
 
 -- ---- one byte of a text at a place
 
+-- whether a byte is a digit, by the number that it stands for
+pub is_digit : (byte digit : ℕ) → Some digit ≡ then_some (is_ascii_digit byte) (byte - 48) → (is_ascii_digit byte ≡ true) × (digit ≡ byte - 48)
+is_digit byte digit e = by (is_ascii_digit byte) e
+  where
+    by : (test : Bool) → Some digit ≡ then_some test (byte - 48) → (test ≡ true) × (digit ≡ byte - 48)
+    by true e = (refl, cc)
+    by false e = cc
+
+pub is_no_digit : (byte : ℕ) → None ≡ then_some (is_ascii_digit byte) (byte - 48) → is_ascii_digit byte ≡ false
+is_no_digit byte e = by (is_ascii_digit byte) e
+  where
+    by : (test : Bool) → None ≡ then_some test (byte - 48) → test ≡ false
+    by true e = cc
+    by false e = refl
+
 -- a digit that takes the number past the limit
-pub text_pass-too_big : (rule : RootRule) (capacity : ℕ) (before : List ℕ) (begun : Bool) (value digit : ℕ) (text : List ℕ) (index : ℕ) → index < length text → is_ascii_digit (get_or text index 0) ≡ true → digit ≡ get_or text index 0 - 48 → max_arc < value * 10 + digit → text_pass rule capacity before begun value (drop index text) ≡ Err ArcTooBig
-text_pass-too_big rule capacity before begun value digit text index inside is_digit is big = rw (drop-cons text index 0 inside, is_digit, ← is, lt-ltb max_arc (value * 10 + digit) big) refl
+pub text_pass-too_big : (rule : RootRule) (capacity : ℕ) (before : List ℕ) (begun : Bool) (value digit : ℕ) (text : List ℕ) (index : ℕ) → index < length text → Some digit ≡ then_some (is_ascii_digit (get_or text index 0)) (get_or text index 0 - 48) → max_arc < value * 10 + digit → text_pass rule capacity before begun value (drop index text) ≡ Err ArcTooBig
+text_pass-too_big rule capacity before begun value digit text index inside told big =
+    let (told_digit, is) = is_digit (get_or text index 0) digit told in
+    rw (drop-cons text index 0 inside, told_digit, ← is, lt-ltb max_arc (value * 10 + digit) big) refl
 
 -- no byte is left exactly where the text ends
 none_left : (bytes : List ℕ) (index total : ℕ) → total ≡ index + length bytes → (index == total) ≡ is_empty bytes
 none_left [] index total all = eq-eqb index total (omega arith)
 none_left (b ∷ bs) index total all = ne_eqb index total (λ e. omega arith)
 
+-- the empty piece after the last dot
+last_dot : (before : List ℕ) (value : ℕ) (fault : Option Error) → Err TrailingDot ≡ after (option_map (λ fault. TrailingDot) fault) (Err (empty_fault (before ++ value ∷ []) []))
+last_dot [] value None = refl
+last_dot (a ∷ arcs) value None = refl
+last_dot before value (Some fault) = refl
+
 first_dot : (rule : RootRule) (capacity : ℕ) (before : List ℕ) (begun : Bool) (value : ℕ) (piece : Option ℕ) (bs : List ℕ) → piece ≡ then_some begun value → text_pass rule capacity before begun value (46 ∷ bs) ≡ after (dot_fault rule capacity before piece (is_empty bs)) (text_pass rule capacity (before ++ unwrap_or piece 0 ∷ []) false 0 bs)
-first_dot rule capacity before true value piece [] is = rw is refl
+first_dot rule capacity before true value piece [] is = rw is (last_dot before value (arc_fault rule capacity before value))
 first_dot rule capacity before true value piece (b ∷ bs) is = rw is refl
 first_dot rule capacity before false value piece bs is = rw is refl
 
@@ -244,8 +267,8 @@ text_pass-dot rule capacity before begun value piece fault text index inside dot
     rw (e, ends, add-one, drop-cons text index 0 inside, dot) (first_dot rule capacity before begun value piece (drop (suc index) text) is)
 
 -- another byte
-pub text_pass-other : (rule : RootRule) (capacity : ℕ) (before : List ℕ) (begun : Bool) (value : ℕ) (text : List ℕ) (index : ℕ) → index < length text → is_ascii_digit (get_or text index 0) ≡ false → get_or text index 0 ≢ 46 → text_pass rule capacity before begun value (drop index text) ≡ Err (DigitExpected (get_or text index 0))
-text_pass-other rule capacity before begun value text index inside no_digit no_dot = rw (drop-cons text index 0 inside, no_digit, ne_eqb (get_or text index 0) 46 no_dot) refl
+pub text_pass-other : (rule : RootRule) (capacity : ℕ) (before : List ℕ) (begun : Bool) (value : ℕ) (text : List ℕ) (index : ℕ) → index < length text → None ≡ then_some (is_ascii_digit (get_or text index 0)) (get_or text index 0 - 48) → get_or text index 0 ≢ 46 → text_pass rule capacity before begun value (drop index text) ≡ Err (DigitExpected (get_or text index 0))
+text_pass-other rule capacity before begun value text index inside told no_dot = rw (drop-cons text index 0 inside, is_no_digit (get_or text index 0) told, ne_eqb (get_or text index 0) 46 no_dot) refl
 
 -- a fault of the last piece
 pub text_pass-end_fault : (rule : RootRule) (capacity : ℕ) (before : List ℕ) (begun : Bool) (value : ℕ) (piece : Option ℕ) (fault : Error) → piece ≡ then_some begun value → Some fault ≡ last_fault rule capacity before piece → text_pass rule capacity before begun value [] ≡ Err fault

@@ -1,15 +1,15 @@
 -- What a parser finds where a piece ends.
-use Rattle.std.specs.Prelude.{ℕ, Bool, List, [], if◌then◌else◌, Option, Some, None}
+use Rattle.std.specs.Prelude.{ℕ, Bool, List, [], if◌then◌else◌, Option, Some, None, option_map}
 use Rattle.const_oid.specs.declared.error.Error.{Error}
 use Rattle.const_oid.specs.declared.error.Error.TheVariants.{DigitExpected, RepeatedDot, TrailingDot}
 use Rattle.const_oid.specs.Identifier.{RootRule}
 use Rattle.const_oid.specs.Items.{arc_fault}
 use Rattle.const_oid.specs.Text.{is_empty, empty_fault}
 
--- the fault at a dot at a capacity, by the arcs before the piece that ends there, the piece's number if it has digits, and whether the text ends
+-- the fault at a dot at a capacity, by the arcs before the piece that ends there, the piece's number if it has digits, and whether the text ends: where it does, the empty piece after the dot is told before a fault of the arc, and else later
 abbrev pub dot_fault : RootRule → ℕ → List ℕ → Option ℕ → Bool → Option Error
 dot_fault rule capacity before None ends = Some (if is_empty before then DigitExpected 46 else RepeatedDot)
-dot_fault rule capacity before (Some arc) ends = if ends then Some TrailingDot else arc_fault rule capacity before arc
+dot_fault rule capacity before (Some arc) ends = if ends then option_map (λ fault. TrailingDot) (arc_fault rule capacity before arc) else arc_fault rule capacity before arc
 
 -- the fault of the last piece at the end of the text, by the arcs before it and its number if it has digits
 abbrev pub last_fault : RootRule → ℕ → List ℕ → Option ℕ → Option Error

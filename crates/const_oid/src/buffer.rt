@@ -148,15 +148,14 @@ fn write_group(octets: &mut [u8], number: u64)
     requires wide { length octets.old ≡ width number }
     ensures { IsGroup number octets.new }
 {
-    let last = octets.len() - 1;
-    let (prefix, end) = octets.split_at_mut(last);
-    let mut index = 0;
-    while index < last {
-        let digit = ((number >> (7 * (last - index))) & 0x7f) as u8;
-        prefix[index] = digit | 0x80;
-        index += 1;
+    let mut index = octets.len() - 1;
+    octets[index] = (number % 128) as u8;
+    let mut rest = number / 128;
+    while index > 0 {
+        index -= 1;
+        octets[index] = 128 + (rest % 128) as u8;
+        rest /= 128;
     }
-    end[0] = (number & 0x7f) as u8;
 }
 
 impl<const SIZE: usize> PartialEq for Buffer<SIZE> {

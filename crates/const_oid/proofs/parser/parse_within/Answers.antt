@@ -1,4 +1,4 @@
-use Rattle.std.proofs.Common.{min, ◌≡◌, ℕ, Bool, true, false, List, [], drop, Option, is_some, unwrap_or, Some, refl, arith, sym, ◌∙◌, ap}
+use Rattle.std.proofs.Common.{min, ◌≡◌, ℕ, Bool, true, false, nat_lt, List, [], drop, Option, is_some, unwrap_or, Some, refl, arith, sym, ◌∙◌, ap}
 use Rattle.std.specs.Bool.{then_some}
 use Rattle.std.proofs.lemmas.List.{drop_all}
 use Rattle.std.proofs.lemmas.Result.{IfOk-weaker}
@@ -12,7 +12,7 @@ use Rattle.const_oid.proofs.TextPass.{text_pass, text_answer_is, text_pass-too_b
 use Rattle.const_oid.proofs.parser.parse_within.Goals as goal
 
 pub loop-index-init : goal.loop-index-init
-loop-index-init g c = record { pass = rw c.new-encoder.ensures (text_answer_is root_rule (min g.row.SIZE 255) c.as_bytes-bytes.result.now); small = omega arith }
+loop-index-init g c = record { pass = rw c.new-encoder.ensures (text_answer_is root_rule (min g.row.SIZE 255) c.as_bytes-bytes.result.now); small = omega arith; begins = omega arith }
 
 pub returns-clause-encoding : goal.returns-clause-encoding
 returns-clause-encoding g c = IfOk-weaker c.finish.result _ _ (λ octets e. encoding_back root_rule _ (octets_of octets) e) c.finish.ensures.encoding
@@ -28,23 +28,21 @@ returns-clause-answer g c =
     let none : drop l.index c.as_bytes-bytes.result.now ≡ [] = drop_all l.index c.as_bytes-bytes.result.now (omega arith) in
     let given = c.in_default-end_text.ensures.given in
     text_pass-end octets_of root_rule (min g.row.SIZE 255) l.encoder c.given-piece-2.result c.finish.result c.in_default-end_text.ensures.fault (rw given at c.finish.ensures.fault) (rw given at c.finish.ensures.encoding)
-    ∙ last_piece root_rule (min g.row.SIZE 255) l.encoder l.begun l.number c.given-piece-2.result c.given-piece-2.ensures
+    ∙ last_piece root_rule (min g.row.SIZE 255) l.encoder (nat_lt l.start l.index) l.number c.given-piece-2.result c.given-piece-2.ensures
     ∙ (rw none at l.invariant.pass)
     ∙ ap (λ text. text_answer root_rule text (min g.row.SIZE 255)) c.as_bytes-bytes.ensures.value
 
 pub returns-then-number-clause-answer : goal.returns-then-number-clause-answer
 returns-then-number-clause-answer g c =
     let l = c.loop-index in
-    let is_digit = sym c.is_ascii_digit.ensures.value ∙ c.if-is_ascii_digit.true in
-    sym (text_pass-too_big root_rule (min g.row.SIZE 255) l.encoder l.begun l.number c.digit.result c.as_bytes-bytes.result.now l.index c.loop-index-test.true is_digit c.digit.ensures c.if-number.true)
+    sym (text_pass-too_big root_rule (min g.row.SIZE 255) l.encoder (nat_lt l.start l.index) l.number c.in-Some.digit c.as_bytes-bytes.result.now l.index c.loop-index-test.true c.in-Some.ensures c.if-number.true)
     ∙ l.invariant.pass
     ∙ ap (λ text. text_answer root_rule text (min g.row.SIZE 255)) c.as_bytes-bytes.ensures.value
 
 pub returns-else-byte-eq46-clause-answer : goal.returns-else-byte-eq46-clause-answer
 returns-else-byte-eq46-clause-answer g c =
     let l = c.loop-index in
-    let no_digit = sym c.is_ascii_digit.ensures.value ∙ c.if-is_ascii_digit.false in
-    sym (text_pass-other root_rule (min g.row.SIZE 255) l.encoder l.begun l.number c.as_bytes-bytes.result.now l.index c.loop-index-test.true no_digit c.if-byte-eq46.false)
+    sym (text_pass-other root_rule (min g.row.SIZE 255) l.encoder (nat_lt l.start l.index) l.number c.as_bytes-bytes.result.now l.index c.loop-index-test.true c.in_default.ensures c.if-byte-eq46.false)
     ∙ l.invariant.pass
     ∙ ap (λ text. text_answer root_rule text (min g.row.SIZE 255)) c.as_bytes-bytes.ensures.value
 
@@ -52,6 +50,6 @@ pub returns-in-Err-end_text-clause-answer : goal.returns-in-Err-end_text-clause-
 returns-in-Err-end_text-clause-answer g c =
     let l = c.loop-index in
     let none : drop l.index c.as_bytes-bytes.result.now ≡ [] = drop_all l.index c.as_bytes-bytes.result.now (omega arith) in
-    sym (text_pass-end_fault root_rule (min g.row.SIZE 255) l.encoder l.begun l.number c.given-piece-2.result c.in-Err-end_text.fault c.given-piece-2.ensures c.in-Err-end_text.ensures.fault)
+    sym (text_pass-end_fault root_rule (min g.row.SIZE 255) l.encoder (nat_lt l.start l.index) l.number c.given-piece-2.result c.in-Err-end_text.fault c.given-piece-2.ensures c.in-Err-end_text.ensures.fault)
     ∙ (rw none at l.invariant.pass)
     ∙ ap (λ text. text_answer root_rule text (min g.row.SIZE 255)) c.as_bytes-bytes.ensures.value
