@@ -7,6 +7,7 @@ pub mod Encodings
 pub mod Lengths
 pub mod Orders
 pub mod ByParts
+pub mod Words
 pub mod BeginsWith
 pub mod Items
 pub mod Numbers

@@ -1,8 +1,7 @@
 -- Octets in an array that is zero past those in use.
-use Rattle.std.proofs.Common.{◌≡◌, ℕ, ◌+◌, ◌-◌, ◌≤◌, List, [], ◌∷◌, ◌++◌, length, take, drop, replicate, refl, sym, ap, ◌∙◌, arith, suc, slice_index, EachIndex, ◌<◌}
-use Rattle.std.proofs.lemmas.List.{take_at, drop-replicate, drop-drop}
-use Rattle.std.proofs.lemmas.Slice.{drop-append-drop, take-put_mid, drop-put_mid}
-use borrow.Rule.Slice.PartMut.{put_mid}
+use Rattle.std.proofs.Common.{◌≡◌, ℕ, ◌+◌, ◌-◌, ◌≤◌, List, [], ◌∷◌, ◌++◌, length, take, drop, replicate, refl, sym, ap, ap₂, ◌∙◌, arith, suc, append_assoc, length-append, slice_index, EachIndex, ◌<◌}
+use Rattle.std.proofs.lemmas.List.{take_at, drop_at, drop-replicate, drop-drop, length-take-le}
+use Rattle.std.proofs.lemmas.Slice.{drop-append-drop}
 use Rattle.const_oid.specs.Base128.{IsContinued, AreOctets}
 use Rattle.const_oid.proofs.Lists.{all_append}
 
@@ -33,9 +32,18 @@ zeros_past size used more bytes zeros =
     sym (drop-drop more used bytes) ∙ ap (drop more) zeros ∙ drop-replicate more (size - used) 0 ∙ ap (λ n. replicate n 0) fewer
 
 -- more octets written past those in use
-pub zeros_written : (size used more : ℕ) (bytes octets : List ℕ) → used ≤ length bytes → length octets ≡ more → drop used bytes ≡ replicate (size - used) 0 → drop (used + more) (put_mid used (used + more - used) bytes octets) ≡ replicate (size - (used + more)) 0
-zeros_written size used more bytes octets inside l zeros =
-    drop-put_mid used (used + more - used) bytes octets (used + more) (omega arith) inside (omega arith) ∙ zeros_past size used more bytes zeros
+pub taken_written : (used more : ℕ) (bytes octets after : List ℕ) → used ≤ length bytes → length octets ≡ more → after ≡ take used bytes ++ (octets ++ drop (used + more) bytes) → take (used + more) after ≡ take used bytes ++ octets
+taken_written used more bytes octets after inside l e =
+    let long : length (take used bytes ++ octets) ≡ used + more = length-append (take used bytes) octets ∙ ap₂ (λ m n. m + n) (length-take-le used bytes inside) l in
+    ap (λ xs. take (used + more) xs) (e ∙ sym (append_assoc (take used bytes) octets (drop (used + more) bytes)))
+    ∙ take_at (take used bytes ++ octets) (drop (used + more) bytes) (used + more) long
 
-pub octets_written : (used more : ℕ) (bytes octets : List ℕ) → used ≤ length bytes → length octets ≡ more → AreOctets (take used bytes) → AreOctets octets → AreOctets (take (used + more) (put_mid used (used + more - used) bytes octets))
-octets_written used more bytes octets inside l p q = rw (take-put_mid used (used + more - used) bytes octets (used + more) (omega arith) inside) (all_append (λ x. x < 256) (take used bytes) octets p q)
+pub octets_written : (used more : ℕ) (bytes octets after : List ℕ) → used ≤ length bytes → length octets ≡ more → AreOctets (take used bytes) → AreOctets octets → after ≡ take used bytes ++ (octets ++ drop (used + more) bytes) → AreOctets (take (used + more) after)
+octets_written used more bytes octets after inside l p q e = rw (taken_written used more bytes octets after inside l e) (all_append (λ x. x < 256) (take used bytes) octets p q)
+
+pub zeros_written : (size used more : ℕ) (bytes octets after : List ℕ) → used ≤ length bytes → length octets ≡ more → drop used bytes ≡ replicate (size - used) 0 → after ≡ take used bytes ++ (octets ++ drop (used + more) bytes) → drop (used + more) after ≡ replicate (size - (used + more)) 0
+zeros_written size used more bytes octets after inside l zeros e =
+    let long : length (take used bytes ++ octets) ≡ used + more = length-append (take used bytes) octets ∙ ap₂ (λ m n. m + n) (length-take-le used bytes inside) l in
+    ap (λ xs. drop (used + more) xs) (e ∙ sym (append_assoc (take used bytes) octets (drop (used + more) bytes)))
+    ∙ drop_at (take used bytes ++ octets) (drop (used + more) bytes) (used + more) long
+    ∙ zeros_past size used more bytes zeros

@@ -1,10 +1,11 @@
 //! Octets in an array of which the first are in use.
 
-ghost use Rattle.std.specs.Prelude.{◌≡◌, ◌+◌, ◌-◌, ◌^◌, ◌<◌, ◌≤◌, ◌↔◌, [], length, take, drop, replicate, min, IsTrue, IfOk, OnOk, OnErr, MatchResult};
+ghost use Rattle.std.specs.Prelude.{◌≡◌, ℕ, List, ◌++◌, ◌+◌, ◌-◌, ◌^◌, ◌<◌, ◌≤◌, ◌↔◌, [], length, take, drop, replicate, min, nat_eq, IsTrue, IfOk, OnOk, OnErr, MatchResult};
 ghost use Rattle.std.proofs.Props.{props};
+ghost use Rattle.std.specs.Cmp.Lexicographic.{pointwise};
 ghost use Rattle.const_oid.specs.Base128.{AreOctets, IsGroup, GoesOn, width};
 
-use crate::compare::order;
+use crate::compare::{are_equal, order};
 use crate::error::{Error, Result};
 use std::cmp::Ordering;
 use std::hash::{Hash, Hasher};
@@ -97,8 +98,7 @@ impl<const SIZE: usize> Buffer<SIZE> {
         if end > SIZE || end > 255 {
             return Err(Error::Length);
         }
-        let bytes = &mut self.bytes[..];
-        write_group(&mut bytes[start..end], number);
+        write_group_at(&mut self.bytes, start, number, count);
         self.used = end as u8;
         Ok(())
     }
@@ -118,11 +118,13 @@ impl<const SIZE: usize> Buffer<SIZE> {
         self.used as usize
     }
 
-    /// Whether the octets in use are equal.
+    /// Whether the octets in use are equal. Whole arrays are compared, since both have zeros behind.
+    #[inline(always)]
     pub fn eq(&self, rhs: &Self) -> bool
-        ensures { IsTrue result ↔ (octets_of self.now ≡ octets_of rhs.now) }
+        ensures value { result ≡ pointwise nat_eq (octets_of self.now) (octets_of rhs.now) }
+        ensures meaning { IsTrue result ↔ (octets_of self.now ≡ octets_of rhs.now) }
     {
-        self.as_bytes() == rhs.as_bytes()
+        self.used == rhs.used && are_equal(&self.bytes, &rhs.bytes)
     }
 }
 
@@ -139,6 +141,20 @@ const fn group_len(number: u64) -> usize
         0x20_0000..=0xfff_ffff => 4,
         _ => 5,
     }
+}
+
+/// Fills so many octets from a place on with the group of a number.
+#[inline(always)]
+fn write_group_at(octets: &mut [u8], start: usize, number: u64, count: usize)
+    requires small { number < 2 ^ 35 }
+    requires wide { count ≡ width number }
+    requires fits { start + count ≤ length octets.old }
+    ensures { (group : List ℕ) × IsGroup number group
+        × (octets.new ≡ take start octets.old ++ (group ++ drop (start + count) octets.old)) }
+{
+    let (_, free) = octets.split_at_mut(start);
+    let (group, _) = free.split_at_mut(count);
+    write_group(group, number);
 }
 
 /// Fills a slice with the group of a number, which takes just so many octets.
@@ -172,7 +188,7 @@ impl<const SIZE: usize> PartialEq for Buffer<SIZE> {
         ensures value { result ≡ pointwise nat_eq (octets_of self.now) (octets_of other.now) }
         ensures meaning { IsTrue result ↔ (octets_of self.now ≡ octets_of other.now) }
     {
-        self.as_bytes() == other.as_bytes()
+        Self::eq(self, other)
     }
 }
 
@@ -217,7 +233,7 @@ impl<const SIZE: usize> Ord for Buffer<SIZE> {
         ensures { result ≡ shortlex_cmp (octets_of self.now) (octets_of other.now) }
     {
         match self.len().cmp(&other.len()) {
-            Ordering::Equal => order(self.as_bytes(), other.as_bytes()),
+            Ordering::Equal => order(&self.bytes, &other.bytes),
             unequal => unequal,
         }
     }

@@ -1,6 +1,7 @@
 //! How slices of octets compare.
 
-ghost use Rattle.std.specs.Prelude.{◌≡◌, ◌↔◌, ℕ, List, ◌++◌, length, nat_eq, IsTrue};
+ghost use Rattle.std.specs.Prelude.{◌≡◌, ◌↔◌, ℕ, ◌+◌, ◌≤◌, List, ◌++◌, length, take, drop, nat_eq, IsTrue};
+ghost use Rattle.std.specs.Int.{w64, from_be_bytes};
 ghost use Rattle.std.specs.Cmp.Lexicographic.{pointwise, slice_cmp};
 ghost use Rattle.std.specs.Ordering.{nat_cmp};
 ghost use Rattle.const_oid.specs.Orders.{parts_cmp};
@@ -8,55 +9,109 @@ ghost use Rattle.const_oid.specs.Orders.{parts_cmp};
 use crate::parts::first_len;
 use std::cmp::Ordering;
 
-/// Whether octets begin with others: the last of these first, since most pairs differ there.
+/// Whether octets begin with others.
 #[inline(always)]
 pub(crate) fn begins_with(octets: &[u8], prefix: &[u8]) -> bool
     ensures { IsTrue result ↔ ((rest : List ℕ) × (octets.now ≡ prefix.now ++ rest)) }
 {
-    let count = prefix.len();
-    if count > octets.len() {
+    if prefix.len() > octets.len() {
         return false;
     }
-    let Some((last, prefix)) = prefix.split_last() else {
-        return true;
-    };
-    if octets[count - 1] != *last {
-        return false;
-    }
-    are_equal(prefix, &octets[..count - 1])
+    are_equal(prefix, octets.split_at(prefix.len()).0)
 }
 
-/// Whether as many octets are the same: the first eight one by one, which costs short pairs no call.
+/// Whether octets are the same: by words, of which the last one overlaps, or one by one where they
+/// are fewer than a word.
 #[inline(always)]
-fn are_equal(a: &[u8], b: &[u8]) -> bool
+pub(crate) fn are_equal(a: &[u8], b: &[u8]) -> bool
+    ensures { result ≡ pointwise nat_eq a.now b.now }
+{
+    let len = a.len();
+    if len != b.len() {
+        return false;
+    }
+    if len < WORD {
+        return are_few_equal(a, b);
+    }
+    let mut at = 0;
+    while at < len - WORD {
+        if word(a, at) != word(b, at) {
+            return false;
+        }
+        at += WORD;
+    }
+    word(a, len - WORD) == word(b, len - WORD)
+}
+
+/// Whether as many octets are the same: the last one first, since most pairs differ there.
+#[inline(always)]
+fn are_few_equal(a: &[u8], b: &[u8]) -> bool
     requires { length a.now ≡ length b.now }
     ensures { result ≡ pointwise nat_eq a.now b.now }
 {
-    let near = a.len().min(8);
-    for i in 0..near {
-        if a[i] != b[i] {
+    let mut left = a.len();
+    while left > 0 {
+        left -= 1;
+        if a[left] != b[left] {
             return false;
         }
-    }
-    if near < a.len() {
-        return &a[near..] == &b[near..];
     }
     true
 }
 
-/// The octets in list order: the first eight one by one, since most pairs differ there.
+/// The octets in list order: by words, of which the last one overlaps, or one by one where they are
+/// fewer than a word.
 #[inline(always)]
 pub(crate) fn order(a: &[u8], b: &[u8]) -> Ordering
     ensures { result ≡ slice_cmp nat_cmp a.now b.now }
 {
-    let near = a.len().min(b.len()).min(8);
+    let near = a.len().min(b.len());
+    if near < WORD {
+        return order_few(a, b);
+    }
+    let mut at = 0;
+    while at < near - WORD {
+        let (x, y) = (word(a, at), word(b, at));
+        if x != y {
+            return x.cmp(&y);
+        }
+        at += WORD;
+    }
+    let (x, y) = (word(a, near - WORD), word(b, near - WORD));
+    if x != y {
+        return x.cmp(&y);
+    }
+    a.len().cmp(&b.len())
+}
+
+/// The octets in list order, one by one.
+#[inline(always)]
+fn order_few(a: &[u8], b: &[u8]) -> Ordering
+    ensures { result ≡ slice_cmp nat_cmp a.now b.now }
+{
+    let near = a.len().min(b.len());
     for i in 0..near {
         if a[i] != b[i] {
             return a[i].cmp(&b[i]);
         }
     }
-    let (a, b) = (&a[near..], &b[near..]);
-    a.cmp(&b)
+    a.len().cmp(&b.len())
+}
+
+/// How many octets a word has.
+const WORD: usize = 8;
+
+/// The eight octets from a place on as a number, of which the first is the greatest: so words stand
+/// as their octets do in list order.
+#[inline(always)]
+fn word(octets: &[u8], at: usize) -> u64
+    requires { at + 8 ≤ length octets.now }
+    ensures { result ≡ from_be_bytes w64 (take 8 (drop at octets.now)) }
+{
+    match octets.split_at(at).1.first_chunk::<WORD>() {
+        Some(word) => u64::from_be_bytes(*word),
+        None => unreachable!(),
+    }
 }
 
 /// The octets in the order of their parts, of which a shorter one is first.

@@ -314,7 +314,7 @@ impl<const MAX_SIZE: usize> PartialEq for ObjectIdentifier<MAX_SIZE> {
         ensures octets { IsTrue result ↔ (oid_octets self.now ≡ oid_octets other.now) }
         ensures arcs { IsTrue result ↔ (oid_arcs self.now ≡ oid_arcs other.now) }
     {
-        self.as_bytes() == other.as_bytes()
+        self.ber.eq(&other.ber)
     }
 }
 

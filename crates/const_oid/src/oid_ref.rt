@@ -11,7 +11,7 @@ ghost use Rattle.const_oid.specs.Identifier.{root_rule, IsEncoding};
 ghost use Rattle.const_oid.specs.Text.{text_of};
 
 use crate::arcs::{Arc, Arcs, arc_at};
-use crate::compare::{begins_with, order, order_by_parts};
+use crate::compare::{are_equal, begins_with, order, order_by_parts};
 use crate::digits::{MAX_ARC_LEN, write_arc};
 use crate::error::{Error, Result};
 use crate::oid::ObjectIdentifier;
@@ -131,7 +131,7 @@ impl<'a> ObjectIdentifierRef<'a> {
         ensures octets { IsTrue result ↔ (ref_octets self.now ≡ oid_octets other.now) }
         ensures arcs { IsTrue result ↔ (ref_arcs self.now ≡ oid_arcs other.now) }
     {
-        self.as_bytes() == other.as_bytes()
+        are_equal(self.as_bytes(), other.as_bytes())
     }
 
     /// The identifier of all arcs but the last, over the prefix of the caller's octets, or `None` of two arcs.
@@ -231,7 +231,7 @@ impl PartialEq for ObjectIdentifierRef<'_> {
         ensures octets { IsTrue result ↔ (ref_octets self.now ≡ ref_octets other.now) }
         ensures arcs { IsTrue result ↔ (ref_arcs self.now ≡ ref_arcs other.now) }
     {
-        self.ber == other.ber
+        are_equal(self.ber, other.ber)
     }
 }
 

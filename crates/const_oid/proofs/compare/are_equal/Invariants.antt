@@ -1,6 +1,8 @@
-use Rattle.std.proofs.Common.{◌≡◌, drop, nat_eq}
-use Rattle.std.specs.Cmp.Lexicographic.{pointwise}
+use Rattle.std.proofs.Common.{◌≡◌, ◌-◌, ◌<◌, length, take}
 use Rattle.const_oid.proofs.compare.are_equal.Given as goal
 
-abbrev pub invariant-loop-i : goal.invariant-loop-i
-invariant-loop-i l = pointwise nat_eq l.a l.b ≡ pointwise nat_eq (drop l.i l.a) (drop l.i l.b)
+abbrev pub invariant-loop-at : goal.invariant-loop-at
+invariant-loop-at l = record { same : take l.at l.a ≡ take l.at l.b; within : l.at < length l.a }
+
+abbrev pub decreases-loop-at : goal.decreases-loop-at
+decreases-loop-at l = length l.a - l.at

@@ -1,6 +1,8 @@
-use Rattle.std.proofs.Common.{◌≡◌, drop, nat_cmp}
-use Rattle.std.specs.Cmp.Lexicographic.{slice_cmp}
+use Rattle.std.proofs.Common.{◌≡◌, ◌-◌, ◌<◌, take}
 use Rattle.const_oid.proofs.compare.order.Given as goal
 
-abbrev pub invariant-loop-i : goal.invariant-loop-i
-invariant-loop-i l = slice_cmp nat_cmp l.a l.b ≡ slice_cmp nat_cmp (drop l.i l.a) (drop l.i l.b)
+abbrev pub invariant-loop-at : goal.invariant-loop-at
+invariant-loop-at l = record { same : take l.at l.a ≡ take l.at l.b; within : l.at < l.near }
+
+abbrev pub decreases-loop-at : goal.decreases-loop-at
+decreases-loop-at l = l.near - l.at

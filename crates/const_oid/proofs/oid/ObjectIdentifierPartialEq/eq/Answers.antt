@@ -1,10 +1,8 @@
-use Rattle.std.proofs.Common.{◌≡◌, rules}
-use Rattle.std.specs.Prelude.{◌↔◌, IsTrue}
+use Rattle.std.specs.Prelude.{IsTrue}
 use Rattle.const_oid.specs.Identifier.{root_rule}
-use Rattle.const_oid.proofs.Encodings.{told_arcs}
+use Rattle.const_oid.proofs.Encodings.{oid_encoding, told_arcs}
 use Rattle.const_oid.proofs.oid.ObjectIdentifierPartialEq.eq.Goals as goal
 
 pub returns-clause-arcs : goal.returns-clause-arcs
 returns-clause-arcs g c =
-    let told : IsTrue c.eq.result ↔ (c.as_bytes.result.now ≡ c.as_bytes-2.result.now) = search rules in
-    told_arcs root_rule _ _ _ _ (IsTrue c.eq.result) c.as_bytes.ensures.encoding c.as_bytes-2.ensures.encoding told
+    told_arcs root_rule _ _ _ _ (IsTrue c.eq.result) (oid_encoding c.args.self.now) (oid_encoding c.args.other.now) c.eq.ensures.meaning

@@ -6,5 +6,5 @@ use Rattle.const_oid.proofs.oid_ref.ObjectIdentifierRef.eq_oid.Goals as goal
 
 pub returns-clause-arcs : goal.returns-clause-arcs
 returns-clause-arcs g c =
-    let told : IsTrue c.eq.result ↔ (c.as_bytes.result.now ≡ c.as_bytes-2.result.now) = search rules in
-    told_arcs root_rule _ _ _ _ (IsTrue c.eq.result) c.as_bytes.ensures.encoding c.as_bytes-2.ensures.encoding told
+    let told : IsTrue c.are_equal.result ↔ (c.as_bytes.result.now ≡ c.as_bytes-2.result.now) = search rules in
+    told_arcs root_rule _ _ _ _ (IsTrue c.are_equal.result) c.as_bytes.ensures.encoding c.as_bytes-2.ensures.encoding told

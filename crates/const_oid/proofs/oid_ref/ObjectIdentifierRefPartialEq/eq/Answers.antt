@@ -9,5 +9,5 @@ pub returns-clause-arcs : goal.returns-clause-arcs
 returns-clause-arcs c =
     let a = c.args.self.now in
     let b = c.args.other.now in
-    let told : IsTrue c.eq.result ↔ (ref_octets a ≡ ref_octets b) = search rules in
-    told_arcs root_rule (ref_arcs a) (ref_arcs b) (ref_octets a) (ref_octets b) (IsTrue c.eq.result) (ref_encoding a) (ref_encoding b) told
+    let told : IsTrue c.are_equal.result ↔ (ref_octets a ≡ ref_octets b) = search rules in
+    told_arcs root_rule (ref_arcs a) (ref_arcs b) (ref_octets a) (ref_octets b) (IsTrue c.are_equal.result) (ref_encoding a) (ref_encoding b) told

@@ -1,0 +1,168 @@
+-- Words of eight octets: they are the same where their octets are, and stand as these do in list order.
+use Rattle.std.proofs.Common.{◌≡◌, ◌≢◌, ℕ, zero, suc, ◌+◌, ◌*◌, ◌^◌, ◌<◌, ◌≤◌, List, [], ◌∷◌, ◌++◌, length, take, drop, refl, sym, ap, ap₂, ◌∙◌, arith, min, false, nat_eq, Ordering, Less, Equal, Greater, nat_cmp, w64, pow-suc}
+use Rattle.std.proofs.Math.Seq.{take-add}
+use Rattle.std.specs.Int.{from_be_bytes}
+use Rattle.std.specs.Ordering.{ordering_then, is_eq}
+use Rattle.std.specs.Cmp.{ranks, nat_cmp_is}
+use Rattle.std.specs.Cmp.Lexicographic.{pointwise, slice_cmp, texts_ties, same_text}
+use Rattle.std.proofs.lemmas.Bool.{false_from_ne_true}
+use Rattle.std.proofs.lemmas.Bool.Decides.{nat_tests}
+use Rattle.std.proofs.lemmas.Cmp.{nat_cmp_total, nat_list_cmp_total, by_ranked, tied_itself}
+use Rattle.std.proofs.lemmas.List.{take-append-drop, length-take-le, take-take, take_all, length-drop}
+use Rattle.std.proofs.lemmas.Nat.{mul-le}
+use Rattle.const_oid.specs.Base128.{AreOctets}
+use Rattle.const_oid.proofs.Orders.{digits_cmp, nat_cmp-add, slice_cmp-prefix}
+
+-- ---- octets as a number
+
+-- the number of octets, of which the first is the greatest
+abbrev worth : List ℕ → ℕ
+worth [] = 0
+worth (x ∷ xs) = x * 256 ^ length xs + worth xs
+
+worth_below : (xs : List ℕ) → AreOctets xs → worth xs < 256 ^ length xs
+worth_below [] s = omega arith
+worth_below (x ∷ xs) s =
+    let p = 256 ^ length xs in
+    let m : suc x * p ≤ 256 * p = mul-le (suc x) p 256 p (omega arith) (omega arith) in
+    rw (pow-suc 256 (length xs)) (omega (arith, worth_below xs s.1))
+
+worth_cmp : (xs ys : List ℕ) → AreOctets xs → AreOctets ys → length xs ≡ length ys → slice_cmp nat_cmp xs ys ≡ nat_cmp (worth xs) (worth ys)
+worth_cmp [] [] s t l = refl
+worth_cmp [] (y ∷ ys) s t l = absurd (omega arith)
+worth_cmp (x ∷ xs) [] s t l = absurd (omega arith)
+worth_cmp (x ∷ xs) (y ∷ ys) s t l =
+    let e : length xs ≡ length ys = omega arith in
+    digits_cmp x y _ _ (worth xs) (worth ys) _ (ap (λ k. 256 ^ k) e) (worth_below xs s.1) (worth_below ys t.1) (worth_cmp xs ys s.1 t.1 e)
+
+word_worth : (xs : List ℕ) → length xs ≡ 8 → from_be_bytes w64 xs ≡ worth xs
+word_worth [] l = absurd (omega arith)
+word_worth (a ∷ []) l = absurd (omega arith)
+word_worth (a ∷ b ∷ []) l = absurd (omega arith)
+word_worth (a ∷ b ∷ c ∷ []) l = absurd (omega arith)
+word_worth (a ∷ b ∷ c ∷ d ∷ []) l = absurd (omega arith)
+word_worth (a ∷ b ∷ c ∷ d ∷ e ∷ []) l = absurd (omega arith)
+word_worth (a ∷ b ∷ c ∷ d ∷ e ∷ f ∷ []) l = absurd (omega arith)
+word_worth (a ∷ b ∷ c ∷ d ∷ e ∷ f ∷ g ∷ []) l = absurd (omega arith)
+word_worth (a ∷ b ∷ c ∷ d ∷ e ∷ f ∷ g ∷ h ∷ []) l = omega arith
+word_worth (a ∷ b ∷ c ∷ d ∷ e ∷ f ∷ g ∷ h ∷ x ∷ xs) l = absurd (omega arith)
+
+-- ---- the word at a place
+
+octets_drop : (n : ℕ) (xs : List ℕ) → AreOctets xs → AreOctets (drop n xs)
+octets_drop zero xs s = s
+octets_drop (suc n) [] s = tt
+octets_drop (suc n) (x ∷ xs) s = octets_drop n xs s.1
+
+octets_take : (n : ℕ) (xs : List ℕ) → AreOctets xs → AreOctets (take n xs)
+octets_take zero xs s = tt
+octets_take (suc n) [] s = tt
+octets_take (suc n) (x ∷ xs) s = (s.0, octets_take n xs s.1)
+
+-- two words at one place of lists that are the same before it
+pub record AreWords (xs ys : List ℕ) (at m n : ℕ) : Type 0 where
+  pub octets : AreOctets xs × AreOctets ys
+  pub within : (at + 8 ≤ length xs) × (at + 8 ≤ length ys)
+  pub words : (m ≡ from_be_bytes w64 (take 8 (drop at xs))) × (n ≡ from_be_bytes w64 (take 8 (drop at ys)))
+  pub same : take at xs ≡ take at ys
+
+length-chunk : (xs : List ℕ) (at : ℕ) → at + 8 ≤ length xs → length (take 8 (drop at xs)) ≡ 8
+length-chunk xs at h = length-take-le 8 (drop at xs) (omega (arith, length-drop at xs))
+
+chunks_cmp : (xs ys : List ℕ) (at m n : ℕ) → AreWords xs ys at m n → slice_cmp nat_cmp (take 8 (drop at xs)) (take 8 (drop at ys)) ≡ nat_cmp m n
+chunks_cmp xs ys at m n w =
+    let k = length-chunk xs at w.within.0 in
+    let l = length-chunk ys at w.within.1 in
+    rw (w.words.0, w.words.1, word_worth _ k, word_worth _ l)
+    (worth_cmp _ _ (octets_take 8 _ (octets_drop at xs w.octets.0)) (octets_take 8 _ (octets_drop at ys w.octets.1)) (k ∙ sym l))
+
+same_lists : (xs ys : List ℕ) → slice_cmp nat_cmp xs ys ≡ Equal → xs ≡ ys
+same_lists xs ys e = same_text xs ys (sym (texts_ties xs ys ∙ ap is_eq e))
+
+-- equal words are the same octets
+pub same_more : (xs ys : List ℕ) (at m n : ℕ) → AreWords xs ys at m n → m ≡ n → take (at + 8) xs ≡ take (at + 8) ys
+same_more xs ys at m n w e =
+    let c = same_lists _ _ (chunks_cmp xs ys at m n w ∙ ap (λ k. nat_cmp m k) (sym e) ∙ tied_itself nat_cmp_total m) in
+    take-add at 8 xs ∙ ap₂ (λ x y. x ++ y) w.same c ∙ sym (take-add at 8 ys)
+
+-- lists that are the same up to a place stand as what follows
+pub after_same : (xs ys : List ℕ) (at : ℕ) → take at xs ≡ take at ys → slice_cmp nat_cmp xs ys ≡ slice_cmp nat_cmp (drop at xs) (drop at ys)
+after_same xs ys at same =
+    ap₂ (λ x y. slice_cmp nat_cmp x y) (sym (take-append-drop at xs)) (sym (take-append-drop at ys))
+    ∙ ap (λ g. slice_cmp nat_cmp (take at xs ++ drop at xs) (g ++ drop at ys)) (sym same)
+    ∙ slice_cmp-prefix (take at xs) (drop at xs) (drop at ys)
+
+-- lists of one length decide, unless they are the same
+first_unequal : (g h x y : List ℕ) → length g ≡ length h → slice_cmp nat_cmp g h ≢ Equal → slice_cmp nat_cmp (g ++ x) (h ++ y) ≡ slice_cmp nat_cmp g h
+first_unequal [] [] x y l u = absurd (u refl)
+first_unequal [] (b ∷ h) x y l u = absurd (omega arith)
+first_unequal (a ∷ g) [] x y l u = absurd (omega arith)
+first_unequal (a ∷ g) (b ∷ h) x y l u = by_ranked _ _ _ (nat_cmp a b) (ranks a b)
+    (λ is m. rw is refl)
+    (λ is m. rw is (first_unequal g h x y (omega arith) (λ e. u (rw is e))))
+    (λ is m. rw is refl)
+
+unequal : (m n : ℕ) → m ≢ n → nat_cmp m n ≢ Equal
+unequal m n u e = grind (arith, nat_tests)
+
+-- unequal words stand as the lists do
+pub unequal_cmp : (xs ys : List ℕ) (at m n : ℕ) → AreWords xs ys at m n → m ≢ n → nat_cmp m n ≡ slice_cmp nat_cmp xs ys
+unequal_cmp xs ys at m n w u =
+    let c = chunks_cmp xs ys at m n w in
+    let r = first_unequal (take 8 (drop at xs)) (take 8 (drop at ys)) (drop 8 (drop at xs)) (drop 8 (drop at ys)) (length-chunk xs at w.within.0 ∙ sym (length-chunk ys at w.within.1)) (λ e. unequal m n u (sym c ∙ e)) in
+    sym (after_same xs ys at w.same ∙ ap₂ (λ x y. slice_cmp nat_cmp x y) (sym (take-append-drop 8 (drop at xs))) (sym (take-append-drop 8 (drop at ys))) ∙ r ∙ c)
+
+-- lists of which one has ended stand as their lengths do
+pub rest_cmp : (xs ys : List ℕ) (at : ℕ) → at ≡ min (length xs) (length ys) → slice_cmp nat_cmp (drop at xs) (drop at ys) ≡ nat_cmp (length xs) (length ys)
+rest_cmp xs ys at e =
+    let k : length xs ≡ at + length (drop at xs) = omega (arith, length-drop at xs) in
+    let l : length ys ≡ at + length (drop at ys) = omega (arith, length-drop at ys) in
+    rest (drop at xs) (drop at ys) (omega arith) ∙ sym (nat_cmp-add at _ _) ∙ ap₂ nat_cmp (sym k) (sym l)
+  where
+    rest : (x y : List ℕ) → min (length x) (length y) ≡ 0 → slice_cmp nat_cmp x y ≡ nat_cmp (length x) (length y)
+    rest [] [] h = refl
+    rest [] (b ∷ y) h = nat_cmp_is 0 (suc (length y)) Less (omega arith)
+    rest (a ∷ x) [] h = nat_cmp_is (suc (length x)) 0 Greater (omega arith)
+    rest (a ∷ x) (b ∷ y) h = absurd (omega arith)
+
+-- unequal words are not the same lists, and the last words tell
+pub unequal_lists : (xs ys : List ℕ) (at m n : ℕ) → AreWords xs ys at m n → m ≢ n → false ≡ pointwise nat_eq xs ys
+unequal_lists xs ys at m n w u = sym (texts_ties xs ys ∙ ap is_eq (sym (unequal_cmp xs ys at m n w u)) ∙ apart m n u)
+  where
+    apart : (m n : ℕ) → m ≢ n → is_eq (nat_cmp m n) ≡ false
+    apart m n u = grind (arith, nat_tests)
+
+pub last_words : (xs ys : List ℕ) (at m n : ℕ) → AreWords xs ys at m n → length xs ≡ at + 8 → length ys ≡ at + 8 → nat_eq m n ≡ pointwise nat_eq xs ys
+last_words xs ys at m n w k l =
+    let c : take 8 (drop at xs) ≡ drop at xs = take_all 8 (drop at xs) (omega (arith, length-drop at xs)) in
+    let d : take 8 (drop at ys) ≡ drop at ys = take_all 8 (drop at ys) (omega (arith, length-drop at ys)) in
+    sym (texts_ties xs ys ∙ ap is_eq (after_same xs ys at w.same ∙ rw (c, d) at (chunks_cmp xs ys at m n w)) ∙ tells m n)
+  where
+    tells : (m n : ℕ) → is_eq (nat_cmp m n) ≡ nat_eq m n
+    tells m n = grind (arith, nat_tests)
+
+-- the same up to a place before
+pub same_less : (xs ys : List ℕ) (at less : ℕ) → less ≤ at → take at xs ≡ take at ys → take less xs ≡ take less ys
+same_less xs ys at less h same = sym (take-take less at xs h) ∙ ap (λ zs. take less zs) same ∙ take-take less at ys h
+
+-- ---- arrays that have the same behind
+
+-- lists of one length stand as they do before the same end
+with_end : (g h x : List ℕ) → length g ≡ length h → slice_cmp nat_cmp (g ++ x) (h ++ x) ≡ slice_cmp nat_cmp g h
+with_end [] [] x l = tied_itself nat_list_cmp_total x
+with_end [] (b ∷ h) x l = absurd (omega arith)
+with_end (a ∷ g) [] x l = absurd (omega arith)
+with_end (a ∷ g) (b ∷ h) x l = ap (λ o. ordering_then (nat_cmp a b) o) (with_end g h x (omega arith))
+
+pub whole_cmp : (xs ys : List ℕ) (used : ℕ) → used ≤ length xs → used ≤ length ys → drop used xs ≡ drop used ys → slice_cmp nat_cmp xs ys ≡ slice_cmp nat_cmp (take used xs) (take used ys)
+whole_cmp xs ys used k l same =
+    ap₂ (λ x y. slice_cmp nat_cmp x y) (sym (take-append-drop used xs)) (sym (take-append-drop used ys))
+    ∙ ap (λ z. slice_cmp nat_cmp (take used xs ++ z) (take used ys ++ drop used ys)) same
+    ∙ with_end (take used xs) (take used ys) (drop used ys) (length-take-le used xs k ∙ sym (length-take-le used ys l))
+
+pub whole_eq : (xs ys : List ℕ) (used : ℕ) → used ≤ length xs → used ≤ length ys → drop used xs ≡ drop used ys → pointwise nat_eq xs ys ≡ pointwise nat_eq (take used xs) (take used ys)
+whole_eq xs ys used k l same = texts_ties xs ys ∙ ap is_eq (whole_cmp xs ys used k l same) ∙ sym (texts_ties (take used xs) (take used ys))
+
+-- lists of two lengths are not the same
+pub other_length : (xs ys : List ℕ) → length xs ≢ length ys → false ≡ pointwise nat_eq xs ys
+other_length xs ys u = sym (false_from_ne_true _ (λ t. u (ap length (same_text xs ys (sym t)))))

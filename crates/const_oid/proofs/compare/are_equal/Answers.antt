@@ -1,0 +1,40 @@
+use Rattle.std.proofs.Common.{◌≡◌, ◌+◌, ◌-◌, length, arith, subst, take}
+use Rattle.const_oid.proofs.Octets.{are_octets}
+use Rattle.const_oid.proofs.Words.{AreWords, same_more, same_less, unequal_lists, last_words}
+use Rattle.const_oid.proofs.compare.are_equal.Goals as goal
+
+pub returns-then-word : goal.returns-then-word
+returns-then-word c =
+    let a = c.args.a.now in
+    let b = c.args.b.now in
+    unequal_lists a b c.loop-at.at _ _ (record {
+      octets = (are_octets a (λ k _. omega (arith, c.type_inv.a k)), are_octets b (λ k _. omega (arith, c.type_inv.b k)));
+      within = (omega arith, omega arith);
+      words = (c.word.ensures, c.word-in-loop-at.ensures);
+      same = c.loop-at.invariant.same;
+    }) (λ e. omega arith)
+
+pub loop-at-preserved : goal.loop-at-preserved
+loop-at-preserved c =
+    let a = c.args.a.now in
+    let b = c.args.b.now in
+    record {
+      same = same_more a b c.loop-at.at _ _ (record {
+        octets = (are_octets a (λ k _. omega (arith, c.type_inv.a k)), are_octets b (λ k _. omega (arith, c.type_inv.b k)));
+        within = (omega arith, omega arith);
+        words = (c.word.ensures, c.word-in-loop-at.ensures);
+        same = c.loop-at.invariant.same;
+      }) (omega arith);
+      within = omega arith;
+    }
+
+pub returns : goal.returns
+returns c =
+    let a = c.args.a.now in
+    let b = c.args.b.now in
+    last_words a b (length a - 8) _ _ (record {
+      octets = (are_octets a (λ k _. omega (arith, c.type_inv.a k)), are_octets b (λ k _. omega (arith, c.type_inv.b k)));
+      within = (omega arith, omega arith);
+      words = (c.word-2.ensures, c.word-3.ensures);
+      same = same_less a b c.loop-at.at (length a - 8) (omega arith) c.loop-at.invariant.same;
+    }) (omega arith) (omega arith)
