@@ -7,7 +7,7 @@
 #include <stdlib.h>
 #include <string.h>
 
-enum { LINE = 4096, MOST = 512 };
+enum { LINE = 65536, MOST = 4096 };
 
 /* Octets that were read from hexadecimal digits. */
 typedef struct {
@@ -51,18 +51,17 @@ static uint32_t number(char **rest) {
 /* Prints why there is no answer. */
 static void refused(const_oid_status status) {
     uint8_t text[CONST_OID_MAX_ERROR_TEXT];
-    const_oid_status told = const_oid_error_text(status.code, status.detail, text, sizeof text);
+    const_oid_status words = const_oid_error_text(status.code, status.detail, text, sizeof text);
+    if (words.code != CONST_OID_OK) fail("a code has no text");
     if (status.code == CONST_OID_NONE) {
         printf("none");
     } else if (status.code == CONST_OID_NOT_UTF8) {
         printf("no text");
     } else if (status.code == CONST_OID_UNSORTED) {
         printf("unsorted");
-    } else if (told.code == CONST_OID_OK) {
-        printf("error %" PRIu32 " %" PRIu32 ": %.*s", status.code, status.detail, (int)told.len,
-            (const char *)text);
     } else {
-        printf("code %" PRIu32, status.code);
+        printf("error %" PRIu32 " %" PRIu32 ": %.*s", status.code, status.detail, (int)words.len,
+            (const char *)text);
     }
 }
 
@@ -75,10 +74,10 @@ static void written(const_oid_status status, const uint8_t *octets) {
     for (size_t i = 0; i < status.len; i++) printf("%02X", octets[i]);
 }
 
-/* Whether a call with one item less of room than `status` tells wrote nothing, and wants `len`. */
+/* Whether a call with one item less of room than `status` has wrote nothing, and wants `len`. */
 static void no_room(const_oid_status status, const_oid_status less, const uint8_t *out, size_t size) {
     if (status.code != CONST_OID_OK) return;
-    if (less.code != CONST_OID_NO_ROOM || less.len != status.len) fail("no room is not told");
+    if (less.code != CONST_OID_NO_ROOM || less.len != status.len) fail("no room is not the answer");
     for (size_t i = 0; i < size; i++)
         if (out[i] != 0xEE) fail("something was written where there is no room");
 }
@@ -95,10 +94,10 @@ static void text_row(const uint8_t *text, size_t len) {
 
 static void octets_row(char *rest) {
     bytes row = read_hex(word(&rest));
-    uint8_t text[4 * MOST];
-    uint8_t less[4 * MOST];
-    uint32_t arcs[MOST + 1];
-    uint32_t few[MOST + 1];
+    static uint8_t text[4 * MOST];
+    static uint8_t less[4 * MOST];
+    static uint32_t arcs[MOST + 1];
+    static uint32_t few[MOST + 1];
     const_oid_status checked = const_oid_check(row.octets, row.len);
     const_oid_status printed = const_oid_to_text(row.octets, row.len, text, sizeof text);
     const_oid_status count = const_oid_len(row.octets, row.len);
@@ -124,7 +123,7 @@ static void octets_row(char *rest) {
 }
 
 static void arcs_row(char *rest) {
-    uint32_t arcs[MOST];
+    static uint32_t arcs[MOST];
     uint8_t out[CONST_OID_MAX_OCTETS];
     size_t len = 0;
     while (*rest != 0 && len < MOST) arcs[len++] = number(&rest);
@@ -133,9 +132,9 @@ static void arcs_row(char *rest) {
 
 static void subtree_row(char *rest) {
     static bytes rows[MOST];
-    const_oid_octets sorted[MOST];
+    static const_oid_octets sorted[MOST];
     const_oid_places places = {7, 7};
-    bytes front = read_hex(word(&rest));
+    bytes prefix = read_hex(word(&rest));
     size_t count = 0;
     while (*rest != 0 && count < MOST) {
         rows[count] = read_hex(word(&rest));
@@ -143,17 +142,17 @@ static void subtree_row(char *rest) {
         sorted[count].len = rows[count].len;
         count++;
     }
-    const_oid_status status = const_oid_subtree(front.octets, front.len, sorted, count, &places);
+    const_oid_status status = const_oid_subtree(prefix.octets, prefix.len, sorted, count, &places);
     if (status.code == CONST_OID_OK) {
         printf("%zu %zu", places.from, places.to);
         return;
     }
     if (places.from != 7 || places.to != 7) fail("places were written");
     refused(status);
-    if (const_oid_check(front.octets, front.len).code == CONST_OID_OK) printf(" at %zu", status.len);
+    if (const_oid_check(prefix.octets, prefix.len).code == CONST_OID_OK) printf(" at %zu", status.len);
 }
 
-static void told(const_oid_status status, const char *const *words) {
+static void in_word(const_oid_status status, const char *const *words) {
     if (status.code == CONST_OID_OK) {
         printf("%s", words[status.detail]);
     } else {
@@ -167,13 +166,15 @@ static void pair_row(const char *call, char *rest) {
     bytes a = read_hex(word(&rest));
     bytes b = read_hex(word(&rest));
     if (strcmp(call, "begins") == 0) {
-        told(const_oid_starts_with(a.octets, a.len, b.octets, b.len), whether);
+        in_word(const_oid_starts_with(a.octets, a.len, b.octets, b.len), whether);
     } else if (strcmp(call, "equal") == 0) {
-        told(const_oid_eq(a.octets, a.len, b.octets, b.len), whether);
+        in_word(const_oid_eq(a.octets, a.len, b.octets, b.len), whether);
     } else if (strcmp(call, "owned") == 0) {
-        told(const_oid_cmp_owned(a.octets, a.len, b.octets, b.len), orders);
+        in_word(const_oid_cmp_owned(a.octets, a.len, b.octets, b.len), orders);
     } else if (strcmp(call, "borrowed") == 0) {
-        told(const_oid_cmp(a.octets, a.len, b.octets, b.len), orders);
+        in_word(const_oid_cmp(a.octets, a.len, b.octets, b.len), orders);
+    } else if (strcmp(call, "by_arcs") == 0) {
+        in_word(const_oid_cmp_arcs(a.octets, a.len, b.octets, b.len), orders);
     } else {
         fail("a row has an unknown call");
     }
@@ -207,6 +208,9 @@ static void answer(const char *call, char *rest) {
         } else {
             refused(status);
         }
+    } else if (strcmp(call, "message") == 0) {
+        uint32_t code = number(&rest);
+        written(const_oid_error_text(code, number(&rest), text, sizeof text), text);
     } else {
         pair_row(call, rest);
     }

@@ -3,16 +3,21 @@
  *
  * What a caller keeps, once for all calls:
  *
- * - Slices. An input is a pointer and a number of items, and an output is a pointer and the room
- *   there. All belong to the caller. A call reads the input, writes within the room, and keeps no
- *   pointer; it takes no memory and has no state.
- * - Null. No pointer is null, also where its length is 0: hand in any address that is aligned.
- * - Overlap. An output does not overlap an input, also where a length is 0 or no room is left.
+ * - Slices. An input is a pointer and a number of items; an output is a pointer and how many items
+ *   have room there. All belong to the caller. A call reads the input, writes within the output, and
+ *   keeps no pointer; it takes no memory and has no state.
+ * - Null. A pointer may be null where its length is 0, as to ask for the size of an answer, or with an
+ *   empty std::vector; an item of a list, too. `places` is never null. Tested at each call, not proved.
+ * - Overlap. An output does not overlap an input, also where a length is 0 or no room is left: so no
+ *   call works in place. `gcc -Wrestrict`, which -Wall has, sees some calls that would.
  * - Lengths. They are true, and no slice has more than 2^63 - 1 bytes. Texts are counted: nothing
  *   looks for a zero byte, and none is written.
  * - Threads. Calls may be made from any threads at once; only what is handed to a running call must
  *   not be written meanwhile, and an output not be read.
- * - usize. size_t has 64 bits.
+ * - Machines. size_t has 64 bits. The library that Rattle builds takes an x86-64 processor of level 2
+ *   (popcnt and SSE4.1); the one that cargo builds is for the targets of rustc.
+ * - Octets are those after tag and length, which no call takes away: a whole 06 09 2A 86 .. is no
+ *   error, but is read as 0.6.9.42...
  *
  * A status is returned by value. Its code is 0 where there is an answer; then `len` items were
  * written or counted. Otherwise nothing was written: the output is as it was, bit for bit. Beyond
@@ -20,8 +25,11 @@
  *
  * Octets are refused by the first of these that applies: EMPTY, of no octet; of the first group with
  * a fault BASE128 (it begins with 0x80), ARC_TOO_BIG (its number is past 32 bits, in the first group
- * past 4294967375), BASE128 (it does not end); LENGTH, where a call takes 39 octets at most and more
- * came. */
+ * past 4294967375), BASE128 (it does not end); LENGTH, where a call takes 255 octets at most and more
+ * came.
+ *
+ * That the layouts below are those of the library, that it has the calls which are declared here, and
+ * the numbers of the constants, is tested. */
 #ifndef CONST_OID_H
 #define CONST_OID_H
 
@@ -32,18 +40,38 @@
 extern "C" {
 #endif
 
+/* The version of these declarations; const_oid_version() is that of the library. */
+#define CONST_OID_VERSION_MAJOR 1
+#define CONST_OID_VERSION_MINOR 0
+#define CONST_OID_VERSION_PATCH 0
+#define CONST_OID_VERSION \
+    (65536 * CONST_OID_VERSION_MAJOR + 256 * CONST_OID_VERSION_MINOR + CONST_OID_VERSION_PATCH)
+
+/* No other slice overlaps this output. */
+#if defined(__GNUC__) || defined(_MSC_VER)
+#define CONST_OID_RESTRICT __restrict
+#elif defined(__cplusplus)
+#define CONST_OID_RESTRICT
+#else
+#define CONST_OID_RESTRICT restrict
+#endif
+
 /* The octets that from_text, from_arcs, push_arc and parent write at most, and that push_arc, parent
  * and cmp_owned take at most. The other calls take octets of any number. */
-#define CONST_OID_MAX_OCTETS 39
+#define CONST_OID_MAX_OCTETS 255
 
 /* The bytes of text that CONST_OID_MAX_OCTETS octets print at most: four for each octet. Longer
  * octets print more, four bytes an octet at most. */
-#define CONST_OID_MAX_TEXT 156
+#define CONST_OID_MAX_TEXT 1020
 
 /* The arcs that CONST_OID_MAX_OCTETS octets have at most. */
-#define CONST_OID_MAX_ARCS 40
+#define CONST_OID_MAX_ARCS 256
 
-/* The bytes of the longest text of an error. */
+/* The octets of an identifier of the usual size, as the Rust crate const-oid takes by default: what
+ * does not fit here is answered by NO_ROOM. */
+#define CONST_OID_USUAL_OCTETS 39
+
+/* The bytes of the longest text of a code. */
 #define CONST_OID_MAX_ERROR_TEXT 47
 
 /* How a call ended. */
@@ -54,26 +82,24 @@ enum const_oid_code {
     CONST_OID_BASE128 = 3,        /* a group of octets begins with 0x80 or does not end */
     CONST_OID_DIGIT_EXPECTED = 4, /* a byte that is no digit; detail: the byte */
     CONST_OID_EMPTY = 5,          /* there is nothing, or no more than one arc */
-    CONST_OID_LENGTH = 6,         /* the octets would be, or are, more than 39 */
+    CONST_OID_LENGTH = 6,         /* the octets would be, or are, more than 255 */
     CONST_OID_OVERFLOW = 7,       /* never answered: no sum overflows */
     CONST_OID_REPEATED_DOT = 8,   /* a dot follows another */
     CONST_OID_TRAILING_DOT = 9,   /* the text ends with a dot */
-    CONST_OID_NO_ROOM = 10,       /* the answer is longer than the room; len: the items wanted */
+    CONST_OID_NO_ROOM = 10,       /* the answer is longer than the output; len: the items wanted */
     CONST_OID_NOT_UTF8 = 11,      /* the text is not UTF-8 */
-    CONST_OID_NONE = 12,          /* there is no such arc, parent or error */
-    CONST_OID_UNSORTED = 13,      /* the list descends; len: the place of the later item */
-    CONST_OID_UNPRINTED = 14      /* the formatter failed, and the output may be overwritten: no test
-                                     sees it, but no proof rules it out */
+    CONST_OID_NONE = 12,          /* there is no such arc, parent or text */
+    CONST_OID_UNSORTED = 13       /* the list descends; len: the place of the later item */
 };
 
-/* What a comparison tells in `detail`. */
+/* What a comparison answers in `detail`. */
 enum const_oid_order {
     CONST_OID_LESS = 0,   /* the first stands before the second */
     CONST_OID_EQUAL = 1,  /* they are equal */
     CONST_OID_GREATER = 2 /* the first stands after the second */
 };
 
-/* What a call tells. */
+/* How a call ended, and two numbers. */
 typedef struct const_oid_status {
     uint32_t code;   /* one of const_oid_code */
     uint32_t detail; /* the number of an error, or the answer of a call without an output; else 0 */
@@ -82,7 +108,7 @@ typedef struct const_oid_status {
 
 /* The contents octets of one identifier in a list. */
 typedef struct const_oid_octets {
-    const uint8_t *octets; /* the first octet; not null */
+    const uint8_t *octets; /* the first octet */
     size_t len;            /* how many */
 } const_oid_octets;
 
@@ -92,14 +118,21 @@ typedef struct const_oid_places {
     size_t to;   /* the first place behind */
 } const_oid_places;
 
+/* The library keeps lengths in 64 bits. */
+typedef char const_oid_size_t_has_64_bits[sizeof(size_t) == 8 ? 1 : -1];
+
+/* The version of the library: CONST_OID_VERSION of its header. */
+uint32_t const_oid_version(void);
+
 /* Writes the contents octets of the identifier that dotted text denotes, as "1.2.840"; leading zeros
  * of an arc are read. Refused by NOT_UTF8, or by the fault of the first piece between dots that has
  * one: ARC_TOO_BIG, DIGIT_EXPECTED, REPEATED_DOT, TRAILING_DOT, ARC_INVALID, LENGTH, EMPTY. */
-const_oid_status const_oid_from_text(const uint8_t *text, size_t text_len, uint8_t *out, size_t room);
+const_oid_status const_oid_from_text(
+    const uint8_t *text, size_t text_len, uint8_t *CONST_OID_RESTRICT out, size_t out_len);
 
-/* Writes the dotted text of octets of any number: the decimals of the arcs, joined by dots. The text
- * is printed twice, first to count it, and straight into the room. */
-const_oid_status const_oid_to_text(const uint8_t *octets, size_t len, uint8_t *out, size_t room);
+/* Writes the dotted text of octets of any number: the decimals of the arcs, joined by dots. */
+const_oid_status const_oid_to_text(
+    const uint8_t *octets, size_t len, uint8_t *CONST_OID_RESTRICT out, size_t out_len);
 
 /* Checks octets of any number: code 0 where they are the encoding of an identifier. */
 const_oid_status const_oid_check(const uint8_t *octets, size_t len);
@@ -111,38 +144,50 @@ const_oid_status const_oid_len(const uint8_t *octets, size_t len);
  * last. */
 const_oid_status const_oid_arc(const uint8_t *octets, size_t len, size_t index);
 
-/* Writes all arcs of octets of any number, in order; the room is counted in arcs. */
-const_oid_status const_oid_arcs(const uint8_t *octets, size_t len, uint32_t *out, size_t room);
+/* Writes all arcs of octets of any number, in order; `out_len` is counted in arcs. */
+const_oid_status const_oid_arcs(
+    const uint8_t *octets, size_t len, uint32_t *CONST_OID_RESTRICT out, size_t out_len);
 
 /* Writes the contents octets of arcs. Refused by the fault of the first arc that has one,
  * ARC_INVALID or LENGTH, else by EMPTY where there are fewer than two. */
-const_oid_status const_oid_from_arcs(const uint32_t *arcs, size_t len, uint8_t *out, size_t room);
+const_oid_status const_oid_from_arcs(
+    const uint32_t *arcs, size_t len, uint8_t *CONST_OID_RESTRICT out, size_t out_len);
 
-/* Writes the contents octets of all arcs but the last, of 39 octets at most; NONE of two arcs. */
-const_oid_status const_oid_parent(const uint8_t *octets, size_t len, uint8_t *out, size_t room);
+/* Writes the contents octets of all arcs but the last, of 255 octets at most; NONE of two arcs. */
+const_oid_status const_oid_parent(
+    const uint8_t *octets, size_t len, uint8_t *CONST_OID_RESTRICT out, size_t out_len);
 
-/* Writes the contents octets of the arcs and one more; LENGTH where they would be more than 39. */
+/* Writes the contents octets of the arcs and one more; LENGTH where they would be more than 255. */
 const_oid_status const_oid_push_arc(
-    const uint8_t *octets, size_t len, uint32_t arc, uint8_t *out, size_t room);
+    const uint8_t *octets, size_t len, uint32_t arc, uint8_t *CONST_OID_RESTRICT out,
+    size_t out_len);
 
-/* Tells in `detail`, by 1 or 0, whether the arcs begin with all those of a front, each of octets of
+/* Whether, by 1 or 0 in `detail`, the arcs begin with all those of a prefix, each of octets of
  * any number. Refused by the fault of the first that has one. */
 const_oid_status const_oid_starts_with(
-    const uint8_t *octets, size_t len, const uint8_t *front, size_t front_len);
+    const uint8_t *octets, size_t len, const uint8_t *prefix, size_t prefix_len);
 
-/* Tells in `detail`, by 1 or 0, whether two identifiers are equal, each of octets of any number.
+/* Whether, by 1 or 0 in `detail`, two identifiers are equal, each of octets of any number.
  * Refused by the fault of the first that has one. */
 const_oid_status const_oid_eq(
     const uint8_t *left, size_t left_len, const uint8_t *right, size_t right_len);
 
-/* Compares two identifiers of octets of any number, as memcmp does, a front before what begins with
- * it; in `detail` one of const_oid_order. In this order the descendants of an identifier stand
- * together, behind it. Refused by the fault of the first that has one. */
+/* Compares two identifiers of octets of any number by their octets, as memcmp does, a prefix before
+ * what begins with it; in `detail` one of const_oid_order. In this order the descendants of an
+ * identifier stand together, behind it, as one run (const_oid_subtree): it is not the order of SNMP.
+ * Refused by the fault of the first that has one. */
 const_oid_status const_oid_cmp(
     const uint8_t *left, size_t left_len, const uint8_t *right, size_t right_len);
 
-/* Compares two identifiers of 39 octets at most: fewer octets first, and with as many as memcmp
- * does; in `detail` one of const_oid_order. Refused by the fault of the first that has one. */
+/* Compares two identifiers of octets of any number by their arcs, a prefix before what begins with
+ * it; in `detail` one of const_oid_order. This is the order that SNMP wants (RFC 3416), for a walk by
+ * GetNext. Refused by the fault of the first that has one. */
+const_oid_status const_oid_cmp_arcs(
+    const uint8_t *left, size_t left_len, const uint8_t *right, size_t right_len);
+
+/* Compares two identifiers of 255 octets at most: fewer octets first, and with as many as memcmp
+ * does; in `detail` one of const_oid_order. This is the order of the Rust crate const-oid, and not
+ * that of SNMP. Refused by the fault of the first that has one. */
 const_oid_status const_oid_cmp_owned(
     const uint8_t *left, size_t left_len, const uint8_t *right, size_t right_len);
 
@@ -154,11 +199,12 @@ const_oid_status const_oid_cmp_owned(
  * then as it was. */
 const_oid_status const_oid_subtree(
     const uint8_t *octets, size_t len, const const_oid_octets *sorted, size_t count,
-    const_oid_places *places);
+    const_oid_places *CONST_OID_RESTRICT places);
 
-/* Writes the text of the error that `code` and `detail` of a status tell, in UTF-8; NONE where they
- * tell none of the nine errors. */
-const_oid_status const_oid_error_text(uint32_t code, uint32_t detail, uint8_t *out, size_t room);
+/* Writes the text, in UTF-8, of the code and the detail of a status from 1 on; NONE where there is no
+ * such code, or no such byte. */
+const_oid_status const_oid_error_text(
+    uint32_t code, uint32_t detail, uint8_t *CONST_OID_RESTRICT out, size_t out_len);
 
 #ifdef __cplusplus
 }

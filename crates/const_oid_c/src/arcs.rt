@@ -8,7 +8,9 @@ ghost use Rattle.const_oid_c.specs.Answers.{octets_of_arcs, output_of, status_of
 
 use crate::output::write_octets;
 use crate::owned::{MAX_OCTETS, is_too_long};
-use crate::status::{NONE, Status, code_status, error_status, len_status, no_room_status, number_status};
+use crate::status::{
+    NONE, Status, code_status, error_status, len_status, no_room_status, number_status,
+};
 use const_oid::{Arcs, ObjectIdentifier, ObjectIdentifierRef, Result};
 
 /// Checks contents octets, of any number.

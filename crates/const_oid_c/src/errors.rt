@@ -5,7 +5,9 @@ ghost use Rattle.const_oid_c.specs.Status.{output_status, output_after};
 ghost use Rattle.const_oid_c.specs.Answers.{text_of_code};
 
 use crate::output::write_bytes;
-use crate::status::{NO_ROOM, NONE, NOT_UTF8, Status, UNSORTED, code_status, len_status, no_room_status};
+use crate::status::{
+    NO_ROOM, NONE, NOT_UTF8, Status, UNSORTED, code_status, len_status, no_room_status,
+};
 use const_oid::Error;
 
 /// Writes the text of the code and the detail of a status, with no zero byte after it.
@@ -18,7 +20,12 @@ pub extern "C" fn const_oid_error_text(code: u32, detail: u32, out: &mut [u8]) -
         1 => write_error(Error::ArcInvalid { arc: detail }, out),
         2 => write_error(Error::ArcTooBig, out),
         3 => write_error(Error::Base128, out),
-        4 if detail < 256 => write_error(Error::DigitExpected { actual: detail as u8 }, out),
+        4 if detail < 256 => write_error(
+            Error::DigitExpected {
+                actual: detail as u8,
+            },
+            out,
+        ),
         5 => write_error(Error::Empty, out),
         6 => write_error(Error::Length, out),
         7 => write_error(Error::Overflow, out),

@@ -21,7 +21,10 @@ pub(crate) fn write_bytes(bytes: &[u8], out: &mut [u8]) -> Status
 }
 
 /// Writes the octets of an identifier, if there is no fault.
-pub(crate) fn write_octets<const N: usize>(oid: Result<ObjectIdentifier<N>>, out: &mut [u8]) -> Status
+pub(crate) fn write_octets<const N: usize>(
+    oid: Result<ObjectIdentifier<N>>,
+    out: &mut [u8],
+) -> Status
     ensures status { result ≡ output_status (length out.old) (octets_of_arcs (oid_answer oid.entry)) }
     ensures written { out.new ≡ output_after out.old (octets_of_arcs (oid_answer oid.entry)) }
 {

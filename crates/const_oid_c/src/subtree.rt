@@ -6,7 +6,7 @@ ghost use Rattle.std.specs.Ordering.{nat_cmp, is_lt};
 ghost use Rattle.const_oid.specs.Tree.{BeginsWith};
 ghost use Rattle.const_oid_c.specs.Subtree.{octets_at, item_fault, list_fault, subtree_status};
 
-use crate::status::{Status, UNSORTED, len_status, error_status};
+use crate::status::{Status, UNSORTED, error_status, len_status};
 use const_oid::ObjectIdentifierRef;
 
 /// The contents octets of one identifier of a list.

@@ -3,7 +3,6 @@ use Rattle.std.specs.Prelude.{Ok}
 use Rattle.const_oid.specs.Identifier.{root_rule}
 use Rattle.const_oid.proofs.Encodings.{encoding_of-encoded}
 use Rattle.const_oid_c.specs.Status.{output_status, output_after}
-use Rattle.const_oid_c.specs.Answers.{octets_of_parent}
 use Rattle.const_oid_c.proofs.tree.const_oid_parent.Goals as goal
 
 pub returns-in-Some-clause-status : goal.returns-in-Some-clause-status

@@ -1,0 +1,138 @@
+/* Sees that the library keeps what the header says once for all calls: null with 0, the layouts, the
+ * constants, the version, and outputs that are left as they were. */
+#include "const_oid.h"
+
+#include <stdio.h>
+#include <stdlib.h>
+#include <string.h>
+
+static void see(int fact, int line, const char *words) {
+    if (!fact) {
+        fprintf(stderr, "demo: promises.c:%d: not so: %s\n", line, words);
+        exit(1);
+    }
+}
+
+#define SEE(fact) see(fact, __LINE__, #fact)
+
+static const uint8_t oid[] = {0x2A, 0x03, 0x04};
+
+static int is(const_oid_status status, uint32_t code, uint32_t detail, size_t len) {
+    return status.code == code && status.detail == detail && status.len == len;
+}
+
+/* An input that is null. */
+static void null_inputs(void) {
+    uint8_t out[8];
+    uint32_t arcs[8];
+    const_oid_places places = {7, 7};
+    const_oid_octets item = {NULL, 0};
+    SEE(is(const_oid_from_text(NULL, 0, out, sizeof out), CONST_OID_EMPTY, 0, 0));
+    SEE(is(const_oid_to_text(NULL, 0, out, sizeof out), CONST_OID_EMPTY, 0, 0));
+    SEE(is(const_oid_check(NULL, 0), CONST_OID_EMPTY, 0, 0));
+    SEE(is(const_oid_len(NULL, 0), CONST_OID_EMPTY, 0, 0));
+    SEE(is(const_oid_arc(NULL, 0, 0), CONST_OID_EMPTY, 0, 0));
+    SEE(is(const_oid_arcs(NULL, 0, arcs, 8), CONST_OID_EMPTY, 0, 0));
+    SEE(is(const_oid_from_arcs(NULL, 0, out, sizeof out), CONST_OID_EMPTY, 0, 0));
+    SEE(is(const_oid_parent(NULL, 0, out, sizeof out), CONST_OID_EMPTY, 0, 0));
+    SEE(is(const_oid_push_arc(NULL, 0, 1, out, sizeof out), CONST_OID_EMPTY, 0, 0));
+    SEE(is(const_oid_starts_with(NULL, 0, oid, 3), CONST_OID_EMPTY, 0, 0));
+    SEE(is(const_oid_starts_with(oid, 3, NULL, 0), CONST_OID_EMPTY, 0, 0));
+    SEE(is(const_oid_eq(NULL, 0, oid, 3), CONST_OID_EMPTY, 0, 0));
+    SEE(is(const_oid_eq(oid, 3, NULL, 0), CONST_OID_EMPTY, 0, 0));
+    SEE(is(const_oid_cmp(NULL, 0, oid, 3), CONST_OID_EMPTY, 0, 0));
+    SEE(is(const_oid_cmp(oid, 3, NULL, 0), CONST_OID_EMPTY, 0, 0));
+    SEE(is(const_oid_cmp_arcs(NULL, 0, oid, 3), CONST_OID_EMPTY, 0, 0));
+    SEE(is(const_oid_cmp_arcs(oid, 3, NULL, 0), CONST_OID_EMPTY, 0, 0));
+    SEE(is(const_oid_cmp_owned(NULL, 0, oid, 3), CONST_OID_EMPTY, 0, 0));
+    SEE(is(const_oid_cmp_owned(oid, 3, NULL, 0), CONST_OID_EMPTY, 0, 0));
+    SEE(is(const_oid_subtree(NULL, 0, NULL, 0, &places), CONST_OID_EMPTY, 0, 0));
+    SEE(is(const_oid_subtree(oid, 3, &item, 1, &places), CONST_OID_EMPTY, 0, 0));
+    SEE(places.from == 7 && places.to == 7);
+    SEE(is(const_oid_subtree(oid, 3, NULL, 0, &places), CONST_OID_OK, 0, 0));
+    SEE(places.from == 0 && places.to == 0);
+}
+
+/* An output that is null, as to ask for the size. */
+static void null_outputs(void) {
+    const uint8_t *text = (const uint8_t *)"1.2.3.4";
+    const uint32_t arcs[] = {1, 2, 3, 4};
+    SEE(is(const_oid_from_text(text, 7, NULL, 0), CONST_OID_NO_ROOM, 0, 3));
+    SEE(is(const_oid_to_text(oid, 3, NULL, 0), CONST_OID_NO_ROOM, 0, 7));
+    SEE(is(const_oid_arcs(oid, 3, NULL, 0), CONST_OID_NO_ROOM, 0, 4));
+    SEE(is(const_oid_from_arcs(arcs, 4, NULL, 0), CONST_OID_NO_ROOM, 0, 3));
+    SEE(is(const_oid_parent(oid, 3, NULL, 0), CONST_OID_NO_ROOM, 0, 2));
+    SEE(is(const_oid_push_arc(oid, 3, 128, NULL, 0), CONST_OID_NO_ROOM, 0, 5));
+    SEE(is(const_oid_error_text(CONST_OID_EMPTY, 0, NULL, 0), CONST_OID_NO_ROOM, 0, 18));
+    SEE(is(const_oid_from_text(NULL, 0, NULL, 0), CONST_OID_EMPTY, 0, 0));
+    SEE(is(const_oid_to_text(NULL, 0, NULL, 0), CONST_OID_EMPTY, 0, 0));
+    SEE(is(const_oid_arcs(NULL, 0, NULL, 0), CONST_OID_EMPTY, 0, 0));
+    SEE(is(const_oid_from_arcs(NULL, 0, NULL, 0), CONST_OID_EMPTY, 0, 0));
+    SEE(is(const_oid_parent(NULL, 0, NULL, 0), CONST_OID_EMPTY, 0, 0));
+    SEE(is(const_oid_push_arc(NULL, 0, 1, NULL, 0), CONST_OID_EMPTY, 0, 0));
+}
+
+static void layouts(void) {
+    SEE(sizeof(const_oid_status) == 16);
+    SEE(offsetof(const_oid_status, code) == 0);
+    SEE(offsetof(const_oid_status, detail) == 4);
+    SEE(offsetof(const_oid_status, len) == 8);
+    SEE(sizeof(const_oid_octets) == 16);
+    SEE(offsetof(const_oid_octets, len) == 8);
+    SEE(sizeof(const_oid_places) == 16);
+    SEE(offsetof(const_oid_places, to) == 8);
+}
+
+/* The longest text of a code and a detail is as long as the constant says. */
+static void longest_error_text(void) {
+    static const uint32_t details[] = {0, 9, 10, 99, 127, 128, 255, 256, 4294967295u};
+    size_t longest = 0;
+    for (uint32_t code = 0; code < 300; code++) {
+        for (size_t i = 0; i < sizeof details / sizeof *details; i++) {
+            const_oid_status status = const_oid_error_text(code, details[i], NULL, 0);
+            SEE(status.code == CONST_OID_NO_ROOM || is(status, CONST_OID_NONE, 0, 0));
+            if (status.len > longest) longest = status.len;
+        }
+    }
+    SEE(longest == CONST_OID_MAX_ERROR_TEXT);
+}
+
+/* Octets that print and hold as much as the constants say. */
+static void constants(void) {
+    uint8_t octets[CONST_OID_MAX_OCTETS + 1];
+    static uint8_t text[CONST_OID_MAX_TEXT];
+    uint32_t arcs[CONST_OID_MAX_ARCS];
+    memset(octets, 0x7F, sizeof octets);
+    SEE(is(const_oid_arcs(octets, CONST_OID_MAX_OCTETS, arcs, CONST_OID_MAX_ARCS), 0, 0, CONST_OID_MAX_ARCS));
+    SEE(is(const_oid_to_text(octets, CONST_OID_MAX_OCTETS, text, sizeof text), 0, 0, CONST_OID_MAX_TEXT));
+    SEE(is(const_oid_parent(octets, CONST_OID_MAX_OCTETS + 1, NULL, 0), CONST_OID_LENGTH, 0, 0));
+    SEE(const_oid_version() == CONST_OID_VERSION);
+}
+
+/* Beyond what was written an output is as it was. */
+static void rest_of_output(void) {
+    uint8_t out[64];
+    memset(out, 0xEE, sizeof out);
+    const_oid_status status = const_oid_to_text(oid, 3, out, sizeof out);
+    SEE(is(status, CONST_OID_OK, 0, 7) && memcmp(out, "1.2.3.4", 7) == 0);
+    for (size_t i = status.len; i < sizeof out; i++) SEE(out[i] == 0xEE);
+}
+
+/* A whole encoding, with tag and length, is read as if these were contents. */
+static void whole_encoding(void) {
+    static const uint8_t whole[] = {0x06, 0x03, 0x2A, 0x03, 0x04};
+    uint8_t out[16];
+    const_oid_status status = const_oid_to_text(whole, sizeof whole, out, sizeof out);
+    SEE(is(status, CONST_OID_OK, 0, 12) && memcmp(out, "0.6.3.42.3.4", 12) == 0);
+}
+
+int main(void) {
+    null_inputs();
+    null_outputs();
+    layouts();
+    longest_error_text();
+    constants();
+    rest_of_output();
+    whole_encoding();
+    return 0;
+}
