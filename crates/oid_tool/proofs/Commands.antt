@@ -1,36 +1,35 @@
 -- What is written of the answers.
-use Rattle.std.proofs.Common.{◌≡◌, ℕ, List, ◌++◌, refl, ap, ◌∙◌}
-use Rattle.std.specs.Prelude.{Result, Ok, Err, OnOk, IsOk, codes}
+use Rattle.std.proofs.Common.{◌≡◌, ℕ, ◌+◌, ◌-◌, ◌<◌, ◌≤◌, List, ◌++◌, length, take, drop, refl, ap, subst, ◌∙◌, arith, length-append}
+use Rattle.std.specs.Prelude.{Option, Some, None, IfSome, MatchOption, Result, codes}
 use Rattle.std.specs.Str.{IsUtf8, is_utf8}
 use Rattle.std.proofs.lemmas.Bool.{false_from_ne_true}
 use Rattle.std.proofs.lemmas.Str.{IsUtf8-from_is_utf8, is_utf8-from_IsUtf8}
-use Rattle.std.specs.Fmt.{WritesInCalls}
-use Rattle.std.proofs.lemmas.Fmt.{contents_after_writes}
-use Rattle.std.proofs.lemmas.Result.{on_ok_weaker}
-use Rattle.hex.specs.Hex.{decode_of}
+use Rattle.std.proofs.Math.Seq.{take-append_seam}
+use Rattle.std.proofs.lemmas.List.{length-take-le}
 use Rattle.const_oid.specs.declared.error.Error.{Error}
-use Rattle.const_oid.specs.Contents.{octet_answer, borrowed_capacity}
 use Rattle.const_oid.specs.Identifier.{root_rule}
-use Rattle.const_oid.specs.Text.{text_of, text_answer}
-use Rattle.oid_tool.specs.Answers.{shown_line, text_line, denoted_line}
+use Rattle.const_oid.specs.Text.{text_answer}
+use Rattle.oid_tool.specs.Answers.{shown_line, denoted_line}
+use Rattle.oid_tool.specs.Output.{StandsFirst}
+use Rattle.oid_tool.proofs.Output.{take_grown}
+use borrow.Rule.Slice.PartMut.{put_mid, post_of}
 
--- a line after a text was written to it, in some calls
-pub line_written : {T E : Type 0} (r : Result T E) (old bytes new line : List ℕ) → OnOk r (WritesInCalls (λ s bs t. t ≡ s ++ bs) old bytes new) → bytes ≡ line → OnOk r (new ≡ old ++ line)
-line_written r old bytes new line h e = on_ok_weaker r (λ w. contents_after_writes (λ s bs t. t ≡ s ++ bs) (λ s. s) (λ _ _ _ t. t) old bytes new w ∙ ap (λ l. old ++ l) e) h
+-- what stands first, by another name of it
+pub stands_as : (result : Option ℕ) (room text line : List ℕ) → StandsFirst result room text → text ≡ line → StandsFirst result room line
+stands_as result room text line h e = subst (StandsFirst result room) e h
 
--- a line after a text was appended to it
-pub line_appended : {T E : Type 0} (r : Result T E) (old bytes new line : List ℕ) → OnOk r (new ≡ old ++ bytes) → bytes ≡ line → OnOk r (new ≡ old ++ line)
-line_appended r old bytes new line h e = on_ok_weaker r (λ w. w ∙ ap (λ l. old ++ l) e) h
+-- what the crate says of a text that it writes at the prefix
+pub stands_written : (result : Option ℕ) (old new text line : List ℕ) → length new ≡ length old → MatchOption result (length old < length text) (λ len. len ≡ length text) → IfSome result (λ len. new ≡ text ++ drop len old) → text ≡ line → StandsFirst result new line
+stands_written None old new text line same cases written e = omega (arith, ap length e)
+stands_written (Some len) old new text line same cases written e =
+    let whole : take len new ≡ text = rw (written, cases) (take-append_seam text (drop (length text) old)) in
+    (omega (arith, same, cases, ap length written, length-append text (drop len old)), whole ∙ e)
 
--- the same where the text is known only of a success
-pub line_told : {T E : Type 0} (r : Result T E) (old bytes new line : List ℕ) → (IsOk r → new ≡ old ++ bytes) → bytes ≡ line → OnOk r (new ≡ old ++ line)
-line_told (Ok x) old bytes new line h e = h refl ∙ ap (λ l. old ++ l) e
-line_told (Err x) old bytes new line h e = tt
-
--- the line of octets that have these arcs, or this fault
-pub text_line-decoded : (digits octets : List ℕ) (answer : Result (List ℕ) Error) → decode_of digits ≡ Ok octets → answer ≡ octet_answer root_rule octets borrowed_capacity → shown_line text_of answer ≡ text_line digits
-unfolding text_line
-text_line-decoded digits octets answer h e = rw (h, e) refl
+-- a text that stands first, and another after it
+pub stands_joined : (at len : ℕ) (room rest first second line : List ℕ) → at ≤ length room → take at room ≡ first → len ≤ length rest → take len rest ≡ second → first ++ second ≡ line → StandsFirst (Some (at + len)) (put_mid at (length room - at) room rest) line
+stands_joined at len room rest first second line within one fits two e =
+    let grown = take_grown at (length room - at) len room rest within fits in
+    (omega (arith, length-append (take at room) (rest ++ post_of at (length room - at) room), length-append rest (post_of at (length room - at) room), length-take-le at room within), grown ∙ rw (one, two) e)
 
 -- the line of a text that denotes these arcs, or has this fault
 pub denoted_line-read : (show : List ℕ → List ℕ) (bytes text : List ℕ) (answer : Result (List ℕ) Error) → text ≡ bytes → IsUtf8 bytes → answer ≡ text_answer root_rule text 39 → shown_line show answer ≡ denoted_line show bytes

@@ -1,5 +1,5 @@
+pub mod Output
 pub mod Commands
 pub mod Lines
 pub mod Names
-pub mod Output
 pub mod ToolError

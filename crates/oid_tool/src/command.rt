@@ -1,24 +1,25 @@
 //! The answer to one line: what its command says of its argument.
-ghost use Rattle.std.specs.Prelude.{◌≡◌, ◌*◌, ◌≤◌, ◌==◌, ◌++◌, length, take, position, OnOk, IfSome, IsErr, MatchOption, Ok};
+ghost use Rattle.std.specs.Prelude.{◌≡◌, ◌*◌, ◌≤◌, ◌==◌, length, take, position, IfSome, IsErr, MatchOption, Ok};
 ghost use Rattle.std.specs.List.{before_first, after_first};
 ghost use Rattle.hex.specs.Hex.{decode_of, encode_lower};
-ghost use Rattle.oid_tool.specs.Answers.{answer_line, text_line, hex_line, parent_line, name_line};
+ghost use Rattle.const_oid.specs.Message.{message_of};
+ghost use Rattle.oid_tool.specs.Answers.{answer_line, error_line, text_line, hex_line, parent_line, name_line};
 ghost use Rattle.oid_tool.specs.Names.{rows_of};
+ghost use Rattle.oid_tool.specs.Output.{StandsFirst};
 
-use crate::line::Line;
 use const_oid::db::Database;
-use const_oid::{ObjectIdentifier, ObjectIdentifierRef};
-use std::fmt::Write;
-use std::{fmt, str};
+use const_oid::{Error, ObjectIdentifier, ObjectIdentifierRef};
+use std::str;
 
 /// How many bytes the input may have, and so a line of it.
 pub const MAX_INPUT: usize = 4096;
 
-/// Appends the answer to a line, with a table of names.
+/// Writes the answer to a line at the prefix of `out`, with a table of names, and tells its length, or
+/// `None` where it is longer than `out`.
 #[tactic(auto, unfolding(crate::specs::Answers::answer_line))]
-pub fn answer(line: &[u8], table: Database<'_>, out: &mut Line) -> fmt::Result
+pub fn answer(line: &[u8], table: Database<'_>, out: &mut [u8]) -> Option<usize>
     requires { length line.now ≤ MAX_INPUT }
-    ensures { OnOk result (out.new ≡ out.old ++ answer_line (rows_of table.entry) line.now) }
+    ensures { StandsFirst result out.new (answer_line (rows_of table.entry) line.now) }
 {
     let (command, argument) = cut(b' ', line);
     if command == b"text".as_slice() {
@@ -30,87 +31,100 @@ pub fn answer(line: &[u8], table: Database<'_>, out: &mut Line) -> fmt::Result
     } else if command == b"name".as_slice() {
         name(argument, table, out)
     } else {
-        out.write_str("error: unknown command")
+        put(b"error: unknown command", out)
     }
 }
 
 /// `text H`: the arcs of the octets that the hexadecimal digits H stand for.
 #[tactic(auto, unfolding(crate::specs::Answers::text_line))]
-fn text(digits: &[u8], out: &mut Line) -> fmt::Result
+fn text(digits: &[u8], out: &mut [u8]) -> Option<usize>
     requires { length digits.now ≤ MAX_INPUT }
-    ensures { OnOk result (out.new ≡ out.old ++ text_line digits.now) }
+    ensures { StandsFirst result out.new (text_line digits.now) }
 {
     let mut room = [0; MAX_INPUT / 2];
     let Some(count) = decode(digits, &mut room) else {
-        return out.write_str("error: not hex");
+        return put(b"error: not hex", out);
     };
     match ObjectIdentifierRef::from_bytes(&room[..count]) {
-        Ok(oid) => write!(out, "{oid}"),
-        Err(fault) => write!(out, "error: {fault}"),
+        Ok(oid) => oid.encode_text(out),
+        Err(fault) => refuse(fault, out),
     }
 }
 
 /// `hex T`: the contents octets of the identifier that the text T denotes, in hexadecimal digits.
-fn hex(text: &[u8], out: &mut Line) -> fmt::Result
-    ensures { OnOk result (out.new ≡ out.old ++ hex_line text.now) }
+fn hex(text: &[u8], out: &mut [u8]) -> Option<usize>
+    ensures { StandsFirst result out.new (hex_line text.now) }
 {
     let Ok(text) = str::from_utf8(text) else {
-        return out.write_str("error: not UTF-8");
+        return put(b"error: not UTF-8", out);
     };
     match ObjectIdentifier::new(text) {
-        Ok(oid) => append_digits(oid.as_bytes(), out),
-        Err(fault) => write!(out, "error: {fault}"),
+        Ok(oid) => encode(oid.as_bytes(), out),
+        Err(fault) => refuse(fault, out),
     }
 }
 
 /// `parent T`: the parent of the identifier that the text T denotes, or `none`.
-fn parent(text: &[u8], out: &mut Line) -> fmt::Result
-    ensures { OnOk result (out.new ≡ out.old ++ parent_line text.now) }
+fn parent(text: &[u8], out: &mut [u8]) -> Option<usize>
+    ensures { StandsFirst result out.new (parent_line text.now) }
 {
     let Ok(text) = str::from_utf8(text) else {
-        return out.write_str("error: not UTF-8");
+        return put(b"error: not UTF-8", out);
     };
     match ObjectIdentifier::new(text) {
         Ok(oid) => match oid.parent() {
-            Some(parent) => write!(out, "{parent}"),
-            None => out.write_str("none"),
+            Some(parent) => parent.encode_text(out),
+            None => put(b"none", out),
         },
-        Err(fault) => write!(out, "error: {fault}"),
+        Err(fault) => refuse(fault, out),
     }
 }
 
 /// `name T`: the name of the identifier that the text T denotes, or T itself where it has none.
-fn name(text: &[u8], table: Database<'_>, out: &mut Line) -> fmt::Result
-    ensures { OnOk result (out.new ≡ out.old ++ name_line (rows_of table.entry) text.now) }
+fn name(text: &[u8], table: Database<'_>, out: &mut [u8]) -> Option<usize>
+    ensures { StandsFirst result out.new (name_line (rows_of table.entry) text.now) }
 {
     let Ok(text) = str::from_utf8(text) else {
-        return out.write_str("error: not UTF-8");
+        return put(b"error: not UTF-8", out);
     };
     match table.resolve(text) {
-        Ok(name) => out.write_str(name),
-        Err(fault) => write!(out, "error: {fault}"),
+        Ok(name) => put(name.as_bytes(), out),
+        Err(fault) => refuse(fault, out),
     }
 }
 
-/// Appends octets in lower-case hexadecimal digits.
-fn append_digits(octets: &[u8], out: &mut Line) -> fmt::Result
-    requires { length octets.now ≤ 39 }
-    ensures { OnOk result (out.new ≡ out.old ++ encode_lower octets.now) }
+/// Writes why a line is refused at the prefix, and tells the length.
+fn refuse(fault: Error, out: &mut [u8]) -> Option<usize>
+    ensures { StandsFirst result out.new (error_line (message_of fault)) }
 {
-    let mut room = [0; 2 * ObjectIdentifier::<39>::MAX_SIZE];
-    let count = encode(octets, &mut room);
-    out.append(&room[..count])
+    let at = put(b"error: ", out)?;
+    let len = fault.encode_text(&mut out[at..])?;
+    Some(at + len)
 }
 
-/// Writes octets to the prefix of the room in lower-case hexadecimal digits, and gives their number.
-fn encode(octets: &[u8], room: &mut [u8]) -> usize
-    requires { 2 * length octets.now ≤ length room.old }
-    ensures within { result ≤ length room.new }
-    ensures value { take result room.new ≡ encode_lower octets.now }
+/// Writes bytes at the prefix, and tells how many, or `None` where they are more than `out` has room for.
+pub fn put(bytes: &[u8], out: &mut [u8]) -> Option<usize>
+    ensures { StandsFirst result out.new bytes.now }
+{
+    let len = bytes.len();
+    if len > out.len() {
+        return None;
+    }
+    out[..len].copy_from_slice(bytes);
+    Some(len)
+}
+
+/// Writes octets at the prefix in lower-case hexadecimal digits, and tells their number.
+fn encode(octets: &[u8], out: &mut [u8]) -> Option<usize>
+    requires { length octets.now ≤ 39 }
+    ensures { StandsFirst result out.new (encode_lower octets.now) }
 {
     let count = 2 * octets.len();
-    match hex::encode_to_slice(octets, &mut room[..count]) {
-        Ok(()) => count,
+    if count > out.len() {
+        return None;
+    }
+    match hex::encode_to_slice(octets, &mut out[..count]) {
+        Ok(()) => Some(count),
         Err(_) => unreachable!(),
     }
 }

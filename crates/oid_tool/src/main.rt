@@ -2,7 +2,6 @@
 #![tactic(auto)]
 
 mod command;
-mod line;
 mod run;
 
 use run::{ToolError, run};

@@ -3,14 +3,12 @@ ghost use Rattle.std.specs.Prelude.{◌≡◌, ◌+◌, ◌≤◌, ◌⊎◌, le
 ghost use Rattle.std.specs.Io.KnownBytes.{Appends, Consumes, IsAtEnd};
 ghost use Rattle.oid_tool.specs.Answers.{answers, output_line};
 ghost use Rattle.oid_tool.specs.Names.{known_names, rows_of};
-ghost use Rattle.oid_tool.specs.Output.{AppendsFront, ConsumesNumber};
+ghost use Rattle.oid_tool.specs.Output.{AppendsFront, ConsumesNumber, StandsFirst};
 
-use crate::command::{MAX_INPUT, answer, cut};
-use crate::line::Line;
+use crate::command::{MAX_INPUT, answer, cut, put};
 use const_oid::ObjectIdentifier;
 use const_oid::db::Database;
 use std::fmt;
-use std::fmt::Write as _;
 use std::io::{Read, Write};
 
 /// Why the tool stopped.
@@ -99,6 +97,9 @@ fn read_all<R: Read>(input: &mut R, room: &mut [u8]) -> Result<usize, ToolError>
     Err(ToolError::TooLong)
 }
 
+/// How many bytes the answer to a line may take, its newline included.
+const LINE_ROOM: usize = 8192;
+
 /// Writes the answer to each line of the text, with a table of names.
 fn write_answers<W: Write>(
     text: &[u8],
@@ -112,27 +113,28 @@ fn write_answers<W: Write>(
         (answers (rows_of table.entry) text.now)) }
     ensures err { IfErr result (λ e. e ≡ ToolError.Write) }
 {
-    let mut shown = Line::new();
+    let mut room = [0; LINE_ROOM];
     let mut rest = text;
     while !rest.is_empty() {
         let (line, after) = cut(b'\n', rest);
-        let Ok(()) = show(line, table, &mut shown) else {
+        let Some(len) = show(line, table, &mut room) else {
             return Err(ToolError::Write);
         };
-        write_out(shown.as_bytes(), output)?;
+        write_out(&room[..len], output)?;
         rest = after;
     }
     Ok(())
 }
 
-/// Puts the answer to a line, and a newline, in place of what is shown, or tells that there is no room.
-fn show(line: &[u8], table: Database<'_>, shown: &mut Line) -> fmt::Result
+/// Writes the answer to a line, and a newline, at the prefix, and tells the length, or `None` where
+/// they are longer than `out`.
+fn show(line: &[u8], table: Database<'_>, out: &mut [u8]) -> Option<usize>
     requires { length line.now ≤ MAX_INPUT }
-    ensures { OnOk result (shown.new ≡ output_line (rows_of table.entry) line.now) }
+    ensures { StandsFirst result out.new (output_line (rows_of table.entry) line.now) }
 {
-    shown.clear();
-    answer(line, table, shown)?;
-    shown.write_char('\n')
+    let at = answer(line, table, out)?;
+    let len = put(b"\n", &mut out[at..])?;
+    Some(at + len)
 }
 
 /// Writes all the bytes.

@@ -11,13 +11,13 @@ returns-in_default-clause-prefix g c =
 
 pub returns-in_err-write_out-clause-prefix : goal.returns-in_err-write_out-clause-prefix
 returns-in_err-write_out-clause-prefix g c =
-    let next = answers-next _ c.loop-rest.rest.now c.cut.result.0.now c.cut.result.1.now _ (not_empty_by_length _ c.loop-rest-test.ensures) c.cut.ensures.prefix c.cut.ensures.back (c.as_bytes.ensures ∙ c.in-Ok.ensures) in
+    let next = answers-next _ c.loop-rest.rest.now c.cut.result.0.now c.cut.result.1.now _ (not_empty_by_length _ c.loop-rest-test.ensures) c.cut.ensures.prefix c.cut.ensures.back c.in-Some.ensures.1 in
     let p = err_from_is_err_and c.from_residual.result c.from_residual.ensures.1 in
     rw p.1 (appends_prefix_within _ _ _ _ _ _ _ c.loop-rest.invariant.written next c.in_err-write_out.ensures.prefix)
 
 pub loop-rest-preserved : goal.loop-rest-preserved
 loop-rest-preserved g c =
-    let next = answers-next _ c.loop-rest.rest.now c.cut.result.0.now c.cut.result.1.now _ (not_empty_by_length _ c.loop-rest-test.ensures) c.cut.ensures.prefix c.cut.ensures.back (c.as_bytes.ensures ∙ c.in-Ok.ensures) in
+    let next = answers-next _ c.loop-rest.rest.now c.cut.result.0.now c.cut.result.1.now _ (not_empty_by_length _ c.loop-rest-test.ensures) c.cut.ensures.prefix c.cut.ensures.back c.in-Some.ensures.1 in
     record {
       short = omega (arith, ap length c.cut.ensures.back, length-after_line c.loop-rest.rest.now);
       written = appends_more _ _ _ _ _ _ _ c.loop-rest.invariant.written next c.in_ok-write_out.ensures.ok;
