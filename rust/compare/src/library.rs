@@ -39,6 +39,7 @@ unsafe extern "C" {
     fn const_oid_starts_with(a: *const u8, len: usize, b: *const u8, other_len: usize) -> Status;
     fn const_oid_eq(a: *const u8, len: usize, b: *const u8, other_len: usize) -> Status;
     fn const_oid_cmp(a: *const u8, len: usize, b: *const u8, other_len: usize) -> Status;
+    fn const_oid_cmp_arcs(a: *const u8, len: usize, b: *const u8, other_len: usize) -> Status;
     fn const_oid_cmp_owned(a: *const u8, len: usize, b: *const u8, other_len: usize) -> Status;
     fn const_oid_subtree(
         octets: *const u8,
@@ -122,6 +123,10 @@ pub fn eq(a: &[u8], b: &[u8]) -> Answer<bool> {
 
 pub fn cmp(a: &[u8], b: &[u8]) -> Answer<Ordering> {
     of_two(const_oid_cmp, a, b).map(order)
+}
+
+pub fn cmp_arcs(a: &[u8], b: &[u8]) -> Answer<Ordering> {
+    of_two(const_oid_cmp_arcs, a, b).map(order)
 }
 
 pub fn cmp_owned(a: &[u8], b: &[u8]) -> Answer<Ordering> {

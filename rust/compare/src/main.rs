@@ -9,6 +9,9 @@ use draw::Draw;
 use library::Answer;
 use std::fmt::Debug;
 
+/// Identifiers of as many octets as the library's.
+type Long = ObjectIdentifier<255>;
+
 fn main() {
     let count = std::env::args()
         .nth(1)
@@ -16,7 +19,7 @@ fn main() {
     let count: u32 = count.unwrap_or(1_000_000);
     let mut draw = Draw(0x2545_F491_4F6C_DD1D);
     let mut accepted = 0;
-    let mut last = ObjectIdentifier::new_unwrap("2.999");
+    let mut last = Long::new_sized("2.999").expect("no fault");
     for _ in 0..count {
         for oid in [of_text(&mut draw), of_list(&mut draw)]
             .into_iter()
@@ -75,24 +78,34 @@ fn bytes(oid: &ObjectIdentifierRef) -> Vec<u8> {
     oid.as_bytes().to_vec()
 }
 
-fn of_text(draw: &mut Draw) -> Option<ObjectIdentifier> {
+/// At 39 octets the answer is that at 255, but for `Length`.
+fn small(input: impl Debug, small: Result<ObjectIdentifier, Error>, long: Result<Long, Error>) {
+    match (small, long) {
+        (Ok(small), Ok(long)) => same(input, small.as_bytes(), long.as_bytes()),
+        (Err(Error::Length), Ok(long)) => same(input, long.as_bytes().len() > 39, true),
+        (Err(Error::Length), Err(_)) => {}
+        (small, long) => same(input, small.err(), long.err()),
+    }
+}
+
+fn of_text(draw: &mut Draw) -> Option<Long> {
     let text = draw.text();
-    let oid = ObjectIdentifier::new(&text);
-    same(
-        &text,
-        told(oid.map(|oid| bytes(&oid))),
-        library::from_text(text.as_bytes()),
-    );
+    let oid = Long::new_sized(&text);
+    let ours = told(oid.map(|oid| bytes(&oid)));
+    same(&text, ours, library::from_text(text.as_bytes()));
+    small(&text, ObjectIdentifier::new(&text), oid);
     oid.ok()
 }
 
-fn of_list(draw: &mut Draw) -> Option<ObjectIdentifier> {
+fn of_list(draw: &mut Draw) -> Option<Long> {
     let arcs = draw.list();
-    let oid = ObjectIdentifier::from_arcs(arcs.iter().copied());
-    same(
+    let oid = Long::from_arcs_sized(arcs.iter().copied());
+    let ours = told(oid.map(|oid| bytes(&oid)));
+    same(&arcs, ours, library::from_arcs(&arcs));
+    small(
         &arcs,
-        told(oid.map(|oid| bytes(&oid))),
-        library::from_arcs(&arcs),
+        ObjectIdentifier::from_arcs(arcs.iter().copied()),
+        oid,
     );
     oid.ok()
 }
@@ -102,63 +115,59 @@ fn of_octets(octets: &[u8]) -> bool {
     let read = ObjectIdentifierRef::from_bytes(octets);
     let arcs = read.map(|oid| oid.arcs().collect());
     same(octets, told(arcs), library::arcs(octets));
-    let owned = ObjectIdentifier::from_bytes(octets);
+    let owned = Long::from_bytes_sized(octets);
+    small(octets, ObjectIdentifier::from_bytes(octets), owned);
     let parent = told(owned).and_then(|oid| oid.parent().ok_or(NONE));
-    same(
-        octets,
-        parent.map(|oid| bytes(&oid)),
-        library::parent(octets),
-    );
+    let parent = parent.map(|oid| bytes(&oid));
+    same(octets, parent, library::parent(octets));
     let Ok(oid) = read else {
         return false;
     };
     let text = oid.to_string();
-    same(
-        octets,
-        Ok(text.clone().into_bytes()),
-        library::to_text(octets),
-    );
+    let ours = Ok(text.clone().into_bytes());
+    same(octets, ours, library::to_text(octets));
     let mut room = [0; 1024];
     let len = oid.encode_text(&mut room);
     same(octets, len.map(|len| &room[..len]), Some(text.as_bytes()));
     for index in [0, 1, 2, oid.len() - 1, oid.len()] {
-        same(
-            (octets, index),
-            oid.arc(index).ok_or(NONE),
-            library::arc(octets, index),
-        );
+        let ours = oid.arc(index).ok_or(NONE);
+        same((octets, index), ours, library::arc(octets, index));
     }
     true
 }
 
-fn of_two(a: &ObjectIdentifier, b: &ObjectIdentifier, arc: u32) {
+fn of_two(a: &Long, b: &Long, arc: u32) {
     let (left, right) = (a.as_bytes(), b.as_bytes());
+    let (a_ref, b_ref) = (a.as_oid_ref(), b.as_oid_ref());
     let input = (a, b);
     same(input, Ok(a == b), library::eq(left, right));
-    same(input, Ok(a.as_oid_ref() == b), library::eq(left, right));
+    same(input, Ok(a_ref == b), library::eq(left, right));
     same(input, Ok(a.cmp(b)), library::cmp_owned(left, right));
-    same(input, Ok(a.as_oid_ref().cmp(b)), library::cmp(left, right));
+    same(input, Ok(a_ref.cmp(b_ref)), library::cmp(left, right));
+    same(
+        input,
+        Ok(a_ref.cmp_arcs(b_ref)),
+        library::cmp_arcs(left, right),
+    );
     same(
         input,
         Ok(a.starts_with(*b)),
         library::starts_with(left, right),
     );
     let child = a.push_arc(arc);
-    same(
-        (a, arc),
-        told(child.map(|oid| bytes(&oid))),
-        library::push_arc(left, arc),
-    );
+    let ours = told(child.map(|oid| bytes(&oid)));
+    same((a, arc), ours, library::push_arc(left, arc));
     if let Ok(child) = child {
+        let octets = child.as_bytes();
         same(
-            (a, arc),
+            child,
             Ok(child.starts_with(*a)),
-            library::starts_with(child.as_bytes(), left),
+            library::starts_with(octets, left),
         );
         same(
-            (a, arc),
+            child,
             Ok(child.as_oid_ref() == a),
-            library::eq(child.as_bytes(), left),
+            library::eq(octets, left),
         );
     }
 }
@@ -166,18 +175,17 @@ fn of_two(a: &ObjectIdentifier, b: &ObjectIdentifier, arc: u32) {
 /// Compares where identifiers that begin with one of a sorted list stand in it.
 fn of_subtree(draw: &mut Draw) {
     let drawn: Vec<Vec<u8>> = (0..200).map(|_| draw.octets()).collect();
-    let read = drawn
-        .iter()
-        .filter_map(|octets| ObjectIdentifierRef::from_bytes(octets).ok());
-    let mut sorted: Vec<&ObjectIdentifierRef> = read.collect();
+    let mut sorted: Vec<&ObjectIdentifierRef> = Vec::new();
+    sorted.extend(
+        drawn
+            .iter()
+            .filter_map(|octets| ObjectIdentifierRef::from_bytes(octets).ok()),
+    );
     sorted.sort();
     let octets: Vec<&[u8]> = sorted.iter().map(|oid| oid.as_bytes()).collect();
     for oid in &sorted {
         let top = oid.parent().unwrap_or(oid);
-        same(
-            top,
-            Ok(top.subtree(&sorted)),
-            library::subtree(top.as_bytes(), &octets),
-        );
+        let ours = Ok(top.subtree(&sorted));
+        same(top, ours, library::subtree(top.as_bytes(), &octets));
     }
 }

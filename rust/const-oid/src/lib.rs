@@ -34,25 +34,64 @@ mod arbitrary;
 pub mod db;
 #[rustfmt::skip] // Laid out as its sources are.
 #[allow(
-// Not each of its functions has a form here.
+// Not each of its functions has a form here, and some imports are of contracts alone.
     dead_code,
+    unused_imports,
     missing_docs,
 // Bytes that are UTF-8 become a text without a check.
     unsafe_code,
-    clippy::collapsible_else_if,
-    clippy::derive_ord_xor_partial_ord,
-    clippy::derived_hash_with_manual_eq,
-    clippy::needless_borrow,
-    clippy::needless_range_loop,
-    clippy::new_without_default,
-    clippy::question_mark,
-    clippy::should_implement_trait,
+// Written for the checker, or for functions that are constant.
+    clippy::all,
 )]
 mod erased;
 mod oid;
 mod oid_ref;
 mod traits;
 
-pub use erased::{Arc, Arcs, Buffer, Error, ObjectIdentifier, Result};
+/// ```
+/// const GREATEST: const_oid::Arc = const_oid::Arc::MAX;
+/// assert_eq!(GREATEST, 4_294_967_295);
+/// ```
+pub use erased::Arc;
+/// ```
+/// use const_oid::{Arcs, ObjectIdentifier};
+///
+/// let oid = ObjectIdentifier::new_unwrap("2.999");
+/// let mut arcs: Arcs<'_> = oid.arcs();
+/// assert_eq!((arcs.next(), arcs.next(), arcs.next()), (Some(2), Some(999), None));
+/// ```
+pub use erased::Arcs;
+/// ```
+/// assert_eq!(size_of::<const_oid::Buffer<39>>(), 40);
+/// ```
+pub use erased::Buffer;
+/// ```
+/// use const_oid::{Error, ObjectIdentifier};
+///
+/// let error = ObjectIdentifier::new("1..2").unwrap_err();
+/// assert_eq!(error, Error::RepeatedDot);
+/// assert_eq!(error.to_string(), "repeated consecutive '..' characters in OID");
+/// ```
+pub use erased::Error;
+/// ```
+/// use const_oid::ObjectIdentifier;
+///
+/// const CN: ObjectIdentifier = ObjectIdentifier::new_unwrap("2.5.4.3");
+/// assert!(matches!("2.5.4.3".parse(), Ok(CN)));
+/// assert_eq!(format!("{CN} {CN:?}"), "2.5.4.3 ObjectIdentifier(2.5.4.3)");
+/// assert!(CN > ObjectIdentifier::new_unwrap("2.5.4"));
+/// ```
+pub use erased::ObjectIdentifier;
+/// ```
+/// use const_oid::{ObjectIdentifier, Result};
+///
+/// fn country() -> Result<ObjectIdentifier> {
+///     "2.5.4.6".parse()
+/// }
+///
+/// assert_eq!(country()?.len(), 4);
+/// # Ok::<(), const_oid::Error>(())
+/// ```
+pub use erased::Result;
 pub use oid_ref::ObjectIdentifierRef;
 pub use traits::{AssociatedOid, DynAssociatedOid};

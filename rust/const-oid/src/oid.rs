@@ -6,6 +6,14 @@ use core::ops::Deref;
 
 impl<const MAX_SIZE: usize> ObjectIdentifier<MAX_SIZE> {
     /// The borrowed form of the same octets.
+    ///
+    /// ```
+    /// use const_oid::{ObjectIdentifier, ObjectIdentifierRef};
+    ///
+    /// const CN: ObjectIdentifier = ObjectIdentifier::new_unwrap("2.5.4.3");
+    /// const BORROWED: &ObjectIdentifierRef = CN.as_oid_ref();
+    /// assert_eq!(BORROWED.as_bytes(), [0x55, 4, 3]);
+    /// ```
     pub const fn as_oid_ref(&self) -> &ObjectIdentifierRef {
         ObjectIdentifierRef::from_checked(self.as_bytes())
     }

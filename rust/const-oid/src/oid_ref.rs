@@ -9,6 +9,17 @@ use core::hash::{Hash, Hasher};
 /// An object identifier over contents octets, without tag and length.
 ///
 /// Its octets have no fault: they are the one encoding of its arcs (X.690, 8.19).
+///
+/// It is compared with owned identifiers of any capacity, on the left side. The two forms are ordered
+/// otherwise, so a `BTreeMap` with keys of one form is not asked with the other.
+///
+/// ```
+/// use const_oid::{ObjectIdentifier, ObjectIdentifierRef};
+///
+/// let oid: &ObjectIdentifierRef = [0x88, 0x37][..].try_into()?;
+/// assert_eq!(*oid, ObjectIdentifier::new_unwrap("2.999"));
+/// # Ok::<(), const_oid::Error>(())
+/// ```
 #[repr(transparent)]
 pub struct ObjectIdentifierRef {
     ber: [u8],
@@ -29,32 +40,70 @@ impl ObjectIdentifierRef {
 
     /// Reads contents octets (X.690, 8.19), of any number. The errors are those of
     /// [`ObjectIdentifier::from_bytes`].
+    ///
+    /// ```
+    /// use const_oid::{Error, ObjectIdentifierRef};
+    ///
+    /// assert_eq!(ObjectIdentifierRef::from_bytes(&[0x88, 0x37])?.to_string(), "2.999");
+    /// assert_eq!(ObjectIdentifierRef::from_bytes(&[0x88]), Err(Error::Base128));
+    /// # Ok::<(), Error>(())
+    /// ```
     pub fn from_bytes(ber: &[u8]) -> Result<&Self> {
         erased::ObjectIdentifierRef::from_bytes(ber).map(|oid| Self::from_checked(oid.as_bytes()))
     }
 
     /// The contents octets.
+    ///
+    /// ```
+    /// let oid = const_oid::ObjectIdentifierRef::from_bytes(&[0x88, 0x37, 0x03])?;
+    /// assert_eq!(oid.as_bytes(), [0x88, 0x37, 0x03]);
+    /// # Ok::<(), const_oid::Error>(())
+    /// ```
     pub const fn as_bytes(&self) -> &[u8] {
         &self.ber
     }
 
     /// The arc at a place, counted from 0, or `None` past the last.
+    ///
+    /// ```
+    /// let oid = const_oid::ObjectIdentifierRef::from_bytes(&[0x88, 0x37, 0x03])?;
+    /// assert_eq!((oid.arc(2), oid.arc(3)), (Some(3), None));
+    /// # Ok::<(), const_oid::Error>(())
+    /// ```
     pub fn arc(&self, index: usize) -> Option<Arc> {
         self.erased().arc(index)
     }
 
     /// All arcs, in order.
+    ///
+    /// ```
+    /// let oid = const_oid::ObjectIdentifierRef::from_bytes(&[0x88, 0x37, 0x03])?;
+    /// assert!(oid.arcs().eq([2, 999, 3]));
+    /// # Ok::<(), const_oid::Error>(())
+    /// ```
     pub fn arcs(&self) -> Arcs<'_> {
         self.erased().arcs()
     }
 
     /// How many arcs there are.
+    ///
+    /// ```
+    /// let oid = const_oid::ObjectIdentifierRef::from_bytes(&[0x88, 0x37, 0x03])?;
+    /// assert_eq!(oid.len(), 3);
+    /// # Ok::<(), const_oid::Error>(())
+    /// ```
     pub fn len(&self) -> usize {
         self.erased().len()
     }
 
     /// The identifier of all arcs but the last, over the prefix of the same octets, or `None` of two
     /// arcs.
+    ///
+    /// ```
+    /// let oid = const_oid::ObjectIdentifierRef::from_bytes(&[0x88, 0x37, 0x03])?;
+    /// assert_eq!(oid.parent().unwrap().to_string(), "2.999");
+    /// # Ok::<(), const_oid::Error>(())
+    /// ```
     pub fn parent(&self) -> Option<&Self> {
         self.erased()
             .parent()
@@ -62,11 +111,24 @@ impl ObjectIdentifierRef {
     }
 
     /// Whether the arcs begin with all those of another identifier, which may be all of these.
+    ///
+    /// ```
+    /// let oid = const_oid::ObjectIdentifierRef::from_bytes(&[0x88, 0x37, 0x03])?;
+    /// assert!(oid.starts_with(oid.parent().unwrap()));
+    /// # Ok::<(), const_oid::Error>(())
+    /// ```
     pub fn starts_with(&self, other: &Self) -> bool {
         self.erased().starts_with(&other.erased())
     }
 
     /// The order of the arcs, a prefix before what begins with it, as SNMP orders names (RFC 3416).
+    ///
+    /// ```
+    /// let oid = const_oid::ObjectIdentifierRef::from_bytes(&[0x88, 0x37, 0x03])?;
+    /// let small = const_oid::ObjectIdentifierRef::from_bytes(&[0x88, 0x37, 0x81, 0x00])?;
+    /// assert!(oid.cmp_arcs(small).is_lt() && oid < small);
+    /// # Ok::<(), const_oid::Error>(())
+    /// ```
     pub fn cmp_arcs(&self, other: &Self) -> Ordering {
         self.erased().cmp_arcs(&other.erased())
     }
@@ -76,19 +138,54 @@ impl ObjectIdentifierRef {
     /// the place where this one would stand.
     ///
     /// The list does not descend in the order of `cmp`. It may hold an identifier more than once.
+    ///
+    /// ```
+    /// use const_oid::{ObjectIdentifier, ObjectIdentifierRef};
+    ///
+    /// let oids = ["2.5.4", "2.5.4.3", "2.5.4.6", "2.5.29"].map(ObjectIdentifier::new_unwrap);
+    /// let mut sorted: Vec<&ObjectIdentifierRef> = oids.iter().map(|oid| oid.as_oid_ref()).collect();
+    /// sorted.sort();
+    /// let (from, to) = oids[0].subtree(&sorted);
+    /// assert!(sorted[from..to].iter().all(|oid| oid.starts_with(&oids[0])) && to - from == 3);
+    /// ```
     pub fn subtree(&self, sorted: &[&Self]) -> (usize, usize) {
         self.erased().subtree(sorted)
     }
 
     /// The length of the text that `{}` writes, or `usize::MAX` where it is past that.
+    ///
+    /// ```
+    /// let oid = const_oid::ObjectIdentifierRef::from_bytes(&[0x88, 0x37, 0x03])?;
+    /// assert_eq!(oid.text_len(), 7);
+    /// # Ok::<(), const_oid::Error>(())
+    /// ```
     pub fn text_len(&self) -> usize {
         self.erased().text_len()
     }
 
     /// Writes the text that `{}` writes at the prefix of `out`, and tells its length. `None` where it
     /// is longer than `out`, which then stays as it was.
+    ///
+    /// ```
+    /// let oid = const_oid::ObjectIdentifierRef::from_bytes(&[0x88, 0x37, 0x03])?;
+    /// let mut out = [0; 8];
+    /// assert_eq!(oid.encode_text(&mut out), Some(7));
+    /// assert_eq!(&out, b"2.999.3\0");
+    /// # Ok::<(), const_oid::Error>(())
+    /// ```
     pub fn encode_text(&self, out: &mut [u8]) -> Option<usize> {
         self.erased().encode_text(out)
+    }
+
+    /// Writes the text as [`encode_text`](Self::encode_text) does, and lends it.
+    ///
+    /// ```
+    /// let oid = const_oid::ObjectIdentifierRef::from_bytes(&[0x88, 0x37, 0x03])?;
+    /// assert_eq!(oid.encode_str(&mut [0; 8]), Some("2.999.3"));
+    /// # Ok::<(), const_oid::Error>(())
+    /// ```
+    pub fn encode_str<'o>(&self, out: &'o mut [u8]) -> Option<&'o str> {
+        self.erased().encode_str(out)
     }
 }
 

@@ -2,13 +2,14 @@
 //! derived, and what is left out.
 
 use crate::erase::{item_end, leave_out};
+use crate::examples::Examples;
 use crate::fault::{Fault, Result};
 use crate::table::Crate;
 use crate::token::{Kind, Token, close, is, solid, text};
 use std::collections::BTreeMap;
 
 /// How often each entry of a table was found.
-pub type Found = BTreeMap<(&'static str, &'static str), usize>;
+pub type Found = BTreeMap<(&'static str, String), usize>;
 
 /// A type, or a function that is no trait's.
 struct Item {
@@ -21,8 +22,13 @@ struct Item {
     end: usize,
 }
 
-/// The source as the table has it.
-pub fn fit(tokens: &[Token<'_>], table: &Crate, found: &mut Found) -> Result<String> {
+/// The source as the table has it, with the examples of public functions.
+pub fn fit(
+    tokens: &[Token<'_>],
+    table: &Crate,
+    examples: &Examples,
+    found: &mut Found,
+) -> Result<String> {
     let tokens = renamed(tokens, table, found);
     let tokens = without(&tokens, table, found);
     let mut out = String::new();
@@ -30,10 +36,16 @@ pub fn fit(tokens: &[Token<'_>], table: &Crate, found: &mut Found) -> Result<Str
     for item in items(&tokens) {
         out.push_str(&text(&tokens[at..item.head]));
         let head = text(&tokens[item.head..item.body]);
-        out.push_str(&fitted(&item.name, head, table, found)?);
+        let head = fitted(&item.name, head, table, found)?;
+        let is_public = head.contains("pub fn") || head.contains("pub const fn");
+        if is_public && table.shown.iter().any(|of| item.name.starts_with(of)) {
+            note(found, "example", &item.name);
+            out.push_str(&examples.of(&item.name)?);
+        }
+        out.push_str(&head);
         match table.bodies.iter().find(|body| body.of == item.name) {
             Some(body) => {
-                *found.entry(("body", body.of)).or_default() += 1;
+                note(found, "body", body.of);
                 out.push_str(body.rust);
             }
             None => out.push_str(&text(&tokens[item.body..item.end])),
@@ -48,7 +60,7 @@ pub fn fit(tokens: &[Token<'_>], table: &Crate, found: &mut Found) -> Result<Str
 pub fn all_found(table: &Crate, found: &Found) -> Result<()> {
     let entries = table.entries();
     for (kind, name, why) in &entries {
-        let count = found.get(&(*kind, *name)).copied().unwrap_or(0);
+        let count = found.get(&(*kind, name.to_string())).copied().unwrap_or(0);
         let same = entries
             .iter()
             .filter(|other| (other.0, other.1) == (*kind, *name));
@@ -62,11 +74,15 @@ pub fn all_found(table: &Crate, found: &Found) -> Result<()> {
     Ok(())
 }
 
+fn note(found: &mut Found, kind: &'static str, name: &str) {
+    *found.entry((kind, name.into())).or_default() += 1;
+}
+
 fn renamed<'a>(tokens: &[Token<'a>], table: &Crate, found: &mut Found) -> Vec<Token<'a>> {
     let mut out = tokens.to_vec();
     for token in out.iter_mut().filter(|token| token.kind == Kind::Word) {
         if let Some(entry) = table.renamed.iter().find(|entry| entry.from == token.text) {
-            *found.entry(("renamed", entry.from)).or_default() += 1;
+            note(found, "renamed", entry.from);
             token.text = entry.to;
         }
     }
@@ -79,8 +95,8 @@ fn without<'a>(tokens: &[Token<'a>], table: &Crate, found: &mut Found) -> Vec<To
     let mut at = 0;
     while at < tokens.len() {
         match leaving(tokens, at, table) {
-            Some(entry) => {
-                *found.entry(entry).or_default() += 1;
+            Some((kind, name)) => {
+                note(found, kind, name);
                 at = leave_out(&mut out, tokens, item_end(tokens, at));
             }
             None => {
@@ -204,7 +220,7 @@ fn fitted(name: &str, mut head: String, table: &Crate, found: &mut Found) -> Res
             let words = format!("the head of `{name}` cannot have `{to}` for `{from}`: {head}");
             return Err(Fault::new(0, words));
         }
-        *found.entry((kind, of)).or_default() += 1;
+        note(found, kind, of);
         head = head.replace(from, to);
     }
     Ok(head)

@@ -5,12 +5,14 @@
 //! `--check` it writes nothing, and ends with 1 where a file is not what it would write.
 
 mod erase;
+mod examples;
 mod fault;
 mod fit;
 mod names;
 mod table;
 mod token;
 
+use examples::Examples;
 use fault::{Fault, Result};
 use fit::Found;
 use std::path::{Path, PathBuf};
@@ -53,8 +55,19 @@ fn made(root: &Path) -> std::result::Result<Vec<File>, String> {
     let mut files = Vec::new();
     for table in table::CRATES {
         let mut found = Found::new();
-        modules(root, table, "lib", &mut found, &mut files)?;
+        let page = table
+            .examples
+            .map_or(Ok(String::new()), |page| read(root, page))?;
+        let page_at = |fault| at(table.examples.unwrap_or_default(), &fault);
+        let examples = Examples::read(&page).map_err(page_at)?;
+        modules(root, table, &examples, "lib", &mut found, &mut files)?;
         fit::all_found(table, &found).map_err(|fault| at(table.from, &fault))?;
+        let unused = |name: &&str| !found.contains_key(&("example", name.to_string()));
+        if let Some(name) = examples.names().find(unused) {
+            return Err(format!(
+                "an example of `{name}`, which is no public function"
+            ));
+        }
     }
     let names = names::names(&read(root, TABLE)?).map_err(|fault| at(TABLE, &fault))?;
     files.push((NAMES.into(), headed(TABLE, &names)));
@@ -65,13 +78,14 @@ fn made(root: &Path) -> std::result::Result<Vec<File>, String> {
 fn modules(
     root: &Path,
     table: &Crate,
+    examples: &Examples,
     module: &str,
     found: &mut Found,
     files: &mut Vec<File>,
 ) -> std::result::Result<(), String> {
     let path = format!("{}/{module}.rt", table.from);
     let source = read(root, &path)?;
-    let rust = rust(&source, table, found).map_err(|fault| at(&path, &fault))?;
+    let rust = rust(&source, table, examples, found).map_err(|fault| at(&path, &fault))?;
     let (name, folder) = match module {
         "lib" => ("mod", String::new()),
         module => (module, format!("{module}/")),
@@ -80,16 +94,23 @@ fn modules(
     for line in rust.lines().filter(|line| line.ends_with(';')) {
         let words = line.trim_end_matches(';').rsplit_once("mod ");
         if let Some(("" | "pub " | "pub(crate) ", module)) = words {
-            modules(root, table, &format!("{folder}{module}"), found, files)?;
+            modules(
+                root,
+                table,
+                examples,
+                &format!("{folder}{module}"),
+                found,
+                files,
+            )?;
         }
     }
     Ok(())
 }
 
 /// The Rust of one source.
-fn rust(source: &str, table: &Crate, found: &mut Found) -> Result<String> {
+fn rust(source: &str, table: &Crate, examples: &Examples, found: &mut Found) -> Result<String> {
     let tokens = erase::erase(&token::tokens(source)?, table.root)?;
-    fit::fit(&tokens, table, found)
+    fit::fit(&tokens, table, examples, found)
 }
 
 fn headed(from: &str, rust: &str) -> String {

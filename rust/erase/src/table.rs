@@ -17,6 +17,9 @@ pub struct Crate {
     pub heads: &'static [Head],
     pub renamed: &'static [Renamed],
     pub bodies: &'static [Body],
+    /// Types whose public functions have an example each, on the page of examples.
+    pub shown: &'static [&'static str],
+    pub examples: Option<&'static str>,
 }
 
 /// A module, an import or an impl that goes, and why.
@@ -280,4 +283,6 @@ pub const CRATES: &[Crate] = &[Crate {
             why: SHAPE,
         },
     ],
+    shown: &["Buffer::", "Database::", "Error::", "ObjectIdentifier::"],
+    examples: Some("rust/const-oid/examples.md"),
 }];

@@ -97,31 +97,3 @@ fn split_root(root: u64) -> (Arc, Arc) {
         (2, (root - 80) as Arc)
     }
 }
-
-/// The greatest first subidentifier: of the first arc 2 and the greatest second arc.
-const MAX_FIRST: u64 = 2 * 40 + Arc::MAX as u64;
-
-/// The fault of octets, whatever their number, if there is one.
-pub(crate) fn check(octets: &[u8]) -> Result<()> {
-    if octets.is_empty() {
-        return Err(Error::Empty);
-    }
-    let mut number: u64 = 0;
-    let mut limit = MAX_FIRST;
-    let mut begun = false;
-    for octet in octets {
-        if !begun && *octet == 0x80 {
-            return Err(Error::Base128);
-        }
-        number = number * 128 + (*octet % 128) as u64;
-        if number > limit {
-            return Err(Error::ArcTooBig);
-        }
-        begun = *octet >= 128;
-        if !begun {
-            number = 0;
-            limit = Arc::MAX as u64;
-        }
-    }
-    if begun { Err(Error::Base128) } else { Ok(()) }
-}

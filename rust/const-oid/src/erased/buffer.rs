@@ -7,7 +7,7 @@ use crate::erased::error::{Error, Result};
 use core::cmp::Ordering;
 use core::hash::{Hash, Hasher};
 
-/// Octets in use, at most the smaller of `SIZE` and 255.
+/// Octets in use: up to `SIZE`, and never past 255.
 ///
 /// Owned identifiers hold their octets in one, and their contracts name it: so it is public. This crate
 /// alone makes it, so there is no public constructor.
@@ -76,16 +76,34 @@ impl<const SIZE: usize> Buffer<SIZE> {
     }
 
     /// The octets in use.
+    ///
+    /// ```
+    /// fn octets<const SIZE: usize>(buffer: &const_oid::Buffer<SIZE>) -> &[u8] {
+    ///     buffer.as_bytes()
+    /// }
+    /// ```
     pub const fn as_bytes(&self) -> &[u8] {
         self.bytes.split_at(self.used as usize).0
     }
 
     /// How many octets are in use.
+    ///
+    /// ```
+    /// fn is_empty<const SIZE: usize>(buffer: &const_oid::Buffer<SIZE>) -> bool {
+    ///     buffer.len() == 0
+    /// }
+    /// ```
     pub const fn len(&self) -> usize {
         self.used as usize
     }
 
     /// Whether the octets in use are equal.
+    ///
+    /// ```
+    /// const fn are_equal(a: &const_oid::Buffer<39>, b: &const_oid::Buffer<39>) -> bool {
+    ///     a.eq(b)
+    /// }
+    /// ```
     pub const fn eq(&self, rhs: &Self) -> bool {
         let (a, b) = (self.as_bytes(), rhs.as_bytes());
         a.len() == b.len() && crate::erased::compare::are_equal(a, b)
@@ -106,15 +124,14 @@ const fn group_len(number: u64) -> usize {
 /// Fills a slice with the group of a number, which takes just so many octets.
 #[inline(always)]
 const fn write_group(octets: &mut [u8], number: u64) {
-    let last = octets.len() - 1;
-    let (prefix, end) = octets.split_at_mut(last);
-    let mut index = 0;
-    while index < last {
-        let digit = ((number >> (7 * (last - index))) & 0x7f) as u8;
-        prefix[index] = digit | 0x80;
-        index += 1;
+    let mut index = octets.len() - 1;
+    octets[index] = (number % 128) as u8;
+    let mut rest = number / 128;
+    while index > 0 {
+        index -= 1;
+        octets[index] = 128 + (rest % 128) as u8;
+        rest /= 128;
     }
-    end[0] = (number & 0x7f) as u8;
 }
 
 impl<const SIZE: usize> PartialOrd for Buffer<SIZE> {

@@ -15,11 +15,25 @@ pub struct Database<'a> {
 
 impl<'a> Database<'a> {
     /// A database over these entries.
+    ///
+    /// ```
+    /// use const_oid::{ObjectIdentifier, db::Database};
+    ///
+    /// const CN: ObjectIdentifier = ObjectIdentifier::new_unwrap("2.5.4.3");
+    /// const NAMES: Database<'static> = Database::new(&[(&CN, "cn"), (&CN, "commonName")]);
+    /// assert_eq!(NAMES.by_oid(&CN), Some("cn"));
+    /// ```
     pub const fn new(entries: &'a [(&'a ObjectIdentifier<39>, &'a str)]) -> Self {
         Database { entries }
     }
 
-    /// The name of the first entry with this identifier, or `None` where no entry has it.
+    /// The name that the first entry of this identifier has, or `None` without such an entry.
+    ///
+    /// ```
+    /// use const_oid::db::{DB, rfc4519};
+    ///
+    /// assert_eq!(DB.by_oid(&rfc4519::CN), Some("cn"));
+    /// ```
     pub const fn by_oid(&self, oid: &ObjectIdentifier<39>) -> Option<&'a str> {
         let mut left = self.entries;
         while let [entry, after @ ..] = left {
@@ -31,7 +45,13 @@ impl<'a> Database<'a> {
         None
     }
 
-    /// The identifier of the first entry with the same name, or `None` where no entry has it.
+    /// The identifier that the first entry of this name has, or `None` without such an entry.
+    ///
+    /// ```
+    /// use const_oid::db::{DB, rfc4519};
+    ///
+    /// assert_eq!(DB.by_name("CN"), Some(&rfc4519::CN));
+    /// ```
     pub const fn by_name(&self, name: &str) -> Option<&'a ObjectIdentifier<39>> {
         let mut left = self.entries;
         while let [entry, after @ ..] = left {
@@ -43,7 +63,15 @@ impl<'a> Database<'a> {
         None
     }
 
-    /// The names of all entries with this identifier, in table order.
+    /// The names of the identifier, one for each of its entries, as these stand in the table.
+    ///
+    /// ```
+    /// use const_oid::{ObjectIdentifier, db::Database};
+    ///
+    /// const CN: ObjectIdentifier = ObjectIdentifier::new_unwrap("2.5.4.3");
+    /// let names = Database::new(&[(&CN, "cn"), (&CN, "commonName")]);
+    /// assert!(names.find_names_for_oid(CN).eq(["cn", "commonName"]));
+    /// ```
     pub const fn find_names_for_oid(&self, oid: ObjectIdentifier<39>) -> Names<'a> {
         Names {
             left: self.entries,
@@ -53,6 +81,14 @@ impl<'a> Database<'a> {
 
     /// The name of the first entry with the identifier that the text denotes, or the text itself,
     /// byte for byte, where no entry has it. The errors are those of [`ObjectIdentifier::new`].
+    ///
+    /// ```
+    /// use const_oid::{Error, db::DB};
+    ///
+    /// assert_eq!(DB.resolve("2.5.4.3"), Ok("cn"));
+    /// assert_eq!(DB.resolve("2.999"), Ok("2.999"));
+    /// assert_eq!(DB.resolve("2."), Err(Error::TrailingDot));
+    /// ```
     pub fn resolve<'b>(&self, oid: &'b str) -> Result<&'b str>
     where
         'a: 'b,

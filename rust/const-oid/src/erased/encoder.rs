@@ -74,7 +74,7 @@ impl<const SIZE: usize> Encoder<SIZE> {
     }
 }
 
-/// The encoding of the arcs that an iterator gives, in at most the smaller of `SIZE` and 255 octets.
+/// The encoding of the arcs that an iterator gives, in up to `SIZE` octets, and never past 255.
 pub(crate) fn encode<const SIZE: usize, I: IntoIterator<Item = Arc>>(
     arcs: I,
 ) -> Result<Buffer<SIZE>> {

@@ -52,6 +52,10 @@ const MAX_TEXT_LEN: usize = 47;
 
 impl Error {
     /// The length of the text that `{}` writes.
+    ///
+    /// ```
+    /// assert_eq!(const_oid::Error::Length.text_len(), 18);
+    /// ```
     pub fn text_len(self) -> usize {
         let (before, after) = self.words();
         before.len() + self.shown_len() + after.len()
@@ -59,6 +63,12 @@ impl Error {
 
     /// Writes the text that `{}` writes at the prefix of `out`, and tells its length. `None` where it
     /// is longer than `out`, which then stays as it was.
+    ///
+    /// ```
+    /// let mut out = [0; 32];
+    /// let len = const_oid::Error::Length.encode_text(&mut out).unwrap();
+    /// assert_eq!(&out[..len], b"OID length invalid");
+    /// ```
     pub fn encode_text(self, out: &mut [u8]) -> Option<usize> {
         if out.len() < self.text_len() {
             return None;
@@ -70,6 +80,12 @@ impl Error {
     }
 
     /// Writes the text as [`encode_text`](Self::encode_text) does, and lends it.
+    ///
+    /// ```
+    /// let mut out = [0; 32];
+    /// let text = const_oid::Error::Length.encode_str(&mut out);
+    /// assert_eq!(text, Some("OID length invalid"));
+    /// ```
     pub fn encode_str<'o>(self, out: &'o mut [u8]) -> Option<&'o str> {
         let len = self.encode_text(out)?;
         Some(utf8(&out[..len]))

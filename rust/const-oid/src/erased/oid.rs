@@ -35,11 +35,27 @@ impl ObjectIdentifier<39> {
     /// - [`Error::ArcInvalid`]: it is the first one and past 2, or the second, past 39 and after 0 or 1 (X.660);
     /// - [`Error::Length`]: the arcs up to it take more than 39 octets (X.690, 8.19);
     /// - [`Error::Empty`]: it is the only one.
+    ///
+    /// ```
+    /// use const_oid::{Error, ObjectIdentifier};
+    ///
+    /// let oid = ObjectIdentifier::new("2.999.3")?;
+    /// assert_eq!(oid.as_bytes(), [0x88, 0x37, 0x03]);
+    /// assert_eq!(ObjectIdentifier::new("1.40"), Err(Error::ArcInvalid { arc: 40 }));
+    /// # Ok::<(), Error>(())
+    /// ```
     pub const fn new(s: &str) -> Result<Self> {
         Self::new_sized(s)
     }
 
     /// Reads dotted text that is known to have no fault, as a literal.
+    ///
+    /// ```
+    /// use const_oid::ObjectIdentifier;
+    ///
+    /// const CN: ObjectIdentifier = ObjectIdentifier::new_unwrap("2.5.4.3");
+    /// assert_eq!(CN.to_string(), "2.5.4.3");
+    /// ```
     pub const fn new_unwrap(s: &str) -> Self {
         match Self::new(s) {
             Ok(oid) => oid,
@@ -58,12 +74,28 @@ impl ObjectIdentifier<39> {
     /// iterator ended, of exactly these: `[1]` is `Empty`, and `[1, 2]` is not. For an array, a slice's
     /// `iter().copied()` or a `Vec`, whose items are known, the checker finds the exact answer by
     /// itself; for [`Arcs`] the lemma `exact_answer` gives it.
+    ///
+    /// ```
+    /// use const_oid::{Error, ObjectIdentifier};
+    ///
+    /// assert_eq!(ObjectIdentifier::from_arcs([2, 999])?.to_string(), "2.999");
+    /// assert_eq!(ObjectIdentifier::from_arcs([3, 1]), Err(Error::ArcInvalid { arc: 3 }));
+    /// # Ok::<(), Error>(())
+    /// ```
     pub fn from_arcs<I: IntoIterator<Item = Arc>>(arcs: I) -> Result<Self> {
         Self::from_arcs_sized(arcs)
     }
 
-    /// Reads contents octets (X.690, 8.19), of which at most 39 fit, as
+    /// Reads contents octets (X.690, 8.19), without tag and length, of which at most 39 fit, as
     /// [`from_bytes_sized`](Self::from_bytes_sized) does.
+    ///
+    /// ```
+    /// use const_oid::{Error, ObjectIdentifier};
+    ///
+    /// assert_eq!(ObjectIdentifier::from_bytes(&[0x88, 0x37])?.to_string(), "2.999");
+    /// assert_eq!(ObjectIdentifier::from_bytes(&[0x2A, 0x80, 0x01]), Err(Error::Base128));
+    /// # Ok::<(), Error>(())
+    /// ```
     #[inline(always)]
     pub fn from_bytes(ber_bytes: &[u8]) -> Result<Self> {
         Self::from_bytes_sized(ber_bytes)
@@ -87,12 +119,29 @@ impl<const MAX_SIZE: usize> ObjectIdentifier<MAX_SIZE> {
     ///   with 0x80, that its number is past 32 bits (past 4294967375 in the first group, which holds
     ///   two arcs), or that it does not end;
     /// - [`Error::Length`]: there are more octets than fit.
+    ///
+    /// Tag and length are not read away: a whole `06 09 2A ..` is no error, but another identifier,
+    /// 0.6.9.42 and so on.
+    ///
+    /// ```
+    /// use const_oid::{Error, ObjectIdentifier};
+    ///
+    /// assert!(ObjectIdentifier::<2>::from_bytes_sized(&[0x88, 0x37]).is_ok());
+    /// assert_eq!(ObjectIdentifier::<1>::from_bytes_sized(&[0x88, 0x37]), Err(Error::Length));
+    /// ```
     #[inline(always)]
     pub fn from_bytes_sized(ber_bytes: &[u8]) -> Result<Self> {
         Self::try_from_ref(ObjectIdentifierRef::from_bytes(ber_bytes)?)
     }
 
     /// Reads dotted text as [`new`](Self::new) does, where [`Error::Length`] is of more octets than fit.
+    ///
+    /// ```
+    /// use const_oid::{Error, ObjectIdentifier};
+    ///
+    /// assert!(ObjectIdentifier::<3>::new_sized("2.999.3").is_ok());
+    /// assert_eq!(ObjectIdentifier::<2>::new_sized("2.999.3"), Err(Error::Length));
+    /// ```
     pub const fn new_sized(s: &str) -> Result<Self> {
         match parse(s) {
             Ok(ber) => Ok(ObjectIdentifier { ber }),
@@ -102,6 +151,13 @@ impl<const MAX_SIZE: usize> ObjectIdentifier<MAX_SIZE> {
 
     /// Encodes the arcs that an iterator gives as [`from_arcs`](Self::from_arcs) does, where
     /// [`Error::Length`] is of more octets than fit.
+    ///
+    /// ```
+    /// use const_oid::{Error, ObjectIdentifier};
+    ///
+    /// assert!(ObjectIdentifier::<2>::from_arcs_sized([2, 999]).is_ok());
+    /// assert_eq!(ObjectIdentifier::<1>::from_arcs_sized([2, 999]), Err(Error::Length));
+    /// ```
     pub fn from_arcs_sized<I: IntoIterator<Item = Arc>>(arcs: I) -> Result<Self> {
         let ber = encode(arcs)?;
         Ok(ObjectIdentifier { ber })
@@ -115,6 +171,12 @@ impl<const MAX_SIZE: usize> ObjectIdentifier<MAX_SIZE> {
     }
 
     /// The contents octets.
+    ///
+    /// ```
+    /// use const_oid::ObjectIdentifier;
+    ///
+    /// assert_eq!(ObjectIdentifier::new_unwrap("1.2.840").as_bytes(), [0x2A, 0x86, 0x48]);
+    /// ```
     pub const fn as_bytes(&self) -> &[u8] {
         self.ber.as_bytes()
     }
@@ -125,37 +187,85 @@ impl<const MAX_SIZE: usize> ObjectIdentifier<MAX_SIZE> {
     }
 
     /// The arc at a place, counted from 0, or `None` past the last.
+    ///
+    /// ```
+    /// use const_oid::ObjectIdentifier;
+    ///
+    /// let oid = ObjectIdentifier::new_unwrap("2.999");
+    /// assert_eq!((oid.arc(1), oid.arc(2)), (Some(999), None));
+    /// ```
     pub fn arc(&self, index: usize) -> Option<Arc> {
         self.borrowed().arc(index)
     }
 
     /// All arcs, in order.
+    ///
+    /// ```
+    /// use const_oid::ObjectIdentifier;
+    ///
+    /// assert!(ObjectIdentifier::new_unwrap("2.999.3").arcs().eq([2, 999, 3]));
+    /// ```
     pub fn arcs(&self) -> Arcs<'_> {
         self.borrowed().arcs()
     }
 
     /// How many arcs there are.
+    ///
+    /// ```
+    /// use const_oid::ObjectIdentifier;
+    ///
+    /// assert_eq!(ObjectIdentifier::new_unwrap("2.999.3").len(), 3);
+    /// ```
     pub fn len(&self) -> usize {
         self.borrowed().len()
     }
 
     /// The length of the text that `{}` writes.
+    ///
+    /// ```
+    /// use const_oid::ObjectIdentifier;
+    ///
+    /// assert_eq!(ObjectIdentifier::new_unwrap("2.999").text_len(), 5);
+    /// ```
     pub fn text_len(&self) -> usize {
         self.borrowed().text_len()
     }
 
     /// Writes the text that `{}` writes at the prefix of `out`, and tells its length. `None` where it
     /// is longer than `out`, which then stays as it was.
+    ///
+    /// ```
+    /// use const_oid::ObjectIdentifier;
+    ///
+    /// let mut out = [0; 8];
+    /// assert_eq!(ObjectIdentifier::new_unwrap("2.999").encode_text(&mut out), Some(5));
+    /// assert_eq!(&out, b"2.999\0\0\0");
+    /// ```
     pub fn encode_text(&self, out: &mut [u8]) -> Option<usize> {
         self.borrowed().encode_text(out)
     }
 
     /// Writes the text as [`encode_text`](Self::encode_text) does, and lends it.
+    ///
+    /// ```
+    /// use const_oid::ObjectIdentifier;
+    ///
+    /// let mut out = [0; 8];
+    /// assert_eq!(ObjectIdentifier::new_unwrap("2.999").encode_str(&mut out), Some("2.999"));
+    /// ```
     pub fn encode_str<'o>(&self, out: &'o mut [u8]) -> Option<&'o str> {
         self.borrowed().encode_str(out)
     }
 
     /// The identifier of all arcs but the last, or `None` of two arcs.
+    ///
+    /// ```
+    /// use const_oid::ObjectIdentifier;
+    ///
+    /// let top = ObjectIdentifier::new_unwrap("2.999");
+    /// assert_eq!(ObjectIdentifier::new_unwrap("2.999.3").parent(), Some(top));
+    /// assert_eq!(top.parent(), None);
+    /// ```
     pub fn parent(&self) -> Option<Self> {
         let parent = self.borrowed().parent()?;
         let ber = Buffer::copied(parent.as_bytes());
@@ -163,6 +273,14 @@ impl<const MAX_SIZE: usize> ObjectIdentifier<MAX_SIZE> {
     }
 
     /// The identifier of these arcs and one more, or [`Error::Length`] where its octets do not fit.
+    ///
+    /// ```
+    /// use const_oid::{Error, ObjectIdentifier};
+    ///
+    /// const CHILD: Result<ObjectIdentifier, Error> = ObjectIdentifier::new_unwrap("2.999").push_arc(3);
+    /// assert_eq!(CHILD?.to_string(), "2.999.3");
+    /// # Ok::<(), Error>(())
+    /// ```
     pub const fn push_arc(self, arc: Arc) -> Result<Self> {
         let mut ber = self.ber;
         match ber.push_group(arc as u64) {
@@ -172,13 +290,32 @@ impl<const MAX_SIZE: usize> ObjectIdentifier<MAX_SIZE> {
     }
 
     /// Whether the arcs begin with all those of another identifier, which may be all of these.
+    ///
+    /// ```
+    /// use const_oid::ObjectIdentifier;
+    ///
+    /// let (top, oid) = (ObjectIdentifier::new_unwrap("2.999"), ObjectIdentifier::new_unwrap("2.999.3"));
+    /// assert!(oid.starts_with(top) && !top.starts_with(oid));
+    /// ```
     #[inline(always)]
     pub const fn starts_with<const SIZE: usize>(&self, other: ObjectIdentifier<SIZE>) -> bool {
         self.borrowed().starts_with(&other.borrowed())
     }
+
+    /// The order of the arcs, a prefix before what begins with it, as SNMP orders names (RFC 3416).
+    ///
+    /// ```
+    /// use const_oid::ObjectIdentifier;
+    ///
+    /// let (short, long) = (ObjectIdentifier::new_unwrap("2.5"), ObjectIdentifier::new_unwrap("1.2.3"));
+    /// assert!(long.cmp_arcs(&short).is_lt() && short < long);
+    /// ```
+    pub fn cmp_arcs<const SIZE: usize>(&self, other: &ObjectIdentifier<SIZE>) -> Ordering {
+        self.borrowed().cmp_arcs(&other.borrowed())
+    }
 }
 
-/// The arcs in decimal, joined by dots. The contract speaks of a plain `{}`.
+/// The arcs in decimal, joined by dots, whatever the options.
 impl<const MAX_SIZE: usize> fmt::Display for ObjectIdentifier<MAX_SIZE> {
     fn fmt(&self, f: &mut fmt::Formatter<'_>) -> fmt::Result {
         fmt::Display::fmt(&self.borrowed(), f)
@@ -191,7 +328,8 @@ impl<const MAX_SIZE: usize> fmt::Debug for ObjectIdentifier<MAX_SIZE> {
     }
 }
 
-/// Fewer octets first, and with as many the octets in list order.
+/// Fewer octets first, and with as many the octets in list order. This is not the order of arcs: see
+/// [`cmp_arcs`](ObjectIdentifierRef::cmp_arcs).
 impl<const MAX_SIZE: usize> Ord for ObjectIdentifier<MAX_SIZE> {
     fn cmp(&self, other: &Self) -> Ordering {
         self.ber.cmp(&other.ber)

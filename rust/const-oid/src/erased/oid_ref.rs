@@ -8,7 +8,7 @@ use crate::erased::digits::{MAX_ARC_LEN, write_arc};
 use crate::erased::error::{Error, Result};
 use crate::erased::oid::ObjectIdentifier;
 use crate::erased::parts::{count_parts, without_last_part};
-use crate::erased::text::{text_len, utf8, write_text};
+use crate::erased::text::{text_len, utf8, write_root, write_text};
 use crate::erased::valid::check;
 use core::cmp::Ordering;
 use core::fmt;
@@ -30,6 +30,9 @@ impl<'a> ObjectIdentifierRef<'a> {
     ///   with 0x80, that its number is past 32 bits (past 4294967375 in the first group, which holds
     ///   two arcs), or that it does not end;
     /// - [`Error::Length`]: there are more than 2^63 - 1 octets, which no slice has.
+    ///
+    /// Tag and length are not read away: a whole `06 09 2A ..` is no error, but another identifier,
+    /// 0.6.9.42 and so on.
     #[inline(always)]
     pub fn from_bytes(ber: &'a [u8]) -> Result<Self> {
         check(ber)?;
@@ -125,15 +128,12 @@ impl<'a> ObjectIdentifierRef<'a> {
 /// The most bytes of a text that `{}` hands on at a time.
 const PIECE: usize = 64;
 
-/// The arcs in decimal, joined by dots. The contract speaks of a plain `{}`.
+/// The arcs in decimal, joined by dots, whatever the options.
 impl fmt::Display for ObjectIdentifierRef<'_> {
     fn fmt(&self, f: &mut fmt::Formatter<'_>) -> fmt::Result {
         let mut bytes = [0; PIECE];
         let mut arcs = self.arcs();
-        let mut used = match arcs.next() {
-            Some(first) => write_arc(first, true, &mut bytes, 0),
-            None => 0,
-        };
+        let mut used = write_root(&mut arcs, &mut bytes);
         for arc in arcs {
             if used > PIECE - MAX_ARC_LEN {
                 f.write_str(utf8(&bytes[..used]))?;
@@ -163,7 +163,10 @@ impl PartialOrd for ObjectIdentifierRef<'_> {
     }
 }
 
-/// The octets in list order, a prefix before what begins with it.
+/// The order of octets: list order, a prefix before what begins with it.
+///
+/// In it a subtree is one run. It is not the order of SNMP (RFC 3416), which is that of arcs: see
+/// [`cmp_arcs`](ObjectIdentifierRef::cmp_arcs).
 impl Ord for ObjectIdentifierRef<'_> {
     fn cmp(&self, other: &Self) -> Ordering {
         order(self.ber, other.ber)

@@ -7,7 +7,7 @@ use crate::erased::buffer::Buffer;
 use crate::erased::encoder::Encoder;
 use crate::erased::error::{Error, Result};
 
-/// The encoding of the identifier that a text denotes, in at most the smaller of `SIZE` and 255 octets.
+/// The encoding of the identifier that a text denotes, in up to `SIZE` octets, and never past 255.
 pub(crate) const fn parse<const SIZE: usize>(text: &str) -> Result<Buffer<SIZE>> {
     // A longer array holds no more octets: an encoder of it could be too large for the memory.
     if SIZE > 255 {
@@ -25,29 +25,28 @@ const fn parse_within<const SIZE: usize>(text: &str) -> Result<Buffer<SIZE>> {
     let bytes = text.as_bytes();
     let mut encoder = Encoder::new();
     let mut number: u64 = 0;
-    let mut begun = false;
+    let mut start = 0;
     let mut index = 0;
     while index < bytes.len() {
         let byte = bytes[index];
-        if byte.is_ascii_digit() {
-            number = number * 10 + digit(byte);
+        if let Some(digit) = digit(byte) {
+            number = number * 10 + digit;
             if number > Arc::MAX as u64 {
                 return Err(Error::ArcTooBig);
             }
-            begun = true;
         } else if byte == b'.' {
-            let piece = given(begun, number as Arc);
+            let piece = given(start < index, number as Arc);
             if let Err(fault) = end_piece(&mut encoder, piece, index + 1 == bytes.len()) {
                 return Err(fault);
             }
             number = 0;
-            begun = false;
+            start = index + 1;
         } else {
             return Err(Error::DigitExpected { actual: byte });
         }
         index += 1;
     }
-    let piece = given(begun, number as Arc);
+    let piece = given(start < index, number as Arc);
     if let Err(fault) = end_text(&mut encoder, piece) {
         return Err(fault);
     }
@@ -55,8 +54,11 @@ const fn parse_within<const SIZE: usize>(text: &str) -> Result<Buffer<SIZE>> {
 }
 
 /// The number that a digit stands for.
-const fn digit(byte: u8) -> u64 {
-    (byte - b'0') as u64
+#[inline(always)]
+const fn digit(byte: u8) -> Option<u64> {
+    // One subtraction and one comparison.
+    let number = (byte as u64).wrapping_sub(b'0' as u64);
+    if number < 10 { Some(number) } else { None }
 }
 
 /// The number of a piece, where it has a digit.
@@ -64,7 +66,9 @@ const fn given(begun: bool, number: Arc) -> Option<Arc> {
     if begun { Some(number) } else { None }
 }
 
-/// Ends a piece at a dot.
+/// Ends a piece at a dot. At the end of the text there is a last piece that is empty, which is told
+/// before a fault of the arc.
+#[inline(always)]
 const fn end_piece<const SIZE: usize>(
     encoder: &mut Encoder<SIZE>,
     number: Option<Arc>,
@@ -73,12 +77,15 @@ const fn end_piece<const SIZE: usize>(
     match number {
         None if encoder.is_empty() => Err(Error::DigitExpected { actual: b'.' }),
         None => Err(Error::RepeatedDot),
-        Some(_) if text_ends => Err(Error::TrailingDot),
-        Some(arc) => encoder.arc(arc),
+        Some(arc) => match encoder.arc(arc) {
+            Err(_) if text_ends => Err(Error::TrailingDot),
+            answer => answer,
+        },
     }
 }
 
 /// Ends the last piece, and with it the text.
+#[inline(always)]
 const fn end_text<const SIZE: usize>(encoder: &mut Encoder<SIZE>, number: Option<Arc>) -> Result<()> {
     match number {
         None if encoder.is_empty() => Err(Error::Empty),

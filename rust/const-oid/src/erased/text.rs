@@ -23,13 +23,25 @@ pub(crate) fn text_len(arcs: Arcs<'_>, limit: usize) -> Option<usize> {
 
 /// Writes the arcs' text at the prefix, and tells its length.
 pub(crate) fn write_text(arcs: Arcs<'_>, out: &mut [u8]) -> usize {
-    let mut at = 0;
-    let mut is_first = true;
-    for arc in arcs {
-        at = write_arc(arc, is_first, out, at);
-        is_first = false;
+    let mut left = arcs;
+    let mut at = write_root(&mut left, out);
+    for arc in left {
+        at = write_arc(arc, false, out, at);
     }
     at
+}
+
+/// Takes the first two arcs, writes them at the prefix, and tells the length.
+#[inline(always)]
+pub(crate) fn write_root(arcs: &mut Arcs<'_>, out: &mut [u8]) -> usize {
+    let Some(first) = arcs.next() else {
+        return 0;
+    };
+    let at = write_arc(first, true, out, 0);
+    let Some(second) = arcs.next() else {
+        return at;
+    };
+    write_arc(second, false, out, at)
 }
 
 /// Writes bytes at a place, and tells the place after them.

@@ -1,85 +1,60 @@
 // Made from crates/const_oid/src/valid.rt by rust/erase: edited there.
 
-//! Octets checked for faults, of which most have none: that is told first, by windows of five octets
-//! or by groups.
+//! Octets checked for faults (X.690, 8.19.2).
 
-use crate::erased::arcs;
-use crate::erased::error::Result;
+use crate::erased::arcs::Arc;
+use crate::erased::error::{Error, Result};
+
+/// The greatest first subidentifier: of the first arc 2 and the greatest second arc.
+const MAX_FIRST: u64 = 2 * 40 + Arc::MAX as u64;
 
 /// The fault of octets, whatever their number, if there is one.
-#[inline(always)]
-pub(crate) fn check(octets: &[u8]) -> Result<()> {
-    if is_valid(octets) {
-        Ok(())
-    } else {
-        arcs::check(octets)
-    }
-}
-
-/// Whether octets have no fault. It may miss it.
 #[inline(never)]
-fn is_valid(octets: &[u8]) -> bool {
+pub(crate) fn check(octets: &[u8]) -> Result<()> {
     if octets.is_empty() {
-        return false;
+        return Err(Error::Empty);
     }
-    if octets.len() > 16 && octets[0] < 128 {
-        are_windows_valid(octets)
-    } else {
-        are_groups_valid(octets)
-    }
-}
-
-/// Whether octets after one below 128 have no fault, told group by group. It may miss it, as it takes
-/// groups of at most four octets.
-#[inline(always)]
-fn are_groups_valid(octets: &[u8]) -> bool {
     let mut rest = octets;
-    while let [first, after @ ..] = rest {
-        if *first < 128 {
-            rest = after;
-            continue;
-        }
-        if *first == 128 {
-            return false;
-        }
-        rest = match after {
-            [a, after @ ..] if *a < 128 => after,
-            [_, b, after @ ..] if *b < 128 => after,
-            [_, _, c, after @ ..] if *c < 128 => after,
-            _ => return false,
+    let mut limit = MAX_FIRST;
+    while !rest.is_empty() {
+        rest = match skip_group(rest, limit) {
+            Ok(after) => after,
+            Err(fault) => return Err(fault),
         };
+        limit = Arc::MAX as u64;
     }
-    true
+    Ok(())
 }
 
-/// Whether octets after the first have no fault, told by each octet and the four before it.
-fn are_windows_valid(octets: &[u8]) -> bool {
-    if octets[octets.len() - 1] >= 128 || has_empty_first(octets) {
-        return false;
-    }
-    !has_long_group(octets)
-}
-
-/// Whether an octet 128 follows one below 128.
+/// The octets after the first group, or its fault. Most groups are short, and too short for a number
+/// past the limit.
 #[inline(always)]
-fn has_empty_first(octets: &[u8]) -> bool {
-    let mut found = false;
-    for i in 1..octets.len() {
-        found |= (octets[i - 1] < 128) & (octets[i] == 0x80);
+fn skip_group(octets: &[u8], limit: u64) -> Result<&[u8]> {
+    match octets {
+        [a, after @ ..] if *a < 128 => Ok(after),
+        [a, ..] if *a == 128 => Err(Error::Base128),
+        [_, b, after @ ..] if *b < 128 => Ok(after),
+        [_, _, c, after @ ..] if *c < 128 => Ok(after),
+        [_, _, _, d, after @ ..] if *d < 128 => Ok(after),
+        [a, _, _, _, e, after @ ..] if *a < 144 && *e < 128 => Ok(after),
+        _ => skip_long_group(octets, limit),
     }
-    found
 }
 
-/// Whether four octets of 128 or more in a row begin with 144 or more, or after a fifth.
-#[inline(always)]
-fn has_long_group(octets: &[u8]) -> bool {
-    let mut found = false;
-    for i in 4..octets.len() {
-        found |= (octets[i] >= 128)
-            & (octets[i - 1] >= 128)
-            & (octets[i - 2] >= 128)
-            & (octets[i - 3] >= 128)
-            & ((octets[i - 3] >= 144) | (octets[i - 4] >= 128));
+/// The octets after the first group, or its fault, by its number.
+fn skip_long_group(octets: &[u8], limit: u64) -> Result<&[u8]> {
+    let mut number: u64 = 0;
+    let mut index = 0;
+    while index < octets.len() {
+        let octet = octets[index];
+        number = number * 128 + (octet % 128) as u64;
+        if number > limit {
+            return Err(Error::ArcTooBig);
+        }
+        if octet < 128 {
+            return Ok(octets.split_at(index + 1).1);
+        }
+        index += 1;
     }
-    found
+    Err(Error::Base128)
 }
