@@ -1,22 +1,22 @@
 -- What an encoder holds, and what one more arc makes of it.
-use Rattle.std.proofs.Common.{◌≡◌, ℕ, ◌+◌, ◌*◌, ◌≤◌, List, [], ◌∷◌, ◌++◌, length, nat_lt, sym, ap, ◌∙◌, subst, arith}
-use Rattle.const_oid.specs.declared.encoder.State.{State}
-use Rattle.const_oid.specs.declared.encoder.State.TheVariants.{FirstArc, Body}
+use Rattle.std.proofs.Common.{◌≡◌, ℕ, ◌+◌, ◌*◌, ◌<◌, ◌≤◌, List, [], ◌∷◌, ◌++◌, length, nat_lt, Option, Some, None, Result, Ok, Err, OnOk, OnErr, MatchResult, sym, ap, ◌∙◌, subst, arith}
+use Rattle.std.specs.Result.{result_err}
+use Rattle.const_oid.specs.declared.error.Error.{Error}
 use Rattle.const_oid.specs.declared.error.Error.TheVariants.{ArcInvalid, Length}
 use Rattle.const_oid.specs.Base128.{width, GoesOn}
 use Rattle.const_oid.specs.Identifier.{RootRule, max_arc, max_second, IsEncoding}
-use Rattle.const_oid.specs.Contents.{arcs_of_octets}
 use Rattle.const_oid.specs.Faults.{fault_if}
 use Rattle.const_oid.specs.Items.{arc_fault}
 use Rattle.const_oid.specs.Encoder.{arcs_given, IsStarted}
-use Rattle.const_oid.proofs.Faults.{none_from_below}
+use Rattle.const_oid.proofs.Faults.{none_from_below, some_from_above}
 use Rattle.const_oid.proofs.Encodings.{arcs_of_encoding, encoding_back}
 use Rattle.const_oid.proofs.Lengths.{size_push}
 use Rattle.const_oid.proofs.Children.{encoding_two, child_encoding}
 
 -- the octets in use are the encoding of the arcs given
-body_from_encoding : (rule : RootRule) (octets given : List ℕ) → IsEncoding rule given octets → IsStarted rule Body octets × (arcs_given Body octets ≡ given)
-body_from_encoding rule octets given e = (encoding_back rule given octets e, arcs_of_encoding rule given octets e)
+started_from_encoding : (rule : RootRule) (first : ℕ) (octets given : List ℕ) → IsEncoding rule given octets → IsStarted rule (Some first) octets × (arcs_given (Some first) octets ≡ given)
+started_from_encoding rule first [] given e = absurd (encoding_back rule given [] e).identifier
+started_from_encoding rule first (x ∷ xs) given e = (encoding_back rule given (x ∷ xs) e, arcs_of_encoding rule given (x ∷ xs) e)
 
 later_fault : (rule : RootRule) (octets given : List ℕ) (arc capacity : ℕ) → IsEncoding rule given octets → arc_fault rule capacity given arc ≡ fault_if (nat_lt capacity (length octets + width arc)) Length
 later_fault rule octets [] arc capacity e = absurd e.identifier
@@ -24,26 +24,42 @@ later_fault rule octets (a ∷ []) arc capacity e = absurd e.identifier
 later_fault rule octets (a ∷ b ∷ later) arc capacity e = ap (λ n. fault_if (nat_lt capacity n) Length) (size_push rule (a ∷ b ∷ later) octets arc e)
 
 -- the number stands for an arc after those given: its group makes the encoding longer, and its width tells the fault
-pub record Encodes (rule : RootRule) (octets given : List ℕ) (arc number : ℕ) : Type 0 where
-  pub step : (longer : List ℕ) → GoesOn number octets longer → IsStarted rule Body longer × (arcs_given Body longer ≡ given ++ arc ∷ [])
+pub record Encodes (rule : RootRule) (first : Option ℕ) (octets given : List ℕ) (arc number : ℕ) : Type 0 where
+  pub step : (longer : List ℕ) → GoesOn number octets longer → IsStarted rule first longer × (arcs_given first longer ≡ given ++ arc ∷ [])
   pub fault : (capacity : ℕ) → arc_fault rule capacity given arc ≡ fault_if (nat_lt capacity (length octets + width number)) Length
 
 -- after two arcs or more, the arc itself
-pub later_number : (rule : RootRule) (state : State) (octets given : List ℕ) (arc number : ℕ) → state ≡ Body → IsStarted rule state octets → arcs_given state octets ≡ given → arc ≤ max_arc → number ≡ arc → Encodes rule octets given arc number
-later_number rule state octets given arc number is started view small value =
-    let e : arcs_of_octets octets ≡ given = ap (λ s. arcs_given s octets) (sym is) ∙ view in
-    let encoding : IsEncoding rule given octets = subst (λ arcs. IsEncoding rule arcs octets) e (subst (λ s. IsStarted rule s octets) is started) in
+pub later_number : (rule : RootRule) (first : Option ℕ) (octets given : List ℕ) (arc number : ℕ) → 0 < length octets → IsStarted rule first octets → arcs_given first octets ≡ given → arc ≤ max_arc → number ≡ arc → Encodes rule first octets given arc number
+later_number rule None octets given arc number some started view small value = let none : length octets ≡ 0 = ap length started in absurd (omega arith)
+later_number rule (Some first) [] given arc number some started view small value = absurd (omega arith)
+later_number rule (Some first) (x ∷ xs) given arc number some started view small value =
+    let encoding : IsEncoding rule given (x ∷ xs) = subst (λ arcs. IsEncoding rule arcs (x ∷ xs)) view started in
     rw value record {
-      step = λ longer more. body_from_encoding rule longer (given ++ arc ∷ []) (child_encoding rule given octets longer arc encoding small more);
-      fault = λ capacity. later_fault rule octets given arc capacity encoding;
+      step = λ longer more. started_from_encoding rule first longer (given ++ arc ∷ []) (child_encoding rule given (x ∷ xs) longer arc encoding small more);
+      fault = λ capacity. later_fault rule (x ∷ xs) given arc capacity encoding;
     }
 
 -- after one arc, the number of the first two
-pub second_number : (rule : RootRule) (state : State) (octets given : List ℕ) (first second number : ℕ) → state ≡ FirstArc first → IsStarted rule state octets → arcs_given state octets ≡ given → second ≤ max_second rule first → number ≡ 40 * first + second → Encodes rule octets given second number
-second_number rule state octets given first second number is started view small value =
-    let root : (octets ≡ []) × (first ≤ 2) = subst (λ s. IsStarted rule s octets) is started in
-    let one : given ≡ first ∷ [] = sym view ∙ ap (λ s. arcs_given s octets) is in
-    rw (value, root.0, one) record {
-      step = λ longer (group, g, on). rw on (body_from_encoding rule group (first ∷ second ∷ []) (encoding_two rule first second group root.1 small g));
+pub second_number : (rule : RootRule) (state : Option ℕ) (octets given : List ℕ) (first second number : ℕ) → length octets ≤ 0 → state ≡ Some first → IsStarted rule state octets → arcs_given state octets ≡ given → second ≤ max_second rule first → number ≡ 40 * first + second → Encodes rule state octets given second number
+second_number rule state (x ∷ xs) given first second number none is started view small value = absurd (omega arith)
+second_number rule state [] given first second number none is started view small value =
+    let root : first ≤ 2 = subst (λ s. IsStarted rule s []) is started in
+    let one : given ≡ first ∷ [] = sym view ∙ ap (λ s. arcs_given s []) is in
+    rw (is, value, one) record {
+      step = λ longer (group, g, on). rw on (started_from_encoding rule first group (first ∷ second ∷ []) (encoding_two rule first second group root small g));
       fault = λ capacity. rw (none_from_below (max_second rule first) second (ArcInvalid second) small) (ap (λ n. fault_if (nat_lt capacity n) Length) (omega arith));
     }
+
+-- what becomes of the encoder where the group of the number is appended, or does not fit
+pub record IsPushed {X : Type 0} (rule : RootRule) (capacity : ℕ) (first : Option ℕ) (longer given : List ℕ) (arc : ℕ) (result : Result X Error) : Type 0 where
+  pub started : IsStarted rule first longer
+  pub fault : result_err result ≡ arc_fault rule capacity given arc
+  pub more : OnOk result (arcs_given first longer ≡ given ++ arc ∷ [])
+
+pub pushed : {X : Type 0} (rule : RootRule) (capacity : ℕ) (first : Option ℕ) (octets longer given : List ℕ) (arc number : ℕ) (result : Result X Error) → Encodes rule first octets given arc number → IsStarted rule first octets
+    → MatchResult result (λ _. length octets + width number ≤ capacity) (λ fault. (fault ≡ Length) × (capacity < length octets + width number)) → OnOk result (GoesOn number octets longer) → OnErr result (longer ≡ octets) → IsPushed rule capacity first longer given arc result
+pushed rule capacity first octets longer given arc number (Ok x) n started fits on same =
+    let (still, more) = n.step longer on in
+    record { started = still; fault = sym (n.fault capacity ∙ none_from_below _ _ Length fits); more = more }
+pushed rule capacity first octets longer given arc number (Err fault) n started fits on same =
+    record { started = rw same started; fault = ap Some fits.0 ∙ sym (n.fault capacity ∙ some_from_above _ _ Length fits.1); more = tt }

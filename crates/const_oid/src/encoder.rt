@@ -13,23 +13,12 @@ use crate::buffer::Buffer;
 use crate::error::{Error, Result};
 use std::marker::Model;
 
-/// How far an encoder has come.
-#[derive(Copy, Clone)]
-enum State {
-    /// No arc was given.
-    Initial,
-
-    /// One arc was given.
-    FirstArc(Arc),
-
-    /// Two arcs or more were given.
-    Body,
-}
-
 /// An encoder of arcs at a capacity, the smaller of `SIZE` and 255 octets.
 #[derive(Drop)]
 pub(crate) struct Encoder<const SIZE: usize> {
-    state: State,
+    /// The first arc, where it was given.
+    first: Option<Arc>,
+    /// The encoding, where two arcs or more were given.
     octets: Buffer<SIZE>,
 }
 
@@ -42,9 +31,9 @@ impl<const SIZE: usize> Model for Encoder<SIZE> {
     ghost use Rattle.const_oid.specs.Buffer.{octets_of};
     ghost use Rattle.const_oid.specs.Encoder.{arcs_given, IsStarted};
 
-    ghost view = { λ encoder. arcs_given encoder.state (octets_of encoder.octets) };
+    ghost view = { λ encoder. arcs_given encoder.first (octets_of encoder.octets) };
 
-    ghost invariant = { λ encoder. IsStarted root_rule encoder.state (octets_of encoder.octets) };
+    ghost invariant = { λ encoder. IsStarted root_rule encoder.first (octets_of encoder.octets) };
 }
 
 impl<const SIZE: usize> Encoder<SIZE> {
@@ -53,16 +42,16 @@ impl<const SIZE: usize> Encoder<SIZE> {
         ensures { result ≡ [] }
     {
         Encoder {
-            state: State::Initial,
+            first: None,
             octets: Buffer::empty(),
         }
     }
 
     /// Whether no arc was given.
-    pub(crate) const fn is_empty(&self) -> bool
+    pub(crate) fn is_empty(&self) -> bool
         ensures { IsTrue result ↔ (self.now ≡ []) }
     {
-        matches!(self.state, State::Initial)
+        self.first.is_none()
     }
 
     /// Encodes one more arc.
@@ -72,27 +61,23 @@ impl<const SIZE: usize> Encoder<SIZE> {
         ensures given { OnOk result (self.new ≡ self.old ++ arc ∷ []) }
         ensures unchanged { OnErr result (self.new ≡ self.old) }
     {
-        let number = match self.state {
-            State::Initial => {
+        let number = match self.first {
+            _ if self.octets.len() > 0 => arc as u64,
+            None => {
                 if arc > 2 {
                     return Err(Error::ArcInvalid { arc });
                 }
-                self.state = State::FirstArc(arc);
+                self.first = Some(arc);
                 return Ok(());
             }
-            State::FirstArc(first) => {
+            Some(first) => {
                 if arc > max_second(first) {
                     return Err(Error::ArcInvalid { arc });
                 }
                 40 * first as u64 + arc as u64
             }
-            State::Body => arc as u64,
         };
-        if let Err(fault) = self.octets.push_group(number) {
-            return Err(fault);
-        }
-        self.state = State::Body;
-        Ok(())
+        self.octets.push_group(number)
     }
 
     /// The encoding of the arcs given, which are two or more.
@@ -100,10 +85,10 @@ impl<const SIZE: usize> Encoder<SIZE> {
         ensures fault { result_err result ≡ too_few_fault self.entry }
         ensures encoding { IfOk result (λ octets. IsEncoding root_rule self.entry (octets_of octets)) }
     {
-        match self.state {
-            State::Body => Ok(self.octets),
-            State::Initial | State::FirstArc(_) => Err(Error::Empty),
+        if self.octets.len() == 0 {
+            return Err(Error::Empty);
         }
+        Ok(self.octets)
     }
 }
 

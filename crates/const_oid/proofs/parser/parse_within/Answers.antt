@@ -1,14 +1,12 @@
-use Rattle.std.proofs.Common.{min, ◌≡◌, ℕ, Bool, true, false, nat_lt, List, [], drop, Option, is_some, unwrap_or, Some, refl, arith, sym, ◌∙◌, ap}
+use Rattle.std.proofs.Common.{min, ◌≡◌, ℕ, Bool, true, false, nat_lt, List, [], drop, Option, is_some, unwrap_or, refl, arith, sym, ◌∙◌, ap}
 use Rattle.std.specs.Bool.{then_some}
 use Rattle.std.proofs.lemmas.List.{drop_all}
 use Rattle.std.proofs.lemmas.Result.{IfOk-weaker}
 use Rattle.const_oid.specs.Buffer.{octets_of}
-use Rattle.const_oid.specs.Contents.{arcs_of_octets}
 use Rattle.const_oid.specs.Identifier.{RootRule, root_rule}
 use Rattle.const_oid.specs.Text.{text_answer}
 use Rattle.const_oid.proofs.Encodings.{encoding_back}
-use Rattle.const_oid.proofs.Items.{handed_on}
-use Rattle.const_oid.proofs.TextPass.{text_pass, text_answer_is, text_pass-too_big, text_pass-dot, text_pass-other, text_pass-end, text_pass-end_fault}
+use Rattle.const_oid.proofs.TextPass.{text_pass, text_answer_is, text_pass-too_big, text_pass-other, text_pass-end, text_pass-end_fault}
 use Rattle.const_oid.proofs.parser.parse_within.Goals as goal
 
 pub loop-index-init : goal.loop-index-init
