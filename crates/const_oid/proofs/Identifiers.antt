@@ -34,14 +34,11 @@ octets_are oid = sym (encoding_of-encoded root_rule (oid_arcs oid) (oid_octets o
 pub size_fits : {N : ℕ} (oid : ObjectIdentifier N) → size (oid_arcs oid) ≤ min N 255
 size_fits oid = omega (arith, oid.ber.within, length-take oid.ber.used oid.ber.bytes, length_is_size root_rule (oid_arcs oid) (oid_octets oid) (oid_encoding oid))
 
--- its printed text is read as its arcs, at each capacity that it is within
-pub printed_back_within : {N : ℕ} (oid : ObjectIdentifier N) (capacity : ℕ) → size (oid_arcs oid) ≤ capacity → text_answer root_rule (text_of (oid_arcs oid)) capacity ≡ Ok (oid_arcs oid)
-printed_back_within oid capacity fits =
+-- its printed text is read as its arcs
+pub printed_back : {N : ℕ} (oid : ObjectIdentifier N) → text_answer root_rule (text_of (oid_arcs oid)) (min N 255) ≡ Ok (oid_arcs oid)
+printed_back {N} oid =
     let denoted = text_denotes root_rule (oid_arcs oid) (oid_encoding oid).identifier in
-    rw (text_fault-none root_rule capacity (text_of (oid_arcs oid)) (oid_arcs oid) denoted fits, sym denoted.values) refl
-
-pub printed_back : (oid : ObjectIdentifier 39) → text_answer root_rule (text_of (oid_arcs oid)) 39 ≡ Ok (oid_arcs oid)
-printed_back oid = printed_back_within oid 39 (size_fits oid)
+    rw (text_fault-none root_rule (min N 255) (text_of (oid_arcs oid)) (oid_arcs oid) denoted (size_fits oid), sym denoted.values) refl
 
 -- its child has it as the parent
 pub parent_of_child : {N : ℕ} (oid : ObjectIdentifier N) (arc : ℕ) → parent_of (child_of (oid_arcs oid) arc) ≡ Some (oid_arcs oid)

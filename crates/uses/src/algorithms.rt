@@ -8,10 +8,10 @@ ghost use Rattle.const_oid.specs.Names.{entries_of, first_name, lent_arcs};
 ghost use Rattle.const_oid.specs.Oid.{oid_arcs};
 
 use const_oid::db::Database;
-use const_oid::{ObjectIdentifier, Result};
+use const_oid::{Error, ObjectIdentifier};
 
 /// The name of the algorithm with these octets, `None` where the table has none, or the octets' fault.
-pub fn name_of<'a>(database: &Database<'a>, octets: &[u8]) -> Result<Option<&'a str>>
+pub fn name_of<'a>(database: &Database<'a>, octets: &[u8]) -> Result<Option<&'a str>, Error>
     ensures { MatchResult (octet_answer root_rule octets.now 39)
         (λ arcs. result ≡ Ok (first_name lent_arcs (entries_of database.now) arcs))
         (λ fault. result ≡ Err fault) }

@@ -6,13 +6,13 @@ ghost use Rattle.const_oid.specs.Oid.{oid_arcs};
 ghost use Rattle.const_oid.specs.OidRef.{ref_arcs};
 ghost use Rattle.const_oid.specs.Tree.{child_of};
 
-use const_oid::{Arc, ObjectIdentifier, ObjectIdentifierRef, Result};
+use const_oid::{Arc, Error, ObjectIdentifier, ObjectIdentifierRef};
 
 /// The child of a borrowed identifier, in a capacity of the caller's choice, where it fits.
 pub fn child_in<const N: usize>(
     parent: ObjectIdentifierRef<'_>,
     arc: Arc,
-) -> Result<ObjectIdentifier<N>>
+) -> Result<ObjectIdentifier<N>, Error>
     ensures fits { IsOk result ↔ (size (child_of (ref_arcs parent.entry) arc) ≤ min N 255) }
     ensures arcs { IfOk result (λ child. oid_arcs child ≡ child_of (ref_arcs parent.entry) arc) }
 {
@@ -20,7 +20,7 @@ pub fn child_in<const N: usize>(
 }
 
 /// The same identifier in another capacity, which holds all of the first.
-pub fn widened<const N: usize>(oid: &ObjectIdentifier<39>) -> Result<ObjectIdentifier<N>>
+pub fn widened<const N: usize>(oid: &ObjectIdentifier<39>) -> Result<ObjectIdentifier<N>, Error>
     requires { 39 ≤ N }
     ensures { IsOkAnd result (λ wide. oid_arcs wide ≡ oid_arcs oid.now) }
 {

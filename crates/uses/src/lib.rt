@@ -9,6 +9,9 @@ pub mod fixed;
 pub mod generic;
 pub mod schema;
 #[cfg(test)]
+mod snmp;
+pub mod subtree;
+#[cfg(test)]
 mod tests;
 pub mod theorems;
 pub mod walk;

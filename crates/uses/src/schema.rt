@@ -7,7 +7,7 @@ ghost use Rattle.const_oid.specs.Oid.{oid_arcs, oid_answer};
 ghost use Rattle.const_oid.specs.Text.{text_answer};
 
 use const_oid::db::Database;
-use const_oid::{AssociatedOid, DynAssociatedOid, ObjectIdentifier, Result};
+use const_oid::{AssociatedOid, DynAssociatedOid, Error, ObjectIdentifier};
 
 /// cn, commonName.
 pub struct CommonName;
@@ -53,7 +53,7 @@ pub fn has_type<T: AssociatedOid>(attribute: &Attribute) -> bool
 }
 
 /// The identifier that a user means: by a name in any case, or else by its dotted text.
-pub fn find(database: &Database<'_>, input: &str) -> Result<ObjectIdentifier<39>>
+pub fn find(database: &Database<'_>, input: &str) -> Result<ObjectIdentifier<39>, Error>
     ensures named { IfSome (first_oid (entries_of database.now) input.now)
         (λ oid. result ≡ Ok oid.now) }
     ensures dotted { IfNone (first_oid (entries_of database.now) input.now)

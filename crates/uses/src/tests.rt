@@ -1,17 +1,12 @@
 //! Each use, run once.
 
-ghost use Rattle.std.specs.Cmp.Lexicographic.{slice_cmp};
-ghost use Rattle.std.specs.List.Sorted.{IsSortedByKey};
-ghost use Rattle.std.specs.Ordering.{nat_cmp};
-ghost use Rattle.const_oid.specs.OidRef.{ref_octets};
-
 use crate::algorithms::{name_in, name_of};
 use crate::constants::{EC_PUBLIC_KEY, is_ec_public_key, is_its_text};
 use crate::fixed::printed;
 use crate::generic::{child_in, widened};
 use crate::schema::{Attribute, CommonName, Country, find, has_type};
+use crate::subtree::places;
 use crate::theorems;
-use crate::walk::{next_after, places};
 use const_oid::db::Database;
 use const_oid::{Arc, AssociatedOid, Error, ObjectIdentifier, ObjectIdentifierRef};
 use std::alloc::{AllocError, Global};
@@ -134,25 +129,6 @@ fn algorithms(rt: HostRuntime) {
     assert!(rt; name_in(&Database::new(&[]), &database, &rsa) == Some("rsaEncryption"));
 }
 
-/// Whether a walk from a column meets the rows 1 to 100, and then the next column.
-fn walks(sorted: &[ObjectIdentifierRef<'_>], column: &ObjectIdentifierRef<'_>) -> bool
-    requires { IsSortedByKey ref_octets (slice_cmp nat_cmp) sorted.now }
-{
-    let Some(mut last) = next_after(sorted, column) else {
-        return false;
-    };
-    for row in 1..=100 {
-        if last.arc(10) != Some(row) {
-            return false;
-        }
-        let Some(next) = next_after(sorted, &last) else {
-            return false;
-        };
-        last = next;
-    }
-    last.arc(10) == Some(1)
-}
-
 /// Ten columns of a hundred rows, as a table of interfaces has them (RFC 2863), in no order.
 fn cells(alloc: Global) -> Result<Vec<ObjectIdentifier<39>>, Fail> {
     let mut cells = Vec::new(alloc);
@@ -185,6 +161,5 @@ fn thousand(rt: HostRuntime) -> Result<(), Fail> {
     assert!(rt; places(&oids, &column) == None);
     oids.sort()?;
     assert!(rt; places(&oids, &column) == Some((200, 300)));
-    assert!(rt; walks(&oids, &column));
     Ok(())
 }

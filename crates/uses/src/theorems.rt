@@ -7,7 +7,7 @@ ghost use Rattle.const_oid.specs.Identifier.{size};
 ghost use Rattle.const_oid.specs.Oid.{oid_arcs};
 ghost use Rattle.const_oid.specs.Tree.{BeginsWith, child_of};
 
-use const_oid::{Arc, ObjectIdentifier, Result};
+use const_oid::{Arc, Error, ObjectIdentifier};
 use std::alloc::{AllocError, Global};
 use std::cmp::Ordering;
 
@@ -26,7 +26,7 @@ pub fn is_rsa_encryption(octets: &[u8]) -> bool
 }
 
 /// A child has one arc more than its parent, and begins with it.
-pub fn child(parent: ObjectIdentifier<39>, arc: Arc) -> Result<ObjectIdentifier<39>>
+pub fn child(parent: ObjectIdentifier<39>, arc: Arc) -> Result<ObjectIdentifier<39>, Error>
     ensures fits { IsOk result ↔ (size (child_of (oid_arcs parent) arc) ≤ 39) }
     ensures arcs { IfOk result (λ child. oid_arcs child ≡ child_of (oid_arcs parent) arc) }
     ensures begins { IfOk result (λ child. BeginsWith (oid_arcs child) (oid_arcs parent)) }
@@ -42,7 +42,10 @@ pub fn is_enterprise(oid: &ObjectIdentifier<39>) -> bool
 }
 
 /// The parent of a child is the identifier that it was made of.
-pub fn parent_of_child(oid: ObjectIdentifier<39>, arc: Arc) -> Result<Option<ObjectIdentifier<39>>>
+pub fn parent_of_child(
+    oid: ObjectIdentifier<39>,
+    arc: Arc,
+) -> Result<Option<ObjectIdentifier<39>>, Error>
     ensures fits { IsOk result ↔ (size (child_of (oid_arcs oid) arc) ≤ 39) }
     ensures same { IfOk result (λ parent. IsSomeAnd parent (λ parent. oid_arcs parent ≡ oid_arcs oid)) }
 {
@@ -50,7 +53,7 @@ pub fn parent_of_child(oid: ObjectIdentifier<39>, arc: Arc) -> Result<Option<Obj
 }
 
 /// The child of a parent, by the last arc, fits and is the identifier that the parent is of.
-pub fn child_of_parent(oid: ObjectIdentifier<39>) -> Option<Result<ObjectIdentifier<39>>>
+pub fn child_of_parent(oid: ObjectIdentifier<39>) -> Option<Result<ObjectIdentifier<39>, Error>>
     ensures found { IsSome result ↔ (2 < length (oid_arcs oid)) }
     ensures again { IfSome result (λ child.
         IsOkAnd child (λ again. oid_arcs again ≡ oid_arcs oid)) }
@@ -72,12 +75,12 @@ pub fn both_orders(oid: &ObjectIdentifier<39>, below: &ObjectIdentifier<39>) -> 
 
 /// What is printed is read as the same identifier.
 #[tactic(auto, using(const_oid::proofs::Identifiers::printed_back))]
-pub fn through_text(
+pub fn through_text<const SIZE: usize>(
     alloc: Global,
-    oid: ObjectIdentifier<39>,
-) -> std::result::Result<Result<ObjectIdentifier<39>>, AllocError>
-    ensures { IfOk result (λ read. IsOkAnd read (λ read. oid_arcs read ≡ oid_arcs oid)) }
+    oid: ObjectIdentifier<SIZE>,
+) -> Result<Result<ObjectIdentifier<SIZE>, Error>, AllocError>
+    ensures { IfOk result (λ read. IsOkAnd read (λ read. oid_arcs read ≡ oid_arcs oid.entry)) }
 {
     let text = oid.to_string(alloc)?;
-    Ok(ObjectIdentifier::new(text.as_str()))
+    Ok(ObjectIdentifier::new_sized(text.as_str()))
 }

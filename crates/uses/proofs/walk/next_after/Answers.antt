@@ -1,38 +1,70 @@
-use Rattle.std.proofs.Common.{rules, ◌≡◌, ◌<◌, ℕ, suc, zero, Bool, true, false, not, List, [], ◌∷◌, length, find, slice_get, slice_index_or, leb, Less, Equal, Greater, refl, ap, ◌∙◌, arith}
+use Rattle.std.proofs.Common.{rules, ◌≡◌, ◌≢◌, ◌<◌, ◌≤◌, ℕ, true, false, List, length, slice_index_or, leb, Option, Some, None, IfSome, IfNone, MatchOption, Bor, Less, Equal, Greater, refl, sym, ap, ◌∙◌, arith, ⊎_elim}
 use Rattle.std.specs.Cmp.Lexicographic.{slice_cmp}
+use Rattle.std.specs.List.{All, HoldsAt}
+use Rattle.std.specs.List.Sorted.{IsSortedByKey}
 use Rattle.std.specs.Ordering.{nat_cmp, is_lt, is_le, ordering_index, ordering_reverse}
 use Rattle.std.specs.declared.cmp.Ordering.{Ordering}
-use Rattle.std.proofs.lemmas.Grind.{common_steps}
-use Rattle.std.proofs.lemmas.Option.{gets}
+use Rattle.std.proofs.lemmas.Bool.{cases_lt}
 use Rattle.std.proofs.lemmas.Cmp.{nat_list_cmp_total}
-use Rattle.std.proofs.lemmas.List.Sorted.{IsPartitionPoint-from_clause, IsPartitionedBy-leb, searchable_from_sorted}
-use Rattle.const_oid.specs.OidRef.{ref_octets}
+use Rattle.std.proofs.lemmas.List.Sorted.{IsPartitionPoint-from_clause, IsPartitionedBy-leb, searchable_from_sorted, sorted_far, ranks_by}
+use Rattle.const_oid.specs.OidRef.{ref_arcs}
+use Rattle.uses.specs.declared.walk.ByArcs.{ByArcs}
+use Rattle.uses.specs.Walk.{key_arcs, IsNext}
 use Rattle.uses.proofs.walk.next_after.Goals as goal
 
--- the first element that passes, by its place
-found : {X : Type 0} (p : X → Bool) (xs : List X) (place : ℕ) → ((k : ℕ) (d : X) → k < place → k < length xs → p (slice_index_or xs k d) ≡ false) → ((d : X) → place < length xs → p (slice_index_or xs place d) ≡ true) → slice_get xs place ≡ find p xs
-found p [] place none some = refl
-found p (x ∷ xs) zero none some = rw (some x (omega arith)) refl
-found p (x ∷ xs) (suc place) none some = rw (none 0 x (omega arith) (omega arith)) (found p xs place (λ k d l m. none (suc k) d (omega arith) (omega arith)) (λ d l. some d (omega arith)))
+-- ---- an order, by its number and the other way round
 
--- an order by its number
 numbered : (order : Ordering) → is_le order ≡ leb (ordering_index order) 1
 numbered Less = refl
 numbered Equal = refl
 numbered Greater = refl
 
-reversed : (order : Ordering) → is_lt (ordering_reverse order) ≡ not (leb (ordering_index order) 1)
-reversed Less = refl
-reversed Equal = refl
-reversed Greater = refl
+not_less : (order : Ordering) → leb (ordering_index order) 1 ≡ true → ordering_reverse order ≢ Less
+not_less Less t = λ e. cc
+not_less Equal t = λ e. cc
+not_less Greater t = λ e. cc
 
-later : (xs ys : List ℕ) → is_lt (slice_cmp nat_cmp xs ys) ≡ not (leb (ordering_index (slice_cmp nat_cmp ys xs)) 1)
-later xs ys = ap is_lt (nat_list_cmp_total.antisymm xs ys) ∙ reversed (slice_cmp nat_cmp ys xs)
+less : (order : Ordering) → leb (ordering_index order) 1 ≡ false → ordering_reverse order ≡ Less
+less Less f = cc
+less Equal f = cc
+less Greater f = refl
+
+not_greater : (order : Ordering) → is_lt order ≡ false → ordering_reverse order ≢ Greater
+not_greater Less f = λ e. cc
+not_greater Equal f = λ e. cc
+not_greater Greater f = λ e. cc
+
+turned : (xs ys : List ℕ) → slice_cmp nat_cmp xs ys ≡ ordering_reverse (slice_cmp nat_cmp ys xs)
+turned xs ys = nat_list_cmp_total.antisymm xs ys
+
+-- ---- the place where a list passes from the keys up to some arcs to those after them
+
+module _ (keys : List ByArcs) (arcs : List ℕ) (place : ℕ) (up : IsSortedByKey key_arcs (slice_cmp nat_cmp) keys) (early : (k : ℕ) (d : ByArcs) → k < place → k < length keys → slice_cmp nat_cmp arcs (key_arcs (slice_index_or keys k d)) ≢ Less) (late : (k : ℕ) (d : ByArcs) → place ≤ k → k < length keys → slice_cmp nat_cmp arcs (key_arcs (slice_index_or keys k d)) ≡ Less) where
+  at_place : (next : ByArcs) → place < length keys → HoldsAt (λ key. next ≡ key) keys place → IsNext keys arcs next
+  at_place next inside is = record {
+    inside = (place, inside, sym (is next));
+    after = rw (← is next) at (late place next (omega arith) inside);
+    nearest = λ k d l after. ⊎_elim
+        (λ (before : k < place). absurd (early k d before l after))
+        (λ (from : place ≤ k).
+        let level = sorted_far _ (ranks_by nat_list_cmp_total key_arcs) keys up place k d from l in
+        let key = key_arcs (slice_index_or keys k d) in
+        rw (is d, turned (key_arcs (slice_index_or keys place d)) key) (not_greater (slice_cmp nat_cmp key (key_arcs (slice_index_or keys place d))) level))
+        (cases_lt k place);
+  }
+
+  answered : (next : Option (Bor ByArcs)) → MatchOption next (length keys ≤ place) (λ key. (place < length keys) × HoldsAt (λ other. key.now ≡ other) keys place) → IfSome next (λ key. IsNext keys arcs key.now) × IfNone next (All (λ key. slice_cmp nat_cmp arcs (key_arcs key) ≢ Less) keys)
+  answered None past = (tt, λ k d l. early k d (omega arith) l)
+  answered (Some key) (inside, is) = (at_place key.now inside is, tt)
 
 pub returns : goal.returns
 returns c =
-    let octets = ref_octets c.args.oid.now in
-    let partitioned = IsPartitionedBy-leb (λ oid. ordering_index (slice_cmp nat_cmp (ref_octets oid) octets)) c.args.sorted.now 1 (searchable_from_sorted nat_list_cmp_total ref_octets c.args.sorted.now octets c.requires) in
-    let (before, after) = IsPartitionPoint-from_clause (λ oid. leb (ordering_index (slice_cmp nat_cmp (ref_octets oid) octets)) 1) c.args.sorted.now c.partition_point-place.result c.partition_point-place.ensures.partitioned partitioned (λ a r f called. let e = numbered (slice_cmp nat_cmp (ref_octets a.0.now) octets) in search rules) in
-    let here : c.copied.result ≡ slice_get c.args.sorted.now c.partition_point-place.result = grind (arith, common_steps, gets) in
-    here ∙ found _ c.args.sorted.now c.partition_point-place.result (λ k d l m. later octets _ ∙ ap not (before k d (omega arith) l)) (λ d l. later octets _ ∙ ap not (after c.partition_point-place.result d (omega arith) l))
+    let arcs = ref_arcs c.args.oid.now in
+    let keys = c.args.sorted.now in
+    let partitioned = IsPartitionedBy-leb (λ key. ordering_index (slice_cmp nat_cmp (key_arcs key) arcs)) keys 1 (searchable_from_sorted nat_list_cmp_total key_arcs keys arcs c.requires) in
+    let (before, after) = IsPartitionPoint-from_clause (λ key. leb (ordering_index (slice_cmp nat_cmp (key_arcs key) arcs)) 1) keys c.partition_point-place.result c.partition_point-place.ensures.partitioned partitioned (λ a r f called. let e = numbered (slice_cmp nat_cmp (key_arcs a.0.now) arcs) in search rules) in
+    let (found, none) = answered keys arcs c.partition_point-place.result c.requires
+    (λ k d l m. rw (turned arcs (key_arcs (slice_index_or keys k d))) (not_less _ (before k d (omega arith) l)))
+    (λ k d l m. turned arcs (key_arcs (slice_index_or keys k d)) ∙ less _ (after k d l m))
+    c.get.result (search rules) in
+    record { found = found; none = none }

@@ -1,0 +1,28 @@
+use Rattle.std.proofs.Common.{◌≡◌, ◌≢◌, ℕ, Bool, true, false, List, Option, IfNone, Bor, Less, refl, ap, ◌∙◌, sym}
+use Rattle.std.specs.Bool.{then_some}
+use Rattle.std.specs.Cmp.Lexicographic.{slice_cmp}
+use Rattle.std.specs.List.{All}
+use Rattle.std.specs.Ordering.{nat_cmp, ordering_reverse}
+use Rattle.std.proofs.lemmas.Cmp.{nat_list_cmp_total}
+use Rattle.const_oid.specs.OidRef.{ref_arcs}
+use Rattle.const_oid.specs.Tree.{BeginsWith}
+use Rattle.const_oid.proofs.ByParts.{run_between}
+use Rattle.uses.specs.declared.walk.ByArcs.{ByArcs}
+use Rattle.uses.specs.Walk.{key_arcs, IsNext}
+use Rattle.uses.proofs.walk.next_under.Goals as goal
+
+-- where the next key is not under the root, no key after these arcs is, since what is under it stands together
+module _ (keys : List ByArcs) (arcs root : List ℕ) (begun : BeginsWith arcs root) where
+  none_under : (next : ByArcs) → IsNext keys arcs next → (BeginsWith (key_arcs next) root → ⊥) → All (λ key. BeginsWith (key_arcs key) root → slice_cmp nat_cmp arcs (key_arcs key) ≢ Less) keys
+  none_under next is other k d l under after =
+      let greater = nat_list_cmp_total.antisymm (key_arcs next) arcs ∙ ap ordering_reverse is.after in
+      other (run_between root arcs (key_arcs next) _ begun under (λ e. cc) (is.nearest k d l after))
+
+ended : (keys : List ByArcs) (arcs root : List ℕ) (next : Bor ByArcs) (under : Bool) → IsNext keys arcs next.now → (BeginsWith (key_arcs next.now) root → under ≡ true) → IfNone (then_some under next) (BeginsWith arcs root → All (λ key. BeginsWith (key_arcs key) root → slice_cmp nat_cmp arcs (key_arcs key) ≢ Less) keys)
+ended keys arcs root next true is told = tt
+ended keys arcs root next false is told = λ begun. none_under keys arcs root begun next.now is (λ b. cc (told b))
+
+pub returns-clause-end : goal.returns-clause-end
+returns-clause-end c =
+    let told = rw c.as_oid_ref.ensures.arcs at c.starts_with.ensures.1 in
+    rw c.then_some.ensures (ended c.args.sorted.now (ref_arcs c.args.oid.now) (ref_arcs c.args.root.now) c.in_ok-next.next c.starts_with.result c.in_ok-next.ensures.found told)

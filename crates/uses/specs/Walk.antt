@@ -1,0 +1,18 @@
+-- Lists of keys in the order of their arcs.
+use Rattle.std.specs.Prelude.{◌≡◌, ◌≢◌, ℕ, List}
+use Rattle.std.specs.Cmp.Lexicographic.{slice_cmp}
+use Rattle.std.specs.List.{All, Contains}
+use Rattle.std.specs.Ordering.{nat_cmp}
+use Rattle.std.specs.declared.cmp.Ordering.TheVariants.{Less, Greater}
+use Rattle.const_oid.specs.Oid.{oid_arcs}
+use Rattle.uses.specs.declared.walk.ByArcs.{ByArcs}
+
+-- the arcs of a key
+abbrev pub key_arcs : ByArcs → List ℕ
+key_arcs key = oid_arcs key.oid
+
+-- the key is the next one after arcs: it is in the list and after them, and none that is after them is before it
+pub record IsNext (keys : List ByArcs) (arcs : List ℕ) (next : ByArcs) : Type 0 where
+  pub inside : Contains keys next
+  pub after : slice_cmp nat_cmp arcs (key_arcs next) ≡ Less
+  pub nearest : All (λ key. slice_cmp nat_cmp arcs (key_arcs key) ≡ Less → slice_cmp nat_cmp (key_arcs next) (key_arcs key) ≢ Greater) keys

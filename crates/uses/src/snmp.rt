@@ -1,0 +1,136 @@
+//! Rows of SNMP, in the order of a walk (RFC 3416).
+
+ghost use Rattle.std.specs.Cmp.Lexicographic.{slice_cmp};
+ghost use Rattle.std.specs.List.Sorted.{IsSortedByKey};
+ghost use Rattle.std.specs.Ordering.{nat_cmp};
+ghost use Rattle.uses.specs.Walk.{key_arcs};
+
+use crate::theorems::through_text;
+use crate::walk::{ByArcs, next_after, next_under};
+use const_oid::{Error, ObjectIdentifier, ObjectIdentifierRef};
+use std::alloc::Global;
+use std::collections::BTreeMap;
+use std::test::Fail;
+
+/// sysDescr (RFC 3418), columns of interfaces by their number (RFC 2863), connections over IPv4 and
+/// IPv6 by addresses and ports (RFC 4022), enterprises.
+const ROWS: [&str; 22] = [
+    "1.3.6.1.2.1.1.1.0",
+    "1.3.6.1.2.1.2.2.1.10.1",
+    "1.3.6.1.2.1.2.2.1.10.127",
+    "1.3.6.1.2.1.2.2.1.10.128",
+    "1.3.6.1.2.1.2.2.1.10.255",
+    "1.3.6.1.2.1.2.2.1.10.256",
+    "1.3.6.1.2.1.2.2.1.10.16383",
+    "1.3.6.1.2.1.2.2.1.10.16384",
+    "1.3.6.1.2.1.2.2.1.10.2097151",
+    "1.3.6.1.2.1.2.2.1.10.2097152",
+    "1.3.6.1.2.1.2.2.1.11.1",
+    "1.3.6.1.2.1.6.13.1.1.10.0.0.1.22.10.0.0.2.40000",
+    "1.3.6.1.2.1.6.13.1.1.10.0.0.1.80.10.0.0.2.40000",
+    "1.3.6.1.2.1.6.13.1.1.10.0.0.1.443.10.0.0.2.40000",
+    "1.3.6.1.2.1.6.13.1.1.10.0.0.1.8080.10.0.0.2.40000",
+    "1.3.6.1.2.1.6.13.1.1.10.0.0.1.65535.10.0.0.2.40000",
+    "1.3.6.1.2.1.6.19.1.7.2.16.32.1.13.184.0.0.0.0.0.0.0.0.0.0.0.1.443.2.16.32.1.13.184.0.0.0.0.0.0.0.0.0.0.0.2.40000",
+    "1.3.6.1.2.1.6.19.1.7.2.16.32.1.13.184.0.0.0.0.0.0.0.0.0.0.0.1.8080.2.16.32.1.13.184.0.0.0.0.0.0.0.0.0.0.0.2.40000",
+    "1.3.6.1.4.1.255",
+    "1.3.6.1.4.1.255.1",
+    "1.3.6.1.4.1.256",
+    "1.3.6.1.4.1.4294967295",
+];
+
+/// The identifier of a row.
+fn oid(row: &str) -> Result<ObjectIdentifier<255>, Error> {
+    ObjectIdentifier::new_sized(row)
+}
+
+/// The row at a place of a list that is in no order.
+fn shuffled(place: usize) -> &'static str {
+    ROWS[place % ROWS.len() * 5 % ROWS.len()]
+}
+
+/// The keys of the rows, in no order.
+fn keys(alloc: Global) -> Result<Vec<ByArcs>, Fail> {
+    let mut keys = Vec::new(alloc);
+    for place in 0..ROWS.len() {
+        let oid = oid(shuffled(place))?;
+        keys.push(ByArcs { oid })?;
+    }
+    Ok(keys)
+}
+
+/// The first row that a walk does not meet where it stands, or the last one if the walk goes on.
+fn wrong_step(sorted: &[ByArcs]) -> Option<&'static str>
+    requires { IsSortedByKey key_arcs (slice_cmp nat_cmp) sorted.now }
+{
+    let first = ObjectIdentifier::new_unwrap("1.3");
+    let mut last = first.as_oid_ref();
+    for row in &ROWS {
+        let Some(next) = next_after(sorted, &last) else {
+            return Some(row);
+        };
+        if oid(row) != Ok(next.oid) {
+            return Some(row);
+        }
+        last = next.oid.as_oid_ref();
+    }
+    next_after(sorted, &last).map(|_| ROWS[ROWS.len() - 1])
+}
+
+/// How many keys a walk meets under a root.
+fn count_under(sorted: &[ByArcs], root: &ObjectIdentifierRef<'_>) -> usize
+    requires { IsSortedByKey key_arcs (slice_cmp nat_cmp) sorted.now }
+{
+    let mut last = *root;
+    for count in 0..sorted.len() {
+        match next_under(sorted, root, &last) {
+            Some(next) => last = next.oid.as_oid_ref(),
+            None => return count,
+        }
+    }
+    sorted.len()
+}
+
+#[test]
+fn walk(rt: HostRuntime) -> Result<(), Fail> {
+    let mut keys = keys(rt.alloc())?;
+    keys.sort()?;
+    let row = wrong_step(&keys);
+    assert!(rt; row.is_none(), "{row:?}");
+    let octets_in = ObjectIdentifier::new_unwrap("1.3.6.1.2.1.2.2.1.10");
+    assert!(rt; count_under(&keys, &octets_in.as_oid_ref()) == 9);
+    let interface = ObjectIdentifier::new_unwrap("1.3.6.1.4.1.256");
+    assert!(rt; count_under(&keys, &interface.as_oid_ref()) == 0);
+    Ok(())
+}
+
+/// The rows by their keys, put in in no order.
+fn map(alloc: Global) -> Result<BTreeMap<ByArcs, &'static str>, Fail> {
+    let mut rows = BTreeMap::new(alloc);
+    for place in 0..ROWS.len() {
+        let row = shuffled(place);
+        rows.insert(ByArcs { oid: oid(row)? }, row)?;
+    }
+    Ok(rows)
+}
+
+#[test]
+fn map_in_order(rt: HostRuntime) -> Result<(), Fail> {
+    let rows = map(rt.alloc())?;
+    assert!(rt; rows.len() == ROWS.len());
+    for (row, wanted) in rows.values().zip(&ROWS) {
+        assert!(rt; row == wanted, "{wanted}");
+    }
+    Ok(())
+}
+
+#[test]
+fn row_over_ipv6(rt: HostRuntime) -> Result<(), Fail> {
+    let row = ROWS[16];
+    let oid = oid(row)?;
+    assert!(rt; oid.len() == 48 && oid.as_bytes().len() > 39);
+    assert!(rt; ObjectIdentifier::new(row) == Err(Error::Length));
+    assert!(rt; format!(in rt.alloc(); "{oid}")?.as_str() == row);
+    assert!(rt; through_text(rt.alloc(), oid)? == Ok(oid));
+    Ok(())
+}
