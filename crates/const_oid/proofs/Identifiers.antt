@@ -1,7 +1,6 @@
 -- For callers: what follows of identifiers that are held.
 use Rattle.std.proofs.Common.{◌≡◌, ◌≢◌, ℕ, true, false, Equal, Greater, ◌<◌, ◌≤◌, List, [], ◌∷◌, ◌++◌, length, min, Some, Ok, Less, nat_cmp, refl, sym, ap, ◌∙◌, arith, slice_get, get_or, length-append, append-nil}
 use Rattle.std.proofs.Math.Seq.{get_or-append_seam}
-use Rattle.std.proofs.lemmas.List.{length-take}
 use Rattle.std.proofs.lemmas.Option.{get_or_from_slice_get}
 use Rattle.std.specs.Cmp.Lexicographic.{slice_cmp}
 use Rattle.std.specs.Fmt.{WritesInCalls}
@@ -21,7 +20,7 @@ use Rattle.const_oid.specs.Orders.{shortlex_cmp}
 use Rattle.const_oid.specs.Text.{text_of, text_answer}
 use Rattle.const_oid.specs.Tree.{BeginsWith, parent_of, child_of}
 use Rattle.const_oid.proofs.BeginsWith.{ancestor_short, ancestor_before}
-use Rattle.const_oid.proofs.Encodings.{oid_encoding, encoding_of-encoded}
+use Rattle.const_oid.proofs.Encodings.{oid_encoding, oid_within, encoding_of-encoded}
 use Rattle.const_oid.proofs.Lengths.{length_is_size}
 use Rattle.const_oid.proofs.Texts.{text_denotes, text_fault-none}
 use Rattle.const_oid.proofs.Tree.{parent_of-child_of, child_of-parent_of}
@@ -32,7 +31,7 @@ octets_are oid = sym (encoding_of-encoded root_rule (oid_arcs oid) (oid_octets o
 
 -- its size is within the capacity
 pub size_fits : {N : ℕ} (oid : ObjectIdentifier N) → size (oid_arcs oid) ≤ min N 255
-size_fits oid = omega (arith, oid.ber.within, length-take oid.ber.used oid.ber.bytes, length_is_size root_rule (oid_arcs oid) (oid_octets oid) (oid_encoding oid))
+size_fits oid = omega (arith, oid_within oid, length_is_size root_rule (oid_arcs oid) (oid_octets oid) (oid_encoding oid))
 
 -- its printed text is read as its arcs
 pub printed_back : {N : ℕ} (oid : ObjectIdentifier N) → text_answer root_rule (text_of (oid_arcs oid)) (min N 255) ≡ Ok (oid_arcs oid)

@@ -1,6 +1,6 @@
 //! Owned object identifiers.
 
-ghost use Rattle.std.specs.Prelude.{◌≡◌, ◌<◌, ◌≤◌, ◌↔◌, ◌++◌, length, drop, min, slice_get, None, Some, IfOk, IfSome, IsTrue, MatchOption, MatchResult};
+ghost use Rattle.std.specs.Prelude.{◌≡◌, ◌*◌, ◌<◌, ◌≤◌, ◌↔◌, ◌++◌, length, drop, min, slice_get, None, Some, IfOk, IfSome, IsSome, IsTrue, MatchOption, MatchResult};
 ghost use Rattle.std.specs.Iterator.{IsFiniteIterable};
 ghost use Rattle.std.specs.Cmp.Lexicographic.{slice_cmp};
 ghost use Rattle.std.specs.Option.{option_map};
@@ -225,13 +225,15 @@ impl<const MAX_SIZE: usize> ObjectIdentifier<MAX_SIZE> {
         ensures cases { MatchOption result (length out.old < length (text_of (oid_arcs self.now))) (λ len. len ≡ length (text_of (oid_arcs self.now))) }
         ensures written { IfSome result (λ len. out.new ≡ text_of (oid_arcs self.now) ++ drop len out.old) }
         ensures kept { result ≡ None → out.new ≡ out.old }
+        ensures enough { 4 * min MAX_SIZE 255 ≤ length out.old → IsSome result }
     {
         self.as_oid_ref().encode_text(out)
     }
 
     /// Writes the text as [`encode_text`](Self::encode_text) does, and lends it.
     pub fn encode_str<'o>(&self, out: &'o mut [u8]) -> Option<&'o str>
-        ensures { MatchOption result (length out.old < length (text_of (oid_arcs self.now))) (λ text. text.now ≡ text_of (oid_arcs self.now)) }
+        ensures cases { MatchOption result (length out.old < length (text_of (oid_arcs self.now))) (λ text. text.now ≡ text_of (oid_arcs self.now)) }
+        ensures enough { 4 * min MAX_SIZE 255 ≤ length out.old → IsSome result }
     {
         self.as_oid_ref().encode_str(out)
     }

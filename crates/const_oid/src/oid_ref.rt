@@ -1,5 +1,5 @@
 //! Borrowed object identifiers.
-ghost use Rattle.std.specs.Prelude.{◌≡◌, ◌≤◌, ◌<◌, ◌↔◌, ◌++◌, ℕ, length, drop, min, slice_get, count_by, None, Some, IfOk, IfSome, IsTrue, MatchOption};
+ghost use Rattle.std.specs.Prelude.{◌≡◌, ◌*◌, ◌≤◌, ◌<◌, ◌↔◌, ◌++◌, ℕ, length, drop, min, slice_get, count_by, None, Some, IfOk, IfSome, IsSome, IsTrue, MatchOption};
 ghost use Rattle.std.specs.Option.{option_map};
 ghost use Rattle.std.specs.Cmp.Lexicographic.{slice_cmp};
 ghost use Rattle.std.specs.List.Sorted.{IsSortedByKey};
@@ -110,6 +110,7 @@ impl<'a> ObjectIdentifierRef<'a> {
         ensures cases { MatchOption result (length out.old < length (text_of (ref_arcs self.now))) (λ len. len ≡ length (text_of (ref_arcs self.now))) }
         ensures written { IfSome result (λ len. out.new ≡ text_of (ref_arcs self.now) ++ drop len out.old) }
         ensures kept { result ≡ None → out.new ≡ out.old }
+        ensures enough { 4 * length (ref_octets self.now) ≤ length out.old → IsSome result }
     {
         // An octet takes four bytes of text at most.
         if self.ber.len() > out.len() / 4 {
@@ -120,7 +121,8 @@ impl<'a> ObjectIdentifierRef<'a> {
 
     /// Writes the text as [`encode_text`](Self::encode_text) does, and lends it.
     pub fn encode_str<'o>(&self, out: &'o mut [u8]) -> Option<&'o str>
-        ensures { MatchOption result (length out.old < length (text_of (ref_arcs self.now))) (λ text. text.now ≡ text_of (ref_arcs self.now)) }
+        ensures cases { MatchOption result (length out.old < length (text_of (ref_arcs self.now))) (λ text. text.now ≡ text_of (ref_arcs self.now)) }
+        ensures enough { 4 * length (ref_octets self.now) ≤ length out.old → IsSome result }
     {
         let len = self.encode_text(out)?;
         Some(utf8(&out[..len]))

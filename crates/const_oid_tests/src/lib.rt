@@ -24,6 +24,8 @@ mod places;
 #[cfg(test)]
 mod printing;
 #[cfg(test)]
+mod slices;
+#[cfg(test)]
 mod subtree;
 #[cfg(test)]
 mod texts;
