@@ -106,7 +106,7 @@ impl<'a> Iterator for Names<'a> {
 fn has_oid(entry: &(&ObjectIdentifier<39>, &str), oid: &ObjectIdentifier<39>) -> bool
     ensures { result ≡ has_arcs lent_arcs (oid_arcs oid.now) entry.now }
 {
-    *entry.0 == *oid
+    entry.0.as_oid_ref().eq_oid(oid)
 }
 
 /// Whether names are the same, of which the lengths are compared first.

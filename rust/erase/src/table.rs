@@ -131,9 +131,11 @@ pub const CRATES: &[Crate] = &[Crate {
         "ObjectIdentifier::push_arc",
         "ObjectIdentifier::starts_with",
         "ObjectIdentifierRef::as_bytes",
+        "ObjectIdentifierRef::eq_oid",
         "ObjectIdentifierRef::from_checked",
         "ObjectIdentifierRef::starts_with",
         "are_equal",
+        "are_few_equal",
         "begins_with",
         "end_piece",
         "end_text",
@@ -141,6 +143,7 @@ pub const CRATES: &[Crate] = &[Crate {
         "has_oid",
         "parse",
         "parse_within",
+        "word",
         "write_group",
     ],
     derived: &[
@@ -194,12 +197,6 @@ pub const CRATES: &[Crate] = &[Crate {
             to: "&[&crate::ObjectIdentifierRef]",
             why: "a list of references to the unsized form",
         },
-        Head {
-            of: "are_equal",
-            from: "fn ",
-            to: "pub(crate) fn ",
-            why: SHAPE,
-        },
     ],
     renamed: &[Renamed {
         from: "as_oid_ref",
@@ -243,43 +240,6 @@ pub const CRATES: &[Crate] = &[Crate {
         self.used = end as u8;
         Ok(())
     }",
-            why: SHAPE,
-        },
-        Body {
-            of: "Buffer::eq",
-            rust: "{
-        let (a, b) = (self.as_bytes(), rhs.as_bytes());
-        a.len() == b.len() && crate::erased::compare::are_equal(a, b)
-    }",
-            why: SHAPE,
-        },
-        Body {
-            of: "begins_with",
-            rust: "{
-    prefix.len() <= octets.len() && are_equal(prefix, octets.split_at(prefix.len()).0)
-}",
-            why: SHAPE,
-        },
-        Body {
-            of: "are_equal",
-            rust: "{
-    let mut index = 0;
-    while index < a.len() {
-        if a[index] != b[index] {
-            return false;
-        }
-        index += 1;
-    }
-    true
-}",
-            why: SHAPE,
-        },
-        Body {
-            of: "has_oid",
-            rust: "{
-    let (a, b) = (entry.0.as_bytes(), oid.as_bytes());
-    a.len() == b.len() && crate::erased::compare::are_equal(a, b)
-}",
             why: SHAPE,
         },
     ],

@@ -2,7 +2,7 @@
 
 //! Octets in an array of which the first are in use.
 
-use crate::erased::compare::order;
+use crate::erased::compare::{are_equal, order};
 use crate::erased::error::{Error, Result};
 use core::cmp::Ordering;
 use core::hash::{Hash, Hasher};
@@ -97,16 +97,16 @@ impl<const SIZE: usize> Buffer<SIZE> {
         self.used as usize
     }
 
-    /// Whether the octets in use are equal.
+    /// Whether the octets in use are equal. Whole arrays are compared, since both have zeros behind.
     ///
     /// ```
     /// const fn are_equal(a: &const_oid::Buffer<39>, b: &const_oid::Buffer<39>) -> bool {
     ///     a.eq(b)
     /// }
     /// ```
+    #[inline(always)]
     pub const fn eq(&self, rhs: &Self) -> bool {
-        let (a, b) = (self.as_bytes(), rhs.as_bytes());
-        a.len() == b.len() && crate::erased::compare::are_equal(a, b)
+        self.used == rhs.used && are_equal(&self.bytes, &rhs.bytes)
     }
 }
 
@@ -143,7 +143,7 @@ impl<const SIZE: usize> PartialOrd for Buffer<SIZE> {
 impl<const SIZE: usize> Ord for Buffer<SIZE> {
     fn cmp(&self, other: &Self) -> Ordering {
         match self.len().cmp(&other.len()) {
-            Ordering::Equal => order(self.as_bytes(), other.as_bytes()),
+            Ordering::Equal => order(&self.bytes, &other.bytes),
             unequal => unequal,
         }
     }

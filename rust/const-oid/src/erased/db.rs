@@ -121,8 +121,7 @@ impl<'a> Iterator for Names<'a> {
 
 /// Whether an entry has this identifier.
 const fn has_oid(entry: &(&ObjectIdentifier<39>, &str), oid: &ObjectIdentifier<39>) -> bool {
-    let (a, b) = (entry.0.as_bytes(), oid.as_bytes());
-    a.len() == b.len() && crate::erased::compare::are_equal(a, b)
+    entry.0.borrowed().eq_oid(oid)
 }
 
 /// Whether names are the same, of which the lengths are compared first.

@@ -3,7 +3,7 @@
 //! Borrowed object identifiers.
 
 use crate::erased::arcs::{Arc, Arcs, arc_at};
-use crate::erased::compare::{begins_with, order, order_by_parts};
+use crate::erased::compare::{are_equal, begins_with, order, order_by_parts};
 use crate::erased::digits::{MAX_ARC_LEN, write_arc};
 use crate::erased::error::{Error, Result};
 use crate::erased::oid::ObjectIdentifier;
@@ -89,8 +89,8 @@ impl<'a> ObjectIdentifierRef<'a> {
     }
 
     /// Whether an owned identifier, of any capacity, has the same octets, and so the same arcs.
-    pub fn eq_oid<const N: usize>(&self, other: &ObjectIdentifier<N>) -> bool {
-        self.as_bytes() == other.as_bytes()
+    pub const fn eq_oid<const N: usize>(&self, other: &ObjectIdentifier<N>) -> bool {
+        are_equal(self.as_bytes(), other.as_bytes())
     }
 
     /// The identifier of all arcs but the last, over the prefix of the caller's octets, or `None` of two arcs.
@@ -153,7 +153,7 @@ impl fmt::Debug for ObjectIdentifierRef<'_> {
 
 impl PartialEq for ObjectIdentifierRef<'_> {
     fn eq(&self, other: &Self) -> bool {
-        self.ber == other.ber
+        are_equal(self.ber, other.ber)
     }
 }
 
