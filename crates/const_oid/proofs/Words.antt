@@ -1,5 +1,5 @@
 -- Words of eight octets: they are the same where their octets are, and stand as these do in list order.
-use Rattle.std.proofs.Common.{◌≡◌, ◌≢◌, ℕ, zero, suc, ◌+◌, ◌*◌, ◌^◌, ◌<◌, ◌≤◌, List, [], ◌∷◌, ◌++◌, length, take, drop, refl, sym, ap, ap₂, ◌∙◌, arith, min, false, nat_eq, Ordering, Less, Equal, Greater, nat_cmp, w64, pow-suc}
+use Rattle.std.proofs.Common.{◌≡◌, ◌≢◌, ℕ, zero, suc, ◌+◌, ◌*◌, ◌^◌, ◌<◌, ◌≤◌, List, [], ◌∷◌, ◌++◌, length, take, drop, refl, sym, ap, ap₂, ◌∙◌, arith, min, false, nat_eq, Less, Equal, Greater, nat_cmp, w64, pow-suc}
 use Rattle.std.proofs.Math.Seq.{take-add}
 use Rattle.std.specs.Int.{from_be_bytes}
 use Rattle.std.specs.Ordering.{ordering_then, is_eq}

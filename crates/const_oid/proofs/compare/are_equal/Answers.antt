@@ -1,6 +1,6 @@
-use Rattle.std.proofs.Common.{◌≡◌, ◌+◌, ◌-◌, length, arith, subst, take}
+use Rattle.std.proofs.Common.{◌-◌, length, arith}
 use Rattle.const_oid.proofs.Octets.{are_octets}
-use Rattle.const_oid.proofs.Words.{AreWords, same_more, same_less, unequal_lists, last_words}
+use Rattle.const_oid.proofs.Words.{same_more, same_less, unequal_lists, last_words}
 use Rattle.const_oid.proofs.compare.are_equal.Goals as goal
 
 pub returns-then-word : goal.returns-then-word

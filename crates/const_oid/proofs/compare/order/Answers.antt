@@ -1,6 +1,6 @@
-use Rattle.std.proofs.Common.{◌≡◌, ◌+◌, ◌-◌, arith, sym, ◌∙◌, take, subst}
+use Rattle.std.proofs.Common.{◌+◌, ◌-◌, arith, sym, ◌∙◌}
 use Rattle.const_oid.proofs.Octets.{are_octets}
-use Rattle.const_oid.proofs.Words.{AreWords, same_more, same_less, unequal_cmp, after_same, rest_cmp}
+use Rattle.const_oid.proofs.Words.{same_more, same_less, unequal_cmp, after_same, rest_cmp}
 use Rattle.const_oid.proofs.compare.order.Goals as goal
 
 pub returns-then-x-y : goal.returns-then-x-y

@@ -1,4 +1,4 @@
-use Rattle.std.proofs.Common.{arith, sym, ◌∙◌, rules}
+use Rattle.std.proofs.Common.{sym, ◌∙◌, rules}
 use Rattle.const_oid.proofs.Words.{rest_cmp}
 use Rattle.const_oid.proofs.compare.order_few.Goals as goal
 

@@ -1,4 +1,4 @@
-use Rattle.std.proofs.Common.{◌≡◌, ◌≢◌, length, ◌∙◌, ap, sym, subst, take, drop, replicate, ◌-◌, arith, rules}
+use Rattle.std.proofs.Common.{◌≡◌, ◌≢◌, length, ◌∙◌, ap, sym, take, drop, replicate, ◌-◌, arith}
 use Rattle.std.proofs.lemmas.Bool.Decides.{Decides-eqb}
 use Rattle.std.specs.Cmp.Lexicographic.{pointwise}
 use Rattle.std.specs.Prelude.{nat_eq}

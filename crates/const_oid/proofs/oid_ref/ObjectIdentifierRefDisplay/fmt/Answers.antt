@@ -52,9 +52,9 @@ loop-arc-preserved g c =
     × (done ++ (take c.if-used.used l.bytes ++ text_left false l.arc-iterator) ≡ text_of (ref_arcs c.args.self.now)) =
     elim c.if-used.branch [
       | then-used+in_ok-write_str w ↦ rw (w.used-is, w.f-is) (
-          done ++ take l.used l.bytes,
-          λ flush. has_written_styled_append _ _ _ _ _ _ (written flush) (rw w.utf8-2.ensures at (w.in_ok-write_str.ensures.styled (written flush).flush refl)),
-          append_assoc done (take l.used l.bytes) (text_left false l.arc-iterator) ∙ text,
+        done ++ take l.used l.bytes,
+        λ flush. has_written_styled_append _ _ _ _ _ _ (written flush) (rw w.utf8-2.ensures at (w.in_ok-write_str.ensures.styled (written flush).flush refl)),
+        append_assoc done (take l.used l.bytes) (text_left false l.arc-iterator) ∙ text,
       )
       | else-used w ↦ rw (w.used-is, w.f-is) (done, written, text)
     ] in
@@ -63,10 +63,10 @@ loop-arc-preserved g c =
     record {
       within = omega arith;
       writes = (
-          all,
-          sent,
-          rw (wrote.ensures.prefix, append_assoc)
-              (ap (λ t. all ++ (take c.if-used.used l.bytes ++ t)) (sym (text_left-cons false arc c.next.new.self)) ∙ left),
+        all,
+        sent,
+        rw (wrote.ensures.prefix, append_assoc)
+            (ap (λ t. all ++ (take c.if-used.used l.bytes ++ t)) (sym (text_left-cons false arc c.next.new.self)) ∙ left),
       );
     }
 
