@@ -23,7 +23,7 @@ impl<'a> RefDatabase<'a> {
         RefDatabase { entries }
     }
 
-    /// The name of the first entry with this identifier, or `None` where no entry has it.
+    /// The name that the first entry of this identifier has, or `None` without such an entry.
     pub fn by_oid(&self, oid: &ObjectIdentifierRef<'_>) -> Option<&'a str>
         ensures { result ≡ first_name ref_arcs (ref_entries_of self.now) (ref_arcs oid.now) }
     {
@@ -37,7 +37,7 @@ impl<'a> RefDatabase<'a> {
         None
     }
 
-    /// The identifier of the first entry with the same name, or `None` where no entry has it.
+    /// The identifier that the first entry of this name has, or `None` without such an entry.
     pub fn by_name(&self, name: &str) -> Option<ObjectIdentifierRef<'a>>
         ensures { result ≡ first_oid (ref_entries_of self.now) name.now }
     {
@@ -51,7 +51,7 @@ impl<'a> RefDatabase<'a> {
         None
     }
 
-    /// The names of all entries with this identifier, in table order.
+    /// The names of the identifier, one for each of its entries, as these stand in the table.
     pub fn find_names_for_oid<'b>(&self, oid: ObjectIdentifierRef<'b>) -> RefNames<'a, 'b>
         ensures { ref_names_left result ≡ all_names ref_arcs (ref_entries_of self.now) (ref_arcs oid.entry) }
     {
