@@ -4,13 +4,13 @@
 //! `include/const_oid.h` declares them, and says what a C caller keeps.
 #![tactic(auto)]
 
-mod arcs;
-mod errors;
-mod order;
-mod output;
-mod owned;
-mod status;
-mod subtree;
-mod texts;
-mod tree;
-mod version;
+pub mod arcs;
+pub mod errors;
+pub mod order;
+pub mod output;
+pub mod owned;
+pub mod status;
+pub mod subtree;
+pub mod texts;
+pub mod tree;
+pub mod version;

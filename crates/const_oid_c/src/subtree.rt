@@ -16,6 +16,14 @@ pub struct Octets<'a> {
     pub octets: &'a [u8],
 }
 
+impl<'a> Octets<'a> {
+    fn get(&self) -> &'a [u8]
+        ensures { result ≡ self.now.octets }
+    {
+        self.octets
+    }
+}
+
 /// Places of a list, counted from 0: from the first on, and below the second.
 #[repr(C)]
 #[derive(Clone, Copy)]
@@ -63,11 +71,11 @@ fn places_of(octets: &[u8], sorted: &[Octets<'_>]) -> Places
 {
     let from = sorted
         .iter()
-        .filter(|item| item.octets.cmp(octets).is_lt())
+        .filter(|item| item.get().cmp(octets).is_lt())
         .count();
     let inside = sorted
         .iter()
-        .filter(|item| item.octets.starts_with(octets))
+        .filter(|item| item.get().starts_with(octets))
         .count();
     Places {
         from,
@@ -81,10 +89,10 @@ fn list_fault(sorted: &[Octets<'_>]) -> Option<Status>
 {
     let mut before: &[u8] = &[];
     for (place, item) in sorted.iter().enumerate() {
-        if let Some(status) = item_fault(place, before, item.octets) {
+        if let Some(status) = item_fault(place, before, item.get()) {
             return Some(status);
         }
-        before = item.octets;
+        before = item.get();
     }
     None
 }

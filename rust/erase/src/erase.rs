@@ -28,6 +28,7 @@ const MACROS: [&str; 4] = ["matches", "panic", "unreachable", "write"];
 /// The tokens that are Rust. Paths from `crate` on begin at `root` there.
 pub fn erase<'a>(tokens: &[Token<'a>], root: &'a str) -> Result<Tokens<'a>> {
     let out = without_attributes(tokens)?;
+    let out = without_exports(&out);
     let out = without_drop_bounds(&out);
     let out = without_ghosts(&out)?;
     let out = without_models(&out)?;
@@ -53,6 +54,7 @@ fn without_attributes<'a>(tokens: &[Token<'a>]) -> Result<Tokens<'a>> {
         let end = close(tokens, open) + 1;
         let inside = text(&tokens[open + 1..end - 1]);
         match inside.split_once('(').map_or(&*inside, |(name, _)| name) {
+            "unsafe" if inside == "unsafe(no_mangle)" => at = end + 1,
             name if ATTRIBUTES.contains(&name) => {
                 out.extend_from_slice(&tokens[at..end]);
                 at = end;
@@ -140,6 +142,22 @@ fn space(lines: usize, spaces: usize) -> Token<'static> {
         text: &SPACE[2 - lines..2 + spaces],
         line: 0,
     }
+}
+
+/// Without `extern "C"`: an edge by hand exports the functions that Rattle exports.
+fn without_exports<'a>(tokens: &[Token<'a>]) -> Tokens<'a> {
+    let mut out = Tokens::new();
+    let mut at = 0;
+    while at < tokens.len() {
+        let abi = solid(tokens, at + 1);
+        if tokens[at].is("extern") && tokens.get(abi).is_some_and(|abi| abi.text == "\"C\"") {
+            at = solid(tokens, abi + 1);
+        } else {
+            out.push(tokens[at]);
+            at += 1;
+        }
+    }
+    out
 }
 
 /// Without bounds of `Drop`, which in Rattle says that a value may be left: `T: Drop,` behind `where`,
@@ -448,6 +466,10 @@ mod tests {
             "fn g() {}\n",
         );
         assert_erased("#[cfg(test)]\nmod tests;\nfn g() {}", "fn g() {}");
+        assert_erased(
+            "#[unsafe(no_mangle)]\npub extern \"C\" fn f() {}",
+            "pub fn f() {}",
+        );
         assert_refused("\n#[cold] fn f() {}", "2: unknown attribute `cold`");
         assert_refused("#[derive(Model)] struct S;", "1: unknown derive `Model`");
         assert_refused(

@@ -88,130 +88,131 @@ const EQUALITY: &str = "constants in patterns need the derived `==`; behind the 
 const UNSIZED: &str = "the crate's function of this name is of the unsized form";
 const SHAPE: &str = "until the source has a shape that a constant function takes";
 
-pub const CRATES: &[Crate] = &[Crate {
-    from: "crates/const_oid/src",
-    to: "rust/const-oid/src/erased",
-    root: "crate::erased",
-    left_out: &[
-        Name {
-            name: "laws",
-            why: "its functions have contracts, and no effect",
-        },
-        Name {
-            name: "db_ref",
-            why: "a constant of Rust holds owned identifiers",
-        },
-        Name {
-            name: "traits",
-            why: "Rust's traits have a constant, which Rattle's have not",
-        },
-        Name {
-            name: "core::simd",
-            why: "unstable in Rust; `count_lanes` has a body without it",
-        },
-    ],
-    constant: &[
-        "Buffer::as_bytes",
-        "Buffer::copied",
-        "Buffer::eq",
-        "Buffer::push_group",
-        "Buffer::push_number_of_len",
-        "Database::by_name",
-        "Database::by_oid",
-        "Database::find_names_for_oid",
-        "Database::new",
-        "Encoder::arc",
-        "Encoder::finish",
-        "Encoder::new",
-        "ObjectIdentifier::as_bytes",
-        "ObjectIdentifier::borrowed",
-        "ObjectIdentifier::new",
-        "ObjectIdentifier::new_sized",
-        "ObjectIdentifier::new_unwrap",
-        "ObjectIdentifier::push_arc",
-        "ObjectIdentifier::starts_with",
-        "ObjectIdentifierRef::as_bytes",
-        "ObjectIdentifierRef::eq_oid",
-        "ObjectIdentifierRef::from_checked",
-        "ObjectIdentifierRef::starts_with",
-        "are_equal",
-        "are_few_equal",
-        "begins_with",
-        "end_piece",
-        "end_text",
-        "is_same_name",
-        "has_oid",
-        "parse",
-        "parse_within",
-        "word",
-        "write_group",
-    ],
-    derived: &[
-        Name {
-            name: "PartialEq for ObjectIdentifier",
-            why: EQUALITY,
-        },
-        Name {
-            name: "PartialEq for Buffer",
-            why: EQUALITY,
-        },
-        Name {
-            name: "Eq for Buffer",
-            why: EQUALITY,
-        },
-    ],
-    heads: &[
-        Head {
-            of: "ObjectIdentifier",
-            from: "#[derive(",
-            to: "#[derive(PartialEq, ",
-            why: EQUALITY,
-        },
-        Head {
-            of: "Buffer",
-            from: "#[derive(",
-            to: "#[derive(PartialEq, Eq, ",
-            why: EQUALITY,
-        },
-        Head {
-            of: "ObjectIdentifier",
-            from: "const MAX_SIZE: usize",
-            to: "const MAX_SIZE: usize = 39",
-            why: "a capacity has a default",
-        },
-        Head {
-            of: "ObjectIdentifier::borrowed",
-            from: "pub fn",
-            to: "pub(crate) fn",
+pub const CRATES: &[Crate] = &[
+    Crate {
+        from: "crates/const_oid/src",
+        to: "rust/const-oid/src/erased",
+        root: "crate::erased",
+        left_out: &[
+            Name {
+                name: "laws",
+                why: "its functions have contracts, and no effect",
+            },
+            Name {
+                name: "db_ref",
+                why: "a constant of Rust holds owned identifiers",
+            },
+            Name {
+                name: "traits",
+                why: "Rust's traits have a constant, which Rattle's have not",
+            },
+            Name {
+                name: "core::simd",
+                why: "unstable in Rust; `count_lanes` has a body without it",
+            },
+        ],
+        constant: &[
+            "Buffer::as_bytes",
+            "Buffer::copied",
+            "Buffer::eq",
+            "Buffer::push_group",
+            "Buffer::push_number_of_len",
+            "Database::by_name",
+            "Database::by_oid",
+            "Database::find_names_for_oid",
+            "Database::new",
+            "Encoder::arc",
+            "Encoder::finish",
+            "Encoder::new",
+            "ObjectIdentifier::as_bytes",
+            "ObjectIdentifier::borrowed",
+            "ObjectIdentifier::new",
+            "ObjectIdentifier::new_sized",
+            "ObjectIdentifier::new_unwrap",
+            "ObjectIdentifier::push_arc",
+            "ObjectIdentifier::starts_with",
+            "ObjectIdentifierRef::as_bytes",
+            "ObjectIdentifierRef::eq_oid",
+            "ObjectIdentifierRef::from_checked",
+            "ObjectIdentifierRef::starts_with",
+            "are_equal",
+            "are_few_equal",
+            "begins_with",
+            "end_piece",
+            "end_text",
+            "is_same_name",
+            "has_oid",
+            "parse",
+            "parse_within",
+            "word",
+            "write_group",
+        ],
+        derived: &[
+            Name {
+                name: "PartialEq for ObjectIdentifier",
+                why: EQUALITY,
+            },
+            Name {
+                name: "PartialEq for Buffer",
+                why: EQUALITY,
+            },
+            Name {
+                name: "Eq for Buffer",
+                why: EQUALITY,
+            },
+        ],
+        heads: &[
+            Head {
+                of: "ObjectIdentifier",
+                from: "#[derive(",
+                to: "#[derive(PartialEq, ",
+                why: EQUALITY,
+            },
+            Head {
+                of: "Buffer",
+                from: "#[derive(",
+                to: "#[derive(PartialEq, Eq, ",
+                why: EQUALITY,
+            },
+            Head {
+                of: "ObjectIdentifier",
+                from: "const MAX_SIZE: usize",
+                to: "const MAX_SIZE: usize = 39",
+                why: "a capacity has a default",
+            },
+            Head {
+                of: "ObjectIdentifier::borrowed",
+                from: "pub fn",
+                to: "pub(crate) fn",
+                why: UNSIZED,
+            },
+            Head {
+                of: "ObjectIdentifier::try_from_ref",
+                from: "pub fn",
+                to: "pub(crate) fn",
+                why: "public as `TryFrom`, of the unsized form",
+            },
+            Head {
+                of: "ObjectIdentifierRef::subtree",
+                from: "&[ObjectIdentifierRef<'_>]",
+                to: "&[&crate::ObjectIdentifierRef]",
+                why: "a list of references to the unsized form",
+            },
+        ],
+        renamed: &[Renamed {
+            from: "as_oid_ref",
+            to: "borrowed",
             why: UNSIZED,
-        },
-        Head {
-            of: "ObjectIdentifier::try_from_ref",
-            from: "pub fn",
-            to: "pub(crate) fn",
-            why: "public as `TryFrom`, of the unsized form",
-        },
-        Head {
-            of: "ObjectIdentifierRef::subtree",
-            from: "&[ObjectIdentifierRef<'_>]",
-            to: "&[&crate::ObjectIdentifierRef]",
-            why: "a list of references to the unsized form",
-        },
-    ],
-    renamed: &[Renamed {
-        from: "as_oid_ref",
-        to: "borrowed",
-        why: UNSIZED,
-    }],
-    bodies: &[
-        Body {
-            of: "count_lanes",
-            rust: "{\n    octets.iter().filter(|octet| **octet < 128).count()\n}",
-            why: "lanes are unstable in Rust",
-        },
-        Body {
-            of: "Buffer::copied",
-            rust: "\
+        }],
+        bodies: &[
+            Body {
+                of: "count_lanes",
+                rust: "{\n    octets.iter().filter(|octet| **octet < 128).count()\n}",
+                why: "lanes are unstable in Rust",
+            },
+            Body {
+                of: "Buffer::copied",
+                rust: "\
 {
         let mut bytes = [0; SIZE];
         let mut index = 0;
@@ -224,11 +225,11 @@ pub const CRATES: &[Crate] = &[Crate {
             bytes,
         }
     }",
-            why: SHAPE,
-        },
-        Body {
-            of: "Buffer::push_number_of_len",
-            rust: "\
+                why: SHAPE,
+            },
+            Body {
+                of: "Buffer::push_number_of_len",
+                rust: "\
 {
         let start = self.used as usize;
         let end = start + count;
@@ -240,9 +241,76 @@ pub const CRATES: &[Crate] = &[Crate {
         self.used = end as u8;
         Ok(())
     }",
-            why: SHAPE,
-        },
-    ],
-    shown: &["Buffer::", "Database::", "Error::", "ObjectIdentifier::"],
-    examples: Some("rust/const-oid/examples.md"),
-}];
+                why: SHAPE,
+            },
+        ],
+        shown: &["Buffer::", "Database::", "Error::", "ObjectIdentifier::"],
+        examples: Some("rust/const-oid/examples.md"),
+    },
+    Crate {
+        from: "crates/const_oid/src",
+        to: "rust/const-oid-c/src/const_oid",
+        root: "crate::const_oid",
+        left_out: &[
+            Name {
+                name: "laws",
+                why: "its functions have contracts, and no effect",
+            },
+            Name {
+                name: "db",
+                why: "no call for C names identifiers",
+            },
+            Name {
+                name: "db_ref",
+                why: "no call for C names identifiers",
+            },
+            Name {
+                name: "traits",
+                why: "no call for C has a type parameter",
+            },
+            Name {
+                name: "core::simd",
+                why: "unstable in Rust; `count_lanes` has a body without it",
+            },
+        ],
+        constant: &[],
+        derived: &[],
+        heads: &[],
+        renamed: &[],
+        bodies: &[Body {
+            of: "count_lanes",
+            rust: "{\n    octets.iter().filter(|octet| **octet < 128).count()\n}",
+            why: "lanes are unstable in Rust",
+        }],
+        shown: &[],
+        examples: None,
+    },
+    Crate {
+        from: "crates/const_oid_c/src",
+        to: "rust/const-oid-c/src/calls",
+        root: "crate::calls",
+        left_out: &[],
+        constant: &[],
+        derived: &[],
+        heads: &[],
+        renamed: &[Renamed {
+            from: "const_oid",
+            to: "crate::const_oid",
+            why: "a module stands in the place of the crate",
+        }],
+        bodies: &[
+            Body {
+                of: "Octets",
+                rust: "{\n    octets: *const u8,\n    len: usize,\n    lent: core::marker::PhantomData<&'a [u8]>,\n}",
+                why: "C hands in a pointer, which may be null, and a length",
+            },
+            Body {
+                of: "Octets::get",
+                rust: "{\n        unsafe { crate::edge::input(self.octets, self.len) }\n    }",
+                why: "C hands in a pointer, which may be null, and a length",
+            },
+        ],
+        shown: &[],
+        examples: None,
+    },
+];

@@ -121,6 +121,14 @@ const fn group_len(number: u64) -> usize {
     }
 }
 
+/// Fills so many octets from a place on with the group of a number.
+#[inline(always)]
+fn write_group_at(octets: &mut [u8], start: usize, number: u64, count: usize) {
+    let (_, free) = octets.split_at_mut(start);
+    let (group, _) = free.split_at_mut(count);
+    write_group(group, number);
+}
+
 /// Fills a slice with the group of a number, which takes just so many octets.
 #[inline(always)]
 const fn write_group(octets: &mut [u8], number: u64) {

@@ -1,0 +1,8 @@
+//! The shared library has the name of its first version that programs find it by.
+
+fn main() {
+    println!("cargo::rerun-if-changed=build.rs");
+    if std::env::var("CARGO_CFG_TARGET_OS").as_deref() == Ok("linux") {
+        println!("cargo::rustc-cdylib-link-arg=-Wl,-soname,libconst_oid_c.so.1");
+    }
+}

@@ -1,0 +1,81 @@
+// Made from crates/const_oid_c/src/arcs.rt by rust/erase: edited there.
+
+//! Contents octets as arcs, and arcs as contents octets.
+
+use crate::calls::output::write_octets;
+use crate::calls::owned::{MAX_OCTETS, is_too_long};
+use crate::calls::status::{
+    NONE, Status, code_status, error_status, len_status, no_room_status, number_status,
+};
+use crate::const_oid::{Arcs, ObjectIdentifier, ObjectIdentifierRef, Result};
+
+/// Checks contents octets, of any number.
+pub fn const_oid_check(octets: &[u8]) -> Status {
+    match ObjectIdentifierRef::from_bytes(octets) {
+        Ok(_) => len_status(0),
+        Err(fault) => error_status(fault),
+    }
+}
+
+/// Counts the arcs of contents octets, of any number.
+pub fn const_oid_len(octets: &[u8]) -> Status {
+    match ObjectIdentifierRef::from_bytes(octets) {
+        Ok(oid) => len_status(oid.len()),
+        Err(fault) => error_status(fault),
+    }
+}
+
+/// Finds the arc at a place, counted from 0, of contents octets of any number.
+pub fn const_oid_arc(octets: &[u8], index: usize) -> Status {
+    match ObjectIdentifierRef::from_bytes(octets) {
+        Ok(oid) => match oid.arc(index) {
+            Some(arc) => number_status(arc),
+            None => code_status(NONE),
+        },
+        Err(fault) => error_status(fault),
+    }
+}
+
+/// Writes the contents octets of arcs.
+pub fn const_oid_from_arcs(arcs: &[u32], out: &mut [u8]) -> Status {
+    // A small identifier is quicker to make.
+    let small = encoded::<39>(arcs);
+    if is_too_long(&small) {
+        return write_large(arcs, out);
+    }
+    write_octets(small, out)
+}
+
+/// Writes the contents octets of arcs that take many.
+#[inline(never)]
+fn write_large(arcs: &[u32], out: &mut [u8]) -> Status {
+    write_octets(encoded::<MAX_OCTETS>(arcs), out)
+}
+
+/// The identifier of arcs.
+fn encoded<const N: usize>(arcs: &[u32]) -> Result<ObjectIdentifier<N>> {
+    ObjectIdentifier::<N>::from_arcs_sized(arcs.iter().copied())
+}
+
+/// Writes all arcs of contents octets, of any number.
+pub fn const_oid_arcs(octets: &[u8], out: &mut [u32]) -> Status {
+    let oid = match ObjectIdentifierRef::from_bytes(octets) {
+        Ok(oid) => oid,
+        Err(fault) => return error_status(fault),
+    };
+    let len = oid.len();
+    if len > out.len() {
+        return no_room_status(len);
+    }
+    fill(oid.arcs(), out);
+    len_status(len)
+}
+
+/// Writes arcs to the prefix of the caller's slice, which has room for them.
+fn fill(arcs: Arcs<'_>, out: &mut [u32]) {
+    let mut index = 0;
+    for arc in arcs {
+        out[index] = arc;
+        index += 1;
+    }
+}

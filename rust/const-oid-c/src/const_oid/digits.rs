@@ -1,0 +1,81 @@
+// Made from crates/const_oid/src/digits.rt by rust/erase: edited there.
+
+//! Arcs in decimal, written into bytes.
+
+use crate::const_oid::arcs::Arc;
+
+/// The most bytes that an arc takes in a text: a dot, and ten digits.
+pub(crate) const MAX_ARC_LEN: usize = 11;
+
+/// How many bytes an arc takes in a text: its digits, and a dot before them unless it is the first.
+#[inline]
+pub(crate) fn arc_len(arc: Arc, is_first: bool) -> usize {
+    let digits = count_digits(arc);
+    if is_first { digits } else { digits + 1 }
+}
+
+/// Writes an arc at a place, after a dot unless it is the first, and tells the place after it.
+#[inline]
+pub(crate) fn write_arc(arc: Arc, is_first: bool, out: &mut [u8], at: usize) -> usize {
+    if is_first {
+        return write_digits(arc, out, at);
+    }
+    out[at] = b'.';
+    write_digits(arc, out, at + 1)
+}
+
+/// How many digits an arc has.
+#[inline]
+fn count_digits(arc: Arc) -> usize {
+    if arc < 10 {
+        1
+    } else if arc < 100 {
+        2
+    } else if arc < 10_000 {
+        if arc < 1_000 { 3 } else { 4 }
+    } else if arc < 1_000_000 {
+        if arc < 100_000 { 5 } else { 6 }
+    } else if arc < 100_000_000 {
+        if arc < 10_000_000 { 7 } else { 8 }
+    } else if arc < 1_000_000_000 {
+        9
+    } else {
+        10
+    }
+}
+
+/// Writes the digits of an arc at a place, the last of them first, and tells the place after them.
+#[inline]
+fn write_digits(arc: Arc, out: &mut [u8], at: usize) -> usize {
+    if arc < 10 {
+        out[at] = b'0' + arc as u8;
+        return at + 1;
+    }
+    let end = at + count_digits(arc);
+    let mut left = arc;
+    let mut place = end;
+    while left >= 100 {
+        place -= 2;
+        write_pair(left % 100, out, place);
+        left /= 100;
+    }
+    if left < 10 {
+        out[at] = b'0' + left as u8;
+    } else {
+        write_pair(left, out, at);
+    }
+    end
+}
+
+/// Writes two digits at a place.
+#[inline]
+fn write_pair(pair: u32, out: &mut [u8], at: usize) {
+    let from = pair as usize * 2;
+    let (tens, ones) = (PAIRS[from], PAIRS[from + 1]);
+    out[at] = tens;
+    out[at + 1] = ones;
+}
+
+/// The two digits of each number below a hundred.
+static PAIRS: [u8; 200] =
+    *b"00010203040506070809101112131415161718192021222324252627282930313233343536373839404142434445464748495051525354555657585960616263646566676869707172737475767778798081828384858687888990919293949596979899";

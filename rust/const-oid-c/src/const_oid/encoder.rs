@@ -1,0 +1,101 @@
+// Made from crates/const_oid/src/encoder.rt by rust/erase: edited there.
+
+//! Arcs, one after another, to octets.
+
+use crate::const_oid::arcs::Arc;
+use crate::const_oid::buffer::Buffer;
+use crate::const_oid::error::{Error, Result};
+
+/// How far an encoder has come.
+#[derive(Copy, Clone)]
+enum State {
+    /// No arc was given.
+    Initial,
+
+    /// One arc was given.
+    FirstArc(Arc),
+
+    /// Two arcs or more were given.
+    Body,
+}
+
+/// An encoder of arcs at a capacity, the smaller of `SIZE` and 255 octets.
+pub(crate) struct Encoder<const SIZE: usize> {
+    state: State,
+    octets: Buffer<SIZE>,
+}
+
+impl<const SIZE: usize> Encoder<SIZE> {
+    /// An encoder that was given no arc.
+    pub(crate) fn new() -> Self {
+        Encoder {
+            state: State::Initial,
+            octets: Buffer::empty(),
+        }
+    }
+
+    /// Whether no arc was given.
+    pub(crate) const fn is_empty(&self) -> bool {
+        matches!(self.state, State::Initial)
+    }
+
+    /// Encodes one more arc.
+    #[inline(always)]
+    pub(crate) fn arc(&mut self, arc: Arc) -> Result<()> {
+        let number = match self.state {
+            State::Initial => {
+                if arc > 2 {
+                    return Err(Error::ArcInvalid { arc });
+                }
+                self.state = State::FirstArc(arc);
+                return Ok(());
+            }
+            State::FirstArc(first) => {
+                if arc > max_second(first) {
+                    return Err(Error::ArcInvalid { arc });
+                }
+                40 * first as u64 + arc as u64
+            }
+            State::Body => arc as u64,
+        };
+        if let Err(fault) = self.octets.push_group(number) {
+            return Err(fault);
+        }
+        self.state = State::Body;
+        Ok(())
+    }
+
+    /// The encoding of the arcs given, which are two or more.
+    pub(crate) fn finish(self) -> Result<Buffer<SIZE>> {
+        match self.state {
+            State::Body => Ok(self.octets),
+            State::Initial | State::FirstArc(_) => Err(Error::Empty),
+        }
+    }
+}
+
+/// The encoding of the arcs that an iterator gives, in up to `SIZE` octets, and never past 255.
+pub(crate) fn encode<const SIZE: usize, I: IntoIterator<Item = Arc>>(
+    arcs: I,
+) -> Result<Buffer<SIZE>> {
+    // A longer array holds no more octets: an encoder of it could be too large for the memory.
+    if SIZE > 255 {
+        return Ok(Buffer::copied(encode_within::<255, I>(arcs)?.as_bytes()));
+    }
+    encode_within(arcs)
+}
+
+/// The same, where all of the array can be in use.
+#[inline(always)]
+fn encode_within<const SIZE: usize, I: IntoIterator<Item = Arc>>(arcs: I) -> Result<Buffer<SIZE>> {
+    let mut encoder = Encoder::new();
+    for arc in arcs {
+        encoder.arc(arc)?;
+    }
+    encoder.finish()
+}
+
+/// The greatest second arc under a first arc (X.660): 39 under 0 and 1, any of 32 bits under 2.
+const fn max_second(first: Arc) -> Arc {
+    if first < 2 { 39 } else { Arc::MAX }
+}

@@ -1,0 +1,58 @@
+// Made from crates/const_oid/src/text.rt by rust/erase: edited there.
+
+//! Arcs as text: their decimals joined by dots.
+
+use crate::const_oid::arcs::Arcs;
+use crate::const_oid::digits::{arc_len, write_arc};
+use core::str;
+
+/// The length of the arcs' text, or `None` where it is over a limit.
+pub(crate) fn text_len(arcs: Arcs<'_>, limit: usize) -> Option<usize> {
+    let mut room = limit;
+    let mut is_first = true;
+    for arc in arcs {
+        let len = arc_len(arc, is_first);
+        if room < len {
+            return None;
+        }
+        room -= len;
+        is_first = false;
+    }
+    Some(limit - room)
+}
+
+/// Writes the arcs' text at the prefix, and tells its length.
+pub(crate) fn write_text(arcs: Arcs<'_>, out: &mut [u8]) -> usize {
+    let mut left = arcs;
+    let mut at = write_root(&mut left, out);
+    for arc in left {
+        at = write_arc(arc, false, out, at);
+    }
+    at
+}
+
+/// Takes the first two arcs, writes them at the prefix, and tells the length.
+#[inline(always)]
+pub(crate) fn write_root(arcs: &mut Arcs<'_>, out: &mut [u8]) -> usize {
+    let Some(first) = arcs.next() else {
+        return 0;
+    };
+    let at = write_arc(first, true, out, 0);
+    let Some(second) = arcs.next() else {
+        return at;
+    };
+    write_arc(second, false, out, at)
+}
+
+/// Writes bytes at a place, and tells the place after them.
+pub(crate) fn write_bytes(bytes: &[u8], out: &mut [u8], at: usize) -> usize {
+    let end = at + bytes.len();
+    out[at..end].copy_from_slice(bytes);
+    end
+}
+
+/// The text of bytes that are UTF-8. Each call is proved to pass such bytes, so they are not looked
+/// at again.
+pub(crate) fn utf8(bytes: &[u8]) -> &str {
+    unsafe { str::from_utf8_unchecked(bytes) }
+}

@@ -1,0 +1,60 @@
+// Made from crates/const_oid/src/valid.rt by rust/erase: edited there.
+
+//! Octets checked for faults (X.690, 8.19.2).
+
+use crate::const_oid::arcs::Arc;
+use crate::const_oid::error::{Error, Result};
+
+/// The greatest first subidentifier: of the first arc 2 and the greatest second arc.
+const MAX_FIRST: u64 = 2 * 40 + Arc::MAX as u64;
+
+/// The fault of octets, whatever their number, if there is one.
+#[inline(never)]
+pub(crate) fn check(octets: &[u8]) -> Result<()> {
+    if octets.is_empty() {
+        return Err(Error::Empty);
+    }
+    let mut rest = octets;
+    let mut limit = MAX_FIRST;
+    while !rest.is_empty() {
+        rest = match skip_group(rest, limit) {
+            Ok(after) => after,
+            Err(fault) => return Err(fault),
+        };
+        limit = Arc::MAX as u64;
+    }
+    Ok(())
+}
+
+/// The octets after the first group, or its fault. Most groups are short, and too short for a number
+/// past the limit.
+#[inline(always)]
+fn skip_group(octets: &[u8], limit: u64) -> Result<&[u8]> {
+    match octets {
+        [a, after @ ..] if *a < 128 => Ok(after),
+        [a, ..] if *a == 128 => Err(Error::Base128),
+        [_, b, after @ ..] if *b < 128 => Ok(after),
+        [_, _, c, after @ ..] if *c < 128 => Ok(after),
+        [_, _, _, d, after @ ..] if *d < 128 => Ok(after),
+        [a, _, _, _, e, after @ ..] if *a < 144 && *e < 128 => Ok(after),
+        _ => skip_long_group(octets, limit),
+    }
+}
+
+/// The octets after the first group, or its fault, by its number.
+fn skip_long_group(octets: &[u8], limit: u64) -> Result<&[u8]> {
+    let mut number: u64 = 0;
+    let mut index = 0;
+    while index < octets.len() {
+        let octet = octets[index];
+        number = number * 128 + (octet % 128) as u64;
+        if number > limit {
+            return Err(Error::ArcTooBig);
+        }
+        if octet < 128 {
+            return Ok(octets.split_at(index + 1).1);
+        }
+        index += 1;
+    }
+    Err(Error::Base128)
+}
