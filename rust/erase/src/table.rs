@@ -123,6 +123,7 @@ pub const CRATES: &[Crate] = &[
             "Database::new",
             "Encoder::arc",
             "Encoder::finish",
+            "Encoder::is_empty",
             "Encoder::new",
             "ObjectIdentifier::as_bytes",
             "ObjectIdentifier::borrowed",
@@ -146,6 +147,7 @@ pub const CRATES: &[Crate] = &[
             "parse_within",
             "word",
             "write_group",
+            "write_group_at",
         ],
         derived: &[
             Name {
@@ -224,22 +226,6 @@ pub const CRATES: &[Crate] = &[
             used: octets.len() as u8,
             bytes,
         }
-    }",
-                why: SHAPE,
-            },
-            Body {
-                of: "Buffer::push_number_of_len",
-                rust: "\
-{
-        let start = self.used as usize;
-        let end = start + count;
-        if end > SIZE || end > 255 {
-            return Err(Error::Length);
-        }
-        let bytes = self.bytes.split_at_mut(start).1;
-        write_group(bytes.split_at_mut(count).0, number);
-        self.used = end as u8;
-        Ok(())
     }",
                 why: SHAPE,
             },

@@ -80,11 +80,14 @@ pub(crate) fn arc_at(octets: &[u8], index: usize) -> Option<Arc> {
 /// The number of the first group, and the octets after it.
 fn read_group(octets: &[u8]) -> (u64, &[u8]) {
     let mut number: u64 = 0;
-    for (i, octet) in octets.iter().enumerate() {
-        number = number * 128 + (*octet % 128) as u64;
-        if *octet < 128 {
-            return (number, &octets[i + 1..]);
+    let mut index = 0;
+    while index < octets.len() {
+        let octet = octets[index] as u64;
+        index += 1;
+        if octet < 128 {
+            return (number * 128 + octet, octets.split_at(index).1);
         }
+        number = number * 128 + (octet - 128);
     }
     unreachable!()
 }

@@ -69,8 +69,7 @@ impl<const SIZE: usize> Buffer<SIZE> {
         if end > SIZE || end > 255 {
             return Err(Error::Length);
         }
-        let bytes = self.bytes.split_at_mut(start).1;
-        write_group(bytes.split_at_mut(count).0, number);
+        write_group_at(&mut self.bytes, start, number, count);
         self.used = end as u8;
         Ok(())
     }
@@ -123,7 +122,7 @@ const fn group_len(number: u64) -> usize {
 
 /// Fills so many octets from a place on with the group of a number.
 #[inline(always)]
-fn write_group_at(octets: &mut [u8], start: usize, number: u64, count: usize) {
+const fn write_group_at(octets: &mut [u8], start: usize, number: u64, count: usize) {
     let (_, free) = octets.split_at_mut(start);
     let (group, _) = free.split_at_mut(count);
     write_group(group, number);

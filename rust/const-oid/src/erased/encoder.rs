@@ -6,22 +6,11 @@ use crate::erased::arcs::Arc;
 use crate::erased::buffer::Buffer;
 use crate::erased::error::{Error, Result};
 
-/// How far an encoder has come.
-#[derive(Copy, Clone)]
-enum State {
-    /// No arc was given.
-    Initial,
-
-    /// One arc was given.
-    FirstArc(Arc),
-
-    /// Two arcs or more were given.
-    Body,
-}
-
 /// An encoder of arcs at a capacity, the smaller of `SIZE` and 255 octets.
 pub(crate) struct Encoder<const SIZE: usize> {
-    state: State,
+    /// The first arc, where it was given.
+    first: Option<Arc>,
+    /// The encoding, where two arcs or more were given.
     octets: Buffer<SIZE>,
 }
 
@@ -29,48 +18,44 @@ impl<const SIZE: usize> Encoder<SIZE> {
     /// An encoder that was given no arc.
     pub(crate) const fn new() -> Self {
         Encoder {
-            state: State::Initial,
+            first: None,
             octets: Buffer::empty(),
         }
     }
 
     /// Whether no arc was given.
     pub(crate) const fn is_empty(&self) -> bool {
-        matches!(self.state, State::Initial)
+        self.first.is_none()
     }
 
     /// Encodes one more arc.
     #[inline(always)]
     pub(crate) const fn arc(&mut self, arc: Arc) -> Result<()> {
-        let number = match self.state {
-            State::Initial => {
+        let number = match self.first {
+            _ if self.octets.len() > 0 => arc as u64,
+            None => {
                 if arc > 2 {
                     return Err(Error::ArcInvalid { arc });
                 }
-                self.state = State::FirstArc(arc);
+                self.first = Some(arc);
                 return Ok(());
             }
-            State::FirstArc(first) => {
+            Some(first) => {
                 if arc > max_second(first) {
                     return Err(Error::ArcInvalid { arc });
                 }
                 40 * first as u64 + arc as u64
             }
-            State::Body => arc as u64,
         };
-        if let Err(fault) = self.octets.push_group(number) {
-            return Err(fault);
-        }
-        self.state = State::Body;
-        Ok(())
+        self.octets.push_group(number)
     }
 
     /// The encoding of the arcs given, which are two or more.
     pub(crate) const fn finish(self) -> Result<Buffer<SIZE>> {
-        match self.state {
-            State::Body => Ok(self.octets),
-            State::Initial | State::FirstArc(_) => Err(Error::Empty),
+        if self.octets.len() == 0 {
+            return Err(Error::Empty);
         }
+        Ok(self.octets)
     }
 }
 
