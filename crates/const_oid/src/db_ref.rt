@@ -5,6 +5,7 @@ ghost use Rattle.std.specs.Iterator.{YieldsFirst, item_count};
 ghost use Rattle.const_oid.specs.Names.{ref_entries_of, has_arcs, first_name, all_names, first_oid, ref_names_left};
 ghost use Rattle.const_oid.specs.OidRef.{ref_arcs};
 
+use crate::compare::are_equal;
 use crate::db::is_same_name;
 use crate::oid_ref::ObjectIdentifierRef;
 
@@ -92,5 +93,5 @@ impl<'a, 'b> Iterator for RefNames<'a, 'b> {
 fn has_ref(entry: &(ObjectIdentifierRef<'_>, &str), oid: &ObjectIdentifierRef<'_>) -> bool
     ensures { result ≡ has_arcs ref_arcs (ref_arcs oid.now) entry.now }
 {
-    entry.0 == *oid
+    are_equal(entry.0.as_bytes(), oid.as_bytes())
 }
