@@ -18,7 +18,7 @@ fn differences(dice: &mut Dice) -> usize {
     let of_octets: [(&str, Call, Call, u64); 8] = [
         ("from_bytes, owned", ours_owned, rust_owned, 0),
         ("from_bytes, borrowed", ours_borrowed, rust_borrowed, 0),
-        ("Display", ours_print, rust_print, 0),
+        ("text", ours_print, rust_print, 0),
         ("len", ours_len, rust_len, 0),
         ("arc(1)", ours_arc, rust_arc, 1),
         ("arc(5)", ours_arc, rust_arc, 5),
@@ -45,7 +45,7 @@ fn differences(dice: &mut Dice) -> usize {
         for (name, ours, rust, number) in of_octets {
             compare(name, ours, rust, &octets, number);
         }
-        let printed = compare("Display", ours_print, rust_print, &octets, 0);
+        let printed = compare("text", ours_print, rust_print, &octets, 0);
         let mixed: Vec<u8> = (0..dice.below(12)).map(|_| b"001349..X"[dice.below(9) as usize]).collect();
         for text in [printed, mixed] {
             compare("new", ours_new, rust_new, &text, 0);

@@ -99,7 +99,7 @@ pub fn all(dice: &mut Dice) -> Vec<Row> {
         rows.push(of_calls("from_bytes, borrowed", &size, 1.0, &set, 0, [ours_borrowed, rust_borrowed]));
         rows.push(of_calls("from_bytes and len", &size, 1.0, &set, 0, [ours_len, rust_len]));
         rows.push(of_calls("from_bytes and arc of the middle", &size, 1.0, &set, middle, [ours_arc, rust_arc]));
-        rows.push(of_calls("from_bytes and Display", &size, 1.0, &set, 0, [ours_print, rust_print]));
+        rows.push(of_calls("from_bytes and text", &size, 1.0, &set, 0, [ours_print, rust_print]));
     }
     for count in [1000, 10_000, 100_000, 1_000_000] {
         let list = listed(count);
@@ -153,7 +153,7 @@ fn call_rows(size: &str, goal: f64, set: &[Vec<u8>]) -> Vec<Row> {
         of_calls("new", size, goal, &texts, 0, [ours_new, rust_new]),
         of_calls("from_bytes, owned", size, goal, set, 0, [ours_owned, rust_owned]),
         of_calls("from_bytes, borrowed", size, goal, set, 0, [ours_borrowed, rust_borrowed]),
-        of_calls("from_bytes and Display", size, goal, set, 0, [ours_print, rust_print]),
+        of_calls("from_bytes and text", size, goal, set, 0, [ours_print, rust_print]),
         of_calls("from_bytes and len", size, goal, set, 0, [ours_len, rust_len]),
         of_calls("from_bytes and arc(2)", size, goal, set, 2, [ours_arc, rust_arc]),
         of_calls("from_bytes and parent", size, goal, set, 0, [ours_parent, rust_parent]),
@@ -168,7 +168,7 @@ fn repeated_rows(size: &str, goal: f64, set: &[Vec<u8>]) -> Vec<Row> {
     let operations = [
         ("from_bytes, owned", goal, 0, 0, &next),
         ("from_bytes, borrowed", goal, 3, 0, &next),
-        ("Display", goal, 11, 0, &next),
+        ("text", goal, 11, 0, &next),
         ("len", goal, 4, 0, &next),
         ("arc(0)", 1.0, 5, 0, &next),
         ("arc(2)", goal, 5, 2, &next),

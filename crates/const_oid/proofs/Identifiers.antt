@@ -3,8 +3,6 @@ use Rattle.std.proofs.Common.{◌≡◌, ◌≢◌, ℕ, true, false, Equal, Gre
 use Rattle.std.proofs.Math.Seq.{get_or-append_seam}
 use Rattle.std.proofs.lemmas.Option.{get_or_from_slice_get}
 use Rattle.std.specs.Cmp.Lexicographic.{slice_cmp}
-use Rattle.std.specs.Fmt.{WritesInCalls}
-use Rattle.std.proofs.lemmas.Fmt.{contents_after_writes}
 use Rattle.std.specs.Ordering.{is_le, is_lt, ordering_reverse}
 use Rattle.std.specs.Prelude.{Result, Err}
 use Rattle.std.specs.Iterator.{YieldsFirst}
@@ -72,12 +70,6 @@ reversed Greater t = cc
 -- what is not after a list of octets is not before it the other way round: so `is_sorted` tells what `subtree` asks
 pub not_before : (a b : List ℕ) → is_le (slice_cmp nat_cmp a b) ≡ true → is_lt (slice_cmp nat_cmp b a) ≡ false
 not_before a b level = rw (nat_list_cmp_total.antisymm b a) (reversed (slice_cmp nat_cmp a b) level)
-
--- ---- in a writer of one's own
-
--- a writer that appends each piece goes on by the whole text
-pub written_whole : (old text new : List ℕ) → WritesInCalls (λ old piece new. new ≡ old ++ piece) old text new → new ≡ old ++ text
-written_whole old text new h = contents_after_writes (λ old piece new. new ≡ old ++ piece) (λ held. held) (λ _ _ _ e. e) old text new h
 
 -- the answer to the items of an iterator is exact where the iterator tells the list that it has left
 pub exact_answer : {S : Type 0} (rule : RootRule) (capacity : ℕ) (rest : S → List ℕ) (s : S) (result : Result (List ℕ) Error) → TakesItems rule capacity (YieldsFirst rest) s result → result ≡ item_answer rule (rest s) capacity
