@@ -17,7 +17,7 @@ _library = ctypes.CDLL(os.environ.get("CONST_OID_LIBRARY", "libconst_oid_c.so.1"
 
 
 def _written(name, *inputs):
-    """What a call writes, into room that is as long as it asks for."""
+    """What a call writes, in as many bytes as it asks for."""
     call = getattr(_library, "const_oid_" + name)
     call.restype = Status
     status, out = call(*inputs, None, ctypes.c_size_t(0)), None

@@ -25,9 +25,9 @@ place_of-positive RepeatedDot = omega arith
 place_of-positive TrailingDot = omega arith
 
 -- a status under a test
-tested : (b : Bool) (told status : Status) → 0 < told.code → (if b then Some told else None) ≡ Some status → 0 < status.code
-tested true told status h e = let same : told ≡ status = cc in omega (arith, ap (λ (s : Status). s.code) same)
-tested false told status h e = cc
+tested : (b : Bool) (fault status : Status) → 0 < fault.code → (if b then Some fault else None) ≡ Some status → 0 < status.code
+tested true fault status h e = let same : fault ≡ status = cc in omega (arith, ap (λ (s : Status). s.code) same)
+tested false fault status h e = cc
 
 read_code : (place : ℕ) (before octets : List ℕ) (answer : Result (List ℕ) Error) (status : Status) → read_fault place before octets answer ≡ Some status → 0 < status.code
 read_code place before octets (Ok arcs) status e = tested (is_lt (slice_cmp nat_cmp octets before)) _ status (omega arith) e
@@ -35,7 +35,7 @@ read_code place before octets (Err fault) status e = tested true (record (error_
 
 either_code : (first second : Option Status) (status : Status) → (first ≡ Some status → 0 < status.code) → (second ≡ Some status → 0 < status.code) → option_or first second ≡ Some status → 0 < status.code
 either_code None second status f s e = s e
-either_code (Some told) second status f s e = f e
+either_code (Some fault) second status f s e = f e
 
 pub list_code : (place : ℕ) (before : List ℕ) (items : List Octets) (status : Status) → list_fault place before items ≡ Some status → 0 < status.code
 list_code place before [] status e = cc

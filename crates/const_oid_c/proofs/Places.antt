@@ -25,13 +25,13 @@ at_first false true cp cb n m e f g h apart = (λ t. (omega (arith, g refl), ome
 at_first false false cp cb n m e f g h apart = (λ t. cc, λ (low, high). absurd (omega (arith, g refl, h refl refl)))
 
 at_later : (Q : Type 0) (k : ℕ) (px bx : Bool) (cp cb n m : ℕ) → n ≡ cond px 1 0 + cp → m ≡ cond bx 1 0 + cb → (px ≡ false → cp ≡ 0) → (px ≡ false → bx ≡ false → cb ≡ 0) → (bx ≡ true → px ≡ false) → Q ↔ ((cp ≤ k) × (k < cp + cb)) → Q ↔ ((n ≤ suc k) × (suc k < n + m))
-at_later Q k true true cp cb n m e f g h apart told = cc (apart refl)
-at_later Q k true false cp cb n m e f g h apart told =
-    (λ q. let (low, high) = told.0 q in (omega arith, omega arith), λ (low, high). told.1 (omega arith, omega arith))
-at_later Q k false true cp cb n m e f g h apart told =
-    (λ q. let (low, high) = told.0 q in (omega (arith, g refl), omega arith), λ (low, high). told.1 (omega (arith, g refl), omega arith))
-at_later Q k false false cp cb n m e f g h apart told =
-    (λ q. let (low, high) = told.0 q in absurd (omega (arith, g refl, h refl refl)), λ (low, high). absurd (omega (arith, g refl, h refl refl)))
+at_later Q k true true cp cb n m e f g h apart within = cc (apart refl)
+at_later Q k true false cp cb n m e f g h apart within =
+    (λ q. let (low, high) = within.0 q in (omega arith, omega arith), λ (low, high). within.1 (omega arith, omega arith))
+at_later Q k false true cp cb n m e f g h apart within =
+    (λ q. let (low, high) = within.0 q in (omega (arith, g refl), omega arith), λ (low, high). within.1 (omega (arith, g refl), omega arith))
+at_later Q k false false cp cb n m e f g h apart within =
+    (λ q. let (low, high) = within.0 q in absurd (omega (arith, g refl, h refl refl)), λ (low, high). absurd (omega (arith, g refl, h refl refl)))
 
 module _ {X : Type 0} (p b : X → Bool) where
   -- after what does not pass p nothing does, and after what passes neither nothing passes b
@@ -45,7 +45,7 @@ module _ {X : Type 0} (p b : X → Bool) where
       at_first (p x) (b x) (count_by p xs) (count_by b xs) n m (e ∙ sum_by-cons (λ y. cond (p y) 1 0) x xs) (f ∙ sum_by-cons (λ y. cond (b y) 1 0) x xs) c.0 c.1 c.2
   cut_places (x ∷ xs) c n m e f (suc k) =
       if_some_map (slice_get xs k) _ _
-      (λ y told. at_later (b y ≡ true) k (p x) (b x) (count_by p xs) (count_by b xs) n m (e ∙ sum_by-cons (λ z. cond (p z) 1 0) x xs) (f ∙ sum_by-cons (λ z. cond (b z) 1 0) x xs) c.0 c.1 c.2 told)
+      (λ y within. at_later (b y ≡ true) k (p x) (b x) (count_by p xs) (count_by b xs) n m (e ∙ sum_by-cons (λ z. cond (p z) 1 0) x xs) (f ∙ sum_by-cons (λ z. cond (b z) 1 0) x xs) c.0 c.1 c.2 within)
       (cut_places xs c.3 (count_by p xs) (count_by b xs) refl refl k)
 
 -- ---- a list with nothing wrong
@@ -107,7 +107,7 @@ module _ (prefix : List ℕ) where
   pub listed_places : (items : List Octets) → list_fault 0 [] items ≡ None → (from to : ℕ) → from ≡ count_by item_before items → to ≡ from + count_by item_under items → (k : ℕ) → IfSome (slice_get items k) (λ item. BeginsWith (octets_at item) prefix ↔ ((from ≤ k) × (k < to)))
   listed_places items e from to f g k =
       if_some_map (slice_get items k) _ _
-      (λ item told.
+      (λ item within.
       let (one, other) = under_told prefix (octets_at item) in
-      (λ begins. rw g (told.0 (other begins)), λ inside. one (told.1 (rw g at inside))))
+      (λ begins. rw g (within.0 (other begins)), λ inside. one (within.1 (rw g at inside))))
       (cut_places item_before item_under items (are_cut items 0 [] e) from (count_by item_under items) f refl k)

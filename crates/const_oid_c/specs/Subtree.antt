@@ -13,7 +13,7 @@ use Rattle.const_oid_c.specs.Answers.{borrowed_answer}
 abbrev pub octets_at : Octets → List ℕ
 octets_at item = item.octets.now
 
--- what is wrong with octets at a place that is told as the length, after those before: their fault, or that they stand before those
+-- what is wrong with octets at a place, which stands as the length, after those before: their fault, or that they stand before those
 abbrev pub read_fault : ℕ → List ℕ → List ℕ → Result (List ℕ) Error → Option Status
 read_fault place before octets (Ok arcs) = if is_lt (slice_cmp nat_cmp octets before) then Some (record { code = 13; detail = 0; len = place }) else None
 read_fault place before octets (Err fault) = Some (record (error_status fault) { len = place })
@@ -26,12 +26,12 @@ abbrev pub list_fault : ℕ → List ℕ → List Octets → Option Status
 list_fault place before [] = None
 list_fault place before (item ∷ items) = option_or (item_fault place before (octets_at item)) (list_fault (place + 1) (octets_at item) items)
 
--- what is told of a list: its first refusal, if there is one
+-- the status of a list: its first fault, if there is one
 abbrev pub list_status : Option Status → Status
 list_status None = len_status 0
 list_status (Some status) = status
 
--- what is told of octets and a list: the fault of the octets, or what is wrong with the list
+-- the status of octets and a list: the fault of the octets, or what is wrong with the list
 abbrev pub both_status : Result (List ℕ) Error → List Octets → Status
 both_status (Ok arcs) items = list_status (list_fault 0 [] items)
 both_status (Err fault) items = error_status fault
