@@ -55,7 +55,8 @@ impl ObjectIdentifier<39> {
         Self::new_sized(s)
     }
 
-    /// Reads dotted text that is known to have no fault, as a literal.
+    /// Reads dotted text that is known to have no fault, as a literal. A fault is refused before the
+    /// program runs; in Rust, outside of constants, by a panic.
     pub fn new_unwrap(s: &str) -> Self
         requires { text_fault root_rule s.now 39 ≡ None }
         ensures { Denotes root_rule s.now (oid_arcs result) }
@@ -74,13 +75,13 @@ impl ObjectIdentifier<39> {
     /// - [`Error::Empty`]: there are fewer than two items.
     ///
     /// At `Err` the fault is that of every list which begins with the items drawn, or, where the
-    /// iterator ended, of exactly these: `[1]` is `Empty`, and `[1, 2]` is not. For an array, a slice's
-    /// `iter().copied()` or a `Vec`, whose items are known, the checker finds the exact answer by
-    /// itself; for [`Arcs`] the lemma `exact_answer` gives it.
+    /// iterator ended, of exactly these: `[1]` is `Empty`, and `[1, 2]` is not.
     pub fn from_arcs<I: IntoIterator<Item = Arc>>(arcs: I) -> Result<Self>
     where
         I::IntoIter: Drop,
-        // The iterator can be asked for all of its items, and ends.
+        // The iterator can be asked for all of its items, and ends. For an array, a slice's
+        // `iter().copied()` or a `Vec`, whose items are known, the checker finds the exact answer by
+        // itself; for `Arcs` the lemma `exact_answer` gives it.
         requires { IsFiniteIterable I.into_iter_gives I.IntoIter.can_next I.IntoIter.remaining arcs }
         ensures takes { (iterator : I.IntoIter) × I.into_iter_gives arcs iterator
             × TakesItems root_rule 39 I.IntoIter.next_gives iterator (oid_answer result) }
@@ -321,7 +322,7 @@ impl<const MAX_SIZE: usize> PartialEq for ObjectIdentifier<MAX_SIZE> {
 }
 
 /// Fewer octets first, and with as many the octets in list order. This is not the order of arcs: see
-/// [`cmp_arcs`](ObjectIdentifierRef::cmp_arcs).
+/// [`cmp_arcs`](Self::cmp_arcs).
 impl<const MAX_SIZE: usize> Ord for ObjectIdentifier<MAX_SIZE> {
     ghost use Rattle.std.specs.Prelude.{refl};
     ghost use Rattle.std.specs.Cmp.{on_total};

@@ -11,7 +11,7 @@ use std::collections::BTreeMap;
 /// How often each entry of a table was found.
 pub type Found = BTreeMap<(&'static str, String), usize>;
 
-/// A type, or a function that is no trait's.
+/// A module, a type, or a function that is no trait's.
 struct Item {
     /// Of a type's function: `Type::function`.
     name: String,
@@ -147,7 +147,7 @@ fn body_of(tokens: &[Token<'_>], from: usize) -> usize {
     (from..tokens.len()).find(opens).unwrap_or(tokens.len())
 }
 
-/// The types and functions of a source, in order.
+/// The modules, types and functions of a source, in order.
 fn items(tokens: &[Token<'_>]) -> Vec<Item> {
     let mut out = Vec::new();
     let (mut owner, mut owner_end) = (String::new(), 0);
@@ -165,7 +165,7 @@ fn items(tokens: &[Token<'_>]) -> Vec<Item> {
                 None => at = close(tokens, body),
             },
             ("trait", _) => at = close(tokens, body),
-            ("fn" | "struct" | "enum", Some(name)) => {
+            ("fn" | "struct" | "enum" | "mod", Some(name)) => {
                 let owner = if at < owner_end { &*owner } else { "" };
                 let (name, head) = (format!("{owner}{}", name.text), head_of(tokens, at));
                 let end = item_end(tokens, at);

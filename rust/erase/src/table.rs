@@ -28,7 +28,7 @@ pub struct Name {
     pub why: &'static str,
 }
 
-/// A piece of the head of a type or of a function, its attributes included, which stands there once,
+/// A piece of the head of a module, a type or a function, its attributes included, which stands there once,
 /// and what stands in its place.
 pub struct Head {
     pub of: &'static str,
@@ -164,6 +164,12 @@ pub const CRATES: &[Crate] = &[
             },
         ],
         heads: &[
+            Head {
+                of: "db",
+                from: "pub mod",
+                to: "#[cfg(feature = \"db\")]\npub mod",
+                why: "it is of a feature",
+            },
             Head {
                 of: "ObjectIdentifier",
                 from: "#[derive(",

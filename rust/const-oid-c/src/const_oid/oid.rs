@@ -39,7 +39,8 @@ impl ObjectIdentifier<39> {
         Self::new_sized(s)
     }
 
-    /// Reads dotted text that is known to have no fault, as a literal.
+    /// Reads dotted text that is known to have no fault, as a literal. A fault is refused before the
+    /// program runs; in Rust, outside of constants, by a panic.
     pub fn new_unwrap(s: &str) -> Self {
         match Self::new(s) {
             Ok(oid) => oid,
@@ -55,9 +56,7 @@ impl ObjectIdentifier<39> {
     /// - [`Error::Empty`]: there are fewer than two items.
     ///
     /// At `Err` the fault is that of every list which begins with the items drawn, or, where the
-    /// iterator ended, of exactly these: `[1]` is `Empty`, and `[1, 2]` is not. For an array, a slice's
-    /// `iter().copied()` or a `Vec`, whose items are known, the checker finds the exact answer by
-    /// itself; for [`Arcs`] the lemma `exact_answer` gives it.
+    /// iterator ended, of exactly these: `[1]` is `Empty`, and `[1, 2]` is not.
     pub fn from_arcs<I: IntoIterator<Item = Arc>>(arcs: I) -> Result<Self> {
         Self::from_arcs_sized(arcs)
     }
@@ -206,7 +205,7 @@ impl<const MAX_SIZE: usize> PartialEq for ObjectIdentifier<MAX_SIZE> {
 }
 
 /// Fewer octets first, and with as many the octets in list order. This is not the order of arcs: see
-/// [`cmp_arcs`](ObjectIdentifierRef::cmp_arcs).
+/// [`cmp_arcs`](Self::cmp_arcs).
 impl<const MAX_SIZE: usize> Ord for ObjectIdentifier<MAX_SIZE> {
     fn cmp(&self, other: &Self) -> Ordering {
         self.ber.cmp(&other.ber)

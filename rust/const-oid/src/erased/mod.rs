@@ -5,6 +5,7 @@
 pub mod arcs;
 pub mod buffer;
 mod compare;
+#[cfg(feature = "db")]
 pub mod db;
 mod digits;
 mod encoder;
