@@ -51,8 +51,8 @@ pub(crate) fn write_bytes(bytes: &[u8], out: &mut [u8], at: usize) -> usize {
     end
 }
 
-/// The text of bytes that are UTF-8. Each call is proved to pass such bytes, so they are not looked
-/// at again.
+/// The text of bytes that are UTF-8.
 pub(crate) fn utf8(bytes: &[u8]) -> &str {
+    // SAFETY: each call is proved to pass UTF-8, so the bytes are not looked at again.
     unsafe { str::from_utf8_unchecked(bytes) }
 }
