@@ -24,9 +24,13 @@ mod places;
 #[cfg(test)]
 mod printing;
 #[cfg(test)]
+mod sized;
+#[cfg(test)]
 mod slices;
 #[cfg(test)]
 mod subtree;
+#[cfg(test)]
+mod tables;
 #[cfg(test)]
 mod texts;
 #[cfg(test)]

@@ -11,6 +11,7 @@ pub mod schema;
 #[cfg(test)]
 mod snmp;
 pub mod subtree;
+pub mod table;
 #[cfg(test)]
 mod tests;
 pub mod theorems;

@@ -6,6 +6,7 @@ use crate::fixed::printed;
 use crate::generic::{child_in, widened};
 use crate::schema::{Attribute, CommonName, Country, find, has_type};
 use crate::subtree::places;
+use crate::table::{is_attribute_type, is_named};
 use crate::theorems;
 use const_oid::db::Database;
 use const_oid::{Arc, AssociatedOid, Error, ObjectIdentifier, ObjectIdentifierRef};
@@ -98,6 +99,15 @@ fn attributes(rt: HostRuntime) {
     assert!(rt; find(&database, "x") == Err(Error::DigitExpected { actual: b'x' }));
     let attribute = Attribute { kind: country };
     assert!(rt; has_type::<Country>(&attribute) && !has_type::<CommonName>(&attribute));
+}
+
+#[test]
+fn attribute_types(rt: HostRuntime) {
+    let unit = ObjectIdentifier::new_unwrap("2.5.4.11");
+    let domain = ObjectIdentifier::new_unwrap("0.9.2342.19200300.100.1.25");
+    assert!(rt; is_named(&unit.as_oid_ref(), "OU") && !is_named(&unit.as_oid_ref(), "o"));
+    assert!(rt; is_named(&domain.as_oid_ref(), "dc") && is_attribute_type(&domain.as_oid_ref()));
+    assert!(rt; !is_attribute_type(&EC_PUBLIC_KEY));
 }
 
 /// Octets, and the name of their algorithm or their fault.
