@@ -181,6 +181,7 @@ fn repeated_rows(size: &str, goal: f64, set: &[Vec<u8>]) -> Vec<Row> {
         ("starts_with, itself", 1.0, 7, 0, &itself),
         ("cmp, owned", 1.0, 8, 0, &next),
         ("cmp, borrowed", 1.0, 9, 0, &next),
+        ("cmp_arcs", 0.5, 12, 0, &next),
         ("==, the next", 1.0, 10, 0, &next),
         ("==, itself", 1.0, 10, 0, &itself),
     ];

@@ -130,6 +130,7 @@ fn once(oids: &[Oid], partners: &mut [Oid], operation: u64, number: u64) -> u64 
         8 => sum(oids, partners, |oid, partner| place(oid.cmp(partner))),
         9 => sum(oids, partners, |oid, partner| place(oid.as_oid_ref().cmp(partner.as_oid_ref()))),
         10 => sum(oids, partners, |oid, partner| u64::from(oid == partner)),
+        12 => sum(oids, partners, |oid, partner| place(oid.arcs().cmp(partner.arcs()))),
         _ => sum(oids, partners, |oid, _| {
             let mut room = [0; 160];
             print(oid, &mut room).wrapping_add(u64::from(room[20]))
