@@ -181,8 +181,8 @@ impl<'a> ObjectIdentifierRef<'a> {
     }
 }
 
-/// The most bytes of a text that `{}` hands on at a time.
-const PIECE: usize = 64;
+/// The most bytes of a text that `{}` hands on at a time: room for the text of 40 octets.
+const PIECE: usize = 160;
 
 /// The arcs in decimal, joined by dots, whatever the options.
 impl fmt::Display for ObjectIdentifierRef<'_> {
@@ -194,6 +194,9 @@ impl fmt::Display for ObjectIdentifierRef<'_> {
 
     fn fmt<W: fmt::Write>(&self, f: &mut fmt::Formatter<W>) -> fmt::Result {
         let mut bytes = [0; PIECE];
+        if let Some(text) = self.encode_str(&mut bytes) {
+            return f.write_str(text);
+        }
         let mut arcs = self.arcs();
         let mut used = write_root(&mut arcs, &mut bytes);
         for arc in arcs {

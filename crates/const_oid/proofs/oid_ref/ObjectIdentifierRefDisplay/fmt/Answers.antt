@@ -37,16 +37,16 @@ utf8-requires-2 g c =
 
 pub write_arc-used-requires : goal.write_arc-used-requires
 write_arc-used-requires g c =
-    let short = arc_text_short false c.in-Some.arc (omega arith) in
+    let short = arc_text_short false c.in-Some-arc.arc (omega arith) in
     elim c.if-used.branch [ then-used+in_ok-write_str w ↦ omega arith | else-used w ↦ omega arith ]
 
 pub loop-arc-preserved : goal.loop-arc-preserved
 loop-arc-preserved g c =
     let l = c.loop-arc in
-    let arc = c.in-Some.arc in
+    let arc = c.in-Some-arc.arc in
     let wrote = c.write_arc-used in
     let short = arc_text_short false arc (omega arith) in
-    let room : c.if-used.used ≤ 53 = elim c.if-used.branch [ then-used+in_ok-write_str w ↦ omega arith | else-used w ↦ omega arith ] in
+    let room : c.if-used.used ≤ 149 = elim c.if-used.branch [ then-used+in_ok-write_str w ↦ omega arith | else-used w ↦ omega arith ] in
     let (done, written, text) = l.invariant.writes in
     let at_hand : (done : List ℕ) × (IsFlush c.args.f.now → HasWrittenStyled g.W.Write.write_str_gives c.args.f.now done c.if-used.f)
     × (done ++ (take c.if-used.used l.bytes ++ text_left false l.arc-iterator) ≡ text_of (ref_arcs c.args.self.now)) =
@@ -59,7 +59,7 @@ loop-arc-preserved g c =
       | else-used w ↦ rw (w.used-is, w.f-is) (done, written, text)
     ] in
     let (all, sent, left) = at_hand in
-    let left = rw c.in-Some.ensures.steps at left in
+    let left = rw c.in-Some-arc.ensures.steps at left in
     record {
       within = omega arith;
       writes = (

@@ -7,7 +7,7 @@ use Rattle.const_oid.proofs.oid_ref.ObjectIdentifierRefDisplay.fmt.Given as goal
 -- what is handed on, what is at hand, and the text of the arcs left, are the text of all
 abbrev pub invariant-loop-arc : goal.invariant-loop-arc
 invariant-loop-arc g l = record {
-  within : l.used ≤ 64;
+  within : l.used ≤ 160;
   writes : (done : List ℕ) × (IsFlush l.initial.f → HasWrittenStyled g.W.Write.write_str_gives l.initial.f done l.f)
       × (done ++ (take l.used l.bytes ++ text_left false l.arc-iterator) ≡ text_of (ref_arcs l.self));
 }
