@@ -16,13 +16,14 @@ octets_from_chain (x ∷ []) c = (omega arith, tt)
 octets_from_chain (x ∷ y ∷ ys) c = (c.1, octets_from_chain (y ∷ ys) c.2)
 
 -- octets copied to the prefix of an array
-pub octets_copied : (octets prefix rest : List ℕ) → prefix ≡ octets → AreOctets octets → AreOctets (take (length octets) (prefix ++ rest))
-octets_copied octets prefix rest e p = rw (e, take_at octets rest (length octets) refl) p
+pub octets_copied : (octets rest bytes : List ℕ) → bytes ≡ octets ++ rest → AreOctets octets → AreOctets (take (length octets) bytes)
+octets_copied octets rest bytes e p = rw (e, take_at octets rest (length octets) refl) p
 
 -- octets copied to the prefix of an array of zeros
-pub zeros_copied : (size : ℕ) (octets prefix : List ℕ) → prefix ≡ octets → drop (length octets) (prefix ++ drop (length octets) (replicate size 0)) ≡ replicate (size - length octets) 0
-zeros_copied size octets prefix e =
-    drop-append-drop (length octets) (replicate size 0) prefix (length octets) (omega arith) (ap length e)
+pub zeros_copied : (size : ℕ) (octets bytes : List ℕ) → bytes ≡ octets ++ drop (length octets) (replicate size 0) → drop (length octets) bytes ≡ replicate (size - length octets) 0
+zeros_copied size octets bytes e =
+    ap (drop (length octets)) e
+    ∙ drop-append-drop (length octets) (replicate size 0) octets (length octets) (omega arith) refl
     ∙ drop-replicate (length octets) size 0
 
 -- zeros past a place are zeros past each later one

@@ -55,11 +55,10 @@ impl<const SIZE: usize> Buffer<SIZE> {
         requires { length octets.now ≤ min SIZE 255 }
         ensures { octets_of result ≡ octets.now }
     {
-        let count = octets.len();
         let mut bytes = [0; SIZE];
-        bytes[..count].copy_from_slice(octets);
+        copy_to(octets, &mut bytes);
         Buffer {
-            used: count as u8,
+            used: octets.len() as u8,
             bytes,
         }
     }
@@ -125,6 +124,19 @@ impl<const SIZE: usize> Buffer<SIZE> {
         ensures meaning { IsTrue result ↔ (octets_of self.now ≡ octets_of rhs.now) }
     {
         self.used == rhs.used && are_equal(&self.bytes, &rhs.bytes)
+    }
+}
+
+/// Copies octets to the prefix of as many or more. The loop makes it a constant function in Rust.
+#[inline(always)]
+fn copy_to(octets: &[u8], room: &mut [u8])
+    requires { length octets.now ≤ length room.old }
+    ensures { room.new ≡ octets.now ++ drop (length octets.now) room.old }
+{
+    let mut index = 0;
+    while index < octets.len() {
+        room[index] = octets[index];
+        index += 1;
     }
 }
 

@@ -86,7 +86,6 @@ impl Crate {
 
 const EQUALITY: &str = "constants in patterns need the derived `==`; behind the octets in use stand zeros (`ghost zeros`)";
 const UNSIZED: &str = "the crate's function of this name is of the unsized form";
-const SHAPE: &str = "until the source has a shape that a constant function takes";
 
 pub const CRATES: &[Crate] = &[
     Crate {
@@ -139,6 +138,7 @@ pub const CRATES: &[Crate] = &[
             "are_equal",
             "are_few_equal",
             "begins_with",
+            "copy_to",
             "end_piece",
             "end_text",
             "is_same_name",
@@ -212,30 +212,11 @@ pub const CRATES: &[Crate] = &[
             to: "borrowed",
             why: UNSIZED,
         }],
-        bodies: &[
-            Body {
-                of: "count_lanes",
-                rust: "{\n    octets.iter().filter(|octet| **octet < 128).count()\n}",
-                why: "lanes are unstable in Rust",
-            },
-            Body {
-                of: "Buffer::copied",
-                rust: "\
-{
-        let mut bytes = [0; SIZE];
-        let mut index = 0;
-        while index < octets.len() {
-            bytes[index] = octets[index];
-            index += 1;
-        }
-        Buffer {
-            used: octets.len() as u8,
-            bytes,
-        }
-    }",
-                why: SHAPE,
-            },
-        ],
+        bodies: &[Body {
+            of: "count_lanes",
+            rust: "{\n    octets.iter().filter(|octet| **octet < 128).count()\n}",
+            why: "lanes are unstable in Rust",
+        }],
         shown: &["Buffer::", "Database::", "Error::", "ObjectIdentifier::"],
         examples: Some("rust/const-oid/examples.md"),
     },

@@ -38,11 +38,10 @@ impl<const SIZE: usize> Buffer<SIZE> {
     /// The octets copied, which fit.
     #[inline(always)]
     pub(crate) fn copied(octets: &[u8]) -> Self {
-        let count = octets.len();
         let mut bytes = [0; SIZE];
-        bytes[..count].copy_from_slice(octets);
+        copy_to(octets, &mut bytes);
         Buffer {
-            used: count as u8,
+            used: octets.len() as u8,
             bytes,
         }
     }
@@ -85,6 +84,16 @@ impl<const SIZE: usize> Buffer<SIZE> {
     #[inline(always)]
     pub fn eq(&self, rhs: &Self) -> bool {
         self.used == rhs.used && are_equal(&self.bytes, &rhs.bytes)
+    }
+}
+
+/// Copies octets to the prefix of as many or more. The loop makes it a constant function in Rust.
+#[inline(always)]
+fn copy_to(octets: &[u8], room: &mut [u8]) {
+    let mut index = 0;
+    while index < octets.len() {
+        room[index] = octets[index];
+        index += 1;
     }
 }
 

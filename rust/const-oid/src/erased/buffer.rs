@@ -39,11 +39,7 @@ impl<const SIZE: usize> Buffer<SIZE> {
     #[inline(always)]
     pub(crate) const fn copied(octets: &[u8]) -> Self {
         let mut bytes = [0; SIZE];
-        let mut index = 0;
-        while index < octets.len() {
-            bytes[index] = octets[index];
-            index += 1;
-        }
+        copy_to(octets, &mut bytes);
         Buffer {
             used: octets.len() as u8,
             bytes,
@@ -106,6 +102,16 @@ impl<const SIZE: usize> Buffer<SIZE> {
     #[inline(always)]
     pub const fn eq(&self, rhs: &Self) -> bool {
         self.used == rhs.used && are_equal(&self.bytes, &rhs.bytes)
+    }
+}
+
+/// Copies octets to the prefix of as many or more. The loop makes it a constant function in Rust.
+#[inline(always)]
+const fn copy_to(octets: &[u8], room: &mut [u8]) {
+    let mut index = 0;
+    while index < octets.len() {
+        room[index] = octets[index];
+        index += 1;
     }
 }
 

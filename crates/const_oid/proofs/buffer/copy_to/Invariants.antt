@@ -1,0 +1,12 @@
+use Rattle.std.proofs.Common.{◌≡◌, ◌-◌, ◌≤◌, length, take, drop}
+use Rattle.const_oid.proofs.buffer.copy_to.Given as goal
+
+abbrev pub invariant-loop-index : goal.invariant-loop-index
+invariant-loop-index l = record {
+  written : take l.index l.room ≡ take l.index l.octets;
+  left : drop l.index l.room ≡ drop l.index l.initial.room;
+  within : l.index ≤ length l.octets;
+}
+
+abbrev pub decreases-loop-index : goal.decreases-loop-index
+decreases-loop-index l = length l.octets - l.index
