@@ -19,14 +19,15 @@ pub(crate) fn check(octets: &[u8]) -> Result<()>
     if octets.is_empty() {
         return Err(Error::Empty);
     }
-    let mut rest = octets;
-    let mut limit = MAX_FIRST;
+    let mut rest = match skip_group(octets, MAX_FIRST) {
+        Ok(after) => after,
+        Err(fault) => return Err(fault),
+    };
     while !rest.is_empty() {
-        rest = match skip_group(rest, limit) {
+        rest = match skip_group(rest, Arc::MAX as u64) {
             Ok(after) => after,
             Err(fault) => return Err(fault),
         };
-        limit = Arc::MAX as u64;
     }
     Ok(())
 }

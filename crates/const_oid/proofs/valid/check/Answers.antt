@@ -1,7 +1,7 @@
-use Rattle.std.proofs.Common.{arith}
+use Rattle.std.proofs.Common.{◌∙◌, sym, arith}
 use Rattle.std.proofs.lemmas.Grind.{common_steps}
 use Rattle.const_oid.proofs.OctetPass.{parts_at}
 use Rattle.const_oid.proofs.valid.check.Goals as goal
 
 pub loop-rest-init : goal.loop-rest-init
-loop-rest-init c = record { fault = parts_at c.args.octets.now (λ none. grind (arith, common_steps)); wide = omega arith; small = omega arith }
+loop-rest-init c = sym c.in-Ok.ensures.fault ∙ parts_at c.args.octets.now (λ none. grind (arith, common_steps))
