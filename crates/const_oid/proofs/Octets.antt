@@ -15,11 +15,11 @@ octets_from_chain [] c = absurd c
 octets_from_chain (x ∷ []) c = (omega arith, tt)
 octets_from_chain (x ∷ y ∷ ys) c = (c.1, octets_from_chain (y ∷ ys) c.2)
 
--- octets copied to the prefix of an array
+-- octets copied to the start of an array
 pub octets_copied : (octets rest bytes : List ℕ) → bytes ≡ octets ++ rest → AreOctets octets → AreOctets (take (length octets) bytes)
 octets_copied octets rest bytes e p = rw (e, take_at octets rest (length octets) refl) p
 
--- octets copied to the prefix of an array of zeros
+-- octets copied to the start of an array of zeros
 pub zeros_copied : (size : ℕ) (octets bytes : List ℕ) → bytes ≡ octets ++ drop (length octets) (replicate size 0) → drop (length octets) bytes ≡ replicate (size - length octets) 0
 zeros_copied size octets bytes e =
     ap (drop (length octets)) e

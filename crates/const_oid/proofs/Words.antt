@@ -145,7 +145,7 @@ last_words xs ys at m n w k l =
 pub same_less : (xs ys : List ℕ) (at less : ℕ) → less ≤ at → take at xs ≡ take at ys → take less xs ≡ take less ys
 same_less xs ys at less h same = sym (take-take less at xs h) ∙ ap (λ zs. take less zs) same ∙ take-take less at ys h
 
--- ---- arrays that have the same behind
+-- ---- arrays that have the same after them
 
 -- lists of one length stand as they do before the same end
 with_end : (g h x : List ℕ) → length g ≡ length h → slice_cmp nat_cmp (g ++ x) (h ++ x) ≡ slice_cmp nat_cmp g h

@@ -117,7 +117,7 @@ impl<const SIZE: usize> Buffer<SIZE> {
         self.used as usize
     }
 
-    /// Whether the octets in use are equal. Whole arrays are compared, since both have zeros behind.
+    /// Whether the octets in use are equal. Whole arrays are compared, since zeros follow in both.
     #[inline(always)]
     pub fn eq(&self, rhs: &Self) -> bool
         ensures value { result ≡ pointwise nat_eq (octets_of self.now) (octets_of rhs.now) }
@@ -127,7 +127,7 @@ impl<const SIZE: usize> Buffer<SIZE> {
     }
 }
 
-/// Copies octets to the prefix of as many or more. The loop makes it a constant function in Rust.
+/// Copies octets to the start of as many or more. The loop makes it a constant function in Rust.
 #[inline(always)]
 fn copy_to(octets: &[u8], room: &mut [u8])
     requires { length octets.now ≤ length room.old }

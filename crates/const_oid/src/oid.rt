@@ -220,7 +220,7 @@ impl<const MAX_SIZE: usize> ObjectIdentifier<MAX_SIZE> {
         self.as_oid_ref().text_len()
     }
 
-    /// Writes the text that `{}` writes at the prefix of `out`, and tells its length. `None` where it
+    /// Writes the text that `{}` writes at the start of `out`, and tells its length. `None` where it
     /// is longer than `out`, which then stays as it was.
     pub fn encode_text(&self, out: &mut [u8]) -> Option<usize>
         ensures cases { MatchOption result (length out.old < length (text_of (oid_arcs self.now))) (λ len. len ≡ length (text_of (oid_arcs self.now))) }

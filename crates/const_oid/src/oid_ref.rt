@@ -104,7 +104,7 @@ impl<'a> ObjectIdentifierRef<'a> {
         text_len(self.arcs(), usize::MAX).unwrap_or(usize::MAX)
     }
 
-    /// Writes the text that `{}` writes at the prefix of `out`, and tells its length. `None` where it
+    /// Writes the text that `{}` writes at the start of `out`, and tells its length. `None` where it
     /// is longer than `out`, which then stays as it was.
     pub fn encode_text(&self, out: &mut [u8]) -> Option<usize>
         ensures cases { MatchOption result (length out.old < length (text_of (ref_arcs self.now))) (λ len. len ≡ length (text_of (ref_arcs self.now))) }

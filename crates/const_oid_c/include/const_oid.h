@@ -115,7 +115,7 @@ typedef struct const_oid_octets {
 /* Places in a list, counted from 0: from the first on, and below the second. */
 typedef struct const_oid_places {
     size_t from; /* the first place inside */
-    size_t to;   /* the first place behind */
+    size_t to;   /* the first index after them */
 } const_oid_places;
 
 /* The library keeps lengths in 64 bits. */

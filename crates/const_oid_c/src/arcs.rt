@@ -97,7 +97,7 @@ pub extern "C" fn const_oid_arcs(octets: &[u8], out: &mut [u32]) -> Status
     len_status(len)
 }
 
-/// Writes arcs to the prefix of the caller's slice, which has room for them.
+/// Writes arcs to the start of the caller's slice, which has room for them.
 fn fill(arcs: Arcs<'_>, out: &mut [u32])
     requires { length arcs ≤ length out.old }
     ensures { out.new ≡ arcs.entry ++ drop (length arcs.entry) out.old }

@@ -7,7 +7,7 @@ ghost use Rattle.const_oid_c.specs.Answers.{octets_of_arcs};
 use crate::status::{Status, error_status, len_status, no_room_status};
 use const_oid::{ObjectIdentifier, Result};
 
-/// Writes bytes at the prefix of the caller's slice, where they fit.
+/// Writes bytes at the start of the caller's slice, where they fit.
 pub(crate) fn write_bytes(bytes: &[u8], out: &mut [u8]) -> Status
     ensures status { result ≡ output_status (length out.old) (Ok bytes.now) }
     ensures written { out.new ≡ output_after out.old (Ok bytes.now) }

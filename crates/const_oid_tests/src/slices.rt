@@ -29,7 +29,7 @@ const ARCS: [(Arc, &str); 20] = [
     (4_294_967_295, "1.2.4294967295"),
 ];
 
-/// Whether a text was written at the prefix of a room of `?`, or, where it is too long, nothing was.
+/// Whether a text was written at the start of a slice of `?`, or, where it is too long, nothing was.
 fn is_written(answer: Option<usize>, room: &[u8], text: &[u8]) -> bool {
     let len = if room.len() < text.len() {
         None

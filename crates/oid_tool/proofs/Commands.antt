@@ -18,7 +18,7 @@ use borrow.Rule.Slice.PartMut.{put_mid, post_of}
 pub stands_as : (result : Option ℕ) (room text line : List ℕ) → StandsFirst result room text → text ≡ line → StandsFirst result room line
 stands_as result room text line h e = subst (StandsFirst result room) e h
 
--- what the crate says of a text that it writes at the prefix
+-- what the crate says of a text that it writes at the start
 pub stands_written : (result : Option ℕ) (old new text line : List ℕ) → length new ≡ length old → MatchOption result (length old < length text) (λ len. len ≡ length text) → IfSome result (λ len. new ≡ text ++ drop len old) → text ≡ line → StandsFirst result new line
 stands_written None old new text line same cases written e = omega (arith, ap length e)
 stands_written (Some len) old new text line same cases written e =

@@ -14,7 +14,7 @@ use std::str;
 /// How many bytes the input may have, and so a line of it.
 pub const MAX_INPUT: usize = 4096;
 
-/// Writes the answer to a line at the prefix of `out`, with a table of names, and tells its length, or
+/// Writes the answer to a line at the start of `out`, with a table of names, and tells its length, or
 /// `None` where it is longer than `out`.
 #[tactic(auto, unfolding(crate::specs::Answers::answer_line))]
 pub fn answer(line: &[u8], table: Database<'_>, out: &mut [u8]) -> Option<usize>
@@ -93,7 +93,7 @@ fn name(text: &[u8], table: Database<'_>, out: &mut [u8]) -> Option<usize>
     }
 }
 
-/// Writes why a line is refused at the prefix, and tells the length.
+/// Writes why a line is refused at the start, and tells the length.
 fn refuse(fault: Error, out: &mut [u8]) -> Option<usize>
     ensures { StandsFirst result out.new (error_line (message_of fault)) }
 {
@@ -102,7 +102,7 @@ fn refuse(fault: Error, out: &mut [u8]) -> Option<usize>
     Some(at + len)
 }
 
-/// Writes bytes at the prefix, and tells how many, or `None` where they are more than `out` has room for.
+/// Writes bytes at the start, and tells how many, or `None` where they are more than `out` has room for.
 pub fn put(bytes: &[u8], out: &mut [u8]) -> Option<usize>
     ensures { StandsFirst result out.new bytes.now }
 {
@@ -114,7 +114,7 @@ pub fn put(bytes: &[u8], out: &mut [u8]) -> Option<usize>
     Some(len)
 }
 
-/// Writes octets at the prefix in lower-case hexadecimal digits, and tells their number.
+/// Writes octets at the start in lower-case hexadecimal digits, and tells their number.
 fn encode(octets: &[u8], out: &mut [u8]) -> Option<usize>
     requires { length octets.now ≤ 39 }
     ensures { StandsFirst result out.new (encode_lower octets.now) }
@@ -129,7 +129,7 @@ fn encode(octets: &[u8], out: &mut [u8]) -> Option<usize>
     }
 }
 
-/// Reads hexadecimal digits into the prefix of the room, and gives the number of octets.
+/// Reads hexadecimal digits into the start of the array, and gives the number of octets.
 fn decode(digits: &[u8], room: &mut [u8]) -> Option<usize>
     requires { length digits.now ≤ 2 * length room.old }
     ensures within { IfSome result (λ count. count ≤ length room.new) }

@@ -76,7 +76,7 @@ pub fn run<R: Read, W: Write>(input: &mut R, output: &mut W) -> Result<(), ToolE
 /// Room for a byte more than the input may have, by which a longer one is told.
 const INPUT_ROOM: usize = MAX_INPUT + 1;
 
-/// Reads to the end of the input into the prefix of the room, and gives the number of bytes.
+/// Reads to the end of the input into the start of the array, and gives the number of bytes.
 fn read_all<R: Read>(input: &mut R, room: &mut [u8]) -> Result<usize, ToolError>
     requires { length room.old ≡ INPUT_ROOM }
     ensures within { IfOk result (λ len. len ≤ MAX_INPUT) }
@@ -126,7 +126,7 @@ fn write_answers<W: Write>(
     Ok(())
 }
 
-/// Writes the answer to a line, and a newline, at the prefix, and tells the length, or `None` where
+/// Writes the answer to a line, and a newline, at the start, and tells the length, or `None` where
 /// they are longer than `out`.
 fn show(line: &[u8], table: Database<'_>, out: &mut [u8]) -> Option<usize>
     requires { length line.now ≤ MAX_INPUT }

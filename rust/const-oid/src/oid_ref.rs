@@ -163,7 +163,7 @@ impl ObjectIdentifierRef {
         self.erased().text_len()
     }
 
-    /// Writes the text that `{}` writes at the prefix of `out`, and tells its length. `None` where it
+    /// Writes the text that `{}` writes at the start of `out`, and tells its length. `None` where it
     /// is longer than `out`, which then stays as it was.
     ///
     /// ```

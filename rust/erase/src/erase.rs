@@ -91,7 +91,7 @@ fn is_derived(attribute: &[Token<'_>]) -> Result<bool> {
     }
 }
 
-/// The place behind the item that begins at `from`: behind its `;` or its braces.
+/// The index after the item that begins at `from`: after its `;` or its braces.
 pub fn item_end(tokens: &[Token<'_>], from: usize) -> usize {
     let is_use = tokens[from..]
         .iter()
@@ -201,7 +201,7 @@ fn without_ghosts<'a>(tokens: &[Token<'a>]) -> Result<Tokens<'a>> {
     Ok(out)
 }
 
-/// The place behind `ghost use ..;`, `ghost name = { .. };` or `ghost name: { .. } by { .. },`, of
+/// The index after `ghost use ..;`, `ghost name = { .. };` or `ghost name: { .. } by { .. },`, of
 /// which `by` and the last comma may be missing.
 fn ghost_end(tokens: &[Token<'_>], from: usize) -> Result<usize> {
     let fault = || Fault::new(tokens[from].line, "an unknown form of `ghost`");

@@ -51,7 +51,7 @@ fn borrowed_answer(form: Form, oid: ObjectIdentifierRef<'_>) -> Option<Error> {
 }
 
 /// The slices of at most two octets: what follows the first octet of a number that is not 0, where that
-/// is 1. They stand at the prefix of two octets, and a length past these says that there is none.
+/// is 1. They stand at the start of two octets, and a length past these says that there is none.
 fn slice_at(number: u32) -> ([u8; 2], usize) {
     match number.to_be_bytes() {
         [0, 0, 0, 1] => ([0, 0], 0),

@@ -71,7 +71,7 @@ pub fn const_oid_arcs(octets: &[u8], out: &mut [u32]) -> Status {
     len_status(len)
 }
 
-/// Writes arcs to the prefix of the caller's slice, which has room for them.
+/// Writes arcs to the start of the caller's slice, which has room for them.
 fn fill(arcs: Arcs<'_>, out: &mut [u32]) {
     let mut index = 0;
     for arc in arcs {

@@ -5,7 +5,7 @@
 use crate::calls::status::{Status, error_status, len_status, no_room_status};
 use crate::const_oid::{ObjectIdentifier, Result};
 
-/// Writes bytes at the prefix of the caller's slice, where they fit.
+/// Writes bytes at the start of the caller's slice, where they fit.
 pub(crate) fn write_bytes(bytes: &[u8], out: &mut [u8]) -> Status {
     let len = bytes.len();
     if len > out.len() {

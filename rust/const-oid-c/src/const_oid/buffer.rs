@@ -80,14 +80,14 @@ impl<const SIZE: usize> Buffer<SIZE> {
         self.used as usize
     }
 
-    /// Whether the octets in use are equal. Whole arrays are compared, since both have zeros behind.
+    /// Whether the octets in use are equal. Whole arrays are compared, since zeros follow in both.
     #[inline(always)]
     pub fn eq(&self, rhs: &Self) -> bool {
         self.used == rhs.used && are_equal(&self.bytes, &rhs.bytes)
     }
 }
 
-/// Copies octets to the prefix of as many or more. The loop makes it a constant function in Rust.
+/// Copies octets to the start of as many or more. The loop makes it a constant function in Rust.
 #[inline(always)]
 fn copy_to(octets: &[u8], room: &mut [u8]) {
     let mut index = 0;

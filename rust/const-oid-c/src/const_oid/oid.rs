@@ -146,7 +146,7 @@ impl<const MAX_SIZE: usize> ObjectIdentifier<MAX_SIZE> {
         self.as_oid_ref().text_len()
     }
 
-    /// Writes the text that `{}` writes at the prefix of `out`, and tells its length. `None` where it
+    /// Writes the text that `{}` writes at the start of `out`, and tells its length. `None` where it
     /// is longer than `out`, which then stays as it was.
     pub fn encode_text(&self, out: &mut [u8]) -> Option<usize> {
         self.as_oid_ref().encode_text(out)

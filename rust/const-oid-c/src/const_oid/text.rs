@@ -21,7 +21,7 @@ pub(crate) fn text_len(arcs: Arcs<'_>, limit: usize) -> Option<usize> {
     Some(limit - room)
 }
 
-/// Writes the arcs' text at the prefix, and tells its length.
+/// Writes the arcs' text at the start, and tells its length.
 pub(crate) fn write_text(arcs: Arcs<'_>, out: &mut [u8]) -> usize {
     let mut left = arcs;
     let mut at = write_root(&mut left, out);
@@ -31,7 +31,7 @@ pub(crate) fn write_text(arcs: Arcs<'_>, out: &mut [u8]) -> usize {
     at
 }
 
-/// Takes the first two arcs, writes them at the prefix, and tells the length.
+/// Takes the first two arcs, writes them at the start, and tells the length.
 #[inline(always)]
 pub(crate) fn write_root(arcs: &mut Arcs<'_>, out: &mut [u8]) -> usize {
     let Some(first) = arcs.next() else {

@@ -92,7 +92,7 @@ impl<const SIZE: usize> Buffer<SIZE> {
         self.used as usize
     }
 
-    /// Whether the octets in use are equal. Whole arrays are compared, since both have zeros behind.
+    /// Whether the octets in use are equal. Whole arrays are compared, since zeros follow in both.
     ///
     /// ```
     /// const fn are_equal(a: &const_oid::Buffer<39>, b: &const_oid::Buffer<39>) -> bool {
@@ -105,7 +105,7 @@ impl<const SIZE: usize> Buffer<SIZE> {
     }
 }
 
-/// Copies octets to the prefix of as many or more. The loop makes it a constant function in Rust.
+/// Copies octets to the start of as many or more. The loop makes it a constant function in Rust.
 #[inline(always)]
 const fn copy_to(octets: &[u8], room: &mut [u8]) {
     let mut index = 0;

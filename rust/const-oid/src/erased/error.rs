@@ -61,7 +61,7 @@ impl Error {
         before.len() + self.shown_len() + after.len()
     }
 
-    /// Writes the text that `{}` writes at the prefix of `out`, and tells its length. `None` where it
+    /// Writes the text that `{}` writes at the start of `out`, and tells its length. `None` where it
     /// is longer than `out`, which then stays as it was.
     ///
     /// ```

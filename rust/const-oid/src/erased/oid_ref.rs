@@ -72,7 +72,7 @@ impl<'a> ObjectIdentifierRef<'a> {
         text_len(self.arcs(), usize::MAX).unwrap_or(usize::MAX)
     }
 
-    /// Writes the text that `{}` writes at the prefix of `out`, and tells its length. `None` where it
+    /// Writes the text that `{}` writes at the start of `out`, and tells its length. `None` where it
     /// is longer than `out`, which then stays as it was.
     pub fn encode_text(&self, out: &mut [u8]) -> Option<usize> {
         // An octet takes four bytes of text at most.
@@ -125,13 +125,16 @@ impl<'a> ObjectIdentifierRef<'a> {
     }
 }
 
-/// The most bytes of a text that `{}` hands on at a time.
-const PIECE: usize = 64;
+/// The most bytes of a text that `{}` hands on at a time: room for the text of 40 octets.
+const PIECE: usize = 160;
 
 /// The arcs in decimal, joined by dots, whatever the options.
 impl fmt::Display for ObjectIdentifierRef<'_> {
     fn fmt(&self, f: &mut fmt::Formatter<'_>) -> fmt::Result {
         let mut bytes = [0; PIECE];
+        if let Some(text) = self.encode_str(&mut bytes) {
+            return f.write_str(text);
+        }
         let mut arcs = self.arcs();
         let mut used = write_root(&mut arcs, &mut bytes);
         for arc in arcs {
