@@ -256,11 +256,11 @@ fn tells_each<T: Display>(value: &T, bytes: usize) -> bool {
     is_ok && whole.writes > 1 && whole.bytes == bytes
 }
 
-/// Whether both forms of 39 octets, whose text is longer than a piece, tell each write.
+/// Whether both forms tell each write.
 fn both_tell(octets: &[u8], bytes: usize) -> bool {
     let (Ok(borrowed), Ok(owned)) = (
         ObjectIdentifierRef::from_bytes(octets),
-        ObjectIdentifier::from_bytes(octets),
+        ObjectIdentifier::<255>::from_bytes_sized(octets),
     ) else {
         return false;
     };
@@ -270,10 +270,10 @@ fn both_tell(octets: &[u8], bytes: usize) -> bool {
 /// A text of several pieces: each write that is refused is told, whichever it is.
 #[test]
 fn refused_pieces_are_told(rt: HostRuntime) {
-    assert!(rt; both_tell(&[0x7F; 39], 156));
+    assert!(rt; both_tell(&[0x7F; 255], 1020));
 }
 
-/// A short text, and each error, is one write.
+/// The text of 39 octets and of each error is one write.
 #[test]
 fn short_texts_are_one_write(rt: HostRuntime) {
     for (arc, text) in &ARCS {
