@@ -6,6 +6,8 @@ mod borrowed;
 #[cfg(test)]
 mod capacity;
 #[cfg(test)]
+mod compare;
+#[cfg(test)]
 mod errors;
 #[cfg(test)]
 mod formatter;
