@@ -113,7 +113,7 @@ fn read_group(octets: &[u8]) -> (u64, &[u8])
 {
     let mut number: u64 = 0;
     let mut index = 0;
-    while index < octets.len() {
+    loop {
         let octet = octets[index] as u64;
         index += 1;
         if octet < 128 {
@@ -121,7 +121,6 @@ fn read_group(octets: &[u8]) -> (u64, &[u8])
         }
         number = number * 128 + (octet - 128);
     }
-    unreachable!()
 }
 
 /// The two arcs that the first subidentifier holds.

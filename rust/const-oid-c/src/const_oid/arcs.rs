@@ -81,7 +81,7 @@ pub(crate) fn arc_at(octets: &[u8], index: usize) -> Option<Arc> {
 fn read_group(octets: &[u8]) -> (u64, &[u8]) {
     let mut number: u64 = 0;
     let mut index = 0;
-    while index < octets.len() {
+    loop {
         let octet = octets[index] as u64;
         index += 1;
         if octet < 128 {
@@ -89,7 +89,6 @@ fn read_group(octets: &[u8]) -> (u64, &[u8]) {
         }
         number = number * 128 + (octet - 128);
     }
-    unreachable!()
 }
 
 /// The two arcs that the first subidentifier holds.
