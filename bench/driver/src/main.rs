@@ -1,4 +1,5 @@
-//! Measures this library beside the Rust crate const-oid, both in one process and in turns, and prints one table.
+//! Measures this library beside the Rust crate const-oid, both in one process and in turns, and prints a table of times
+//! and, where valgrind is installed, one of instructions.
 //! Arguments: fronts of row names, as "repeated len" (none: all rows). Environment: see `bench/run`.
 
 mod rows;
@@ -81,6 +82,40 @@ fn times(row: &Row, rounds: usize) -> [f64; 2] {
     taken.map(median)
 }
 
+/// Runs one row alone on one side, so many rounds: what valgrind counts.
+fn run_alone(name: &str, size: &str, side: usize, rounds: u64) {
+    let rows = rows::small(&mut Dice::new());
+    if let Some(row) = rows.iter().find(|row| row.name == name && row.size == size) {
+        black_box((row.run[side])(rounds));
+    }
+}
+
+/// Instructions of a run of one row alone, or nothing where there is no valgrind.
+fn counted(row: &Row, side: usize, rounds: u64) -> Option<f64> {
+    let mut valgrind = Command::new("valgrind");
+    valgrind.args(["--tool=callgrind", "--callgrind-out-file=/dev/null"]).arg(env::current_exe().ok()?);
+    valgrind.args(["--alone", &row.name, &row.size, &side.to_string(), &rounds.to_string()]);
+    let told = String::from_utf8(valgrind.output().ok()?.stderr).ok()?;
+    told.lines().find_map(|line| line.split_once("Collected : "))?.1.trim().parse().ok()
+}
+
+/// Instructions of each operation on ours and on the Rust crate: those of more rounds, without those of fewer.
+fn instructions(row: &Row) -> Option<[f64; 2]> {
+    let each = |side| Some((counted(row, side, 250)? - counted(row, side, 50)?) / (200 * row.each_round) as f64);
+    Some([each(0)?, each(1)?])
+}
+
+/// A table of instructions of the rows of small identifiers.
+fn instruction_rows(wanted: impl Fn(&str) -> bool) {
+    println!("\n| operation | size | our instructions | Rust's | ratio |\n|---|---|--:|--:|--:|");
+    for row in rows::small(&mut Dice::new()).iter().filter(|row| wanted(&row.name)) {
+        let Some([ours, rust]) = instructions(row) else {
+            return println!("\nno valgrind: instructions are not counted");
+        };
+        println!("| {} | {} | {ours:.1} | {rust:.1} | {:.2} |", row.name, row.size, ours / rust);
+    }
+}
+
 fn median(mut values: Vec<f64>) -> f64 {
     values.sort_by(f64::total_cmp);
     values[values.len() / 2]
@@ -119,7 +154,7 @@ fn run() -> ExitCode {
     let rounds = env::var("ROUNDS").ok().and_then(|text| text.parse().ok()).unwrap_or(31);
     let mut dice = Dice::new();
     let mut count = differences(&mut dice);
-    let rows: Vec<Row> = rows::all(&mut dice).into_iter().filter(|row| wanted(&row.name)).collect();
+    let rows: Vec<Row> = rows::all(&mut Dice::new()).into_iter().filter(|row| wanted(&row.name)).collect();
     for row in &rows {
         if (row.run[0])(4) != (row.run[1])(4) {
             count += 1;
@@ -143,10 +178,18 @@ fn run() -> ExitCode {
         tool_rows(&tool, rounds);
     }
     println!("\n{above} of {} ratios are above their goal; the answers of both sides agree.", rows.len());
+    instruction_rows(wanted);
     ExitCode::SUCCESS
 }
 
 fn main() -> ExitCode {
+    let arguments: Vec<String> = env::args().collect();
+    if let [_, alone, name, size, side, rounds] = &arguments[..]
+        && alone == "--alone"
+    {
+        run_alone(name, size, side.parse().expect("a side"), rounds.parse().expect("a number of rounds"));
+        return ExitCode::SUCCESS;
+    }
     // The crate's parser may call itself once a byte, so it is given a deep stack.
     let work = thread::Builder::new().stack_size(1 << 28).spawn(run);
     work.expect("a thread").join().unwrap_or(ExitCode::FAILURE)

@@ -80,14 +80,20 @@ fn of_rounds(name: &str, size: &str, goal: f64, each_round: usize, run: impl Fn(
     }
 }
 
-/// All rows: small identifiers, long inputs, lists and tables.
-pub fn all(dice: &mut Dice) -> Vec<Row> {
+/// Rows of small identifiers, of which instructions are counted too.
+pub fn small(dice: &mut Dice) -> Vec<Row> {
     let mut rows = vec![];
     for (octets, size, goal) in [(3, "short", 1.0), (9, "typical", 0.55), (39, "long", 0.5)] {
         let set = set_of(octets, dice);
         rows.extend(call_rows(size, goal, &set));
         rows.extend(repeated_rows(size, goal, &set));
     }
+    rows
+}
+
+/// All rows: small identifiers, long inputs, lists and tables.
+pub fn all(dice: &mut Dice) -> Vec<Row> {
+    let mut rows = small(dice);
     for zeros in [10, 100, 1000, 10_000, 100_000] {
         let text = format!("1.2.{}7", "0".repeat(zeros)).into_bytes();
         rows.push(of_calls("new", &format!("{zeros} zeros"), 1.0, &[text], 0, [ours_new, rust_new]));
