@@ -1,7 +1,7 @@
 //! Each use, run once.
 
 use crate::algorithms::{name_in, name_of};
-use crate::constants::{EC_PUBLIC_KEY, is_ec_public_key, is_its_text};
+use crate::constants::{EC_PUBLIC_KEY, is_ec_public_key, is_its_text, sha256_with_rsa};
 use crate::fixed::printed;
 use crate::generic::{child_in, widened};
 use crate::schema::{Attribute, CommonName, Country, find, has_type};
@@ -55,6 +55,11 @@ fn orders(rt: HostRuntime) -> Result<(), Fail> {
 fn constant(rt: HostRuntime) -> Result<(), Fail> {
     assert!(rt; is_its_text() && is_ec_public_key(&EC_PUBLIC_KEY));
     assert!(rt; format!(in rt.alloc(); "{EC_PUBLIC_KEY}")?.as_str() == "1.2.840.10045.2.1");
+    assert!(rt;
+        sha256_with_rsa()
+            .as_bytes()
+            .ends_with(&[0x0D, 0x01, 0x01, 0x0B])
+    );
     Ok(())
 }
 
