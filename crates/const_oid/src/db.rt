@@ -8,26 +8,26 @@ ghost use Rattle.const_oid.specs.Oid.{oid_arcs};
 
 pub use crate::db_ref::{RefDatabase, RefNames};
 use crate::error::Result;
-use crate::oid::ObjectIdentifier;
+use crate::oid::Oid;
 
 /// A table of identifiers and their names, in which both may stand more than once.
 ///
 /// Names are the same where their bytes are, after the ASCII letters are folded.
 #[derive(Copy, Clone)]
 pub struct Database<'a> {
-    entries: &'a [(&'a ObjectIdentifier<39>, &'a str)],
+    entries: &'a [(&'a Oid, &'a str)],
 }
 
 impl<'a> Database<'a> {
     /// A database over these entries.
-    pub fn new(entries: &'a [(&'a ObjectIdentifier<39>, &'a str)]) -> Self
+    pub fn new(entries: &'a [(&'a Oid, &'a str)]) -> Self
         ensures { entries_of result ≡ entries.now }
     {
         Database { entries }
     }
 
     /// The name that the first entry of this identifier has, or `None` without such an entry.
-    pub fn by_oid(&self, oid: &ObjectIdentifier<39>) -> Option<&'a str>
+    pub fn by_oid(&self, oid: &Oid) -> Option<&'a str>
         ensures { result ≡ first_name lent_arcs (entries_of self.now) (oid_arcs oid.now) }
     {
         let mut left = self.entries;
@@ -41,7 +41,7 @@ impl<'a> Database<'a> {
     }
 
     /// The identifier that the first entry of this name has, or `None` without such an entry.
-    pub fn by_name(&self, name: &str) -> Option<&'a ObjectIdentifier<39>>
+    pub fn by_name(&self, name: &str) -> Option<&'a Oid>
         ensures { result ≡ first_oid (entries_of self.now) name.now }
     {
         let mut left = self.entries;
@@ -55,7 +55,7 @@ impl<'a> Database<'a> {
     }
 
     /// The names of the identifier, one for each of its entries, as these stand in the table.
-    pub fn find_names_for_oid(&self, oid: ObjectIdentifier<39>) -> Names<'a>
+    pub fn find_names_for_oid(&self, oid: Oid) -> Names<'a>
         ensures { names_left result ≡ all_names lent_arcs (entries_of self.now) (oid_arcs oid) }
     {
         Names {
@@ -65,13 +65,13 @@ impl<'a> Database<'a> {
     }
 
     /// The name of the first entry with the identifier that the text denotes, or the text itself,
-    /// byte for byte, where no entry has it. The errors are those of [`ObjectIdentifier::new`].
+    /// byte for byte, where no entry has it. The errors are those of [`Oid::new`].
     pub fn resolve<'b>(&self, oid: &'b str) -> Result<&'b str>
     where
         'a: 'b,
         ensures { result ≡ resolve_answer (entries_of self.now) oid.entry }
     {
-        let name = self.by_oid(&ObjectIdentifier::new(oid)?);
+        let name = self.by_oid(&Oid::new(oid)?);
         Ok(name.unwrap_or(oid))
     }
 }
@@ -79,8 +79,8 @@ impl<'a> Database<'a> {
 /// The names of an identifier in a table, in table order.
 #[derive(Drop)]
 pub struct Names<'a> {
-    left: &'a [(&'a ObjectIdentifier<39>, &'a str)],
-    oid: ObjectIdentifier<39>,
+    left: &'a [(&'a Oid, &'a str)],
+    oid: Oid,
 }
 
 impl<'a> Iterator for Names<'a> {
@@ -103,7 +103,7 @@ impl<'a> Iterator for Names<'a> {
 }
 
 /// Whether an entry has this identifier.
-fn has_oid(entry: &(&ObjectIdentifier<39>, &str), oid: &ObjectIdentifier<39>) -> bool
+fn has_oid(entry: &(&Oid, &str), oid: &Oid) -> bool
     ensures { result ≡ has_arcs lent_arcs (oid_arcs oid.now) entry.now }
 {
     entry.0.as_oid_ref().eq_oid(oid)

@@ -21,6 +21,6 @@ mod valid;
 pub use arcs::{Arc, Arcs};
 pub use buffer::Buffer;
 pub use error::{Error, Result};
-pub use oid::ObjectIdentifier;
+pub use oid::{ObjectIdentifier, Oid};
 pub use oid_ref::ObjectIdentifierRef;
 pub use traits::{AssociatedOid, DynAssociatedOid};

@@ -32,6 +32,9 @@ pub struct ObjectIdentifier<const MAX_SIZE: usize> {
     ghost valid: { parts_fault root_rule (cut (octets_of ber)) ≡ None },
 }
 
+/// An identifier of the usual capacity, 39 octets.
+pub type Oid = ObjectIdentifier<39>;
+
 impl ObjectIdentifier<39> {
     ghost use Rattle.const_oid.specs.Oid.{oid_octets, oid_arcs, oid_answer};
 

@@ -4,7 +4,7 @@ ghost use Rattle.std.specs.Prelude.{◌≡◌, ◌≢◌, ◌<◌, ◌↔◌, �
 ghost use Rattle.std.specs.List.{HoldsAt, AllWithin};
 ghost use Rattle.const_oid.specs.Oid.{oid_arcs};
 
-use crate::oid::ObjectIdentifier;
+use crate::oid::Oid;
 
 /// A type that has an identifier, always the same.
 pub trait AssociatedOid {
@@ -12,7 +12,7 @@ pub trait AssociatedOid {
     ghost type_arcs: { List ℕ };
 
     /// The identifier of the type.
-    fn associated_oid() -> ObjectIdentifier<39>
+    fn associated_oid() -> Oid
         ensures { oid_arcs result ≡ type_arcs };
 }
 
@@ -22,14 +22,14 @@ pub trait DynAssociatedOid {
     ghost value_arcs: { Self → List ℕ };
 
     /// The identifier of the value.
-    fn oid(&self) -> ObjectIdentifier<39>
+    fn oid(&self) -> Oid
         ensures { oid_arcs result ≡ value_arcs self.now };
 }
 
 impl<T: AssociatedOid> DynAssociatedOid for T {
     ghost value_arcs = { λ _. T.type_arcs };
 
-    fn oid(&self) -> ObjectIdentifier<39> {
+    fn oid(&self) -> Oid {
         T::associated_oid()
     }
 }
@@ -37,7 +37,7 @@ impl<T: AssociatedOid> DynAssociatedOid for T {
 /// The first place, counted from 0, whose value has this identifier, or `None` where no value has it.
 pub fn position_of(
     values: &[Box<dyn DynAssociatedOid + Drop>],
-    oid: &ObjectIdentifier<39>,
+    oid: &Oid,
 ) -> Option<usize>
     ensures within { IfSome result (λ i. i < length values.now) }
     ensures found { IfSome result (λ i.
@@ -55,7 +55,7 @@ pub fn position_of(
 }
 
 /// Whether the value has this identifier.
-fn has_oid(value: &Box<dyn DynAssociatedOid + Drop>, oid: &ObjectIdentifier<39>) -> bool
+fn has_oid(value: &Box<dyn DynAssociatedOid + Drop>, oid: &Oid) -> bool
     ensures { IsTrue result ↔ (value_arcs value.now ≡ oid_arcs oid.now) }
 {
     value.oid() == *oid

@@ -18,5 +18,5 @@ mod valid;
 pub use arcs::{Arc, Arcs};
 pub use buffer::Buffer;
 pub use error::{Error, Result};
-pub use oid::ObjectIdentifier;
+pub use oid::{ObjectIdentifier, Oid};
 pub use oid_ref::ObjectIdentifierRef;

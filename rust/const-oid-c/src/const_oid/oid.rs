@@ -21,6 +21,9 @@ pub struct ObjectIdentifier<const MAX_SIZE: usize> {
     ber: Buffer<MAX_SIZE>,
 }
 
+/// An identifier of the usual capacity, 39 octets.
+pub type Oid = ObjectIdentifier<39>;
+
 impl ObjectIdentifier<39> {
     /// The capacity in octets.
     pub const MAX_SIZE: usize = 39;

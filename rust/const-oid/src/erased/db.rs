@@ -3,14 +3,14 @@
 //! Names of identifiers, by a table that the caller holds.
 
 use crate::erased::error::Result;
-use crate::erased::oid::ObjectIdentifier;
+use crate::erased::oid::Oid;
 
 /// A table of identifiers and their names, in which both may stand more than once.
 ///
 /// Names are the same where their bytes are, after the ASCII letters are folded.
 #[derive(Copy, Clone)]
 pub struct Database<'a> {
-    entries: &'a [(&'a ObjectIdentifier<39>, &'a str)],
+    entries: &'a [(&'a Oid, &'a str)],
 }
 
 impl<'a> Database<'a> {
@@ -23,7 +23,7 @@ impl<'a> Database<'a> {
     /// const NAMES: Database<'static> = Database::new(&[(&CN, "cn"), (&CN, "commonName")]);
     /// assert_eq!(NAMES.by_oid(&CN), Some("cn"));
     /// ```
-    pub const fn new(entries: &'a [(&'a ObjectIdentifier<39>, &'a str)]) -> Self {
+    pub const fn new(entries: &'a [(&'a Oid, &'a str)]) -> Self {
         Database { entries }
     }
 
@@ -34,7 +34,7 @@ impl<'a> Database<'a> {
     ///
     /// assert_eq!(DB.by_oid(&rfc4519::CN), Some("cn"));
     /// ```
-    pub const fn by_oid(&self, oid: &ObjectIdentifier<39>) -> Option<&'a str> {
+    pub const fn by_oid(&self, oid: &Oid) -> Option<&'a str> {
         let mut left = self.entries;
         while let [entry, after @ ..] = left {
             if has_oid(entry, oid) {
@@ -52,7 +52,7 @@ impl<'a> Database<'a> {
     ///
     /// assert_eq!(DB.by_name("CN"), Some(&rfc4519::CN));
     /// ```
-    pub const fn by_name(&self, name: &str) -> Option<&'a ObjectIdentifier<39>> {
+    pub const fn by_name(&self, name: &str) -> Option<&'a Oid> {
         let mut left = self.entries;
         while let [entry, after @ ..] = left {
             if is_same_name(entry.1, name) {
@@ -72,7 +72,7 @@ impl<'a> Database<'a> {
     /// let names = Database::new(&[(&CN, "cn"), (&CN, "commonName")]);
     /// assert!(names.find_names_for_oid(CN).eq(["cn", "commonName"]));
     /// ```
-    pub const fn find_names_for_oid(&self, oid: ObjectIdentifier<39>) -> Names<'a> {
+    pub const fn find_names_for_oid(&self, oid: Oid) -> Names<'a> {
         Names {
             left: self.entries,
             oid,
@@ -80,7 +80,7 @@ impl<'a> Database<'a> {
     }
 
     /// The name of the first entry with the identifier that the text denotes, or the text itself,
-    /// byte for byte, where no entry has it. The errors are those of [`ObjectIdentifier::new`].
+    /// byte for byte, where no entry has it. The errors are those of [`Oid::new`].
     ///
     /// ```
     /// use const_oid::{Error, db::DB};
@@ -93,15 +93,15 @@ impl<'a> Database<'a> {
     where
         'a: 'b,
     {
-        let name = self.by_oid(&ObjectIdentifier::new(oid)?);
+        let name = self.by_oid(&Oid::new(oid)?);
         Ok(name.unwrap_or(oid))
     }
 }
 
 /// The names of an identifier in a table, in table order.
 pub struct Names<'a> {
-    left: &'a [(&'a ObjectIdentifier<39>, &'a str)],
-    oid: ObjectIdentifier<39>,
+    left: &'a [(&'a Oid, &'a str)],
+    oid: Oid,
 }
 
 impl<'a> Iterator for Names<'a> {
@@ -120,7 +120,7 @@ impl<'a> Iterator for Names<'a> {
 }
 
 /// Whether an entry has this identifier.
-const fn has_oid(entry: &(&ObjectIdentifier<39>, &str), oid: &ObjectIdentifier<39>) -> bool {
+const fn has_oid(entry: &(&Oid, &str), oid: &Oid) -> bool {
     entry.0.borrowed().eq_oid(oid)
 }
 
