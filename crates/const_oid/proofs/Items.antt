@@ -12,7 +12,7 @@ use Rattle.const_oid.specs.declared.error.Error.TheVariants.{ArcInvalid, Length}
 use Rattle.const_oid.specs.declared.error.Error.{Error}
 use Rattle.const_oid.specs.Identifier.{RootRule, max_arc, max_second, IsIdentifier, size, IsEncoding}
 use Rattle.const_oid.specs.Contents.{arcs_of_octets}
-use Rattle.const_oid.specs.Faults.{fault_if}
+use Rattle.const_oid.specs.Error.{fault_if}
 use Rattle.const_oid.specs.Items.{arc_fault, too_few_fault, items_fault, item_fault, TakesItems}
 use Rattle.const_oid.proofs.Lists.{append-cons, all_append}
 use Rattle.const_oid.proofs.Faults.{both_none, below_from_none, none_from_below}
@@ -56,12 +56,13 @@ arc_none rule capacity (a ∷ b ∷ later) arc rest i s =
 -- ---- whole lists
 
 -- two arcs or more that begin an identifier are one
-whole_from_begun : (rule : RootRule) (capacity : ℕ) (arcs : List ℕ) → IsBegun rule capacity arcs → too_few_fault arcs ≡ None → IsIdentifier rule arcs × (size arcs ≤ capacity)
+pub whole_from_begun : (rule : RootRule) (capacity : ℕ) (arcs : List ℕ) → IsBegun rule capacity arcs → too_few_fault arcs ≡ None → IsIdentifier rule arcs × (size arcs ≤ capacity)
 whole_from_begun rule capacity [] b h = cc
 whole_from_begun rule capacity (a ∷ []) b h = cc
 whole_from_begun rule capacity (a ∷ c ∷ later) b h = b
 
-few_none : (rule : RootRule) (arcs : List ℕ) → IsIdentifier rule arcs → too_few_fault arcs ≡ None
+-- an identifier has two arcs or more
+pub few_none : (rule : RootRule) (arcs : List ℕ) → IsIdentifier rule arcs → too_few_fault arcs ≡ None
 few_none rule [] i = absurd i
 few_none rule (a ∷ []) i = absurd i
 few_none rule (a ∷ b ∷ later) i = refl

@@ -27,8 +27,8 @@ pub mod Printed
 pub mod Subtree
 pub mod Overflow
 pub mod Tree
-pub mod Wider
-pub mod Widened
+pub mod WideKeeps
+pub mod WideAdds
 pub mod Identifiers
 pub mod PairTable
 pub mod Messages

@@ -1,8 +1,9 @@
 -- The texts of the errors, by the words and the number.
 use Rattle.std.proofs.Common.{◌≡◌, ℕ, ◌+◌, List, ◌++◌, length, ap, arith, length-append}
 use Rattle.const_oid.specs.declared.error.Error.{Error}
-use Rattle.const_oid.specs.Message.{message_of, shown_of}
+use Rattle.const_oid.specs.Error.{message_of}
+use Rattle.const_oid.specs.Private.Text.{detail_text}
 
 -- the words before the number, and those after it
-pub parts_long : (error : Error) (before after : List ℕ) → message_of error ≡ before ++ (shown_of error ++ after) → length before + length (shown_of error) + length after ≡ length (message_of error)
-parts_long error before after e = omega (arith, ap length e, length-append before (shown_of error ++ after), length-append (shown_of error) after)
+pub parts_long : (error : Error) (before after : List ℕ) → message_of error ≡ before ++ (detail_text error ++ after) → length before + length (detail_text error) + length after ≡ length (message_of error)
+parts_long error before after e = omega (arith, ap length e, length-append before (detail_text error ++ after), length-append (detail_text error) after)

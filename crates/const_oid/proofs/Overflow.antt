@@ -6,10 +6,10 @@ use Rattle.const_oid.specs.declared.error.Error.{Error}
 use Rattle.const_oid.specs.declared.error.Error.TheVariants.{ArcInvalid, ArcTooBig, Base128, DigitExpected, Empty, Length, Overflow, TrailingDot}
 use Rattle.const_oid.specs.Base128.{value_of}
 use Rattle.const_oid.specs.Identifier.{RootRule, Narrow, Wide, max_arc, max_second, size}
-use Rattle.const_oid.specs.Faults.{fault_if}
+use Rattle.const_oid.specs.Error.{fault_if}
 use Rattle.const_oid.specs.Contents.{cut, is_finished, begins_with_128, part_fault, later_fault, max_first, first_fault, parts_fault, octet_fault}
 use Rattle.const_oid.specs.Items.{arc_fault, too_few_fault, items_fault, item_fault}
-use Rattle.const_oid.specs.Text.{pieces_of, number_of, is_empty, is_one_empty, empty_fault, single_fault, piece_fault, pieces_fault, text_fault}
+use Rattle.const_oid.specs.Text.{pieces_of, number_of, is_empty, is_one_empty, empty_fault, piece_fault, pieces_fault, text_fault}
 
 or_other : (other : Error) (a b : Option Error) → a ≢ Some other → b ≢ Some other → option_or a b ≢ Some other
 or_other other None b p q = q
@@ -83,21 +83,16 @@ empty_other [] (next ∷ more) = λ e. cc
 empty_other (arc ∷ arcs) [] = λ e. cc
 empty_other (arc ∷ arcs) (next ∷ more) = λ e. cc
 
-single_other : (before : List ℕ) (after : List (List ℕ)) → single_fault before after ≢ Some Overflow
-single_other [] [] = λ e. cc
-single_other [] (next ∷ more) = λ e. cc
-single_other (arc ∷ arcs) after = λ e. cc
-
 piece_other : (rule : RootRule) (capacity : ℕ) (before piece : List ℕ) (after : List (List ℕ)) → piece_fault rule capacity before piece after ≢ Some Overflow
 piece_other rule capacity before piece after =
     or_other Overflow _ _ (if_other Overflow (nat_lt max_arc (number_of piece)) ArcTooBig (λ e. cc))
     (or_other Overflow _ _ (digit_other (find (λ b. not (is_ascii_digit b)) piece))
     (or_other Overflow _ _ (if_other Overflow (is_empty piece) (empty_fault before after) (empty_other before after))
     (or_other Overflow _ _ (if_other Overflow (is_one_empty after) TrailingDot (λ e. cc))
-    (or_other Overflow _ _ (arc_other rule capacity before (number_of piece)) (single_other before after)))))
+    (arc_other rule capacity before (number_of piece)))))
 
 pieces_other : (rule : RootRule) (capacity : ℕ) (before : List ℕ) (pieces : List (List ℕ)) → pieces_fault rule capacity before pieces ≢ Some Overflow
-pieces_other rule capacity before [] = λ e. cc
+pieces_other rule capacity before [] = few_other before
 pieces_other rule capacity before (piece ∷ after) = or_other Overflow _ _ (piece_other rule capacity before piece after) (pieces_other rule capacity (before ++ number_of piece ∷ []) after)
 
 pub text_other : (rule : RootRule) (capacity : ℕ) (text : List ℕ) → text_fault rule text capacity ≢ Some Overflow

@@ -3,11 +3,12 @@ use Rattle.std.proofs.Common.{◌≡◌, ℕ, ◌+◌, ◌*◌, ◌<◌, ◌≤�
 use Rattle.std.specs.Result.{result_err}
 use Rattle.const_oid.specs.declared.error.Error.{Error}
 use Rattle.const_oid.specs.declared.error.Error.TheVariants.{ArcInvalid, Length}
-use Rattle.const_oid.specs.Base128.{width, GoesOn}
+use Rattle.const_oid.specs.Base128.{width}
+use Rattle.const_oid.specs.Private.Encoder.{arcs_given, IsStarted}
+use Rattle.const_oid.specs.Private.Octets.{GoesOn}
 use Rattle.const_oid.specs.Identifier.{RootRule, max_arc, max_second, IsEncoding}
-use Rattle.const_oid.specs.Faults.{fault_if}
+use Rattle.const_oid.specs.Error.{fault_if}
 use Rattle.const_oid.specs.Items.{arc_fault}
-use Rattle.const_oid.specs.Encoder.{arcs_given, IsStarted}
 use Rattle.const_oid.proofs.Faults.{none_from_below, some_from_above}
 use Rattle.const_oid.proofs.Encodings.{arcs_of_encoding, encoding_back}
 use Rattle.const_oid.proofs.Lengths.{size_push}

@@ -18,10 +18,10 @@ use Rattle.const_oid.specs.declared.error.Error.{Error}
 use Rattle.const_oid.specs.declared.error.Error.TheVariants.{ArcTooBig, DigitExpected, RepeatedDot, TrailingDot}
 use Rattle.const_oid.specs.Identifier.{RootRule, max_arc, IsEncoding}
 use Rattle.const_oid.specs.Contents.{arcs_of_octets}
-use Rattle.const_oid.specs.Parser.{dot_fault, last_fault}
+use Rattle.const_oid.specs.Private.Parser.{dot_fault, last_fault}
 use Rattle.const_oid.specs.Items.{arc_fault, too_few_fault}
-use Rattle.const_oid.specs.Text.{pieces_of, number_of, is_empty, is_one_empty, empty_fault, single_fault, piece_fault, pieces_fault, text_answer}
-use Rattle.const_oid.specs.Faults.{fault_if, answer}
+use Rattle.const_oid.specs.Text.{pieces_of, number_of, is_empty, is_one_empty, empty_fault, piece_fault, pieces_fault, text_answer}
+use Rattle.const_oid.specs.Error.{fault_if, answer}
 use Rattle.const_oid.proofs.Lists.{append-cons, onto_all, onto_all-first, not_empty_push, onto_all-cons}
 use Rattle.const_oid.proofs.Encodings.{arcs_of_encoding}
 use Rattle.const_oid.proofs.Numbers.{number_of_digits, find-none, take_while-digits, find-digits, digit-undotted}
@@ -33,7 +33,7 @@ after (Some fault) r = Err fault
 
 -- what a pass over the bytes comes to first, after the arcs before, from a piece that is begun or not and its number so far
 abbrev pub text_pass : RootRule → ℕ → List ℕ → Bool → ℕ → List ℕ → Result (List ℕ) Error
-text_pass rule capacity before begun value [] = if begun then answer (option_or (arc_fault rule capacity before value) (single_fault before [])) (before ++ value ∷ []) else Err (empty_fault before [])
+text_pass rule capacity before begun value [] = if begun then answer (option_or (arc_fault rule capacity before value) (too_few_fault (before ++ value ∷ []))) (before ++ value ∷ []) else Err (empty_fault before [])
 text_pass rule capacity before begun value (b ∷ bs) =
     if is_ascii_digit b then (if nat_lt max_arc (value * 10 + (b - 48)) then Err ArcTooBig else text_pass rule capacity before true (value * 10 + (b - 48)) bs)
     else (if b == 46 then (if begun then (if is_empty bs then Err TrailingDot else after (arc_fault rule capacity before value) (text_pass rule capacity (before ++ value ∷ []) false 0 bs))
@@ -97,7 +97,7 @@ bad_byte rule capacity before prefix b more after h d l =
 
 -- it has digits alone
 digits_piece : (rule : RootRule) (capacity : ℕ) (before prefix : List ℕ) (value : ℕ) (after : List (List ℕ)) → all_ascii_digits prefix ≡ true → number_of prefix ≡ value → value ≤ max_arc →
-    piece_fault rule capacity before prefix after ≡ option_or (fault_if (is_empty prefix) (empty_fault before after)) (option_or (fault_if (is_one_empty after) TrailingDot) (option_or (arc_fault rule capacity before value) (single_fault before after)))
+    piece_fault rule capacity before prefix after ≡ option_or (fault_if (is_empty prefix) (empty_fault before after)) (option_or (fault_if (is_one_empty after) TrailingDot) (arc_fault rule capacity before value))
 digits_piece rule capacity before prefix value after h n l = rw (n, le-ltb max_arc value l, find-none prefix h)
 
 -- ---- pieces
@@ -127,13 +127,6 @@ one_empty-pieces (b ∷ bs) =
     by p [] = refl
     by p (q ∷ qs) = refl
 
-single-several : (before : List ℕ) (bs : List ℕ) → single_fault before (pieces_of bs) ≡ None
-single-several before bs = let (p, ps, e) = pieces_of-some bs in rw e (by before p ps)
-  where
-    by : (before : List ℕ) (p : List ℕ) (ps : List (List ℕ)) → single_fault before (p ∷ ps) ≡ None
-    by [] p ps = refl
-    by (a ∷ arcs) p ps = refl
-
 empty-several : (before : List ℕ) (bs : List ℕ) → empty_fault before (pieces_of bs) ≡ (if is_empty before then DigitExpected 46 else RepeatedDot)
 empty-several before bs = let (p, ps, e) = pieces_of-some bs in rw e (by before p ps)
   where
@@ -142,10 +135,6 @@ empty-several before bs = let (p, ps, e) = pieces_of-some bs in rw e (by before 
     by (a ∷ arcs) p ps = refl
 
 -- ---- the pass
-
-or_none : {X : Type 0} (o : Option X) → option_or o None ≡ o
-or_none None = refl
-or_none (Some x) = refl
 
 read_number : (prefix : List ℕ) (begun : Bool) (value : ℕ) → IsPieceRead prefix begun value → number_of prefix ≡ value
 read_number prefix begun value s = number_of_digits prefix s.digits ∙ sym s.value_is
@@ -159,7 +148,7 @@ end_is : (rule : RootRule) (capacity : ℕ) (before prefix : List ℕ) (begun : 
 end_is rule capacity before [] begun value s = rw s.begun_is
 end_is rule capacity before (y ∷ ys) begun value s =
     let n = read_number (y ∷ ys) begun value s in
-    rw (s.begun_is, digits_piece rule capacity before (y ∷ ys) value [] s.digits n s.small, n, or_none (option_or (arc_fault rule capacity before value) (single_fault before [])))
+    rw (s.begun_is, digits_piece rule capacity before (y ∷ ys) value [] s.digits n s.small, n)
 
 -- at a dot, where what follows is passed over as it should be
 dot_is : (rule : RootRule) (capacity : ℕ) (before prefix : List ℕ) (begun : Bool) (value : ℕ) (bs : List ℕ) → IsPieceRead prefix begun value → text_pass rule capacity (before ++ value ∷ []) false 0 bs ≡ pieces_answer rule capacity (before ++ value ∷ []) (pieces_of bs) →
@@ -171,7 +160,7 @@ dot_is rule capacity before (y ∷ ys) begun value [] s rest =
 dot_is rule capacity before (y ∷ ys) begun value (c ∷ cs) s rest =
     let n = read_number (y ∷ ys) begun value s in
     let ps = pieces_of (c ∷ cs) in
-    rw (s.begun_is, digits_piece rule capacity before (y ∷ ys) value ps s.digits n s.small, one_empty-pieces (c ∷ cs), single-several before (c ∷ cs), or_none (arc_fault rule capacity before value), n, rest, append-cons before value (map number_of ps))
+    rw (s.begun_is, digits_piece rule capacity before (y ∷ ys) value ps s.digits n s.small, one_empty-pieces (c ∷ cs), n, rest, append-cons before value (map number_of ps))
     (after-answer (arc_fault rule capacity before value) (pieces_fault rule capacity (before ++ value ∷ []) ps) (before ++ value ∷ map number_of ps))
 
 text_pass_is : (bytes : List ℕ) (rule : RootRule) (capacity : ℕ) (before prefix : List ℕ) (begun : Bool) (value : ℕ) → IsPieceRead prefix begun value → text_pass rule capacity before begun value bytes ≡ pieces_answer rule capacity before (onto_all prefix (pieces_of bytes))
@@ -208,18 +197,13 @@ text_answer_is rule capacity text = text_pass_is text rule capacity [] [] false 
 
 -- ---- the end of the text
 
-few_is_single : (before : List ℕ) (arc : ℕ) → too_few_fault (before ++ arc ∷ []) ≡ single_fault before []
-few_is_single [] arc = refl
-few_is_single (a ∷ []) arc = refl
-few_is_single (a ∷ b ∷ later) arc = refl
-
 -- where the last piece has no fault, what is encoded of all arcs is what the pass comes to
 pub text_pass-end : {X : Type 0} (octets_in : X → List ℕ) (rule : RootRule) (capacity : ℕ) (before : List ℕ) (number : Option ℕ) (result : Result X Error) →
     None ≡ last_fault rule capacity before number → result_err result ≡ too_few_fault (before ++ unwrap_or number 0 ∷ []) → IfOk result (λ x. IsEncoding rule (before ++ unwrap_or number 0 ∷ []) (octets_in x)) →
     result_map_both (λ x. arcs_of_octets (octets_in x)) (λ fault. fault) result ≡ text_pass rule capacity before (is_some number) (unwrap_or number 0) []
 text_pass-end octets_in rule capacity before None result n f e = cc
-text_pass-end octets_in rule capacity before (Some arc) (Ok x) n f e = rw (← n, ← few_is_single before arc, ← f) (ap Ok (arcs_of_encoding rule (before ++ arc ∷ []) (octets_in x) e))
-text_pass-end octets_in rule capacity before (Some arc) (Err fault) n f e = rw (← n, ← few_is_single before arc, ← f) refl
+text_pass-end octets_in rule capacity before (Some arc) (Ok x) n f e = rw (← n, ← f) (ap Ok (arcs_of_encoding rule (before ++ arc ∷ []) (octets_in x) e))
+text_pass-end octets_in rule capacity before (Some arc) (Err fault) n f e = rw (← n, ← f) refl
 
 -- ---- one byte of a text at a place
 

@@ -10,14 +10,15 @@ use Rattle.std.proofs.lemmas.List.Splits.{slice_split_at, slice_split_none, leng
 use Rattle.std.proofs.lemmas.Bool.Decides.{nat_tests}
 use Rattle.const_oid.specs.declared.error.Error.TheVariants.{ArcTooBig, DigitExpected}
 use Rattle.const_oid.specs.declared.error.Error.{Error}
-use Rattle.const_oid.specs.Faults.{answer}
+use Rattle.const_oid.specs.Error.{answer}
 use Rattle.const_oid.specs.Identifier.{RootRule, Narrow, Wide, max_arc, max_second, IsIdentifier, size}
 use Rattle.const_oid.specs.Items.{arc_fault}
-use Rattle.const_oid.specs.Text.{text_of, text_left, arc_text, pieces_of, number_of, is_empty, is_one_empty, empty_fault, single_fault, piece_fault, pieces_fault, text_fault, IsNumber, Denotes, strip_piece, strip, text_answer}
+use Rattle.const_oid.specs.Text.{text_of, pieces_of, number_of, is_empty, is_one_empty, empty_fault, piece_fault, pieces_fault, text_fault, IsNumber, Denotes, strip_piece, strip, text_answer}
+use Rattle.const_oid.specs.Private.Text.{text_left, arc_text}
 use Rattle.const_oid.proofs.Decimals.{arc_text_ascii, arc_text_short}
 use Rattle.const_oid.proofs.Lists.{append-cons, all_at}
 use Rattle.const_oid.proofs.Faults.{both_none, false_from_none, below_from_none, none_from_below}
-use Rattle.const_oid.proofs.Items.{IsBegun, begun_more, arc_none}
+use Rattle.const_oid.proofs.Items.{IsBegun, begun_more, arc_none, few_none, whole_from_begun}
 use Rattle.const_oid.proofs.Numbers.{find-none, digits_from_find, undotted, decimal_is, number_of-decimal, decimal-number_of}
 
 -- ---- pieces joined and cut again
@@ -89,33 +90,30 @@ not_one_empty [] h = refl
 not_one_empty (piece ∷ []) h = not_empty piece h.0.0
 not_one_empty (piece ∷ next ∷ more) h = refl
 
-piece_none : (rule : RootRule) (capacity : ℕ) (before piece : List ℕ) (after : List (List ℕ)) → AllByRecursion IsNumber (piece ∷ after) → number_of piece ≤ max_arc → arc_fault rule capacity before (number_of piece) ≡ None → single_fault before after ≡ None → piece_fault rule capacity before piece after ≡ None
-piece_none rule capacity before piece after p l a s =
-    rw (none_from_below max_arc (number_of piece) ArcTooBig l, find-none piece p.0.1, not_empty piece p.0.0, not_one_empty after p.1, a, s)
+piece_none : (rule : RootRule) (capacity : ℕ) (before piece : List ℕ) (after : List (List ℕ)) → AllByRecursion IsNumber (piece ∷ after) → number_of piece ≤ max_arc → arc_fault rule capacity before (number_of piece) ≡ None → piece_fault rule capacity before piece after ≡ None
+piece_none rule capacity before piece after p l a =
+    rw (none_from_below max_arc (number_of piece) ArcTooBig l, find-none piece p.0.1, not_empty piece p.0.0, not_one_empty after p.1, a)
 
 -- what a piece without a fault is
-record IsSound (rule : RootRule) (capacity : ℕ) (before piece : List ℕ) (after : List (List ℕ)) : Type 0 where
+record IsValidPiece (rule : RootRule) (capacity : ℕ) (before piece : List ℕ) (after : List (List ℕ)) : Type 0 where
   number : IsNumber piece
   small : number_of piece ≤ max_arc
   arc : arc_fault rule capacity before (number_of piece) ≡ None
-  several : single_fault before after ≡ None
 
 map_none : {X Y : Type 0} (f : X → Y) (x : Option X) → option_map f x ≡ None → x ≡ None
 map_none f None h = refl
 map_none f (Some x) h = cc
 
-piece_valid : (rule : RootRule) (capacity : ℕ) (before piece : List ℕ) (after : List (List ℕ)) → piece_fault rule capacity before piece after ≡ None → IsSound rule capacity before piece after
+piece_valid : (rule : RootRule) (capacity : ℕ) (before piece : List ℕ) (after : List (List ℕ)) → piece_fault rule capacity before piece after ≡ None → IsValidPiece rule capacity before piece after
 piece_valid rule capacity before piece after h =
     let (big, h1) = both_none _ _ h in
     let (digit, h2) = both_none _ _ h1 in
     let (empty, h3) = both_none _ _ h2 in
-    let (trailing, h4) = both_none _ _ h3 in
-    let (arc, several) = both_none _ _ h4 in
+    let (trailing, arc) = both_none _ _ h3 in
     record {
       number = (some_from_not_empty piece (false_from_none (is_empty piece) (empty_fault before after) empty), digits_from_find piece (map_none (λ b. DigitExpected b) (find (λ b. not (is_ascii_digit b)) piece) digit));
       small = below_from_none max_arc (number_of piece) ArcTooBig big;
       arc = arc;
-      several = several;
     }
 
 pub arc_from_piece : (rule : RootRule) (capacity : ℕ) (before piece : List ℕ) (after : List (List ℕ)) → piece_fault rule capacity before piece after ≡ None → arc_fault rule capacity before (number_of piece) ≡ None
@@ -123,42 +121,30 @@ arc_from_piece rule capacity before piece after h = (piece_valid rule capacity b
 
 -- ---- whole texts
 
-several_none : (rule : RootRule) (before piece : List ℕ) (after : List (List ℕ)) → IsIdentifier rule (before ++ number_of piece ∷ map number_of after) → single_fault before after ≡ None
-several_none rule [] piece [] i = absurd i
-several_none rule [] piece (next ∷ more) i = refl
-several_none rule (a ∷ before) piece after i = refl
-
 pieces_none : (rule : RootRule) (capacity : ℕ) (before : List ℕ) (pieces : List (List ℕ)) → AllByRecursion IsNumber pieces → IsIdentifier rule (before ++ map number_of pieces) → size (before ++ map number_of pieces) ≤ capacity → pieces_fault rule capacity before pieces ≡ None
-pieces_none rule capacity before [] p i s = refl
+pieces_none rule capacity before [] p i s = few_none rule before (rw append-nil at i)
 pieces_none rule capacity before (piece ∷ after) p i s =
     let n = number_of piece in
     let l = all_at (λ n. n ≤ max_arc) before n (map number_of after) (arcs_small rule (before ++ n ∷ map number_of after) i) in
     let e = append-cons before n (map number_of after) in
-    rw (piece_none rule capacity before piece after p l (arc_none rule capacity before n (map number_of after) i s) (several_none rule before piece after i))
+    rw (piece_none rule capacity before piece after p l (arc_none rule capacity before n (map number_of after) i s))
     (pieces_none rule capacity (before ++ n ∷ []) after p.1 (rw (← e) at i) (rw (← e) at s))
 
 pub text_fault-none : (rule : RootRule) (capacity : ℕ) (text arcs : List ℕ) → Denotes rule text arcs → size arcs ≤ capacity → text_fault rule text capacity ≡ None
 text_fault-none rule capacity text arcs d s = pieces_none rule capacity [] (pieces_of text) d.numbers (rw d.values at d.identifier) (rw d.values at s)
 
-pieces_valid : (rule : RootRule) (capacity : ℕ) (before : List ℕ) (pieces : List (List ℕ)) → IsBegun rule capacity before → pieces_fault rule capacity before pieces ≡ None → IsBegun rule capacity (before ++ map number_of pieces) × AllByRecursion IsNumber pieces
-pieces_valid rule capacity before [] b h = (rw append-nil b, tt)
+pieces_valid : (rule : RootRule) (capacity : ℕ) (before : List ℕ) (pieces : List (List ℕ)) → IsBegun rule capacity before → pieces_fault rule capacity before pieces ≡ None → (IsIdentifier rule (before ++ map number_of pieces) × (size (before ++ map number_of pieces) ≤ capacity)) × AllByRecursion IsNumber pieces
+pieces_valid rule capacity before [] b h = (rw append-nil (whole_from_begun rule capacity before b h), tt)
 pieces_valid rule capacity before (piece ∷ after) b h =
     let (p, q) = both_none (piece_fault rule capacity before piece after) (pieces_fault rule capacity (before ++ number_of piece ∷ []) after) h in
     let s = piece_valid rule capacity before piece after p in
-    let (more, numbers) = pieces_valid rule capacity (before ++ number_of piece ∷ []) after (begun_more rule capacity before (number_of piece) b s.small s.arc) q in
-    (rw (append-cons before (number_of piece) (map number_of after)) at more, (s.number, numbers))
-
-whole_valid : (rule : RootRule) (capacity : ℕ) (pieces : List (List ℕ)) → 0 < length pieces → pieces_fault rule capacity [] pieces ≡ None → AllByRecursion IsNumber pieces × IsIdentifier rule (map number_of pieces) × (size (map number_of pieces) ≤ capacity)
-whole_valid rule capacity [] some h = absurd (omega arith)
-whole_valid rule capacity (piece ∷ []) some h =
-    let e = (piece_valid rule capacity [] piece [] (both_none (piece_fault rule capacity [] piece []) None h).0).several in
-    cc
-whole_valid rule capacity (piece ∷ next ∷ more) some h = let (b, numbers) = pieces_valid rule capacity [] (piece ∷ next ∷ more) tt h in (numbers, b.0, b.1)
+    let (whole, numbers) = pieces_valid rule capacity (before ++ number_of piece ∷ []) after (begun_more rule capacity before (number_of piece) b s.small s.arc) q in
+    (rw (append-cons before (number_of piece) (map number_of after)) at whole, (s.number, numbers))
 
 pub denoted_from_none : (rule : RootRule) (capacity : ℕ) (text : List ℕ) → text_fault rule text capacity ≡ None → Denotes rule text (map number_of (pieces_of text)) × (size (map number_of (pieces_of text)) ≤ capacity)
 denoted_from_none rule capacity text h =
-    let (numbers, identifier, fits) = whole_valid rule capacity (pieces_of text) (omega (arith, length-slice_split (λ b. b == 46) text)) h in
-    (record { numbers = numbers; values = refl; identifier = identifier }, fits)
+    let (whole, numbers) = pieces_valid rule capacity [] (pieces_of text) tt h in
+    (record { numbers = numbers; values = refl; identifier = whole.0 }, whole.1)
 
 -- the arcs that a text is read as are those that it denotes
 pub denoted_from_answer : (rule : RootRule) (capacity : ℕ) (text arcs : List ℕ) → Ok arcs ≡ text_answer rule text capacity → Denotes rule text arcs

@@ -8,7 +8,3 @@ use Rattle.const_oid.specs.declared.buffer.Buffer.{Buffer}
 -- the octets in use
 abbrev pub octets_of : {SIZE : ℕ} → Buffer SIZE → List ℕ
 octets_of buffer = take buffer.used buffer.bytes
-
--- what a call answers, by the arcs of the octets
-abbrev pub buffer_answer : {SIZE : ℕ} → Result (Buffer SIZE) Error → Result (List ℕ) Error
-buffer_answer result = result_map_both (λ buffer. arcs_of_octets (octets_of buffer)) (λ fault. fault) result

@@ -5,7 +5,7 @@ use Rattle.std.specs.Option.{option_or}
 use Rattle.const_oid.specs.declared.error.Error.{Error}
 use Rattle.const_oid.specs.declared.error.Error.TheVariants.{ArcInvalid, ArcTooBig, Base128, Empty, Length}
 use Rattle.const_oid.specs.Base128.{value_of}
-use Rattle.const_oid.specs.Faults.{fault_if, answer}
+use Rattle.const_oid.specs.Error.{fault_if, answer}
 use Rattle.const_oid.specs.Identifier.{RootRule, Narrow, Wide, max_arc}
 
 -- an octet put before the parts that follow it
@@ -16,11 +16,6 @@ cut_after x parts = if nat_lt x 128 then (x ∷ []) ∷ parts else onto_first x 
 abbrev pub cut : List ℕ → List (List ℕ)
 cut [] = []
 cut (x ∷ xs) = cut_after x (cut xs)
-
--- how many octets the first part has
-abbrev pub first_length : List (List ℕ) → ℕ
-first_length [] = 0
-first_length (part ∷ parts) = length part
 
 -- a part ends with an octet below 128
 abbrev pub is_finished : List ℕ → Bool
@@ -43,11 +38,6 @@ part_fault limit part =
 abbrev pub later_fault : List (List ℕ) → Option Error
 later_fault [] = None
 later_fault (part ∷ parts) = option_or (part_fault max_arc part) (later_fault parts)
-
--- the first fault of parts, of which the first one has a limit of its own
-abbrev pub fault_from : ℕ → List (List ℕ) → Option Error
-fault_from limit [] = None
-fault_from limit (part ∷ parts) = option_or (part_fault limit part) (later_fault parts)
 
 -- the greatest first subidentifier: 40 times 2 and the greatest second arc
 abbrev pub max_first : RootRule → ℕ

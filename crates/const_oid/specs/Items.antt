@@ -4,7 +4,7 @@ use Rattle.std.specs.Iterator.Runs.{SomeRun, WholeRun, ItemsAre}
 use Rattle.std.specs.Option.{option_or}
 use Rattle.const_oid.specs.declared.error.Error.{Error}
 use Rattle.const_oid.specs.declared.error.Error.TheVariants.{ArcInvalid, Empty, Length}
-use Rattle.const_oid.specs.Faults.{fault_if, answer}
+use Rattle.const_oid.specs.Error.{fault_if, answer}
 use Rattle.const_oid.specs.Identifier.{RootRule, max_second, size}
 
 -- what is wrong with an arc that follows others, at a capacity in octets: its range, or the length of the encoding so far

@@ -8,31 +8,20 @@ use Rattle.std.specs.Str.Parse.{digits_value}
 use Rattle.const_oid.specs.declared.error.Error.{Error}
 use Rattle.const_oid.specs.declared.error.Error.TheVariants.{ArcTooBig, DigitExpected, Empty, RepeatedDot, TrailingDot}
 use Rattle.const_oid.specs.Identifier.{RootRule, max_arc, IsIdentifier}
-use Rattle.const_oid.specs.Faults.{fault_if, answer}
-use Rattle.const_oid.specs.Items.{arc_fault}
+use Rattle.const_oid.specs.Error.{fault_if, answer}
+use Rattle.const_oid.specs.Items.{arc_fault, too_few_fault}
+
+-- the byte between two arcs
+abbrev pub dot : ℕ
+dot = 46
 
 -- the arcs' decimals, joined by dots
 abbrev pub text_of : List ℕ → List ℕ
-text_of arcs = join_with_byte 46 (map decimal arcs)
-
--- what an arc adds to the text, by whether it is the first
-abbrev pub arc_text : Bool → ℕ → List ℕ
-arc_text true arc = decimal arc
-arc_text false arc = 46 ∷ decimal arc
-
--- what arcs add to the text, by whether they are the first
-abbrev pub text_left : Bool → List ℕ → List ℕ
-text_left true arcs = text_of arcs
-text_left false [] = []
-text_left false (arc ∷ arcs) = 46 ∷ text_of (arc ∷ arcs)
-
--- two digits
-abbrev pub pair_text : ℕ → List ℕ
-pair_text pair = (48 + pair / 10) ∷ (48 + pair % 10) ∷ []
+text_of arcs = join_with_byte dot (map decimal arcs)
 
 -- the pieces between the dots
 abbrev pub pieces_of : List ℕ → List (List ℕ)
-pieces_of text = slice_split (λ b. b == 46) text
+pieces_of text = slice_split (λ b. b == dot) text
 
 -- the decimal number of a piece's leading digits, 0 where there is none
 abbrev pub number_of : List ℕ → ℕ
@@ -51,15 +40,9 @@ is_one_empty (piece ∷ next ∷ more) = false
 -- the fault of an empty piece, by the arcs before it and the pieces after it
 abbrev pub empty_fault : List ℕ → List (List ℕ) → Error
 empty_fault [] [] = Empty
-empty_fault [] (next ∷ more) = DigitExpected 46
+empty_fault [] (next ∷ more) = DigitExpected dot
 empty_fault (arc ∷ arcs) [] = TrailingDot
 empty_fault (arc ∷ arcs) (next ∷ more) = RepeatedDot
-
--- a piece that is the only one is no identifier
-abbrev pub single_fault : List ℕ → List (List ℕ) → Option Error
-single_fault [] [] = Some Empty
-single_fault [] (next ∷ more) = None
-single_fault (arc ∷ arcs) after = None
 
 -- what is wrong with a piece at a capacity, by the arcs before it and the pieces after it: the first that applies
 abbrev pub piece_fault : RootRule → ℕ → List ℕ → List ℕ → List (List ℕ) → Option Error
@@ -68,12 +51,11 @@ piece_fault rule capacity before piece after =
     (option_or (option_map (λ b. DigitExpected b) (find (λ b. not (is_ascii_digit b)) piece))
     (option_or (fault_if (is_empty piece) (empty_fault before after))
     (option_or (fault_if (is_one_empty after) TrailingDot)
-    (option_or (arc_fault rule capacity before (number_of piece))
-    (single_fault before after)))))
+    (arc_fault rule capacity before (number_of piece)))))
 
--- the fault of the first piece that has one
+-- the fault of the first piece that has one, or that there are fewer than two
 abbrev pub pieces_fault : RootRule → ℕ → List ℕ → List (List ℕ) → Option Error
-pieces_fault rule capacity before [] = None
+pieces_fault rule capacity before [] = too_few_fault before
 pieces_fault rule capacity before (piece ∷ after) =
     option_or (piece_fault rule capacity before piece after) (pieces_fault rule capacity (before ++ number_of piece ∷ []) after)
 
@@ -99,7 +81,7 @@ strip_piece (b ∷ c ∷ bs) = if b == 48 then strip_piece (c ∷ bs) else b ∷
 
 -- the text without the leading zeros of its pieces
 abbrev pub strip : List ℕ → List ℕ
-strip text = join_with_byte 46 (map strip_piece (pieces_of text))
+strip text = join_with_byte dot (map strip_piece (pieces_of text))
 
 -- what the text is read as at a capacity: its fault, or the numbers of its pieces
 abbrev pub text_answer : RootRule → List ℕ → ℕ → Result (List ℕ) Error

@@ -33,7 +33,7 @@ enum Next {
 
 impl<'a> Model for Arcs<'a> {
     ghost use Rattle.std.specs.Prelude.{◌≡◌, ℕ, List, None};
-    ghost use Rattle.const_oid.specs.Arcs.{arcs_left, fault_left};
+    ghost use Rattle.const_oid.specs.Private.Octets.{arcs_left, fault_left};
 
     ghost Value = { List ℕ };
 

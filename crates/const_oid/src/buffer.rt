@@ -3,7 +3,8 @@
 ghost use Rattle.std.specs.Prelude.{◌≡◌, ℕ, List, ◌++◌, ◌+◌, ◌-◌, ◌^◌, ◌<◌, ◌≤◌, ◌↔◌, [], length, take, drop, replicate, min, nat_eq, IsTrue, IfOk, OnOk, OnErr, MatchResult};
 ghost use Rattle.std.proofs.Props.{props};
 ghost use Rattle.std.specs.Cmp.Lexicographic.{pointwise};
-ghost use Rattle.const_oid.specs.Base128.{AreOctets, IsGroup, GoesOn, width};
+ghost use Rattle.const_oid.specs.Base128.{AreOctets, IsGroup, width};
+ghost use Rattle.const_oid.specs.Private.Octets.{GoesOn};
 
 use crate::compare::{are_equal, order};
 use crate::error::{Error, Result};

@@ -1,6 +1,6 @@
 //! Arcs in decimal, written into bytes.
 ghost use Rattle.std.specs.Prelude.{◌≡◌, ◌+◌, ◌<◌, ◌≤◌, ◌++◌, length, take, drop, decimal};
-ghost use Rattle.const_oid.specs.Text.{arc_text, pair_text};
+ghost use Rattle.const_oid.specs.Private.Text.{arc_text, pair_text};
 
 use crate::arcs::Arc;
 

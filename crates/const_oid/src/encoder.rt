@@ -6,7 +6,8 @@ ghost use Rattle.const_oid.specs.Identifier.{root_rule, IsEncoding, max_second};
 ghost use Rattle.const_oid.specs.Items.{arc_fault, too_few_fault, TakesItems};
 ghost use Rattle.const_oid.specs.Contents.{arcs_of_octets};
 ghost use Rattle.std.specs.Iterator.{IsFiniteIterable};
-ghost use Rattle.const_oid.specs.Buffer.{octets_of, buffer_answer};
+ghost use Rattle.const_oid.specs.Buffer.{octets_of};
+ghost use Rattle.const_oid.specs.Private.Encoder.{buffer_answer};
 
 use crate::arcs::Arc;
 use crate::buffer::Buffer;
@@ -29,7 +30,7 @@ impl<const SIZE: usize> Model for Encoder<SIZE> {
     ghost Value = { List ℕ };
 
     ghost use Rattle.const_oid.specs.Buffer.{octets_of};
-    ghost use Rattle.const_oid.specs.Encoder.{arcs_given, IsStarted};
+    ghost use Rattle.const_oid.specs.Private.Encoder.{arcs_given, IsStarted};
 
     ghost view = { λ encoder. arcs_given encoder.first (octets_of encoder.octets) };
 

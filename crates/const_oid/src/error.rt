@@ -51,7 +51,8 @@ pub enum Error {
 const MAX_TEXT_LEN: usize = 47;
 
 impl Error {
-    ghost use Rattle.const_oid.specs.Message.{message_of, shown_of};
+    ghost use Rattle.const_oid.specs.Error.{message_of};
+    ghost use Rattle.const_oid.specs.Private.Text.{detail_text};
 
     /// The length of the text that `{}` writes.
     pub fn text_len(self) -> usize
@@ -91,7 +92,7 @@ impl Error {
 
     /// The words before the number that the error carries, and those after it.
     fn words(self) -> (&'static str, &'static str)
-        ensures { message_of self ≡ result.0.now ++ (shown_of self ++ result.1.now) }
+        ensures { message_of self ≡ result.0.now ++ (detail_text self ++ result.1.now) }
     {
         match self {
             Error::ArcInvalid { .. } => ("OID contains out-of-range arc: ", ""),
@@ -108,7 +109,7 @@ impl Error {
 
     /// How many bytes the number that the error carries takes.
     fn shown_len(self) -> usize
-        ensures len { result ≡ length (shown_of self) }
+        ensures len { result ≡ length (detail_text self) }
         ensures short { length (message_of self) ≤ 47 }
     {
         match self {
@@ -120,11 +121,11 @@ impl Error {
 
     /// Writes the number that the error carries at a place, and tells the place after it.
     fn write_shown(self, out: &mut [u8], at: usize) -> usize
-        requires { at + length (shown_of self) ≤ length out.old }
-        ensures end { result ≡ at + length (shown_of self) }
-        ensures prefix { take result out.new ≡ take at out.old ++ shown_of self }
+        requires { at + length (detail_text self) ≤ length out.old }
+        ensures end { result ≡ at + length (detail_text self) }
+        ensures prefix { take result out.new ≡ take at out.old ++ detail_text self }
         ensures after { drop result out.new ≡ drop result out.old }
-        ensures utf8 { IsUtf8 (shown_of self) }
+        ensures utf8 { IsUtf8 (detail_text self) }
     {
         match self {
             Error::ArcInvalid { arc } => write_arc(arc, true, out, at),
@@ -140,7 +141,7 @@ impl Error {
 
 /// The error in words, whatever the options.
 impl fmt::Display for Error {
-    ghost use Rattle.const_oid.specs.Message.{message_of};
+    ghost use Rattle.const_oid.specs.Error.{message_of};
 
     ghost output = { λ error. Some (message_of error) };
 

@@ -9,7 +9,7 @@ ghost use Rattle.std.specs.List.{AllByRecursion, AllZip, concat};
 ghost use Rattle.std.specs.Option.{option_map};
 ghost use Rattle.std.specs.Ordering.{nat_cmp};
 ghost use Rattle.std.specs.declared.cmp.Ordering.TheVariants.{Less, Equal, Greater};
-ghost use Rattle.const_oid.specs.Faults.{fault_if};
+ghost use Rattle.const_oid.specs.Error.{fault_if};
 ghost use Rattle.const_oid.specs.Items.{arc_fault, item_fault, item_answer};
 ghost use Rattle.const_oid.specs.declared.error.Error.TheVariants.{ArcInvalid, ArcTooBig, Base128, DigitExpected, Empty, Length, Overflow, TrailingDot};
 ghost use Rattle.const_oid.specs.Base128.{AreOctets, value_of, IsGroup, IsWidth, group_of, width};
@@ -18,7 +18,7 @@ ghost use Rattle.const_oid.specs.Identifier.{RootRule, Narrow, Wide, root_rule, 
 ghost use Rattle.const_oid.specs.Orders.{shortlex_cmp, parts_cmp};
 ghost use Rattle.const_oid.specs.Text.{text_fault, text_answer, text_of, pieces_of, number_of, Denotes, strip};
 ghost use Rattle.const_oid.specs.Tree.{BeginsWith, child_of, parent_of};
-ghost use Rattle.const_oid.specs.Wider.{IsPastNarrow, RefusesSecond};
+ghost use Rattle.const_oid.specs.WideRule.{IsPastNarrow, RefusesSecond};
 
 /// Worked rows, which the definitions compute: under the rule that is kept, the last one apart.
 pub fn examples()

@@ -1,7 +1,8 @@
 //! How many parts octets have, where these begin, and where they end.
 
 ghost use Rattle.std.specs.Prelude.{◌≡◌, ◌-◌, ◌≤◌, length, take, drop, count_by, nat_lt};
-ghost use Rattle.const_oid.specs.Contents.{cut, first_length};
+ghost use Rattle.const_oid.specs.Contents.{cut};
+ghost use Rattle.const_oid.specs.Private.Octets.{first_length};
 
 use std::simd::prelude::*;
 use std::simd::u8x32;

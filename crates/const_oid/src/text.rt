@@ -1,7 +1,8 @@
 //! Arcs as text: their decimals joined by dots.
 ghost use Rattle.std.specs.Prelude.{◌≡◌, ◌+◌, ◌<◌, ◌≤◌, ◌++◌, length, take, drop, false, MatchOption};
 ghost use Rattle.std.specs.Str.{IsUtf8};
-ghost use Rattle.const_oid.specs.Text.{text_of, text_left};
+ghost use Rattle.const_oid.specs.Text.{text_of};
+ghost use Rattle.const_oid.specs.Private.Text.{text_left};
 
 use crate::arcs::Arcs;
 use crate::digits::{arc_len, write_arc};

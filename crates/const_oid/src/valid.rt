@@ -2,7 +2,8 @@
 
 ghost use Rattle.std.specs.Prelude.{◌≡◌, ◌≢◌, ◌<◌, ◌≤◌, Some, length, slice_index_or, IfOk, MatchResult};
 ghost use Rattle.std.specs.Result.{result_err};
-ghost use Rattle.const_oid.specs.Contents.{cut, fault_from, later_fault, parts_fault, max_first};
+ghost use Rattle.const_oid.specs.Contents.{cut, later_fault, parts_fault, max_first};
+ghost use Rattle.const_oid.specs.Private.Octets.{fault_from};
 ghost use Rattle.const_oid.specs.Identifier.{root_rule, max_arc};
 
 use crate::arcs::Arc;

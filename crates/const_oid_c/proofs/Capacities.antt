@@ -7,7 +7,7 @@ use Rattle.std.specs.Option.{option_or, option_map}
 use Rattle.const_oid.specs.declared.error.Error.{Error}
 use Rattle.const_oid.specs.declared.error.Error.TheVariants.{ArcTooBig, DigitExpected, Length, TrailingDot}
 use Rattle.const_oid.specs.Contents.{cut, parts_fault, arcs_of_octets}
-use Rattle.const_oid.specs.Faults.{fault_if, answer}
+use Rattle.const_oid.specs.Error.{fault_if, answer}
 use Rattle.const_oid.specs.Identifier.{RootRule, root_rule, max_arc, size}
 use Rattle.const_oid.specs.Items.{arc_fault, items_fault, item_answer}
 use Rattle.const_oid.specs.Text.{piece_fault, pieces_fault, pieces_of, number_of, text_answer, is_empty, empty_fault, is_one_empty, single_fault}

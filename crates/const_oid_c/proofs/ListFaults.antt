@@ -6,23 +6,23 @@ use Rattle.std.specs.Option.{option_or}
 use Rattle.std.specs.Ordering.{nat_cmp, is_lt}
 use Rattle.const_oid.specs.declared.error.Error.{Error}
 use Rattle.const_oid.specs.declared.error.Error.TheVariants.{ArcInvalid, ArcTooBig, Base128, DigitExpected, Empty, Length, Overflow, RepeatedDot, TrailingDot}
-use Rattle.const_oid.specs.Orders.{place_of}
+use Rattle.const_oid.specs.Error.{code_of}
 use Rattle.const_oid_c.specs.declared.status.Status.{Status}
 use Rattle.const_oid_c.specs.declared.subtree.Octets.{Octets}
 use Rattle.const_oid_c.specs.Status.{error_status}
 use Rattle.const_oid_c.specs.Answers.{borrowed_answer}
 use Rattle.const_oid_c.specs.Subtree.{octets_at, list_fault, read_fault}
 
-place_of-positive : (fault : Error) → 0 < place_of fault
-place_of-positive (ArcInvalid arc) = omega arith
-place_of-positive ArcTooBig = omega arith
-place_of-positive Base128 = omega arith
-place_of-positive (DigitExpected actual) = omega arith
-place_of-positive Empty = omega arith
-place_of-positive Length = omega arith
-place_of-positive Overflow = omega arith
-place_of-positive RepeatedDot = omega arith
-place_of-positive TrailingDot = omega arith
+code_of-positive : (fault : Error) → 0 < code_of fault
+code_of-positive (ArcInvalid arc) = omega arith
+code_of-positive ArcTooBig = omega arith
+code_of-positive Base128 = omega arith
+code_of-positive (DigitExpected actual) = omega arith
+code_of-positive Empty = omega arith
+code_of-positive Length = omega arith
+code_of-positive Overflow = omega arith
+code_of-positive RepeatedDot = omega arith
+code_of-positive TrailingDot = omega arith
 
 -- a status under a test
 tested : (b : Bool) (fault status : Status) → 0 < fault.code → (if b then Some fault else None) ≡ Some status → 0 < status.code
@@ -31,7 +31,7 @@ tested false fault status h e = cc
 
 read_code : (place : ℕ) (before octets : List ℕ) (answer : Result (List ℕ) Error) (status : Status) → read_fault place before octets answer ≡ Some status → 0 < status.code
 read_code place before octets (Ok arcs) status e = tested (is_lt (slice_cmp nat_cmp octets before)) _ status (omega arith) e
-read_code place before octets (Err fault) status e = tested true (record (error_status fault) { len = place }) status (place_of-positive fault) e
+read_code place before octets (Err fault) status e = tested true (record (error_status fault) { len = place }) status (code_of-positive fault) e
 
 either_code : (first second : Option Status) (status : Status) → (first ≡ Some status → 0 < status.code) → (second ≡ Some status → 0 < status.code) → option_or first second ≡ Some status → 0 < status.code
 either_code None second status f s e = s e

@@ -4,9 +4,8 @@ use Rattle.std.specs.Str.{is_utf8}
 use Rattle.const_oid.specs.declared.error.Error.{Error}
 use Rattle.const_oid.specs.declared.error.Error.TheVariants.{ArcInvalid, ArcTooBig, Base128, DigitExpected, Empty, Length, Overflow, RepeatedDot, TrailingDot}
 use Rattle.const_oid.specs.Contents.{octet_answer, borrowed_capacity}
-use Rattle.const_oid.specs.Faults.{fault_if, answer}
+use Rattle.const_oid.specs.Error.{fault_if, answer, message_of}
 use Rattle.const_oid.specs.Identifier.{root_rule, encoding_of, size}
-use Rattle.const_oid.specs.Message.{message_of}
 use Rattle.const_oid.specs.Text.{text_answer}
 use Rattle.const_oid.specs.Tree.{child_of, parent_of}
 use Rattle.const_oid_c.specs.declared.status.Status.{Status}

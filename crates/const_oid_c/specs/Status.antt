@@ -3,12 +3,12 @@ use Rattle.std.specs.Prelude.{◌≡◌, ℕ, ◌-◌, ◌^◌, Bool, true, fals
 use Rattle.std.specs.declared.cmp.Ordering.{Ordering}
 use Rattle.std.specs.declared.cmp.Ordering.TheVariants.{Less, Equal, Greater}
 use Rattle.const_oid.specs.declared.error.Error.{Error}
-use Rattle.const_oid.specs.Orders.{place_of, number_in}
+use Rattle.const_oid.specs.Error.{code_of, detail_of}
 use Rattle.const_oid_c.specs.declared.status.Status.{Status}
 
 -- an error: its place among the nine, and the number that it carries
 abbrev pub error_status : Error → Status
-error_status error = record { code = place_of error; detail = number_in error; len = 0 }
+error_status error = record { code = code_of error; detail = detail_of error; len = 0 }
 
 -- a code alone
 abbrev pub code_status : ℕ → Status

@@ -1,6 +1,6 @@
 //! The texts of codes.
 ghost use Rattle.std.specs.Prelude.{◌≡◌, length, Ok};
-ghost use Rattle.const_oid.specs.Message.{message_of};
+ghost use Rattle.const_oid.specs.Error.{message_of};
 ghost use Rattle.const_oid_c.specs.Status.{output_status, output_after};
 ghost use Rattle.const_oid_c.specs.Answers.{text_of_code};
 

@@ -1,6 +1,6 @@
 //! Errors told apart, in order, and printed.
 ghost use Rattle.std.specs.Prelude.{◌≡◌, ◌↔◌, IsTrue, IsOk, IfOk};
-ghost use Rattle.const_oid.specs.Orders.{error_cmp};
+ghost use Rattle.const_oid.specs.Error.{error_cmp};
 
 use crate::formatter::{prints, prints_as, tells};
 use const_oid::Error;

@@ -7,7 +7,7 @@ use Rattle.hex.specs.declared.error.FromHexError.{FromHexError}
 use Rattle.const_oid.specs.declared.error.Error.{Error}
 use Rattle.const_oid.specs.Contents.{octet_answer, borrowed_capacity}
 use Rattle.const_oid.specs.Identifier.{root_rule, encoding_of}
-use Rattle.const_oid.specs.Message.{message_of}
+use Rattle.const_oid.specs.Error.{message_of}
 use Rattle.const_oid.specs.Text.{text_of, text_answer}
 use Rattle.const_oid.specs.Tree.{parent_of}
 use Rattle.oid_tool.specs.Names.{Row, row_name_or}

@@ -2,7 +2,7 @@
 ghost use Rattle.std.specs.Prelude.{◌≡◌, ◌*◌, ◌≤◌, ◌==◌, length, take, position, IfSome, IsErr, MatchOption, Ok};
 ghost use Rattle.std.specs.List.{before_first, after_first};
 ghost use Rattle.hex.specs.Hex.{decode_of, encode_lower};
-ghost use Rattle.const_oid.specs.Message.{message_of};
+ghost use Rattle.const_oid.specs.Error.{message_of};
 ghost use Rattle.oid_tool.specs.Answers.{answer_line, error_line, text_line, hex_line, parent_line, name_line};
 ghost use Rattle.oid_tool.specs.Names.{rows_of};
 ghost use Rattle.oid_tool.specs.Output.{StandsFirst};

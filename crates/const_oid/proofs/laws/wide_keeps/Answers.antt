@@ -1,11 +1,11 @@
 use Rattle.std.proofs.Common.{◌∷◌, ap, sym, refl, map}
 use Rattle.const_oid.specs.Contents.{arcs_of_octets, octet_fault}
-use Rattle.const_oid.specs.Faults.{answer}
+use Rattle.const_oid.specs.Error.{answer}
 use Rattle.const_oid.specs.Identifier.{Narrow, Wide}
 use Rattle.const_oid.specs.Items.{item_fault}
 use Rattle.const_oid.specs.Text.{number_of, pieces_of, text_fault}
-use Rattle.const_oid.proofs.Wider.{octets_same, texts_same, items_same, octets_kept, texts_kept, items_kept, answer_kept}
-use Rattle.const_oid.proofs.Widened.{encoding_wide, denotes_wide, encoding_same}
+use Rattle.const_oid.proofs.WideKeeps.{octets_same, texts_same, items_same, octets_kept, texts_kept, items_kept, answer_kept}
+use Rattle.const_oid.proofs.WideAdds.{encoding_wide, denotes_wide, encoding_same}
 use Rattle.const_oid.proofs.laws.wide_keeps.Goals as goal
 
 pub returns-clause-octets : goal.returns-clause-octets

@@ -1,5 +1,6 @@
 use Rattle.std.proofs.Common.{◌≡◌, ◌+◌, ◌≤◌, length}
-use Rattle.const_oid.specs.Text.{text_of, text_left}
+use Rattle.const_oid.specs.Text.{text_of}
+use Rattle.const_oid.specs.Private.Text.{text_left}
 use Rattle.const_oid.proofs.text.text_len.Given as goal
 
 -- the room that is taken is the length of what is passed

@@ -1,5 +1,6 @@
 use Rattle.std.proofs.Common.{◌≡◌, ◌≤◌, ◌-◌, length, drop, not, nat_eq}
-use Rattle.const_oid.specs.Contents.{cut, fault_from}
+use Rattle.const_oid.specs.Contents.{cut}
+use Rattle.const_oid.specs.Private.Octets.{fault_from}
 use Rattle.const_oid.proofs.OctetPass.{pass}
 use Rattle.const_oid.proofs.valid.skip_long_group.Given as goal
 

@@ -1,7 +1,7 @@
 use Rattle.std.proofs.Common.{◌≡◌, ◌≤◌, None, ap, ◌∙◌, arith}
 use Rattle.std.proofs.lemmas.List.{length-take}
 use Rattle.const_oid.specs.declared.oid.ObjectIdentifier.{ObjectIdentifier}
-use Rattle.const_oid.specs.Faults.{answer}
+use Rattle.const_oid.specs.Error.{answer}
 use Rattle.const_oid.specs.Identifier.{root_rule}
 use Rattle.const_oid.specs.Items.{item_fault, item_answer}
 use Rattle.const_oid.specs.Oid.{oid_octets, oid_arcs}

@@ -2,7 +2,7 @@ use Rattle.std.proofs.Common.{◌≡◌, take, ◌∙◌, sym, arith, rules, app
 use Rattle.std.specs.Str.{IsUtf8}
 use Rattle.std.proofs.lemmas.List.{take-append-drop}
 use Rattle.std.proofs.lemmas.Str.{IsUtf8-append}
-use Rattle.const_oid.specs.Message.{message_of}
+use Rattle.const_oid.specs.Error.{message_of}
 use Rattle.const_oid.proofs.Decimals.{drop_more}
 use Rattle.const_oid.proofs.error.Error.encode_text.Goals as goal
 

@@ -4,7 +4,8 @@ use Rattle.std.proofs.lemmas.Str.{IsUtf8-from_ascii}
 use Rattle.std.specs.Fmt.{HasWrittenStyled, IsFlush}
 use Rattle.const_oid.specs.Identifier.{root_rule}
 use Rattle.const_oid.specs.OidRef.{ref_arcs}
-use Rattle.const_oid.specs.Text.{text_of, text_left}
+use Rattle.const_oid.specs.Text.{text_of}
+use Rattle.const_oid.specs.Private.Text.{text_left}
 use Rattle.const_oid.proofs.Decimals.{arc_text_short}
 use Rattle.const_oid.proofs.Encodings.{ref_encoding}
 use Rattle.const_oid.proofs.Formatted.{plain_written}

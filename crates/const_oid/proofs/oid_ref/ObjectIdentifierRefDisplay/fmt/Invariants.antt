@@ -1,7 +1,8 @@
 use Rattle.std.proofs.Common.{false, ◌≡◌, ◌≤◌, ℕ, List, ◌++◌, take}
 use Rattle.std.specs.Fmt.{HasWrittenStyled, IsFlush}
 use Rattle.const_oid.specs.OidRef.{ref_arcs}
-use Rattle.const_oid.specs.Text.{text_of, text_left}
+use Rattle.const_oid.specs.Text.{text_of}
+use Rattle.const_oid.specs.Private.Text.{text_left}
 use Rattle.const_oid.proofs.oid_ref.ObjectIdentifierRefDisplay.fmt.Given as goal
 
 -- what is handed on, what is at hand, and the text of the arcs left, are the text of all

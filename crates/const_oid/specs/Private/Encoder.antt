@@ -1,5 +1,9 @@
--- What an encoder holds between two arcs.
-use Rattle.std.specs.Prelude.{◌≡◌, ℕ, ◌≤◌, List, [], ◌∷◌, Option, Some, None}
+-- What an encoder holds between two arcs, and its buffer.
+use Rattle.std.specs.Prelude.{◌≡◌, ℕ, ◌≤◌, List, [], ◌∷◌, Option, Some, None, Result}
+use Rattle.std.specs.Result.{result_map_both}
+use Rattle.const_oid.specs.declared.buffer.Buffer.{Buffer}
+use Rattle.const_oid.specs.declared.error.Error.{Error}
+use Rattle.const_oid.specs.Buffer.{octets_of}
 use Rattle.const_oid.specs.Identifier.{RootRule, IsEncoding}
 use Rattle.const_oid.specs.Contents.{arcs_of_octets}
 
@@ -14,3 +18,7 @@ abbrev pub IsStarted : RootRule → Option ℕ → List ℕ → Type 0
 IsStarted rule None octets = octets ≡ []
 IsStarted rule (Some first) [] = first ≤ 2
 IsStarted rule (Some first) (x ∷ xs) = IsEncoding rule (arcs_of_octets (x ∷ xs)) (x ∷ xs)
+
+-- what a call answers, by the arcs of the octets
+abbrev pub buffer_answer : {SIZE : ℕ} → Result (Buffer SIZE) Error → Result (List ℕ) Error
+buffer_answer result = result_map_both (λ buffer. arcs_of_octets (octets_of buffer)) (λ fault. fault) result

@@ -8,7 +8,7 @@ use Rattle.const_oid.specs.Contents.{octet_fault, arcs_of_octets}
 use Rattle.const_oid.specs.Identifier.{Narrow, Wide, max_arc, max_second, IsIdentifier, IsEncoding, size}
 use Rattle.const_oid.specs.Items.{item_fault}
 use Rattle.const_oid.specs.Text.{Denotes, pieces_of, number_of, text_fault}
-use Rattle.const_oid.specs.Wider.{IsPastNarrow}
+use Rattle.const_oid.specs.WideRule.{IsPastNarrow}
 use Rattle.const_oid.proofs.Encodings.{encoding_from_none, fits_from_none, octet_fault-fits, same_arcs, same_octets}
 use Rattle.const_oid.proofs.Items.{item_fault-none, identifier_from_none}
 use Rattle.const_oid.proofs.Subidentifiers.{second_low}

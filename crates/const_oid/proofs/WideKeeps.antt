@@ -7,12 +7,12 @@ use Rattle.std.proofs.lemmas.Bool.{cases_lt}
 use Rattle.std.proofs.lemmas.Bool.Decides.{nat_tests}
 use Rattle.const_oid.specs.declared.error.Error.{Error}
 use Rattle.const_oid.specs.declared.error.Error.TheVariants.{ArcInvalid, ArcTooBig, DigitExpected, Length, TrailingDot}
-use Rattle.const_oid.specs.Faults.{fault_if, answer}
+use Rattle.const_oid.specs.Error.{fault_if, answer}
 use Rattle.const_oid.specs.Identifier.{Narrow, Wide, max_arc, max_second, size}
 use Rattle.const_oid.specs.Contents.{cut, cut_after, first_fault, later_fault, parts_fault, octet_fault, max_first}
 use Rattle.const_oid.specs.Items.{arc_fault, items_fault, item_fault}
 use Rattle.const_oid.specs.Text.{pieces_of, number_of, is_empty, is_one_empty, empty_fault, piece_fault, pieces_fault, text_fault}
-use Rattle.const_oid.specs.Wider.{RefusesSecond}
+use Rattle.const_oid.specs.WideRule.{RefusesSecond}
 use Rattle.const_oid.proofs.Faults.{both_none, below_from_none, none_from_below, some_from_above}
 use Rattle.const_oid.proofs.Groups.{small_is}
 use Rattle.const_oid.proofs.Cutting.{cut_after-last}
@@ -73,13 +73,13 @@ pieces_later_same capacity a b before [] = refl
 pieces_later_same capacity a b before (piece ∷ pieces) = ap (option_or (piece_fault Narrow capacity (a ∷ b ∷ before) piece pieces)) (pieces_later_same capacity a b (before ++ number_of piece ∷ []) pieces)
 
 -- what stands before the range of an arc decides where it has a fault
-range_same : (big digit empty trailing range range' single : Option Error) → (big ≡ None → digit ≡ None → empty ≡ None → trailing ≡ None → range ≡ range') →
-    option_or big (option_or digit (option_or empty (option_or trailing (option_or range single)))) ≡ option_or big (option_or digit (option_or empty (option_or trailing (option_or range' single))))
-range_same (Some x) digit empty trailing range range' single h = refl
-range_same None (Some x) empty trailing range range' single h = refl
-range_same None None (Some x) trailing range range' single h = refl
-range_same None None None (Some x) range range' single h = refl
-range_same None None None None range range' single h = rw (h refl refl refl refl)
+range_same : (big digit empty trailing range range' : Option Error) → (big ≡ None → digit ≡ None → empty ≡ None → trailing ≡ None → range ≡ range') →
+    option_or big (option_or digit (option_or empty (option_or trailing range))) ≡ option_or big (option_or digit (option_or empty (option_or trailing range')))
+range_same (Some x) digit empty trailing range range' h = refl
+range_same None (Some x) empty trailing range range' h = refl
+range_same None None (Some x) trailing range range' h = refl
+range_same None None None (Some x) range range' h = refl
+range_same None None None None range range' h = h refl refl refl refl
 
 pieces_same : (capacity : ℕ) (pieces : List (List ℕ)) → (RefusesSecond (map number_of pieces) (pieces_fault Narrow capacity [] pieces) → ⊥) → pieces_fault Narrow capacity [] pieces ≡ pieces_fault Wide capacity [] pieces
 pieces_same capacity [] h = refl
@@ -101,7 +101,7 @@ pieces_same capacity (p ∷ q ∷ more) h = by (piece_fault Narrow capacity [] p
         (option_map (λ c. DigitExpected c) (find (λ c. not (is_ascii_digit c)) q))
         (fault_if (is_empty q) (empty_fault (a ∷ []) more))
         (fault_if (is_one_empty more) TrailingDot)
-        (arc_fault Narrow capacity (a ∷ []) b) (arc_fault Wide capacity (a ∷ []) b) None
+        (arc_fault Narrow capacity (a ∷ []) b) (arc_fault Wide capacity (a ∷ []) b)
         (λ big digit empty trailing. second_same capacity a b within (λ past. h (past.0, rw (e, big, digit, empty, trailing, narrow_past capacity a b past.1)))) in
         rw (e, second, pieces_later_same capacity a b [] more)
 

@@ -1,0 +1,5 @@
+-- What only the contracts of private functions cite. No public promise rests on it.
+pub mod Octets
+pub mod Encoder
+pub mod Parser
+pub mod Text

@@ -1,0 +1,35 @@
+-- Octets as they are read part by part, and written group by group.
+use Rattle.std.specs.Prelude.{◌≡◌, ℕ, List, [], ◌∷◌, ◌++◌, length, map, Option, None}
+use Rattle.std.specs.Option.{option_or}
+use Rattle.const_oid.specs.declared.error.Error.{Error}
+use Rattle.const_oid.specs.declared.arcs.Next.{Next}
+use Rattle.const_oid.specs.declared.arcs.Next.TheVariants.{First, Second, Later}
+use Rattle.const_oid.specs.Base128.{IsGroup, value_of}
+use Rattle.const_oid.specs.Identifier.{root_rule}
+use Rattle.const_oid.specs.Contents.{cut, part_fault, later_fault, parts_fault, arcs_of_octets}
+
+-- the arcs that an iterator has left, by what comes next of the octets
+abbrev pub arcs_left : Next → List ℕ → List ℕ
+arcs_left First octets = arcs_of_octets octets
+arcs_left (Second arc) octets = arc ∷ map value_of (cut octets)
+arcs_left Later octets = map value_of (cut octets)
+
+-- the fault of the octets that it has left
+abbrev pub fault_left : Next → List ℕ → Option Error
+fault_left First octets = parts_fault root_rule (cut octets)
+fault_left (Second arc) octets = later_fault (cut octets)
+fault_left Later octets = later_fault (cut octets)
+
+-- how many octets the first part has
+abbrev pub first_length : List (List ℕ) → ℕ
+first_length [] = 0
+first_length (part ∷ parts) = length part
+
+-- the first fault of parts, of which the first one has a limit of its own
+abbrev pub fault_from : ℕ → List (List ℕ) → Option Error
+fault_from limit [] = None
+fault_from limit (part ∷ parts) = option_or (part_fault limit part) (later_fault parts)
+
+-- the octets go on by a group of the number
+abbrev pub GoesOn : ℕ → List ℕ → List ℕ → Type 0
+GoesOn number octets longer = (group : List ℕ) × IsGroup number group × (longer ≡ octets ++ group)
