@@ -1,12 +1,12 @@
 -- Contents octets as they come: the parts, and the first fault (ITU-T X.690, 8.19.2 to 8.19.4).
-use Rattle.std.specs.Prelude.{ℕ, ◌-◌, ◌^◌, ◌/◌, ◌%◌, Bool, false, List, [], ◌∷◌, length, map, nat_lt, ◌==◌, if◌then◌else◌, Option, Some, None, Result, not}
+use Rattle.std.specs.Prelude.{ℕ, ◌+◌, ◌-◌, ◌*◌, ◌^◌, ◌/◌, ◌%◌, Bool, false, List, [], ◌∷◌, length, map, nat_lt, ◌==◌, if◌then◌else◌, Option, Some, None, Result, not}
 use Rattle.std.specs.List.{onto_first}
 use Rattle.std.specs.Option.{option_or}
 use Rattle.const_oid.specs.declared.error.Error.{Error}
 use Rattle.const_oid.specs.declared.error.Error.TheVariants.{ArcInvalid, ArcTooBig, Base128, Empty, Length}
 use Rattle.const_oid.specs.Base128.{value_of}
 use Rattle.const_oid.specs.Error.{fault_if, answer}
-use Rattle.const_oid.specs.Identifier.{RootRule, Narrow, Wide, max_arc}
+use Rattle.const_oid.specs.Identifier.{RootRule, Narrow, Wide, max_arc, max_second}
 
 -- an octet put before the parts that follow it
 abbrev pub cut_after : ℕ → List (List ℕ) → List (List ℕ)
@@ -39,15 +39,14 @@ abbrev pub later_fault : List (List ℕ) → Option Error
 later_fault [] = None
 later_fault (part ∷ parts) = option_or (part_fault max_arc part) (later_fault parts)
 
--- the greatest first subidentifier: 40 times 2 and the greatest second arc
+-- the greatest first subidentifier, of the first arc 2 and the greatest second arc: 119 or 4294967375
 abbrev pub max_first : RootRule → ℕ
-max_first Narrow = 119
-max_first Wide = 4294967375
+max_first rule = 40 * 2 + max_second rule 2
 
 -- what is wrong with the first part: under the wide rule it is judged as later ones are, at its own limit
 abbrev pub first_fault : RootRule → List ℕ → Option Error
 first_fault Narrow [] = None
-first_fault Narrow (x ∷ xs) = fault_if (nat_lt 119 x) (ArcInvalid (x / 40))
+first_fault Narrow (x ∷ xs) = fault_if (nat_lt (max_first Narrow) x) (ArcInvalid (x / 40))
 first_fault Wide part = part_fault (max_first Wide) part
 
 abbrev pub parts_fault : RootRule → List (List ℕ) → Option Error

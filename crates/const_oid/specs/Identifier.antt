@@ -16,10 +16,14 @@ root_rule = Wide
 abbrev pub max_arc : ℕ
 max_arc = 4294967295
 
+-- the greatest second arc under 0 and 1
+abbrev pub max_narrow : ℕ
+max_narrow = 39
+
 -- the greatest second arc under a first arc
 abbrev pub max_second : RootRule → ℕ → ℕ
-max_second Narrow first = 39
-max_second Wide first = if nat_lt first 2 then 39 else max_arc
+max_second Narrow first = max_narrow
+max_second Wide first = if nat_lt first 2 then max_narrow else max_arc
 
 -- a path of at least two arcs, each in range
 abbrev pub IsIdentifier : RootRule → List ℕ → Type 0
@@ -40,6 +44,10 @@ pub record IsEncoding (rule : RootRule) (arcs octets : List ℕ) : Type 0 where
   pub groups : List (List ℕ)
   pub each : AllZip IsGroup (subidentifiers arcs) groups
   pub joined : octets ≡ concat groups
+
+-- how many octets fit an identifier of the usual capacity
+abbrev pub usual_capacity : ℕ
+usual_capacity = 39
 
 -- how many octets the encoding has
 abbrev pub size : List ℕ → ℕ

@@ -1,12 +1,10 @@
 -- What an owned identifier shows.
-use Rattle.std.specs.Prelude.{◌≡◌, ℕ, List, Result}
+use Rattle.std.specs.Prelude.{ℕ, List, Result}
 use Rattle.std.specs.Result.{result_map_both}
 use Rattle.const_oid.specs.declared.error.Error.{Error}
 use Rattle.const_oid.specs.declared.oid.ObjectIdentifier.{ObjectIdentifier}
 use Rattle.const_oid.specs.Buffer.{octets_of}
 use Rattle.const_oid.specs.Contents.{arcs_of_octets}
-use Rattle.const_oid.specs.Identifier.{root_rule}
-use Rattle.const_oid.specs.Text.{text_answer}
 
 -- the octets that it holds
 abbrev pub oid_octets : {N : ℕ} → ObjectIdentifier N → List ℕ
@@ -19,7 +17,3 @@ oid_arcs oid = arcs_of_octets (oid_octets oid)
 -- what a call answers, by the arcs of the identifier
 abbrev pub oid_answer : {N : ℕ} → Result (ObjectIdentifier N) Error → Result (List ℕ) Error
 oid_answer result = result_map_both oid_arcs (λ fault. fault) result
-
--- the answer to a text: its fault, or an identifier of the arcs that it denotes
-abbrev pub ReadsText : List ℕ → Result (ObjectIdentifier 39) Error → Type 0
-ReadsText text result = oid_answer result ≡ text_answer root_rule text 39

@@ -8,7 +8,7 @@ ghost use Rattle.std.specs.Ordering.{nat_cmp};
 ghost use Rattle.const_oid.specs.Buffer.{octets_of};
 ghost use Rattle.const_oid.specs.Contents.{cut, parts_fault, octet_answer};
 ghost use Rattle.const_oid.specs.Text.{text_of, text_fault, text_answer, Denotes};
-ghost use Rattle.const_oid.specs.Identifier.{root_rule, IsEncoding, size};
+ghost use Rattle.const_oid.specs.Identifier.{root_rule, usual_capacity, IsEncoding, size};
 ghost use Rattle.const_oid.specs.Items.{TakesItems};
 ghost use Rattle.const_oid.specs.Tree.{BeginsWith, child_of, parent_of};
 
@@ -52,7 +52,7 @@ impl ObjectIdentifier<39> {
     /// - [`Error::Length`]: the arcs up to it take more than 39 octets (X.690, 8.19);
     /// - [`Error::Empty`]: it is the only one.
     pub fn new(s: &str) -> Result<Self>
-        ensures answer { oid_answer result ≡ text_answer root_rule s.now 39 }
+        ensures answer { oid_answer result ≡ text_answer root_rule s.now usual_capacity }
         ensures denoted { IfOk result (λ oid. Denotes root_rule s.now (oid_arcs oid)) }
     {
         Self::new_sized(s)
@@ -61,7 +61,7 @@ impl ObjectIdentifier<39> {
     /// Reads dotted text that is known to have no fault, as a literal. A fault is refused before the
     /// program runs; in Rust, outside of constants, by a panic.
     pub fn new_unwrap(s: &str) -> Self
-        requires { text_fault root_rule s.now 39 ≡ None }
+        requires { text_fault root_rule s.now usual_capacity ≡ None }
         ensures { Denotes root_rule s.now (oid_arcs result) }
     {
         match Self::new(s) {
@@ -87,7 +87,7 @@ impl ObjectIdentifier<39> {
         // itself; for `Arcs` the lemma `exact_answer` gives it.
         requires { IsFiniteIterable I.into_iter_gives I.IntoIter.can_next I.IntoIter.remaining arcs }
         ensures takes { (iterator : I.IntoIter) × I.into_iter_gives arcs iterator
-            × TakesItems root_rule 39 I.IntoIter.next_gives iterator (oid_answer result) }
+            × TakesItems root_rule usual_capacity I.IntoIter.next_gives iterator (oid_answer result) }
     {
         Self::from_arcs_sized(arcs)
     }
@@ -96,7 +96,7 @@ impl ObjectIdentifier<39> {
     /// [`from_bytes_sized`](Self::from_bytes_sized) does.
     #[inline(always)]
     pub fn from_bytes(ber_bytes: &[u8]) -> Result<Self>
-        ensures answer { oid_answer result ≡ octet_answer root_rule ber_bytes.now 39 }
+        ensures answer { oid_answer result ≡ octet_answer root_rule ber_bytes.now usual_capacity }
         ensures octets { IfOk result (λ oid. oid_octets oid ≡ ber_bytes.now) }
         ensures encoding { IfOk result (λ oid. IsEncoding root_rule (oid_arcs oid) ber_bytes.now) }
     {
@@ -105,11 +105,11 @@ impl ObjectIdentifier<39> {
 }
 
 impl FromStr for ObjectIdentifier<39> {
-    ghost use Rattle.const_oid.specs.Oid.{ReadsText};
+    ghost use Rattle.const_oid.specs.Oid.{oid_answer};
 
     type Err = Error;
 
-    ghost from_str_gives = { ReadsText };
+    ghost from_str_gives = { λ text result. oid_answer result ≡ text_answer root_rule text usual_capacity };
 
     /// Reads dotted text, as [`new`](Self::new) does.
     fn from_str(s: &str) -> Result<Self> {
