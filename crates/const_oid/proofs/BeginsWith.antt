@@ -1,6 +1,5 @@
 -- What begins with a prefix: encodings do exactly where their arcs do, and stand together in list order.
-use Rattle.std.proofs.Common.{◌≡◌, ℕ, ◌+◌, ◌*◌, List, [], ◌∷◌, ◌++◌, refl, sym, ap, ap₂, ◌∙◌, append_assoc, ◌≢◌, ◌<◌, length, ⊎_elim, arith, Less, Greater, nat_cmp, append-nil, length-append, Bool, true, false, ◌||◌, drop, nat_eq, get_or}
-use Rattle.std.proofs.Math.Seq.{get_or-append_seam}
+use Rattle.std.proofs.Common.{◌≡◌, ℕ, ◌+◌, ◌*◌, List, [], ◌∷◌, ◌++◌, refl, sym, ap, ap₂, ◌∙◌, append_assoc, ◌≢◌, ◌<◌, length, ⊎_elim, arith, Less, Greater, nat_cmp, append-nil, length-append, Bool, true, false, ◌||◌, drop, nat_eq}
 use Rattle.std.specs.List.{AllZip, concat, starts_with}
 use Rattle.std.specs.Prelude.{◌↔◌}
 use Rattle.std.specs.Cmp.Lexicographic.{slice_cmp}
@@ -70,16 +69,6 @@ encoding_prefix rule (c ∷ d ∷ later) x a b e f (more, s) =
 pub told_begins : (rule : RootRule) (x p b a : List ℕ) (P : Type 0) → IsEncoding rule x b → IsEncoding rule p a → P ↔ BeginsWith b a → P ↔ BeginsWith x p
 told_begins rule x p b a P f e told =
     (λ t. arcs_prefix rule p x a b e f (told.0 t), λ h. told.1 (encoding_prefix rule p x a b e f h))
-
--- what begins with a prefix and has a number after it begins with both
-pub last_told : (list prefix : List ℕ) (x d : ℕ) → length prefix < length list → get_or list (length prefix) d ≡ x → BeginsWith list prefix ↔ BeginsWith list (prefix ++ x ∷ [])
-last_told list prefix x d l seen = (λ b. by b.0 b.1, λ h. (x ∷ h.0, h.1 ∙ append_assoc prefix (x ∷ []) h.0))
-  where
-    by : (rest : List ℕ) → list ≡ prefix ++ rest → BeginsWith list (prefix ++ x ∷ [])
-    by [] e = absurd (omega (arith, ap length e, length-append prefix []))
-    by (y ∷ ys) e =
-        let same : y ≡ x = sym (get_or-append_seam prefix y ys d) ∙ ap (λ zs. get_or zs (length prefix) d) (sym e) ∙ seen in
-        (ys, e ∙ ap (λ z. prefix ++ z ∷ ys) same ∙ sym (append_assoc prefix (x ∷ []) ys))
 
 -- ---- ranges in list order
 

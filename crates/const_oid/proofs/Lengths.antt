@@ -1,13 +1,11 @@
 -- How many octets arcs take, and how many arcs octets stand for.
-use Rattle.std.proofs.Common.{◌≡◌, ℕ, ◌+◌, ◌*◌, ◌≤◌, List, [], ◌∷◌, ◌++◌, refl, arith, sum_by, le-ltb, nat_lt, lt-ltb, length, map, ◌∙◌, length-append, cond, count_by}
+use Rattle.std.proofs.Common.{◌≡◌, ℕ, ◌+◌, ◌*◌, ◌≤◌, List, [], ◌∷◌, ◌++◌, refl, arith, sum_by, le-ltb, nat_lt, lt-ltb, length, ◌∙◌, length-append, cond, count_by}
 use Rattle.std.specs.List.{AllByRecursion, AllZip, concat}
 use Rattle.std.proofs.lemmas.List.Sums.{sum_by-cons, sum_by-append}
-use Rattle.std.proofs.lemmas.List.{length-map}
 use Rattle.std.proofs.lemmas.Slice.Zip.{AllZip-long}
-use Rattle.std.proofs.lemmas.Bool.Decides.{nat_tests}
-use Rattle.const_oid.specs.Base128.{width, IsGroup, value_of, IsContinued}
+use Rattle.const_oid.specs.Base128.{width, IsGroup, IsContinued}
 use Rattle.const_oid.specs.Identifier.{RootRule, Narrow, Wide, IsIdentifier, size, IsEncoding, subidentifiers}
-use Rattle.const_oid.specs.Contents.{max_first, cut, arcs_of_octets, arcs_from, cut_after}
+use Rattle.const_oid.specs.Contents.{max_first, cut}
 use Rattle.const_oid.proofs.Groups.{width_is, length_is, small_is}
 use Rattle.const_oid.proofs.Subidentifiers.{first_in_range}
 use Rattle.const_oid.proofs.Encodings.{groups_continued, cut_encoding}
@@ -76,18 +74,3 @@ length_by_parts rule (a ∷ []) octets e = absurd e.identifier
 length_by_parts rule (a ∷ b ∷ later) octets e =
     let arcs = a ∷ b ∷ later in
     rw (cut_encoding rule arcs octets e) (omega (arith, AllZip-long IsGroup (subidentifiers arcs) e.groups e.each))
-
-length-cut_after : (x : ℕ) (parts : List (List ℕ)) → length (cut_after x parts) ≤ length parts + 1
-length-cut_after x [] = grind (arith, nat_tests)
-length-cut_after x (part ∷ parts) = grind (arith, nat_tests)
-
-length-cut : (octets : List ℕ) → length (cut octets) ≤ length octets
-length-cut [] = omega arith
-length-cut (x ∷ xs) = omega (arith, length-cut xs, length-cut_after x (cut xs))
-
-pub length-arcs_of_octets : (octets : List ℕ) → length (arcs_of_octets octets) ≤ length octets + 1
-length-arcs_of_octets octets = omega (arith, length-map (cut octets) value_of, length-cut octets, from (map value_of (cut octets)))
-  where
-    from : (numbers : List ℕ) → length (arcs_from numbers) ≤ length numbers + 1
-    from [] = omega arith
-    from (first ∷ later) = grind (arith, nat_tests)

@@ -10,6 +10,7 @@ pub mod ByParts
 pub mod Words
 pub mod BeginsWith
 pub mod Items
+pub mod TakesItems
 pub mod Numbers
 pub mod Decimals
 pub mod Texts

@@ -29,10 +29,6 @@ goes_last limit begun value x xs last none = grind (arith, common_steps)
 goes_more : (limit : ℕ) (begun : Bool) (value x : ℕ) (xs : List ℕ) → 128 ≤ x → pass limit begun value (x ∷ xs) ≡ None → pass limit true (value * 128 + x % 128) xs ≡ None
 goes_more limit begun value x xs more none = grind (arith, common_steps)
 
--- octets are left, and the number read so far has room for one more
-pub fits_more : (limit : ℕ) (begun : Bool) (value : ℕ) (octets : List ℕ) (i : ℕ) → i < length octets → pass limit begun value (drop i octets) ≡ None → value * 128 + get_or octets i 0 % 128 ≤ limit
-fits_more limit begun value octets i h none = goes_small limit begun value (get_or octets i 0) (drop (i + 1) octets) (ap (pass limit begun value) (sym (drop_more octets i 0 h)) ∙ none)
-
 -- ---- the numbers of the parts
 
 number_pass-last : (value x : ℕ) (xs : List ℕ) → x < 128 → number_pass value (x ∷ xs) ≡ (value * 128 + x % 128) ∷ number_pass 0 xs

@@ -81,9 +81,6 @@ fault_before rule (suc k) (part ∷ parts) some h =
 pub none_without_last_part : (rule : RootRule) (octets prefix : List ℕ) → (let parts = cut octets in cut prefix ≡ take (length parts - 1) parts) → prefix ≢ [] → parts_fault rule (cut octets) ≡ None → parts_fault rule (cut prefix) ≡ None
 none_without_last_part rule octets prefix e some h = rw e (fault_before rule (length (cut octets) - 1) (cut octets) (rw e at (cut-some prefix some)) h)
 
-parent_of-none : (first : ℕ) → parent_of (arcs_from (first ∷ [])) ≡ None
-parent_of-none first = grind (arith, nat_tests)
-
 parent_of-some : (a b c : ℕ) (later : List ℕ) → parent_of (a ∷ b ∷ c ∷ later) ≡ Some (a ∷ b ∷ take (length later) (c ∷ later))
 parent_of-some a b c later =
     let e : length (a ∷ b ∷ c ∷ later) - 1 ≡ suc (suc (length later)) = omega arith in
@@ -111,18 +108,6 @@ prefix_from_parts octets prefix k e =
 pub parent_without_last_part : (octets prefix : List ℕ) → (let parts = cut octets in cut prefix ≡ take (length parts - 1) parts) → prefix ≢ [] → parent_of (arcs_of_octets octets) ≡ Some (arcs_of_octets prefix)
 parent_without_last_part octets prefix e some =
     parent_of-parts (cut octets) (rw e at (cut-some prefix some)) ∙ ap (λ parts. Some (arcs_from (map value_of parts))) (sym e)
-
--- and where there are none, there is no parent
-pub no_parent : (rule : RootRule) (octets : List ℕ) → (let parts = cut octets in [] ≡ take (length parts - 1) parts) → parts_fault rule (cut octets) ≡ None → parent_of (arcs_of_octets octets) ≡ None
-no_parent rule octets e h = at (cut octets) e h
-  where
-    at : (parts : List (List ℕ)) → [] ≡ take (length parts - 1) parts → parts_fault rule parts ≡ None → parent_of (arcs_from (map value_of parts)) ≡ None
-    at [] e h = cc
-    at (part ∷ []) e h = parent_of-none (value_of part)
-    at (part ∷ next ∷ later) e h =
-        let n : length (part ∷ next ∷ later) - 1 ≡ suc (length later) = omega arith in
-        let f = rw n at e in
-        cc
 
 -- ---- a parent's octets, whatever the rule
 

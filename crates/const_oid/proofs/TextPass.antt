@@ -1,5 +1,5 @@
 -- One pass over the bytes of a text, which ends at its first refusal, finds the fault of the first faulty piece.
-use Rattle.std.proofs.Common.{◌≡◌, ◌≢◌, ℕ, suc, ◌+◌, ◌-◌, ◌*◌, ◌<◌, ◌≤◌, Bool, true, false, not, List, [], ◌∷◌, ◌++◌, length, drop, get_or, nat_lt, ◌==◌, map, Option, Some, None, Result, Ok, Err, IfOk, is_some, unwrap_or, option_map, if◌then◌else◌, refl, sym, ap, ◌∙◌, ⊎_elim, arith, add-one, append-nil, drop-cons, count_by, take_while, leb, lt-ltb, le-ltb, eq-eqb, ne_eqb}
+use Rattle.std.proofs.Common.{◌≡◌, ◌≢◌, ℕ, ◌+◌, ◌-◌, ◌*◌, ◌<◌, ◌≤◌, Bool, true, false, not, List, [], ◌∷◌, ◌++◌, length, drop, get_or, nat_lt, ◌==◌, map, Option, Some, None, Result, Ok, Err, IfOk, is_some, unwrap_or, if◌then◌else◌, refl, sym, ap, ◌∙◌, ⊎_elim, arith, append-nil, drop-cons, count_by, take_while, leb, lt-ltb, le-ltb, eq-eqb, ne_eqb}
 use Rattle.std.specs.Bool.{then_some}
 use Rattle.std.specs.List.{onto_first}
 use Rattle.std.specs.Option.{option_or}
@@ -7,7 +7,7 @@ use Rattle.std.specs.Result.{result_err, result_map_both}
 use Rattle.std.specs.Char.{is_ascii_digit, digit_value}
 use Rattle.std.specs.Str.{all_ascii_digits}
 use Rattle.std.specs.Str.Parse.{digits_value}
-use Rattle.std.proofs.lemmas.List.{take_at, length-drop}
+use Rattle.std.proofs.lemmas.List.{take_at}
 use Rattle.std.proofs.lemmas.Bool.{cases_lt, cases_Bool, cases_eq, leb-true, and_parts}
 use Rattle.std.proofs.lemmas.Int.Digits.{digits_value_push}
 use Rattle.std.proofs.lemmas.List.Splits.{length-slice_split, slice_split-cons_yes, slice_split-cons_no}
@@ -18,7 +18,7 @@ use Rattle.const_oid.specs.declared.error.Error.{Error}
 use Rattle.const_oid.specs.declared.error.Error.TheVariants.{ArcTooBig, DigitExpected, RepeatedDot, TrailingDot}
 use Rattle.const_oid.specs.Identifier.{RootRule, max_arc, IsEncoding}
 use Rattle.const_oid.specs.Contents.{arcs_of_octets}
-use Rattle.const_oid.specs.Private.Parser.{dot_fault, last_fault}
+use Rattle.const_oid.specs.Private.Parser.{last_fault}
 use Rattle.const_oid.specs.Items.{arc_fault, too_few_fault}
 use Rattle.const_oid.specs.Text.{pieces_of, number_of, is_empty, is_one_empty, empty_fault, piece_fault, pieces_fault, text_answer}
 use Rattle.const_oid.specs.Error.{fault_if, answer}
@@ -227,28 +227,6 @@ pub text_pass-too_big : (rule : RootRule) (capacity : ℕ) (before : List ℕ) (
 text_pass-too_big rule capacity before begun value digit text index inside told big =
     let (told_digit, is) = is_digit (get_or text index 0) digit told in
     rw (drop-cons text index 0 inside, told_digit, ← is, lt-ltb max_arc (value * 10 + digit) big) refl
-
--- no byte is left exactly where the text ends
-none_left : (bytes : List ℕ) (index total : ℕ) → total ≡ index + length bytes → (index == total) ≡ is_empty bytes
-none_left [] index total all = eq-eqb index total (omega arith)
-none_left (b ∷ bs) index total all = ne_eqb index total (λ e. omega arith)
-
--- the empty piece after the last dot
-last_dot : (before : List ℕ) (value : ℕ) (fault : Option Error) → Err TrailingDot ≡ after (option_map (λ fault. TrailingDot) fault) (Err (empty_fault (before ++ value ∷ []) []))
-last_dot [] value None = refl
-last_dot (a ∷ arcs) value None = refl
-last_dot before value (Some fault) = refl
-
-first_dot : (rule : RootRule) (capacity : ℕ) (before : List ℕ) (begun : Bool) (value : ℕ) (piece : Option ℕ) (bs : List ℕ) → piece ≡ then_some begun value → text_pass rule capacity before begun value (46 ∷ bs) ≡ after (dot_fault rule capacity before piece (is_empty bs)) (text_pass rule capacity (before ++ unwrap_or piece 0 ∷ []) false 0 bs)
-first_dot rule capacity before true value piece [] is = rw is (last_dot before value (arc_fault rule capacity before value))
-first_dot rule capacity before true value piece (b ∷ bs) is = rw is refl
-first_dot rule capacity before false value piece bs is = rw is refl
-
--- a dot, after a piece with its number if it has digits
-pub text_pass-dot : (rule : RootRule) (capacity : ℕ) (before : List ℕ) (begun : Bool) (value : ℕ) (piece : Option ℕ) (fault : Option Error) (text : List ℕ) (index : ℕ) → index < length text → get_or text index 0 ≡ 46 → piece ≡ then_some begun value → fault ≡ dot_fault rule capacity before piece (index + 1 == length text) → text_pass rule capacity before begun value (drop index text) ≡ after fault (text_pass rule capacity (before ++ unwrap_or piece 0 ∷ []) false 0 (drop (index + 1) text))
-text_pass-dot rule capacity before begun value piece fault text index inside dot is e =
-    let ends = none_left (drop (index + 1) text) (index + 1) (length text) (omega (arith, length-drop (index + 1) text)) in
-    rw (e, ends, add-one, drop-cons text index 0 inside, dot) (first_dot rule capacity before begun value piece (drop (suc index) text) is)
 
 -- another byte
 pub text_pass-other : (rule : RootRule) (capacity : ℕ) (before : List ℕ) (begun : Bool) (value : ℕ) (text : List ℕ) (index : ℕ) → index < length text → None ≡ then_some (is_ascii_digit (get_or text index 0)) (get_or text index 0 - 48) → get_or text index 0 ≢ 46 → text_pass rule capacity before begun value (drop index text) ≡ Err (DigitExpected (get_or text index 0))

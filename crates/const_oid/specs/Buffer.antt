@@ -1,8 +1,5 @@
 -- What a buffer holds.
-use Rattle.std.specs.Prelude.{ℕ, List, take, Result}
-use Rattle.std.specs.Result.{result_map_both}
-use Rattle.const_oid.specs.declared.error.Error.{Error}
-use Rattle.const_oid.specs.Contents.{arcs_of_octets}
+use Rattle.std.specs.Prelude.{ℕ, List, take}
 use Rattle.const_oid.specs.declared.buffer.Buffer.{Buffer}
 
 -- the octets in use

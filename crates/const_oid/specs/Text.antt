@@ -1,5 +1,5 @@
 -- Dotted text.
-use Rattle.std.specs.Prelude.{◌≡◌, ℕ, ◌+◌, ◌/◌, ◌%◌, ◌<◌, Bool, true, false, not, List, [], ◌∷◌, ◌++◌, length, map, decimal, nat_lt, ◌==◌, if◌then◌else◌, Option, Some, None, Result, take_while, find}
+use Rattle.std.specs.Prelude.{◌≡◌, ℕ, ◌<◌, Bool, true, false, not, List, [], ◌∷◌, ◌++◌, length, map, decimal, nat_lt, ◌==◌, if◌then◌else◌, Option, Result, take_while, find}
 use Rattle.std.specs.List.{slice_split, join_with_byte, AllByRecursion}
 use Rattle.std.specs.Str.{all_ascii_digits}
 use Rattle.std.specs.Option.{option_or, option_map}

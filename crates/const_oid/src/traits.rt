@@ -35,10 +35,7 @@ impl<T: AssociatedOid> DynAssociatedOid for T {
 }
 
 /// The first place, counted from 0, whose value has this identifier, or `None` where no value has it.
-pub fn position_of(
-    values: &[Box<dyn DynAssociatedOid + Drop>],
-    oid: &Oid,
-) -> Option<usize>
+pub fn position_of(values: &[Box<dyn DynAssociatedOid + Drop>], oid: &Oid) -> Option<usize>
     ensures within { IfSome result (λ i. i < length values.now) }
     ensures found { IfSome result (λ i.
         HoldsAt (λ value. value_arcs value ≡ oid_arcs oid.now) values.now i) }

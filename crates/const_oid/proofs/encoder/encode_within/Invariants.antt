@@ -1,6 +1,6 @@
 use Rattle.std.proofs.Common.{min, ◌≡◌}
 use Rattle.const_oid.specs.Identifier.{root_rule}
-use Rattle.const_oid.proofs.Items.{AreTaken}
+use Rattle.const_oid.proofs.TakesItems.{AreTaken}
 use Rattle.const_oid.proofs.encoder.encode_within.Given as goal
 
 abbrev pub invariant-loop-arc : goal.invariant-loop-arc
