@@ -65,10 +65,10 @@ encoding_prefix rule (c ∷ d ∷ later) x a b e f (more, s) =
     let (rest, t) = octets_prefix (subidentifiers p) more e.groups f.groups e.each (rw (ap subidentifiers s) at f.each) in
     (rest, f.joined ∙ t ∙ ap (λ y. y ++ rest) (sym e.joined))
 
--- what tells whether an encoding begins another tells it of their arcs
-pub told_begins : (rule : RootRule) (x p b a : List ℕ) (P : Type 0) → IsEncoding rule x b → IsEncoding rule p a → P ↔ BeginsWith b a → P ↔ BeginsWith x p
-told_begins rule x p b a P f e told =
-    (λ t. arcs_prefix rule p x a b e f (told.0 t), λ h. told.1 (encoding_prefix rule p x a b e f h))
+-- encodings begin others exactly where their arcs begin theirs
+pub iff_begins : (rule : RootRule) (x p b a : List ℕ) (P : Type 0) → IsEncoding rule x b → IsEncoding rule p a → P ↔ BeginsWith b a → P ↔ BeginsWith x p
+iff_begins rule x p b a P f e iff =
+    (λ t. arcs_prefix rule p x a b e f (iff.0 t), λ h. iff.1 (encoding_prefix rule p x a b e f h))
 
 -- ---- ranges in list order
 
@@ -122,8 +122,8 @@ is_under prefix list = starts_with nat_eq list prefix
 abbrev pub is_within : List ℕ → List ℕ → Bool
 is_within prefix list = is_before prefix list || is_under prefix list
 
-pub under_told : (prefix list : List ℕ) → (is_under prefix list ≡ true) ↔ BeginsWith list prefix
-under_told prefix list =
+pub under_iff : (prefix list : List ℕ) → (is_under prefix list ≡ true) ↔ BeginsWith list prefix
+under_iff prefix list =
     let (rest, given) = starts_is unsigned_Decides list prefix (is_under prefix list) refl in
     (λ t. (drop (length prefix) list, rest t), λ b. given b.0 b.1)
 
@@ -134,7 +134,7 @@ not_before_nil (x ∷ xs) = refl
 -- what begins with the prefix is not before it
 pub under_apart : (prefix list : List ℕ) → is_under prefix list ≡ true → is_before prefix list ≡ false
 under_apart prefix list t =
-    let (rest, e) = (under_told prefix list).0 t in
+    let (rest, e) = (under_iff prefix list).0 t in
     let compared = rw append-nil at (slice_cmp-prefix prefix rest []) in
     rw e (ap is_lt compared ∙ not_before_nil rest)
 
@@ -153,8 +153,8 @@ within_down prefix x z level t = ⊎_elim
     (λ (under : is_under prefix z ≡ true). ⊎_elim
     (λ (early : is_before prefix x ≡ true). or_left _ _ early)
     (λ (late : is_before prefix x ≡ false).
-    let (rest, e) = (under_told prefix z).0 under in
+    let (rest, e) = (under_iff prefix z).0 under in
     let b = between prefix [] x rest (rw append-nil (λ less. cc (late, ap is_lt less))) (rw (← e) (not_greater x z level)) in
-    or_right _ _ ((under_told prefix x).1 b))
+    or_right _ _ ((under_iff prefix x).1 b))
     (cases_Bool (is_before prefix x)))
     (or_cases (is_before prefix z) (is_under prefix z) t)

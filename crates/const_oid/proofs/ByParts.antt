@@ -19,7 +19,7 @@ use Rattle.const_oid.proofs.Encodings.{cut_encoding, same_arcs, same_octets}
 use Rattle.const_oid.proofs.Orders.{groups_cmp, groups_short, nat_cmp-add, shortlex_cmp-less, shortlex_cmp-prefix}
 use Rattle.const_oid.proofs.Subidentifiers.{second_low}
 
--- ---- octets compared from a place on
+-- ---- octets compared from a index on
 
 -- the first part begins with the first octet
 begins : (x : ℕ) (xs : List ℕ) → (part : List ℕ) × (parts : List (List ℕ)) × (cut (x ∷ xs) ≡ (x ∷ part) ∷ parts)
@@ -90,7 +90,7 @@ then_assoc Less p q = refl
 then_assoc Equal p q = refl
 then_assoc Greater p q = refl
 
--- where the groups at each place are of one length, the octets stand as the numbers do
+-- where the groups at each index are of one length, the octets stand as the numbers do
 abbrev pub AreLevel : List (List ℕ) → List (List ℕ) → Type 0
 AreLevel gs hs = (i : ℕ) (g h : List ℕ) → slice_get gs i ≡ Some g → slice_get hs i ≡ Some h → length g ≡ length h
 

@@ -54,11 +54,11 @@ cut_at prefix back at long = let P : ℕ → Type 0 = λ n. (take n (prefix ++ b
 
 -- a part written in the midst of a list
 pub part_written : (old new part : List ℕ) (at end : ℕ) → end ≡ at + length part → at ≤ length old → take at new ≡ take at old → drop at new ≡ part ++ drop end old → (take end new ≡ take at old ++ part) × (drop end new ≡ drop end old)
-part_written old new part at end e room prefix back =
+part_written old new part at end e fits prefix back =
     let whole : (take at old ++ part) ++ drop end old ≡ new = rw (append_assoc, ← back, ← prefix) (take-append-drop at new) in
-    rw whole at (cut_at (take at old ++ part) (drop end old) end (omega (arith, length-append (take at old) part, length-take-le at old room)))
+    rw whole at (cut_at (take at old ++ part) (drop end old) end (omega (arith, length-append (take at old) part, length-take-le at old fits)))
 
 -- the last of a part's pieces to be written, which is its first
-pub last_written : (old now new part piece : List ℕ) (at place end : ℕ) → place ≡ at + length piece → end ≡ at + length part → at ≤ length old → take at now ≡ take at old → piece ++ drop place now ≡ part ++ drop end old → take at new ≡ take at now → drop at new ≡ piece ++ drop (at + length piece) now → (take end new ≡ take at old ++ part) × (drop end new ≡ drop end old)
-last_written old now new part piece at place end p e room prefix back before written =
-    part_written old new part at end e room (before ∙ prefix) (written ∙ ap (λ n. piece ++ drop n now) (sym p) ∙ back)
+pub last_written : (old now new part piece : List ℕ) (at index end : ℕ) → index ≡ at + length piece → end ≡ at + length part → at ≤ length old → take at now ≡ take at old → piece ++ drop index now ≡ part ++ drop end old → take at new ≡ take at now → drop at new ≡ piece ++ drop (at + length piece) now → (take end new ≡ take at old ++ part) × (drop end new ≡ drop end old)
+last_written old now new part piece at index end p e fits prefix back before written =
+    part_written old new part at end e fits (before ∙ prefix) (written ∙ ap (λ n. piece ++ drop n now) (sym p) ∙ back)

@@ -179,10 +179,10 @@ same_octets rule arcs a b p q = p.joined ∙ ap concat (same_groups (subidentifi
 pub encoding_of-encoded : (rule : RootRule) (arcs octets : List ℕ) → IsEncoding rule arcs octets → encoding_of arcs ≡ octets
 encoding_of-encoded rule arcs octets e = same_octets rule arcs (encoding_of arcs) octets (encoding_is rule arcs e.identifier) e
 
--- what tells whether two encodings are one tells it of their arcs
-pub told_arcs : (rule : RootRule) (x y a b : List ℕ) (P : Type 0) → IsEncoding rule x a → IsEncoding rule y b → P ↔ (a ≡ b) → P ↔ (x ≡ y)
-told_arcs rule x y a b P e f told =
-    (λ p. same_arcs rule x y b (rw (told.0 p) at e) f, λ s. told.1 (same_octets rule y a b (rw s at e) f))
+-- encodings are the same exactly where their arcs are
+pub iff_arcs : (rule : RootRule) (x y a b : List ℕ) (P : Type 0) → IsEncoding rule x a → IsEncoding rule y b → P ↔ (a ≡ b) → P ↔ (x ≡ y)
+iff_arcs rule x y a b P e f iff =
+    (λ p. same_arcs rule x y b (rw (iff.0 p) at e) f, λ s. iff.1 (same_octets rule y a b (rw s at e) f))
 
 -- ---- the narrow rule: one octet for the first two arcs
 

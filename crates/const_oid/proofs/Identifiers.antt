@@ -67,11 +67,11 @@ reversed Less t = refl
 reversed Equal t = refl
 reversed Greater t = cc
 
--- what is not after a list of octets is not before it the other way round: so `is_sorted` tells what `subtree` asks
+-- what is not after a list of octets is not before it the other way round: as `is_sorted` answers, and `subtree` requires
 pub not_before : (a b : List ℕ) → is_le (slice_cmp nat_cmp a b) ≡ true → is_lt (slice_cmp nat_cmp b a) ≡ false
 not_before a b level = rw (nat_list_cmp_total.antisymm b a) (reversed (slice_cmp nat_cmp a b) level)
 
--- the answer to the items of an iterator is exact where the iterator tells the list that it has left
+-- the answer to the items of an iterator is exact where its list is known
 pub exact_answer : {S : Type 0} (rule : RootRule) (capacity : ℕ) (rest : S → List ℕ) (s : S) (result : Result (List ℕ) Error) → TakesItems rule capacity (YieldsFirst rest) s result → result ≡ item_answer rule (rest s) capacity
 exact_answer rule capacity rest s (Ok arcs) (p, from, whole, (is, none)) =
     let e : arcs ≡ rest s = sym is ∙ (run_of_first rest p).1.4 whole ∙ ap rest from in

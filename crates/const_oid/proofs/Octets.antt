@@ -5,7 +5,7 @@ use Rattle.std.proofs.lemmas.Slice.{drop-append-drop}
 use Rattle.const_oid.specs.Base128.{IsContinued, AreOctets}
 use Rattle.const_oid.proofs.Lists.{all_append}
 
--- octets by what is read at each place
+-- octets by what is read at each index
 pub are_octets : (octets : List ℕ) → EachIndex octets (λ k. slice_index octets k < 256) → AreOctets octets
 are_octets [] h = tt
 are_octets (x ∷ xs) h = (h 0 (omega arith), are_octets xs (λ k l. h (suc k) (omega arith)))
@@ -26,7 +26,7 @@ zeros_copied size octets bytes e =
     ∙ drop-append-drop (length octets) (replicate size 0) octets (length octets) (omega arith) refl
     ∙ drop-replicate (length octets) size 0
 
--- zeros past a place are zeros past each later one
+-- zeros past a index are zeros past each later one
 zeros_past : (size used more : ℕ) (bytes : List ℕ) → drop used bytes ≡ replicate (size - used) 0 → drop (used + more) bytes ≡ replicate (size - (used + more)) 0
 zeros_past size used more bytes zeros =
     let fewer : size - used - more ≡ size - (used + more) = omega arith in

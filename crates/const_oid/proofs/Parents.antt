@@ -31,7 +31,7 @@ cut_one (y ∷ ys) x more =
     ∙ ap (onto_first y) (cut_one ys x (λ k l. more (suc k) (omega arith)))
 
 -- the last part begins after the last octet below 128 that another follows
-cut_push : (prefix : List ℕ) (x place : ℕ) → place ≤ length prefix → ((k : ℕ) → place ≡ suc k → slice_index prefix k < 128) → ((k : ℕ) → place ≤ k → k < length prefix → 128 ≤ slice_index prefix k) → (last : List ℕ) × (cut (prefix ++ x ∷ []) ≡ cut (take place prefix) ++ last ∷ [])
+cut_push : (prefix : List ℕ) (x index : ℕ) → index ≤ length prefix → ((k : ℕ) → index ≡ suc k → slice_index prefix k < 128) → ((k : ℕ) → index ≤ k → k < length prefix → 128 ≤ slice_index prefix k) → (last : List ℕ) × (cut (prefix ++ x ∷ []) ≡ cut (take index prefix) ++ last ∷ [])
 cut_push prefix x zero inside final more = (prefix ++ x ∷ [], cut_one prefix x (λ k l. more k (omega arith) l))
 cut_push [] x (suc k) inside final more = absurd (omega arith)
 cut_push (y ∷ ys) x (suc zero) inside final more =
@@ -47,10 +47,10 @@ but_last parts last =
     let e : length (parts ++ last ∷ []) - 1 ≡ length parts = omega (arith, length-append parts (last ∷ [])) in
     rw e (take-append_seam parts (last ∷ []))
 
-without_last_part : (octets prefix : List ℕ) (x place : ℕ) → octets ≡ prefix ++ x ∷ [] → place ≤ length prefix → ((k : ℕ) → place ≡ suc k → slice_index prefix k < 128) → ((k : ℕ) → place ≤ k → k < length prefix → 128 ≤ slice_index prefix k) → let parts = cut octets in cut (take place prefix) ≡ take (length parts - 1) parts
-without_last_part octets prefix x place is inside final more =
-    let (last, e) = cut_push prefix x place inside final more in
-    rw (is, e) (sym (but_last (cut (take place prefix)) last))
+without_last_part : (octets prefix : List ℕ) (x index : ℕ) → octets ≡ prefix ++ x ∷ [] → index ≤ length prefix → ((k : ℕ) → index ≡ suc k → slice_index prefix k < 128) → ((k : ℕ) → index ≤ k → k < length prefix → 128 ≤ slice_index prefix k) → let parts = cut octets in cut (take index prefix) ≡ take (length parts - 1) parts
+without_last_part octets prefix x index is inside final more =
+    let (last, e) = cut_push prefix x index inside final more in
+    rw (is, e) (sym (but_last (cut (take index prefix)) last))
 
 -- the octets before the last part, after the last octet below 128
 pub cut-without_last_part : (octets prefix : List ℕ) (x index : ℕ) → octets ≡ prefix ++ x ∷ [] → index < length prefix → slice_index prefix index < 128 → ((k : ℕ) → index < k → k < length prefix → 128 ≤ slice_index prefix k) → let parts = cut octets in cut (take (index + 1) prefix) ≡ take (length parts - 1) parts

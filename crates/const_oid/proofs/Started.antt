@@ -24,7 +24,7 @@ later_fault rule octets [] arc capacity e = absurd e.identifier
 later_fault rule octets (a ∷ []) arc capacity e = absurd e.identifier
 later_fault rule octets (a ∷ b ∷ later) arc capacity e = ap (λ n. fault_if (nat_lt capacity n) Length) (size_push rule (a ∷ b ∷ later) octets arc e)
 
--- the number stands for an arc after those given: its group makes the encoding longer, and its width tells the fault
+-- the number stands for an arc after those given: its group makes the encoding longer, and its width decides the fault
 pub record Encodes (rule : RootRule) (first : Option ℕ) (octets given : List ℕ) (arc number : ℕ) : Type 0 where
   pub step : (longer : List ℕ) → GoesOn number octets longer → IsStarted rule first longer × (arcs_given first longer ≡ given ++ arc ∷ [])
   pub fault : (capacity : ℕ) → arc_fault rule capacity given arc ≡ fault_if (nat_lt capacity (length octets + width number)) Length

@@ -17,7 +17,7 @@ use Rattle.const_oid.specs.Identifier.{root_rule}
 use Rattle.const_oid.specs.OidRef.{ref_octets, ref_arcs}
 use Rattle.const_oid.specs.Tree.{BeginsWith}
 use Rattle.const_oid.proofs.Encodings.{ref_encoding}
-use Rattle.const_oid.proofs.BeginsWith.{is_before, is_under, is_within, under_told, under_apart, before_down, within_down, told_begins}
+use Rattle.const_oid.proofs.BeginsWith.{is_before, is_under, is_within, under_iff, under_apart, before_down, within_down, iff_begins}
 
 -- a test that goes down the order cuts a sorted list
 partitioned : {X : Type 0} (lt : X → X → Bool) → IsStrictWeakOrder lt → (p : X → Bool) → ((x z : X) → lt z x ≡ false → p z ≡ true → p x ≡ true) → (xs : List X) → IsSortedBy lt xs → IsPartitionedBy p xs
@@ -37,7 +37,7 @@ module _ {X : Type 0} (p : X → Bool) where
     | false ↦ λ e. rw (sum_by-cons (λ y. cond (p y) 1 0) x xs, e) (omega (arith, count_by-none xs (λ k d l. false_from_ne_true (p (get_or xs k d)) (λ t. cc (cut 0 (suc k) d (omega arith) (omega arith) t, e)))))
   ] refl
 
--- a place where a test cuts a list is the number of those that pass
+-- a index where a test cuts a list is the number of those that pass
 point_is_prefix : {X : Type 0} (p : X → Bool) (xs : List X) (a : ℕ) → a ≤ length xs → IsPartitionPoint (λ x. p x ≡ true) (λ x. p x ≡ false) xs a → a ≡ prefix_len p xs
 point_is_prefix p [] a l cut = omega (arith)
 point_is_prefix p (x ∷ xs) zero l cut = rw (cut.1 0 x (omega arith) (omega arith)) refl
@@ -55,8 +55,8 @@ pub point_is_count : {X : Type 0} (p : X → Bool) (xs : List X) (a : ℕ) → I
 point_is_count p xs a by l cut = point_is_prefix p xs a l cut ∙ sym (count_by-prefix p xs by)
 
 module _ {X : Type 0} (p b : X → Bool) (apart : (x : X) → b x ≡ true → p x ≡ false) (xs : List X) (from : ℕ) (first : IsPartitionPoint (λ x. p x ≡ true) (λ x. p x ≡ false) xs from) where
-  place_after : (k : ℕ) (d : X) → from ≤ k → get_or (drop from xs) (k - from) d ≡ get_or xs k d
-  place_after k d l = get_or-drop from xs (k - from) d ∙ ap (λ i. get_or xs i d) (omega arith)
+  index_after : (k : ℕ) (d : X) → from ≤ k → get_or (drop from xs) (k - from) d ≡ get_or xs k d
+  index_after k d l = get_or-drop from xs (k - from) d ∙ ap (λ i. get_or xs i d) (omega arith)
 
   -- after the cut of one test, what passes either of two is what passes the other
   other_after : IsPartitionedBy (λ x. p x || b x) xs → IsPartitionedBy b (drop from xs)
@@ -66,17 +66,17 @@ module _ {X : Type 0} (p b : X → Bool) (apart : (x : X) → b x ≡ true → p
       let passes = either (from + i) (from + j) d (omega arith) (omega (arith, n)) (or_right _ _ (rw (get_or-drop from xs j d) at t)) in
       rw (get_or-drop from xs i d) (rw late at passes)
 
-  place : (count k : ℕ) (q c : Bool) → (k < from → q ≡ true) → (from ≤ k → k < from + count → c ≡ true) → (from + count ≤ k → c ≡ false) → (c ≡ true → q ≡ false) → (c ≡ true) ↔ ((from ≤ k) × (k < from + count))
-  place count k q c early inside late apart = (λ t. (grind (arith, common_steps), grind (arith, common_steps)), λ h. inside h.0 h.1)
+  index : (count k : ℕ) (q c : Bool) → (k < from → q ≡ true) → (from ≤ k → k < from + count → c ≡ true) → (from + count ≤ k → c ≡ false) → (c ≡ true → q ≡ false) → (c ≡ true) ↔ ((from ≤ k) × (k < from + count))
+  index count k q c early inside late apart = (λ t. (grind (arith, common_steps), grind (arith, common_steps)), λ h. inside h.0 h.1)
 
   -- from there on to the other's cut stand those that pass it
   between_points : (count : ℕ) → IsPartitionPoint (λ x. b x ≡ true) (λ x. b x ≡ false) (drop from xs) count → (k : ℕ) (d : X) → k < length xs → (b (get_or xs k d) ≡ true) ↔ ((from ≤ k) × (k < from + count))
   between_points count second k d l =
       let x = get_or xs k d in
-      place count k (p x) (b x)
+      index count k (p x) (b x)
       (λ m. first.0 k d (omega arith) m)
-      (λ m n. rw (place_after k d m) at (second.0 (k - from) d (omega arith) (omega arith)))
-      (λ m. rw (place_after k d (omega arith)) at (second.1 (k - from) d (omega arith) (omega (arith, length-drop from xs))))
+      (λ m n. rw (index_after k d m) at (second.0 (k - from) d (omega arith) (omega arith)))
+      (λ m. rw (index_after k d (omega arith)) at (second.1 (k - from) d (omega arith) (omega (arith, length-drop from xs))))
       (apart x)
 
 -- ---- what stands before and under a prefix
@@ -92,20 +92,20 @@ module _ (prefix : ObjectIdentifierRef) where
   ref_is_within oid = is_within (ref_octets prefix) (ref_octets oid)
 
   -- beginning in octets is beginning in arcs
-  ref_under_told : (oid : ObjectIdentifierRef) → (ref_is_under oid ≡ true) ↔ BeginsWith (ref_arcs oid) (ref_arcs prefix)
-  ref_under_told oid =
-      told_begins root_rule (ref_arcs oid) (ref_arcs prefix) (ref_octets oid) (ref_octets prefix) (ref_is_under oid ≡ true) (ref_encoding oid) (ref_encoding prefix) (under_told (ref_octets prefix) (ref_octets oid))
+  ref_under_iff : (oid : ObjectIdentifierRef) → (ref_is_under oid ≡ true) ↔ BeginsWith (ref_arcs oid) (ref_arcs prefix)
+  ref_under_iff oid =
+      iff_begins root_rule (ref_arcs oid) (ref_arcs prefix) (ref_octets oid) (ref_octets prefix) (ref_is_under oid ≡ true) (ref_encoding oid) (ref_encoding prefix) (under_iff (ref_octets prefix) (ref_octets oid))
 
   ref_under_apart : (oid : ObjectIdentifierRef) → ref_is_under oid ≡ true → ref_is_before oid ≡ false
   ref_under_apart oid = under_apart (ref_octets prefix) (ref_octets oid)
 
-  -- what stands where, by the place where the one test cuts the list and that where the other cuts the rest
-  pub places_between : (sorted : List ObjectIdentifierRef) (from count : ℕ) → IsPartitionPoint (λ oid. ref_is_before oid ≡ true) (λ oid. ref_is_before oid ≡ false) sorted from → IsPartitionPoint (λ oid. ref_is_under oid ≡ true) (λ oid. ref_is_under oid ≡ false) (drop from sorted) count → (k : ℕ) → IfSome (slice_get sorted k) (λ oid. BeginsWith (ref_arcs oid) (ref_arcs prefix) ↔ ((from ≤ k) × (k < from + count)))
-  places_between sorted from count first second k = ⊎_elim
+  -- what stands where, by the index where the one test cuts the list and that where the other cuts the rest
+  pub range_between : (sorted : List ObjectIdentifierRef) (from count : ℕ) → IsPartitionPoint (λ oid. ref_is_before oid ≡ true) (λ oid. ref_is_before oid ≡ false) sorted from → IsPartitionPoint (λ oid. ref_is_under oid ≡ true) (λ oid. ref_is_under oid ≡ false) (drop from sorted) count → (k : ℕ) → IfSome (slice_get sorted k) (λ oid. BeginsWith (ref_arcs oid) (ref_arcs prefix) ↔ ((from ≤ k) × (k < from + count)))
+  range_between sorted from count first second k = ⊎_elim
       (λ (oid, l, e, read).
-      let (places, inside) = rw read at (between_points ref_is_before ref_is_under ref_under_apart sorted from first count second k oid l) in
-      let (told, given) = ref_under_told oid in
-      rw e (λ b. places (given b), λ h. told (inside h)))
+      let (back, inside) = rw read at (between_points ref_is_before ref_is_under ref_under_apart sorted from first count second k oid l) in
+      let (iff, given) = ref_under_iff oid in
+      rw e (λ b. back (given b), λ h. iff (inside h)))
       (λ (l, e). rw e tt)
       (slice_get_cases sorted k).1
 

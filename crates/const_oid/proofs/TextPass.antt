@@ -1,4 +1,4 @@
--- One pass over the bytes of a text, which ends at its first refusal, finds the fault of the first faulty piece.
+-- One pass over the bytes of a text, which ends at the first fault that it meets, finds the fault of the first faulty piece.
 use Rattle.std.proofs.Common.{◌≡◌, ◌≢◌, ℕ, ◌+◌, ◌-◌, ◌*◌, ◌<◌, ◌≤◌, Bool, true, false, not, List, [], ◌∷◌, ◌++◌, length, drop, get_or, nat_lt, ◌==◌, map, Option, Some, None, Result, Ok, Err, IfOk, is_some, unwrap_or, if◌then◌else◌, refl, sym, ap, ◌∙◌, ⊎_elim, arith, append-nil, drop-cons, count_by, take_while, leb, lt-ltb, le-ltb, eq-eqb, ne_eqb}
 use Rattle.std.specs.Bool.{then_some}
 use Rattle.std.specs.List.{onto_first}
@@ -205,7 +205,7 @@ text_pass-end octets_in rule capacity before None result n f e = cc
 text_pass-end octets_in rule capacity before (Some arc) (Ok x) n f e = rw (← n, ← f) (ap Ok (arcs_of_encoding rule (before ++ arc ∷ []) (octets_in x) e))
 text_pass-end octets_in rule capacity before (Some arc) (Err fault) n f e = rw (← n, ← f) refl
 
--- ---- one byte of a text at a place
+-- ---- one byte of a text at a index
 
 -- whether a byte is a digit, by the number that it stands for
 pub is_digit : (byte digit : ℕ) → Some digit ≡ then_some (is_ascii_digit byte) (byte - 48) → (is_ascii_digit byte ≡ true) × (digit ≡ byte - 48)
@@ -224,13 +224,13 @@ is_no_digit byte e = by (is_ascii_digit byte) e
 
 -- a digit that takes the number past the limit
 pub text_pass-too_big : (rule : RootRule) (capacity : ℕ) (before : List ℕ) (begun : Bool) (value digit : ℕ) (text : List ℕ) (index : ℕ) → index < length text → Some digit ≡ then_some (is_ascii_digit (get_or text index 0)) (get_or text index 0 - 48) → max_arc < value * 10 + digit → text_pass rule capacity before begun value (drop index text) ≡ Err ArcTooBig
-text_pass-too_big rule capacity before begun value digit text index inside told big =
-    let (told_digit, is) = is_digit (get_or text index 0) digit told in
-    rw (drop-cons text index 0 inside, told_digit, ← is, lt-ltb max_arc (value * 10 + digit) big) refl
+text_pass-too_big rule capacity before begun value digit text index inside read big =
+    let (holds, is) = is_digit (get_or text index 0) digit read in
+    rw (drop-cons text index 0 inside, holds, ← is, lt-ltb max_arc (value * 10 + digit) big) refl
 
 -- another byte
 pub text_pass-other : (rule : RootRule) (capacity : ℕ) (before : List ℕ) (begun : Bool) (value : ℕ) (text : List ℕ) (index : ℕ) → index < length text → None ≡ then_some (is_ascii_digit (get_or text index 0)) (get_or text index 0 - 48) → get_or text index 0 ≢ 46 → text_pass rule capacity before begun value (drop index text) ≡ Err (DigitExpected (get_or text index 0))
-text_pass-other rule capacity before begun value text index inside told no_dot = rw (drop-cons text index 0 inside, is_no_digit (get_or text index 0) told, ne_eqb (get_or text index 0) 46 no_dot) refl
+text_pass-other rule capacity before begun value text index inside read no_dot = rw (drop-cons text index 0 inside, is_no_digit (get_or text index 0) read, ne_eqb (get_or text index 0) 46 no_dot) refl
 
 -- a fault of the last piece
 pub text_pass-end_fault : (rule : RootRule) (capacity : ℕ) (before : List ℕ) (begun : Bool) (value : ℕ) (piece : Option ℕ) (fault : Error) → piece ≡ then_some begun value → Some fault ≡ last_fault rule capacity before piece → text_pass rule capacity before begun value [] ≡ Err fault

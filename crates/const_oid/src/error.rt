@@ -13,7 +13,7 @@ pub type Result<T> = std::result::Result<T, Error>;
 /// Why a text, a list of arcs or octets are refused.
 #[derive(Copy, Clone, Debug, Eq, PartialEq, PartialOrd, Ord)]
 pub enum Error {
-    /// An arc of a text or a list is out of range for its place.
+    /// The first or the second arc of a text or a list is out of range.
     ArcInvalid {
         /// The arc.
         arc: Arc,
@@ -25,9 +25,9 @@ pub enum Error {
     /// A group of octets begins with 0x80 or does not end (X.690, 8.19.2).
     Base128,
 
-    /// Something else stands where a digit belongs.
+    /// A byte is not a digit where one is expected.
     DigitExpected {
-        /// The byte, in UTF-8 the first one of its character.
+        /// The byte: of a character in UTF-8, the first one.
         actual: u8,
     },
 
@@ -60,10 +60,10 @@ impl Error {
         ensures short { result ≤ 47 }
     {
         let (before, after) = self.words();
-        before.len() + self.shown_len() + after.len()
+        before.len() + self.detail_len() + after.len()
     }
 
-    /// Writes the text that `{}` writes at the start of `out`, and tells its length. `None` where it
+    /// Writes the text that `{}` writes at the start of `out`, and returns its length. `None` where it
     /// is longer than `out`, which then stays as it was.
     pub fn encode_text(self, out: &mut [u8]) -> Option<usize>
         ensures cases { MatchOption result (length out.old < length (message_of self)) (λ len. len ≡ length (message_of self)) }
@@ -77,7 +77,7 @@ impl Error {
         }
         let (before, after) = self.words();
         let at = write_bytes(before.as_bytes(), out, 0);
-        let at = self.write_shown(out, at);
+        let at = self.write_detail(out, at);
         Some(write_bytes(after.as_bytes(), out, at))
     }
 
@@ -107,8 +107,8 @@ impl Error {
         }
     }
 
-    /// How many bytes the number that the error carries takes.
-    fn shown_len(self) -> usize
+    /// How many bytes the number that the error carries takes in the text.
+    fn detail_len(self) -> usize
         ensures len { result ≡ length (detail_text self) }
         ensures short { length (message_of self) ≤ 47 }
     {
@@ -119,8 +119,8 @@ impl Error {
         }
     }
 
-    /// Writes the number that the error carries at a place, and tells the place after it.
-    fn write_shown(self, out: &mut [u8], at: usize) -> usize
+    /// Writes the number that the error carries at an index, and returns the index after it.
+    fn write_detail(self, out: &mut [u8], at: usize) -> usize
         requires { at + length (detail_text self) ≤ length out.old }
         ensures end { result ≡ at + length (detail_text self) }
         ensures prefix { take result out.new ≡ take at out.old ++ detail_text self }

@@ -125,7 +125,7 @@ pub fn siblings()
 
 /// The order of arcs is that of their encodings by parts, of which a shorter one is first: total, equal
 /// where the octets are, an ancestor before its descendants, which stand together. Where the groups
-/// at each place are of one length, it is the order of the octets.
+/// at each index are of one length, it is the order of the octets.
 pub fn order_of_arcs()
     ensures parts { (rule : RootRule) (p x a b : List ℕ) → IsEncoding rule p a → IsEncoding rule x b
         → parts_cmp a b ≡ slice_cmp nat_cmp p x }

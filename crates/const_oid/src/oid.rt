@@ -195,7 +195,7 @@ impl<const MAX_SIZE: usize> ObjectIdentifier<MAX_SIZE> {
         ObjectIdentifierRef::from_checked(self.as_bytes())
     }
 
-    /// The arc at a place, counted from 0, or `None` past the last.
+    /// The arc at an index, counted from 0, or `None` past the last.
     pub fn arc(&self, index: usize) -> Option<Arc>
         ensures { result ≡ slice_get (oid_arcs self.now) index }
     {
@@ -223,7 +223,7 @@ impl<const MAX_SIZE: usize> ObjectIdentifier<MAX_SIZE> {
         self.as_oid_ref().text_len()
     }
 
-    /// Writes the text that `{}` writes at the start of `out`, and tells its length. `None` where it
+    /// Writes the text that `{}` writes at the start of `out`, and returns its length. `None` where it
     /// is longer than `out`, which then stays as it was.
     pub fn encode_text(&self, out: &mut [u8]) -> Option<usize>
         ensures cases { MatchOption result (length out.old < length (text_of (oid_arcs self.now))) (λ len. len ≡ length (text_of (oid_arcs self.now))) }

@@ -12,20 +12,20 @@ use std::str;
 pub(crate) fn text_len(arcs: Arcs<'_>, limit: usize) -> Option<usize>
     ensures { MatchOption result (limit < length (text_of arcs.entry)) (λ len. (len ≡ length (text_of arcs.entry)) × (len ≤ limit)) }
 {
-    let mut room = limit;
+    let mut left = limit;
     let mut is_first = true;
     for arc in arcs {
         let len = arc_len(arc, is_first);
-        if room < len {
+        if left < len {
             return None;
         }
-        room -= len;
+        left -= len;
         is_first = false;
     }
-    Some(limit - room)
+    Some(limit - left)
 }
 
-/// Writes the arcs' text at the start, and tells its length.
+/// Writes the arcs' text at the start, and returns its length.
 pub(crate) fn write_text(arcs: Arcs<'_>, out: &mut [u8]) -> usize
     requires { length (text_of arcs) ≤ length out.old }
     ensures len { result ≡ length (text_of arcs.entry) }
@@ -39,7 +39,7 @@ pub(crate) fn write_text(arcs: Arcs<'_>, out: &mut [u8]) -> usize
     at
 }
 
-/// Takes the first two arcs, writes them at the start, and tells the length.
+/// Takes the first two arcs, writes them at the start, and returns the length.
 #[inline(always)]
 pub(crate) fn write_root(arcs: &mut Arcs<'_>, out: &mut [u8]) -> usize
     requires { length (text_of (take 2 arcs.old)) ≤ length out.old }
@@ -57,7 +57,7 @@ pub(crate) fn write_root(arcs: &mut Arcs<'_>, out: &mut [u8]) -> usize
     write_arc(second, false, out, at)
 }
 
-/// Writes bytes at a place, and tells the place after them.
+/// Writes bytes at an index, and returns the index after them.
 pub(crate) fn write_bytes(bytes: &[u8], out: &mut [u8], at: usize) -> usize
     requires { at + length bytes.now ≤ length out.old }
     ensures end { result ≡ at + length bytes.now }

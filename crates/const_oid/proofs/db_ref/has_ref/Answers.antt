@@ -2,7 +2,7 @@ use Rattle.std.proofs.Common.{◌≡◌, rules}
 use Rattle.std.specs.Prelude.{◌↔◌, IsTrue}
 use Rattle.const_oid.specs.Identifier.{root_rule}
 use Rattle.const_oid.specs.OidRef.{ref_octets, ref_arcs}
-use Rattle.const_oid.proofs.Encodings.{ref_encoding, told_arcs}
+use Rattle.const_oid.proofs.Encodings.{ref_encoding, iff_arcs}
 use Rattle.const_oid.proofs.db_ref.has_ref.Goals as goal
 
 pub returns : goal.returns
@@ -10,5 +10,5 @@ returns c =
     let a = c.args.entry.now.0 in
     let b = c.args.oid.now in
     let octets : IsTrue c.are_equal.result ↔ (ref_octets a ≡ ref_octets b) = search rules in
-    let arcs = told_arcs root_rule (ref_arcs a) (ref_arcs b) (ref_octets a) (ref_octets b) (IsTrue c.are_equal.result) (ref_encoding a) (ref_encoding b) octets in
+    let arcs = iff_arcs root_rule (ref_arcs a) (ref_arcs b) (ref_octets a) (ref_octets b) (IsTrue c.are_equal.result) (ref_encoding a) (ref_encoding b) octets in
     search rules

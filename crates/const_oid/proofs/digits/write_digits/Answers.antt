@@ -4,8 +4,8 @@ use Rattle.std.proofs.lemmas.List.{drop-set, drop-set-lt, take-set, take_more_se
 use Rattle.const_oid.proofs.Decimals.{length_digit, length_pair, decimal_two, decimal_pair, take_less, last_written}
 use Rattle.const_oid.proofs.digits.write_digits.Goals as goal
 
-pub overflow_sub-place : goal.overflow_sub-place
-overflow_sub-place c = omega (arith, length_pair c.loop-left.left c.loop-left-test.true (omega arith))
+pub overflow_sub-index : goal.overflow_sub-index
+overflow_sub-index c = omega (arith, length_pair c.loop-left.left c.loop-left-test.true (omega arith))
 
 pub write_pair-requires : goal.write_pair-requires
 write_pair-requires c = let long = length_pair c.loop-left.left c.loop-left-test.true (omega arith) in (omega arith, omega arith)
@@ -14,12 +14,12 @@ pub loop-left-preserved : goal.loop-left-preserved
 loop-left-preserved c =
     let l = c.loop-left in
     let long = length_pair l.left c.loop-left-test.true (omega arith) in
-    let e : l.place - 2 + 2 ≡ l.place = omega arith in
+    let e : l.index - 2 + 2 ≡ l.index = omega arith in
     record {
-      place = omega arith;
+      index = omega arith;
       within = omega arith;
       written = rw (c.write_pair.ensures.written, e) (rw (decimal_pair l.left c.loop-left-test.true (omega arith), append_assoc) at l.invariant.written);
-      prefix = take_less c.args.at (l.place - 2) _ _ (omega arith) c.write_pair.ensures.prefix ∙ l.invariant.prefix;
+      prefix = take_less c.args.at (l.index - 2) _ _ (omega arith) c.write_pair.ensures.prefix ∙ l.invariant.prefix;
     }
 
 pub bounds-out-at-then-left-lt10 : goal.bounds-out-at-then-left-lt10
@@ -34,7 +34,7 @@ one_written c =
     let l = c.loop-left in
     let digit = decimal_digit l.left c.if-left-lt10.true in
     let some = ap length digit in
-    last_written c.args.out.now l.out _ (decimal c.args.arc) (decimal l.left) c.args.at l.place _ l.invariant.place (omega arith) (omega arith) l.invariant.prefix l.invariant.written
+    last_written c.args.out.now l.out _ (decimal c.args.arc) (decimal l.left) c.args.at l.index _ l.invariant.index (omega arith) (omega arith) l.invariant.prefix l.invariant.written
     (take-set l.out c.args.at (48 + l.left)) (rw digit (drop-set l.out c.args.at (48 + l.left) (omega arith)))
 
 pub returns-then-left-lt10-clause-prefix : goal.returns-then-left-lt10-clause-prefix
@@ -47,14 +47,14 @@ pub returns-else-left-lt10-clause-prefix : goal.returns-else-left-lt10-clause-pr
 returns-else-left-lt10-clause-prefix c =
     let l = c.loop-left in
     let w = c.write_pair-else-left-lt10.ensures in
-    (last_written c.args.out.now l.out _ (decimal c.args.arc) (decimal l.left) c.args.at l.place _ l.invariant.place (omega arith) (omega arith) l.invariant.prefix l.invariant.written
+    (last_written c.args.out.now l.out _ (decimal c.args.arc) (decimal l.left) c.args.at l.index _ l.invariant.index (omega arith) (omega arith) l.invariant.prefix l.invariant.written
     w.prefix (rw (decimal_two l.left c.if-left-lt10.false c.loop-left-test.false) w.written)).0
 
 pub returns-else-left-lt10-clause-after : goal.returns-else-left-lt10-clause-after
 returns-else-left-lt10-clause-after c =
     let l = c.loop-left in
     let w = c.write_pair-else-left-lt10.ensures in
-    (last_written c.args.out.now l.out _ (decimal c.args.arc) (decimal l.left) c.args.at l.place _ l.invariant.place (omega arith) (omega arith) l.invariant.prefix l.invariant.written
+    (last_written c.args.out.now l.out _ (decimal c.args.arc) (decimal l.left) c.args.at l.index _ l.invariant.index (omega arith) (omega arith) l.invariant.prefix l.invariant.written
     w.prefix (rw (decimal_two l.left c.if-left-lt10.false c.loop-left-test.false) w.written)).1
 
 pub bounds-out-at : goal.bounds-out-at

@@ -4,9 +4,9 @@ use Rattle.const_oid.proofs.digits.write_digits.Given as goal
 -- the digits left, and those written after them, are those of the arc
 abbrev pub invariant-loop-left : goal.invariant-loop-left
 invariant-loop-left l = record {
-  place : l.place ≡ l.at + length (decimal l.left);
-  within : l.place ≤ l.end;
-  written : decimal l.left ++ drop l.place l.out ≡ decimal l.arc ++ drop l.end l.fn.out;
+  index : l.index ≡ l.at + length (decimal l.left);
+  within : l.index ≤ l.end;
+  written : decimal l.left ++ drop l.index l.out ≡ decimal l.arc ++ drop l.end l.fn.out;
   prefix : take l.at l.out ≡ take l.at l.fn.out;
 }
 

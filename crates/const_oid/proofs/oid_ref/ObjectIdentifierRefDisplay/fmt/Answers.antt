@@ -47,17 +47,17 @@ loop-arc-preserved g c =
     let arc = c.in-Some-arc.arc in
     let wrote = c.write_arc-used in
     let short = arc_text_short false arc (omega arith) in
-    let room : c.if-used.used ≤ 149 = elim c.if-used.branch [ then-used+in_ok-write_str w ↦ omega arith | else-used w ↦ omega arith ] in
-    let (done, written, text) = l.invariant.writes in
-    let at_hand : (done : List ℕ) × (IsFlush c.args.f.now → HasWrittenStyled g.W.Write.write_str_gives c.args.f.now done c.if-used.f)
-    × (done ++ (take c.if-used.used l.bytes ++ text_left false l.arc-iterator) ≡ text_of (ref_arcs c.args.self.now)) =
+    let fits : c.if-used.used ≤ 149 = elim c.if-used.branch [ then-used+in_ok-write_str w ↦ omega arith | else-used w ↦ omega arith ] in
+    let (before, written, text) = l.invariant.writes in
+    let at_hand : (before : List ℕ) × (IsFlush c.args.f.now → HasWrittenStyled g.W.Write.write_str_gives c.args.f.now before c.if-used.f)
+    × (before ++ (take c.if-used.used l.bytes ++ text_left false l.arc-iterator) ≡ text_of (ref_arcs c.args.self.now)) =
     elim c.if-used.branch [
       | then-used+in_ok-write_str w ↦ rw (w.used-is, w.f-is) (
-        done ++ take l.used l.bytes,
+        before ++ take l.used l.bytes,
         λ flush. has_written_styled_append _ _ _ _ _ _ (written flush) (rw w.utf8-2.ensures at (w.in_ok-write_str.ensures.styled (written flush).flush refl)),
-        append_assoc done (take l.used l.bytes) (text_left false l.arc-iterator) ∙ text,
+        append_assoc before (take l.used l.bytes) (text_left false l.arc-iterator) ∙ text,
       )
-      | else-used w ↦ rw (w.used-is, w.f-is) (done, written, text)
+      | else-used w ↦ rw (w.used-is, w.f-is) (before, written, text)
     ] in
     let (all, sent, left) = at_hand in
     let left = rw c.in-Some-arc.ensures.steps at left in
@@ -73,7 +73,7 @@ loop-arc-preserved g c =
 
 pub returns-clause-styled : goal.returns-clause-styled
 returns-clause-styled g c = λ flush ok.
-    let (done, written, text) = c.loop-arc.invariant.writes in
+    let (before, written, text) = c.loop-arc.invariant.writes in
     let text = rw (c.in-None.ensures.steps.0, text_left-nil false, append-nil) at text in
     has_written_styled_of_eq _ _ _ _ _ text (has_written_styled_append _ _ _ _ _ _ (written flush) (rw c.utf8-2.ensures at (c.write_str-2.ensures.styled (written flush).flush ok)))
 

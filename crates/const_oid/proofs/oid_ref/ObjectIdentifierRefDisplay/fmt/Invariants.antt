@@ -9,6 +9,6 @@ use Rattle.const_oid.proofs.oid_ref.ObjectIdentifierRefDisplay.fmt.Given as goal
 abbrev pub invariant-loop-arc : goal.invariant-loop-arc
 invariant-loop-arc g l = record {
   within : l.used ≤ 160;
-  writes : (done : List ℕ) × (IsFlush l.initial.f → HasWrittenStyled g.W.Write.write_str_gives l.initial.f done l.f)
-      × (done ++ (take l.used l.bytes ++ text_left false l.arc-iterator) ≡ text_of (ref_arcs l.self));
+  writes : (before : List ℕ) × (IsFlush l.initial.f → HasWrittenStyled g.W.Write.write_str_gives l.initial.f before l.f)
+      × (before ++ (take l.used l.bytes ++ text_left false l.arc-iterator) ≡ text_of (ref_arcs l.self));
 }

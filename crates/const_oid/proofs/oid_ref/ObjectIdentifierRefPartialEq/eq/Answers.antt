@@ -2,12 +2,12 @@ use Rattle.std.proofs.Common.{◌≡◌, rules}
 use Rattle.std.specs.Prelude.{◌↔◌, IsTrue}
 use Rattle.const_oid.specs.Identifier.{root_rule}
 use Rattle.const_oid.specs.OidRef.{ref_octets, ref_arcs}
-use Rattle.const_oid.proofs.Encodings.{ref_encoding, told_arcs}
+use Rattle.const_oid.proofs.Encodings.{ref_encoding, iff_arcs}
 use Rattle.const_oid.proofs.oid_ref.ObjectIdentifierRefPartialEq.eq.Goals as goal
 
 pub returns-clause-arcs : goal.returns-clause-arcs
 returns-clause-arcs c =
     let a = c.args.self.now in
     let b = c.args.other.now in
-    let told : IsTrue c.are_equal.result ↔ (ref_octets a ≡ ref_octets b) = search rules in
-    told_arcs root_rule (ref_arcs a) (ref_arcs b) (ref_octets a) (ref_octets b) (IsTrue c.are_equal.result) (ref_encoding a) (ref_encoding b) told
+    let iff : IsTrue c.are_equal.result ↔ (ref_octets a ≡ ref_octets b) = search rules in
+    iff_arcs root_rule (ref_arcs a) (ref_arcs b) (ref_octets a) (ref_octets b) (IsTrue c.are_equal.result) (ref_encoding a) (ref_encoding b) iff
