@@ -13,6 +13,24 @@ pub use crate::erased::db::Database;
 /// assert_eq!(names.next(), Some("cn"));
 /// ```
 pub use crate::erased::db::Names;
+/// ```
+/// use const_oid::{ObjectIdentifierRef, db::RefDatabase};
+///
+/// let country = ObjectIdentifierRef::from_bytes(&[0x55, 0x04, 0x06])?;
+/// assert_eq!(RefDatabase::new(&[(country, "c")]).by_oid(country), Some("c"));
+/// # Ok::<(), const_oid::Error>(())
+/// ```
+pub use crate::erased::db::RefDatabase;
+/// ```
+/// use const_oid::{ObjectIdentifierRef, db::{RefDatabase, RefNames}};
+///
+/// let country = ObjectIdentifierRef::from_bytes(&[0x55, 0x04, 0x06])?;
+/// let entries = [(country, "c")];
+/// let mut names: RefNames<'_, '_> = RefDatabase::new(&entries).find_names_for_oid(country);
+/// assert_eq!((names.next(), names.next()), (Some("c"), None));
+/// # Ok::<(), const_oid::Error>(())
+/// ```
+pub use crate::erased::db::RefNames;
 
 /// The modules, and [`DB`] over all of their entries, in order.
 macro_rules! names {

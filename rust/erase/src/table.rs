@@ -1,5 +1,5 @@
 //! All that Rust has otherwise than the proved sources, beside the rules of [`crate::erase`]: heads of
-//! functions and types, derives, visibility, and the body of one function.
+//! functions and types, derives, visibility, the body of one function and the fields of two types.
 
 /// What is made of the sources of a crate.
 pub struct Crate {
@@ -85,6 +85,8 @@ impl Crate {
 }
 
 const EQUALITY: &str = "constants in patterns need the derived `==`; behind the octets in use stand zeros (`ghost zeros`)";
+const FEATURE: &str = "it is of a feature";
+const LENT: &str = "the crate's borrowed form is unsized, and lent";
 const UNSIZED: &str = "the crate's function of this name is of the unsized form";
 
 pub const CRATES: &[Crate] = &[
@@ -96,10 +98,6 @@ pub const CRATES: &[Crate] = &[
             Name {
                 name: "laws",
                 why: "its functions have contracts, and no effect",
-            },
-            Name {
-                name: "db_ref",
-                why: "a constant of Rust holds owned identifiers",
             },
             Name {
                 name: "traits",
@@ -135,6 +133,7 @@ pub const CRATES: &[Crate] = &[
             "ObjectIdentifierRef::eq_oid",
             "ObjectIdentifierRef::from_checked",
             "ObjectIdentifierRef::starts_with",
+            "RefDatabase::new",
             "are_equal",
             "are_few_equal",
             "begins_with",
@@ -168,7 +167,13 @@ pub const CRATES: &[Crate] = &[
                 of: "db",
                 from: "pub mod",
                 to: "#[cfg(feature = \"db\")]\npub mod",
-                why: "it is of a feature",
+                why: FEATURE,
+            },
+            Head {
+                of: "db_ref",
+                from: "mod",
+                to: "#[cfg(feature = \"db\")]\nmod",
+                why: FEATURE,
             },
             Head {
                 of: "ObjectIdentifier",
@@ -204,7 +209,37 @@ pub const CRATES: &[Crate] = &[
                 of: "ObjectIdentifierRef::subtree",
                 from: "&[ObjectIdentifierRef<'_>]",
                 to: "&[&crate::ObjectIdentifierRef]",
-                why: "a list of references to the unsized form",
+                why: LENT,
+            },
+            Head {
+                of: "RefDatabase::new",
+                from: "(ObjectIdentifierRef<'a>, &'a str)",
+                to: "(&'a crate::ObjectIdentifierRef, &'a str)",
+                why: LENT,
+            },
+            Head {
+                of: "RefDatabase::by_oid",
+                from: "&ObjectIdentifierRef<'_>",
+                to: "&crate::ObjectIdentifierRef",
+                why: LENT,
+            },
+            Head {
+                of: "RefDatabase::by_name",
+                from: "ObjectIdentifierRef<'a>",
+                to: "&'a crate::ObjectIdentifierRef",
+                why: LENT,
+            },
+            Head {
+                of: "RefDatabase::find_names_for_oid",
+                from: "ObjectIdentifierRef<'b>",
+                to: "&'b crate::ObjectIdentifierRef",
+                why: LENT,
+            },
+            Head {
+                of: "has_ref",
+                from: "&(ObjectIdentifierRef<'_>, &str), oid: &ObjectIdentifierRef<'_>",
+                to: "&(&crate::ObjectIdentifierRef, &str), oid: &crate::ObjectIdentifierRef",
+                why: LENT,
             },
         ],
         renamed: &[Renamed {
@@ -212,12 +247,30 @@ pub const CRATES: &[Crate] = &[
             to: "borrowed",
             why: UNSIZED,
         }],
-        bodies: &[Body {
-            of: "count_lanes",
-            rust: "{\n    octets.iter().filter(|octet| **octet < 128).count()\n}",
-            why: "lanes are unstable in Rust",
-        }],
-        shown: &["Buffer::", "Database::", "Error::", "ObjectIdentifier::"],
+        bodies: &[
+            Body {
+                of: "count_lanes",
+                rust: "{\n    octets.iter().filter(|octet| **octet < 128).count()\n}",
+                why: "lanes are unstable in Rust",
+            },
+            Body {
+                of: "RefDatabase",
+                rust: "{\n    entries: &'a [(&'a crate::ObjectIdentifierRef, &'a str)],\n}",
+                why: LENT,
+            },
+            Body {
+                of: "RefNames",
+                rust: "{\n    left: &'a [(&'a crate::ObjectIdentifierRef, &'a str)],\n    oid: &'b crate::ObjectIdentifierRef,\n}",
+                why: LENT,
+            },
+        ],
+        shown: &[
+            "Buffer::",
+            "Database::",
+            "Error::",
+            "ObjectIdentifier::",
+            "RefDatabase::",
+        ],
         examples: Some("rust/const-oid/examples.md"),
     },
     Crate {

@@ -129,7 +129,7 @@ impl<const MAX_SIZE: usize> ObjectIdentifier<MAX_SIZE> {
         ObjectIdentifierRef::from_checked(self.as_bytes())
     }
 
-    /// The arc at a place, counted from 0, or `None` past the last.
+    /// The arc at an index, counted from 0, or `None` past the last.
     pub fn arc(&self, index: usize) -> Option<Arc> {
         self.as_oid_ref().arc(index)
     }
@@ -149,7 +149,7 @@ impl<const MAX_SIZE: usize> ObjectIdentifier<MAX_SIZE> {
         self.as_oid_ref().text_len()
     }
 
-    /// Writes the text that `{}` writes at the start of `out`, and tells its length. `None` where it
+    /// Writes the text that `{}` writes at the start of `out`, and returns its length. `None` where it
     /// is longer than `out`, which then stays as it was.
     pub fn encode_text(&self, out: &mut [u8]) -> Option<usize> {
         self.as_oid_ref().encode_text(out)

@@ -52,7 +52,7 @@ impl<'a> ObjectIdentifierRef<'a> {
         self.ber
     }
 
-    /// The arc at a place, counted from 0, or `None` past the last.
+    /// The arc at an index, counted from 0, or `None` past the last.
     pub fn arc(&self, index: usize) -> Option<Arc> {
         arc_at(self.ber, index)
     }
@@ -72,7 +72,7 @@ impl<'a> ObjectIdentifierRef<'a> {
         text_len(self.arcs(), usize::MAX).unwrap_or(usize::MAX)
     }
 
-    /// Writes the text that `{}` writes at the start of `out`, and tells its length. `None` where it
+    /// Writes the text that `{}` writes at the start of `out`, and returns its length. `None` where it
     /// is longer than `out`, which then stays as it was.
     pub fn encode_text(&self, out: &mut [u8]) -> Option<usize> {
         // An octet takes four bytes of text at most.
@@ -113,9 +113,9 @@ impl<'a> ObjectIdentifierRef<'a> {
         order_by_parts(self.ber, other.ber)
     }
 
-    /// Where the identifiers that begin with this one, itself among them, stand in a sorted list:
-    /// from the first place on, counted from 0, and below the second. Without any of them both are
-    /// the place where this one would stand.
+    /// The range of indices of a sorted list at which the identifiers begin with this one, itself among
+    /// them: from the first index on, and below the second. Where there are none, both are the index at
+    /// which this one would stand.
     ///
     /// The list does not descend in the order of `cmp`. It may hold an identifier more than once.
     pub fn subtree(&self, sorted: &[ObjectIdentifierRef<'_>]) -> (usize, usize) {
@@ -125,7 +125,7 @@ impl<'a> ObjectIdentifierRef<'a> {
     }
 }
 
-/// The most bytes of a text that `{}` hands on at a time: room for the text of 40 octets.
+/// The most bytes of a text that `{}` writes at a time: the text of 40 octets fits.
 const PIECE: usize = 160;
 
 /// The arcs in decimal, joined by dots, whatever the options.

@@ -66,8 +66,8 @@ const fn given(begun: bool, number: Arc) -> Option<Arc> {
     if begun { Some(number) } else { None }
 }
 
-/// Ends a piece at a dot. At the end of the text there is a last piece that is empty, which is told
-/// before a fault of the arc.
+/// Ends a piece at a dot. Where the text ends there, too, an empty piece follows: its fault comes
+/// before one of the arc.
 #[inline(always)]
 fn end_piece<const SIZE: usize>(
     encoder: &mut Encoder<SIZE>,

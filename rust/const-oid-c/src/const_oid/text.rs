@@ -8,20 +8,20 @@ use core::str;
 
 /// The length of the arcs' text, or `None` where it is over a limit.
 pub(crate) fn text_len(arcs: Arcs<'_>, limit: usize) -> Option<usize> {
-    let mut room = limit;
+    let mut left = limit;
     let mut is_first = true;
     for arc in arcs {
         let len = arc_len(arc, is_first);
-        if room < len {
+        if left < len {
             return None;
         }
-        room -= len;
+        left -= len;
         is_first = false;
     }
-    Some(limit - room)
+    Some(limit - left)
 }
 
-/// Writes the arcs' text at the start, and tells its length.
+/// Writes the arcs' text at the start, and returns its length.
 pub(crate) fn write_text(arcs: Arcs<'_>, out: &mut [u8]) -> usize {
     let mut left = arcs;
     let mut at = write_root(&mut left, out);
@@ -31,7 +31,7 @@ pub(crate) fn write_text(arcs: Arcs<'_>, out: &mut [u8]) -> usize {
     at
 }
 
-/// Takes the first two arcs, writes them at the start, and tells the length.
+/// Takes the first two arcs, writes them at the start, and returns the length.
 #[inline(always)]
 pub(crate) fn write_root(arcs: &mut Arcs<'_>, out: &mut [u8]) -> usize {
     let Some(first) = arcs.next() else {
@@ -44,7 +44,7 @@ pub(crate) fn write_root(arcs: &mut Arcs<'_>, out: &mut [u8]) -> usize {
     write_arc(second, false, out, at)
 }
 
-/// Writes bytes at a place, and tells the place after them.
+/// Writes bytes at an index, and returns the index after them.
 pub(crate) fn write_bytes(bytes: &[u8], out: &mut [u8], at: usize) -> usize {
     let end = at + bytes.len();
     out[at..end].copy_from_slice(bytes);

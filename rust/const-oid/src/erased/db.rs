@@ -2,6 +2,7 @@
 
 //! Names of identifiers, by a table that the caller holds.
 
+pub use crate::erased::db_ref::{RefDatabase, RefNames};
 use crate::erased::error::Result;
 use crate::erased::oid::Oid;
 

@@ -14,7 +14,7 @@ pub(crate) fn arc_len(arc: Arc, is_first: bool) -> usize {
     if is_first { digits } else { digits + 1 }
 }
 
-/// Writes an arc at a place, after a dot unless it is the first, and tells the place after it.
+/// Writes an arc at an index, after a dot unless it is the first, and returns the index after it.
 #[inline]
 pub(crate) fn write_arc(arc: Arc, is_first: bool, out: &mut [u8], at: usize) -> usize {
     if is_first {
@@ -44,7 +44,7 @@ fn count_digits(arc: Arc) -> usize {
     }
 }
 
-/// Writes the digits of an arc at a place, the last of them first, and tells the place after them.
+/// Writes the digits of an arc at an index, the last of them first, and returns the index after them.
 #[inline]
 fn write_digits(arc: Arc, out: &mut [u8], at: usize) -> usize {
     if arc < 10 {
@@ -53,10 +53,10 @@ fn write_digits(arc: Arc, out: &mut [u8], at: usize) -> usize {
     }
     let end = at + count_digits(arc);
     let mut left = arc;
-    let mut place = end;
+    let mut index = end;
     while left >= 100 {
-        place -= 2;
-        write_pair(left % 100, out, place);
+        index -= 2;
+        write_pair(left % 100, out, index);
         left /= 100;
     }
     if left < 10 {
@@ -67,7 +67,7 @@ fn write_digits(arc: Arc, out: &mut [u8], at: usize) -> usize {
     end
 }
 
-/// Writes two digits at a place.
+/// Writes two digits at an index.
 #[inline]
 fn write_pair(pair: u32, out: &mut [u8], at: usize) {
     let from = pair as usize * 2;

@@ -13,7 +13,7 @@ pub type Result<T> = core::result::Result<T, Error>;
 /// Why a text, a list of arcs or octets are refused.
 #[derive(Copy, Clone, Debug, Eq, PartialEq, PartialOrd, Ord)]
 pub enum Error {
-    /// An arc of a text or a list is out of range for its place.
+    /// The first or the second arc of a text or a list is out of range.
     ArcInvalid {
         /// The arc.
         arc: Arc,
@@ -25,9 +25,9 @@ pub enum Error {
     /// A group of octets begins with 0x80 or does not end (X.690, 8.19.2).
     Base128,
 
-    /// Something else stands where a digit belongs.
+    /// A byte is not a digit where one is expected.
     DigitExpected {
-        /// The byte, in UTF-8 the first one of its character.
+        /// The byte: of a character in UTF-8, the first one.
         actual: u8,
     },
 
@@ -58,10 +58,10 @@ impl Error {
     /// ```
     pub fn text_len(self) -> usize {
         let (before, after) = self.words();
-        before.len() + self.shown_len() + after.len()
+        before.len() + self.detail_len() + after.len()
     }
 
-    /// Writes the text that `{}` writes at the start of `out`, and tells its length. `None` where it
+    /// Writes the text that `{}` writes at the start of `out`, and returns its length. `None` where it
     /// is longer than `out`, which then stays as it was.
     ///
     /// ```
@@ -75,7 +75,7 @@ impl Error {
         }
         let (before, after) = self.words();
         let at = write_bytes(before.as_bytes(), out, 0);
-        let at = self.write_shown(out, at);
+        let at = self.write_detail(out, at);
         Some(write_bytes(after.as_bytes(), out, at))
     }
 
@@ -106,8 +106,8 @@ impl Error {
         }
     }
 
-    /// How many bytes the number that the error carries takes.
-    fn shown_len(self) -> usize {
+    /// How many bytes the number that the error carries takes in the text.
+    fn detail_len(self) -> usize {
         match self {
             Error::ArcInvalid { arc } => arc_len(arc, true),
             Error::DigitExpected { actual } => char::from(actual).len_utf8(),
@@ -115,8 +115,8 @@ impl Error {
         }
     }
 
-    /// Writes the number that the error carries at a place, and tells the place after it.
-    fn write_shown(self, out: &mut [u8], at: usize) -> usize {
+    /// Writes the number that the error carries at an index, and returns the index after it.
+    fn write_detail(self, out: &mut [u8], at: usize) -> usize {
         match self {
             Error::ArcInvalid { arc } => write_arc(arc, true, out, at),
             Error::DigitExpected { actual } => {

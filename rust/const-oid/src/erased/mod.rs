@@ -7,6 +7,8 @@ pub mod buffer;
 mod compare;
 #[cfg(feature = "db")]
 pub mod db;
+#[cfg(feature = "db")]
+mod db_ref;
 mod digits;
 mod encoder;
 pub mod error;

@@ -188,7 +188,7 @@ impl<const MAX_SIZE: usize> ObjectIdentifier<MAX_SIZE> {
         ObjectIdentifierRef::from_checked(self.as_bytes())
     }
 
-    /// The arc at a place, counted from 0, or `None` past the last.
+    /// The arc at an index, counted from 0, or `None` past the last.
     ///
     /// ```
     /// use const_oid::ObjectIdentifier;
@@ -233,7 +233,7 @@ impl<const MAX_SIZE: usize> ObjectIdentifier<MAX_SIZE> {
         self.borrowed().text_len()
     }
 
-    /// Writes the text that `{}` writes at the start of `out`, and tells its length. `None` where it
+    /// Writes the text that `{}` writes at the start of `out`, and returns its length. `None` where it
     /// is longer than `out`, which then stays as it was.
     ///
     /// ```
