@@ -20,16 +20,16 @@ ghost use Rattle.const_oid.specs.Text.{text_fault, text_answer, text_of, pieces_
 ghost use Rattle.const_oid.specs.Tree.{BeginsWith, child_of, parent_of};
 ghost use Rattle.const_oid.specs.WideRule.{IsPastNarrow, RefusesSecond};
 
-/// Worked rows, which the definitions compute: under the rule that is kept, the last one apart.
+/// Examples, which the definitions compute: under the rule of this crate, but for the last one.
 pub fn examples()
     ensures read { arcs_of_octets (0x2A ∷ 0x86 ∷ 0x48 ∷ 0xCE ∷ 0x3D ∷ 2 ∷ 1 ∷ [])
         ≡ 1 ∷ 2 ∷ 840 ∷ 10045 ∷ 2 ∷ 1 ∷ [] }
     ensures two_octets { octet_answer root_rule (0x88 ∷ 0x37 ∷ []) 39 ≡ Ok (2 ∷ 999 ∷ []) }
-    ensures greatest { octet_answer root_rule (0x90 ∷ 0x80 ∷ 0x80 ∷ 0x80 ∷ 0x4F ∷ []) 39
+    ensures max_second { octet_answer root_rule (0x90 ∷ 0x80 ∷ 0x80 ∷ 0x80 ∷ 0x4F ∷ []) 39
         ≡ Ok (2 ∷ 4294967295 ∷ []) }
-    ensures past_greatest { octet_fault root_rule (0x90 ∷ 0x80 ∷ 0x80 ∷ 0x80 ∷ 0x50 ∷ []) 39
+    ensures past_max_second { octet_fault root_rule (0x90 ∷ 0x80 ∷ 0x80 ∷ 0x80 ∷ 0x50 ∷ []) 39
         ≡ Some ArcTooBig }
-    ensures one_below_greatest { octet_answer root_rule (0x90 ∷ 0x80 ∷ 0x80 ∷ 0x80 ∷ 0x4E ∷ []) 39
+    ensures below_max_second { octet_answer root_rule (0x90 ∷ 0x80 ∷ 0x80 ∷ 0x80 ∷ 0x4E ∷ []) 39
         ≡ Ok (2 ∷ 4294967294 ∷ []) }
     ensures zero_first { octet_fault root_rule (0x80 ∷ 1 ∷ []) 39 ≡ Some Base128 }
     ensures one_unfinished { octet_fault root_rule (0xFF ∷ []) 39 ≡ Some Base128 }
@@ -45,12 +45,12 @@ pub fn examples()
     ensures digit { text_fault root_rule (codes "1.2.429496729X") 39 ≡ Some (DigitExpected 0x58) }
     ensures single { text_fault root_rule (codes "1") 39 ≡ Some Empty }
     ensures taken { text_answer root_rule (codes "2.999") 39 ≡ Ok (2 ∷ 999 ∷ []) }
-    ensures greatest_text { text_answer root_rule (codes "2.4294967295") 39 ≡ Ok (2 ∷ 4294967295 ∷ []) }
-    ensures past_greatest_text { text_fault root_rule (codes "2.4294967296") 39 ≡ Some ArcTooBig }
+    ensures max_second_text { text_answer root_rule (codes "2.4294967295") 39 ≡ Ok (2 ∷ 4294967295 ∷ []) }
+    ensures past_max_second_text { text_fault root_rule (codes "2.4294967296") 39 ≡ Some ArcTooBig }
     ensures printed { text_of (1 ∷ 2 ∷ 840 ∷ []) ≡ codes "1.2.840" }
     ensures second_past_39 { item_fault root_rule (1 ∷ 40 ∷ 840 ∷ []) 39 ≡ Some (ArcInvalid 40) }
-    ensures greatest_item { item_answer root_rule (2 ∷ 4294967295 ∷ []) 39 ≡ Ok (2 ∷ 4294967295 ∷ []) }
-    ensures past_greatest_item { item_fault root_rule (2 ∷ 4294967296 ∷ []) 39 ≡ Some (ArcInvalid 4294967296) }
+    ensures max_second_item { item_answer root_rule (2 ∷ 4294967295 ∷ []) 39 ≡ Ok (2 ∷ 4294967295 ∷ []) }
+    ensures past_max_second_item { item_fault root_rule (2 ∷ 4294967296 ∷ []) 39 ≡ Some (ArcInvalid 4294967296) }
     ensures narrow { octet_fault Narrow (0xFF ∷ []) 39 ≡ Some (ArcInvalid 6) }
 {}
 
