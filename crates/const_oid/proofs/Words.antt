@@ -1,5 +1,5 @@
 -- Words of eight octets: they are the same where their octets are, and stand as these do in list order.
-use Rattle.std.proofs.Common.{◌≡◌, ◌≢◌, ℕ, zero, suc, ◌+◌, ◌*◌, ◌^◌, ◌<◌, ◌≤◌, List, [], ◌∷◌, ◌++◌, length, take, drop, refl, sym, ap, ap₂, ◌∙◌, arith, min, false, nat_eq, Less, Equal, Greater, nat_cmp, w64, pow-suc}
+use Rattle.std.proofs.Common.{◌≡◌, ◌≢◌, ℕ, zero, suc, ◌+◌, ◌*◌, ◌^◌, ◌<◌, ◌≤◌, List, [], ◌∷◌, ◌++◌, length, take, drop, refl, sym, ap, ap₂, ◌∙◌, arith, min, true, false, nat_eq, Less, Equal, Greater, nat_cmp, w64, pow-suc}
 use Rattle.std.proofs.Math.Seq.{take-add}
 use Rattle.std.specs.Int.{from_be_bytes}
 use Rattle.std.specs.Ordering.{ordering_then, is_eq}
@@ -125,21 +125,16 @@ rest_cmp xs ys at e =
     rest (a ∷ x) [] h = nat_cmp_is (suc (length x)) 0 Greater (omega arith)
     rest (a ∷ x) (b ∷ y) h = absurd (omega arith)
 
--- unequal words are not the same lists, and the last words tell
-pub unequal_lists : (xs ys : List ℕ) (at m n : ℕ) → AreWords xs ys at m n → m ≢ n → false ≡ pointwise nat_eq xs ys
-unequal_lists xs ys at m n w u = sym (texts_ties xs ys ∙ ap is_eq (sym (unequal_cmp xs ys at m n w u)) ∙ apart m n u)
-  where
-    apart : (m n : ℕ) → m ≢ n → is_eq (nat_cmp m n) ≡ false
-    apart m n u = grind (arith, nat_tests)
+-- unequal words are not of the same lists
+pub unequal_lists : (xs ys : List ℕ) (at m n : ℕ) → m ≡ from_be_bytes w64 (take 8 (drop at xs)) → n ≡ from_be_bytes w64 (take 8 (drop at ys)) → m ≢ n → false ≡ pointwise nat_eq xs ys
+unequal_lists xs ys at m n k l u =
+    sym (false_from_ne_true _ (λ t. u (k ∙ ap (λ zs. from_be_bytes w64 (take 8 (drop at zs))) (same_text xs ys (sym t)) ∙ sym l)))
 
-pub last_words : (xs ys : List ℕ) (at m n : ℕ) → AreWords xs ys at m n → length xs ≡ at + 8 → length ys ≡ at + 8 → nat_eq m n ≡ pointwise nat_eq xs ys
-last_words xs ys at m n w k l =
-    let c : take 8 (drop at xs) ≡ drop at xs = take_all 8 (drop at xs) (omega (arith, length-drop at xs)) in
-    let d : take 8 (drop at ys) ≡ drop at ys = take_all 8 (drop at ys) (omega (arith, length-drop at ys)) in
-    sym (texts_ties xs ys ∙ ap is_eq (after_same xs ys at w.same ∙ rw (c, d) at (chunks_cmp xs ys at m n w)) ∙ tells m n)
-  where
-    tells : (m n : ℕ) → is_eq (nat_cmp m n) ≡ nat_eq m n
-    tells m n = grind (arith, nat_tests)
+-- equal last words end the same lists
+pub last_words : (xs ys : List ℕ) (at m n : ℕ) → AreWords xs ys at m n → m ≡ n → length xs ≡ at + 8 → length ys ≡ at + 8 → true ≡ pointwise nat_eq xs ys
+last_words xs ys at m n w e k l =
+    let same : xs ≡ ys = sym (take_all (at + 8) xs (omega arith)) ∙ same_more xs ys at m n w e ∙ take_all (at + 8) ys (omega arith) in
+    sym (texts_ties xs ys ∙ ap is_eq (ap (λ zs. slice_cmp nat_cmp zs ys) same ∙ tied_itself nat_list_cmp_total ys))
 
 -- the same up to a place before
 pub same_less : (xs ys : List ℕ) (at less : ℕ) → less ≤ at → take at xs ≡ take at ys → take less xs ≡ take less ys

@@ -52,10 +52,12 @@ impl Iterator for Arcs<'_> {
                 Some(arc)
             }
             Next::Later => {
-                if self.octets.is_empty() {
-                    return None;
-                }
-                let (arc, later) = read_group(self.octets);
+                let (arc, later) = match self.octets {
+                    [] => return None,
+                    // The shortest group is the most frequent one.
+                    [octet, later @ ..] if *octet < 128 => (*octet as u64, later),
+                    longer => read_group(longer),
+                };
                 self.octets = later;
                 Some(arc as Arc)
             }

@@ -14,8 +14,8 @@ pub(crate) const fn begins_with(octets: &[u8], prefix: &[u8]) -> bool {
     are_equal(prefix, octets.split_at(prefix.len()).0)
 }
 
-/// Whether octets are the same: by words, of which the last one overlaps, or one by one where they
-/// are fewer than a word.
+/// Whether octets are the same: by words, of which the last one overlaps and is compared first, since
+/// most pairs differ there, or one by one where they are fewer than a word.
 #[inline(always)]
 pub(crate) const fn are_equal(a: &[u8], b: &[u8]) -> bool {
     let len = a.len();
@@ -25,14 +25,17 @@ pub(crate) const fn are_equal(a: &[u8], b: &[u8]) -> bool {
     if len < WORD {
         return are_few_equal(a, b);
     }
+    if word(a, len - WORD) != word(b, len - WORD) {
+        return false;
+    }
     let mut at = 0;
-    while at < len - WORD {
+    while len - at > WORD {
         if word(a, at) != word(b, at) {
             return false;
         }
         at += WORD;
     }
-    word(a, len - WORD) == word(b, len - WORD)
+    true
 }
 
 /// Whether as many octets are the same: the last one first, since most pairs differ there.
