@@ -6,14 +6,11 @@ ghost use Rattle.const_oid.specs.Base128.{value_of};
 ghost use Rattle.const_oid.specs.Identifier.{root_rule};
 ghost use Rattle.const_oid.specs.Contents.{cut, later_fault, parts_fault, max_first, arcs_from, arcs_of_octets};
 
-use crate::error::{Error, Result};
+use crate::Arc;
 use crate::parts::skip_parts;
 use std::marker::Model;
 
-/// An arc: a number of a path, of 32 bits.
-pub type Arc = u32;
-
-/// The arcs of an identifier that are left, in order; after the last there is none for ever.
+/// The arcs of an identifier that are left, in order. After the last comes `None`, each time.
 #[derive(Drop)]
 pub struct Arcs<'a> {
     next: Next,
@@ -89,8 +86,8 @@ impl Iterator for Arcs<'_> {
     }
 }
 
-/// The arc at a place, counted from 0, of octets without a fault, or `None` past the last. Parts
-/// before the one that holds it are passed over unread.
+/// The arc at an index, counted from 0, of octets without a fault, or `None` past the last. The parts
+/// before its own are not read.
 pub(crate) fn arc_at(octets: &[u8], index: usize) -> Option<Arc>
     requires { parts_fault root_rule (cut octets.now) ≡ None }
     ensures { result ≡ slice_get (arcs_of_octets octets.now) index }

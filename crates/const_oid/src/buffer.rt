@@ -130,13 +130,13 @@ impl<const SIZE: usize> Buffer<SIZE> {
 
 /// Copies octets to the start of as many or more. The loop makes it a constant function in Rust.
 #[inline(always)]
-fn copy_to(octets: &[u8], room: &mut [u8])
-    requires { length octets.now ≤ length room.old }
-    ensures { room.new ≡ octets.now ++ drop (length octets.now) room.old }
+fn copy_to(octets: &[u8], out: &mut [u8])
+    requires { length octets.now ≤ length out.old }
+    ensures { out.new ≡ octets.now ++ drop (length octets.now) out.old }
 {
     let mut index = 0;
     while index < octets.len() {
-        room[index] = octets[index];
+        out[index] = octets[index];
         index += 1;
     }
 }
@@ -156,7 +156,7 @@ const fn group_len(number: u64) -> usize
     }
 }
 
-/// Fills so many octets from a place on with the group of a number.
+/// Writes the group of a number, of so many octets, from an index on.
 #[inline(always)]
 fn write_group_at(octets: &mut [u8], start: usize, number: u64, count: usize)
     requires small { number < 2 ^ 35 }
@@ -170,7 +170,7 @@ fn write_group_at(octets: &mut [u8], start: usize, number: u64, count: usize)
     write_group(group, number);
 }
 
-/// Fills a slice with the group of a number, which takes just so many octets.
+/// Writes the group of a number into a slice, which is as long.
 #[inline(always)]
 fn write_group(octets: &mut [u8], number: u64)
     requires small { number < 2 ^ 35 }

@@ -2,7 +2,7 @@
 ghost use Rattle.std.specs.Prelude.{◌≡◌, ◌+◌, ◌<◌, ◌≤◌, ◌++◌, length, take, drop, decimal};
 ghost use Rattle.const_oid.specs.Private.Text.{arc_text, pair_text};
 
-use crate::arcs::Arc;
+use crate::Arc;
 
 /// The most bytes that an arc takes in a text: a dot, and ten digits.
 pub(crate) const MAX_ARC_LEN: usize = 11;

@@ -9,7 +9,7 @@ ghost use Rattle.std.specs.Iterator.{IsFiniteIterable};
 ghost use Rattle.const_oid.specs.Buffer.{octets_of};
 ghost use Rattle.const_oid.specs.Private.Encoder.{buffer_answer};
 
-use crate::arcs::Arc;
+use crate::Arc;
 use crate::buffer::Buffer;
 use crate::error::{Error, Result};
 use std::marker::Model;

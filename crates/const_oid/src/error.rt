@@ -2,7 +2,7 @@
 ghost use Rattle.std.specs.Prelude.{◌≡◌, ◌+◌, ◌<◌, ◌≤◌, ◌++◌, length, take, drop, None, Some, IfSome, IsSome, MatchOption};
 ghost use Rattle.std.specs.Str.{IsUtf8};
 
-use crate::arcs::Arc;
+use crate::Arc;
 use crate::digits::{arc_len, write_arc};
 use crate::text::{utf8, write_bytes};
 use std::fmt;

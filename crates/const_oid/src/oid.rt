@@ -12,7 +12,8 @@ ghost use Rattle.const_oid.specs.Identifier.{root_rule, usual_capacity, IsEncodi
 ghost use Rattle.const_oid.specs.Items.{TakesItems};
 ghost use Rattle.const_oid.specs.Tree.{BeginsWith, child_of, parent_of};
 
-use crate::arcs::{Arc, Arcs};
+use crate::Arc;
+use crate::arcs::Arcs;
 use crate::buffer::Buffer;
 use crate::encoder::encode;
 use crate::error::{Error, Result};

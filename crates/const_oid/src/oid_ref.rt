@@ -10,7 +10,8 @@ ghost use Rattle.const_oid.specs.Contents.{cut, parts_fault, octet_answer, borro
 ghost use Rattle.const_oid.specs.Identifier.{root_rule, IsEncoding};
 ghost use Rattle.const_oid.specs.Text.{text_of};
 
-use crate::arcs::{Arc, Arcs, arc_at};
+use crate::Arc;
+use crate::arcs::{Arcs, arc_at};
 use crate::compare::{are_equal, begins_with, order, order_by_parts};
 use crate::digits::{MAX_ARC_LEN, write_arc};
 use crate::error::{Error, Result};

@@ -11,7 +11,7 @@ ghost use Rattle.const_oid.specs.Identifier.{root_rule, IsEncoding};
 ghost use Rattle.const_oid.specs.Private.Parser.{dot_fault, last_fault};
 ghost use Rattle.const_oid.specs.Text.{text_answer};
 
-use crate::arcs::Arc;
+use crate::Arc;
 use crate::buffer::Buffer;
 use crate::encoder::Encoder;
 use crate::error::{Error, Result};

@@ -6,7 +6,7 @@ ghost use Rattle.const_oid.specs.Contents.{cut, later_fault, parts_fault, max_fi
 ghost use Rattle.const_oid.specs.Private.Octets.{fault_from};
 ghost use Rattle.const_oid.specs.Identifier.{root_rule, max_arc};
 
-use crate::arcs::Arc;
+use crate::Arc;
 use crate::error::{Error, Result};
 
 /// The greatest first subidentifier: of the first arc 2 and the greatest second arc.

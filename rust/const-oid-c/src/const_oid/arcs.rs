@@ -2,13 +2,10 @@
 
 //! Contents octets read as arcs (X.690, 8.19.2 to 8.19.4).
 
-use crate::const_oid::error::{Error, Result};
+use crate::const_oid::Arc;
 use crate::const_oid::parts::skip_parts;
 
-/// An arc: a number of a path, of 32 bits.
-pub type Arc = u32;
-
-/// The arcs of an identifier that are left, in order; after the last there is none for ever.
+/// The arcs of an identifier that are left, in order. After the last comes `None`, each time.
 pub struct Arcs<'a> {
     next: Next,
     octets: &'a [u8],
@@ -65,8 +62,8 @@ impl Iterator for Arcs<'_> {
     }
 }
 
-/// The arc at a place, counted from 0, of octets without a fault, or `None` past the last. Parts
-/// before the one that holds it are passed over unread.
+/// The arc at an index, counted from 0, of octets without a fault, or `None` past the last. The parts
+/// before its own are not read.
 pub(crate) fn arc_at(octets: &[u8], index: usize) -> Option<Arc> {
     if index < 2 {
         let (first, second) = split_root(read_group(octets).0);

@@ -89,10 +89,10 @@ impl<const SIZE: usize> Buffer<SIZE> {
 
 /// Copies octets to the start of as many or more. The loop makes it a constant function in Rust.
 #[inline(always)]
-fn copy_to(octets: &[u8], room: &mut [u8]) {
+fn copy_to(octets: &[u8], out: &mut [u8]) {
     let mut index = 0;
     while index < octets.len() {
-        room[index] = octets[index];
+        out[index] = octets[index];
         index += 1;
     }
 }
@@ -108,7 +108,7 @@ const fn group_len(number: u64) -> usize {
     }
 }
 
-/// Fills so many octets from a place on with the group of a number.
+/// Writes the group of a number, of so many octets, from an index on.
 #[inline(always)]
 fn write_group_at(octets: &mut [u8], start: usize, number: u64, count: usize) {
     let (_, free) = octets.split_at_mut(start);
@@ -116,7 +116,7 @@ fn write_group_at(octets: &mut [u8], start: usize, number: u64, count: usize) {
     write_group(group, number);
 }
 
-/// Fills a slice with the group of a number, which takes just so many octets.
+/// Writes the group of a number into a slice, which is as long.
 #[inline(always)]
 fn write_group(octets: &mut [u8], number: u64) {
     let mut index = octets.len() - 1;

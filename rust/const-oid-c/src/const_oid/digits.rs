@@ -2,7 +2,7 @@
 
 //! Arcs in decimal, written into bytes.
 
-use crate::const_oid::arcs::Arc;
+use crate::const_oid::Arc;
 
 /// The most bytes that an arc takes in a text: a dot, and ten digits.
 pub(crate) const MAX_ARC_LEN: usize = 11;

@@ -2,7 +2,7 @@
 
 //! The errors of this crate.
 
-use crate::const_oid::arcs::Arc;
+use crate::const_oid::Arc;
 use crate::const_oid::digits::{arc_len, write_arc};
 use crate::const_oid::text::{utf8, write_bytes};
 use core::fmt;

@@ -2,7 +2,8 @@
 
 //! Owned object identifiers.
 
-use crate::const_oid::arcs::{Arc, Arcs};
+use crate::const_oid::Arc;
+use crate::const_oid::arcs::Arcs;
 use crate::const_oid::buffer::Buffer;
 use crate::const_oid::encoder::encode;
 use crate::const_oid::error::{Error, Result};

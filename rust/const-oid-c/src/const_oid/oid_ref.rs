@@ -2,7 +2,8 @@
 
 //! Borrowed object identifiers.
 
-use crate::const_oid::arcs::{Arc, Arcs, arc_at};
+use crate::const_oid::Arc;
+use crate::const_oid::arcs::{Arcs, arc_at};
 use crate::const_oid::compare::{are_equal, begins_with, order, order_by_parts};
 use crate::const_oid::digits::{MAX_ARC_LEN, write_arc};
 use crate::const_oid::error::{Error, Result};

@@ -2,7 +2,7 @@
 
 //! Dotted text to octets.
 
-use crate::const_oid::arcs::Arc;
+use crate::const_oid::Arc;
 use crate::const_oid::buffer::Buffer;
 use crate::const_oid::encoder::Encoder;
 use crate::const_oid::error::{Error, Result};

@@ -2,7 +2,7 @@
 
 //! Octets checked for faults (X.690, 8.19.2).
 
-use crate::const_oid::arcs::Arc;
+use crate::const_oid::Arc;
 use crate::const_oid::error::{Error, Result};
 
 /// The greatest first subidentifier: of the first arc 2 and the greatest second arc.

@@ -89,8 +89,8 @@ fn order_few(a: &[u8], b: &[u8]) -> Ordering {
 /// How many octets a word has.
 const WORD: usize = 8;
 
-/// The eight octets from a place on as a number, of which the first is the greatest: so words stand
-/// as their octets do in list order.
+/// The eight octets from an index on as a number, the first one the most significant: so words have the
+/// list order of their octets.
 #[inline(always)]
 const fn word(octets: &[u8], at: usize) -> u64 {
     match octets.split_at(at).1.first_chunk::<WORD>() {
@@ -101,7 +101,7 @@ const fn word(octets: &[u8], at: usize) -> u64 {
 
 /// The octets in the order of their parts, of which a shorter one is first.
 ///
-/// Where they differ first, the parts begin at one place: so the part that goes on for longer from
+/// Where they differ first, the parts begin at one index. So the part that goes on for longer from
 /// there is the longer one.
 pub(crate) fn order_by_parts(a: &[u8], b: &[u8]) -> Ordering {
     let near = a.len().min(b.len());

@@ -2,7 +2,7 @@
 
 //! Arcs in decimal, written into bytes.
 
-use crate::erased::arcs::Arc;
+use crate::erased::Arc;
 
 /// The most bytes that an arc takes in a text: a dot, and ten digits.
 pub(crate) const MAX_ARC_LEN: usize = 11;

@@ -2,7 +2,7 @@
 
 //! Arcs, one after another, to octets.
 
-use crate::erased::arcs::Arc;
+use crate::erased::Arc;
 use crate::erased::buffer::Buffer;
 use crate::erased::error::{Error, Result};
 

@@ -2,7 +2,7 @@
 
 //! The errors of this crate.
 
-use crate::erased::arcs::Arc;
+use crate::erased::Arc;
 use crate::erased::digits::{arc_len, write_arc};
 use crate::erased::text::{utf8, write_bytes};
 use core::fmt;

@@ -2,7 +2,8 @@
 
 //! Owned object identifiers.
 
-use crate::erased::arcs::{Arc, Arcs};
+use crate::erased::Arc;
+use crate::erased::arcs::Arcs;
 use crate::erased::buffer::Buffer;
 use crate::erased::encoder::encode;
 use crate::erased::error::{Error, Result};

@@ -2,7 +2,8 @@
 
 //! Borrowed object identifiers.
 
-use crate::erased::arcs::{Arc, Arcs, arc_at};
+use crate::erased::Arc;
+use crate::erased::arcs::{Arcs, arc_at};
 use crate::erased::compare::{are_equal, begins_with, order, order_by_parts};
 use crate::erased::digits::{MAX_ARC_LEN, write_arc};
 use crate::erased::error::{Error, Result};

@@ -2,7 +2,7 @@
 
 //! Dotted text to octets.
 
-use crate::erased::arcs::Arc;
+use crate::erased::Arc;
 use crate::erased::buffer::Buffer;
 use crate::erased::encoder::Encoder;
 use crate::erased::error::{Error, Result};

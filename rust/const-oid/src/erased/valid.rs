@@ -2,7 +2,7 @@
 
 //! Octets checked for faults (X.690, 8.19.2).
 
-use crate::erased::arcs::Arc;
+use crate::erased::Arc;
 use crate::erased::error::{Error, Result};
 
 /// The greatest first subidentifier: of the first arc 2 and the greatest second arc.

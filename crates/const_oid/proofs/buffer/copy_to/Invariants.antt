@@ -3,8 +3,8 @@ use Rattle.const_oid.proofs.buffer.copy_to.Given as goal
 
 abbrev pub invariant-loop-index : goal.invariant-loop-index
 invariant-loop-index l = record {
-  written : take l.index l.room ≡ take l.index l.octets;
-  left : drop l.index l.room ≡ drop l.index l.initial.room;
+  written : take l.index l.out ≡ take l.index l.octets;
+  left : drop l.index l.out ≡ drop l.index l.initial.out;
   within : l.index ≤ length l.octets;
 }
 
