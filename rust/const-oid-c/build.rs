@@ -1,4 +1,4 @@
-//! The shared library has the name of its first version that programs find it by.
+//! Names the shared library by its major version, as programs look for it.
 
 fn main() {
     println!("cargo::rerun-if-changed=build.rs");

@@ -1,6 +1,6 @@
-//! Measures this library beside the Rust crate const-oid, both in one process and in turns, and prints a table of times
-//! and, where valgrind is installed, one of instructions.
-//! Arguments: fronts of row names, as "repeated len" (none: all rows). Environment: see `bench/run`.
+//! Measures this library and the Rust crate const-oid by turns, in one process. Prints a table of times and, if valgrind
+//! is installed, a table of instructions.
+//! Arguments: prefixes of row names, such as "repeated len" (none: all rows). Environment: see `bench/run`.
 
 mod rows;
 mod sides;
@@ -13,8 +13,8 @@ use std::process::{Command, ExitCode, Stdio};
 use std::time::Instant;
 use std::{env, thread};
 
-/// Compares the answers of both sides over inputs that both accept or refuse alike: without groups that begin with
-/// 0x80, arcs past 32 bits and second arcs past 39. Gives the number of differences, and tells the first ones.
+/// Compares the answers of both sides to inputs that both should answer alike: without groups that begin with 0x80, arcs
+/// past 32 bits and second arcs past 39. Returns the number of differences, and prints the first ones.
 fn differences(dice: &mut Dice) -> usize {
     let of_octets: [(&str, Call, Call, u64); 8] = [
         ("from_bytes, owned", ours_owned, rust_owned, 0),
@@ -60,7 +60,7 @@ fn differences(dice: &mut Dice) -> usize {
     count
 }
 
-/// Nanoseconds of each operation on ours and on the Rust crate: medians over rounds, in which both take turns.
+/// The nanoseconds of an operation on our side and on the Rust crate: medians over rounds, in which both take turns.
 fn times(row: &Row, rounds: usize) -> [f64; 2] {
     let time = |side: usize, repeats: u64| {
         let start = Instant::now();
@@ -82,7 +82,7 @@ fn times(row: &Row, rounds: usize) -> [f64; 2] {
     taken.map(median)
 }
 
-/// Runs one row alone on one side, so many rounds: what valgrind counts.
+/// Runs one row alone on one side, so that valgrind counts its instructions.
 fn run_alone(name: &str, size: &str, side: usize, rounds: u64) {
     let rows = rows::small(&mut Dice::new());
     if let Some(row) = rows.iter().find(|row| row.name == name && row.size == size) {
@@ -90,16 +90,16 @@ fn run_alone(name: &str, size: &str, side: usize, rounds: u64) {
     }
 }
 
-/// Instructions of a run of one row alone, or nothing where there is no valgrind.
+/// The instructions of a run of one row alone, or nothing if there is no valgrind.
 fn counted(row: &Row, side: usize, rounds: u64) -> Option<f64> {
     let mut valgrind = Command::new("valgrind");
     valgrind.args(["--tool=callgrind", "--callgrind-out-file=/dev/null"]).arg(env::current_exe().ok()?);
     valgrind.args(["--alone", &row.name, &row.size, &side.to_string(), &rounds.to_string()]);
-    let told = String::from_utf8(valgrind.output().ok()?.stderr).ok()?;
-    told.lines().find_map(|line| line.split_once("Collected : "))?.1.trim().parse().ok()
+    let report = String::from_utf8(valgrind.output().ok()?.stderr).ok()?;
+    report.lines().find_map(|line| line.split_once("Collected : "))?.1.trim().parse().ok()
 }
 
-/// Instructions of each operation on ours and on the Rust crate: those of more rounds, without those of fewer.
+/// The instructions of an operation on our side and on the Rust crate: those of more rounds, minus those of fewer.
 fn instructions(row: &Row) -> Option<[f64; 2]> {
     let each = |side| Some((counted(row, side, 250)? - counted(row, side, 50)?) / (200 * row.each_round) as f64);
     Some([each(0)?, each(1)?])
@@ -121,17 +121,17 @@ fn median(mut values: Vec<f64>) -> f64 {
     values[values.len() / 2]
 }
 
-/// Starts a program, hands it the input, and waits for its end: what it wrote, where `told`, and the nanoseconds.
-fn process(program: &str, input: &[u8], told: bool) -> (Vec<u8>, f64) {
+/// Runs a program over an input. Returns its output, if `with_output`, and the nanoseconds.
+fn process(program: &str, input: &[u8], with_output: bool) -> (Vec<u8>, f64) {
     let start = Instant::now();
-    let output = if told { Stdio::piped() } else { Stdio::null() };
+    let output = if with_output { Stdio::piped() } else { Stdio::null() };
     let mut child = Command::new(program).stdin(Stdio::piped()).stdout(output).spawn().expect(program);
     let _ = child.stdin.take().map(|mut pipe| pipe.write_all(input));
     let output = child.wait_with_output().expect(program);
     (output.stdout, start.elapsed().as_secs_f64() * 1e9)
 }
 
-/// The rows of the tool, from the start of the process to its end.
+/// The rows of the tool. Each time is that of a whole process.
 fn tool_rows(tool: &str, rounds: usize) {
     let unknown = "error: unknown command\n".repeat(4096);
     let inputs = [("4096 empty lines", "\n".repeat(4096), unknown), ("one line", "text 2A03\n".into(), "1.2.3\n".into())];
@@ -149,8 +149,8 @@ fn tool_rows(tool: &str, rounds: usize) {
 }
 
 fn run() -> ExitCode {
-    let fronts: Vec<String> = env::args().skip(1).filter(|front| !front.is_empty()).collect();
-    let wanted = |name: &str| fronts.is_empty() || fronts.iter().any(|front| name.starts_with(front.as_str()));
+    let prefixes: Vec<String> = env::args().skip(1).filter(|prefix| !prefix.is_empty()).collect();
+    let wanted = |name: &str| prefixes.is_empty() || prefixes.iter().any(|prefix| name.starts_with(prefix.as_str()));
     let rounds = env::var("ROUNDS").ok().and_then(|text| text.parse().ok()).unwrap_or(31);
     let mut dice = Dice::new();
     let mut count = differences(&mut dice);
@@ -190,7 +190,7 @@ fn main() -> ExitCode {
         run_alone(name, size, side.parse().expect("a side"), rounds.parse().expect("a number of rounds"));
         return ExitCode::SUCCESS;
     }
-    // The crate's parser may call itself once a byte, so it is given a deep stack.
+    // The parser of the crate may call itself once a byte, so the thread has a large stack.
     let work = thread::Builder::new().stack_size(1 << 28).spawn(run);
     work.expect("a thread").join().unwrap_or(ExitCode::FAILURE)
 }

@@ -3,7 +3,7 @@
 use crate::sides::*;
 use std::hint::black_box;
 
-/// An operation at a size. `run` repeats it so many rounds on ours (0) or on the Rust crate (1), and sums the answers.
+/// An operation at a size. `run` repeats it, on our side (0) or on the Rust crate (1), and sums the answers.
 pub struct Row {
     pub name: String,
     pub size: String,
@@ -12,7 +12,7 @@ pub struct Row {
     pub run: [Box<dyn Fn(u64) -> u64>; 2],
 }
 
-/// Numbers that are the same in each run (xorshift).
+/// Random numbers, which are the same in each run (xorshift).
 pub struct Dice(u64);
 
 impl Dice {
@@ -40,7 +40,7 @@ impl Dice {
     }
 }
 
-/// The answer of a call and what it made.
+/// The answer of a call and its output.
 pub fn answer(call: Call, input: &[u8], number: u64) -> (u64, Vec<u8>) {
     let mut output = vec![0; 64 + 4 * input.len()];
     let answer = unsafe { call(input.as_ptr(), input.len(), number, output.as_mut_ptr(), output.len()) };
@@ -48,7 +48,7 @@ pub fn answer(call: Call, input: &[u8], number: u64) -> (u64, Vec<u8>) {
     (answer, output)
 }
 
-/// Calls: one operation each, on each input in turn.
+/// A row of calls, one for each input.
 fn of_calls(name: &str, size: &str, goal: f64, inputs: &[Vec<u8>], number: u64, calls: [Call; 2]) -> Row {
     let run = calls.map(|call| {
         let inputs = inputs.to_vec();
@@ -57,8 +57,8 @@ fn of_calls(name: &str, size: &str, goal: f64, inputs: &[Vec<u8>], number: u64, 
             let mut total = 0u64;
             for _ in 0..rounds {
                 for input in &inputs {
-                    let room = output.len();
-                    let answer = unsafe { black_box(call)(input.as_ptr(), input.len(), number, output.as_mut_ptr(), room) };
+                    let output_len = output.len();
+                    let answer = unsafe { black_box(call)(input.as_ptr(), input.len(), number, output.as_mut_ptr(), output_len) };
                     total = total.wrapping_mul(31).wrapping_add(answer);
                 }
             }
@@ -68,7 +68,7 @@ fn of_calls(name: &str, size: &str, goal: f64, inputs: &[Vec<u8>], number: u64, 
     Row { name: format!("call {name}"), size: size.into(), goal, each_round: inputs.len(), run }
 }
 
-/// One function that reads what it works on, and then repeats the operation.
+/// A row of one function that reads its values once, and then repeats the operation.
 fn of_rounds(name: &str, size: &str, goal: f64, each_round: usize, run: impl Fn(bool, u64) -> u64 + Clone + 'static) -> Row {
     let rust = run.clone();
     Row {
@@ -80,7 +80,7 @@ fn of_rounds(name: &str, size: &str, goal: f64, each_round: usize, run: impl Fn(
     }
 }
 
-/// Rows of small identifiers, of which instructions are counted too.
+/// The rows of small identifiers. Their instructions are counted, too.
 pub fn small(dice: &mut Dice) -> Vec<Row> {
     let mut rows = vec![];
     for (octets, size, goal) in [(3, "short", 1.0), (9, "typical", 0.55), (39, "long", 0.5)] {
@@ -140,15 +140,15 @@ const TYPICAL: [&[u8; 9]; 16] = [
     b"\x60\x86\x48\x01\x86\xf8\x42\x01\x01", b"\x2b\x06\x01\x04\x01\x82\x37\x14\x02",
 ];
 
-/// Sixteen identifiers of so many octets, in an order by chance.
+/// Sixteen identifiers of so many octets, in a random order.
 fn set_of(octets: usize, dice: &mut Dice) -> Vec<Vec<u8>> {
     let mut set: Vec<Vec<u8>> = match octets {
         3 => SHORT.iter().map(|octets| octets.to_vec()).collect(),
         9 => TYPICAL.iter().map(|octets| octets.to_vec()).collect(),
         _ => (0..16).map(|_| dice.identifier(octets)).collect(),
     };
-    for place in (1..set.len()).rev() {
-        set.swap(place, dice.below(place as u64 + 1) as usize);
+    for index in (1..set.len()).rev() {
+        set.swap(index, dice.below(index as u64 + 1) as usize);
     }
     set
 }
@@ -201,10 +201,10 @@ fn repeated_rows(size: &str, goal: f64, set: &[Vec<u8>]) -> Vec<Row> {
 
 /// So many identifiers 1.3.6.A.B.C in order, of five octets each.
 fn listed(count: usize) -> Vec<u8> {
-    (0..count).flat_map(|place| [0x2b, 6, (place / 10_000) as u8, (place / 100 % 100) as u8, (place % 100) as u8]).collect()
+    (0..count).flat_map(|index| [0x2b, 6, (index / 10_000) as u8, (index / 100 % 100) as u8, (index % 100) as u8]).collect()
 }
 
 /// So many lines of names, of different lengths.
 fn words(count: usize) -> String {
-    (0..count).map(|place| format!("id-{}{place}\n", "key".repeat(place % 5))).collect()
+    (0..count).map(|index| format!("id-{}{index}\n", "key".repeat(index % 5))).collect()
 }

@@ -1,4 +1,4 @@
-//! Both sides behind functions of one shape: the interface of this library, and the Rust crate called the same way.
+//! Both sides as functions of one shape: the interface of this library, and the Rust crate called in the same way.
 
 use const_oid::db::Database;
 use const_oid::{Error, ObjectIdentifier, ObjectIdentifierRef};
@@ -8,7 +8,7 @@ use std::{cmp, fmt, mem, slice, str};
 type Oid = ObjectIdentifier<39>;
 type Result<T> = std::result::Result<T, Error>;
 
-/// One operation: input, a number, room for what is made.
+/// One operation: the input with its length, a number, and the output with its length.
 pub type Call = unsafe extern "C" fn(*const u8, usize, u64, *mut u8, usize) -> u64;
 
 const NOTHING: u64 = u64::MAX;
@@ -17,11 +17,11 @@ const REFUSED: u64 = 1 << 63;
 macro_rules! calls {
     ($($ours:ident $rust:ident |$input:ident, $number:ident, $output:ident| $body:expr;)*) => {
         unsafe extern "C" {
-            $(pub fn $ours(input: *const u8, length: usize, number: u64, output: *mut u8, room: usize) -> u64;)*
+            $(pub fn $ours(input: *const u8, length: usize, number: u64, output: *mut u8, output_len: usize) -> u64;)*
         }
-        $(pub unsafe extern "C" fn $rust(input: *const u8, length: usize, $number: u64, output: *mut u8, room: usize) -> u64 {
+        $(pub unsafe extern "C" fn $rust(input: *const u8, length: usize, $number: u64, output: *mut u8, output_len: usize) -> u64 {
             let $input = unsafe { slice::from_raw_parts(input, length) };
-            let $output = unsafe { slice::from_raw_parts_mut(output, room) };
+            let $output = unsafe { slice::from_raw_parts_mut(output, output_len) };
             $body
         })*
     };
@@ -29,28 +29,28 @@ macro_rules! calls {
 
 calls! {
     ours_new rust_new |text, _number, output| match str::from_utf8(text) {
-        Ok(text) => told(Oid::new(text).map(|oid| hand_out(oid.as_bytes(), output))),
+        Ok(text) => coded(Oid::new(text).map(|oid| copy_out(oid.as_bytes(), output))),
         Err(_) => NOTHING,
     };
     ours_owned rust_owned |octets, _number, _output|
-        told(Oid::from_bytes(octets).map(|oid| oid.as_bytes().len() as u64));
+        coded(Oid::from_bytes(octets).map(|oid| oid.as_bytes().len() as u64));
     ours_borrowed rust_borrowed |octets, _number, _output|
-        told(ObjectIdentifierRef::from_bytes(octets).map(|oid| oid.as_bytes().len() as u64));
+        coded(ObjectIdentifierRef::from_bytes(octets).map(|oid| oid.as_bytes().len() as u64));
     ours_print rust_print |octets, _number, output|
-        told(ObjectIdentifierRef::from_bytes(octets).map(|oid| print(oid, output)));
+        coded(ObjectIdentifierRef::from_bytes(octets).map(|oid| print(oid, output)));
     ours_len rust_len |octets, _number, _output|
-        told(ObjectIdentifierRef::from_bytes(octets).map(|oid| oid.len() as u64));
+        coded(ObjectIdentifierRef::from_bytes(octets).map(|oid| oid.len() as u64));
     ours_arc rust_arc |octets, number, _output|
-        told(ObjectIdentifierRef::from_bytes(octets).map(|oid| oid.arc(number as usize).map_or(NOTHING, u64::from)));
+        coded(ObjectIdentifierRef::from_bytes(octets).map(|oid| oid.arc(number as usize).map_or(NOTHING, u64::from)));
     ours_parent rust_parent |octets, _number, output|
-        told(Oid::from_bytes(octets).map(|oid| oid.parent().map_or(NOTHING, |parent| hand_out(parent.as_bytes(), output))));
+        coded(Oid::from_bytes(octets).map(|oid| oid.parent().map_or(NOTHING, |parent| copy_out(parent.as_bytes(), output))));
     ours_push_arc rust_push_arc |octets, number, output|
-        told(Oid::from_bytes(octets).and_then(|oid| oid.push_arc(number.min(0xffff_ffff) as u32))
-            .map(|oid| hand_out(oid.as_bytes(), output)));
-    ours_compared rust_compared |octets, number, _output| told(pair(octets, number).map(|(first, second)| {
+        coded(Oid::from_bytes(octets).and_then(|oid| oid.push_arc(number.min(0xffff_ffff) as u32))
+            .map(|oid| copy_out(oid.as_bytes(), output)));
+    ours_compared rust_compared |octets, number, _output| coded(pair(octets, number).map(|(first, second)| {
         let borrowed = first.as_oid_ref().cmp(second.as_oid_ref());
         let flags = u64::from(first.starts_with(second)) | u64::from(first == second) << 1;
-        flags | place(first.cmp(&second)) << 2 | place(borrowed) << 4
+        flags | order_number(first.cmp(&second)) << 2 | order_number(borrowed) << 4
     }));
 }
 
@@ -60,7 +60,7 @@ unsafe extern "C" {
     fn ours_names(set: *const u8, length: usize, size: u64, names: *const u8, bytes: usize, by_name: bool, rounds: u64) -> u64;
 }
 
-/// Reads a set once, and then repeats an operation on each of it, `rounds` times: ours where `ours`, else the crate's.
+/// Reads a set once, and then repeats an operation on each of its identifiers: ours if `ours`, or else that of the crate.
 pub fn repeated(ours: bool, set: &[u8], size: usize, operation: u64, number: u64, rounds: u64) -> u64 {
     if ours {
         return unsafe { ours_repeated(set.as_ptr(), set.len(), size as u64, operation, number, rounds) };
@@ -86,9 +86,9 @@ pub fn subtree(ours: bool, set: &[u8], rounds: u64) -> u64 {
     for round in 0..rounds {
         let key = &pieces[scattered(round, pieces.len())];
         let oid = ObjectIdentifierRef::from_bytes(&key[..3 + (round % 3) as usize]).unwrap();
-        let from = list.partition_point(|other| *other < oid);
-        let to = from + list[from..].partition_point(|other| other.as_bytes().starts_with(oid.as_bytes()));
-        total = total.wrapping_mul(31).wrapping_add((from ^ to) as u64);
+        let start = list.partition_point(|other| *other < oid);
+        let end = start + list[start..].partition_point(|other| other.as_bytes().starts_with(oid.as_bytes()));
+        total = total.wrapping_mul(31).wrapping_add((start ^ end) as u64);
     }
     total
 }
@@ -99,7 +99,7 @@ pub fn names(ours: bool, set: &[u8], size: usize, names: &str, by_name: bool, ro
     }
     let oids = read(set, size);
     let entries: Vec<(&Oid, &str)> = oids.iter().zip(names.lines()).collect();
-    // The crate makes no table but its own. A `Database` is one field, this slice; the answers are compared.
+    // The crate makes only its own table. A `Database` has one field, which is this slice. The answers are compared.
     let table = unsafe { mem::transmute::<&[(&Oid, &str)], Database<'_>>(&entries) };
     let mut total = 0u64;
     for round in 0..rounds {
@@ -127,13 +127,13 @@ fn once(oids: &[Oid], partners: &mut [Oid], operation: u64, number: u64) -> u64 
         5 => sum(oids, partners, |oid, _| oid.arc(number as usize).map_or(NOTHING, u64::from)),
         6 => sum(oids, partners, |oid, _| sum_of_arcs(oid)),
         7 => sum(oids, partners, |oid, partner| u64::from(oid.starts_with(*partner))),
-        8 => sum(oids, partners, |oid, partner| place(oid.cmp(partner))),
-        9 => sum(oids, partners, |oid, partner| place(oid.as_oid_ref().cmp(partner.as_oid_ref()))),
+        8 => sum(oids, partners, |oid, partner| order_number(oid.cmp(partner))),
+        9 => sum(oids, partners, |oid, partner| order_number(oid.as_oid_ref().cmp(partner.as_oid_ref()))),
         10 => sum(oids, partners, |oid, partner| u64::from(oid == partner)),
-        12 => sum(oids, partners, |oid, partner| place(oid.arcs().cmp(partner.arcs()))),
+        12 => sum(oids, partners, |oid, partner| order_number(oid.arcs().cmp(partner.arcs()))),
         _ => sum(oids, partners, |oid, _| {
-            let mut room = [0; 160];
-            print(oid, &mut room).wrapping_add(u64::from(room[20]))
+            let mut text = [0; 160];
+            print(oid, &mut text).wrapping_add(u64::from(text[20]))
         }),
     }
 }
@@ -165,7 +165,7 @@ fn scattered(round: u64, count: usize) -> usize {
     (round.wrapping_mul(7919) % count as u64) as usize
 }
 
-fn told(answer: Result<u64>) -> u64 {
+fn coded(answer: Result<u64>) -> u64 {
     match answer {
         Ok(number) => number,
         Err(Error::ArcInvalid { arc }) => REFUSED + (u64::from(arc) << 8),
@@ -180,7 +180,7 @@ fn told(answer: Result<u64>) -> u64 {
     }
 }
 
-fn place(order: cmp::Ordering) -> u64 {
+fn order_number(order: cmp::Ordering) -> u64 {
     (order as i8 + 1) as u64
 }
 
@@ -189,29 +189,29 @@ fn pair(octets: &[u8], number: u64) -> Result<(Oid, Oid)> {
     Ok((Oid::from_bytes(first)?, Oid::from_bytes(second)?))
 }
 
-fn hand_out(octets: &[u8], output: &mut [u8]) -> u64 {
+fn copy_out(octets: &[u8], output: &mut [u8]) -> u64 {
     output[..octets.len()].copy_from_slice(octets);
     octets.len() as u64
 }
 
 struct Page<'a> {
-    room: &'a mut [u8],
+    bytes: &'a mut [u8],
     used: usize,
 }
 
 impl fmt::Write for Page<'_> {
     fn write_str(&mut self, text: &str) -> fmt::Result {
-        if text.len() > self.room.len() - self.used {
+        if text.len() > self.bytes.len() - self.used {
             return Err(fmt::Error);
         }
         let end = self.used + text.len();
-        self.room[self.used..end].copy_from_slice(text.as_bytes());
+        self.bytes[self.used..end].copy_from_slice(text.as_bytes());
         self.used = end;
         Ok(())
     }
 }
 
 fn print<T: fmt::Display + ?Sized>(value: &T, output: &mut [u8]) -> u64 {
-    let mut page = Page { room: output, used: 0 };
+    let mut page = Page { bytes: output, used: 0 };
     write!(page, "{value}").map_or(NOTHING, |()| page.used as u64)
 }

@@ -1,4 +1,4 @@
-"""Object identifiers by ctypes over libconst_oid_c.so.1: octets are bytes, and a fault is an exception."""
+"""Object identifiers by ctypes over libconst_oid_c.so.1. Octets are bytes, and a fault is an exception."""
 import ctypes
 import os
 
@@ -13,6 +13,7 @@ class OidError(ValueError):
         self.code, self.detail = status.code, status.detail
 
 
+_OUTPUT_TOO_SHORT = 10
 _library = ctypes.CDLL(os.environ.get("CONST_OID_LIBRARY", "libconst_oid_c.so.1"))
 
 
@@ -21,7 +22,7 @@ def _written(name, *inputs):
     call = getattr(_library, "const_oid_" + name)
     call.restype = Status
     status, out = call(*inputs, None, ctypes.c_size_t(0)), None
-    if status.code == 10:
+    if status.code == _OUTPUT_TOO_SHORT:
         out = ctypes.create_string_buffer(status.len)
         status = call(*inputs, out, ctypes.c_size_t(status.len))
     if status.code:

@@ -1,5 +1,5 @@
-/* Answers each row of standard input by the library, and prints the row so that a right answer gives
- * the very row: `call input = answer`. A row that begins with '#' is printed as it is. */
+/* Reads rows `call input = answer` from standard input, and prints each one with the answer of the
+ * library. A right answer makes the same row. A row that begins with '#' is printed unchanged. */
 #include "const_oid.h"
 
 #include <inttypes.h>
@@ -9,7 +9,7 @@
 
 enum { LINE = 65536, MOST = 4096 };
 
-/* Octets that were read from hexadecimal digits. */
+/* The octets that hexadecimal digits denote. */
 typedef struct {
     uint8_t octets[MOST];
     size_t len;
@@ -31,7 +31,7 @@ static bytes read_hex(const char *digits) {
     return read;
 }
 
-/* The next word of a row, or "" behind the last. */
+/* The next word of a row, or "" after the last one. */
 static char *word(char **rest) {
     char *start = *rest;
     char *end = strchr(start, ' ');
@@ -65,7 +65,7 @@ static void refused(const_oid_status status) {
     }
 }
 
-/* Prints octets that were written, or why none were. */
+/* Prints the octets that a call wrote, or why it wrote none. */
 static void written(const_oid_status status, const uint8_t *octets) {
     if (status.code != CONST_OID_OK) {
         refused(status);
@@ -74,12 +74,13 @@ static void written(const_oid_status status, const uint8_t *octets) {
     for (size_t i = 0; i < status.len; i++) printf("%02X", octets[i]);
 }
 
-/* Whether a call with one item less of room than `status` has wrote nothing, and wants `len`. */
-static void no_room(const_oid_status status, const_oid_status less, const uint8_t *out, size_t size) {
+/* Fails unless a call whose output is one item shorter than the answer of `status` says so, and wrote
+ * nothing. */
+static void too_short(const_oid_status status, const_oid_status less, const uint8_t *out, size_t size) {
     if (status.code != CONST_OID_OK) return;
-    if (less.code != CONST_OID_NO_ROOM || less.len != status.len) fail("no room is not the answer");
+    if (less.code != CONST_OID_OUTPUT_TOO_SHORT || less.len != status.len) fail("a short output is not refused");
     for (size_t i = 0; i < size; i++)
-        if (out[i] != 0xEE) fail("something was written where there is no room");
+        if (out[i] != 0xEE) fail("a short output was written");
 }
 
 static void text_row(const uint8_t *text, size_t len) {
@@ -88,7 +89,7 @@ static void text_row(const uint8_t *text, size_t len) {
     const_oid_status status = const_oid_from_text(text, len, out, sizeof out);
     memset(less, 0xEE, sizeof less);
     if (status.code == CONST_OID_OK)
-        no_room(status, const_oid_from_text(text, len, less, status.len - 1), less, sizeof less);
+        too_short(status, const_oid_from_text(text, len, less, status.len - 1), less, sizeof less);
     written(status, out);
 }
 
@@ -109,9 +110,9 @@ static void octets_row(char *rest) {
         return;
     }
     memset(less, 0xEE, sizeof less);
-    no_room(printed, const_oid_to_text(row.octets, row.len, less, printed.len - 1), less, sizeof less);
+    too_short(printed, const_oid_to_text(row.octets, row.len, less, printed.len - 1), less, sizeof less);
     memset(few, 0xEE, sizeof few);
-    no_room(all, const_oid_arcs(row.octets, row.len, few, all.len - 1), (const uint8_t *)few, sizeof few);
+    too_short(all, const_oid_arcs(row.octets, row.len, few, all.len - 1), (const uint8_t *)few, sizeof few);
     printf("%.*s, %zu arcs", (int)printed.len, (const char *)text, count.len);
     for (size_t i = 0; i < count.len; i++) {
         const_oid_status arc = const_oid_arc(row.octets, row.len, i);
@@ -133,7 +134,7 @@ static void arcs_row(char *rest) {
 static void subtree_row(char *rest) {
     static bytes rows[MOST];
     static const_oid_octets sorted[MOST];
-    const_oid_places places = {7, 7};
+    const_oid_range range = {7, 7};
     bytes prefix = read_hex(word(&rest));
     size_t count = 0;
     while (*rest != 0 && count < MOST) {
@@ -142,12 +143,12 @@ static void subtree_row(char *rest) {
         sorted[count].len = rows[count].len;
         count++;
     }
-    const_oid_status status = const_oid_subtree(prefix.octets, prefix.len, sorted, count, &places);
+    const_oid_status status = const_oid_subtree(prefix.octets, prefix.len, sorted, count, &range);
     if (status.code == CONST_OID_OK) {
-        printf("%zu %zu", places.from, places.to);
+        printf("%zu %zu", range.start, range.end);
         return;
     }
-    if (places.from != 7 || places.to != 7) fail("places were written");
+    if (range.start != 7 || range.end != 7) fail("a range was written");
     refused(status);
     if (const_oid_check(prefix.octets, prefix.len).code == CONST_OID_OK) printf(" at %zu", status.len);
 }

@@ -1,4 +1,4 @@
-// The calls from C++: texts and octets are handed in where they lie, in string_view and vector.
+// The calls from C++, over the texts and octets of string_view and vector.
 #include "const_oid.h"
 
 #include <cstdio>
@@ -13,10 +13,10 @@ static const uint8_t *bytes(std::string_view text) {
     return reinterpret_cast<const uint8_t *>(text.data());
 }
 
-// The octets of a text, in a vector that is as long as they are; empty where there are none.
+// The octets of a text, or none where the text is refused.
 static Octets from_text(std::string_view text) {
     const_oid_status wanted = const_oid_from_text(bytes(text), text.size(), nullptr, 0);
-    Octets octets(wanted.code == CONST_OID_NO_ROOM ? wanted.len : 0);
+    Octets octets(wanted.code == CONST_OID_OUTPUT_TOO_SHORT ? wanted.len : 0);
     const_oid_from_text(bytes(text), text.size(), octets.data(), octets.size());
     return octets;
 }

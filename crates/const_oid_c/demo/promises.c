@@ -1,5 +1,5 @@
-/* Sees that the library keeps what the header says once for all calls: null with 0, the layouts, the
- * constants, the version, and outputs that are left as they were. */
+/* Checks that the library keeps what the header says for all calls: null with length 0, the layouts,
+ * the constants, the version, and outputs that stay unchanged. */
 #include "const_oid.h"
 
 #include <stdio.h>
@@ -8,7 +8,7 @@
 
 static void see(int fact, int line, const char *words) {
     if (!fact) {
-        fprintf(stderr, "demo: promises.c:%d: not so: %s\n", line, words);
+        fprintf(stderr, "demo: promises.c:%d: not true: %s\n", line, words);
         exit(1);
     }
 }
@@ -21,11 +21,11 @@ static int is(const_oid_status status, uint32_t code, uint32_t detail, size_t le
     return status.code == code && status.detail == detail && status.len == len;
 }
 
-/* An input that is null. */
+/* A null input. */
 static void null_inputs(void) {
     uint8_t out[8];
     uint32_t arcs[8];
-    const_oid_places places = {7, 7};
+    const_oid_range range = {7, 7};
     const_oid_octets item = {NULL, 0};
     SEE(is(const_oid_from_text(NULL, 0, out, sizeof out), CONST_OID_EMPTY, 0, 0));
     SEE(is(const_oid_to_text(NULL, 0, out, sizeof out), CONST_OID_EMPTY, 0, 0));
@@ -46,24 +46,24 @@ static void null_inputs(void) {
     SEE(is(const_oid_cmp_arcs(oid, 3, NULL, 0), CONST_OID_EMPTY, 0, 0));
     SEE(is(const_oid_cmp_owned(NULL, 0, oid, 3), CONST_OID_EMPTY, 0, 0));
     SEE(is(const_oid_cmp_owned(oid, 3, NULL, 0), CONST_OID_EMPTY, 0, 0));
-    SEE(is(const_oid_subtree(NULL, 0, NULL, 0, &places), CONST_OID_EMPTY, 0, 0));
-    SEE(is(const_oid_subtree(oid, 3, &item, 1, &places), CONST_OID_EMPTY, 0, 0));
-    SEE(places.from == 7 && places.to == 7);
-    SEE(is(const_oid_subtree(oid, 3, NULL, 0, &places), CONST_OID_OK, 0, 0));
-    SEE(places.from == 0 && places.to == 0);
+    SEE(is(const_oid_subtree(NULL, 0, NULL, 0, &range), CONST_OID_EMPTY, 0, 0));
+    SEE(is(const_oid_subtree(oid, 3, &item, 1, &range), CONST_OID_EMPTY, 0, 0));
+    SEE(range.start == 7 && range.end == 7);
+    SEE(is(const_oid_subtree(oid, 3, NULL, 0, &range), CONST_OID_OK, 0, 0));
+    SEE(range.start == 0 && range.end == 0);
 }
 
-/* An output that is null, as to ask for the size. */
+/* A null output asks for the length of the answer. */
 static void null_outputs(void) {
     const uint8_t *text = (const uint8_t *)"1.2.3.4";
     const uint32_t arcs[] = {1, 2, 3, 4};
-    SEE(is(const_oid_from_text(text, 7, NULL, 0), CONST_OID_NO_ROOM, 0, 3));
-    SEE(is(const_oid_to_text(oid, 3, NULL, 0), CONST_OID_NO_ROOM, 0, 7));
-    SEE(is(const_oid_arcs(oid, 3, NULL, 0), CONST_OID_NO_ROOM, 0, 4));
-    SEE(is(const_oid_from_arcs(arcs, 4, NULL, 0), CONST_OID_NO_ROOM, 0, 3));
-    SEE(is(const_oid_parent(oid, 3, NULL, 0), CONST_OID_NO_ROOM, 0, 2));
-    SEE(is(const_oid_push_arc(oid, 3, 128, NULL, 0), CONST_OID_NO_ROOM, 0, 5));
-    SEE(is(const_oid_error_text(CONST_OID_EMPTY, 0, NULL, 0), CONST_OID_NO_ROOM, 0, 18));
+    SEE(is(const_oid_from_text(text, 7, NULL, 0), CONST_OID_OUTPUT_TOO_SHORT, 0, 3));
+    SEE(is(const_oid_to_text(oid, 3, NULL, 0), CONST_OID_OUTPUT_TOO_SHORT, 0, 7));
+    SEE(is(const_oid_arcs(oid, 3, NULL, 0), CONST_OID_OUTPUT_TOO_SHORT, 0, 4));
+    SEE(is(const_oid_from_arcs(arcs, 4, NULL, 0), CONST_OID_OUTPUT_TOO_SHORT, 0, 3));
+    SEE(is(const_oid_parent(oid, 3, NULL, 0), CONST_OID_OUTPUT_TOO_SHORT, 0, 2));
+    SEE(is(const_oid_push_arc(oid, 3, 128, NULL, 0), CONST_OID_OUTPUT_TOO_SHORT, 0, 5));
+    SEE(is(const_oid_error_text(CONST_OID_EMPTY, 0, NULL, 0), CONST_OID_OUTPUT_TOO_SHORT, 0, 18));
     SEE(is(const_oid_from_text(NULL, 0, NULL, 0), CONST_OID_EMPTY, 0, 0));
     SEE(is(const_oid_to_text(NULL, 0, NULL, 0), CONST_OID_EMPTY, 0, 0));
     SEE(is(const_oid_arcs(NULL, 0, NULL, 0), CONST_OID_EMPTY, 0, 0));
@@ -79,8 +79,8 @@ static void layouts(void) {
     SEE(offsetof(const_oid_status, len) == 8);
     SEE(sizeof(const_oid_octets) == 16);
     SEE(offsetof(const_oid_octets, len) == 8);
-    SEE(sizeof(const_oid_places) == 16);
-    SEE(offsetof(const_oid_places, to) == 8);
+    SEE(sizeof(const_oid_range) == 16);
+    SEE(offsetof(const_oid_range, end) == 8);
 }
 
 /* The longest text of a code and a detail is as long as the constant says. */
@@ -90,14 +90,14 @@ static void longest_error_text(void) {
     for (uint32_t code = 0; code < 300; code++) {
         for (size_t i = 0; i < sizeof details / sizeof *details; i++) {
             const_oid_status status = const_oid_error_text(code, details[i], NULL, 0);
-            SEE(status.code == CONST_OID_NO_ROOM || is(status, CONST_OID_NONE, 0, 0));
+            SEE(status.code == CONST_OID_OUTPUT_TOO_SHORT || is(status, CONST_OID_NONE, 0, 0));
             if (status.len > longest) longest = status.len;
         }
     }
     SEE(longest == CONST_OID_MAX_ERROR_TEXT);
 }
 
-/* Octets that print and hold as much as the constants say. */
+/* The longest octets print as much text and have as many arcs as the constants say. */
 static void constants(void) {
     uint8_t octets[CONST_OID_MAX_OCTETS + 1];
     static uint8_t text[CONST_OID_MAX_TEXT];
@@ -109,7 +109,7 @@ static void constants(void) {
     SEE(const_oid_version() == CONST_OID_VERSION);
 }
 
-/* Beyond what was written an output is as it was. */
+/* An output is unchanged after the items that were written. */
 static void rest_of_output(void) {
     uint8_t out[64];
     memset(out, 0xEE, sizeof out);
@@ -118,7 +118,7 @@ static void rest_of_output(void) {
     for (size_t i = status.len; i < sizeof out; i++) SEE(out[i] == 0xEE);
 }
 
-/* A whole encoding, with tag and length, is read as if these were contents. */
+/* A tag and a length are read as contents octets. */
 static void whole_encoding(void) {
     static const uint8_t whole[] = {0x06, 0x03, 0x2A, 0x03, 0x04};
     uint8_t out[16];

@@ -1,4 +1,4 @@
-"""Answers the rows of texts and octets by const_oid.py, and names the first that is answered otherwise."""
+"""Checks the rows of texts and octets against const_oid.py, and prints the first row that differs."""
 import sys
 
 import const_oid

@@ -1,35 +1,38 @@
 /* Object identifiers (ITU-T X.660) for C99 and C++: dotted text, arcs, and the contents octets of
- * ITU-T X.690 section 8.19, without tag and length. Each call is proved to answer what stands at it.
+ * ITU-T X.690 section 8.19, without tag and length. Each call is proved to answer as its comment says.
  *
- * What a caller keeps, once for all calls:
+ * What a caller promises, for all calls:
  *
- * - Slices. An input is a pointer and a number of items; an output is a pointer and how many items
- *   have room there. All belong to the caller. A call reads the input, writes within the output, and
- *   keeps no pointer; it takes no memory and has no state.
- * - Null. A pointer may be null where its length is 0, as to ask for the size of an answer, or with an
- *   empty std::vector; an item of a list, too. `places` is never null. Tested at each call, not proved.
- * - Overlap. An output does not overlap an input, also where a length is 0 or no room is left: so no
- *   call works in place. `gcc -Wrestrict`, which -Wall has, sees some calls that would.
- * - Lengths. They are true, and no slice has more than 2^63 - 1 bytes. Texts are counted: nothing
- *   looks for a zero byte, and none is written.
- * - Threads. Calls may be made from any threads at once; only what is handed to a running call must
- *   not be written meanwhile, and an output not be read.
+ * - Slices. An input is a pointer and a number of items. An output is a pointer and the number of
+ *   items that fit there. All of them belong to the caller. A call reads the input and writes within
+ *   the output. It keeps no pointer, takes no memory and has no state.
+ * - Null. A pointer may be null if its length is 0. An item of a list may be null, too. So a call with
+ *   a null output asks for the length of an answer, and an empty std::vector is an input. `range` is
+ *   never null. This is tested at each call, not proved.
+ * - Overlap. An output does not overlap an input, even if a length is 0 or the output is too short.
+ *   So no call may write to its own input. `gcc -Wrestrict`, which -Wall has, sees some calls that do.
+ * - Lengths. They are true, and no slice has more than 2^63 - 1 bytes. Texts have lengths: no call
+ *   looks for a zero byte or writes one.
+ * - Threads. Any threads may make calls at once. While a call runs, no other thread writes its inputs
+ *   or touches its output.
  * - Machines. size_t has 64 bits. The library that Rattle builds takes an x86-64 processor of level 2
- *   (popcnt and SSE4.1); the one that cargo builds is for the targets of rustc.
- * - Octets are those after tag and length, which no call takes away: a whole 06 09 2A 86 .. is no
- *   error, but is read as 0.6.9.42...
+ *   (popcnt and SSE4.1). The one that cargo builds is for the targets of rustc.
+ * - Octets. They follow the tag and the length, and no call removes these. A whole 06 09 2A 86 .. is
+ *   no error: it is read as 0.6.9.42...
  *
- * A status is returned by value. Its code is 0 where there is an answer; then `len` items were
- * written or counted. Otherwise nothing was written: the output is as it was, bit for bit. Beyond
- * the first `len` items an output is always as it was.
+ * What a call returns: a status, by value. Code 0 is success. With any other code the call wrote
+ * nothing, and the output is unchanged, bit for bit. Items of the output after the first `len` are
+ * always unchanged. The comments of const_oid_status say what its fields hold.
  *
- * Octets are refused by the first of these that applies: EMPTY, of no octet; of the first group with
- * a fault BASE128 (it begins with 0x80), ARC_TOO_BIG (its number is past 32 bits, in the first group
- * past 4294967375), BASE128 (it does not end); LENGTH, where a call takes 255 octets at most and more
- * came.
+ * Octets are refused by the first of these faults that applies:
  *
- * That the layouts below are those of the library, that it has the calls which are declared here, and
- * the numbers of the constants, is tested. */
+ * - EMPTY: there is no octet.
+ * - A fault of the first wrong group. BASE128: it begins with 0x80. ARC_TOO_BIG: its number is past 32
+ *   bits, or past 4294967375 in the first group. BASE128: it does not end.
+ * - LENGTH: there are more than 255 octets, in a call that takes 255 at most.
+ *
+ * Tests check the layouts below, the values of the constants, and that the library has exactly these
+ * calls. */
 #ifndef CONST_OID_H
 #define CONST_OID_H
 
@@ -40,7 +43,7 @@
 extern "C" {
 #endif
 
-/* The version of these declarations; const_oid_version() is that of the library. */
+/* The version of these declarations. const_oid_version() returns the version of the library. */
 #define CONST_OID_VERSION_MAJOR 1
 #define CONST_OID_VERSION_MINOR 0
 #define CONST_OID_VERSION_PATCH 0
@@ -56,19 +59,19 @@ extern "C" {
 #define CONST_OID_RESTRICT restrict
 #endif
 
-/* The octets that from_text, from_arcs, push_arc and parent write at most, and that push_arc, parent
- * and cmp_owned take at most. The other calls take octets of any number. */
+/* The most octets that from_text, from_arcs, push_arc and parent write, and that push_arc, parent and
+ * cmp_owned read. The other calls read octets of any length. */
 #define CONST_OID_MAX_OCTETS 255
 
-/* The bytes of text that CONST_OID_MAX_OCTETS octets print at most: four for each octet. Longer
- * octets print more, four bytes an octet at most. */
+/* The most bytes of text that CONST_OID_MAX_OCTETS octets print. More octets print at most four bytes
+ * each, too. */
 #define CONST_OID_MAX_TEXT 1020
 
-/* The arcs that CONST_OID_MAX_OCTETS octets have at most. */
+/* The most arcs that CONST_OID_MAX_OCTETS octets have. */
 #define CONST_OID_MAX_ARCS 256
 
-/* The octets of an identifier of the usual size, as the Rust crate const-oid takes by default: what
- * does not fit here is answered by NO_ROOM. */
+/* The usual capacity in octets, which is the default of the Rust crate const-oid. For an identifier
+ * that does not fit an output of this length, the code is OUTPUT_TOO_SHORT. */
 #define CONST_OID_USUAL_OCTETS 39
 
 /* The bytes of the longest text of a code. */
@@ -76,47 +79,54 @@ extern "C" {
 
 /* How a call ended. */
 enum const_oid_code {
-    CONST_OID_OK = 0,             /* there is an answer */
-    CONST_OID_ARC_INVALID = 1,    /* an arc is out of range for its place; detail: the arc */
-    CONST_OID_ARC_TOO_BIG = 2,    /* an arc is past 32 bits */
-    CONST_OID_BASE128 = 3,        /* a group of octets begins with 0x80 or does not end */
-    CONST_OID_DIGIT_EXPECTED = 4, /* a byte that is no digit; detail: the byte */
-    CONST_OID_EMPTY = 5,          /* there is nothing, or no more than one arc */
-    CONST_OID_LENGTH = 6,         /* the octets would be, or are, more than 255 */
-    CONST_OID_OVERFLOW = 7,       /* never answered: no sum overflows */
-    CONST_OID_REPEATED_DOT = 8,   /* a dot follows another */
-    CONST_OID_TRAILING_DOT = 9,   /* the text ends with a dot */
-    CONST_OID_NO_ROOM = 10,       /* the answer is longer than the output; len: the items wanted */
-    CONST_OID_NOT_UTF8 = 11,      /* the text is not UTF-8 */
-    CONST_OID_NONE = 12,          /* there is no such arc, parent or text */
-    CONST_OID_UNSORTED = 13       /* the list descends; len: the place of the later item */
+    CONST_OID_OK = 0,                /* success */
+    CONST_OID_ARC_INVALID = 1,       /* the first or second arc is out of range */
+    CONST_OID_ARC_TOO_BIG = 2,       /* an arc is past 32 bits */
+    CONST_OID_BASE128 = 3,           /* a group of octets begins with 0x80 or does not end */
+    CONST_OID_DIGIT_EXPECTED = 4,    /* a byte is not a digit */
+    CONST_OID_EMPTY = 5,             /* there is nothing, or only one arc */
+    CONST_OID_LENGTH = 6,            /* there are, or would be, more than 255 octets */
+    CONST_OID_OVERFLOW = 7,          /* never answered: no sum overflows */
+    CONST_OID_REPEATED_DOT = 8,      /* a dot follows another dot */
+    CONST_OID_TRAILING_DOT = 9,      /* the text ends with a dot */
+    CONST_OID_OUTPUT_TOO_SHORT = 10, /* the answer is longer than the output */
+    CONST_OID_NOT_UTF8 = 11,         /* the text is not UTF-8 */
+    CONST_OID_NONE = 12,             /* the arc, parent or text does not exist */
+    CONST_OID_UNSORTED = 13          /* an item of the list comes before the previous one */
 };
 
 /* What a comparison answers in `detail`. */
 enum const_oid_order {
-    CONST_OID_LESS = 0,   /* the first stands before the second */
+    CONST_OID_LESS = 0,   /* the first comes before the second */
     CONST_OID_EQUAL = 1,  /* they are equal */
-    CONST_OID_GREATER = 2 /* the first stands after the second */
+    CONST_OID_GREATER = 2 /* the first comes after the second */
 };
 
-/* How a call ended, and two numbers. */
+/* How a call ended, and two numbers.
+ *
+ * - `code` is one of const_oid_code.
+ * - `detail` is, on success, the arc of const_oid_arc, 1 or 0 of starts_with and eq, or the order of
+ *   a comparison. With ARC_INVALID it is the arc, and with DIGIT_EXPECTED the byte. Otherwise it is 0.
+ * - `len` is, on success, how many items the call wrote or counted. With OUTPUT_TOO_SHORT it is how
+ *   many items the answer has. If an item of a list is wrong, it is the index of this item. Otherwise
+ *   it is 0. */
 typedef struct const_oid_status {
-    uint32_t code;   /* one of const_oid_code */
-    uint32_t detail; /* the number of an error, or the answer of a call without an output; else 0 */
-    size_t len;      /* items written, counted or wanted, or a place in a list; else 0 */
+    uint32_t code;
+    uint32_t detail;
+    size_t len;
 } const_oid_status;
 
 /* The contents octets of one identifier in a list. */
 typedef struct const_oid_octets {
     const uint8_t *octets; /* the first octet */
-    size_t len;            /* how many */
+    size_t len;            /* how many there are */
 } const_oid_octets;
 
-/* Places in a list, counted from 0: from the first on, and below the second. */
-typedef struct const_oid_places {
-    size_t from; /* the first place inside */
-    size_t to;   /* the first index after them */
-} const_oid_places;
+/* The indices of a list from `start` on and below `end`, counted from 0. */
+typedef struct const_oid_range {
+    size_t start;
+    size_t end;
+} const_oid_range;
 
 /* The library keeps lengths in 64 bits. */
 typedef char const_oid_size_t_has_64_bits[sizeof(size_t) == 8 ? 1 : -1];
@@ -124,85 +134,83 @@ typedef char const_oid_size_t_has_64_bits[sizeof(size_t) == 8 ? 1 : -1];
 /* The version of the library: CONST_OID_VERSION of its header. */
 uint32_t const_oid_version(void);
 
-/* Writes the contents octets of the identifier that dotted text denotes, as "1.2.840"; leading zeros
- * of an arc are read. Refused by NOT_UTF8, or by the fault of the first piece between dots that has
- * one: ARC_TOO_BIG, DIGIT_EXPECTED, REPEATED_DOT, TRAILING_DOT, ARC_INVALID, LENGTH, EMPTY. */
+/* Writes the contents octets of the identifier that dotted text denotes, such as "1.2.840". Arcs may
+ * have leading zeros. Refused by NOT_UTF8, or by the fault of the first wrong piece between dots:
+ * ARC_TOO_BIG, DIGIT_EXPECTED, REPEATED_DOT, TRAILING_DOT, ARC_INVALID, LENGTH or EMPTY. */
 const_oid_status const_oid_from_text(
     const uint8_t *text, size_t text_len, uint8_t *CONST_OID_RESTRICT out, size_t out_len);
 
-/* Writes the dotted text of octets of any number: the decimals of the arcs, joined by dots. */
+/* Writes the dotted text of octets of any length: the decimals of the arcs, joined by dots. */
 const_oid_status const_oid_to_text(
     const uint8_t *octets, size_t len, uint8_t *CONST_OID_RESTRICT out, size_t out_len);
 
-/* Checks octets of any number: code 0 where they are the encoding of an identifier. */
+/* Checks octets of any length. The code is 0 if they are the encoding of an identifier. */
 const_oid_status const_oid_check(const uint8_t *octets, size_t len);
 
-/* Counts the arcs of octets of any number, into `len`. */
+/* Counts the arcs of octets of any length. */
 const_oid_status const_oid_len(const uint8_t *octets, size_t len);
 
-/* Finds the arc at a place, counted from 0, of octets of any number: in `detail`, or NONE past the
- * last. */
+/* Finds the arc at an index, counted from 0, of octets of any length. The code is NONE if there is no
+ * such arc. */
 const_oid_status const_oid_arc(const uint8_t *octets, size_t len, size_t index);
 
-/* Writes all arcs of octets of any number, in order; `out_len` is counted in arcs. */
+/* Writes all arcs of octets of any length, in order. `out_len` counts arcs. */
 const_oid_status const_oid_arcs(
     const uint8_t *octets, size_t len, uint32_t *CONST_OID_RESTRICT out, size_t out_len);
 
-/* Writes the contents octets of arcs. Refused by the fault of the first arc that has one,
- * ARC_INVALID or LENGTH, else by EMPTY where there are fewer than two. */
+/* Writes the contents octets of arcs. Refused by the fault of the first wrong arc, ARC_INVALID or
+ * LENGTH, or else by EMPTY if there are fewer than two arcs. */
 const_oid_status const_oid_from_arcs(
     const uint32_t *arcs, size_t len, uint8_t *CONST_OID_RESTRICT out, size_t out_len);
 
-/* Writes the contents octets of all arcs but the last, of 255 octets at most; NONE of two arcs. */
+/* Writes the contents octets of all arcs except the last. The code is NONE if there are two arcs. */
 const_oid_status const_oid_parent(
     const uint8_t *octets, size_t len, uint8_t *CONST_OID_RESTRICT out, size_t out_len);
 
-/* Writes the contents octets of the arcs and one more; LENGTH where they would be more than 255. */
+/* Writes the contents octets of the arcs and one more. The code is LENGTH if these are more than 255
+ * octets. */
 const_oid_status const_oid_push_arc(
     const uint8_t *octets, size_t len, uint32_t arc, uint8_t *CONST_OID_RESTRICT out,
     size_t out_len);
 
-/* Whether, by 1 or 0 in `detail`, the arcs begin with all those of a prefix, each of octets of
- * any number. Refused by the fault of the first that has one. */
+/* Whether the arcs of octets begin with all arcs of a prefix. Both may have any length. Refused by the
+ * fault of the octets, or else of the prefix. */
 const_oid_status const_oid_starts_with(
     const uint8_t *octets, size_t len, const uint8_t *prefix, size_t prefix_len);
 
-/* Whether, by 1 or 0 in `detail`, two identifiers are equal, each of octets of any number.
- * Refused by the fault of the first that has one. */
+/* Whether two identifiers of any length are equal. Refused by the fault of the first one that has a
+ * fault. */
 const_oid_status const_oid_eq(
     const uint8_t *left, size_t left_len, const uint8_t *right, size_t right_len);
 
-/* Compares two identifiers of octets of any number by their octets, as memcmp does, a prefix before
- * what begins with it; in `detail` one of const_oid_order. In this order the descendants of an
- * identifier stand together, behind it, as one run (const_oid_subtree): it is not the order of SNMP.
- * Refused by the fault of the first that has one. */
+/* Compares two identifiers of any length by their octets, as memcmp does. A prefix comes first. The
+ * descendants of an identifier follow it without a gap (const_oid_subtree). This is not the order of
+ * SNMP. Refused by the fault of the first one that has a fault. */
 const_oid_status const_oid_cmp(
     const uint8_t *left, size_t left_len, const uint8_t *right, size_t right_len);
 
-/* Compares two identifiers of octets of any number by their arcs, a prefix before what begins with
- * it; in `detail` one of const_oid_order. This is the order that SNMP wants (RFC 3416), for a walk by
- * GetNext. Refused by the fault of the first that has one. */
+/* Compares two identifiers of any length by their arcs. A prefix comes first. This is the order of
+ * SNMP (RFC 3416), for a walk by GetNext. Refused by the fault of the first one that has a fault. */
 const_oid_status const_oid_cmp_arcs(
     const uint8_t *left, size_t left_len, const uint8_t *right, size_t right_len);
 
-/* Compares two identifiers of 255 octets at most: fewer octets first, and with as many as memcmp
- * does; in `detail` one of const_oid_order. This is the order of the Rust crate const-oid, and not
- * that of SNMP. Refused by the fault of the first that has one. */
+/* Compares two identifiers of at most 255 octets by length, and then by their octets. This is the
+ * order of the Rust crate const-oid, and not that of SNMP. Refused by the fault of the first one that
+ * has a fault. */
 const_oid_status const_oid_cmp_owned(
     const uint8_t *left, size_t left_len, const uint8_t *right, size_t right_len);
 
-/* Finds where in a list those stand that begin with an identifier, itself among them: at the places
- * from `from` on and below `to`; `from` is how many stand before it. The list does not descend in the
- * order of const_oid_cmp, may hold an identifier more than once, and is of octets of any number; all
- * of it is checked. Refused by the fault of the identifier; else by the first item, `len` being its
- * place, that has a fault or, by UNSORTED, stands before the item at the place before; `places` is
- * then as it was. */
+/* Finds the items of a sorted list that begin with an identifier, which may be an item itself. They
+ * are the items of `range`. `range.start` is the number of items that come before the identifier. The
+ * order is that of const_oid_cmp. Items may have any length and may be repeated. The call checks the
+ * whole list. Refused by the fault of the identifier, or else by the first item that has a fault or,
+ * by UNSORTED, comes before the previous item. `range` is then unchanged. */
 const_oid_status const_oid_subtree(
     const uint8_t *octets, size_t len, const const_oid_octets *sorted, size_t count,
-    const_oid_places *CONST_OID_RESTRICT places);
+    const_oid_range *CONST_OID_RESTRICT range);
 
-/* Writes the text, in UTF-8, of the code and the detail of a status from 1 on; NONE where there is no
- * such code, or no such byte. */
+/* Writes the text, in UTF-8, of a code and its detail. The code is NONE if there is no such text: for
+ * OK, for an unknown code, and for DIGIT_EXPECTED with a detail past 255. */
 const_oid_status const_oid_error_text(
     uint32_t code, uint32_t detail, uint8_t *CONST_OID_RESTRICT out, size_t out_len);
 

@@ -1,26 +1,26 @@
--- What is to be written, by what the calls of `const_oid` answer.
-use Rattle.std.proofs.Common.{◌≡◌, ℕ, List, refl, sym}
-use Rattle.std.specs.Prelude.{Result, Err}
+-- What a call writes, by the calls of `const_oid` and `std`.
+use Rattle.std.proofs.Common.{◌≡◌, List, ℕ, refl, sym}
+use Rattle.std.specs.Prelude.{Err}
 use Rattle.std.specs.Str.{IsUtf8, is_utf8}
 use Rattle.std.proofs.lemmas.Bool.{false_from_ne_true}
 use Rattle.std.proofs.lemmas.Str.{IsUtf8-from_is_utf8, is_utf8-from_IsUtf8}
-use Rattle.const_oid.specs.declared.error.Error.{Error}
-use Rattle.const_oid.specs.declared.oid.ObjectIdentifier.{ObjectIdentifier}
-use Rattle.const_oid.specs.Identifier.{root_rule, encoding_of}
-use Rattle.const_oid.specs.Oid.{oid_arcs, oid_octets}
+use Rattle.const_oid.specs.Identifier.{root_rule, IsEncoding, encoding_of}
 use Rattle.const_oid.specs.Text.{text_answer}
-use Rattle.const_oid.proofs.Encodings.{oid_encoding, encoding_of-encoded}
+use Rattle.const_oid.proofs.Encodings.{encoding_of-encoded}
 use Rattle.const_oid_c.specs.Status.{not_utf8_status}
 use Rattle.const_oid_c.specs.Answers.{octets_of_arcs, octets_of_text, owned_capacity}
 
--- an identifier holds the encoding of its arcs
-pub held_encoding : {N : ℕ} (oid : ObjectIdentifier N) → oid_octets oid ≡ encoding_of (oid_arcs oid)
-held_encoding oid = sym (encoding_of-encoded root_rule (oid_arcs oid) (oid_octets oid) (oid_encoding oid))
+-- octets that encode arcs are the encoding of the arcs
+pub is_encoding_of : (arcs octets : List ℕ) → IsEncoding root_rule arcs octets → octets ≡ encoding_of arcs
+is_encoding_of arcs octets encoded = sym (encoding_of-encoded root_rule arcs octets encoded)
 
--- the octets of a text
-pub octets_of_text-read : (bytes text : List ℕ) (answer : Result (List ℕ) Error) → text ≡ bytes → IsUtf8 bytes → answer ≡ text_answer root_rule text owned_capacity → octets_of_arcs answer ≡ octets_of_text bytes
-octets_of_text-read bytes text answer same utf8 e = rw (is_utf8-from_IsUtf8 bytes utf8, e, same) refl
+-- bytes that are UTF-8
+pub octets_of_utf8 : (bytes : List ℕ) → IsUtf8 bytes → octets_of_text bytes ≡ octets_of_arcs (text_answer root_rule bytes owned_capacity)
+octets_of_utf8 bytes utf8 = rw (is_utf8-from_IsUtf8 bytes utf8) refl
 
--- bytes that are no text
-pub octets_of_text-not : (bytes : List ℕ) → ¬ (IsUtf8 bytes) → Err not_utf8_status ≡ octets_of_text bytes
-octets_of_text-not bytes none = rw (false_from_ne_true (is_utf8 bytes) (λ t. none (IsUtf8-from_is_utf8 bytes t))) refl
+-- bytes that are not UTF-8
+pub octets_of_others : (bytes : List ℕ) → ¬ (IsUtf8 bytes) → octets_of_text bytes ≡ Err not_utf8_status
+octets_of_others bytes other = rw (false_from_ne_true (is_utf8 bytes) (λ t. other (IsUtf8-from_is_utf8 bytes t))) refl
+
+-- bytes, UTF-8 or not
+pub ruleset texts = (octets_of_utf8, octets_of_others)

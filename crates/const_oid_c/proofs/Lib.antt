@@ -1,6 +1,5 @@
 pub mod Answers
 pub mod Capacities
-pub mod Flags
-pub mod Filling
+pub mod WrittenArcs
 pub mod ListFaults
-pub mod Places
+pub mod Ranges

@@ -1,5 +1,5 @@
--- Lists of identifiers that do not descend.
-use Rattle.std.specs.Prelude.{ℕ, ◌+◌, List, [], ◌∷◌, if◌then◌else◌, Option, Some, None, Result, Ok, Err}
+-- The status of a list that should be sorted.
+use Rattle.std.specs.Prelude.{ℕ, ◌+◌, List, [], ◌∷◌, if◌then◌else◌, Option, Some, None, unwrap_or, Result, Ok, Err}
 use Rattle.std.specs.Cmp.Lexicographic.{slice_cmp}
 use Rattle.std.specs.Option.{option_or}
 use Rattle.std.specs.Ordering.{nat_cmp, is_lt}
@@ -7,34 +7,26 @@ use Rattle.const_oid.specs.declared.error.Error.{Error}
 use Rattle.const_oid_c.specs.declared.status.Status.{Status}
 use Rattle.const_oid_c.specs.declared.subtree.Octets.{Octets}
 use Rattle.const_oid_c.specs.Status.{error_status, len_status}
-use Rattle.const_oid_c.specs.Answers.{borrowed_answer}
+use Rattle.const_oid_c.specs.Answers.{borrowed_answer, status_of}
 
 -- the octets of an item
 abbrev pub octets_at : Octets → List ℕ
 octets_at item = item.octets.now
 
--- what is wrong with octets at a place, which stands as the length, after those before: their fault, or that they stand before those
+-- the status at an index, by what the octets there are read as: their fault, or that they come before the octets of the previous index
 abbrev pub read_fault : ℕ → List ℕ → List ℕ → Result (List ℕ) Error → Option Status
-read_fault place before octets (Ok arcs) = if is_lt (slice_cmp nat_cmp octets before) then Some (record { code = 13; detail = 0; len = place }) else None
-read_fault place before octets (Err fault) = Some (record (error_status fault) { len = place })
+read_fault index before octets (Ok arcs) = if is_lt (slice_cmp nat_cmp octets before) then Some (record { code = 13; detail = 0; len = index }) else None
+read_fault index before octets (Err fault) = Some (record (error_status fault) { len = index })
 
+-- the status of the octets at an index, after those of the previous index, if something is wrong
 abbrev pub item_fault : ℕ → List ℕ → List ℕ → Option Status
-item_fault place before octets = read_fault place before octets (borrowed_answer octets)
+item_fault index before octets = read_fault index before octets (borrowed_answer octets)
 
--- the same of the first item that has something wrong with it
+-- the status of the first item that is wrong, if there is one
 abbrev pub list_fault : ℕ → List ℕ → List Octets → Option Status
-list_fault place before [] = None
-list_fault place before (item ∷ items) = option_or (item_fault place before (octets_at item)) (list_fault (place + 1) (octets_at item) items)
+list_fault index before [] = None
+list_fault index before (item ∷ items) = option_or (item_fault index before (octets_at item)) (list_fault (index + 1) (octets_at item) items)
 
--- the status of a list: its first fault, if there is one
-abbrev pub list_status : Option Status → Status
-list_status None = len_status 0
-list_status (Some status) = status
-
--- the status of octets and a list: the fault of the octets, or what is wrong with the list
-abbrev pub both_status : Result (List ℕ) Error → List Octets → Status
-both_status (Ok arcs) items = list_status (list_fault 0 [] items)
-both_status (Err fault) items = error_status fault
-
+-- the status of octets and a list: the fault of the octets, or else the fault of the list
 abbrev pub subtree_status : List ℕ → List Octets → Status
-subtree_status octets items = both_status (borrowed_answer octets) items
+subtree_status octets items = status_of (λ _. unwrap_or (list_fault 0 [] items) (len_status 0)) (borrowed_answer octets)

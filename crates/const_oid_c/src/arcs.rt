@@ -1,4 +1,4 @@
-//! Contents octets as arcs, and arcs as contents octets.
+//! Octets to arcs, and arcs to octets.
 ghost use Rattle.std.specs.Prelude.{◌≡◌, ◌≤◌, ◌++◌, length, drop, min, slice_get};
 ghost use Rattle.const_oid.specs.Identifier.{root_rule};
 ghost use Rattle.const_oid.specs.Items.{item_answer};
@@ -9,11 +9,11 @@ ghost use Rattle.const_oid_c.specs.Answers.{octets_of_arcs, output_of, status_of
 use crate::output::write_octets;
 use crate::owned::{MAX_OCTETS, is_too_long};
 use crate::status::{
-    NONE, Status, code_status, error_status, len_status, no_room_status, number_status,
+    NONE, Status, code_status, error_status, len_status, number_status, too_short_status,
 };
 use const_oid::{Arcs, ObjectIdentifier, ObjectIdentifierRef, Result};
 
-/// Checks contents octets, of any number.
+/// Checks contents octets of any length.
 #[unsafe(no_mangle)]
 pub extern "C" fn const_oid_check(octets: &[u8]) -> Status
     ensures { result ≡ status_of (λ _. len_status 0) (borrowed_answer octets.now) }
@@ -24,7 +24,7 @@ pub extern "C" fn const_oid_check(octets: &[u8]) -> Status
     }
 }
 
-/// Counts the arcs of contents octets, of any number.
+/// Counts the arcs of contents octets of any length.
 #[unsafe(no_mangle)]
 pub extern "C" fn const_oid_len(octets: &[u8]) -> Status
     ensures { result ≡ status_of (λ arcs. len_status (length arcs)) (borrowed_answer octets.now) }
@@ -35,7 +35,7 @@ pub extern "C" fn const_oid_len(octets: &[u8]) -> Status
     }
 }
 
-/// Finds the arc at a place, counted from 0, of contents octets of any number.
+/// Finds the arc at an index, counted from 0, in contents octets of any length.
 #[unsafe(no_mangle)]
 pub extern "C" fn const_oid_arc(octets: &[u8], index: usize) -> Status
     ensures { result ≡ status_of (λ arcs. arc_status (slice_get arcs index)) (borrowed_answer octets.now) }
@@ -50,6 +50,7 @@ pub extern "C" fn const_oid_arc(octets: &[u8], index: usize) -> Status
 }
 
 /// Writes the contents octets of arcs.
+#[tactic(auto, using(crate::proofs::Capacities::same_arcs))]
 #[unsafe(no_mangle)]
 pub extern "C" fn const_oid_from_arcs(arcs: &[u32], out: &mut [u8]) -> Status
     ensures status { result ≡ output_status (length out.old) (octets_of_arcs (item_answer root_rule arcs.now owned_capacity)) }
@@ -63,7 +64,7 @@ pub extern "C" fn const_oid_from_arcs(arcs: &[u32], out: &mut [u8]) -> Status
     write_octets(small, out)
 }
 
-/// Writes the contents octets of arcs that take many.
+/// Writes the contents octets of arcs, where they may be many.
 #[inline(never)]
 fn write_large(arcs: &[u32], out: &mut [u8]) -> Status
     ensures status { result ≡ output_status (length out.old) (octets_of_arcs (item_answer root_rule arcs.now owned_capacity)) }
@@ -72,14 +73,14 @@ fn write_large(arcs: &[u32], out: &mut [u8]) -> Status
     write_octets(encoded::<MAX_OCTETS>(arcs), out)
 }
 
-/// The identifier of arcs.
+/// The identifier that has these arcs.
 fn encoded<const N: usize>(arcs: &[u32]) -> Result<ObjectIdentifier<N>>
     ensures { oid_answer result ≡ item_answer root_rule arcs.now (min N 255) }
 {
     ObjectIdentifier::<N>::from_arcs_sized(arcs.iter().copied())
 }
 
-/// Writes all arcs of contents octets, of any number.
+/// Writes all arcs of contents octets of any length.
 #[unsafe(no_mangle)]
 pub extern "C" fn const_oid_arcs(octets: &[u8], out: &mut [u32]) -> Status
     ensures status { result ≡ output_status (length out.old) (output_of (λ arcs. arcs) (borrowed_answer octets.now)) }
@@ -91,14 +92,14 @@ pub extern "C" fn const_oid_arcs(octets: &[u8], out: &mut [u32]) -> Status
     };
     let len = oid.len();
     if len > out.len() {
-        return no_room_status(len);
+        return too_short_status(len);
     }
-    fill(oid.arcs(), out);
+    write_arcs(oid.arcs(), out);
     len_status(len)
 }
 
-/// Writes arcs to the start of the caller's slice, which has room for them.
-fn fill(arcs: Arcs<'_>, out: &mut [u32])
+/// Writes arcs at the start of a slice, which is long enough.
+fn write_arcs(arcs: Arcs<'_>, out: &mut [u32])
     requires { length arcs ≤ length out.old }
     ensures { out.new ≡ arcs.entry ++ drop (length arcs.entry) out.old }
 {

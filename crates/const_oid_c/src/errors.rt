@@ -6,11 +6,11 @@ ghost use Rattle.const_oid_c.specs.Answers.{text_of_code};
 
 use crate::output::write_bytes;
 use crate::status::{
-    NO_ROOM, NONE, NOT_UTF8, Status, UNSORTED, code_status, len_status, no_room_status,
+    NONE, NOT_UTF8, Status, TOO_SHORT, UNSORTED, code_status, len_status, too_short_status,
 };
 use const_oid::Error;
 
-/// Writes the text of the code and the detail of a status, with no zero byte after it.
+/// Writes the text of a code and its detail. No zero byte follows it.
 #[unsafe(no_mangle)]
 pub extern "C" fn const_oid_error_text(code: u32, detail: u32, out: &mut [u8]) -> Status
     ensures status { result ≡ output_status (length out.old) (text_of_code code detail) }
@@ -31,7 +31,7 @@ pub extern "C" fn const_oid_error_text(code: u32, detail: u32, out: &mut [u8]) -
         7 => write_error(Error::Overflow, out),
         8 => write_error(Error::RepeatedDot, out),
         9 => write_error(Error::TrailingDot, out),
-        NO_ROOM => write_bytes(b"the answer is longer than the output", out),
+        TOO_SHORT => write_bytes(b"the answer is longer than the output", out),
         NOT_UTF8 => write_bytes(b"the text is not UTF-8", out),
         NONE => write_bytes(b"there is no such arc, parent or text", out),
         UNSORTED => write_bytes(b"the list is not sorted", out),
@@ -46,6 +46,6 @@ fn write_error(error: Error, out: &mut [u8]) -> Status
 {
     match error.encode_text(out) {
         Some(len) => len_status(len),
-        None => no_room_status(error.text_len()),
+        None => too_short_status(error.text_len()),
     }
 }

@@ -1,7 +1,7 @@
-//! Object identifiers for C: the calls of `const_oid` over slices of the caller's.
+//! Object identifiers for C: the calls of `const_oid` over slices that the caller owns.
 //!
-//! No call takes memory or keeps a pointer, and none has a condition beyond its types.
-//! `include/const_oid.h` declares them, and says what a C caller keeps.
+//! No call takes memory, keeps a pointer or has a condition beyond its types.
+//! `include/const_oid.h` declares the calls and says what a C caller promises.
 #![tactic(auto)]
 
 pub mod arcs;

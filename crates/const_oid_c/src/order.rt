@@ -1,4 +1,4 @@
-//! Two identifiers compared.
+//! Comparisons of two identifiers.
 ghost use Rattle.std.specs.Prelude.{◌≡◌};
 ghost use Rattle.std.specs.Cmp.Lexicographic.{slice_cmp};
 ghost use Rattle.std.specs.Ordering.{nat_cmp};
@@ -13,7 +13,7 @@ use crate::status::{Status, error_status, flag_status, order_status};
 use const_oid::ObjectIdentifierRef;
 use std::cmp::Ordering;
 
-/// Tells whether two identifiers, of any number of octets, are equal.
+/// Whether two identifiers of any length are equal.
 #[unsafe(no_mangle)]
 pub extern "C" fn const_oid_eq(left: &[u8], right: &[u8]) -> Status
     ensures { IsStatusOfBoth (λ xs ys. IsFlagOf (xs ≡ ys))
@@ -29,7 +29,7 @@ pub extern "C" fn const_oid_eq(left: &[u8], right: &[u8]) -> Status
     }
 }
 
-/// Tells whether the arcs begin with all those of a prefix, each of any number of octets.
+/// Whether an identifier begins with all arcs of a prefix. Both may have any length.
 #[unsafe(no_mangle)]
 pub extern "C" fn const_oid_starts_with(octets: &[u8], prefix: &[u8]) -> Status
     ensures { IsStatusOfBoth (λ arcs prefix. IsFlagOf (BeginsWith arcs prefix))
@@ -45,8 +45,7 @@ pub extern "C" fn const_oid_starts_with(octets: &[u8], prefix: &[u8]) -> Status
     }
 }
 
-/// Compares two identifiers of any number of octets in the order of borrowed ones: octets in list
-/// order, a prefix before what begins with it.
+/// Compares two identifiers of any length by their octets, as lists. A prefix comes first.
 #[unsafe(no_mangle)]
 pub extern "C" fn const_oid_cmp(left: &[u8], right: &[u8]) -> Status
     ensures { IsStatusOfBoth (λ _ _ status. status ≡ order_status (slice_cmp nat_cmp left.now right.now))
@@ -62,8 +61,7 @@ pub extern "C" fn const_oid_cmp(left: &[u8], right: &[u8]) -> Status
     }
 }
 
-/// Compares two identifiers of any number of octets in the order of their arcs, a prefix before what
-/// begins with it.
+/// Compares two identifiers of any length by their arcs, as lists. A prefix comes first.
 #[unsafe(no_mangle)]
 pub extern "C" fn const_oid_cmp_arcs(left: &[u8], right: &[u8]) -> Status
     ensures { IsStatusOfBoth (λ xs ys status. status ≡ order_status (slice_cmp nat_cmp xs ys))
@@ -79,8 +77,7 @@ pub extern "C" fn const_oid_cmp_arcs(left: &[u8], right: &[u8]) -> Status
     }
 }
 
-/// Compares two identifiers of at most 255 octets in the order of owned ones: fewer octets first, and
-/// with as many the octets in list order.
+/// Compares two identifiers of at most 255 octets by length, and then by their octets.
 #[unsafe(no_mangle)]
 pub extern "C" fn const_oid_cmp_owned(left: &[u8], right: &[u8]) -> Status
     ensures { IsStatusOfBoth (λ _ _ status. status ≡ order_status (shortlex_cmp left.now right.now))
@@ -96,7 +93,7 @@ pub extern "C" fn const_oid_cmp_owned(left: &[u8], right: &[u8]) -> Status
     }
 }
 
-/// The order of two identifiers by length, and with as many octets in list order.
+/// Compares two identifiers by length, and then by their octets.
 fn shortlex(left: ObjectIdentifierRef<'_>, right: ObjectIdentifierRef<'_>) -> Ordering
     ensures { result ≡ shortlex_cmp (ref_octets left.entry) (ref_octets right.entry) }
 {

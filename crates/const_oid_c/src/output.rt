@@ -1,26 +1,26 @@
-//! Answers written to the caller's slice.
+//! Answers that are written to the caller's slice.
 ghost use Rattle.std.specs.Prelude.{◌≡◌, length, Ok};
 ghost use Rattle.const_oid.specs.Oid.{oid_answer};
 ghost use Rattle.const_oid_c.specs.Status.{output_status, output_after};
 ghost use Rattle.const_oid_c.specs.Answers.{octets_of_arcs};
 
-use crate::status::{Status, error_status, len_status, no_room_status};
+use crate::status::{Status, error_status, len_status, too_short_status};
 use const_oid::{ObjectIdentifier, Result};
 
-/// Writes bytes at the start of the caller's slice, where they fit.
+/// Writes bytes at the start of a slice, if they fit.
 pub(crate) fn write_bytes(bytes: &[u8], out: &mut [u8]) -> Status
     ensures status { result ≡ output_status (length out.old) (Ok bytes.now) }
     ensures written { out.new ≡ output_after out.old (Ok bytes.now) }
 {
     let len = bytes.len();
     if len > out.len() {
-        return no_room_status(len);
+        return too_short_status(len);
     }
     out[..len].copy_from_slice(bytes);
     len_status(len)
 }
 
-/// Writes the octets of an identifier, if there is no fault.
+/// Writes the octets of an identifier, or reports its fault.
 pub(crate) fn write_octets<const N: usize>(
     oid: Result<ObjectIdentifier<N>>,
     out: &mut [u8],

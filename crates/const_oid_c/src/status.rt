@@ -1,35 +1,37 @@
-//! What a call answers besides its output.
+//! What a call returns besides its output.
 ghost use Rattle.std.specs.Prelude.{◌≡◌};
-ghost use Rattle.const_oid_c.specs.Status.{error_status, code_status, len_status, number_status, no_room_status, flag_status, order_status};
+ghost use Rattle.const_oid_c.specs.Status.{error_status, code_status, len_status, number_status, too_short_status, flag_status, order_status};
 
 use const_oid::Error;
 use std::cmp::Ordering;
 
-/// The code of an answer that is longer than the output.
-pub(crate) const NO_ROOM: u32 = 10;
+/// The code of an output that is shorter than the answer.
+pub(crate) const TOO_SHORT: u32 = 10;
 
-/// The code of bytes that are no text.
+/// The code of a text that is not UTF-8.
 pub(crate) const NOT_UTF8: u32 = 11;
 
-/// The code where there is no such arc, parent or text.
+/// The code of an arc, parent or text that does not exist.
 pub(crate) const NONE: u32 = 12;
 
-/// The code of a list that descends.
+/// The code of a list that is not sorted.
 pub(crate) const UNSORTED: u32 = 13;
 
 /// How a call ended, and two numbers.
 #[repr(C)]
 #[derive(Clone, Copy)]
 pub struct Status {
-    /// 0, or why there is no answer.
+    /// 0 for success, 1 to 9 for an error of `const_oid`, and 10 to 13 for the codes above.
     pub code: u32,
-    /// The number that an error carries, or the answer of a call that writes nothing.
+    /// With code 0 the arc, the flag or the order that the call answers. With code 1 the arc, and with
+    /// code 4 the byte. Otherwise 0.
     pub detail: u32,
-    /// How many items were written or counted, or are wanted where there is no room.
+    /// With code 0 the number of items that were written or counted. With code 10 the number of items
+    /// of the answer. For a wrong item of a list its index. Otherwise 0.
     pub len: usize,
 }
 
-/// An error.
+/// The status of an error.
 pub(crate) fn error_status(error: Error) -> Status
     ensures { result ≡ error_status error }
 {
@@ -51,7 +53,7 @@ pub(crate) fn error_status(error: Error) -> Status
     }
 }
 
-/// A code alone.
+/// A status that has a code alone.
 pub(crate) fn code_status(code: u32) -> Status
     ensures { result ≡ code_status code }
 {
@@ -62,18 +64,18 @@ pub(crate) fn code_status(code: u32) -> Status
     }
 }
 
-/// So many items are wanted, and there is no room for them.
-pub(crate) fn no_room_status(len: usize) -> Status
-    ensures { result ≡ no_room_status len }
+/// The output is too short for `len` items.
+pub(crate) fn too_short_status(len: usize) -> Status
+    ensures { result ≡ too_short_status len }
 {
     Status {
-        code: NO_ROOM,
+        code: TOO_SHORT,
         detail: 0,
         len,
     }
 }
 
-/// So many items were written or counted.
+/// The call wrote or counted `len` items.
 pub(crate) fn len_status(len: usize) -> Status
     ensures { result ≡ len_status len }
 {

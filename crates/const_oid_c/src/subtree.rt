@@ -1,4 +1,4 @@
-//! Where the identifiers of a list stand that begin with one.
+//! Descendants of an identifier in a sorted list.
 ghost use Rattle.std.specs.Prelude.{◌≡◌, ◌≢◌, ◌+◌, ◌<◌, ◌≤◌, ◌↔◌, ℕ, [], nat_eq, count_by, slice_get, IfSome};
 ghost use Rattle.std.specs.Cmp.Lexicographic.{slice_cmp};
 ghost use Rattle.std.specs.List.{starts_with};
@@ -24,30 +24,30 @@ impl<'a> Octets<'a> {
     }
 }
 
-/// Places of a list, counted from 0: from the first on, and below the second.
+/// The indices of a list from `start` on and below `end`.
 #[repr(C)]
 #[derive(Clone, Copy)]
-pub struct Places {
-    pub from: usize,
-    pub to: usize,
+pub struct Range {
+    pub start: usize,
+    pub end: usize,
 }
 
-/// Finds where the identifiers that begin with one stand in a list that does not descend, each of any
-/// number of octets.
+/// Finds the identifiers that begin with another one in a sorted list. All may have any length.
+#[tactic(auto, using(crate::proofs::ListFaults::list_code))]
 #[unsafe(no_mangle)]
 pub extern "C" fn const_oid_subtree(
     octets: &[u8],
     sorted: &[Octets<'_>],
-    places: &mut Places,
+    range: &mut Range,
 ) -> Status
     ensures status { result ≡ subtree_status octets.now sorted.now }
-    ensures from { result.code ≡ 0 → places.new.from
+    ensures start { result.code ≡ 0 → range.new.start
         ≡ count_by (λ item. is_lt (slice_cmp nat_cmp (octets_at item) octets.now)) sorted.now }
-    ensures to { result.code ≡ 0 → places.new.to
-        ≡ places.new.from + count_by (λ item. starts_with nat_eq (octets_at item) octets.now) sorted.now }
-    ensures places { result.code ≡ 0 → (k : ℕ) → IfSome (slice_get sorted.now k) (λ item.
-        BeginsWith (octets_at item) octets.now ↔ ((places.new.from ≤ k) × (k < places.new.to))) }
-    ensures unchanged { result.code ≢ 0 → places.new ≡ places.old }
+    ensures end { result.code ≡ 0 → range.new.end
+        ≡ range.new.start + count_by (λ item. starts_with nat_eq (octets_at item) octets.now) sorted.now }
+    ensures inside { result.code ≡ 0 → (k : ℕ) → IfSome (slice_get sorted.now k) (λ item.
+        BeginsWith (octets_at item) octets.now ↔ ((range.new.start ≤ k) × (k < range.new.end))) }
+    ensures unchanged { result.code ≢ 0 → range.new ≡ range.old }
 {
     match ObjectIdentifierRef::from_bytes(octets) {
         Ok(_) => {}
@@ -56,20 +56,21 @@ pub extern "C" fn const_oid_subtree(
     match list_fault(sorted) {
         Some(status) => status,
         None => {
-            *places = places_of(octets, sorted);
+            *range = range_of(octets, sorted);
             len_status(0)
         }
     }
 }
 
-/// How many identifiers of a list stand before one, and that number with those that begin with it.
-fn places_of(octets: &[u8], sorted: &[Octets<'_>]) -> Places
-    ensures from { result.from
+/// The range whose start is the number of identifiers before one, and whose length is the number of
+/// those that begin with it.
+fn range_of(octets: &[u8], sorted: &[Octets<'_>]) -> Range
+    ensures start { result.start
         ≡ count_by (λ item. is_lt (slice_cmp nat_cmp (octets_at item) octets.now)) sorted.now }
-    ensures to { result.to
-        ≡ result.from + count_by (λ item. starts_with nat_eq (octets_at item) octets.now) sorted.now }
+    ensures end { result.end
+        ≡ result.start + count_by (λ item. starts_with nat_eq (octets_at item) octets.now) sorted.now }
 {
-    let from = sorted
+    let start = sorted
         .iter()
         .filter(|item| item.get().cmp(octets).is_lt())
         .count();
@@ -77,19 +78,19 @@ fn places_of(octets: &[u8], sorted: &[Octets<'_>]) -> Places
         .iter()
         .filter(|item| item.get().starts_with(octets))
         .count();
-    Places {
-        from,
-        to: from + inside,
+    Range {
+        start,
+        end: start + inside,
     }
 }
 
-/// What is wrong with the first identifier of a list that has a fault or stands before the last one.
+/// The status of the first identifier that has a fault or comes before the previous one.
 fn list_fault(sorted: &[Octets<'_>]) -> Option<Status>
     ensures { result ≡ list_fault 0 [] sorted.now }
 {
     let mut before: &[u8] = &[];
-    for (place, item) in sorted.iter().enumerate() {
-        if let Some(status) = item_fault(place, before, item.get()) {
+    for (index, item) in sorted.iter().enumerate() {
+        if let Some(status) = item_fault(index, before, item.get()) {
             return Some(status);
         }
         before = item.get();
@@ -97,19 +98,19 @@ fn list_fault(sorted: &[Octets<'_>]) -> Option<Status>
     None
 }
 
-/// What is wrong with the identifier at a place, after the octets at the place before.
-fn item_fault(place: usize, before: &[u8], octets: &[u8]) -> Option<Status>
-    ensures { result ≡ item_fault place before.now octets.now }
+/// The status of the identifier at an index, if it has a fault or comes before the previous one.
+fn item_fault(index: usize, before: &[u8], octets: &[u8]) -> Option<Status>
+    ensures { result ≡ item_fault index before.now octets.now }
 {
     match ObjectIdentifierRef::from_bytes(octets) {
         Ok(_) if octets.cmp(before).is_lt() => Some(Status {
             code: UNSORTED,
             detail: 0,
-            len: place,
+            len: index,
         }),
         Ok(_) => None,
         Err(fault) => Some(Status {
-            len: place,
+            len: index,
             ..error_status(fault)
         }),
     }

@@ -7,11 +7,12 @@ ghost use Rattle.const_oid_c.specs.Answers.{octets_of_text, octets_of_arcs, outp
 
 use crate::output::write_octets;
 use crate::owned::{MAX_OCTETS, is_too_long};
-use crate::status::{NOT_UTF8, Status, code_status, error_status, len_status, no_room_status};
-use const_oid::{ObjectIdentifier, ObjectIdentifierRef};
+use crate::status::{NOT_UTF8, Status, code_status, error_status, len_status, too_short_status};
+use const_oid::{ObjectIdentifier, ObjectIdentifierRef, Oid};
 use std::str;
 
 /// Writes the contents octets of the identifier that dotted text denotes.
+#[tactic(auto, using(crate::proofs::Answers::texts))]
 #[unsafe(no_mangle)]
 pub extern "C" fn const_oid_from_text(text: &[u8], out: &mut [u8]) -> Status
     ensures status { result ≡ output_status (length out.old) (octets_of_text text.now) }
@@ -24,19 +25,20 @@ pub extern "C" fn const_oid_from_text(text: &[u8], out: &mut [u8]) -> Status
 }
 
 /// Writes the contents octets of the identifier that a text denotes.
+#[tactic(auto, using(crate::proofs::Capacities::same_text))]
 fn write_denoted(text: &str, out: &mut [u8]) -> Status
     ensures status { result ≡ output_status (length out.old) (octets_of_arcs (text_answer root_rule text.now owned_capacity)) }
     ensures written { out.new ≡ output_after out.old (octets_of_arcs (text_answer root_rule text.now owned_capacity)) }
 {
     // A small identifier is quicker to make.
-    let small = ObjectIdentifier::new(text);
+    let small = Oid::new(text);
     if is_too_long(&small) {
         return write_large(text, out);
     }
     write_octets(small, out)
 }
 
-/// Writes the contents octets that a text denotes where they are many.
+/// Writes the contents octets that a text denotes, where they may be many.
 #[inline(never)]
 fn write_large(text: &str, out: &mut [u8]) -> Status
     ensures status { result ≡ output_status (length out.old) (octets_of_arcs (text_answer root_rule text.now owned_capacity)) }
@@ -45,7 +47,7 @@ fn write_large(text: &str, out: &mut [u8]) -> Status
     write_octets(ObjectIdentifier::<MAX_OCTETS>::new_sized(text), out)
 }
 
-/// Writes the dotted text of contents octets, of any number, with no zero byte after it.
+/// Writes the dotted text of contents octets of any length. No zero byte follows it.
 #[unsafe(no_mangle)]
 pub extern "C" fn const_oid_to_text(octets: &[u8], out: &mut [u8]) -> Status
     ensures status { result ≡ output_status (length out.old) (output_of text_of (borrowed_answer octets.now)) }
@@ -57,6 +59,6 @@ pub extern "C" fn const_oid_to_text(octets: &[u8], out: &mut [u8]) -> Status
     };
     match oid.encode_text(out) {
         Some(len) => len_status(len),
-        None => no_room_status(oid.text_len()),
+        None => too_short_status(oid.text_len()),
     }
 }

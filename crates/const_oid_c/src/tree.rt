@@ -9,7 +9,7 @@ use crate::owned::{MAX_OCTETS, is_too_long, read_owned};
 use crate::status::{NONE, Status, code_status, error_status};
 use const_oid::{ObjectIdentifier, Result};
 
-/// Writes the contents octets of all arcs but the last.
+/// Writes the contents octets of all arcs except the last.
 #[unsafe(no_mangle)]
 pub extern "C" fn const_oid_parent(octets: &[u8], out: &mut [u8]) -> Status
     ensures status { result ≡ output_status (length out.old) (octets_of_parent octets.now) }
@@ -24,7 +24,8 @@ pub extern "C" fn const_oid_parent(octets: &[u8], out: &mut [u8]) -> Status
     }
 }
 
-/// Writes the contents octets of these arcs and one more.
+/// Writes the contents octets of an identifier with one more arc.
+#[tactic(auto, using(crate::proofs::Capacities::same_child))]
 #[unsafe(no_mangle)]
 pub extern "C" fn const_oid_push_arc(octets: &[u8], arc: u32, out: &mut [u8]) -> Status
     ensures status { result ≡ output_status (length out.old) (octets_of_child octets.now arc) }
@@ -38,7 +39,7 @@ pub extern "C" fn const_oid_push_arc(octets: &[u8], arc: u32, out: &mut [u8]) ->
     write_octets(small, out)
 }
 
-/// Writes the contents octets of arcs and one more that are many.
+/// Writes the contents octets of an identifier with one more arc, where they may be many.
 #[inline(never)]
 fn write_large(octets: &[u8], arc: u32, out: &mut [u8]) -> Status
     ensures status { result ≡ output_status (length out.old) (octets_of_child octets.now arc) }
@@ -47,7 +48,7 @@ fn write_large(octets: &[u8], arc: u32, out: &mut [u8]) -> Status
     write_octets(child::<MAX_OCTETS>(octets, arc), out)
 }
 
-/// The identifier of the arcs of octets and one more.
+/// The identifier that octets encode, with one more arc.
 fn child<const N: usize>(octets: &[u8], arc: u32) -> Result<ObjectIdentifier<N>>
     ensures { oid_answer result ≡ child_answer octets.now arc (min N 255) }
 {

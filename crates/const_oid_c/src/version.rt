@@ -1,7 +1,8 @@
-//! The version of these calls.
+//! The version of the library.
 ghost use Rattle.std.specs.Prelude.{◌≡◌};
 
-/// 65536 times the major, 256 times the minor and once the patch number, as `CONST_OID_VERSION`.
+/// 65536 times the major number, 256 times the minor one and the patch number, as
+/// `CONST_OID_VERSION`.
 #[unsafe(no_mangle)]
 pub extern "C" fn const_oid_version() -> u32
     ensures { result ≡ 65536 }

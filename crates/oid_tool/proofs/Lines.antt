@@ -1,4 +1,4 @@
--- Lines and their answers, the first one taken off.
+-- The first line and its answer, and the lines after it.
 use Rattle.std.proofs.Common.{◌≡◌, ◌≢◌, ℕ, ◌+◌, ◌<◌, ◌≤◌, ◌==◌, true, false, nat_eq, List, [], ◌∷◌, ◌++◌, length, ap, sym, ◌∙◌, refl, arith, ⊎_elim}
 use Rattle.std.specs.List.{before_first, after_first, position_or_len, flat_map}
 use Rattle.std.proofs.lemmas.Bool.{cases_lt}
@@ -10,10 +10,11 @@ use Rattle.std.proofs.lemmas.List.Sums.{fails_before_first}
 use Rattle.oid_tool.specs.Answers.{without_empty_last, lines, output_line, answers}
 use Rattle.oid_tool.specs.Names.{Row}
 
--- what stands before the first newline, and what follows it
+-- the text before the first newline
 abbrev first_line : List ℕ → List ℕ
 first_line text = before_first (λ b. b == 10) text
 
+-- the text after the first newline
 abbrev after_line : List ℕ → List ℕ
 after_line text = after_first (λ b. b == 10) text
 
@@ -33,7 +34,7 @@ lines-one text some none =
     let one = slice_split_none (λ b. b == 10) text (λ k d lt. fails_before_first (λ b. b == 10) text k d (omega arith)) in
     rw (one, without_empty_last-one text some, take_all (position_or_len (λ b. b == 10) text) text none, drop_all (position_or_len (λ b. b == 10) text + 1) text (omega arith)) refl
 
--- the first line, and those of what follows its newline
+-- the first line, and the lines after it
 lines-first : (text : List ℕ) → text ≢ [] → lines text ≡ first_line text ∷ lines (after_line text)
 lines-first text some = ⊎_elim
     (λ (found : position_or_len (λ b. b == 10) text < length text).
@@ -42,39 +43,42 @@ lines-first text some = ⊎_elim
     (λ (none : length text ≤ position_or_len (λ b. b == 10) text). lines-one text some none)
     (cases_lt (position_or_len (λ b. b == 10) text) (length text))
 
--- the first answer, and those of what follows
+-- the first answer, and the answers to the text after it
 answers-first : (table : List Row) (text : List ℕ) → text ≢ [] → answers table text ≡ output_line table (first_line text) ++ answers table (after_line text)
 unfolding answers
 answers-first table text some = ap (flat_map (output_line table)) (lines-first text some) ∙ flat_map-cons (output_line table) (first_line text) (lines (after_line text))
 
+-- an empty input has no answers
 pub answers-nil : (table : List Row) → answers table [] ≡ []
 unfolding answers
 answers-nil table = refl
 
--- some line is answered
+-- an input that is not empty has an answer
 pub answers_not_empty : (table : List Row) (text : List ℕ) → text ≢ [] → answers table text ≢ []
 answers_not_empty table text some none = let e = ap length (sym (answers-first table text some) ∙ none) in omega (arith, simp length-append at e)
 
--- the answer to the first line, and those to what follows
+-- the answer to the first line, and the answers to the text after it
 pub answers-next : (table : List Row) (text line after row : List ℕ) → text ≢ [] → line ≡ first_line text → after ≡ after_line text → row ≡ output_line table line → answers table text ≡ row ++ answers table after
 answers-next table text line after row some prefix back e = rw (e, prefix, back) (answers-first table text some)
 
--- a part of a text is no longer than the text
+-- the first line is not longer than the text
 pub length-first_line : (text : List ℕ) → length (first_line text) ≤ length text
 length-first_line text = omega (arith, length-take (position_or_len (λ b. b == 10) text) text)
 
+-- the text after the first line is not longer than the text
 pub length-after_line : (text : List ℕ) → length (after_line text) ≤ length text
 length-after_line text = omega (arith, length-drop (position_or_len (λ b. b == 10) text + 1) text)
 
--- what follows the first line of some text is shorter
+-- the text after the first line is shorter than a text that is not empty
 pub after_line-shorter : (text : List ℕ) → text ≢ [] → length (after_line text) < length text
 after_line-shorter [] some = absurd (some refl)
 after_line-shorter (b ∷ bs) some = omega (arith, length-drop (position_or_len (λ b. b == 10) (b ∷ bs) + 1) (b ∷ bs))
 
--- what `is_empty` tells
+-- a text is not empty by a test of its length
 pub not_empty_by_length : (text : List ℕ) → false ≡ nat_eq (length text) 0 → text ≢ []
 not_empty_by_length [] e = cc
 not_empty_by_length (b ∷ bs) e = λ none. cc
 
+-- a text is empty by a test of its length
 pub empty_by_length : (text : List ℕ) → true ≡ nat_eq (length text) 0 → text ≡ []
 empty_by_length text e = nil_from_length text (grind (arith, nat_tests))

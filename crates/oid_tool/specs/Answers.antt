@@ -1,4 +1,4 @@
--- What the tool answers: one line for each line of its input.
+-- The answers of the tool: one line for each line of its input.
 use Rattle.std.specs.Prelude.{ℕ, ◌==◌, List, [], ◌∷◌, ◌++◌, if◌then◌else◌, codes, bytes_eq, Option, Some, None, Result, Ok, Err}
 use Rattle.std.specs.List.{slice_split, before_first, after_first, flat_map}
 use Rattle.std.specs.Str.{is_utf8}
@@ -6,54 +6,54 @@ use Rattle.hex.specs.Hex.{decode_of, encode_lower}
 use Rattle.hex.specs.declared.error.FromHexError.{FromHexError}
 use Rattle.const_oid.specs.declared.error.Error.{Error}
 use Rattle.const_oid.specs.Contents.{octet_answer, borrowed_capacity}
-use Rattle.const_oid.specs.Identifier.{root_rule, encoding_of}
+use Rattle.const_oid.specs.Identifier.{root_rule, usual_capacity, encoding_of}
 use Rattle.const_oid.specs.Error.{message_of}
 use Rattle.const_oid.specs.Text.{text_of, text_answer}
 use Rattle.const_oid.specs.Tree.{parent_of}
 use Rattle.oid_tool.specs.Names.{Row, row_name_or}
 
--- a refusal
+-- the line of an error
 abbrev pub error_line : List ℕ → List ℕ
 error_line reason = codes "error: " ++ reason
 
--- what is shown of a value, or what is wrong with it
-abbrev pub shown_line : {T : Type 0} → (T → List ℕ) → Result T Error → List ℕ
-shown_line show (Ok value) = show value
-shown_line show (Err fault) = error_line (message_of fault)
+-- the line of a value, or of an error
+abbrev pub line_of : {T : Type 0} → (T → List ℕ) → Result T Error → List ℕ
+line_of line (Ok value) = line value
+line_of line (Err fault) = error_line (message_of fault)
 
--- the arcs of octets as dotted text
+-- the dotted text of octets
 abbrev pub octets_line : Result (List ℕ) FromHexError → List ℕ
-octets_line (Ok octets) = shown_line text_of (octet_answer root_rule octets borrowed_capacity)
+octets_line (Ok octets) = line_of text_of (octet_answer root_rule octets borrowed_capacity)
 octets_line (Err fault) = error_line (codes "not hex")
 
--- what `text` answers, of hexadecimal digits
+-- the answer of `text` to hexadecimal digits
 unfoldable pub text_line : List ℕ → List ℕ
 text_line digits = octets_line (decode_of digits)
 
--- what is shown of the arcs that a text denotes
+-- the line of the arcs that a text denotes
 abbrev pub denoted_line : (List ℕ → List ℕ) → List ℕ → List ℕ
-denoted_line show text =
-    if is_utf8 text then shown_line show (text_answer root_rule text 39)
+denoted_line line text =
+    if is_utf8 text then line_of line (text_answer root_rule text usual_capacity)
     else error_line (codes "not UTF-8")
 
--- what `hex` answers, of dotted text: the contents octets in lower-case hexadecimal digits
+-- the answer of `hex` to dotted text: the contents octets as lower-case hexadecimal digits
 unfoldable pub hex_line : List ℕ → List ℕ
 hex_line text = denoted_line (λ arcs. encode_lower (encoding_of arcs)) text
 
--- the text of the arcs, if there are any
+-- the dotted text of arcs, if there are any
 abbrev pub text_or_none : Option (List ℕ) → List ℕ
 text_or_none None = codes "none"
 text_or_none (Some arcs) = text_of arcs
 
--- what `parent` answers, of dotted text
+-- the answer of `parent` to dotted text
 unfoldable pub parent_line : List ℕ → List ℕ
 parent_line text = denoted_line (λ arcs. text_or_none (parent_of arcs)) text
 
--- what `name` answers, of dotted text: a name of the table, or the text itself
+-- the answer of `name` to dotted text: the name in the table, or the text itself
 unfoldable pub name_line : List Row → List ℕ → List ℕ
 name_line table text = denoted_line (row_name_or table text) text
 
--- what a command answers of its argument, with the names of a table
+-- the answer of a command to its argument, with a table of names
 abbrev pub answer_to : List Row → List ℕ → List ℕ → List ℕ
 answer_to table command argument =
     if bytes_eq command (codes "text") then text_line argument
@@ -66,18 +66,18 @@ answer_to table command argument =
 unfoldable pub answer_line : List Row → List ℕ → List ℕ
 answer_line table line = answer_to table (before_first (λ b. b == 32) line) (after_first (λ b. b == 32) line)
 
--- all pieces but an empty last one
+-- all pieces except an empty last one
 abbrev pub without_empty_last : List (List ℕ) → List (List ℕ)
 without_empty_last [] = []
 without_empty_last ([] ∷ []) = []
 without_empty_last ((b ∷ bs) ∷ []) = (b ∷ bs) ∷ []
 without_empty_last (piece ∷ next ∷ more) = piece ∷ without_empty_last (next ∷ more)
 
--- the lines of the input: the pieces between its newlines, an empty last one dropped
+-- the lines of the input: the pieces between its newlines, except an empty last one
 abbrev pub lines : List ℕ → List (List ℕ)
 lines input = without_empty_last (slice_split (λ b. b == 10) input)
 
--- the answer to a line, and a newline
+-- the answer to a line and a newline
 abbrev pub output_line : List Row → List ℕ → List ℕ
 output_line table line = answer_line table line ++ 10 ∷ []
 

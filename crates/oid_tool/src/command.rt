@@ -1,4 +1,4 @@
-//! The answer to one line: what its command says of its argument.
+//! The answer to one line, which is a command and its argument.
 ghost use Rattle.std.specs.Prelude.{◌≡◌, ◌*◌, ◌≤◌, ◌==◌, length, take, position, IfSome, IsErr, MatchOption, Ok};
 ghost use Rattle.std.specs.List.{before_first, after_first};
 ghost use Rattle.hex.specs.Hex.{decode_of, encode_lower};
@@ -8,14 +8,14 @@ ghost use Rattle.oid_tool.specs.Names.{rows_of};
 ghost use Rattle.oid_tool.specs.Output.{StandsFirst};
 
 use const_oid::db::Database;
-use const_oid::{Error, ObjectIdentifier, ObjectIdentifierRef};
+use const_oid::{Error, ObjectIdentifierRef, Oid};
 use std::str;
 
-/// How many bytes the input may have, and so a line of it.
+/// The most bytes that the input may have.
 pub const MAX_INPUT: usize = 4096;
 
-/// Writes the answer to a line at the start of `out`, with a table of names, and tells its length, or
-/// `None` where it is longer than `out`.
+/// Writes the answer to a line at the start of `out`, with a table of names. Returns its length, or
+/// `None` if it is longer than `out`.
 #[tactic(auto, unfolding(crate::specs::Answers::answer_line))]
 pub fn answer(line: &[u8], table: Database<'_>, out: &mut [u8]) -> Option<usize>
     requires { length line.now ≤ MAX_INPUT }
@@ -35,52 +35,55 @@ pub fn answer(line: &[u8], table: Database<'_>, out: &mut [u8]) -> Option<usize>
     }
 }
 
-/// `text H`: the arcs of the octets that the hexadecimal digits H stand for.
+/// `text H`: the dotted text of the octets that the hexadecimal digits H denote.
 #[tactic(auto, unfolding(crate::specs::Answers::text_line))]
 fn text(digits: &[u8], out: &mut [u8]) -> Option<usize>
     requires { length digits.now ≤ MAX_INPUT }
     ensures { StandsFirst result out.new (text_line digits.now) }
 {
-    let mut room = [0; MAX_INPUT / 2];
-    let Some(count) = decode(digits, &mut room) else {
+    let mut octets = [0; MAX_INPUT / 2];
+    let Some(count) = decode(digits, &mut octets) else {
         return put(b"error: not hex", out);
     };
-    match ObjectIdentifierRef::from_bytes(&room[..count]) {
+    match ObjectIdentifierRef::from_bytes(&octets[..count]) {
         Ok(oid) => oid.encode_text(out),
-        Err(fault) => refuse(fault, out),
+        Err(fault) => put_error(fault, out),
     }
 }
 
-/// `hex T`: the contents octets of the identifier that the text T denotes, in hexadecimal digits.
+/// `hex T`: the contents octets of the identifier that the text T denotes, as hexadecimal digits.
+#[tactic(auto, using(crate::proofs::Commands::lines), unfolding(crate::specs::Answers::hex_line))]
 fn hex(text: &[u8], out: &mut [u8]) -> Option<usize>
     ensures { StandsFirst result out.new (hex_line text.now) }
 {
     let Ok(text) = str::from_utf8(text) else {
         return put(b"error: not UTF-8", out);
     };
-    match ObjectIdentifier::new(text) {
+    match Oid::new(text) {
         Ok(oid) => encode(oid.as_bytes(), out),
-        Err(fault) => refuse(fault, out),
+        Err(fault) => put_error(fault, out),
     }
 }
 
 /// `parent T`: the parent of the identifier that the text T denotes, or `none`.
+#[tactic(auto, using(crate::proofs::Commands::lines), unfolding(crate::specs::Answers::parent_line))]
 fn parent(text: &[u8], out: &mut [u8]) -> Option<usize>
     ensures { StandsFirst result out.new (parent_line text.now) }
 {
     let Ok(text) = str::from_utf8(text) else {
         return put(b"error: not UTF-8", out);
     };
-    match ObjectIdentifier::new(text) {
+    match Oid::new(text) {
         Ok(oid) => match oid.parent() {
             Some(parent) => parent.encode_text(out),
             None => put(b"none", out),
         },
-        Err(fault) => refuse(fault, out),
+        Err(fault) => put_error(fault, out),
     }
 }
 
-/// `name T`: the name of the identifier that the text T denotes, or T itself where it has none.
+/// `name T`: the name of the identifier that the text T denotes, or T itself if it has no name.
+#[tactic(auto, using(crate::proofs::Commands::lines), unfolding(crate::specs::Answers::name_line))]
 fn name(text: &[u8], table: Database<'_>, out: &mut [u8]) -> Option<usize>
     ensures { StandsFirst result out.new (name_line (rows_of table.entry) text.now) }
 {
@@ -89,20 +92,20 @@ fn name(text: &[u8], table: Database<'_>, out: &mut [u8]) -> Option<usize>
     };
     match table.resolve(text) {
         Ok(name) => put(name.as_bytes(), out),
-        Err(fault) => refuse(fault, out),
+        Err(fault) => put_error(fault, out),
     }
 }
 
-/// Writes why a line is refused at the start, and tells the length.
-fn refuse(fault: Error, out: &mut [u8]) -> Option<usize>
-    ensures { StandsFirst result out.new (error_line (message_of fault)) }
+/// Writes an error line at the start of `out`, and returns its length.
+fn put_error(error: Error, out: &mut [u8]) -> Option<usize>
+    ensures { StandsFirst result out.new (error_line (message_of error)) }
 {
     let at = put(b"error: ", out)?;
-    let len = fault.encode_text(&mut out[at..])?;
+    let len = error.encode_text(&mut out[at..])?;
     Some(at + len)
 }
 
-/// Writes bytes at the start, and tells how many, or `None` where they are more than `out` has room for.
+/// Writes bytes at the start of `out`. Returns their number, or `None` if they do not fit.
 pub fn put(bytes: &[u8], out: &mut [u8]) -> Option<usize>
     ensures { StandsFirst result out.new bytes.now }
 {
@@ -114,7 +117,7 @@ pub fn put(bytes: &[u8], out: &mut [u8]) -> Option<usize>
     Some(len)
 }
 
-/// Writes octets at the start in lower-case hexadecimal digits, and tells their number.
+/// Writes octets at the start of `out` as lower-case hexadecimal digits, and returns their number.
 fn encode(octets: &[u8], out: &mut [u8]) -> Option<usize>
     requires { length octets.now ≤ 39 }
     ensures { StandsFirst result out.new (encode_lower octets.now) }
@@ -129,21 +132,21 @@ fn encode(octets: &[u8], out: &mut [u8]) -> Option<usize>
     }
 }
 
-/// Reads hexadecimal digits into the start of the array, and gives the number of octets.
-fn decode(digits: &[u8], room: &mut [u8]) -> Option<usize>
-    requires { length digits.now ≤ 2 * length room.old }
-    ensures within { IfSome result (λ count. count ≤ length room.new) }
-    ensures value { MatchOption result (IsErr (decode_of digits.now)) (λ count. decode_of digits.now ≡ Ok (take count room.new)) }
+/// Writes the octets of hexadecimal digits at the start of `out`, and returns their number.
+fn decode(digits: &[u8], out: &mut [u8]) -> Option<usize>
+    requires { length digits.now ≤ 2 * length out.old }
+    ensures within { IfSome result (λ count. count ≤ length out.new) }
+    ensures value { MatchOption result (IsErr (decode_of digits.now)) (λ count. decode_of digits.now ≡ Ok (take count out.new)) }
 {
     let count = digits.len() / 2;
-    hex::decode_to_slice(digits, &mut room[..count]).ok()?;
+    hex::decode_to_slice(digits, &mut out[..count]).ok()?;
     Some(count)
 }
 
-/// What stands before the first `byte` of a text, or all of it, and what follows that byte.
+/// The part of a text before the first `byte`, or all of it, and the part after that byte.
 pub fn cut(byte: u8, text: &[u8]) -> (&[u8], &[u8])
     ensures prefix { result.0.now ≡ before_first (λ b. b == byte) text.now }
-    ensures back { result.1.now ≡ after_first (λ b. b == byte) text.now }
+    ensures rest { result.1.now ≡ after_first (λ b. b == byte) text.now }
 {
     match position(byte, text) {
         Some(end) => (&text[..end], &text[end + 1..]),
@@ -151,7 +154,7 @@ pub fn cut(byte: u8, text: &[u8]) -> (&[u8], &[u8])
     }
 }
 
-/// The place of the first `byte` of a text.
+/// The index of the first `byte` of a text.
 fn position(byte: u8, text: &[u8]) -> Option<usize>
     ensures { result ≡ position (λ b. b == byte) text.now }
 {

@@ -1,4 +1,4 @@
-//! Answers each line of standard input: object identifiers as octets and as text.
+//! Answers each line of standard input: turns object identifiers into octets, text and names.
 #![tactic(auto)]
 
 mod command;
@@ -11,10 +11,10 @@ use std::process::ExitCode;
 fn main(rt: HostRuntime) -> ExitCode {
     let mut input = rt.stdin();
     let mut output = rt.stdout();
-    let told = run(&mut input, &mut output).and_then(|()| output
+    let result = run(&mut input, &mut output).and_then(|()| output
         .flush()
         .map_err(|_| ToolError::Write));
-    if let Err(error) = told {
+    if let Err(error) = result {
         let _ = eprintln!(rt; "oid_tool: {error}");
         return ExitCode::FAILURE;
     }

@@ -1,12 +1,12 @@
-//! The whole input read, and then the answers to its lines written.
+//! Reads the whole input, and then writes the answers to its lines.
 ghost use Rattle.std.specs.Prelude.{◌≡◌, ◌+◌, ◌≤◌, ◌⊎◌, length, take, IsOk, OnOk, OnErr, IfOk, IfErr, IfSome, Some};
 ghost use Rattle.std.specs.Io.KnownBytes.{Appends, Consumes, IsAtEnd};
 ghost use Rattle.oid_tool.specs.Answers.{answers, output_line};
 ghost use Rattle.oid_tool.specs.Names.{known_names, rows_of};
-ghost use Rattle.oid_tool.specs.Output.{AppendsFront, ConsumesNumber, StandsFirst};
+ghost use Rattle.oid_tool.specs.Output.{AppendsPrefix, ConsumesNumber, StandsFirst};
 
 use crate::command::{MAX_INPUT, answer, cut, put};
-use const_oid::ObjectIdentifier;
+use const_oid::Oid;
 use const_oid::db::Database;
 use std::fmt;
 use std::io::{Read, Write};
@@ -17,7 +17,7 @@ pub enum ToolError {
     /// A read failed.
     Read,
 
-    /// A write failed or took no byte, or an answer had no room in its line.
+    /// A write failed or took no byte, or an answer was longer than [`MAX_LINE`].
     Write,
 
     /// The input has more than [`MAX_INPUT`] bytes.
@@ -40,14 +40,14 @@ impl fmt::Display for ToolError {
 
 /// Reads the input to its end, and then writes the answer to each of its lines.
 ///
-/// Each answer is whole before it is written. No read and no write that failed is tried again, the
-/// output is not flushed, and no memory is taken.
+/// Each answer is complete before it is written. A read or write that failed is not tried again. The
+/// function does not flush the output and takes no memory.
 pub fn run<R: Read, W: Write>(input: &mut R, output: &mut W) -> Result<(), ToolError>
     ensures ok { OnOk result (IfSome (R.remaining input.old)
         (λ text. Appends (W.contents output.old) (W.contents output.new)
         (answers known_names text))) }
     ensures write { result ≡ Err ToolError.Write → IfSome (R.remaining input.old)
-        (λ text. AppendsFront (W.contents output.old) (W.contents output.new)
+        (λ text. AppendsPrefix (W.contents output.old) (W.contents output.new)
         (answers known_names text)) }
     ensures untouched { (result ≡ Err ToolError.Read) ⊎ (result ≡ Err ToolError.TooLong) → output.new ≡ output.old }
     ensures ended { IsOk result ⊎ (result ≡ Err ToolError.Write) → IsAtEnd (R.remaining input.new) }
@@ -58,37 +58,37 @@ pub fn run<R: Read, W: Write>(input: &mut R, output: &mut W) -> Result<(), ToolE
     ensures too_long { result ≡ Err ToolError.TooLong →
         ConsumesNumber (R.remaining input.old) (R.remaining input.new) (MAX_INPUT + 1) }
 {
-    let mut room = [0; INPUT_ROOM];
-    let len = read_all(input, &mut room)?;
-    let cn = ObjectIdentifier::new_unwrap("2.5.4.3");
-    let c = ObjectIdentifier::new_unwrap("2.5.4.6");
-    let common_name = ObjectIdentifier::new_unwrap("2.5.4.3");
-    let rsa_encryption = ObjectIdentifier::new_unwrap("1.2.840.113549.1.1.1");
+    let mut buffer = [0; BUFFER_LEN];
+    let len = read_all(input, &mut buffer)?;
+    let cn = Oid::new_unwrap("2.5.4.3");
+    let c = Oid::new_unwrap("2.5.4.6");
+    let common_name = Oid::new_unwrap("2.5.4.3");
+    let rsa_encryption = Oid::new_unwrap("1.2.840.113549.1.1.1");
     let entries = [
         (&cn, "cn"),
         (&c, "c"),
         (&common_name, "commonName"),
         (&rsa_encryption, "rsaEncryption"),
     ];
-    write_answers(&room[..len], Database::new(&entries), output)
+    write_answers(&buffer[..len], Database::new(&entries), output)
 }
 
-/// Room for a byte more than the input may have, by which a longer one is told.
-const INPUT_ROOM: usize = MAX_INPUT + 1;
+/// The length of the buffer for the input: one byte more than the longest input.
+const BUFFER_LEN: usize = MAX_INPUT + 1;
 
-/// Reads to the end of the input into the start of the array, and gives the number of bytes.
-fn read_all<R: Read>(input: &mut R, room: &mut [u8]) -> Result<usize, ToolError>
-    requires { length room.old ≡ INPUT_ROOM }
+/// Reads to the end of the input, into the start of the buffer. Returns the number of bytes.
+fn read_all<R: Read>(input: &mut R, buffer: &mut [u8]) -> Result<usize, ToolError>
+    requires { length buffer.old ≡ BUFFER_LEN }
     ensures within { IfOk result (λ len. len ≤ MAX_INPUT) }
-    ensures bytes { IfOk result (λ len. Consumes (R.remaining input.old) (R.remaining input.new) (take len room.new)) }
+    ensures bytes { IfOk result (λ len. Consumes (R.remaining input.old) (R.remaining input.new) (take len buffer.new)) }
     ensures ended { OnOk result (IsAtEnd (R.remaining input.new)) }
     ensures err { IfErr result (λ e. (e ≡ ToolError.Read) ⊎ (e ≡ ToolError.TooLong)) }
     ensures too_long { result ≡ Err ToolError.TooLong →
-        ConsumesNumber (R.remaining input.old) (R.remaining input.new) INPUT_ROOM }
+        ConsumesNumber (R.remaining input.old) (R.remaining input.new) BUFFER_LEN }
 {
     let mut len = 0;
-    while len < INPUT_ROOM {
-        match input.read(&mut room[len..]) {
+    while len < BUFFER_LEN {
+        match input.read(&mut buffer[len..]) {
             Ok(0) => return Ok(len),
             Ok(count) => len += count,
             Err(_) => return Err(ToolError::Read),
@@ -97,8 +97,8 @@ fn read_all<R: Read>(input: &mut R, room: &mut [u8]) -> Result<usize, ToolError>
     Err(ToolError::TooLong)
 }
 
-/// How many bytes the answer to a line may take, its newline included.
-const LINE_ROOM: usize = 8192;
+/// The most bytes that an answer and its newline may have.
+const MAX_LINE: usize = 8192;
 
 /// Writes the answer to each line of the text, with a table of names.
 fn write_answers<W: Write>(
@@ -109,26 +109,26 @@ fn write_answers<W: Write>(
     requires { length text.now ≤ MAX_INPUT }
     ensures ok { OnOk result (Appends (W.contents output.old) (W.contents output.new)
         (answers (rows_of table.entry) text.now)) }
-    ensures prefix { OnErr result (AppendsFront (W.contents output.old) (W.contents output.new)
+    ensures prefix { OnErr result (AppendsPrefix (W.contents output.old) (W.contents output.new)
         (answers (rows_of table.entry) text.now)) }
     ensures err { IfErr result (λ e. e ≡ ToolError.Write) }
 {
-    let mut room = [0; LINE_ROOM];
+    let mut line_buffer = [0; MAX_LINE];
     let mut rest = text;
     while !rest.is_empty() {
         let (line, after) = cut(b'\n', rest);
-        let Some(len) = show(line, table, &mut room) else {
+        let Some(len) = put_line(line, table, &mut line_buffer) else {
             return Err(ToolError::Write);
         };
-        write_out(&room[..len], output)?;
+        write_out(&line_buffer[..len], output)?;
         rest = after;
     }
     Ok(())
 }
 
-/// Writes the answer to a line, and a newline, at the start, and tells the length, or `None` where
-/// they are longer than `out`.
-fn show(line: &[u8], table: Database<'_>, out: &mut [u8]) -> Option<usize>
+/// Writes the answer to a line and a newline at the start of `out`. Returns their length, or `None` if
+/// they do not fit.
+fn put_line(line: &[u8], table: Database<'_>, out: &mut [u8]) -> Option<usize>
     requires { length line.now ≤ MAX_INPUT }
     ensures { StandsFirst result out.new (output_line (rows_of table.entry) line.now) }
 {
@@ -140,7 +140,7 @@ fn show(line: &[u8], table: Database<'_>, out: &mut [u8]) -> Option<usize>
 /// Writes all the bytes.
 fn write_out<W: Write>(bytes: &[u8], output: &mut W) -> Result<(), ToolError>
     ensures ok { OnOk result (Appends (W.contents output.old) (W.contents output.new) bytes.now) }
-    ensures prefix { OnErr result (AppendsFront (W.contents output.old) (W.contents output.new) bytes.now) }
+    ensures prefix { OnErr result (AppendsPrefix (W.contents output.old) (W.contents output.new) bytes.now) }
     ensures err { IfErr result (λ e. e ≡ ToolError.Write) }
 {
     let mut rest = bytes;

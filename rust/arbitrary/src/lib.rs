@@ -1,7 +1,7 @@
-//! As much of the crate arbitrary 1.4 as `const-oid` calls, over octets.
+//! The part of the crate arbitrary 1.4 that `const-oid` calls, over octets.
 //!
-//! The workspace has it in the place of that crate, so that the feature is built and tested without a
-//! registry. Who depends on `const-oid` gets the crate itself.
+//! The workspace replaces that crate by this one, so that the feature is built and tested without a
+//! registry. A crate that depends on `const-oid` gets the real one.
 
 use std::ops::RangeInclusive;
 

@@ -1,6 +1,6 @@
-//! Random texts, octets and lists, of which many are nearly or wholly without fault.
+//! Random texts, octets and lists. Many have no fault, and many have only one.
 
-/// Numbers that look random, the same in each run (Marsaglia's xorshift).
+/// Random numbers, which are the same in each run (Marsaglia's xorshift).
 pub struct Draw(pub u64);
 
 impl Draw {
@@ -16,7 +16,7 @@ impl Draw {
         self.below(count) == 0
     }
 
-    /// A number of 33 bits: small, next to a power of two, or any.
+    /// A number of 33 bits: small, near a power of two, or any.
     fn number(&mut self) -> u64 {
         match self.below(4) {
             0 => self.below(3),
@@ -30,7 +30,7 @@ impl Draw {
         self.number() as u32
     }
 
-    /// Up to 45 numbers, mostly with a root that is in range.
+    /// Up to 45 numbers. The first two are mostly in range.
     fn numbers(&mut self) -> Vec<u64> {
         let count = if self.one_in(4) { 46 } else { 12 };
         let mut out: Vec<u64> = (0..self.below(count)).map(|_| self.number()).collect();
@@ -69,22 +69,22 @@ impl Draw {
         out
     }
 
-    /// Groups of numbers of 33 bits, up to 45 of them, now and then with an octet changed or left out.
+    /// The groups of up to 45 numbers of 33 bits. Sometimes an octet is changed or missing.
     pub fn octets(&mut self) -> Vec<u8> {
         let mut out = Vec::new();
         for number in self.numbers() {
             let groups = (1..6)
                 .find(|groups| number >> (7 * groups) == 0)
                 .unwrap_or(6);
-            let digit = |place: u32| (number >> (7 * place)) as u8 | 0x80;
+            let digit = |index: u32| (number >> (7 * index)) as u8 | 0x80;
             out.extend((0..groups).rev().map(digit));
             if let Some(last) = out.last_mut() {
                 *last &= 0x7F;
             }
         }
         if !out.is_empty() && self.one_in(4) {
-            let place = self.below(out.len() as u64) as usize;
-            out[place] = self.below(256) as u8;
+            let index = self.below(out.len() as u64) as usize;
+            out[index] = self.below(256) as u8;
         }
         if self.one_in(16) {
             out.pop();

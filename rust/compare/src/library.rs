@@ -17,24 +17,24 @@ struct Octets {
 
 #[repr(C)]
 #[derive(Default)]
-struct Places {
-    from: usize,
-    to: usize,
+struct Range {
+    start: usize,
+    end: usize,
 }
 
 unsafe extern "C" {
-    fn const_oid_from_text(text: *const u8, len: usize, out: *mut u8, room: usize) -> Status;
-    fn const_oid_to_text(octets: *const u8, len: usize, out: *mut u8, room: usize) -> Status;
+    fn const_oid_from_text(text: *const u8, len: usize, out: *mut u8, out_len: usize) -> Status;
+    fn const_oid_to_text(octets: *const u8, len: usize, out: *mut u8, out_len: usize) -> Status;
     fn const_oid_arc(octets: *const u8, len: usize, index: usize) -> Status;
-    fn const_oid_arcs(octets: *const u8, len: usize, out: *mut u32, room: usize) -> Status;
-    fn const_oid_from_arcs(arcs: *const u32, len: usize, out: *mut u8, room: usize) -> Status;
-    fn const_oid_parent(octets: *const u8, len: usize, out: *mut u8, room: usize) -> Status;
+    fn const_oid_arcs(octets: *const u8, len: usize, out: *mut u32, out_len: usize) -> Status;
+    fn const_oid_from_arcs(arcs: *const u32, len: usize, out: *mut u8, out_len: usize) -> Status;
+    fn const_oid_parent(octets: *const u8, len: usize, out: *mut u8, out_len: usize) -> Status;
     fn const_oid_push_arc(
         octets: *const u8,
         len: usize,
         arc: u32,
         out: *mut u8,
-        room: usize,
+        out_len: usize,
     ) -> Status;
     fn const_oid_starts_with(a: *const u8, len: usize, b: *const u8, other_len: usize) -> Status;
     fn const_oid_eq(a: *const u8, len: usize, b: *const u8, other_len: usize) -> Status;
@@ -46,67 +46,69 @@ unsafe extern "C" {
         len: usize,
         sorted: *const Octets,
         count: usize,
-        places: *mut Places,
+        range: *mut Range,
     ) -> Status;
-    fn const_oid_error_text(code: u32, detail: u32, out: *mut u8, room: usize) -> Status;
+    fn const_oid_error_text(code: u32, detail: u32, out: *mut u8, out_len: usize) -> Status;
 }
 
-/// An answer, or the code and the number of a refusal.
+/// An answer, or the code and the detail of an error.
 pub type Answer<T> = Result<T, (u32, u32)>;
 
-/// What is told by a call that writes nothing.
-fn told(status: Status) -> Answer<u32> {
+/// The answer of a call that writes nothing.
+fn answer(status: Status) -> Answer<u32> {
     match status.code {
         0 => Ok(status.detail),
         code => Err((code, status.detail)),
     }
 }
 
-/// What is written by a call that is given room for 1,024 items.
+/// The items that a call writes to an output of 1,024 items.
 fn written<T: Clone + Default>(call: impl Fn(*mut T, usize) -> Status) -> Answer<Vec<T>> {
     let mut out = vec![T::default(); 1024];
     let status = call(out.as_mut_ptr(), out.len());
     let len = status.len;
-    told(status)?;
+    answer(status)?;
     out.truncate(len);
     Ok(out)
 }
 
-// SAFETY, of all that follows: each pointer is a slice's, with its length behind it.
+// SAFETY, for all calls below: each pointer is that of a slice, and its length follows it.
 
 pub fn from_text(text: &[u8]) -> Answer<Vec<u8>> {
-    written(|out, room| unsafe { const_oid_from_text(text.as_ptr(), text.len(), out, room) })
+    written(|out, out_len| unsafe { const_oid_from_text(text.as_ptr(), text.len(), out, out_len) })
 }
 
 pub fn from_arcs(arcs: &[u32]) -> Answer<Vec<u8>> {
-    written(|out, room| unsafe { const_oid_from_arcs(arcs.as_ptr(), arcs.len(), out, room) })
+    written(|out, out_len| unsafe { const_oid_from_arcs(arcs.as_ptr(), arcs.len(), out, out_len) })
 }
 
 pub fn to_text(octets: &[u8]) -> Answer<Vec<u8>> {
-    written(|out, room| unsafe { const_oid_to_text(octets.as_ptr(), octets.len(), out, room) })
+    written(|out, out_len| unsafe {
+        const_oid_to_text(octets.as_ptr(), octets.len(), out, out_len)
+    })
 }
 
 pub fn arcs(octets: &[u8]) -> Answer<Vec<u32>> {
-    written(|out, room| unsafe { const_oid_arcs(octets.as_ptr(), octets.len(), out, room) })
+    written(|out, out_len| unsafe { const_oid_arcs(octets.as_ptr(), octets.len(), out, out_len) })
 }
 
 pub fn arc(octets: &[u8], index: usize) -> Answer<u32> {
-    told(unsafe { const_oid_arc(octets.as_ptr(), octets.len(), index) })
+    answer(unsafe { const_oid_arc(octets.as_ptr(), octets.len(), index) })
 }
 
 pub fn parent(octets: &[u8]) -> Answer<Vec<u8>> {
-    written(|out, room| unsafe { const_oid_parent(octets.as_ptr(), octets.len(), out, room) })
+    written(|out, out_len| unsafe { const_oid_parent(octets.as_ptr(), octets.len(), out, out_len) })
 }
 
 pub fn push_arc(octets: &[u8], arc: u32) -> Answer<Vec<u8>> {
     let (octets, len) = (octets.as_ptr(), octets.len());
-    written(|out, room| unsafe { const_oid_push_arc(octets, len, arc, out, room) })
+    written(|out, out_len| unsafe { const_oid_push_arc(octets, len, arc, out, out_len) })
 }
 
 type OfTwo = unsafe extern "C" fn(*const u8, usize, *const u8, usize) -> Status;
 
 fn of_two(call: OfTwo, a: &[u8], b: &[u8]) -> Answer<u32> {
-    told(unsafe { call(a.as_ptr(), a.len(), b.as_ptr(), b.len()) })
+    answer(unsafe { call(a.as_ptr(), a.len(), b.as_ptr(), b.len()) })
 }
 
 fn order(number: u32) -> Ordering {
@@ -139,12 +141,12 @@ pub fn subtree(octets: &[u8], sorted: &[&[u8]]) -> Answer<(usize, usize)> {
         len: octets.len(),
     };
     let list: Vec<Octets> = sorted.iter().map(lent).collect();
-    let mut places = Places::default();
+    let mut range = Range::default();
     let (octets, len, list, count) = (octets.as_ptr(), octets.len(), list.as_ptr(), list.len());
-    told(unsafe { const_oid_subtree(octets, len, list, count, &mut places) })?;
-    Ok((places.from, places.to))
+    answer(unsafe { const_oid_subtree(octets, len, list, count, &mut range) })?;
+    Ok((range.start, range.end))
 }
 
 pub fn error_text(code: u32, detail: u32) -> Answer<Vec<u8>> {
-    written(|out, room| unsafe { const_oid_error_text(code, detail, out, room) })
+    written(|out, out_len| unsafe { const_oid_error_text(code, detail, out, out_len) })
 }

@@ -1,5 +1,5 @@
-//! Compares the crate const-oid with the static library of the same source, which is compiled by
-//! other compilers: `compare [COUNT]`, of so many texts, octets and lists each (a million).
+//! Compares the crate const-oid with the static library, which other compilers make of the same
+//! source: `compare [COUNT]`. COUNT is the number of texts, of octets and of lists (a million).
 
 mod draw;
 mod library;
@@ -9,7 +9,7 @@ use draw::Draw;
 use library::Answer;
 use std::fmt::Debug;
 
-/// Identifiers of as many octets as the library's.
+/// An identifier with the capacity of the library.
 type Long = ObjectIdentifier<255>;
 
 fn main() {
@@ -37,7 +37,7 @@ fn main() {
     println!("{count} texts, octets and lists each: as the library answers ({accepted} accepted)");
 }
 
-/// The crate's answer has to be the library's.
+/// Checks that the crate and the library have the same answer.
 #[track_caller]
 fn same<T: PartialEq + Debug>(input: impl Debug, ours: T, theirs: T) {
     assert!(
@@ -46,8 +46,8 @@ fn same<T: PartialEq + Debug>(input: impl Debug, ours: T, theirs: T) {
     );
 }
 
-/// An answer as the library tells it.
-fn told<T>(answer: Result<T, Error>) -> Answer<T> {
+/// An answer in the form of the library.
+fn coded<T>(answer: Result<T, Error>) -> Answer<T> {
     answer.map_err(|error| {
         let code = code(error);
         let text = library::error_text(code.0, code.1);
@@ -56,7 +56,7 @@ fn told<T>(answer: Result<T, Error>) -> Answer<T> {
     })
 }
 
-/// An error as the library numbers it, with its arc or byte.
+/// The code and the detail of an error.
 fn code(error: Error) -> (u32, u32) {
     match error {
         Error::ArcInvalid { arc } => (1, arc),
@@ -71,14 +71,14 @@ fn code(error: Error) -> (u32, u32) {
     }
 }
 
-/// The library's answer where there is none.
+/// The library's code of an arc or parent that does not exist.
 const NONE: (u32, u32) = (12, 0);
 
 fn bytes(oid: &ObjectIdentifierRef) -> Vec<u8> {
     oid.as_bytes().to_vec()
 }
 
-/// At 39 octets the answer is that at 255, but for `Length`.
+/// Checks that the answer at 39 octets is the one at 255, or `Length`.
 fn small(input: impl Debug, small: Result<ObjectIdentifier, Error>, long: Result<Long, Error>) {
     match (small, long) {
         (Ok(small), Ok(long)) => same(input, small.as_bytes(), long.as_bytes()),
@@ -91,7 +91,7 @@ fn small(input: impl Debug, small: Result<ObjectIdentifier, Error>, long: Result
 fn of_text(draw: &mut Draw) -> Option<Long> {
     let text = draw.text();
     let oid = Long::new_sized(&text);
-    let ours = told(oid.map(|oid| bytes(&oid)));
+    let ours = coded(oid.map(|oid| bytes(&oid)));
     same(&text, ours, library::from_text(text.as_bytes()));
     small(&text, ObjectIdentifier::new(&text), oid);
     oid.ok()
@@ -100,7 +100,7 @@ fn of_text(draw: &mut Draw) -> Option<Long> {
 fn of_list(draw: &mut Draw) -> Option<Long> {
     let arcs = draw.list();
     let oid = Long::from_arcs_sized(arcs.iter().copied());
-    let ours = told(oid.map(|oid| bytes(&oid)));
+    let ours = coded(oid.map(|oid| bytes(&oid)));
     same(&arcs, ours, library::from_arcs(&arcs));
     small(
         &arcs,
@@ -114,10 +114,10 @@ fn of_list(draw: &mut Draw) -> Option<Long> {
 fn of_octets(octets: &[u8]) -> bool {
     let read = ObjectIdentifierRef::from_bytes(octets);
     let arcs = read.map(|oid| oid.arcs().collect());
-    same(octets, told(arcs), library::arcs(octets));
+    same(octets, coded(arcs), library::arcs(octets));
     let owned = Long::from_bytes_sized(octets);
     small(octets, ObjectIdentifier::from_bytes(octets), owned);
-    let parent = told(owned).and_then(|oid| oid.parent().ok_or(NONE));
+    let parent = coded(owned).and_then(|oid| oid.parent().ok_or(NONE));
     let parent = parent.map(|oid| bytes(&oid));
     same(octets, parent, library::parent(octets));
     let Ok(oid) = read else {
@@ -126,9 +126,9 @@ fn of_octets(octets: &[u8]) -> bool {
     let text = oid.to_string();
     let ours = Ok(text.clone().into_bytes());
     same(octets, ours, library::to_text(octets));
-    let mut room = [0; 1024];
-    let len = oid.encode_text(&mut room);
-    same(octets, len.map(|len| &room[..len]), Some(text.as_bytes()));
+    let mut out = [0; 1024];
+    let len = oid.encode_text(&mut out);
+    same(octets, len.map(|len| &out[..len]), Some(text.as_bytes()));
     for index in [0, 1, 2, oid.len() - 1, oid.len()] {
         let ours = oid.arc(index).ok_or(NONE);
         same((octets, index), ours, library::arc(octets, index));
@@ -155,7 +155,7 @@ fn of_two(a: &Long, b: &Long, arc: u32) {
         library::starts_with(left, right),
     );
     let child = a.push_arc(arc);
-    let ours = told(child.map(|oid| bytes(&oid)));
+    let ours = coded(child.map(|oid| bytes(&oid)));
     same((a, arc), ours, library::push_arc(left, arc));
     if let Ok(child) = child {
         let octets = child.as_bytes();
@@ -172,7 +172,7 @@ fn of_two(a: &Long, b: &Long, arc: u32) {
     }
 }
 
-/// Compares where identifiers that begin with one of a sorted list stand in it.
+/// Compares the ranges of a sorted list that begin with an identifier.
 fn of_subtree(draw: &mut Draw) {
     let drawn: Vec<Vec<u8>> = (0..200).map(|_| draw.octets()).collect();
     let mut sorted: Vec<&ObjectIdentifierRef> = Vec::new();

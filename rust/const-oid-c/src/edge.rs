@@ -1,12 +1,12 @@
-//! The exported functions, over pointers. What a caller keeps stands in the header: a pointer is valid
-//! for its length, or null where that is 0, and an output overlaps no input.
+//! The exported functions, over pointers. The header says what a caller promises: a pointer is valid
+//! for its length, or null with length 0, and an output overlaps no input.
 
 use crate::calls::status::Status;
-use crate::calls::subtree::{Octets, Places};
+use crate::calls::subtree::{Octets, Range};
 use crate::calls::{arcs, errors, order, subtree, texts, tree, version};
 use core::slice;
 
-/// The items that an input has.
+/// The items of an input.
 pub(crate) unsafe fn input<'a, T>(items: *const T, len: usize) -> &'a [T] {
     if len == 0 {
         return &[];
@@ -14,7 +14,7 @@ pub(crate) unsafe fn input<'a, T>(items: *const T, len: usize) -> &'a [T] {
     unsafe { slice::from_raw_parts(items, len) }
 }
 
-/// The room that an output has.
+/// The items of an output.
 unsafe fn output<'a, T>(items: *mut T, len: usize) -> &'a mut [T] {
     if len == 0 {
         return &mut [];
@@ -27,7 +27,7 @@ pub extern "C" fn const_oid_version() -> u32 {
     version::const_oid_version()
 }
 
-/// A call that reads octets alone.
+/// A call that reads octets.
 macro_rules! reads {
     ($module:ident, $name:ident $(, $number:ident: $type:ty)?) => {
         #[unsafe(no_mangle)]
@@ -54,15 +54,15 @@ macro_rules! reads_both {
     };
 }
 
-/// A call that reads items, of a type, and writes others.
+/// A call that reads items of one type and writes items of another.
 macro_rules! writes {
-    ($module:ident, $name:ident, $from:ty, $to:ty $(, $number:ident: $type:ty)?) => {
+    ($module:ident, $name:ident, $input:ty, $output:ty $(, $number:ident: $type:ty)?) => {
         #[unsafe(no_mangle)]
         pub unsafe extern "C" fn $name(
-            items: *const $from,
+            items: *const $input,
             len: usize,
             $($number: $type,)?
-            out: *mut $to,
+            out: *mut $output,
             out_len: usize,
         ) -> Status {
             let (items, out) = unsafe { (input(items, len), output(out, out_len)) };
@@ -102,8 +102,8 @@ pub unsafe extern "C" fn const_oid_subtree(
     len: usize,
     sorted: *const Octets<'_>,
     count: usize,
-    places: *mut Places,
+    range: *mut Range,
 ) -> Status {
     let (octets, sorted) = unsafe { (input(octets, len), input(sorted, count)) };
-    subtree::const_oid_subtree(octets, sorted, unsafe { &mut *places })
+    subtree::const_oid_subtree(octets, sorted, unsafe { &mut *range })
 }

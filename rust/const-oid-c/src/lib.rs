@@ -1,8 +1,7 @@
-//! The calls of `crates/const_oid_c/include/const_oid.h` as a static and a shared library of cargo's.
+//! The calls of `crates/const_oid_c/include/const_oid.h`, as a static and a shared library.
 //!
-//! The modules `const_oid` and `calls` are made of sources in Rattle by `rust/erase`. The module `edge`
-//! alone is written by hand: it makes slices of pointers and lengths, and calls the function of the
-//! same name.
+//! `rust/erase` makes the modules `const_oid` and `calls` from sources in Rattle. The module `edge` is
+//! written by hand. It makes slices from pointers and lengths, and calls the function of the same name.
 #![no_std]
 
 #[rustfmt::skip] // Laid out as its sources are.
@@ -13,7 +12,7 @@ mod calls;
 mod const_oid;
 mod edge;
 
-/// No call panics: each is proved to be safe. The compiler asks for this nevertheless.
+/// No call panics, since each is proved to be safe. The compiler wants this function anyway.
 #[panic_handler]
 fn panic(_: &core::panic::PanicInfo<'_>) -> ! {
     loop {}

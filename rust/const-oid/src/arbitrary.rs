@@ -1,4 +1,4 @@
-//! Identifiers for fuzzing, of drawn arcs: as many as fit.
+//! Identifiers for fuzzing, made from drawn arcs: as many as fit.
 
 use crate::ObjectIdentifier;
 use arbitrary::{Arbitrary, Error, Result, Unstructured};

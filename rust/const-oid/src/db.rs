@@ -1,4 +1,4 @@
-//! Names of identifiers: a module of constants for each document that gives them, and the table of all.
+//! Names of identifiers: a module of constants for each document that defines them, and the table of all.
 
 /// ```
 /// use const_oid::db::{DB, rfc4519};

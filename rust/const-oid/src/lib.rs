@@ -1,9 +1,9 @@
 //! Object identifiers (ITU-T X.660) as text, arcs and contents octets (ITU-T X.690, 8.19), without
 //! heap: the API of the crate const-oid 0.10.2, by the RustCrypto developers.
 //!
-//! The module `erased` is made of sources in Rattle, of which `rust/erase` takes away what only their
-//! checker reads. Its types are this crate's. Beside it stand forms alone, in which each function is
-//! one call.
+//! `rust/erase` makes the module `erased` from sources in Rattle, without what only their checker reads.
+//! Its types are the types of this crate. The other modules are forms, in which each function is one
+//! call.
 //!
 //! ```
 //! use const_oid::{ObjectIdentifier, ObjectIdentifierRef};

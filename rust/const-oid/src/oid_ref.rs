@@ -10,8 +10,8 @@ use core::hash::{Hash, Hasher};
 ///
 /// Its octets have no fault: they are the one encoding of its arcs (X.690, 8.19).
 ///
-/// It is compared with owned identifiers of any capacity, on the left side. The two forms are ordered
-/// otherwise, so a `BTreeMap` with keys of one form is not asked with the other.
+/// It can be compared with owned identifiers of any capacity, if it is the left side. The two forms
+/// have different orders, so look up keys of one form in a `BTreeMap` only by that form.
 ///
 /// ```
 /// use const_oid::{ObjectIdentifier, ObjectIdentifierRef};
@@ -38,7 +38,7 @@ impl ObjectIdentifierRef {
         erased::ObjectIdentifierRef::from_checked(&self.ber)
     }
 
-    /// Reads contents octets (X.690, 8.19), of any number. The errors are those of
+    /// Reads contents octets (X.690, 8.19) of any length. The errors are those of
     /// [`ObjectIdentifier::from_bytes`].
     ///
     /// ```
@@ -63,7 +63,7 @@ impl ObjectIdentifierRef {
         &self.ber
     }
 
-    /// The arc at a place, counted from 0, or `None` past the last.
+    /// The arc at an index, counted from 0, or `None` past the last one.
     ///
     /// ```
     /// let oid = const_oid::ObjectIdentifierRef::from_bytes(&[0x88, 0x37, 0x03])?;
@@ -96,8 +96,8 @@ impl ObjectIdentifierRef {
         self.erased().len()
     }
 
-    /// The identifier of all arcs but the last, over the prefix of the same octets, or `None` of two
-    /// arcs.
+    /// The identifier of all arcs except the last, over a prefix of the same octets, or `None` if there
+    /// are two arcs.
     ///
     /// ```
     /// let oid = const_oid::ObjectIdentifierRef::from_bytes(&[0x88, 0x37, 0x03])?;
@@ -133,9 +133,8 @@ impl ObjectIdentifierRef {
         self.erased().cmp_arcs(&other.erased())
     }
 
-    /// Where the identifiers that begin with this one, itself among them, stand in a sorted list:
-    /// from the first place on, counted from 0, and below the second. Without any of them both are
-    /// the place where this one would stand.
+    /// The range of the identifiers in a sorted list that begin with this one, which may be one of
+    /// them: its start and its end. Both are the index where this one would stand if there are none.
     ///
     /// The list does not descend in the order of `cmp`. It may hold an identifier more than once.
     ///
@@ -145,14 +144,14 @@ impl ObjectIdentifierRef {
     /// let oids = ["2.5.4", "2.5.4.3", "2.5.4.6", "2.5.29"].map(ObjectIdentifier::new_unwrap);
     /// let mut sorted: Vec<&ObjectIdentifierRef> = oids.iter().map(|oid| oid.as_oid_ref()).collect();
     /// sorted.sort();
-    /// let (from, to) = oids[0].subtree(&sorted);
-    /// assert!(sorted[from..to].iter().all(|oid| oid.starts_with(&oids[0])) && to - from == 3);
+    /// let (start, end) = oids[0].subtree(&sorted);
+    /// assert!(sorted[start..end].iter().all(|oid| oid.starts_with(&oids[0])) && end - start == 3);
     /// ```
     pub fn subtree(&self, sorted: &[&Self]) -> (usize, usize) {
         self.erased().subtree(sorted)
     }
 
-    /// The length of the text that `{}` writes, or `usize::MAX` where it is past that.
+    /// The length of the text that `{}` writes, or `usize::MAX` if it is greater.
     ///
     /// ```
     /// let oid = const_oid::ObjectIdentifierRef::from_bytes(&[0x88, 0x37, 0x03])?;
@@ -163,8 +162,8 @@ impl ObjectIdentifierRef {
         self.erased().text_len()
     }
 
-    /// Writes the text that `{}` writes at the start of `out`, and tells its length. `None` where it
-    /// is longer than `out`, which then stays as it was.
+    /// Writes the text that `{}` writes at the start of `out`, and returns its length. `None` if it
+    /// is longer than `out`, which is then unchanged.
     ///
     /// ```
     /// let oid = const_oid::ObjectIdentifierRef::from_bytes(&[0x88, 0x37, 0x03])?;

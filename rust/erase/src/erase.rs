@@ -1,6 +1,6 @@
-//! Takes away what only the checker reads, and says the rest as Rust says it.
+//! Removes what only the checker reads, and turns the rest into Rust.
 //!
-//! Each rule is of a kind of syntax. What none of them knows is refused.
+//! Each rule is for one kind of syntax. Syntax that no rule knows is refused.
 
 use crate::fault::{Fault, Result};
 use crate::token::{Kind, Token, close, is, solid, text};
@@ -25,7 +25,7 @@ const ATTRIBUTES: [&str; 4] = ["inline", "must_use", "repr", "unsafe"];
 /// Macros that mean the same in Rust.
 const MACROS: [&str; 4] = ["matches", "panic", "unreachable", "write"];
 
-/// The tokens that are Rust. Paths from `crate` on begin at `root` there.
+/// The tokens of Rust. A path that begins with `crate` begins with `root` there.
 pub fn erase<'a>(tokens: &[Token<'a>], root: &'a str) -> Result<Tokens<'a>> {
     let out = without_attributes(tokens)?;
     let out = without_exports(&out);
@@ -37,7 +37,7 @@ pub fn erase<'a>(tokens: &[Token<'a>], root: &'a str) -> Result<Tokens<'a>> {
     Ok(paths(&out, root))
 }
 
-/// With the attributes of Rust alone, and without tests, whose macros are Rattle's.
+/// Without the attributes of Rattle, and without tests, whose macros are Rattle's.
 fn without_attributes<'a>(tokens: &[Token<'a>]) -> Result<Tokens<'a>> {
     let mut out = Tokens::new();
     let mut at = 0;
@@ -64,6 +64,7 @@ fn without_attributes<'a>(tokens: &[Token<'a>]) -> Result<Tokens<'a>> {
                 at = end;
             }
             "derive" => at = end + 1,
+            "tactic" if open == at + 1 => at = end + 1,
             "tactic" => at = leave_out(&mut out, tokens, end),
             "cfg" if inside == "cfg(test)" => {
                 at = leave_out(&mut out, tokens, item_end(tokens, end))
@@ -77,7 +78,7 @@ fn without_attributes<'a>(tokens: &[Token<'a>]) -> Result<Tokens<'a>> {
     Ok(out)
 }
 
-/// Whether a derive is Rust's: of all its traits, or of `Drop` alone, which is the checker's.
+/// Whether Rust knows a derive. `Drop` alone is the checker's.
 fn is_derived(attribute: &[Token<'_>]) -> Result<bool> {
     let words = attribute.iter().filter(|token| token.kind == Kind::Word);
     let names: Vec<&Token<'_>> = words.skip(1).collect();
@@ -99,11 +100,11 @@ pub fn item_end(tokens: &[Token<'_>], from: usize) -> usize {
     let is_use = is_use.is_some_and(|token| token.is("use"));
     let ends = |token: &Token<'_>| token.is(";") || (token.is("{") && !is_use);
     let end = tokens[from..].iter().position(ends);
-    end.map_or(tokens.len(), |place| close(tokens, from + place) + 1)
+    end.map_or(tokens.len(), |index| close(tokens, from + index) + 1)
 }
 
-/// Leaves out what ends before `end`, and the comments right before it: of the space on both sides
-/// one stays. The place to go on from.
+/// Leaves out the item that ends before `end`, and the comments right before it. The space of one
+/// side stays. Returns the index after it.
 pub fn leave_out<'a>(out: &mut Tokens<'a>, tokens: &[Token<'a>], end: usize) -> usize {
     let mut lines = 0;
     while let Some(last) = out.pop_if(|last| is_gap(last)) {
@@ -125,7 +126,7 @@ pub fn leave_out<'a>(out: &mut Tokens<'a>, tokens: &[Token<'a>], end: usize) -> 
     end
 }
 
-/// Whether a token is space or a comment of what follows.
+/// Whether a token is space, or a comment of the next item.
 fn is_gap(token: &Token<'_>) -> bool {
     token.is_blank() && !token.text.starts_with("//!")
 }
@@ -160,8 +161,8 @@ fn without_exports<'a>(tokens: &[Token<'a>]) -> Tokens<'a> {
     out
 }
 
-/// Without bounds of `Drop`, which in Rattle says that a value may be left: `T: Drop,` behind `where`,
-/// and `+ Drop`.
+/// Without bounds of `Drop`, which Rattle wants for a value that may be dropped: `T: Drop,` after
+/// `where`, and `+ Drop`.
 fn without_drop_bounds<'a>(tokens: &[Token<'a>]) -> Tokens<'a> {
     let mut out = Tokens::new();
     let mut at = 0;
@@ -208,7 +209,7 @@ fn ghost_end(tokens: &[Token<'_>], from: usize) -> Result<usize> {
     let name = solid(tokens, from + 1);
     if is(tokens, name, "use") {
         let end = tokens[name..].iter().position(|token| token.is(";"));
-        return end.map(|place| name + place + 1).ok_or_else(fault);
+        return end.map(|index| name + index + 1).ok_or_else(fault);
     }
     let sign = solid(tokens, name + 1);
     let mut open = solid(tokens, sign + 1);
@@ -231,7 +232,7 @@ fn ghost_end(tokens: &[Token<'_>], from: usize) -> Result<usize> {
 }
 
 /// Leaves out `requires name { .. }` or `ensures name { .. }`, whose name may be missing, with the
-/// space and the comments round it. The place to go on from.
+/// space and the comments around it. Returns the index after it.
 fn without_clause<'a>(out: &mut Tokens<'a>, tokens: &[Token<'a>], from: usize) -> Result<usize> {
     let mut open = solid(tokens, from + 1);
     if tokens
@@ -247,8 +248,7 @@ fn without_clause<'a>(out: &mut Tokens<'a>, tokens: &[Token<'a>], from: usize) -
     while out.pop_if(|last| last.is_blank()).is_some() {}
     out.pop_if(|last| last.is("where"));
     while out.pop_if(|last| last.is_blank()).is_some() {}
-    let behind = close(tokens, open) + 1;
-    let next = solid(tokens, behind);
+    let next = solid(tokens, close(tokens, open) + 1);
     if is(tokens, next, "{") {
         let head = out.iter().rposition(|token| token.is("fn")).unwrap_or(0);
         let has_bounds = out[head..].iter().any(|token| token.is("where"));
@@ -264,7 +264,7 @@ fn without_clause<'a>(out: &mut Tokens<'a>, tokens: &[Token<'a>], from: usize) -
     Ok(next)
 }
 
-/// Without impls of `Model`, which say what a type means, and without its import.
+/// Without impls of `Model`, which only the checker reads, and without its import.
 fn without_models<'a>(tokens: &[Token<'a>]) -> Result<Tokens<'a>> {
     let mut out = Tokens::new();
     let mut at = 0;
@@ -321,7 +321,7 @@ fn with_formatter<'a>(tokens: &[Token<'a>]) -> Tokens<'a> {
     out
 }
 
-/// `panic!("..")` for `unreachable!("..")`: where the checker rules out a call, the words tell why.
+/// `panic!("..")` for `unreachable!("..")`. The checker rules out such a call, and the text says why.
 fn with_words<'a>(tokens: &[Token<'a>]) -> Tokens<'a> {
     let mut out = tokens.to_vec();
     for at in 3..out.len() {
@@ -333,7 +333,7 @@ fn with_words<'a>(tokens: &[Token<'a>]) -> Tokens<'a> {
     out
 }
 
-/// Refuses what is left and may not be Rust, or not mean the same there.
+/// Refuses tokens that may not be Rust, or may mean something else there.
 fn known(tokens: &[Token<'_>]) -> Result<()> {
     let code = |token: &&Token<'_>| matches!(token.kind, Kind::Word | Kind::Mark);
     for token in tokens.iter().filter(code) {
@@ -355,7 +355,7 @@ fn known(tokens: &[Token<'_>]) -> Result<()> {
     Ok(())
 }
 
-/// `core` for `std`, and the root of the made modules for `crate`, at the front of paths.
+/// `core` for `std`, and the root of the made modules for `crate`, at the start of paths.
 fn paths<'a>(tokens: &[Token<'a>], root: &'a str) -> Tokens<'a> {
     let mut out = tokens.to_vec();
     for at in 1..out.len() {
@@ -460,6 +460,10 @@ mod tests {
         assert_erased(
             "#![tactic(auto)]\n\n#[derive(Drop)]\nstruct S;\n#[inline(always)]\nfn f() {}",
             "struct S;\n#[inline(always)]\nfn f() {}",
+        );
+        assert_erased(
+            "/// Kept.\n#[tactic(auto, using(crate::a))]\nfn f() {}",
+            "/// Kept.\nfn f() {}",
         );
         assert_erased(
             "fn g() {}\n\n#[cfg(test)]\nmod tests {\n    fn f() {}\n}\n",

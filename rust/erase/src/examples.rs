@@ -1,4 +1,4 @@
-//! Examples of public functions, which stand in a page of their own.
+//! Examples of public functions. A page of their own holds them.
 
 use crate::fault::{Fault, Result};
 use std::collections::BTreeMap;
@@ -7,7 +7,7 @@ use std::collections::BTreeMap;
 pub struct Examples<'a>(BTreeMap<&'a str, Vec<&'a str>>);
 
 impl<'a> Examples<'a> {
-    /// Reads a page on which an example stands as a block of code below `## Type::function`.
+    /// Reads a page of examples. Each one is a block of code below `## Type::function`.
     pub fn read(page: &'a str) -> Result<Self> {
         let mut examples = BTreeMap::new();
         for (index, section) in page.split("\n## ").enumerate().skip(1) {
@@ -21,7 +21,7 @@ impl<'a> Examples<'a> {
         Ok(Examples(examples))
     }
 
-    /// The names of all, in order.
+    /// The names of all functions with an example, in order.
     pub fn names(&self) -> impl Iterator<Item = &str> {
         self.0.keys().copied()
     }

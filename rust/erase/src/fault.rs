@@ -1,10 +1,10 @@
-//! Why a source is refused, and where.
+//! A fault of a source, and its line.
 
 pub type Result<T> = std::result::Result<T, Fault>;
 
 #[derive(Debug)]
 pub struct Fault {
-    /// Counted from 1; 0 where no line is to blame.
+    /// Counted from 1, or 0 for a fault of no line.
     pub line: usize,
     pub words: String,
 }

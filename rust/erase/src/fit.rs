@@ -1,5 +1,4 @@
-//! Fits what is left to Rust, as the table says: heads of functions and types, impls that are
-//! derived, and what is left out.
+//! Applies the table: heads of functions and types, derives instead of impls, and what is left out.
 
 use crate::erase::{item_end, leave_out};
 use crate::examples::Examples;
@@ -11,18 +10,18 @@ use std::collections::BTreeMap;
 /// How often each entry of a table was found.
 pub type Found = BTreeMap<(&'static str, String), usize>;
 
-/// A module, a type, or a function that is no trait's.
+/// A module, a type or a function, but not a function of a trait.
 struct Item {
-    /// Of a type's function: `Type::function`.
+    /// `Type::function` for a function of a type.
     name: String,
-    /// Where its visibility or its first attribute stands.
+    /// The index of its visibility or its first attribute.
     head: usize,
-    /// Where its braces open, else its `;`.
+    /// The index of its opening brace, or of its `;`.
     body: usize,
     end: usize,
 }
 
-/// The source as the table has it, with the examples of public functions.
+/// The source after the changes of the table, with the examples of public functions.
 pub fn fit(
     tokens: &[Token<'_>],
     table: &Crate,
@@ -38,7 +37,8 @@ pub fn fit(
         let head = text(&tokens[item.head..item.body]);
         let head = fitted(&item.name, head, table, found)?;
         let is_public = head.contains("pub fn") || head.contains("pub const fn");
-        if is_public && table.shown.iter().any(|of| item.name.starts_with(of)) {
+        let mut types = table.with_examples.iter();
+        if is_public && types.any(|of| item.name.starts_with(of)) {
             note(found, "example", &item.name);
             out.push_str(&examples.of(&item.name)?);
         }
@@ -56,7 +56,7 @@ pub fn fit(
     Ok(out)
 }
 
-/// Refuses a table with an entry that stands nowhere, or more often than the table has it.
+/// Refuses a table with an entry that was not found, or was found too often.
 pub fn all_found(table: &Crate, found: &Found) -> Result<()> {
     let entries = table.entries();
     for (kind, name, why) in &entries {
@@ -89,7 +89,7 @@ fn renamed<'a>(tokens: &[Token<'a>], table: &Crate, found: &mut Found) -> Vec<To
     out
 }
 
-/// Without the modules, imports and impls that go.
+/// Without the modules, imports and impls that the table leaves out.
 fn without<'a>(tokens: &[Token<'a>], table: &Crate, found: &mut Found) -> Vec<Token<'a>> {
     let mut out = Vec::new();
     let mut at = 0;
@@ -108,7 +108,7 @@ fn without<'a>(tokens: &[Token<'a>], table: &Crate, found: &mut Found) -> Vec<To
     out
 }
 
-/// The entry by which the item that begins here goes, if it does.
+/// The entry that leaves out the item that begins here, if there is one.
 fn leaving(tokens: &[Token<'_>], at: usize, table: &Crate) -> Option<(&'static str, &'static str)> {
     let keyword = if is(tokens, at, "pub") {
         solid(tokens, at + 1)
@@ -141,7 +141,7 @@ fn leaving(tokens: &[Token<'_>], at: usize, table: &Crate) -> Option<(&'static s
     None
 }
 
-/// Where the braces of an item open, else its `;`.
+/// The index of the opening brace of an item, or of its `;`.
 fn body_of(tokens: &[Token<'_>], from: usize) -> usize {
     let opens = |at: &usize| tokens[*at].is("{") || tokens[*at].is(";");
     (from..tokens.len()).find(opens).unwrap_or(tokens.len())
@@ -184,7 +184,7 @@ fn items(tokens: &[Token<'_>]) -> Vec<Item> {
     out
 }
 
-/// The type of an impl that is of no trait.
+/// The type of an impl, unless it is the impl of a trait.
 fn owner_of<'a>(head: &[Token<'a>]) -> Option<&'a str> {
     let mut depth = 0;
     let mut owner = None;
@@ -200,7 +200,7 @@ fn owner_of<'a>(head: &[Token<'a>]) -> Option<&'a str> {
     owner
 }
 
-/// Where the head of an item begins whose keyword stands at `from`: its attributes and its visibility.
+/// The index of the first attribute, or else of the visibility, of the item with its keyword at `from`.
 fn head_of(tokens: &[Token<'_>], from: usize) -> usize {
     let ends = |token: &Token<'_>| [";", "{", "}"].iter().any(|end| token.is(end));
     let begin = tokens[..from]
@@ -209,7 +209,7 @@ fn head_of(tokens: &[Token<'_>], from: usize) -> usize {
     solid(tokens, begin.map_or(0, |begin| begin + 1))
 }
 
-/// The head of an item as the table has it.
+/// The head of an item after the changes of the table.
 fn fitted(name: &str, mut head: String, table: &Crate, found: &mut Found) -> Result<String> {
     let constant = table.constant.iter().filter(|of| **of == name);
     let constant = constant.map(|of| ("constant", *of, "fn ", "const fn "));

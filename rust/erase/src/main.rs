@@ -1,8 +1,8 @@
-//! Makes Rust of Rattle: `erase [--check] [ROOT]`.
+//! Makes Rust from Rattle: `erase [--check] [ROOT]`.
 //!
-//! Of each crate of the table, below ROOT (the repository), it reads the sources from `lib.rt` on and
-//! writes the module that they make up; of `rust/names.tsv` it writes the constants of the names. With
-//! `--check` it writes nothing, and ends with 1 where a file is not what it would write.
+//! ROOT is the repository. For each crate of the table, the program reads `lib.rt` and its modules, and
+//! writes them as Rust. It writes the constants of names from `rust/names.tsv`. With `--check` it writes
+//! nothing, and ends with 1 if a file differs from what it would write.
 
 mod erase;
 mod examples;
@@ -125,7 +125,7 @@ fn read(root: &Path, path: &str) -> std::result::Result<String, String> {
     fs::read_to_string(root.join(path)).map_err(|error| format!("{path}: {error}"))
 }
 
-/// What differs from the files to write, among it files of their folders that are none of them.
+/// The files that differ from the files to write, and other files in their folders.
 fn differing(root: &Path, files: &[File]) -> Vec<String> {
     let read = |path: &str| fs::read_to_string(root.join(path)).ok();
     let differ = files
@@ -138,7 +138,7 @@ fn differing(root: &Path, files: &[File]) -> Vec<String> {
         .collect()
 }
 
-/// The files of the made folders that erase does not make.
+/// The other files in the folders to write.
 fn others(root: &Path, files: &[File]) -> Vec<String> {
     let mut out: Vec<String> = table::CRATES
         .iter()
@@ -148,7 +148,7 @@ fn others(root: &Path, files: &[File]) -> Vec<String> {
     out
 }
 
-/// The files of a folder and of those in it.
+/// The files of a folder and of all folders in it.
 fn listed(root: &Path, folder: &str) -> Vec<String> {
     let mut out = Vec::new();
     for entry in fs::read_dir(root.join(folder))
@@ -166,7 +166,7 @@ fn listed(root: &Path, folder: &str) -> Vec<String> {
     out
 }
 
-/// Writes the files, removes others beside them, and tells what could not be done.
+/// Writes the files, and removes others beside them. Returns the failures.
 fn written(root: &Path, files: &[File]) -> Vec<String> {
     let write = |(path, rust): &File| {
         let path = root.join(path);
@@ -178,7 +178,7 @@ fn written(root: &Path, files: &[File]) -> Vec<String> {
     let removed = others.map(|path| (path.clone(), fs::remove_file(root.join(path))));
     let faults = written
         .chain(removed)
-        .filter_map(|(path, done)| Some((path, done.err()?)));
+        .filter_map(|(path, result)| Some((path, result.err()?)));
     faults
         .map(|(path, error)| format!("{path}: {error}"))
         .collect()

@@ -1,35 +1,35 @@
-//! All that Rust has otherwise than the proved sources, beside the rules of [`crate::erase`]: heads of
-//! functions and types, derives, visibility, the body of one function and the fields of two types.
+//! The differences between Rust and the proved sources that the rules of [`crate::erase`] do not make:
+//! heads of functions and types, derives, visibility, and the bodies of a few functions and types.
 
-/// What is made of the sources of a crate.
+/// How Rust is made from the sources of a crate.
 pub struct Crate {
-    /// The folder of the sources, below the repository's.
+    /// The folder of the sources, from the top of the repository.
     pub from: &'static str,
     /// The folder of the made files.
     pub to: &'static str,
-    /// The module that these make up.
+    /// The root module of the made files.
     pub root: &'static str,
     pub left_out: &'static [Name],
-    /// Functions that constants call, and that Rattle does not call constant.
+    /// Functions that constants call, but that are not `const` in Rattle.
     pub constant: &'static [&'static str],
-    /// Impls by hand in whose place a derive stands.
+    /// Impls by hand that a derive replaces.
     pub derived: &'static [Name],
     pub heads: &'static [Head],
     pub renamed: &'static [Renamed],
     pub bodies: &'static [Body],
-    /// Types whose public functions have an example each, on the page of examples.
-    pub shown: &'static [&'static str],
+    /// Types whose public functions each have an example on the page of examples.
+    pub with_examples: &'static [&'static str],
     pub examples: Option<&'static str>,
 }
 
-/// A module, an import or an impl that goes, and why.
+/// A module, an import or an impl that is left out, and why.
 pub struct Name {
     pub name: &'static str,
     pub why: &'static str,
 }
 
-/// A piece of the head of a module, a type or a function, its attributes included, which stands there once,
-/// and what stands in its place.
+/// A piece of the head of a module, a type or a function, its attributes included, and what replaces it.
+/// The piece stands there once.
 pub struct Head {
     pub of: &'static str,
     pub from: &'static str,
@@ -37,21 +37,21 @@ pub struct Head {
     pub why: &'static str,
 }
 
-/// A word, and the word in its place, by which other entries find what it names.
+/// A word, and the word that replaces it. Other entries use the second word.
 pub struct Renamed {
     pub from: &'static str,
     pub to: &'static str,
     pub why: &'static str,
 }
 
-/// The body of a function, which Rust cannot have as it is.
+/// The body of a function or a type that Rust needs instead of the proved one.
 pub struct Body {
     pub of: &'static str,
     pub rust: &'static str,
     pub why: &'static str,
 }
 
-/// The kind of an entry, the name that it is found by, and its reason.
+/// The kind of an entry, its name, and its reason.
 pub type Entry = (&'static str, &'static str, &'static str);
 
 impl Crate {
@@ -84,7 +84,8 @@ impl Crate {
     }
 }
 
-const EQUALITY: &str = "constants in patterns need the derived `==`; behind the octets in use stand zeros (`ghost zeros`)";
+const EQUALITY: &str =
+    "constants in patterns need the derived `==`; zeros follow the octets in use (`ghost zeros`)";
 const FEATURE: &str = "it is of a feature";
 const LENT: &str = "the crate's borrowed form is unsized, and lent";
 const UNSIZED: &str = "the crate's function of this name is of the unsized form";
@@ -264,7 +265,7 @@ pub const CRATES: &[Crate] = &[
                 why: LENT,
             },
         ],
-        shown: &[
+        with_examples: &[
             "Buffer::",
             "Database::",
             "Error::",
@@ -308,7 +309,7 @@ pub const CRATES: &[Crate] = &[
             rust: "{\n    octets.iter().filter(|octet| **octet < 128).count()\n}",
             why: "lanes are unstable in Rust",
         }],
-        shown: &[],
+        with_examples: &[],
         examples: None,
     },
     Crate {
@@ -322,7 +323,7 @@ pub const CRATES: &[Crate] = &[
         renamed: &[Renamed {
             from: "const_oid",
             to: "crate::const_oid",
-            why: "a module stands in the place of the crate",
+            why: "a module replaces the crate",
         }],
         bodies: &[
             Body {
@@ -336,7 +337,7 @@ pub const CRATES: &[Crate] = &[
                 why: "C hands in a pointer, which may be null, and a length",
             },
         ],
-        shown: &[],
+        with_examples: &[],
         examples: None,
     },
 ];

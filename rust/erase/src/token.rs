@@ -1,7 +1,7 @@
-//! A source cut into tokens, whose texts together are the source again.
+//! The tokens of a source. Their texts together are the source.
 //!
-//! Rattle has Rust's tokens. Ghost terms are another language, but their brackets nest and their
-//! strings are Rust's: that is all it takes to pass over them.
+//! Rattle has the tokens of Rust. Ghost terms are another language. But their brackets nest, and their
+//! strings are those of Rust, so they can be skipped.
 
 use crate::fault::{Fault, Result};
 
@@ -50,7 +50,7 @@ pub fn tokens(source: &str) -> Result<Vec<Token<'_>>> {
     Ok(out)
 }
 
-/// The kind and the length of the token that a source begins with, or why there is none.
+/// The kind and the length of the first token of a source, or why there is none.
 fn next(source: &str) -> std::result::Result<(Kind, usize), &'static str> {
     let run = |of: fn(char) -> bool| source.find(|c| !of(c)).unwrap_or(source.len());
     let first = source.chars().next().unwrap_or(' ');
@@ -81,21 +81,21 @@ fn next(source: &str) -> std::result::Result<(Kind, usize), &'static str> {
     Ok((Kind::Mark, first.len_utf8()))
 }
 
-/// The length up to the closing quote, of which the text begins at `from`.
+/// The index after the closing quote of a text that begins at `from`.
 fn quoted(source: &str, from: usize, quote: char) -> Option<usize> {
     let mut escaped = false;
-    for (place, c) in source[from..].char_indices() {
+    for (index, c) in source[from..].char_indices() {
         match c {
             _ if escaped => escaped = false,
             '\\' => escaped = true,
-            c if c == quote => return Some(from + place + 1),
+            c if c == quote => return Some(from + index + 1),
             _ => {}
         }
     }
     None
 }
 
-/// A character, a lifetime, or, in a ghost term, the mark alone.
+/// A character or a lifetime. In a ghost term, only the mark.
 fn tick(source: &str, prefix: usize) -> (Kind, usize) {
     let inner = &source[prefix + 1..];
     let mut chars = inner.chars();
@@ -143,7 +143,7 @@ fn nest(tokens: &[Token<'_>]) -> Result<()> {
     }
 }
 
-/// The place of the bracket that closes the one at `open`.
+/// The index of the bracket that closes the one at `open`.
 pub fn close(tokens: &[Token<'_>], open: usize) -> usize {
     let mut depth = 0;
     for (at, token) in tokens.iter().enumerate().skip(open) {
@@ -159,13 +159,13 @@ pub fn close(tokens: &[Token<'_>], open: usize) -> usize {
     tokens.len() - 1
 }
 
-/// The first place from `from` on with a token that is neither space nor comment.
+/// The index, `from` or later, of the first token that is neither space nor comment.
 pub fn solid(tokens: &[Token<'_>], from: usize) -> usize {
     let rest = tokens.iter().skip(from);
     from + rest.take_while(|token| token.is_blank()).count()
 }
 
-/// Whether this token stands at a place.
+/// Whether the token at an index is this one.
 pub fn is(tokens: &[Token<'_>], at: usize, text: &str) -> bool {
     tokens.get(at).is_some_and(|token| token.is(text))
 }

@@ -2,7 +2,7 @@
 use std::io;
 use std::io::{ErrorKind, Read, Write};
 
-/// At which read or write a device fails, counted from 1, and the kind of its error.
+/// The read or write at which a device fails, counted from 1, and the kind of its error.
 #[derive(Clone, Copy)]
 pub struct Failure {
     pub at: usize,
@@ -15,7 +15,7 @@ impl Failure {
         Failure::at(0)
     }
 
-    /// A device whose other end is gone.
+    /// A device that fails as a pipe without a reader does.
     pub fn at(at: usize) -> Self {
         Failure {
             at,
@@ -24,7 +24,7 @@ impl Failure {
     }
 }
 
-/// Gives a text one byte a read, and fails at one read.
+/// Reads a text byte by byte, and fails at one read.
 #[derive(Drop)]
 pub struct OneByteReader<'a> {
     text: &'a [u8],
@@ -49,8 +49,8 @@ impl Read for OneByteReader<'_> {
             return Err(io::Error::from(self.failure.kind));
         }
         match (self.text, buf.first_mut()) {
-            ([byte, rest @ ..], Some(place)) => {
-                *place = *byte;
+            ([byte, rest @ ..], Some(slot)) => {
+                *slot = *byte;
                 self.text = rest;
                 Ok(1)
             }
@@ -59,7 +59,7 @@ impl Read for OneByteReader<'_> {
     }
 }
 
-/// Gives one byte a read for ever.
+/// Reads one byte again and again, without an end.
 #[derive(Drop)]
 pub struct EndlessReader {
     pub reads: usize,
@@ -69,8 +69,8 @@ impl Read for EndlessReader {
     fn read(&mut self, buf: &mut [u8]) -> io::Result<usize> {
         self.reads = self.reads.saturating_add(1);
         match buf.first_mut() {
-            Some(place) => {
-                *place = b'\n';
+            Some(slot) => {
+                *slot = b'\n';
                 Ok(1)
             }
             None => Ok(0),
@@ -78,10 +78,10 @@ impl Read for EndlessReader {
     }
 }
 
-/// Takes a few bytes a write, and fails at one write.
+/// Writes a few bytes at a time, and fails at one write.
 #[derive(Drop)]
 pub struct SlowWriter {
-    room: [u8; 64],
+    bytes: [u8; 64],
     used: usize,
     most: usize,
     pub writes: usize,
@@ -92,7 +92,7 @@ pub struct SlowWriter {
 impl SlowWriter {
     pub fn new(most: usize, failure: Failure) -> Self {
         SlowWriter {
-            room: [0; 64],
+            bytes: [0; 64],
             used: 0,
             most,
             writes: 0,
@@ -102,7 +102,7 @@ impl SlowWriter {
     }
 
     pub fn written(&self) -> &[u8] {
-        self.room.get(..self.used).unwrap_or(&[])
+        self.bytes.get(..self.used).unwrap_or(&[])
     }
 }
 
@@ -114,8 +114,8 @@ impl Write for SlowWriter {
         }
         let count = buf.len().min(self.most);
         for i in 0..count {
-            match (self.room.get_mut(self.used), buf.get(i)) {
-                (Some(place), Some(byte)) => *place = *byte,
+            match (self.bytes.get_mut(self.used), buf.get(i)) {
+                (Some(slot), Some(byte)) => *slot = *byte,
                 _ => return Ok(i),
             }
             self.used = self.used.saturating_add(1);

@@ -1,4 +1,4 @@
-//! What `run` answers over memory, and where a reader or a writer fails.
+//! The answers of `run` in memory, and its errors if a reader or a writer fails.
 ghost use Rattle.std.specs.Prelude.{◌≡◌, ◌≤◌, ◌++◌, length, OnOk};
 ghost use Rattle.oid_tool.specs.Answers.{answers};
 ghost use Rattle.oid_tool.specs.Names.{known_names};
@@ -9,7 +9,7 @@ use std::alloc::Global;
 use std::io::ErrorKind;
 use std::test::Fail;
 
-/// What [`run`] says where both sides tell their bytes.
+/// [`run`] over a slice and a vector, whose bytes are known.
 fn run_over_memory(input: &[u8], output: &mut Vec<u8>) -> Result<(), ToolError>
     ensures within { OnOk result (length input.now ≤ MAX_INPUT) }
     ensures written { OnOk result
@@ -19,7 +19,7 @@ fn run_over_memory(input: &[u8], output: &mut Vec<u8>) -> Result<(), ToolError>
     run(&mut rest, output)
 }
 
-/// Inputs, and what is answered.
+/// Inputs and their answers.
 const ROWS: [(&str, &str); 68] = [
     ("", ""),
     ("\n", "error: unknown command\n"),
@@ -129,11 +129,11 @@ const ROWS: [(&str, &str); 68] = [
     ("name cn\n", "error: expected digit, got 'c'\n"),
 ];
 
-/// Whether an input is answered by this output.
+/// Whether this output answers an input.
 fn answers_by(alloc: Global, input: &[u8], wanted: &[u8]) -> bool {
     let mut output = Vec::new(alloc);
-    let told = run_over_memory(input, &mut output);
-    told == Ok(()) && output.as_slice() == wanted
+    let result = run_over_memory(input, &mut output);
+    result == Ok(()) && output.as_slice() == wanted
 }
 
 #[test]
@@ -146,7 +146,7 @@ fn rows(rt: HostRuntime) {
     }
 }
 
-/// A text that is no UTF-8 is refused before it is read.
+/// A text that is not UTF-8 is refused before it is read.
 #[test]
 fn no_text(rt: HostRuntime) {
     for input in [
@@ -162,15 +162,15 @@ fn no_text(rt: HostRuntime) {
     }
 }
 
-/// Whether an input is too long, and nothing is written.
+/// Whether an input is too long and nothing is written.
 fn is_too_long(alloc: Global, input: &[u8]) -> bool {
     let mut output = Vec::new(alloc);
-    let told = run_over_memory(input, &mut output);
-    told == Err(ToolError::TooLong) && output.is_empty()
+    let result = run_over_memory(input, &mut output);
+    result == Err(ToolError::TooLong) && output.is_empty()
 }
 
-/// Commands whose text is filled up by zeros and ends in `3`, and the answers.
-const FILLED: [(&str, &str); 5] = [
+/// Commands whose text is padded with zeros and ends in `3`, and their answers.
+const PADDED: [(&str, &str); 5] = [
     ("hex 1.2.", "2a03\n"),
     ("hex 2.999.", "883703\n"),
     ("parent 1.2.", "1.2\n"),
@@ -179,15 +179,15 @@ const FILLED: [(&str, &str); 5] = [
 ];
 
 /// A text of so many bytes: a prefix, zeros, `3` and a newline.
-fn filled(alloc: Global, prefix: &str, len: usize) -> Result<String, Fail> {
+fn padded(alloc: Global, prefix: &str, len: usize) -> Result<String, Fail> {
     let zeros = "0".repeat(alloc, len.saturating_sub(prefix.len()).saturating_sub(2))?;
     Ok(format!(in alloc; "{prefix}{zeros}3\n")?)
 }
 
-/// Whether a prefix, filled up to the longest input, has an answer, and a byte more is too long.
-fn fills(alloc: Global, prefix: &str, wanted: &str) -> Result<bool, Fail> {
-    let most = filled(alloc, prefix, 4096)?;
-    let more = filled(alloc, prefix, 4097)?;
+/// Whether a prefix that is padded to the longest input has this answer. One more byte is too long.
+fn answers_padded(alloc: Global, prefix: &str, wanted: &str) -> Result<bool, Fail> {
+    let most = padded(alloc, prefix, 4096)?;
+    let more = padded(alloc, prefix, 4097)?;
     Ok(
         most.len() == 4096
             && answers_by(alloc, most.as_bytes(), wanted.as_bytes())
@@ -197,17 +197,17 @@ fn fills(alloc: Global, prefix: &str, wanted: &str) -> Result<bool, Fail> {
 
 #[test]
 fn longest_text(rt: HostRuntime) -> Result<(), Fail> {
-    for (prefix, wanted) in &FILLED {
-        assert!(rt; fills(rt.alloc(), prefix, wanted)?, "{prefix}");
+    for (prefix, wanted) in &PADDED {
+        assert!(rt; answers_padded(rt.alloc(), prefix, wanted)?, "{prefix}");
     }
     Ok(())
 }
 
-/// A text that has no name is given back, however long it is.
+/// A text that has no name is its own answer, however long it is.
 #[test]
 fn longest_unknown_name(rt: HostRuntime) -> Result<(), Fail> {
-    let text = filled(rt.alloc(), "1.2.", 4091)?;
-    assert!(rt; fills(rt.alloc(), "name 1.2.", text.as_str())?);
+    let text = padded(rt.alloc(), "1.2.", 4091)?;
+    assert!(rt; answers_padded(rt.alloc(), "name 1.2.", text.as_str())?);
     Ok(())
 }
 
@@ -220,7 +220,7 @@ fn max_lines(rt: HostRuntime) -> Result<(), Fail> {
     Ok(())
 }
 
-/// First groups in hexadecimal digits and their arcs, and how many groups 7F after them fill the
+/// First groups as hexadecimal digits, their arcs, and the number of groups 7F that follow them in the
 /// longest input.
 const LONGEST: [(&str, &str, usize); 3] = [
     ("77", "2.39", 2044),
@@ -228,7 +228,7 @@ const LONGEST: [(&str, &str, usize); 3] = [
     ("908080804F", "2.4294967295", 2040),
 ];
 
-/// Whether a first group and so many groups 7F are the longest input, and their arcs are printed.
+/// Whether a first group and so many groups 7F are the longest input and print these arcs.
 fn prints_longest(alloc: Global, first: &str, arcs: &str, count: usize) -> Result<bool, Fail> {
     let groups = "7F".repeat(alloc, count)?;
     let later = ".127".repeat(alloc, count)?;
@@ -237,7 +237,7 @@ fn prints_longest(alloc: Global, first: &str, arcs: &str, count: usize) -> Resul
     Ok(input.len() == MAX_INPUT && answers_by(alloc, input.as_bytes(), wanted.as_bytes()))
 }
 
-/// The longest lines that are written: of the first row 8,180 bytes and a newline.
+/// The longest lines that are written. The first row has 8,180 bytes and a newline.
 #[test]
 fn longest_line(rt: HostRuntime) -> Result<(), Fail> {
     for (first, arcs, count) in &LONGEST {
@@ -246,7 +246,7 @@ fn longest_line(rt: HostRuntime) -> Result<(), Fail> {
     Ok(())
 }
 
-/// Whether a failed read is told, is the last one, and nothing is written.
+/// Whether a read fails, is the last one, and nothing is written.
 fn read_fails(failure: Failure) -> bool {
     let mut input = OneByteReader::new(b"parent 1.2.3\n", failure);
     let mut output = SlowWriter::new(64, Failure::none());
@@ -256,7 +256,7 @@ fn read_fails(failure: Failure) -> bool {
         && output.flushes == 0
 }
 
-/// The first of 14 reads that fails otherwise, of this kind.
+/// The first of 14 reads that fails in another way, for this kind of error.
 fn wrong_read(kind: ErrorKind) -> Option<usize> {
     for at in 1..15 {
         if !read_fails(Failure { at, kind }) {
@@ -266,7 +266,7 @@ fn wrong_read(kind: ErrorKind) -> Option<usize> {
     None
 }
 
-/// Whether 14 reads are enough where the next one would fail.
+/// Whether 14 reads are enough, where the next one would fail.
 fn ends_after_14_reads() -> bool {
     let mut input = OneByteReader::new(b"parent 1.2.3\n", Failure::at(15));
     let mut output = SlowWriter::new(64, Failure::none());
@@ -275,7 +275,7 @@ fn ends_after_14_reads() -> bool {
         && output.written() == b"1.2\n".as_slice()
 }
 
-/// Of each kind, that of a read that was interrupted among them.
+/// Each read fails with each kind of error, `Interrupted` among them.
 #[test]
 fn each_read_fails(rt: HostRuntime) {
     for kind in KINDS {
@@ -294,27 +294,26 @@ fn endless_input(rt: HostRuntime) {
     assert!(rt; output.writes == 0);
 }
 
-/// Three lines, and their answers, of nine writes of at most three bytes.
+/// Three lines and their answers, which take nine writes of at most three bytes.
 const THREE: (&[u8], &[u8]) = (
     b"text 2A03\ntext 2G\ntext 8837",
     b"1.2.3\nerror: not hex\n2.999\n",
 );
 
-/// Whether a failed write is told and is the last one, with a prefix written that is shorter than the
-/// whole.
+/// Whether a write fails and is the last one, after a prefix of the answers but not all of them.
 fn write_fails(failure: Failure) -> bool {
     let mut rest = THREE.0;
     let mut output = SlowWriter::new(3, failure);
-    let told = run(&mut rest, &mut output);
+    let result = run(&mut rest, &mut output);
     let written = output.written();
-    told == Err(ToolError::Write)
+    result == Err(ToolError::Write)
         && output.writes == failure.at
         && output.flushes == 0
         && THREE.1.starts_with(written)
         && written.len() < THREE.1.len()
 }
 
-/// The first of nine writes that fails otherwise, of this kind.
+/// The first of nine writes that fails in another way, for this kind of error.
 fn wrong_write(kind: ErrorKind) -> Option<usize> {
     for at in 1..10 {
         if !write_fails(Failure { at, kind }) {

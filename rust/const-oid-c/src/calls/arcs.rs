@@ -1,15 +1,15 @@
 // Made from crates/const_oid_c/src/arcs.rt by rust/erase: edited there.
 
-//! Contents octets as arcs, and arcs as contents octets.
+//! Octets to arcs, and arcs to octets.
 
 use crate::calls::output::write_octets;
 use crate::calls::owned::{MAX_OCTETS, is_too_long};
 use crate::calls::status::{
-    NONE, Status, code_status, error_status, len_status, no_room_status, number_status,
+    NONE, Status, code_status, error_status, len_status, number_status, too_short_status,
 };
 use crate::const_oid::{Arcs, ObjectIdentifier, ObjectIdentifierRef, Result};
 
-/// Checks contents octets, of any number.
+/// Checks contents octets of any length.
 pub fn const_oid_check(octets: &[u8]) -> Status {
     match ObjectIdentifierRef::from_bytes(octets) {
         Ok(_) => len_status(0),
@@ -17,7 +17,7 @@ pub fn const_oid_check(octets: &[u8]) -> Status {
     }
 }
 
-/// Counts the arcs of contents octets, of any number.
+/// Counts the arcs of contents octets of any length.
 pub fn const_oid_len(octets: &[u8]) -> Status {
     match ObjectIdentifierRef::from_bytes(octets) {
         Ok(oid) => len_status(oid.len()),
@@ -25,7 +25,7 @@ pub fn const_oid_len(octets: &[u8]) -> Status {
     }
 }
 
-/// Finds the arc at a place, counted from 0, of contents octets of any number.
+/// Finds the arc at an index, counted from 0, in contents octets of any length.
 pub fn const_oid_arc(octets: &[u8], index: usize) -> Status {
     match ObjectIdentifierRef::from_bytes(octets) {
         Ok(oid) => match oid.arc(index) {
@@ -46,18 +46,18 @@ pub fn const_oid_from_arcs(arcs: &[u32], out: &mut [u8]) -> Status {
     write_octets(small, out)
 }
 
-/// Writes the contents octets of arcs that take many.
+/// Writes the contents octets of arcs, where they may be many.
 #[inline(never)]
 fn write_large(arcs: &[u32], out: &mut [u8]) -> Status {
     write_octets(encoded::<MAX_OCTETS>(arcs), out)
 }
 
-/// The identifier of arcs.
+/// The identifier that has these arcs.
 fn encoded<const N: usize>(arcs: &[u32]) -> Result<ObjectIdentifier<N>> {
     ObjectIdentifier::<N>::from_arcs_sized(arcs.iter().copied())
 }
 
-/// Writes all arcs of contents octets, of any number.
+/// Writes all arcs of contents octets of any length.
 pub fn const_oid_arcs(octets: &[u8], out: &mut [u32]) -> Status {
     let oid = match ObjectIdentifierRef::from_bytes(octets) {
         Ok(oid) => oid,
@@ -65,14 +65,14 @@ pub fn const_oid_arcs(octets: &[u8], out: &mut [u32]) -> Status {
     };
     let len = oid.len();
     if len > out.len() {
-        return no_room_status(len);
+        return too_short_status(len);
     }
-    fill(oid.arcs(), out);
+    write_arcs(oid.arcs(), out);
     len_status(len)
 }
 
-/// Writes arcs to the start of the caller's slice, which has room for them.
-fn fill(arcs: Arcs<'_>, out: &mut [u32]) {
+/// Writes arcs at the start of a slice, which is long enough.
+fn write_arcs(arcs: Arcs<'_>, out: &mut [u32]) {
     let mut index = 0;
     for arc in arcs {
         out[index] = arc;

@@ -4,11 +4,11 @@
 
 use crate::calls::output::write_bytes;
 use crate::calls::status::{
-    NO_ROOM, NONE, NOT_UTF8, Status, UNSORTED, code_status, len_status, no_room_status,
+    NONE, NOT_UTF8, Status, TOO_SHORT, UNSORTED, code_status, len_status, too_short_status,
 };
 use crate::const_oid::Error;
 
-/// Writes the text of the code and the detail of a status, with no zero byte after it.
+/// Writes the text of a code and its detail. No zero byte follows it.
 pub fn const_oid_error_text(code: u32, detail: u32, out: &mut [u8]) -> Status {
     match code {
         1 => write_error(Error::ArcInvalid { arc: detail }, out),
@@ -25,7 +25,7 @@ pub fn const_oid_error_text(code: u32, detail: u32, out: &mut [u8]) -> Status {
         7 => write_error(Error::Overflow, out),
         8 => write_error(Error::RepeatedDot, out),
         9 => write_error(Error::TrailingDot, out),
-        NO_ROOM => write_bytes(b"the answer is longer than the output", out),
+        TOO_SHORT => write_bytes(b"the answer is longer than the output", out),
         NOT_UTF8 => write_bytes(b"the text is not UTF-8", out),
         NONE => write_bytes(b"there is no such arc, parent or text", out),
         UNSORTED => write_bytes(b"the list is not sorted", out),
@@ -37,6 +37,6 @@ pub fn const_oid_error_text(code: u32, detail: u32, out: &mut [u8]) -> Status {
 fn write_error(error: Error, out: &mut [u8]) -> Status {
     match error.encode_text(out) {
         Some(len) => len_status(len),
-        None => no_room_status(error.text_len()),
+        None => too_short_status(error.text_len()),
     }
 }

@@ -1,9 +1,9 @@
 // Made from crates/const_oid_c/src/lib.rt by rust/erase: edited there.
 
-//! Object identifiers for C: the calls of `const_oid` over slices of the caller's.
+//! Object identifiers for C: the calls of `const_oid` over slices that the caller owns.
 //!
-//! No call takes memory or keeps a pointer, and none has a condition beyond its types.
-//! `include/const_oid.h` declares them, and says what a C caller keeps.
+//! No call takes memory, keeps a pointer or has a condition beyond its types.
+//! `include/const_oid.h` declares the calls and says what a C caller promises.
 
 pub mod arcs;
 pub mod errors;

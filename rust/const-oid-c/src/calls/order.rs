@@ -1,13 +1,13 @@
 // Made from crates/const_oid_c/src/order.rt by rust/erase: edited there.
 
-//! Two identifiers compared.
+//! Comparisons of two identifiers.
 
 use crate::calls::owned::read_owned;
 use crate::calls::status::{Status, error_status, flag_status, order_status};
 use crate::const_oid::ObjectIdentifierRef;
 use core::cmp::Ordering;
 
-/// Tells whether two identifiers, of any number of octets, are equal.
+/// Whether two identifiers of any length are equal.
 pub fn const_oid_eq(left: &[u8], right: &[u8]) -> Status {
     let left = match ObjectIdentifierRef::from_bytes(left) {
         Ok(left) => left,
@@ -19,7 +19,7 @@ pub fn const_oid_eq(left: &[u8], right: &[u8]) -> Status {
     }
 }
 
-/// Tells whether the arcs begin with all those of a prefix, each of any number of octets.
+/// Whether an identifier begins with all arcs of a prefix. Both may have any length.
 pub fn const_oid_starts_with(octets: &[u8], prefix: &[u8]) -> Status {
     let oid = match ObjectIdentifierRef::from_bytes(octets) {
         Ok(oid) => oid,
@@ -31,8 +31,7 @@ pub fn const_oid_starts_with(octets: &[u8], prefix: &[u8]) -> Status {
     }
 }
 
-/// Compares two identifiers of any number of octets in the order of borrowed ones: octets in list
-/// order, a prefix before what begins with it.
+/// Compares two identifiers of any length by their octets, as lists. A prefix comes first.
 pub fn const_oid_cmp(left: &[u8], right: &[u8]) -> Status {
     let left = match ObjectIdentifierRef::from_bytes(left) {
         Ok(left) => left,
@@ -44,8 +43,7 @@ pub fn const_oid_cmp(left: &[u8], right: &[u8]) -> Status {
     }
 }
 
-/// Compares two identifiers of any number of octets in the order of their arcs, a prefix before what
-/// begins with it.
+/// Compares two identifiers of any length by their arcs, as lists. A prefix comes first.
 pub fn const_oid_cmp_arcs(left: &[u8], right: &[u8]) -> Status {
     let left = match ObjectIdentifierRef::from_bytes(left) {
         Ok(left) => left,
@@ -57,8 +55,7 @@ pub fn const_oid_cmp_arcs(left: &[u8], right: &[u8]) -> Status {
     }
 }
 
-/// Compares two identifiers of at most 255 octets in the order of owned ones: fewer octets first, and
-/// with as many the octets in list order.
+/// Compares two identifiers of at most 255 octets by length, and then by their octets.
 pub fn const_oid_cmp_owned(left: &[u8], right: &[u8]) -> Status {
     let first = match read_owned(left) {
         Ok(first) => first,
@@ -70,7 +67,7 @@ pub fn const_oid_cmp_owned(left: &[u8], right: &[u8]) -> Status {
     }
 }
 
-/// The order of two identifiers by length, and with as many octets in list order.
+/// Compares two identifiers by length, and then by their octets.
 fn shortlex(left: ObjectIdentifierRef<'_>, right: ObjectIdentifierRef<'_>) -> Ordering {
     match left.as_bytes().len().cmp(&right.as_bytes().len()) {
         Ordering::Equal => left.cmp(&right),

@@ -1,21 +1,21 @@
 // Made from crates/const_oid_c/src/output.rt by rust/erase: edited there.
 
-//! Answers written to the caller's slice.
+//! Answers that are written to the caller's slice.
 
-use crate::calls::status::{Status, error_status, len_status, no_room_status};
+use crate::calls::status::{Status, error_status, len_status, too_short_status};
 use crate::const_oid::{ObjectIdentifier, Result};
 
-/// Writes bytes at the start of the caller's slice, where they fit.
+/// Writes bytes at the start of a slice, if they fit.
 pub(crate) fn write_bytes(bytes: &[u8], out: &mut [u8]) -> Status {
     let len = bytes.len();
     if len > out.len() {
-        return no_room_status(len);
+        return too_short_status(len);
     }
     out[..len].copy_from_slice(bytes);
     len_status(len)
 }
 
-/// Writes the octets of an identifier, if there is no fault.
+/// Writes the octets of an identifier, or reports its fault.
 pub(crate) fn write_octets<const N: usize>(
     oid: Result<ObjectIdentifier<N>>,
     out: &mut [u8],

@@ -1,6 +1,6 @@
 // Made from crates/const_oid_c/src/subtree.rt by rust/erase: edited there.
 
-//! Where the identifiers of a list stand that begin with one.
+//! Descendants of an identifier in a sorted list.
 
 use crate::calls::status::{Status, UNSORTED, error_status, len_status};
 use crate::const_oid::ObjectIdentifierRef;
@@ -20,20 +20,19 @@ impl<'a> Octets<'a> {
     }
 }
 
-/// Places of a list, counted from 0: from the first on, and below the second.
+/// The indices of a list from `start` on and below `end`.
 #[repr(C)]
 #[derive(Clone, Copy)]
-pub struct Places {
-    pub from: usize,
-    pub to: usize,
+pub struct Range {
+    pub start: usize,
+    pub end: usize,
 }
 
-/// Finds where the identifiers that begin with one stand in a list that does not descend, each of any
-/// number of octets.
+/// Finds the identifiers that begin with another one in a sorted list. All may have any length.
 pub fn const_oid_subtree(
     octets: &[u8],
     sorted: &[Octets<'_>],
-    places: &mut Places,
+    range: &mut Range,
 ) -> Status {
     match ObjectIdentifierRef::from_bytes(octets) {
         Ok(_) => {}
@@ -42,15 +41,16 @@ pub fn const_oid_subtree(
     match list_fault(sorted) {
         Some(status) => status,
         None => {
-            *places = places_of(octets, sorted);
+            *range = range_of(octets, sorted);
             len_status(0)
         }
     }
 }
 
-/// How many identifiers of a list stand before one, and that number with those that begin with it.
-fn places_of(octets: &[u8], sorted: &[Octets<'_>]) -> Places {
-    let from = sorted
+/// The range whose start is the number of identifiers before one, and whose length is the number of
+/// those that begin with it.
+fn range_of(octets: &[u8], sorted: &[Octets<'_>]) -> Range {
+    let start = sorted
         .iter()
         .filter(|item| item.get().cmp(octets).is_lt())
         .count();
@@ -58,17 +58,17 @@ fn places_of(octets: &[u8], sorted: &[Octets<'_>]) -> Places {
         .iter()
         .filter(|item| item.get().starts_with(octets))
         .count();
-    Places {
-        from,
-        to: from + inside,
+    Range {
+        start,
+        end: start + inside,
     }
 }
 
-/// What is wrong with the first identifier of a list that has a fault or stands before the last one.
+/// The status of the first identifier that has a fault or comes before the previous one.
 fn list_fault(sorted: &[Octets<'_>]) -> Option<Status> {
     let mut before: &[u8] = &[];
-    for (place, item) in sorted.iter().enumerate() {
-        if let Some(status) = item_fault(place, before, item.get()) {
+    for (index, item) in sorted.iter().enumerate() {
+        if let Some(status) = item_fault(index, before, item.get()) {
             return Some(status);
         }
         before = item.get();
@@ -76,17 +76,17 @@ fn list_fault(sorted: &[Octets<'_>]) -> Option<Status> {
     None
 }
 
-/// What is wrong with the identifier at a place, after the octets at the place before.
-fn item_fault(place: usize, before: &[u8], octets: &[u8]) -> Option<Status> {
+/// The status of the identifier at an index, if it has a fault or comes before the previous one.
+fn item_fault(index: usize, before: &[u8], octets: &[u8]) -> Option<Status> {
     match ObjectIdentifierRef::from_bytes(octets) {
         Ok(_) if octets.cmp(before).is_lt() => Some(Status {
             code: UNSORTED,
             detail: 0,
-            len: place,
+            len: index,
         }),
         Ok(_) => None,
         Err(fault) => Some(Status {
-            len: place,
+            len: index,
             ..error_status(fault)
         }),
     }

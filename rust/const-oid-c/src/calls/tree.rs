@@ -7,7 +7,7 @@ use crate::calls::owned::{MAX_OCTETS, is_too_long, read_owned};
 use crate::calls::status::{NONE, Status, code_status, error_status};
 use crate::const_oid::{ObjectIdentifier, Result};
 
-/// Writes the contents octets of all arcs but the last.
+/// Writes the contents octets of all arcs except the last.
 pub fn const_oid_parent(octets: &[u8], out: &mut [u8]) -> Status {
     match read_owned(octets) {
         Ok(oid) => match oid.parent() {
@@ -18,7 +18,7 @@ pub fn const_oid_parent(octets: &[u8], out: &mut [u8]) -> Status {
     }
 }
 
-/// Writes the contents octets of these arcs and one more.
+/// Writes the contents octets of an identifier with one more arc.
 pub fn const_oid_push_arc(octets: &[u8], arc: u32, out: &mut [u8]) -> Status {
     // A small identifier is quicker to make.
     let small = child::<39>(octets, arc);
@@ -28,13 +28,13 @@ pub fn const_oid_push_arc(octets: &[u8], arc: u32, out: &mut [u8]) -> Status {
     write_octets(small, out)
 }
 
-/// Writes the contents octets of arcs and one more that are many.
+/// Writes the contents octets of an identifier with one more arc, where they may be many.
 #[inline(never)]
 fn write_large(octets: &[u8], arc: u32, out: &mut [u8]) -> Status {
     write_octets(child::<MAX_OCTETS>(octets, arc), out)
 }
 
-/// The identifier of the arcs of octets and one more.
+/// The identifier that octets encode, with one more arc.
 fn child<const N: usize>(octets: &[u8], arc: u32) -> Result<ObjectIdentifier<N>> {
     match ObjectIdentifier::<N>::from_bytes_sized(octets) {
         Ok(oid) => oid.push_arc(arc),

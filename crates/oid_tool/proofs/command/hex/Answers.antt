@@ -3,21 +3,11 @@ use Rattle.hex.specs.Hex.{encode_lower}
 use Rattle.const_oid.specs.Identifier.{root_rule}
 use Rattle.const_oid.proofs.Encodings.{encoding_of-encoded}
 use Rattle.oid_tool.specs.Answers.{hex_line}
-use Rattle.oid_tool.proofs.Commands.{stands_as, denoted_line-read, denoted_line-no_text}
+use Rattle.oid_tool.proofs.Commands.{stands_as, denoted_line_read}
 use Rattle.oid_tool.proofs.command.hex.Goals as goal
-
-pub returns-in_default : goal.returns-in_default
-unfolding hex_line
-returns-in_default c =
-    stands_as _ _ _ _ c.put.ensures (denoted_line-no_text _ _ c.in_default.ensures.cases.0)
 
 pub returns-in-Ok-new : goal.returns-in-Ok-new
 unfolding hex_line
 returns-in-Ok-new c =
-    let text = denoted_line-read _ _ _ _ c.in-Ok.ensures.cases.0 c.in-Ok.ensures.cases.1 c.in-Ok-new.ensures.answer in
+    let text = denoted_line_read _ _ _ _ c.in-Ok.ensures.cases.0 c.in-Ok.ensures.cases.1 c.in-Ok-new.ensures.answer in
     stands_as _ _ _ _ c.encode.ensures (ap encode_lower (sym (encoding_of-encoded root_rule _ _ c.as_bytes.ensures.encoding)) ∙ text)
-
-pub returns-in-Err : goal.returns-in-Err
-unfolding hex_line
-returns-in-Err c =
-    stands_as _ _ _ _ c.refuse.ensures (denoted_line-read _ _ _ _ c.in-Ok.ensures.cases.0 c.in-Ok.ensures.cases.1 c.in-Err.ensures.answer)

@@ -10,8 +10,8 @@ use Rattle.oid_tool.proofs.run.read_all.Goals as goal
 pub loop-len-preserved : goal.loop-len-preserved
 loop-len-preserved g c =
     let so_far = c.loop-len.invariant.consumed in
-    let left = length c.loop-len.room - c.loop-len.len in
-    let grown = take_grown c.loop-len.len left c.in-Ok.count c.loop-len.room c.read.new.buf (omega arith) c.in-Ok.ensures.bound.0 in
+    let left = length c.loop-len.buffer - c.loop-len.len in
+    let grown = take_grown c.loop-len.len left c.in-Ok.count c.loop-len.buffer c.read.new.buf (omega arith) c.in-Ok.ensures.bound.0 in
     record {
       within = omega (arith, c.in-Ok.ensures.bound.0, c.read.auto.buf);
       consumed = subst (Consumes (g.R.Read.remaining c.args.input.now) (g.R.Read.remaining c.read.new.self)) (sym grown) (Consumes-trans _ _ _ _ _ so_far c.in-Ok.ensures.bytes.0);
@@ -19,14 +19,14 @@ loop-len-preserved g c =
 
 pub returns-clause-too_long : goal.returns-clause-too_long
 returns-clause-too_long g c = λ _. record {
-  bytes = take c.loop-len.len c.loop-len.room;
+  bytes = take c.loop-len.len c.loop-len.buffer;
   consumes = c.loop-len.invariant.consumed;
-  number = length-take-le c.loop-len.len c.loop-len.room (omega arith) ∙ (omega arith);
+  number = length-take-le c.loop-len.len c.loop-len.buffer (omega arith) ∙ (omega arith);
 }
 
 pub returns-in-Ok-eq0-clause-bytes : goal.returns-in-Ok-eq0-clause-bytes
 returns-in-Ok-eq0-clause-bytes g c =
-    consumed_same _ _ _ c.loop-len.len _ c.in-Ok-eq0.field-0 c.loop-len.room c.read.new.buf (omega arith) c.in-Ok-eq0.field-0-test c.loop-len.invariant.consumed c.in-Ok-eq0.ensures.bytes.0
+    consumed_same _ _ _ c.loop-len.len _ c.in-Ok-eq0.field-0 c.loop-len.buffer c.read.new.buf (omega arith) c.in-Ok-eq0.field-0-test c.loop-len.invariant.consumed c.in-Ok-eq0.ensures.bytes.0
 
 pub returns-in-Ok-eq0-clause-too_long : goal.returns-in-Ok-eq0-clause-too_long
-returns-in-Ok-eq0-clause-too_long g c = λ told. absurd (not_too_long (Ok c.loop-len.len) tt told)
+returns-in-Ok-eq0-clause-too_long g c = λ wrong. absurd (not_too_long (Ok c.loop-len.len) tt wrong)

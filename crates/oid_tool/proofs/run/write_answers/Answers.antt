@@ -11,15 +11,15 @@ returns-in_default-clause-prefix g c =
 
 pub returns-in_err-write_out-clause-prefix : goal.returns-in_err-write_out-clause-prefix
 returns-in_err-write_out-clause-prefix g c =
-    let next = answers-next _ c.loop-rest.rest.now c.cut.result.0.now c.cut.result.1.now _ (not_empty_by_length _ c.loop-rest-test.ensures) c.cut.ensures.prefix c.cut.ensures.back c.in-Some.ensures.1 in
+    let next = answers-next _ c.loop-rest.rest.now c.cut.result.0.now c.cut.result.1.now _ (not_empty_by_length _ c.loop-rest-test.ensures) c.cut.ensures.prefix c.cut.ensures.rest c.in-Some.ensures.1 in
     let p = err_from_is_err_and c.from_residual.result c.from_residual.ensures.1 in
     rw p.1 (appends_prefix_within _ _ _ _ _ _ _ c.loop-rest.invariant.written next c.in_err-write_out.ensures.prefix)
 
 pub loop-rest-preserved : goal.loop-rest-preserved
 loop-rest-preserved g c =
-    let next = answers-next _ c.loop-rest.rest.now c.cut.result.0.now c.cut.result.1.now _ (not_empty_by_length _ c.loop-rest-test.ensures) c.cut.ensures.prefix c.cut.ensures.back c.in-Some.ensures.1 in
+    let next = answers-next _ c.loop-rest.rest.now c.cut.result.0.now c.cut.result.1.now _ (not_empty_by_length _ c.loop-rest-test.ensures) c.cut.ensures.prefix c.cut.ensures.rest c.in-Some.ensures.1 in
     record {
-      short = omega (arith, ap length c.cut.ensures.back, length-after_line c.loop-rest.rest.now);
+      short = omega (arith, ap length c.cut.ensures.rest, length-after_line c.loop-rest.rest.now);
       written = appends_more _ _ _ _ _ _ _ c.loop-rest.invariant.written next c.in_ok-write_out.ensures.ok;
     }
 
@@ -27,9 +27,9 @@ pub returns-clause-ok : goal.returns-clause-ok
 returns-clause-ok g c =
     appends_all _ _ _ _ c.loop-rest.invariant.written (ap (answers _) (empty_by_length _ c.loop-rest-test.ensures) ∙ answers-nil _)
 
-pub show-requires : goal.show-requires
-show-requires g c = omega (arith, ap length c.cut.ensures.prefix, length-first_line c.loop-rest.rest.now)
+pub put_line-requires : goal.put_line-requires
+put_line-requires g c = omega (arith, ap length c.cut.ensures.prefix, length-first_line c.loop-rest.rest.now)
 
 pub loop-rest-smaller : goal.loop-rest-smaller
 loop-rest-smaller g c =
-    omega (arith, ap length c.cut.ensures.back, after_line-shorter c.loop-rest.rest.now (not_empty_by_length _ c.loop-rest-test.ensures))
+    omega (arith, ap length c.cut.ensures.rest, after_line-shorter c.loop-rest.rest.now (not_empty_by_length _ c.loop-rest-test.ensures))
