@@ -1,71 +1,203 @@
-//! Small capacities filled to the last octet, and octets around the 32 that are counted at once.
+//! Capacities: what `from_bytes_sized`, `new_sized` and `from_arcs_sized` accept.
 
-use const_oid::{Arc, Error, ObjectIdentifier, ObjectIdentifierRef, Result};
+ghost use Rattle.std.specs.Prelude.{◌≡◌, ◌≤◌};
 
-/// Whether seven octets take six arcs, and no seventh.
-fn fill_seven() -> bool {
+use crate::vectors::{FIRST_GROUPS, accepted_rows, is_answer, long_octets, long_text};
+use const_oid::{Arc, Error, ObjectIdentifier, Oid};
+use std::alloc::{AllocError, Global};
+
+fn max_size() -> usize
+    ensures { result ≡ 39 }
+{
+    Oid::MAX_SIZE
+}
+
+/// A call: its answer is proved.
+#[test]
+fn usual_capacity(rt: HostRuntime) {
+    assert!(rt; max_size() == 39);
+}
+
+/// Whether one of the capacities that the rows name accepts octets, or answers this error.
+fn accepts(capacity: usize, octets: &[u8], error: Option<Error>) -> bool {
+    let wanted = match error {
+        None => Ok(octets),
+        Some(error) => Err(error),
+    };
+    match capacity {
+        0 => is_answer(ObjectIdentifier::<0>::from_bytes_sized(octets), wanted),
+        1 => is_answer(ObjectIdentifier::<1>::from_bytes_sized(octets), wanted),
+        2 => is_answer(ObjectIdentifier::<2>::from_bytes_sized(octets), wanted),
+        3 => is_answer(ObjectIdentifier::<3>::from_bytes_sized(octets), wanted),
+        39 => is_answer(ObjectIdentifier::<39>::from_bytes_sized(octets), wanted),
+        255 => is_answer(ObjectIdentifier::<255>::from_bytes_sized(octets), wanted),
+        256 => is_answer(ObjectIdentifier::<256>::from_bytes_sized(octets), wanted),
+        300 => is_answer(ObjectIdentifier::<300>::from_bytes_sized(octets), wanted),
+        _ => false,
+    }
+}
+
+/// Capacities, how octets begin, how many octets 01 follow, how they end, and the error, if there is one.
+/// 255 octets fit where the capacity is past 255, and no more.
+const OCTETS: &[(usize, &[u8], usize, &[u8], Option<Error>)] = &[
+    (0, &[0x2A], 0, &[], Some(Error::Length)),
+    (0, &[0x2A, 0x80, 0x01], 0, &[], Some(Error::Base128)),
+    (1, &[0x2A], 0, &[], None),
+    (1, &[0x88, 0x37], 0, &[], Some(Error::Length)),
+    (2, &[0x2A, 0x81, 0x80], 0, &[], Some(Error::Base128)),
+    (3, &[0x2A, 0x81, 0x80, 0x00], 0, &[], Some(Error::Length)),
+    (39, &[0x2A], 38, &[], None),
+    (39, &[0x2A], 39, &[], Some(Error::Length)),
+    (39, &[0x2A], 39, &[0x81], Some(Error::Base128)),
+    (255, &[0x2A], 254, &[], None),
+    (255, &[0x2A], 255, &[], Some(Error::Length)),
+    (256, &[0x2A], 255, &[], Some(Error::Length)),
+    (300, &[0x2A], 254, &[], None),
+    (300, &[0x2A], 255, &[], Some(Error::Length)),
+    (300, &[0x2A], 299, &[], Some(Error::Length)),
+    (255, &[0x2A], 254, &[0x81], Some(Error::Base128)),
+    (300, &[0x2A], 254, &[0x81], Some(Error::Base128)),
+];
+
+#[test]
+fn octets(rt: HostRuntime) -> Result<(), AllocError> {
+    for (capacity, prefix, ones, end, error) in OCTETS {
+        let octets = long_octets(rt.alloc(), prefix, *ones, end)?;
+        assert!(rt;
+            accepts(*capacity, octets.as_slice(), *error),
+            "{capacity}: {prefix:?}, {ones} and {end:?}"
+        );
+    }
+    Ok(())
+}
+
+/// How many octets, the last one, and the error of the capacities 255, 256 and 300, if there is one.
+const AT_255: &[(usize, u8, Option<Error>)] = &[
+    (254, 1, None),
+    (255, 1, None),
+    (256, 1, Some(Error::Length)),
+    (255, 0x81, Some(Error::Base128)),
+    (256, 0x81, Some(Error::Base128)),
+];
+
+#[test]
+fn octets_after_each_first_group(rt: HostRuntime) -> Result<(), AllocError> {
+    for first in FIRST_GROUPS {
+        for (len, last, error) in AT_255 {
+            let ones = len.saturating_sub(first.len()).saturating_sub(1);
+            let octets = long_octets(rt.alloc(), first, ones, &[*last])?;
+            let octets = octets.as_slice();
+            assert!(rt; accepts(255, octets, *error), "{len} octets: {octets:?}");
+            assert!(rt; accepts(256, octets, *error), "{len} octets: {octets:?}");
+            assert!(rt; accepts(300, octets, *error), "{len} octets: {octets:?}");
+        }
+    }
+    Ok(())
+}
+
+/// More arcs than any capacity has.
+const ONES: [Arc; 257] = [1; 257];
+
+/// Whether the text and the list 1.1.1.1 and so on are accepted with so many octets, or answer this error.
+fn reads<const SIZE: usize>(
+    alloc: Global,
+    octets: usize,
+    error: Option<Error>,
+) -> Result<bool, AllocError>
+    requires { SIZE ≤ 300 }
+{
+    let text = long_text(alloc, "1", octets, "")?;
+    let arcs = ONES.iter().take(octets.saturating_add(1)).copied();
+    let octets = long_octets(alloc, &[0x29], octets.saturating_sub(1), &[])?;
+    let wanted = match error {
+        None => Ok(octets.as_slice()),
+        Some(error) => Err(error),
+    };
+    let read = ObjectIdentifier::<SIZE>::new_sized(text.as_str());
+    let listed = ObjectIdentifier::<SIZE>::from_arcs_sized(arcs);
+    Ok(is_answer(read, wanted) && is_answer(listed, wanted))
+}
+
+/// Whether so many octets fit, if there is one, and one more does not.
+fn fits<const SIZE: usize>(alloc: Global, octets: usize) -> Result<bool, AllocError>
+    requires { SIZE ≤ 300 }
+{
+    let fits = octets == 0 || reads::<SIZE>(alloc, octets, None)?;
+    Ok(fits && reads::<SIZE>(alloc, octets.saturating_add(1), Some(Error::Length))?)
+}
+
+#[test]
+fn texts_and_lists(rt: HostRuntime) -> Result<(), AllocError> {
+    let alloc = rt.alloc();
+    let rows = [
+        (0, fits::<0>(alloc, 0)?),
+        (1, fits::<1>(alloc, 1)?),
+        (2, fits::<2>(alloc, 2)?),
+        (4, fits::<4>(alloc, 4)?),
+        (5, fits::<5>(alloc, 5)?),
+        (6, fits::<6>(alloc, 6)?),
+        (38, fits::<38>(alloc, 38)?),
+        (39, fits::<39>(alloc, 39)?),
+        (40, fits::<40>(alloc, 40)?),
+        (254, fits::<254>(alloc, 254)?),
+        (255, fits::<255>(alloc, 255)?),
+        (256, fits::<256>(alloc, 255)?),
+        (300, fits::<300>(alloc, 255)?),
+    ];
+    for (capacity, holds) in rows {
+        assert!(rt; holds, "{capacity}");
+    }
+    Ok(())
+}
+
+/// Whether the first text fits, and the second does not.
+fn fits_only<const SIZE: usize>(short: &str, long: &str) -> bool
+    requires { SIZE ≤ 300 }
+{
+    ObjectIdentifier::<SIZE>::new_sized(short).is_ok()
+        && ObjectIdentifier::<SIZE>::new_sized(long) == Err(Error::Length)
+}
+
+/// Below five octets a second arc may be too long, and one that is out of range is that first.
+#[test]
+fn second_arcs(rt: HostRuntime) {
+    let rows = [
+        (1, fits_only::<1>("2.47", "2.48")),
+        (2, fits_only::<2>("2.16303", "2.16304")),
+        (4, fits_only::<4>("2.268435375", "2.268435376")),
+        (5, fits_only::<5>("2.4294967295", "2.4294967295.0")),
+        (6, fits_only::<6>("2.4294967295.127", "2.4294967295.128")),
+    ];
+    for (capacity, holds) in rows {
+        assert!(rt; holds, "{capacity}");
+    }
+    assert!(rt; ObjectIdentifier::<0>::new_sized("1.40") == Err(Error::ArcInvalid { arc: 40 }));
+}
+
+/// Long groups in just enough octets, and many arcs at capacities between 39 and 255 and past it.
+#[test]
+fn other_capacities(rt: HostRuntime) -> Result<(), Error> {
     let arcs: [Arc; 7] = [1, 2, 840, 10045, 2, 1, 1];
-    let (six, seven) = (arcs.iter().take(6).copied(), arcs.iter().copied());
-    ObjectIdentifier::<7>::from_arcs_sized(six).is_ok_and(|oid| {
-        oid.as_bytes() == [0x2A, 0x86, 0x48, 0xCE, 0x3D, 0x02, 0x01].as_slice()
-    }) && ObjectIdentifier::<7>::from_arcs_sized(seven).err() == Some(Error::Length)
+    let six = ObjectIdentifier::<7>::from_arcs_sized(arcs.iter().take(6).copied())?;
+    assert!(rt; six.as_bytes() == [0x2A, 0x86, 0x48, 0xCE, 0x3D, 0x02, 0x01].as_slice());
+    assert!(rt; ObjectIdentifier::<7>::from_arcs_sized(arcs) == Err(Error::Length));
+    assert!(rt; ObjectIdentifier::<7>::new_sized("1.2.840.10045.2.1").is_ok());
+    assert!(rt; ObjectIdentifier::<6>::new_sized("1.2.840.10045.2.1") == Err(Error::Length));
+    assert!(rt; ObjectIdentifier::<0>::new_sized("1.2") == Err(Error::Length));
+    assert!(rt; ObjectIdentifier::<1000>::from_arcs_sized([1; 256])?.len() == 256);
+    assert!(rt; ObjectIdentifier::<1000>::from_arcs_sized([1; 257]) == Err(Error::Length));
+    assert!(rt; ObjectIdentifier::<100>::from_arcs_sized([1; 101])?.len() == 101);
+    Ok(())
 }
 
-/// Whether three octets take the group of 840 after one octet, and then no other.
-fn fill_three() -> Result<bool> {
-    let child = ObjectIdentifier::<3>::from_bytes_sized(&[0x2A])?.push_arc(840)?;
-    Ok(
-        child.as_bytes() == [0x2A, 0x86, 0x48].as_slice()
-            && child.push_arc(1).err() == Some(Error::Length),
-    )
-}
-
-/// Whether each of three octets stands before the next, and is equal to itself alone.
-fn in_order(oids: &[ObjectIdentifier<3>]) -> bool {
-    oids.is_sorted_by(|a, b| a < b && a != b) && oids.iter().all(|oid| *oid == *oid)
-}
-
-/// A short one, its prefix apart, and two of two octets.
-fn ordered() -> Result<bool> {
-    Ok(in_order(&[
-        ObjectIdentifier::from_bytes_sized(&[0x2A])?,
-        ObjectIdentifier::from_bytes_sized(&[0x55])?,
-        ObjectIdentifier::from_bytes_sized(&[0x2A, 0x03])?,
-        ObjectIdentifier::from_bytes_sized(&[0x2A, 0x04])?,
-    ]))
-}
-
+/// The shared rows, read in 255 octets.
 #[test]
-fn small_capacities(rt: HostRuntime) {
-    assert!(rt; fill_seven());
-    assert!(rt; fill_three() == Ok(true));
-    assert!(rt; ordered() == Ok(true));
-}
-
-/// 31 octets below 128, and a group of two over the edge.
-const OVER_THE_EDGE: [u8; 33] = [
-    1, 1, 1, 1, 1, 1, 1, 1, 1, 1, 1, 1, 1, 1, 1, 1, 1, 1, 1, 1, 1, 1, 1, 1, 1, 1, 1, 1, 1, 1, 1,
-    0x86, 0x48,
-];
-
-/// Octets, how many arcs they have, and the last one.
-const AROUND_32: [(&[u8], usize, Arc); 4] = [
-    (&[0x7F; 31], 32, 127),
-    (&[0x7F; 32], 33, 127),
-    (&[0x7F; 33], 34, 127),
-    (&OVER_THE_EDGE, 33, 840),
-];
-
-/// Whether octets have so many arcs, of which this is the last.
-fn ends_with(octets: &[u8], count: usize, last: Arc) -> bool {
-    ObjectIdentifierRef::from_bytes(octets).is_ok_and(|oid| {
-        oid.len() == count && oid.arc(count.saturating_sub(1)) == Some(last)
-    })
-}
-
-#[test]
-fn around_32_octets(rt: HostRuntime) {
-    for (octets, count, last) in &AROUND_32 {
-        assert!(rt; ends_with(octets, *count, *last), "{} octets", octets.len());
+fn rows_in_255_octets(rt: HostRuntime) {
+    for (text, octets, arcs) in accepted_rows() {
+        let read = ObjectIdentifier::<255>::new_sized(text);
+        let listed = ObjectIdentifier::<255>::from_arcs_sized(arcs.iter().copied());
+        assert!(rt; is_answer(read, Ok(octets)), "{text}");
+        assert!(rt; is_answer(listed, Ok(octets)), "{text}");
+        assert!(rt; accepts(255, octets, None), "{text}");
     }
 }

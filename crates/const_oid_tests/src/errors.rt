@@ -1,10 +1,11 @@
-//! Errors told apart, in order, and printed.
+//! Errors: compared, copied and printed.
+
 ghost use Rattle.std.specs.Prelude.{◌≡◌, ◌↔◌, IsTrue, IsOk, IfOk};
 ghost use Rattle.const_oid.specs.Error.{error_cmp};
 
-use crate::formatter::{prints, prints_as, tells};
+use crate::formatter::{count_writes, prints, prints_as};
 use const_oid::Error;
-use std::alloc::{AllocError, Global};
+use std::alloc::AllocError;
 use std::cmp::Ordering;
 
 /// Equal is the same variant, with an equal number.
@@ -29,7 +30,7 @@ fn cloned(error: &Error) -> Result<Error, AllocError>
 }
 
 #[test]
-fn told_apart(rt: HostRuntime) -> Result<(), AllocError> {
+fn compared(rt: HostRuntime) -> Result<(), AllocError> {
     let error = Error::ArcInvalid { arc: 40 };
     assert!(rt; same(error, cloned(&error)?));
     assert!(rt; !same(error, Error::ArcInvalid { arc: 3 }));
@@ -39,7 +40,11 @@ fn told_apart(rt: HostRuntime) -> Result<(), AllocError> {
 }
 
 /// Errors, and what they print. A byte past ASCII prints as a character.
-const MESSAGES: [(Error, &str); 17] = [
+pub const MESSAGES: &[(Error, &str)] = &[
+    (
+        Error::ArcInvalid { arc: 3 },
+        "OID contains out-of-range arc: 3",
+    ),
     (
         Error::ArcInvalid { arc: 40 },
         "OID contains out-of-range arc: 40",
@@ -98,38 +103,25 @@ const MESSAGES: [(Error, &str); 17] = [
     (Error::TrailingDot, "OID ends with invalid trailing '.'"),
 ];
 
-/// Each error prints its text, whatever the options.
+/// Each error prints its text in one write, whatever the options, and reports a refused write.
 #[test]
-fn messages(rt: HostRuntime) {
-    for (error, text) in &MESSAGES {
-        assert!(rt; prints(rt.alloc(), error, text), "{text}");
+fn messages(rt: HostRuntime) -> Result<(), AllocError> {
+    for (error, text) in MESSAGES {
+        assert!(rt; prints(rt.alloc(), error, text)?, "{text}");
+        assert!(rt; count_writes(error, text) == Some(1), "{text}");
     }
+    Ok(())
 }
 
-/// Each write that is refused is told, whichever it is.
-#[test]
-fn a_refused_write_is_told(rt: HostRuntime) {
-    for (error, text) in &MESSAGES {
-        assert!(rt; tells(error, text), "{text}");
-    }
-}
-
-/// The first byte that is not shown as the character with its number.
-fn not_shown(alloc: Global) -> Result<Option<u8>, AllocError> {
-    for actual in 0..=255 {
-        let mut text = String::from_str(alloc, "expected digit, got '")?;
-        text.push(char::from(actual))?;
-        text.push_str("'")?;
-        if !prints_as(&Error::DigitExpected { actual }, text.as_str()) {
-            return Ok(Some(actual));
-        }
-    }
-    Ok(None)
-}
-
+/// Each byte prints as the character with its number.
 #[test]
 fn each_byte(rt: HostRuntime) -> Result<(), AllocError> {
-    let byte = not_shown(rt.alloc())?;
-    assert!(rt; byte.is_none(), "{byte:?}");
+    for actual in 0..=255 {
+        let mut text = String::from_str(rt.alloc(), "expected digit, got '")?;
+        text.push(char::from(actual))?;
+        text.push_str("'")?;
+        let error = Error::DigitExpected { actual };
+        assert!(rt; prints_as(&error, text.as_str()), "{actual}");
+    }
     Ok(())
 }

@@ -1,94 +1,73 @@
-//! What is printed, and a formatter's target that takes one text alone and may refuse a write.
+//! What values print, and a formatter's target that takes one text alone and may refuse a write.
 
 use std::alloc::{AllocError, Global};
 use std::fmt;
 use std::fmt::{Debug, Display, Write};
 
 /// Whether a value prints as this text, plain and under each option, alone and together.
-pub fn prints<T: Display>(alloc: Global, value: &T, text: &str) -> bool {
-    match under_options(alloc, value) {
-        Ok(printed) => is_each_piece(printed.as_str(), text),
-        Err(_) => false,
-    }
-}
-
-/// A value under each option, joined by bars.
-fn under_options<T: Display>(alloc: Global, value: &T) -> Result<String, AllocError> {
-    format!(in alloc;
+pub fn prints<T: Display>(alloc: Global, value: &T, text: &str) -> Result<bool, AllocError> {
+    let printed = format!(in alloc;
         "{value}|{value:#}|{value:+}|{value:.3}|{value:30}|{value:030}|{value:<30}|{value:^30}|{value:*>60}|{value:*^+#80.1}"
-    )
-}
-
-/// Whether each piece between bars is this text.
-fn is_each_piece(printed: &str, text: &str) -> bool {
-    for piece in printed.split('|') {
+    )?;
+    for piece in printed.as_str().split('|') {
         if piece != text {
-            return false;
+            return Ok(false);
         }
     }
-    true
-}
-
-/// Whether this text was printed.
-pub fn is_printed(printed: Result<String, AllocError>, text: &str) -> bool {
-    match printed {
-        Ok(printed) => printed.as_str() == text,
-        Err(_) => false,
-    }
+    Ok(true)
 }
 
 /// Whether a value is printed as this text where no memory is at hand.
 pub fn prints_as<T: Display>(value: &T, text: &str) -> bool {
-    let mut target = OneText::new(text, 0);
+    let mut target = OneText {
+        rest: text.as_bytes(),
+        writes: 0,
+        refused: 0,
+    };
     write!(target, "{value}").is_ok() && target.rest.is_empty()
 }
 
-/// Whether a value is printed as this text, and each of its writes, refused in turn, is told at once.
-pub fn tells<T: Display>(value: &T, text: &str) -> bool {
-    for bad in 1..100 {
-        let mut target = OneText::new(text, bad);
+/// The number of writes that print a value as this text, or `None` if it is printed otherwise or
+/// one of the writes is refused and not reported at once.
+pub fn count_writes<T: Display>(value: &T, text: &str) -> Option<usize> {
+    for writes in 0..1000 {
+        let mut target = OneText {
+            rest: text.as_bytes(),
+            writes: 0,
+            refused: writes + 1,
+        };
         if write!(target, "{value}").is_ok() {
-            return 1 < bad && target.writes < bad && target.rest.is_empty();
+            return (target.writes == writes && target.rest.is_empty()).then_some(writes);
         }
-        if target.writes != bad {
-            return false;
+        if target.writes != target.refused {
+            return None;
         }
     }
-    false
+    None
 }
 
-/// Prints what Debug shows of a value.
+/// Prints the Debug text of a value.
 #[derive(Drop)]
-pub struct Shown<T>(pub T);
+pub struct DebugText<T>(pub T);
 
-impl<T: Debug> Display for Shown<T> {
+impl<T: Debug> Display for DebugText<T> {
     fn fmt<W: Write>(&self, f: &mut fmt::Formatter<W>) -> fmt::Result {
         write!(f, "{:?}", self.0)
     }
 }
 
-/// Takes a text piece by piece and nothing else, and refuses the write numbered `bad`, counted from 1.
+/// Takes a text piece by piece and nothing else, and refuses the write of one number, counted from 1.
 #[derive(Drop)]
 struct OneText<'a> {
     rest: &'a [u8],
     writes: usize,
-    bad: usize,
-}
-
-impl<'a> OneText<'a> {
-    fn new(text: &'a str, bad: usize) -> Self {
-        OneText {
-            rest: text.as_bytes(),
-            writes: 0,
-            bad,
-        }
-    }
+    refused: usize,
 }
 
 impl Write for OneText<'_> {
     fn write_str(&mut self, text: &str) -> fmt::Result {
         self.writes = self.writes.saturating_add(1);
-        if self.writes == self.bad {
+        if self.writes == self.refused {
             return Err(fmt::Error);
         }
         let Some(rest) = self.rest.strip_prefix(text.as_bytes()) else {

@@ -1,71 +1,62 @@
-//! Identifiers from lists of arcs.
+//! Identifiers from lists of arcs: `from_arcs`.
+
 ghost use Rattle.std.specs.Prelude.{◌≡◌};
 ghost use Rattle.const_oid.specs.Identifier.{root_rule};
 ghost use Rattle.const_oid.specs.Items.{item_answer};
 ghost use Rattle.const_oid.specs.Oid.{oid_arcs, oid_answer};
 
-use crate::vectors::accepted_rows;
-use const_oid::{Arc, Arcs, Error, ObjectIdentifier, Result};
-use std::alloc::Global;
+use crate::vectors::{accepted_rows, is_answer};
+use const_oid::{Arc, Arcs, Error, Oid};
+use std::alloc::AllocError;
 
-fn from_array(arcs: [Arc; 3]) -> Result<ObjectIdentifier<39>>
+fn from_array(arcs: [Arc; 3]) -> Result<Oid, Error>
     ensures { oid_answer result ≡ item_answer root_rule arcs 39 }
 {
-    ObjectIdentifier::from_arcs(arcs)
+    Oid::from_arcs(arcs)
 }
 
-fn from_slice(arcs: &[Arc]) -> Result<ObjectIdentifier<39>>
+fn from_slice(arcs: &[Arc]) -> Result<Oid, Error>
     ensures { oid_answer result ≡ item_answer root_rule arcs.now 39 }
 {
-    ObjectIdentifier::from_arcs(arcs.iter().copied())
+    Oid::from_arcs(arcs.iter().copied())
 }
 
-fn from_vec(arcs: Vec<Arc>) -> Result<ObjectIdentifier<39>>
+fn from_vec(arcs: Vec<Arc>) -> Result<Oid, Error>
     ensures { oid_answer result ≡ item_answer root_rule arcs.items 39 }
 {
-    ObjectIdentifier::from_arcs(arcs)
+    Oid::from_arcs(arcs)
 }
 
-fn from_rest(arcs: Arcs<'_>) -> Result<ObjectIdentifier<39>>
+fn from_rest(arcs: Arcs<'_>) -> Result<Oid, Error>
     ensures { oid_answer result ≡ item_answer root_rule arcs.entry 39 }
 {
-    ObjectIdentifier::from_arcs(arcs)
+    Oid::from_arcs(arcs)
 }
 
 /// Encodes the arcs of an identifier again.
-fn again(oid: &ObjectIdentifier<39>) -> Result<ObjectIdentifier<39>>
+fn again(oid: &Oid) -> Result<Oid, Error>
     ensures { oid_answer result ≡ Ok (oid_arcs oid.now) }
 {
     from_rest(oid.arcs())
 }
 
-/// Whether these octets were made.
-fn is_encoded(made: Result<ObjectIdentifier<39>>, octets: &[u8]) -> bool {
-    match made {
-        Ok(oid) => oid.as_bytes() == octets,
-        Err(_) => false,
-    }
-}
-
-/// Whether arcs have this encoding: those of a slice, of a list and of an identifier.
-fn encodes(alloc: Global, arcs: &[Arc], octets: &[u8]) -> bool {
-    let (Ok(oid), Ok(list)) = (from_slice(arcs), arcs.to_vec(alloc)) else {
-        return false;
-    };
-    oid.as_bytes() == octets
-        && is_encoded(again(&oid), octets)
-        && is_encoded(from_vec(list), octets)
-}
-
+/// A slice, a list and an identifier are lists of arcs.
 #[test]
-fn accepted(rt: HostRuntime) {
+fn accepted(rt: HostRuntime) -> Result<(), AllocError> {
     for (text, octets, arcs) in accepted_rows() {
-        assert!(rt; encodes(rt.alloc(), arcs, octets), "{text}");
+        let oid = from_slice(arcs).expect(&rt, text);
+        assert!(rt; oid.as_bytes() == *octets, "{text}");
+        assert!(rt; is_answer(again(&oid), Ok(octets)), "{text}");
+        assert!(rt;
+            is_answer(from_vec(arcs.to_vec(rt.alloc())?), Ok(octets)),
+            "{text}"
+        );
     }
+    Ok(())
 }
 
 /// Three arcs, and their encoding.
-const ARRAYS: [([Arc; 3], &[u8]); 3] = [
+const ARRAYS: &[([Arc; 3], &[u8])] = &[
     ([1, 2, 1144201745], &[0x2A, 0x84, 0xA1, 0xCC, 0xC4, 0x11]),
     ([2, 40, 1], &[0x78, 0x01]),
     ([2, 999, 3], &[0x88, 0x37, 0x03]),
@@ -73,13 +64,13 @@ const ARRAYS: [([Arc; 3], &[u8]); 3] = [
 
 #[test]
 fn arrays(rt: HostRuntime) {
-    for (arcs, octets) in &ARRAYS {
-        assert!(rt; is_encoded(from_array(*arcs), octets), "{arcs:?}");
+    for (arcs, octets) in ARRAYS {
+        assert!(rt; is_answer(from_array(*arcs), Ok(octets)), "{arcs:?}");
     }
 }
 
 /// Lists that are refused, and the error.
-const REFUSED: [(&[Arc], Error); 7] = [
+const REFUSED: &[(&[Arc], Error)] = &[
     (&[1, 40, 840, 10045, 3, 1, 7], Error::ArcInvalid { arc: 40 }),
     (&[0, 40], Error::ArcInvalid { arc: 40 }),
     (&[3, 2], Error::ArcInvalid { arc: 3 }),
@@ -91,25 +82,19 @@ const REFUSED: [(&[Arc], Error); 7] = [
 
 #[test]
 fn refused(rt: HostRuntime) {
-    for (arcs, error) in &REFUSED {
-        assert!(rt; from_slice(arcs).err() == Some(*error), "{arcs:?}");
+    for (arcs, error) in REFUSED {
+        assert!(rt; from_slice(arcs) == Err(*error), "{arcs:?}");
     }
 }
 
-/// Whether arcs fill the capacity of 39.
-fn fills(arcs: &[Arc]) -> bool {
-    match from_slice(arcs) {
-        Ok(oid) => oid.as_bytes().len() == 39 && oid.len() == 40,
-        Err(_) => false,
-    }
-}
-
-/// 1.2 and 38 more arcs fill the capacity, and nothing after the next arc matters.
+/// 1.2 and 38 more arcs have 39 octets, and nothing after the next arc matters.
 #[test]
-fn capacity(rt: HostRuntime) {
+fn longest(rt: HostRuntime) -> Result<(), Error> {
     let mut arcs = [1; 60];
     arcs[1] = 2;
-    assert!(rt; fills(&arcs[..40]));
-    assert!(rt; from_slice(&arcs[..41]).err() == Some(Error::Length));
-    assert!(rt; from_slice(&arcs).err() == Some(Error::Length));
+    let oid = from_slice(&arcs[..40])?;
+    assert!(rt; oid.as_bytes().len() == 39 && oid.len() == 40);
+    assert!(rt; from_slice(&arcs[..41]) == Err(Error::Length));
+    assert!(rt; from_slice(&arcs) == Err(Error::Length));
+    Ok(())
 }

@@ -2,37 +2,37 @@
 #![tactic(auto)]
 
 #[cfg(test)]
-mod borrowed;
+mod arcs;
 #[cfg(test)]
 mod capacity;
 #[cfg(test)]
-mod compare;
+mod cmp_arcs;
+#[cfg(test)]
+mod conversions;
+#[cfg(test)]
+mod encode_text;
 #[cfg(test)]
 mod errors;
 #[cfg(test)]
 mod formatter;
 #[cfg(test)]
-mod hostile;
-#[cfg(test)]
 mod items;
+#[cfg(test)]
+mod keys;
 #[cfg(test)]
 mod names;
 #[cfg(test)]
+mod octets;
+#[cfg(test)]
 mod order;
-#[cfg(test)]
-mod owned;
-#[cfg(test)]
-mod places;
 #[cfg(test)]
 mod printing;
 #[cfg(test)]
-mod sized;
-#[cfg(test)]
-mod slices;
+mod short_slices;
 #[cfg(test)]
 mod subtree;
 #[cfg(test)]
-mod tables;
+mod text_prefixes;
 #[cfg(test)]
 mod texts;
 #[cfg(test)]

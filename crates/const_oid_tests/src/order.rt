@@ -1,18 +1,17 @@
-//! Equality and the orders of both forms, and identifiers as keys.
+//! Equality, copies and the orders of both forms: `==`, `clone` and `cmp`.
 
-ghost use Rattle.std.specs.Prelude.{◌≡◌, ◌↔◌, IsTrue, IsOk, IfOk};
+ghost use Rattle.std.specs.Prelude.{◌≡◌, ◌↔◌, ◌≤◌, IsTrue, IsOk, IfOk};
 ghost use Rattle.std.specs.Ordering.{nat_cmp};
 ghost use Rattle.std.specs.Cmp.Lexicographic.{slice_cmp};
 ghost use Rattle.const_oid.specs.Oid.{oid_octets, oid_arcs};
 ghost use Rattle.const_oid.specs.OidRef.{ref_octets, ref_arcs};
 ghost use Rattle.const_oid.specs.Orders.{shortlex_cmp};
 
-use crate::vectors::{ASCENDING, accepted_rows};
-use const_oid::{ObjectIdentifier, ObjectIdentifierRef};
+use crate::vectors::ASCENDING;
+use const_oid::{Error, ObjectIdentifier, ObjectIdentifierRef};
 use std::alloc::AllocError;
 use std::cmp::Ordering;
-use std::collections::{BTreeMap, HashMap};
-use std::result::Result;
+use std::test::Fail;
 
 fn has_same_arcs<const N: usize>(a: &ObjectIdentifier<N>, b: &ObjectIdentifier<N>) -> bool
     ensures { IsTrue result ↔ (oid_arcs a.now ≡ oid_arcs b.now) }
@@ -53,7 +52,7 @@ fn ref_clone_of<'a>(oid: &ObjectIdentifierRef<'a>) -> Result<ObjectIdentifierRef
 }
 
 /// Identifiers in the owned order.
-const SHORT_FIRST: [&[u8]; 14] = [
+const SHORT_FIRST: &[&[u8]] = &[
     &[0x00],
     &[0x2A],
     &[0x55],
@@ -70,140 +69,103 @@ const SHORT_FIRST: [&[u8]; 14] = [
     &[0x2A, 0x81, 0x80, 0x00],
 ];
 
-/// Whether an owned identifier is equal to the clone of another.
-fn equals_clone(a: &ObjectIdentifier<39>, b: &ObjectIdentifier<39>) -> Option<bool> {
-    match clone_of(b) {
-        Ok(copy) => Some(has_same_arcs(a, &copy)),
-        Err(_) => None,
-    }
-}
-
-/// Whether two owned identifiers stand so, and are equal where they tie.
-fn stand(a: &[u8], b: &[u8], order: Ordering) -> bool {
-    let (Ok(a), Ok(b)) = (
-        ObjectIdentifier::from_bytes(a),
-        ObjectIdentifier::from_bytes(b),
-    ) else {
-        return false;
-    };
-    order_of(&a, &b) == order
-        && (a < b) == (order == Ordering::Less)
-        && equals_clone(&a, &b) == Some(order == Ordering::Equal)
-}
-
-/// Whether a borrowed identifier is equal to the clone of another.
-fn ref_equals_clone(a: &ObjectIdentifierRef<'_>, b: &ObjectIdentifierRef<'_>) -> Option<bool> {
-    match ref_clone_of(b) {
-        Ok(copy) => Some(ref_has_same_arcs(a, &copy)),
-        Err(_) => None,
-    }
-}
-
-/// Whether two borrowed identifiers stand so, and are equal where they tie.
-fn refs_stand(a: &[u8], b: &[u8], order: Ordering) -> bool {
-    let (Ok(a), Ok(b)) = (
-        ObjectIdentifierRef::from_bytes(a),
-        ObjectIdentifierRef::from_bytes(b),
-    ) else {
-        return false;
-    };
-    ref_order_of(&a, &b) == order
-        && (a < b) == (order == Ordering::Less)
-        && ref_equals_clone(&a, &b) == Some(order == Ordering::Equal)
+/// Whether owned identifiers compare so, and are equal where they tie.
+fn compare<const N: usize>(a: &[u8], b: &[u8], order: Ordering) -> Result<bool, Fail>
+    requires { N ≤ 300 }
+{
+    let a = ObjectIdentifier::<N>::from_bytes_sized(a)?;
+    let b = ObjectIdentifier::<N>::from_bytes_sized(b)?;
+    let is_equal = has_same_arcs(&a, &clone_of(&b)?);
+    Ok(
+        order_of(&a, &b) == order
+            && (a < b) == (order == Ordering::Less)
+            && is_equal == (order == Ordering::Equal),
+    )
 }
 
 #[test]
-fn compares_every_pair(rt: HostRuntime) {
+fn owned_pairs(rt: HostRuntime) -> Result<(), Fail> {
     for (i, a) in SHORT_FIRST.iter().enumerate() {
         for (j, b) in SHORT_FIRST.iter().enumerate() {
-            assert!(rt; stand(a, b, i.cmp(&j)), "{a:?} and {b:?}");
+            assert!(rt; compare::<39>(a, b, i.cmp(&j))?, "{a:?} and {b:?}");
         }
     }
+    Ok(())
+}
+
+/// Identifiers of at most three octets, in the owned order.
+const THREE_OCTETS: &[&[u8]] = &[&[0x2A], &[0x55], &[0x2A, 0x03], &[0x2A, 0x04]];
+
+#[test]
+fn owned_pairs_in_three_octets(rt: HostRuntime) -> Result<(), Fail> {
+    for (i, a) in THREE_OCTETS.iter().enumerate() {
+        for (j, b) in THREE_OCTETS.iter().enumerate() {
+            assert!(rt; compare::<3>(a, b, i.cmp(&j))?, "{a:?} and {b:?}");
+        }
+    }
+    Ok(())
+}
+
+/// Whether borrowed identifiers compare so, and are equal where they tie.
+fn compare_refs(a: &[u8], b: &[u8], order: Ordering) -> Result<bool, Fail> {
+    let a = ObjectIdentifierRef::from_bytes(a)?;
+    let b = ObjectIdentifierRef::from_bytes(b)?;
+    let is_equal = ref_has_same_arcs(&a, &ref_clone_of(&b)?);
+    Ok(
+        ref_order_of(&a, &b) == order
+            && (a < b) == (order == Ordering::Less)
+            && is_equal == (order == Ordering::Equal),
+    )
 }
 
 #[test]
-fn compares_every_borrowed_pair(rt: HostRuntime) {
+fn borrowed_pairs(rt: HostRuntime) -> Result<(), Fail> {
     for (i, a) in ASCENDING.iter().enumerate() {
         for (j, b) in ASCENDING.iter().enumerate() {
-            assert!(rt; refs_stand(a, b, i.cmp(&j)), "{a:?} and {b:?}");
+            assert!(rt; compare_refs(a, b, i.cmp(&j))?, "{a:?} and {b:?}");
         }
     }
+    Ok(())
 }
 
-type Hashed = HashMap<ObjectIdentifier<39>, usize>;
+/// Pairs of 7, 8, 9, 16 and 17 octets, about one word and two words: equal ones, ones that differ in the
+/// first, the eighth or the last octet, and ones whose first and last octets differ in opposite ways.
+const PAIRS: &[(&[u8], &[u8], Ordering)] = &[
+    (b"ABCDEFG", b"ABCDEFG", Ordering::Equal),
+    (b"ABCDEFG", b"BBCDEFG", Ordering::Less),
+    (b"ABCDEFG", b"ABCDEFH", Ordering::Less),
+    (b"ABCDEFH", b"BBCDEFG", Ordering::Less),
+    (b"ABCDEFGH", b"ABCDEFGH", Ordering::Equal),
+    (b"ABCDEFGH", b"BBCDEFGH", Ordering::Less),
+    (b"ABCDEFGH", b"ABCDEFGI", Ordering::Less),
+    (b"ABCDEFGI", b"BBCDEFGH", Ordering::Less),
+    (b"ABCDEFGHI", b"ABCDEFGHI", Ordering::Equal),
+    (b"ABCDEFGHI", b"BBCDEFGHI", Ordering::Less),
+    (b"ABCDEFGHI", b"ABCDEFGII", Ordering::Less),
+    (b"ABCDEFGHI", b"ABCDEFGHJ", Ordering::Less),
+    (b"ABCDEFGHIJKLMNOP", b"ABCDEFGHIJKLMNOP", Ordering::Equal),
+    (b"ABCDEFGHIJKLMNOP", b"BBCDEFGHIJKLMNOP", Ordering::Less),
+    (b"ABCDEFGHIJKLMNOP", b"ABCDEFGIIJKLMNOP", Ordering::Less),
+    (b"ABCDEFGHIJKLMNOP", b"ABCDEFGHIJKLMNOQ", Ordering::Less),
+    (b"ABCDEFGHIJKLMNOQ", b"ABCDEFGHJJKLMNOP", Ordering::Less),
+    (b"ABCDEFGHIJKLMNOPQ", b"ABCDEFGHIJKLMNOPQ", Ordering::Equal),
+    (b"ABCDEFGHIJKLMNOPQ", b"BBCDEFGHIJKLMNOPQ", Ordering::Less),
+    (b"ABCDEFGHIJKLMNOPQ", b"ABCDEFGIIJKLMNOPQ", Ordering::Less),
+    (b"ABCDEFGHIJKLMNOPQ", b"ABCDEFGHIJKLMNOPR", Ordering::Less),
+    (b"ABCDEFGHIJKLMNOPR", b"BBCDEFGHIJKLMNOPQ", Ordering::Less),
+];
 
-type Sorted = BTreeMap<ObjectIdentifier<39>, usize>;
-
-/// Whether both maps took a key and its number.
-fn keep(hashed: &mut Hashed, sorted: &mut Sorted, octets: &[u8], number: usize) -> bool {
-    let Ok(oid) = ObjectIdentifier::from_bytes(octets) else {
-        return false;
-    };
-    hashed.insert(oid, number).is_ok() && sorted.insert(oid, number).is_ok()
-}
-
-/// Whether both maps have this number at a text's key.
-fn find(hashed: &Hashed, sorted: &Sorted, text: &str, number: usize) -> bool {
-    let Ok(oid) = ObjectIdentifier::new(text) else {
-        return false;
-    };
-    hashed.get(&oid).copied() == Some(number) && sorted.get(&oid).copied() == Some(number)
-}
-
-/// The first text whose key the maps do not take.
-fn not_kept(hashed: &mut Hashed, sorted: &mut Sorted) -> Option<&'static str> {
-    for (text, octets, arcs) in accepted_rows() {
-        if !keep(hashed, sorted, octets, arcs.len()) {
-            return Some(text);
-        }
-    }
-    None
-}
-
-/// The first text whose key the maps do not have.
-fn not_found(hashed: &Hashed, sorted: &Sorted) -> Option<&'static str> {
-    for (text, _, arcs) in accepted_rows() {
-        if !find(hashed, sorted, text, arcs.len()) {
-            return Some(text);
-        }
-    }
-    None
-}
-
+/// Of as many octets, one identifier begins with another only where they are equal.
 #[test]
-fn finds_keys(rt: HostRuntime) {
-    let mut hashed = HashMap::new(rt.alloc());
-    let mut sorted = BTreeMap::new(rt.alloc());
-    let text = not_kept(&mut hashed, &mut sorted);
-    assert!(rt; text.is_none(), "{text:?}");
-    assert!(rt; hashed.len() == accepted_rows().len());
-    let text = not_found(&hashed, &sorted);
-    assert!(rt; text.is_none(), "{text:?}");
-}
-
-type Names<'a> = HashMap<ObjectIdentifierRef<'a>, &'static str>;
-
-/// Whether a map took a name of these octets.
-fn takes<'a>(names: &mut Names<'a>, octets: &'a [u8], name: &'static str) -> bool {
-    match ObjectIdentifierRef::from_bytes(octets) {
-        Ok(oid) => names.insert(oid, name).is_ok(),
-        Err(_) => false,
+fn pairs_of_as_many_octets(rt: HostRuntime) -> Result<(), Error> {
+    for (number, (left, right, order)) in PAIRS.iter().enumerate() {
+        let a = ObjectIdentifierRef::from_bytes(left)?;
+        let b = ObjectIdentifierRef::from_bytes(right)?;
+        let is_equal = *order == Ordering::Equal;
+        assert!(rt; a.cmp(&b) == *order, "pair {number}");
+        assert!(rt; b.cmp(&a) == order.reverse(), "pair {number}");
+        assert!(rt; (a == b) == is_equal, "pair {number}");
+        assert!(rt; a.starts_with(&b) == is_equal, "pair {number}");
     }
-}
-
-/// Whether a map has this name of these octets, or none.
-fn has_name(names: &Names<'_>, octets: &[u8], wanted: Option<&str>) -> bool {
-    match ObjectIdentifierRef::from_bytes(octets) {
-        Ok(oid) => names.get(&oid).copied() == wanted,
-        Err(_) => false,
-    }
-}
-
-#[test]
-fn hash_map_finds_an_equal_value(rt: HostRuntime) {
-    let octets: &[u8] = &[0x2A, 0x03, 0x2A, 0x03];
-    let mut names = HashMap::new(rt.alloc());
-    assert!(rt; takes(&mut names, &octets[..2], "1.2.3"));
-    assert!(rt; has_name(&names, &octets[2..], Some("1.2.3")));
-    assert!(rt; has_name(&names, &octets[2..3], None));
+    Ok(())
 }

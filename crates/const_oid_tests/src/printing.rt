@@ -1,11 +1,13 @@
-//! Identifiers of both forms, printed.
+//! Identifiers of both forms, printed: Display and Debug.
 
-use crate::formatter::{Shown, prints, prints_as, tells};
-use const_oid::{ObjectIdentifier, ObjectIdentifierRef};
+use crate::encode_text::ARCS;
+use crate::formatter::{DebugText, count_writes, prints, prints_as};
+use const_oid::{ObjectIdentifier, ObjectIdentifierRef, Oid};
 use std::alloc::{AllocError, Global};
+use std::test::Fail;
 
-/// Octets of up to 39, and what they print.
-const ROWS: [(&[u8], &str); 5] = [
+/// Octets, and what they print.
+const ROWS: &[(&[u8], &str)] = &[
     (&[0x77], "2.39"),
     (&[0x2A, 0x03], "1.2.3"),
     (&[0x88, 0x37], "2.999"),
@@ -16,73 +18,56 @@ const ROWS: [(&[u8], &str); 5] = [
     ),
 ];
 
-/// Whether both forms print this text, whatever the options.
-fn both_print(alloc: Global, octets: &[u8], text: &str) -> bool {
-    let (Ok(borrowed), Ok(owned)) = (
-        ObjectIdentifierRef::from_bytes(octets),
-        ObjectIdentifier::from_bytes(octets),
-    ) else {
-        return false;
-    };
-    prints(alloc, &borrowed, text) && prints(alloc, &owned, text)
-}
-
 #[test]
-fn options_change_nothing(rt: HostRuntime) {
-    for (octets, text) in &ROWS {
-        assert!(rt; both_print(rt.alloc(), octets, text), "{text}");
-    }
-}
-
-/// An octet, the text of it alone, and what each one more adds.
-const REPEATED: [(&str, &str, &str); 2] = [("\u{7F}", "2.47", ".127"), ("\u{1}", "0.1", ".1")];
-
-/// Whether octets are printed as this text, by the owned form where they are at most 255.
-fn print(octets: &[u8], text: &str) -> bool {
-    let Ok(borrowed) = ObjectIdentifierRef::from_bytes(octets) else {
-        return false;
-    };
-    let is_printed = match ObjectIdentifier::<300>::try_from_ref(borrowed) {
-        Ok(owned) => prints_as(&owned, text),
-        Err(_) => octets.len() > 255,
-    };
-    is_printed && prints_as(&borrowed, text)
-}
-
-/// Whether so many octets of a row are printed.
-fn prints_so_many(
-    alloc: Global,
-    row: &(&str, &str, &str),
-    count: usize,
-) -> Result<bool, AllocError> {
-    let (octet, first, later) = row;
-    let octets = octet.repeat(alloc, count)?;
-    let later = later.repeat(alloc, count.saturating_sub(1))?;
-    let text = format!(in alloc; "{first}{later}")?;
-    Ok(print(octets.as_bytes(), text.as_str()))
-}
-
-/// The first number of octets that are not printed: of 1 to 255, and past any room of a fixed size.
-fn not_printed(alloc: Global, row: &(&str, &str, &str)) -> Result<Option<usize>, AllocError> {
-    for count in (1..256).chain([256, 2046, 10_000]) {
-        if !prints_so_many(alloc, row, count)? {
-            return Ok(Some(count));
-        }
-    }
-    Ok(None)
-}
-
-#[test]
-fn of_any_length(rt: HostRuntime) -> Result<(), AllocError> {
-    for row in &REPEATED {
-        let count = not_printed(rt.alloc(), row)?;
-        assert!(rt; count.is_none(), "{count:?} octets");
+fn options_change_nothing(rt: HostRuntime) -> Result<(), AllocError> {
+    for (octets, text) in ROWS {
+        let borrowed = ObjectIdentifierRef::from_bytes(octets).expect(&rt, text);
+        let owned = Oid::from_bytes(octets).expect(&rt, text);
+        assert!(rt; prints(rt.alloc(), &borrowed, text)?, "{text}");
+        assert!(rt; prints(rt.alloc(), &owned, text)?, "{text}");
     }
     Ok(())
 }
 
-/// Octets, and what Display prints of them, and Debug of both forms.
-const SHOWN: [(&[u8], &str, &str, &str); 2] = [
+/// Whether so many octets print as the text of the first one and then a text for each later one, the owned
+/// form where they are at most 255.
+fn prints_octets(
+    alloc: Global,
+    octet: &str,
+    first: &str,
+    later: &str,
+    count: usize,
+) -> Result<bool, Fail> {
+    let octets = octet.repeat(alloc, count)?;
+    let later = later.repeat(alloc, count.saturating_sub(1))?;
+    let text = format!(in alloc; "{first}{later}")?;
+    let borrowed = ObjectIdentifierRef::from_bytes(octets.as_bytes())?;
+    let is_printed = match ObjectIdentifier::<300>::try_from_ref(borrowed) {
+        Ok(owned) => prints_as(&owned, text.as_str()),
+        Err(_) => count > 255,
+    };
+    Ok(is_printed && prints_as(&borrowed, text.as_str()))
+}
+
+/// Each number of octets up to 256, and numbers that are past any buffer of a fixed size.
+#[test]
+fn of_any_length(rt: HostRuntime) -> Result<(), Fail> {
+    for count in (1..=256).chain([2046, 10_000]) {
+        let alloc = rt.alloc();
+        assert!(rt;
+            prints_octets(alloc, "\u{7F}", "2.47", ".127", count)?,
+            "{count}"
+        );
+        assert!(rt;
+            prints_octets(alloc, "\u{1}", "0.1", ".1", count)?,
+            "{count}"
+        );
+    }
+    Ok(())
+}
+
+/// Octets, what Display prints of them, and what Debug prints of both forms.
+const DEBUG: &[(&[u8], &str, &str, &str)] = &[
     (
         &[0x2A, 0x03],
         "1.2.3",
@@ -97,25 +82,42 @@ const SHOWN: [(&[u8], &str, &str, &str); 2] = [
     ),
 ];
 
-/// Whether both forms print and show a row, and each write, refused, is told.
-fn both_tell(row: &(&[u8], &str, &str, &str)) -> bool {
-    let (octets, text, borrowed_text, owned_text) = row;
-    let (Ok(borrowed), Ok(owned)) = (
-        ObjectIdentifierRef::from_bytes(octets),
-        ObjectIdentifier::from_bytes(octets),
-    ) else {
-        return false;
-    };
-    tells(&borrowed, text)
-        && tells(&owned, text)
-        && tells(&Shown(borrowed), borrowed_text)
-        && tells(&Shown(owned), owned_text)
+/// Each write that is refused is reported, whichever it is.
+#[test]
+fn refused_writes(rt: HostRuntime) {
+    for (octets, text, borrowed_text, owned_text) in DEBUG {
+        let borrowed = ObjectIdentifierRef::from_bytes(octets).expect(&rt, text);
+        let owned = Oid::from_bytes(octets).expect(&rt, text);
+        assert!(rt; count_writes(&borrowed, text).is_some(), "{text}");
+        assert!(rt; count_writes(&owned, text).is_some(), "{text}");
+        assert!(rt;
+            count_writes(&DebugText(borrowed), borrowed_text).is_some(),
+            "{text}"
+        );
+        assert!(rt;
+            count_writes(&DebugText(owned), owned_text).is_some(),
+            "{text}"
+        );
+    }
 }
 
-/// Each write that is refused is told, whichever it is.
+/// The text of 255 octets is more than one write, and each, refused, is reported.
 #[test]
-fn a_refused_write_is_told(rt: HostRuntime) {
-    for row in &SHOWN {
-        assert!(rt; both_tell(row), "{}", row.1);
+fn refused_writes_of_a_long_text(rt: HostRuntime) -> Result<(), Fail> {
+    let later = ".127".repeat(rt.alloc(), 254)?;
+    let text = format!(in rt.alloc(); "2.47{later}")?;
+    let borrowed = ObjectIdentifierRef::from_bytes(&[0x7F; 255])?;
+    let owned = ObjectIdentifier::<255>::try_from_ref(borrowed)?;
+    assert!(rt; count_writes(&borrowed, text.as_str()) > Some(1));
+    assert!(rt; count_writes(&owned, text.as_str()) > Some(1));
+    Ok(())
+}
+
+/// A short text is one write.
+#[test]
+fn short_texts_are_one_write(rt: HostRuntime) {
+    for (arc, text) in ARCS {
+        let oid = Oid::from_arcs([1, 2, *arc]).expect(&rt, text);
+        assert!(rt; count_writes(&oid, text) == Some(1), "{text}");
     }
 }

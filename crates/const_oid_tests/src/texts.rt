@@ -1,12 +1,17 @@
-//! Identifiers from dotted text.
+//! Identifiers from dotted text: `new`, `parse` and literals.
 
-use crate::formatter::is_printed;
-use crate::vectors::long_text;
-use const_oid::{Error, ObjectIdentifier};
-use std::alloc::{AllocError, Global};
+use crate::formatter::prints_as;
+use crate::vectors::{is_answer, long_text};
+use const_oid::db::Database;
+use const_oid::{Error, Oid};
+use std::alloc::AllocError;
 
 /// Texts that are refused, and the error.
-pub const REFUSED: [(&str, Error); 45] = [
+pub fn refused_texts() -> &'static [(&'static str, Error)] {
+    REFUSED
+}
+
+const REFUSED: &[(&str, Error)] = &[
     ("", Error::Empty),
     ("0", Error::Empty),
     ("1", Error::Empty),
@@ -45,7 +50,7 @@ pub const REFUSED: [(&str, Error); 45] = [
     ("1..X", Error::RepeatedDot),
     ("1.2.3.é", Error::DigitExpected { actual: 0xC3 }),
     ("１.2", Error::DigitExpected { actual: 0xEF }),
-    // Second arcs past 39, which are taken under 2 alone.
+    // Second arcs past 39, which are accepted under 2 alone.
     ("0.40", Error::ArcInvalid { arc: 40 }),
     ("1.40", Error::ArcInvalid { arc: 40 }),
     ("3.1", Error::ArcInvalid { arc: 3 }),
@@ -55,21 +60,16 @@ pub const REFUSED: [(&str, Error); 45] = [
     ("2.40.4294967296", Error::ArcTooBig),
 ];
 
-/// Whether `new` and `parse` refuse a text by this error.
-fn refuses(text: &str, error: Error) -> bool {
-    ObjectIdentifier::new(text).err() == Some(error)
-        && text.parse::<ObjectIdentifier<39>>().err() == Some(error)
-}
-
 #[test]
 fn refused(rt: HostRuntime) {
-    for (text, error) in &REFUSED {
-        assert!(rt; refuses(text, *error), "of {text}");
+    for (text, error) in refused_texts() {
+        assert!(rt; Oid::new(text) == Err(*error), "of {text}");
+        assert!(rt; text.parse::<Oid>() == Err(*error), "of {text}");
     }
 }
 
-/// Texts with leading zeros, what they print as, and their contents octets.
-pub const LEADING_ZEROS: [(&str, &str, &[u8]); 5] = [
+/// Texts with leading zeros, what their identifiers print, and their contents octets.
+pub const LEADING_ZEROS: &[(&str, &str, &[u8])] = &[
     ("00.00", "0.0", &[0x00]),
     ("01.02.003", "1.2.3", &[0x2A, 0x03]),
     ("2.039", "2.39", &[0x77]),
@@ -81,54 +81,67 @@ pub const LEADING_ZEROS: [(&str, &str, &[u8]); 5] = [
     ("1.2.00", "1.2.0", &[0x2A, 0x00]),
 ];
 
-/// Whether a text has these octets, and prints as another text.
-fn prints_as(alloc: Global, text: &str, printed: &str, octets: &[u8]) -> bool {
-    let Ok(oid) = ObjectIdentifier::new(text) else {
-        return false;
-    };
-    oid.as_bytes() == octets && is_printed(format!(in alloc; "{oid}"), printed)
-}
-
 #[test]
 fn leading_zeros(rt: HostRuntime) {
-    for (text, printed, octets) in &LEADING_ZEROS {
-        assert!(rt; prints_as(rt.alloc(), text, printed, octets), "{text}");
+    for (text, printed, octets) in LEADING_ZEROS {
+        let oid = Oid::new(text).expect(&rt, text);
+        assert!(rt; oid.as_bytes() == *octets, "{text}");
+        assert!(rt; prints_as(&oid, printed), "{text}");
     }
 }
 
-/// How a text begins, how many times `.1` follows, how it ends, and the error, if there is one.
-const LONG: [(&str, usize, &str, Option<Error>); 9] = [
-    ("1.2", 38, "", None),
-    ("1.2", 39, "", Some(Error::Length)),
-    ("1.2", 39, ".", Some(Error::TrailingDot)),
-    ("1.2", 40, ".", Some(Error::Length)),
-    ("2.999", 37, "", None),
-    ("2.999", 38, "", Some(Error::Length)),
-    ("2.4294967295", 34, "", None),
-    ("2.4294967295", 35, "", Some(Error::Length)),
-    ("2.4294967295", 35, ".", Some(Error::TrailingDot)),
+/// How a text begins, how many times `.1` follows, how it ends, and how many octets it has, or its error.
+const LONG: &[(&str, usize, &str, Result<usize, Error>)] = &[
+    ("1.2", 38, "", Ok(39)),
+    ("1.2", 39, "", Err(Error::Length)),
+    ("1.2", 39, ".", Err(Error::TrailingDot)),
+    ("1.2", 40, ".", Err(Error::Length)),
+    ("2.999", 37, "", Ok(39)),
+    ("2.999", 38, "", Err(Error::Length)),
+    ("2.4294967295", 34, "", Ok(39)),
+    ("2.4294967295", 35, "", Err(Error::Length)),
+    ("2.4294967295", 35, ".", Err(Error::TrailingDot)),
 ];
-
-/// Whether a text is accepted with 39 octets, or refused by this error.
-fn fills(text: &str, error: Option<Error>) -> bool {
-    match ObjectIdentifier::new(text) {
-        Ok(oid) => error.is_none() && oid.as_bytes().len() == 39,
-        Err(fault) => Some(fault) == error,
-    }
-}
 
 #[test]
 fn longest(rt: HostRuntime) -> Result<(), AllocError> {
-    for (prefix, count, end, error) in &LONG {
+    for (prefix, count, end, wanted) in LONG {
         let text = long_text(rt.alloc(), prefix, *count, end)?;
-        assert!(rt; fills(text.as_str(), *error), "{text}");
+        let len = Oid::new(text.as_str()).map(|oid| oid.as_bytes().len());
+        assert!(rt; len == *wanted, "{text}");
+    }
+    Ok(())
+}
+
+/// What precedes 100,000 zeros and what follows them, and the octets of the text or its error.
+const ZEROS: &[(&str, &str, Result<&[u8], Error>)] = &[
+    ("1.2.", "3", Ok(&[0x2A, 0x03])),
+    ("1.2.", "", Ok(&[0x2A, 0x00])),
+    ("1.2.", "4294967296", Err(Error::ArcTooBig)),
+    ("", "", Err(Error::Empty)),
+    ("", "3", Err(Error::ArcInvalid { arc: 3 })),
+    ("", "X", Err(Error::DigitExpected { actual: 0x58 })),
+];
+
+/// Each call that reads a text reads any number of zeros.
+#[test]
+fn zeros(rt: HostRuntime) -> Result<(), AllocError> {
+    for (prefix, end, wanted) in ZEROS {
+        let zeros = "0".repeat(rt.alloc(), 100_000)?;
+        let text = format!(in rt.alloc(); "{prefix}{zeros}{end}")?;
+        let text = text.as_str();
+        let resolved = Database::new(&[]).resolve(text);
+        assert!(rt; is_answer(Oid::new(text), *wanted), "{prefix} {end}");
+        assert!(rt; is_answer(text.parse(), *wanted), "{prefix} {end}");
+        assert!(rt; resolved.err() == wanted.err(), "{prefix} {end}");
+        assert!(rt; resolved.is_err() || resolved == Ok(text), "{prefix} {end}");
     }
     Ok(())
 }
 
 #[test]
 fn literals(rt: HostRuntime) {
-    let oid = ObjectIdentifier::new_unwrap("1.2.840.113549.1.1.1");
+    let oid = Oid::new_unwrap("1.2.840.113549.1.1.1");
     assert!(rt;
         oid.as_bytes() == [0x2A, 0x86, 0x48, 0x86, 0xF7, 0x0D, 0x01, 0x01, 0x01].as_slice()
     );

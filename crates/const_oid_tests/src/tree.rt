@@ -1,73 +1,78 @@
-//! Parents, children and beginnings.
+//! Parents, children and prefixes: `parent`, `push_arc` and `starts_with`.
 
 ghost use Rattle.std.specs.Prelude.{◌≤◌};
 
-use crate::vectors::{accepted_rows, long_octets};
-use const_oid::{Arc, Error, ObjectIdentifier};
+use crate::vectors::{accepted_rows, is_answer, long_octets};
+use const_oid::{Arc, Error, ObjectIdentifier, ObjectIdentifierRef, Oid};
 use std::alloc::AllocError;
 
-/// The octets of an identifier, and those of its parent, which are empty where there is none.
-const PARENTS: [(&[u8], &[u8]); 11] = [
-    (&[0x2A], &[]),
-    (&[0x2A, 0x03], &[0x2A]),
-    (&[0x2A, 0x81, 0x00], &[0x2A]),
-    (&[0x2A, 0x8F, 0xFF, 0xFF, 0xFF, 0x7F], &[0x2A]),
-    (&[0x2A, 0x81, 0x80, 0x00, 0x00], &[0x2A, 0x81, 0x80, 0x00]),
-    (&[0x2A, 0x03, 0x81, 0x00], &[0x2A, 0x03]),
-    (&[0x78], &[]),
-    (&[0x88, 0x37], &[]),
-    (&[0x88, 0x37, 0x03], &[0x88, 0x37]),
-    (&[0x90, 0x80, 0x80, 0x80, 0x4F], &[]),
+/// The octets of an identifier, and those of its parent, if there is one.
+const PARENTS: &[(&[u8], Option<&[u8]>)] = &[
+    (&[0x2A], None),
+    (&[0x2A, 0x03], Some(&[0x2A])),
+    (&[0x2A, 0x81, 0x00], Some(&[0x2A])),
+    (&[0x2A, 0x8F, 0xFF, 0xFF, 0xFF, 0x7F], Some(&[0x2A])),
+    (
+        &[0x2A, 0x81, 0x80, 0x00, 0x00],
+        Some(&[0x2A, 0x81, 0x80, 0x00]),
+    ),
+    (&[0x2A, 0x03, 0x81, 0x00], Some(&[0x2A, 0x03])),
+    (&[0x78], None),
+    (&[0x88, 0x37], None),
+    (&[0x88, 0x37, 0x03], Some(&[0x88, 0x37])),
+    (&[0x90, 0x80, 0x80, 0x80, 0x4F], None),
     (
         &[0x90, 0x80, 0x80, 0x80, 0x4F, 0x00],
-        &[0x90, 0x80, 0x80, 0x80, 0x4F],
+        Some(&[0x90, 0x80, 0x80, 0x80, 0x4F]),
     ),
+    (&[0x2A, 0x86, 0x48, 0x01], Some(&[0x2A, 0x86, 0x48])),
 ];
 
-/// Whether the parent of an identifier has these octets, or there is none and they are empty.
-fn has_parent(octets: &[u8], wanted: &[u8]) -> bool {
-    let Ok(oid) = ObjectIdentifier::from_bytes(octets) else {
+/// Whether the parent has these octets in both forms, or there is none.
+fn has_parent(octets: &[u8], wanted: Option<&[u8]>) -> bool {
+    let (Ok(owned), Ok(borrowed)) = (
+        Oid::from_bytes(octets),
+        ObjectIdentifierRef::from_bytes(octets),
+    ) else {
         return false;
     };
-    match oid.parent() {
-        Some(parent) => !wanted.is_empty() && parent.as_bytes() == wanted,
-        None => wanted.is_empty(),
+    match (owned.parent(), borrowed.parent(), wanted) {
+        (Some(owned), Some(borrowed), Some(wanted)) => {
+            owned.as_bytes() == wanted && borrowed.as_bytes() == wanted
+        }
+        (None, None, None) => true,
+        _ => false,
     }
 }
 
 #[test]
-fn gives_parents(rt: HostRuntime) {
-    for (octets, wanted) in &PARENTS {
-        assert!(rt; has_parent(octets, wanted), "{octets:?}");
+fn parents(rt: HostRuntime) {
+    for (octets, wanted) in PARENTS {
+        assert!(rt; has_parent(octets, *wanted), "{octets:?}");
     }
 }
 
 /// 32 octets before an arc of two.
 #[test]
-fn gives_a_long_parent(rt: HostRuntime) -> Result<(), AllocError> {
+fn long_parent(rt: HostRuntime) -> Result<(), AllocError> {
     let octets = long_octets(rt.alloc(), &[0x2A], 30, &[0x81, 0x00])?;
-    let prefix = octets.as_slice().get(..31).unwrap_or(&[]);
+    let prefix = octets.as_slice().get(..31);
     assert!(rt; has_parent(octets.as_slice(), prefix));
     Ok(())
 }
 
-/// Whether a capacity takes one more arc as these octets, or answers `Length` where they are empty, and
-/// keeps the old value.
-fn pushes<const N: usize>(octets: &[u8], arc: Arc, wanted: &[u8]) -> bool
+/// Whether a capacity answers one more arc so, and keeps the old value.
+fn pushes<const N: usize>(octets: &[u8], arc: Arc, wanted: Result<&[u8], Error>) -> bool
     requires { N ≤ 300 }
 {
-    let Ok(oid) = ObjectIdentifier::<N>::from_bytes_sized(octets) else {
-        return false;
-    };
-    let is_wanted = match oid.push_arc(arc) {
-        Ok(child) => !wanted.is_empty() && child.as_bytes() == wanted,
-        Err(fault) => wanted.is_empty() && fault == Error::Length,
-    };
-    is_wanted && oid.as_bytes() == octets
+    match ObjectIdentifier::<N>::from_bytes_sized(octets) {
+        Ok(oid) => is_answer(oid.push_arc(arc), wanted) && oid.as_bytes() == octets,
+        Err(_) => false,
+    }
 }
 
 /// The same for one of the capacities that the rows name.
-fn pushes_at(capacity: usize, octets: &[u8], arc: Arc, wanted: &[u8]) -> bool {
+fn pushes_at(capacity: usize, octets: &[u8], arc: Arc, wanted: Result<&[u8], Error>) -> bool {
     match capacity {
         1 => pushes::<1>(octets, arc, wanted),
         3 => pushes::<3>(octets, arc, wanted),
@@ -77,64 +82,53 @@ fn pushes_at(capacity: usize, octets: &[u8], arc: Arc, wanted: &[u8]) -> bool {
     }
 }
 
-/// Capacities, octets, an arc, and the octets with it, which are empty where they do not fit.
-const CHILDREN: [(usize, &[u8], Arc, &[u8]); 7] = [
-    (39, &[0x2A, 0x03], 4, &[0x2A, 0x03, 0x04]),
-    (39, &[0x2A, 0x03], 128, &[0x2A, 0x03, 0x81, 0x00]),
-    (39, &[0x88, 0x37], 3, &[0x88, 0x37, 0x03]),
-    (3, &[0x2A], 16383, &[0x2A, 0xFF, 0x7F]),
-    (3, &[0x2A], 16384, &[]),
-    (1, &[0x2A], 0, &[]),
-    (1, &[0x78], 0, &[]),
+/// Capacities, octets, an arc, and the octets with it or the error.
+const CHILDREN: &[(usize, &[u8], Arc, Result<&[u8], Error>)] = &[
+    (39, &[0x2A, 0x03], 4, Ok(&[0x2A, 0x03, 0x04])),
+    (39, &[0x2A, 0x03], 128, Ok(&[0x2A, 0x03, 0x81, 0x00])),
+    (39, &[0x88, 0x37], 3, Ok(&[0x88, 0x37, 0x03])),
+    (3, &[0x2A], 840, Ok(&[0x2A, 0x86, 0x48])),
+    (3, &[0x2A, 0x86, 0x48], 1, Err(Error::Length)),
+    (3, &[0x2A], 16383, Ok(&[0x2A, 0xFF, 0x7F])),
+    (3, &[0x2A], 16384, Err(Error::Length)),
+    (1, &[0x2A], 0, Err(Error::Length)),
+    (1, &[0x78], 0, Err(Error::Length)),
 ];
 
 #[test]
-fn appends_arcs(rt: HostRuntime) {
-    for (capacity, octets, arc, wanted) in &CHILDREN {
+fn children(rt: HostRuntime) {
+    for (capacity, octets, arc, wanted) in CHILDREN {
         assert!(rt;
-            pushes_at(*capacity, octets, *arc, wanted),
+            pushes_at(*capacity, octets, *arc, *wanted),
             "{capacity}, {octets:?} and {arc}"
         );
     }
 }
 
-/// Nothing is appended to 255 octets, whatever the capacity.
+/// 255 octets have no child, whatever the capacity.
 #[test]
-fn appends_nothing_to_the_longest(rt: HostRuntime) -> Result<(), AllocError> {
+fn no_child_of_the_longest(rt: HostRuntime) -> Result<(), AllocError> {
     let octets = long_octets(rt.alloc(), &[0x2A], 254, &[])?;
-    assert!(rt; pushes_at(300, octets.as_slice(), 0, &[]));
-    assert!(rt; pushes_at(300, octets.as_slice(), 1, &[]));
+    assert!(rt; pushes_at(300, octets.as_slice(), 0, Err(Error::Length)));
+    assert!(rt; pushes_at(300, octets.as_slice(), 1, Err(Error::Length)));
     Ok(())
 }
 
-/// Whether a child's parent is the identifier.
-fn is_old(oid: ObjectIdentifier<39>) -> bool {
-    match oid.push_arc(128) {
-        Ok(child) => child.parent() == Some(oid),
-        Err(_) => false,
-    }
-}
-
-/// Whether a child's parent is the identifier, and a child of its parent is the identifier again.
-fn is_undone(octets: &[u8], arcs: &[Arc]) -> bool {
-    let Ok(oid) = ObjectIdentifier::from_bytes(octets) else {
-        return false;
-    };
-    match (oid.parent(), arcs.last()) {
-        (Some(parent), Some(last)) => is_old(oid) && parent.push_arc(*last) == Ok(oid),
-        _ => is_old(oid),
-    }
-}
-
+/// The parent of a child is the identifier, and a child of the parent is the identifier again.
 #[test]
 fn parents_undo_children(rt: HostRuntime) {
     for (text, octets, arcs) in accepted_rows() {
-        assert!(rt; is_undone(octets, arcs), "{text}");
+        let oid = Oid::from_bytes(octets).expect(&rt, text);
+        let child = oid.push_arc(128).expect(&rt, text);
+        assert!(rt; child.parent() == Some(oid), "{text}");
+        if let (Some(parent), Some(last)) = (oid.parent(), arcs.last()) {
+            assert!(rt; parent.push_arc(*last) == Ok(oid), "{text}");
+        }
     }
 }
 
 /// The octets of two identifiers, and whether the first begins with the second.
-const BEGINNINGS: [(&[u8], &[u8], bool); 13] = [
+const PREFIXES: &[(&[u8], &[u8], bool)] = &[
     (&[0x2A, 0x22], &[0x2A, 0x03], false),
     (&[0x2A, 0x03, 0x04, 0x05], &[0x2A, 0x03, 0x04, 0x05], true),
     (&[0x2A, 0x03, 0x04, 0x05], &[0x2A, 0x03, 0x04], true),
@@ -152,28 +146,22 @@ const BEGINNINGS: [(&[u8], &[u8], bool); 13] = [
     (&[0x88, 0x37, 0x03], &[0x88, 0x37], true),
     (&[0x88, 0x37, 0x03], &[0x78], false),
     (&[0x81, 0x34, 0x03], &[0x81, 0x00], false),
+    (&[0x2A, 0x86, 0x48, 0x01], &[0x2A, 0x86, 0x48], true),
+    (&[0x2A, 0x86, 0x48, 0x01], &[0x2A, 0x86, 0x48, 0x01], true),
+    (&[0x2A, 0x86, 0x48], &[0x2A, 0x86, 0x48, 0x01], false),
 ];
 
-/// Whether it holds that an identifier begins with another, of a capacity of its own, or does not.
-fn begins<const N: usize>(octets: &[u8], prefix: &[u8], wanted: bool) -> bool
-    requires { N ≤ 300 }
-{
-    let (Ok(oid), Ok(prefix)) = (
-        ObjectIdentifier::from_bytes(octets),
-        ObjectIdentifier::<N>::from_bytes_sized(prefix),
-    ) else {
-        return false;
-    };
-    oid.starts_with(prefix) == wanted
-}
-
+/// Both forms, and an owned prefix of five octets, which is another capacity.
 #[test]
-fn tells_what_it_starts_with(rt: HostRuntime) {
-    for (octets, prefix, wanted) in &BEGINNINGS {
-        assert!(rt;
-            begins::<39>(octets, prefix, *wanted),
-            "{octets:?} and {prefix:?}"
-        );
+fn prefixes(rt: HostRuntime) -> Result<(), Error> {
+    for (octets, prefix, wanted) in PREFIXES {
+        let oid = Oid::from_bytes(octets)?;
+        let short = ObjectIdentifier::<5>::from_bytes_sized(prefix)?;
+        let prefix = Oid::from_bytes(prefix)?;
+        assert!(rt; oid.starts_with(prefix) == *wanted, "{oid} and {prefix}");
+        assert!(rt; oid.starts_with(short) == *wanted, "{oid} and {prefix}");
+        let begins = oid.as_oid_ref().starts_with(&prefix.as_oid_ref());
+        assert!(rt; begins == *wanted, "{oid} and {prefix}");
     }
-    assert!(rt; begins::<3>(&[0x2A, 0x81, 0x00, 0x05], &[0x2A, 0x81, 0x00], true));
+    Ok(())
 }

@@ -1,22 +1,23 @@
-//! Rows that several tests share.
+//! Rows that several tests share, and the tests that each accepted row is one identifier.
 
-use const_oid::Error;
+use crate::formatter::prints_as;
+use const_oid::{Arc, Error, ObjectIdentifier, ObjectIdentifierRef, Oid};
 use std::alloc::{AllocError, Global};
 
 /// An identifier as its text, its contents octets and its arcs.
-pub type Row = (&'static str, &'static [u8], &'static [u32]);
+pub type Row = (&'static str, &'static [u8], &'static [Arc]);
 
-/// Identifiers that are accepted.
+/// Identifiers that are accepted. As a function, the rows are checked once, and not with each caller.
 pub fn accepted_rows() -> &'static [Row] {
-    &ACCEPTED
+    ACCEPTED
 }
 
 /// Octets that are refused, and the error.
 pub fn refused_octets() -> &'static [(&'static [u8], Error)] {
-    &REFUSED_OCTETS
+    REFUSED_OCTETS
 }
 
-const ACCEPTED: [Row; 36] = [
+const ACCEPTED: &[Row] = &[
     ("0.0", &[0x00], &[0, 0]),
     ("0.39", &[0x27], &[0, 39]),
     ("1.0", &[0x28], &[1, 0]),
@@ -88,7 +89,7 @@ const ACCEPTED: [Row; 36] = [
         &[0x01, 0x02, 0x03, 0x04, 0x05, 0x06, 0x07, 0x08, 0x09],
         &[0, 1, 2, 3, 4, 5, 6, 7, 8, 9],
     ),
-    // The tag and the length of 1.2.3, which are arcs to who does not take them off.
+    // The tag, the length and the contents octets of 1.2.3, read as contents octets.
     ("0.6.2.42.3", &[0x06, 0x02, 0x2A, 0x03], &[0, 6, 2, 42, 3]),
     // Second arcs past 39 under 2.
     ("2.40", &[0x78], &[2, 40]),
@@ -107,9 +108,30 @@ const ACCEPTED: [Row; 36] = [
         &[0x90, 0x80, 0x80, 0x80, 0x4F],
         &[2, 4294967295],
     ),
+    // First groups at the edges of one to five octets.
+    ("2.47.0", &[0x7F, 0x00], &[2, 47, 0]),
+    ("2.16303", &[0xFF, 0x7F], &[2, 16303]),
+    ("2.16304.127", &[0x81, 0x80, 0x00, 0x7F], &[2, 16304, 127]),
+    ("2.2097071", &[0xFF, 0xFF, 0x7F], &[2, 2097071]),
+    (
+        "2.2097072.128",
+        &[0x81, 0x80, 0x80, 0x00, 0x81, 0x00],
+        &[2, 2097072, 128],
+    ),
+    ("2.268435375", &[0xFF, 0xFF, 0xFF, 0x7F], &[2, 268435375]),
+    (
+        "2.268435376",
+        &[0x81, 0x80, 0x80, 0x80, 0x00],
+        &[2, 268435376],
+    ),
+    (
+        "2.4294967295.4294967295",
+        &[0x90, 0x80, 0x80, 0x80, 0x4F, 0x8F, 0xFF, 0xFF, 0xFF, 0x7F],
+        &[2, 4294967295, 4294967295],
+    ),
 ];
 
-const REFUSED_OCTETS: [(&[u8], Error); 33] = [
+const REFUSED_OCTETS: &[(&[u8], Error)] = &[
     (&[], Error::Empty),
     (&[0x80], Error::Base128),
     (&[0x80, 0x01], Error::Base128),
@@ -142,22 +164,22 @@ const REFUSED_OCTETS: [(&[u8], Error); 33] = [
         &[0x2A, 0x81, 0x80, 0x80, 0x80, 0x80, 0x00],
         Error::ArcTooBig,
     ),
-    // Groups with two faults, of which the first in the written order is answered.
+    // Groups with two faults, of which the first in the order of the rules is the answer.
     (&[0x2A, 0x80, 0x90, 0x80, 0x80, 0x80, 0x00], Error::Base128),
     (&[0x2A, 0x80, 0x90, 0x80, 0x80, 0x80], Error::Base128),
     (
         &[0x2A, 0x80, 0xFF, 0xFF, 0xFF, 0xFF, 0xFF, 0x7F],
         Error::Base128,
     ),
-    // Octets that the Rust crate was seen to take, or to refuse by another error.
+    // Octets that the Rust crate accepts, or refuses by another error.
     (&[0x00, 0x80, 0x00], Error::Base128),
     (&[0x2A, 0x80, 0x80, 0x80, 0x80, 0x80, 0x0F], Error::Base128),
     (&[0x00, 0x80, 0x80, 0x81, 0xB5, 0xC6, 0xBA], Error::Base128),
     (&[0x00, 0x90, 0x80, 0x80, 0x80, 0x80], Error::ArcTooBig),
 ];
 
-/// Identifiers in the borrowed order, those of 1.2 at the places 1 to 7, counted from 0.
-pub const ASCENDING: [&[u8]; 14] = [
+/// Identifiers in the borrowed order, of which those at the indices 1 to 7 begin with 1.2.
+pub const ASCENDING: &[&[u8]] = &[
     &[0x00],
     &[0x2A],
     &[0x2A, 0x03],
@@ -172,6 +194,15 @@ pub const ASCENDING: [&[u8]; 14] = [
     &[0x81, 0x00],
     &[0x88, 0x37],
     &[0x88, 0x37, 0x03],
+];
+
+/// First groups of one to five octets, each of two arcs.
+pub const FIRST_GROUPS: &[&[u8]] = &[
+    &[0x2A],
+    &[0x88, 0x37],
+    &[0x81, 0x80, 0x00],
+    &[0x81, 0x80, 0x80, 0x00],
+    &[0x90, 0x80, 0x80, 0x80, 0x4F],
 ];
 
 /// A prefix, so many times `.1`, and an end.
@@ -202,4 +233,43 @@ pub fn long_octets(
     }
     octets.extend_from_slice(end)?;
     Ok(octets)
+}
+
+/// Whether a call made an identifier of these octets, or answered this error.
+pub fn is_answer<const N: usize>(
+    made: Result<ObjectIdentifier<N>, Error>,
+    wanted: Result<&[u8], Error>,
+) -> bool {
+    match (made, wanted) {
+        (Ok(oid), Ok(octets)) => oid.as_bytes() == octets,
+        (made, wanted) => made.err() == wanted.err(),
+    }
+}
+
+/// The text and the octets of a row are one owned identifier, with the arcs and the text of the row.
+#[test]
+fn owned(rt: HostRuntime) {
+    for (text, octets, arcs) in accepted_rows() {
+        let oid = Oid::from_bytes(octets).expect(&rt, text);
+        assert!(rt; oid.as_bytes() == *octets, "{text}");
+        assert!(rt; is_answer(Oid::new(text), Ok(octets)), "{text}");
+        assert!(rt; oid.arcs().eq(arcs.iter().copied()), "{text}");
+        assert!(rt; oid.len() == arcs.len(), "{text}");
+        assert!(rt; oid.arc(1) == arcs.get(1).copied(), "{text}");
+        assert!(rt; oid.arc(arcs.len()).is_none(), "{text}");
+        assert!(rt; prints_as(&oid, text), "{text}");
+    }
+}
+
+/// The octets of a row are a borrowed identifier with the arcs and the text of the row.
+#[test]
+fn borrowed(rt: HostRuntime) {
+    for (text, octets, arcs) in accepted_rows() {
+        let oid = ObjectIdentifierRef::from_bytes(octets).expect(&rt, text);
+        assert!(rt; oid.as_bytes() == *octets, "{text}");
+        assert!(rt; oid.arcs().eq(arcs.iter().copied()), "{text}");
+        assert!(rt; oid.len() == arcs.len(), "{text}");
+        assert!(rt; oid.arc(arcs.len()).is_none(), "{text}");
+        assert!(rt; prints_as(&oid, text), "{text}");
+    }
 }

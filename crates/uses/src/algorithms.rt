@@ -8,7 +8,7 @@ ghost use Rattle.const_oid.specs.Names.{entries_of, first_name, lent_arcs};
 ghost use Rattle.const_oid.specs.Oid.{oid_arcs};
 
 use const_oid::db::Database;
-use const_oid::{Error, ObjectIdentifier};
+use const_oid::{Error, Oid};
 
 /// The name of the algorithm with these octets, `None` where the table has none, or the octets' fault.
 pub fn name_of<'a>(database: &Database<'a>, octets: &[u8]) -> Result<Option<&'a str>, Error>
@@ -16,16 +16,12 @@ pub fn name_of<'a>(database: &Database<'a>, octets: &[u8]) -> Result<Option<&'a 
         (λ arcs. result ≡ Ok (first_name lent_arcs (entries_of database.now) arcs))
         (λ fault. result ≡ Err fault) }
 {
-    let oid = ObjectIdentifier::from_bytes(octets)?;
+    let oid = Oid::from_bytes(octets)?;
     Ok(database.by_oid(&oid))
 }
 
 /// The name in the first of two tables that has one: both stand at one lifetime.
-pub fn name_in<'a>(
-    own: &Database<'a>,
-    others: &Database<'a>,
-    oid: &ObjectIdentifier<39>,
-) -> Option<&'a str>
+pub fn name_in<'a>(own: &Database<'a>, others: &Database<'a>, oid: &Oid) -> Option<&'a str>
     ensures { result ≡ option_or (first_name lent_arcs (entries_of own.now) (oid_arcs oid.now))
         (first_name lent_arcs (entries_of others.now) (oid_arcs oid.now)) }
 {

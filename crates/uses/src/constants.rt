@@ -4,7 +4,7 @@ ghost use Rattle.std.specs.Prelude.{◌≡◌, ◌↔◌, [], ◌∷◌, IsTrue}
 ghost use Rattle.const_oid.specs.Oid.{oid_arcs};
 ghost use Rattle.const_oid.specs.OidRef.{ref_arcs};
 
-use const_oid::{ObjectIdentifier, ObjectIdentifierRef};
+use const_oid::{ObjectIdentifierRef, Oid};
 
 /// id-ecPublicKey, 1.2.840.10045.2.1 (RFC 5480).
 pub const EC_PUBLIC_KEY: ObjectIdentifierRef<'static> = ObjectIdentifierRef {
@@ -15,7 +15,7 @@ pub const EC_PUBLIC_KEY: ObjectIdentifierRef<'static> = ObjectIdentifierRef {
 pub fn is_its_text() -> bool
     ensures { IsTrue result }
 {
-    EC_PUBLIC_KEY.eq_oid(&ObjectIdentifier::new_unwrap("1.2.840.10045.2.1"))
+    EC_PUBLIC_KEY.eq_oid(&Oid::new_unwrap("1.2.840.10045.2.1"))
 }
 
 /// Whether an identifier is id-ecPublicKey.
@@ -29,8 +29,8 @@ pub fn is_ec_public_key(oid: &ObjectIdentifierRef<'_>) -> bool
 const SHA256_WITH_RSA: &str = "1.2.840.113549.1.1.11";
 
 /// The identifier of a text that is a constant: the checker reads it as it reads a literal.
-pub fn sha256_with_rsa() -> ObjectIdentifier<39>
+pub fn sha256_with_rsa() -> Oid
     ensures { oid_arcs result ≡ 1 ∷ 2 ∷ 840 ∷ 113549 ∷ 1 ∷ 1 ∷ 11 ∷ [] }
 {
-    ObjectIdentifier::new_unwrap(SHA256_WITH_RSA)
+    Oid::new_unwrap(SHA256_WITH_RSA)
 }

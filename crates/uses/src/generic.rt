@@ -6,7 +6,7 @@ ghost use Rattle.const_oid.specs.Oid.{oid_arcs};
 ghost use Rattle.const_oid.specs.OidRef.{ref_arcs};
 ghost use Rattle.const_oid.specs.Tree.{child_of};
 
-use const_oid::{Arc, Error, ObjectIdentifier, ObjectIdentifierRef};
+use const_oid::{Arc, Error, ObjectIdentifier, ObjectIdentifierRef, Oid};
 
 /// The child of a borrowed identifier, in a capacity of the caller's choice, where it fits.
 pub fn child_in<const N: usize>(
@@ -20,7 +20,7 @@ pub fn child_in<const N: usize>(
 }
 
 /// The same identifier in another capacity, which holds all of the first.
-pub fn widened<const N: usize>(oid: &ObjectIdentifier<39>) -> Result<ObjectIdentifier<N>, Error>
+pub fn widened<const N: usize>(oid: &Oid) -> Result<ObjectIdentifier<N>, Error>
     requires { 39 ≤ N }
     ensures { IsOkAnd result (λ wide. oid_arcs wide ≡ oid_arcs oid.now) }
 {

@@ -7,7 +7,7 @@ ghost use Rattle.const_oid.specs.Oid.{oid_arcs, oid_answer};
 ghost use Rattle.const_oid.specs.Text.{text_answer};
 
 use const_oid::db::Database;
-use const_oid::{AssociatedOid, DynAssociatedOid, Error, ObjectIdentifier};
+use const_oid::{AssociatedOid, DynAssociatedOid, Error, Oid};
 
 /// cn, commonName.
 pub struct CommonName;
@@ -15,8 +15,8 @@ pub struct CommonName;
 impl AssociatedOid for CommonName {
     ghost type_arcs = { 2 ∷ 5 ∷ 4 ∷ 3 ∷ [] };
 
-    fn associated_oid() -> ObjectIdentifier<39> {
-        ObjectIdentifier::new_unwrap("2.5.4.3")
+    fn associated_oid() -> Oid {
+        Oid::new_unwrap("2.5.4.3")
     }
 }
 
@@ -26,21 +26,21 @@ pub struct Country;
 impl AssociatedOid for Country {
     ghost type_arcs = { 2 ∷ 5 ∷ 4 ∷ 6 ∷ [] };
 
-    fn associated_oid() -> ObjectIdentifier<39> {
-        ObjectIdentifier::new_unwrap("2.5.4.6")
+    fn associated_oid() -> Oid {
+        Oid::new_unwrap("2.5.4.6")
     }
 }
 
 /// An attribute of an entry, of any type.
 #[derive(Drop)]
 pub struct Attribute {
-    pub kind: ObjectIdentifier<39>,
+    pub kind: Oid,
 }
 
 impl DynAssociatedOid for Attribute {
     ghost value_arcs = { λ attribute. oid_arcs attribute.kind };
 
-    fn oid(&self) -> ObjectIdentifier<39> {
+    fn oid(&self) -> Oid {
         self.kind
     }
 }
@@ -53,7 +53,7 @@ pub fn has_type<T: AssociatedOid>(attribute: &Attribute) -> bool
 }
 
 /// The identifier that a user means: by a name in any case, or else by its dotted text.
-pub fn find(database: &Database<'_>, input: &str) -> Result<ObjectIdentifier<39>, Error>
+pub fn find(database: &Database<'_>, input: &str) -> Result<Oid, Error>
     ensures named { IfSome (first_oid (entries_of database.now) input.now)
         (λ oid. result ≡ Ok oid.now) }
     ensures dotted { IfNone (first_oid (entries_of database.now) input.now)

@@ -7,14 +7,14 @@ ghost use Rattle.uses.specs.Walk.{key_arcs};
 
 use crate::theorems::through_text;
 use crate::walk::{ByArcs, next_after, next_under};
-use const_oid::{Error, ObjectIdentifier, ObjectIdentifierRef};
+use const_oid::{Error, ObjectIdentifier, ObjectIdentifierRef, Oid};
 use std::alloc::Global;
 use std::collections::BTreeMap;
 use std::test::Fail;
 
 /// sysDescr (RFC 3418), columns of interfaces by their number (RFC 2863), connections over IPv4 and
 /// IPv6 by addresses and ports (RFC 4022), enterprises.
-const ROWS: [&str; 22] = [
+const ROWS: &[&str] = &[
     "1.3.6.1.2.1.1.1.0",
     "1.3.6.1.2.1.2.2.1.10.1",
     "1.3.6.1.2.1.2.2.1.10.127",
@@ -44,28 +44,28 @@ fn oid(row: &str) -> Result<ObjectIdentifier<255>, Error> {
     ObjectIdentifier::new_sized(row)
 }
 
-/// The row at a place of a list that is in no order.
-fn shuffled(place: usize) -> &'static str {
-    ROWS[place % ROWS.len() * 5 % ROWS.len()]
+/// The row at an index of a list that is in no order.
+fn shuffled(index: usize) -> &'static str {
+    ROWS[index % ROWS.len() * 5 % ROWS.len()]
 }
 
 /// The keys of the rows, in no order.
 fn keys(alloc: Global) -> Result<Vec<ByArcs>, Fail> {
     let mut keys = Vec::new(alloc);
-    for place in 0..ROWS.len() {
-        let oid = oid(shuffled(place))?;
+    for index in 0..ROWS.len() {
+        let oid = oid(shuffled(index))?;
         keys.push(ByArcs { oid })?;
     }
     Ok(keys)
 }
 
-/// The first row that a walk does not meet where it stands, or the last one if the walk goes on.
+/// The first row that a walk does not meet next, or the last one if the walk goes on.
 fn wrong_step(sorted: &[ByArcs]) -> Option<&'static str>
     requires { IsSortedByKey key_arcs (slice_cmp nat_cmp) sorted.now }
 {
-    let first = ObjectIdentifier::new_unwrap("1.3");
+    let first = Oid::new_unwrap("1.3");
     let mut last = first.as_oid_ref();
-    for row in &ROWS {
+    for row in ROWS {
         let Some(next) = next_after(sorted, &last) else {
             return Some(row);
         };
@@ -97,9 +97,9 @@ fn walk(rt: HostRuntime) -> Result<(), Fail> {
     keys.sort()?;
     let row = wrong_step(&keys);
     assert!(rt; row.is_none(), "{row:?}");
-    let octets_in = ObjectIdentifier::new_unwrap("1.3.6.1.2.1.2.2.1.10");
+    let octets_in = Oid::new_unwrap("1.3.6.1.2.1.2.2.1.10");
     assert!(rt; count_under(&keys, &octets_in.as_oid_ref()) == 9);
-    let interface = ObjectIdentifier::new_unwrap("1.3.6.1.4.1.256");
+    let interface = Oid::new_unwrap("1.3.6.1.4.1.256");
     assert!(rt; count_under(&keys, &interface.as_oid_ref()) == 0);
     Ok(())
 }
@@ -107,8 +107,8 @@ fn walk(rt: HostRuntime) -> Result<(), Fail> {
 /// The rows by their keys, put in in no order.
 fn map(alloc: Global) -> Result<BTreeMap<ByArcs, &'static str>, Fail> {
     let mut rows = BTreeMap::new(alloc);
-    for place in 0..ROWS.len() {
-        let row = shuffled(place);
+    for index in 0..ROWS.len() {
+        let row = shuffled(index);
         rows.insert(ByArcs { oid: oid(row)? }, row)?;
     }
     Ok(rows)
@@ -118,7 +118,7 @@ fn map(alloc: Global) -> Result<BTreeMap<ByArcs, &'static str>, Fail> {
 fn map_in_order(rt: HostRuntime) -> Result<(), Fail> {
     let rows = map(rt.alloc())?;
     assert!(rt; rows.len() == ROWS.len());
-    for (row, wanted) in rows.values().zip(&ROWS) {
+    for (row, wanted) in rows.values().zip(ROWS) {
         assert!(rt; row == wanted, "{wanted}");
     }
     Ok(())
@@ -129,7 +129,7 @@ fn row_over_ipv6(rt: HostRuntime) -> Result<(), Fail> {
     let row = ROWS[16];
     let oid = oid(row)?;
     assert!(rt; oid.len() == 48 && oid.as_bytes().len() > 39);
-    assert!(rt; ObjectIdentifier::new(row) == Err(Error::Length));
+    assert!(rt; Oid::new(row) == Err(Error::Length));
     assert!(rt; format!(in rt.alloc(); "{oid}")?.as_str() == row);
     assert!(rt; through_text(rt.alloc(), oid)? == Ok(oid));
     Ok(())

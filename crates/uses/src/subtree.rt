@@ -9,15 +9,15 @@ ghost use Rattle.const_oid.specs.Tree.{BeginsWith};
 
 use const_oid::ObjectIdentifierRef;
 
-/// Where the identifiers that begin with one stand in a list, which a test shows to be sorted.
+/// The range of the identifiers that begin with one, in a list that is tested to be sorted.
 #[tactic(auto, using(const_oid::proofs::Identifiers::not_before))]
-pub fn places(
+pub fn range_of(
     oids: &[ObjectIdentifierRef<'_>],
     prefix: &ObjectIdentifierRef<'_>,
 ) -> Option<(usize, usize)>
     ensures sorted { IsSome result ↔ IsSortedByKey ref_octets (slice_cmp nat_cmp) oids.now }
-    ensures places { IfSome result (λ places. (k : ℕ) → IfSome (slice_get oids.now k) (λ oid.
-        BeginsWith (ref_arcs oid) (ref_arcs prefix.now) ↔ ((places.0 ≤ k) × (k < places.1)))) }
+    ensures range { IfSome result (λ range. (k : ℕ) → IfSome (slice_get oids.now k) (λ oid.
+        BeginsWith (ref_arcs oid) (ref_arcs prefix.now) ↔ ((range.0 ≤ k) × (k < range.1)))) }
 {
     if oids.is_sorted() {
         Some(prefix.subtree(oids))

@@ -5,11 +5,11 @@ use crate::constants::{EC_PUBLIC_KEY, is_ec_public_key, is_its_text, sha256_with
 use crate::fixed::printed;
 use crate::generic::{child_in, widened};
 use crate::schema::{Attribute, CommonName, Country, find, has_type};
-use crate::subtree::places;
+use crate::subtree::range_of;
 use crate::table::{is_attribute_type, is_named};
 use crate::theorems;
 use const_oid::db::Database;
-use const_oid::{Arc, AssociatedOid, Error, ObjectIdentifier, ObjectIdentifierRef};
+use const_oid::{Arc, AssociatedOid, Error, ObjectIdentifierRef, Oid};
 use std::alloc::{AllocError, Global};
 use std::cmp::Ordering;
 use std::test::Fail;
@@ -18,7 +18,7 @@ use std::test::Fail;
 const RSA: [u8; 9] = [0x2A, 0x86, 0x48, 0x86, 0xF7, 0x0D, 0x01, 0x01, 0x01];
 
 /// Whether rsaEncryption has its octets, and its parent and its children lead back to it.
-fn is_known(rsa: ObjectIdentifier<39>) -> bool {
+fn is_known(rsa: Oid) -> bool {
     rsa.as_bytes() == RSA.as_slice()
         && theorems::is_rsa_encryption(&RSA)
         && theorems::parent_of_child(rsa, 1) == Ok(Some(rsa))
@@ -27,7 +27,7 @@ fn is_known(rsa: ObjectIdentifier<39>) -> bool {
 
 /// Whether the enterprises are the child 1 of this text.
 fn is_above_enterprises(text: &str) -> Result<bool, Error> {
-    let child = theorems::child(ObjectIdentifier::new(text)?, 1)?;
+    let child = theorems::child(Oid::new(text)?, 1)?;
     Ok(theorems::is_enterprise(&child))
 }
 
@@ -43,8 +43,8 @@ fn facts(rt: HostRuntime) -> Result<(), Fail> {
 /// A call: what both orders answer is proved.
 #[test]
 fn orders(rt: HostRuntime) -> Result<(), Fail> {
-    let oid = ObjectIdentifier::new("1.3.6.1")?;
-    let below = ObjectIdentifier::new("1.3.6.1.4.1")?;
+    let oid = Oid::new("1.3.6.1")?;
+    let below = Oid::new("1.3.6.1.4.1")?;
     assert!(rt; below.starts_with(oid) && below != oid);
     assert!(rt; theorems::both_orders(&oid, &below) == (Ordering::Less, Ordering::Less));
     Ok(())
@@ -65,10 +65,10 @@ fn constant(rt: HostRuntime) -> Result<(), Fail> {
 
 /// The shortest text, and the longest of 39 octets: 2.47, and .127 for each octet that follows.
 #[test]
-fn fullest(rt: HostRuntime) -> Result<(), Fail> {
+fn shortest_and_longest_text(rt: HostRuntime) -> Result<(), Fail> {
     let mut out = [0; 156];
-    assert!(rt; printed(&ObjectIdentifier::new("0.0")?, &mut out) == "0.0");
-    let text = printed(&ObjectIdentifier::from_bytes(&[0x7F; 39])?, &mut out);
+    assert!(rt; printed(&Oid::new("0.0")?, &mut out) == "0.0");
+    let text = printed(&Oid::from_bytes(&[0x7F; 39])?, &mut out);
     assert!(rt; text.len() == 156);
     assert!(rt; text.starts_with("2.47.127.127."));
     Ok(())
@@ -108,15 +108,15 @@ fn attributes(rt: HostRuntime) {
 
 #[test]
 fn attribute_types(rt: HostRuntime) {
-    let unit = ObjectIdentifier::new_unwrap("2.5.4.11");
-    let domain = ObjectIdentifier::new_unwrap("0.9.2342.19200300.100.1.25");
+    let unit = Oid::new_unwrap("2.5.4.11");
+    let domain = Oid::new_unwrap("0.9.2342.19200300.100.1.25");
     assert!(rt; is_named(&unit.as_oid_ref(), "OU") && !is_named(&unit.as_oid_ref(), "o"));
     assert!(rt; is_named(&domain.as_oid_ref(), "dc") && is_attribute_type(&domain.as_oid_ref()));
     assert!(rt; !is_attribute_type(&EC_PUBLIC_KEY));
 }
 
 /// Octets, and the name of their algorithm or their fault.
-const NAMED: [(&[u8], Result<Option<&str>, Error>); 4] = [
+const NAMED: &[(&[u8], Result<Option<&str>, Error>)] = &[
     (&RSA, Ok(Some("rsaEncryption"))),
     (&[0x2B, 0x65, 0x70], Ok(Some("Ed25519"))),
     (&[0x2B, 0x65, 0x71], Ok(None)),
@@ -135,31 +135,28 @@ fn is_answered(
 #[test]
 fn algorithms(rt: HostRuntime) {
     let rsa = theorems::rsa_encryption();
-    let ed25519 = ObjectIdentifier::new_unwrap("1.3.101.112");
+    let ed25519 = Oid::new_unwrap("1.3.101.112");
     let entries = [(&rsa, "rsaEncryption"), (&ed25519, "Ed25519")];
     let database = Database::new(&entries);
-    for (octets, answer) in &NAMED {
+    for (octets, answer) in NAMED {
         assert!(rt; is_answered(&database, octets, answer));
     }
     assert!(rt; name_in(&Database::new(&[]), &database, &rsa) == Some("rsaEncryption"));
 }
 
 /// Ten columns of a hundred rows, as a table of interfaces has them (RFC 2863), in no order.
-fn cells(alloc: Global) -> Result<Vec<ObjectIdentifier<39>>, Fail> {
+fn cells(alloc: Global) -> Result<Vec<Oid>, Fail> {
     let mut cells = Vec::new(alloc);
     for i in 0..1000u32 {
-        let place = (i * 37) % 1000;
-        let (column, row) = (place / 100 + 1, place % 100 + 1);
-        cells.push(ObjectIdentifier::from_arcs([1, 3, 6, 1, 2, 1, 2, 2, 1, column, row])?)?;
+        let index = (i * 37) % 1000;
+        let (column, row) = (index / 100 + 1, index % 100 + 1);
+        cells.push(Oid::from_arcs([1, 3, 6, 1, 2, 1, 2, 2, 1, column, row])?)?;
     }
     Ok(cells)
 }
 
 /// The borrowed forms of identifiers.
-fn borrowed(
-    alloc: Global,
-    owned: &[ObjectIdentifier<39>],
-) -> Result<Vec<ObjectIdentifierRef<'_>>, AllocError> {
+fn borrowed(alloc: Global, owned: &[Oid]) -> Result<Vec<ObjectIdentifierRef<'_>>, AllocError> {
     let mut oids = Vec::new(alloc);
     for oid in owned {
         oids.push(oid.as_oid_ref())?;
@@ -171,10 +168,10 @@ fn borrowed(
 fn thousand(rt: HostRuntime) -> Result<(), Fail> {
     let cells = cells(rt.alloc())?;
     let mut oids = borrowed(rt.alloc(), &cells)?;
-    let third = ObjectIdentifier::new_unwrap("1.3.6.1.2.1.2.2.1.3");
+    let third = Oid::new_unwrap("1.3.6.1.2.1.2.2.1.3");
     let column = third.as_oid_ref();
-    assert!(rt; places(&oids, &column) == None);
+    assert!(rt; range_of(&oids, &column) == None);
     oids.sort()?;
-    assert!(rt; places(&oids, &column) == Some((200, 300)));
+    assert!(rt; range_of(&oids, &column) == Some((200, 300)));
     Ok(())
 }

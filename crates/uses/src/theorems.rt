@@ -7,26 +7,26 @@ ghost use Rattle.const_oid.specs.Identifier.{size};
 ghost use Rattle.const_oid.specs.Oid.{oid_arcs};
 ghost use Rattle.const_oid.specs.Tree.{BeginsWith, child_of};
 
-use const_oid::{Arc, Error, ObjectIdentifier};
+use const_oid::{Arc, Error, ObjectIdentifier, Oid};
 use std::alloc::{AllocError, Global};
 use std::cmp::Ordering;
 
 /// rsaEncryption (RFC 8017), by its arcs.
-pub fn rsa_encryption() -> ObjectIdentifier<39>
+pub fn rsa_encryption() -> Oid
     ensures { oid_arcs result ≡ 1 ∷ 2 ∷ 840 ∷ 113549 ∷ 1 ∷ 1 ∷ 1 ∷ [] }
 {
-    ObjectIdentifier::new_unwrap("1.2.840.113549.1.1.1")
+    Oid::new_unwrap("1.2.840.113549.1.1.1")
 }
 
 /// Whether contents octets are those of rsaEncryption.
 pub fn is_rsa_encryption(octets: &[u8]) -> bool
     ensures { IsTrue result ↔ (octets.now ≡ 42 ∷ 134 ∷ 72 ∷ 134 ∷ 247 ∷ 13 ∷ 1 ∷ 1 ∷ 1 ∷ []) }
 {
-    octets == ObjectIdentifier::new_unwrap("1.2.840.113549.1.1.1").as_bytes()
+    octets == Oid::new_unwrap("1.2.840.113549.1.1.1").as_bytes()
 }
 
 /// A child has one arc more than its parent, and begins with it.
-pub fn child(parent: ObjectIdentifier<39>, arc: Arc) -> Result<ObjectIdentifier<39>, Error>
+pub fn child(parent: Oid, arc: Arc) -> Result<Oid, Error>
     ensures fits { IsOk result ↔ (size (child_of (oid_arcs parent) arc) ≤ 39) }
     ensures arcs { IfOk result (λ child. oid_arcs child ≡ child_of (oid_arcs parent) arc) }
     ensures begins { IfOk result (λ child. BeginsWith (oid_arcs child) (oid_arcs parent)) }
@@ -35,17 +35,14 @@ pub fn child(parent: ObjectIdentifier<39>, arc: Arc) -> Result<ObjectIdentifier<
 }
 
 /// Whether an identifier stands below the enterprises, 1.3.6.1.4.1, or is that one.
-pub fn is_enterprise(oid: &ObjectIdentifier<39>) -> bool
+pub fn is_enterprise(oid: &Oid) -> bool
     ensures { IsTrue result ↔ BeginsWith (oid_arcs oid.now) (1 ∷ 3 ∷ 6 ∷ 1 ∷ 4 ∷ 1 ∷ []) }
 {
-    oid.starts_with(ObjectIdentifier::new_unwrap("1.3.6.1.4.1"))
+    oid.starts_with(Oid::new_unwrap("1.3.6.1.4.1"))
 }
 
 /// The parent of a child is the identifier that it was made of.
-pub fn parent_of_child(
-    oid: ObjectIdentifier<39>,
-    arc: Arc,
-) -> Result<Option<ObjectIdentifier<39>>, Error>
+pub fn parent_of_child(oid: Oid, arc: Arc) -> Result<Option<Oid>, Error>
     ensures fits { IsOk result ↔ (size (child_of (oid_arcs oid) arc) ≤ 39) }
     ensures same { IfOk result (λ parent. IsSomeAnd parent (λ parent. oid_arcs parent ≡ oid_arcs oid)) }
 {
@@ -53,7 +50,7 @@ pub fn parent_of_child(
 }
 
 /// The child of a parent, by the last arc, fits and is the identifier that the parent is of.
-pub fn child_of_parent(oid: ObjectIdentifier<39>) -> Option<Result<ObjectIdentifier<39>, Error>>
+pub fn child_of_parent(oid: Oid) -> Option<Result<Oid, Error>>
     ensures found { IsSome result ↔ (2 < length (oid_arcs oid)) }
     ensures again { IfSome result (λ child.
         IsOkAnd child (λ again. oid_arcs again ≡ oid_arcs oid)) }
@@ -64,7 +61,7 @@ pub fn child_of_parent(oid: ObjectIdentifier<39>) -> Option<Result<ObjectIdentif
 }
 
 /// Both orders put an identifier before others that begin with it.
-pub fn both_orders(oid: &ObjectIdentifier<39>, below: &ObjectIdentifier<39>) -> (Ordering, Ordering)
+pub fn both_orders(oid: &Oid, below: &Oid) -> (Ordering, Ordering)
     requires begins { BeginsWith (oid_arcs below.now) (oid_arcs oid.now) }
     requires other { oid_arcs below.now ≢ oid_arcs oid.now }
     ensures owned { result.0 ≡ Less }

@@ -85,8 +85,8 @@ pub fn next_after<'a>(sorted: &'a [ByArcs], oid: &ObjectIdentifierRef<'_>) -> Op
     ensures none { IfNone result
         (All (λ key. slice_cmp nat_cmp (ref_arcs oid.now) (key_arcs key) ≢ Less) sorted.now) }
 {
-    let place = sorted.partition_point(|key| key.oid.as_oid_ref().cmp_arcs(oid).is_le());
-    sorted.get(place)
+    let index = sorted.partition_point(|key| key.oid.as_oid_ref().cmp_arcs(oid).is_le());
+    sorted.get(index)
 }
 
 /// The next key under a root, or `None` at the end of its subtree.

@@ -13,16 +13,18 @@ use Rattle.uses.proofs.walk.next_under.Goals as goal
 
 -- where the next key is not under the root, no key after these arcs is, since what is under it stands together
 module _ (keys : List ByArcs) (arcs root : List ℕ) (begun : BeginsWith arcs root) where
+  -- no key under the root is after the arcs
   none_under : (next : ByArcs) → IsNext keys arcs next → (BeginsWith (key_arcs next) root → ⊥) → All (λ key. BeginsWith (key_arcs key) root → slice_cmp nat_cmp arcs (key_arcs key) ≢ Less) keys
   none_under next is other k d l under after =
       let greater = nat_list_cmp_total.antisymm (key_arcs next) arcs ∙ ap ordering_reverse is.after in
       other (run_between root arcs (key_arcs next) _ begun under (λ e. cc) (is.nearest k d l after))
 
+-- where the test says that the next key is not under the root, the subtree has ended
 ended : (keys : List ByArcs) (arcs root : List ℕ) (next : Bor ByArcs) (under : Bool) → IsNext keys arcs next.now → (BeginsWith (key_arcs next.now) root → under ≡ true) → IfNone (then_some under next) (BeginsWith arcs root → All (λ key. BeginsWith (key_arcs key) root → slice_cmp nat_cmp arcs (key_arcs key) ≢ Less) keys)
-ended keys arcs root next true is told = tt
-ended keys arcs root next false is told = λ begun. none_under keys arcs root begun next.now is (λ b. cc (told b))
+ended keys arcs root next true is decided = tt
+ended keys arcs root next false is decided = λ begun. none_under keys arcs root begun next.now is (λ b. cc (decided b))
 
 pub returns-clause-end : goal.returns-clause-end
 returns-clause-end c =
-    let told = rw c.as_oid_ref.ensures.arcs at c.starts_with.ensures.1 in
-    rw c.then_some.ensures (ended c.args.sorted.now (ref_arcs c.args.oid.now) (ref_arcs c.args.root.now) c.in_ok-next.next c.starts_with.result c.in_ok-next.ensures.found told)
+    let decided = rw c.as_oid_ref.ensures.arcs at c.starts_with.ensures.1 in
+    rw c.then_some.ensures (ended c.args.sorted.now (ref_arcs c.args.oid.now) (ref_arcs c.args.root.now) c.in_ok-next.next c.starts_with.result c.in_ok-next.ensures.found decided)

@@ -4,8 +4,9 @@ use Rattle.std.specs.Ordering.{nat_cmp, is_lt, is_le, ordering_reverse}
 use Rattle.std.specs.declared.cmp.Ordering.{Ordering}
 use Rattle.std.proofs.lemmas.Cmp.{nat_list_cmp_total}
 use Rattle.const_oid.specs.OidRef.{ref_octets}
-use Rattle.uses.proofs.subtree.places.Goals as goal
+use Rattle.uses.proofs.subtree.range_of.Goals as goal
 
+-- the order whose reverse is not less is less or equal
 reversed : (order : Ordering) → is_lt (ordering_reverse order) ≡ false → is_le order ≡ true
 reversed Less level = refl
 reversed Equal level = refl

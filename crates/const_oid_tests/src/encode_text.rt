@@ -1,0 +1,167 @@
+//! Texts of identifiers and errors in slices: `encode_text`, `encode_str` and `text_len`.
+
+use crate::errors::MESSAGES;
+use const_oid::{Arc, Error, ObjectIdentifier, ObjectIdentifierRef, Oid};
+use std::alloc::{AllocError, Global};
+use std::test::Fail;
+
+/// Arcs on both sides of each number of digits, and the texts of 1.2 and the arc.
+pub const ARCS: &[(Arc, &str)] = &[
+    (0, "1.2.0"),
+    (9, "1.2.9"),
+    (10, "1.2.10"),
+    (99, "1.2.99"),
+    (100, "1.2.100"),
+    (999, "1.2.999"),
+    (1_000, "1.2.1000"),
+    (9_999, "1.2.9999"),
+    (10_000, "1.2.10000"),
+    (99_999, "1.2.99999"),
+    (100_000, "1.2.100000"),
+    (999_999, "1.2.999999"),
+    (1_000_000, "1.2.1000000"),
+    (9_999_999, "1.2.9999999"),
+    (10_000_000, "1.2.10000000"),
+    (99_999_999, "1.2.99999999"),
+    (100_000_000, "1.2.100000000"),
+    (999_999_999, "1.2.999999999"),
+    (1_000_000_000, "1.2.1000000000"),
+    (4_294_967_295, "1.2.4294967295"),
+];
+
+/// Whether a text was written to the start of bytes `?` and its length was the answer, or, where it is
+/// longer, nothing was written and there was no answer.
+fn is_written(answer: Option<usize>, out: &[u8], text: &[u8]) -> bool {
+    let len = (text.len() <= out.len()).then_some(text.len());
+    let (written, rest) = out.split_at(len.unwrap_or(0));
+    answer == len && text.starts_with(written) && rest.iter().all(|byte| *byte == b'?')
+}
+
+/// Whether a text is the answer where it fits, and there is none where it does not.
+fn is_lent(answer: Option<&str>, len: usize, text: &[u8]) -> bool {
+    match answer {
+        Some(lent) => lent.as_bytes() == text,
+        None => len < text.len(),
+    }
+}
+
+/// The lengths of a buffer that are tried: none, one byte less than the text, just enough, one more.
+fn lengths(text: &[u8]) -> [usize; 4] {
+    let len = text.len();
+    [0, len.saturating_sub(1), len, len.saturating_add(1)]
+}
+
+/// Bytes `?` of this length, or all of a shorter buffer.
+fn blank(out: &mut [u8], len: usize) -> &mut [u8] {
+    let end = out.len().min(len);
+    let blank = &mut out[..end];
+    blank.fill(b'?');
+    blank
+}
+
+/// Whether a borrowed identifier writes its text into the start of a buffer, at each length.
+fn borrowed_writes(oid: ObjectIdentifierRef<'_>, text: &[u8], out: &mut [u8]) -> bool {
+    for len in lengths(text) {
+        let out = blank(out, len);
+        let answer = oid.encode_text(out);
+        if !is_written(answer, out, text) || !is_lent(oid.encode_str(out), len, text) {
+            return false;
+        }
+    }
+    oid.text_len() == text.len()
+}
+
+/// The same of an owned one.
+fn owned_writes(oid: &ObjectIdentifier<255>, text: &[u8], out: &mut [u8]) -> bool {
+    for len in lengths(text) {
+        let out = blank(out, len);
+        let answer = oid.encode_text(out);
+        if !is_written(answer, out, text) || !is_lent(oid.encode_str(out), len, text) {
+            return false;
+        }
+    }
+    oid.text_len() == text.len()
+}
+
+/// The same of an error.
+fn error_writes(error: Error, text: &[u8], out: &mut [u8]) -> bool {
+    for len in lengths(text) {
+        let out = blank(out, len);
+        let answer = error.encode_text(out);
+        if !is_written(answer, out, text) || !is_lent(error.encode_str(out), len, text) {
+            return false;
+        }
+    }
+    error.text_len() == text.len()
+}
+
+#[test]
+fn arcs(rt: HostRuntime) -> Result<(), Error> {
+    for (arc, text) in ARCS {
+        let oid = ObjectIdentifier::<255>::from_arcs_sized([1, 2, *arc])?;
+        let (bytes, mut out) = (text.as_bytes(), [0; 16]);
+        assert!(rt; owned_writes(&oid, bytes, &mut out), "{text}");
+        assert!(rt;
+            borrowed_writes(oid.as_oid_ref(), bytes, &mut out),
+            "{text}"
+        );
+    }
+    Ok(())
+}
+
+#[test]
+fn errors(rt: HostRuntime) {
+    for (error, text) in MESSAGES {
+        assert!(rt;
+            error_writes(*error, text.as_bytes(), &mut [0; 48]),
+            "{text}"
+        );
+    }
+}
+
+/// A prefix, and so many times a unit.
+fn repeated(
+    alloc: Global,
+    prefix: &[u8],
+    count: usize,
+    unit: &[u8],
+) -> Result<Vec<u8>, AllocError> {
+    let mut bytes = prefix.to_vec(alloc)?;
+    for _ in 0..count {
+        bytes.extend_from_slice(unit)?;
+    }
+    Ok(bytes)
+}
+
+/// The octets and the text of a first group, how many groups follow, and their octets and text: 255
+/// octets with the longest texts of an octet and of an arc, and 10,000 octets.
+const LONG: &[(&[u8], &[u8], usize, &[u8], &[u8])] = &[
+    (&[0x7F], b"2.47", 254, &[0x7F], b".127"),
+    (
+        &[0x90, 0x80, 0x80, 0x80, 0x4F],
+        b"2.4294967295",
+        50,
+        &[0x8F, 0xFF, 0xFF, 0xFF, 0x7F],
+        b".4294967295",
+    ),
+    (&[0x7F], b"2.47", 9_999, &[0x7F], b".127"),
+];
+
+/// The owned form of at most 255 octets, and the borrowed form of any number.
+#[test]
+fn long_texts(rt: HostRuntime) -> Result<(), Fail> {
+    for (octets, text, count, later_octets, later_text) in LONG {
+        let octets = repeated(rt.alloc(), octets, *count, later_octets)?;
+        let text = repeated(rt.alloc(), text, *count, later_text)?;
+        let mut out = repeated(rt.alloc(), text.as_slice(), 1, b"?")?;
+        let borrowed = ObjectIdentifierRef::from_bytes(octets.as_slice())?;
+        let is_written = match ObjectIdentifier::<255>::try_from_ref(borrowed) {
+            Ok(owned) => owned_writes(&owned, text.as_slice(), out.as_mut_slice()),
+            Err(_) => octets.len() > 255,
+        };
+        assert!(rt; is_written, "{count} groups");
+        let is_written = borrowed_writes(borrowed, text.as_slice(), out.as_mut_slice());
+        assert!(rt; is_written, "{count} groups of a borrowed identifier");
+    }
+    Ok(())
+}
