@@ -1,7 +1,6 @@
 use Rattle.std.proofs.Common.{arith}
 use Rattle.std.proofs.lemmas.Grind.{common_steps}
-use Rattle.const_oid.specs.Contents.{cut}
-use Rattle.const_oid.proofs.PartsFault.{parts_from_later, later_small}
+use Rattle.const_oid.proofs.PartsFault.{parts_from_later}
 use Rattle.const_oid.proofs.arcs.ArcsIterator.next.Goals as goal
 
 pub read_group-requires : goal.read_group-requires
