@@ -6,6 +6,7 @@ ghost use Rattle.std.specs.Cmp.Lexicographic.{pointwise};
 ghost use Rattle.const_oid.specs.Base128.{AreOctets, IsGroup, width};
 ghost use Rattle.const_oid.specs.Private.Octets.{GoesOn};
 
+use crate::Arc;
 use crate::compare::{are_equal, order};
 use crate::error::{Error, Result};
 use std::cmp::Ordering;
@@ -79,6 +80,24 @@ impl<const SIZE: usize> Buffer<SIZE> {
             self.push_number_of_len(number, 1)
         } else {
             self.push_number_of_len(number, group_len(number))
+        }
+    }
+
+    /// Appends the group of an arc, or answers `Length` where it does not fit. Short groups have paths of
+    /// their own, which are quicker in a single call, and slower in the loop of an encoder.
+    #[inline(always)]
+    pub(crate) fn push_arc(&mut self, arc: Arc) -> Result<()>
+        ensures fits { let long = length (octets_of self.old) + width arc in
+            MatchResult result (λ _. long ≤ min SIZE 255)
+            (λ fault. (fault ≡ Error.Length) × (min SIZE 255 < long)) }
+        ensures appended { OnOk result (GoesOn arc (octets_of self.old) (octets_of self.new)) }
+        ensures unchanged { OnErr result (self.new ≡ self.old) }
+    {
+        let number = arc as u64;
+        match group_len(number) {
+            1 => self.push_number_of_len(number, 1),
+            2 => self.push_number_of_len(number, 2),
+            longer => self.push_number_of_len(number, longer),
         }
     }
 

@@ -113,6 +113,7 @@ pub const CRATES: &[Crate] = &[
             "Buffer::as_bytes",
             "Buffer::copied",
             "Buffer::eq",
+            "Buffer::push_arc",
             "Buffer::push_group",
             "Buffer::push_number_of_len",
             "Database::by_name",

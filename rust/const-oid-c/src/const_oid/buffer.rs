@@ -2,6 +2,7 @@
 
 //! Octets in an array of which the first are in use.
 
+use crate::const_oid::Arc;
 use crate::const_oid::compare::{are_equal, order};
 use crate::const_oid::error::{Error, Result};
 use core::cmp::Ordering;
@@ -54,6 +55,18 @@ impl<const SIZE: usize> Buffer<SIZE> {
             self.push_number_of_len(number, 1)
         } else {
             self.push_number_of_len(number, group_len(number))
+        }
+    }
+
+    /// Appends the group of an arc, or answers `Length` where it does not fit. Short groups have paths of
+    /// their own, which are quicker in a single call, and slower in the loop of an encoder.
+    #[inline(always)]
+    pub(crate) fn push_arc(&mut self, arc: Arc) -> Result<()> {
+        let number = arc as u64;
+        match group_len(number) {
+            1 => self.push_number_of_len(number, 1),
+            2 => self.push_number_of_len(number, 2),
+            longer => self.push_number_of_len(number, longer),
         }
     }
 

@@ -171,7 +171,7 @@ impl<const MAX_SIZE: usize> ObjectIdentifier<MAX_SIZE> {
     /// The identifier of these arcs and one more, or [`Error::Length`] where its octets do not fit.
     pub fn push_arc(self, arc: Arc) -> Result<Self> {
         let mut ber = self.ber;
-        match ber.push_group(arc as u64) {
+        match ber.push_arc(arc) {
             Ok(()) => Ok(ObjectIdentifier { ber }),
             Err(fault) => Err(fault),
         }
