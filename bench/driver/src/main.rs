@@ -16,7 +16,7 @@ use std::{env, thread};
 /// Compares the answers of both sides to inputs that both should answer alike: without groups that begin with 0x80, arcs
 /// past 32 bits and second arcs past 39. Returns the number of differences, and prints the first ones.
 fn differences(dice: &mut Dice) -> usize {
-    let of_octets: [(&str, Call, Call, u64); 8] = [
+    let of_octets: [(&str, Call, Call, u64); 9] = [
         ("from_bytes, owned", ours_owned, rust_owned, 0),
         ("from_bytes, borrowed", ours_borrowed, rust_borrowed, 0),
         ("text", ours_print, rust_print, 0),
@@ -25,6 +25,7 @@ fn differences(dice: &mut Dice) -> usize {
         ("arc(5)", ours_arc, rust_arc, 5),
         ("parent", ours_parent, rust_parent, 0),
         ("push_arc(16384)", ours_push_arc, rust_push_arc, 16384),
+        ("from_arcs", ours_from_arcs, rust_from_arcs, 0),
     ];
     let mut count = 0;
     let mut compare = |name: &str, ours: Call, rust: Call, input: &[u8], number: u64| {

@@ -164,6 +164,7 @@ fn call_rows(size: &str, goal: f64, set: &[Vec<u8>]) -> Vec<Row> {
         of_calls("from_bytes and arc(2)", size, goal, set, 2, [ours_arc, rust_arc]),
         of_calls("from_bytes and parent", size, goal, set, 0, [ours_parent, rust_parent]),
         of_calls("from_bytes and push_arc(300)", size, 1.0, set, 300, [ours_push_arc, rust_push_arc]),
+        of_calls("from_bytes and from_arcs", size, 1.0, set, 0, [ours_from_arcs, rust_from_arcs]),
     ]
 }
 

@@ -47,6 +47,9 @@ calls! {
     ours_push_arc rust_push_arc |octets, number, output|
         coded(Oid::from_bytes(octets).and_then(|oid| oid.push_arc(number.min(0xffff_ffff) as u32))
             .map(|oid| copy_out(oid.as_bytes(), output)));
+    ours_from_arcs rust_from_arcs |octets, _number, output|
+        coded(ObjectIdentifierRef::from_bytes(octets).and_then(|oid| Oid::from_arcs(oid.arcs()))
+            .map(|oid| copy_out(oid.as_bytes(), output)));
     ours_compared rust_compared |octets, number, _output| coded(pair(octets, number).map(|(first, second)| {
         let borrowed = first.as_oid_ref().cmp(second.as_oid_ref());
         let flags = u64::from(first.starts_with(second)) | u64::from(first == second) << 1;
