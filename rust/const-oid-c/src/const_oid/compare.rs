@@ -29,7 +29,7 @@ pub(crate) fn are_equal(a: &[u8], b: &[u8]) -> bool {
         return false;
     }
     let mut at = 0;
-    while len - at > WORD {
+    while at < len - WORD {
         if word(a, at) != word(b, at) {
             return false;
         }
