@@ -29,7 +29,7 @@ fn accepts(capacity: usize, octets: &[u8], error: Option<Error>) -> bool {
         1 => is_answer(ObjectIdentifier::<1>::from_bytes_sized(octets), wanted),
         2 => is_answer(ObjectIdentifier::<2>::from_bytes_sized(octets), wanted),
         3 => is_answer(ObjectIdentifier::<3>::from_bytes_sized(octets), wanted),
-        39 => is_answer(ObjectIdentifier::<39>::from_bytes_sized(octets), wanted),
+        39 => is_answer(Oid::from_bytes_sized(octets), wanted),
         255 => is_answer(ObjectIdentifier::<255>::from_bytes_sized(octets), wanted),
         256 => is_answer(ObjectIdentifier::<256>::from_bytes_sized(octets), wanted),
         300 => is_answer(ObjectIdentifier::<300>::from_bytes_sized(octets), wanted),

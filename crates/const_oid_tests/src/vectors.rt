@@ -7,7 +7,8 @@ use std::alloc::{AllocError, Global};
 /// An identifier as its text, its contents octets and its arcs.
 pub type Row = (&'static str, &'static [u8], &'static [Arc]);
 
-/// Identifiers that are accepted. As a function, the rows are checked once, and not with each caller.
+/// Identifiers that are accepted. The rows stand in a function, so that they are checked once and not
+/// with each caller.
 pub fn accepted_rows() -> &'static [Row] {
     ACCEPTED
 }
