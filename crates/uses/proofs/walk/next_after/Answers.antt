@@ -1,4 +1,4 @@
-use Rattle.std.proofs.Common.{rules, ◌≡◌, ◌≢◌, ◌<◌, ◌≤◌, ℕ, true, false, List, length, slice_index_or, leb, Option, Some, None, IfSome, IfNone, MatchOption, Bor, Less, Equal, Greater, refl, sym, ap, ◌∙◌, arith, ⊎_elim}
+use Rattle.std.proofs.Common.{rules, ◌≡◌, ◌≢◌, ◌<◌, ◌≤◌, ℕ, true, false, List, length, slice_index_or, leb, Option, Some, None, IfSome, IfNone, MatchOption, Bor, Less, Equal, Greater, refl, sym, ◌∙◌, arith, ⊎_elim}
 use Rattle.std.specs.Cmp.Lexicographic.{slice_cmp}
 use Rattle.std.specs.List.{All, HoldsAt}
 use Rattle.std.specs.List.Sorted.{IsSortedByKey}
