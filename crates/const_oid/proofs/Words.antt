@@ -157,7 +157,3 @@ whole_cmp xs ys used k l same =
 
 pub whole_eq : (xs ys : List ℕ) (used : ℕ) → used ≤ length xs → used ≤ length ys → drop used xs ≡ drop used ys → pointwise nat_eq xs ys ≡ pointwise nat_eq (take used xs) (take used ys)
 whole_eq xs ys used k l same = texts_ties xs ys ∙ ap is_eq (whole_cmp xs ys used k l same) ∙ sym (texts_ties (take used xs) (take used ys))
-
--- lists of two lengths are not the same
-pub other_length : (xs ys : List ℕ) → length xs ≢ length ys → false ≡ pointwise nat_eq xs ys
-other_length xs ys u = sym (false_from_ne_true _ (λ t. u (ap length (same_text xs ys (sym t)))))
