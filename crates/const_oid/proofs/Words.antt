@@ -47,7 +47,7 @@ word_worth (a ∷ b ∷ c ∷ d ∷ e ∷ f ∷ g ∷ []) l = absurd (omega arit
 word_worth (a ∷ b ∷ c ∷ d ∷ e ∷ f ∷ g ∷ h ∷ []) l = omega arith
 word_worth (a ∷ b ∷ c ∷ d ∷ e ∷ f ∷ g ∷ h ∷ x ∷ xs) l = absurd (omega arith)
 
--- ---- the word at a place
+-- ---- the word at an index
 
 octets_drop : (n : ℕ) (xs : List ℕ) → AreOctets xs → AreOctets (drop n xs)
 octets_drop zero xs s = s
@@ -59,7 +59,7 @@ octets_take zero xs s = tt
 octets_take (suc n) [] s = tt
 octets_take (suc n) (x ∷ xs) s = (s.0, octets_take n xs s.1)
 
--- two words at one place of lists that are the same before it
+-- two words at one index of lists that are the same before it
 pub record AreWords (xs ys : List ℕ) (at m n : ℕ) : Type 0 where
   pub octets : AreOctets xs × AreOctets ys
   pub within : (at + 8 ≤ length xs) × (at + 8 ≤ length ys)
@@ -85,7 +85,7 @@ same_more xs ys at m n w e =
     let c = same_lists _ _ (chunks_cmp xs ys at m n w ∙ ap (λ k. nat_cmp m k) (sym e) ∙ tied_itself nat_cmp_total m) in
     take-add at 8 xs ∙ ap₂ (λ x y. x ++ y) w.same c ∙ sym (take-add at 8 ys)
 
--- lists that are the same up to a place stand as what follows
+-- lists that are the same up to an index have the order of what follows
 pub after_same : (xs ys : List ℕ) (at : ℕ) → take at xs ≡ take at ys → slice_cmp nat_cmp xs ys ≡ slice_cmp nat_cmp (drop at xs) (drop at ys)
 after_same xs ys at same =
     ap₂ (λ x y. slice_cmp nat_cmp x y) (sym (take-append-drop at xs)) (sym (take-append-drop at ys))
@@ -136,7 +136,7 @@ last_words xs ys at m n w e k l =
     let same : xs ≡ ys = sym (take_all (at + 8) xs (omega arith)) ∙ same_more xs ys at m n w e ∙ take_all (at + 8) ys (omega arith) in
     sym (texts_ties xs ys ∙ ap is_eq (ap (λ zs. slice_cmp nat_cmp zs ys) same ∙ tied_itself nat_list_cmp_total ys))
 
--- the same up to a place before
+-- the same up to an earlier index
 pub same_less : (xs ys : List ℕ) (at less : ℕ) → less ≤ at → take at xs ≡ take at ys → take less xs ≡ take less ys
 same_less xs ys at less h same = sym (take-take less at xs h) ∙ ap (λ zs. take less zs) same ∙ take-take less at ys h
 
