@@ -1,11 +1,11 @@
 -- Words of eight octets: they are the same where their octets are, and stand as these do in list order.
-use Rattle.std.proofs.Common.{◌≡◌, ◌≢◌, ℕ, zero, suc, ◌+◌, ◌*◌, ◌^◌, ◌<◌, ◌≤◌, List, [], ◌∷◌, ◌++◌, length, take, drop, refl, sym, ap, ap₂, ◌∙◌, arith, min, true, false, nat_eq, Less, Equal, Greater, nat_cmp, w64, pow-suc}
+use Rattle.std.proofs.Common.{◌≡◌, ◌≢◌, ℕ, zero, suc, ◌+◌, ◌*◌, ◌^◌, ◌<◌, ◌≤◌, List, [], ◌∷◌, ◌++◌, length, take, drop, refl, sym, ap, ap₂, ◌∙◌, arith, min, Bool, true, false, ◌&&◌, nat_eq, IsTrue, Less, Equal, Greater, nat_cmp, w64, pow-suc}
 use Rattle.std.proofs.Math.Seq.{take-add}
 use Rattle.std.specs.Int.{from_be_bytes}
 use Rattle.std.specs.Ordering.{ordering_then, is_eq}
 use Rattle.std.specs.Cmp.{ranks, nat_cmp_is}
 use Rattle.std.specs.Cmp.Lexicographic.{pointwise, slice_cmp, texts_ties, same_text}
-use Rattle.std.proofs.lemmas.Bool.{false_from_ne_true}
+use Rattle.std.proofs.lemmas.Bool.{false_from_ne_true, eqb-true, eq-eqb}
 use Rattle.std.proofs.lemmas.Bool.Decides.{nat_tests}
 use Rattle.std.proofs.lemmas.Cmp.{nat_cmp_total, nat_list_cmp_total, by_ranked, tied_itself}
 use Rattle.std.proofs.lemmas.List.{take-append-drop, length-take-le, take-take, take_all, length-drop}
@@ -125,16 +125,34 @@ rest_cmp xs ys at e =
     rest (a ∷ x) [] h = nat_cmp_is (suc (length x)) 0 Greater (omega arith)
     rest (a ∷ x) (b ∷ y) h = absurd (omega arith)
 
+-- the same lists have equal words
+same_lists_words : (xs ys : List ℕ) (at m n : ℕ) → m ≡ from_be_bytes w64 (take 8 (drop at xs)) → n ≡ from_be_bytes w64 (take 8 (drop at ys)) → xs ≡ ys → m ≡ n
+same_lists_words xs ys at m n k l e = k ∙ ap (λ zs. from_be_bytes w64 (take 8 (drop at zs))) e ∙ sym l
+
 -- unequal words are not of the same lists
 pub unequal_lists : (xs ys : List ℕ) (at m n : ℕ) → m ≡ from_be_bytes w64 (take 8 (drop at xs)) → n ≡ from_be_bytes w64 (take 8 (drop at ys)) → m ≢ n → false ≡ pointwise nat_eq xs ys
 unequal_lists xs ys at m n k l u =
-    sym (false_from_ne_true _ (λ t. u (k ∙ ap (λ zs. from_be_bytes w64 (take 8 (drop at zs))) (same_text xs ys (sym t)) ∙ sym l)))
+    sym (false_from_ne_true _ (λ t. u (same_lists_words xs ys at m n k l (same_text xs ys (sym t)))))
 
 -- equal last words end the same lists
 pub last_words : (xs ys : List ℕ) (at m n : ℕ) → AreWords xs ys at m n → m ≡ n → length xs ≡ at + 8 → length ys ≡ at + 8 → true ≡ pointwise nat_eq xs ys
 last_words xs ys at m n w e k l =
     let same : xs ≡ ys = sym (take_all (at + 8) xs (omega arith)) ∙ same_more xs ys at m n w e ∙ take_all (at + 8) ys (omega arith) in
     sym (texts_ties xs ys ∙ ap is_eq (ap (λ zs. slice_cmp nat_cmp zs ys) same ∙ tied_itself nat_list_cmp_total ys))
+
+-- a test that is true exactly where lists are the same
+pub tells_same : (test : Bool) (xs ys : List ℕ) → (IsTrue test → xs ≡ ys) → (xs ≡ ys → IsTrue test) → test ≡ pointwise nat_eq xs ys
+tells_same true xs ys same equal = sym (texts_ties xs ys ∙ ap is_eq (ap (λ zs. slice_cmp nat_cmp zs ys) (same refl) ∙ tied_itself nat_list_cmp_total ys))
+tells_same false xs ys same equal = sym (false_from_ne_true _ (λ t. let f = equal (same_text xs ys (sym t)) in absurd (cc)))
+
+-- a test of words, and of those before them
+pub same_words : (before : Bool) (xs ys : List ℕ) (at m n : ℕ) → (IsTrue before → AreWords xs ys at m n) → IsTrue (before && nat_eq m n) → take (at + 8) xs ≡ take (at + 8) ys
+same_words true xs ys at m n w t = same_more xs ys at m n (w refl) (eqb-true m n t)
+same_words false xs ys at m n w t = absurd (cc)
+
+pub equal_words : (before : Bool) (xs ys : List ℕ) (at m n : ℕ) → m ≡ from_be_bytes w64 (take 8 (drop at xs)) → n ≡ from_be_bytes w64 (take 8 (drop at ys)) → IsTrue before → xs ≡ ys → IsTrue (before && nat_eq m n)
+equal_words true xs ys at m n k l b e = eq-eqb m n (same_lists_words xs ys at m n k l e)
+equal_words false xs ys at m n k l b e = absurd (cc)
 
 -- the same up to an earlier index
 pub same_less : (xs ys : List ℕ) (at less : ℕ) → less ≤ at → take at xs ≡ take at ys → take less xs ≡ take less ys

@@ -7,7 +7,7 @@ ghost use Rattle.const_oid.specs.Base128.{AreOctets, IsGroup, width};
 ghost use Rattle.const_oid.specs.Private.Octets.{GoesOn};
 
 use crate::Arc;
-use crate::compare::{are_equal, order};
+use crate::compare::{are_arrays_equal, order};
 use crate::error::{Error, Result};
 use std::cmp::Ordering;
 use std::hash::{Hash, Hasher};
@@ -143,7 +143,7 @@ impl<const SIZE: usize> Buffer<SIZE> {
         ensures value { result ≡ pointwise nat_eq (octets_of self.now) (octets_of rhs.now) }
         ensures meaning { IsTrue result ↔ (octets_of self.now ≡ octets_of rhs.now) }
     {
-        self.used == rhs.used && are_equal(&self.bytes, &rhs.bytes)
+        self.used == rhs.used && are_arrays_equal(&self.bytes, &rhs.bytes)
     }
 }
 

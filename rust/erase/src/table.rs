@@ -136,6 +136,7 @@ pub const CRATES: &[Crate] = &[
             "ObjectIdentifierRef::from_checked",
             "ObjectIdentifierRef::starts_with",
             "RefDatabase::new",
+            "are_arrays_equal",
             "are_equal",
             "are_few_equal",
             "begins_with",

@@ -3,7 +3,7 @@
 //! Octets in an array of which the first are in use.
 
 use crate::const_oid::Arc;
-use crate::const_oid::compare::{are_equal, order};
+use crate::const_oid::compare::{are_arrays_equal, order};
 use crate::const_oid::error::{Error, Result};
 use core::cmp::Ordering;
 use core::hash::{Hash, Hasher};
@@ -96,7 +96,7 @@ impl<const SIZE: usize> Buffer<SIZE> {
     /// Whether the octets in use are equal. Whole arrays are compared, since zeros follow in both.
     #[inline(always)]
     pub fn eq(&self, rhs: &Self) -> bool {
-        self.used == rhs.used && are_equal(&self.bytes, &rhs.bytes)
+        self.used == rhs.used && are_arrays_equal(&self.bytes, &rhs.bytes)
     }
 }
 

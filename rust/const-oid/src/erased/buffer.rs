@@ -3,7 +3,7 @@
 //! Octets in an array of which the first are in use.
 
 use crate::erased::Arc;
-use crate::erased::compare::{are_equal, order};
+use crate::erased::compare::{are_arrays_equal, order};
 use crate::erased::error::{Error, Result};
 use core::cmp::Ordering;
 use core::hash::{Hash, Hasher};
@@ -114,7 +114,7 @@ impl<const SIZE: usize> Buffer<SIZE> {
     /// ```
     #[inline(always)]
     pub const fn eq(&self, rhs: &Self) -> bool {
-        self.used == rhs.used && are_equal(&self.bytes, &rhs.bytes)
+        self.used == rhs.used && are_arrays_equal(&self.bytes, &rhs.bytes)
     }
 }
 

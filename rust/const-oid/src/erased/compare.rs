@@ -38,6 +38,23 @@ pub(crate) const fn are_equal(a: &[u8], b: &[u8]) -> bool {
     true
 }
 
+/// Whether as many octets are the same, without a branch for each word: for arrays, whose few words the
+/// compiler compares at once.
+#[inline(always)]
+pub(crate) const fn are_arrays_equal(a: &[u8], b: &[u8]) -> bool {
+    let len = a.len();
+    if len < WORD {
+        return are_few_equal(a, b);
+    }
+    let mut same = true;
+    let mut at = 0;
+    while at < len - WORD {
+        same &= word(a, at) == word(b, at);
+        at += WORD;
+    }
+    same & (word(a, len - WORD) == word(b, len - WORD))
+}
+
 /// Whether as many octets are the same: the last one first, since most pairs differ there.
 #[inline(always)]
 const fn are_few_equal(a: &[u8], b: &[u8]) -> bool {

@@ -16,7 +16,7 @@ returns-then-self-rhs-clause-value g c =
     let e = c.if-self-rhs.true in
     let zeros : drop a.used b.bytes ≡ replicate (g.row.SIZE - a.used) 0 = rw e b.zeros in
     let whole = whole_eq a.bytes b.bytes a.used (omega arith) (omega arith) (a.zeros ∙ sym zeros) in
-    c.are_equal.ensures ∙ whole ∙ ap (λ used. pointwise nat_eq (take a.used a.bytes) (take used b.bytes)) e
+    c.are_arrays_equal.ensures ∙ whole ∙ ap (λ used. pointwise nat_eq (take a.used a.bytes) (take used b.bytes)) e
 
 pub returns-then-self-rhs-clause-meaning : goal.returns-then-self-rhs-clause-meaning
 returns-then-self-rhs-clause-meaning g c = slice_eq-Decides Decides-eqb _ _ _ (returns-then-self-rhs-clause-value g c)
