@@ -29,70 +29,28 @@ pub const ARCS: &[(Arc, &str)] = &[
     (4_294_967_295, "1.2.4294967295"),
 ];
 
-/// Whether a text was written to the start of bytes `?` and its length was the answer, or, where it is
-/// longer, nothing was written and there was no answer.
-fn is_written(answer: Option<usize>, out: &[u8], text: &[u8]) -> bool {
-    let len = (text.len() <= out.len()).then_some(text.len());
-    let (written, rest) = out.split_at(len.unwrap_or(0));
-    answer == len && text.starts_with(written) && rest.iter().all(|byte| *byte == b'?')
-}
-
-/// Whether a text is the answer where it fits, and there is none where it does not.
-fn is_lent(answer: Option<&str>, len: usize, text: &[u8]) -> bool {
-    match answer {
-        Some(lent) => lent.as_bytes() == text,
-        None => len < text.len(),
-    }
-}
-
-/// The lengths of a buffer that are tried: none, one byte less than the text, just enough, one more.
-fn lengths(text: &[u8]) -> [usize; 4] {
-    let len = text.len();
-    [0, len.saturating_sub(1), len, len.saturating_add(1)]
-}
-
-/// Bytes `?` of this length, or all of a shorter buffer.
-fn blank(out: &mut [u8], len: usize) -> &mut [u8] {
-    let end = out.len().min(len);
-    let blank = &mut out[..end];
-    blank.fill(b'?');
-    blank
-}
-
-/// Whether a borrowed identifier writes its text into the start of a buffer, at each length.
+/// Whether a borrowed identifier writes and lends its text, and tells its length.
 fn borrowed_writes(oid: ObjectIdentifierRef<'_>, text: &[u8], out: &mut [u8]) -> bool {
-    for len in lengths(text) {
-        let out = blank(out, len);
-        let answer = oid.encode_text(out);
-        if !is_written(answer, out, text) || !is_lent(oid.encode_str(out), len, text) {
-            return false;
-        }
-    }
     oid.text_len() == text.len()
+        && oid.encode_text(out) == Some(text.len())
+        && out.starts_with(text)
+        && oid.encode_str(out).map(str::as_bytes) == Some(text)
 }
 
 /// The same of an owned one.
 fn owned_writes(oid: &ObjectIdentifier<255>, text: &[u8], out: &mut [u8]) -> bool {
-    for len in lengths(text) {
-        let out = blank(out, len);
-        let answer = oid.encode_text(out);
-        if !is_written(answer, out, text) || !is_lent(oid.encode_str(out), len, text) {
-            return false;
-        }
-    }
     oid.text_len() == text.len()
+        && oid.encode_text(out) == Some(text.len())
+        && out.starts_with(text)
+        && oid.encode_str(out).map(str::as_bytes) == Some(text)
 }
 
 /// The same of an error.
 fn error_writes(error: Error, text: &[u8], out: &mut [u8]) -> bool {
-    for len in lengths(text) {
-        let out = blank(out, len);
-        let answer = error.encode_text(out);
-        if !is_written(answer, out, text) || !is_lent(error.encode_str(out), len, text) {
-            return false;
-        }
-    }
     error.text_len() == text.len()
+        && error.encode_text(out) == Some(text.len())
+        && out.starts_with(text)
+        && error.encode_str(out).map(str::as_bytes) == Some(text)
 }
 
 #[test]
@@ -153,7 +111,7 @@ fn long_texts(rt: HostRuntime) -> Result<(), Fail> {
     for (octets, text, count, later_octets, later_text) in LONG {
         let octets = repeated(rt.alloc(), octets, *count, later_octets)?;
         let text = repeated(rt.alloc(), text, *count, later_text)?;
-        let mut out = repeated(rt.alloc(), text.as_slice(), 1, b"?")?;
+        let mut out = text.as_slice().to_vec(rt.alloc())?;
         let borrowed = ObjectIdentifierRef::from_bytes(octets.as_slice())?;
         let is_written = match ObjectIdentifier::<255>::try_from_ref(borrowed) {
             Ok(owned) => owned_writes(&owned, text.as_slice(), out.as_mut_slice()),

@@ -1,10 +1,9 @@
-//! Identifiers as keys of maps, and their hashes.
+//! Identifiers as keys of maps.
 
 use crate::vectors::accepted_rows;
-use const_oid::{ObjectIdentifier, ObjectIdentifierRef, Oid};
+use const_oid::{ObjectIdentifierRef, Oid};
 use std::alloc::Global;
 use std::collections::{BTreeMap, HashMap};
-use std::hash::{DefaultHasher, Hash, Hasher};
 use std::test::Fail;
 
 type Maps = (HashMap<Oid, usize>, BTreeMap<Oid, usize>);
@@ -44,25 +43,4 @@ fn finds_borrowed_keys(rt: HostRuntime) -> Result<(), Fail> {
     assert!(rt; names.get(&same).copied() == Some("1.2.3"));
     assert!(rt; names.get(&other).is_none());
     Ok(())
-}
-
-/// What a hasher makes of a value.
-fn hash_of<const N: usize>(oid: &ObjectIdentifier<N>) -> u64 {
-    let mut hasher = DefaultHasher::new();
-    oid.hash(&mut hasher);
-    hasher.finish()
-}
-
-/// The parent of a child has the hash of the identifier, and so has its copy at another capacity.
-#[test]
-fn equal_hashes(rt: HostRuntime) {
-    for (text, octets, _) in accepted_rows() {
-        let oid = ObjectIdentifier::<300>::from_bytes_sized(octets).expect(&rt, text);
-        let child = oid.push_arc(4294967295).expect(&rt, text);
-        let parent = child.parent().expect(&rt, text);
-        let copy = Oid::try_from_ref(parent.as_oid_ref()).expect(&rt, text);
-        let usual = Oid::from_bytes(octets).expect(&rt, text);
-        assert!(rt; hash_of(&parent) == hash_of(&oid), "{text}");
-        assert!(rt; hash_of(&copy) == hash_of(&usual), "{text}");
-    }
 }

@@ -32,8 +32,6 @@ mod short_slices;
 #[cfg(test)]
 mod subtree;
 #[cfg(test)]
-mod text_prefixes;
-#[cfg(test)]
 mod texts;
 #[cfg(test)]
 mod traits;

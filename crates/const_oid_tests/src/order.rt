@@ -1,6 +1,6 @@
 //! Equality, copies and the orders of both forms: `==`, `clone` and `cmp`.
 
-ghost use Rattle.std.specs.Prelude.{◌≡◌, ◌↔◌, ◌≤◌, IsTrue, IsOk, IfOk};
+ghost use Rattle.std.specs.Prelude.{◌≡◌, ◌↔◌, IsTrue, IsOk, IfOk};
 ghost use Rattle.std.specs.Ordering.{nat_cmp};
 ghost use Rattle.std.specs.Cmp.Lexicographic.{slice_cmp};
 ghost use Rattle.const_oid.specs.Oid.{oid_octets, oid_arcs};
@@ -8,7 +8,7 @@ ghost use Rattle.const_oid.specs.OidRef.{ref_octets, ref_arcs};
 ghost use Rattle.const_oid.specs.Orders.{shortlex_cmp};
 
 use crate::vectors::ASCENDING;
-use const_oid::{Error, ObjectIdentifier, ObjectIdentifierRef};
+use const_oid::{Error, ObjectIdentifier, ObjectIdentifierRef, Oid};
 use std::alloc::AllocError;
 use std::cmp::Ordering;
 use std::test::Fail;
@@ -70,11 +70,9 @@ const SHORT_FIRST: &[&[u8]] = &[
 ];
 
 /// Whether owned identifiers compare so, and are equal where they tie.
-fn compare<const N: usize>(a: &[u8], b: &[u8], order: Ordering) -> Result<bool, Fail>
-    requires { N ≤ 300 }
-{
-    let a = ObjectIdentifier::<N>::from_bytes_sized(a)?;
-    let b = ObjectIdentifier::<N>::from_bytes_sized(b)?;
+fn compare(a: &[u8], b: &[u8], order: Ordering) -> Result<bool, Fail> {
+    let a = Oid::from_bytes(a)?;
+    let b = Oid::from_bytes(b)?;
     let is_equal = has_same_arcs(&a, &clone_of(&b)?);
     Ok(
         order_of(&a, &b) == order
@@ -87,20 +85,7 @@ fn compare<const N: usize>(a: &[u8], b: &[u8], order: Ordering) -> Result<bool, 
 fn owned_pairs(rt: HostRuntime) -> Result<(), Fail> {
     for (i, a) in SHORT_FIRST.iter().enumerate() {
         for (j, b) in SHORT_FIRST.iter().enumerate() {
-            assert!(rt; compare::<39>(a, b, i.cmp(&j))?, "{a:?} and {b:?}");
-        }
-    }
-    Ok(())
-}
-
-/// Identifiers of at most three octets, in the owned order.
-const THREE_OCTETS: &[&[u8]] = &[&[0x2A], &[0x55], &[0x2A, 0x03], &[0x2A, 0x04]];
-
-#[test]
-fn owned_pairs_in_three_octets(rt: HostRuntime) -> Result<(), Fail> {
-    for (i, a) in THREE_OCTETS.iter().enumerate() {
-        for (j, b) in THREE_OCTETS.iter().enumerate() {
-            assert!(rt; compare::<3>(a, b, i.cmp(&j))?, "{a:?} and {b:?}");
+            assert!(rt; compare(a, b, i.cmp(&j))?, "{a:?} and {b:?}");
         }
     }
     Ok(())

@@ -7,10 +7,6 @@ use const_oid::{Error, Oid};
 use std::alloc::AllocError;
 
 /// Texts that are refused, and the error.
-pub fn refused_texts() -> &'static [(&'static str, Error)] {
-    REFUSED
-}
-
 const REFUSED: &[(&str, Error)] = &[
     ("", Error::Empty),
     ("0", Error::Empty),
@@ -62,14 +58,14 @@ const REFUSED: &[(&str, Error)] = &[
 
 #[test]
 fn refused(rt: HostRuntime) {
-    for (text, error) in refused_texts() {
+    for (text, error) in REFUSED {
         assert!(rt; Oid::new(text) == Err(*error), "of {text}");
         assert!(rt; text.parse::<Oid>() == Err(*error), "of {text}");
     }
 }
 
 /// Texts with leading zeros, what their identifiers print, and their contents octets.
-pub const LEADING_ZEROS: &[(&str, &str, &[u8])] = &[
+const LEADING_ZEROS: &[(&str, &str, &[u8])] = &[
     ("00.00", "0.0", &[0x00]),
     ("01.02.003", "1.2.3", &[0x2A, 0x03]),
     ("2.039", "2.39", &[0x77]),

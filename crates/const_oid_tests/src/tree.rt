@@ -2,7 +2,7 @@
 
 ghost use Rattle.std.specs.Prelude.{◌≤◌};
 
-use crate::vectors::{accepted_rows, is_answer, long_octets};
+use crate::vectors::{is_answer, long_octets};
 use const_oid::{Arc, Error, ObjectIdentifier, ObjectIdentifierRef, Oid};
 use std::alloc::AllocError;
 
@@ -112,19 +112,6 @@ fn no_child_of_the_longest(rt: HostRuntime) -> Result<(), AllocError> {
     assert!(rt; pushes_at(300, octets.as_slice(), 0, Err(Error::Length)));
     assert!(rt; pushes_at(300, octets.as_slice(), 1, Err(Error::Length)));
     Ok(())
-}
-
-/// The parent of a child is the identifier, and a child of the parent is the identifier again.
-#[test]
-fn parents_undo_children(rt: HostRuntime) {
-    for (text, octets, arcs) in accepted_rows() {
-        let oid = Oid::from_bytes(octets).expect(&rt, text);
-        let child = oid.push_arc(128).expect(&rt, text);
-        assert!(rt; child.parent() == Some(oid), "{text}");
-        if let (Some(parent), Some(last)) = (oid.parent(), arcs.last()) {
-            assert!(rt; parent.push_arc(*last) == Ok(oid), "{text}");
-        }
-    }
 }
 
 /// The octets of two identifiers, and whether the first begins with the second.
