@@ -1,5 +1,5 @@
 -- Texts: what is printed is read back, and texts have no fault exactly where they denote arcs that fit.
-use Rattle.std.proofs.Common.{◌≡◌, ℕ, ◌<◌, ◌≤◌, false, not, List, [], ◌∷◌, ◌++◌, length, map, Option, Some, None, option_map, refl, sym, ap, ◌∙◌, arith, decimal, find, ◌==◌, append-nil, Bool, true, take, length-append}
+use Rattle.std.proofs.Common.{◌≡◌, ℕ, ◌+◌, ◌<◌, ◌≤◌, false, not, List, [], ◌∷◌, ◌++◌, length, map, Option, Some, None, option_map, refl, sym, ap, ◌∙◌, arith, decimal, find, ◌==◌, append-nil, Bool, true, take, length-append}
 use Rattle.std.specs.List.{AllByRecursion, join_with_byte}
 use Rattle.std.specs.Char.{is_ascii_digit}
 use Rattle.std.specs.Prelude.{Ok}
@@ -164,6 +164,9 @@ text_of-first arc (next ∷ arcs) = refl
 pub text_left-cons : (is_first : Bool) (arc : ℕ) (arcs : List ℕ) → text_left is_first (arc ∷ arcs) ≡ arc_text is_first arc ++ text_left false arcs
 text_left-cons true arc arcs = text_of-first arc arcs
 text_left-cons false arc arcs = ap (λ l. 46 ∷ l) (text_of-first arc arcs)
+
+pub length-text_left : (is_first : Bool) (arc : ℕ) (arcs : List ℕ) → length (text_left is_first (arc ∷ arcs)) ≡ length (arc_text is_first arc) + length (text_left false arcs)
+length-text_left is_first arc arcs = ap length (text_left-cons is_first arc arcs) ∙ length-append (arc_text is_first arc) (text_left false arcs)
 
 pub text_left-nil : (is_first : Bool) → text_left is_first [] ≡ []
 text_left-nil true = refl

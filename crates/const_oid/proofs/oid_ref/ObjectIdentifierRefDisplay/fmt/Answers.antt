@@ -2,6 +2,7 @@ use Rattle.std.proofs.Common.{false, ◌≡◌, ◌≤◌, List, ℕ, [], ◌++�
 use Rattle.std.proofs.Output.{has_written_styled_append, has_written_styled_of_eq}
 use Rattle.std.proofs.lemmas.Str.{IsUtf8-from_ascii}
 use Rattle.std.specs.Fmt.{HasWrittenStyled, IsFlush}
+use Rattle.std.proofs.lemmas.Grind.{common_steps}
 use Rattle.const_oid.specs.Identifier.{root_rule}
 use Rattle.const_oid.specs.OidRef.{ref_arcs}
 use Rattle.const_oid.specs.Text.{text_of}
@@ -79,3 +80,15 @@ returns-clause-styled g c = λ flush ok.
 
 pub returns-clause-writes : goal.returns-clause-writes
 returns-clause-writes g c = λ plain ok. plain_written _ _ _ _ plain (returns-clause-styled g c plain.flush ok)
+
+pub returns-in-Some-clause-writes : goal.returns-in-Some-clause-writes
+returns-in-Some-clause-writes g c = grind (arith, common_steps)
+
+pub returns-in-Some-clause-styled : goal.returns-in-Some-clause-styled
+returns-in-Some-clause-styled g c = grind (arith, common_steps)
+
+pub returns-in_err-write_str-clause-writes : goal.returns-in_err-write_str-clause-writes
+returns-in_err-write_str-clause-writes g c = grind (arith, common_steps)
+
+pub returns-in_err-write_str-clause-styled : goal.returns-in_err-write_str-clause-styled
+returns-in_err-write_str-clause-styled g c = grind (arith, common_steps)
