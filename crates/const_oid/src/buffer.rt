@@ -1,6 +1,6 @@
 //! Octets in an array of which the first are in use.
 
-ghost use Rattle.std.specs.Prelude.{◌≡◌, ℕ, List, ◌++◌, ◌+◌, ◌-◌, ◌^◌, ◌<◌, ◌≤◌, ◌↔◌, [], length, take, drop, replicate, min, nat_eq, IsTrue, IfOk, OnOk, OnErr, MatchResult};
+ghost use Rattle.std.specs.Prelude.{◌≡◌, ℕ, List, ◌++◌, ◌+◌, ◌-◌, ◌^◌, ◌<◌, ◌≤◌, ◌↔◌, [], length, take, drop, replicate, min, nat_eq, IsTrue, OnOk, OnErr, MatchResult};
 ghost use Rattle.std.proofs.Props.{props};
 ghost use Rattle.std.specs.Cmp.Lexicographic.{pointwise};
 ghost use Rattle.const_oid.specs.Base128.{AreOctets, IsGroup, width};
@@ -36,19 +36,6 @@ impl<const SIZE: usize> Buffer<SIZE> {
             used: 0,
             bytes: [0; SIZE],
         }
-    }
-
-    /// The octets copied, or `Length` where they do not fit.
-    #[inline(always)]
-    pub(crate) fn from_slice(octets: &[u8]) -> Result<Self>
-        ensures fits { MatchResult result (λ _. length octets.now ≤ min SIZE 255)
-            (λ fault. (fault ≡ Error.Length) × (min SIZE 255 < length octets.now)) }
-        ensures copied { IfOk result (λ buffer. octets_of buffer ≡ octets.now) }
-    {
-        if octets.len() > SIZE.min(255) {
-            return Err(Error::Length);
-        }
-        Ok(Self::copied(octets))
     }
 
     /// The octets copied, which fit.

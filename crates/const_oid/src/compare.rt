@@ -20,8 +20,8 @@ pub(crate) fn begins_with(octets: &[u8], prefix: &[u8]) -> bool
     are_equal(prefix, octets.split_at(prefix.len()).0)
 }
 
-/// Whether octets are the same: by words, of which the last one overlaps and is compared first, since
-/// most pairs differ there, or one by one where they are fewer than a word.
+/// Whether octets are the same: the last one first, since most pairs differ there, then by words, of which
+/// the last one overlaps and comes first, or one by one where they are fewer than a word.
 #[inline(always)]
 pub(crate) fn are_equal(a: &[u8], b: &[u8]) -> bool
     ensures { result ≡ pointwise nat_eq a.now b.now }
@@ -32,6 +32,9 @@ pub(crate) fn are_equal(a: &[u8], b: &[u8]) -> bool
     }
     if len < WORD {
         return are_few_equal(a, b);
+    }
+    if a[len - 1] != b[len - 1] {
+        return false;
     }
     if word(a, len - WORD) != word(b, len - WORD) {
         return false;
@@ -131,7 +134,9 @@ fn word(octets: &[u8], at: usize) -> u64
     requires { at + 8 ≤ length octets.now }
     ensures { result ≡ from_be_bytes w64 (take 8 (drop at octets.now)) }
 {
-    match octets.split_at(at).1.first_chunk::<WORD>() {
+    // The compiler knows the length of this slice, so it leaves the test out.
+    let (word, _) = octets.split_at(at).1.split_at(WORD);
+    match word.first_chunk::<WORD>() {
         Some(word) => u64::from_be_bytes(*word),
         None => unreachable!(),
     }

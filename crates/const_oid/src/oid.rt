@@ -175,7 +175,11 @@ impl<const MAX_SIZE: usize> ObjectIdentifier<MAX_SIZE> {
         ensures octets { IfOk result (λ oid. oid_octets oid ≡ ref_octets oid_ref.entry) }
         ensures arcs { IfOk result (λ oid. oid_arcs oid ≡ ref_arcs oid_ref.entry) }
     {
-        let ber = Buffer::from_slice(oid_ref.as_bytes())?;
+        let octets = oid_ref.as_bytes();
+        if octets.len() > MAX_SIZE.min(255) {
+            return Err(Error::Length);
+        }
+        let ber = Buffer::copied(octets);
         Ok(ObjectIdentifier { ber })
     }
 

@@ -27,15 +27,6 @@ impl<const SIZE: usize> Buffer<SIZE> {
         }
     }
 
-    /// The octets copied, or `Length` where they do not fit.
-    #[inline(always)]
-    pub(crate) fn from_slice(octets: &[u8]) -> Result<Self> {
-        if octets.len() > SIZE.min(255) {
-            return Err(Error::Length);
-        }
-        Ok(Self::copied(octets))
-    }
-
     /// The octets copied, which fit.
     #[inline(always)]
     pub(crate) fn copied(octets: &[u8]) -> Self {

@@ -116,7 +116,11 @@ impl<const MAX_SIZE: usize> ObjectIdentifier<MAX_SIZE> {
     /// Copies a borrowed identifier, or answers [`Error::Length`] where its octets do not fit.
     #[inline(always)]
     pub fn try_from_ref(oid_ref: ObjectIdentifierRef<'_>) -> Result<Self> {
-        let ber = Buffer::from_slice(oid_ref.as_bytes())?;
+        let octets = oid_ref.as_bytes();
+        if octets.len() > MAX_SIZE.min(255) {
+            return Err(Error::Length);
+        }
+        let ber = Buffer::copied(octets);
         Ok(ObjectIdentifier { ber })
     }
 
