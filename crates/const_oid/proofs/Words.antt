@@ -11,6 +11,7 @@ use Rattle.std.proofs.lemmas.Cmp.{nat_cmp_total, nat_list_cmp_total, by_ranked, 
 use Rattle.std.proofs.lemmas.List.{take-append-drop, length-take-le, take-take, take_all, length-drop}
 use Rattle.std.proofs.lemmas.Nat.{mul-le}
 use Rattle.const_oid.specs.Base128.{AreOctets}
+use Rattle.const_oid.specs.Private.Words.{IsWord}
 use Rattle.const_oid.proofs.Orders.{digits_cmp, nat_cmp-add, slice_cmp-prefix}
 
 -- ---- octets as a number
@@ -49,41 +50,33 @@ word_worth (a ∷ b ∷ c ∷ d ∷ e ∷ f ∷ g ∷ h ∷ x ∷ xs) l = absurd
 
 -- ---- the word at an index
 
-octets_drop : (n : ℕ) (xs : List ℕ) → AreOctets xs → AreOctets (drop n xs)
+pub octets_drop : (n : ℕ) (xs : List ℕ) → AreOctets xs → AreOctets (drop n xs)
 octets_drop zero xs s = s
 octets_drop (suc n) [] s = tt
 octets_drop (suc n) (x ∷ xs) s = octets_drop n xs s.1
 
-octets_take : (n : ℕ) (xs : List ℕ) → AreOctets xs → AreOctets (take n xs)
+pub octets_take : (n : ℕ) (xs : List ℕ) → AreOctets xs → AreOctets (take n xs)
 octets_take zero xs s = tt
 octets_take (suc n) [] s = tt
 octets_take (suc n) (x ∷ xs) s = (s.0, octets_take n xs s.1)
 
--- two words at one index of lists that are the same before it
-pub record AreWords (xs ys : List ℕ) (at m n : ℕ) : Type 0 where
-  pub octets : AreOctets xs × AreOctets ys
-  pub within : (at + 8 ≤ length xs) × (at + 8 ≤ length ys)
-  pub words : (m ≡ from_be_bytes w64 (take 8 (drop at xs))) × (n ≡ from_be_bytes w64 (take 8 (drop at ys)))
-  pub same : take at xs ≡ take at ys
-
 length-chunk : (xs : List ℕ) (at : ℕ) → at + 8 ≤ length xs → length (take 8 (drop at xs)) ≡ 8
 length-chunk xs at h = length-take-le 8 (drop at xs) (omega (arith, length-drop at xs))
 
-chunks_cmp : (xs ys : List ℕ) (at m n : ℕ) → AreWords xs ys at m n → slice_cmp nat_cmp (take 8 (drop at xs)) (take 8 (drop at ys)) ≡ nat_cmp m n
-chunks_cmp xs ys at m n w =
-    let k = length-chunk xs at w.within.0 in
-    let l = length-chunk ys at w.within.1 in
-    rw (w.words.0, w.words.1, word_worth _ k, word_worth _ l)
-    (worth_cmp _ _ (octets_take 8 _ (octets_drop at xs w.octets.0)) (octets_take 8 _ (octets_drop at ys w.octets.1)) (k ∙ sym l))
+chunks_cmp : (xs ys : List ℕ) (at m n : ℕ) → IsWord xs at m → IsWord ys at n → slice_cmp nat_cmp (take 8 (drop at xs)) (take 8 (drop at ys)) ≡ nat_cmp m n
+chunks_cmp xs ys at m n v w =
+    let k = length-chunk xs at v.within in
+    let l = length-chunk ys at w.within in
+    rw (v.value, w.value, word_worth _ k, word_worth _ l) (worth_cmp _ _ v.below_256 w.below_256 (k ∙ sym l))
 
 same_lists : (xs ys : List ℕ) → slice_cmp nat_cmp xs ys ≡ Equal → xs ≡ ys
 same_lists xs ys e = same_text xs ys (sym (texts_ties xs ys ∙ ap is_eq e))
 
 -- equal words are the same octets
-pub same_more : (xs ys : List ℕ) (at m n : ℕ) → AreWords xs ys at m n → m ≡ n → take (at + 8) xs ≡ take (at + 8) ys
-same_more xs ys at m n w e =
-    let c = same_lists _ _ (chunks_cmp xs ys at m n w ∙ ap (λ k. nat_cmp m k) (sym e) ∙ tied_itself nat_cmp_total m) in
-    take-add at 8 xs ∙ ap₂ (λ x y. x ++ y) w.same c ∙ sym (take-add at 8 ys)
+pub same_more : (xs ys : List ℕ) (at m n : ℕ) → IsWord xs at m → IsWord ys at n → take at xs ≡ take at ys → m ≡ n → take (at + 8) xs ≡ take (at + 8) ys
+same_more xs ys at m n v w same e =
+    let c = same_lists _ _ (chunks_cmp xs ys at m n v w ∙ ap (λ k. nat_cmp m k) (sym e) ∙ tied_itself nat_cmp_total m) in
+    take-add at 8 xs ∙ ap₂ (λ x y. x ++ y) same c ∙ sym (take-add at 8 ys)
 
 -- lists that are the same up to an index have the order of what follows
 pub after_same : (xs ys : List ℕ) (at : ℕ) → take at xs ≡ take at ys → slice_cmp nat_cmp xs ys ≡ slice_cmp nat_cmp (drop at xs) (drop at ys)
@@ -106,11 +99,11 @@ unequal : (m n : ℕ) → m ≢ n → nat_cmp m n ≢ Equal
 unequal m n u e = grind (arith, nat_tests)
 
 -- unequal words stand as the lists do
-pub unequal_cmp : (xs ys : List ℕ) (at m n : ℕ) → AreWords xs ys at m n → m ≢ n → nat_cmp m n ≡ slice_cmp nat_cmp xs ys
-unequal_cmp xs ys at m n w u =
-    let c = chunks_cmp xs ys at m n w in
-    let r = first_unequal (take 8 (drop at xs)) (take 8 (drop at ys)) (drop 8 (drop at xs)) (drop 8 (drop at ys)) (length-chunk xs at w.within.0 ∙ sym (length-chunk ys at w.within.1)) (λ e. unequal m n u (sym c ∙ e)) in
-    sym (after_same xs ys at w.same ∙ ap₂ (λ x y. slice_cmp nat_cmp x y) (sym (take-append-drop 8 (drop at xs))) (sym (take-append-drop 8 (drop at ys))) ∙ r ∙ c)
+pub unequal_cmp : (xs ys : List ℕ) (at m n : ℕ) → IsWord xs at m → IsWord ys at n → take at xs ≡ take at ys → m ≢ n → nat_cmp m n ≡ slice_cmp nat_cmp xs ys
+unequal_cmp xs ys at m n v w same u =
+    let c = chunks_cmp xs ys at m n v w in
+    let r = first_unequal (take 8 (drop at xs)) (take 8 (drop at ys)) (drop 8 (drop at xs)) (drop 8 (drop at ys)) (length-chunk xs at v.within ∙ sym (length-chunk ys at w.within)) (λ e. unequal m n u (sym c ∙ e)) in
+    sym (after_same xs ys at same ∙ ap₂ (λ x y. slice_cmp nat_cmp x y) (sym (take-append-drop 8 (drop at xs))) (sym (take-append-drop 8 (drop at ys))) ∙ r ∙ c)
 
 -- lists of which one has ended stand as their lengths do
 pub rest_cmp : (xs ys : List ℕ) (at : ℕ) → at ≡ min (length xs) (length ys) → slice_cmp nat_cmp (drop at xs) (drop at ys) ≡ nat_cmp (length xs) (length ys)
@@ -126,19 +119,19 @@ rest_cmp xs ys at e =
     rest (a ∷ x) (b ∷ y) h = absurd (omega arith)
 
 -- the same lists have equal words
-same_lists_words : (xs ys : List ℕ) (at m n : ℕ) → m ≡ from_be_bytes w64 (take 8 (drop at xs)) → n ≡ from_be_bytes w64 (take 8 (drop at ys)) → xs ≡ ys → m ≡ n
-same_lists_words xs ys at m n k l e = k ∙ ap (λ zs. from_be_bytes w64 (take 8 (drop at zs))) e ∙ sym l
+same_lists_words : (xs ys : List ℕ) (at m n : ℕ) → IsWord xs at m → IsWord ys at n → xs ≡ ys → m ≡ n
+same_lists_words xs ys at m n v w e = v.value ∙ ap (λ zs. from_be_bytes w64 (take 8 (drop at zs))) e ∙ sym w.value
 
 -- unequal words are not of the same lists
-pub unequal_lists : (xs ys : List ℕ) (at m n : ℕ) → m ≡ from_be_bytes w64 (take 8 (drop at xs)) → n ≡ from_be_bytes w64 (take 8 (drop at ys)) → m ≢ n → false ≡ pointwise nat_eq xs ys
-unequal_lists xs ys at m n k l u =
-    sym (false_from_ne_true _ (λ t. u (same_lists_words xs ys at m n k l (same_text xs ys (sym t)))))
+pub unequal_lists : (xs ys : List ℕ) (at m n : ℕ) → IsWord xs at m → IsWord ys at n → m ≢ n → false ≡ pointwise nat_eq xs ys
+unequal_lists xs ys at m n v w u =
+    sym (false_from_ne_true _ (λ t. u (same_lists_words xs ys at m n v w (same_text xs ys (sym t)))))
 
 -- equal last words end the same lists
-pub last_words : (xs ys : List ℕ) (at m n : ℕ) → AreWords xs ys at m n → m ≡ n → length xs ≡ at + 8 → length ys ≡ at + 8 → true ≡ pointwise nat_eq xs ys
-last_words xs ys at m n w e k l =
-    let same : xs ≡ ys = sym (take_all (at + 8) xs (omega arith)) ∙ same_more xs ys at m n w e ∙ take_all (at + 8) ys (omega arith) in
-    sym (texts_ties xs ys ∙ ap is_eq (ap (λ zs. slice_cmp nat_cmp zs ys) same ∙ tied_itself nat_list_cmp_total ys))
+pub last_words : (xs ys : List ℕ) (at m n : ℕ) → IsWord xs at m → IsWord ys at n → take at xs ≡ take at ys → m ≡ n → length xs ≡ at + 8 → length ys ≡ at + 8 → true ≡ pointwise nat_eq xs ys
+last_words xs ys at m n v w same e k l =
+    let equal : xs ≡ ys = sym (take_all (at + 8) xs (omega arith)) ∙ same_more xs ys at m n v w same e ∙ take_all (at + 8) ys (omega arith) in
+    sym (texts_ties xs ys ∙ ap is_eq (ap (λ zs. slice_cmp nat_cmp zs ys) equal ∙ tied_itself nat_list_cmp_total ys))
 
 -- a test that is true exactly where lists are the same
 pub tells_same : (test : Bool) (xs ys : List ℕ) → (IsTrue test → xs ≡ ys) → (xs ≡ ys → IsTrue test) → test ≡ pointwise nat_eq xs ys
@@ -146,13 +139,13 @@ tells_same true xs ys same equal = sym (texts_ties xs ys ∙ ap is_eq (ap (λ zs
 tells_same false xs ys same equal = sym (false_from_ne_true _ (λ t. let f = equal (same_text xs ys (sym t)) in absurd (cc)))
 
 -- a test of words, and of those before them
-pub same_words : (before : Bool) (xs ys : List ℕ) (at m n : ℕ) → (IsTrue before → AreWords xs ys at m n) → IsTrue (before && nat_eq m n) → take (at + 8) xs ≡ take (at + 8) ys
-same_words true xs ys at m n w t = same_more xs ys at m n (w refl) (eqb-true m n t)
-same_words false xs ys at m n w t = absurd (cc)
+pub same_words : (before : Bool) (xs ys : List ℕ) (at m n : ℕ) → IsWord xs at m → IsWord ys at n → (IsTrue before → take at xs ≡ take at ys) → IsTrue (before && nat_eq m n) → take (at + 8) xs ≡ take (at + 8) ys
+same_words true xs ys at m n v w same t = same_more xs ys at m n v w (same refl) (eqb-true m n t)
+same_words false xs ys at m n v w same t = absurd (cc)
 
-pub equal_words : (before : Bool) (xs ys : List ℕ) (at m n : ℕ) → m ≡ from_be_bytes w64 (take 8 (drop at xs)) → n ≡ from_be_bytes w64 (take 8 (drop at ys)) → IsTrue before → xs ≡ ys → IsTrue (before && nat_eq m n)
-equal_words true xs ys at m n k l b e = eq-eqb m n (same_lists_words xs ys at m n k l e)
-equal_words false xs ys at m n k l b e = absurd (cc)
+pub equal_words : (before : Bool) (xs ys : List ℕ) (at m n : ℕ) → IsWord xs at m → IsWord ys at n → IsTrue before → xs ≡ ys → IsTrue (before && nat_eq m n)
+equal_words true xs ys at m n v w b e = eq-eqb m n (same_lists_words xs ys at m n v w e)
+equal_words false xs ys at m n v w b e = absurd (cc)
 
 -- the same up to an earlier index
 pub same_less : (xs ys : List ℕ) (at less : ℕ) → less ≤ at → take at xs ≡ take at ys → take less xs ≡ take less ys

@@ -3,3 +3,4 @@ pub mod Octets
 pub mod Encoder
 pub mod Parser
 pub mod Text
+pub mod Words

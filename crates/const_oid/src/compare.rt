@@ -1,10 +1,10 @@
 //! How slices of octets compare.
 
 ghost use Rattle.std.specs.Prelude.{◌≡◌, ◌↔◌, ℕ, ◌+◌, ◌≤◌, List, ◌++◌, length, take, drop, nat_eq, IsTrue};
-ghost use Rattle.std.specs.Int.{w64, from_be_bytes};
 ghost use Rattle.std.specs.Cmp.Lexicographic.{pointwise, slice_cmp};
 ghost use Rattle.std.specs.Ordering.{nat_cmp};
 ghost use Rattle.const_oid.specs.Orders.{parts_cmp};
+ghost use Rattle.const_oid.specs.Private.Words.{IsWord};
 
 use crate::parts::first_len;
 use std::cmp::Ordering;
@@ -132,7 +132,7 @@ const WORD: usize = 8;
 #[inline(always)]
 fn word(octets: &[u8], at: usize) -> u64
     requires { at + 8 ≤ length octets.now }
-    ensures { result ≡ from_be_bytes w64 (take 8 (drop at octets.now)) }
+    ensures { IsWord octets.now at result }
 {
     // The compiler knows the length of this slice, so it leaves the test out.
     let (word, _) = octets.split_at(at).1.split_at(WORD);
