@@ -1,7 +1,6 @@
 -- Octets in an array that is zero past those in use.
-use Rattle.std.proofs.Common.{◌≡◌, ℕ, ◌+◌, ◌-◌, ◌≤◌, List, [], ◌∷◌, ◌++◌, length, take, drop, replicate, refl, sym, ap, ap₂, ◌∙◌, arith, suc, append_assoc, length-append, slice_index, EachIndex, ◌<◌}
+use Rattle.std.proofs.Common.{◌≡◌, ℕ, ◌+◌, ◌-◌, ◌≤◌, List, [], ◌∷◌, ◌++◌, length, take, drop, replicate, sym, ap, ap₂, ◌∙◌, arith, suc, append_assoc, length-append, slice_index, EachIndex, ◌<◌}
 use Rattle.std.proofs.lemmas.List.{take_at, drop_at, drop-replicate, drop-drop, length-take-le}
-use Rattle.std.proofs.lemmas.Slice.{drop-append-drop}
 use Rattle.const_oid.specs.Base128.{IsContinued, AreOctets}
 use Rattle.const_oid.proofs.Lists.{all_append}
 
@@ -15,18 +14,7 @@ octets_from_chain [] c = absurd c
 octets_from_chain (x ∷ []) c = (omega arith, tt)
 octets_from_chain (x ∷ y ∷ ys) c = (c.1, octets_from_chain (y ∷ ys) c.2)
 
--- octets copied to the start of an array
-pub octets_copied : (octets rest bytes : List ℕ) → bytes ≡ octets ++ rest → AreOctets octets → AreOctets (take (length octets) bytes)
-octets_copied octets rest bytes e p = rw (e, take_at octets rest (length octets) refl) p
-
--- octets copied to the start of an array of zeros
-pub zeros_copied : (size : ℕ) (octets bytes : List ℕ) → bytes ≡ octets ++ drop (length octets) (replicate size 0) → drop (length octets) bytes ≡ replicate (size - length octets) 0
-zeros_copied size octets bytes e =
-    ap (drop (length octets)) e
-    ∙ drop-append-drop (length octets) (replicate size 0) octets (length octets) (omega arith) refl
-    ∙ drop-replicate (length octets) size 0
-
--- zeros past a index are zeros past each later one
+-- zeros past an index are zeros past each later one
 zeros_past : (size used more : ℕ) (bytes : List ℕ) → drop used bytes ≡ replicate (size - used) 0 → drop (used + more) bytes ≡ replicate (size - (used + more)) 0
 zeros_past size used more bytes zeros =
     let fewer : size - used - more ≡ size - (used + more) = omega arith in

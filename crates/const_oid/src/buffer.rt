@@ -44,12 +44,10 @@ impl<const SIZE: usize> Buffer<SIZE> {
         requires { length octets.now ≤ min SIZE 255 }
         ensures { octets_of result ≡ octets.now }
     {
-        let mut bytes = [0; SIZE];
-        copy_to(octets, &mut bytes);
-        Buffer {
-            used: octets.len() as u8,
-            bytes,
-        }
+        let mut buffer = Buffer::empty();
+        copy_to(octets, &mut buffer.bytes);
+        buffer.used = octets.len() as u8;
+        buffer
     }
 
     /// Appends the group of a number, or answers `Length` where it does not fit.
