@@ -109,7 +109,7 @@ fn has_oid(entry: &(&Oid, &str), oid: &Oid) -> bool
     entry.0.as_oid_ref().eq_oid(oid)
 }
 
-/// Whether names are the same, of which the lengths are compared first.
+/// Whether names are the same. Lengths are compared first, and bytes before their case.
 pub(crate) fn is_same_name(a: &str, b: &str) -> bool
     ensures { result ≡ str_eq_ignore_ascii_case a.now b.now }
 {
@@ -119,7 +119,7 @@ pub(crate) fn is_same_name(a: &str, b: &str) -> bool
     }
     let mut index = 0;
     while index < a.len() {
-        if !a[index].eq_ignore_ascii_case(&b[index]) {
+        if a[index] != b[index] && !a[index].eq_ignore_ascii_case(&b[index]) {
             return false;
         }
         index += 1;

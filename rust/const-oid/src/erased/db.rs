@@ -125,7 +125,7 @@ const fn has_oid(entry: &(&Oid, &str), oid: &Oid) -> bool {
     entry.0.borrowed().eq_oid(oid)
 }
 
-/// Whether names are the same, of which the lengths are compared first.
+/// Whether names are the same. Lengths are compared first, and bytes before their case.
 pub(crate) const fn is_same_name(a: &str, b: &str) -> bool {
     let (a, b) = (a.as_bytes(), b.as_bytes());
     if a.len() != b.len() {
@@ -133,7 +133,7 @@ pub(crate) const fn is_same_name(a: &str, b: &str) -> bool {
     }
     let mut index = 0;
     while index < a.len() {
-        if !a[index].eq_ignore_ascii_case(&b[index]) {
+        if a[index] != b[index] && !a[index].eq_ignore_ascii_case(&b[index]) {
             return false;
         }
         index += 1;
