@@ -145,10 +145,12 @@ fn read(set: &[u8], size: usize) -> Vec<Oid> {
     set.chunks_exact(size).map(|piece| Oid::from_bytes(piece).unwrap()).collect()
 }
 
+#[inline(never)]
 fn sum(oids: &[Oid], partners: &[Oid], find: impl Fn(&Oid, &Oid) -> u64) -> u64 {
     oids.iter().zip(partners).fold(0, |total: u64, (oid, partner)| total.wrapping_add(find(oid, partner)))
 }
 
+#[inline(never)]
 fn store(oids: &[Oid], partners: &mut [Oid], make: impl Fn(&Oid) -> Option<Oid>) -> u64 {
     let mut count = 0;
     for (oid, partner) in oids.iter().zip(partners) {

@@ -18,8 +18,10 @@ use std::hash::{Hash, Hasher};
 /// alone makes it, so there is no public constructor.
 #[derive(Copy, Clone)]
 pub struct Buffer<const SIZE: usize> {
-    used: u8,
     bytes: [u8; SIZE],
+    used: u8,
+    // Empty. It aligns a buffer as an `Error` is, so a `Result` of one is moved in pieces that do not overlap.
+    aligned: [u32; 0],
     ghost within: { used ≤ min SIZE 255 },
     ghost octets: { AreOctets (take used bytes) } by { Prim.hlevel props },
     ghost zeros: { drop used bytes ≡ replicate (SIZE - used) 0 },
@@ -33,8 +35,9 @@ impl<const SIZE: usize> Buffer<SIZE> {
         ensures { octets_of result ≡ [] }
     {
         Buffer {
-            used: 0,
             bytes: [0; SIZE],
+            used: 0,
+            aligned: [],
         }
     }
 

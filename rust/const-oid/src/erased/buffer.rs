@@ -14,16 +14,19 @@ use core::hash::{Hash, Hasher};
 /// alone makes it, so there is no public constructor.
 #[derive(PartialEq, Eq, Copy, Clone)]
 pub struct Buffer<const SIZE: usize> {
-    used: u8,
     bytes: [u8; SIZE],
+    used: u8,
+    // Empty. It aligns a buffer as an `Error` is, so a `Result` of one is moved in pieces that do not overlap.
+    aligned: [u32; 0],
 }
 
 impl<const SIZE: usize> Buffer<SIZE> {
     /// A buffer with no octet in use.
     pub(crate) const fn empty() -> Self {
         Buffer {
-            used: 0,
             bytes: [0; SIZE],
+            used: 0,
+            aligned: [],
         }
     }
 
