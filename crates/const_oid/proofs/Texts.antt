@@ -4,8 +4,7 @@ use Rattle.std.specs.List.{AllByRecursion, join_with_byte}
 use Rattle.std.specs.Char.{is_ascii_digit}
 use Rattle.std.specs.Prelude.{Ok}
 use Rattle.std.specs.Str.{IsAscii}
-use Rattle.std.proofs.lemmas.Str.{IsAscii-append, IsAscii-drop, IsAscii-take}
-use Rattle.std.proofs.Math.Seq.{take-append_seam, drop-append_seam}
+use Rattle.std.proofs.lemmas.Str.{IsAscii-append}
 use Rattle.std.proofs.lemmas.List.Splits.{slice_split_at, slice_split_none}
 use Rattle.std.proofs.lemmas.Bool.Decides.{nat_tests}
 use Rattle.const_oid.specs.declared.error.Error.TheVariants.{ArcTooBig, DigitExpected}
@@ -15,7 +14,7 @@ use Rattle.const_oid.specs.Identifier.{RootRule, Narrow, Wide, max_arc, max_seco
 use Rattle.const_oid.specs.Items.{arc_fault}
 use Rattle.const_oid.specs.Text.{text_of, pieces_of, number_of, is_empty, is_one_empty, empty_fault, piece_fault, pieces_fault, text_fault, IsNumber, Denotes, strip_piece, strip, text_answer}
 use Rattle.const_oid.specs.Private.Text.{text_left, arc_text}
-use Rattle.const_oid.proofs.Decimals.{arc_text_ascii, arc_text_short}
+use Rattle.const_oid.proofs.Decimals.{arc_text_ascii}
 use Rattle.const_oid.proofs.Lists.{append-cons, all_at}
 use Rattle.const_oid.proofs.Faults.{both_none, false_from_none, below_from_none, none_from_below}
 use Rattle.const_oid.proofs.Items.{IsBegun, begun_more, arc_none, few_none, whole_from_begun}
@@ -180,22 +179,9 @@ texts_ascii is_first (arc ∷ arcs) h =
 pub text_ascii : (rule : RootRule) (arcs : List ℕ) → IsIdentifier rule arcs → IsAscii (text_of arcs)
 text_ascii rule arcs i = texts_ascii true arcs (arcs_small rule arcs i)
 
--- a piece of the text
-pub piece_ascii : (rule : RootRule) (arcs before piece after : List ℕ) → IsIdentifier rule arcs → before ++ (piece ++ after) ≡ text_of arcs → IsAscii piece
-piece_ascii rule arcs before piece after i e =
-    let left = IsAscii-drop _ (length before) (rw (sym e) at (text_ascii rule arcs i)) in
-    rw take-append_seam at (IsAscii-take _ (length piece) (rw drop-append_seam at left))
-
 -- the first two arcs take no more than all
 pub root_within : (arcs : List ℕ) → length (text_of (take 2 arcs)) ≤ length (text_of arcs)
 root_within [] = omega arith
 root_within (a ∷ []) = omega arith
 root_within (a ∷ b ∷ later) =
     omega (arith, ap length (text_of-first b later), length-append (decimal b) (text_left false later), length-append (decimal a) (46 ∷ text_of (b ∷ later)), length-append (decimal a) (46 ∷ decimal b))
-
-pub root_short : (rule : RootRule) (arcs : List ℕ) → IsIdentifier rule arcs → length (text_of (take 2 arcs)) ≤ 22
-root_short rule [] i = absurd i
-root_short rule (a ∷ []) i = absurd i
-root_short rule (a ∷ b ∷ later) i =
-    let small = second_small rule a b i.1 in
-    omega (arith, length-append (decimal a) (46 ∷ decimal b), arc_text_short true a (omega (arith, i.0)), arc_text_short false b (omega arith))

@@ -6,9 +6,11 @@ ghost use Rattle.const_oid.specs.Base128.{value_of};
 ghost use Rattle.const_oid.specs.Identifier.{root_rule};
 ghost use Rattle.const_oid.specs.Contents.{cut, later_fault, parts_fault, max_first, arcs_from, arcs_of_octets};
 
-use crate::Arc;
 use crate::parts::skip_parts;
 use std::marker::Model;
+
+/// An arc: a number of a path, of 32 bits.
+pub type Arc = u32;
 
 /// The arcs of an identifier that are left, in order. After the last comes `None`, each time.
 #[derive(Drop)]

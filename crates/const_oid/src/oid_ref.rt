@@ -17,7 +17,7 @@ use crate::digits::{MAX_ARC_LEN, write_arc};
 use crate::error::{Error, Result};
 use crate::oid::ObjectIdentifier;
 use crate::parts::{count_parts, without_last_part};
-use crate::text::{text_len, utf8, write_root, write_text};
+use crate::text::{text_len, utf8, write_text};
 use crate::valid::check;
 use std::cmp::Ordering;
 use std::fmt;
@@ -182,7 +182,7 @@ impl<'a> ObjectIdentifierRef<'a> {
     }
 }
 
-/// The most bytes of a text that `{}` writes at a time: the text of 40 octets fits.
+/// The most bytes of a text that `{}` writes in one piece.
 const PIECE: usize = 160;
 
 /// The arcs in decimal, joined by dots, whatever the options.
@@ -194,20 +194,21 @@ impl fmt::Display for ObjectIdentifierRef<'_> {
     ghost styled_output = { λ oid _. Some (text_of (ref_arcs oid)) };
 
     fn fmt<W: fmt::Write>(&self, f: &mut fmt::Formatter<W>) -> fmt::Result {
-        let mut bytes = [0; PIECE];
-        if let Some(text) = self.encode_str(&mut bytes) {
-            return f.write_str(text);
+        // An octet takes four bytes of text at most.
+        if self.ber.len() <= PIECE / 4 {
+            return match self.encode_str(&mut [0; PIECE]) {
+                Some(text) => f.write_str(text),
+                None => unreachable!(),
+            };
         }
-        let mut arcs = self.arcs();
-        let mut used = write_root(&mut arcs, &mut bytes);
-        for arc in arcs {
-            if used > PIECE - MAX_ARC_LEN {
-                f.write_str(utf8(&bytes[..used]))?;
-                used = 0;
-            }
-            used = write_arc(arc, false, &mut bytes, used);
+        let mut bytes = [0; MAX_ARC_LEN];
+        let mut is_first = true;
+        for arc in self.arcs() {
+            let len = write_arc(arc, is_first, &mut bytes, 0);
+            f.write_str(utf8(&bytes[..len]))?;
+            is_first = false;
         }
-        f.write_str(utf8(&bytes[..used]))
+        Ok(())
     }
 }
 

@@ -41,7 +41,7 @@ pub(crate) fn write_text(arcs: Arcs<'_>, out: &mut [u8]) -> usize
 
 /// Takes the first two arcs, writes them at the start, and returns the length.
 #[inline(always)]
-pub(crate) fn write_root(arcs: &mut Arcs<'_>, out: &mut [u8]) -> usize
+fn write_root(arcs: &mut Arcs<'_>, out: &mut [u8]) -> usize
     requires { length (text_of (take 2 arcs.old)) ≤ length out.old }
     ensures within { result ≤ length out.new }
     ensures prefix { take result out.new ++ text_left false arcs.new ≡ text_of arcs.old }

@@ -1,7 +1,8 @@
 //! The arcs of both forms: `len`, `arc` and `arcs`.
 
 use crate::vectors::{FIRST_GROUPS, long_octets};
-use const_oid::{Arc, Error, ObjectIdentifier, ObjectIdentifierRef};
+use const_oid::arcs::Arc;
+use const_oid::{Error, ObjectIdentifier, ObjectIdentifierRef};
 use std::alloc::AllocError;
 
 /// How octets begin, how many octets 01 follow, how they end; how many arcs they have, and the arcs at

@@ -123,3 +123,18 @@ fn long_texts(rt: HostRuntime) -> Result<(), Fail> {
     }
     Ok(())
 }
+
+/// Where `encode_str` returns `None`, it writes nothing. A clause of `encode_text` says so of that call.
+#[test]
+fn written_before_none(rt: HostRuntime) -> Result<(), Error> {
+    let oid = Oid::new("1.2.3")?;
+    let mut out = [b'x'; 5];
+    for len in 0..5 {
+        let is_none = oid.encode_str(&mut out[..len]).is_none()
+            && oid.as_oid_ref().encode_str(&mut out[..len]).is_none()
+            && Error::Length.encode_str(&mut out[..len]).is_none();
+        assert!(rt; is_none, "{len}");
+    }
+    assert_eq!(rt; out, [b'x'; 5]);
+    Ok(())
+}

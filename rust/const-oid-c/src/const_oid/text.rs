@@ -33,7 +33,7 @@ pub(crate) fn write_text(arcs: Arcs<'_>, out: &mut [u8]) -> usize {
 
 /// Takes the first two arcs, writes them at the start, and returns the length.
 #[inline(always)]
-pub(crate) fn write_root(arcs: &mut Arcs<'_>, out: &mut [u8]) -> usize {
+fn write_root(arcs: &mut Arcs<'_>, out: &mut [u8]) -> usize {
     let Some(first) = arcs.next() else {
         return 0;
     };

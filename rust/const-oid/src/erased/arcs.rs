@@ -2,8 +2,10 @@
 
 //! Contents octets read as arcs (X.690, 8.19.2 to 8.19.4).
 
-use crate::erased::Arc;
 use crate::erased::parts::skip_parts;
+
+/// An arc: a number of a path, of 32 bits.
+pub type Arc = u32;
 
 /// The arcs of an identifier that are left, in order. After the last comes `None`, each time.
 pub struct Arcs<'a> {

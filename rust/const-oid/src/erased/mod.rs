@@ -19,11 +19,8 @@ mod parts;
 mod text;
 mod valid;
 
-pub use arcs::Arcs;
+pub use arcs::{Arc, Arcs};
 pub use buffer::Buffer;
 pub use error::{Error, Result};
 pub use oid::{ObjectIdentifier, Oid};
 pub use oid_ref::ObjectIdentifierRef;
-
-/// An arc: a number of a path, of 32 bits.
-pub type Arc = u32;

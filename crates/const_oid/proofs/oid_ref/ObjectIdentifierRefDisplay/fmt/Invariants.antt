@@ -1,14 +1,12 @@
-use Rattle.std.proofs.Common.{false, ◌≡◌, ◌≤◌, ℕ, List, ◌++◌, take}
+use Rattle.std.proofs.Common.{◌≡◌, List, ℕ, ◌++◌}
 use Rattle.std.specs.Fmt.{HasWrittenStyled, IsFlush}
 use Rattle.const_oid.specs.OidRef.{ref_arcs}
 use Rattle.const_oid.specs.Text.{text_of}
 use Rattle.const_oid.specs.Private.Text.{text_left}
 use Rattle.const_oid.proofs.oid_ref.ObjectIdentifierRefDisplay.fmt.Given as goal
 
--- what is handed on, what is at hand, and the text of the arcs left, are the text of all
+-- what is written, and the text of the arcs left, are the text of all
 abbrev pub invariant-loop-arc : goal.invariant-loop-arc
-invariant-loop-arc g l = record {
-  within : l.used ≤ 160;
-  writes : (before : List ℕ) × (IsFlush l.initial.f → HasWrittenStyled g.W.Write.write_str_gives l.initial.f before l.f)
-      × (before ++ (take l.used l.bytes ++ text_left false l.arc-iterator) ≡ text_of (ref_arcs l.self));
-}
+invariant-loop-arc g l =
+    (before : List ℕ) × (IsFlush l.initial.f → HasWrittenStyled g.W.Write.write_str_gives l.initial.f before l.f)
+    × (before ++ text_left l.is_first l.arc-iterator ≡ text_of (ref_arcs l.self))
