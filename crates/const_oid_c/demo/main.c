@@ -150,7 +150,7 @@ static void subtree_row(char *rest) {
     }
     if (range.start != 7 || range.end != 7) fail("a range was written");
     refused(status);
-    if (const_oid_check(prefix.octets, prefix.len).code == CONST_OID_OK) printf(" at %zu", status.len);
+    printf(" at %zu", status.len);
 }
 
 static void in_word(const_oid_status status, const char *const *words) {

@@ -1,5 +1,5 @@
 /* Checks that the library keeps what the header says for all calls: null with length 0, the layouts,
- * the constants, the version, and outputs that stay unchanged. */
+ * the constants, codes and orders, the version, and outputs that stay unchanged. */
 #include "const_oid.h"
 
 #include <stdio.h>
@@ -83,6 +83,60 @@ static void layouts(void) {
     SEE(offsetof(const_oid_range, end) == 8);
 }
 
+/* The numbers that compiled programs hold. */
+static void numbers(void) {
+    static const int codes[] = {CONST_OID_OK, CONST_OID_ARC_INVALID, CONST_OID_ARC_TOO_BIG,
+        CONST_OID_BASE128, CONST_OID_DIGIT_EXPECTED, CONST_OID_EMPTY, CONST_OID_LENGTH,
+        CONST_OID_OVERFLOW, CONST_OID_REPEATED_DOT, CONST_OID_TRAILING_DOT,
+        CONST_OID_OUTPUT_TOO_SHORT, CONST_OID_NOT_UTF8, CONST_OID_NONE, CONST_OID_UNSORTED};
+    static const int orders[] = {CONST_OID_LESS, CONST_OID_EQUAL, CONST_OID_GREATER};
+    for (int i = 0; i < 14; i++) SEE(codes[i] == i);
+    for (int i = 0; i < 3; i++) SEE(orders[i] == i);
+    SEE(CONST_OID_MAX_OCTETS == 255 && CONST_OID_MAX_TEXT == 1020 && CONST_OID_MAX_ARCS == 256);
+    SEE(CONST_OID_USUAL_OCTETS == 39 && CONST_OID_MAX_ERROR_TEXT == 47);
+}
+
+static const_oid_status read_text(const char *text) {
+    uint8_t out[CONST_OID_MAX_OCTETS];
+    return const_oid_from_text((const uint8_t *)text, strlen(text), out, sizeof out);
+}
+
+/* Each code is that of the fault in its comment. */
+static void codes(void) {
+    static const uint8_t big[] = {0x2A, 0x90, 0x80, 0x80, 0x80, 0x00};
+    static const uint8_t long_form[] = {0x2A, 0x80, 0x01};
+    static const uint8_t unfinished[] = {0x2A, 0x81};
+    static const uint8_t large[CONST_OID_MAX_OCTETS + 1] = {0x2A};
+    const const_oid_octets unsorted[] = {{oid, 3}, {oid, 2}};
+    uint8_t out[CONST_OID_MAX_ERROR_TEXT];
+    const_oid_range range = {7, 7};
+    SEE(read_text("1.2.3").code == CONST_OID_OK);
+    SEE(is(read_text("3.1"), CONST_OID_ARC_INVALID, 3, 0));
+    SEE(is(read_text("1.40"), CONST_OID_ARC_INVALID, 40, 0));
+    SEE(is(read_text("1.2.4294967296"), CONST_OID_ARC_TOO_BIG, 0, 0));
+    SEE(is(const_oid_check(big, sizeof big), CONST_OID_ARC_TOO_BIG, 0, 0));
+    SEE(is(const_oid_check(long_form, sizeof long_form), CONST_OID_BASE128, 0, 0));
+    SEE(is(const_oid_check(unfinished, sizeof unfinished), CONST_OID_BASE128, 0, 0));
+    SEE(is(read_text("1.2.X"), CONST_OID_DIGIT_EXPECTED, 'X', 0));
+    SEE(is(read_text(""), CONST_OID_EMPTY, 0, 0) && is(read_text("1"), CONST_OID_EMPTY, 0, 0));
+    SEE(is(const_oid_parent(large, sizeof large, out, sizeof out), CONST_OID_LENGTH, 0, 0));
+    SEE(is(const_oid_error_text(CONST_OID_OVERFLOW, 0, out, sizeof out), CONST_OID_OK, 0, 33));
+    SEE(memcmp(out, "arithmetic calculation overflowed", 33) == 0);
+    SEE(is(read_text("1..2"), CONST_OID_REPEATED_DOT, 0, 0));
+    SEE(is(read_text("1.2."), CONST_OID_TRAILING_DOT, 0, 0));
+    SEE(is(const_oid_to_text(oid, 3, out, 6), CONST_OID_OUTPUT_TOO_SHORT, 0, 7));
+    SEE(is(read_text("\xFF"), CONST_OID_NOT_UTF8, 0, 0));
+    SEE(is(const_oid_arc(oid, 3, 4), CONST_OID_NONE, 0, 0));
+    SEE(is(const_oid_subtree(oid, 1, unsorted, 2, &range), CONST_OID_UNSORTED, 0, 1));
+}
+
+/* Each order is that of the two identifiers in its comment. */
+static void orders(void) {
+    SEE(is(const_oid_cmp(oid, 2, oid, 3), CONST_OID_OK, CONST_OID_LESS, 0));
+    SEE(is(const_oid_cmp(oid, 3, oid, 3), CONST_OID_OK, CONST_OID_EQUAL, 0));
+    SEE(is(const_oid_cmp(oid, 3, oid, 2), CONST_OID_OK, CONST_OID_GREATER, 0));
+}
+
 /* The longest text of a code and a detail is as long as the constant says. */
 static void longest_error_text(void) {
     static const uint32_t details[] = {0, 9, 10, 99, 127, 128, 255, 256, 4294967295u};
@@ -130,6 +184,9 @@ int main(void) {
     null_inputs();
     null_outputs();
     layouts();
+    numbers();
+    codes();
+    orders();
     longest_error_text();
     constants();
     rest_of_output();

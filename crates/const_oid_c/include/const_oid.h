@@ -1,5 +1,8 @@
 /* Object identifiers (ITU-T X.660) for C99 and C++: dotted text, arcs, and the contents octets of
- * ITU-T X.690 section 8.19, without tag and length. Each call is proved to answer as its comment says.
+ * ITU-T X.690 section 8.19, without tag and length. The source is proved: each call returns what its
+ * comment says. Rattle builds the library from this source. cargo builds it from Rust that is
+ * generated from this source, and from code for pointers that is written by hand: that build is
+ * tested, not proved.
  *
  * What a caller promises, for all calls:
  *
@@ -15,8 +18,9 @@
  *   looks for a zero byte or writes one.
  * - Threads. Any threads may make calls at once. While a call runs, no other thread writes its inputs
  *   or touches its output.
- * - Machines. size_t has 64 bits. The library that Rattle builds takes an x86-64 processor of level 2
- *   (popcnt and SSE4.1). The one that cargo builds is for the targets of rustc.
+ * - Machines. The system is Linux with glibc, and size_t has 64 bits. The library that Rattle builds
+ *   takes an x86-64 processor of level 2 (popcnt and SSE4.1). The one that cargo builds is for each
+ *   processor for which rustc has a target with such a system. It is tested on x86-64.
  * - Octets. They follow the tag and the length, and no call removes these. A whole 06 09 2A 86 .. is
  *   no error: it is read as 0.6.9.42...
  *
@@ -108,8 +112,8 @@ enum const_oid_order {
  * - `detail` is, on success, the arc of const_oid_arc, 1 or 0 of starts_with and eq, or the order of
  *   a comparison. With ARC_INVALID it is the arc, and with DIGIT_EXPECTED the byte. Otherwise it is 0.
  * - `len` is, on success, how many items the call wrote or counted. With OUTPUT_TOO_SHORT it is how
- *   many items the answer has. If an item of a list is wrong, it is the index of this item. Otherwise
- *   it is 0. */
+ *   many items the answer has. If an item of a list is wrong, it is the index of this item. If the
+ *   identifier of const_oid_subtree is wrong, it is `count`, which no item has. Otherwise it is 0. */
 typedef struct const_oid_status {
     uint32_t code;
     uint32_t detail;
@@ -203,8 +207,9 @@ const_oid_status const_oid_cmp_owned(
 /* Finds the items of a sorted list that begin with an identifier, which may be an item itself. They
  * are the items of `range`. `range.start` is the number of items that come before the identifier. The
  * order is that of const_oid_cmp. Items may have any length and may be repeated. The call checks the
- * whole list. Refused by the fault of the identifier, or else by the first item that has a fault or,
- * by UNSORTED, comes before the previous item. `range` is then unchanged. */
+ * whole list. Refused by the fault of the identifier, with `count` in `len`, or else by the first item
+ * that has a fault or, by UNSORTED, comes before the previous item, with its index in `len`. `range` is
+ * then unchanged. */
 const_oid_status const_oid_subtree(
     const uint8_t *octets, size_t len, const const_oid_octets *sorted, size_t count,
     const_oid_range *CONST_OID_RESTRICT range);

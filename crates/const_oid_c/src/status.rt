@@ -27,7 +27,8 @@ pub struct Status {
     /// code 4 the byte. Otherwise 0.
     pub detail: u32,
     /// With code 0 the number of items that were written or counted. With code 10 the number of items
-    /// of the answer. For a wrong item of a list its index. Otherwise 0.
+    /// of the answer. For a wrong item of a list its index, and for a wrong identifier that comes with
+    /// a list the number of items of the list. Otherwise 0.
     pub len: usize,
 }
 

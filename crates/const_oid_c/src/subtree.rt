@@ -4,10 +4,10 @@ ghost use Rattle.std.specs.Cmp.Lexicographic.{slice_cmp};
 ghost use Rattle.std.specs.List.{starts_with};
 ghost use Rattle.std.specs.Ordering.{nat_cmp, is_lt};
 ghost use Rattle.const_oid.specs.Tree.{BeginsWith};
-ghost use Rattle.const_oid_c.specs.Subtree.{octets_at, item_fault, list_fault, subtree_status};
+ghost use Rattle.const_oid_c.specs.Subtree.{octets_at, fault_at, item_fault, list_fault, subtree_status};
 
 use crate::status::{Status, UNSORTED, error_status, len_status};
-use const_oid::ObjectIdentifierRef;
+use const_oid::{Error, ObjectIdentifierRef};
 
 /// The contents octets of one identifier of a list.
 #[repr(C)]
@@ -32,7 +32,8 @@ pub struct Range {
     pub end: usize,
 }
 
-/// Finds the identifiers that begin with another one in a sorted list. All may have any length.
+/// Finds the identifiers that begin with another one in a sorted list. All may have any length. A fault
+/// of that other one is at the number of items, which no item has as its index.
 #[tactic(auto, using(crate::proofs::ListFaults::list_code))]
 #[unsafe(no_mangle)]
 pub extern "C" fn const_oid_subtree(
@@ -51,7 +52,7 @@ pub extern "C" fn const_oid_subtree(
 {
     match ObjectIdentifierRef::from_bytes(octets) {
         Ok(_) => {}
-        Err(fault) => return error_status(fault),
+        Err(fault) => return fault_at(sorted.len(), fault),
     }
     match list_fault(sorted) {
         Some(status) => status,
@@ -109,9 +110,16 @@ fn item_fault(index: usize, before: &[u8], octets: &[u8]) -> Option<Status>
             len: index,
         }),
         Ok(_) => None,
-        Err(fault) => Some(Status {
-            len: index,
-            ..error_status(fault)
-        }),
+        Err(fault) => Some(fault_at(index, fault)),
+    }
+}
+
+/// The status of a fault of the octets at an index.
+fn fault_at(index: usize, fault: Error) -> Status
+    ensures { result ≡ fault_at index fault }
+{
+    Status {
+        len: index,
+        ..error_status(fault)
     }
 }

@@ -3,7 +3,7 @@
 //! Descendants of an identifier in a sorted list.
 
 use crate::calls::status::{Status, UNSORTED, error_status, len_status};
-use crate::const_oid::ObjectIdentifierRef;
+use crate::const_oid::{Error, ObjectIdentifierRef};
 
 /// The contents octets of one identifier of a list.
 #[repr(C)]
@@ -28,7 +28,8 @@ pub struct Range {
     pub end: usize,
 }
 
-/// Finds the identifiers that begin with another one in a sorted list. All may have any length.
+/// Finds the identifiers that begin with another one in a sorted list. All may have any length. A fault
+/// of that other one is at the number of items, which no item has as its index.
 pub fn const_oid_subtree(
     octets: &[u8],
     sorted: &[Octets<'_>],
@@ -36,7 +37,7 @@ pub fn const_oid_subtree(
 ) -> Status {
     match ObjectIdentifierRef::from_bytes(octets) {
         Ok(_) => {}
-        Err(fault) => return error_status(fault),
+        Err(fault) => return fault_at(sorted.len(), fault),
     }
     match list_fault(sorted) {
         Some(status) => status,
@@ -85,9 +86,14 @@ fn item_fault(index: usize, before: &[u8], octets: &[u8]) -> Option<Status> {
             len: index,
         }),
         Ok(_) => None,
-        Err(fault) => Some(Status {
-            len: index,
-            ..error_status(fault)
-        }),
+        Err(fault) => Some(fault_at(index, fault)),
+    }
+}
+
+/// The status of a fault of the octets at an index.
+fn fault_at(index: usize, fault: Error) -> Status {
+    Status {
+        len: index,
+        ..error_status(fault)
     }
 }
