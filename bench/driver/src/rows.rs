@@ -88,6 +88,11 @@ pub fn small(dice: &mut Dice) -> Vec<Row> {
         rows.extend(call_rows(size, goal, &set));
         rows.extend(repeated_rows(size, goal, &set));
     }
+    for octets in [9, 39, 100, 1000] {
+        let set: Vec<Vec<u8>> = (0..1 + 400 / octets).map(|_| dice.identifier(octets)).collect();
+        let size = format!("{octets} octets");
+        rows.push(of_calls("from_bytes and Display", &size, 1.0, &set, 0, [ours_display, rust_display]));
+    }
     rows
 }
 

@@ -38,6 +38,8 @@ calls! {
         coded(ObjectIdentifierRef::from_bytes(octets).map(|oid| oid.as_bytes().len() as u64));
     ours_print rust_print |octets, _number, output|
         coded(ObjectIdentifierRef::from_bytes(octets).map(|oid| print(oid, output)));
+    ours_display rust_display |octets, _number, _output|
+        coded(ObjectIdentifierRef::from_bytes(octets).map(|oid| display(oid)));
     ours_len rust_len |octets, _number, _output|
         coded(ObjectIdentifierRef::from_bytes(octets).map(|oid| oid.len() as u64));
     ours_arc rust_arc |octets, number, _output|
@@ -214,6 +216,25 @@ impl fmt::Write for Page<'_> {
         self.used = end;
         Ok(())
     }
+}
+
+/// The bytes of a text as one number.
+struct Digest {
+    sum: u64,
+}
+
+impl fmt::Write for Digest {
+    fn write_str(&mut self, text: &str) -> fmt::Result {
+        for byte in text.as_bytes() {
+            self.sum = self.sum.wrapping_mul(31).wrapping_add(u64::from(*byte));
+        }
+        Ok(())
+    }
+}
+
+fn display<T: fmt::Display + ?Sized>(value: &T) -> u64 {
+    let mut digest = Digest { sum: 0 };
+    write!(digest, "{value}").map_or(NOTHING, |()| digest.sum >> 1)
 }
 
 fn print<T: fmt::Display + ?Sized>(value: &T, output: &mut [u8]) -> u64 {
