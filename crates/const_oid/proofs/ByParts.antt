@@ -19,7 +19,7 @@ use Rattle.const_oid.proofs.Encodings.{cut_encoding, same_arcs, same_octets}
 use Rattle.const_oid.proofs.Orders.{groups_cmp, groups_short, nat_cmp-add, shortlex_cmp-less, shortlex_cmp-prefix}
 use Rattle.const_oid.proofs.Subidentifiers.{second_low}
 
--- ---- octets compared from a index on
+-- ---- octets compared from an index on
 
 -- the first part begins with the first octet
 begins : (x : ℕ) (xs : List ℕ) → (part : List ℕ) × (parts : List (List ℕ)) × (cut (x ∷ xs) ≡ (x ∷ part) ∷ parts)

@@ -32,7 +32,7 @@ pub after_more : (octets : List ℕ) (i left ended : ℕ) → i < length octets 
 after_more octets i left ended inside some one none =
     rw (add-one, drop-cons octets i 0 inside) (drop-cut_after (get_or octets i 0) left ended (cut (drop (suc i) octets)) some one none)
 
--- ---- the arc at a index, by the octets after the parts before it
+-- ---- the arc at an index, by the octets after the parts before it
 
 none_left : {X : Type 0} (k : ℕ) (xs : List X) → [] ≡ drop k xs → None ≡ slice_get xs k
 none_left zero [] e = refl

@@ -37,7 +37,7 @@ module _ {X : Type 0} (p : X → Bool) where
     | false ↦ λ e. rw (sum_by-cons (λ y. cond (p y) 1 0) x xs, e) (omega (arith, count_by-none xs (λ k d l. false_from_ne_true (p (get_or xs k d)) (λ t. cc (cut 0 (suc k) d (omega arith) (omega arith) t, e)))))
   ] refl
 
--- a index where a test cuts a list is the number of those that pass
+-- an index where a test cuts a list is the number of those that pass
 point_is_prefix : {X : Type 0} (p : X → Bool) (xs : List X) (a : ℕ) → a ≤ length xs → IsPartitionPoint (λ x. p x ≡ true) (λ x. p x ≡ false) xs a → a ≡ prefix_len p xs
 point_is_prefix p [] a l cut = omega (arith)
 point_is_prefix p (x ∷ xs) zero l cut = rw (cut.1 0 x (omega arith) (omega arith)) refl

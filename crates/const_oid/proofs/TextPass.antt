@@ -205,7 +205,7 @@ text_pass-end octets_in rule capacity before None result n f e = cc
 text_pass-end octets_in rule capacity before (Some arc) (Ok x) n f e = rw (← n, ← f) (ap Ok (arcs_of_encoding rule (before ++ arc ∷ []) (octets_in x) e))
 text_pass-end octets_in rule capacity before (Some arc) (Err fault) n f e = rw (← n, ← f) refl
 
--- ---- one byte of a text at a index
+-- ---- one byte of a text at an index
 
 -- whether a byte is a digit, by the number that it stands for
 pub is_digit : (byte digit : ℕ) → Some digit ≡ then_some (is_ascii_digit byte) (byte - 48) → (is_ascii_digit byte ≡ true) × (digit ≡ byte - 48)
