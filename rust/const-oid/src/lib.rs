@@ -2,8 +2,8 @@
 //! heap: the API of the crate const-oid 0.10.2, by the RustCrypto developers.
 //!
 //! `rust/erase` makes the module `erased` from sources in Rattle, without what only their checker reads.
-//! Its types are the types of this crate. The other modules are forms, in which each function is one
-//! call.
+//! Its types are the types of this crate. The other modules are wrappers, which call it and convert what
+//! it returns.
 //!
 //! ```
 //! use const_oid::{ObjectIdentifier, ObjectIdentifierRef};

@@ -39,7 +39,7 @@ impl ObjectIdentifierRef {
     }
 
     /// Reads contents octets (X.690, 8.19) of any length. The errors are those of
-    /// [`ObjectIdentifier::from_bytes`].
+    /// [`ObjectIdentifier::from_bytes`], except [`Error::Length`], which does not occur.
     ///
     /// ```
     /// use const_oid::{Error, ObjectIdentifierRef};
