@@ -9,6 +9,7 @@ ghost use Rattle.std.specs.declared.cmp.Ordering.TheVariants.{Less};
 ghost use Rattle.const_oid.specs.OidRef.{ref_arcs};
 ghost use Rattle.const_oid.specs.Tree.{BeginsWith};
 ghost use Rattle.uses.specs.Walk.{key_arcs, IsNext};
+ghost use Rattle.uses.specs.declared.walk.ByArcs.{ByArcs};
 
 use const_oid::{ObjectIdentifier, ObjectIdentifierRef};
 use std::cmp::Ordering;
@@ -89,7 +90,8 @@ pub fn next_after<'a>(sorted: &'a [ByArcs], oid: &ObjectIdentifierRef<'_>) -> Op
     sorted.get(index)
 }
 
-/// The next key under a root, or `None` at the end of its subtree.
+/// The next key of a sorted list after an identifier where it is under a root: so `None` at the end of the
+/// root's subtree.
 pub fn next_under<'a>(
     sorted: &'a [ByArcs],
     root: &ObjectIdentifierRef<'_>,
@@ -98,6 +100,8 @@ pub fn next_under<'a>(
     requires { IsSortedByKey key_arcs (slice_cmp nat_cmp) sorted.now }
     ensures found { IfSome result (λ next. IsNext sorted.now (ref_arcs oid.now) next.now
         × BeginsWith (key_arcs next.now) (ref_arcs root.now)) }
+    ensures none { IfNone result ((next : ByArcs) → IsNext sorted.now (ref_arcs oid.now) next
+        → ¬ BeginsWith (key_arcs next) (ref_arcs root.now)) }
     ensures end { IfNone result (BeginsWith (ref_arcs oid.now) (ref_arcs root.now)
         → All (λ key. BeginsWith (key_arcs key) (ref_arcs root.now)
         → slice_cmp nat_cmp (ref_arcs oid.now) (key_arcs key) ≢ Less) sorted.now) }

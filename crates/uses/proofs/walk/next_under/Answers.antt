@@ -1,4 +1,4 @@
-use Rattle.std.proofs.Common.{◌≡◌, ◌≢◌, ℕ, Bool, true, false, List, IfNone, Bor, Less, ap, ◌∙◌}
+use Rattle.std.proofs.Common.{◌≡◌, ◌≢◌, ℕ, Bool, true, false, List, IfNone, Bor, Less, ap, ◌∙◌, subst}
 use Rattle.std.specs.Bool.{then_some}
 use Rattle.std.specs.Cmp.Lexicographic.{slice_cmp}
 use Rattle.std.specs.List.{All}
@@ -7,6 +7,7 @@ use Rattle.std.proofs.lemmas.Cmp.{nat_list_cmp_total}
 use Rattle.const_oid.specs.OidRef.{ref_arcs}
 use Rattle.const_oid.specs.Tree.{BeginsWith}
 use Rattle.const_oid.proofs.ByParts.{run_between}
+use Rattle.uses.proofs.IsNext.{same_next}
 use Rattle.uses.specs.declared.walk.ByArcs.{ByArcs}
 use Rattle.uses.specs.Walk.{key_arcs, IsNext}
 use Rattle.uses.proofs.walk.next_under.Goals as goal
@@ -23,6 +24,18 @@ module _ (keys : List ByArcs) (arcs root : List ℕ) (begun : BeginsWith arcs ro
 ended : (keys : List ByArcs) (arcs root : List ℕ) (next : Bor ByArcs) (under : Bool) → IsNext keys arcs next.now → (BeginsWith (key_arcs next.now) root → under ≡ true) → IfNone (then_some under next) (BeginsWith arcs root → All (λ key. BeginsWith (key_arcs key) root → slice_cmp nat_cmp arcs (key_arcs key) ≢ Less) keys)
 ended keys arcs root next true is decided = tt
 ended keys arcs root next false is decided = λ begun. none_under keys arcs root begun next.now is (λ b. cc (decided b))
+
+-- where the test says that the next key is not under the root, no next key is, since its arcs are the same
+not_under : (keys : List ByArcs) (arcs root : List ℕ) (next : Bor ByArcs) (under : Bool) → IsNext keys arcs next.now → (BeginsWith (key_arcs next.now) root → under ≡ true) → IfNone (then_some under next) ((other : ByArcs) → IsNext keys arcs other → BeginsWith (key_arcs other) root → ⊥)
+not_under keys arcs root next true is decided = tt
+not_under keys arcs root next false is decided = λ other same begun.
+    let b = decided (subst (λ xs. BeginsWith xs root) (same_next keys arcs other next.now same is) begun) in
+    cc
+
+pub returns-clause-none : goal.returns-clause-none
+returns-clause-none c =
+    let decided = rw c.as_oid_ref.ensures.arcs at c.starts_with.ensures.1 in
+    rw c.then_some.ensures (not_under c.args.sorted.now (ref_arcs c.args.oid.now) (ref_arcs c.args.root.now) c.in_ok-next.next c.starts_with.result c.in_ok-next.ensures.found decided)
 
 pub returns-clause-end : goal.returns-clause-end
 returns-clause-end c =
