@@ -1,1 +1,2 @@
 pub mod IsNext
+pub mod Rows

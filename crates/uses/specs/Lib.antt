@@ -1,1 +1,2 @@
+pub mod AttributeTypes
 pub mod Walk

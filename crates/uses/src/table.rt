@@ -1,5 +1,10 @@
 //! Attribute types of a directory (RFC 4519), as a table of constants.
 
+ghost use Rattle.std.specs.Prelude.{◌≡◌, ◌↔◌, IsTrue, Some};
+ghost use Rattle.std.specs.List.{Any};
+ghost use Rattle.const_oid.specs.OidRef.{ref_arcs};
+ghost use Rattle.uses.specs.AttributeTypes.{attribute_types, first_arcs};
+
 use const_oid::ObjectIdentifierRef;
 use const_oid::db::RefDatabase;
 
@@ -80,14 +85,18 @@ pub const ATTRIBUTE_TYPES: [(ObjectIdentifierRef<'static>, &str); 12] = [
 ];
 
 /// Whether an attribute type has this name, in any case.
-pub fn is_named(oid: &ObjectIdentifierRef<'_>, name: &str) -> bool {
+pub fn is_named(oid: &ObjectIdentifierRef<'_>, name: &str) -> bool
+    ensures { IsTrue result ↔ (first_arcs attribute_types name.now ≡ Some (ref_arcs oid.now)) }
+{
     match RefDatabase::new(&ATTRIBUTE_TYPES).by_name(name) {
-        Some(found) => found.as_bytes() == oid.as_bytes(),
+        Some(found) => found == *oid,
         None => false,
     }
 }
 
 /// Whether the table has an attribute type.
-pub fn is_attribute_type(oid: &ObjectIdentifierRef<'_>) -> bool {
+pub fn is_attribute_type(oid: &ObjectIdentifierRef<'_>) -> bool
+    ensures { IsTrue result ↔ Any (λ row. row.0 ≡ ref_arcs oid.now) attribute_types }
+{
     RefDatabase::new(&ATTRIBUTE_TYPES).by_oid(oid).is_some()
 }

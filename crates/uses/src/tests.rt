@@ -6,7 +6,7 @@ use crate::fixed::printed;
 use crate::generic::{child_in, widened};
 use crate::schema::{Attribute, CommonName, Country, find, has_type};
 use crate::subtree::range_of;
-use crate::table::{is_attribute_type, is_named};
+use crate::table::{ATTRIBUTE_TYPES, is_attribute_type, is_named};
 use crate::theorems;
 use const_oid::db::Database;
 use const_oid::{Arc, AssociatedOid, Error, ObjectIdentifierRef, Oid};
@@ -106,12 +106,39 @@ fn attributes(rt: HostRuntime) {
     assert!(rt; has_type::<Country>(&attribute) && !has_type::<CommonName>(&attribute));
 }
 
+/// Attribute types and their names (RFC 4519, section 2).
+const ATTRIBUTE_ROWS: &[(&str, &str)] = &[
+    ("cn", "2.5.4.3"),
+    ("sn", "2.5.4.4"),
+    ("serialNumber", "2.5.4.5"),
+    ("c", "2.5.4.6"),
+    ("l", "2.5.4.7"),
+    ("st", "2.5.4.8"),
+    ("street", "2.5.4.9"),
+    ("o", "2.5.4.10"),
+    ("ou", "2.5.4.11"),
+    ("title", "2.5.4.12"),
+    ("uid", "0.9.2342.19200300.100.1.1"),
+    ("dc", "0.9.2342.19200300.100.1.25"),
+];
+
+/// The table has each row, and no other.
 #[test]
-fn attribute_types(rt: HostRuntime) {
+fn attribute_types(rt: HostRuntime) -> Result<(), Fail> {
+    assert!(rt; ATTRIBUTE_TYPES.len() == ATTRIBUTE_ROWS.len());
+    for (name, text) in ATTRIBUTE_ROWS {
+        let oid = Oid::new(text)?;
+        assert!(rt; is_named(&oid.as_oid_ref(), name), "{name}");
+        assert!(rt; is_attribute_type(&oid.as_oid_ref()), "{name}");
+    }
+    Ok(())
+}
+
+/// A name in another case, and identifiers that the table has by another name or not at all.
+#[test]
+fn other_names(rt: HostRuntime) {
     let unit = Oid::new_unwrap("2.5.4.11");
-    let domain = Oid::new_unwrap("0.9.2342.19200300.100.1.25");
     assert!(rt; is_named(&unit.as_oid_ref(), "OU") && !is_named(&unit.as_oid_ref(), "o"));
-    assert!(rt; is_named(&domain.as_oid_ref(), "dc") && is_attribute_type(&domain.as_oid_ref()));
     assert!(rt; !is_attribute_type(&EC_PUBLIC_KEY));
 }
 

@@ -1,0 +1,29 @@
+-- The attribute types of a directory that the table has.
+use Rattle.std.specs.Prelude.{ℕ, List, [], ◌∷◌, Option, codes, find}
+use Rattle.std.specs.Option.{option_map}
+use Rattle.std.specs.Str.{str_eq_ignore_ascii_case}
+
+-- a row of a table: arcs and their name
+abbrev pub Row : Type 0
+Row = List ℕ × List ℕ
+
+-- the arcs of the first row of this name, in any case
+abbrev pub first_arcs : List Row → List ℕ → Option (List ℕ)
+first_arcs rows name = option_map (λ row. row.0) (find (λ row. str_eq_ignore_ascii_case row.1 name) rows)
+
+-- attribute types with their names (RFC 4519, section 2)
+unfoldable pub attribute_types : List Row
+attribute_types =
+    (2 ∷ 5 ∷ 4 ∷ 3 ∷ [], codes "cn")
+    ∷ (2 ∷ 5 ∷ 4 ∷ 4 ∷ [], codes "sn")
+    ∷ (2 ∷ 5 ∷ 4 ∷ 5 ∷ [], codes "serialNumber")
+    ∷ (2 ∷ 5 ∷ 4 ∷ 6 ∷ [], codes "c")
+    ∷ (2 ∷ 5 ∷ 4 ∷ 7 ∷ [], codes "l")
+    ∷ (2 ∷ 5 ∷ 4 ∷ 8 ∷ [], codes "st")
+    ∷ (2 ∷ 5 ∷ 4 ∷ 9 ∷ [], codes "street")
+    ∷ (2 ∷ 5 ∷ 4 ∷ 10 ∷ [], codes "o")
+    ∷ (2 ∷ 5 ∷ 4 ∷ 11 ∷ [], codes "ou")
+    ∷ (2 ∷ 5 ∷ 4 ∷ 12 ∷ [], codes "title")
+    ∷ (0 ∷ 9 ∷ 2342 ∷ 19200300 ∷ 100 ∷ 1 ∷ 1 ∷ [], codes "uid")
+    ∷ (0 ∷ 9 ∷ 2342 ∷ 19200300 ∷ 100 ∷ 1 ∷ 25 ∷ [], codes "dc")
+    ∷ []
