@@ -3,12 +3,13 @@
 ghost use Rattle.std.specs.Prelude.{◌≡◌, ◌↔◌, IsTrue, IsOk, IfOk};
 ghost use Rattle.std.specs.Ordering.{nat_cmp};
 ghost use Rattle.std.specs.Cmp.Lexicographic.{slice_cmp};
+ghost use Rattle.const_oid.specs.Buffer.{octets_of};
 ghost use Rattle.const_oid.specs.Oid.{oid_octets, oid_arcs};
 ghost use Rattle.const_oid.specs.OidRef.{ref_octets, ref_arcs};
 ghost use Rattle.const_oid.specs.Orders.{shortlex_cmp};
 
 use crate::vectors::ASCENDING;
-use const_oid::{Error, ObjectIdentifier, ObjectIdentifierRef, Oid};
+use const_oid::{Buffer, Error, ObjectIdentifier, ObjectIdentifierRef, Oid};
 use std::alloc::AllocError;
 use std::cmp::Ordering;
 use std::test::Fail;
@@ -49,6 +50,14 @@ fn ref_clone_of<'a>(oid: &ObjectIdentifierRef<'a>) -> Result<ObjectIdentifierRef
     ensures equal { IfOk result (λ copy. copy ≡ oid.now) }
 {
     oid.clone()
+}
+
+/// A caller of `clone`, which is proved and not run: no public call returns a buffer.
+fn buffer_clone_of<const N: usize>(buffer: &Buffer<N>) -> Result<Buffer<N>, AllocError>
+    ensures always { IsOk result }
+    ensures equal { IfOk result (λ copy. octets_of copy ≡ octets_of buffer.now) }
+{
+    buffer.clone()
 }
 
 /// Identifiers in the owned order.
