@@ -1,8 +1,9 @@
-//! How slices of octets compare.
+//! How slices of octets and names compare.
 
 ghost use Rattle.std.specs.Prelude.{◌≡◌, ◌↔◌, ℕ, ◌+◌, ◌≤◌, List, ◌++◌, length, take, drop, nat_eq, IsTrue};
 ghost use Rattle.std.specs.Cmp.Lexicographic.{pointwise, slice_cmp};
 ghost use Rattle.std.specs.Ordering.{nat_cmp};
+ghost use Rattle.std.specs.Str.{str_eq_ignore_ascii_case};
 ghost use Rattle.const_oid.specs.Orders.{parts_cmp};
 ghost use Rattle.const_oid.specs.Private.Words.{IsWord};
 
@@ -159,4 +160,22 @@ pub(crate) fn order_by_parts(a: &[u8], b: &[u8]) -> Ordering
         }
     }
     a.len().cmp(&b.len())
+}
+
+/// Whether names are the same. Lengths are compared first, and bytes before their case.
+pub(crate) fn is_same_name(a: &str, b: &str) -> bool
+    ensures { result ≡ str_eq_ignore_ascii_case a.now b.now }
+{
+    let (a, b) = (a.as_bytes(), b.as_bytes());
+    if a.len() != b.len() {
+        return false;
+    }
+    let mut index = 0;
+    while index < a.len() {
+        if a[index] != b[index] && !a[index].eq_ignore_ascii_case(&b[index]) {
+            return false;
+        }
+        index += 1;
+    }
+    true
 }

@@ -2,10 +2,10 @@
 
 ghost use Rattle.std.specs.Prelude.{◌≡◌};
 ghost use Rattle.std.specs.Iterator.{YieldsFirst, item_count};
-ghost use Rattle.std.specs.Str.{str_eq_ignore_ascii_case};
 ghost use Rattle.const_oid.specs.Names.{lent_arcs, entries_of, has_arcs, first_name, resolve_answer, all_names, first_oid, names_left};
 ghost use Rattle.const_oid.specs.Oid.{oid_arcs};
 
+use crate::compare::is_same_name;
 pub use crate::db_ref::{RefDatabase, RefNames};
 use crate::error::Result;
 use crate::oid::Oid;
@@ -107,22 +107,4 @@ fn has_oid(entry: &(&Oid, &str), oid: &Oid) -> bool
     ensures { result ≡ has_arcs lent_arcs (oid_arcs oid.now) entry.now }
 {
     entry.0.as_oid_ref().eq_oid(oid)
-}
-
-/// Whether names are the same. Lengths are compared first, and bytes before their case.
-pub(crate) fn is_same_name(a: &str, b: &str) -> bool
-    ensures { result ≡ str_eq_ignore_ascii_case a.now b.now }
-{
-    let (a, b) = (a.as_bytes(), b.as_bytes());
-    if a.len() != b.len() {
-        return false;
-    }
-    let mut index = 0;
-    while index < a.len() {
-        if a[index] != b[index] && !a[index].eq_ignore_ascii_case(&b[index]) {
-            return false;
-        }
-        index += 1;
-    }
-    true
 }

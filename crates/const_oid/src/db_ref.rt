@@ -5,8 +5,7 @@ ghost use Rattle.std.specs.Iterator.{YieldsFirst, item_count};
 ghost use Rattle.const_oid.specs.Names.{ref_entries_of, has_arcs, first_name, all_names, first_oid, ref_names_left};
 ghost use Rattle.const_oid.specs.OidRef.{ref_arcs};
 
-use crate::compare::are_equal;
-use crate::db::is_same_name;
+use crate::compare::{are_equal, is_same_name};
 use crate::oid_ref::ObjectIdentifierRef;
 
 /// A table of borrowed identifiers and their names, as a constant can hold it. Both may stand in it

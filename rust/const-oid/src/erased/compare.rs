@@ -1,6 +1,6 @@
 // Made from crates/const_oid/src/compare.rt by rust/erase: edited there.
 
-//! How slices of octets compare.
+//! How slices of octets and names compare.
 
 use crate::erased::parts::first_len;
 use core::cmp::Ordering;
@@ -136,4 +136,20 @@ pub(crate) fn order_by_parts(a: &[u8], b: &[u8]) -> Ordering {
         }
     }
     a.len().cmp(&b.len())
+}
+
+/// Whether names are the same. Lengths are compared first, and bytes before their case.
+pub(crate) const fn is_same_name(a: &str, b: &str) -> bool {
+    let (a, b) = (a.as_bytes(), b.as_bytes());
+    if a.len() != b.len() {
+        return false;
+    }
+    let mut index = 0;
+    while index < a.len() {
+        if a[index] != b[index] && !a[index].eq_ignore_ascii_case(&b[index]) {
+            return false;
+        }
+        index += 1;
+    }
+    true
 }

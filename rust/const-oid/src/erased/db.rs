@@ -2,6 +2,7 @@
 
 //! Names of identifiers, by a table that the caller holds.
 
+use crate::erased::compare::is_same_name;
 pub use crate::erased::db_ref::{RefDatabase, RefNames};
 use crate::erased::error::Result;
 use crate::erased::oid::Oid;
@@ -123,20 +124,4 @@ impl<'a> Iterator for Names<'a> {
 /// Whether an entry has this identifier.
 const fn has_oid(entry: &(&Oid, &str), oid: &Oid) -> bool {
     entry.0.borrowed().eq_oid(oid)
-}
-
-/// Whether names are the same. Lengths are compared first, and bytes before their case.
-pub(crate) const fn is_same_name(a: &str, b: &str) -> bool {
-    let (a, b) = (a.as_bytes(), b.as_bytes());
-    if a.len() != b.len() {
-        return false;
-    }
-    let mut index = 0;
-    while index < a.len() {
-        if a[index] != b[index] && !a[index].eq_ignore_ascii_case(&b[index]) {
-            return false;
-        }
-        index += 1;
-    }
-    true
 }

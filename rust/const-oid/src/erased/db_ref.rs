@@ -2,8 +2,7 @@
 
 //! Names of borrowed identifiers, by a table that a constant can hold.
 
-use crate::erased::compare::are_equal;
-use crate::erased::db::is_same_name;
+use crate::erased::compare::{are_equal, is_same_name};
 use crate::erased::oid_ref::ObjectIdentifierRef;
 
 /// A table of borrowed identifiers and their names, as a constant can hold it. Both may stand in it
