@@ -59,8 +59,8 @@ impl ObjectIdentifier<39> {
     ///   is longer than 39 octets;
     /// - [`Error::Empty`]: there are fewer than two items.
     ///
-    /// At `Err` the fault is that of every list which begins with the items drawn, or, where the
-    /// iterator ended, of exactly these: `[1]` is `Empty`, and `[1, 2]` is not.
+    /// On `Err`, the items read so far decide: every list that begins with them has this error, or, if
+    /// the iterator had ended, the list of exactly these items: `[1]` is `Empty`, and `[1, 2]` is not.
     pub fn from_arcs<I: IntoIterator<Item = Arc>>(arcs: I) -> Result<Self> {
         Self::from_arcs_sized(arcs)
     }

@@ -30,7 +30,7 @@ impl<'a> ObjectIdentifierRef<'a> {
     /// - [`Error::Base128`] or [`Error::ArcTooBig`]: of the first group with a fault, that it begins
     ///   with 0x80, that its number is past 32 bits (past 4294967375 in the first group, which holds
     ///   two arcs), or that it does not end;
-    /// - [`Error::Length`]: there are more than 2^63 - 1 octets, which no slice has.
+    /// - [`Error::Length`]: there are more than `isize::MAX` octets, which no slice has.
     ///
     /// Tag and length are not read away: a whole `06 09 2A ..` is no error, but another identifier,
     /// 0.6.9.42 and so on.
