@@ -90,8 +90,8 @@ pub fn next_after<'a>(sorted: &'a [ByArcs], oid: &ObjectIdentifierRef<'_>) -> Op
     sorted.get(index)
 }
 
-/// The next key of a sorted list after an identifier where it is under a root: so `None` at the end of the
-/// root's subtree.
+/// The next key after an identifier, or `None` where that key is not under a root, as at the end of the root's
+/// subtree.
 pub fn next_under<'a>(
     sorted: &'a [ByArcs],
     root: &ObjectIdentifierRef<'_>,
