@@ -1,9 +1,9 @@
--- What begins with a prefix: encodings do exactly where their arcs do, and stand together in list order.
+-- What begins with a prefix: encodings do exactly where their arcs do, and are adjacent in list order.
 use Rattle.std.proofs.Common.{◌≡◌, ℕ, ◌+◌, ◌*◌, List, [], ◌∷◌, ◌++◌, refl, sym, ap, ap₂, ◌∙◌, append_assoc, ◌≢◌, ◌<◌, length, ⊎_elim, arith, Less, Greater, nat_cmp, append-nil, length-append, Bool, true, false, ◌||◌, drop, nat_eq}
 use Rattle.std.specs.List.{AllZip, concat, starts_with}
-use Rattle.std.specs.Prelude.{◌↔◌}
+use Rattle.std.specs.Prelude.{◌↔◌, IsTrue}
 use Rattle.std.specs.Cmp.Lexicographic.{slice_cmp}
-use Rattle.std.specs.Cmp.{unsigned_Decides, ranks}
+use Rattle.std.specs.Cmp.{both_ways, unsigned_Decides, ranks}
 use Rattle.std.specs.Ordering.{is_lt, ordering_reverse}
 use Rattle.std.proofs.lemmas.Bool.{cases_Bool, or_cases, or_left, or_right, true_from_ne_false}
 use Rattle.std.proofs.lemmas.Cmp.{nat_list_cmp_total, by_ranked}
@@ -45,7 +45,7 @@ octets_prefix (n ∷ ns) more [] hs p q = absurd p
 octets_prefix (n ∷ ns) more (g ∷ gs) [] p q = absurd q
 octets_prefix (n ∷ ns) more (g ∷ gs) (h ∷ hs) p q =
     let (rest, e) = octets_prefix ns more gs hs p.1 q.1 in
-    (rest, ap₂ (λ x y. x ++ y) (same_group n h g q.0 p.0) e ∙ sym (append_assoc g (concat gs) rest))
+    (rest, ap₂ (λ x y. x ++ y) (same_group q.0 p.0) e ∙ sym (append_assoc g (concat gs) rest))
 
 -- the arcs of p begin those of x
 pub arcs_prefix : (rule : RootRule) (p x a b : List ℕ) → IsEncoding rule p a → IsEncoding rule x b → BeginsWith b a → BeginsWith x p
@@ -66,13 +66,13 @@ encoding_prefix rule (c ∷ d ∷ later) x a b e f (more, s) =
     (rest, f.joined ∙ t ∙ ap (λ y. y ++ rest) (sym e.joined))
 
 -- encodings begin others exactly where their arcs begin theirs
-pub iff_begins : (rule : RootRule) (x p b a : List ℕ) (P : Type 0) → IsEncoding rule x b → IsEncoding rule p a → P ↔ BeginsWith b a → P ↔ BeginsWith x p
-iff_begins rule x p b a P f e iff =
+pub iff_begins : {rule : RootRule} {x p b a : List ℕ} (P : Type 0) → IsEncoding rule x b → IsEncoding rule p a → P ↔ BeginsWith b a → P ↔ BeginsWith x p
+iff_begins {rule} {x} {p} {b} {a} P f e iff =
     (λ t. arcs_prefix rule p x a b e f (iff.0 t), λ h. iff.1 (encoding_prefix rule p x a b e f h))
 
 -- ---- ranges in list order
 
--- what stands between two lists that begin with the prefix begins with it too
+-- what is between two lists that begin with the prefix begins with it, too
 pub between : (prefix x y z : List ℕ) → slice_cmp nat_cmp y (prefix ++ x) ≢ Less → slice_cmp nat_cmp y (prefix ++ z) ≢ Greater → BeginsWith y prefix
 between [] x y z h k = (y, refl)
 between (b ∷ prefix) x [] z h k = absurd (h refl)
@@ -82,8 +82,8 @@ between (b ∷ prefix) x (d ∷ y) z h k = by_ranked _ _ _ (nat_cmp d b) (ranks 
     (λ is g. absurd (k (rw is refl)))
 
 -- the same of identifiers
-pub encodings_between : (rule : RootRule) (p x y z a b c d : List ℕ) → IsEncoding rule p a → IsEncoding rule x b → IsEncoding rule y c → IsEncoding rule z d → BeginsWith x p → BeginsWith z p → slice_cmp nat_cmp c b ≢ Less → slice_cmp nat_cmp c d ≢ Greater → BeginsWith y p
-encodings_between rule p x y z a b c d ep ex ey ez bx bz h k =
+pub encodings_between : {rule : RootRule} {p x y z a b c d : List ℕ} → IsEncoding rule p a → IsEncoding rule x b → IsEncoding rule y c → IsEncoding rule z d → BeginsWith x p → BeginsWith z p → slice_cmp nat_cmp c b ≢ Less → slice_cmp nat_cmp c d ≢ Greater → BeginsWith y p
+encodings_between {rule} {p} {x} {y} {z} {a} {b} {c} {d} ep ex ey ez bx bz h k =
     let (xs, e) = encoding_prefix rule p x a b ep ex bx in
     let (zs, f) = encoding_prefix rule p z a d ep ez bz in
     arcs_prefix rule p y a c ep ey (between a xs c zs (rw e at h) (rw f at k))
@@ -93,12 +93,12 @@ longer : (rule : RootRule) (p x a b : List ℕ) → IsEncoding rule p a → IsEn
 longer rule p x a b ep ex bx l = let (rest, e) = encoding_prefix rule p x a b ep ex bx in by rest e
   where
     by : (rest : List ℕ) → b ≡ a ++ rest → (rest : List ℕ) × (b ≡ a ++ rest) × (0 < length rest)
-    by [] e = let s = same_arcs rule p x b (rw (e ∙ append-nil a) ep) ex in absurd (omega (arith, ap length s))
+    by [] e = let s = same_arcs {a = p} (rw (e ∙ append-nil a) ep) ex in absurd (omega (arith, ap length s))
     by (y ∷ ys) e = (y ∷ ys, e, omega arith)
 
 -- an ancestor comes before its descendants, in both orders
-pub ancestor_short : (rule : RootRule) (p x a b : List ℕ) → IsEncoding rule p a → IsEncoding rule x b → BeginsWith x p → length p < length x → shortlex_cmp a b ≡ Less
-ancestor_short rule p x a b ep ex bx l =
+pub ancestor_short : {rule : RootRule} {p x a b : List ℕ} → IsEncoding rule p a → IsEncoding rule x b → BeginsWith x p → length p < length x → shortlex_cmp a b ≡ Less
+ancestor_short {rule} {p} {x} {a} {b} ep ex bx l =
     let (rest, e, some) = longer rule p x a b ep ex bx l in
     shortlex_cmp-less a b (omega (arith, ap length e, length-append a rest))
 
@@ -106,8 +106,8 @@ pub before_more : (a rest : List ℕ) → 0 < length rest → slice_cmp nat_cmp 
 before_more a [] some = absurd (omega arith)
 before_more a (y ∷ ys) some = rw append-nil at (slice_cmp-prefix a [] (y ∷ ys))
 
-pub ancestor_before : (rule : RootRule) (p x a b : List ℕ) → IsEncoding rule p a → IsEncoding rule x b → BeginsWith x p → length p < length x → slice_cmp nat_cmp a b ≡ Less
-ancestor_before rule p x a b ep ex bx l =
+pub ancestor_before : {rule : RootRule} {p x a b : List ℕ} → IsEncoding rule p a → IsEncoding rule x b → BeginsWith x p → length p < length x → slice_cmp nat_cmp a b ≡ Less
+ancestor_before {rule} {p} {x} {a} {b} ep ex bx l =
     let (rest, e, some) = longer rule p x a b ep ex bx l in
     rw e (before_more a rest some)
 
@@ -127,6 +127,10 @@ under_iff prefix list =
     let (rest, given) = starts_is unsigned_Decides list prefix (is_under prefix list) refl in
     (λ t. (drop (length prefix) list, rest t), λ b. given b.0 b.1)
 
+pub tells_under : (prefix list : List ℕ) (test : Bool) → IsTrue test ↔ BeginsWith list prefix → test ≡ is_under prefix list
+tells_under prefix list test tells =
+    both_ways _ _ (λ t. (under_iff prefix list).1 (tells.0 t)) (λ t. tells.1 ((under_iff prefix list).0 t))
+
 not_before_nil : (list : List ℕ) → is_before [] list ≡ false
 not_before_nil [] = refl
 not_before_nil (x ∷ xs) = refl
@@ -143,7 +147,7 @@ pub before_down : (prefix x z : List ℕ) → is_before x z ≡ false → is_bef
 before_down prefix x z level t =
     true_from_ne_false (is_before prefix x) (λ f. cc (t, (ranks_by nat_list_cmp_total (λ (list : List ℕ). list)).chain z x prefix level f))
 
-not_greater : (x z : List ℕ) → is_before x z ≡ false → slice_cmp nat_cmp x z ≢ Greater
+pub not_greater : (x z : List ℕ) → is_before x z ≡ false → slice_cmp nat_cmp x z ≢ Greater
 not_greater x z level greater = cc (level, ap is_lt (nat_list_cmp_total.antisymm z x ∙ ap ordering_reverse greater))
 
 -- what is not after a list that is before the prefix or begins with it is so too

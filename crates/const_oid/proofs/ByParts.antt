@@ -1,5 +1,5 @@
--- The order of arcs is that of the parts of their encodings, of which a shorter one is first.
-use Rattle.std.proofs.Common.{◌≡◌, ◌≢◌, ℕ, suc, ◌+◌, ◌*◌, ◌<◌, ◌≤◌, List, [], ◌∷◌, ◌++◌, length, min, drop, get_or, refl, sym, ap, ◌∙◌, ⊎_elim, arith, Ordering, Less, Equal, Greater, nat_cmp, length-append, Some}
+-- The order of arcs is that of the parts of their encodings, a shorter part first.
+use Rattle.std.proofs.Common.{◌≡◌, ◌≢◌, ℕ, suc, ◌+◌, ◌*◌, ◌<◌, ◌≤◌, List, [], ◌∷◌, ◌++◌, length, min, take, drop, get_or, refl, sym, ap, ◌∙◌, ⊎_elim, arith, Ordering, Less, Equal, Greater, nat_cmp, length-append, Some}
 use Rattle.std.specs.Prelude.{◌↔◌, slice_get}
 use Rattle.std.specs.List.{AllZip, onto_first, concat}
 use Rattle.std.specs.Ordering.{ordering_then, is_eq}
@@ -7,7 +7,7 @@ use Rattle.std.specs.Cmp.Lexicographic.{slice_cmp, nat_list_cmp_total, texts_tie
 use Rattle.std.specs.Cmp.{ranks, nat_cmp_is}
 use Rattle.std.proofs.lemmas.Bool.{cases_lt}
 use Rattle.std.proofs.lemmas.Cmp.{by_ranked, tied_itself}
-use Rattle.std.proofs.lemmas.List.{drop_more, length-drop}
+use Rattle.std.proofs.lemmas.List.{drop_more, length-drop, take-append-drop}
 use Rattle.const_oid.specs.Base128.{IsContinued, IsGroup}
 use Rattle.const_oid.specs.Contents.{cut}
 use Rattle.const_oid.specs.Identifier.{RootRule, max_second, IsIdentifier, IsEncoding, subidentifiers}
@@ -48,6 +48,17 @@ same_first x xs ys = ⊎_elim
     (λ (more : 128 ≤ x). rw (cut_after-more x (cut xs) more, cut_after-more x (cut ys) more) (onto_same x xs ys))
     (cases_lt x 128)
 
+-- what lists begin with alike does not decide
+same_prefix : (g x y : List ℕ) → parts_cmp (g ++ x) (g ++ y) ≡ parts_cmp x y
+same_prefix [] x y = refl
+same_prefix (b ∷ g) x y = same_first b (g ++ x) (g ++ y) ∙ same_prefix g x y
+
+pub same_up_to : (a b : List ℕ) (n : ℕ) → take n a ≡ take n b → parts_cmp a b ≡ parts_cmp (drop n a) (drop n b)
+same_up_to a b n same =
+    let e : parts_cmp (take n a ++ drop n a) (take n a ++ drop n b) ≡ parts_cmp (drop n a) (drop n b) = same_prefix (take n a) (drop n a) (drop n b) in
+    let f : take n a ++ drop n b ≡ b = rw same (take-append-drop n b) in
+    rw (take-append-drop n a, f) at e
+
 pub same_at : (a b : List ℕ) (i : ℕ) → i < length a → i < length b → get_or a i 0 ≡ get_or b i 0 → parts_cmp (drop i a) (drop i b) ≡ parts_cmp (drop (i + 1) a) (drop (i + 1) b)
 same_at a b i l m e = rw (drop_more a i 0 l, drop_more b i 0 m, e) (same_first (get_or b i 0) (drop (i + 1) a) (drop (i + 1) b))
 
@@ -72,13 +83,13 @@ numbers_cmp : (ns ms : List ℕ) (gs hs : List (List ℕ)) → AllZip IsGroup ns
 numbers_cmp [] [] [] [] p q = refl
 numbers_cmp [] (m ∷ ms) [] (h ∷ hs) p q = refl
 numbers_cmp (n ∷ ns) [] (g ∷ gs) [] p q = refl
-numbers_cmp (n ∷ ns) (m ∷ ms) (g ∷ gs) (h ∷ hs) p q = rw (groups_short n m g h p.0 q.0, numbers_cmp ns ms gs hs p.1 q.1)
+numbers_cmp (n ∷ ns) (m ∷ ms) (g ∷ gs) (h ∷ hs) p q = rw (groups_short p.0 q.0, numbers_cmp ns ms gs hs p.1 q.1)
 numbers_cmp [] ms (g ∷ gs) hs p q = absurd p
 numbers_cmp (n ∷ ns) ms [] hs p q = absurd p
 numbers_cmp ns [] gs (h ∷ hs) p q = absurd q
 numbers_cmp ns (m ∷ ms) gs [] p q = absurd q
 
--- the first number stands as the first two arcs do
+-- first numbers are in the order of the first two arcs
 root_cmp : (rule : RootRule) (a b c d : ℕ) → b ≤ max_second rule a → d ≤ max_second rule c → a ≤ 2 → c ≤ 2 → nat_cmp (40 * a + b) (40 * c + d) ≡ ordering_then (nat_cmp a c) (nat_cmp b d)
 root_cmp rule a b c d p q l m = by_ranked _ _ _ (nat_cmp a c) (ranks a c)
     (λ is less. let low = second_low rule a b p (omega arith) in rw is (sym (nat_cmp_is (40 * a + b) (40 * c + d) Less (omega arith))))
@@ -90,7 +101,7 @@ then_assoc Less p q = refl
 then_assoc Equal p q = refl
 then_assoc Greater p q = refl
 
--- where the groups at each index are of one length, the octets stand as the numbers do
+-- where the groups at each index are of one length, the octets are in the order of the numbers
 abbrev pub AreLevel : List (List ℕ) → List (List ℕ) → Type 0
 AreLevel gs hs = (i : ℕ) (g h : List ℕ) → slice_get gs i ≡ Some g → slice_get hs i ≡ Some h → length g ≡ length h
 
@@ -116,7 +127,7 @@ level_numbers (n ∷ ns) [] (g ∷ gs) [] p q l = none_last g (concat gs) p.0.co
 level_numbers (n ∷ ns) (m ∷ ms) (g ∷ gs) (h ∷ hs) p q l =
     let long : length g ≡ length h = l 0 g h refl refl in
     level_append g h (concat gs) (concat hs) long
-    ∙ rw (groups_cmp n m g h p.0 q.0 long, level_numbers ns ms gs hs p.1 q.1 (λ i a b e f. l (suc i) a b e f)) refl
+    ∙ rw (groups_cmp p.0 q.0 long, level_numbers ns ms gs hs p.1 q.1 (λ i a b e f. l (suc i) a b e f)) refl
 level_numbers [] ms (g ∷ gs) hs p q l = absurd p
 level_numbers (n ∷ ns) ms [] hs p q l = absurd p
 level_numbers [] [] [] (h ∷ hs) p q l = absurd q
@@ -131,28 +142,28 @@ subidentifiers_cmp rule (a ∷ []) ys i j = absurd i
 subidentifiers_cmp rule xs [] i j = absurd j
 subidentifiers_cmp rule xs (c ∷ []) i j = absurd j
 
--- encodings in the order of their parts stand as their arcs do
-pub arcs_cmp : (rule : RootRule) (p x a b : List ℕ) → IsEncoding rule p a → IsEncoding rule x b → parts_cmp a b ≡ slice_cmp nat_cmp p x
-arcs_cmp rule p x a b e f =
+-- encodings in the order of their parts are in the order of their arcs
+pub arcs_cmp : {rule : RootRule} {p x a b : List ℕ} → IsEncoding rule p a → IsEncoding rule x b → parts_cmp a b ≡ slice_cmp nat_cmp p x
+arcs_cmp {rule} {p} {x} {a} {b} e f =
     rw (cut_encoding rule p a e, cut_encoding rule x b f)
     (numbers_cmp (subidentifiers p) (subidentifiers x) e.groups f.groups e.each f.each ∙ subidentifiers_cmp rule p x e.identifier f.identifier)
 
-pub level_cmp : (rule : RootRule) (p x a b : List ℕ) → IsEncoding rule p a → IsEncoding rule x b → AreLevel (cut a) (cut b) → slice_cmp nat_cmp a b ≡ slice_cmp nat_cmp p x
-level_cmp rule p x a b e f level =
+pub level_cmp : {rule : RootRule} {p x a b : List ℕ} → IsEncoding rule p a → IsEncoding rule x b → AreLevel (cut a) (cut b) → slice_cmp nat_cmp a b ≡ slice_cmp nat_cmp p x
+level_cmp {rule} {p} {x} {a} {b} e f level =
     let l : AreLevel e.groups f.groups = rw (cut_encoding rule p a e, cut_encoding rule x b f) at level in
     rw (e.joined, f.joined) (level_numbers (subidentifiers p) (subidentifiers x) e.groups f.groups e.each f.each l ∙ subidentifiers_cmp rule p x e.identifier f.identifier)
 
 -- they tie exactly where the octets are equal
-pub same_exactly : (rule : RootRule) (p x a b : List ℕ) → IsEncoding rule p a → IsEncoding rule x b → (slice_cmp nat_cmp p x ≡ Equal) ↔ (a ≡ b)
-same_exactly rule p x a b e f = (
-  λ tie. let same : p ≡ x = same_text p x (sym (texts_ties p x ∙ ap is_eq tie)) in same_octets rule p a b e (rw (sym same) at f),
-  λ same. rw (same_arcs rule p x b (rw same at e) f) (tied_itself nat_list_cmp_total x),
+pub same_exactly : {rule : RootRule} {p x a b : List ℕ} → IsEncoding rule p a → IsEncoding rule x b → (slice_cmp nat_cmp p x ≡ Equal) ↔ (a ≡ b)
+same_exactly {p} {x} e f = (
+  λ tie. let same : p ≡ x = same_text p x (sym (texts_ties p x ∙ ap is_eq tie)) in same_octets e (rw (sym same) at f),
+  λ same. rw (same_arcs (rw same at e) f) (tied_itself nat_list_cmp_total x),
 )
 
 -- an ancestor is first
 pub ancestor_first : (p x : List ℕ) → BeginsWith x p → length p < length x → slice_cmp nat_cmp p x ≡ Less
 ancestor_first p x (rest, e) l = rw e (before_more p rest (omega (arith, ap length e, length-append p rest)))
 
--- what begins with a list stands in one run
+-- what begins with a list is one run
 pub run_between : (p x y z : List ℕ) → BeginsWith x p → BeginsWith z p → slice_cmp nat_cmp y x ≢ Less → slice_cmp nat_cmp y z ≢ Greater → BeginsWith y p
 run_between p x y z (xs, e) (zs, f) h k = between p xs y zs (rw e at h) (rw f at k)

@@ -1,11 +1,11 @@
--- The digits of a number, counted, and written from the last to the first.
-use Rattle.std.proofs.Common.{◌≡◌, Bool, true, false, ℕ, zero, suc, ◌+◌, ◌-◌, ◌/◌, ◌^◌, ◌<◌, ◌≤◌, List, ◌++◌, length, take, drop, ap, ◌∙◌, subst, sym, take-take, ◌%◌, arith, decimal, length-append, append_assoc, pow-suc}
+-- The digits of a number.
+use Rattle.std.proofs.Common.{◌≡◌, Bool, true, false, ℕ, zero, suc, ◌+◌, ◌-◌, ◌/◌, ◌^◌, ◌<◌, ◌≤◌, List, ◌++◌, length, drop, ap, ◌∙◌, ◌%◌, arith, decimal, length-append, append_assoc, pow-suc, ⊎_elim}
 use Rattle.std.proofs.lemmas.Fmt.{decimal_digit, decimal_step, length-decimal-le, IsAscii-decimal}
 use Rattle.std.proofs.lemmas.Str.Ascii.{IsAscii-cons}
+use Rattle.std.proofs.lemmas.Bool.{cases_lt}
 use Rattle.std.specs.Str.{IsAscii}
 use Rattle.const_oid.specs.Private.Text.{arc_text, pair_text}
-use Rattle.std.proofs.Math.Seq.{take-append_seam, drop-append_seam}
-use Rattle.std.proofs.lemmas.List.{take-append-drop, length-take-le, drop-drop}
+use Rattle.std.proofs.lemmas.List.{drop-drop}
 
 pub length_digit : (n : ℕ) → n < 10 → length (decimal n) ≡ 1
 length_digit n h = ap length (decimal_digit n h)
@@ -35,6 +35,12 @@ decimal_pair n low high =
 pub length_pair : (n : ℕ) → 100 ≤ n → n < 2 ^ 64 → length (decimal n) ≡ length (decimal (n / 100)) + 2
 length_pair n low high = ap length (decimal_pair n low high) ∙ length-append _ _
 
+pub length_two : (n : ℕ) → 10 ≤ n → n < 2 ^ 64 → 2 ≤ length (decimal n)
+length_two n low high = ⊎_elim
+    (λ (small : n < 100). omega (arith, ap length (decimal_two n low small)))
+    (λ (large : 100 ≤ n). omega (arith, length_pair n large high))
+    (cases_lt n 100)
+
 pub arc_text_short : (is_first : Bool) (arc : ℕ) → arc < 2 ^ 32 → length (arc_text is_first arc) ≤ 11
 arc_text_short true arc h = omega (arith, length-decimal-le 10 arc (omega arith) (omega arith) (omega arith))
 arc_text_short false arc h = omega (arith, length-decimal-le 10 arc (omega arith) (omega arith) (omega arith))
@@ -43,22 +49,5 @@ pub arc_text_ascii : (is_first : Bool) (arc : ℕ) → arc < 2 ^ 32 → IsAscii 
 arc_text_ascii true arc h = IsAscii-decimal arc (omega arith)
 arc_text_ascii false arc h = IsAscii-cons 46 (decimal arc) (omega arith) (IsAscii-decimal arc (omega arith))
 
-pub take_less : (n m : ℕ) (xs ys : List ℕ) → n ≤ m → take m xs ≡ take m ys → take n xs ≡ take n ys
-take_less n m xs ys h e = sym (take-take n m xs h) ∙ ap (take n) e ∙ take-take n m ys h
-
 pub drop_more : (n m : ℕ) (xs ys : List ℕ) → n ≤ m → drop n xs ≡ drop n ys → drop m xs ≡ drop m ys
 drop_more n m xs ys h e = let f : n + (m - n) ≡ m = omega arith in rw (drop-drop, drop-drop, f) at (ap (drop (m - n)) e)
-
-cut_at : (prefix back : List ℕ) (at : ℕ) → length prefix ≡ at → (take at (prefix ++ back) ≡ prefix) × (drop at (prefix ++ back) ≡ back)
-cut_at prefix back at long = let P : ℕ → Type 0 = λ n. (take n (prefix ++ back) ≡ prefix) × (drop n (prefix ++ back) ≡ back) in subst P long (take-append_seam prefix back, drop-append_seam prefix back)
-
--- a part written in the midst of a list
-pub part_written : (old new part : List ℕ) (at end : ℕ) → end ≡ at + length part → at ≤ length old → take at new ≡ take at old → drop at new ≡ part ++ drop end old → (take end new ≡ take at old ++ part) × (drop end new ≡ drop end old)
-part_written old new part at end e fits prefix back =
-    let whole : (take at old ++ part) ++ drop end old ≡ new = rw (append_assoc, ← back, ← prefix) (take-append-drop at new) in
-    rw whole at (cut_at (take at old ++ part) (drop end old) end (omega (arith, length-append (take at old) part, length-take-le at old fits)))
-
--- the last of a part's pieces to be written, which is its first
-pub last_written : (old now new part piece : List ℕ) (at index end : ℕ) → index ≡ at + length piece → end ≡ at + length part → at ≤ length old → take at now ≡ take at old → piece ++ drop index now ≡ part ++ drop end old → take at new ≡ take at now → drop at new ≡ piece ++ drop (at + length piece) now → (take end new ≡ take at old ++ part) × (drop end new ≡ drop end old)
-last_written old now new part piece at index end p e fits prefix back before written =
-    part_written old new part at end e fits (before ∙ prefix) (written ∙ ap (λ n. piece ++ drop n now) (sym p) ∙ back)

@@ -41,8 +41,8 @@ part_valid limit part p h =
     let (first, small, last) = part_tests limit part h in
     (record { continued = chain_from_part part p last; shortest = shortest part first; value = refl }, small)
 
-pub part_none : (limit n : ℕ) (part : List ℕ) → IsGroup n part → n ≤ limit → part_fault limit part ≡ None
-part_none limit n part g l =
+pub part_none : (limit : ℕ) {n : ℕ} {part : List ℕ} → IsGroup n part → n ≤ limit → part_fault limit part ≡ None
+part_none limit {part} g l =
     rw (begins_with_128-not part g.shortest, le-ltb limit (value_of part) (rw g.value at l), finished_from_chain part g.continued)
 
 -- ---- all parts
@@ -59,7 +59,7 @@ later_none : (numbers : List ℕ) (groups : List (List ℕ)) → AllZip IsGroup 
 later_none [] [] g l = refl
 later_none [] (p ∷ ps) g l = absurd g
 later_none (n ∷ ns) [] g l = absurd g
-later_none (n ∷ ns) (p ∷ ps) g l = rw (part_none max_arc n p g.0 l.0) (later_none ns ps g.1 l.1)
+later_none (n ∷ ns) (p ∷ ps) g l = rw (part_none max_arc g.0 l.0) (later_none ns ps g.1 l.1)
 
 first_valid : (rule : RootRule) (part : List ℕ) → IsPart part → first_fault rule part ≡ None → IsGroupUpTo (max_first rule) part
 first_valid Narrow [] p h = absurd p
@@ -71,8 +71,8 @@ first_valid Narrow (x ∷ y ∷ ys) p h = absurd (omega (arith, below_from_none 
 first_valid Wide part p h = part_valid (max_first Wide) part p h
 
 first_none : (rule : RootRule) (n : ℕ) (part : List ℕ) → IsGroup n part → n ≤ max_first rule → first_fault rule part ≡ None
-first_none Narrow n part g l = rw (group-small n part (omega arith) g, le-ltb 119 n l)
-first_none Wide n part g l = part_none (max_first Wide) n part g l
+first_none Narrow n part g l = rw (group-small (omega arith) g, le-ltb 119 n l)
+first_none Wide n part g l = part_none (max_first Wide) g l
 
 parts_valid : (rule : RootRule) (parts : List (List ℕ)) → AllByRecursion IsPart parts → parts_fault rule parts ≡ None → AllZip IsGroup (map value_of parts) parts × InRange rule (map value_of parts)
 parts_valid rule [] p h = cc
@@ -118,17 +118,17 @@ encoding_from_none rule octets bytes h =
     }
 
 -- an encoding has no faulty part
-pub none_from_encoding : (rule : RootRule) (arcs octets : List ℕ) → IsEncoding rule arcs octets → parts_fault rule (cut octets) ≡ None
-none_from_encoding rule arcs octets e = rw (cut_encoding rule arcs octets e) (parts_none rule (subidentifiers arcs) e.groups e.each (in_range rule arcs e.identifier))
+pub none_from_encoding : {rule : RootRule} {arcs octets : List ℕ} → IsEncoding rule arcs octets → parts_fault rule (cut octets) ≡ None
+none_from_encoding {rule} {arcs} {octets} e = rw (cut_encoding rule arcs octets e) (parts_none rule (subidentifiers arcs) e.groups e.each (in_range rule arcs e.identifier))
 
 -- the arcs that are read from an encoding are those that it encodes
-pub arcs_of_encoding : (rule : RootRule) (arcs octets : List ℕ) → IsEncoding rule arcs octets → arcs_of_octets octets ≡ arcs
-arcs_of_encoding rule arcs octets e =
+pub arcs_of_encoding : {rule : RootRule} {arcs octets : List ℕ} → IsEncoding rule arcs octets → arcs_of_octets octets ≡ arcs
+arcs_of_encoding {rule} {arcs} {octets} e =
     rw (cut_encoding rule arcs octets e, groups_valued (subidentifiers arcs) e.groups e.each) (arcs_back rule arcs e.identifier)
 
 -- an encoding is that of the arcs that are read from it
-pub encoding_back : (rule : RootRule) (arcs octets : List ℕ) → IsEncoding rule arcs octets → IsEncoding rule (arcs_of_octets octets) octets
-encoding_back rule arcs octets e = rw (arcs_of_encoding rule arcs octets e) e
+pub encoding_back : {rule : RootRule} {arcs octets : List ℕ} → IsEncoding rule arcs octets → IsEncoding rule (arcs_of_octets octets) octets
+encoding_back e = rw (arcs_of_encoding e) e
 
 -- the later arcs are the values of the later parts
 pub later_arcs : (rule : RootRule) (arcs octets : List ℕ) → IsEncoding rule arcs octets → drop 2 arcs ≡ map value_of (drop 1 (cut octets))
@@ -139,16 +139,16 @@ later_arcs rule (a ∷ b ∷ later) octets e =
     ap (drop 1) (sym (groups_valued numbers e.groups e.each)) ∙ drop-map value_of 1 e.groups ∙ ap (λ ps. map value_of (drop 1 ps)) (sym (cut_encoding rule (a ∷ b ∷ later) octets e))
 
 -- no two lists of arcs have one encoding
-pub same_arcs : (rule : RootRule) (a b octets : List ℕ) → IsEncoding rule a octets → IsEncoding rule b octets → a ≡ b
-same_arcs rule a b octets p q = sym (arcs_of_encoding rule a octets p) ∙ arcs_of_encoding rule b octets q
+pub same_arcs : {rule : RootRule} {a b octets : List ℕ} → IsEncoding rule a octets → IsEncoding rule b octets → a ≡ b
+same_arcs p q = sym (arcs_of_encoding p) ∙ arcs_of_encoding q
 
 -- ---- with the capacity
 
-pub octet_fault-fits : (rule : RootRule) (arcs octets : List ℕ) (capacity : ℕ) → IsEncoding rule arcs octets → length octets ≤ capacity → octet_fault rule octets capacity ≡ None
-octet_fault-fits rule arcs octets capacity e fits = rw (none_from_encoding rule arcs octets e, le-ltb capacity (length octets) fits)
+pub octet_fault-fits : {rule : RootRule} {arcs octets : List ℕ} (capacity : ℕ) → IsEncoding rule arcs octets → length octets ≤ capacity → octet_fault rule octets capacity ≡ None
+octet_fault-fits {octets} capacity e fits = rw (none_from_encoding e, le-ltb capacity (length octets) fits)
 
-pub octet_fault-long : (rule : RootRule) (arcs octets : List ℕ) (capacity : ℕ) → IsEncoding rule arcs octets → capacity < length octets → octet_fault rule octets capacity ≡ Some Length
-octet_fault-long rule arcs octets capacity e long = rw (none_from_encoding rule arcs octets e, lt-ltb capacity (length octets) long)
+pub octet_fault-long : {rule : RootRule} {arcs octets : List ℕ} (capacity : ℕ) → IsEncoding rule arcs octets → capacity < length octets → octet_fault rule octets capacity ≡ Some Length
+octet_fault-long {octets} capacity e long = rw (none_from_encoding e, lt-ltb capacity (length octets) long)
 
 pub fits_from_none : (rule : RootRule) (octets : List ℕ) (capacity : ℕ) → octet_fault rule octets capacity ≡ None → (parts_fault rule (cut octets) ≡ None) × (length octets ≤ capacity)
 fits_from_none rule octets capacity h =
@@ -171,18 +171,18 @@ same_groups [] [] (h ∷ hs) p q = absurd q
 same_groups [] (g ∷ gs) hs p q = absurd p
 same_groups (n ∷ ns) [] hs p q = absurd p
 same_groups (n ∷ ns) (g ∷ gs) [] p q = absurd q
-same_groups (n ∷ ns) (g ∷ gs) (h ∷ hs) p q = let s = same_group n g h p.0 q.0 in let t = same_groups ns gs hs p.1 q.1 in cc
+same_groups (n ∷ ns) (g ∷ gs) (h ∷ hs) p q = let s = same_group p.0 q.0 in let t = same_groups ns gs hs p.1 q.1 in cc
 
-pub same_octets : (rule : RootRule) (arcs a b : List ℕ) → IsEncoding rule arcs a → IsEncoding rule arcs b → a ≡ b
-same_octets rule arcs a b p q = p.joined ∙ ap concat (same_groups (subidentifiers arcs) p.groups q.groups p.each q.each) ∙ sym q.joined
+pub same_octets : {rule : RootRule} {arcs a b : List ℕ} → IsEncoding rule arcs a → IsEncoding rule arcs b → a ≡ b
+same_octets {arcs} p q = p.joined ∙ ap concat (same_groups (subidentifiers arcs) p.groups q.groups p.each q.each) ∙ sym q.joined
 
-pub encoding_of-encoded : (rule : RootRule) (arcs octets : List ℕ) → IsEncoding rule arcs octets → encoding_of arcs ≡ octets
-encoding_of-encoded rule arcs octets e = same_octets rule arcs (encoding_of arcs) octets (encoding_is rule arcs e.identifier) e
+pub encoding_of-encoded : {rule : RootRule} {arcs octets : List ℕ} → IsEncoding rule arcs octets → encoding_of arcs ≡ octets
+encoding_of-encoded {rule} {arcs} e = same_octets (encoding_is rule arcs e.identifier) e
 
 -- encodings are the same exactly where their arcs are
-pub iff_arcs : (rule : RootRule) (x y a b : List ℕ) (P : Type 0) → IsEncoding rule x a → IsEncoding rule y b → P ↔ (a ≡ b) → P ↔ (x ≡ y)
-iff_arcs rule x y a b P e f iff =
-    (λ p. same_arcs rule x y b (rw (iff.0 p) at e) f, λ s. iff.1 (same_octets rule y a b (rw s at e) f))
+pub iff_arcs : {rule : RootRule} {x y a b : List ℕ} (P : Type 0) → IsEncoding rule x a → IsEncoding rule y b → P ↔ (a ≡ b) → P ↔ (x ≡ y)
+iff_arcs P e f iff =
+    (λ p. same_arcs (rw (iff.0 p) at e) f, λ s. iff.1 (same_octets (rw s at e) f))
 
 -- ---- the narrow rule: one octet for the first two arcs
 
@@ -194,7 +194,7 @@ root_octet a b later octets e = by e.groups e.each e.joined
     by (g ∷ gs) z j =
         let i = e.identifier in
         let small = first_in_range Narrow a b i.0 i.1 in
-        (gs, z.1, j ∙ ap (λ x. x ++ concat gs) (group-small (40 * a + b) g (omega arith) z.0))
+        (gs, z.1, j ∙ ap (λ x. x ++ concat gs) (group-small (omega arith) z.0))
 
 pub encoding_from_root : (a b : ℕ) (later : List ℕ) (groups : List (List ℕ)) → IsIdentifier Narrow (a ∷ b ∷ later) → AllZip IsGroup later groups → IsEncoding Narrow (a ∷ b ∷ later) ((40 * a + b) ∷ concat groups)
 encoding_from_root a b later groups i z =

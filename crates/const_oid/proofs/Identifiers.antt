@@ -1,6 +1,7 @@
 -- For callers: what follows of identifiers that are held.
-use Rattle.std.proofs.Common.{◌≡◌, ◌≢◌, ℕ, true, false, Equal, Greater, ◌<◌, ◌≤◌, List, [], ◌∷◌, ◌++◌, length, min, Some, Ok, Less, nat_cmp, refl, sym, ap, ◌∙◌, arith, slice_get, get_or, length-append, append-nil}
+use Rattle.std.proofs.Common.{◌≡◌, ◌≢◌, ℕ, zero, suc, ◌+◌, Bool, ◌&&◌, not, ⊎_elim, true, false, Equal, Greater, ◌<◌, ◌≤◌, List, [], ◌∷◌, ◌++◌, length, min, Some, Ok, Less, nat_cmp, refl, sym, ap, ◌∙◌, arith, slice_get, get_or, length-append, append-nil}
 use Rattle.std.proofs.Math.Seq.{get_or-append_seam}
+use Rattle.std.proofs.lemmas.Bool.{and_parts, cases_lt, not-true}
 use Rattle.std.proofs.lemmas.Option.{get_or_from_slice_get}
 use Rattle.std.specs.Cmp.Lexicographic.{slice_cmp}
 use Rattle.std.specs.Ordering.{is_le, is_lt, ordering_reverse}
@@ -10,26 +11,28 @@ use Rattle.std.proofs.iter.Rest.{run_of_first}
 use Rattle.std.specs.declared.cmp.Ordering.{Ordering}
 use Rattle.std.proofs.lemmas.Cmp.{nat_list_cmp_total}
 use Rattle.const_oid.specs.declared.oid.ObjectIdentifier.{ObjectIdentifier}
+use Rattle.const_oid.specs.declared.oid_ref.ObjectIdentifierRef.{ObjectIdentifierRef}
 use Rattle.const_oid.specs.declared.error.Error.{Error}
-use Rattle.const_oid.specs.Identifier.{RootRule, root_rule, size, encoding_of}
+use Rattle.const_oid.specs.Identifier.{RootRule, root_rule, IsIdentifier, size, encoding_of}
 use Rattle.const_oid.specs.Items.{item_answer, TakesItems}
 use Rattle.const_oid.specs.Oid.{oid_arcs, oid_octets}
+use Rattle.const_oid.specs.OidRef.{ref_arcs}
 use Rattle.const_oid.specs.Orders.{shortlex_cmp}
 use Rattle.const_oid.specs.Text.{text_of, text_answer}
 use Rattle.const_oid.specs.Tree.{BeginsWith, parent_of, child_of}
 use Rattle.const_oid.proofs.BeginsWith.{ancestor_short, ancestor_before}
-use Rattle.const_oid.proofs.Encodings.{oid_encoding, oid_within, encoding_of-encoded}
+use Rattle.const_oid.proofs.Encodings.{oid_encoding, ref_encoding, oid_within, encoding_of-encoded}
 use Rattle.const_oid.proofs.Lengths.{length_is_size}
 use Rattle.const_oid.proofs.Texts.{text_denotes, text_fault-none}
 use Rattle.const_oid.proofs.Tree.{parent_of-child_of, child_of-parent_of}
 
 -- its octets, which compute where its arcs are known
 pub octets_are : {N : ℕ} (oid : ObjectIdentifier N) → oid_octets oid ≡ encoding_of (oid_arcs oid)
-octets_are oid = sym (encoding_of-encoded root_rule (oid_arcs oid) (oid_octets oid) (oid_encoding oid))
+octets_are oid = sym (encoding_of-encoded (oid_encoding oid))
 
 -- its size is within the capacity
 pub size_fits : {N : ℕ} (oid : ObjectIdentifier N) → size (oid_arcs oid) ≤ min N 255
-size_fits oid = omega (arith, oid_within oid, length_is_size root_rule (oid_arcs oid) (oid_octets oid) (oid_encoding oid))
+size_fits oid = omega (arith, oid_within oid, length_is_size (oid_encoding oid))
 
 -- its printed text is read as its arcs
 pub printed_back : {N : ℕ} (oid : ObjectIdentifier N) → text_answer root_rule (text_of (oid_arcs oid)) (min N 255) ≡ Ok (oid_arcs oid)
@@ -41,24 +44,35 @@ printed_back {N} oid =
 pub parent_of_child : {N : ℕ} (oid : ObjectIdentifier N) (arc : ℕ) → parent_of (child_of (oid_arcs oid) arc) ≡ Some (oid_arcs oid)
 parent_of_child oid arc = parent_of-child_of root_rule (oid_arcs oid) arc (oid_encoding oid).identifier
 
--- it is the child of its parent, by the arc that follows the parent's
-pub child_of_parent : {N : ℕ} (oid : ObjectIdentifier N) (parent : List ℕ) (arc : ℕ) → parent_of (oid_arcs oid) ≡ Some parent → slice_get (oid_arcs oid) (length parent) ≡ Some arc → child_of parent arc ≡ oid_arcs oid
-child_of_parent oid parent arc e f =
-    let (i, last, l, again) = child_of-parent_of root_rule (oid_arcs oid) parent (oid_encoding oid).identifier e in
+-- an identifier is the child of its parent, by the arc that follows the parent's
+child_again : (arcs parent : List ℕ) (arc : ℕ) → IsIdentifier root_rule arcs → parent_of arcs ≡ Some parent → slice_get arcs (length parent) ≡ Some arc → child_of parent arc ≡ arcs
+child_again arcs parent arc valid e f =
+    let (i, last, l, again) = child_of-parent_of root_rule arcs parent valid e in
     let found : get_or (parent ++ last ∷ []) (length parent) 0 ≡ arc = get_or_from_slice_get (parent ++ last ∷ []) (length parent) arc 0 (rw (← again) at f) in
     let same : last ≡ arc = sym (get_or-append_seam parent last [] 0) ∙ found in
     rw (← same) again
+
+-- it is the child of its parent
+pub child_of_parent : {N : ℕ} (oid : ObjectIdentifier N) (parent : List ℕ) (arc : ℕ) → parent_of (oid_arcs oid) ≡ Some parent → slice_get (oid_arcs oid) (length parent) ≡ Some arc → child_of parent arc ≡ oid_arcs oid
+child_of_parent oid parent arc = child_again (oid_arcs oid) parent arc (oid_encoding oid).identifier
+
+-- both of a borrowed one
+pub ref_parent_of_child : (oid : ObjectIdentifierRef) (arc : ℕ) → parent_of (child_of (ref_arcs oid) arc) ≡ Some (ref_arcs oid)
+ref_parent_of_child oid arc = parent_of-child_of root_rule (ref_arcs oid) arc (ref_encoding oid).identifier
+
+pub ref_child_of_parent : (oid : ObjectIdentifierRef) (parent : List ℕ) (arc : ℕ) → parent_of (ref_arcs oid) ≡ Some parent → slice_get (ref_arcs oid) (length parent) ≡ Some arc → child_of parent arc ≡ ref_arcs oid
+ref_child_of_parent oid parent arc = child_again (ref_arcs oid) parent arc (ref_encoding oid).identifier
 
 longer_below : (xs ys : List ℕ) → BeginsWith ys xs → ys ≢ xs → length xs < length ys
 longer_below xs ys ([], e) other = absurd (other (e ∙ append-nil xs))
 longer_below xs ys (z ∷ zs, e) other = omega (arith, ap length e, length-append xs (z ∷ zs))
 
--- it stands before others that begin with it, in both orders
+-- it comes before others that begin with it, in both orders
 pub before_below : {N M : ℕ} (oid : ObjectIdentifier N) (below : ObjectIdentifier M) → BeginsWith (oid_arcs below) (oid_arcs oid) → oid_arcs below ≢ oid_arcs oid → slice_cmp nat_cmp (oid_octets oid) (oid_octets below) ≡ Less
-before_below oid below b other = ancestor_before root_rule _ _ _ _ (oid_encoding oid) (oid_encoding below) b (longer_below (oid_arcs oid) (oid_arcs below) b other)
+before_below oid below b other = ancestor_before (oid_encoding oid) (oid_encoding below) b (longer_below (oid_arcs oid) (oid_arcs below) b other)
 
 pub short_before_below : {N M : ℕ} (oid : ObjectIdentifier N) (below : ObjectIdentifier M) → BeginsWith (oid_arcs below) (oid_arcs oid) → oid_arcs below ≢ oid_arcs oid → shortlex_cmp (oid_octets oid) (oid_octets below) ≡ Less
-short_before_below oid below b other = ancestor_short root_rule _ _ _ _ (oid_encoding oid) (oid_encoding below) b (longer_below (oid_arcs oid) (oid_arcs below) b other)
+short_before_below oid below b other = ancestor_short (oid_encoding oid) (oid_encoding below) b (longer_below (oid_arcs oid) (oid_arcs below) b other)
 
 -- ---- of borrowed ones in a list
 
@@ -67,14 +81,34 @@ reversed Less t = refl
 reversed Equal t = refl
 reversed Greater t = cc
 
--- what is not after a list of octets is not before it the other way round: as `is_sorted` answers, and `subtree` requires
+-- what is not after a list of octets is not before it the other way round: as `is_sorted` ensures, and `subtree` requires
 pub not_before : (a b : List ℕ) → is_le (slice_cmp nat_cmp a b) ≡ true → is_lt (slice_cmp nat_cmp b a) ≡ false
 not_before a b level = rw (nat_list_cmp_total.antisymm b a) (reversed (slice_cmp nat_cmp a b) level)
 
--- the answer to the items of an iterator is exact where its list is known
+-- the result of the items of an iterator is exact where its list is known
 pub exact_answer : {S : Type 0} (rule : RootRule) (capacity : ℕ) (rest : S → List ℕ) (s : S) (result : Result (List ℕ) Error) → TakesItems rule capacity (YieldsFirst rest) s result → result ≡ item_answer rule (rest s) capacity
 exact_answer rule capacity rest s (Ok arcs) (p, from, whole, (is, none)) =
     let e : arcs ≡ rest s = sym is ∙ (run_of_first rest p).1.4 whole ∙ ap rest from in
     rw (rw e at none) (ap Ok e)
 exact_answer rule capacity rest s (Err fault) (p, from, refused) =
     rw (rw from at (refused (rest p.from) (run_of_first rest p).1))
+
+-- ---- of a table of constants
+
+-- a test fails at each number below a bound
+abbrev pub fails_below : ℕ → (ℕ → Bool) → Bool
+fails_below zero test = true
+fails_below (suc n) test = not (test n) && fails_below n test
+
+false_below : (n : ℕ) (test : ℕ → Bool) → fails_below n test ≡ true → (k : ℕ) → k < n → test k ≡ false
+false_below zero test t k l = absurd (omega arith)
+false_below (suc n) test t k l = ⊎_elim
+    (λ (less : k < n). false_below n test (and_parts _ _ t).1 k less)
+    (λ (last : n ≤ k).
+    let same : k ≡ n = omega arith in
+    rw same (not-true (test n) (and_parts _ _ t).0))
+    (cases_lt k n)
+
+-- no row of n + 1 is less than the one before it, where that computes
+pub sorted_rows : {X : Type 0} (n : ℕ) (test : ℕ → X → Bool) → ((d : X) → fails_below n (λ k. test k d) ≡ true) → (k : ℕ) (d : X) → 0 ≤ k → k + 1 < n + 1 → test k d ≡ false
+sorted_rows n test fails k d z l = false_below n (λ k. test k d) (fails d) k (omega arith)

@@ -11,7 +11,7 @@ use Rattle.const_oid.proofs.Faults.{both_none, below_from_none, none_from_below}
 use Rattle.const_oid.proofs.Subidentifiers.{first_in_range}
 use Rattle.const_oid.proofs.Lengths.{size-cons, size_prefix, root_short}
 
--- a second arc is refused by its range alone
+-- a second arc is rejected for its range alone
 pub second_fits : (rule : RootRule) (capacity : ℕ) (first second : ℕ) → 5 ≤ capacity → first ≤ 2 → arc_fault rule capacity (first ∷ []) second ≡ fault_if (nat_lt (max_second rule first) second) (ArcInvalid second)
 second_fits rule capacity first second fits low = grind (arith, nat_tests, root_short rule (40 * first + second), first_in_range rule first second low, size-cons first second [])
 

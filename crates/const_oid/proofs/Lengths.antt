@@ -1,4 +1,4 @@
--- How many octets arcs take, and how many arcs octets stand for.
+-- How many octets arcs take, and how many arcs octets encode.
 use Rattle.std.proofs.Common.{◌≡◌, ℕ, ◌+◌, ◌*◌, ◌≤◌, List, [], ◌∷◌, ◌++◌, refl, arith, sum_by, le-ltb, nat_lt, lt-ltb, length, ◌∙◌, length-append, cond, count_by}
 use Rattle.std.specs.List.{AllByRecursion, AllZip, concat}
 use Rattle.std.proofs.lemmas.List.Sums.{sum_by-cons, sum_by-append}
@@ -28,23 +28,23 @@ length-groups : (numbers : List ℕ) (gs : List (List ℕ)) → AllZip IsGroup n
 length-groups [] [] p = refl
 length-groups [] (g ∷ gs) p = absurd p
 length-groups (n ∷ ns) [] p = absurd p
-length-groups (n ∷ ns) (g ∷ gs) p = rw (length-append, length_is n g p.0, length-groups ns gs p.1, sum_by-cons width n ns)
+length-groups (n ∷ ns) (g ∷ gs) p = rw (length-append, length_is p.0, length-groups ns gs p.1, sum_by-cons width n ns)
 
-pub length_is_size : (rule : RootRule) (arcs octets : List ℕ) → IsEncoding rule arcs octets → length octets ≡ size arcs
-length_is_size rule arcs octets e = rw e.joined (length-groups (subidentifiers arcs) e.groups e.each)
+pub length_is_size : {rule : RootRule} {arcs octets : List ℕ} → IsEncoding rule arcs octets → length octets ≡ size arcs
+length_is_size {arcs} e = rw e.joined (length-groups (subidentifiers arcs) e.groups e.each)
 
 pub size-narrow : (a b : ℕ) (later : List ℕ) → IsIdentifier Narrow (a ∷ b ∷ later) → size (a ∷ b ∷ later) ≡ 1 + sum_by width later
 size-narrow a b later i =
     let n = 40 * a + b in
     let small = first_in_range Narrow a b i.0 i.1 in
-    omega (arith, size-cons a b later, length_is n (n ∷ []) (small_is n (omega arith)))
+    omega (arith, size-cons a b later, length_is (small_is n (omega arith)))
 
 -- one arc more
 pub size_push : (rule : RootRule) (arcs octets : List ℕ) (arc : ℕ) → IsEncoding rule arcs octets → size (arcs ++ arc ∷ []) ≡ length octets + width arc
 size_push rule [] octets arc e = absurd e.identifier
 size_push rule (a ∷ []) octets arc e = absurd e.identifier
 size_push rule (a ∷ b ∷ later) octets arc e =
-    omega (arith, length_is_size rule (a ∷ b ∷ later) octets e, size-cons a b later, size-cons a b (later ++ arc ∷ []), sum_by-append width later (arc ∷ []), sum_by-cons width arc [])
+    omega (arith, length_is_size e, size-cons a b later, size-cons a b (later ++ arc ∷ []), sum_by-append width later (arc ∷ []), sum_by-cons width arc [])
 
 -- ---- arcs of octets
 

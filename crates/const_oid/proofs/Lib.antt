@@ -26,6 +26,7 @@ pub mod PartBounds
 pub mod Parents
 pub mod Printed
 pub mod Subtree
+pub mod SortedNames
 pub mod Overflow
 pub mod Tree
 pub mod WideKeeps

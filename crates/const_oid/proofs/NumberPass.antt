@@ -1,7 +1,7 @@
 -- One pass over octets without a fault reads the numbers of their parts.
-use Rattle.std.proofs.Common.{◌≡◌, ℕ, ◌+◌, ◌*◌, ◌%◌, ◌<◌, ◌≤◌, Bool, true, false, not, List, [], ◌∷◌, ◌++◌, length, map, drop, get_or, nat_lt, ◌==◌, ◌&&◌, None, if◌then◌else◌, refl, sym, ap, ◌∙◌, ⊎_elim, arith, lt-ltb, le-ltb}
+use Rattle.std.proofs.Common.{◌≡◌, ℕ, ◌+◌, ◌-◌, ◌*◌, ◌%◌, ◌<◌, ◌≤◌, Bool, true, false, not, List, [], ◌∷◌, ◌++◌, length, map, take, drop, get_or, nat_lt, ◌==◌, ◌&&◌, None, if◌then◌else◌, refl, sym, ap, ◌∙◌, ⊎_elim, arith, lt-ltb, le-ltb}
 use Rattle.std.proofs.lemmas.Bool.{cases_lt}
-use Rattle.std.proofs.lemmas.List.{drop_more}
+use Rattle.std.proofs.lemmas.List.{take_all}
 use Rattle.std.proofs.lemmas.Grind.{common_steps}
 use Rattle.const_oid.specs.Base128.{value_of}
 use Rattle.const_oid.specs.Contents.{cut, later_fault}
@@ -58,23 +58,29 @@ numbers_on (x ∷ xs) limit prefix begun value s none = ⊎_elim
 pub numbers_are : (limit : ℕ) (octets : List ℕ) → pass limit false 0 octets ≡ None → number_pass 0 octets ≡ map value_of (cut octets)
 numbers_are limit octets none = numbers_on octets limit [] false 0 (part_read-none limit) none
 
+-- octets after the first, as a slice pattern takes them
+after_first : (x : ℕ) (xs : List ℕ) → take (length (x ∷ xs) - 1) (drop 1 (x ∷ xs)) ≡ xs
+after_first x xs = take_all (length (x ∷ xs) - 1) xs (omega arith)
+
+pub after_shorter : (octets : List ℕ) → 1 ≤ length octets → length (take (length octets - 1) (drop 1 octets)) + 1 ≡ length octets
+after_shorter [] some = absurd (omega arith)
+after_shorter (x ∷ xs) some = rw (after_first x xs) (omega arith)
+
 -- at an octet that is not the last of the first part
-pub numbers_more : (limit : ℕ) (begun : Bool) (value : ℕ) (octets : List ℕ) (i : ℕ) → i < length octets → 128 ≤ get_or octets i 0 → pass limit begun value (drop i octets) ≡ None
-    → (number_pass (value * 128 + get_or octets i 0 % 128) (drop (i + 1) octets) ≡ number_pass value (drop i octets)) × (pass limit true (value * 128 + get_or octets i 0 % 128) (drop (i + 1) octets) ≡ None)
-numbers_more limit begun value octets i h more none =
-    let x = get_or octets i 0 in
-    let here = drop_more octets i 0 h in (
-      sym (ap (number_pass value) here ∙ number_pass-more value x (drop (i + 1) octets) more),
-      goes_more limit begun value x (drop (i + 1) octets) more (ap (pass limit begun value) (sym here) ∙ none),
-    )
+pub numbers_more : (limit : ℕ) (begun : Bool) (value : ℕ) (octets : List ℕ) → 1 ≤ length octets → 128 ≤ get_or octets 0 0 → pass limit begun value octets ≡ None
+    → let later = take (length octets - 1) (drop 1 octets) in let value' = value * 128 + get_or octets 0 0 % 128 in
+    (number_pass value' later ≡ number_pass value octets) × (pass limit true value' later ≡ None)
+numbers_more limit begun value [] some more none = absurd (omega arith)
+numbers_more limit begun value (x ∷ xs) some more none = rw (after_first x xs) (sym (number_pass-more value x xs more), goes_more limit begun value x xs more none)
 
 -- at the last octet of the first part
-pub numbers_after : (limit : ℕ) (begun : Bool) (value : ℕ) (octets rest : List ℕ) (i : ℕ) → i < length octets → get_or octets i 0 < 128 → rest ≡ drop (i + 1) octets → pass limit begun value (drop i octets) ≡ None
-    → (number_pass value (drop i octets) ≡ (value * 128 + get_or octets i 0 % 128) ∷ map value_of (cut rest)) × (later_fault (cut rest) ≡ None)
-numbers_after limit begun value octets rest i h last e none =
-    let x = get_or octets i 0 in
-    let here = drop_more octets i 0 h in
-    let later : pass max_arc false 0 rest ≡ None = rw e (goes_last limit begun value x (drop (i + 1) octets) last (ap (pass limit begun value) (sym here) ∙ none)) in (
-      ap (number_pass value) here ∙ number_pass-last value x (drop (i + 1) octets) last ∙ ap (λ ns. (value * 128 + x % 128) ∷ ns) (ap (number_pass 0) (sym e) ∙ numbers_are max_arc rest later),
-      sym (later_pass rest) ∙ later,
+pub numbers_after : (limit : ℕ) (begun : Bool) (value : ℕ) (octets : List ℕ) → 1 ≤ length octets → get_or octets 0 0 < 128 → pass limit begun value octets ≡ None
+    → let later = take (length octets - 1) (drop 1 octets) in
+    (number_pass value octets ≡ (value * 128 + get_or octets 0 0 % 128) ∷ map value_of (cut later)) × (later_fault (cut later) ≡ None)
+numbers_after limit begun value [] some last none = absurd (omega arith)
+numbers_after limit begun value (x ∷ xs) some last none =
+    let later = goes_last limit begun value x xs last none in
+    rw (after_first x xs) (
+      number_pass-last value x xs last ∙ ap (λ ns. (value * 128 + x % 128) ∷ ns) (numbers_are max_arc xs later),
+      sym (later_pass xs) ∙ later,
     )

@@ -1,19 +1,32 @@
 -- The table of pairs has the digits of each number below a hundred.
-use Rattle.std.proofs.Common.{◌≡◌, ℕ, zero, suc, ◌+◌, ◌-◌, ◌*◌, ◌/◌, ◌%◌, ◌<◌, Bool, true, ◌&&◌, T, eqb, get_or, inl, inr, arith, eq-zero-or-pos, eqb→eq}
+use Rattle.std.proofs.Common.{◌≡◌, ℕ, zero, suc, ◌+◌, ◌-◌, ◌/◌, ◌%◌, ◌<◌, Bool, true, false, ◌&&◌, List, [], ◌∷◌, T, eqb, get_or, inl, inr, arith, eq-zero-or-pos, eqb→eq}
 use lib.Ieee.Fits.{and_l, and_r}
 use Rattle.const_oid.specs.declared.digits.TheConstants.{PAIRS}
+use Rattle.const_oid.specs.Private.Text.{pair_text}
+
+abbrev is_pair : List ℕ → ℕ → Bool
+is_pair [] p = false
+is_pair (tens ∷ []) p = false
+is_pair (tens ∷ ones ∷ []) p = eqb tens (48 + p / 10) && eqb ones (48 + p % 10)
+is_pair (tens ∷ ones ∷ x ∷ xs) p = false
 
 abbrev are_pairs : ℕ → Bool
 are_pairs zero = true
-are_pairs (suc p) = (eqb (get_or PAIRS (p * 2) 0) (48 + p / 10) && eqb (get_or PAIRS (p * 2 + 1) 0) (48 + p % 10)) && are_pairs p
+are_pairs (suc p) = is_pair (get_or PAIRS p []) p && are_pairs p
 
-pairs_below : (n p : ℕ) → T (are_pairs n) → p < n → (get_or PAIRS (p * 2) 0 ≡ 48 + p / 10) × (get_or PAIRS (p * 2 + 1) 0 ≡ 48 + p % 10)
+pair_is : (digits : List ℕ) (p : ℕ) → T (is_pair digits p) → digits ≡ pair_text p
+pair_is [] p t = absurd t
+pair_is (tens ∷ []) p t = absurd t
+pair_is (tens ∷ ones ∷ []) p t = rw (eqb→eq tens _ (and_l _ (eqb ones (48 + p % 10)) t), eqb→eq ones _ (and_r (eqb tens (48 + p / 10)) _ t))
+pair_is (tens ∷ ones ∷ x ∷ xs) p t = absurd t
+
+pairs_below : (n p : ℕ) → T (are_pairs n) → p < n → get_or PAIRS p [] ≡ pair_text p
 pairs_below zero p t h = absurd (omega arith)
 pairs_below (suc n) p t h =
     elim (eq-zero-or-pos (n - p)) [
-      | inl z ↦ let e : p ≡ n = omega arith in let a = and_l _ (are_pairs n) t in rw e (eqb→eq _ _ (and_l _ _ a), eqb→eq _ _ (and_r _ _ a))
+      | inl z ↦ let e : p ≡ n = omega arith in rw e (pair_is _ n (and_l _ (are_pairs n) t))
       | inr g ↦ pairs_below n p (and_r _ (are_pairs n) t) (omega arith)
     ]
 
-pub PAIRS_at : (p : ℕ) → p < 100 → (get_or PAIRS (p * 2) 0 ≡ 48 + p / 10) × (get_or PAIRS (p * 2 + 1) 0 ≡ 48 + p % 10)
+pub PAIRS_at : (p : ℕ) → p < 100 → get_or PAIRS p [] ≡ pair_text p
 PAIRS_at p h = pairs_below 100 p tt h

@@ -63,7 +63,7 @@ cut-without_last_part octets prefix x index is inside final more =
 pub cut-before_only : (octets prefix : List ℕ) (x : ℕ) → octets ≡ prefix ++ x ∷ [] → ((k : ℕ) → k < length prefix → 128 ≤ slice_index prefix k) → let parts = cut octets in cut (take 0 prefix) ≡ take (length parts - 1) parts
 cut-before_only octets prefix x is more = without_last_part octets prefix x 0 is (omega arith) (λ k e. absurd (omega arith)) (λ k l r. more k r)
 
--- ---- what they stand for
+-- ---- what they encode
 
 later_fault-take : (k : ℕ) (parts : List (List ℕ)) → later_fault parts ≡ None → later_fault (take k parts) ≡ None
 later_fault-take zero parts h = refl
@@ -112,13 +112,13 @@ parent_without_last_part octets prefix e some =
 -- ---- a parent's octets, whatever the rule
 
 -- they are those without the last part
-pub parent_octets : (rule : RootRule) (arcs parent octets : List ℕ) → IsEncoding rule arcs octets → parent_of arcs ≡ Some parent → let parts = cut octets in IsEncoding rule parent (concat (take (length parts - 1) parts))
-parent_octets rule arcs parent octets e p =
+pub parent_octets : {rule : RootRule} {arcs : List ℕ} (parent : List ℕ) {octets : List ℕ} → IsEncoding rule arcs octets → parent_of arcs ≡ Some parent → let parts = cut octets in IsEncoding rule parent (concat (take (length parts - 1) parts))
+parent_octets {rule} {arcs} parent {octets} e p =
     let (i, arc, small, joined) = child_of-parent_of rule arcs parent e.identifier p in
     let (prefix, last, parts, encoding) = encoding_parent rule parent octets arc i (rw joined e) in
     rw (parts, but_last prefix last) encoding
 
-none_of_two : (arcs : List ℕ) → 2 ≤ length arcs → (parent_of arcs ≡ None) ↔ (length arcs ≡ 2)
+pub none_of_two : (arcs : List ℕ) → 2 ≤ length arcs → (parent_of arcs ≡ None) ↔ (length arcs ≡ 2)
 none_of_two arcs two = ⊎_elim
     (λ (more : 2 < length arcs). (λ none. cc (none, some more), λ e. absurd (omega (arith, e))))
     (λ (few : length arcs ≤ 2). (λ none. omega arith, λ e. rw (le-ltb 2 (length arcs) few)))
@@ -127,14 +127,14 @@ none_of_two arcs two = ⊎_elim
     some : 2 < length arcs → parent_of arcs ≡ Some (take (length arcs - 1) arcs)
     some more = rw (lt-ltb 2 (length arcs) more)
 
-two_arcs : (rule : RootRule) (arcs : List ℕ) → IsIdentifier rule arcs → 2 ≤ length arcs
+pub two_arcs : (rule : RootRule) (arcs : List ℕ) → IsIdentifier rule arcs → 2 ≤ length arcs
 two_arcs rule [] i = absurd i
 two_arcs rule (a ∷ []) i = absurd i
 two_arcs rule (a ∷ b ∷ later) i = omega arith
 
 -- and of one part there are none
-pub parent_of_one : (rule : RootRule) (arcs octets : List ℕ) → IsEncoding rule arcs octets → (parent_of arcs ≡ None) ↔ (length (cut octets) ≡ 1)
-parent_of_one rule arcs octets e =
+pub parent_of_one : {rule : RootRule} {arcs octets : List ℕ} → IsEncoding rule arcs octets → (parent_of arcs ≡ None) ↔ (length (cut octets) ≡ 1)
+parent_of_one {rule} {arcs} {octets} e =
     let long = length_by_parts rule arcs octets e in
     let (to, from) = none_of_two arcs (two_arcs rule arcs e.identifier) in
     (λ none. omega (arith, to none), λ one. from (omega arith))

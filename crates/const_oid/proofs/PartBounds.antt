@@ -84,8 +84,8 @@ take_root : (parts : List (List ℕ)) → take 2 (arcs_from (map value_of parts)
 take_root [] = refl
 take_root (part ∷ parts) = grind (arith, nat_tests)
 
-pub root_by_part : (rule : RootRule) (arcs octets : List ℕ) → IsEncoding rule arcs octets → take 2 arcs ≡ arcs_from (map value_of (take 1 (cut octets)))
-root_by_part rule arcs octets e = ap (take 2) (sym (arcs_of_encoding rule arcs octets e)) ∙ take_root (cut octets)
+pub root_by_part : {rule : RootRule} {arcs octets : List ℕ} → IsEncoding rule arcs octets → take 2 arcs ≡ arcs_from (map value_of (take 1 (cut octets)))
+root_by_part {octets} e = ap (take 2) (sym (arcs_of_encoding e)) ∙ take_root (cut octets)
 
-pub arc_by_part : (rule : RootRule) (arcs octets : List ℕ) (i : ℕ) → IsEncoding rule arcs octets → 2 ≤ i → slice_get arcs i ≡ option_map value_of (slice_get (cut octets) (i - 1))
-arc_by_part rule arcs octets i e later = ap (λ xs. slice_get xs i) (sym (arcs_of_encoding rule arcs octets e)) ∙ later_at (cut octets) i later
+pub arc_by_part : {rule : RootRule} {arcs octets : List ℕ} (i : ℕ) → IsEncoding rule arcs octets → 2 ≤ i → slice_get arcs i ≡ option_map value_of (slice_get (cut octets) (i - 1))
+arc_by_part {octets} i e later = ap (λ xs. slice_get xs i) (sym (arcs_of_encoding e)) ∙ later_at (cut octets) i later

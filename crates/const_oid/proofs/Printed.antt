@@ -66,4 +66,4 @@ printed_short rule [] octets e = absurd e.identifier
 printed_short rule (a ∷ []) octets e = absurd e.identifier
 printed_short rule (a ∷ b ∷ later) octets e =
     let i = e.identifier in
-    omega (arith, length-text a (b ∷ later), sum_by-cons (λ n. length (decimal n) + 1) b later, root_printed rule a b i.0 i.1, later_printed later i.2, length_is_size rule (a ∷ b ∷ later) octets e, sum_by-cons width (40 * a + b) later)
+    omega (arith, length-text a (b ∷ later), sum_by-cons (λ n. length (decimal n) + 1) b later, root_printed rule a b i.0 i.1, later_printed later i.2, length_is_size e, sum_by-cons width (40 * a + b) later)

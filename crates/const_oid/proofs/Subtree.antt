@@ -13,7 +13,6 @@ use Rattle.std.proofs.lemmas.List.Sums.{sum_by-cons, sum_by-le}
 use Rattle.std.proofs.lemmas.Cmp.{nat_list_cmp_total}
 use Rattle.std.proofs.lemmas.Option.{slice_get_cases}
 use Rattle.const_oid.specs.declared.oid_ref.ObjectIdentifierRef.{ObjectIdentifierRef}
-use Rattle.const_oid.specs.Identifier.{root_rule}
 use Rattle.const_oid.specs.OidRef.{ref_octets, ref_arcs}
 use Rattle.const_oid.specs.Tree.{BeginsWith}
 use Rattle.const_oid.proofs.Encodings.{ref_encoding}
@@ -69,7 +68,7 @@ module _ {X : Type 0} (p b : X → Bool) (apart : (x : X) → b x ≡ true → p
   index : (count k : ℕ) (q c : Bool) → (k < from → q ≡ true) → (from ≤ k → k < from + count → c ≡ true) → (from + count ≤ k → c ≡ false) → (c ≡ true → q ≡ false) → (c ≡ true) ↔ ((from ≤ k) × (k < from + count))
   index count k q c early inside late apart = (λ t. (grind (arith, common_steps), grind (arith, common_steps)), λ h. inside h.0 h.1)
 
-  -- from there on to the other's cut stand those that pass it
+  -- those that pass it are from there on to the other's cut
   between_points : (count : ℕ) → IsPartitionPoint (λ x. b x ≡ true) (λ x. b x ≡ false) (drop from xs) count → (k : ℕ) (d : X) → k < length xs → (b (get_or xs k d) ≡ true) ↔ ((from ≤ k) × (k < from + count))
   between_points count second k d l =
       let x = get_or xs k d in
@@ -79,7 +78,7 @@ module _ {X : Type 0} (p b : X → Bool) (apart : (x : X) → b x ≡ true → p
       (λ m. rw (index_after k d (omega arith)) at (second.1 (k - from) d (omega arith) (omega (arith, length-drop from xs))))
       (apart x)
 
--- ---- what stands before and under a prefix
+-- ---- what comes before and is under a prefix
 
 module _ (prefix : ObjectIdentifierRef) where
   abbrev pub ref_is_before : ObjectIdentifierRef → Bool
@@ -88,18 +87,15 @@ module _ (prefix : ObjectIdentifierRef) where
   abbrev pub ref_is_under : ObjectIdentifierRef → Bool
   ref_is_under oid = is_under (ref_octets prefix) (ref_octets oid)
 
-  abbrev pub ref_is_within : ObjectIdentifierRef → Bool
-  ref_is_within oid = is_within (ref_octets prefix) (ref_octets oid)
-
   -- beginning in octets is beginning in arcs
   ref_under_iff : (oid : ObjectIdentifierRef) → (ref_is_under oid ≡ true) ↔ BeginsWith (ref_arcs oid) (ref_arcs prefix)
   ref_under_iff oid =
-      iff_begins root_rule (ref_arcs oid) (ref_arcs prefix) (ref_octets oid) (ref_octets prefix) (ref_is_under oid ≡ true) (ref_encoding oid) (ref_encoding prefix) (under_iff (ref_octets prefix) (ref_octets oid))
+      iff_begins (ref_is_under oid ≡ true) (ref_encoding oid) (ref_encoding prefix) (under_iff (ref_octets prefix) (ref_octets oid))
 
   ref_under_apart : (oid : ObjectIdentifierRef) → ref_is_under oid ≡ true → ref_is_before oid ≡ false
   ref_under_apart oid = under_apart (ref_octets prefix) (ref_octets oid)
 
-  -- what stands where, by the index where the one test cuts the list and that where the other cuts the rest
+  -- what is where, by the index where the one test cuts the list and that where the other cuts the rest
   pub range_between : (sorted : List ObjectIdentifierRef) (from count : ℕ) → IsPartitionPoint (λ oid. ref_is_before oid ≡ true) (λ oid. ref_is_before oid ≡ false) sorted from → IsPartitionPoint (λ oid. ref_is_under oid ≡ true) (λ oid. ref_is_under oid ≡ false) (drop from sorted) count → (k : ℕ) → IfSome (slice_get sorted k) (λ oid. BeginsWith (ref_arcs oid) (ref_arcs prefix) ↔ ((from ≤ k) × (k < from + count)))
   range_between sorted from count first second k = ⊎_elim
       (λ (oid, l, e, read).
@@ -109,14 +105,16 @@ module _ (prefix : ObjectIdentifierRef) where
       (λ (l, e). rw e tt)
       (slice_get_cases sorted k).1
 
-  module _ (sorted : List ObjectIdentifierRef) (up : IsSortedByKey ref_octets (slice_cmp nat_cmp) sorted) where
-    cut_by : (p : ObjectIdentifierRef → Bool) → ((x z : ObjectIdentifierRef) → is_before (ref_octets x) (ref_octets z) ≡ false → p z ≡ true → p x ≡ true) → IsPartitionedBy p sorted
-    cut_by p down = partitioned (λ x y. is_before (ref_octets y) (ref_octets x)) (ranks_by nat_list_cmp_total ref_octets) p down sorted up
+-- ---- in a list that is sorted by a key
 
-    pub cut_before : IsPartitionedBy ref_is_before sorted
-    cut_before = cut_by ref_is_before (λ x z. before_down (ref_octets prefix) (ref_octets x) (ref_octets z))
+module _ {X : Type 0} (key : X → List ℕ) (prefix : List ℕ) (sorted : List X) (up : IsSortedByKey key (slice_cmp nat_cmp) sorted) where
+  cut_by : (p : List ℕ → Bool) → ((x z : List ℕ) → is_before x z ≡ false → p z ≡ true → p x ≡ true) → IsPartitionedBy (λ x. p (key x)) sorted
+  cut_by p down =
+      partitioned (λ x y. is_before (key y) (key x)) (ranks_by nat_list_cmp_total key) (λ x. p (key x)) (λ x z. down (key x) (key z)) sorted up
 
-    pub cut_after : (from : ℕ) → IsPartitionPoint (λ oid. ref_is_before oid ≡ true) (λ oid. ref_is_before oid ≡ false) sorted from → IsPartitionedBy ref_is_under (drop from sorted)
-    cut_after from first =
-        let either = cut_by ref_is_within (λ x z. within_down (ref_octets prefix) (ref_octets x) (ref_octets z)) in
-        other_after ref_is_before ref_is_under ref_under_apart sorted from first either
+  pub cut_before : IsPartitionedBy (λ x. is_before prefix (key x)) sorted
+  cut_before = cut_by (is_before prefix) (before_down prefix)
+
+  pub cut_after : (from : ℕ) → IsPartitionPoint (λ x. is_before prefix (key x) ≡ true) (λ x. is_before prefix (key x) ≡ false) sorted from → IsPartitionedBy (λ x. is_under prefix (key x)) (drop from sorted)
+  cut_after from first =
+      other_after (λ x. is_before prefix (key x)) (λ x. is_under prefix (key x)) (λ x. under_apart prefix (key x)) sorted from first (cut_by (is_within prefix) (within_down prefix))

@@ -13,7 +13,7 @@ use Rattle.const_oid.specs.Items.{arc_fault, too_few_fault, items_fault, item_fa
 use Rattle.const_oid.proofs.Lists.{append-cons}
 use Rattle.const_oid.proofs.Encodings.{arcs_of_encoding}
 
--- none of the items is refused, whatever follows them
+-- none of the items is rejected, whatever follows them
 abbrev pub AreTaken : RootRule → ℕ → List ℕ → Type 0
 AreTaken rule capacity given = (later : List ℕ) → item_fault rule (given ++ later) capacity ≡ items_fault rule capacity given later
 
@@ -28,7 +28,7 @@ begins_with_run p items are = front_from_reads 0 items p.items (omega (arith, ar
     let there = p.reads k 0 (omega (arith, p.long)) in
     cc)
 
--- calls gave the items, of which none is refused
+-- calls gave the items, and none of them is rejected
 module _ {S : Type 0} (rule : RootRule) (capacity : ℕ) (steps : S → Option ℕ → S → Type 0) (s : S) (given : List ℕ) (t u : S) (yielded : Yields steps s given t) (taken : AreTaken rule capacity given) where
   whole : item_fault rule given capacity ≡ too_few_fault given
   whole = rw append-nil at (taken [])
@@ -36,7 +36,7 @@ module _ {S : Type 0} (rule : RootRule) (capacity : ℕ) (steps : S → Option �
   -- no item is left, and the arcs were encoded
   takes_all : steps t None u → (octets : List ℕ) → None ≡ too_few_fault given → IsEncoding rule given octets → TakesItems rule capacity steps s (Ok (arcs_of_octets octets))
   takes_all none octets few e =
-      let back : arcs_of_octets octets ≡ given = arcs_of_encoding rule given octets e in
+      let back : arcs_of_octets octets ≡ given = arcs_of_encoding e in
       (run steps s given true (to_end steps s given (u, (t, yielded, none))), refl, refl, (sym back, rw back (whole ∙ sym few)))
 
   -- no item is left, and there are too few
@@ -48,7 +48,7 @@ module _ {S : Type 0} (rule : RootRule) (capacity : ℕ) (steps : S → Option �
   takes_end octets_in (Ok x) none few e = takes_all none (octets_in x) few e
   takes_end octets_in (Err fault) none few e = takes_few none fault few
 
-  -- the next item is refused
+  -- the next item is rejected
   pub takes_prefix : (item : ℕ) (fault : Error) → steps t (Some item) u → Some fault ≡ arc_fault rule capacity given item → TakesItems rule capacity steps s (Err fault)
   takes_prefix item fault next refused =
       let prefix = given ++ item ∷ [] in

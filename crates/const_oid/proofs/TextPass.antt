@@ -26,7 +26,7 @@ use Rattle.const_oid.proofs.Lists.{append-cons, onto_all, onto_all-first, not_em
 use Rattle.const_oid.proofs.Encodings.{arcs_of_encoding}
 use Rattle.const_oid.proofs.Numbers.{number_of_digits, find-none, take_while-digits, find-digits, digit-undotted}
 
--- an answer after a fault, if there is one
+-- a result after a fault, if there is one
 abbrev pub after : Option Error → Result (List ℕ) Error → Result (List ℕ) Error
 after None r = r
 after (Some fault) r = Err fault
@@ -40,7 +40,7 @@ text_pass rule capacity before begun value (b ∷ bs) =
     else Err (if is_empty before then DigitExpected 46 else RepeatedDot))
     else Err (DigitExpected b))
 
--- the answer of pieces
+-- the result of pieces
 abbrev pieces_answer : RootRule → ℕ → List ℕ → List (List ℕ) → Result (List ℕ) Error
 pieces_answer rule capacity before pieces = answer (pieces_fault rule capacity before pieces) (before ++ map number_of pieces)
 
@@ -202,12 +202,12 @@ pub text_pass-end : {X : Type 0} (octets_in : X → List ℕ) (rule : RootRule) 
     None ≡ last_fault rule capacity before number → result_err result ≡ too_few_fault (before ++ unwrap_or number 0 ∷ []) → IfOk result (λ x. IsEncoding rule (before ++ unwrap_or number 0 ∷ []) (octets_in x)) →
     result_map_both (λ x. arcs_of_octets (octets_in x)) (λ fault. fault) result ≡ text_pass rule capacity before (is_some number) (unwrap_or number 0) []
 text_pass-end octets_in rule capacity before None result n f e = cc
-text_pass-end octets_in rule capacity before (Some arc) (Ok x) n f e = rw (← n, ← f) (ap Ok (arcs_of_encoding rule (before ++ arc ∷ []) (octets_in x) e))
+text_pass-end octets_in rule capacity before (Some arc) (Ok x) n f e = rw (← n, ← f) (ap Ok (arcs_of_encoding e))
 text_pass-end octets_in rule capacity before (Some arc) (Err fault) n f e = rw (← n, ← f) refl
 
 -- ---- one byte of a text at an index
 
--- whether a byte is a digit, by the number that it stands for
+-- whether a byte is a digit, by the number that it denotes
 pub is_digit : (byte digit : ℕ) → Some digit ≡ then_some (is_ascii_digit byte) (byte - 48) → (is_ascii_digit byte ≡ true) × (digit ≡ byte - 48)
 is_digit byte digit e = by (is_ascii_digit byte) e
   where

@@ -43,17 +43,17 @@ narrow_not_past [] i p = i
 narrow_not_past (a ∷ []) i p = i
 narrow_not_past (a ∷ b ∷ later) i p = absurd (omega (arith, i.1, p.1))
 
-pub encoding_wide : (arcs octets : List ℕ) → IsEncoding Narrow arcs octets → IsEncoding Wide arcs octets
-encoding_wide arcs octets e = record { identifier = wide_from_narrow arcs e.identifier; groups = e.groups; each = e.each; joined = e.joined }
+pub encoding_wide : {arcs octets : List ℕ} → IsEncoding Narrow arcs octets → IsEncoding Wide arcs octets
+encoding_wide {arcs} e = record { identifier = wide_from_narrow arcs e.identifier; groups = e.groups; each = e.each; joined = e.joined }
 
 pub denotes_wide : (text arcs : List ℕ) → Denotes Narrow text arcs → Denotes Wide text arcs
 denotes_wide text arcs d = record { numbers = d.numbers; values = d.values; identifier = wide_from_narrow arcs d.identifier }
 
 -- the encodings of arcs under either rule are the same octets
-pub encoding_same : (arcs x y : List ℕ) → IsEncoding Narrow arcs x → IsEncoding Wide arcs y → x ≡ y
-encoding_same arcs x y e f = same_octets Wide arcs x y (encoding_wide arcs x e) f
+pub encoding_same : {arcs x y : List ℕ} → IsEncoding Narrow arcs x → IsEncoding Wide arcs y → x ≡ y
+encoding_same e f = same_octets (encoding_wide e) f
 
--- ---- what is accepted now and was refused
+-- ---- what is accepted now and was rejected
 
 pub octets_new : (octets : List ℕ) (capacity : ℕ) → AreOctets octets → (octet_fault Wide octets capacity ≡ None) × (octet_fault Narrow octets capacity ≢ None) ↔ ((arcs : List ℕ) × IsEncoding Wide arcs octets × IsPastNarrow arcs × (length octets ≤ capacity))
 octets_new octets capacity bytes = (
@@ -62,15 +62,15 @@ octets_new octets capacity bytes = (
       let e = encoding_from_none Wide octets bytes none in
       ⊎_elim
       (λ (narrow : IsIdentifier Narrow (arcs_of_octets octets)).
-      absurd (h.1 (octet_fault-fits Narrow (arcs_of_octets octets) octets capacity record { identifier = narrow; groups = e.groups; each = e.each; joined = e.joined } fits)))
+      absurd (h.1 (octet_fault-fits {rule = Narrow} capacity record { identifier = narrow; groups = e.groups; each = e.each; joined = e.joined } fits)))
       (λ (past : IsPastNarrow (arcs_of_octets octets)). (arcs_of_octets octets, e, past, fits))
       (narrow_or_past (arcs_of_octets octets) e.identifier),
   λ h.
       let (arcs, e, past, fits) = h in (
-        octet_fault-fits Wide arcs octets capacity e fits,
+        octet_fault-fits capacity e fits,
         λ none.
             let n = encoding_from_none Narrow octets bytes (fits_from_none Narrow octets capacity none).0 in
-            let same = same_arcs Wide (arcs_of_octets octets) arcs octets (encoding_wide (arcs_of_octets octets) octets n) e in
+            let same = same_arcs (encoding_wide n) e in
             narrow_not_past arcs (rw same at n.identifier) past,
       ),
 )

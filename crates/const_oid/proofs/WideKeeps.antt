@@ -1,4 +1,4 @@
--- What the wide rule keeps: the answers on octets, texts and lists, and what was accepted.
+-- What the wide rule keeps: the results of octets, texts and lists, and what was accepted.
 use Rattle.std.proofs.Common.{◌≡◌, ℕ, ◌/◌, ◌<◌, ◌≤◌, not, List, [], ◌∷◌, ◌++◌, length, map, nat_lt, Option, Some, None, option_map, refl, sym, ap, ◌∙◌, ⊎_elim, arith, find, lt-ltb, le-ltb}
 use Rattle.std.specs.Option.{option_or}
 use Rattle.std.specs.Prelude.{Ok}
@@ -22,7 +22,7 @@ use Rattle.const_oid.proofs.Texts.{arc_from_piece}
 -- ---- octets
 
 root_same : (x : ℕ) → x < 120 → first_fault Narrow (x ∷ []) ≡ first_fault Wide (x ∷ [])
-root_same x h = none_from_below 119 x (ArcInvalid (x / 40)) (omega arith) ∙ sym (part_none (max_first Wide) x (x ∷ []) (small_is x (omega arith)) (omega arith))
+root_same x h = none_from_below 119 x (ArcInvalid (x / 40)) (omega arith) ∙ sym (part_none (max_first Wide) (small_is x (omega arith)) (omega arith))
 
 pub octets_same : (x : ℕ) (xs : List ℕ) (capacity : ℕ) → x < 120 → octet_fault Narrow (x ∷ xs) capacity ≡ octet_fault Wide (x ∷ xs) capacity
 octets_same x xs capacity h = ap (λ f. option_or f (fault_if (nat_lt capacity (length (x ∷ xs))) Length)) parts
@@ -72,7 +72,7 @@ pieces_later_same : (capacity a b : ℕ) (before : List ℕ) (pieces : List (Lis
 pieces_later_same capacity a b before [] = refl
 pieces_later_same capacity a b before (piece ∷ pieces) = ap (option_or (piece_fault Narrow capacity (a ∷ b ∷ before) piece pieces)) (pieces_later_same capacity a b (before ++ number_of piece ∷ []) pieces)
 
--- what stands before the range of an arc decides where it has a fault
+-- what comes before the range of an arc decides where it has a fault
 range_same : (big digit empty trailing range range' : Option Error) → (big ≡ None → digit ≡ None → empty ≡ None → trailing ≡ None → range ≡ range') →
     option_or big (option_or digit (option_or empty (option_or trailing range))) ≡ option_or big (option_or digit (option_or empty (option_or trailing range')))
 range_same (Some x) digit empty trailing range range' h = refl
@@ -129,7 +129,7 @@ texts_kept text capacity none = sym (texts_same text capacity (none_refuses_none
 pub items_kept : (items : List ℕ) (capacity : ℕ) → item_fault Narrow items capacity ≡ None → item_fault Wide items capacity ≡ None
 items_kept items capacity none = sym (items_same items capacity (none_refuses_none items (item_fault Narrow items capacity) none)) ∙ none
 
--- an answer that was arcs stays
+-- a result that was arcs stays
 pub answer_kept : (narrow wide : Option Error) (numbers arcs : List ℕ) → (narrow ≡ None → wide ≡ None) → answer narrow numbers ≡ Ok arcs → answer wide numbers ≡ Ok arcs
 answer_kept None wide numbers arcs kept e = rw (kept refl) e
 answer_kept (Some fault) wide numbers arcs kept e = cc

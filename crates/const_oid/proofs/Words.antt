@@ -1,4 +1,4 @@
--- Words of eight octets: they are the same where their octets are, and stand as these do in list order.
+-- Words of eight octets: they are the same where their octets are, and have the list order of these.
 use Rattle.std.proofs.Common.{◌≡◌, ◌≢◌, ℕ, zero, suc, ◌+◌, ◌*◌, ◌^◌, ◌<◌, ◌≤◌, List, [], ◌∷◌, ◌++◌, length, take, drop, refl, sym, ap, ap₂, ◌∙◌, arith, min, Bool, true, false, ◌&&◌, nat_eq, IsTrue, Less, Equal, Greater, nat_cmp, w64, pow-suc}
 use Rattle.std.proofs.Math.Seq.{take-add}
 use Rattle.std.specs.Int.{from_be_bytes}
@@ -16,7 +16,7 @@ use Rattle.const_oid.proofs.Orders.{digits_cmp, nat_cmp-add, slice_cmp-prefix}
 
 -- ---- octets as a number
 
--- the number of octets, of which the first is the greatest
+-- the number of octets, the first the most significant
 abbrev worth : List ℕ → ℕ
 worth [] = 0
 worth (x ∷ xs) = x * 256 ^ length xs + worth xs
@@ -98,14 +98,14 @@ first_unequal (a ∷ g) (b ∷ h) x y l u = by_ranked _ _ _ (nat_cmp a b) (ranks
 unequal : (m n : ℕ) → m ≢ n → nat_cmp m n ≢ Equal
 unequal m n u e = grind (arith, nat_tests)
 
--- unequal words stand as the lists do
+-- unequal words are in the order of the lists
 pub unequal_cmp : (xs ys : List ℕ) (at m n : ℕ) → IsWord xs at m → IsWord ys at n → take at xs ≡ take at ys → m ≢ n → nat_cmp m n ≡ slice_cmp nat_cmp xs ys
 unequal_cmp xs ys at m n v w same u =
     let c = chunks_cmp xs ys at m n v w in
     let r = first_unequal (take 8 (drop at xs)) (take 8 (drop at ys)) (drop 8 (drop at xs)) (drop 8 (drop at ys)) (length-chunk xs at v.within ∙ sym (length-chunk ys at w.within)) (λ e. unequal m n u (sym c ∙ e)) in
     sym (after_same xs ys at same ∙ ap₂ (λ x y. slice_cmp nat_cmp x y) (sym (take-append-drop 8 (drop at xs))) (sym (take-append-drop 8 (drop at ys))) ∙ r ∙ c)
 
--- lists of which one has ended stand as their lengths do
+-- lists, one of which has ended, are in the order of their lengths
 pub rest_cmp : (xs ys : List ℕ) (at : ℕ) → at ≡ min (length xs) (length ys) → slice_cmp nat_cmp (drop at xs) (drop at ys) ≡ nat_cmp (length xs) (length ys)
 rest_cmp xs ys at e =
     let k : length xs ≡ at + length (drop at xs) = omega (arith, length-drop at xs) in
@@ -153,7 +153,7 @@ same_less xs ys at less h same = sym (take-take less at xs h) ∙ ap (λ zs. tak
 
 -- ---- arrays that have the same after them
 
--- lists of one length stand as they do before the same end
+-- lists of one length are in the order that they have before the same end
 with_end : (g h x : List ℕ) → length g ≡ length h → slice_cmp nat_cmp (g ++ x) (h ++ x) ≡ slice_cmp nat_cmp g h
 with_end [] [] x l = tied_itself nat_list_cmp_total x
 with_end [] (b ∷ h) x l = absurd (omega arith)

@@ -34,7 +34,7 @@ part_fault limit part =
     (option_or (fault_if (nat_lt limit (value_of part)) ArcTooBig)
     (fault_if (not (is_finished part)) Base128))
 
--- the first fault of parts that stand for later arcs
+-- the first fault of parts that hold later arcs
 abbrev pub later_fault : List (List ℕ) → Option Error
 later_fault [] = None
 later_fault (part ∷ parts) = option_or (part_fault max_arc part) (later_fault parts)
@@ -63,7 +63,7 @@ abbrev pub arcs_from : List ℕ → List ℕ
 arcs_from [] = []
 arcs_from (first ∷ later) = if nat_lt first 80 then first / 40 ∷ first % 40 ∷ later else 2 ∷ (first - 80) ∷ later
 
--- the arcs that octets stand for
+-- the arcs that octets encode
 abbrev pub arcs_of_octets : List ℕ → List ℕ
 arcs_of_octets octets = arcs_from (map value_of (cut octets))
 

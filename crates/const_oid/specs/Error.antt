@@ -1,4 +1,4 @@
--- Errors: where a fault stands, the texts, and the order.
+-- Errors: where a fault is, the texts, and the order.
 use Rattle.std.specs.Prelude.{ℕ, Bool, List, ◌++◌, codes, decimal, encode_utf8, if◌then◌else◌, Option, Some, None, Result, Ok, Err}
 use Rattle.std.specs.declared.cmp.Ordering.{Ordering}
 use Rattle.std.specs.Ordering.{nat_cmp, ordering_then}

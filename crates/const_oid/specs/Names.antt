@@ -1,7 +1,8 @@
 -- Tables of identifiers and names.
-use Rattle.std.specs.Prelude.{ℕ, Bool, List, map, filter, find, nat_eq, Option, unwrap_or, Result}
+use Rattle.std.specs.Prelude.{◌≡◌, ◌++◌, ℕ, Bool, List, map, filter, find, nat_eq, Option, Some, unwrap_or, Result}
 use Rattle.std.specs.Borrow.{Bor}
 use Rattle.std.specs.Cmp.Lexicographic.{pointwise}
+use Rattle.std.specs.List.{All}
 use Rattle.std.specs.Option.{option_map}
 use Rattle.std.specs.Result.{result_map_both}
 use Rattle.std.specs.Str.{str_eq_ignore_ascii_case}
@@ -9,6 +10,7 @@ use Rattle.const_oid.specs.declared.db.Database.{Database}
 use Rattle.const_oid.specs.declared.db.Names.{Names}
 use Rattle.const_oid.specs.declared.db_ref.RefDatabase.{RefDatabase}
 use Rattle.const_oid.specs.declared.db_ref.RefNames.{RefNames}
+use Rattle.const_oid.specs.declared.db_sorted.SortedDatabase.{SortedDatabase}
 use Rattle.const_oid.specs.declared.error.Error.{Error}
 use Rattle.const_oid.specs.declared.oid.ObjectIdentifier.{ObjectIdentifier}
 use Rattle.const_oid.specs.declared.oid_ref.ObjectIdentifierRef.{ObjectIdentifierRef}
@@ -16,6 +18,7 @@ use Rattle.const_oid.specs.Identifier.{root_rule, usual_capacity}
 use Rattle.const_oid.specs.Oid.{oid_arcs}
 use Rattle.const_oid.specs.OidRef.{ref_arcs}
 use Rattle.const_oid.specs.Text.{text_answer}
+use Rattle.const_oid.specs.Tree.{BeginsWith}
 
 -- an entry: an identifier of some form, and a reference to its name
 abbrev pub Entry : Type 0 → Type 0
@@ -49,7 +52,7 @@ all_names arcs_of entries arcs = map name_of (filter (has_arcs arcs_of arcs) ent
 abbrev pub first_oid : {Oid : Type 0} → List (Entry Oid) → List ℕ → Option Oid
 first_oid entries name = option_map oid_of (find (has_name name) entries)
 
--- the arcs of an owned identifier that is lent
+-- the arcs of an owned identifier that is borrowed
 abbrev pub lent_arcs : Bor (ObjectIdentifier 39) → List ℕ
 lent_arcs oid = oid_arcs oid.now
 
@@ -77,3 +80,25 @@ name_or entries text arcs = unwrap_or (first_name lent_arcs entries arcs) text
 abbrev pub resolve_answer : List (Entry (Bor (ObjectIdentifier 39))) → Bor (List ℕ) → Result (Bor (List ℕ)) Error
 resolve_answer entries text =
     result_map_both (name_or entries text) (λ fault. fault) (text_answer root_rule text.now usual_capacity)
+
+-- the arcs of an entry of a borrowed identifier
+abbrev pub entry_arcs : Entry ObjectIdentifierRef → List ℕ
+entry_arcs entry = ref_arcs (oid_of entry)
+
+-- the entries of a sorted database, in table order
+abbrev pub sorted_entries_of : SortedDatabase → List (Entry ObjectIdentifierRef)
+sorted_entries_of database = database.entries.now
+
+-- the entry is the nearest one to arcs: they begin with its own, whose first entry it is, and its own begin with all others that they begin with
+pub record IsNearest (entries : List (Entry ObjectIdentifierRef)) (arcs : List ℕ) (entry : Entry ObjectIdentifierRef) : Type 0 where
+  pub begins : BeginsWith arcs (entry_arcs entry)
+  pub first : find (has_arcs ref_arcs (entry_arcs entry)) entries ≡ Some entry
+  pub longest : All (λ other. BeginsWith arcs (entry_arcs other) → BeginsWith (entry_arcs entry) (entry_arcs other)) entries
+
+-- these are the entries that begin with arcs: the table has them in a row, and no others begin so
+pub record IsSubtree (entries : List (Entry ObjectIdentifierRef)) (arcs : List ℕ) (subtree : List (Entry ObjectIdentifierRef)) : Type 0 where
+  pub before : List (Entry ObjectIdentifierRef)
+  pub after : List (Entry ObjectIdentifierRef)
+  pub joined : entries ≡ before ++ (subtree ++ after)
+  pub inside : All (λ entry. BeginsWith (entry_arcs entry) arcs) subtree
+  pub outside : All (λ entry. BeginsWith (entry_arcs entry) arcs → ⊥) (before ++ after)

@@ -2,6 +2,7 @@
 use Rattle.std.specs.Borrow.{Bor}
 use Rattle.std.specs.Prelude.{ℕ, List, Result}
 use Rattle.std.specs.Result.{result_map_both}
+use Rattle.const_oid.specs.declared.by_arcs.ByArcs.{ByArcs}
 use Rattle.const_oid.specs.declared.error.Error.{Error}
 use Rattle.const_oid.specs.declared.oid_ref.ObjectIdentifierRef.{ObjectIdentifierRef}
 use Rattle.const_oid.specs.Contents.{arcs_of_octets}
@@ -18,6 +19,10 @@ ref_octets oid = (ref_slice oid).now
 abbrev pub ref_arcs : ObjectIdentifierRef → List ℕ
 ref_arcs oid = arcs_of_octets (ref_octets oid)
 
--- what a call answers, by the arcs of the identifier
+-- the arcs of a key
+abbrev pub key_arcs : ByArcs → List ℕ
+key_arcs key = ref_arcs key.0
+
+-- what a call returns, by the arcs of the identifier
 abbrev pub ref_answer : Result ObjectIdentifierRef Error → Result (List ℕ) Error
 ref_answer result = result_map_both ref_arcs (λ fault. fault) result

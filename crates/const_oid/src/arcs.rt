@@ -26,7 +26,7 @@ enum Next {
     First,
     /// The second arc, and then later ones.
     Second(Arc),
-    /// Later arcs, of which each is a subidentifier.
+    /// Later arcs. Each is a subidentifier.
     Later,
 }
 
@@ -112,16 +112,18 @@ fn read_group(octets: &[u8]) -> (u64, &[u8])
     ensures small { result.0 ≤ max_first root_rule }
     ensures later { later_fault (cut result.1.now) ≡ None }
 {
-    let mut number: u64 = 0;
-    let mut index = 0;
-    loop {
-        let octet = octets[index] as u64;
-        index += 1;
-        if octet < 128 {
-            return (number * 128 + octet, octets.split_at(index).1);
+    // The octets before, with seven bits to come.
+    let mut high: u64 = 0;
+    let mut left = octets;
+    while let [octet, after @ ..] = left {
+        if *octet < 128 {
+            return (high + *octet as u64, after);
         }
-        number = number * 128 + (octet - 128);
+        high = (high + (*octet % 128) as u64) * 128;
+        left = after;
     }
+    // Not reached, since the last octet ends its group.
+    (high, left)
 }
 
 /// The two arcs that the first subidentifier holds.

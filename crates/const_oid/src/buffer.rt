@@ -1,4 +1,4 @@
-//! Octets in an array of which the first are in use.
+//! Octets in an array. The first ones are in use.
 
 ghost use Rattle.std.specs.Prelude.{◌≡◌, ℕ, List, ◌++◌, ◌+◌, ◌-◌, ◌^◌, ◌<◌, ◌≤◌, ◌↔◌, [], length, take, drop, replicate, min, nat_eq, IsTrue, OnOk, OnErr, MatchResult};
 ghost use Rattle.std.proofs.Props.{props};
@@ -43,7 +43,7 @@ impl<const SIZE: usize> Buffer<SIZE> {
 
     /// The octets copied, which fit.
     #[inline(always)]
-    pub(crate) fn copied(octets: &[u8]) -> Self
+    pub(crate) const fn copied(octets: &[u8]) -> Self
         requires { length octets.now ≤ min SIZE 255 }
         ensures { octets_of result ≡ octets.now }
     {
@@ -53,7 +53,8 @@ impl<const SIZE: usize> Buffer<SIZE> {
         buffer
     }
 
-    /// Appends the group of a number, or answers `Length` where it does not fit.
+    /// Appends the group of a number, or returns `Length` where it does not fit.
+    // `const` in Rust.
     #[inline(always)]
     pub(crate) fn push_group(&mut self, number: u64) -> Result<()>
         requires { number < 2 ^ 35 }
@@ -71,8 +72,9 @@ impl<const SIZE: usize> Buffer<SIZE> {
         }
     }
 
-    /// Appends the group of an arc, or answers `Length` where it does not fit. Short groups have paths of
+    /// Appends the group of an arc, or returns `Length` where it does not fit. Short groups have paths of
     /// their own, which are quicker in a single call, and slower in the loop of an encoder.
+    // `const` in Rust.
     #[inline(always)]
     pub(crate) fn push_arc(&mut self, arc: Arc) -> Result<()>
         ensures fits { let long = length (octets_of self.old) + width arc in
@@ -89,7 +91,8 @@ impl<const SIZE: usize> Buffer<SIZE> {
         }
     }
 
-    /// Appends the group of a number, which takes `count` octets, or answers `Length`.
+    /// Appends the group of a number, which takes `count` octets, or returns `Length`.
+    // `const` in Rust.
     #[inline(always)]
     fn push_number_of_len(&mut self, number: u64, count: usize) -> Result<()>
         requires small { number < 2 ^ 35 }
@@ -111,6 +114,7 @@ impl<const SIZE: usize> Buffer<SIZE> {
     }
 
     /// The octets in use.
+    // `const` in Rust.
     pub fn as_bytes(&self) -> &[u8]
         ensures { result.now ≡ octets_of self.now }
     {
@@ -125,7 +129,25 @@ impl<const SIZE: usize> Buffer<SIZE> {
         self.used as usize
     }
 
+    /// Whether the octets in use are equal, the last first. This is for constants: there a slice costs the compiler.
+    pub(crate) const fn is_same(&self, other: &Self) -> bool
+        ensures { IsTrue result ↔ (octets_of self.now ≡ octets_of other.now) }
+    {
+        if self.used != other.used {
+            return false;
+        }
+        let mut left = self.used as usize;
+        while left > 0 {
+            left -= 1;
+            if self.bytes[left] != other.bytes[left] {
+                return false;
+            }
+        }
+        true
+    }
+
     /// Whether the octets in use are equal. Whole arrays are compared, since zeros follow in both.
+    // `const` in Rust.
     #[inline(always)]
     pub fn eq(&self, rhs: &Self) -> bool
         ensures value { result ≡ pointwise nat_eq (octets_of self.now) (octets_of rhs.now) }
@@ -137,7 +159,7 @@ impl<const SIZE: usize> Buffer<SIZE> {
 
 /// Copies octets to the start of as many or more. The loop makes it a constant function in Rust.
 #[inline(always)]
-fn copy_to(octets: &[u8], out: &mut [u8])
+const fn copy_to(octets: &[u8], out: &mut [u8])
     requires { length octets.now ≤ length out.old }
     ensures { out.new ≡ octets.now ++ drop (length octets.now) out.old }
 {
@@ -164,6 +186,7 @@ const fn group_len(number: u64) -> usize
 }
 
 /// Writes the group of a number, of so many octets, from an index on.
+// `const` in Rust.
 #[inline(always)]
 fn write_group_at(octets: &mut [u8], start: usize, number: u64, count: usize)
     requires small { number < 2 ^ 35 }
@@ -179,7 +202,7 @@ fn write_group_at(octets: &mut [u8], start: usize, number: u64, count: usize)
 
 /// Writes the group of a number into a slice, which is as long.
 #[inline(always)]
-fn write_group(octets: &mut [u8], number: u64)
+const fn write_group(octets: &mut [u8], number: u64)
     requires small { number < 2 ^ 35 }
     requires wide { length octets.old ≡ width number }
     ensures { IsGroup number octets.new }

@@ -1,7 +1,8 @@
 //! How slices of octets and names compare.
 
-ghost use Rattle.std.specs.Prelude.{◌≡◌, ◌↔◌, ℕ, ◌+◌, ◌≤◌, List, ◌++◌, length, take, drop, nat_eq, IsTrue};
+ghost use Rattle.std.specs.Prelude.{◌≡◌, ◌↔◌, ℕ, ◌+◌, ◌≤◌, List, ◌++◌, length, take, drop, min, nat_eq, IsTrue};
 ghost use Rattle.std.specs.Cmp.Lexicographic.{pointwise, slice_cmp};
+ghost use Rattle.std.specs.Int.{to_be_bytes, w32};
 ghost use Rattle.std.specs.Ordering.{nat_cmp};
 ghost use Rattle.std.specs.Str.{str_eq_ignore_ascii_case};
 ghost use Rattle.const_oid.specs.Orders.{parts_cmp};
@@ -11,6 +12,7 @@ use crate::parts::first_len;
 use std::cmp::Ordering;
 
 /// Whether octets begin with others.
+// `const` in Rust.
 #[inline(always)]
 pub(crate) fn begins_with(octets: &[u8], prefix: &[u8]) -> bool
     ensures { IsTrue result ↔ ((rest : List ℕ) × (octets.now ≡ prefix.now ++ rest)) }
@@ -21,8 +23,9 @@ pub(crate) fn begins_with(octets: &[u8], prefix: &[u8]) -> bool
     are_equal(prefix, octets.split_at(prefix.len()).0)
 }
 
-/// Whether octets are the same: the last one first, since most pairs differ there, then by words, of which
+/// Whether octets are the same: the last one first, since most pairs differ there, then by words, where
 /// the last one overlaps and comes first, or one by one where they are fewer than a word.
+// `const` in Rust.
 #[inline(always)]
 pub(crate) fn are_equal(a: &[u8], b: &[u8]) -> bool
     ensures { result ≡ pointwise nat_eq a.now b.now }
@@ -52,6 +55,7 @@ pub(crate) fn are_equal(a: &[u8], b: &[u8]) -> bool
 
 /// Whether as many octets are the same, without a branch for each word: for arrays, whose few words the
 /// compiler compares at once.
+// `const` in Rust.
 #[inline(always)]
 pub(crate) fn are_arrays_equal(a: &[u8], b: &[u8]) -> bool
     requires { length a.now ≡ length b.now }
@@ -72,7 +76,7 @@ pub(crate) fn are_arrays_equal(a: &[u8], b: &[u8]) -> bool
 
 /// Whether as many octets are the same: the last one first, since most pairs differ there.
 #[inline(always)]
-fn are_few_equal(a: &[u8], b: &[u8]) -> bool
+const fn are_few_equal(a: &[u8], b: &[u8]) -> bool
     requires { length a.now ≡ length b.now }
     ensures { result ≡ pointwise nat_eq a.now b.now }
 {
@@ -86,7 +90,7 @@ fn are_few_equal(a: &[u8], b: &[u8]) -> bool
     true
 }
 
-/// The octets in list order: by words, of which the last one overlaps, or one by one where they are
+/// The octets in list order: by words, where the last one overlaps, or one by one where they are
 /// fewer than a word.
 #[inline(always)]
 pub(crate) fn order(a: &[u8], b: &[u8]) -> Ordering
@@ -130,6 +134,7 @@ const WORD: usize = 8;
 
 /// The eight octets from an index on as a number, the first one the most significant: so words have the
 /// list order of their octets.
+// `const` in Rust.
 #[inline(always)]
 fn word(octets: &[u8], at: usize) -> u64
     requires { at + 8 ≤ length octets.now }
@@ -143,16 +148,19 @@ fn word(octets: &[u8], at: usize) -> u64
     }
 }
 
-/// The octets in the order of their parts, of which a shorter one is first.
+/// The octets in the order of their parts, a shorter part first.
 ///
 /// Where they differ first, the parts begin at one index. So the part that goes on for longer from
-/// there is the longer one.
+/// there is the longer one, and an octet that ends its part decides.
 pub(crate) fn order_by_parts(a: &[u8], b: &[u8]) -> Ordering
     ensures { result ≡ parts_cmp a.now b.now }
 {
     let near = a.len().min(b.len());
-    for i in 0..near {
+    for i in same_start(a, b)..near {
         if a[i] != b[i] {
+            if a[i] < 128 || b[i] < 128 {
+                return a[i].cmp(&b[i]);
+            }
             return match first_len(&a[i..]).cmp(&first_len(&b[i..])) {
                 Ordering::Equal => a[i].cmp(&b[i]),
                 unequal => unequal,
@@ -162,8 +170,39 @@ pub(crate) fn order_by_parts(a: &[u8], b: &[u8]) -> Ordering
     a.len().cmp(&b.len())
 }
 
+/// How many of the first octets are known to be the same: a word, half a word or none.
+#[inline(always)]
+fn same_start(a: &[u8], b: &[u8]) -> usize
+    ensures within { result ≤ min (length a.now) (length b.now) }
+    ensures same { take result a.now ≡ take result b.now }
+{
+    let near = a.len().min(b.len());
+    if near >= WORD && word(a, 0) == word(b, 0) {
+        WORD
+    } else if near >= HALF && half_word(a) == half_word(b) {
+        HALF
+    } else {
+        0
+    }
+}
+
+/// How many octets half a word has.
+const HALF: usize = 4;
+
+/// The first four octets as a number.
+#[inline(always)]
+fn half_word(octets: &[u8]) -> u32
+    requires { 4 ≤ length octets.now }
+    ensures { to_be_bytes w32 result ≡ take 4 octets.now }
+{
+    match octets.first_chunk::<HALF>() {
+        Some(half) => u32::from_be_bytes(*half),
+        None => unreachable!(),
+    }
+}
+
 /// Whether names are the same. Lengths are compared first, and bytes before their case.
-pub(crate) fn is_same_name(a: &str, b: &str) -> bool
+pub(crate) const fn is_same_name(a: &str, b: &str) -> bool
     ensures { result ≡ str_eq_ignore_ascii_case a.now b.now }
 {
     let (a, b) = (a.as_bytes(), b.as_bytes());

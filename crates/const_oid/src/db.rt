@@ -6,11 +6,13 @@ ghost use Rattle.const_oid.specs.Names.{lent_arcs, entries_of, has_arcs, first_n
 ghost use Rattle.const_oid.specs.Oid.{oid_arcs};
 
 use crate::compare::is_same_name;
+// Not in Rust.
 pub use crate::db_ref::{RefDatabase, RefNames};
+pub use crate::db_sorted::SortedDatabase;
 use crate::error::Result;
 use crate::oid::Oid;
 
-/// A table of identifiers and their names, in which both may stand more than once.
+/// A table of identifiers and their names. Both may be in it more than once.
 ///
 /// Names are the same where their bytes are, after the ASCII letters are folded.
 #[derive(Copy, Clone)]
@@ -20,14 +22,14 @@ pub struct Database<'a> {
 
 impl<'a> Database<'a> {
     /// A database over these entries.
-    pub fn new(entries: &'a [(&'a Oid, &'a str)]) -> Self
+    pub const fn new(entries: &'a [(&'a Oid, &'a str)]) -> Self
         ensures { entries_of result ≡ entries.now }
     {
         Database { entries }
     }
 
     /// The name that the first entry of this identifier has, or `None` without such an entry.
-    pub fn by_oid(&self, oid: &Oid) -> Option<&'a str>
+    pub const fn by_oid(&self, oid: &Oid) -> Option<&'a str>
         ensures { result ≡ first_name lent_arcs (entries_of self.now) (oid_arcs oid.now) }
     {
         let mut left = self.entries;
@@ -41,7 +43,7 @@ impl<'a> Database<'a> {
     }
 
     /// The identifier that the first entry of this name has, or `None` without such an entry.
-    pub fn by_name(&self, name: &str) -> Option<&'a Oid>
+    pub const fn by_name(&self, name: &str) -> Option<&'a Oid>
         ensures { result ≡ first_oid (entries_of self.now) name.now }
     {
         let mut left = self.entries;
@@ -54,8 +56,8 @@ impl<'a> Database<'a> {
         None
     }
 
-    /// The names of the identifier, one for each of its entries, as these stand in the table.
-    pub fn find_names_for_oid(&self, oid: Oid) -> Names<'a>
+    /// The names of the identifier, one for each of its entries, in the order of the table.
+    pub const fn find_names_for_oid(&self, oid: Oid) -> Names<'a>
         ensures { names_left result ≡ all_names lent_arcs (entries_of self.now) (oid_arcs oid) }
     {
         Names {
@@ -103,8 +105,8 @@ impl<'a> Iterator for Names<'a> {
 }
 
 /// Whether an entry has this identifier.
-fn has_oid(entry: &(&Oid, &str), oid: &Oid) -> bool
+const fn has_oid(entry: &(&Oid, &str), oid: &Oid) -> bool
     ensures { result ≡ has_arcs lent_arcs (oid_arcs oid.now) entry.now }
 {
-    entry.0.as_oid_ref().eq_oid(oid)
+    entry.0.is_same(oid)
 }

@@ -2,13 +2,14 @@
 
 ghost use Rattle.std.specs.Prelude.{◌≡◌};
 ghost use Rattle.std.specs.Iterator.{YieldsFirst, item_count};
-ghost use Rattle.const_oid.specs.Names.{ref_entries_of, has_arcs, first_name, all_names, first_oid, ref_names_left};
+ghost use Rattle.const_oid.specs.Names.{ref_entries_of, first_name, all_names, first_oid, ref_names_left};
 ghost use Rattle.const_oid.specs.OidRef.{ref_arcs};
 
-use crate::compare::{are_equal, is_same_name};
+use crate::compare::is_same_name;
+use crate::db_sorted::has_ref;
 use crate::oid_ref::ObjectIdentifierRef;
 
-/// A table of borrowed identifiers and their names, as a constant can hold it. Both may stand in it
+/// A table of borrowed identifiers and their names, as a constant can hold it. Both may be in it
 /// more than once, and names are the same as in a [`Database`](crate::db::Database).
 #[derive(Copy, Clone)]
 pub struct RefDatabase<'a> {
@@ -17,7 +18,7 @@ pub struct RefDatabase<'a> {
 
 impl<'a> RefDatabase<'a> {
     /// A database over these entries.
-    pub fn new(entries: &'a [(ObjectIdentifierRef<'a>, &'a str)]) -> Self
+    pub const fn new(entries: &'a [(ObjectIdentifierRef<'a>, &'a str)]) -> Self
         ensures { ref_entries_of result ≡ entries.now }
     {
         RefDatabase { entries }
@@ -51,7 +52,7 @@ impl<'a> RefDatabase<'a> {
         None
     }
 
-    /// The names of the identifier, one for each of its entries, as these stand in the table.
+    /// The names of the identifier, one for each of its entries, in the order of the table.
     pub fn find_names_for_oid<'b>(&self, oid: ObjectIdentifierRef<'b>) -> RefNames<'a, 'b>
         ensures { ref_names_left result ≡ all_names ref_arcs (ref_entries_of self.now) (ref_arcs oid.entry) }
     {
@@ -86,11 +87,4 @@ impl<'a, 'b> Iterator for RefNames<'a, 'b> {
         }
         None
     }
-}
-
-/// Whether an entry has this borrowed identifier.
-fn has_ref(entry: &(ObjectIdentifierRef<'_>, &str), oid: &ObjectIdentifierRef<'_>) -> bool
-    ensures { result ≡ has_arcs ref_arcs (ref_arcs oid.now) entry.now }
-{
-    are_equal(entry.0.as_bytes(), oid.as_bytes())
 }

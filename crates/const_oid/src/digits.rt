@@ -55,7 +55,7 @@ fn count_digits(arc: Arc) -> usize
     }
 }
 
-/// Writes the digits of an arc at an index, the last of them first, and returns the index after them.
+/// Writes the digits of an arc at an index, and returns the index after them.
 #[inline]
 fn write_digits(arc: Arc, out: &mut [u8], at: usize) -> usize
     requires { at + length (decimal arc) ≤ length out.old }
@@ -63,39 +63,43 @@ fn write_digits(arc: Arc, out: &mut [u8], at: usize) -> usize
     ensures prefix { take result out.new ≡ take at out.old ++ decimal arc }
     ensures after { drop result out.new ≡ drop result out.old }
 {
+    // The shortest arc is the most frequent one.
     if arc < 10 {
         out[at] = b'0' + arc as u8;
         return at + 1;
     }
     let end = at + count_digits(arc);
-    let mut left = arc;
-    let mut index = end;
-    while left >= 100 {
-        index -= 2;
-        write_pair(left % 100, out, index);
-        left /= 100;
-    }
-    if left < 10 {
-        out[at] = b'0' + left as u8;
-    } else {
-        write_pair(left, out, at);
-    }
+    fill_digits(arc, &mut out[at..end]);
     end
 }
 
-/// Writes two digits at an index.
+/// Writes the digits of an arc into a slice, which is as long. The last two are first.
 #[inline]
-fn write_pair(pair: u32, out: &mut [u8], at: usize)
-    requires { (pair < 100) × (at + 2 ≤ length out.old) }
-    ensures written { drop at out.new ≡ pair_text pair ++ drop (at + 2) out.old }
-    ensures prefix { take at out.new ≡ take at out.old }
+fn fill_digits(arc: Arc, out: &mut [u8])
+    requires { length out.old ≡ length (decimal arc) }
+    ensures { out.new ≡ decimal arc }
 {
-    let from = pair as usize * 2;
-    let (tens, ones) = (PAIRS[from], PAIRS[from + 1]);
-    out[at] = tens;
-    out[at + 1] = ones;
+    if arc < 10 {
+        if let [digit, ..] = out {
+            *digit = b'0' + arc as u8;
+        }
+    } else if let Some((before, pair)) = out.split_last_chunk_mut::<2>() {
+        *pair = PAIRS[(arc % 100) as usize];
+        if arc >= 100 {
+            fill_digits(arc / 100, before);
+        }
+    }
 }
 
 /// The two digits of each number below a hundred.
-static PAIRS: [u8; 200] =
-    *b"00010203040506070809101112131415161718192021222324252627282930313233343536373839404142434445464748495051525354555657585960616263646566676869707172737475767778798081828384858687888990919293949596979899";
+static PAIRS: [[u8; 2]; 100] = [
+    *b"00", *b"01", *b"02", *b"03", *b"04", *b"05", *b"06", *b"07", *b"08", *b"09", *b"10", *b"11",
+    *b"12", *b"13", *b"14", *b"15", *b"16", *b"17", *b"18", *b"19", *b"20", *b"21", *b"22", *b"23",
+    *b"24", *b"25", *b"26", *b"27", *b"28", *b"29", *b"30", *b"31", *b"32", *b"33", *b"34", *b"35",
+    *b"36", *b"37", *b"38", *b"39", *b"40", *b"41", *b"42", *b"43", *b"44", *b"45", *b"46", *b"47",
+    *b"48", *b"49", *b"50", *b"51", *b"52", *b"53", *b"54", *b"55", *b"56", *b"57", *b"58", *b"59",
+    *b"60", *b"61", *b"62", *b"63", *b"64", *b"65", *b"66", *b"67", *b"68", *b"69", *b"70", *b"71",
+    *b"72", *b"73", *b"74", *b"75", *b"76", *b"77", *b"78", *b"79", *b"80", *b"81", *b"82", *b"83",
+    *b"84", *b"85", *b"86", *b"87", *b"88", *b"89", *b"90", *b"91", *b"92", *b"93", *b"94", *b"95",
+    *b"96", *b"97", *b"98", *b"99",
+];

@@ -39,7 +39,7 @@ impl<const SIZE: usize> Model for Encoder<SIZE> {
 
 impl<const SIZE: usize> Encoder<SIZE> {
     /// An encoder that was given no arc.
-    pub(crate) fn new() -> Self
+    pub(crate) const fn new() -> Self
         ensures { result ≡ [] }
     {
         Encoder {
@@ -49,6 +49,7 @@ impl<const SIZE: usize> Encoder<SIZE> {
     }
 
     /// Whether no arc was given.
+    // `const` in Rust.
     pub(crate) fn is_empty(&self) -> bool
         ensures { IsTrue result ↔ (self.now ≡ []) }
     {
@@ -56,6 +57,7 @@ impl<const SIZE: usize> Encoder<SIZE> {
     }
 
     /// Encodes one more arc.
+    // `const` in Rust.
     #[inline(always)]
     pub(crate) fn arc(&mut self, arc: Arc) -> Result<()>
         ensures fault { result_err result ≡ arc_fault root_rule (min SIZE 255) self.old arc }
@@ -82,7 +84,7 @@ impl<const SIZE: usize> Encoder<SIZE> {
     }
 
     /// The encoding of the arcs given, which are two or more.
-    pub(crate) fn finish(self) -> Result<Buffer<SIZE>>
+    pub(crate) const fn finish(self) -> Result<Buffer<SIZE>>
         ensures fault { result_err result ≡ too_few_fault self.entry }
         ensures encoding { IfOk result (λ octets. IsEncoding root_rule self.entry (octets_of octets)) }
     {

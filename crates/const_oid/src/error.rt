@@ -10,7 +10,7 @@ use std::fmt;
 /// A result whose error is [`Error`].
 pub type Result<T> = std::result::Result<T, Error>;
 
-/// Why a text, a list of arcs or octets are refused.
+/// Why a text, a list of arcs or octets are rejected.
 #[derive(Copy, Clone, Debug, Eq, PartialEq, PartialOrd, Ord)]
 pub enum Error {
     /// The first or the second arc of a text or a list is out of range.
@@ -19,7 +19,7 @@ pub enum Error {
         arc: Arc,
     },
 
-    /// An arc is past 32 bits.
+    /// An arc is greater than 4294967295.
     ArcTooBig,
 
     /// A group of octets begins with 0x80 or does not end (X.690, 8.19.2).
@@ -37,7 +37,7 @@ pub enum Error {
     /// The encoding is longer than the capacity.
     Length,
 
-    /// Never answered: no sum of this crate overflows.
+    /// Never returned: no sum of this crate overflows.
     Overflow,
 
     /// A dot follows another.
@@ -47,7 +47,7 @@ pub enum Error {
     TrailingDot,
 }
 
-/// The most bytes that an error takes in words.
+/// The most bytes of an error's text.
 const MAX_TEXT_LEN: usize = 47;
 
 impl Error {
@@ -81,7 +81,7 @@ impl Error {
         Some(write_bytes(after.as_bytes(), out, at))
     }
 
-    /// Writes the text as [`encode_text`](Self::encode_text) does, and lends it.
+    /// Writes the text as [`encode_text`](Self::encode_text) does, and borrows it as a `str`.
     pub fn encode_str<'o>(self, out: &'o mut [u8]) -> Option<&'o str>
         ensures cases { MatchOption result (length out.old < length (message_of self)) (λ text. text.now ≡ message_of self) }
         ensures enough { 47 ≤ length out.old → IsSome result }
@@ -91,7 +91,7 @@ impl Error {
     }
 
     /// The words before the number that the error carries, and those after it.
-    fn words(self) -> (&'static str, &'static str)
+    pub(crate) const fn words(self) -> (&'static str, &'static str)
         ensures { message_of self ≡ result.0.now ++ (detail_text self ++ result.1.now) }
     {
         match self {

@@ -20,7 +20,7 @@ ghost use Rattle.const_oid.specs.Text.{text_fault, text_answer, text_of, pieces_
 ghost use Rattle.const_oid.specs.Tree.{BeginsWith, child_of, parent_of};
 ghost use Rattle.const_oid.specs.WideRule.{IsPastNarrow, RefusesSecond};
 
-/// Examples, which the definitions compute: under the rule of this crate, but for the last one.
+/// Examples, which the definitions compute: under the rule of this crate, except for the last one.
 pub fn examples()
     ensures read { arcs_of_octets (0x2A ∷ 0x86 ∷ 0x48 ∷ 0xCE ∷ 0x3D ∷ 2 ∷ 1 ∷ [])
         ≡ 1 ∷ 2 ∷ 840 ∷ 10045 ∷ 2 ∷ 1 ∷ [] }
@@ -112,7 +112,7 @@ pub fn prefixes()
 {}
 
 /// The greater of two numbers is as wide as the other, or wider; encodings that differ in the last arc
-/// stand as these arcs do.
+/// are in the order of these arcs.
 pub fn siblings()
     ensures width { (m n : ℕ) → m ≤ n → width m ≤ width n }
     ensures level { (rule : RootRule) (parent : List ℕ) (m n : ℕ) (x y : List ℕ)
@@ -123,8 +123,8 @@ pub fn siblings()
         → shortlex_cmp x y ≡ nat_cmp m n }
 {}
 
-/// The order of arcs is that of their encodings by parts, of which a shorter one is first: total, equal
-/// where the octets are, an ancestor before its descendants, which stand together. Where the groups
+/// The order of arcs is that of their encodings by parts, a shorter part first: total, equal
+/// where the octets are, an ancestor before its descendants, which are adjacent. Where the groups
 /// at each index are of one length, it is the order of the octets.
 pub fn order_of_arcs()
     ensures parts { (rule : RootRule) (p x a b : List ℕ) → IsEncoding rule p a → IsEncoding rule x b
@@ -174,8 +174,8 @@ pub fn items_denote()
         → IsIdentifier rule items × (size items ≤ capacity) }
 {}
 
-/// The wide rule answers as the narrow one, but where octets begin with 120 or more, or the second
-/// arc under 2 was refused. What was accepted keeps its arcs and octets, and so its text and orders.
+/// The wide rule gives what the narrow one gives, except where octets begin with 120 or more, or the second
+/// arc under 2 was rejected. What was accepted keeps its arcs and octets, and so its text and orders.
 pub fn wide_keeps()
     ensures no_octets { (capacity : ℕ)
         → octet_answer Wide [] capacity ≡ octet_answer Narrow [] capacity }
@@ -203,7 +203,7 @@ pub fn wide_keeps()
         → slice_cmp nat_cmp x y ≡ slice_cmp nat_cmp v w }
 {}
 
-/// The wide rule accepts what the narrow one refuses exactly where that denotes arcs under 2, the
+/// The wide rule accepts what the narrow one rejects exactly where that denotes arcs under 2, the
 /// second past 39, and fits.
 pub fn wide_adds()
     ensures octets { (octets : List ℕ) (capacity : ℕ) → AreOctets octets
@@ -278,8 +278,8 @@ pub fn printed_length()
         → length (text_of arcs) ≤ 4 * length octets }
 {}
 
-/// Descendants stand together after their ancestor in list order, and after it where shorter
-/// encodings stand first.
+/// Descendants are adjacent and follow their ancestor in list order, and come after it where shorter
+/// encodings come first.
 pub fn ranges()
     ensures short { (rule : RootRule) (p x a b : List ℕ) → IsEncoding rule p a
         → IsEncoding rule x b → BeginsWith x p → length p < length x → shortlex_cmp a b ≡ Less }

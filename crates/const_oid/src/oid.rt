@@ -42,16 +42,17 @@ impl ObjectIdentifier<39> {
     /// The capacity in octets.
     pub const MAX_SIZE: usize = 39;
 
-    /// Reads dotted text, as `1.2.840.10045.2.1`, with any number of leading zeros in an arc. The text
-    /// is cut at its dots; the first piece with a fault decides, by the first of these that applies:
+    /// Parses dotted text, as `1.2.840.10045.2.1`, with any number of leading zeros in an arc. The text
+    /// is cut at its dots. The first wrong piece gives the error, by the first of these that applies:
     ///
-    /// - [`Error::ArcTooBig`]: its leading digits are a number past 32 bits;
+    /// - [`Error::ArcTooBig`]: its leading digits are a number above 4294967295;
     /// - [`Error::DigitExpected`]: it has another byte than a digit, or it is empty and the first of several;
     /// - [`Error::RepeatedDot`] or [`Error::TrailingDot`]: it is empty, and not the first one;
     /// - [`Error::TrailingDot`]: an empty last piece follows it;
-    /// - [`Error::ArcInvalid`]: it is the first one and past 2, or the second, past 39 and after 0 or 1 (X.660);
+    /// - [`Error::ArcInvalid`]: it is the first one and above 2, or the second, above 39 and after 0 or 1 (X.660);
     /// - [`Error::Length`]: the arcs up to it take more than 39 octets (X.690, 8.19);
     /// - [`Error::Empty`]: it is the only one.
+    // `const` in Rust.
     pub fn new(s: &str) -> Result<Self>
         ensures answer { oid_answer result ≡ text_answer root_rule s.now usual_capacity }
         ensures denoted { IfOk result (λ oid. Denotes root_rule s.now (oid_arcs oid)) }
@@ -59,8 +60,9 @@ impl ObjectIdentifier<39> {
         Self::new_sized(s)
     }
 
-    /// Reads dotted text that is known to have no fault, as a literal. A fault is refused before the
-    /// program runs; in Rust, outside of constants, by a panic.
+    /// Parses dotted text that is known to be valid, as a literal. The checker rejects another text before the
+    /// program runs; in Rust, outside of constants, the call panics.
+    // `const` in Rust.
     pub fn new_unwrap(s: &str) -> Self
         requires { text_fault root_rule s.now usual_capacity ≡ None }
         ensures { Denotes root_rule s.now (oid_arcs result) }
@@ -73,8 +75,8 @@ impl ObjectIdentifier<39> {
 
     /// Encodes the arcs that an iterator gives. The first of these that applies is the error:
     ///
-    /// - of the first item with a fault, [`Error::ArcInvalid`] of it where it is past 2 as the first
-    ///   arc, or past 39 as the second after 0 or 1, or [`Error::Length`] where the encoding up to it
+    /// - of the first wrong item, [`Error::ArcInvalid`] of it where it is above 2 as the first
+    ///   arc, or above 39 as the second after 0 or 1, or [`Error::Length`] where the encoding up to it
     ///   is longer than 39 octets;
     /// - [`Error::Empty`]: there are fewer than two items.
     ///
@@ -84,7 +86,7 @@ impl ObjectIdentifier<39> {
     where
         I::IntoIter: Drop,
         // The iterator can be asked for all of its items, and ends. For an array, a slice's
-        // `iter().copied()` or a `Vec`, whose items are known, the checker finds the exact answer by
+        // `iter().copied()` or a `Vec`, whose items are known, the checker finds the exact result by
         // itself; for `Arcs` the lemma `exact_answer` gives it.
         requires { IsFiniteIterable I.into_iter_gives I.IntoIter.can_next I.IntoIter.remaining arcs }
         ensures takes { (iterator : I.IntoIter) × I.into_iter_gives arcs iterator
@@ -93,7 +95,7 @@ impl ObjectIdentifier<39> {
         Self::from_arcs_sized(arcs)
     }
 
-    /// Reads contents octets (X.690, 8.19), without tag and length, of which at most 39 fit, as
+    /// Decodes at most 39 contents octets (X.690, 8.19), without tag and length, as
     /// [`from_bytes_sized`](Self::from_bytes_sized) does.
     #[inline(always)]
     pub fn from_bytes(ber_bytes: &[u8]) -> Result<Self>
@@ -112,7 +114,7 @@ impl FromStr for ObjectIdentifier<39> {
 
     ghost from_str_gives = { λ text result. oid_answer result ≡ text_answer root_rule text usual_capacity };
 
-    /// Reads dotted text, as [`new`](Self::new) does.
+    /// Parses dotted text, as [`new`](Self::new) does.
     fn from_str(s: &str) -> Result<Self> {
         Self::new(s)
     }
@@ -122,15 +124,15 @@ impl<const MAX_SIZE: usize> ObjectIdentifier<MAX_SIZE> {
     ghost use Rattle.const_oid.specs.Oid.{oid_octets, oid_arcs, oid_answer};
     ghost use Rattle.const_oid.specs.OidRef.{ref_octets, ref_arcs};
 
-    /// Reads contents octets (X.690, 8.19). The first of these that applies is the error:
+    /// Decodes contents octets (X.690, 8.19). The first of these that applies is the error:
     ///
     /// - [`Error::Empty`]: there is no octet;
-    /// - [`Error::Base128`] or [`Error::ArcTooBig`]: of the first group with a fault, that it begins
-    ///   with 0x80, that its number is past 32 bits (past 4294967375 in the first group, which holds
+    /// - [`Error::Base128`] or [`Error::ArcTooBig`]: of the first wrong group, that it begins
+    ///   with 0x80, that its number is above 4294967295 (above 4294967375 in the first group, which holds
     ///   two arcs), or that it does not end;
     /// - [`Error::Length`]: there are more octets than fit.
     ///
-    /// Tag and length are not read away: a whole `06 09 2A ..` is no error, but another identifier,
+    /// Tag and length are not removed: a complete encoding `06 09 2A ..` is no error, but another identifier,
     /// 0.6.9.42 and so on.
     #[inline(always)]
     pub fn from_bytes_sized(ber_bytes: &[u8]) -> Result<Self>
@@ -141,7 +143,8 @@ impl<const MAX_SIZE: usize> ObjectIdentifier<MAX_SIZE> {
         Self::try_from_ref(ObjectIdentifierRef::from_bytes(ber_bytes)?)
     }
 
-    /// Reads dotted text as [`new`](Self::new) does, where [`Error::Length`] is of more octets than fit.
+    /// Parses dotted text as [`new`](Self::new) does, with [`Error::Length`] where there are more octets than fit.
+    // `const` in Rust.
     pub fn new_sized(s: &str) -> Result<Self>
         ensures answer { oid_answer result ≡ text_answer root_rule s.now (min MAX_SIZE 255) }
         ensures denoted { IfOk result (λ oid. Denotes root_rule s.now (oid_arcs oid)) }
@@ -152,8 +155,8 @@ impl<const MAX_SIZE: usize> ObjectIdentifier<MAX_SIZE> {
         }
     }
 
-    /// Encodes the arcs that an iterator gives as [`from_arcs`](Self::from_arcs) does, where
-    /// [`Error::Length`] is of more octets than fit.
+    /// Encodes the arcs that an iterator gives as [`from_arcs`](Self::from_arcs) does, with
+    /// [`Error::Length`] where there are more octets than fit.
     pub fn from_arcs_sized<I: IntoIterator<Item = Arc>>(arcs: I) -> Result<Self>
     where
         I::IntoIter: Drop,
@@ -166,7 +169,7 @@ impl<const MAX_SIZE: usize> ObjectIdentifier<MAX_SIZE> {
         Ok(ObjectIdentifier { ber })
     }
 
-    /// Copies a borrowed identifier, or answers [`Error::Length`] where its octets do not fit.
+    /// Copies a borrowed identifier, or returns [`Error::Length`] where its octets do not fit.
     #[inline(always)]
     pub fn try_from_ref(oid_ref: ObjectIdentifierRef<'_>) -> Result<Self>
         ensures fits { let count = length (ref_octets oid_ref.entry) in
@@ -184,6 +187,7 @@ impl<const MAX_SIZE: usize> ObjectIdentifier<MAX_SIZE> {
     }
 
     /// The contents octets.
+    // `const` in Rust.
     pub fn as_bytes(&self) -> &[u8]
         ensures octets { result.now ≡ oid_octets self.now }
         ensures encoding { IsEncoding root_rule (oid_arcs self.now) result.now }
@@ -192,7 +196,8 @@ impl<const MAX_SIZE: usize> ObjectIdentifier<MAX_SIZE> {
         self.ber.as_bytes()
     }
 
-    /// The borrowed form of the same octets.
+    /// The borrowed identifier over the same octets.
+    // `const` in Rust.
     pub fn as_oid_ref(&self) -> ObjectIdentifierRef<'_>
         ensures octets { ref_octets result ≡ oid_octets self.now }
         ensures arcs { ref_arcs result ≡ oid_arcs self.now }
@@ -239,7 +244,7 @@ impl<const MAX_SIZE: usize> ObjectIdentifier<MAX_SIZE> {
         self.as_oid_ref().encode_text(out)
     }
 
-    /// Writes the text as [`encode_text`](Self::encode_text) does, and lends it.
+    /// Writes the text as [`encode_text`](Self::encode_text) does, and borrows it as a `str`.
     pub fn encode_str<'o>(&self, out: &'o mut [u8]) -> Option<&'o str>
         ensures cases { MatchOption result (length out.old < length (text_of (oid_arcs self.now))) (λ text. text.now ≡ text_of (oid_arcs self.now)) }
         ensures enough { 4 * min MAX_SIZE 255 ≤ length out.old → IsSome result }
@@ -257,6 +262,7 @@ impl<const MAX_SIZE: usize> ObjectIdentifier<MAX_SIZE> {
     }
 
     /// The identifier of these arcs and one more, or [`Error::Length`] where its octets do not fit.
+    // `const` in Rust.
     pub fn push_arc(self, arc: Arc) -> Result<Self>
         ensures fits { let count = size (child_of (oid_arcs self.entry) arc) in
             MatchResult result (λ _. count ≤ min MAX_SIZE 255)
@@ -270,7 +276,15 @@ impl<const MAX_SIZE: usize> ObjectIdentifier<MAX_SIZE> {
         }
     }
 
+    /// Whether the arcs are the same. Constants call this in place of `==`, which takes the compiler longer.
+    pub(crate) const fn is_same(&self, other: &Self) -> bool
+        ensures { IsTrue result ↔ (oid_arcs self.now ≡ oid_arcs other.now) }
+    {
+        self.ber.is_same(&other.ber)
+    }
+
     /// Whether the arcs begin with all those of another identifier, which may be all of these.
+    // `const` in Rust.
     #[inline(always)]
     pub fn starts_with<const SIZE: usize>(&self, other: ObjectIdentifier<SIZE>) -> bool
         ensures { IsTrue result ↔ BeginsWith (oid_arcs self.now) (oid_arcs other.entry) }

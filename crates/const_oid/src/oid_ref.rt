@@ -27,7 +27,7 @@ use std::fmt;
 /// Its octets have no fault: they are the one encoding of its arcs (X.690, 8.19).
 #[derive(Copy, Clone, Eq, Hash)]
 pub struct ObjectIdentifierRef<'a> {
-    /// The contents octets, which have no fault: where a literal stands here, the checker reads it.
+    /// The contents octets, which are valid: the checker decodes a literal.
     pub ber: &'a [u8],
     ghost octets: { AreOctets ber.now } by { Prim.hlevel props },
     ghost valid: { parts_fault root_rule (cut ber.now) ≡ None },
@@ -38,15 +38,15 @@ impl<'a> ObjectIdentifierRef<'a> {
     ghost use Rattle.const_oid.specs.OidRef.{ref_slice, ref_octets, ref_arcs, ref_answer};
     ghost use Rattle.const_oid.specs.Tree.{BeginsWith, parent_of};
 
-    /// Reads contents octets (X.690, 8.19). The first of these that applies is the error:
+    /// Decodes contents octets (X.690, 8.19). The first of these that applies is the error:
     ///
     /// - [`Error::Empty`]: there is no octet;
-    /// - [`Error::Base128`] or [`Error::ArcTooBig`]: of the first group with a fault, that it begins
-    ///   with 0x80, that its number is past 32 bits (past 4294967375 in the first group, which holds
+    /// - [`Error::Base128`] or [`Error::ArcTooBig`]: of the first wrong group, that it begins
+    ///   with 0x80, that its number is above 4294967295 (above 4294967375 in the first group, which holds
     ///   two arcs), or that it does not end;
     /// - [`Error::Length`]: there are more than `isize::MAX` octets, which no slice has.
     ///
-    /// Tag and length are not read away: a whole `06 09 2A ..` is no error, but another identifier,
+    /// Tag and length are not removed: a complete encoding `06 09 2A ..` is no error, but another identifier,
     /// 0.6.9.42 and so on.
     #[inline(always)]
     pub fn from_bytes(ber: &'a [u8]) -> Result<Self>
@@ -62,7 +62,7 @@ impl<'a> ObjectIdentifierRef<'a> {
     }
 
     /// The identifier over octets without a fault.
-    pub(crate) fn from_checked(ber: &'a [u8]) -> Self
+    pub(crate) const fn from_checked(ber: &'a [u8]) -> Self
         requires { parts_fault root_rule (cut ber.now) ≡ None }
         ensures { ref_slice result ≡ ber.entry }
     {
@@ -70,7 +70,7 @@ impl<'a> ObjectIdentifierRef<'a> {
     }
 
     /// The contents octets, which are the caller's.
-    pub fn as_bytes(&self) -> &'a [u8]
+    pub const fn as_bytes(&self) -> &'a [u8]
         ensures slice { result ≡ ref_slice self.now }
         ensures encoding { IsEncoding root_rule (ref_arcs self.now) result.now }
     {
@@ -120,7 +120,7 @@ impl<'a> ObjectIdentifierRef<'a> {
         Some(write_text(self.arcs(), out))
     }
 
-    /// Writes the text as [`encode_text`](Self::encode_text) does, and lends it.
+    /// Writes the text as [`encode_text`](Self::encode_text) does, and borrows it as a `str`.
     pub fn encode_str<'o>(&self, out: &'o mut [u8]) -> Option<&'o str>
         ensures cases { MatchOption result (length out.old < length (text_of (ref_arcs self.now))) (λ text. text.now ≡ text_of (ref_arcs self.now)) }
         ensures enough { 4 * length (ref_octets self.now) ≤ length out.old → IsSome result }
@@ -130,6 +130,7 @@ impl<'a> ObjectIdentifierRef<'a> {
     }
 
     /// Whether an owned identifier, of any capacity, has the same octets, and so the same arcs.
+    // `const` in Rust.
     pub fn eq_oid<const N: usize>(&self, other: &ObjectIdentifier<N>) -> bool
         ensures octets { IsTrue result ↔ (ref_octets self.now ≡ oid_octets other.now) }
         ensures arcs { IsTrue result ↔ (ref_arcs self.now ≡ oid_arcs other.now) }
@@ -150,6 +151,7 @@ impl<'a> ObjectIdentifierRef<'a> {
     }
 
     /// Whether the arcs begin with all those of another identifier, which may be all of these.
+    // `const` in Rust.
     #[inline(always)]
     pub fn starts_with(&self, other: &ObjectIdentifierRef<'_>) -> bool
         ensures { IsTrue result ↔ BeginsWith (ref_arcs self.now) (ref_arcs other.now) }
@@ -165,8 +167,8 @@ impl<'a> ObjectIdentifierRef<'a> {
     }
 
     /// The range of indices of a sorted list at which the identifiers begin with this one, itself among
-    /// them: from the first index on, and below the second. Where there are none, both are the index at
-    /// which this one would stand.
+    /// them: from the first index up to, but not including, the second. Where there are none, both are the index at
+    /// which this one would be inserted.
     ///
     /// The list does not descend in the order of `cmp`. It may hold an identifier more than once.
     pub fn subtree(&self, sorted: &[ObjectIdentifierRef<'_>]) -> (usize, usize)

@@ -17,6 +17,7 @@ use crate::encoder::Encoder;
 use crate::error::{Error, Result};
 
 /// The encoding of the identifier that a text denotes, in up to `SIZE` octets, and never past 255.
+// `const` in Rust.
 pub(crate) fn parse<const SIZE: usize>(text: &str) -> Result<Buffer<SIZE>>
     ensures answer { buffer_answer result ≡ text_answer root_rule text.now (min SIZE 255) }
     ensures encoding { IfOk result (λ octets. IsEncoding root_rule (arcs_of_octets (octets_of octets)) (octets_of octets)) }
@@ -32,6 +33,7 @@ pub(crate) fn parse<const SIZE: usize>(text: &str) -> Result<Buffer<SIZE>>
 }
 
 /// The same, where all of the array can be in use.
+// `const` in Rust.
 #[inline(always)]
 fn parse_within<const SIZE: usize>(text: &str) -> Result<Buffer<SIZE>>
     requires { SIZE ≤ 255 }
@@ -69,7 +71,7 @@ fn parse_within<const SIZE: usize>(text: &str) -> Result<Buffer<SIZE>>
     encoder.finish()
 }
 
-/// The number that a digit stands for.
+/// The number that a digit denotes.
 #[inline(always)]
 const fn digit(byte: u8) -> Option<u64>
     ensures { result ≡ then_some (is_ascii_digit byte) (byte - 48) }
@@ -88,6 +90,7 @@ const fn given(begun: bool, number: Arc) -> Option<Arc>
 
 /// Ends a piece at a dot. Where the text ends there, too, an empty piece follows: its fault comes
 /// before one of the arc.
+// `const` in Rust.
 #[inline(always)]
 fn end_piece<const SIZE: usize>(
     encoder: &mut Encoder<SIZE>,
@@ -108,6 +111,7 @@ fn end_piece<const SIZE: usize>(
 }
 
 /// Ends the last piece, and with it the text.
+// `const` in Rust.
 #[inline(always)]
 fn end_text<const SIZE: usize>(encoder: &mut Encoder<SIZE>, number: Option<Arc>) -> Result<()>
     ensures fault { result_err result ≡ last_fault root_rule (min SIZE 255) encoder.old number }

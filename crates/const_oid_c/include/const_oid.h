@@ -1,38 +1,40 @@
 /* Object identifiers (ITU-T X.660) for C99 and C++: dotted text, arcs, and the contents octets of
- * ITU-T X.690 section 8.19, without tag and length. The source is proved: each call returns what its
- * comment says. Rattle builds the library from this source. cargo builds it from Rust that is
- * generated from this source, and from code for pointers that is written by hand: that build is
+ * ITU-T X.690 section 8.19, without tag and length. The library is made from proved source: there each
+ * call returns what its comment says. Rattle builds the library from this source. cargo builds it from
+ * Rust that is generated from it, and from code for pointers that is written by hand: that build is
  * tested, not proved.
  *
- * What a caller promises, for all calls:
+ * What the caller must guarantee, for all calls:
  *
  * - Slices. An input is a pointer and a number of items. An output is a pointer and the number of
  *   items that fit there. All of them belong to the caller. A call reads the input and writes within
- *   the output. It keeps no pointer, takes no memory and has no state.
+ *   the output. It keeps no pointer, does not allocate and has no state.
  * - Null. A pointer may be null if its length is 0. An item of a list may be null, too. So a call with
- *   a null output asks for the length of an answer, and an empty std::vector is an input. `range` is
- *   never null. This is tested at each call, not proved.
+ *   a null output finds the length of a result, and an empty std::vector is an input. `range` is
+ *   never null. A test calls each function so; it is not proved.
  * - Overlap. An output does not overlap an input, even if a length is 0 or the output is too short.
  *   So no call may write to its own input. `gcc -Wrestrict`, which -Wall has, sees some calls that do.
- * - Lengths. They are true, and no slice has more than 2^63 - 1 bytes. Texts have lengths: no call
- *   looks for a zero byte or writes one.
+ * - Lengths. They are true, and no slice has more than 2^63 - 1 bytes, or 2^30 - 1 where size_t has
+ *   32 bits. Texts have lengths: no call looks for a zero byte or writes one.
  * - Threads. Any threads may make calls at once. While a call runs, no other thread writes its inputs
  *   or touches its output.
- * - Machines. The system is Linux with glibc, and size_t has 64 bits. The library that Rattle builds
- *   takes an x86-64 processor of level 2 (popcnt and SSE4.1). The one that cargo builds is for each
- *   processor for which rustc has a target with such a system. It is tested on x86-64.
- * - Octets. They follow the tag and the length, and no call removes these. A whole 06 09 2A 86 .. is
- *   no error: it is read as 0.6.9.42...
+ * - Machines. The system is Linux with glibc. The library that Rattle builds needs an x86-64 processor
+ *   of level 2 (popcnt and SSE4.1). The one that cargo builds is for each processor for which rustc has
+ *   a target with such a system, also where size_t has 32 bits. The proofs are for 64 bits; 32 bits are
+ *   tested. The tests run on x86-64 and i686.
+ * - Octets. They follow the tag and the length, and no call removes these. A complete
+ *   06 09 2A 86 .. is no error: it is read as 0.6.9.42...
  *
  * What a call returns: a status, by value. Code 0 is success. With any other code the call wrote
  * nothing, and the output is unchanged, bit for bit. Items of the output after the first `len` are
  * always unchanged. The comments of const_oid_status say what its fields hold.
  *
- * Octets are refused by the first of these faults that applies:
+ * A call that is given invalid octets returns the first of these codes that applies:
  *
  * - EMPTY: there is no octet.
- * - A fault of the first wrong group. BASE128: it begins with 0x80. ARC_TOO_BIG: its number is past 32
- *   bits, or past 4294967375 in the first group. BASE128: it does not end.
+ * - The code of the first wrong group, which ends with an octet below 0x80. BASE128: it begins with
+ *   0x80. ARC_TOO_BIG: its number is above 4294967295, or above 4294967375 in the first group. BASE128:
+ *   it does not end.
  * - LENGTH: there are more than 255 octets, in a call that takes 255 at most.
  *
  * Tests check the layouts below, the values of the constants, and that the library has exactly these
@@ -67,8 +69,8 @@ extern "C" {
  * cmp_owned read. The other calls read octets of any length. */
 #define CONST_OID_MAX_OCTETS 255
 
-/* The most bytes of text that CONST_OID_MAX_OCTETS octets print. More octets print at most four bytes
- * each, too. */
+/* The most bytes of text of CONST_OID_MAX_OCTETS octets. Longer inputs also have at most four bytes of
+ * text per octet. */
 #define CONST_OID_MAX_TEXT 1020
 
 /* The most arcs that CONST_OID_MAX_OCTETS octets have. */
@@ -78,28 +80,28 @@ extern "C" {
  * that does not fit an output of this length, the code is OUTPUT_TOO_SHORT. */
 #define CONST_OID_USUAL_OCTETS 39
 
-/* The bytes of the longest text of a code. */
+/* The length in bytes of the longest error text. */
 #define CONST_OID_MAX_ERROR_TEXT 47
 
 /* How a call ended. */
 enum const_oid_code {
     CONST_OID_OK = 0,                /* success */
     CONST_OID_ARC_INVALID = 1,       /* the first or second arc is out of range */
-    CONST_OID_ARC_TOO_BIG = 2,       /* an arc is past 32 bits */
+    CONST_OID_ARC_TOO_BIG = 2,       /* an arc is above 4294967295 */
     CONST_OID_BASE128 = 3,           /* a group of octets begins with 0x80 or does not end */
     CONST_OID_DIGIT_EXPECTED = 4,    /* a byte is not a digit */
     CONST_OID_EMPTY = 5,             /* there is nothing, or only one arc */
     CONST_OID_LENGTH = 6,            /* there are, or would be, more than 255 octets */
-    CONST_OID_OVERFLOW = 7,          /* never answered: no sum overflows */
+    CONST_OID_OVERFLOW = 7,          /* never returned: no sum overflows */
     CONST_OID_REPEATED_DOT = 8,      /* a dot follows another dot */
     CONST_OID_TRAILING_DOT = 9,      /* the text ends with a dot */
-    CONST_OID_OUTPUT_TOO_SHORT = 10, /* the answer is longer than the output */
+    CONST_OID_OUTPUT_TOO_SHORT = 10, /* the result is longer than the output */
     CONST_OID_NOT_UTF8 = 11,         /* the text is not UTF-8 */
     CONST_OID_NONE = 12,             /* the arc, parent or text does not exist */
     CONST_OID_UNSORTED = 13          /* an item of the list comes before the previous one */
 };
 
-/* What a comparison answers in `detail`. */
+/* What a comparison returns in `detail`. */
 enum const_oid_order {
     CONST_OID_LESS = 0,   /* the first comes before the second */
     CONST_OID_EQUAL = 1,  /* they are equal */
@@ -112,7 +114,7 @@ enum const_oid_order {
  * - `detail` is, on success, the arc of const_oid_arc, 1 or 0 of starts_with and eq, or the order of
  *   a comparison. With ARC_INVALID it is the arc, and with DIGIT_EXPECTED the byte. Otherwise it is 0.
  * - `len` is, on success, how many items the call wrote or counted. With OUTPUT_TOO_SHORT it is how
- *   many items the answer has. If an item of a list is wrong, it is the index of this item. If the
+ *   many items the result has. If an item of a list is wrong, it is the index of this item. If the
  *   identifier of const_oid_subtree is wrong, it is `count`, which no item has. Otherwise it is 0. */
 typedef struct const_oid_status {
     uint32_t code;
@@ -126,21 +128,21 @@ typedef struct const_oid_octets {
     size_t len;            /* how many there are */
 } const_oid_octets;
 
-/* The indices of a list from `start` on and below `end`, counted from 0. */
+/* The indices of a list from `start` up to, but not including, `end`, counted from 0. */
 typedef struct const_oid_range {
     size_t start;
     size_t end;
 } const_oid_range;
 
-/* The library keeps lengths in 64 bits. */
-typedef char const_oid_size_t_has_64_bits[sizeof(size_t) == 8 ? 1 : -1];
+/* The library keeps lengths in 64 bits, or in 32. */
+typedef char const_oid_size_t_has_64_or_32_bits[sizeof(size_t) == 8 || sizeof(size_t) == 4 ? 1 : -1];
 
 /* The version of the library: CONST_OID_VERSION of its header. */
 uint32_t const_oid_version(void);
 
 /* Writes the contents octets of the identifier that dotted text denotes, such as "1.2.840". Arcs may
- * have leading zeros. Refused by NOT_UTF8, or by the fault of the first wrong piece between dots:
- * ARC_TOO_BIG, DIGIT_EXPECTED, REPEATED_DOT, TRAILING_DOT, ARC_INVALID, LENGTH or EMPTY. */
+ * have leading zeros. Returns NOT_UTF8, or the code of the first wrong piece between dots: ARC_TOO_BIG,
+ * DIGIT_EXPECTED, REPEATED_DOT, TRAILING_DOT, ARC_INVALID, LENGTH or EMPTY. */
 const_oid_status const_oid_from_text(
     const uint8_t *text, size_t text_len, uint8_t *CONST_OID_RESTRICT out, size_t out_len);
 
@@ -162,8 +164,8 @@ const_oid_status const_oid_arc(const uint8_t *octets, size_t len, size_t index);
 const_oid_status const_oid_arcs(
     const uint8_t *octets, size_t len, uint32_t *CONST_OID_RESTRICT out, size_t out_len);
 
-/* Writes the contents octets of arcs. Refused by the fault of the first wrong arc, ARC_INVALID or
- * LENGTH, or else by EMPTY if there are fewer than two arcs. */
+/* Writes the contents octets of arcs. Returns the code of the first wrong arc, ARC_INVALID or LENGTH,
+ * or else EMPTY if there are fewer than two arcs. */
 const_oid_status const_oid_from_arcs(
     const uint32_t *arcs, size_t len, uint8_t *CONST_OID_RESTRICT out, size_t out_len);
 
@@ -177,45 +179,44 @@ const_oid_status const_oid_push_arc(
     const uint8_t *octets, size_t len, uint32_t arc, uint8_t *CONST_OID_RESTRICT out,
     size_t out_len);
 
-/* Whether the arcs of octets begin with all arcs of a prefix. Both may have any length. Refused by the
- * fault of the octets, or else of the prefix. */
+/* Whether the arcs of octets begin with all arcs of a prefix. Both may have any length. Returns the
+ * code of the octets if they are wrong, or else that of the prefix. */
 const_oid_status const_oid_starts_with(
     const uint8_t *octets, size_t len, const uint8_t *prefix, size_t prefix_len);
 
-/* Whether two identifiers of any length are equal. Refused by the fault of the first one that has a
- * fault. */
+/* Whether two identifiers of any length are equal. If one is wrong, returns the code of the first such. */
 const_oid_status const_oid_eq(
     const uint8_t *left, size_t left_len, const uint8_t *right, size_t right_len);
 
 /* Compares two identifiers of any length by their octets, as memcmp does. A prefix comes first. The
  * descendants of an identifier follow it without a gap (const_oid_subtree). This is not the order of
- * SNMP. Refused by the fault of the first one that has a fault. */
+ * SNMP. If one is wrong, returns the code of the first such. */
 const_oid_status const_oid_cmp(
     const uint8_t *left, size_t left_len, const uint8_t *right, size_t right_len);
 
 /* Compares two identifiers of any length by their arcs. A prefix comes first. This is the order of
- * SNMP (RFC 3416), for a walk by GetNext. Refused by the fault of the first one that has a fault. */
+ * SNMP (RFC 3416), for a walk by GetNext. If one is wrong, returns the code of the first such. */
 const_oid_status const_oid_cmp_arcs(
     const uint8_t *left, size_t left_len, const uint8_t *right, size_t right_len);
 
 /* Compares two identifiers of at most 255 octets by length, and then by their octets. This is the
- * order of the Rust crate const-oid, and not that of SNMP. Refused by the fault of the first one that
- * has a fault. */
+ * order of the Rust crate const-oid, and not that of SNMP. If one is wrong, returns the code of the
+ * first such. */
 const_oid_status const_oid_cmp_owned(
     const uint8_t *left, size_t left_len, const uint8_t *right, size_t right_len);
 
 /* Finds the items of a sorted list that begin with an identifier, which may be an item itself. They
  * are the items of `range`. `range.start` is the number of items that come before the identifier. The
  * order is that of const_oid_cmp. Items may have any length and may be repeated. The call checks the
- * whole list. Refused by the fault of the identifier, with `count` in `len`, or else by the first item
- * that has a fault or, by UNSORTED, comes before the previous item, with its index in `len`. `range` is
- * then unchanged. */
+ * whole list. Returns the code of the identifier, with `count` in `len`, if that is wrong. Otherwise the
+ * first wrong item decides, with its index in `len`: its own code, or UNSORTED if it comes before the
+ * previous item. `range` is then unchanged. */
 const_oid_status const_oid_subtree(
     const uint8_t *octets, size_t len, const const_oid_octets *sorted, size_t count,
     const_oid_range *CONST_OID_RESTRICT range);
 
 /* Writes the text, in UTF-8, of a code and its detail. The code is NONE if there is no such text: for
- * OK, for an unknown code, and for DIGIT_EXPECTED with a detail past 255. */
+ * OK, for an unknown code, and for DIGIT_EXPECTED with a detail above 255. */
 const_oid_status const_oid_error_text(
     uint32_t code, uint32_t detail, uint8_t *CONST_OID_RESTRICT out, size_t out_len);
 

@@ -12,7 +12,7 @@ use Rattle.const_oid_c.specs.Answers.{octets_of_arcs, octets_of_text, owned_capa
 
 -- octets that encode arcs are the encoding of the arcs
 pub is_encoding_of : (arcs octets : List ℕ) → IsEncoding root_rule arcs octets → octets ≡ encoding_of arcs
-is_encoding_of arcs octets encoded = sym (encoding_of-encoded root_rule arcs octets encoded)
+is_encoding_of arcs octets encoded = sym (encoding_of-encoded encoded)
 
 -- bytes that are UTF-8
 pub octets_of_utf8 : (bytes : List ℕ) → IsUtf8 bytes → octets_of_text bytes ≡ octets_of_arcs (text_answer root_rule bytes owned_capacity)

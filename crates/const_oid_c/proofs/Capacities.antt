@@ -1,4 +1,4 @@
--- An answer at the usual capacity is the answer at 255 octets, unless it is the fault `Length`.
+-- A result at the usual capacity is the result at 255 octets, unless it is the fault `Length`.
 use Rattle.std.proofs.Common.{◌≡◌, ◌≢◌, ℕ, ◌<◌, ◌≤◌, List, [], ◌∷◌, ◌++◌, length, map, refl, ap, ⊎_elim, arith, lt-ltb, le-ltb}
 use Rattle.std.proofs.lemmas.Bool.{cases_lt}
 use Rattle.std.specs.Prelude.{Option, Some, None, Result, Ok, Err, nat_lt, not, find}
@@ -60,23 +60,23 @@ same_pieces : (before : List ℕ) (pieces : List (List ℕ)) → IsSameBut (piec
 same_pieces before [] = λ other. refl
 same_pieces before (piece ∷ after) = same_or _ _ _ _ (same_piece before piece after) (same_pieces (before ++ number_of piece ∷ []) after)
 
--- the answers by such faults
+-- the results by such faults
 same_answer : (small large : Option Error) (arcs : List ℕ) → IsSameBut small large → answer small arcs ≢ Err Length → answer small arcs ≡ answer large arcs
 same_answer small large arcs s other = ap (λ fault. answer fault arcs) (s (λ e. other (ap (λ fault. answer fault arcs) e)))
 
--- an answer and one more arc
+-- a result and one more arc
 same_push : (arc : ℕ) (small large : Result (List ℕ) Error) → (small ≢ Err Length → small ≡ large) → push_answer usual_capacity arc small ≢ Err Length → push_answer usual_capacity arc small ≡ push_answer owned_capacity arc large
 same_push arc (Ok arcs) large s other = rw (← s (λ ok. cc)) (same_answer _ _ (child_of arcs arc) (same_length (size (child_of arcs arc))) other)
 same_push arc (Err fault) large s other = rw (← s other) refl
 
--- the answer to a text
+-- the result of a text
 pub same_text : (text : List ℕ) → text_answer root_rule text usual_capacity ≢ Err Length → text_answer root_rule text usual_capacity ≡ text_answer root_rule text owned_capacity
 same_text text = same_answer _ _ (map number_of (pieces_of text)) (same_pieces [] (pieces_of text))
 
--- the answer to octets and one more arc
+-- the result of octets and one more arc
 pub same_child : (octets : List ℕ) (arc : ℕ) → child_answer octets arc usual_capacity ≢ Err Length → child_answer octets arc usual_capacity ≡ child_answer octets arc owned_capacity
 same_child octets arc = same_push arc _ _ (same_answer _ _ (arcs_of_octets octets) (same_first (parts_fault root_rule (cut octets)) _ _ (same_length (length octets))))
 
--- the answer to arcs
+-- the result of arcs
 pub same_arcs : (arcs : List ℕ) → item_answer root_rule arcs usual_capacity ≢ Err Length → item_answer root_rule arcs usual_capacity ≡ item_answer root_rule arcs owned_capacity
 same_arcs arcs = same_answer _ _ arcs (same_items [] arcs)

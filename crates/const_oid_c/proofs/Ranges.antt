@@ -42,7 +42,7 @@ module _ {X : Type 0} (p b : X → Bool) where
   AreCut [] = Unit {0}
   AreCut (x ∷ xs) = (p x ≡ false → count_by p xs ≡ 0) × (p x ≡ false → b x ≡ false → count_by b xs ≡ 0) × (b x ≡ true → p x ≡ false) × AreCut xs
 
-  -- the items that pass b stand at the indices from n on and below n + m
+  -- the items that pass b are at the indices from n up to, but not including, n + m
   cut_range : (xs : List X) → AreCut xs → (n m : ℕ) → n ≡ count_by p xs → m ≡ count_by b xs → (k : ℕ) → IfSome (slice_get xs k) (λ x. (b x ≡ true) ↔ ((n ≤ k) × (k < n + m)))
   cut_range [] c n m e f k = tt
   cut_range (x ∷ xs) c n m e f zero =

@@ -30,11 +30,11 @@ too_short_status len = record { code = 10; detail = 0; len = len }
 abbrev pub len_status : ℕ → Status
 len_status len = record { code = 0; detail = 0; len = len }
 
--- the answer is this number
+-- the result is this number
 abbrev pub number_status : ℕ → Status
 number_status detail = record { code = 0; detail = detail; len = 0 }
 
--- the answer is 1 for true, and 0 for false
+-- the result is 1 for true, and 0 for false
 abbrev pub flag_status : Bool → Status
 flag_status holds = number_status (if holds then 1 else 0)
 
@@ -42,7 +42,7 @@ flag_status holds = number_status (if holds then 1 else 0)
 abbrev pub IsFlagOf : Type 0 → Status → Type 0
 IsFlagOf fact status = ((status ≡ flag_status true) × fact) ⊎ ((status ≡ flag_status false) × ¬ fact)
 
--- the answer is an order: 0 for less, 1 for equal, 2 for greater
+-- the result is an order: 0 for less, 1 for equal, 2 for greater
 abbrev pub order_status : Ordering → Status
 order_status Less = number_status 0
 order_status Equal = number_status 1

@@ -1,6 +1,6 @@
 //! Object identifiers for C: the calls of `const_oid` over slices that the caller owns.
 //!
-//! No call takes memory, keeps a pointer or has a condition beyond its types.
+//! No call allocates, keeps a pointer or has a precondition beyond its types.
 //! `include/const_oid.h` declares the calls and says what a C caller promises.
 #![tactic(auto)]
 

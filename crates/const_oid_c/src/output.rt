@@ -1,4 +1,4 @@
-//! Answers that are written to the caller's slice.
+//! Results that are written to the caller's slice.
 ghost use Rattle.std.specs.Prelude.{◌≡◌, length, Ok};
 ghost use Rattle.const_oid.specs.Oid.{oid_answer};
 ghost use Rattle.const_oid_c.specs.Status.{output_status, output_after};

@@ -5,7 +5,7 @@ ghost use Rattle.const_oid_c.specs.Status.{error_status, code_status, len_status
 use const_oid::Error;
 use std::cmp::Ordering;
 
-/// The code of an output that is shorter than the answer.
+/// The code of an output that is shorter than the result.
 pub(crate) const TOO_SHORT: u32 = 10;
 
 /// The code of a text that is not UTF-8.
@@ -23,11 +23,11 @@ pub(crate) const UNSORTED: u32 = 13;
 pub struct Status {
     /// 0 for success, 1 to 9 for an error of `const_oid`, and 10 to 13 for the codes above.
     pub code: u32,
-    /// With code 0 the arc, the flag or the order that the call answers. With code 1 the arc, and with
+    /// With code 0 the arc, the flag or the order that the call returns. With code 1 the arc, and with
     /// code 4 the byte. Otherwise 0.
     pub detail: u32,
     /// With code 0 the number of items that were written or counted. With code 10 the number of items
-    /// of the answer. For a wrong item of a list its index, and for a wrong identifier that comes with
+    /// of the result. For a wrong item of a list its index, and for a wrong identifier that comes with
     /// a list the number of items of the list. Otherwise 0.
     pub len: usize,
 }
@@ -87,7 +87,7 @@ pub(crate) fn len_status(len: usize) -> Status
     }
 }
 
-/// The answer is a number.
+/// The result is a number.
 pub(crate) fn number_status(detail: u32) -> Status
     ensures { result ≡ number_status detail }
 {
@@ -98,14 +98,14 @@ pub(crate) fn number_status(detail: u32) -> Status
     }
 }
 
-/// The answer is yes or no.
+/// The result is true or false.
 pub(crate) fn flag_status(holds: bool) -> Status
     ensures { result ≡ flag_status holds }
 {
     number_status(if holds { 1 } else { 0 })
 }
 
-/// The answer is an order.
+/// The result is an order.
 pub(crate) fn order_status(ordering: Ordering) -> Status
     ensures { result ≡ order_status ordering }
 {

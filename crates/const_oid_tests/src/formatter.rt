@@ -1,4 +1,4 @@
-//! What values print, and a formatter's target that takes one text alone and may refuse a write.
+//! What values print, and a formatter's target that takes one text alone and may fail a write.
 
 use std::alloc::{AllocError, Global};
 use std::fmt;
@@ -28,7 +28,7 @@ pub fn prints_as<T: Display>(value: &T, text: &str) -> bool {
 }
 
 /// The number of writes that print a value as this text, or `None` if it is printed otherwise or
-/// one of the writes is refused and not reported at once.
+/// one of the writes fails and is not reported at once.
 pub fn count_writes<T: Display>(value: &T, text: &str) -> Option<usize> {
     for writes in 0..1000 {
         let mut target = OneText {
@@ -56,7 +56,17 @@ impl<T: Debug> Display for DebugText<T> {
     }
 }
 
-/// Takes a text piece by piece and nothing else, and refuses the write of one number, counted from 1.
+/// Prints the Debug texts of a value under options.
+#[derive(Drop)]
+pub struct DebugTexts<T>(pub T);
+
+impl<T: Debug> Display for DebugTexts<T> {
+    fn fmt<W: Write>(&self, f: &mut fmt::Formatter<W>) -> fmt::Result {
+        write!(f, "{:?}|{:#?}|{:30?}", self.0, self.0, self.0)
+    }
+}
+
+/// Takes a text piece by piece and nothing else, and fails the write of one number, counted from 1.
 #[derive(Drop)]
 struct OneText<'a> {
     rest: &'a [u8],

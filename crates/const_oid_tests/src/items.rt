@@ -69,7 +69,7 @@ fn arrays(rt: HostRuntime) {
     }
 }
 
-/// Lists that are refused, and the error.
+/// Lists that are rejected, and the error.
 const REFUSED: &[(&[Arc], Error)] = &[
     (&[1, 40, 840, 10045, 3, 1, 7], Error::ArcInvalid { arc: 40 }),
     (&[0, 40], Error::ArcInvalid { arc: 40 }),

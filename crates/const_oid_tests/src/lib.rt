@@ -30,6 +30,8 @@ mod printing;
 #[cfg(test)]
 mod short_slices;
 #[cfg(test)]
+mod sorted;
+#[cfg(test)]
 mod subtree;
 #[cfg(test)]
 mod texts;

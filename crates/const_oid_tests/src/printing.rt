@@ -1,7 +1,7 @@
 //! Identifiers of both forms, printed: Display and Debug.
 
 use crate::encode_text::ARCS;
-use crate::formatter::{DebugText, count_writes, prints, prints_as};
+use crate::formatter::{DebugText, DebugTexts, count_writes, prints, prints_as};
 use const_oid::{ObjectIdentifier, ObjectIdentifierRef, Oid};
 use std::alloc::{AllocError, Global};
 use std::test::Fail;
@@ -43,16 +43,26 @@ fn prints_octets(
     let text = format!(in alloc; "{first}{later}")?;
     let borrowed = ObjectIdentifierRef::from_bytes(octets.as_bytes())?;
     let is_printed = match ObjectIdentifier::<300>::try_from_ref(borrowed) {
-        Ok(owned) => prints_as(&owned, text.as_str()),
+        Ok(owned) => {
+            let debug = format!(in alloc; "ObjectIdentifier({text})")?;
+            let debug = format!(in alloc; "{debug}|{debug}|{debug}")?;
+            prints_as(&owned, text.as_str()) && prints_as(&DebugTexts(owned), debug.as_str())
+        }
         Err(_) => count > 255,
     };
-    Ok(is_printed && prints_as(&borrowed, text.as_str()))
+    let debug = format!(in alloc; "ObjectIdentifierRef({text})")?;
+    let debug = format!(in alloc; "{debug}|{debug}|{debug}")?;
+    Ok(
+        is_printed
+            && prints_as(&borrowed, text.as_str())
+            && prints_as(&DebugTexts(borrowed), debug.as_str()),
+    )
 }
 
-/// Each number of octets up to 256, and numbers that are past any buffer of a fixed size.
+/// Each number of octets up to 520, and numbers that are past any buffer of a fixed size.
 #[test]
 fn of_any_length(rt: HostRuntime) -> Result<(), Fail> {
-    for count in (1..=256).chain([2046, 10_000]) {
+    for count in (1..=520).chain([2046, 10_000]) {
         let alloc = rt.alloc();
         assert!(rt;
             prints_octets(alloc, "\u{7F}", "2.47", ".127", count)?,
@@ -88,7 +98,7 @@ const DEBUG: &[(&[u8], &str, &str, &str)] = &[
     ),
 ];
 
-/// Each write that is refused is reported, whichever it is.
+/// Each write that fails is reported, whichever it is.
 #[test]
 fn refused_writes(rt: HostRuntime) {
     for (octets, text, borrowed_text, owned_text) in DEBUG {
@@ -107,7 +117,7 @@ fn refused_writes(rt: HostRuntime) {
     }
 }
 
-/// The text of 255 octets is more than one write, and each, refused, is reported.
+/// The text of 255 octets is more than one write, and the failure of each is reported.
 #[test]
 fn refused_writes_of_a_long_text(rt: HostRuntime) -> Result<(), Fail> {
     let later = ".127".repeat(rt.alloc(), 254)?;

@@ -1,4 +1,4 @@
-//! All slices of at most two octets, counted by what each call answers to them.
+//! All slices of at most two octets, counted by what each call returns for them.
 
 use const_oid::{Error, ObjectIdentifier, ObjectIdentifierRef, Oid};
 
@@ -6,7 +6,7 @@ use const_oid::{Error, ObjectIdentifier, ObjectIdentifierRef, Oid};
 #[derive(Clone, Copy)]
 enum Form {
     Borrowed,
-    /// The borrowed form, of which a second arc past 39 is asked.
+    /// The borrowed form, where a second arc above 39 is wanted.
     PastTheNarrowRoot,
     Owned0,
     Owned1,
@@ -18,8 +18,8 @@ enum Form {
     Copied2,
 }
 
-/// What a form answers. [`Error::Overflow`], which no call answers, stands for other arcs than those that
-/// are asked.
+/// What a form returns. [`Error::Overflow`], which no call returns, marks other arcs than those that
+/// are wanted.
 fn answer(form: Form, octets: &[u8]) -> Option<Error> {
     match (form, ObjectIdentifierRef::from_bytes(octets)) {
         (Form::Owned0, _) => ObjectIdentifier::<0>::from_bytes_sized(octets).err(),
@@ -49,7 +49,7 @@ fn slice_at(number: u32) -> ([u8; 2], usize) {
     }
 }
 
-/// How many slices with a first octet from one on and below another have an answer. The empty slice counts
+/// How many slices with a first octet from one on and below another have a result. The empty slice counts
 /// as one that begins with 0.
 fn how_many(form: Form, from: u16, below: u16, wanted: Option<Error>) -> usize {
     let mut count = 0usize;
@@ -67,7 +67,7 @@ fn how_many(form: Form, from: u16, below: u16, wanted: Option<Error>) -> usize {
     count
 }
 
-/// Forms, the least first octet and the one past the greatest, an answer, and how many slices have it.
+/// Forms, the least first octet and the one past the greatest, a result, and how many slices have it.
 const COUNTS: &[(Form, u16, u16, Option<Error>, usize)] = &[
     (Form::Borrowed, 0, 256, None, 32_768),
     (Form::Borrowed, 0, 256, Some(Error::Empty), 1),

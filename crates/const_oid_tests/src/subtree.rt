@@ -13,7 +13,7 @@ use std::alloc::{AllocError, Global};
 use std::collections::BTreeSet;
 use std::test::Fail;
 
-/// Sorts identifiers, and answers the range of those that begin with one.
+/// Sorts identifiers, and returns the range of those that begin with one.
 fn sorted_subtree(
     prefix: &ObjectIdentifierRef<'_>,
     oids: &mut Vec<ObjectIdentifierRef<'_>>,
@@ -71,7 +71,7 @@ fn ranges(rt: HostRuntime) -> Result<(), Fail> {
     Ok(())
 }
 
-/// Those that begin with 1.2 stand together in an ordered set, at the indices 1 to 7.
+/// Those that begin with 1.2 are adjacent in an ordered set, at the indices 1 to 7.
 #[test]
 fn ordered_set(rt: HostRuntime) -> Result<(), Fail> {
     let mut oids = BTreeSet::new(rt.alloc());

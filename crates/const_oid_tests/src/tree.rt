@@ -61,7 +61,7 @@ fn long_parent(rt: HostRuntime) -> Result<(), AllocError> {
     Ok(())
 }
 
-/// Whether a capacity answers one more arc so, and keeps the old value.
+/// Whether a capacity takes one more arc with this result, and keeps the old value.
 fn pushes<const N: usize>(octets: &[u8], arc: Arc, wanted: Result<&[u8], Error>) -> bool
     requires { N ≤ 300 }
 {

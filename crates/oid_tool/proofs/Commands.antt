@@ -1,4 +1,4 @@
--- The answers at the start of a buffer.
+-- Results at the start of a buffer.
 use Rattle.std.proofs.Common.{◌≡◌, ℕ, ◌+◌, ◌-◌, ◌<◌, List, ◌++◌, length, take, drop, refl, ap, subst, ◌∙◌, arith, length-append}
 use Rattle.std.specs.Prelude.{Option, Some, None, IfSome, MatchOption, Result, codes}
 use Rattle.std.specs.Str.{IsUtf8, is_utf8}
@@ -14,24 +14,24 @@ use Rattle.oid_tool.specs.Output.{StandsFirst}
 use Rattle.oid_tool.proofs.Output.{take_grown}
 use borrow.Rule.Slice.PartMut.{put_mid, post_of}
 
--- an equal text stands first, too
+-- an equal text comes first, too
 pub stands_as : (result : Option ℕ) (out text line : List ℕ) → StandsFirst result out text → text ≡ line → StandsFirst result out line
 stands_as result out text line h e = subst (StandsFirst result out) e h
 
--- a text that `encode_text` writes stands first
+-- a text that `encode_text` writes comes first
 pub stands_written : (result : Option ℕ) (old new text line : List ℕ) → length new ≡ length old → MatchOption result (length old < length text) (λ len. len ≡ length text) → IfSome result (λ len. new ≡ text ++ drop len old) → text ≡ line → StandsFirst result new line
 stands_written None old new text line same cases written e = omega (arith, ap length e)
 stands_written (Some len) old new text line same cases written e =
     let whole : take len new ≡ text = rw (written, cases) (take-append_seam text (drop (length text) old)) in
     (omega (arith, same, cases, ap length written, length-append text (drop len old)), whole ∙ e)
 
--- a text that stands first, and another one after it
+-- a text that comes first, and another one after it
 pub stands_joined : (at len : ℕ) (out rest first second line : List ℕ) → StandsFirst (Some at) out first → StandsFirst (Some len) rest second → first ++ second ≡ line → StandsFirst (Some (at + len)) (put_mid at (length out - at) out rest) line
 stands_joined at len out rest first second line one two e =
     let grown = take_grown at (length out - at) len out rest one.0 two.0 in
     (omega (arith, length-append (take at out) (rest ++ post_of at (length out - at) out), length-append rest (post_of at (length out - at) out), length-take-le at out one.0), grown ∙ rw (one.1, two.1) e)
 
--- the line of a text, by the answer to it
+-- the line of a text, by the result of parsing it
 pub denoted_line_read : (line : List ℕ → List ℕ) (bytes text : List ℕ) (answer : Result (List ℕ) Error) → text ≡ bytes → IsUtf8 bytes → answer ≡ text_answer root_rule text usual_capacity → line_of line answer ≡ denoted_line line bytes
 denoted_line_read line bytes text answer same utf8 e = rw (is_utf8-from_IsUtf8 bytes utf8, e, same) refl
 

@@ -1,4 +1,4 @@
--- The first line and its answer, and the lines after it.
+-- The first line and its result, and the lines after it.
 use Rattle.std.proofs.Common.{◌≡◌, ◌≢◌, ℕ, ◌+◌, ◌<◌, ◌≤◌, ◌==◌, true, false, nat_eq, List, [], ◌∷◌, ◌++◌, length, ap, sym, ◌∙◌, refl, arith, ⊎_elim}
 use Rattle.std.specs.List.{before_first, after_first, position_or_len, flat_map}
 use Rattle.std.proofs.lemmas.Bool.{cases_lt}
@@ -43,21 +43,21 @@ lines-first text some = ⊎_elim
     (λ (none : length text ≤ position_or_len (λ b. b == 10) text). lines-one text some none)
     (cases_lt (position_or_len (λ b. b == 10) text) (length text))
 
--- the first answer, and the answers to the text after it
+-- the first result, and the results of the text after it
 answers-first : (table : List Row) (text : List ℕ) → text ≢ [] → answers table text ≡ output_line table (first_line text) ++ answers table (after_line text)
 unfolding answers
 answers-first table text some = ap (flat_map (output_line table)) (lines-first text some) ∙ flat_map-cons (output_line table) (first_line text) (lines (after_line text))
 
--- an empty input has no answers
+-- an empty input has no results
 pub answers-nil : (table : List Row) → answers table [] ≡ []
 unfolding answers
 answers-nil table = refl
 
--- an input that is not empty has an answer
+-- an input that is not empty has a result
 pub answers_not_empty : (table : List Row) (text : List ℕ) → text ≢ [] → answers table text ≢ []
 answers_not_empty table text some none = let e = ap length (sym (answers-first table text some) ∙ none) in omega (arith, simp length-append at e)
 
--- the answer to the first line, and the answers to the text after it
+-- the result of the first line, and the results of the text after it
 pub answers-next : (table : List Row) (text line after row : List ℕ) → text ≢ [] → line ≡ first_line text → after ≡ after_line text → row ≡ output_line table line → answers table text ≡ row ++ answers table after
 answers-next table text line after row some prefix back e = rw (e, prefix, back) (answers-first table text some)
 

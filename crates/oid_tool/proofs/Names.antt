@@ -37,12 +37,12 @@ name_or-rows (entry ∷ entries) text arcs =
 abbrev bytes_of : Bor (List ℕ) → List ℕ
 bytes_of text = text.now
 
--- the line of a resolved text, by the answer to the text
+-- the line of a resolved text, by the result of parsing the text
 line_of-resolved : (entries : List (Entry (Bor (ObjectIdentifier 39)))) (text : Bor (List ℕ)) (answer : Result (List ℕ) Error) → answer ≡ text_answer root_rule text.now usual_capacity → line_of bytes_of (resolve_answer entries text) ≡ line_of (row_name_or (map row_of entries) text.now) answer
 line_of-resolved entries text (Ok arcs) e = rw (sym e) (name_or-rows entries text arcs)
 line_of-resolved entries text (Err fault) e = rw (sym e) refl
 
--- the line of a resolved text is the answer of `name`
+-- the line of a resolved text is the result of `name`
 pub name_line_resolved : (entries : List (Entry (Bor (ObjectIdentifier 39)))) (text : Bor (List ℕ)) (bytes : List ℕ) (result : Result (Bor (List ℕ)) Error) → text.now ≡ bytes → IsUtf8 bytes → result ≡ resolve_answer entries text → line_of bytes_of result ≡ name_line (map row_of entries) bytes
 unfolding name_line
 name_line_resolved entries text bytes result same utf8 e =
@@ -59,7 +59,7 @@ unfolding known_names
 rows_of-known table entries cn c common_name rsa_encryption made rows d e f g =
     ap (map row_of) made ∙ rows ∙ rw (d.values, e.values, f.values, g.values) refl
 
--- the answers to all bytes that were read are the answers to the whole input, with the table of the tool
+-- the results of all bytes that were read are those of the whole input, with the table of the tool
 pub answered : (W : List ℕ → Type 0) (table : Database) (old new : Option (List ℕ)) (bytes : List ℕ) → rows_of table ≡ known_names → Consumes old new bytes → IsAtEnd new → W (answers (rows_of table) bytes) → IfSome old (λ text. W (answers known_names text))
 answered W table old new bytes known read ended written =
     known_from_read (λ text. W (answers known_names text)) old new bytes read ended (subst (λ rows. W (answers rows bytes)) known written)

@@ -1,4 +1,4 @@
--- The answers of the tool: one line for each line of its input.
+-- The output of the tool: one line for each line of its input.
 use Rattle.std.specs.Prelude.{ℕ, ◌==◌, List, [], ◌∷◌, ◌++◌, if◌then◌else◌, codes, bytes_eq, Option, Some, None, Result, Ok, Err}
 use Rattle.std.specs.List.{slice_split, before_first, after_first, flat_map}
 use Rattle.std.specs.Str.{is_utf8}
@@ -26,7 +26,7 @@ abbrev pub octets_line : Result (List ℕ) FromHexError → List ℕ
 octets_line (Ok octets) = line_of text_of (octet_answer root_rule octets borrowed_capacity)
 octets_line (Err fault) = error_line (codes "not hex")
 
--- the answer of `text` to hexadecimal digits
+-- the result of `text` on hexadecimal digits
 unfoldable pub text_line : List ℕ → List ℕ
 text_line digits = octets_line (decode_of digits)
 
@@ -36,7 +36,7 @@ denoted_line line text =
     if is_utf8 text then line_of line (text_answer root_rule text usual_capacity)
     else error_line (codes "not UTF-8")
 
--- the answer of `hex` to dotted text: the contents octets as lower-case hexadecimal digits
+-- the result of `hex` on dotted text: the contents octets as lower-case hexadecimal digits
 unfoldable pub hex_line : List ℕ → List ℕ
 hex_line text = denoted_line (λ arcs. encode_lower (encoding_of arcs)) text
 
@@ -45,15 +45,15 @@ abbrev pub text_or_none : Option (List ℕ) → List ℕ
 text_or_none None = codes "none"
 text_or_none (Some arcs) = text_of arcs
 
--- the answer of `parent` to dotted text
+-- the result of `parent` on dotted text
 unfoldable pub parent_line : List ℕ → List ℕ
 parent_line text = denoted_line (λ arcs. text_or_none (parent_of arcs)) text
 
--- the answer of `name` to dotted text: the name in the table, or the text itself
+-- the result of `name` on dotted text: the name in the table, or the text itself
 unfoldable pub name_line : List Row → List ℕ → List ℕ
 name_line table text = denoted_line (row_name_or table text) text
 
--- the answer of a command to its argument, with a table of names
+-- the result of a command on its argument, with a table of names
 abbrev pub answer_to : List Row → List ℕ → List ℕ → List ℕ
 answer_to table command argument =
     if bytes_eq command (codes "text") then text_line argument
@@ -62,7 +62,7 @@ answer_to table command argument =
     else (if bytes_eq command (codes "name") then name_line table argument
     else error_line (codes "unknown command"))))
 
--- the answer to a line, whose command ends at its first space
+-- the result of a line, whose command ends at its first space
 unfoldable pub answer_line : List Row → List ℕ → List ℕ
 answer_line table line = answer_to table (before_first (λ b. b == 32) line) (after_first (λ b. b == 32) line)
 
@@ -77,10 +77,10 @@ without_empty_last (piece ∷ next ∷ more) = piece ∷ without_empty_last (nex
 abbrev pub lines : List ℕ → List (List ℕ)
 lines input = without_empty_last (slice_split (λ b. b == 10) input)
 
--- the answer to a line and a newline
+-- the result of a line, and a newline
 abbrev pub output_line : List Row → List ℕ → List ℕ
 output_line table line = answer_line table line ++ 10 ∷ []
 
--- the answers to all lines of the input
+-- the results of all lines of the input
 unfoldable pub answers : List Row → List ℕ → List ℕ
 answers table input = flat_map (output_line table) (lines input)

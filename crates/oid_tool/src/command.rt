@@ -1,4 +1,4 @@
-//! The answer to one line, which is a command and its argument.
+//! The result of one line, which is a command and its argument.
 ghost use Rattle.std.specs.Prelude.{◌≡◌, ◌*◌, ◌≤◌, ◌==◌, length, take, position, IfSome, IsErr, MatchOption, Ok};
 ghost use Rattle.std.specs.List.{before_first, after_first};
 ghost use Rattle.hex.specs.Hex.{decode_of, encode_lower};
@@ -14,7 +14,7 @@ use std::str;
 /// The most bytes that the input may have.
 pub const MAX_INPUT: usize = 4096;
 
-/// Writes the answer to a line at the start of `out`, with a table of names. Returns its length, or
+/// Writes the result of a line at the start of `out`, with a table of names. Returns its length, or
 /// `None` if it is longer than `out`.
 #[tactic(auto, unfolding(crate::specs::Answers::answer_line))]
 pub fn answer(line: &[u8], table: Database<'_>, out: &mut [u8]) -> Option<usize>

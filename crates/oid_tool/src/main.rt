@@ -1,4 +1,4 @@
-//! Answers each line of standard input: turns object identifiers into octets, text and names.
+//! Prints a line for each line of standard input: an object identifier as octets, text or name.
 #![tactic(auto)]
 
 mod command;

@@ -1,4 +1,4 @@
-//! Reads the whole input, and then writes the answers to its lines.
+//! Reads the whole input, and then writes the results of its lines.
 ghost use Rattle.std.specs.Prelude.{◌≡◌, ◌+◌, ◌≤◌, ◌⊎◌, length, take, IsOk, OnOk, OnErr, IfOk, IfErr, IfSome, Some};
 ghost use Rattle.std.specs.Io.KnownBytes.{Appends, Consumes, IsAtEnd};
 ghost use Rattle.oid_tool.specs.Answers.{answers, output_line};
@@ -17,7 +17,7 @@ pub enum ToolError {
     /// A read failed.
     Read,
 
-    /// A write failed or took no byte, or an answer was longer than [`MAX_LINE`].
+    /// A write failed or took no byte, or a result was longer than [`MAX_LINE`].
     Write,
 
     /// The input has more than [`MAX_INPUT`] bytes.
@@ -38,10 +38,10 @@ impl fmt::Display for ToolError {
     }
 }
 
-/// Reads the input to its end, and then writes the answer to each of its lines.
+/// Reads the input to its end, and then writes the result of each of its lines.
 ///
-/// Each answer is complete before it is written. A read or write that failed is not tried again. The
-/// function does not flush the output and takes no memory.
+/// Each result is complete before it is written. A read or write that failed is not tried again. The
+/// function neither flushes the output nor allocates.
 pub fn run<R: Read, W: Write>(input: &mut R, output: &mut W) -> Result<(), ToolError>
     ensures ok { OnOk result (IfSome (R.remaining input.old)
         (λ text. Appends (W.contents output.old) (W.contents output.new)
@@ -97,10 +97,10 @@ fn read_all<R: Read>(input: &mut R, buffer: &mut [u8]) -> Result<usize, ToolErro
     Err(ToolError::TooLong)
 }
 
-/// The most bytes that an answer and its newline may have.
+/// The most bytes that a result and its newline may have.
 const MAX_LINE: usize = 8192;
 
-/// Writes the answer to each line of the text, with a table of names.
+/// Writes the result of each line of the text, with a table of names.
 fn write_answers<W: Write>(
     text: &[u8],
     table: Database<'_>,
@@ -126,7 +126,7 @@ fn write_answers<W: Write>(
     Ok(())
 }
 
-/// Writes the answer to a line and a newline at the start of `out`. Returns their length, or `None` if
+/// Writes the result of a line and a newline at the start of `out`. Returns their length, or `None` if
 /// they do not fit.
 fn put_line(line: &[u8], table: Database<'_>, out: &mut [u8]) -> Option<usize>
     requires { length line.now ≤ MAX_INPUT }

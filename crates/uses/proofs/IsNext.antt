@@ -4,8 +4,9 @@ use Rattle.std.specs.Cmp.Lexicographic.{slice_cmp, same_text, texts_ties}
 use Rattle.std.specs.Ordering.{nat_cmp, is_eq, ordering_reverse}
 use Rattle.std.specs.declared.cmp.Ordering.{Ordering}
 use Rattle.std.proofs.lemmas.Cmp.{nat_list_cmp_total}
-use Rattle.uses.specs.declared.walk.ByArcs.{ByArcs}
-use Rattle.uses.specs.Walk.{key_arcs, IsNext}
+use Rattle.const_oid.specs.declared.by_arcs.ByArcs.{ByArcs}
+use Rattle.const_oid.specs.OidRef.{key_arcs}
+use Rattle.uses.specs.Walk.{IsNext}
 
 -- orders that are each other's reverse, and not greater, are equal
 level : (order other : Ordering) → order ≡ ordering_reverse other → order ≢ Greater → other ≢ Greater → order ≡ Equal

@@ -6,9 +6,8 @@ use Rattle.std.specs.Option.{option_map, is_some}
 use Rattle.std.specs.Prelude.{find}
 use Rattle.std.specs.Str.{str_eq_ignore_ascii_case}
 use Rattle.std.proofs.lemmas.List.Folds.{Any-from_list_any, list_any-from_Any}
-use Rattle.const_oid.specs.declared.db_ref.RefDatabase.{RefDatabase}
 use Rattle.const_oid.specs.declared.oid_ref.ObjectIdentifierRef.{ObjectIdentifierRef}
-use Rattle.const_oid.specs.Names.{Entry, has_arcs, has_name, oid_of, name_of, first_oid, first_name, ref_entries_of}
+use Rattle.const_oid.specs.Names.{Entry, has_arcs, has_name, oid_of, name_of, first_oid, first_name}
 use Rattle.const_oid.specs.OidRef.{ref_arcs}
 use Rattle.uses.specs.AttributeTypes.{Row, first_arcs}
 
@@ -46,17 +45,17 @@ some_row entries arcs = (
   λ (k, row, l, at, same). any-rows entries arcs ∙ list_any-from_Any (row_has_arcs arcs) (map row_of entries) (k, row, l, at, (bytes_decides row.0 arcs).1 same),
 )
 
--- a table and its rows
-module _ (table : RefDatabase) (rows : List Row) (made : map row_of (ref_entries_of table) ≡ rows) where
-  -- the arcs of a name are those of the identifier that the table finds by it
-  pub arcs_found : (name : List ℕ) (found : Option ObjectIdentifierRef) → found ≡ first_oid (ref_entries_of table) name → first_arcs rows name ≡ option_map ref_arcs found
+-- the entries of a table and its rows
+module _ (entries : List (Entry ObjectIdentifierRef)) (rows : List Row) (made : map row_of entries ≡ rows) where
+  -- the arcs of a name are those of the identifier that the table has by it
+  pub arcs_found : (name : List ℕ) (found : Option ObjectIdentifierRef) → found ≡ first_oid entries name → first_arcs rows name ≡ option_map ref_arcs found
   arcs_found name found e =
-      ap (λ rows. first_arcs rows name) (sym made) ∙ first_arcs-rows (ref_entries_of table) name ∙ ap (option_map ref_arcs) (sym e)
+      ap (λ rows. first_arcs rows name) (sym made) ∙ first_arcs-rows entries name ∙ ap (option_map ref_arcs) (sym e)
 
   -- the table finds a name by arcs exactly where some row has them
-  pub row_found : (arcs : List ℕ) (found : Option (Bor (List ℕ))) (result : Bool) → found ≡ first_name ref_arcs (ref_entries_of table) arcs → result ≡ is_some found → IsTrue result ↔ Any (λ row. row.0 ≡ arcs) rows
+  pub row_found : (arcs : List ℕ) (found : Option (Bor (List ℕ))) (result : Bool) → found ≡ first_name ref_arcs entries arcs → result ≡ is_some found → IsTrue result ↔ Any (λ row. row.0 ≡ arcs) rows
   row_found arcs found result e f =
-      subst (λ rows. IsTrue result ↔ Any (λ row. row.0 ≡ arcs) rows) made (rw (f, e) (some_row (ref_entries_of table) arcs))
+      subst (λ rows. IsTrue result ↔ Any (λ row. row.0 ≡ arcs) rows) made (rw (f, e) (some_row entries arcs))
 
 -- the arcs that were found are others exactly where a test says so
 pub are_arcs : (answer : Option (List ℕ)) (found other : List ℕ) (result : Bool) → answer ≡ Some found → IsTrue result ↔ (found ≡ other) → IsTrue result ↔ (answer ≡ Some other)

@@ -14,7 +14,9 @@ first_arcs rows name = option_map (λ row. row.0) (find (λ row. str_eq_ignore_a
 -- attribute types with their names (RFC 4519, section 2)
 unfoldable pub attribute_types : List Row
 attribute_types =
-    (2 ∷ 5 ∷ 4 ∷ 3 ∷ [], codes "cn")
+    (0 ∷ 9 ∷ 2342 ∷ 19200300 ∷ 100 ∷ 1 ∷ 1 ∷ [], codes "uid")
+    ∷ (0 ∷ 9 ∷ 2342 ∷ 19200300 ∷ 100 ∷ 1 ∷ 25 ∷ [], codes "dc")
+    ∷ (2 ∷ 5 ∷ 4 ∷ 3 ∷ [], codes "cn")
     ∷ (2 ∷ 5 ∷ 4 ∷ 4 ∷ [], codes "sn")
     ∷ (2 ∷ 5 ∷ 4 ∷ 5 ∷ [], codes "serialNumber")
     ∷ (2 ∷ 5 ∷ 4 ∷ 6 ∷ [], codes "c")
@@ -24,6 +26,4 @@ attribute_types =
     ∷ (2 ∷ 5 ∷ 4 ∷ 10 ∷ [], codes "o")
     ∷ (2 ∷ 5 ∷ 4 ∷ 11 ∷ [], codes "ou")
     ∷ (2 ∷ 5 ∷ 4 ∷ 12 ∷ [], codes "title")
-    ∷ (0 ∷ 9 ∷ 2342 ∷ 19200300 ∷ 100 ∷ 1 ∷ 1 ∷ [], codes "uid")
-    ∷ (0 ∷ 9 ∷ 2342 ∷ 19200300 ∷ 100 ∷ 1 ∷ 25 ∷ [], codes "dc")
     ∷ []

@@ -1,2 +1,3 @@
 pub mod AttributeTypes
+pub mod Label
 pub mod Walk

@@ -4,12 +4,8 @@ use Rattle.std.specs.Cmp.Lexicographic.{slice_cmp}
 use Rattle.std.specs.List.{All, Contains}
 use Rattle.std.specs.Ordering.{nat_cmp}
 use Rattle.std.specs.declared.cmp.Ordering.TheVariants.{Less, Greater}
-use Rattle.const_oid.specs.Oid.{oid_arcs}
-use Rattle.uses.specs.declared.walk.ByArcs.{ByArcs}
-
--- the arcs of a key
-abbrev pub key_arcs : ByArcs → List ℕ
-key_arcs key = oid_arcs key.oid
+use Rattle.const_oid.specs.declared.by_arcs.ByArcs.{ByArcs}
+use Rattle.const_oid.specs.OidRef.{key_arcs}
 
 -- the key is the next one after arcs: it is in the list and after them, and none that is after them is before it
 pub record IsNext (keys : List ByArcs) (arcs : List ℕ) (next : ByArcs) : Type 0 where

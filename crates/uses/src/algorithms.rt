@@ -20,7 +20,7 @@ pub fn name_of<'a>(database: &Database<'a>, octets: &[u8]) -> Result<Option<&'a 
     Ok(database.by_oid(&oid))
 }
 
-/// The name in the first of two tables that has one: both stand at one lifetime.
+/// The name in the first of two tables that has one. Both tables have one lifetime.
 pub fn name_in<'a>(own: &Database<'a>, others: &Database<'a>, oid: &Oid) -> Option<&'a str>
     ensures { result ≡ option_or (first_name lent_arcs (entries_of own.now) (oid_arcs oid.now))
         (first_name lent_arcs (entries_of others.now) (oid_arcs oid.now)) }

@@ -7,6 +7,9 @@ pub mod constants;
 mod first;
 pub mod fixed;
 pub mod generic;
+pub mod label;
+#[cfg(test)]
+mod mib;
 pub mod schema;
 #[cfg(test)]
 mod snmp;

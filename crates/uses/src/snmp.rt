@@ -3,11 +3,11 @@
 ghost use Rattle.std.specs.Cmp.Lexicographic.{slice_cmp};
 ghost use Rattle.std.specs.List.Sorted.{IsSortedByKey};
 ghost use Rattle.std.specs.Ordering.{nat_cmp};
-ghost use Rattle.uses.specs.Walk.{key_arcs};
+ghost use Rattle.const_oid.specs.OidRef.{key_arcs};
 
 use crate::theorems::through_text;
-use crate::walk::{ByArcs, next_after, next_under};
-use const_oid::{Error, ObjectIdentifier, ObjectIdentifierRef, Oid};
+use crate::walk::{next_after, next_under};
+use const_oid::{ByArcs, Error, ObjectIdentifier, ObjectIdentifierRef, Oid};
 use std::alloc::Global;
 use std::collections::BTreeMap;
 use std::test::Fail;
@@ -49,42 +49,51 @@ fn shuffled(index: usize) -> &'static str {
     ROWS[index % ROWS.len() * 5 % ROWS.len()]
 }
 
-/// The keys of the rows, in no order.
-fn keys(alloc: Global) -> Result<Vec<ByArcs>, Fail> {
-    let mut keys = Vec::new(alloc);
+/// The identifiers of the rows, in no order.
+fn oids(alloc: Global) -> Result<Vec<ObjectIdentifier<255>>, Fail> {
+    let mut oids = Vec::new(alloc);
     for index in 0..ROWS.len() {
-        let oid = oid(shuffled(index))?;
-        keys.push(ByArcs { oid })?;
+        oids.push(oid(shuffled(index))?)?;
+    }
+    Ok(oids)
+}
+
+/// Their keys.
+fn keys(alloc: Global, oids: &[ObjectIdentifier<255>]) -> Result<Vec<ByArcs<'_>>, Fail> {
+    let mut keys = Vec::new(alloc);
+    for oid in oids {
+        keys.push(ByArcs(oid.as_oid_ref()))?;
     }
     Ok(keys)
 }
 
 /// The first row that a walk does not meet next, or the last one if the walk goes on.
-fn wrong_step(sorted: &[ByArcs]) -> Option<&'static str>
+fn wrong_step(sorted: &[ByArcs<'_>]) -> Option<&'static str>
     requires { IsSortedByKey key_arcs (slice_cmp nat_cmp) sorted.now }
 {
     let first = Oid::new_unwrap("1.3");
-    let mut last = first.as_oid_ref();
+    let mut next = next_after(sorted, &first.as_oid_ref());
     for row in ROWS {
-        let Some(next) = next_after(sorted, &last) else {
+        let (Some(key), Ok(oid)) = (next, oid(row)) else {
             return Some(row);
         };
-        if oid(row) != Ok(next.oid) {
+        if !key.0.eq_oid(&oid) {
             return Some(row);
         }
-        last = next.oid.as_oid_ref();
+        next = next_after(sorted, &key.0);
     }
-    next_after(sorted, &last).map(|_| ROWS[ROWS.len() - 1])
+    next.map(|_| ROWS[ROWS.len() - 1])
 }
 
 /// How many keys a walk meets under a root.
-fn count_under(sorted: &[ByArcs], root: &ObjectIdentifierRef<'_>) -> usize
+fn count_under(sorted: &[ByArcs<'_>], root: &ObjectIdentifierRef<'_>) -> usize
     requires { IsSortedByKey key_arcs (slice_cmp nat_cmp) sorted.now }
 {
-    let mut last = *root;
+    let start = *root;
+    let mut next = next_under(sorted, root, &start);
     for count in 0..sorted.len() {
-        match next_under(sorted, root, &last) {
-            Some(next) => last = next.oid.as_oid_ref(),
+        match next {
+            Some(key) => next = next_under(sorted, root, &key.0),
             None => return count,
         }
     }
@@ -93,7 +102,8 @@ fn count_under(sorted: &[ByArcs], root: &ObjectIdentifierRef<'_>) -> usize
 
 #[test]
 fn walk(rt: HostRuntime) -> Result<(), Fail> {
-    let mut keys = keys(rt.alloc())?;
+    let oids = oids(rt.alloc())?;
+    let mut keys = keys(rt.alloc(), &oids)?;
     keys.sort()?;
     let row = wrong_step(&keys);
     assert!(rt; row.is_none(), "{row:?}");
@@ -105,18 +115,21 @@ fn walk(rt: HostRuntime) -> Result<(), Fail> {
 }
 
 /// The rows by their keys, put in in no order.
-fn map(alloc: Global) -> Result<BTreeMap<ByArcs, &'static str>, Fail> {
+fn map(
+    alloc: Global,
+    oids: &[ObjectIdentifier<255>],
+) -> Result<BTreeMap<ByArcs<'_>, &'static str>, Fail> {
     let mut rows = BTreeMap::new(alloc);
-    for index in 0..ROWS.len() {
-        let row = shuffled(index);
-        rows.insert(ByArcs { oid: oid(row)? }, row)?;
+    for (index, oid) in oids.iter().enumerate() {
+        rows.insert(ByArcs(oid.as_oid_ref()), shuffled(index))?;
     }
     Ok(rows)
 }
 
 #[test]
 fn map_in_order(rt: HostRuntime) -> Result<(), Fail> {
-    let rows = map(rt.alloc())?;
+    let oids = oids(rt.alloc())?;
+    let rows = map(rt.alloc(), &oids)?;
     assert!(rt; rows.len() == ROWS.len());
     for (row, wanted) in rows.values().zip(ROWS) {
         assert!(rt; row == wanted, "{wanted}");

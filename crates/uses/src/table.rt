@@ -6,10 +6,22 @@ ghost use Rattle.const_oid.specs.OidRef.{ref_arcs};
 ghost use Rattle.uses.specs.AttributeTypes.{attribute_types, first_arcs};
 
 use const_oid::ObjectIdentifierRef;
-use const_oid::db::RefDatabase;
+use const_oid::db::{RefDatabase, SortedDatabase};
 
-/// The identifiers, whose octets the checker reads, and their names.
+/// The identifiers, whose octets the checker reads, and their names, in the order of arcs.
 pub const ATTRIBUTE_TYPES: [(ObjectIdentifierRef<'static>, &str); 12] = [
+    (
+        ObjectIdentifierRef {
+            ber: &[0x09, 0x92, 0x26, 0x89, 0x93, 0xF2, 0x2C, 0x64, 0x01, 0x01],
+        },
+        "uid",
+    ),
+    (
+        ObjectIdentifierRef {
+            ber: &[0x09, 0x92, 0x26, 0x89, 0x93, 0xF2, 0x2C, 0x64, 0x01, 0x19],
+        },
+        "dc",
+    ),
     (
         ObjectIdentifierRef {
             ber: &[0x55, 0x04, 0x03],
@@ -70,18 +82,6 @@ pub const ATTRIBUTE_TYPES: [(ObjectIdentifierRef<'static>, &str); 12] = [
         },
         "title",
     ),
-    (
-        ObjectIdentifierRef {
-            ber: &[0x09, 0x92, 0x26, 0x89, 0x93, 0xF2, 0x2C, 0x64, 0x01, 0x01],
-        },
-        "uid",
-    ),
-    (
-        ObjectIdentifierRef {
-            ber: &[0x09, 0x92, 0x26, 0x89, 0x93, 0xF2, 0x2C, 0x64, 0x01, 0x19],
-        },
-        "dc",
-    ),
 ];
 
 /// Whether an attribute type has this name, in any case.
@@ -98,5 +98,5 @@ pub fn is_named(oid: &ObjectIdentifierRef<'_>, name: &str) -> bool
 pub fn is_attribute_type(oid: &ObjectIdentifierRef<'_>) -> bool
     ensures { IsTrue result ↔ Any (λ row. row.0 ≡ ref_arcs oid.now) attribute_types }
 {
-    RefDatabase::new(&ATTRIBUTE_TYPES).by_oid(oid).is_some()
+    SortedDatabase::new(&ATTRIBUTE_TYPES).by_oid(oid).is_some()
 }

@@ -28,7 +28,10 @@ fn is_known(rsa: Oid) -> bool {
 /// Whether the enterprises are the child 1 of this text.
 fn is_above_enterprises(text: &str) -> Result<bool, Error> {
     let child = theorems::child(Oid::new(text)?, 1)?;
-    Ok(theorems::is_enterprise(&child))
+    Ok(
+        theorems::is_enterprise(&child)
+            && theorems::is_enterprise_number(&child.push_arc(8072)?.as_oid_ref()),
+    )
 }
 
 #[test]
@@ -40,7 +43,7 @@ fn facts(rt: HostRuntime) -> Result<(), Fail> {
     Ok(())
 }
 
-/// A call: what both orders answer is proved.
+/// A call: what both orders return is proved.
 #[test]
 fn orders(rt: HostRuntime) -> Result<(), Fail> {
     let oid = Oid::new("1.3.6.1")?;
@@ -50,7 +53,7 @@ fn orders(rt: HostRuntime) -> Result<(), Fail> {
     Ok(())
 }
 
-/// The text stands for the octets; the first line is two calls, whose answers are proved.
+/// The text denotes the octets; the first line is two calls, whose results are proved.
 #[test]
 fn constant(rt: HostRuntime) -> Result<(), Fail> {
     assert!(rt; is_its_text() && is_ec_public_key(&EC_PUBLIC_KEY));
@@ -150,7 +153,7 @@ const NAMED: &[(&[u8], Result<Option<&str>, Error>)] = &[
     (&[0x2A, 0x80, 0x01], Err(Error::Base128)),
 ];
 
-/// Whether octets have this answer.
+/// Whether octets have this result.
 fn is_answered(
     database: &Database<'_>,
     octets: &[u8],

@@ -1,13 +1,14 @@
 //! What callers want to know of identifiers, as contracts of small functions.
 
-ghost use Rattle.std.specs.Prelude.{◌≡◌, ◌≢◌, ◌<◌, ◌≤◌, ◌↔◌, [], ◌∷◌, length, IsTrue, IsSome};
+ghost use Rattle.std.specs.Prelude.{◌≡◌, ◌≢◌, ◌<◌, ◌≤◌, ◌↔◌, [], ◌∷◌, length, Some, IsTrue, IsSome};
 ghost use Rattle.std.specs.Prelude.{IfOk, IfSome, IsOk, IsOkAnd, IsSomeAnd};
 ghost use Rattle.std.specs.declared.cmp.Ordering.TheVariants.{Less};
 ghost use Rattle.const_oid.specs.Identifier.{size};
 ghost use Rattle.const_oid.specs.Oid.{oid_arcs};
-ghost use Rattle.const_oid.specs.Tree.{BeginsWith, child_of};
+ghost use Rattle.const_oid.specs.OidRef.{ref_arcs};
+ghost use Rattle.const_oid.specs.Tree.{BeginsWith, child_of, parent_of};
 
-use const_oid::{Arc, Error, ObjectIdentifier, Oid};
+use const_oid::{Arc, Error, ObjectIdentifier, ObjectIdentifierRef, Oid};
 use std::alloc::{AllocError, Global};
 use std::cmp::Ordering;
 
@@ -34,11 +35,21 @@ pub fn child(parent: Oid, arc: Arc) -> Result<Oid, Error>
     parent.push_arc(arc)
 }
 
-/// Whether an identifier stands below the enterprises, 1.3.6.1.4.1, or is that one.
+/// Whether an identifier is in the subtree of the enterprises, 1.3.6.1.4.1.
 pub fn is_enterprise(oid: &Oid) -> bool
     ensures { IsTrue result ↔ BeginsWith (oid_arcs oid.now) (1 ∷ 3 ∷ 6 ∷ 1 ∷ 4 ∷ 1 ∷ []) }
 {
     oid.starts_with(Oid::new_unwrap("1.3.6.1.4.1"))
+}
+
+/// Whether an identifier is a child of the enterprises, such as 1.3.6.1.4.1.8072.
+pub fn is_enterprise_number(oid: &ObjectIdentifierRef<'_>) -> bool
+    ensures { IsTrue result ↔ (parent_of (ref_arcs oid.now) ≡ Some (1 ∷ 3 ∷ 6 ∷ 1 ∷ 4 ∷ 1 ∷ [])) }
+{
+    match oid.parent() {
+        Some(parent) => parent.eq_oid(&Oid::new_unwrap("1.3.6.1.4.1")),
+        None => false,
+    }
 }
 
 /// The parent of a child is the identifier that it was made of.

@@ -40,6 +40,11 @@ impl<'a> Unstructured<'a> {
 
 pub trait Arbitrary<'a>: Sized {
     fn arbitrary(u: &mut Unstructured<'a>) -> Result<Self>;
+
+    /// The fewest octets that are drawn, and the most, if there is a limit.
+    fn size_hint(_depth: usize) -> (usize, Option<usize>) {
+        (0, None)
+    }
 }
 
 impl<'a> Arbitrary<'a> for bool {

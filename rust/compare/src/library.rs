@@ -51,10 +51,10 @@ unsafe extern "C" {
     fn const_oid_error_text(code: u32, detail: u32, out: *mut u8, out_len: usize) -> Status;
 }
 
-/// An answer, or the code and the detail of an error.
+/// A result, or the code and the detail of an error.
 pub type Answer<T> = Result<T, (u32, u32)>;
 
-/// The answer of a call that writes nothing.
+/// The result of a call that writes nothing.
 fn answer(status: Status) -> Answer<u32> {
     match status.code {
         0 => Ok(status.detail),

@@ -37,7 +37,7 @@ fn main() {
     println!("{count} texts, octets and lists each: as the library answers ({accepted} accepted)");
 }
 
-/// Checks that the crate and the library have the same answer.
+/// Checks that the crate and the library return the same.
 #[track_caller]
 fn same<T: PartialEq + Debug>(input: impl Debug, ours: T, theirs: T) {
     assert!(
@@ -46,7 +46,7 @@ fn same<T: PartialEq + Debug>(input: impl Debug, ours: T, theirs: T) {
     );
 }
 
-/// An answer in the form of the library.
+/// A result in the form of the library.
 fn coded<T>(answer: Result<T, Error>) -> Answer<T> {
     answer.map_err(|error| {
         let code = code(error);
@@ -78,7 +78,7 @@ fn bytes(oid: &ObjectIdentifierRef) -> Vec<u8> {
     oid.as_bytes().to_vec()
 }
 
-/// Checks that the answer at 39 octets is the one at 255, or `Length`.
+/// Checks that the result at 39 octets is the one at 255, or `Length`.
 fn small(input: impl Debug, small: Result<ObjectIdentifier, Error>, long: Result<Long, Error>) {
     match (small, long) {
         (Ok(small), Ok(long)) => same(input, small.as_bytes(), long.as_bytes()),

@@ -2,24 +2,92 @@
 //! for its length, or null with length 0, and an output overlaps no input.
 
 use crate::calls::status::Status;
-use crate::calls::subtree::{Octets, Range};
+use crate::calls::subtree::Range;
 use crate::calls::{arcs, errors, order, subtree, texts, tree, version};
+use core::marker::PhantomData;
+use core::mem::MaybeUninit;
 use core::slice;
 
+/// The contents octets of one identifier of a list. C alone makes one, and promises its pointer for `'a`.
+#[repr(C)]
+#[derive(Clone, Copy)]
+pub struct Octets<'a> {
+    octets: *const u8,
+    len: usize,
+    borrowed: PhantomData<&'a [u8]>,
+}
+
+impl<'a> Octets<'a> {
+    pub(crate) fn get(&self) -> &'a [u8] {
+        // SAFETY: nothing in Rust makes or changes these fields, so they are what C promised.
+        unsafe { input(self.octets, self.len) }
+    }
+}
+
+/// The items of an output, which the caller may not have written.
+pub(crate) type Output<T> = [MaybeUninit<T>];
+
 /// The items of an input.
-pub(crate) unsafe fn input<'a, T>(items: *const T, len: usize) -> &'a [T] {
+///
+/// # Safety
+///
+/// The pointer is valid for reads of so many items, which nothing writes, for `'a`, or the length is 0.
+/// This holds for the pointers of items, too.
+unsafe fn input<'a, T>(items: *const T, len: usize) -> &'a [T] {
     if len == 0 {
         return &[];
     }
+    // SAFETY: the length is not 0, so the caller promises the pointer.
     unsafe { slice::from_raw_parts(items, len) }
 }
 
 /// The items of an output.
-unsafe fn output<'a, T>(items: *mut T, len: usize) -> &'a mut [T] {
+///
+/// # Safety
+///
+/// The pointer is valid for writes of so many items, which nothing else reads or writes, for `'a`, or
+/// the length is 0.
+unsafe fn output<'a, T>(items: *mut T, len: usize) -> &'a mut Output<T> {
     if len == 0 {
         return &mut [];
     }
-    unsafe { slice::from_raw_parts_mut(items, len) }
+    // SAFETY: the length is not 0, so the caller promises the pointer. An item need not be written.
+    unsafe { slice::from_raw_parts_mut(items.cast(), len) }
+}
+
+/// Copies bytes to the start of an output, which is long enough.
+pub(crate) fn copy(bytes: &[u8], out: &mut Output<u8>) {
+    // SAFETY: a written byte is a byte that may be written, and the slice is as long.
+    let bytes = unsafe { slice::from_raw_parts(bytes.as_ptr().cast(), bytes.len()) };
+    out[..bytes.len()].copy_from_slice(bytes);
+}
+
+/// Writes a text of at most `most` bytes at the start of an output, and returns its length. `None` if
+/// it is longer than the output, which is then unchanged. It is made on the stack if it is short.
+pub(crate) fn encode(
+    most: usize,
+    encode: impl Fn(&mut [u8]) -> Option<usize>,
+    len: impl Fn() -> usize,
+    out: &mut Output<u8>,
+) -> Option<usize> {
+    let (mut short, mut long);
+    let text = if most <= 64 {
+        short = [0; 64];
+        &mut short[..out.len().min(64)]
+    } else if most <= 1020 {
+        long = [0; 1020];
+        &mut long[..out.len().min(1020)]
+    } else {
+        let out = out.get_mut(..len())?;
+        out.fill(MaybeUninit::new(0));
+        // SAFETY: all of these bytes were written.
+        unsafe { slice::from_raw_parts_mut(out.as_mut_ptr().cast(), out.len()) }
+    };
+    let len = encode(text)?;
+    if most <= 1020 {
+        copy(&text[..len], out);
+    }
+    Some(len)
 }
 
 #[unsafe(no_mangle)]
@@ -30,9 +98,14 @@ pub extern "C" fn const_oid_version() -> u32 {
 /// A call that reads octets.
 macro_rules! reads {
     ($module:ident, $name:ident $(, $number:ident: $type:ty)?) => {
+        /// # Safety
+        ///
+        /// The header says what a caller promises.
         #[unsafe(no_mangle)]
         pub unsafe extern "C" fn $name(octets: *const u8, len: usize $(, $number: $type)?) -> Status {
-            $module::$name(unsafe { input(octets, len) } $(, $number)?)
+            // SAFETY: the caller promises it.
+            let octets = unsafe { input(octets, len) };
+            $module::$name(octets $(, $number)?)
         }
     };
 }
@@ -40,6 +113,9 @@ macro_rules! reads {
 /// A call that reads two identifiers.
 macro_rules! reads_both {
     ($name:ident) => {
+        /// # Safety
+        ///
+        /// The header says what a caller promises.
         #[unsafe(no_mangle)]
         pub unsafe extern "C" fn $name(
             left: *const u8,
@@ -47,9 +123,9 @@ macro_rules! reads_both {
             right: *const u8,
             right_len: usize,
         ) -> Status {
-            order::$name(unsafe { input(left, left_len) }, unsafe {
-                input(right, right_len)
-            })
+            // SAFETY: the caller promises it.
+            let (left, right) = unsafe { (input(left, left_len), input(right, right_len)) };
+            order::$name(left, right)
         }
     };
 }
@@ -57,6 +133,9 @@ macro_rules! reads_both {
 /// A call that reads items of one type and writes items of another.
 macro_rules! writes {
     ($module:ident, $name:ident, $input:ty, $output:ty $(, $number:ident: $type:ty)?) => {
+        /// # Safety
+        ///
+        /// The header says what a caller promises.
         #[unsafe(no_mangle)]
         pub unsafe extern "C" fn $name(
             items: *const $input,
@@ -65,6 +144,7 @@ macro_rules! writes {
             out: *mut $output,
             out_len: usize,
         ) -> Status {
+            // SAFETY: the caller promises it.
             let (items, out) = unsafe { (input(items, len), output(out, out_len)) };
             $module::$name(items $(, $number)?, out)
         }
@@ -86,6 +166,9 @@ writes!(arcs, const_oid_arcs, u8, u32);
 writes!(tree, const_oid_parent, u8, u8);
 writes!(tree, const_oid_push_arc, u8, u8, arc: u32);
 
+/// # Safety
+///
+/// The header says what a caller promises.
 #[unsafe(no_mangle)]
 pub unsafe extern "C" fn const_oid_error_text(
     code: u32,
@@ -93,9 +176,14 @@ pub unsafe extern "C" fn const_oid_error_text(
     out: *mut u8,
     out_len: usize,
 ) -> Status {
-    errors::const_oid_error_text(code, detail, unsafe { output(out, out_len) })
+    // SAFETY: the caller promises it.
+    let out = unsafe { output(out, out_len) };
+    errors::const_oid_error_text(code, detail, out)
 }
 
+/// # Safety
+///
+/// The header says what a caller promises.
 #[unsafe(no_mangle)]
 pub unsafe extern "C" fn const_oid_subtree(
     octets: *const u8,
@@ -104,6 +192,13 @@ pub unsafe extern "C" fn const_oid_subtree(
     count: usize,
     range: *mut Range,
 ) -> Status {
+    // SAFETY: the caller promises it.
     let (octets, sorted) = unsafe { (input(octets, len), input(sorted, count)) };
-    subtree::const_oid_subtree(octets, sorted, unsafe { &mut *range })
+    let mut found = Range { start: 0, end: 0 };
+    let status = subtree::const_oid_subtree(octets, sorted, &mut found);
+    if status.code == 0 {
+        // SAFETY: the caller promises that the range can be written.
+        unsafe { range.write(found) };
+    }
+    status
 }

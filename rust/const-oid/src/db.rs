@@ -1,36 +1,8 @@
 //! Names of identifiers: a module of constants for each document that defines them, and the table of all.
 
-/// ```
-/// use const_oid::db::{DB, rfc4519};
-///
-/// assert_eq!(DB.by_oid(&rfc4519::CN), Some("cn"));
-/// ```
 pub use crate::erased::db::Database;
-/// ```
-/// use const_oid::db::{DB, Names, rfc4519};
-///
-/// let mut names: Names<'static> = DB.find_names_for_oid(rfc4519::CN);
-/// assert_eq!(names.next(), Some("cn"));
-/// ```
 pub use crate::erased::db::Names;
-/// ```
-/// use const_oid::{ObjectIdentifierRef, db::RefDatabase};
-///
-/// let country = ObjectIdentifierRef::from_bytes(&[0x55, 0x04, 0x06])?;
-/// assert_eq!(RefDatabase::new(&[(country, "c")]).by_oid(country), Some("c"));
-/// # Ok::<(), const_oid::Error>(())
-/// ```
-pub use crate::erased::db::RefDatabase;
-/// ```
-/// use const_oid::{ObjectIdentifierRef, db::{RefDatabase, RefNames}};
-///
-/// let country = ObjectIdentifierRef::from_bytes(&[0x55, 0x04, 0x06])?;
-/// let entries = [(country, "c")];
-/// let mut names: RefNames<'_, '_> = RefDatabase::new(&entries).find_names_for_oid(country);
-/// assert_eq!((names.next(), names.next()), (Some("c"), None));
-/// # Ok::<(), const_oid::Error>(())
-/// ```
-pub use crate::erased::db::RefNames;
+pub use crate::erased::db::SortedDatabase;
 
 /// The modules, and [`DB`] over all of their entries, in order.
 macro_rules! names {
@@ -59,6 +31,21 @@ macro_rules! names {
         /// ```
         pub const DB: Database<'static> =
             Database::new(&[$($((&$module::$constant, $name),)*)*]);
+    };
+}
+
+/// The table of all entries in the order of arcs.
+macro_rules! sorted {
+    ($($module:ident::$constant:ident, $name:literal;)*) => {
+        /// The entries of [`DB`] in the order of arcs, those of an identifier in the order of [`DB`].
+        ///
+        /// ```
+        /// use const_oid::db::{SORTED, rfc4519};
+        ///
+        /// assert_eq!(SORTED.by_oid(rfc4519::CN.as_oid_ref()), Some("cn"));
+        /// ```
+        pub const SORTED: SortedDatabase<'static> =
+            SortedDatabase::new(&[$(($module::$constant.as_oid_ref(), $name),)*]);
     };
 }
 

@@ -4,6 +4,15 @@ use crate::{Buffer, Error, ObjectIdentifier, ObjectIdentifierRef, Result};
 use core::borrow::Borrow;
 use core::ops::Deref;
 
+/// The text of a panic of [`ObjectIdentifier::new_unwrap`], which is that of the crate of this name.
+pub(crate) const fn panic_text(error: Error) -> &'static str {
+    match error {
+        Error::ArcInvalid { .. } | Error::ArcTooBig => "OID contains invalid arc",
+        Error::DigitExpected { .. } => "OID expected to start with digit",
+        other => other.words().0,
+    }
+}
+
 impl<const MAX_SIZE: usize> ObjectIdentifier<MAX_SIZE> {
     /// The borrowed form of the same octets.
     ///
@@ -27,29 +36,35 @@ impl<const MAX_SIZE: usize> Deref for ObjectIdentifier<MAX_SIZE> {
     }
 }
 
-impl<const MAX_SIZE: usize> Borrow<ObjectIdentifierRef> for ObjectIdentifier<MAX_SIZE> {
-    fn borrow(&self) -> &ObjectIdentifierRef {
-        self.as_oid_ref()
-    }
+/// The borrowed form by the traits that return it.
+macro_rules! borrowed {
+    ($($trait:ident::$name:ident)*) => {
+        $(
+            impl<const MAX_SIZE: usize> $trait<ObjectIdentifierRef> for ObjectIdentifier<MAX_SIZE> {
+                fn $name(&self) -> &ObjectIdentifierRef {
+                    self.as_oid_ref()
+                }
+            }
+        )*
+    };
 }
 
-impl<const MAX_SIZE: usize> AsRef<ObjectIdentifierRef> for ObjectIdentifier<MAX_SIZE> {
-    fn as_ref(&self) -> &ObjectIdentifierRef {
-        self.as_oid_ref()
-    }
+borrowed!(AsRef::as_ref Borrow::borrow);
+
+/// The octets of both, as a slice.
+macro_rules! octets {
+    ($($type:ident)*) => {
+        $(
+            impl<const MAX_SIZE: usize> AsRef<[u8]> for $type<MAX_SIZE> {
+                fn as_ref(&self) -> &[u8] {
+                    self.as_bytes()
+                }
+            }
+        )*
+    };
 }
 
-impl<const MAX_SIZE: usize> AsRef<[u8]> for ObjectIdentifier<MAX_SIZE> {
-    fn as_ref(&self) -> &[u8] {
-        self.as_bytes()
-    }
-}
-
-impl<const SIZE: usize> AsRef<[u8]> for Buffer<SIZE> {
-    fn as_ref(&self) -> &[u8] {
-        self.as_bytes()
-    }
-}
+octets!(Buffer ObjectIdentifier);
 
 impl TryFrom<&[u8]> for ObjectIdentifier {
     type Error = Error;
@@ -63,7 +78,7 @@ impl TryFrom<&[u8]> for ObjectIdentifier {
 impl<const MAX_SIZE: usize> TryFrom<&ObjectIdentifierRef> for ObjectIdentifier<MAX_SIZE> {
     type Error = Error;
 
-    /// Copies a borrowed identifier, or answers [`Error::Length`] where its octets do not fit.
+    /// Copies a borrowed identifier, or returns [`Error::Length`] if its octets do not fit.
     fn try_from(oid_ref: &ObjectIdentifierRef) -> Result<Self> {
         Self::try_from_ref(oid_ref.erased())
     }

@@ -63,39 +63,6 @@ impl ObjectIdentifierRef {
         &self.ber
     }
 
-    /// The arc at an index, counted from 0, or `None` past the last one.
-    ///
-    /// ```
-    /// let oid = const_oid::ObjectIdentifierRef::from_bytes(&[0x88, 0x37, 0x03])?;
-    /// assert_eq!((oid.arc(2), oid.arc(3)), (Some(3), None));
-    /// # Ok::<(), const_oid::Error>(())
-    /// ```
-    pub fn arc(&self, index: usize) -> Option<Arc> {
-        self.erased().arc(index)
-    }
-
-    /// All arcs, in order.
-    ///
-    /// ```
-    /// let oid = const_oid::ObjectIdentifierRef::from_bytes(&[0x88, 0x37, 0x03])?;
-    /// assert!(oid.arcs().eq([2, 999, 3]));
-    /// # Ok::<(), const_oid::Error>(())
-    /// ```
-    pub fn arcs(&self) -> Arcs<'_> {
-        self.erased().arcs()
-    }
-
-    /// How many arcs there are.
-    ///
-    /// ```
-    /// let oid = const_oid::ObjectIdentifierRef::from_bytes(&[0x88, 0x37, 0x03])?;
-    /// assert_eq!(oid.len(), 3);
-    /// # Ok::<(), const_oid::Error>(())
-    /// ```
-    pub fn len(&self) -> usize {
-        self.erased().len()
-    }
-
     /// The identifier of all arcs except the last, over a prefix of the same octets, or `None` if there
     /// are two arcs.
     ///
@@ -109,32 +76,66 @@ impl ObjectIdentifierRef {
             .parent()
             .map(|oid| Self::from_checked(oid.as_bytes()))
     }
+}
 
-    /// Whether the arcs begin with all those of another identifier, which may be all of these.
+/// Calls of the sized form, over the same octets.
+macro_rules! calls {
+    ($($(#[$doc:meta])* fn $name:ident $(<$life:lifetime>)? ($($argument:ident: $type:ty)?) -> $result:ty;)*) => {
+        impl ObjectIdentifierRef {
+            $(
+                $(#[$doc])*
+                pub fn $name $(<$life>)? (&self $(, $argument: $type)?) -> $result {
+                    self.erased().$name($($argument)?)
+                }
+            )*
+        }
+    };
+}
+
+/// The same, of two identifiers.
+macro_rules! calls_of_two {
+    ($($(#[$doc:meta])* fn $name:ident(other: &Self) -> $result:ty;)*) => {
+        impl ObjectIdentifierRef {
+            $(
+                $(#[$doc])*
+                pub fn $name(&self, other: &Self) -> $result {
+                    self.erased().$name(&other.erased())
+                }
+            )*
+        }
+    };
+}
+
+calls! {
+    /// The arc at an index, counted from 0, or `None` past the last one.
     ///
     /// ```
     /// let oid = const_oid::ObjectIdentifierRef::from_bytes(&[0x88, 0x37, 0x03])?;
-    /// assert!(oid.starts_with(oid.parent().unwrap()));
+    /// assert_eq!((oid.arc(2), oid.arc(3)), (Some(3), None));
     /// # Ok::<(), const_oid::Error>(())
     /// ```
-    pub fn starts_with(&self, other: &Self) -> bool {
-        self.erased().starts_with(&other.erased())
-    }
+    fn arc(index: usize) -> Option<Arc>;
 
-    /// The order of the arcs, a prefix before what begins with it, as SNMP orders names (RFC 3416).
+    /// All arcs, in order.
     ///
     /// ```
     /// let oid = const_oid::ObjectIdentifierRef::from_bytes(&[0x88, 0x37, 0x03])?;
-    /// let small = const_oid::ObjectIdentifierRef::from_bytes(&[0x88, 0x37, 0x81, 0x00])?;
-    /// assert!(oid.cmp_arcs(small).is_lt() && oid < small);
+    /// assert!(oid.arcs().eq([2, 999, 3]));
     /// # Ok::<(), const_oid::Error>(())
     /// ```
-    pub fn cmp_arcs(&self, other: &Self) -> Ordering {
-        self.erased().cmp_arcs(&other.erased())
-    }
+    fn arcs() -> Arcs<'_>;
+
+    /// How many arcs there are.
+    ///
+    /// ```
+    /// let oid = const_oid::ObjectIdentifierRef::from_bytes(&[0x88, 0x37, 0x03])?;
+    /// assert_eq!(oid.len(), 3);
+    /// # Ok::<(), const_oid::Error>(())
+    /// ```
+    fn len() -> usize;
 
     /// The range of the identifiers in a sorted list that begin with this one, which may be one of
-    /// them: its start and its end. Both are the index where this one would stand if there are none.
+    /// them: its start and its end. Both are the index where this one would be inserted if there are none.
     ///
     /// The list does not descend in the order of `cmp`. It may hold an identifier more than once.
     ///
@@ -147,9 +148,7 @@ impl ObjectIdentifierRef {
     /// let (start, end) = oids[0].subtree(&sorted);
     /// assert!(sorted[start..end].iter().all(|oid| oid.starts_with(&oids[0])) && end - start == 3);
     /// ```
-    pub fn subtree(&self, sorted: &[&Self]) -> (usize, usize) {
-        self.erased().subtree(sorted)
-    }
+    fn subtree(sorted: &[&Self]) -> (usize, usize);
 
     /// The length of the text that `{}` writes, or `usize::MAX` if it is greater.
     ///
@@ -158,9 +157,7 @@ impl ObjectIdentifierRef {
     /// assert_eq!(oid.text_len(), 7);
     /// # Ok::<(), const_oid::Error>(())
     /// ```
-    pub fn text_len(&self) -> usize {
-        self.erased().text_len()
-    }
+    fn text_len() -> usize;
 
     /// Writes the text that `{}` writes at the start of `out`, and returns its length. `None` if it
     /// is longer than `out`, which is then unchanged.
@@ -172,20 +169,37 @@ impl ObjectIdentifierRef {
     /// assert_eq!(&out, b"2.999.3\0");
     /// # Ok::<(), const_oid::Error>(())
     /// ```
-    pub fn encode_text(&self, out: &mut [u8]) -> Option<usize> {
-        self.erased().encode_text(out)
-    }
+    fn encode_text(out: &mut [u8]) -> Option<usize>;
 
-    /// Writes the text as [`encode_text`](Self::encode_text) does, and lends it.
+    /// Writes the text as [`encode_text`](Self::encode_text) does, and borrows it as a `str`.
     ///
     /// ```
     /// let oid = const_oid::ObjectIdentifierRef::from_bytes(&[0x88, 0x37, 0x03])?;
     /// assert_eq!(oid.encode_str(&mut [0; 8]), Some("2.999.3"));
     /// # Ok::<(), const_oid::Error>(())
     /// ```
-    pub fn encode_str<'o>(&self, out: &'o mut [u8]) -> Option<&'o str> {
-        self.erased().encode_str(out)
-    }
+    fn encode_str<'o>(out: &'o mut [u8]) -> Option<&'o str>;
+}
+
+calls_of_two! {
+    /// Whether the arcs begin with all those of another identifier, which may be all of these.
+    ///
+    /// ```
+    /// let oid = const_oid::ObjectIdentifierRef::from_bytes(&[0x88, 0x37, 0x03])?;
+    /// assert!(oid.starts_with(oid.parent().unwrap()));
+    /// # Ok::<(), const_oid::Error>(())
+    /// ```
+    fn starts_with(other: &Self) -> bool;
+
+    /// The order of the arcs, a prefix before what begins with it, as SNMP orders names (RFC 3416).
+    ///
+    /// ```
+    /// let oid = const_oid::ObjectIdentifierRef::from_bytes(&[0x88, 0x37, 0x03])?;
+    /// let small = const_oid::ObjectIdentifierRef::from_bytes(&[0x88, 0x37, 0x81, 0x00])?;
+    /// assert!(oid.cmp_arcs(small).is_lt() && oid < small);
+    /// # Ok::<(), const_oid::Error>(())
+    /// ```
+    fn cmp_arcs(other: &Self) -> Ordering;
 }
 
 impl AsRef<[u8]> for ObjectIdentifierRef {
@@ -208,17 +222,20 @@ impl<'a> TryFrom<&'a [u8]> for &'a ObjectIdentifierRef {
     }
 }
 
-impl fmt::Display for ObjectIdentifierRef {
-    fn fmt(&self, f: &mut fmt::Formatter<'_>) -> fmt::Result {
-        fmt::Display::fmt(&self.erased(), f)
-    }
+/// The text that the sized form prints.
+macro_rules! printed {
+    ($($format:ident)*) => {
+        $(
+            impl fmt::$format for ObjectIdentifierRef {
+                fn fmt(&self, f: &mut fmt::Formatter<'_>) -> fmt::Result {
+                    fmt::$format::fmt(&self.erased(), f)
+                }
+            }
+        )*
+    };
 }
 
-impl fmt::Debug for ObjectIdentifierRef {
-    fn fmt(&self, f: &mut fmt::Formatter<'_>) -> fmt::Result {
-        fmt::Debug::fmt(&self.erased(), f)
-    }
-}
+printed!(Debug Display);
 
 impl PartialEq for ObjectIdentifierRef {
     fn eq(&self, other: &Self) -> bool {

@@ -1,45 +1,41 @@
-//! Makes Rust from Rattle: `erase [--check] [ROOT]`.
+//! Generates Rust from Rattle: `erase [--check]`.
 //!
-//! ROOT is the repository. For each crate of the table, the program reads `lib.rt` and its modules, and
-//! writes them as Rust. It writes the constants of names from `rust/names.tsv`. With `--check` it writes
+//! For each crate of the table, the program reads `lib.rt` and its modules, and writes them as Rust, laid
+//! out by rustfmt. It writes the constants of names from `rust/names.tsv`. With `--check` it writes
 //! nothing, and ends with 1 if a file differs from what it would write.
 
+mod edit;
 mod erase;
-mod examples;
 mod fault;
-mod fit;
 mod names;
 mod table;
 mod token;
 
-use examples::Examples;
 use fault::{Fault, Result};
-use fit::Found;
-use std::path::{Path, PathBuf};
-use std::process::ExitCode;
-use std::{env, fs};
+use std::io::Write;
+use std::path::Path;
+use std::process::{Command, ExitCode, Stdio};
+use std::{env, fs, io};
 use table::Crate;
 
+const ROOT: &str = concat!(env!("CARGO_MANIFEST_DIR"), "/../../");
 const TABLE: &str = "rust/names.tsv";
 const NAMES: &str = "rust/const-oid/src/db/names.rs";
+const EXAMPLES: &str = "rust/const-oid/src/examples";
+
+/// A path from the top of the repository, and the text of its file.
+type File = (String, String);
+
+/// A fault in words.
+type Checked<T> = std::result::Result<T, String>;
 
 fn main() -> ExitCode {
-    let mut check = false;
-    let mut root = PathBuf::from(concat!(env!("CARGO_MANIFEST_DIR"), "/../.."));
-    for argument in env::args().skip(1) {
-        match argument.as_str() {
-            "--check" => check = true,
-            flag if flag.starts_with('-') => {
-                eprintln!("{flag}: erase [--check] [ROOT]");
-                return ExitCode::from(2);
-            }
-            path => root = PathBuf::from(path),
-        }
-    }
-    let faults = match made(&root) {
-        Ok(files) if check => differing(&root, &files),
-        Ok(files) => written(&root, &files),
-        Err(fault) => vec![fault],
+    let arguments: Vec<String> = env::args().skip(1).collect();
+    let faults = match (generated(), &arguments[..]) {
+        (Err(fault), _) => vec![fault],
+        (Ok(files), []) => written(&files),
+        (Ok(files), [flag]) if flag == "--check" => differing(&files),
+        _ => vec!["erase [--check]".into()],
     };
     for fault in &faults {
         eprintln!("{fault}");
@@ -47,135 +43,139 @@ fn main() -> ExitCode {
     ExitCode::from(u8::from(!faults.is_empty()))
 }
 
-/// A path below the root, and the text of its file.
-type File = (String, String);
-
 /// The files to write, or the first fault with its file and line.
-fn made(root: &Path) -> std::result::Result<Vec<File>, String> {
+fn generated() -> Checked<Vec<File>> {
     let mut files = Vec::new();
     for table in table::CRATES {
-        let mut found = Found::new();
-        let page = table
-            .examples
-            .map_or(Ok(String::new()), |page| read(root, page))?;
-        let page_at = |fault| at(table.examples.unwrap_or_default(), &fault);
-        let examples = Examples::read(&page).map_err(page_at)?;
-        modules(root, table, &examples, "lib", &mut found, &mut files)?;
-        fit::all_found(table, &found).map_err(|fault| at(table.from, &fault))?;
-        let unused = |name: &&str| !found.contains_key(&("example", name.to_string()));
-        if let Some(name) = examples.names().find(unused) {
-            return Err(format!(
-                "an example of `{name}`, which is no public function"
-            ));
-        }
+        files.extend(modules(table)?);
     }
-    let names = names::names(&read(root, TABLE)?).map_err(|fault| at(TABLE, &fault))?;
+    let unused = |path: &String| {
+        let (_, name) = path.rsplit_once('/').unwrap_or_default();
+        files
+            .iter()
+            .all(|(_, rust)| !rust.contains(&format!("/{name}\"")))
+    };
+    if let Some(path) = listed(EXAMPLES).into_iter().find(unused) {
+        return Err(format!("{path}: of no public item"));
+    }
+    let names = names::names(&read(TABLE)?).map_err(|fault| at(TABLE, &fault))?;
     files.push((NAMES.into(), headed(TABLE, &names)));
     Ok(files)
 }
 
-/// Makes a module and those that it declares. Its path has slashes.
-fn modules(
-    root: &Path,
-    table: &Crate,
-    examples: &Examples,
-    module: &str,
-    found: &mut Found,
-    files: &mut Vec<File>,
-) -> std::result::Result<(), String> {
-    let path = format!("{}/{module}.rt", table.from);
-    let source = read(root, &path)?;
-    let rust = rust(&source, table, examples, found).map_err(|fault| at(&path, &fault))?;
-    let (name, folder) = match module {
-        "lib" => ("mod", String::new()),
-        module => (module, format!("{module}/")),
-    };
-    files.push((format!("{}/{name}.rs", table.to), headed(&path, &rust)));
-    for line in rust.lines().filter(|line| line.ends_with(';')) {
-        let words = line.trim_end_matches(';').rsplit_once("mod ");
-        if let Some(("" | "pub " | "pub(crate) ", module)) = words {
-            modules(
-                root,
-                table,
-                examples,
-                &format!("{folder}{module}"),
-                found,
-                files,
-            )?;
-        }
+/// The files of the modules of a crate.
+fn modules(table: &Crate) -> Checked<Vec<File>> {
+    let mut files = Vec::new();
+    let mut counts = vec![0; table.edits.len()];
+    let mut left = vec![String::from("lib")];
+    while let Some(module) = left.pop() {
+        let path = format!("{}/{module}.rt", table.from);
+        let (rust, declared) = module_of(&read(&path)?, table, &module, &mut counts)
+            .map_err(|fault| at(&path, &fault))?;
+        let name = if module == "lib" { "mod" } else { &module };
+        files.push((
+            format!("{}/{name}.rs", table.to),
+            laid_out(&headed(&path, &rust))?,
+        ));
+        left.extend(declared);
     }
-    Ok(())
+    edit::all_made(table, &counts).map_err(|fault| at(table.from, &fault))?;
+    Ok(files)
 }
 
-/// The Rust of one source.
-fn rust(source: &str, table: &Crate, examples: &Examples, found: &mut Found) -> Result<String> {
-    let tokens = erase::erase(&token::tokens(source)?, table.root)?;
-    fit::fit(&tokens, table, examples, found)
+/// The Rust of a source, and the modules that it declares.
+fn module_of(
+    source: &str,
+    table: &Crate,
+    module: &str,
+    counts: &mut [usize],
+) -> Result<(String, Vec<String>)> {
+    let tokens = erase::erase(&token::tokens(source)?)?;
+    let tokens = edit::edited(tokens, table, module, counts)?;
+    Ok((
+        erase::with_examples(&tokens, table.with_examples),
+        erase::modules(&tokens),
+    ))
 }
 
 fn headed(from: &str, rust: &str) -> String {
-    format!("// Made from {from} by rust/erase: edited there.\n\n{rust}")
+    format!(
+        "// Generated by rust/erase. Do not edit: edit {from}, and run `cargo run -p erase` in rust/.\n\n{rust}"
+    )
+}
+
+/// The layout of rustfmt.
+fn laid_out(rust: &str) -> Checked<String> {
+    let run = || -> io::Result<Option<String>> {
+        let mut rustfmt = Command::new("rustfmt");
+        let mut rustfmt = rustfmt
+            .args(["--edition", "2024"])
+            .stdin(Stdio::piped())
+            .stdout(Stdio::piped())
+            .spawn()?;
+        if let Some(mut input) = rustfmt.stdin.take() {
+            input.write_all(rust.as_bytes())?;
+        }
+        let output = rustfmt.wait_with_output()?;
+        Ok(String::from_utf8(output.stdout)
+            .ok()
+            .filter(|_| output.status.success()))
+    };
+    run()
+        .map_err(|error| format!("rustfmt: {error}"))?
+        .ok_or_else(|| format!("rustfmt fails on:\n{rust}"))
 }
 
 fn at(path: &str, fault: &Fault) -> String {
     format!("{path}:{}: {}", fault.line, fault.words)
 }
 
-fn read(root: &Path, path: &str) -> std::result::Result<String, String> {
-    fs::read_to_string(root.join(path)).map_err(|error| format!("{path}: {error}"))
+fn read(path: &str) -> Checked<String> {
+    fs::read_to_string(format!("{ROOT}{path}")).map_err(|error| format!("{path}: {error}"))
+}
+
+/// The files of a folder.
+fn listed(folder: &str) -> Vec<String> {
+    let entries = fs::read_dir(format!("{ROOT}{folder}"))
+        .into_iter()
+        .flatten()
+        .flatten();
+    entries
+        .map(|entry| format!("{folder}/{}", entry.file_name().to_string_lossy()))
+        .collect()
 }
 
 /// The files that differ from the files to write, and other files in their folders.
-fn differing(root: &Path, files: &[File]) -> Vec<String> {
-    let read = |path: &str| fs::read_to_string(root.join(path)).ok();
+fn differing(files: &[File]) -> Vec<String> {
     let differ = files
         .iter()
-        .filter(|(path, rust)| read(path).as_ref() != Some(rust));
-    let differ = differ.map(|(path, _)| format!("{path}: not what erase makes"));
-    let others = others(root, files).into_iter();
+        .filter(|(path, rust)| read(path).as_ref() != Ok(rust));
+    let differ = differ.map(|(path, _)| format!("{path}: not what erase generates"));
+    let others = others(files).into_iter();
     differ
-        .chain(others.map(|path| format!("{path}: erase makes no such file")))
+        .chain(others.map(|path| format!("{path}: erase generates no such file")))
         .collect()
 }
 
 /// The other files in the folders to write.
-fn others(root: &Path, files: &[File]) -> Vec<String> {
+fn others(files: &[File]) -> Vec<String> {
     let mut out: Vec<String> = table::CRATES
         .iter()
-        .flat_map(|table| listed(root, table.to))
+        .flat_map(|table| listed(table.to))
         .collect();
     out.retain(|path| files.iter().all(|file| file.0 != *path));
     out
 }
 
-/// The files of a folder and of all folders in it.
-fn listed(root: &Path, folder: &str) -> Vec<String> {
-    let mut out = Vec::new();
-    for entry in fs::read_dir(root.join(folder))
-        .into_iter()
-        .flatten()
-        .flatten()
-    {
-        let path = format!("{folder}/{}", entry.file_name().to_string_lossy());
-        if entry.path().is_dir() {
-            out.extend(listed(root, &path));
-        } else {
-            out.push(path);
-        }
-    }
-    out
-}
-
 /// Writes the files, and removes others beside them. Returns the failures.
-fn written(root: &Path, files: &[File]) -> Vec<String> {
-    let write = |(path, rust): &File| {
-        let path = root.join(path);
-        path.parent().map_or(Ok(()), fs::create_dir_all)?;
-        fs::write(path, rust)
-    };
-    let written = files.iter().map(|file| (file.0.clone(), write(file)));
-    let others = others(root, files).into_iter();
-    let removed = others.map(|path| (path.clone(), fs::remove_file(root.join(path))));
+fn written(files: &[File]) -> Vec<String> {
+    let root = Path::new(ROOT);
+    let written = files
+        .iter()
+        .map(|(path, rust)| (path.clone(), fs::write(root.join(path), rust)));
+    let removed = others(files)
+        .into_iter()
+        .map(|path| (path.clone(), fs::remove_file(root.join(path))));
     let faults = written
         .chain(removed)
         .filter_map(|(path, result)| Some((path, result.err()?)));

@@ -5,33 +5,20 @@
 
 use crate::fault::{Fault, Result};
 
-#[derive(Clone, Copy, Debug, Eq, PartialEq)]
-pub enum Kind {
-    /// An identifier, a keyword or a number.
-    Word,
-    /// One character of punctuation.
-    Mark,
-    /// A string, a character or a lifetime.
-    Literal,
-    /// A line comment, without its line end.
-    Comment,
-    Space,
-}
-
 #[derive(Clone, Copy, Debug)]
 pub struct Token<'a> {
-    pub kind: Kind,
     pub text: &'a str,
     pub line: usize,
 }
 
 impl Token<'_> {
-    pub fn is(&self, text: &str) -> bool {
-        matches!(self.kind, Kind::Word | Kind::Mark) && self.text == text
+    pub fn is_space(&self) -> bool {
+        self.text.trim().is_empty()
     }
 
+    /// Whether it is space or a comment.
     pub fn is_blank(&self) -> bool {
-        matches!(self.kind, Kind::Space | Kind::Comment)
+        self.is_space() || self.text.starts_with("//")
     }
 }
 
@@ -40,49 +27,39 @@ pub fn tokens(source: &str) -> Result<Vec<Token<'_>>> {
     let mut out = Vec::new();
     let (mut rest, mut line) = (source, 1);
     while !rest.is_empty() {
-        let (kind, len) = next(rest).map_err(|words| Fault::new(line, words))?;
-        let text = &rest[..len];
-        out.push(Token { kind, text, line });
+        let (text, after) = rest.split_at(next_len(rest).map_err(|words| Fault::new(line, words))?);
+        out.push(Token { text, line });
         line += text.matches('\n').count();
-        rest = &rest[len..];
+        rest = after;
     }
     nest(&out)?;
     Ok(out)
 }
 
-/// The kind and the length of the first token of a source, or why there is none.
-fn next(source: &str) -> std::result::Result<(Kind, usize), &'static str> {
+/// The length of the first token of a source, or why there is none.
+fn next_len(source: &str) -> std::result::Result<usize, &'static str> {
     let run = |of: fn(char) -> bool| source.find(|c| !of(c)).unwrap_or(source.len());
-    let first = source.chars().next().unwrap_or(' ');
     if source.starts_with("//") {
-        return Ok((Kind::Comment, source.find('\n').unwrap_or(source.len())));
+        return Ok(source.find('\n').unwrap_or(source.len()));
     }
-    if ["/*", "r\"", "r#", "br\"", "br#", "c\""]
-        .iter()
-        .any(|start| source.starts_with(start))
-    {
+    let unknown = ["/*", "r\"", "r#", "br\"", "br#", "c\""];
+    if unknown.iter().any(|start| source.starts_with(start)) {
         return Err("a block comment, or a string that is neither plain nor of bytes");
     }
-    if first.is_whitespace() {
-        return Ok((Kind::Space, run(char::is_whitespace)));
-    }
-    let prefix = usize::from(first == 'b');
+    let prefix = usize::from(source.starts_with('b'));
     match source[prefix..].chars().next() {
-        Some('"') => {
-            let len = quoted(source, prefix + 1, '"').ok_or("a string without its end")?;
-            return Ok((Kind::Literal, len));
-        }
-        Some('\'') => return Ok(tick(source, prefix)),
-        _ => {}
+        Some('"') => quoted_len(source, prefix + 1, '"').ok_or("a string without its end"),
+        Some('\'') => Ok(tick_len(source, prefix)),
+        _ => match source.chars().next() {
+            Some(first) if first.is_whitespace() => Ok(run(char::is_whitespace)),
+            Some(first) if is_word(first) => Ok(run(is_word)),
+            first => Ok(first.map_or(0, char::len_utf8)),
+        },
     }
-    if is_word(first) {
-        return Ok((Kind::Word, run(is_word)));
-    }
-    Ok((Kind::Mark, first.len_utf8()))
 }
 
 /// The index after the closing quote of a text that begins at `from`.
-fn quoted(source: &str, from: usize, quote: char) -> Option<usize> {
+fn quoted_len(source: &str, from: usize, quote: char) -> Option<usize> {
     let mut escaped = false;
     for (index, c) in source[from..].char_indices() {
         match c {
@@ -95,28 +72,25 @@ fn quoted(source: &str, from: usize, quote: char) -> Option<usize> {
     None
 }
 
-/// A character or a lifetime. In a ghost term, only the mark.
-fn tick(source: &str, prefix: usize) -> (Kind, usize) {
+/// The length of a character or a lifetime. In a ghost term, of the mark alone.
+fn tick_len(source: &str, prefix: usize) -> usize {
     let inner = &source[prefix + 1..];
     let mut chars = inner.chars();
     let (one, two) = (chars.next(), chars.next());
     if one == Some('\\') || (one.is_some() && two == Some('\'')) {
-        let end = quoted(source, prefix + 1, '\'').unwrap_or(prefix + 1);
-        return (Kind::Literal, end);
+        return quoted_len(source, prefix + 1, '\'').unwrap_or(prefix + 1);
     }
-    let word = inner.find(|c| !is_word(c)).unwrap_or(inner.len());
-    let kind = if word > 0 { Kind::Literal } else { Kind::Mark };
-    (kind, prefix + 1 + word)
+    prefix + 1 + inner.find(|c| !is_word(c)).unwrap_or(inner.len())
 }
 
 fn is_word(c: char) -> bool {
     c.is_alphanumeric() || c == '_'
 }
 
-/// Refuses brackets that do not nest.
+/// Rejects brackets that do not nest.
 fn nest(tokens: &[Token<'_>]) -> Result<()> {
     let mut open: Vec<&Token<'_>> = Vec::new();
-    for token in tokens.iter().filter(|token| token.kind == Kind::Mark) {
+    for token in tokens {
         let opens = match token.text {
             "(" | "[" | "{" => {
                 open.push(token);
@@ -128,19 +102,13 @@ fn nest(tokens: &[Token<'_>]) -> Result<()> {
             _ => continue,
         };
         if open.pop().is_none_or(|last| last.text != opens) {
-            return Err(Fault::new(
-                token.line,
-                format!("`{}` closes nothing", token.text),
-            ));
+            let words = format!("`{}` closes nothing", token.text);
+            return Err(Fault::new(token.line, words));
         }
     }
-    match open.pop() {
-        Some(last) => Err(Fault::new(
-            last.line,
-            format!("`{}` is not closed", last.text),
-        )),
-        None => Ok(()),
-    }
+    let unclosed =
+        |last: &Token<'_>| Fault::new(last.line, format!("`{}` is not closed", last.text));
+    open.pop().map_or(Ok(()), |last| Err(unclosed(last)))
 }
 
 /// The index of the bracket that closes the one at `open`.
@@ -148,8 +116,8 @@ pub fn close(tokens: &[Token<'_>], open: usize) -> usize {
     let mut depth = 0;
     for (at, token) in tokens.iter().enumerate().skip(open) {
         match token.text {
-            "(" | "[" | "{" if token.kind == Kind::Mark => depth += 1,
-            ")" | "]" | "}" if token.kind == Kind::Mark => depth -= 1,
+            "(" | "[" | "{" => depth += 1,
+            ")" | "]" | "}" => depth -= 1,
             _ => {}
         }
         if depth == 0 {
@@ -167,10 +135,11 @@ pub fn solid(tokens: &[Token<'_>], from: usize) -> usize {
 
 /// Whether the token at an index is this one.
 pub fn is(tokens: &[Token<'_>], at: usize, text: &str) -> bool {
-    tokens.get(at).is_some_and(|token| token.is(text))
+    tokens.get(at).is_some_and(|token| token.text == text)
 }
 
 /// The source of tokens.
+#[cfg(test)]
 pub fn text(tokens: &[Token<'_>]) -> String {
     tokens.iter().map(|token| token.text).collect()
 }
@@ -189,8 +158,8 @@ mod tests {
     #[test]
     fn quotes() {
         assert_eq!(
-            solid_texts(r#"b'.' '\'' 'a "}\"" b"x""#),
-            ["b'.'", r"'\''", "'a", r#""}\"""#, "b\"x\""]
+            solid_texts(r#"b'.' '\'' 'a "}\"" b"x" bee"#),
+            ["b'.'", r"'\''", "'a", r#""}\"""#, "b\"x\"", "bee"]
         );
         assert_eq!(
             solid_texts("λ a. a' ≡ 1 // {\n"),

@@ -25,7 +25,7 @@ abbrev pub first_length : List (List ℕ) → ℕ
 first_length [] = 0
 first_length (part ∷ parts) = length part
 
--- the first fault of parts, of which the first one has a limit of its own
+-- the first fault of parts; the first part has a limit of its own
 abbrev pub fault_from : ℕ → List (List ℕ) → Option Error
 fault_from limit [] = None
 fault_from limit (part ∷ parts) = option_or (part_fault limit part) (later_fault parts)

@@ -1,4 +1,4 @@
-//! The answers of `run` in memory, and its errors if a reader or a writer fails.
+//! The output of `run` in memory, and its errors if a reader or a writer fails.
 ghost use Rattle.std.specs.Prelude.{◌≡◌, ◌≤◌, ◌++◌, length, OnOk};
 ghost use Rattle.oid_tool.specs.Answers.{answers};
 ghost use Rattle.oid_tool.specs.Names.{known_names};
@@ -19,7 +19,7 @@ fn run_over_memory(input: &[u8], output: &mut Vec<u8>) -> Result<(), ToolError>
     run(&mut rest, output)
 }
 
-/// Inputs and their answers.
+/// Inputs and their outputs.
 const ROWS: [(&str, &str); 68] = [
     ("", ""),
     ("\n", "error: unknown command\n"),
@@ -129,7 +129,7 @@ const ROWS: [(&str, &str); 68] = [
     ("name cn\n", "error: expected digit, got 'c'\n"),
 ];
 
-/// Whether this output answers an input.
+/// Whether an input has this output.
 fn answers_by(alloc: Global, input: &[u8], wanted: &[u8]) -> bool {
     let mut output = Vec::new(alloc);
     let result = run_over_memory(input, &mut output);
@@ -146,7 +146,7 @@ fn rows(rt: HostRuntime) {
     }
 }
 
-/// A text that is not UTF-8 is refused before it is read.
+/// A text that is not UTF-8 is rejected before it is parsed.
 #[test]
 fn no_text(rt: HostRuntime) {
     for input in [
@@ -169,7 +169,7 @@ fn is_too_long(alloc: Global, input: &[u8]) -> bool {
     result == Err(ToolError::TooLong) && output.is_empty()
 }
 
-/// Commands whose text is padded with zeros and ends in `3`, and their answers.
+/// Commands whose text is padded with zeros and ends in `3`, and their results.
 const PADDED: [(&str, &str); 5] = [
     ("hex 1.2.", "2a03\n"),
     ("hex 2.999.", "883703\n"),
@@ -184,7 +184,7 @@ fn padded(alloc: Global, prefix: &str, len: usize) -> Result<String, Fail> {
     Ok(format!(in alloc; "{prefix}{zeros}3\n")?)
 }
 
-/// Whether a prefix that is padded to the longest input has this answer. One more byte is too long.
+/// Whether a prefix that is padded to the longest input has this result. One more byte is too long.
 fn answers_padded(alloc: Global, prefix: &str, wanted: &str) -> Result<bool, Fail> {
     let most = padded(alloc, prefix, 4096)?;
     let more = padded(alloc, prefix, 4097)?;
@@ -203,7 +203,7 @@ fn longest_text(rt: HostRuntime) -> Result<(), Fail> {
     Ok(())
 }
 
-/// A text that has no name is its own answer, however long it is.
+/// The result of a text without a name is that text, however long it is.
 #[test]
 fn longest_unknown_name(rt: HostRuntime) -> Result<(), Fail> {
     let text = padded(rt.alloc(), "1.2.", 4091)?;
@@ -294,13 +294,13 @@ fn endless_input(rt: HostRuntime) {
     assert!(rt; output.writes == 0);
 }
 
-/// Three lines and their answers, which take nine writes of at most three bytes.
+/// Three lines and their results, which take nine writes of at most three bytes.
 const THREE: (&[u8], &[u8]) = (
     b"text 2A03\ntext 2G\ntext 8837",
     b"1.2.3\nerror: not hex\n2.999\n",
 );
 
-/// Whether a write fails and is the last one, after a prefix of the answers but not all of them.
+/// Whether a write fails and is the last one, after a prefix of the output but not all of it.
 fn write_fails(failure: Failure) -> bool {
     let mut rest = THREE.0;
     let mut output = SlowWriter::new(3, failure);

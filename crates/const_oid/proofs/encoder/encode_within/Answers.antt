@@ -16,7 +16,7 @@ returns-clause-takes g c =
     (it.result, it.ensures.into_iter_gives, taken c.finish.ensures.fault c.finish.ensures.encoding)
 
 pub returns-clause-encoding : goal.returns-clause-encoding
-returns-clause-encoding g c = IfOk-weaker c.finish.result _ _ (λ octets e. encoding_back root_rule _ (octets_of octets) e) c.finish.ensures.encoding
+returns-clause-encoding g c = IfOk-weaker c.finish.result _ _ (λ octets e. encoding_back e) c.finish.ensures.encoding
 
 pub returns-in_err-arc-clause-takes : goal.returns-in_err-arc-clause-takes
 returns-in_err-arc-clause-takes g c =

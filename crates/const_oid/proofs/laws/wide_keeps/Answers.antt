@@ -30,13 +30,13 @@ returns-clause-items_accepted c items arcs capacity =
     answer_kept (item_fault Narrow items capacity) (item_fault Wide items capacity) items arcs (items_kept items capacity)
 
 pub returns-clause-encodings : goal.returns-clause-encodings
-returns-clause-encodings c = encoding_wide
+returns-clause-encodings c arcs octets = encoding_wide
 
 pub returns-clause-denoted : goal.returns-clause-denoted
 returns-clause-denoted c = denotes_wide
 
 pub returns-clause-short_order : goal.returns-clause-short_order
-returns-clause-short_order c a b v w x y e f g h = rw (encoding_same a v x e g, encoding_same b w y f h) refl
+returns-clause-short_order c a b v w x y e f g h = rw (encoding_same e g, encoding_same f h) refl
 
 pub returns-clause-list_order : goal.returns-clause-list_order
-returns-clause-list_order c a b v w x y e f g h = rw (encoding_same a v x e g, encoding_same b w y f h) refl
+returns-clause-list_order c a b v w x y e f g h = rw (encoding_same e g, encoding_same f h) refl

@@ -13,7 +13,7 @@ pub loop-index-init : goal.loop-index-init
 loop-index-init g c = record { pass = rw c.new-encoder.ensures (text_answer_is root_rule (min g.row.SIZE 255) c.as_bytes-bytes.result.now); small = omega arith; begins = omega arith }
 
 pub returns-clause-encoding : goal.returns-clause-encoding
-returns-clause-encoding g c = IfOk-weaker c.finish.result _ _ (λ octets e. encoding_back root_rule _ (octets_of octets) e) c.finish.ensures.encoding
+returns-clause-encoding g c = IfOk-weaker c.finish.result _ _ (λ octets e. encoding_back e) c.finish.ensures.encoding
 
 -- no number of the last piece is asked for where it has no digit
 last_piece : (rule : RootRule) (capacity : ℕ) (before : List ℕ) (begun : Bool) (value : ℕ) (piece : Option ℕ) → piece ≡ then_some begun value → text_pass rule capacity before (is_some piece) (unwrap_or piece 0) [] ≡ text_pass rule capacity before begun value []

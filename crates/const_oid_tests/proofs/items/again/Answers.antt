@@ -14,7 +14,7 @@ no_fault : (oid : ObjectIdentifier 39) → item_fault root_rule (oid_arcs oid) 3
 no_fault oid =
     let e = oid_encoding oid in
     let within : oid.ber.used ≤ 39 = oid.ber.within in
-    item_fault-none root_rule 39 (oid_arcs oid) e.identifier (omega (arith, length_is_size root_rule (oid_arcs oid) (oid_octets oid) e, length-take oid.ber.used oid.ber.bytes))
+    item_fault-none root_rule 39 (oid_arcs oid) e.identifier (omega (arith, length_is_size e, length-take oid.ber.used oid.ber.bytes))
 
 pub returns : goal.returns
 returns c =

@@ -10,4 +10,4 @@ pub returns-in-Ok-new : goal.returns-in-Ok-new
 unfolding hex_line
 returns-in-Ok-new c =
     let text = denoted_line_read _ _ _ _ c.in-Ok.ensures.cases.0 c.in-Ok.ensures.cases.1 c.in-Ok-new.ensures.answer in
-    stands_as _ _ _ _ c.encode.ensures (ap encode_lower (sym (encoding_of-encoded root_rule _ _ c.as_bytes.ensures.encoding)) ∙ text)
+    stands_as _ _ _ _ c.encode.ensures (ap encode_lower (sym (encoding_of-encoded c.as_bytes.ensures.encoding)) ∙ text)

@@ -12,7 +12,7 @@ reversed Less level = refl
 reversed Equal level = refl
 reversed Greater level = cc
 
--- octets that do not stand after others are not after them
+-- octets that do not come after others are not after them
 level_with : (a b : List ℕ) → is_lt (slice_cmp nat_cmp b a) ≡ false → is_le (slice_cmp nat_cmp a b) ≡ true
 level_with a b level = reversed (slice_cmp nat_cmp a b) (rw (nat_list_cmp_total.antisymm b a) at level)
 

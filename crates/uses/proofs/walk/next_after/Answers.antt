@@ -7,9 +7,9 @@ use Rattle.std.specs.declared.cmp.Ordering.{Ordering}
 use Rattle.std.proofs.lemmas.Bool.{cases_lt}
 use Rattle.std.proofs.lemmas.Cmp.{nat_list_cmp_total}
 use Rattle.std.proofs.lemmas.List.Sorted.{IsPartitionPoint-from_clause, IsPartitionedBy-leb, searchable_from_sorted, sorted_far, ranks_by}
-use Rattle.const_oid.specs.OidRef.{ref_arcs}
-use Rattle.uses.specs.declared.walk.ByArcs.{ByArcs}
-use Rattle.uses.specs.Walk.{key_arcs, IsNext}
+use Rattle.const_oid.specs.OidRef.{key_arcs, ref_arcs}
+use Rattle.const_oid.specs.declared.by_arcs.ByArcs.{ByArcs}
+use Rattle.uses.specs.Walk.{IsNext}
 use Rattle.uses.proofs.walk.next_after.Goals as goal
 
 -- ---- an order, by its number and reversed

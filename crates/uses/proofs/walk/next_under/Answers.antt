@@ -4,15 +4,15 @@ use Rattle.std.specs.Cmp.Lexicographic.{slice_cmp}
 use Rattle.std.specs.List.{All}
 use Rattle.std.specs.Ordering.{nat_cmp, ordering_reverse}
 use Rattle.std.proofs.lemmas.Cmp.{nat_list_cmp_total}
-use Rattle.const_oid.specs.OidRef.{ref_arcs}
+use Rattle.const_oid.specs.OidRef.{key_arcs, ref_arcs}
 use Rattle.const_oid.specs.Tree.{BeginsWith}
 use Rattle.const_oid.proofs.ByParts.{run_between}
 use Rattle.uses.proofs.IsNext.{same_next}
-use Rattle.uses.specs.declared.walk.ByArcs.{ByArcs}
-use Rattle.uses.specs.Walk.{key_arcs, IsNext}
+use Rattle.const_oid.specs.declared.by_arcs.ByArcs.{ByArcs}
+use Rattle.uses.specs.Walk.{IsNext}
 use Rattle.uses.proofs.walk.next_under.Goals as goal
 
--- where the next key is not under the root, no key after these arcs is, since what is under it stands together
+-- where the next key is not under the root, no key after these arcs is, since what is under it is adjacent
 module _ (keys : List ByArcs) (arcs root : List ℕ) (begun : BeginsWith arcs root) where
   -- no key under the root is after the arcs
   none_under : (next : ByArcs) → IsNext keys arcs next → (BeginsWith (key_arcs next) root → ⊥) → All (λ key. BeginsWith (key_arcs key) root → slice_cmp nat_cmp arcs (key_arcs key) ≢ Less) keys
@@ -34,10 +34,10 @@ not_under keys arcs root next false is decided = λ other same begun.
 
 pub returns-clause-none : goal.returns-clause-none
 returns-clause-none c =
-    let decided = rw c.as_oid_ref.ensures.arcs at c.starts_with.ensures.1 in
+    let decided = c.starts_with.ensures.1 in
     rw c.then_some.ensures (not_under c.args.sorted.now (ref_arcs c.args.oid.now) (ref_arcs c.args.root.now) c.in_ok-next.next c.starts_with.result c.in_ok-next.ensures.found decided)
 
 pub returns-clause-end : goal.returns-clause-end
 returns-clause-end c =
-    let decided = rw c.as_oid_ref.ensures.arcs at c.starts_with.ensures.1 in
+    let decided = c.starts_with.ensures.1 in
     rw c.then_some.ensures (ended c.args.sorted.now (ref_arcs c.args.oid.now) (ref_arcs c.args.root.now) c.in_ok-next.next c.starts_with.result c.in_ok-next.ensures.found decided)

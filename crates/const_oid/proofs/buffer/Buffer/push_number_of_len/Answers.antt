@@ -9,17 +9,17 @@ overflow_add-end g c = omega (arith, c.args.self.now.within, (width_is c.args.nu
 pub invariant_of-self-clause-octets : goal.invariant_of-self-clause-octets
 invariant_of-self-clause-octets g c =
     let (group, is, written) = c.write_group_at.ensures in
-    let l = length_is c.args.number group is in
+    let l = length_is is in
     octets_written c.args.self.now.used c.args.count c.args.self.now.bytes group _ (omega arith) (omega arith) c.args.self.now.octets (octets_from_chain group is.continued) written
 
 pub invariant_of-self-clause-zeros : goal.invariant_of-self-clause-zeros
 invariant_of-self-clause-zeros g c =
     let (group, is, written) = c.write_group_at.ensures in
-    let l = length_is c.args.number group is in
+    let l = length_is is in
     zeros_written g.row.SIZE c.args.self.now.used c.args.count c.args.self.now.bytes group _ (omega arith) (omega arith) c.args.self.now.zeros written
 
 pub returns-clause-appended : goal.returns-clause-appended
 returns-clause-appended g c =
     let (group, is, written) = c.write_group_at.ensures in
-    let l = length_is c.args.number group is in
+    let l = length_is is in
     (group, is, taken_written c.args.self.now.used c.args.count c.args.self.now.bytes group _ (omega arith) (omega arith) written)

@@ -1,10 +1,8 @@
 use Rattle.const_oid.specs.Buffer.{octets_of}
-use Rattle.const_oid.specs.Contents.{arcs_of_octets}
-use Rattle.const_oid.specs.Identifier.{root_rule}
 use Rattle.const_oid.proofs.Encodings.{none_from_encoding}
 use Rattle.const_oid.proofs.oid.ObjectIdentifier.from_arcs_sized.Goals as goal
 
 pub invariant_of-result : goal.invariant_of-result
 invariant_of-result g c =
     let octets = octets_of c.in_ok-ber.ber in
-    record { valid = none_from_encoding root_rule (arcs_of_octets octets) octets c.in_ok-ber.ensures.encoding }
+    record { valid = none_from_encoding c.in_ok-ber.ensures.encoding }

@@ -15,7 +15,7 @@ returns-in-Err-clause-fits g c =
 pub invariant_of-result : goal.invariant_of-result
 invariant_of-result g c =
     let oid = c.args.self in
-    record { valid = child_none root_rule (oid_arcs oid) (oid_octets oid) _ c.args.arc (oid_encoding oid) (omega arith) c.in-Ok.ensures.appended }
+    record { valid = child_none _ c.args.arc (oid_encoding oid) (omega arith) c.in-Ok.ensures.appended }
 
 pub returns-in-Ok-clause-fits : goal.returns-in-Ok-clause-fits
 returns-in-Ok-clause-fits g c =
@@ -25,4 +25,4 @@ returns-in-Ok-clause-fits g c =
 pub returns-in-Ok-clause-child : goal.returns-in-Ok-clause-child
 returns-in-Ok-clause-child g c =
     let oid = c.args.self in
-    child_arcs root_rule (oid_arcs oid) (oid_octets oid) _ c.args.arc (oid_encoding oid) (omega arith) c.in-Ok.ensures.appended
+    child_arcs _ c.args.arc (oid_encoding oid) (omega arith) c.in-Ok.ensures.appended

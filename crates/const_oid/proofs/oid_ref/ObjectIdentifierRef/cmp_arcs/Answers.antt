@@ -1,9 +1,8 @@
 use Rattle.std.proofs.Common.{◌∙◌}
-use Rattle.const_oid.specs.Identifier.{root_rule}
 use Rattle.const_oid.proofs.ByParts.{arcs_cmp}
 use Rattle.const_oid.proofs.Encodings.{ref_encoding}
 use Rattle.const_oid.proofs.oid_ref.ObjectIdentifierRef.cmp_arcs.Goals as goal
 
 pub returns : goal.returns
 returns c =
-    c.order_by_parts.ensures ∙ arcs_cmp root_rule _ _ _ _ (ref_encoding c.args.self.now) (ref_encoding c.args.other.now)
+    c.order_by_parts.ensures ∙ arcs_cmp (ref_encoding c.args.self.now) (ref_encoding c.args.other.now)

@@ -1,9 +1,8 @@
 use Rattle.std.specs.Prelude.{IsTrue}
-use Rattle.const_oid.specs.Identifier.{root_rule}
 use Rattle.const_oid.proofs.BeginsWith.{iff_begins}
 use Rattle.const_oid.proofs.Encodings.{ref_encoding}
 use Rattle.const_oid.proofs.oid_ref.ObjectIdentifierRef.starts_with.Goals as goal
 
 pub returns : goal.returns
 returns c =
-    iff_begins root_rule _ _ _ _ (IsTrue c.begins_with.result) (ref_encoding c.args.self.now) (ref_encoding c.args.other.now) c.begins_with.ensures
+    iff_begins (IsTrue c.begins_with.result) (ref_encoding c.args.self.now) (ref_encoding c.args.other.now) c.begins_with.ensures

@@ -1,7 +1,6 @@
 use Rattle.std.proofs.Common.{◌≡◌, rules}
 use Rattle.std.specs.Prelude.{◌↔◌, IsTrue}
-use Rattle.const_oid.specs.Identifier.{root_rule}
-use Rattle.const_oid.specs.OidRef.{ref_octets, ref_arcs}
+use Rattle.const_oid.specs.OidRef.{ref_octets}
 use Rattle.const_oid.proofs.Encodings.{ref_encoding, iff_arcs}
 use Rattle.const_oid.proofs.oid_ref.ObjectIdentifierRefPartialEq.eq.Goals as goal
 
@@ -10,4 +9,4 @@ returns-clause-arcs c =
     let a = c.args.self.now in
     let b = c.args.other.now in
     let iff : IsTrue c.are_equal.result ↔ (ref_octets a ≡ ref_octets b) = search rules in
-    iff_arcs root_rule (ref_arcs a) (ref_arcs b) (ref_octets a) (ref_octets b) (IsTrue c.are_equal.result) (ref_encoding a) (ref_encoding b) iff
+    iff_arcs (IsTrue c.are_equal.result) (ref_encoding a) (ref_encoding b) iff

@@ -1,0 +1,10 @@
+use Rattle.std.proofs.Common.{◌∙◌, sym, rules}
+use Rattle.const_oid.specs.OidRef.{ref_arcs}
+use Rattle.const_oid.proofs.SortedNames.{item_is, find_after}
+use Rattle.const_oid.proofs.db_sorted.SortedDatabase.next_after.Goals as goal
+
+pub returns : goal.returns
+returns c =
+    let entries = c.args.self.now.entries.now in
+    let index = c.end_of.result in
+    item_is entries index c.get.result (search rules) ∙ sym (find_after (ref_arcs c.args.oid.now) entries index c.end_of.ensures.cut)

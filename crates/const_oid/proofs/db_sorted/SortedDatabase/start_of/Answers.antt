@@ -1,0 +1,13 @@
+use Rattle.std.proofs.Common.{rules}
+use Rattle.std.proofs.lemmas.List.Sorted.{IsPartitionPoint-from_clause}
+use Rattle.const_oid.specs.Names.{entry_arcs}
+use Rattle.const_oid.specs.OidRef.{ref_arcs}
+use Rattle.const_oid.proofs.BeginsWith.{is_before}
+use Rattle.const_oid.proofs.Subtree.{cut_before}
+use Rattle.const_oid.proofs.db_sorted.SortedDatabase.start_of.Goals as goal
+
+pub returns-clause-cut : goal.returns-clause-cut
+returns-clause-cut c =
+    let arcs = ref_arcs c.args.oid.now in
+    let entries = c.args.self.now.entries.now in
+    IsPartitionPoint-from_clause (λ entry. is_before arcs (entry_arcs entry)) entries c.partition_point.result c.partition_point.ensures.partitioned (cut_before entry_arcs arcs entries c.args.self.now.sorted) (λ a r f called. search rules)

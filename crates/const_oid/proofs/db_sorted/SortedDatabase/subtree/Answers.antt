@@ -1,0 +1,19 @@
+use Rattle.std.proofs.Common.{drop, rules}
+use Rattle.std.proofs.lemmas.List.{take_rest}
+use Rattle.std.proofs.lemmas.List.Sorted.{IsPartitionPoint-from_clause}
+use Rattle.const_oid.specs.Names.{entry_arcs}
+use Rattle.const_oid.specs.OidRef.{ref_arcs}
+use Rattle.const_oid.proofs.BeginsWith.{is_under, tells_under}
+use Rattle.const_oid.proofs.SortedNames.{subtree_is}
+use Rattle.const_oid.proofs.Subtree.{cut_after}
+use Rattle.const_oid.proofs.db_sorted.SortedDatabase.subtree.Goals as goal
+
+pub returns : goal.returns
+returns c =
+    let arcs = ref_arcs c.args.oid.now in
+    let entries = c.args.self.now.entries.now in
+    let from = c.start_of.result in
+    let count = c.partition_point-count.result in
+    let second = IsPartitionPoint-from_clause (λ entry. is_under arcs (entry_arcs entry)) (drop from entries) count (rw (take_rest entries from) at c.partition_point-count.ensures.partitioned) (cut_after entry_arcs arcs entries c.args.self.now.sorted from c.start_of.ensures.cut)
+    (λ a r f called. (tells_under arcs (entry_arcs a.0.now) r (search rules), search rules)) in
+    rw (take_rest entries from) (subtree_is arcs entries from count c.start_of.ensures.cut second)

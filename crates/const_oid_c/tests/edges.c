@@ -1,0 +1,228 @@
+#define _POSIX_C_SOURCE 200809L
+/* Checks the calls past the sizes at which code for pointers could cut: inputs of more than 8,192 and
+ * 65,536 items, outputs of as many, lists of more than 255, indices past 2^32, and null outputs. */
+#include "const_oid.h"
+
+#include <stdio.h>
+#include <stdlib.h>
+#include <string.h>
+#include <sys/resource.h>
+#include <sys/wait.h>
+#include <unistd.h>
+
+enum { MOST = 70000 };
+
+static uint8_t octets[MOST];
+static uint8_t text[4 * MOST];
+static uint8_t wanted[4 * MOST];
+static uint32_t arcs[MOST + 1];
+static const_oid_octets list[MOST];
+
+static void see(int fact, int line, const char *words, size_t number) {
+    if (!fact) {
+        fprintf(stderr, "tests: edges.c:%d: not true at %zu: %s\n", line, number, words);
+        exit(1);
+    }
+}
+
+#define SEE(fact, number) see(fact, __LINE__, #fact, number)
+
+static int is(const_oid_status status, uint32_t code, uint32_t detail, size_t len) {
+    return status.code == code && status.detail == detail && status.len == len;
+}
+
+/* The text of 2A and so many octets 7F: 1.2 and as many arcs 127. Its length. */
+static size_t text_of(size_t count) {
+    size_t len = 3;
+    memcpy(wanted, "1.2", 3);
+    for (size_t i = 1; i < count; i++, len += 4) memcpy(wanted + len, ".127", 4);
+    return len;
+}
+
+/* Octets of this number, by each call that reads any number. */
+static void of_many(size_t count) {
+    size_t len = text_of(count);
+    octets[0] = 0x2A;
+    memset(octets + 1, 0x7F, count - 1);
+    SEE(is(const_oid_check(octets, count), CONST_OID_OK, 0, 0), count);
+    SEE(is(const_oid_len(octets, count), CONST_OID_OK, 0, count + 1), count);
+    SEE(is(const_oid_arc(octets, count, count), CONST_OID_OK, count > 1 ? 127 : 2, 0), count);
+    SEE(is(const_oid_arc(octets, count, count + 1), CONST_OID_NONE, 0, 0), count);
+    memset(text, 0xEE, sizeof text);
+    SEE(is(const_oid_to_text(octets, count, text, len - 1), CONST_OID_OUTPUT_TOO_SHORT, 0, len), count);
+    SEE(text[0] == 0xEE && text[len - 2] == 0xEE, count);
+    SEE(is(const_oid_to_text(octets, count, text, sizeof text), CONST_OID_OK, 0, len), count);
+    SEE(memcmp(text, wanted, len) == 0 && text[len] == 0xEE, count);
+    memset(text, 0xEE, sizeof text);
+    SEE(is(const_oid_to_text(octets, count, text, len), CONST_OID_OK, 0, len), count);
+    SEE(memcmp(text, wanted, len) == 0 && text[len] == 0xEE, count);
+    memset(arcs, 0xEE, sizeof arcs);
+    SEE(is(const_oid_arcs(octets, count, arcs, count), CONST_OID_OUTPUT_TOO_SHORT, 0, count + 1), count);
+    SEE(arcs[0] == 0xEEEEEEEE, count);
+    SEE(is(const_oid_arcs(octets, count, arcs, MOST + 1), CONST_OID_OK, 0, count + 1), count);
+    SEE(arcs[0] == 1 && arcs[1] == 2 && (count < 2 || arcs[count] == 127), count);
+    SEE(count == MOST || arcs[count + 1] == 0xEEEEEEEE, count);
+    /* The last octet counts. */
+    octets[count - 1] = 0x80;
+    SEE(is(const_oid_check(octets, count), CONST_OID_BASE128, 0, 0), count);
+    SEE(is(const_oid_to_text(octets, count, text, sizeof text), CONST_OID_BASE128, 0, 0), count);
+    SEE(is(const_oid_arcs(octets, count, arcs, MOST + 1), CONST_OID_BASE128, 0, 0), count);
+    octets[count - 1] = 0x7F;
+}
+
+/* Two identifiers of this number of octets that differ in the last one. */
+static void of_two(size_t count) {
+    static uint8_t other[MOST];
+    octets[0] = other[0] = 0x2A;
+    memset(octets + 1, 0x7F, count - 1);
+    memcpy(other, octets, count);
+    SEE(is(const_oid_eq(octets, count, other, count), CONST_OID_OK, 1, 0), count);
+    SEE(is(const_oid_starts_with(octets, count, other, count), CONST_OID_OK, 1, 0), count);
+    SEE(is(const_oid_cmp(octets, count, other, count), CONST_OID_OK, CONST_OID_EQUAL, 0), count);
+    SEE(is(const_oid_cmp_arcs(octets, count, other, count), CONST_OID_OK, CONST_OID_EQUAL, 0), count);
+    other[count - 1] = 0x7E;
+    SEE(is(const_oid_eq(octets, count, other, count), CONST_OID_OK, 0, 0), count);
+    SEE(is(const_oid_starts_with(octets, count, other, count), CONST_OID_OK, 0, 0), count);
+    SEE(is(const_oid_cmp(octets, count, other, count), CONST_OID_OK, CONST_OID_GREATER, 0), count);
+    SEE(is(const_oid_cmp(other, count, octets, count), CONST_OID_OK, CONST_OID_LESS, 0), count);
+    SEE(is(const_oid_cmp_arcs(other, count, octets, count), CONST_OID_OK, CONST_OID_LESS, 0), count);
+    other[count - 1] = 0x80;
+    SEE(is(const_oid_eq(octets, count, other, count), CONST_OID_BASE128, 0, 0), count);
+    SEE(is(const_oid_starts_with(octets, count, other, count), CONST_OID_BASE128, 0, 0), count);
+}
+
+/* Texts and arcs that are long: leading zeros, and what comes after them. */
+static void of_long_inputs(size_t count) {
+    uint8_t out[CONST_OID_MAX_OCTETS];
+    memset(text, '0', count);
+    memcpy(text, "1.", 2);
+    memcpy(text + count - 3, "2.3", 3);
+    SEE(is(const_oid_from_text(text, count, out, sizeof out), CONST_OID_OK, 0, 2), count);
+    SEE(out[0] == 0x2A && out[1] == 3, count);
+    text[count - 1] = 'X';
+    SEE(is(const_oid_from_text(text, count, out, sizeof out), CONST_OID_DIGIT_EXPECTED, 'X', 0), count);
+    text[count - 1] = 0;
+    SEE(is(const_oid_from_text(text, count, out, sizeof out), CONST_OID_DIGIT_EXPECTED, 0, 0), count);
+    text[count - 1] = '\n';
+    SEE(is(const_oid_from_text(text, count, out, sizeof out), CONST_OID_DIGIT_EXPECTED, '\n', 0), count);
+    arcs[0] = 1;
+    for (size_t i = 1; i < count; i++) arcs[i] = 1;
+    uint32_t code = count <= CONST_OID_MAX_ARCS ? CONST_OID_OK : CONST_OID_LENGTH;
+    SEE(is(const_oid_from_arcs(arcs, count, out, sizeof out), code, 0, code == CONST_OID_OK ? count - 1 : 0), count);
+}
+
+/* Lists of this number of identifiers, in order. */
+static void of_lists(size_t count) {
+    static uint8_t items[MOST][3];
+    const uint8_t prefix[] = {0x2A};
+    const_oid_range range = {7, 7};
+    for (size_t i = 0; i < count; i++) {
+        items[i][0] = 0x2A;
+        items[i][1] = (uint8_t)(i / 128 < 127 ? i / 128 : 127);
+        items[i][2] = (uint8_t)(i / 128 < 127 ? i % 128 : 127);
+        list[i].octets = items[i];
+        list[i].len = 3;
+    }
+    SEE(is(const_oid_subtree(prefix, 1, list, count, &range), CONST_OID_OK, 0, 0), count);
+    SEE(range.start == 0 && range.end == count, count);
+    range.start = range.end = 7;
+    list[count - 1].len = 1;
+    SEE(is(const_oid_subtree(prefix, 1, list, count, &range), count > 1 ? CONST_OID_UNSORTED : CONST_OID_OK, 0,
+        count > 1 ? count - 1 : 0), count);
+    SEE(count == 1 || (range.start == 7 && range.end == 7), count);
+    range.start = range.end = 7;
+    list[count - 1].len = 3;
+    items[count - 1][2] = 0x80;
+    SEE(is(const_oid_subtree(prefix, 1, list, count, &range), CONST_OID_BASE128, 0, count - 1), count);
+    SEE(is(const_oid_subtree(prefix, 0, list, count, &range), CONST_OID_EMPTY, 0, count), count);
+    SEE(range.start == 7 && range.end == 7, count);
+}
+
+/* An index has 64 bits. */
+static void indices(void) {
+    static const uint8_t oid[] = {0x2A, 0x03, 0x04};
+    static const size_t past[] = {4, 1u << 31, (size_t)1 << 32, ((size_t)1 << 32) + 2, ((size_t)1 << 63) + 1,
+        SIZE_MAX - 3, SIZE_MAX};
+    for (size_t i = 0; i < sizeof past / sizeof *past; i++)
+        SEE(is(const_oid_arc(oid, 3, past[i]), CONST_OID_NONE, 0, 0), past[i]);
+    SEE(is(const_oid_arc(oid, 3, 3), CONST_OID_OK, 4, 0), 3);
+}
+
+/* Outputs of each length near that of the answer: what is written, and what is not. */
+static void of_outputs(void) {
+    static const uint8_t oid[] = {0x2A, 0x03, 0x04};
+    static const uint32_t four[] = {1, 2, 3, 4};
+    static const char *const texts[] = {"1.2.3.4", "1.2.3.4", "1.2.3.4", "1.2.3", "1.2.3.4.5", "1.2.3.4"};
+    for (size_t room = 0; room < 20; room++) {
+        for (int call = 0; call < 6; call++) {
+            uint8_t out[24];
+            const_oid_status status;
+            memset(out, 0xEE, sizeof out);
+            switch (call) {
+                case 0: status = const_oid_from_text((const uint8_t *)"1.2.3.4", 7, out, room); break;
+                case 1: status = const_oid_from_arcs(four, 4, out, room); break;
+                case 2: status = const_oid_to_text(oid, 3, out, room); break;
+                case 3: status = const_oid_parent(oid, 3, out, room); break;
+                case 4: status = const_oid_push_arc(oid, 3, 5, out, room); break;
+                default: status = const_oid_error_text(CONST_OID_EMPTY, 0, out, room); break;
+            }
+            static const size_t lens[] = {3, 3, 7, 2, 4, 18};
+            size_t len = lens[call], kept = room >= len ? len : 0;
+            SEE(is(status, room >= len ? CONST_OID_OK : CONST_OID_OUTPUT_TOO_SHORT, 0, len), room);
+            for (size_t i = kept; i < sizeof out; i++) SEE(out[i] == 0xEE, room);
+            if (kept == 0) continue;
+            SEE(call != 2 || memcmp(out, texts[call], len) == 0, room);
+            SEE(call != 5 || memcmp(out, "OID value is empty", len) == 0, room);
+            uint8_t back[24];
+            if (call == 2 || call == 5) continue;
+            SEE(const_oid_to_text(out, len, back, sizeof back).code == CONST_OID_OK, room);
+            SEE(memcmp(back, texts[call], strlen(texts[call])) == 0, room);
+        }
+    }
+}
+
+/* A null pointer with a length is a mistake of the caller. It is not taken for an empty slice: the process ends. */
+static void null_with_length(void) {
+    static const uint8_t oid[] = {0x2A, 0x03, 0x04};
+    static const uint32_t four[] = {1, 2, 3, 4};
+    const uint8_t *null = getenv("CONST_OID_NO_SUCH_VARIABLE") == NULL ? NULL : oid;
+    for (int call = 0; call < 9; call++) {
+        fflush(NULL);
+        pid_t child = fork();
+        if (child == 0) {
+            const struct rlimit no_dump = {0, 0};
+            setrlimit(RLIMIT_CORE, &no_dump);
+            if (freopen("/dev/null", "w", stderr) == NULL) _exit(0);
+            switch (call) {
+                case 0: const_oid_from_text((const uint8_t *)"1.2.3.4", 7, (uint8_t *)null, 5); break;
+                case 1: const_oid_from_arcs(four, 4, (uint8_t *)null, 5); break;
+                case 2: const_oid_to_text(oid, 3, (uint8_t *)null, 9); break;
+                case 3: const_oid_parent(oid, 3, (uint8_t *)null, 5); break;
+                case 4: const_oid_push_arc(oid, 3, 5, (uint8_t *)null, 5); break;
+                case 5: const_oid_error_text(CONST_OID_EMPTY, 0, (uint8_t *)null, 20); break;
+                case 6: const_oid_arcs(oid, 3, (uint32_t *)null, 5); break;
+                case 7: const_oid_check(null, 5); break;
+                default: const_oid_from_text(null, 5, octets, 5); break;
+            }
+            _exit(0);
+        }
+        int ended = 0;
+        SEE(child > 0 && waitpid(child, &ended, 0) == child, (size_t)call);
+        SEE(!WIFEXITED(ended) || WEXITSTATUS(ended) != 0, (size_t)call);
+    }
+}
+
+int main(void) {
+    static const size_t counts[] = {1, 2, 16, 17, 39, 40, 41, 254, 255, 256, 257, 1020, 1021, 8191, 8192, 8193, 16383,
+        16384, 16385, 65535, 65536, 65537, MOST};
+    for (size_t i = 0; i < sizeof counts / sizeof *counts; i++) {
+        of_many(counts[i]);
+        of_lists(counts[i]);
+        if (counts[i] > 4) of_two(counts[i]);
+        if (counts[i] > 4) of_long_inputs(counts[i]);
+    }
+    indices();
+    of_outputs();
+    null_with_length();
+    return 0;
+}

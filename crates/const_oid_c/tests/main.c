@@ -1,0 +1,237 @@
+/* Reads rows `call input = answer` from standard input, and prints each one with the answer of the
+ * library. A right answer makes the same row. A row that begins with '#' is printed unchanged. */
+#include "const_oid.h"
+
+#include <inttypes.h>
+#include <stdio.h>
+#include <stdlib.h>
+#include <string.h>
+
+enum { LINE = 65536, MOST = 4096 };
+
+/* The octets that hexadecimal digits denote. */
+typedef struct {
+    uint8_t octets[MOST];
+    size_t len;
+} bytes;
+
+static void fail(const char *why) {
+    fprintf(stderr, "tests: %s\n", why);
+    exit(1);
+}
+
+static bytes read_hex(const char *digits) {
+    bytes read = {{0}, strlen(digits) / 2};
+    if (read.len > MOST) fail("a row is too long");
+    for (size_t i = 0; i < read.len; i++) {
+        unsigned octet;
+        if (sscanf(digits + 2 * i, "%2x", &octet) != 1) fail("a row is not hex");
+        read.octets[i] = (uint8_t)octet;
+    }
+    return read;
+}
+
+/* The next word of a row, or "" after the last one. */
+static char *word(char **rest) {
+    char *start = *rest;
+    char *end = strchr(start, ' ');
+    if (end == NULL) {
+        *rest = start + strlen(start);
+    } else {
+        *end = 0;
+        *rest = end + 1;
+    }
+    return start;
+}
+
+static uint32_t number(char **rest) {
+    return (uint32_t)strtoul(word(rest), NULL, 10);
+}
+
+/* Prints why there is no answer. */
+static void refused(const_oid_status status) {
+    uint8_t text[CONST_OID_MAX_ERROR_TEXT];
+    const_oid_status words = const_oid_error_text(status.code, status.detail, text, sizeof text);
+    if (words.code != CONST_OID_OK) fail("a code has no text");
+    if (status.code == CONST_OID_NONE) {
+        printf("none");
+    } else if (status.code == CONST_OID_NOT_UTF8) {
+        printf("no text");
+    } else if (status.code == CONST_OID_UNSORTED) {
+        printf("unsorted");
+    } else {
+        printf("error %" PRIu32 " %" PRIu32 ": %.*s", status.code, status.detail, (int)words.len,
+            (const char *)text);
+    }
+}
+
+/* Prints the octets that a call wrote, or why it wrote none. */
+static void written(const_oid_status status, const uint8_t *octets) {
+    if (status.code != CONST_OID_OK) {
+        refused(status);
+        return;
+    }
+    for (size_t i = 0; i < status.len; i++) printf("%02X", octets[i]);
+}
+
+/* Fails unless a call whose output is one item shorter than the answer of `status` says so, and wrote
+ * nothing. */
+static void too_short(const_oid_status status, const_oid_status less, const uint8_t *out, size_t size) {
+    if (status.code != CONST_OID_OK) return;
+    if (less.code != CONST_OID_OUTPUT_TOO_SHORT || less.len != status.len) fail("a short output is not refused");
+    for (size_t i = 0; i < size; i++)
+        if (out[i] != 0xEE) fail("a short output was written");
+}
+
+static void text_row(const uint8_t *text, size_t len) {
+    uint8_t out[CONST_OID_MAX_OCTETS];
+    uint8_t less[CONST_OID_MAX_OCTETS];
+    const_oid_status status = const_oid_from_text(text, len, out, sizeof out);
+    memset(less, 0xEE, sizeof less);
+    if (status.code == CONST_OID_OK)
+        too_short(status, const_oid_from_text(text, len, less, status.len - 1), less, sizeof less);
+    written(status, out);
+}
+
+static void octets_row(char *rest) {
+    bytes row = read_hex(word(&rest));
+    static uint8_t text[4 * MOST];
+    static uint8_t less[4 * MOST];
+    static uint32_t arcs[MOST + 1];
+    static uint32_t few[MOST + 1];
+    const_oid_status checked = const_oid_check(row.octets, row.len);
+    const_oid_status printed = const_oid_to_text(row.octets, row.len, text, sizeof text);
+    const_oid_status count = const_oid_len(row.octets, row.len);
+    const_oid_status all = const_oid_arcs(row.octets, row.len, arcs, MOST + 1);
+    if (checked.code != printed.code || checked.code != count.code || checked.code != all.code)
+        fail("calls over the same octets differ");
+    if (checked.code != CONST_OID_OK) {
+        refused(printed);
+        return;
+    }
+    memset(less, 0xEE, sizeof less);
+    too_short(printed, const_oid_to_text(row.octets, row.len, less, printed.len - 1), less, sizeof less);
+    memset(few, 0xEE, sizeof few);
+    too_short(all, const_oid_arcs(row.octets, row.len, few, all.len - 1), (const uint8_t *)few, sizeof few);
+    printf("%.*s, %zu arcs", (int)printed.len, (const char *)text, count.len);
+    for (size_t i = 0; i < count.len; i++) {
+        const_oid_status arc = const_oid_arc(row.octets, row.len, i);
+        if (arc.code != CONST_OID_OK || arc.detail != arcs[i]) fail("an arc differs");
+        printf(" %" PRIu32, arcs[i]);
+    }
+    if (const_oid_arc(row.octets, row.len, count.len).code != CONST_OID_NONE)
+        fail("there is an arc past the last");
+}
+
+static void arcs_row(char *rest) {
+    static uint32_t arcs[MOST];
+    uint8_t out[CONST_OID_MAX_OCTETS];
+    size_t len = 0;
+    while (*rest != 0 && len < MOST) arcs[len++] = number(&rest);
+    written(const_oid_from_arcs(arcs, len, out, sizeof out), out);
+}
+
+static void subtree_row(char *rest) {
+    static bytes rows[MOST];
+    static const_oid_octets sorted[MOST];
+    const_oid_range range = {7, 7};
+    bytes prefix = read_hex(word(&rest));
+    size_t count = 0;
+    while (*rest != 0 && count < MOST) {
+        rows[count] = read_hex(word(&rest));
+        sorted[count].octets = rows[count].octets;
+        sorted[count].len = rows[count].len;
+        count++;
+    }
+    const_oid_status status = const_oid_subtree(prefix.octets, prefix.len, sorted, count, &range);
+    if (status.code == CONST_OID_OK) {
+        printf("%zu %zu", range.start, range.end);
+        return;
+    }
+    if (range.start != 7 || range.end != 7) fail("a range was written");
+    refused(status);
+    printf(" at %zu", status.len);
+}
+
+static void in_word(const_oid_status status, const char *const *words) {
+    if (status.code == CONST_OID_OK) {
+        printf("%s", words[status.detail]);
+    } else {
+        refused(status);
+    }
+}
+
+static void pair_row(const char *call, char *rest) {
+    static const char *const whether[] = {"no", "yes"};
+    static const char *const orders[] = {"less", "equal", "greater"};
+    bytes a = read_hex(word(&rest));
+    bytes b = read_hex(word(&rest));
+    if (strcmp(call, "begins") == 0) {
+        in_word(const_oid_starts_with(a.octets, a.len, b.octets, b.len), whether);
+    } else if (strcmp(call, "equal") == 0) {
+        in_word(const_oid_eq(a.octets, a.len, b.octets, b.len), whether);
+    } else if (strcmp(call, "owned") == 0) {
+        in_word(const_oid_cmp_owned(a.octets, a.len, b.octets, b.len), orders);
+    } else if (strcmp(call, "borrowed") == 0) {
+        in_word(const_oid_cmp(a.octets, a.len, b.octets, b.len), orders);
+    } else if (strcmp(call, "by_arcs") == 0) {
+        in_word(const_oid_cmp_arcs(a.octets, a.len, b.octets, b.len), orders);
+    } else {
+        fail("a row has an unknown call");
+    }
+}
+
+static void answer(const char *call, char *rest) {
+    uint8_t out[CONST_OID_MAX_OCTETS];
+    uint8_t text[CONST_OID_MAX_ERROR_TEXT];
+    if (strcmp(call, "text") == 0) {
+        text_row((const uint8_t *)rest, strlen(rest));
+    } else if (strcmp(call, "bytes") == 0) {
+        bytes row = read_hex(word(&rest));
+        text_row(row.octets, row.len);
+    } else if (strcmp(call, "octets") == 0) {
+        octets_row(rest);
+    } else if (strcmp(call, "arcs") == 0) {
+        arcs_row(rest);
+    } else if (strcmp(call, "parent") == 0) {
+        bytes row = read_hex(word(&rest));
+        written(const_oid_parent(row.octets, row.len, out, sizeof out), out);
+    } else if (strcmp(call, "child") == 0) {
+        bytes row = read_hex(word(&rest));
+        written(const_oid_push_arc(row.octets, row.len, number(&rest), out, sizeof out), out);
+    } else if (strcmp(call, "subtree") == 0) {
+        subtree_row(rest);
+    } else if (strcmp(call, "error") == 0) {
+        uint32_t code = number(&rest);
+        const_oid_status status = const_oid_error_text(code, number(&rest), text, sizeof text);
+        if (status.code == CONST_OID_OK) {
+            printf("%.*s", (int)status.len, (const char *)text);
+        } else {
+            refused(status);
+        }
+    } else if (strcmp(call, "message") == 0) {
+        uint32_t code = number(&rest);
+        written(const_oid_error_text(code, number(&rest), text, sizeof text), text);
+    } else {
+        pair_row(call, rest);
+    }
+}
+
+int main(void) {
+    static char line[LINE];
+    while (fgets(line, sizeof line, stdin) != NULL) {
+        line[strcspn(line, "\n")] = 0;
+        char *end = strstr(line, " = ");
+        if (line[0] == '#' || end == NULL) {
+            printf("%s\n", line);
+            continue;
+        }
+        *end = 0;
+        printf("%s = ", line);
+        char *rest = line;
+        char *call = word(&rest);
+        answer(call, rest);
+        printf("\n");
+    }
+    return 0;
+}

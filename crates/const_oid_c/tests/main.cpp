@@ -1,0 +1,33 @@
+// The calls from C++, over the texts and octets of string_view and vector.
+#include "const_oid.h"
+
+#include <cstdio>
+#include <string_view>
+#include <vector>
+
+static_assert(sizeof(const_oid_status) == 8 + sizeof(size_t), "a status has no other fields");
+
+using Octets = std::vector<uint8_t>;
+
+static const uint8_t *bytes(std::string_view text) {
+    return reinterpret_cast<const uint8_t *>(text.data());
+}
+
+// The octets of a text, or none where the text is refused.
+static Octets from_text(std::string_view text) {
+    const_oid_status wanted = const_oid_from_text(bytes(text), text.size(), nullptr, 0);
+    Octets octets(wanted.code == CONST_OID_OUTPUT_TOO_SHORT ? wanted.len : 0);
+    const_oid_from_text(bytes(text), text.size(), octets.data(), octets.size());
+    return octets;
+}
+
+int main() {
+    std::string_view row = "oid=1.2.840.10045.2.1;";
+    Octets octets = from_text(row.substr(4, 17));
+    Octets empty;
+    bool right = octets == Octets{0x2A, 0x86, 0x48, 0xCE, 0x3D, 0x02, 0x01} && from_text("1..2").empty()
+        && from_text({}).empty() && const_oid_check(empty.data(), empty.size()).code == CONST_OID_EMPTY
+        && const_oid_eq(octets.data(), octets.size(), octets.data(), octets.size()).detail == 1;
+    if (!right) std::fputs("tests: the C++ program has other answers\n", stderr);
+    return right ? 0 : 1;
+}

@@ -1,0 +1,169 @@
+//! Tables in the order of arcs: `SortedDatabase`, and `ByArcs` as a key.
+
+use const_oid::db::SortedDatabase;
+use const_oid::{ByArcs, Error, ObjectIdentifierRef};
+use std::alloc::Global;
+use std::cmp::Ordering;
+use std::test::Fail;
+
+type Entry = (ObjectIdentifierRef<'static>, &'static str);
+
+/// An identifier of 300 octets, 1.3.43.43 and so on.
+const LONG: &[u8] = &[0x2B; 300];
+
+/// Octets and names (RFC 2863, 3418), in the order of arcs, which is not that of octets: 256 is before 16384.
+const TABLE: &[(&[u8], &str)] = &[
+    (&[0x2B, 6, 1, 2, 1, 1], "system"),
+    (&[0x2B, 6, 1, 2, 1, 1, 1, 0], "sysDescr.0"),
+    (&[0x2B, 6, 1, 2, 1, 2], "interfaces"),
+    (&[0x2B, 6, 1, 2, 1, 2, 2, 1, 2, 2], "ifDescr.2"),
+    (&[0x2B, 6, 1, 2, 1, 2, 2, 1, 2, 10], "ifDescr.10"),
+    (&[0x2B, 6, 1, 2, 1, 2, 2, 1, 2, 0x82, 0], "ifDescr.256"),
+    (
+        &[0x2B, 6, 1, 2, 1, 2, 2, 1, 2, 0x81, 0x80, 0],
+        "ifDescr.16384",
+    ),
+    (&[0x2B, 6, 1, 2, 1, 2, 2, 1, 10], "ifInOctets"),
+    (&[0x2B, 6, 1, 2, 1, 2, 2, 1, 10], "ifInOctets again"),
+    (&[0x2B, 6, 1, 4, 1], "enterprises"),
+    (LONG, "long"),
+];
+
+/// Octets, the name that the table has for them, the name of the nearest entry, how many entries begin with
+/// them, and the name of the entry after them.
+type Row = (
+    &'static [u8],
+    Option<&'static str>,
+    Option<&'static str>,
+    usize,
+    Option<&'static str>,
+);
+
+const ROWS: &[Row] = &[
+    (&[0x2B], None, None, 11, Some("system")),
+    (&[0x2B, 6, 1, 2, 1], None, None, 9, Some("system")),
+    (
+        &[0x2B, 6, 1, 2, 1, 1],
+        Some("system"),
+        Some("system"),
+        2,
+        Some("sysDescr.0"),
+    ),
+    (
+        &[0x2B, 6, 1, 2, 1, 1, 3, 0],
+        None,
+        Some("system"),
+        0,
+        Some("interfaces"),
+    ),
+    (
+        &[0x2B, 6, 1, 2, 1, 2, 2, 1],
+        None,
+        Some("interfaces"),
+        6,
+        Some("ifDescr.2"),
+    ),
+    (
+        &[0x2B, 6, 1, 2, 1, 2, 2, 1, 2, 2],
+        Some("ifDescr.2"),
+        Some("ifDescr.2"),
+        1,
+        Some("ifDescr.10"),
+    ),
+    (
+        &[0x2B, 6, 1, 2, 1, 2, 2, 1, 2, 10],
+        Some("ifDescr.10"),
+        Some("ifDescr.10"),
+        1,
+        Some("ifDescr.256"),
+    ),
+    (
+        &[0x2B, 6, 1, 2, 1, 2, 2, 1, 2, 0x82, 0],
+        Some("ifDescr.256"),
+        Some("ifDescr.256"),
+        1,
+        Some("ifDescr.16384"),
+    ),
+    (
+        &[0x2B, 6, 1, 2, 1, 2, 2, 1, 10],
+        Some("ifInOctets"),
+        Some("ifInOctets"),
+        2,
+        Some("enterprises"),
+    ),
+    (
+        &[0x2B, 6, 1, 2, 1, 2, 2, 1, 10, 3],
+        None,
+        Some("ifInOctets"),
+        0,
+        Some("enterprises"),
+    ),
+    (
+        &[0x2B, 6, 1, 4, 1, 0xBF, 8, 3, 2],
+        None,
+        Some("enterprises"),
+        0,
+        Some("long"),
+    ),
+    (LONG, Some("long"), Some("long"), 1, None),
+    (&[0x55], None, None, 0, None),
+];
+
+/// The entries of the table.
+fn entries(alloc: Global) -> Result<Vec<Entry>, Fail> {
+    let mut entries = Vec::new(alloc);
+    for (octets, name) in TABLE {
+        entries.push((ObjectIdentifierRef::from_bytes(octets)?, *name))?;
+    }
+    Ok(entries)
+}
+
+/// Whether a table finds what a row says.
+fn is_found(names: &SortedDatabase<'_>, row: &Row) -> Result<bool, Error> {
+    let (octets, name, nearest, count, next) = *row;
+    let oid = ObjectIdentifierRef::from_bytes(octets)?;
+    Ok(
+        names.by_oid(&oid) == name
+            && names.nearest(oid).map(|entry| entry.1) == nearest
+            && names.subtree(&oid).len() == count
+            && names.next_after(&oid).map(|entry| entry.1) == next,
+    )
+}
+
+#[test]
+fn rows(rt: HostRuntime) -> Result<(), Fail> {
+    let entries = entries(rt.alloc())?;
+    let names = SortedDatabase::try_new(&entries);
+    assert!(rt; names.is_some());
+    if let Some(names) = names {
+        for row in ROWS {
+            assert!(rt; is_found(&names, row)?, "{:?}", row.0);
+        }
+    }
+    Ok(())
+}
+
+/// The entries by a key, put in backwards, are in the order of the table; backwards they are no sorted table.
+#[test]
+fn sorted_by_key(rt: HostRuntime) -> Result<(), Fail> {
+    let mut entries = entries(rt.alloc())?;
+    entries.reverse();
+    assert!(rt; SortedDatabase::try_new(&entries).is_none());
+    entries.sort_by_key(|entry| ByArcs(entry.0))?;
+    assert!(rt; SortedDatabase::try_new(&entries).is_some());
+    for ((oid, _), (octets, name)) in entries.iter().zip(TABLE) {
+        assert!(rt; oid.as_bytes() == *octets, "{name}");
+    }
+    Ok(())
+}
+
+#[test]
+fn keys(rt: HostRuntime) -> Result<(), Error> {
+    let [small, large] = [&[0x2A, 0x82, 0x00], &[0x2A, 0x81, 0x80, 0x00][..]];
+    let small = ObjectIdentifierRef::from_bytes(small)?;
+    let large = ObjectIdentifierRef::from_bytes(large)?;
+    assert!(rt; ByArcs(small).cmp(&ByArcs(large)) == Ordering::Less);
+    assert!(rt; small.cmp(&large) == Ordering::Greater);
+    assert!(rt; ByArcs(small) == ByArcs(small) && ByArcs(small) != ByArcs(large));
+    Ok(())
+}

@@ -1,0 +1,614 @@
+//! Each form of each call beside a model, which is written from docs/RULES.md alone: all octets of up to
+//! three, edges of up to eight, all texts of up to eight bytes over a few, lists of arcs, and long ones.
+
+use const_oid::{Arc, Error, ObjectIdentifier, ObjectIdentifierRef};
+use std::borrow::Borrow;
+use std::cmp::Ordering;
+use std::hash::{Hash, Hasher};
+use std::thread;
+
+/// Calls a macro for each capacity.
+macro_rules! each_capacity {
+    ($call:ident($($argument:expr),*)) => {
+        $call::<0>($($argument),*);
+        $call::<1>($($argument),*);
+        $call::<2>($($argument),*);
+        $call::<3>($($argument),*);
+        $call::<4>($($argument),*);
+        $call::<5>($($argument),*);
+        $call::<6>($($argument),*);
+        $call::<39>($($argument),*);
+        $call::<255>($($argument),*);
+        $call::<300>($($argument),*);
+    };
+}
+
+/// The rules of docs/RULES.md, over lists.
+mod model {
+    use super::{Arc, Error};
+
+    const MAX_ARC: u128 = 4_294_967_295;
+    const MAX_FIRST: u128 = 4_294_967_375;
+
+    pub type Answer = Result<Vec<Arc>, Error>;
+
+    pub fn capacity(max_size: usize) -> usize {
+        max_size.min(255)
+    }
+
+    fn number(base: u128, digits: impl Iterator<Item = u8>) -> u128 {
+        digits.fold(0, |number, digit| {
+            number.saturating_mul(base).saturating_add(digit.into())
+        })
+    }
+
+    /// Section 4, of octets whose number the capacity does not limit.
+    pub fn of_octets(octets: &[u8]) -> Answer {
+        if octets.is_empty() {
+            return Err(Error::Empty);
+        }
+        let mut numbers = Vec::with_capacity(octets.len());
+        for part in octets.split_inclusive(|octet| *octet < 0x80) {
+            let limit = if numbers.is_empty() {
+                MAX_FIRST
+            } else {
+                MAX_ARC
+            };
+            let number = number(128, part.iter().map(|octet| octet % 128));
+            if part[0] == 0x80 {
+                return Err(Error::Base128);
+            } else if number > limit {
+                return Err(Error::ArcTooBig);
+            } else if part[part.len() - 1] >= 0x80 {
+                return Err(Error::Base128);
+            }
+            numbers.push(number);
+        }
+        let root = match numbers[0] {
+            below @ ..80 => [below / 40, below % 40],
+            number => [2, number - 80],
+        };
+        let arcs = root.into_iter().chain(numbers.into_iter().skip(1));
+        Ok(arcs.map(|arc| arc as Arc).collect())
+    }
+
+    /// Section 2: the octets of arcs.
+    pub fn encoding(arcs: &[Arc]) -> Vec<u8> {
+        let mut octets = Vec::with_capacity(5 * arcs.len());
+        let first = 40 * u64::from(arcs[0]) + u64::from(arcs[1]);
+        for number in [first]
+            .into_iter()
+            .chain(arcs[2..].iter().map(|arc| u64::from(*arc)))
+        {
+            let width = (1..).find(|width| number < 128_u64.pow(*width)).unwrap();
+            for place in (0..width).rev() {
+                let digit = (number / 128_u64.pow(place) % 128) as u8;
+                octets.push(if place > 0 { digit + 128 } else { digit });
+            }
+        }
+        octets
+    }
+
+    /// The fault of the last of these arcs, if the ones before have none (cases 5 and 6 of section 5 of RULES).
+    fn arc_fault(arcs: &[Arc], capacity: usize) -> Option<Error> {
+        let arc = *arcs.last()?;
+        match arcs {
+            [first] if *first > 2 => Some(Error::ArcInvalid { arc }),
+            [0 | 1, second] if *second > 39 => Some(Error::ArcInvalid { arc }),
+            [_, _, ..] if encoding(arcs).len() > capacity => Some(Error::Length),
+            _ => None,
+        }
+    }
+
+    /// Section 6.
+    pub fn of_arcs(arcs: &[Arc], capacity: usize) -> Answer {
+        for count in 1..=arcs.len() {
+            arc_fault(&arcs[..count], capacity).map_or(Ok(()), Err)?;
+        }
+        if arcs.len() < 2 {
+            Err(Error::Empty)
+        } else {
+            Ok(arcs.to_vec())
+        }
+    }
+
+    /// Section 5.
+    pub fn of_text(text: &[u8], capacity: usize) -> Answer {
+        let pieces: Vec<&[u8]> = text.split(|byte| *byte == b'.').collect();
+        let mut arcs = Vec::new();
+        for (index, piece) in pieces.iter().enumerate() {
+            let digits = piece.iter().take_while(|byte| byte.is_ascii_digit());
+            let number = number(10, digits.map(|digit| digit - b'0'));
+            if number > MAX_ARC {
+                return Err(Error::ArcTooBig);
+            }
+            if let Some(actual) = piece.iter().copied().find(|byte| !byte.is_ascii_digit()) {
+                return Err(Error::DigitExpected { actual });
+            }
+            let is_last = index + 1 == pieces.len();
+            if piece.is_empty() {
+                return Err(match index {
+                    0 if is_last => Error::Empty,
+                    0 => Error::DigitExpected { actual: b'.' },
+                    _ if is_last => Error::TrailingDot,
+                    _ => Error::RepeatedDot,
+                });
+            }
+            if index + 2 == pieces.len() && pieces[index + 1].is_empty() {
+                return Err(Error::TrailingDot);
+            }
+            arcs.push(number as Arc);
+            arc_fault(&arcs, capacity).map_or(Ok(()), Err)?;
+        }
+        if arcs.len() < 2 {
+            Err(Error::Empty)
+        } else {
+            Ok(arcs)
+        }
+    }
+
+    /// Section 8.
+    pub fn text(arcs: &[Arc]) -> String {
+        let decimals: Vec<String> = arcs.iter().map(Arc::to_string).collect();
+        decimals.join(".")
+    }
+}
+
+/// What a hasher is fed.
+#[derive(Default)]
+struct Fed(Vec<u8>);
+
+impl Hasher for Fed {
+    fn write(&mut self, bytes: &[u8]) {
+        self.0.extend_from_slice(bytes);
+    }
+
+    fn finish(&self) -> u64 {
+        0
+    }
+}
+
+fn fed(value: &(impl Hash + ?Sized)) -> Vec<u8> {
+    let mut fed = Fed::default();
+    value.hash(&mut fed);
+    fed.0
+}
+
+/// The calls that read octets, at a capacity.
+fn read_octets<const N: usize>(octets: &[u8], answer: &model::Answer) {
+    let fits = octets.len() <= model::capacity(N);
+    let owned = ObjectIdentifier::<N>::from_bytes_sized(octets);
+    match (answer, owned) {
+        (Ok(_), Ok(oid)) => assert!(fits && oid.as_bytes() == octets),
+        (Ok(_), Err(error)) => assert!(!fits && error == Error::Length, "{octets:02X?}, {N}"),
+        (Err(fault), owned) => assert_eq!(owned, Err(*fault), "{octets:02X?}, {N}"),
+    }
+}
+
+/// The calls that read octets.
+fn check_octets(octets: &[u8]) {
+    let answer = model::of_octets(octets);
+    let borrowed = ObjectIdentifierRef::from_bytes(octets);
+    assert_eq!(
+        borrowed.map(|oid| oid.as_bytes().as_ptr_range()),
+        answer
+            .as_ref()
+            .map(|_| octets.as_ptr_range())
+            .map_err(|fault| *fault),
+        "{octets:02X?}"
+    );
+    assert_eq!(borrowed, octets.try_into());
+    let usual = ObjectIdentifier::from_bytes_sized(octets);
+    assert_eq!(ObjectIdentifier::from_bytes(octets), usual);
+    assert_eq!(ObjectIdentifier::try_from(octets), usual);
+    each_capacity!(read_octets(octets, &answer));
+    if let (Ok(arcs), Ok(oid)) = (answer, borrowed) {
+        assert!(oid.arcs().eq(arcs.iter().copied()), "{octets:02X?}");
+        assert_eq!(model::encoding(&arcs), octets);
+    }
+}
+
+/// The calls that read text, at a capacity.
+fn read_text<const N: usize>(text: &str) {
+    let answer = model::of_text(text.as_bytes(), model::capacity(N));
+    match (answer, ObjectIdentifier::<N>::new_sized(text)) {
+        (Ok(arcs), Ok(oid)) => assert!(oid.as_bytes() == model::encoding(&arcs), "{text}, {N}"),
+        (answer, owned) => assert_eq!(owned.err(), answer.err(), "{text}, {N}"),
+    }
+}
+
+/// The calls that read text.
+fn check_text(text: &str) {
+    let usual = ObjectIdentifier::new_sized(text);
+    assert_eq!(ObjectIdentifier::new(text), usual, "{text}");
+    assert_eq!(text.parse(), usual, "{text}");
+    read_text::<39>(text);
+}
+
+/// The calls that read arcs, at a capacity.
+fn read_arcs<const N: usize>(arcs: &[Arc]) {
+    let answer = model::of_arcs(arcs, model::capacity(N));
+    let owned = ObjectIdentifier::<N>::from_arcs_sized(arcs.iter().copied());
+    let octets = owned.map(|oid| oid.as_bytes().to_vec());
+    assert_eq!(
+        octets,
+        answer.map(|arcs| model::encoding(&arcs)),
+        "{arcs:?}, {N}"
+    );
+    if N == 39 {
+        let usual = ObjectIdentifier::from_arcs(arcs.iter().copied());
+        assert_eq!(usual.map(|oid| oid.as_bytes().to_vec()), octets);
+    }
+}
+
+/// The calls on a valid identifier, owned.
+fn check_owned<const N: usize>(octets: &[u8], arcs: &[Arc]) {
+    let borrowed = ObjectIdentifierRef::from_bytes(octets).unwrap();
+    let copied = ObjectIdentifier::<N>::try_from(borrowed);
+    assert_eq!(copied, ObjectIdentifier::from_bytes_sized(octets));
+    let Ok(oid) = copied else { return };
+    let deref: &ObjectIdentifierRef = &oid;
+    let (borrow, as_ref, from): (
+        &ObjectIdentifierRef,
+        &ObjectIdentifierRef,
+        &ObjectIdentifierRef,
+    ) = (oid.borrow(), oid.as_ref(), (&oid).into());
+    for form in [deref, borrow, as_ref, from, oid.as_oid_ref()] {
+        assert_eq!(
+            form.as_bytes().as_ptr_range(),
+            oid.as_bytes().as_ptr_range()
+        );
+        assert!(*form == oid && form == borrowed);
+    }
+    let slice: &[u8] = oid.as_ref();
+    assert_eq!(
+        (slice, oid.as_bytes(), oid.len()),
+        (octets, octets, arcs.len())
+    );
+    assert!(oid.arcs().eq(arcs.iter().copied()));
+    for index in indices(arcs.len()) {
+        assert_eq!(oid.arc(index), arcs.get(index).copied());
+    }
+    let text = model::text(arcs);
+    check_text_of(&oid, &text, "ObjectIdentifier");
+    check_encoded(
+        &text,
+        oid.text_len(),
+        |out| oid.encode_text(out),
+        |out| oid.encode_str(out).map(str::len),
+    );
+    assert_eq!(fed(&oid), fed(octets));
+    let (_, parent) = arcs.split_last().unwrap();
+    let parent = (parent.len() >= 2).then(|| model::encoding(parent));
+    assert_eq!(oid.parent().map(|oid| oid.as_bytes().to_vec()), parent);
+    for arc in [0, 127, 128, 16_384, Arc::MAX] {
+        let child = model::encoding(&[arcs, &[arc]].concat());
+        let pushed = oid.push_arc(arc).map(|oid| oid.as_bytes().to_vec());
+        let fits = child.len() <= model::capacity(N);
+        assert_eq!(pushed, if fits { Ok(child) } else { Err(Error::Length) });
+    }
+}
+
+/// The calls on a valid identifier, borrowed.
+fn check_borrowed(octets: &[u8], arcs: &[Arc]) {
+    let oid = ObjectIdentifierRef::from_bytes(octets).unwrap();
+    let slice: &[u8] = oid.as_ref();
+    assert_eq!(
+        (slice, oid.as_bytes(), oid.len()),
+        (octets, octets, arcs.len())
+    );
+    assert!(oid.arcs().eq(arcs.iter().copied()));
+    for index in indices(arcs.len()) {
+        assert_eq!(oid.arc(index), arcs.get(index).copied());
+    }
+    let text = model::text(arcs);
+    check_text_of(oid, &text, "ObjectIdentifierRef");
+    check_encoded(
+        &text,
+        oid.text_len(),
+        |out| oid.encode_text(out),
+        |out| oid.encode_str(out).map(str::len),
+    );
+    assert_eq!(fed(oid), fed(octets));
+    let (_, parent) = arcs.split_last().unwrap();
+    let parent = (parent.len() >= 2).then(|| model::encoding(parent));
+    assert_eq!(oid.parent().map(|oid| oid.as_bytes().to_vec()), parent);
+    each_capacity!(check_owned(octets, arcs));
+}
+
+/// Indices at the edges of a list of this length, and far past it.
+fn indices(len: usize) -> impl Iterator<Item = usize> {
+    let near = [0, 1, 2, 3, len / 2, len - 1, len, len + 1];
+    near.into_iter().chain([1 << 32, (1 << 32) + 1, usize::MAX])
+}
+
+/// Display and Debug, whatever the options.
+fn check_text_of(
+    oid: &(impl std::fmt::Display + std::fmt::Debug + ?Sized),
+    text: &str,
+    name: &str,
+) {
+    let wide = text.len() + 9;
+    for printed in [
+        oid.to_string(),
+        format!("{oid:>wide$}"),
+        format!("{oid:#}"),
+        format!("{oid:.1}"),
+        format!("{oid:+09}"),
+    ] {
+        assert_eq!(printed, text);
+    }
+    let debug = format!("{name}({text})");
+    for printed in [
+        format!("{oid:?}"),
+        format!("{oid:#?}"),
+        format!("{oid:>wide$?}"),
+    ] {
+        assert_eq!(printed, debug);
+    }
+}
+
+/// A text written into outputs near its length.
+fn check_encoded(
+    text: &str,
+    len: usize,
+    encode_text: impl Fn(&mut [u8]) -> Option<usize>,
+    encode_str: impl Fn(&mut [u8]) -> Option<usize>,
+) {
+    assert_eq!(len, text.len());
+    for room in [0, 1, len - 1, len, len + 1, 4 * len] {
+        let expected = (room >= len).then_some(len);
+        let written = [text.as_bytes(), &[0xEE].repeat(room.saturating_sub(len))].concat();
+        let untouched = [0xEE].repeat(room);
+        for encode in [
+            &encode_text as &dyn Fn(&mut [u8]) -> Option<usize>,
+            &encode_str,
+        ] {
+            let mut out = untouched.clone();
+            assert_eq!(encode(&mut out), expected, "{text}, {room}");
+            assert_eq!(
+                out,
+                if room >= len {
+                    &written[..]
+                } else {
+                    &untouched[..]
+                }
+            );
+        }
+    }
+}
+
+/// The calls on two identifiers, in each pair of forms.
+fn check_pair(a: &[u8], b: &[u8]) {
+    let (x, y) = (
+        ObjectIdentifierRef::from_bytes(a).unwrap(),
+        ObjectIdentifierRef::from_bytes(b).unwrap(),
+    );
+    let (p, q) = (model::of_octets(a).unwrap(), model::of_octets(b).unwrap());
+    let (is_equal, starts, by_arcs) = (a == b, p.starts_with(&q), p.cmp(&q));
+    assert_eq!(
+        (x == y, x != y, x.cmp(y), x.partial_cmp(y)),
+        (is_equal, !is_equal, a.cmp(b), Some(a.cmp(b)))
+    );
+    assert_eq!((x.starts_with(y), x.cmp_arcs(y)), (starts, by_arcs));
+    let (Ok(i), Ok(j)) = (
+        ObjectIdentifier::<255>::try_from(x),
+        ObjectIdentifier::<255>::try_from(y),
+    ) else {
+        return;
+    };
+    let order: Ordering = a.len().cmp(&b.len()).then(a.cmp(b));
+    assert_eq!(
+        (i == j, i != j, i.cmp(&j), i.partial_cmp(&j)),
+        (is_equal, !is_equal, order, Some(order))
+    );
+    assert_eq!(
+        (i.starts_with(j), i.cmp_arcs(&j), *x == j),
+        (starts, by_arcs, is_equal)
+    );
+    let Ok(small) = ObjectIdentifier::<39>::try_from(y) else {
+        return;
+    };
+    assert_eq!(
+        (i.starts_with(small), i.cmp_arcs(&small), *x == small),
+        (starts, by_arcs, is_equal)
+    );
+}
+
+/// Calls a check for all lists of up to `most` items over some, on as many threads as there are cores.
+fn all<T: Copy + Sync>(items: &[T], most: u32, check: impl Fn(&[T]) + Sync) {
+    let threads = thread::available_parallelism().map_or(1, usize::from);
+    thread::scope(|scope| {
+        for start in 0..threads {
+            let check = &check;
+            scope.spawn(move || {
+                for len in 0..=most {
+                    let mut list = vec![items[0]; len as usize];
+                    for index in (start..items.len().pow(len)).step_by(threads) {
+                        let mut left = index;
+                        for item in &mut list {
+                            *item = items[left % items.len()];
+                            left /= items.len();
+                        }
+                        check(&list);
+                    }
+                }
+            });
+        }
+    });
+}
+
+const EDGES: [u8; 8] = [0, 0x4F, 0x50, 0x7F, 0x80, 0x8F, 0x90, 0xFF];
+
+/// Identifiers of many lengths.
+fn valid() -> Vec<Vec<u8>> {
+    let groups: [&[u8]; 5] = [
+        &[0],
+        &[0x7F],
+        &[0x81, 0],
+        &[0x82, 0x80, 1],
+        &[0x8F, 0xFF, 0xFF, 0xFF, 0x7F],
+    ];
+    let lengths = (1..=60)
+        .chain(250..=260)
+        .chain([300, 1_021, 4_095, 4_096, 4_097, 9_000]);
+    let mut out: Vec<Vec<u8>> = (0..0x80).map(|octet| vec![octet]).collect();
+    for len in lengths {
+        for group in groups {
+            for root in [0x2A, 0x4F, 0x50] {
+                let mut octets = vec![root];
+                octets.extend(
+                    group
+                        .iter()
+                        .copied()
+                        .cycle()
+                        .take((len - 1) / group.len() * group.len()),
+                );
+                out.push(octets);
+            }
+        }
+    }
+    out
+}
+
+#[test]
+fn all_octets() {
+    let octets: Vec<u8> = (0..=255).collect();
+    all(&octets, 3, check_octets);
+}
+
+#[test]
+fn octets_at_edges() {
+    all(&EDGES, 8, check_octets);
+    all(&EDGES, 4, |octets| {
+        if let Ok(arcs) = model::of_octets(octets) {
+            check_borrowed(octets, &arcs);
+        }
+    });
+}
+
+#[test]
+fn long_octets() {
+    for octets in valid() {
+        check_octets(&octets);
+        check_borrowed(&octets, &model::of_octets(&octets).unwrap());
+        for octet in [0x80, 0x81, 0xFF] {
+            check_octets(&[&octets[..], &[octet]].concat());
+        }
+        check_octets(&[&octets[..], &[0x90, 0x80, 0x80, 0x80, 0]].concat());
+    }
+}
+
+#[test]
+fn pairs() {
+    let valid: Vec<Vec<u8>> = valid()
+        .into_iter()
+        .filter(|octets| octets.len() < 90)
+        .step_by(3)
+        .collect();
+    for a in &valid {
+        for b in &valid {
+            check_pair(a, b);
+        }
+    }
+    all(&EDGES, 6, |octets| {
+        let (a, b) = octets.split_at(octets.len() / 2);
+        if model::of_octets(a).is_ok() && model::of_octets(b).is_ok() {
+            check_pair(a, b);
+        }
+    });
+}
+
+#[test]
+fn texts() {
+    all(b"01234 9.x", 8, |text| {
+        let text = std::str::from_utf8(text).unwrap();
+        check_text(text);
+        if text.len() < 8 {
+            each_capacity!(read_text(text));
+        }
+    });
+    all(
+        &[
+            "0",
+            "1",
+            "2",
+            "39",
+            "40",
+            ".",
+            "4294967295",
+            "4294967296",
+            "00",
+            "é",
+            "99999999999999999999",
+        ],
+        5,
+        |pieces| {
+            let text = pieces.concat();
+            check_text(&text);
+            each_capacity!(read_text(&text));
+        },
+    );
+}
+
+#[test]
+fn arcs() {
+    all(
+        &[
+            0,
+            1,
+            2,
+            3,
+            39,
+            40,
+            47,
+            48,
+            127,
+            128,
+            16_383,
+            16_384,
+            u32::MAX,
+        ],
+        5,
+        |arcs| {
+            each_capacity!(read_arcs(arcs));
+        },
+    );
+    for len in 0..300 {
+        for arc in [0, 128, u32::MAX] {
+            let arcs = [&[2, 999][..], &[arc].repeat(len)].concat();
+            each_capacity!(read_arcs(&arcs));
+        }
+    }
+}
+
+#[test]
+fn subtrees() {
+    let octets: Vec<Vec<u8>> = valid()
+        .into_iter()
+        .filter(|octets| octets.len() < 12)
+        .collect();
+    let mut sorted: Vec<&ObjectIdentifierRef> = octets
+        .iter()
+        .map(|octets| ObjectIdentifierRef::from_bytes(octets).unwrap())
+        .collect();
+    sorted.sort_by_key(|oid| oid.as_bytes());
+    for prefix in &octets {
+        let start = sorted
+            .iter()
+            .filter(|oid| oid.as_bytes() < &prefix[..])
+            .count();
+        let inside = sorted
+            .iter()
+            .filter(|oid| oid.as_bytes().starts_with(prefix))
+            .count();
+        let oid = ObjectIdentifierRef::from_bytes(prefix).unwrap();
+        assert_eq!(oid.subtree(&sorted), (start, start + inside));
+        assert_eq!(
+            ObjectIdentifier::<39>::try_from(oid)
+                .unwrap()
+                .subtree(&sorted),
+            (start, start + inside)
+        );
+    }
+}
