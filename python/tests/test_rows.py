@@ -1,0 +1,72 @@
+"""The stored rows of the library for C."""
+import pathlib
+import unittest
+
+from const_oid import ObjectIdentifier, OidError
+
+ROWS = pathlib.Path(__file__).resolve().parents[2] / "crates/const_oid_c/tests/rows.txt"
+
+
+def oid_of(digits):
+    return ObjectIdentifier.from_bytes(bytes.fromhex(digits))
+
+
+def digits_of(oid):
+    return "none" if oid is None else bytes(oid).hex().upper()
+
+
+def printed(digits):
+    oid = oid_of(digits)
+    return " ".join([f"{oid},", str(len(oid)), "arcs", *map(str, oid)])
+
+
+def whether(holds):
+    return "yes" if holds else "no"
+
+
+def order_of(left, right):
+    return "less" if left < right else "greater" if left > right else "equal"
+
+
+def pair(call):
+    return lambda words: call(*map(oid_of, words.split(" ")))
+
+
+CALLS = {
+    "text": lambda text: digits_of(ObjectIdentifier(text)),
+    "bytes": lambda digits: digits_of(ObjectIdentifier(bytes.fromhex(digits).decode("utf-8", "surrogateescape"))),
+    "octets": printed,
+    "arcs": lambda arcs: digits_of(ObjectIdentifier.from_arcs(map(int, arcs.split()))),
+    "parent": lambda digits: digits_of(oid_of(digits).parent),
+    "child": lambda words: digits_of(oid_of(words.split(" ")[0]).child(int(words.split(" ")[1]))),
+    "begins": pair(lambda oid, prefix: whether(oid.starts_with(prefix))),
+    "equal": pair(lambda left, right: whether(left == right)),
+    "by_arcs": pair(order_of),
+    "error": lambda words: str(OidError(*map(int, words.split(" ")))),
+    "message": lambda words: str(OidError(*map(int, words.split(" ")))).encode().hex().upper(),
+}
+
+# What this package has no call for: the other orders, and lists. `error` has rows of codes that there are not.
+LEFT_OUT = {"owned", "borrowed", "subtree"}
+
+
+def answer(call, words):
+    try:
+        return CALLS[call](words)
+    except OidError as error:
+        return "no text" if error.code == 11 else f"error {error.code} {error.detail}: {error}"
+
+
+class Rows(unittest.TestCase):
+    def test_rows(self):
+        found = set()
+        for row in ROWS.read_text(encoding="utf-8").split("\n"):
+            if row.startswith("#") or " = " not in row:
+                continue
+            given, _, wanted = row.partition(" = ")
+            call, _, words = given.partition(" ")
+            found.add(call)
+            if call not in LEFT_OUT and not (call == "error" and wanted == "none"):
+                with self.subTest(row[:200]):
+                    self.assertEqual(wanted, answer(call, words))
+        self.assertEqual(found, {*CALLS, *LEFT_OUT})
