@@ -13,7 +13,7 @@ use std::process::{Command, ExitCode, Stdio};
 use std::time::Instant;
 use std::{env, thread};
 
-/// Compares the answers of both sides to inputs that both should answer alike: without groups that begin with 0x80, arcs
+/// Compares the results of both sides for inputs where both should be alike: without groups that begin with 0x80, arcs
 /// past 32 bits and second arcs past 39. Returns the number of differences, and prints the first ones.
 fn differences(dice: &mut Dice) -> usize {
     let of_octets: [(&str, Call, Call, u64); 9] = [

@@ -3,7 +3,7 @@
 use crate::sides::*;
 use std::hint::black_box;
 
-/// An operation at a size. `run` repeats it, on our side (0) or on the Rust crate (1), and sums the answers.
+/// An operation at a size. `run` repeats it, on our side (0) or on the Rust crate (1), and sums the results.
 pub struct Row {
     pub name: String,
     pub size: String,
@@ -40,7 +40,7 @@ impl Dice {
     }
 }
 
-/// The answer of a call and its output.
+/// The result of a call and its output.
 pub fn answer(call: Call, input: &[u8], number: u64) -> (u64, Vec<u8>) {
     let mut output = vec![0; 64 + 4 * input.len()];
     let answer = unsafe { call(input.as_ptr(), input.len(), number, output.as_mut_ptr(), output.len()) };
@@ -93,7 +93,47 @@ pub fn small(dice: &mut Dice) -> Vec<Row> {
         let size = format!("{octets} octets");
         rows.push(of_calls("from_bytes and Display", &size, 1.0, &set, 0, [ours_display, rust_display]));
     }
+    rows.extend(sorted_rows("names", &names_table()));
+    let many = (0..100_000).map(|index| format!("1.3.6.1.4.1.{}.2.{}", index / 1000 * 300, index % 1000));
+    rows.extend(sorted_rows("100000", &many.collect::<Vec<_>>()));
     rows
+}
+
+/// The texts of the table that `NAMES` names, if it does.
+fn names_table() -> Vec<String> {
+    let Some(table) = std::env::var("NAMES").ok().and_then(|path| std::fs::read_to_string(path).ok()) else {
+        return vec![];
+    };
+    let rows = table.lines().filter(|row| !row.starts_with('#'));
+    rows.filter_map(|row| Some(row.split('\t').nth(2)?.to_string())).collect()
+}
+
+/// Look-ups in a table of these texts, and of `nearest` of children.
+fn sorted_rows(size: &str, texts: &[String]) -> Vec<Row> {
+    let pieces = |last: &str| -> Vec<u8> {
+        let piece = |text: &String| {
+            let oid = const_oid::ObjectIdentifier::new_unwrap(&format!("{text}{last}"));
+            let mut piece = [&[oid.as_bytes().len() as u8], oid.as_bytes()].concat();
+            piece.resize(16, 0);
+            piece
+        };
+        texts.iter().flat_map(piece).collect()
+    };
+    let (table, children) = (pieces(""), pieces(".3"));
+    // By octets, as Rust's side does `by_oid`, a comparison is shorter.
+    let operations = [
+        ("scanned", 1.0, 0, &table),
+        ("by_oid", 1.5, 1, &table),
+        ("nearest", 1.0, 2, &children),
+        ("subtree", 1.5, 3, &table),
+        ("next_after", 1.0, 4, &table),
+    ];
+    let row = |(name, goal, operation, keys): (&str, f64, u64, &Vec<u8>)| {
+        let (table, keys) = (table.clone(), keys.clone());
+        let run = move |ours, rounds| sorted(ours, &table, &keys, operation, rounds);
+        of_rounds(&format!("sorted {name}"), size, goal, 1, run)
+    };
+    if texts.is_empty() { vec![] } else { operations.into_iter().map(row).collect() }
 }
 
 /// All rows: small identifiers, long inputs, lists and tables.

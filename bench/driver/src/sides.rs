@@ -62,6 +62,7 @@ calls! {
 unsafe extern "C" {
     fn ours_repeated(set: *const u8, length: usize, size: u64, operation: u64, number: u64, rounds: u64) -> u64;
     fn ours_subtree(set: *const u8, length: usize, rounds: u64) -> u64;
+    fn ours_sorted(table: *const u8, length: usize, keys: *const u8, keys_len: usize, operation: u64, rounds: u64) -> u64;
     fn ours_names(set: *const u8, length: usize, size: u64, names: *const u8, bytes: usize, by_name: bool, rounds: u64) -> u64;
 }
 
@@ -104,7 +105,7 @@ pub fn names(ours: bool, set: &[u8], size: usize, names: &str, by_name: bool, ro
     }
     let oids = read(set, size);
     let entries: Vec<(&Oid, &str)> = oids.iter().zip(names.lines()).collect();
-    // The crate makes only its own table. A `Database` has one field, which is this slice. The answers are compared.
+    // The crate makes only its own table. A `Database` has one field, which is this slice. The results are compared.
     let table = unsafe { mem::transmute::<&[(&Oid, &str)], Database<'_>>(&entries) };
     let mut total = 0u64;
     for round in 0..rounds {
@@ -117,6 +118,57 @@ pub fn names(ours: bool, set: &[u8], size: usize, names: &str, by_name: bool, ro
         total = total.wrapping_mul(31).wrapping_add(found);
     }
     total
+}
+
+/// Looks keys up in a table. The crate has no such look-up, so its side halves a list by std: one that is sorted by octets,
+/// or, for the next entry, by arcs.
+pub fn sorted(ours: bool, table: &[u8], keys: &[u8], operation: u64, rounds: u64) -> u64 {
+    if ours {
+        return unsafe { ours_sorted(table.as_ptr(), table.len(), keys.as_ptr(), keys.len(), operation, rounds) };
+    }
+    let (oids, keys) = (read_pieces(table), read_pieces(keys));
+    let entries: Vec<(&Oid, &str)> = oids.iter().map(|oid| (oid, "name")).collect();
+    // As in `names`.
+    let database = unsafe { mem::transmute::<&[(&Oid, &str)], Database<'_>>(&entries) };
+    let mut list: Vec<&ObjectIdentifierRef> = oids.iter().map(|oid| oid.as_oid_ref()).collect();
+    match operation {
+        4 => list.sort_by(|a, b| a.arcs().cmp(b.arcs())),
+        _ => list.sort(),
+    }
+    let mut total = 0u64;
+    for round in 0..rounds {
+        let key = &keys[scattered(round, keys.len())];
+        let oid = key.as_oid_ref();
+        let found = match operation {
+            0 => database.by_oid(key).map_or(0, |name| name.len()),
+            1 => list.binary_search(&oid).map_or(0, |_| "name".len()),
+            2 => nearest(&list, *key).map_or(0, |oid| oid.as_bytes().len()),
+            3 => {
+                let from = &list[list.partition_point(|other| *other < oid)..];
+                from.partition_point(|other| other.as_bytes().starts_with(oid.as_bytes()))
+            }
+            _ => {
+                let index = list.partition_point(|other| other.arcs().cmp(oid.arcs()).is_le());
+                list.get(index).map_or(0, |oid| oid.as_bytes().len())
+            }
+        };
+        total = total.wrapping_mul(31).wrapping_add(found as u64);
+    }
+    total
+}
+
+/// The identifier itself or the nearest one above it that a list has.
+fn nearest(list: &[&ObjectIdentifierRef], mut oid: Oid) -> Option<Oid> {
+    while list.binary_search(&oid.as_oid_ref()).is_err() {
+        oid = oid.parent()?;
+    }
+    Some(oid)
+}
+
+/// Reads identifiers in pieces of 16 octets: the length of each, its octets, and zeros.
+fn read_pieces(set: &[u8]) -> Vec<Oid> {
+    let pieces = set.chunks_exact(16);
+    pieces.map(|piece| Oid::from_bytes(&piece[1..][..usize::from(piece[0])]).unwrap()).collect()
 }
 
 fn once(oids: &[Oid], partners: &mut [Oid], operation: u64, number: u64) -> u64 {

@@ -1,0 +1,113 @@
+//! driver SIDE ROW SIZE TIMES: one operation of one crate, so many times. `run` counts its instructions.
+
+use std::fmt::Write;
+use std::hash::{DefaultHasher, Hash, Hasher};
+use std::hint::black_box;
+
+/// A short, a typical and a long identifier.
+const TEXTS: [&str; 3] = [
+    "2.5.4.3",
+    "1.2.840.113549.1.1.11",
+    "1.3.6.1.4.1.311.21.8.4294967295.268435456.2097152.16384.128.127.1.99999.4.7.1000000",
+];
+
+/// A place for a text.
+struct Text {
+    bytes: [u8; 400],
+    len: usize,
+}
+
+impl Write for Text {
+    fn write_str(&mut self, piece: &str) -> std::fmt::Result {
+        let end = self.len + piece.len();
+        let free = self.bytes.get_mut(self.len..end).ok_or(std::fmt::Error)?;
+        free.copy_from_slice(piece.as_bytes());
+        self.len = end;
+        Ok(())
+    }
+}
+
+macro_rules! side {
+    ($side:ident) => {
+        mod $side {
+            use super::*;
+            use ::$side::{ObjectIdentifier, ObjectIdentifierRef};
+
+            fn repeat<T>(times: usize, call: impl Fn() -> T) {
+                for _ in 0..times {
+                    black_box(call());
+                }
+            }
+
+            pub fn run(row: &str, size: usize, times: usize) {
+                let text = TEXTS[size];
+                let oid = ObjectIdentifier::new(text).unwrap();
+                let last = oid.arcs().last().unwrap();
+                let parent = oid.parent().unwrap();
+                let next = parent
+                    .push_arc(if last == 1 { 2 } else { last - 1 })
+                    .unwrap();
+                let octets = oid.as_bytes();
+                let (oid, next, parent) = (&oid, &next, &parent);
+                let (borrowed, other) = (oid.as_oid_ref(), next.as_oid_ref());
+                match row {
+                    "new" => repeat(times, || ObjectIdentifier::new(black_box(text)).is_ok()),
+                    "from_bytes, borrowed" => repeat(times, || {
+                        ObjectIdentifierRef::from_bytes(black_box(octets)).is_ok()
+                    }),
+                    "from_bytes, owned" => {
+                        repeat(times, || ObjectIdentifier::from_bytes(black_box(octets)))
+                    }
+                    "Display" => repeat(times, || {
+                        let mut text = Text {
+                            bytes: [0; 400],
+                            len: 0,
+                        };
+                        write!(text, "{}", black_box(oid)).map(|()| text.len)
+                    }),
+                    "len" => repeat(times, || black_box(oid).len()),
+                    "arc(3)" => repeat(times, || black_box(oid).arc(black_box(3))),
+                    "arcs, all" => repeat(times, || {
+                        black_box(oid).arcs().fold(0, |all, arc| all ^ arc)
+                    }),
+                    "parent" => repeat(times, || black_box(oid).parent()),
+                    "push_arc(300)" => {
+                        repeat(times, || black_box(*parent).push_arc(black_box(300)))
+                    }
+                    "starts_with, the parent" => {
+                        repeat(times, || black_box(oid).starts_with(*black_box(parent)))
+                    }
+                    "==, the next" => repeat(times, || black_box(oid) == black_box(next)),
+                    "==, itself" => repeat(times, || black_box(oid) == black_box(oid)),
+                    "==, borrowed, the next" => {
+                        repeat(times, || black_box(borrowed) == black_box(other))
+                    }
+                    "cmp, owned, the next" => repeat(times, || black_box(oid).cmp(black_box(next))),
+                    "cmp, borrowed, the next" => {
+                        repeat(times, || black_box(borrowed).cmp(black_box(other)))
+                    }
+                    "hash" => repeat(times, || {
+                        let mut hasher = DefaultHasher::new();
+                        black_box(oid).hash(&mut hasher);
+                        hasher.finish()
+                    }),
+                    _ => panic!("no row {row}"),
+                }
+            }
+        }
+    };
+}
+
+side!(ours);
+side!(theirs);
+
+fn main() {
+    let arguments: Vec<String> = std::env::args().collect();
+    let number = |at: usize| arguments[at].parse().unwrap();
+    let run = if arguments[1] == "ours" {
+        ours::run
+    } else {
+        theirs::run
+    };
+    run(&arguments[2], number(3), number(4));
+}
