@@ -1,6 +1,5 @@
 use Rattle.std.proofs.Common.{ap, sym, ◌∙◌}
 use Rattle.hex.specs.Hex.{encode_lower}
-use Rattle.const_oid.specs.Identifier.{root_rule}
 use Rattle.const_oid.proofs.Encodings.{encoding_of-encoded}
 use Rattle.oid_tool.specs.Answers.{hex_line}
 use Rattle.oid_tool.proofs.Commands.{stands_as, denoted_line_read}
