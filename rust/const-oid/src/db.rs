@@ -4,6 +4,8 @@ pub use crate::erased::db::Database;
 pub use crate::erased::db::Names;
 pub use crate::erased::db::SortedDatabase;
 
+use crate::{ObjectIdentifier, ObjectIdentifierRef};
+
 /// The modules, and [`DB`] over all of their entries, in order.
 macro_rules! names {
     ($($module:ident { $($constant:ident = $arcs:literal, $name:literal;)* })*) => {
@@ -29,8 +31,12 @@ macro_rules! names {
         /// ```
         /// assert_eq!(const_oid::db::DB.resolve("1.2.840.10045.2.1"), Ok("id-ecPublicKey"));
         /// ```
-        pub const DB: Database<'static> =
-            Database::new(&[$($((&$module::$constant, $name),)*)*]);
+        pub const DB: Database<'static> = Database::new(&ENTRIES);
+
+        /// The entries of [`DB`]. They are a `static`, so that a crate with a look-up in a constant reads their value,
+        /// and does not parse all texts again.
+        static ENTRIES: [(&ObjectIdentifier, &str); [$($($name,)*)*].len()] =
+            [$($((&$module::$constant, $name),)*)*];
     };
 }
 
@@ -44,8 +50,11 @@ macro_rules! sorted {
         ///
         /// assert_eq!(SORTED.by_oid(rfc4519::CN.as_oid_ref()), Some("cn"));
         /// ```
-        pub const SORTED: SortedDatabase<'static> =
-            SortedDatabase::new(&[$(($module::$constant.as_oid_ref(), $name),)*]);
+        pub const SORTED: SortedDatabase<'static> = SortedDatabase::new(&IN_ORDER);
+
+        /// The entries of [`SORTED`], as a `static`, as above.
+        static IN_ORDER: [(&ObjectIdentifierRef, &str); [$($name,)*].len()] =
+            [$(($module::$constant.as_oid_ref(), $name),)*];
     };
 }
 
