@@ -20,6 +20,12 @@ def printed(digits):
     return " ".join([f"{oid},", str(len(oid)), "arcs", *map(str, oid)])
 
 
+def arcs_from(words):
+    digits, first, room = words.split(" ")
+    arcs = oid_of(digits)[int(first) : int(first) + int(room)]
+    return " ".join([str(len(arcs)), "arcs", *map(str, arcs)])
+
+
 def whether(holds):
     return "yes" if holds else "no"
 
@@ -37,6 +43,7 @@ CALLS = {
     "bytes": lambda digits: digits_of(ObjectIdentifier(bytes.fromhex(digits).decode("utf-8", "surrogateescape"))),
     "octets": printed,
     "arcs": lambda arcs: digits_of(ObjectIdentifier.from_arcs(map(int, arcs.split()))),
+    "arcs_from": arcs_from,
     "parent": lambda digits: digits_of(oid_of(digits).parent),
     "child": lambda words: digits_of(oid_of(words.split(" ")[0]).child(int(words.split(" ")[1]))),
     "begins": pair(lambda oid, prefix: whether(oid.starts_with(prefix))),

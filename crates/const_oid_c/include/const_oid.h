@@ -164,6 +164,12 @@ const_oid_status const_oid_arc(const uint8_t *octets, size_t len, size_t index);
 const_oid_status const_oid_arcs(
     const uint8_t *octets, size_t len, uint32_t *CONST_OID_RESTRICT out, size_t out_len);
 
+/* Writes the arcs of octets of any length from the index `first` on, in order, as many as fit. `out_len`
+ * counts arcs. `len` is 0 past the last arc, and the code is never OUTPUT_TOO_SHORT. A loop over all arcs
+ * with a short output adds `len` to `first` until `len` is 0. */
+const_oid_status const_oid_arcs_from(
+    const uint8_t *octets, size_t len, size_t first, uint32_t *CONST_OID_RESTRICT out, size_t out_len);
+
 /* Writes the contents octets of arcs. Returns the code of the first wrong arc, ARC_INVALID or LENGTH,
  * or else EMPTY if there are fewer than two arcs. */
 const_oid_status const_oid_from_arcs(

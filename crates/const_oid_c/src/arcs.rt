@@ -1,5 +1,5 @@
 //! Octets to arcs, and arcs to octets.
-ghost use Rattle.std.specs.Prelude.{◌≡◌, ◌≤◌, ◌++◌, length, drop, min, slice_get};
+ghost use Rattle.std.specs.Prelude.{◌≡◌, ◌≤◌, ◌++◌, length, take, drop, min, slice_get};
 ghost use Rattle.const_oid.specs.Identifier.{root_rule};
 ghost use Rattle.const_oid.specs.Items.{item_answer};
 ghost use Rattle.const_oid.specs.Oid.{oid_answer};
@@ -98,14 +98,41 @@ pub extern "C" fn const_oid_arcs(octets: &[u8], out: &mut [u32]) -> Status
     len_status(len)
 }
 
-/// Writes arcs at the start of a slice, which is long enough.
-fn write_arcs(arcs: Arcs<'_>, out: &mut [u32])
-    requires { length arcs ≤ length out.old }
-    ensures { out.new ≡ arcs.entry ++ drop (length arcs.entry) out.old }
+/// Writes the arcs of contents octets of any length from an index on, as many as fit.
+#[unsafe(no_mangle)]
+pub extern "C" fn const_oid_arcs_from(octets: &[u8], first: usize, out: &mut [u32]) -> Status
+    ensures status { result ≡ output_status (length out.old) (output_of (λ arcs. take (length out.old) (drop first arcs)) (borrowed_answer octets.now)) }
+    ensures written { out.new ≡ output_after out.old (output_of (λ arcs. take (length out.old) (drop first arcs)) (borrowed_answer octets.now)) }
+{
+    match ObjectIdentifierRef::from_bytes(octets) {
+        Ok(oid) => len_status(write_arcs(skip_arcs(oid.arcs(), first), out)),
+        Err(fault) => error_status(fault),
+    }
+}
+
+/// The arcs after so many.
+fn skip_arcs(arcs: Arcs<'_>, count: usize) -> Arcs<'_>
+    ensures { result ≡ drop count arcs.entry }
+{
+    let mut left = arcs;
+    if count > 0 {
+        left.nth(count - 1);
+    }
+    left
+}
+
+/// Writes arcs at the start of a slice, as many as fit, and returns their number.
+fn write_arcs(arcs: Arcs<'_>, out: &mut [u32]) -> usize
+    ensures len { result ≡ length (take (length out.old) arcs.entry) }
+    ensures written { out.new ≡ take (length out.old) arcs.entry ++ drop result out.old }
 {
     let mut index = 0;
     for arc in arcs {
+        if index == out.len() {
+            break;
+        }
         out[index] = arc;
         index += 1;
     }
+    index
 }

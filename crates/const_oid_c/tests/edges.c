@@ -62,11 +62,22 @@ static void of_many(size_t count) {
     SEE(is(const_oid_arcs(octets, count, arcs, MOST + 1), CONST_OID_OK, 0, count + 1), count);
     SEE(arcs[0] == 1 && arcs[1] == 2 && (count < 2 || arcs[count] == 127), count);
     SEE(count == MOST || arcs[count + 1] == 0xEEEEEEEE, count);
+    memset(arcs, 0xEE, sizeof arcs);
+    SEE(is(const_oid_arcs_from(octets, count, 0, arcs, count), CONST_OID_OK, 0, count), count);
+    SEE(arcs[0] == 1 && (count < 3 || arcs[count - 1] == 127) && arcs[count] == 0xEEEEEEEE, count);
+    memset(arcs, 0xEE, sizeof arcs);
+    SEE(is(const_oid_arcs_from(octets, count, count, arcs, MOST), CONST_OID_OK, 0, 1), count);
+    SEE(arcs[0] == (count > 1 ? 127 : 2) && arcs[1] == 0xEEEEEEEE, count);
+    SEE(is(const_oid_arcs_from(octets, count, count + 1, arcs, MOST), CONST_OID_OK, 0, 0), count);
+    SEE(is(const_oid_arcs_from(octets, count, 1, NULL, 0), CONST_OID_OK, 0, 0), count);
     /* The last octet counts. */
     octets[count - 1] = 0x80;
     SEE(is(const_oid_check(octets, count), CONST_OID_BASE128, 0, 0), count);
     SEE(is(const_oid_to_text(octets, count, text, sizeof text), CONST_OID_BASE128, 0, 0), count);
     SEE(is(const_oid_arcs(octets, count, arcs, MOST + 1), CONST_OID_BASE128, 0, 0), count);
+    memset(arcs, 0xEE, sizeof arcs);
+    SEE(is(const_oid_arcs_from(octets, count, 0, arcs, 1), CONST_OID_BASE128, 0, 0), count);
+    SEE(arcs[0] == 0xEEEEEEEE, count);
     octets[count - 1] = 0x7F;
 }
 
@@ -138,14 +149,19 @@ static void of_lists(size_t count) {
     SEE(range.start == 7 && range.end == 7, count);
 }
 
-/* An index has 64 bits. */
+/* No bit of an index is lost, with 64 bits or with 32. */
 static void indices(void) {
     static const uint8_t oid[] = {0x2A, 0x03, 0x04};
-    static const size_t past[] = {4, 1u << 31, (size_t)1 << 32, ((size_t)1 << 32) + 2, ((size_t)1 << 63) + 1,
-        SIZE_MAX - 3, SIZE_MAX};
-    for (size_t i = 0; i < sizeof past / sizeof *past; i++)
-        SEE(is(const_oid_arc(oid, 3, past[i]), CONST_OID_NONE, 0, 0), past[i]);
+    static const uint64_t past[] = {4, 1u << 31, UINT64_C(1) << 32, (UINT64_C(1) << 32) + 2, (UINT64_C(1) << 63) + 1,
+        SIZE_MAX / 2 + 1, SIZE_MAX / 2 + 3, SIZE_MAX - 3, SIZE_MAX};
+    for (size_t i = 0; i < sizeof past / sizeof *past; i++) {
+        size_t index = (size_t)past[i];
+        if (index != past[i]) continue; /* size_t has 32 bits */
+        SEE(is(const_oid_arc(oid, 3, index), CONST_OID_NONE, 0, 0), index);
+        SEE(is(const_oid_arcs_from(oid, 3, index, arcs, MOST), CONST_OID_OK, 0, 0), index);
+    }
     SEE(is(const_oid_arc(oid, 3, 3), CONST_OID_OK, 4, 0), 3);
+    SEE(is(const_oid_arcs_from(oid, 3, 3, arcs, MOST), CONST_OID_OK, 0, 1), 3);
 }
 
 /* Outputs of each length near that of the answer: what is written, and what is not. */
@@ -186,7 +202,7 @@ static void null_with_length(void) {
     static const uint8_t oid[] = {0x2A, 0x03, 0x04};
     static const uint32_t four[] = {1, 2, 3, 4};
     const uint8_t *null = getenv("CONST_OID_NO_SUCH_VARIABLE") == NULL ? NULL : oid;
-    for (int call = 0; call < 9; call++) {
+    for (int call = 0; call < 10; call++) {
         fflush(NULL);
         pid_t child = fork();
         if (child == 0) {
@@ -202,6 +218,7 @@ static void null_with_length(void) {
                 case 5: const_oid_error_text(CONST_OID_EMPTY, 0, (uint8_t *)null, 20); break;
                 case 6: const_oid_arcs(oid, 3, (uint32_t *)null, 5); break;
                 case 7: const_oid_check(null, 5); break;
+                case 8: const_oid_arcs_from(oid, 3, 1, (uint32_t *)null, 5); break;
                 default: const_oid_from_text(null, 5, octets, 5); break;
             }
             _exit(0);

@@ -93,6 +93,21 @@ static void text_row(const uint8_t *text, size_t len) {
     written(status, out);
 }
 
+/* Fails unless calls with an output of so many arcs find all arcs, one after another. */
+static void walked(const bytes *row, const uint32_t *arcs, size_t count, size_t room) {
+    size_t first = 0, len = 0;
+    do {
+        uint32_t out[17];
+        memset(out, 0xEE, sizeof out);
+        const_oid_status status = const_oid_arcs_from(row->octets, row->len, first, out, room);
+        len = count - first < room ? count - first : room;
+        if (status.code != CONST_OID_OK || status.len != len) fail("a walk has another number of arcs");
+        if (memcmp(out, arcs + first, len * sizeof *out) != 0) fail("an arc of a walk differs");
+        if (out[len] != 0xEEEEEEEE) fail("a walk wrote past its arcs");
+        first += len;
+    } while (len != 0);
+}
+
 static void octets_row(char *rest) {
     bytes row = read_hex(word(&rest));
     static uint8_t text[4 * MOST];
@@ -103,7 +118,9 @@ static void octets_row(char *rest) {
     const_oid_status printed = const_oid_to_text(row.octets, row.len, text, sizeof text);
     const_oid_status count = const_oid_len(row.octets, row.len);
     const_oid_status all = const_oid_arcs(row.octets, row.len, arcs, MOST + 1);
-    if (checked.code != printed.code || checked.code != count.code || checked.code != all.code)
+    const_oid_status none = const_oid_arcs_from(row.octets, row.len, 0, few, 0);
+    if (checked.code != printed.code || checked.code != count.code || checked.code != all.code
+        || checked.code != none.code)
         fail("calls over the same octets differ");
     if (checked.code != CONST_OID_OK) {
         refused(printed);
@@ -121,6 +138,9 @@ static void octets_row(char *rest) {
     }
     if (const_oid_arc(row.octets, row.len, count.len).code != CONST_OID_NONE)
         fail("there is an arc past the last");
+    walked(&row, arcs, count.len, 1);
+    walked(&row, arcs, count.len, 2);
+    walked(&row, arcs, count.len, 16);
 }
 
 static void arcs_row(char *rest) {
@@ -129,6 +149,21 @@ static void arcs_row(char *rest) {
     size_t len = 0;
     while (*rest != 0 && len < MOST) arcs[len++] = number(&rest);
     written(const_oid_from_arcs(arcs, len, out, sizeof out), out);
+}
+
+static void arcs_from_row(char *rest) {
+    static uint32_t out[MOST];
+    bytes row = read_hex(word(&rest));
+    size_t first = number(&rest);
+    size_t room = number(&rest);
+    if (room > MOST) fail("a row is too long");
+    const_oid_status status = const_oid_arcs_from(row.octets, row.len, first, out, room);
+    if (status.code != CONST_OID_OK) {
+        refused(status);
+        return;
+    }
+    printf("%zu arcs", status.len);
+    for (size_t i = 0; i < status.len; i++) printf(" %" PRIu32, out[i]);
 }
 
 static void subtree_row(char *rest) {
@@ -193,6 +228,8 @@ static void answer(const char *call, char *rest) {
         octets_row(rest);
     } else if (strcmp(call, "arcs") == 0) {
         arcs_row(rest);
+    } else if (strcmp(call, "arcs_from") == 0) {
+        arcs_from_row(rest);
     } else if (strcmp(call, "parent") == 0) {
         bytes row = read_hex(word(&rest));
         written(const_oid_parent(row.octets, row.len, out, sizeof out), out);

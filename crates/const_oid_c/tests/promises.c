@@ -33,6 +33,7 @@ static void null_inputs(void) {
     SEE(is(const_oid_len(NULL, 0), CONST_OID_EMPTY, 0, 0));
     SEE(is(const_oid_arc(NULL, 0, 0), CONST_OID_EMPTY, 0, 0));
     SEE(is(const_oid_arcs(NULL, 0, arcs, 8), CONST_OID_EMPTY, 0, 0));
+    SEE(is(const_oid_arcs_from(NULL, 0, 0, arcs, 8), CONST_OID_EMPTY, 0, 0));
     SEE(is(const_oid_from_arcs(NULL, 0, out, sizeof out), CONST_OID_EMPTY, 0, 0));
     SEE(is(const_oid_parent(NULL, 0, out, sizeof out), CONST_OID_EMPTY, 0, 0));
     SEE(is(const_oid_push_arc(NULL, 0, 1, out, sizeof out), CONST_OID_EMPTY, 0, 0));
@@ -60,6 +61,8 @@ static void null_outputs(void) {
     SEE(is(const_oid_from_text(text, 7, NULL, 0), CONST_OID_OUTPUT_TOO_SHORT, 0, 3));
     SEE(is(const_oid_to_text(oid, 3, NULL, 0), CONST_OID_OUTPUT_TOO_SHORT, 0, 7));
     SEE(is(const_oid_arcs(oid, 3, NULL, 0), CONST_OID_OUTPUT_TOO_SHORT, 0, 4));
+    SEE(is(const_oid_arcs_from(oid, 3, 0, NULL, 0), CONST_OID_OK, 0, 0));
+    SEE(is(const_oid_arcs_from(oid, 3, 4, NULL, 0), CONST_OID_OK, 0, 0));
     SEE(is(const_oid_from_arcs(arcs, 4, NULL, 0), CONST_OID_OUTPUT_TOO_SHORT, 0, 3));
     SEE(is(const_oid_parent(oid, 3, NULL, 0), CONST_OID_OUTPUT_TOO_SHORT, 0, 2));
     SEE(is(const_oid_push_arc(oid, 3, 128, NULL, 0), CONST_OID_OUTPUT_TOO_SHORT, 0, 5));
@@ -67,6 +70,7 @@ static void null_outputs(void) {
     SEE(is(const_oid_from_text(NULL, 0, NULL, 0), CONST_OID_EMPTY, 0, 0));
     SEE(is(const_oid_to_text(NULL, 0, NULL, 0), CONST_OID_EMPTY, 0, 0));
     SEE(is(const_oid_arcs(NULL, 0, NULL, 0), CONST_OID_EMPTY, 0, 0));
+    SEE(is(const_oid_arcs_from(NULL, 0, 0, NULL, 0), CONST_OID_EMPTY, 0, 0));
     SEE(is(const_oid_from_arcs(NULL, 0, NULL, 0), CONST_OID_EMPTY, 0, 0));
     SEE(is(const_oid_parent(NULL, 0, NULL, 0), CONST_OID_EMPTY, 0, 0));
     SEE(is(const_oid_push_arc(NULL, 0, 1, NULL, 0), CONST_OID_EMPTY, 0, 0));

@@ -163,6 +163,7 @@ writes!(texts, const_oid_from_text, u8, u8);
 writes!(texts, const_oid_to_text, u8, u8);
 writes!(arcs, const_oid_from_arcs, u32, u8);
 writes!(arcs, const_oid_arcs, u8, u32);
+writes!(arcs, const_oid_arcs_from, u8, u32, first: usize);
 writes!(tree, const_oid_parent, u8, u8);
 writes!(tree, const_oid_push_arc, u8, u8, arc: u32);
 

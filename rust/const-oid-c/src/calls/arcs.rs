@@ -72,11 +72,36 @@ pub fn const_oid_arcs(octets: &[u8], out: &mut crate::edge::Output<u32>) -> Stat
     len_status(len)
 }
 
-/// Writes arcs at the start of a slice, which is long enough.
-fn write_arcs(arcs: Arcs<'_>, out: &mut crate::edge::Output<u32>) {
+/// Writes the arcs of contents octets of any length from an index on, as many as fit.
+pub fn const_oid_arcs_from(
+    octets: &[u8],
+    first: usize,
+    out: &mut crate::edge::Output<u32>,
+) -> Status {
+    match ObjectIdentifierRef::from_bytes(octets) {
+        Ok(oid) => len_status(write_arcs(skip_arcs(oid.arcs(), first), out)),
+        Err(fault) => error_status(fault),
+    }
+}
+
+/// The arcs after so many.
+fn skip_arcs(arcs: Arcs<'_>, count: usize) -> Arcs<'_> {
+    let mut left = arcs;
+    if count > 0 {
+        left.nth(count - 1);
+    }
+    left
+}
+
+/// Writes arcs at the start of a slice, as many as fit, and returns their number.
+fn write_arcs(arcs: Arcs<'_>, out: &mut crate::edge::Output<u32>) -> usize {
     let mut index = 0;
     for arc in arcs {
+        if index == out.len() {
+            break;
+        }
         out[index].write(arc);
         index += 1;
     }
+    index
 }
