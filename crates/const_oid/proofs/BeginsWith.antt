@@ -26,44 +26,37 @@ chain_not_empty (a ∷ g) x c e = cc
 -- numbers whose groups begin others
 numbers_prefix : (ns ms : List ℕ) (gs hs : List (List ℕ)) (rest : List ℕ) → AllZip IsGroup ns gs → AllZip IsGroup ms hs → concat hs ≡ concat gs ++ rest → (more : List ℕ) × (ms ≡ ns ++ more)
 numbers_prefix [] ms [] hs rest p q e = (ms, refl)
-numbers_prefix [] ms (g ∷ gs) hs rest p q e = absurd p
-numbers_prefix (n ∷ ns) ms [] hs rest p q e = absurd p
-numbers_prefix (n ∷ ns) [] (g ∷ gs) [] rest p q e = absurd (chain_not_empty g (concat gs ++ rest) p.0.continued (e ∙ append_assoc g (concat gs) rest))
-numbers_prefix (n ∷ ns) [] (g ∷ gs) (h ∷ hs) rest p q e = absurd q
-numbers_prefix (n ∷ ns) (m ∷ ms) (g ∷ gs) [] rest p q e = absurd q
 numbers_prefix (n ∷ ns) (m ∷ ms) (g ∷ gs) (h ∷ hs) rest p q e =
     let (same, others) = same_prefix h g (concat hs) (concat gs ++ rest) q.0.continued p.0.continued (e ∙ append_assoc g (concat gs) rest) in
     let (more, f) = numbers_prefix ns ms gs hs rest p.1 q.1 others in
     let s : m ≡ n = q.0.value ∙ ap value_of same ∙ sym p.0.value in
     (more, cc)
+numbers_prefix (n ∷ ns) [] (g ∷ gs) [] rest p q e = absurd (chain_not_empty g (concat gs ++ rest) p.0.continued (e ∙ append_assoc g (concat gs) rest))
+numbers_prefix _ _ _ _ rest p q e = absurd assumption
 
 -- groups of numbers that begin others
 octets_prefix : (ns more : List ℕ) (gs hs : List (List ℕ)) → AllZip IsGroup ns gs → AllZip IsGroup (ns ++ more) hs → (rest : List ℕ) × (concat hs ≡ concat gs ++ rest)
 octets_prefix [] more [] hs p q = (concat hs, refl)
-octets_prefix [] more (g ∷ gs) hs p q = absurd p
-octets_prefix (n ∷ ns) more [] hs p q = absurd p
-octets_prefix (n ∷ ns) more (g ∷ gs) [] p q = absurd q
 octets_prefix (n ∷ ns) more (g ∷ gs) (h ∷ hs) p q =
     let (rest, e) = octets_prefix ns more gs hs p.1 q.1 in
     (rest, ap₂ (λ x y. x ++ y) (same_group q.0 p.0) e ∙ sym (append_assoc g (concat gs) rest))
+octets_prefix _ more _ _ p q = absurd assumption
 
 -- the arcs of p begin those of x
 pub arcs_prefix : (rule : RootRule) (p x a b : List ℕ) → IsEncoding rule p a → IsEncoding rule x b → BeginsWith b a → BeginsWith x p
-arcs_prefix rule [] x a b e f s = absurd e.identifier
-arcs_prefix rule (c ∷ []) x a b e f s = absurd e.identifier
 arcs_prefix rule (c ∷ d ∷ later) x a b e f (rest, s) =
     let p = c ∷ d ∷ later in
     let (more, t) = numbers_prefix (subidentifiers p) (subidentifiers x) e.groups f.groups rest e.each f.each (sym f.joined ∙ s ∙ ap (λ y. y ++ rest) e.joined) in
     (more, sym (arcs_back rule x f.identifier) ∙ ap arcs_from t ∙ arcs_from-append (40 * c + d) later more ∙ ap (λ y. y ++ more) (arcs_back rule p e.identifier))
+arcs_prefix rule _ x a b e f s = absurd e.identifier
 
 -- the octets of p begin those of x
 pub encoding_prefix : (rule : RootRule) (p x a b : List ℕ) → IsEncoding rule p a → IsEncoding rule x b → BeginsWith x p → BeginsWith b a
-encoding_prefix rule [] x a b e f s = absurd e.identifier
-encoding_prefix rule (c ∷ []) x a b e f s = absurd e.identifier
 encoding_prefix rule (c ∷ d ∷ later) x a b e f (more, s) =
     let p = c ∷ d ∷ later in
     let (rest, t) = octets_prefix (subidentifiers p) more e.groups f.groups e.each (rw (ap subidentifiers s) at f.each) in
     (rest, f.joined ∙ t ∙ ap (λ y. y ++ rest) (sym e.joined))
+encoding_prefix rule _ x a b e f s = absurd e.identifier
 
 -- encodings begin others exactly where their arcs begin theirs
 pub iff_begins : {rule : RootRule} {x p b a : List ℕ} (P : Type 0) → IsEncoding rule x b → IsEncoding rule p a → P ↔ BeginsWith b a → P ↔ BeginsWith x p

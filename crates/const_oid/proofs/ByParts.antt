@@ -84,10 +84,7 @@ numbers_cmp [] [] [] [] p q = refl
 numbers_cmp [] (m ∷ ms) [] (h ∷ hs) p q = refl
 numbers_cmp (n ∷ ns) [] (g ∷ gs) [] p q = refl
 numbers_cmp (n ∷ ns) (m ∷ ms) (g ∷ gs) (h ∷ hs) p q = rw (groups_short p.0 q.0, numbers_cmp ns ms gs hs p.1 q.1)
-numbers_cmp [] ms (g ∷ gs) hs p q = absurd p
-numbers_cmp (n ∷ ns) ms [] hs p q = absurd p
-numbers_cmp ns [] gs (h ∷ hs) p q = absurd q
-numbers_cmp ns (m ∷ ms) gs [] p q = absurd q
+numbers_cmp _ _ _ _ p q = absurd assumption
 
 -- first numbers are in the order of the first two arcs
 root_cmp : (rule : RootRule) (a b c d : ℕ) → b ≤ max_second rule a → d ≤ max_second rule c → a ≤ 2 → c ≤ 2 → nat_cmp (40 * a + b) (40 * c + d) ≡ ordering_then (nat_cmp a c) (nat_cmp b d)
@@ -107,10 +104,9 @@ AreLevel gs hs = (i : ℕ) (g h : List ℕ) → slice_get gs i ≡ Some g → sl
 
 level_append : (g h x y : List ℕ) → length g ≡ length h → slice_cmp nat_cmp (g ++ x) (h ++ y) ≡ ordering_then (slice_cmp nat_cmp g h) (slice_cmp nat_cmp x y)
 level_append [] [] x y l = refl
-level_append [] (b ∷ h) x y l = absurd (omega arith)
-level_append (a ∷ g) [] x y l = absurd (omega arith)
 level_append (a ∷ g) (b ∷ h) x y l =
     rw (level_append g h x y (omega arith)) (sym (then_assoc (nat_cmp a b) (slice_cmp nat_cmp g h) (slice_cmp nat_cmp x y)))
+level_append _ _ x y l = absurd (omega arith)
 
 none_first : (h x : List ℕ) → IsContinued h → slice_cmp nat_cmp [] (h ++ x) ≡ Less
 none_first [] x c = absurd c
@@ -128,19 +124,12 @@ level_numbers (n ∷ ns) (m ∷ ms) (g ∷ gs) (h ∷ hs) p q l =
     let long : length g ≡ length h = l 0 g h refl refl in
     level_append g h (concat gs) (concat hs) long
     ∙ rw (groups_cmp p.0 q.0 long, level_numbers ns ms gs hs p.1 q.1 (λ i a b e f. l (suc i) a b e f)) refl
-level_numbers [] ms (g ∷ gs) hs p q l = absurd p
-level_numbers (n ∷ ns) ms [] hs p q l = absurd p
-level_numbers [] [] [] (h ∷ hs) p q l = absurd q
-level_numbers ns (m ∷ ms) gs [] p q l = absurd q
-level_numbers (n ∷ ns) [] (g ∷ gs) (h ∷ hs) p q l = absurd q
+level_numbers _ _ _ _ p q l = absurd assumption
 
 subidentifiers_cmp : (rule : RootRule) (xs ys : List ℕ) → IsIdentifier rule xs → IsIdentifier rule ys → slice_cmp nat_cmp (subidentifiers xs) (subidentifiers ys) ≡ slice_cmp nat_cmp xs ys
 subidentifiers_cmp rule (a ∷ b ∷ xs) (c ∷ d ∷ ys) i j =
     rw (root_cmp rule a b c d i.1 j.1 i.0 j.0) (then_assoc (nat_cmp a c) (nat_cmp b d) (slice_cmp nat_cmp xs ys))
-subidentifiers_cmp rule [] ys i j = absurd i
-subidentifiers_cmp rule (a ∷ []) ys i j = absurd i
-subidentifiers_cmp rule xs [] i j = absurd j
-subidentifiers_cmp rule xs (c ∷ []) i j = absurd j
+subidentifiers_cmp rule _ _ i j = absurd assumption
 
 -- encodings in the order of their parts are in the order of their arcs
 pub arcs_cmp : {rule : RootRule} {p x a b : List ℕ} → IsEncoding rule p a → IsEncoding rule x b → parts_cmp a b ≡ slice_cmp nat_cmp p x

@@ -57,9 +57,8 @@ later_valid (part ∷ parts) p h =
 
 later_none : (numbers : List ℕ) (groups : List (List ℕ)) → AllZip IsGroup numbers groups → AllByRecursion (λ n. n ≤ max_arc) numbers → later_fault groups ≡ None
 later_none [] [] g l = refl
-later_none [] (p ∷ ps) g l = absurd g
-later_none (n ∷ ns) [] g l = absurd g
 later_none (n ∷ ns) (p ∷ ps) g l = rw (part_none max_arc g.0 l.0) (later_none ns ps g.1 l.1)
+later_none _ _ g l = absurd g
 
 first_valid : (rule : RootRule) (part : List ℕ) → IsPart part → first_fault rule part ≡ None → IsGroupUpTo (max_first rule) part
 first_valid Narrow [] p h = absurd p
@@ -83,23 +82,20 @@ parts_valid rule (part ∷ parts) p h =
     ((g, gs), (l, ls))
 
 parts_none : (rule : RootRule) (numbers : List ℕ) (groups : List (List ℕ)) → AllZip IsGroup numbers groups → InRange rule numbers → parts_fault rule groups ≡ None
-parts_none rule [] groups g l = absurd l
-parts_none rule (n ∷ ns) [] g l = absurd g
 parts_none rule (n ∷ ns) (p ∷ ps) g l = rw (first_none rule n p g.0 l.0) (later_none ns ps g.1 l.1)
+parts_none rule _ _ g l = absurd assumption
 
 -- ---- encodings
 
 pub groups_continued : (numbers : List ℕ) (groups : List (List ℕ)) → AllZip IsGroup numbers groups → AllByRecursion IsContinued groups
 groups_continued [] [] g = tt
-groups_continued [] (p ∷ ps) g = absurd g
-groups_continued (n ∷ ns) [] g = absurd g
 groups_continued (n ∷ ns) (p ∷ ps) g = (g.0.continued, groups_continued ns ps g.1)
+groups_continued _ _ g = absurd g
 
 groups_valued : (numbers : List ℕ) (groups : List (List ℕ)) → AllZip IsGroup numbers groups → map value_of groups ≡ numbers
 groups_valued [] [] g = refl
-groups_valued [] (p ∷ ps) g = absurd g
-groups_valued (n ∷ ns) [] g = absurd g
 groups_valued (n ∷ ns) (p ∷ ps) g = let e : n ≡ value_of p = g.0.value in let t = groups_valued ns ps g.1 in cc
+groups_valued _ _ g = absurd g
 
 -- the groups of an encoding are what its octets are cut into
 pub cut_encoding : (rule : RootRule) (arcs octets : List ℕ) (e : IsEncoding rule arcs octets) → cut octets ≡ e.groups
@@ -132,11 +128,10 @@ encoding_back e = rw (arcs_of_encoding e) e
 
 -- the later arcs are the values of the later parts
 pub later_arcs : (rule : RootRule) (arcs octets : List ℕ) → IsEncoding rule arcs octets → drop 2 arcs ≡ map value_of (drop 1 (cut octets))
-later_arcs rule [] octets e = absurd e.identifier
-later_arcs rule (a ∷ []) octets e = absurd e.identifier
 later_arcs rule (a ∷ b ∷ later) octets e =
     let numbers = subidentifiers (a ∷ b ∷ later) in
     ap (drop 1) (sym (groups_valued numbers e.groups e.each)) ∙ drop-map value_of 1 e.groups ∙ ap (λ ps. map value_of (drop 1 ps)) (sym (cut_encoding rule (a ∷ b ∷ later) octets e))
+later_arcs rule _ octets e = absurd e.identifier
 
 -- no two lists of arcs have one encoding
 pub same_arcs : {rule : RootRule} {a b octets : List ℕ} → IsEncoding rule a octets → IsEncoding rule b octets → a ≡ b
@@ -167,11 +162,8 @@ encoding_is rule arcs h = record { identifier = h; groups = map group_of (subide
 
 same_groups : (numbers : List ℕ) (gs hs : List (List ℕ)) → AllZip IsGroup numbers gs → AllZip IsGroup numbers hs → gs ≡ hs
 same_groups [] [] [] p q = refl
-same_groups [] [] (h ∷ hs) p q = absurd q
-same_groups [] (g ∷ gs) hs p q = absurd p
-same_groups (n ∷ ns) [] hs p q = absurd p
-same_groups (n ∷ ns) (g ∷ gs) [] p q = absurd q
 same_groups (n ∷ ns) (g ∷ gs) (h ∷ hs) p q = let s = same_group p.0 q.0 in let t = same_groups ns gs hs p.1 q.1 in cc
+same_groups _ _ _ p q = absurd assumption
 
 pub same_octets : {rule : RootRule} {arcs a b : List ℕ} → IsEncoding rule arcs a → IsEncoding rule arcs b → a ≡ b
 same_octets {arcs} p q = p.joined ∙ ap concat (same_groups (subidentifiers arcs) p.groups q.groups p.each q.each) ∙ sym q.joined

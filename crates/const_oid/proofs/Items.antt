@@ -54,9 +54,8 @@ whole_from_begun rule capacity (a ∷ c ∷ later) b h = b
 
 -- an identifier has two arcs or more
 pub few_none : (rule : RootRule) (arcs : List ℕ) → IsIdentifier rule arcs → too_few_fault arcs ≡ None
-few_none rule [] i = absurd i
-few_none rule (a ∷ []) i = absurd i
 few_none rule (a ∷ b ∷ later) i = refl
+few_none rule _ i = absurd i
 
 items_none : (rule : RootRule) (capacity : ℕ) (before items : List ℕ) → IsIdentifier rule (before ++ items) → size (before ++ items) ≤ capacity → items_fault rule capacity before items ≡ None
 items_none rule capacity before [] i s = few_none rule before (rw append-nil at i)

@@ -26,9 +26,8 @@ root_short Wide n h = (width_is n).least 5 (omega arith) (omega arith)
 
 length-groups : (numbers : List ℕ) (gs : List (List ℕ)) → AllZip IsGroup numbers gs → length (concat gs) ≡ sum_by width numbers
 length-groups [] [] p = refl
-length-groups [] (g ∷ gs) p = absurd p
-length-groups (n ∷ ns) [] p = absurd p
 length-groups (n ∷ ns) (g ∷ gs) p = rw (length-append, length_is p.0, length-groups ns gs p.1, sum_by-cons width n ns)
+length-groups _ _ p = absurd p
 
 pub length_is_size : {rule : RootRule} {arcs octets : List ℕ} → IsEncoding rule arcs octets → length octets ≡ size arcs
 length_is_size {arcs} e = rw e.joined (length-groups (subidentifiers arcs) e.groups e.each)
@@ -41,10 +40,9 @@ size-narrow a b later i =
 
 -- one arc more
 pub size_push : (rule : RootRule) (arcs octets : List ℕ) (arc : ℕ) → IsEncoding rule arcs octets → size (arcs ++ arc ∷ []) ≡ length octets + width arc
-size_push rule [] octets arc e = absurd e.identifier
-size_push rule (a ∷ []) octets arc e = absurd e.identifier
 size_push rule (a ∷ b ∷ later) octets arc e =
     omega (arith, length_is_size e, size-cons a b later, size-cons a b (later ++ arc ∷ []), sum_by-append width later (arc ∷ []), sum_by-cons width arc [])
+size_push rule _ octets arc e = absurd e.identifier
 
 -- ---- arcs of octets
 
@@ -62,15 +60,13 @@ count_chains [] c = refl
 count_chains (g ∷ gs) c = sum_by-append (λ y. cond (nat_lt y 128) 1 0) g (concat gs) ∙ omega (arith, count_chain g c.0, count_chains gs c.1)
 
 pub length_by_count : (rule : RootRule) (arcs octets : List ℕ) → IsEncoding rule arcs octets → length arcs ≡ 1 + count_by (λ x. nat_lt x 128) octets
-length_by_count rule [] octets e = absurd e.identifier
-length_by_count rule (a ∷ []) octets e = absurd e.identifier
 length_by_count rule (a ∷ b ∷ later) octets e =
     let numbers = subidentifiers (a ∷ b ∷ later) in
     rw e.joined (omega (arith, count_chains e.groups (groups_continued numbers e.groups e.each), AllZip-long IsGroup numbers e.groups e.each))
+length_by_count rule _ octets e = absurd e.identifier
 
 pub length_by_parts : (rule : RootRule) (arcs octets : List ℕ) → IsEncoding rule arcs octets → length arcs ≡ 1 + length (cut octets)
-length_by_parts rule [] octets e = absurd e.identifier
-length_by_parts rule (a ∷ []) octets e = absurd e.identifier
 length_by_parts rule (a ∷ b ∷ later) octets e =
     let arcs = a ∷ b ∷ later in
     rw (cut_encoding rule arcs octets e) (omega (arith, AllZip-long IsGroup (subidentifiers arcs) e.groups e.each))
+length_by_parts rule _ octets e = absurd e.identifier

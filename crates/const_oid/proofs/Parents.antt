@@ -33,14 +33,13 @@ cut_one (y ∷ ys) x more =
 -- the last part begins after the last octet below 128 that another follows
 cut_push : (prefix : List ℕ) (x index : ℕ) → index ≤ length prefix → ((k : ℕ) → index ≡ suc k → slice_index prefix k < 128) → ((k : ℕ) → index ≤ k → k < length prefix → 128 ≤ slice_index prefix k) → (last : List ℕ) × (cut (prefix ++ x ∷ []) ≡ cut (take index prefix) ++ last ∷ [])
 cut_push prefix x zero inside final more = (prefix ++ x ∷ [], cut_one prefix x (λ k l. more k (omega arith) l))
-cut_push [] x (suc k) inside final more = absurd (omega arith)
 cut_push (y ∷ ys) x (suc zero) inside final more =
     let one = cut_one ys x (λ k l. more (suc k) (omega arith) (omega arith)) in
     (ys ++ x ∷ [], rw (cut_after-last y (cut (ys ++ x ∷ [])) (final 0 refl), cut_after-last y [] (final 0 refl)) (ap (λ parts. (y ∷ []) ∷ parts) one))
-cut_push (y ∷ []) x (suc (suc k)) inside final more = absurd (omega arith)
 cut_push (y ∷ z ∷ zs) x (suc (suc k)) inside final more =
     let (last, e) = cut_push (z ∷ zs) x (suc k) (omega arith) (λ i s. final (suc i) (omega arith)) (λ i l r. more (suc i) (omega arith) (omega arith)) in
     (last, ap (cut_after y) e ∙ cut_after-push y (cut (take (suc k) (z ∷ zs))) last (cut_after-some z (cut (take k zs))))
+cut_push _ x _ inside final more = absurd (omega arith)
 
 but_last : (parts : List (List ℕ)) (last : List ℕ) → take (length (parts ++ last ∷ []) - 1) (parts ++ last ∷ []) ≡ parts
 but_last parts last =
@@ -71,11 +70,10 @@ later_fault-take (suc k) [] h = refl
 later_fault-take (suc k) (part ∷ parts) h = grind (arith, nat_tests, both_none (part_fault max_arc part) (later_fault parts) h, later_fault-take k parts)
 
 fault_before : (rule : RootRule) (k : ℕ) (parts : List (List ℕ)) → take k parts ≢ [] → parts_fault rule parts ≡ None → parts_fault rule (take k parts) ≡ None
-fault_before rule zero parts some h = absurd (some refl)
-fault_before rule (suc k) [] some h = absurd (some refl)
 fault_before rule (suc k) (part ∷ parts) some h =
     let (first, later) = both_none (first_fault rule part) (later_fault parts) h in
     rw first (later_fault-take k parts later)
+fault_before rule _ _ some h = absurd (some refl)
 
 -- they have no fault
 pub none_without_last_part : (rule : RootRule) (octets prefix : List ℕ) → (let parts = cut octets in cut prefix ≡ take (length parts - 1) parts) → prefix ≢ [] → parts_fault rule (cut octets) ≡ None → parts_fault rule (cut prefix) ≡ None
@@ -90,11 +88,10 @@ parent_of-more : (first next : ℕ) (later : List ℕ) → parent_of (arcs_from 
 parent_of-more first next later = grind (arith, nat_tests, parent_of-some (first / 40) (first % 40) next later, parent_of-some 2 (first - 80) next later)
 
 parent_of-parts : (parts : List (List ℕ)) → take (length parts - 1) parts ≢ [] → parent_of (arcs_from (map value_of parts)) ≡ Some (arcs_from (map value_of (take (length parts - 1) parts)))
-parent_of-parts [] some = absurd (some refl)
-parent_of-parts (part ∷ []) some = absurd (some refl)
 parent_of-parts (part ∷ next ∷ later) some =
     let e : length (part ∷ next ∷ later) - 1 ≡ suc (length later) = omega arith in
     rw (e, ← take-map value_of (length later) (next ∷ later), ← length-map later value_of) (parent_of-more (value_of part) (value_of next) (map value_of later))
+parent_of-parts _ some = absurd (some refl)
 
 -- they begin the octets
 pub prefix_from_parts : (octets prefix : List ℕ) (k : ℕ) → cut prefix ≡ take k (cut octets) → BeginsWith octets prefix
@@ -128,9 +125,8 @@ none_of_two arcs two = ⊎_elim
     some more = rw (lt-ltb 2 (length arcs) more)
 
 pub two_arcs : (rule : RootRule) (arcs : List ℕ) → IsIdentifier rule arcs → 2 ≤ length arcs
-two_arcs rule [] i = absurd i
-two_arcs rule (a ∷ []) i = absurd i
 two_arcs rule (a ∷ b ∷ later) i = omega arith
+two_arcs rule _ i = absurd i
 
 -- and of one part there are none
 pub parent_of_one : {rule : RootRule} {arcs octets : List ℕ} → IsEncoding rule arcs octets → (parent_of arcs ≡ None) ↔ (length (cut octets) ≡ 1)

@@ -42,9 +42,8 @@ second_small Narrow a b h = omega arith
 second_small Wide a b h = grind (arith, nat_tests)
 
 pub arcs_small : (rule : RootRule) (arcs : List ℕ) → IsIdentifier rule arcs → AllByRecursion (λ n. n ≤ max_arc) arcs
-arcs_small rule [] i = absurd i
-arcs_small rule (a ∷ []) i = absurd i
 arcs_small rule (a ∷ b ∷ later) i = (omega (arith, i.0), (second_small rule a b i.1, i.2))
+arcs_small rule _ i = absurd i
 
 pieces_of-text_of : (rule : RootRule) (arcs : List ℕ) → IsIdentifier rule arcs → pieces_of (text_of arcs) ≡ map decimal arcs
 pieces_of-text_of rule [] i = absurd i

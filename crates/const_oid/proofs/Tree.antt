@@ -6,12 +6,11 @@ use Rattle.const_oid.specs.Identifier.{RootRule, max_arc, IsIdentifier}
 use Rattle.const_oid.specs.Tree.{child_of, parent_of}
 
 pub parent_of-child_of : (rule : RootRule) (arcs : List ℕ) (arc : ℕ) → IsIdentifier rule arcs → parent_of (child_of arcs arc) ≡ Some arcs
-parent_of-child_of rule [] arc i = absurd i
-parent_of-child_of rule (a ∷ []) arc i = absurd i
 parent_of-child_of rule (a ∷ b ∷ later) arc i =
     let n : length (child_of (a ∷ b ∷ later) arc) ≡ length (a ∷ b ∷ later) + 1 = length-append (a ∷ b ∷ later) (arc ∷ []) in
     let e : length (child_of (a ∷ b ∷ later) arc) - 1 ≡ length (a ∷ b ∷ later) = omega arith in
     rw (lt-ltb 2 (length (child_of (a ∷ b ∷ later) arc)) (omega arith), e) (ap Some (take-append_seam (a ∷ b ∷ later) (arc ∷ [])))
+parent_of-child_of rule _ arc i = absurd i
 
 -- a list by its last number
 record IsSplit (xs : List ℕ) : Type 0 where
@@ -29,8 +28,6 @@ all_split P (y ∷ ys) x h = let (p, q) = all_split P ys x h.1 in ((h.0, p), q)
 
 -- an identifier with a parent is its child by the last arc
 pub child_of-parent_of : (rule : RootRule) (arcs parent : List ℕ) → IsIdentifier rule arcs → parent_of arcs ≡ Some parent → IsIdentifier rule parent × (last : ℕ) × (last ≤ max_arc) × (child_of parent last ≡ arcs)
-child_of-parent_of rule [] parent i e = absurd i
-child_of-parent_of rule (a ∷ []) parent i e = absurd i
 child_of-parent_of rule (a ∷ b ∷ []) parent i e = cc
 child_of-parent_of rule (a ∷ b ∷ c ∷ later) parent i e =
     let s = split c later in
@@ -38,3 +35,4 @@ child_of-parent_of rule (a ∷ b ∷ c ∷ later) parent i e =
     let found : parent_of (a ∷ b ∷ c ∷ later) ≡ Some (a ∷ b ∷ s.prefix) = ap (λ zs. parent_of (a ∷ b ∷ zs)) s.joined ∙ parent_of-child_of rule (a ∷ b ∷ s.prefix) s.last (i.0, i.1, all) in
     let same : parent ≡ a ∷ b ∷ s.prefix = cc in
     rw same ((i.0, i.1, all), s.last, last, ap (λ zs. a ∷ b ∷ zs) (sym s.joined))
+child_of-parent_of rule _ parent i e = absurd i

@@ -30,23 +30,14 @@ worth_below (x ∷ xs) s =
 
 worth_cmp : (xs ys : List ℕ) → AreOctets xs → AreOctets ys → length xs ≡ length ys → slice_cmp nat_cmp xs ys ≡ nat_cmp (worth xs) (worth ys)
 worth_cmp [] [] s t l = refl
-worth_cmp [] (y ∷ ys) s t l = absurd (omega arith)
-worth_cmp (x ∷ xs) [] s t l = absurd (omega arith)
 worth_cmp (x ∷ xs) (y ∷ ys) s t l =
     let e : length xs ≡ length ys = omega arith in
     digits_cmp x y _ _ (worth xs) (worth ys) _ (ap (λ k. 256 ^ k) e) (worth_below xs s.1) (worth_below ys t.1) (worth_cmp xs ys s.1 t.1 e)
+worth_cmp _ _ s t l = absurd (omega arith)
 
 word_worth : (xs : List ℕ) → length xs ≡ 8 → from_be_bytes w64 xs ≡ worth xs
-word_worth [] l = absurd (omega arith)
-word_worth (a ∷ []) l = absurd (omega arith)
-word_worth (a ∷ b ∷ []) l = absurd (omega arith)
-word_worth (a ∷ b ∷ c ∷ []) l = absurd (omega arith)
-word_worth (a ∷ b ∷ c ∷ d ∷ []) l = absurd (omega arith)
-word_worth (a ∷ b ∷ c ∷ d ∷ e ∷ []) l = absurd (omega arith)
-word_worth (a ∷ b ∷ c ∷ d ∷ e ∷ f ∷ []) l = absurd (omega arith)
-word_worth (a ∷ b ∷ c ∷ d ∷ e ∷ f ∷ g ∷ []) l = absurd (omega arith)
 word_worth (a ∷ b ∷ c ∷ d ∷ e ∷ f ∷ g ∷ h ∷ []) l = omega arith
-word_worth (a ∷ b ∷ c ∷ d ∷ e ∷ f ∷ g ∷ h ∷ x ∷ xs) l = absurd (omega arith)
+word_worth _ l = absurd (omega arith)
 
 -- ---- the word at an index
 
@@ -88,12 +79,11 @@ after_same xs ys at same =
 -- lists of one length decide, unless they are the same
 first_unequal : (g h x y : List ℕ) → length g ≡ length h → slice_cmp nat_cmp g h ≢ Equal → slice_cmp nat_cmp (g ++ x) (h ++ y) ≡ slice_cmp nat_cmp g h
 first_unequal [] [] x y l u = absurd (u refl)
-first_unequal [] (b ∷ h) x y l u = absurd (omega arith)
-first_unequal (a ∷ g) [] x y l u = absurd (omega arith)
 first_unequal (a ∷ g) (b ∷ h) x y l u = by_ranked _ _ _ (nat_cmp a b) (ranks a b)
     (λ is m. rw is refl)
     (λ is m. rw is (first_unequal g h x y (omega arith) (λ e. u (rw is e))))
     (λ is m. rw is refl)
+first_unequal _ _ x y l u = absurd (omega arith)
 
 unequal : (m n : ℕ) → m ≢ n → nat_cmp m n ≢ Equal
 unequal m n u e = grind (arith, nat_tests)
@@ -156,9 +146,8 @@ same_less xs ys at less h same = sym (take-take less at xs h) ∙ ap (λ zs. tak
 -- lists of one length are in the order that they have before the same end
 with_end : (g h x : List ℕ) → length g ≡ length h → slice_cmp nat_cmp (g ++ x) (h ++ x) ≡ slice_cmp nat_cmp g h
 with_end [] [] x l = tied_itself nat_list_cmp_total x
-with_end [] (b ∷ h) x l = absurd (omega arith)
-with_end (a ∷ g) [] x l = absurd (omega arith)
 with_end (a ∷ g) (b ∷ h) x l = ap (λ o. ordering_then (nat_cmp a b) o) (with_end g h x (omega arith))
+with_end _ _ x l = absurd (omega arith)
 
 pub whole_cmp : (xs ys : List ℕ) (used : ℕ) → used ≤ length xs → used ≤ length ys → drop used xs ≡ drop used ys → slice_cmp nat_cmp xs ys ≡ slice_cmp nat_cmp (take used xs) (take used ys)
 whole_cmp xs ys used k l same =
