@@ -173,8 +173,7 @@ encoding_of-encoded {rule} {arcs} e = same_octets (encoding_is rule arcs e.ident
 
 -- encodings are the same exactly where their arcs are
 pub iff_arcs : {rule : RootRule} {x y a b : List ℕ} (P : Type 0) → IsEncoding rule x a → IsEncoding rule y b → P ↔ (a ≡ b) → P ↔ (x ≡ y)
-iff_arcs P e f iff =
-    (λ p. same_arcs (rw (iff.0 p) at e) f, λ s. iff.1 (same_octets (rw s at e) f))
+iff_arcs P e f iff = (λ p. same_arcs (rw (iff.0 p) at e) f, λ s. iff.1 (same_octets (rw s at e) f))
 
 -- ---- the narrow rule: one octet for the first two arcs
 
