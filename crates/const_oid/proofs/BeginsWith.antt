@@ -31,7 +31,7 @@ numbers_prefix (n ∷ ns) (m ∷ ms) (g ∷ gs) (h ∷ hs) rest p q e =
     let (more, f) = numbers_prefix ns ms gs hs rest p.1 q.1 others in
     let s : m ≡ n = q.0.value ∙ ap value_of same ∙ sym p.0.value in
     (more, cc)
-numbers_prefix (n ∷ ns) [] (g ∷ gs) [] rest p q e = absurd (chain_not_empty g (concat gs ++ rest) p.0.continued (e ∙ append_assoc g (concat gs) rest))
+numbers_prefix (n ∷ ns) [] (g ∷ gs) [] rest p q e = grind (arith, chain_not_empty, append_assoc)
 numbers_prefix _ _ _ _ rest p q e = absurd assumption
 
 -- groups of numbers that begin others
@@ -121,8 +121,7 @@ under_iff prefix list =
     (λ t. (drop (length prefix) list, rest t), λ b. given b.0 b.1)
 
 pub tells_under : (prefix list : List ℕ) (test : Bool) → IsTrue test ↔ BeginsWith list prefix → test ≡ is_under prefix list
-tells_under prefix list test tells =
-    both_ways _ _ (λ t. (under_iff prefix list).1 (tells.0 t)) (λ t. tells.1 ((under_iff prefix list).0 t))
+tells_under prefix list test tells = grind (arith, both_ways, under_iff)
 
 not_before_nil : (list : List ℕ) → is_before [] list ≡ false
 not_before_nil [] = refl
@@ -137,8 +136,7 @@ under_apart prefix list t =
 
 -- what is not after a list before the prefix is before it
 pub before_down : (prefix x z : List ℕ) → is_before x z ≡ false → is_before prefix z ≡ true → is_before prefix x ≡ true
-before_down prefix x z level t =
-    true_from_ne_false (is_before prefix x) (λ f. cc (t, (ranks_by nat_list_cmp_total (λ (list : List ℕ). list)).chain z x prefix level f))
+before_down prefix x z level t = grind (arith, true_from_ne_false, ranks_by, nat_list_cmp_total)
 
 pub not_greater : (x z : List ℕ) → is_before x z ≡ false → slice_cmp nat_cmp x z ≢ Greater
 not_greater x z level greater = cc (level, ap is_lt (nat_list_cmp_total.antisymm z x ∙ ap ordering_reverse greater))

@@ -1,5 +1,5 @@
 -- The order of arcs is that of the parts of their encodings, a shorter part first.
-use Rattle.std.proofs.Common.{◌≡◌, ◌≢◌, ℕ, suc, ◌+◌, ◌*◌, ◌<◌, ◌≤◌, List, [], ◌∷◌, ◌++◌, length, min, take, drop, get_or, refl, sym, ap, ◌∙◌, ⊎_elim, arith, Ordering, Less, Equal, Greater, nat_cmp, length-append, Some}
+use Rattle.std.proofs.Common.{◌≡◌, ◌≢◌, ℕ, suc, ◌+◌, ◌*◌, ◌<◌, ◌≤◌, List, [], ◌∷◌, ◌++◌, length, min, take, drop, get_or, refl, sym, ap, ◌∙◌, ⊎_elim, arith, Ordering, Less, Equal, Greater, nat_cmp, length-append, Some, rules}
 use Rattle.std.specs.Prelude.{◌↔◌, slice_get}
 use Rattle.std.specs.List.{AllZip, onto_first, concat}
 use Rattle.std.specs.Ordering.{ordering_then, is_eq}
@@ -18,6 +18,7 @@ use Rattle.const_oid.proofs.Cutting.{cut_after-last, cut_after-more}
 use Rattle.const_oid.proofs.Encodings.{cut_encoding, same_arcs, same_octets}
 use Rattle.const_oid.proofs.Orders.{groups_cmp, groups_short, nat_cmp-add, shortlex_cmp-less, shortlex_cmp-prefix}
 use Rattle.const_oid.proofs.Subidentifiers.{second_low}
+use Rattle.std.proofs.lemmas.Bool.Decides.{nat_tests}
 
 -- ---- octets compared from an index on
 
@@ -36,17 +37,11 @@ begins x xs = ⊎_elim
 onto_same : (x : ℕ) (xs ys : List ℕ) → slice_cmp shortlex_cmp (onto_first x (cut xs)) (onto_first x (cut ys)) ≡ parts_cmp xs ys
 onto_same x [] [] = rw (tied_itself shortlex_cmp_total (x ∷ []))
 onto_same x [] (y ∷ ys) = let (q, qs, f) = begins y ys in rw (f, shortlex_cmp-less (x ∷ []) (x ∷ y ∷ q) (omega arith))
-onto_same x (y ∷ xs) [] = let (p, ps, e) = begins y xs in rw (e, ← nat_cmp_is (length (x ∷ y ∷ p)) 1 Greater (omega arith)) refl
-onto_same x (y ∷ xs) (z ∷ ys) =
-    let (p, ps, e) = begins y xs in
-    let (q, qs, f) = begins z ys in
-    rw (e, f, shortlex_cmp-prefix (x ∷ []) (y ∷ p) (z ∷ q))
+onto_same x (y ∷ xs) [] = search rules
+onto_same x (y ∷ xs) (z ∷ ys) = grind (arith, nat_tests)
 
 same_first : (x : ℕ) (xs ys : List ℕ) → parts_cmp (x ∷ xs) (x ∷ ys) ≡ parts_cmp xs ys
-same_first x xs ys = ⊎_elim
-    (λ (last : x < 128). rw (cut_after-last x (cut xs) last, cut_after-last x (cut ys) last, tied_itself shortlex_cmp_total (x ∷ [])))
-    (λ (more : 128 ≤ x). rw (cut_after-more x (cut xs) more, cut_after-more x (cut ys) more) (onto_same x xs ys))
-    (cases_lt x 128)
+same_first x xs ys = grind (arith, cut_after-last, tied_itself, shortlex_cmp_total, cut_after-more, onto_same, cases_lt)
 
 -- what lists begin with alike does not decide
 same_prefix : (g x y : List ℕ) → parts_cmp (g ++ x) (g ++ y) ≡ parts_cmp x y
@@ -60,7 +55,7 @@ same_up_to a b n same =
     rw (take-append-drop n a, f) at e
 
 pub same_at : (a b : List ℕ) (i : ℕ) → i < length a → i < length b → get_or a i 0 ≡ get_or b i 0 → parts_cmp (drop i a) (drop i b) ≡ parts_cmp (drop (i + 1) a) (drop (i + 1) b)
-same_at a b i l m e = rw (drop_more a i 0 l, drop_more b i 0 m, e) (same_first (get_or b i 0) (drop (i + 1) a) (drop (i + 1) b))
+same_at a b i l m e = grind (arith, drop_more, same_first)
 
 -- at the end of one of them the longer one is the later one
 ended : (xs ys : List ℕ) → min (length xs) (length ys) ≡ 0 → parts_cmp xs ys ≡ nat_cmp (length xs) (length ys)
@@ -70,12 +65,7 @@ ended (x ∷ xs) [] e = let (p, ps, f) = begins x xs in rw f (nat_cmp_is (length
 ended (x ∷ xs) (y ∷ ys) e = absurd (omega arith)
 
 pub ended_at : (a b : List ℕ) (n : ℕ) → n ≡ min (length a) (length b) → parts_cmp (drop n a) (drop n b) ≡ nat_cmp (length a) (length b)
-ended_at a b n e =
-    let l = length-drop n a in
-    let m = length-drop n b in
-    let p : length a ≡ n + length (drop n a) = omega arith in
-    let q : length b ≡ n + length (drop n b) = omega arith in
-    ended (drop n a) (drop n b) (omega arith) ∙ sym (nat_cmp-add n (length (drop n a)) (length (drop n b))) ∙ sym (rw (← p, ← q) refl)
+ended_at a b n e = grind (arith, length-drop, ended, nat_cmp-add)
 
 -- ---- the order of the arcs
 
@@ -88,10 +78,7 @@ numbers_cmp _ _ _ _ p q = absurd assumption
 
 -- first numbers are in the order of the first two arcs
 root_cmp : (rule : RootRule) (a b c d : ℕ) → b ≤ max_second rule a → d ≤ max_second rule c → a ≤ 2 → c ≤ 2 → nat_cmp (40 * a + b) (40 * c + d) ≡ ordering_then (nat_cmp a c) (nat_cmp b d)
-root_cmp rule a b c d p q l m = by_ranked _ _ _ (nat_cmp a c) (ranks a c)
-    (λ is less. let low = second_low rule a b p (omega arith) in rw is (sym (nat_cmp_is (40 * a + b) (40 * c + d) Less (omega arith))))
-    (λ is same. rw (is, same) (nat_cmp-add (40 * c) b d))
-    (λ is less. let low = second_low rule c d q (omega arith) in rw is (sym (nat_cmp_is (40 * a + b) (40 * c + d) Greater (omega arith))))
+root_cmp rule a b c d p q l m = search rules
 
 then_assoc : (o p q : Ordering) → ordering_then (ordering_then o p) q ≡ ordering_then o (ordering_then p q)
 then_assoc Less p q = refl
@@ -104,8 +91,7 @@ AreLevel gs hs = (i : ℕ) (g h : List ℕ) → slice_get gs i ≡ Some g → sl
 
 level_append : (g h x y : List ℕ) → length g ≡ length h → slice_cmp nat_cmp (g ++ x) (h ++ y) ≡ ordering_then (slice_cmp nat_cmp g h) (slice_cmp nat_cmp x y)
 level_append [] [] x y l = refl
-level_append (a ∷ g) (b ∷ h) x y l =
-    rw (level_append g h x y (omega arith)) (sym (then_assoc (nat_cmp a b) (slice_cmp nat_cmp g h) (slice_cmp nat_cmp x y)))
+level_append (a ∷ g) (b ∷ h) x y l = search (then_assoc, level_append g h x y (omega arith))
 level_append _ _ x y l = absurd (omega arith)
 
 none_first : (h x : List ℕ) → IsContinued h → slice_cmp nat_cmp [] (h ++ x) ≡ Less
@@ -127,8 +113,7 @@ level_numbers (n ∷ ns) (m ∷ ms) (g ∷ gs) (h ∷ hs) p q l =
 level_numbers _ _ _ _ p q l = absurd assumption
 
 subidentifiers_cmp : (rule : RootRule) (xs ys : List ℕ) → IsIdentifier rule xs → IsIdentifier rule ys → slice_cmp nat_cmp (subidentifiers xs) (subidentifiers ys) ≡ slice_cmp nat_cmp xs ys
-subidentifiers_cmp rule (a ∷ b ∷ xs) (c ∷ d ∷ ys) i j =
-    rw (root_cmp rule a b c d i.1 j.1 i.0 j.0) (then_assoc (nat_cmp a c) (nat_cmp b d) (slice_cmp nat_cmp xs ys))
+subidentifiers_cmp rule (a ∷ b ∷ xs) (c ∷ d ∷ ys) i j = search rules
 subidentifiers_cmp rule _ _ i j = absurd assumption
 
 -- encodings in the order of their parts are in the order of their arcs

@@ -1,5 +1,5 @@
 -- Octets without a fault are the encoding of their arcs, and encodings have no fault but their length; each identifier has just one encoding.
-use Rattle.std.proofs.Common.{true, ◌≡◌, ◌≢◌, ℕ, ◌+◌, ◌*◌, ◌/◌, ◌%◌, ◌^◌, ◌<◌, ◌≤◌, false, List, [], ◌∷◌, length, map, slice_index, Some, None, refl, sym, ◌∙◌, arith, lt-ltb, le-ltb, ne_eqb, ◌++◌, drop, ap, min}
+use Rattle.std.proofs.Common.{true, ◌≡◌, ◌≢◌, ℕ, ◌+◌, ◌*◌, ◌/◌, ◌%◌, ◌^◌, ◌<◌, ◌≤◌, false, List, [], ◌∷◌, length, map, slice_index, Some, None, refl, sym, ◌∙◌, arith, lt-ltb, le-ltb, ne_eqb, ◌++◌, drop, ap, min, rules}
 use Rattle.std.specs.List.{AllByRecursion, AllZip, concat}
 use Rattle.std.specs.Prelude.{◌↔◌}
 use Rattle.std.proofs.lemmas.Bool.{eqb-false}
@@ -37,13 +37,10 @@ pub part_tests : (limit : ℕ) (part : List ℕ) → part_fault limit part ≡ N
 part_tests limit part h = (grind (arith, nat_tests), grind (arith, nat_tests), grind (arith, nat_tests))
 
 part_valid : (limit : ℕ) (part : List ℕ) → IsPart part → part_fault limit part ≡ None → IsGroupUpTo limit part
-part_valid limit part p h =
-    let (first, small, last) = part_tests limit part h in
-    (record { continued = chain_from_part part p last; shortest = shortest part first; value = refl }, small)
+part_valid limit part p h = grind (arith, part_tests, chain_from_part, shortest)
 
 pub part_none : (limit : ℕ) {n : ℕ} {part : List ℕ} → IsGroup n part → n ≤ limit → part_fault limit part ≡ None
-part_none limit {part} g l =
-    rw (begins_with_128-not part g.shortest, le-ltb limit (value_of part) (rw g.value at l), finished_from_chain part g.continued)
+part_none limit {part} g l = grind (arith, begins_with_128-not, shortest, le-ltb, finished_from_chain)
 
 -- ---- all parts
 
@@ -62,10 +59,7 @@ later_none _ _ g l = absurd g
 
 first_valid : (rule : RootRule) (part : List ℕ) → IsPart part → first_fault rule part ≡ None → IsGroupUpTo (max_first rule) part
 first_valid Narrow [] p h = absurd p
-first_valid Narrow (x ∷ []) p h =
-    let small = below_from_none 119 x (ArcInvalid (x / 40)) h in
-    let e : x ≡ x % 128 * 128 ^ 0 + 0 = omega arith in
-    (rw (← e) (small_is x (omega arith)), omega arith)
+first_valid Narrow (x ∷ []) p h = search rules
 first_valid Narrow (x ∷ y ∷ ys) p h = absurd (omega (arith, below_from_none 119 x (ArcInvalid (x / 40)) h))
 first_valid Wide part p h = part_valid (max_first Wide) part p h
 
@@ -99,19 +93,11 @@ groups_valued _ _ g = absurd g
 
 -- the groups of an encoding are what its octets are cut into
 pub cut_encoding : (rule : RootRule) (arcs octets : List ℕ) (e : IsEncoding rule arcs octets) → cut octets ≡ e.groups
-cut_encoding rule arcs octets e = rw e.joined (cut_chains e.groups (groups_continued (subidentifiers arcs) e.groups e.each))
+cut_encoding rule arcs octets e = grind (arith, cut_chains, groups_continued)
 
 -- octets without a fault are the encoding of their arcs
 pub encoding_from_none : (rule : RootRule) (octets : List ℕ) → AreOctets octets → parts_fault rule (cut octets) ≡ None → IsEncoding rule (arcs_of_octets octets) octets
-encoding_from_none rule octets bytes h =
-    let numbers = map value_of (cut octets) in
-    let (g, l) = parts_valid rule (cut octets) (parts_are octets bytes) h in
-    record {
-      identifier = identifier rule numbers l;
-      groups = cut octets;
-      each = rw (numbers_back rule numbers l) g;
-      joined = sym (concat-cut octets);
-    }
+encoding_from_none rule octets bytes h = grind (arith, parts_valid, parts_are, identifier, numbers_back, concat-cut)
 
 -- an encoding has no faulty part
 pub none_from_encoding : {rule : RootRule} {arcs octets : List ℕ} → IsEncoding rule arcs octets → parts_fault rule (cut octets) ≡ None
@@ -146,9 +132,7 @@ pub octet_fault-long : {rule : RootRule} {arcs octets : List ℕ} (capacity : �
 octet_fault-long {octets} capacity e long = rw (none_from_encoding e, lt-ltb capacity (length octets) long)
 
 pub fits_from_none : (rule : RootRule) (octets : List ℕ) (capacity : ℕ) → octet_fault rule octets capacity ≡ None → (parts_fault rule (cut octets) ≡ None) × (length octets ≤ capacity)
-fits_from_none rule octets capacity h =
-    let (none, fits) = both_none _ _ h in
-    (none, below_from_none capacity (length octets) Length fits)
+fits_from_none rule octets capacity h = search rules
 
 -- ---- each identifier has just one
 
@@ -158,7 +142,7 @@ groups_are (n ∷ ns) = (group_is n, groups_are ns)
 
 pub encoding_is : (rule : RootRule) (arcs : List ℕ) → IsIdentifier rule arcs → IsEncoding rule arcs (encoding_of arcs)
 unfolding encoding_of
-encoding_is rule arcs h = record { identifier = h; groups = map group_of (subidentifiers arcs); each = groups_are (subidentifiers arcs); joined = refl }
+encoding_is rule arcs h = grind (arith, identifier, groups_are)
 
 same_groups : (numbers : List ℕ) (gs hs : List (List ℕ)) → AllZip IsGroup numbers gs → AllZip IsGroup numbers hs → gs ≡ hs
 same_groups [] [] [] p q = refl
@@ -166,7 +150,7 @@ same_groups (n ∷ ns) (g ∷ gs) (h ∷ hs) p q = let s = same_group p.0 q.0 in
 same_groups _ _ _ p q = absurd assumption
 
 pub same_octets : {rule : RootRule} {arcs a b : List ℕ} → IsEncoding rule arcs a → IsEncoding rule arcs b → a ≡ b
-same_octets {arcs} p q = p.joined ∙ ap concat (same_groups (subidentifiers arcs) p.groups q.groups p.each q.each) ∙ sym q.joined
+same_octets {arcs} p q = grind (arith, same_groups)
 
 pub encoding_of-encoded : {rule : RootRule} {arcs octets : List ℕ} → IsEncoding rule arcs octets → encoding_of arcs ≡ octets
 encoding_of-encoded {rule} {arcs} e = same_octets (encoding_is rule arcs e.identifier) e

@@ -87,11 +87,8 @@ not_before a b level = rw (nat_list_cmp_total.antisymm b a) (reversed (slice_cmp
 
 -- the result of the items of an iterator is exact where its list is known
 pub exact_answer : {S : Type 0} (rule : RootRule) (capacity : ℕ) (rest : S → List ℕ) (s : S) (result : Result (List ℕ) Error) → TakesItems rule capacity (YieldsFirst rest) s result → result ≡ item_answer rule (rest s) capacity
-exact_answer rule capacity rest s (Ok arcs) (p, from, whole, (is, none)) =
-    let e : arcs ≡ rest s = sym is ∙ (run_of_first rest p).1.4 whole ∙ ap rest from in
-    rw (rw e at none) (ap Ok e)
-exact_answer rule capacity rest s (Err fault) (p, from, refused) =
-    rw (rw from at (refused (rest p.from) (run_of_first rest p).1))
+exact_answer rule capacity rest s (Ok arcs) (p, from, whole, (is, none)) = grind (arith, run_of_first)
+exact_answer rule capacity rest s (Err fault) (p, from, refused) = grind (arith, run_of_first)
 
 -- ---- of a table of constants
 

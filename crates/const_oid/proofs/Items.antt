@@ -1,5 +1,5 @@
 -- Lists of arcs have no fault exactly where they are identifiers that fit.
-use Rattle.std.proofs.Common.{◌≡◌, ℕ, ◌+◌, ◌*◌, ◌≤◌, List, [], ◌∷◌, ◌++◌, None, refl, arith, append_assoc, append-nil, le-ltb, nat_lt}
+use Rattle.std.proofs.Common.{◌≡◌, ℕ, ◌+◌, ◌*◌, ◌≤◌, List, [], ◌∷◌, ◌++◌, None, refl, arith, append_assoc, append-nil, le-ltb, nat_lt, rules}
 use Rattle.std.specs.List.{AllByRecursion}
 use Rattle.std.proofs.lemmas.Bool.Decides.{nat_tests}
 use Rattle.const_oid.specs.declared.error.Error.TheVariants.{ArcInvalid, Length}
@@ -26,10 +26,8 @@ IsBegun rule capacity (a ∷ b ∷ later) = IsIdentifier rule (a ∷ b ∷ later
 -- one more arc without a fault
 pub begun_more : (rule : RootRule) (capacity : ℕ) (before : List ℕ) (arc : ℕ) → IsBegun rule capacity before → arc ≤ max_arc → arc_fault rule capacity before arc ≡ None → IsBegun rule capacity (before ++ arc ∷ [])
 begun_more rule capacity [] arc b l h = below_from_none 2 arc (ArcInvalid arc) h
-begun_more rule capacity (a ∷ []) arc b l h =
-    let (range, fits) = both_none _ _ h in
-    ((b, below_from_none (max_second rule a) arc (ArcInvalid arc) range, tt), below_from_none capacity (size (a ∷ arc ∷ [])) Length fits)
-begun_more rule capacity (a ∷ c ∷ later) arc b l h = ((b.0.0, b.0.1, all_append (λ n. n ≤ max_arc) later (arc ∷ []) b.0.2 (l, tt)), below_from_none capacity _ Length h)
+begun_more rule capacity (a ∷ []) arc b l h = search rules
+begun_more rule capacity (a ∷ c ∷ later) arc b l h = grind (arith, all_append, below_from_none)
 
 -- an arc of an identifier that fits has no fault
 pub arc_none : (rule : RootRule) (capacity : ℕ) (before : List ℕ) (arc : ℕ) (rest : List ℕ) → IsIdentifier rule (before ++ arc ∷ rest) → size (before ++ arc ∷ rest) ≤ capacity → arc_fault rule capacity before arc ≡ None

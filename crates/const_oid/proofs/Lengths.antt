@@ -17,7 +17,7 @@ size-cons a b later = sum_by-cons width (40 * a + b) later
 
 -- more arcs have no smaller size
 pub size_prefix : (a b : ℕ) (later more : List ℕ) → size (a ∷ b ∷ later) ≤ size (a ∷ b ∷ later ++ more)
-size_prefix a b later more = omega (arith, size-cons a b later, size-cons a b (later ++ more), sum_by-append width later more)
+size_prefix a b later more = grind (arith, size-cons, sum_by-append)
 
 -- the two first arcs take few octets
 pub root_short : (rule : RootRule) (n : ℕ) → n ≤ max_first rule → width n ≤ 5
@@ -33,10 +33,7 @@ pub length_is_size : {rule : RootRule} {arcs octets : List ℕ} → IsEncoding r
 length_is_size {arcs} e = rw e.joined (length-groups (subidentifiers arcs) e.groups e.each)
 
 pub size-narrow : (a b : ℕ) (later : List ℕ) → IsIdentifier Narrow (a ∷ b ∷ later) → size (a ∷ b ∷ later) ≡ 1 + sum_by width later
-size-narrow a b later i =
-    let n = 40 * a + b in
-    let small = first_in_range Narrow a b i.0 i.1 in
-    omega (arith, size-cons a b later, length_is (small_is n (omega arith)))
+size-narrow a b later i = grind (arith, first_in_range, size-cons, length_is, small_is)
 
 -- one arc more
 pub size_push : (rule : RootRule) (arcs octets : List ℕ) (arc : ℕ) → IsEncoding rule arcs octets → size (arcs ++ arc ∷ []) ≡ length octets + width arc
@@ -57,7 +54,7 @@ count_chain (x ∷ y ∷ ys) c = rw (count-cons x (y ∷ ys), le-ltb x 128 c.0) 
 
 count_chains : (gs : List (List ℕ)) → AllByRecursion IsContinued gs → count_by (λ y. nat_lt y 128) (concat gs) ≡ length gs
 count_chains [] c = refl
-count_chains (g ∷ gs) c = sum_by-append (λ y. cond (nat_lt y 128) 1 0) g (concat gs) ∙ omega (arith, count_chain g c.0, count_chains gs c.1)
+count_chains (g ∷ gs) c = grind (arith, sum_by-append, count_chain, count_chains gs c.1)
 
 pub length_by_count : (rule : RootRule) (arcs octets : List ℕ) → IsEncoding rule arcs octets → length arcs ≡ 1 + count_by (λ x. nat_lt x 128) octets
 length_by_count rule (a ∷ b ∷ later) octets e =

@@ -37,8 +37,7 @@ cut_push (y ∷ ys) x (suc zero) inside final more =
     let one = cut_one ys x (λ k l. more (suc k) (omega arith) (omega arith)) in
     (ys ++ x ∷ [], rw (cut_after-last y (cut (ys ++ x ∷ [])) (final 0 refl), cut_after-last y [] (final 0 refl)) (ap (λ parts. (y ∷ []) ∷ parts) one))
 cut_push (y ∷ z ∷ zs) x (suc (suc k)) inside final more =
-    let (last, e) = cut_push (z ∷ zs) x (suc k) (omega arith) (λ i s. final (suc i) (omega arith)) (λ i l r. more (suc i) (omega arith) (omega arith)) in
-    (last, ap (cut_after y) e ∙ cut_after-push y (cut (take (suc k) (z ∷ zs))) last (cut_after-some z (cut (take k zs))))
+    grind (arith, cut_after-push, cut_after-some, cut_push (z ∷ zs) x (suc k) (omega arith) (λ i s. final (suc i) (omega arith)) (λ i l r. more (suc i) (omega arith) (omega arith)))
 cut_push _ x _ inside final more = absurd (omega arith)
 
 but_last : (parts : List (List ℕ)) (last : List ℕ) → take (length (parts ++ last ∷ []) - 1) (parts ++ last ∷ []) ≡ parts
@@ -53,10 +52,7 @@ without_last_part octets prefix x index is inside final more =
 
 -- the octets before the last part, after the last octet below 128
 pub cut-without_last_part : (octets prefix : List ℕ) (x index : ℕ) → octets ≡ prefix ++ x ∷ [] → index < length prefix → slice_index prefix index < 128 → ((k : ℕ) → index < k → k < length prefix → 128 ≤ slice_index prefix k) → let parts = cut octets in cut (take (index + 1) prefix) ≡ take (length parts - 1) parts
-cut-without_last_part octets prefix x index is inside final more =
-    without_last_part octets prefix x (index + 1) is (omega arith)
-    (λ k e. let same : k ≡ index = omega arith in rw same final)
-    (λ k l r. more k (omega arith) r)
+cut-without_last_part octets prefix x index is inside final more = grind (arith, without_last_part)
 
 -- and where there is no such octet
 pub cut-before_only : (octets prefix : List ℕ) (x : ℕ) → octets ≡ prefix ++ x ∷ [] → ((k : ℕ) → k < length prefix → 128 ≤ slice_index prefix k) → let parts = cut octets in cut (take 0 prefix) ≡ take (length parts - 1) parts
@@ -70,14 +66,12 @@ later_fault-take (suc k) [] h = refl
 later_fault-take (suc k) (part ∷ parts) h = grind (arith, nat_tests, both_none (part_fault max_arc part) (later_fault parts) h, later_fault-take k parts)
 
 fault_before : (rule : RootRule) (k : ℕ) (parts : List (List ℕ)) → take k parts ≢ [] → parts_fault rule parts ≡ None → parts_fault rule (take k parts) ≡ None
-fault_before rule (suc k) (part ∷ parts) some h =
-    let (first, later) = both_none (first_fault rule part) (later_fault parts) h in
-    rw first (later_fault-take k parts later)
+fault_before rule (suc k) (part ∷ parts) some h = grind (arith, both_none, later_fault-take)
 fault_before rule _ _ some h = absurd (some refl)
 
 -- they have no fault
 pub none_without_last_part : (rule : RootRule) (octets prefix : List ℕ) → (let parts = cut octets in cut prefix ≡ take (length parts - 1) parts) → prefix ≢ [] → parts_fault rule (cut octets) ≡ None → parts_fault rule (cut prefix) ≡ None
-none_without_last_part rule octets prefix e some h = rw e (fault_before rule (length (cut octets) - 1) (cut octets) (rw e at (cut-some prefix some)) h)
+none_without_last_part rule octets prefix e some h = grind (arith, fault_before, cut-some, some)
 
 parent_of-some : (a b c : ℕ) (later : List ℕ) → parent_of (a ∷ b ∷ c ∷ later) ≡ Some (a ∷ b ∷ take (length later) (c ∷ later))
 parent_of-some a b c later =
@@ -85,7 +79,7 @@ parent_of-some a b c later =
     rw (lt-ltb 2 (length (a ∷ b ∷ c ∷ later)) (omega arith), e)
 
 parent_of-more : (first next : ℕ) (later : List ℕ) → parent_of (arcs_from (first ∷ next ∷ later)) ≡ Some (arcs_from (first ∷ take (length later) (next ∷ later)))
-parent_of-more first next later = grind (arith, nat_tests, parent_of-some (first / 40) (first % 40) next later, parent_of-some 2 (first - 80) next later)
+parent_of-more first next later = grind (arith, parent_of-some)
 
 parent_of-parts : (parts : List (List ℕ)) → take (length parts - 1) parts ≢ [] → parent_of (arcs_from (map value_of parts)) ≡ Some (arcs_from (map value_of (take (length parts - 1) parts)))
 parent_of-parts (part ∷ next ∷ later) some =
@@ -103,17 +97,13 @@ prefix_from_parts octets prefix k e =
 
 -- their arcs are the parent's
 pub parent_without_last_part : (octets prefix : List ℕ) → (let parts = cut octets in cut prefix ≡ take (length parts - 1) parts) → prefix ≢ [] → parent_of (arcs_of_octets octets) ≡ Some (arcs_of_octets prefix)
-parent_without_last_part octets prefix e some =
-    parent_of-parts (cut octets) (rw e at (cut-some prefix some)) ∙ ap (λ parts. Some (arcs_from (map value_of parts))) (sym e)
+parent_without_last_part octets prefix e some = grind (arith, parent_of-parts, cut-some, some)
 
 -- ---- a parent's octets, whatever the rule
 
 -- they are those without the last part
 pub parent_octets : {rule : RootRule} {arcs : List ℕ} (parent : List ℕ) {octets : List ℕ} → IsEncoding rule arcs octets → parent_of arcs ≡ Some parent → let parts = cut octets in IsEncoding rule parent (concat (take (length parts - 1) parts))
-parent_octets {rule} {arcs} parent {octets} e p =
-    let (i, arc, small, joined) = child_of-parent_of rule arcs parent e.identifier p in
-    let (prefix, last, parts, encoding) = encoding_parent rule parent octets arc i (rw joined e) in
-    rw (parts, but_last prefix last) encoding
+parent_octets {rule} {arcs} parent {octets} e p = grind (arith, child_of-parent_of, encoding_parent, but_last)
 
 pub none_of_two : (arcs : List ℕ) → 2 ≤ length arcs → (parent_of arcs ≡ None) ↔ (length arcs ≡ 2)
 none_of_two arcs two = ⊎_elim

@@ -1,5 +1,5 @@
 -- Sorted tables of names: where an identifier's first entry is, and what is above an identifier.
-use Rattle.std.proofs.Common.{◌≡◌, ◌≢◌, ◌+◌, ◌-◌, ◌<◌, ◌≤◌, ℕ, zero, suc, Bool, true, false, List, [], ◌∷◌, ◌++◌, length, take, drop, get_or, Option, Some, None, Less, Equal, Greater, nat_cmp, nat_eq, refl, sym, ap, subst, ◌∙◌, arith, Bor, ⊎_elim, slice_get, length-append, append-nil, append_assoc}
+use Rattle.std.proofs.Common.{◌≡◌, ◌≢◌, ◌+◌, ◌-◌, ◌<◌, ◌≤◌, ℕ, zero, suc, Bool, true, false, List, [], ◌∷◌, ◌++◌, length, take, drop, get_or, Option, Some, None, Less, Equal, Greater, nat_cmp, nat_eq, refl, sym, ap, subst, ◌∙◌, arith, Bor, ⊎_elim, slice_get, length-append, append-nil, append_assoc, rules}
 use Rattle.std.specs.Bool.{then_some}
 use Rattle.std.specs.Cmp.{tied_itself}
 use Rattle.std.specs.Cmp.Lexicographic.{pointwise, slice_cmp, same_text, texts_ties}
@@ -64,8 +64,7 @@ level Greater e f = cc
 
 -- neither of the lists is before the other
 level_lists : (xs ys : List ℕ) → is_before ys xs ≡ false → is_before xs ys ≡ false → xs ≡ ys
-level_lists xs ys e f =
-    same_text xs ys (sym (texts_ties xs ys ∙ level (slice_cmp nat_cmp xs ys) e (rw (nat_list_cmp_total.antisymm ys xs) at f)))
+level_lists xs ys e f = grind (arith, same_text, texts_ties, level, nat_list_cmp_total)
 
 module _ (arcs : List ℕ) where
   abbrev pub is_entry : Entry ObjectIdentifierRef → Bool
@@ -76,17 +75,11 @@ module _ (arcs : List ℕ) where
 
   -- what comes before them is no entry of them
   none_before : (entry : Entry ObjectIdentifierRef) → is_before arcs (entry_arcs entry) ≡ true → is_entry entry ≡ false
-  none_before entry early = false_from_ne_true (is_entry entry) (λ t.
-      let before = rw (same_arcs entry t, tied_itself nat_list_cmp_total arcs) at early in
-      cc)
+  none_before entry early = grind (arith, false_from_ne_true, same_arcs, tied_itself, nat_list_cmp_total, early)
 
   -- where the first one that is not before them is no entry of them, no later one is
   none_after : (first entry : Entry ObjectIdentifierRef) → is_before arcs (entry_arcs first) ≡ false → is_before (entry_arcs first) (entry_arcs entry) ≡ false → is_entry first ≡ false → is_entry entry ≡ false
-  none_after first entry late later other = false_from_ne_true (is_entry entry) (λ t.
-      let back = rw (same_arcs entry t) at later in
-      let same = level_lists (entry_arcs first) arcs late back in
-      let is : is_entry first ≡ true = ap (λ xs. pointwise nat_eq xs arcs) same ∙ same_as_itself arcs in
-      cc)
+  none_after first entry late later other = search (rules, false_from_ne_true, same_arcs, level_lists, same_as_itself)
 
 -- ---- the entries of a sorted table
 
@@ -123,14 +116,7 @@ module _ (arcs : List ℕ) (entries : List (Entry ObjectIdentifierRef)) where
     module _ (index : ℕ) (cut : IsPartitionPoint (λ entry. is_before (entry_arcs entry) arcs ≡ false) (λ entry. is_before (entry_arcs entry) arcs ≡ true) entries index) where
       -- what they begin with is up to them
       upto : (k : ℕ) (d : Entry ObjectIdentifierRef) → k < length entries → BeginsWith arcs (entry_arcs (get_or entries k d)) → k < index
-      upto k d l b = ⊎_elim
-          (λ (before : k < index). before)
-          (λ (after : index ≤ k).
-          let prefix = entry_arcs (get_or entries k d) in
-          let level = under_apart prefix arcs ((under_iff prefix arcs).1 b) in
-          let past = cut.1 k d after l in
-          cc)
-          (cases_lt k index)
+      upto k d l b = grind (arith, level, under_apart, under_iff, cases_lt)
 
       module _ (within : index ≤ length entries) where
         abbrev near_end : Option (Entry ObjectIdentifierRef)
@@ -203,15 +189,10 @@ module _ (arcs : List ℕ) (entries : List (Entry ObjectIdentifierRef)) where
   is_upto entry = is_ge (slice_cmp nat_cmp arcs (entry_arcs entry))
 
   pub cut_upto : IsSortedByKey entry_arcs (slice_cmp nat_cmp) entries → IsPartitionedBy is_upto entries
-  cut_upto up i j d le l t =
-      let order = ranks_by nat_list_cmp_total (λ (list : List ℕ). list) in
-      let far = sorted_far _ (ranks_by nat_list_cmp_total entry_arcs) entries up i j d le l in
-      not_less _ (order.chain arcs (entry_arcs (get_or entries j d)) (entry_arcs (get_or entries i d)) (at_least _ t) far)
+  cut_upto up i j d le l t = search (rules, ranks_by, nat_list_cmp_total, far, sorted_far, not_less, at_least)
 
   pub find_after : (index : ℕ) → IsPartitionPoint (λ entry. is_before (entry_arcs entry) arcs ≡ false) (λ entry. is_before (entry_arcs entry) arcs ≡ true) entries index → find (λ entry. is_lt (slice_cmp nat_cmp arcs (entry_arcs entry))) entries ≡ slice_get entries index
-  find_after index cut = find_is (λ entry. is_before (entry_arcs entry) arcs) entries index
-      (λ k d l m. cut.0 k d (omega arith) l)
-      (λ d l. cut.1 index d (omega arith) l)
+  find_after index cut = grind (arith, find_is, is_before)
 
 -- ---- a list that descends is not sorted
 
@@ -235,9 +216,7 @@ above_child : (parent : List ℕ) (last : ℕ) (prefix rest : List ℕ) → pare
 above_child parent last [] rest e some = (parent, refl)
 above_child [] last (y ∷ []) rest e some = absurd (some (cc))
 above_child [] last (y ∷ z ∷ zs) rest e some = cc
-above_child (x ∷ xs) last (y ∷ ys) rest e some =
-    let (more, f) = above_child xs last ys rest (cc) some in
-    (more, cc)
+above_child (x ∷ xs) last (y ∷ ys) rest e some = grind (arith, above_child xs last ys rest (cc) some)
 
 above_root : (arcs prefix : List ℕ) → length arcs ≡ 2 → 2 ≤ length prefix → BeginsWith arcs prefix → prefix ≢ arcs → ⊥
 above_root arcs prefix two more ([], e) other = other (sym (e ∙ append-nil prefix))
@@ -260,10 +239,7 @@ module _ (entries : List (Entry ObjectIdentifierRef)) (arcs : List ℕ) where
 
     -- where the table has no entry of it, or some arcs do not begin with it and with all that it is reached for
     pub not_found : find (is_entry (ref_arcs oid)) entries ≡ None → All (λ entry. entry_arcs entry ≢ ref_arcs oid) entries
-    not_found none k d l e =
-        let fails = none_passes (is_entry (ref_arcs oid)) entries none k d l in
-        let passes = rw e at (same_as_itself (entry_arcs (get_or entries k d))) in
-        cc
+    not_found none k d l e = grind (arith, none_passes, same_as_itself)
 
     pub not_begun : (near : List ℕ) → All (λ other. BeginsWith arcs (entry_arcs other) → BeginsWith near (entry_arcs other)) entries → ¬ BeginsWith near (ref_arcs oid) → All (λ entry. entry_arcs entry ≢ ref_arcs oid) entries
     not_begun near all other k d l e =

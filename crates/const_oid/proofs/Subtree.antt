@@ -1,5 +1,5 @@
 -- Where a test cuts a sorted list, and where a sorted list holds the identifiers that begin with one.
-use Rattle.std.proofs.Common.{◌≡◌, ◌+◌, ◌<◌, ℕ, suc, Bool, true, false, cond, ◌||◌, List, [], ◌∷◌, length, get_or, count_by, refl, arith, sym, zero, ◌∙◌, ◌≤◌, ⊎_elim, nat_cmp, ◌-◌, ap, drop}
+use Rattle.std.proofs.Common.{◌≡◌, ◌+◌, ◌<◌, ℕ, suc, Bool, true, false, cond, ◌||◌, List, [], ◌∷◌, length, get_or, count_by, refl, arith, sym, zero, ◌∙◌, ◌≤◌, ⊎_elim, nat_cmp, ◌-◌, ap, drop, rules}
 use Rattle.std.specs.Prelude.{◌↔◌, IfSome, slice_get}
 use Rattle.std.specs.Cmp.{IsStrictWeakOrder}
 use Rattle.std.specs.List.{prefix_len}
@@ -66,7 +66,7 @@ module _ {X : Type 0} (p b : X → Bool) (apart : (x : X) → b x ≡ true → p
       rw (get_or-drop from xs i d) (rw late at passes)
 
   index : (count k : ℕ) (q c : Bool) → (k < from → q ≡ true) → (from ≤ k → k < from + count → c ≡ true) → (from + count ≤ k → c ≡ false) → (c ≡ true → q ≡ false) → (c ≡ true) ↔ ((from ≤ k) × (k < from + count))
-  index count k q c early inside late apart = (λ t. (grind (arith, common_steps), grind (arith, common_steps)), λ h. inside h.0 h.1)
+  index count k q c early inside late apart = search rules
 
   -- those that pass it are from there on to the other's cut
   between_points : (count : ℕ) → IsPartitionPoint (λ x. b x ≡ true) (λ x. b x ≡ false) (drop from xs) count → (k : ℕ) (d : X) → k < length xs → (b (get_or xs k d) ≡ true) ↔ ((from ≤ k) × (k < from + count))

@@ -19,7 +19,7 @@ AreTaken rule capacity given = (later : List ℕ) → item_fault rule (given ++ 
 
 -- one more item without a fault
 pub taken_more : (rule : RootRule) (capacity : ℕ) (given : List ℕ) (arc : ℕ) → AreTaken rule capacity given → arc_fault rule capacity given arc ≡ None → AreTaken rule capacity (given ++ arc ∷ [])
-taken_more rule capacity given arc taken fits = λ later. ap (λ items. item_fault rule items capacity) (append_assoc given (arc ∷ []) later) ∙ taken (arc ∷ later) ∙ rw fits refl
+taken_more rule capacity given arc taken fits = grind (arith, append_assoc)
 
 -- a list begins with the items that a run gave of it
 begins_with_run : {S : Type 0} {steps : S → Option ℕ → S → Type 0} (p : Run steps) (items : List ℕ) → ItemsAre p items → items ≡ p.items ++ drop (length p.items) items

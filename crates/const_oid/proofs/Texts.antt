@@ -24,8 +24,7 @@ use Rattle.const_oid.proofs.Numbers.{find-none, digits_from_find, undotted, deci
 
 pieces_of-join : (piece : List ℕ) (pieces : List (List ℕ)) → AllByRecursion IsNumber (piece ∷ pieces) → pieces_of (join_with_byte 46 (piece ∷ pieces)) ≡ piece ∷ pieces
 pieces_of-join piece [] h = slice_split_none (λ b. b == 46) piece (undotted piece h.0.1)
-pieces_of-join piece (next ∷ more) h =
-    slice_split_at (λ b. b == 46) piece 46 (join_with_byte 46 (next ∷ more)) (undotted piece h.0.1) refl ∙ ap (λ ps. piece ∷ ps) (pieces_of-join next more h.1)
+pieces_of-join piece (next ∷ more) h = search (slice_split_at, undotted, pieces_of-join next more h.1)
 
 -- ---- what is printed is read back
 
@@ -47,13 +46,10 @@ arcs_small rule _ i = absurd i
 
 pieces_of-text_of : (rule : RootRule) (arcs : List ℕ) → IsIdentifier rule arcs → pieces_of (text_of arcs) ≡ map decimal arcs
 pieces_of-text_of rule [] i = absurd i
-pieces_of-text_of rule (a ∷ arcs) i = pieces_of-join (decimal a) (map decimal arcs) (decimals_are (a ∷ arcs) (arcs_small rule (a ∷ arcs) i))
+pieces_of-text_of rule (a ∷ arcs) i = search (pieces_of-join, decimals_are, arcs_small)
 
 pub text_denotes : (rule : RootRule) (arcs : List ℕ) → IsIdentifier rule arcs → Denotes rule (text_of arcs) arcs
-text_denotes rule arcs i =
-    let e = pieces_of-text_of rule arcs i in
-    let l = arcs_small rule arcs i in
-    record { numbers = rw e (decimals_are arcs l); values = rw e (sym (numbers_of-decimals arcs l)); identifier = i }
+text_denotes rule arcs i = grind (arith, pieces_of-text_of, arcs_small, decimals_are, numbers_of-decimals)
 
 -- no text denotes two lists
 pub same_denoted : (rule : RootRule) (text a b : List ℕ) → Denotes rule text a → Denotes rule text b → a ≡ b
@@ -66,12 +62,10 @@ same_text rule a b i j e = same_denoted rule (text_of b) a b (rw e at (text_deno
 
 stripped_pieces : (pieces : List (List ℕ)) → AllByRecursion IsNumber pieces → AllByRecursion (λ n. n ≤ max_arc) (map number_of pieces) → map decimal (map number_of pieces) ≡ map strip_piece pieces
 stripped_pieces [] p l = refl
-stripped_pieces (piece ∷ pieces) p l = let e = decimal-number_of piece p.0 l.0 in let f = stripped_pieces pieces p.1 l.1 in cc
+stripped_pieces (piece ∷ pieces) p l = search (decimal-number_of, stripped_pieces pieces p.1 l.1)
 
 pub text_of-denoted : (rule : RootRule) (text arcs : List ℕ) → Denotes rule text arcs → text_of arcs ≡ strip text
-text_of-denoted rule text arcs d =
-    let l = arcs_small rule arcs d.identifier in
-    ap text_of d.values ∙ ap (join_with_byte 46) (stripped_pieces (pieces_of text) d.numbers (rw d.values at l))
+text_of-denoted rule text arcs d = grind (arith, arcs_small, stripped_pieces)
 
 -- ---- pieces without a fault
 
@@ -89,8 +83,7 @@ not_one_empty (piece ∷ []) h = not_empty piece h.0.0
 not_one_empty (piece ∷ next ∷ more) h = refl
 
 piece_none : (rule : RootRule) (capacity : ℕ) (before piece : List ℕ) (after : List (List ℕ)) → AllByRecursion IsNumber (piece ∷ after) → number_of piece ≤ max_arc → arc_fault rule capacity before (number_of piece) ≡ None → piece_fault rule capacity before piece after ≡ None
-piece_none rule capacity before piece after p l a =
-    rw (none_from_below max_arc (number_of piece) ArcTooBig l, find-none piece p.0.1, not_empty piece p.0.0, not_one_empty after p.1, a)
+piece_none rule capacity before piece after p l a = search (none_from_below, find-none, not_empty, not_one_empty)
 
 -- what a piece without a fault is
 record IsValidPiece (rule : RootRule) (capacity : ℕ) (before piece : List ℕ) (after : List (List ℕ)) : Type 0 where
@@ -129,7 +122,7 @@ pieces_none rule capacity before (piece ∷ after) p i s =
     (pieces_none rule capacity (before ++ n ∷ []) after p.1 (rw (← e) at i) (rw (← e) at s))
 
 pub text_fault-none : (rule : RootRule) (capacity : ℕ) (text arcs : List ℕ) → Denotes rule text arcs → size arcs ≤ capacity → text_fault rule text capacity ≡ None
-text_fault-none rule capacity text arcs d s = pieces_none rule capacity [] (pieces_of text) d.numbers (rw d.values at d.identifier) (rw d.values at s)
+text_fault-none rule capacity text arcs d s = grind (arith, pieces_none)
 
 pieces_valid : (rule : RootRule) (capacity : ℕ) (before : List ℕ) (pieces : List (List ℕ)) → IsBegun rule capacity before → pieces_fault rule capacity before pieces ≡ None → (IsIdentifier rule (before ++ map number_of pieces) × (size (before ++ map number_of pieces) ≤ capacity)) × AllByRecursion IsNumber pieces
 pieces_valid rule capacity before [] b h = (rw append-nil (whole_from_begun rule capacity before b h), tt)
@@ -140,9 +133,7 @@ pieces_valid rule capacity before (piece ∷ after) b h =
     (rw (append-cons before (number_of piece) (map number_of after)) at whole, (s.number, numbers))
 
 pub denoted_from_none : (rule : RootRule) (capacity : ℕ) (text : List ℕ) → text_fault rule text capacity ≡ None → Denotes rule text (map number_of (pieces_of text)) × (size (map number_of (pieces_of text)) ≤ capacity)
-denoted_from_none rule capacity text h =
-    let (whole, numbers) = pieces_valid rule capacity [] (pieces_of text) tt h in
-    (record { numbers = numbers; values = refl; identifier = whole.0 }, whole.1)
+denoted_from_none rule capacity text h = grind (arith, pieces_valid)
 
 -- the arcs that a text is read as are those that it denotes
 pub denoted_from_answer : (rule : RootRule) (capacity : ℕ) (text arcs : List ℕ) → Ok arcs ≡ text_answer rule text capacity → Denotes rule text arcs
@@ -164,7 +155,7 @@ text_left-cons true arc arcs = text_of-first arc arcs
 text_left-cons false arc arcs = ap (λ l. 46 ∷ l) (text_of-first arc arcs)
 
 pub length-text_left : (is_first : Bool) (arc : ℕ) (arcs : List ℕ) → length (text_left is_first (arc ∷ arcs)) ≡ length (arc_text is_first arc) + length (text_left false arcs)
-length-text_left is_first arc arcs = ap length (text_left-cons is_first arc arcs) ∙ length-append (arc_text is_first arc) (text_left false arcs)
+length-text_left is_first arc arcs = search (text_left-cons, arc, length-append, arc_text)
 
 pub text_left-nil : (is_first : Bool) → text_left is_first [] ≡ []
 text_left-nil true = refl
@@ -182,5 +173,4 @@ text_ascii rule arcs i = texts_ascii true arcs (arcs_small rule arcs i)
 pub root_within : (arcs : List ℕ) → length (text_of (take 2 arcs)) ≤ length (text_of arcs)
 root_within [] = omega arith
 root_within (a ∷ []) = omega arith
-root_within (a ∷ b ∷ later) =
-    omega (arith, ap length (text_of-first b later), length-append (decimal b) (text_left false later), length-append (decimal a) (46 ∷ text_of (b ∷ later)), length-append (decimal a) (46 ∷ decimal b))
+root_within (a ∷ b ∷ later) = grind (arith, text_of-first, length-append)

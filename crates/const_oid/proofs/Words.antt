@@ -1,5 +1,5 @@
 -- Words of eight octets: they are the same where their octets are, and have the list order of these.
-use Rattle.std.proofs.Common.{◌≡◌, ◌≢◌, ℕ, zero, suc, ◌+◌, ◌*◌, ◌^◌, ◌<◌, ◌≤◌, List, [], ◌∷◌, ◌++◌, length, take, drop, refl, sym, ap, ap₂, ◌∙◌, arith, min, Bool, true, false, ◌&&◌, nat_eq, IsTrue, Less, Equal, Greater, nat_cmp, w64, pow-suc}
+use Rattle.std.proofs.Common.{◌≡◌, ◌≢◌, ℕ, zero, suc, ◌+◌, ◌*◌, ◌^◌, ◌<◌, ◌≤◌, List, [], ◌∷◌, ◌++◌, length, take, drop, refl, sym, ap, ap₂, ◌∙◌, arith, min, Bool, true, false, ◌&&◌, nat_eq, IsTrue, Less, Equal, Greater, nat_cmp, w64, pow-suc, rules}
 use Rattle.std.proofs.Math.Seq.{take-add}
 use Rattle.std.specs.Int.{from_be_bytes}
 use Rattle.std.specs.Ordering.{ordering_then, is_eq}
@@ -23,10 +23,7 @@ worth (x ∷ xs) = x * 256 ^ length xs + worth xs
 
 worth_below : (xs : List ℕ) → AreOctets xs → worth xs < 256 ^ length xs
 worth_below [] s = omega arith
-worth_below (x ∷ xs) s =
-    let p = 256 ^ length xs in
-    let m : suc x * p ≤ 256 * p = mul-le (suc x) p 256 p (omega arith) (omega arith) in
-    rw (pow-suc 256 (length xs)) (omega (arith, worth_below xs s.1))
+worth_below (x ∷ xs) s = search (rules, mul-le, pow-suc, worth_below xs s.1)
 
 worth_cmp : (xs ys : List ℕ) → AreOctets xs → AreOctets ys → length xs ≡ length ys → slice_cmp nat_cmp xs ys ≡ nat_cmp (worth xs) (worth ys)
 worth_cmp [] [] s t l = refl
@@ -55,10 +52,7 @@ length-chunk : (xs : List ℕ) (at : ℕ) → at + 8 ≤ length xs → length (t
 length-chunk xs at h = length-take-le 8 (drop at xs) (omega (arith, length-drop at xs))
 
 chunks_cmp : (xs ys : List ℕ) (at m n : ℕ) → IsWord xs at m → IsWord ys at n → slice_cmp nat_cmp (take 8 (drop at xs)) (take 8 (drop at ys)) ≡ nat_cmp m n
-chunks_cmp xs ys at m n v w =
-    let k = length-chunk xs at v.within in
-    let l = length-chunk ys at w.within in
-    rw (v.value, w.value, word_worth _ k, word_worth _ l) (worth_cmp _ _ v.below_256 w.below_256 (k ∙ sym l))
+chunks_cmp xs ys at m n v w = grind (arith, length-chunk, word_worth, worth_cmp)
 
 same_lists : (xs ys : List ℕ) → slice_cmp nat_cmp xs ys ≡ Equal → xs ≡ ys
 same_lists xs ys e = same_text xs ys (sym (texts_ties xs ys ∙ ap is_eq e))
@@ -114,8 +108,7 @@ same_lists_words xs ys at m n v w e = v.value ∙ ap (λ zs. from_be_bytes w64 (
 
 -- unequal words are not of the same lists
 pub unequal_lists : (xs ys : List ℕ) (at m n : ℕ) → IsWord xs at m → IsWord ys at n → m ≢ n → false ≡ pointwise nat_eq xs ys
-unequal_lists xs ys at m n v w u =
-    sym (false_from_ne_true _ (λ t. u (same_lists_words xs ys at m n v w (same_text xs ys (sym t)))))
+unequal_lists xs ys at m n v w u = search rules
 
 -- equal last words end the same lists
 pub last_words : (xs ys : List ℕ) (at m n : ℕ) → IsWord xs at m → IsWord ys at n → take at xs ≡ take at ys → m ≡ n → length xs ≡ at + 8 → length ys ≡ at + 8 → true ≡ pointwise nat_eq xs ys
@@ -125,8 +118,8 @@ last_words xs ys at m n v w same e k l =
 
 -- a test that is true exactly where lists are the same
 pub tells_same : (test : Bool) (xs ys : List ℕ) → (IsTrue test → xs ≡ ys) → (xs ≡ ys → IsTrue test) → test ≡ pointwise nat_eq xs ys
-tells_same true xs ys same equal = sym (texts_ties xs ys ∙ ap is_eq (ap (λ zs. slice_cmp nat_cmp zs ys) (same refl) ∙ tied_itself nat_list_cmp_total ys))
-tells_same false xs ys same equal = sym (false_from_ne_true _ (λ t. let f = equal (same_text xs ys (sym t)) in absurd (cc)))
+tells_same true xs ys same equal = search rules
+tells_same false xs ys same equal = search rules
 
 -- a test of words, and of those before them
 pub same_words : (before : Bool) (xs ys : List ℕ) (at m n : ℕ) → IsWord xs at m → IsWord ys at n → (IsTrue before → take at xs ≡ take at ys) → IsTrue (before && nat_eq m n) → take (at + 8) xs ≡ take (at + 8) ys
@@ -156,4 +149,4 @@ whole_cmp xs ys used k l same =
     ∙ with_end (take used xs) (take used ys) (drop used ys) (length-take-le used xs k ∙ sym (length-take-le used ys l))
 
 pub whole_eq : (xs ys : List ℕ) (used : ℕ) → used ≤ length xs → used ≤ length ys → drop used xs ≡ drop used ys → pointwise nat_eq xs ys ≡ pointwise nat_eq (take used xs) (take used ys)
-whole_eq xs ys used k l same = texts_ties xs ys ∙ ap is_eq (whole_cmp xs ys used k l same) ∙ sym (texts_ties (take used xs) (take used ys))
+whole_eq xs ys used k l same = grind (arith, texts_ties, whole_cmp)
