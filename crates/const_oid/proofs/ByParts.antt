@@ -76,10 +76,6 @@ numbers_cmp (n ∷ ns) [] (g ∷ gs) [] p q = refl
 numbers_cmp (n ∷ ns) (m ∷ ms) (g ∷ gs) (h ∷ hs) p q = rw (groups_short p.0 q.0, numbers_cmp ns ms gs hs p.1 q.1)
 numbers_cmp _ _ _ _ p q = absurd assumption
 
--- first numbers are in the order of the first two arcs
-root_cmp : (rule : RootRule) (a b c d : ℕ) → b ≤ max_second rule a → d ≤ max_second rule c → a ≤ 2 → c ≤ 2 → nat_cmp (40 * a + b) (40 * c + d) ≡ ordering_then (nat_cmp a c) (nat_cmp b d)
-root_cmp rule a b c d p q l m = search rules
-
 then_assoc : (o p q : Ordering) → ordering_then (ordering_then o p) q ≡ ordering_then o (ordering_then p q)
 then_assoc Less p q = refl
 then_assoc Equal p q = refl

@@ -5,7 +5,7 @@ use Rattle.std.proofs.lemmas.Bool.{ltb-false}
 use Rattle.const_oid.specs.declared.error.Error.{Error}
 use Rattle.const_oid.specs.Error.{fault_if}
 
-pub both_none : {X : Type 0} (a b : Option X) → option_or a b ≡ None → (a ≡ None) × (b ≡ None)
+pub both_none : (a b : Option Error) → option_or a b ≡ None → (a ≡ None) × (b ≡ None)
 both_none None b h = (refl, h)
 both_none (Some x) b h = cc
 
