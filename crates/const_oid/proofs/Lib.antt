@@ -16,7 +16,6 @@ pub mod Decimals
 pub mod Texts
 pub mod Children
 pub mod OctetPass
-pub mod NumberPass
 pub mod PartsFault
 pub mod TextPass
 pub mod Octets

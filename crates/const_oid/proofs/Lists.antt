@@ -1,5 +1,5 @@
 -- Lists put together, and put before the first of some lists.
-use Rattle.std.proofs.Common.{◌≡◌, ℕ, List, [], ◌∷◌, ◌++◌, append_assoc, true, not, refl, sym, ap}
+use Rattle.std.proofs.Common.{◌≡◌, ℕ, List, [], ◌∷◌, ◌++◌, append_assoc, true, not, refl, sym, ap, ◌∙◌}
 use Rattle.std.specs.List.{AllByRecursion, onto_first}
 use Rattle.const_oid.specs.Text.{is_empty}
 
@@ -35,3 +35,9 @@ onto_all-first (y ∷ ys) x (part ∷ parts) = ap (λ p. p ∷ parts) (sym (appe
 pub onto_all-cons : (prefix part : List ℕ) (parts : List (List ℕ)) → onto_all prefix (part ∷ parts) ≡ (prefix ++ part) ∷ parts
 onto_all-cons [] part parts = refl
 onto_all-cons (y ∷ ys) part parts = refl
+
+-- an element put after those before makes the first list longer
+pub onto_all-some : (prefix : List ℕ) (x : ℕ) (parts : List (List ℕ))
+    → (tail : List ℕ) × (after : List (List ℕ)) × (onto_all (prefix ++ x ∷ []) parts ≡ (prefix ++ x ∷ tail) ∷ after)
+onto_all-some prefix x [] = ([], [], sym (onto_all-first prefix x []) ∙ onto_all-cons prefix (x ∷ []) [])
+onto_all-some prefix x (p ∷ ps) = (p, ps, sym (onto_all-first prefix x (p ∷ ps)) ∙ onto_all-cons prefix (x ∷ p) ps)

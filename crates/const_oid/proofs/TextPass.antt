@@ -1,17 +1,17 @@
 -- One pass over the bytes of a text, which ends at the first fault that it meets, finds the fault of the first faulty piece.
-use Rattle.std.proofs.Common.{◌≡◌, ◌≢◌, ℕ, ◌+◌, ◌-◌, ◌*◌, ◌<◌, ◌≤◌, Bool, true, false, not, List, [], ◌∷◌, ◌++◌, length, drop, get_or, nat_lt, ◌==◌, map, Option, Some, None, Result, Ok, Err, IfOk, is_some, unwrap_or, if◌then◌else◌, refl, sym, ap, ◌∙◌, ⊎_elim, arith, append-nil, drop-cons, count_by, take_while, leb, lt-ltb, le-ltb, eq-eqb, ne_eqb}
+use Rattle.std.proofs.lemmas.Bool.Decides.{nat_tests}
+use Rattle.std.proofs.Common.{◌≡◌, ◌≢◌, ℕ, ◌+◌, ◌-◌, ◌*◌, ◌<◌, ◌≤◌, Bool, true, false, not, List, [], ◌∷◌, ◌++◌, length, drop, get_or, nat_lt, ◌==◌, map, Option, Some, None, Result, Ok, Err, IfOk, is_some, unwrap_or, if◌then◌else◌, refl, sym, ap, ◌∙◌, ⊎_elim, arith, append-nil, count_by, take_while, lt-ltb, le-ltb, eq-eqb, ne_eqb}
 use Rattle.std.specs.Bool.{then_some}
 use Rattle.std.specs.List.{onto_first}
 use Rattle.std.specs.Option.{option_or}
 use Rattle.std.specs.Result.{result_err, result_map_both}
-use Rattle.std.specs.Char.{is_ascii_digit, digit_value}
+use Rattle.std.specs.Char.{is_ascii_digit}
 use Rattle.std.specs.Str.{all_ascii_digits}
 use Rattle.std.specs.Str.Parse.{digits_value}
 use Rattle.std.proofs.lemmas.List.{take_at}
-use Rattle.std.proofs.lemmas.Bool.{cases_lt, cases_Bool, cases_eq, leb-true, and_parts}
+use Rattle.std.proofs.lemmas.Bool.{cases_lt, cases_Bool, cases_eq}
 use Rattle.std.proofs.lemmas.Int.Digits.{digits_value_push}
 use Rattle.std.proofs.lemmas.List.Splits.{length-slice_split, slice_split-cons_yes, slice_split-cons_no}
-use Rattle.std.proofs.lemmas.Str.{digit_value_digit}
 use Rattle.std.proofs.lemmas.Str.Parse.{digits_value-take-le}
 use Rattle.std.proofs.lemmas.Grind.{common_steps}
 use Rattle.const_oid.specs.declared.error.Error.{Error}
@@ -22,7 +22,7 @@ use Rattle.const_oid.specs.Private.Parser.{last_fault}
 use Rattle.const_oid.specs.Items.{arc_fault, too_few_fault}
 use Rattle.const_oid.specs.Text.{pieces_of, number_of, is_empty, is_one_empty, empty_fault, piece_fault, pieces_fault, text_answer}
 use Rattle.const_oid.specs.Error.{fault_if, answer}
-use Rattle.const_oid.proofs.Lists.{append-cons, onto_all, onto_all-first, not_empty_push, onto_all-cons}
+use Rattle.const_oid.proofs.Lists.{append-cons, onto_all, onto_all-first, not_empty_push, onto_all-cons, onto_all-some}
 use Rattle.const_oid.proofs.Encodings.{arcs_of_encoding}
 use Rattle.const_oid.proofs.Numbers.{number_of_digits, find-none, take_while-digits, find-digits, digit-undotted}
 
@@ -56,20 +56,12 @@ piece_read-none = record { digits = refl; begun_is = refl; value_is = refl; smal
 
 -- ---- digits
 
-digit_is : (b : ℕ) → is_ascii_digit b ≡ true → digit_value b ≡ b - 48
-digit_is b h =
-    let (low, high) = and_parts (leb 48 b) (leb b 57) h in
-    omega (arith, digit_value_digit b (leb-true 48 b low, leb-true b 57 high))
-
 digits_push : (prefix : List ℕ) (b : ℕ) → all_ascii_digits prefix ≡ true → is_ascii_digit b ≡ true → all_ascii_digits (prefix ++ b ∷ []) ≡ true
 digits_push [] b h d = rw d
 digits_push (y ∷ ys) b h d = grind (arith, common_steps, digits_push ys b)
 
 value_push : (prefix : List ℕ) (b : ℕ) → is_ascii_digit b ≡ true → digits_value 10 (prefix ++ b ∷ []) ≡ digits_value 10 prefix * 10 + (b - 48)
-value_push prefix b d = digits_value_push 10 prefix b ∙ ap (λ v. digits_value 10 prefix * 10 + v) (digit_is b d)
-
-take_while-other : (b : ℕ) (bs : List ℕ) → is_ascii_digit b ≡ false → take_while is_ascii_digit (b ∷ bs) ≡ []
-take_while-other b bs d = rw d
+value_push prefix b d = grind (arith, nat_tests, digits_value_push)
 
 -- ---- the piece that is read
 
@@ -92,8 +84,7 @@ piece_too_big rule capacity before prefix b more after h d l = rw (lt-ltb max_ar
 -- it has a byte that is no digit
 bad_byte : (rule : RootRule) (capacity : ℕ) (before prefix : List ℕ) (b : ℕ) (more : List ℕ) (after : List (List ℕ)) → all_ascii_digits prefix ≡ true → is_ascii_digit b ≡ false → digits_value 10 prefix ≤ max_arc → piece_fault rule capacity before (prefix ++ b ∷ more) after ≡ Some (DigitExpected b)
 bad_byte rule capacity before prefix b more after h d l =
-    let e : number_of (prefix ++ b ∷ more) ≡ digits_value 10 prefix = ap (digits_value 10) (take_while-digits prefix (b ∷ more) h ∙ ap (λ xs. prefix ++ xs) (take_while-other b more d) ∙ append-nil prefix) in
-    rw (e, le-ltb max_arc (digits_value 10 prefix) l, find-digits prefix (b ∷ more) h, d)
+    grind (arith, nat_tests, append-nil, take_while-digits, find-digits)
 
 -- it has digits alone
 digits_piece : (rule : RootRule) (capacity : ℕ) (before prefix : List ℕ) (value : ℕ) (after : List (List ℕ)) → all_ascii_digits prefix ≡ true → number_of prefix ≡ value → value ≤ max_arc →
@@ -101,10 +92,6 @@ digits_piece : (rule : RootRule) (capacity : ℕ) (before prefix : List ℕ) (va
 digits_piece rule capacity before prefix value after h n l = rw (n, le-ltb max_arc value l, find-none prefix h)
 
 -- ---- pieces
-
-onto_all-some : (prefix : List ℕ) (b : ℕ) (pieces : List (List ℕ)) → (more : List ℕ) × (after : List (List ℕ)) × (onto_all (prefix ++ b ∷ []) pieces ≡ (prefix ++ b ∷ more) ∷ after)
-onto_all-some prefix b [] = ([], [], sym (onto_all-first prefix b []) ∙ onto_all-cons prefix (b ∷ []) [])
-onto_all-some prefix b (p ∷ ps) = (p, ps, sym (onto_all-first prefix b (p ∷ ps)) ∙ onto_all-cons prefix (b ∷ p) ps)
 
 pieces_of-some : (bs : List ℕ) → (piece : List ℕ) × (more : List (List ℕ)) × (pieces_of bs ≡ piece ∷ more)
 pieces_of-some bs = by (pieces_of bs) (length-slice_split (λ b. b == 46) bs)
@@ -164,7 +151,7 @@ dot_is rule capacity before (y ∷ ys) begun value (c ∷ cs) s rest =
     (after-answer (arc_fault rule capacity before value) (pieces_fault rule capacity (before ++ value ∷ []) ps) (before ++ value ∷ map number_of ps))
 
 text_pass_is : (bytes : List ℕ) (rule : RootRule) (capacity : ℕ) (before prefix : List ℕ) (begun : Bool) (value : ℕ) → IsPieceRead prefix begun value → text_pass rule capacity before begun value bytes ≡ pieces_answer rule capacity before (onto_all prefix (pieces_of bytes))
-text_pass_is [] rule capacity before prefix begun value s = rw (onto_all-cons prefix [] [], append-nil prefix) (end_is rule capacity before prefix begun value s)
+text_pass_is [] rule capacity before prefix begun value s = grind (arith, common_steps, end_is, onto_all-cons)
 text_pass_is (b ∷ bs) rule capacity before prefix begun value s = ⊎_elim
     (λ (d : is_ascii_digit b ≡ true).
     let value' = value * 10 + (b - 48) in
@@ -207,32 +194,15 @@ text_pass-end octets_in rule capacity before (Some arc) (Err fault) n f e = rw (
 
 -- ---- one byte of a text at an index
 
--- whether a byte is a digit, by the number that it denotes
-pub is_digit : (byte digit : ℕ) → Some digit ≡ then_some (is_ascii_digit byte) (byte - 48) → (is_ascii_digit byte ≡ true) × (digit ≡ byte - 48)
-is_digit byte digit e = by (is_ascii_digit byte) e
-  where
-    by : (test : Bool) → Some digit ≡ then_some test (byte - 48) → (test ≡ true) × (digit ≡ byte - 48)
-    by true e = (refl, cc)
-    by false e = cc
-
-pub is_no_digit : (byte : ℕ) → None ≡ then_some (is_ascii_digit byte) (byte - 48) → is_ascii_digit byte ≡ false
-is_no_digit byte e = by (is_ascii_digit byte) e
-  where
-    by : (test : Bool) → None ≡ then_some test (byte - 48) → test ≡ false
-    by true e = cc
-    by false e = refl
-
 -- a digit that takes the number past the limit
 pub text_pass-too_big : (rule : RootRule) (capacity : ℕ) (before : List ℕ) (begun : Bool) (value digit : ℕ) (text : List ℕ) (index : ℕ) → index < length text → Some digit ≡ then_some (is_ascii_digit (get_or text index 0)) (get_or text index 0 - 48) → max_arc < value * 10 + digit → text_pass rule capacity before begun value (drop index text) ≡ Err ArcTooBig
-text_pass-too_big rule capacity before begun value digit text index inside read big =
-    let (holds, is) = is_digit (get_or text index 0) digit read in
-    rw (drop-cons text index 0 inside, holds, ← is, lt-ltb max_arc (value * 10 + digit) big) refl
+text_pass-too_big rule capacity before begun value digit text index inside read big = grind (arith, common_steps)
 
 -- another byte
 pub text_pass-other : (rule : RootRule) (capacity : ℕ) (before : List ℕ) (begun : Bool) (value : ℕ) (text : List ℕ) (index : ℕ) → index < length text → None ≡ then_some (is_ascii_digit (get_or text index 0)) (get_or text index 0 - 48) → get_or text index 0 ≢ 46 → text_pass rule capacity before begun value (drop index text) ≡ Err (DigitExpected (get_or text index 0))
-text_pass-other rule capacity before begun value text index inside read no_dot = rw (drop-cons text index 0 inside, is_no_digit (get_or text index 0) read, ne_eqb (get_or text index 0) 46 no_dot) refl
+text_pass-other rule capacity before begun value text index inside read no_dot = grind (arith, common_steps)
 
 -- a fault of the last piece
 pub text_pass-end_fault : (rule : RootRule) (capacity : ℕ) (before : List ℕ) (begun : Bool) (value : ℕ) (piece : Option ℕ) (fault : Error) → piece ≡ then_some begun value → Some fault ≡ last_fault rule capacity before piece → text_pass rule capacity before begun value [] ≡ Err fault
-text_pass-end_fault rule capacity before true value piece fault is e = let e' : Some fault ≡ arc_fault rule capacity before value = rw is at e in rw (← e') refl
-text_pass-end_fault rule capacity before false value piece fault is e = let e' : Some fault ≡ Some (empty_fault before []) = rw is at e in cc
+text_pass-end_fault rule capacity before true value piece fault is e = grind (arith, nat_tests)
+text_pass-end_fault rule capacity before false value piece fault is e = grind (arith, nat_tests)

@@ -1,6 +1,6 @@
 use Rattle.std.proofs.Common.{◌∙◌, sym, arith}
 use Rattle.std.proofs.lemmas.Grind.{common_steps}
-use Rattle.const_oid.proofs.OctetPass.{parts_at}
+use Rattle.const_oid.proofs.PartsFault.{parts_at}
 use Rattle.const_oid.proofs.valid.check.Goals as goal
 
 pub loop-rest-init : goal.loop-rest-init
