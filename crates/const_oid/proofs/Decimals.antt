@@ -1,8 +1,8 @@
 -- The digits of a number.
-use Rattle.std.proofs.Common.{◌≡◌, Bool, true, false, ℕ, zero, suc, ◌+◌, ◌-◌, ◌/◌, ◌^◌, ◌<◌, ◌≤◌, List, ◌++◌, length, drop, ap, ◌∙◌, ◌%◌, arith, decimal, length-append, append_assoc, pow-suc, ⊎_elim}
+use Rattle.std.proofs.lemmas.Grind.{common_steps}
+use Rattle.std.proofs.lemmas.Bool.Decides.{nat_tests}
+use Rattle.std.proofs.Common.{◌≡◌, Bool, true, false, ℕ, zero, suc, ◌+◌, ◌-◌, ◌/◌, ◌^◌, ◌<◌, ◌≤◌, List, ◌++◌, length, drop, ap, ◌∙◌, ◌%◌, arith, decimal, length-append, pow-suc}
 use Rattle.std.proofs.lemmas.Fmt.{decimal_digit, decimal_step, length-decimal-le, IsAscii-decimal}
-use Rattle.std.proofs.lemmas.Str.Ascii.{IsAscii-cons}
-use Rattle.std.proofs.lemmas.Bool.{cases_lt}
 use Rattle.std.specs.Str.{IsAscii}
 use Rattle.const_oid.specs.Private.Text.{arc_text, pair_text}
 use Rattle.std.proofs.lemmas.List.{drop-drop}
@@ -23,31 +23,24 @@ length_between (suc k) n low below high =
     omega (arith, length_step n (omega arith) high)
 
 pub decimal_two : (n : ℕ) → 10 ≤ n → n < 100 → decimal n ≡ pair_text n
-decimal_two n low high = rw (decimal_step n low (omega arith), decimal_digit (n / 10) (omega arith))
+decimal_two n low high = grind (arith, nat_tests, decimal_digit, decimal_step)
 
 pub decimal_pair : (n : ℕ) → 100 ≤ n → n < 2 ^ 64 → decimal n ≡ decimal (n / 100) ++ pair_text (n % 100)
-decimal_pair n low high =
-    let a : n / 10 / 10 ≡ n / 100 = omega arith in
-    let b : n / 10 % 10 ≡ n % 100 / 10 = omega arith in
-    let c : n % 10 ≡ n % 100 % 10 = omega arith in
-    rw (decimal_step n (omega arith) high, decimal_step (n / 10) (omega arith) (omega arith), append_assoc, a, b, ← c)
+decimal_pair n low high = grind (arith, common_steps, decimal_step)
 
 pub length_pair : (n : ℕ) → 100 ≤ n → n < 2 ^ 64 → length (decimal n) ≡ length (decimal (n / 100)) + 2
 length_pair n low high = ap length (decimal_pair n low high) ∙ length-append _ _
 
 pub length_two : (n : ℕ) → 10 ≤ n → n < 2 ^ 64 → 2 ≤ length (decimal n)
-length_two n low high = ⊎_elim
-    (λ (small : n < 100). omega (arith, ap length (decimal_two n low small)))
-    (λ (large : 100 ≤ n). omega (arith, length_pair n large high))
-    (cases_lt n 100)
+length_two n low high = grind (arith, nat_tests, decimal_two, length_pair)
 
 pub arc_text_short : (is_first : Bool) (arc : ℕ) → arc < 2 ^ 32 → length (arc_text is_first arc) ≤ 11
-arc_text_short true arc h = omega (arith, length-decimal-le 10 arc (omega arith) (omega arith) (omega arith))
-arc_text_short false arc h = omega (arith, length-decimal-le 10 arc (omega arith) (omega arith) (omega arith))
+arc_text_short true arc h = grind (arith, nat_tests, length-decimal-le)
+arc_text_short false arc h = grind (arith, nat_tests, length-decimal-le)
 
 pub arc_text_ascii : (is_first : Bool) (arc : ℕ) → arc < 2 ^ 32 → IsAscii (arc_text is_first arc)
 arc_text_ascii true arc h = IsAscii-decimal arc (omega arith)
-arc_text_ascii false arc h = IsAscii-cons 46 (decimal arc) (omega arith) (IsAscii-decimal arc (omega arith))
+arc_text_ascii false arc h = grind (arith, nat_tests, IsAscii-decimal)
 
 pub drop_more : (n m : ℕ) (xs ys : List ℕ) → n ≤ m → drop n xs ≡ drop n ys → drop m xs ≡ drop m ys
 drop_more n m xs ys h e = let f : n + (m - n) ≡ m = omega arith in rw (drop-drop, drop-drop, f) at (ap (drop (m - n)) e)

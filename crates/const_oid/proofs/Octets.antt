@@ -1,8 +1,8 @@
 -- Octets in an array that is zero past those in use.
+use Rattle.std.proofs.lemmas.Grind.{common_steps}
 use Rattle.std.proofs.Common.{◌≡◌, ℕ, ◌+◌, ◌-◌, ◌≤◌, List, [], ◌∷◌, ◌++◌, length, take, drop, replicate, sym, ap, ap₂, ◌∙◌, arith, suc, append_assoc, length-append, slice_index, EachIndex, ◌<◌}
-use Rattle.std.proofs.lemmas.List.{take_at, drop_at, drop-replicate, drop-drop, length-take-le}
+use Rattle.std.proofs.lemmas.List.{drop_at, drop-replicate, drop-drop, length-take-le}
 use Rattle.const_oid.specs.Base128.{IsContinued, AreOctets}
-use Rattle.const_oid.proofs.Lists.{all_append}
 
 -- octets by what is read at each index
 pub are_octets : (octets : List ℕ) → EachIndex octets (λ k. slice_index octets k < 256) → AreOctets octets
@@ -22,13 +22,10 @@ zeros_past size used more bytes zeros =
 
 -- more octets written past those in use
 pub taken_written : (used more : ℕ) (bytes octets after : List ℕ) → used ≤ length bytes → length octets ≡ more → after ≡ take used bytes ++ (octets ++ drop (used + more) bytes) → take (used + more) after ≡ take used bytes ++ octets
-taken_written used more bytes octets after inside l e =
-    let long : length (take used bytes ++ octets) ≡ used + more = length-append (take used bytes) octets ∙ ap₂ (λ m n. m + n) (length-take-le used bytes inside) l in
-    ap (λ xs. take (used + more) xs) (e ∙ sym (append_assoc (take used bytes) octets (drop (used + more) bytes)))
-    ∙ take_at (take used bytes ++ octets) (drop (used + more) bytes) (used + more) long
+taken_written used more bytes octets after inside l e = grind (arith, common_steps)
 
 pub octets_written : (used more : ℕ) (bytes octets after : List ℕ) → used ≤ length bytes → length octets ≡ more → AreOctets (take used bytes) → AreOctets octets → after ≡ take used bytes ++ (octets ++ drop (used + more) bytes) → AreOctets (take (used + more) after)
-octets_written used more bytes octets after inside l p q e = rw (taken_written used more bytes octets after inside l e) (all_append (λ x. x < 256) (take used bytes) octets p q)
+octets_written used more bytes octets after inside l p q e = grind (arith, common_steps)
 
 pub zeros_written : (size used more : ℕ) (bytes octets after : List ℕ) → used ≤ length bytes → length octets ≡ more → drop used bytes ≡ replicate (size - used) 0 → after ≡ take used bytes ++ (octets ++ drop (used + more) bytes) → drop (used + more) after ≡ replicate (size - (used + more)) 0
 zeros_written size used more bytes octets after inside l zeros e =

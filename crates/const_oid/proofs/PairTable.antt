@@ -1,5 +1,6 @@
 -- The table of pairs has the digits of each number below a hundred.
-use Rattle.std.proofs.Common.{◌≡◌, ℕ, zero, suc, ◌+◌, ◌-◌, ◌/◌, ◌%◌, ◌<◌, Bool, true, false, ◌&&◌, List, [], ◌∷◌, T, eqb, get_or, inl, inr, arith, eq-zero-or-pos, eqb→eq}
+use Rattle.std.proofs.lemmas.Bool.Decides.{nat_tests}
+use Rattle.std.proofs.Common.{◌≡◌, ℕ, zero, suc, ◌+◌, ◌-◌, ◌/◌, ◌%◌, ◌<◌, Bool, true, false, ◌&&◌, List, [], ◌∷◌, T, eqb, get_or, inl, inr, arith, eq-zero-or-pos}
 use lib.Ieee.Fits.{and_l, and_r}
 use Rattle.const_oid.specs.declared.digits.TheConstants.{PAIRS}
 use Rattle.const_oid.specs.Private.Text.{pair_text}
@@ -17,7 +18,7 @@ are_pairs (suc p) = is_pair (get_or PAIRS p []) p && are_pairs p
 pair_is : (digits : List ℕ) (p : ℕ) → T (is_pair digits p) → digits ≡ pair_text p
 pair_is [] p t = absurd t
 pair_is (tens ∷ []) p t = absurd t
-pair_is (tens ∷ ones ∷ []) p t = rw (eqb→eq tens _ (and_l _ (eqb ones (48 + p % 10)) t), eqb→eq ones _ (and_r (eqb tens (48 + p / 10)) _ t))
+pair_is (tens ∷ ones ∷ []) p t = grind (arith, nat_tests)
 pair_is (tens ∷ ones ∷ x ∷ xs) p t = absurd t
 
 pairs_below : (n p : ℕ) → T (are_pairs n) → p < n → get_or PAIRS p [] ≡ pair_text p

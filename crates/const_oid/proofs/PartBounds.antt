@@ -1,5 +1,6 @@
 -- Where parts of octets begin and end.
-use Rattle.std.proofs.Common.{◌≡◌, ◌≢◌, ℕ, zero, suc, ◌+◌, ◌-◌, ◌<◌, ◌≤◌, List, [], ◌∷◌, length, map, take, drop, get_or, slice_get, Some, None, refl, sym, ap, ◌∙◌, ⊎_elim, arith, add-one, drop-cons}
+use Rattle.std.proofs.lemmas.Grind.{common_steps}
+use Rattle.std.proofs.Common.{◌≡◌, ◌≢◌, ℕ, zero, suc, ◌+◌, ◌-◌, ◌<◌, ◌≤◌, List, [], ◌∷◌, length, map, take, drop, get_or, slice_get, Some, None, refl, sym, ap, ◌∙◌, ⊎_elim, arith}
 use Rattle.std.specs.List.{onto_first}
 use Rattle.std.proofs.Math.Seq.{drop-nil}
 use Rattle.std.proofs.lemmas.Bool.{cases_lt}
@@ -29,8 +30,7 @@ drop-cut_after x (suc left) ended parts some one none = ⊎_elim
 
 -- one octet further, where it ends one of the parts that are left or none
 pub after_more : (octets : List ℕ) (i left ended : ℕ) → i < length octets → left ≢ 0 → (get_or octets i 0 < 128 → ended ≡ 1) → (128 ≤ get_or octets i 0 → ended ≡ 0) → drop left (cut (drop i octets)) ≡ drop (left - ended) (cut (drop (i + 1) octets))
-after_more octets i left ended inside some one none =
-    rw (add-one, drop-cons octets i 0 inside) (drop-cut_after (get_or octets i 0) left ended (cut (drop (suc i) octets)) some one none)
+after_more octets i left ended inside some one none = grind (arith, common_steps, drop-cut_after)
 
 -- ---- the arc at an index, by the octets after the parts before it
 
@@ -51,7 +51,7 @@ later_at : (parts : List (List ℕ)) (index : ℕ) → 2 ≤ index → slice_get
 later_at parts zero h = absurd (omega arith)
 later_at parts (suc zero) h = absurd (omega arith)
 later_at [] (suc (suc k)) h = refl
-later_at (part ∷ parts) (suc (suc k)) h = let e : suc (suc k) - 1 ≡ suc k = omega arith in rw e (grind (arith, nat_tests, slice_get-map value_of parts k))
+later_at (part ∷ parts) (suc (suc k)) h = grind (arith, nat_tests, slice_get-map)
 
 later_fault-drop : (k : ℕ) (parts : List (List ℕ)) → later_fault parts ≡ None → later_fault (drop k parts) ≡ None
 later_fault-drop zero parts h = h
@@ -59,16 +59,10 @@ later_fault-drop (suc k) [] h = refl
 later_fault-drop (suc k) (part ∷ parts) h = later_fault-drop k parts (both_none _ _ h).1
 
 pub valid_after : (rule : RootRule) (octets rest : List ℕ) (index : ℕ) → 2 ≤ index → cut rest ≡ drop (index - 1) (cut octets) → parts_fault rule (cut octets) ≡ None → later_fault (cut rest) ≡ None
-valid_after rule octets rest index later after h =
-    let k : index - 1 ≡ suc (index - 2) = omega arith in
-    rw (after, k) (of (cut octets) h)
-  where
-    of : (parts : List (List ℕ)) → parts_fault rule parts ≡ None → later_fault (drop (suc (index - 2)) parts) ≡ None
-    of [] h = cc
-    of (part ∷ parts) h = later_fault-drop (index - 2) parts (both_none _ _ h).1
+valid_after rule octets rest index later after h = grind (arith, nat_tests, later_fault-drop, both_none)
 
 pub none_after : (octets : List ℕ) (index : ℕ) → 2 ≤ index → [] ≡ drop (index - 1) (cut octets) → None ≡ slice_get (arcs_of_octets octets) index
-none_after octets index later after = ap (option_map value_of) (none_left (index - 1) (cut octets) after) ∙ sym (later_at (cut octets) index later)
+none_after octets index later after = grind (arith, nat_tests, none_left, later_at)
 
 pub arc_after : (octets rest : List ℕ) (index n : ℕ) (ns : List ℕ) → 2 ≤ index → cut rest ≡ drop (index - 1) (cut octets) → map value_of (cut rest) ≡ n ∷ ns → Some n ≡ slice_get (arcs_of_octets octets) index
 arc_after octets rest index n ns later after e =

@@ -1,5 +1,7 @@
 -- The length of printed text: four bytes an octet at most.
-use Rattle.std.proofs.Common.{◌≡◌, ℕ, ◌+◌, ◌*◌, ◌^◌, ◌<◌, ◌≤◌, List, [], ◌∷◌, length, ⊎_elim, arith, decimal, sum_by, length-append}
+use Rattle.std.proofs.lemmas.Grind.{common_steps}
+use Rattle.std.proofs.lemmas.Bool.Decides.{nat_tests}
+use Rattle.std.proofs.Common.{◌≡◌, ℕ, ◌+◌, ◌*◌, ◌^◌, ◌<◌, ◌≤◌, List, [], ◌∷◌, length, ⊎_elim, arith, decimal, sum_by}
 use Rattle.std.specs.List.{AllByRecursion}
 use Rattle.std.proofs.Math.Nat.{pow-le-pow_right}
 use Rattle.std.proofs.lemmas.Bool.{cases_lt}
@@ -15,13 +17,7 @@ use Rattle.const_oid.proofs.Lengths.{length_is_size}
 
 -- a number past a power is wider than its exponent
 wider : (n k : ℕ) → 128 ^ k ≤ n → k < width n
-wider n k h = ⊎_elim
-    (λ (w : k < width n). w)
-    (λ (w : width n ≤ k).
-    let p : 128 ^ width n ≤ 128 ^ k = pow-le-pow_right (omega arith) w in
-    let e = (width_is n).enough in
-    absurd (omega arith))
-    (cases_lt k (width n))
+wider n k h = grind (arith, nat_tests, pow-le-pow_right, width_is)
 
 -- an arc, where the number that is encoded is at least the arc and takes two octets or more
 long_printed : (arc n : ℕ) → arc ≤ max_arc → arc ≤ n → 128 ≤ n → length (decimal arc) + 2 ≤ 4 * width n
@@ -35,14 +31,11 @@ long_printed arc n small below two = ⊎_elim
 
 -- a later arc, with its dot
 arc_printed : (n : ℕ) → n ≤ max_arc → length (decimal n) + 1 ≤ 4 * width n
-arc_printed n h = ⊎_elim
-    (λ (b : n < 128). omega (arith, length-decimal-le 3 n (omega arith) (omega arith) (omega arith), (width_is n).positive))
-    (λ (m : 128 ≤ n). omega (arith, long_printed n n h (omega arith) m))
-    (cases_lt n 128)
+arc_printed n h = grind (arith, nat_tests, long_printed, length-decimal-le)
 
 later_printed : (later : List ℕ) → AllByRecursion (λ n. n ≤ max_arc) later → sum_by (λ n. length (decimal n) + 1) later ≤ 4 * sum_by width later
 later_printed [] l = omega arith
-later_printed (n ∷ ns) l = omega (arith, sum_by-cons (λ m. length (decimal m) + 1) n ns, sum_by-cons width n ns, arc_printed n l.0, later_printed ns l.1)
+later_printed (n ∷ ns) l = grind (arith, common_steps, arc_printed, later_printed ns l.1)
 
 -- the first two arcs, with their dot
 root_printed : (rule : RootRule) (a b : ℕ) → a ≤ 2 → b ≤ max_second rule a → length (decimal a) + (length (decimal b) + 1) ≤ 4 * width (40 * a + b)
@@ -58,8 +51,7 @@ root_printed rule a b p q =
 
 length-text : (a : ℕ) (arcs : List ℕ) → length (text_of (a ∷ arcs)) ≡ length (decimal a) + sum_by (λ n. length (decimal n) + 1) arcs
 length-text a [] = omega arith
-length-text a (b ∷ arcs) =
-    omega (arith, length-append (decimal a) (46 ∷ text_of (b ∷ arcs)), length-text b arcs, sum_by-cons (λ n. length (decimal n) + 1) b arcs)
+length-text a (b ∷ arcs) = grind (arith, common_steps, length-text b arcs)
 
 pub printed_short : (rule : RootRule) (arcs octets : List ℕ) → IsEncoding rule arcs octets → length (text_of arcs) ≤ 4 * length octets
 printed_short rule [] octets e = absurd e.identifier

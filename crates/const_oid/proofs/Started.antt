@@ -1,4 +1,5 @@
 -- What an encoder holds, and what one more arc makes of it.
+use Rattle.std.proofs.lemmas.Bool.Decides.{nat_tests}
 use Rattle.std.proofs.Common.{◌≡◌, ℕ, ◌+◌, ◌*◌, ◌<◌, ◌≤◌, List, [], ◌∷◌, ◌++◌, length, nat_lt, Option, Some, None, Result, Ok, Err, OnOk, OnErr, MatchResult, sym, ap, ◌∙◌, subst, arith}
 use Rattle.std.specs.Result.{result_err}
 use Rattle.const_oid.specs.declared.error.Error.{Error}
@@ -9,7 +10,7 @@ use Rattle.const_oid.specs.Private.Octets.{GoesOn}
 use Rattle.const_oid.specs.Identifier.{RootRule, max_arc, max_second, IsEncoding}
 use Rattle.const_oid.specs.Error.{fault_if}
 use Rattle.const_oid.specs.Items.{arc_fault}
-use Rattle.const_oid.proofs.Faults.{none_from_below, some_from_above}
+use Rattle.const_oid.proofs.Faults.{none_from_below}
 use Rattle.const_oid.proofs.Encodings.{arcs_of_encoding, encoding_back}
 use Rattle.const_oid.proofs.Lengths.{size_push}
 use Rattle.const_oid.proofs.Children.{encoding_two, child_encoding}
@@ -31,7 +32,7 @@ pub record Encodes (rule : RootRule) (first : Option ℕ) (octets given : List �
 
 -- after two arcs or more, the arc itself
 pub later_number : (rule : RootRule) (first : Option ℕ) (octets given : List ℕ) (arc number : ℕ) → 0 < length octets → IsStarted rule first octets → arcs_given first octets ≡ given → arc ≤ max_arc → number ≡ arc → Encodes rule first octets given arc number
-later_number rule None octets given arc number some started view small value = let none : length octets ≡ 0 = ap length started in absurd (omega arith)
+later_number rule None octets given arc number some started view small value = grind (arith, nat_tests)
 later_number rule (Some first) [] given arc number some started view small value = absurd (omega arith)
 later_number rule (Some first) (x ∷ xs) given arc number some started view small value =
     let encoding : IsEncoding rule given (x ∷ xs) = subst (λ arcs. IsEncoding rule arcs (x ∷ xs)) view started in
@@ -59,8 +60,5 @@ pub record IsPushed {X : Type 0} (rule : RootRule) (capacity : ℕ) (first : Opt
 
 pub pushed : {X : Type 0} (rule : RootRule) (capacity : ℕ) (first : Option ℕ) (octets longer given : List ℕ) (arc number : ℕ) (result : Result X Error) → Encodes rule first octets given arc number → IsStarted rule first octets
     → MatchResult result (λ _. length octets + width number ≤ capacity) (λ fault. (fault ≡ Length) × (capacity < length octets + width number)) → OnOk result (GoesOn number octets longer) → OnErr result (longer ≡ octets) → IsPushed rule capacity first longer given arc result
-pushed rule capacity first octets longer given arc number (Ok x) n started fits on same =
-    let (still, more) = n.step longer on in
-    record { started = still; fault = sym (n.fault capacity ∙ none_from_below _ _ Length fits); more = more }
-pushed rule capacity first octets longer given arc number (Err fault) n started fits on same =
-    record { started = rw same started; fault = ap Some fits.0 ∙ sym (n.fault capacity ∙ some_from_above _ _ Length fits.1); more = tt }
+pushed rule capacity first octets longer given arc number (Ok x) n started fits on same = grind (arith, nat_tests)
+pushed rule capacity first octets longer given arc number (Err fault) n started fits on same = grind (arith, nat_tests)

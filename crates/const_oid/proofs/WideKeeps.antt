@@ -1,49 +1,30 @@
 -- What the wide rule keeps: the results of octets, texts and lists, and what was accepted.
-use Rattle.std.proofs.Common.{◌≡◌, ℕ, ◌/◌, ◌<◌, ◌≤◌, not, List, [], ◌∷◌, ◌++◌, length, map, nat_lt, Option, Some, None, option_map, refl, sym, ap, ◌∙◌, ⊎_elim, arith, find, lt-ltb, le-ltb}
+use Rattle.std.proofs.Common.{◌≡◌, ℕ, ◌<◌, ◌≤◌, not, List, [], ◌∷◌, ◌++◌, map, nat_lt, Option, Some, None, option_map, refl, ap, arith, find, lt-ltb}
 use Rattle.std.specs.Option.{option_or}
 use Rattle.std.specs.Prelude.{Ok}
 use Rattle.std.specs.Char.{is_ascii_digit}
-use Rattle.std.proofs.lemmas.Bool.{cases_lt}
 use Rattle.std.proofs.lemmas.Bool.Decides.{nat_tests}
 use Rattle.const_oid.specs.declared.error.Error.{Error}
-use Rattle.const_oid.specs.declared.error.Error.TheVariants.{ArcInvalid, ArcTooBig, DigitExpected, Length, TrailingDot}
+use Rattle.const_oid.specs.declared.error.Error.TheVariants.{ArcInvalid, ArcTooBig, DigitExpected, TrailingDot}
 use Rattle.const_oid.specs.Error.{fault_if, answer}
-use Rattle.const_oid.specs.Identifier.{Narrow, Wide, max_arc, max_second, size}
-use Rattle.const_oid.specs.Contents.{cut, cut_after, first_fault, later_fault, parts_fault, octet_fault, max_first}
+use Rattle.const_oid.specs.Identifier.{Narrow, Wide, max_arc}
+use Rattle.const_oid.specs.Contents.{octet_fault}
 use Rattle.const_oid.specs.Items.{arc_fault, items_fault, item_fault}
 use Rattle.const_oid.specs.Text.{pieces_of, number_of, is_empty, is_one_empty, empty_fault, piece_fault, pieces_fault, text_fault}
 use Rattle.const_oid.specs.WideRule.{RefusesSecond}
-use Rattle.const_oid.proofs.Faults.{both_none, below_from_none, none_from_below, some_from_above}
-use Rattle.const_oid.proofs.Groups.{small_is}
-use Rattle.const_oid.proofs.Cutting.{cut_after-last}
-use Rattle.const_oid.proofs.Encodings.{part_none}
+use Rattle.const_oid.proofs.Faults.{below_from_none}
 use Rattle.const_oid.proofs.Texts.{arc_from_piece}
 
 -- ---- octets
 
-root_same : (x : ℕ) → x < 120 → first_fault Narrow (x ∷ []) ≡ first_fault Wide (x ∷ [])
-root_same x h = none_from_below 119 x (ArcInvalid (x / 40)) (omega arith) ∙ sym (part_none (max_first Wide) (small_is x (omega arith)) (omega arith))
-
 pub octets_same : (x : ℕ) (xs : List ℕ) (capacity : ℕ) → x < 120 → octet_fault Narrow (x ∷ xs) capacity ≡ octet_fault Wide (x ∷ xs) capacity
-octets_same x xs capacity h = ap (λ f. option_or f (fault_if (nat_lt capacity (length (x ∷ xs))) Length)) parts
-  where
-    parts : parts_fault Narrow (cut (x ∷ xs)) ≡ parts_fault Wide (cut (x ∷ xs))
-    parts = rw (cut_after-last x (cut xs) (omega arith)) (ap (λ f. option_or f (later_fault (cut xs))) (root_same x h))
+octets_same x xs capacity h = grind (arith, nat_tests)
 
 -- ---- the second arc
 
 -- the two rules differ in the second arc alone, under 2
 second_same : (capacity first second : ℕ) → first ≤ 2 → ((first ≡ 2) × (39 < second) → ⊥) → arc_fault Narrow capacity (first ∷ []) second ≡ arc_fault Wide capacity (first ∷ []) second
-second_same capacity first second h not_past = ap (λ range. option_or range (fault_if (nat_lt capacity (size (first ∷ second ∷ []))) Length)) by
-  where
-    by : fault_if (nat_lt 39 second) (ArcInvalid second) ≡ fault_if (nat_lt (max_second Wide first) second) (ArcInvalid second)
-    by = ⊎_elim
-        (λ (low : first < 2). rw (lt-ltb first 2 low))
-        (λ (high : 2 ≤ first). ⊎_elim
-        (λ (past : 39 < second). absurd (not_past (omega arith, past)))
-        (λ (within : second ≤ 39). none_from_below 39 second (ArcInvalid second) within ∙ sym (none_from_below (max_second Wide first) second (ArcInvalid second) (rw (le-ltb first 2 high) (omega arith))))
-        (cases_lt 39 second))
-        (cases_lt first 2)
+second_same capacity first second h not_past = grind (arith, nat_tests)
 
 -- under the narrow rule a second arc past 39 has a fault
 narrow_past : (capacity first second : ℕ) → 39 < second → arc_fault Narrow capacity (first ∷ []) second ≡ Some (ArcInvalid second)
@@ -58,13 +39,7 @@ items_later_same capacity a b before (x ∷ xs) = ap (option_or (arc_fault Narro
 pub items_same : (items : List ℕ) (capacity : ℕ) → (RefusesSecond items (item_fault Narrow items capacity) → ⊥) → item_fault Narrow items capacity ≡ item_fault Wide items capacity
 items_same [] capacity h = refl
 items_same (a ∷ []) capacity h = refl
-items_same (a ∷ b ∷ later) capacity h = ⊎_elim
-    (λ (past : 2 < a). rw (some_from_above 2 a (ArcInvalid a) past))
-    (λ (within : a ≤ 2).
-    let none = none_from_below 2 a (ArcInvalid a) within in
-    let not_past : (a ≡ 2) × (39 < b) → ⊥ = λ p. h (p.0, rw (none, narrow_past capacity a b p.1)) in
-    rw (none, second_same capacity a b within not_past, items_later_same capacity a b [] later))
-    (cases_lt 2 a)
+items_same (a ∷ b ∷ later) capacity h = grind (arith, nat_tests, items_later_same)
 
 -- ---- texts
 
@@ -110,24 +85,15 @@ texts_same text capacity = pieces_same capacity (pieces_of text)
 
 -- ---- what was accepted
 
-none_refuses_none : (numbers : List ℕ) (fault : Option Error) → fault ≡ None → RefusesSecond numbers fault → ⊥
-none_refuses_none [] fault none r = r
-none_refuses_none (a ∷ []) fault none r = r
-none_refuses_none (a ∷ b ∷ later) fault none r = let some = r.1 in cc
-
-narrow_first : (x : ℕ) (parts : List (List ℕ)) → parts_fault Narrow (cut_after x parts) ≡ None → x < 120
-narrow_first x [] h = grind (arith, nat_tests)
-narrow_first x (part ∷ parts) h = grind (arith, nat_tests)
-
 pub octets_kept : (octets : List ℕ) (capacity : ℕ) → octet_fault Narrow octets capacity ≡ None → octet_fault Wide octets capacity ≡ None
 octets_kept [] capacity none = none
-octets_kept (x ∷ xs) capacity none = sym (octets_same x xs capacity (narrow_first x (cut xs) (both_none _ _ none).0)) ∙ none
+octets_kept (x ∷ xs) capacity none = grind (arith, nat_tests)
 
 pub texts_kept : (text : List ℕ) (capacity : ℕ) → text_fault Narrow text capacity ≡ None → text_fault Wide text capacity ≡ None
-texts_kept text capacity none = sym (texts_same text capacity (none_refuses_none (map number_of (pieces_of text)) (text_fault Narrow text capacity) none)) ∙ none
+texts_kept text capacity none = grind (arith, nat_tests, texts_same)
 
 pub items_kept : (items : List ℕ) (capacity : ℕ) → item_fault Narrow items capacity ≡ None → item_fault Wide items capacity ≡ None
-items_kept items capacity none = sym (items_same items capacity (none_refuses_none items (item_fault Narrow items capacity) none)) ∙ none
+items_kept items capacity none = grind (arith, nat_tests, items_same)
 
 -- a result that was arcs stays
 pub answer_kept : (narrow wide : Option Error) (numbers arcs : List ℕ) → (narrow ≡ None → wide ≡ None) → answer narrow numbers ≡ Ok arcs → answer wide numbers ≡ Ok arcs

@@ -1,4 +1,5 @@
 -- Groups as they are written, from the last octet on.
+use Rattle.std.proofs.lemmas.Bool.Decides.{nat_tests}
 use Rattle.std.proofs.Common.{◌≡◌, ℕ, zero, suc, ◌+◌, ◌*◌, ◌/◌, ◌%◌, ◌^◌, ◌<◌, List, [], ◌∷◌, length, sym, ◌∙◌, arith, pow-suc}
 use Rattle.const_oid.specs.Base128.{value_of, IsContinued, IsGroup, width}
 use Rattle.const_oid.proofs.Groups.{continued_more, joined, value_below, width_is}
@@ -6,7 +7,7 @@ use Rattle.const_oid.proofs.Groups.{continued_more, joined, value_below, width_i
 -- a chain of just as many octets as its value takes is a group
 group_from_width : (octets : List ℕ) (n : ℕ) → IsContinued octets → value_of octets ≡ n → length octets ≡ width n → IsGroup n octets
 group_from_width [] n c v l = absurd c
-group_from_width (x ∷ []) n c v l = record { continued = c; shortest = λ e. omega arith; value = sym v }
+group_from_width (x ∷ []) n c v l = grind (arith, nat_tests)
 group_from_width (x ∷ y ∷ ys) n c v l = record {
   continued = c;
   shortest = λ (e : x ≡ 128).
