@@ -7,7 +7,7 @@ use Rattle.std.specs.Str.{str_eq_ignore_ascii_case}
 abbrev pub Row : Type 0
 Row = List ℕ × List ℕ
 
--- the arcs of the first row of this name, in any case
+-- the arcs of the first row of this name, ignoring ASCII case
 abbrev pub first_arcs : List Row → List ℕ → Option (List ℕ)
 first_arcs rows name = option_map (λ row. row.0) (find (λ row. str_eq_ignore_ascii_case row.1 name) rows)
 

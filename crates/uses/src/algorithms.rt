@@ -10,7 +10,7 @@ ghost use Rattle.const_oid.specs.Oid.{oid_arcs};
 use const_oid::db::Database;
 use const_oid::{Error, Oid};
 
-/// The name of the algorithm with these octets, `None` where the table has none, or the octets' fault.
+/// The name of the algorithm with these octets, `None` where the table has none, or the octets' error.
 pub fn name_of<'a>(database: &Database<'a>, octets: &[u8]) -> Result<Option<&'a str>, Error>
     ensures { MatchResult (octet_answer root_rule octets.now 39)
         (λ arcs. result ≡ Ok (first_name lent_arcs (entries_of database.now) arcs))

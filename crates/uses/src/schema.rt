@@ -52,7 +52,7 @@ pub fn has_type<T: AssociatedOid>(attribute: &Attribute) -> bool
     attribute.oid() == T::associated_oid()
 }
 
-/// The identifier that a user means: by a name in any case, or else by its dotted text.
+/// The identifier that a user means: by a name, ignoring ASCII case, or else by its dotted text.
 pub fn find(database: &Database<'_>, input: &str) -> Result<Oid, Error>
     ensures named { IfSome (first_oid (entries_of database.now) input.now)
         (λ oid. result ≡ Ok oid.now) }

@@ -84,7 +84,7 @@ pub const ATTRIBUTE_TYPES: [(ObjectIdentifierRef<'static>, &str); 12] = [
     ),
 ];
 
-/// Whether an attribute type has this name, in any case.
+/// Whether an attribute type has this name, ignoring ASCII case.
 pub fn is_named(oid: &ObjectIdentifierRef<'_>, name: &str) -> bool
     ensures { IsTrue result ↔ (first_arcs attribute_types name.now ≡ Some (ref_arcs oid.now)) }
 {
