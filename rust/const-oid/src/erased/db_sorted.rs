@@ -50,10 +50,10 @@ impl<'a> SortedDatabase<'a> {
         let last = self.entries[..self.end_of(&oid)].last()?;
         let mut above = oid;
         loop {
-            if last.0.starts_with(&above)
-                && let Some(entry) = self.first(&above)
-            {
-                return Some(entry);
+            if last.0.starts_with(&above) {
+                if let Some(entry) = self.first(&above) {
+                    return Some(entry);
+                }
             }
             above = above.parent()?;
         }
