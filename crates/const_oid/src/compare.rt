@@ -20,7 +20,28 @@ pub(crate) fn begins_with(octets: &[u8], prefix: &[u8]) -> bool
     if prefix.len() > octets.len() {
         return false;
     }
-    are_equal(prefix, octets.split_at(prefix.len()).0)
+    let (start, _) = octets.split_at(prefix.len());
+    if prefix.len() < WORD {
+        return are_few_alike(prefix, start);
+    }
+    are_equal(prefix, start)
+}
+
+/// Whether as many octets are the same: the first one first, since most identifiers begin with a prefix or differ
+/// from its start on.
+#[inline(always)]
+const fn are_few_alike(a: &[u8], b: &[u8]) -> bool
+    requires { length a.now ≡ length b.now }
+    ensures { result ≡ pointwise nat_eq a.now b.now }
+{
+    let mut index = 0;
+    while index < a.len() {
+        if a[index] != b[index] {
+            return false;
+        }
+        index += 1;
+    }
+    true
 }
 
 /// Whether octets are the same: the last one first, since most pairs differ there, then by words, where
