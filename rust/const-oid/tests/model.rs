@@ -319,7 +319,10 @@ fn check_borrowed(octets: &[u8], arcs: &[Arc]) {
 /// Indices at the edges of a list of this length, and far past it.
 fn indices(len: usize) -> impl Iterator<Item = usize> {
     let near = [0, 1, 2, 3, len / 2, len - 1, len, len + 1];
-    near.into_iter().chain([1 << 32, (1 << 32) + 1, usize::MAX])
+    // Past 32 bits, where an index has more.
+    let far =
+        [1 << 32, (1 << 32) + 1].map(|index: u64| usize::try_from(index).unwrap_or(usize::MAX));
+    near.into_iter().chain(far).chain([usize::MAX])
 }
 
 /// Display and Debug, whatever the options.
