@@ -65,6 +65,7 @@ impl Error {
 
     /// Writes the text that `{}` writes at the start of `out`, and returns its length. `None` where it
     /// is longer than `out`, which then stays as it was.
+    #[inline(always)]
     pub fn encode_text(self, out: &mut [u8]) -> Option<usize>
         ensures cases { MatchOption result (length out.old < length (message_of self)) (λ len. len ≡ length (message_of self)) }
         ensures written { IfSome result (λ len. out.new ≡ message_of self ++ drop len out.old) }
@@ -120,6 +121,7 @@ impl Error {
     }
 
     /// Writes the number that the error carries at an index, and returns the index after it.
+    #[inline(always)]
     fn write_detail(self, out: &mut [u8], at: usize) -> usize
         requires { at + length (detail_text self) ≤ length out.old }
         ensures end { result ≡ at + length (detail_text self) }

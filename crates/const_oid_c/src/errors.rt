@@ -40,6 +40,7 @@ pub extern "C" fn const_oid_error_text(code: u32, detail: u32, out: &mut [u8]) -
 }
 
 /// Writes the text of an error.
+#[inline(always)]
 fn write_error(error: Error, out: &mut [u8]) -> Status
     ensures status { result ≡ output_status (length out.old) (Ok (message_of error)) }
     ensures written { out.new ≡ output_after out.old (Ok (message_of error)) }

@@ -188,6 +188,24 @@ static void subtree_row(char *rest) {
     printf(" at %zu", status.len);
 }
 
+static void error_row(char *rest) {
+    uint8_t text[CONST_OID_MAX_ERROR_TEXT];
+    uint8_t less[CONST_OID_MAX_ERROR_TEXT];
+    uint32_t code = number(&rest);
+    uint32_t detail = number(&rest);
+    const_oid_status status = const_oid_error_text(code, detail, text, sizeof text);
+    if (status.code != CONST_OID_OK) {
+        refused(status);
+        return;
+    }
+    memset(less, 0xEE, sizeof less);
+    too_short(status, const_oid_error_text(code, detail, less, status.len - 1), less, sizeof less);
+    memset(less, 0xEE, sizeof less);
+    const_oid_error_text(code, detail, less, status.len);
+    if (memcmp(less, text, status.len) != 0) fail("a text in an output of its length differs");
+    printf("%.*s", (int)status.len, (const char *)text);
+}
+
 static void in_word(const_oid_status status, const char *const *words) {
     if (status.code == CONST_OID_OK) {
         printf("%s", words[status.detail]);
@@ -239,13 +257,7 @@ static void answer(const char *call, char *rest) {
     } else if (strcmp(call, "subtree") == 0) {
         subtree_row(rest);
     } else if (strcmp(call, "error") == 0) {
-        uint32_t code = number(&rest);
-        const_oid_status status = const_oid_error_text(code, number(&rest), text, sizeof text);
-        if (status.code == CONST_OID_OK) {
-            printf("%.*s", (int)status.len, (const char *)text);
-        } else {
-            refused(status);
-        }
+        error_row(rest);
     } else if (strcmp(call, "message") == 0) {
         uint32_t code = number(&rest);
         written(const_oid_error_text(code, number(&rest), text, sizeof text), text);

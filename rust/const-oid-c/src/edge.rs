@@ -4,6 +4,7 @@
 use crate::calls::status::Status;
 use crate::calls::subtree::Range;
 use crate::calls::{arcs, errors, order, subtree, texts, tree, version};
+use const_oid::erased::Error;
 use core::marker::PhantomData;
 use core::mem::MaybeUninit;
 use core::slice;
@@ -87,6 +88,17 @@ pub(crate) fn encode(
     if most <= 1020 {
         copy(&text[..len], out);
     }
+    Some(len)
+}
+
+/// Writes the text of an error at the start of an output, and returns its length. `None` if it is longer
+/// than the output, which is then unchanged. It is made on the stack.
+#[inline(always)]
+pub(crate) fn encode_error(error: Error, out: &mut Output<u8>) -> Option<usize> {
+    let mut text = [0; 47];
+    let room = out.len().min(text.len());
+    let len = error.encode_text(&mut text[..room])?;
+    copy(&text[..len], out);
     Some(len)
 }
 

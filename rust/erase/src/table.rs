@@ -207,7 +207,7 @@ pub const CRATES: &[Crate] = &[
             Edit {
                 module: "errors",
                 old: "error.encode_text(out)",
-                new: "crate::edge::encode(47, |text| error.encode_text(text), || error.text_len(), out)",
+                new: "crate::edge::encode_error(error, out)",
                 why: UNWRITTEN,
             },
         ],

@@ -62,6 +62,7 @@ impl Error {
 
     /// Writes the text that `{}` writes at the start of `out`, and returns its length. `None` where it
     /// is longer than `out`, which then stays as it was.
+    #[inline(always)]
     #[doc = include_str!("../examples/Error.encode_text.md")]
     pub fn encode_text(self, out: &mut [u8]) -> Option<usize> {
         if out.len() < self.text_len() {
@@ -105,6 +106,7 @@ impl Error {
     }
 
     /// Writes the number that the error carries at an index, and returns the index after it.
+    #[inline(always)]
     fn write_detail(self, out: &mut [u8], at: usize) -> usize {
         match self {
             Error::ArcInvalid { arc } => write_arc(arc, true, out, at),
