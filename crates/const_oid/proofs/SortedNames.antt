@@ -83,6 +83,10 @@ module _ (arcs : List ℕ) where
 
 -- ---- the entries of a sorted table
 
+-- a list comprises what arcs begin with in a table: it begins with each entry's arcs that they begin with
+abbrev pub Comprises : List (Entry ObjectIdentifierRef) → List ℕ → List ℕ → Type 0
+Comprises entries arcs list = All (λ other. BeginsWith arcs (entry_arcs other) → BeginsWith list (entry_arcs other)) entries
+
 -- an item that is borrowed is that of the list
 pub item_is : {X : Type 0} (xs : List X) (i : ℕ) (item : Option (Bor X)) → MatchOption item (length xs ≤ i) (λ x. (i < length xs) × HoldsAt (λ other. x.now ≡ other) xs i) → option_copied item ≡ slice_get xs i
 item_is xs i None past = sym (slice_get_past xs i past)
@@ -123,7 +127,7 @@ module _ (arcs : List ℕ) (entries : List (Entry ObjectIdentifierRef)) where
         near_end = slice_get (take index entries) (length (take index entries) - 1)
 
         -- the last entry up to the arcs begins with all that they begin with
-        pub last_begins : (last : Entry ObjectIdentifierRef) → Some last ≡ near_end → All (λ other. BeginsWith arcs (entry_arcs other) → BeginsWith (entry_arcs last) (entry_arcs other)) entries
+        pub last_begins : (last : Entry ObjectIdentifierRef) → Some last ≡ near_end → Comprises entries arcs (entry_arcs last)
         last_begins last e k d l b =
             let prefix = entry_arcs (get_or entries k d) in
             let before = upto k d l b in
@@ -222,45 +226,54 @@ above_root : (arcs prefix : List ℕ) → length arcs ≡ 2 → 2 ≤ length pre
 above_root arcs prefix two more ([], e) other = other (sym (e ∙ append-nil prefix))
 above_root arcs prefix two more (y ∷ ys, e) other = omega (arith, ap length e, length-append prefix (y ∷ ys))
 
--- a list is reached on the way up from arcs: no entry that they begin with is below it
-pub record IsReached (entries : List (Entry ObjectIdentifierRef)) (arcs above : List ℕ) : Type 0 where
+-- a list is reached on the way up from arcs: no entry that they begin with is below it, or not above the last one
+pub record IsReached (entries : List (Entry ObjectIdentifierRef)) (arcs last above : List ℕ) : Type 0 where
   pub begins : BeginsWith arcs above
-  pub others : All (λ other. BeginsWith arcs (entry_arcs other) → BeginsWith above (entry_arcs other)) entries
+  pub others : Comprises entries arcs above
+  pub near : Comprises entries arcs last
 
-module _ (entries : List (Entry ObjectIdentifierRef)) (arcs : List ℕ) where
-  pub reached_itself : IsReached entries arcs arcs
-  reached_itself = record { begins = ([], sym (append-nil arcs)); others = λ k d l b. b }
+module _ (entries : List (Entry ObjectIdentifierRef)) (arcs last : List ℕ) where
+  pub reached_itself : Comprises entries arcs last → IsReached entries arcs last arcs
+  reached_itself near = record { begins = ([], sym (append-nil arcs)); others = λ k d l b. b; near = near }
 
-  module _ (oid : ObjectIdentifierRef) (reached : IsReached entries arcs (ref_arcs oid)) where
-    pub reached_entry : (entry : Entry ObjectIdentifierRef) → find (is_entry (ref_arcs oid)) entries ≡ Some entry → IsNearest entries arcs entry
+  module _ (oid : ObjectIdentifierRef) (reached : IsReached entries arcs last (ref_arcs oid)) where
+    pub reached_entry : (entry : Entry ObjectIdentifierRef) → find (is_entry (ref_arcs oid)) entries ≡ Some entry
+        → IsNearest entries arcs entry
     reached_entry entry e =
-        let same = same_text (entry_arcs entry) (ref_arcs oid) (sym (found_passes (is_entry (ref_arcs oid)) entries entry e)) in
+        let passes = found_passes (is_entry (ref_arcs oid)) entries entry e in
+        let same = same_text (entry_arcs entry) (ref_arcs oid) (sym passes) in
         record { begins = rw same reached.begins; first = rw same e; longest = rw same reached.others }
 
-    -- where the table has no entry of it, or some arcs do not begin with it and with all that it is reached for
-    pub not_found : find (is_entry (ref_arcs oid)) entries ≡ None → All (λ entry. entry_arcs entry ≢ ref_arcs oid) entries
+    abbrev IsNoEntry : Type 0
+    IsNoEntry = All (λ entry. entry_arcs entry ≢ ref_arcs oid) entries
+
+    -- where the table has no entry of it, or the last one does not begin with it
+    pub not_found : find (is_entry (ref_arcs oid)) entries ≡ None → IsNoEntry
     not_found none k d l e = grind (arith, none_passes, same_as_itself)
 
-    pub not_begun : (near : List ℕ) → All (λ other. BeginsWith arcs (entry_arcs other) → BeginsWith near (entry_arcs other)) entries → ¬ BeginsWith near (ref_arcs oid) → All (λ entry. entry_arcs entry ≢ ref_arcs oid) entries
-    not_begun near all other k d l e =
-        let prefix = entry_arcs (get_or entries k d) in
-        other (subst (λ xs. BeginsWith near xs) e (all k d l (subst (λ xs. BeginsWith arcs xs) (sym e) reached.begins)))
+    pub not_begun : ¬ BeginsWith last (ref_arcs oid) → IsNoEntry
+    not_begun other k d l e =
+        let arcs_begin = subst (λ xs. BeginsWith arcs xs) (sym e) reached.begins in
+        other (subst (λ xs. BeginsWith last xs) e (reached.near k d l arcs_begin))
 
-    module _ (other_arcs : All (λ entry. entry_arcs entry ≢ ref_arcs oid) entries) where
-      pub reached_parent : (parent : List ℕ) → parent_of (ref_arcs oid) ≡ Some parent → IsReached entries arcs parent
+    module _ (other_arcs : IsNoEntry) where
+      pub reached_parent : (parent : List ℕ) → parent_of (ref_arcs oid) ≡ Some parent → IsReached entries arcs last parent
       reached_parent parent e =
-          let (_, last, _, joined) = child_of-parent_of root_rule (ref_arcs oid) parent (ref_encoding oid).identifier e in
+          let (_, arc, _, joined) = child_of-parent_of root_rule (ref_arcs oid) parent (ref_encoding oid).identifier e in
           let (rest, f) = reached.begins in
           record {
-            begins = (last ∷ rest, f ∙ ap (λ xs. xs ++ rest) (sym joined) ∙ append_assoc parent (last ∷ []) rest);
+            begins = (arc ∷ rest, f ∙ ap (λ xs. xs ++ rest) (sym joined) ∙ append_assoc parent (arc ∷ []) rest);
             others = λ k d l b.
                 let (more, g) = reached.others k d l b in
                 let prefix = entry_arcs (get_or entries k d) in
-                above_child parent last prefix more (joined ∙ g) (λ nil. other_arcs k d l (sym (g ∙ ap (λ xs. prefix ++ xs) nil ∙ append-nil prefix)));
+                above_child parent arc prefix more (joined ∙ g)
+                (λ nil. other_arcs k d l (sym (g ∙ ap (λ xs. prefix ++ xs) nil ∙ append-nil prefix)));
+            near = reached.near;
           }
 
       pub reached_root : parent_of (ref_arcs oid) ≡ None → All (λ entry. BeginsWith arcs (entry_arcs entry) → ⊥) entries
       reached_root e = λ k d l b.
           let other = oid_of (get_or entries k d) in
-          let two = (none_of_two (ref_arcs oid) (two_arcs root_rule (ref_arcs oid) (ref_encoding oid).identifier)).0 e in
-          above_root (ref_arcs oid) (ref_arcs other) two (two_arcs root_rule (ref_arcs other) (ref_encoding other).identifier) (reached.others k d l b) (other_arcs k d l)
+          let many = λ (oid : ObjectIdentifierRef). two_arcs root_rule (ref_arcs oid) (ref_encoding oid).identifier in
+          let two = (none_of_two (ref_arcs oid) (many oid)).0 e in
+          above_root (ref_arcs oid) (ref_arcs other) two (many other) (reached.others k d l b) (other_arcs k d l)
