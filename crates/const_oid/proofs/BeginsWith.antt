@@ -1,5 +1,5 @@
 -- What begins with a prefix: encodings do exactly where their arcs do, and are adjacent in list order.
-use Rattle.std.proofs.Common.{◌≡◌, ℕ, ◌+◌, ◌*◌, List, [], ◌∷◌, ◌++◌, refl, sym, ap, ap₂, ◌∙◌, append_assoc, ◌≢◌, ◌<◌, length, ⊎_elim, arith, Less, Greater, nat_cmp, append-nil, length-append, Bool, true, false, ◌||◌, drop, nat_eq}
+use Rattle.std.proofs.Common.{◌≡◌, ℕ, ◌+◌, List, [], ◌∷◌, ◌++◌, refl, sym, ap, ap₂, ◌∙◌, append_assoc, ◌≢◌, ◌<◌, length, arith, Less, Greater, nat_cmp, append-nil, length-append, Bool, true, false, ◌||◌, drop, nat_eq}
 use Rattle.std.specs.List.{AllZip, concat, starts_with}
 use Rattle.std.specs.Prelude.{◌↔◌, IsTrue}
 use Rattle.std.specs.Cmp.Lexicographic.{slice_cmp}
@@ -11,13 +11,14 @@ use Rattle.std.proofs.lemmas.List.Sorted.{ranks_by}
 use Rattle.std.proofs.lemmas.Slice.Eq.{starts_is}
 use Rattle.const_oid.specs.Base128.{value_of, IsContinued, IsGroup}
 use Rattle.const_oid.specs.Identifier.{RootRule, IsEncoding, subidentifiers}
-use Rattle.const_oid.specs.Contents.{arcs_from}
 use Rattle.const_oid.specs.Tree.{BeginsWith}
 use Rattle.const_oid.specs.Orders.{shortlex_cmp}
 use Rattle.const_oid.proofs.Groups.{same_prefix, same_group}
 use Rattle.const_oid.proofs.Subidentifiers.{arcs_back, arcs_from-append}
 use Rattle.const_oid.proofs.Encodings.{same_arcs}
 use Rattle.const_oid.proofs.Orders.{shortlex_cmp-less, slice_cmp-prefix}
+use Rattle.std.proofs.lemmas.Grind.{common_steps}
+use Rattle.std.proofs.lemmas.Bool.Decides.{nat_tests}
 
 chain_not_empty : (g x : List ℕ) → IsContinued g → [] ≡ g ++ x → ⊥
 chain_not_empty [] x c e = c
@@ -44,11 +45,7 @@ octets_prefix _ more _ _ p q = absurd assumption
 
 -- the arcs of p begin those of x
 pub arcs_prefix : (rule : RootRule) (p x a b : List ℕ) → IsEncoding rule p a → IsEncoding rule x b → BeginsWith b a → BeginsWith x p
-arcs_prefix rule (c ∷ d ∷ later) x a b e f (rest, s) =
-    let p = c ∷ d ∷ later in
-    let (more, t) = numbers_prefix (subidentifiers p) (subidentifiers x) e.groups f.groups rest e.each f.each (sym f.joined ∙ s ∙ ap (λ y. y ++ rest) e.joined) in
-    (more, sym (arcs_back rule x f.identifier) ∙ ap arcs_from t ∙ arcs_from-append (40 * c + d) later more ∙ ap (λ y. y ++ more) (arcs_back rule p e.identifier))
-arcs_prefix rule _ x a b e f s = absurd e.identifier
+arcs_prefix rule p x a b e f s = grind (arith, numbers_prefix, arcs_back, arcs_from-append)
 
 -- the octets of p begin those of x
 pub encoding_prefix : (rule : RootRule) (p x a b : List ℕ) → IsEncoding rule p a → IsEncoding rule x b → BeginsWith x p → BeginsWith b a
@@ -130,9 +127,7 @@ not_before_nil (x ∷ xs) = refl
 -- what begins with the prefix is not before it
 pub under_apart : (prefix list : List ℕ) → is_under prefix list ≡ true → is_before prefix list ≡ false
 under_apart prefix list t =
-    let (rest, e) = (under_iff prefix list).0 t in
-    let compared = rw append-nil at (slice_cmp-prefix prefix rest []) in
-    rw e (ap is_lt compared ∙ not_before_nil rest)
+    grind (arith, nat_tests, common_steps, under_iff, append-nil, slice_cmp-prefix, not_before_nil)
 
 -- what is not after a list before the prefix is before it
 pub before_down : (prefix x z : List ℕ) → is_before x z ≡ false → is_before prefix z ≡ true → is_before prefix x ≡ true
@@ -143,13 +138,5 @@ not_greater x z level greater = cc (level, ap is_lt (nat_list_cmp_total.antisymm
 
 -- what is not after a list that is before the prefix or begins with it is so too
 pub within_down : (prefix x z : List ℕ) → is_before x z ≡ false → is_within prefix z ≡ true → is_within prefix x ≡ true
-within_down prefix x z level t = ⊎_elim
-    (λ (early : is_before prefix z ≡ true). or_left _ _ (before_down prefix x z level early))
-    (λ (under : is_under prefix z ≡ true). ⊎_elim
-    (λ (early : is_before prefix x ≡ true). or_left _ _ early)
-    (λ (late : is_before prefix x ≡ false).
-    let (rest, e) = (under_iff prefix z).0 under in
-    let b = between prefix [] x rest (rw append-nil (λ less. cc (late, ap is_lt less))) (rw (← e) (not_greater x z level)) in
-    or_right _ _ ((under_iff prefix x).1 b))
-    (cases_Bool (is_before prefix x)))
-    (or_cases (is_before prefix z) (is_under prefix z) t)
+within_down prefix x z level t =
+    grind (arith, nat_tests, common_steps, or_left, before_down, under_iff, between, append-nil, not_greater, or_right, cases_Bool, or_cases)

@@ -1,24 +1,24 @@
 -- The order of arcs is that of the parts of their encodings, a shorter part first.
-use Rattle.std.proofs.Common.{◌≡◌, ◌≢◌, ℕ, suc, ◌+◌, ◌*◌, ◌<◌, ◌≤◌, List, [], ◌∷◌, ◌++◌, length, min, take, drop, get_or, refl, sym, ap, ◌∙◌, ⊎_elim, arith, Ordering, Less, Equal, Greater, nat_cmp, length-append, Some, rules}
+use Rattle.std.proofs.Common.{◌≡◌, ◌≢◌, ℕ, suc, ◌+◌, ◌<◌, ◌≤◌, List, [], ◌∷◌, ◌++◌, length, min, take, drop, get_or, refl, sym, ap, ◌∙◌, ⊎_elim, arith, Ordering, Less, Equal, Greater, nat_cmp, length-append, Some, rules}
 use Rattle.std.specs.Prelude.{◌↔◌, slice_get}
 use Rattle.std.specs.List.{AllZip, onto_first, concat}
 use Rattle.std.specs.Ordering.{ordering_then, is_eq}
 use Rattle.std.specs.Cmp.Lexicographic.{slice_cmp, nat_list_cmp_total, texts_ties, same_text}
-use Rattle.std.specs.Cmp.{ranks, nat_cmp_is}
+use Rattle.std.specs.Cmp.{nat_cmp_is}
 use Rattle.std.proofs.lemmas.Bool.{cases_lt}
-use Rattle.std.proofs.lemmas.Cmp.{by_ranked, tied_itself}
+use Rattle.std.proofs.lemmas.Cmp.{tied_itself}
 use Rattle.std.proofs.lemmas.List.{drop_more, length-drop, take-append-drop}
 use Rattle.const_oid.specs.Base128.{IsContinued, IsGroup}
 use Rattle.const_oid.specs.Contents.{cut}
-use Rattle.const_oid.specs.Identifier.{RootRule, max_second, IsIdentifier, IsEncoding, subidentifiers}
+use Rattle.const_oid.specs.Identifier.{RootRule, IsIdentifier, IsEncoding, subidentifiers}
 use Rattle.const_oid.specs.Orders.{shortlex_cmp, shortlex_cmp_total, parts_cmp}
 use Rattle.const_oid.specs.Tree.{BeginsWith}
 use Rattle.const_oid.proofs.BeginsWith.{before_more, between}
 use Rattle.const_oid.proofs.Cutting.{cut_after-last, cut_after-more}
 use Rattle.const_oid.proofs.Encodings.{cut_encoding, same_arcs, same_octets}
-use Rattle.const_oid.proofs.Orders.{groups_cmp, groups_short, nat_cmp-add, shortlex_cmp-less, shortlex_cmp-prefix}
-use Rattle.const_oid.proofs.Subidentifiers.{second_low}
+use Rattle.const_oid.proofs.Orders.{groups_cmp, groups_short, nat_cmp-add, shortlex_cmp-less}
 use Rattle.std.proofs.lemmas.Bool.Decides.{nat_tests}
+use Rattle.std.proofs.lemmas.Grind.{common_steps}
 
 -- ---- octets compared from an index on
 
@@ -109,8 +109,7 @@ level_numbers (n ∷ ns) (m ∷ ms) (g ∷ gs) (h ∷ hs) p q l =
 level_numbers _ _ _ _ p q l = absurd assumption
 
 subidentifiers_cmp : (rule : RootRule) (xs ys : List ℕ) → IsIdentifier rule xs → IsIdentifier rule ys → slice_cmp nat_cmp (subidentifiers xs) (subidentifiers ys) ≡ slice_cmp nat_cmp xs ys
-subidentifiers_cmp rule (a ∷ b ∷ xs) (c ∷ d ∷ ys) i j = search rules
-subidentifiers_cmp rule _ _ i j = absurd assumption
+subidentifiers_cmp rule xs ys i j = grind (arith, nat_tests, common_steps)
 
 -- encodings in the order of their parts are in the order of their arcs
 pub arcs_cmp : {rule : RootRule} {p x a b : List ℕ} → IsEncoding rule p a → IsEncoding rule x b → parts_cmp a b ≡ slice_cmp nat_cmp p x

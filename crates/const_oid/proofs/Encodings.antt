@@ -1,8 +1,7 @@
 -- Octets without a fault are the encoding of their arcs, and encodings have no fault but their length; each identifier has just one encoding.
-use Rattle.std.proofs.Common.{true, ◌≡◌, ◌≢◌, ℕ, ◌+◌, ◌*◌, ◌/◌, ◌%◌, ◌^◌, ◌<◌, ◌≤◌, false, List, [], ◌∷◌, length, map, slice_index, Some, None, refl, sym, ◌∙◌, arith, lt-ltb, le-ltb, ne_eqb, ◌++◌, drop, ap, min, rules}
+use Rattle.std.proofs.Common.{true, ◌≡◌, ◌≢◌, ℕ, ◌+◌, ◌*◌, ◌/◌, ◌<◌, ◌≤◌, false, List, [], ◌∷◌, length, map, slice_index, Some, None, refl, sym, ◌∙◌, arith, lt-ltb, le-ltb, ◌++◌, drop, ap, min, rules}
 use Rattle.std.specs.List.{AllByRecursion, AllZip, concat}
 use Rattle.std.specs.Prelude.{◌↔◌}
-use Rattle.std.proofs.lemmas.Bool.{eqb-false}
 use Rattle.std.proofs.lemmas.List.{drop-map, length-take}
 use Rattle.std.proofs.lemmas.Bool.Decides.{nat_tests}
 use Rattle.const_oid.specs.declared.error.Error.TheVariants.{ArcInvalid, Length}
@@ -21,12 +20,10 @@ use Rattle.const_oid.proofs.Cutting.{cut_chains, concat-cut, IsPart, parts_are, 
 -- ---- one part
 
 shortest : (part : List ℕ) → begins_with_128 part ≡ false → slice_index part 0 ≢ 128
-shortest [] h = λ e. omega arith
-shortest (x ∷ xs) h = eqb-false x 128 h
+shortest part h = search rules
 
 begins_with_128-not : (part : List ℕ) → slice_index part 0 ≢ 128 → begins_with_128 part ≡ false
-begins_with_128-not [] h = refl
-begins_with_128-not (x ∷ xs) h = ne_eqb x 128 h
+begins_with_128-not part h = search rules
 
 -- the part is the group of a number that is at most the limit
 abbrev IsGroupUpTo : ℕ → List ℕ → Type 0
@@ -68,12 +65,7 @@ first_none Narrow n part g l = rw (group-small (omega arith) g, le-ltb 119 n l)
 first_none Wide n part g l = part_none (max_first Wide) g l
 
 parts_valid : (rule : RootRule) (parts : List (List ℕ)) → AllByRecursion IsPart parts → parts_fault rule parts ≡ None → AllZip IsGroup (map value_of parts) parts × InRange rule (map value_of parts)
-parts_valid rule [] p h = cc
-parts_valid rule (part ∷ parts) p h =
-    let (a, b) = both_none (first_fault rule part) (later_fault parts) h in
-    let (g, l) = first_valid rule part p.0 a in
-    let (gs, ls) = later_valid parts p.1 b in
-    ((g, gs), (l, ls))
+parts_valid rule parts p h = grind (arith, both_none, first_valid, later_valid)
 
 parts_none : (rule : RootRule) (numbers : List ℕ) (groups : List (List ℕ)) → AllZip IsGroup numbers groups → InRange rule numbers → parts_fault rule groups ≡ None
 parts_none rule (n ∷ ns) (p ∷ ps) g l = rw (first_none rule n p g.0 l.0) (later_none ns ps g.1 l.1)

@@ -1,8 +1,8 @@
 -- Lists of arcs have no fault exactly where they are identifiers that fit.
-use Rattle.std.proofs.Common.{◌≡◌, ℕ, ◌+◌, ◌*◌, ◌≤◌, List, [], ◌∷◌, ◌++◌, None, refl, arith, append_assoc, append-nil, le-ltb, nat_lt, rules}
+use Rattle.std.proofs.Common.{◌≡◌, ℕ, ◌+◌, ◌*◌, ◌≤◌, List, [], ◌∷◌, ◌++◌, None, arith, append_assoc, append-nil, le-ltb, nat_lt, rules}
 use Rattle.std.specs.List.{AllByRecursion}
 use Rattle.std.proofs.lemmas.Bool.Decides.{nat_tests}
-use Rattle.const_oid.specs.declared.error.Error.TheVariants.{ArcInvalid, Length}
+use Rattle.const_oid.specs.declared.error.Error.TheVariants.{ArcInvalid}
 use Rattle.const_oid.specs.Identifier.{RootRule, max_arc, max_second, IsIdentifier, size}
 use Rattle.const_oid.specs.Error.{fault_if}
 use Rattle.const_oid.specs.Items.{arc_fault, too_few_fault, items_fault, item_fault}
@@ -10,6 +10,7 @@ use Rattle.const_oid.proofs.Lists.{append-cons, all_append}
 use Rattle.const_oid.proofs.Faults.{both_none, below_from_none, none_from_below}
 use Rattle.const_oid.proofs.Subidentifiers.{first_in_range}
 use Rattle.const_oid.proofs.Lengths.{size-cons, size_prefix, root_short}
+use Rattle.std.proofs.lemmas.Grind.{common_steps}
 
 -- a second arc is rejected for its range alone
 pub second_fits : (rule : RootRule) (capacity : ℕ) (first second : ℕ) → 5 ≤ capacity → first ≤ 2 → arc_fault rule capacity (first ∷ []) second ≡ fault_if (nat_lt (max_second rule first) second) (ArcInvalid second)
@@ -25,35 +26,22 @@ IsBegun rule capacity (a ∷ b ∷ later) = IsIdentifier rule (a ∷ b ∷ later
 
 -- one more arc without a fault
 pub begun_more : (rule : RootRule) (capacity : ℕ) (before : List ℕ) (arc : ℕ) → IsBegun rule capacity before → arc ≤ max_arc → arc_fault rule capacity before arc ≡ None → IsBegun rule capacity (before ++ arc ∷ [])
-begun_more rule capacity [] arc b l h = below_from_none 2 arc (ArcInvalid arc) h
-begun_more rule capacity (a ∷ []) arc b l h = search rules
-begun_more rule capacity (a ∷ c ∷ later) arc b l h = grind (arith, all_append, below_from_none)
+begun_more rule capacity before arc b l h = grind (arith, below_from_none, all_append)
 
 -- an arc of an identifier that fits has no fault
 pub arc_none : (rule : RootRule) (capacity : ℕ) (before : List ℕ) (arc : ℕ) (rest : List ℕ) → IsIdentifier rule (before ++ arc ∷ rest) → size (before ++ arc ∷ rest) ≤ capacity → arc_fault rule capacity before arc ≡ None
-arc_none rule capacity [] arc [] i s = absurd i
-arc_none rule capacity [] arc (b ∷ rest) i s = none_from_below 2 arc (ArcInvalid arc) i.0
-arc_none rule capacity (a ∷ []) arc rest i s =
-    let f = size_prefix a arc [] rest in
-    rw (le-ltb (max_second rule a) arc i.1, le-ltb capacity (size (a ∷ arc ∷ [])) (omega arith))
-arc_none rule capacity (a ∷ b ∷ later) arc rest i s =
-    let f = size_prefix a b (later ++ arc ∷ []) rest in
-    let e = append_assoc later (arc ∷ []) rest in
-    let g : size (a ∷ b ∷ later ++ arc ∷ []) ≤ size (a ∷ b ∷ later ++ arc ∷ rest) = rw e at f in
-    none_from_below capacity (size (a ∷ b ∷ later ++ arc ∷ [])) Length (omega arith)
+arc_none rule capacity before arc rest i s =
+    grind (arith, nat_tests, common_steps, none_from_below, size_prefix, le-ltb, append_assoc)
 
 -- ---- whole lists
 
 -- two arcs or more that begin an identifier are one
 pub whole_from_begun : (rule : RootRule) (capacity : ℕ) (arcs : List ℕ) → IsBegun rule capacity arcs → too_few_fault arcs ≡ None → IsIdentifier rule arcs × (size arcs ≤ capacity)
-whole_from_begun rule capacity [] b h = cc
-whole_from_begun rule capacity (a ∷ []) b h = cc
-whole_from_begun rule capacity (a ∷ c ∷ later) b h = b
+whole_from_begun rule capacity arcs b h = search rules
 
 -- an identifier has two arcs or more
 pub few_none : (rule : RootRule) (arcs : List ℕ) → IsIdentifier rule arcs → too_few_fault arcs ≡ None
-few_none rule (a ∷ b ∷ later) i = refl
-few_none rule _ i = absurd i
+few_none rule arcs i = search rules
 
 items_none : (rule : RootRule) (capacity : ℕ) (before items : List ℕ) → IsIdentifier rule (before ++ items) → size (before ++ items) ≤ capacity → items_fault rule capacity before items ≡ None
 items_none rule capacity before [] i s = few_none rule before (rw append-nil at i)

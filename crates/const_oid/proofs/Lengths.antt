@@ -1,5 +1,5 @@
 -- How many octets arcs take, and how many arcs octets encode.
-use Rattle.std.proofs.Common.{◌≡◌, ℕ, ◌+◌, ◌*◌, ◌≤◌, List, [], ◌∷◌, ◌++◌, refl, arith, sum_by, le-ltb, nat_lt, lt-ltb, length, ◌∙◌, length-append, cond, count_by}
+use Rattle.std.proofs.Common.{◌≡◌, ℕ, ◌+◌, ◌*◌, ◌≤◌, List, [], ◌∷◌, ◌++◌, refl, arith, sum_by, le-ltb, nat_lt, lt-ltb, length, length-append, cond, count_by}
 use Rattle.std.specs.List.{AllByRecursion, AllZip, concat}
 use Rattle.std.proofs.lemmas.List.Sums.{sum_by-cons, sum_by-append}
 use Rattle.std.proofs.lemmas.Slice.Zip.{AllZip-long}

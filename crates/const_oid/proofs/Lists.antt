@@ -1,23 +1,23 @@
 -- Lists put together, and put before the first of some lists.
-use Rattle.std.proofs.Common.{◌≡◌, ℕ, List, [], ◌∷◌, ◌++◌, append_assoc, true, not, refl, sym, ap, ◌∙◌}
+use Rattle.std.proofs.Common.{◌≡◌, ℕ, List, [], ◌∷◌, ◌++◌, append_assoc, true, not, sym, ◌∙◌, rules, arith}
 use Rattle.std.specs.List.{AllByRecursion, onto_first}
 use Rattle.const_oid.specs.Text.{is_empty}
+use Rattle.std.proofs.lemmas.Grind.{common_steps}
+use Rattle.std.proofs.lemmas.Bool.Decides.{nat_tests}
 
 pub append-cons : (before : List ℕ) (x : ℕ) (xs : List ℕ) → (before ++ x ∷ []) ++ xs ≡ before ++ x ∷ xs
 append-cons before x xs = append_assoc before (x ∷ []) xs
 
 -- what holds of the elements of both holds of those of the joined list
 pub all_append : (P : ℕ → Type 0) (xs ys : List ℕ) → AllByRecursion P xs → AllByRecursion P ys → AllByRecursion P (xs ++ ys)
-all_append P [] ys p q = q
-all_append P (x ∷ xs) ys p q = (p.0, all_append P xs ys p.1 q)
+all_append P xs ys p q = grind (arith, nat_tests, common_steps)
 
 pub all_at : (P : ℕ → Type 0) (before : List ℕ) (x : ℕ) (rest : List ℕ) → AllByRecursion P (before ++ x ∷ rest) → P x
 all_at P [] x rest h = h.0
 all_at P (y ∷ ys) x rest h = all_at P ys x rest h.1
 
 pub not_empty_push : (prefix : List ℕ) (x : ℕ) → true ≡ not (is_empty (prefix ++ x ∷ []))
-not_empty_push [] x = refl
-not_empty_push (y ∷ ys) x = refl
+not_empty_push prefix x = grind (arith, nat_tests, common_steps)
 
 -- ---- a list put before the first
 
@@ -27,14 +27,10 @@ onto_all (y ∷ ys) [] = (y ∷ ys) ∷ []
 onto_all (y ∷ ys) (part ∷ parts) = ((y ∷ ys) ++ part) ∷ parts
 
 pub onto_all-first : (prefix : List ℕ) (x : ℕ) (parts : List (List ℕ)) → onto_all prefix (onto_first x parts) ≡ onto_all (prefix ++ x ∷ []) parts
-onto_all-first [] x [] = refl
-onto_all-first [] x (part ∷ parts) = refl
-onto_all-first (y ∷ ys) x [] = refl
-onto_all-first (y ∷ ys) x (part ∷ parts) = ap (λ p. p ∷ parts) (sym (append_assoc (y ∷ ys) (x ∷ []) part))
+onto_all-first prefix x parts = grind (arith, append_assoc)
 
 pub onto_all-cons : (prefix part : List ℕ) (parts : List (List ℕ)) → onto_all prefix (part ∷ parts) ≡ (prefix ++ part) ∷ parts
-onto_all-cons [] part parts = refl
-onto_all-cons (y ∷ ys) part parts = refl
+onto_all-cons prefix part parts = search rules
 
 -- an element put after those before makes the first list longer
 pub onto_all-some : (prefix : List ℕ) (x : ℕ) (parts : List (List ℕ))

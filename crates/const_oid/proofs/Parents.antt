@@ -1,27 +1,26 @@
 -- Octets without their last part.
-use Rattle.std.proofs.Common.{◌≡◌, ◌≢◌, ℕ, zero, suc, ◌+◌, ◌-◌, ◌/◌, ◌%◌, ◌<◌, ◌≤◌, List, [], ◌∷◌, ◌++◌, length, map, take, drop, slice_index, Some, None, refl, sym, ap, ◌∙◌, arith, lt-ltb, le-ltb, length-append, ⊎_elim}
+use Rattle.std.proofs.Common.{◌≡◌, ◌≢◌, ℕ, zero, suc, ◌+◌, ◌-◌, ◌<◌, ◌≤◌, List, [], ◌∷◌, ◌++◌, length, map, take, drop, slice_index, Some, None, refl, sym, ap, ◌∙◌, arith, lt-ltb, length-append, rules}
 use Rattle.std.specs.Prelude.{◌↔◌}
 use Rattle.std.specs.List.{onto_first, concat}
-use Rattle.std.proofs.lemmas.Bool.{cases_lt}
 use Rattle.std.proofs.lemmas.List.{length-map, take-map, take-append-drop}
 use Rattle.std.proofs.lemmas.List.Folds.{concat-append}
 use Rattle.std.proofs.Math.Seq.{take-append_seam}
 use Rattle.std.proofs.lemmas.Bool.Decides.{nat_tests}
 use Rattle.const_oid.specs.Base128.{value_of}
 use Rattle.const_oid.specs.Identifier.{RootRule, max_arc, IsIdentifier, IsEncoding}
-use Rattle.const_oid.specs.Contents.{cut, cut_after, part_fault, first_fault, later_fault, parts_fault, arcs_from, arcs_of_octets}
+use Rattle.const_oid.specs.Contents.{cut, cut_after, part_fault, later_fault, parts_fault, arcs_from, arcs_of_octets}
 use Rattle.const_oid.specs.Tree.{BeginsWith, parent_of}
 use Rattle.const_oid.proofs.Faults.{both_none}
 use Rattle.const_oid.proofs.Tree.{child_of-parent_of}
 use Rattle.const_oid.proofs.Children.{encoding_parent}
 use Rattle.const_oid.proofs.Lengths.{length_by_parts}
 use Rattle.const_oid.proofs.Cutting.{cut_after-last, cut_after-more, cut_after-some, cut-some, concat-cut}
+use Rattle.std.proofs.lemmas.Grind.{common_steps}
 
 -- ---- where the last part begins
 
 cut_after-push : (x : ℕ) (parts : List (List ℕ)) (last : List ℕ) → parts ≢ [] → cut_after x (parts ++ last ∷ []) ≡ cut_after x parts ++ last ∷ []
-cut_after-push x [] last some = absurd (some refl)
-cut_after-push x (part ∷ parts) last some = grind (arith, nat_tests)
+cut_after-push x parts last some = search rules
 
 -- one part, of whose octets all but the last are 128 at least
 cut_one : (prefix : List ℕ) (x : ℕ) → ((k : ℕ) → k < length prefix → 128 ≤ slice_index prefix k) → cut (prefix ++ x ∷ []) ≡ (prefix ++ x ∷ []) ∷ []
@@ -41,9 +40,7 @@ cut_push (y ∷ z ∷ zs) x (suc (suc k)) inside final more =
 cut_push _ x _ inside final more = absurd (omega arith)
 
 but_last : (parts : List (List ℕ)) (last : List ℕ) → take (length (parts ++ last ∷ []) - 1) (parts ++ last ∷ []) ≡ parts
-but_last parts last =
-    let e : length (parts ++ last ∷ []) - 1 ≡ length parts = omega (arith, length-append parts (last ∷ [])) in
-    rw e (take-append_seam parts (last ∷ []))
+but_last parts last = grind (arith, nat_tests, common_steps, length-append, take-append_seam)
 
 without_last_part : (octets prefix : List ℕ) (x index : ℕ) → octets ≡ prefix ++ x ∷ [] → index ≤ length prefix → ((k : ℕ) → index ≡ suc k → slice_index prefix k < 128) → ((k : ℕ) → index ≤ k → k < length prefix → 128 ≤ slice_index prefix k) → let parts = cut octets in cut (take index prefix) ≡ take (length parts - 1) parts
 without_last_part octets prefix x index is inside final more =
@@ -66,8 +63,7 @@ later_fault-take (suc k) [] h = refl
 later_fault-take (suc k) (part ∷ parts) h = grind (arith, nat_tests, both_none (part_fault max_arc part) (later_fault parts) h, later_fault-take k parts)
 
 fault_before : (rule : RootRule) (k : ℕ) (parts : List (List ℕ)) → take k parts ≢ [] → parts_fault rule parts ≡ None → parts_fault rule (take k parts) ≡ None
-fault_before rule (suc k) (part ∷ parts) some h = grind (arith, both_none, later_fault-take)
-fault_before rule _ _ some h = absurd (some refl)
+fault_before rule k parts some h = search (rules, some, both_none, later_fault-take)
 
 -- they have no fault
 pub none_without_last_part : (rule : RootRule) (octets prefix : List ℕ) → (let parts = cut octets in cut prefix ≡ take (length parts - 1) parts) → prefix ≢ [] → parts_fault rule (cut octets) ≡ None → parts_fault rule (cut prefix) ≡ None
@@ -106,17 +102,10 @@ pub parent_octets : {rule : RootRule} {arcs : List ℕ} (parent : List ℕ) {oct
 parent_octets {rule} {arcs} parent {octets} e p = grind (arith, child_of-parent_of, encoding_parent, but_last)
 
 pub none_of_two : (arcs : List ℕ) → 2 ≤ length arcs → (parent_of arcs ≡ None) ↔ (length arcs ≡ 2)
-none_of_two arcs two = ⊎_elim
-    (λ (more : 2 < length arcs). (λ none. cc (none, some more), λ e. absurd (omega (arith, e))))
-    (λ (few : length arcs ≤ 2). (λ none. omega arith, λ e. rw (le-ltb 2 (length arcs) few)))
-    (cases_lt 2 (length arcs))
-  where
-    some : 2 < length arcs → parent_of arcs ≡ Some (take (length arcs - 1) arcs)
-    some more = rw (lt-ltb 2 (length arcs) more)
+none_of_two arcs two = search rules
 
 pub two_arcs : (rule : RootRule) (arcs : List ℕ) → IsIdentifier rule arcs → 2 ≤ length arcs
-two_arcs rule (a ∷ b ∷ later) i = omega arith
-two_arcs rule _ i = absurd i
+two_arcs rule arcs i = search rules
 
 -- and of one part there are none
 pub parent_of_one : {rule : RootRule} {arcs octets : List ℕ} → IsEncoding rule arcs octets → (parent_of arcs ≡ None) ↔ (length (cut octets) ≡ 1)

@@ -1,5 +1,5 @@
 -- Texts: what is printed is read back, and texts have no fault exactly where they denote arcs that fit.
-use Rattle.std.proofs.Common.{◌≡◌, ℕ, ◌+◌, ◌<◌, ◌≤◌, false, not, List, [], ◌∷◌, ◌++◌, length, map, Option, Some, None, option_map, refl, sym, ap, ◌∙◌, arith, decimal, find, ◌==◌, append-nil, Bool, true, take, length-append}
+use Rattle.std.proofs.Common.{◌≡◌, ℕ, ◌+◌, ◌<◌, ◌≤◌, false, not, List, [], ◌∷◌, ◌++◌, length, map, Option, Some, None, option_map, refl, sym, ap, ◌∙◌, arith, decimal, find, ◌==◌, append-nil, Bool, true, take, length-append, rules}
 use Rattle.std.specs.List.{AllByRecursion, join_with_byte}
 use Rattle.std.specs.Char.{is_ascii_digit}
 use Rattle.std.specs.Prelude.{Ok}
@@ -41,12 +41,10 @@ second_small Narrow a b h = omega arith
 second_small Wide a b h = grind (arith, nat_tests)
 
 pub arcs_small : (rule : RootRule) (arcs : List ℕ) → IsIdentifier rule arcs → AllByRecursion (λ n. n ≤ max_arc) arcs
-arcs_small rule (a ∷ b ∷ later) i = (omega (arith, i.0), (second_small rule a b i.1, i.2))
-arcs_small rule _ i = absurd i
+arcs_small rule arcs i = search rules
 
 pieces_of-text_of : (rule : RootRule) (arcs : List ℕ) → IsIdentifier rule arcs → pieces_of (text_of arcs) ≡ map decimal arcs
-pieces_of-text_of rule [] i = absurd i
-pieces_of-text_of rule (a ∷ arcs) i = search (pieces_of-join, decimals_are, arcs_small)
+pieces_of-text_of rule arcs i = grind (arith, pieces_of-join, decimals_are, arcs_small)
 
 pub text_denotes : (rule : RootRule) (arcs : List ℕ) → IsIdentifier rule arcs → Denotes rule (text_of arcs) arcs
 text_denotes rule arcs i = grind (arith, pieces_of-text_of, arcs_small, decimals_are, numbers_of-decimals)
@@ -70,17 +68,13 @@ text_of-denoted rule text arcs d = grind (arith, arcs_small, stripped_pieces)
 -- ---- pieces without a fault
 
 not_empty : (piece : List ℕ) → 0 < length piece → is_empty piece ≡ false
-not_empty [] h = absurd (omega arith)
-not_empty (b ∷ bs) h = refl
+not_empty piece h = search rules
 
 some_from_not_empty : (piece : List ℕ) → is_empty piece ≡ false → 0 < length piece
-some_from_not_empty [] h = cc
-some_from_not_empty (b ∷ bs) h = omega arith
+some_from_not_empty piece h = search rules
 
 not_one_empty : (pieces : List (List ℕ)) → AllByRecursion IsNumber pieces → is_one_empty pieces ≡ false
-not_one_empty [] h = refl
-not_one_empty (piece ∷ []) h = not_empty piece h.0.0
-not_one_empty (piece ∷ next ∷ more) h = refl
+not_one_empty pieces h = search rules
 
 piece_none : (rule : RootRule) (capacity : ℕ) (before piece : List ℕ) (after : List (List ℕ)) → AllByRecursion IsNumber (piece ∷ after) → number_of piece ≤ max_arc → arc_fault rule capacity before (number_of piece) ≡ None → piece_fault rule capacity before piece after ≡ None
 piece_none rule capacity before piece after p l a = search (none_from_below, find-none, not_empty, not_one_empty)
@@ -146,8 +140,7 @@ denoted_from_answer rule capacity text arcs e = by (text_fault rule text capacit
 -- ---- one arc printed after another
 
 text_of-first : (arc : ℕ) (arcs : List ℕ) → text_of (arc ∷ arcs) ≡ decimal arc ++ text_left false arcs
-text_of-first arc [] = sym (append-nil (decimal arc))
-text_of-first arc (next ∷ arcs) = refl
+text_of-first arc arcs = search rules
 
 -- the next arc, and what follows it
 pub text_left-cons : (is_first : Bool) (arc : ℕ) (arcs : List ℕ) → text_left is_first (arc ∷ arcs) ≡ arc_text is_first arc ++ text_left false arcs
@@ -171,6 +164,4 @@ text_ascii rule arcs i = texts_ascii true arcs (arcs_small rule arcs i)
 
 -- the first two arcs take no more than all
 pub root_within : (arcs : List ℕ) → length (text_of (take 2 arcs)) ≤ length (text_of arcs)
-root_within [] = omega arith
-root_within (a ∷ []) = omega arith
-root_within (a ∷ b ∷ later) = grind (arith, text_of-first, length-append)
+root_within arcs = grind (arith, text_of-first, length-append)

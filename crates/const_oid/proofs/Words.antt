@@ -5,7 +5,7 @@ use Rattle.std.specs.Int.{from_be_bytes}
 use Rattle.std.specs.Ordering.{ordering_then, is_eq}
 use Rattle.std.specs.Cmp.{ranks, nat_cmp_is}
 use Rattle.std.specs.Cmp.Lexicographic.{pointwise, slice_cmp, texts_ties, same_text}
-use Rattle.std.proofs.lemmas.Bool.{false_from_ne_true, eqb-true, eq-eqb}
+use Rattle.std.proofs.lemmas.Bool.{eqb-true, eq-eqb}
 use Rattle.std.proofs.lemmas.Bool.Decides.{nat_tests}
 use Rattle.std.proofs.lemmas.Cmp.{nat_cmp_total, nat_list_cmp_total, by_ranked, tied_itself}
 use Rattle.std.proofs.lemmas.List.{take-append-drop, length-take-le, take-take, take_all, length-drop}
@@ -13,6 +13,7 @@ use Rattle.std.proofs.lemmas.Nat.{mul-le}
 use Rattle.const_oid.specs.Base128.{AreOctets}
 use Rattle.const_oid.specs.Private.Words.{IsWord}
 use Rattle.const_oid.proofs.Orders.{digits_cmp, nat_cmp-add, slice_cmp-prefix}
+use Rattle.std.proofs.lemmas.Grind.{common_steps}
 
 -- ---- octets as a number
 
@@ -33,8 +34,7 @@ worth_cmp (x ∷ xs) (y ∷ ys) s t l =
 worth_cmp _ _ s t l = absurd (omega arith)
 
 word_worth : (xs : List ℕ) → length xs ≡ 8 → from_be_bytes w64 xs ≡ worth xs
-word_worth (a ∷ b ∷ c ∷ d ∷ e ∷ f ∷ g ∷ h ∷ []) l = omega arith
-word_worth _ l = absurd (omega arith)
+word_worth xs l = grind (arith, nat_tests, common_steps)
 
 -- ---- the word at an index
 

@@ -1,6 +1,4 @@
-use Rattle.std.proofs.Common.{◌≡◌, ◌≢◌, None, sym, rules}
-use Rattle.std.specs.List.{All}
-use Rattle.const_oid.specs.Names.{entry_arcs}
+use Rattle.std.proofs.Common.{◌≡◌, None, sym, rules}
 use Rattle.const_oid.specs.OidRef.{ref_arcs}
 use Rattle.const_oid.proofs.SortedNames.{last_begins, none_begins, not_begun, not_found, reached_itself, reached_entry, reached_parent, reached_root}
 use Rattle.const_oid.proofs.db_sorted.SortedDatabase.nearest.Goals as goal

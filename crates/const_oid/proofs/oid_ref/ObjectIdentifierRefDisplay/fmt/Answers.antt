@@ -12,7 +12,7 @@ loop-arc-init g c =
     ([], λ flush. search rules, ap text_of (c.into_iter-arc-iterator.ensures.into_iter_gives ∙ c.arcs-arc-items.ensures))
 
 pub write_arc-len-requires : goal.write_arc-len-requires
-write_arc-len-requires g c = omega (arith, arc_text_short c.loop-arc.is_first c.in-Some-arc.arc (omega arith))
+write_arc-len-requires g c = omega (arith, arc_text_short)
 
 pub utf8-requires : goal.utf8-requires
 utf8-requires g c =
