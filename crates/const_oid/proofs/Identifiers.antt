@@ -1,11 +1,11 @@
 -- For callers: what follows of identifiers that are held.
-use Rattle.std.proofs.Common.{◌≡◌, ◌≢◌, ℕ, zero, suc, ◌+◌, Bool, ◌&&◌, not, ⊎_elim, true, false, Equal, Greater, ◌<◌, ◌≤◌, List, [], ◌∷◌, ◌++◌, length, min, Some, Ok, Less, nat_cmp, refl, sym, ap, ◌∙◌, arith, slice_get, get_or, length-append, append-nil}
+use Rattle.std.proofs.Common.{◌≡◌, ◌≢◌, ℕ, zero, suc, ◌+◌, Bool, ◌&&◌, not, ⊎_elim, true, false, Equal, Greater, ◌<◌, ◌≤◌, List, [], ◌∷◌, ◌++◌, length, min, Some, Ok, Less, nat_cmp, refl, sym, ◌∙◌, arith, slice_get, get_or, length-append, append-nil}
 use Rattle.std.proofs.Math.Seq.{get_or-append_seam}
 use Rattle.std.proofs.lemmas.Bool.{and_parts, cases_lt, not-true}
 use Rattle.std.proofs.lemmas.Option.{get_or_from_slice_get}
 use Rattle.std.specs.Cmp.Lexicographic.{slice_cmp}
 use Rattle.std.specs.Ordering.{is_le, is_lt, ordering_reverse}
-use Rattle.std.specs.Prelude.{Result, Err}
+use Rattle.std.specs.Prelude.{Result}
 use Rattle.std.specs.Iterator.{YieldsFirst}
 use Rattle.std.proofs.iter.Rest.{run_of_first}
 use Rattle.std.specs.declared.cmp.Ordering.{Ordering}
@@ -25,6 +25,8 @@ use Rattle.const_oid.proofs.Encodings.{oid_encoding, ref_encoding, oid_within, e
 use Rattle.const_oid.proofs.Lengths.{length_is_size}
 use Rattle.const_oid.proofs.Texts.{text_denotes, text_fault-none}
 use Rattle.const_oid.proofs.Tree.{parent_of-child_of, child_of-parent_of}
+use Rattle.std.proofs.lemmas.Grind.{common_steps}
+use Rattle.std.proofs.lemmas.Bool.Decides.{nat_tests}
 
 -- its octets, which compute where its arcs are known
 pub octets_are : {N : ℕ} (oid : ObjectIdentifier N) → oid_octets oid ≡ encoding_of (oid_arcs oid)
@@ -64,8 +66,7 @@ pub ref_child_of_parent : (oid : ObjectIdentifierRef) (parent : List ℕ) (arc :
 ref_child_of_parent oid parent arc = child_again (ref_arcs oid) parent arc (ref_encoding oid).identifier
 
 longer_below : (xs ys : List ℕ) → BeginsWith ys xs → ys ≢ xs → length xs < length ys
-longer_below xs ys ([], e) other = absurd (other (e ∙ append-nil xs))
-longer_below xs ys (z ∷ zs, e) other = omega (arith, ap length e, length-append xs (z ∷ zs))
+longer_below xs ys begins other = grind (arith, nat_tests, common_steps, append-nil, length-append)
 
 -- it comes before others that begin with it, in both orders
 pub before_below : {N M : ℕ} (oid : ObjectIdentifier N) (below : ObjectIdentifier M) → BeginsWith (oid_arcs below) (oid_arcs oid) → oid_arcs below ≢ oid_arcs oid → slice_cmp nat_cmp (oid_octets oid) (oid_octets below) ≡ Less
@@ -87,8 +88,7 @@ not_before a b level = rw (nat_list_cmp_total.antisymm b a) (reversed (slice_cmp
 
 -- the result of the items of an iterator is exact where its list is known
 pub exact_answer : {S : Type 0} (rule : RootRule) (capacity : ℕ) (rest : S → List ℕ) (s : S) (result : Result (List ℕ) Error) → TakesItems rule capacity (YieldsFirst rest) s result → result ≡ item_answer rule (rest s) capacity
-exact_answer rule capacity rest s (Ok arcs) (p, from, whole, (is, none)) = grind (arith, run_of_first)
-exact_answer rule capacity rest s (Err fault) (p, from, refused) = grind (arith, run_of_first)
+exact_answer rule capacity rest s result taken = grind (arith, run_of_first)
 
 -- ---- of a table of constants
 

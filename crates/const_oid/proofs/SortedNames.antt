@@ -24,6 +24,8 @@ use Rattle.const_oid.proofs.ByParts.{run_between}
 use Rattle.const_oid.proofs.Encodings.{ref_encoding}
 use Rattle.const_oid.proofs.Parents.{none_of_two, two_arcs}
 use Rattle.const_oid.proofs.Tree.{child_of-parent_of}
+use Rattle.std.proofs.lemmas.Grind.{common_steps}
+use Rattle.std.proofs.lemmas.Bool.Decides.{nat_tests}
 
 -- ---- the first element that passes a test
 
@@ -223,8 +225,7 @@ above_child [] last (y ∷ z ∷ zs) rest e some = cc
 above_child (x ∷ xs) last (y ∷ ys) rest e some = grind (arith, above_child xs last ys rest (cc) some)
 
 above_root : (arcs prefix : List ℕ) → length arcs ≡ 2 → 2 ≤ length prefix → BeginsWith arcs prefix → prefix ≢ arcs → ⊥
-above_root arcs prefix two more ([], e) other = other (sym (e ∙ append-nil prefix))
-above_root arcs prefix two more (y ∷ ys, e) other = omega (arith, ap length e, length-append prefix (y ∷ ys))
+above_root arcs prefix two more begins other = grind (arith, nat_tests, common_steps, append-nil, length-append)
 
 -- a list is reached on the way up from arcs: no entry that they begin with is below it, or not above the last one
 pub record IsReached (entries : List (Entry ObjectIdentifierRef)) (arcs last above : List ℕ) : Type 0 where

@@ -138,6 +138,7 @@ pub(crate) fn order(a: &[u8], b: &[u8]) -> Ordering
 
 /// The octets in list order, one by one.
 #[inline(always)]
+#[tactic(auto, using(crate::proofs::Words::rest_cmp))]
 fn order_few(a: &[u8], b: &[u8]) -> Ordering
     ensures { result ≡ slice_cmp nat_cmp a.now b.now }
 {
@@ -157,6 +158,7 @@ const WORD: usize = 8;
 /// list order of their octets.
 // `const` in Rust.
 #[inline(always)]
+#[tactic(auto, using(crate::proofs::Octets::are_octets, crate::proofs::Words::octets_drop, crate::proofs::Words::octets_take))]
 fn word(octets: &[u8], at: usize) -> u64
     requires { at + 8 ≤ length octets.now }
     ensures { IsWord octets.now at result }
@@ -173,6 +175,7 @@ fn word(octets: &[u8], at: usize) -> u64
 ///
 /// Where they differ first, the parts begin at one index. So the part that goes on for longer from
 /// there is the longer one, and an octet that ends its part decides.
+#[tactic(auto, using(crate::proofs::ByParts::same_up_to, crate::proofs::ByParts::same_at, crate::proofs::ByParts::ended_at))]
 pub(crate) fn order_by_parts(a: &[u8], b: &[u8]) -> Ordering
     ensures { result ≡ parts_cmp a.now b.now }
 {

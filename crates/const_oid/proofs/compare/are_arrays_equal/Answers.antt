@@ -4,13 +4,7 @@ use Rattle.const_oid.proofs.Words.{same_words, equal_words, same_less, tells_sam
 use Rattle.const_oid.proofs.compare.are_arrays_equal.Goals as goal
 
 pub loop-at-preserved : goal.loop-at-preserved
-loop-at-preserved c =
-    let before = c.loop-at.invariant in
-    record {
-      same = same_words _ _ _ _ _ _ c.word.ensures c.word-in-loop-at.ensures before.same;
-      equal = λ e. equal_words _ _ _ _ _ _ c.word.ensures c.word-in-loop-at.ensures (before.equal e) e;
-      within = omega arith;
-    }
+loop-at-preserved c = search (arith, same_words, equal_words)
 
 pub returns : goal.returns
 returns c =

@@ -2,17 +2,11 @@ use Rattle.std.proofs.Common.{◌-◌, length, arith}
 use Rattle.const_oid.proofs.Words.{same_more, same_less, unequal_lists, last_words}
 use Rattle.const_oid.proofs.compare.are_equal.Goals as goal
 
-pub returns-then-word : goal.returns-then-word
-returns-then-word c = unequal_lists _ _ _ _ _ c.word.ensures c.word-2.ensures (λ e. omega arith)
-
 pub returns-then-word-2 : goal.returns-then-word-2
-returns-then-word-2 c = unequal_lists _ _ _ _ _ c.word-in-loop-at.ensures c.word-in-loop-at-2.ensures (λ e. omega arith)
+returns-then-word-2 c = search (arith, unequal_lists)
 
 pub loop-at-preserved : goal.loop-at-preserved
-loop-at-preserved c = record {
-  same = same_more _ _ _ _ _ c.word-in-loop-at.ensures c.word-in-loop-at-2.ensures c.loop-at.invariant.same (omega arith);
-  within = omega arith;
-}
+loop-at-preserved c = search (arith, same_more)
 
 pub returns : goal.returns
 returns c =

@@ -3,18 +3,13 @@ use Rattle.const_oid.proofs.Words.{same_more, same_less, unequal_cmp, after_same
 use Rattle.const_oid.proofs.compare.order.Goals as goal
 
 pub returns-then-x-y : goal.returns-then-x-y
-returns-then-x-y c = c.cmp.ensures ∙ unequal_cmp _ _ _ _ _ c.word-x.ensures c.word-y.ensures c.loop-at.invariant.same c.if-x-y.true
+returns-then-x-y c = search (arith, unequal_cmp)
 
 pub loop-at-preserved : goal.loop-at-preserved
-loop-at-preserved c = record {
-  same = same_more _ _ _ _ _ c.word-x.ensures c.word-y.ensures c.loop-at.invariant.same c.if-x-y.false;
-  within = omega arith;
-}
+loop-at-preserved c = search (arith, same_more)
 
 pub returns-then-x-y-2 : goal.returns-then-x-y-2
-returns-then-x-y-2 c =
-    let same = same_less _ _ _ (c.min-near.result - 8) (omega arith) c.loop-at.invariant.same in
-    c.cmp-then-x-y-2.ensures ∙ unequal_cmp _ _ _ _ _ c.word-x-2.ensures c.word-y-2.ensures same c.if-x-y-2.true
+returns-then-x-y-2 c = search (arith, same_less, unequal_cmp)
 
 pub returns : goal.returns
 returns c =

@@ -1,16 +1,11 @@
-use Rattle.std.proofs.Common.{◌≡◌, ◌<◌, ◌≤◌, ◌∙◌, length, None, sym, rules}
+use Rattle.std.proofs.Common.{◌≡◌, ◌<◌, length, rules, arith}
 use Rattle.std.specs.List.{HoldsAt}
-use Rattle.std.specs.Option.{option_copied}
 use Rattle.const_oid.specs.OidRef.{ref_arcs}
 use Rattle.const_oid.proofs.SortedNames.{find_past, find_there}
 use Rattle.const_oid.proofs.db_sorted.SortedDatabase.first.Goals as goal
 
 pub returns-in_err-entry : goal.returns-in_err-entry
-returns-in_err-entry c =
-    let database = c.args.self.now in
-    let past : length database.entries.now ≤ c.start_of.result = search rules in
-    let none : option_copied c.from_residual.result ≡ None = search rules in
-    none ∙ sym (find_past (ref_arcs c.args.oid.now) database.entries.now database.sorted c.start_of.result c.start_of.ensures.cut past)
+returns-in_err-entry c = search (arith, find_past)
 
 pub returns : goal.returns
 returns c =
