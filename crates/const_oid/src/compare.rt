@@ -136,9 +136,9 @@ pub(crate) fn order(a: &[u8], b: &[u8]) -> Ordering
     a.len().cmp(&b.len())
 }
 
+#[tactic(auto, using(crate::proofs::Words::rest_cmp))]
 /// The octets in list order, one by one.
 #[inline(always)]
-#[tactic(auto, using(crate::proofs::Words::rest_cmp))]
 fn order_few(a: &[u8], b: &[u8]) -> Ordering
     ensures { result ≡ slice_cmp nat_cmp a.now b.now }
 {
@@ -154,11 +154,11 @@ fn order_few(a: &[u8], b: &[u8]) -> Ordering
 /// How many octets a word has.
 const WORD: usize = 8;
 
+#[tactic(auto, using(crate::proofs::Octets::are_octets, crate::proofs::Words::octets_drop, crate::proofs::Words::octets_take))]
 /// The eight octets from an index on as a number, the first one the most significant: so words have the
 /// list order of their octets.
 // `const` in Rust.
 #[inline(always)]
-#[tactic(auto, using(crate::proofs::Octets::are_octets, crate::proofs::Words::octets_drop, crate::proofs::Words::octets_take))]
 fn word(octets: &[u8], at: usize) -> u64
     requires { at + 8 ≤ length octets.now }
     ensures { IsWord octets.now at result }
@@ -171,11 +171,11 @@ fn word(octets: &[u8], at: usize) -> u64
     }
 }
 
+#[tactic(auto, using(crate::proofs::ByParts::same_up_to, crate::proofs::ByParts::same_at, crate::proofs::ByParts::ended_at))]
 /// The octets in the order of their parts, a shorter part first.
 ///
 /// Where they differ first, the parts begin at one index. So the part that goes on for longer from
 /// there is the longer one, and an octet that ends its part decides.
-#[tactic(auto, using(crate::proofs::ByParts::same_up_to, crate::proofs::ByParts::same_at, crate::proofs::ByParts::ended_at))]
 pub(crate) fn order_by_parts(a: &[u8], b: &[u8]) -> Ordering
     ensures { result ≡ parts_cmp a.now b.now }
 {
