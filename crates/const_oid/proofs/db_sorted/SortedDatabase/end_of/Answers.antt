@@ -8,5 +8,7 @@ pub returns-clause-cut : goal.returns-clause-cut
 returns-clause-cut c =
     let arcs = ref_arcs c.args.oid.now in
     let entries = c.args.self.now.entries.now in
-    let (early, late) = IsPartitionPoint-from_clause (is_upto arcs entries) entries c.partition_point.result c.partition_point.ensures.partitioned (cut_upto arcs entries c.args.self.now.sorted) (λ a r f called. search rules) in
+    let cut = cut_upto arcs entries c.args.self.now.sorted in
+    let (early, late) = IsPartitionPoint-from_clause (is_upto arcs entries) entries _
+    c.partition_point.ensures.partitioned cut (λ a r f called. search rules) in
     (λ k d l m. at_least _ (early k d l m), λ k d l m. less _ (late k d l m))

@@ -6,5 +6,5 @@ use Rattle.const_oid.proofs.db_sorted.SortedDatabase.next_after.Goals as goal
 pub returns : goal.returns
 returns c =
     let entries = c.args.self.now.entries.now in
-    let index = c.end_of.result in
-    item_is entries index c.get.result (search rules) ∙ sym (find_after (ref_arcs c.args.oid.now) entries index c.end_of.ensures.cut)
+    item_is entries _ c.get.result (search rules)
+    ∙ sym (find_after (ref_arcs c.args.oid.now) entries c.end_of.result c.end_of.ensures.cut)

@@ -10,4 +10,6 @@ pub returns-clause-cut : goal.returns-clause-cut
 returns-clause-cut c =
     let arcs = ref_arcs c.args.oid.now in
     let entries = c.args.self.now.entries.now in
-    IsPartitionPoint-from_clause (λ entry. is_before arcs (entry_arcs entry)) entries c.partition_point.result c.partition_point.ensures.partitioned (cut_before entry_arcs arcs entries c.args.self.now.sorted) (λ a r f called. search rules)
+    let cut = cut_before entry_arcs arcs entries c.args.self.now.sorted in
+    IsPartitionPoint-from_clause (λ entry. is_before arcs (entry_arcs entry)) entries _
+    c.partition_point.ensures.partitioned cut (λ a r f called. search rules)

@@ -13,7 +13,8 @@ returns c =
     let arcs = ref_arcs c.args.oid.now in
     let entries = c.args.self.now.entries.now in
     let from = c.start_of.result in
-    let count = c.partition_point-count.result in
-    let second = IsPartitionPoint-from_clause (λ entry. is_under arcs (entry_arcs entry)) (drop from entries) count (rw (take_rest entries from) at c.partition_point-count.ensures.partitioned) (cut_after entry_arcs arcs entries c.args.self.now.sorted from c.start_of.ensures.cut)
+    let rest = rw (take_rest entries from) at c.partition_point-count.ensures.partitioned in
+    let cut = cut_after entry_arcs arcs entries c.args.self.now.sorted from c.start_of.ensures.cut in
+    let second = IsPartitionPoint-from_clause (λ entry. is_under arcs (entry_arcs entry)) (drop from entries) _ rest cut
     (λ a r f called. (tells_under arcs (entry_arcs a.0.now) r (search rules), search rules)) in
-    rw (take_rest entries from) (subtree_is arcs entries from count c.start_of.ensures.cut second)
+    rw (take_rest entries from) (subtree_is arcs entries from _ c.start_of.ensures.cut second)

@@ -1,28 +1,19 @@
 use Rattle.std.proofs.Common.{arith}
-use Rattle.const_oid.specs.Identifier.{root_rule}
-use Rattle.const_oid.specs.Oid.{oid_octets, oid_arcs}
 use Rattle.const_oid.proofs.Encodings.{oid_encoding}
 use Rattle.const_oid.proofs.Lengths.{size_push}
 use Rattle.const_oid.proofs.Children.{child_none, child_arcs}
 use Rattle.const_oid.proofs.oid.ObjectIdentifier.push_arc.Goals as goal
 
 pub returns-in-Err-clause-fits : goal.returns-in-Err-clause-fits
-returns-in-Err-clause-fits g c =
-    let oid = c.args.self in
-    let e = size_push root_rule (oid_arcs oid) (oid_octets oid) c.args.arc (oid_encoding oid) in
-    rw e c.in-Err.ensures.fits
+returns-in-Err-clause-fits g c = rw (size_push _ _ _ c.args.arc (oid_encoding c.args.self)) c.in-Err.ensures.fits
 
 pub invariant_of-result : goal.invariant_of-result
 invariant_of-result g c =
-    let oid = c.args.self in
-    record { valid = child_none _ c.args.arc (oid_encoding oid) (omega arith) c.in-Ok.ensures.appended }
+    record { valid = child_none _ c.args.arc (oid_encoding c.args.self) (omega arith) c.in-Ok.ensures.appended }
 
 pub returns-in-Ok-clause-fits : goal.returns-in-Ok-clause-fits
-returns-in-Ok-clause-fits g c =
-    let oid = c.args.self in
-    rw (size_push root_rule (oid_arcs oid) (oid_octets oid) c.args.arc (oid_encoding oid)) c.in-Ok.ensures.fits
+returns-in-Ok-clause-fits g c = rw (size_push _ _ _ c.args.arc (oid_encoding c.args.self)) c.in-Ok.ensures.fits
 
 pub returns-in-Ok-clause-child : goal.returns-in-Ok-clause-child
 returns-in-Ok-clause-child g c =
-    let oid = c.args.self in
-    child_arcs _ c.args.arc (oid_encoding oid) (omega arith) c.in-Ok.ensures.appended
+    child_arcs _ c.args.arc (oid_encoding c.args.self) (omega arith) c.in-Ok.ensures.appended

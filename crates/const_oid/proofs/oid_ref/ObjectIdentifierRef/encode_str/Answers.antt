@@ -1,12 +1,11 @@
 use Rattle.std.proofs.Math.Seq.{take-append_seam}
 use Rattle.std.proofs.lemmas.Str.{IsUtf8-from_ascii}
 use Rattle.const_oid.specs.Identifier.{root_rule}
-use Rattle.const_oid.specs.OidRef.{ref_arcs}
 use Rattle.const_oid.proofs.Encodings.{ref_encoding}
 use Rattle.const_oid.proofs.Texts.{text_ascii}
 use Rattle.const_oid.proofs.oid_ref.ObjectIdentifierRef.encode_str.Goals as goal
 
 pub utf8-requires : goal.utf8-requires
 utf8-requires c =
-    let oid = c.args.self.now in
-    rw (c.in_ok-len.ensures.written, c.in_ok-len.ensures.cases, take-append_seam) (IsUtf8-from_ascii _ (text_ascii root_rule (ref_arcs oid) (ref_encoding oid).identifier))
+    rw (c.in_ok-len.ensures.written, c.in_ok-len.ensures.cases, take-append_seam)
+    (IsUtf8-from_ascii _ (text_ascii root_rule _ (ref_encoding c.args.self.now).identifier))

@@ -10,13 +10,18 @@ returns-clause-from c =
     let prefix = c.args.self.now in
     let sorted = c.args.sorted.now in
     let cut = cut_before ref_octets (ref_octets prefix) sorted c.requires in
-    let first = IsPartitionPoint-from_clause (ref_is_before prefix) sorted c.partition_point-from.result c.partition_point-from.ensures.partitioned cut (λ a r f called. search rules) in
-    point_is_count (ref_is_before prefix) sorted _ cut c.partition_point-from.ensures.bound first
+    let point = c.partition_point-from.ensures in
+    point_is_count (ref_is_before prefix) sorted _ cut point.bound
+    (IsPartitionPoint-from_clause (ref_is_before prefix) sorted _ point.partitioned cut (λ a r f called. search rules))
 
 pub returns-clause-inside : goal.returns-clause-inside
 returns-clause-inside c =
     let prefix = c.args.self.now in
     let sorted = c.args.sorted.now in
-    let first = IsPartitionPoint-from_clause (ref_is_before prefix) sorted c.partition_point-from.result c.partition_point-from.ensures.partitioned (cut_before ref_octets (ref_octets prefix) sorted c.requires) (λ a r f called. search rules) in
-    let second = IsPartitionPoint-from_clause (ref_is_under prefix) (drop c.partition_point-from.result sorted) c.partition_point-inside.result (rw (take_rest sorted c.partition_point-from.result) at c.partition_point-inside.ensures.partitioned) (cut_after ref_octets (ref_octets prefix) sorted c.requires _ first) (λ a r f called. search rules) in
-    range_between prefix sorted _ _ first second
+    let from = c.partition_point-from.result in
+    let cut = cut_before ref_octets (ref_octets prefix) sorted c.requires in
+    let first = IsPartitionPoint-from_clause (ref_is_before prefix) sorted from c.partition_point-from.ensures.partitioned
+    cut (λ a r f called. search rules) in
+    let rest = rw (take_rest sorted from) at c.partition_point-inside.ensures.partitioned in
+    range_between prefix sorted from _ first (IsPartitionPoint-from_clause (ref_is_under prefix) (drop from sorted) _ rest
+    (cut_after ref_octets (ref_octets prefix) sorted c.requires from first) (λ a r f called. search rules))
