@@ -44,16 +44,6 @@ text_pass rule capacity before begun value (b ∷ bs) =
 abbrev pieces_answer : RootRule → ℕ → List ℕ → List (List ℕ) → Result (List ℕ) Error
 pieces_answer rule capacity before pieces = answer (pieces_fault rule capacity before pieces) (before ++ map number_of pieces)
 
--- what a pass has read of a piece
-record IsPieceRead (prefix : List ℕ) (begun : Bool) (value : ℕ) : Type 0 where
-  digits : all_ascii_digits prefix ≡ true
-  begun_is : begun ≡ not (is_empty prefix)
-  value_is : value ≡ digits_value 10 prefix
-  small : value ≤ max_arc
-
-piece_read-none : IsPieceRead [] false 0
-piece_read-none = record { digits = refl; begun_is = refl; value_is = refl; small = omega arith }
-
 -- ---- digits
 
 digits_push : (prefix : List ℕ) (b : ℕ) → all_ascii_digits prefix ≡ true → is_ascii_digit b ≡ true → all_ascii_digits (prefix ++ b ∷ []) ≡ true
@@ -63,35 +53,15 @@ digits_push (y ∷ ys) b h d = grind (arith, common_steps, digits_push ys b)
 value_push : (prefix : List ℕ) (b : ℕ) → is_ascii_digit b ≡ true → digits_value 10 (prefix ++ b ∷ []) ≡ digits_value 10 prefix * 10 + (b - 48)
 value_push prefix b d = grind (arith, nat_tests, digits_value_push)
 
--- ---- the piece that is read
-
--- a digit takes its number past the limit
-piece_too_big : (rule : RootRule) (capacity : ℕ) (before prefix : List ℕ) (b : ℕ) (more : List ℕ) (after : List (List ℕ)) → all_ascii_digits prefix ≡ true → is_ascii_digit b ≡ true → max_arc < digits_value 10 prefix * 10 + (b - 48) → piece_fault rule capacity before (prefix ++ b ∷ more) after ≡ Some ArcTooBig
-piece_too_big rule capacity before prefix b more after h d l = rw (lt-ltb max_arc (number_of (prefix ++ b ∷ more)) grown)
-  where
-    prefix' : List ℕ
-    prefix' = prefix ++ b ∷ []
-
-    grown : max_arc < number_of (prefix ++ b ∷ more)
-    grown =
-        let e = append-cons prefix b more in
-        let t = take_while is_ascii_digit more in
-        let n : number_of (prefix ++ b ∷ more) ≡ digits_value 10 (prefix' ++ t) = ap number_of (sym e) ∙ ap (digits_value 10) (take_while-digits prefix' more (digits_push prefix b h d)) in
-        let m = digits_value-take-le 10 (prefix' ++ t) (length prefix') (omega arith) in
-        let k : digits_value 10 prefix' ≤ digits_value 10 (prefix' ++ t) = rw (take_at prefix' t (length prefix') refl) at m in
-        omega (arith, n, k, value_push prefix b d)
-
--- it has a byte that is no digit
-bad_byte : (rule : RootRule) (capacity : ℕ) (before prefix : List ℕ) (b : ℕ) (more : List ℕ) (after : List (List ℕ)) → all_ascii_digits prefix ≡ true → is_ascii_digit b ≡ false → digits_value 10 prefix ≤ max_arc → piece_fault rule capacity before (prefix ++ b ∷ more) after ≡ Some (DigitExpected b)
-bad_byte rule capacity before prefix b more after h d l =
-    grind (arith, nat_tests, append-nil, take_while-digits, find-digits)
-
--- it has digits alone
-digits_piece : (rule : RootRule) (capacity : ℕ) (before prefix : List ℕ) (value : ℕ) (after : List (List ℕ)) → all_ascii_digits prefix ≡ true → number_of prefix ≡ value → value ≤ max_arc →
-    piece_fault rule capacity before prefix after ≡ option_or (fault_if (is_empty prefix) (empty_fault before after)) (option_or (fault_if (is_one_empty after) TrailingDot) (arc_fault rule capacity before value))
-digits_piece rule capacity before prefix value after h n l = rw (n, le-ltb max_arc value l, find-none prefix h)
+-- digits more have no smaller value
+value_more : (prefix more : List ℕ) → digits_value 10 prefix ≤ digits_value 10 (prefix ++ more)
+value_more prefix more = rw (take_at prefix more (length prefix) refl) at (digits_value-take-le 10 (prefix ++ more) (length prefix) (omega arith))
 
 -- ---- pieces
+
+-- a first piece that begins with digits has at least their number
+number_more : (prefix more : List ℕ) → all_ascii_digits prefix ≡ true → digits_value 10 prefix ≤ number_of (prefix ++ more)
+number_more prefix more h = rw (take_while-digits prefix more h) (value_more prefix (take_while is_ascii_digit more))
 
 pieces_of-some : (bs : List ℕ) → (piece : List ℕ) × (more : List (List ℕ)) × (pieces_of bs ≡ piece ∷ more)
 pieces_of-some bs = by (pieces_of bs) (length-slice_split (λ b. b == 46) bs)
@@ -103,84 +73,68 @@ pieces_of-some bs = by (pieces_of bs) (length-slice_split (λ b. b == 46) bs)
 -- what follows a dot is one empty piece exactly where no byte follows
 one_empty-pieces : (bs : List ℕ) → is_one_empty (pieces_of bs) ≡ is_empty bs
 one_empty-pieces [] = refl
-one_empty-pieces (b ∷ bs) =
-    let (p, ps, e) = pieces_of-some bs in
-    ⊎_elim
-    (λ (dot : b ≡ 46). rw (slice_split-cons_yes (λ c. c == 46) b bs (eq-eqb b 46 dot), e))
-    (λ (other : b ≡ 46 → ⊥). rw (slice_split-cons_no (λ c. c == 46) b bs (ne_eqb b 46 other), e) (by p ps))
-    (cases_eq b 46)
+one_empty-pieces (b ∷ bs) = let (p, ps, e) = pieces_of-some bs in by p ps e
   where
-    by : (p : List ℕ) (ps : List (List ℕ)) → is_one_empty (onto_first b (p ∷ ps)) ≡ false
-    by p [] = refl
-    by p (q ∷ qs) = refl
+    by : (p : List ℕ) (ps : List (List ℕ)) → pieces_of bs ≡ p ∷ ps → is_one_empty (pieces_of (b ∷ bs)) ≡ false
+    by p [] e = grind (arith, nat_tests, slice_split-cons_yes, slice_split-cons_no)
+    by p (q ∷ qs) e = grind (arith, nat_tests, slice_split-cons_yes, slice_split-cons_no)
 
 empty-several : (before : List ℕ) (bs : List ℕ) → empty_fault before (pieces_of bs) ≡ (if is_empty before then DigitExpected 46 else RepeatedDot)
-empty-several before bs = let (p, ps, e) = pieces_of-some bs in rw e (by before p ps)
-  where
-    by : (before : List ℕ) (p : List ℕ) (ps : List (List ℕ)) → empty_fault before (p ∷ ps) ≡ (if is_empty before then DigitExpected 46 else RepeatedDot)
-    by [] p ps = refl
-    by (a ∷ arcs) p ps = refl
+empty-several [] bs = let (p, ps, e) = pieces_of-some bs in rw e
+empty-several (a ∷ arcs) bs = let (p, ps, e) = pieces_of-some bs in rw e
 
 -- ---- the pass
-
-read_number : (prefix : List ℕ) (begun : Bool) (value : ℕ) → IsPieceRead prefix begun value → number_of prefix ≡ value
-read_number prefix begun value s = number_of_digits prefix s.digits ∙ sym s.value_is
 
 after-answer : (fault other : Option Error) (arcs : List ℕ) → after fault (answer other arcs) ≡ answer (option_or fault other) arcs
 after-answer None other arcs = refl
 after-answer (Some x) other arcs = refl
 
--- at the end of the text
-end_is : (rule : RootRule) (capacity : ℕ) (before prefix : List ℕ) (begun : Bool) (value : ℕ) → IsPieceRead prefix begun value → text_pass rule capacity before begun value [] ≡ pieces_answer rule capacity before (prefix ∷ [])
-end_is rule capacity before [] begun value s = rw s.begun_is
-end_is rule capacity before (y ∷ ys) begun value s =
-    let n = read_number (y ∷ ys) begun value s in
-    rw (s.begun_is, digits_piece rule capacity before (y ∷ ys) value [] s.digits n s.small, n)
+module _ (rule : RootRule) (capacity : ℕ) where
+  -- at the end of the text
+  at_end : (before prefix : List ℕ) → all_ascii_digits prefix ≡ true → digits_value 10 prefix ≤ max_arc
+      → text_pass rule capacity before (not (is_empty prefix)) (digits_value 10 prefix) [] ≡ pieces_answer rule capacity before (prefix ∷ [])
+  at_end before [] h l = grind (arith, nat_tests)
+  at_end before (y ∷ ys) h l = rw (number_of_digits (y ∷ ys) h, le-ltb max_arc (digits_value 10 (y ∷ ys)) l, find-none (y ∷ ys) h)
 
--- at a dot, where what follows is passed over as it should be
-dot_is : (rule : RootRule) (capacity : ℕ) (before prefix : List ℕ) (begun : Bool) (value : ℕ) (bs : List ℕ) → IsPieceRead prefix begun value → text_pass rule capacity (before ++ value ∷ []) false 0 bs ≡ pieces_answer rule capacity (before ++ value ∷ []) (pieces_of bs) →
-    (if begun then (if is_empty bs then Err TrailingDot else after (arc_fault rule capacity before value) (text_pass rule capacity (before ++ value ∷ []) false 0 bs)) else Err (if is_empty before then DigitExpected 46 else RepeatedDot)) ≡ pieces_answer rule capacity before (prefix ∷ pieces_of bs)
-dot_is rule capacity before [] begun value bs s rest = rw (s.begun_is, empty-several before bs)
-dot_is rule capacity before (y ∷ ys) begun value [] s rest =
-    let n = read_number (y ∷ ys) begun value s in
-    rw (s.begun_is, digits_piece rule capacity before (y ∷ ys) value ([] ∷ []) s.digits n s.small)
-dot_is rule capacity before (y ∷ ys) begun value (c ∷ cs) s rest =
-    let n = read_number (y ∷ ys) begun value s in
-    let ps = pieces_of (c ∷ cs) in
-    rw (s.begun_is, digits_piece rule capacity before (y ∷ ys) value ps s.digits n s.small, one_empty-pieces (c ∷ cs), n, rest, append-cons before value (map number_of ps))
-    (after-answer (arc_fault rule capacity before value) (pieces_fault rule capacity (before ++ value ∷ []) ps) (before ++ value ∷ map number_of ps))
+  -- at a dot, where what follows is passed over as it should be
+  at_dot : (before prefix bs : List ℕ) → all_ascii_digits prefix ≡ true → digits_value 10 prefix ≤ max_arc
+      → let arcs = before ++ digits_value 10 prefix ∷ [] in
+      text_pass rule capacity arcs false 0 bs ≡ pieces_answer rule capacity arcs (pieces_of bs)
+      → text_pass rule capacity before (not (is_empty prefix)) (digits_value 10 prefix) (46 ∷ bs) ≡ pieces_answer rule capacity before (prefix ∷ pieces_of bs)
+  at_dot before [] bs h l rest = grind (arith, nat_tests, empty-several)
+  at_dot before (y ∷ ys) [] h l rest = rw (number_of_digits (y ∷ ys) h, le-ltb max_arc (digits_value 10 (y ∷ ys)) l, find-none (y ∷ ys) h)
+  at_dot before (y ∷ ys) (c ∷ cs) h l rest =
+      let value = digits_value 10 (y ∷ ys) in
+      rw (number_of_digits (y ∷ ys) h, le-ltb max_arc value l, find-none (y ∷ ys) h, one_empty-pieces (c ∷ cs), rest, append-cons before value)
+      (after-answer (arc_fault rule capacity before value) _ _)
 
-text_pass_is : (bytes : List ℕ) (rule : RootRule) (capacity : ℕ) (before prefix : List ℕ) (begun : Bool) (value : ℕ) → IsPieceRead prefix begun value → text_pass rule capacity before begun value bytes ≡ pieces_answer rule capacity before (onto_all prefix (pieces_of bytes))
-text_pass_is [] rule capacity before prefix begun value s = grind (arith, common_steps, end_is, onto_all-cons)
-text_pass_is (b ∷ bs) rule capacity before prefix begun value s = ⊎_elim
-    (λ (d : is_ascii_digit b ≡ true).
-    let value' = value * 10 + (b - 48) in
-    let v : value' ≡ digits_value 10 (prefix ++ b ∷ []) = ap (λ w. w * 10 + (b - 48)) s.value_is ∙ sym (value_push prefix b d) in
-    let (more, after, e) = onto_all-some prefix b (pieces_of bs) in
-    rw (slice_split-cons_no (λ c. c == 46) b bs (digit-undotted b d), onto_all-first prefix b (pieces_of bs), d) (⊎_elim
-    (λ (big : max_arc < value').
-    let l : max_arc < digits_value 10 prefix * 10 + (b - 48) = rw s.value_is at big in
-    rw (lt-ltb max_arc value' big, e, piece_too_big rule capacity before prefix b more after s.digits d l))
-    (λ (small : value' ≤ max_arc).
-    rw (le-ltb max_arc value' small) (text_pass_is bs rule capacity before (prefix ++ b ∷ []) true value' (record {
-      digits = digits_push prefix b s.digits d;
-      begun_is = not_empty_push prefix b;
-      value_is = v;
-      small = small;
-    })))
-    (cases_lt max_arc value')))
-    (λ (d : is_ascii_digit b ≡ false). ⊎_elim
-    (λ (dot : b ≡ 46).
-    rw (slice_split-cons_yes (λ c. c == 46) b bs (eq-eqb b 46 dot), onto_all-cons prefix [] (pieces_of bs), append-nil prefix, d, eq-eqb b 46 dot)
-    (dot_is rule capacity before prefix begun value bs s (text_pass_is bs rule capacity (before ++ value ∷ []) [] false 0 piece_read-none)))
-    (λ (other : b ≡ 46 → ⊥).
-    let (more, after, e) = onto_all-some prefix b (pieces_of bs) in
-    rw (slice_split-cons_no (λ c. c == 46) b bs (ne_eqb b 46 other), onto_all-first prefix b (pieces_of bs), e, d, ne_eqb b 46 other, bad_byte rule capacity before prefix b more after s.digits d (rw s.value_is at s.small)))
-    (cases_eq b 46))
-    (cases_Bool (is_ascii_digit b))
+  text_pass_is : (bytes before prefix : List ℕ) → all_ascii_digits prefix ≡ true → digits_value 10 prefix ≤ max_arc
+      → text_pass rule capacity before (not (is_empty prefix)) (digits_value 10 prefix) bytes ≡ pieces_answer rule capacity before (onto_all prefix (pieces_of bytes))
+  text_pass_is [] before prefix h l = rw (onto_all-cons prefix [] [], append-nil prefix) (at_end before prefix h l)
+  text_pass_is (b ∷ bs) before prefix h l =
+      let (more, after, e) = onto_all-some prefix b (pieces_of bs) in
+      ⊎_elim
+      (λ (d : is_ascii_digit b ≡ true).
+      let v = value_push prefix b d in
+      let n = not_empty_push prefix b in
+      let least = rw append-cons at (number_more (prefix ++ b ∷ []) more (digits_push prefix b h d)) in
+      let on = text_pass_is bs before (prefix ++ b ∷ []) (digits_push prefix b h d) in
+      rw (slice_split-cons_no (λ c. c == 46) b bs (digit-undotted b d), onto_all-first prefix b (pieces_of bs), d) (⊎_elim
+      (λ (big : max_arc < digits_value 10 prefix * 10 + (b - 48)). rw (e, lt-ltb _ _ big) (grind (arith, nat_tests)))
+      (λ (small : digits_value 10 prefix * 10 + (b - 48) ≤ max_arc). rw (le-ltb _ _ small) (rw (v, ← n) at (on (omega arith))))
+      (cases_lt max_arc (digits_value 10 prefix * 10 + (b - 48)))))
+      (λ (d : is_ascii_digit b ≡ false). ⊎_elim
+      (λ (dot : b ≡ 46). 
+      let on = text_pass_is bs (before ++ digits_value 10 prefix ∷ []) [] refl (omega arith) in
+      rw (slice_split-cons_yes (λ c. c == 46) b bs (eq-eqb b 46 dot), onto_all-cons prefix [] (pieces_of bs), append-nil prefix, dot) (at_dot before prefix bs h l on))
+      (λ (other : b ≡ 46 → ⊥).
+      rw (slice_split-cons_no (λ c. c == 46) b bs (ne_eqb b 46 other), onto_all-first prefix b (pieces_of bs), e)
+      (grind (arith, nat_tests, append-nil, take_while-digits, find-digits)))
+      (cases_eq b 46))
+      (cases_Bool (is_ascii_digit b))
 
 pub text_answer_is : (rule : RootRule) (capacity : ℕ) (text : List ℕ) → text_pass rule capacity [] false 0 text ≡ text_answer rule text capacity
-text_answer_is rule capacity text = text_pass_is text rule capacity [] [] false 0 piece_read-none
+text_answer_is rule capacity text = text_pass_is rule capacity text [] [] refl (omega arith)
 
 -- ---- the end of the text
 
