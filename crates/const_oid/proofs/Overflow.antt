@@ -1,6 +1,8 @@
 -- No fault is `Overflow`, and under the wide rule none of octets is an arc out of range.
 use Rattle.std.proofs.Common.{◌≡◌, ◌≢◌, ℕ, ◌/◌, Bool, true, false, not, List, [], ◌∷◌, ◌++◌, length, nat_lt, Option, Some, None, option_map, refl, find}
+use Rattle.std.proofs.lemmas.Bool.Decides.{nat_tests}
 use Rattle.std.specs.Option.{option_or}
+use Rattle.std.proofs.Common.{arith}
 use Rattle.std.specs.Char.{is_ascii_digit}
 use Rattle.const_oid.specs.declared.error.Error.{Error}
 use Rattle.const_oid.specs.declared.error.Error.TheVariants.{ArcInvalid, ArcTooBig, Base128, DigitExpected, Empty, Length, Overflow, TrailingDot}
@@ -11,89 +13,84 @@ use Rattle.const_oid.specs.Contents.{cut, is_finished, begins_with_128, part_fau
 use Rattle.const_oid.specs.Items.{arc_fault, too_few_fault, items_fault, item_fault}
 use Rattle.const_oid.specs.Text.{pieces_of, number_of, is_empty, is_one_empty, empty_fault, piece_fault, pieces_fault, text_fault}
 
-or_other : (other : Error) (a b : Option Error) → a ≢ Some other → b ≢ Some other → option_or a b ≢ Some other
-or_other other None b p q = q
-or_other other (Some x) b p q = p
-
-if_other : (other : Error) (test : Bool) (fault : Error) → fault ≢ other → fault_if test fault ≢ Some other
-if_other other true fault p = λ e. p cc
-if_other other false fault p = λ e. cc
-
 -- ---- octets
 
--- an error that is none of those of octets
-module _ (rule : RootRule) (other : Error) (range : (arc : ℕ) → rule ≡ Narrow → ArcInvalid arc ≢ other) (big : ArcTooBig ≢ other) (base : Base128 ≢ other) (empty : Empty ≢ other) (long : Length ≢ other) where
-  part_other : (limit : ℕ) (part : List ℕ) → part_fault limit part ≢ Some other
-  part_other limit part =
-      or_other other _ _ (if_other other (begins_with_128 part) Base128 base)
-      (or_other other _ _ (if_other other (nat_lt limit (value_of part)) ArcTooBig big) (if_other other (not (is_finished part)) Base128 base))
+or_other : {other : Error} (a b : Option Error) → a ≢ Some other → b ≢ Some other → option_or a b ≢ Some other
+or_other None b p q = q
+or_other (Some x) b p q = p
 
-  later_other : (parts : List (List ℕ)) → later_fault parts ≢ Some other
-  later_other [] = λ e. cc
-  later_other (part ∷ parts) = or_other other _ _ (part_other max_arc part) (later_other parts)
+-- an error that is none of those of later parts
+part_other : (other : Error) → ArcTooBig ≢ other → Base128 ≢ other → (limit : ℕ) (part : List ℕ) → part_fault limit part ≢ Some other
+part_other other big base limit part = by (begins_with_128 part) (nat_lt limit (value_of part)) (is_finished part)
+  where
+    by : (first large last : Bool) → option_or (fault_if first Base128) (option_or (fault_if large ArcTooBig) (fault_if (not last) Base128)) ≢ Some other
+    by first large last = grind (arith, nat_tests)
 
-  first_other : (kept : RootRule) (part : List ℕ) → rule ≡ kept → first_fault kept part ≢ Some other
-  first_other Narrow [] k = λ e. cc
-  first_other Narrow (x ∷ xs) k = if_other other (nat_lt 119 x) (ArcInvalid (x / 40)) (range (x / 40) k)
-  first_other Wide part k = part_other (max_first Wide) part
+later_other : (other : Error) → ArcTooBig ≢ other → Base128 ≢ other → (parts : List (List ℕ)) → later_fault parts ≢ Some other
+later_other other big base [] = λ e. cc
+later_other other big base (part ∷ parts) = or_other _ _ (part_other other big base max_arc part) (later_other other big base parts)
 
-  parts_other : (parts : List (List ℕ)) → parts_fault rule parts ≢ Some other
-  parts_other [] = λ e. empty cc
-  parts_other (part ∷ parts) = or_other other _ _ (first_other rule part refl) (later_other parts)
-
-  pub octets_other : (octets : List ℕ) (capacity : ℕ) → octet_fault rule octets capacity ≢ Some other
-  octets_other octets capacity = or_other other _ _ (parts_other (cut octets)) (if_other other (nat_lt capacity (length octets)) Length long)
+parts_not_overflow : (rule : RootRule) (parts : List (List ℕ)) → parts_fault rule parts ≢ Some Overflow
+parts_not_overflow rule [] = λ e. cc
+parts_not_overflow Narrow ([] ∷ parts) = later_other Overflow (λ e. cc) (λ e. cc) parts
+parts_not_overflow Narrow ((x ∷ xs) ∷ parts) = grind (arith, nat_tests, later_other Overflow)
+parts_not_overflow Wide (part ∷ parts) = grind (arith, nat_tests, later_other Overflow)
 
 pub octets_not_overflow : (rule : RootRule) (octets : List ℕ) (capacity : ℕ) → octet_fault rule octets capacity ≢ Some Overflow
-octets_not_overflow rule = octets_other rule Overflow (λ arc narrow. λ e. cc) (λ e. cc) (λ e. cc) (λ e. cc) (λ e. cc)
+octets_not_overflow rule octets capacity = grind (arith, nat_tests, parts_not_overflow rule (cut octets))
 
 -- under the wide rule no arc of octets is out of range
+parts_in_range : (arc : ℕ) (parts : List (List ℕ)) → parts_fault Wide parts ≢ Some (ArcInvalid arc)
+parts_in_range arc [] = λ e. cc
+parts_in_range arc (part ∷ parts) = grind (arith, nat_tests, later_other (ArcInvalid arc))
+
 pub octets_in_range : (arc : ℕ) (octets : List ℕ) (capacity : ℕ) → octet_fault Wide octets capacity ≢ Some (ArcInvalid arc)
-octets_in_range arc = octets_other Wide (ArcInvalid arc) (λ arc narrow. λ e. cc) (λ e. cc) (λ e. cc) (λ e. cc) (λ e. cc)
+octets_in_range arc octets capacity = grind (arith, nat_tests, parts_in_range arc (cut octets))
 
--- ---- lists
+-- ---- lists and texts
 
-arc_other : (rule : RootRule) (capacity : ℕ) (before : List ℕ) (arc : ℕ) → arc_fault rule capacity before arc ≢ Some Overflow
-arc_other rule capacity [] arc = if_other Overflow (nat_lt 2 arc) _ (λ e. cc)
-arc_other rule capacity (first ∷ []) arc =
-    or_other Overflow _ _ (if_other Overflow (nat_lt (max_second rule first) arc) _ (λ e. cc)) (if_other Overflow (nat_lt capacity (size (first ∷ arc ∷ []))) Length (λ e. cc))
-arc_other rule capacity (first ∷ second ∷ later) arc = if_other Overflow (nat_lt capacity (size (first ∷ second ∷ later ++ arc ∷ []))) Length (λ e. cc)
+module _ (rule : RootRule) (capacity : ℕ) where
+  arc_other : (before : List ℕ) (arc : ℕ) → arc_fault rule capacity before arc ≢ Some Overflow
+  arc_other [] arc = grind (arith, nat_tests)
+  arc_other (first ∷ []) arc = grind (arith, nat_tests)
+  arc_other (first ∷ second ∷ later) arc = grind (arith, nat_tests)
 
-few_other : (items : List ℕ) → too_few_fault items ≢ Some Overflow
-few_other [] = λ e. cc
-few_other (arc ∷ []) = λ e. cc
-few_other (first ∷ second ∷ later) = λ e. cc
+  few_other : (items : List ℕ) → too_few_fault items ≢ Some Overflow
+  few_other [] = λ e. cc
+  few_other (arc ∷ []) = λ e. cc
+  few_other (first ∷ second ∷ later) = λ e. cc
 
-after_other : (rule : RootRule) (capacity : ℕ) (before items : List ℕ) → items_fault rule capacity before items ≢ Some Overflow
-after_other rule capacity before [] = few_other before
-after_other rule capacity before (item ∷ items) = or_other Overflow _ _ (arc_other rule capacity before item) (after_other rule capacity (before ++ item ∷ []) items)
+  after_other : (before items : List ℕ) → items_fault rule capacity before items ≢ Some Overflow
+  after_other before [] = few_other before
+  after_other before (item ∷ items) = grind (arith, nat_tests, arc_other before item, after_other (before ++ item ∷ []) items)
 
-pub items_other : (rule : RootRule) (capacity : ℕ) (items : List ℕ) → item_fault rule items capacity ≢ Some Overflow
-items_other rule capacity = after_other rule capacity []
+  pub items_other : (items : List ℕ) → item_fault rule items capacity ≢ Some Overflow
+  items_other = after_other []
 
--- ---- texts
+  empty_other : (before : List ℕ) (after : List (List ℕ)) → empty_fault before after ≢ Overflow
+  empty_other [] [] = λ e. cc
+  empty_other [] (next ∷ more) = λ e. cc
+  empty_other (arc ∷ arcs) [] = λ e. cc
+  empty_other (arc ∷ arcs) (next ∷ more) = λ e. cc
 
-digit_other : (byte : Option ℕ) → option_map (λ b. DigitExpected b) byte ≢ Some Overflow
-digit_other None = λ e. cc
-digit_other (Some b) = λ e. cc
+  if_other : (test : Bool) (fault : Error) → fault ≢ Overflow → fault_if test fault ≢ Some Overflow
+  if_other true fault p = λ e. p cc
+  if_other false fault p = λ e. cc
 
-empty_other : (before : List ℕ) (after : List (List ℕ)) → empty_fault before after ≢ Overflow
-empty_other [] [] = λ e. cc
-empty_other [] (next ∷ more) = λ e. cc
-empty_other (arc ∷ arcs) [] = λ e. cc
-empty_other (arc ∷ arcs) (next ∷ more) = λ e. cc
+  digit_other : (byte : Option ℕ) → option_map (λ b. DigitExpected b) byte ≢ Some Overflow
+  digit_other None = λ e. cc
+  digit_other (Some b) = λ e. cc
 
-piece_other : (rule : RootRule) (capacity : ℕ) (before piece : List ℕ) (after : List (List ℕ)) → piece_fault rule capacity before piece after ≢ Some Overflow
-piece_other rule capacity before piece after =
-    or_other Overflow _ _ (if_other Overflow (nat_lt max_arc (number_of piece)) ArcTooBig (λ e. cc))
-    (or_other Overflow _ _ (digit_other (find (λ b. not (is_ascii_digit b)) piece))
-    (or_other Overflow _ _ (if_other Overflow (is_empty piece) (empty_fault before after) (empty_other before after))
-    (or_other Overflow _ _ (if_other Overflow (is_one_empty after) TrailingDot (λ e. cc))
-    (arc_other rule capacity before (number_of piece)))))
+  piece_other : (before piece : List ℕ) (after : List (List ℕ)) → piece_fault rule capacity before piece after ≢ Some Overflow
+  piece_other before piece after =
+      or_other _ _ (if_other (nat_lt max_arc (number_of piece)) ArcTooBig (λ e. cc))
+      (or_other _ _ (digit_other (find (λ b. not (is_ascii_digit b)) piece))
+      (or_other _ _ (if_other (is_empty piece) (empty_fault before after) (empty_other before after))
+      (or_other _ _ (if_other (is_one_empty after) TrailingDot (λ e. cc)) (arc_other before (number_of piece)))))
 
-pieces_other : (rule : RootRule) (capacity : ℕ) (before : List ℕ) (pieces : List (List ℕ)) → pieces_fault rule capacity before pieces ≢ Some Overflow
-pieces_other rule capacity before [] = few_other before
-pieces_other rule capacity before (piece ∷ after) = or_other Overflow _ _ (piece_other rule capacity before piece after) (pieces_other rule capacity (before ++ number_of piece ∷ []) after)
+  pieces_other : (before : List ℕ) (pieces : List (List ℕ)) → pieces_fault rule capacity before pieces ≢ Some Overflow
+  pieces_other before [] = few_other before
+  pieces_other before (piece ∷ after) = or_other _ _ (piece_other before piece after) (pieces_other (before ++ number_of piece ∷ []) after)
 
-pub text_other : (rule : RootRule) (capacity : ℕ) (text : List ℕ) → text_fault rule text capacity ≢ Some Overflow
-text_other rule capacity text = pieces_other rule capacity [] (pieces_of text)
+  pub text_other : (text : List ℕ) → text_fault rule text capacity ≢ Some Overflow
+  text_other text = pieces_other [] (pieces_of text)
