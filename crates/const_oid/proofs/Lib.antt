@@ -34,3 +34,4 @@ pub mod Identifiers
 pub mod PairTable
 pub mod Messages
 pub mod Formatted
+pub mod Sets

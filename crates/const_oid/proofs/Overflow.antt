@@ -1,15 +1,15 @@
 -- No fault is `Overflow`, and under the wide rule none of octets is an arc out of range.
-use Rattle.std.proofs.Common.{◌≡◌, ◌≢◌, ℕ, ◌/◌, Bool, true, false, not, List, [], ◌∷◌, ◌++◌, length, nat_lt, Option, Some, None, option_map, refl, find}
+use Rattle.std.proofs.Common.{◌≢◌, ℕ, Bool, true, false, not, List, [], ◌∷◌, ◌++◌, nat_lt, Option, Some, None, option_map, find}
 use Rattle.std.proofs.lemmas.Bool.Decides.{nat_tests}
 use Rattle.std.specs.Option.{option_or}
 use Rattle.std.proofs.Common.{arith}
 use Rattle.std.specs.Char.{is_ascii_digit}
 use Rattle.const_oid.specs.declared.error.Error.{Error}
-use Rattle.const_oid.specs.declared.error.Error.TheVariants.{ArcInvalid, ArcTooBig, Base128, DigitExpected, Empty, Length, Overflow, TrailingDot}
+use Rattle.const_oid.specs.declared.error.Error.TheVariants.{ArcInvalid, ArcTooBig, Base128, DigitExpected, Overflow, TrailingDot}
 use Rattle.const_oid.specs.Base128.{value_of}
-use Rattle.const_oid.specs.Identifier.{RootRule, Narrow, Wide, max_arc, max_second, size}
+use Rattle.const_oid.specs.Identifier.{RootRule, Narrow, Wide, max_arc}
 use Rattle.const_oid.specs.Error.{fault_if}
-use Rattle.const_oid.specs.Contents.{cut, is_finished, begins_with_128, part_fault, later_fault, max_first, first_fault, parts_fault, octet_fault}
+use Rattle.const_oid.specs.Contents.{cut, is_finished, begins_with_128, part_fault, later_fault, parts_fault, octet_fault}
 use Rattle.const_oid.specs.Items.{arc_fault, too_few_fault, items_fault, item_fault}
 use Rattle.const_oid.specs.Text.{pieces_of, number_of, is_empty, is_one_empty, empty_fault, piece_fault, pieces_fault, text_fault}
 

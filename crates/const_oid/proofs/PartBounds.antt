@@ -61,8 +61,10 @@ later_fault-drop (suc k) (part ∷ parts) h = later_fault-drop k parts (both_non
 pub valid_after : (rule : RootRule) (octets rest : List ℕ) (index : ℕ) → 2 ≤ index → cut rest ≡ drop (index - 1) (cut octets) → parts_fault rule (cut octets) ≡ None → later_fault (cut rest) ≡ None
 valid_after rule octets rest index later after h = grind (arith, nat_tests, later_fault-drop, both_none)
 
-pub none_after : (octets : List ℕ) (index : ℕ) → 2 ≤ index → [] ≡ drop (index - 1) (cut octets) → None ≡ slice_get (arcs_of_octets octets) index
-none_after octets index later after = grind (arith, nat_tests, none_left, later_at)
+pub none_after : (octets rest : List ℕ) (index : ℕ) → 2 ≤ index → cut rest ≡ drop (index - 1) (cut octets) → length rest ≡ 0
+    → None ≡ slice_get (arcs_of_octets octets) index
+none_after octets [] index later after none = grind (arith, nat_tests, none_left, later_at)
+none_after octets (x ∷ xs) index later after none = absurd (omega arith)
 
 pub arc_after : (octets rest : List ℕ) (index n : ℕ) (ns : List ℕ) → 2 ≤ index → cut rest ≡ drop (index - 1) (cut octets) → map value_of (cut rest) ≡ n ∷ ns → Some n ≡ slice_get (arcs_of_octets octets) index
 arc_after octets rest index n ns later after e =

@@ -1,8 +1,7 @@
 -- One pass over the bytes of a text, which ends at the first fault that it meets, finds the fault of the first faulty piece.
 use Rattle.std.proofs.lemmas.Bool.Decides.{nat_tests}
-use Rattle.std.proofs.Common.{◌≡◌, ◌≢◌, ℕ, ◌+◌, ◌-◌, ◌*◌, ◌<◌, ◌≤◌, Bool, true, false, not, List, [], ◌∷◌, ◌++◌, length, drop, get_or, nat_lt, ◌==◌, map, Option, Some, None, Result, Ok, Err, IfOk, is_some, unwrap_or, if◌then◌else◌, refl, sym, ap, ◌∙◌, ⊎_elim, arith, append-nil, count_by, take_while, lt-ltb, le-ltb, eq-eqb, ne_eqb}
+use Rattle.std.proofs.Common.{◌≡◌, ◌≢◌, ℕ, ◌+◌, ◌-◌, ◌*◌, ◌<◌, ◌≤◌, Bool, true, false, not, List, [], ◌∷◌, ◌++◌, length, drop, get_or, nat_lt, ◌==◌, map, Option, Some, None, Result, Ok, Err, IfOk, is_some, unwrap_or, if◌then◌else◌, refl, ap, ⊎_elim, arith, append-nil, count_by, take_while, lt-ltb, le-ltb, eq-eqb, ne_eqb}
 use Rattle.std.specs.Bool.{then_some}
-use Rattle.std.specs.List.{onto_first}
 use Rattle.std.specs.Option.{option_or}
 use Rattle.std.specs.Result.{result_err, result_map_both}
 use Rattle.std.specs.Char.{is_ascii_digit}
@@ -20,8 +19,8 @@ use Rattle.const_oid.specs.Identifier.{RootRule, max_arc, IsEncoding}
 use Rattle.const_oid.specs.Contents.{arcs_of_octets}
 use Rattle.const_oid.specs.Private.Parser.{last_fault}
 use Rattle.const_oid.specs.Items.{arc_fault, too_few_fault}
-use Rattle.const_oid.specs.Text.{pieces_of, number_of, is_empty, is_one_empty, empty_fault, piece_fault, pieces_fault, text_answer}
-use Rattle.const_oid.specs.Error.{fault_if, answer}
+use Rattle.const_oid.specs.Text.{pieces_of, number_of, is_empty, is_one_empty, empty_fault, pieces_fault, text_answer}
+use Rattle.const_oid.specs.Error.{answer}
 use Rattle.const_oid.proofs.Lists.{append-cons, onto_all, onto_all-first, not_empty_push, onto_all-cons, onto_all-some}
 use Rattle.const_oid.proofs.Encodings.{arcs_of_encoding}
 use Rattle.const_oid.proofs.Numbers.{number_of_digits, find-none, take_while-digits, find-digits, digit-undotted}
@@ -124,7 +123,7 @@ module _ (rule : RootRule) (capacity : ℕ) where
       (λ (small : digits_value 10 prefix * 10 + (b - 48) ≤ max_arc). rw (le-ltb _ _ small) (rw (v, ← n) at (on (omega arith))))
       (cases_lt max_arc (digits_value 10 prefix * 10 + (b - 48)))))
       (λ (d : is_ascii_digit b ≡ false). ⊎_elim
-      (λ (dot : b ≡ 46). 
+      (λ (dot : b ≡ 46).
       let on = text_pass_is bs (before ++ digits_value 10 prefix ∷ []) [] refl (omega arith) in
       rw (slice_split-cons_yes (λ c. c == 46) b bs (eq-eqb b 46 dot), onto_all-cons prefix [] (pieces_of bs), append-nil prefix, dot) (at_dot before prefix bs h l on))
       (λ (other : b ≡ 46 → ⊥).

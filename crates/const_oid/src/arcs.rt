@@ -61,6 +61,7 @@ impl Iterator for Arcs<'_> {
 
     ghost remaining = { item_count (λ arcs. arcs) };
 
+    #[tactic(auto, using(crate::proofs::PartsFault::parts_from_later))]
     fn next(&mut self) -> Option<Arc> {
         match self.next {
             Next::First => {
@@ -90,6 +91,7 @@ impl Iterator for Arcs<'_> {
 
 /// The arc at an index, counted from 0, of octets without a fault, or `None` past the last. The parts
 /// before its own are not read.
+#[tactic(auto, using(crate::proofs::Sets::parts_left))]
 pub(crate) fn arc_at(octets: &[u8], index: usize) -> Option<Arc>
     requires { parts_fault root_rule (cut octets.now) ≡ None }
     ensures { result ≡ slice_get (arcs_of_octets octets.now) index }

@@ -55,6 +55,7 @@ impl<const SIZE: usize> Buffer<SIZE> {
 
     /// Appends the group of a number, or returns `Length` where it does not fit.
     // `const` in Rust.
+    #[tactic(auto, using(crate::proofs::Groups::width_is))]
     #[inline(always)]
     pub(crate) fn push_group(&mut self, number: u64) -> Result<()>
         requires { number < 2 ^ 35 }

@@ -55,6 +55,7 @@ impl Error {
     ghost use Rattle.const_oid.specs.Private.Text.{detail_text};
 
     /// The length of the text that `{}` writes.
+    #[tactic(auto, using(crate::proofs::Messages::parts_long))]
     pub fn text_len(self) -> usize
         ensures len { result ≡ length (message_of self) }
         ensures short { result ≤ 47 }
@@ -83,6 +84,7 @@ impl Error {
     }
 
     /// Writes the text as [`encode_text`](Self::encode_text) does, and borrows it as a `str`.
+    #[tactic(auto, using(crate::proofs::Sets::bytes_put))]
     pub fn encode_str<'o>(self, out: &'o mut [u8]) -> Option<&'o str>
         ensures cases { MatchOption result (length out.old < length (message_of self)) (λ text. text.now ≡ message_of self) }
         ensures enough { 47 ≤ length out.old → IsSome result }
@@ -121,6 +123,7 @@ impl Error {
     }
 
     /// Writes the number that the error carries at an index, and returns the index after it.
+    #[tactic(auto, using(crate::proofs::Sets::digits_utf8))]
     #[inline(always)]
     fn write_detail(self, out: &mut [u8], at: usize) -> usize
         requires { at + length (detail_text self) ≤ length out.old }

@@ -9,6 +9,7 @@ use crate::digits::{arc_len, write_arc};
 use std::str;
 
 /// The length of the arcs' text, or `None` where it is over a limit.
+#[tactic(auto, using(crate::proofs::Sets::texts_left))]
 pub(crate) fn text_len(arcs: Arcs<'_>, limit: usize) -> Option<usize>
     ensures { MatchOption result (limit < length (text_of arcs.entry)) (λ len. (len ≡ length (text_of arcs.entry)) × (len ≤ limit)) }
 {
@@ -41,6 +42,7 @@ pub(crate) fn write_text(arcs: Arcs<'_>, out: &mut [u8]) -> usize
 
 /// Takes the first two arcs, writes them at the start, and returns the length.
 #[inline(always)]
+#[tactic(auto, using(crate::proofs::Decimals::drop_more))]
 fn write_root(arcs: &mut Arcs<'_>, out: &mut [u8]) -> usize
     requires { length (text_of (take 2 arcs.old)) ≤ length out.old }
     ensures within { result ≤ length out.new }
@@ -58,6 +60,7 @@ fn write_root(arcs: &mut Arcs<'_>, out: &mut [u8]) -> usize
 }
 
 /// Writes bytes at an index, and returns the index after them.
+#[tactic(auto, using(crate::proofs::Sets::bytes_put))]
 pub(crate) fn write_bytes(bytes: &[u8], out: &mut [u8], at: usize) -> usize
     requires { at + length bytes.now ≤ length out.old }
     ensures end { result ≡ at + length bytes.now }

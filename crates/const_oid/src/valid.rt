@@ -13,6 +13,7 @@ use crate::error::{Error, Result};
 const MAX_FIRST: u64 = 2 * 40 + Arc::MAX as u64;
 
 /// The fault of octets, whatever their number, if there is one.
+#[tactic(auto, using(crate::proofs::PartsFault::parts_at))]
 #[inline(never)]
 pub(crate) fn check(octets: &[u8]) -> Result<()>
     ensures { result_err result ≡ parts_fault root_rule (cut octets.now) }
@@ -35,6 +36,7 @@ pub(crate) fn check(octets: &[u8]) -> Result<()>
 
 /// The octets after the first group, or its fault. Most groups are short, and too short for a number
 /// past the limit.
+#[tactic(auto, using(std::proofs::lemmas::Grind::common_steps))]
 #[inline(always)]
 fn skip_group(octets: &[u8], limit: u64) -> Result<&[u8]>
     requires some { 0 < length octets.now }

@@ -10,7 +10,7 @@ first_and_after [] some = absurd (omega arith)
 first_and_after (x ∷ xs) some = ap (λ ys. x ∷ ys) (sym (take_all (length (x ∷ xs) - 1) xs (omega arith)))
 
 pub loop-left-init : goal.loop-left-init
-loop-left-init c = record { shifted = omega arith; small = omega arith; read = read_none c.args.octets.now }
+loop-left-init c = grind (arith, read_none)
 
 pub loop-left-preserved : goal.loop-left-preserved
 loop-left-preserved c =

@@ -1,17 +1,11 @@
-use Rattle.std.proofs.Common.{◌≡◌, ◌+◌, ◌-◌, ◌%◌, [], length, drop, arith, length-set}
+use Rattle.std.proofs.Common.{◌≡◌, ◌+◌, ◌-◌, ◌%◌, drop, arith, length-set}
 use Rattle.std.proofs.lemmas.List.{drop-set, drop_all}
 use Rattle.const_oid.proofs.Groups.{width_is}
 use Rattle.const_oid.proofs.Written.{tail_last, tail_more, tail_group}
 use Rattle.const_oid.proofs.buffer.write_group.Goals as goal
 
 pub loop-index-init : goal.loop-index-init
-loop-index-init c =
-    let octets = c.args.octets.now in
-    let last = length octets - 1 in
-    let some = (width_is c.args.number).positive in
-    let none : drop (last + 1) octets ≡ [] = drop_all (last + 1) octets (omega arith) in
-    let same = length-set octets last (c.args.number % 128) in
-    record { written = rw (drop-set octets last (c.args.number % 128) (omega arith), none) (tail_last c.args.number); within = omega arith; wide = omega arith }
+loop-index-init c = grind (arith, length-set, drop-set, drop_all, width_is, tail_last)
 
 pub loop-index-preserved : goal.loop-index-preserved
 loop-index-preserved c =

@@ -1,4 +1,5 @@
-use Rattle.std.proofs.Common.{min, [], ◌∷◌, ◌++◌, ap, sym, ◌∙◌}
+use Rattle.std.proofs.Common.{arith}
+use Rattle.std.proofs.Common.{min}
 use Rattle.std.proofs.lemmas.Result.{IfOk-weaker}
 use Rattle.const_oid.specs.Buffer.{octets_of}
 use Rattle.const_oid.specs.Contents.{arcs_of_octets}
@@ -28,10 +29,4 @@ returns-in_err-arc-clause-takes g c =
     (it.result, it.ensures.into_iter_gives, rw (handed_on (λ octets. arcs_of_octets (octets_of octets)) c.from_residual.result fault c.from_residual.ensures.1) prefix)
 
 pub loop-arc-preserved : goal.loop-arc-preserved
-loop-arc-preserved g c =
-    let l = c.loop-arc in
-    let more = c.in_ok-arc.ensures.given in
-    record {
-      given = ap (λ given. given ++ c.in-Some.arc ∷ []) l.invariant.given ∙ sym more;
-      taken = rw more (taken_more root_rule (min g.row.SIZE 255) l.encoder c.in-Some.arc l.invariant.taken (sym c.in_ok-arc.ensures.fault));
-    }
+loop-arc-preserved g c = grind (arith, taken_more)

@@ -1,4 +1,4 @@
-use Rattle.std.proofs.Common.{min, ◌≡◌, ℕ, Bool, true, false, nat_lt, List, [], drop, Option, is_some, unwrap_or, refl, arith, sym, ◌∙◌, ap}
+use Rattle.std.proofs.Common.{min, ◌≡◌, ℕ, Bool, true, false, nat_lt, List, [], drop, Option, is_some, unwrap_or, refl, arith, ◌∙◌, ap}
 use Rattle.std.specs.Bool.{then_some}
 use Rattle.std.proofs.lemmas.List.{drop_all}
 use Rattle.std.proofs.lemmas.Result.{IfOk-weaker}
@@ -10,7 +10,7 @@ use Rattle.const_oid.proofs.TextPass.{text_pass, text_answer_is, text_pass-too_b
 use Rattle.const_oid.proofs.parser.parse_within.Goals as goal
 
 pub loop-index-init : goal.loop-index-init
-loop-index-init g c = record { pass = rw c.new-encoder.ensures (text_answer_is root_rule (min g.row.SIZE 255) c.as_bytes-bytes.result.now); small = omega arith; begins = omega arith }
+loop-index-init g c = grind (arith, text_answer_is)
 
 pub returns-clause-encoding : goal.returns-clause-encoding
 returns-clause-encoding g c = IfOk-weaker c.finish.result _ _ (λ octets e. encoding_back e) c.finish.ensures.encoding
@@ -31,23 +31,10 @@ returns-clause-answer g c =
     ∙ ap (λ text. text_answer root_rule text (min g.row.SIZE 255)) c.as_bytes-bytes.ensures.value
 
 pub returns-then-number-clause-answer : goal.returns-then-number-clause-answer
-returns-then-number-clause-answer g c =
-    let l = c.loop-index in
-    sym (text_pass-too_big root_rule (min g.row.SIZE 255) l.encoder (nat_lt l.start l.index) l.number c.in-Some.digit c.as_bytes-bytes.result.now l.index c.loop-index-test.true c.in-Some.ensures c.if-number.true)
-    ∙ l.invariant.pass
-    ∙ ap (λ text. text_answer root_rule text (min g.row.SIZE 255)) c.as_bytes-bytes.ensures.value
+returns-then-number-clause-answer g c = grind (arith, text_pass-too_big)
 
 pub returns-else-byte-eq46-clause-answer : goal.returns-else-byte-eq46-clause-answer
-returns-else-byte-eq46-clause-answer g c =
-    let l = c.loop-index in
-    sym (text_pass-other root_rule (min g.row.SIZE 255) l.encoder (nat_lt l.start l.index) l.number c.as_bytes-bytes.result.now l.index c.loop-index-test.true c.in_default.ensures c.if-byte-eq46.false)
-    ∙ l.invariant.pass
-    ∙ ap (λ text. text_answer root_rule text (min g.row.SIZE 255)) c.as_bytes-bytes.ensures.value
+returns-else-byte-eq46-clause-answer g c = grind (arith, text_pass-other)
 
 pub returns-in-Err-end_text-clause-answer : goal.returns-in-Err-end_text-clause-answer
-returns-in-Err-end_text-clause-answer g c =
-    let l = c.loop-index in
-    let none : drop l.index c.as_bytes-bytes.result.now ≡ [] = drop_all l.index c.as_bytes-bytes.result.now (omega arith) in
-    sym (text_pass-end_fault root_rule (min g.row.SIZE 255) l.encoder (nat_lt l.start l.index) l.number c.given-piece-2.result c.in-Err-end_text.fault c.given-piece-2.ensures c.in-Err-end_text.ensures.fault)
-    ∙ (rw none at l.invariant.pass)
-    ∙ ap (λ text. text_answer root_rule text (min g.row.SIZE 255)) c.as_bytes-bytes.ensures.value
+returns-in-Err-end_text-clause-answer g c = grind (arith, drop_all, text_pass-end_fault)

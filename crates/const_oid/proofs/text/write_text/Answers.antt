@@ -5,7 +5,7 @@ use Rattle.const_oid.proofs.Texts.{text_left-cons, root_within}
 use Rattle.const_oid.proofs.text.write_text.Goals as goal
 
 pub write_root-at-requires : goal.write_root-at-requires
-write_root-at-requires c = omega (arith, root_within c.args.arcs, c.requires)
+write_root-at-requires c = grind (arith, root_within)
 
 pub loop-arc-preserved : goal.loop-arc-preserved
 loop-arc-preserved c =

@@ -1,7 +1,5 @@
-use Rattle.std.proofs.Common.{◌≡◌, ◌≢◌, length, ◌∙◌, ap, sym, take, drop, replicate, ◌-◌, arith}
+use Rattle.std.proofs.Common.{◌≡◌, ◌≢◌, length, ap, arith}
 use Rattle.std.proofs.lemmas.Bool.Decides.{Decides-eqb}
-use Rattle.std.specs.Cmp.Lexicographic.{pointwise}
-use Rattle.std.specs.Prelude.{nat_eq}
 use Rattle.std.proofs.lemmas.Slice.Eq.{slice_eq-Decides}
 use Rattle.std.proofs.lemmas.Bool.{eqb-true}
 use Rattle.std.proofs.lemmas.List.{length-take-le}
@@ -10,13 +8,7 @@ use Rattle.const_oid.proofs.Words.{whole_eq}
 use Rattle.const_oid.proofs.buffer.Buffer.eq.Goals as goal
 
 pub returns-then-self-rhs-clause-value : goal.returns-then-self-rhs-clause-value
-returns-then-self-rhs-clause-value g c =
-    let a = c.args.self.now in
-    let b = c.args.rhs.now in
-    let e = c.if-self-rhs.true in
-    let zeros : drop a.used b.bytes ≡ replicate (g.row.SIZE - a.used) 0 = rw e b.zeros in
-    let whole = whole_eq a.bytes b.bytes a.used (omega arith) (omega arith) (a.zeros ∙ sym zeros) in
-    c.are_arrays_equal.ensures ∙ whole ∙ ap (λ used. pointwise nat_eq (take a.used a.bytes) (take used b.bytes)) e
+returns-then-self-rhs-clause-value g c = grind (arith, whole_eq)
 
 pub returns-then-self-rhs-clause-meaning : goal.returns-then-self-rhs-clause-meaning
 returns-then-self-rhs-clause-meaning g c = slice_eq-Decides Decides-eqb _ _ _ (returns-then-self-rhs-clause-value g c)

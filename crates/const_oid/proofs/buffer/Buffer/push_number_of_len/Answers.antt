@@ -19,7 +19,4 @@ invariant_of-self-clause-zeros g c =
     zeros_written g.row.SIZE c.args.self.now.used c.args.count c.args.self.now.bytes group _ (omega arith) (omega arith) c.args.self.now.zeros written
 
 pub returns-clause-appended : goal.returns-clause-appended
-returns-clause-appended g c =
-    let (group, is, written) = c.write_group_at.ensures in
-    let l = length_is is in
-    (group, is, taken_written c.args.self.now.used c.args.count c.args.self.now.bytes group _ (omega arith) (omega arith) written)
+returns-clause-appended g c = grind (arith, length_is, taken_written)
