@@ -52,7 +52,10 @@ fn without_ghosts<'a>(tokens: &[Token<'a>]) -> Result<Tokens<'a>> {
             "ghost" => leave_out(&mut out, ghost_end(tokens, at)?),
             "requires" | "ensures" => leave_out(&mut out, clause_end(tokens, at)?),
             "impl" if is_of_model(tokens, at) => leave_out(&mut out, item_end(tokens, at)),
-            "#" if is_tactic(tokens, at) => item_end(tokens, at),
+            // One of a function, with the end of its line.
+            "#" if is_tactic(tokens, at) => {
+                item_end(tokens, at) + usize::from(!is(tokens, at + 1, "!"))
+            }
             comment if comment.starts_with(OMITTED) => {
                 let end = tokens[at..].iter().position(|token| token.text == ";");
                 leave_out(&mut out, end.map_or(tokens.len(), |end| at + end + 1))

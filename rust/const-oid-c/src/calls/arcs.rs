@@ -37,7 +37,6 @@ pub fn const_oid_arc(octets: &[u8], index: usize) -> Status {
 }
 
 /// Writes the contents octets of arcs.
-
 pub fn const_oid_from_arcs(arcs: &[u32], out: &mut crate::edge::Output<u8>) -> Status {
     // A small identifier is quicker to make.
     let small = encoded::<39>(arcs);

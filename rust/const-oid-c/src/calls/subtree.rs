@@ -18,7 +18,6 @@ pub struct Range {
 
 /// Finds the identifiers that begin with another one in a sorted list. All may have any length. A fault
 /// of that other one is at the number of items, which no item has as its index.
-
 pub fn const_oid_subtree(octets: &[u8], sorted: &[Octets<'_>], range: &mut Range) -> Status {
     match ObjectIdentifierRef::from_bytes(octets) {
         Ok(_) => {}

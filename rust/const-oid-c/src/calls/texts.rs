@@ -11,7 +11,6 @@ use const_oid::erased::{ObjectIdentifier, ObjectIdentifierRef, Oid};
 use core::str;
 
 /// Writes the contents octets of the identifier that dotted text denotes.
-
 pub fn const_oid_from_text(text: &[u8], out: &mut crate::edge::Output<u8>) -> Status {
     match str::from_utf8(text) {
         Ok(text) => write_denoted(text, out),
@@ -20,7 +19,6 @@ pub fn const_oid_from_text(text: &[u8], out: &mut crate::edge::Output<u8>) -> St
 }
 
 /// Writes the contents octets of the identifier that a text denotes.
-
 fn write_denoted(text: &str, out: &mut crate::edge::Output<u8>) -> Status {
     // A small identifier is quicker to make.
     let small = Oid::new(text);

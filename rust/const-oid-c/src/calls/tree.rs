@@ -19,7 +19,6 @@ pub fn const_oid_parent(octets: &[u8], out: &mut crate::edge::Output<u8>) -> Sta
 }
 
 /// Writes the contents octets of an identifier with one more arc.
-
 pub fn const_oid_push_arc(octets: &[u8], arc: u32, out: &mut crate::edge::Output<u8>) -> Status {
     // A small identifier is quicker to make.
     let small = child::<39>(octets, arc);
