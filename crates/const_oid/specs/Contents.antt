@@ -59,11 +59,13 @@ octet_fault rule octets capacity =
     option_or (parts_fault rule (cut octets)) (fault_if (nat_lt capacity (length octets)) Length)
 
 -- the arcs after the first subidentifier and the later ones
+-- a law ties it to IsEncoding, by arcs_of_octets: laws::octets_denote
 abbrev pub arcs_from : List ℕ → List ℕ
 arcs_from [] = []
 arcs_from (first ∷ later) = if nat_lt first 80 then first / 40 ∷ first % 40 ∷ later else 2 ∷ (first - 80) ∷ later
 
 -- the arcs that octets encode
+-- a law ties it to IsEncoding: laws::octets_denote
 abbrev pub arcs_of_octets : List ℕ → List ℕ
 arcs_of_octets octets = arcs_from (map value_of (cut octets))
 

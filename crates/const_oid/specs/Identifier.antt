@@ -50,9 +50,11 @@ abbrev pub usual_capacity : ℕ
 usual_capacity = 39
 
 -- how many octets the encoding has
+-- a law ties it to IsEncoding: laws::one_encoding
 abbrev pub size : List ℕ → ℕ
 size arcs = sum_by width (subidentifiers arcs)
 
 -- the encoding of the arcs, where they are an identifier
+-- a law ties it to IsEncoding: laws::one_encoding
 unfoldable pub encoding_of : List ℕ → List ℕ
 encoding_of arcs = concat (map group_of (subidentifiers arcs))

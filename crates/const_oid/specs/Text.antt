@@ -74,12 +74,14 @@ pub record Denotes (rule : RootRule) (text arcs : List ℕ) : Type 0 where
   pub identifier : IsIdentifier rule arcs
 
 -- a piece without its leading zeros, one of zeros alone keeping one
+-- a law ties it to text_of, by strip: laws::texts_denote
 abbrev pub strip_piece : List ℕ → List ℕ
 strip_piece [] = []
 strip_piece (b ∷ []) = b ∷ []
 strip_piece (b ∷ c ∷ bs) = if b == 48 then strip_piece (c ∷ bs) else b ∷ c ∷ bs
 
 -- the text without the leading zeros of its pieces
+-- a law ties it to text_of: laws::texts_denote
 abbrev pub strip : List ℕ → List ℕ
 strip text = join_with_byte dot (map strip_piece (pieces_of text))
 
