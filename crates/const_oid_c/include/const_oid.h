@@ -1,8 +1,8 @@
 /* Object identifiers (ITU-T X.660) for C99 and C++: dotted text, arcs, and the contents octets of
- * ITU-T X.690 section 8.19, without tag and length. The library is made from proved source: there each
- * call returns what its comment says. Rattle builds the library from this source. cargo builds it from
- * Rust that is generated from it, and from code for pointers that is written by hand: that build is
- * tested, not proved.
+ * ITU-T X.690 section 8.19, without tag and length. In the source, which is in Rattle, each call is
+ * proved to return what its comment says. The Rattle toolchain builds the library from this source.
+ * cargo builds it from Rust that is generated from it, and from code for pointers that is written by
+ * hand: that build is tested, not proved.
  *
  * What the caller must guarantee, for all calls:
  *
@@ -32,9 +32,9 @@
  * A call that is given invalid octets returns the first of these codes that applies:
  *
  * - EMPTY: there is no octet.
- * - The code of the first wrong group, which ends with an octet below 0x80. BASE128: it begins with
- *   0x80. ARC_TOO_BIG: its number is above 4294967295, or above 4294967375 in the first group. BASE128:
- *   it does not end.
+ * - The code of the first wrong group. A group ends with its first octet below 0x80. BASE128 if it
+ *   begins with 0x80; else ARC_TOO_BIG if its number is above 4294967295, or above 4294967375 in the
+ *   first group; else BASE128 if the octets end before the group does.
  * - LENGTH: there are more than 255 octets, in a call that takes 255 at most.
  *
  * Tests check the layouts below, the values of the constants, and that the library has exactly these
@@ -141,8 +141,9 @@ typedef char const_oid_size_t_has_64_or_32_bits[sizeof(size_t) == 8 || sizeof(si
 uint32_t const_oid_version(void);
 
 /* Writes the contents octets of the identifier that dotted text denotes, such as "1.2.840". Arcs may
- * have leading zeros. Returns NOT_UTF8, or the code of the first wrong piece between dots: ARC_TOO_BIG,
- * DIGIT_EXPECTED, REPEATED_DOT, TRAILING_DOT, ARC_INVALID, LENGTH or EMPTY. */
+ * have leading zeros. For other texts, returns NOT_UTF8, or else the code of the first wrong piece
+ * between dots (ARC_TOO_BIG, DIGIT_EXPECTED, REPEATED_DOT, TRAILING_DOT, ARC_INVALID or LENGTH), or else
+ * EMPTY if there is only one piece. */
 const_oid_status const_oid_from_text(
     const uint8_t *text, size_t text_len, uint8_t *CONST_OID_RESTRICT out, size_t out_len);
 
@@ -170,8 +171,8 @@ const_oid_status const_oid_arcs(
 const_oid_status const_oid_arcs_from(
     const uint8_t *octets, size_t len, size_t first, uint32_t *CONST_OID_RESTRICT out, size_t out_len);
 
-/* Writes the contents octets of arcs. Returns the code of the first wrong arc, ARC_INVALID or LENGTH,
- * or else EMPTY if there are fewer than two arcs. */
+/* Writes the contents octets of arcs. For other arcs, returns the code of the first wrong one,
+ * ARC_INVALID or LENGTH, or else EMPTY if there are fewer than two. */
 const_oid_status const_oid_from_arcs(
     const uint32_t *arcs, size_t len, uint8_t *CONST_OID_RESTRICT out, size_t out_len);
 
@@ -185,38 +186,38 @@ const_oid_status const_oid_push_arc(
     const uint8_t *octets, size_t len, uint32_t arc, uint8_t *CONST_OID_RESTRICT out,
     size_t out_len);
 
-/* Whether the arcs of octets begin with all arcs of a prefix. Both may have any length. Returns the
- * code of the octets if they are wrong, or else that of the prefix. */
+/* Whether the arcs of octets begin with all arcs of a prefix. Both may have any length. If the octets
+ * are wrong, returns their code, or else that of a wrong prefix. */
 const_oid_status const_oid_starts_with(
     const uint8_t *octets, size_t len, const uint8_t *prefix, size_t prefix_len);
 
-/* Whether two identifiers of any length are equal. If one is wrong, returns the code of the first such. */
+/* Whether two identifiers of any length are equal. Returns the code of the first wrong one, if any. */
 const_oid_status const_oid_eq(
     const uint8_t *left, size_t left_len, const uint8_t *right, size_t right_len);
 
 /* Compares two identifiers of any length by their octets, as memcmp does. A prefix comes first. The
  * descendants of an identifier follow it without a gap (const_oid_subtree). This is not the order of
- * SNMP. If one is wrong, returns the code of the first such. */
+ * SNMP. Returns the code of the first wrong one, if any. */
 const_oid_status const_oid_cmp(
     const uint8_t *left, size_t left_len, const uint8_t *right, size_t right_len);
 
 /* Compares two identifiers of any length by their arcs. A prefix comes first. This is the order of
- * SNMP (RFC 3416), for a walk by GetNext. If one is wrong, returns the code of the first such. */
+ * SNMP (RFC 3416), for a walk by GetNext. Returns the code of the first wrong one, if any. */
 const_oid_status const_oid_cmp_arcs(
     const uint8_t *left, size_t left_len, const uint8_t *right, size_t right_len);
 
 /* Compares two identifiers of at most 255 octets by length, and then by their octets. This is the
- * order of the Rust crate const-oid, and not that of SNMP. If one is wrong, returns the code of the
- * first such. */
+ * order of the Rust crate const-oid, and not that of SNMP. Returns the code of the first wrong one, if
+ * any. */
 const_oid_status const_oid_cmp_owned(
     const uint8_t *left, size_t left_len, const uint8_t *right, size_t right_len);
 
 /* Finds the items of a sorted list that begin with an identifier, which may be an item itself. They
  * are the items of `range`. `range.start` is the number of items that come before the identifier. The
  * order is that of const_oid_cmp. Items may have any length and may be repeated. The call checks the
- * whole list. Returns the code of the identifier, with `count` in `len`, if that is wrong. Otherwise the
- * first wrong item decides, with its index in `len`: its own code, or UNSORTED if it comes before the
- * previous item. `range` is then unchanged. */
+ * whole list. If the identifier is wrong, returns its code, with `count` in `len`. Otherwise the first
+ * wrong item decides, with its index in `len`: its own code, or UNSORTED if it comes before the
+ * previous item. With an error, `range` is unchanged. */
 const_oid_status const_oid_subtree(
     const uint8_t *octets, size_t len, const const_oid_octets *sorted, size_t count,
     const_oid_range *CONST_OID_RESTRICT range);
