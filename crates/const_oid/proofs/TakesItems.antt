@@ -61,7 +61,7 @@ module _ {S : Type 0} (rule : RootRule) (capacity : ℕ) (steps : S → Option �
             rw (split, taken (item ∷ later), ← refused) refl,
       )
 
--- the fault that `?` hands on
+-- the fault that `?` passes on
 pub handed_on : {X Y E : Type 0} (f : X → Y) (result : Result X E) (fault : E) → IsErrAnd result (λ handed. handed ≡ fault) → result_map_both f (λ fault. fault) result ≡ Err fault
 handed_on f (Ok x) fault h = absurd h
 handed_on f (Err handed) fault h = ap Err h

@@ -89,7 +89,7 @@ unequal_cmp xs ys at m n v w same u =
     let r = first_unequal (take 8 (drop at xs)) (take 8 (drop at ys)) (drop 8 (drop at xs)) (drop 8 (drop at ys)) (length-chunk xs at v.within ∙ sym (length-chunk ys at w.within)) (λ e. unequal m n u (sym c ∙ e)) in
     sym (after_same xs ys at same ∙ ap₂ (λ x y. slice_cmp nat_cmp x y) (sym (take-append-drop 8 (drop at xs))) (sym (take-append-drop 8 (drop at ys))) ∙ r ∙ c)
 
--- lists, one of which has ended, are in the order of their lengths
+-- two lists, where one has ended, are in the order of their lengths
 pub rest_cmp : (xs ys : List ℕ) (at : ℕ) → at ≡ min (length xs) (length ys) → slice_cmp nat_cmp (drop at xs) (drop at ys) ≡ nat_cmp (length xs) (length ys)
 rest_cmp xs ys at e =
     let k : length xs ≡ at + length (drop at xs) = omega (arith, length-drop at xs) in

@@ -1,4 +1,4 @@
--- What only the contracts of private functions cite. No public promise rests on it.
+-- What only the contracts of private functions cite. No public contract cites it.
 pub mod Octets
 pub mod Encoder
 pub mod Parser

@@ -28,9 +28,9 @@ impl<'a> SortedDatabase<'a> {
     ghost use Rattle.const_oid.specs.Names.{IsNearest, IsSubtree, entry_arcs, first_name, has_arcs, sorted_entries_of};
     ghost use Rattle.const_oid.specs.Tree.{BeginsWith};
 
-    /// A database over entries that do not descend. A caller in Rattle is proved to give such; Rust checks
-    /// nothing, and over entries that descend, the results of look-ups mean nothing. [`try_new`](Self::try_new)
-    /// tests the order.
+    /// A database over entries that do not descend. In Rattle, the caller must prove this. In Rust, nothing checks
+    /// it: over entries that descend, the results of look-ups mean nothing. [`try_new`](Self::try_new) tests the
+    /// order.
     pub const fn new(entries: &'a [Entry<'a>]) -> Self
         requires { IsSortedByKey entry_arcs (slice_cmp nat_cmp) entries.now }
         ensures { sorted_entries_of result ≡ entries.now }

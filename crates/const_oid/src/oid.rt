@@ -26,7 +26,7 @@ use std::str::FromStr;
 /// An object identifier that holds its contents octets, without tag and length: at most `MAX_SIZE`,
 /// and never more than 255.
 ///
-/// Its octets have no fault: they are the one encoding of its arcs (X.690, 8.19).
+/// Its octets are valid: they are the one encoding of its arcs (X.690, 8.19).
 #[derive(Copy, Clone, Eq, PartialOrd, Hash)]
 pub struct ObjectIdentifier<const MAX_SIZE: usize> {
     ber: Buffer<MAX_SIZE>,
@@ -42,7 +42,7 @@ impl ObjectIdentifier<39> {
     /// The capacity in octets.
     pub const MAX_SIZE: usize = 39;
 
-    /// Parses dotted text, as `1.2.840.10045.2.1`, with any number of leading zeros in an arc. The text
+    /// Parses dotted text, such as `1.2.840.10045.2.1`, with any number of leading zeros in an arc. The text
     /// is cut at its dots. The first wrong piece gives the error, by the first of these that applies:
     ///
     /// - [`Error::ArcTooBig`]: its leading digits are a number above 4294967295;
@@ -60,8 +60,8 @@ impl ObjectIdentifier<39> {
         Self::new_sized(s)
     }
 
-    /// Parses dotted text that is known to be valid, as a literal. The checker rejects another text before the
-    /// program runs; in Rust, outside of constants, the call panics.
+    /// Parses dotted text that is known to be valid, such as a literal. The checker rejects an invalid text. In
+    /// Rust the call panics on it, and a constant does not compile.
     // `const` in Rust.
     pub fn new_unwrap(s: &str) -> Self
         requires { text_fault root_rule s.now usual_capacity ≡ None }
@@ -233,8 +233,8 @@ impl<const MAX_SIZE: usize> ObjectIdentifier<MAX_SIZE> {
         self.as_oid_ref().text_len()
     }
 
-    /// Writes the text that `{}` writes at the start of `out`, and returns its length. `None` where it
-    /// is longer than `out`, which then stays as it was.
+    /// Writes the text that `{}` writes at the start of `out`, and returns its length. Returns `None`
+    /// where it is longer than `out`, which is then unchanged.
     pub fn encode_text(&self, out: &mut [u8]) -> Option<usize>
         ensures cases { MatchOption result (length out.old < length (text_of (oid_arcs self.now))) (λ len. len ≡ length (text_of (oid_arcs self.now))) }
         ensures written { IfSome result (λ len. out.new ≡ text_of (oid_arcs self.now) ++ drop len out.old) }
@@ -252,7 +252,7 @@ impl<const MAX_SIZE: usize> ObjectIdentifier<MAX_SIZE> {
         self.as_oid_ref().encode_str(out)
     }
 
-    /// The identifier of all arcs but the last, or `None` of two arcs.
+    /// The identifier of all arcs except the last, or `None` where there are two arcs.
     pub fn parent(&self) -> Option<Self>
         ensures { option_map oid_arcs result ≡ parent_of (oid_arcs self.now) }
     {

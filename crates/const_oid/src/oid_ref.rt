@@ -24,7 +24,7 @@ use std::fmt;
 
 /// An object identifier over the caller's contents octets, without tag and length.
 ///
-/// Its octets have no fault: they are the one encoding of its arcs (X.690, 8.19).
+/// Its octets are valid: they are the one encoding of its arcs (X.690, 8.19).
 #[derive(Copy, Clone, Eq, Hash)]
 pub struct ObjectIdentifierRef<'a> {
     /// The contents octets, which are valid: the checker decodes a literal.
@@ -105,8 +105,8 @@ impl<'a> ObjectIdentifierRef<'a> {
         text_len(self.arcs(), usize::MAX).unwrap_or(usize::MAX)
     }
 
-    /// Writes the text that `{}` writes at the start of `out`, and returns its length. `None` where it
-    /// is longer than `out`, which then stays as it was.
+    /// Writes the text that `{}` writes at the start of `out`, and returns its length. Returns `None`
+    /// where it is longer than `out`, which is then unchanged.
     pub fn encode_text(&self, out: &mut [u8]) -> Option<usize>
         ensures cases { MatchOption result (length out.old < length (text_of (ref_arcs self.now))) (λ len. len ≡ length (text_of (ref_arcs self.now))) }
         ensures written { IfSome result (λ len. out.new ≡ text_of (ref_arcs self.now) ++ drop len out.old) }
@@ -138,7 +138,8 @@ impl<'a> ObjectIdentifierRef<'a> {
         are_equal(self.as_bytes(), other.as_bytes())
     }
 
-    /// The identifier of all arcs but the last, over the prefix of the caller's octets, or `None` of two arcs.
+    /// The identifier of all arcs except the last, over a prefix of the caller's octets, or `None` where there
+    /// are two arcs.
     pub fn parent(&self) -> Option<ObjectIdentifierRef<'a>>
         ensures arcs { option_map ref_arcs result ≡ parent_of (ref_arcs self.now) }
         ensures prefix { IfSome result (λ oid. BeginsWith (ref_octets self.now) (ref_octets oid)) }

@@ -1,4 +1,4 @@
-//! The exported functions, over pointers. The header says what a caller promises: a pointer is valid
+//! The exported functions, over pointers. The header says what a caller guarantees: a pointer is valid
 //! for its length, or null with length 0, and an output overlaps no input.
 
 use crate::calls::status::Status;
@@ -9,7 +9,7 @@ use core::marker::PhantomData;
 use core::mem::MaybeUninit;
 use core::slice;
 
-/// The contents octets of one identifier of a list. C alone makes one, and promises its pointer for `'a`.
+/// The contents octets of one identifier of a list. C alone makes one, and guarantees its pointer for `'a`.
 #[repr(C)]
 #[derive(Clone, Copy)]
 pub struct Octets<'a> {
@@ -20,7 +20,7 @@ pub struct Octets<'a> {
 
 impl<'a> Octets<'a> {
     pub(crate) fn get(&self) -> &'a [u8] {
-        // SAFETY: nothing in Rust makes or changes these fields, so they are what C promised.
+        // SAFETY: nothing in Rust makes or changes these fields, so they are what C guaranteed.
         unsafe { input(self.octets, self.len) }
     }
 }
@@ -38,7 +38,7 @@ unsafe fn input<'a, T>(items: *const T, len: usize) -> &'a [T] {
     if len == 0 {
         return &[];
     }
-    // SAFETY: the length is not 0, so the caller promises the pointer.
+    // SAFETY: the length is not 0, so the caller guarantees the pointer.
     unsafe { slice::from_raw_parts(items, len) }
 }
 
@@ -52,7 +52,7 @@ unsafe fn output<'a, T>(items: *mut T, len: usize) -> &'a mut Output<T> {
     if len == 0 {
         return &mut [];
     }
-    // SAFETY: the length is not 0, so the caller promises the pointer. An item need not be written.
+    // SAFETY: the length is not 0, so the caller guarantees the pointer. An item need not be written.
     unsafe { slice::from_raw_parts_mut(items.cast(), len) }
 }
 
@@ -112,10 +112,10 @@ macro_rules! reads {
     ($module:ident, $name:ident $(, $number:ident: $type:ty)?) => {
         /// # Safety
         ///
-        /// The header says what a caller promises.
+        /// The header says what a caller guarantees.
         #[unsafe(no_mangle)]
         pub unsafe extern "C" fn $name(octets: *const u8, len: usize $(, $number: $type)?) -> Status {
-            // SAFETY: the caller promises it.
+            // SAFETY: the caller guarantees it.
             let octets = unsafe { input(octets, len) };
             $module::$name(octets $(, $number)?)
         }
@@ -127,7 +127,7 @@ macro_rules! reads_both {
     ($name:ident) => {
         /// # Safety
         ///
-        /// The header says what a caller promises.
+        /// The header says what a caller guarantees.
         #[unsafe(no_mangle)]
         pub unsafe extern "C" fn $name(
             left: *const u8,
@@ -135,7 +135,7 @@ macro_rules! reads_both {
             right: *const u8,
             right_len: usize,
         ) -> Status {
-            // SAFETY: the caller promises it.
+            // SAFETY: the caller guarantees it.
             let (left, right) = unsafe { (input(left, left_len), input(right, right_len)) };
             order::$name(left, right)
         }
@@ -147,7 +147,7 @@ macro_rules! writes {
     ($module:ident, $name:ident, $input:ty, $output:ty $(, $number:ident: $type:ty)?) => {
         /// # Safety
         ///
-        /// The header says what a caller promises.
+        /// The header says what a caller guarantees.
         #[unsafe(no_mangle)]
         pub unsafe extern "C" fn $name(
             items: *const $input,
@@ -156,7 +156,7 @@ macro_rules! writes {
             out: *mut $output,
             out_len: usize,
         ) -> Status {
-            // SAFETY: the caller promises it.
+            // SAFETY: the caller guarantees it.
             let (items, out) = unsafe { (input(items, len), output(out, out_len)) };
             $module::$name(items $(, $number)?, out)
         }
@@ -181,7 +181,7 @@ writes!(tree, const_oid_push_arc, u8, u8, arc: u32);
 
 /// # Safety
 ///
-/// The header says what a caller promises.
+/// The header says what a caller guarantees.
 #[unsafe(no_mangle)]
 pub unsafe extern "C" fn const_oid_error_text(
     code: u32,
@@ -189,14 +189,14 @@ pub unsafe extern "C" fn const_oid_error_text(
     out: *mut u8,
     out_len: usize,
 ) -> Status {
-    // SAFETY: the caller promises it.
+    // SAFETY: the caller guarantees it.
     let out = unsafe { output(out, out_len) };
     errors::const_oid_error_text(code, detail, out)
 }
 
 /// # Safety
 ///
-/// The header says what a caller promises.
+/// The header says what a caller guarantees.
 #[unsafe(no_mangle)]
 pub unsafe extern "C" fn const_oid_subtree(
     octets: *const u8,
@@ -205,12 +205,12 @@ pub unsafe extern "C" fn const_oid_subtree(
     count: usize,
     range: *mut Range,
 ) -> Status {
-    // SAFETY: the caller promises it.
+    // SAFETY: the caller guarantees it.
     let (octets, sorted) = unsafe { (input(octets, len), input(sorted, count)) };
     let mut found = Range { start: 0, end: 0 };
     let status = subtree::const_oid_subtree(octets, sorted, &mut found);
     if status.code == 0 {
-        // SAFETY: the caller promises that the range can be written.
+        // SAFETY: the caller guarantees that the range can be written.
         unsafe { range.write(found) };
     }
     status

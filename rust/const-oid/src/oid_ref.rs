@@ -8,7 +8,7 @@ use core::hash::{Hash, Hasher};
 
 /// An object identifier over contents octets, without tag and length.
 ///
-/// Its octets have no fault: they are the one encoding of its arcs (X.690, 8.19).
+/// Its octets are valid: they are the one encoding of its arcs (X.690, 8.19).
 ///
 /// It can be compared with owned identifiers of any capacity, if it is the left side. The two forms
 /// have different orders, so look up keys of one form in a `BTreeMap` only by that form.
@@ -159,8 +159,8 @@ calls! {
     /// ```
     fn text_len() -> usize;
 
-    /// Writes the text that `{}` writes at the start of `out`, and returns its length. `None` if it
-    /// is longer than `out`, which is then unchanged.
+    /// Writes the text that `{}` writes at the start of `out`, and returns its length. Returns `None`
+    /// where it is longer than `out`, which is then unchanged.
     ///
     /// ```
     /// let oid = const_oid::ObjectIdentifierRef::from_bytes(&[0x88, 0x37, 0x03])?;

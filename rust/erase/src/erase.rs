@@ -108,8 +108,8 @@ fn is_of_model(tokens: &[Token<'_>], at: usize) -> bool {
     head.into_iter().any(|token| token.text == "Model")
 }
 
-/// The index after `ghost use ..;`, `ghost name = { .. };` or `ghost name: { .. } by { .. },`, of
-/// which `by` and the last comma may be missing.
+/// The index after `ghost use ..;`, `ghost name = { .. };` or `ghost name: { .. } by { .. },`,
+/// where `by` and the last comma may be missing.
 fn ghost_end(tokens: &[Token<'_>], from: usize) -> Result<usize> {
     let fault = || Fault::new(tokens[from].line, "an unknown form of `ghost`");
     let name = solid(tokens, from + 1);

@@ -13,7 +13,7 @@ pub struct Crate {
     pub with_examples: &'static [&'static str],
 }
 
-/// An edit of a module, in which `old` stands once, or of several modules or of all, where it stands any
+/// An edit of a module, in which `old` occurs once, or of several modules or of all, where it occurs any
 /// number of times.
 pub struct Edit {
     /// The module; or modules with a comma between them; or nothing, for all.

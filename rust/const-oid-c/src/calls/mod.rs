@@ -3,7 +3,7 @@
 //! Object identifiers for C: the calls of `const_oid` over slices that the caller owns.
 //!
 //! No call allocates, keeps a pointer or has a precondition beyond its types.
-//! `include/const_oid.h` declares the calls and says what a C caller promises.
+//! `include/const_oid.h` declares the calls and says what a C caller must guarantee.
 
 pub mod arcs;
 pub mod errors;

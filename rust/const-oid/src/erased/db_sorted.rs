@@ -18,9 +18,9 @@ pub struct SortedDatabase<'a> {
 }
 
 impl<'a> SortedDatabase<'a> {
-    /// A database over entries that do not descend. A caller in Rattle is proved to give such; Rust checks
-    /// nothing, and over entries that descend, the results of look-ups mean nothing. [`try_new`](Self::try_new)
-    /// tests the order.
+    /// A database over entries that do not descend. In Rattle, the caller must prove this. In Rust, nothing checks
+    /// it: over entries that descend, the results of look-ups mean nothing. [`try_new`](Self::try_new) tests the
+    /// order.
     #[doc = include_str!("../examples/SortedDatabase.new.md")]
     pub const fn new(entries: &'a [Entry<'a>]) -> Self {
         SortedDatabase { entries }

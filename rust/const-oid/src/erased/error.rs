@@ -60,8 +60,8 @@ impl Error {
         before.len() + self.detail_len() + after.len()
     }
 
-    /// Writes the text that `{}` writes at the start of `out`, and returns its length. `None` where it
-    /// is longer than `out`, which then stays as it was.
+    /// Writes the text that `{}` writes at the start of `out`, and returns its length. Returns `None`
+    /// where it is longer than `out`, which is then unchanged.
     #[inline(always)]
     #[doc = include_str!("../examples/Error.encode_text.md")]
     pub fn encode_text(self, out: &mut [u8]) -> Option<usize> {

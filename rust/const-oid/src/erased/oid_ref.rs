@@ -16,7 +16,7 @@ use core::fmt;
 
 /// An object identifier over the caller's contents octets, without tag and length.
 ///
-/// Its octets have no fault: they are the one encoding of its arcs (X.690, 8.19).
+/// Its octets are valid: they are the one encoding of its arcs (X.690, 8.19).
 #[derive(Copy, Clone, Eq, Hash)]
 pub struct ObjectIdentifierRef<'a> {
     /// The contents octets, which are valid: the checker decodes a literal.
@@ -73,8 +73,8 @@ impl<'a> ObjectIdentifierRef<'a> {
         text_len(self.arcs(), usize::MAX).unwrap_or(usize::MAX)
     }
 
-    /// Writes the text that `{}` writes at the start of `out`, and returns its length. `None` where it
-    /// is longer than `out`, which then stays as it was.
+    /// Writes the text that `{}` writes at the start of `out`, and returns its length. Returns `None`
+    /// where it is longer than `out`, which is then unchanged.
     pub fn encode_text(&self, out: &mut [u8]) -> Option<usize> {
         // An octet takes four bytes of text at most.
         if self.ber.len() > out.len() / 4 {
@@ -94,7 +94,8 @@ impl<'a> ObjectIdentifierRef<'a> {
         are_equal(self.as_bytes(), other.as_bytes())
     }
 
-    /// The identifier of all arcs but the last, over the prefix of the caller's octets, or `None` of two arcs.
+    /// The identifier of all arcs except the last, over a prefix of the caller's octets, or `None` where there
+    /// are two arcs.
     pub fn parent(&self) -> Option<ObjectIdentifierRef<'a>> {
         let prefix = without_last_part(self.ber);
         if prefix.is_empty() {
