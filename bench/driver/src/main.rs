@@ -33,7 +33,7 @@ fn differences(dice: &mut Dice) -> usize {
         if ours != rust {
             count += 1;
             if count <= 10 {
-                eprintln!("answers differ: {name} of {input:02x?}: ours {:#x}, the Rust crate's {:#x}", ours.0, rust.0);
+                eprintln!("results differ: {name} of {input:02x?}: ours {:#x}, the Rust crate's {:#x}", ours.0, rust.0);
             }
         }
         rust.1
@@ -137,7 +137,7 @@ fn tool_rows(tool: &str, rounds: usize) {
     let unknown = "error: unknown command\n".repeat(4096);
     let inputs = [("4096 empty lines", "\n".repeat(4096), unknown), ("one line", "text 2A03\n".into(), "1.2.3\n".into())];
     for (size, input, answer) in inputs {
-        assert_eq!(String::from_utf8_lossy(&process(tool, input.as_bytes(), true).0), answer, "answers of the tool");
+        assert_eq!(String::from_utf8_lossy(&process(tool, input.as_bytes(), true).0), answer, "results of the tool");
         let mut taken = [vec![], vec![]];
         for _ in 0..rounds {
             for (program, times) in [tool, "true"].into_iter().zip(&mut taken) {
@@ -159,11 +159,11 @@ fn run() -> ExitCode {
     for row in &rows {
         if (row.run[0])(4) != (row.run[1])(4) {
             count += 1;
-            eprintln!("answers differ: {}, {}", row.name, row.size);
+            eprintln!("results differ: {}, {}", row.name, row.size);
         }
     }
     if count > 0 {
-        eprintln!("{count} answers differ: nothing is measured");
+        eprintln!("{count} results differ: nothing is measured");
         return ExitCode::FAILURE;
     }
     println!("| operation | size | ours ns | Rust ns | ratio | |\n|---|---|--:|--:|--:|---|");
@@ -178,7 +178,7 @@ fn run() -> ExitCode {
     if let Some(tool) = env::var("OID_TOOL").ok().filter(|_| wanted("oid_tool")) {
         tool_rows(&tool, rounds);
     }
-    println!("\n{above} of {} ratios are above their goal; the answers of both sides agree.", rows.len());
+    println!("\n{above} of {} ratios are above their goal; the results of both sides agree.", rows.len());
     instruction_rows(wanted);
     ExitCode::SUCCESS
 }

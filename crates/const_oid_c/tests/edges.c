@@ -164,7 +164,7 @@ static void indices(void) {
     SEE(is(const_oid_arcs_from(oid, 3, 3, arcs, MOST), CONST_OID_OK, 0, 1), 3);
 }
 
-/* Outputs of each length near that of the answer: what is written, and what is not. */
+/* Outputs of each length near that of the result: what is written, and what is not. */
 static void of_outputs(void) {
     static const uint8_t oid[] = {0x2A, 0x03, 0x04};
     static const uint32_t four[] = {1, 2, 3, 4};

@@ -1,5 +1,5 @@
-/* Reads rows `call input = answer` from standard input, and prints each one with the answer of the
- * library. A right answer makes the same row. A row that begins with '#' is printed unchanged. */
+/* Reads rows `call input = result` from standard input, and prints each one with the result of the
+ * library. A right result makes the same row. A row that begins with '#' is printed unchanged. */
 #include "const_oid.h"
 
 #include <inttypes.h>
@@ -48,7 +48,7 @@ static uint32_t number(char **rest) {
     return (uint32_t)strtoul(word(rest), NULL, 10);
 }
 
-/* Prints why there is no answer. */
+/* Prints why there is no result. */
 static void refused(const_oid_status status) {
     uint8_t text[CONST_OID_MAX_ERROR_TEXT];
     const_oid_status words = const_oid_error_text(status.code, status.detail, text, sizeof text);
@@ -74,11 +74,11 @@ static void written(const_oid_status status, const uint8_t *octets) {
     for (size_t i = 0; i < status.len; i++) printf("%02X", octets[i]);
 }
 
-/* Fails unless a call whose output is one item shorter than the answer of `status` says so, and wrote
+/* Fails unless a call whose output is one item shorter than the result of `status` says so, and wrote
  * nothing. */
 static void too_short(const_oid_status status, const_oid_status less, const uint8_t *out, size_t size) {
     if (status.code != CONST_OID_OK) return;
-    if (less.code != CONST_OID_OUTPUT_TOO_SHORT || less.len != status.len) fail("a short output is not refused");
+    if (less.code != CONST_OID_OUTPUT_TOO_SHORT || less.len != status.len) fail("a short output is not rejected");
     for (size_t i = 0; i < size; i++)
         if (out[i] != 0xEE) fail("a short output was written");
 }

@@ -13,7 +13,7 @@ static const uint8_t *bytes(std::string_view text) {
     return reinterpret_cast<const uint8_t *>(text.data());
 }
 
-// The octets of a text, or none where the text is refused.
+// The octets of a text, or none where the text is rejected.
 static Octets from_text(std::string_view text) {
     const_oid_status wanted = const_oid_from_text(bytes(text), text.size(), nullptr, 0);
     Octets octets(wanted.code == CONST_OID_OUTPUT_TOO_SHORT ? wanted.len : 0);
@@ -28,6 +28,6 @@ int main() {
     bool right = octets == Octets{0x2A, 0x86, 0x48, 0xCE, 0x3D, 0x02, 0x01} && from_text("1..2").empty()
         && from_text({}).empty() && const_oid_check(empty.data(), empty.size()).code == CONST_OID_EMPTY
         && const_oid_eq(octets.data(), octets.size(), octets.data(), octets.size()).detail == 1;
-    if (!right) std::fputs("tests: the C++ program has other answers\n", stderr);
+    if (!right) std::fputs("tests: the C++ program has other results\n", stderr);
     return right ? 0 : 1;
 }

@@ -54,7 +54,7 @@ static void null_inputs(void) {
     SEE(range.start == 0 && range.end == 0);
 }
 
-/* A null output asks for the length of the answer. */
+/* A null output finds the length of the result. */
 static void null_outputs(void) {
     const uint8_t *text = (const uint8_t *)"1.2.3.4";
     const uint32_t arcs[] = {1, 2, 3, 4};

@@ -34,7 +34,7 @@ fn main() {
     for _ in 0..count / 1000 {
         of_subtree(&mut draw);
     }
-    println!("{count} texts, octets and lists each: as the library answers ({accepted} accepted)");
+    println!("{count} texts, octets and lists each: equal results ({accepted} accepted)");
 }
 
 /// Checks that the crate and the library return the same.
