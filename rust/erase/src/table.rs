@@ -165,7 +165,7 @@ pub const CRATES: &[Crate] = &[
                 module: "",
                 old: "const_oid::",
                 new: "const_oid::erased::",
-                why: "its generated modules are in the crate for cargo",
+                why: "its generated modules are in the cargo crate",
             },
             Edit {
                 module: "subtree",
