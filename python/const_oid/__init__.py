@@ -142,7 +142,7 @@ def _written(call: Any, inputs: tuple[Any, ...], out: Any) -> Any:
 class ObjectIdentifier:
     """An object identifier: at least two arcs of 32 bits.
 
-    The constructor reads dotted text. Text and arcs may have at most 255 octets, as may `child` and `parent`; octets
+    The constructor parses dotted text. Text and arcs may have at most 255 octets, as may `child` and `parent`; octets
     may have any length.
 
     >>> oid = ObjectIdentifier("2.999.3")
@@ -178,7 +178,7 @@ class ObjectIdentifier:
 
     @classmethod
     def from_bytes(cls, octets: bytes | bytearray | memoryview) -> ObjectIdentifier:
-        """Reads contents octets: those after the tag and the length.
+        """Decodes contents octets: those after the tag and the length.
 
         >>> ObjectIdentifier.from_bytes(b"\\x2a\\x86\\x48")
         ObjectIdentifier('1.2.840')
@@ -191,7 +191,7 @@ class ObjectIdentifier:
 
     @classmethod
     def from_arcs(cls, arcs: Iterable[int]) -> ObjectIdentifier:
-        """Takes arcs. An arc past 32 bits, or below 0, has the error that it has in text.
+        """Encodes arcs. An arc past 32 bits, or below 0, has the same error as in text.
 
         >>> ObjectIdentifier.from_arcs([1, 2, 840])
         ObjectIdentifier('1.2.840')

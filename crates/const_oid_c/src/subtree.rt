@@ -24,7 +24,7 @@ impl<'a> Octets<'a> {
     }
 }
 
-/// The indices of a list from `start` on and below `end`.
+/// The indices of a list from `start` up to, but not including, `end`.
 #[repr(C)]
 #[derive(Clone, Copy)]
 pub struct Range {

@@ -8,7 +8,7 @@ use const_oid::erased::{Error, ObjectIdentifierRef};
 /// The contents octets of one identifier of a list.
 pub use crate::edge::Octets;
 
-/// The indices of a list from `start` on and below `end`.
+/// The indices of a list from `start` up to, but not including, `end`.
 #[repr(C)]
 #[derive(Clone, Copy)]
 pub struct Range {
