@@ -1,4 +1,4 @@
--- What begins with a prefix: encodings do exactly where their arcs do, and are adjacent in list order.
+-- What begins with a prefix: encodings do exactly where their arcs do, and are adjacent in lexicographic order.
 use Rattle.std.proofs.Common.{◌≡◌, ℕ, ◌+◌, List, [], ◌∷◌, ◌++◌, refl, sym, ap, ap₂, ◌∙◌, append_assoc, ◌≢◌, ◌<◌, length, arith, Less, Greater, nat_cmp, append-nil, length-append, Bool, true, false, ◌||◌, drop, nat_eq}
 use Rattle.std.specs.List.{AllZip, concat, starts_with}
 use Rattle.std.specs.Prelude.{◌↔◌, IsTrue}
@@ -60,7 +60,7 @@ pub iff_begins : {rule : RootRule} {x p b a : List ℕ} (P : Type 0) → IsEncod
 iff_begins {rule} {x} {p} {b} {a} P f e iff =
     (λ t. arcs_prefix rule p x a b e f (iff.0 t), λ h. iff.1 (encoding_prefix rule p x a b e f h))
 
--- ---- ranges in list order
+-- ---- ranges in lexicographic order
 
 -- what is between two lists that begin with the prefix begins with it, too
 pub between : (prefix x y z : List ℕ) → slice_cmp nat_cmp y (prefix ++ x) ≢ Less → slice_cmp nat_cmp y (prefix ++ z) ≢ Greater → BeginsWith y prefix

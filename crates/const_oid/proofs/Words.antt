@@ -1,4 +1,4 @@
--- Words of eight octets: they are the same where their octets are, and have the list order of these.
+-- Words of eight octets: they are the same where their octets are, and have their lexicographic order.
 use Rattle.std.proofs.Common.{◌≡◌, ◌≢◌, ℕ, zero, suc, ◌+◌, ◌*◌, ◌^◌, ◌<◌, ◌≤◌, List, [], ◌∷◌, ◌++◌, length, take, drop, refl, sym, ap, ap₂, ◌∙◌, arith, min, Bool, true, false, ◌&&◌, nat_eq, IsTrue, Less, Equal, Greater, nat_cmp, w64, pow-suc, rules}
 use Rattle.std.proofs.Math.Seq.{take-add}
 use Rattle.std.specs.Int.{from_be_bytes}

@@ -111,7 +111,7 @@ const fn are_few_equal(a: &[u8], b: &[u8]) -> bool
     true
 }
 
-/// The octets in list order: by words, where the last one overlaps, or one by one where they are
+/// The octets in lexicographic order: by words, where the last one overlaps, or one by one where they are
 /// fewer than a word.
 #[inline(always)]
 pub(crate) fn order(a: &[u8], b: &[u8]) -> Ordering
@@ -137,7 +137,7 @@ pub(crate) fn order(a: &[u8], b: &[u8]) -> Ordering
 }
 
 #[tactic(auto, using(crate::proofs::Words::rest_cmp))]
-/// The octets in list order, one by one.
+/// The octets in lexicographic order, one by one.
 #[inline(always)]
 fn order_few(a: &[u8], b: &[u8]) -> Ordering
     ensures { result ≡ slice_cmp nat_cmp a.now b.now }
@@ -156,7 +156,7 @@ const WORD: usize = 8;
 
 #[tactic(auto, using(crate::proofs::Octets::are_octets, crate::proofs::Words::octets_drop, crate::proofs::Words::octets_take))]
 /// The eight octets from an index on as a number, the first one the most significant: so words have the
-/// list order of their octets.
+/// lexicographic order of their octets.
 // `const` in Rust.
 #[inline(always)]
 fn word(octets: &[u8], at: usize) -> u64

@@ -278,7 +278,7 @@ pub fn printed_length()
         → length (text_of arcs) ≤ 4 * length octets }
 {}
 
-/// Descendants are adjacent and follow their ancestor in list order, and come after it where shorter
+/// Descendants are adjacent and follow their ancestor in lexicographic order, and come after it where shorter
 /// encodings come first.
 pub fn ranges()
     ensures short { (rule : RootRule) (p x a b : List ℕ) → IsEncoding rule p a

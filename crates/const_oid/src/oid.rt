@@ -343,7 +343,7 @@ impl<const MAX_SIZE: usize> PartialEq for ObjectIdentifier<MAX_SIZE> {
     }
 }
 
-/// Fewer octets first, and with as many the octets in list order. This is not the order of arcs: see
+/// Fewer octets first, and as many in lexicographic order. This is not the order of arcs: see
 /// [`cmp_arcs`](Self::cmp_arcs).
 impl<const MAX_SIZE: usize> Ord for ObjectIdentifier<MAX_SIZE> {
     ghost use Rattle.std.specs.Prelude.{refl};

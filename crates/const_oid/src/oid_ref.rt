@@ -260,7 +260,7 @@ impl PartialOrd for ObjectIdentifierRef<'_> {
     }
 }
 
-/// The order of octets: list order, a prefix before what begins with it.
+/// The lexicographic order of octets, a prefix before what begins with it.
 ///
 /// In it a subtree is one run. It is not the order of SNMP (RFC 3416), which is that of arcs: see
 /// [`cmp_arcs`](ObjectIdentifierRef::cmp_arcs).

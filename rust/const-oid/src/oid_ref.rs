@@ -251,7 +251,7 @@ impl PartialOrd for ObjectIdentifierRef {
     }
 }
 
-/// The octets in list order, a prefix before what begins with it.
+/// The octets in lexicographic order, a prefix before what begins with it.
 impl Ord for ObjectIdentifierRef {
     fn cmp(&self, other: &Self) -> Ordering {
         self.erased().cmp(&other.erased())

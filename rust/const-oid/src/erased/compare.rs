@@ -89,7 +89,7 @@ const fn are_few_equal(a: &[u8], b: &[u8]) -> bool {
     true
 }
 
-/// The octets in list order: by words, where the last one overlaps, or one by one where they are
+/// The octets in lexicographic order: by words, where the last one overlaps, or one by one where they are
 /// fewer than a word.
 #[inline(always)]
 pub(crate) fn order(a: &[u8], b: &[u8]) -> Ordering {
@@ -112,7 +112,7 @@ pub(crate) fn order(a: &[u8], b: &[u8]) -> Ordering {
     a.len().cmp(&b.len())
 }
 
-/// The octets in list order, one by one.
+/// The octets in lexicographic order, one by one.
 #[inline(always)]
 fn order_few(a: &[u8], b: &[u8]) -> Ordering {
     let near = a.len().min(b.len());
@@ -128,7 +128,7 @@ fn order_few(a: &[u8], b: &[u8]) -> Ordering {
 const WORD: usize = 8;
 
 /// The eight octets from an index on as a number, the first one the most significant: so words have the
-/// list order of their octets.
+/// lexicographic order of their octets.
 #[inline(always)]
 const fn word(octets: &[u8], at: usize) -> u64 {
     // The compiler knows the length of this slice, so it leaves the test out.
