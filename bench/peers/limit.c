@@ -1,51 +1,69 @@
-/* No library: written by hand for speed. Every result is right, but no error has a name. */
+/* No library: written by hand for speed. Every result is right, but no error has a name, and no zero may lead. */
+enum { DIGITS = 10, GROUPS = 5 }; /* of an arc at most */
+
+static inline uint64_t read_number(const char **text) {
+    const char *start = *text, *at = start;
+    uint64_t number = (uint8_t)(*at - '0'), digit;
+    if (number > 9) return UINT64_MAX;
+    while ((digit = (uint8_t)(*++at - '0')) < 10) number = number * 10 + digit;
+    if (at - start > 1 && (*start == '0' || at - start > DIGITS)) return UINT64_MAX;
+    return *text = at, number;
+}
+
+static inline uint8_t *put_groups(uint8_t *to, uint64_t number) {
+    if (number < 1 << 7) return *to = (uint8_t)number, to + 1;
+    if (number >> 28) *to++ = (uint8_t)(number >> 28 | 0x80);
+    if (number >> 21) *to++ = (uint8_t)(number >> 21 | 0x80);
+    if (number >> 14) *to++ = (uint8_t)(number >> 14 | 0x80);
+    *to++ = (uint8_t)(number >> 7 | 0x80);
+    return *to = number & 0x7F, to + 1;
+}
+
 int text_to_octets(const char *text, size_t len, uint8_t *out) {
-    const char *end = text + len, *last = text + 2;
-    uint8_t *to = out, digit;
-    if (len < 3 || (uint8_t)(text[0] - '0') > 2 || text[1] != '.') return REJECTED;
-    uint32_t below = 40 * (uint32_t)(text[0] - '0'), most = below < 80 ? 39 : UINT32_MAX;
-    for (uint64_t number = 0; last < end; below = 0, most = UINT32_MAX, number = 0) {
-        for (text = last; last < end && (digit = (uint8_t)(*last - '0')) < 10; last++) number = number * 10 + digit;
-        if (last == text || last - text > 10 || number > most || out + 250 < to) return REJECTED;
-        if (*text == '0' && last - text > 1) return REJECTED;
-        number += below;
-        if (number >= 1 << 7) {
-            if (number >= 1 << 14) {
-                if (number >= 1 << 21) {
-                    if (number >= 1 << 28) *to++ = (uint8_t)(number >> 28 | 0x80);
-                    *to++ = (uint8_t)(number >> 21 | 0x80);
-                }
-                *to++ = (uint8_t)(number >> 14 | 0x80);
-            }
-            *to++ = (uint8_t)(number >> 7 | 0x80);
-        }
-        *to++ = number & 0x7F;
-        if (last == end) return (int)(to - out);
-        if (*last++ != '.') return REJECTED;
+    const char *end = text + len;
+    uint64_t root = read_number(&text), arc;
+    if (len > ROOM || root > 2 || *text++ != '.') return REJECTED;
+    if ((arc = read_number(&text)) > (root < 2 ? 39 : UINT32_MAX)) return REJECTED;
+    uint8_t *to = put_groups(out, root * 40 + arc);
+    while (*text++ == '.') {
+        if ((arc = read_number(&text)) > UINT32_MAX) return REJECTED;
+        to = put_groups(to, arc);
     }
-    return REJECTED;
+    return text == end + 1 ? (int)(to - out) : REJECTED;
+}
+
+static inline uint64_t read_groups(const uint8_t **octets) {
+    const uint8_t *start = *octets, *at = start;
+    uint64_t number = *at & 0x7F;
+    if (*at == 0x80) return UINT64_MAX;
+    while (*at++ >= 0x80) number = number << 7 | (*at & 0x7F);
+    return *octets = at, at - start > GROUPS ? UINT64_MAX : number;
+}
+
+static const char PAIRS[] = /* the digits of 0 to 99 */
+    "0001020304050607080910111213141516171819202122232425262728293031323334353637383940414243444546474849"
+    "5051525354555657585960616263646566676869707172737475767778798081828384858687888990919293949596979899";
+
+static inline char *put_arc(char *to, uint64_t number) {
+    char room[2 * DIGITS], *at = room + DIGITS;
+    *to++ = '.';
+    if (number < 10) return *to = (char)('0' + number), to + 1;
+    if (number < 100) return memcpy(to, PAIRS + number * 2, 2), to + 2;
+    for (; number >= 10; number /= 100) memcpy(at -= 2, PAIRS + number % 100 * 2, 2);
+    if (number) *--at = (char)('0' + number);
+    return memcpy(to, at, DIGITS), to + (room + DIGITS - at);
 }
 
 int octets_to_text(const uint8_t *der, size_t len, char *out) {
-    const uint8_t *octets = der + 2, *end = der + len;
-    char *to = out;
-    if (octets == end || end[-1] >= 0x80) return REJECTED;
-    for (uint64_t greatest = UINT32_MAX + 80ull, number; octets < end; greatest = UINT32_MAX) {
-        if (*octets == 0x80 || out + 1007 < to) return REJECTED;
-        for (number = *octets & 0x7F; *octets++ >= 0x80;)
-            if ((number = number << 7 | (*octets & 0x7F)) > greatest) return REJECTED;
-        if (to == out) {
-            uint64_t root = number < 40 ? 0 : number < 80 ? 1 : 2;
-            *to++ = (char)('0' + root);
-            number -= 40 * root;
-        }
-        *to++ = '.';
-        char *start = to;
-        for (uint64_t power = 10; number >= power; power *= 10) to++;
-        for (char *digit = to; digit > start; number = (uint32_t)number / 10)
-            *digit-- = (char)('0' + (uint32_t)number % 10);
-        *start = (char)('0' + number);
-        to++;
+    const uint8_t *at = der + 2, *end = der + len;
+    if (len < 3 || len > ROOM / 4 - DIGITS || end[-1] >= 0x80) return REJECTED;
+    uint64_t number = read_groups(&at), root = number < 40 ? 0 : number < 80 ? 1 : 2;
+    if ((number -= root * 40) > UINT32_MAX) return REJECTED;
+    *out = (char)('0' + root);
+    char *to = put_arc(out + 1, number);
+    while (at < end) {
+        if ((number = read_groups(&at)) > UINT32_MAX) return REJECTED;
+        to = put_arc(to, number);
     }
     return (int)(to - out);
 }
