@@ -3,7 +3,7 @@ import org.bouncycastle.asn1.*;
 import org.ietf.jgss.Oid;
 
 /** jdk: Oid(String).getDER, Oid(byte[]).toString. bc: ASN1ObjectIdentifier(String).getEncoded, fromByteArray, getId. */
-public class Peer {
+class Peer {
     static byte[] der(String text, boolean jdk) throws Exception {
         return jdk ? new Oid(text).getDER() : new ASN1ObjectIdentifier(text).getEncoded("DER");
     }
@@ -14,14 +14,14 @@ public class Peer {
 
     public static void main(String[] args) {
         boolean jdk = args[0].equals("jdk");
-        for (Scanner lines = new Scanner(System.in); lines.hasNextLine();) {
-            String line = lines.nextLine();
-            byte[] in = HexFormat.of().parseHex(line.substring(2));
+        for (Scanner lines = new Scanner(System.in); lines.hasNext();) {
+            boolean isText = lines.next().equals("T");
+            byte[] in = HexFormat.of().parseHex(lines.next());
             try {
-                String octets = line.charAt(0) == 'T' ? HexFormat.of().formatHex(der(new String(in), jdk)) : null;
-                System.out.println("ok " + (octets != null ? octets.substring(4) : text(in, jdk)));
+                String out = isText ? HexFormat.of().formatHex(der(new String(in), jdk)).substring(4) : text(in, jdk);
+                System.out.println(out);
             } catch (Exception fault) {
-                System.out.println("err");
+                System.out.println("rejected");
             }
         }
     }

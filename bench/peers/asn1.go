@@ -1,4 +1,4 @@
-// asn1.Unmarshal and ObjectIdentifier.String. No call of encoding/asn1 reads text: Split and Atoi are the caller's.
+// asn1.Unmarshal and ObjectIdentifier.String. No call of encoding/asn1 reads text.
 package main
 
 import (
@@ -14,11 +14,11 @@ func main() {
 		var oid asn1.ObjectIdentifier
 		der, _ := hex.DecodeString(lines.Text()[2:])
 		if lines.Text()[0] == 'T' {
-			fmt.Println("none")
+			fmt.Println("no call")
 		} else if rest, err := asn1.Unmarshal(der, &oid); err != nil || len(rest) > 0 {
-			fmt.Println("err")
+			fmt.Println("rejected")
 		} else {
-			fmt.Println("ok", oid)
+			fmt.Println(oid)
 		}
 	}
 }

@@ -1,6 +1,6 @@
 // OID(text) and DER_Encoder; BER_Decoder and OID::to_string.
-#include <botan/der_enc.h>
 #include <botan/ber_dec.h>
+#include <botan/der_enc.h>
 
 int text_to_octets(const char *text, size_t len, uint8_t *out) try {
     std::vector<uint8_t> der;

@@ -8,9 +8,9 @@ for line in sys.stdin:
     data = bytes.fromhex(line[2:])
     try:
         if line[0] == "T":
-            print("ok", encoder.encode(univ.ObjectIdentifier(data.decode()))[2:].hex())
+            print(encoder.encode(univ.ObjectIdentifier(data.decode()))[2:].hex())
         else:
             oid, rest = decoder.decode(data)
-            print("err" if rest else f"ok {oid}")
+            print("rejected" if rest else oid)
     except Exception:
-        print("err")
+        print("rejected")

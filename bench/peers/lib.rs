@@ -25,6 +25,6 @@ unsafe extern "C" fn octets_to_text(der: *const u8, len: usize, out: *mut u8) ->
     let oid = asn1::parse_single::<asn1::ObjectIdentifier>(der);
     #[cfg(not(feature = "asn1"))]
     let oid = const_oid::ObjectIdentifierRef::from_bytes(&der[2..]);
-    let mut room = unsafe { slice::from_raw_parts_mut(out, 4096) };
-    oid.map_or(-1, |oid| write!(room, "{oid}").map_or(-1, |()| 4096 - room.len() as i32))
+    let mut room = unsafe { slice::from_raw_parts_mut(out, 4000) };
+    oid.map_or(-1, |oid| write!(room, "{oid}").map_or(-1, |()| 4000 - room.len() as i32))
 }

@@ -5,5 +5,5 @@ int text_to_octets(const char *text, size_t len, uint8_t *out) { return (void)te
 
 int octets_to_text(const uint8_t *der, size_t len, char *out) {
     mbedtls_asn1_buf octets = {MBEDTLS_ASN1_OID, len - 2, (unsigned char *)der + 2};
-    return mbedtls_oid_get_numeric_string(out, ROOM, &octets) < 0 ? REJECTED : (int)strlen(out);
+    return mbedtls_oid_get_numeric_string(out, ROOM - 2, &octets);
 }

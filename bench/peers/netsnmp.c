@@ -14,16 +14,14 @@ int text_to_octets(const char *text, size_t len, uint8_t *out) {
     oid arcs[MAX_OID_LEN];
     size_t count = MAX_OID_LEN, room = ROOM;
     if (!snmp_parse_oid(text, arcs, &count)) return REJECTED;
-    u_char *end = asn_build_objid(out, &room, ASN_OBJECT_ID, arcs, count);
-    if (end) memmove(out, out + 2, (size_t)(end - out));
-    return (void)len, end ? (int)(end - out) - 2 : REJECTED;
+    u_char *end = asn_build_objid(out - 2, &room, ASN_OBJECT_ID, arcs, count);
+    return (void)len, end ? (int)(end - out) : REJECTED;
 }
 
-int octets_to_text(const uint8_t *der, size_t len, char *out) {
+int octets_to_text(const uint8_t *der, size_t len, char *out) { /* The text has a dot before the first arc. */
     oid arcs[MAX_OID_LEN];
     size_t count = MAX_OID_LEN;
     u_char tag;
-    int size = asn_parse_objid((u_char *)der, &len, &tag, arcs, &count) ? snprint_objid(out, ROOM, arcs, count) : 0;
-    if (size > 0) memmove(out, out + 1, (size_t)size); /* without the dot before the first arc */
-    return size - 1;
+    if (!asn_parse_objid((u_char *)der, &len, &tag, arcs, &count) || len > 0) return REJECTED;
+    return snprint_objid(out - 1, ROOM - 2, arcs, count) - 1;
 }

@@ -3,12 +3,10 @@
 
 int text_to_octets(const char *text, size_t len, uint8_t *out) {
     int size = ROOM;
-    if (asn1_object_id_der(text, out, &size, 0) != ASN1_SUCCESS) return REJECTED;
-    memmove(out, out + 2, (size_t)size);
-    return (void)len, size - 2;
+    return (void)len, asn1_object_id_der(text, out - 2, &size, 0) == ASN1_SUCCESS ? size - 2 : REJECTED;
 }
 
 int octets_to_text(const uint8_t *der, size_t len, char *out) {
-    int read, fault = asn1_get_object_id_der(der + 1, (int)len - 1, &read, out, ROOM);
-    return fault == ASN1_SUCCESS ? (int)strlen(out) : REJECTED;
+    int read, fault = asn1_get_object_id_der(der + 1, (int)len - 1, &read, out, ROOM - 2);
+    return fault == ASN1_SUCCESS && read == (int)len - 1 ? (int)strlen(out) : REJECTED;
 }
