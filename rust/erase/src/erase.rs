@@ -163,8 +163,9 @@ pub fn modules(tokens: &[Token<'_>]) -> Vec<String> {
     declared.map(|item| item[1].text.to_string()).collect()
 }
 
-/// The source of tokens, in which each of these types and of their public functions has the file of its example.
-pub fn with_examples(tokens: &[Token<'_>], types: &[&str]) -> String {
+/// The source of tokens, in which each of these types and of their public functions has the file of its example after
+/// its summary.
+pub fn with_examples(tokens: &[Token<'_>], types: &[&str]) -> Result<String> {
     let mut out = String::new();
     let mut owner = None;
     for (at, token) in tokens.iter().enumerate() {
@@ -176,15 +177,27 @@ pub fn with_examples(tokens: &[Token<'_>], types: &[&str]) -> String {
                 .collect();
             owner = types.iter().find(|name| is_owner(name, &head));
         }
-        if let Some(name) = public_type(tokens, at).filter(|name| types.contains(name)) {
-            out += &format!("#[doc = include_str!(\"../examples/{name}.md\")]\n");
-        }
-        if let Some((owner, name)) = owner.zip(public_function(tokens, at)) {
-            out += &format!("#[doc = include_str!(\"../examples/{owner}.{name}.md\")]\n");
+        let function = owner.zip(public_function(tokens, at));
+        let item = public_type(tokens, at).filter(|name| types.contains(name));
+        let item = item.map(str::to_string);
+        if let Some(item) = item.or(function.map(|(owner, name)| format!("{owner}.{name}"))) {
+            if !has_summary(tokens, at) {
+                let words = format!("`{item}` has no summary before its example");
+                return Err(Fault::new(token.line, words));
+            }
+            out += &format!("#[doc = include_str!(\"../examples/{item}.md\")]\n");
         }
         out += token.text;
     }
-    out
+    Ok(out)
+}
+
+/// Whether the item at this index has a line of documentation, before or after its attributes.
+fn has_summary(tokens: &[Token<'_>], at: usize) -> bool {
+    let before = tokens[..at].iter().rev();
+    before
+        .take_while(|token| !["{", "}", ";"].contains(&token.text))
+        .any(|token| token.text.starts_with("/// "))
 }
 
 /// Whether `impl .. {` is of this type, and of no trait.
@@ -313,17 +326,47 @@ mod tests {
 
     #[test]
     fn examples() {
-        let source =
-            "impl<T> S<T> { pub fn a() {} pub const fn b() {} fn c() {} pub(crate) fn d() {} }
+        let source = "impl<T> S<T> {
+                /// A.
+                pub fn a() {}
+                /// B.
+                #[inline]
+                pub const fn b() {}
+                fn c() {}
+                pub(crate) fn d() {}
+            }
             impl Eq for S { pub fn e() {} } impl R { pub fn f() {} }
+            #[derive(Clone)]
+            /// S.
             pub struct S<T> {} pub type R = S; struct S;";
-        let out = with_examples(&tokens(source).unwrap(), &["S"]);
+        let out = with_examples(&tokens(source).unwrap(), &["S"]).unwrap();
         let files: Vec<&str> = out
             .split("examples/")
             .skip(1)
             .filter_map(|file| file.split('"').next())
             .collect();
         assert_eq!(files, ["S.a.md", "S.b.md", "S.md"]);
+    }
+
+    #[test]
+    fn an_example_follows_a_summary() {
+        for (source, item) in [
+            ("/// A.\nconst A: u8 = 1;\npub struct S;", "S"),
+            ("struct A {\n/// X.\nx: u8 }\npub struct S;", "S"),
+            ("// S.\npub struct S;", "S"),
+            ("///\npub struct S;", "S"),
+            ("/// S.\nimpl S { pub fn a() {} }", "S.a"),
+            (
+                "impl S {\n/// A.\nfn a() {}\n#[inline]\npub fn b() {} }",
+                "S.b",
+            ),
+        ] {
+            let fault = with_examples(&tokens(source).unwrap(), &["S"]).unwrap_err();
+            assert_eq!(
+                fault.words,
+                format!("`{item}` has no summary before its example")
+            );
+        }
     }
 
     #[test]

@@ -13,12 +13,11 @@ mod token;
 
 use fault::{Fault, Result};
 use std::io::Write;
-use std::path::Path;
+use std::path::{Path, PathBuf};
 use std::process::{Command, ExitCode, Stdio};
 use std::{env, fs, io};
 use table::Crate;
 
-const ROOT: &str = concat!(env!("CARGO_MANIFEST_DIR"), "/../../");
 const TABLE: &str = "rust/names.tsv";
 const NAMES: &str = "rust/const-oid/src/db/names.rs";
 const EXAMPLES: &str = "rust/const-oid/src/examples";
@@ -93,7 +92,7 @@ fn module_of(
     let tokens = erase::erase(&token::tokens(source)?)?;
     let tokens = edit::edited(tokens, table, module, counts)?;
     Ok((
-        erase::with_examples(&tokens, table.with_examples),
+        erase::with_examples(&tokens, table.with_examples)?,
         erase::modules(&tokens),
     ))
 }
@@ -130,13 +129,21 @@ fn at(path: &str, fault: &Fault) -> String {
     format!("{path}:{}: {}", fault.line, fault.words)
 }
 
+/// The place of a path from the top of the repository: of the one that cargo runs this in, which may be a copy of the
+/// one that it was built in.
+fn from_top(path: &str) -> PathBuf {
+    let built = env!("CARGO_MANIFEST_DIR").into();
+    let here = env::var_os("CARGO_MANIFEST_DIR").unwrap_or(built);
+    Path::new(&here).join("../..").join(path)
+}
+
 fn read(path: &str) -> Checked<String> {
-    fs::read_to_string(format!("{ROOT}{path}")).map_err(|error| format!("{path}: {error}"))
+    fs::read_to_string(from_top(path)).map_err(|error| format!("{path}: {error}"))
 }
 
 /// The files of a folder.
 fn listed(folder: &str) -> Vec<String> {
-    let entries = fs::read_dir(format!("{ROOT}{folder}"))
+    let entries = fs::read_dir(from_top(folder))
         .into_iter()
         .flatten()
         .flatten();
@@ -169,13 +176,12 @@ fn others(files: &[File]) -> Vec<String> {
 
 /// Writes the files, and removes others beside them. Returns the failures.
 fn written(files: &[File]) -> Vec<String> {
-    let root = Path::new(ROOT);
     let written = files
         .iter()
-        .map(|(path, rust)| (path.clone(), fs::write(root.join(path), rust)));
+        .map(|(path, rust)| (path.clone(), fs::write(from_top(path), rust)));
     let removed = others(files)
         .into_iter()
-        .map(|path| (path.clone(), fs::remove_file(root.join(path))));
+        .map(|path| (path.clone(), fs::remove_file(from_top(&path))));
     let faults = written
         .chain(removed)
         .filter_map(|(path, result)| Some((path, result.err()?)));
