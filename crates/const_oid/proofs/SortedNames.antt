@@ -23,6 +23,7 @@ use Rattle.const_oid.proofs.BeginsWith.{is_before, is_under, under_iff, under_ap
 use Rattle.const_oid.proofs.ByParts.{run_between}
 use Rattle.const_oid.proofs.Encodings.{ref_encoding}
 use Rattle.const_oid.proofs.Parents.{none_of_two, two_arcs}
+use Rattle.const_oid.proofs.Subtree.{IsCut}
 use Rattle.const_oid.proofs.Tree.{child_of-parent_of}
 use Rattle.std.proofs.lemmas.Grind.{common_steps}
 use Rattle.std.proofs.lemmas.Bool.Decides.{nat_tests}
@@ -99,7 +100,7 @@ module _ (arcs : List ℕ) (entries : List (Entry ObjectIdentifierRef)) where
     far : (i j : ℕ) (d : Entry ObjectIdentifierRef) → i ≤ j → j < length entries → is_before (entry_arcs (get_or entries i d)) (entry_arcs (get_or entries j d)) ≡ false
     far = sorted_far _ (ranks_by nat_list_cmp_total entry_arcs) entries up
 
-    module _ (from : ℕ) (cut : IsPartitionPoint (λ entry. is_before arcs (entry_arcs entry) ≡ true) (λ entry. is_before arcs (entry_arcs entry) ≡ false) entries from) where
+    module _ (from : ℕ) (cut : IsCut (λ entry. is_before arcs (entry_arcs entry)) entries from) where
       early : (k : ℕ) (d : Entry ObjectIdentifierRef) → k < from → k < length entries → is_entry arcs (get_or entries k d) ≡ false
       early k d l m = none_before arcs (get_or entries k d) (cut.0 k d (omega arith) l)
 
@@ -148,7 +149,7 @@ module _ (arcs : List ℕ) (entries : List (Entry ObjectIdentifierRef)) where
             absurd (none-some (get_or (take index entries) (index - 1) d) (rw end at e ∙ slice_get-get_or (take index entries) (index - 1) d (omega arith)))
 
   -- the entries from one cut to the other are those that begin with the arcs
-  pub subtree_is : (from count : ℕ) → IsPartitionPoint (λ entry. is_before arcs (entry_arcs entry) ≡ true) (λ entry. is_before arcs (entry_arcs entry) ≡ false) entries from → IsPartitionPoint (λ entry. is_under arcs (entry_arcs entry) ≡ true) (λ entry. is_under arcs (entry_arcs entry) ≡ false) (drop from entries) count → IsSubtree entries arcs (take count (drop from entries))
+  pub subtree_is : (from count : ℕ) → IsCut (λ entry. is_before arcs (entry_arcs entry)) entries from → IsCut (λ entry. is_under arcs (entry_arcs entry)) (drop from entries) count → IsSubtree entries arcs (take count (drop from entries))
   subtree_is from count first second =
       let rest = drop from entries in
       record {

@@ -17,6 +17,10 @@ use Rattle.const_oid.specs.Tree.{BeginsWith}
 use Rattle.const_oid.proofs.Encodings.{ref_encoding}
 use Rattle.const_oid.proofs.BeginsWith.{is_before, is_under, is_within, under_iff, under_apart, before_down, within_down, iff_begins}
 
+-- a test holds of the elements below an index, and of no other
+abbrev pub IsCut : {X : Type 0} → (X → Bool) → List X → ℕ → Type 0
+IsCut p xs i = IsPartitionPoint (λ x. p x ≡ true) (λ x. p x ≡ false) xs i
+
 -- a test that goes down the order cuts a sorted list
 partitioned : {X : Type 0} (lt : X → X → Bool) → IsStrictWeakOrder lt → (p : X → Bool) → ((x z : X) → lt z x ≡ false → p z ≡ true → p x ≡ true) → (xs : List X) → IsSortedBy lt xs → IsPartitionedBy p xs
 partitioned lt order p down xs up i j d le l = down (get_or xs i d) (get_or xs j d) (sorted_far lt order xs up i j d le l)
@@ -36,7 +40,7 @@ module _ {X : Type 0} (p : X → Bool) where
   ] refl
 
 -- an index where a test cuts a list is the number of those that pass
-point_is_prefix : {X : Type 0} (p : X → Bool) (xs : List X) (a : ℕ) → a ≤ length xs → IsPartitionPoint (λ x. p x ≡ true) (λ x. p x ≡ false) xs a → a ≡ prefix_len p xs
+point_is_prefix : {X : Type 0} (p : X → Bool) (xs : List X) (a : ℕ) → a ≤ length xs → IsCut p xs a → a ≡ prefix_len p xs
 point_is_prefix p [] a l cut = omega (arith)
 point_is_prefix p (x ∷ xs) zero l cut = rw (cut.1 0 x (omega arith) (omega arith)) refl
 point_is_prefix p (x ∷ xs) (suc a) l cut =
@@ -49,10 +53,10 @@ point_is_prefix p (x ∷ xs) (suc a) l cut =
       ),
     ))
 
-pub point_is_count : {X : Type 0} (p : X → Bool) (xs : List X) (a : ℕ) → IsPartitionedBy p xs → a ≤ length xs → IsPartitionPoint (λ x. p x ≡ true) (λ x. p x ≡ false) xs a → a ≡ count_by p xs
+pub point_is_count : {X : Type 0} (p : X → Bool) (xs : List X) (a : ℕ) → IsPartitionedBy p xs → a ≤ length xs → IsCut p xs a → a ≡ count_by p xs
 point_is_count p xs a by l cut = point_is_prefix p xs a l cut ∙ sym (count_by-prefix p xs by)
 
-module _ {X : Type 0} (p b : X → Bool) (apart : (x : X) → b x ≡ true → p x ≡ false) (xs : List X) (from : ℕ) (first : IsPartitionPoint (λ x. p x ≡ true) (λ x. p x ≡ false) xs from) where
+module _ {X : Type 0} (p b : X → Bool) (apart : (x : X) → b x ≡ true → p x ≡ false) (xs : List X) (from : ℕ) (first : IsCut p xs from) where
   index_after : (k : ℕ) (d : X) → from ≤ k → get_or (drop from xs) (k - from) d ≡ get_or xs k d
   index_after k d l = get_or-drop from xs (k - from) d ∙ ap (λ i. get_or xs i d) (omega arith)
 
@@ -68,7 +72,7 @@ module _ {X : Type 0} (p b : X → Bool) (apart : (x : X) → b x ≡ true → p
   index count k q c early inside late apart = search rules
 
   -- those that pass it are from there on to the other's cut
-  between_points : (count : ℕ) → IsPartitionPoint (λ x. b x ≡ true) (λ x. b x ≡ false) (drop from xs) count → (k : ℕ) (d : X) → k < length xs → (b (get_or xs k d) ≡ true) ↔ ((from ≤ k) × (k < from + count))
+  between_points : (count : ℕ) → IsCut b (drop from xs) count → (k : ℕ) (d : X) → k < length xs → (b (get_or xs k d) ≡ true) ↔ ((from ≤ k) × (k < from + count))
   between_points count second k d l =
       let x = get_or xs k d in
       index count k (p x) (b x)
@@ -95,7 +99,7 @@ module _ (prefix : ObjectIdentifierRef) where
   ref_under_apart oid = under_apart (ref_octets prefix) (ref_octets oid)
 
   -- what is where, by the index where the one test cuts the list and that where the other cuts the rest
-  pub range_between : (sorted : List ObjectIdentifierRef) (from count : ℕ) → IsPartitionPoint (λ oid. ref_is_before oid ≡ true) (λ oid. ref_is_before oid ≡ false) sorted from → IsPartitionPoint (λ oid. ref_is_under oid ≡ true) (λ oid. ref_is_under oid ≡ false) (drop from sorted) count → (k : ℕ) → IfSome (slice_get sorted k) (λ oid. BeginsWith (ref_arcs oid) (ref_arcs prefix) ↔ ((from ≤ k) × (k < from + count)))
+  pub range_between : (sorted : List ObjectIdentifierRef) (from count : ℕ) → IsCut ref_is_before sorted from → IsCut ref_is_under (drop from sorted) count → (k : ℕ) → IfSome (slice_get sorted k) (λ oid. BeginsWith (ref_arcs oid) (ref_arcs prefix) ↔ ((from ≤ k) × (k < from + count)))
   range_between sorted from count first second k = ⊎_elim
       (λ (oid, l, e, read).
       let (back, inside) = rw read at (between_points ref_is_before ref_is_under ref_under_apart sorted from first count second k oid l) in
@@ -114,6 +118,6 @@ module _ {X : Type 0} (key : X → List ℕ) (prefix : List ℕ) (sorted : List 
   pub cut_before : IsPartitionedBy (λ x. is_before prefix (key x)) sorted
   cut_before = cut_by (is_before prefix) (before_down prefix)
 
-  pub cut_after : (from : ℕ) → IsPartitionPoint (λ x. is_before prefix (key x) ≡ true) (λ x. is_before prefix (key x) ≡ false) sorted from → IsPartitionedBy (λ x. is_under prefix (key x)) (drop from sorted)
+  pub cut_after : (from : ℕ) → IsCut (λ x. is_before prefix (key x)) sorted from → IsPartitionedBy (λ x. is_under prefix (key x)) (drop from sorted)
   cut_after from first =
       other_after (λ x. is_before prefix (key x)) (λ x. is_under prefix (key x)) (λ x. under_apart prefix (key x)) sorted from first (cut_by (is_within prefix) (within_down prefix))
