@@ -89,17 +89,14 @@ longer rule p x a b ep ex bx l = let (rest, e) = encoding_prefix rule p x a b ep
 -- an ancestor comes before its descendants, in both orders
 pub ancestor_short : {rule : RootRule} {p x a b : List ℕ} → IsEncoding rule p a → IsEncoding rule x b → BeginsWith x p → length p < length x → shortlex_cmp a b ≡ Less
 ancestor_short {rule} {p} {x} {a} {b} ep ex bx l =
-    let (rest, e, some) = longer rule p x a b ep ex bx l in
-    shortlex_cmp-less a b (omega (arith, ap length e, length-append a rest))
+    search (arith, longer rule p x a b ep ex bx l, shortlex_cmp-less, length-append)
 
 pub before_more : (a rest : List ℕ) → 0 < length rest → slice_cmp nat_cmp a (a ++ rest) ≡ Less
 before_more a [] some = absurd (omega arith)
 before_more a (y ∷ ys) some = rw append-nil at (slice_cmp-prefix a [] (y ∷ ys))
 
 pub ancestor_before : {rule : RootRule} {p x a b : List ℕ} → IsEncoding rule p a → IsEncoding rule x b → BeginsWith x p → length p < length x → slice_cmp nat_cmp a b ≡ Less
-ancestor_before {rule} {p} {x} {a} {b} ep ex bx l =
-    let (rest, e, some) = longer rule p x a b ep ex bx l in
-    rw e (before_more a rest some)
+ancestor_before {rule} {p} {x} {a} {b} ep ex bx l = search (arith, longer rule p x a b ep ex bx l, before_more)
 
 -- ---- by tests
 
@@ -113,9 +110,7 @@ abbrev pub is_within : List ℕ → List ℕ → Bool
 is_within prefix list = is_before prefix list || is_under prefix list
 
 pub under_iff : (prefix list : List ℕ) → (is_under prefix list ≡ true) ↔ BeginsWith list prefix
-under_iff prefix list =
-    let (rest, given) = starts_is unsigned_Decides list prefix (is_under prefix list) refl in
-    (λ t. (drop (length prefix) list, rest t), λ b. given b.0 b.1)
+under_iff prefix list = grind (arith, nat_tests, starts_is unsigned_Decides list prefix (is_under prefix list) refl)
 
 pub tells_under : (prefix list : List ℕ) (test : Bool) → IsTrue test ↔ BeginsWith list prefix → test ≡ is_under prefix list
 tells_under prefix list test tells = grind (arith, both_ways, under_iff)

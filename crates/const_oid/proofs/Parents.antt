@@ -44,8 +44,7 @@ but_last parts last = grind (arith, nat_tests, common_steps, length-append, take
 
 without_last_part : (octets prefix : List ℕ) (x index : ℕ) → octets ≡ prefix ++ x ∷ [] → index ≤ length prefix → ((k : ℕ) → index ≡ suc k → slice_index prefix k < 128) → ((k : ℕ) → index ≤ k → k < length prefix → 128 ≤ slice_index prefix k) → let parts = cut octets in cut (take index prefix) ≡ take (length parts - 1) parts
 without_last_part octets prefix x index is inside final more =
-    let (last, e) = cut_push prefix x index inside final more in
-    rw (is, e) (sym (but_last (cut (take index prefix)) last))
+    search (arith, cut_push prefix x index inside final more, but_last)
 
 -- the octets before the last part, after the last octet below 128
 pub cut-without_last_part : (octets prefix : List ℕ) (x index : ℕ) → octets ≡ prefix ++ x ∷ [] → index < length prefix → slice_index prefix index < 128 → ((k : ℕ) → index < k → k < length prefix → 128 ≤ slice_index prefix k) → let parts = cut octets in cut (take (index + 1) prefix) ≡ take (length parts - 1) parts
@@ -110,6 +109,4 @@ two_arcs rule arcs i = search rules
 -- and of one part there are none
 pub parent_of_one : {rule : RootRule} {arcs octets : List ℕ} → IsEncoding rule arcs octets → (parent_of arcs ≡ None) ↔ (length (cut octets) ≡ 1)
 parent_of_one {rule} {arcs} {octets} e =
-    let long = length_by_parts rule arcs octets e in
-    let (to, from) = none_of_two arcs (two_arcs rule arcs e.identifier) in
-    (λ none. omega (arith, to none), λ one. from (omega arith))
+    grind (arith, nat_tests, length_by_parts rule arcs octets e, none_of_two arcs (two_arcs rule arcs e.identifier))
