@@ -1,11 +1,11 @@
 -- What begins with a prefix: encodings do exactly where their arcs do, and are adjacent in lexicographic order.
-use Rattle.std.proofs.Common.{◌≡◌, ℕ, ◌+◌, List, [], ◌∷◌, ◌++◌, refl, sym, ap, ap₂, ◌∙◌, append_assoc, ◌≢◌, ◌<◌, length, arith, Less, Greater, nat_cmp, append-nil, length-append, Bool, true, false, ◌||◌, drop, nat_eq}
+use Rattle.std.proofs.Common.{◌≡◌, ℕ, ◌+◌, List, [], ◌∷◌, ◌++◌, refl, sym, ap, ap₂, ◌∙◌, append_assoc, ◌≢◌, ◌<◌, length, arith, Less, Greater, nat_cmp, append-nil, length-append, Bool, true, false, ◌||◌, nat_eq}
 use Rattle.std.specs.List.{AllZip, concat, starts_with}
 use Rattle.std.specs.Prelude.{◌↔◌, IsTrue}
 use Rattle.std.specs.Cmp.Lexicographic.{slice_cmp}
-use Rattle.std.specs.Cmp.{both_ways, unsigned_Decides, ranks}
+use Rattle.std.specs.Cmp.{unsigned_Decides, ranks}
 use Rattle.std.specs.Ordering.{is_lt, ordering_reverse}
-use Rattle.std.proofs.lemmas.Bool.{cases_Bool, or_cases, or_left, or_right, true_from_ne_false}
+use Rattle.std.proofs.lemmas.Bool.{or_cases, or_left, or_right}
 use Rattle.std.proofs.lemmas.Cmp.{nat_list_cmp_total, by_ranked}
 use Rattle.std.proofs.lemmas.List.Sorted.{ranks_by}
 use Rattle.std.proofs.lemmas.Slice.Eq.{starts_is}
@@ -14,9 +14,9 @@ use Rattle.const_oid.specs.Identifier.{RootRule, IsEncoding, subidentifiers}
 use Rattle.const_oid.specs.Tree.{BeginsWith}
 use Rattle.const_oid.specs.Orders.{shortlex_cmp}
 use Rattle.const_oid.proofs.Groups.{same_prefix, same_group}
-use Rattle.const_oid.proofs.Subidentifiers.{arcs_back, arcs_from-append}
+use Rattle.const_oid.proofs.Subidentifiers.{arcs_back}
 use Rattle.const_oid.proofs.Encodings.{same_arcs}
-use Rattle.const_oid.proofs.Orders.{shortlex_cmp-less, slice_cmp-prefix}
+use Rattle.const_oid.proofs.Orders.{slice_cmp-prefix}
 use Rattle.std.proofs.lemmas.Grind.{common_steps}
 use Rattle.std.proofs.lemmas.Bool.Decides.{nat_tests}
 
@@ -45,7 +45,7 @@ octets_prefix _ more _ _ p q = absurd assumption
 
 -- the arcs of p begin those of x
 pub arcs_prefix : (rule : RootRule) (p x a b : List ℕ) → IsEncoding rule p a → IsEncoding rule x b → BeginsWith b a → BeginsWith x p
-arcs_prefix rule p x a b e f s = grind (arith, numbers_prefix, arcs_back, arcs_from-append)
+arcs_prefix rule p x a b e f s = grind (arith, numbers_prefix, arcs_back)
 
 -- the octets of p begin those of x
 pub encoding_prefix : (rule : RootRule) (p x a b : List ℕ) → IsEncoding rule p a → IsEncoding rule x b → BeginsWith x p → BeginsWith b a
@@ -88,8 +88,7 @@ longer rule p x a b ep ex bx l = let (rest, e) = encoding_prefix rule p x a b ep
 
 -- an ancestor comes before its descendants, in both orders
 pub ancestor_short : {rule : RootRule} {p x a b : List ℕ} → IsEncoding rule p a → IsEncoding rule x b → BeginsWith x p → length p < length x → shortlex_cmp a b ≡ Less
-ancestor_short {rule} {p} {x} {a} {b} ep ex bx l =
-    search (arith, longer rule p x a b ep ex bx l, shortlex_cmp-less, length-append)
+ancestor_short {rule} {p} {x} {a} {b} ep ex bx l = search (arith, longer rule p x a b ep ex bx l, length-append)
 
 pub before_more : (a rest : List ℕ) → 0 < length rest → slice_cmp nat_cmp a (a ++ rest) ≡ Less
 before_more a [] some = absurd (omega arith)
@@ -113,7 +112,7 @@ pub under_iff : (prefix list : List ℕ) → (is_under prefix list ≡ true) ↔
 under_iff prefix list = grind (arith, nat_tests, starts_is unsigned_Decides list prefix (is_under prefix list) refl)
 
 pub tells_under : (prefix list : List ℕ) (test : Bool) → IsTrue test ↔ BeginsWith list prefix → test ≡ is_under prefix list
-tells_under prefix list test tells = grind (arith, both_ways, under_iff)
+tells_under prefix list test tells = grind (arith, under_iff)
 
 not_before_nil : (list : List ℕ) → is_before [] list ≡ false
 not_before_nil [] = refl
@@ -121,12 +120,11 @@ not_before_nil (x ∷ xs) = refl
 
 -- what begins with the prefix is not before it
 pub under_apart : (prefix list : List ℕ) → is_under prefix list ≡ true → is_before prefix list ≡ false
-under_apart prefix list t =
-    grind (arith, nat_tests, common_steps, under_iff, append-nil, slice_cmp-prefix, not_before_nil)
+under_apart prefix list t = grind (arith, nat_tests, common_steps, under_iff, slice_cmp-prefix, not_before_nil)
 
 -- what is not after a list before the prefix is before it
 pub before_down : (prefix x z : List ℕ) → is_before x z ≡ false → is_before prefix z ≡ true → is_before prefix x ≡ true
-before_down prefix x z level t = grind (arith, true_from_ne_false, ranks_by, nat_list_cmp_total)
+before_down prefix x z level t = grind (arith, ranks_by, nat_list_cmp_total)
 
 pub not_greater : (x z : List ℕ) → is_before x z ≡ false → slice_cmp nat_cmp x z ≢ Greater
 not_greater x z level greater = cc (level, ap is_lt (nat_list_cmp_total.antisymm z x ∙ ap ordering_reverse greater))
@@ -134,4 +132,4 @@ not_greater x z level greater = cc (level, ap is_lt (nat_list_cmp_total.antisymm
 -- what is not after a list that is before the prefix or begins with it is so too
 pub within_down : (prefix x z : List ℕ) → is_before x z ≡ false → is_within prefix z ≡ true → is_within prefix x ≡ true
 within_down prefix x z level t =
-    grind (arith, nat_tests, common_steps, or_left, before_down, under_iff, between, append-nil, not_greater, or_right, cases_Bool, or_cases)
+    grind (arith, nat_tests, common_steps, or_left, before_down, under_iff, between, append-nil, not_greater, or_right, or_cases)

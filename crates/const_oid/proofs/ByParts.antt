@@ -16,7 +16,7 @@ use Rattle.const_oid.specs.Tree.{BeginsWith}
 use Rattle.const_oid.proofs.BeginsWith.{before_more, between}
 use Rattle.const_oid.proofs.Cutting.{cut_after-last, cut_after-more}
 use Rattle.const_oid.proofs.Encodings.{cut_encoding, same_arcs, same_octets}
-use Rattle.const_oid.proofs.Orders.{groups_cmp, groups_short, nat_cmp-add, shortlex_cmp-less}
+use Rattle.const_oid.proofs.Orders.{groups_cmp, groups_short, shortlex_cmp-less}
 use Rattle.std.proofs.lemmas.Bool.Decides.{nat_tests}
 use Rattle.std.proofs.lemmas.Grind.{common_steps}
 
@@ -41,7 +41,7 @@ onto_same x (y ∷ xs) [] = search rules
 onto_same x (y ∷ xs) (z ∷ ys) = grind (arith, nat_tests)
 
 same_first : (x : ℕ) (xs ys : List ℕ) → parts_cmp (x ∷ xs) (x ∷ ys) ≡ parts_cmp xs ys
-same_first x xs ys = grind (arith, cut_after-last, tied_itself, shortlex_cmp_total, cut_after-more, onto_same, cases_lt)
+same_first x xs ys = grind (arith, cut_after-last, tied_itself, cut_after-more, onto_same, cases_lt)
 
 -- what lists begin with alike does not decide
 same_prefix : (g x y : List ℕ) → parts_cmp (g ++ x) (g ++ y) ≡ parts_cmp x y
@@ -65,7 +65,7 @@ ended (x ∷ xs) [] e = let (p, ps, f) = begins x xs in rw f (nat_cmp_is (length
 ended (x ∷ xs) (y ∷ ys) e = absurd (omega arith)
 
 pub ended_at : (a b : List ℕ) (n : ℕ) → n ≡ min (length a) (length b) → parts_cmp (drop n a) (drop n b) ≡ nat_cmp (length a) (length b)
-ended_at a b n e = grind (arith, length-drop, ended, nat_cmp-add)
+ended_at a b n e = grind (arith, length-drop, ended)
 
 -- ---- the order of the arcs
 

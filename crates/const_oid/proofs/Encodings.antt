@@ -22,9 +22,6 @@ use Rattle.const_oid.proofs.Cutting.{cut_chains, concat-cut, IsPart, parts_are, 
 shortest : (part : List ℕ) → begins_with_128 part ≡ false → slice_index part 0 ≢ 128
 shortest part h = search rules
 
-begins_with_128-not : (part : List ℕ) → slice_index part 0 ≢ 128 → begins_with_128 part ≡ false
-begins_with_128-not part h = search rules
-
 -- the part is the group of a number that is at most the limit
 abbrev IsGroupUpTo : ℕ → List ℕ → Type 0
 IsGroupUpTo limit part = IsGroup (value_of part) part × (value_of part ≤ limit)
@@ -34,10 +31,10 @@ pub part_tests : (limit : ℕ) (part : List ℕ) → part_fault limit part ≡ N
 part_tests limit part h = (grind (arith, nat_tests), grind (arith, nat_tests), grind (arith, nat_tests))
 
 part_valid : (limit : ℕ) (part : List ℕ) → IsPart part → part_fault limit part ≡ None → IsGroupUpTo limit part
-part_valid limit part p h = grind (arith, part_tests, chain_from_part, shortest)
+part_valid limit part p h = grind (arith, chain_from_part, shortest)
 
 pub part_none : (limit : ℕ) {n : ℕ} {part : List ℕ} → IsGroup n part → n ≤ limit → part_fault limit part ≡ None
-part_none limit {part} g l = grind (arith, begins_with_128-not, shortest, le-ltb, finished_from_chain)
+part_none limit {part} g l = grind (arith, shortest, le-ltb, finished_from_chain)
 
 -- ---- all parts
 
@@ -65,7 +62,7 @@ first_none Narrow n part g l = rw (group-small (omega arith) g, le-ltb 119 n l)
 first_none Wide n part g l = part_none (max_first Wide) g l
 
 parts_valid : (rule : RootRule) (parts : List (List ℕ)) → AllByRecursion IsPart parts → parts_fault rule parts ≡ None → AllZip IsGroup (map value_of parts) parts × InRange rule (map value_of parts)
-parts_valid rule parts p h = grind (arith, both_none, first_valid, later_valid)
+parts_valid rule parts p h = grind (arith, first_valid, later_valid)
 
 parts_none : (rule : RootRule) (numbers : List ℕ) (groups : List (List ℕ)) → AllZip IsGroup numbers groups → InRange rule numbers → parts_fault rule groups ≡ None
 parts_none rule (n ∷ ns) (p ∷ ps) g l = rw (first_none rule n p g.0 l.0) (later_none ns ps g.1 l.1)
@@ -89,7 +86,7 @@ cut_encoding rule arcs octets e = grind (arith, cut_chains, groups_continued)
 
 -- octets without a fault are the encoding of their arcs
 pub encoding_from_none : (rule : RootRule) (octets : List ℕ) → AreOctets octets → parts_fault rule (cut octets) ≡ None → IsEncoding rule (arcs_of_octets octets) octets
-encoding_from_none rule octets bytes h = grind (arith, parts_valid, parts_are, identifier, numbers_back, concat-cut)
+encoding_from_none rule octets bytes h = grind (arith, parts_valid, parts_are, numbers_back, concat-cut)
 
 -- an encoding has no faulty part
 pub none_from_encoding : {rule : RootRule} {arcs octets : List ℕ} → IsEncoding rule arcs octets → parts_fault rule (cut octets) ≡ None
@@ -134,7 +131,7 @@ groups_are (n ∷ ns) = (group_is n, groups_are ns)
 
 pub encoding_is : (rule : RootRule) (arcs : List ℕ) → IsIdentifier rule arcs → IsEncoding rule arcs (encoding_of arcs)
 unfolding encoding_of
-encoding_is rule arcs h = grind (arith, identifier, groups_are)
+encoding_is rule arcs h = grind (arith, groups_are)
 
 same_groups : (numbers : List ℕ) (gs hs : List (List ℕ)) → AllZip IsGroup numbers gs → AllZip IsGroup numbers hs → gs ≡ hs
 same_groups [] [] [] p q = refl

@@ -7,14 +7,14 @@ use Rattle.const_oid.specs.Identifier.{RootRule, max_arc, max_second, IsIdentifi
 use Rattle.const_oid.specs.Error.{fault_if}
 use Rattle.const_oid.specs.Items.{arc_fault, too_few_fault, items_fault, item_fault}
 use Rattle.const_oid.proofs.Lists.{append-cons, all_append}
-use Rattle.const_oid.proofs.Faults.{both_none, below_from_none, none_from_below}
-use Rattle.const_oid.proofs.Subidentifiers.{first_in_range}
+use Rattle.const_oid.proofs.Faults.{both_none}
 use Rattle.const_oid.proofs.Lengths.{size-cons, size_prefix, root_short}
 use Rattle.std.proofs.lemmas.Grind.{common_steps}
 
 -- a second arc is rejected for its range alone
 pub second_fits : (rule : RootRule) (capacity : ℕ) (first second : ℕ) → 5 ≤ capacity → first ≤ 2 → arc_fault rule capacity (first ∷ []) second ≡ fault_if (nat_lt (max_second rule first) second) (ArcInvalid second)
-second_fits rule capacity first second fits low = grind (arith, nat_tests, root_short rule (40 * first + second), first_in_range rule first second low, size-cons first second [])
+second_fits rule capacity first second fits low =
+    grind (arith, nat_tests, root_short rule (40 * first + second), size-cons first second [])
 
 -- ---- arcs so far
 
@@ -26,12 +26,11 @@ IsBegun rule capacity (a ∷ b ∷ later) = IsIdentifier rule (a ∷ b ∷ later
 
 -- one more arc without a fault
 pub begun_more : (rule : RootRule) (capacity : ℕ) (before : List ℕ) (arc : ℕ) → IsBegun rule capacity before → arc ≤ max_arc → arc_fault rule capacity before arc ≡ None → IsBegun rule capacity (before ++ arc ∷ [])
-begun_more rule capacity before arc b l h = grind (arith, below_from_none, all_append)
+begun_more rule capacity before arc b l h = grind (arith, all_append)
 
 -- an arc of an identifier that fits has no fault
 pub arc_none : (rule : RootRule) (capacity : ℕ) (before : List ℕ) (arc : ℕ) (rest : List ℕ) → IsIdentifier rule (before ++ arc ∷ rest) → size (before ++ arc ∷ rest) ≤ capacity → arc_fault rule capacity before arc ≡ None
-arc_none rule capacity before arc rest i s =
-    grind (arith, nat_tests, common_steps, none_from_below, size_prefix, le-ltb, append_assoc)
+arc_none rule capacity before arc rest i s = grind (arith, nat_tests, common_steps, size_prefix, le-ltb, append_assoc)
 
 -- ---- whole lists
 

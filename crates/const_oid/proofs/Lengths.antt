@@ -7,7 +7,6 @@ use Rattle.const_oid.specs.Base128.{width, IsGroup, IsContinued}
 use Rattle.const_oid.specs.Identifier.{RootRule, Narrow, Wide, IsIdentifier, size, IsEncoding, subidentifiers}
 use Rattle.const_oid.specs.Contents.{max_first, cut}
 use Rattle.const_oid.proofs.Groups.{width_is, length_is, small_is}
-use Rattle.const_oid.proofs.Subidentifiers.{first_in_range}
 use Rattle.const_oid.proofs.Encodings.{groups_continued, cut_encoding}
 
 -- ---- octets of arcs
@@ -33,7 +32,7 @@ pub length_is_size : {rule : RootRule} {arcs octets : List ℕ} → IsEncoding r
 length_is_size {arcs} e = rw e.joined (length-groups (subidentifiers arcs) e.groups e.each)
 
 pub size-narrow : (a b : ℕ) (later : List ℕ) → IsIdentifier Narrow (a ∷ b ∷ later) → size (a ∷ b ∷ later) ≡ 1 + sum_by width later
-size-narrow a b later i = grind (arith, first_in_range, size-cons, length_is, small_is)
+size-narrow a b later i = grind (arith, size-cons, length_is, small_is)
 
 -- one arc more
 pub size_push : (rule : RootRule) (arcs octets : List ℕ) (arc : ℕ) → IsEncoding rule arcs octets → size (arcs ++ arc ∷ []) ≡ length octets + width arc

@@ -4,17 +4,15 @@ use Rattle.std.specs.Prelude.{◌↔◌}
 use Rattle.std.specs.List.{onto_first, concat}
 use Rattle.std.proofs.lemmas.List.{length-map, take-map, take-append-drop}
 use Rattle.std.proofs.lemmas.List.Folds.{concat-append}
-use Rattle.std.proofs.Math.Seq.{take-append_seam}
 use Rattle.std.proofs.lemmas.Bool.Decides.{nat_tests}
 use Rattle.const_oid.specs.Base128.{value_of}
-use Rattle.const_oid.specs.Identifier.{RootRule, max_arc, IsIdentifier, IsEncoding}
-use Rattle.const_oid.specs.Contents.{cut, cut_after, part_fault, later_fault, parts_fault, arcs_from, arcs_of_octets}
+use Rattle.const_oid.specs.Identifier.{RootRule, IsIdentifier, IsEncoding}
+use Rattle.const_oid.specs.Contents.{cut, cut_after, later_fault, parts_fault, arcs_from, arcs_of_octets}
 use Rattle.const_oid.specs.Tree.{BeginsWith, parent_of}
-use Rattle.const_oid.proofs.Faults.{both_none}
 use Rattle.const_oid.proofs.Tree.{child_of-parent_of}
 use Rattle.const_oid.proofs.Children.{encoding_parent}
 use Rattle.const_oid.proofs.Lengths.{length_by_parts}
-use Rattle.const_oid.proofs.Cutting.{cut_after-last, cut_after-more, cut_after-some, cut-some, concat-cut}
+use Rattle.const_oid.proofs.Cutting.{cut_after-last, cut_after-more, cut-some, concat-cut}
 use Rattle.std.proofs.lemmas.Grind.{common_steps}
 
 -- ---- where the last part begins
@@ -36,11 +34,11 @@ cut_push (y ∷ ys) x (suc zero) inside final more =
     let one = cut_one ys x (λ k l. more (suc k) (omega arith) (omega arith)) in
     (ys ++ x ∷ [], rw (cut_after-last y (cut (ys ++ x ∷ [])) (final 0 refl), cut_after-last y [] (final 0 refl)) (ap (λ parts. (y ∷ []) ∷ parts) one))
 cut_push (y ∷ z ∷ zs) x (suc (suc k)) inside final more =
-    grind (arith, cut_after-push, cut_after-some, cut_push (z ∷ zs) x (suc k) (omega arith) (λ i s. final (suc i) (omega arith)) (λ i l r. more (suc i) (omega arith) (omega arith)))
+    grind (arith, cut_after-push, cut_push (z ∷ zs) x (suc k) (omega arith) (λ i s. final (suc i) (omega arith)) (λ i l r. more (suc i) (omega arith) (omega arith)))
 cut_push _ x _ inside final more = absurd (omega arith)
 
 but_last : (parts : List (List ℕ)) (last : List ℕ) → take (length (parts ++ last ∷ []) - 1) (parts ++ last ∷ []) ≡ parts
-but_last parts last = grind (arith, nat_tests, common_steps, length-append, take-append_seam)
+but_last parts last = grind (arith, nat_tests, common_steps, length-append)
 
 without_last_part : (octets prefix : List ℕ) (x index : ℕ) → octets ≡ prefix ++ x ∷ [] → index ≤ length prefix → ((k : ℕ) → index ≡ suc k → slice_index prefix k < 128) → ((k : ℕ) → index ≤ k → k < length prefix → 128 ≤ slice_index prefix k) → let parts = cut octets in cut (take index prefix) ≡ take (length parts - 1) parts
 without_last_part octets prefix x index is inside final more =
@@ -59,14 +57,14 @@ cut-before_only octets prefix x is more = without_last_part octets prefix x 0 is
 later_fault-take : (k : ℕ) (parts : List (List ℕ)) → later_fault parts ≡ None → later_fault (take k parts) ≡ None
 later_fault-take zero parts h = refl
 later_fault-take (suc k) [] h = refl
-later_fault-take (suc k) (part ∷ parts) h = grind (arith, nat_tests, both_none (part_fault max_arc part) (later_fault parts) h, later_fault-take k parts)
+later_fault-take (suc k) (part ∷ parts) h = grind (arith, nat_tests, later_fault-take k parts)
 
 fault_before : (rule : RootRule) (k : ℕ) (parts : List (List ℕ)) → take k parts ≢ [] → parts_fault rule parts ≡ None → parts_fault rule (take k parts) ≡ None
-fault_before rule k parts some h = search (rules, some, both_none, later_fault-take)
+fault_before rule k parts some h = search (rules, some, later_fault-take)
 
 -- they have no fault
 pub none_without_last_part : (rule : RootRule) (octets prefix : List ℕ) → (let parts = cut octets in cut prefix ≡ take (length parts - 1) parts) → prefix ≢ [] → parts_fault rule (cut octets) ≡ None → parts_fault rule (cut prefix) ≡ None
-none_without_last_part rule octets prefix e some h = grind (arith, fault_before, cut-some, some)
+none_without_last_part rule octets prefix e some h = grind (arith, fault_before, cut-some)
 
 parent_of-some : (a b c : ℕ) (later : List ℕ) → parent_of (a ∷ b ∷ c ∷ later) ≡ Some (a ∷ b ∷ take (length later) (c ∷ later))
 parent_of-some a b c later =
@@ -92,7 +90,7 @@ prefix_from_parts octets prefix k e =
 
 -- their arcs are the parent's
 pub parent_without_last_part : (octets prefix : List ℕ) → (let parts = cut octets in cut prefix ≡ take (length parts - 1) parts) → prefix ≢ [] → parent_of (arcs_of_octets octets) ≡ Some (arcs_of_octets prefix)
-parent_without_last_part octets prefix e some = grind (arith, parent_of-parts, cut-some, some)
+parent_without_last_part octets prefix e some = grind (arith, parent_of-parts, cut-some)
 
 -- ---- a parent's octets, whatever the rule
 
@@ -108,5 +106,4 @@ two_arcs rule arcs i = search rules
 
 -- and of one part there are none
 pub parent_of_one : {rule : RootRule} {arcs octets : List ℕ} → IsEncoding rule arcs octets → (parent_of arcs ≡ None) ↔ (length (cut octets) ≡ 1)
-parent_of_one {rule} {arcs} {octets} e =
-    grind (arith, nat_tests, length_by_parts rule arcs octets e, none_of_two arcs (two_arcs rule arcs e.identifier))
+parent_of_one {rule} {arcs} {octets} e = grind (arith, nat_tests, length_by_parts rule arcs octets e)

@@ -44,10 +44,10 @@ pub arcs_small : (rule : RootRule) (arcs : List ℕ) → IsIdentifier rule arcs 
 arcs_small rule arcs i = search rules
 
 pieces_of-text_of : (rule : RootRule) (arcs : List ℕ) → IsIdentifier rule arcs → pieces_of (text_of arcs) ≡ map decimal arcs
-pieces_of-text_of rule arcs i = grind (arith, pieces_of-join, decimals_are, arcs_small)
+pieces_of-text_of rule arcs i = grind (arith, pieces_of-join, decimals_are)
 
 pub text_denotes : (rule : RootRule) (arcs : List ℕ) → IsIdentifier rule arcs → Denotes rule (text_of arcs) arcs
-text_denotes rule arcs i = grind (arith, pieces_of-text_of, arcs_small, decimals_are, numbers_of-decimals)
+text_denotes rule arcs i = grind (arith, pieces_of-text_of, decimals_are, numbers_of-decimals)
 
 -- no text denotes two lists
 pub same_denoted : (rule : RootRule) (text a b : List ℕ) → Denotes rule text a → Denotes rule text b → a ≡ b
@@ -63,7 +63,7 @@ stripped_pieces [] p l = refl
 stripped_pieces (piece ∷ pieces) p l = search (decimal-number_of, stripped_pieces pieces p.1 l.1)
 
 pub text_of-denoted : (rule : RootRule) (text arcs : List ℕ) → Denotes rule text arcs → text_of arcs ≡ strip text
-text_of-denoted rule text arcs d = grind (arith, arcs_small, stripped_pieces)
+text_of-denoted rule text arcs d = grind (arith, stripped_pieces)
 
 -- ---- pieces without a fault
 
@@ -148,7 +148,7 @@ text_left-cons true arc arcs = text_of-first arc arcs
 text_left-cons false arc arcs = ap (λ l. 46 ∷ l) (text_of-first arc arcs)
 
 pub length-text_left : (is_first : Bool) (arc : ℕ) (arcs : List ℕ) → length (text_left is_first (arc ∷ arcs)) ≡ length (arc_text is_first arc) + length (text_left false arcs)
-length-text_left is_first arc arcs = search (text_left-cons, arc, length-append, arc_text)
+length-text_left is_first arc arcs = search (text_left-cons, arc, length-append)
 
 pub text_left-nil : (is_first : Bool) → text_left is_first [] ≡ []
 text_left-nil true = refl
@@ -164,4 +164,4 @@ text_ascii rule arcs i = texts_ascii true arcs (arcs_small rule arcs i)
 
 -- the first two arcs take no more than all
 pub root_within : (arcs : List ℕ) → length (text_of (take 2 arcs)) ≤ length (text_of arcs)
-root_within arcs = grind (arith, text_of-first, length-append)
+root_within arcs = grind (arith, length-append)

@@ -1,14 +1,13 @@
 -- Parents and children as lists.
 use Rattle.std.proofs.Common.{◌≡◌, ℕ, ◌+◌, ◌-◌, ◌≤◌, List, [], ◌∷◌, ◌++◌, Some, refl, sym, ap, subst, ◌∙◌, arith, lt-ltb, length-append}
 use Rattle.std.specs.List.{AllByRecursion}
-use Rattle.std.proofs.Math.Seq.{take-append_seam}
 use Rattle.const_oid.specs.Identifier.{RootRule, max_arc, IsIdentifier}
 use Rattle.const_oid.specs.Tree.{child_of, parent_of}
 use Rattle.std.proofs.lemmas.Grind.{common_steps}
 use Rattle.std.proofs.lemmas.Bool.Decides.{nat_tests}
 
 pub parent_of-child_of : (rule : RootRule) (arcs : List ℕ) (arc : ℕ) → IsIdentifier rule arcs → parent_of (child_of arcs arc) ≡ Some arcs
-parent_of-child_of rule arcs arc i = grind (arith, nat_tests, common_steps, length-append, lt-ltb, take-append_seam)
+parent_of-child_of rule arcs arc i = grind (arith, nat_tests, common_steps, length-append, lt-ltb)
 
 -- a list by its last number
 record IsSplit (xs : List ℕ) : Type 0 where
