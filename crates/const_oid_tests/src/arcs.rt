@@ -1,8 +1,8 @@
-//! The arcs of both forms: `len`, `arc` and `arcs`.
+//! The arcs of both forms: `len` and `arc`.
 
-use crate::vectors::{FIRST_GROUPS, long_octets};
+use crate::vectors::long_octets;
 use const_oid::arcs::Arc;
-use const_oid::{Error, ObjectIdentifier, ObjectIdentifierRef};
+use const_oid::{ObjectIdentifier, ObjectIdentifierRef};
 use std::alloc::AllocError;
 
 /// How octets begin, how many octets 01 follow, how they end; how many arcs they have, and the arcs at
@@ -79,37 +79,6 @@ fn counts_and_arcs(rt: HostRuntime) -> Result<(), AllocError> {
     for (number, (prefix, ones, end, count, arcs)) in ROWS.iter().enumerate() {
         let octets = long_octets(rt.alloc(), prefix, *ones, end)?;
         assert!(rt; has_arcs(octets.as_slice(), *count, arcs), "row {number}");
-    }
-    Ok(())
-}
-
-/// Numbers of octets around 32, 64 and 96.
-const LENGTHS: &[usize] = &[31, 32, 33, 63, 64, 65, 95, 96, 97];
-
-/// A first group has two arcs, and each octet 01 after it has one.
-#[test]
-fn many_arcs(rt: HostRuntime) -> Result<(), AllocError> {
-    for first in FIRST_GROUPS {
-        let octets = long_octets(rt.alloc(), first, 97, &[])?;
-        for len in LENGTHS {
-            let octets = octets.as_slice().get(..*len).unwrap_or(&[]);
-            let last = len.saturating_sub(first.len()).saturating_add(1);
-            let count = last.saturating_add(1);
-            assert!(rt;
-                has_arcs(octets, count, &[(last, Some(1)), (count, None)]),
-                "{len} octets after {first:?}"
-            );
-        }
-    }
-    Ok(())
-}
-
-/// After the last arc there is none, each time.
-#[test]
-fn nothing_follows_the_last_arc(rt: HostRuntime) -> Result<(), Error> {
-    let mut arcs = ObjectIdentifierRef::from_bytes(&[0x2A, 0x03])?.arcs();
-    for arc in &[Some(1), Some(2), Some(3), None, None] {
-        assert!(rt; arcs.next() == *arc);
     }
     Ok(())
 }

@@ -2,7 +2,7 @@
 
 ghost use Rattle.std.specs.Prelude.{◌≤◌};
 
-use const_oid::{Error, ObjectIdentifier, ObjectIdentifierRef, Oid};
+use const_oid::{Error, ObjectIdentifier, ObjectIdentifierRef};
 
 /// Whether a copy of a borrowed identifier, at a capacity, is equal to it, or the result is this error.
 fn copies<const N: usize>(octets: &[u8], error: Option<Error>) -> Result<bool, Error>
@@ -21,7 +21,5 @@ fn copies_a_borrowed_identifier(rt: HostRuntime) -> Result<(), Error> {
     assert!(rt; copies::<300>(&[0x2A, 0x03], None)?);
     assert!(rt; copies::<3>(&[0x2A, 0xFF, 0x7F], None)?);
     assert!(rt; copies::<2>(&[0x2A, 0xFF, 0x7F], Some(Error::Length))?);
-    let borrowed = ObjectIdentifierRef::from_bytes(&[0x2A, 0x81, 0x00])?;
-    assert!(rt; !borrowed.eq_oid(&Oid::from_bytes(&[0x2A, 0x01])?));
     Ok(())
 }

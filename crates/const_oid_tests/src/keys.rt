@@ -1,10 +1,9 @@
-//! Identifiers as keys of maps, and their hashes.
+//! Identifiers as keys of maps.
 
 use crate::vectors::accepted_rows;
 use const_oid::{ObjectIdentifierRef, Oid};
 use std::alloc::Global;
-use std::collections::{BTreeMap, HashMap, HashSet};
-use std::hash::{DefaultHasher, Hash, Hasher};
+use std::collections::{BTreeMap, HashMap};
 use std::test::Fail;
 
 type Maps = (HashMap<Oid, usize>, BTreeMap<Oid, usize>);
@@ -30,29 +29,6 @@ fn finds_keys(rt: HostRuntime) -> Result<(), Fail> {
         let oid = Oid::new(text).expect(&rt, text);
         assert!(rt; hashed.get(&oid).copied() == Some(arcs.len()), "{text}");
         assert!(rt; sorted.get(&oid).copied() == Some(arcs.len()), "{text}");
-    }
-    Ok(())
-}
-
-/// What a hasher makes of an identifier.
-fn hash_of(oid: &Oid) -> u64 {
-    let mut hasher = DefaultHasher::new();
-    oid.hash(&mut hasher);
-    hasher.finish()
-}
-
-/// The parents of the shared rows have the hashes of identifiers of the same arcs, and are the same keys.
-#[test]
-fn parents_are_keys(rt: HostRuntime) -> Result<(), Fail> {
-    for (text, octets, arcs) in accepted_rows() {
-        let Some(parent) = Oid::from_bytes(octets)?.parent() else {
-            continue;
-        };
-        let same = Oid::from_arcs(arcs.iter().copied().take(parent.len()))?;
-        assert!(rt; hash_of(&parent) == hash_of(&same), "{text}");
-        let mut keys = HashSet::new(rt.alloc());
-        keys.insert(parent)?;
-        assert!(rt; keys.contains(&same), "{text}");
     }
     Ok(())
 }

@@ -9,7 +9,7 @@ ghost use Rattle.const_oid.specs.OidRef.{ref_octets, ref_arcs};
 ghost use Rattle.const_oid.specs.Orders.{shortlex_cmp};
 
 use crate::vectors::ASCENDING;
-use const_oid::{Buffer, Error, ObjectIdentifier, ObjectIdentifierRef, Oid};
+use const_oid::{Buffer, ObjectIdentifier, ObjectIdentifierRef, Oid};
 use std::alloc::AllocError;
 use std::cmp::Ordering;
 use std::test::Fail;
@@ -118,48 +118,6 @@ fn borrowed_pairs(rt: HostRuntime) -> Result<(), Fail> {
         for (j, b) in ASCENDING.iter().enumerate() {
             assert!(rt; compare_refs(a, b, i.cmp(&j))?, "{a:?} and {b:?}");
         }
-    }
-    Ok(())
-}
-
-/// Pairs of 7, 8, 9, 16 and 17 octets, about one word and two words: equal ones, ones that differ in the
-/// first, the eighth or the last octet, and ones whose first and last octets differ in opposite ways.
-const PAIRS: &[(&[u8], &[u8], Ordering)] = &[
-    (b"ABCDEFG", b"ABCDEFG", Ordering::Equal),
-    (b"ABCDEFG", b"BBCDEFG", Ordering::Less),
-    (b"ABCDEFG", b"ABCDEFH", Ordering::Less),
-    (b"ABCDEFH", b"BBCDEFG", Ordering::Less),
-    (b"ABCDEFGH", b"ABCDEFGH", Ordering::Equal),
-    (b"ABCDEFGH", b"BBCDEFGH", Ordering::Less),
-    (b"ABCDEFGH", b"ABCDEFGI", Ordering::Less),
-    (b"ABCDEFGI", b"BBCDEFGH", Ordering::Less),
-    (b"ABCDEFGHI", b"ABCDEFGHI", Ordering::Equal),
-    (b"ABCDEFGHI", b"BBCDEFGHI", Ordering::Less),
-    (b"ABCDEFGHI", b"ABCDEFGII", Ordering::Less),
-    (b"ABCDEFGHI", b"ABCDEFGHJ", Ordering::Less),
-    (b"ABCDEFGHIJKLMNOP", b"ABCDEFGHIJKLMNOP", Ordering::Equal),
-    (b"ABCDEFGHIJKLMNOP", b"BBCDEFGHIJKLMNOP", Ordering::Less),
-    (b"ABCDEFGHIJKLMNOP", b"ABCDEFGIIJKLMNOP", Ordering::Less),
-    (b"ABCDEFGHIJKLMNOP", b"ABCDEFGHIJKLMNOQ", Ordering::Less),
-    (b"ABCDEFGHIJKLMNOQ", b"ABCDEFGHJJKLMNOP", Ordering::Less),
-    (b"ABCDEFGHIJKLMNOPQ", b"ABCDEFGHIJKLMNOPQ", Ordering::Equal),
-    (b"ABCDEFGHIJKLMNOPQ", b"BBCDEFGHIJKLMNOPQ", Ordering::Less),
-    (b"ABCDEFGHIJKLMNOPQ", b"ABCDEFGIIJKLMNOPQ", Ordering::Less),
-    (b"ABCDEFGHIJKLMNOPQ", b"ABCDEFGHIJKLMNOPR", Ordering::Less),
-    (b"ABCDEFGHIJKLMNOPR", b"BBCDEFGHIJKLMNOPQ", Ordering::Less),
-];
-
-/// Of as many octets, one identifier begins with another only where they are equal.
-#[test]
-fn pairs_of_as_many_octets(rt: HostRuntime) -> Result<(), Error> {
-    for (number, (left, right, order)) in PAIRS.iter().enumerate() {
-        let a = ObjectIdentifierRef::from_bytes(left)?;
-        let b = ObjectIdentifierRef::from_bytes(right)?;
-        let is_equal = *order == Ordering::Equal;
-        assert!(rt; a.cmp(&b) == *order, "pair {number}");
-        assert!(rt; b.cmp(&a) == order.reverse(), "pair {number}");
-        assert!(rt; (a == b) == is_equal, "pair {number}");
-        assert!(rt; a.starts_with(&b) == is_equal, "pair {number}");
     }
     Ok(())
 }

@@ -10,7 +10,6 @@ ghost use Rattle.const_oid.specs.Tree.{BeginsWith};
 use crate::vectors::ASCENDING;
 use const_oid::ObjectIdentifierRef;
 use std::alloc::{AllocError, Global};
-use std::collections::BTreeSet;
 use std::test::Fail;
 
 /// Sorts identifiers, and returns the range of those that begin with one.
@@ -67,21 +66,6 @@ fn ranges(rt: HostRuntime) -> Result<(), Fail> {
         oids.sort()?;
         let first = first_under(&prefix, &oids);
         assert!(rt; first.is_some() == (range.0 < range.1), "{prefix}");
-    }
-    Ok(())
-}
-
-/// Those that begin with 1.2 are adjacent in an ordered set, at the indices 1 to 7.
-#[test]
-fn ordered_set(rt: HostRuntime) -> Result<(), Fail> {
-    let mut oids = BTreeSet::new(rt.alloc());
-    for octets in ASCENDING.iter().rev() {
-        oids.insert(ObjectIdentifierRef::from_bytes(octets)?)?;
-    }
-    assert!(rt; oids.len() == ASCENDING.len());
-    for (index, oid) in oids.iter().enumerate() {
-        let is_under = oid.arc(0) == Some(1) && oid.arc(1) == Some(2);
-        assert!(rt; is_under == (1..8).contains(&index), "{oid}");
     }
     Ok(())
 }

@@ -92,15 +92,6 @@ pub const ASCENDING: &[&[u8]] = &[
     &[0x88, 0x37, 0x03],
 ];
 
-/// First groups of one to five octets, each of two arcs.
-pub const FIRST_GROUPS: &[&[u8]] = &[
-    &[0x2A],
-    &[0x88, 0x37],
-    &[0x81, 0x80, 0x00],
-    &[0x81, 0x80, 0x80, 0x00],
-    &[0x90, 0x80, 0x80, 0x80, 0x4F],
-];
-
 /// A prefix, so many times `.1`, and an end.
 pub fn long_text(
     alloc: Global,
