@@ -27,18 +27,23 @@ const ROWS: &[(&str, &str, Ordering)] = &[
     ("1.3.6.1", "1.3.6.1", Ordering::Equal),
 ];
 
-/// Both forms, either way, and owned ones of two capacities.
+/// Whether the arcs of two texts compare so: in both forms, either way, and owned ones of two capacities.
+fn compare(left: &str, right: &str, order: Ordering) -> Result<bool, Error> {
+    let left = Oid::new(left)?;
+    let right = ObjectIdentifier::<255>::new_sized(right)?;
+    let (a, b) = (left.as_oid_ref(), right.as_oid_ref());
+    Ok(
+        left.cmp_arcs(&right) == order
+            && right.cmp_arcs(&left) == order.reverse()
+            && a.cmp_arcs(&b) == order
+            && b.cmp_arcs(&a) == order.reverse()
+            && a.arcs().cmp(b.arcs()) == order,
+    )
+}
+
 #[test]
-fn order_of_arcs(rt: HostRuntime) -> Result<(), Error> {
+fn order_of_arcs(rt: HostRuntime) {
     for (left, right, order) in ROWS {
-        let a = Oid::new(left)?;
-        let b = ObjectIdentifier::<255>::new_sized(right)?;
-        assert!(rt; a.cmp_arcs(&b) == *order, "{left} {right}");
-        assert!(rt; b.cmp_arcs(&a) == order.reverse(), "{left} {right}");
-        let (a, b) = (a.as_oid_ref(), b.as_oid_ref());
-        assert!(rt; a.cmp_arcs(&b) == *order, "{left} {right}");
-        assert!(rt; b.cmp_arcs(&a) == order.reverse(), "{left} {right}");
-        assert!(rt; a.arcs().cmp(b.arcs()) == *order, "{left} {right}");
+        assert!(rt; compare(left, right, *order) == Ok(true), "{left} {right}");
     }
-    Ok(())
 }

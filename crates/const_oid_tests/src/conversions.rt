@@ -15,11 +15,30 @@ fn copies<const N: usize>(octets: &[u8], error: Option<Error>) -> Result<bool, E
     })
 }
 
+/// The same for one of the capacities that the rows name.
+fn copies_at(capacity: usize, octets: &[u8], error: Option<Error>) -> Result<bool, Error> {
+    match capacity {
+        2 => copies::<2>(octets, error),
+        3 => copies::<3>(octets, error),
+        300 => copies::<300>(octets, error),
+        _ => Ok(false),
+    }
+}
+
+/// Capacities, octets, and the error, if there is one.
+const ROWS: &[(usize, &[u8], Option<Error>)] = &[
+    (2, &[0x2A, 0x03], None),
+    (300, &[0x2A, 0x03], None),
+    (3, &[0x2A, 0xFF, 0x7F], None),
+    (2, &[0x2A, 0xFF, 0x7F], Some(Error::Length)),
+];
+
 #[test]
-fn copies_a_borrowed_identifier(rt: HostRuntime) -> Result<(), Error> {
-    assert!(rt; copies::<2>(&[0x2A, 0x03], None)?);
-    assert!(rt; copies::<300>(&[0x2A, 0x03], None)?);
-    assert!(rt; copies::<3>(&[0x2A, 0xFF, 0x7F], None)?);
-    assert!(rt; copies::<2>(&[0x2A, 0xFF, 0x7F], Some(Error::Length))?);
-    Ok(())
+fn copies_a_borrowed_identifier(rt: HostRuntime) {
+    for (capacity, octets, error) in ROWS {
+        assert!(rt;
+            copies_at(*capacity, octets, *error) == Ok(true),
+            "{capacity}: {octets:?}"
+        );
+    }
 }

@@ -7,7 +7,8 @@ ghost use Rattle.const_oid.specs.Oid.{oid_arcs, oid_answer};
 
 use crate::vectors::{accepted_rows, is_answer};
 use const_oid::{Arc, Arcs, Error, Oid};
-use std::alloc::AllocError;
+use std::alloc::Global;
+use std::test::Fail;
 
 fn from_array(arcs: [Arc; 3]) -> Result<Oid, Error>
     ensures { oid_answer result ≡ item_answer root_rule arcs 39 }
@@ -40,17 +41,21 @@ fn again(oid: &Oid) -> Result<Oid, Error>
     from_rest(oid.arcs())
 }
 
-/// A slice, a list and an identifier are lists of arcs.
+/// Whether a slice, a list and an identifier of these arcs are accepted with these octets.
+fn are_accepted(alloc: Global, arcs: &[Arc], octets: &[u8]) -> Result<bool, Fail> {
+    let oid = from_slice(arcs)?;
+    let listed = from_vec(arcs.to_vec(alloc)?);
+    Ok(
+        oid.as_bytes() == octets
+            && is_answer(again(&oid), Ok(octets))
+            && is_answer(listed, Ok(octets)),
+    )
+}
+
 #[test]
-fn accepted(rt: HostRuntime) -> Result<(), AllocError> {
+fn accepted(rt: HostRuntime) -> Result<(), Fail> {
     for (text, octets, arcs) in accepted_rows() {
-        let oid = from_slice(arcs).expect(&rt, text);
-        assert!(rt; oid.as_bytes() == *octets, "{text}");
-        assert!(rt; is_answer(again(&oid), Ok(octets)), "{text}");
-        assert!(rt;
-            is_answer(from_vec(arcs.to_vec(rt.alloc())?), Ok(octets)),
-            "{text}"
-        );
+        assert!(rt; are_accepted(rt.alloc(), arcs, octets)?, "{text}");
     }
     Ok(())
 }

@@ -2,7 +2,7 @@
 
 use crate::vectors::accepted_rows;
 use const_oid::{ObjectIdentifierRef, Oid};
-use std::alloc::Global;
+use std::alloc::{AllocError, Global};
 use std::collections::{BTreeMap, HashMap};
 use std::test::Fail;
 
@@ -20,27 +20,47 @@ fn maps(alloc: Global) -> Result<Maps, Fail> {
     Ok((hashed, sorted))
 }
 
+/// The first text whose identifier is no key, or that of another number.
+fn wrong_key(maps: &Maps) -> Option<&'static str> {
+    for (text, _, arcs) in accepted_rows() {
+        let Ok(oid) = Oid::new(text) else {
+            return Some(text);
+        };
+        let wanted = Some(arcs.len());
+        if maps.0.get(&oid).copied() != wanted || maps.1.get(&oid).copied() != wanted {
+            return Some(text);
+        }
+    }
+    None
+}
+
 /// The identifiers of the texts are the same keys.
 #[test]
 fn finds_keys(rt: HostRuntime) -> Result<(), Fail> {
-    let (hashed, sorted) = maps(rt.alloc())?;
-    assert!(rt; hashed.len() == accepted_rows().len());
-    for (text, _, arcs) in accepted_rows() {
-        let oid = Oid::new(text).expect(&rt, text);
-        assert!(rt; hashed.get(&oid).copied() == Some(arcs.len()), "{text}");
-        assert!(rt; sorted.get(&oid).copied() == Some(arcs.len()), "{text}");
-    }
+    let maps = maps(rt.alloc())?;
+    assert_eq!(rt; wrong_key(&maps), None);
+    assert_eq!(rt; maps.0.len(), accepted_rows().len());
     Ok(())
+}
+
+/// What a table of one borrowed identifier, named `"1.2.3"`, has for another one.
+fn name_among(
+    alloc: Global,
+    key: ObjectIdentifierRef<'_>,
+    oid: ObjectIdentifierRef<'_>,
+) -> Result<Option<&'static str>, AllocError> {
+    let mut names = HashMap::new(alloc);
+    names.insert(key, "1.2.3")?;
+    Ok(names.get(&oid).copied())
 }
 
 #[test]
 fn finds_borrowed_keys(rt: HostRuntime) -> Result<(), Fail> {
     let octets: &[u8] = &[0x2A, 0x03, 0x2A, 0x03];
-    let mut names = HashMap::new(rt.alloc());
-    names.insert(ObjectIdentifierRef::from_bytes(&octets[..2])?, "1.2.3")?;
+    let key = ObjectIdentifierRef::from_bytes(&octets[..2])?;
     let same = ObjectIdentifierRef::from_bytes(&octets[2..])?;
     let other = ObjectIdentifierRef::from_bytes(&octets[2..3])?;
-    assert!(rt; names.get(&same).copied() == Some("1.2.3"));
-    assert!(rt; names.get(&other).is_none());
+    assert!(rt; name_among(rt.alloc(), key, same)? == Some("1.2.3"));
+    assert!(rt; name_among(rt.alloc(), key, other)? == None);
     Ok(())
 }

@@ -5,7 +5,7 @@ ghost use Rattle.const_oid.specs.Oid.{oid_arcs};
 
 use const_oid::traits::position_of;
 use const_oid::{AssociatedOid, DynAssociatedOid, Oid};
-use std::alloc::AllocError;
+use std::alloc::{AllocError, Global};
 
 /// A type with the identifier 1.2.3.
 #[derive(Drop)]
@@ -42,19 +42,24 @@ fn oid_of<T: AssociatedOid>(value: &T) -> Oid
 
 #[test]
 fn of_a_type(rt: HostRuntime) {
-    assert!(rt; Unit::associated_oid().as_bytes() == [0x2A, 0x03].as_slice());
-    assert!(rt; oid_of(&Unit).as_bytes() == [0x2A, 0x03].as_slice());
+    let oid = Unit::associated_oid();
+    assert!(rt; oid.as_bytes() == [0x2A, 0x03].as_slice() && oid_of(&Unit) == oid);
 }
 
-/// A value of a type with an identifier, and one that holds it, are first in both orders.
+/// The index of 1.2.3 among a value of a type with it and one that holds it, in this order and the other.
+fn indices(alloc: Global) -> Result<(Option<usize>, Option<usize>), AllocError> {
+    let oid = Oid::new_unwrap("1.2.3");
+    let mut values: Vec<Box<dyn DynAssociatedOid + Drop>> = Vec::new(alloc);
+    values.push(Box::new(alloc, Unit)?)?;
+    values.push(Box::new(alloc, Held { oid })?)?;
+    let first = position_of(&values, &oid);
+    values.reverse();
+    Ok((first, position_of(&values, &oid)))
+}
+
+/// Both are first in both orders.
 #[test]
 fn of_both_kinds(rt: HostRuntime) -> Result<(), AllocError> {
-    let oid = Oid::new_unwrap("1.2.3");
-    let mut values: Vec<Box<dyn DynAssociatedOid + Drop>> = Vec::new(rt.alloc());
-    values.push(Box::new(rt.alloc(), Unit)?)?;
-    values.push(Box::new(rt.alloc(), Held { oid })?)?;
-    assert!(rt; position_of(&values, &oid) == Some(0));
-    values.reverse();
-    assert!(rt; position_of(&values, &oid) == Some(0));
+    assert_eq!(rt; indices(rt.alloc())?, (Some(0), Some(0)));
     Ok(())
 }
