@@ -6,7 +6,7 @@ use Rattle.const_oid.specs.declared.error.Error.{Error}
 use Rattle.const_oid.specs.declared.error.Error.TheVariants.{ArcInvalid, Length}
 use Rattle.const_oid.specs.Base128.{width}
 use Rattle.const_oid.specs.Private.Encoder.{arcs_given, IsStarted}
-use Rattle.const_oid.specs.Private.Octets.{GoesOn}
+use Rattle.const_oid.specs.Private.Octets.{GoesOn, IsAppended}
 use Rattle.const_oid.specs.Identifier.{RootRule, max_arc, max_second, IsEncoding}
 use Rattle.const_oid.specs.Error.{fault_if}
 use Rattle.const_oid.specs.Items.{arc_fault}
@@ -57,8 +57,10 @@ pub record IsPushed {X : Type 0} (rule : RootRule) (capacity : ℕ) (first : Opt
   pub started : IsStarted rule first longer
   pub fault : result_err result ≡ arc_fault rule capacity given arc
   pub more : OnOk result (arcs_given first longer ≡ given ++ arc ∷ [])
+  pub same : OnErr result (arcs_given first longer ≡ given)
 
-pub pushed : {X : Type 0} (rule : RootRule) (capacity : ℕ) (first : Option ℕ) (octets longer given : List ℕ) (arc number : ℕ) (result : Result X Error) → Encodes rule first octets given arc number → IsStarted rule first octets
-    → MatchResult result (λ _. length octets + width number ≤ capacity) (λ fault. (fault ≡ Length) × (capacity < length octets + width number)) → OnOk result (GoesOn number octets longer) → OnErr result (longer ≡ octets) → IsPushed rule capacity first longer given arc result
-pushed rule capacity first octets longer given arc number (Ok x) n started fits on same = grind (arith, nat_tests)
-pushed rule capacity first octets longer given arc number (Err fault) n started fits on same = grind (arith, nat_tests)
+pub pushed : {X : Type 0} (rule : RootRule) (capacity : ℕ) (first : Option ℕ) (octets longer given : List ℕ) (arc number : ℕ)
+    (result : Result X Error) → Encodes rule first octets given arc number → IsStarted rule first octets
+    → arcs_given first octets ≡ given → IsAppended capacity number octets longer result → IsPushed rule capacity first longer given arc result
+pushed rule capacity first octets longer given arc number (Ok x) n started view on = grind (arith, nat_tests)
+pushed rule capacity first octets longer given arc number (Err fault) n started view same = grind (arith, nat_tests)

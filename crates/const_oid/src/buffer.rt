@@ -1,10 +1,10 @@
 //! Octets in an array. The first ones are in use.
 
-ghost use Rattle.std.specs.Prelude.{◌≡◌, ℕ, List, ◌++◌, ◌+◌, ◌-◌, ◌^◌, ◌<◌, ◌≤◌, ◌↔◌, [], length, take, drop, replicate, min, nat_eq, IsTrue, OnOk, OnErr, MatchResult};
+ghost use Rattle.std.specs.Prelude.{◌≡◌, ℕ, List, ◌++◌, ◌+◌, ◌-◌, ◌^◌, ◌<◌, ◌≤◌, ◌↔◌, [], length, take, drop, replicate, min, nat_eq, IsTrue};
 ghost use Rattle.std.proofs.Props.{props};
 ghost use Rattle.std.specs.Cmp.Lexicographic.{pointwise};
 ghost use Rattle.const_oid.specs.Base128.{AreOctets, IsGroup, width};
-ghost use Rattle.const_oid.specs.Private.Octets.{GoesOn};
+ghost use Rattle.const_oid.specs.Private.Octets.{IsAppended};
 
 use crate::Arc;
 use crate::compare::{are_arrays_equal, order};
@@ -59,11 +59,7 @@ impl<const SIZE: usize> Buffer<SIZE> {
     #[inline(always)]
     pub(crate) fn push_group(&mut self, number: u64) -> Result<()>
         requires { number < 2 ^ 35 }
-        ensures fits { let long = length (octets_of self.old) + width number in
-            MatchResult result (λ _. long ≤ min SIZE 255)
-            (λ fault. (fault ≡ Error.Length) × (min SIZE 255 < long)) }
-        ensures appended { OnOk result (GoesOn number (octets_of self.old) (octets_of self.new)) }
-        ensures unchanged { OnErr result (self.new ≡ self.old) }
+        ensures { IsAppended (min SIZE 255) number (octets_of self.old) (octets_of self.new) result }
     {
         // The shortest group is the most frequent one.
         if number < 128 {
@@ -78,11 +74,7 @@ impl<const SIZE: usize> Buffer<SIZE> {
     // `const` in Rust.
     #[inline(always)]
     pub(crate) fn push_arc(&mut self, arc: Arc) -> Result<()>
-        ensures fits { let long = length (octets_of self.old) + width arc in
-            MatchResult result (λ _. long ≤ min SIZE 255)
-            (λ fault. (fault ≡ Error.Length) × (min SIZE 255 < long)) }
-        ensures appended { OnOk result (GoesOn arc (octets_of self.old) (octets_of self.new)) }
-        ensures unchanged { OnErr result (self.new ≡ self.old) }
+        ensures { IsAppended (min SIZE 255) arc (octets_of self.old) (octets_of self.new) result }
     {
         let number = arc as u64;
         match group_len(number) {
@@ -98,11 +90,7 @@ impl<const SIZE: usize> Buffer<SIZE> {
     fn push_number_of_len(&mut self, number: u64, count: usize) -> Result<()>
         requires small { number < 2 ^ 35 }
         requires wide { count ≡ width number }
-        ensures fits { let long = length (octets_of self.old) + count in
-            MatchResult result (λ _. long ≤ min SIZE 255)
-            (λ fault. (fault ≡ Error.Length) × (min SIZE 255 < long)) }
-        ensures appended { OnOk result (GoesOn number (octets_of self.old) (octets_of self.new)) }
-        ensures unchanged { OnErr result (self.new ≡ self.old) }
+        ensures { IsAppended (min SIZE 255) number (octets_of self.old) (octets_of self.new) result }
     {
         let start = self.used as usize;
         let end = start + count;

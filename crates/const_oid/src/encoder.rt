@@ -7,7 +7,7 @@ ghost use Rattle.const_oid.specs.Items.{arc_fault, too_few_fault, TakesItems};
 ghost use Rattle.const_oid.specs.Contents.{arcs_of_octets};
 ghost use Rattle.std.specs.Iterator.{IsFiniteIterable};
 ghost use Rattle.const_oid.specs.Buffer.{octets_of};
-ghost use Rattle.const_oid.specs.Private.Encoder.{buffer_answer};
+ghost use Rattle.const_oid.specs.Private.Encoder.{buffer_answer, HasEncoding};
 
 use crate::Arc;
 use crate::buffer::Buffer;
@@ -105,7 +105,7 @@ where
     requires { IsFiniteIterable I.into_iter_gives I.IntoIter.can_next I.IntoIter.remaining arcs }
     ensures takes { (iterator : I.IntoIter) × I.into_iter_gives arcs iterator
         × TakesItems root_rule (min SIZE 255) I.IntoIter.next_gives iterator (buffer_answer result) }
-    ensures encoding { IfOk result (λ octets. IsEncoding root_rule (arcs_of_octets (octets_of octets)) (octets_of octets)) }
+    ensures encoding { HasEncoding result }
 {
     // A longer array holds no more octets: an encoder of it could be too large for the memory.
     if SIZE > 255 {
@@ -123,7 +123,7 @@ where
     requires small { SIZE ≤ 255 }
     ensures takes { (iterator : I.IntoIter) × I.into_iter_gives arcs iterator
         × TakesItems root_rule (min SIZE 255) I.IntoIter.next_gives iterator (buffer_answer result) }
-    ensures encoding { IfOk result (λ octets. IsEncoding root_rule (arcs_of_octets (octets_of octets)) (octets_of octets)) }
+    ensures encoding { HasEncoding result }
 {
     let mut encoder = Encoder::new();
     for arc in arcs {

@@ -5,7 +5,7 @@ ghost use Rattle.std.specs.Bool.{then_some};
 ghost use Rattle.std.specs.Char.{is_ascii_digit};
 ghost use Rattle.std.specs.Result.{result_err};
 ghost use Rattle.const_oid.specs.Buffer.{octets_of};
-ghost use Rattle.const_oid.specs.Private.Encoder.{buffer_answer};
+ghost use Rattle.const_oid.specs.Private.Encoder.{buffer_answer, HasEncoding};
 ghost use Rattle.const_oid.specs.Contents.{arcs_of_octets};
 ghost use Rattle.const_oid.specs.Identifier.{root_rule, IsEncoding};
 ghost use Rattle.const_oid.specs.Private.Parser.{dot_fault, last_fault};
@@ -20,7 +20,7 @@ use crate::error::{Error, Result};
 // `const` in Rust.
 pub(crate) fn parse<const SIZE: usize>(text: &str) -> Result<Buffer<SIZE>>
     ensures answer { buffer_answer result ≡ text_answer root_rule text.now (min SIZE 255) }
-    ensures encoding { IfOk result (λ octets. IsEncoding root_rule (arcs_of_octets (octets_of octets)) (octets_of octets)) }
+    ensures encoding { HasEncoding result }
 {
     // A longer array holds no more octets: an encoder of it could be too large for the memory.
     if SIZE > 255 {
@@ -38,7 +38,7 @@ pub(crate) fn parse<const SIZE: usize>(text: &str) -> Result<Buffer<SIZE>>
 fn parse_within<const SIZE: usize>(text: &str) -> Result<Buffer<SIZE>>
     requires { SIZE ≤ 255 }
     ensures answer { buffer_answer result ≡ text_answer root_rule text.now (min SIZE 255) }
-    ensures encoding { IfOk result (λ octets. IsEncoding root_rule (arcs_of_octets (octets_of octets)) (octets_of octets)) }
+    ensures encoding { HasEncoding result }
 {
     let bytes = text.as_bytes();
     let mut encoder = Encoder::new();

@@ -1,10 +1,10 @@
 -- What an encoder holds between two arcs, and its buffer.
-use Rattle.std.specs.Prelude.{◌≡◌, ℕ, ◌≤◌, List, [], ◌∷◌, Option, Some, None, Result}
+use Rattle.std.specs.Prelude.{◌≡◌, ℕ, ◌≤◌, List, [], ◌∷◌, Option, Some, None, Result, IfOk}
 use Rattle.std.specs.Result.{result_map_both}
 use Rattle.const_oid.specs.declared.buffer.Buffer.{Buffer}
 use Rattle.const_oid.specs.declared.error.Error.{Error}
 use Rattle.const_oid.specs.Buffer.{octets_of}
-use Rattle.const_oid.specs.Identifier.{RootRule, IsEncoding}
+use Rattle.const_oid.specs.Identifier.{RootRule, root_rule, IsEncoding}
 use Rattle.const_oid.specs.Contents.{arcs_of_octets}
 
 -- the arcs given, by the first one and the octets in use
@@ -22,3 +22,7 @@ IsStarted rule (Some first) (x ∷ xs) = IsEncoding rule (arcs_of_octets (x ∷ 
 -- what a call returns, by the arcs of the octets
 abbrev pub buffer_answer : {SIZE : ℕ} → Result (Buffer SIZE) Error → Result (List ℕ) Error
 buffer_answer result = result_map_both (λ buffer. arcs_of_octets (octets_of buffer)) (λ fault. fault) result
+
+-- what it returns is the encoding of its arcs
+abbrev pub HasEncoding : {SIZE : ℕ} → Result (Buffer SIZE) Error → Type 0
+HasEncoding result = IfOk result (λ buffer. IsEncoding root_rule (arcs_of_octets (octets_of buffer)) (octets_of buffer))

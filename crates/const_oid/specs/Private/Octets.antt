@@ -1,10 +1,11 @@
 -- Octets as they are read part by part, and written group by group.
-use Rattle.std.specs.Prelude.{◌≡◌, ℕ, List, [], ◌∷◌, ◌++◌, length, map, Option, None}
+use Rattle.std.specs.Prelude.{◌≡◌, ℕ, ◌+◌, ◌<◌, ◌≤◌, List, [], ◌∷◌, ◌++◌, length, map, Option, None, Result, MatchResult}
 use Rattle.std.specs.Option.{option_or}
 use Rattle.const_oid.specs.declared.error.Error.{Error}
+use Rattle.const_oid.specs.declared.error.Error.TheVariants.{Length}
 use Rattle.const_oid.specs.declared.arcs.Next.{Next}
 use Rattle.const_oid.specs.declared.arcs.Next.TheVariants.{First, Second, Later}
-use Rattle.const_oid.specs.Base128.{IsGroup, value_of}
+use Rattle.const_oid.specs.Base128.{IsGroup, value_of, width}
 use Rattle.const_oid.specs.Identifier.{root_rule}
 use Rattle.const_oid.specs.Contents.{cut, part_fault, later_fault, parts_fault, arcs_of_octets}
 
@@ -33,3 +34,9 @@ fault_from limit (part ∷ parts) = option_or (part_fault limit part) (later_fau
 -- the octets go on by a group of the number
 abbrev pub GoesOn : ℕ → List ℕ → List ℕ → Type 0
 GoesOn number octets longer = (group : List ℕ) × IsGroup number group × (longer ≡ octets ++ group)
+
+-- octets go on by the group of a number where it fits a capacity, and stay, with `Length`, where it does not
+abbrev pub IsAppended : {X : Type 0} → ℕ → ℕ → List ℕ → List ℕ → Result X Error → Type 0
+IsAppended capacity number octets longer result = MatchResult result
+    (λ _. (length octets + width number ≤ capacity) × GoesOn number octets longer)
+    (λ fault. (fault ≡ Length) × (capacity < length octets + width number) × (longer ≡ octets))
