@@ -15,7 +15,8 @@ octets_from_chain (x ∷ []) c = (omega arith, tt)
 octets_from_chain (x ∷ y ∷ ys) c = (c.1, octets_from_chain (y ∷ ys) c.2)
 
 -- zeros past an index are zeros past each later one
-zeros_past : (size used more : ℕ) (bytes : List ℕ) → drop used bytes ≡ replicate (size - used) 0 → drop (used + more) bytes ≡ replicate (size - (used + more)) 0
+zeros_past : (size used more : ℕ) (bytes : List ℕ) → drop used bytes ≡ replicate (size - used) 0
+    → drop (used + more) bytes ≡ replicate (size - (used + more)) 0
 zeros_past size used more bytes zeros =
     let fewer : size - used - more ≡ size - (used + more) = omega arith in
     sym (drop-drop more used bytes) ∙ ap (drop more) zeros ∙ drop-replicate more (size - used) 0 ∙ ap (λ n. replicate n 0) fewer

@@ -20,13 +20,15 @@ or_other None b p q = q
 or_other (Some x) b p q = p
 
 -- an error that is none of those of later parts
-part_other : (other : Error) → ArcTooBig ≢ other → Base128 ≢ other → (limit : ℕ) (part : List ℕ) → part_fault limit part ≢ Some other
+part_other : (other : Error) → ArcTooBig ≢ other → Base128 ≢ other → (limit : ℕ) (part : List ℕ)
+    → part_fault limit part ≢ Some other
 part_other other big base limit part = by (begins_with_128 part) (nat_lt limit (value_of part)) (is_finished part)
   where
     by : (first large last : Bool) → option_or (fault_if first Base128) (option_or (fault_if large ArcTooBig) (fault_if (not last) Base128)) ≢ Some other
     by first large last = grind (arith, nat_tests)
 
-later_other : (other : Error) → ArcTooBig ≢ other → Base128 ≢ other → (parts : List (List ℕ)) → later_fault parts ≢ Some other
+later_other : (other : Error) → ArcTooBig ≢ other → Base128 ≢ other → (parts : List (List ℕ))
+    → later_fault parts ≢ Some other
 later_other other big base [] = λ e. cc
 later_other other big base (part ∷ parts) = or_other _ _ (part_other other big base max_arc part) (later_other other big base parts)
 
@@ -36,7 +38,8 @@ parts_not_overflow Narrow ([] ∷ parts) = later_other Overflow (λ e. cc) (λ e
 parts_not_overflow Narrow ((x ∷ xs) ∷ parts) = grind (arith, nat_tests, later_other Overflow)
 parts_not_overflow Wide (part ∷ parts) = grind (arith, nat_tests, later_other Overflow)
 
-pub octets_not_overflow : (rule : RootRule) (octets : List ℕ) (capacity : ℕ) → octet_fault rule octets capacity ≢ Some Overflow
+pub octets_not_overflow : (rule : RootRule) (octets : List ℕ) (capacity : ℕ)
+    → octet_fault rule octets capacity ≢ Some Overflow
 octets_not_overflow rule octets capacity = grind (arith, nat_tests, parts_not_overflow rule (cut octets))
 
 -- under the wide rule no arc of octets is out of range
@@ -44,7 +47,8 @@ parts_in_range : (arc : ℕ) (parts : List (List ℕ)) → parts_fault Wide part
 parts_in_range arc [] = λ e. cc
 parts_in_range arc (part ∷ parts) = grind (arith, nat_tests, later_other (ArcInvalid arc))
 
-pub octets_in_range : (arc : ℕ) (octets : List ℕ) (capacity : ℕ) → octet_fault Wide octets capacity ≢ Some (ArcInvalid arc)
+pub octets_in_range : (arc : ℕ) (octets : List ℕ) (capacity : ℕ)
+    → octet_fault Wide octets capacity ≢ Some (ArcInvalid arc)
 octets_in_range arc octets capacity = grind (arith, nat_tests, parts_in_range arc (cut octets))
 
 -- ---- lists and texts
@@ -81,7 +85,8 @@ module _ (rule : RootRule) (capacity : ℕ) where
   digit_other None = λ e. cc
   digit_other (Some b) = λ e. cc
 
-  piece_other : (before piece : List ℕ) (after : List (List ℕ)) → piece_fault rule capacity before piece after ≢ Some Overflow
+  piece_other : (before piece : List ℕ) (after : List (List ℕ))
+      → piece_fault rule capacity before piece after ≢ Some Overflow
   piece_other before piece after =
       or_other _ _ (if_other (nat_lt max_arc (number_of piece)) ArcTooBig (λ e. cc))
       (or_other _ _ (digit_other (find (λ b. not (is_ascii_digit b)) piece))

@@ -21,7 +21,8 @@ drop-onto_first : (x left : ℕ) (parts : List (List ℕ)) → drop (suc left) (
 drop-onto_first x left [] = drop-nil left
 drop-onto_first x left (part ∷ parts) = refl
 
-drop-cut_after : (x left ended : ℕ) (parts : List (List ℕ)) → left ≢ 0 → (x < 128 → ended ≡ 1) → (128 ≤ x → ended ≡ 0) → drop left (cut_after x parts) ≡ drop (left - ended) parts
+drop-cut_after : (x left ended : ℕ) (parts : List (List ℕ)) → left ≢ 0 → (x < 128 → ended ≡ 1) → (128 ≤ x → ended ≡ 0)
+    → drop left (cut_after x parts) ≡ drop (left - ended) parts
 drop-cut_after x zero ended parts some one none = absurd (some refl)
 drop-cut_after x (suc left) ended parts some one none = ⊎_elim
     (λ (last : x < 128). let e : ended ≡ 1 = one last in let l : suc left - ended ≡ left = omega arith in rw (cut_after-last x parts last, l))
@@ -47,7 +48,8 @@ first_left (suc k) [] y ys e = cc
 first_left (suc k) (x ∷ xs) y ys e = first_left k xs y ys e
 
 -- by the part that holds it
-later_at : (parts : List (List ℕ)) (index : ℕ) → 2 ≤ index → slice_get (arcs_from (map value_of parts)) index ≡ option_map value_of (slice_get parts (index - 1))
+later_at : (parts : List (List ℕ)) (index : ℕ) → 2 ≤ index
+    → slice_get (arcs_from (map value_of parts)) index ≡ option_map value_of (slice_get parts (index - 1))
 later_at parts zero h = absurd (omega arith)
 later_at parts (suc zero) h = absurd (omega arith)
 later_at [] (suc (suc k)) h = refl
@@ -58,10 +60,12 @@ later_fault-drop zero parts h = h
 later_fault-drop (suc k) [] h = refl
 later_fault-drop (suc k) (part ∷ parts) h = later_fault-drop k parts (both_none _ _ h).1
 
-pub valid_after : (rule : RootRule) (octets rest : List ℕ) (index : ℕ) → 2 ≤ index → cut rest ≡ drop (index - 1) (cut octets) → parts_fault rule (cut octets) ≡ None → later_fault (cut rest) ≡ None
+pub valid_after : (rule : RootRule) (octets rest : List ℕ) (index : ℕ) → 2 ≤ index
+    → cut rest ≡ drop (index - 1) (cut octets) → parts_fault rule (cut octets) ≡ None → later_fault (cut rest) ≡ None
 valid_after rule octets rest index later after h = grind (arith, nat_tests, later_fault-drop, both_none)
 
-pub none_after : (octets rest : List ℕ) (index : ℕ) → 2 ≤ index → cut rest ≡ drop (index - 1) (cut octets) → length rest ≡ 0
+pub none_after : (octets rest : List ℕ) (index : ℕ) → 2 ≤ index → cut rest ≡ drop (index - 1) (cut octets)
+    → length rest ≡ 0
     → None ≡ slice_get (arcs_of_octets octets) index
 none_after octets [] index later after none = grind (arith, nat_tests, none_left, later_at)
 none_after octets (x ∷ xs) index later after none = absurd (omega arith)
@@ -80,8 +84,10 @@ take_root : (parts : List (List ℕ)) → take 2 (arcs_from (map value_of parts)
 take_root [] = refl
 take_root (part ∷ parts) = grind (arith, nat_tests)
 
-pub root_by_part : {rule : RootRule} {arcs octets : List ℕ} → IsEncoding rule arcs octets → take 2 arcs ≡ arcs_from (map value_of (take 1 (cut octets)))
+pub root_by_part : {rule : RootRule} {arcs octets : List ℕ} → IsEncoding rule arcs octets
+    → take 2 arcs ≡ arcs_from (map value_of (take 1 (cut octets)))
 root_by_part {octets} e = ap (take 2) (sym (arcs_of_encoding e)) ∙ take_root (cut octets)
 
-pub arc_by_part : {rule : RootRule} {arcs octets : List ℕ} (i : ℕ) → IsEncoding rule arcs octets → 2 ≤ i → slice_get arcs i ≡ option_map value_of (slice_get (cut octets) (i - 1))
+pub arc_by_part : {rule : RootRule} {arcs octets : List ℕ} (i : ℕ) → IsEncoding rule arcs octets → 2 ≤ i
+    → slice_get arcs i ≡ option_map value_of (slice_get (cut octets) (i - 1))
 arc_by_part {octets} i e later = ap (λ xs. slice_get xs i) (sym (arcs_of_encoding e)) ∙ later_at (cut octets) i later

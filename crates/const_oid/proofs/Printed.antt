@@ -33,12 +33,14 @@ long_printed arc n small below two = ⊎_elim
 arc_printed : (n : ℕ) → n ≤ max_arc → length (decimal n) + 1 ≤ 4 * width n
 arc_printed n h = grind (arith, nat_tests, long_printed, length-decimal-le)
 
-later_printed : (later : List ℕ) → AllByRecursion (λ n. n ≤ max_arc) later → sum_by (λ n. length (decimal n) + 1) later ≤ 4 * sum_by width later
+later_printed : (later : List ℕ) → AllByRecursion (λ n. n ≤ max_arc) later
+    → sum_by (λ n. length (decimal n) + 1) later ≤ 4 * sum_by width later
 later_printed [] l = omega arith
 later_printed (n ∷ ns) l = grind (arith, common_steps, arc_printed, later_printed ns l.1)
 
 -- the first two arcs, with their dot
-root_printed : (rule : RootRule) (a b : ℕ) → a ≤ 2 → b ≤ max_second rule a → length (decimal a) + (length (decimal b) + 1) ≤ 4 * width (40 * a + b)
+root_printed : (rule : RootRule) (a b : ℕ) → a ≤ 2 → b ≤ max_second rule a
+    → length (decimal a) + (length (decimal b) + 1) ≤ 4 * width (40 * a + b)
 root_printed rule a b p q =
     let first = length-decimal-le 1 a (omega arith) (omega arith) (omega arith) in
     let small = second_small rule a b q in
@@ -49,11 +51,13 @@ root_printed rule a b p q =
     (λ (more : 128 ≤ 40 * a + b). omega (arith, long_printed b (40 * a + b) small (omega arith) more))
     (cases_lt (40 * a + b) 128)
 
-length-text : (a : ℕ) (arcs : List ℕ) → length (text_of (a ∷ arcs)) ≡ length (decimal a) + sum_by (λ n. length (decimal n) + 1) arcs
+length-text : (a : ℕ) (arcs : List ℕ)
+    → length (text_of (a ∷ arcs)) ≡ length (decimal a) + sum_by (λ n. length (decimal n) + 1) arcs
 length-text a [] = omega arith
 length-text a (b ∷ arcs) = grind (arith, common_steps, length-text b arcs)
 
-pub printed_short : (rule : RootRule) (arcs octets : List ℕ) → IsEncoding rule arcs octets → length (text_of arcs) ≤ 4 * length octets
+pub printed_short : (rule : RootRule) (arcs octets : List ℕ) → IsEncoding rule arcs octets
+    → length (text_of arcs) ≤ 4 * length octets
 printed_short rule [] octets e = absurd e.identifier
 printed_short rule (a ∷ []) octets e = absurd e.identifier
 printed_short rule (a ∷ b ∷ later) octets e =

@@ -16,19 +16,23 @@ use Rattle.const_oid.proofs.Lengths.{size_push}
 use Rattle.const_oid.proofs.Children.{encoding_two, child_encoding}
 
 -- the octets in use are the encoding of the arcs given
-started_from_encoding : (rule : RootRule) (first : ℕ) (octets given : List ℕ) → IsEncoding rule given octets → IsStarted rule (Some first) octets × (arcs_given (Some first) octets ≡ given)
+started_from_encoding : (rule : RootRule) (first : ℕ) (octets given : List ℕ) → IsEncoding rule given octets
+    → IsStarted rule (Some first) octets × (arcs_given (Some first) octets ≡ given)
 started_from_encoding rule first [] given e = absurd (encoding_back e).identifier
 started_from_encoding rule first (x ∷ xs) given e = (encoding_back e, arcs_of_encoding e)
 
-later_fault : (rule : RootRule) (octets given : List ℕ) (arc capacity : ℕ) → IsEncoding rule given octets → arc_fault rule capacity given arc ≡ fault_if (nat_lt capacity (length octets + width arc)) Length
+later_fault : (rule : RootRule) (octets given : List ℕ) (arc capacity : ℕ) → IsEncoding rule given octets
+    → arc_fault rule capacity given arc ≡ fault_if (nat_lt capacity (length octets + width arc)) Length
 later_fault rule octets [] arc capacity e = absurd e.identifier
 later_fault rule octets (a ∷ []) arc capacity e = absurd e.identifier
 later_fault rule octets (a ∷ b ∷ later) arc capacity e = ap (λ n. fault_if (nat_lt capacity n) Length) (size_push rule (a ∷ b ∷ later) octets arc e)
 
 -- the number is that of an arc after those given: its group makes the encoding longer, and its width decides the fault
 pub record Encodes (rule : RootRule) (first : Option ℕ) (octets given : List ℕ) (arc number : ℕ) : Type 0 where
-  pub step : (longer : List ℕ) → GoesOn number octets longer → IsStarted rule first longer × (arcs_given first longer ≡ given ++ arc ∷ [])
-  pub fault : (capacity : ℕ) → arc_fault rule capacity given arc ≡ fault_if (nat_lt capacity (length octets + width number)) Length
+  pub step : (longer : List ℕ) → GoesOn number octets longer
+      → IsStarted rule first longer × (arcs_given first longer ≡ given ++ arc ∷ [])
+  pub fault : (capacity : ℕ)
+      → arc_fault rule capacity given arc ≡ fault_if (nat_lt capacity (length octets + width number)) Length
 
 -- after two arcs or more, the arc itself
 pub later_number : (rule : RootRule) (first : Option ℕ) (octets given : List ℕ) (arc number : ℕ) → 0 < length octets → IsStarted rule first octets → arcs_given first octets ≡ given → arc ≤ max_arc → number ≡ arc → Encodes rule first octets given arc number

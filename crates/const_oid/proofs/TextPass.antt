@@ -45,11 +45,13 @@ pieces_answer rule capacity before pieces = answer (pieces_fault rule capacity b
 
 -- ---- digits
 
-digits_push : (prefix : List ℕ) (b : ℕ) → all_ascii_digits prefix ≡ true → is_ascii_digit b ≡ true → all_ascii_digits (prefix ++ b ∷ []) ≡ true
+digits_push : (prefix : List ℕ) (b : ℕ) → all_ascii_digits prefix ≡ true → is_ascii_digit b ≡ true
+    → all_ascii_digits (prefix ++ b ∷ []) ≡ true
 digits_push [] b h d = rw d
 digits_push (y ∷ ys) b h d = grind (arith, common_steps, digits_push ys b)
 
-value_push : (prefix : List ℕ) (b : ℕ) → is_ascii_digit b ≡ true → digits_value 10 (prefix ++ b ∷ []) ≡ digits_value 10 prefix * 10 + (b - 48)
+value_push : (prefix : List ℕ) (b : ℕ) → is_ascii_digit b ≡ true
+    → digits_value 10 (prefix ++ b ∷ []) ≡ digits_value 10 prefix * 10 + (b - 48)
 value_push prefix b d = grind (arith, nat_tests, digits_value_push)
 
 -- digits more have no smaller value
@@ -59,13 +61,15 @@ value_more prefix more = rw (take_at prefix more (length prefix) refl) at (digit
 -- ---- pieces
 
 -- a first piece that begins with digits has at least their number
-number_more : (prefix more : List ℕ) → all_ascii_digits prefix ≡ true → digits_value 10 prefix ≤ number_of (prefix ++ more)
+number_more : (prefix more : List ℕ) → all_ascii_digits prefix ≡ true
+    → digits_value 10 prefix ≤ number_of (prefix ++ more)
 number_more prefix more h = rw (take_while-digits prefix more h) (value_more prefix (take_while is_ascii_digit more))
 
 pieces_of-some : (bs : List ℕ) → (piece : List ℕ) × (more : List (List ℕ)) × (pieces_of bs ≡ piece ∷ more)
 pieces_of-some bs = by (pieces_of bs) (length-slice_split (λ b. b == 46) bs)
   where
-    by : (pieces : List (List ℕ)) → length pieces ≡ count_by (λ b. b == 46) bs + 1 → (piece : List ℕ) × (more : List (List ℕ)) × (pieces ≡ piece ∷ more)
+    by : (pieces : List (List ℕ)) → length pieces ≡ count_by (λ b. b == 46) bs + 1
+        → (piece : List ℕ) × (more : List (List ℕ)) × (pieces ≡ piece ∷ more)
     by [] l = absurd (omega arith)
     by (p ∷ ps) l = (p, ps, refl)
 
@@ -78,13 +82,15 @@ one_empty-pieces (b ∷ bs) = let (p, ps, e) = pieces_of-some bs in by p ps e
     by p [] e = grind (arith, nat_tests, slice_split-cons_yes, slice_split-cons_no)
     by p (q ∷ qs) e = grind (arith, nat_tests, slice_split-cons_yes, slice_split-cons_no)
 
-empty-several : (before : List ℕ) (bs : List ℕ) → empty_fault before (pieces_of bs) ≡ (if is_empty before then DigitExpected 46 else RepeatedDot)
+empty-several : (before : List ℕ) (bs : List ℕ)
+    → empty_fault before (pieces_of bs) ≡ (if is_empty before then DigitExpected 46 else RepeatedDot)
 empty-several [] bs = let (p, ps, e) = pieces_of-some bs in rw e
 empty-several (a ∷ arcs) bs = let (p, ps, e) = pieces_of-some bs in rw e
 
 -- ---- the pass
 
-after-answer : (fault other : Option Error) (arcs : List ℕ) → after fault (answer other arcs) ≡ answer (option_or fault other) arcs
+after-answer : (fault other : Option Error) (arcs : List ℕ)
+    → after fault (answer other arcs) ≡ answer (option_or fault other) arcs
 after-answer None other arcs = refl
 after-answer (Some x) other arcs = refl
 
@@ -132,7 +138,8 @@ module _ (rule : RootRule) (capacity : ℕ) where
       (cases_eq b 46))
       (cases_Bool (is_ascii_digit b))
 
-pub text_answer_is : (rule : RootRule) (capacity : ℕ) (text : List ℕ) → text_pass rule capacity [] false 0 text ≡ text_answer rule text capacity
+pub text_answer_is : (rule : RootRule) (capacity : ℕ) (text : List ℕ)
+    → text_pass rule capacity [] false 0 text ≡ text_answer rule text capacity
 text_answer_is rule capacity text = text_pass_is rule capacity text [] [] refl (omega arith)
 
 -- ---- the end of the text

@@ -17,33 +17,39 @@ use Rattle.const_oid.proofs.Texts.{arc_from_piece}
 
 -- ---- octets
 
-pub octets_same : (x : ℕ) (xs : List ℕ) (capacity : ℕ) → x < 120 → octet_fault Narrow (x ∷ xs) capacity ≡ octet_fault Wide (x ∷ xs) capacity
+pub octets_same : (x : ℕ) (xs : List ℕ) (capacity : ℕ) → x < 120
+    → octet_fault Narrow (x ∷ xs) capacity ≡ octet_fault Wide (x ∷ xs) capacity
 octets_same x xs capacity h = grind (arith, nat_tests)
 
 -- ---- the second arc
 
 -- the two rules differ in the second arc alone, under 2
-second_same : (capacity first second : ℕ) → first ≤ 2 → ((first ≡ 2) × (39 < second) → ⊥) → arc_fault Narrow capacity (first ∷ []) second ≡ arc_fault Wide capacity (first ∷ []) second
+second_same : (capacity first second : ℕ) → first ≤ 2 → ((first ≡ 2) × (39 < second) → ⊥)
+    → arc_fault Narrow capacity (first ∷ []) second ≡ arc_fault Wide capacity (first ∷ []) second
 second_same capacity first second h not_past = grind (arith, nat_tests)
 
 -- under the narrow rule a second arc past 39 has a fault
-narrow_past : (capacity first second : ℕ) → 39 < second → arc_fault Narrow capacity (first ∷ []) second ≡ Some (ArcInvalid second)
+narrow_past : (capacity first second : ℕ) → 39 < second
+    → arc_fault Narrow capacity (first ∷ []) second ≡ Some (ArcInvalid second)
 narrow_past capacity first second h = rw (lt-ltb 39 second h)
 
 -- ---- lists
 
-items_later_same : (capacity a b : ℕ) (before items : List ℕ) → items_fault Narrow capacity (a ∷ b ∷ before) items ≡ items_fault Wide capacity (a ∷ b ∷ before) items
+items_later_same : (capacity a b : ℕ) (before items : List ℕ)
+    → items_fault Narrow capacity (a ∷ b ∷ before) items ≡ items_fault Wide capacity (a ∷ b ∷ before) items
 items_later_same capacity a b before [] = refl
 items_later_same capacity a b before (x ∷ xs) = ap (option_or (arc_fault Narrow capacity (a ∷ b ∷ before) x)) (items_later_same capacity a b (before ++ x ∷ []) xs)
 
-pub items_same : (items : List ℕ) (capacity : ℕ) → (RefusesSecond items (item_fault Narrow items capacity) → ⊥) → item_fault Narrow items capacity ≡ item_fault Wide items capacity
+pub items_same : (items : List ℕ) (capacity : ℕ) → (RefusesSecond items (item_fault Narrow items capacity) → ⊥)
+    → item_fault Narrow items capacity ≡ item_fault Wide items capacity
 items_same [] capacity h = refl
 items_same (a ∷ []) capacity h = refl
 items_same (a ∷ b ∷ later) capacity h = grind (arith, nat_tests, items_later_same)
 
 -- ---- texts
 
-pieces_later_same : (capacity a b : ℕ) (before : List ℕ) (pieces : List (List ℕ)) → pieces_fault Narrow capacity (a ∷ b ∷ before) pieces ≡ pieces_fault Wide capacity (a ∷ b ∷ before) pieces
+pieces_later_same : (capacity a b : ℕ) (before : List ℕ) (pieces : List (List ℕ))
+    → pieces_fault Narrow capacity (a ∷ b ∷ before) pieces ≡ pieces_fault Wide capacity (a ∷ b ∷ before) pieces
 pieces_later_same capacity a b before [] = refl
 pieces_later_same capacity a b before (piece ∷ pieces) = ap (option_or (piece_fault Narrow capacity (a ∷ b ∷ before) piece pieces)) (pieces_later_same capacity a b (before ++ number_of piece ∷ []) pieces)
 
@@ -67,7 +73,8 @@ pieces_same capacity (p ∷ q ∷ more) h = by (piece_fault Narrow capacity [] p
     b : ℕ
     b = number_of q
 
-    by : (f : Option Error) → piece_fault Narrow capacity [] p (q ∷ more) ≡ f → pieces_fault Narrow capacity [] (p ∷ q ∷ more) ≡ pieces_fault Wide capacity [] (p ∷ q ∷ more)
+    by : (f : Option Error) → piece_fault Narrow capacity [] p (q ∷ more) ≡ f
+        → pieces_fault Narrow capacity [] (p ∷ q ∷ more) ≡ pieces_fault Wide capacity [] (p ∷ q ∷ more)
     by (Some x) e = rw e
     by None e =
         let within = below_from_none 2 a (ArcInvalid a) (arc_from_piece Narrow capacity [] p (q ∷ more) e) in
@@ -85,17 +92,21 @@ texts_same text capacity = pieces_same capacity (pieces_of text)
 
 -- ---- what was accepted
 
-pub octets_kept : (octets : List ℕ) (capacity : ℕ) → octet_fault Narrow octets capacity ≡ None → octet_fault Wide octets capacity ≡ None
+pub octets_kept : (octets : List ℕ) (capacity : ℕ) → octet_fault Narrow octets capacity ≡ None
+    → octet_fault Wide octets capacity ≡ None
 octets_kept [] capacity none = none
 octets_kept (x ∷ xs) capacity none = grind (arith, nat_tests)
 
-pub texts_kept : (text : List ℕ) (capacity : ℕ) → text_fault Narrow text capacity ≡ None → text_fault Wide text capacity ≡ None
+pub texts_kept : (text : List ℕ) (capacity : ℕ) → text_fault Narrow text capacity ≡ None
+    → text_fault Wide text capacity ≡ None
 texts_kept text capacity none = grind (arith, nat_tests, texts_same)
 
-pub items_kept : (items : List ℕ) (capacity : ℕ) → item_fault Narrow items capacity ≡ None → item_fault Wide items capacity ≡ None
+pub items_kept : (items : List ℕ) (capacity : ℕ) → item_fault Narrow items capacity ≡ None
+    → item_fault Wide items capacity ≡ None
 items_kept items capacity none = grind (arith, nat_tests, items_same)
 
 -- a result that was arcs stays
-pub answer_kept : (narrow wide : Option Error) (numbers arcs : List ℕ) → (narrow ≡ None → wide ≡ None) → answer narrow numbers ≡ Ok arcs → answer wide numbers ≡ Ok arcs
+pub answer_kept : (narrow wide : Option Error) (numbers arcs : List ℕ) → (narrow ≡ None → wide ≡ None)
+    → answer narrow numbers ≡ Ok arcs → answer wide numbers ≡ Ok arcs
 answer_kept None wide numbers arcs kept e = rw (kept refl) e
 answer_kept (Some fault) wide numbers arcs kept e = cc

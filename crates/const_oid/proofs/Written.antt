@@ -5,7 +5,8 @@ use Rattle.const_oid.specs.Base128.{value_of, IsContinued, IsGroup, width}
 use Rattle.const_oid.proofs.Groups.{continued_more, joined, value_below, width_is}
 
 -- a chain of just as many octets as its value takes is a group
-group_from_width : (octets : List ℕ) (n : ℕ) → IsContinued octets → value_of octets ≡ n → length octets ≡ width n → IsGroup n octets
+group_from_width : (octets : List ℕ) (n : ℕ) → IsContinued octets → value_of octets ≡ n → length octets ≡ width n
+    → IsGroup n octets
 group_from_width [] n c v l = absurd c
 group_from_width (x ∷ []) n c v l = grind (arith, nat_tests)
 group_from_width (x ∷ y ∷ ys) n c v l = record {
@@ -26,7 +27,8 @@ pub record IsTail (n rest : ℕ) (octets : List ℕ) : Type 0 where
 pub tail_last : (n : ℕ) → IsTail n (n / 128) (n % 128 ∷ [])
 tail_last n = record { continued = omega arith; value = omega arith }
 
-pub tail_more : (n rest : ℕ) (octets : List ℕ) → IsTail n rest octets → IsTail n (rest / 128) ((128 + rest % 128) ∷ octets)
+pub tail_more : (n rest : ℕ) (octets : List ℕ) → IsTail n rest octets
+    → IsTail n (rest / 128) ((128 + rest % 128) ∷ octets)
 tail_more n rest octets t =
     let d : (128 + rest % 128) % 128 ≡ rest % 128 = omega arith in
     record {
