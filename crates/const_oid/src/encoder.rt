@@ -4,7 +4,6 @@ ghost use Rattle.std.specs.Prelude.{◌≡◌, ◌≤◌, ℕ, List, [], ◌∷�
 ghost use Rattle.std.specs.Result.{result_err};
 ghost use Rattle.const_oid.specs.Identifier.{root_rule, IsEncoding, max_second};
 ghost use Rattle.const_oid.specs.Items.{arc_fault, too_few_fault, TakesItems};
-ghost use Rattle.const_oid.specs.Contents.{arcs_of_octets};
 ghost use Rattle.std.specs.Iterator.{IsFiniteIterable};
 ghost use Rattle.const_oid.specs.Buffer.{octets_of};
 ghost use Rattle.const_oid.specs.Private.Encoder.{buffer_answer, HasEncoding};

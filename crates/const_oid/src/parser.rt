@@ -1,13 +1,11 @@
 //! Dotted text to octets.
 
-ghost use Rattle.std.specs.Prelude.{◌≡◌, ◌≤◌, ◌-◌, [], ◌∷◌, ◌++◌, IfOk, OnOk, min, unwrap_or};
+ghost use Rattle.std.specs.Prelude.{◌≡◌, ◌≤◌, ◌-◌, [], ◌∷◌, ◌++◌, OnOk, min, unwrap_or};
 ghost use Rattle.std.specs.Bool.{then_some};
 ghost use Rattle.std.specs.Char.{is_ascii_digit};
 ghost use Rattle.std.specs.Result.{result_err};
-ghost use Rattle.const_oid.specs.Buffer.{octets_of};
 ghost use Rattle.const_oid.specs.Private.Encoder.{buffer_answer, HasEncoding};
-ghost use Rattle.const_oid.specs.Contents.{arcs_of_octets};
-ghost use Rattle.const_oid.specs.Identifier.{root_rule, IsEncoding};
+ghost use Rattle.const_oid.specs.Identifier.{root_rule};
 ghost use Rattle.const_oid.specs.Private.Parser.{dot_fault, last_fault};
 ghost use Rattle.const_oid.specs.Text.{text_answer};
 
