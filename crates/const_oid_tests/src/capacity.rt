@@ -37,9 +37,11 @@ fn accepts(capacity: usize, octets: &[u8], error: Option<Error>) -> bool {
     }
 }
 
-/// Capacities, how octets begin, how many octets 01 follow, how they end, and the error, if there is one.
+/// A capacity, how octets begin, how many octets 01 follow, how they end, and the error, if there is one.
+type Row = (usize, &'static [u8], usize, &'static [u8], Option<Error>);
+
 /// 255 octets fit where the capacity is past 255, and no more.
-const OCTETS: &[(usize, &[u8], usize, &[u8], Option<Error>)] = &[
+const OCTETS: &[Row] = &[
     (0, &[0x2A], 0, &[], Some(Error::Length)),
     (0, &[0x2A, 0x80, 0x01], 0, &[], Some(Error::Base128)),
     (1, &[0x2A], 0, &[], None),
@@ -59,14 +61,16 @@ const OCTETS: &[(usize, &[u8], usize, &[u8], Option<Error>)] = &[
     (300, &[0x2A], 254, &[0x81], Some(Error::Base128)),
 ];
 
+/// Whether the octets of a row are accepted or rejected as it says.
+fn is_accepted(alloc: Global, row: &Row) -> Result<bool, AllocError> {
+    let octets = long_octets(alloc, row.1, row.2, row.3)?;
+    Ok(accepts(row.0, octets.as_slice(), row.4))
+}
+
 #[test]
 fn octets(rt: HostRuntime) -> Result<(), AllocError> {
-    for (capacity, prefix, ones, end, error) in OCTETS {
-        let octets = long_octets(rt.alloc(), prefix, *ones, end)?;
-        assert!(rt;
-            accepts(*capacity, octets.as_slice(), *error),
-            "{capacity}: {prefix:?}, {ones} and {end:?}"
-        );
+    for row in OCTETS {
+        assert!(rt; is_accepted(rt.alloc(), row)?, "{row:?}");
     }
     Ok(())
 }
@@ -74,79 +78,103 @@ fn octets(rt: HostRuntime) -> Result<(), AllocError> {
 /// More arcs than any capacity has.
 const ONES: [Arc; 257] = [1; 257];
 
-/// Whether the text and the list 1.1.1.1 and so on are accepted with so many octets, or rejected with this error.
+/// Whether a text and the list of so many arcs 1 are accepted with these octets, or rejected with this error.
+fn both_read<const SIZE: usize>(text: &str, arcs: usize, wanted: Result<&[u8], Error>) -> bool
+    requires { SIZE ≤ 300 }
+{
+    let listed = ObjectIdentifier::<SIZE>::from_arcs_sized(ONES.iter().take(arcs).copied());
+    is_answer(ObjectIdentifier::<SIZE>::new_sized(text), wanted) && is_answer(listed, wanted)
+}
+
+/// Whether 1.1.1.1 and so on, of so many octets, is accepted at a capacity, or rejected with [`Error::Length`].
 fn reads<const SIZE: usize>(
     alloc: Global,
-    octets: usize,
-    error: Option<Error>,
+    len: usize,
+    is_accepted: bool,
 ) -> Result<bool, AllocError>
     requires { SIZE ≤ 300 }
 {
-    let text = long_text(alloc, "1", octets, "")?;
-    let arcs = ONES.iter().take(octets.saturating_add(1)).copied();
-    let octets = long_octets(alloc, &[0x29], octets.saturating_sub(1), &[])?;
-    let wanted = match error {
-        None => Ok(octets.as_slice()),
-        Some(error) => Err(error),
+    let text = long_text(alloc, "1", len, "")?;
+    let octets = long_octets(alloc, &[0x29], len.saturating_sub(1), &[])?;
+    let wanted = if is_accepted {
+        Ok(octets.as_slice())
+    } else {
+        Err(Error::Length)
     };
-    let read = ObjectIdentifier::<SIZE>::new_sized(text.as_str());
-    let listed = ObjectIdentifier::<SIZE>::from_arcs_sized(arcs);
-    Ok(is_answer(read, wanted) && is_answer(listed, wanted))
+    Ok(both_read::<SIZE>(text.as_str(), len.saturating_add(1), wanted))
 }
 
 /// Whether so many octets fit, if there is one, and one more does not.
 fn fits<const SIZE: usize>(alloc: Global, octets: usize) -> Result<bool, AllocError>
     requires { SIZE ≤ 300 }
 {
-    let fits = octets == 0 || reads::<SIZE>(alloc, octets, None)?;
-    Ok(fits && reads::<SIZE>(alloc, octets.saturating_add(1), Some(Error::Length))?)
+    let fits = octets == 0 || reads::<SIZE>(alloc, octets, true)?;
+    Ok(fits && reads::<SIZE>(alloc, octets.saturating_add(1), false)?)
 }
+
+/// Whether so many octets fit at one of the capacities that the rows name, and one more does not.
+fn fits_at(alloc: Global, capacity: usize, octets: usize) -> Result<bool, AllocError> {
+    match capacity {
+        0 => fits::<0>(alloc, octets),
+        5 => fits::<5>(alloc, octets),
+        39 => fits::<39>(alloc, octets),
+        255 => fits::<255>(alloc, octets),
+        300 => fits::<300>(alloc, octets),
+        _ => Ok(false),
+    }
+}
+
+/// Capacities, and how many octets fit.
+const FITTING: &[(usize, usize)] = &[(0, 0), (5, 5), (39, 39), (255, 255), (300, 255)];
 
 #[test]
 fn texts_and_lists(rt: HostRuntime) -> Result<(), AllocError> {
-    let alloc = rt.alloc();
-    let rows = [
-        (0, fits::<0>(alloc, 0)?),
-        (5, fits::<5>(alloc, 5)?),
-        (39, fits::<39>(alloc, 39)?),
-        (255, fits::<255>(alloc, 255)?),
-        (300, fits::<300>(alloc, 255)?),
-    ];
-    for (capacity, holds) in rows {
-        assert!(rt; holds, "{capacity}");
+    for (capacity, octets) in FITTING {
+        assert!(rt; fits_at(rt.alloc(), *capacity, *octets)?, "{capacity}");
     }
     Ok(())
 }
 
-/// Whether the first text fits, and the second does not.
-fn fits_only<const SIZE: usize>(short: &str, long: &str) -> bool
-    requires { SIZE ≤ 300 }
-{
-    ObjectIdentifier::<SIZE>::new_sized(short).is_ok()
-        && ObjectIdentifier::<SIZE>::new_sized(long) == Err(Error::Length)
+/// The error of a text at one of the capacities that the rows name.
+fn text_error(capacity: usize, text: &str) -> Option<Error> {
+    match capacity {
+        0 => ObjectIdentifier::<0>::new_sized(text).err(),
+        1 => ObjectIdentifier::<1>::new_sized(text).err(),
+        2 => ObjectIdentifier::<2>::new_sized(text).err(),
+        4 => ObjectIdentifier::<4>::new_sized(text).err(),
+        5 => ObjectIdentifier::<5>::new_sized(text).err(),
+        6 => ObjectIdentifier::<6>::new_sized(text).err(),
+        _ => Some(Error::Overflow),
+    }
 }
 
-/// Below five octets a second arc may be too long, and one that is out of range is that first.
+/// Capacities, texts, and the error, if there is one. Below five octets a second arc may be too long, and one
+/// that is out of range is that first.
+const SECOND_ARCS: &[(usize, &str, Option<Error>)] = &[
+    (0, "1.40", Some(Error::ArcInvalid { arc: 40 })),
+    (1, "2.47", None),
+    (1, "2.48", Some(Error::Length)),
+    (2, "2.16303", None),
+    (2, "2.16304", Some(Error::Length)),
+    (4, "2.268435375", None),
+    (4, "2.268435376", Some(Error::Length)),
+    (5, "2.4294967295", None),
+    (5, "2.4294967295.0", Some(Error::Length)),
+    (6, "2.4294967295.127", None),
+    (6, "2.4294967295.128", Some(Error::Length)),
+];
+
 #[test]
 fn second_arcs(rt: HostRuntime) {
-    let rows = [
-        (1, fits_only::<1>("2.47", "2.48")),
-        (2, fits_only::<2>("2.16303", "2.16304")),
-        (4, fits_only::<4>("2.268435375", "2.268435376")),
-        (5, fits_only::<5>("2.4294967295", "2.4294967295.0")),
-        (6, fits_only::<6>("2.4294967295.127", "2.4294967295.128")),
-    ];
-    for (capacity, holds) in rows {
-        assert!(rt; holds, "{capacity}");
+    for (capacity, text, error) in SECOND_ARCS {
+        assert!(rt; text_error(*capacity, text) == *error, "{capacity}: {text}");
     }
-    assert!(rt; ObjectIdentifier::<0>::new_sized("1.40") == Err(Error::ArcInvalid { arc: 40 }));
 }
 
 /// Long groups in just enough octets.
 #[test]
-fn seven_octets(rt: HostRuntime) -> Result<(), Error> {
-    let arcs: [Arc; 6] = [1, 2, 840, 10045, 2, 1];
-    let oid = ObjectIdentifier::<7>::from_arcs_sized(arcs)?;
-    assert!(rt; oid.as_bytes() == [0x2A, 0x86, 0x48, 0xCE, 0x3D, 0x02, 0x01].as_slice());
-    Ok(())
+fn seven_octets(rt: HostRuntime) {
+    let arcs: &[Arc] = &[1, 2, 840, 10045, 2, 1];
+    let oid = ObjectIdentifier::<7>::from_arcs_sized(arcs.iter().copied());
+    assert!(rt; is_answer(oid, Ok(&[0x2A, 0x86, 0x48, 0xCE, 0x3D, 0x02, 0x01])));
 }

@@ -4,17 +4,22 @@ use std::alloc::{AllocError, Global};
 use std::fmt;
 use std::fmt::{Debug, Display, Write};
 
+/// Whether each text between bars is this text.
+fn is_each(printed: &str, text: &str) -> bool {
+    for piece in printed.split('|') {
+        if piece != text {
+            return false;
+        }
+    }
+    true
+}
+
 /// Whether a value prints as this text, plain and under each option, alone and together.
 pub fn prints<T: Display>(alloc: Global, value: &T, text: &str) -> Result<bool, AllocError> {
     let printed = format!(in alloc;
         "{value}|{value:#}|{value:+}|{value:.3}|{value:30}|{value:030}|{value:<30}|{value:^30}|{value:*>60}|{value:*^+#80.1}"
     )?;
-    for piece in printed.as_str().split('|') {
-        if piece != text {
-            return Ok(false);
-        }
-    }
-    Ok(true)
+    Ok(is_each(printed.as_str(), text))
 }
 
 /// Whether a value is printed as this text where no memory is at hand.

@@ -2,7 +2,7 @@
 
 use const_oid::db::SortedDatabase;
 use const_oid::{ByArcs, Error, ObjectIdentifierRef};
-use std::alloc::Global;
+use std::alloc::{AllocError, Global};
 use std::cmp::Ordering;
 use std::test::Fail;
 
@@ -120,27 +120,51 @@ fn entries(alloc: Global) -> Result<Vec<Entry>, Fail> {
 
 /// Whether a table finds what a row says.
 fn is_found(names: &SortedDatabase<'_>, row: &Row) -> Result<bool, Error> {
-    let (octets, name, nearest, count, next) = *row;
-    let oid = ObjectIdentifierRef::from_bytes(octets)?;
+    let oid = ObjectIdentifierRef::from_bytes(row.0)?;
     Ok(
-        names.by_oid(&oid) == name
-            && names.nearest(oid).map(|entry| entry.1) == nearest
-            && names.subtree(&oid).len() == count
-            && names.next_after(&oid).map(|entry| entry.1) == next,
+        names.by_oid(&oid) == row.1
+            && names.nearest(oid).map(|entry| entry.1) == row.2
+            && names.subtree(&oid).len() == row.3
+            && names.next_after(&oid).map(|entry| entry.1) == row.4,
     )
+}
+
+/// The first octets that a table of these entries finds otherwise than their row says; no octets where the
+/// entries are no sorted table.
+fn wrong_octets(entries: &[Entry]) -> Option<&'static [u8]> {
+    let Some(names) = SortedDatabase::try_new(entries) else {
+        return Some(&[]);
+    };
+    for row in ROWS {
+        if is_found(&names, row) != Ok(true) {
+            return Some(row.0);
+        }
+    }
+    None
 }
 
 #[test]
 fn rows(rt: HostRuntime) -> Result<(), Fail> {
     let entries = entries(rt.alloc())?;
-    let names = SortedDatabase::try_new(&entries);
-    assert!(rt; names.is_some());
-    if let Some(names) = names {
-        for row in ROWS {
-            assert!(rt; is_found(&names, row)?, "{:?}", row.0);
+    assert_eq!(rt; wrong_octets(&entries), None);
+    Ok(())
+}
+
+/// Whether the entries become a sorted table when they are sorted by a key, and not before that.
+fn become_sorted(entries: &mut Vec<Entry>) -> Result<bool, AllocError> {
+    let was_none = SortedDatabase::try_new(entries).is_none();
+    entries.sort_by_key(|entry| ByArcs(entry.0))?;
+    Ok(was_none && SortedDatabase::try_new(entries).is_some())
+}
+
+/// The first name of the table whose entry is at another index.
+fn wrong_name(entries: &[Entry]) -> Option<&'static str> {
+    for ((oid, _), (octets, name)) in entries.iter().zip(TABLE) {
+        if oid.as_bytes() != *octets {
+            return Some(name);
         }
     }
-    Ok(())
+    None
 }
 
 /// The entries by a key, put in backwards, are in the order of the table; backwards they are no sorted table.
@@ -148,22 +172,22 @@ fn rows(rt: HostRuntime) -> Result<(), Fail> {
 fn sorted_by_key(rt: HostRuntime) -> Result<(), Fail> {
     let mut entries = entries(rt.alloc())?;
     entries.reverse();
-    assert!(rt; SortedDatabase::try_new(&entries).is_none());
-    entries.sort_by_key(|entry| ByArcs(entry.0))?;
-    assert!(rt; SortedDatabase::try_new(&entries).is_some());
-    for ((oid, _), (octets, name)) in entries.iter().zip(TABLE) {
-        assert!(rt; oid.as_bytes() == *octets, "{name}");
-    }
+    assert!(rt; become_sorted(&mut entries)?);
+    assert_eq!(rt; wrong_name(&entries), None);
     Ok(())
 }
 
+/// The orders of two identifiers as keys and as they are, and whether they are equal keys.
+fn orders(a: &[u8], b: &[u8]) -> Result<(Ordering, Ordering, bool), Error> {
+    let a = ObjectIdentifierRef::from_bytes(a)?;
+    let b = ObjectIdentifierRef::from_bytes(b)?;
+    Ok((ByArcs(a).cmp(&ByArcs(b)), a.cmp(&b), ByArcs(a) == ByArcs(b)))
+}
+
+/// 1.2.256 and 1.2.16384.
 #[test]
-fn keys(rt: HostRuntime) -> Result<(), Error> {
-    let [small, large] = [&[0x2A, 0x82, 0x00], &[0x2A, 0x81, 0x80, 0x00][..]];
-    let small = ObjectIdentifierRef::from_bytes(small)?;
-    let large = ObjectIdentifierRef::from_bytes(large)?;
-    assert!(rt; ByArcs(small).cmp(&ByArcs(large)) == Ordering::Less);
-    assert!(rt; small.cmp(&large) == Ordering::Greater);
-    assert!(rt; ByArcs(small) == ByArcs(small) && ByArcs(small) != ByArcs(large));
-    Ok(())
+fn keys(rt: HostRuntime) {
+    let (small, large) = (&[0x2A, 0x82, 0x00], &[0x2A, 0x81, 0x80, 0x00]);
+    assert!(rt; orders(small, large) == Ok((Ordering::Less, Ordering::Greater, false)));
+    assert!(rt; orders(small, small) == Ok((Ordering::Equal, Ordering::Equal, true)));
 }
