@@ -7,8 +7,8 @@ use std::alloc::{AllocError, Global};
 /// An identifier as its text, its contents octets and its arcs.
 pub type Row = (&'static str, &'static [u8], &'static [Arc]);
 
-/// Identifiers that are accepted. More are in `rows.txt` of `const_oid_c`. The rows are in a function, so that they are checked once and not
-/// with each caller.
+/// Identifiers that are accepted. More are in `rows.txt` of `const_oid_c`. The rows are in a function, so that
+/// they are checked once and not with each caller.
 pub fn accepted_rows() -> &'static [Row] {
     ACCEPTED
 }
@@ -133,30 +133,42 @@ pub fn is_answer<const N: usize>(
     }
 }
 
-/// The text and the octets of a row are one owned identifier, with the arcs and the text of the row.
+/// Whether the text and the octets of a row are one owned identifier, with the arcs and the text of the row.
+fn is_owned(text: &str, octets: &[u8], arcs: &[Arc]) -> Result<bool, Error> {
+    let oid = Oid::from_bytes(octets)?;
+    Ok(
+        oid.as_bytes() == octets
+            && is_answer(Oid::new(text), Ok(octets))
+            && oid.arcs().eq(arcs.iter().copied())
+            && oid.len() == arcs.len()
+            && oid.arc(1) == arcs.get(1).copied()
+            && oid.arc(arcs.len()).is_none()
+            && prints_as(&oid, text),
+    )
+}
+
 #[test]
 fn owned(rt: HostRuntime) {
     for (text, octets, arcs) in accepted_rows() {
-        let oid = Oid::from_bytes(octets).expect(&rt, text);
-        assert!(rt; oid.as_bytes() == *octets, "{text}");
-        assert!(rt; is_answer(Oid::new(text), Ok(octets)), "{text}");
-        assert!(rt; oid.arcs().eq(arcs.iter().copied()), "{text}");
-        assert!(rt; oid.len() == arcs.len(), "{text}");
-        assert!(rt; oid.arc(1) == arcs.get(1).copied(), "{text}");
-        assert!(rt; oid.arc(arcs.len()).is_none(), "{text}");
-        assert!(rt; prints_as(&oid, text), "{text}");
+        assert!(rt; is_owned(text, octets, arcs) == Ok(true), "{text}");
     }
 }
 
-/// The octets of a row are a borrowed identifier with the arcs and the text of the row.
+/// Whether the octets of a row are a borrowed identifier with the arcs and the text of the row.
+fn is_borrowed(text: &str, octets: &[u8], arcs: &[Arc]) -> Result<bool, Error> {
+    let oid = ObjectIdentifierRef::from_bytes(octets)?;
+    Ok(
+        oid.as_bytes() == octets
+            && oid.arcs().eq(arcs.iter().copied())
+            && oid.len() == arcs.len()
+            && oid.arc(arcs.len()).is_none()
+            && prints_as(&oid, text),
+    )
+}
+
 #[test]
 fn borrowed(rt: HostRuntime) {
     for (text, octets, arcs) in accepted_rows() {
-        let oid = ObjectIdentifierRef::from_bytes(octets).expect(&rt, text);
-        assert!(rt; oid.as_bytes() == *octets, "{text}");
-        assert!(rt; oid.arcs().eq(arcs.iter().copied()), "{text}");
-        assert!(rt; oid.len() == arcs.len(), "{text}");
-        assert!(rt; oid.arc(arcs.len()).is_none(), "{text}");
-        assert!(rt; prints_as(&oid, text), "{text}");
+        assert!(rt; is_borrowed(text, octets, arcs) == Ok(true), "{text}");
     }
 }
