@@ -53,18 +53,19 @@ fn error_writes(error: Error, text: &[u8], out: &mut [u8]) -> bool {
         && error.encode_str(out).map(str::as_bytes) == Some(text)
 }
 
+/// Whether both forms of 1.2 and an arc write this text.
+fn both_write(arc: Arc, text: &[u8]) -> Result<bool, Error> {
+    let arcs: &[Arc] = &[1, 2, arc];
+    let oid = ObjectIdentifier::<255>::from_arcs_sized(arcs.iter().copied())?;
+    let mut out = [0; 16];
+    Ok(owned_writes(&oid, text, &mut out) && borrowed_writes(oid.as_oid_ref(), text, &mut out))
+}
+
 #[test]
-fn arcs(rt: HostRuntime) -> Result<(), Error> {
+fn arcs(rt: HostRuntime) {
     for (arc, text) in ARCS {
-        let oid = ObjectIdentifier::<255>::from_arcs_sized([1, 2, *arc])?;
-        let (bytes, mut out) = (text.as_bytes(), [0; 16]);
-        assert!(rt; owned_writes(&oid, bytes, &mut out), "{text}");
-        assert!(rt;
-            borrowed_writes(oid.as_oid_ref(), bytes, &mut out),
-            "{text}"
-        );
+        assert!(rt; both_write(*arc, text.as_bytes()) == Ok(true), "{text}");
     }
-    Ok(())
 }
 
 #[test]
@@ -91,9 +92,17 @@ fn repeated(
     Ok(bytes)
 }
 
-/// The octets and the text of a first group, how many groups follow, and their octets and text: 255
-/// octets with the longest texts of an octet and of an arc, and 10,000 octets.
-const LONG: &[(&[u8], &[u8], usize, &[u8], &[u8])] = &[
+/// The octets and the text of a first group, how many groups follow, and their octets and text.
+type Row = (
+    &'static [u8],
+    &'static [u8],
+    usize,
+    &'static [u8],
+    &'static [u8],
+);
+
+/// 255 octets with the longest texts of an octet and of an arc, and 10,000 octets.
+const LONG: &[Row] = &[
     (&[0x7F], b"2.47", 254, &[0x7F], b".127"),
     (
         &[0x90, 0x80, 0x80, 0x80, 0x4F],
@@ -105,36 +114,54 @@ const LONG: &[(&[u8], &[u8], usize, &[u8], &[u8])] = &[
     (&[0x7F], b"2.47", 9_999, &[0x7F], b".127"),
 ];
 
-/// The owned form of at most 255 octets, and the borrowed form of any number.
+/// Whether octets write this text: in the borrowed form of any number, and the owned one of at most 255.
+fn octets_write(octets: &[u8], text: &[u8], out: &mut [u8]) -> Result<bool, Error> {
+    let borrowed = ObjectIdentifierRef::from_bytes(octets)?;
+    let is_written = match ObjectIdentifier::<255>::try_from_ref(borrowed) {
+        Ok(owned) => owned_writes(&owned, text, out),
+        Err(_) => octets.len() > 255,
+    };
+    Ok(is_written && borrowed_writes(borrowed, text, out))
+}
+
+/// Whether the octets of a row write its text.
+fn is_written(alloc: Global, row: &Row) -> Result<bool, Fail> {
+    let octets = repeated(alloc, row.0, row.2, row.3)?;
+    let text = repeated(alloc, row.1, row.2, row.4)?;
+    let mut out = text.as_slice().to_vec(alloc)?;
+    Ok(octets_write(octets.as_slice(), text.as_slice(), out.as_mut_slice())?)
+}
+
 #[test]
 fn long_texts(rt: HostRuntime) -> Result<(), Fail> {
-    for (octets, text, count, later_octets, later_text) in LONG {
-        let octets = repeated(rt.alloc(), octets, *count, later_octets)?;
-        let text = repeated(rt.alloc(), text, *count, later_text)?;
-        let mut out = text.as_slice().to_vec(rt.alloc())?;
-        let borrowed = ObjectIdentifierRef::from_bytes(octets.as_slice())?;
-        let is_written = match ObjectIdentifier::<255>::try_from_ref(borrowed) {
-            Ok(owned) => owned_writes(&owned, text.as_slice(), out.as_mut_slice()),
-            Err(_) => octets.len() > 255,
-        };
-        assert!(rt; is_written, "{count} groups");
-        let is_written = borrowed_writes(borrowed, text.as_slice(), out.as_mut_slice());
-        assert!(rt; is_written, "{count} groups of a borrowed identifier");
+    for row in LONG {
+        assert!(rt; is_written(rt.alloc(), row)?, "{} groups", row.2);
     }
     Ok(())
 }
 
+/// Whether `encode_str` returns `None` for so many bytes, of each form and an error.
+fn are_none(oid: &Oid, out: &mut [u8]) -> bool {
+    oid.encode_str(out).is_none()
+        && oid.as_oid_ref().encode_str(out).is_none()
+        && Error::Length.encode_str(out).is_none()
+}
+
+/// Whether nothing is written to so many bytes.
+fn writes_nothing(len: usize) -> bool {
+    let oid = Oid::new_unwrap("1.2.3");
+    let mut out = [b'x'; 5];
+    let is_none = match out.get_mut(..len) {
+        Some(out) => are_none(&oid, out),
+        None => false,
+    };
+    is_none && out == [b'x'; 5]
+}
+
 /// Where `encode_str` returns `None`, it writes nothing. A clause of `encode_text` says so of that call.
 #[test]
-fn written_before_none(rt: HostRuntime) -> Result<(), Error> {
-    let oid = Oid::new("1.2.3")?;
-    let mut out = [b'x'; 5];
+fn written_before_none(rt: HostRuntime) {
     for len in 0..5 {
-        let is_none = oid.encode_str(&mut out[..len]).is_none()
-            && oid.as_oid_ref().encode_str(&mut out[..len]).is_none()
-            && Error::Length.encode_str(&mut out[..len]).is_none();
-        assert!(rt; is_none, "{len}");
+        assert!(rt; writes_nothing(len), "{len}");
     }
-    assert_eq!(rt; out, [b'x'; 5]);
-    Ok(())
 }

@@ -57,15 +57,28 @@ const ROWS: &[(&[&[u8]], &[u8], (usize, usize))] = &[
     (&[], &[0x2A], (0, 0)),
 ];
 
+/// Whether a list, once sorted, has an identifier that begins with a prefix.
+fn has_first(
+    prefix: &ObjectIdentifierRef<'_>,
+    oids: &mut Vec<ObjectIdentifierRef<'_>>,
+) -> Result<bool, AllocError> {
+    oids.sort()?;
+    Ok(first_under(prefix, oids).is_some())
+}
+
+/// The range of those that begin with a prefix, and whether there is a first one.
+fn range_of(alloc: Global, list: &[&[u8]], prefix: &[u8]) -> Result<((usize, usize), bool), Fail> {
+    let prefix = ObjectIdentifierRef::from_bytes(prefix)?;
+    let mut oids = read(alloc, list)?;
+    let range = sorted_subtree(&prefix, &mut oids)?;
+    Ok((range, has_first(&prefix, &mut oids)?))
+}
+
 #[test]
 fn ranges(rt: HostRuntime) -> Result<(), Fail> {
     for (list, prefix, range) in ROWS {
-        let mut oids = read(rt.alloc(), list)?;
-        let prefix = ObjectIdentifierRef::from_bytes(prefix)?;
-        assert!(rt; sorted_subtree(&prefix, &mut oids)? == *range, "{prefix}");
-        oids.sort()?;
-        let first = first_under(&prefix, &oids);
-        assert!(rt; first.is_some() == (range.0 < range.1), "{prefix}");
+        let wanted = (*range, range.0 < range.1);
+        assert_eq!(rt; range_of(rt.alloc(), list, prefix)?, wanted, "{prefix:?}");
     }
     Ok(())
 }

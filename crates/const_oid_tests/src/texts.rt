@@ -3,7 +3,7 @@
 use crate::vectors::{is_answer, long_text};
 use const_oid::db::Database;
 use const_oid::{Error, Oid};
-use std::alloc::AllocError;
+use std::alloc::{AllocError, Global};
 
 /// Texts that are rejected, and the error. More are in `rows.txt` of `const_oid_c`.
 const REFUSED: &[(&str, Error)] = &[
@@ -27,8 +27,11 @@ const REFUSED: &[(&str, Error)] = &[
 #[test]
 fn refused(rt: HostRuntime) {
     for (text, error) in REFUSED {
-        assert!(rt; Oid::new(text) == Err(*error), "of {text}");
-        assert!(rt; text.parse::<Oid>() == Err(*error), "of {text}");
+        let wanted = Err(*error);
+        assert!(rt;
+            Oid::new(text) == wanted && text.parse::<Oid>() == wanted,
+            "of {text}"
+        );
     }
 }
 
@@ -45,12 +48,22 @@ const LONG: &[(&str, usize, &str, Result<usize, Error>)] = &[
     ("2.4294967295", 35, ".", Err(Error::TrailingDot)),
 ];
 
+/// How many octets a long text has, or its error.
+fn len_of(
+    alloc: Global,
+    prefix: &str,
+    count: usize,
+    end: &str,
+) -> Result<Result<usize, Error>, AllocError> {
+    let text = long_text(alloc, prefix, count, end)?;
+    Ok(Oid::new(text.as_str()).map(|oid| oid.as_bytes().len()))
+}
+
 #[test]
 fn longest(rt: HostRuntime) -> Result<(), AllocError> {
     for (prefix, count, end, wanted) in LONG {
-        let text = long_text(rt.alloc(), prefix, *count, end)?;
-        let len = Oid::new(text.as_str()).map(|oid| oid.as_bytes().len());
-        assert!(rt; len == *wanted, "{text}");
+        let len = len_of(rt.alloc(), prefix, *count, end)?;
+        assert!(rt; len == *wanted, "{prefix}, {count} and {end}");
     }
     Ok(())
 }
