@@ -4,8 +4,8 @@ ghost use Rattle.std.specs.Prelude.{◌≡◌, ◌↔◌, IsTrue, IsOk, IfOk};
 ghost use Rattle.const_oid.specs.Error.{error_cmp};
 
 use crate::formatter::{count_writes, prints, prints_as};
-use const_oid::Error;
-use std::alloc::AllocError;
+use const_oid::{Arc, Error};
+use std::alloc::{AllocError, Global};
 use std::cmp::Ordering;
 
 /// Equal is the same variant, with an equal number.
@@ -32,10 +32,11 @@ fn cloned(error: &Error) -> Result<Error, AllocError>
 #[test]
 fn compared(rt: HostRuntime) -> Result<(), AllocError> {
     let error = Error::ArcInvalid { arc: 40 };
-    assert!(rt; same(error, cloned(&error)?));
-    assert!(rt; !same(error, Error::ArcInvalid { arc: 3 }));
-    assert!(rt; order(error, Error::ArcTooBig) == Ordering::Less);
-    assert!(rt; order(error, Error::ArcInvalid { arc: 3 }) == Ordering::Greater);
+    let other = Error::ArcInvalid { arc: 3 };
+    assert!(rt; same(error, cloned(&error)?) && !same(error, other));
+    assert!(rt;
+        order(error, Error::ArcTooBig) == Ordering::Less && order(error, other) == Ordering::Greater
+    );
     Ok(())
 }
 
@@ -48,6 +49,22 @@ pub const MESSAGES: &[(Error, &str)] = &[
     (
         Error::ArcInvalid { arc: 40 },
         "OID contains out-of-range arc: 40",
+    ),
+    (
+        Error::ArcInvalid { arc: 10000 },
+        "OID contains out-of-range arc: 10000",
+    ),
+    (
+        Error::ArcInvalid { arc: 65535 },
+        "OID contains out-of-range arc: 65535",
+    ),
+    (
+        Error::ArcInvalid { arc: 65536 },
+        "OID contains out-of-range arc: 65536",
+    ),
+    (
+        Error::ArcInvalid { arc: 1000000000 },
+        "OID contains out-of-range arc: 1000000000",
     ),
     (
         Error::ArcInvalid { arc: 4294967295 },
@@ -107,34 +124,36 @@ pub const MESSAGES: &[(Error, &str)] = &[
 #[test]
 fn messages(rt: HostRuntime) -> Result<(), AllocError> {
     for (error, text) in MESSAGES {
-        assert!(rt; prints(rt.alloc(), error, text)?, "{text}");
-        assert!(rt; count_writes(error, text) == Some(1), "{text}");
+        let is_printed = prints(rt.alloc(), error, text)? && count_writes(error, text) == Some(1);
+        assert!(rt; is_printed, "{text}");
     }
     Ok(())
 }
 
-/// Each byte prints as the character with its number.
+/// Whether a byte prints as the character with its number.
+fn prints_byte(alloc: Global, actual: u8) -> Result<bool, AllocError> {
+    let text = format!(in alloc; "expected digit, got '{}'", char::from(actual))?;
+    Ok(prints_as(&Error::DigitExpected { actual }, text.as_str()))
+}
+
 #[test]
 fn each_byte(rt: HostRuntime) -> Result<(), AllocError> {
     for actual in 0..=255 {
-        let mut text = String::from_str(rt.alloc(), "expected digit, got '")?;
-        text.push(char::from(actual))?;
-        text.push_str("'")?;
-        let error = Error::DigitExpected { actual };
-        assert!(rt; prints_as(&error, text.as_str()), "{actual}");
+        assert!(rt; prints_byte(rt.alloc(), actual)?, "{actual}");
     }
     Ok(())
 }
 
-/// Each arc prints as its decimals.
+/// Whether an arc prints as its decimals.
+fn prints_arc(alloc: Global, arc: Arc) -> Result<bool, AllocError> {
+    let text = format!(in alloc; "OID contains out-of-range arc: {arc}")?;
+    Ok(prints_as(&Error::ArcInvalid { arc }, text.as_str()))
+}
+
 #[test]
 fn each_arc(rt: HostRuntime) -> Result<(), AllocError> {
-    for arc in (0..=9_999).chain([10_000, 65_535, 65_536, 1_000_000_000, 4_294_967_295]) {
-        let text = format!(in rt.alloc(); "OID contains out-of-range arc: {arc}")?;
-        assert!(rt;
-            prints_as(&Error::ArcInvalid { arc }, text.as_str()),
-            "{arc}"
-        );
+    for arc in 0..=9_999 {
+        assert!(rt; prints_arc(rt.alloc(), arc)?, "{arc}");
     }
     Ok(())
 }

@@ -71,6 +71,33 @@ fn wrong_text(database: &Database<'_>) -> Option<&'static str> {
     None
 }
 
+/// Texts of identifiers, and the first name of each, if it has one.
+const FIRST_NAMES: &[(&str, Option<&str>)] = &[
+    ("2.5.4.3", Some("cn")),
+    ("2.5.4.6", Some("c")),
+    ("0.1.2.3.4.5.6.7.8.9", None),
+];
+
+/// The first text whose identifier has not the name of its row.
+fn wrong_oid(database: &Database<'_>) -> Option<&'static str> {
+    for (text, name) in FIRST_NAMES {
+        let Ok(oid) = Oid::new(text) else {
+            return Some(text);
+        };
+        if database.by_oid(&oid) != *name {
+            return Some(text);
+        }
+    }
+    None
+}
+
+/// The first row of any kind that the table does not keep to.
+fn wrong_row(database: &Database<'_>) -> Option<&'static str> {
+    wrong_oid(database)
+        .or(wrong_name(database))
+        .or(wrong_text(database))
+}
+
 /// A table of attribute types (RFC 4519) and an algorithm (RFC 8017), in which one identifier has two names.
 #[test]
 fn names_and_identifiers(rt: HostRuntime) -> Result<(), Fail> {
@@ -84,26 +111,27 @@ fn names_and_identifiers(rt: HostRuntime) -> Result<(), Fail> {
         (&rsa, "rsaEncryption"),
     ];
     let database = clone_of(&Database::new(&entries))?;
-    assert!(rt; database.by_oid(&common_name) == Some("cn"));
-    assert!(rt; database.by_oid(&Oid::new("0.1.2.3.4.5.6.7.8.9")?).is_none());
+    assert_eq!(rt; wrong_row(&database), None);
     assert!(rt; has_names(&database, common_name, &["cn", "commonName"]));
-    assert!(rt; wrong_name(&database) == None);
-    assert!(rt; wrong_text(&database) == None);
     Ok(())
+}
+
+/// Whether a table without entries has no name, and leaves a text as it is.
+fn is_empty(database: &Database<'_>, oid: Oid) -> bool {
+    database.by_oid(&oid).is_none()
+        && database.by_name("cn").is_none()
+        && has_names(database, oid, &[])
+        && database.resolve("01.2") == Ok("01.2")
 }
 
 /// A table without entries, an entry twice, and an empty name.
 #[test]
 fn unusual_tables(rt: HostRuntime) -> Result<(), Error> {
     let oid = Oid::new("1.2.3")?;
-    let empty = Database::new(&[]);
-    assert!(rt; empty.by_oid(&oid).is_none());
-    assert!(rt; empty.by_name("cn").is_none());
-    assert!(rt; has_names(&empty, oid, &[]));
-    assert!(rt; empty.resolve("01.2") == Ok("01.2"));
     let twice = [(&oid, "cn"), (&oid, "cn")];
-    assert!(rt; has_names(&Database::new(&twice), oid, &["cn", "cn"]));
     let unnamed = [(&oid, "")];
+    assert!(rt; is_empty(&Database::new(&[]), oid));
+    assert!(rt; has_names(&Database::new(&twice), oid, &["cn", "cn"]));
     assert!(rt; Database::new(&unnamed).resolve("1.2.3") == Ok(""));
     Ok(())
 }
@@ -111,28 +139,29 @@ fn unusual_tables(rt: HostRuntime) -> Result<(), Error> {
 /// An entry as a text and a name.
 type Pair = (&'static str, &'static str);
 
-/// Two entries, a name, and the text of its identifier, if it has one: the first of two names that are the
-/// same is found, and only ASCII letters are folded.
-const FOLDED: &[(Pair, Pair, &str, Option<&str>)] = &[
+/// Two entries, a name, and the text of its identifier, if it has one.
+type Folded = (Pair, Pair, &'static str, Option<&'static str>);
+
+/// The first of two names that are the same is found, and only ASCII letters are folded.
+const FOLDED: &[Folded] = &[
     (("2.5.4.6", "C"), ("1.2.3", "c"), "c", Some("2.5.4.6")),
     (("1.2.3", "É"), ("2.5.4.6", "c"), "é", None),
     (("1.2.3", "É"), ("2.5.4.6", "c"), "É", Some("1.2.3")),
     (("2.5.4.6", "c"), ("1.2.3", ""), "", Some("1.2.3")),
 ];
 
-/// Whether a name has the identifier of this text among two entries, or none.
-fn has_oid_among(entries: &[(&Oid, &str); 2], name: &str, wanted: Option<&str>) -> bool {
-    has_oid(&Database::new(entries), name, wanted)
+/// Whether the name of a row has the identifier that the row says, or none.
+fn is_folded(row: &Folded) -> Result<bool, Error> {
+    let (first, second) = (Oid::new(row.0.0)?, Oid::new(row.1.0)?);
+    let entries: [(&Oid, &str); 2] = [(&first, row.0.1), (&second, row.1.1)];
+    Ok(has_oid(&Database::new(&entries), row.2, row.3))
 }
 
 #[test]
-fn folded_names(rt: HostRuntime) -> Result<(), Error> {
-    for ((first, first_name), (second, second_name), name, wanted) in FOLDED {
-        let (first, second) = (Oid::new(first)?, Oid::new(second)?);
-        let entries: [(&Oid, &str); 2] = [(&first, first_name), (&second, second_name)];
-        assert!(rt; has_oid_among(&entries, name, *wanted), "{name}");
+fn folded_names(rt: HostRuntime) {
+    for row in FOLDED {
+        assert!(rt; is_folded(row) == Ok(true), "{row:?}");
     }
-    Ok(())
 }
 
 const COMMON_NAME: ObjectIdentifierRef<'static> = ObjectIdentifierRef {
@@ -150,20 +179,23 @@ const TABLE: [(ObjectIdentifierRef<'static>, &str); 3] = [
     (COMMON_NAME, "commonName"),
 ];
 
+/// Whether an identifier of constants has these names in table order, and then none, each time.
+fn has_constant_names(oid: ObjectIdentifierRef<'_>, wanted: &[&str]) -> bool {
+    let mut names = RefDatabase::new(&TABLE).find_names_for_oid(oid);
+    for name in wanted {
+        if names.next() != Some(name) {
+            return false;
+        }
+    }
+    names.next().is_none() && names.next().is_none()
+}
+
 #[test]
-fn table_of_constants(rt: HostRuntime) -> Result<(), Error> {
+fn table_of_constants(rt: HostRuntime) {
     let database = RefDatabase::new(&TABLE);
-    assert!(rt; database.by_oid(&COMMON_NAME) == Some("cn"));
-    assert!(rt;
-        database
-            .by_oid(&ObjectIdentifierRef::from_bytes(&[0x55, 0x04])?)
-            .is_none()
-    );
+    let unnamed = ObjectIdentifierRef { ber: &[0x55, 0x04] };
+    assert!(rt; database.by_oid(&COMMON_NAME) == Some("cn") && database.by_oid(&unnamed).is_none());
     assert!(rt; database.by_name("COMMONNAME") == Some(COMMON_NAME));
     assert!(rt; database.by_name("common").is_none());
-    let mut names = database.find_names_for_oid(COMMON_NAME);
-    for name in &[Some("cn"), Some("commonName"), None, None] {
-        assert!(rt; names.next() == *name);
-    }
-    Ok(())
+    assert!(rt; has_constant_names(COMMON_NAME, &["cn", "commonName"]));
 }

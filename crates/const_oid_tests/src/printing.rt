@@ -2,8 +2,9 @@
 
 use crate::encode_text::ARCS;
 use crate::formatter::{DebugText, DebugTexts, count_writes, prints, prints_as};
-use const_oid::{ObjectIdentifier, ObjectIdentifierRef, Oid};
+use const_oid::{Arc, Error, ObjectIdentifier, ObjectIdentifierRef, Oid};
 use std::alloc::{AllocError, Global};
+use std::fmt::Debug;
 use std::test::Fail;
 
 /// Octets, and what they print.
@@ -18,20 +19,58 @@ const ROWS: &[(&[u8], &str)] = &[
     ),
 ];
 
+/// Whether both forms of octets print as this text under each option.
+fn both_print(alloc: Global, octets: &[u8], text: &str) -> Result<bool, Fail> {
+    let borrowed = ObjectIdentifierRef::from_bytes(octets)?;
+    let owned = Oid::from_bytes(octets)?;
+    Ok(prints(alloc, &borrowed, text)? && prints(alloc, &owned, text)?)
+}
+
 #[test]
-fn options_change_nothing(rt: HostRuntime) -> Result<(), AllocError> {
+fn options_change_nothing(rt: HostRuntime) -> Result<(), Fail> {
     for (octets, text) in ROWS {
-        let borrowed = ObjectIdentifierRef::from_bytes(octets).expect(&rt, text);
-        let owned = Oid::from_bytes(octets).expect(&rt, text);
-        assert!(rt; prints(rt.alloc(), &borrowed, text)?, "{text}");
-        assert!(rt; prints(rt.alloc(), &owned, text)?, "{text}");
+        assert!(rt; both_print(rt.alloc(), octets, text)?, "{text}");
     }
     Ok(())
 }
 
-/// Whether so many octets print as the text of the first one and then a text for each later one, the owned
-/// form where they are at most 255.
-fn prints_octets(
+/// Whether the Debug texts of a value under options are a name and this text.
+fn prints_debug<T: Debug + Drop>(
+    alloc: Global,
+    value: T,
+    name: &str,
+    text: &str,
+) -> Result<bool, AllocError> {
+    let debug = format!(in alloc; "{name}({text})|{name}({text})|{name}({text})")?;
+    Ok(prints_as(&DebugTexts(value), debug.as_str()))
+}
+
+/// Whether the owned form of an identifier of at most 255 octets prints as this text.
+fn prints_owned(
+    alloc: Global,
+    borrowed: ObjectIdentifierRef<'_>,
+    text: &str,
+) -> Result<bool, AllocError> {
+    match ObjectIdentifier::<300>::try_from_ref(borrowed) {
+        Ok(owned) => Ok(
+            prints_as(&owned, text) && prints_debug(alloc, owned, "ObjectIdentifier", text)?,
+        ),
+        Err(_) => Ok(borrowed.as_bytes().len() > 255),
+    }
+}
+
+/// Whether octets print as this text.
+fn prints_octets(alloc: Global, octets: &[u8], text: &str) -> Result<bool, Fail> {
+    let borrowed = ObjectIdentifierRef::from_bytes(octets)?;
+    Ok(
+        prints_as(&borrowed, text)
+            && prints_debug(alloc, borrowed, "ObjectIdentifierRef", text)?
+            && prints_owned(alloc, borrowed, text)?,
+    )
+}
+
+/// Whether so many equal octets print as the text of the first one and then a text for each later one.
+fn prints_equal_octets(
     alloc: Global,
     octet: &str,
     first: &str,
@@ -41,43 +80,39 @@ fn prints_octets(
     let octets = octet.repeat(alloc, count)?;
     let later = later.repeat(alloc, count.saturating_sub(1))?;
     let text = format!(in alloc; "{first}{later}")?;
-    let borrowed = ObjectIdentifierRef::from_bytes(octets.as_bytes())?;
-    let is_printed = match ObjectIdentifier::<300>::try_from_ref(borrowed) {
-        Ok(owned) => {
-            let debug = format!(in alloc; "ObjectIdentifier({text})")?;
-            let debug = format!(in alloc; "{debug}|{debug}|{debug}")?;
-            prints_as(&owned, text.as_str()) && prints_as(&DebugTexts(owned), debug.as_str())
-        }
-        Err(_) => count > 255,
-    };
-    let debug = format!(in alloc; "ObjectIdentifierRef({text})")?;
-    let debug = format!(in alloc; "{debug}|{debug}|{debug}")?;
+    prints_octets(alloc, octets.as_bytes(), text.as_str())
+}
+
+/// The same of octets 7F and of octets 01.
+fn prints_count(alloc: Global, count: usize) -> Result<bool, Fail> {
     Ok(
-        is_printed
-            && prints_as(&borrowed, text.as_str())
-            && prints_as(&DebugTexts(borrowed), debug.as_str()),
+        prints_equal_octets(alloc, "\u{7F}", "2.47", ".127", count)?
+            && prints_equal_octets(alloc, "\u{1}", "0.1", ".1", count)?,
     )
 }
 
-/// Each number of octets up to 520, and numbers that are past any buffer of a fixed size.
+/// Each number of octets up to 520.
 #[test]
 fn of_any_length(rt: HostRuntime) -> Result<(), Fail> {
-    for count in (1..=520).chain([2046, 10_000]) {
-        let alloc = rt.alloc();
-        assert!(rt;
-            prints_octets(alloc, "\u{7F}", "2.47", ".127", count)?,
-            "{count}"
-        );
-        assert!(rt;
-            prints_octets(alloc, "\u{1}", "0.1", ".1", count)?,
-            "{count}"
-        );
+    for count in 1..=520 {
+        assert!(rt; prints_count(rt.alloc(), count)?, "{count}");
+    }
+    Ok(())
+}
+
+/// Numbers of octets that are past any buffer of a fixed size.
+#[test]
+fn past_any_buffer(rt: HostRuntime) -> Result<(), Fail> {
+    for count in &[2046, 10_000] {
+        assert!(rt; prints_count(rt.alloc(), *count)?, "{count}");
     }
     Ok(())
 }
 
 /// Octets, what Display prints of them, and what Debug prints of both forms.
-const DEBUG: &[(&[u8], &str, &str, &str)] = &[
+type Row = (&'static [u8], &'static str, &'static str, &'static str);
+
+const DEBUG: &[Row] = &[
     (
         &[0x2A, 0x03],
         "1.2.3",
@@ -98,42 +133,49 @@ const DEBUG: &[(&[u8], &str, &str, &str)] = &[
     ),
 ];
 
-/// Each write that fails is reported, whichever it is.
+/// Whether each write that fails is reported, of both forms and their Debug texts.
+fn reports_each(row: &Row) -> Result<bool, Error> {
+    let borrowed = ObjectIdentifierRef::from_bytes(row.0)?;
+    let owned = Oid::from_bytes(row.0)?;
+    Ok(
+        count_writes(&borrowed, row.1).is_some()
+            && count_writes(&owned, row.1).is_some()
+            && count_writes(&DebugText(borrowed), row.2).is_some()
+            && count_writes(&DebugText(owned), row.3).is_some(),
+    )
+}
+
 #[test]
 fn refused_writes(rt: HostRuntime) {
-    for (octets, text, borrowed_text, owned_text) in DEBUG {
-        let borrowed = ObjectIdentifierRef::from_bytes(octets).expect(&rt, text);
-        let owned = Oid::from_bytes(octets).expect(&rt, text);
-        assert!(rt; count_writes(&borrowed, text).is_some(), "{text}");
-        assert!(rt; count_writes(&owned, text).is_some(), "{text}");
-        assert!(rt;
-            count_writes(&DebugText(borrowed), borrowed_text).is_some(),
-            "{text}"
-        );
-        assert!(rt;
-            count_writes(&DebugText(owned), owned_text).is_some(),
-            "{text}"
-        );
+    for row in DEBUG {
+        assert!(rt; reports_each(row) == Ok(true), "{}", row.1);
     }
 }
 
-/// The text of 255 octets is more than one write, and the failure of each is reported.
+/// Whether 255 octets are printed as this text in more than one write, and the failure of each is reported.
+fn takes_several_writes(text: &str) -> Result<bool, Error> {
+    let borrowed = ObjectIdentifierRef::from_bytes(&[0x7F; 255])?;
+    let owned = ObjectIdentifier::<255>::try_from_ref(borrowed)?;
+    Ok(count_writes(&borrowed, text) > Some(1) && count_writes(&owned, text) > Some(1))
+}
+
 #[test]
 fn refused_writes_of_a_long_text(rt: HostRuntime) -> Result<(), Fail> {
     let later = ".127".repeat(rt.alloc(), 254)?;
     let text = format!(in rt.alloc(); "2.47{later}")?;
-    let borrowed = ObjectIdentifierRef::from_bytes(&[0x7F; 255])?;
-    let owned = ObjectIdentifier::<255>::try_from_ref(borrowed)?;
-    assert!(rt; count_writes(&borrowed, text.as_str()) > Some(1));
-    assert!(rt; count_writes(&owned, text.as_str()) > Some(1));
+    assert!(rt; takes_several_writes(text.as_str()) == Ok(true));
     Ok(())
+}
+
+/// In how many writes 1.2 and an arc is printed as this text.
+fn writes_of(arc: Arc, text: &str) -> Result<Option<usize>, Error> {
+    Ok(count_writes(&Oid::from_arcs([1, 2, arc])?, text))
 }
 
 /// A short text is one write.
 #[test]
 fn short_texts_are_one_write(rt: HostRuntime) {
     for (arc, text) in ARCS {
-        let oid = Oid::from_arcs([1, 2, *arc]).expect(&rt, text);
-        assert!(rt; count_writes(&oid, text) == Some(1), "{text}");
+        assert!(rt; writes_of(*arc, text) == Ok(Some(1)), "{text}");
     }
 }

@@ -2,9 +2,8 @@
 
 ghost use Rattle.std.specs.Prelude.{◌≤◌};
 
-use crate::vectors::{is_answer, long_octets};
+use crate::vectors::is_answer;
 use const_oid::{Arc, Error, ObjectIdentifier, ObjectIdentifierRef, Oid};
-use std::alloc::AllocError;
 
 /// The octets of an identifier, and those of its parent, if there is one.
 const PARENTS: &[(&[u8], Option<&[u8]>)] = &[
@@ -26,39 +25,51 @@ const PARENTS: &[(&[u8], Option<&[u8]>)] = &[
         Some(&[0x90, 0x80, 0x80, 0x80, 0x4F]),
     ),
     (&[0x2A, 0x86, 0x48, 0x01], Some(&[0x2A, 0x86, 0x48])),
+    // 32 octets before an arc of two.
+    (
+        &[
+            0x2A, 0x01, 0x01, 0x01, 0x01, 0x01, 0x01, 0x01, 0x01, 0x01, 0x01, 0x01, 0x01, 0x01,
+            0x01, 0x01, 0x01, 0x01, 0x01, 0x01, 0x01, 0x01, 0x01, 0x01, 0x01, 0x01, 0x01, 0x01,
+            0x01, 0x01, 0x01, 0x01, 0x81, 0x00,
+        ],
+        Some(&[
+            0x2A, 0x01, 0x01, 0x01, 0x01, 0x01, 0x01, 0x01, 0x01, 0x01, 0x01, 0x01, 0x01, 0x01,
+            0x01, 0x01, 0x01, 0x01, 0x01, 0x01, 0x01, 0x01, 0x01, 0x01, 0x01, 0x01, 0x01, 0x01,
+            0x01, 0x01, 0x01, 0x01,
+        ]),
+    ),
+    (
+        &[
+            0x2A, 0x01, 0x01, 0x01, 0x01, 0x01, 0x01, 0x01, 0x01, 0x01, 0x01, 0x01, 0x01, 0x01,
+            0x01, 0x01, 0x01, 0x01, 0x01, 0x01, 0x01, 0x01, 0x01, 0x01, 0x01, 0x01, 0x01, 0x01,
+            0x01, 0x01, 0x01, 0x81, 0x00,
+        ],
+        Some(&[
+            0x2A, 0x01, 0x01, 0x01, 0x01, 0x01, 0x01, 0x01, 0x01, 0x01, 0x01, 0x01, 0x01, 0x01,
+            0x01, 0x01, 0x01, 0x01, 0x01, 0x01, 0x01, 0x01, 0x01, 0x01, 0x01, 0x01, 0x01, 0x01,
+            0x01, 0x01, 0x01,
+        ]),
+    ),
 ];
 
 /// Whether the parent has these octets in both forms, or there is none.
-fn has_parent(octets: &[u8], wanted: Option<&[u8]>) -> bool {
-    let (Ok(owned), Ok(borrowed)) = (
-        Oid::from_bytes(octets),
-        ObjectIdentifierRef::from_bytes(octets),
-    ) else {
-        return false;
-    };
-    match (owned.parent(), borrowed.parent(), wanted) {
-        (Some(owned), Some(borrowed), Some(wanted)) => {
-            owned.as_bytes() == wanted && borrowed.as_bytes() == wanted
+fn has_parent(octets: &[u8], wanted: Option<&[u8]>) -> Result<bool, Error> {
+    let owned = Oid::from_bytes(octets)?;
+    let borrowed = ObjectIdentifierRef::from_bytes(octets)?;
+    Ok(match (owned.parent(), borrowed.parent()) {
+        (Some(owned), Some(borrowed)) => {
+            wanted == Some(owned.as_bytes()) && wanted == Some(borrowed.as_bytes())
         }
-        (None, None, None) => true,
+        (None, None) => wanted.is_none(),
         _ => false,
-    }
+    })
 }
 
 #[test]
 fn parents(rt: HostRuntime) {
     for (octets, wanted) in PARENTS {
-        assert!(rt; has_parent(octets, *wanted), "{octets:?}");
+        assert!(rt; has_parent(octets, *wanted) == Ok(true), "{octets:?}");
     }
-}
-
-/// 32 octets before an arc of two.
-#[test]
-fn long_parent(rt: HostRuntime) -> Result<(), AllocError> {
-    let octets = long_octets(rt.alloc(), &[0x2A], 30, &[0x81, 0x00])?;
-    let prefix = octets.as_slice().get(..31);
-    assert!(rt; has_parent(octets.as_slice(), prefix));
-    Ok(())
 }
 
 /// Whether a capacity takes one more arc with this result, and keeps the old value.
@@ -93,6 +104,9 @@ const CHILDREN: &[(usize, &[u8], Arc, Result<&[u8], Error>)] = &[
     (3, &[0x2A], 16384, Err(Error::Length)),
     (1, &[0x2A], 0, Err(Error::Length)),
     (1, &[0x78], 0, Err(Error::Length)),
+    // 255 octets have no child, whatever the capacity.
+    (300, &[0x01; 255], 0, Err(Error::Length)),
+    (300, &[0x01; 255], 1, Err(Error::Length)),
 ];
 
 #[test]
@@ -103,15 +117,6 @@ fn children(rt: HostRuntime) {
             "{capacity}, {octets:?} and {arc}"
         );
     }
-}
-
-/// 255 octets have no child, whatever the capacity.
-#[test]
-fn no_child_of_the_longest(rt: HostRuntime) -> Result<(), AllocError> {
-    let octets = long_octets(rt.alloc(), &[0x2A], 254, &[])?;
-    assert!(rt; pushes_at(300, octets.as_slice(), 0, Err(Error::Length)));
-    assert!(rt; pushes_at(300, octets.as_slice(), 1, Err(Error::Length)));
-    Ok(())
 }
 
 /// The octets of two identifiers, and whether the first begins with the second.
@@ -138,17 +143,24 @@ const PREFIXES: &[(&[u8], &[u8], bool)] = &[
     (&[0x2A, 0x86, 0x48], &[0x2A, 0x86, 0x48, 0x01], false),
 ];
 
-/// Both forms, and an owned prefix of five octets, which is another capacity.
+/// Whether octets begin with others so: of both forms, and of an owned prefix of five octets, another capacity.
+fn begins(octets: &[u8], prefix: &[u8], wanted: bool) -> Result<bool, Error> {
+    let oid = Oid::from_bytes(octets)?;
+    let short = ObjectIdentifier::<5>::from_bytes_sized(prefix)?;
+    let prefix = Oid::from_bytes(prefix)?;
+    Ok(
+        oid.starts_with(prefix) == wanted
+            && oid.starts_with(short) == wanted
+            && oid.as_oid_ref().starts_with(&prefix.as_oid_ref()) == wanted,
+    )
+}
+
 #[test]
-fn prefixes(rt: HostRuntime) -> Result<(), Error> {
+fn prefixes(rt: HostRuntime) {
     for (octets, prefix, wanted) in PREFIXES {
-        let oid = Oid::from_bytes(octets)?;
-        let short = ObjectIdentifier::<5>::from_bytes_sized(prefix)?;
-        let prefix = Oid::from_bytes(prefix)?;
-        assert!(rt; oid.starts_with(prefix) == *wanted, "{oid} and {prefix}");
-        assert!(rt; oid.starts_with(short) == *wanted, "{oid} and {prefix}");
-        let begins = oid.as_oid_ref().starts_with(&prefix.as_oid_ref());
-        assert!(rt; begins == *wanted, "{oid} and {prefix}");
+        assert!(rt;
+            begins(octets, prefix, *wanted) == Ok(true),
+            "{octets:?} and {prefix:?}"
+        );
     }
-    Ok(())
 }
