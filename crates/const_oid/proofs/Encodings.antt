@@ -14,7 +14,7 @@ use Rattle.const_oid.specs.OidRef.{ref_octets, ref_arcs}
 use Rattle.const_oid.specs.Oid.{oid_octets, oid_arcs}
 use Rattle.const_oid.proofs.Faults.{both_none, below_from_none}
 use Rattle.const_oid.proofs.Groups.{small_is, group-small, group_is, same_group}
-use Rattle.const_oid.proofs.Subidentifiers.{InRange, in_range, identifier, arcs_back, numbers_back, first_in_range}
+use Rattle.const_oid.proofs.Subidentifiers.{InRange, in_range, arcs_back, numbers_back, first_in_range}
 use Rattle.const_oid.proofs.Cutting.{cut_chains, concat-cut, IsPart, parts_are, chain_from_part, finished_from_chain}
 
 -- ---- one part

@@ -1,5 +1,5 @@
 -- Parents and children as lists.
-use Rattle.std.proofs.Common.{◌≡◌, ℕ, ◌+◌, ◌-◌, ◌≤◌, List, [], ◌∷◌, ◌++◌, Some, refl, sym, ap, subst, ◌∙◌, arith, lt-ltb, length-append}
+use Rattle.std.proofs.Common.{◌≡◌, ℕ, ◌≤◌, List, [], ◌∷◌, ◌++◌, Some, refl, sym, ap, subst, ◌∙◌, arith, lt-ltb, length-append}
 use Rattle.std.specs.List.{AllByRecursion}
 use Rattle.const_oid.specs.Identifier.{RootRule, max_arc, IsIdentifier}
 use Rattle.const_oid.specs.Tree.{child_of, parent_of}
