@@ -4,7 +4,7 @@ use Rattle.const_oid.specs.declared.oid.ObjectIdentifier.{ObjectIdentifier}
 use Rattle.const_oid.specs.Error.{answer}
 use Rattle.const_oid.specs.Identifier.{root_rule}
 use Rattle.const_oid.specs.Items.{item_fault, item_answer}
-use Rattle.const_oid.specs.Oid.{oid_octets, oid_arcs}
+use Rattle.const_oid.specs.Oid.{oid_arcs}
 use Rattle.const_oid.proofs.Items.{item_fault-none}
 use Rattle.const_oid.proofs.Encodings.{oid_encoding}
 use Rattle.const_oid.proofs.Lengths.{length_is_size}
