@@ -2,5 +2,4 @@ pub mod Answers
 pub mod Capacities
 pub mod WrittenArcs
 pub mod SkippedArcs
-pub mod ListFaults
 pub mod Ranges

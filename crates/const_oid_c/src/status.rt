@@ -1,5 +1,5 @@
 //! What a call returns besides its output.
-ghost use Rattle.std.specs.Prelude.{◌≡◌};
+ghost use Rattle.std.specs.Prelude.{◌≡◌, ◌<◌};
 ghost use Rattle.const_oid_c.specs.Status.{error_status, code_status, len_status, number_status, too_short_status, flag_status, order_status};
 
 use const_oid::Error;
@@ -34,7 +34,8 @@ pub struct Status {
 
 /// The status of an error.
 pub(crate) fn error_status(error: Error) -> Status
-    ensures { result ≡ error_status error }
+    ensures status { result ≡ error_status error }
+    ensures code { 0 < result.code }
 {
     let (code, detail) = match error {
         Error::ArcInvalid { arc } => (1, arc),

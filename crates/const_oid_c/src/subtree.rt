@@ -1,7 +1,8 @@
 //! Descendants of an identifier in a sorted list.
-ghost use Rattle.std.specs.Prelude.{◌≡◌, ◌≢◌, ◌+◌, ◌<◌, ◌≤◌, ◌↔◌, ℕ, [], nat_eq, count_by, slice_get, IfSome};
+ghost use Rattle.std.specs.Prelude.{◌≡◌, ◌≢◌, ◌+◌, ◌<◌, ◌≤◌, ◌↔◌, ℕ, [], nat_eq, false, count_by, slice_get, IfSome, IfNone};
 ghost use Rattle.std.specs.Cmp.Lexicographic.{slice_cmp};
 ghost use Rattle.std.specs.List.{starts_with};
+ghost use Rattle.std.specs.List.Sorted.{IsSortedByKey};
 ghost use Rattle.std.specs.Ordering.{nat_cmp, is_lt};
 ghost use Rattle.const_oid.specs.Tree.{BeginsWith};
 ghost use Rattle.const_oid_c.specs.Subtree.{octets_at, fault_at, item_fault, list_fault, subtree_status};
@@ -34,7 +35,6 @@ pub struct Range {
 
 /// Finds the identifiers that begin with another one in a sorted list. All may have any length. A fault
 /// of that other one is at the number of items, which no item has as its index.
-#[tactic(auto, using(crate::proofs::ListFaults::list_code))]
 #[unsafe(no_mangle)]
 pub extern "C" fn const_oid_subtree(
     octets: &[u8],
@@ -87,7 +87,9 @@ fn range_of(octets: &[u8], sorted: &[Octets<'_>]) -> Range
 
 /// The status of the first identifier that has a fault or comes before the previous one.
 fn list_fault(sorted: &[Octets<'_>]) -> Option<Status>
-    ensures { result ≡ list_fault 0 [] sorted.now }
+    ensures status { result ≡ list_fault 0 [] sorted.now }
+    ensures code { IfSome result (λ status. 0 < status.code) }
+    ensures sorted { IfNone result (IsSortedByKey octets_at (slice_cmp nat_cmp) sorted.now) }
 {
     let mut before: &[u8] = &[];
     for (index, item) in sorted.iter().enumerate() {
@@ -101,7 +103,9 @@ fn list_fault(sorted: &[Octets<'_>]) -> Option<Status>
 
 /// The status of the identifier at an index, if it has a fault or comes before the previous one.
 fn item_fault(index: usize, before: &[u8], octets: &[u8]) -> Option<Status>
-    ensures { result ≡ item_fault index before.now octets.now }
+    ensures status { result ≡ item_fault index before.now octets.now }
+    ensures code { IfSome result (λ status. 0 < status.code) }
+    ensures sorted { IfNone result (is_lt (slice_cmp nat_cmp octets.now before.now) ≡ false) }
 {
     match ObjectIdentifierRef::from_bytes(octets) {
         Ok(_) if octets.cmp(before).is_lt() => Some(Status {
@@ -116,7 +120,8 @@ fn item_fault(index: usize, before: &[u8], octets: &[u8]) -> Option<Status>
 
 /// The status of a fault of the octets at an index.
 fn fault_at(index: usize, fault: Error) -> Status
-    ensures { result ≡ fault_at index fault }
+    ensures status { result ≡ fault_at index fault }
+    ensures code { 0 < result.code }
 {
     Status {
         len: index,
