@@ -21,6 +21,7 @@ pub(crate) fn write_bytes(bytes: &[u8], out: &mut [u8]) -> Status
 }
 
 /// Writes the octets of an identifier, or reports its fault.
+#[tactic(auto, using(crate::proofs::Answers::octets_again))]
 pub(crate) fn write_octets<const N: usize>(
     oid: Result<ObjectIdentifier<N>>,
     out: &mut [u8],
