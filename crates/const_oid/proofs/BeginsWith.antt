@@ -1,8 +1,8 @@
 -- What begins with a prefix: encodings do exactly where their arcs do, and are adjacent in lexicographic order.
-use Rattle.std.proofs.Common.{◌≡◌, ℕ, List, [], ◌∷◌, ◌++◌, refl, sym, ap, ap₂, ◌∙◌, append_assoc, ◌≢◌, ◌<◌, length, arith, Less, Greater, nat_cmp, append-nil, length-append, Bool, true, false, ◌||◌, nat_eq}
+use Rattle.std.proofs.Common.{◌≡◌, ℕ, List, [], ◌∷◌, ◌++◌, refl, sym, ap, ap₂, ◌∙◌, append_assoc, ◌≢◌, ◌<◌, length, take, arith, Less, Greater, nat_cmp, append-nil, length-append, Bool, true, false, ◌||◌, nat_eq}
 use Rattle.std.specs.List.{AllZip, concat, starts_with}
 use Rattle.std.specs.Prelude.{◌↔◌, IsTrue}
-use Rattle.std.specs.Cmp.Lexicographic.{slice_cmp}
+use Rattle.std.specs.Cmp.Lexicographic.{pointwise, slice_cmp}
 use Rattle.std.specs.Cmp.{unsigned_Decides, ranks}
 use Rattle.std.specs.Ordering.{is_lt, ordering_reverse}
 use Rattle.std.proofs.lemmas.Bool.{or_cases, or_left, or_right}
@@ -108,8 +108,14 @@ is_under prefix list = starts_with nat_eq list prefix
 abbrev pub is_within : List ℕ → List ℕ → Bool
 is_within prefix list = is_before prefix list || is_under prefix list
 
+-- whether the octets at the start are the prefix
+pub begins_iff : (octets prefix : List ℕ) (same : Bool) → same ≡ pointwise nat_eq prefix (take (length prefix) octets)
+    → IsTrue same ↔ BeginsWith octets prefix
+begins_iff octets prefix same e =
+    let is = starts_is unsigned_Decides octets prefix same e in (λ t. (_, is.0 t), λ h. is.1 h.0 h.1)
+
 pub under_iff : (prefix list : List ℕ) → (is_under prefix list ≡ true) ↔ BeginsWith list prefix
-under_iff prefix list = grind (arith, nat_tests, starts_is unsigned_Decides list prefix (is_under prefix list) refl)
+under_iff prefix list = begins_iff list prefix (is_under prefix list) refl
 
 pub tells_under : (prefix list : List ℕ) (test : Bool) → IsTrue test ↔ BeginsWith list prefix → test ≡ is_under prefix list
 tells_under prefix list test tells = grind (arith, under_iff)

@@ -1,5 +1,5 @@
 -- The order of arcs is that of the parts of their encodings, a shorter part first.
-use Rattle.std.proofs.Common.{◌≡◌, ◌≢◌, ℕ, suc, ◌+◌, ◌<◌, ◌≤◌, List, [], ◌∷◌, ◌++◌, length, min, take, drop, get_or, refl, sym, ap, ◌∙◌, ⊎_elim, arith, Ordering, Less, Equal, Greater, nat_cmp, length-append, Some, rules}
+use Rattle.std.proofs.Common.{◌≡◌, ◌≢◌, ℕ, suc, ◌+◌, ◌<◌, ◌≤◌, List, [], ◌∷◌, ◌++◌, length, min, take, drop, get_or, refl, sym, ap, ◌∙◌, ⊎_elim, arith, Less, Equal, Greater, nat_cmp, length-append, Some, rules}
 use Rattle.std.specs.Prelude.{◌↔◌, slice_get}
 use Rattle.std.specs.List.{AllZip, onto_first, concat}
 use Rattle.std.specs.Ordering.{ordering_then, is_eq}
@@ -16,7 +16,7 @@ use Rattle.const_oid.specs.Tree.{BeginsWith}
 use Rattle.const_oid.proofs.BeginsWith.{before_more, between}
 use Rattle.const_oid.proofs.Cutting.{cut_after-last, cut_after-more}
 use Rattle.const_oid.proofs.Encodings.{cut_encoding, same_arcs, same_octets}
-use Rattle.const_oid.proofs.Orders.{groups_cmp, groups_short, shortlex_cmp-less}
+use Rattle.const_oid.proofs.Orders.{groups_cmp, groups_short, shortlex_cmp-less, split_cmp}
 use Rattle.std.proofs.lemmas.Bool.Decides.{nat_tests}
 use Rattle.std.proofs.lemmas.Grind.{common_steps}
 
@@ -76,19 +76,13 @@ numbers_cmp (n ∷ ns) [] (g ∷ gs) [] p q = refl
 numbers_cmp (n ∷ ns) (m ∷ ms) (g ∷ gs) (h ∷ hs) p q = rw (groups_short p.0 q.0, numbers_cmp ns ms gs hs p.1 q.1)
 numbers_cmp _ _ _ _ p q = absurd assumption
 
-then_assoc : (o p q : Ordering) → ordering_then (ordering_then o p) q ≡ ordering_then o (ordering_then p q)
-then_assoc Less p q = refl
-then_assoc Equal p q = refl
-then_assoc Greater p q = refl
-
 -- where the groups at each index are of one length, the octets are in the order of the numbers
 abbrev pub AreLevel : List (List ℕ) → List (List ℕ) → Type 0
 AreLevel gs hs = (i : ℕ) (g h : List ℕ) → slice_get gs i ≡ Some g → slice_get hs i ≡ Some h → length g ≡ length h
 
-level_append : (g h x y : List ℕ) → length g ≡ length h → slice_cmp nat_cmp (g ++ x) (h ++ y) ≡ ordering_then (slice_cmp nat_cmp g h) (slice_cmp nat_cmp x y)
-level_append [] [] x y l = refl
-level_append (a ∷ g) (b ∷ h) x y l = search (then_assoc, level_append g h x y (omega arith))
-level_append _ _ x y l = absurd (omega arith)
+level_append : (g h x y : List ℕ) → length g ≡ length h
+    → slice_cmp nat_cmp (g ++ x) (h ++ y) ≡ ordering_then (slice_cmp nat_cmp g h) (slice_cmp nat_cmp x y)
+level_append g h x y l = grind (arith, common_steps, split_cmp (length g) (g ++ x) (h ++ y))
 
 none_first : (h x : List ℕ) → IsContinued h → slice_cmp nat_cmp [] (h ++ x) ≡ Less
 none_first [] x c = absurd c

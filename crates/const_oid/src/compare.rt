@@ -1,6 +1,6 @@
 //! How slices of octets and names compare.
 
-ghost use Rattle.std.specs.Prelude.{◌≡◌, ◌↔◌, ℕ, ◌+◌, ◌≤◌, List, ◌++◌, length, take, drop, min, nat_eq, IsTrue};
+ghost use Rattle.std.specs.Prelude.{◌≡◌, ◌≢◌, ◌↔◌, ℕ, ◌+◌, ◌≤◌, List, ◌++◌, length, take, drop, min, nat_eq, IsTrue, MatchOption};
 ghost use Rattle.std.specs.Cmp.Lexicographic.{pointwise, slice_cmp};
 ghost use Rattle.std.specs.Int.{to_be_bytes, w32};
 ghost use Rattle.std.specs.Ordering.{nat_cmp};
@@ -11,6 +11,7 @@ ghost use Rattle.const_oid.specs.Private.Words.{IsWord};
 use crate::parts::first_len;
 use std::cmp::Ordering;
 
+#[tactic(auto, using(crate::proofs::BeginsWith::begins_iff))]
 /// Whether octets begin with others.
 // `const` in Rust.
 #[inline(always)]
@@ -64,14 +65,28 @@ pub(crate) fn are_equal(a: &[u8], b: &[u8]) -> bool
     if word(a, len - WORD) != word(b, len - WORD) {
         return false;
     }
+    first_unequal(a, b, len - WORD).is_none()
+}
+
+#[tactic(auto, using(crate::proofs::Words::same_more, crate::proofs::Words::same_less, crate::proofs::Words::unequal_cmp, crate::proofs::Words::equal_words))]
+/// The first words that are not the same, of those that begin before an index.
+// `const` in Rust.
+#[inline(always)]
+fn first_unequal(a: &[u8], b: &[u8], end: usize) -> Option<(u64, u64)>
+    requires in_a { end + 8 ≤ length a.now }
+    requires in_b { end + 8 ≤ length b.now }
+    ensures { MatchOption result (take end a.now ≡ take end b.now)
+        (λ words. (a.now ≢ b.now) × (nat_cmp words.0 words.1 ≡ slice_cmp nat_cmp a.now b.now)) }
+{
     let mut at = 0;
-    while at < len - WORD {
-        if word(a, at) != word(b, at) {
-            return false;
+    while at < end {
+        let (x, y) = (word(a, at), word(b, at));
+        if x != y {
+            return Some((x, y));
         }
         at += WORD;
     }
-    true
+    None
 }
 
 /// Whether as many octets are the same, without a branch for each word: for arrays, whose few words the
@@ -121,15 +136,11 @@ pub(crate) fn order(a: &[u8], b: &[u8]) -> Ordering
     if near < WORD {
         return order_few(a, b);
     }
-    let mut at = 0;
-    while at < near - WORD {
-        let (x, y) = (word(a, at), word(b, at));
-        if x != y {
-            return x.cmp(&y);
-        }
-        at += WORD;
+    let last = near - WORD;
+    if let Some((x, y)) = first_unequal(a, b, last) {
+        return x.cmp(&y);
     }
-    let (x, y) = (word(a, near - WORD), word(b, near - WORD));
+    let (x, y) = (word(a, last), word(b, last));
     if x != y {
         return x.cmp(&y);
     }
@@ -154,7 +165,6 @@ fn order_few(a: &[u8], b: &[u8]) -> Ordering
 /// How many octets a word has.
 const WORD: usize = 8;
 
-#[tactic(auto, using(crate::proofs::Octets::are_octets, crate::proofs::Words::octets_drop, crate::proofs::Words::octets_take))]
 /// The eight octets from an index on as a number, the first one the most significant: so words have the
 /// lexicographic order of their octets.
 // `const` in Rust.

@@ -1,10 +1,12 @@
 -- Words of eight octets.
-use Rattle.std.specs.Prelude.{◌≡◌, ℕ, ◌+◌, ◌≤◌, List, length, take, drop}
-use Rattle.std.specs.Int.{w64, from_be_bytes}
-use Rattle.const_oid.specs.Base128.{AreOctets}
+use Rattle.std.specs.Prelude.{◌≡◌, ℕ, ◌^◌, ◌<◌, List, take, drop}
+use Rattle.std.specs.Int.{w64, to_be_bytes}
+
+-- the bytes of a number, the most significant first
+unfoldable pub bytes_of : ℕ → List ℕ
+bytes_of number = to_be_bytes w64 number
 
 -- the eight octets from an index on, as a number
 pub record IsWord (octets : List ℕ) (at number : ℕ) : Type 0 where
-  pub within : at + 8 ≤ length octets
-  pub below_256 : AreOctets (take 8 (drop at octets))
-  pub value : number ≡ from_be_bytes w64 (take 8 (drop at octets))
+  pub fits : number < 2 ^ 64
+  pub value : bytes_of number ≡ take 8 (drop at octets)

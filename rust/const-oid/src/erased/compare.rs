@@ -49,14 +49,21 @@ pub(crate) const fn are_equal(a: &[u8], b: &[u8]) -> bool {
     if word(a, len - WORD) != word(b, len - WORD) {
         return false;
     }
+    first_unequal(a, b, len - WORD).is_none()
+}
+
+/// The first words that are not the same, of those that begin before an index.
+#[inline(always)]
+const fn first_unequal(a: &[u8], b: &[u8], end: usize) -> Option<(u64, u64)> {
     let mut at = 0;
-    while at < len - WORD {
-        if word(a, at) != word(b, at) {
-            return false;
+    while at < end {
+        let (x, y) = (word(a, at), word(b, at));
+        if x != y {
+            return Some((x, y));
         }
         at += WORD;
     }
-    true
+    None
 }
 
 /// Whether as many octets are the same, without a branch for each word: for arrays, whose few words the
@@ -97,15 +104,11 @@ pub(crate) fn order(a: &[u8], b: &[u8]) -> Ordering {
     if near < WORD {
         return order_few(a, b);
     }
-    let mut at = 0;
-    while at < near - WORD {
-        let (x, y) = (word(a, at), word(b, at));
-        if x != y {
-            return x.cmp(&y);
-        }
-        at += WORD;
+    let last = near - WORD;
+    if let Some((x, y)) = first_unequal(a, b, last) {
+        return x.cmp(&y);
     }
-    let (x, y) = (word(a, near - WORD), word(b, near - WORD));
+    let (x, y) = (word(a, last), word(b, last));
     if x != y {
         return x.cmp(&y);
     }
