@@ -32,6 +32,7 @@ pub(crate) fn parse<const SIZE: usize>(text: &str) -> Result<Buffer<SIZE>>
 
 /// The same, where all of the array can be in use.
 // `const` in Rust.
+#[tactic(auto, using(crate::proofs::TextPass::text_answer_is, std::proofs::lemmas::List::drop_all))]
 #[inline(always)]
 fn parse_within<const SIZE: usize>(text: &str) -> Result<Buffer<SIZE>>
     requires { SIZE ≤ 255 }

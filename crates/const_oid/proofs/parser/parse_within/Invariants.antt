@@ -6,7 +6,8 @@ use Rattle.const_oid.proofs.parser.parse_within.Given as goal
 
 abbrev pub invariant-loop-index : goal.invariant-loop-index
 invariant-loop-index g l = record {
-  pass : text_pass root_rule (min g.row.SIZE 255) l.encoder (nat_lt l.start l.index) l.number (drop l.index l.bytes) ≡ text_answer root_rule l.bytes (min g.row.SIZE 255);
+  pass : text_pass root_rule (min g.row.SIZE 255) l.encoder (nat_lt l.start l.index) l.number (drop l.index l.bytes)
+      ≡ text_answer root_rule l.text (min g.row.SIZE 255);
   small : l.number ≤ max_arc;
   begins : l.start ≤ l.index;
 }
