@@ -1,5 +1,5 @@
 -- The order of arcs is that of the parts of their encodings, a shorter part first.
-use Rattle.std.proofs.Common.{◌≡◌, ◌≢◌, ℕ, suc, ◌+◌, ◌<◌, ◌≤◌, List, [], ◌∷◌, ◌++◌, length, min, take, drop, get_or, refl, sym, ap, ◌∙◌, ⊎_elim, arith, Less, Equal, Greater, nat_cmp, length-append, Some, rules}
+use Rattle.std.proofs.Common.{◌≡◌, ◌≢◌, ℕ, suc, ◌<◌, ◌≤◌, List, [], ◌∷◌, ◌++◌, length, min, take, drop, refl, sym, ap, ◌∙◌, ⊎_elim, arith, Less, Equal, Greater, nat_cmp, length-append, Some, rules}
 use Rattle.std.specs.Prelude.{◌↔◌, slice_get}
 use Rattle.std.specs.List.{AllZip, onto_first, concat}
 use Rattle.std.specs.Ordering.{ordering_then, is_eq}
@@ -7,7 +7,7 @@ use Rattle.std.specs.Cmp.Lexicographic.{slice_cmp, nat_list_cmp_total, texts_tie
 use Rattle.std.specs.Cmp.{nat_cmp_is}
 use Rattle.std.proofs.lemmas.Bool.{cases_lt}
 use Rattle.std.proofs.lemmas.Cmp.{tied_itself}
-use Rattle.std.proofs.lemmas.List.{drop_more, length-drop, take-append-drop}
+use Rattle.std.proofs.lemmas.List.{length-drop, take-append-drop}
 use Rattle.const_oid.specs.Base128.{IsContinued, IsGroup}
 use Rattle.const_oid.specs.Contents.{cut}
 use Rattle.const_oid.specs.Identifier.{RootRule, IsIdentifier, IsEncoding, subidentifiers}
@@ -50,12 +50,8 @@ same_prefix (b ∷ g) x y = same_first b (g ++ x) (g ++ y) ∙ same_prefix g x y
 
 pub same_up_to : (a b : List ℕ) (n : ℕ) → take n a ≡ take n b → parts_cmp a b ≡ parts_cmp (drop n a) (drop n b)
 same_up_to a b n same =
-    let e : parts_cmp (take n a ++ drop n a) (take n a ++ drop n b) ≡ parts_cmp (drop n a) (drop n b) = same_prefix (take n a) (drop n a) (drop n b) in
     let f : take n a ++ drop n b ≡ b = rw same (take-append-drop n b) in
-    rw (take-append-drop n a, f) at e
-
-pub same_at : (a b : List ℕ) (i : ℕ) → i < length a → i < length b → get_or a i 0 ≡ get_or b i 0 → parts_cmp (drop i a) (drop i b) ≡ parts_cmp (drop (i + 1) a) (drop (i + 1) b)
-same_at a b i l m e = grind (arith, drop_more, same_first)
+    rw (take-append-drop n a, f) at (same_prefix (take n a) (drop n a) (drop n b))
 
 -- at the end of one of them the longer one is the later one
 ended : (xs ys : List ℕ) → min (length xs) (length ys) ≡ 0 → parts_cmp xs ys ≡ nat_cmp (length xs) (length ys)
@@ -64,8 +60,9 @@ ended [] (y ∷ ys) e = let (q, qs, f) = begins y ys in rw f (nat_cmp_is 0 (leng
 ended (x ∷ xs) [] e = let (p, ps, f) = begins x xs in rw f (nat_cmp_is (length (x ∷ xs)) 0 Greater (omega arith))
 ended (x ∷ xs) (y ∷ ys) e = absurd (omega arith)
 
-pub ended_at : (a b : List ℕ) (n : ℕ) → n ≡ min (length a) (length b) → parts_cmp (drop n a) (drop n b) ≡ nat_cmp (length a) (length b)
-ended_at a b n e = grind (arith, length-drop, ended)
+pub ended_parts : (a b : List ℕ) → (let end = min (length a) (length b) in take end a ≡ take end b)
+    → parts_cmp a b ≡ nat_cmp (length a) (length b)
+ended_parts a b same = grind (arith, length-drop, ended, same_up_to a b (min (length a) (length b)) same)
 
 -- ---- the order of the arcs
 

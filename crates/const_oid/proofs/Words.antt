@@ -1,5 +1,5 @@
 -- Words of eight octets: they are the same where their octets are, and have their lexicographic order.
-use Rattle.std.proofs.Common.{◌≡◌, ◌≢◌, ℕ, zero, suc, ◌+◌, ◌*◌, ◌%◌, ◌^◌, ◌<◌, ◌≤◌, List, [], ◌∷◌, length, take, drop, get_or, refl, sym, ap, ◌∙◌, arith, min, Bool, true, false, nat_eq, IsTrue, Less, Equal, Greater, nat_cmp, w64, pow-suc, rules}
+use Rattle.std.proofs.Common.{◌≡◌, ◌≢◌, ℕ, zero, suc, ◌+◌, ◌*◌, ◌%◌, ◌^◌, ◌<◌, ◌≤◌, List, [], ◌∷◌, length, take, drop, get_or, slice_index, refl, arith, min, Bool, true, false, nat_eq, IsTrue, Less, Equal, Greater, nat_cmp, w64, pow-suc, rules}
 use Rattle.std.proofs.Math.Seq.{take-add}
 use Rattle.std.proofs.Math.Arith.{mod-mul}
 use Rattle.std.specs.Int.{from_be_bytes, byte_at, bytes_high_first}
@@ -13,6 +13,7 @@ use Rattle.std.proofs.lemmas.Nat.{from_be_bytes-to_be_bytes_8, be_bytes_8}
 use Rattle.std.proofs.Math.Nat.{mul_comm, one-le-pow}
 use Rattle.const_oid.specs.Private.Words.{bytes_of, IsWord}
 use Rattle.const_oid.proofs.Orders.{digits_cmp, split_cmp, after_same}
+use Rattle.std.proofs.lemmas.Grind.{common_steps}
 
 -- ---- the order of numbers by their bytes
 
@@ -27,8 +28,9 @@ bytes_cmp : (k m n : ℕ)
 bytes_cmp zero m n = nat_cmp_is (m % 256 ^ 0) (n % 256 ^ 0) Equal (omega arith)
 bytes_cmp (suc k) m n =
     let some : 1 ≤ 256 ^ k = one-le-pow k 256 (omega arith) in
+    let rest = bytes_cmp k m n in
     rw (byte_first k m, byte_first k n)
-    (digits_cmp (byte_at k m) (byte_at k n) _ _ (m % 256 ^ k) (n % 256 ^ k) (bytes_cmp k m n) (omega arith) (omega arith))
+    (digits_cmp (byte_at k m) (byte_at k n) _ _ (m % 256 ^ k) (n % 256 ^ k) rest (omega arith) (omega arith))
 
 -- ---- the word at an index
 
@@ -71,14 +73,23 @@ pub last_words : {xs ys : List ℕ} {at m n : ℕ} → IsWord xs at m → IsWord
     → take at xs ≡ take at ys → m ≡ n → length xs ≡ at + 8 → length ys ≡ at + 8 → xs ≡ ys
 last_words {xs} {ys} {at} v w same e k l = grind (arith, same_more v w, take_all)
 
--- two lists, where one has ended, are in the order of their lengths
-pub rest_cmp : (xs ys : List ℕ) (at : ℕ) → at ≡ min (length xs) (length ys)
-    → slice_cmp nat_cmp (drop at xs) (drop at ys) ≡ nat_cmp (length xs) (length ys)
-rest_cmp [] [] zero e = refl
-rest_cmp [] (y ∷ ys) zero e = nat_cmp_is 0 (suc (length ys)) Less (omega arith)
-rest_cmp (x ∷ xs) [] zero e = nat_cmp_is (suc (length xs)) 0 Greater (omega arith)
-rest_cmp (x ∷ xs) (y ∷ ys) (suc at) e = grind (arith, nat_tests, rest_cmp xs ys at (omega arith))
-rest_cmp _ _ _ e = absurd (omega arith)
+-- where lists are the same as far as both go, their lengths decide
+pub ended_at : (xs ys : List ℕ) (at : ℕ) → at ≡ min (length xs) (length ys) → take at xs ≡ take at ys
+    → slice_cmp nat_cmp xs ys ≡ nat_cmp (length xs) (length ys)
+ended_at [] [] at e same = refl
+ended_at [] (y ∷ ys) at e same = nat_cmp_is 0 (suc (length ys)) Less (omega arith)
+ended_at (x ∷ xs) [] at e same = nat_cmp_is (suc (length xs)) 0 Greater (omega arith)
+ended_at (x ∷ xs) (y ∷ ys) zero e same = absurd (omega arith)
+ended_at (x ∷ xs) (y ∷ ys) (suc at) e same = grind (arith, nat_tests, ended_at xs ys at (omega arith) (cc))
+
+pub ended_cmp : (xs ys : List ℕ) → (let end = min (length xs) (length ys) in take end xs ≡ take end ys)
+    → slice_cmp nat_cmp xs ys ≡ nat_cmp (length xs) (length ys)
+ended_cmp xs ys same = ended_at xs ys (min (length xs) (length ys)) refl same
+
+-- and where they are not the same any more, the first unequal elements do
+pub octet_cmp : (xs ys : List ℕ) (i : ℕ) → take i xs ≡ take i ys → i < length xs → i < length ys
+    → slice_index xs i ≢ slice_index ys i → nat_cmp (slice_index xs i) (slice_index ys i) ≡ slice_cmp nat_cmp xs ys
+octet_cmp xs ys i same l m u = grind (arith, nat_tests, common_steps, after_same xs ys i same)
 
 -- a test that is true exactly where lists are the same
 pub tells_same : (test : Bool) (xs ys : List ℕ) → (IsTrue test → xs ≡ ys) → (xs ≡ ys → IsTrue test)
@@ -88,7 +99,9 @@ tells_same false xs ys same equal = search rules
 
 -- the same up to an earlier index
 pub same_less : (xs ys : List ℕ) (at less : ℕ) → less ≤ at → take at xs ≡ take at ys → take less xs ≡ take less ys
-same_less xs ys at less h same = sym (take-take less at xs h) ∙ ap (λ zs. take less zs) same ∙ take-take less at ys h
+same_less xs ys at less h same = grind (arith, take-take less at xs h, take-take less at ys h)
+
+pub ruleset word_by_word = (same_more, same_less, unequal_cmp, equal_words)
 
 -- ---- arrays that have the same after them
 

@@ -1,6 +1,6 @@
 //! How slices of octets and names compare.
 
-ghost use Rattle.std.specs.Prelude.{◌≡◌, ◌≢◌, ◌↔◌, ℕ, ◌+◌, ◌≤◌, List, ◌++◌, length, take, drop, min, nat_eq, IsTrue, MatchOption};
+ghost use Rattle.std.specs.Prelude.{◌≡◌, ◌≢◌, ◌↔◌, ℕ, ◌+◌, ◌<◌, ◌≤◌, List, ◌++◌, length, slice_index, take, drop, min, nat_eq, IsTrue, MatchOption};
 ghost use Rattle.std.specs.Cmp.Lexicographic.{pointwise, slice_cmp};
 ghost use Rattle.std.specs.Int.{to_be_bytes, w32};
 ghost use Rattle.std.specs.Ordering.{nat_cmp};
@@ -23,26 +23,29 @@ pub(crate) fn begins_with(octets: &[u8], prefix: &[u8]) -> bool
     }
     let (start, _) = octets.split_at(prefix.len());
     if prefix.len() < WORD {
-        return are_few_alike(prefix, start);
+        // The first one first, since most identifiers begin with a prefix or differ from its start on.
+        return same_until(prefix, start, 0, prefix.len()) == prefix.len();
     }
     are_equal(prefix, start)
 }
 
-/// Whether as many octets are the same: the first one first, since most identifiers begin with a prefix or differ
-/// from its start on.
+/// The first index from one on where octets are not the same, or the end.
 #[inline(always)]
-const fn are_few_alike(a: &[u8], b: &[u8]) -> bool
-    requires { length a.now ≡ length b.now }
-    ensures { result ≡ pointwise nat_eq a.now b.now }
+const fn same_until(a: &[u8], b: &[u8], start: usize, end: usize) -> usize
+    requires ends { end ≤ min (length a.now) (length b.now) }
+    requires starts { (start ≤ end) × (take start a.now ≡ take start b.now) }
+    ensures within { result ≤ end }
+    ensures same { take result a.now ≡ take result b.now }
+    ensures unequal { result < end → slice_index a.now result ≢ slice_index b.now result }
 {
-    let mut index = 0;
-    while index < a.len() {
+    let mut index = start;
+    while index < end {
         if a[index] != b[index] {
-            return false;
+            return index;
         }
         index += 1;
     }
-    true
+    end
 }
 
 /// Whether octets are the same: the last one first, since most pairs differ there, then by words, where
@@ -68,7 +71,7 @@ pub(crate) fn are_equal(a: &[u8], b: &[u8]) -> bool
     first_unequal(a, b, len - WORD).is_none()
 }
 
-#[tactic(auto, using(crate::proofs::Words::same_more, crate::proofs::Words::same_less, crate::proofs::Words::unequal_cmp, crate::proofs::Words::equal_words))]
+#[tactic(auto, using(crate::proofs::Words::word_by_word))]
 /// The first words that are not the same, of those that begin before an index.
 // `const` in Rust.
 #[inline(always)]
@@ -147,17 +150,16 @@ pub(crate) fn order(a: &[u8], b: &[u8]) -> Ordering
     a.len().cmp(&b.len())
 }
 
-#[tactic(auto, using(crate::proofs::Words::rest_cmp))]
+#[tactic(auto, using(crate::proofs::Words::octet_cmp, crate::proofs::Words::ended_cmp))]
 /// The octets in lexicographic order, one by one.
 #[inline(always)]
 fn order_few(a: &[u8], b: &[u8]) -> Ordering
     ensures { result ≡ slice_cmp nat_cmp a.now b.now }
 {
     let near = a.len().min(b.len());
-    for i in 0..near {
-        if a[i] != b[i] {
-            return a[i].cmp(&b[i]);
-        }
+    let i = same_until(a, b, 0, near);
+    if i < near {
+        return a[i].cmp(&b[i]);
     }
     a.len().cmp(&b.len())
 }
@@ -181,7 +183,7 @@ fn word(octets: &[u8], at: usize) -> u64
     }
 }
 
-#[tactic(auto, using(crate::proofs::ByParts::same_up_to, crate::proofs::ByParts::same_at, crate::proofs::ByParts::ended_at))]
+#[tactic(auto, using(crate::proofs::ByParts::ended_parts))]
 /// The octets in the order of their parts, a shorter part first.
 ///
 /// Where they differ first, the parts begin at one index. So the part that goes on for longer from
@@ -190,18 +192,17 @@ pub(crate) fn order_by_parts(a: &[u8], b: &[u8]) -> Ordering
     ensures { result ≡ parts_cmp a.now b.now }
 {
     let near = a.len().min(b.len());
-    for i in same_start(a, b)..near {
-        if a[i] != b[i] {
-            if a[i] < 128 || b[i] < 128 {
-                return a[i].cmp(&b[i]);
-            }
-            return match first_len(&a[i..]).cmp(&first_len(&b[i..])) {
-                Ordering::Equal => a[i].cmp(&b[i]),
-                unequal => unequal,
-            };
-        }
+    let i = same_until(a, b, same_start(a, b), near);
+    if i == near {
+        return a.len().cmp(&b.len());
     }
-    a.len().cmp(&b.len())
+    if a[i] < 128 || b[i] < 128 {
+        return a[i].cmp(&b[i]);
+    }
+    match first_len(&a[i..]).cmp(&first_len(&b[i..])) {
+        Ordering::Equal => a[i].cmp(&b[i]),
+        unequal => unequal,
+    }
 }
 
 /// How many of the first octets are known to be the same: a word, half a word or none.

@@ -13,23 +13,23 @@ pub(crate) const fn begins_with(octets: &[u8], prefix: &[u8]) -> bool {
     }
     let (start, _) = octets.split_at(prefix.len());
     if prefix.len() < WORD {
-        return are_few_alike(prefix, start);
+        // The first one first, since most identifiers begin with a prefix or differ from its start on.
+        return same_until(prefix, start, 0, prefix.len()) == prefix.len();
     }
     are_equal(prefix, start)
 }
 
-/// Whether as many octets are the same: the first one first, since most identifiers begin with a prefix or differ
-/// from its start on.
+/// The first index from one on where octets are not the same, or the end.
 #[inline(always)]
-const fn are_few_alike(a: &[u8], b: &[u8]) -> bool {
-    let mut index = 0;
-    while index < a.len() {
+const fn same_until(a: &[u8], b: &[u8], start: usize, end: usize) -> usize {
+    let mut index = start;
+    while index < end {
         if a[index] != b[index] {
-            return false;
+            return index;
         }
         index += 1;
     }
-    true
+    end
 }
 
 /// Whether octets are the same: the last one first, since most pairs differ there, then by words, where
@@ -119,10 +119,9 @@ pub(crate) fn order(a: &[u8], b: &[u8]) -> Ordering {
 #[inline(always)]
 fn order_few(a: &[u8], b: &[u8]) -> Ordering {
     let near = a.len().min(b.len());
-    for i in 0..near {
-        if a[i] != b[i] {
-            return a[i].cmp(&b[i]);
-        }
+    let i = same_until(a, b, 0, near);
+    if i < near {
+        return a[i].cmp(&b[i]);
     }
     a.len().cmp(&b.len())
 }
@@ -148,18 +147,17 @@ const fn word(octets: &[u8], at: usize) -> u64 {
 /// there is the longer one, and an octet that ends its part decides.
 pub(crate) fn order_by_parts(a: &[u8], b: &[u8]) -> Ordering {
     let near = a.len().min(b.len());
-    for i in same_start(a, b)..near {
-        if a[i] != b[i] {
-            if a[i] < 128 || b[i] < 128 {
-                return a[i].cmp(&b[i]);
-            }
-            return match first_len(&a[i..]).cmp(&first_len(&b[i..])) {
-                Ordering::Equal => a[i].cmp(&b[i]),
-                unequal => unequal,
-            };
-        }
+    let i = same_until(a, b, same_start(a, b), near);
+    if i == near {
+        return a.len().cmp(&b.len());
     }
-    a.len().cmp(&b.len())
+    if a[i] < 128 || b[i] < 128 {
+        return a[i].cmp(&b[i]);
+    }
+    match first_len(&a[i..]).cmp(&first_len(&b[i..])) {
+        Ordering::Equal => a[i].cmp(&b[i]),
+        unequal => unequal,
+    }
 }
 
 /// How many of the first octets are known to be the same: a word, half a word or none.

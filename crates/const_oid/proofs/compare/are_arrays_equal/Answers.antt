@@ -13,4 +13,5 @@ loop-at-preserved c = record {
 pub returns : goal.returns
 returns c =
     tells_same _ c.args.a.now c.args.b.now
-    (λ t. grind (arith, nat_tests, same_less, last_words c.word-2.ensures c.word-3.ensures)) (λ e. grind (arith, nat_tests, equal_words))
+    (λ t. grind (arith, nat_tests, same_less, last_words c.word-2.ensures c.word-3.ensures))
+    (λ e. grind (arith, nat_tests, equal_words))

@@ -1,6 +1,5 @@
 use Rattle.std.proofs.Common.{◌+◌, ◌-◌, arith, sym, ◌∙◌}
-use Rattle.const_oid.proofs.Orders.{after_same}
-use Rattle.const_oid.proofs.Words.{same_more, unequal_cmp, rest_cmp}
+use Rattle.const_oid.proofs.Words.{same_more, unequal_cmp, ended_at}
 use Rattle.const_oid.proofs.compare.order.Goals as goal
 
 pub returns-then-x-y : goal.returns-then-x-y
@@ -9,4 +8,4 @@ returns-then-x-y c = search (arith, unequal_cmp)
 pub returns : goal.returns
 returns c =
     let same = same_more c.word-x.ensures c.word-y.ensures c.in_default.ensures c.if-x-y.false in
-    c.cmp-2.ensures ∙ sym (rest_cmp _ _ (c.min-near.result - 8 + 8) (omega arith)) ∙ sym (after_same _ _ _ same)
+    c.cmp-2.ensures ∙ sym (ended_at _ _ (c.min-near.result - 8 + 8) (omega arith) same)
