@@ -1,4 +1,4 @@
-use Rattle.std.proofs.Common.{◌≡◌, None, sym, rules}
+use Rattle.std.proofs.Common.{sym, rules}
 use Rattle.const_oid.specs.OidRef.{ref_arcs}
 use Rattle.const_oid.proofs.SortedNames.{last_begins, none_begins, not_begun, not_found, reached_itself, reached_entry, reached_parent, reached_root}
 use Rattle.const_oid.proofs.db_sorted.SortedDatabase.nearest.Goals as goal
@@ -8,17 +8,16 @@ use Rattle.const_oid.proofs.db_sorted.SortedDatabase.nearest.Goals.{then-starts_
 pub loop-above-init : goal.loop-above-init
 loop-above-init c =
     let database = c.args.self.now in
-    let end = c.end_of in
-    reached_itself _ _ _ (last_begins (ref_arcs c.args.oid) database.entries.now database.sorted end.result end.ensures.cut
-    end.ensures.within c.in_ok-last.last.now c.in_ok-last.ensures.value)
+    let end = c.end_of.ensures in
+    reached_itself _ _ _ (last_begins database.entries.now (ref_arcs c.args.oid) database.sorted _ end.cut end.within
+    c.in_ok-last.last.now c.in_ok-last.ensures.value)
 
 pub returns-in_err-last-clause-none : goal.returns-in_err-last-clause-none
 returns-in_err-last-clause-none c =
     let database = c.args.self.now in
-    let end = c.end_of in
-    let ended : c.from_residual.result ≡ None = search rules in
-    rw ended (none_begins (ref_arcs c.args.oid) database.entries.now database.sorted end.result end.ensures.cut
-    end.ensures.within c.in_err-last.ensures.value)
+    let end = c.end_of.ensures in
+    rw c.from_residual.ensures (none_begins database.entries.now (ref_arcs c.args.oid) database.sorted _ end.cut end.within
+    c.in_err-last.ensures.value)
 
 pub returns-in-Some-clause-found : goal.returns-in-Some-clause-found
 returns-in-Some-clause-found c =
@@ -28,8 +27,7 @@ pub returns-in_err-above-clause-none : goal.returns-in_err-above-clause-none
 returns-in_err-above-clause-none c =
     let above = c.loop-above.above in
     let reached = c.loop-above.invariant in
-    let ended : c.from_residual-in_err-above.result ≡ None = search rules in
-    rw ended (reached_root _ _ _ above reached (elim c.if-starts_with.branch [
+    rw c.from_residual-in_err-above.ensures (reached_root _ _ _ above reached (elim c.if-starts_with.branch [
       | apart w ↦ not_begun _ _ _ above reached (λ begun. cc (c.starts_with.ensures.1 begun, w.if-starts_with.false))
       | absent w ↦ not_found _ _ _ above reached (search rules)
     ]) (sym c.in_err-above.ensures.arcs))

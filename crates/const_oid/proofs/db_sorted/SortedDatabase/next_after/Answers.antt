@@ -7,4 +7,4 @@ pub returns : goal.returns
 returns c =
     let entries = c.args.self.now.entries.now in
     item_is entries _ c.get.result (search rules)
-    ∙ sym (find_after (ref_arcs c.args.oid.now) entries c.end_of.result c.end_of.ensures.cut)
+    ∙ sym (find_after entries (ref_arcs c.args.oid.now) c.end_of.result c.end_of.ensures.cut)

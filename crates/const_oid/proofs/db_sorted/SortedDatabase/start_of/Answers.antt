@@ -10,6 +10,6 @@ pub returns-clause-cut : goal.returns-clause-cut
 returns-clause-cut c =
     let arcs = ref_arcs c.args.oid.now in
     let entries = c.args.self.now.entries.now in
-    let cut = cut_before entry_arcs arcs entries c.args.self.now.sorted in
+    let cut = cut_before entry_arcs entries c.args.self.now.sorted arcs in
     IsPartitionPoint-from_clause (λ entry. is_before arcs (entry_arcs entry)) entries _
     c.partition_point.ensures.partitioned cut (λ a r f called. search rules)

@@ -14,7 +14,7 @@ returns c =
     let entries = c.args.self.now.entries.now in
     let from = c.start_of.result in
     let rest = rw (take_rest entries from) at c.partition_point-count.ensures.partitioned in
-    let cut = cut_after entry_arcs arcs entries c.args.self.now.sorted from c.start_of.ensures.cut in
+    let cut = cut_after entry_arcs entries c.args.self.now.sorted arcs from c.start_of.ensures.cut in
     let second = IsPartitionPoint-from_clause (λ entry. is_under arcs (entry_arcs entry)) (drop from entries) _ rest cut
     (λ a r f called. (tells_under arcs (entry_arcs a.0.now) r (search rules), search rules)) in
-    rw (take_rest entries from) (subtree_is arcs entries from _ c.start_of.ensures.cut second)
+    rw (take_rest entries from) (subtree_is entries arcs from _ c.start_of.ensures.cut second)

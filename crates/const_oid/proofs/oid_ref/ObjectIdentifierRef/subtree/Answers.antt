@@ -9,9 +9,9 @@ pub returns-clause-from : goal.returns-clause-from
 returns-clause-from c =
     let prefix = c.args.self.now in
     let sorted = c.args.sorted.now in
-    let cut = cut_before ref_octets (ref_octets prefix) sorted c.requires in
+    let cut = cut_before ref_octets sorted c.requires (ref_octets prefix) in
     let point = c.partition_point-from.ensures in
-    point_is_count (ref_is_before prefix) sorted _ cut point.bound
+    point_is_count (ref_is_before prefix) sorted _ point.bound
     (IsPartitionPoint-from_clause (ref_is_before prefix) sorted _ point.partitioned cut (λ a r f called. search rules))
 
 pub returns-clause-inside : goal.returns-clause-inside
@@ -19,9 +19,9 @@ returns-clause-inside c =
     let prefix = c.args.self.now in
     let sorted = c.args.sorted.now in
     let from = c.partition_point-from.result in
-    let cut = cut_before ref_octets (ref_octets prefix) sorted c.requires in
+    let cut = cut_before ref_octets sorted c.requires (ref_octets prefix) in
     let first = IsPartitionPoint-from_clause (ref_is_before prefix) sorted from c.partition_point-from.ensures.partitioned
     cut (λ a r f called. search rules) in
     let rest = rw (take_rest sorted from) at c.partition_point-inside.ensures.partitioned in
     range_between prefix sorted from _ first (IsPartitionPoint-from_clause (ref_is_under prefix) (drop from sorted) _ rest
-    (cut_after ref_octets (ref_octets prefix) sorted c.requires from first) (λ a r f called. search rules))
+    (cut_after ref_octets sorted c.requires (ref_octets prefix) from first) (λ a r f called. search rules))
