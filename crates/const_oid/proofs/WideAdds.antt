@@ -1,6 +1,6 @@
 -- What the wide rule takes besides: identifiers under 2 whose second arc is past 39, and nothing else.
 use Rattle.std.proofs.lemmas.Bool.Decides.{nat_tests}
-use Rattle.std.proofs.Common.{◌≡◌, ◌≢◌, ◌⊎◌, ℕ, ◌≤◌, List, [], ◌∷◌, length, None, ⊎_elim, arith}
+use Rattle.std.proofs.Common.{◌≡◌, ◌≢◌, ◌⊎◌, ℕ, ◌≤◌, List, length, None, arith}
 use Rattle.std.specs.List.{AllByRecursion}
 use Rattle.std.specs.Prelude.{◌↔◌}
 use Rattle.const_oid.specs.Base128.{AreOctets}
@@ -16,17 +16,18 @@ use Rattle.const_oid.proofs.Texts.{denoted_from_none, text_fault-none}
 -- ---- identifiers
 
 narrow_or_past : (arcs : List ℕ) → IsIdentifier Wide arcs → IsIdentifier Narrow arcs ⊎ IsPastNarrow arcs
-narrow_or_past [] i = absurd i
-narrow_or_past (a ∷ []) i = absurd i
-narrow_or_past (a ∷ b ∷ later) i = grind (arith, nat_tests)
+narrow_or_past arcs i = grind (arith, nat_tests)
 
 narrow_not_past : (arcs : List ℕ) → IsIdentifier Narrow arcs → IsPastNarrow arcs → ⊥
-narrow_not_past [] i p = i
-narrow_not_past (a ∷ []) i p = i
-narrow_not_past (a ∷ b ∷ later) i p = absurd (omega (arith, i.1, p.1))
+narrow_not_past arcs i p = grind (arith, nat_tests)
 
 pub encoding_wide : {arcs octets : List ℕ} → IsEncoding Narrow arcs octets → IsEncoding Wide arcs octets
 encoding_wide {arcs} e = grind (arith, nat_tests)
+
+-- the encoding of an identifier is that under either rule
+encoding_narrow : {arcs octets : List ℕ} → IsEncoding Wide arcs octets → IsIdentifier Narrow arcs
+    → IsEncoding Narrow arcs octets
+encoding_narrow e i = record { identifier = i; groups = e.groups; each = e.each; joined = e.joined }
 
 pub denotes_wide : (text arcs : List ℕ) → Denotes Narrow text arcs → Denotes Wide text arcs
 denotes_wide text arcs d = grind (arith, nat_tests)
@@ -37,28 +38,31 @@ encoding_same e f = same_octets (encoding_wide e) f
 
 -- ---- what is accepted now and was rejected
 
-pub octets_new : (octets : List ℕ) (capacity : ℕ) → AreOctets octets → (octet_fault Wide octets capacity ≡ None) × (octet_fault Narrow octets capacity ≢ None) ↔ ((arcs : List ℕ) × IsEncoding Wide arcs octets × IsPastNarrow arcs × (length octets ≤ capacity))
+pub octets_new : (octets : List ℕ) (capacity : ℕ) → AreOctets octets
+    → (octet_fault Wide octets capacity ≡ None) × (octet_fault Narrow octets capacity ≢ None)
+    ↔ ((arcs : List ℕ) × IsEncoding Wide arcs octets × IsPastNarrow arcs × (length octets ≤ capacity))
 octets_new octets capacity bytes = (
   λ h.
       let (none, fits) = fits_from_none Wide octets capacity h.0 in
       let e = encoding_from_none Wide octets bytes none in
-      ⊎_elim
-      (λ (narrow : IsIdentifier Narrow (arcs_of_octets octets)).
-      absurd (h.1 (octet_fault-fits {rule = Narrow} capacity record { identifier = narrow; groups = e.groups; each = e.each; joined = e.joined } fits)))
-      (λ (past : IsPastNarrow (arcs_of_octets octets)). (arcs_of_octets octets, e, past, fits))
-      (narrow_or_past (arcs_of_octets octets) e.identifier),
+      (arcs_of_octets octets, e, grind (arith, narrow_or_past, encoding_narrow e, octet_fault-fits), fits),
   λ h.
       let (arcs, e, past, fits) = h in (
         octet_fault-fits capacity e fits,
         λ none.
             let n = encoding_from_none Narrow octets bytes (fits_from_none Narrow octets capacity none).0 in
-            let same = same_arcs (encoding_wide n) e in
-            narrow_not_past arcs (rw same at n.identifier) past,
+            narrow_not_past arcs (rw (same_arcs (encoding_wide n) e) at n.identifier) past,
       ),
 )
 
-pub texts_new : (text : List ℕ) (capacity : ℕ) → (text_fault Wide text capacity ≡ None) × (text_fault Narrow text capacity ≢ None) ↔ ((arcs : List ℕ) × Denotes Wide text arcs × IsPastNarrow arcs × (size arcs ≤ capacity))
+pub texts_new : (text : List ℕ) (capacity : ℕ)
+    → (text_fault Wide text capacity ≡ None) × (text_fault Narrow text capacity ≢ None)
+    ↔ ((arcs : List ℕ) × Denotes Wide text arcs × IsPastNarrow arcs × (size arcs ≤ capacity))
 texts_new text capacity = grind (arith, nat_tests, narrow_or_past, denoted_from_none, text_fault-none)
 
-pub items_new : (items : List ℕ) (capacity : ℕ) → AllByRecursion (λ n. n ≤ max_arc) items → (item_fault Wide items capacity ≡ None) × (item_fault Narrow items capacity ≢ None) ↔ (IsIdentifier Wide items × IsPastNarrow items × (size items ≤ capacity))
+pub items_new : (items : List ℕ) (capacity : ℕ) → AllByRecursion (λ n. n ≤ max_arc) items
+    → (item_fault Wide items capacity ≡ None) × (item_fault Narrow items capacity ≢ None)
+    ↔ (IsIdentifier Wide items × IsPastNarrow items × (size items ≤ capacity))
 items_new items capacity small = grind (arith, nat_tests, narrow_or_past, item_fault-none, identifier_from_none)
+
+pub ruleset wide_too = (encoding_wide, denotes_wide)

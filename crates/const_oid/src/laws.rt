@@ -63,6 +63,7 @@ pub fn unique_groups()
 {}
 
 /// The group of one number never begins that of another, whatever follows.
+#[tactic(auto, using(crate::proofs::Groups::prefix_free))]
 pub fn prefix_free()
     ensures { (m n : ℕ) (g h x y : List ℕ) → IsGroup m g → IsGroup n h → g ++ x ≡ h ++ y
         → (g ≡ h) × (m ≡ n) }
@@ -99,6 +100,7 @@ pub fn one_encoding()
 {}
 
 /// A second arc in range never makes an encoding of more than five octets, nor one out of range.
+#[tactic(auto, using(crate::proofs::Items::second_fits))]
 pub fn second_fits()
     ensures { (rule : RootRule) (capacity first second : ℕ) → 5 ≤ capacity → first ≤ 2
         → arc_fault rule capacity (first ∷ []) second
@@ -176,6 +178,7 @@ pub fn items_denote()
 
 /// The wide rule gives what the narrow one gives, except where octets begin with 120 or more, or the second
 /// arc under 2 was rejected. What was accepted keeps its arcs and octets, and so its text and orders.
+#[tactic(auto, using(crate::proofs::WideKeeps::wide_keeps, crate::proofs::WideAdds::wide_too))]
 pub fn wide_keeps()
     ensures no_octets { (capacity : ℕ)
         → octet_answer Wide [] capacity ≡ octet_answer Narrow [] capacity }
@@ -219,6 +222,7 @@ pub fn wide_adds()
 {}
 
 /// Under the wide rule no octets have an arc out of range.
+#[tactic(auto, using(crate::proofs::Overflow::octets_in_range))]
 pub fn octets_in_range()
     ensures { (arc : ℕ) (octets : List ℕ) (capacity : ℕ)
         → octet_fault Wide octets capacity ≢ Some (ArcInvalid arc) }
@@ -293,6 +297,7 @@ pub fn ranges()
 {}
 
 /// No input has the fault `Overflow`.
+#[tactic(auto, using(crate::proofs::Overflow::no_overflow))]
 pub fn no_overflow()
     ensures octets { (rule : RootRule) (octets : List ℕ) (capacity : ℕ)
         → octet_fault rule octets capacity ≢ Some Overflow }
