@@ -1,14 +1,13 @@
 -- For callers: what follows of identifiers that are held.
-use Rattle.std.proofs.Common.{◌≡◌, ◌≢◌, ℕ, zero, suc, ◌+◌, Bool, ◌&&◌, not, ⊎_elim, true, false, Equal, Greater, ◌<◌, ◌≤◌, List, [], ◌∷◌, ◌++◌, length, min, Some, Ok, Less, nat_cmp, refl, sym, ◌∙◌, arith, slice_get, get_or, length-append, append-nil}
+use Rattle.std.proofs.Common.{◌≡◌, ◌≢◌, ℕ, zero, suc, ◌+◌, Bool, ◌&&◌, not, true, false, ◌<◌, ◌≤◌, List, [], length, min, Some, Ok, Less, nat_cmp, sym, arith, slice_get, length-append, append-nil}
 use Rattle.std.proofs.Math.Seq.{get_or-append_seam}
-use Rattle.std.proofs.lemmas.Bool.{and_parts, cases_lt, not-true}
-use Rattle.std.proofs.lemmas.Option.{get_or_from_slice_get}
+use Rattle.std.proofs.lemmas.Bool.{and_parts, not-true}
+use Rattle.std.proofs.lemmas.Option.{gets}
 use Rattle.std.specs.Cmp.Lexicographic.{slice_cmp}
-use Rattle.std.specs.Ordering.{is_le, is_lt, ordering_reverse}
+use Rattle.std.specs.Ordering.{is_le, is_lt}
 use Rattle.std.specs.Prelude.{Result}
 use Rattle.std.specs.Iterator.{YieldsFirst}
 use Rattle.std.proofs.iter.Rest.{run_of_first}
-use Rattle.std.specs.declared.cmp.Ordering.{Ordering}
 use Rattle.std.proofs.lemmas.Cmp.{nat_list_cmp_total}
 use Rattle.const_oid.specs.declared.oid.ObjectIdentifier.{ObjectIdentifier}
 use Rattle.const_oid.specs.declared.oid_ref.ObjectIdentifierRef.{ObjectIdentifierRef}
@@ -37,57 +36,66 @@ pub size_fits : {N : ℕ} (oid : ObjectIdentifier N) → size (oid_arcs oid) ≤
 size_fits oid = omega (arith, oid_within oid, length_is_size (oid_encoding oid))
 
 -- its printed text is read as its arcs
-pub printed_back : {N : ℕ} (oid : ObjectIdentifier N) → text_answer root_rule (text_of (oid_arcs oid)) (min N 255) ≡ Ok (oid_arcs oid)
+pub printed_back : {N : ℕ} (oid : ObjectIdentifier N)
+    → text_answer root_rule (text_of (oid_arcs oid)) (min N 255) ≡ Ok (oid_arcs oid)
 printed_back {N} oid =
     let denoted = text_denotes root_rule (oid_arcs oid) (oid_encoding oid).identifier in
-    rw (text_fault-none root_rule (min N 255) (text_of (oid_arcs oid)) (oid_arcs oid) denoted (size_fits oid), sym denoted.values) refl
+    grind (arith, text_fault-none root_rule (min N 255) _ _ denoted (size_fits oid), denoted.values)
 
 -- its child has it as the parent
-pub parent_of_child : {N : ℕ} (oid : ObjectIdentifier N) (arc : ℕ) → parent_of (child_of (oid_arcs oid) arc) ≡ Some (oid_arcs oid)
+pub parent_of_child : {N : ℕ} (oid : ObjectIdentifier N) (arc : ℕ)
+    → parent_of (child_of (oid_arcs oid) arc) ≡ Some (oid_arcs oid)
 parent_of_child oid arc = parent_of-child_of root_rule (oid_arcs oid) arc (oid_encoding oid).identifier
 
 -- an identifier is the child of its parent, by the arc that follows the parent's
-child_again : (arcs parent : List ℕ) (arc : ℕ) → IsIdentifier root_rule arcs → parent_of arcs ≡ Some parent → slice_get arcs (length parent) ≡ Some arc → child_of parent arc ≡ arcs
+child_again : (arcs parent : List ℕ) (arc : ℕ) → IsIdentifier root_rule arcs → parent_of arcs ≡ Some parent
+    → slice_get arcs (length parent) ≡ Some arc → child_of parent arc ≡ arcs
 child_again arcs parent arc valid e f =
-    let (i, last, l, again) = child_of-parent_of root_rule arcs parent valid e in
-    let found : get_or (parent ++ last ∷ []) (length parent) 0 ≡ arc = get_or_from_slice_get (parent ++ last ∷ []) (length parent) arc 0 (rw (← again) at f) in
-    let same : last ≡ arc = sym (get_or-append_seam parent last [] 0) ∙ found in
-    rw (← same) again
+    let (_, last, _, again) = child_of-parent_of root_rule arcs parent valid e in
+    grind (arith, gets, get_or-append_seam parent last [])
 
 -- it is the child of its parent
-pub child_of_parent : {N : ℕ} (oid : ObjectIdentifier N) (parent : List ℕ) (arc : ℕ) → parent_of (oid_arcs oid) ≡ Some parent → slice_get (oid_arcs oid) (length parent) ≡ Some arc → child_of parent arc ≡ oid_arcs oid
+pub child_of_parent : {N : ℕ} (oid : ObjectIdentifier N) (parent : List ℕ) (arc : ℕ)
+    → parent_of (oid_arcs oid) ≡ Some parent → slice_get (oid_arcs oid) (length parent) ≡ Some arc
+    → child_of parent arc ≡ oid_arcs oid
 child_of_parent oid parent arc = child_again (oid_arcs oid) parent arc (oid_encoding oid).identifier
 
 -- both of a borrowed one
-pub ref_parent_of_child : (oid : ObjectIdentifierRef) (arc : ℕ) → parent_of (child_of (ref_arcs oid) arc) ≡ Some (ref_arcs oid)
+pub ref_parent_of_child : (oid : ObjectIdentifierRef) (arc : ℕ)
+    → parent_of (child_of (ref_arcs oid) arc) ≡ Some (ref_arcs oid)
 ref_parent_of_child oid arc = parent_of-child_of root_rule (ref_arcs oid) arc (ref_encoding oid).identifier
 
-pub ref_child_of_parent : (oid : ObjectIdentifierRef) (parent : List ℕ) (arc : ℕ) → parent_of (ref_arcs oid) ≡ Some parent → slice_get (ref_arcs oid) (length parent) ≡ Some arc → child_of parent arc ≡ ref_arcs oid
+pub ref_child_of_parent : (oid : ObjectIdentifierRef) (parent : List ℕ) (arc : ℕ)
+    → parent_of (ref_arcs oid) ≡ Some parent → slice_get (ref_arcs oid) (length parent) ≡ Some arc
+    → child_of parent arc ≡ ref_arcs oid
 ref_child_of_parent oid parent arc = child_again (ref_arcs oid) parent arc (ref_encoding oid).identifier
 
 longer_below : (xs ys : List ℕ) → BeginsWith ys xs → ys ≢ xs → length xs < length ys
 longer_below xs ys begins other = grind (arith, nat_tests, common_steps, append-nil, length-append)
 
 -- it comes before others that begin with it, in both orders
-pub before_below : {N M : ℕ} (oid : ObjectIdentifier N) (below : ObjectIdentifier M) → BeginsWith (oid_arcs below) (oid_arcs oid) → oid_arcs below ≢ oid_arcs oid → slice_cmp nat_cmp (oid_octets oid) (oid_octets below) ≡ Less
-before_below oid below b other = ancestor_before (oid_encoding oid) (oid_encoding below) b (longer_below (oid_arcs oid) (oid_arcs below) b other)
+pub before_below : {N M : ℕ} (oid : ObjectIdentifier N) (below : ObjectIdentifier M)
+    → BeginsWith (oid_arcs below) (oid_arcs oid) → oid_arcs below ≢ oid_arcs oid
+    → slice_cmp nat_cmp (oid_octets oid) (oid_octets below) ≡ Less
+before_below oid below b other =
+    ancestor_before (oid_encoding oid) (oid_encoding below) b (longer_below _ (oid_arcs below) b other)
 
-pub short_before_below : {N M : ℕ} (oid : ObjectIdentifier N) (below : ObjectIdentifier M) → BeginsWith (oid_arcs below) (oid_arcs oid) → oid_arcs below ≢ oid_arcs oid → shortlex_cmp (oid_octets oid) (oid_octets below) ≡ Less
-short_before_below oid below b other = ancestor_short (oid_encoding oid) (oid_encoding below) b (longer_below (oid_arcs oid) (oid_arcs below) b other)
+pub short_before_below : {N M : ℕ} (oid : ObjectIdentifier N) (below : ObjectIdentifier M)
+    → BeginsWith (oid_arcs below) (oid_arcs oid) → oid_arcs below ≢ oid_arcs oid
+    → shortlex_cmp (oid_octets oid) (oid_octets below) ≡ Less
+short_before_below oid below b other =
+    ancestor_short (oid_encoding oid) (oid_encoding below) b (longer_below _ (oid_arcs below) b other)
 
 -- ---- of borrowed ones in a list
 
-reversed : (o : Ordering) → is_le o ≡ true → is_lt (ordering_reverse o) ≡ false
-reversed Less t = refl
-reversed Equal t = refl
-reversed Greater t = cc
-
--- what is not after a list of octets is not before it the other way round: as `is_sorted` ensures, and `subtree` requires
+-- what is not after a list of octets is not before it the other way round: so `is_sorted` ensures what `subtree` requires
 pub not_before : (a b : List ℕ) → is_le (slice_cmp nat_cmp a b) ≡ true → is_lt (slice_cmp nat_cmp b a) ≡ false
-not_before a b level = rw (nat_list_cmp_total.antisymm b a) (reversed (slice_cmp nat_cmp a b) level)
+not_before a b level = grind (arith, nat_list_cmp_total)
 
 -- the result of the items of an iterator is exact where its list is known
-pub exact_answer : {S : Type 0} (rule : RootRule) (capacity : ℕ) (rest : S → List ℕ) (s : S) (result : Result (List ℕ) Error) → TakesItems rule capacity (YieldsFirst rest) s result → result ≡ item_answer rule (rest s) capacity
+pub exact_answer : {S : Type 0} (rule : RootRule) (capacity : ℕ) (rest : S → List ℕ) (s : S)
+    (result : Result (List ℕ) Error) → TakesItems rule capacity (YieldsFirst rest) s result
+    → result ≡ item_answer rule (rest s) capacity
 exact_answer rule capacity rest s result taken = grind (arith, run_of_first)
 
 -- ---- of a table of constants
@@ -99,13 +107,9 @@ fails_below (suc n) test = not (test n) && fails_below n test
 
 false_below : (n : ℕ) (test : ℕ → Bool) → fails_below n test ≡ true → (k : ℕ) → k < n → test k ≡ false
 false_below zero test t k l = absurd (omega arith)
-false_below (suc n) test t k l = ⊎_elim
-    (λ (less : k < n). false_below n test (and_parts _ _ t).1 k less)
-    (λ (last : n ≤ k).
-    let same : k ≡ n = omega arith in
-    rw same (not-true (test n) (and_parts _ _ t).0))
-    (cases_lt k n)
+false_below (suc n) test t k l = grind (arith, and_parts, not-true, false_below n test)
 
 -- no row of n + 1 is less than the one before it, where that computes
-pub sorted_rows : {X : Type 0} (n : ℕ) (test : ℕ → X → Bool) → ((d : X) → fails_below n (λ k. test k d) ≡ true) → (k : ℕ) (d : X) → 0 ≤ k → k + 1 < n + 1 → test k d ≡ false
+pub sorted_rows : {X : Type 0} (n : ℕ) (test : ℕ → X → Bool) → ((d : X) → fails_below n (λ k. test k d) ≡ true)
+    → (k : ℕ) (d : X) → 0 ≤ k → k + 1 < n + 1 → test k d ≡ false
 sorted_rows n test fails k d z l = false_below n (λ k. test k d) (fails d) k (omega arith)
