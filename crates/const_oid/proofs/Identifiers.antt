@@ -88,7 +88,7 @@ short_before_below oid below b other =
 
 -- ---- of borrowed ones in a list
 
--- what is not after a list of octets is not before it the other way round: so `is_sorted` ensures what `subtree` requires
+-- where octets are not after others, the others are not before them: so `is_sorted` ensures what `subtree` requires
 pub not_before : (a b : List ℕ) → is_le (slice_cmp nat_cmp a b) ≡ true → is_lt (slice_cmp nat_cmp b a) ≡ false
 not_before a b level = grind (arith, nat_list_cmp_total)
 

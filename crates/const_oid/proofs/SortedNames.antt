@@ -17,34 +17,29 @@ use Rattle.const_oid.specs.Identifier.{root_rule}
 use Rattle.const_oid.specs.Names.{Entry, oid_of, entry_arcs, has_arcs, IsNearest, IsSubtree}
 use Rattle.const_oid.specs.OidRef.{ref_arcs}
 use Rattle.const_oid.specs.Tree.{BeginsWith, parent_of}
-use Rattle.const_oid.proofs.BeginsWith.{is_before, is_under, under_iff, under_apart, not_greater}
+use Rattle.const_oid.proofs.BeginsWith.{is_before, under_iff, under_apart, not_greater}
 use Rattle.const_oid.proofs.ByParts.{run_between}
 use Rattle.const_oid.proofs.Encodings.{ref_encoding}
 use Rattle.const_oid.proofs.Parents.{none_of_two, two_arcs}
-use Rattle.const_oid.proofs.Subtree.{IsCut, cut_by}
+use Rattle.const_oid.proofs.Subtree.{IsCut, key_before, key_under, cut_by}
 use Rattle.const_oid.proofs.Tree.{child_of-parent_of}
 use Rattle.std.proofs.lemmas.Grind.{common_steps}
 use Rattle.std.proofs.lemmas.Bool.Decides.{nat_tests}
 
 -- ---- the first element that passes a test
 
+ruleset finds = (find_at, slice_get_cases, passes_at_first, fails_before_first)
+
 module _ {X : Type 0} (p : X → Bool) (xs : List X) where
   -- it is where all before it fail
   pub find_is : (i : ℕ) → IsFirstMatchOrLen p xs i → find p xs ≡ slice_get xs i
-  find_is i first = grind (arith, find_at, slice_get_cases, passes_at_first, fails_before_first, slice_get_cases xs i)
+  find_is i first = grind (arith, finds, slice_get_cases xs i)
 
   -- it is at an index or nowhere, where all before that fail, and all after one there that fails
   find_or_none : (i : ℕ) → AllWithin (λ x. p x ≡ false) xs 0 i
       → ((k : ℕ) (d : X) → i ≤ k → k < length xs → p (get_or xs i d) ≡ false → p (get_or xs k d) ≡ false)
       → find p xs ≡ option_and_then (λ x. cond (p x) (Some x) None) (slice_get xs i)
-  find_or_none i early late =
-      grind (arith, find_at, slice_get_cases, passes_at_first, fails_before_first, slice_get_cases xs i)
-
-  found_passes : (x : X) → find p xs ≡ Some x → p x ≡ true
-  found_passes x e = grind (arith, find_at, slice_get_cases, passes_at_first)
-
-  none_passes : find p xs ≡ None → All (λ x. p x ≡ false) xs
-  none_passes e k d l = grind (arith, find_at, slice_get_cases, fails_before_first)
+  find_or_none i early late = grind (arith, finds, slice_get_cases xs i)
 
 -- an item that is borrowed is that of the list
 pub item_is : {X : Type 0} (xs : List X) (i : ℕ) (item : Option (Bor X))
@@ -59,7 +54,7 @@ module _ (arcs : List ℕ) where
   is_entry = has_arcs ref_arcs arcs
 
   abbrev pub is_early : Entry ObjectIdentifierRef → Bool
-  is_early entry = is_before arcs (entry_arcs entry)
+  is_early = key_before entry_arcs arcs
 
   abbrev pub is_late : Entry ObjectIdentifierRef → Bool
   is_late entry = is_before (entry_arcs entry) arcs
@@ -102,7 +97,7 @@ module _ (entries : List (Entry ObjectIdentifierRef)) (arcs : List ℕ) where
 
   -- the entries from one cut to the other are those that begin with the arcs
   pub subtree_is : (from count : ℕ) → IsCut (is_early arcs) entries from
-      → IsCut (λ entry. is_under arcs (entry_arcs entry)) (drop from entries) count
+      → IsCut (key_under entry_arcs arcs) (drop from entries) count
       → IsSubtree entries arcs (take count (drop from entries))
   subtree_is from count first second =
       let rest = drop from entries in
@@ -192,19 +187,18 @@ module _ (entries : List (Entry ObjectIdentifierRef)) (arcs last : List ℕ) whe
     pub reached_entry : (entry : Entry ObjectIdentifierRef) → find (is_entry (ref_arcs oid)) entries ≡ Some entry
         → IsNearest entries arcs entry
     reached_entry entry e =
-        let passes = found_passes (is_entry (ref_arcs oid)) entries entry e in
-        let same = same_text (entry_arcs entry) (ref_arcs oid) (sym passes) in
+        let same : entry_arcs entry ≡ ref_arcs oid = grind (arith, finds, same_text) in
         record { begins = rw same reached.begins; first = rw same e; longest = rw same reached.others }
 
     abbrev IsNoEntry : Type 0
     IsNoEntry = All (λ entry. entry_arcs entry ≢ ref_arcs oid) entries
 
-    -- where the table has no entry of it, or the last one does not begin with it
-    pub not_found : find (is_entry (ref_arcs oid)) entries ≡ None → IsNoEntry
-    not_found none k d l e = grind (arith, none_passes, nat_list_eq_equiv)
-
-    pub not_begun : ¬ BeginsWith last (ref_arcs oid) → IsNoEntry
-    not_begun other k d l e = let near = rw e at (reached.near k d l) in other (near reached.begins)
+    -- where the last one does not begin with it, or the table has no entry of it
+    pub no_entry : (BeginsWith last (ref_arcs oid) → find (is_entry (ref_arcs oid)) entries ≡ None) → IsNoEntry
+    no_entry absent k d l e =
+        let near = rw e at (reached.near k d l) in
+        let none = absent (near reached.begins) in
+        grind (arith, finds, nat_list_eq_equiv)
 
     module _ (other : IsNoEntry) where
       pub reached_parent : (parent : List ℕ) → parent_of (ref_arcs oid) ≡ Some parent

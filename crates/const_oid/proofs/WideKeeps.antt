@@ -22,9 +22,7 @@ items_later_same capacity a b before (x ∷ xs) = rw (items_later_same capacity 
 
 pub items_same : (items : List ℕ) (capacity : ℕ) → (RefusesSecond items (item_fault Narrow items capacity) → ⊥)
     → item_fault Narrow items capacity ≡ item_fault Wide items capacity
-items_same [] capacity h = refl
-items_same (a ∷ []) capacity h = refl
-items_same (a ∷ b ∷ later) capacity h = grind (arith, nat_tests, items_later_same)
+items_same items capacity h = grind (arith, nat_tests, items_later_same)
 
 -- ---- texts
 

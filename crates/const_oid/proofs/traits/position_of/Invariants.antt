@@ -5,5 +5,5 @@ use Rattle.const_oid.proofs.traits.position_of.Given as goal
 
 -- no value before this index has the identifier
 abbrev pub invariant-loop-i : goal.invariant-loop-i
-invariant-loop-i g l =
-    AllWithin (λ b. (goal.DynAssociatedOid-dyn g (b.vtable, b.value)).value_arcs b.value ≢ oid_arcs l.oid) l.values 0 l.i
+invariant-loop-i g l = AllWithin
+    (λ b. (goal.DynAssociatedOid-dyn g (b.vtable, b.value)).value_arcs b.value ≢ oid_arcs l.oid) l.values 0 l.i

@@ -2,8 +2,7 @@ use Rattle.std.proofs.Common.{rules}
 use Rattle.std.proofs.lemmas.List.Sorted.{IsPartitionPoint-from_clause}
 use Rattle.const_oid.specs.Names.{entry_arcs}
 use Rattle.const_oid.specs.OidRef.{ref_arcs}
-use Rattle.const_oid.proofs.BeginsWith.{is_before}
-use Rattle.const_oid.proofs.Subtree.{cut_before}
+use Rattle.const_oid.proofs.Subtree.{key_before, cut_before}
 use Rattle.const_oid.proofs.db_sorted.SortedDatabase.start_of.Goals as goal
 
 pub returns-clause-cut : goal.returns-clause-cut
@@ -11,5 +10,5 @@ returns-clause-cut c =
     let arcs = ref_arcs c.args.oid.now in
     let entries = c.args.self.now.entries.now in
     let cut = cut_before entry_arcs entries c.args.self.now.sorted arcs in
-    IsPartitionPoint-from_clause (λ entry. is_before arcs (entry_arcs entry)) entries _
+    IsPartitionPoint-from_clause (key_before entry_arcs arcs) entries _
     c.partition_point.ensures.partitioned cut (λ a r f called. search rules)
