@@ -29,7 +29,8 @@ same_piece : (before piece : List ℕ) (after : List (List ℕ))
 same_piece before piece after other = grind (arith, same_arc before (number_of piece))
 
 -- pieces of a text, after others
-same_pieces : (before : List ℕ) (pieces : List (List ℕ)) → IsSame (λ capacity. pieces_fault root_rule capacity before pieces)
+same_pieces : (before : List ℕ) (pieces : List (List ℕ))
+    → IsSame (λ capacity. pieces_fault root_rule capacity before pieces)
 same_pieces before [] other = refl
 same_pieces before (piece ∷ after) other =
     grind (arith, same_piece before piece after, same_pieces (before ++ number_of piece ∷ []) after)

@@ -1,5 +1,4 @@
 pub mod Answers
 pub mod Capacities
-pub mod WrittenArcs
 pub mod SkippedArcs
 pub mod Ranges

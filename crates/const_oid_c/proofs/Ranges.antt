@@ -23,7 +23,8 @@ passes_first {X} p xs by k d l =
     let n = prefix_len p xs in
     let late = λ (k : ℕ) (d : X) (from : n ≤ k) (m : k < length xs).
     false_from_ne_true (p (get_or xs k d)) (λ t. cc (by n k d from m t, prefix_len_stops p xs d (omega arith))) in
-    let counted = point_is_count p xs n by (prefix_len-le-length p xs) (λ k d l m. prefix_len_passes p xs k d m, late) in
+    let early = λ (k : ℕ) (d : X) (z : 0 ≤ k) (m : k < n). prefix_len_passes p xs k d m in
+    let counted = point_is_count p xs n by (prefix_len-le-length p xs) (early, late) in
     grind (arith, nat_tests, prefix_len_passes p xs k d, late k d)
 
 -- where an element passes one of two tests at most, they count together what passes either
@@ -41,7 +42,8 @@ module _ (prefix : List ℕ) (items : List Octets) (up : IsSortedByKey octets_at
 
   -- the first items pass a test that goes down the order
   passes : (p : List ℕ → Bool) → ((x z : List ℕ) → is_before x z ≡ false → p z ≡ true → p x ≡ true)
-      → (k : ℕ) (item : Octets) → k < length items → get_or items k item ≡ item → p (octets_at item) ≡ ltb k (count p)
+      → (k : ℕ) (item : Octets) → k < length items → get_or items k item ≡ item
+      → p (octets_at item) ≡ ltb k (count p)
   passes p down k item l at =
       let far = sorted_far _ (ranks_by nat_list_cmp_total octets_at) items up in
       rw at at (passes_first (λ item. p (octets_at item)) items (λ i j d le m. down _ _ (far i j d le m)) k item l)

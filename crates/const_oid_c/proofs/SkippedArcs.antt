@@ -1,8 +1,8 @@
 -- Arcs that an iterator passes over.
-use Rattle.std.proofs.Common.{◌≡◌, ◌≤◌, ◌+◌, ℕ, List, [], ◌∷◌, ◌++◌, length, drop, sym, ap, ◌∙◌, arith, append-nil}
+use Rattle.std.proofs.Common.{◌≡◌, ◌+◌, ◌≤◌, length, ℕ, List, [], ◌∷◌, ◌++◌, drop, sym, ap, ◌∙◌, arith, append-nil}
 use Rattle.std.specs.Iterator.{YieldsFirst, Yields, SkipsThenYields}
-use Rattle.std.specs.Prelude.{Option, Some, None}
 use Rattle.std.specs.Option.{MatchOption}
+use Rattle.std.specs.Prelude.{Option, Some, None}
 use Rattle.std.proofs.Math.ListN.{drop_of_length-le}
 use Rattle.std.proofs.Math.Seq.{drop-append-add}
 
@@ -15,12 +15,14 @@ came arcs [] left y = y
 came arcs (arc ∷ before) left (j, e, y) = e ∙ ap (λ xs. arc ∷ xs) (came j before left y)
 
 -- after so many arcs, and one more, or after all
-skipped_then : (count : ℕ) (arcs before left after : List ℕ) (arc : Option ℕ) → arcs ≡ before ++ left → Takes left arc after → MatchOption arc (length before ≤ count) (λ _. length before ≡ count) → after ≡ drop (count + 1) arcs
-skipped_then count arcs before left after None e (none, end) few =
-    let all : arcs ≡ before = e ∙ ap (λ xs. before ++ xs) none ∙ append-nil before in
-    end ∙ sym (drop_of_length-le arcs (omega (arith, ap length all)))
-skipped_then count arcs before left after (Some arc) e next is =
-    sym (rw (← is, e, next) (drop-append-add before (arc ∷ after) 1))
+skipped_then : (count : ℕ) (before left after : List ℕ) (arc : Option ℕ) → Takes left arc after
+    → MatchOption arc (length before ≤ count) (λ _. length before ≡ count) → after ≡ drop (count + 1) (before ++ left)
+skipped_then count before left after None (none, end) few =
+    rw (none, end, append-nil) (sym (drop_of_length-le before (omega arith)))
+skipped_then count before left after (Some arc) next is =
+    sym (rw (← is, next) (drop-append-add before (arc ∷ after) 1))
 
-pub skipped : (count : ℕ) (arcs after : List ℕ) (arc : Option ℕ) → SkipsThenYields Takes arcs count arc after → after ≡ drop (count + 1) arcs
-skipped count arcs after arc (before, (left, y, next), few) = skipped_then count arcs before left after arc (came arcs before left y) next few
+pub skipped : (count : ℕ) (arcs after : List ℕ) (arc : Option ℕ)
+    → SkipsThenYields Takes arcs count arc after → after ≡ drop (count + 1) arcs
+skipped count arcs after arc (before, (left, y, next), few) =
+    rw (came arcs before left y) (skipped_then count before left after arc next few)
