@@ -2,23 +2,20 @@
 package main
 
 import (
-	"bufio"
 	"encoding/asn1"
-	"encoding/hex"
 	"fmt"
-	"os"
 )
 
 func main() {
-	for lines := bufio.NewScanner(os.Stdin); lines.Scan(); {
+	var der []byte
+	for n, _ := fmt.Scanf("%x\n", &der); n > 0; n, _ = fmt.Scanf("%x\n", &der) {
 		var oid asn1.ObjectIdentifier
-		der, _ := hex.DecodeString(lines.Text()[2:])
-		if lines.Text()[0] == 'T' {
+		if der[0] != 6 {
 			fmt.Println("no call")
 		} else if rest, err := asn1.Unmarshal(der, &oid); err != nil || len(rest) > 0 {
 			fmt.Println("rejected")
 		} else {
-			fmt.Println(oid)
+			fmt.Printf("%x\n", oid.String())
 		}
 	}
 }

@@ -1,5 +1,4 @@
-// OID(text) and DER_Encoder; BER_Decoder and OID::to_string.
-#include <botan/ber_dec.h>
+#include <botan/ber_dec.h> // OID(text) and DER_Encoder; BER_Decoder and OID::to_string
 #include <botan/der_enc.h>
 
 int text_to_octets(const char *text, size_t len, uint8_t *out) try {

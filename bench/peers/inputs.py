@@ -1,17 +1,20 @@
 """Inputs and their results, from X.660 (arcs) and X.690 section 8.19 (octets) alone."""
 from random import choice, randrange, seed
 
-COUNT = 10_000
 EDGES = [0, 39, 40, 79, 80, 127, 128, 16383, 16384, 2**21 - 1, 2**21, 2**28 - 1, 2**28, 2**31 - 1, 2**31, 2**32 - 1]
 WIDE = [2**32, 2**32 + 1, 2**35 - 1, 2**63 - 1, 2**63, 2**64 - 1, 2**64, 2**64 + 5, 2**70]
 
 
-def drawn(wide=False):
-    """Arcs: the root is at most 2, and the next arc below 0 and 1 at most 39; if wide, a later one is past 32 bits."""
+def drawn():
+    """Arcs: the root is at most 2, and the next arc below 0 and 1 at most 39."""
     arcs = [randrange(3), *(choice([randrange(130), choice(EDGES), randrange(2**32)]) for _ in range(randrange(1, 8)))]
-    if arcs[0] < 2:
-        arcs[1] = randrange(40)
-    return arcs if not wide else [*arcs, choice(WIDE)] if randrange(2) or arcs[0] < 2 else [2, choice(WIDE), *arcs[2:]]
+    return arcs if arcs[0] == 2 else [arcs[0], randrange(40), *arcs[2:]]
+
+
+def wide():
+    """Arcs of which one is past 32 bits."""
+    arcs = drawn()
+    return [*arcs, choice(WIDE)] if randrange(2) or arcs[0] < 2 else [2, choice(WIDE), *arcs[2:]]
 
 
 def group(number, more=0):
@@ -39,41 +42,36 @@ def bad_first(arcs):
     return [*choice(heads), *arcs[2:]]
 
 
-def contents(parts, is_text=False):
-    """A text of arcs, or the contents octets of groups."""
-    return ".".join(map(str, parts)).encode() if is_text else b"".join(parts)
+def text(arcs):
+    return ".".join(map(str, arcs)).encode()
 
 
-def line_of(parts, is_text):
-    """A line for a driver: a text, or a DER encoding."""
-    data = contents(parts, is_text)
-    return f"T {data.hex()}" if is_text else f"D 06{len(data):02x}{data.hex()}"
+def der(parts):
+    return bytes([6, sum(map(len, parts))]) + b"".join(parts)
 
 
-def result_of(arcs, is_text):
-    return contents(groups(arcs)).hex() if is_text else contents(arcs, True).decode()
-
-
-# A kind of input: its name, whether it may also be rejected, the arcs of its result, and what is read.
+# A kind of input: its name, what is right, its arcs, and the parts that are read: arcs of a text, or groups.
 KINDS = [
-    ("octets", False, lambda: (a := drawn(), groups(a))),
-    ("octets, arc past 32 bits", True, lambda: (a := drawn(True), groups(a))),
-    ("octets, padded group", False, lambda: (None, edited(groups(drawn()), (b"\x80" * randrange(1, 4)).__add__))),
-    ("octets, last group unfinished", False, lambda: (None, groups(drawn(), 128))),
-    ("text", False, lambda: (a := drawn(), a)),
-    ("text, arc past 32 bits", True, lambda: (a := drawn(True), a)),
-    ("text, leading zero", True, lambda: (a := drawn(), edited(a, "0{}".format))),
-    ("text, empty piece", False, lambda: (None, edited(drawn(), "{}.".format))),
-    ("text, foreign character", False, lambda: (None, edited(drawn(), foreign))),
-    ("text, first arcs out of range", False, lambda: (None, bad_first(drawn()))),
-    ("text, one arc", False, lambda: (None, drawn()[-1:])),
+    ("octets", "read", drawn, groups),
+    ("octets, arc past 32 bits", "either", wide, groups),
+    ("octets, padded group", "rejected", drawn, lambda a: edited(groups(a), (b"\x80" * randrange(1, 4)).__add__)),
+    ("octets, last group unfinished", "rejected", drawn, lambda a: groups(a, 128)),
+    ("text", "read", drawn, list),
+    ("text, arc past 32 bits", "either", wide, list),
+    ("text, leading zero", "either", drawn, lambda a: edited(a, "0{}".format)),
+    ("text, empty piece", "rejected", drawn, lambda a: edited(a, "{}.".format)),
+    ("text, foreign character", "rejected", drawn, lambda a: edited(a, foreign)),
+    ("text, first arcs out of range", "rejected", drawn, bad_first),
+    ("text, one arc", "rejected", drawn, lambda a: a[-1:]),
 ]
 
 
-def rows():
-    """For each kind its name, whether it may be rejected, and COUNT lines with their results."""
+def inputs():
+    """For each kind its name, what is right, and 10,000 inputs with their results."""
     seed(20261124)
-    for kind, may_reject, make in KINDS:
-        is_text = kind.startswith("text")
-        made = [make() for _ in range(COUNT)]
-        yield kind, may_reject, [(line_of(parts, is_text), arcs and result_of(arcs, is_text)) for arcs, parts in made]
+    for kind, right, draw, edit in KINDS:
+        made = [(edit(arcs), arcs) for arcs in (draw() for _ in range(10_000))]
+        if kind.startswith("text"):
+            yield kind, right, [(text(parts), der(groups(arcs))[2:]) for parts, arcs in made]
+        else:
+            yield kind, right, [(der(parts), text(arcs)) for parts, arcs in made]

@@ -1,5 +1,4 @@
-/* SEC_StringToOID; CERT_GetOidString, whose text may start with OID. and tells of an arc too large by UNSUPPORTED. */
-#include <cert.h>
+#include <cert.h> /* SEC_StringToOID; CERT_GetOidString, whose text starts with OID. or tells what is unsupported */
 #include <prprf.h>
 
 int text_to_octets(const char *text, size_t len, uint8_t *out) {
@@ -10,8 +9,7 @@ int text_to_octets(const char *text, size_t len, uint8_t *out) {
 int octets_to_text(const uint8_t *der, size_t len, char *out) {
     SECItem item = {siDEROID, (unsigned char *)der + 2, (unsigned)len - 2};
     char *text = CERT_GetOidString(&item);
-    int skip = text && !strncmp(text, "OID.", 4) ? 4 : REJECTED;
-    int size = text && !strstr(text, "UNSUPPORTED") ? sprintf(out, "%s", text + skip) : REJECTED;
-    if (text) PR_smprintf_free(text);
+    int size = text && !strstr(text, "UNSUPPORTED") ? sprintf(out, "%s", text + 4) : REJECTED;
+    PR_smprintf_free(text);
     return size;
 }

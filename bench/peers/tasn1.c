@@ -1,9 +1,8 @@
-/* asn1_object_id_der; asn1_get_object_id_der, which takes no tag. */
-#include <libtasn1.h>
+#include <libtasn1.h> /* asn1_object_id_der; asn1_get_object_id_der, which takes no tag */
 
 int text_to_octets(const char *text, size_t len, uint8_t *out) {
     int size = ROOM;
-    return (void)len, asn1_object_id_der(text, out - 2, &size, 0) == ASN1_SUCCESS ? size - 2 : REJECTED;
+    return asn1_object_id_der(text, out - 2, &size, 0) == ASN1_SUCCESS ? size - 2 : REJECTED;
 }
 
 int octets_to_text(const uint8_t *der, size_t len, char *out) {
