@@ -1,11 +1,12 @@
 -- The digits of a number.
 use Rattle.std.proofs.lemmas.Grind.{common_steps}
 use Rattle.std.proofs.lemmas.Bool.Decides.{nat_tests}
-use Rattle.std.proofs.Common.{◌≡◌, Bool, true, false, ℕ, zero, suc, ◌+◌, ◌-◌, ◌/◌, ◌^◌, ◌<◌, ◌≤◌, List, ◌++◌, length, drop, ap, ◌∙◌, ◌%◌, arith, decimal, length-append, pow-suc}
+use Rattle.std.proofs.Common.{◌≡◌, Bool, true, false, ℕ, zero, suc, ◌+◌, ◌-◌, ◌/◌, ◌^◌, ◌<◌, ◌≤◌, List, ◌++◌, length, drop, ap, ◌∙◌, ◌%◌, arith, decimal, nat_lt, if◌then◌else◌, length-append, pow-suc}
 use Rattle.std.proofs.lemmas.Fmt.{decimal_digit, decimal_step, length-decimal-le, IsAscii-decimal}
 use Rattle.std.specs.Str.{IsAscii}
 use Rattle.const_oid.specs.Private.Text.{arc_text, pair_text}
-use Rattle.std.proofs.lemmas.List.{drop-drop}
+use Rattle.std.proofs.lemmas.List.{drop-drop, drop-set-lt, take_more_set}
+use Rattle.std.proofs.lemmas.Slice.{drop-put_mid}
 
 pub length_digit : (n : ℕ) → n < 10 → length (decimal n) ≡ 1
 length_digit n h = ap length (decimal_digit n h)
@@ -21,6 +22,35 @@ length_between (suc k) n low below high =
     let q = pow-suc 10 (suc k) in
     let shorter = length_between k (n / 10) (omega arith) (omega arith) (omega arith) in
     omega (arith, length_step n (omega arith) high)
+
+-- the length in digits, by tests
+abbrev digits_by_tests : ℕ → ℕ
+digits_by_tests n =
+    if nat_lt n 10 then 1
+    else (if nat_lt n 100 then 2
+    else (if nat_lt n 10000 then (if nat_lt n 1000 then 3 else 4)
+    else (if nat_lt n 1000000 then (if nat_lt n 100000 then 5 else 6)
+    else (if nat_lt n 100000000 then (if nat_lt n 10000000 then 7 else 8)
+    else (if nat_lt n 1000000000 then 9 else 10)))))
+
+pub decimal_lengths : (n : ℕ) → n < 2 ^ 32 → length (decimal n) ≡ digits_by_tests n
+decimal_lengths n h = grind (
+  arith,
+  nat_tests,
+  length_digit n,
+  length_between 1 n,
+  length_between 2 n,
+  length_between 3 n,
+  length_between 4 n,
+  length_between 5 n,
+  length_between 6 n,
+  length_between 7 n,
+  length_between 8 n,
+  length_between 9 n,
+)
+
+-- one digit put into bytes, or several
+pub ruleset digits_put = (length_digit, decimal_digit, take_more_set, drop-set-lt, drop-put_mid)
 
 pub decimal_two : (n : ℕ) → 10 ≤ n → n < 100 → decimal n ≡ pair_text n
 decimal_two n low high = grind (arith, nat_tests, decimal_digit, decimal_step)

@@ -1,6 +1,8 @@
 -- The table of pairs has the digits of each number below a hundred.
+use Rattle.std.proofs.lemmas.Fmt.{decimal_digit}
+use Rattle.const_oid.proofs.Decimals.{length_digit, length_two, length_pair, decimal_two, decimal_pair}
 use Rattle.std.proofs.lemmas.Bool.Decides.{nat_tests}
-use Rattle.std.proofs.Common.{◌≡◌, ℕ, zero, suc, ◌+◌, ◌-◌, ◌/◌, ◌%◌, ◌<◌, Bool, true, false, ◌&&◌, List, [], ◌∷◌, T, eqb, get_or, inl, inr, arith, eq-zero-or-pos}
+use Rattle.std.proofs.Common.{◌≡◌, ℕ, zero, suc, ◌+◌, ◌-◌, ◌/◌, ◌%◌, ◌<◌, Bool, true, false, ◌&&◌, List, [], ◌∷◌, T, eqb, get_or, length, slice_set, refl, inl, inr, arith, eq-zero-or-pos}
 use lib.Ieee.Fits.{and_l, and_r}
 use Rattle.const_oid.specs.declared.digits.TheConstants.{PAIRS}
 use Rattle.const_oid.specs.Private.Text.{pair_text}
@@ -31,3 +33,12 @@ pairs_below (suc n) p t h =
 
 pub PAIRS_at : (p : ℕ) → p < 100 → get_or PAIRS p [] ≡ pair_text p
 PAIRS_at p h = pairs_below 100 p tt h
+
+pub one_set : (xs : List ℕ) (x : ℕ) → length xs ≡ 1 → slice_set xs 0 x ≡ x ∷ []
+one_set [] x one = absurd (omega arith)
+one_set (y ∷ []) x one = refl
+one_set (y ∷ z ∷ ys) x one = absurd (omega arith)
+
+-- the digits of a number, taken two by two
+pub ruleset digits_filled =
+    (decimal_digit, length_digit, one_set, length_two, length_pair, decimal_two, decimal_pair, PAIRS_at)

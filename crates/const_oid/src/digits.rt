@@ -33,6 +33,7 @@ pub(crate) fn write_arc(arc: Arc, is_first: bool, out: &mut [u8], at: usize) -> 
 }
 
 /// How many digits an arc has.
+#[tactic(auto, using(crate::proofs::Decimals::decimal_lengths))]
 #[inline]
 fn count_digits(arc: Arc) -> usize
     ensures len { result ≡ length (decimal arc) }
@@ -56,6 +57,7 @@ fn count_digits(arc: Arc) -> usize
 }
 
 /// Writes the digits of an arc at an index, and returns the index after them.
+#[tactic(auto, using(crate::proofs::Decimals::digits_put))]
 #[inline]
 fn write_digits(arc: Arc, out: &mut [u8], at: usize) -> usize
     requires { at + length (decimal arc) ≤ length out.old }
@@ -74,6 +76,7 @@ fn write_digits(arc: Arc, out: &mut [u8], at: usize) -> usize
 }
 
 /// Writes the digits of an arc into a slice, which is as long. The last two are first.
+#[tactic(auto, using(crate::proofs::PairTable::digits_filled))]
 #[inline]
 fn fill_digits(arc: Arc, out: &mut [u8])
     requires { length out.old ≡ length (decimal arc) }

@@ -27,6 +27,7 @@ pub(crate) fn text_len(arcs: Arcs<'_>, limit: usize) -> Option<usize>
 }
 
 /// Writes the arcs' text at the start, and returns its length.
+#[tactic(auto, using(crate::proofs::Texts::root_within))]
 pub(crate) fn write_text(arcs: Arcs<'_>, out: &mut [u8]) -> usize
     requires { length (text_of arcs) ≤ length out.old }
     ensures len { result ≡ length (text_of arcs.entry) }

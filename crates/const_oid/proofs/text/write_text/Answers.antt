@@ -1,11 +1,8 @@
-use Rattle.std.proofs.Common.{false, ◌++◌, take, ap, sym, ◌∙◌, arith, append_assoc}
+use Rattle.std.proofs.Common.{false, ◌∙◌, arith, append_assoc}
 use Rattle.std.proofs.lemmas.Grind.{common_steps}
 use Rattle.const_oid.proofs.Decimals.{drop_more}
-use Rattle.const_oid.proofs.Texts.{text_left-cons, root_within}
+use Rattle.const_oid.proofs.Texts.{text_left-cons}
 use Rattle.const_oid.proofs.text.write_text.Goals as goal
-
-pub write_root-at-requires : goal.write_root-at-requires
-write_root-at-requires c = grind (arith, root_within)
 
 pub loop-arc-preserved : goal.loop-arc-preserved
 loop-arc-preserved c =
@@ -13,7 +10,7 @@ loop-arc-preserved c =
     let w = c.write_arc-at.ensures in
     let text = rw c.in-Some.ensures.steps at l.invariant.text in
     record {
-      text = rw (w.prefix, append_assoc) (ap (λ t. take l.at l.out ++ t) (sym (text_left-cons false c.in-Some.arc c.next.new.self)) ∙ text);
+      text = rw (w.prefix, append_assoc, ← text_left-cons false c.in-Some.arc c.next.new.self) text;
       within = grind (arith, common_steps);
       after = w.after ∙ drop_more l.at c.write_arc-at.result _ _ (omega arith) l.invariant.after;
     }

@@ -1,4 +1,4 @@
-use Rattle.std.proofs.Common.{[], ◌++◌, append_assoc, refl, sym, ◌∙◌, ap, rules, arith}
+use Rattle.std.proofs.Common.{[], ◌++◌, append_assoc, refl, ◌∙◌, ap, rules, arith}
 use Rattle.std.proofs.Output.{has_written_styled_append}
 use Rattle.std.proofs.lemmas.Str.{IsUtf8-from_ascii}
 use Rattle.const_oid.specs.Text.{text_of}
@@ -27,6 +27,7 @@ loop-arc-preserved g c =
     let piece = arc_text l.is_first arc in (
       before ++ piece,
       λ flush. has_written_styled_append _ _ _ _ _ _ (written flush)
-          (rw (c.utf8-2.ensures, c.write_arc-len.ensures.prefix) at (c.in_ok-write_str.ensures.styled (written flush).flush refl)),
-      append_assoc before piece _ ∙ ap (λ t. before ++ t) (sym (text_left-cons l.is_first arc c.next.new.self)) ∙ text,
+          (rw (c.utf8-2.ensures, c.write_arc-len.ensures.prefix)
+          at (c.in_ok-write_str.ensures.styled (written flush).flush refl)),
+      rw (append_assoc, ← text_left-cons l.is_first arc c.next.new.self) text,
     )
