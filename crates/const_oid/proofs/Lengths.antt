@@ -1,5 +1,6 @@
 -- How many octets arcs take, and how many arcs octets encode.
-use Rattle.std.proofs.Common.{◌≡◌, ℕ, ◌+◌, ◌*◌, ◌≤◌, List, [], ◌∷◌, ◌++◌, refl, arith, sum_by, le-ltb, nat_lt, lt-ltb, length, length-append, cond, count_by}
+use Rattle.std.proofs.lemmas.Bool.Decides.{nat_tests}
+use Rattle.std.proofs.Common.{◌≡◌, ℕ, ◌+◌, ◌*◌, ◌≤◌, List, [], ◌∷◌, ◌++◌, refl, arith, sum_by, nat_lt, length, length-append, count_by}
 use Rattle.std.specs.List.{AllByRecursion, AllZip, concat}
 use Rattle.std.proofs.lemmas.List.Sums.{sum_by-cons, sum_by-append}
 use Rattle.std.proofs.lemmas.Slice.Zip.{AllZip-long}
@@ -23,7 +24,8 @@ pub root_short : (rule : RootRule) (n : ℕ) → n ≤ max_first rule → width 
 root_short Narrow n h = (width_is n).least 5 (omega arith) (omega arith)
 root_short Wide n h = (width_is n).least 5 (omega arith) (omega arith)
 
-length-groups : (numbers : List ℕ) (gs : List (List ℕ)) → AllZip IsGroup numbers gs → length (concat gs) ≡ sum_by width numbers
+length-groups : (numbers : List ℕ) (gs : List (List ℕ)) → AllZip IsGroup numbers gs
+    → length (concat gs) ≡ sum_by width numbers
 length-groups [] [] p = refl
 length-groups (n ∷ ns) (g ∷ gs) p = rw (length-append, length_is p.0, length-groups ns gs p.1, sum_by-cons width n ns)
 length-groups _ _ p = absurd p
@@ -31,37 +33,42 @@ length-groups _ _ p = absurd p
 pub length_is_size : {rule : RootRule} {arcs octets : List ℕ} → IsEncoding rule arcs octets → length octets ≡ size arcs
 length_is_size {arcs} e = rw e.joined (length-groups (subidentifiers arcs) e.groups e.each)
 
-pub size-narrow : (a b : ℕ) (later : List ℕ) → IsIdentifier Narrow (a ∷ b ∷ later) → size (a ∷ b ∷ later) ≡ 1 + sum_by width later
+pub size-narrow : (a b : ℕ) (later : List ℕ) → IsIdentifier Narrow (a ∷ b ∷ later)
+    → size (a ∷ b ∷ later) ≡ 1 + sum_by width later
 size-narrow a b later i = grind (arith, size-cons, length_is, small_is)
 
 -- one arc more
-pub size_push : (rule : RootRule) (arcs octets : List ℕ) (arc : ℕ) → IsEncoding rule arcs octets → size (arcs ++ arc ∷ []) ≡ length octets + width arc
-size_push rule (a ∷ b ∷ later) octets arc e =
-    omega (arith, length_is_size e, size-cons a b later, size-cons a b (later ++ arc ∷ []), sum_by-append width later (arc ∷ []), sum_by-cons width arc [])
+pub size_push : (rule : RootRule) (arcs octets : List ℕ) (arc : ℕ) → IsEncoding rule arcs octets
+    → size (arcs ++ arc ∷ []) ≡ length octets + width arc
+size_push rule (a ∷ b ∷ later) octets arc e = grind (arith, length_is_size e, size-cons, sum_by-append)
 size_push rule _ octets arc e = absurd e.identifier
 
 -- ---- arcs of octets
 
-count-cons : (x : ℕ) (xs : List ℕ) → count_by (λ y. nat_lt y 128) (x ∷ xs) ≡ cond (nat_lt x 128) 1 0 + count_by (λ y. nat_lt y 128) xs
-count-cons x xs = sum_by-cons (λ y. cond (nat_lt y 128) 1 0) x xs
+-- how many octets are below 128
+abbrev last_octets : List ℕ → ℕ
+last_octets octets = count_by (λ x. nat_lt x 128) octets
 
--- a group has one octet below 128
-count_chain : (g : List ℕ) → IsContinued g → count_by (λ y. nat_lt y 128) g ≡ 1
+-- a group has one
+count_chain : (g : List ℕ) → IsContinued g → last_octets g ≡ 1
 count_chain [] c = absurd c
-count_chain (x ∷ []) c = rw (count-cons x [], lt-ltb x 128 c)
-count_chain (x ∷ y ∷ ys) c = rw (count-cons x (y ∷ ys), le-ltb x 128 c.0) (omega (arith, count_chain (y ∷ ys) c.2))
+count_chain (x ∷ []) c = grind (arith, nat_tests)
+count_chain (x ∷ y ∷ ys) c = grind (arith, nat_tests, count_chain (y ∷ ys) c.2)
 
-count_chains : (gs : List (List ℕ)) → AllByRecursion IsContinued gs → count_by (λ y. nat_lt y 128) (concat gs) ≡ length gs
+count_chains : (gs : List (List ℕ)) → AllByRecursion IsContinued gs → last_octets (concat gs) ≡ length gs
 count_chains [] c = refl
 count_chains (g ∷ gs) c = grind (arith, sum_by-append, count_chain, count_chains gs c.1)
 
-pub length_by_count : (rule : RootRule) (arcs octets : List ℕ) → IsEncoding rule arcs octets → length arcs ≡ 1 + count_by (λ x. nat_lt x 128) octets
+pub length_by_count : (rule : RootRule) (arcs octets : List ℕ) → IsEncoding rule arcs octets
+    → length arcs ≡ 1 + last_octets octets
 length_by_count rule (a ∷ b ∷ later) octets e =
     let numbers = subidentifiers (a ∷ b ∷ later) in
-    rw e.joined (omega (arith, count_chains e.groups (groups_continued numbers e.groups e.each), AllZip-long IsGroup numbers e.groups e.each))
+    let long = AllZip-long IsGroup numbers e.groups e.each in
+    rw e.joined (omega (arith, count_chains e.groups (groups_continued numbers e.groups e.each)))
 length_by_count rule _ octets e = absurd e.identifier
 
-pub length_by_parts : (rule : RootRule) (arcs octets : List ℕ) → IsEncoding rule arcs octets → length arcs ≡ 1 + length (cut octets)
+pub length_by_parts : (rule : RootRule) (arcs octets : List ℕ) → IsEncoding rule arcs octets
+    → length arcs ≡ 1 + length (cut octets)
 length_by_parts rule (a ∷ b ∷ later) octets e =
     let arcs = a ∷ b ∷ later in
     rw (cut_encoding rule arcs octets e) (omega (arith, AllZip-long IsGroup (subidentifiers arcs) e.groups e.each))

@@ -33,5 +33,4 @@ pub mod WideAdds
 pub mod Identifiers
 pub mod PairTable
 pub mod Messages
-pub mod Formatted
 pub mod Sets

@@ -9,7 +9,8 @@ pub append-cons : (before : List ℕ) (x : ℕ) (xs : List ℕ) → (before ++ x
 append-cons before x xs = append_assoc before (x ∷ []) xs
 
 -- what holds of the elements of both holds of those of the joined list
-pub all_append : (P : ℕ → Type 0) (xs ys : List ℕ) → AllByRecursion P xs → AllByRecursion P ys → AllByRecursion P (xs ++ ys)
+pub all_append : (P : ℕ → Type 0) (xs ys : List ℕ) → AllByRecursion P xs → AllByRecursion P ys
+    → AllByRecursion P (xs ++ ys)
 all_append P xs ys p q = grind (arith, nat_tests, common_steps)
 
 pub all_at : (P : ℕ → Type 0) (before : List ℕ) (x : ℕ) (rest : List ℕ) → AllByRecursion P (before ++ x ∷ rest) → P x
@@ -26,10 +27,12 @@ onto_all [] parts = parts
 onto_all (y ∷ ys) [] = (y ∷ ys) ∷ []
 onto_all (y ∷ ys) (part ∷ parts) = ((y ∷ ys) ++ part) ∷ parts
 
-pub onto_all-first : (prefix : List ℕ) (x : ℕ) (parts : List (List ℕ)) → onto_all prefix (onto_first x parts) ≡ onto_all (prefix ++ x ∷ []) parts
+pub onto_all-first : (prefix : List ℕ) (x : ℕ) (parts : List (List ℕ))
+    → onto_all prefix (onto_first x parts) ≡ onto_all (prefix ++ x ∷ []) parts
 onto_all-first prefix x parts = grind (arith, append_assoc)
 
-pub onto_all-cons : (prefix part : List ℕ) (parts : List (List ℕ)) → onto_all prefix (part ∷ parts) ≡ (prefix ++ part) ∷ parts
+pub onto_all-cons : (prefix part : List ℕ) (parts : List (List ℕ))
+    → onto_all prefix (part ∷ parts) ≡ (prefix ++ part) ∷ parts
 onto_all-cons prefix part parts = search rules
 
 -- an element put after those before makes the first list longer

@@ -5,5 +5,6 @@ use Rattle.const_oid.specs.Error.{message_of}
 use Rattle.const_oid.specs.Private.Text.{detail_text}
 
 -- the words before the number, and those after it
-pub parts_long : (error : Error) (before after : List ℕ) → message_of error ≡ before ++ (detail_text error ++ after) → length before + length (detail_text error) + length after ≡ length (message_of error)
-parts_long error before after e = omega (arith, ap length e, length-append before (detail_text error ++ after), length-append (detail_text error) after)
+pub parts_long : (error : Error) (before after : List ℕ) → message_of error ≡ before ++ (detail_text error ++ after)
+    → length before + length (detail_text error) + length after ≡ length (message_of error)
+parts_long error before after e = rw e (simp length-append (omega arith))

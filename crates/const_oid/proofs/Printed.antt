@@ -1,12 +1,10 @@
 -- The length of printed text: four bytes an octet at most.
 use Rattle.std.proofs.lemmas.Grind.{common_steps}
 use Rattle.std.proofs.lemmas.Bool.Decides.{nat_tests}
-use Rattle.std.proofs.Common.{◌≡◌, ℕ, ◌+◌, ◌*◌, ◌^◌, ◌<◌, ◌≤◌, List, [], ◌∷◌, length, ⊎_elim, arith, decimal, sum_by}
+use Rattle.std.proofs.Common.{◌≡◌, ℕ, ◌+◌, ◌*◌, ◌^◌, ◌<◌, ◌≤◌, List, [], ◌∷◌, length, arith, decimal, sum_by}
 use Rattle.std.specs.List.{AllByRecursion}
 use Rattle.std.proofs.Math.Nat.{pow-le-pow_right}
-use Rattle.std.proofs.lemmas.Bool.{cases_lt}
 use Rattle.std.proofs.lemmas.Fmt.{length-decimal-le}
-use Rattle.std.proofs.lemmas.List.Sums.{sum_by-cons}
 use Rattle.const_oid.specs.Base128.{width}
 use Rattle.const_oid.specs.Identifier.{RootRule, max_arc, max_second, IsEncoding}
 use Rattle.const_oid.specs.Text.{text_of}
@@ -21,13 +19,8 @@ wider n k h = grind (arith, nat_tests, pow-le-pow_right, width_is)
 
 -- an arc, where the number that is encoded is at least the arc and takes two octets or more
 long_printed : (arc n : ℕ) → arc ≤ max_arc → arc ≤ n → 128 ≤ n → length (decimal arc) + 2 ≤ 4 * width n
-long_printed arc n small below two = ⊎_elim
-    (λ (b : n < 16384). omega (arith, length-decimal-le 5 arc (omega arith) (omega arith) (omega arith), wider n 1 two))
-    (λ (three : 16384 ≤ n). ⊎_elim
-    (λ (b : n < 2097152). omega (arith, length-decimal-le 7 arc (omega arith) (omega arith) (omega arith), wider n 2 three))
-    (λ (four : 2097152 ≤ n). omega (arith, length-decimal-le 10 arc (omega arith) (omega arith) (omega arith), wider n 3 four))
-    (cases_lt n 2097152))
-    (cases_lt n 16384)
+long_printed arc n small below two = grind (arith, length-decimal-le 5 arc, length-decimal-le 7 arc, length-decimal-le 10 arc,
+    wider n 1, wider n 2, wider n 3)
 
 -- a later arc, with its dot
 arc_printed : (n : ℕ) → n ≤ max_arc → length (decimal n) + 1 ≤ 4 * width n
@@ -42,14 +35,9 @@ later_printed (n ∷ ns) l = grind (arith, common_steps, arc_printed, later_prin
 root_printed : (rule : RootRule) (a b : ℕ) → a ≤ 2 → b ≤ max_second rule a
     → length (decimal a) + (length (decimal b) + 1) ≤ 4 * width (40 * a + b)
 root_printed rule a b p q =
-    let first = length-decimal-le 1 a (omega arith) (omega arith) (omega arith) in
-    let small = second_small rule a b q in
-    ⊎_elim
-    (λ (one : 40 * a + b < 128).
-    let low : b < 100 = ⊎_elim (λ (l : a < 2). omega (arith, second_low rule a b q l)) (λ (l : 2 ≤ a). omega arith) (cases_lt a 2) in
-    omega (arith, length-decimal-le 2 b (omega arith) (omega arith) (omega arith), (width_is (40 * a + b)).positive))
-    (λ (more : 128 ≤ 40 * a + b). omega (arith, long_printed b (40 * a + b) small (omega arith) more))
-    (cases_lt (40 * a + b) 128)
+    let n = 40 * a + b in
+    grind (arith, second_small rule a b q, second_low rule a b q, length-decimal-le 1 a, length-decimal-le 2 b, width_is n,
+        long_printed b n)
 
 length-text : (a : ℕ) (arcs : List ℕ)
     → length (text_of (a ∷ arcs)) ≡ length (decimal a) + sum_by (λ n. length (decimal n) + 1) arcs
@@ -62,4 +50,4 @@ printed_short rule [] octets e = absurd e.identifier
 printed_short rule (a ∷ []) octets e = absurd e.identifier
 printed_short rule (a ∷ b ∷ later) octets e =
     let i = e.identifier in
-    omega (arith, length-text a (b ∷ later), sum_by-cons (λ n. length (decimal n) + 1) b later, root_printed rule a b i.0 i.1, later_printed later i.2, length_is_size e, sum_by-cons width (40 * a + b) later)
+    grind (arith, common_steps, length-text, root_printed rule a b i.0 i.1, later_printed later i.2, length_is_size e)

@@ -25,7 +25,8 @@ later_fault : (rule : RootRule) (octets given : List ℕ) (arc capacity : ℕ) �
     → arc_fault rule capacity given arc ≡ fault_if (nat_lt capacity (length octets + width arc)) Length
 later_fault rule octets [] arc capacity e = absurd e.identifier
 later_fault rule octets (a ∷ []) arc capacity e = absurd e.identifier
-later_fault rule octets (a ∷ b ∷ later) arc capacity e = ap (λ n. fault_if (nat_lt capacity n) Length) (size_push rule (a ∷ b ∷ later) octets arc e)
+later_fault rule octets (a ∷ b ∷ later) arc capacity e =
+    ap (λ n. fault_if (nat_lt capacity n) Length) (size_push rule (a ∷ b ∷ later) octets arc e)
 
 -- the number is that of an arc after those given: its group makes the encoding longer, and its width decides the fault
 pub record Encodes (rule : RootRule) (first : Option ℕ) (octets given : List ℕ) (arc number : ℕ) : Type 0 where
@@ -35,36 +36,43 @@ pub record Encodes (rule : RootRule) (first : Option ℕ) (octets given : List �
       → arc_fault rule capacity given arc ≡ fault_if (nat_lt capacity (length octets + width number)) Length
 
 -- after two arcs or more, the arc itself
-pub later_number : (rule : RootRule) (first : Option ℕ) (octets given : List ℕ) (arc number : ℕ) → 0 < length octets → IsStarted rule first octets → arcs_given first octets ≡ given → arc ≤ max_arc → number ≡ arc → Encodes rule first octets given arc number
+pub later_number : (rule : RootRule) (first : Option ℕ) (octets given : List ℕ) (arc number : ℕ) → 0 < length octets
+    → IsStarted rule first octets → arcs_given first octets ≡ given → arc ≤ max_arc → number ≡ arc
+    → Encodes rule first octets given arc number
 later_number rule None octets given arc number some started view small value = grind (arith, nat_tests)
 later_number rule (Some first) [] given arc number some started view small value = absurd (omega arith)
 later_number rule (Some first) (x ∷ xs) given arc number some started view small value =
     let encoding : IsEncoding rule given (x ∷ xs) = subst (λ arcs. IsEncoding rule arcs (x ∷ xs)) view started in
     rw value record {
-      step = λ longer more. started_from_encoding rule first longer (given ++ arc ∷ []) (child_encoding longer arc encoding small more);
+      step = λ longer more. started_from_encoding rule first longer _ (child_encoding longer arc encoding small more);
       fault = λ capacity. later_fault rule (x ∷ xs) given arc capacity encoding;
     }
 
 -- after one arc, the number of the first two
-pub second_number : (rule : RootRule) (state : Option ℕ) (octets given : List ℕ) (first second number : ℕ) → length octets ≤ 0 → state ≡ Some first → IsStarted rule state octets → arcs_given state octets ≡ given → second ≤ max_second rule first → number ≡ 40 * first + second → Encodes rule state octets given second number
+pub second_number : (rule : RootRule) (state : Option ℕ) (octets given : List ℕ) (first second number : ℕ)
+    → length octets ≤ 0 → state ≡ Some first → IsStarted rule state octets → arcs_given state octets ≡ given
+    → second ≤ max_second rule first → number ≡ 40 * first + second → Encodes rule state octets given second number
 second_number rule state (x ∷ xs) given first second number none is started view small value = absurd (omega arith)
 second_number rule state [] given first second number none is started view small value =
     let root : first ≤ 2 = subst (λ s. IsStarted rule s []) is started in
     let one : given ≡ first ∷ [] = sym view ∙ ap (λ s. arcs_given s []) is in
     rw (is, value, one) record {
-      step = λ longer (group, g, on). rw on (started_from_encoding rule first group (first ∷ second ∷ []) (encoding_two rule first second group root small g));
-      fault = λ capacity. rw (none_from_below (max_second rule first) second (ArcInvalid second) small) (ap (λ n. fault_if (nat_lt capacity n) Length) (omega arith));
+      step = λ longer (group, g, on).
+          rw on (started_from_encoding rule first group _ (encoding_two rule first second group root small g));
+      fault = λ capacity. grind (arith, nat_tests, none_from_below);
     }
 
 -- what becomes of the encoder where the group of the number is appended, or does not fit
-pub record IsPushed {X : Type 0} (rule : RootRule) (capacity : ℕ) (first : Option ℕ) (longer given : List ℕ) (arc : ℕ) (result : Result X Error) : Type 0 where
+pub record IsPushed {X : Type 0} (rule : RootRule) (capacity : ℕ) (first : Option ℕ) (longer given : List ℕ) (arc : ℕ)
+    (result : Result X Error) : Type 0 where
   pub started : IsStarted rule first longer
   pub fault : result_err result ≡ arc_fault rule capacity given arc
   pub more : OnOk result (arcs_given first longer ≡ given ++ arc ∷ [])
   pub same : OnErr result (arcs_given first longer ≡ given)
 
-pub pushed : {X : Type 0} (rule : RootRule) (capacity : ℕ) (first : Option ℕ) (octets longer given : List ℕ) (arc number : ℕ)
-    (result : Result X Error) → Encodes rule first octets given arc number → IsStarted rule first octets
-    → arcs_given first octets ≡ given → IsAppended capacity number octets longer result → IsPushed rule capacity first longer given arc result
+pub pushed : {X : Type 0} (rule : RootRule) (capacity : ℕ) (first : Option ℕ) (octets longer given : List ℕ)
+    (arc number : ℕ) (result : Result X Error) → Encodes rule first octets given arc number → IsStarted rule first octets
+    → arcs_given first octets ≡ given → IsAppended capacity number octets longer result
+    → IsPushed rule capacity first longer given arc result
 pushed rule capacity first octets longer given arc number (Ok x) n started view on = grind (arith, nat_tests)
 pushed rule capacity first octets longer given arc number (Err fault) n started view same = grind (arith, nat_tests)
