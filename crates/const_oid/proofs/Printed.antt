@@ -19,8 +19,9 @@ wider n k h = grind (arith, nat_tests, pow-le-pow_right, width_is)
 
 -- an arc, where the number that is encoded is at least the arc and takes two octets or more
 long_printed : (arc n : ℕ) → arc ≤ max_arc → arc ≤ n → 128 ≤ n → length (decimal arc) + 2 ≤ 4 * width n
-long_printed arc n small below two = grind (arith, length-decimal-le 5 arc, length-decimal-le 7 arc, length-decimal-le 10 arc,
-    wider n 1, wider n 2, wider n 3)
+long_printed arc n small below two =
+    let digits = length-decimal-le in
+    grind (arith, digits 5 arc, digits 7 arc, digits 10 arc, wider n 1, wider n 2, wider n 3)
 
 -- a later arc, with its dot
 arc_printed : (n : ℕ) → n ≤ max_arc → length (decimal n) + 1 ≤ 4 * width n
@@ -36,8 +37,8 @@ root_printed : (rule : RootRule) (a b : ℕ) → a ≤ 2 → b ≤ max_second ru
     → length (decimal a) + (length (decimal b) + 1) ≤ 4 * width (40 * a + b)
 root_printed rule a b p q =
     let n = 40 * a + b in
-    grind (arith, second_small rule a b q, second_low rule a b q, length-decimal-le 1 a, length-decimal-le 2 b, width_is n,
-        long_printed b n)
+    let small = second_small rule a b q in
+    grind (arith, second_low rule a b q, length-decimal-le 1 a, length-decimal-le 2 b, width_is n, long_printed b n)
 
 length-text : (a : ℕ) (arcs : List ℕ)
     → length (text_of (a ∷ arcs)) ≡ length (decimal a) + sum_by (λ n. length (decimal n) + 1) arcs

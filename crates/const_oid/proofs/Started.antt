@@ -71,8 +71,8 @@ pub record IsPushed {X : Type 0} (rule : RootRule) (capacity : ℕ) (first : Opt
   pub same : OnErr result (arcs_given first longer ≡ given)
 
 pub pushed : {X : Type 0} (rule : RootRule) (capacity : ℕ) (first : Option ℕ) (octets longer given : List ℕ)
-    (arc number : ℕ) (result : Result X Error) → Encodes rule first octets given arc number → IsStarted rule first octets
-    → arcs_given first octets ≡ given → IsAppended capacity number octets longer result
+    (arc number : ℕ) (result : Result X Error) → Encodes rule first octets given arc number
+    → IsStarted rule first octets → arcs_given first octets ≡ given → IsAppended capacity number octets longer result
     → IsPushed rule capacity first longer given arc result
 pushed rule capacity first octets longer given arc number (Ok x) n started view on = grind (arith, nat_tests)
 pushed rule capacity first octets longer given arc number (Err fault) n started view same = grind (arith, nat_tests)

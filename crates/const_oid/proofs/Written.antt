@@ -33,7 +33,7 @@ tail_more n rest octets t =
     let d : (128 + rest % 128) % 128 ≡ rest % 128 = omega arith in
     record {
       continued = continued_more (128 + rest % 128) octets (omega arith) (omega arith) t.continued;
-      value = joined rest (128 ^ length octets) (128 ^ suc (length octets)) ((128 + rest % 128) % 128) (value_of octets) (pow-suc 128 (length octets)) d ∙ t.value;
+      value = joined rest _ _ _ (value_of octets) (pow-suc 128 (length octets)) d ∙ t.value;
     }
 
 pub tail_group : (n rest : ℕ) (octets : List ℕ) → length octets ≡ width n → IsTail n rest octets → IsGroup n octets

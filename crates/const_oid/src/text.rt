@@ -11,7 +11,8 @@ use std::str;
 /// The length of the arcs' text, or `None` where it is over a limit.
 #[tactic(auto, using(crate::proofs::Sets::texts_left))]
 pub(crate) fn text_len(arcs: Arcs<'_>, limit: usize) -> Option<usize>
-    ensures { MatchOption result (limit < length (text_of arcs.entry)) (λ len. (len ≡ length (text_of arcs.entry)) × (len ≤ limit)) }
+    ensures { MatchOption result (limit < length (text_of arcs.entry))
+        (λ len. (len ≡ length (text_of arcs.entry)) × (len ≤ limit)) }
 {
     let mut left = limit;
     let mut is_first = true;

@@ -5,5 +5,5 @@ use Rattle.const_oid.proofs.oid.ObjectIdentifier.text_len.Goals as goal
 
 pub returns : goal.returns
 returns g c =
-    let oid = c.args.self.now in
-    rw (c.text_len.ensures, c.as_oid_ref.ensures.arcs) (omega (arith, printed_short _ _ _ (oid_encoding oid), oid_within oid))
+    let short = printed_short _ _ _ (oid_encoding c.args.self.now) in
+    rw (c.text_len.ensures, c.as_oid_ref.ensures.arcs) (omega (arith, short, oid_within c.args.self.now))

@@ -9,14 +9,15 @@ use Rattle.const_oid.proofs.oid_ref.ObjectIdentifierRefDisplay.fmt.Goals as goal
 
 pub loop-arc-init : goal.loop-arc-init
 loop-arc-init g c =
-    ([], λ flush. search rules, ap text_of (c.into_iter-arc-iterator.ensures.into_iter_gives ∙ c.arcs-arc-items.ensures))
+    let items = c.into_iter-arc-iterator.ensures.into_iter_gives ∙ c.arcs-arc-items.ensures in
+    ([], λ flush. search rules, ap text_of items)
 
 pub write_arc-len-requires : goal.write_arc-len-requires
 write_arc-len-requires g c = omega (arith, arc_text_short)
 
 pub utf8-requires : goal.utf8-requires
 utf8-requires g c =
-    rw c.write_arc-len.ensures.prefix (IsUtf8-from_ascii _ (arc_text_ascii c.loop-arc.is_first c.in-Some-arc.arc (omega arith)))
+    rw c.write_arc-len.ensures.prefix (IsUtf8-from_ascii _ (arc_text_ascii c.loop-arc.is_first _ (omega arith)))
 
 pub loop-arc-preserved : goal.loop-arc-preserved
 loop-arc-preserved g c =
