@@ -34,20 +34,9 @@ digits_by_tests n =
     else (if nat_lt n 1000000000 then 9 else 10)))))
 
 pub decimal_lengths : (n : ℕ) → n < 2 ^ 32 → length (decimal n) ≡ digits_by_tests n
-decimal_lengths n h = grind (
-  arith,
-  nat_tests,
-  length_digit n,
-  length_between 1 n,
-  length_between 2 n,
-  length_between 3 n,
-  length_between 4 n,
-  length_between 5 n,
-  length_between 6 n,
-  length_between 7 n,
-  length_between 8 n,
-  length_between 9 n,
-)
+decimal_lengths n h =
+    let is = λ (k : ℕ). length_between k n in
+    grind (arith, nat_tests, length_digit n, is 1, is 2, is 3, is 4, is 5, is 6, is 7, is 8, is 9)
 
 -- one digit put into bytes, or several
 pub ruleset digits_put = (length_digit, decimal_digit, take_more_set, drop-set-lt, drop-put_mid)

@@ -4,6 +4,4 @@ use Rattle.const_oid.proofs.Printed.{printed_short}
 use Rattle.const_oid.proofs.oid.ObjectIdentifier.text_len.Goals as goal
 
 pub returns : goal.returns
-returns g c =
-    let short = printed_short _ _ _ (oid_encoding c.args.self.now) in
-    rw (c.text_len.ensures, c.as_oid_ref.ensures.arcs) (omega (arith, short, oid_within c.args.self.now))
+returns g c = grind (arith, printed_short _ _ _ (oid_encoding c.args.self.now), oid_within c.args.self.now)
