@@ -25,10 +25,12 @@ chain_not_empty [] x c e = c
 chain_not_empty (a ∷ g) x c e = cc
 
 -- numbers whose groups begin others
-numbers_prefix : (ns ms : List ℕ) (gs hs : List (List ℕ)) (rest : List ℕ) → AllZip IsGroup ns gs → AllZip IsGroup ms hs → concat hs ≡ concat gs ++ rest → (more : List ℕ) × (ms ≡ ns ++ more)
+numbers_prefix : (ns ms : List ℕ) (gs hs : List (List ℕ)) (rest : List ℕ) → AllZip IsGroup ns gs → AllZip IsGroup ms hs
+    → concat hs ≡ concat gs ++ rest → BeginsWith ms ns
 numbers_prefix [] ms [] hs rest p q e = (ms, refl)
 numbers_prefix (n ∷ ns) (m ∷ ms) (g ∷ gs) (h ∷ hs) rest p q e =
-    let (same, others) = same_prefix h g (concat hs) (concat gs ++ rest) q.0.continued p.0.continued (e ∙ append_assoc g (concat gs) rest) in
+    let joined = e ∙ append_assoc g (concat gs) rest in
+    let (same, others) = same_prefix h g (concat hs) (concat gs ++ rest) q.0.continued p.0.continued joined in
     let (more, f) = numbers_prefix ns ms gs hs rest p.1 q.1 others in
     let s : m ≡ n = q.0.value ∙ ap value_of same ∙ sym p.0.value in
     (more, cc)
@@ -36,7 +38,8 @@ numbers_prefix (n ∷ ns) [] (g ∷ gs) [] rest p q e = grind (arith, chain_not_
 numbers_prefix _ _ _ _ rest p q e = absurd assumption
 
 -- groups of numbers that begin others
-octets_prefix : (ns more : List ℕ) (gs hs : List (List ℕ)) → AllZip IsGroup ns gs → AllZip IsGroup (ns ++ more) hs → (rest : List ℕ) × (concat hs ≡ concat gs ++ rest)
+octets_prefix : (ns more : List ℕ) (gs hs : List (List ℕ)) → AllZip IsGroup ns gs → AllZip IsGroup (ns ++ more) hs
+    → BeginsWith (concat hs) (concat gs)
 octets_prefix [] more [] hs p q = (concat hs, refl)
 octets_prefix (n ∷ ns) more (g ∷ gs) (h ∷ hs) p q =
     let (rest, e) = octets_prefix ns more gs hs p.1 q.1 in
@@ -44,26 +47,30 @@ octets_prefix (n ∷ ns) more (g ∷ gs) (h ∷ hs) p q =
 octets_prefix _ more _ _ p q = absurd assumption
 
 -- the arcs of p begin those of x
-pub arcs_prefix : (rule : RootRule) (p x a b : List ℕ) → IsEncoding rule p a → IsEncoding rule x b → BeginsWith b a → BeginsWith x p
+pub arcs_prefix : (rule : RootRule) (p x a b : List ℕ) → IsEncoding rule p a → IsEncoding rule x b
+    → BeginsWith b a → BeginsWith x p
 arcs_prefix rule p x a b e f s = grind (arith, numbers_prefix, arcs_back)
 
 -- the octets of p begin those of x
-pub encoding_prefix : (rule : RootRule) (p x a b : List ℕ) → IsEncoding rule p a → IsEncoding rule x b → BeginsWith x p → BeginsWith b a
+pub encoding_prefix : (rule : RootRule) (p x a b : List ℕ) → IsEncoding rule p a → IsEncoding rule x b
+    → BeginsWith x p → BeginsWith b a
 encoding_prefix rule (c ∷ d ∷ later) x a b e f (more, s) =
-    let p = c ∷ d ∷ later in
-    let (rest, t) = octets_prefix (subidentifiers p) more e.groups f.groups e.each (rw (ap subidentifiers s) at f.each) in
+    let numbers = subidentifiers (c ∷ d ∷ later) in
+    let (rest, t) = octets_prefix numbers more e.groups f.groups e.each (rw (ap subidentifiers s) at f.each) in
     (rest, f.joined ∙ t ∙ ap (λ y. y ++ rest) (sym e.joined))
 encoding_prefix rule _ x a b e f s = absurd e.identifier
 
 -- encodings begin others exactly where their arcs begin theirs
-pub iff_begins : {rule : RootRule} {x p b a : List ℕ} (P : Type 0) → IsEncoding rule x b → IsEncoding rule p a → P ↔ BeginsWith b a → P ↔ BeginsWith x p
+pub iff_begins : {rule : RootRule} {x p b a : List ℕ} (P : Type 0)
+    → IsEncoding rule x b → IsEncoding rule p a → P ↔ BeginsWith b a → P ↔ BeginsWith x p
 iff_begins {rule} {x} {p} {b} {a} P f e iff =
     (λ t. arcs_prefix rule p x a b e f (iff.0 t), λ h. iff.1 (encoding_prefix rule p x a b e f h))
 
 -- ---- ranges in lexicographic order
 
 -- what is between two lists that begin with the prefix begins with it, too
-pub between : (prefix x y z : List ℕ) → slice_cmp nat_cmp y (prefix ++ x) ≢ Less → slice_cmp nat_cmp y (prefix ++ z) ≢ Greater → BeginsWith y prefix
+pub between : (prefix x y z : List ℕ) → slice_cmp nat_cmp y (prefix ++ x) ≢ Less
+    → slice_cmp nat_cmp y (prefix ++ z) ≢ Greater → BeginsWith y prefix
 between [] x y z h k = (y, refl)
 between (b ∷ prefix) x [] z h k = absurd (h refl)
 between (b ∷ prefix) x (d ∷ y) z h k = by_ranked _ _ _ (nat_cmp d b) (ranks d b)
@@ -72,30 +79,34 @@ between (b ∷ prefix) x (d ∷ y) z h k = by_ranked _ _ _ (nat_cmp d b) (ranks 
     (λ is g. absurd (k (rw is refl)))
 
 -- the same of identifiers
-pub encodings_between : {rule : RootRule} {p x y z a b c d : List ℕ} → IsEncoding rule p a → IsEncoding rule x b → IsEncoding rule y c → IsEncoding rule z d → BeginsWith x p → BeginsWith z p → slice_cmp nat_cmp c b ≢ Less → slice_cmp nat_cmp c d ≢ Greater → BeginsWith y p
+pub encodings_between : {rule : RootRule} {p x y z a b c d : List ℕ}
+    → IsEncoding rule p a → IsEncoding rule x b → IsEncoding rule y c → IsEncoding rule z d
+    → BeginsWith x p → BeginsWith z p
+    → slice_cmp nat_cmp c b ≢ Less → slice_cmp nat_cmp c d ≢ Greater → BeginsWith y p
 encodings_between {rule} {p} {x} {y} {z} {a} {b} {c} {d} ep ex ey ez bx bz h k =
     let (xs, e) = encoding_prefix rule p x a b ep ex bx in
     let (zs, f) = encoding_prefix rule p z a d ep ez bz in
     arcs_prefix rule p y a c ep ey (between a xs c zs (rw e at h) (rw f at k))
 
--- a descendant's encoding is longer
-longer : (rule : RootRule) (p x a b : List ℕ) → IsEncoding rule p a → IsEncoding rule x b → BeginsWith x p → length p < length x → (rest : List ℕ) × (b ≡ a ++ rest) × (0 < length rest)
-longer rule p x a b ep ex bx l = let (rest, e) = encoding_prefix rule p x a b ep ex bx in by rest e
-  where
-    by : (rest : List ℕ) → b ≡ a ++ rest → (rest : List ℕ) × (b ≡ a ++ rest) × (0 < length rest)
-    by [] e = let s = same_arcs {a = p} (rw (e ∙ append-nil a) ep) ex in absurd (omega (arith, ap length s))
-    by (y ∷ ys) e = (y ∷ ys, e, omega arith)
-
--- an ancestor comes before its descendants, in both orders
-pub ancestor_short : {rule : RootRule} {p x a b : List ℕ} → IsEncoding rule p a → IsEncoding rule x b → BeginsWith x p → length p < length x → shortlex_cmp a b ≡ Less
-ancestor_short {rule} {p} {x} {a} {b} ep ex bx l = search (arith, longer rule p x a b ep ex bx l, length-append)
-
 pub before_more : (a rest : List ℕ) → 0 < length rest → slice_cmp nat_cmp a (a ++ rest) ≡ Less
 before_more a [] some = absurd (omega arith)
 before_more a (y ∷ ys) some = rw append-nil at (slice_cmp-prefix a [] (y ∷ ys))
 
-pub ancestor_before : {rule : RootRule} {p x a b : List ℕ} → IsEncoding rule p a → IsEncoding rule x b → BeginsWith x p → length p < length x → slice_cmp nat_cmp a b ≡ Less
-ancestor_before {rule} {p} {x} {a} {b} ep ex bx l = search (arith, longer rule p x a b ep ex bx l, before_more)
+-- a descendant's encoding is longer, so an ancestor comes before it in both orders
+module _ {rule : RootRule} {p x a b : List ℕ} (e : IsEncoding rule p a) (f : IsEncoding rule x b)
+    (begins : BeginsWith x p) (deeper : length p < length x) where
+  longer : (rest : List ℕ) × (b ≡ a ++ rest) × (0 < length rest)
+  longer = let (rest, joined) = encoding_prefix rule p x a b e f begins in (rest, joined, some rest joined)
+    where
+      some : (rest : List ℕ) → b ≡ a ++ rest → 0 < length rest
+      some [] s = let same = same_arcs {a = p} (rw (s ∙ append-nil a) e) f in absurd (omega (arith, ap length same))
+      some (y ∷ ys) s = omega arith
+
+  pub ancestor_short : shortlex_cmp a b ≡ Less
+  ancestor_short = search (arith, longer, length-append)
+
+  pub ancestor_before : slice_cmp nat_cmp a b ≡ Less
+  ancestor_before = search (arith, longer, before_more)
 
 -- ---- by tests
 

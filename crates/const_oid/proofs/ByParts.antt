@@ -8,7 +8,7 @@ use Rattle.std.specs.Cmp.{nat_cmp_is}
 use Rattle.std.proofs.lemmas.Bool.{cases_lt}
 use Rattle.std.proofs.lemmas.Cmp.{tied_itself}
 use Rattle.std.proofs.lemmas.List.{length-drop, take-append-drop}
-use Rattle.const_oid.specs.Base128.{IsContinued, IsGroup}
+use Rattle.const_oid.specs.Base128.{IsGroup}
 use Rattle.const_oid.specs.Contents.{cut}
 use Rattle.const_oid.specs.Identifier.{RootRule, IsIdentifier, IsEncoding, subidentifiers}
 use Rattle.const_oid.specs.Orders.{shortlex_cmp, shortlex_cmp_total, parts_cmp}
@@ -26,17 +26,19 @@ use Rattle.std.proofs.lemmas.Grind.{common_steps}
 begins : (x : ℕ) (xs : List ℕ) → (part : List ℕ) × (parts : List (List ℕ)) × (cut (x ∷ xs) ≡ (x ∷ part) ∷ parts)
 begins x xs = ⊎_elim
     (λ (last : x < 128). ([], cut xs, cut_after-last x (cut xs) last))
-    (λ (more : 128 ≤ x). by (cut xs) (cut_after-more x (cut xs) more))
+    (λ (more : 128 ≤ x). rw (cut_after-more x (cut xs) more) (onto (cut xs)))
     (cases_lt x 128)
   where
-    by : (rest : List (List ℕ)) → cut (x ∷ xs) ≡ onto_first x rest → (part : List ℕ) × (parts : List (List ℕ)) × (cut (x ∷ xs) ≡ (x ∷ part) ∷ parts)
-    by [] e = ([], [], e)
-    by (part ∷ parts) e = (part, parts, e)
+    onto : (rest : List (List ℕ)) → (part : List ℕ) × (parts : List (List ℕ)) × (onto_first x rest ≡ (x ∷ part) ∷ parts)
+    onto [] = ([], [], refl)
+    onto (part ∷ parts) = (part, parts, refl)
 
 -- after an octet that both begin with, the order is the same
-onto_same : (x : ℕ) (xs ys : List ℕ) → slice_cmp shortlex_cmp (onto_first x (cut xs)) (onto_first x (cut ys)) ≡ parts_cmp xs ys
+onto_same : (x : ℕ) (xs ys : List ℕ)
+    → slice_cmp shortlex_cmp (onto_first x (cut xs)) (onto_first x (cut ys)) ≡ parts_cmp xs ys
 onto_same x [] [] = rw (tied_itself shortlex_cmp_total (x ∷ []))
-onto_same x [] (y ∷ ys) = let (q, qs, f) = begins y ys in rw (f, shortlex_cmp-less (x ∷ []) (x ∷ y ∷ q) (omega arith))
+onto_same x [] (y ∷ ys) =
+    let (q, qs, f) = begins y ys in rw (f, shortlex_cmp-less (x ∷ []) (x ∷ y ∷ q) (omega arith))
 onto_same x (y ∷ xs) [] = search rules
 onto_same x (y ∷ xs) (z ∷ ys) = grind (arith, nat_tests)
 
@@ -66,7 +68,8 @@ ended_parts a b same = grind (arith, length-drop, ended, same_up_to a b (min (le
 
 -- ---- the order of the arcs
 
-numbers_cmp : (ns ms : List ℕ) (gs hs : List (List ℕ)) → AllZip IsGroup ns gs → AllZip IsGroup ms hs → slice_cmp shortlex_cmp gs hs ≡ slice_cmp nat_cmp ns ms
+numbers_cmp : (ns ms : List ℕ) (gs hs : List (List ℕ))
+    → AllZip IsGroup ns gs → AllZip IsGroup ms hs → slice_cmp shortlex_cmp gs hs ≡ slice_cmp nat_cmp ns ms
 numbers_cmp [] [] [] [] p q = refl
 numbers_cmp [] (m ∷ ms) [] (h ∷ hs) p q = refl
 numbers_cmp (n ∷ ns) [] (g ∷ gs) [] p q = refl
@@ -81,49 +84,47 @@ level_append : (g h x y : List ℕ) → length g ≡ length h
     → slice_cmp nat_cmp (g ++ x) (h ++ y) ≡ ordering_then (slice_cmp nat_cmp g h) (slice_cmp nat_cmp x y)
 level_append g h x y l = grind (arith, common_steps, split_cmp (length g) (g ++ x) (h ++ y))
 
-none_first : (h x : List ℕ) → IsContinued h → slice_cmp nat_cmp [] (h ++ x) ≡ Less
-none_first [] x c = absurd c
-none_first (b ∷ h) x c = refl
-
-none_last : (g x : List ℕ) → IsContinued g → slice_cmp nat_cmp (g ++ x) [] ≡ Greater
-none_last [] x c = absurd c
-none_last (a ∷ g) x c = refl
-
-level_numbers : (ns ms : List ℕ) (gs hs : List (List ℕ)) → AllZip IsGroup ns gs → AllZip IsGroup ms hs → AreLevel gs hs → slice_cmp nat_cmp (concat gs) (concat hs) ≡ slice_cmp nat_cmp ns ms
+level_numbers : (ns ms : List ℕ) (gs hs : List (List ℕ))
+    → AllZip IsGroup ns gs → AllZip IsGroup ms hs → AreLevel gs hs
+    → slice_cmp nat_cmp (concat gs) (concat hs) ≡ slice_cmp nat_cmp ns ms
 level_numbers [] [] [] [] p q l = refl
-level_numbers [] (m ∷ ms) [] (h ∷ hs) p q l = none_first h (concat hs) q.0.continued
-level_numbers (n ∷ ns) [] (g ∷ gs) [] p q l = none_last g (concat gs) p.0.continued
+level_numbers [] (m ∷ ms) [] ((b ∷ h) ∷ hs) p q l = refl
+level_numbers (n ∷ ns) [] ((a ∷ g) ∷ gs) [] p q l = refl
 level_numbers (n ∷ ns) (m ∷ ms) (g ∷ gs) (h ∷ hs) p q l =
     let long : length g ≡ length h = l 0 g h refl refl in
     level_append g h (concat gs) (concat hs) long
     ∙ rw (groups_cmp p.0 q.0 long, level_numbers ns ms gs hs p.1 q.1 (λ i a b e f. l (suc i) a b e f)) refl
 level_numbers _ _ _ _ p q l = absurd assumption
 
-subidentifiers_cmp : (rule : RootRule) (xs ys : List ℕ) → IsIdentifier rule xs → IsIdentifier rule ys → slice_cmp nat_cmp (subidentifiers xs) (subidentifiers ys) ≡ slice_cmp nat_cmp xs ys
+subidentifiers_cmp : (rule : RootRule) (xs ys : List ℕ) → IsIdentifier rule xs → IsIdentifier rule ys
+    → slice_cmp nat_cmp (subidentifiers xs) (subidentifiers ys) ≡ slice_cmp nat_cmp xs ys
 subidentifiers_cmp rule xs ys i j = grind (arith, nat_tests, common_steps)
 
--- encodings in the order of their parts are in the order of their arcs
-pub arcs_cmp : {rule : RootRule} {p x a b : List ℕ} → IsEncoding rule p a → IsEncoding rule x b → parts_cmp a b ≡ slice_cmp nat_cmp p x
-arcs_cmp {rule} {p} {x} {a} {b} e f =
-    rw (cut_encoding rule p a e, cut_encoding rule x b f)
-    (numbers_cmp (subidentifiers p) (subidentifiers x) e.groups f.groups e.each f.each ∙ subidentifiers_cmp rule p x e.identifier f.identifier)
+module _ {rule : RootRule} {p x a b : List ℕ} (e : IsEncoding rule p a) (f : IsEncoding rule x b) where
+  -- encodings in the order of their parts are in the order of their arcs
+  pub arcs_cmp : parts_cmp a b ≡ slice_cmp nat_cmp p x
+  arcs_cmp =
+      rw (cut_encoding rule p a e, cut_encoding rule x b f)
+      (numbers_cmp _ _ e.groups f.groups e.each f.each ∙ subidentifiers_cmp rule p x e.identifier f.identifier)
 
-pub level_cmp : {rule : RootRule} {p x a b : List ℕ} → IsEncoding rule p a → IsEncoding rule x b → AreLevel (cut a) (cut b) → slice_cmp nat_cmp a b ≡ slice_cmp nat_cmp p x
-level_cmp {rule} {p} {x} {a} {b} e f level =
-    let l : AreLevel e.groups f.groups = rw (cut_encoding rule p a e, cut_encoding rule x b f) at level in
-    rw (e.joined, f.joined) (level_numbers (subidentifiers p) (subidentifiers x) e.groups f.groups e.each f.each l ∙ subidentifiers_cmp rule p x e.identifier f.identifier)
+  pub level_cmp : AreLevel (cut a) (cut b) → slice_cmp nat_cmp a b ≡ slice_cmp nat_cmp p x
+  level_cmp level =
+      let l : AreLevel e.groups f.groups = rw (cut_encoding rule p a e, cut_encoding rule x b f) at level in
+      rw (e.joined, f.joined)
+      (level_numbers _ _ e.groups f.groups e.each f.each l ∙ subidentifiers_cmp rule p x e.identifier f.identifier)
 
--- they tie exactly where the octets are equal
-pub same_exactly : {rule : RootRule} {p x a b : List ℕ} → IsEncoding rule p a → IsEncoding rule x b → (slice_cmp nat_cmp p x ≡ Equal) ↔ (a ≡ b)
-same_exactly {p} {x} e f = (
-  λ tie. let same : p ≡ x = same_text p x (sym (texts_ties p x ∙ ap is_eq tie)) in same_octets e (rw (sym same) at f),
-  λ same. rw (same_arcs (rw same at e) f) (tied_itself nat_list_cmp_total x),
-)
+  -- they tie exactly where the octets are equal
+  pub same_exactly : (slice_cmp nat_cmp p x ≡ Equal) ↔ (a ≡ b)
+  same_exactly = (
+    λ tie. let same : p ≡ x = same_text p x (sym (texts_ties p x ∙ ap is_eq tie)) in same_octets e (rw (sym same) at f),
+    λ same. rw (same_arcs (rw same at e) f) (tied_itself nat_list_cmp_total x),
+  )
 
 -- an ancestor is first
 pub ancestor_first : (p x : List ℕ) → BeginsWith x p → length p < length x → slice_cmp nat_cmp p x ≡ Less
 ancestor_first p x (rest, e) l = rw e (before_more p rest (omega (arith, ap length e, length-append p rest)))
 
 -- what begins with a list is one run
-pub run_between : (p x y z : List ℕ) → BeginsWith x p → BeginsWith z p → slice_cmp nat_cmp y x ≢ Less → slice_cmp nat_cmp y z ≢ Greater → BeginsWith y p
+pub run_between : (p x y z : List ℕ) → BeginsWith x p → BeginsWith z p
+    → slice_cmp nat_cmp y x ≢ Less → slice_cmp nat_cmp y z ≢ Greater → BeginsWith y p
 run_between p x y z (xs, e) (zs, f) h k = between p xs y zs (rw e at h) (rw f at k)

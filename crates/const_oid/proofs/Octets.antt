@@ -1,8 +1,11 @@
 -- Octets in an array that is zero past those in use.
 use Rattle.std.proofs.lemmas.Grind.{common_steps}
-use Rattle.std.proofs.Common.{◌≡◌, ℕ, ◌+◌, ◌-◌, ◌≤◌, List, [], ◌∷◌, ◌++◌, length, take, drop, replicate, sym, ap, ap₂, ◌∙◌, arith, suc, append_assoc, length-append, slice_index, EachIndex, ◌<◌}
+use Rattle.std.proofs.Common.{◌≡◌, ℕ, ◌+◌, ◌-◌, ◌≤◌, List, [], ◌∷◌, ◌++◌, length, take, drop, replicate, arith, suc, append_assoc, length-append, slice_index, EachIndex, ◌<◌}
 use Rattle.std.proofs.lemmas.List.{drop_at, drop-replicate, drop-drop, length-take-le}
-use Rattle.const_oid.specs.Base128.{IsContinued, AreOctets}
+use Rattle.const_oid.specs.Base128.{IsContinued, IsGroup, AreOctets, width}
+use Rattle.const_oid.specs.Private.Octets.{GoesOn}
+use Rattle.const_oid.proofs.Lists.{all_append}
+use Rattle.const_oid.proofs.Groups.{length_is}
 
 -- octets by what is read at each index
 pub are_octets : (octets : List ℕ) → EachIndex octets (λ k. slice_index octets k < 256) → AreOctets octets
@@ -14,23 +17,25 @@ octets_from_chain [] c = absurd c
 octets_from_chain (x ∷ []) c = (omega arith, tt)
 octets_from_chain (x ∷ y ∷ ys) c = (c.1, octets_from_chain (y ∷ ys) c.2)
 
--- zeros past an index are zeros past each later one
-zeros_past : (size used more : ℕ) (bytes : List ℕ) → drop used bytes ≡ replicate (size - used) 0
-    → drop (used + more) bytes ≡ replicate (size - (used + more)) 0
-zeros_past size used more bytes zeros =
-    let fewer : size - used - more ≡ size - (used + more) = omega arith in
-    sym (drop-drop more used bytes) ∙ ap (drop more) zeros ∙ drop-replicate more (size - used) 0 ∙ ap (λ n. replicate n 0) fewer
+-- a group written past the octets in use
+module _ {number : ℕ} (used more : ℕ) (bytes after : List ℕ) (inside : used ≤ length bytes)
+    (wide : more ≡ width number)
+    (is : (group : List ℕ) × IsGroup number group × (after ≡ take used bytes ++ (group ++ drop (used + more) bytes))) where
+  pub taken_written : GoesOn number (take used bytes) (take (used + more) after)
+  taken_written = let (group, g, e) = is in let l = length_is g in (group, g, grind (arith, common_steps))
 
--- more octets written past those in use
-pub taken_written : (used more : ℕ) (bytes octets after : List ℕ) → used ≤ length bytes → length octets ≡ more → after ≡ take used bytes ++ (octets ++ drop (used + more) bytes) → take (used + more) after ≡ take used bytes ++ octets
-taken_written used more bytes octets after inside l e = grind (arith, common_steps)
+  pub octets_written : AreOctets (take used bytes) → AreOctets (take (used + more) after)
+  octets_written octets =
+      let (group, g, e) = taken_written in
+      rw e (all_append (λ x. x < 256) (take used bytes) group octets (octets_from_chain group g.continued))
 
-pub octets_written : (used more : ℕ) (bytes octets after : List ℕ) → used ≤ length bytes → length octets ≡ more → AreOctets (take used bytes) → AreOctets octets → after ≡ take used bytes ++ (octets ++ drop (used + more) bytes) → AreOctets (take (used + more) after)
-octets_written used more bytes octets after inside l p q e = grind (arith, common_steps)
-
-pub zeros_written : (size used more : ℕ) (bytes octets after : List ℕ) → used ≤ length bytes → length octets ≡ more → drop used bytes ≡ replicate (size - used) 0 → after ≡ take used bytes ++ (octets ++ drop (used + more) bytes) → drop (used + more) after ≡ replicate (size - (used + more)) 0
-zeros_written size used more bytes octets after inside l zeros e =
-    let long : length (take used bytes ++ octets) ≡ used + more = length-append (take used bytes) octets ∙ ap₂ (λ m n. m + n) (length-take-le used bytes inside) l in
-    ap (λ xs. drop (used + more) xs) (e ∙ sym (append_assoc (take used bytes) octets (drop (used + more) bytes)))
-    ∙ drop_at (take used bytes ++ octets) (drop (used + more) bytes) (used + more) long
-    ∙ zeros_past size used more bytes zeros
+  pub zeros_written : (size : ℕ) → drop used bytes ≡ replicate (size - used) 0
+      → drop (used + more) after ≡ replicate (size - (used + more)) 0
+  zeros_written size zeros =
+      let (group, g, e) = is in
+      let start = take used bytes in
+      let long : length (start ++ group) ≡ used + more =
+      omega (arith, length_is g, length-append start group, length-take-le used bytes inside) in
+      let fewer : size - used - more ≡ size - (used + more) = omega arith in
+      rw (e, ← append_assoc start group (drop (used + more) bytes), drop_at (start ++ group) _ (used + more) long)
+      (rw (← drop-drop more used bytes, zeros, drop-replicate, fewer))

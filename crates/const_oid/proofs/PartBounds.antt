@@ -1,9 +1,8 @@
 -- Where parts of octets begin and end.
 use Rattle.std.proofs.lemmas.Grind.{common_steps}
-use Rattle.std.proofs.Common.{◌≡◌, ◌≢◌, ℕ, zero, suc, ◌+◌, ◌-◌, ◌<◌, ◌≤◌, List, [], ◌∷◌, length, map, take, drop, get_or, slice_get, Some, None, refl, sym, ap, ◌∙◌, ⊎_elim, arith}
+use Rattle.std.proofs.Common.{◌≡◌, ◌≢◌, ℕ, zero, suc, ◌+◌, ◌-◌, ◌<◌, ◌≤◌, List, [], ◌∷◌, length, map, take, drop, get_or, slice_get, Some, None, refl, sym, ap, ◌∙◌, arith}
 use Rattle.std.specs.List.{onto_first}
 use Rattle.std.proofs.Math.Seq.{drop-nil}
-use Rattle.std.proofs.lemmas.Bool.{cases_lt}
 use Rattle.std.specs.Option.{option_map}
 use Rattle.std.proofs.lemmas.List.{drop-map}
 use Rattle.std.proofs.lemmas.Option.{slice_get-map}
@@ -12,7 +11,6 @@ use Rattle.const_oid.specs.Base128.{value_of}
 use Rattle.const_oid.specs.Identifier.{RootRule, IsEncoding}
 use Rattle.const_oid.specs.Contents.{cut, cut_after, arcs_from, arcs_of_octets, parts_fault, later_fault}
 use Rattle.const_oid.proofs.Faults.{both_none}
-use Rattle.const_oid.proofs.Cutting.{cut_after-last, cut_after-more}
 use Rattle.const_oid.proofs.Encodings.{arcs_of_encoding}
 
 -- ---- after so many parts
@@ -24,13 +22,15 @@ drop-onto_first x left (part ∷ parts) = refl
 drop-cut_after : (x left ended : ℕ) (parts : List (List ℕ)) → left ≢ 0 → (x < 128 → ended ≡ 1) → (128 ≤ x → ended ≡ 0)
     → drop left (cut_after x parts) ≡ drop (left - ended) parts
 drop-cut_after x zero ended parts some one none = absurd (some refl)
-drop-cut_after x (suc left) ended parts some one none = ⊎_elim
-    (λ (last : x < 128). let e : ended ≡ 1 = one last in let l : suc left - ended ≡ left = omega arith in rw (cut_after-last x parts last, l))
-    (λ (more : 128 ≤ x). let e : ended ≡ 0 = none more in let l : suc left - ended ≡ suc left = omega arith in rw (cut_after-more x parts more, l) (drop-onto_first x left parts))
-    (cases_lt x 128)
+drop-cut_after x (suc left) ended parts some one none =
+    let fewer : x < 128 → suc left - ended ≡ left = λ last. omega arith in
+    let as_many : 128 ≤ x → suc left - ended ≡ suc left = λ more. omega arith in
+    grind (arith, nat_tests, drop-onto_first, fewer, as_many)
 
 -- one octet further, where it ends one of the parts that are left or none
-pub after_more : (octets : List ℕ) (i left ended : ℕ) → i < length octets → left ≢ 0 → (get_or octets i 0 < 128 → ended ≡ 1) → (128 ≤ get_or octets i 0 → ended ≡ 0) → drop left (cut (drop i octets)) ≡ drop (left - ended) (cut (drop (i + 1) octets))
+pub after_more : (octets : List ℕ) (i left ended : ℕ) → i < length octets → left ≢ 0
+    → (get_or octets i 0 < 128 → ended ≡ 1) → (128 ≤ get_or octets i 0 → ended ≡ 0)
+    → drop left (cut (drop i octets)) ≡ drop (left - ended) (cut (drop (i + 1) octets))
 after_more octets i left ended inside some one none = grind (arith, common_steps, drop-cut_after)
 
 -- ---- the arc at an index, by the octets after the parts before it
@@ -70,7 +70,9 @@ pub none_after : (octets rest : List ℕ) (index : ℕ) → 2 ≤ index → cut 
 none_after octets [] index later after none = grind (arith, nat_tests, none_left, later_at)
 none_after octets (x ∷ xs) index later after none = absurd (omega arith)
 
-pub arc_after : (octets rest : List ℕ) (index n : ℕ) (ns : List ℕ) → 2 ≤ index → cut rest ≡ drop (index - 1) (cut octets) → map value_of (cut rest) ≡ n ∷ ns → Some n ≡ slice_get (arcs_of_octets octets) index
+pub arc_after : (octets rest : List ℕ) (index n : ℕ) (ns : List ℕ) → 2 ≤ index
+    → cut rest ≡ drop (index - 1) (cut octets) → map value_of (cut rest) ≡ n ∷ ns
+    → Some n ≡ slice_get (arcs_of_octets octets) index
 arc_after octets rest index n ns later after e =
     let parts = cut octets in
     let k = index - 1 in
