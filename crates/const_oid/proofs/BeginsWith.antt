@@ -128,7 +128,8 @@ begins_iff octets prefix same e =
 pub under_iff : (prefix list : List ℕ) → (is_under prefix list ≡ true) ↔ BeginsWith list prefix
 under_iff prefix list = begins_iff list prefix (is_under prefix list) refl
 
-pub tells_under : (prefix list : List ℕ) (test : Bool) → IsTrue test ↔ BeginsWith list prefix → test ≡ is_under prefix list
+pub tells_under : (prefix list : List ℕ) (test : Bool) → IsTrue test ↔ BeginsWith list prefix
+    → test ≡ is_under prefix list
 tells_under prefix list test tells = grind (arith, under_iff)
 
 not_before_nil : (list : List ℕ) → is_before [] list ≡ false
@@ -149,4 +150,16 @@ not_greater x z level greater = cc (level, ap is_lt (nat_list_cmp_total.antisymm
 -- what is not after a list that is before the prefix or begins with it is so too
 pub within_down : (prefix x z : List ℕ) → is_before x z ≡ false → is_within prefix z ≡ true → is_within prefix x ≡ true
 within_down prefix x z level t =
-    grind (arith, nat_tests, common_steps, or_left, before_down, under_iff, between, append-nil, not_greater, or_right, or_cases)
+    grind (
+      arith,
+      nat_tests,
+      common_steps,
+      or_left,
+      before_down,
+      under_iff,
+      between,
+      append-nil,
+      not_greater,
+      or_right,
+      or_cases,
+    )

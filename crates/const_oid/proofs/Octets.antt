@@ -1,11 +1,12 @@
 -- Octets in an array that is zero past those in use.
 use Rattle.std.proofs.lemmas.Grind.{common_steps}
-use Rattle.std.proofs.Common.{◌≡◌, ℕ, ◌+◌, ◌-◌, ◌≤◌, List, [], ◌∷◌, ◌++◌, length, take, drop, replicate, arith, suc, append_assoc, length-append, slice_index, EachIndex, ◌<◌}
+use Rattle.std.proofs.Common.{◌≡◌, ℕ, ◌+◌, ◌-◌, ◌≤◌, List, [], ◌∷◌, ◌++◌, length, take, drop, replicate, arith, suc, append_assoc, length-append, slice_index, EachIndex, cond, nat_lt, ◌^◌, ◌<◌}
 use Rattle.std.proofs.lemmas.List.{drop_at, drop-replicate, drop-drop, length-take-le}
 use Rattle.const_oid.specs.Base128.{IsContinued, IsGroup, AreOctets, width}
 use Rattle.const_oid.specs.Private.Octets.{GoesOn}
 use Rattle.const_oid.proofs.Lists.{all_append}
-use Rattle.const_oid.proofs.Groups.{length_is}
+use Rattle.const_oid.proofs.Groups.{length_is, width_is, width_between}
+use Rattle.std.proofs.lemmas.Bool.Decides.{nat_tests}
 
 -- octets by what is read at each index
 pub are_octets : (octets : List ℕ) → EachIndex octets (λ k. slice_index octets k < 256) → AreOctets octets
@@ -20,7 +21,8 @@ octets_from_chain (x ∷ y ∷ ys) c = (c.1, octets_from_chain (y ∷ ys) c.2)
 -- a group written past the octets in use
 module _ {number : ℕ} (used more : ℕ) (bytes after : List ℕ) (inside : used ≤ length bytes)
     (wide : more ≡ width number)
-    (is : (group : List ℕ) × IsGroup number group × (after ≡ take used bytes ++ (group ++ drop (used + more) bytes))) where
+    (is : (group : List ℕ) × IsGroup number group
+    × (after ≡ take used bytes ++ (group ++ drop (used + more) bytes))) where
   pub taken_written : GoesOn number (take used bytes) (take (used + more) after)
   taken_written = let (group, g, e) = is in let l = length_is g in (group, g, grind (arith, common_steps))
 
@@ -39,3 +41,11 @@ module _ {number : ℕ} (used more : ℕ) (bytes after : List ℕ) (inside : use
       let fewer : size - used - more ≡ size - (used + more) = omega arith in
       rw (e, ← append_assoc start group (drop (used + more) bytes), drop_at (start ++ group) _ (used + more) long)
       (rw (← drop-drop more used bytes, zeros, drop-replicate, fewer))
+
+-- the widths of small numbers
+pub width_steps : (n : ℕ) → n < 128 ^ 5 → width n ≡ cond (nat_lt n (128 ^ 1)) 1
+    (cond (nat_lt n (128 ^ 2)) 2 (cond (nat_lt n (128 ^ 3)) 3 (cond (nat_lt n (128 ^ 4)) 4 5)))
+width_steps n small =
+    grind (arith, nat_tests, width_is, width_between 1 n, width_between 2 n, width_between 3 n, width_between 4 n)
+
+pub ruleset widths = (width_steps, nat_tests)

@@ -103,9 +103,9 @@ parent_of-parts _ some = absurd (some refl)
 -- they begin the octets
 pub prefix_from_parts : (octets prefix : List ℕ) (k : ℕ) → cut prefix ≡ take k (cut octets) → BeginsWith octets prefix
 prefix_from_parts octets prefix k e =
-    let before = take k (cut octets) in
-    let after = drop k (cut octets) in
-    (concat after, cc (take-append-drop k (cut octets), concat-append before after, concat-cut octets, concat-cut prefix))
+    let (parts, after) : List (List ℕ) × List (List ℕ) = (cut octets, drop k (cut octets)) in
+    let joined = concat-append (take k parts) after in
+    (concat after, cc (take-append-drop k parts, joined, concat-cut octets, concat-cut prefix))
 
 -- their arcs are the parent's
 pub parent_without_last_part : (octets prefix : List ℕ) → IsWithoutLast octets prefix → prefix ≢ []

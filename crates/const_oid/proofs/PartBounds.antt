@@ -4,8 +4,8 @@ use Rattle.std.proofs.Common.{◌≡◌, ◌≢◌, ℕ, zero, suc, ◌+◌, ◌
 use Rattle.std.specs.List.{onto_first}
 use Rattle.std.proofs.Math.Seq.{drop-nil}
 use Rattle.std.specs.Option.{option_map}
-use Rattle.std.proofs.lemmas.List.{drop-map}
-use Rattle.std.proofs.lemmas.Option.{slice_get-map}
+use Rattle.std.proofs.lemmas.List.{drop-map, drop_more, length-drop}
+use Rattle.std.proofs.lemmas.Option.{slice_get-map, slice_get_past, slice_get-get_or}
 use Rattle.std.proofs.lemmas.Bool.Decides.{nat_tests}
 use Rattle.const_oid.specs.Base128.{value_of}
 use Rattle.const_oid.specs.Identifier.{RootRule, IsEncoding}
@@ -36,16 +36,12 @@ after_more octets i left ended inside some one none = grind (arith, common_steps
 -- ---- the arc at an index, by the octets after the parts before it
 
 none_left : {X : Type 0} (k : ℕ) (xs : List X) → [] ≡ drop k xs → None ≡ slice_get xs k
-none_left zero [] e = refl
-none_left zero (x ∷ xs) e = cc
-none_left (suc k) [] e = refl
-none_left (suc k) (x ∷ xs) e = none_left k xs e
+none_left k xs e = sym (slice_get_past xs k (omega (arith, length-drop k xs, ap length e)))
 
 first_left : {X : Type 0} (k : ℕ) (xs : List X) (y : X) (ys : List X) → y ∷ ys ≡ drop k xs → Some y ≡ slice_get xs k
-first_left zero [] y ys e = cc
-first_left zero (x ∷ xs) y ys e = cc
-first_left (suc k) [] y ys e = cc
-first_left (suc k) (x ∷ xs) y ys e = first_left k xs y ys e
+first_left k xs y ys e =
+    let l : k < length xs = omega (arith, length-drop k xs, ap length e) in
+    cc (slice_get-get_or xs k y l, drop_more xs k y l)
 
 -- by the part that holds it
 later_at : (parts : List (List ℕ)) (index : ℕ) → 2 ≤ index

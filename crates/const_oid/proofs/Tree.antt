@@ -19,7 +19,8 @@ split P x (y ∷ ys) h =
     (x ∷ prefix, last, ap (λ zs. x ∷ zs) joined, (h.0, all), is)
 
 -- an identifier with a parent is its child by the last arc
-pub child_of-parent_of : (rule : RootRule) (arcs parent : List ℕ) → IsIdentifier rule arcs → parent_of arcs ≡ Some parent
+pub child_of-parent_of : (rule : RootRule) (arcs parent : List ℕ) → IsIdentifier rule arcs
+    → parent_of arcs ≡ Some parent
     → IsIdentifier rule parent × (last : ℕ) × (last ≤ max_arc) × (child_of parent last ≡ arcs)
 child_of-parent_of rule (a ∷ b ∷ []) parent i e = cc
 child_of-parent_of rule (a ∷ b ∷ c ∷ later) parent i e =

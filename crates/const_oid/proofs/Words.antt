@@ -12,7 +12,7 @@ use Rattle.std.proofs.lemmas.List.{length-take-le, take-take, take_all, length-d
 use Rattle.std.proofs.lemmas.Nat.{from_be_bytes-to_be_bytes_8, be_bytes_8}
 use Rattle.std.proofs.Math.Nat.{mul_comm, one-le-pow}
 use Rattle.const_oid.specs.Private.Words.{bytes_of, IsWord}
-use Rattle.const_oid.proofs.Orders.{digits_cmp, split_cmp, after_same}
+use Rattle.const_oid.proofs.Orders.{digits_cmp, split_cmp, after_same, shortlex_cmp-level}
 use Rattle.std.proofs.lemmas.Grind.{common_steps}
 
 -- ---- the order of numbers by their bytes
@@ -113,3 +113,5 @@ whole_cmp xs ys used same =
 pub whole_eq : (xs ys : List ℕ) (used : ℕ) → drop used xs ≡ drop used ys
     → pointwise nat_eq xs ys ≡ pointwise nat_eq (take used xs) (take used ys)
 whole_eq xs ys used same = grind (arith, texts_ties, whole_cmp)
+
+pub ruleset arrays_cmp = (whole_cmp, shortlex_cmp-level, length-take-le)

@@ -159,6 +159,7 @@ const fn copy_to(octets: &[u8], out: &mut [u8])
     }
 }
 
+#[tactic(auto, using(crate::proofs::Octets::widths))]
 /// How many octets the group of a number takes.
 const fn group_len(number: u64) -> usize
     requires { number < 2 ^ 35 }
@@ -261,6 +262,7 @@ impl<const SIZE: usize> Ord for Buffer<SIZE> {
 
     ghost matches_eq = { λ a b. shortlex_cmp_ties (octets_of a) (octets_of b) };
 
+    #[tactic(auto, using(crate::proofs::Words::arrays_cmp))]
     fn cmp(&self, other: &Self) -> Ordering
         ensures { result ≡ shortlex_cmp (octets_of self.now) (octets_of other.now) }
     {

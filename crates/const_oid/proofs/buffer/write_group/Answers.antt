@@ -1,4 +1,4 @@
-use Rattle.std.proofs.Common.{◌≡◌, ◌+◌, ◌-◌, ◌%◌, drop, arith, length-set}
+use Rattle.std.proofs.Common.{arith, length-set, ◌≡◌, ◌+◌, ◌-◌, ◌%◌}
 use Rattle.std.proofs.lemmas.List.{drop-set, drop_all}
 use Rattle.const_oid.proofs.Groups.{width_is}
 use Rattle.const_oid.proofs.Written.{tail_last, tail_more, tail_group}
@@ -11,11 +11,9 @@ pub loop-index-preserved : goal.loop-index-preserved
 loop-index-preserved c =
     let l = c.loop-index in
     let next : l.index - 1 + 1 ≡ l.index = omega arith in
+    let after = drop-set l.octets (l.index - 1) (128 + l.rest % 128) (omega arith) in
     let same = length-set l.octets (l.index - 1) (128 + l.rest % 128) in
-    record { written = rw (drop-set l.octets (l.index - 1) (128 + l.rest % 128) (omega arith), next) (tail_more c.args.number l.rest (drop l.index l.octets) l.invariant.written); within = omega arith; wide = omega arith }
+    record { written = rw (after, next) (tail_more _ _ _ l.invariant.written); within = omega arith; wide = omega arith }
 
 pub returns : goal.returns
-returns c =
-    let l = c.loop-index in
-    let first : l.index ≡ 0 = omega arith in
-    tail_group c.args.number l.rest l.octets l.invariant.wide (rw first at l.invariant.written)
+returns c = grind (arith, tail_group)

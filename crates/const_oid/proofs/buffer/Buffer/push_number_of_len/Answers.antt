@@ -10,11 +10,13 @@ overflow_add-end g c =
 
 pub invariant_of-self-clause-octets : goal.invariant_of-self-clause-octets
 invariant_of-self-clause-octets g c =
-    octets_written c.args.self.now.used _ _ _ (omega arith) (omega arith) c.write_group_at.ensures c.args.self.now.octets
+    let old = c.args.self.now in
+    octets_written old.used _ _ _ (omega arith) (omega arith) c.write_group_at.ensures old.octets
 
 pub invariant_of-self-clause-zeros : goal.invariant_of-self-clause-zeros
 invariant_of-self-clause-zeros g c =
-    zeros_written c.args.self.now.used _ _ _ (omega arith) (omega arith) c.write_group_at.ensures _ c.args.self.now.zeros
+    let old = c.args.self.now in
+    zeros_written old.used _ _ _ (omega arith) (omega arith) c.write_group_at.ensures _ old.zeros
 
 pub returns : goal.returns
 returns g c =

@@ -5,7 +5,8 @@ use Rattle.const_oid.proofs.Children.{child_none, child_arcs}
 use Rattle.const_oid.proofs.oid.ObjectIdentifier.push_arc.Goals as goal
 
 pub returns-in-Err-clause-fits : goal.returns-in-Err-clause-fits
-returns-in-Err-clause-fits g c = rw (size_push _ _ _ c.args.arc (oid_encoding c.args.self)) (c.in-Err.ensures.0, c.in-Err.ensures.1)
+returns-in-Err-clause-fits g c =
+    rw (size_push _ _ _ c.args.arc (oid_encoding c.args.self)) (c.in-Err.ensures.0, c.in-Err.ensures.1)
 
 pub invariant_of-result : goal.invariant_of-result
 invariant_of-result g c =

@@ -5,4 +5,5 @@ use Rattle.const_oid.proofs.oid_ref.ObjectIdentifierRef.starts_with.Goals as goa
 
 pub returns : goal.returns
 returns c =
-    iff_begins (IsTrue c.begins_with.result) (ref_encoding c.args.self.now) (ref_encoding c.args.other.now) c.begins_with.ensures
+    iff_begins (IsTrue c.begins_with.result)
+    (ref_encoding c.args.self.now) (ref_encoding c.args.other.now) c.begins_with.ensures
