@@ -159,8 +159,7 @@ in_order a b = is_le (slice_cmp nat_cmp (entry_arcs a) (entry_arcs b))
 pub descends : (entries : List (Entry ObjectIdentifierRef)) (k : ℕ) → k + 1 < length entries
     → ((d : Entry ObjectIdentifierRef) → false ≡ in_order (get_or entries k d) (get_or entries (k + 1) d))
     → IsSortedByKey entry_arcs (slice_cmp nat_cmp) entries → ⊥
-descends [] k l down up = omega arith
-descends (entry ∷ rest) k l down up = grind (arith, nat_list_cmp_total, down entry, up k entry)
+descends entries k l down up = grind (arith, nat_list_cmp_total, slice_get_cases entries k)
 
 -- ---- from an identifier up to the root
 

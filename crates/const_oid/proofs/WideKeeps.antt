@@ -1,17 +1,18 @@
 -- What the wide rule keeps: the results of octets, texts and lists, and what was accepted.
-use Rattle.std.proofs.Common.{◌≡◌, ℕ, ◌<◌, List, [], ◌∷◌, ◌++◌, map, None, refl, arith}
+use Rattle.std.proofs.Common.{◌≡◌, ℕ, List, [], ◌∷◌, ◌++◌, map, None, refl, arith}
 use Rattle.std.proofs.lemmas.Bool.Decides.{nat_tests}
 use Rattle.const_oid.specs.Identifier.{Narrow, Wide}
 use Rattle.const_oid.specs.Contents.{octet_fault}
 use Rattle.const_oid.specs.Items.{items_fault, item_fault}
-use Rattle.const_oid.specs.Text.{pieces_of, number_of, pieces_fault, text_fault}
+use Rattle.const_oid.specs.Text.{number_of, pieces_fault}
 use Rattle.const_oid.specs.WideRule.{RefusesSecond}
 
 -- ---- octets
 
-pub octets_same : (x : ℕ) (xs : List ℕ) (capacity : ℕ) → x < 120
-    → octet_fault Narrow (x ∷ xs) capacity ≡ octet_fault Wide (x ∷ xs) capacity
-octets_same x xs capacity h = grind (arith, nat_tests)
+pub octets_kept : (octets : List ℕ) (capacity : ℕ) → octet_fault Narrow octets capacity ≡ None
+    → octet_fault Wide octets capacity ≡ None
+octets_kept [] capacity none = none
+octets_kept (x ∷ xs) capacity none = grind (arith, nat_tests)
 
 -- ---- lists
 
@@ -32,23 +33,11 @@ pieces_later_same capacity a b before [] = refl
 pieces_later_same capacity a b before (piece ∷ pieces) =
     rw (pieces_later_same capacity a b (before ++ number_of piece ∷ []) pieces)
 
-pieces_same : (capacity : ℕ) (pieces : List (List ℕ))
+pub pieces_same : (capacity : ℕ) (pieces : List (List ℕ))
     → (RefusesSecond (map number_of pieces) (pieces_fault Narrow capacity [] pieces) → ⊥)
     → pieces_fault Narrow capacity [] pieces ≡ pieces_fault Wide capacity [] pieces
 pieces_same capacity [] h = refl
 pieces_same capacity (p ∷ []) h = refl
 pieces_same capacity (p ∷ q ∷ more) h = grind (arith, nat_tests, pieces_later_same)
 
-pub texts_same : (text : List ℕ) (capacity : ℕ)
-    → (RefusesSecond (map number_of (pieces_of text)) (text_fault Narrow text capacity) → ⊥)
-    → text_fault Narrow text capacity ≡ text_fault Wide text capacity
-texts_same text capacity = pieces_same capacity (pieces_of text)
-
--- ---- octets that were accepted
-
-pub octets_kept : (octets : List ℕ) (capacity : ℕ) → octet_fault Narrow octets capacity ≡ None
-    → octet_fault Wide octets capacity ≡ None
-octets_kept [] capacity none = none
-octets_kept (x ∷ xs) capacity none = grind (arith, nat_tests)
-
-pub ruleset wide_keeps = (nat_tests, octets_same, texts_same, items_same, octets_kept)
+pub ruleset wide_keeps = (nat_tests, octets_kept, items_same, pieces_same)
