@@ -41,7 +41,8 @@ module _ (rule : RootRule) (capacity : ℕ) where
       → piece_fault rule capacity before piece after ≢ Some Overflow
   piece_other before piece after = grind (arith, nat_tests, arc_other before (number_of piece))
 
-  pub pieces_other : (before : List ℕ) (pieces : List (List ℕ)) → pieces_fault rule capacity before pieces ≢ Some Overflow
+  pub pieces_other : (before : List ℕ) (pieces : List (List ℕ))
+      → pieces_fault rule capacity before pieces ≢ Some Overflow
   pieces_other before [] = grind arith
   pieces_other before (piece ∷ after) =
       grind (arith, piece_other before piece after, pieces_other (before ++ number_of piece ∷ []) after)

@@ -40,4 +40,4 @@ pieces_same capacity [] h = refl
 pieces_same capacity (p ∷ []) h = refl
 pieces_same capacity (p ∷ q ∷ more) h = grind (arith, nat_tests, pieces_later_same)
 
-pub ruleset wide_keeps = (nat_tests, octets_kept, items_same, pieces_same)
+pub ruleset wide_keeps = (nat_tests, items_same, pieces_same)

@@ -14,8 +14,9 @@ pub returns-in_err-last-clause-none : goal.returns-in_err-last-clause-none
 returns-in_err-last-clause-none c =
     let database = c.args.self.now in
     let end = c.end_of.ensures in
+    let ended = c.in_err-last.ensures.value in
     rw c.from_residual.ensures
-    (none_begins database.entries.now (ref_arcs c.args.oid) database.sorted _ end.cut end.within c.in_err-last.ensures.value)
+    (none_begins database.entries.now (ref_arcs c.args.oid) database.sorted _ end.cut end.within ended)
 
 pub returns-in-Some-clause-found : goal.returns-in-Some-clause-found
 returns-in-Some-clause-found c =
