@@ -5,18 +5,15 @@ use Rattle.const_oid.proofs.db_sorted.SortedDatabase.nearest.Goals as goal
 
 pub loop-above-init : goal.loop-above-init
 loop-above-init c =
-    let database = c.args.self.now in
     let end = c.end_of.ensures in
-    reached_itself _ _ _ (last_begins database.entries.now (ref_arcs c.args.oid) database.sorted _ end.cut end.within
-    c.in_ok-last.last.now c.in_ok-last.ensures.value)
+    let value = c.in_ok-last.ensures.value in
+    reached_itself _ _ _ (last_begins _ (ref_arcs c.args.oid) c.args.self.now.sorted _ end.cut end.within _ value)
 
 pub returns-in_err-last-clause-none : goal.returns-in_err-last-clause-none
 returns-in_err-last-clause-none c =
-    let database = c.args.self.now in
     let end = c.end_of.ensures in
-    let ended = c.in_err-last.ensures.value in
-    rw c.from_residual.ensures
-    (none_begins database.entries.now (ref_arcs c.args.oid) database.sorted _ end.cut end.within ended)
+    let value = c.in_err-last.ensures.value in
+    rw c.from_residual.ensures (none_begins _ (ref_arcs c.args.oid) c.args.self.now.sorted _ end.cut end.within value)
 
 pub returns-in-Some-clause-found : goal.returns-in-Some-clause-found
 returns-in-Some-clause-found c =
@@ -25,12 +22,12 @@ returns-in-Some-clause-found c =
 pub returns-in_err-above-clause-none : goal.returns-in_err-above-clause-none
 returns-in_err-above-clause-none c =
     let reached = c.loop-above.invariant in
-    let absent = no_entry _ _ _ c.loop-above.above reached (λ begun. grind (arith, c.starts_with.ensures.1 begun)) in
+    let absent = no_entry _ _ _ c.loop-above.above reached (λ begun. grind arith) in
     rw c.from_residual-in_err-above.ensures
     (reached_root _ _ _ c.loop-above.above reached absent (sym c.in_err-above.ensures.arcs))
 
 pub loop-above-preserved : goal.loop-above-preserved
 loop-above-preserved c =
     let reached = c.loop-above.invariant in
-    let absent = no_entry _ _ _ c.loop-above.above reached (λ begun. grind (arith, c.starts_with.ensures.1 begun)) in
+    let absent = no_entry _ _ _ c.loop-above.above reached (λ begun. grind arith) in
     reached_parent _ _ _ c.loop-above.above reached absent _ (sym c.in_ok-above.ensures.arcs)

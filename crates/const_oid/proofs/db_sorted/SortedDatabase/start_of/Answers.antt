@@ -8,7 +8,6 @@ use Rattle.const_oid.proofs.db_sorted.SortedDatabase.start_of.Goals as goal
 pub returns-clause-cut : goal.returns-clause-cut
 returns-clause-cut c =
     let arcs = ref_arcs c.args.oid.now in
-    let entries = c.args.self.now.entries.now in
-    let cut = cut_before entry_arcs entries c.args.self.now.sorted arcs in
-    IsPartitionPoint-from_clause (key_before entry_arcs arcs) entries _
-    c.partition_point.ensures.partitioned cut (λ a r f called. search rules)
+    let cut = cut_before entry_arcs _ c.args.self.now.sorted arcs in
+    IsPartitionPoint-from_clause (key_before entry_arcs arcs) _ _ c.partition_point.ensures.partitioned cut
+    (λ a r f called. search rules)
