@@ -2,4 +2,3 @@ pub mod Output
 pub mod Commands
 pub mod Lines
 pub mod Names
-pub mod ToolError

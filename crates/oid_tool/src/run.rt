@@ -77,10 +77,12 @@ pub fn run<R: Read, W: Write>(input: &mut R, output: &mut W) -> Result<(), ToolE
 const BUFFER_LEN: usize = MAX_INPUT + 1;
 
 /// Reads to the end of the input, into the start of the buffer. Returns the number of bytes.
+#[tactic(auto, using(crate::proofs::Output::grown))]
 fn read_all<R: Read>(input: &mut R, buffer: &mut [u8]) -> Result<usize, ToolError>
     requires { length buffer.old ≡ BUFFER_LEN }
     ensures within { IfOk result (λ len. len ≤ MAX_INPUT) }
     ensures bytes { IfOk result (λ len. Consumes (R.remaining input.old) (R.remaining input.new) (take len buffer.new)) }
+    ensures whole { IfOk result (λ len. IfSome (R.remaining input.old) (λ text. text ≡ take len buffer.new)) }
     ensures ended { OnOk result (IsAtEnd (R.remaining input.new)) }
     ensures err { IfErr result (λ e. (e ≡ ToolError.Read) ⊎ (e ≡ ToolError.TooLong)) }
     ensures too_long { result ≡ Err ToolError.TooLong →
@@ -128,6 +130,7 @@ fn write_answers<W: Write>(
 
 /// Writes the result of a line and a newline at the start of `out`. Returns their length, or `None` if
 /// they do not fit.
+#[tactic(auto, using(crate::proofs::Output::grown))]
 fn put_line(line: &[u8], table: Database<'_>, out: &mut [u8]) -> Option<usize>
     requires { length line.now ≤ MAX_INPUT }
     ensures { StandsFirst result out.new (output_line (rows_of table.entry) line.now) }

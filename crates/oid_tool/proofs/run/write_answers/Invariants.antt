@@ -6,10 +6,13 @@ use Rattle.oid_tool.proofs.Output.{AppendsAllBut}
 use Rattle.oid_tool.proofs.run.write_answers.Given as goal
 
 abbrev pub invariant-loop-rest : goal.invariant-loop-rest
-invariant-loop-rest g l = record {
-  short : length l.rest ≤ MAX_INPUT;
-  written : AppendsAllBut (g.W.Write.contents l.initial.output) (g.W.Write.contents l.output) (answers (rows_of l.table) l.rest) (answers (rows_of l.table) l.text);
-}
+invariant-loop-rest g l =
+    let contents = g.W.Write.contents in
+    let results = answers (rows_of l.table) in
+    record {
+      short : length l.rest ≤ MAX_INPUT;
+      written : AppendsAllBut (contents l.initial.output) (contents l.output) (results l.rest) (results l.text);
+    }
 
 abbrev pub decreases-loop-rest : goal.decreases-loop-rest
 decreases-loop-rest g l = length l.rest

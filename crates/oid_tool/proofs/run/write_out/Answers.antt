@@ -5,4 +5,5 @@ use Rattle.oid_tool.proofs.run.write_out.Goals as goal
 
 pub loop-rest-preserved : goal.loop-rest-preserved
 loop-rest-preserved g c =
-    appends_more _ _ _ _ _ _ _ c.loop-rest.invariant (first_and_left c.in-Ok.count c.loop-rest.rest.now _ (search (rules, overwrites))) c.in-Ok.ensures.bytes
+    let cut = first_and_left c.in-Ok.count c.loop-rest.rest.now _ (search (rules, overwrites)) in
+    appends_more c.loop-rest.invariant _ _ cut c.in-Ok.ensures.bytes
