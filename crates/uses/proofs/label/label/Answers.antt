@@ -1,19 +1,14 @@
-use Rattle.std.proofs.Common.{◌≡◌, ◌∙◌, ℕ, List, [], ◌∷◌, ◌++◌, length, drop, MatchOption, Option, None, Some, refl, sym, ap, arith, rules, append-nil}
+use Rattle.std.proofs.Common.{◌≡◌, ◌∙◌, ℕ, List, [], ◌∷◌, length, drop, MatchOption, Option, ap, arith, rules, append-nil}
 use Rattle.std.specs.String.{string_bytes}
 use Rattle.std.proofs.lemmas.List.{drop-drop}
 use Rattle.const_oid.specs.Names.{name_of}
 use Rattle.const_oid.specs.OidRef.{ref_arcs}
-use Rattle.uses.specs.Label.{dotted}
 use Rattle.uses.proofs.label.label.Goals as goal
 
 -- what a call of `next` leaves
-stepped : (xs ys : List ℕ) (item : Option ℕ) → MatchOption item ((xs ≡ []) × (ys ≡ [])) (λ x. xs ≡ x ∷ ys) → ys ≡ drop 1 xs
-stepped xs ys None (e, f) = rw (e, f) refl
-stepped xs ys (Some x) e = rw e refl
-
--- where no arc is left, all are written
-written : (text begun name left arcs rest : List ℕ) → text ++ dotted left ≡ begun ++ dotted arcs → left ≡ [] → begun ≡ name → arcs ≡ rest → text ≡ name ++ dotted rest
-written text begun name left arcs rest e nil named is = sym (append-nil text) ∙ rw (nil, named, is) at e
+stepped : (xs ys : List ℕ) (item : Option ℕ)
+    → MatchOption item ((xs ≡ []) × (ys ≡ [])) (λ x. xs ≡ x ∷ ys) → ys ≡ drop 1 xs
+stepped xs ys item steps = grind arith
 
 pub loop-preserved : goal.loop-preserved
 loop-preserved c =
@@ -24,12 +19,6 @@ loop-preserved c =
 pub returns-clause-named : goal.returns-clause-named
 returns-clause-named c =
     let entry = c.in-Some.entry.now in
-    let arcs = ref_arcs c.args.oid in
     let begun : string_bytes c.in_ok-text.text ≡ (name_of entry).now = search rules in
     let ended : c.loop.counter ≡ length (ref_arcs entry.0) = omega (arith, c.len-end.ensures) in
-    let left = c.into_iter-arc-iterator.ensures.into_iter_gives ∙ c.loop.invariant ∙ ap (λ n. drop n arcs) ended in
-    record {
-      entry = entry;
-      nearest = c.in-Some.ensures.found;
-      is = written _ _ _ _ _ _ c.loop-arc.invariant c.in-None.ensures.steps.0 begun left;
-    }
+    record { entry = entry; nearest = c.in-Some.ensures.found; is = grind (arith, append-nil) }

@@ -8,4 +8,5 @@ abbrev pub invariant-loop : goal.invariant-loop
 invariant-loop l = l.arcs ≡ drop l.counter (ref_arcs l.fn.oid)
 
 abbrev pub invariant-loop-arc : goal.invariant-loop-arc
-invariant-loop-arc l = string_bytes l.text ++ dotted l.arc-iterator ≡ string_bytes l.initial.text ++ dotted l.initial.arc-iterator
+invariant-loop-arc l =
+    string_bytes l.text ++ dotted l.arc-iterator ≡ string_bytes l.initial.text ++ dotted l.initial.arc-iterator

@@ -12,5 +12,7 @@ new-requires c = sorted_rows 11 _ (λ d. refl)
 pub returns : goal.returns
 unfolding attribute_types
 returns c =
-    let rows : map row_of (sorted_entries_of c.new.result) ≡ attribute_types = ap (map row_of) c.new.ensures in
-    row_found (sorted_entries_of c.new.result) attribute_types rows (ref_arcs c.args.oid.now) c.by_oid.result _ c.by_oid.ensures c.is_some.ensures
+    let entries = sorted_entries_of c.new.result in
+    let rows : map row_of entries ≡ attribute_types = ap (map row_of) c.new.ensures in
+    let arcs = ref_arcs c.args.oid.now in
+    row_found entries attribute_types rows arcs c.by_oid.result _ c.by_oid.ensures c.is_some.ensures

@@ -8,13 +8,15 @@ use Rattle.uses.proofs.table.is_named.Goals as goal
 pub returns-in-Some : goal.returns-in-Some
 unfolding attribute_types
 returns-in-Some c =
-    let rows : map row_of (ref_entries_of c.new.result) ≡ attribute_types = ap (map row_of) c.new.ensures in
-    let found = arcs_found (ref_entries_of c.new.result) attribute_types rows c.args.name.now (Some c.in-Some.found) c.in-Some.ensures in
+    let entries = ref_entries_of c.new.result in
+    let rows : map row_of entries ≡ attribute_types = ap (map row_of) c.new.ensures in
+    let found = arcs_found entries attribute_types rows c.args.name.now (Some c.in-Some.found) c.in-Some.ensures in
     are_arcs _ (ref_arcs c.in-Some.found) _ _ found c.eq.ensures.arcs
 
 pub returns-in-None : goal.returns-in-None
 unfolding attribute_types
 returns-in-None c =
-    let rows : map row_of (ref_entries_of c.new.result) ≡ attribute_types = ap (map row_of) c.new.ensures in
-    let found = arcs_found (ref_entries_of c.new.result) attribute_types rows c.args.name.now None c.in-None.ensures in
+    let entries = ref_entries_of c.new.result in
+    let rows : map row_of entries ≡ attribute_types = ap (map row_of) c.new.ensures in
+    let found = arcs_found entries attribute_types rows c.args.name.now None c.in-None.ensures in
     (λ t. cc, λ e. cc)

@@ -5,6 +5,7 @@ use Rattle.uses.proofs.theorems.child_of_parent.Goals as goal
 
 pub returns-clause-again : goal.returns-clause-again
 returns-clause-again c =
-    let again = child_of_parent c.args.oid (oid_arcs c.in_ok-parent.parent) c.in_ok-last.last (search rules) (search rules) in
+    let parent = oid_arcs c.in_ok-parent.parent in
+    let again = child_of_parent c.args.oid parent c.in_ok-last.last (search rules) (search rules) in
     let fits = size_fits c.args.oid in
     grind arith

@@ -6,5 +6,6 @@ use Rattle.uses.proofs.theorems.is_rsa_encryption.Goals as goal
 pub returns : goal.returns
 unfolding encoding_of
 returns c =
-    let octets = c.as_bytes.ensures.octets ∙ octets_are c.new_unwrap.result ∙ ap encoding_of c.new_unwrap.ensures.values in
+    let oid = c.new_unwrap in
+    let octets = c.as_bytes.ensures.octets ∙ octets_are oid.result ∙ ap encoding_of oid.ensures.values in
     search rules
