@@ -4,7 +4,7 @@
 use crate::calls::status::Status;
 use crate::calls::subtree::Range;
 use crate::calls::{arcs, errors, order, subtree, texts, tree, version};
-use const_oid::erased::Error;
+use const_oid::erased::{Error, ObjectIdentifierRef};
 use core::marker::PhantomData;
 use core::mem::MaybeUninit;
 use core::slice;
@@ -63,30 +63,37 @@ pub(crate) fn copy(bytes: &[u8], out: &mut Output<u8>) {
     out[..bytes.len()].copy_from_slice(bytes);
 }
 
-/// Writes a text of at most `most` bytes at the start of an output, and returns its length. `None` if
-/// it is longer than the output, which is then unchanged. It is made on the stack if it is short.
-pub(crate) fn encode(
-    most: usize,
-    encode: impl Fn(&mut [u8]) -> Option<usize>,
-    len: impl Fn() -> usize,
-    out: &mut Output<u8>,
-) -> Option<usize> {
-    let (mut short, mut long);
-    let text = if most <= 64 {
+/// Writes the text of an identifier at the start of an output, and returns its length. `None` if it is
+/// longer than the output, which is then unchanged. It is made on the stack if it is short: an octet
+/// takes four bytes of text at most.
+pub(crate) fn encode(oid: ObjectIdentifierRef<'_>, out: &mut Output<u8>) -> Option<usize> {
+    let (mut short, mut middle, mut long);
+    let octets = oid.as_bytes().len();
+    let text: &mut [u8] = if octets <= 16 {
         short = [0; 64];
-        &mut short[..out.len().min(64)]
-    } else if most <= 1020 {
+        &mut short
+    } else if octets <= 64 {
+        middle = [0; 256];
+        &mut middle
+    } else if octets <= 255 {
         long = [0; 1020];
-        &mut long[..out.len().min(1020)]
+        &mut long
     } else {
-        let out = out.get_mut(..len())?;
+        let out = out.get_mut(..oid.text_len())?;
         out.fill(MaybeUninit::new(0));
         // SAFETY: all of these bytes were written.
         unsafe { slice::from_raw_parts_mut(out.as_mut_ptr().cast(), out.len()) }
     };
-    let len = encode(text)?;
-    if most <= 1020 {
-        copy(&text[..len], out);
+    let len = oid.encode_text(text)?;
+    if octets <= 255 {
+        let (text, out) = (&text[..len], out.get_mut(..len)?);
+        if (16..=32).contains(&len) {
+            // These two copies, which may overlap, are fewer instructions than a call.
+            copy(&text[..16], out);
+            copy(&text[len - 16..], &mut out[len - 16..]);
+        } else {
+            copy(text, out);
+        }
     }
     Some(len)
 }

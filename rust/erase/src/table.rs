@@ -201,7 +201,7 @@ pub const CRATES: &[Crate] = &[
             Edit {
                 module: "texts",
                 old: "oid.encode_text(out)",
-                new: "crate::edge::encode(4 * octets.len(), |text| oid.encode_text(text), || oid.text_len(), out)",
+                new: "crate::edge::encode(oid, out)",
                 why: UNWRITTEN,
             },
             Edit {

@@ -40,12 +40,7 @@ pub fn const_oid_to_text(octets: &[u8], out: &mut crate::edge::Output<u8>) -> St
         Ok(oid) => oid,
         Err(fault) => return error_status(fault),
     };
-    match crate::edge::encode(
-        4 * octets.len(),
-        |text| oid.encode_text(text),
-        || oid.text_len(),
-        out,
-    ) {
+    match crate::edge::encode(oid, out) {
         Some(len) => len_status(len),
         None => too_short_status(oid.text_len()),
     }
