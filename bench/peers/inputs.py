@@ -5,16 +5,12 @@ EDGES = [0, 39, 40, 79, 80, 127, 128, 16383, 16384, 2**21 - 1, 2**21, 2**28 - 1,
 WIDE = [2**32, 2**32 + 1, 2**35 - 1, 2**63 - 1, 2**63, 2**64 - 1, 2**64, 2**64 + 5, 2**70]
 
 
-def drawn():
-    """Arcs: the root is at most 2, and the next arc below 0 and 1 at most 39."""
+def drawn(wide):
+    """Arcs: the root is at most 2, and the next arc below 0 and 1 at most 39; if wide, a later one is past 32 bits."""
     arcs = [randrange(3), *(choice([randrange(130), choice(EDGES), randrange(2**32)]) for _ in range(randrange(1, 8)))]
-    return arcs if arcs[0] == 2 else [arcs[0], randrange(40), *arcs[2:]]
-
-
-def wide():
-    """Arcs of which one is past 32 bits."""
-    arcs = drawn()
-    return [*arcs, choice(WIDE)] if randrange(2) or arcs[0] < 2 else [2, choice(WIDE), *arcs[2:]]
+    if arcs[0] < 2:
+        arcs[1] = randrange(40)
+    return arcs if not wide else [*arcs, choice(WIDE)] if randrange(2) or arcs[0] < 2 else [2, choice(WIDE), *arcs[2:]]
 
 
 def group(number, more=0):
@@ -50,27 +46,27 @@ def der(parts):
     return bytes([6, sum(map(len, parts))]) + b"".join(parts)
 
 
-# A kind of input: its name, what is right, its arcs, and the parts that are read: arcs of a text, or groups.
+# A kind of input: its name, what is right, and what is read for arcs: groups, or arcs of a text.
 KINDS = [
-    ("octets", "read", drawn, groups),
-    ("octets, arc past 32 bits", "either", wide, groups),
-    ("octets, padded group", "rejected", drawn, lambda a: edited(groups(a), (b"\x80" * randrange(1, 4)).__add__)),
-    ("octets, last group unfinished", "rejected", drawn, lambda a: groups(a, 128)),
-    ("text", "read", drawn, list),
-    ("text, arc past 32 bits", "either", wide, list),
-    ("text, leading zero", "either", drawn, lambda a: edited(a, "0{}".format)),
-    ("text, empty piece", "rejected", drawn, lambda a: edited(a, "{}.".format)),
-    ("text, foreign character", "rejected", drawn, lambda a: edited(a, foreign)),
-    ("text, first arcs out of range", "rejected", drawn, bad_first),
-    ("text, one arc", "rejected", drawn, lambda a: a[-1:]),
+    ("octets", "read", groups),
+    ("octets, arc past 32 bits", "either", groups),
+    ("octets, padded group", "rejected", lambda arcs: edited(groups(arcs), (b"\x80" * randrange(1, 4)).__add__)),
+    ("octets, last group unfinished", "rejected", lambda arcs: groups(arcs, 128)),
+    ("text", "read", list),
+    ("text, arc past 32 bits", "either", list),
+    ("text, leading zero", "either", lambda arcs: edited(arcs, "0{}".format)),
+    ("text, empty piece", "rejected", lambda arcs: edited(arcs, "{}.".format)),
+    ("text, foreign character", "rejected", lambda arcs: edited(arcs, foreign)),
+    ("text, first arcs out of range", "rejected", bad_first),
+    ("text, one arc", "rejected", lambda arcs: arcs[-1:]),
 ]
 
 
 def inputs():
     """For each kind its name, what is right, and 10,000 inputs with their results."""
     seed(20261124)
-    for kind, right, draw, edit in KINDS:
-        made = [(edit(arcs), arcs) for arcs in (draw() for _ in range(10_000))]
+    for kind, right, edit in KINDS:
+        made = [(edit(arcs), arcs) for arcs in (drawn("past 32" in kind) for _ in range(10_000))]
         if kind.startswith("text"):
             yield kind, right, [(text(parts), der(groups(arcs))[2:]) for parts, arcs in made]
         else:
