@@ -1,4 +1,4 @@
-#include <cert.h> /* SEC_StringToOID; CERT_GetOidString, whose text starts with OID. or tells what is unsupported */
+#include <cert.h> /* SEC_StringToOID; CERT_GetOidString: OID. and a text, or UNSUPPORTED for an arc too large */
 #include <prprf.h>
 
 int text_to_octets(const char *text, size_t len, uint8_t *out) {
@@ -9,7 +9,8 @@ int text_to_octets(const char *text, size_t len, uint8_t *out) {
 int octets_to_text(const uint8_t *der, size_t len, char *out) {
     SECItem item = {siDEROID, (unsigned char *)der + 2, (unsigned)len - 2};
     char *text = CERT_GetOidString(&item);
-    int size = text && !strstr(text, "UNSUPPORTED") ? sprintf(out, "%s", text + 4) : REJECTED;
+    int is_read = text && !strncmp(text, "OID.", 4) && !strstr(text, "UNSUPPORTED");
+    int size = is_read ? sprintf(out, "%s", text + 4) : REJECTED;
     PR_smprintf_free(text);
     return size;
 }
