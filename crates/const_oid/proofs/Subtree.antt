@@ -65,7 +65,7 @@ module _ {X : Type 0} (key : X → List ℕ) (sorted : List X) (up : IsSortedByK
         let within = cut_by (is_within prefix) (within_down prefix) (from + i) (from + j) d in
         grind (arith, get_or-drop, length-drop, or_right, first.1 (from + i) d, within)
 
--- what of a list of identifiers begins with the prefix
+-- which identifiers of a list begin with the prefix: those from the one cut to the other
 pub range_between : (prefix : ObjectIdentifierRef) (sorted : List ObjectIdentifierRef) (from count : ℕ)
     → IsCut (key_before ref_octets (ref_octets prefix)) sorted from
     → IsCut (key_under ref_octets (ref_octets prefix)) (drop from sorted) count → (k : ℕ)

@@ -40,4 +40,5 @@ octets_new octets capacity bytes = (
       ),
 )
 
+-- for the law's texts and lists: what is accepted under one rule
 pub ruleset wide_adds = (nat_tests, denoted_from_none, text_fault-none, item_fault-none, identifier_from_none)

@@ -1,4 +1,4 @@
--- What the wide rule keeps: the results of octets, texts and lists, and what was accepted.
+-- What the wide rule keeps: octets that were accepted, and the results of lists and texts but for the second arc.
 use Rattle.std.proofs.Common.{◌≡◌, ℕ, List, [], ◌∷◌, ◌++◌, map, None, refl, arith}
 use Rattle.std.proofs.lemmas.Bool.Decides.{nat_tests}
 use Rattle.const_oid.specs.Identifier.{Narrow, Wide}
@@ -21,6 +21,7 @@ items_later_same : (capacity a b : ℕ) (before items : List ℕ)
 items_later_same capacity a b before [] = refl
 items_later_same capacity a b before (x ∷ xs) = rw (items_later_same capacity a b (before ++ x ∷ []) xs)
 
+-- the two rules differ in the second arc alone, under 2
 pub items_same : (items : List ℕ) (capacity : ℕ) → (RefusesSecond items (item_fault Narrow items capacity) → ⊥)
     → item_fault Narrow items capacity ≡ item_fault Wide items capacity
 items_same items capacity h = grind (arith, nat_tests, items_later_same)
@@ -40,4 +41,5 @@ pieces_same capacity [] h = refl
 pieces_same capacity (p ∷ []) h = refl
 pieces_same capacity (p ∷ q ∷ more) h = grind (arith, nat_tests, pieces_later_same)
 
+-- for the law of what is kept
 pub ruleset wide_keeps = (nat_tests, items_same, pieces_same)
