@@ -54,12 +54,10 @@ pub length_two : (n : ℕ) → 10 ≤ n → n < 2 ^ 64 → 2 ≤ length (decimal
 length_two n low high = grind (arith, nat_tests, decimal_two, length_pair)
 
 pub arc_text_short : (is_first : Bool) (arc : ℕ) → arc < 2 ^ 32 → length (arc_text is_first arc) ≤ 11
-arc_text_short true arc h = grind (arith, nat_tests, length-decimal-le)
-arc_text_short false arc h = grind (arith, nat_tests, length-decimal-le)
+arc_text_short is_first arc h = grind (arith, nat_tests, length-decimal-le 10 arc)
 
 pub arc_text_ascii : (is_first : Bool) (arc : ℕ) → arc < 2 ^ 32 → IsAscii (arc_text is_first arc)
-arc_text_ascii true arc h = IsAscii-decimal arc (omega arith)
-arc_text_ascii false arc h = grind (arith, nat_tests, IsAscii-decimal)
+arc_text_ascii is_first arc h = grind (arith, nat_tests, IsAscii-decimal)
 
 pub drop_more : (n m : ℕ) (xs ys : List ℕ) → n ≤ m → drop n xs ≡ drop n ys → drop m xs ≡ drop m ys
 drop_more n m xs ys h e = let f : n + (m - n) ≡ m = omega arith in rw (drop-drop, drop-drop, f) at (ap (drop (m - n)) e)
