@@ -147,19 +147,9 @@ before_down prefix x z level t = grind (arith, ranks_by, nat_list_cmp_total)
 pub not_greater : (x z : List ℕ) → is_before x z ≡ false → slice_cmp nat_cmp x z ≢ Greater
 not_greater x z level greater = cc (level, ap is_lt (nat_list_cmp_total.antisymm z x ∙ ap ordering_reverse greater))
 
+ruleset ors = (or_left, or_right, or_cases)
+
 -- what is not after a list that is before the prefix or begins with it is so too
 pub within_down : (prefix x z : List ℕ) → is_before x z ≡ false → is_within prefix z ≡ true → is_within prefix x ≡ true
 within_down prefix x z level t =
-    grind (
-      arith,
-      nat_tests,
-      common_steps,
-      or_left,
-      before_down,
-      under_iff,
-      between,
-      append-nil,
-      not_greater,
-      or_right,
-      or_cases,
-    )
+    grind (arith, nat_tests, common_steps, ors, before_down, under_iff, between, append-nil, not_greater)

@@ -13,7 +13,6 @@ use Rattle.std.proofs.lemmas.Nat.{from_be_bytes-to_be_bytes_8, be_bytes_8}
 use Rattle.std.proofs.Math.Nat.{mul_comm, one-le-pow}
 use Rattle.const_oid.specs.Private.Words.{bytes_of, IsWord}
 use Rattle.const_oid.proofs.Orders.{digits_cmp, split_cmp, after_same, shortlex_cmp-level}
-use Rattle.std.proofs.lemmas.Grind.{common_steps}
 
 -- ---- the order of numbers by their bytes
 
@@ -85,11 +84,6 @@ ended_at (x ∷ xs) (y ∷ ys) (suc at) e same = grind (arith, nat_tests, ended_
 pub ended_cmp : (xs ys : List ℕ) → (let end = min (length xs) (length ys) in take end xs ≡ take end ys)
     → slice_cmp nat_cmp xs ys ≡ nat_cmp (length xs) (length ys)
 ended_cmp xs ys same = ended_at xs ys (min (length xs) (length ys)) refl same
-
--- and where they are not the same any more, the first unequal elements do
-pub octet_cmp : (xs ys : List ℕ) (i : ℕ) → take i xs ≡ take i ys → i < length xs → i < length ys
-    → slice_index xs i ≢ slice_index ys i → nat_cmp (slice_index xs i) (slice_index ys i) ≡ slice_cmp nat_cmp xs ys
-octet_cmp xs ys i same l m u = grind (arith, nat_tests, common_steps, after_same xs ys i same)
 
 -- a test that is true exactly where lists are the same
 pub tells_same : (test : Bool) (xs ys : List ℕ) → (IsTrue test → xs ≡ ys) → (xs ≡ ys → IsTrue test)

@@ -29,7 +29,8 @@ pub(crate) fn begins_with(octets: &[u8], prefix: &[u8]) -> bool
     are_equal(prefix, start)
 }
 
-/// The first index from one on where octets are not the same, or the end.
+#[tactic(auto, using(crate::proofs::Orders::after_same, crate::proofs::ByParts::same_up_to))]
+/// The first index from one on where octets are not the same, or the end. What is from there on has their orders.
 #[inline(always)]
 const fn same_until(a: &[u8], b: &[u8], start: usize, end: usize) -> usize
     requires ends { end ≤ min (length a.now) (length b.now) }
@@ -37,6 +38,8 @@ const fn same_until(a: &[u8], b: &[u8], start: usize, end: usize) -> usize
     ensures within { result ≤ end }
     ensures same { take result a.now ≡ take result b.now }
     ensures unequal { result < end → slice_index a.now result ≢ slice_index b.now result }
+    ensures order { slice_cmp nat_cmp a.now b.now ≡ slice_cmp nat_cmp (drop result a.now) (drop result b.now) }
+    ensures by_parts { parts_cmp a.now b.now ≡ parts_cmp (drop result a.now) (drop result b.now) }
 {
     let mut index = start;
     while index < end {
@@ -150,7 +153,7 @@ pub(crate) fn order(a: &[u8], b: &[u8]) -> Ordering
     a.len().cmp(&b.len())
 }
 
-#[tactic(auto, using(crate::proofs::Words::octet_cmp, crate::proofs::Words::ended_cmp))]
+#[tactic(auto, using(crate::proofs::Words::ended_cmp))]
 /// The octets in lexicographic order, one by one.
 #[inline(always)]
 fn order_few(a: &[u8], b: &[u8]) -> Ordering

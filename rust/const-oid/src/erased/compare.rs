@@ -19,7 +19,7 @@ pub(crate) const fn begins_with(octets: &[u8], prefix: &[u8]) -> bool {
     are_equal(prefix, start)
 }
 
-/// The first index from one on where octets are not the same, or the end.
+/// The first index from one on where octets are not the same, or the end. What is from there on has their orders.
 #[inline(always)]
 const fn same_until(a: &[u8], b: &[u8], start: usize, end: usize) -> usize {
     let mut index = start;
