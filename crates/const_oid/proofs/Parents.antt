@@ -88,16 +88,11 @@ parent_of-some a b c later =
     let e : length (a ∷ b ∷ c ∷ later) - 1 ≡ suc (suc (length later)) = omega arith in
     rw (lt-ltb 2 (length (a ∷ b ∷ c ∷ later)) (omega arith), e)
 
-parent_of-more : (first next : ℕ) (later : List ℕ)
-    → parent_of (arcs_from (first ∷ next ∷ later)) ≡ Some (arcs_from (first ∷ take (length later) (next ∷ later)))
-parent_of-more first next later = grind (arith, parent_of-some)
-
 parent_of-parts : (parts : List (List ℕ)) → let before = take (length parts - 1) parts in
     before ≢ [] → parent_of (arcs_from (map value_of parts)) ≡ Some (arcs_from (map value_of before))
 parent_of-parts (part ∷ next ∷ later) some =
     let e : length (part ∷ next ∷ later) - 1 ≡ suc (length later) = omega arith in
-    rw (e, ← take-map value_of (length later) (next ∷ later), ← length-map later value_of)
-    (parent_of-more (value_of part) (value_of next) (map value_of later))
+    rw (e, ← take-map value_of (length later) (next ∷ later), ← length-map later value_of) (grind (arith, parent_of-some))
 parent_of-parts _ some = absurd (some refl)
 
 -- they begin the octets

@@ -132,6 +132,7 @@ const fn are_few_equal(a: &[u8], b: &[u8]) -> bool
     true
 }
 
+#[tactic(auto, using(crate::proofs::Words::unequal_cmp))]
 /// The octets in lexicographic order: by words, where the last one overlaps, or one by one where they are
 /// fewer than a word.
 #[inline(always)]

@@ -13,7 +13,11 @@ loop-index-preserved c =
     let next : l.index - 1 + 1 ≡ l.index = omega arith in
     let after = drop-set l.octets (l.index - 1) (128 + l.rest % 128) (omega arith) in
     let same = length-set l.octets (l.index - 1) (128 + l.rest % 128) in
-    record { written = rw (after, next) (tail_more _ _ _ l.invariant.written); within = omega arith; wide = omega arith }
+    record {
+      written = rw (after, next) (tail_more _ _ _ l.invariant.written);
+      within = omega arith;
+      wide = omega arith;
+    }
 
 pub returns : goal.returns
 returns c = grind (arith, tail_group)

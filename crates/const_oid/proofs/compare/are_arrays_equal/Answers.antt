@@ -4,11 +4,7 @@ use Rattle.const_oid.proofs.Words.{same_more, equal_words, same_less, last_words
 use Rattle.const_oid.proofs.compare.are_arrays_equal.Goals as goal
 
 pub loop-at-preserved : goal.loop-at-preserved
-loop-at-preserved c = record {
-  same = grind (arith, nat_tests, same_more);
-  equal = grind (arith, nat_tests, equal_words);
-  within = omega arith;
-}
+loop-at-preserved c = grind (arith, nat_tests, same_more, equal_words)
 
 pub returns : goal.returns
 returns c =

@@ -1,9 +1,6 @@
 use Rattle.std.proofs.Common.{◌+◌, ◌-◌, arith, sym, ◌∙◌}
-use Rattle.const_oid.proofs.Words.{same_more, unequal_cmp, ended_at}
+use Rattle.const_oid.proofs.Words.{same_more, ended_at}
 use Rattle.const_oid.proofs.compare.order.Goals as goal
-
-pub returns-then-x-y : goal.returns-then-x-y
-returns-then-x-y c = search (arith, unequal_cmp)
 
 pub returns : goal.returns
 returns c =
