@@ -92,7 +92,8 @@ parent_of-parts : (parts : List (List ℕ)) → let before = take (length parts 
     before ≢ [] → parent_of (arcs_from (map value_of parts)) ≡ Some (arcs_from (map value_of before))
 parent_of-parts (part ∷ next ∷ later) some =
     let e : length (part ∷ next ∷ later) - 1 ≡ suc (length later) = omega arith in
-    rw (e, ← take-map value_of (length later) (next ∷ later), ← length-map later value_of) (grind (arith, parent_of-some))
+    rw (e, ← take-map value_of (length later) (next ∷ later), ← length-map later value_of)
+    (grind (arith, parent_of-some))
 parent_of-parts _ some = absurd (some refl)
 
 -- they begin the octets
