@@ -15,7 +15,6 @@ pub mod Numbers
 pub mod Decimals
 pub mod Texts
 pub mod Children
-pub mod OctetPass
 pub mod PartsFault
 pub mod TextPass
 pub mod Octets

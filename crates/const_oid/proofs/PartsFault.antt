@@ -1,11 +1,18 @@
--- Octets from the start of a later part are read as all octets are; their numbers are arcs.
-use Rattle.std.proofs.Common.{◌≡◌, ◌≢◌, ℕ, ◌≤◌, List, [], ◌∷◌, map, None, arith}
+-- The faults of octets by their first part, and what octets without a fault begin with.
+use Rattle.std.proofs.Common.{◌≡◌, ◌≢◌, ℕ, ◌+◌, ◌*◌, ◌^◌, ◌<◌, ◌≤◌, Bool, true, false, if◌then◌else◌, nat_lt, List, [], ◌∷◌, ◌++◌, length, map, take, drop, get_or, slice_index, None, Some, refl, arith, length-append}
+use Rattle.std.specs.List.{AllByRecursion, onto_first}
+use Rattle.std.proofs.lemmas.List.{take_all}
+use Rattle.std.proofs.lemmas.Nat.{pow-add}
+use Rattle.std.proofs.Math.Nat.{one-le-pow, le-mul_of_pos_right}
+use Rattle.const_oid.specs.declared.error.Error.TheVariants.{ArcTooBig, Base128}
+use Rattle.const_oid.proofs.Lists.{append-cons}
 use Rattle.std.proofs.lemmas.Bool.Decides.{nat_tests}
 use Rattle.const_oid.specs.Base128.{value_of}
 use Rattle.const_oid.specs.Identifier.{root_rule, max_arc}
 use Rattle.const_oid.specs.Contents.{cut, later_fault, parts_fault, max_first}
 use Rattle.const_oid.specs.Private.Octets.{fault_from}
-use Rattle.const_oid.proofs.Cutting.{cut-some}
+use Rattle.const_oid.specs.Private.Groups.{IsLong}
+use Rattle.const_oid.proofs.Cutting.{cut_after-more, cut-some}
 
 -- from the start of a later part
 pub parts_from_later : (octets : List ℕ) → octets ≢ [] → later_fault (cut octets) ≡ None
@@ -13,8 +20,8 @@ pub parts_from_later : (octets : List ℕ) → octets ≢ [] → later_fault (cu
 parts_from_later octets some h = grind (arith, nat_tests, cut-some)
 
 -- later numbers are arcs
-pub later_small : (parts : List (List ℕ)) (n : ℕ) (ns : List ℕ) → later_fault parts ≡ None → map value_of parts ≡ n ∷ ns
-    → n ≤ max_arc
+pub later_small : (parts : List (List ℕ)) (n : ℕ) (ns : List ℕ) → later_fault parts ≡ None
+    → map value_of parts ≡ n ∷ ns → n ≤ max_arc
 later_small [] n ns h e = cc
 later_small (part ∷ parts) n ns h e = grind (arith, nat_tests)
 
@@ -22,3 +29,100 @@ later_small (part ∷ parts) n ns h e = grind (arith, nat_tests)
 pub parts_at : (octets : List ℕ) → octets ≢ []
     → fault_from (max_first root_rule) (cut octets) ≡ parts_fault root_rule (cut octets)
 parts_at octets some = grind (arith, nat_tests, cut-some)
+
+-- ---- a first part whose number is too great
+
+split_power : (d p q v w : ℕ) → d * (p * q) + (v * q + w) ≡ (d * p + v) * q + w
+split_power d p q v w = omega arith
+
+value_of-append : (xs ys : List ℕ) → value_of (xs ++ ys) ≡ value_of xs * 128 ^ length ys + value_of ys
+value_of-append [] ys = omega arith
+value_of-append (x ∷ xs) ys = grind (arith, nat_tests, length-append, pow-add, value_of-append xs ys, split_power)
+
+-- more octets have no smaller value
+value_of-more : (xs ys : List ℕ) → value_of xs ≤ value_of (xs ++ ys)
+value_of-more xs ys = grind (arith, nat_tests, value_of-append, one-le-pow, le-mul_of_pos_right)
+
+-- octets with bit 8, and the one after them, begin the first part
+begins_part : (read : List ℕ) (x : ℕ) (xs : List ℕ) → AllByRecursion (λ y. 128 ≤ y) read
+    → (tail : List ℕ) × (parts : List (List ℕ)) × (cut (read ++ x ∷ xs) ≡ (read ++ x ∷ tail) ∷ parts)
+begins_part [] x xs more = by (nat_lt x 128) (cut xs)
+  where
+    by : (last : Bool) (parts : List (List ℕ)) → (tail : List ℕ) × (after : List (List ℕ))
+        × ((if last then (x ∷ []) ∷ parts else onto_first x parts) ≡ (x ∷ tail) ∷ after)
+    by true parts = ([], parts, refl)
+    by false [] = ([], [], refl)
+    by false (part ∷ parts) = (part, parts, refl)
+begins_part (y ∷ ys) x xs more =
+    let (tail, parts, e) = begins_part ys x xs more.1 in
+    (tail, parts, rw (cut_after-more y (cut (ys ++ x ∷ xs)) more.0, e) refl)
+
+-- the value of these octets is enough
+big_part : (limit a : ℕ) (read : List ℕ) (x : ℕ) (xs : List ℕ) → AllByRecursion (λ y. 128 ≤ y) (a ∷ read) → a ≢ 128
+    → limit < value_of (a ∷ read ++ x ∷ []) → fault_from limit (cut (a ∷ read ++ x ∷ xs)) ≡ Some ArcTooBig
+big_part limit a read x xs more first big =
+    let (tail, parts, e) = begins_part (a ∷ read) x xs more in
+    let least = rw (append-cons read x tail) at (value_of-more (a ∷ read ++ x ∷ []) tail) in
+    grind (arith, nat_tests)
+
+-- the value of the first five octets is
+pub five_big : (limit : ℕ) (octets : List ℕ) → 5 ≤ length octets → IsLong octets → limit < value_of (take 5 octets)
+    → fault_from limit (cut octets) ≡ Some ArcTooBig
+five_big limit (a ∷ b ∷ c ∷ d ∷ e ∷ xs) five (first, octet, more) big =
+    big_part limit a (b ∷ c ∷ d ∷ []) e xs more first big
+five_big limit _ five long big = absurd (omega arith)
+
+-- that of six octets always is
+pub six_big : (limit : ℕ) (octets : List ℕ) → 5 < length octets → IsLong octets → 128 ≤ get_or octets 4 0
+    → limit ≤ max_first root_rule → fault_from limit (cut octets) ≡ Some ArcTooBig
+six_big limit (a ∷ b ∷ c ∷ d ∷ e ∷ x ∷ xs) six (first, octet, (p, (q, (r, (s, t))))) last small =
+    let big : limit < value_of (a ∷ b ∷ c ∷ d ∷ e ∷ x ∷ []) = omega arith in
+    big_part limit a (b ∷ c ∷ d ∷ e ∷ []) x xs (p, (q, (r, (s, (last, tt))))) first big
+six_big limit _ six long last small = absurd (omega arith)
+
+-- five octets end a part
+pub five_last : (limit : ℕ) (octets : List ℕ) → 5 ≤ length octets → IsLong octets → get_or octets 4 0 < 128
+    → value_of (take 5 octets) ≤ limit → fault_from limit (cut octets) ≡ later_fault (cut (drop 5 octets))
+five_last limit (a ∷ b ∷ c ∷ d ∷ e ∷ xs) five long last small = grind (arith, nat_tests)
+five_last limit _ five long last small = absurd (omega arith)
+
+-- there are just five octets, and the part does not end
+pub five_open : (limit : ℕ) (octets : List ℕ) → length octets ≡ 5 → IsLong octets → 128 ≤ get_or octets 4 0
+    → value_of (take 5 octets) ≤ limit → fault_from limit (cut octets) ≡ Some Base128
+five_open limit (a ∷ b ∷ c ∷ d ∷ e ∷ []) five long last small = grind (arith, nat_tests)
+five_open limit _ five long last small = absurd (omega arith)
+
+-- there are no more than four
+pub four_open : (limit : ℕ) (octets : List ℕ) → 0 < length octets → length octets < 5 → IsLong octets → max_arc ≤ limit
+    → fault_from limit (cut octets) ≡ Some Base128
+four_open limit [] some four long small = absurd (omega arith)
+four_open limit (a ∷ []) some four long small = grind (arith, nat_tests)
+four_open limit (a ∷ b ∷ []) some four long small = grind (arith, nat_tests)
+four_open limit (a ∷ b ∷ c ∷ []) some four long small = grind (arith, nat_tests)
+four_open limit (a ∷ b ∷ c ∷ d ∷ []) some four long small = grind (arith, nat_tests)
+four_open limit (a ∷ b ∷ c ∷ d ∷ e ∷ xs) some four long small = absurd (omega arith)
+
+-- the fault of a long group
+pub ruleset long_faults = (five_big, six_big, five_last, five_open, four_open, take_all)
+
+-- ---- a first group without a fault
+
+pub first_valid : (octets : List ℕ) → parts_fault root_rule (cut octets) ≡ None → slice_index octets 0 ≢ 128
+first_valid [] valid = absurd (cc)
+first_valid (x ∷ xs) valid = grind (arith, nat_tests)
+
+-- it has five octets at most
+pub five_read : (octets : List ℕ) → 0 < length octets → IsLong octets → parts_fault root_rule (cut octets) ≡ None
+    → (5 ≤ length octets) × (value_of (take 5 octets) ≤ max_first root_rule) × (later_fault (cut (drop 5 octets)) ≡ None)
+    × (map value_of (cut octets) ≡ value_of (take 5 octets) ∷ map value_of (cut (drop 5 octets)))
+five_read octets some long valid =
+    let none : fault_from (max_first root_rule) (cut octets) ≡ None = grind (arith, parts_at) in
+    let five : 5 ≤ length octets = grind (arith, four_open) in
+    let small : value_of (take 5 octets) ≤ max_first root_rule = grind (arith, five_big) in
+    let last : get_or octets 4 0 < 128 = grind (arith, five_open, six_big) in
+    (five, small, grind (arith, five_last), by octets five long last)
+  where
+    by : (octets : List ℕ) → 5 ≤ length octets → IsLong octets → get_or octets 4 0 < 128
+        → map value_of (cut octets) ≡ value_of (take 5 octets) ∷ map value_of (cut (drop 5 octets))
+    by (a ∷ b ∷ c ∷ d ∷ e ∷ xs) five long last = grind (arith, nat_tests)
+    by _ five long last = absurd (omega arith)

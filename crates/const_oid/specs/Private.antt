@@ -1,6 +1,7 @@
 -- What only the contracts of private functions cite. No public contract cites it.
 pub mod Octets
 pub mod Encoder
+pub mod Groups
 pub mod Parser
 pub mod Text
 pub mod Words

@@ -1,12 +1,14 @@
 //! Octets checked for faults (X.690, 8.19.2).
 
-ghost use Rattle.std.specs.Prelude.{◌≡◌, ◌≢◌, ◌<◌, ◌≤◌, Some, length, slice_index_or, IfOk, MatchResult};
+ghost use Rattle.std.specs.Prelude.{◌≡◌, ◌<◌, ◌≤◌, Some, length, IfOk, MatchResult};
 ghost use Rattle.std.specs.Result.{result_err};
+ghost use Rattle.const_oid.specs.Private.Groups.{IsLong};
 ghost use Rattle.const_oid.specs.Contents.{cut, later_fault, parts_fault, max_first};
 ghost use Rattle.const_oid.specs.Private.Octets.{fault_from};
 ghost use Rattle.const_oid.specs.Identifier.{root_rule, max_arc};
 
 use crate::Arc;
+use crate::arcs::number_of_five;
 use crate::error::{Error, Result};
 
 /// The greatest first subidentifier: of the first arc 2 and the greatest second arc.
@@ -57,27 +59,28 @@ fn skip_group(octets: &[u8], limit: u64) -> Result<&[u8]>
     }
 }
 
-/// The octets after the first group, or its fault, by its number.
+/// The same, where the group does not end within four octets.
+#[tactic(auto, using(crate::proofs::PartsFault::long_faults))]
 fn skip_long_group(octets: &[u8], limit: u64) -> Result<&[u8]>
     requires some { 0 < length octets.now }
-    requires first { slice_index_or octets.now 0 0 ≢ 128 }
+    requires long { IsLong octets.now }
+    requires wide { max_arc ≤ limit }
     requires small { limit ≤ max_first root_rule }
     ensures fault { MatchResult result (λ after. fault_from limit (cut octets.now) ≡ later_fault (cut after.now))
         (λ fault. fault_from limit (cut octets.now) ≡ Some fault) }
     ensures shorter { IfOk result (λ after. length after.now < length octets.now) }
 {
-    let mut number: u64 = 0;
-    let mut index = 0;
-    while index < octets.len() {
-        let octet = octets[index];
-        number = number * 128 + (octet % 128) as u64;
-        if number > limit {
-            return Err(Error::ArcTooBig);
-        }
-        if octet < 128 {
-            return Ok(octets.split_at(index + 1).1);
-        }
-        index += 1;
+    if octets.len() < 5 {
+        return Err(Error::Base128);
+    }
+    if number_of_five(octets) > limit {
+        return Err(Error::ArcTooBig);
+    }
+    if octets[4] < 128 {
+        return Ok(&octets[5..]);
+    }
+    if octets.len() > 5 {
+        return Err(Error::ArcTooBig);
     }
     Err(Error::Base128)
 }

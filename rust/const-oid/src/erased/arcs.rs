@@ -38,6 +38,7 @@ impl<'a> Arcs<'a> {
 impl Iterator for Arcs<'_> {
     type Item = Arc;
 
+    #[inline]
     fn next(&mut self) -> Option<Arc> {
         match self.next {
             Next::First => {
@@ -54,9 +55,7 @@ impl Iterator for Arcs<'_> {
             Next::Later => {
                 let (arc, later) = match self.octets {
                     [] => return None,
-                    // The shortest group is the most frequent one.
-                    [octet, later @ ..] if *octet < 128 => (*octet as u64, later),
-                    longer => read_group(longer),
+                    octets => read_group(octets),
                 };
                 self.octets = later;
                 Some(arc as Arc)
@@ -80,19 +79,52 @@ pub(crate) fn arc_at(octets: &[u8], index: usize) -> Option<Arc> {
 }
 
 /// The number of the first group, and the octets after it.
+#[inline(always)]
 fn read_group(octets: &[u8]) -> (u64, &[u8]) {
-    // The octets before, with seven bits to come.
-    let mut high: u64 = 0;
-    let mut left = octets;
-    while let [octet, after @ ..] = left {
-        if *octet < 128 {
-            return (high + *octet as u64, after);
-        }
-        high = (high + (*octet % 128) as u64) * 128;
-        left = after;
+    match octets {
+        // The shortest group is the most frequent one.
+        [octet, after @ ..] if *octet < 128 => (*octet as u64, after),
+        longer => read_long_group(longer),
     }
-    // Not reached, since the last octet ends its group.
-    (high, left)
+}
+
+/// The same, where the group has two octets or more: no more than five.
+#[inline(never)]
+fn read_long_group(octets: &[u8]) -> (u64, &[u8]) {
+    match octets {
+        [a, b, after @ ..] if *b < 128 => (add_digit(add_digit(0, *a), *b), after),
+        [a, b, c, after @ ..] if *c < 128 => {
+            (add_digit(add_digit(add_digit(0, *a), *b), *c), after)
+        }
+        [a, b, c, d, after @ ..] if *d < 128 => (
+            add_digit(add_digit(add_digit(add_digit(0, *a), *b), *c), *d),
+            after,
+        ),
+        _ => read_five(octets),
+    }
+}
+
+/// The same, where the group has five octets.
+#[inline(always)]
+fn read_five(octets: &[u8]) -> (u64, &[u8]) {
+    match octets {
+        [_, _, _, _, _, after @ ..] => (number_of_five(octets), after),
+        // Not reached, since the last octet ends its group.
+        _ => (0, octets),
+    }
+}
+
+/// The number of five octets.
+#[inline(always)]
+pub(crate) fn number_of_five(octets: &[u8]) -> u64 {
+    let high = add_digit(add_digit(add_digit(0, octets[0]), octets[1]), octets[2]);
+    add_digit(add_digit(high, octets[3]), octets[4])
+}
+
+/// A number with one more digit in base 128.
+#[inline(always)]
+pub(crate) fn add_digit(high: u64, octet: u8) -> u64 {
+    high * 128 + (octet % 128) as u64
 }
 
 /// The two arcs that the first subidentifier holds.

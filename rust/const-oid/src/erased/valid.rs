@@ -3,6 +3,7 @@
 //! Octets checked for faults (X.690, 8.19.2).
 
 use crate::erased::Arc;
+use crate::erased::arcs::number_of_five;
 use crate::erased::error::{Error, Result};
 
 /// The greatest first subidentifier: of the first arc 2 and the greatest second arc.
@@ -42,20 +43,19 @@ fn skip_group(octets: &[u8], limit: u64) -> Result<&[u8]> {
     }
 }
 
-/// The octets after the first group, or its fault, by its number.
+/// The same, where the group does not end within four octets.
 fn skip_long_group(octets: &[u8], limit: u64) -> Result<&[u8]> {
-    let mut number: u64 = 0;
-    let mut index = 0;
-    while index < octets.len() {
-        let octet = octets[index];
-        number = number * 128 + (octet % 128) as u64;
-        if number > limit {
-            return Err(Error::ArcTooBig);
-        }
-        if octet < 128 {
-            return Ok(octets.split_at(index + 1).1);
-        }
-        index += 1;
+    if octets.len() < 5 {
+        return Err(Error::Base128);
+    }
+    if number_of_five(octets) > limit {
+        return Err(Error::ArcTooBig);
+    }
+    if octets[4] < 128 {
+        return Ok(&octets[5..]);
+    }
+    if octets.len() > 5 {
+        return Err(Error::ArcTooBig);
     }
     Err(Error::Base128)
 }
