@@ -113,7 +113,8 @@ first_valid (x ∷ xs) valid = grind (arith, nat_tests)
 
 -- it has five octets at most
 pub five_read : (octets : List ℕ) → 0 < length octets → IsLong octets → parts_fault root_rule (cut octets) ≡ None
-    → (5 ≤ length octets) × (value_of (take 5 octets) ≤ max_first root_rule) × (later_fault (cut (drop 5 octets)) ≡ None)
+    → (5 ≤ length octets) × (value_of (take 5 octets) ≤ max_first root_rule)
+    × (later_fault (cut (drop 5 octets)) ≡ None)
     × (map value_of (cut octets) ≡ value_of (take 5 octets) ∷ map value_of (cut (drop 5 octets)))
 five_read octets some long valid =
     let none : fault_from (max_first root_rule) (cut octets) ≡ None = grind (arith, parts_at) in
