@@ -1,37 +1,33 @@
 use Rattle.std.proofs.Common.{arith, min}
 use Rattle.const_oid.specs.Buffer.{octets_of}
 use Rattle.const_oid.specs.Identifier.{root_rule}
-use Rattle.const_oid.proofs.Started.{Encodes, later_number, second_number, pushed}
+use Rattle.const_oid.proofs.Started.{Encodes, IsPushed, later_number, second_number, pushed}
 use Rattle.const_oid.proofs.encoder.Encoder.arc.Goals as goal
-use Rattle.const_oid.proofs.encoder.Encoder.arc.Goals.{then-len-gt0, else-len-gt0+in-Some+else-arc-max_second}
+use Rattle.const_oid.proofs.encoder.Encoder.arc.Given.{Over}
+use Rattle.const_oid.proofs.encoder.Encoder.arc.Goals.{After-push_group, then-len-gt0, else-len-gt0+in-Some+else-arc-max_second}
 
-pub invariant_of-self-2 : goal.invariant_of-self-2
-invariant_of-self-2 g c =
+after_push : (g : Over) (c : After-push_group g) → IsPushed root_rule (min g.row.SIZE 255) c.self.inside.first
+    (octets_of c.push_group.new.self) c.args.self.now c.args.arc c.push_group.result
+after_push g c =
     let old = c.self.inside in
     let number = c.if-len-gt0.number in
-    let n : Encodes root_rule old.first (octets_of old.octets) c.args.self.now c.args.arc number = elim c.if-len-gt0.branch [
+    let n : Encodes root_rule old.first (octets_of old.octets) c.args.self.now c.args.arc number =
+      elim c.if-len-gt0.branch [
       | then-len-gt0 w ↦
           later_number root_rule old.first _ _ c.args.arc _ (omega (arith, w.if-len-gt0.true, c.len.ensures.value))
           c.self.invariant c.self.view_is (omega arith) w.number-is
       | else-len-gt0+in-Some+else-arc-max_second w ↦
-          second_number root_rule old.first _ _ w.in-Some.first c.args.arc _ (omega (arith, w.if-len-gt0.false, c.len.ensures.value))
-          w.in-Some.is c.self.invariant c.self.view_is (omega (arith, w.max_second.ensures)) w.number-is
+          second_number root_rule old.first _ _ w.in-Some.first c.args.arc _
+          (omega (arith, w.if-len-gt0.false, c.len.ensures.value)) w.in-Some.is c.self.invariant c.self.view_is (omega (arith, w.max_second.ensures)) w.number-is
     ] in
     let push = c.push_group in
-    (pushed root_rule (min g.row.SIZE 255) old.first _ (octets_of push.new.self) _ c.args.arc number push.result n c.self.invariant c.self.view_is push.ensures).started
+    pushed root_rule (min g.row.SIZE 255) old.first _ (octets_of push.new.self) _ c.args.arc number push.result n
+    c.self.invariant c.self.view_is push.ensures
+
+pub invariant_of-self-2 : goal.invariant_of-self-2
+invariant_of-self-2 g c = (after_push g (goal.at.invariant_of-self-2 g c).After-push_group).started
 
 pub returns : goal.returns
 returns g c =
-    let old = c.self.inside in
-    let number = c.if-len-gt0.number in
-    let n : Encodes root_rule old.first (octets_of old.octets) c.args.self.now c.args.arc number = elim c.if-len-gt0.branch [
-      | then-len-gt0 w ↦
-          later_number root_rule old.first _ _ c.args.arc _ (omega (arith, w.if-len-gt0.true, c.len.ensures.value))
-          c.self.invariant c.self.view_is (omega arith) w.number-is
-      | else-len-gt0+in-Some+else-arc-max_second w ↦
-          second_number root_rule old.first _ _ w.in-Some.first c.args.arc _ (omega (arith, w.if-len-gt0.false, c.len.ensures.value))
-          w.in-Some.is c.self.invariant c.self.view_is (omega (arith, w.max_second.ensures)) w.number-is
-    ] in
-    let push = c.push_group in
-    let p = pushed root_rule (min g.row.SIZE 255) old.first _ (octets_of push.new.self) _ c.args.arc number push.result n c.self.invariant c.self.view_is push.ensures in
+    let p = after_push g (goal.at.returns g c).After-push_group in
     record { fault = p.fault; given = p.more; unchanged = p.same }
