@@ -1,5 +1,4 @@
-use Rattle.std.proofs.Common.{arith}
-use Rattle.std.proofs.Common.{min}
+use Rattle.std.proofs.Common.{arith, min}
 use Rattle.std.proofs.lemmas.Result.{IfOk-weaker}
 use Rattle.const_oid.specs.Buffer.{octets_of}
 use Rattle.const_oid.specs.Contents.{arcs_of_octets}

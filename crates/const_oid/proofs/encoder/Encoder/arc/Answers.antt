@@ -18,7 +18,8 @@ after_push g c =
           c.self.invariant c.self.view_is (omega arith) w.number-is
       | else-len-gt0+in-Some+else-arc-max_second w ↦
           second_number root_rule old.first _ _ w.in-Some.first c.args.arc _
-          (omega (arith, w.if-len-gt0.false, c.len.ensures.value)) w.in-Some.is c.self.invariant c.self.view_is (omega (arith, w.max_second.ensures)) w.number-is
+          (omega (arith, w.if-len-gt0.false, c.len.ensures.value)) w.in-Some.is
+          c.self.invariant c.self.view_is (omega (arith, w.max_second.ensures)) w.number-is
     ] in
     let push = c.push_group in
     pushed root_rule (min g.row.SIZE 255) old.first _ (octets_of push.new.self) _ c.args.arc number push.result n
