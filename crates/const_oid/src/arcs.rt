@@ -1,9 +1,9 @@
 //! Contents octets read as arcs (X.690, 8.19.2 to 8.19.4).
-ghost use Rattle.std.specs.Prelude.{◌≡◌, ℕ, ◌+◌, ◌*◌, ◌%◌, ◌<◌, ◌≤◌, List, ◌∷◌, map, length, take, slice_get, slice_index, None};
+ghost use Rattle.std.specs.Prelude.{◌≡◌, ℕ, ◌+◌, ◌*◌, ◌%◌, ◌^◌, ◌<◌, ◌≤◌, List, ◌∷◌, map, length, take, slice_get, slice_index, None};
 ghost use Rattle.std.specs.Result.{result_err};
 ghost use Rattle.std.specs.Iterator.{YieldsFirst, item_count};
 ghost use Rattle.const_oid.specs.Base128.{value_of};
-ghost use Rattle.const_oid.specs.Private.Groups.{IsLong};
+ghost use Rattle.const_oid.specs.Private.Groups.{IsFirst, IsLong};
 ghost use Rattle.const_oid.specs.Identifier.{root_rule};
 ghost use Rattle.const_oid.specs.Contents.{cut, later_fault, parts_fault, max_first, arcs_from, arcs_of_octets};
 
@@ -111,9 +111,7 @@ pub(crate) fn arc_at(octets: &[u8], index: usize) -> Option<Arc>
 #[inline(always)]
 fn read_group(octets: &[u8]) -> (u64, &[u8])
     requires { parts_fault root_rule (cut octets.now) ≡ None }
-    ensures numbers { map value_of (cut octets.now) ≡ result.0 ∷ map value_of (cut result.1.now) }
-    ensures small { result.0 ≤ max_first root_rule }
-    ensures later { later_fault (cut result.1.now) ≡ None }
+    ensures { IsFirst octets.now result.0 result.1.now }
 {
     match octets {
         // The shortest group is the most frequent one.
@@ -128,9 +126,7 @@ fn read_group(octets: &[u8]) -> (u64, &[u8])
 fn read_long_group(octets: &[u8]) -> (u64, &[u8])
     requires valid { parts_fault root_rule (cut octets.now) ≡ None }
     requires long { 128 ≤ slice_index octets.now 0 }
-    ensures numbers { map value_of (cut octets.now) ≡ result.0 ∷ map value_of (cut result.1.now) }
-    ensures small { result.0 ≤ max_first root_rule }
-    ensures later { later_fault (cut result.1.now) ≡ None }
+    ensures { IsFirst octets.now result.0 result.1.now }
 {
     match octets {
         [a, b, after @ ..] if *b < 128 => (add_digit(add_digit(0, *a), *b), after),
@@ -155,9 +151,7 @@ fn read_five(octets: &[u8]) -> (u64, &[u8])
     requires valid { parts_fault root_rule (cut octets.now) ≡ None }
     requires some { 0 < length octets.now }
     requires long { IsLong octets.now }
-    ensures numbers { map value_of (cut octets.now) ≡ result.0 ∷ map value_of (cut result.1.now) }
-    ensures small { result.0 ≤ max_first root_rule }
-    ensures later { later_fault (cut result.1.now) ≡ None }
+    ensures { IsFirst octets.now result.0 result.1.now }
 {
     match octets {
         [_, _, _, _, _, after @ ..] => (number_of_five(octets), after),
@@ -179,7 +173,7 @@ pub(crate) fn number_of_five(octets: &[u8]) -> u64
 /// A number with one more digit in base 128.
 #[inline(always)]
 pub(crate) fn add_digit(high: u64, octet: u8) -> u64
-    requires { high < 34359738368 }
+    requires { high < 2 ^ 35 }
     ensures { result ≡ high * 128 + octet % 128 }
 {
     high * 128 + (octet % 128) as u64

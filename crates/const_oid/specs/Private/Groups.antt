@@ -1,8 +1,17 @@
 -- First groups.
-use Rattle.std.specs.Prelude.{◌≡◌, ◌≢◌, ℕ, ◌<◌, ◌≤◌, List, slice_index, take}
+use Rattle.std.specs.Prelude.{◌≡◌, ◌≢◌, ℕ, ◌<◌, ◌≤◌, List, ◌∷◌, map, slice_index, take, None}
 use Rattle.std.specs.List.{AllByRecursion}
+use Rattle.const_oid.specs.Base128.{value_of}
+use Rattle.const_oid.specs.Contents.{cut, later_fault, max_first}
+use Rattle.const_oid.specs.Identifier.{root_rule}
 
 -- a group that does not end within four octets, and does not begin with 128
 abbrev pub IsLong : List ℕ → Type 0
 IsLong octets =
     (slice_index octets 0 ≢ 128) × (slice_index octets 0 < 256) × AllByRecursion (λ x. 128 ≤ x) (take 4 octets)
+
+-- a number and octets are what valid octets begin with and what is after it
+abbrev pub IsFirst : List ℕ → ℕ → List ℕ → Type 0
+IsFirst octets number after =
+    (map value_of (cut octets) ≡ number ∷ map value_of (cut after)) × (number ≤ max_first root_rule)
+    × (later_fault (cut after) ≡ None)

@@ -12,7 +12,7 @@ after_push g c =
     let old = c.self.inside in
     let number = c.if-len-gt0.number in
     let n : Encodes root_rule old.first (octets_of old.octets) c.args.self.now c.args.arc number =
-      elim c.if-len-gt0.branch [
+    elim c.if-len-gt0.branch [
       | then-len-gt0 w ↦
           later_number root_rule old.first _ _ c.args.arc _ (omega (arith, w.if-len-gt0.true, c.len.ensures.value))
           c.self.invariant c.self.view_is (omega arith) w.number-is
