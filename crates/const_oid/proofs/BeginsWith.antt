@@ -1,24 +1,15 @@
 -- What begins with a prefix: encodings do exactly where their arcs do, and are adjacent in lexicographic order.
-use Rattle.std.proofs.Common.{◌≡◌, ℕ, List, [], ◌∷◌, ◌++◌, refl, sym, ap, ap₂, ◌∙◌, append_assoc, ◌≢◌, ◌<◌, length, take, arith, Less, Greater, nat_cmp, append-nil, length-append, Bool, true, false, ◌||◌, nat_eq}
-use Rattle.std.specs.List.{AllZip, concat, starts_with}
-use Rattle.std.specs.Prelude.{◌↔◌, IsTrue}
-use Rattle.std.specs.Cmp.Lexicographic.{pointwise, slice_cmp}
-use Rattle.std.specs.Cmp.{unsigned_Decides, ranks}
-use Rattle.std.specs.Ordering.{is_lt, ordering_reverse}
-use Rattle.std.proofs.lemmas.Bool.{or_cases, or_left, or_right}
-use Rattle.std.proofs.lemmas.Cmp.{nat_list_cmp_total, by_ranked}
-use Rattle.std.proofs.lemmas.List.Sorted.{ranks_by}
-use Rattle.std.proofs.lemmas.Slice.Eq.{starts_is}
-use Rattle.const_oid.specs.Base128.{value_of, IsContinued, IsGroup}
-use Rattle.const_oid.specs.Identifier.{RootRule, IsEncoding, subidentifiers}
-use Rattle.const_oid.specs.Tree.{BeginsWith}
-use Rattle.const_oid.specs.Orders.{shortlex_cmp}
-use Rattle.const_oid.proofs.Groups.{same_prefix, same_group}
-use Rattle.const_oid.proofs.Subidentifiers.{arcs_back}
-use Rattle.const_oid.proofs.Encodings.{same_arcs}
+use Rattle.std.proofs.Common.{◌≡◌, ℕ, List, [], ◌∷◌, ◌++◌, refl, sym, ap, ap₂, ◌∙◌, append_assoc, ◌≢◌, ◌<◌, length}
+use Rattle.std.proofs.Common.{take, arith, Less, Greater, nat_cmp, append-nil, length-append, Bool, true, false, ◌||◌}
+use Rattle.std.proofs.Common.{nat_eq}
+use Rattle.std.specs.{List.{AllZip, concat, starts_with}, Prelude.{◌↔◌, IsTrue}, Cmp.{unsigned_Decides, ranks}}
+use Rattle.std.specs.{Cmp.Lexicographic.{pointwise, slice_cmp}, Ordering.{is_lt, ordering_reverse}}
+use Rattle.std.proofs.lemmas.{Bool.{or_cases, or_left, or_right}, Cmp.{nat_list_cmp_total, by_ranked}}
+use Rattle.std.proofs.lemmas.{List.Sorted.ranks_by, Slice.Eq.starts_is, Grind.common_steps, Bool.Decides.nat_tests}
+use Rattle.const_oid.specs.{Base128.{value_of, IsContinued, IsGroup}, Identifier.{RootRule, IsEncoding, subidentifiers}}
+use Rattle.const_oid.specs.{Tree.BeginsWith, Orders.shortlex_cmp}
+use Rattle.const_oid.proofs.{Groups.{same_prefix, same_group}, Subidentifiers.arcs_back, Encodings.same_arcs}
 use Rattle.const_oid.proofs.Orders.{slice_cmp-prefix}
-use Rattle.std.proofs.lemmas.Grind.{common_steps}
-use Rattle.std.proofs.lemmas.Bool.Decides.{nat_tests}
 
 chain_not_empty : (g x : List ℕ) → IsContinued g → [] ≡ g ++ x → ⊥
 chain_not_empty [] x c e = c

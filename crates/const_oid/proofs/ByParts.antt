@@ -1,24 +1,15 @@
 -- The order of arcs is that of the parts of their encodings, a shorter part first.
-use Rattle.std.proofs.Common.{◌≡◌, ◌≢◌, ℕ, suc, ◌<◌, ◌≤◌, List, [], ◌∷◌, ◌++◌, length, min, take, drop, refl, sym, ap, ◌∙◌, ⊎_elim, arith, Less, Equal, Greater, nat_cmp, length-append, Some, rules}
-use Rattle.std.specs.Prelude.{◌↔◌, slice_get}
-use Rattle.std.specs.List.{AllZip, onto_first, concat}
-use Rattle.std.specs.Ordering.{ordering_then, is_eq}
-use Rattle.std.specs.Cmp.Lexicographic.{slice_cmp, nat_list_cmp_total, texts_ties, same_text}
-use Rattle.std.specs.Cmp.{nat_cmp_is}
-use Rattle.std.proofs.lemmas.Bool.{cases_lt}
-use Rattle.std.proofs.lemmas.Cmp.{tied_itself}
-use Rattle.std.proofs.lemmas.List.{length-drop, take-append-drop}
-use Rattle.const_oid.specs.Base128.{IsGroup}
-use Rattle.const_oid.specs.Contents.{cut}
-use Rattle.const_oid.specs.Identifier.{RootRule, IsIdentifier, IsEncoding, subidentifiers}
-use Rattle.const_oid.specs.Orders.{shortlex_cmp, shortlex_cmp_total, parts_cmp}
-use Rattle.const_oid.specs.Tree.{BeginsWith}
-use Rattle.const_oid.proofs.BeginsWith.{before_more, between}
-use Rattle.const_oid.proofs.Cutting.{cut_after-last, cut_after-more}
+use Rattle.std.proofs.Common.{◌≡◌, ◌≢◌, ℕ, suc, ◌<◌, ◌≤◌, List, [], ◌∷◌, ◌++◌, length, min, take, drop, refl, sym, ap}
+use Rattle.std.proofs.Common.{◌∙◌, ⊎_elim, arith, Less, Equal, Greater, nat_cmp, length-append, Some, rules}
+use Rattle.std.specs.{Prelude.{◌↔◌, slice_get}, List.{AllZip, onto_first, concat}, Ordering.{ordering_then, is_eq}}
+use Rattle.std.specs.{Cmp.Lexicographic.{slice_cmp, nat_list_cmp_total, texts_ties, same_text}, Cmp.nat_cmp_is}
+use Rattle.std.proofs.lemmas.{Bool.cases_lt, Cmp.tied_itself, List.{length-drop, take-append-drop}, Grind.common_steps}
+use Rattle.std.proofs.lemmas.Bool.Decides.{nat_tests}
+use Rattle.const_oid.specs.{Base128.IsGroup, Contents.cut, Orders.{shortlex_cmp, shortlex_cmp_total, parts_cmp}}
+use Rattle.const_oid.specs.{Identifier.{RootRule, IsIdentifier, IsEncoding, subidentifiers}, Tree.BeginsWith}
+use Rattle.const_oid.proofs.{BeginsWith.{before_more, between}, Cutting.{cut_after-last, cut_after-more}}
 use Rattle.const_oid.proofs.Encodings.{cut_encoding, same_arcs, same_octets}
 use Rattle.const_oid.proofs.Orders.{groups_cmp, groups_short, shortlex_cmp-less, split_cmp}
-use Rattle.std.proofs.lemmas.Bool.Decides.{nat_tests}
-use Rattle.std.proofs.lemmas.Grind.{common_steps}
 
 -- ---- octets compared from an index on
 

@@ -1,12 +1,10 @@
 -- The digits of a number.
-use Rattle.std.proofs.lemmas.Grind.{common_steps}
-use Rattle.std.proofs.lemmas.Bool.Decides.{nat_tests}
-use Rattle.std.proofs.Common.{◌≡◌, Bool, true, false, ℕ, zero, suc, ◌+◌, ◌-◌, ◌/◌, ◌^◌, ◌<◌, ◌≤◌, List, ◌++◌, length, drop, ap, ◌∙◌, ◌%◌, arith, decimal, nat_lt, if◌then◌else◌, length-append, pow-suc}
-use Rattle.std.proofs.lemmas.Fmt.{decimal_digit, decimal_step, length-decimal-le, IsAscii-decimal}
+use Rattle.std.proofs.Common.{◌≡◌, Bool, true, false, ℕ, zero, suc, ◌+◌, ◌-◌, ◌/◌, ◌^◌, ◌<◌, ◌≤◌, List, ◌++◌, length}
+use Rattle.std.proofs.Common.{drop, ap, ◌∙◌, ◌%◌, arith, decimal, nat_lt, if◌then◌else◌, length-append, pow-suc}
 use Rattle.std.specs.Str.{IsAscii}
+use Rattle.std.proofs.lemmas.{Grind.common_steps, Bool.Decides.nat_tests, List.{drop-drop, drop-set-lt, take_more_set}}
+use Rattle.std.proofs.lemmas.{Fmt.{decimal_digit, decimal_step, length-decimal-le, IsAscii-decimal}, Slice.drop-put_mid}
 use Rattle.const_oid.specs.Private.Text.{arc_text, pair_text}
-use Rattle.std.proofs.lemmas.List.{drop-drop, drop-set-lt, take_more_set}
-use Rattle.std.proofs.lemmas.Slice.{drop-put_mid}
 
 pub length_digit : (n : ℕ) → n < 10 → length (decimal n) ≡ 1
 length_digit n h = ap length (decimal_digit n h)

@@ -1,19 +1,16 @@
 -- Octets without a fault are the encoding of their arcs, and encodings have no fault but their length; each identifier has just one encoding.
-use Rattle.std.proofs.Common.{true, ◌≡◌, ◌≢◌, ℕ, ◌+◌, ◌*◌, ◌/◌, ◌<◌, ◌≤◌, false, List, [], ◌∷◌, length, map, slice_index, Some, None, refl, sym, ◌∙◌, arith, lt-ltb, le-ltb, ◌++◌, drop, ap, min, rules}
-use Rattle.std.specs.List.{AllByRecursion, AllZip, concat}
-use Rattle.std.specs.Prelude.{◌↔◌}
-use Rattle.std.proofs.lemmas.List.{drop-map, length-take}
-use Rattle.std.proofs.lemmas.Bool.Decides.{nat_tests}
-use Rattle.const_oid.specs.declared.error.Error.TheVariants.{ArcInvalid, Length}
-use Rattle.const_oid.specs.declared.oid_ref.ObjectIdentifierRef.{ObjectIdentifierRef}
-use Rattle.const_oid.specs.declared.oid.ObjectIdentifier.{ObjectIdentifier}
+use Rattle.std.proofs.Common.{true, ◌≡◌, ◌≢◌, ℕ, ◌+◌, ◌*◌, ◌/◌, ◌<◌, ◌≤◌, false, List, [], ◌∷◌, length, map, rules}
+use Rattle.std.proofs.Common.{slice_index, Some, None, refl, sym, ◌∙◌, arith, lt-ltb, le-ltb, ◌++◌, drop, ap, min}
+use Rattle.std.specs.{List.{AllByRecursion, AllZip, concat}, Prelude.◌↔◌}
+use Rattle.std.proofs.lemmas.{List.{drop-map, length-take}, Bool.Decides.nat_tests}
+use Rattle.const_oid.specs.{declared.error.Error.TheVariants.{ArcInvalid, Length}, Identifier.{encoding_of, root_rule}}
+use Rattle.const_oid.specs.{declared.oid_ref.ObjectIdentifierRef.ObjectIdentifierRef, OidRef.{ref_octets, ref_arcs}}
+use Rattle.const_oid.specs.{declared.oid.ObjectIdentifier.ObjectIdentifier, Oid.{oid_octets, oid_arcs}}
 use Rattle.const_oid.specs.Base128.{value_of, IsContinued, AreOctets, IsGroup, group_of}
-use Rattle.const_oid.specs.Identifier.{RootRule, Narrow, Wide, max_arc, IsEncoding, subidentifiers, IsIdentifier, encoding_of, root_rule}
-use Rattle.const_oid.specs.Contents.{cut, is_finished, begins_with_128, part_fault, first_fault, later_fault, parts_fault, max_first, octet_fault, arcs_of_octets}
-use Rattle.const_oid.specs.OidRef.{ref_octets, ref_arcs}
-use Rattle.const_oid.specs.Oid.{oid_octets, oid_arcs}
-use Rattle.const_oid.proofs.Faults.{both_none, below_from_none}
-use Rattle.const_oid.proofs.Groups.{small_is, group-small, group_is, same_group}
+use Rattle.const_oid.specs.Identifier.{RootRule, Narrow, Wide, max_arc, IsEncoding, subidentifiers, IsIdentifier}
+use Rattle.const_oid.specs.Contents.{cut, is_finished, begins_with_128, part_fault, first_fault, later_fault}
+use Rattle.const_oid.specs.Contents.{parts_fault, max_first, octet_fault, arcs_of_octets}
+use Rattle.const_oid.proofs.{Faults.{both_none, below_from_none}, Groups.{small_is, group-small, group_is, same_group}}
 use Rattle.const_oid.proofs.Subidentifiers.{InRange, in_range, arcs_back, numbers_back, first_in_range}
 use Rattle.const_oid.proofs.Cutting.{cut_chains, concat-cut, IsPart, parts_are, chain_from_part, finished_from_chain}
 

@@ -1,31 +1,18 @@
 -- For callers: what follows of identifiers that are held.
-use Rattle.std.proofs.Common.{◌≡◌, ◌≢◌, ℕ, zero, suc, ◌+◌, Bool, ◌&&◌, not, true, false, ◌<◌, ◌≤◌, List, [], length, min, Some, Ok, Less, nat_cmp, sym, arith, slice_get, length-append, append-nil}
-use Rattle.std.proofs.Math.Seq.{get_or-append_seam}
-use Rattle.std.proofs.lemmas.Bool.{and_parts, not-true}
-use Rattle.std.proofs.lemmas.Option.{gets}
-use Rattle.std.specs.Cmp.Lexicographic.{slice_cmp}
-use Rattle.std.specs.Ordering.{is_le, is_lt}
-use Rattle.std.specs.Prelude.{Result}
-use Rattle.std.specs.Iterator.{YieldsFirst}
-use Rattle.std.proofs.iter.Rest.{run_of_first}
-use Rattle.std.proofs.lemmas.Cmp.{nat_list_cmp_total}
-use Rattle.const_oid.specs.declared.oid.ObjectIdentifier.{ObjectIdentifier}
-use Rattle.const_oid.specs.declared.oid_ref.ObjectIdentifierRef.{ObjectIdentifierRef}
-use Rattle.const_oid.specs.declared.error.Error.{Error}
-use Rattle.const_oid.specs.Identifier.{RootRule, root_rule, IsIdentifier, size, encoding_of}
-use Rattle.const_oid.specs.Items.{item_answer, TakesItems}
-use Rattle.const_oid.specs.Oid.{oid_arcs, oid_octets}
-use Rattle.const_oid.specs.OidRef.{ref_arcs}
-use Rattle.const_oid.specs.Orders.{shortlex_cmp}
-use Rattle.const_oid.specs.Text.{text_of, text_answer}
-use Rattle.const_oid.specs.Tree.{BeginsWith, parent_of, child_of}
-use Rattle.const_oid.proofs.BeginsWith.{ancestor_short, ancestor_before}
-use Rattle.const_oid.proofs.Encodings.{oid_encoding, ref_encoding, oid_within, encoding_of-encoded}
-use Rattle.const_oid.proofs.Lengths.{length_is_size}
-use Rattle.const_oid.proofs.Texts.{text_denotes, text_fault-none}
-use Rattle.const_oid.proofs.Tree.{parent_of-child_of, child_of-parent_of}
-use Rattle.std.proofs.lemmas.Grind.{common_steps}
+use Rattle.std.proofs.Common.{◌≡◌, ◌≢◌, ℕ, zero, suc, ◌+◌, Bool, ◌&&◌, not, true, false, ◌<◌, ◌≤◌, List, [], length}
+use Rattle.std.proofs.Common.{min, Some, Ok, Less, nat_cmp, sym, arith, slice_get, length-append, append-nil}
+use Rattle.std.specs.{Cmp.Lexicographic.slice_cmp, Ordering.{is_le, is_lt}, Prelude.Result, Iterator.YieldsFirst}
+use Rattle.std.proofs.{Math.Seq.get_or-append_seam, iter.Rest.run_of_first}
+use Rattle.std.proofs.lemmas.{Bool.{and_parts, not-true}, Option.gets, Cmp.nat_list_cmp_total, Grind.common_steps}
 use Rattle.std.proofs.lemmas.Bool.Decides.{nat_tests}
+use Rattle.const_oid.specs.{declared.oid.ObjectIdentifier.ObjectIdentifier, declared.error.Error.Error, OidRef.ref_arcs}
+use Rattle.const_oid.specs.{declared.oid_ref.ObjectIdentifierRef.ObjectIdentifierRef, Items.{item_answer, TakesItems}}
+use Rattle.const_oid.specs.{Identifier.{RootRule, root_rule, IsIdentifier, size, encoding_of}, Orders.shortlex_cmp}
+use Rattle.const_oid.specs.{Oid.{oid_arcs, oid_octets}, Text.{text_of, text_answer}}
+use Rattle.const_oid.specs.Tree.{BeginsWith, parent_of, child_of}
+use Rattle.const_oid.proofs.{BeginsWith.{ancestor_short, ancestor_before}, Lengths.length_is_size}
+use Rattle.const_oid.proofs.Encodings.{oid_encoding, ref_encoding, oid_within, encoding_of-encoded}
+use Rattle.const_oid.proofs.{Texts.{text_denotes, text_fault-none}, Tree.{parent_of-child_of, child_of-parent_of}}
 
 -- its octets, which compute where its arcs are known
 pub octets_are : {N : ℕ} (oid : ObjectIdentifier N) → oid_octets oid ≡ encoding_of (oid_arcs oid)

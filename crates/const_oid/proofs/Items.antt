@@ -1,15 +1,13 @@
 -- Lists of arcs have no fault exactly where they are identifiers that fit.
-use Rattle.std.proofs.Common.{◌≡◌, ℕ, ◌+◌, ◌*◌, ◌≤◌, List, [], ◌∷◌, ◌++◌, None, arith, append_assoc, append-nil, le-ltb, nat_lt, rules}
+use Rattle.std.proofs.Common.{◌≡◌, ℕ, ◌+◌, ◌*◌, ◌≤◌, List, [], ◌∷◌, ◌++◌, None, arith, append_assoc, append-nil, le-ltb}
+use Rattle.std.proofs.Common.{nat_lt, rules}
 use Rattle.std.specs.List.{AllByRecursion}
-use Rattle.std.proofs.lemmas.Bool.Decides.{nat_tests}
-use Rattle.const_oid.specs.declared.error.Error.TheVariants.{ArcInvalid}
+use Rattle.std.proofs.lemmas.{Bool.Decides.nat_tests, Grind.common_steps}
+use Rattle.const_oid.specs.{declared.error.Error.TheVariants.ArcInvalid, Error.fault_if}
 use Rattle.const_oid.specs.Identifier.{RootRule, max_arc, max_second, IsIdentifier, size}
-use Rattle.const_oid.specs.Error.{fault_if}
 use Rattle.const_oid.specs.Items.{arc_fault, too_few_fault, items_fault, item_fault}
-use Rattle.const_oid.proofs.Lists.{append-cons, all_append}
-use Rattle.const_oid.proofs.Faults.{both_none}
+use Rattle.const_oid.proofs.{Lists.{append-cons, all_append}, Faults.both_none}
 use Rattle.const_oid.proofs.Lengths.{size-cons, size_prefix, root_short}
-use Rattle.std.proofs.lemmas.Grind.{common_steps}
 
 -- a second arc is rejected for its range alone
 pub second_fits : (rule : RootRule) (capacity : ℕ) (first second : ℕ) → 5 ≤ capacity → first ≤ 2 → arc_fault rule capacity (first ∷ []) second ≡ fault_if (nat_lt (max_second rule first) second) (ArcInvalid second)

@@ -1,14 +1,11 @@
 -- How many octets arcs take, and how many arcs octets encode.
-use Rattle.std.proofs.lemmas.Bool.Decides.{nat_tests}
-use Rattle.std.proofs.Common.{◌≡◌, ℕ, ◌+◌, ◌*◌, ◌≤◌, List, [], ◌∷◌, ◌++◌, refl, arith, sum_by, nat_lt, length, length-append, count_by}
+use Rattle.std.proofs.Common.{◌≡◌, ℕ, ◌+◌, ◌*◌, ◌≤◌, List, [], ◌∷◌, ◌++◌, refl, arith, sum_by, nat_lt, length}
+use Rattle.std.proofs.Common.{length-append, count_by}
 use Rattle.std.specs.List.{AllByRecursion, AllZip, concat}
-use Rattle.std.proofs.lemmas.List.Sums.{sum_by-cons, sum_by-append}
-use Rattle.std.proofs.lemmas.Slice.Zip.{AllZip-long}
-use Rattle.const_oid.specs.Base128.{width, IsGroup, IsContinued}
+use Rattle.std.proofs.lemmas.{Bool.Decides.nat_tests, List.Sums.{sum_by-cons, sum_by-append}, Slice.Zip.AllZip-long}
+use Rattle.const_oid.specs.{Base128.{width, IsGroup, IsContinued}, Contents.{max_first, cut}}
 use Rattle.const_oid.specs.Identifier.{RootRule, Narrow, Wide, IsIdentifier, size, IsEncoding, subidentifiers}
-use Rattle.const_oid.specs.Contents.{max_first, cut}
-use Rattle.const_oid.proofs.Groups.{width_is, length_is, small_is}
-use Rattle.const_oid.proofs.Encodings.{groups_continued, cut_encoding}
+use Rattle.const_oid.proofs.{Groups.{width_is, length_is, small_is}, Encodings.{groups_continued, cut_encoding}}
 
 -- ---- octets of arcs
 

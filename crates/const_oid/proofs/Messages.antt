@@ -1,8 +1,6 @@
 -- The texts of the errors, by the words and the number.
-use Rattle.std.proofs.Common.{◌≡◌, ℕ, ◌+◌, List, ◌++◌, length, ap, arith, length-append}
-use Rattle.const_oid.specs.declared.error.Error.{Error}
-use Rattle.const_oid.specs.Error.{message_of}
-use Rattle.const_oid.specs.Private.Text.{detail_text}
+use Rattle.std.proofs.Common.{◌≡◌, ℕ, ◌+◌, List, ◌++◌, length, arith, length-append}
+use Rattle.const_oid.specs.{declared.error.Error.Error, Error.message_of, Private.Text.detail_text}
 
 -- the words before the number, and those after it
 pub parts_long : (error : Error) (before after : List ℕ) → message_of error ≡ before ++ (detail_text error ++ after)

@@ -1,12 +1,10 @@
 -- Octets in an array that is zero past those in use.
-use Rattle.std.proofs.lemmas.Grind.{common_steps}
-use Rattle.std.proofs.Common.{◌≡◌, ℕ, ◌+◌, ◌-◌, ◌≤◌, List, [], ◌∷◌, ◌++◌, length, take, drop, replicate, arith, suc, append_assoc, length-append, slice_index, EachIndex, cond, nat_lt, ◌^◌, ◌<◌}
-use Rattle.std.proofs.lemmas.List.{drop_at, drop-replicate, drop-drop, length-take-le}
-use Rattle.const_oid.specs.Base128.{IsContinued, IsGroup, AreOctets, width}
-use Rattle.const_oid.specs.Private.Octets.{GoesOn}
-use Rattle.const_oid.proofs.Lists.{all_append}
-use Rattle.const_oid.proofs.Groups.{length_is, width_is, width_between}
+use Rattle.std.proofs.Common.{◌≡◌, ℕ, ◌+◌, ◌-◌, ◌≤◌, List, [], ◌∷◌, ◌++◌, length, take, drop, replicate, arith, suc}
+use Rattle.std.proofs.Common.{append_assoc, length-append, slice_index, EachIndex, cond, nat_lt, ◌^◌, ◌<◌}
+use Rattle.std.proofs.lemmas.{Grind.common_steps, List.{drop_at, drop-replicate, drop-drop, length-take-le}}
 use Rattle.std.proofs.lemmas.Bool.Decides.{nat_tests}
+use Rattle.const_oid.specs.{Base128.{IsContinued, IsGroup, AreOctets, width}, Private.Octets.GoesOn}
+use Rattle.const_oid.proofs.{Lists.all_append, Groups.{length_is, width_is, width_between}}
 
 -- octets by what is read at each index
 pub are_octets : (octets : List ℕ) → EachIndex octets (λ k. slice_index octets k < 256) → AreOctets octets

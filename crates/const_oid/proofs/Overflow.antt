@@ -1,13 +1,9 @@
 -- No fault is `Overflow`, and under the wide rule none of octets is an arc out of range.
-use Rattle.std.proofs.Common.{◌≢◌, ℕ, List, [], ◌∷◌, ◌++◌, Some}
+use Rattle.std.proofs.Common.{◌≢◌, ℕ, List, [], ◌∷◌, ◌++◌, Some, arith}
 use Rattle.std.proofs.lemmas.Bool.Decides.{nat_tests}
-use Rattle.std.proofs.Common.{arith}
-use Rattle.const_oid.specs.declared.error.Error.{Error}
+use Rattle.const_oid.specs.{declared.error.Error.Error, Identifier.{RootRule, Wide}, Items.{arc_fault, items_fault}}
 use Rattle.const_oid.specs.declared.error.Error.TheVariants.{ArcInvalid, ArcTooBig, Base128, Overflow}
-use Rattle.const_oid.specs.Identifier.{RootRule, Wide}
-use Rattle.const_oid.specs.Contents.{later_fault, octet_fault}
-use Rattle.const_oid.specs.Items.{arc_fault, items_fault}
-use Rattle.const_oid.specs.Text.{number_of, piece_fault, pieces_fault}
+use Rattle.const_oid.specs.{Contents.{later_fault, octet_fault}, Text.{number_of, piece_fault, pieces_fault}}
 
 -- ---- octets
 

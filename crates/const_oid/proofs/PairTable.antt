@@ -1,10 +1,8 @@
 -- The table of pairs has the digits of each number below a hundred.
-use Rattle.std.proofs.lemmas.Fmt.{decimal_digit}
-use Rattle.const_oid.proofs.Decimals.{length_digit, length_two, length_pair, decimal_two, decimal_pair}
-use Rattle.std.proofs.lemmas.List.FromFn.{get_or-map-range_with_len}
 use Rattle.std.proofs.Common.{◌≡◌, ℕ, ◌<◌, List, [], ◌∷◌, get_or, length, slice_set, refl, arith}
-use Rattle.const_oid.specs.declared.digits.TheConstants.{PAIRS}
-use Rattle.const_oid.specs.Private.Text.{pair_text}
+use Rattle.std.proofs.lemmas.{Fmt.decimal_digit, List.FromFn.get_or-map-range_with_len}
+use Rattle.const_oid.specs.{declared.digits.TheConstants.PAIRS, Private.Text.pair_text}
+use Rattle.const_oid.proofs.Decimals.{length_digit, length_two, length_pair, decimal_two, decimal_pair}
 
 pub PAIRS_at : (p : ℕ) → p < 100 → get_or PAIRS p [] ≡ pair_text p
 PAIRS_at p h = get_or-map-range_with_len pair_text 0 100 p p [] h (omega arith)

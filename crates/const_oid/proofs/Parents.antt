@@ -1,19 +1,14 @@
 -- Octets without their last part.
-use Rattle.std.proofs.Common.{◌≡◌, ◌≢◌, ℕ, zero, suc, ◌+◌, ◌-◌, ◌<◌, ◌≤◌, List, [], ◌∷◌, ◌++◌, length, map, take, drop, slice_index, Some, None, refl, ap, ◌∙◌, arith, lt-ltb, length-append, rules}
-use Rattle.std.specs.Prelude.{◌↔◌}
-use Rattle.std.specs.List.{onto_first, concat}
-use Rattle.std.proofs.lemmas.List.{length-map, take-map, take-append-drop}
-use Rattle.std.proofs.lemmas.List.Folds.{concat-append}
-use Rattle.std.proofs.lemmas.Bool.Decides.{nat_tests}
-use Rattle.const_oid.specs.Base128.{value_of}
-use Rattle.const_oid.specs.Identifier.{RootRule, IsIdentifier, IsEncoding}
+use Rattle.std.proofs.Common.{◌≡◌, ◌≢◌, ℕ, zero, suc, ◌+◌, ◌-◌, ◌<◌, ◌≤◌, List, [], ◌∷◌, ◌++◌, length, map, take, drop}
+use Rattle.std.proofs.Common.{slice_index, Some, None, refl, ap, ◌∙◌, arith, lt-ltb, length-append, rules}
+use Rattle.std.specs.{Prelude.◌↔◌, List.{onto_first, concat}}
+use Rattle.std.proofs.lemmas.{List.{length-map, take-map, take-append-drop}, List.Folds.concat-append}
+use Rattle.std.proofs.lemmas.{Bool.Decides.nat_tests, Grind.common_steps}
+use Rattle.const_oid.specs.{Base128.value_of, Identifier.{RootRule, IsIdentifier, IsEncoding}}
 use Rattle.const_oid.specs.Contents.{cut, cut_after, later_fault, parts_fault, arcs_from, arcs_of_octets}
 use Rattle.const_oid.specs.Tree.{BeginsWith, parent_of}
-use Rattle.const_oid.proofs.Tree.{child_of-parent_of}
-use Rattle.const_oid.proofs.Children.{encoding_parent}
-use Rattle.const_oid.proofs.Lengths.{length_by_parts}
+use Rattle.const_oid.proofs.{Tree.child_of-parent_of, Children.encoding_parent, Lengths.length_by_parts}
 use Rattle.const_oid.proofs.Cutting.{cut_after-last, cut_after-more, cut-some, concat-cut}
-use Rattle.std.proofs.lemmas.Grind.{common_steps}
 
 -- ---- where the last part begins
 

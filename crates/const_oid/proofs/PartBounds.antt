@@ -1,17 +1,13 @@
 -- Where parts of octets begin and end.
-use Rattle.std.proofs.lemmas.Grind.{common_steps}
-use Rattle.std.proofs.Common.{◌≡◌, ◌≢◌, ℕ, zero, suc, ◌+◌, ◌-◌, ◌<◌, ◌≤◌, List, [], ◌∷◌, length, map, take, drop, get_or, slice_get, Some, None, refl, sym, ap, ◌∙◌, arith}
-use Rattle.std.specs.List.{onto_first}
+use Rattle.std.proofs.Common.{◌≡◌, ◌≢◌, ℕ, zero, suc, ◌+◌, ◌-◌, ◌<◌, ◌≤◌, List, [], ◌∷◌, length, map, take, drop}
+use Rattle.std.proofs.Common.{get_or, slice_get, Some, None, refl, sym, ap, ◌∙◌, arith}
+use Rattle.std.specs.{List.onto_first, Option.option_map}
 use Rattle.std.proofs.Math.Seq.{drop-nil}
-use Rattle.std.specs.Option.{option_map}
-use Rattle.std.proofs.lemmas.List.{drop-map, drop_more, length-drop}
+use Rattle.std.proofs.lemmas.{Grind.common_steps, List.{drop-map, drop_more, length-drop}, Bool.Decides.nat_tests}
 use Rattle.std.proofs.lemmas.Option.{slice_get-map, slice_get_past, slice_get-get_or}
-use Rattle.std.proofs.lemmas.Bool.Decides.{nat_tests}
-use Rattle.const_oid.specs.Base128.{value_of}
-use Rattle.const_oid.specs.Identifier.{RootRule, IsEncoding}
+use Rattle.const_oid.specs.{Base128.value_of, Identifier.{RootRule, IsEncoding}}
 use Rattle.const_oid.specs.Contents.{cut, cut_after, arcs_from, arcs_of_octets, parts_fault, later_fault}
-use Rattle.const_oid.proofs.Faults.{both_none}
-use Rattle.const_oid.proofs.Encodings.{arcs_of_encoding}
+use Rattle.const_oid.proofs.{Faults.both_none, Encodings.arcs_of_encoding}
 
 -- ---- after so many parts
 

@@ -1,18 +1,14 @@
 -- The faults of octets by their first part, and what octets without a fault begin with.
-use Rattle.std.proofs.Common.{◌≡◌, ◌≢◌, ℕ, ◌+◌, ◌*◌, ◌^◌, ◌<◌, ◌≤◌, Bool, true, false, if◌then◌else◌, nat_lt, List, [], ◌∷◌, ◌++◌, length, map, take, drop, get_or, slice_index, None, Some, refl, arith, length-append}
+use Rattle.std.proofs.Common.{◌≡◌, ◌≢◌, ℕ, ◌+◌, ◌*◌, ◌^◌, ◌<◌, ◌≤◌, Bool, true, false, if◌then◌else◌, nat_lt, List, []}
+use Rattle.std.proofs.Common.{◌∷◌, ◌++◌, length, map, take, drop, get_or, slice_index, None, Some, refl, arith}
+use Rattle.std.proofs.Common.{length-append}
 use Rattle.std.specs.List.{AllByRecursion, onto_first}
-use Rattle.std.proofs.lemmas.List.{take_all}
-use Rattle.std.proofs.lemmas.Nat.{pow-add}
 use Rattle.std.proofs.Math.Nat.{one-le-pow, le-mul_of_pos_right}
-use Rattle.const_oid.specs.declared.error.Error.TheVariants.{ArcTooBig, Base128}
-use Rattle.const_oid.proofs.Lists.{append-cons}
-use Rattle.std.proofs.lemmas.Bool.Decides.{nat_tests}
-use Rattle.const_oid.specs.Base128.{value_of}
-use Rattle.const_oid.specs.Identifier.{root_rule, max_arc}
-use Rattle.const_oid.specs.Contents.{cut, later_fault, parts_fault, max_first}
-use Rattle.const_oid.specs.Private.Octets.{fault_from}
-use Rattle.const_oid.specs.Private.Groups.{IsLong}
-use Rattle.const_oid.proofs.Cutting.{cut_after-more, cut-some}
+use Rattle.std.proofs.lemmas.{List.take_all, Nat.pow-add, Bool.Decides.nat_tests}
+use Rattle.const_oid.specs.{declared.error.Error.TheVariants.{ArcTooBig, Base128}, Base128.value_of}
+use Rattle.const_oid.specs.{Identifier.{root_rule, max_arc}, Contents.{cut, later_fault, parts_fault, max_first}}
+use Rattle.const_oid.specs.{Private.Octets.fault_from, Private.Groups.IsLong}
+use Rattle.const_oid.proofs.{Lists.append-cons, Cutting.{cut_after-more, cut-some}}
 
 -- from the start of a later part
 pub parts_from_later : (octets : List ℕ) → octets ≢ [] → later_fault (cut octets) ≡ None

@@ -1,17 +1,10 @@
 -- The length of printed text: four bytes an octet at most.
-use Rattle.std.proofs.lemmas.Grind.{common_steps}
-use Rattle.std.proofs.lemmas.Bool.Decides.{nat_tests}
 use Rattle.std.proofs.Common.{◌≡◌, ℕ, ◌+◌, ◌*◌, ◌^◌, ◌<◌, ◌≤◌, List, [], ◌∷◌, length, arith, decimal, sum_by}
 use Rattle.std.specs.List.{AllByRecursion}
 use Rattle.std.proofs.Math.Nat.{pow-le-pow_right}
-use Rattle.std.proofs.lemmas.Fmt.{length-decimal-le}
-use Rattle.const_oid.specs.Base128.{width}
-use Rattle.const_oid.specs.Identifier.{RootRule, max_arc, max_second, IsEncoding}
-use Rattle.const_oid.specs.Text.{text_of}
-use Rattle.const_oid.proofs.Subidentifiers.{second_low}
-use Rattle.const_oid.proofs.Groups.{width_is}
-use Rattle.const_oid.proofs.Texts.{second_small}
-use Rattle.const_oid.proofs.Lengths.{length_is_size}
+use Rattle.std.proofs.lemmas.{Grind.common_steps, Bool.Decides.nat_tests, Fmt.length-decimal-le}
+use Rattle.const_oid.specs.{Base128.width, Identifier.{RootRule, max_arc, max_second, IsEncoding}, Text.text_of}
+use Rattle.const_oid.proofs.{Subidentifiers.second_low, Groups.width_is, Texts.second_small, Lengths.length_is_size}
 
 -- a number past a power is wider than its exponent
 wider : (n k : ℕ) → 128 ^ k ≤ n → k < width n

@@ -1,11 +1,8 @@
 -- Sets of lemmas that functions name.
 use Rattle.std.proofs.Math.Seq.{take-append_seam}
-use Rattle.std.proofs.lemmas.Fmt.{IsAscii-decimal}
-use Rattle.std.proofs.lemmas.Slice.{drop-put_mid}
-use Rattle.std.proofs.lemmas.Str.{IsUtf8-from_ascii}
-use Rattle.const_oid.proofs.PartsFault.{parts_from_later, later_small}
+use Rattle.std.proofs.lemmas.{Fmt.IsAscii-decimal, Slice.drop-put_mid, Str.IsUtf8-from_ascii}
+use Rattle.const_oid.proofs.{PartsFault.{parts_from_later, later_small}, Texts.{length-text_left, text_left-nil}}
 use Rattle.const_oid.proofs.PartBounds.{valid_after, none_after, arc_after}
-use Rattle.const_oid.proofs.Texts.{length-text_left, text_left-nil}
 
 -- octets after some parts
 pub ruleset parts_left = (parts_from_later, later_small, valid_after, none_after, arc_after)

@@ -1,30 +1,21 @@
 -- Sorted tables of names: where an identifier's first entry is, and what is above an identifier.
-use Rattle.std.proofs.Common.{◌≡◌, ◌≢◌, ◌+◌, ◌-◌, ◌<◌, ◌≤◌, ℕ, Bool, true, false, cond, List, [], ◌∷◌, ◌++◌, length, take, drop, get_or, Option, Some, None, nat_cmp, refl, sym, ap, ◌∙◌, arith, Bor, slice_get, length-append, append-nil, append_assoc}
-use Rattle.std.specs.Cmp.Lexicographic.{slice_cmp, same_text, texts_ties}
+use Rattle.std.proofs.Common.{◌≡◌, ◌≢◌, ◌+◌, ◌-◌, ◌<◌, ◌≤◌, ℕ, Bool, true, false, cond, List, [], ◌∷◌, ◌++◌, length}
+use Rattle.std.proofs.Common.{take, drop, get_or, Option, Some, None, nat_cmp, refl, sym, ap, ◌∙◌, arith, Bor}
+use Rattle.std.proofs.Common.{slice_get, length-append, append-nil, append_assoc}
+use Rattle.std.specs.{Cmp.Lexicographic.{slice_cmp, same_text, texts_ties}, Ordering.{is_le, is_ge}}
 use Rattle.std.specs.List.{All, AllWithin, HoldsAt, IsFirstMatchOrLen, find}
 use Rattle.std.specs.List.Sorted.{IsPartitionPoint, IsPartitionedBy, IsSortedByKey}
 use Rattle.std.specs.Option.{MatchOption, option_and_then, option_copied}
-use Rattle.std.specs.Ordering.{is_le, is_ge}
-use Rattle.std.proofs.lemmas.Cmp.{nat_list_cmp_total, nat_list_eq_equiv}
-use Rattle.std.proofs.lemmas.List.{take-append-drop}
-use Rattle.std.proofs.lemmas.List.Elements.{All-append}
-use Rattle.std.proofs.lemmas.List.Folds.{find_at}
-use Rattle.std.proofs.lemmas.List.Sorted.{ranks_by, sorted_far}
-use Rattle.std.proofs.lemmas.List.Sums.{fails_before_first, passes_at_first}
-use Rattle.std.proofs.lemmas.Option.{gets, slice_get_cases}
-use Rattle.const_oid.specs.declared.oid_ref.ObjectIdentifierRef.{ObjectIdentifierRef}
-use Rattle.const_oid.specs.Identifier.{root_rule}
-use Rattle.const_oid.specs.Names.{Entry, oid_of, entry_arcs, has_arcs, IsNearest, IsSubtree}
-use Rattle.const_oid.specs.OidRef.{ref_arcs}
-use Rattle.const_oid.specs.Tree.{BeginsWith, parent_of}
-use Rattle.const_oid.proofs.BeginsWith.{is_before, under_iff, under_apart, not_greater}
-use Rattle.const_oid.proofs.ByParts.{run_between}
-use Rattle.const_oid.proofs.Encodings.{ref_encoding}
-use Rattle.const_oid.proofs.Parents.{none_of_two, two_arcs}
-use Rattle.const_oid.proofs.Subtree.{IsCut, key_before, key_under, cut_by}
-use Rattle.const_oid.proofs.Tree.{child_of-parent_of}
-use Rattle.std.proofs.lemmas.Grind.{common_steps}
+use Rattle.std.proofs.lemmas.{Cmp.{nat_list_cmp_total, nat_list_eq_equiv}, List.take-append-drop, List.Folds.find_at}
+use Rattle.std.proofs.lemmas.{List.Elements.All-append, List.Sorted.{ranks_by, sorted_far}, Grind.common_steps}
+use Rattle.std.proofs.lemmas.{List.Sums.{fails_before_first, passes_at_first}, Option.{gets, slice_get_cases}}
 use Rattle.std.proofs.lemmas.Bool.Decides.{nat_tests}
+use Rattle.const_oid.specs.{declared.oid_ref.ObjectIdentifierRef.ObjectIdentifierRef, Identifier.root_rule}
+use Rattle.const_oid.specs.{Names.{Entry, oid_of, entry_arcs, has_arcs, IsNearest, IsSubtree}, OidRef.ref_arcs}
+use Rattle.const_oid.specs.Tree.{BeginsWith, parent_of}
+use Rattle.const_oid.proofs.{BeginsWith.{is_before, under_iff, under_apart, not_greater}, ByParts.run_between}
+use Rattle.const_oid.proofs.{Encodings.ref_encoding, Parents.{none_of_two, two_arcs}, Tree.child_of-parent_of}
+use Rattle.const_oid.proofs.Subtree.{IsCut, key_before, key_under, cut_by}
 
 -- ---- the first element that passes a test
 

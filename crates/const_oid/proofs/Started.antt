@@ -1,18 +1,12 @@
 -- What an encoder holds, and what one more arc makes of it.
-use Rattle.std.proofs.lemmas.Bool.Decides.{nat_tests}
-use Rattle.std.proofs.Common.{◌≡◌, ℕ, ◌+◌, ◌*◌, ◌<◌, ◌≤◌, List, [], ◌∷◌, ◌++◌, length, nat_lt, Option, Some, None, Result, Ok, Err, OnOk, OnErr, sym, ap, ◌∙◌, subst, arith}
+use Rattle.std.proofs.Common.{◌≡◌, ℕ, ◌+◌, ◌*◌, ◌<◌, ◌≤◌, List, [], ◌∷◌, ◌++◌, length, nat_lt, Option, Some, None}
+use Rattle.std.proofs.Common.{Result, Ok, Err, OnOk, OnErr, sym, ap, ◌∙◌, subst, arith}
 use Rattle.std.specs.Result.{result_err}
-use Rattle.const_oid.specs.declared.error.Error.{Error}
-use Rattle.const_oid.specs.declared.error.Error.TheVariants.{ArcInvalid, Length}
-use Rattle.const_oid.specs.Base128.{width}
-use Rattle.const_oid.specs.Private.Encoder.{arcs_given, IsStarted}
-use Rattle.const_oid.specs.Private.Octets.{GoesOn, IsAppended}
-use Rattle.const_oid.specs.Identifier.{RootRule, max_arc, max_second, IsEncoding}
-use Rattle.const_oid.specs.Error.{fault_if}
-use Rattle.const_oid.specs.Items.{arc_fault}
-use Rattle.const_oid.proofs.Faults.{none_from_below}
-use Rattle.const_oid.proofs.Encodings.{arcs_of_encoding, encoding_back}
-use Rattle.const_oid.proofs.Lengths.{size_push}
+use Rattle.std.proofs.lemmas.Bool.Decides.{nat_tests}
+use Rattle.const_oid.specs.{declared.error.Error.Error, declared.error.Error.TheVariants.{Length}}
+use Rattle.const_oid.specs.{Base128.width, Private.Encoder.{arcs_given, IsStarted}, Private.Octets.{GoesOn, IsAppended}}
+use Rattle.const_oid.specs.{Identifier.{RootRule, max_arc, max_second, IsEncoding}, Error.fault_if, Items.arc_fault}
+use Rattle.const_oid.proofs.{Faults.none_from_below, Encodings.{arcs_of_encoding, encoding_back}, Lengths.size_push}
 use Rattle.const_oid.proofs.Children.{encoding_two, child_encoding}
 
 -- the octets in use are the encoding of the arcs given

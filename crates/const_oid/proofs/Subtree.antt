@@ -1,19 +1,14 @@
 -- Where a test cuts a sorted list, and where a sorted list holds the identifiers that begin with one.
-use Rattle.std.proofs.Common.{◌≡◌, ◌+◌, ◌<◌, ℕ, suc, Bool, true, false, cond, List, [], ◌∷◌, length, get_or, count_by, arith, ◌≤◌, nat_cmp, ◌-◌, drop}
-use Rattle.std.specs.Prelude.{◌↔◌, IfSome, slice_get}
-use Rattle.std.specs.List.Sorted.{IsPartitionedBy, IsPartitionPoint, IsSortedByKey}
+use Rattle.std.proofs.Common.{◌≡◌, ◌+◌, ◌<◌, ℕ, suc, Bool, true, false, cond, List, [], ◌∷◌, length, get_or, count_by}
+use Rattle.std.proofs.Common.{arith, ◌≤◌, nat_cmp, ◌-◌, drop}
+use Rattle.std.specs.{Prelude.{◌↔◌, IfSome, slice_get}, List.Sorted.{IsPartitionedBy, IsPartitionPoint, IsSortedByKey}}
 use Rattle.std.specs.Cmp.Lexicographic.{slice_cmp}
-use Rattle.std.proofs.lemmas.Bool.{or_right}
-use Rattle.std.proofs.lemmas.List.{get_or-drop, length-drop}
-use Rattle.std.proofs.lemmas.List.Sorted.{sorted_far, ranks_by}
-use Rattle.std.proofs.lemmas.List.Sums.{sum_by-cons}
-use Rattle.std.proofs.lemmas.Cmp.{nat_list_cmp_total}
-use Rattle.std.proofs.lemmas.Option.{slice_get_cases}
-use Rattle.const_oid.specs.declared.oid_ref.ObjectIdentifierRef.{ObjectIdentifierRef}
-use Rattle.const_oid.specs.OidRef.{ref_octets, ref_arcs}
+use Rattle.std.proofs.lemmas.{Bool.or_right, List.{get_or-drop, length-drop}, List.Sorted.{sorted_far, ranks_by}}
+use Rattle.std.proofs.lemmas.{List.Sums.sum_by-cons, Cmp.nat_list_cmp_total, Option.slice_get_cases}
+use Rattle.const_oid.specs.{declared.oid_ref.ObjectIdentifierRef.ObjectIdentifierRef, OidRef.{ref_octets, ref_arcs}}
 use Rattle.const_oid.specs.Tree.{BeginsWith}
-use Rattle.const_oid.proofs.Encodings.{ref_encoding}
-use Rattle.const_oid.proofs.BeginsWith.{is_before, is_under, is_within, under_iff, under_apart, before_down, within_down, iff_begins}
+use Rattle.const_oid.proofs.{Encodings.ref_encoding, BeginsWith.{within_down, iff_begins}}
+use Rattle.const_oid.proofs.BeginsWith.{is_before, is_under, is_within, under_iff, under_apart, before_down}
 
 -- a test holds of the elements below an index, and of no other
 abbrev pub IsCut : {X : Type 0} → (X → Bool) → List X → ℕ → Type 0

@@ -1,17 +1,13 @@
 -- What the items that an iterator gave say of each list that they begin.
-use Rattle.std.proofs.Common.{◌≡◌, ℕ, List, [], ◌∷◌, ◌++◌, None, refl, arith, append_assoc, append-nil, true, false, drop, length, Option, Some, sym, ap, ◌∙◌}
-use Rattle.std.specs.Prelude.{Result, Ok, Err, IfOk, IsErrAnd}
-use Rattle.std.specs.Iterator.{Yields}
-use Rattle.std.specs.Iterator.Runs.{Run, ItemsAre}
+use Rattle.std.proofs.Common.{◌≡◌, ℕ, List, [], ◌∷◌, ◌++◌, None, refl, arith, append_assoc, append-nil, true, false}
+use Rattle.std.proofs.Common.{drop, length, Option, Some, sym, ap, ◌∙◌}
+use Rattle.std.specs.{Prelude.{Result, Ok, Err, IfOk, IsErrAnd}, Iterator.Yields, Iterator.Runs.{Run, ItemsAre}}
 use Rattle.std.specs.Result.{result_err, result_map_both}
 use Rattle.std.proofs.iter.runs.Made.{run, to_end, to_item}
 use Rattle.std.proofs.lemmas.List.Prefix.{front_from_reads}
-use Rattle.const_oid.specs.declared.error.Error.{Error}
-use Rattle.const_oid.specs.Identifier.{RootRule, IsEncoding}
-use Rattle.const_oid.specs.Contents.{arcs_of_octets}
+use Rattle.const_oid.specs.{declared.error.Error.Error, Identifier.{RootRule, IsEncoding}, Contents.arcs_of_octets}
 use Rattle.const_oid.specs.Items.{arc_fault, too_few_fault, items_fault, item_fault, TakesItems}
-use Rattle.const_oid.proofs.Lists.{append-cons}
-use Rattle.const_oid.proofs.Encodings.{arcs_of_encoding}
+use Rattle.const_oid.proofs.{Lists.append-cons, Encodings.arcs_of_encoding}
 
 -- none of the items is rejected, whatever follows them
 abbrev pub AreTaken : RootRule → ℕ → List ℕ → Type 0

@@ -1,25 +1,16 @@
 -- A text read byte by byte, up to the first fault, which is that of the first faulty piece.
-use Rattle.std.proofs.lemmas.Bool.Decides.{nat_tests}
-use Rattle.std.proofs.Common.{◌≡◌, ℕ, ◌+◌, ◌-◌, ◌*◌, ◌<◌, ◌≤◌, Bool, true, false, not, List, [], ◌∷◌, ◌++◌, length, nat_lt, ◌==◌, map, Option, Some, None, Result, Ok, Err, IfOk, unwrap_or, if◌then◌else◌, refl, ap, ⊎_elim, arith, append_assoc, append-nil, take_while, lt-ltb, le-ltb}
-use Rattle.std.specs.Bool.{then_some}
-use Rattle.std.specs.Option.{option_or, option_map}
-use Rattle.std.specs.Result.{result_err, result_map_both}
-use Rattle.std.specs.Char.{is_ascii_digit}
-use Rattle.std.specs.Str.{all_ascii_digits}
-use Rattle.std.proofs.lemmas.List.{take_at}
-use Rattle.std.proofs.lemmas.Bool.{cases_lt}
-use Rattle.std.proofs.lemmas.List.Folds.{list_all-append}
-use Rattle.std.proofs.lemmas.Int.Digits.{digits_value_push}
-use Rattle.std.proofs.lemmas.List.Splits.{length-slice_split}
+use Rattle.std.proofs.Common.{◌≡◌, ℕ, ◌+◌, ◌-◌, ◌*◌, ◌<◌, ◌≤◌, Bool, true, false, not, List, [], ◌∷◌, ◌++◌, length}
+use Rattle.std.proofs.Common.{nat_lt, ◌==◌, map, Option, Some, None, Result, Ok, Err, IfOk, unwrap_or, if◌then◌else◌}
+use Rattle.std.proofs.Common.{refl, ap, ⊎_elim, arith, append_assoc, append-nil, take_while, lt-ltb, le-ltb}
+use Rattle.std.specs.{Bool.then_some, Option.{option_or, option_map}, Result.{result_err, result_map_both}}
+use Rattle.std.specs.{Char.is_ascii_digit, Str.all_ascii_digits}
+use Rattle.std.proofs.lemmas.{Bool.Decides.nat_tests, List.take_at, Bool.cases_lt, List.Folds.list_all-append}
+use Rattle.std.proofs.lemmas.{Int.Digits.digits_value_push, List.Splits.length-slice_split}
 use Rattle.std.proofs.lemmas.Str.Parse.{digits_value-take-le}
-use Rattle.const_oid.specs.declared.error.Error.{Error}
-use Rattle.const_oid.specs.declared.error.Error.TheVariants.{ArcTooBig, DigitExpected, RepeatedDot}
-use Rattle.const_oid.specs.Identifier.{RootRule, max_arc, IsEncoding}
-use Rattle.const_oid.specs.Contents.{arcs_of_octets}
-use Rattle.const_oid.specs.Private.Parser.{dot_fault, last_fault}
-use Rattle.const_oid.specs.Items.{too_few_fault}
+use Rattle.const_oid.specs.{declared.error.Error.Error, Identifier.{RootRule, max_arc, IsEncoding}, Items.too_few_fault}
+use Rattle.const_oid.specs.{declared.error.Error.TheVariants.{ArcTooBig, DigitExpected, RepeatedDot}, Error.answer}
+use Rattle.const_oid.specs.{Contents.arcs_of_octets, Private.Parser.{dot_fault, last_fault}}
 use Rattle.const_oid.specs.Text.{pieces_of, number_of, is_empty, is_one_empty, empty_fault, pieces_fault, text_answer}
-use Rattle.const_oid.specs.Error.{answer}
 use Rattle.const_oid.proofs.Lists.{append-cons, onto_all, onto_all-first, not_empty_push, onto_all-cons, onto_all-some}
 use Rattle.const_oid.proofs.Encodings.{arcs_of_encoding}
 use Rattle.const_oid.proofs.Numbers.{number_of_digits, find-none, take_while-digits, find-digits, digit-undotted}

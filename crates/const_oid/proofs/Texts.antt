@@ -1,20 +1,17 @@
 -- Texts: what is printed is read back, and texts have no fault exactly where they denote arcs that fit.
-use Rattle.std.proofs.Common.{◌≡◌, ℕ, ◌+◌, ◌≤◌, false, List, [], ◌∷◌, ◌++◌, length, map, None, refl, sym, ap, ◌∙◌, arith, decimal, ◌==◌, append-nil, Bool, true, take, length-append, rules}
-use Rattle.std.specs.List.{AllByRecursion, join_with_byte}
-use Rattle.std.specs.Prelude.{Ok}
-use Rattle.std.specs.Str.{IsAscii}
-use Rattle.std.proofs.lemmas.Str.{IsAscii-append}
-use Rattle.std.proofs.lemmas.List.Splits.{slice_split_at, slice_split_none}
+use Rattle.std.proofs.Common.{◌≡◌, ℕ, ◌+◌, ◌≤◌, false, List, [], ◌∷◌, ◌++◌, length, map, None, refl, sym, ap, ◌∙◌}
+use Rattle.std.proofs.Common.{arith, decimal, ◌==◌, append-nil, Bool, true, take, length-append, rules}
+use Rattle.std.specs.{List.{AllByRecursion, join_with_byte}, Prelude.Ok, Str.IsAscii}
+use Rattle.std.proofs.lemmas.{Str.IsAscii-append, List.Splits.{slice_split_at, slice_split_none}}
 use Rattle.std.proofs.lemmas.Bool.Decides.{nat_tests}
 use Rattle.const_oid.specs.Identifier.{RootRule, Narrow, Wide, max_arc, max_second, IsIdentifier, size}
-use Rattle.const_oid.specs.Items.{arc_fault}
-use Rattle.const_oid.specs.Text.{text_of, pieces_of, number_of, piece_fault, pieces_fault, text_fault, IsNumber, Denotes, strip_piece, strip, text_answer}
+use Rattle.const_oid.specs.{Items.arc_fault, Text.{Denotes, strip_piece, strip, text_answer}}
+use Rattle.const_oid.specs.Text.{text_of, pieces_of, number_of, piece_fault, pieces_fault, text_fault, IsNumber}
 use Rattle.const_oid.specs.Private.Text.{text_left, arc_text}
-use Rattle.const_oid.proofs.Decimals.{arc_text_ascii}
-use Rattle.const_oid.proofs.Lists.{append-cons, all_at}
-use Rattle.const_oid.proofs.Faults.{both_none}
+use Rattle.const_oid.proofs.{Decimals.arc_text_ascii, Lists.{append-cons, all_at}, Faults.both_none}
 use Rattle.const_oid.proofs.Items.{IsBegun, begun_more, arc_none, few_none, whole_from_begun}
-use Rattle.const_oid.proofs.Numbers.{find-none, digits_from_find, undotted, decimal_is, number_of-decimal, decimal-number_of}
+use Rattle.const_oid.proofs.Numbers.{find-none, digits_from_find, undotted, decimal_is, number_of-decimal}
+use Rattle.const_oid.proofs.Numbers.{decimal-number_of}
 
 -- ---- pieces joined and cut again
 

@@ -1,10 +1,8 @@
 -- Parents and children as lists.
 use Rattle.std.proofs.Common.{◌≡◌, ℕ, ◌≤◌, List, [], ◌∷◌, ◌++◌, Some, refl, ap, arith, lt-ltb, length-append}
 use Rattle.std.specs.List.{AllByRecursion}
-use Rattle.const_oid.specs.Identifier.{RootRule, max_arc, IsIdentifier}
-use Rattle.const_oid.specs.Tree.{child_of, parent_of}
-use Rattle.std.proofs.lemmas.Grind.{common_steps}
-use Rattle.std.proofs.lemmas.Bool.Decides.{nat_tests}
+use Rattle.std.proofs.lemmas.{Grind.common_steps, Bool.Decides.nat_tests}
+use Rattle.const_oid.specs.{Identifier.{RootRule, max_arc, IsIdentifier}, Tree.{child_of, parent_of}}
 
 pub parent_of-child_of : (rule : RootRule) (arcs : List ℕ) (arc : ℕ) → IsIdentifier rule arcs
     → parent_of (child_of arcs arc) ≡ Some arcs

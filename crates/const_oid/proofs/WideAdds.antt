@@ -1,14 +1,11 @@
 -- What the wide rule takes besides: identifiers under 2 whose second arc is past 39, and nothing else.
-use Rattle.std.proofs.lemmas.Bool.Decides.{nat_tests}
 use Rattle.std.proofs.Common.{◌≡◌, ◌≢◌, ℕ, ◌≤◌, List, length, None, arith}
 use Rattle.std.specs.Prelude.{◌↔◌}
-use Rattle.const_oid.specs.Base128.{AreOctets}
-use Rattle.const_oid.specs.Contents.{octet_fault, arcs_of_octets}
+use Rattle.std.proofs.lemmas.Bool.Decides.{nat_tests}
+use Rattle.const_oid.specs.{Base128.AreOctets, Contents.{octet_fault, arcs_of_octets}, WideRule.IsPastNarrow}
 use Rattle.const_oid.specs.Identifier.{Narrow, Wide, IsIdentifier, IsEncoding}
-use Rattle.const_oid.specs.WideRule.{IsPastNarrow}
 use Rattle.const_oid.proofs.Encodings.{encoding_from_none, fits_from_none, octet_fault-fits, same_arcs}
-use Rattle.const_oid.proofs.Items.{item_fault-none, identifier_from_none}
-use Rattle.const_oid.proofs.Texts.{denoted_from_none, text_fault-none}
+use Rattle.const_oid.proofs.{Items.{item_fault-none, identifier_from_none}, Texts.{denoted_from_none, text_fault-none}}
 
 -- ---- identifiers
 

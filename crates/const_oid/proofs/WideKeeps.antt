@@ -1,11 +1,8 @@
 -- What the wide rule keeps: octets that were accepted, and the results of lists and texts but for the second arc.
 use Rattle.std.proofs.Common.{◌≡◌, ℕ, List, [], ◌∷◌, ◌++◌, map, None, refl, arith}
 use Rattle.std.proofs.lemmas.Bool.Decides.{nat_tests}
-use Rattle.const_oid.specs.Identifier.{Narrow, Wide}
-use Rattle.const_oid.specs.Contents.{octet_fault}
-use Rattle.const_oid.specs.Items.{items_fault, item_fault}
-use Rattle.const_oid.specs.Text.{number_of, pieces_fault}
-use Rattle.const_oid.specs.WideRule.{RefusesSecond}
+use Rattle.const_oid.specs.{Identifier.{Narrow, Wide}, Contents.octet_fault, Items.{items_fault, item_fault}}
+use Rattle.const_oid.specs.{Text.{number_of, pieces_fault}, WideRule.RefusesSecond}
 
 -- ---- octets
 

@@ -1,16 +1,13 @@
 -- Words of eight octets: they are the same where their octets are, and have their lexicographic order.
-use Rattle.std.proofs.Common.{◌≡◌, ◌≢◌, ℕ, zero, suc, ◌+◌, ◌*◌, ◌%◌, ◌^◌, ◌<◌, ◌≤◌, List, [], ◌∷◌, length, take, drop, get_or, slice_index, refl, arith, min, Bool, true, false, nat_eq, IsTrue, Less, Equal, Greater, nat_cmp, w64, pow-suc, rules}
-use Rattle.std.proofs.Math.Seq.{take-add}
-use Rattle.std.proofs.Math.Arith.{mod-mul}
-use Rattle.std.specs.Int.{from_be_bytes, byte_at, bytes_high_first}
-use Rattle.std.specs.Cmp.{nat_cmp_is}
+use Rattle.std.proofs.Common.{◌≡◌, ◌≢◌, ℕ, zero, suc, ◌+◌, ◌*◌, ◌%◌, ◌^◌, ◌<◌, ◌≤◌, List, [], ◌∷◌, length, take, drop}
+use Rattle.std.proofs.Common.{get_or, slice_index, refl, arith, min, Bool, true, false, nat_eq, IsTrue, Less, Equal}
+use Rattle.std.proofs.Common.{Greater, nat_cmp, w64, pow-suc, rules}
+use Rattle.std.specs.{Int.{from_be_bytes, byte_at, bytes_high_first}, Cmp.nat_cmp_is}
 use Rattle.std.specs.Cmp.Lexicographic.{pointwise, slice_cmp, texts_ties}
-use Rattle.std.proofs.lemmas.Bool.{cases_lt}
-use Rattle.std.proofs.lemmas.Bool.Decides.{nat_tests}
-use Rattle.std.proofs.lemmas.Cmp.{nat_list_cmp_total, tied_itself}
-use Rattle.std.proofs.lemmas.List.{length-take-le, take-take, take_all, length-drop, get_or-take, get_or-drop, get_or_past}
-use Rattle.std.proofs.lemmas.Nat.{from_be_bytes-to_be_bytes_8, be_bytes_8}
-use Rattle.std.proofs.Math.Nat.{mul_comm, one-le-pow}
+use Rattle.std.proofs.{Math.Seq.take-add, Math.Arith.mod-mul, Math.Nat.{mul_comm, one-le-pow}}
+use Rattle.std.proofs.lemmas.{Bool.cases_lt, Bool.Decides.nat_tests, Cmp.{nat_list_cmp_total, tied_itself}}
+use Rattle.std.proofs.lemmas.List.{length-take-le, take-take, take_all, length-drop, get_or-take, get_or-drop}
+use Rattle.std.proofs.lemmas.{List.get_or_past, Nat.{from_be_bytes-to_be_bytes_8, be_bytes_8}}
 use Rattle.const_oid.specs.Private.Words.{bytes_of, IsWord}
 use Rattle.const_oid.proofs.Orders.{digits_cmp, split_cmp, after_same, shortlex_cmp-level}
 

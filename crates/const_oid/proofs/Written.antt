@@ -1,6 +1,7 @@
 -- Groups as they are written, from the last octet on.
+use Rattle.std.proofs.Common.{◌≡◌, ℕ, zero, suc, ◌+◌, ◌*◌, ◌/◌, ◌%◌, ◌^◌, ◌<◌, List, [], ◌∷◌, length, sym, ◌∙◌, arith}
+use Rattle.std.proofs.Common.{pow-suc}
 use Rattle.std.proofs.lemmas.Bool.Decides.{nat_tests}
-use Rattle.std.proofs.Common.{◌≡◌, ℕ, zero, suc, ◌+◌, ◌*◌, ◌/◌, ◌%◌, ◌^◌, ◌<◌, List, [], ◌∷◌, length, sym, ◌∙◌, arith, pow-suc}
 use Rattle.const_oid.specs.Base128.{value_of, IsContinued, IsGroup, width}
 use Rattle.const_oid.proofs.Groups.{continued_more, joined, value_below, width_is}
 

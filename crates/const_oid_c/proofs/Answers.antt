@@ -1,10 +1,8 @@
 -- What a call writes, by the calls of `const_oid` and `std`.
 use Rattle.std.proofs.Common.{◌≡◌, List, ℕ, false}
 use Rattle.std.specs.Str.{IsUtf8, is_utf8}
-use Rattle.std.proofs.lemmas.Bool.{false_from_ne_true}
-use Rattle.std.proofs.lemmas.Str.{IsUtf8-from_is_utf8, is_utf8-from_IsUtf8}
-use Rattle.const_oid.specs.Contents.{arcs_of_octets}
-use Rattle.const_oid.specs.Identifier.{root_rule, IsEncoding, encoding_of}
+use Rattle.std.proofs.lemmas.{Bool.false_from_ne_true, Str.{IsUtf8-from_is_utf8, is_utf8-from_IsUtf8}}
+use Rattle.const_oid.specs.{Contents.arcs_of_octets, Identifier.{root_rule, IsEncoding, encoding_of}}
 use Rattle.const_oid.proofs.Encodings.{encoding_of-encoded}
 
 -- octets that encode their arcs are the encoding of their arcs

@@ -1,11 +1,9 @@
 -- A result at the usual capacity is the result at 255 octets, unless it is the fault `Length`.
 use Rattle.std.proofs.Common.{◌≡◌, ◌≢◌, ℕ, List, [], ◌∷◌, ◌++◌, refl, arith}
-use Rattle.std.proofs.lemmas.Bool.Decides.{nat_tests}
 use Rattle.std.specs.Prelude.{Option, Some, Result, Err}
-use Rattle.const_oid.specs.declared.error.Error.{Error}
-use Rattle.const_oid.specs.declared.error.Error.TheVariants.{Length}
-use Rattle.const_oid.specs.Identifier.{root_rule, usual_capacity}
-use Rattle.const_oid.specs.Items.{arc_fault, items_fault, item_answer}
+use Rattle.std.proofs.lemmas.Bool.Decides.{nat_tests}
+use Rattle.const_oid.specs.{declared.error.Error.Error, declared.error.Error.TheVariants.Length}
+use Rattle.const_oid.specs.{Identifier.{root_rule, usual_capacity}, Items.{arc_fault, items_fault, item_answer}}
 use Rattle.const_oid.specs.Text.{piece_fault, pieces_fault, pieces_of, number_of, text_answer}
 use Rattle.const_oid_c.specs.Answers.{owned_capacity, child_answer}
 

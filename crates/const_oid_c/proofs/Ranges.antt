@@ -1,20 +1,15 @@
 -- Where a sorted list holds the items that begin with a prefix.
-use Rattle.std.proofs.Common.{◌≡◌, ℕ, ◌+◌, ◌<◌, ◌≤◌, Bool, true, false, cond, ◌||◌, List, [], ◌∷◌, length, get_or, count_by, ltb, refl, arith, ⊎_elim, nat_cmp}
-use Rattle.std.specs.Prelude.{◌↔◌, IfSome, slice_get}
-use Rattle.std.specs.Cmp.Lexicographic.{slice_cmp}
-use Rattle.std.specs.List.{prefix_len}
+use Rattle.std.proofs.Common.{◌≡◌, ℕ, ◌+◌, ◌<◌, ◌≤◌, Bool, true, false, cond, ◌||◌, List, [], ◌∷◌, length, get_or}
+use Rattle.std.proofs.Common.{count_by, ltb, refl, arith, ⊎_elim, nat_cmp}
+use Rattle.std.specs.{Prelude.{◌↔◌, IfSome, slice_get}, Cmp.Lexicographic.slice_cmp, List.prefix_len}
 use Rattle.std.specs.List.Sorted.{IsPartitionedBy, IsSortedByKey}
-use Rattle.std.proofs.lemmas.Bool.{false_from_ne_true}
-use Rattle.std.proofs.lemmas.Cmp.{nat_list_cmp_total}
-use Rattle.std.proofs.lemmas.List.Sorted.{sorted_far, ranks_by}
+use Rattle.std.proofs.lemmas.{Bool.false_from_ne_true, Cmp.nat_list_cmp_total, List.Sorted.{sorted_far, ranks_by}}
 use Rattle.std.proofs.lemmas.List.Sums.{sum_by-cons, prefix_len-le-length, prefix_len_passes, prefix_len_stops}
-use Rattle.std.proofs.lemmas.Option.{slice_get_cases}
-use Rattle.std.proofs.lemmas.Bool.Decides.{nat_tests}
+use Rattle.std.proofs.lemmas.{Option.slice_get_cases, Bool.Decides.nat_tests}
 use Rattle.const_oid.specs.Tree.{BeginsWith}
-use Rattle.const_oid.proofs.BeginsWith.{is_before, is_under, is_within, under_iff, under_apart, before_down, within_down}
-use Rattle.const_oid.proofs.Subtree.{point_is_count}
-use Rattle.const_oid_c.specs.declared.subtree.Octets.{Octets}
-use Rattle.const_oid_c.specs.Subtree.{octets_at}
+use Rattle.const_oid.proofs.BeginsWith.{is_before, is_under, is_within, under_iff, under_apart, before_down}
+use Rattle.const_oid.proofs.{BeginsWith.within_down, Subtree.point_is_count}
+use Rattle.const_oid_c.specs.{declared.subtree.Octets.Octets, Subtree.octets_at}
 
 -- where a test cuts a list, the first elements pass it, as many as pass it
 passes_first : {X : Type 0} (p : X → Bool) (xs : List X) → IsPartitionedBy p xs
@@ -24,7 +19,7 @@ passes_first {X} p xs by k d l =
     let late = λ (k : ℕ) (d : X) (from : n ≤ k) (m : k < length xs).
     false_from_ne_true (p (get_or xs k d)) (λ t. cc (by n k d from m t, prefix_len_stops p xs d (omega arith))) in
     let early = λ (k : ℕ) (d : X) (z : 0 ≤ k) (m : k < n). prefix_len_passes p xs k d m in
-    let counted = point_is_count p xs n by (prefix_len-le-length p xs) (early, late) in
+    let counted = point_is_count p xs n (prefix_len-le-length p xs) (early, late) in
     grind (arith, nat_tests, prefix_len_passes p xs k d, late k d)
 
 -- where an element passes one of two tests at most, they count together what passes either

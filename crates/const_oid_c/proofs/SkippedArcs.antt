@@ -1,10 +1,7 @@
 -- Arcs that an iterator passes over.
 use Rattle.std.proofs.Common.{◌≡◌, ◌+◌, ◌≤◌, length, ℕ, List, [], ◌∷◌, ◌++◌, drop, sym, ap, ◌∙◌, arith, append-nil}
-use Rattle.std.specs.Iterator.{YieldsFirst, Yields, SkipsThenYields}
-use Rattle.std.specs.Option.{MatchOption}
-use Rattle.std.specs.Prelude.{Option, Some, None}
-use Rattle.std.proofs.Math.ListN.{drop_of_length-le}
-use Rattle.std.proofs.Math.Seq.{drop-append-add}
+use Rattle.std.specs.{Iterator.{YieldsFirst, Yields, SkipsThenYields}, Option.MatchOption, Prelude.{Option, Some, None}}
+use Rattle.std.proofs.{Math.ListN.drop_of_length-le, Math.Seq.drop-append-add}
 
 abbrev Takes : List ℕ → Option ℕ → List ℕ → Type 0
 Takes = YieldsFirst (λ arcs. arcs)

@@ -1,10 +1,8 @@
 -- The line of a text, by what it is read as.
 use Rattle.std.proofs.Common.{◌≡◌, ℕ, List, false}
 use Rattle.std.specs.Str.{IsUtf8, is_utf8}
-use Rattle.std.proofs.lemmas.Bool.{false_from_ne_true}
-use Rattle.std.proofs.lemmas.Str.{IsUtf8-from_is_utf8, is_utf8-from_IsUtf8}
-use Rattle.const_oid.specs.Contents.{arcs_of_octets}
-use Rattle.const_oid.specs.Identifier.{root_rule, IsEncoding, encoding_of}
+use Rattle.std.proofs.lemmas.{Bool.false_from_ne_true, Str.{IsUtf8-from_is_utf8, is_utf8-from_IsUtf8}}
+use Rattle.const_oid.specs.{Contents.arcs_of_octets, Identifier.{root_rule, IsEncoding, encoding_of}}
 use Rattle.const_oid.proofs.Encodings.{encoding_of-encoded}
 
 pub is_not_utf8 : (bytes : List ℕ) → ¬ IsUtf8 bytes → is_utf8 bytes ≡ false

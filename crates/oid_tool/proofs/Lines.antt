@@ -1,14 +1,11 @@
 -- The first line and its result, and the lines after it.
-use Rattle.std.proofs.Common.{◌≡◌, ◌≢◌, ℕ, ◌+◌, ◌<◌, ◌≤◌, ◌==◌, false, nat_eq, List, [], ◌∷◌, ◌++◌, length, ap, sym, ◌∙◌, refl, arith, ⊎_elim}
+use Rattle.std.proofs.Common.{◌≡◌, ◌≢◌, ℕ, ◌+◌, ◌<◌, ◌≤◌, ◌==◌, false, nat_eq, List, [], ◌∷◌, ◌++◌, length, ap, sym}
+use Rattle.std.proofs.Common.{◌∙◌, refl, arith, ⊎_elim}
 use Rattle.std.specs.List.{before_first, after_first, position_or_len, flat_map}
-use Rattle.std.proofs.lemmas.Bool.{cases_lt}
-use Rattle.std.proofs.lemmas.Bool.Decides.{nat_tests}
-use Rattle.std.proofs.lemmas.List.{take_all, drop_all, length-append, nil_from_length}
-use Rattle.std.proofs.lemmas.List.Concat.{flat_map-cons}
+use Rattle.std.proofs.lemmas.{Bool.cases_lt, Bool.Decides.nat_tests, List.Concat.flat_map-cons}
+use Rattle.std.proofs.lemmas.{List.{take_all, drop_all, length-append, nil_from_length}, List.Sums.fails_before_first}
 use Rattle.std.proofs.lemmas.List.Splits.{slice_split_first, slice_split_none, length-slice_split}
-use Rattle.std.proofs.lemmas.List.Sums.{fails_before_first}
-use Rattle.oid_tool.specs.Answers.{without_empty_last, lines, output_line, answers}
-use Rattle.oid_tool.specs.Names.{Row}
+use Rattle.oid_tool.specs.{Answers.{without_empty_last, lines, output_line, answers}, Names.Row}
 
 -- the text before the first newline
 abbrev first_line : List ℕ → List ℕ

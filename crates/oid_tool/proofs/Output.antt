@@ -1,10 +1,9 @@
 -- Bytes that are written in parts, and bytes that are read into the rest of a buffer.
-use Rattle.std.proofs.Common.{◌≡◌, ◌≢◌, ℕ, ◌+◌, ◌≤◌, List, [], ◌++◌, length, take, drop, sym, ◌∙◌, ap, arith, subst, append_assoc, take-append-drop}
-use Rattle.std.specs.Prelude.{Option}
-use Rattle.std.specs.Io.KnownBytes.{Appends}
-use Rattle.std.proofs.KnownBytes.{Appends-trans}
+use Rattle.std.proofs.Common.{◌≡◌, ◌≢◌, ℕ, ◌+◌, ◌≤◌, List, [], ◌++◌, length, take, drop, sym, ◌∙◌, ap, arith, subst}
+use Rattle.std.proofs.Common.{append_assoc, take-append-drop}
+use Rattle.std.specs.{Prelude.Option, Io.KnownBytes.Appends}
+use Rattle.std.proofs.{KnownBytes.Appends-trans, Math.Seq.{take-append-add, take-append_seam}}
 use Rattle.std.proofs.lemmas.List.{append-nil, nil_from_length, take-append-le, length-take-le, length-append}
-use Rattle.std.proofs.Math.Seq.{take-append-add, take-append_seam}
 use Rattle.oid_tool.specs.Output.{AppendsPrefix}
 use borrow.Rule.Slice.PartMut.{put_mid, post_of}
 

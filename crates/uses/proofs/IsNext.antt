@@ -1,10 +1,8 @@
 -- The next key after some arcs.
 use Rattle.std.proofs.Common.{arith, ◌≡◌, ◌≢◌, ℕ, List, Greater}
-use Rattle.std.specs.Cmp.Lexicographic.{slice_cmp, same_text, texts_ties}
-use Rattle.std.specs.Ordering.{nat_cmp}
+use Rattle.std.specs.{Cmp.Lexicographic.{slice_cmp, same_text, texts_ties}, Ordering.nat_cmp}
 use Rattle.std.proofs.lemmas.Cmp.{nat_list_cmp_total}
-use Rattle.const_oid.specs.declared.by_arcs.ByArcs.{ByArcs}
-use Rattle.const_oid.specs.OidRef.{key_arcs}
+use Rattle.const_oid.specs.{declared.by_arcs.ByArcs.ByArcs, OidRef.key_arcs}
 use Rattle.uses.specs.Walk.{IsNext}
 
 -- a next key is not past another key that is after the arcs

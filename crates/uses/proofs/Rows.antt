@@ -1,12 +1,10 @@
 -- What a table of borrowed identifiers finds, by its rows.
-use Rattle.std.proofs.Common.{arith, ◌≡◌, ◌↔◌, ℕ, Bool, List, [], ◌∷◌, nat_eq, map, Some, IsTrue, refl, ap, ◌∙◌, sym, Option, Bor}
-use Rattle.std.specs.Cmp.Lexicographic.{pointwise, bytes_decides}
-use Rattle.std.specs.List.{Any, list_any}
-use Rattle.std.specs.Option.{option_map, is_some}
+use Rattle.std.proofs.Common.{arith, ◌≡◌, ◌↔◌, ℕ, Bool, List, [], ◌∷◌, nat_eq, map, Some, IsTrue, refl, ap, ◌∙◌, sym}
+use Rattle.std.proofs.Common.{Option, Bor}
+use Rattle.std.specs.{Cmp.Lexicographic.{pointwise, bytes_decides}, List.{Any, list_any}, Option.{option_map, is_some}}
 use Rattle.std.proofs.lemmas.List.Folds.{Any-from_list_any, list_any-from_Any}
-use Rattle.const_oid.specs.declared.oid_ref.ObjectIdentifierRef.{ObjectIdentifierRef}
+use Rattle.const_oid.specs.{declared.oid_ref.ObjectIdentifierRef.ObjectIdentifierRef, OidRef.ref_arcs}
 use Rattle.const_oid.specs.Names.{Entry, oid_of, name_of, first_oid, first_name}
-use Rattle.const_oid.specs.OidRef.{ref_arcs}
 use Rattle.uses.specs.AttributeTypes.{Row, first_arcs}
 
 -- the row of an entry

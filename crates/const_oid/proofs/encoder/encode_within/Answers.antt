@@ -1,10 +1,7 @@
 use Rattle.std.proofs.Common.{arith, min}
 use Rattle.std.proofs.lemmas.Result.{IfOk-weaker}
-use Rattle.const_oid.specs.Buffer.{octets_of}
-use Rattle.const_oid.specs.Contents.{arcs_of_octets}
-use Rattle.const_oid.specs.Identifier.{root_rule}
-use Rattle.const_oid.proofs.Encodings.{encoding_back}
-use Rattle.const_oid.proofs.TakesItems.{taken_more, takes_end, takes_prefix, handed_on}
+use Rattle.const_oid.specs.{Buffer.octets_of, Contents.arcs_of_octets, Identifier.root_rule}
+use Rattle.const_oid.proofs.{Encodings.encoding_back, TakesItems.{taken_more, takes_end, takes_prefix, handed_on}}
 use Rattle.const_oid.proofs.encoder.encode_within.Goals as goal
 
 pub returns-clause-takes : goal.returns-clause-takes

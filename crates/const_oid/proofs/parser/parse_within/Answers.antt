@@ -1,9 +1,7 @@
 use Rattle.std.proofs.Common.{◌∙◌}
-use Rattle.std.proofs.lemmas.List.{drop_all}
-use Rattle.std.proofs.lemmas.Result.{IfOk-weaker}
+use Rattle.std.proofs.lemmas.{List.drop_all, Result.IfOk-weaker}
 use Rattle.const_oid.specs.Buffer.{octets_of}
-use Rattle.const_oid.proofs.Encodings.{encoding_back}
-use Rattle.const_oid.proofs.TextPass.{encoded_answer}
+use Rattle.const_oid.proofs.{Encodings.encoding_back, TextPass.encoded_answer}
 use Rattle.const_oid.proofs.parser.parse_within.Goals as goal
 
 pub returns-clause-encoding : goal.returns-clause-encoding

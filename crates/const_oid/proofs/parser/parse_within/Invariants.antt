@@ -1,6 +1,5 @@
 use Rattle.std.proofs.Common.{min, ◌≡◌, ◌≤◌, ◌-◌, drop, length, nat_lt}
-use Rattle.const_oid.specs.Identifier.{root_rule, max_arc}
-use Rattle.const_oid.specs.Text.{text_answer}
+use Rattle.const_oid.specs.{Identifier.{root_rule, max_arc}, Text.text_answer}
 use Rattle.const_oid.proofs.TextPass.{text_pass}
 use Rattle.const_oid.proofs.parser.parse_within.Given as goal
 

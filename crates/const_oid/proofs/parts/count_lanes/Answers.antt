@@ -1,8 +1,6 @@
 use Rattle.std.proofs.Common.{◌≡◌, ◌∙◌, take, nat_lt, count_by, arith, ap, w8}
 use Rattle.std.specs.Int.RustNames.{count_ones}
-use Rattle.std.proofs.lemmas.List.Sums.{count_by-le-length}
-use Rattle.std.proofs.lemmas.List.{take_all}
-use Rattle.std.proofs.lemmas.Simd.{bitmask_splat, ones-mask_l}
+use Rattle.std.proofs.lemmas.{List.Sums.count_by-le-length, List.take_all, Simd.{bitmask_splat, ones-mask_l}}
 use Rattle.const_oid.proofs.parts.count_lanes.Goals as goal
 
 pub returns-clause-value : goal.returns-clause-value

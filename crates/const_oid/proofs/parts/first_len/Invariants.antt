@@ -1,6 +1,5 @@
 use Rattle.std.proofs.Common.{◌≡◌, ◌+◌, drop}
-use Rattle.const_oid.specs.Contents.{cut}
-use Rattle.const_oid.specs.Private.Octets.{first_length}
+use Rattle.const_oid.specs.{Contents.cut, Private.Octets.first_length}
 use Rattle.const_oid.proofs.parts.first_len.Given as goal
 
 abbrev pub invariant-loop-i : goal.invariant-loop-i

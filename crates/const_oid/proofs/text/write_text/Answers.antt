@@ -1,7 +1,6 @@
 use Rattle.std.proofs.Common.{false, ◌∙◌, arith, append_assoc}
 use Rattle.std.proofs.lemmas.Grind.{common_steps}
-use Rattle.const_oid.proofs.Decimals.{drop_more}
-use Rattle.const_oid.proofs.Texts.{text_left-cons}
+use Rattle.const_oid.proofs.{Decimals.drop_more, Texts.text_left-cons}
 use Rattle.const_oid.proofs.text.write_text.Goals as goal
 
 pub loop-arc-preserved : goal.loop-arc-preserved

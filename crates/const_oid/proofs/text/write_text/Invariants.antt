@@ -1,6 +1,5 @@
 use Rattle.std.proofs.Common.{false, ◌≡◌, ◌≤◌, ◌++◌, length, take, drop}
-use Rattle.const_oid.specs.Text.{text_of}
-use Rattle.const_oid.specs.Private.Text.{text_left}
+use Rattle.const_oid.specs.{Text.text_of, Private.Text.text_left}
 use Rattle.const_oid.proofs.text.write_text.Given as goal
 
 -- what is written, and the text of the arcs left, are the text of all

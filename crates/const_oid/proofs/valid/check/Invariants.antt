@@ -1,6 +1,5 @@
 use Rattle.std.proofs.Common.{◌≡◌, length}
-use Rattle.const_oid.specs.Contents.{cut, later_fault, parts_fault}
-use Rattle.const_oid.specs.Identifier.{root_rule}
+use Rattle.const_oid.specs.{Contents.{cut, later_fault, parts_fault}, Identifier.root_rule}
 use Rattle.const_oid.proofs.valid.check.Given as goal
 
 -- the rest has the fault of the whole

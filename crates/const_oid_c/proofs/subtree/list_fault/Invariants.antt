@@ -1,9 +1,6 @@
 use Rattle.std.proofs.Common.{◌≡◌, ◌-◌, ◌<◌, [], drop, get_or, nat_cmp}
-use Rattle.std.specs.Cmp.Lexicographic.{slice_cmp}
-use Rattle.std.specs.List.Sorted.{IsSortedWithin}
-use Rattle.std.specs.Ordering.{is_lt}
-use Rattle.const_oid_c.specs.declared.subtree.Octets.{Octets}
-use Rattle.const_oid_c.specs.Subtree.{octets_at, list_fault}
+use Rattle.std.specs.{Cmp.Lexicographic.slice_cmp, List.Sorted.IsSortedWithin, Ordering.is_lt}
+use Rattle.const_oid_c.specs.{declared.subtree.Octets.Octets, Subtree.{octets_at, list_fault}}
 use Rattle.const_oid_c.proofs.subtree.list_fault.Given as goal
 
 -- what is wrong with the rest is what is wrong with the list, which is sorted so far

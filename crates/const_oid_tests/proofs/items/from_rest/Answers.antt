@@ -1,7 +1,5 @@
 use Rattle.std.proofs.Common.{ℕ, List, ap, ◌∙◌}
-use Rattle.const_oid.specs.Identifier.{root_rule}
-use Rattle.const_oid.specs.Items.{item_answer}
-use Rattle.const_oid.specs.Oid.{oid_answer}
+use Rattle.const_oid.specs.{Identifier.root_rule, Items.item_answer, Oid.oid_answer}
 use Rattle.const_oid.proofs.Identifiers.{exact_answer}
 use Rattle.const_oid_tests.proofs.items.from_rest.Goals as goal
 

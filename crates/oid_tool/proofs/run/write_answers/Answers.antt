@@ -1,6 +1,5 @@
 use Rattle.std.proofs.Common.{arith}
-use Rattle.std.proofs.lemmas.Grind.{common_steps}
-use Rattle.std.proofs.lemmas.Result.{err_from_is_err_and}
+use Rattle.std.proofs.lemmas.{Grind.common_steps, Result.err_from_is_err_and}
 use Rattle.oid_tool.proofs.Output.{appends_more, appends_prefix_within}
 use Rattle.oid_tool.proofs.Lines.{answers-nil, answers-next, answers_not_empty}
 use Rattle.oid_tool.proofs.run.write_answers.Goals as goal

@@ -1,9 +1,7 @@
 use Rattle.std.proofs.Common.{arith}
 use Rattle.std.proofs.lemmas.Grind.{common_steps}
-use Rattle.const_oid.specs.Identifier.{root_rule}
-use Rattle.const_oid.specs.OidRef.{ref_arcs, ref_octets}
-use Rattle.const_oid.proofs.Encodings.{ref_encoding}
-use Rattle.const_oid.proofs.Lengths.{size_push}
+use Rattle.const_oid.specs.{Identifier.root_rule, OidRef.{ref_arcs, ref_octets}}
+use Rattle.const_oid.proofs.{Encodings.ref_encoding, Lengths.size_push}
 use Rattle.uses.proofs.generic.child_in.Goals as goal
 
 pub returns-in_err-try_from_ref-clause-fits : goal.returns-in_err-try_from_ref-clause-fits

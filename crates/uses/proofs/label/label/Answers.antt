@@ -1,8 +1,8 @@
-use Rattle.std.proofs.Common.{◌≡◌, ◌∙◌, ℕ, List, [], ◌∷◌, length, drop, MatchOption, Option, ap, arith, rules, append-nil}
+use Rattle.std.proofs.Common.{◌≡◌, ◌∙◌, ℕ, List, [], ◌∷◌, length, drop, MatchOption, Option, ap, arith, rules}
+use Rattle.std.proofs.Common.{append-nil}
 use Rattle.std.specs.String.{string_bytes}
 use Rattle.std.proofs.lemmas.List.{drop-drop}
-use Rattle.const_oid.specs.Names.{name_of}
-use Rattle.const_oid.specs.OidRef.{ref_arcs}
+use Rattle.const_oid.specs.{Names.name_of, OidRef.ref_arcs}
 use Rattle.uses.proofs.label.label.Goals as goal
 
 -- what a call of `next` leaves

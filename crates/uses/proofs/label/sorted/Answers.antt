@@ -1,7 +1,6 @@
 use Rattle.std.proofs.Common.{rules}
 use Rattle.std.proofs.lemmas.Fn.{always_returns_same}
-use Rattle.const_oid.specs.declared.by_arcs.ByArcs.{ByArcs}
-use Rattle.const_oid.specs.declared.oid_ref.ObjectIdentifierRef.{ObjectIdentifierRef}
+use Rattle.const_oid.specs.{declared.by_arcs.ByArcs.ByArcs, declared.oid_ref.ObjectIdentifierRef.ObjectIdentifierRef}
 use Rattle.const_oid.specs.Names.{Entry, oid_of}
 use Rattle.uses.proofs.label.sorted.Goals as goal
 

@@ -1,6 +1,5 @@
 use Rattle.std.proofs.Common.{◌≡◌, ℕ, false, true, List, arith, ◌+◌, slice_index_or, sym, ◌∙◌}
-use Rattle.std.specs.Cmp.Lexicographic.{slice_cmp}
-use Rattle.std.specs.Ordering.{nat_cmp, is_lt, is_le}
+use Rattle.std.specs.{Cmp.Lexicographic.slice_cmp, Ordering.{nat_cmp, is_lt, is_le}}
 use Rattle.std.proofs.lemmas.Cmp.{nat_list_cmp_total}
 use Rattle.const_oid.specs.OidRef.{ref_octets}
 use Rattle.uses.proofs.subtree.range_of.Goals as goal

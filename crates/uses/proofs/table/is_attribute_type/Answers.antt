@@ -1,6 +1,5 @@
 use Rattle.std.proofs.Common.{◌≡◌, map, ap, refl}
-use Rattle.const_oid.specs.Names.{sorted_entries_of}
-use Rattle.const_oid.specs.OidRef.{ref_arcs}
+use Rattle.const_oid.specs.{Names.sorted_entries_of, OidRef.ref_arcs}
 use Rattle.const_oid.proofs.Identifiers.{sorted_rows}
 use Rattle.uses.specs.AttributeTypes.{attribute_types}
 use Rattle.uses.proofs.Rows.{row_of, row_found}

@@ -1,6 +1,5 @@
 use Rattle.std.proofs.Common.{◌≡◌, Some, None, map, ap}
-use Rattle.const_oid.specs.Names.{ref_entries_of}
-use Rattle.const_oid.specs.OidRef.{ref_arcs}
+use Rattle.const_oid.specs.{Names.ref_entries_of, OidRef.ref_arcs}
 use Rattle.uses.specs.AttributeTypes.{attribute_types}
 use Rattle.uses.proofs.Rows.{row_of, arcs_found, are_arcs}
 use Rattle.uses.proofs.table.is_named.Goals as goal

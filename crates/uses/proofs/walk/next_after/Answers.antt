@@ -1,15 +1,11 @@
-use Rattle.std.proofs.Common.{Bool, rules, ◌≡◌, ◌≢◌, ◌<◌, ◌≤◌, ℕ, true, false, List, length, slice_index_or, Option, Some, None, IfSome, IfNone, MatchOption, Bor, Less, sym, arith, ⊎_elim}
-use Rattle.std.specs.Cmp.Lexicographic.{slice_cmp}
-use Rattle.std.specs.List.{All, HoldsAt}
-use Rattle.std.specs.List.Sorted.{IsSortedByKey, IsPartitionedBy}
+use Rattle.std.proofs.Common.{Bool, rules, ◌≡◌, ◌≢◌, ◌<◌, ◌≤◌, ℕ, true, false, List, length, slice_index_or, Option}
+use Rattle.std.proofs.Common.{Some, None, IfSome, IfNone, MatchOption, Bor, Less, sym, arith, ⊎_elim}
+use Rattle.std.specs.{Cmp.Lexicographic.slice_cmp, List.{All, HoldsAt}, List.Sorted.{IsSortedByKey, IsPartitionedBy}}
 use Rattle.std.specs.Ordering.{nat_cmp, is_lt, is_le}
-use Rattle.std.proofs.lemmas.Bool.{cases_lt}
-use Rattle.std.proofs.lemmas.Cmp.{nat_list_cmp_total, upto}
+use Rattle.std.proofs.lemmas.{Bool.cases_lt, Cmp.{nat_list_cmp_total, upto}}
 use Rattle.std.proofs.lemmas.List.Sorted.{IsPartitionPoint-from_clause, sorted_far, ranks_by}
-use Rattle.const_oid.specs.OidRef.{key_arcs, ref_arcs}
-use Rattle.const_oid.specs.declared.by_arcs.ByArcs.{ByArcs}
-use Rattle.const_oid.proofs.BeginsWith.{not_greater}
-use Rattle.const_oid.proofs.Subtree.{IsCut}
+use Rattle.const_oid.specs.{OidRef.{key_arcs, ref_arcs}, declared.by_arcs.ByArcs.ByArcs}
+use Rattle.const_oid.proofs.{BeginsWith.not_greater, Subtree.IsCut}
 use Rattle.uses.specs.Walk.{IsNext}
 use Rattle.uses.proofs.walk.next_after.Goals as goal
 

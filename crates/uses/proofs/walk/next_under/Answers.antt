@@ -1,15 +1,10 @@
 use Rattle.std.proofs.Common.{◌≡◌, ◌≢◌, ℕ, Bool, true, false, List, IfNone, Less, ap, ◌∙◌}
-use Rattle.std.specs.Bool.{then_some}
-use Rattle.std.specs.Cmp.Lexicographic.{slice_cmp}
-use Rattle.std.specs.List.{All}
-use Rattle.std.specs.Ordering.{nat_cmp, ordering_reverse}
+use Rattle.std.specs.{Bool.then_some, Cmp.Lexicographic.slice_cmp, List.All, Ordering.{nat_cmp, ordering_reverse}}
 use Rattle.std.proofs.lemmas.Cmp.{nat_list_cmp_total}
-use Rattle.const_oid.specs.OidRef.{key_arcs, ref_arcs}
-use Rattle.const_oid.specs.Tree.{BeginsWith}
+use Rattle.const_oid.specs.{OidRef.{key_arcs, ref_arcs}, Tree.BeginsWith, declared.by_arcs.ByArcs.ByArcs}
 use Rattle.const_oid.proofs.ByParts.{run_between}
-use Rattle.uses.proofs.IsNext.{same_next}
-use Rattle.const_oid.specs.declared.by_arcs.ByArcs.{ByArcs}
 use Rattle.uses.specs.Walk.{IsNext}
+use Rattle.uses.proofs.IsNext.{same_next}
 use Rattle.uses.proofs.walk.next_under.Goals as goal
 
 -- where the next key is not under the root, no key after these arcs is, since what is under it is adjacent

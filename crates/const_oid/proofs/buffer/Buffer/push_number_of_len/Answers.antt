@@ -1,7 +1,6 @@
 use Rattle.std.proofs.Common.{arith}
 use Rattle.std.proofs.lemmas.List.{length-take-le}
-use Rattle.const_oid.proofs.Groups.{width_is}
-use Rattle.const_oid.proofs.Octets.{zeros_written, octets_written, taken_written}
+use Rattle.const_oid.proofs.{Groups.width_is, Octets.{zeros_written, octets_written, taken_written}}
 use Rattle.const_oid.proofs.buffer.Buffer.push_number_of_len.Goals as goal
 
 pub overflow_add-end : goal.overflow_add-end

@@ -1,6 +1,5 @@
 use Rattle.std.proofs.Common.{◌≡◌, length}
-use Rattle.const_oid.specs.Names.{lent_arcs, first_name}
-use Rattle.const_oid.specs.Oid.{oid_arcs}
+use Rattle.const_oid.specs.{Names.{lent_arcs, first_name}, Oid.oid_arcs}
 use Rattle.const_oid.proofs.db.Database.by_oid.Given as goal
 
 abbrev pub invariant-loop-left : goal.invariant-loop-left

@@ -1,6 +1,5 @@
 use Rattle.std.proofs.Common.{◌≡◌, length}
-use Rattle.const_oid.specs.Names.{first_name}
-use Rattle.const_oid.specs.OidRef.{ref_arcs}
+use Rattle.const_oid.specs.{Names.first_name, OidRef.ref_arcs}
 use Rattle.const_oid.proofs.db_ref.RefDatabase.by_oid.Given as goal
 
 abbrev pub invariant-loop-left : goal.invariant-loop-left

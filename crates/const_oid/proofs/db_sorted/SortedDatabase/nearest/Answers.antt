@@ -1,6 +1,7 @@
 use Rattle.std.proofs.Common.{arith, sym}
 use Rattle.const_oid.specs.OidRef.{ref_arcs}
-use Rattle.const_oid.proofs.SortedNames.{last_begins, none_begins, no_entry, reached_itself, reached_entry, reached_parent, reached_root}
+use Rattle.const_oid.proofs.SortedNames.{last_begins, none_begins, no_entry, reached_itself, reached_entry}
+use Rattle.const_oid.proofs.SortedNames.{reached_parent, reached_root}
 use Rattle.const_oid.proofs.db_sorted.SortedDatabase.nearest.Goals as goal
 
 pub loop-above-init : goal.loop-above-init

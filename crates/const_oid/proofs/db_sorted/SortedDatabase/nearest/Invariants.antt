@@ -1,6 +1,5 @@
 use Rattle.std.proofs.Common.{length}
-use Rattle.const_oid.specs.Names.{entry_arcs, sorted_entries_of}
-use Rattle.const_oid.specs.OidRef.{ref_arcs}
+use Rattle.const_oid.specs.{Names.{entry_arcs, sorted_entries_of}, OidRef.ref_arcs}
 use Rattle.const_oid.proofs.SortedNames.{IsReached}
 use Rattle.const_oid.proofs.db_sorted.SortedDatabase.nearest.Given as goal
 

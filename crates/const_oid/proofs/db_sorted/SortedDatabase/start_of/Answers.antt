@@ -1,7 +1,6 @@
 use Rattle.std.proofs.Common.{rules}
 use Rattle.std.proofs.lemmas.List.Sorted.{IsPartitionPoint-from_clause}
-use Rattle.const_oid.specs.Names.{entry_arcs}
-use Rattle.const_oid.specs.OidRef.{ref_arcs}
+use Rattle.const_oid.specs.{Names.entry_arcs, OidRef.ref_arcs}
 use Rattle.const_oid.proofs.Subtree.{key_before, cut_before}
 use Rattle.const_oid.proofs.db_sorted.SortedDatabase.start_of.Goals as goal
 

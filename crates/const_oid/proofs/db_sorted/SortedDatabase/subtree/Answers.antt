@@ -1,11 +1,7 @@
 use Rattle.std.proofs.Common.{drop, rules}
-use Rattle.std.proofs.lemmas.List.{take_rest}
-use Rattle.std.proofs.lemmas.List.Sorted.{IsPartitionPoint-from_clause}
-use Rattle.const_oid.specs.Names.{entry_arcs}
-use Rattle.const_oid.specs.OidRef.{ref_arcs}
-use Rattle.const_oid.proofs.BeginsWith.{tells_under}
-use Rattle.const_oid.proofs.SortedNames.{subtree_is}
-use Rattle.const_oid.proofs.Subtree.{key_under, cut_after}
+use Rattle.std.proofs.lemmas.{List.take_rest, List.Sorted.IsPartitionPoint-from_clause}
+use Rattle.const_oid.specs.{Names.entry_arcs, OidRef.ref_arcs}
+use Rattle.const_oid.proofs.{BeginsWith.tells_under, SortedNames.subtree_is, Subtree.{key_under, cut_after}}
 use Rattle.const_oid.proofs.db_sorted.SortedDatabase.subtree.Goals as goal
 
 pub returns : goal.returns

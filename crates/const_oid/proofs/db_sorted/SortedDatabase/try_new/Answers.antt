@@ -1,6 +1,5 @@
 use Rattle.std.proofs.Common.{arith, rules}
-use Rattle.std.proofs.lemmas.Cmp.{nat_list_cmp_total}
-use Rattle.std.proofs.lemmas.Fn.{always_returns_same}
+use Rattle.std.proofs.lemmas.{Cmp.nat_list_cmp_total, Fn.always_returns_same}
 use Rattle.const_oid.proofs.SortedNames.{in_order, descends}
 use Rattle.const_oid.proofs.db_sorted.SortedDatabase.try_new.Goals as goal
 

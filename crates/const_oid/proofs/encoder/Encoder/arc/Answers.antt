@@ -1,10 +1,9 @@
 use Rattle.std.proofs.Common.{arith, min}
-use Rattle.const_oid.specs.Buffer.{octets_of}
-use Rattle.const_oid.specs.Identifier.{root_rule}
+use Rattle.const_oid.specs.{Buffer.octets_of, Identifier.root_rule}
 use Rattle.const_oid.proofs.Started.{Encodes, IsPushed, later_number, second_number, pushed}
+use Rattle.const_oid.proofs.{encoder.Encoder.arc.Given.Over, encoder.Encoder.arc.Goals.{After-push_group, then-len-gt0}}
+use Rattle.const_oid.proofs.encoder.Encoder.arc.Goals.{else-len-gt0+in-Some+else-arc-max_second}
 use Rattle.const_oid.proofs.encoder.Encoder.arc.Goals as goal
-use Rattle.const_oid.proofs.encoder.Encoder.arc.Given.{Over}
-use Rattle.const_oid.proofs.encoder.Encoder.arc.Goals.{After-push_group, then-len-gt0, else-len-gt0+in-Some+else-arc-max_second}
 
 after_push : (g : Over) (c : After-push_group g) → IsPushed root_rule (min g.row.SIZE 255) c.self.inside.first
     (octets_of c.push_group.new.self) c.args.self.now c.args.arc c.push_group.result

@@ -1,7 +1,6 @@
 use Rattle.std.proofs.Common.{arith, append_assoc}
 use Rattle.std.specs.Str.{IsUtf8}
-use Rattle.std.proofs.lemmas.List.{take-append-drop}
-use Rattle.std.proofs.lemmas.Str.{IsUtf8-append}
+use Rattle.std.proofs.lemmas.{List.take-append-drop, Str.IsUtf8-append}
 use Rattle.const_oid.proofs.Decimals.{drop_more}
 use Rattle.const_oid.proofs.error.Error.encode_text.Goals as goal
 

@@ -1,7 +1,5 @@
 use Rattle.std.proofs.Common.{arith}
-use Rattle.const_oid.proofs.Encodings.{oid_encoding}
-use Rattle.const_oid.proofs.Lengths.{size_push}
-use Rattle.const_oid.proofs.Children.{child_none, child_arcs}
+use Rattle.const_oid.proofs.{Encodings.oid_encoding, Lengths.size_push, Children.{child_none, child_arcs}}
 use Rattle.const_oid.proofs.oid.ObjectIdentifier.push_arc.Goals as goal
 
 pub returns-in-Err-clause-fits : goal.returns-in-Err-clause-fits

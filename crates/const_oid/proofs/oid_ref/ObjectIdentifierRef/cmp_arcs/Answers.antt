@@ -1,6 +1,5 @@
 use Rattle.std.proofs.Common.{◌∙◌}
-use Rattle.const_oid.proofs.ByParts.{arcs_cmp}
-use Rattle.const_oid.proofs.Encodings.{ref_encoding}
+use Rattle.const_oid.proofs.{ByParts.arcs_cmp, Encodings.ref_encoding}
 use Rattle.const_oid.proofs.oid_ref.ObjectIdentifierRef.cmp_arcs.Goals as goal
 
 pub returns : goal.returns

@@ -1,8 +1,7 @@
 use Rattle.std.proofs.Math.Seq.{take-append_seam}
 use Rattle.std.proofs.lemmas.Str.{IsUtf8-from_ascii}
 use Rattle.const_oid.specs.Identifier.{root_rule}
-use Rattle.const_oid.proofs.Encodings.{ref_encoding}
-use Rattle.const_oid.proofs.Texts.{text_ascii}
+use Rattle.const_oid.proofs.{Encodings.ref_encoding, Texts.text_ascii}
 use Rattle.const_oid.proofs.oid_ref.ObjectIdentifierRef.encode_str.Goals as goal
 
 pub utf8-requires : goal.utf8-requires

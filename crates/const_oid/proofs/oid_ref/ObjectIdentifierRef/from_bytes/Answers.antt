@@ -1,6 +1,5 @@
 use Rattle.std.proofs.Common.{arith}
-use Rattle.const_oid.proofs.Octets.{are_octets}
-use Rattle.const_oid.proofs.Encodings.{encoding_from_none}
+use Rattle.const_oid.proofs.{Octets.are_octets, Encodings.encoding_from_none}
 use Rattle.const_oid.proofs.oid_ref.ObjectIdentifierRef.from_bytes.Goals as goal
 
 pub invariant_of-result-clause-octets : goal.invariant_of-result-clause-octets

@@ -1,6 +1,5 @@
 use Rattle.std.proofs.Common.{arith}
-use Rattle.const_oid.proofs.Encodings.{ref_encoding}
-use Rattle.const_oid.proofs.Lengths.{length_by_count}
+use Rattle.const_oid.proofs.{Encodings.ref_encoding, Lengths.length_by_count}
 use Rattle.const_oid.proofs.oid_ref.ObjectIdentifierRef.len.Goals as goal
 
 pub returns : goal.returns

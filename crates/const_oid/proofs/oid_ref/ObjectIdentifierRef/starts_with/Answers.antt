@@ -1,6 +1,5 @@
 use Rattle.std.specs.Prelude.{IsTrue}
-use Rattle.const_oid.proofs.BeginsWith.{iff_begins}
-use Rattle.const_oid.proofs.Encodings.{ref_encoding}
+use Rattle.const_oid.proofs.{BeginsWith.iff_begins, Encodings.ref_encoding}
 use Rattle.const_oid.proofs.oid_ref.ObjectIdentifierRef.starts_with.Goals as goal
 
 pub returns : goal.returns

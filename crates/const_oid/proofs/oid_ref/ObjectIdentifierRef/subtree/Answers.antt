@@ -1,6 +1,5 @@
 use Rattle.std.proofs.Common.{drop, rules}
-use Rattle.std.proofs.lemmas.List.{take_rest}
-use Rattle.std.proofs.lemmas.List.Sorted.{IsPartitionPoint-from_clause}
+use Rattle.std.proofs.lemmas.{List.take_rest, List.Sorted.IsPartitionPoint-from_clause}
 use Rattle.const_oid.specs.OidRef.{ref_octets}
 use Rattle.const_oid.proofs.Subtree.{key_before, key_under, cut_before, cut_after, point_is_count, range_between}
 use Rattle.const_oid.proofs.oid_ref.ObjectIdentifierRef.subtree.Goals as goal

@@ -1,10 +1,8 @@
 use Rattle.std.proofs.Common.{[], ◌++◌, append_assoc, refl, ◌∙◌, ap, rules, arith}
 use Rattle.std.proofs.Output.{has_written_styled_append}
 use Rattle.std.proofs.lemmas.Str.{IsUtf8-from_ascii}
-use Rattle.const_oid.specs.Text.{text_of}
-use Rattle.const_oid.specs.Private.Text.{arc_text}
-use Rattle.const_oid.proofs.Decimals.{arc_text_ascii, arc_text_short}
-use Rattle.const_oid.proofs.Texts.{text_left-cons}
+use Rattle.const_oid.specs.{Text.text_of, Private.Text.arc_text}
+use Rattle.const_oid.proofs.{Decimals.{arc_text_ascii, arc_text_short}, Texts.text_left-cons}
 use Rattle.const_oid.proofs.oid_ref.ObjectIdentifierRefDisplay.fmt.Goals as goal
 
 pub loop-arc-init : goal.loop-arc-init

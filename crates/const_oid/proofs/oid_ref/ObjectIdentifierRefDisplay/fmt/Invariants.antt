@@ -1,8 +1,6 @@
 use Rattle.std.proofs.Common.{◌≡◌, List, ℕ, ◌++◌}
 use Rattle.std.specs.Fmt.{HasWrittenStyled, IsFlush}
-use Rattle.const_oid.specs.OidRef.{ref_arcs}
-use Rattle.const_oid.specs.Text.{text_of}
-use Rattle.const_oid.specs.Private.Text.{text_left}
+use Rattle.const_oid.specs.{OidRef.ref_arcs, Text.text_of, Private.Text.text_left}
 use Rattle.const_oid.proofs.oid_ref.ObjectIdentifierRefDisplay.fmt.Given as goal
 
 -- what is written, and the text of the arcs left, are the text of all
