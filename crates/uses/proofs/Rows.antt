@@ -47,7 +47,8 @@ module _ (entries : List (Entry ObjectIdentifierRef)) (rows : List Row) (made : 
 
   -- the table finds a name by arcs exactly where some row has them
   pub row_found : (arcs : List ℕ) (found : Option (Bor (List ℕ))) (result : Bool)
-      → found ≡ first_name ref_arcs entries arcs → result ≡ is_some found → IsTrue result ↔ Any (λ row. row.0 ≡ arcs) rows
+      → found ≡ first_name ref_arcs entries arcs → result ≡ is_some found
+      → IsTrue result ↔ Any (λ row. row.0 ≡ arcs) rows
   row_found arcs found result e f = rw (← made, f, e) (some_row entries arcs)
 
 -- the arcs that were found are others exactly where a test says so
