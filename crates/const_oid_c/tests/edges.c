@@ -81,6 +81,19 @@ static void of_many(size_t count) {
     octets[count - 1] = 0x7F;
 }
 
+/* The text of a length from 3: 1.2 or 1.10, and then arcs 1. */
+static void of_text(size_t len) {
+    size_t first = len % 2 ? 3 : 4;
+    size_t count = 1 + (len - first) / 2;
+    memcpy(wanted, len % 2 ? "1.2" : "1.10", first);
+    for (size_t i = first; i < len; i += 2) memcpy(wanted + i, ".1", 2);
+    memset(octets, 1, count);
+    octets[0] = len % 2 ? 0x2A : 0x32;
+    memset(text, 0xEE, sizeof text);
+    SEE(is(const_oid_to_text(octets, count, text, len), CONST_OID_OK, 0, len), len);
+    SEE(memcmp(text, wanted, len) == 0 && text[len] == 0xEE, len);
+}
+
 /* Two identifiers of this number of octets that differ in the last one. */
 static void of_two(size_t count) {
     static uint8_t other[MOST];
@@ -230,8 +243,9 @@ static void null_with_length(void) {
 }
 
 int main(void) {
-    static const size_t counts[] = {1, 2, 16, 17, 39, 40, 41, 254, 255, 256, 257, 1020, 1021, 8191, 8192, 8193, 16383,
-        16384, 16385, 65535, 65536, 65537, MOST};
+    static const size_t counts[] = {1, 2, 16, 17, 39, 40, 41, 64, 65, 254, 255, 256, 257, 1020, 1021, 8191, 8192, 8193,
+        16383, 16384, 16385, 65535, 65536, 65537, MOST};
+    for (size_t len = 3; len <= 128; len++) of_text(len);
     for (size_t i = 0; i < sizeof counts / sizeof *counts; i++) {
         of_many(counts[i]);
         of_lists(counts[i]);
