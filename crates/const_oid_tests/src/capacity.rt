@@ -1,8 +1,8 @@
 //! Capacities: what `from_bytes_sized`, `new_sized` and `from_arcs_sized` accept.
 
-ghost use Rattle.std.specs.Prelude.{◌≡◌, ◌≤◌};
+ghost use Rattle.std.specs.Prelude.{◌≡◌};
 
-use crate::vectors::{is_answer, long_octets, long_text};
+use crate::vectors::{is_answer, long_octets};
 use const_oid::{Arc, Error, ObjectIdentifier, Oid};
 use std::alloc::{AllocError, Global};
 
@@ -63,7 +63,7 @@ const OCTETS: &[Row] = &[
 
 /// Whether the octets of a row are accepted or rejected as it says.
 fn is_accepted(alloc: Global, row: &Row) -> Result<bool, AllocError> {
-    let octets = long_octets(alloc, row.1, row.2, row.3)?;
+    let octets = long_octets(alloc, row.1, row.2, &[0x01], row.3)?;
     Ok(accepts(row.0, octets.as_slice(), row.4))
 }
 
@@ -71,66 +71,6 @@ fn is_accepted(alloc: Global, row: &Row) -> Result<bool, AllocError> {
 fn octets(rt: HostRuntime) -> Result<(), AllocError> {
     for row in OCTETS {
         assert!(rt; is_accepted(rt.alloc(), row)?, "{row:?}");
-    }
-    Ok(())
-}
-
-/// More arcs than any capacity has.
-const ONES: [Arc; 257] = [1; 257];
-
-/// Whether a text and the list of so many arcs 1 are accepted with these octets, or rejected with this error.
-fn both_read<const SIZE: usize>(text: &str, arcs: usize, wanted: Result<&[u8], Error>) -> bool
-    requires { SIZE ≤ 300 }
-{
-    let listed = ObjectIdentifier::<SIZE>::from_arcs_sized(ONES.iter().take(arcs).copied());
-    is_answer(ObjectIdentifier::<SIZE>::new_sized(text), wanted) && is_answer(listed, wanted)
-}
-
-/// Whether 1.1.1.1 and so on, of so many octets, is accepted at a capacity, or rejected with [`Error::Length`].
-fn reads<const SIZE: usize>(
-    alloc: Global,
-    len: usize,
-    is_accepted: bool,
-) -> Result<bool, AllocError>
-    requires { SIZE ≤ 300 }
-{
-    let text = long_text(alloc, "1", len, "")?;
-    let octets = long_octets(alloc, &[0x29], len.saturating_sub(1), &[])?;
-    let wanted = if is_accepted {
-        Ok(octets.as_slice())
-    } else {
-        Err(Error::Length)
-    };
-    Ok(both_read::<SIZE>(text.as_str(), len.saturating_add(1), wanted))
-}
-
-/// Whether so many octets fit, if there is one, and one more does not.
-fn fits<const SIZE: usize>(alloc: Global, octets: usize) -> Result<bool, AllocError>
-    requires { SIZE ≤ 300 }
-{
-    let fits = octets == 0 || reads::<SIZE>(alloc, octets, true)?;
-    Ok(fits && reads::<SIZE>(alloc, octets.saturating_add(1), false)?)
-}
-
-/// Whether so many octets fit at one of the capacities that the rows name, and one more does not.
-fn fits_at(alloc: Global, capacity: usize, octets: usize) -> Result<bool, AllocError> {
-    match capacity {
-        0 => fits::<0>(alloc, octets),
-        5 => fits::<5>(alloc, octets),
-        39 => fits::<39>(alloc, octets),
-        255 => fits::<255>(alloc, octets),
-        300 => fits::<300>(alloc, octets),
-        _ => Ok(false),
-    }
-}
-
-/// Capacities, and how many octets fit.
-const FITTING: &[(usize, usize)] = &[(0, 0), (5, 5), (39, 39), (255, 255), (300, 255)];
-
-#[test]
-fn texts_and_lists(rt: HostRuntime) -> Result<(), AllocError> {
-    for (capacity, octets) in FITTING {
-        assert!(rt; fits_at(rt.alloc(), *capacity, *octets)?, "{capacity}");
     }
     Ok(())
 }

@@ -1,8 +1,9 @@
 //! Texts of identifiers and errors in slices: `encode_text`, `encode_str` and `text_len`.
 
 use crate::errors::MESSAGES;
+use crate::vectors::long_octets;
 use const_oid::{Arc, Error, ObjectIdentifier, ObjectIdentifierRef, Oid};
-use std::alloc::{AllocError, Global};
+use std::alloc::Global;
 use std::test::Fail;
 
 /// Arcs on both sides of each number of digits, and the texts of 1.2 and the arc.
@@ -78,20 +79,6 @@ fn errors(rt: HostRuntime) {
     }
 }
 
-/// A prefix, and so many times a unit.
-fn repeated(
-    alloc: Global,
-    prefix: &[u8],
-    count: usize,
-    unit: &[u8],
-) -> Result<Vec<u8>, AllocError> {
-    let mut bytes = prefix.to_vec(alloc)?;
-    for _ in 0..count {
-        bytes.extend_from_slice(unit)?;
-    }
-    Ok(bytes)
-}
-
 /// The octets and the text of a first group, how many groups follow, and their octets and text.
 type Row = (
     &'static [u8],
@@ -126,8 +113,8 @@ fn octets_write(octets: &[u8], text: &[u8], out: &mut [u8]) -> Result<bool, Erro
 
 /// Whether the octets of a row write its text.
 fn is_written(alloc: Global, row: &Row) -> Result<bool, Fail> {
-    let octets = repeated(alloc, row.0, row.2, row.3)?;
-    let text = repeated(alloc, row.1, row.2, row.4)?;
+    let octets = long_octets(alloc, row.0, row.2, row.3, &[])?;
+    let text = long_octets(alloc, row.1, row.2, row.4, &[])?;
     let mut out = text.as_slice().to_vec(alloc)?;
     Ok(octets_write(octets.as_slice(), text.as_slice(), out.as_mut_slice())?)
 }

@@ -2,7 +2,7 @@
 
 use crate::vectors::accepted_rows;
 use const_oid::{ObjectIdentifierRef, Oid};
-use std::alloc::{AllocError, Global};
+use std::alloc::Global;
 use std::collections::{BTreeMap, HashMap};
 use std::test::Fail;
 
@@ -43,24 +43,23 @@ fn finds_keys(rt: HostRuntime) -> Result<(), Fail> {
     Ok(())
 }
 
-/// What a table of one borrowed identifier, named `"1.2.3"`, has for another one.
-fn name_among(
-    alloc: Global,
-    key: ObjectIdentifierRef<'_>,
-    oid: ObjectIdentifierRef<'_>,
-) -> Result<Option<&'static str>, AllocError> {
+/// Whether a borrowed identifier is found in a map with another one.
+fn is_found(alloc: Global, key: &[u8], octets: &[u8]) -> Result<bool, Fail> {
     let mut names = HashMap::new(alloc);
-    names.insert(key, "1.2.3")?;
-    Ok(names.get(&oid).copied())
+    names.insert(ObjectIdentifierRef::from_bytes(key)?, "1.2.3")?;
+    Ok(
+        names
+            .get(&ObjectIdentifierRef::from_bytes(octets)?)
+            .is_some(),
+    )
 }
+
+/// Octets of two identifiers that stand at other addresses.
+const TWICE: [u8; 4] = [0x2A, 0x03, 0x2A, 0x03];
 
 #[test]
 fn finds_borrowed_keys(rt: HostRuntime) -> Result<(), Fail> {
-    let octets: &[u8] = &[0x2A, 0x03, 0x2A, 0x03];
-    let key = ObjectIdentifierRef::from_bytes(&octets[..2])?;
-    let same = ObjectIdentifierRef::from_bytes(&octets[2..])?;
-    let other = ObjectIdentifierRef::from_bytes(&octets[2..3])?;
-    assert!(rt; name_among(rt.alloc(), key, same)? == Some("1.2.3"));
-    assert!(rt; name_among(rt.alloc(), key, other)? == None);
+    assert!(rt; is_found(rt.alloc(), &TWICE[..2], &TWICE[2..])?);
+    assert!(rt; !is_found(rt.alloc(), &TWICE[..2], &TWICE[..1])?);
     Ok(())
 }

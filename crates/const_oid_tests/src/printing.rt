@@ -2,6 +2,7 @@
 
 use crate::encode_text::ARCS;
 use crate::formatter::{DebugText, DebugTexts, count_writes, prints, prints_as};
+use crate::vectors::{long_octets, long_text};
 use const_oid::{Arc, Error, ObjectIdentifier, ObjectIdentifierRef, Oid};
 use std::alloc::{AllocError, Global};
 use std::fmt::Debug;
@@ -72,22 +73,21 @@ fn prints_octets(alloc: Global, octets: &[u8], text: &str) -> Result<bool, Fail>
 /// Whether so many equal octets print as the text of the first one and then a text for each later one.
 fn prints_equal_octets(
     alloc: Global,
-    octet: &str,
+    octet: u8,
     first: &str,
     later: &str,
     count: usize,
 ) -> Result<bool, Fail> {
-    let octets = octet.repeat(alloc, count)?;
-    let later = later.repeat(alloc, count.saturating_sub(1))?;
-    let text = format!(in alloc; "{first}{later}")?;
-    prints_octets(alloc, octets.as_bytes(), text.as_str())
+    let octets = long_octets(alloc, &[], count, &[octet], &[])?;
+    let text = long_text(alloc, first, count.saturating_sub(1), later, "")?;
+    prints_octets(alloc, octets.as_slice(), text.as_str())
 }
 
 /// The same of octets 7F and of octets 01.
 fn prints_count(alloc: Global, count: usize) -> Result<bool, Fail> {
     Ok(
-        prints_equal_octets(alloc, "\u{7F}", "2.47", ".127", count)?
-            && prints_equal_octets(alloc, "\u{1}", "0.1", ".1", count)?,
+        prints_equal_octets(alloc, 0x7F, "2.47", ".127", count)?
+            && prints_equal_octets(alloc, 0x01, "0.1", ".1", count)?,
     )
 }
 
@@ -161,8 +161,7 @@ fn takes_several_writes(text: &str) -> Result<bool, Error> {
 
 #[test]
 fn refused_writes_of_a_long_text(rt: HostRuntime) -> Result<(), Fail> {
-    let later = ".127".repeat(rt.alloc(), 254)?;
-    let text = format!(in rt.alloc(); "2.47{later}")?;
+    let text = long_text(rt.alloc(), "2.47", 254, ".127", "")?;
     assert!(rt; takes_several_writes(text.as_str()) == Ok(true));
     Ok(())
 }

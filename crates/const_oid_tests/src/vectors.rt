@@ -92,31 +92,33 @@ pub const ASCENDING: &[&[u8]] = &[
     &[0x88, 0x37, 0x03],
 ];
 
-/// A prefix, so many times `.1`, and an end.
+/// A prefix, so many times a unit, and an end.
 pub fn long_text(
     alloc: Global,
     prefix: &str,
     count: usize,
+    unit: &str,
     end: &str,
 ) -> Result<String, AllocError> {
     let mut text = String::from_str(alloc, prefix)?;
     for _ in 0..count {
-        text.push_str(".1")?;
+        text.push_str(unit)?;
     }
     text.push_str(end)?;
     Ok(text)
 }
 
-/// A prefix, so many octets 01, and an end.
+/// A prefix, so many times a unit, and an end.
 pub fn long_octets(
     alloc: Global,
     prefix: &[u8],
     count: usize,
+    unit: &[u8],
     end: &[u8],
 ) -> Result<Vec<u8>, AllocError> {
     let mut octets = prefix.to_vec(alloc)?;
     for _ in 0..count {
-        octets.push(0x01)?;
+        octets.extend_from_slice(unit)?;
     }
     octets.extend_from_slice(end)?;
     Ok(octets)
