@@ -1,40 +1,9 @@
 //! Subtrees of borrowed identifiers: `subtree`.
 
-ghost use Rattle.std.specs.Prelude.{◌≡◌, ◌<◌, ◌≤◌, ◌↔◌, ℕ, IfOk, IfSome, slice_get};
-ghost use Rattle.std.specs.Ordering.{nat_cmp};
-ghost use Rattle.std.specs.Cmp.Lexicographic.{slice_cmp};
-ghost use Rattle.std.specs.List.Sorted.{IsSortedByKey};
-ghost use Rattle.const_oid.specs.OidRef.{ref_octets, ref_arcs};
-ghost use Rattle.const_oid.specs.Tree.{BeginsWith};
-
 use crate::vectors::ASCENDING;
 use const_oid::ObjectIdentifierRef;
-use std::alloc::{AllocError, Global};
+use std::alloc::Global;
 use std::test::Fail;
-
-/// Sorts identifiers, and returns the range of those that begin with one.
-fn sorted_subtree(
-    prefix: &ObjectIdentifierRef<'_>,
-    oids: &mut Vec<ObjectIdentifierRef<'_>>,
-) -> Result<(usize, usize), AllocError>
-    ensures { IfOk result (λ range. (k : ℕ) → IfSome (slice_get oids.new.items k) (λ oid.
-        BeginsWith (ref_arcs oid) (ref_arcs prefix.now) ↔ ((range.0 ≤ k) × (k < range.1)))) }
-{
-    oids.sort()?;
-    Ok(prefix.subtree(oids))
-}
-
-/// The first identifier of a sorted list that begins with one.
-fn first_under<'a>(
-    prefix: &ObjectIdentifierRef<'_>,
-    sorted: &[ObjectIdentifierRef<'a>],
-) -> Option<ObjectIdentifierRef<'a>>
-    requires { IsSortedByKey ref_octets (slice_cmp nat_cmp) sorted.now }
-    ensures { IfSome result (λ oid. BeginsWith (ref_arcs oid) (ref_arcs prefix.now)) }
-{
-    let (from, to) = prefix.subtree(sorted);
-    if from < to { Some(sorted[from]) } else { None }
-}
 
 /// The identifiers of a list.
 fn read<'a>(alloc: Global, list: &[&'a [u8]]) -> Result<Vec<ObjectIdentifierRef<'a>>, Fail> {
@@ -57,28 +26,18 @@ const ROWS: &[(&[&[u8]], &[u8], (usize, usize))] = &[
     (&[], &[0x2A], (0, 0)),
 ];
 
-/// Whether a list, once sorted, has an identifier that begins with a prefix.
-fn has_first(
-    prefix: &ObjectIdentifierRef<'_>,
-    oids: &mut Vec<ObjectIdentifierRef<'_>>,
-) -> Result<bool, AllocError> {
-    oids.sort()?;
-    Ok(first_under(prefix, oids).is_some())
-}
-
-/// The range of those that begin with a prefix, and whether there is a first one.
-fn range_of(alloc: Global, list: &[&[u8]], prefix: &[u8]) -> Result<((usize, usize), bool), Fail> {
+/// The range of those that begin with a prefix in a list, once it is sorted.
+fn range_of(alloc: Global, list: &[&[u8]], prefix: &[u8]) -> Result<(usize, usize), Fail> {
     let prefix = ObjectIdentifierRef::from_bytes(prefix)?;
     let mut oids = read(alloc, list)?;
-    let range = sorted_subtree(&prefix, &mut oids)?;
-    Ok((range, has_first(&prefix, &mut oids)?))
+    oids.sort()?;
+    Ok(prefix.subtree(&oids))
 }
 
 #[test]
 fn ranges(rt: HostRuntime) -> Result<(), Fail> {
     for (list, prefix, range) in ROWS {
-        let wanted = (*range, range.0 < range.1);
-        assert_eq!(rt; range_of(rt.alloc(), list, prefix)?, wanted, "{prefix:?}");
+        assert!(rt; range_of(rt.alloc(), list, prefix)? == *range, "{prefix:?}");
     }
     Ok(())
 }

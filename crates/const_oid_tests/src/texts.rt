@@ -37,7 +37,9 @@ fn refused(rt: HostRuntime) {
 }
 
 /// How a text begins, how many times `.1` follows, how it ends, and how many octets it has, or its error.
-const LONG: &[(&str, usize, &str, Result<usize, Error>)] = &[
+type Row = (&'static str, usize, &'static str, Result<usize, Error>);
+
+const LONG: &[Row] = &[
     ("1.2", 38, "", Ok(39)),
     ("1.2", 39, "", Err(Error::Length)),
     ("1.2", 39, ".", Err(Error::TrailingDot)),
@@ -49,22 +51,16 @@ const LONG: &[(&str, usize, &str, Result<usize, Error>)] = &[
     ("2.4294967295", 35, ".", Err(Error::TrailingDot)),
 ];
 
-/// How many octets a long text has, or its error.
-fn len_of(
-    alloc: Global,
-    prefix: &str,
-    count: usize,
-    end: &str,
-) -> Result<Result<usize, Error>, AllocError> {
-    let text = long_text(alloc, prefix, count, ".1", end)?;
-    Ok(Oid::new(text.as_str()).map(|oid| oid.as_bytes().len()))
+/// Whether the long text of a row has as many octets as it says, or its error.
+fn has_len(alloc: Global, row: &Row) -> Result<bool, AllocError> {
+    let text = long_text(alloc, row.0, row.1, ".1", row.2)?;
+    Ok(Oid::new(text.as_str()).map(|oid| oid.as_bytes().len()) == row.3)
 }
 
 #[test]
 fn longest(rt: HostRuntime) -> Result<(), AllocError> {
-    for (prefix, count, end, wanted) in LONG {
-        let len = len_of(rt.alloc(), prefix, *count, end)?;
-        assert!(rt; len == *wanted, "{prefix}, {count} and {end}");
+    for row in LONG {
+        assert!(rt; has_len(rt.alloc(), row)?, "{row:?}");
     }
     Ok(())
 }
@@ -87,15 +83,23 @@ fn is_left<'a>(database: &Database<'a>, text: &'a str, error: Option<Error>) -> 
     }
 }
 
-/// Each call that reads a text reads any number of zeros.
+/// Whether each call that reads a text has this result for one of 100,000 zeros between these.
+fn reads_zeros(
+    alloc: Global,
+    prefix: &str,
+    end: &str,
+    wanted: Result<&[u8], Error>,
+) -> Result<bool, AllocError> {
+    let text = long_text(alloc, prefix, 100_000, "0", end)?;
+    let text = text.as_str();
+    Ok(both_read(text, wanted) && is_left(&Database::new(&[]), text, wanted.err()))
+}
+
 #[test]
 fn zeros(rt: HostRuntime) -> Result<(), AllocError> {
     for (prefix, end, wanted) in ZEROS {
-        let text = long_text(rt.alloc(), prefix, 100_000, "0", end)?;
-        let text = text.as_str();
-        assert!(rt; both_read(text, *wanted), "{prefix} {end}");
         assert!(rt;
-            is_left(&Database::new(&[]), text, wanted.err()),
+            reads_zeros(rt.alloc(), prefix, end, *wanted)?,
             "{prefix} {end}"
         );
     }
