@@ -15,9 +15,15 @@ const PAIRS: &[u8] = &[
     0x00, 0x81, 0x00, 0x81, 0x00, 0x81, 0x00, 0x81, 0x00, 0x81, 0x00, 0x81, 0x00, 0x81, 0x00,
 ];
 
-/// An arc of two octets that crosses the edge of 32.
+/// 31 octets, and the arc 128, whose two octets cross the edge of 32.
 const ACROSS: &[u8] = &[
     0x2A, 1, 1, 1, 1, 1, 1, 1, 1, 1, 1, 1, 1, 1, 1, 1, 1, 1, 1, 1, 1, 1, 1, 1, 1, 1, 1, 1, 1, 1, 1,
+    0x81, 0x00,
+];
+
+/// The same of the arc 840.
+const FURTHER: &[u8] = &[
+    0x01, 1, 1, 1, 1, 1, 1, 1, 1, 1, 1, 1, 1, 1, 1, 1, 1, 1, 1, 1, 1, 1, 1, 1, 1, 1, 1, 1, 1, 1, 1,
     0x86, 0x48,
 ];
 
@@ -38,8 +44,9 @@ const ROWS: &[Row] = &[
     (&[0x7F; 32], 33, 32, Some(127)),
     (&[0x7F; 33], 34, 33, Some(127)),
     (ACROSS, 33, 31, Some(1)),
-    (ACROSS, 33, 32, Some(840)),
+    (ACROSS, 33, 32, Some(128)),
     (ACROSS, 33, 33, None),
+    (FURTHER, 33, 32, Some(840)),
 ];
 
 /// How many arcs borrowed octets have, and the arc at an index.

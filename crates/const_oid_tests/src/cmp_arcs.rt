@@ -3,16 +3,9 @@
 use const_oid::{Error, ObjectIdentifier, Oid};
 use std::cmp::Ordering;
 
-/// Two texts, and how the arcs of the first compare to those of the second.
-type Row = (&'static str, &'static str, Ordering);
-
-/// A longer group is the greater number, whatever its first octet. The rows are in a function, so that they
-/// are checked once.
-fn rows() -> &'static [Row] {
-    ROWS
-}
-
-const ROWS: &[Row] = &[
+/// Two texts, and how the arcs of the first compare to those of the second. A longer group is the greater
+/// number, whatever its first octet.
+const ROWS: &[(&str, &str, Ordering)] = &[
     ("0.0", "0.39", Ordering::Less),
     ("0.39", "1.0", Ordering::Less),
     ("1.39", "2.0", Ordering::Less),
@@ -50,7 +43,7 @@ fn compare(left: &str, right: &str, order: Ordering) -> Result<bool, Error> {
 
 #[test]
 fn order_of_arcs(rt: HostRuntime) {
-    for (left, right, order) in rows() {
+    for (left, right, order) in ROWS {
         assert!(rt; compare(left, right, *order) == Ok(true), "{left} {right}");
     }
 }

@@ -1,18 +1,44 @@
-//! A borrowed identifier copied at a capacity, and compared with the owned one: `try_from_ref`, `eq_oid`.
+//! A borrowed identifier copied at several capacities, and compared with owned ones: `try_from_ref`, `eq_oid`.
+
+ghost use Rattle.std.specs.Prelude.{◌≤◌};
 
 use const_oid::{Error, ObjectIdentifier, ObjectIdentifierRef};
 
-/// Whether a copy of a borrowed identifier of at most two octets is equal to it, or the result is this error.
-fn is_copied(octets: &[u8], error: Option<Error>) -> Result<bool, Error> {
+/// Whether a copy of a borrowed identifier, at a capacity, is equal to it, or the result is this error.
+fn copies<const N: usize>(octets: &[u8], error: Option<Error>) -> Result<bool, Error>
+    requires { N ≤ 300 }
+{
     let borrowed = ObjectIdentifierRef::from_bytes(octets)?;
-    Ok(match ObjectIdentifier::<2>::try_from_ref(borrowed) {
+    Ok(match ObjectIdentifier::<N>::try_from_ref(borrowed) {
         Ok(oid) => error.is_none() && oid.as_bytes() == octets && borrowed.eq_oid(&oid),
         Err(fault) => error == Some(fault),
     })
 }
 
+/// The same for one of the capacities that the rows name.
+fn copies_at(capacity: usize, octets: &[u8], error: Option<Error>) -> Result<bool, Error> {
+    match capacity {
+        2 => copies::<2>(octets, error),
+        3 => copies::<3>(octets, error),
+        300 => copies::<300>(octets, error),
+        _ => Ok(false),
+    }
+}
+
+/// Capacities, octets, and the error, if there is one.
+const ROWS: &[(usize, &[u8], Option<Error>)] = &[
+    (2, &[0x2A, 0x03], None),
+    (300, &[0x2A, 0x03], None),
+    (3, &[0x2A, 0xFF, 0x7F], None),
+    (2, &[0x2A, 0xFF, 0x7F], Some(Error::Length)),
+];
+
 #[test]
 fn copies_a_borrowed_identifier(rt: HostRuntime) {
-    assert!(rt; is_copied(&[0x2A, 0x03], None) == Ok(true));
-    assert!(rt; is_copied(&[0x2A, 0xFF, 0x7F], Some(Error::Length)) == Ok(true));
+    for (capacity, octets, error) in ROWS {
+        assert!(rt;
+            copies_at(*capacity, octets, *error) == Ok(true),
+            "{capacity}: {octets:?}"
+        );
+    }
 }

@@ -16,7 +16,9 @@ fn is_each(printed: &str, text: &str) -> bool {
 
 /// Whether a value prints as this text, plain and under each option, alone and together.
 pub fn prints<T: Display>(alloc: Global, value: &T, text: &str) -> Result<bool, AllocError> {
-    let printed = format!(in alloc; "{value}|{value:#}|{value:+.3}|{value:030}|{value:*^+#80.1}")?;
+    let printed = format!(in alloc;
+        "{value}|{value:#}|{value:+}|{value:.3}|{value:30}|{value:030}|{value:<30}|{value:^30}|{value:*>60}|{value:*^+#80.1}"
+    )?;
     Ok(is_each(printed.as_str(), text))
 }
 

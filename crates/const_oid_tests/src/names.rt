@@ -168,26 +168,34 @@ const COMMON_NAME: ObjectIdentifierRef<'static> = ObjectIdentifierRef {
     ber: &[0x55, 0x04, 0x03],
 };
 
-/// cn and commonName (RFC 4519).
-const TABLE: [(ObjectIdentifierRef<'static>, &str); 2] = [
+const COUNTRY: ObjectIdentifierRef<'static> = ObjectIdentifierRef {
+    ber: &[0x55, 0x04, 0x06],
+};
+
+/// cn and commonName of 2.5.4.3, and c of 2.5.4.6 (RFC 4519).
+const TABLE: [(ObjectIdentifierRef<'static>, &str); 3] = [
     (COMMON_NAME, "cn"),
+    (COUNTRY, "c"),
     (COMMON_NAME, "commonName"),
 ];
 
-/// Whether a table has cn and commonName for an identifier in this order, and then no name, each time.
-fn has_both_names(database: &RefDatabase<'_>, oid: ObjectIdentifierRef<'_>) -> bool {
-    let mut names = database.find_names_for_oid(oid);
-    database.by_oid(&oid) == Some("cn")
-        && names.next() == Some("cn")
-        && names.next() == Some("commonName")
-        && names.next().is_none()
-        && names.next().is_none()
+/// Whether an identifier of constants has these names in table order, and then none, each time.
+fn has_constant_names(oid: ObjectIdentifierRef<'_>, wanted: &[&str]) -> bool {
+    let mut names = RefDatabase::new(&TABLE).find_names_for_oid(oid);
+    for name in wanted {
+        if names.next() != Some(name) {
+            return false;
+        }
+    }
+    names.next().is_none() && names.next().is_none()
 }
 
 #[test]
 fn table_of_constants(rt: HostRuntime) {
     let database = RefDatabase::new(&TABLE);
-    assert!(rt; has_both_names(&database, COMMON_NAME));
+    let unnamed = ObjectIdentifierRef { ber: &[0x55, 0x04] };
+    assert!(rt; database.by_oid(&COMMON_NAME) == Some("cn") && database.by_oid(&unnamed).is_none());
     assert!(rt; database.by_name("COMMONNAME") == Some(COMMON_NAME));
     assert!(rt; database.by_name("common").is_none());
+    assert!(rt; has_constant_names(COMMON_NAME, &["cn", "commonName"]));
 }
