@@ -4,22 +4,15 @@ use std::alloc::{AllocError, Global};
 use std::fmt;
 use std::fmt::{Debug, Display, Write};
 
-/// Whether each text between bars is this text.
-fn is_each(printed: &str, text: &str) -> bool {
-    for piece in printed.split('|') {
-        if piece != text {
-            return false;
-        }
-    }
-    true
-}
-
 /// Whether a value prints as this text, plain and under each option, alone and together.
 pub fn prints<T: Display>(alloc: Global, value: &T, text: &str) -> Result<bool, AllocError> {
     let printed = format!(in alloc;
         "{value}|{value:#}|{value:+}|{value:.3}|{value:30}|{value:030}|{value:<30}|{value:^30}|{value:*>60}|{value:*^+#80.1}"
     )?;
-    Ok(is_each(printed.as_str(), text))
+    let wanted = format!(in alloc;
+        "{text}|{text}|{text}|{text}|{text}|{text}|{text}|{text}|{text}|{text}"
+    )?;
+    Ok(printed.as_str() == wanted.as_str())
 }
 
 /// Whether a value is printed as this text where no memory is at hand.

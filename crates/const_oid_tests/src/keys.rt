@@ -3,31 +3,25 @@
 use crate::vectors::accepted_rows;
 use const_oid::{ObjectIdentifierRef, Oid};
 use std::alloc::Global;
-use std::collections::{BTreeMap, HashMap};
+use std::collections::HashMap;
 use std::test::Fail;
 
-type Maps = (HashMap<Oid, usize>, BTreeMap<Oid, usize>);
-
 /// The numbers of arcs of the shared rows, by the identifiers of their octets.
-fn maps(alloc: Global) -> Result<Maps, Fail> {
-    let mut hashed = HashMap::new(alloc);
-    let mut sorted = BTreeMap::new(alloc);
+fn counts(alloc: Global) -> Result<HashMap<Oid, usize>, Fail> {
+    let mut counts = HashMap::new(alloc);
     for (_, octets, arcs) in accepted_rows() {
-        let oid = Oid::from_bytes(octets)?;
-        hashed.insert(oid, arcs.len())?;
-        sorted.insert(oid, arcs.len())?;
+        counts.insert(Oid::from_bytes(octets)?, arcs.len())?;
     }
-    Ok((hashed, sorted))
+    Ok(counts)
 }
 
 /// The first text whose identifier is no key, or that of another number.
-fn wrong_key(maps: &Maps) -> Option<&'static str> {
+fn wrong_key(counts: &HashMap<Oid, usize>) -> Option<&'static str> {
     for (text, _, arcs) in accepted_rows() {
         let Ok(oid) = Oid::new(text) else {
             return Some(text);
         };
-        let wanted = Some(arcs.len());
-        if maps.0.get(&oid).copied() != wanted || maps.1.get(&oid).copied() != wanted {
+        if counts.get(&oid).copied() != Some(arcs.len()) {
             return Some(text);
         }
     }
@@ -37,9 +31,9 @@ fn wrong_key(maps: &Maps) -> Option<&'static str> {
 /// The identifiers of the texts are the same keys.
 #[test]
 fn finds_keys(rt: HostRuntime) -> Result<(), Fail> {
-    let maps = maps(rt.alloc())?;
-    assert_eq!(rt; wrong_key(&maps), None);
-    assert_eq!(rt; maps.0.len(), accepted_rows().len());
+    let counts = counts(rt.alloc())?;
+    assert_eq!(rt; wrong_key(&counts), None);
+    assert_eq!(rt; counts.len(), accepted_rows().len());
     Ok(())
 }
 

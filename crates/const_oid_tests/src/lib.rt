@@ -1,8 +1,10 @@
-//! Tests of `const_oid` over its public calls: rows from outside, and what no clause says.
+//! Tests of `const_oid` over its public calls, and of `uses`: rows from outside, and what no clause says.
 #![tactic(auto)]
 
 #[cfg(test)]
 mod arcs;
+#[cfg(test)]
+mod callers;
 #[cfg(test)]
 mod capacity;
 #[cfg(test)]
@@ -14,11 +16,15 @@ mod encode_text;
 #[cfg(test)]
 mod errors;
 #[cfg(test)]
+mod first;
+#[cfg(test)]
 mod formatter;
 #[cfg(test)]
 mod items;
 #[cfg(test)]
 mod keys;
+#[cfg(test)]
+mod mib;
 #[cfg(test)]
 mod names;
 #[cfg(test)]
@@ -29,6 +35,8 @@ mod order;
 mod printing;
 #[cfg(test)]
 mod short_slices;
+#[cfg(test)]
+mod snmp;
 #[cfg(test)]
 mod sorted;
 #[cfg(test)]

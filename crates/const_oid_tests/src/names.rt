@@ -116,26 +116,6 @@ fn names_and_identifiers(rt: HostRuntime) -> Result<(), Fail> {
     Ok(())
 }
 
-/// Whether a table without entries has no name, and leaves a text as it is.
-fn is_empty(database: &Database<'_>, oid: Oid) -> bool {
-    database.by_oid(&oid).is_none()
-        && database.by_name("cn").is_none()
-        && has_names(database, oid, &[])
-        && database.resolve("01.2") == Ok("01.2")
-}
-
-/// A table without entries, an entry twice, and an empty name.
-#[test]
-fn unusual_tables(rt: HostRuntime) -> Result<(), Error> {
-    let oid = Oid::new("1.2.3")?;
-    let twice = [(&oid, "cn"), (&oid, "cn")];
-    let unnamed = [(&oid, "")];
-    assert!(rt; is_empty(&Database::new(&[]), oid));
-    assert!(rt; has_names(&Database::new(&twice), oid, &["cn", "cn"]));
-    assert!(rt; Database::new(&unnamed).resolve("1.2.3") == Ok(""));
-    Ok(())
-}
-
 /// An entry as a text and a name.
 type Pair = (&'static str, &'static str);
 

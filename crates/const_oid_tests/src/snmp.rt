@@ -5,12 +5,12 @@ ghost use Rattle.std.specs.List.Sorted.{IsSortedByKey};
 ghost use Rattle.std.specs.Ordering.{nat_cmp};
 ghost use Rattle.const_oid.specs.OidRef.{key_arcs};
 
-use crate::theorems::through_text;
-use crate::walk::{next_after, next_under};
 use const_oid::{ByArcs, Error, ObjectIdentifier, ObjectIdentifierRef, Oid};
 use std::alloc::Global;
 use std::collections::BTreeMap;
 use std::test::Fail;
+use uses::theorems::through_text;
+use uses::walk::{next_after, next_under};
 
 /// sysDescr (RFC 3418), columns of interfaces by their number (RFC 2863), connections over IPv4 and
 /// IPv6 by addresses and ports (RFC 4022), enterprises.
