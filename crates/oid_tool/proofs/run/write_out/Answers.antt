@@ -7,3 +7,6 @@ pub loop-rest-preserved : goal.loop-rest-preserved
 loop-rest-preserved g c =
     let cut = first_and_left c.in-Ok.count c.loop-rest.rest.now _ (search (rules, overwrites)) in
     appends_more c.loop-rest.invariant _ _ cut c.in-Ok.ensures.bytes
+
+pub returns-in-Ok-eq0-clause-prefix : goal.returns-in-Ok-eq0-clause-prefix
+returns-in-Ok-eq0-clause-prefix g c = search rules
