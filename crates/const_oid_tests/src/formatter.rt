@@ -1,27 +1,24 @@
 //! What values print, and a formatter's target that takes one text alone and may fail a write.
 
+use crate::vectors::long_text;
 use std::alloc::{AllocError, Global};
 use std::fmt;
 use std::fmt::{Debug, Display, Write};
 
 /// Whether a value prints as this text, plain and under each option, alone and together.
 pub fn prints<T: Display>(alloc: Global, value: &T, text: &str) -> Result<bool, AllocError> {
-    let printed = format!(in alloc;
-        "{value}|{value:#}|{value:+}|{value:.3}|{value:30}|{value:030}|{value:<30}|{value:^30}|{value:*>60}|{value:*^+#80.1}"
-    )?;
-    let wanted = format!(in alloc;
-        "{text}|{text}|{text}|{text}|{text}|{text}|{text}|{text}|{text}|{text}"
-    )?;
-    Ok(printed.as_str() == wanted.as_str())
+    let texts = long_text(alloc, text, 9, text, "")?;
+    let mut target = OneText::of(texts.as_str());
+    let written = write!(
+        target,
+        "{value}{value:#}{value:+}{value:.3}{value:30}{value:030}{value:<30}{value:^30}{value:*>60}{value:*^+#80.1}"
+    );
+    Ok(written.is_ok() && target.rest.is_empty())
 }
 
 /// Whether a value is printed as this text where no memory is at hand.
 pub fn prints_as<T: Display>(value: &T, text: &str) -> bool {
-    let mut target = OneText {
-        rest: text.as_bytes(),
-        writes: 0,
-        refused: 0,
-    };
+    let mut target = OneText::of(text);
     write!(target, "{value}").is_ok() && target.rest.is_empty()
 }
 
@@ -70,6 +67,17 @@ struct OneText<'a> {
     rest: &'a [u8],
     writes: usize,
     refused: usize,
+}
+
+impl<'a> OneText<'a> {
+    /// Fails no write.
+    fn of(text: &'a str) -> Self {
+        OneText {
+            rest: text.as_bytes(),
+            writes: 0,
+            refused: 0,
+        }
+    }
 }
 
 impl Write for OneText<'_> {
