@@ -7,11 +7,12 @@ use std::fmt::{Debug, Display, Write};
 
 /// Whether a value prints as this text, plain and under each option, alone and together.
 pub fn prints<T: Display>(alloc: Global, value: &T, text: &str) -> Result<bool, AllocError> {
-    let texts = long_text(alloc, text, 9, text, "")?;
+    let unit = long_text(alloc, text, 1, "|", "")?;
+    let texts = long_text(alloc, "", 10, unit.as_str(), "")?;
     let mut target = OneText::of(texts.as_str());
     let written = write!(
         target,
-        "{value}{value:#}{value:+}{value:.3}{value:30}{value:030}{value:<30}{value:^30}{value:*>60}{value:*^+#80.1}"
+        "{value}|{value:#}|{value:+}|{value:.3}|{value:30}|{value:030}|{value:<30}|{value:^30}|{value:*>60}|{value:*^+#80.1}|"
     );
     Ok(written.is_ok() && target.rest.is_empty())
 }
