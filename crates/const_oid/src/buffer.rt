@@ -54,7 +54,7 @@ impl<const SIZE: usize> Buffer<SIZE> {
     }
 
     /// Appends the group of a number, or returns `Length` where it does not fit.
-    // `const` in Rust.
+    // erase: const
     #[tactic(auto, using(crate::proofs::Groups::width_is))]
     #[inline(always)]
     pub(crate) fn push_group(&mut self, number: u64) -> Result<()>
@@ -71,7 +71,7 @@ impl<const SIZE: usize> Buffer<SIZE> {
 
     /// Appends the group of an arc, or returns `Length` where it does not fit. Short groups have paths of
     /// their own, which are quicker in a single call, and slower in the loop of an encoder.
-    // `const` in Rust.
+    // erase: const
     #[inline(always)]
     pub(crate) fn push_arc(&mut self, arc: Arc) -> Result<()>
         ensures { IsAppended (min SIZE 255) arc (octets_of self.old) (octets_of self.new) result }
@@ -85,7 +85,7 @@ impl<const SIZE: usize> Buffer<SIZE> {
     }
 
     /// Appends the group of a number, which takes `count` octets, or returns `Length`.
-    // `const` in Rust.
+    // erase: const
     #[inline(always)]
     fn push_number_of_len(&mut self, number: u64, count: usize) -> Result<()>
         requires small { number < 2 ^ 35 }
@@ -103,7 +103,7 @@ impl<const SIZE: usize> Buffer<SIZE> {
     }
 
     /// The octets in use.
-    // `const` in Rust.
+    // erase: const
     pub fn as_bytes(&self) -> &[u8]
         ensures { result.now ≡ octets_of self.now }
     {
@@ -136,7 +136,7 @@ impl<const SIZE: usize> Buffer<SIZE> {
     }
 
     /// Whether the octets in use are equal. Whole arrays are compared, since zeros follow in both.
-    // `const` in Rust.
+    // erase: const
     #[inline(always)]
     pub fn eq(&self, rhs: &Self) -> bool
         ensures value { result ≡ pointwise nat_eq (octets_of self.now) (octets_of rhs.now) }
@@ -176,7 +176,7 @@ const fn group_len(number: u64) -> usize
 }
 
 /// Writes the group of a number, of so many octets, from an index on.
-// `const` in Rust.
+// erase: const
 #[inline(always)]
 fn write_group_at(octets: &mut [u8], start: usize, number: u64, count: usize)
     requires small { number < 2 ^ 35 }

@@ -13,7 +13,7 @@ use std::cmp::Ordering;
 
 #[tactic(auto, using(crate::proofs::BeginsWith::begins_iff))]
 /// Whether octets begin with others.
-// `const` in Rust.
+// erase: const
 #[inline(always)]
 pub(crate) fn begins_with(octets: &[u8], prefix: &[u8]) -> bool
     ensures { IsTrue result ↔ ((rest : List ℕ) × (octets.now ≡ prefix.now ++ rest)) }
@@ -53,7 +53,7 @@ const fn same_until(a: &[u8], b: &[u8], start: usize, end: usize) -> usize
 
 /// Whether octets are the same: the last one first, since most pairs differ there, then by words, where
 /// the last one overlaps and comes first, or one by one where they are fewer than a word.
-// `const` in Rust.
+// erase: const
 #[inline(always)]
 pub(crate) fn are_equal(a: &[u8], b: &[u8]) -> bool
     ensures { result ≡ pointwise nat_eq a.now b.now }
@@ -76,7 +76,7 @@ pub(crate) fn are_equal(a: &[u8], b: &[u8]) -> bool
 
 #[tactic(auto, using(crate::proofs::Words::word_by_word))]
 /// The first words that are not the same, of those that begin before an index.
-// `const` in Rust.
+// erase: const
 #[inline(always)]
 fn first_unequal(a: &[u8], b: &[u8], end: usize) -> Option<(u64, u64)>
     requires in_a { end + 8 ≤ length a.now }
@@ -97,7 +97,7 @@ fn first_unequal(a: &[u8], b: &[u8], end: usize) -> Option<(u64, u64)>
 
 /// Whether as many octets are the same, without a branch for each word: for arrays, whose few words the
 /// compiler compares at once.
-// `const` in Rust.
+// erase: const
 #[inline(always)]
 pub(crate) fn are_arrays_equal(a: &[u8], b: &[u8]) -> bool
     requires { length a.now ≡ length b.now }
@@ -173,7 +173,7 @@ const WORD: usize = 8;
 
 /// The eight octets from an index on as a number, the first one the most significant: so words have the
 /// lexicographic order of their octets.
-// `const` in Rust.
+// erase: const
 #[inline(always)]
 fn word(octets: &[u8], at: usize) -> u64
     requires { at + 8 ≤ length octets.now }

@@ -6,7 +6,7 @@ ghost use Rattle.const_oid.specs.Names.{lent_arcs, entries_of, has_arcs, first_n
 ghost use Rattle.const_oid.specs.Oid.{oid_arcs};
 
 use crate::compare::is_same_name;
-// Not in Rust.
+// erase: omit
 pub use crate::db_ref::{RefDatabase, RefNames};
 pub use crate::db_sorted::SortedDatabase;
 use crate::error::Result;

@@ -48,7 +48,7 @@ impl<const SIZE: usize> Encoder<SIZE> {
     }
 
     /// Whether no arc was given.
-    // `const` in Rust.
+    // erase: const
     pub(crate) fn is_empty(&self) -> bool
         ensures { IsTrue result ↔ (self.now ≡ []) }
     {
@@ -56,7 +56,7 @@ impl<const SIZE: usize> Encoder<SIZE> {
     }
 
     /// Encodes one more arc.
-    // `const` in Rust.
+    // erase: const
     #[inline(always)]
     pub(crate) fn arc(&mut self, arc: Arc) -> Result<()>
         ensures fault { result_err result ≡ arc_fault root_rule (min SIZE 255) self.old arc }

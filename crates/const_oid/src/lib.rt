@@ -6,20 +6,23 @@ pub mod buffer;
 pub mod by_arcs;
 mod compare;
 pub mod db;
-// Not in Rust, where a constant holds a `Database`.
+// In Rust a constant holds a `Database`.
+// erase: omit
 mod db_ref;
 mod db_sorted;
 mod digits;
 mod encoder;
 pub mod error;
-// Not in Rust: its functions have contracts, and no effect.
+// Its functions have contracts, and no effect.
+// erase: omit
 pub mod laws;
 pub mod oid;
 pub mod oid_ref;
 mod parser;
 mod parts;
 mod text;
-// Not in Rust, whose traits have a constant.
+// Rust's traits have a constant.
+// erase: omit
 pub mod traits;
 mod valid;
 
@@ -29,5 +32,5 @@ pub use by_arcs::ByArcs;
 pub use error::{Error, Result};
 pub use oid::{ObjectIdentifier, Oid};
 pub use oid_ref::ObjectIdentifierRef;
-// Not in Rust.
+// erase: omit
 pub use traits::{AssociatedOid, DynAssociatedOid};

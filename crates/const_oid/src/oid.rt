@@ -52,7 +52,7 @@ impl ObjectIdentifier<39> {
     /// - [`Error::ArcInvalid`]: it is the first one and above 2, or the second, above 39 and after 0 or 1 (X.660);
     /// - [`Error::Length`]: the arcs up to it take more than 39 octets (X.690, 8.19);
     /// - [`Error::Empty`]: it is the only one.
-    // `const` in Rust.
+    // erase: const
     pub fn new(s: &str) -> Result<Self>
         ensures answer { oid_answer result ≡ text_answer root_rule s.now usual_capacity }
         ensures denoted { IfOk result (λ oid. Denotes root_rule s.now (oid_arcs oid)) }
@@ -62,7 +62,7 @@ impl ObjectIdentifier<39> {
 
     /// Parses dotted text that is known to be valid, such as a literal. The checker rejects an invalid text. In
     /// Rust the call panics on it, and a constant does not compile.
-    // `const` in Rust.
+    // erase: const
     pub fn new_unwrap(s: &str) -> Self
         requires { text_fault root_rule s.now usual_capacity ≡ None }
         ensures { Denotes root_rule s.now (oid_arcs result) }
@@ -144,7 +144,7 @@ impl<const MAX_SIZE: usize> ObjectIdentifier<MAX_SIZE> {
     }
 
     /// Parses dotted text as [`new`](Self::new) does, with [`Error::Length`] where there are more octets than fit.
-    // `const` in Rust.
+    // erase: const
     pub fn new_sized(s: &str) -> Result<Self>
         ensures answer { oid_answer result ≡ text_answer root_rule s.now (min MAX_SIZE 255) }
         ensures denoted { IfOk result (λ oid. Denotes root_rule s.now (oid_arcs oid)) }
@@ -187,7 +187,7 @@ impl<const MAX_SIZE: usize> ObjectIdentifier<MAX_SIZE> {
     }
 
     /// The contents octets.
-    // `const` in Rust.
+    // erase: const
     pub fn as_bytes(&self) -> &[u8]
         ensures octets { result.now ≡ oid_octets self.now }
         ensures encoding { IsEncoding root_rule (oid_arcs self.now) result.now }
@@ -197,7 +197,7 @@ impl<const MAX_SIZE: usize> ObjectIdentifier<MAX_SIZE> {
     }
 
     /// The borrowed identifier over the same octets.
-    // `const` in Rust.
+    // erase: const
     pub fn as_oid_ref(&self) -> ObjectIdentifierRef<'_>
         ensures octets { ref_octets result ≡ oid_octets self.now }
         ensures arcs { ref_arcs result ≡ oid_arcs self.now }
@@ -262,7 +262,7 @@ impl<const MAX_SIZE: usize> ObjectIdentifier<MAX_SIZE> {
     }
 
     /// The identifier of these arcs and one more, or [`Error::Length`] where its octets do not fit.
-    // `const` in Rust.
+    // erase: const
     pub fn push_arc(self, arc: Arc) -> Result<Self>
         ensures fits { let count = size (child_of (oid_arcs self.entry) arc) in
             MatchResult result (λ _. count ≤ min MAX_SIZE 255)
@@ -284,7 +284,7 @@ impl<const MAX_SIZE: usize> ObjectIdentifier<MAX_SIZE> {
     }
 
     /// Whether the arcs begin with all those of another identifier, which may be all of these.
-    // `const` in Rust.
+    // erase: const
     #[inline(always)]
     pub fn starts_with<const SIZE: usize>(&self, other: ObjectIdentifier<SIZE>) -> bool
         ensures { IsTrue result ↔ BeginsWith (oid_arcs self.now) (oid_arcs other.entry) }

@@ -130,7 +130,7 @@ impl<'a> ObjectIdentifierRef<'a> {
     }
 
     /// Whether an owned identifier, of any capacity, has the same octets, and so the same arcs.
-    // `const` in Rust.
+    // erase: const
     pub fn eq_oid<const N: usize>(&self, other: &ObjectIdentifier<N>) -> bool
         ensures octets { IsTrue result ↔ (ref_octets self.now ≡ oid_octets other.now) }
         ensures arcs { IsTrue result ↔ (ref_arcs self.now ≡ oid_arcs other.now) }
@@ -152,7 +152,7 @@ impl<'a> ObjectIdentifierRef<'a> {
     }
 
     /// Whether the arcs begin with all those of another identifier, which may be all of these.
-    // `const` in Rust.
+    // erase: const
     #[inline(always)]
     pub fn starts_with(&self, other: &ObjectIdentifierRef<'_>) -> bool
         ensures { IsTrue result ↔ BeginsWith (ref_arcs self.now) (ref_arcs other.now) }

@@ -15,7 +15,7 @@ use crate::encoder::Encoder;
 use crate::error::{Error, Result};
 
 /// The encoding of the identifier that a text denotes, in up to `SIZE` octets, and never past 255.
-// `const` in Rust.
+// erase: const
 pub(crate) fn parse<const SIZE: usize>(text: &str) -> Result<Buffer<SIZE>>
     ensures answer { buffer_answer result ≡ text_answer root_rule text.now (min SIZE 255) }
     ensures encoding { HasEncoding result }
@@ -31,7 +31,7 @@ pub(crate) fn parse<const SIZE: usize>(text: &str) -> Result<Buffer<SIZE>>
 }
 
 /// The same, where all of the array can be in use.
-// `const` in Rust.
+// erase: const
 #[tactic(auto, using(crate::proofs::TextPass::text_answer_is, std::proofs::lemmas::List::drop_all))]
 #[inline(always)]
 fn parse_within<const SIZE: usize>(text: &str) -> Result<Buffer<SIZE>>
@@ -89,7 +89,7 @@ const fn given(begun: bool, number: Arc) -> Option<Arc>
 
 /// Ends a piece at a dot. Where the text ends there, too, an empty piece follows: its fault comes
 /// before one of the arc.
-// `const` in Rust.
+// erase: const
 #[inline(always)]
 fn end_piece<const SIZE: usize>(
     encoder: &mut Encoder<SIZE>,
@@ -110,7 +110,7 @@ fn end_piece<const SIZE: usize>(
 }
 
 /// Ends the last piece, and with it the text.
-// `const` in Rust.
+// erase: const
 #[inline(always)]
 fn end_text<const SIZE: usize>(encoder: &mut Encoder<SIZE>, number: Option<Arc>) -> Result<()>
     ensures fault { result_err result ≡ last_fault root_rule (min SIZE 255) encoder.old number }

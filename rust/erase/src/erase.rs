@@ -4,16 +4,13 @@
 
 use crate::edit::replaced;
 use crate::fault::{Fault, Result};
+use crate::mark::{Mark, mark, marks};
 use crate::token::{Token, close, is, solid};
 
 type Tokens<'a> = Vec<Token<'a>>;
 
-/// The comment before a function that is `const` in Rust: a constant calls it there. In Rattle it calls
-/// a function of `std` that is not `const`.
-const CONSTANT: &str = "// `const` in Rust.";
-
-/// How the comment before an item begins that Rust lacks. It ends with a semicolon.
-const OMITTED: &str = "// Not in Rust";
+/// The marks that are left to read.
+type Left = std::iter::Peekable<std::vec::IntoIter<usize>>;
 
 /// What Rust writes in another way, wherever it is.
 const SYNTAX: [(&str, &str); 7] = [
@@ -41,12 +38,14 @@ pub fn erase<'a>(tokens: &[Token<'a>]) -> Result<Tokens<'a>> {
     Ok(out)
 }
 
-/// Without ghosts, contracts, tactics and impls of `Model`, and with `const` where a comment says so.
+/// Without ghosts, contracts, tactics and impls of `Model`, and with what the marks command.
 fn without_ghosts<'a>(tokens: &[Token<'a>]) -> Result<Tokens<'a>> {
     let mut out = Tokens::new();
+    let mut left = marks(tokens)?.into_iter().peekable();
     let mut is_constant = false;
     let mut at = 0;
     while at < tokens.len() {
+        refuse_left_out(tokens, &mut left, at)?;
         let token = tokens[at];
         at = match token.text {
             "ghost" => leave_out(&mut out, ghost_end(tokens, at)?),
@@ -56,11 +55,11 @@ fn without_ghosts<'a>(tokens: &[Token<'a>]) -> Result<Tokens<'a>> {
             "#" if is_tactic(tokens, at) => {
                 item_end(tokens, at) + usize::from(!is(tokens, at + 1, "!"))
             }
-            comment if comment.starts_with(OMITTED) => {
+            text if mark(text) == Some(Mark::Omit) => {
                 let end = tokens[at..].iter().position(|token| token.text == ";");
                 leave_out(&mut out, end.map_or(tokens.len(), |end| at + end + 1))
             }
-            CONSTANT => {
+            text if mark(text) == Some(Mark::Const) => {
                 is_constant = true;
                 at + 2
             }
@@ -76,13 +75,27 @@ fn without_ghosts<'a>(tokens: &[Token<'a>]) -> Result<Tokens<'a>> {
             }
         };
     }
+    refuse_left_out(tokens, &mut left, at)?;
     Ok(out)
+}
+
+/// Takes the marks up to an index, and rejects one before it, which was left out unread.
+fn refuse_left_out(tokens: &[Token<'_>], left: &mut Left, at: usize) -> Result<()> {
+    match left.next_if(|mark| *mark <= at) {
+        Some(mark) if mark < at => {
+            let words = format!("`{}` is in what is left out", tokens[mark].text);
+            Err(Fault::new(tokens[mark].line, words))
+        }
+        _ => Ok(()),
+    }
 }
 
 /// Leaves out what ends before `end`, and the comments right before it.
 fn leave_out(out: &mut Tokens<'_>, end: usize) -> usize {
-    let is_gap = |token: &mut Token<'_>| token.is_blank() && !token.text.starts_with("//!");
-    while out.pop_if(is_gap).is_some() {}
+    let is_gap = |token: &Token<'_>| token.is_blank() && !token.text.starts_with("//!");
+    while out.last().is_some_and(is_gap) {
+        out.pop();
+    }
     out.push(Token {
         text: "\n",
         line: 0,
@@ -296,12 +309,12 @@ mod tests {
                 "fn fmt(&self, f: &mut fmt::Formatter<'_>) {}",
             ),
             (
-                "// `const` in Rust.\n#[inline]\npub fn f() {}\nfn g() {}",
+                "// erase: const\n#[inline]\npub fn f() {}\nfn g() {}",
                 "#[inline] pub const fn f() {} fn g() {}",
             ),
             ("use std::fmt; // std::x", "use core::fmt; // std::x"),
             (
-                "mod a;\n// Not in Rust: b.\npub mod c;\nmod d;",
+                "mod a;\n// C.\n// erase: omit\npub mod c;\nmod d;",
                 "mod a; mod d;",
             ),
         ] {
@@ -322,6 +335,16 @@ mod tests {
         }
         let words = "2: `ensures` without its braces";
         assert_eq!(erased("\nfn f() ensures ;").unwrap_err(), words);
+        for left_out in [
+            "impl Model for S {\n// erase: const\nfn f() {} }\nfn g() {}",
+            "fn g() ensures {\n// erase: const\nfn f() {} }\n{}",
+            "impl Model for S {\n// erase: const\nfn f() {} }",
+        ] {
+            assert_eq!(
+                erased(left_out).unwrap_err(),
+                "2: `// erase: const` is in what is left out"
+            );
+        }
     }
 
     #[test]

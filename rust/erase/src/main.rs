@@ -7,6 +7,7 @@
 mod edit;
 mod erase;
 mod fault;
+mod mark;
 mod names;
 mod table;
 mod token;
