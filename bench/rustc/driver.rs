@@ -1,8 +1,11 @@
 //! driver SIDE ROW SIZE TIMES: one operation of one crate, so many times. `run` counts its instructions.
+//! driver ROW SIZE ROUNDS: the time of the operation of this crate, divided by that of const-oid. Rounds of both take
+//! turns, and each side has its least.
 
 use std::fmt::Write;
 use std::hash::{DefaultHasher, Hash, Hasher};
 use std::hint::black_box;
+use std::time::{Duration, Instant};
 
 /// A short, a typical and a long identifier.
 const TEXTS: [&str; 3] = [
@@ -33,13 +36,15 @@ macro_rules! side {
             use super::*;
             use ::$side::{ObjectIdentifier, ObjectIdentifierRef};
 
-            fn repeat<T>(times: usize, call: impl Fn() -> T) {
+            fn repeat<T>(times: usize, call: impl Fn() -> T) -> Duration {
+                let start = Instant::now();
                 for _ in 0..times {
                     black_box(call());
                 }
+                start.elapsed()
             }
 
-            pub fn run(row: &str, size: usize, times: usize) {
+            pub fn run(row: &str, size: usize, times: usize) -> Duration {
                 let text = TEXTS[size];
                 let oid = ObjectIdentifier::new(text).unwrap();
                 let last = oid.arcs().last().unwrap();
@@ -101,13 +106,33 @@ macro_rules! side {
 side!(ours);
 side!(theirs);
 
+/// The calls of a round.
+const TIMES: usize = 500;
+
+/// The ratio of the least times of both sides.
+fn ratio(row: &str, size: usize, rounds: usize) -> f64 {
+    let mut least = [Duration::MAX; 2];
+    for _ in 0..rounds {
+        for (run, least) in [ours::run, theirs::run].iter().zip(&mut least) {
+            *least = run(row, size, TIMES).min(*least);
+        }
+    }
+    least[0].as_secs_f64() / least[1].as_secs_f64()
+}
+
 fn main() {
-    let arguments: Vec<String> = std::env::args().collect();
-    let number = |at: usize| arguments[at].parse().unwrap();
-    let run = if arguments[1] == "ours" {
-        ours::run
-    } else {
-        theirs::run
-    };
-    run(&arguments[2], number(3), number(4));
+    let arguments: Vec<String> = std::env::args().skip(1).collect();
+    let number = |text: &String| text.parse().unwrap();
+    match &arguments[..] {
+        [row, size, rounds] => println!("{:.4}", ratio(row, number(size), number(rounds))),
+        [side, row, size, times] => {
+            let run = if side == "ours" {
+                ours::run
+            } else {
+                theirs::run
+            };
+            run(row, number(size), number(times));
+        }
+        _ => panic!("SIDE ROW SIZE TIMES, or ROW SIZE ROUNDS"),
+    }
 }

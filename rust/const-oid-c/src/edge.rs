@@ -4,7 +4,7 @@
 use crate::calls::status::Status;
 use crate::calls::subtree::Range;
 use crate::calls::{arcs, errors, order, subtree, texts, tree, version};
-use const_oid::erased::{Error, ObjectIdentifierRef};
+use const_oid::internal_for_const_oid_c::{Error, ObjectIdentifierRef};
 use core::marker::PhantomData;
 use core::mem::MaybeUninit;
 use core::slice;

@@ -18,8 +18,10 @@ pub mod db;
 // Written for the checker, or for functions that are constant.
     clippy::all,
 )]
+mod erased;
+#[cfg(feature = "internal-for-const-oid-c")]
 #[doc(hidden)]
-pub mod erased;
+pub mod internal_for_const_oid_c;
 mod oid;
 mod oid_ref;
 mod traits;

@@ -29,6 +29,7 @@ const EQUALITY: &str =
 const UNSIZED: &str =
     "the crate's borrowed form is unsized, and its function of this name is of that form";
 const LENT: &str = "the crate's borrowed form is unsized, and lies behind a reference";
+const BY_CORE: &str = "`core` compares slices by `memcmp`, which takes less time";
 const UNWRITTEN: &str = "Rust has no `&mut [u8]` over memory that C may not have written";
 
 pub const CRATES: &[Crate] = &[
@@ -148,6 +149,24 @@ pub const CRATES: &[Crate] = &[
                 why: UNSIZED,
             },
             Edit {
+                module: "oid_ref",
+                old: "pub ber: &'a [u8]",
+                new: "ber: &'a [u8]",
+                why: "no checker reads a literal",
+            },
+            Edit {
+                module: "oid_ref",
+                old: "fn eq(&self, other: &Self) -> bool { are_equal(self.ber, other.ber) }",
+                new: "fn eq(&self, other: &Self) -> bool {\n self.ber == other.ber\n }",
+                why: BY_CORE,
+            },
+            Edit {
+                module: "oid_ref",
+                old: "fn cmp(&self, other: &Self) -> Ordering { order(self.ber, other.ber) }",
+                new: "fn cmp(&self, other: &Self) -> Ordering {\n self.ber.cmp(other.ber)\n }",
+                why: BY_CORE,
+            },
+            Edit {
                 module: "oid",
                 old: "Err(_) => unreachable!(\"not the text of an object identifier\")",
                 new: "Err(error) => panic!(\"{}\", crate::oid::panic_text(error))",
@@ -164,8 +183,8 @@ pub const CRATES: &[Crate] = &[
             Edit {
                 module: "",
                 old: "const_oid::",
-                new: "const_oid::erased::",
-                why: "its generated modules are in the cargo crate",
+                new: "const_oid::internal_for_const_oid_c::",
+                why: "the cargo crate has the generated types under this name",
             },
             Edit {
                 module: "subtree",

@@ -7,7 +7,7 @@ use crate::calls::owned::{MAX_OCTETS, is_too_long};
 use crate::calls::status::{
     NONE, Status, code_status, error_status, len_status, number_status, too_short_status,
 };
-use const_oid::erased::{Arcs, ObjectIdentifier, ObjectIdentifierRef, Result};
+use const_oid::internal_for_const_oid_c::{Arcs, ObjectIdentifier, ObjectIdentifierRef, Result};
 
 /// Checks contents octets of any length.
 pub fn const_oid_check(octets: &[u8]) -> Status {

@@ -6,7 +6,7 @@ use crate::calls::output::write_bytes;
 use crate::calls::status::{
     NONE, NOT_UTF8, Status, TOO_SHORT, UNSORTED, code_status, len_status, too_short_status,
 };
-use const_oid::erased::Error;
+use const_oid::internal_for_const_oid_c::Error;
 
 /// Writes the text of a code and its detail. No zero byte follows it.
 pub fn const_oid_error_text(code: u32, detail: u32, out: &mut crate::edge::Output<u8>) -> Status {

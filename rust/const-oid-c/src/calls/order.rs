@@ -4,7 +4,7 @@
 
 use crate::calls::owned::read_owned;
 use crate::calls::status::{Status, error_status, flag_status, order_status};
-use const_oid::erased::ObjectIdentifierRef;
+use const_oid::internal_for_const_oid_c::ObjectIdentifierRef;
 use core::cmp::Ordering;
 
 /// Whether two identifiers of any length are equal.

@@ -2,7 +2,7 @@
 
 //! Octets that fit an owned identifier.
 
-use const_oid::erased::{Error, ObjectIdentifier, ObjectIdentifierRef, Result};
+use const_oid::internal_for_const_oid_c::{Error, ObjectIdentifier, ObjectIdentifierRef, Result};
 
 /// The most octets that an owned identifier can have.
 pub(crate) const MAX_OCTETS: usize = 255;

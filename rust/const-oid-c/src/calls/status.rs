@@ -2,7 +2,7 @@
 
 //! What a call returns besides its output.
 
-use const_oid::erased::Error;
+use const_oid::internal_for_const_oid_c::Error;
 use core::cmp::Ordering;
 
 /// The code of an output that is shorter than the result.

@@ -3,7 +3,7 @@
 //! Descendants of an identifier in a sorted list.
 
 use crate::calls::status::{Status, UNSORTED, error_status, len_status};
-use const_oid::erased::{Error, ObjectIdentifierRef};
+use const_oid::internal_for_const_oid_c::{Error, ObjectIdentifierRef};
 
 /// The contents octets of one identifier of a list.
 pub use crate::edge::Octets;

@@ -7,7 +7,7 @@ use crate::calls::owned::{MAX_OCTETS, is_too_long};
 use crate::calls::status::{
     NOT_UTF8, Status, code_status, error_status, len_status, too_short_status,
 };
-use const_oid::erased::{ObjectIdentifier, ObjectIdentifierRef, Oid};
+use const_oid::internal_for_const_oid_c::{ObjectIdentifier, ObjectIdentifierRef, Oid};
 use core::str;
 
 /// Writes the contents octets of the identifier that dotted text denotes.

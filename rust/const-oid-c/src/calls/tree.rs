@@ -5,7 +5,7 @@
 use crate::calls::output::{write_bytes, write_octets};
 use crate::calls::owned::{MAX_OCTETS, is_too_long, read_owned};
 use crate::calls::status::{NONE, Status, code_status, error_status};
-use const_oid::erased::{ObjectIdentifier, Result};
+use const_oid::internal_for_const_oid_c::{ObjectIdentifier, Result};
 
 /// Writes the contents octets of all arcs except the last.
 pub fn const_oid_parent(octets: &[u8], out: &mut crate::edge::Output<u8>) -> Status {

@@ -20,7 +20,7 @@ use core::fmt;
 #[derive(Copy, Clone, Eq, Hash)]
 pub struct ObjectIdentifierRef<'a> {
     /// The contents octets, which are valid: the checker decodes a literal.
-    pub ber: &'a [u8],
+    ber: &'a [u8],
 }
 
 impl<'a> ObjectIdentifierRef<'a> {
@@ -159,7 +159,7 @@ impl fmt::Debug for ObjectIdentifierRef<'_> {
 
 impl PartialEq for ObjectIdentifierRef<'_> {
     fn eq(&self, other: &Self) -> bool {
-        are_equal(self.ber, other.ber)
+        self.ber == other.ber
     }
 }
 
@@ -175,6 +175,6 @@ impl PartialOrd for ObjectIdentifierRef<'_> {
 /// [`cmp_arcs`](ObjectIdentifierRef::cmp_arcs).
 impl Ord for ObjectIdentifierRef<'_> {
     fn cmp(&self, other: &Self) -> Ordering {
-        order(self.ber, other.ber)
+        self.ber.cmp(other.ber)
     }
 }
