@@ -14,6 +14,10 @@ const TEXTS: [&str; 3] = [
     "1.3.6.1.4.1.311.21.8.4294967295.268435456.2097152.16384.128.127.1.99999.4.7.1000000",
 ];
 
+/// A value at the start of a cache line, so that those of both sides lie alike.
+#[repr(align(64))]
+struct InLine<T>(T);
+
 /// A place for a text.
 struct Text {
     bytes: [u8; 400],
@@ -52,8 +56,9 @@ macro_rules! side {
                 let next = parent
                     .push_arc(if last == 1 { 2 } else { last - 1 })
                     .unwrap();
+                let (oid, next, parent) = (InLine(oid), InLine(next), InLine(parent));
+                let (oid, next, parent) = (&oid.0, &next.0, &parent.0);
                 let octets = oid.as_bytes();
-                let (oid, next, parent) = (&oid, &next, &parent);
                 let (borrowed, other) = (oid.as_oid_ref(), next.as_oid_ref());
                 match row {
                     "new" => repeat(times, || ObjectIdentifier::new(black_box(text)).is_ok()),
@@ -87,9 +92,16 @@ macro_rules! side {
                     "==, borrowed, the next" => {
                         repeat(times, || black_box(borrowed) == black_box(other))
                     }
+                    "==, borrowed, itself" => {
+                        repeat(times, || black_box(borrowed) == black_box(borrowed))
+                    }
                     "cmp, owned, the next" => repeat(times, || black_box(oid).cmp(black_box(next))),
+                    "cmp, owned, itself" => repeat(times, || black_box(oid).cmp(black_box(oid))),
                     "cmp, borrowed, the next" => {
                         repeat(times, || black_box(borrowed).cmp(black_box(other)))
+                    }
+                    "cmp, borrowed, itself" => {
+                        repeat(times, || black_box(borrowed).cmp(black_box(borrowed)))
                     }
                     "hash" => repeat(times, || {
                         let mut hasher = DefaultHasher::new();

@@ -1,12 +1,15 @@
-//! Generates Rust from Rattle: `erase [--check]`.
+//! Generates Rust from Rattle: `erase [--check | --items]`.
 //!
 //! For each crate of the table, the program reads `lib.rt` and its modules, and writes them as Rust, laid
-//! out by rustfmt. It writes the constants of names from `rust/names.tsv`. With `--check` it writes
-//! nothing, and ends with 1 if a file differs from what it would write.
+//! out by rustfmt. It writes the constants of names from `rust/names.tsv`, and lists the public items of the cargo
+//! crate. With `--check` it writes nothing, and ends with 1 if a file differs from what it would write. With `--items`
+//! it prints the list: a line has the path of a source, the head of what an item is in, and the item's head, with tabs
+//! between them.
 
 mod edit;
 mod erase;
 mod fault;
+mod items;
 mod mark;
 mod names;
 mod table;
@@ -22,6 +25,8 @@ use table::Crate;
 const TABLE: &str = "rust/names.tsv";
 const NAMES: &str = "rust/const-oid/src/db/names.rs";
 const EXAMPLES: &str = "rust/const-oid/src/examples";
+const CRATE: &str = "rust/const-oid/src";
+const ITEMS: &str = "rust/const-oid/public-items.txt";
 
 /// A path from the top of the repository, and the text of its file.
 type File = (String, String);
@@ -35,7 +40,17 @@ fn main() -> ExitCode {
         (Err(fault), _) => vec![fault],
         (Ok(files), []) => written(&files),
         (Ok(files), [flag]) if flag == "--check" => differing(&files),
-        _ => vec!["erase [--check]".into()],
+        (Ok(files), [flag]) if flag == "--items" => {
+            print!(
+                "{}",
+                files
+                    .iter()
+                    .find(|file| file.0 == ITEMS)
+                    .map_or("", |file| &file.1)
+            );
+            vec![]
+        }
+        _ => vec!["erase [--check | --items]".into()],
     };
     for fault in &faults {
         eprintln!("{fault}");
@@ -59,8 +74,33 @@ fn generated() -> Checked<Vec<File>> {
         return Err(format!("{path}: of no public item"));
     }
     let names = names::names(&read(TABLE)?).map_err(|fault| at(TABLE, &fault))?;
+    files.push((ITEMS.into(), public_items(&files)?));
     files.push((NAMES.into(), headed(TABLE, &names)));
     Ok(files)
+}
+
+/// The public items of the cargo crate: of its sources by hand, and of the files to write.
+fn public_items(files: &[File]) -> Checked<String> {
+    let mut sources: Vec<File> = files
+        .iter()
+        .filter(|file| file.0.starts_with(CRATE))
+        .cloned()
+        .collect();
+    for path in listed(CRATE)
+        .into_iter()
+        .filter(|path| path.ends_with(".rs"))
+    {
+        sources.push((path.clone(), read(&path)?));
+    }
+    sources.sort();
+    let mut out = String::new();
+    for (path, source) in &sources {
+        let tokens = token::tokens(source).map_err(|fault| at(path, &fault))?;
+        for item in items::items(&tokens) {
+            out += &format!("{path}\t{}\t{}\n", item.owner, item.head);
+        }
+    }
+    Ok(out)
 }
 
 /// The files of the modules of a crate.
