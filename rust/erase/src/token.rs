@@ -173,7 +173,7 @@ mod tests {
         assert_eq!(line("fn f() {\n\n)"), 3);
         assert_eq!(line("\nfn f() {"), 2);
         assert_eq!(line("}"), 1);
-        for source in ["\n\"x", "\nr\"}\"", "\nbr#\"\"#", "\n/* { */"] {
+        for source in ["\n\"x", "\nr\"}\"", "\nbr#\"\"#", "\nc\"x\"", "\n/* { */"] {
             assert_eq!(line(source), 2);
         }
     }

@@ -1,0 +1,169 @@
+//! `erase --check` on a copy of the repository, whose files are changed.
+
+use std::fs;
+use std::path::{Path, PathBuf};
+use std::process::{Command, Output};
+
+/// What the eraser reads and writes, from the top of the repository.
+const FOLDERS: [&str; 5] = [
+    "crates/const_oid/src",
+    "crates/const_oid_c/src",
+    "rust/const-oid",
+    "rust/const-oid-c/src",
+    "rust/erase",
+];
+
+/// The generated folders.
+const GENERATED: [&str; 2] = ["rust/const-oid/src/erased", "rust/const-oid-c/src/calls"];
+
+/// The generated files in other folders.
+const FILES: [&str; 2] = [
+    "rust/const-oid/src/db/names.rs",
+    "rust/const-oid/public-items.txt",
+];
+
+fn top() -> PathBuf {
+    Path::new(env!("CARGO_MANIFEST_DIR")).join("../..")
+}
+
+fn copy(from: &Path, to: &Path) {
+    fs::create_dir_all(to).unwrap();
+    for entry in fs::read_dir(from).unwrap().map(|entry| entry.unwrap()) {
+        let to = to.join(entry.file_name());
+        if entry.file_type().unwrap().is_dir() {
+            copy(&entry.path(), &to);
+        } else {
+            fs::copy(entry.path(), to).unwrap();
+        }
+    }
+}
+
+/// A copy of the repository, which is removed at the end.
+struct Copy(PathBuf);
+
+impl Copy {
+    fn new(name: &str) -> Self {
+        let to = std::env::temp_dir().join(format!("erase-{name}-{}", std::process::id()));
+        for folder in FOLDERS {
+            copy(&top().join(folder), &to.join(folder));
+        }
+        fs::copy(top().join("rust/names.tsv"), to.join("rust/names.tsv")).unwrap();
+        Copy(to)
+    }
+
+    fn erase(&self, arguments: &[&str]) -> Output {
+        let mut erase = Command::new(env!("CARGO_BIN_EXE_erase"));
+        erase.env("CARGO_MANIFEST_DIR", self.0.join("rust/erase"));
+        erase.args(arguments).output().unwrap()
+    }
+
+    /// The lines of `erase --check`, in order.
+    fn faults(&self) -> Vec<String> {
+        let output = self.erase(&["--check"]);
+        let text = String::from_utf8(output.stderr).unwrap();
+        let mut lines: Vec<String> = text.lines().map(str::to_string).collect();
+        assert_eq!(output.status.success(), lines.is_empty(), "{text}");
+        lines.sort();
+        lines
+    }
+
+    /// The generated files.
+    fn generated(&self) -> Vec<String> {
+        let mut out: Vec<String> = FILES.map(str::to_string).to_vec();
+        for folder in GENERATED {
+            let entries = fs::read_dir(self.0.join(folder)).unwrap();
+            let names = entries.map(|entry| entry.unwrap().file_name().into_string().unwrap());
+            out.extend(names.map(|name| format!("{folder}/{name}")));
+        }
+        out.sort();
+        out
+    }
+
+    fn append(&self, path: &str, text: &str) {
+        let path = self.0.join(path);
+        let old = fs::read_to_string(&path).unwrap_or_default();
+        fs::write(path, old + text).unwrap();
+    }
+
+    fn replace(&self, path: &str, old: &str, new: &str) {
+        let source = fs::read_to_string(self.0.join(path)).unwrap();
+        assert_eq!(source.matches(old).count(), 1, "{old}");
+        fs::write(self.0.join(path), source.replace(old, new)).unwrap();
+    }
+}
+
+impl Drop for Copy {
+    fn drop(&mut self) {
+        fs::remove_dir_all(&self.0).unwrap();
+    }
+}
+
+fn each(paths: &[String], words: &str) -> Vec<String> {
+    paths
+        .iter()
+        .map(|path| format!("{path}: {words}"))
+        .collect()
+}
+
+#[test]
+fn a_generated_file_that_is_changed_removed_or_added() {
+    let copy = Copy::new("files");
+    assert_eq!(copy.faults(), [""; 0]);
+    let generated = copy.generated();
+    generated.iter().for_each(|path| copy.append(path, " "));
+    assert_eq!(copy.faults(), each(&generated, "not what erase generates"));
+    generated
+        .iter()
+        .for_each(|path| fs::remove_file(copy.0.join(path)).unwrap());
+    assert_eq!(copy.faults(), each(&generated, "not what erase generates"));
+    assert!(copy.erase(&[]).status.success());
+    let added = GENERATED.map(|folder| format!("{folder}/zzz.rs"));
+    added.iter().for_each(|path| copy.append(path, ""));
+    let mut faults = each(&added, "erase generates no such file");
+    faults.sort();
+    assert_eq!(copy.faults(), faults);
+    assert!(copy.erase(&[]).status.success());
+    assert_eq!(copy.faults(), [""; 0]);
+    assert_eq!(copy.generated(), generated);
+}
+
+#[test]
+fn a_source_by_hand_whose_public_items_change() {
+    let copy = Copy::new("items");
+    copy.append("rust/const-oid/src/oid.rs", "fn private() {}\n");
+    assert_eq!(copy.faults(), [""; 0]);
+    copy.append("rust/const-oid/src/oid.rs", "pub fn public() {}\n");
+    let list = String::from("rust/const-oid/public-items.txt");
+    assert_eq!(copy.faults(), each(&[list], "not what erase generates"));
+    let printed = String::from_utf8(copy.erase(&["--items"]).stdout).unwrap();
+    assert!(printed.contains("rust/const-oid/src/oid.rs\t\tpub fn public()\n"));
+}
+
+#[test]
+fn a_source_that_is_wrong() {
+    let copy = Copy::new("sources");
+    let source = "crates/const_oid/src/valid.rt";
+    let mut last = "";
+    for (wrong, words) in [
+        ("// erase: cosnt\n", "crates/const_oid/src/valid.rt:"),
+        ("fn f( {\n", "crates/const_oid/src/valid.rt:"),
+        ("fn f() { c\"x\"; }\n", "crates/const_oid/src/valid.rt:"),
+        ("fn 1() {}\n", "rustfmt fails on:"),
+    ] {
+        if last.is_empty() {
+            copy.append(source, wrong);
+        } else {
+            copy.replace(source, last, wrong);
+        }
+        let faults = copy.faults();
+        assert!(
+            faults.iter().any(|line| line.starts_with(words)),
+            "{wrong}: {faults:?}"
+        );
+        last = wrong;
+    }
+    copy.replace(source, last, "");
+    copy.append("rust/const-oid/src/examples/None.md", "");
+    let of_none = "rust/const-oid/src/examples/None.md: of no public item";
+    assert_eq!(copy.faults(), [of_none]);
+}
