@@ -30,7 +30,7 @@ fn three_at_least() {
     assert_eq!(ObjectIdentifier::size_hint(0), (12, None));
 }
 
-/// Every second arc, and every later one.
+/// Every second arc, and every later one, the fourth too.
 #[test]
 fn every_arc() {
     for arc in [
@@ -50,6 +50,12 @@ fn every_arc() {
         assert!(drawn(&octets).unwrap().arcs().eq([2, arc, arc]));
         let octets = [&[1, 0, 0, 0], &arc.to_le_bytes()[..], &[7, 0, 0, 0]].concat();
         assert!(drawn(&octets).unwrap().arcs().eq([1, arc % 40, 7]));
+        let octets = [
+            &[1, 0, 0, 0, 5, 0, 0, 0, 7, 0, 0, 0, 1],
+            &arc.to_le_bytes()[..],
+        ]
+        .concat();
+        assert!(drawn(&octets).unwrap().arcs().eq([1, 5, 7, arc]));
     }
     let first = |octet| {
         drawn(&[octet, 0, 0, 0, 5, 0, 0, 0, 7, 0, 0, 0])
