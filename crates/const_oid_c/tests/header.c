@@ -1,0 +1,29 @@
+/* The header in C: read twice, its layouts, and its constants where the preprocessor reads them. */
+#include "const_oid.h"
+#include "const_oid.h"
+
+#define BYTES sizeof(size_t)
+
+_Static_assert(offsetof(const_oid_status, code) == 0 && offsetof(const_oid_status, detail) == 4
+    && offsetof(const_oid_status, len) == 8 && sizeof(const_oid_status) == 8 + BYTES, "a status");
+_Static_assert(offsetof(const_oid_octets, octets) == 0 && offsetof(const_oid_octets, len) == BYTES
+    && sizeof(const_oid_octets) == 2 * BYTES, "octets");
+_Static_assert(offsetof(const_oid_range, start) == 0 && offsetof(const_oid_range, end) == BYTES
+    && sizeof(const_oid_range) == 2 * BYTES, "a range");
+_Static_assert(_Alignof(const_oid_status) == _Alignof(size_t) && _Alignof(const_oid_octets) == _Alignof(size_t)
+    && _Alignof(const_oid_range) == _Alignof(size_t), "alignments");
+
+#if CONST_OID_VERSION < 65536 || CONST_OID_MAX_OCTETS != 255 || CONST_OID_MAX_TEXT != 1020 || CONST_OID_MAX_ARCS != 256 \
+    || CONST_OID_USUAL_OCTETS != 39 || CONST_OID_MAX_ERROR_TEXT != 47
+#error "a constant is no number of the preprocessor, or another one"
+#endif
+
+/* The version of each triple, also within an expression. */
+#undef CONST_OID_VERSION_MAJOR
+#undef CONST_OID_VERSION_MINOR
+#undef CONST_OID_VERSION_PATCH
+#define CONST_OID_VERSION_MAJOR 2
+#define CONST_OID_VERSION_MINOR 3
+#define CONST_OID_VERSION_PATCH 4
+_Static_assert(CONST_OID_VERSION == 0x020304, "65536 of the major, 256 of the minor, and the patch number");
+_Static_assert(3 * CONST_OID_VERSION == 3 * 0x020304, "the version in a product");
