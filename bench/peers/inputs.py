@@ -46,28 +46,28 @@ def der(parts):
     return bytes([6, sum(map(len, parts))]) + b"".join(parts)
 
 
-# A kind of input: its name, what is right, and what is read for arcs: groups, or arcs of a text.
+# A kind of input: its form, its name or an example, what is right, and what is read for arcs: groups, or arcs of a text.
 KINDS = [
-    ("octets", "read", groups),
-    ("octets, arc past 32 bits", "either", groups),
-    ("octets, padded group", "rejected", lambda arcs: edited(groups(arcs), (b"\x80" * randrange(1, 4)).__add__)),
-    ("octets, last group unfinished", "rejected", lambda arcs: groups(arcs, 128)),
-    ("text", "read", list),
-    ("text, arc past 32 bits", "either", list),
-    ("text, leading zero", "either", lambda arcs: edited(arcs, "0{}".format)),
-    ("text, empty piece", "rejected", lambda arcs: edited(arcs, "{}.".format)),
-    ("text, foreign character", "rejected", lambda arcs: edited(arcs, foreign)),
-    ("text, first arcs out of range", "rejected", bad_first),
-    ("text, one arc", "rejected", lambda arcs: arcs[-1:]),
+    ("octets", "valid", "read", groups),
+    ("octets", "arc ≥ 2^32", "either", groups),
+    ("octets", "`2A8003`", "rejected", lambda arcs: edited(groups(arcs), (b"\x80" * randrange(1, 4)).__add__)),
+    ("octets", "`2A83`", "rejected", lambda arcs: groups(arcs, 128)),
+    ("text", "valid", "read", list),
+    ("text", "arc ≥ 2^32", "either", list),
+    ("text", "`1.02`", "either", lambda arcs: edited(arcs, "0{}".format)),
+    ("text", "`1..2`", "rejected", lambda arcs: edited(arcs, "{}.".format)),
+    ("text", "`1.+2`", "rejected", lambda arcs: edited(arcs, foreign)),
+    ("text", "`1.40`", "rejected", bad_first),
+    ("text", "`1`", "rejected", lambda arcs: arcs[-1:]),
 ]
 
 
 def inputs():
-    """For each kind its name, what is right, and 10,000 inputs with their results."""
+    """For each kind its form, its name, what is right, and 10,000 inputs with their results."""
     seed(20261124)
-    for kind, right, edit in KINDS:
-        made = [(edit(arcs), arcs) for arcs in (drawn("past 32" in kind) for _ in range(10_000))]
-        if kind.startswith("text"):
-            yield kind, right, [(text(parts), der(groups(arcs))[2:]) for parts, arcs in made]
+    for form, kind, right, edit in KINDS:
+        made = [(edit(arcs), arcs) for arcs in (drawn("2^32" in kind) for _ in range(10_000))]
+        if form == "text":
+            yield form, kind, right, [(text(parts), der(groups(arcs))[2:]) for parts, arcs in made]
         else:
-            yield kind, right, [(der(parts), text(arcs)) for parts, arcs in made]
+            yield form, kind, right, [(der(parts), text(arcs)) for parts, arcs in made]
