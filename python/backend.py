@@ -1,20 +1,112 @@
-"""The build backend of this folder (PEP 517): a wheel of the package's files. It compiles nothing and needs nothing."""
+"""The build backend of this folder (PEP 517 and 660): a wheel with the extension module and the table of names.
+
+It needs a C compiler, the headers of Python, and cargo, and nothing from a network. With the setting `library=installed`,
+an installed library that pkg-config finds takes the place of cargo.
+"""
 import base64
 import hashlib
+import os
 import pathlib
+import re
+import shlex
+import shutil
+import subprocess
+import sys
+import sysconfig
+import tempfile
 import tomllib
 import zipfile
 
 HERE = pathlib.Path(__file__).resolve().parent
-WHEEL = "Wheel-Version: 1.0\nGenerator: const_oid\nRoot-Is-Purelib: true\nTag: py3-none-any\n"
+TOP = HERE.parent
+CRATE = TOP / "rust/const-oid-c/Cargo.toml"
+EXTENSION = "_native.abi3.so"
+SOURCES = ("__init__.py", "_native.pyi", "names.py", "py.typed", "sorted_map.py")
+LICENCES = ("LICENSE-APACHE", "LICENSE-MIT")
+COMPILER = shlex.split(os.environ.get("CC", "cc"))
+RUSTC = os.environ.get("RUSTC", "rustc")
+INCLUDE = pathlib.Path(sysconfig.get_path("include"))
+RUST = (1, 85)
 
 
-def _metadata(project):
-    return (
-        f"Metadata-Version: 2.1\nName: {project['name']}\nVersion: {project['version']}\n"
-        f"Summary: {project['description']}\nLicense: {project['license']}\n"
-        f"Requires-Python: {project['requires-python']}\n"
-    )
+def _output(*command):
+    """What a program prints; its errors end the build."""
+    run = subprocess.run(command, text=True, stdout=subprocess.PIPE)
+    if run.returncode:
+        raise SystemExit(f"const-oid: {shlex.join(map(str, command))} ends with status {run.returncode}")
+    return run.stdout
+
+
+def _missing(is_installed):
+    """What has to be installed first."""
+    if not shutil.which(COMPILER[0]):
+        yield f"a C compiler, {COMPILER[0]} (Debian: gcc)"
+    if not (INCLUDE / "Python.h").exists():
+        yield f"{INCLUDE}/Python.h (Debian: python3-dev)"
+    if is_installed:
+        if not shutil.which("pkg-config"):
+            yield "pkg-config (Debian: pkg-config)"
+        elif subprocess.run(["pkg-config", "--exists", "const_oid_c"]).returncode:
+            yield "the library const_oid_c, where pkg-config finds it (crates/const_oid_c/install; set PKG_CONFIG_PATH)"
+    elif not (shutil.which("cargo") and shutil.which(RUSTC)):
+        yield "cargo and rustc, 1.85 or later (https://rustup.rs)"
+    elif tuple(map(int, re.findall(r"\d+", _output(RUSTC, "--version"))[:2])) < RUST:
+        yield "rustc 1.85 or later (https://rustup.rs)"
+
+
+def _built():
+    """The header's folder and the static library, which cargo builds for this machine."""
+    host = re.search(r"^host: (.+)$", _output(RUSTC, "-vV"), re.M)[1]
+    folder = pathlib.Path(os.environ.get("CARGO_TARGET_DIR", ""))
+    folder = folder if folder.is_absolute() else TOP / "rust/target"
+    command = ["cargo", "build", "--quiet", "--release", "--locked", "--offline", "--target", host]
+    _output(*command, "--target-dir", folder, "--manifest-path", CRATE)
+    return TOP / "crates/const_oid_c/include", folder / host / "release/libconst_oid_c.a"
+
+
+def _installed():
+    """The same of an installed library."""
+    include, library = (_output("pkg-config", f"--variable={name}", "const_oid_c").strip() for name in ("includedir", "libdir"))
+    return include, pathlib.Path(library) / "libconst_oid_c.a"
+
+
+def _compile(target, config_settings):
+    """Compiles the extension module."""
+    is_installed = (config_settings or {}).get("library") == "installed"
+    missing = list(_missing(is_installed))
+    if missing:
+        raise SystemExit(f"const-oid: to be installed first: {'; '.join(missing)}")
+    include, library = _installed() if is_installed else _built()
+    link = ["-bundle", "-undefined", "dynamic_lookup"] if sys.platform == "darwin" else ["-shared", "-Wl,--exclude-libs,ALL", "-s"]
+    flags = ["-std=c11", "-O2", "-fPIC", "-fvisibility=hidden", *shlex.split(os.environ.get("CFLAGS", ""))]
+    files = [f"-I{INCLUDE}", f"-I{include}", HERE / "native.c", library, "-o", target]
+    _output(*COMPILER, *flags, *link, *files, *shlex.split(os.environ.get("LDFLAGS", "")))
+
+
+def _names():
+    """The table of names: for each entry the arcs and the name."""
+    lines = (TOP / "rust/names.tsv").read_text(encoding="utf-8").splitlines()
+    return "".join(line.split("\t", 2)[2] + "\n" for line in lines if not line.startswith("#"))
+
+
+def project():
+    return tomllib.loads((HERE / "pyproject.toml").read_text(encoding="utf-8"))["project"]
+
+
+def metadata(of, readme):
+    """The file METADATA of a project."""
+    lines = [
+        "Metadata-Version: 2.1",
+        f"Name: {of['name']}",
+        f"Version: {of['version']}",
+        f"Summary: {of['description']}",
+        f"License: {of['license']}",
+        *(f"License-File: {name}" for name in LICENCES),
+        *(f"Classifier: {classifier}" for classifier in of["classifiers"]),
+        f"Requires-Python: {of['requires-python']}",
+        "Description-Content-Type: text/markdown",
+    ]
+    return "\n".join(lines) + "\n\n" + readme
 
 
 def _recorded(name, content):
@@ -22,22 +114,52 @@ def _recorded(name, content):
     return f"{name},sha256={digest},{len(content)}\n"
 
 
-def build_wheel(wheel_directory, config_settings=None, metadata_directory=None):
-    """Writes the wheel into a folder, and returns its name."""
-    project = tomllib.loads((HERE / "pyproject.toml").read_text(encoding="utf-8"))["project"]
-    stem = f"{project['name'].replace('-', '_')}-{project['version']}"
-    files = {f"const_oid/{name}": (HERE / "const_oid" / name).read_bytes() for name in ("__init__.py", "py.typed")}
-    files[f"{stem}.dist-info/METADATA"] = _metadata(project).encode()
-    files[f"{stem}.dist-info/WHEEL"] = WHEEL.encode()
-    record = f"{stem}.dist-info/RECORD"
+def _write_wheel(folder, files):
+    """Writes a wheel of these files and those that say what it is, and returns its name."""
+    of = project()
+    tag = f"cp311-abi3-{re.sub('[-.]', '_', sysconfig.get_platform())}"
+    stem = f"{of['name'].replace('-', '_')}-{of['version']}"
+    information = f"{stem}.dist-info"
+    files = dict(files)
+    for name in LICENCES:
+        files[f"{information}/{name}"] = (TOP / name).read_bytes()
+    files[f"{information}/METADATA"] = metadata(of, (HERE / "README.md").read_text(encoding="utf-8")).encode()
+    head = "Wheel-Version: 1.0\nGenerator: const_oid\nRoot-Is-Purelib: false\n"
+    files[f"{information}/WHEEL"] = f"{head}Tag: {tag}\n".encode()
+    record = f"{information}/RECORD"
     files[record] = ("".join(_recorded(*file) for file in files.items()) + f"{record},,\n").encode()
-    wheel = f"{stem}-py3-none-any.whl"
-    with zipfile.ZipFile(pathlib.Path(wheel_directory) / wheel, "w") as archive:
+    wheel = f"{stem}-{tag}.whl"
+    with zipfile.ZipFile(pathlib.Path(folder) / wheel, "w", zipfile.ZIP_DEFLATED) as archive:
         for name, content in files.items():
-            archive.writestr(zipfile.ZipInfo(name), content)
+            entry = zipfile.ZipInfo(name)
+            entry.compress_type, entry.external_attr = zipfile.ZIP_DEFLATED, 0o100644 << 16
+            archive.writestr(entry, content)
     return wheel
 
 
+def build_wheel(wheel_directory, config_settings=None, metadata_directory=None):
+    """Writes the wheel into a folder, and returns its name."""
+    files = {f"const_oid/{name}": (HERE / "const_oid" / name).read_bytes() for name in SOURCES}
+    files["const_oid/names.tsv"] = _names().encode()
+    with tempfile.TemporaryDirectory() as folder:
+        extension = pathlib.Path(folder) / EXTENSION
+        _compile(extension, config_settings)
+        files[f"const_oid/{EXTENSION}"] = extension.read_bytes()
+    return _write_wheel(wheel_directory, files)
+
+
+def build_editable(wheel_directory, config_settings=None, metadata_directory=None):
+    """Writes a wheel that leads to out/, where the package is links to its sources, the extension module and the names."""
+    package = HERE / "out/const_oid"
+    shutil.rmtree(package, ignore_errors=True)
+    package.mkdir(parents=True)
+    for name in SOURCES:
+        (package / name).symlink_to(HERE / "const_oid" / name)
+    (package / "names.tsv").write_text(_names(), encoding="utf-8")
+    _compile(package / EXTENSION, config_settings)
+    return _write_wheel(wheel_directory, {"const_oid.pth": f"{package.parent}\n".encode()})
+
+
 def build_sdist(sdist_directory, config_settings=None):
-    """There is no source archive: this folder is the source."""
-    raise NotImplementedError("install the folder itself, or build a wheel")
+    """There is no source archive: the checkout is the source."""
+    raise SystemExit("const-oid: there is no source archive: install this folder, or build a wheel")

@@ -1,4 +1,4 @@
-"""100,000 drawn inputs, against tuples and the model."""
+"""100,000 drawn inputs of each kind, against tuples and the model."""
 import random
 import unittest
 
@@ -6,7 +6,8 @@ import model
 from const_oid import ObjectIdentifier, OidError
 
 SEED = 8825
-COUNTS = [2, 2, 3, 3, 3, 4, 4, 6, 6, 9, 9, 14, 14, 20, 52, 254]
+COUNTS = 8 * [2, 2, 3, 3, 3, 4, 4, 6, 6, 9] + [14, 20, 52, 254]
+EDGES = [0, 1, 39, 40, 127, 128, 2**28, 2**32 - 1]
 OTHER_TEXTS = [".", "0", "00", "9", "4294967296", "x", " ", "\n", "\0", "é", "٣", "\ud800", "-", "1.2."]
 OTHER_OCTETS = [b"\x00", b"\x80", b"\xff", b"\x8f", b"\x90\x80\x80\x80\x50"]
 
@@ -20,7 +21,8 @@ def result(call, *inputs):
 
 
 def drawn_arc(draw):
-    return draw.choice([0, 1, 39, 40, 127, 128, 2**28, 2**32 - 1, draw.getrandbits(draw.randint(1, 32))])
+    number = int(64 * draw.random())
+    return EDGES[number % 8] if number < 32 else draw.getrandbits(number - 31)
 
 
 def drawn_arcs(draw):
@@ -51,8 +53,8 @@ class Drawn(unittest.TestCase):
         self.assertEqual(wanted, found, f"seed {SEED}: {given!r}")
 
     def test_arcs(self):
-        """40,000 lists: what is made of them, and their parents and children."""
-        for _ in range(40_000):
+        """100,000 lists: what is made of them, and their parents and children."""
+        for _ in range(100_000):
             arcs = drawn_arcs(self.draw)
             if self.draw.random() < 0.2:
                 arcs = changed(self.draw, arcs, (drawn_arc(self.draw),))
@@ -71,8 +73,8 @@ class Drawn(unittest.TestCase):
         self.same(result(model.octets_of_arcs, (*arcs, arc)), child, (arcs, arc))
 
     def test_pairs(self):
-        """20,000 pairs: equality, hashes, order and prefixes are those of tuples."""
-        for _ in range(20_000):
+        """100,000 pairs: equality, hashes, order and prefixes are those of tuples."""
+        for _ in range(100_000):
             left = drawn_arcs(self.draw)[:40]
             right = near(self.draw, left)
             if isinstance(result(model.octets_of_arcs, right), tuple):
@@ -82,19 +84,19 @@ class Drawn(unittest.TestCase):
             self.same(wanted, (a == b, a != b, a < b, a <= b, a > b, a >= b), (left, right))
             self.same(left == right, hash(a) == hash(b), (left, right))
             is_prefix = left[: len(right)] == right
-            self.same((is_prefix, is_prefix), (a.starts_with(b), a in b), (left, right))
+            self.same(is_prefix, a.starts_with(b), (left, right))
 
     def test_texts(self):
-        """20,000 texts, most of them wrong."""
-        for _ in range(20_000):
+        """100,000 texts, most of them wrong."""
+        for _ in range(100_000):
             text = model.text_of(drawn_arcs(self.draw)[: self.draw.choice([1, 3, 9, 254])])
             other = self.draw.choice(OTHER_TEXTS)
             text = self.draw.choice([changed(self.draw, text, other), text + other, text])
             self.same(result(model.arcs_of_text, text), result(lambda: ObjectIdentifier(text).arcs), text)
 
     def test_octets(self):
-        """20,000 octets, most of them wrong."""
-        for _ in range(20_000):
+        """100,000 octets, most of them wrong."""
+        for _ in range(100_000):
             octets = b"".join(map(model.group, drawn_arcs(self.draw)[1:]))
             other = self.draw.choice([*OTHER_OCTETS, self.draw.randbytes(3)])
             octets = self.draw.choice([changed(self.draw, octets, other), octets + other, octets])

@@ -1,39 +1,47 @@
-"""The package: its examples, the pages, the header, and what the import says without a library."""
+"""The package: its examples, the pages, the header, and its types."""
+import ast
 import contextlib
 import doctest
+import inspect
 import io
-import os
 import pathlib
 import re
+import shutil
 import subprocess
-import sys
-import tempfile
 import unittest
 
 import const_oid
+import typed
+from const_oid import ObjectIdentifier, OidError, SortedMap, names, sorted_map
 
-TOP = pathlib.Path(__file__).resolve().parents[2]
+HERE = pathlib.Path(__file__).resolve().parent
+TOP = HERE.parents[1]
 HEADER = (TOP / "crates/const_oid_c/include/const_oid.h").read_text(encoding="utf-8")
-FOLDER = pathlib.Path(const_oid.__file__).parent
 
 
 def load_tests(loader, tests, pattern):
-    tests.addTests(doctest.DocTestSuite(const_oid))
+    for module in (const_oid, names, sorted_map):
+        tests.addTests(doctest.DocTestSuite(module))
+    # doctest does not look for properties of a class in C.
+    for name in ("arcs", "parent"):
+        examples = doctest.DocTestParser().get_doctest(vars(ObjectIdentifier)[name].__doc__, vars(const_oid), name, None, 0)
+        tests.addTest(doctest.DocTestCase(examples))
     return tests
 
 
 class Package(unittest.TestCase):
-    def test_readme(self):
-        """A line of the page that prints has what it prints as its comment."""
-        blocks = re.findall(r"^```python\n(.*?)^```", (TOP / "README.md").read_text(encoding="utf-8"), re.M | re.S)
-        self.assertTrue(blocks)
-        for block in blocks:
-            wanted = re.findall(r"^ *print\(.*\)\s+# (.*)$", block, re.M)
-            out = io.StringIO()
-            with contextlib.redirect_stdout(out):
-                exec(compile(block, "README.md", "exec"), {})
-            self.assertEqual(wanted, out.getvalue().splitlines())
-            self.assertEqual(len(wanted), block.count("print("))
+    def test_pages(self):
+        """A line of a page that prints has what it prints as its comment."""
+        for page in ("README.md", "python/README.md"):
+            blocks = re.findall(r"^```python\n(.*?)^```", (TOP / page).read_text(encoding="utf-8"), re.M | re.S)
+            self.assertTrue(blocks)
+            for block in blocks:
+                wanted = re.findall(r"^ *print\(.*\)\s+# (.*)$", block, re.M)
+                out = io.StringIO()
+                with contextlib.redirect_stdout(out):
+                    exec(compile(block, page, "exec"), {})
+                self.assertEqual(wanted, out.getvalue().splitlines())
+                self.assertEqual(len(wanted), block.count("print("))
 
     def test_codes(self):
         codes = dict(re.findall(r"CONST_OID_(\w+) = (\d+)", HEADER.split("enum const_oid_code")[1].split("}")[0]))
@@ -41,45 +49,48 @@ class Package(unittest.TestCase):
         self.assertEqual({code.name: str(int(code)) for code in const_oid.Code}, codes)
 
     def test_version(self):
-        version = [re.search(rf"VERSION_{part} (\d+)", HEADER)[1] for part in ("MAJOR", "MINOR", "PATCH")]
+        version = ".".join(re.search(rf"VERSION_{part} (\d+)", HEADER)[1] for part in ("MAJOR", "MINOR", "PATCH"))
         project = (TOP / "python/pyproject.toml").read_text(encoding="utf-8")
-        self.assertIn(f'\nversion = "{".".join(version)}"\n', project)
+        self.assertIn(f'\nversion = "{version}"\n', project)
+        self.assertEqual(version, const_oid.__version__)
 
-    def test_files(self):
-        """The package has no file of ours that is compiled, and says that it has types."""
-        self.assertEqual({"__init__.py", "py.typed"}, {path.name for path in FOLDER.iterdir()} - {"__pycache__"})
+    def test_names(self):
+        """What the package and each class has, aside from what Python gives it."""
+        public = {"Code", "ObjectIdentifier", "OidError", "SortedMap", "__version__", "names"}
+        self.assertEqual(public, set(const_oid.__all__))
+        self.assertEqual({"by_name", "entries", "name_of", "names_of"}, set(names.__all__))
+        methods = "arcs child count from_arcs from_bytes index parent starts_with"
+        self.assertEqual(methods.split(), [name for name in dir(ObjectIdentifier) if not name.startswith("_")])
+        self.assertEqual({"const_oid"}, {value.__module__ for value in (ObjectIdentifier, OidError, const_oid.Code)})
+
+    def test_documented(self):
+        for owner in (const_oid, names, ObjectIdentifier, OidError, SortedMap):
+            for name in [name for name in vars(owner) if not name.startswith("_")]:
+                value = getattr(owner, name)
+                if callable(value) or inspect.isdatadescriptor(value):
+                    with self.subTest(owner=owner, name=name):
+                        self.assertTrue(inspect.getdoc(value))
 
 
-class Import(unittest.TestCase):
-    def imported(self, **variables):
-        """What an import in a new process says."""
-        names = ("CONST_OID_LIBRARY", "LD_LIBRARY_PATH", "DYLD_LIBRARY_PATH")
-        clean = {name: value for name, value in os.environ.items() if name not in names}
-        code = "from const_oid import ObjectIdentifier as O; print(O.from_arcs([2, 999]))"
-        run = subprocess.run([sys.executable, "-c", code], env=clean | variables, text=True, capture_output=True)
-        return run.stdout.strip() or run.stderr.strip().splitlines()[-1]
+class Types(unittest.TestCase):
+    def test_stub(self):
+        """The types of the class in C are for the arguments that it has."""
+        stub = ast.parse((TOP / "python/const_oid/_native.pyi").read_text(encoding="utf-8"))
+        declared = {node.name: node for node in stub.body if isinstance(node, ast.ClassDef)}["ObjectIdentifier"]
+        functions = {node.name: node for node in declared.body if isinstance(node, ast.FunctionDef)}
+        self.assertEqual({name for name in vars(ObjectIdentifier) if not name.startswith("_")} - set(functions), set())
+        for name in ("from_bytes", "from_arcs", "child", "starts_with", "index", "count", "__format__", "__deepcopy__"):
+            with self.subTest(name):
+                arguments = [argument.arg for argument in functions[name].args.posonlyargs][1:]
+                text = inspect.getattr_static(ObjectIdentifier, name).__text_signature__
+                self.assertEqual(arguments, re.findall(r", (\w+)", text))
 
-    def test_found(self):
-        library = pathlib.Path(os.environ["CONST_OID_LIBRARY"])
-        self.assertEqual("2.999", self.imported(CONST_OID_LIBRARY=str(library)))
-        self.assertEqual("2.999", self.imported(LD_LIBRARY_PATH=str(library.parent)))
+    def test_typed(self):
+        typed.uses()
 
-    def test_missing(self):
-        library = pathlib.Path(os.environ["CONST_OID_LIBRARY"])
-        for variables in ({}, {"CONST_OID_LIBRARY": "/missing.so", "LD_LIBRARY_PATH": str(library.parent)}):
-            said = self.imported(**variables)
-            with self.subTest(said):
-                self.assertTrue(said.startswith("ImportError: the library const_oid_c is not found ("))
-                self.assertIn("crates/const_oid_c/install", said)
-                self.assertIn("set CONST_OID_LIBRARY to the path of libconst_oid_c.so.1", said)
-        self.assertIn("/missing.so", said)
-
-    def test_other_libraries(self):
-        """A library without our calls, and one of another version."""
-        sources = {"": "is not found", "unsigned const_oid_version(void) { return 2 << 16; }": "has version 2"}
-        build = [os.environ.get("CC", "cc"), "-shared", "-fPIC", "-xc", "-", "-o"]
-        with tempfile.TemporaryDirectory() as folder:
-            for source, wanted in sources.items():
-                library = f"{folder}/{len(source)}.so"
-                subprocess.run([*build, library], input=source, text=True, check=True)
-                self.assertIn(wanted, self.imported(CONST_OID_LIBRARY=library))
+    @unittest.skipUnless(shutil.which("mypy"), "mypy is not installed")
+    def test_mypy(self):
+        command = ["mypy", "--strict", "--cache-dir=/dev/null", "--python-version=3.11"]
+        files = [TOP / "python/const_oid", HERE / "typed.py"]
+        run = subprocess.run([*command, *files], cwd=TOP / "python", text=True, capture_output=True)
+        self.assertEqual((0, ""), (run.returncode, run.stderr), run.stdout)

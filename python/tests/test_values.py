@@ -1,33 +1,45 @@
-"""What identifiers and errors are as values of Python: types, copies, pickles, threads."""
+"""What identifiers and errors are as values of Python: types, copies, pickles, threads, interpreters."""
 import array
+import collections.abc
 import copy
 import operator
+import os
+import pathlib
 import pickle
 import sys
 import threading
 import unittest
+import weakref
 
 from const_oid import Code, ObjectIdentifier, OidError
 
 OID = ObjectIdentifier("1.2.840.10045.2.1")
 OCTETS = bytes.fromhex("2A8648CE3D0201")
 LONG = ObjectIdentifier.from_bytes(bytes([42] + [3] * 299))
+HEADER = pathlib.Path(__file__).resolve().parents[2] / "crates/const_oid_c/include/const_oid.h"
+# Whether the library's parent and push_arc take octets of any length.
+ANY_LENGTH = "CONST_OID_LESS = 1" in HEADER.read_text(encoding="utf-8")
 
 
 class Under(ObjectIdentifier):
     __slots__ = ()
 
 
+class Index:
+    def __index__(self):
+        return 999
+
+
 class Inputs(unittest.TestCase):
     def test_other_types(self):
         wrong = {
-            ObjectIdentifier: [b"1.2", None, 1, 1.2, OID, ("1", "2")],
+            ObjectIdentifier: [b"1.2", None, 1, 1.2, ("1", "2")],
             ObjectIdentifier.from_bytes: ["2.999", None, 42, [42, 3], OID, array.array("B", [42])],
             ObjectIdentifier.from_arcs: ["12", "", b"\x01\x02", bytearray(b"\x01"), None, 1, [1, "2"], [1.0, 2]],
             (lambda arcs: ObjectIdentifier.from_arcs((1, 2**32, *arcs))): ["3", [2.0], None],
             OID.child: ["1", 1.0, None, OID],
             OID.starts_with: ["1.2", b"\x2a", None, (1, 2)],
-            OID.__contains__: ["1.2", None, 1.0],
+            OID.__contains__: ["1.2", None, 1.0, OID],
             OID.__getitem__: ["1", None, 1.0],
         }
         for call, inputs in wrong.items():
@@ -45,12 +57,28 @@ class Inputs(unittest.TestCase):
         self.assertIs(type(bytes(taken[1])), bytes)
 
     def test_arcs(self):
-        class Index:
-            def __index__(self):
-                return 999
-
         self.assertEqual((2, 999, 1), ObjectIdentifier.from_arcs(iter([2, Index(), True])).arcs)
         self.assertEqual((2, 5, 999), ObjectIdentifier("2.5").child(Index()).arcs)
+        self.assertEqual((2, 5), ObjectIdentifier.from_arcs(ObjectIdentifier("2.5")).arcs)
+
+    def test_negative_arcs(self):
+        for call, given in {ObjectIdentifier.from_arcs: (1, -2), OID.child: -2}.items():
+            with self.subTest(call=call), self.assertRaisesRegex(ValueError, "^an arc is negative: -2$"):
+                call(given)
+        with self.assertRaisesRegex(ValueError, "^an arc is negative$"):
+            OID.child(-(10**5000))
+
+    def test_identifiers(self):
+        """An identifier in place of a text: itself, or one of another class with its octets."""
+        under = Under(OID)
+        self.assertIs(OID, ObjectIdentifier(OID))
+        self.assertIs(under, Under(under))
+        self.assertEqual((Under, OCTETS), (type(under), bytes(under)))
+        self.assertEqual((ObjectIdentifier, OCTETS), (type(ObjectIdentifier(under)), bytes(ObjectIdentifier(under))))
+        self.assertEqual(OID, ObjectIdentifier(text="1.2.840.10045.2.1"))
+        for wrong in ((), ("1.2", "1.3")):
+            with self.assertRaises(TypeError):
+                ObjectIdentifier(*wrong)
 
     def test_faults(self):
         faults = {
@@ -65,12 +93,10 @@ class Inputs(unittest.TestCase):
             (ObjectIdentifier.from_arcs, ()): (5, 0),
             (ObjectIdentifier.from_arcs, (1, 2, 2**32)): (2, 0),
             (ObjectIdentifier.from_arcs, (1, 2, 10**5000)): (2, 0),
-            (ObjectIdentifier.from_arcs, (1, 2, -1)): (4, ord("-")),
             (ObjectIdentifier.from_arcs, (3, 2**32)): (1, 3),
             (OID.child, 2**32): (2, 0),
-            (OID.child, -1): (4, ord("-")),
-            (LONG.child, 1): (6, 0),
-            (getattr, LONG, "parent"): (6, 0),
+            (LONG.child, 2**32): (2, 0),
+            (ObjectIdentifier("1.2" + ".3" * 254).child, 2**32): (2, 0),
         }
         for (call, *inputs), wanted in faults.items():
             with self.subTest(call=call, wanted=wanted):
@@ -83,7 +109,25 @@ class Inputs(unittest.TestCase):
         self.assertEqual("1.2" + ".3" * 299, str(LONG))
         largest = ObjectIdentifier.from_bytes(b"\x8f\xff\xff\xff\x7f" * 400)
         self.assertEqual("2.4294967215" + ".4294967295" * 399, str(largest))
-        self.assertTrue(largest.starts_with(largest) and LONG in ObjectIdentifier("1.2.3") and LONG < OID < largest)
+        self.assertTrue(largest.starts_with(largest) and LONG.starts_with(ObjectIdentifier("1.2.3")))
+        self.assertTrue(LONG < OID < largest and not LONG > OID and LONG != OID and LONG <= LONG)
+        self.assertEqual((301, 3, (1, 2), 299), (len(LONG), LONG[-1], LONG[:2], LONG.count(3)))
+        same = ObjectIdentifier.from_bytes(bytes(LONG))
+        self.assertEqual((LONG, hash(LONG), repr(LONG)), (same, hash(same), f"ObjectIdentifier('{LONG}')"))
+
+    def test_long_faults(self):
+        """Octets past each length that a call might cut: the fault is in the last group."""
+        for length in (255, 256, 65_535, 65_536, 70_000, 2**20 + 1):
+            with self.subTest(length), self.assertRaises(OidError) as caught:
+                ObjectIdentifier.from_bytes(bytes(length - 1) + b"\x80")
+            self.assertIs(caught.exception.code, Code.BASE128)
+
+    @unittest.skipUnless(ANY_LENGTH, "the library's parent and push_arc take 255 octets")
+    def test_long_families(self):
+        for oid in (LONG, ObjectIdentifier.from_bytes(bytes(70_000)), ObjectIdentifier("1.2" + ".3" * 254)):
+            child = oid.child(2**32 - 1)
+            self.assertEqual((bytes(oid) + b"\x8f\xff\xff\xff\x7f", oid), (bytes(child), child.parent))
+            self.assertEqual(bytes(oid)[:-1], bytes(oid.parent))
 
 
 class Values(unittest.TestCase):
@@ -93,7 +137,24 @@ class Values(unittest.TestCase):
             for other in [*copies, copy.copy(oid), copy.deepcopy([oid])[0]]:
                 self.assertEqual((oid, oid.arcs, hash(oid)), (other, other.arcs, hash(other)))
                 self.assertIs(type(oid), type(other))
-        self.assertIs(type(Under("2.999.1").parent), Under)
+        for oid in (Under("2.999.1").parent, Under("2.999").child(1), Under.from_arcs((2, 999)), Under.from_bytes(OCTETS)):
+            self.assertIs(type(oid), Under)
+        self.assertEqual(("Under('2.999')", True, False), (repr(Under("2.999")), Under(OID) == OID, Under(OID) < OID))
+        self.assertEqual({OID: 1}, {Under(OID): 1})
+
+    def test_subclasses(self):
+        """Subclasses have slots, attributes and other bases as those of other classes do."""
+
+        class Named(ObjectIdentifier):
+            __slots__ = ("name",)
+
+        class Attributes(collections.abc.Sized, ObjectIdentifier):
+            pass
+
+        named, attributes = Named("1.2"), Attributes("1.2.3")
+        named.name, attributes.name = "n", "a"
+        self.assertEqual(("n", "a", True), (named.name, attributes.name, attributes.starts_with(named)))
+        self.assertEqual((1, 2, 3), attributes.arcs)
 
     def test_pickle_is_checked(self):
         with self.assertRaises(OidError):
@@ -107,6 +168,8 @@ class Values(unittest.TestCase):
                 delattr(OID, name)
         with self.assertRaises(TypeError):
             OID[0] = 1
+        with self.assertRaises(TypeError):
+            del OID[0]
         OID.__init__("2.5")
         self.assertEqual("1.2.840.10045.2.1", str(OID))
         self.assertFalse(hasattr(OID, "__dict__"))
@@ -125,11 +188,37 @@ class Values(unittest.TestCase):
     def test_sequence(self):
         self.assertEqual([1, 2, 840, 10045, 2, 1], list(OID))
         self.assertEqual((6, 1, 1, (10045, 1)), (len(OID), OID[0], OID[-1], OID[3::2]))
-        self.assertEqual((True, False), (840 in OID, 841 in OID))
+        self.assertTrue(all(arc in OID for arc in OID))
+        self.assertEqual((True, False, True, False), (840 in OID, 841 in OID, True in OID, 10**5000 in OID))
+        self.assertIn(Index(), ObjectIdentifier("2.999"))
+        self.assertEqual((1, 4, 2), (OID.index(2), OID.index(2, 2), OID.count(1)))
+        self.assertEqual([1, 2, 10045, 840, 2, 1], list(reversed(OID)))
+        self.assertIsInstance(OID, collections.abc.Sequence)
+        match OID:
+            case [1, 2, 840, *rest]:
+                self.assertEqual([10045, 2, 1], rest)
+            case _:
+                self.fail("an identifier is no sequence")
+        for call in (lambda: OID.index(3), lambda: OID.index(2, 0, 1)):
+            with self.assertRaises(ValueError):
+                call()
         for index in (6, -7):
             with self.assertRaises(IndexError):
                 OID[index]
         self.assertEqual("ObjectIdentifier('1.2.840.10045.2.1')", repr(OID))
+
+    def test_format(self):
+        self.assertEqual("   2.999|2.999*|2.9|2.999", "{0:>8}|{0:*<6}|{0:.3}|{0}".format(ObjectIdentifier("2.999")))
+        with self.assertRaises(ValueError):
+            f"{OID:d}"
+
+    def test_weak_references(self):
+        oid, seen = Under("2.999"), []
+        plain = ObjectIdentifier("2.5")
+        references = [weakref.ref(oid, seen.append), weakref.ref(plain, seen.append)]
+        self.assertEqual([oid, plain], [reference() for reference in references])
+        del oid, plain
+        self.assertEqual(([None, None], references), ([reference() for reference in references], seen))
 
 
 class Errors(unittest.TestCase):
@@ -142,8 +231,31 @@ class Errors(unittest.TestCase):
             self.assertIs(type(other), OidError)
             self.assertIs(other.code, Code.ARC_INVALID)
             self.assertEqual((40, "OID contains out-of-range arc: 40"), (other.detail, str(other)))
-        self.assertEqual("OidError(4, 255)", repr(OidError(4, 255)))
+            self.assertEqual(("1.40", 1, (1, 40)), (other.given, other.piece, other.args))
+        self.assertEqual("OidError(Code.DIGIT_EXPECTED, 255)", repr(OidError(4, 255)))
+        self.assertEqual("OidError(Code.ARC_INVALID, 40, '1.40')", repr(error))
         self.assertEqual("expected digit, got 'ÿ'", str(OidError(4, 255)))
+        self.assertEqual("DIGIT_EXPECTED 256", str(OidError(4, 256)))
+
+    def test_given(self):
+        calls = {
+            ObjectIdentifier.from_bytes: (b"\x80", b"\x80"),
+            ObjectIdentifier.from_arcs: (iter((3, 1)), (3, 1)),
+            OID.child: (2**32, 2**32),
+        }
+        for call, (given, wanted) in calls.items():
+            with self.subTest(call=call), self.assertRaises(OidError) as caught:
+                call(given)
+            self.assertEqual((wanted, None), (caught.exception.given, caught.exception.piece))
+
+    def test_pieces(self):
+        """Which piece is the first wrong one."""
+        pieces = {"": 0, "1": None, "3": 0, "x.2": 0, ".1": 0, "..": 0, "1.": 1, "1..2": 1, "1.2.": 2, "1.2.3..4": 3}
+        pieces |= {"3.4": 0, "1.40.x": 1, "2.99999999999": 1, "1.2.3x.y": 2, "1.2" + ".3" * 255 + ".4": 256, "1.\ud800": 1}
+        for text, piece in pieces.items():
+            with self.subTest(text), self.assertRaises(OidError) as caught:
+                ObjectIdentifier(text)
+            self.assertEqual((text, piece), (caught.exception.given, caught.exception.piece))
 
 
 class Threads(unittest.TestCase):
@@ -171,3 +283,35 @@ class Threads(unittest.TestCase):
         finally:
             sys.setswitchinterval(interval)
         self.assertEqual([], wrong[:3])
+
+
+INTERPRETED = """
+import os, const_oid
+from const_oid import ObjectIdentifier
+oid = ObjectIdentifier("2.999.3")
+try:
+    ObjectIdentifier("1.40")
+except const_oid.OidError as error:
+    os.write({}, f"{{oid.parent}} {{len({{oid, ObjectIdentifier(oid)}})}} {{error}} {{id(ObjectIdentifier)}}\\n".encode())
+"""
+
+
+class Interpreters(unittest.TestCase):
+    def test_interpreters(self):
+        """Each interpreter has its own class."""
+        try:
+            import _interpreters as interpreters
+        except ImportError:
+            import _xxsubinterpreters as interpreters
+        read, write = os.pipe()
+        for _ in range(3):
+            own = interpreters.create()
+            interpreters.run_string(own, INTERPRETED.format(write))
+            interpreters.destroy(own)
+        os.close(write)
+        with open(read, encoding="utf-8") as lines:
+            said = [line.split() for line in lines]
+        wanted = "2.999 1 OID contains out-of-range arc: 40".split()
+        self.assertEqual([wanted] * 3, [words[:-1] for words in said])
+        self.assertNotIn(str(id(ObjectIdentifier)), [words[-1] for words in said])
+        self.assertEqual("2.999", str(ObjectIdentifier("2.999")))

@@ -1,0 +1,61 @@
+"""Names of identifiers, from RFCs and other documents: 1,492 entries.
+
+>>> from const_oid import ObjectIdentifier, names
+>>> names.name_of(ObjectIdentifier("1.2.840.10045.2.1"))
+'id-ecPublicKey'
+>>> names.by_name("ID-ECPUBLICKEY")
+ObjectIdentifier('1.2.840.10045.2.1')
+"""
+
+from __future__ import annotations
+
+import pathlib
+from functools import cache
+
+from ._native import ObjectIdentifier
+
+__all__ = ["by_name", "entries", "name_of", "names_of"]
+
+
+@cache
+def entries() -> tuple[tuple[ObjectIdentifier, str], ...]:
+    """All entries, each an identifier and a name, in the order of the table."""
+    lines = pathlib.Path(__file__).with_name("names.tsv").read_text(encoding="utf-8").splitlines()
+    return tuple((ObjectIdentifier(text), name) for text, name in (line.split("\t") for line in lines))
+
+
+@cache
+def _by_oid() -> dict[ObjectIdentifier, list[str]]:
+    names: dict[ObjectIdentifier, list[str]] = {}
+    for oid, name in entries():
+        names.setdefault(oid, []).append(name)
+    return names
+
+
+@cache
+def _by_name() -> dict[bytes, ObjectIdentifier]:
+    return {_folded(name): oid for oid, name in reversed(entries())}
+
+
+def _folded(name: str) -> bytes:
+    """A name without the case of its ASCII letters."""
+    return name.encode("utf-8", "surrogatepass").lower()
+
+
+def name_of(oid: ObjectIdentifier) -> str | None:
+    """The first name of an identifier, or None."""
+    return next(iter(_by_oid().get(oid, ())), None)
+
+
+def names_of(oid: ObjectIdentifier) -> tuple[str, ...]:
+    """All names of an identifier, in the order of the table.
+
+    >>> names_of(ObjectIdentifier("2.5.4.3"))
+    ('cn', 'commonName')
+    """
+    return tuple(_by_oid().get(oid, ()))
+
+
+def by_name(name: str) -> ObjectIdentifier | None:
+    """The first identifier with a name, whatever the case of its ASCII letters, or None."""
+    return _by_name().get(_folded(name))

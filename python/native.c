@@ -1,0 +1,545 @@
+/* The extension module const_oid._native, for the stable ABI of Python 3.11. An identifier holds its contents octets, and
+ * const_oid.h computes each result. There is no state here, so each interpreter has its own module and type. */
+#define Py_LIMITED_API 0x030B0000
+#define PY_SSIZE_T_CLEAN
+#include <Python.h>
+#include <const_oid.h>
+#include <stddef.h>
+#include <stdio.h>
+#include <string.h>
+#include <structmember.h>
+
+typedef struct {
+    PyObject_HEAD
+    PyObject *octets; /* bytes that const_oid_check accepts */
+    PyObject *arcs;   /* a tuple, or NULL before its first use */
+    PyObject *weak_references;
+} Identifier;
+
+static const_oid_octets items_of(PyObject *bytes) {
+    const_oid_octets items = {(const uint8_t *)PyBytes_AsString(bytes), (size_t)PyBytes_Size(bytes)};
+    return items;
+}
+
+static const_oid_octets octets_of(PyObject *self) { return items_of(((Identifier *)self)->octets); }
+
+static void identifier_dealloc(PyObject *self) {
+    Identifier *identifier = (Identifier *)self;
+    PyTypeObject *type = Py_TYPE(self);
+    if (identifier->weak_references) PyObject_ClearWeakRefs(self);
+    Py_XDECREF(identifier->octets);
+    Py_XDECREF(identifier->arcs);
+    ((freefunc)PyType_GetSlot(type, Py_tp_free))(self);
+    Py_DECREF(type);
+}
+
+/* Whether an object is an ObjectIdentifier, or of a type that is made from it. */
+static int is_identifier(PyObject *object) {
+    PyTypeObject *type = Py_TYPE(object);
+    while (type && (destructor)PyType_GetSlot(type, Py_tp_dealloc) != identifier_dealloc) {
+        type = (PyTypeObject *)PyType_GetSlot(type, Py_tp_base);
+    }
+    return type != NULL;
+}
+
+/* Raises the OidError of a status, with what was given. */
+static PyObject *failed(const_oid_status status, PyObject *given) {
+    PyObject *package = PyImport_ImportModule("const_oid"), *error = NULL;
+    if (package) error = PyObject_CallMethod(package, "OidError", "IIO", status.code, status.detail, given);
+    if (error) PyErr_SetObject((PyObject *)Py_TYPE(error), error);
+    Py_XDECREF(package);
+    Py_XDECREF(error);
+    return NULL;
+}
+
+static PyObject *wrong_type(const char *wanted, PyObject *given) {
+    PyObject *name = PyType_GetName(Py_TYPE(given));
+    if (name) PyErr_Format(PyExc_TypeError, "%s, not %U", wanted, name);
+    Py_XDECREF(name);
+    return NULL;
+}
+
+/* The identifier with valid octets, which it takes. */
+static PyObject *made(PyTypeObject *type, PyObject *octets) {
+    if (!octets) return NULL;
+    Identifier *self = (Identifier *)PyType_GenericAlloc(type, 0);
+    if (self) {
+        self->octets = octets;
+    } else {
+        Py_DECREF(octets);
+    }
+    return (PyObject *)self;
+}
+
+/* The identifier with the octets that a call wrote, or its error. */
+static PyObject *made_of(PyTypeObject *type, const uint8_t *out, const_oid_status status, PyObject *given) {
+    if (status.code) return failed(status, given);
+    return made(type, PyBytes_FromStringAndSize((const char *)out, (Py_ssize_t)status.len));
+}
+
+/* UTF-8 of a str; a surrogate is no UTF-8, as the library says itself. */
+static const char *utf8_of(PyObject *text, Py_ssize_t *len, PyObject **encoded) {
+    const char *data = PyUnicode_AsUTF8AndSize(text, len);
+    if (data || !PyErr_ExceptionMatches(PyExc_UnicodeEncodeError)) return data;
+    PyErr_Clear();
+    *encoded = PyUnicode_AsEncodedString(text, "utf-8", "surrogatepass");
+    if (!*encoded) return NULL;
+    *len = PyBytes_Size(*encoded);
+    return PyBytes_AsString(*encoded);
+}
+
+static PyObject *made_of_text(PyTypeObject *type, PyObject *text) {
+    uint8_t out[CONST_OID_MAX_OCTETS];
+    PyObject *encoded = NULL;
+    Py_ssize_t len;
+    const char *data = utf8_of(text, &len, &encoded);
+    if (!data) return NULL;
+    const_oid_status status = const_oid_from_text((const void *)data, (size_t)len, out, sizeof out);
+    Py_XDECREF(encoded);
+    return made_of(type, out, status, text);
+}
+
+static PyObject *identifier_new(PyTypeObject *type, PyObject *arguments, PyObject *keywords) {
+    static char *names[] = {"text", NULL};
+    PyObject *given;
+    if (keywords ? !PyArg_ParseTupleAndKeywords(arguments, keywords, "O:ObjectIdentifier", names, &given)
+                 : !PyArg_UnpackTuple(arguments, "ObjectIdentifier", 1, 1, &given)) {
+        return NULL;
+    }
+    if (PyUnicode_Check(given)) return made_of_text(type, given);
+    if (!is_identifier(given)) return wrong_type("the text is a str", given);
+    if (Py_TYPE(given) == type) return Py_NewRef(given);
+    return made(type, Py_NewRef(((Identifier *)given)->octets));
+}
+
+static PyObject *identifier_from_bytes(PyObject *type, PyObject *given) {
+    if (!PyBytes_Check(given) && !PyByteArray_Check(given) && !PyMemoryView_Check(given)) {
+        return wrong_type("octets are bytes, a bytearray or a memoryview", given);
+    }
+    PyObject *octets = PyBytes_FromObject(given);
+    if (!octets) return NULL;
+    const_oid_octets items = items_of(octets);
+    const_oid_status status = const_oid_check(items.octets, items.len);
+    if (!status.code) return made((PyTypeObject *)type, octets);
+    failed(status, octets);
+    Py_DECREF(octets);
+    return NULL;
+}
+
+/* An integer, or 2^32 in place of all that are greater. Returns whether there is one. */
+static int read_arc(PyObject *item, uint64_t *arc) {
+    PyObject *number = PyNumber_Index(item);
+    if (!number) return 0;
+    int overflow;
+    long long value = PyLong_AsLongLongAndOverflow(number, &overflow);
+    Py_DECREF(number);
+    if (overflow < 0 || (!overflow && value < 0)) {
+        PyErr_Format(PyExc_ValueError, overflow ? "an arc is negative" : "an arc is negative: %lld", value);
+        return 0;
+    }
+    *arc = overflow || value > UINT32_MAX ? (uint64_t)UINT32_MAX + 1 : (uint64_t)value;
+    return 1;
+}
+
+/* Reads all items of a tuple. Returns how many come before the first that is past 32 bits, or -1 with an exception. */
+static Py_ssize_t read_arcs(PyObject *items, Py_ssize_t count, uint32_t *arcs) {
+    Py_ssize_t fitting = count;
+    for (Py_ssize_t index = 0; index < count; index++) {
+        uint64_t arc;
+        if (!read_arc(PyTuple_GetItem(items, index), &arc)) return -1;
+        if (arc > UINT32_MAX && fitting == count) fitting = index;
+        arcs[index] = (uint32_t)arc;
+    }
+    return fitting;
+}
+
+/* Raises the error of arcs and then one past 32 bits, which only a text can have. */
+static PyObject *failed_past_32_bits(const uint32_t *arcs, size_t len, PyObject *given) {
+    char *text = PyMem_Malloc(11 * len + sizeof "4294967296"), *end = text;
+    if (!text) return PyErr_NoMemory();
+    for (size_t index = 0; index < len; index++) end += sprintf(end, "%lu.", (unsigned long)arcs[index]);
+    end += sprintf(end, "4294967296");
+    const_oid_status status = const_oid_from_text((const void *)text, (size_t)(end - text), NULL, 0);
+    PyMem_Free(text);
+    return failed(status, given);
+}
+
+static PyObject *made_of_arcs(PyTypeObject *type, PyObject *items, Py_ssize_t count, uint32_t *arcs) {
+    uint8_t out[CONST_OID_MAX_OCTETS];
+    Py_ssize_t fitting = read_arcs(items, count, arcs);
+    if (fitting < 0) return NULL;
+    if (fitting < count) return failed_past_32_bits(arcs, (size_t)fitting, items);
+    const_oid_status status = const_oid_from_arcs(arcs, (size_t)count, out, sizeof out);
+    return made_of(type, out, status, items);
+}
+
+static PyObject *identifier_from_arcs(PyObject *type, PyObject *given) {
+    if (PyUnicode_Check(given) || PyBytes_Check(given) || PyByteArray_Check(given) || PyMemoryView_Check(given)) {
+        return wrong_type("arcs are integers", given);
+    }
+    PyObject *items = PySequence_Tuple(given), *result;
+    if (!items) return NULL;
+    uint32_t room[CONST_OID_MAX_ARCS], *arcs = room;
+    Py_ssize_t count = PyTuple_Size(items);
+    if (count > CONST_OID_MAX_ARCS) arcs = PyMem_Calloc((size_t)count, sizeof *arcs);
+    result = arcs ? made_of_arcs((PyTypeObject *)type, items, count, arcs) : PyErr_NoMemory();
+    if (arcs != room) PyMem_Free(arcs);
+    Py_DECREF(items);
+    return result;
+}
+
+static PyObject *decoded(const_oid_octets octets) {
+    uint32_t room[CONST_OID_MAX_ARCS], *arcs = room;
+    const_oid_status status = const_oid_arcs(octets.octets, octets.len, arcs, CONST_OID_MAX_ARCS);
+    if (status.code == CONST_OID_OUTPUT_TOO_SHORT) {
+        arcs = PyMem_Calloc(status.len, sizeof *arcs);
+        if (!arcs) return PyErr_NoMemory();
+        status = const_oid_arcs(octets.octets, octets.len, arcs, status.len);
+    }
+    PyObject *tuple = PyTuple_New((Py_ssize_t)status.len);
+    for (size_t index = 0; tuple && index < status.len; index++) {
+        PyObject *arc = PyLong_FromUnsignedLong(arcs[index]);
+        if (!arc || PyTuple_SetItem(tuple, (Py_ssize_t)index, arc)) Py_CLEAR(tuple);
+    }
+    if (arcs != room) PyMem_Free(arcs);
+    return tuple;
+}
+
+/* The tuple that the identifier keeps; the reference is borrowed. */
+static PyObject *arcs_of(PyObject *self) {
+    Identifier *identifier = (Identifier *)self;
+    if (!identifier->arcs) identifier->arcs = decoded(octets_of(self));
+    return identifier->arcs;
+}
+
+static PyObject *identifier_arcs(PyObject *self, void *closure) {
+    (void)closure;
+    return Py_XNewRef(arcs_of(self));
+}
+
+/* The most octets of an arc. */
+#define ARC_OCTETS 5
+
+/* Room for octets and one more arc: `room`, or memory to free. */
+typedef struct {
+    uint8_t room[CONST_OID_MAX_OCTETS + ARC_OCTETS];
+    uint8_t *start;
+    size_t len;
+} Output;
+
+static int has_room(Output *out, size_t octets) {
+    out->len = octets + ARC_OCTETS;
+    out->start = out->len <= sizeof out->room ? out->room : PyMem_Malloc(out->len);
+    if (!out->start) PyErr_NoMemory();
+    return out->start != NULL;
+}
+
+static void free_room(Output *out) {
+    if (out->start != out->room) PyMem_Free(out->start);
+}
+
+static PyObject *identifier_parent(PyObject *self, void *closure) {
+    (void)closure;
+    Output out;
+    const_oid_octets octets = octets_of(self);
+    if (!has_room(&out, octets.len)) return NULL;
+    const_oid_status status = const_oid_parent(octets.octets, octets.len, out.start, out.len);
+    PyObject *result = status.code == CONST_OID_NONE ? Py_NewRef(Py_None) : made_of(Py_TYPE(self), out.start, status, self);
+    free_room(&out);
+    return result;
+}
+
+static PyObject *identifier_child(PyObject *self, PyObject *item) {
+    Output out;
+    uint64_t arc;
+    if (!read_arc(item, &arc)) return NULL;
+    if (arc > UINT32_MAX) return failed_past_32_bits(NULL, 0, item);
+    const_oid_octets octets = octets_of(self);
+    if (!has_room(&out, octets.len)) return NULL;
+    const_oid_status status = const_oid_push_arc(octets.octets, octets.len, (uint32_t)arc, out.start, out.len);
+    PyObject *result = made_of(Py_TYPE(self), out.start, status, item);
+    free_room(&out);
+    return result;
+}
+
+static PyObject *identifier_starts_with(PyObject *self, PyObject *prefix) {
+    if (!is_identifier(prefix)) return wrong_type("the prefix is an ObjectIdentifier", prefix);
+    const_oid_octets octets = octets_of(self), start = octets_of(prefix);
+    return PyBool_FromLong((long)const_oid_starts_with(octets.octets, octets.len, start.octets, start.len).detail);
+}
+
+static PyObject *identifier_str(PyObject *self) {
+    char room[CONST_OID_MAX_TEXT], *text = room;
+    const_oid_octets octets = octets_of(self);
+    const_oid_status status = const_oid_to_text(octets.octets, octets.len, (void *)text, sizeof room);
+    if (status.code == CONST_OID_OUTPUT_TOO_SHORT) {
+        text = PyMem_Malloc(status.len);
+        if (!text) return PyErr_NoMemory();
+        status = const_oid_to_text(octets.octets, octets.len, (void *)text, status.len);
+    }
+    PyObject *result = PyUnicode_FromStringAndSize(text, (Py_ssize_t)status.len);
+    if (text != room) PyMem_Free(text);
+    return result;
+}
+
+static PyObject *identifier_repr(PyObject *self) {
+    PyObject *name = PyType_GetName(Py_TYPE(self)), *text = identifier_str(self), *result = NULL;
+    if (name && text) result = PyUnicode_FromFormat("%U('%U')", name, text);
+    Py_XDECREF(name);
+    Py_XDECREF(text);
+    return result;
+}
+
+static PyObject *identifier_format(PyObject *self, PyObject *specification) {
+    PyObject *text = identifier_str(self);
+    PyObject *result = text ? PyObject_Format(text, specification) : NULL;
+    Py_XDECREF(text);
+    return result;
+}
+
+static PyObject *identifier_bytes(PyObject *self, PyObject *none) {
+    (void)none;
+    return Py_NewRef(((Identifier *)self)->octets);
+}
+
+static Py_hash_t identifier_hash(PyObject *self) { return PyObject_Hash(((Identifier *)self)->octets); }
+
+/* Equal identifiers have equal octets. */
+static PyObject *identifier_compare(PyObject *self, PyObject *other, int operation) {
+    if (Py_TYPE(self) != Py_TYPE(other) && !is_identifier(other)) Py_RETURN_NOTIMPLEMENTED;
+    const_oid_octets left = octets_of(self), right = octets_of(other);
+    if (operation == Py_EQ || operation == Py_NE) {
+        int is_equal = left.len == right.len && !memcmp(left.octets, right.octets, left.len);
+        return PyBool_FromLong(is_equal == (operation == Py_EQ));
+    }
+    uint32_t order = const_oid_cmp_arcs(left.octets, left.len, right.octets, right.len).detail;
+    Py_RETURN_RICHCOMPARE(order, CONST_OID_EQUAL, operation);
+}
+
+static Py_ssize_t identifier_len(PyObject *self) {
+    const_oid_octets octets = octets_of(self);
+    return (Py_ssize_t)const_oid_len(octets.octets, octets.len).len;
+}
+
+static int identifier_contains(PyObject *self, PyObject *item) {
+    if (!PyIndex_Check(item)) {
+        wrong_type("an arc is an int (starts_with looks for a prefix)", item);
+        return -1;
+    }
+    PyObject *arcs = arcs_of(self), *number = arcs ? PyNumber_Index(item) : NULL;
+    int is_found = number ? PySequence_Contains(arcs, number) : -1;
+    Py_XDECREF(number);
+    return is_found;
+}
+
+static PyObject *identifier_item(PyObject *self, Py_ssize_t index) {
+    PyObject *arcs = arcs_of(self);
+    return arcs ? PySequence_GetItem(arcs, index) : NULL;
+}
+
+static PyObject *identifier_subscript(PyObject *self, PyObject *key) {
+    PyObject *arcs = arcs_of(self);
+    return arcs ? PyObject_GetItem(arcs, key) : NULL;
+}
+
+static PyObject *identifier_iter(PyObject *self) {
+    PyObject *arcs = arcs_of(self);
+    return arcs ? PyObject_GetIter(arcs) : NULL;
+}
+
+/* A method of the tuple of arcs. */
+static PyObject *of_arcs(PyObject *self, const char *name, PyObject *arguments) {
+    PyObject *arcs = arcs_of(self), *method = arcs ? PyObject_GetAttrString(arcs, name) : NULL;
+    PyObject *result = method ? PyObject_CallObject(method, arguments) : NULL;
+    Py_XDECREF(method);
+    return result;
+}
+
+static PyObject *identifier_index(PyObject *self, PyObject *arguments) { return of_arcs(self, "index", arguments); }
+static PyObject *identifier_count(PyObject *self, PyObject *arguments) { return of_arcs(self, "count", arguments); }
+
+static PyObject *identifier_copy(PyObject *self, PyObject *memo) {
+    (void)memo;
+    return Py_NewRef(self);
+}
+
+static PyObject *identifier_reduce(PyObject *self, PyObject *none) {
+    (void)none;
+    PyObject *call = PyObject_GetAttrString((PyObject *)Py_TYPE(self), "from_bytes");
+    return call ? Py_BuildValue("N(O)", call, ((Identifier *)self)->octets) : NULL;
+}
+
+/* The text of a code and its detail, or None. */
+static PyObject *error_text(PyObject *module, PyObject *arguments) {
+    (void)module;
+    char text[CONST_OID_MAX_ERROR_TEXT];
+    unsigned int code, detail;
+    if (!PyArg_ParseTuple(arguments, "II", &code, &detail)) return NULL;
+    const_oid_status status = const_oid_error_text(code, detail, (void *)text, sizeof text);
+    if (status.code) Py_RETURN_NONE;
+    return PyUnicode_FromStringAndSize(text, (Py_ssize_t)status.len);
+}
+
+PyDoc_STRVAR(identifier_doc, "ObjectIdentifier(text)\n--\n\n\
+An object identifier: at least two arcs of 32 bits.\n\
+\n\
+The constructor parses dotted text, or returns an identifier that it is given. Text and arcs may have at most 255\n\
+octets; octets may have any length.\n\
+\n\
+>>> oid = ObjectIdentifier(\"2.999.3\")\n\
+>>> oid\n\
+ObjectIdentifier('2.999.3')\n\
+\n\
+It is an immutable sequence of its arcs (collections.abc.Sequence).\n\
+\n\
+>>> len(oid), oid[1], oid[-2:], list(oid), 999 in oid\n\
+(3, 999, (999, 3), [2, 999, 3], True)\n\
+\n\
+It is a key of dictionaries, and sorted by its arcs, as SNMP does (RFC 3416). No tuple or text equals it.\n\
+\n\
+>>> sorted(map(ObjectIdentifier, [\"1.10\", \"1.2.3\", \"1.2\"]))\n\
+[ObjectIdentifier('1.2'), ObjectIdentifier('1.2.3'), ObjectIdentifier('1.10')]\n\
+>>> oid == (2, 999, 3), oid == \"2.999.3\", oid.arcs == (2, 999, 3), str(oid) == \"2.999.3\"\n\
+(False, False, True, True)\n\
+>>> f\"{oid:>10}\"\n\
+'   2.999.3'");
+
+PyDoc_STRVAR(from_bytes_doc, "from_bytes($type, octets, /)\n--\n\n\
+Decodes contents octets: those after the tag and the length.\n\
+\n\
+>>> ObjectIdentifier.from_bytes(b\"\\x2a\\x86\\x48\")\n\
+ObjectIdentifier('1.2.840')");
+
+PyDoc_STRVAR(from_arcs_doc, "from_arcs($type, arcs, /)\n--\n\n\
+Encodes arcs. One past 32 bits has the same error as in text, and a negative one is a ValueError.\n\
+\n\
+>>> ObjectIdentifier.from_arcs([1, 2, 840])\n\
+ObjectIdentifier('1.2.840')\n\
+>>> ObjectIdentifier.from_arcs([1, -2])\n\
+Traceback (most recent call last):\n\
+ValueError: an arc is negative: -2");
+
+PyDoc_STRVAR(arcs_doc, "The arcs.\n\
+\n\
+>>> ObjectIdentifier(\"2.999\").arcs\n\
+(2, 999)");
+
+PyDoc_STRVAR(parent_doc, "All arcs except the last, or None if there are two.\n\
+\n\
+>>> ObjectIdentifier(\"1.2.840\").parent\n\
+ObjectIdentifier('1.2')\n\
+>>> ObjectIdentifier(\"1.2\").parent is None\n\
+True");
+
+PyDoc_STRVAR(child_doc, "child($self, arc, /)\n--\n\n\
+The arcs and one more.\n\
+\n\
+>>> ObjectIdentifier(\"1.2\").child(840)\n\
+ObjectIdentifier('1.2.840')");
+
+PyDoc_STRVAR(starts_with_doc, "starts_with($self, prefix, /)\n--\n\n\
+Whether the arcs begin with all arcs of a prefix.\n\
+\n\
+>>> oid = ObjectIdentifier(\"1.2.840\")\n\
+>>> oid.starts_with(ObjectIdentifier(\"1.2\")), oid.starts_with(oid), oid.starts_with(ObjectIdentifier(\"1.28\"))\n\
+(True, True, False)");
+
+PyDoc_STRVAR(index_doc, "index($self, arc, start=0, stop=sys.maxsize, /)\n--\n\n\
+The first index of an arc, or a ValueError.\n\
+\n\
+>>> ObjectIdentifier(\"1.2.840.2\").index(2)\n\
+1");
+
+PyDoc_STRVAR(count_doc, "count($self, arc, /)\n--\n\n\
+How often an arc occurs.\n\
+\n\
+>>> ObjectIdentifier(\"1.2.840.2\").count(2)\n\
+2");
+
+static PyMethodDef identifier_methods[] = {
+    {"from_bytes", identifier_from_bytes, METH_O | METH_CLASS, from_bytes_doc},
+    {"from_arcs", identifier_from_arcs, METH_O | METH_CLASS, from_arcs_doc},
+    {"child", identifier_child, METH_O, child_doc},
+    {"starts_with", identifier_starts_with, METH_O, starts_with_doc},
+    {"index", identifier_index, METH_VARARGS, index_doc},
+    {"count", identifier_count, METH_VARARGS, count_doc},
+    {"__bytes__", identifier_bytes, METH_NOARGS, "__bytes__($self, /)\n--\n\nThe contents octets."},
+    {"__format__", identifier_format, METH_O, "__format__($self, specification, /)\n--\n\nFormats the text, as str does."},
+    {"__copy__", identifier_copy, METH_NOARGS, "__copy__($self, /)\n--\n\nReturns itself."},
+    {"__deepcopy__", identifier_copy, METH_O, "__deepcopy__($self, memo, /)\n--\n\nReturns itself."},
+    {"__reduce__", identifier_reduce, METH_NOARGS, "__reduce__($self, /)\n--\n\nFor pickle, which checks the octets."},
+    {0},
+};
+
+static PyGetSetDef identifier_properties[] = {
+    {"arcs", identifier_arcs, NULL, arcs_doc, NULL},
+    {"parent", identifier_parent, NULL, parent_doc, NULL},
+    {0},
+};
+
+static PyMemberDef identifier_members[] = {
+    {"__weaklistoffset__", T_PYSSIZET, offsetof(Identifier, weak_references), READONLY, NULL},
+    {0},
+};
+
+static PyType_Slot identifier_slots[] = {
+    {Py_tp_doc, (void *)identifier_doc},
+    {Py_tp_new, (void *)identifier_new},
+    {Py_tp_dealloc, (void *)identifier_dealloc},
+    {Py_tp_str, (void *)identifier_str},
+    {Py_tp_repr, (void *)identifier_repr},
+    {Py_tp_hash, (void *)identifier_hash},
+    {Py_tp_richcompare, (void *)identifier_compare},
+    {Py_tp_iter, (void *)identifier_iter},
+    {Py_sq_length, (void *)identifier_len},
+    {Py_sq_item, (void *)identifier_item},
+    {Py_sq_contains, (void *)identifier_contains},
+    {Py_mp_length, (void *)identifier_len},
+    {Py_mp_subscript, (void *)identifier_subscript},
+    {Py_tp_methods, identifier_methods},
+    {Py_tp_getset, identifier_properties},
+    {Py_tp_members, identifier_members},
+    {0},
+};
+
+static PyType_Spec identifier_spec = {
+    "const_oid.ObjectIdentifier", sizeof(Identifier), 0, Py_TPFLAGS_DEFAULT | Py_TPFLAGS_BASETYPE, identifier_slots,
+};
+
+/* The library may be an installed one, of another version than its header. */
+static int module_exec(PyObject *module) {
+    unsigned long version = const_oid_version();
+    if (version / 65536 != CONST_OID_VERSION_MAJOR) {
+        PyErr_Format(PyExc_ImportError, "the library const_oid_c has version %lu, not %d", version / 65536,
+            CONST_OID_VERSION_MAJOR);
+        return -1;
+    }
+    PyObject *text = PyUnicode_FromFormat("%lu.%lu.%lu", version / 65536, version / 256 % 256, version % 256);
+    PyObject *type = PyType_FromModuleAndSpec(module, &identifier_spec, NULL);
+    int status = text && type ? PyModule_AddObjectRef(module, "__version__", text) : -1;
+    if (!status) status = PyModule_AddType(module, (PyTypeObject *)type);
+    Py_XDECREF(text);
+    Py_XDECREF(type);
+    return status;
+}
+
+static PyMethodDef module_methods[] = {
+    {"error_text", error_text, METH_VARARGS, "The text of a code and its detail, or None."},
+    {0},
+};
+
+/* Since 3.12 a module says by a slot that it works in interpreters with locks of their own. 3.11 does not know it. */
+static PyModuleDef_Slot module_slots[] = {
+    {3 /* Py_mod_multiple_interpreters */, (void *)2 /* Py_MOD_PER_INTERPRETER_GIL_SUPPORTED */},
+    {Py_mod_exec, (void *)module_exec},
+    {0},
+};
+
+static struct PyModuleDef module = {
+    PyModuleDef_HEAD_INIT, "_native", "Identifiers over the library const_oid_c.", 0, module_methods, NULL, NULL, NULL, NULL,
+};
+
+PyMODINIT_FUNC PyInit__native(void) {
+    module.m_slots = Py_Version < 0x030C0000 ? module_slots + 1 : module_slots;
+    return PyModuleDef_Init(&module);
+}

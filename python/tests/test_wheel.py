@@ -1,0 +1,154 @@
+"""The wheel, what is installed of it, and how it is built."""
+import base64
+import contextlib
+import email
+import hashlib
+import importlib.metadata
+import importlib.util
+import os
+import pathlib
+import re
+import shutil
+import subprocess
+import sys
+import tempfile
+import tomllib
+import unittest
+import zipfile
+
+TOP = pathlib.Path(__file__).resolve().parents[2]
+STEM = "const_oid-1.0.0"
+PACKAGE = {"__init__.py", "_native.abi3.so", "_native.pyi", "names.py", "names.tsv", "py.typed", "sorted_map.py"}
+INFORMATION = {"LICENSE-APACHE", "LICENSE-MIT", "METADATA", "RECORD", "WHEEL"}
+FILES = {f"const_oid/{name}" for name in PACKAGE} | {f"{STEM}.dist-info/{name}" for name in INFORMATION}
+INSTALLED = {"library": "installed"}
+
+
+def backend():
+    """The backend, as a module."""
+    place = importlib.util.spec_from_file_location("backend", TOP / "python/backend.py")
+    module = importlib.util.module_from_spec(place)
+    place.loader.exec_module(module)
+    return module
+
+
+def built(call, settings=INSTALLED, **variables):
+    """What a hook of the backend writes into a new folder in a new process: its files, and what the process says."""
+    code = f"import backend; print(backend.{call}(FOLDER, {settings!r}))"
+    with tempfile.TemporaryDirectory() as folder:
+        code = code.replace("FOLDER", repr(folder))
+        run = subprocess.run(
+            [sys.executable, "-c", code], cwd=TOP / "python", env=os.environ | variables, text=True, capture_output=True
+        )
+        files = {path.name: path.read_bytes() for path in pathlib.Path(folder).iterdir()}
+    return run.returncode, run.stdout.strip() or run.stderr.strip(), files
+
+
+class Wheel(unittest.TestCase):
+    @classmethod
+    def setUpClass(cls):
+        (cls.path,) = pathlib.Path(os.environ["CONST_OID_WHEEL"]).glob("*.whl")
+        with zipfile.ZipFile(cls.path) as archive:
+            cls.entries = archive.infolist()
+            cls.files = {entry.filename: archive.read(entry) for entry in cls.entries}
+
+    def test_files(self):
+        """Nothing but the package and what says what it is; all may read it, none may run it."""
+        self.assertEqual((FILES, len(FILES)), (set(self.files), len(self.entries)))
+        self.assertEqual({0o100644}, {entry.external_attr >> 16 for entry in self.entries})
+        for name in PACKAGE - {"_native.abi3.so", "names.tsv"}:
+            self.assertEqual((TOP / "python/const_oid" / name).read_bytes(), self.files[f"const_oid/{name}"])
+        for name in ("LICENSE-APACHE", "LICENSE-MIT"):
+            self.assertEqual((TOP / name).read_bytes(), self.files[f"{STEM}.dist-info/{name}"])
+
+    def test_installed(self):
+        installed = {str(path) for path in importlib.metadata.files("const-oid") if path.suffix != ".pyc"}
+        self.assertEqual(FILES | {f"{STEM}.dist-info/{name}" for name in ("INSTALLER", "REQUESTED", "direct_url.json")}, installed)
+
+    def test_record(self):
+        rows = [row.split(",") for row in self.files[f"{STEM}.dist-info/RECORD"].decode().splitlines()]
+        self.assertEqual(sorted(FILES), sorted(name for name, _, _ in rows))
+        for name, digest, length in rows:
+            if not name.endswith("RECORD"):
+                wanted = base64.urlsafe_b64encode(hashlib.sha256(self.files[name]).digest()).decode().rstrip("=")
+                self.assertEqual((f"sha256={wanted}", str(len(self.files[name]))), (digest, length))
+
+    def test_tag(self):
+        """The name and WHEEL say that the module is for the stable ABI, and for this machine."""
+        self.assertRegex(self.path.name, rf"^{STEM}-cp311-abi3-[a-z]+_[a-z0-9_]+\.whl$")
+        said = email.message_from_bytes(self.files[f"{STEM}.dist-info/WHEEL"])
+        self.assertEqual((self.path.stem.removeprefix(f"{STEM}-"), "false"), (said["Tag"], said["Root-Is-Purelib"]))
+
+    def test_metadata(self):
+        project = tomllib.loads((TOP / "python/pyproject.toml").read_text(encoding="utf-8"))["project"]
+        readme = (TOP / "python/README.md").read_text(encoding="utf-8")
+        self.check_metadata(self.files[f"{STEM}.dist-info/METADATA"].decode(), project, readme)
+        other = {**project, "name": "another", "version": "9.8.7", "description": "Another", "classifiers": ["Typing :: Typed"]}
+        self.check_metadata(backend().metadata(other, "# Another\n"), other, "# Another\n")
+
+    def check_metadata(self, text, project, readme):
+        said = email.message_from_string(text)
+        wanted = [project[name] for name in ("name", "version", "description", "license", "requires-python")]
+        self.assertEqual(wanted, [said[name] for name in ("Name", "Version", "Summary", "License", "Requires-Python")])
+        self.assertEqual(["LICENSE-APACHE", "LICENSE-MIT"], said.get_all("License-File"))
+        self.assertEqual(project["classifiers"], said.get_all("Classifier"))
+        self.assertEqual(("text/markdown", readme), (said["Description-Content-Type"], said.get_payload()))
+
+    def test_same(self):
+        """Another build has the same bytes."""
+        status, name, files = built("build_wheel")
+        self.assertEqual((0, self.path.name), (status, name))
+        self.assertEqual({name: self.path.read_bytes()}, files)
+
+    @unittest.skipUnless(shutil.which("twine"), "twine is not installed")
+    def test_twine(self):
+        run = subprocess.run(["twine", "check", "--strict", self.path], text=True, capture_output=True)
+        self.assertEqual(0, run.returncode, run.stdout + run.stderr)
+
+    @unittest.skipUnless(shutil.which("nm"), "nm is not installed")
+    def test_symbols(self):
+        """The module shows its start alone, and needs no library but that of C."""
+        module = pathlib.Path(importlib.util.find_spec("const_oid._native").origin)
+        run = subprocess.run(["nm", "-D", "--defined-only", module], text=True, capture_output=True, check=True)
+        self.assertEqual(["PyInit__native"], [line.split()[-1] for line in run.stdout.splitlines()])
+
+
+class Build(unittest.TestCase):
+    def test_missing(self):
+        """What is missing is named, all of it, before anything is built."""
+        status, said, files = built("build_wheel", None, PATH="/missing")
+        self.assertEqual((1, {}), (status, files))
+        self.assertRegex(said, r"^const-oid: to be installed first: a C compiler, \S+ \(Debian: gcc\); cargo and rustc, 1\.85")
+        status, said, files = built("build_wheel", PATH="/missing")
+        self.assertRegex(said, r"; pkg-config \(Debian: pkg-config\)$")
+        status, said, files = built("build_wheel", PKG_CONFIG_PATH="/missing", PKG_CONFIG_LIBDIR="/missing")
+        self.assertRegex(said, r"^const-oid: to be installed first: the library const_oid_c, .* PKG_CONFIG_PATH")
+
+    def test_old_rust(self):
+        with tempfile.TemporaryDirectory() as folder:
+            for tool in ("rustc", "cargo"):
+                program = pathlib.Path(folder) / tool
+                program.write_text("#!/bin/sh\necho 'rustc 1.84.1'\n", encoding="utf-8")
+                program.chmod(0o755)
+            status, said, files = built("build_wheel", None, PATH=f"{folder}:{os.environ['PATH']}", RUSTC=f"{folder}/rustc")
+        self.assertEqual("const-oid: to be installed first: rustc 1.85 or later (https://rustup.rs)", said)
+
+    def test_compiler_fails(self):
+        status, said, files = built("build_wheel", CC="false")
+        self.assertEqual((1, {}), (status, files))
+        self.assertIn("ends with status 1", said)
+
+    def test_other_version(self):
+        """A module over a library of another version does not import."""
+        with tempfile.TemporaryDirectory() as folder:
+            other = pathlib.Path(folder) / "other.h"
+            version = "static uint32_t other(void) { return 2 << 16 | 3; }\n#define const_oid_version other\n"
+            other.write_text(f"#include <const_oid.h>\n{version}", encoding="utf-8")
+            status, name, files = built("build_wheel", CFLAGS=f"-include {other}")
+            self.assertEqual(0, status, name)
+            (pathlib.Path(folder) / name).write_bytes(files[name])
+            with zipfile.ZipFile(pathlib.Path(folder) / name) as archive:
+                archive.extractall(folder)
+            code = f"import sys; sys.path.insert(0, {folder!r}); import const_oid"
+            run = subprocess.run([sys.executable, "-c", code], text=True, capture_output=True)
+        self.assertIn("ImportError: the library const_oid_c has version 2, not 1", run.stderr)
