@@ -10,10 +10,10 @@ ghost use Rattle.const_oid.specs.Contents.{cut, later_fault, parts_fault, max_fi
 use crate::parts::skip_parts;
 use std::marker::Model;
 
-/// An arc: a number of a path, of 32 bits.
+/// One arc of an object identifier, a 32-bit number.
 pub type Arc = u32;
 
-/// The arcs of an identifier that are left, in order. After the last comes `None`, each time.
+/// An iterator over the arcs of an identifier, in order. After the last arc, `next` always returns `None`.
 #[derive(Drop)]
 pub struct Arcs<'a> {
     next: Next,

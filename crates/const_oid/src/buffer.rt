@@ -12,10 +12,9 @@ use crate::error::{Error, Result};
 use std::cmp::Ordering;
 use std::hash::{Hash, Hasher};
 
-/// Octets in use: up to `SIZE`, and never past 255.
+/// The octets of an owned identifier: at most `SIZE`, and never more than 255.
 ///
-/// Owned identifiers hold their octets in one, and their contracts name it: so it is public. This crate
-/// alone makes it, so there is no public constructor.
+/// It has no public constructor.
 #[derive(Copy, Clone)]
 pub struct Buffer<const SIZE: usize> {
     bytes: [u8; SIZE],
@@ -135,7 +134,8 @@ impl<const SIZE: usize> Buffer<SIZE> {
         true
     }
 
-    /// Whether the octets in use are equal. Whole arrays are compared, since zeros follow in both.
+    /// Whether the octets in use are equal.
+    // Whole arrays are compared, since zeros follow in both.
     // erase: const
     #[inline(always)]
     pub fn eq(&self, rhs: &Self) -> bool

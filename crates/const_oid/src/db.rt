@@ -12,9 +12,9 @@ pub use crate::db_sorted::SortedDatabase;
 use crate::error::Result;
 use crate::oid::Oid;
 
-/// A table of identifiers and their names. Both may be in it more than once.
+/// A table of identifiers and their names, in any order. Both may be in it more than once.
 ///
-/// Names are the same where their bytes are, after the ASCII letters are folded.
+/// Names are compared without regard to ASCII case.
 #[derive(Copy, Clone)]
 pub struct Database<'a> {
     entries: &'a [(&'a Oid, &'a str)],
@@ -28,7 +28,7 @@ impl<'a> Database<'a> {
         Database { entries }
     }
 
-    /// The name that the first entry of this identifier has, or `None` without such an entry.
+    /// The name in the first entry with this identifier, or `None` if there is no such entry.
     pub const fn by_oid(&self, oid: &Oid) -> Option<&'a str>
         ensures { result ≡ first_name lent_arcs (entries_of self.now) (oid_arcs oid.now) }
     {
@@ -42,7 +42,7 @@ impl<'a> Database<'a> {
         None
     }
 
-    /// The identifier that the first entry of this name has, or `None` without such an entry.
+    /// The identifier in the first entry with this name, in any ASCII case, or `None` if there is no such entry.
     pub const fn by_name(&self, name: &str) -> Option<&'a Oid>
         ensures { result ≡ first_oid (entries_of self.now) name.now }
     {
@@ -56,7 +56,7 @@ impl<'a> Database<'a> {
         None
     }
 
-    /// The names of the identifier, one for each of its entries, in the order of the table.
+    /// All names of this identifier, in the order of the table.
     pub const fn find_names_for_oid(&self, oid: Oid) -> Names<'a>
         ensures { names_left result ≡ all_names lent_arcs (entries_of self.now) (oid_arcs oid) }
     {
@@ -66,8 +66,12 @@ impl<'a> Database<'a> {
         }
     }
 
-    /// The name of the first entry with the identifier that the text denotes, or the text itself,
-    /// byte for byte, where no entry has it. The errors are those of [`Oid::new`].
+    /// Parses dotted text, and returns the name of its identifier as [`by_oid`](Self::by_oid) does, or the text
+    /// itself, unchanged, if the table has no name for it.
+    ///
+    /// # Errors
+    ///
+    /// Those of `new` of an owned identifier.
     pub fn resolve<'b>(&self, oid: &'b str) -> Result<&'b str>
     where
         'a: 'b,
@@ -78,7 +82,7 @@ impl<'a> Database<'a> {
     }
 }
 
-/// The names of an identifier in a table, in table order.
+/// An iterator over the names of an identifier, in the order of the table.
 #[derive(Drop)]
 pub struct Names<'a> {
     left: &'a [(&'a Oid, &'a str)],

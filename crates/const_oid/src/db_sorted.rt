@@ -15,9 +15,8 @@ use crate::oid_ref::ObjectIdentifierRef;
 /// An identifier and its name.
 type Entry<'a> = (ObjectIdentifierRef<'a>, &'a str);
 
-/// A table of borrowed identifiers and their names that does not descend in the order of arcs
-/// ([`cmp_arcs`](ObjectIdentifierRef::cmp_arcs)), so that a look-up halves it. Both may be in it
-/// more than once.
+/// A table of borrowed identifiers and their names, sorted by [`cmp_arcs`](ObjectIdentifierRef::cmp_arcs), so that a
+/// look-up is a binary search. Both may be in it more than once.
 #[derive(Copy, Clone)]
 pub struct SortedDatabase<'a> {
     entries: &'a [Entry<'a>],
@@ -28,9 +27,9 @@ impl<'a> SortedDatabase<'a> {
     ghost use Rattle.const_oid.specs.Names.{IsNearest, IsSubtree, entry_arcs, first_name, has_arcs, sorted_entries_of};
     ghost use Rattle.const_oid.specs.Tree.{BeginsWith};
 
-    /// A database over entries that do not descend. In Rattle, the caller must prove this. In Rust, nothing checks
-    /// it: over entries that descend, the results of look-ups mean nothing. [`try_new`](Self::try_new) tests the
-    /// order.
+    /// A database over sorted entries. This call does not test their order, and over unsorted entries the results
+    /// of look-ups are unspecified: [`try_new`](Self::try_new) tests it.
+    // In Rattle, the caller proves the order.
     pub const fn new(entries: &'a [Entry<'a>]) -> Self
         requires { IsSortedByKey entry_arcs (slice_cmp nat_cmp) entries.now }
         ensures { sorted_entries_of result ≡ entries.now }
@@ -38,7 +37,7 @@ impl<'a> SortedDatabase<'a> {
         SortedDatabase { entries }
     }
 
-    /// A database over these entries, or `None` where they descend.
+    /// A database over these entries, or `None` if they are not sorted.
     pub fn try_new(entries: &'a [Entry<'a>]) -> Option<Self>
         ensures sorted { IsSome result ↔ IsSortedByKey entry_arcs (slice_cmp nat_cmp) entries.now }
         ensures entries { IfSome result (λ database. sorted_entries_of database ≡ entries.now) }
@@ -50,15 +49,15 @@ impl<'a> SortedDatabase<'a> {
         }
     }
 
-    /// The name that the first entry of this identifier has, or `None` without such an entry.
+    /// The name in the first entry with this identifier, or `None` if there is no such entry.
     pub fn by_oid(&self, oid: &ObjectIdentifierRef<'_>) -> Option<&'a str>
         ensures { result ≡ first_name ref_arcs (sorted_entries_of self.now) (ref_arcs oid.now) }
     {
         Some(self.first(oid)?.1)
     }
 
-    /// The first entry of the identifier or else of the nearest one above it, or `None` where the table
-    /// has none of these.
+    /// The entry with the longest prefix of the identifier, which may be all of it, or `None` if the table has no
+    /// prefix. If several entries have it, the first.
     pub fn nearest(&self, oid: ObjectIdentifierRef<'_>) -> Option<&'a Entry<'a>>
         ensures found { IfSome result (λ entry. IsNearest (sorted_entries_of self.now) (ref_arcs oid.entry) entry.now) }
         ensures none { IfNone result (All (λ entry. BeginsWith (ref_arcs oid.entry) (entry_arcs entry) → ⊥) (sorted_entries_of self.now)) }
@@ -76,7 +75,7 @@ impl<'a> SortedDatabase<'a> {
         }
     }
 
-    /// The entries that begin with the identifier, its own among them.
+    /// The entries of the identifier and of its descendants.
     pub fn subtree(&self, oid: &ObjectIdentifierRef<'_>) -> &'a [Entry<'a>]
         ensures { IsSubtree (sorted_entries_of self.now) (ref_arcs oid.now) result.now }
     {
@@ -85,8 +84,7 @@ impl<'a> SortedDatabase<'a> {
         &from[..count]
     }
 
-    /// The first entry that comes after the identifier, which need not be in the table: what GETNEXT of
-    /// SNMP returns (RFC 3416).
+    /// The first entry after the identifier, which need not be in the table: what GETNEXT of SNMP returns (RFC 3416).
     pub fn next_after(&self, oid: &ObjectIdentifierRef<'_>) -> Option<&'a Entry<'a>>
         ensures { option_copied result ≡ find (λ entry. is_lt (slice_cmp nat_cmp (ref_arcs oid.now) (entry_arcs entry))) (sorted_entries_of self.now) }
     {

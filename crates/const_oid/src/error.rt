@@ -10,7 +10,7 @@ use std::fmt;
 /// A result whose error is [`Error`].
 pub type Result<T> = std::result::Result<T, Error>;
 
-/// Why a text, a list of arcs or octets are rejected.
+/// Why text, a list of arcs or octets were rejected.
 #[derive(Copy, Clone, Debug, Eq, PartialEq, PartialOrd, Ord)]
 pub enum Error {
     /// The first or the second arc of a text or a list is out of range.
@@ -22,22 +22,22 @@ pub enum Error {
     /// An arc is greater than 4294967295.
     ArcTooBig,
 
-    /// A group of octets begins with 0x80 or does not end (X.690, 8.19.2).
+    /// A subidentifier begins with 0x80, which is superfluous, or the octets end within it (X.690, 8.19.2).
     Base128,
 
     /// A byte is not a digit where one is expected.
     DigitExpected {
-        /// The byte: of a character in UTF-8, the first one.
+        /// The byte. Of a character that is not ASCII, it is the first byte in UTF-8.
         actual: u8,
     },
 
-    /// There is nothing, or no more than one arc.
+    /// The input is empty, or has only one arc.
     Empty,
 
     /// The encoding is longer than the capacity.
     Length,
 
-    /// Never returned: no sum of this crate overflows.
+    /// Never returned.
     Overflow,
 
     /// A dot follows another.

@@ -23,8 +23,8 @@ use std::cmp::Ordering;
 use std::fmt;
 use std::str::FromStr;
 
-/// An object identifier that holds its contents octets, without tag and length: at most `MAX_SIZE`,
-/// and never more than 255.
+/// An owned object identifier. It holds its contents octets in itself, without tag and length: at most `MAX_SIZE`, and
+/// never more than 255.
 ///
 /// Its octets are valid: they are the one encoding of its arcs (X.690, 8.19).
 #[derive(Copy, Clone, Eq, PartialOrd, Hash)]
@@ -39,11 +39,14 @@ pub type Oid = ObjectIdentifier<39>;
 impl ObjectIdentifier<39> {
     ghost use Rattle.const_oid.specs.Oid.{oid_octets, oid_arcs, oid_answer};
 
-    /// The capacity in octets.
+    /// The usual capacity, 39 octets.
     pub const MAX_SIZE: usize = 39;
 
-    /// Parses dotted text, such as `1.2.840.10045.2.1`, with any number of leading zeros in an arc. The text
-    /// is cut at its dots. The first wrong piece gives the error, by the first of these that applies:
+    /// Parses dotted text, such as `1.2.840.10045.2.1`, with any number of leading zeros in an arc.
+    ///
+    /// # Errors
+    ///
+    /// The text is cut at its dots. The first wrong piece gives the error, by the first of these that applies:
     ///
     /// - [`Error::ArcTooBig`]: its leading digits are a number above 4294967295;
     /// - [`Error::DigitExpected`]: it has another byte than a digit, or it is empty and the first of several;
@@ -60,8 +63,12 @@ impl ObjectIdentifier<39> {
         Self::new_sized(s)
     }
 
-    /// Parses dotted text that is known to be valid, such as a literal. The checker rejects an invalid text. In
-    /// Rust the call panics on it, and a constant does not compile.
+    /// Parses dotted text that is known to be valid, such as a literal.
+    ///
+    /// # Panics
+    ///
+    /// If the text is invalid. A constant of an invalid text does not compile.
+    // In Rattle, the checker rejects an invalid text, so nothing panics.
     // erase: const
     pub fn new_unwrap(s: &str) -> Self
         requires { text_fault root_rule s.now usual_capacity ≡ None }
@@ -73,15 +80,17 @@ impl ObjectIdentifier<39> {
         }
     }
 
-    /// Encodes the arcs that an iterator gives. The first of these that applies is the error:
+    /// Encodes the arcs that an iterator gives. The iterator must end.
     ///
-    /// - of the first wrong item, [`Error::ArcInvalid`] of it where it is above 2 as the first
-    ///   arc, or above 39 as the second after 0 or 1, or [`Error::Length`] where the encoding up to it
-    ///   is longer than 39 octets;
-    /// - [`Error::Empty`]: there are fewer than two items.
+    /// # Errors
     ///
-    /// On `Err`, the items read so far decide: every list that begins with them has this error, or, if
-    /// the iterator had ended, the list of exactly these items: `[1]` is `Empty`, and `[1, 2]` is not.
+    /// The first wrong arc gives the error:
+    ///
+    /// - [`Error::ArcInvalid`]: it is the first one and above 2, or the second, above 39 and after 0 or 1 (X.660);
+    /// - [`Error::Length`]: the arcs up to it take more than 39 octets.
+    ///
+    /// If none is wrong, [`Error::Empty`]: there are fewer than two. Which arcs after a wrong one are read is
+    /// unspecified.
     pub fn from_arcs<I: IntoIterator<Item = Arc>>(arcs: I) -> Result<Self>
     where
         I::IntoIter: Drop,
@@ -95,8 +104,19 @@ impl ObjectIdentifier<39> {
         Self::from_arcs_sized(arcs)
     }
 
-    /// Decodes at most 39 contents octets (X.690, 8.19), without tag and length, as
-    /// [`from_bytes_sized`](Self::from_bytes_sized) does.
+    /// Decodes at most 39 contents octets (X.690, 8.19).
+    ///
+    /// Tag and length are not removed: a complete encoding `06 09 2A ..` is no error, but another identifier,
+    /// 0.6.9.42 and so on.
+    ///
+    /// # Errors
+    ///
+    /// The first of these that applies:
+    ///
+    /// - [`Error::Empty`]: there is no octet;
+    /// - [`Error::Base128`] or [`Error::ArcTooBig`], by the first wrong subidentifier: it begins with 0x80; it is above
+    ///   4294967295, or above 4294967375 as the first, which holds two arcs; or the octets end within it;
+    /// - [`Error::Length`]: there are more than 39 octets.
     #[inline(always)]
     pub fn from_bytes(ber_bytes: &[u8]) -> Result<Self>
         ensures answer { oid_answer result ≡ octet_answer root_rule ber_bytes.now usual_capacity }
@@ -124,16 +144,11 @@ impl<const MAX_SIZE: usize> ObjectIdentifier<MAX_SIZE> {
     ghost use Rattle.const_oid.specs.Oid.{oid_octets, oid_arcs, oid_answer};
     ghost use Rattle.const_oid.specs.OidRef.{ref_octets, ref_arcs};
 
-    /// Decodes contents octets (X.690, 8.19). The first of these that applies is the error:
+    /// Decodes contents octets (X.690, 8.19) at any capacity.
     ///
-    /// - [`Error::Empty`]: there is no octet;
-    /// - [`Error::Base128`] or [`Error::ArcTooBig`]: of the first wrong group, that it begins
-    ///   with 0x80, that its number is above 4294967295 (above 4294967375 in the first group, which holds
-    ///   two arcs), or that it does not end;
-    /// - [`Error::Length`]: there are more octets than fit.
+    /// # Errors
     ///
-    /// Tag and length are not removed: a complete encoding `06 09 2A ..` is no error, but another identifier,
-    /// 0.6.9.42 and so on.
+    /// Those of [`from_bytes`](Self::from_bytes), with [`Error::Length`] if there are more octets than fit.
     #[inline(always)]
     pub fn from_bytes_sized(ber_bytes: &[u8]) -> Result<Self>
         ensures answer { oid_answer result ≡ octet_answer root_rule ber_bytes.now (min MAX_SIZE 255) }
@@ -143,7 +158,11 @@ impl<const MAX_SIZE: usize> ObjectIdentifier<MAX_SIZE> {
         Self::try_from_ref(ObjectIdentifierRef::from_bytes(ber_bytes)?)
     }
 
-    /// Parses dotted text as [`new`](Self::new) does, with [`Error::Length`] where there are more octets than fit.
+    /// Parses dotted text at any capacity.
+    ///
+    /// # Errors
+    ///
+    /// Those of [`new`](Self::new), with [`Error::Length`] if the arcs take more octets than fit.
     // erase: const
     pub fn new_sized(s: &str) -> Result<Self>
         ensures answer { oid_answer result ≡ text_answer root_rule s.now (min MAX_SIZE 255) }
@@ -155,8 +174,11 @@ impl<const MAX_SIZE: usize> ObjectIdentifier<MAX_SIZE> {
         }
     }
 
-    /// Encodes the arcs that an iterator gives as [`from_arcs`](Self::from_arcs) does, with
-    /// [`Error::Length`] where there are more octets than fit.
+    /// Encodes the arcs that an iterator gives at any capacity. The iterator must end.
+    ///
+    /// # Errors
+    ///
+    /// Those of [`from_arcs`](Self::from_arcs), with [`Error::Length`] if the arcs take more octets than fit.
     pub fn from_arcs_sized<I: IntoIterator<Item = Arc>>(arcs: I) -> Result<Self>
     where
         I::IntoIter: Drop,
@@ -205,7 +227,7 @@ impl<const MAX_SIZE: usize> ObjectIdentifier<MAX_SIZE> {
         ObjectIdentifierRef::from_checked(self.as_bytes())
     }
 
-    /// The arc at an index, counted from 0, or `None` past the last.
+    /// The arc at an index, counted from 0, or `None` past the last one.
     pub fn arc(&self, index: usize) -> Option<Arc>
         ensures { result ≡ slice_get (oid_arcs self.now) index }
     {
@@ -219,14 +241,14 @@ impl<const MAX_SIZE: usize> ObjectIdentifier<MAX_SIZE> {
         self.as_oid_ref().arcs()
     }
 
-    /// How many arcs there are.
+    /// The number of arcs, two or more.
     pub fn len(&self) -> usize
         ensures { result ≡ length (oid_arcs self.now) }
     {
         self.as_oid_ref().len()
     }
 
-    /// The length of the text that `{}` writes.
+    /// The length in bytes of the text that `{}` writes.
     pub fn text_len(&self) -> usize
         ensures { result ≡ length (text_of (oid_arcs self.now)) }
     {
@@ -234,7 +256,7 @@ impl<const MAX_SIZE: usize> ObjectIdentifier<MAX_SIZE> {
     }
 
     /// Writes the text that `{}` writes at the start of `out`, and returns its length. Returns `None`
-    /// where it is longer than `out`, which is then unchanged.
+    /// if it is longer than `out`, which is then unchanged.
     pub fn encode_text(&self, out: &mut [u8]) -> Option<usize>
         ensures cases { MatchOption result (length out.old < length (text_of (oid_arcs self.now))) (λ len. len ≡ length (text_of (oid_arcs self.now))) }
         ensures written { IfSome result (λ len. out.new ≡ text_of (oid_arcs self.now) ++ drop len out.old) }
@@ -252,7 +274,7 @@ impl<const MAX_SIZE: usize> ObjectIdentifier<MAX_SIZE> {
         self.as_oid_ref().encode_str(out)
     }
 
-    /// The identifier of all arcs except the last, or `None` where there are two arcs.
+    /// The parent: all arcs except the last. `None` if there are only two.
     pub fn parent(&self) -> Option<Self>
         ensures { option_map oid_arcs result ≡ parent_of (oid_arcs self.now) }
     {
@@ -261,7 +283,11 @@ impl<const MAX_SIZE: usize> ObjectIdentifier<MAX_SIZE> {
         Some(ObjectIdentifier { ber })
     }
 
-    /// The identifier of these arcs and one more, or [`Error::Length`] where its octets do not fit.
+    /// The child with one more arc, which is its last.
+    ///
+    /// # Errors
+    ///
+    /// [`Error::Length`] if its octets do not fit.
     // erase: const
     pub fn push_arc(self, arc: Arc) -> Result<Self>
         ensures fits { let count = size (child_of (oid_arcs self.entry) arc) in
@@ -283,7 +309,7 @@ impl<const MAX_SIZE: usize> ObjectIdentifier<MAX_SIZE> {
         self.ber.is_same(&other.ber)
     }
 
-    /// Whether the arcs begin with all those of another identifier, which may be all of these.
+    /// Whether the arcs begin with all those of another identifier: whether it is this one or an ancestor.
     // erase: const
     #[inline(always)]
     pub fn starts_with<const SIZE: usize>(&self, other: ObjectIdentifier<SIZE>) -> bool
@@ -292,7 +318,7 @@ impl<const MAX_SIZE: usize> ObjectIdentifier<MAX_SIZE> {
         self.as_oid_ref().starts_with(&other.as_oid_ref())
     }
 
-    /// The order of the arcs, a prefix before what begins with it, as SNMP orders names (RFC 3416).
+    /// Compares the arcs lexicographically, a prefix before what begins with it. SNMP orders names so (RFC 3416).
     pub fn cmp_arcs<const SIZE: usize>(&self, other: &ObjectIdentifier<SIZE>) -> Ordering
         ensures { result ≡ slice_cmp nat_cmp (oid_arcs self.now) (oid_arcs other.now) }
     {
@@ -343,7 +369,7 @@ impl<const MAX_SIZE: usize> PartialEq for ObjectIdentifier<MAX_SIZE> {
     }
 }
 
-/// Fewer octets first, and as many in lexicographic order. This is not the order of arcs: see
+/// By the number of octets, and then by the octets in lexicographic order. This is not the order of arcs: see
 /// [`cmp_arcs`](Self::cmp_arcs).
 impl<const MAX_SIZE: usize> Ord for ObjectIdentifier<MAX_SIZE> {
     ghost use Rattle.std.specs.Prelude.{refl};

@@ -1,60 +1,216 @@
 //! Prints object identifiers, each by its text, octets, arcs and names.
 //!
-//! `cargo run --features db --example oid 2A8648CE3D0201 2.5.4.3`
-//!
-//! Without arguments, each line of the input is one: dotted text or hexadecimal contents octets.
-use const_oid::ObjectIdentifier;
-use const_oid::db::DB;
+//! `cargo run --features db --example oid -- --help`
+use const_oid::db::{DB, SORTED};
+use const_oid::{ObjectIdentifier, ObjectIdentifierRef};
 use std::error::Error;
-use std::io;
+use std::io::{self, BufRead, Write};
 use std::process::ExitCode;
 
-/// The octets of hexadecimal digits, or `None` where the input is something else.
-fn octets_of(digits: &str) -> Option<Vec<u8>> {
+const HELP: &str = "\
+Prints object identifiers: text, contents octets, arcs and names.
+
+Usage: oid [OPTION].. [INPUT]..
+
+Without inputs, each line of standard input is one. Without an option for its form, an input with a dot is text; then
+come known names, and then octets in hexadecimal. A number alone needs an option.
+
+Options:
+  --text  inputs are dotted text, such as 2.5.4.3 or .1.3.6.1
+  --hex   inputs are contents octets in hexadecimal, such as 550403
+  --der   inputs are octets of DER with tag and length, such as 0603550403
+  --name  inputs are names, such as rsaEncryption
+  --tree  prints what has a name below each identifier
+  --help  prints this
+";
+
+/// An identifier of the greatest capacity.
+type Oid = ObjectIdentifier<255>;
+
+type Result<T> = std::result::Result<T, Box<dyn Error>>;
+
+/// How an input is written.
+#[derive(Clone, Copy)]
+enum Form {
+    Text,
+    Hex,
+    Der,
+    Name,
+}
+
+impl Form {
+    /// The form of an input that no option gives.
+    fn guess(input: &str) -> Result<Self> {
+        if input.is_empty() || input.contains('.') {
+            return Ok(Form::Text);
+        }
+        if DB.by_name(input).is_some() {
+            return Ok(Form::Name);
+        }
+        if input.bytes().all(|byte| byte.is_ascii_digit()) {
+            return Err("text, or octets? Give --text or --hex".into());
+        }
+        let is_hex = input.bytes().all(|byte| byte.is_ascii_hexdigit());
+        Ok(if is_hex { Form::Hex } else { Form::Name })
+    }
+
+    /// The identifier that an input of this form denotes.
+    fn read(self, input: &str) -> Result<Oid> {
+        match self {
+            // snmpwalk -On prints a leading dot.
+            Form::Text => Ok(Oid::new_sized(input.strip_prefix('.').unwrap_or(input))?),
+            Form::Hex => Ok(Oid::from_bytes_sized(&octets_of(input)?)?),
+            Form::Der => Ok(Oid::from_bytes_sized(contents_of(&octets_of(input)?)?)?),
+            Form::Name => {
+                let oid = DB.by_name(input).ok_or("no known name")?;
+                Ok(Oid::try_from(oid.as_oid_ref())?)
+            }
+        }
+    }
+}
+
+/// The octets of hexadecimal digits.
+fn octets_of(digits: &str) -> Result<Vec<u8>> {
     let digit = |byte: u8| char::from(byte).to_digit(16);
     let octet = |pair: &[u8]| match *pair {
         [high, low] => u8::try_from(digit(high)? * 16 + digit(low)?).ok(),
         _ => None,
     };
-    digits.as_bytes().chunks(2).map(octet).collect()
+    let octets: Option<Vec<u8>> = digits.as_bytes().chunks(2).map(octet).collect();
+    Ok(octets.ok_or("not octets in hexadecimal")?)
 }
 
-/// The identifier that an input denotes.
-fn parse(input: &str) -> Result<ObjectIdentifier, Box<dyn Error>> {
-    match octets_of(input) {
-        Some(octets) => Ok(ObjectIdentifier::from_bytes(&octets)?),
-        None => Ok(input.parse()?),
+/// The contents octets of an identifier in DER, without tag and length.
+fn contents_of(der: &[u8]) -> Result<&[u8]> {
+    let (len, contents) = match der {
+        [0x06, len @ ..=0x7F, contents @ ..] => (len, contents),
+        [0x06, 0x81, len, contents @ ..] if *len > 0x7F => (len, contents),
+        _ => return Err("not an identifier of DER, of at most 255 octets".into()),
+    };
+    if contents.len() != usize::from(*len) {
+        return Err("the length of DER is not that of the octets".into());
     }
+    Ok(contents)
 }
 
-fn print(oid: ObjectIdentifier) {
+/// The names of an identifier, each once.
+fn names_of(oid: &ObjectIdentifierRef) -> String {
+    let mut names = Vec::new();
+    for (_, name) in SORTED
+        .subtree(oid)
+        .iter()
+        .take_while(|entry| entry.0 == oid)
+    {
+        if !names.contains(name) {
+            names.push(*name);
+        }
+    }
+    names.join(", ")
+}
+
+fn print(oid: &ObjectIdentifierRef, out: &mut impl Write) -> io::Result<()> {
     let octets: Vec<String> = oid
         .as_bytes()
         .iter()
         .map(|octet| format!("{octet:02X}"))
         .collect();
     let arcs: Vec<u32> = oid.arcs().collect();
-    let names: Vec<&str> = DB.find_names_for_oid(oid).collect();
-    println!("{oid}");
-    println!("  octets: {}", octets.join(" "));
-    println!("  arcs: {arcs:?}");
-    println!("  names: {}", names.join(", "));
+    writeln!(out, "{oid}")?;
+    writeln!(out, "  octets: {}", octets.join(" "))?;
+    writeln!(out, "  arcs: {arcs:?}")?;
+    writeln!(out, "  names: {}", names_of(oid))
 }
 
-fn main() -> io::Result<ExitCode> {
-    let mut inputs: Vec<String> = std::env::args().skip(1).collect();
-    if inputs.is_empty() {
-        inputs = io::stdin().lines().collect::<io::Result<_>>()?;
+/// Prints an identifier, and below it all that begin with it and have a name. Each is a level below the last one
+/// that it begins with.
+fn print_tree(root: &ObjectIdentifierRef, out: &mut impl Write) -> io::Result<()> {
+    writeln!(out, "{}", format!("{root} {}", names_of(root)).trim_end())?;
+    let mut above = vec![root];
+    for (oid, _) in SORTED.subtree(root) {
+        if above.last() == Some(oid) {
+            continue;
+        }
+        above.retain(|other| oid.starts_with(other));
+        writeln!(out, "{}{oid} {}", "  ".repeat(above.len()), names_of(oid))?;
+        above.push(oid);
     }
-    let mut status = ExitCode::SUCCESS;
-    for input in inputs {
-        match parse(&input) {
-            Ok(oid) => print(oid),
+    Ok(())
+}
+
+/// What the options ask for, and the inputs.
+struct Arguments {
+    form: Option<Form>,
+    is_tree: bool,
+    inputs: Vec<String>,
+}
+
+impl Arguments {
+    /// Reads arguments. The error is the first option that is unknown.
+    fn read(arguments: impl IntoIterator<Item = String>) -> std::result::Result<Self, String> {
+        let mut read = Arguments {
+            form: None,
+            is_tree: false,
+            inputs: Vec::new(),
+        };
+        for argument in arguments {
+            match argument.as_str() {
+                "--text" => read.form = Some(Form::Text),
+                "--hex" => read.form = Some(Form::Hex),
+                "--der" => read.form = Some(Form::Der),
+                "--name" => read.form = Some(Form::Name),
+                "--tree" => read.is_tree = true,
+                option if option.starts_with('-') => return Err(argument),
+                _ => read.inputs.push(argument),
+            }
+        }
+        Ok(read)
+    }
+}
+
+/// Runs the program, and returns whether it could read all of its arguments and inputs.
+pub fn run(
+    arguments: &[&str],
+    input: impl BufRead,
+    out: &mut impl Write,
+    errors: &mut impl Write,
+) -> io::Result<bool> {
+    if arguments.contains(&"--help") {
+        write!(out, "{HELP}")?;
+        return Ok(true);
+    }
+    let mut arguments = match Arguments::read(arguments.iter().map(|text| text.to_string())) {
+        Ok(arguments) => arguments,
+        Err(option) => {
+            writeln!(errors, "{option}: no such option; see --help")?;
+            return Ok(false);
+        }
+    };
+    if arguments.inputs.is_empty() {
+        arguments.inputs = input.lines().collect::<io::Result<_>>()?;
+    }
+    let mut is_read = true;
+    for input in &arguments.inputs {
+        let form = arguments.form.map_or_else(|| Form::guess(input), Ok);
+        match form.and_then(|form| form.read(input)) {
+            Ok(oid) if arguments.is_tree => print_tree(&oid, out)?,
+            Ok(oid) => print(&oid, out)?,
             Err(error) => {
-                eprintln!("{input}: {error}");
-                status = ExitCode::FAILURE;
+                writeln!(errors, "{input}: {error}")?;
+                is_read = false;
             }
         }
     }
-    Ok(status)
+    Ok(is_read)
+}
+
+fn main() -> io::Result<ExitCode> {
+    let arguments: Vec<String> = std::env::args().skip(1).collect();
+    let arguments: Vec<&str> = arguments.iter().map(String::as_str).collect();
+    let is_read = run(
+        &arguments,
+        io::stdin().lock(),
+        &mut io::stdout(),
+        &mut io::stderr(),
+    )?;
+    Ok(ExitCode::from(u8::from(!is_read)))
 }

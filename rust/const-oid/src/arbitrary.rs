@@ -6,6 +6,7 @@ use arbitrary::{Arbitrary, Error, Result, Unstructured};
 /// The fewest arcs that are drawn.
 const FEWEST: usize = 3;
 
+/// Requires the feature `arbitrary`.
 impl<'a> Arbitrary<'a> for ObjectIdentifier {
     fn arbitrary(u: &mut Unstructured<'a>) -> Result<Self> {
         let first = u.int_in_range(0..=2)?;

@@ -1,21 +1,97 @@
-//! Names of identifiers: a module of constants for each document that defines them, and the table of all.
+//! Names of some 1,500 identifiers: a module of constants for each document that defines some, and the tables [`DB`]
+//! and [`SORTED`] of all. Requires the feature `db`.
+//!
+//! A [`Database`] is a table in any order, for look-ups in constants and by name. A [`SortedDatabase`] is in the order of
+//! arcs: a look-up is a binary search, and it also finds the nearest name, subtrees, and what GETNEXT of SNMP returns.
 
 pub use crate::erased::db::Database;
 pub use crate::erased::db::Names;
 pub use crate::erased::db::SortedDatabase;
 
+use crate::arcs::write_items;
 use crate::{ObjectIdentifier, ObjectIdentifierRef};
+use core::fmt;
+use core::iter::FusedIterator;
+
+impl FusedIterator for Names<'_> {}
+
+/// `Names(["cn", "commonName"])`: the names that are left.
+impl fmt::Debug for Names<'_> {
+    fn fmt(&self, f: &mut fmt::Formatter<'_>) -> fmt::Result {
+        write_items("Names", self.clone(), f)
+    }
+}
+
+/// The entries of a table.
+macro_rules! entries {
+    ($($table:ident of $oid:ident, such as $all:ident;)*) => {
+        $(
+            impl<'a> $table<'a> {
+                /// All entries, in the order of the table.
+                ///
+                /// # Examples
+                ///
+                /// ```
+                #[doc = concat!("use const_oid::db::", stringify!($all), ";")]
+                ///
+                #[doc = concat!("for (oid, name) in ", stringify!($all), ".entries() {")]
+                ///     println!("{oid} {name}");
+                /// }
+                /// ```
+                pub const fn entries(&self) -> &'a [(&'a $oid, &'a str)] {
+                    self.entries
+                }
+
+                /// The number of entries.
+                ///
+                /// # Examples
+                ///
+                /// ```
+                #[doc = concat!("assert_eq!(const_oid::db::", stringify!($all), ".len(), 1492);")]
+                /// ```
+                pub const fn len(&self) -> usize {
+                    self.entries.len()
+                }
+            }
+
+            /// Lists the entries.
+            impl fmt::Debug for $table<'_> {
+                fn fmt(&self, f: &mut fmt::Formatter<'_>) -> fmt::Result {
+                    f.debug_tuple(stringify!($table)).field(&self.entries).finish()
+                }
+            }
+        )*
+    };
+}
+
+entries! {
+    Database of ObjectIdentifier, such as DB;
+    SortedDatabase of ObjectIdentifierRef, such as SORTED;
+}
+
+/// An assert of the first constant of a module, as an example.
+macro_rules! example {
+    ($module:ident $constant:ident = $arcs:literal; $($rest:tt)*) => {
+        concat!(
+            "# Examples\n\n```\nuse const_oid::db::",
+            stringify!($module),
+            ";\n\n",
+            "assert_eq!(",
+            stringify!($module),
+            "::",
+            stringify!($constant),
+            ".to_string(), ",
+            stringify!($arcs),
+            ");\n```",
+        )
+    };
+}
 
 /// The modules, and [`DB`] over all of their entries, in order.
 macro_rules! names {
-    ($($module:ident { $($constant:ident = $arcs:literal, $name:literal;)* })*) => {
+    ($($module:ident $document:literal { $($constant:ident = $arcs:literal, $name:literal;)* })*) => {
         $(
-            #[doc = concat!(
-                "Names of ", stringify!($module), ".\n\n```\nuse const_oid::db::", stringify!($module),
-                " as names;\n",
-                $("assert_eq!(names::", stringify!($constant), ".to_string(), ", stringify!($arcs), ");\n",)*
-                "```",
-            )]
+            #[doc = concat!("Identifiers of ", $document, ".\n\n", example!($module $($constant = $arcs;)*))]
             pub mod $module {
                 use crate::ObjectIdentifier;
 
@@ -27,6 +103,8 @@ macro_rules! names {
         )*
 
         /// The identifiers of all modules, each with its name.
+        ///
+        /// # Examples
         ///
         /// ```
         /// assert_eq!(const_oid::db::DB.resolve("1.2.840.10045.2.1"), Ok("id-ecPublicKey"));
@@ -44,6 +122,8 @@ macro_rules! names {
 macro_rules! sorted {
     ($($module:ident::$constant:ident, $name:literal;)*) => {
         /// The entries of [`DB`] in the order of arcs, those of an identifier in the order of [`DB`].
+        ///
+        /// # Examples
         ///
         /// ```
         /// use const_oid::db::{SORTED, rfc4519};

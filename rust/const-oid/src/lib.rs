@@ -1,4 +1,15 @@
 #![doc = include_str!("../README.md")]
+//!
+//! # Which type, and which order
+//!
+//! - [`ObjectIdentifier`] holds its octets: 39 at most, or up to 255 as `ObjectIdentifier<N>`. It is `Copy`, and may be a
+//!   constant. Its order is by the number of octets, and then by octets.
+//! - [`ObjectIdentifierRef`] borrows octets of any length. In its order the descendants of an identifier are adjacent:
+//!   [`subtree`](ObjectIdentifierRef::subtree) finds them in a sorted list.
+//! - [`ByArcs`] holds either, and has the order of arcs, as has [`cmp_arcs`](ObjectIdentifier::cmp_arcs). In it, too,
+//!   descendants are adjacent, and a comparison takes longer.
+//!
+//! [`Error`] says why an input was rejected. [`Arcs`] gives the arcs, each an [`Arc`].
 #![no_std]
 #![deny(missing_docs, unsafe_code)]
 // An identifier has two arcs or more.
@@ -6,6 +17,8 @@
 
 #[cfg(feature = "arbitrary")]
 mod arbitrary;
+mod arcs;
+mod by_arcs;
 #[cfg(feature = "db")]
 pub mod db;
 #[allow(
@@ -26,10 +39,10 @@ mod oid;
 mod oid_ref;
 mod traits;
 
+pub use by_arcs::ByArcs;
 pub use erased::Arc;
 pub use erased::Arcs;
 pub use erased::Buffer;
-pub use erased::ByArcs;
 pub use erased::Error;
 pub use erased::ObjectIdentifier;
 pub use erased::Result;

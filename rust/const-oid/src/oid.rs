@@ -16,6 +16,8 @@ pub(crate) const fn panic_text(error: Error) -> &'static str {
 impl<const MAX_SIZE: usize> ObjectIdentifier<MAX_SIZE> {
     /// The borrowed form of the same octets.
     ///
+    /// # Examples
+    ///
     /// ```
     /// use const_oid::{ObjectIdentifier, ObjectIdentifierRef};
     ///
@@ -78,7 +80,11 @@ impl TryFrom<&[u8]> for ObjectIdentifier {
 impl<const MAX_SIZE: usize> TryFrom<&ObjectIdentifierRef> for ObjectIdentifier<MAX_SIZE> {
     type Error = Error;
 
-    /// Copies a borrowed identifier, or returns [`Error::Length`] if its octets do not fit.
+    /// Copies a borrowed identifier.
+    ///
+    /// # Errors
+    ///
+    /// [`Error::Length`] if its octets do not fit.
     fn try_from(oid_ref: &ObjectIdentifierRef) -> Result<Self> {
         Self::try_from_ref(oid_ref.erased())
     }

@@ -6,12 +6,13 @@ use core::cmp::Ordering;
 use core::fmt;
 use core::hash::{Hash, Hasher};
 
-/// An object identifier over contents octets, without tag and length.
+/// A borrowed object identifier: valid contents octets of any length, without tag and length.
 ///
-/// Its octets are valid: they are the one encoding of its arcs (X.690, 8.19).
+/// Its octets are the one encoding of its arcs (X.690, 8.19). `borrowed == owned` compiles for any capacity, and
+/// `owned == borrowed` does not. Its order is not that of owned identifiers, so look up a key of a `BTreeMap` only by the
+/// form that it stores.
 ///
-/// It can be compared with owned identifiers of any capacity, if it is the left side. The two forms
-/// have different orders, so look up keys of one form in a `BTreeMap` only by that form.
+/// # Examples
 ///
 /// ```
 /// use const_oid::{ObjectIdentifier, ObjectIdentifierRef};
@@ -38,8 +39,13 @@ impl ObjectIdentifierRef {
         erased::ObjectIdentifierRef::from_checked(&self.ber)
     }
 
-    /// Reads contents octets (X.690, 8.19) of any length. The errors are those of
-    /// [`ObjectIdentifier::from_bytes`], except [`Error::Length`], which does not occur.
+    /// Reads contents octets (X.690, 8.19) of any length.
+    ///
+    /// # Errors
+    ///
+    /// Those of [`ObjectIdentifier::from_bytes`], except [`Error::Length`], which does not occur.
+    ///
+    /// # Examples
     ///
     /// ```
     /// use const_oid::{Error, ObjectIdentifierRef};
@@ -54,6 +60,8 @@ impl ObjectIdentifierRef {
 
     /// The contents octets.
     ///
+    /// # Examples
+    ///
     /// ```
     /// let oid = const_oid::ObjectIdentifierRef::from_bytes(&[0x88, 0x37, 0x03])?;
     /// assert_eq!(oid.as_bytes(), [0x88, 0x37, 0x03]);
@@ -63,8 +71,9 @@ impl ObjectIdentifierRef {
         &self.ber
     }
 
-    /// The identifier of all arcs except the last, over a prefix of the same octets, or `None` if there
-    /// are two arcs.
+    /// The parent: all arcs except the last, over a prefix of the same octets. `None` if there are only two.
+    ///
+    /// # Examples
     ///
     /// ```
     /// let oid = const_oid::ObjectIdentifierRef::from_bytes(&[0x88, 0x37, 0x03])?;
@@ -109,6 +118,8 @@ macro_rules! calls_of_two {
 calls! {
     /// The arc at an index, counted from 0, or `None` past the last one.
     ///
+    /// # Examples
+    ///
     /// ```
     /// let oid = const_oid::ObjectIdentifierRef::from_bytes(&[0x88, 0x37, 0x03])?;
     /// assert_eq!((oid.arc(2), oid.arc(3)), (Some(3), None));
@@ -118,6 +129,8 @@ calls! {
 
     /// All arcs, in order.
     ///
+    /// # Examples
+    ///
     /// ```
     /// let oid = const_oid::ObjectIdentifierRef::from_bytes(&[0x88, 0x37, 0x03])?;
     /// assert!(oid.arcs().eq([2, 999, 3]));
@@ -125,7 +138,9 @@ calls! {
     /// ```
     fn arcs() -> Arcs<'_>;
 
-    /// How many arcs there are.
+    /// The number of arcs, two or more.
+    ///
+    /// # Examples
     ///
     /// ```
     /// let oid = const_oid::ObjectIdentifierRef::from_bytes(&[0x88, 0x37, 0x03])?;
@@ -134,10 +149,13 @@ calls! {
     /// ```
     fn len() -> usize;
 
-    /// The range of the identifiers in a sorted list that begin with this one, which may be one of
-    /// them: its start and its end. Both are the index where this one would be inserted if there are none.
+    /// The range of this identifier and its descendants in a sorted list: its start and its end. If there are none, both
+    /// are the index where this identifier would be inserted.
     ///
-    /// The list does not descend in the order of `cmp`. It may hold an identifier more than once.
+    /// The list is sorted by `cmp`, and may hold an identifier more than once. On an unsorted list, the result is
+    /// unspecified.
+    ///
+    /// # Examples
     ///
     /// ```
     /// use const_oid::{ObjectIdentifier, ObjectIdentifierRef};
@@ -150,7 +168,9 @@ calls! {
     /// ```
     fn subtree(sorted: &[&Self]) -> (usize, usize);
 
-    /// The length of the text that `{}` writes, or `usize::MAX` if it is greater.
+    /// The length in bytes of the text that `{}` writes, or `usize::MAX` if it is greater.
+    ///
+    /// # Examples
     ///
     /// ```
     /// let oid = const_oid::ObjectIdentifierRef::from_bytes(&[0x88, 0x37, 0x03])?;
@@ -160,7 +180,9 @@ calls! {
     fn text_len() -> usize;
 
     /// Writes the text that `{}` writes at the start of `out`, and returns its length. Returns `None`
-    /// where it is longer than `out`, which is then unchanged.
+    /// if it is longer than `out`, which is then unchanged.
+    ///
+    /// # Examples
     ///
     /// ```
     /// let oid = const_oid::ObjectIdentifierRef::from_bytes(&[0x88, 0x37, 0x03])?;
@@ -173,6 +195,8 @@ calls! {
 
     /// Writes the text as [`encode_text`](Self::encode_text) does, and borrows it as a `str`.
     ///
+    /// # Examples
+    ///
     /// ```
     /// let oid = const_oid::ObjectIdentifierRef::from_bytes(&[0x88, 0x37, 0x03])?;
     /// assert_eq!(oid.encode_str(&mut [0; 8]), Some("2.999.3"));
@@ -182,7 +206,9 @@ calls! {
 }
 
 calls_of_two! {
-    /// Whether the arcs begin with all those of another identifier, which may be all of these.
+    /// Whether the arcs begin with all those of another identifier: whether it is this one or an ancestor.
+    ///
+    /// # Examples
     ///
     /// ```
     /// let oid = const_oid::ObjectIdentifierRef::from_bytes(&[0x88, 0x37, 0x03])?;
@@ -191,7 +217,9 @@ calls_of_two! {
     /// ```
     fn starts_with(other: &Self) -> bool;
 
-    /// The order of the arcs, a prefix before what begins with it, as SNMP orders names (RFC 3416).
+    /// Compares the arcs lexicographically, a prefix before what begins with it. SNMP orders names so (RFC 3416).
+    ///
+    /// # Examples
     ///
     /// ```
     /// let oid = const_oid::ObjectIdentifierRef::from_bytes(&[0x88, 0x37, 0x03])?;
@@ -251,7 +279,8 @@ impl PartialOrd for ObjectIdentifierRef {
     }
 }
 
-/// The octets in lexicographic order, a prefix before what begins with it.
+/// By the octets in lexicographic order, a prefix before what begins with it. This is not the order of arcs: see
+/// [`cmp_arcs`](Self::cmp_arcs).
 impl Ord for ObjectIdentifierRef {
     fn cmp(&self, other: &Self) -> Ordering {
         self.erased().cmp(&other.erased())

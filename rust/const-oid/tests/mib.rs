@@ -2,8 +2,9 @@
 #![cfg(feature = "db")]
 
 use const_oid::db::SortedDatabase;
-use const_oid::{ByArcs, ObjectIdentifierRef};
-use std::collections::BTreeMap;
+use const_oid::{ByArcs, Error, ObjectIdentifier, ObjectIdentifierRef};
+use std::collections::{BTreeMap, HashMap};
+use std::ops::Bound::{Excluded, Unbounded};
 
 /// An identifier of 300 octets, 1.3.43.43 and so on.
 const LONG: &[u8] = &[0x2B; 300];
@@ -150,9 +151,9 @@ fn keys() {
             .map(|entry| entry.0)
             .eq(entries().iter().map(|entry| entry.0))
     );
-    let map: BTreeMap<ByArcs<'_>, &str> = backwards
+    let map: BTreeMap<ByArcs<&ObjectIdentifierRef>, &str> = backwards
         .iter()
-        .map(|(oid, name)| (ByArcs(oid), *name))
+        .map(|(oid, name)| (ByArcs(*oid), *name))
         .collect();
     assert_eq!(map.len(), TABLE.len() - 1);
     assert!(
@@ -161,4 +162,72 @@ fn keys() {
             .is_sorted_by(|a, b| oid(a).cmp_arcs(oid(b)).is_lt())
     );
     assert!(ByArcs(oid(LONG)) == ByArcs(oid(LONG)) && ByArcs(oid(LONG)) != ByArcs(oid(&LONG[1..])));
+}
+
+/// An identifier of the greatest capacity, with the leading dot that `snmpwalk -On` prints, or without it.
+fn owned(text: &str) -> Result<ByArcs<ObjectIdentifier<255>>, Error> {
+    ObjectIdentifier::new_sized(text.strip_prefix('.').unwrap_or(text)).map(ByArcs)
+}
+
+/// Rows of a table of addresses (RFC 4292), too long for 39 octets, in the order in which GETNEXT meets them.
+const ROUTES: [&str; 3] = [
+    ".1.3.6.1.2.1.4.24.7.1.9.2.16.32.1.13.184.0.0.0.0.0.0.0.0.0.0.0.0.32.2.0.0.2.16.254.128.0.0.0.0.0.0.0.0.0.0.0.0.0.1",
+    ".1.3.6.1.2.1.4.24.7.1.9.2.16.32.1.13.184.0.0.0.0.0.0.0.0.0.0.0.0.64.2.0.0.2.16.254.128.0.0.0.0.0.0.0.0.0.0.0.0.0.1",
+    ".1.3.6.1.2.1.4.24.7.1.9.2.16.32.2.0.0.0.0.0.0.0.0.0.0.0.0.0.0.16.2.0.0.2.16.254.128.0.0.0.0.0.0.0.0.0.0.0.0.0.1",
+];
+
+/// A map of owned keys, walked as by GETNEXT.
+#[test]
+fn owned_keys() {
+    let texts = [
+        ROUTES[2],
+        ".1.3.256",
+        ROUTES[0],
+        ".1.3.16384",
+        ROUTES[1],
+        ".1.4",
+    ];
+    let map: BTreeMap<_, &str> = texts.map(|text| (owned(text).unwrap(), text)).into();
+    let (mut at, mut walked) = (owned("1.3").unwrap(), Vec::new());
+    while let Some((key, text)) = map.range((Excluded(at), Unbounded)).next() {
+        assert_eq!(format!(".{key}"), **text);
+        walked.push(*text);
+        at = *key;
+    }
+    assert_eq!(
+        walked,
+        [
+            ROUTES[0],
+            ROUTES[1],
+            ROUTES[2],
+            ".1.3.256",
+            ".1.3.16384",
+            ".1.4"
+        ]
+    );
+    for text in ROUTES {
+        assert_eq!(
+            ObjectIdentifier::new(&text[1..]),
+            Err(Error::Length),
+            "{text}"
+        );
+    }
+}
+
+/// Owned and borrowed keys, in other traits.
+#[test]
+fn key_traits() {
+    let key = owned("2.999").unwrap();
+    let borrowed: ByArcs<&ObjectIdentifierRef> = oid(&[0x88, 0x37]).into();
+    assert_eq!(key, ObjectIdentifier::new_sized("2.999").unwrap().into());
+    assert_eq!(
+        format!("{key} {key:?}"),
+        "2.999 ByArcs(ObjectIdentifier(2.999))"
+    );
+    assert_eq!(
+        format!("{borrowed} {borrowed:?}"),
+        "2.999 ByArcs(ObjectIdentifierRef(2.999))"
+    );
+    let names = HashMap::from([(key, "a"), (owned("2.99").unwrap(), "b"), (key, "c")]);
+    assert_eq!((names.len(), names.get(&key)), (2, Some(&"c")));
 }

@@ -30,6 +30,8 @@ const UNSIZED: &str =
     "the crate's borrowed form is unsized, and its function of this name is of that form";
 const LENT: &str = "the crate's borrowed form is unsized, and lies behind a reference";
 const BY_CORE: &str = "`core` compares slices by `memcmp`, which takes less time";
+const BOUNDS: &str = "a bound at no cost, where Rattle keeps the default of the trait";
+const LISTED: &str = "a caller by hand lists the entries";
 const UNWRITTEN: &str = "Rust has no `&mut [u8]` over memory that C may not have written";
 
 pub const CRATES: &[Crate] = &[
@@ -41,7 +43,6 @@ pub const CRATES: &[Crate] = &[
             "Arc",
             "Arcs",
             "Buffer",
-            "ByArcs",
             "Database",
             "Error",
             "Names",
@@ -79,6 +80,59 @@ pub const CRATES: &[Crate] = &[
                 old: "ObjectIdentifierRef<'a>",
                 new: "&'a ObjectIdentifierRef",
                 why: LENT,
+            },
+            Edit {
+                module: "arcs",
+                old: "pub struct Arcs<'a>",
+                new: "#[derive(Clone)]\npub struct Arcs<'a>",
+                why: "in Rattle a copy may fail, so a caller asks for the arcs again",
+            },
+            Edit {
+                module: "arcs",
+                old: "type Item = Arc;",
+                new: "type Item = Arc;
+
+                    // A subidentifier has one to five octets, and the first holds two arcs.
+                    fn size_hint(&self) -> (usize, Option<usize>) {
+                        let held = usize::from(!matches!(self.next, Next::Later));
+                        let octets = self.octets.len();
+                        (octets.div_ceil(5) + held, Some(octets + held))
+                    }",
+                why: BOUNDS,
+            },
+            Edit {
+                module: "db",
+                old: "pub struct Names<'a>",
+                new: "#[derive(Clone)]\npub struct Names<'a>",
+                why: "as above",
+            },
+            Edit {
+                module: "db",
+                old: "type Item = &'a str;",
+                new: "type Item = &'a str;
+
+                    fn size_hint(&self) -> (usize, Option<usize>) {
+                        (0, Some(self.left.len()))
+                    }",
+                why: BOUNDS,
+            },
+            Edit {
+                module: "db",
+                old: "entries: &'a [(&'a Oid, &'a str)],",
+                new: "pub(crate) entries: &'a [(&'a Oid, &'a str)],",
+                why: LISTED,
+            },
+            Edit {
+                module: "db_sorted",
+                old: "entries: &'a [Entry<'a>],",
+                new: "pub(crate) entries: &'a [Entry<'a>],",
+                why: LISTED,
+            },
+            Edit {
+                module: "db,db_ref",
+                old: "Oid",
+                new: "ObjectIdentifier",
+                why: "the crate has one name for the type",
             },
             Edit {
                 module: "parts",

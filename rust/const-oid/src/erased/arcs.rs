@@ -3,11 +3,12 @@
 //! Contents octets read as arcs (X.690, 8.19.2 to 8.19.4).
 
 use crate::erased::parts::skip_parts;
-/// An arc: a number of a path, of 32 bits.
+/// One arc of an object identifier, a 32-bit number.
 #[doc = include_str!("../examples/Arc.md")]
 pub type Arc = u32;
 
-/// The arcs of an identifier that are left, in order. After the last comes `None`, each time.
+/// An iterator over the arcs of an identifier, in order. After the last arc, `next` always returns `None`.
+#[derive(Clone)]
 #[doc = include_str!("../examples/Arcs.md")]
 pub struct Arcs<'a> {
     next: Next,
@@ -37,6 +38,13 @@ impl<'a> Arcs<'a> {
 
 impl Iterator for Arcs<'_> {
     type Item = Arc;
+
+    // A subidentifier has one to five octets, and the first holds two arcs.
+    fn size_hint(&self) -> (usize, Option<usize>) {
+        let held = usize::from(!matches!(self.next, Next::Later));
+        let octets = self.octets.len();
+        (octets.div_ceil(5) + held, Some(octets + held))
+    }
 
     #[inline]
     fn next(&mut self) -> Option<Arc> {

@@ -8,10 +8,9 @@ use crate::erased::error::{Error, Result};
 use core::cmp::Ordering;
 use core::hash::{Hash, Hasher};
 
-/// Octets in use: up to `SIZE`, and never past 255.
+/// The octets of an owned identifier: at most `SIZE`, and never more than 255.
 ///
-/// Owned identifiers hold their octets in one, and their contracts name it: so it is public. This crate
-/// alone makes it, so there is no public constructor.
+/// It has no public constructor.
 #[derive(Copy, Clone, PartialEq, Eq)]
 #[doc = include_str!("../examples/Buffer.md")]
 pub struct Buffer<const SIZE: usize> {
@@ -103,7 +102,8 @@ impl<const SIZE: usize> Buffer<SIZE> {
         true
     }
 
-    /// Whether the octets in use are equal. Whole arrays are compared, since zeros follow in both.
+    /// Whether the octets in use are equal.
+    // Whole arrays are compared, since zeros follow in both.
     #[inline(always)]
     #[doc = include_str!("../examples/Buffer.eq.md")]
     pub const fn eq(&self, rhs: &Self) -> bool {

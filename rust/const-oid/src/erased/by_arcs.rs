@@ -5,11 +5,10 @@
 use crate::ObjectIdentifierRef;
 use core::cmp::Ordering;
 
-/// An identifier as a key of a map or of a sort, whose order is that of its arcs.
+/// A borrowed identifier as a key whose order is that of its arcs.
 ///
-/// SNMP orders names so (RFC 3416). `sort_by_key` takes it as the key, and so do maps in order.
+/// SNMP orders names so (RFC 3416). It is a key for maps and for `sort_by_key`.
 #[derive(Copy, Clone)]
-#[doc = include_str!("../examples/ByArcs.md")]
 pub struct ByArcs<'a>(pub &'a ObjectIdentifierRef);
 
 impl PartialEq for ByArcs<'_> {

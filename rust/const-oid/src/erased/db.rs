@@ -6,27 +6,27 @@ use crate::erased::compare::is_same_name;
 
 pub use crate::erased::db_sorted::SortedDatabase;
 use crate::erased::error::Result;
-use crate::erased::oid::Oid;
+use crate::erased::oid::ObjectIdentifier;
 
-/// A table of identifiers and their names. Both may be in it more than once.
+/// A table of identifiers and their names, in any order. Both may be in it more than once.
 ///
-/// Names are the same where their bytes are, after the ASCII letters are folded.
+/// Names are compared without regard to ASCII case.
 #[derive(Copy, Clone)]
 #[doc = include_str!("../examples/Database.md")]
 pub struct Database<'a> {
-    entries: &'a [(&'a Oid, &'a str)],
+    pub(crate) entries: &'a [(&'a ObjectIdentifier, &'a str)],
 }
 
 impl<'a> Database<'a> {
     /// A database over these entries.
     #[doc = include_str!("../examples/Database.new.md")]
-    pub const fn new(entries: &'a [(&'a Oid, &'a str)]) -> Self {
+    pub const fn new(entries: &'a [(&'a ObjectIdentifier, &'a str)]) -> Self {
         Database { entries }
     }
 
-    /// The name that the first entry of this identifier has, or `None` without such an entry.
+    /// The name in the first entry with this identifier, or `None` if there is no such entry.
     #[doc = include_str!("../examples/Database.by_oid.md")]
-    pub const fn by_oid(&self, oid: &Oid) -> Option<&'a str> {
+    pub const fn by_oid(&self, oid: &ObjectIdentifier) -> Option<&'a str> {
         let mut left = self.entries;
         while let [entry, after @ ..] = left {
             if has_oid(entry, oid) {
@@ -37,9 +37,9 @@ impl<'a> Database<'a> {
         None
     }
 
-    /// The identifier that the first entry of this name has, or `None` without such an entry.
+    /// The identifier in the first entry with this name, in any ASCII case, or `None` if there is no such entry.
     #[doc = include_str!("../examples/Database.by_name.md")]
-    pub const fn by_name(&self, name: &str) -> Option<&'a Oid> {
+    pub const fn by_name(&self, name: &str) -> Option<&'a ObjectIdentifier> {
         let mut left = self.entries;
         while let [entry, after @ ..] = left {
             if is_same_name(entry.1, name) {
@@ -50,36 +50,45 @@ impl<'a> Database<'a> {
         None
     }
 
-    /// The names of the identifier, one for each of its entries, in the order of the table.
+    /// All names of this identifier, in the order of the table.
     #[doc = include_str!("../examples/Database.find_names_for_oid.md")]
-    pub const fn find_names_for_oid(&self, oid: Oid) -> Names<'a> {
+    pub const fn find_names_for_oid(&self, oid: ObjectIdentifier) -> Names<'a> {
         Names {
             left: self.entries,
             oid,
         }
     }
 
-    /// The name of the first entry with the identifier that the text denotes, or the text itself,
-    /// byte for byte, where no entry has it. The errors are those of [`Oid::new`].
+    /// Parses dotted text, and returns the name of its identifier as [`by_oid`](Self::by_oid) does, or the text
+    /// itself, unchanged, if the table has no name for it.
+    ///
+    /// # Errors
+    ///
+    /// Those of `new` of an owned identifier.
     #[doc = include_str!("../examples/Database.resolve.md")]
     pub fn resolve<'b>(&self, oid: &'b str) -> Result<&'b str>
     where
         'a: 'b,
     {
-        let name = self.by_oid(&Oid::new(oid)?);
+        let name = self.by_oid(&ObjectIdentifier::new(oid)?);
         Ok(name.unwrap_or(oid))
     }
 }
 
-/// The names of an identifier in a table, in table order.
+/// An iterator over the names of an identifier, in the order of the table.
+#[derive(Clone)]
 #[doc = include_str!("../examples/Names.md")]
 pub struct Names<'a> {
-    left: &'a [(&'a Oid, &'a str)],
-    oid: Oid,
+    left: &'a [(&'a ObjectIdentifier, &'a str)],
+    oid: ObjectIdentifier,
 }
 
 impl<'a> Iterator for Names<'a> {
     type Item = &'a str;
+
+    fn size_hint(&self) -> (usize, Option<usize>) {
+        (0, Some(self.left.len()))
+    }
 
     /// The next name; after the last one `None`, each time.
     fn next(&mut self) -> Option<&'a str> {
@@ -94,6 +103,6 @@ impl<'a> Iterator for Names<'a> {
 }
 
 /// Whether an entry has this identifier.
-const fn has_oid(entry: &(&Oid, &str), oid: &Oid) -> bool {
+const fn has_oid(entry: &(&ObjectIdentifier, &str), oid: &ObjectIdentifier) -> bool {
     entry.0.is_same(oid)
 }

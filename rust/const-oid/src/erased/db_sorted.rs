@@ -8,25 +8,24 @@ use crate::erased::compare::are_equal;
 /// An identifier and its name.
 type Entry<'a> = (&'a ObjectIdentifierRef, &'a str);
 
-/// A table of borrowed identifiers and their names that does not descend in the order of arcs
-/// ([`cmp_arcs`](ObjectIdentifierRef::cmp_arcs)), so that a look-up halves it. Both may be in it
-/// more than once.
+/// A table of borrowed identifiers and their names, sorted by [`cmp_arcs`](ObjectIdentifierRef::cmp_arcs), so that a
+/// look-up is a binary search. Both may be in it more than once.
 #[derive(Copy, Clone)]
 #[doc = include_str!("../examples/SortedDatabase.md")]
 pub struct SortedDatabase<'a> {
-    entries: &'a [Entry<'a>],
+    pub(crate) entries: &'a [Entry<'a>],
 }
 
 impl<'a> SortedDatabase<'a> {
-    /// A database over entries that do not descend. In Rattle, the caller must prove this. In Rust, nothing checks
-    /// it: over entries that descend, the results of look-ups mean nothing. [`try_new`](Self::try_new) tests the
-    /// order.
+    /// A database over sorted entries. This call does not test their order, and over unsorted entries the results
+    /// of look-ups are unspecified: [`try_new`](Self::try_new) tests it.
+    // In Rattle, the caller proves the order.
     #[doc = include_str!("../examples/SortedDatabase.new.md")]
     pub const fn new(entries: &'a [Entry<'a>]) -> Self {
         SortedDatabase { entries }
     }
 
-    /// A database over these entries, or `None` where they descend.
+    /// A database over these entries, or `None` if they are not sorted.
     #[doc = include_str!("../examples/SortedDatabase.try_new.md")]
     pub fn try_new(entries: &'a [Entry<'a>]) -> Option<Self> {
         if entries.is_sorted_by(|a, b| a.0.cmp_arcs(&b.0).is_le()) {
@@ -36,14 +35,14 @@ impl<'a> SortedDatabase<'a> {
         }
     }
 
-    /// The name that the first entry of this identifier has, or `None` without such an entry.
+    /// The name in the first entry with this identifier, or `None` if there is no such entry.
     #[doc = include_str!("../examples/SortedDatabase.by_oid.md")]
     pub fn by_oid(&self, oid: &ObjectIdentifierRef) -> Option<&'a str> {
         Some(self.first(oid)?.1)
     }
 
-    /// The first entry of the identifier or else of the nearest one above it, or `None` where the table
-    /// has none of these.
+    /// The entry with the longest prefix of the identifier, which may be all of it, or `None` if the table has no
+    /// prefix. If several entries have it, the first.
     #[doc = include_str!("../examples/SortedDatabase.nearest.md")]
     pub fn nearest(&self, oid: &ObjectIdentifierRef) -> Option<&'a Entry<'a>> {
         // All that the identifier begins with come up to it, and the last entry up to it begins with them.
@@ -59,7 +58,7 @@ impl<'a> SortedDatabase<'a> {
         }
     }
 
-    /// The entries that begin with the identifier, its own among them.
+    /// The entries of the identifier and of its descendants.
     #[doc = include_str!("../examples/SortedDatabase.subtree.md")]
     pub fn subtree(&self, oid: &ObjectIdentifierRef) -> &'a [Entry<'a>] {
         let from = &self.entries[self.start_of(oid)..];
@@ -67,8 +66,7 @@ impl<'a> SortedDatabase<'a> {
         &from[..count]
     }
 
-    /// The first entry that comes after the identifier, which need not be in the table: what GETNEXT of
-    /// SNMP returns (RFC 3416).
+    /// The first entry after the identifier, which need not be in the table: what GETNEXT of SNMP returns (RFC 3416).
     #[doc = include_str!("../examples/SortedDatabase.next_after.md")]
     pub fn next_after(&self, oid: &ObjectIdentifierRef) -> Option<&'a Entry<'a>> {
         self.entries.get(self.end_of(oid))

@@ -1,0 +1,76 @@
+//! Keys in the order of arcs, over what holds or borrows an identifier.
+
+use crate::{ObjectIdentifierRef, erased};
+use core::borrow::Borrow;
+use core::cmp::Ordering;
+use core::fmt;
+use core::hash::{Hash, Hasher};
+
+/// An identifier, owned or borrowed, as a key whose order is that of its arcs.
+///
+/// SNMP orders names so (RFC 3416). `T` is [`ObjectIdentifier`](crate::ObjectIdentifier) of any capacity,
+/// or `&`[`ObjectIdentifierRef`]. It is a key for maps and for `sort_by_key`.
+///
+/// # Examples
+///
+/// ```
+/// use const_oid::{ByArcs, ObjectIdentifier};
+/// use std::collections::BTreeMap;
+///
+/// let [small, large] = ["1.3.256", "1.3.16384"].map(ObjectIdentifier::new_unwrap);
+/// let mut oids = [large.as_oid_ref(), small.as_oid_ref()];
+/// oids.sort_by_key(|oid| ByArcs(*oid));
+/// assert_eq!(oids, [small.as_oid_ref(), large.as_oid_ref()]);
+///
+/// let names = BTreeMap::from([(ByArcs(large), "large"), (ByArcs(small), "small")]);
+/// assert_eq!(names.first_key_value(), Some((&ByArcs(small), &"small")));
+/// ```
+#[derive(Copy, Clone, Debug)]
+pub struct ByArcs<T>(pub T);
+
+impl<T: Borrow<ObjectIdentifierRef>> ByArcs<T> {
+    /// The generated key over the same octets.
+    fn erased(&self) -> erased::ByArcs<'_> {
+        erased::ByArcs(self.0.borrow())
+    }
+}
+
+impl<T> From<T> for ByArcs<T> {
+    fn from(oid: T) -> Self {
+        ByArcs(oid)
+    }
+}
+
+impl<T: Borrow<ObjectIdentifierRef>> PartialEq for ByArcs<T> {
+    fn eq(&self, other: &Self) -> bool {
+        self.erased() == other.erased()
+    }
+}
+
+impl<T: Borrow<ObjectIdentifierRef>> Eq for ByArcs<T> {}
+
+impl<T: Borrow<ObjectIdentifierRef>> PartialOrd for ByArcs<T> {
+    fn partial_cmp(&self, other: &Self) -> Option<Ordering> {
+        Some(self.cmp(other))
+    }
+}
+
+/// The arcs in lexicographic order, a prefix before what begins with it.
+impl<T: Borrow<ObjectIdentifierRef>> Ord for ByArcs<T> {
+    fn cmp(&self, other: &Self) -> Ordering {
+        self.erased().cmp(&other.erased())
+    }
+}
+
+impl<T: Borrow<ObjectIdentifierRef>> Hash for ByArcs<T> {
+    fn hash<H: Hasher>(&self, state: &mut H) {
+        self.0.borrow().hash(state);
+    }
+}
+
+/// The arcs in decimal, joined by dots.
+impl<T: Borrow<ObjectIdentifierRef>> fmt::Display for ByArcs<T> {
+    fn fmt(&self, f: &mut fmt::Formatter<'_>) -> fmt::Result {
+        fmt::Display::fmt(self.0.borrow(), f)
+    }
+}
