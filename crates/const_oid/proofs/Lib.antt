@@ -14,6 +14,7 @@ pub mod TakesItems
 pub mod Numbers
 pub mod Decimals
 pub mod Texts
+pub mod Ascii
 pub mod Children
 pub mod PartsFault
 pub mod TextPass

@@ -15,7 +15,7 @@ started_from_encoding : (rule : RootRule) (first : ℕ) (octets given : List ℕ
 started_from_encoding rule first [] given e = absurd (encoding_back e).identifier
 started_from_encoding rule first (x ∷ xs) given e = (encoding_back e, arcs_of_encoding e)
 
-later_fault : (rule : RootRule) (octets given : List ℕ) (arc capacity : ℕ) → IsEncoding rule given octets
+pub later_fault : (rule : RootRule) (octets given : List ℕ) (arc capacity : ℕ) → IsEncoding rule given octets
     → arc_fault rule capacity given arc ≡ fault_if (nat_lt capacity (length octets + width arc)) Length
 later_fault rule octets [] arc capacity e = absurd e.identifier
 later_fault rule octets (a ∷ []) arc capacity e = absurd e.identifier

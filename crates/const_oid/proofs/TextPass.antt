@@ -1,18 +1,20 @@
 -- A text read byte by byte, up to the first fault, which is that of the first faulty piece.
-use Rattle.std.proofs.Common.{◌≡◌, ℕ, ◌+◌, ◌-◌, ◌*◌, ◌<◌, ◌≤◌, Bool, true, false, not, List, [], ◌∷◌, ◌++◌, length}
-use Rattle.std.proofs.Common.{nat_lt, ◌==◌, map, Option, Some, None, Result, Ok, Err, IfOk, unwrap_or, if◌then◌else◌}
-use Rattle.std.proofs.Common.{refl, ap, ⊎_elim, arith, append_assoc, append-nil, take_while, lt-ltb, le-ltb}
-use Rattle.std.specs.{Bool.then_some, Option.{option_or, option_map}, Result.{result_err, result_map_both}}
+use Rattle.std.proofs.Common.{◌≡◌, ℕ, ◌+◌, ◌-◌, ◌*◌, ◌<◌, ◌≤◌, Bool, true, false, not, List, [], ◌∷◌, ◌++◌, length, drop, get_or}
+use Rattle.std.proofs.Common.{nat_lt, ◌==◌, map, Option, Some, None, Result, Ok, Err, MatchResult, unwrap_or, if◌then◌else◌}
+use Rattle.std.proofs.Common.{refl, sym, ⊎_elim, ◌∙◌, arith, append_assoc, append-nil, take_while, lt-ltb, le-ltb}
+use Rattle.std.specs.{Bool.then_some, Option.{option_or, option_map}}
 use Rattle.std.specs.{Char.is_ascii_digit, Str.all_ascii_digits}
-use Rattle.std.proofs.lemmas.{Bool.Decides.nat_tests, List.take_at, Bool.cases_lt, List.Folds.list_all-append}
+use Rattle.std.proofs.lemmas.{Bool.Decides.nat_tests, List.{take_at, drop_more, drop_all, length-drop}, Bool.cases_lt, List.Folds.list_all-append}
 use Rattle.std.proofs.lemmas.{Int.Digits.digits_value_push, List.Splits.length-slice_split}
 use Rattle.std.proofs.lemmas.Str.Parse.{digits_value-take-le}
-use Rattle.const_oid.specs.{declared.error.Error.Error, Identifier.{RootRule, max_arc, IsEncoding}, Items.too_few_fault}
-use Rattle.const_oid.specs.{declared.error.Error.TheVariants.{ArcTooBig, DigitExpected, RepeatedDot}, Error.answer}
-use Rattle.const_oid.specs.{Contents.arcs_of_octets, Private.Parser.{dot_fault, last_fault}}
+use Rattle.const_oid.specs.{declared.error.Error.Error, Identifier.{RootRule, root_rule, max_arc, IsEncoding, IsIdentifier}, Items.{arc_fault, too_few_fault}}
+use Rattle.const_oid.specs.{declared.error.Error.TheVariants.{ArcInvalid, DigitExpected, Empty, Length, RepeatedDot, TrailingDot}, Error.{answer, fault_if}}
+use Rattle.const_oid.specs.{Base128.width, Contents.arcs_of_octets, Private.Octets.{GoesOn, IsAppended}}
+use Rattle.const_oid.specs.Private.Parser.{dot_fault, text_pass, IsPiece, IsRoot}
 use Rattle.const_oid.specs.Text.{pieces_of, number_of, is_empty, is_one_empty, empty_fault, pieces_fault, text_answer}
 use Rattle.const_oid.proofs.Lists.{append-cons, onto_all, onto_all-first, not_empty_push, onto_all-cons, onto_all-some}
-use Rattle.const_oid.proofs.Encodings.{arcs_of_encoding}
+use Rattle.const_oid.proofs.{Encodings.{arcs_of_encoding, encoding_back}, Faults.{none_from_below, some_from_above}, Items.few_none}
+use Rattle.const_oid.proofs.{Started.later_fault, Children.{encoding_two, child_encoding}}
 use Rattle.const_oid.proofs.Numbers.{number_of_digits, find-none, take_while-digits, find-digits, digit-undotted}
 
 -- ---- pieces
@@ -51,22 +53,6 @@ number_more digits more are =
     (rw (take_at digits rest (length digits) refl) at least)
 
 -- ---- the pass
-
--- what a pass over the bytes comes to, after the arcs before, by whether a piece is begun and its number so far
-abbrev pub text_pass : RootRule → ℕ → List ℕ → Bool → ℕ → List ℕ → Result (List ℕ) Error
-text_pass rule capacity before begun number [] =
-    let piece = then_some begun number in
-    let arcs = before ++ unwrap_or piece 0 ∷ [] in
-    answer (option_or (last_fault rule capacity before piece) (too_few_fault arcs)) arcs
-text_pass rule capacity before begun number (b ∷ bs) =
-    let longer = number * 10 + (b - 48) in
-    let piece = then_some begun number in
-    if is_ascii_digit b
-    then (if nat_lt max_arc longer then Err ArcTooBig else text_pass rule capacity before true longer bs)
-    else (if b == 46
-    then unwrap_or (option_map (λ fault. Err fault) (dot_fault rule capacity before piece (is_empty bs)))
-    (text_pass rule capacity (before ++ unwrap_or piece 0 ∷ []) false 0 bs)
-    else Err (DigitExpected b))
 
 first_fault : (fault other : Option Error) (arcs : List ℕ)
     → unwrap_or (option_map (λ fault. Err fault) fault) (answer other arcs) ≡ answer (option_or fault other) arcs
@@ -132,9 +118,129 @@ pub text_answer_is : (rule : RootRule) (capacity : ℕ) (text : List ℕ)
     → text_pass rule capacity [] false 0 text ≡ text_answer rule text capacity
 text_answer_is rule capacity text = text_pass_is rule capacity text [] [] refl (omega arith)
 
--- where the last piece has no fault, what is encoded of all arcs is the answer
-pub encoded_answer : {X : Type 0} (octets_in : X → List ℕ) (rule : RootRule) (arcs : List ℕ) (result : Result X Error)
-    → result_err result ≡ too_few_fault arcs → IfOk result (λ x. IsEncoding rule arcs (octets_in x))
-    → result_map_both (λ x. arcs_of_octets (octets_in x)) (λ fault. fault) result ≡ answer (too_few_fault arcs) arcs
-encoded_answer octets_in rule arcs (Ok x) f e = rw (← f) (ap Ok (arcs_of_encoding e))
-encoded_answer octets_in rule arcs (Err fault) f e = rw (← f) refl
+-- ---- the arc of a piece that was read
+
+-- what comes after the piece that ends at an index
+abbrev after_piece : RootRule → ℕ → List ℕ → List ℕ → ℕ → Result (List ℕ) Error
+after_piece rule capacity text arcs end =
+    if nat_lt end (length text) then text_pass rule capacity arcs false 0 (drop (end + 1) text)
+    else answer (too_few_fault arcs) arcs
+
+empty_at : (text : List ℕ) (end : ℕ) → end ≤ length text → is_empty (drop end text) ≡ (end == length text)
+empty_at text end h = empty_by_length (drop end text) ∙ grind (arith, nat_tests, length-drop) where
+  empty_by_length : (bs : List ℕ) → is_empty bs ≡ (length bs == 0)
+  empty_by_length [] = refl
+  empty_by_length (b ∷ bs) = grind (arith, nat_tests)
+
+module _ (rule : RootRule) (capacity : ℕ) (text before : List ℕ) (arc end : ℕ)
+    (at : text_answer rule text capacity ≡ text_pass rule capacity before true arc (drop end text))
+    (dot : end < length text → get_or text end 0 ≡ 46) (within : end ≤ length text) where
+  pub arc_refused : (fault : Error) → arc_fault rule capacity before arc ≡ Some fault
+      → text_answer rule text capacity ≡ Err (if end + 1 == length text then TrailingDot else fault)
+  arc_refused fault h = ⊎_elim
+      (λ (less : end < length text). at ∙ rw (drop_more text end 0 less, dot less)
+      (grind (arith, nat_tests, empty_at text (end + 1) (omega (arith, less)))))
+      (λ (last : length text ≤ end). at ∙ rw (drop_all end text last) (grind (arith, nat_tests)))
+      (cases_lt end (length text))
+
+  pub arc_taken : arc_fault rule capacity before arc ≡ None
+      → text_answer rule text capacity ≡ after_piece rule capacity text (before ++ arc ∷ []) end
+  arc_taken h = ⊎_elim
+      (λ (less : end < length text). at ∙ rw (drop_more text end 0 less, dot less)
+      (grind (arith, nat_tests)))
+      (λ (last : length text ≤ end). at ∙ rw (drop_all end text last) (grind (arith, nat_tests)))
+      (cases_lt end (length text))
+
+-- ---- the first piece
+
+-- the first digit of a piece
+pub first_digit : (text : List ℕ) (start first : ℕ) → start < length text
+    → Some first ≡ then_some (is_ascii_digit (get_or text start 0)) (get_or text start 0 - 48)
+    → (capacity : ℕ) (before : List ℕ) → text_pass root_rule capacity before false 0 (drop start text)
+    ≡ text_pass root_rule capacity before true first (drop (start + 1) text)
+first_digit text start first less e capacity before = rw (drop_more text start 0 less) (grind (arith, nat_tests))
+
+module _ (text : List ℕ) (first end : ℕ) (piece : IsPiece text 0 first end) (capacity : ℕ) where
+  first_read : text_answer root_rule text capacity ≡ text_pass root_rule capacity [] true first (drop end text)
+  first_read = sym (text_answer_is root_rule capacity text) ∙ piece.same capacity []
+
+  pub first_refused : 2 < first
+      → text_answer root_rule text capacity ≡ Err (if end + 1 == length text then TrailingDot else ArcInvalid first)
+  first_refused high = arc_refused root_rule capacity text [] first end first_read piece.dot piece.within (ArcInvalid first)
+      (some_from_above 2 first (ArcInvalid first) high)
+
+  first_after : first ≤ 2 → text_answer root_rule text capacity ≡ after_piece root_rule capacity text (first ∷ []) end
+  first_after low = arc_taken root_rule capacity text [] first end first_read piece.dot piece.within
+      (none_from_below 2 first (ArcInvalid first) low)
+
+  pub first_alone : first ≤ 2 → length text ≤ end → text_answer root_rule text capacity ≡ Err Empty
+  first_alone low last = first_after low ∙ rw (le-ltb _ _ last) refl
+
+  pub first_taken : first ≤ 2 → end < length text
+      → text_answer root_rule text capacity ≡ text_pass root_rule capacity (first ∷ []) false 0 (drop (end + 1) text)
+  first_taken low less = first_after low ∙ rw (lt-ltb _ _ less) refl
+
+-- ---- the octets of the pieces so far
+
+pub record IsReadTo (rule : RootRule) (capacity : ℕ) (text octets : List ℕ) (end : ℕ) : Type 0 where
+  pub encoding : IsEncoding rule (arcs_of_octets octets) octets
+  pub answer : text_answer rule text capacity ≡ after_piece rule capacity text (arcs_of_octets octets) end
+
+-- what becomes of them by a piece, whose group is appended or does not fit
+abbrev pub BecomesBy : RootRule → ℕ → List ℕ → List ℕ → ℕ → Result (Unit {0}) Error → Type 0
+BecomesBy rule capacity text longer end result = MatchResult result (λ _. IsReadTo rule capacity text longer end)
+    (λ fault. text_answer rule text capacity ≡ Err (if end + 1 == length text then TrailingDot else fault))
+
+module _ (rule : RootRule) (capacity : ℕ) (text before octets longer : List ℕ) (arc number end : ℕ)
+    (at : text_answer rule text capacity ≡ text_pass rule capacity before true arc (drop end text))
+    (dot : end < length text → get_or text end 0 ≡ 46) (within : end ≤ length text)
+    (fault_is : arc_fault rule capacity before arc ≡ fault_if (nat_lt capacity (length octets + width number)) Length)
+    (encoding : GoesOn number octets longer → IsEncoding rule (before ++ arc ∷ []) longer) where
+  becomes : (result : Result (Unit {0}) Error) → IsAppended capacity number octets longer result
+      → BecomesBy rule capacity text longer end result
+  becomes (Ok x) (fits, on) =
+      let none = fault_is ∙ none_from_below capacity (length octets + width number) Length fits in
+      let e = encoding on in
+      record {
+        encoding = encoding_back e;
+        answer = rw (arcs_of_encoding e) (arc_taken rule capacity text before arc end at dot within none);
+      }
+  becomes (Err fault) (is, long, same) =
+      arc_refused rule capacity text before arc end at dot within fault
+      (fault_is ∙ rw (lt-ltb capacity (length octets + width number) long, is) refl)
+
+module _ (capacity : ℕ) (text : List ℕ) where
+  pub root_becomes : (longer : List ℕ) (number end : ℕ) (result : Result (Unit {0}) Error) → IsRoot text number end
+      → IsAppended capacity number [] longer result → BecomesBy root_rule capacity text longer end result
+  root_becomes longer number end result root =
+      let first = root.first in
+      let second = root.second in
+      becomes root_rule capacity text (first ∷ []) [] longer second number end
+      (root.same capacity) root.dot root.within
+      (grind (arith, nat_tests, none_from_below, root.number, root.high))
+      (λ (group, is, on). rw on (encoding_two root_rule first second group root.low root.high (rw root.number at is))) result
+
+  pub later_becomes : (octets longer : List ℕ) (arc place end : ℕ) (result : Result (Unit {0}) Error)
+      → IsReadTo root_rule capacity text octets place → place < length text → IsPiece text (place + 1) arc end
+      → IsAppended capacity arc octets longer result → BecomesBy root_rule capacity text longer end result
+  later_becomes octets longer arc place end result passed less piece =
+      let arcs = arcs_of_octets octets in
+      becomes root_rule capacity text arcs octets longer arc arc end
+      (passed.answer ∙ rw (lt-ltb _ _ less) (piece.same capacity arcs)) piece.dot piece.within
+      (later_fault root_rule octets arcs arc capacity passed.encoding)
+      (λ on. child_encoding longer arc passed.encoding piece.small on) result
+
+  -- at the end the arcs are the answer
+  pub whole_passed : (octets : List ℕ) (end : ℕ) → IsReadTo root_rule capacity text octets end → length text ≤ end
+      → text_answer root_rule text capacity ≡ Ok (arcs_of_octets octets)
+  whole_passed octets end passed last =
+      let none = few_none root_rule (arcs_of_octets octets) passed.encoding.identifier in
+      passed.answer ∙ rw (le-ltb _ _ last, none) refl
+
+  -- some arcs come before a later piece
+  pub some_before : (octets : List ℕ) (end : ℕ) → IsReadTo root_rule capacity text octets end
+      → is_empty (arcs_of_octets octets) ≡ (end + 1 == 0)
+  some_before octets end passed = several (arcs_of_octets octets) passed.encoding.identifier where
+    several : (arcs : List ℕ) → IsIdentifier root_rule arcs → is_empty arcs ≡ (end + 1 == 0)
+    several [] i = absurd i
+    several (arc ∷ arcs) i = grind (arith, nat_tests)

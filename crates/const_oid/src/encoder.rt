@@ -47,14 +47,6 @@ impl<const SIZE: usize> Encoder<SIZE> {
         }
     }
 
-    /// Whether no arc was given.
-    // erase: const
-    pub(crate) fn is_empty(&self) -> bool
-        ensures { IsTrue result ↔ (self.now ≡ []) }
-    {
-        self.first.is_none()
-    }
-
     /// Encodes one more arc.
     // erase: const
     #[inline(always)]
@@ -132,7 +124,8 @@ where
 }
 
 /// The greatest second arc under a first arc (X.660): 39 under 0 and 1, any of 32 bits under 2.
-const fn max_second(first: Arc) -> Arc
+#[inline(always)]
+pub(crate) const fn max_second(first: Arc) -> Arc
     ensures { result ≡ max_second root_rule first }
 {
     if first < 2 { 39 } else { Arc::MAX }

@@ -168,7 +168,18 @@ impl<const MAX_SIZE: usize> ObjectIdentifier<MAX_SIZE> {
         ensures answer { oid_answer result ≡ text_answer root_rule s.now (min MAX_SIZE 255) }
         ensures denoted { IfOk result (λ oid. Denotes root_rule s.now (oid_arcs oid)) }
     {
-        match parse(s) {
+        Self::from_ascii(s.as_bytes())
+    }
+
+    /// Parses dotted text in ASCII as [`new_sized`](Self::new_sized) does. The bytes need not be UTF-8: one past ASCII
+    /// is no digit.
+    // erase: const
+    #[inline(always)]
+    pub fn from_ascii(text: &[u8]) -> Result<Self>
+        ensures answer { oid_answer result ≡ text_answer root_rule text.now (min MAX_SIZE 255) }
+        ensures denoted { IfOk result (λ oid. Denotes root_rule text.now (oid_arcs oid)) }
+    {
+        match parse(text) {
             Ok(ber) => Ok(ObjectIdentifier { ber }),
             Err(fault) => Err(fault),
         }

@@ -1,26 +1,27 @@
 //! Dotted text to octets.
 
-ghost use Rattle.std.specs.Prelude.{◌≡◌, ◌≤◌, ◌-◌, [], ◌∷◌, ◌++◌, OnOk, min, unwrap_or};
+ghost use Rattle.std.specs.Prelude.{◌≡◌, ◌≤◌, ◌<◌, ◌-◌, ◌+◌, ◌==◌, ℕ, List, true, false, drop, length, get_or, min, if◌then◌else◌, Err, MatchResult};
 ghost use Rattle.std.specs.Bool.{then_some};
 ghost use Rattle.std.specs.Char.{is_ascii_digit};
-ghost use Rattle.std.specs.Result.{result_err};
 ghost use Rattle.const_oid.specs.Private.Encoder.{buffer_answer, HasEncoding};
-ghost use Rattle.const_oid.specs.Identifier.{root_rule};
-ghost use Rattle.const_oid.specs.Private.Parser.{dot_fault, last_fault};
-ghost use Rattle.const_oid.specs.Text.{text_answer};
+ghost use Rattle.const_oid.specs.Private.Parser.{text_pass, stop_fault, GoesOnBy, IsPiece, IsRoot};
+ghost use Rattle.const_oid.specs.Identifier.{root_rule, max_arc};
+ghost use Rattle.const_oid.specs.Text.{is_empty, text_answer};
 
 use crate::Arc;
 use crate::buffer::Buffer;
-use crate::encoder::Encoder;
+use crate::encoder::max_second;
 use crate::error::{Error, Result};
+use std::result;
 
 /// The encoding of the identifier that a text denotes, in up to `SIZE` octets, and never past 255.
 // erase: const
-pub(crate) fn parse<const SIZE: usize>(text: &str) -> Result<Buffer<SIZE>>
+#[inline(always)]
+pub(crate) fn parse<const SIZE: usize>(text: &[u8]) -> Result<Buffer<SIZE>>
     ensures answer { buffer_answer result ≡ text_answer root_rule text.now (min SIZE 255) }
     ensures encoding { HasEncoding result }
 {
-    // A longer array holds no more octets: an encoder of it could be too large for the memory.
+    // A longer array holds no more octets, and could be too large for the memory.
     if SIZE > 255 {
         return match parse_within::<255>(text) {
             Ok(octets) => Ok(Buffer::copied(octets.as_bytes())),
@@ -32,42 +33,119 @@ pub(crate) fn parse<const SIZE: usize>(text: &str) -> Result<Buffer<SIZE>>
 
 /// The same, where all of the array can be in use.
 // erase: const
-#[tactic(auto, using(crate::proofs::TextPass::text_answer_is, std::proofs::lemmas::List::drop_all))]
 #[inline(always)]
-fn parse_within<const SIZE: usize>(text: &str) -> Result<Buffer<SIZE>>
-    requires { SIZE ≤ 255 }
+fn parse_within<const SIZE: usize>(text: &[u8]) -> Result<Buffer<SIZE>>
     ensures answer { buffer_answer result ≡ text_answer root_rule text.now (min SIZE 255) }
     ensures encoding { HasEncoding result }
 {
-    let bytes = text.as_bytes();
-    let mut encoder = Encoder::new();
-    let mut number: u64 = 0;
-    let mut start = 0;
-    let mut index = 0;
-    while index < bytes.len() {
-        let byte = bytes[index];
-        if let Some(digit) = digit(byte) {
-            number = number * 10 + digit;
-            if number > Arc::MAX as u64 {
-                return Err(Error::ArcTooBig);
-            }
-        } else if byte == b'.' {
-            let piece = given(start < index, number as Arc);
-            if let Err(fault) = end_piece(&mut encoder, piece, index + 1 == bytes.len()) {
-                return Err(fault);
-            }
-            number = 0;
-            start = index + 1;
-        } else {
-            return Err(Error::DigitExpected { actual: byte });
+    let (number, mut end) = match read_root(text) {
+        Ok(root) => root,
+        Err(fault) => return Err(fault),
+    };
+    let mut octets = Buffer::empty();
+    if let Err(fault) = octets.push_group(number) {
+        return Err(or_trailing_dot(fault, text, end));
+    }
+    while end < text.len() {
+        let start = end + 1;
+        let (arc, after) = match read_piece(text, start) {
+            Ok(piece) => piece,
+            Err(index) => return Err(piece_fault(text, start, index)),
+        };
+        if let Err(fault) = octets.push_group(arc as u64) {
+            return Err(or_trailing_dot(fault, text, after));
+        }
+        end = after;
+    }
+    Ok(octets)
+}
+
+/// The subidentifier of the first two arcs, and where the second piece ends.
+// erase: const
+#[inline(always)]
+fn read_root(text: &[u8]) -> Result<(u64, usize)>
+    ensures { MatchResult result (λ root. IsRoot text.now root.0 root.1)
+        (λ fault. (capacity : ℕ) → text_answer root_rule text.now capacity ≡ Err fault) }
+{
+    let (first, end) = match read_piece(text, 0) {
+        Ok(piece) => piece,
+        Err(index) => return Err(piece_fault(text, 0, index)),
+    };
+    if first > 2 {
+        return Err(or_trailing_dot(Error::ArcInvalid { arc: first }, text, end));
+    }
+    if end == text.len() {
+        return Err(Error::Empty);
+    }
+    let start = end + 1;
+    let (second, end) = match read_piece(text, start) {
+        Ok(piece) => piece,
+        Err(index) => return Err(piece_fault(text, start, index)),
+    };
+    if second > max_second(first) {
+        return Err(or_trailing_dot(Error::ArcInvalid { arc: second }, text, end));
+    }
+    Ok((40 * first as u64 + second as u64, end))
+}
+
+/// The number of the piece that starts at an index, and where it ends: at a dot or at the end of the text. `Err` is
+/// where it goes wrong.
+// erase: const
+#[inline(always)]
+fn read_piece(text: &[u8], start: usize) -> result::Result<(Arc, usize), usize>
+    requires { start ≤ length text.now }
+    ensures { MatchResult result (λ piece. IsPiece text.now start piece.0 piece.1)
+        (λ index. (capacity : ℕ) (before : List ℕ) → is_empty before ≡ (start == 0)
+        → text_pass root_rule capacity before false 0 (drop start text.now) ≡ Err (stop_fault text.now start index)) }
+{
+    if start >= text.len() {
+        return Err(start);
+    }
+    let Some(first) = digit(text[start]) else {
+        return Err(start);
+    };
+    let next = start + 1;
+    // The shortest piece is the most frequent one.
+    if next < text.len() && text[next] == b'.' {
+        return Ok((first as Arc, next));
+    }
+    let (number, end) = match read_digits(first, text, next) {
+        Ok(read) => read,
+        Err(index) => return Err(index),
+    };
+    if end < text.len() && text[end] != b'.' {
+        return Err(end);
+    }
+    Ok((number, end))
+}
+
+/// A number that goes on by the digits from an index on, and where these end. `Err` is the digit that makes it too big
+/// for an arc.
+// erase: const
+#[inline(always)]
+fn read_digits(first: u64, text: &[u8], start: usize) -> result::Result<(Arc, usize), usize>
+    requires small { first ≤ max_arc }
+    requires within { start ≤ length text.now }
+    ensures { MatchResult result
+        (λ read. GoesOnBy text.now true first start read.0 read.1
+        × (read.1 < length text.now → is_ascii_digit (get_or text.now read.1 0) ≡ false))
+        (λ index. (index < length text.now) × (is_ascii_digit (get_or text.now index 0) ≡ true)
+        × ((capacity : ℕ) (before : List ℕ)
+        → text_pass root_rule capacity before true first (drop start text.now) ≡ Err Error.ArcTooBig)) }
+{
+    let mut number = first;
+    let mut index = start;
+    while index < text.len() {
+        let Some(digit) = digit(text[index]) else {
+            break;
+        };
+        number = number * 10 + digit;
+        if number > Arc::MAX as u64 {
+            return Err(index);
         }
         index += 1;
     }
-    let piece = given(start < index, number as Arc);
-    if let Err(fault) = end_text(&mut encoder, piece) {
-        return Err(fault);
-    }
-    encoder.finish()
+    Ok((number as Arc, index))
 }
 
 /// The number that a digit denotes.
@@ -80,45 +158,34 @@ const fn digit(byte: u8) -> Option<u64>
     if number < 10 { Some(number) } else { None }
 }
 
-/// The number of a piece, where it has a digit.
-const fn given(begun: bool, number: Arc) -> Option<Arc>
-    ensures { result ≡ then_some begun number }
+/// The fault of the piece that starts at an index and goes wrong at another one.
+#[cold]
+#[inline(never)]
+const fn piece_fault(text: &[u8], start: usize, index: usize) -> Error
+    ensures { result ≡ stop_fault text.now start index }
 {
-    if begun { Some(number) } else { None }
-}
-
-/// Ends a piece at a dot. Where the text ends there, too, an empty piece follows: its fault comes
-/// before one of the arc.
-// erase: const
-#[inline(always)]
-fn end_piece<const SIZE: usize>(
-    encoder: &mut Encoder<SIZE>,
-    number: Option<Arc>,
-    text_ends: bool,
-) -> Result<()>
-    ensures fault { result_err result ≡ dot_fault root_rule (min SIZE 255) encoder.old number text_ends }
-    ensures given { OnOk result (encoder.new ≡ encoder.old ++ unwrap_or number 0 ∷ []) }
-{
-    match number {
-        None if encoder.is_empty() => Err(Error::DigitExpected { actual: b'.' }),
-        None => Err(Error::RepeatedDot),
-        Some(arc) => match encoder.arc(arc) {
-            Err(_) if text_ends => Err(Error::TrailingDot),
-            answer => answer,
-        },
+    if index >= text.len() {
+        return if start == 0 {
+            Error::Empty
+        } else {
+            Error::TrailingDot
+        };
+    }
+    match text[index] {
+        b'0'..=b'9' => Error::ArcTooBig,
+        b'.' if start > 0 => Error::RepeatedDot,
+        actual => Error::DigitExpected { actual },
     }
 }
 
-/// Ends the last piece, and with it the text.
-// erase: const
-#[inline(always)]
-fn end_text<const SIZE: usize>(encoder: &mut Encoder<SIZE>, number: Option<Arc>) -> Result<()>
-    ensures fault { result_err result ≡ last_fault root_rule (min SIZE 255) encoder.old number }
-    ensures given { OnOk result (encoder.new ≡ encoder.old ++ unwrap_or number 0 ∷ []) }
+/// The fault of an arc whose piece ends at an index, or `TrailingDot` where an empty last piece follows.
+const fn or_trailing_dot(fault: Error, text: &[u8], end: usize) -> Error
+    requires { end ≤ length text.now }
+    ensures { result ≡ (if end + 1 == length text.now then Error.TrailingDot else fault) }
 {
-    match number {
-        None if encoder.is_empty() => Err(Error::Empty),
-        None => Err(Error::TrailingDot),
-        Some(arc) => encoder.arc(arc),
+    if end + 1 == text.len() {
+        Error::TrailingDot
+    } else {
+        fault
     }
 }

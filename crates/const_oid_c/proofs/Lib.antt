@@ -2,3 +2,4 @@ pub mod Answers
 pub mod Capacities
 pub mod SkippedArcs
 pub mod Ranges
+pub mod SmallTexts

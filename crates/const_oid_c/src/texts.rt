@@ -5,46 +5,38 @@ ghost use Rattle.const_oid.specs.Identifier.{root_rule};
 ghost use Rattle.const_oid_c.specs.Status.{output_status, output_after};
 ghost use Rattle.const_oid_c.specs.Answers.{octets_of_text, octets_of_arcs, output_of, borrowed_answer, owned_capacity};
 
-use crate::output::write_octets;
-use crate::owned::{MAX_OCTETS, is_too_long};
+use crate::output::{write_bytes, write_octets};
+use crate::owned::MAX_OCTETS;
 use crate::status::{NOT_UTF8, Status, code_status, error_status, len_status, too_short_status};
 use const_oid::{ObjectIdentifier, ObjectIdentifierRef, Oid};
 use std::str;
 
 /// Writes the contents octets of the identifier that dotted text denotes.
-#[tactic(auto, using(crate::proofs::Answers::texts))]
 #[unsafe(no_mangle)]
 pub extern "C" fn const_oid_from_text(text: &[u8], out: &mut [u8]) -> Status
     ensures status { result ≡ output_status (length out.old) (octets_of_text text.now) }
     ensures written { out.new ≡ output_after out.old (octets_of_text text.now) }
 {
-    match str::from_utf8(text) {
-        Ok(text) => write_denoted(text, out),
-        Err(_) => code_status(NOT_UTF8),
-    }
-}
-
-/// Writes the contents octets of the identifier that a text denotes.
-#[tactic(auto, using(crate::proofs::Capacities::same_text))]
-fn write_denoted(text: &str, out: &mut [u8]) -> Status
-    ensures status { result ≡ output_status (length out.old) (octets_of_arcs (text_answer root_rule text.now owned_capacity)) }
-    ensures written { out.new ≡ output_after out.old (octets_of_arcs (text_answer root_rule text.now owned_capacity)) }
-{
     // A small identifier is quicker to make.
-    let small = Oid::new(text);
-    if is_too_long(&small) {
-        return write_large(text, out);
+    match Oid::from_ascii(text) {
+        Ok(oid) => write_bytes(oid.as_bytes(), out),
+        Err(_) => write_other(text, out),
     }
-    write_octets(small, out)
 }
 
-/// Writes the contents octets that a text denotes, where they may be many.
+/// The same, where the text denotes no small identifier.
+#[tactic(auto, using(crate::proofs::Answers::texts))]
+#[cold]
 #[inline(never)]
-fn write_large(text: &str, out: &mut [u8]) -> Status
-    ensures status { result ≡ output_status (length out.old) (octets_of_arcs (text_answer root_rule text.now owned_capacity)) }
-    ensures written { out.new ≡ output_after out.old (octets_of_arcs (text_answer root_rule text.now owned_capacity)) }
+fn write_other(text: &[u8], out: &mut [u8]) -> Status
+    ensures status { result ≡ output_status (length out.old) (octets_of_text text.now) }
+    ensures written { out.new ≡ output_after out.old (octets_of_text text.now) }
 {
-    write_octets(ObjectIdentifier::<MAX_OCTETS>::new_sized(text), out)
+    // The digits and dots of a valid text are ASCII, so only the others can fail to be UTF-8.
+    if str::from_utf8(text).is_err() {
+        return code_status(NOT_UTF8);
+    }
+    write_octets(ObjectIdentifier::<MAX_OCTETS>::from_ascii(text), out)
 }
 
 /// Writes the dotted text of contents octets of any length. No zero byte follows it.

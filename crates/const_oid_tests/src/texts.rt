@@ -1,4 +1,4 @@
-//! Identifiers from dotted text: `new`, `parse` and literals.
+//! Identifiers from dotted text: `new`, `parse`, `from_ascii` and literals.
 
 use crate::vectors::{is_answer, long_text};
 use const_oid::db::Database;
@@ -24,15 +24,35 @@ const REFUSED: &[(&str, Error)] = &[
     ("2.40.4294967296", Error::ArcTooBig),
 ];
 
-/// Whether both calls that read a text have this result for it.
-fn both_read(text: &str, wanted: Result<&[u8], Error>) -> bool {
-    is_answer(Oid::new(text), wanted) && is_answer(text.parse(), wanted)
+/// Whether each call that reads a text has this result for it.
+fn all_read(text: &str, wanted: Result<&[u8], Error>) -> bool {
+    is_answer(Oid::new(text), wanted)
+        && is_answer(text.parse(), wanted)
+        && is_answer(Oid::from_ascii(text.as_bytes()), wanted)
 }
 
 #[test]
 fn refused(rt: HostRuntime) {
     for (text, error) in REFUSED {
-        assert!(rt; both_read(text, Err(*error)), "of {text}");
+        assert!(rt; all_read(text, Err(*error)), "of {text}");
+    }
+}
+
+/// Bytes that are not UTF-8, and the error: a byte past ASCII is no digit.
+const NOT_UTF8: &[(&[u8], Error)] = &[
+    (b"\xFF", Error::DigitExpected { actual: 0xFF }),
+    (b"1.2\x80.3", Error::DigitExpected { actual: 0x80 }),
+    (b"1.2.\xE2\x82", Error::DigitExpected { actual: 0xE2 }),
+    (b"3\xC3", Error::DigitExpected { actual: 0xC3 }),
+    (b"1..\xFF", Error::RepeatedDot),
+    (b"3.1.\xFF", Error::ArcInvalid { arc: 3 }),
+    (b"1.2.4294967296\xFF", Error::ArcTooBig),
+];
+
+#[test]
+fn not_utf8(rt: HostRuntime) {
+    for (text, error) in NOT_UTF8 {
+        assert!(rt; Oid::from_ascii(text) == Err(*error), "of {text:?}");
     }
 }
 
@@ -92,7 +112,7 @@ fn reads_zeros(
 ) -> Result<bool, AllocError> {
     let text = long_text(alloc, prefix, 100_000, "0", end)?;
     let text = text.as_str();
-    Ok(both_read(text, wanted) && is_left(&Database::new(&[]), text, wanted.err()))
+    Ok(all_read(text, wanted) && is_left(&Database::new(&[]), text, wanted.err()))
 }
 
 #[test]

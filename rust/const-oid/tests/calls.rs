@@ -14,7 +14,7 @@ const MISSING: [(&str, &str); 5] = [
 const ONE_FORM: &str = "in C an identifier is its octets";
 
 /// Modules, or calls, and the call for C with the same result, or why there is none.
-const IN_C: [(&str, &str); 29] = [
+const IN_C: [(&str, &str); 30] = [
     ("buffer", ONE_FORM),
     ("db", "a table in C is the caller's"),
     ("db_ref", "a table in C is the caller's"),
@@ -32,6 +32,7 @@ const IN_C: [(&str, &str); 29] = [
     ("eq_oid", "const_oid_eq"),
     ("from_arcs", "const_oid_from_arcs"),
     ("from_arcs_sized", "const_oid_from_arcs"),
+    ("from_ascii", "const_oid_from_text"),
     ("from_bytes", "const_oid_check"),
     ("from_bytes_sized", "const_oid_check"),
     ("len", "const_oid_len"),

@@ -2,8 +2,8 @@
 
 //! Dotted text.
 
-use crate::calls::output::write_octets;
-use crate::calls::owned::{MAX_OCTETS, is_too_long};
+use crate::calls::output::{write_bytes, write_octets};
+use crate::calls::owned::MAX_OCTETS;
 use crate::calls::status::{
     NOT_UTF8, Status, code_status, error_status, len_status, too_short_status,
 };
@@ -12,26 +12,22 @@ use core::str;
 
 /// Writes the contents octets of the identifier that dotted text denotes.
 pub fn const_oid_from_text(text: &[u8], out: &mut crate::edge::Output<u8>) -> Status {
-    match str::from_utf8(text) {
-        Ok(text) => write_denoted(text, out),
-        Err(_) => code_status(NOT_UTF8),
-    }
-}
-
-/// Writes the contents octets of the identifier that a text denotes.
-fn write_denoted(text: &str, out: &mut crate::edge::Output<u8>) -> Status {
     // A small identifier is quicker to make.
-    let small = Oid::new(text);
-    if is_too_long(&small) {
-        return write_large(text, out);
+    match Oid::from_ascii(text) {
+        Ok(oid) => write_bytes(oid.as_bytes(), out),
+        Err(_) => write_other(text, out),
     }
-    write_octets(small, out)
 }
 
-/// Writes the contents octets that a text denotes, where they may be many.
+/// The same, where the text denotes no small identifier.
+#[cold]
 #[inline(never)]
-fn write_large(text: &str, out: &mut crate::edge::Output<u8>) -> Status {
-    write_octets(ObjectIdentifier::<MAX_OCTETS>::new_sized(text), out)
+fn write_other(text: &[u8], out: &mut crate::edge::Output<u8>) -> Status {
+    // The digits and dots of a valid text are ASCII, so only the others can fail to be UTF-8.
+    if str::from_utf8(text).is_err() {
+        return code_status(NOT_UTF8);
+    }
+    write_octets(ObjectIdentifier::<MAX_OCTETS>::from_ascii(text), out)
 }
 
 /// Writes the dotted text of contents octets of any length. No zero byte follows it.

@@ -43,10 +43,12 @@ impl<const SIZE: usize> Buffer<SIZE> {
     #[inline(always)]
     pub(crate) const fn push_group(&mut self, number: u64) -> Result<()> {
         // The shortest group is the most frequent one.
-        if number < 128 {
-            self.push_number_of_len(number, 1)
-        } else {
-            self.push_number_of_len(number, group_len(number))
+        match group_len(number) {
+            1 => self.push_number_of_len(number, 1),
+            2 => self.push_number_of_len(number, 2),
+            3 => self.push_number_of_len(number, 3),
+            4 => self.push_number_of_len(number, 4),
+            longer => self.push_number_of_len(number, longer),
         }
     }
 

@@ -22,11 +22,6 @@ impl<const SIZE: usize> Encoder<SIZE> {
         }
     }
 
-    /// Whether no arc was given.
-    pub(crate) const fn is_empty(&self) -> bool {
-        self.first.is_none()
-    }
-
     /// Encodes one more arc.
     #[inline(always)]
     pub(crate) const fn arc(&mut self, arc: Arc) -> Result<()> {
@@ -80,6 +75,7 @@ fn encode_within<const SIZE: usize, I: IntoIterator<Item = Arc>>(arcs: I) -> Res
 }
 
 /// The greatest second arc under a first arc (X.660): 39 under 0 and 1, any of 32 bits under 2.
-const fn max_second(first: Arc) -> Arc {
+#[inline(always)]
+pub(crate) const fn max_second(first: Arc) -> Arc {
     if first < 2 { 39 } else { Arc::MAX }
 }

@@ -126,7 +126,15 @@ impl<const MAX_SIZE: usize> ObjectIdentifier<MAX_SIZE> {
     /// Those of [`new`](Self::new), with [`Error::Length`] if the arcs take more octets than fit.
     #[doc = include_str!("../examples/ObjectIdentifier.new_sized.md")]
     pub const fn new_sized(s: &str) -> Result<Self> {
-        match parse(s) {
+        Self::from_ascii(s.as_bytes())
+    }
+
+    /// Parses dotted text in ASCII as [`new_sized`](Self::new_sized) does. The bytes need not be UTF-8: one past ASCII
+    /// is no digit.
+    #[inline(always)]
+    #[doc = include_str!("../examples/ObjectIdentifier.from_ascii.md")]
+    pub const fn from_ascii(text: &[u8]) -> Result<Self> {
+        match parse(text) {
             Ok(ber) => Ok(ObjectIdentifier { ber }),
             Err(fault) => Err(fault),
         }

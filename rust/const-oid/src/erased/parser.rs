@@ -4,12 +4,14 @@
 
 use crate::erased::Arc;
 use crate::erased::buffer::Buffer;
-use crate::erased::encoder::Encoder;
+use crate::erased::encoder::max_second;
 use crate::erased::error::{Error, Result};
+use core::result;
 
 /// The encoding of the identifier that a text denotes, in up to `SIZE` octets, and never past 255.
-pub(crate) const fn parse<const SIZE: usize>(text: &str) -> Result<Buffer<SIZE>> {
-    // A longer array holds no more octets: an encoder of it could be too large for the memory.
+#[inline(always)]
+pub(crate) const fn parse<const SIZE: usize>(text: &[u8]) -> Result<Buffer<SIZE>> {
+    // A longer array holds no more octets, and could be too large for the memory.
     if SIZE > 255 {
         return match parse_within::<255>(text) {
             Ok(octets) => Ok(Buffer::copied(octets.as_bytes())),
@@ -21,36 +23,99 @@ pub(crate) const fn parse<const SIZE: usize>(text: &str) -> Result<Buffer<SIZE>>
 
 /// The same, where all of the array can be in use.
 #[inline(always)]
-const fn parse_within<const SIZE: usize>(text: &str) -> Result<Buffer<SIZE>> {
-    let bytes = text.as_bytes();
-    let mut encoder = Encoder::new();
-    let mut number: u64 = 0;
-    let mut start = 0;
-    let mut index = 0;
-    while index < bytes.len() {
-        let byte = bytes[index];
-        if let Some(digit) = digit(byte) {
-            number = number * 10 + digit;
-            if number > Arc::MAX as u64 {
-                return Err(Error::ArcTooBig);
-            }
-        } else if byte == b'.' {
-            let piece = given(start < index, number as Arc);
-            if let Err(fault) = end_piece(&mut encoder, piece, index + 1 == bytes.len()) {
-                return Err(fault);
-            }
-            number = 0;
-            start = index + 1;
-        } else {
-            return Err(Error::DigitExpected { actual: byte });
+const fn parse_within<const SIZE: usize>(text: &[u8]) -> Result<Buffer<SIZE>> {
+    let (number, mut end) = match read_root(text) {
+        Ok(root) => root,
+        Err(fault) => return Err(fault),
+    };
+    let mut octets = Buffer::empty();
+    if let Err(fault) = octets.push_group(number) {
+        return Err(or_trailing_dot(fault, text, end));
+    }
+    while end < text.len() {
+        let start = end + 1;
+        let (arc, after) = match read_piece(text, start) {
+            Ok(piece) => piece,
+            Err(index) => return Err(piece_fault(text, start, index)),
+        };
+        if let Err(fault) = octets.push_group(arc as u64) {
+            return Err(or_trailing_dot(fault, text, after));
+        }
+        end = after;
+    }
+    Ok(octets)
+}
+
+/// The subidentifier of the first two arcs, and where the second piece ends.
+#[inline(always)]
+const fn read_root(text: &[u8]) -> Result<(u64, usize)> {
+    let (first, end) = match read_piece(text, 0) {
+        Ok(piece) => piece,
+        Err(index) => return Err(piece_fault(text, 0, index)),
+    };
+    if first > 2 {
+        return Err(or_trailing_dot(Error::ArcInvalid { arc: first }, text, end));
+    }
+    if end == text.len() {
+        return Err(Error::Empty);
+    }
+    let start = end + 1;
+    let (second, end) = match read_piece(text, start) {
+        Ok(piece) => piece,
+        Err(index) => return Err(piece_fault(text, start, index)),
+    };
+    if second > max_second(first) {
+        return Err(or_trailing_dot(
+            Error::ArcInvalid { arc: second },
+            text,
+            end,
+        ));
+    }
+    Ok((40 * first as u64 + second as u64, end))
+}
+
+/// The number of the piece that starts at an index, and where it ends: at a dot or at the end of the text. `Err` is
+/// where it goes wrong.
+#[inline(always)]
+const fn read_piece(text: &[u8], start: usize) -> result::Result<(Arc, usize), usize> {
+    if start >= text.len() {
+        return Err(start);
+    }
+    let Some(first) = digit(text[start]) else {
+        return Err(start);
+    };
+    let next = start + 1;
+    // The shortest piece is the most frequent one.
+    if next < text.len() && text[next] == b'.' {
+        return Ok((first as Arc, next));
+    }
+    let (number, end) = match read_digits(first, text, next) {
+        Ok(read) => read,
+        Err(index) => return Err(index),
+    };
+    if end < text.len() && text[end] != b'.' {
+        return Err(end);
+    }
+    Ok((number, end))
+}
+
+/// A number that goes on by the digits from an index on, and where these end. `Err` is the digit that makes it too big
+/// for an arc.
+#[inline(always)]
+const fn read_digits(first: u64, text: &[u8], start: usize) -> result::Result<(Arc, usize), usize> {
+    let mut number = first;
+    let mut index = start;
+    while index < text.len() {
+        let Some(digit) = digit(text[index]) else {
+            break;
+        };
+        number = number * 10 + digit;
+        if number > Arc::MAX as u64 {
+            return Err(index);
         }
         index += 1;
     }
-    let piece = given(start < index, number as Arc);
-    if let Err(fault) = end_text(&mut encoder, piece) {
-        return Err(fault);
-    }
-    encoder.finish()
+    Ok((number as Arc, index))
 }
 
 /// The number that a digit denotes.
@@ -61,38 +126,29 @@ const fn digit(byte: u8) -> Option<u64> {
     if number < 10 { Some(number) } else { None }
 }
 
-/// The number of a piece, where it has a digit.
-const fn given(begun: bool, number: Arc) -> Option<Arc> {
-    if begun { Some(number) } else { None }
-}
-
-/// Ends a piece at a dot. Where the text ends there, too, an empty piece follows: its fault comes
-/// before one of the arc.
-#[inline(always)]
-const fn end_piece<const SIZE: usize>(
-    encoder: &mut Encoder<SIZE>,
-    number: Option<Arc>,
-    text_ends: bool,
-) -> Result<()> {
-    match number {
-        None if encoder.is_empty() => Err(Error::DigitExpected { actual: b'.' }),
-        None => Err(Error::RepeatedDot),
-        Some(arc) => match encoder.arc(arc) {
-            Err(_) if text_ends => Err(Error::TrailingDot),
-            answer => answer,
-        },
+/// The fault of the piece that starts at an index and goes wrong at another one.
+#[cold]
+#[inline(never)]
+const fn piece_fault(text: &[u8], start: usize, index: usize) -> Error {
+    if index >= text.len() {
+        return if start == 0 {
+            Error::Empty
+        } else {
+            Error::TrailingDot
+        };
+    }
+    match text[index] {
+        b'0'..=b'9' => Error::ArcTooBig,
+        b'.' if start > 0 => Error::RepeatedDot,
+        actual => Error::DigitExpected { actual },
     }
 }
 
-/// Ends the last piece, and with it the text.
-#[inline(always)]
-const fn end_text<const SIZE: usize>(
-    encoder: &mut Encoder<SIZE>,
-    number: Option<Arc>,
-) -> Result<()> {
-    match number {
-        None if encoder.is_empty() => Err(Error::Empty),
-        None => Err(Error::TrailingDot),
-        Some(arc) => encoder.arc(arc),
+/// The fault of an arc whose piece ends at an index, or `TrailingDot` where an empty last piece follows.
+const fn or_trailing_dot(fault: Error, text: &[u8], end: usize) -> Error {
+    if end + 1 == text.len() {
+        Error::TrailingDot
+    } else {
+        fault
     }
 }

@@ -1,16 +1,35 @@
-use Rattle.std.proofs.Common.{◌∙◌}
-use Rattle.std.proofs.lemmas.{List.drop_all, Result.IfOk-weaker}
-use Rattle.const_oid.specs.Buffer.{octets_of}
-use Rattle.const_oid.proofs.{Encodings.encoding_back, TextPass.encoded_answer}
+use Rattle.std.proofs.Common.{Ok, Err, sym, ap, ◌∙◌, min}
+use Rattle.const_oid.specs.{Buffer.octets_of}
+use Rattle.const_oid.proofs.TextPass.{root_becomes, later_becomes}
 use Rattle.const_oid.proofs.parser.parse_within.Goals as goal
 
-pub returns-clause-encoding : goal.returns-clause-encoding
-returns-clause-encoding g c = IfOk-weaker c.finish.result _ _ (λ octets e. encoding_back e) c.finish.ensures.encoding
+pub returns-in-Err-push_group-clause-answer : goal.returns-in-Err-push_group-clause-answer
+returns-in-Err-push_group-clause-answer g c =
+    ap Err c.or_trailing_dot.ensures
+    ∙ sym (root_becomes (min g.row.SIZE 255) c.args.text.now (octets_of c.push_group.new.self) c.in-Ok.root.0 c.in-Ok.root.1
+    (Err c.in-Err-push_group.fault) c.in-Ok.ensures (rw c.empty-octets.ensures at c.in-Err-push_group.ensures))
 
-pub returns-clause-answer : goal.returns-clause-answer
-returns-clause-answer g c =
-    let none = drop_all c.loop-index.index c.as_bytes-bytes.result.now c.loop-index-test.false in
-    let given = c.in_default-end_text.ensures.given in
-    let finish = c.finish.ensures in
-    encoded_answer octets_of _ _ c.finish.result (rw given at finish.fault) (rw given at finish.encoding)
-    ∙ rw (none, ← c.given-piece-2.ensures, ← c.in_default-end_text.ensures.fault) at c.loop-index.invariant.pass
+pub loop-end-init : goal.loop-end-init
+loop-end-init g c = record {
+  read = root_becomes (min g.row.SIZE 255) c.args.text.now (octets_of c.push_group.new.self) c.in-Ok.root.0 c.in-Ok.root.1
+      (Ok c.in_default.field-0) c.in-Ok.ensures (rw c.empty-octets.ensures at c.in_default.ensures);
+  within = c.in-Ok.ensures.within;
+}
+
+pub returns-in-Err-push_group-2-clause-answer : goal.returns-in-Err-push_group-2-clause-answer
+returns-in-Err-push_group-2-clause-answer g c =
+    let l = c.loop-end in
+    let piece = c.in-Ok-read_piece.piece in
+    ap Err c.or_trailing_dot-in-Err-push_group-2.ensures
+    ∙ sym (later_becomes (min g.row.SIZE 255) c.args.text.now (octets_of l.octets) (octets_of c.push_group-in-loop-end.new.self) piece.0 l.end piece.1
+    (Err c.in-Err-push_group-2.fault) l.invariant.read c.loop-end-test.true c.in-Ok-read_piece.ensures c.in-Err-push_group-2.ensures)
+
+pub loop-end-preserved : goal.loop-end-preserved
+loop-end-preserved g c =
+    let l = c.loop-end in
+    let piece = c.in-Ok-read_piece.piece in
+    record {
+      read = later_becomes (min g.row.SIZE 255) c.args.text.now (octets_of l.octets) (octets_of c.push_group-in-loop-end.new.self) piece.0 l.end piece.1
+          (Ok c.in_default-push_group.field-0) l.invariant.read c.loop-end-test.true c.in-Ok-read_piece.ensures c.in_default-push_group.ensures;
+      within = c.in-Ok-read_piece.ensures.within;
+    }

@@ -1,0 +1,32 @@
+-- A text that denotes arcs is ASCII.
+use Rattle.std.proofs.Common.{◌≡◌, ℕ, ◌<◌, true, List, [], ◌∷◌, All, Ok, arith, sym}
+use Rattle.std.specs.{List.{AllByRecursion, join_with_byte}, Str.{IsAscii, all_ascii_digits, is_utf8}}
+use Rattle.std.proofs.lemmas.{List.Elements.{All-nil, All-cons}, Str.{IsAscii-append, Ascii.{IsAscii-from_all, IsAscii-nil}}}
+use Rattle.std.proofs.lemmas.{Str.{IsUtf8-from_ascii, is_utf8-from_IsUtf8}, Grind.common_steps, Bool.Decides.nat_tests}
+use Rattle.std.proofs.lemmas.List.Splits.{join_with_byte-slice_split}
+use Rattle.const_oid.specs.{Identifier.RootRule, Text.{IsNumber, pieces_of, text_answer}}
+use Rattle.const_oid.proofs.Texts.{denoted_from_answer}
+
+low_digits : (piece : List ℕ) → all_ascii_digits piece ≡ true → All (λ b. b < 128) piece
+low_digits [] h = All-nil (λ b. b < 128)
+low_digits (b ∷ bs) h = grind (arith, nat_tests, common_steps, All-cons (λ b. b < 128), low_digits bs)
+
+digits_ascii : (piece : List ℕ) → all_ascii_digits piece ≡ true → IsAscii piece
+digits_ascii piece h = IsAscii-from_all piece (low_digits piece h)
+
+dot_ascii : IsAscii (46 ∷ [])
+dot_ascii = IsAscii-from_all (46 ∷ []) (grind (arith, nat_tests, common_steps, All-cons (λ b. b < 128), All-nil (λ b. b < 128)))
+
+numbers_ascii : (pieces : List (List ℕ)) → AllByRecursion IsNumber pieces → IsAscii (join_with_byte 46 pieces)
+numbers_ascii [] h = IsAscii-nil
+numbers_ascii (piece ∷ []) h = digits_ascii piece h.0.1
+numbers_ascii (piece ∷ next ∷ more) h =
+    IsAscii-append piece _ (digits_ascii piece h.0.1) (IsAscii-append (46 ∷ []) _ dot_ascii (numbers_ascii (next ∷ more) h.1))
+
+-- so it is UTF-8
+pub answer_utf8 : (rule : RootRule) (capacity : ℕ) (text arcs : List ℕ) → text_answer rule text capacity ≡ Ok arcs
+    → is_utf8 text ≡ true
+answer_utf8 rule capacity text arcs e =
+    let numbers = (denoted_from_answer rule capacity text arcs (sym e)).numbers in
+    let ascii = rw (join_with_byte-slice_split 46 text) at (numbers_ascii (pieces_of text) numbers) in
+    is_utf8-from_IsUtf8 text (IsUtf8-from_ascii text ascii)
