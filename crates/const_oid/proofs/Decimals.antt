@@ -1,10 +1,11 @@
 -- The digits of a number.
-use Rattle.std.proofs.Common.{◌≡◌, Bool, true, false, ℕ, zero, suc, ◌+◌, ◌-◌, ◌/◌, ◌^◌, ◌<◌, ◌≤◌, List, ◌++◌, length}
-use Rattle.std.proofs.Common.{drop, ap, ◌∙◌, ◌%◌, arith, decimal, nat_lt, if◌then◌else◌, length-append, pow-suc}
+use Rattle.std.proofs.Common.{◌≡◌, Bool, true, false, ℕ, zero, suc, ◌+◌, ◌-◌, ◌/◌, ◌^◌, ◌<◌, ◌≤◌, List, ◌∷◌, ◌++◌, length}
+use Rattle.std.proofs.Common.{drop, ap, append_assoc, ◌∙◌, ◌%◌, arith, decimal, nat_lt, if◌then◌else◌, length-append, pow-suc}
 use Rattle.std.specs.Str.{IsAscii}
 use Rattle.std.proofs.lemmas.{Grind.common_steps, Bool.Decides.nat_tests, List.{drop-drop, drop-set-lt, take_more_set}}
-use Rattle.std.proofs.lemmas.{Fmt.{decimal_digit, decimal_step, length-decimal-le, IsAscii-decimal}, Slice.drop-put_mid}
-use Rattle.const_oid.specs.Private.Text.{arc_text, pair_text}
+use Rattle.std.proofs.lemmas.{Fmt.{decimal_digit, decimal_step, length-decimal-le, IsAscii-decimal}}
+use Rattle.const_oid.specs.Private.Text.{arc_text, pair_text, four_text}
+use Rattle.const_oid.proofs.Lists.{append-cons}
 
 pub length_digit : (n : ℕ) → n < 10 → length (decimal n) ≡ 1
 length_digit n h = ap length (decimal_digit n h)
@@ -36,14 +37,32 @@ decimal_lengths n h =
     let is = λ (k : ℕ). length_between k n in
     grind (arith, nat_tests, length_digit n, is 1, is 2, is 3, is 4, is 5, is 6, is 7, is 8, is 9)
 
--- one digit put into bytes, or several
-pub ruleset digits_put = (length_digit, decimal_digit, take_more_set, drop-set-lt, drop-put_mid)
+-- one digit put into bytes
+pub ruleset digit_put = (take_more_set, drop-set-lt)
 
 pub decimal_two : (n : ℕ) → 10 ≤ n → n < 100 → decimal n ≡ pair_text n
 decimal_two n low high = grind (arith, nat_tests, decimal_digit, decimal_step)
 
 pub decimal_pair : (n : ℕ) → 100 ≤ n → n < 2 ^ 64 → decimal n ≡ decimal (n / 100) ++ pair_text (n % 100)
 decimal_pair n low high = grind (arith, common_steps, decimal_step)
+
+pub decimal_three : (n : ℕ) → 100 ≤ n → n < 1000 → decimal n ≡ (48 + n / 100) ∷ pair_text (n % 100)
+decimal_three n low high = grind (arith, decimal_digit, decimal_pair)
+
+pub decimal_four : (n : ℕ) → 1000 ≤ n → n < 10000 → decimal n ≡ four_text n
+decimal_four n low high = grind (arith, decimal_two, decimal_pair)
+
+pub decimal_many : (n : ℕ) → 10000 ≤ n → n < 2 ^ 64 → decimal n ≡ decimal (n / 10000) ++ four_text (n % 10000)
+decimal_many n low high =
+    let p : n / 100 / 100 ≡ n / 10000 = omega arith in
+    let q : n / 100 % 100 ≡ n % 10000 / 100 = omega arith in
+    let r : n % 100 ≡ n % 10000 % 100 = omega arith in
+    let first = decimal_pair n (omega arith) high in
+    let second = rw (p, q) at (decimal_pair (n / 100) (omega arith) (omega arith)) in
+    rw (second, append_assoc, r) at first
+
+pub length_many : (n : ℕ) → 10000 ≤ n → n < 2 ^ 64 → length (decimal n) ≡ length (decimal (n / 10000)) + 4
+length_many n low high = ap length (decimal_many n low high) ∙ length-append _ _
 
 pub length_pair : (n : ℕ) → 100 ≤ n → n < 2 ^ 64 → length (decimal n) ≡ length (decimal (n / 100)) + 2
 length_pair n low high = ap length (decimal_pair n low high) ∙ length-append _ _
@@ -59,3 +78,9 @@ arc_text_ascii is_first arc h = grind (arith, nat_tests, IsAscii-decimal)
 
 pub drop_more : (n m : ℕ) (xs ys : List ℕ) → n ≤ m → drop n xs ≡ drop n ys → drop m xs ≡ drop m ys
 drop_more n m xs ys h e = let f : n + (m - n) ≡ m = omega arith in rw (drop-drop, drop-drop, f) at (ap (drop (m - n)) e)
+
+-- up to four digits
+pub ruleset few_digits = (decimal_digit, decimal_two, decimal_three, decimal_four, drop_more, append-cons)
+
+-- five digits or more
+pub ruleset many_digits = (decimal_many, length_many, drop_more, append_assoc)

@@ -4,11 +4,11 @@ use Rattle.std.proofs.Common.{◌∷◌, ◌++◌, length, map, take, drop, get_
 use Rattle.std.proofs.Common.{length-append}
 use Rattle.std.specs.List.{AllByRecursion, onto_first}
 use Rattle.std.proofs.Math.Nat.{one-le-pow, le-mul_of_pos_right}
-use Rattle.std.proofs.lemmas.{List.take_all, Nat.pow-add, Bool.Decides.nat_tests}
-use Rattle.const_oid.specs.{declared.error.Error.TheVariants.{ArcTooBig, Base128}, Base128.value_of}
+use Rattle.std.proofs.lemmas.{Grind.common_steps, Nat.pow-add, Bool.Decides.nat_tests}
+use Rattle.const_oid.specs.{declared.error.Error.TheVariants.{ArcTooBig, Base128}, Base128.{value_of, width}}
 use Rattle.const_oid.specs.{Identifier.{root_rule, max_arc}, Contents.{cut, later_fault, parts_fault, max_first}}
-use Rattle.const_oid.specs.{Private.Octets.fault_from, Private.Groups.IsLong}
-use Rattle.const_oid.proofs.{Lists.append-cons, Cutting.{cut_after-more, cut-some}}
+use Rattle.const_oid.specs.{Private.Octets.fault_from, Private.Groups.{IsLong, IsFaulty}}
+use Rattle.const_oid.proofs.{Lists.append-cons, Groups.width_is, Cutting.{cut_after-more, cut-some}}
 
 -- from the start of a later part
 pub parts_from_later : (octets : List ℕ) → octets ≢ [] → later_fault (cut octets) ≡ None
@@ -98,10 +98,56 @@ four_open limit (a ∷ b ∷ c ∷ []) some four long small = grind (arith, nat_
 four_open limit (a ∷ b ∷ c ∷ d ∷ []) some four long small = grind (arith, nat_tests)
 four_open limit (a ∷ b ∷ c ∷ d ∷ e ∷ xs) some four long small = absurd (omega arith)
 
--- the fault of a long group
-pub ruleset long_faults = (five_big, six_big, five_last, five_open, four_open, take_all)
+module _ (limit : ℕ) (octets : List ℕ) (first : slice_index octets 0 ≢ 128) (faulty : IsFaulty limit octets) where
+  pub few_fault : 0 < length octets → length octets < 5 → max_arc ≤ limit → fault_from limit (cut octets) ≡ Some Base128
+  few_fault some four small = let (long, last) = faulty first in four_open limit octets some four long small
+
+  pub big_fault : 5 ≤ length octets → limit < value_of (take 5 octets) → fault_from limit (cut octets) ≡ Some ArcTooBig
+  big_fault five big = let (long, last) = faulty first in five_big limit octets five long big
+
+  last_more : 5 ≤ length octets → value_of (take 5 octets) ≤ limit → 128 ≤ slice_index octets 4
+  last_more five small = let (long, last) = faulty first in grind (arith, last five)
+
+  pub more_fault : 5 < length octets → value_of (take 5 octets) ≤ limit → limit ≤ max_first root_rule
+      → fault_from limit (cut octets) ≡ Some ArcTooBig
+  more_fault six below small =
+      let (long, last) = faulty first in six_big limit octets six long (last_more (omega arith) below) small
+
+  pub open_fault : length octets ≡ 5 → value_of (take 5 octets) ≤ limit → fault_from limit (cut octets) ≡ Some Base128
+  open_fault five small =
+      let (long, last) = faulty first in five_open limit octets five long (last_more (omega arith) small) small
+
+-- the fault of a group that has one
+pub ruleset group_faults = (few_fault, big_fault)
 
 -- ---- a first group without a fault
+
+-- so many octets are enough
+width_most : (k n : ℕ) → 1 ≤ k → n < 128 ^ k → width n ≤ k
+width_most k n some below = (width_is n).least k some below
+
+pub width_one : (n : ℕ) → n < 128 → width n ≤ 1
+width_one n below = width_most 1 n (omega arith) (omega arith)
+
+pub width_two : (n : ℕ) → n < 16384 → width n ≤ 2
+width_two n below = width_most 2 n (omega arith) (omega arith)
+
+pub width_three : (n : ℕ) → n < 2097152 → width n ≤ 3
+width_three n below = width_most 3 n (omega arith) (omega arith)
+
+pub width_four : (n : ℕ) → n < 268435456 → width n ≤ 4
+width_four n below = width_most 4 n (omega arith) (omega arith)
+
+pub width_five : (n : ℕ) → n < 34359738368 → width n ≤ 5
+width_five n below = width_most 5 n (omega arith) (omega arith)
+
+pub five_numbers : (octets : List ℕ) → 5 ≤ length octets → IsLong octets → get_or octets 4 0 < 128
+    → map value_of (cut octets) ≡ value_of (take 5 octets) ∷ map value_of (cut (drop 5 octets))
+five_numbers (a ∷ b ∷ c ∷ d ∷ e ∷ xs) five long last = grind (arith, nat_tests)
+five_numbers _ five long last = absurd (omega arith)
+
+pub ruleset groups_read =
+    (common_steps, width_one, width_two, width_three, width_four, width_five, five_numbers, five_last)
 
 pub first_valid : (octets : List ℕ) → parts_fault root_rule (cut octets) ≡ None → slice_index octets 0 ≢ 128
 first_valid [] valid = absurd (cc)
@@ -117,9 +163,4 @@ five_read octets some long valid =
     let five : 5 ≤ length octets = grind (arith, four_open) in
     let small : value_of (take 5 octets) ≤ max_first root_rule = grind (arith, five_big) in
     let last : get_or octets 4 0 < 128 = grind (arith, five_open, six_big) in
-    (five, small, grind (arith, five_last), by octets five long last)
-  where
-    by : (octets : List ℕ) → 5 ≤ length octets → IsLong octets → get_or octets 4 0 < 128
-        → map value_of (cut octets) ≡ value_of (take 5 octets) ∷ map value_of (cut (drop 5 octets))
-    by (a ∷ b ∷ c ∷ d ∷ e ∷ xs) five long last = grind (arith, nat_tests)
-    by _ five long last = absurd (omega arith)
+    (five, small, grind (arith, five_last), five_numbers octets five long last)

@@ -1,10 +1,15 @@
 -- The length of printed text: four bytes an octet at most.
-use Rattle.std.proofs.Common.{◌≡◌, ℕ, ◌+◌, ◌*◌, ◌^◌, ◌<◌, ◌≤◌, List, [], ◌∷◌, length, arith, decimal, sum_by}
+use Rattle.std.proofs.Common.{◌≡◌, ℕ, ◌+◌, ◌*◌, ◌^◌, ◌<◌, ◌≤◌, true, false, List, [], ◌∷◌, ◌++◌, length, arith, decimal}
+use Rattle.std.proofs.Common.{sum_by, take, ap, sym, ◌∙◌, append_assoc, append-nil}
 use Rattle.std.specs.List.{AllByRecursion}
-use Rattle.std.proofs.Math.Nat.{pow-le-pow_right}
-use Rattle.std.proofs.lemmas.{Grind.common_steps, Bool.Decides.nat_tests, Fmt.length-decimal-le}
+use Rattle.std.proofs.Math.{Nat.pow-le-pow_right, Seq.take-append-add}
+use Rattle.std.proofs.lemmas.{Grind.common_steps, Bool.Decides.nat_tests, Fmt.{length-decimal-le, decimal_digit}}
+use Rattle.std.proofs.lemmas.List.{take-append-le, length-take-le}
+use borrow.Rule.Slice.PartMut.{put_mid, post_of}
 use Rattle.const_oid.specs.{Base128.width, Identifier.{RootRule, max_arc, max_second, IsEncoding}, Text.text_of}
-use Rattle.const_oid.proofs.{Subidentifiers.second_low, Groups.width_is, Texts.second_small, Lengths.length_is_size}
+use Rattle.const_oid.specs.Private.Text.{arc_text, text_left}
+use Rattle.const_oid.proofs.{Subidentifiers.second_low, Groups.width_is, Lengths.length_is_size}
+use Rattle.const_oid.proofs.{PartsFault.parts_at, Texts.{second_small, text_left-cons, text_left-nil}}
 
 -- a number past a power is wider than its exponent
 wider : (n k : ℕ) → 128 ^ k ≤ n → k < width n
@@ -17,7 +22,7 @@ long_printed arc n small below two =
     grind (arith, digits 5 arc, digits 7 arc, digits 10 arc, wider n 1, wider n 2, wider n 3)
 
 -- a later arc, with its dot
-arc_printed : (n : ℕ) → n ≤ max_arc → length (decimal n) + 1 ≤ 4 * width n
+pub arc_printed : (n : ℕ) → n ≤ max_arc → length (decimal n) + 1 ≤ 4 * width n
 arc_printed n h = grind (arith, nat_tests, long_printed, length-decimal-le)
 
 later_printed : (later : List ℕ) → AllByRecursion (λ n. n ≤ max_arc) later
@@ -26,7 +31,7 @@ later_printed [] l = omega arith
 later_printed (n ∷ ns) l = grind (arith, common_steps, arc_printed, later_printed ns l.1)
 
 -- the first two arcs, with their dot
-root_printed : (rule : RootRule) (a b : ℕ) → a ≤ 2 → b ≤ max_second rule a
+pub root_printed : (rule : RootRule) (a b : ℕ) → a ≤ 2 → b ≤ max_second rule a
     → length (decimal a) + (length (decimal b) + 1) ≤ 4 * width (40 * a + b)
 root_printed rule a b p q =
     let n = 40 * a + b in
@@ -45,3 +50,22 @@ printed_short rule (a ∷ []) octets e = absurd e.identifier
 printed_short rule (a ∷ b ∷ later) octets e =
     let i = e.identifier in
     grind (arith, common_steps, length-text, root_printed rule a b i.0 i.1, later_printed later i.2, length_is_size e)
+
+-- ---- text as it is written
+
+-- bytes at the start of a part
+pub part_written : (at n k : ℕ) (xs ys piece : List ℕ) → at ≤ length xs → n ≤ length ys → take n ys ≡ piece
+    → take (at + n) (put_mid at k xs ys) ≡ take at xs ++ piece
+part_written at n k xs ys piece inside fits is =
+    rw (length-take-le at xs inside, take-append-le n ys (post_of at k xs) fits, is)
+    at (take-append-add (take at xs) (ys ++ post_of at k xs) n)
+
+-- the first two arcs
+pub two_texts : (first second : ℕ) (later : List ℕ) → first < 10
+    → ((48 + first) ∷ arc_text false second) ++ text_left false later ≡ text_of (first ∷ second ∷ later)
+two_texts first second later small =
+    let rest = ap (λ l. (48 + first) ∷ l) (text_left-cons false second later) in
+    sym (text_left-cons true first (second ∷ later) ∙ rw (decimal_digit first small) rest)
+
+-- a pass over octets
+pub ruleset printed_pass = (arc_printed, parts_at, text_left-cons, text_left-nil, append_assoc, append-nil)

@@ -4,7 +4,7 @@ ghost use Rattle.std.specs.Result.{result_err};
 ghost use Rattle.std.specs.Iterator.{YieldsFirst, item_count};
 ghost use Rattle.const_oid.specs.Base128.{value_of};
 ghost use Rattle.const_oid.specs.Private.Groups.{IsFirst, IsLong};
-ghost use Rattle.const_oid.specs.Identifier.{root_rule};
+ghost use Rattle.const_oid.specs.Identifier.{root_rule, max_second};
 ghost use Rattle.const_oid.specs.Contents.{cut, later_fault, parts_fault, max_first, arcs_from, arcs_of_octets};
 
 use crate::parts::skip_parts;
@@ -180,9 +180,10 @@ pub(crate) fn add_digit(high: u64, octet: u8) -> u64
 }
 
 /// The two arcs that the first subidentifier holds.
-fn split_root(root: u64) -> (Arc, Arc)
+pub(crate) fn split_root(root: u64) -> (Arc, Arc)
     requires { root ≤ max_first root_rule }
-    ensures { (later : List ℕ) → arcs_from (root ∷ later) ≡ result.0 ∷ result.1 ∷ later }
+    ensures arcs { (later : List ℕ) → arcs_from (root ∷ later) ≡ result.0 ∷ result.1 ∷ later }
+    ensures valid { (result.0 ≤ 2) × (result.1 ≤ max_second root_rule result.0) × (40 * result.0 + result.1 ≡ root) }
 {
     if root < 80 {
         ((root / 40) as Arc, (root % 40) as Arc)

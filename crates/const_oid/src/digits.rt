@@ -1,6 +1,6 @@
 //! Arcs in decimal, written into bytes.
-ghost use Rattle.std.specs.Prelude.{◌≡◌, ◌+◌, ◌<◌, ◌≤◌, ◌++◌, length, take, drop, decimal};
-ghost use Rattle.const_oid.specs.Private.Text.{arc_text, pair_text};
+ghost use Rattle.std.specs.Prelude.{◌≡◌, ◌+◌, ◌<◌, ◌≤◌, [], ◌∷◌, ◌++◌, length, take, drop, decimal};
+ghost use Rattle.const_oid.specs.Private.Text.{arc_text, pair_text, four_text};
 
 use crate::Arc;
 
@@ -56,42 +56,92 @@ fn count_digits(arc: Arc) -> usize
     }
 }
 
-/// Writes the digits of an arc at an index, and returns the index after them.
-#[tactic(auto, using(crate::proofs::Decimals::digits_put))]
-#[inline]
+/// Writes the digits of an arc at an index, and returns the index after them. There is no loop and no buffer: each
+/// digit is written into its place.
+#[tactic(auto, using(crate::proofs::Decimals::many_digits))]
+#[inline(always)]
 fn write_digits(arc: Arc, out: &mut [u8], at: usize) -> usize
     requires { at + length (decimal arc) ≤ length out.old }
     ensures end { result ≡ at + length (decimal arc) }
     ensures prefix { take result out.new ≡ take at out.old ++ decimal arc }
     ensures after { drop result out.new ≡ drop result out.old }
 {
-    // The shortest arc is the most frequent one.
-    if arc < 10 {
-        out[at] = b'0' + arc as u8;
-        return at + 1;
+    if arc < 10_000 {
+        return write_few(arc, out, at);
     }
-    let end = at + count_digits(arc);
-    fill_digits(arc, &mut out[at..end]);
-    end
+    let high = arc / 10_000;
+    let at = if high < 10_000 {
+        write_few(high, out, at)
+    } else {
+        let at = write_few(high / 10_000, out, at);
+        write_four(high % 10_000, out, at)
+    };
+    write_four(arc % 10_000, out, at)
 }
 
-/// Writes the digits of an arc into a slice, which is as long. The last two are first.
-#[tactic(auto, using(crate::proofs::PairTable::digits_filled))]
-#[inline]
-fn fill_digits(arc: Arc, out: &mut [u8])
-    requires { length out.old ≡ length (decimal arc) }
-    ensures { out.new ≡ decimal arc }
+/// Writes the digits of a number, of which there are no more than four. The fewest are the most frequent.
+#[tactic(auto, using(crate::proofs::Decimals::few_digits))]
+#[inline(always)]
+fn write_few(number: u32, out: &mut [u8], at: usize) -> usize
+    requires few { number < 10000 }
+    requires room { at + length (decimal number) ≤ length out.old }
+    ensures end { result ≡ at + length (decimal number) }
+    ensures prefix { take result out.new ≡ take at out.old ++ decimal number }
+    ensures after { drop result out.new ≡ drop result out.old }
 {
-    if arc < 10 {
-        if let [digit, ..] = out {
-            *digit = b'0' + arc as u8;
-        }
-    } else if let Some((before, pair)) = out.split_last_chunk_mut::<2>() {
-        *pair = PAIRS[(arc % 100) as usize];
-        if arc >= 100 {
-            fill_digits(arc / 100, before);
-        }
+    if number < 10 {
+        return write_one(number, out, at);
     }
+    if number < 100 {
+        return write_two(number, out, at);
+    }
+    if number < 1_000 {
+        let at = write_one(number / 100, out, at);
+        return write_two(number % 100, out, at);
+    }
+    write_four(number, out, at)
+}
+
+/// Writes four digits, zeros first.
+#[tactic(auto, using(crate::proofs::Decimals::drop_more))]
+#[inline(always)]
+fn write_four(number: u32, out: &mut [u8], at: usize) -> usize
+    requires few { number < 10000 }
+    requires room { at + 4 ≤ length out.old }
+    ensures end { result ≡ at + 4 }
+    ensures prefix { take result out.new ≡ take at out.old ++ four_text number }
+    ensures after { drop result out.new ≡ drop result out.old }
+{
+    let at = write_two(number / 100, out, at);
+    write_two(number % 100, out, at)
+}
+
+/// Writes two digits, a zero first.
+#[tactic(auto, using(crate::proofs::PairTable::pairs_put))]
+#[inline(always)]
+fn write_two(number: u32, out: &mut [u8], at: usize) -> usize
+    requires few { number < 100 }
+    requires room { at + 2 ≤ length out.old }
+    ensures end { result ≡ at + 2 }
+    ensures prefix { take result out.new ≡ take at out.old ++ pair_text number }
+    ensures after { drop result out.new ≡ drop result out.old }
+{
+    out[at..at + 2].copy_from_slice(&PAIRS[number as usize]);
+    at + 2
+}
+
+/// Writes a digit.
+#[tactic(auto, using(crate::proofs::Decimals::digit_put))]
+#[inline(always)]
+fn write_one(number: u32, out: &mut [u8], at: usize) -> usize
+    requires few { number < 10 }
+    requires room { at < length out.old }
+    ensures end { result ≡ at + 1 }
+    ensures prefix { take result out.new ≡ take at out.old ++ (48 + number) ∷ [] }
+    ensures after { drop result out.new ≡ drop result out.old }
+{
+    out[at] = b'0' + number as u8;
+    at + 1
 }
 
 /// The two digits of each number below a hundred.

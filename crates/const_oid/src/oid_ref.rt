@@ -1,6 +1,7 @@
 //! Borrowed object identifiers.
-ghost use Rattle.std.specs.Prelude.{◌≡◌, ◌*◌, ◌≤◌, ◌<◌, ◌↔◌, ◌++◌, ℕ, length, drop, min, slice_get, count_by, None, Some, IfOk, IfSome, IsSome, IsTrue, MatchOption};
+ghost use Rattle.std.specs.Prelude.{◌≡◌, ◌*◌, ◌≤◌, ◌<◌, ◌↔◌, ◌++◌, ◌+◌, ℕ, length, take, drop, min, slice_get, count_by, None, Some, IfOk, IfSome, IsSome, IsTrue, MatchOption};
 ghost use Rattle.std.specs.Option.{option_map};
+ghost use Rattle.std.specs.Result.{result_map_both};
 ghost use Rattle.std.specs.Cmp.Lexicographic.{slice_cmp};
 ghost use Rattle.std.specs.List.Sorted.{IsSortedByKey};
 ghost use Rattle.std.specs.Ordering.{nat_cmp, is_lt};
@@ -17,7 +18,7 @@ use crate::digits::{MAX_ARC_LEN, write_arc};
 use crate::error::{Error, Result};
 use crate::oid::ObjectIdentifier;
 use crate::parts::{count_parts, without_last_part};
-use crate::text::{text_len, utf8, write_text};
+use crate::text::{text_len, utf8, write_checked, write_text};
 use crate::valid::check;
 use std::cmp::Ordering;
 use std::fmt;
@@ -129,6 +130,21 @@ impl<'a> ObjectIdentifierRef<'a> {
         Some(utf8(&out[..len]))
     }
 
+    /// Decodes contents octets as [`from_bytes`](Self::from_bytes) does, and writes the text that `{}` writes
+    /// of them at the start of `out` in the same pass. Returns the text's length. Returns `None`, and reads no octet,
+    /// where `out` has less than four bytes an octet and eleven more. On `Err`, `out` may be changed.
+    #[inline(always)]
+    pub fn text_from_bytes(ber: &[u8], out: &mut [u8]) -> Option<Result<usize>>
+        ensures answer { MatchOption result (length out.old < 4 * length ber.now + 11) (λ written. (4 * length ber.now + 11 ≤ length out.old) × (result_map_both (λ len. take len out.new) (λ fault. fault) written ≡ result_map_both text_of (λ fault. fault) (octet_answer root_rule ber.now borrowed_capacity))) }
+        ensures within { IfSome result (λ written. IfOk written (λ len. len ≤ length out.new)) }
+        ensures kept { result ≡ None → out.new ≡ out.old }
+    {
+        if out.len() < MAX_ARC_LEN || ber.len() > (out.len() - MAX_ARC_LEN) / 4 {
+            return None;
+        }
+        Some(write_checked(ber, out))
+    }
+
     /// Whether an owned identifier, of any capacity, has the same octets, and so the same arcs.
     // erase: const
     pub fn eq_oid<const N: usize>(&self, other: &ObjectIdentifier<N>) -> bool
@@ -185,8 +201,11 @@ impl<'a> ObjectIdentifierRef<'a> {
     }
 }
 
-/// The most bytes of a text that `{}` writes in one piece.
-const PIECE: usize = 160;
+/// The most octets whose text `{}` writes in one piece.
+const PIECE: usize = 40;
+
+/// The most bytes of that text, and of an arc.
+const PIECE_LEN: usize = 4 * PIECE + MAX_ARC_LEN;
 
 /// The arcs in decimal, joined by dots, whatever the options.
 impl fmt::Display for ObjectIdentifierRef<'_> {
@@ -197,11 +216,11 @@ impl fmt::Display for ObjectIdentifierRef<'_> {
     ghost styled_output = { λ oid _. Some (text_of (ref_arcs oid)) };
 
     fn fmt<W: fmt::Write>(&self, f: &mut fmt::Formatter<W>) -> fmt::Result {
-        // An octet takes four bytes of text at most.
-        if self.ber.len() <= PIECE / 4 {
-            return match self.encode_str(&mut [0; PIECE]) {
-                Some(text) => f.write_str(text),
-                None => unreachable!(),
+        if self.ber.len() <= PIECE {
+            let mut text = [0; PIECE_LEN];
+            return match write_checked(self.ber, &mut text) {
+                Ok(len) => f.write_str(utf8(&text[..len])),
+                Err(_) => unreachable!(),
             };
         }
         let mut bytes = [0; MAX_ARC_LEN];

@@ -1,11 +1,18 @@
 //! Arcs as text: their decimals joined by dots.
-ghost use Rattle.std.specs.Prelude.{◌≡◌, ◌+◌, ◌<◌, ◌≤◌, ◌++◌, length, take, drop, false, MatchOption};
+ghost use Rattle.std.specs.Prelude.{◌≡◌, ℕ, ◌+◌, ◌*◌, ◌<◌, ◌≤◌, List, ◌∷◌, ◌++◌, length, take, drop, false, MatchOption, IfOk};
+ghost use Rattle.std.specs.Result.{result_err};
 ghost use Rattle.std.specs.Str.{IsUtf8};
+ghost use Rattle.const_oid.specs.Base128.{width};
+ghost use Rattle.const_oid.specs.Contents.{cut, parts_fault, max_first, arcs_from, arcs_of_octets};
+ghost use Rattle.const_oid.specs.Identifier.{root_rule};
 ghost use Rattle.const_oid.specs.Text.{text_of};
-ghost use Rattle.const_oid.specs.Private.Text.{text_left};
+ghost use Rattle.const_oid.specs.Private.Text.{arc_text, text_left};
 
-use crate::arcs::Arcs;
-use crate::digits::{arc_len, write_arc};
+use crate::Arc;
+use crate::arcs::{Arcs, split_root};
+use crate::digits::{MAX_ARC_LEN, arc_len, write_arc};
+use crate::error::{Error, Result};
+use crate::valid::{MAX_FIRST, checked_group, group_fault};
 use std::str;
 
 /// The length of the arcs' text, or `None` where it is over a limit.
@@ -40,6 +47,61 @@ pub(crate) fn write_text(arcs: Arcs<'_>, out: &mut [u8]) -> usize
         at = write_arc(arc, false, out, at);
     }
     at
+}
+
+/// Checks octets and writes the text of their arcs at the start, in one pass, or returns their fault. There is room for
+/// four bytes an octet, and one arc more. Where there is a fault, some of the text may be written.
+#[tactic(auto, using(crate::proofs::Printed::printed_pass))]
+#[inline(always)]
+pub(crate) fn write_checked(octets: &[u8], out: &mut [u8]) -> Result<usize>
+    requires { 4 * length octets.now + 11 ≤ length out.old }
+    ensures fault { result_err result ≡ parts_fault root_rule (cut octets.now) }
+    ensures within { IfOk result (λ len. len ≤ length out.new) }
+    ensures text { IfOk result (λ len. take len out.new ≡ text_of (arcs_of_octets octets.now)) }
+{
+    if octets.is_empty() {
+        return Err(Error::Empty);
+    }
+    let (root, mut rest) = match checked_group(octets, MAX_FIRST) {
+        Some(group) => group,
+        None => return Err(group_fault(octets, MAX_FIRST)),
+    };
+    let mut at = write_first(root, out);
+    while !rest.is_empty() {
+        let (arc, after) = match checked_group(rest, Arc::MAX as u64) {
+            Some(group) => group,
+            None => return Err(group_fault(rest, Arc::MAX as u64)),
+        };
+        at = write_later(arc as Arc, out, at);
+        rest = after;
+    }
+    Ok(at)
+}
+
+/// Writes the two arcs of the first subidentifier at the start, and returns their length.
+#[inline(always)]
+fn write_first(root: u64, out: &mut [u8]) -> usize
+    requires small { root ≤ max_first root_rule }
+    requires room { 12 ≤ length out.old }
+    ensures within { result ≤ length out.new }
+    ensures short { result ≤ 4 * width root }
+    ensures prefix { (later : List ℕ) → take result out.new ++ text_left false later ≡ text_of (arcs_from (root ∷ later)) }
+{
+    let (first, second) = split_root(root);
+    out[0] = b'0' + first as u8;
+    write_later(second, out, 1)
+}
+
+/// Writes an arc and the dot before it at an index, after which there is room for any arc, and returns the index after it.
+#[inline(always)]
+fn write_later(arc: Arc, out: &mut [u8], at: usize) -> usize
+    requires { at + 11 ≤ length out.old }
+    ensures end { result ≡ at + length (arc_text false arc) }
+    ensures prefix { take result out.new ≡ take at out.old ++ arc_text false arc }
+    ensures within { result ≤ length out.new }
+{
+    // The length of this part is a literal, so rustc checks no index in it.
+    at + write_arc(arc, false, &mut out[at..at + MAX_ARC_LEN], 0)
 }
 
 /// Takes the first two arcs, writes them at the start, and returns the length.

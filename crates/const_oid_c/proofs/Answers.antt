@@ -1,8 +1,11 @@
 -- What a call writes, by the calls of `const_oid` and `std`.
-use Rattle.std.proofs.Common.{◌≡◌, List, ℕ, false}
+use Rattle.std.proofs.Common.{◌≡◌, List, ℕ, false, take, refl, Ok, Err}
+use Rattle.std.specs.Prelude.{Result}
+use Rattle.std.specs.Result.{result_map_both}
 use Rattle.std.specs.Str.{IsUtf8, is_utf8}
 use Rattle.std.proofs.lemmas.{Bool.false_from_ne_true, Str.{IsUtf8-from_is_utf8, is_utf8-from_IsUtf8}}
-use Rattle.const_oid.specs.{Contents.arcs_of_octets, Identifier.{root_rule, IsEncoding, encoding_of}}
+use Rattle.const_oid.specs.{declared.error.Error.Error, Text.text_of, Contents.arcs_of_octets, Identifier.{root_rule, IsEncoding, encoding_of}}
+use Rattle.const_oid_c.specs.Answers.{output_of}
 use Rattle.const_oid.proofs.Encodings.{encoding_of-encoded}
 
 -- octets that encode their arcs are the encoding of their arcs
@@ -15,3 +18,10 @@ pub is_not_utf8 : (bytes : List ℕ) → ¬ IsUtf8 bytes → is_utf8 bytes ≡ f
 is_not_utf8 bytes other = false_from_ne_true (is_utf8 bytes) (λ t. other (IsUtf8-from_is_utf8 bytes t))
 
 pub ruleset texts = (is_utf8-from_IsUtf8, is_not_utf8)
+
+-- a text with room is the text of the answer, and a fault is its fault
+pub text_again : (written : Result ℕ Error) (text : List ℕ) (answer : Result (List ℕ) Error)
+    → result_map_both (λ len. take len text) (λ fault. fault) written ≡ result_map_both text_of (λ fault. fault) answer
+    → output_of text_of answer ≡ output_of (λ bytes. bytes) (result_map_both (λ len. take len text) (λ fault. fault) written)
+text_again written text (Ok arcs) e = rw e refl
+text_again written text (Err fault) e = rw e refl

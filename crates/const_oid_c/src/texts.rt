@@ -39,9 +39,48 @@ fn write_other(text: &[u8], out: &mut [u8]) -> Status
     write_octets(ObjectIdentifier::<MAX_OCTETS>::from_ascii(text), out)
 }
 
+/// The room for the text of 16 octets: four bytes an octet, and one arc more.
+const SHORT: usize = 75;
+
+/// The room for the text of 255 octets.
+const LONG: usize = 1031;
+
 /// Writes the dotted text of contents octets of any length. No zero byte follows it.
+///
+/// The octets are checked as they are printed, so the text is made on the stack: on an error the output
+/// is unchanged. Most octets are few, and the less room there is, the sooner it is set to zero.
+#[tactic(auto, using(crate::proofs::Answers::text_again))]
 #[unsafe(no_mangle)]
 pub extern "C" fn const_oid_to_text(octets: &[u8], out: &mut [u8]) -> Status
+    ensures status { result ≡ output_status (length out.old) (output_of text_of (borrowed_answer octets.now)) }
+    ensures written { out.new ≡ output_after out.old (output_of text_of (borrowed_answer octets.now)) }
+{
+    let mut text = [0; SHORT];
+    match ObjectIdentifierRef::text_from_bytes(octets, &mut text) {
+        Some(Ok(len)) => write_bytes(&text[..len], out),
+        Some(Err(fault)) => error_status(fault),
+        None => write_long(octets, out),
+    }
+}
+
+/// The same for more octets.
+#[tactic(auto, using(crate::proofs::Answers::text_again))]
+#[inline(never)]
+fn write_long(octets: &[u8], out: &mut [u8]) -> Status
+    ensures status { result ≡ output_status (length out.old) (output_of text_of (borrowed_answer octets.now)) }
+    ensures written { out.new ≡ output_after out.old (output_of text_of (borrowed_answer octets.now)) }
+{
+    let mut text = [0; LONG];
+    match ObjectIdentifierRef::text_from_bytes(octets, &mut text) {
+        Some(Ok(len)) => write_bytes(&text[..len], out),
+        Some(Err(fault)) => error_status(fault),
+        None => write_longest(octets, out),
+    }
+}
+
+/// The same for any octets, which are read twice.
+#[inline(never)]
+fn write_longest(octets: &[u8], out: &mut [u8]) -> Status
     ensures status { result ≡ output_status (length out.old) (output_of text_of (borrowed_answer octets.now)) }
     ensures written { out.new ≡ output_after out.old (output_of text_of (borrowed_answer octets.now)) }
 {

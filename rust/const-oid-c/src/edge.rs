@@ -60,42 +60,33 @@ unsafe fn output<'a, T>(items: *mut T, len: usize) -> &'a mut Output<T> {
 pub(crate) fn copy(bytes: &[u8], out: &mut Output<u8>) {
     // SAFETY: a written byte is a byte that may be written, and the slice is as long.
     let bytes = unsafe { slice::from_raw_parts(bytes.as_ptr().cast(), bytes.len()) };
-    out[..bytes.len()].copy_from_slice(bytes);
+    let out = &mut out[..bytes.len()];
+    // Two copies, which may overlap, are fewer instructions than a call.
+    match bytes.len() {
+        0..4 => out.iter_mut().zip(bytes).for_each(|(to, byte)| *to = *byte),
+        4..8 => copy_ends::<4>(bytes, out),
+        8..16 => copy_ends::<8>(bytes, out),
+        16..=32 => copy_ends::<16>(bytes, out),
+        _ => out.copy_from_slice(bytes),
+    }
+}
+
+/// Copies so many bytes at each end.
+#[inline(always)]
+fn copy_ends<const N: usize>(bytes: &Output<u8>, out: &mut Output<u8>) {
+    let end = bytes.len() - N;
+    out[..N].copy_from_slice(&bytes[..N]);
+    out[end..].copy_from_slice(&bytes[end..]);
 }
 
 /// Writes the text of an identifier at the start of an output, and returns its length. `None` if it is
-/// longer than the output, which is then unchanged. It is made on the stack if it is short: an octet
-/// takes four bytes of text at most.
+/// longer than the output, which is then unchanged.
 pub(crate) fn encode(oid: ObjectIdentifierRef<'_>, out: &mut Output<u8>) -> Option<usize> {
-    let (mut short, mut middle, mut long);
-    let octets = oid.as_bytes().len();
-    let text: &mut [u8] = if octets <= 16 {
-        short = [0; 64];
-        &mut short
-    } else if octets <= 64 {
-        middle = [0; 256];
-        &mut middle
-    } else if octets <= 255 {
-        long = [0; 1020];
-        &mut long
-    } else {
-        let out = out.get_mut(..oid.text_len())?;
-        out.fill(MaybeUninit::new(0));
-        // SAFETY: all of these bytes were written.
-        unsafe { slice::from_raw_parts_mut(out.as_mut_ptr().cast(), out.len()) }
-    };
-    let len = oid.encode_text(text)?;
-    if octets <= 255 {
-        let (text, out) = (&text[..len], out.get_mut(..len)?);
-        if (16..=32).contains(&len) {
-            // These two copies, which may overlap, are fewer instructions than a call.
-            copy(&text[..16], out);
-            copy(&text[len - 16..], &mut out[len - 16..]);
-        } else {
-            copy(text, out);
-        }
-    }
-    Some(len)
+    let out = out.get_mut(..oid.text_len())?;
+    out.fill(MaybeUninit::new(0));
+    // SAFETY: all of these bytes were written.
+    let out = unsafe { slice::from_raw_parts_mut(out.as_mut_ptr().cast(), out.len()) };
+    oid.encode_text(out)
 }
 
 /// Writes the text of an error at the start of an output, and returns its length. `None` if it is longer

@@ -3,11 +3,15 @@
 use std::fs;
 
 /// Modules, or calls of a module, that this crate lacks.
-const MISSING: [(&str, &str); 5] = [
+const MISSING: [(&str, &str); 6] = [
     ("db_ref", "in Rust a constant holds a `Database`"),
     ("laws", "its functions have contracts, and no effect"),
     ("oid::try_from_ref", "`TryFrom`"),
     ("oid_ref::eq_oid", "`==`"),
+    (
+        "oid_ref::text_from_bytes",
+        "`from_bytes` and `encode_text`; the library for C calls it",
+    ),
     ("traits::position_of", "`iter().position(..)`"),
 ];
 
@@ -43,6 +47,7 @@ const IN_C: [(&str, &str); 30] = [
     ("push_arc", "const_oid_push_arc"),
     ("starts_with", "const_oid_starts_with"),
     ("subtree", "const_oid_subtree"),
+    ("text_from_bytes", "const_oid_to_text"),
     ("text_len", "const_oid_to_text"),
     ("try_from_ref", ONE_FORM),
 ];

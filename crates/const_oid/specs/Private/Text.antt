@@ -1,5 +1,5 @@
 -- Texts as they are written, piece by piece.
-use Rattle.std.specs.Prelude.{ℕ, ◌+◌, ◌/◌, ◌%◌, Bool, true, false, List, [], ◌∷◌, decimal, encode_utf8}
+use Rattle.std.specs.Prelude.{ℕ, ◌+◌, ◌/◌, ◌%◌, Bool, true, false, List, [], ◌∷◌, ◌++◌, decimal, encode_utf8}
 use Rattle.const_oid.specs.declared.error.Error.{Error}
 use Rattle.const_oid.specs.declared.error.Error.TheVariants.{ArcInvalid, DigitExpected}
 use Rattle.const_oid.specs.Text.{dot, text_of}
@@ -18,6 +18,10 @@ text_left false (arc ∷ arcs) = dot ∷ text_of (arc ∷ arcs)
 -- two digits
 abbrev pub pair_text : ℕ → List ℕ
 pair_text pair = (48 + pair / 10) ∷ (48 + pair % 10) ∷ []
+
+-- four digits
+abbrev pub four_text : ℕ → List ℕ
+four_text number = pair_text (number / 100) ++ pair_text (number % 100)
 
 -- the text of the number that an error carries, if there is one
 abbrev pub detail_text : Error → List ℕ

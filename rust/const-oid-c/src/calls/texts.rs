@@ -30,8 +30,39 @@ fn write_other(text: &[u8], out: &mut crate::edge::Output<u8>) -> Status {
     write_octets(ObjectIdentifier::<MAX_OCTETS>::from_ascii(text), out)
 }
 
+/// The room for the text of 16 octets: four bytes an octet, and one arc more.
+const SHORT: usize = 75;
+
+/// The room for the text of 255 octets.
+const LONG: usize = 1031;
+
 /// Writes the dotted text of contents octets of any length. No zero byte follows it.
+///
+/// The octets are checked as they are printed, so the text is made on the stack: on an error the output
+/// is unchanged. Most octets are few, and the less room there is, the sooner it is set to zero.
 pub fn const_oid_to_text(octets: &[u8], out: &mut crate::edge::Output<u8>) -> Status {
+    let mut text = [0; SHORT];
+    match ObjectIdentifierRef::text_from_bytes(octets, &mut text) {
+        Some(Ok(len)) => write_bytes(&text[..len], out),
+        Some(Err(fault)) => error_status(fault),
+        None => write_long(octets, out),
+    }
+}
+
+/// The same for more octets.
+#[inline(never)]
+fn write_long(octets: &[u8], out: &mut crate::edge::Output<u8>) -> Status {
+    let mut text = [0; LONG];
+    match ObjectIdentifierRef::text_from_bytes(octets, &mut text) {
+        Some(Ok(len)) => write_bytes(&text[..len], out),
+        Some(Err(fault)) => error_status(fault),
+        None => write_longest(octets, out),
+    }
+}
+
+/// The same for any octets, which are read twice.
+#[inline(never)]
+fn write_longest(octets: &[u8], out: &mut crate::edge::Output<u8>) -> Status {
     let oid = match ObjectIdentifierRef::from_bytes(octets) {
         Ok(oid) => oid,
         Err(fault) => return error_status(fault),

@@ -136,7 +136,7 @@ pub(crate) fn add_digit(high: u64, octet: u8) -> u64 {
 }
 
 /// The two arcs that the first subidentifier holds.
-fn split_root(root: u64) -> (Arc, Arc) {
+pub(crate) fn split_root(root: u64) -> (Arc, Arc) {
     if root < 80 {
         ((root / 40) as Arc, (root % 40) as Arc)
     } else {

@@ -44,32 +44,58 @@ fn count_digits(arc: Arc) -> usize {
     }
 }
 
-/// Writes the digits of an arc at an index, and returns the index after them.
-#[inline]
+/// Writes the digits of an arc at an index, and returns the index after them. There is no loop and no buffer: each
+/// digit is written into its place.
+#[inline(always)]
 fn write_digits(arc: Arc, out: &mut [u8], at: usize) -> usize {
-    // The shortest arc is the most frequent one.
-    if arc < 10 {
-        out[at] = b'0' + arc as u8;
-        return at + 1;
+    if arc < 10_000 {
+        return write_few(arc, out, at);
     }
-    let end = at + count_digits(arc);
-    fill_digits(arc, &mut out[at..end]);
-    end
+    let high = arc / 10_000;
+    let at = if high < 10_000 {
+        write_few(high, out, at)
+    } else {
+        let at = write_few(high / 10_000, out, at);
+        write_four(high % 10_000, out, at)
+    };
+    write_four(arc % 10_000, out, at)
 }
 
-/// Writes the digits of an arc into a slice, which is as long. The last two are first.
-#[inline]
-fn fill_digits(arc: Arc, out: &mut [u8]) {
-    if arc < 10 {
-        if let [digit, ..] = out {
-            *digit = b'0' + arc as u8;
-        }
-    } else if let Some((before, pair)) = out.split_last_chunk_mut::<2>() {
-        *pair = PAIRS[(arc % 100) as usize];
-        if arc >= 100 {
-            fill_digits(arc / 100, before);
-        }
+/// Writes the digits of a number, of which there are no more than four. The fewest are the most frequent.
+#[inline(always)]
+fn write_few(number: u32, out: &mut [u8], at: usize) -> usize {
+    if number < 10 {
+        return write_one(number, out, at);
     }
+    if number < 100 {
+        return write_two(number, out, at);
+    }
+    if number < 1_000 {
+        let at = write_one(number / 100, out, at);
+        return write_two(number % 100, out, at);
+    }
+    write_four(number, out, at)
+}
+
+/// Writes four digits, zeros first.
+#[inline(always)]
+fn write_four(number: u32, out: &mut [u8], at: usize) -> usize {
+    let at = write_two(number / 100, out, at);
+    write_two(number % 100, out, at)
+}
+
+/// Writes two digits, a zero first.
+#[inline(always)]
+fn write_two(number: u32, out: &mut [u8], at: usize) -> usize {
+    out[at..at + 2].copy_from_slice(&PAIRS[number as usize]);
+    at + 2
+}
+
+/// Writes a digit.
+#[inline(always)]
+fn write_one(number: u32, out: &mut [u8], at: usize) -> usize {
+    out[at] = b'0' + number as u8;
+    at + 1
 }
 
 /// The two digits of each number below a hundred.

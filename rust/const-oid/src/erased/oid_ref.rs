@@ -9,7 +9,7 @@ use crate::erased::digits::{MAX_ARC_LEN, write_arc};
 use crate::erased::error::{Error, Result};
 use crate::erased::oid::ObjectIdentifier;
 use crate::erased::parts::{count_parts, without_last_part};
-use crate::erased::text::{text_len, utf8, write_text};
+use crate::erased::text::{text_len, utf8, write_checked, write_text};
 use crate::erased::valid::check;
 use core::cmp::Ordering;
 use core::fmt;
@@ -89,6 +89,17 @@ impl<'a> ObjectIdentifierRef<'a> {
         Some(utf8(&out[..len]))
     }
 
+    /// Decodes contents octets as [`from_bytes`](Self::from_bytes) does, and writes the text that `{}` writes
+    /// of them at the start of `out` in the same pass. Returns the text's length. Returns `None`, and reads no octet,
+    /// where `out` has less than four bytes an octet and eleven more. On `Err`, `out` may be changed.
+    #[inline(always)]
+    pub fn text_from_bytes(ber: &[u8], out: &mut [u8]) -> Option<Result<usize>> {
+        if out.len() < MAX_ARC_LEN || ber.len() > (out.len() - MAX_ARC_LEN) / 4 {
+            return None;
+        }
+        Some(write_checked(ber, out))
+    }
+
     /// Whether an owned identifier, of any capacity, has the same octets, and so the same arcs.
     pub const fn eq_oid<const N: usize>(&self, other: &ObjectIdentifier<N>) -> bool {
         are_equal(self.as_bytes(), other.as_bytes())
@@ -127,17 +138,20 @@ impl<'a> ObjectIdentifierRef<'a> {
     }
 }
 
-/// The most bytes of a text that `{}` writes in one piece.
-const PIECE: usize = 160;
+/// The most octets whose text `{}` writes in one piece.
+const PIECE: usize = 40;
+
+/// The most bytes of that text, and of an arc.
+const PIECE_LEN: usize = 4 * PIECE + MAX_ARC_LEN;
 
 /// The arcs in decimal, joined by dots, whatever the options.
 impl fmt::Display for ObjectIdentifierRef<'_> {
     fn fmt(&self, f: &mut fmt::Formatter<'_>) -> fmt::Result {
-        // An octet takes four bytes of text at most.
-        if self.ber.len() <= PIECE / 4 {
-            return match self.encode_str(&mut [0; PIECE]) {
-                Some(text) => f.write_str(text),
-                None => unreachable!(),
+        if self.ber.len() <= PIECE {
+            let mut text = [0; PIECE_LEN];
+            return match write_checked(self.ber, &mut text) {
+                Ok(len) => f.write_str(utf8(&text[..len])),
+                Err(_) => unreachable!(),
             };
         }
         let mut bytes = [0; MAX_ARC_LEN];

@@ -2,8 +2,11 @@
 
 //! Arcs as text: their decimals joined by dots.
 
-use crate::erased::arcs::Arcs;
-use crate::erased::digits::{arc_len, write_arc};
+use crate::erased::Arc;
+use crate::erased::arcs::{Arcs, split_root};
+use crate::erased::digits::{MAX_ARC_LEN, arc_len, write_arc};
+use crate::erased::error::{Error, Result};
+use crate::erased::valid::{MAX_FIRST, checked_group, group_fault};
 use core::str;
 
 /// The length of the arcs' text, or `None` where it is over a limit.
@@ -29,6 +32,44 @@ pub(crate) fn write_text(arcs: Arcs<'_>, out: &mut [u8]) -> usize {
         at = write_arc(arc, false, out, at);
     }
     at
+}
+
+/// Checks octets and writes the text of their arcs at the start, in one pass, or returns their fault. There is room for
+/// four bytes an octet, and one arc more. Where there is a fault, some of the text may be written.
+#[inline(always)]
+pub(crate) fn write_checked(octets: &[u8], out: &mut [u8]) -> Result<usize> {
+    if octets.is_empty() {
+        return Err(Error::Empty);
+    }
+    let (root, mut rest) = match checked_group(octets, MAX_FIRST) {
+        Some(group) => group,
+        None => return Err(group_fault(octets, MAX_FIRST)),
+    };
+    let mut at = write_first(root, out);
+    while !rest.is_empty() {
+        let (arc, after) = match checked_group(rest, Arc::MAX as u64) {
+            Some(group) => group,
+            None => return Err(group_fault(rest, Arc::MAX as u64)),
+        };
+        at = write_later(arc as Arc, out, at);
+        rest = after;
+    }
+    Ok(at)
+}
+
+/// Writes the two arcs of the first subidentifier at the start, and returns their length.
+#[inline(always)]
+fn write_first(root: u64, out: &mut [u8]) -> usize {
+    let (first, second) = split_root(root);
+    out[0] = b'0' + first as u8;
+    write_later(second, out, 1)
+}
+
+/// Writes an arc and the dot before it at an index, after which there is room for any arc, and returns the index after it.
+#[inline(always)]
+fn write_later(arc: Arc, out: &mut [u8], at: usize) -> usize {
+    // The length of this part is a literal, so rustc checks no index in it.
+    at + write_arc(arc, false, &mut out[at..at + MAX_ARC_LEN], 0)
 }
 
 /// Takes the first two arcs, writes them at the start, and returns the length.

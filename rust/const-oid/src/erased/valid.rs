@@ -3,11 +3,11 @@
 //! Octets checked for faults (X.690, 8.19.2).
 
 use crate::erased::Arc;
-use crate::erased::arcs::number_of_five;
+use crate::erased::arcs::{add_digit, number_of_five};
 use crate::erased::error::{Error, Result};
 
 /// The greatest first subidentifier: of the first arc 2 and the greatest second arc.
-const MAX_FIRST: u64 = 2 * 40 + Arc::MAX as u64;
+pub(crate) const MAX_FIRST: u64 = 2 * 40 + Arc::MAX as u64;
 
 /// The fault of octets, whatever their number, if there is one.
 #[inline(never)]
@@ -15,47 +15,51 @@ pub(crate) fn check(octets: &[u8]) -> Result<()> {
     if octets.is_empty() {
         return Err(Error::Empty);
     }
-    let mut rest = match skip_group(octets, MAX_FIRST) {
-        Ok(after) => after,
-        Err(fault) => return Err(fault),
+    let mut rest = match checked_group(octets, MAX_FIRST) {
+        Some((_, after)) => after,
+        None => return Err(group_fault(octets, MAX_FIRST)),
     };
     while !rest.is_empty() {
-        rest = match skip_group(rest, Arc::MAX as u64) {
-            Ok(after) => after,
-            Err(fault) => return Err(fault),
+        rest = match checked_group(rest, Arc::MAX as u64) {
+            Some((_, after)) => after,
+            None => return Err(group_fault(rest, Arc::MAX as u64)),
         };
     }
     Ok(())
 }
 
-/// The octets after the first group, or its fault. Most groups are short, and too short for a number
-/// past the limit.
+/// The number of the first group, at most a limit, and the octets after it, or `None` where the group has a fault.
 #[inline(always)]
-fn skip_group(octets: &[u8], limit: u64) -> Result<&[u8]> {
+pub(crate) fn checked_group(octets: &[u8], limit: u64) -> Option<(u64, &[u8])> {
     match octets {
-        [a, after @ ..] if *a < 128 => Ok(after),
-        [a, ..] if *a == 128 => Err(Error::Base128),
-        [_, b, after @ ..] if *b < 128 => Ok(after),
-        [_, _, c, after @ ..] if *c < 128 => Ok(after),
-        [_, _, _, d, after @ ..] if *d < 128 => Ok(after),
-        [a, _, _, _, e, after @ ..] if *a < 144 && *e < 128 => Ok(after),
-        _ => skip_long_group(octets, limit),
+        [a, after @ ..] if *a < 128 => Some((*a as u64, after)),
+        [a, ..] if *a == 128 => None,
+        [a, b, after @ ..] if *b < 128 => Some((add_digit(add_digit(0, *a), *b), after)),
+        [a, b, c, after @ ..] if *c < 128 => {
+            Some((add_digit(add_digit(add_digit(0, *a), *b), *c), after))
+        }
+        [a, b, c, d, after @ ..] if *d < 128 => Some((
+            add_digit(add_digit(add_digit(add_digit(0, *a), *b), *c), *d),
+            after,
+        )),
+        [_, _, _, _, e, after @ ..] if *e < 128 && number_of_five(octets) <= limit => {
+            Some((number_of_five(octets), after))
+        }
+        _ => None,
     }
 }
 
-/// The same, where the group does not end within four octets.
-fn skip_long_group(octets: &[u8], limit: u64) -> Result<&[u8]> {
-    if octets.len() < 5 {
-        return Err(Error::Base128);
+/// The fault of the first group, which has one.
+#[cold]
+pub(crate) fn group_fault(octets: &[u8], limit: u64) -> Error {
+    if octets[0] == 128 || octets.len() < 5 {
+        return Error::Base128;
     }
     if number_of_five(octets) > limit {
-        return Err(Error::ArcTooBig);
-    }
-    if octets[4] < 128 {
-        return Ok(&octets[5..]);
+        return Error::ArcTooBig;
     }
     if octets.len() > 5 {
-        return Err(Error::ArcTooBig);
+        return Error::ArcTooBig;
     }
-    Err(Error::Base128)
+    Error::Base128
 }
