@@ -70,7 +70,8 @@ class Drawn(unittest.TestCase):
         self.same(oid, ObjectIdentifier(text), arcs)
         self.same(arcs[:-1] if len(arcs) > 2 else None, oid.parent and oid.parent.arcs, arcs)
         child = result(lambda: bytes(oid.child(arc)))
-        self.same(result(model.octets_of_arcs, (*arcs, arc)), child, (arcs, arc))
+        wanted = bytes(oid) + model.group(arc)
+        self.same(wanted, child, (arcs, arc))
 
     def test_pairs(self):
         """100,000 pairs: equality, hashes, order and prefixes are those of tuples."""

@@ -54,7 +54,7 @@ CALLS = {
 }
 
 # What this package has no call for: the other orders, and lists. `error` has rows of codes that there are not.
-LEFT_OUT = {"owned", "borrowed", "subtree"}
+LEFT_OUT = {"owned", "borrowed", "sorted", "find", "next", "nearest", "range"}
 
 
 def answer(call, words):

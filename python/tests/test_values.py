@@ -96,7 +96,6 @@ class Inputs(unittest.TestCase):
             (ObjectIdentifier.from_arcs, (3, 2**32)): (1, 3),
             (OID.child, 2**32): (2, 0),
             (LONG.child, 2**32): (2, 0),
-            (ObjectIdentifier("1.2" + ".3" * 254).child, 2**32): (2, 0),
         }
         for (call, *inputs), wanted in faults.items():
             with self.subTest(call=call, wanted=wanted):
@@ -105,6 +104,8 @@ class Inputs(unittest.TestCase):
                 self.assertEqual(wanted, (caught.exception.code, caught.exception.detail))
 
     def test_long(self):
+        self.assertEqual(LONG.arcs[:-1], LONG.parent.arcs)
+        self.assertEqual((*LONG.arcs, 1), LONG.child(1).arcs)
         self.assertEqual((1, 2, *[3] * 299), LONG.arcs)
         self.assertEqual("1.2" + ".3" * 299, str(LONG))
         largest = ObjectIdentifier.from_bytes(b"\x8f\xff\xff\xff\x7f" * 400)

@@ -25,6 +25,7 @@ pub mod PartBounds
 pub mod Parents
 pub mod Printed
 pub mod Subtree
+pub mod SortedLists
 pub mod SortedNames
 pub mod Overflow
 pub mod Tree

@@ -35,7 +35,7 @@ module _ {X : Type 0} (key : X → List ℕ) (prefix : List ℕ) where
   key_under x = is_under prefix (key x)
 
   -- the keys under it are from the cut of those before it to the cut of the rest
-  under_between : (xs : List X) (from count : ℕ) → IsCut key_before xs from → IsCut key_under (drop from xs) count
+  pub under_between : (xs : List X) (from count : ℕ) → IsCut key_before xs from → IsCut key_under (drop from xs) count
       → (k : ℕ) (d : X) → k < length xs → (key_under (get_or xs k d) ≡ true) ↔ ((from ≤ k) × (k < from + count))
   under_between xs from count first second k d l =
       let at = get_or-drop from xs (k - from) d in

@@ -11,4 +11,5 @@ pub mod OidRef
 pub mod Buffer
 pub mod Oid
 pub mod Names
+pub mod SortedList
 pub mod Private

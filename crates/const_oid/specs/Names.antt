@@ -89,11 +89,15 @@ entry_arcs entry = ref_arcs (oid_of entry)
 abbrev pub sorted_entries_of : SortedDatabase → List (Entry ObjectIdentifierRef)
 sorted_entries_of database = database.entries.now
 
--- the entry is the nearest one to arcs: they begin with its own, whose first entry it is, and its own begin with all others that they begin with
-pub record IsNearest (entries : List (Entry ObjectIdentifierRef)) (arcs : List ℕ) (entry : Entry ObjectIdentifierRef) : Type 0 where
-  pub begins : BeginsWith arcs (entry_arcs entry)
-  pub first : find (has_arcs ref_arcs (entry_arcs entry)) entries ≡ Some entry
-  pub longest : All (λ other. BeginsWith arcs (entry_arcs other) → BeginsWith (entry_arcs entry) (entry_arcs other)) entries
+-- the item is the nearest one to arcs, by the arcs of an item: they begin with its own, of which it is the first item, and its own begin with all others that they begin with
+pub record IsNearestBy {Item : Type 0} (arcs_of : Item → List ℕ) (items : List Item) (arcs : List ℕ) (item : Item) : Type 0 where
+  pub begins : BeginsWith arcs (arcs_of item)
+  pub first : find (λ other. pointwise nat_eq (arcs_of other) (arcs_of item)) items ≡ Some item
+  pub longest : All (λ other. BeginsWith arcs (arcs_of other) → BeginsWith (arcs_of item) (arcs_of other)) items
+
+-- the entry is the nearest one to arcs
+abbrev pub IsNearest : List (Entry ObjectIdentifierRef) → List ℕ → Entry ObjectIdentifierRef → Type 0
+IsNearest = IsNearestBy entry_arcs
 
 -- these are the entries that begin with arcs: the table has them in a row, and no others begin so
 pub record IsSubtree (entries : List (Entry ObjectIdentifierRef)) (arcs : List ℕ) (subtree : List (Entry ObjectIdentifierRef)) : Type 0 where

@@ -7,10 +7,11 @@ ghost use Rattle.std.specs.List.Sorted.{IsPartitionPoint, IsSortedByKey};
 ghost use Rattle.std.specs.Option.{option_copied};
 ghost use Rattle.std.specs.Ordering.{nat_cmp, is_lt};
 ghost use Rattle.std.proofs.Props.{props};
-ghost use Rattle.const_oid.specs.OidRef.{ref_arcs};
+ghost use Rattle.const_oid.specs.OidRef.{ref_arcs, ref_octets};
 
 use crate::compare::are_equal;
 use crate::oid_ref::ObjectIdentifierRef;
+use crate::search::{Contents, end_of, first_of, nearest_of, subtree_of};
 
 /// An identifier and its name.
 type Entry<'a> = (ObjectIdentifierRef<'a>, &'a str);
@@ -53,7 +54,8 @@ impl<'a> SortedDatabase<'a> {
     pub fn by_oid(&self, oid: &ObjectIdentifierRef<'_>) -> Option<&'a str>
         ensures { result ≡ first_name ref_arcs (sorted_entries_of self.now) (ref_arcs oid.now) }
     {
-        Some(self.first(oid)?.1)
+        let index = first_of(self.entries, oid)?;
+        Some(self.entries[index].1)
     }
 
     /// The entry with the longest prefix of the identifier, which may be all of it, or `None` if the table has no
@@ -62,61 +64,32 @@ impl<'a> SortedDatabase<'a> {
         ensures found { IfSome result (λ entry. IsNearest (sorted_entries_of self.now) (ref_arcs oid.entry) entry.now) }
         ensures none { IfNone result (All (λ entry. BeginsWith (ref_arcs oid.entry) (entry_arcs entry) → ⊥) (sorted_entries_of self.now)) }
     {
-        // All that the identifier begins with come up to it, and the last entry up to it begins with them.
-        let last = self.entries[..self.end_of(&oid)].last()?;
-        let mut above = oid;
-        loop {
-            if last.0.starts_with(&above) {
-                if let Some(entry) = self.first(&above) {
-                    return Some(entry);
-                }
-            }
-            above = above.parent()?;
-        }
+        let index = nearest_of(self.entries, &oid)?;
+        Some(&self.entries[index])
     }
 
     /// The entries of the identifier and of its descendants.
     pub fn subtree(&self, oid: &ObjectIdentifierRef<'_>) -> &'a [Entry<'a>]
         ensures { IsSubtree (sorted_entries_of self.now) (ref_arcs oid.now) result.now }
     {
-        let from = &self.entries[self.start_of(oid)..];
-        let count = from.partition_point(|entry| entry.0.starts_with(oid));
-        &from[..count]
+        let (from, end) = subtree_of(self.entries, oid);
+        &self.entries[from..end]
     }
 
     /// The first entry after the identifier, which need not be in the table: what GETNEXT of SNMP returns (RFC 3416).
     pub fn next_after(&self, oid: &ObjectIdentifierRef<'_>) -> Option<&'a Entry<'a>>
         ensures { option_copied result ≡ find (λ entry. is_lt (slice_cmp nat_cmp (ref_arcs oid.now) (entry_arcs entry))) (sorted_entries_of self.now) }
     {
-        self.entries.get(self.end_of(oid))
+        self.entries.get(end_of(self.entries, oid))
     }
+}
 
-    /// The first entry of this identifier.
-    fn first(&self, oid: &ObjectIdentifierRef<'_>) -> Option<&'a Entry<'a>>
-        ensures { option_copied result ≡ find (has_arcs ref_arcs (ref_arcs oid.now)) (sorted_entries_of self.now) }
-    {
-        let entry = self.entries.get(self.start_of(oid))?;
-        has_ref(entry, oid).then_some(entry)
-    }
+/// The octets of an entry are those of its identifier.
+impl Contents for (ObjectIdentifierRef<'_>, &str) {
+    ghost octets_of = { λ entry. ref_octets entry.0 };
 
-    /// The index of the first entry that does not come before the identifier.
-    fn start_of(&self, oid: &ObjectIdentifierRef<'_>) -> usize
-        ensures within { result ≤ length (sorted_entries_of self.now) }
-        ensures cut { IsPartitionPoint (λ entry. is_lt (slice_cmp nat_cmp (entry_arcs entry) (ref_arcs oid.now)) ≡ true)
-            (λ entry. is_lt (slice_cmp nat_cmp (entry_arcs entry) (ref_arcs oid.now)) ≡ false) (sorted_entries_of self.now) result }
-    {
-        self.entries
-            .partition_point(|entry| entry.0.cmp_arcs(oid).is_lt())
-    }
-
-    /// The index of the first entry that comes after the identifier.
-    fn end_of(&self, oid: &ObjectIdentifierRef<'_>) -> usize
-        ensures within { result ≤ length (sorted_entries_of self.now) }
-        ensures cut { IsPartitionPoint (λ entry. is_lt (slice_cmp nat_cmp (ref_arcs oid.now) (entry_arcs entry)) ≡ false)
-            (λ entry. is_lt (slice_cmp nat_cmp (ref_arcs oid.now) (entry_arcs entry)) ≡ true) (sorted_entries_of self.now) result }
-    {
-        self.entries
-            .partition_point(|entry| oid.cmp_arcs(&entry.0).is_ge())
+    fn contents(&self) -> &[u8] {
+        self.0.as_bytes()
     }
 }
 

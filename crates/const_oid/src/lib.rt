@@ -20,6 +20,8 @@ pub mod oid;
 pub mod oid_ref;
 mod parser;
 mod parts;
+// Its functions are for the other crates: Rust hides them.
+pub mod search;
 mod text;
 // Rust's traits have a constant.
 // erase: omit

@@ -5,7 +5,7 @@ use Rattle.std.proofs.lemmas.Bool.Decides.{nat_tests}
 use Rattle.const_oid.specs.{declared.error.Error.Error, declared.error.Error.TheVariants.Length}
 use Rattle.const_oid.specs.{Identifier.{root_rule, usual_capacity}, Items.{arc_fault, items_fault, item_answer}}
 use Rattle.const_oid.specs.Text.{piece_fault, pieces_fault, pieces_of, number_of, text_answer}
-use Rattle.const_oid_c.specs.Answers.{owned_capacity, child_answer}
+use Rattle.const_oid_c.specs.Answers.{owned_capacity}
 
 -- the fault at the usual capacity is that at the other one, or `Length`
 abbrev IsSame : (ℕ → Option Error) → Type 0
@@ -44,7 +44,3 @@ same_text text other = grind (arith, same_pieces [] (pieces_of text))
 -- the result of arcs
 pub same_arcs : (arcs : List ℕ) → IsSameAnswer (item_answer root_rule arcs)
 same_arcs arcs other = grind (arith, same_items [] arcs)
-
--- the result of octets and one more arc
-pub same_child : (octets : List ℕ) (arc : ℕ) → IsSameAnswer (child_answer octets arc)
-same_child octets arc other = grind (arith, nat_tests)

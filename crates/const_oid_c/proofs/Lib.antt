@@ -1,5 +1,6 @@
 pub mod Answers
 pub mod Capacities
+pub mod Children
+pub mod Indices
 pub mod SkippedArcs
-pub mod Ranges
 pub mod SmallTexts

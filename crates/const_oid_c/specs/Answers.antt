@@ -6,8 +6,8 @@ use Rattle.std.specs.Str.{is_utf8}
 use Rattle.const_oid.specs.declared.error.Error.{Error}
 use Rattle.const_oid.specs.declared.error.Error.TheVariants.{ArcInvalid, ArcTooBig, Base128, DigitExpected, Empty, Length, Overflow, RepeatedDot, TrailingDot}
 use Rattle.const_oid.specs.Contents.{octet_answer, borrowed_capacity}
-use Rattle.const_oid.specs.Error.{fault_if, answer, message_of}
-use Rattle.const_oid.specs.Identifier.{root_rule, encoding_of, size}
+use Rattle.const_oid.specs.Error.{message_of}
+use Rattle.const_oid.specs.Identifier.{root_rule, encoding_of}
 use Rattle.const_oid.specs.Text.{text_answer}
 use Rattle.const_oid.specs.Tree.{child_of, parent_of}
 use Rattle.const_oid_c.specs.declared.status.Status.{Status}
@@ -58,20 +58,11 @@ octets_of_text text = if is_utf8 text then octets_of_arcs (text_answer root_rule
 
 -- the contents octets of the parent, if there is one
 abbrev pub octets_of_parent : List ℕ → Result (List ℕ) Status
-octets_of_parent octets = result_flatten (result_map_both (λ arcs. ok_or_none (option_map encoding_of (parent_of arcs))) error_status (owned_answer octets))
-
--- the arcs and one more, where they fit a capacity in octets, or the fault
-abbrev pub push_answer : ℕ → ℕ → Result (List ℕ) Error → Result (List ℕ) Error
-push_answer capacity arc (Ok arcs) = answer (fault_if (nat_lt capacity (size (child_of arcs arc))) Length) (child_of arcs arc)
-push_answer capacity arc (Err fault) = Err fault
-
--- the arcs of octets and one more, where they fit a capacity in octets, or the fault
-abbrev pub child_answer : List ℕ → ℕ → ℕ → Result (List ℕ) Error
-child_answer octets arc capacity = push_answer capacity arc (octet_answer root_rule octets capacity)
+octets_of_parent octets = result_flatten (result_map_both (λ arcs. ok_or_none (option_map encoding_of (parent_of arcs))) error_status (borrowed_answer octets))
 
 -- the contents octets of the arcs of octets and one more
 abbrev pub octets_of_child : List ℕ → ℕ → Result (List ℕ) Status
-octets_of_child octets arc = octets_of_arcs (child_answer octets arc owned_capacity)
+octets_of_child octets arc = output_of (λ arcs. encoding_of (child_of arcs arc)) (borrowed_answer octets)
 
 -- the text of each code from 0 on, with this detail
 abbrev pub code_texts : ℕ → List (Option (List ℕ))
@@ -86,9 +77,9 @@ code_texts detail =
     ∷ Some (message_of Overflow)
     ∷ Some (message_of RepeatedDot)
     ∷ Some (message_of TrailingDot)
-    ∷ Some (codes "the answer is longer than the output")
+    ∷ Some (codes "the output is too short for the result")
     ∷ Some (codes "the text is not UTF-8")
-    ∷ Some (codes "there is no such arc, parent or text")
+    ∷ Some (codes "there is no such arc, parent, item or text")
     ∷ Some (codes "the list is not sorted")
     ∷ []
 

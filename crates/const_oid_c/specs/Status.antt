@@ -18,7 +18,7 @@ code_status code = record { code = code; detail = 0; len = 0 }
 abbrev pub not_utf8_status : Status
 not_utf8_status = code_status 11
 
--- the arc, parent or text does not exist
+-- the arc, parent, item or text does not exist
 abbrev pub none_status : Status
 none_status = code_status 12
 
@@ -42,11 +42,11 @@ flag_status holds = number_status (if holds then 1 else 0)
 abbrev pub IsFlagOf : Type 0 → Status → Type 0
 IsFlagOf fact status = ((status ≡ flag_status true) × fact) ⊎ ((status ≡ flag_status false) × ¬ fact)
 
--- the result is an order: 0 for less, 1 for equal, 2 for greater
+-- the result is an order: 1 for less, 2 for equal, 3 for greater
 abbrev pub order_status : Ordering → Status
-order_status Less = number_status 0
-order_status Equal = number_status 1
-order_status Greater = number_status 2
+order_status Less = number_status 1
+order_status Equal = number_status 2
+order_status Greater = number_status 3
 
 -- the greatest length
 abbrev pub max_len : ℕ

@@ -74,7 +74,7 @@ fn write_large(arcs: &[u32], out: &mut [u8]) -> Status
 }
 
 /// The identifier that has these arcs.
-fn encoded<const N: usize>(arcs: &[u32]) -> Result<ObjectIdentifier<N>>
+pub(crate) fn encoded<const N: usize>(arcs: &[u32]) -> Result<ObjectIdentifier<N>>
     ensures { oid_answer result ≡ item_answer root_rule arcs.now (min N 255) }
 {
     ObjectIdentifier::<N>::from_arcs_sized(arcs.iter().copied())

@@ -31,9 +31,9 @@ pub extern "C" fn const_oid_error_text(code: u32, detail: u32, out: &mut [u8]) -
         7 => write_error(Error::Overflow, out),
         8 => write_error(Error::RepeatedDot, out),
         9 => write_error(Error::TrailingDot, out),
-        TOO_SHORT => write_bytes(b"the answer is longer than the output", out),
+        TOO_SHORT => write_bytes(b"the output is too short for the result", out),
         NOT_UTF8 => write_bytes(b"the text is not UTF-8", out),
-        NONE => write_bytes(b"there is no such arc, parent or text", out),
+        NONE => write_bytes(b"there is no such arc, parent, item or text", out),
         UNSORTED => write_bytes(b"the list is not sorted", out),
         _ => code_status(NONE),
     }

@@ -6,11 +6,11 @@
 
 pub mod arcs;
 pub mod errors;
+pub mod lists;
 pub mod order;
 pub mod output;
 pub mod owned;
 pub mod status;
-pub mod subtree;
 pub mod texts;
 pub mod tree;
 pub mod version;

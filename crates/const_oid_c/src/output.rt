@@ -1,5 +1,5 @@
 //! Results that are written to the caller's slice.
-ghost use Rattle.std.specs.Prelude.{◌≡◌, length, Ok};
+ghost use Rattle.std.specs.Prelude.{◌≡◌, ◌++◌, length, Ok};
 ghost use Rattle.const_oid.specs.Oid.{oid_answer};
 ghost use Rattle.const_oid_c.specs.Status.{output_status, output_after};
 ghost use Rattle.const_oid_c.specs.Answers.{octets_of_arcs};
@@ -17,6 +17,20 @@ pub(crate) fn write_bytes(bytes: &[u8], out: &mut [u8]) -> Status
         return too_short_status(len);
     }
     out[..len].copy_from_slice(bytes);
+    len_status(len)
+}
+
+/// Writes two slices, one after the other, at the start of a slice, if they fit.
+pub(crate) fn write_joined(first: &[u8], rest: &[u8], out: &mut [u8]) -> Status
+    ensures status { result ≡ output_status (length out.old) (Ok (first.now ++ rest.now)) }
+    ensures written { out.new ≡ output_after out.old (Ok (first.now ++ rest.now)) }
+{
+    let len = first.len() + rest.len();
+    if out.len() < len {
+        return too_short_status(len);
+    }
+    out[..first.len()].copy_from_slice(first);
+    out[first.len()..len].copy_from_slice(rest);
     len_status(len)
 }
 

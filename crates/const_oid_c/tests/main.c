@@ -50,7 +50,7 @@ static uint32_t number(char **rest) {
 
 /* Prints why there is no result. */
 static void refused(const_oid_status status) {
-    uint8_t text[CONST_OID_MAX_ERROR_TEXT];
+    char text[CONST_OID_MAX_ERROR_TEXT];
     const_oid_status words = const_oid_error_text(status.code, status.detail, text, sizeof text);
     if (words.code != CONST_OID_OK) fail("a code has no text");
     if (status.code == CONST_OID_NONE) {
@@ -60,8 +60,7 @@ static void refused(const_oid_status status) {
     } else if (status.code == CONST_OID_UNSORTED) {
         printf("unsorted");
     } else {
-        printf("error %" PRIu32 " %" PRIu32 ": %.*s", status.code, status.detail, (int)words.len,
-            (const char *)text);
+        printf("error %" PRIu32 " %" PRIu32 ": %.*s", status.code, status.detail, (int)words.len, text);
     }
 }
 
@@ -76,14 +75,15 @@ static void written(const_oid_status status, const uint8_t *octets) {
 
 /* Fails unless a call whose output is one item shorter than the result of `status` says so, and wrote
  * nothing. */
-static void too_short(const_oid_status status, const_oid_status less, const uint8_t *out, size_t size) {
+static void too_short(const_oid_status status, const_oid_status less, const void *out, size_t size) {
+    const uint8_t *bytes = out;
     if (status.code != CONST_OID_OK) return;
     if (less.code != CONST_OID_OUTPUT_TOO_SHORT || less.len != status.len) fail("a short output is not rejected");
     for (size_t i = 0; i < size; i++)
-        if (out[i] != 0xEE) fail("a short output was written");
+        if (bytes[i] != 0xEE) fail("a short output was written");
 }
 
-static void text_row(const uint8_t *text, size_t len) {
+static void text_row(const char *text, size_t len) {
     uint8_t out[CONST_OID_MAX_OCTETS];
     uint8_t less[CONST_OID_MAX_OCTETS];
     const_oid_status status = const_oid_from_text(text, len, out, sizeof out);
@@ -110,8 +110,8 @@ static void walked(const bytes *row, const uint32_t *arcs, size_t count, size_t 
 
 static void octets_row(char *rest) {
     bytes row = read_hex(word(&rest));
-    static uint8_t text[4 * MOST];
-    static uint8_t less[4 * MOST];
+    static char text[4 * MOST];
+    static char less[4 * MOST];
     static uint32_t arcs[MOST + 1];
     static uint32_t few[MOST + 1];
     const_oid_status checked = const_oid_check(row.octets, row.len);
@@ -129,8 +129,8 @@ static void octets_row(char *rest) {
     memset(less, 0xEE, sizeof less);
     too_short(printed, const_oid_to_text(row.octets, row.len, less, printed.len - 1), less, sizeof less);
     memset(few, 0xEE, sizeof few);
-    too_short(all, const_oid_arcs(row.octets, row.len, few, all.len - 1), (const uint8_t *)few, sizeof few);
-    printf("%.*s, %zu arcs", (int)printed.len, (const char *)text, count.len);
+    too_short(all, const_oid_arcs(row.octets, row.len, few, all.len - 1), few, sizeof few);
+    printf("%.*s, %zu arcs", (int)printed.len, text, count.len);
     for (size_t i = 0; i < count.len; i++) {
         const_oid_status arc = const_oid_arc(row.octets, row.len, i);
         if (arc.code != CONST_OID_OK || arc.detail != arcs[i]) fail("an arc differs");
@@ -166,31 +166,71 @@ static void arcs_from_row(char *rest) {
     for (size_t i = 0; i < status.len; i++) printf(" %" PRIu32, out[i]);
 }
 
-static void subtree_row(char *rest) {
+/* The items of a list: the words that are left. Their number. */
+static size_t read_list(char **rest, const_oid_octets *items) {
     static bytes rows[MOST];
-    static const_oid_octets sorted[MOST];
-    const_oid_range range = {7, 7};
-    bytes prefix = read_hex(word(&rest));
     size_t count = 0;
-    while (*rest != 0 && count < MOST) {
-        rows[count] = read_hex(word(&rest));
-        sorted[count].octets = rows[count].octets;
-        sorted[count].len = rows[count].len;
+    while (**rest != 0 && count < MOST) {
+        rows[count] = read_hex(word(rest));
+        items[count].octets = rows[count].octets;
+        items[count].len = rows[count].len;
         count++;
     }
-    const_oid_status status = const_oid_subtree(prefix.octets, prefix.len, sorted, count, &range);
+    return count;
+}
+
+static void sorted_row(char *rest) {
+    static const_oid_octets items[MOST];
+    size_t count = read_list(&rest, items);
+    const_oid_status status = const_oid_check_sorted(items, count);
+    if (status.code == CONST_OID_OK) {
+        printf("sorted");
+        return;
+    }
+    refused(status);
+    printf(" at %zu", status.len);
+}
+
+/* Prints the index that a search found. */
+static void index_row(const char *call, char *rest) {
+    static const_oid_octets items[MOST];
+    bytes oid = read_hex(word(&rest));
+    size_t count = read_list(&rest, items);
+    const_oid_status status;
+    if (strcmp(call, "find") == 0) {
+        status = const_oid_find(oid.octets, oid.len, items, count);
+    } else if (strcmp(call, "next") == 0) {
+        status = const_oid_next(oid.octets, oid.len, items, count);
+    } else {
+        status = const_oid_nearest(oid.octets, oid.len, items, count);
+    }
+    if (status.code == CONST_OID_OK) {
+        if (status.detail != 0) fail("an index has a detail");
+        printf("%zu", status.len);
+        return;
+    }
+    if (status.len != 0) fail("no index has a len");
+    refused(status);
+}
+
+static void range_row(char *rest) {
+    static const_oid_octets items[MOST];
+    const_oid_range range = {7, 7};
+    bytes prefix = read_hex(word(&rest));
+    size_t count = read_list(&rest, items);
+    const_oid_status status = const_oid_subtree_range(prefix.octets, prefix.len, items, count, &range);
+    if (status.len != 0) fail("a range has a len");
     if (status.code == CONST_OID_OK) {
         printf("%zu %zu", range.start, range.end);
         return;
     }
     if (range.start != 7 || range.end != 7) fail("a range was written");
     refused(status);
-    printf(" at %zu", status.len);
 }
 
 static void error_row(char *rest) {
-    uint8_t text[CONST_OID_MAX_ERROR_TEXT];
-    uint8_t less[CONST_OID_MAX_ERROR_TEXT];
+    char text[CONST_OID_MAX_ERROR_TEXT];
+    char less[CONST_OID_MAX_ERROR_TEXT];
     uint32_t code = number(&rest);
     uint32_t detail = number(&rest);
     const_oid_status status = const_oid_error_text(code, detail, text, sizeof text);
@@ -203,7 +243,7 @@ static void error_row(char *rest) {
     memset(less, 0xEE, sizeof less);
     const_oid_error_text(code, detail, less, status.len);
     if (memcmp(less, text, status.len) != 0) fail("a text in an output of its length differs");
-    printf("%.*s", (int)status.len, (const char *)text);
+    printf("%.*s", (int)status.len, text);
 }
 
 static void in_word(const_oid_status status, const char *const *words) {
@@ -216,7 +256,7 @@ static void in_word(const_oid_status status, const char *const *words) {
 
 static void pair_row(const char *call, char *rest) {
     static const char *const whether[] = {"no", "yes"};
-    static const char *const orders[] = {"less", "equal", "greater"};
+    static const char *const orders[] = {"no order", "less", "equal", "greater"};
     bytes a = read_hex(word(&rest));
     bytes b = read_hex(word(&rest));
     if (strcmp(call, "begins") == 0) {
@@ -235,13 +275,13 @@ static void pair_row(const char *call, char *rest) {
 }
 
 static void answer(const char *call, char *rest) {
-    uint8_t out[CONST_OID_MAX_OCTETS];
-    uint8_t text[CONST_OID_MAX_ERROR_TEXT];
+    static uint8_t out[MOST];
+    char text[CONST_OID_MAX_ERROR_TEXT];
     if (strcmp(call, "text") == 0) {
-        text_row((const uint8_t *)rest, strlen(rest));
+        text_row(rest, strlen(rest));
     } else if (strcmp(call, "bytes") == 0) {
         bytes row = read_hex(word(&rest));
-        text_row(row.octets, row.len);
+        text_row((const char *)row.octets, row.len);
     } else if (strcmp(call, "octets") == 0) {
         octets_row(rest);
     } else if (strcmp(call, "arcs") == 0) {
@@ -254,13 +294,17 @@ static void answer(const char *call, char *rest) {
     } else if (strcmp(call, "child") == 0) {
         bytes row = read_hex(word(&rest));
         written(const_oid_push_arc(row.octets, row.len, number(&rest), out, sizeof out), out);
-    } else if (strcmp(call, "subtree") == 0) {
-        subtree_row(rest);
+    } else if (strcmp(call, "sorted") == 0) {
+        sorted_row(rest);
+    } else if (strcmp(call, "find") == 0 || strcmp(call, "next") == 0 || strcmp(call, "nearest") == 0) {
+        index_row(call, rest);
+    } else if (strcmp(call, "range") == 0) {
+        range_row(rest);
     } else if (strcmp(call, "error") == 0) {
         error_row(rest);
     } else if (strcmp(call, "message") == 0) {
         uint32_t code = number(&rest);
-        written(const_oid_error_text(code, number(&rest), text, sizeof text), text);
+        written(const_oid_error_text(code, number(&rest), text, sizeof text), (const uint8_t *)text);
     } else {
         pair_row(call, rest);
     }

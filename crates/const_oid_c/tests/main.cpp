@@ -9,15 +9,11 @@ static_assert(sizeof(const_oid_status) == 8 + sizeof(size_t), "a status has no o
 
 using Octets = std::vector<uint8_t>;
 
-static const uint8_t *bytes(std::string_view text) {
-    return reinterpret_cast<const uint8_t *>(text.data());
-}
-
 // The octets of a text, or none where the text is rejected.
 static Octets from_text(std::string_view text) {
-    const_oid_status wanted = const_oid_from_text(bytes(text), text.size(), nullptr, 0);
+    const_oid_status wanted = const_oid_from_text(text.data(), text.size(), nullptr, 0);
     Octets octets(wanted.code == CONST_OID_OUTPUT_TOO_SHORT ? wanted.len : 0);
-    const_oid_from_text(bytes(text), text.size(), octets.data(), octets.size());
+    const_oid_from_text(text.data(), text.size(), octets.data(), octets.size());
     return octets;
 }
 

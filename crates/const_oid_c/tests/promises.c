@@ -24,11 +24,12 @@ static int is(const_oid_status status, uint32_t code, uint32_t detail, size_t le
 /* A null input. */
 static void null_inputs(void) {
     uint8_t out[8];
+    char written[8];
     uint32_t arcs[8];
     const_oid_range range = {7, 7};
     const_oid_octets item = {NULL, 0};
     SEE(is(const_oid_from_text(NULL, 0, out, sizeof out), CONST_OID_EMPTY, 0, 0));
-    SEE(is(const_oid_to_text(NULL, 0, out, sizeof out), CONST_OID_EMPTY, 0, 0));
+    SEE(is(const_oid_to_text(NULL, 0, written, sizeof written), CONST_OID_EMPTY, 0, 0));
     SEE(is(const_oid_check(NULL, 0), CONST_OID_EMPTY, 0, 0));
     SEE(is(const_oid_len(NULL, 0), CONST_OID_EMPTY, 0, 0));
     SEE(is(const_oid_arc(NULL, 0, 0), CONST_OID_EMPTY, 0, 0));
@@ -47,16 +48,24 @@ static void null_inputs(void) {
     SEE(is(const_oid_cmp_arcs(oid, 3, NULL, 0), CONST_OID_EMPTY, 0, 0));
     SEE(is(const_oid_cmp_owned(NULL, 0, oid, 3), CONST_OID_EMPTY, 0, 0));
     SEE(is(const_oid_cmp_owned(oid, 3, NULL, 0), CONST_OID_EMPTY, 0, 0));
-    SEE(is(const_oid_subtree(NULL, 0, NULL, 0, &range), CONST_OID_EMPTY, 0, 0));
-    SEE(is(const_oid_subtree(oid, 3, &item, 1, &range), CONST_OID_EMPTY, 0, 0));
+    SEE(is(const_oid_check_sorted(NULL, 0), CONST_OID_OK, 0, 0));
+    SEE(is(const_oid_check_sorted(&item, 1), CONST_OID_EMPTY, 0, 0));
+    SEE(is(const_oid_find(NULL, 0, NULL, 0), CONST_OID_EMPTY, 0, 0));
+    SEE(is(const_oid_next(NULL, 0, NULL, 0), CONST_OID_EMPTY, 0, 0));
+    SEE(is(const_oid_nearest(NULL, 0, NULL, 0), CONST_OID_EMPTY, 0, 0));
+    SEE(is(const_oid_find(oid, 3, NULL, 0), CONST_OID_NONE, 0, 0));
+    SEE(is(const_oid_next(oid, 3, NULL, 0), CONST_OID_NONE, 0, 0));
+    SEE(is(const_oid_nearest(oid, 3, NULL, 0), CONST_OID_NONE, 0, 0));
+    SEE(is(const_oid_find(oid, 3, &item, 1), CONST_OID_NONE, 0, 0));
+    SEE(is(const_oid_subtree_range(NULL, 0, NULL, 0, &range), CONST_OID_EMPTY, 0, 0));
     SEE(range.start == 7 && range.end == 7);
-    SEE(is(const_oid_subtree(oid, 3, NULL, 0, &range), CONST_OID_OK, 0, 0));
+    SEE(is(const_oid_subtree_range(oid, 3, NULL, 0, &range), CONST_OID_OK, 0, 0));
     SEE(range.start == 0 && range.end == 0);
 }
 
 /* A null output finds the length of the result. */
 static void null_outputs(void) {
-    const uint8_t *text = (const uint8_t *)"1.2.3.4";
+    const char *text = "1.2.3.4";
     const uint32_t arcs[] = {1, 2, 3, 4};
     SEE(is(const_oid_from_text(text, 7, NULL, 0), CONST_OID_OUTPUT_TOO_SHORT, 0, 3));
     SEE(is(const_oid_to_text(oid, 3, NULL, 0), CONST_OID_OUTPUT_TOO_SHORT, 0, 7));
@@ -95,14 +104,14 @@ static void numbers(void) {
         CONST_OID_OUTPUT_TOO_SHORT, CONST_OID_NOT_UTF8, CONST_OID_NONE, CONST_OID_UNSORTED};
     static const int orders[] = {CONST_OID_LESS, CONST_OID_EQUAL, CONST_OID_GREATER};
     for (int i = 0; i < 14; i++) SEE(codes[i] == i);
-    for (int i = 0; i < 3; i++) SEE(orders[i] == i);
+    for (int i = 0; i < 3; i++) SEE(orders[i] == i + 1);
     SEE(CONST_OID_MAX_OCTETS == 255 && CONST_OID_MAX_TEXT == 1020 && CONST_OID_MAX_ARCS == 256);
     SEE(CONST_OID_USUAL_OCTETS == 39 && CONST_OID_MAX_ERROR_TEXT == 47);
 }
 
 static const_oid_status read_text(const char *text) {
     uint8_t out[CONST_OID_MAX_OCTETS];
-    return const_oid_from_text((const uint8_t *)text, strlen(text), out, sizeof out);
+    return const_oid_from_text(text, strlen(text), out, sizeof out);
 }
 
 /* Each code is that of the fault in its comment. */
@@ -112,8 +121,7 @@ static void codes(void) {
     static const uint8_t unfinished[] = {0x2A, 0x81};
     static const uint8_t large[CONST_OID_MAX_OCTETS + 1] = {0x2A};
     const const_oid_octets unsorted[] = {{oid, 3}, {oid, 2}};
-    uint8_t out[CONST_OID_MAX_ERROR_TEXT];
-    const_oid_range range = {7, 7};
+    char out[CONST_OID_MAX_ERROR_TEXT];
     SEE(read_text("1.2.3").code == CONST_OID_OK);
     SEE(is(read_text("3.1"), CONST_OID_ARC_INVALID, 3, 0));
     SEE(is(read_text("1.40"), CONST_OID_ARC_INVALID, 40, 0));
@@ -123,7 +131,7 @@ static void codes(void) {
     SEE(is(const_oid_check(unfinished, sizeof unfinished), CONST_OID_BASE128, 0, 0));
     SEE(is(read_text("1.2.X"), CONST_OID_DIGIT_EXPECTED, 'X', 0));
     SEE(is(read_text(""), CONST_OID_EMPTY, 0, 0) && is(read_text("1"), CONST_OID_EMPTY, 0, 0));
-    SEE(is(const_oid_parent(large, sizeof large, out, sizeof out), CONST_OID_LENGTH, 0, 0));
+    SEE(is(const_oid_cmp_owned(large, sizeof large, oid, 3), CONST_OID_LENGTH, 0, 0));
     SEE(is(const_oid_error_text(CONST_OID_OVERFLOW, 0, out, sizeof out), CONST_OID_OK, 0, 33));
     SEE(memcmp(out, "arithmetic calculation overflowed", 33) == 0);
     SEE(is(read_text("1..2"), CONST_OID_REPEATED_DOT, 0, 0));
@@ -131,7 +139,8 @@ static void codes(void) {
     SEE(is(const_oid_to_text(oid, 3, out, 6), CONST_OID_OUTPUT_TOO_SHORT, 0, 7));
     SEE(is(read_text("\xFF"), CONST_OID_NOT_UTF8, 0, 0));
     SEE(is(const_oid_arc(oid, 3, 4), CONST_OID_NONE, 0, 0));
-    SEE(is(const_oid_subtree(oid, 1, unsorted, 2, &range), CONST_OID_UNSORTED, 0, 1));
+    SEE(is(const_oid_check_sorted(unsorted, 2), CONST_OID_UNSORTED, 0, 1));
+    SEE(is(const_oid_find(oid, 1, unsorted, 2), CONST_OID_NONE, 0, 0));
 }
 
 /* Each order is that of the two identifiers in its comment. */
@@ -158,28 +167,28 @@ static void longest_error_text(void) {
 /* The longest octets print as much text and have as many arcs as the constants say. */
 static void constants(void) {
     uint8_t octets[CONST_OID_MAX_OCTETS + 1];
-    static uint8_t text[CONST_OID_MAX_TEXT];
+    static char text[CONST_OID_MAX_TEXT];
     uint32_t arcs[CONST_OID_MAX_ARCS];
     memset(octets, 0x7F, sizeof octets);
     SEE(is(const_oid_arcs(octets, CONST_OID_MAX_OCTETS, arcs, CONST_OID_MAX_ARCS), 0, 0, CONST_OID_MAX_ARCS));
     SEE(is(const_oid_to_text(octets, CONST_OID_MAX_OCTETS, text, sizeof text), 0, 0, CONST_OID_MAX_TEXT));
-    SEE(is(const_oid_parent(octets, CONST_OID_MAX_OCTETS + 1, NULL, 0), CONST_OID_LENGTH, 0, 0));
+    SEE(is(const_oid_cmp_owned(octets, CONST_OID_MAX_OCTETS + 1, octets, 1), CONST_OID_LENGTH, 0, 0));
     SEE(const_oid_version() == CONST_OID_VERSION);
 }
 
 /* An output is unchanged after the items that were written. */
 static void rest_of_output(void) {
-    uint8_t out[64];
-    memset(out, 0xEE, sizeof out);
+    char out[64];
+    memset(out, '#', sizeof out);
     const_oid_status status = const_oid_to_text(oid, 3, out, sizeof out);
     SEE(is(status, CONST_OID_OK, 0, 7) && memcmp(out, "1.2.3.4", 7) == 0);
-    for (size_t i = status.len; i < sizeof out; i++) SEE(out[i] == 0xEE);
+    for (size_t i = status.len; i < sizeof out; i++) SEE(out[i] == '#');
 }
 
 /* A tag and a length are read as contents octets. */
 static void whole_encoding(void) {
     static const uint8_t whole[] = {0x06, 0x03, 0x2A, 0x03, 0x04};
-    uint8_t out[16];
+    char out[16];
     const_oid_status status = const_oid_to_text(whole, sizeof whole, out, sizeof out);
     SEE(is(status, CONST_OID_OK, 0, 12) && memcmp(out, "0.6.3.42.3.4", 12) == 0);
 }

@@ -1,6 +1,7 @@
 //! The calls of the static library, as `crates/const_oid_c/include/const_oid.h` declares them.
 
 use std::cmp::Ordering;
+use std::marker::PhantomData;
 
 #[repr(C)]
 struct Status {
@@ -41,7 +42,12 @@ unsafe extern "C" {
     fn const_oid_cmp(a: *const u8, len: usize, b: *const u8, other_len: usize) -> Status;
     fn const_oid_cmp_arcs(a: *const u8, len: usize, b: *const u8, other_len: usize) -> Status;
     fn const_oid_cmp_owned(a: *const u8, len: usize, b: *const u8, other_len: usize) -> Status;
-    fn const_oid_subtree(
+    fn const_oid_check_sorted(items: *const Octets, count: usize) -> Status;
+    fn const_oid_find(oid: *const u8, len: usize, sorted: *const Octets, count: usize) -> Status;
+    fn const_oid_next(oid: *const u8, len: usize, sorted: *const Octets, count: usize) -> Status;
+    fn const_oid_nearest(oid: *const u8, len: usize, sorted: *const Octets, count: usize)
+    -> Status;
+    fn const_oid_subtree_range(
         octets: *const u8,
         len: usize,
         sorted: *const Octets,
@@ -112,7 +118,7 @@ fn of_two(call: OfTwo, a: &[u8], b: &[u8]) -> Answer<u32> {
 }
 
 fn order(number: u32) -> Ordering {
-    [Ordering::Less, Ordering::Equal, Ordering::Greater][number as usize]
+    [Ordering::Less, Ordering::Equal, Ordering::Greater][number as usize - 1]
 }
 
 pub fn starts_with(a: &[u8], b: &[u8]) -> Answer<bool> {
@@ -135,17 +141,63 @@ pub fn cmp_owned(a: &[u8], b: &[u8]) -> Answer<Ordering> {
     of_two(const_oid_cmp_owned, a, b).map(order)
 }
 
-pub fn subtree(octets: &[u8], sorted: &[&[u8]]) -> Answer<(usize, usize)> {
-    let lent = |octets: &&[u8]| Octets {
-        octets: octets.as_ptr(),
-        len: octets.len(),
-    };
-    let list: Vec<Octets> = sorted.iter().map(lent).collect();
-    let mut range = Range::default();
-    let (octets, len, list, count) = (octets.as_ptr(), octets.len(), list.as_ptr(), list.len());
-    answer(unsafe { const_oid_subtree(octets, len, list, count, &mut range) })?;
-    Ok((range.start, range.end))
+/// A list that the library reads, over octets that outlive it.
+pub struct List<'a> {
+    items: Vec<Octets>,
+    octets: PhantomData<&'a [u8]>,
 }
+
+impl<'a> List<'a> {
+    pub fn new(items: &[&'a [u8]]) -> Self {
+        let lent = |octets: &&[u8]| Octets {
+            octets: octets.as_ptr(),
+            len: octets.len(),
+        };
+        List {
+            items: items.iter().map(lent).collect(),
+            octets: PhantomData,
+        }
+    }
+
+    /// The code of the first wrong item, and its index.
+    pub fn check_sorted(&self) -> Result<(), (u32, usize)> {
+        let status = unsafe { const_oid_check_sorted(self.items.as_ptr(), self.items.len()) };
+        match status.code {
+            0 => Ok(()),
+            code => Err((code, status.len)),
+        }
+    }
+
+    pub fn find(&self, oid: &[u8]) -> Answer<usize> {
+        self.index(const_oid_find, oid)
+    }
+
+    pub fn next(&self, oid: &[u8]) -> Answer<usize> {
+        self.index(const_oid_next, oid)
+    }
+
+    pub fn nearest(&self, oid: &[u8]) -> Answer<usize> {
+        self.index(const_oid_nearest, oid)
+    }
+
+    fn index(&self, search: Search, oid: &[u8]) -> Answer<usize> {
+        let (items, count) = (self.items.as_ptr(), self.items.len());
+        let status = unsafe { search(oid.as_ptr(), oid.len(), items, count) };
+        let index = status.len;
+        answer(status).map(|_| index)
+    }
+
+    pub fn subtree_range(&self, oid: &[u8]) -> Answer<(usize, usize)> {
+        let mut range = Range::default();
+        let (items, count) = (self.items.as_ptr(), self.items.len());
+        answer(unsafe {
+            const_oid_subtree_range(oid.as_ptr(), oid.len(), items, count, &mut range)
+        })?;
+        Ok((range.start, range.end))
+    }
+}
+
+type Search = unsafe extern "C" fn(*const u8, usize, *const Octets, usize) -> Status;
 
 pub fn error_text(code: u32, detail: u32) -> Answer<Vec<u8>> {
     written(|out, out_len| unsafe { const_oid_error_text(code, detail, out, out_len) })

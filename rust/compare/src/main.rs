@@ -4,9 +4,9 @@
 mod draw;
 mod library;
 
-use const_oid::{Error, ObjectIdentifier, ObjectIdentifierRef};
+use const_oid::{ByArcs, Error, ObjectIdentifier, ObjectIdentifierRef};
 use draw::Draw;
-use library::Answer;
+use library::{Answer, List};
 use std::fmt::Debug;
 
 /// An identifier with the capacity of the library.
@@ -32,7 +32,7 @@ fn main() {
         accepted += u32::from(of_octets(&draw.octets()));
     }
     for _ in 0..count / 1000 {
-        of_subtree(&mut draw);
+        of_lists(&mut draw);
     }
     println!("{count} texts, octets and lists each: equal results ({accepted} accepted)");
 }
@@ -71,8 +71,11 @@ fn code(error: Error) -> (u32, u32) {
     }
 }
 
-/// The library's code of an arc or parent that does not exist.
+/// The library's code of an arc, parent or item that does not exist.
 const NONE: (u32, u32) = (12, 0);
+
+/// The library's code of a list that is not sorted.
+const UNSORTED: u32 = 13;
 
 fn bytes(oid: &ObjectIdentifierRef) -> Vec<u8> {
     oid.as_bytes().to_vec()
@@ -172,20 +175,72 @@ fn of_two(a: &Long, b: &Long, arc: u32) {
     }
 }
 
-/// Compares the ranges of a sorted list that begin with an identifier.
-fn of_subtree(draw: &mut Draw) {
+/// Compares what the library finds in lists with what a scan of them finds.
+fn of_lists(draw: &mut Draw) {
     let drawn: Vec<Vec<u8>> = (0..200).map(|_| draw.octets()).collect();
-    let mut sorted: Vec<&ObjectIdentifierRef> = Vec::new();
-    sorted.extend(
-        drawn
-            .iter()
-            .filter_map(|octets| ObjectIdentifierRef::from_bytes(octets).ok()),
+    let octets: Vec<&[u8]> = drawn.iter().map(Vec::as_slice).collect();
+    same(
+        &drawn,
+        first_wrong(&octets),
+        List::new(&octets).check_sorted(),
     );
-    sorted.sort();
-    let octets: Vec<&[u8]> = sorted.iter().map(|oid| oid.as_bytes()).collect();
-    for oid in &sorted {
-        let top = oid.parent().unwrap_or(oid);
-        let ours = Ok(top.subtree(&sorted));
-        same(top, ours, library::subtree(top.as_bytes(), &octets));
+    let mut sorted: Vec<&ObjectIdentifierRef> = Vec::new();
+    for octets in octets {
+        if let Ok(oid) = ObjectIdentifierRef::from_bytes(octets) {
+            let above = oid.parent().unwrap_or(oid);
+            let times = draw.below(3) as usize;
+            sorted.extend([oid, above].iter().take(times));
+        }
     }
+    sorted.sort_by_key(|oid| ByArcs(oid));
+    let octets: Vec<&[u8]> = sorted.iter().map(|oid| oid.as_bytes()).collect();
+    let list = List::new(&octets);
+    same(&octets, Ok(()), list.check_sorted());
+    for drawn in &drawn {
+        let read = ObjectIdentifierRef::from_bytes(drawn);
+        let Ok(oid) = read else {
+            same(drawn, coded(read).err(), list.find(drawn).err());
+            continue;
+        };
+        of_list_and(&sorted, &list, oid);
+        if let Some(above) = oid.parent() {
+            of_list_and(&sorted, &list, above);
+        }
+    }
+}
+
+/// The first item of a list that is invalid or comes before the previous one.
+fn first_wrong(items: &[&[u8]]) -> Result<(), (u32, usize)> {
+    let mut before: Option<&ObjectIdentifierRef> = None;
+    for (index, octets) in items.iter().enumerate() {
+        let oid = match ObjectIdentifierRef::from_bytes(octets) {
+            Ok(oid) => oid,
+            Err(error) => return Err((code(error).0, index)),
+        };
+        if before.is_some_and(|before| oid.cmp_arcs(before).is_lt()) {
+            return Err((UNSORTED, index));
+        }
+        before = Some(oid);
+    }
+    Ok(())
+}
+
+fn of_list_and(sorted: &[&ObjectIdentifierRef], list: &List<'_>, oid: &ObjectIdentifierRef) {
+    let octets = oid.as_bytes();
+    let first = |oid: &ObjectIdentifierRef| sorted.iter().position(|item| *item == oid);
+    let up = std::iter::successors(Some(oid), |oid| oid.parent());
+    let next = sorted.iter().position(|item| item.cmp_arcs(oid).is_gt());
+    let start = sorted
+        .iter()
+        .filter(|item| item.cmp_arcs(oid).is_lt())
+        .count();
+    let inside = sorted.iter().filter(|item| item.starts_with(oid)).count();
+    same(oid, first(oid).ok_or(NONE), list.find(octets));
+    same(oid, next.ok_or(NONE), list.next(octets));
+    same(
+        oid,
+        up.filter_map(first).next().ok_or(NONE),
+        list.nearest(octets),
+    );
+    same(oid, Ok((start, start + inside)), list.subtree_range(octets));
 }

@@ -1,9 +1,10 @@
 //! The exported functions, over pointers. The header says what a caller guarantees: a pointer is valid
 //! for its length, or null with length 0, and an output overlaps no input.
 
+use crate::calls::lists::Range;
 use crate::calls::status::Status;
-use crate::calls::subtree::Range;
-use crate::calls::{arcs, errors, order, subtree, texts, tree, version};
+use crate::calls::{arcs, errors, lists, order, texts, tree, version};
+use const_oid::internal_for_const_oid_c::search::Contents;
 use const_oid::internal_for_const_oid_c::{Error, ObjectIdentifierRef};
 use core::marker::PhantomData;
 use core::mem::MaybeUninit;
@@ -22,6 +23,12 @@ impl<'a> Octets<'a> {
     pub(crate) fn get(&self) -> &'a [u8] {
         // SAFETY: nothing in Rust makes or changes these fields, so they are what C guaranteed.
         unsafe { input(self.octets, self.len) }
+    }
+}
+
+impl Contents for Octets<'_> {
+    fn contents(&self) -> &[u8] {
+        self.get()
     }
 }
 
@@ -161,6 +168,26 @@ macro_rules! writes {
     };
 }
 
+/// A call that searches for an identifier in a list.
+macro_rules! searches {
+    ($name:ident) => {
+        /// # Safety
+        ///
+        /// The header says what a caller guarantees.
+        #[unsafe(no_mangle)]
+        pub unsafe extern "C" fn $name(
+            octets: *const u8,
+            len: usize,
+            sorted: *const Octets<'_>,
+            count: usize,
+        ) -> Status {
+            // SAFETY: the caller guarantees it.
+            let (octets, sorted) = unsafe { (input(octets, len), input(sorted, count)) };
+            lists::$name(octets, sorted)
+        }
+    };
+}
+
 reads!(arcs, const_oid_check);
 reads!(arcs, const_oid_len);
 reads!(arcs, const_oid_arc, index: usize);
@@ -169,6 +196,9 @@ reads_both!(const_oid_starts_with);
 reads_both!(const_oid_cmp);
 reads_both!(const_oid_cmp_arcs);
 reads_both!(const_oid_cmp_owned);
+searches!(const_oid_find);
+searches!(const_oid_next);
+searches!(const_oid_nearest);
 writes!(texts, const_oid_from_text, u8, u8);
 writes!(texts, const_oid_to_text, u8, u8);
 writes!(arcs, const_oid_from_arcs, u32, u8);
@@ -196,7 +226,17 @@ pub unsafe extern "C" fn const_oid_error_text(
 ///
 /// The header says what a caller guarantees.
 #[unsafe(no_mangle)]
-pub unsafe extern "C" fn const_oid_subtree(
+pub unsafe extern "C" fn const_oid_check_sorted(items: *const Octets<'_>, count: usize) -> Status {
+    // SAFETY: the caller guarantees it.
+    let items = unsafe { input(items, count) };
+    lists::const_oid_check_sorted(items)
+}
+
+/// # Safety
+///
+/// The header says what a caller guarantees.
+#[unsafe(no_mangle)]
+pub unsafe extern "C" fn const_oid_subtree_range(
     octets: *const u8,
     len: usize,
     sorted: *const Octets<'_>,
@@ -206,7 +246,7 @@ pub unsafe extern "C" fn const_oid_subtree(
     // SAFETY: the caller guarantees it.
     let (octets, sorted) = unsafe { (input(octets, len), input(sorted, count)) };
     let mut found = Range { start: 0, end: 0 };
-    let status = subtree::const_oid_subtree(octets, sorted, &mut found);
+    let status = lists::const_oid_subtree_range(octets, sorted, &mut found);
     if status.code == 0 {
         // SAFETY: the caller guarantees that the range can be written.
         unsafe { range.write(found) };

@@ -135,6 +135,18 @@ pub const CRATES: &[Crate] = &[
                 why: "the crate has one name for the type",
             },
             Edit {
+                module: "db_sorted",
+                old: "(self.entries, &oid)",
+                new: "(self.entries, &oid.erased())",
+                why: LENT,
+            },
+            Edit {
+                module: "by_arcs,db_sorted",
+                old: "(self.entries, oid)",
+                new: "(self.entries, &oid.erased())",
+                why: LENT,
+            },
+            Edit {
                 module: "parts",
                 old: "use core::simd::prelude::*; use core::simd::u8x32;",
                 new: "",
@@ -241,9 +253,10 @@ pub const CRATES: &[Crate] = &[
                 why: "the cargo crate has the generated types under this name",
             },
             Edit {
-                module: "subtree",
+                module: "lists",
                 old: "#[repr(C)] #[derive(Clone, Copy)] pub struct Octets<'a> { pub octets: &'a [u8], }
-                    impl<'a> Octets<'a> { fn get(&self) -> &'a [u8] { self.octets } }",
+                    impl<'a> Octets<'a> { fn get(&self) -> &'a [u8] { self.octets } }
+                    impl Contents for Octets<'_> { fn contents(&self) -> &[u8] { self.octets } }",
                 new: "pub use crate::edge::Octets;",
                 why: "C gives a pointer, which may be null, and a length: `edge.rs` has such a type",
             },
@@ -263,6 +276,12 @@ pub const CRATES: &[Crate] = &[
                 module: "output",
                 old: "out[..len].copy_from_slice(bytes);",
                 new: "crate::edge::copy(bytes, out);",
+                why: UNWRITTEN,
+            },
+            Edit {
+                module: "output",
+                old: "out[..first.len()].copy_from_slice(first); out[first.len()..len].copy_from_slice(rest);",
+                new: "crate::edge::copy(first, out); crate::edge::copy(rest, &mut out[first.len()..]);",
                 why: UNWRITTEN,
             },
             Edit {

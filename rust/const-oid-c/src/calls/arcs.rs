@@ -53,7 +53,7 @@ fn write_large(arcs: &[u32], out: &mut crate::edge::Output<u8>) -> Status {
 }
 
 /// The identifier that has these arcs.
-fn encoded<const N: usize>(arcs: &[u32]) -> Result<ObjectIdentifier<N>> {
+pub(crate) fn encoded<const N: usize>(arcs: &[u32]) -> Result<ObjectIdentifier<N>> {
     ObjectIdentifier::<N>::from_arcs_sized(arcs.iter().copied())
 }
 

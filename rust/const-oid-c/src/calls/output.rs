@@ -15,6 +15,17 @@ pub(crate) fn write_bytes(bytes: &[u8], out: &mut crate::edge::Output<u8>) -> St
     len_status(len)
 }
 
+/// Writes two slices, one after the other, at the start of a slice, if they fit.
+pub(crate) fn write_joined(first: &[u8], rest: &[u8], out: &mut crate::edge::Output<u8>) -> Status {
+    let len = first.len() + rest.len();
+    if out.len() < len {
+        return too_short_status(len);
+    }
+    crate::edge::copy(first, out);
+    crate::edge::copy(rest, &mut out[first.len()..]);
+    len_status(len)
+}
+
 /// Writes the octets of an identifier, or reports its fault.
 pub(crate) fn write_octets<const N: usize>(
     oid: Result<ObjectIdentifier<N>>,

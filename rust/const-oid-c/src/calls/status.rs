@@ -11,7 +11,7 @@ pub(crate) const TOO_SHORT: u32 = 10;
 /// The code of a text that is not UTF-8.
 pub(crate) const NOT_UTF8: u32 = 11;
 
-/// The code of an arc, parent or text that does not exist.
+/// The code of an arc, parent, item or text that does not exist.
 pub(crate) const NONE: u32 = 12;
 
 /// The code of a list that is not sorted.
@@ -26,9 +26,8 @@ pub struct Status {
     /// With code 0 the arc, the flag or the order that the call returns. With code 1 the arc, and with
     /// code 4 the byte. Otherwise 0.
     pub detail: u32,
-    /// With code 0 the number of items that were written or counted. With code 10 the number of items
-    /// of the result. For a wrong item of a list its index, and for a wrong identifier that comes with
-    /// a list the number of items of the list. Otherwise 0.
+    /// With code 0 the number of items that were written or counted, or the index that was found. With
+    /// code 10 the number of items of the result. For a wrong item of a list its index. Otherwise 0.
     pub len: usize,
 }
 
@@ -93,11 +92,11 @@ pub(crate) fn flag_status(holds: bool) -> Status {
     number_status(if holds { 1 } else { 0 })
 }
 
-/// The result is an order.
+/// The result is an order. No order is 0, which a fault leaves in `detail`.
 pub(crate) fn order_status(ordering: Ordering) -> Status {
     number_status(match ordering {
-        Ordering::Less => 0,
-        Ordering::Equal => 1,
-        Ordering::Greater => 2,
+        Ordering::Less => 1,
+        Ordering::Equal => 2,
+        Ordering::Greater => 3,
     })
 }

@@ -2,14 +2,14 @@
 
 //! Parents and children.
 
-use crate::calls::output::{write_bytes, write_octets};
-use crate::calls::owned::{MAX_OCTETS, is_too_long, read_owned};
+use crate::calls::arcs::encoded;
+use crate::calls::output::{write_bytes, write_joined};
 use crate::calls::status::{NONE, Status, code_status, error_status};
-use const_oid::internal_for_const_oid_c::{ObjectIdentifier, Result};
+use const_oid::internal_for_const_oid_c::{ObjectIdentifier, ObjectIdentifierRef, Result};
 
 /// Writes the contents octets of all arcs except the last.
 pub fn const_oid_parent(octets: &[u8], out: &mut crate::edge::Output<u8>) -> Status {
-    match read_owned(octets) {
+    match ObjectIdentifierRef::from_bytes(octets) {
         Ok(oid) => match oid.parent() {
             Some(parent) => write_bytes(parent.as_bytes(), out),
             None => code_status(NONE),
@@ -18,26 +18,18 @@ pub fn const_oid_parent(octets: &[u8], out: &mut crate::edge::Output<u8>) -> Sta
     }
 }
 
-/// Writes the contents octets of an identifier with one more arc.
+/// Writes the contents octets of an identifier with one more arc: its octets, and those of the arc.
 pub fn const_oid_push_arc(octets: &[u8], arc: u32, out: &mut crate::edge::Output<u8>) -> Status {
-    // A small identifier is quicker to make.
-    let small = child::<39>(octets, arc);
-    if is_too_long(&small) {
-        return write_large(octets, arc, out);
+    match ObjectIdentifierRef::from_bytes(octets) {
+        Ok(_) => match zero_child(arc) {
+            Ok(child) => write_joined(octets, &child.as_bytes()[1..], out),
+            Err(fault) => error_status(fault),
+        },
+        Err(fault) => error_status(fault),
     }
-    write_octets(small, out)
 }
 
-/// Writes the contents octets of an identifier with one more arc, where they may be many.
-#[inline(never)]
-fn write_large(octets: &[u8], arc: u32, out: &mut crate::edge::Output<u8>) -> Status {
-    write_octets(child::<MAX_OCTETS>(octets, arc), out)
-}
-
-/// The identifier that octets encode, with one more arc.
-fn child<const N: usize>(octets: &[u8], arc: u32) -> Result<ObjectIdentifier<N>> {
-    match ObjectIdentifier::<N>::from_bytes_sized(octets) {
-        Ok(oid) => oid.push_arc(arc),
-        Err(fault) => Err(fault),
-    }
+/// The identifier 0.0 with one more arc. Its octets are 0 and those of the arc, five at most.
+fn zero_child(arc: u32) -> Result<ObjectIdentifier<6>> {
+    encoded::<6>(&[0, 0, arc])
 }

@@ -4,6 +4,7 @@
 
 use crate::ObjectIdentifierRef;
 use crate::erased::compare::are_equal;
+use crate::erased::search::{Contents, end_of, first_of, nearest_of, subtree_of};
 
 /// An identifier and its name.
 type Entry<'a> = (&'a ObjectIdentifierRef, &'a str);
@@ -38,56 +39,36 @@ impl<'a> SortedDatabase<'a> {
     /// The name in the first entry with this identifier, or `None` if there is no such entry.
     #[doc = include_str!("../examples/SortedDatabase.by_oid.md")]
     pub fn by_oid(&self, oid: &ObjectIdentifierRef) -> Option<&'a str> {
-        Some(self.first(oid)?.1)
+        let index = first_of(self.entries, &oid.erased())?;
+        Some(self.entries[index].1)
     }
 
     /// The entry with the longest prefix of the identifier, which may be all of it, or `None` if the table has no
     /// prefix. If several entries have it, the first.
     #[doc = include_str!("../examples/SortedDatabase.nearest.md")]
     pub fn nearest(&self, oid: &ObjectIdentifierRef) -> Option<&'a Entry<'a>> {
-        // All that the identifier begins with come up to it, and the last entry up to it begins with them.
-        let last = self.entries[..self.end_of(&oid)].last()?;
-        let mut above = oid;
-        loop {
-            if last.0.starts_with(&above) {
-                if let Some(entry) = self.first(&above) {
-                    return Some(entry);
-                }
-            }
-            above = above.parent()?;
-        }
+        let index = nearest_of(self.entries, &oid.erased())?;
+        Some(&self.entries[index])
     }
 
     /// The entries of the identifier and of its descendants.
     #[doc = include_str!("../examples/SortedDatabase.subtree.md")]
     pub fn subtree(&self, oid: &ObjectIdentifierRef) -> &'a [Entry<'a>] {
-        let from = &self.entries[self.start_of(oid)..];
-        let count = from.partition_point(|entry| entry.0.starts_with(oid));
-        &from[..count]
+        let (from, end) = subtree_of(self.entries, &oid.erased());
+        &self.entries[from..end]
     }
 
     /// The first entry after the identifier, which need not be in the table: what GETNEXT of SNMP returns (RFC 3416).
     #[doc = include_str!("../examples/SortedDatabase.next_after.md")]
     pub fn next_after(&self, oid: &ObjectIdentifierRef) -> Option<&'a Entry<'a>> {
-        self.entries.get(self.end_of(oid))
+        self.entries.get(end_of(self.entries, &oid.erased()))
     }
+}
 
-    /// The first entry of this identifier.
-    fn first(&self, oid: &ObjectIdentifierRef) -> Option<&'a Entry<'a>> {
-        let entry = self.entries.get(self.start_of(oid))?;
-        has_ref(entry, oid).then_some(entry)
-    }
-
-    /// The index of the first entry that does not come before the identifier.
-    fn start_of(&self, oid: &ObjectIdentifierRef) -> usize {
-        self.entries
-            .partition_point(|entry| entry.0.cmp_arcs(oid).is_lt())
-    }
-
-    /// The index of the first entry that comes after the identifier.
-    fn end_of(&self, oid: &ObjectIdentifierRef) -> usize {
-        self.entries
-            .partition_point(|entry| oid.cmp_arcs(&entry.0).is_ge())
+/// The octets of an entry are those of its identifier.
+impl Contents for (&ObjectIdentifierRef, &str) {
+    fn contents(&self) -> &[u8] {
+        self.0.as_bytes()
     }
 }
 

@@ -18,6 +18,8 @@ pub mod oid;
 pub mod oid_ref;
 mod parser;
 mod parts;
+// Its functions are for the other crates: Rust hides them.
+pub mod search;
 mod text;
 
 mod valid;

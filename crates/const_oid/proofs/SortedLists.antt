@@ -1,0 +1,277 @@
+-- Lists in the order of arcs: where tests by octets cut them, and what is there.
+use Rattle.std.proofs.Common.{◌≡◌, ◌≢◌, ℕ, ◌+◌, ◌-◌, ◌<◌, ◌≤◌, Bool, true, false, List, [], ◌∷◌, ◌++◌, length, take, drop, get_or}
+use Rattle.std.proofs.Common.{Option, Some, None, nat_cmp, nat_eq, refl, sym, ap, ◌∙◌, arith, ⊎_elim, rules, slice_get}
+use Rattle.std.proofs.Common.{length-append, append-nil, append_assoc}
+use Rattle.std.specs.{Prelude.{◌↔◌, IfSome}, Cmp.Lexicographic.{pointwise, slice_cmp, same_text, texts_ties}}
+use Rattle.std.specs.Ordering.{is_lt, is_ge}
+use Rattle.std.specs.List.{All, AllWithin, HoldsAt, find, position, position_or_len}
+use Rattle.std.specs.List.Sorted.{IsPartitionedBy, IsPartitionPoint}
+use Rattle.std.proofs.lemmas.{Cmp.{nat_list_cmp_total, nat_list_eq_equiv}, List.{get_or-drop, length-drop}, List.Folds.find_at}
+use Rattle.std.proofs.lemmas.List.Sorted.{sorted_far, ranks_by}
+use Rattle.std.proofs.lemmas.List.Sums.{passes_at_first, fails_before_first}
+use Rattle.std.proofs.lemmas.{Option.{gets, slice_get_cases}, Bool.{cases_lt, Decides.nat_tests}, Grind.common_steps}
+use Rattle.const_oid.specs.{declared.oid_ref.ObjectIdentifierRef.ObjectIdentifierRef, OidRef.{ref_arcs, ref_octets}}
+use Rattle.const_oid.specs.{Contents.arcs_of_octets, Identifier.{root_rule, IsEncoding}, Names.IsNearestBy, Orders.parts_cmp}
+use Rattle.const_oid.specs.{SortedList.{IsSortedList, item_arcs, has_item_arcs}, Tree.{BeginsWith, parent_of}}
+use Rattle.const_oid.proofs.BeginsWith.{is_before, is_under, under_iff, under_apart, tells_under, iff_begins, not_greater}
+use Rattle.const_oid.proofs.{ByParts.{arcs_cmp, run_between}, Encodings.{ref_encoding, iff_arcs}}
+use Rattle.const_oid.proofs.{Parents.{none_of_two, two_arcs}, Tree.child_of-parent_of}
+use Rattle.const_oid.proofs.Subtree.{IsCut, key_before, key_under, cut_by, under_between}
+
+-- ---- a test by octets in place of one by arcs
+
+module _ {X : Type 0} (p q : X → Bool) (xs : List X)
+    (same : (k : ℕ) (d : X) → k < length xs → p (get_or xs k d) ≡ q (get_or xs k d)) where
+  pub parted_as : IsPartitionedBy p xs → IsPartitionedBy q xs
+  parted_as by i j d le l t = sym (same i d (omega arith)) ∙ by i j d le l (same j d l ∙ t)
+
+  pub cut_as : (i : ℕ) → i ≤ length xs → IsCut q xs i → IsCut p xs i
+  cut_as i w (early, late) = (
+    λ k d z l. same k d (omega arith) ∙ early k d z l,
+    λ k d m l. same k d l ∙ late k d m l,
+  )
+
+-- ---- the first element that passes a test
+
+module _ {X : Type 0} (p : X → Bool) (xs : List X) where
+  pub position_is : (i : ℕ) → i < length xs → AllWithin (λ x. p x ≡ false) xs 0 i → HoldsAt (λ x. p x ≡ true) xs i
+      → Some i ≡ position p xs
+  position_is i l early at = ⊎_elim
+      (λ (d, m, is, read).
+      grind (arith, nat_tests, passes_at_first p xs d, fails_before_first p xs i d, early (position_or_len p xs) d, at d))
+      (λ (m, none). absurd (omega arith))
+      (slice_get_cases xs i).1
+
+  pub position_none : All (λ x. p x ≡ false) xs → None ≡ position p xs
+  position_none none = ⊎_elim
+      (λ (d, m, is, read). grind (arith, nat_tests, passes_at_first p xs d, none (position_or_len p xs) d))
+      (λ (m, past). grind (arith, nat_tests))
+      (slice_get_cases xs 0).1
+
+  pub find_some : (i : ℕ) → Some i ≡ position p xs → find p xs ≡ slice_get xs i
+  find_some i e = grind (arith, nat_tests, find_at, slice_get_cases xs i)
+
+  pub find_none : None ≡ position p xs → find p xs ≡ None
+  find_none e = grind (arith, nat_tests, find_at, slice_get_cases xs (position_or_len p xs))
+
+-- ---- lists of arcs
+
+upto_down : (arcs x z : List ℕ) → is_before x z ≡ false → is_ge (slice_cmp nat_cmp arcs z) ≡ true
+    → is_ge (slice_cmp nat_cmp arcs x) ≡ true
+upto_down arcs x z level t = grind (arith, ranks_by, nat_list_cmp_total)
+
+none_before : (arcs x : List ℕ) → is_before arcs x ≡ true → pointwise nat_eq x arcs ≡ false
+none_before arcs x early = grind (arith, texts_ties)
+
+none_after : (arcs first x : List ℕ) → is_before arcs first ≡ false → is_before first x ≡ false
+    → pointwise nat_eq first arcs ≡ false → pointwise nat_eq x arcs ≡ false
+none_after arcs first x late level other = grind (arith, texts_ties, nat_list_cmp_total)
+
+-- encodings are equal exactly where their arcs are
+has_same : (a b x y : List ℕ) → IsEncoding root_rule x a → IsEncoding root_rule y b
+    → pointwise nat_eq a b ≡ pointwise nat_eq x y
+has_same a b x y e f =
+    let arcs = iff_arcs (pointwise nat_eq a b ≡ true) e f (search rules) in
+    search rules
+
+-- ---- a sorted list
+
+module _ {Item : Type 0} (octets_of : Item → List ℕ) (oid : ObjectIdentifierRef) (items : List Item)
+    (list : IsSortedList octets_of items) where
+  abbrev pub is_early : Item → Bool
+  is_early item = is_lt (parts_cmp (octets_of item) (ref_octets oid))
+
+  abbrev pub is_upto : Item → Bool
+  is_upto item = is_ge (parts_cmp (ref_octets oid) (octets_of item))
+
+  abbrev pub is_inside : Item → Bool
+  is_inside item = is_under (ref_octets oid) (octets_of item)
+
+  abbrev pub upto_arcs : Item → Bool
+  upto_arcs item = is_ge (slice_cmp nat_cmp (ref_arcs oid) (item_arcs octets_of item))
+
+  pub early_same : (k : ℕ) (d : Item) → k < length items
+      → key_before (item_arcs octets_of) (ref_arcs oid) (get_or items k d) ≡ is_early (get_or items k d)
+  early_same k d l = ap is_lt (sym (arcs_cmp (list.valid k d l) (ref_encoding oid)))
+
+  pub upto_same : (k : ℕ) (d : Item) → k < length items
+      → upto_arcs (get_or items k d) ≡ is_upto (get_or items k d)
+  upto_same k d l = ap is_ge (sym (arcs_cmp (ref_encoding oid) (list.valid k d l)))
+
+  pub item_same : (k : ℕ) (d : Item) → k < length items
+      → pointwise nat_eq (octets_of (get_or items k d)) (ref_octets oid) ≡ has_item_arcs octets_of (ref_arcs oid) (get_or items k d)
+  item_same k d l = has_same _ _ _ _ (list.valid k d l) (ref_encoding oid)
+
+  pub cut_upto : IsPartitionedBy upto_arcs items
+  cut_upto = cut_by (item_arcs octets_of) items list.sorted (λ x. is_ge (slice_cmp nat_cmp (ref_arcs oid) x)) (upto_down (ref_arcs oid))
+
+  pub inside_same : (from k : ℕ) (d : Item) → k < length (drop from items)
+      → key_under (item_arcs octets_of) (ref_arcs oid) (get_or (drop from items) k d) ≡ is_inside (get_or (drop from items) k d)
+  inside_same from k d l =
+      let n = length-drop from items in
+      let item = get_or items (from + k) d in
+      let same : is_inside item ≡ key_under (item_arcs octets_of) (ref_arcs oid) item =
+      tells_under (ref_arcs oid) (item_arcs octets_of item) (is_inside item)
+      (iff_begins _ (list.valid (from + k) d (omega (arith, n))) (ref_encoding oid)
+      (under_iff (ref_octets oid) (octets_of item))) in
+      rw (get_or-drop from items k d) (sym same)
+
+  module _ (i : ℕ) (within : i ≤ length items) (cut : IsCut (key_before (item_arcs octets_of) (ref_arcs oid)) items i) where
+    early_other : AllWithin (λ item. has_item_arcs octets_of (ref_arcs oid) item ≡ false) items 0 i
+    early_other k d z l = none_before (ref_arcs oid) _ (cut.0 k d z l)
+
+    pub first_is : i < length items → HoldsAt (λ item. has_item_arcs octets_of (ref_arcs oid) item ≡ true) items i
+        → Some i ≡ position (has_item_arcs octets_of (ref_arcs oid)) items
+    first_is l at = position_is _ items i l early_other at
+
+    pub first_none : (i < length items → (d : Item) → has_item_arcs octets_of (ref_arcs oid) (get_or items i d) ≡ false)
+        → None ≡ position (has_item_arcs octets_of (ref_arcs oid)) items
+    first_none other =
+        let far = sorted_far _ (ranks_by nat_list_cmp_total (item_arcs octets_of)) items list.sorted in
+        position_none _ items (λ k d l. ⊎_elim
+        (λ (early : k < i). early_other k d (omega arith) early)
+        (λ (late : i ≤ k).
+        none_after (ref_arcs oid) _ _ (cut.1 i d (omega arith) (omega arith)) (far i k d late l) (other (omega arith) d))
+        (cases_lt k i))
+
+  pub range_is : (from count : ℕ) → IsCut (key_before (item_arcs octets_of) (ref_arcs oid)) items from
+      → IsCut (key_under (item_arcs octets_of) (ref_arcs oid)) (drop from items) count → (k : ℕ)
+      → IfSome (slice_get items k) (λ item.
+      BeginsWith (item_arcs octets_of item) (ref_arcs oid) ↔ ((from ≤ k) × (k < from + count)))
+  range_is from count first second k =
+      let between = under_between (item_arcs octets_of) (ref_arcs oid) items from count first second k in
+      grind (arith, slice_get_cases items k, between, under_iff)
+
+-- ---- from an identifier up to the root
+
+above_child : (parent : List ℕ) (last : ℕ) (prefix rest : List ℕ) → parent ++ last ∷ [] ≡ prefix ++ rest → rest ≢ []
+    → BeginsWith parent prefix
+above_child parent last [] rest e some = (parent, refl)
+above_child [] last (y ∷ ys) rest e some = grind (arith, common_steps, some, ap length e)
+above_child (x ∷ xs) last (y ∷ ys) rest e some = grind (arith, above_child xs last ys rest (cc) some)
+
+above_root : (arcs prefix : List ℕ) → length arcs ≡ 2 → 2 ≤ length prefix → BeginsWith arcs prefix → prefix ≢ arcs → ⊥
+above_root arcs prefix two more begins other = grind (arith, nat_tests, common_steps, append-nil, length-append)
+
+module _ {Item : Type 0} (octets_of : Item → List ℕ) (items : List Item) (arcs : List ℕ) where
+  -- a list comprises what arcs begin with in a list of items: it begins with each item's arcs that they begin with
+  abbrev pub Comprises : List ℕ → Type 0
+  Comprises prefix = All (λ item. BeginsWith arcs (item_arcs octets_of item) → BeginsWith prefix (item_arcs octets_of item)) items
+
+  -- no item is above them, or theirs
+  abbrev pub IsNoneAbove : Type 0
+  IsNoneAbove = All (λ item. BeginsWith arcs (item_arcs octets_of item) → ⊥) items
+
+  -- an index has the items up to them before it, and the later ones after it
+  abbrev pub IsEnd : ℕ → Type 0
+  IsEnd = IsPartitionPoint (λ item. is_before (item_arcs octets_of item) arcs ≡ false)
+      (λ item. is_before (item_arcs octets_of item) arcs ≡ true) items
+
+  -- a list is reached on the way up from arcs: no item that they begin with is below it, or not above the last one
+  pub record IsReached (last above : List ℕ) : Type 0 where
+    pub begins : BeginsWith arcs above
+    pub others : Comprises above
+    pub valid : IsEncoding root_rule (arcs_of_octets last) last
+    pub near : Comprises (arcs_of_octets last)
+
+  module _ (list : IsSortedList octets_of items) where
+    far : (i j : ℕ) (d : Item) → i ≤ j → j < length items
+        → is_before (item_arcs octets_of (get_or items i d)) (item_arcs octets_of (get_or items j d)) ≡ false
+    far = sorted_far _ (ranks_by nat_list_cmp_total (item_arcs octets_of)) items list.sorted
+
+    module _ (index : ℕ) (end : IsEnd index) (within : index ≤ length items) where
+      -- what they begin with is up to them
+      upto : (k : ℕ) (d : Item) → k < length items → BeginsWith arcs (item_arcs octets_of (get_or items k d)) → k < index
+      upto k d l b = grind (arith, under_apart, under_iff, end.1 k d, nat_list_cmp_total)
+
+      abbrev near_end : Option Item
+      near_end = slice_get (take index items) (length (take index items) - 1)
+
+      -- the last item up to the arcs begins with all that they begin with
+      pub last_begins : (last : Item) → Some last ≡ near_end → Comprises (item_arcs octets_of last)
+      last_begins last e k d l b =
+          let prefix = item_arcs octets_of (get_or items k d) in
+          let before = upto k d l b in
+          let is : get_or items (index - 1) d ≡ last = grind (arith, common_steps, gets) in
+          let level = rw is at (far k (index - 1) d (omega arith) (omega arith)) in
+          run_between prefix prefix (item_arcs octets_of last) arcs ([], sym (append-nil prefix)) b
+          (λ early. cc (level, early))
+          (not_greater (item_arcs octets_of last) arcs (rw is at (end.0 (index - 1) d (omega arith) (omega arith))))
+
+      -- it is valid
+      pub last_valid : (last : Item) → Some last ≡ near_end → IsEncoding root_rule (item_arcs octets_of last) (octets_of last)
+      last_valid last e =
+          let is : get_or items (index - 1) last ≡ last = grind (arith, common_steps, gets) in
+          rw is at (list.valid (index - 1) last (grind (arith, common_steps, gets)))
+
+      -- without an item up to the arcs, they begin with none
+      pub none_begins : None ≡ near_end → IsNoneAbove
+      none_begins e k d l b = let before = upto k d l b in grind (arith, common_steps, gets)
+
+      pub reached_itself : (last : Item) → Some last ≡ near_end → IsReached (octets_of last) arcs
+      reached_itself last e = record {
+        begins = ([], sym (append-nil arcs));
+        others = λ k d l b. b;
+        valid = last_valid last e;
+        near = last_begins last e;
+      }
+
+    module _ (last : List ℕ) (oid : ObjectIdentifierRef) (reached : IsReached last (ref_arcs oid)) where
+      abbrev is_item : Item → Bool
+      is_item = has_item_arcs octets_of (ref_arcs oid)
+
+      itself : (item : Item) → find is_item items ≡ Some item → item_arcs octets_of item ≡ ref_arcs oid
+      itself item e = grind (arith, find_at, slice_get_cases, passes_at_first, fails_before_first, same_text)
+
+      -- its first item is the nearest one
+      pub reached_nearest : (index : ℕ) → Some index ≡ position is_item items
+          → IfSome (slice_get items index) (IsNearestBy (item_arcs octets_of) items arcs)
+      reached_nearest index e = ⊎_elim
+          (λ (item, l, is, read).
+          let found = find_some is_item items index e ∙ is in
+          let same = itself item found in
+          rw is (record { begins = rw same reached.begins; first = rw same found; longest = rw same reached.others }))
+          (λ (l, none). rw none tt)
+          (slice_get_cases items index).1
+
+      pub reached_first : (index : ℕ) → Some index ≡ position is_item items → IfSome (slice_get items index)
+          (λ item. position (has_item_arcs octets_of (item_arcs octets_of item)) items ≡ Some index)
+      reached_first index e = ⊎_elim
+          (λ (item, l, is, read).
+          let same = itself item (find_some is_item items index e ∙ is) in
+          rw is (rw same (sym e)))
+          (λ (l, none). rw none tt)
+          (slice_get_cases items index).1
+
+      abbrev IsNoItem : Type 0
+      IsNoItem = All (λ item. item_arcs octets_of item ≢ ref_arcs oid) items
+
+      -- where the last one does not begin with it, or the list has no item of it
+      pub no_item : (tells : Bool) → (tells ≡ true) ↔ BeginsWith last (ref_octets oid)
+          → (tells ≡ true → None ≡ position is_item items) → IsNoItem
+      no_item tells told absent k d l e =
+          let near = rw e at (reached.near k d l) in
+          let begun = iff_begins (tells ≡ true) reached.valid (ref_encoding oid) told in
+          let none = find_none is_item items (absent (begun.1 (near reached.begins))) in
+          grind (arith, find_at, slice_get_cases, passes_at_first, fails_before_first, nat_list_eq_equiv)
+
+      module _ (other : IsNoItem) where
+        pub reached_parent : (parent : List ℕ) → parent_of (ref_arcs oid) ≡ Some parent → IsReached last parent
+        reached_parent parent e =
+            let valid = (ref_encoding oid).identifier in
+            let (_, arc, _, joined) = child_of-parent_of root_rule (ref_arcs oid) parent valid e in
+            let (rest, f) = reached.begins in
+            record {
+              begins = (arc ∷ rest, grind (arith, append_assoc));
+              others = λ k d l b.
+                  let (more, g) = reached.others k d l b in
+                  above_child parent arc _ more (joined ∙ g) (λ nil. other k d l (grind (arith, append-nil)));
+              valid = reached.valid;
+              near = reached.near;
+            }
+
+        pub reached_root : parent_of (ref_arcs oid) ≡ None → IsNoneAbove
+        reached_root e k d l b =
+            let two = (none_of_two (ref_arcs oid) (two_arcs root_rule (ref_arcs oid) (ref_encoding oid).identifier)).0 e in
+            let many = two_arcs root_rule _ (list.valid k d l).identifier in
+            above_root (ref_arcs oid) _ two many (reached.others k d l b) (other k d l)

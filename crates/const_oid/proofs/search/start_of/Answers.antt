@@ -1,0 +1,17 @@
+use Rattle.std.proofs.Common.{rules}
+use Rattle.std.proofs.lemmas.List.Sorted.{IsPartitionPoint-from_clause}
+use Rattle.const_oid.specs.{OidRef.ref_arcs, SortedList.item_arcs}
+use Rattle.const_oid.proofs.{SortedLists.{parted_as, cut_as, is_early, early_same}, Subtree.{key_before, cut_before}}
+use Rattle.const_oid.proofs.search.start_of.Goals as goal
+
+pub returns-clause-cut : goal.returns-clause-cut
+returns-clause-cut g c = λ list.
+    let octets_of = g.T.Contents.octets_of in
+    let oid = c.args.oid.now in
+    let items = c.args.items.now in
+    let p = key_before (item_arcs octets_of) (ref_arcs oid) in
+    let q = is_early octets_of oid items list in
+    let same = early_same octets_of oid items list in
+    let parted = parted_as p q items same (cut_before (item_arcs octets_of) items list.sorted (ref_arcs oid)) in
+    cut_as p q items same _ c.partition_point.ensures.bound
+    (IsPartitionPoint-from_clause q items _ c.partition_point.ensures.partitioned parted (λ a r f called. search rules))

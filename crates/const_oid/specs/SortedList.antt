@@ -1,0 +1,21 @@
+-- Lists in the order of arcs, of items that have contents octets.
+use Rattle.std.specs.Prelude.{ℕ, Bool, List, nat_eq}
+use Rattle.std.specs.Cmp.Lexicographic.{pointwise, slice_cmp}
+use Rattle.std.specs.List.{All}
+use Rattle.std.specs.List.Sorted.{IsSortedByKey}
+use Rattle.std.specs.Ordering.{nat_cmp}
+use Rattle.const_oid.specs.Contents.{arcs_of_octets}
+use Rattle.const_oid.specs.Identifier.{root_rule, IsEncoding}
+
+-- the arcs of an item, by its octets
+abbrev pub item_arcs : {Item : Type 0} → (Item → List ℕ) → Item → List ℕ
+item_arcs octets_of item = arcs_of_octets (octets_of item)
+
+-- the item has these arcs
+abbrev pub has_item_arcs : {Item : Type 0} → (Item → List ℕ) → List ℕ → Item → Bool
+has_item_arcs octets_of arcs item = pointwise nat_eq (item_arcs octets_of item) arcs
+
+-- each item is the encoding of an identifier, and none comes before the previous one in the order of arcs
+pub record IsSortedList {Item : Type 0} (octets_of : Item → List ℕ) (items : List Item) : Type 0 where
+  pub valid : All (λ item. IsEncoding root_rule (item_arcs octets_of item) (octets_of item)) items
+  pub sorted : IsSortedByKey (item_arcs octets_of) (slice_cmp nat_cmp) items

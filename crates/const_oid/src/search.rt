@@ -1,0 +1,103 @@
+//! Searches in a list of items with contents octets that is sorted by arcs.
+//!
+//! No search checks the list. Over a list that is not sorted, or with an item that is not valid, what it finds
+//! means nothing, but is within the list.
+
+ghost use Rattle.std.specs.Prelude.{◌≡◌, ◌<◌, ◌≤◌, ◌↔◌, ℕ, List, length, nat_eq, true, false, count_by, slice_get, All, IfNone, IfSome, Some};
+ghost use Rattle.std.specs.Cmp.Lexicographic.{pointwise, slice_cmp};
+ghost use Rattle.std.specs.List.{position};
+ghost use Rattle.std.specs.List.Sorted.{IsPartitionPoint};
+ghost use Rattle.std.specs.Ordering.{nat_cmp, is_lt};
+ghost use Rattle.const_oid.specs.Names.{IsNearestBy};
+ghost use Rattle.const_oid.specs.OidRef.{ref_arcs, ref_octets};
+ghost use Rattle.const_oid.specs.SortedList.{IsSortedList, has_item_arcs, item_arcs};
+ghost use Rattle.const_oid.specs.Tree.{BeginsWith};
+
+use crate::compare::{are_equal, begins_with, order_by_parts};
+use crate::oid_ref::ObjectIdentifierRef;
+
+/// An item that has contents octets, which need not be valid.
+pub trait Contents {
+    /// The contents octets of an item.
+    ghost octets_of: { Self → List ℕ };
+
+    /// The contents octets.
+    fn contents(&self) -> &[u8]
+        ensures { result.now ≡ octets_of self.now };
+}
+
+/// The index of the first item that does not come before an identifier.
+pub fn start_of<T: Contents>(items: &[T], oid: &ObjectIdentifierRef<'_>) -> usize
+    ensures within { result ≤ length items.now }
+    ensures cut { IsSortedList T.octets_of items.now
+        → IsPartitionPoint (λ item. is_lt (slice_cmp nat_cmp (item_arcs T.octets_of item) (ref_arcs oid.now)) ≡ true)
+        (λ item. is_lt (slice_cmp nat_cmp (item_arcs T.octets_of item) (ref_arcs oid.now)) ≡ false) items.now result }
+{
+    items.partition_point(|item| order_by_parts(item.contents(), oid.as_bytes()).is_lt())
+}
+
+/// The index of the first item that comes after an identifier.
+pub fn end_of<T: Contents>(items: &[T], oid: &ObjectIdentifierRef<'_>) -> usize
+    ensures within { result ≤ length items.now }
+    ensures cut { IsSortedList T.octets_of items.now
+        → IsPartitionPoint (λ item. is_lt (slice_cmp nat_cmp (ref_arcs oid.now) (item_arcs T.octets_of item)) ≡ false)
+        (λ item. is_lt (slice_cmp nat_cmp (ref_arcs oid.now) (item_arcs T.octets_of item)) ≡ true) items.now result }
+{
+    items.partition_point(|item| order_by_parts(oid.as_bytes(), item.contents()).is_ge())
+}
+
+/// The index of the first item of an identifier.
+pub fn first_of<T: Contents>(items: &[T], oid: &ObjectIdentifierRef<'_>) -> Option<usize>
+    ensures found { IsSortedList T.octets_of items.now → result ≡ position (has_item_arcs T.octets_of (ref_arcs oid.now)) items.now }
+    ensures within { IfSome result (λ index. index < length items.now) }
+{
+    let index = start_of(items, oid);
+    if index < items.len() && has_octets(&items[index], oid) {
+        Some(index)
+    } else {
+        None
+    }
+}
+
+/// Whether an item has the octets of an identifier.
+fn has_octets<T: Contents>(item: &T, oid: &ObjectIdentifierRef<'_>) -> bool
+    ensures { result ≡ pointwise nat_eq (T.octets_of item.now) (ref_octets oid.now) }
+{
+    are_equal(item.contents(), oid.as_bytes())
+}
+
+/// The range of the items that begin with an identifier: from the first index up to, but not including, the
+/// second. Where there are none, both are the index at which the identifier would be inserted.
+pub fn subtree_of<T: Contents>(items: &[T], oid: &ObjectIdentifierRef<'_>) -> (usize, usize)
+    ensures bounds { (result.0 ≤ result.1) × (result.1 ≤ length items.now) }
+    ensures from { IsSortedList T.octets_of items.now → result.0
+        ≡ count_by (λ item. is_lt (slice_cmp nat_cmp (item_arcs T.octets_of item) (ref_arcs oid.now))) items.now }
+    ensures inside { IsSortedList T.octets_of items.now → (k : ℕ) → IfSome (slice_get items.now k) (λ item.
+        BeginsWith (item_arcs T.octets_of item) (ref_arcs oid.now) ↔ ((result.0 ≤ k) × (k < result.1))) }
+{
+    let from = start_of(items, oid);
+    let inside = items[from..].partition_point(|item| begins_with(item.contents(), oid.as_bytes()));
+    (from, from + inside)
+}
+
+/// The index of the nearest item to an identifier: the first item of the longest prefix of it in the list.
+pub fn nearest_of<T: Contents>(items: &[T], oid: &ObjectIdentifierRef<'_>) -> Option<usize>
+    ensures found { IsSortedList T.octets_of items.now → IfSome result (λ index.
+        IfSome (slice_get items.now index) (IsNearestBy (item_arcs T.octets_of) items.now (ref_arcs oid.now))) }
+    ensures first { IsSortedList T.octets_of items.now → IfSome result (λ index.
+        IfSome (slice_get items.now index) (λ item. position (has_item_arcs T.octets_of (item_arcs T.octets_of item)) items.now ≡ Some index)) }
+    ensures none { IsSortedList T.octets_of items.now → IfNone result (All (λ item. BeginsWith (ref_arcs oid.now) (item_arcs T.octets_of item) → ⊥) items.now) }
+    ensures within { IfSome result (λ index. index < length items.now) }
+{
+    // All that the identifier begins with come up to it, and the last item up to it begins with them.
+    let last = items[..end_of(items, oid)].last()?.contents();
+    let mut above = *oid;
+    loop {
+        if begins_with(last, above.as_bytes()) {
+            if let Some(index) = first_of(items, &above) {
+                return Some(index);
+            }
+        }
+        above = above.parent()?;
+    }
+}

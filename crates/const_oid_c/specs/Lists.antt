@@ -1,0 +1,51 @@
+-- Lists of identifiers in the order of arcs.
+use Rattle.std.specs.Prelude.{◌≡◌, ℕ, ◌+◌, ◌<◌, ◌⊎◌, List, [], ◌∷◌, if◌then◌else◌, Option, Some, None, unwrap_or, Result, Ok, Err}
+use Rattle.std.specs.Cmp.Lexicographic.{slice_cmp}
+use Rattle.std.specs.Option.{option_or, option_map_or}
+use Rattle.std.specs.Ordering.{nat_cmp, is_lt}
+use Rattle.const_oid.specs.declared.error.Error.{Error}
+use Rattle.const_oid.specs.declared.oid_ref.ObjectIdentifierRef.{ObjectIdentifierRef}
+use Rattle.const_oid.specs.OidRef.{ref_arcs}
+use Rattle.const_oid.specs.SortedList.{item_arcs}
+use Rattle.const_oid_c.specs.declared.status.Status.{Status}
+use Rattle.const_oid_c.specs.declared.lists.Octets.{Octets}
+use Rattle.const_oid_c.specs.Status.{error_status, len_status, none_status}
+use Rattle.const_oid_c.specs.Answers.{borrowed_answer}
+
+-- the octets of an item
+abbrev pub octets_at : Octets → List ℕ
+octets_at item = item.octets.now
+
+-- the arcs of the previous item, if there is one
+abbrev pub arcs_before : Option ObjectIdentifierRef → List ℕ
+arcs_before before = option_map_or ref_arcs before []
+
+-- the status of a fault at an index
+abbrev pub fault_at : ℕ → Error → Status
+fault_at index fault = record (error_status fault) { len = index }
+
+-- the status at an index, by what the octets there are read as: their fault, or that their arcs come before those of the previous index
+abbrev pub read_fault : ℕ → List ℕ → Result (List ℕ) Error → Option Status
+read_fault index before (Ok arcs) = if is_lt (slice_cmp nat_cmp arcs before) then Some (record { code = 13; detail = 0; len = index }) else None
+read_fault index before (Err fault) = Some (fault_at index fault)
+
+-- the status of the octets at an index, after the arcs of the previous index, if something is wrong
+abbrev pub item_fault : ℕ → List ℕ → List ℕ → Option Status
+item_fault index before octets = read_fault index before (borrowed_answer octets)
+
+-- the status of the first item that is wrong, if there is one
+abbrev pub list_fault : ℕ → List ℕ → List Octets → Option Status
+list_fault index before [] = None
+list_fault index before (item ∷ items) = option_or (item_fault index before (octets_at item)) (list_fault (index + 1) (item_arcs octets_at item) items)
+
+-- the status of a list
+abbrev pub list_status : List Octets → Status
+list_status items = unwrap_or (list_fault 0 [] items) (len_status 0)
+
+-- the status of an index, if there is one
+abbrev pub index_status : Option ℕ → Status
+index_status index = option_map_or len_status index none_status
+
+-- the status is that of an index of so many items, or that there is none
+abbrev pub IsIndexOrNone : ℕ → Status → Type 0
+IsIndexOrNone count status = ((status ≡ len_status status.len) × (status.len < count)) ⊎ (status ≡ none_status)
