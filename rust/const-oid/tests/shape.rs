@@ -48,7 +48,7 @@ const _: () = {
     is_octets::<Buffer<7>>();
 
     is_error::<Error>();
-    is_key::<ByArcs<'static>>();
+    is_key::<ByArcs<&'static ObjectIdentifierRef>>();
     is_iterator::<Arcs<'static>>();
 };
 
