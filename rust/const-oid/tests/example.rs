@@ -109,7 +109,12 @@ const ROWS: &[Row] = &[
         "",
         "068103550403: not an identifier of DER, of at most 255 octets\n",
     ),
-    ("", "2.5.4.3\nnothing\n", CN, "nothing: no known name\n"),
+    (
+        "",
+        "2.5.4.3\n\nnothing\n",
+        CN,
+        ": OID value is empty\nnothing: no known name\n",
+    ),
     ("--hex", "550403\n\n", CN, ": OID value is empty\n"),
     (
         "3.1 2.5.4.3",
@@ -153,19 +158,21 @@ fn rows() {
     }
 }
 
-/// Contents octets of 127 to 256, with their tag and length.
+/// Contents octets of 127 to 256 after tag and length, in the form of DER and in others.
 #[test]
 fn long_der() {
-    for (len, head) in [
-        (127, "067F"),
-        (128, "068180"),
-        (255, "0681FF"),
-        (256, "06820100"),
+    for (len, head, is_der) in [
+        (127, "067F", true),
+        (127, "06817F", false),
+        (128, "068180", true),
+        (128, "0680", false),
+        (255, "0681FF", true),
+        (256, "06820100", false),
     ] {
         let (out, errors, _) = run(&format!("--der {head}{}", "2B".repeat(len)), "");
         let text = format!("1.3{}\n", ".43".repeat(len - 1));
-        assert_eq!(out.starts_with(&text), len < 256, "{len}");
-        assert_eq!(errors.is_empty(), len < 256, "{len}");
+        assert_eq!(out.starts_with(&text), is_der, "{head}");
+        assert_eq!(errors.is_empty(), is_der, "{head}");
     }
 }
 
