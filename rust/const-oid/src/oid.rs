@@ -40,8 +40,9 @@ impl<const MAX_SIZE: usize> Deref for ObjectIdentifier<MAX_SIZE> {
 
 /// The borrowed form by the traits that return it.
 macro_rules! borrowed {
-    ($($trait:ident::$name:ident)*) => {
+    ($($(#[$doc:meta])* $trait:ident::$name:ident)*) => {
         $(
+            $(#[$doc])*
             impl<const MAX_SIZE: usize> $trait<ObjectIdentifierRef> for ObjectIdentifier<MAX_SIZE> {
                 fn $name(&self) -> &ObjectIdentifierRef {
                     self.as_oid_ref()
@@ -51,7 +52,13 @@ macro_rules! borrowed {
     };
 }
 
-borrowed!(AsRef::as_ref Borrow::borrow);
+borrowed! {
+    AsRef::as_ref
+
+    /// For a `HashMap`. In a `BTreeMap` of owned keys, a look-up by a borrowed identifier compiles, and may miss its key,
+    /// since [`Ord`] of the two differs, against the rule of [`Borrow`].
+    Borrow::borrow
+}
 
 /// The octets of both, as a slice.
 macro_rules! octets {
