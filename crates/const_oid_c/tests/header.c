@@ -13,6 +13,16 @@ _Static_assert(offsetof(const_oid_range, start) == 0 && offsetof(const_oid_range
 _Static_assert(_Alignof(const_oid_status) == _Alignof(size_t) && _Alignof(const_oid_octets) == _Alignof(size_t)
     && _Alignof(const_oid_range) == _Alignof(size_t), "alignments");
 
+#define HAS_TYPE(type, field, wanted) \
+    _Static_assert(_Generic(((type *)0)->field, wanted: 1, default: 0), "the type of " #field " in " #type)
+HAS_TYPE(const_oid_status, code, uint32_t);
+HAS_TYPE(const_oid_status, detail, uint32_t);
+HAS_TYPE(const_oid_status, len, size_t);
+HAS_TYPE(const_oid_octets, octets, const uint8_t *);
+HAS_TYPE(const_oid_octets, len, size_t);
+HAS_TYPE(const_oid_range, start, size_t);
+HAS_TYPE(const_oid_range, end, size_t);
+
 #if CONST_OID_VERSION < 65536 || CONST_OID_MAX_OCTETS != 255 || CONST_OID_MAX_TEXT != 1020 || CONST_OID_MAX_ARCS != 256 \
     || CONST_OID_USUAL_OCTETS != 39 || CONST_OID_MAX_ERROR_TEXT != 47
 #error "a constant is no number of the preprocessor, or another one"
