@@ -162,15 +162,15 @@ first_digit text start first less e capacity before = rw (drop_more text start 0
 
 module _ (text : List ℕ) (first end : ℕ) (piece : IsPiece text 0 first end) (capacity : ℕ) where
   first_read : text_answer root_rule text capacity ≡ text_pass root_rule capacity [] true first (drop end text)
-  first_read = sym (text_answer_is root_rule capacity text) ∙ piece.same capacity []
+  first_read = sym (text_answer_is root_rule capacity text) ∙ piece.0.same capacity []
 
   pub first_refused : 2 < first
       → text_answer root_rule text capacity ≡ Err (if end + 1 == length text then TrailingDot else ArcInvalid first)
-  first_refused high = arc_refused root_rule capacity text [] first end first_read piece.dot piece.within (ArcInvalid first)
+  first_refused high = arc_refused root_rule capacity text [] first end first_read piece.1 piece.0.within (ArcInvalid first)
       (some_from_above 2 first (ArcInvalid first) high)
 
   first_after : first ≤ 2 → text_answer root_rule text capacity ≡ after_piece root_rule capacity text (first ∷ []) end
-  first_after low = arc_taken root_rule capacity text [] first end first_read piece.dot piece.within
+  first_after low = arc_taken root_rule capacity text [] first end first_read piece.1 piece.0.within
       (none_from_below 2 first (ArcInvalid first) low)
 
   pub first_alone : first ≤ 2 → length text ≤ end → text_answer root_rule text capacity ≡ Err Empty
@@ -223,24 +223,9 @@ module _ (capacity : ℕ) (text : List ℕ) where
   pub later_becomes : (octets longer : List ℕ) (arc place end : ℕ) (result : Result (Unit {0}) Error)
       → IsReadTo root_rule capacity text octets place → place < length text → IsPiece text (place + 1) arc end
       → IsAppended capacity arc octets longer result → BecomesBy root_rule capacity text longer end result
-  later_becomes octets longer arc place end result passed less piece =
+  later_becomes octets longer arc place end result read less piece =
       let arcs = arcs_of_octets octets in
       becomes root_rule capacity text arcs octets longer arc arc end
-      (passed.answer ∙ rw (lt-ltb _ _ less) (piece.same capacity arcs)) piece.dot piece.within
-      (later_fault root_rule octets arcs arc capacity passed.encoding)
-      (λ on. child_encoding longer arc passed.encoding piece.small on) result
-
-  -- at the end the arcs are the answer
-  pub whole_passed : (octets : List ℕ) (end : ℕ) → IsReadTo root_rule capacity text octets end → length text ≤ end
-      → text_answer root_rule text capacity ≡ Ok (arcs_of_octets octets)
-  whole_passed octets end passed last =
-      let none = few_none root_rule (arcs_of_octets octets) passed.encoding.identifier in
-      passed.answer ∙ rw (le-ltb _ _ last, none) refl
-
-  -- some arcs come before a later piece
-  pub some_before : (octets : List ℕ) (end : ℕ) → IsReadTo root_rule capacity text octets end
-      → is_empty (arcs_of_octets octets) ≡ (end + 1 == 0)
-  some_before octets end passed = several (arcs_of_octets octets) passed.encoding.identifier where
-    several : (arcs : List ℕ) → IsIdentifier root_rule arcs → is_empty arcs ≡ (end + 1 == 0)
-    several [] i = absurd i
-    several (arc ∷ arcs) i = grind (arith, nat_tests)
+      (read.answer ∙ rw (lt-ltb _ _ less) (piece.0.same capacity arcs)) piece.1 piece.0.within
+      (later_fault root_rule octets arcs arc capacity read.encoding)
+      (λ on. child_encoding longer arc read.encoding piece.0.small on) result

@@ -1,4 +1,7 @@
 //! Dotted text to octets.
+//!
+//! A text is read piece by piece. Where a piece is wrong, only an index is returned, and a function that is rarely
+//! called makes the error of it. So a valid text costs fewer instructions (docs/SPEED.md).
 
 ghost use Rattle.std.specs.Prelude.{◌≡◌, ◌≤◌, ◌<◌, ◌-◌, ◌+◌, ◌==◌, ℕ, List, true, false, drop, length, get_or, min, if◌then◌else◌, Err, MatchResult};
 ghost use Rattle.std.specs.Bool.{then_some};

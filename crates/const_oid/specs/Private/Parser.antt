@@ -52,13 +52,8 @@ pub record GoesOnBy (text : List ℕ) (begun : Bool) (number start longer end : 
   pub within : end ≤ length text
 
 -- the piece that starts at an index is a number, and ends at another one
-pub record IsPiece (text : List ℕ) (start number end : ℕ) : Type 0 where
-  pub same : (capacity : ℕ) (before : List ℕ) → text_pass root_rule capacity before false 0 (drop start text)
-      ≡ text_pass root_rule capacity before true number (drop end text)
-  pub small : number ≤ max_arc
-  pub further : start ≤ end
-  pub within : end ≤ length text
-  pub dot : end < length text → get_or text end 0 ≡ dot
+abbrev pub IsPiece : List ℕ → ℕ → ℕ → ℕ → Type 0
+IsPiece text start number end = GoesOnBy text false 0 start number end × (end < length text → get_or text end 0 ≡ dot)
 
 -- the first two pieces are arcs with a subidentifier, and end at an index
 pub record IsRoot (text : List ℕ) (root end : ℕ) : Type 0 where

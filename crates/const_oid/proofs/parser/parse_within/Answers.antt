@@ -31,5 +31,5 @@ loop-end-preserved g c =
     record {
       read = later_becomes (min g.row.SIZE 255) c.args.text.now (octets_of l.octets) (octets_of c.push_group-in-loop-end.new.self) piece.0 l.end piece.1
           (Ok c.in_default-push_group.field-0) l.invariant.read c.loop-end-test.true c.in-Ok-read_piece.ensures c.in_default-push_group.ensures;
-      within = c.in-Ok-read_piece.ensures.within;
+      within = c.in-Ok-read_piece.ensures.0.within;
     }

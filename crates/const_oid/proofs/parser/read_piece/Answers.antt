@@ -19,12 +19,12 @@ returns-then-text-end-ne46 c = λ capacity before e.
 pub returns : goal.returns
 returns c =
     let (read, stops) = c.in-Ok.ensures in
-    record {
-      same = λ capacity before.
-          first_digit c.args.text.now c.args.start c.in-Some.first (omega (arith, c.if-start-text.false, c.requires)) c.in-Some.ensures capacity before
-          ∙ read.same capacity before;
-      small = read.small;
-      further = omega (arith, read.further);
-      within = read.within;
-      dot = grind (arith, nat_tests);
-    }
+    let more = first_digit c.args.text.now c.args.start c.in-Some.first (omega (arith, c.if-start-text.false, c.requires)) c.in-Some.ensures in (
+      record {
+        same = λ capacity before. more capacity before ∙ read.same capacity before;
+        small = read.small;
+        further = omega (arith, read.further);
+        within = read.within;
+      },
+      grind (arith, nat_tests),
+    )

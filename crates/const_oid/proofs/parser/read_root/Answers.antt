@@ -24,7 +24,7 @@ returns-in-Err-read_piece c = λ capacity.
     let first = c.in-Ok.piece.0 in
     let none : false ≡ (c.in-Ok.piece.1 + 1 == 0) = grind (arith, nat_tests) in
     first_taken c.args.text.now first c.in-Ok.piece.1 c.in-Ok.ensures capacity c.if-first-gt2.false
-    (omega (arith, c.if-end-text.false, c.in-Ok.ensures.within))
+    (omega (arith, c.if-end-text.false, c.in-Ok.ensures.0.within))
     ∙ c.in-Err-read_piece.ensures capacity (first ∷ []) none ∙ ap Err (sym c.piece_fault-in-Err-read_piece.ensures)
 
 pub returns-then-second-max_second : goal.returns-then-second-max_second
@@ -33,8 +33,8 @@ returns-then-second-max_second c = λ capacity.
     let piece = c.in-Ok-read_piece.ensures in
     let second = c.in-Ok-read_piece.piece.0 in
     let read = first_taken c.args.text.now first c.in-Ok.piece.1 c.in-Ok.ensures capacity c.if-first-gt2.false
-    (omega (arith, c.if-end-text.false, c.in-Ok.ensures.within)) ∙ piece.same capacity (first ∷ []) in
-    arc_refused root_rule capacity c.args.text.now (first ∷ []) second c.in-Ok-read_piece.piece.1 read piece.dot piece.within
+    (omega (arith, c.if-end-text.false, c.in-Ok.ensures.0.within)) ∙ piece.0.same capacity (first ∷ []) in
+    arc_refused root_rule capacity c.args.text.now (first ∷ []) second c.in-Ok-read_piece.piece.1 read piece.1 piece.0.within
     (ArcInvalid second) (grind (arith, nat_tests, some_from_above))
     ∙ ap Err (sym c.or_trailing_dot-then-second-max_second.ensures)
 
@@ -49,7 +49,7 @@ returns c =
       low = c.if-first-gt2.false;
       high = omega (arith, c.if-second-max_second.false, c.max_second.ensures);
       same = λ capacity. first_taken c.args.text.now first c.in-Ok.piece.1 c.in-Ok.ensures capacity c.if-first-gt2.false
-          (omega (arith, c.if-end-text.false, c.in-Ok.ensures.within)) ∙ piece.same capacity (first ∷ []);
-      within = piece.within;
-      dot = piece.dot;
+          (omega (arith, c.if-end-text.false, c.in-Ok.ensures.0.within)) ∙ piece.0.same capacity (first ∷ []);
+      within = piece.0.within;
+      dot = piece.1;
     }
