@@ -7,13 +7,13 @@ use Rattle.std.specs.{Char.is_ascii_digit, Str.all_ascii_digits}
 use Rattle.std.proofs.lemmas.{Bool.Decides.nat_tests, List.{take_at, drop_more, drop_all, length-drop}, Bool.cases_lt, List.Folds.list_all-append}
 use Rattle.std.proofs.lemmas.{Int.Digits.digits_value_push, List.Splits.length-slice_split}
 use Rattle.std.proofs.lemmas.Str.Parse.{digits_value-take-le}
-use Rattle.const_oid.specs.{declared.error.Error.Error, Identifier.{RootRule, root_rule, max_arc, IsEncoding, IsIdentifier}, Items.{arc_fault, too_few_fault}}
+use Rattle.const_oid.specs.{declared.error.Error.Error, Identifier.{RootRule, root_rule, max_arc, IsEncoding}, Items.{arc_fault, too_few_fault}}
 use Rattle.const_oid.specs.{declared.error.Error.TheVariants.{ArcInvalid, DigitExpected, Empty, Length, RepeatedDot, TrailingDot}, Error.{answer, fault_if}}
 use Rattle.const_oid.specs.{Base128.width, Contents.arcs_of_octets, Private.Octets.{GoesOn, IsAppended}}
 use Rattle.const_oid.specs.Private.Parser.{dot_fault, text_pass, IsPiece, IsRoot}
 use Rattle.const_oid.specs.Text.{pieces_of, number_of, is_empty, is_one_empty, empty_fault, pieces_fault, text_answer}
 use Rattle.const_oid.proofs.Lists.{append-cons, onto_all, onto_all-first, not_empty_push, onto_all-cons, onto_all-some}
-use Rattle.const_oid.proofs.{Encodings.{arcs_of_encoding, encoding_back}, Faults.{none_from_below, some_from_above}, Items.few_none}
+use Rattle.const_oid.proofs.{Encodings.{arcs_of_encoding, encoding_back}, Faults.{none_from_below, some_from_above}}
 use Rattle.const_oid.proofs.{Started.later_fault, Children.{encoding_two, child_encoding}}
 use Rattle.const_oid.proofs.Numbers.{number_of_digits, find-none, take_while-digits, find-digits, digit-undotted}
 
