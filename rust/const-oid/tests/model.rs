@@ -212,7 +212,11 @@ fn check_octets(octets: &[u8]) {
 fn read_text<const N: usize>(text: &str) {
     let answer = model::of_text(text.as_bytes(), model::capacity(N));
     let owned = ObjectIdentifier::<N>::new_sized(text);
-    assert_eq!(ObjectIdentifier::from_ascii(text.as_bytes()), owned, "{text}, {N}");
+    assert_eq!(
+        ObjectIdentifier::from_ascii(text.as_bytes()),
+        owned,
+        "{text}, {N}"
+    );
     match (answer, owned) {
         (Ok(arcs), Ok(oid)) => assert!(oid.as_bytes() == model::encoding(&arcs), "{text}, {N}"),
         (answer, owned) => assert_eq!(owned.err(), answer.err(), "{text}, {N}"),
