@@ -100,8 +100,19 @@ fn write_later(arc: Arc, out: &mut [u8], at: usize) -> usize
     ensures prefix { take result out.new ≡ take at out.old ++ arc_text false arc }
     ensures within { result ≤ length out.new }
 {
+    at + write_first_later(arc, &mut out[at..])
+}
+
+/// The same at the start. It returns the length.
+#[inline(always)]
+fn write_first_later(arc: Arc, out: &mut [u8]) -> usize
+    requires { 11 ≤ length out.old }
+    ensures end { result ≡ length (arc_text false arc) }
+    ensures prefix { take result out.new ≡ arc_text false arc }
+    ensures within { result ≤ length out.new }
+{
     // The length of this part is a literal, so rustc checks no index in it.
-    at + write_arc(arc, false, &mut out[at..at + MAX_ARC_LEN], 0)
+    write_arc(arc, false, &mut out[..MAX_ARC_LEN], 0)
 }
 
 /// Takes the first two arcs, writes them at the start, and returns the length.

@@ -15,6 +15,18 @@ fn refused(rt: HostRuntime) {
     }
 }
 
+/// Octets with room for their text are printed as they are checked, and one byte less is no room.
+#[test]
+fn printed(rt: HostRuntime) {
+    let mut out = [0; 23];
+    let octets = [0x88, 0x37, 0x03];
+    assert!(rt; ObjectIdentifierRef::text_from_bytes(&octets, &mut out[..22]) == None);
+    assert!(rt; ObjectIdentifierRef::text_from_bytes(&octets, &mut out) == Some(Ok(7)));
+    assert!(rt; out.starts_with(b"2.999.3"));
+    let fault = ObjectIdentifierRef::text_from_bytes(&octets[..1], &mut out);
+    assert!(rt; fault == Some(Err(Error::Base128)));
+}
+
 /// The borrowed form has no capacity: it accepts 41 arcs, and rejects an unfinished group after them.
 #[test]
 fn longer_than_an_owned_one(rt: HostRuntime) {

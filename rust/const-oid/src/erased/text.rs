@@ -68,8 +68,14 @@ fn write_first(root: u64, out: &mut [u8]) -> usize {
 /// Writes an arc and the dot before it at an index, after which there is room for any arc, and returns the index after it.
 #[inline(always)]
 fn write_later(arc: Arc, out: &mut [u8], at: usize) -> usize {
+    at + write_first_later(arc, &mut out[at..])
+}
+
+/// The same at the start. It returns the length.
+#[inline(always)]
+fn write_first_later(arc: Arc, out: &mut [u8]) -> usize {
     // The length of this part is a literal, so rustc checks no index in it.
-    at + write_arc(arc, false, &mut out[at..at + MAX_ARC_LEN], 0)
+    write_arc(arc, false, &mut out[..MAX_ARC_LEN], 0)
 }
 
 /// Takes the first two arcs, writes them at the start, and returns the length.
