@@ -12,6 +12,8 @@ class Fault(Exception):
 
 def group(number):
     """A number in base 128, with a mark on each octet except the last."""
+    if number < 128:
+        return bytes((number,))
     octets = [number % 128]
     while number := number // 128:
         octets.append(128 + number % 128)

@@ -6,7 +6,7 @@ import model
 from const_oid import ObjectIdentifier, OidError
 
 SEED = 8825
-COUNTS = 8 * [2, 2, 3, 3, 3, 4, 4, 6, 6, 9] + [14, 20, 52, 254]
+COUNTS = 20 * [2, 2, 3, 3, 3, 4, 4, 6, 6, 9] + [14, 20, 52, 254]
 EDGES = [0, 1, 39, 40, 127, 128, 2**28, 2**32 - 1]
 OTHER_TEXTS = [".", "0", "00", "9", "4294967296", "x", " ", "\n", "\0", "é", "٣", "\ud800", "-", "1.2."]
 OTHER_OCTETS = [b"\x00", b"\x80", b"\xff", b"\x8f", b"\x90\x80\x80\x80\x50"]
@@ -50,7 +50,8 @@ class Drawn(unittest.TestCase):
         self.draw = random.Random(SEED)
 
     def same(self, wanted, found, given):
-        self.assertEqual(wanted, found, f"seed {SEED}: {given!r}")
+        if wanted != found:
+            self.fail(f"seed {SEED}: {given!r}: {found!r} is not {wanted!r}")
 
     def test_arcs(self):
         """100,000 lists: what is made of them, and their parents and children."""
@@ -65,13 +66,11 @@ class Drawn(unittest.TestCase):
 
     def check_one(self, oid, arcs):
         text, arc = model.text_of(arcs), drawn_arc(self.draw)
-        self.same((arcs, len(arcs), text), (oid.arcs, len(oid), str(oid)), arcs)
-        self.same((arcs[-1], arcs[1:]), (oid[-1], oid[1:]), arcs)
-        self.same(oid, ObjectIdentifier(text), arcs)
-        self.same(arcs[:-1] if len(arcs) > 2 else None, oid.parent and oid.parent.arcs, arcs)
-        child = result(lambda: bytes(oid.child(arc)))
-        wanted = bytes(oid) + model.group(arc)
-        self.same(wanted, child, (arcs, arc))
+        found = (oid.arcs, len(oid), str(oid), oid[-1], oid[1:], ObjectIdentifier(text))
+        self.same((arcs, len(arcs), text, arcs[-1], arcs[1:], oid), found, arcs)
+        parent = oid.parent
+        self.same(arcs[:-1] if len(arcs) > 2 else None, parent and parent.arcs, arcs)
+        self.same(bytes(oid) + model.group(arc), bytes(oid.child(arc)), (arcs, arc))
 
     def test_pairs(self):
         """100,000 pairs: equality, hashes, order and prefixes are those of tuples."""

@@ -1,13 +1,12 @@
 """The wheel, what is installed of it, and how it is built."""
 import base64
-import contextlib
 import email
 import hashlib
 import importlib.metadata
 import importlib.util
+import io
 import os
 import pathlib
-import re
 import shutil
 import subprocess
 import sys
@@ -32,13 +31,13 @@ def backend():
     return module
 
 
-def built(call, settings=INSTALLED, **variables):
+def built(call, settings=INSTALLED, python=TOP / "python", **variables):
     """What a hook of the backend writes into a new folder in a new process: its files, and what the process says."""
     code = f"import backend; print(backend.{call}(FOLDER, {settings!r}))"
     with tempfile.TemporaryDirectory() as folder:
         code = code.replace("FOLDER", repr(folder))
         run = subprocess.run(
-            [sys.executable, "-c", code], cwd=TOP / "python", env=os.environ | variables, text=True, capture_output=True
+            [sys.executable, "-c", code], cwd=python, env=os.environ | variables, text=True, capture_output=True
         )
         files = {path.name: path.read_bytes() for path in pathlib.Path(folder).iterdir()}
     return run.returncode, run.stdout.strip() or run.stderr.strip(), files
@@ -47,8 +46,10 @@ def built(call, settings=INSTALLED, **variables):
 class Wheel(unittest.TestCase):
     @classmethod
     def setUpClass(cls):
-        (cls.path,) = pathlib.Path(os.environ["CONST_OID_WHEEL"]).glob("*.whl")
-        with zipfile.ZipFile(cls.path) as archive:
+        status, cls.name, wheels = built("build_wheel")
+        assert status == 0, cls.name
+        cls.wheel = wheels[cls.name]
+        with zipfile.ZipFile(io.BytesIO(cls.wheel)) as archive:
             cls.entries = archive.infolist()
             cls.files = {entry.filename: archive.read(entry) for entry in cls.entries}
 
@@ -75,9 +76,9 @@ class Wheel(unittest.TestCase):
 
     def test_tag(self):
         """The name and WHEEL say that the module is for the stable ABI, and for this machine."""
-        self.assertRegex(self.path.name, rf"^{STEM}-cp311-abi3-[a-z]+_[a-z0-9_]+\.whl$")
+        self.assertRegex(self.name, rf"^{STEM}-cp311-abi3-[a-z]+_[a-z0-9_]+\.whl$")
         said = email.message_from_bytes(self.files[f"{STEM}.dist-info/WHEEL"])
-        self.assertEqual((self.path.stem.removeprefix(f"{STEM}-"), "false"), (said["Tag"], said["Root-Is-Purelib"]))
+        self.assertEqual((self.name.removeprefix(f"{STEM}-").removesuffix(".whl"), "false"), (said["Tag"], said["Root-Is-Purelib"]))
 
     def test_metadata(self):
         project = tomllib.loads((TOP / "python/pyproject.toml").read_text(encoding="utf-8"))["project"]
@@ -97,12 +98,15 @@ class Wheel(unittest.TestCase):
     def test_same(self):
         """Another build has the same bytes."""
         status, name, files = built("build_wheel")
-        self.assertEqual((0, self.path.name), (status, name))
-        self.assertEqual({name: self.path.read_bytes()}, files)
+        self.assertEqual((0, self.name), (status, name))
+        self.assertEqual({name: self.wheel}, files)
 
     @unittest.skipUnless(shutil.which("twine"), "twine is not installed")
     def test_twine(self):
-        run = subprocess.run(["twine", "check", "--strict", self.path], text=True, capture_output=True)
+        with tempfile.TemporaryDirectory() as folder:
+            wheel = pathlib.Path(folder) / self.name
+            wheel.write_bytes(self.wheel)
+            run = subprocess.run(["twine", "check", "--strict", wheel], text=True, capture_output=True)
         self.assertEqual(0, run.returncode, run.stdout + run.stderr)
 
     @unittest.skipUnless(shutil.which("nm"), "nm is not installed")
@@ -114,6 +118,26 @@ class Wheel(unittest.TestCase):
 
 
 class Build(unittest.TestCase):
+    def test_editable(self):
+        """A change of a source is seen at once; the wheel has no file of the package."""
+        with tempfile.TemporaryDirectory() as folder:
+            top = pathlib.Path(folder)
+            shutil.copytree(TOP / "python", top / "python", ignore=shutil.ignore_patterns("out", "tests"))
+            for path in TOP.iterdir():
+                if path.name != "python":
+                    (top / path.name).symlink_to(path)
+            status, name, files = built("build_editable", python=top / "python")
+            self.assertEqual(0, status, name)
+            with zipfile.ZipFile(io.BytesIO(files[name])) as archive:
+                self.assertEqual({"const_oid.pth"} | {name for name in FILES if "dist-info" in name}, set(archive.namelist()))
+                (place,) = archive.read("const_oid.pth").decode().splitlines()
+            with (top / "python/const_oid/names.py").open("a", encoding="utf-8") as source:
+                source.write("\nCHANGED = name_of(ObjectIdentifier('2.5.4.3'))\n")
+            code = f"import sys; sys.path.insert(0, {place!r}); import const_oid; print(const_oid.names.CHANGED)"
+            run = subprocess.run([sys.executable, "-c", code], text=True, capture_output=True)
+            self.assertEqual(("cn\n", ""), (run.stdout, run.stderr))
+            self.assertEqual(["const_oid"], os.listdir(place))
+
     def test_missing(self):
         """What is missing is named, all of it, before anything is built."""
         status, said, files = built("build_wheel", None, PATH="/missing")
