@@ -79,7 +79,7 @@ def _compile(target, config_settings):
     include, library = _installed() if is_installed else _built()
     link = ["-bundle", "-undefined", "dynamic_lookup"] if sys.platform == "darwin" else ["-shared", "-Wl,--exclude-libs,ALL", "-s"]
     flags = ["-std=c11", "-O2", "-fPIC", "-fvisibility=hidden", *shlex.split(os.environ.get("CFLAGS", ""))]
-    files = [f"-I{INCLUDE}", f"-I{include}", HERE / "native.c", library, "-o", target]
+    files = [f"-I{INCLUDE}", f"-I{include}", HERE / "src/native.c", library, "-o", target]
     _output(*COMPILER, *flags, *link, *files, *shlex.split(os.environ.get("LDFLAGS", "")))
 
 
@@ -139,7 +139,7 @@ def _write_wheel(folder, files):
 
 def build_wheel(wheel_directory, config_settings=None, metadata_directory=None):
     """Writes the wheel into a folder, and returns its name."""
-    files = {f"const_oid/{name}": (HERE / "const_oid" / name).read_bytes() for name in SOURCES}
+    files = {f"const_oid/{name}": (HERE / "src/const_oid" / name).read_bytes() for name in SOURCES}
     files["const_oid/names.tsv"] = _names().encode()
     with tempfile.TemporaryDirectory() as folder:
         extension = pathlib.Path(folder) / EXTENSION
@@ -154,7 +154,7 @@ def build_editable(wheel_directory, config_settings=None, metadata_directory=Non
     shutil.rmtree(package, ignore_errors=True)
     package.mkdir(parents=True)
     for name in SOURCES:
-        (package / name).symlink_to(HERE / "const_oid" / name)
+        (package / name).symlink_to(HERE / "src/const_oid" / name)
     (package / "names.tsv").write_text(_names(), encoding="utf-8")
     _compile(package / EXTENSION, config_settings)
     return _write_wheel(wheel_directory, {"const_oid.pth": f"{package.parent}\n".encode()})

@@ -1,50 +1,140 @@
-"""Prints times in nanoseconds, beside pyasn1. It needs const_oid and pyasn1 (Debian: python3-pyasn1).
+"""Prints times in nanoseconds, beside those of pyasn1, asn1crypto and cryptography, as far as they are installed (Debian:
+python3-pyasn1, python3-asn1crypto, python3-cryptography).
 
-pyasn1 encodes and decodes whole values, with tag and length. The exit status is 1 if a row is slower here.
+It ends with status 1 if a row is slower here than in the fastest of them, aside from asn1crypto's text, which it keeps.
+pyasn1 and asn1crypto encode and decode whole values, with tag and length. cryptography has no octets and no order, and
+identifiers of asn1crypto have no hash and no order.
 """
+import importlib
 import sys
 import timeit
 
-import pyasn1
 from const_oid import ObjectIdentifier
-from pyasn1.codec.der import decoder, encoder
-from pyasn1.type.univ import ObjectIdentifier as Other
 
 TEXTS = {
     "short": "2.5.4.3",
     "typical": "1.2.840.113549.1.1.11",
     "long": "1.3.6.1.4.1.4294967295.1.22.333.4444.55555.666666",
 }
+THOUSAND = [f"1.3.6.1.2.1.{index * 7919 % 1000}.{index % 7}" for index in range(1000)]
 
 
-def rows():
-    """For each row its name, and a call of ours and of pyasn1."""
-    for name, text in TEXTS.items():
-        oid, other = ObjectIdentifier(text), Other(text)
-        octets, whole, spec = bytes(oid), encoder.encode(other), Other()
-        same, next_to = ObjectIdentifier(text), ObjectIdentifier(text + ".1")
-        other_same, other_next = Other(text), Other(text + ".1")
-        keys, other_keys = [next_to, oid, same] * 5, [other_next, other, other_same] * 5
-        printed = lambda: str(ObjectIdentifier.from_bytes(octets)), lambda: str(decoder.decode(whole, spec)[0])
-        yield f"text to octets, {name}", lambda: bytes(ObjectIdentifier(text)), lambda: encoder.encode(Other(text))
-        yield f"octets to text, {name}", *printed
-        yield f"==, {name}", lambda: oid == same, lambda: other == other_same
-        yield f"<, {name}", lambda: oid < next_to, lambda: other < other_next
-        yield f"sorting 15, {name}", lambda: sorted(keys), lambda: sorted(other_keys)
-        yield f"hash, {name}", lambda: hash(oid), lambda: hash(other)
+class Ours:
+    parse = ObjectIdentifier
+    octets_of = bytes
+    from_octets = ObjectIdentifier.from_bytes
+    text_of = str
+    octets_in = bytes
 
 
-def times_of(calls, rounds=1500):
+class Pyasn1:
+    def __init__(self):
+        from pyasn1.codec.der import decoder, encoder
+        from pyasn1.type.univ import ObjectIdentifier as Other
+
+        whole = Other()
+        self.parse, self.octets_of, self.text_of = Other, encoder.encode, str
+        self.octets_in = lambda oid: encoder.encode(oid)
+        self.from_octets = lambda octets: decoder.decode(octets, whole)[0]
+
+
+class Asn1crypto:
+    def __init__(self):
+        from asn1crypto.core import ObjectIdentifier as Other
+
+        self.parse, self.octets_in = Other, lambda oid: oid.dump()
+        self.octets_of = lambda oid: oid.dump(True)
+        self.from_octets = Other.load
+        self.text_of = lambda oid: oid.dotted
+
+
+class Cryptography:
+    octets_of = from_octets = octets_in = None
+
+    def __init__(self):
+        from cryptography.x509 import ObjectIdentifier as Other
+
+        self.parse, self.text_of = Other, lambda oid: oid.dotted_string
+
+
+def of_text(side, text):
+    """The operations on identifiers of one text, by name."""
+    oid, same, other = side.parse(text), side.parse(text), side.parse(text + ".1")
+    yield "text to identifier", lambda: side.parse(text)
+    yield "identifier to text", lambda: side.text_of(oid)
+    if side.octets_in:
+        octets = side.octets_in(oid)
+        yield "octets to identifier", lambda: side.from_octets(octets)
+        yield "identifier to octets", lambda: side.octets_of(oid)
+        yield "text to octets", lambda: side.octets_of(side.parse(text))
+        yield "octets to text", lambda: side.text_of(side.from_octets(octets))
+    yield "==", lambda: oid == same
+    if side.parse.__hash__:
+        table = {oid: 1, other: 2}
+        yield "hash", lambda: hash(oid)
+        yield "dict", lambda: table[same]
+    if is_ordered(oid, other):
+        yield "<", lambda: oid < other
+
+
+def is_ordered(oid, other):
+    try:
+        return oid < other
+    except TypeError:
+        return False
+
+
+def of_thousand(side):
+    oids = list(map(side.parse, THOUSAND))
+    if side.parse.__hash__:
+        yield "dict of 1,000", lambda: dict.fromkeys(oids)
+    if is_ordered(oids[0], side.parse(THOUSAND[0] + ".1")):
+        yield "sorting 1,000", lambda: sorted(oids)
+
+
+def sides():
+    """This package and the others that are installed, by name."""
+    yield "const_oid", Ours
+    for name, side in {"pyasn1": Pyasn1, "asn1crypto": Asn1crypto, "cryptography": Cryptography}.items():
+        try:
+            version = importlib.import_module(name).__version__
+        except ImportError:
+            continue
+        yield f"{name} {version}", side()
+
+
+def times_of(calls, rounds=400):
     """The best time of each call, in short turns, since other work on the machine only adds to it."""
-    number = 1 + int(1e-4 / min(timeit.timeit(call, number=20) / 20 for call in calls))
+    number = 1 + int(1e-4 / min(timeit.timeit(call, number=3) / 3 for call in calls))
     times = [[timeit.timeit(call, number=number) for call in calls] for _ in range(rounds)]
     return [min(column) * 1e9 / number for column in zip(*times)]
 
 
-slower = 0
-print(f"{'':28}{'const_oid':>12}{'pyasn1 ' + pyasn1.__version__:>16}")
-for name, *calls in rows():
-    ours, others = times_of(calls)
-    slower += ours > others
-    print(f"{name:28}{ours:12,.0f}{others:16,.0f}")
-sys.exit(slower > 0)
+def rows(found):
+    """For each row its name, and the calls of each side that has one."""
+    for name, text in TEXTS.items():
+        columns = [dict(of_text(side, text)) for _, side in found]
+        for row in columns[0]:
+            yield f"{row}, {name}", [column.get(row) for column in columns]
+    columns = [dict(of_thousand(side)) for _, side in found]
+    for row in columns[0]:
+        yield row, [column.get(row) for column in columns]
+
+
+def main():
+    found, slower = list(sides()), []
+    print(f"{'':32}" + "".join(f"{name:>20}" for name, _ in found))
+    for row, calls in rows(found):
+        times = iter(times_of([call for call in calls if call]))
+        times = [next(times) if call else None for call in calls]
+        print(f"{row:32}" + "".join(f"{'' if time is None else format(time, ',.0f'):>20}" for time in times), flush=True)
+        is_kept = row.startswith("identifier to text")
+        others = [time for (name, _), time in zip(found, times) if time and not (is_kept and name.startswith("asn1crypto"))]
+        if times[0] > min(others):
+            slower.append(row)
+    for row in slower:
+        print(f"slower: {row}", file=sys.stderr)
+    return bool(slower)
+
+
+sys.exit(main())

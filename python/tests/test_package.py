@@ -75,7 +75,7 @@ class Package(unittest.TestCase):
 class Types(unittest.TestCase):
     def test_stub(self):
         """The types of the class in C are for the arguments that it has."""
-        stub = ast.parse((TOP / "python/const_oid/_native.pyi").read_text(encoding="utf-8"))
+        stub = ast.parse((TOP / "python/src/const_oid/_native.pyi").read_text(encoding="utf-8"))
         declared = {node.name: node for node in stub.body if isinstance(node, ast.ClassDef)}["ObjectIdentifier"]
         functions = {node.name: node for node in declared.body if isinstance(node, ast.FunctionDef)}
         self.assertEqual({name for name in vars(ObjectIdentifier) if not name.startswith("_")} - set(functions), set())
@@ -91,6 +91,6 @@ class Types(unittest.TestCase):
     @unittest.skipUnless(shutil.which("mypy"), "mypy is not installed")
     def test_mypy(self):
         command = ["mypy", "--strict", "--cache-dir=/dev/null", "--python-version=3.11"]
-        files = [TOP / "python/const_oid", HERE / "typed.py"]
-        run = subprocess.run([*command, *files], cwd=TOP / "python", text=True, capture_output=True)
+        files = [TOP / "python/src/const_oid", HERE / "typed.py"]
+        run = subprocess.run([*command, *files], cwd=TOP / "python/src", text=True, capture_output=True)
         self.assertEqual((0, ""), (run.returncode, run.stderr), run.stdout)

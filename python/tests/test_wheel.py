@@ -58,7 +58,7 @@ class Wheel(unittest.TestCase):
         self.assertEqual((FILES, len(FILES)), (set(self.files), len(self.entries)))
         self.assertEqual({0o100644}, {entry.external_attr >> 16 for entry in self.entries})
         for name in PACKAGE - {"_native.abi3.so", "names.tsv"}:
-            self.assertEqual((TOP / "python/const_oid" / name).read_bytes(), self.files[f"const_oid/{name}"])
+            self.assertEqual((TOP / "python/src/const_oid" / name).read_bytes(), self.files[f"const_oid/{name}"])
         for name in ("LICENSE-APACHE", "LICENSE-MIT"):
             self.assertEqual((TOP / name).read_bytes(), self.files[f"{STEM}.dist-info/{name}"])
 
@@ -131,7 +131,7 @@ class Build(unittest.TestCase):
             with zipfile.ZipFile(io.BytesIO(files[name])) as archive:
                 self.assertEqual({"const_oid.pth"} | {name for name in FILES if "dist-info" in name}, set(archive.namelist()))
                 (place,) = archive.read("const_oid.pth").decode().splitlines()
-            with (top / "python/const_oid/names.py").open("a", encoding="utf-8") as source:
+            with (top / "python/src/const_oid/names.py").open("a", encoding="utf-8") as source:
                 source.write("\nCHANGED = name_of(ObjectIdentifier('2.5.4.3'))\n")
             code = f"import sys; sys.path.insert(0, {place!r}); import const_oid; print(const_oid.names.CHANGED)"
             run = subprocess.run([sys.executable, "-c", code], text=True, capture_output=True)

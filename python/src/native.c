@@ -11,8 +11,9 @@
 
 typedef struct {
     PyObject_HEAD
-    PyObject *octets; /* bytes that const_oid_check accepts */
-    PyObject *arcs;   /* a tuple, or NULL before its first use */
+    const_oid_octets items; /* those of `octets` */
+    PyObject *octets;       /* bytes that const_oid_check accepts */
+    PyObject *arcs;         /* a tuple, or NULL before its first use */
     PyObject *weak_references;
 } Identifier;
 
@@ -21,7 +22,7 @@ static const_oid_octets items_of(PyObject *bytes) {
     return items;
 }
 
-static const_oid_octets octets_of(PyObject *self) { return items_of(((Identifier *)self)->octets); }
+static const_oid_octets octets_of(PyObject *self) { return ((Identifier *)self)->items; }
 
 static void identifier_dealloc(PyObject *self) {
     Identifier *identifier = (Identifier *)self;
@@ -65,6 +66,7 @@ static PyObject *made(PyTypeObject *type, PyObject *octets) {
     Identifier *self = (Identifier *)PyType_GenericAlloc(type, 0);
     if (self) {
         self->octets = octets;
+        self->items = items_of(octets);
     } else {
         Py_DECREF(octets);
     }
