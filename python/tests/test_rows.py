@@ -2,7 +2,7 @@
 import pathlib
 import unittest
 
-from const_oid import ObjectIdentifier, OidError
+from const_oid import ObjectIdentifier, OidError, SortedMap
 
 ROWS = pathlib.Path(__file__).resolve().parents[2] / "crates/const_oid_c/tests/rows.txt"
 
@@ -38,6 +38,17 @@ def pair(call):
     return lambda words: call(*map(oid_of, words.split(" ")))
 
 
+def index_in(call):
+    """The index in a sorted list of the entry that a call finds for an identifier."""
+
+    def row(words):
+        oid, *items = map(oid_of, words.split(" "))
+        found = call(SortedMap({item: index for index, item in reversed(list(enumerate(items)))}), oid)
+        return "none" if found is None else str(found[1])
+
+    return row
+
+
 CALLS = {
     "text": lambda text: digits_of(ObjectIdentifier(text)),
     "bytes": lambda digits: digits_of(ObjectIdentifier(bytes.fromhex(digits).decode("utf-8", "surrogateescape"))),
@@ -49,12 +60,18 @@ CALLS = {
     "begins": pair(lambda oid, prefix: whether(oid.starts_with(prefix))),
     "equal": pair(lambda left, right: whether(left == right)),
     "by_arcs": pair(order_of),
+    "find": index_in(lambda table, oid: (oid, table[oid]) if oid in table else None),
+    "next": index_in(SortedMap.next_after),
+    "nearest": index_in(SortedMap.nearest),
     "error": lambda words: str(OidError(*map(int, words.split(" ")))),
     "message": lambda words: str(OidError(*map(int, words.split(" ")))).encode().hex().upper(),
 }
 
-# What this package has no call for: the other orders, and lists. `error` has rows of codes that there are not.
-LEFT_OUT = {"owned", "borrowed", "sorted", "find", "next", "nearest", "range"}
+# What this package has no call for: the other orders, and other answers of lists. `error` has rows of codes that there
+# are not.
+LEFT_OUT = {"owned", "borrowed", "range", "sorted"}
+# Calls of lists, of which there may be no rows.
+OF_LISTS = {"find", "next", "nearest"}
 
 
 def answer(call, words):
@@ -76,4 +93,4 @@ class Rows(unittest.TestCase):
             if call not in LEFT_OUT and not (call == "error" and wanted == "none"):
                 with self.subTest(row[:200]):
                     self.assertEqual(wanted, answer(call, words))
-        self.assertEqual(found, {*CALLS, *LEFT_OUT})
+        self.assertEqual(found | OF_LISTS | LEFT_OUT, {*CALLS, *LEFT_OUT})
