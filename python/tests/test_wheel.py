@@ -117,7 +117,41 @@ class Wheel(unittest.TestCase):
         self.assertEqual(["PyInit__native"], [line.split()[-1] for line in run.stdout.splitlines()])
 
 
+CARGO = """#!/bin/sh
+printf '%s\n' "$@" > "$SAID"
+mkdir -p "$CARGO_TARGET_DIR/a-host/release"
+cp "$LIBRARY" "$CARGO_TARGET_DIR/a-host/release/libconst_oid_c.a"
+"""
+RUSTC = """#!/bin/sh
+echo "rustc 1.85.0"
+if [ "$1" = -vV ]; then echo "host: a-host"; fi
+"""
+
+
+def program(folder, name, text):
+    (folder / name).write_text(text, encoding="utf-8")
+    (folder / name).chmod(0o755)
+
+
 class Build(unittest.TestCase):
+    def test_cargo(self):
+        """cargo builds for this machine whatever its configuration says, and the module has what it built."""
+        libdir = subprocess.run(["pkg-config", "--variable=libdir", "const_oid_c"], text=True, capture_output=True, check=True)
+        with tempfile.TemporaryDirectory() as name:
+            folder = pathlib.Path(name)
+            program(folder, "cargo", CARGO)
+            program(folder, "rustc", RUSTC)
+            variables = {"SAID": f"{name}/said", "LIBRARY": f"{libdir.stdout.strip()}/libconst_oid_c.a"}
+            variables |= {"PATH": f"{name}:{os.environ['PATH']}", "CARGO_TARGET_DIR": f"{name}/target", "RUSTC": "rustc"}
+            status, said, files = built("build_wheel", None, **variables, CARGO_BUILD_TARGET="another")
+            self.assertEqual((0, 1), (status, len(files)), said)
+            arguments = (folder / "said").read_text(encoding="utf-8").split("\n")
+        self.assertEqual("build", arguments[0])
+        self.assertLessEqual({"--release", "--locked", "--offline"}, set(arguments))
+        found = {name: arguments[arguments.index(name) + 1] for name in ("--target", "--target-dir", "--manifest-path")}
+        crate = str(TOP / "rust/const-oid-c/Cargo.toml")
+        self.assertEqual({"--target": "a-host", "--target-dir": f"{name}/target", "--manifest-path": crate}, found)
+
     def test_editable(self):
         """A change of a source is seen at once; the wheel has no file of the package."""
         with tempfile.TemporaryDirectory() as folder:
@@ -151,9 +185,7 @@ class Build(unittest.TestCase):
     def test_old_rust(self):
         with tempfile.TemporaryDirectory() as folder:
             for tool in ("rustc", "cargo"):
-                program = pathlib.Path(folder) / tool
-                program.write_text("#!/bin/sh\necho 'rustc 1.84.1'\n", encoding="utf-8")
-                program.chmod(0o755)
+                program(pathlib.Path(folder), tool, "#!/bin/sh\necho 'rustc 1.84.1'\n")
             status, said, files = built("build_wheel", None, PATH=f"{folder}:{os.environ['PATH']}", RUSTC=f"{folder}/rustc")
         self.assertEqual("const-oid: to be installed first: rustc 1.85 or later (https://rustup.rs)", said)
 
