@@ -189,7 +189,8 @@ class Values(unittest.TestCase):
     def test_sequence(self):
         self.assertEqual([1, 2, 840, 10045, 2, 1], list(OID))
         self.assertEqual((6, 1, 1, (10045, 1)), (len(OID), OID[0], OID[-1], OID[3::2]))
-        self.assertTrue(all(arc in OID for arc in OID))
+        several = ObjectIdentifier.from_arcs([2, *range(3, 300, 3)])
+        self.assertEqual([arc for arc in range(310) if arc in several], list(several))
         self.assertEqual((True, False, True, False), (840 in OID, 841 in OID, True in OID, 10**5000 in OID))
         self.assertIn(Index(), ObjectIdentifier("2.999"))
         self.assertEqual((1, 4, 2), (OID.index(2), OID.index(2, 2), OID.count(1)))
