@@ -8,6 +8,8 @@ from const_oid import ObjectIdentifier, OidError
 
 OID, OTHER, LONG = ObjectIdentifier("1.2.840.10045.2.1"), ObjectIdentifier("1.2"), ObjectIdentifier.from_bytes(bytes(3000))
 
+WRONG = b"\x80\x01"
+
 
 class Under(ObjectIdentifier):
     pass
@@ -30,7 +32,7 @@ CALLS = {
     "no text": lambda: raised(ObjectIdentifier, 1),
     "identifier": lambda: (ObjectIdentifier(OID), Under(OID)),
     "octets": lambda: (ObjectIdentifier.from_bytes(b"\x2a\x03"), Under.from_bytes(bytearray(b"\x2a\x03"))),
-    "wrong octets": lambda: raised(ObjectIdentifier.from_bytes, b"\x80\x01"),
+    "wrong octets": lambda: (raised(ObjectIdentifier.from_bytes, WRONG), raised(ObjectIdentifier.from_bytes, bytearray(WRONG))),
     "arcs": lambda: (ObjectIdentifier.from_arcs([2, 999, 2**32 - 1]), Under.from_arcs((1, 2))),
     "wrong arcs": lambda: raised(ObjectIdentifier.from_arcs, [3] * 300),
     "arcs past 32 bits": lambda: raised(ObjectIdentifier.from_arcs, [1] * 300 + [2**70]),
@@ -50,7 +52,7 @@ CALLS = {
 }
 
 
-KEPT = (ObjectIdentifier, Under, OidError, OID, OTHER, LONG, bytes(OID), bytes(LONG), str, tuple)
+KEPT = (ObjectIdentifier, Under, OidError, OID, OTHER, LONG, bytes(OID), bytes(LONG), WRONG, str, tuple)
 
 
 def measured():
