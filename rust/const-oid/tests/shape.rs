@@ -124,17 +124,17 @@ fn operators() {
     }
 }
 
-/// A parent of any length.
+/// Octets and parents of any length.
 #[test]
-fn long_parents() {
+fn long_identifiers() {
     for len in [2, 40, 256, 16_385, 70_000] {
         let octets = vec![0x2A; len];
-        let parent = ObjectIdentifierRef::from_bytes(&octets).unwrap().parent();
-        assert_eq!(
-            parent.map(ObjectIdentifierRef::as_bytes),
-            Some(&octets[1..]),
-            "{len}"
-        );
+        let oid = ObjectIdentifierRef::from_bytes(&octets).unwrap();
+        let parent = oid.parent().map(ObjectIdentifierRef::as_bytes);
+        assert_eq!(parent, Some(&octets[1..]), "{len}");
+        assert_eq!(AsRef::<[u8]>::as_ref(oid), octets, "{len}");
+        let read: &ObjectIdentifierRef = octets[..].try_into().unwrap();
+        assert_eq!(read.as_bytes(), octets, "{len}");
     }
 }
 
