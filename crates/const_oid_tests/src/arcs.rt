@@ -1,52 +1,46 @@
 //! The arcs of both forms: `len` and `arc`.
 
+use crate::vectors::long_octets;
 use const_oid::arcs::Arc;
-use const_oid::{Error, ObjectIdentifier, ObjectIdentifierRef};
+use const_oid::{Error, ObjectIdentifierRef, Oid};
+use std::alloc::{AllocError, Global};
 
-/// Octets, how many arcs they have, an index, and the arc there, if there is one.
-type Row = (&'static [u8], usize, usize, Option<Arc>);
+/// How octets begin, how many times a unit of octets follows, how they end; how many arcs they have, an index, and
+/// the arc there, if there is one.
+type Row = (
+    &'static [u8],
+    usize,
+    &'static [u8],
+    &'static [u8],
+    usize,
+    usize,
+    Option<Arc>,
+);
 
 /// 1.2.840.10045.2.1.
 const FIELD: &[u8] = &[0x2A, 0x86, 0x48, 0xCE, 0x3D, 0x02, 0x01];
 
-/// 1.2, and 15 arcs of two octets.
-const PAIRS: &[u8] = &[
-    0x2A, 0x81, 0x00, 0x81, 0x00, 0x81, 0x00, 0x81, 0x00, 0x81, 0x00, 0x81, 0x00, 0x81, 0x00, 0x81,
-    0x00, 0x81, 0x00, 0x81, 0x00, 0x81, 0x00, 0x81, 0x00, 0x81, 0x00, 0x81, 0x00, 0x81, 0x00,
-];
-
-/// 31 octets, and the arc 128, whose two octets cross the edge of 32.
-const ACROSS: &[u8] = &[
-    0x2A, 1, 1, 1, 1, 1, 1, 1, 1, 1, 1, 1, 1, 1, 1, 1, 1, 1, 1, 1, 1, 1, 1, 1, 1, 1, 1, 1, 1, 1, 1,
-    0x81, 0x00,
-];
-
-/// The same of the arc 840.
-const FURTHER: &[u8] = &[
-    0x01, 1, 1, 1, 1, 1, 1, 1, 1, 1, 1, 1, 1, 1, 1, 1, 1, 1, 1, 1, 1, 1, 1, 1, 1, 1, 1, 1, 1, 1, 1,
-    0x86, 0x48,
-];
-
+/// Some rows have 31, 32 and 33 octets. The last arcs of two octets cross the edge of 32.
 const ROWS: &[Row] = &[
-    (&[0x2A], 2, 1, Some(2)),
-    (FIELD, 6, 2, Some(840)),
-    (FIELD, 6, 3, Some(10045)),
-    (FIELD, 6, 6, None),
-    (FIELD, 6, usize::MAX, None),
-    (&[0x88, 0x37, 0x03], 3, 1, Some(999)),
-    (&[0x88, 0x37, 0x03], 3, 3, None),
-    (&[0x01; 31], 32, 31, Some(1)),
-    (&[0x01; 32], 33, 32, Some(1)),
-    (&[0x01; 33], 34, 33, Some(1)),
-    (&[0x01; 33], 34, 34, None),
-    (PAIRS, 17, 16, Some(128)),
-    (&[0x7F; 31], 32, 31, Some(127)),
-    (&[0x7F; 32], 33, 32, Some(127)),
-    (&[0x7F; 33], 34, 33, Some(127)),
-    (ACROSS, 33, 31, Some(1)),
-    (ACROSS, 33, 32, Some(128)),
-    (ACROSS, 33, 33, None),
-    (FURTHER, 33, 32, Some(840)),
+    (&[0x2A], 0, &[], &[], 2, 1, Some(2)),
+    (FIELD, 0, &[], &[], 6, 2, Some(840)),
+    (FIELD, 0, &[], &[], 6, 3, Some(10045)),
+    (FIELD, 0, &[], &[], 6, 6, None),
+    (FIELD, 0, &[], &[], 6, usize::MAX, None),
+    (&[0x88, 0x37, 0x03], 0, &[], &[], 3, 1, Some(999)),
+    (&[0x88, 0x37, 0x03], 0, &[], &[], 3, 3, None),
+    (&[0x2A], 30, &[0x01], &[], 32, 31, Some(1)),
+    (&[0x2A], 31, &[0x01], &[], 33, 32, Some(1)),
+    (&[0x2A], 32, &[0x01], &[], 34, 33, Some(1)),
+    (&[0x2A], 32, &[0x01], &[], 34, 34, None),
+    (&[0x2A], 15, &[0x81, 0x00], &[], 17, 16, Some(128)),
+    (&[], 31, &[0x7F], &[], 32, 31, Some(127)),
+    (&[], 32, &[0x7F], &[], 33, 32, Some(127)),
+    (&[], 33, &[0x7F], &[], 34, 33, Some(127)),
+    (&[0x2A], 30, &[0x01], &[0x81, 0x00], 33, 31, Some(1)),
+    (&[0x2A], 30, &[0x01], &[0x81, 0x00], 33, 32, Some(128)),
+    (&[0x2A], 30, &[0x01], &[0x81, 0x00], 33, 33, None),
+    (&[0x01], 30, &[0x01], &[0x86, 0x48], 33, 32, Some(840)),
 ];
 
 /// How many arcs borrowed octets have, and the arc at an index.
@@ -57,18 +51,45 @@ fn of_borrowed(octets: &[u8], index: usize) -> Result<(usize, Option<Arc>), Erro
 
 /// The same of an owned identifier.
 fn of_owned(octets: &[u8], index: usize) -> Result<(usize, Option<Arc>), Error> {
-    let oid = ObjectIdentifier::<255>::from_bytes_sized(octets)?;
+    let oid = Oid::from_bytes(octets)?;
     Ok((oid.len(), oid.arc(index)))
 }
 
+/// Whether both forms of the octets of a row have the arcs that it says.
+fn has_arcs(alloc: Global, row: &Row) -> Result<bool, AllocError> {
+    let octets = long_octets(alloc, row.0, row.1, row.2, row.3)?;
+    let wanted = Ok((row.4, row.6));
+    Ok(
+        of_borrowed(octets.as_slice(), row.5) == wanted
+            && of_owned(octets.as_slice(), row.5) == wanted,
+    )
+}
+
 #[test]
-fn counts_and_arcs(rt: HostRuntime) {
-    for (octets, count, index, arc) in ROWS {
-        let wanted = Ok((*count, *arc));
-        assert!(rt;
-            of_borrowed(octets, *index) == wanted,
-            "{index}: {octets:?}"
-        );
-        assert!(rt; of_owned(octets, *index) == wanted, "{index}: {octets:?}");
+fn counts_and_arcs(rt: HostRuntime) -> Result<(), AllocError> {
+    for row in ROWS {
+        assert!(rt; has_arcs(rt.alloc(), row)?, "{row:?}");
     }
+    Ok(())
+}
+
+/// Numbers of octets around 32, 64 and 96.
+const LENGTHS: &[usize] = &[31, 32, 33, 63, 64, 65, 95, 96, 97];
+
+/// Whether 1.2 and an octet 01 for each later arc have the last arc at the index of their number, and none after it.
+fn has_last_arc(alloc: Global, len: usize) -> Result<bool, AllocError> {
+    let octets = long_octets(alloc, &[0x2A], len.saturating_sub(1), &[0x01], &[])?;
+    let count = len.saturating_add(1);
+    Ok(
+        of_borrowed(octets.as_slice(), len) == Ok((count, Some(1)))
+            && of_borrowed(octets.as_slice(), count) == Ok((count, None)),
+    )
+}
+
+#[test]
+fn many_arcs(rt: HostRuntime) -> Result<(), AllocError> {
+    for len in LENGTHS {
+        assert!(rt; has_last_arc(rt.alloc(), *len)?, "{len} octets");
+    }
+    Ok(())
 }

@@ -42,3 +42,38 @@ fn copies_a_borrowed_identifier(rt: HostRuntime) {
         );
     }
 }
+
+/// Whether borrowed octets are equal to owned ones of a capacity.
+fn is_equal<const N: usize>(borrowed: &[u8], owned: &[u8]) -> Result<bool, Error>
+    requires { N ≤ 300 }
+{
+    let owned = ObjectIdentifier::<N>::from_bytes_sized(owned)?;
+    Ok(ObjectIdentifierRef::from_bytes(borrowed)?.eq_oid(&owned))
+}
+
+/// The same for one of the capacities that the rows name.
+fn is_equal_at(capacity: usize, borrowed: &[u8], owned: &[u8]) -> Result<bool, Error> {
+    match capacity {
+        2 => is_equal::<2>(borrowed, owned),
+        39 => is_equal::<39>(borrowed, owned),
+        300 => is_equal::<300>(borrowed, owned),
+        _ => Err(Error::Overflow),
+    }
+}
+
+/// A capacity, borrowed octets, owned ones, and whether they are equal.
+const PAIRS: &[(usize, &[u8], &[u8], bool)] = &[
+    (2, &[0x2A, 0x03], &[0x2A, 0x03], true),
+    (300, &[0x2A, 0x03], &[0x2A, 0x03], true),
+    (39, &[0x2A, 0x81, 0x00], &[0x2A, 0x01], false),
+];
+
+#[test]
+fn equal_to_an_owned_one(rt: HostRuntime) {
+    for (capacity, borrowed, owned, wanted) in PAIRS {
+        assert!(rt;
+            is_equal_at(*capacity, borrowed, owned) == Ok(*wanted),
+            "{capacity}: {borrowed:?}"
+        );
+    }
+}

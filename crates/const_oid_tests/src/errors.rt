@@ -1,6 +1,6 @@
 //! Errors: compared, copied and printed.
 
-ghost use Rattle.std.specs.Prelude.{◌≡◌, ◌↔◌, IsTrue, IsOk, IfOk};
+ghost use Rattle.std.specs.Prelude.{◌≡◌, ◌↔◌, IsTrue, IsOk, IfOk, Some};
 ghost use Rattle.const_oid.specs.Error.{error_cmp};
 
 use crate::formatter::{count_writes, prints, prints_as};
@@ -22,6 +22,12 @@ fn order(a: Error, b: Error) -> Ordering
     a.cmp(&b)
 }
 
+fn partial_order(a: Error, b: Error) -> Option<Ordering>
+    ensures { result ≡ Some (error_cmp a b) }
+{
+    a.partial_cmp(&b)
+}
+
 fn cloned(error: &Error) -> Result<Error, AllocError>
     ensures succeeds { IsOk result }
     ensures same { IfOk result (λ copy. copy ≡ error.now) }
@@ -37,6 +43,7 @@ fn compared(rt: HostRuntime) -> Result<(), AllocError> {
     assert!(rt;
         order(error, Error::ArcTooBig) == Ordering::Less && order(error, other) == Ordering::Greater
     );
+    assert!(rt; partial_order(error, other) == Some(Ordering::Greater));
     Ok(())
 }
 
@@ -105,6 +112,10 @@ pub const MESSAGES: &[(Error, &str)] = &[
     (
         Error::DigitExpected { actual: 0xC3 },
         "expected digit, got 'Ã'",
+    ),
+    (
+        Error::DigitExpected { actual: 0xEF },
+        "expected digit, got 'ï'",
     ),
     (
         Error::DigitExpected { actual: 0xFF },

@@ -1,13 +1,37 @@
-//! Identifiers as keys of maps.
+//! Identifiers as keys of maps, and their hashes.
+
+ghost use Rattle.std.specs.Prelude.{◌≡◌, fold};
+ghost use Rattle.std.specs.Hash as fed;
+ghost use Rattle.std.specs.Hash.DefaultHasher as sip;
+ghost use Rattle.const_oid.specs.Oid.{oid_octets};
+ghost use Rattle.const_oid.specs.OidRef.{ref_octets};
 
 use crate::vectors::accepted_rows;
-use const_oid::{ObjectIdentifierRef, Oid};
+use const_oid::{Arc, ObjectIdentifier, ObjectIdentifierRef, Oid};
 use std::alloc::Global;
-use std::collections::HashMap;
+use std::collections::{BTreeMap, HashMap};
+use std::hash::{DefaultHasher, Hash, Hasher};
 use std::test::Fail;
 
+/// A hasher is fed the octets as a slice.
+fn hash_of<const N: usize>(oid: &ObjectIdentifier<N>) -> u64
+    ensures { result ≡ sip.finish (fold sip.write sip.initial (fed.slice fed.u8 (oid_octets oid.now))) }
+{
+    let mut state = DefaultHasher::new();
+    oid.hash(&mut state);
+    state.finish()
+}
+
+fn ref_hash_of(oid: &ObjectIdentifierRef<'_>) -> u64
+    ensures { result ≡ sip.finish (fold sip.write sip.initial (fed.slice fed.u8 (ref_octets oid.now))) }
+{
+    let mut state = DefaultHasher::new();
+    oid.hash(&mut state);
+    state.finish()
+}
+
 /// The numbers of arcs of the shared rows, by the identifiers of their octets.
-fn counts(alloc: Global) -> Result<HashMap<Oid, usize>, Fail> {
+fn hashed(alloc: Global) -> Result<HashMap<Oid, usize>, Fail> {
     let mut counts = HashMap::new(alloc);
     for (_, octets, arcs) in accepted_rows() {
         counts.insert(Oid::from_bytes(octets)?, arcs.len())?;
@@ -15,13 +39,23 @@ fn counts(alloc: Global) -> Result<HashMap<Oid, usize>, Fail> {
     Ok(counts)
 }
 
-/// The first text whose identifier is no key, or that of another number.
-fn wrong_key(counts: &HashMap<Oid, usize>) -> Option<&'static str> {
+/// The same in order.
+fn sorted(alloc: Global) -> Result<BTreeMap<Oid, usize>, Fail> {
+    let mut counts = BTreeMap::new(alloc);
+    for (_, octets, arcs) in accepted_rows() {
+        counts.insert(Oid::from_bytes(octets)?, arcs.len())?;
+    }
+    Ok(counts)
+}
+
+/// The first text whose identifier is no key of both maps, or that of another number.
+fn wrong_key(hashed: &HashMap<Oid, usize>, sorted: &BTreeMap<Oid, usize>) -> Option<&'static str> {
     for (text, _, arcs) in accepted_rows() {
         let Ok(oid) = Oid::new(text) else {
             return Some(text);
         };
-        if counts.get(&oid).copied() != Some(arcs.len()) {
+        let count = Some(arcs.len());
+        if hashed.get(&oid).copied() != count || sorted.get(&oid).copied() != count {
             return Some(text);
         }
     }
@@ -31,9 +65,36 @@ fn wrong_key(counts: &HashMap<Oid, usize>) -> Option<&'static str> {
 /// The identifiers of the texts are the same keys.
 #[test]
 fn finds_keys(rt: HostRuntime) -> Result<(), Fail> {
-    let counts = counts(rt.alloc())?;
-    assert_eq!(rt; wrong_key(&counts), None);
-    assert_eq!(rt; counts.len(), accepted_rows().len());
+    let hashed = hashed(rt.alloc())?;
+    let sorted = sorted(rt.alloc())?;
+    assert_eq!(rt; wrong_key(&hashed, &sorted), None);
+    assert_eq!(rt;
+        (hashed.len(), sorted.len()),
+        (accepted_rows().len(), accepted_rows().len())
+    );
+    Ok(())
+}
+
+/// Whether the parent of octets, if there is one, hashes as the identifier of the arcs before the last, and is found by it.
+fn is_parent_found(alloc: Global, octets: &[u8], arcs: &[Arc]) -> Result<bool, Fail> {
+    let Some(parent) = Oid::from_bytes(octets)?.parent() else {
+        return Ok(arcs.len() == 2);
+    };
+    let same = Oid::from_arcs(arcs.iter().copied().take(parent.len()))?;
+    let mut names = HashMap::new(alloc);
+    names.insert(parent, "parent")?;
+    Ok(
+        hash_of(&parent) == hash_of(&same)
+            && hash_of(&parent) == ref_hash_of(&same.as_oid_ref())
+            && names.get(&same).copied() == Some("parent"),
+    )
+}
+
+#[test]
+fn finds_parents(rt: HostRuntime) -> Result<(), Fail> {
+    for (text, octets, arcs) in accepted_rows() {
+        assert!(rt; is_parent_found(rt.alloc(), octets, arcs)?, "{text}");
+    }
     Ok(())
 }
 

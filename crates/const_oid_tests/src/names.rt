@@ -1,7 +1,7 @@
 //! Tables of names: `Database`, and `RefDatabase` of constants.
 
 ghost use Rattle.std.specs.Prelude.{◌≡◌, IsOk, IfOk};
-ghost use Rattle.const_oid.specs.Names.{entries_of};
+ghost use Rattle.const_oid.specs.Names.{entries_of, ref_entries_of};
 
 use const_oid::db::{Database, RefDatabase};
 use const_oid::{Error, ObjectIdentifierRef, Oid};
@@ -11,6 +11,13 @@ use std::test::Fail;
 fn clone_of<'a>(database: &Database<'a>) -> Result<Database<'a>, AllocError>
     ensures always { IsOk result }
     ensures same { IfOk result (λ copy. entries_of copy ≡ entries_of database.now) }
+{
+    database.clone()
+}
+
+fn ref_clone_of<'a>(database: &RefDatabase<'a>) -> Result<RefDatabase<'a>, AllocError>
+    ensures always { IsOk result }
+    ensures same { IfOk result (λ copy. ref_entries_of copy ≡ ref_entries_of database.now) }
 {
     database.clone()
 }
@@ -119,28 +126,78 @@ fn names_and_identifiers(rt: HostRuntime) -> Result<(), Fail> {
 /// An entry as a text and a name.
 type Pair = (&'static str, &'static str);
 
-/// Two entries, a name, and the text of its identifier, if it has one.
-type Folded = (Pair, Pair, &'static str, Option<&'static str>);
+/// Entries, and how many of them the table has; a text with the names of its identifier and what it is resolved to;
+/// a name and the text of its identifier, if it has one.
+type Table = (
+    (Pair, Pair, usize),
+    (&'static str, &'static [&'static str], &'static str),
+    (&'static str, Option<&'static str>),
+);
+
+const COUNTRY_NAME: Pair = ("2.5.4.6", "C");
+
+const ACCENTED: Pair = ("1.2.3", "É");
+
+const UNNAMED: Pair = ("1.2.3", "");
 
 /// The first of two names that are the same is found, and only ASCII letters are folded.
-const FOLDED: &[Folded] = &[
-    (("2.5.4.6", "C"), ("1.2.3", "c"), "c", Some("2.5.4.6")),
-    (("1.2.3", "É"), ("2.5.4.6", "c"), "é", None),
-    (("1.2.3", "É"), ("2.5.4.6", "c"), "É", Some("1.2.3")),
-    (("2.5.4.6", "c"), ("1.2.3", ""), "", Some("1.2.3")),
+const TABLES: &[Table] = &[
+    (
+        (COUNTRY_NAME, ACCENTED, 0),
+        ("01.2", &[], "01.2"),
+        ("C", None),
+    ),
+    (
+        (("2.5.4.3", "cn"), ("2.5.4.3", "cn"), 2),
+        ("2.5.4.3", &["cn", "cn"], "cn"),
+        ("CN", Some("2.5.4.3")),
+    ),
+    (
+        (COUNTRY_NAME, ("2.5.4.3", "c"), 2),
+        ("2.5.4.3", &["c"], "c"),
+        ("c", Some("2.5.4.6")),
+    ),
+    (
+        (ACCENTED, COUNTRY_NAME, 1),
+        ("1.2", &[], "1.2"),
+        ("é", None),
+    ),
+    (
+        (ACCENTED, COUNTRY_NAME, 1),
+        ("1.2.3", &["É"], "É"),
+        ("É", Some("1.2.3")),
+    ),
+    (
+        (UNNAMED, COUNTRY_NAME, 1),
+        ("1.2.3", &[""], ""),
+        ("", Some("1.2.3")),
+    ),
 ];
 
-/// Whether the name of a row has the identifier that the row says, or none.
-fn is_folded(row: &Folded) -> Result<bool, Error> {
-    let (first, second) = (Oid::new(row.0.0)?, Oid::new(row.1.0)?);
-    let entries: [(&Oid, &str); 2] = [(&first, row.0.1), (&second, row.1.1)];
-    Ok(has_oid(&Database::new(&entries), row.2, row.3))
+/// Whether a table of entries has the names of a row.
+fn has_row(database: &Database<'_>, row: &Table) -> Result<bool, Error> {
+    let (text, names, resolved) = row.1;
+    let oid = Oid::new(text)?;
+    Ok(
+        database.by_oid(&oid) == names.first().copied()
+            && has_names(database, oid, names)
+            && database.resolve(text) == Ok(resolved)
+            && has_oid(database, row.2.0, row.2.1),
+    )
+}
+
+/// Whether the table of a row has its names.
+fn is_table(row: &Table) -> Result<bool, Error> {
+    let (first, second, count) = row.0;
+    let oids = (Oid::new(first.0)?, Oid::new(second.0)?);
+    let entries: [(&Oid, &str); 2] = [(&oids.0, first.1), (&oids.1, second.1)];
+    has_row(&Database::new(&entries[..count.min(2)]), row)
 }
 
 #[test]
-fn folded_names(rt: HostRuntime) {
-    for row in FOLDED {
-        assert!(rt; is_folded(row) == Ok(true), "{row:?}");
+fn tables(rt: HostRuntime) {
+    for row in TABLES {
+        assert!(rt; is_table(row) == Ok(true), "{row:?}");
     }
 }
 
@@ -171,11 +228,12 @@ fn has_constant_names(oid: ObjectIdentifierRef<'_>, wanted: &[&str]) -> bool {
 }
 
 #[test]
-fn table_of_constants(rt: HostRuntime) {
-    let database = RefDatabase::new(&TABLE);
+fn table_of_constants(rt: HostRuntime) -> Result<(), AllocError> {
+    let database = ref_clone_of(&RefDatabase::new(&TABLE))?;
     let unnamed = ObjectIdentifierRef { ber: &[0x55, 0x04] };
     assert!(rt; database.by_oid(&COMMON_NAME) == Some("cn") && database.by_oid(&unnamed).is_none());
     assert!(rt; database.by_name("COMMONNAME") == Some(COMMON_NAME));
     assert!(rt; database.by_name("common").is_none());
     assert!(rt; has_constant_names(COMMON_NAME, &["cn", "commonName"]));
+    Ok(())
 }

@@ -1,7 +1,8 @@
 //! Identifiers from contents octets: `from_bytes` of both forms.
 
-use crate::vectors::refused_octets;
+use crate::vectors::{accepted_rows, refused_octets};
 use const_oid::{Error, ObjectIdentifierRef, Oid};
+use std::alloc::{AllocError, Global};
 
 /// Whether both forms return this error, or none.
 fn both_answer(octets: &[u8], error: Option<Error>) -> bool {
@@ -27,13 +28,65 @@ fn printed(rt: HostRuntime) {
     assert!(rt; fault == Some(Err(Error::Base128)));
 }
 
-/// The borrowed form has no capacity: it accepts 41 arcs, and rejects an unfinished group after them.
+/// The borrowed form has no capacity: it accepts 41 arcs, which are too long for an owned one. Both reject an
+/// unfinished group after them.
 #[test]
 fn longer_than_an_owned_one(rt: HostRuntime) {
     let mut octets = [1; 41];
     octets[0] = 0x2A;
     let count = ObjectIdentifierRef::from_bytes(&octets[..40]).map(|oid| oid.len());
     assert!(rt; count == Ok(41));
+    assert!(rt; Oid::from_bytes(&octets[..40]) == Err(Error::Length));
     octets[40] = 0x81;
-    assert!(rt; ObjectIdentifierRef::from_bytes(&octets).err() == Some(Error::Base128));
+    assert!(rt; both_answer(&octets, Some(Error::Base128)));
+}
+
+/// How many octets of accepted ones are accepted or rejected otherwise than by the last of them, which says
+/// whether its group has ended.
+fn wrong_prefix(octets: &[u8]) -> Option<usize> {
+    for end in 0..=octets.len() {
+        let prefix = &octets[..end];
+        let error = match prefix.last() {
+            None => Some(Error::Empty),
+            Some(0..0x80) => None,
+            Some(_) => Some(Error::Base128),
+        };
+        if !both_answer(prefix, error) {
+            return Some(end);
+        }
+    }
+    None
+}
+
+#[test]
+fn prefixes(rt: HostRuntime) {
+    for (text, octets, _) in accepted_rows() {
+        let len = wrong_prefix(octets);
+        assert!(rt; len.is_none(), "{len:?} octets of {text}");
+    }
+}
+
+/// The index of the first group of accepted octets, or their end, before which 0x80 is not `Base128`.
+fn wrong_group(alloc: Global, octets: &[u8]) -> Result<Option<usize>, AllocError> {
+    for index in 0..=octets.len() {
+        let (before, after) = octets.split_at(index);
+        if let Some(0x80..) = before.last() {
+            continue;
+        }
+        let longer = [before, &[0x80], after].concat(alloc)?;
+        if !both_answer(longer.as_slice(), Some(Error::Base128)) {
+            return Ok(Some(index));
+        }
+    }
+    Ok(None)
+}
+
+/// No group begins with 0x80: the first one, the second, and so on.
+#[test]
+fn groups_after_0x80(rt: HostRuntime) -> Result<(), AllocError> {
+    for (text, octets, _) in accepted_rows() {
+        let index = wrong_group(rt.alloc(), octets)?;
+        assert!(rt; index.is_none(), "{index:?} of {text}");
+    }
+    Ok(())
 }

@@ -1,6 +1,6 @@
 //! Equality, copies and the orders of both forms: `==`, `clone` and `cmp`.
 
-ghost use Rattle.std.specs.Prelude.{◌≡◌, ◌↔◌, IsTrue, IsOk, IfOk};
+ghost use Rattle.std.specs.Prelude.{◌≡◌, ◌↔◌, IsTrue, IsOk, IfOk, Some};
 ghost use Rattle.std.specs.Ordering.{nat_cmp};
 ghost use Rattle.std.specs.Cmp.Lexicographic.{slice_cmp};
 ghost use Rattle.const_oid.specs.Buffer.{octets_of};
@@ -24,6 +24,15 @@ fn order_of<const N: usize>(a: &ObjectIdentifier<N>, b: &ObjectIdentifier<N>) ->
     ensures { result ≡ shortlex_cmp (oid_octets a.now) (oid_octets b.now) }
 {
     a.cmp(b)
+}
+
+fn partial_order_of<const N: usize>(
+    a: &ObjectIdentifier<N>,
+    b: &ObjectIdentifier<N>,
+) -> Option<Ordering>
+    ensures { result ≡ Some (shortlex_cmp (oid_octets a.now) (oid_octets b.now)) }
+{
+    a.partial_cmp(b)
 }
 
 fn clone_of<const N: usize>(oid: &ObjectIdentifier<N>) -> Result<ObjectIdentifier<N>, AllocError>
@@ -85,6 +94,7 @@ fn compare(a: &[u8], b: &[u8], order: Ordering) -> Result<bool, Fail> {
     let is_equal = has_same_arcs(&a, &clone_of(&b)?);
     Ok(
         order_of(&a, &b) == order
+            && partial_order_of(&a, &b) == Some(order)
             && (a < b) == (order == Ordering::Less)
             && is_equal == (order == Ordering::Equal),
     )

@@ -1,5 +1,7 @@
 //! All slices of at most two octets, counted by what each call returns for them.
 
+ghost use Rattle.std.specs.Prelude.{◌≤◌};
+
 use const_oid::{Error, ObjectIdentifier, ObjectIdentifierRef, Oid};
 
 /// A call that reads octets.
@@ -32,9 +34,21 @@ fn answer(form: Form, octets: &[u8]) -> Option<Error> {
             (Some(2), Some(40..)) => None,
             _ => Some(Error::Overflow),
         },
-        (Form::Copied0, Ok(oid)) => ObjectIdentifier::<0>::try_from_ref(oid).err(),
-        (Form::Copied1, Ok(oid)) => ObjectIdentifier::<1>::try_from_ref(oid).err(),
-        (Form::Copied2, Ok(oid)) => ObjectIdentifier::<2>::try_from_ref(oid).err(),
+        (Form::Copied0, Ok(oid)) => copied::<0>(oid),
+        (Form::Copied1, Ok(oid)) => copied::<1>(oid),
+        (Form::Copied2, Ok(oid)) => copied::<2>(oid),
+    }
+}
+
+/// The error of a copy at a capacity, with [`Error::Overflow`] for a wrong copy, or an error where one fits.
+fn copied<const N: usize>(oid: ObjectIdentifierRef<'_>) -> Option<Error>
+    requires { N ≤ 2 }
+{
+    let octets = oid.as_bytes();
+    match ObjectIdentifier::<N>::try_from_ref(oid) {
+        Ok(copy) => (copy.as_bytes() != octets).then_some(Error::Overflow),
+        Err(_) if octets.len() <= N => Some(Error::Overflow),
+        Err(error) => Some(error),
     }
 }
 

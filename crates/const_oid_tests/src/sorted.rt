@@ -1,10 +1,28 @@
 //! Tables in the order of arcs: `SortedDatabase`, and `ByArcs` as a key.
 
+ghost use Rattle.std.specs.Prelude.{◌≡◌, IsOk, IfOk};
+ghost use Rattle.const_oid.specs.Names.{sorted_entries_of};
+ghost use Rattle.const_oid.specs.OidRef.{key_arcs};
+
 use const_oid::db::SortedDatabase;
 use const_oid::{ByArcs, Error, ObjectIdentifierRef};
 use std::alloc::{AllocError, Global};
 use std::cmp::Ordering;
 use std::test::Fail;
+
+fn clone_of<'a>(names: &SortedDatabase<'a>) -> Result<SortedDatabase<'a>, AllocError>
+    ensures always { IsOk result }
+    ensures same { IfOk result (λ copy. sorted_entries_of copy ≡ sorted_entries_of names.now) }
+{
+    names.clone()
+}
+
+fn key_clone_of<'a>(key: &ByArcs<'a>) -> Result<ByArcs<'a>, AllocError>
+    ensures always { IsOk result }
+    ensures same { IfOk result (λ copy. key_arcs copy ≡ key_arcs key.now) }
+{
+    key.clone()
+}
 
 type Entry = (ObjectIdentifierRef<'static>, &'static str);
 
@@ -135,6 +153,9 @@ fn wrong_octets(entries: &[Entry]) -> Option<&'static [u8]> {
     let Some(names) = SortedDatabase::try_new(entries) else {
         return Some(&[]);
     };
+    let Ok(names) = clone_of(&names) else {
+        return Some(&[]);
+    };
     for row in ROWS {
         if is_found(&names, row) != Ok(true) {
             return Some(row.0);
@@ -167,16 +188,18 @@ fn sorted_by_key(rt: HostRuntime) -> Result<(), Fail> {
 }
 
 /// The orders of two identifiers as keys and as they are, and whether they are equal keys.
-fn orders(a: &[u8], b: &[u8]) -> Result<(Ordering, Ordering, bool), Error> {
+fn orders(a: &[u8], b: &[u8]) -> Result<(Ordering, Ordering, bool), Fail> {
     let a = ObjectIdentifierRef::from_bytes(a)?;
     let b = ObjectIdentifierRef::from_bytes(b)?;
-    Ok((ByArcs(a).cmp(&ByArcs(b)), a.cmp(&b), ByArcs(a) == ByArcs(b)))
+    let key = key_clone_of(&ByArcs(b))?;
+    Ok((ByArcs(a).cmp(&key), a.cmp(&b), ByArcs(a) == key))
 }
 
 /// 1.2.256 and 1.2.16384.
 #[test]
-fn keys(rt: HostRuntime) {
+fn keys(rt: HostRuntime) -> Result<(), Fail> {
     let (small, large) = (&[0x2A, 0x82, 0x00], &[0x2A, 0x81, 0x80, 0x00]);
-    assert!(rt; orders(small, large) == Ok((Ordering::Less, Ordering::Greater, false)));
-    assert!(rt; orders(small, small) == Ok((Ordering::Equal, Ordering::Equal, true)));
+    assert!(rt; orders(small, large)? == (Ordering::Less, Ordering::Greater, false));
+    assert!(rt; orders(small, small)? == (Ordering::Equal, Ordering::Equal, true));
+    Ok(())
 }

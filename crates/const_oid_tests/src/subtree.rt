@@ -3,6 +3,7 @@
 use crate::vectors::ASCENDING;
 use const_oid::ObjectIdentifierRef;
 use std::alloc::Global;
+use std::collections::BTreeSet;
 use std::test::Fail;
 
 /// The identifiers of a list.
@@ -39,5 +40,27 @@ fn ranges(rt: HostRuntime) -> Result<(), Fail> {
     for (list, prefix, range) in ROWS {
         assert!(rt; range_of(rt.alloc(), list, prefix)? == *range, "{prefix:?}");
     }
+    Ok(())
+}
+
+/// Whether the identifiers that begin with 1.2 are at the indices 1 to 7.
+fn are_adjacent(oids: &BTreeSet<ObjectIdentifierRef<'_>>) -> bool {
+    for (index, oid) in oids.iter().enumerate() {
+        let is_under = oid.arc(0) == Some(1) && oid.arc(1) == Some(2);
+        if is_under != (1..8).contains(&index) {
+            return false;
+        }
+    }
+    oids.len() == ASCENDING.len()
+}
+
+/// A set in order, put in backwards.
+#[test]
+fn ordered_set(rt: HostRuntime) -> Result<(), Fail> {
+    let mut oids = BTreeSet::new(rt.alloc());
+    for octets in ASCENDING.iter().rev() {
+        oids.insert(ObjectIdentifierRef::from_bytes(octets)?)?;
+    }
+    assert!(rt; are_adjacent(&oids));
     Ok(())
 }

@@ -1,24 +1,56 @@
 //! Identifiers from dotted text: `new`, `parse`, `from_ascii` and literals.
 
+use crate::formatter::prints_as;
 use crate::vectors::{is_answer, long_text};
 use const_oid::db::Database;
 use const_oid::{Error, Oid};
 use std::alloc::{AllocError, Global};
 
-/// Texts that are rejected, and the error. More are in `rows.txt` of `const_oid_c`.
+/// Texts that are rejected, and the error.
 const REFUSED: &[(&str, Error)] = &[
     ("", Error::Empty),
+    ("0", Error::Empty),
+    ("1", Error::Empty),
+    ("2", Error::Empty),
+    ("3", Error::ArcInvalid { arc: 3 }),
+    ("4294967295", Error::ArcInvalid { arc: 4294967295 }),
     ("4294967296", Error::ArcTooBig),
+    (".", Error::DigitExpected { actual: 0x2E }),
+    (".1", Error::DigitExpected { actual: 0x2E }),
+    ("X", Error::DigitExpected { actual: 0x58 }),
+    ("+1", Error::DigitExpected { actual: 0x2B }),
+    ("-1", Error::DigitExpected { actual: 0x2D }),
+    ("1.2 ", Error::DigitExpected { actual: 0x20 }),
     ("1.2.X", Error::DigitExpected { actual: 0x58 }),
+    ("3X", Error::DigitExpected { actual: 0x58 }),
+    ("é1", Error::DigitExpected { actual: 0xC3 }),
+    ("1é", Error::DigitExpected { actual: 0xC3 }),
+    ("1.2.٣", Error::DigitExpected { actual: 0xD9 }),
+    ("1.", Error::TrailingDot),
+    ("3.", Error::TrailingDot),
     ("1.2.", Error::TrailingDot),
+    ("1.23.", Error::TrailingDot),
+    ("1.40.", Error::TrailingDot),
+    ("1.2.840.10045.2.", Error::TrailingDot),
+    ("1..", Error::RepeatedDot),
     ("1.2..3.4", Error::RepeatedDot),
+    ("3..", Error::ArcInvalid { arc: 3 }),
+    ("3.2.840.10045.2.1", Error::ArcInvalid { arc: 3 }),
+    ("1.40.840.10045.2.1", Error::ArcInvalid { arc: 40 }),
+    ("1.2.4294967296", Error::ArcTooBig),
+    ("1.2.4294967296X", Error::ArcTooBig),
+    ("1.2.429496729X", Error::DigitExpected { actual: 0x58 }),
     ("1.2.3.4..", Error::RepeatedDot),
     ("1.40X", Error::DigitExpected { actual: 0x58 }),
     ("2.40..", Error::RepeatedDot),
     ("1..X", Error::RepeatedDot),
     ("1.2.3.é", Error::DigitExpected { actual: 0xC3 }),
     ("１.2", Error::DigitExpected { actual: 0xEF }),
+    // Second arcs above 39, which are accepted under 2 alone.
+    ("0.40", Error::ArcInvalid { arc: 40 }),
+    ("1.40", Error::ArcInvalid { arc: 40 }),
     ("3.1", Error::ArcInvalid { arc: 3 }),
+    ("2.4294967296", Error::ArcTooBig),
     ("2.40.", Error::TrailingDot),
     ("2.40.X", Error::DigitExpected { actual: 0x58 }),
     ("2.40.4294967296", Error::ArcTooBig),
@@ -53,6 +85,31 @@ const NOT_UTF8: &[(&[u8], Error)] = &[
 fn not_utf8(rt: HostRuntime) {
     for (text, error) in NOT_UTF8 {
         assert!(rt; Oid::from_ascii(text) == Err(*error), "of {text:?}");
+    }
+}
+
+/// Texts with leading zeros, what their identifiers print, and their contents octets.
+const LEADING_ZEROS: &[(&str, &str, &[u8])] = &[
+    ("00.00", "0.0", &[0x00]),
+    ("01.02.003", "1.2.3", &[0x2A, 0x03]),
+    ("2.039", "2.39", &[0x77]),
+    (
+        "1.2.0000004294967295",
+        "1.2.4294967295",
+        &[0x2A, 0x8F, 0xFF, 0xFF, 0xFF, 0x7F],
+    ),
+    ("1.2.00", "1.2.0", &[0x2A, 0x00]),
+];
+
+/// Whether a text denotes these octets, whose identifier prints this text.
+fn prints_again(text: &str, printed: &str, octets: &[u8]) -> Result<bool, Error> {
+    Ok(both_read(text, Ok(octets)) && prints_as(&Oid::new(text)?, printed))
+}
+
+#[test]
+fn leading_zeros(rt: HostRuntime) {
+    for (text, printed, octets) in LEADING_ZEROS {
+        assert!(rt; prints_again(text, printed, octets) == Ok(true), "{text}");
     }
 }
 

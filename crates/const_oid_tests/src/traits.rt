@@ -6,6 +6,7 @@ ghost use Rattle.const_oid.specs.Oid.{oid_arcs};
 use const_oid::traits::position_of;
 use const_oid::{AssociatedOid, DynAssociatedOid, Oid};
 use std::alloc::{AllocError, Global};
+use std::test::Fail;
 
 /// A type with the identifier 1.2.3.
 #[derive(Drop)]
@@ -44,6 +45,35 @@ fn oid_of<T: AssociatedOid>(value: &T) -> Oid
 fn of_a_type(rt: HostRuntime) {
     let oid = Unit::associated_oid();
     assert!(rt; oid.as_bytes() == [0x2A, 0x03].as_slice() && oid_of(&Unit) == oid);
+}
+
+/// The index of a text's identifier among values that hold those of texts.
+fn index_among(alloc: Global, held: &[&str], text: &str) -> Result<Option<usize>, Fail> {
+    let mut values: Vec<Box<dyn DynAssociatedOid + Drop>> = Vec::new(alloc);
+    for text in held {
+        let oid = Oid::new(text)?;
+        values.push(Box::new(alloc, Held { oid })?)?;
+    }
+    Ok(position_of(&values, &Oid::new(text)?))
+}
+
+/// The texts of identifiers that values hold, a text, and the first index of its identifier, if there is one.
+const INDICES: &[(&[&str], &str, Option<usize>)] = &[
+    (&["1.2.3", "2.5.4.3", "1.2.3"], "1.2.3", Some(0)),
+    (&["1.2.3", "2.5.4.3", "1.2.3"], "2.5.4.3", Some(1)),
+    (&["1.2.3", "2.5.4.3", "1.2.3"], "1.2", None),
+    (&[], "1.2.3", None),
+];
+
+#[test]
+fn first_index(rt: HostRuntime) -> Result<(), Fail> {
+    for (held, text, index) in INDICES {
+        assert!(rt;
+            index_among(rt.alloc(), held, text)? == *index,
+            "{text} in {held:?}"
+        );
+    }
+    Ok(())
 }
 
 /// The index of 1.2.3 among a value of a type with it and one that holds it, in this order and the other.

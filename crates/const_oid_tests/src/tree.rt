@@ -2,8 +2,9 @@
 
 ghost use Rattle.std.specs.Prelude.{◌≤◌};
 
-use crate::vectors::is_answer;
+use crate::vectors::{is_answer, long_octets};
 use const_oid::{Arc, Error, ObjectIdentifier, ObjectIdentifierRef, Oid};
+use std::alloc::{AllocError, Global};
 
 /// The octets of an identifier, and those of its parent, if there is one.
 const PARENTS: &[(&[u8], Option<&[u8]>)] = &[
@@ -88,7 +89,6 @@ fn pushes_at(capacity: usize, octets: &[u8], arc: Arc, wanted: Result<&[u8], Err
         1 => pushes::<1>(octets, arc, wanted),
         3 => pushes::<3>(octets, arc, wanted),
         39 => pushes::<39>(octets, arc, wanted),
-        300 => pushes::<300>(octets, arc, wanted),
         _ => false,
     }
 }
@@ -104,9 +104,6 @@ const CHILDREN: &[(usize, &[u8], Arc, Result<&[u8], Error>)] = &[
     (3, &[0x2A], 16384, Err(Error::Length)),
     (1, &[0x2A], 0, Err(Error::Length)),
     (1, &[0x78], 0, Err(Error::Length)),
-    // 255 octets have no child, whatever the capacity.
-    (300, &[0x01; 255], 0, Err(Error::Length)),
-    (300, &[0x01; 255], 1, Err(Error::Length)),
 ];
 
 #[test]
@@ -117,6 +114,18 @@ fn children(rt: HostRuntime) {
             "{capacity}, {octets:?} and {arc}"
         );
     }
+}
+
+/// Whether 1.2 and 254 more arcs of an octet have no child at the capacity 300.
+fn has_no_child(alloc: Global, arc: Arc) -> Result<bool, AllocError> {
+    let octets = long_octets(alloc, &[0x2A], 254, &[0x01], &[])?;
+    Ok(pushes::<300>(octets.as_slice(), arc, Err(Error::Length)))
+}
+
+#[test]
+fn no_child_of_255_octets(rt: HostRuntime) -> Result<(), AllocError> {
+    assert!(rt; has_no_child(rt.alloc(), 0)?);
+    Ok(())
 }
 
 /// The octets of two identifiers, and whether the first begins with the second.
@@ -143,14 +152,22 @@ const PREFIXES: &[(&[u8], &[u8], bool)] = &[
     (&[0x2A, 0x86, 0x48], &[0x2A, 0x86, 0x48, 0x01], false),
 ];
 
-/// Whether octets begin with others so: of both forms, and of an owned prefix of five octets, another capacity.
+/// Whether an identifier begins so with a prefix of three octets at most, another capacity.
+fn begins_with_short(oid: &Oid, prefix: &[u8], wanted: bool) -> bool {
+    match ObjectIdentifier::<3>::from_bytes_sized(prefix) {
+        Ok(short) => oid.starts_with(short) == wanted,
+        Err(_) => prefix.len() > 3,
+    }
+}
+
+/// Whether octets begin with others so: of both forms, and of an owned prefix of another capacity.
 fn begins(octets: &[u8], prefix: &[u8], wanted: bool) -> Result<bool, Error> {
     let oid = Oid::from_bytes(octets)?;
-    let short = ObjectIdentifier::<5>::from_bytes_sized(prefix)?;
+    let is_short = begins_with_short(&oid, prefix, wanted);
     let prefix = Oid::from_bytes(prefix)?;
     Ok(
         oid.starts_with(prefix) == wanted
-            && oid.starts_with(short) == wanted
+            && is_short
             && oid.as_oid_ref().starts_with(&prefix.as_oid_ref()) == wanted,
     )
 }

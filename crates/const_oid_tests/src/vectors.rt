@@ -7,32 +7,107 @@ use std::alloc::{AllocError, Global};
 /// An identifier as its text, its contents octets and its arcs.
 pub type Row = (&'static str, &'static [u8], &'static [Arc]);
 
-/// Identifiers that are accepted. More are in `rows.txt` of `const_oid_c`. The rows are in a function, so that
-/// they are checked once and not with each caller.
+/// Identifiers that are accepted. The rows are in a function, so that they are checked once and not with each caller.
 pub fn accepted_rows() -> &'static [Row] {
     ACCEPTED
 }
 
-/// Octets that are rejected, and the error. More are in `rows.txt` of `const_oid_c`.
+/// Octets that are rejected, and the error.
 pub fn refused_octets() -> &'static [(&'static [u8], Error)] {
     REFUSED_OCTETS
 }
 
 const ACCEPTED: &[Row] = &[
+    ("0.0", &[0x00], &[0, 0]),
+    ("0.39", &[0x27], &[0, 39]),
+    ("1.0", &[0x28], &[1, 0]),
     ("1.2", &[0x2A], &[1, 2]),
+    ("1.39", &[0x4F], &[1, 39]),
+    ("2.0", &[0x50], &[2, 0]),
+    ("2.39", &[0x77], &[2, 39]),
+    ("1.2.0", &[0x2A, 0x00], &[1, 2, 0]),
+    ("1.2.127", &[0x2A, 0x7F], &[1, 2, 127]),
+    ("1.2.128", &[0x2A, 0x81, 0x00], &[1, 2, 128]),
+    ("1.2.16383", &[0x2A, 0xFF, 0x7F], &[1, 2, 16383]),
+    ("1.2.16384", &[0x2A, 0x81, 0x80, 0x00], &[1, 2, 16384]),
+    ("1.2.2097151", &[0x2A, 0xFF, 0xFF, 0x7F], &[1, 2, 2097151]),
+    (
+        "1.2.2097152",
+        &[0x2A, 0x81, 0x80, 0x80, 0x00],
+        &[1, 2, 2097152],
+    ),
+    (
+        "1.2.268435455",
+        &[0x2A, 0xFF, 0xFF, 0xFF, 0x7F],
+        &[1, 2, 268435455],
+    ),
+    (
+        "1.2.268435456",
+        &[0x2A, 0x81, 0x80, 0x80, 0x80, 0x00],
+        &[1, 2, 268435456],
+    ),
+    (
+        "1.2.1144201745",
+        &[0x2A, 0x84, 0xA1, 0xCC, 0xC4, 0x11],
+        &[1, 2, 1144201745],
+    ),
     (
         "1.2.4294967295",
         &[0x2A, 0x8F, 0xFF, 0xFF, 0xFF, 0x7F],
         &[1, 2, 4294967295],
+    ),
+    ("1.23.456", &[0x3F, 0x83, 0x48], &[1, 23, 456]),
+    (
+        "1.1.1.60817410.1",
+        &[0x29, 0x01, 0x9D, 0x80, 0x80, 0x02, 0x01],
+        &[1, 1, 1, 60817410, 1],
+    ),
+    (
+        "0.9.2342.19200300.100.1.1",
+        &[0x09, 0x92, 0x26, 0x89, 0x93, 0xF2, 0x2C, 0x64, 0x01, 0x01],
+        &[0, 9, 2342, 19200300, 100, 1, 1],
+    ),
+    (
+        "1.2.840.10045.2.1",
+        &[0x2A, 0x86, 0x48, 0xCE, 0x3D, 0x02, 0x01],
+        &[1, 2, 840, 10045, 2, 1],
+    ),
+    (
+        "2.16.840.1.101.3.4.1.42",
+        &[0x60, 0x86, 0x48, 0x01, 0x65, 0x03, 0x04, 0x01, 0x2A],
+        &[2, 16, 840, 1, 101, 3, 4, 1, 42],
     ),
     (
         "1.2.840.113549.1.1.1",
         &[0x2A, 0x86, 0x48, 0x86, 0xF7, 0x0D, 0x01, 0x01, 0x01],
         &[1, 2, 840, 113549, 1, 1, 1],
     ),
+    ("2.5.4.3", &[0x55, 0x04, 0x03], &[2, 5, 4, 3]),
+    ("2.5.4.6", &[0x55, 0x04, 0x06], &[2, 5, 4, 6]),
+    (
+        "0.1.2.3.4.5.6.7.8.9",
+        &[0x01, 0x02, 0x03, 0x04, 0x05, 0x06, 0x07, 0x08, 0x09],
+        &[0, 1, 2, 3, 4, 5, 6, 7, 8, 9],
+    ),
     // The tag, the length and the contents octets of 1.2.3, read as contents octets.
     ("0.6.2.42.3", &[0x06, 0x02, 0x2A, 0x03], &[0, 6, 2, 42, 3]),
+    // Second arcs above 39 under 2.
+    ("2.40", &[0x78], &[2, 40]),
+    ("2.47", &[0x7F], &[2, 47]),
+    ("2.48", &[0x81, 0x00], &[2, 48]),
+    ("2.100.3", &[0x81, 0x34, 0x03], &[2, 100, 3]),
+    ("2.999", &[0x88, 0x37], &[2, 999]),
     ("2.999.3", &[0x88, 0x37, 0x03], &[2, 999, 3]),
+    (
+        "2.4294967215",
+        &[0x8F, 0xFF, 0xFF, 0xFF, 0x7F],
+        &[2, 4294967215],
+    ),
+    (
+        "2.4294967295",
+        &[0x90, 0x80, 0x80, 0x80, 0x4F],
+        &[2, 4294967295],
+    ),
     // First groups at the edges of one to five octets.
     ("2.47.0", &[0x7F, 0x00], &[2, 47, 0]),
     ("2.16303", &[0xFF, 0x7F], &[2, 16303]),
@@ -58,8 +133,37 @@ const ACCEPTED: &[Row] = &[
 
 const REFUSED_OCTETS: &[(&[u8], Error)] = &[
     (&[], Error::Empty),
+    (&[0x80], Error::Base128),
+    (&[0x80, 0x01], Error::Base128),
+    (&[0x9F], Error::Base128),
+    (&[0xA0], Error::Base128),
+    (&[0xC7], Error::Base128),
+    (&[0xC8], Error::Base128),
+    (&[0xEF], Error::Base128),
+    (&[0xF0], Error::Base128),
+    (&[0xFF], Error::Base128),
+    (&[0x78, 0x80, 0x01], Error::Base128),
+    (&[0x90, 0x80, 0x80, 0x80, 0x50], Error::ArcTooBig),
+    (&[0x90, 0x80, 0x80, 0x80, 0x80], Error::Base128),
+    (&[0x90, 0x80, 0x80, 0x80, 0xD0], Error::ArcTooBig),
+    (&[0x2A, 0x80], Error::Base128),
     (&[0x2A, 0x81], Error::Base128),
+    (&[0x2A, 0x81, 0x80], Error::Base128),
+    (&[0x2A, 0x80, 0x01], Error::Base128),
+    (&[0x2A, 0x01, 0x80, 0x01], Error::Base128),
+    (&[0x2A, 0x80, 0x80, 0x80, 0x80, 0x80, 0x10], Error::Base128),
+    (&[0x2A, 0x8F, 0xFF, 0xFF, 0xFF, 0xFF], Error::Base128),
+    (
+        &[0x2A, 0x8F, 0xFF, 0xFF, 0xFF, 0xFF, 0x00],
+        Error::ArcTooBig,
+    ),
     (&[0x2A, 0x90, 0x80, 0x80, 0x80, 0x00], Error::ArcTooBig),
+    (&[0x2A, 0x90, 0x80, 0x80, 0x80, 0x80], Error::ArcTooBig),
+    (&[0x2A, 0xFF, 0xFF, 0xFF, 0xFF, 0x7F], Error::ArcTooBig),
+    (
+        &[0x2A, 0x81, 0x80, 0x80, 0x80, 0x80, 0x00],
+        Error::ArcTooBig,
+    ),
     // Groups with two faults: the first in the order of the rules is returned.
     (&[0x2A, 0x80, 0x90, 0x80, 0x80, 0x80, 0x00], Error::Base128),
     (&[0x2A, 0x80, 0x90, 0x80, 0x80, 0x80], Error::Base128),
@@ -141,6 +245,7 @@ fn is_owned(text: &str, octets: &[u8], arcs: &[Arc]) -> Result<bool, Error> {
     Ok(
         oid.as_bytes() == octets
             && is_answer(Oid::new(text), Ok(octets))
+            && is_answer(text.parse(), Ok(octets))
             && oid.arcs().eq(arcs.iter().copied())
             && oid.len() == arcs.len()
             && oid.arc(1) == arcs.get(1).copied()
