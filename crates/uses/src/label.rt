@@ -2,7 +2,9 @@
 
 ghost use Rattle.std.specs.Prelude.{IfNone, IfOk, IfSome};
 ghost use Rattle.std.specs.List.{All};
-ghost use Rattle.std.specs.List.Sorted.{IsPermutation};
+ghost use Rattle.std.specs.Cmp.Lexicographic.{slice_cmp};
+ghost use Rattle.std.specs.List.Sorted.{IsPermutation, IsStableByKey};
+ghost use Rattle.std.specs.Ordering.{nat_cmp};
 ghost use Rattle.std.specs.String.{string_bytes};
 ghost use Rattle.const_oid.specs.Names.{entry_arcs, sorted_entries_of};
 ghost use Rattle.const_oid.specs.OidRef.{ref_arcs};
@@ -43,7 +45,9 @@ pub fn label(
 pub fn sorted<'t, 'a: 't>(
     entries: &'t mut Vec<(ObjectIdentifierRef<'a>, &'a str)>,
 ) -> Result<SortedDatabase<'t>, AllocError>
-    ensures { IfOk result (λ names. IsPermutation entries.old.items (sorted_entries_of names)) }
+    ensures moved { IfOk result (λ names. IsPermutation entries.old.items (sorted_entries_of names)) }
+    ensures stable { IfOk result (λ names.
+        IsStableByKey entry_arcs (slice_cmp nat_cmp) entries.old.items (sorted_entries_of names)) }
 {
     entries.sort_by_key(|entry| ByArcs(entry.0))?;
     Ok(SortedDatabase::new(entries))
