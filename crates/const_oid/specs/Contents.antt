@@ -12,7 +12,7 @@ use Rattle.const_oid.specs.Identifier.{RootRule, Narrow, Wide, max_arc, max_seco
 abbrev pub cut_after : ℕ → List (List ℕ) → List (List ℕ)
 cut_after x parts = if nat_lt x 128 then (x ∷ []) ∷ parts else onto_first x parts
 
--- the parts of octets, each up to an octet below 128; the rest, if there is one, is a part too
+-- the parts of octets: each ends with its first octet below 128, and what is left after the last such octet is a part too
 abbrev pub cut : List ℕ → List (List ℕ)
 cut [] = []
 cut (x ∷ xs) = cut_after x (cut xs)

@@ -3,7 +3,7 @@ use Rattle.std.specs.Prelude.{◌≡◌, ℕ, ◌+◌, ◌*◌, ◌≤◌, List,
 use Rattle.std.specs.List.{AllByRecursion, AllZip, concat}
 use Rattle.const_oid.specs.Base128.{IsGroup, width, group_of}
 
--- which second arcs are allowed under the first arc 2: up to 39 alone, as under 0 and 1, or all
+-- which second arcs are allowed under the first arc 2: only up to 39, as under 0 and 1 (Narrow), or all (Wide)
 pub data RootRule : Type 0 where
   Narrow : RootRule
   Wide : RootRule

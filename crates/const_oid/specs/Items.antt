@@ -34,7 +34,7 @@ item_fault rule items capacity = items_fault rule capacity [] items
 abbrev pub item_answer : RootRule → List ℕ → ℕ → Result (List ℕ) Error
 item_answer rule items capacity = answer (item_fault rule items capacity) items
 
--- the iterator gave items: at `Ok` they are all that it has, without a fault, and the arcs; at `Err` the fault is that of each list which begins with them, or of them where they are all
+-- what the iterator gave explains the result: `Ok` if it gave all its items and they are the arcs, without a fault; `Err` if every list that begins with the items given has this fault, or, where it ended, the list of exactly these
 abbrev pub TakesItems : {S : Type 0} → RootRule → ℕ → (S → Option ℕ → S → Type 0) → S → Result (List ℕ) Error → Type 0
 TakesItems rule capacity steps iterator result = MatchResult result
     (λ arcs. WholeRun steps iterator (λ run. (run.items ≡ arcs) × (item_fault rule arcs capacity ≡ None)))

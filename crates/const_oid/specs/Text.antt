@@ -31,7 +31,7 @@ abbrev pub is_empty : {X : Type 0} → List X → Bool
 is_empty [] = true
 is_empty (x ∷ xs) = false
 
--- what follows the piece is a last piece that is empty
+-- exactly one piece follows, and it is empty
 abbrev pub is_one_empty : List (List ℕ) → Bool
 is_one_empty [] = false
 is_one_empty (piece ∷ []) = is_empty piece

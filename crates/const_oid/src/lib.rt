@@ -22,6 +22,9 @@ mod parser;
 mod parts;
 // Its functions are for the other crates: Rust hides them.
 pub mod search;
+// erase: omit
+#[cfg(test)]
+mod tests;
 mod text;
 // Rust's traits have a constant.
 // erase: omit

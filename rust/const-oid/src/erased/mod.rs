@@ -20,6 +20,7 @@ mod parser;
 mod parts;
 // Its functions are for the other crates: Rust hides them.
 pub mod search;
+
 mod text;
 
 mod valid;
