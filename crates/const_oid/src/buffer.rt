@@ -60,7 +60,7 @@ impl<const SIZE: usize> Buffer<SIZE> {
         requires { number < 2 ^ 35 }
         ensures { IsAppended (min SIZE 255) number (octets_of self.old) (octets_of self.new) result }
     {
-        // The shortest group is the most frequent one.
+        // With a literal length, a group is written without a loop.
         match group_len(number) {
             1 => self.push_number_of_len(number, 1),
             2 => self.push_number_of_len(number, 2),

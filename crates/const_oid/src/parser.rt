@@ -34,7 +34,7 @@ pub(crate) fn parse<const SIZE: usize>(text: &[u8]) -> Result<Buffer<SIZE>>
     parse_within(text)
 }
 
-/// The same, where all of the array can be in use.
+/// The encoding as `parse` gives it, in an array that can all be in use.
 // erase: const
 #[inline(always)]
 fn parse_within<const SIZE: usize>(text: &[u8]) -> Result<Buffer<SIZE>>

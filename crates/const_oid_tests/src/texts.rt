@@ -103,7 +103,7 @@ const LEADING_ZEROS: &[(&str, &str, &[u8])] = &[
 
 /// Whether a text denotes these octets, whose identifier prints this text.
 fn prints_again(text: &str, printed: &str, octets: &[u8]) -> Result<bool, Error> {
-    Ok(both_read(text, Ok(octets)) && prints_as(&Oid::new(text)?, printed))
+    Ok(all_read(text, Ok(octets)) && prints_as(&Oid::new(text)?, printed))
 }
 
 #[test]

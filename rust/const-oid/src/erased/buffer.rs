@@ -42,7 +42,7 @@ impl<const SIZE: usize> Buffer<SIZE> {
     /// Appends the group of a number, or returns `Length` where it does not fit.
     #[inline(always)]
     pub(crate) const fn push_group(&mut self, number: u64) -> Result<()> {
-        // The shortest group is the most frequent one.
+        // With a literal length, a group is written without a loop.
         match group_len(number) {
             1 => self.push_number_of_len(number, 1),
             2 => self.push_number_of_len(number, 2),

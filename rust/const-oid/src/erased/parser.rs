@@ -24,7 +24,7 @@ pub(crate) const fn parse<const SIZE: usize>(text: &[u8]) -> Result<Buffer<SIZE>
     parse_within(text)
 }
 
-/// The same, where all of the array can be in use.
+/// The encoding as `parse` gives it, in an array that can all be in use.
 #[inline(always)]
 const fn parse_within<const SIZE: usize>(text: &[u8]) -> Result<Buffer<SIZE>> {
     let (number, mut end) = match read_root(text) {
