@@ -11,6 +11,16 @@ struct status {
     size_t len;
 };
 
+struct octets {
+    const void *octets;
+    size_t len;
+};
+
+struct range {
+    size_t start;
+    size_t end;
+};
+
 uint32_t const_oid_version(void);
 struct status const_oid_from_text(const void *text, size_t text_len, void *out, size_t out_len);
 struct status const_oid_to_text(const void *octets, size_t len, void *out, size_t out_len);
@@ -27,6 +37,12 @@ struct status const_oid_eq(const void *left, size_t left_len, const void *right,
 struct status const_oid_cmp(const void *left, size_t left_len, const void *right, size_t right_len);
 struct status const_oid_cmp_arcs(const void *left, size_t left_len, const void *right, size_t right_len);
 struct status const_oid_cmp_owned(const void *left, size_t left_len, const void *right, size_t right_len);
+struct status const_oid_check_sorted(const struct octets *items, size_t count);
+struct status const_oid_find(const void *octets, size_t len, const struct octets *sorted, size_t count);
+struct status const_oid_next(const void *octets, size_t len, const struct octets *sorted, size_t count);
+struct status const_oid_nearest(const void *octets, size_t len, const struct octets *sorted, size_t count);
+struct status const_oid_subtree_range(
+    const void *octets, size_t len, const struct octets *sorted, size_t count, struct range *range);
 struct status const_oid_error_text(uint32_t code, uint32_t detail, void *out, size_t out_len);
 
 static int is(struct status status, uint32_t code, uint32_t detail, size_t len) {
@@ -67,20 +83,30 @@ static void faults(void) {
 
 /* Two identifiers, whose arguments are not swapped. */
 static void pairs(void) {
-    uint32_t less, equal, greater;
     SEE(is(const_oid_starts_with(oid, 8, oid, 3), 0, 1, 0) && is(const_oid_starts_with(oid, 3, oid, 8), 0, 0, 0), 0);
     SEE(is(const_oid_eq(oid, 8, oid, 8), 0, 1, 0) && is(const_oid_eq(oid, 8, oid, 3), 0, 0, 0), 0);
-    less = const_oid_cmp(oid, 3, oid, 8).detail;
-    equal = const_oid_cmp(oid, 8, oid, 8).detail;
-    greater = const_oid_cmp(oid, 8, oid, 3).detail;
-    SEE(less + 1 == equal && equal + 1 == greater, 0);
-    SEE(is(const_oid_cmp_arcs(oid, 3, oid, 8), 0, less, 0) && is(const_oid_cmp_arcs(oid, 8, oid, 3), 0, greater, 0), 0);
-    SEE(is(const_oid_cmp_owned(oid, 3, oid, 8), 0, less, 0) && is(const_oid_cmp_owned(oid, 8, oid, 3), 0, greater, 0), 0);
+    SEE(is(const_oid_cmp(oid, 3, oid, 8), 0, 1, 0) && is(const_oid_cmp(oid, 8, oid, 3), 0, 3, 0), 0);
+    SEE(is(const_oid_cmp(oid, 8, oid, 8), 0, 2, 0), 0);
+    SEE(is(const_oid_cmp_arcs(oid, 3, oid, 8), 0, 1, 0) && is(const_oid_cmp_arcs(oid, 8, oid, 3), 0, 3, 0), 0);
+    SEE(is(const_oid_cmp_owned(oid, 3, oid, 8), 0, 1, 0) && is(const_oid_cmp_owned(oid, 8, oid, 3), 0, 3, 0), 0);
+}
+
+/* 0.0, 1.2.840, 1.2.840.4294967295 and 2.5 as a sorted list. */
+static void lists(void) {
+    static const uint8_t first[] = {0}, last[] = {0x55}, between[] = {0x2A, 0x86, 0x48, 0x01};
+    const struct octets items[] = {{first, 1}, {oid, 3}, {oid, 8}, {last, 1}};
+    struct range range = {9, 9};
+    SEE(is(const_oid_check_sorted(items, 4), 0, 0, 0), 0);
+    SEE(is(const_oid_find(oid, 8, items, 4), 0, 0, 2), 0);
+    SEE(is(const_oid_next(between, 4, items, 4), 0, 0, 2), 0);
+    SEE(is(const_oid_nearest(between, 4, items, 4), 0, 0, 1), 0);
+    SEE(is(const_oid_subtree_range(oid, 3, items, 4, &range), 0, 0, 0) && range.start == 1 && range.end == 3, 0);
 }
 
 int main(void) {
     results();
     faults();
     pairs();
+    lists();
     return 0;
 }

@@ -31,11 +31,13 @@ static_assert(same<decltype(const_oid_starts_with), ReadBoth>() && same<decltype
     && same<decltype(const_oid_cmp), ReadBoth>() && same<decltype(const_oid_cmp_arcs), ReadBoth>()
     && same<decltype(const_oid_cmp_owned), ReadBoth>(), "calls that compare");
 
-// Text is bytes of some type.
-template <typename Text>
-constexpr bool error_text(const_oid_status (*)(uint32_t, uint32_t, Text *, size_t)) { return sizeof(Text) == 1; }
-template <typename Text>
-constexpr bool from_text(const_oid_status (*)(const Text *, size_t, uint8_t *, size_t)) { return sizeof(Text) == 1; }
-template <typename Text>
-constexpr bool to_text(const_oid_status (*)(const uint8_t *, size_t, Text *, size_t)) { return sizeof(Text) == 1; }
-static_assert(error_text(const_oid_error_text) && from_text(const_oid_from_text) && to_text(const_oid_to_text), "texts");
+static_assert(same<decltype(const_oid_from_text), const_oid_status(const char *, size_t, uint8_t *, size_t)>(), "from_text");
+static_assert(same<decltype(const_oid_to_text), const_oid_status(const uint8_t *, size_t, char *, size_t)>(), "to_text");
+static_assert(same<decltype(const_oid_error_text), const_oid_status(uint32_t, uint32_t, char *, size_t)>(), "error_text");
+
+using Search = const_oid_status(const uint8_t *, size_t, const const_oid_octets *, size_t);
+static_assert(same<decltype(const_oid_check_sorted), const_oid_status(const const_oid_octets *, size_t)>(), "check_sorted");
+static_assert(same<decltype(const_oid_find), Search>() && same<decltype(const_oid_next), Search>()
+    && same<decltype(const_oid_nearest), Search>(), "searches");
+static_assert(same<decltype(const_oid_subtree_range),
+    const_oid_status(const uint8_t *, size_t, const const_oid_octets *, size_t, const_oid_range *)>(), "subtree_range");
