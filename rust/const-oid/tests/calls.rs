@@ -18,7 +18,7 @@ const MISSING: [(&str, &str); 6] = [
 const ONE_FORM: &str = "in C an identifier is its octets";
 
 /// Modules, or calls, and the call for C with the same result, or why there is none.
-const IN_C: [(&str, &str); 30] = [
+const IN_C: [(&str, &str); 36] = [
     ("buffer", ONE_FORM),
     ("db", "a table in C is the caller's"),
     ("db_ref", "a table in C is the caller's"),
@@ -46,15 +46,21 @@ const IN_C: [(&str, &str); 30] = [
     ("parent", "const_oid_parent"),
     ("push_arc", "const_oid_push_arc"),
     ("starts_with", "const_oid_starts_with"),
-    ("subtree", "const_oid_subtree"),
+    ("subtree", "const_oid_subtree_range"),
+    ("start_of", "const_oid_subtree_range"),
+    ("end_of", "const_oid_next"),
+    ("first_of", "const_oid_find"),
+    ("nearest_of", "const_oid_nearest"),
+    ("subtree_of", "const_oid_subtree_range"),
     ("text_from_bytes", "const_oid_to_text"),
     ("text_len", "const_oid_to_text"),
     ("try_from_ref", ONE_FORM),
 ];
 
-/// Calls for C of what has no name in Rattle, is an operator there, or is `arcs().skip(first)`.
-const OF_C: [&str; 4] = [
+/// Calls for C of what has no name in Rattle, is an operator there, or is `arcs().skip(first)` or `is_sorted_by_key`.
+const OF_C: [&str; 5] = [
     "const_oid_arcs_from",
+    "const_oid_check_sorted",
     "const_oid_cmp",
     "const_oid_cmp_owned",
     "const_oid_version",
@@ -153,5 +159,5 @@ fn in_c() {
         let is_named = IN_C.iter().any(|row| row.1 == name) || OF_C.contains(&&**name);
         assert!(is_named, "{name} has no row");
     }
-    assert_eq!(declared.len(), 18);
+    assert_eq!(declared.len(), 22);
 }
