@@ -5,8 +5,9 @@ use std::path::{Path, PathBuf};
 use std::process::{Command, Output};
 
 /// What the eraser reads and writes, from the top of the repository.
-const FOLDERS: [&str; 5] = [
+const FOLDERS: [&str; 6] = [
     "crates/const_oid/src",
+    "crates/const_oid_c/include",
     "crates/const_oid_c/src",
     "rust/const-oid",
     "rust/const-oid-c/src",
@@ -17,7 +18,8 @@ const FOLDERS: [&str; 5] = [
 const GENERATED: [&str; 2] = ["rust/const-oid/src/erased", "rust/const-oid-c/src/calls"];
 
 /// The generated files in other folders.
-const FILES: [&str; 2] = [
+const FILES: [&str; 3] = [
+    "crates/const_oid_c/include/const_oid_names.h",
     "rust/const-oid/src/db/names.rs",
     "rust/const-oid/public-items.txt",
 ];
