@@ -192,7 +192,7 @@ fn of_lists(draw: &mut Draw) {
             sorted.extend([oid, above].iter().take(times));
         }
     }
-    sorted.sort_by_key(|oid| ByArcs(oid));
+    sorted.sort_by_key(|oid| ByArcs(*oid));
     let octets: Vec<&[u8]> = sorted.iter().map(|oid| oid.as_bytes()).collect();
     let list = List::new(&octets);
     same(&octets, Ok(()), list.check_sorted());

@@ -70,7 +70,8 @@ pub(crate) fn copy(bytes: &[u8], out: &mut Output<u8>) {
     let out = &mut out[..bytes.len()];
     // Two copies, which may overlap, are fewer instructions than a call.
     match bytes.len() {
-        0..4 => out.iter_mut().zip(bytes).for_each(|(to, byte)| *to = *byte),
+        0..2 => out.iter_mut().zip(bytes).for_each(|(to, byte)| *to = *byte),
+        2..4 => copy_ends::<2>(bytes, out),
         4..8 => copy_ends::<4>(bytes, out),
         8..16 => copy_ends::<8>(bytes, out),
         16..=32 => copy_ends::<16>(bytes, out),
