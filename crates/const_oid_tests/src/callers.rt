@@ -5,14 +5,14 @@ use const_oid::{Arc, AssociatedOid, Error, ObjectIdentifierRef, Oid};
 use std::alloc::{AllocError, Global};
 use std::cmp::Ordering;
 use std::test::Fail;
-use uses::algorithms::{name_in, name_of};
-use uses::constants::{EC_PUBLIC_KEY, is_ec_public_key, is_its_text, sha256_with_rsa};
-use uses::fixed::printed;
-use uses::generic::{child_in, widened};
-use uses::schema::{Attribute, CommonName, Country, find, has_type};
-use uses::subtree::range_of;
-use uses::table::{ATTRIBUTE_TYPES, is_attribute_type, is_named};
-use uses::theorems;
+use const_oid_uses::algorithms::{name_in, name_of};
+use const_oid_uses::constants::{EC_PUBLIC_KEY, is_ec_public_key, is_its_text, sha256_with_rsa};
+use const_oid_uses::fixed::printed;
+use const_oid_uses::generic::{child_in, widened};
+use const_oid_uses::schema::{Attribute, CommonName, Country, find, has_type};
+use const_oid_uses::subtree::range_of;
+use const_oid_uses::table::{ATTRIBUTE_TYPES, is_attribute_type, is_named};
+use const_oid_uses::theorems;
 
 /// rsaEncryption (RFC 8017).
 const RSA: [u8; 9] = [0x2A, 0x86, 0x48, 0x86, 0xF7, 0x0D, 0x01, 0x01, 0x01];

@@ -1,4 +1,4 @@
-//! Tests of `const_oid` over its public calls, and of `uses`: rows from outside, and what no clause says.
+//! Tests of `const_oid` over its public calls, and of `const_oid_uses`: rows from outside, and what no clause says.
 #![tactic(auto)]
 
 #[cfg(test)]
@@ -16,7 +16,7 @@ mod encode_text;
 #[cfg(test)]
 mod errors;
 #[cfg(test)]
-mod first;
+mod readme;
 #[cfg(test)]
 mod formatter;
 #[cfg(test)]

@@ -4,7 +4,7 @@ use const_oid::db::SortedDatabase;
 use const_oid::{ObjectIdentifier, ObjectIdentifierRef};
 use std::alloc::Global;
 use std::test::Fail;
-use uses::label::{label, sorted};
+use const_oid_uses::label::{label, sorted};
 
 /// Octets and names (RFC 1155, 2863, 3418), in the order of arcs.
 const ROWS: &[(&[u8], &str)] = &[

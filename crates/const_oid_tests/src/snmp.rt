@@ -9,8 +9,8 @@ use const_oid::{ByArcs, Error, ObjectIdentifier, ObjectIdentifierRef, Oid};
 use std::alloc::Global;
 use std::collections::BTreeMap;
 use std::test::Fail;
-use uses::theorems::through_text;
-use uses::walk::{next_after, next_under};
+use const_oid_uses::theorems::through_text;
+use const_oid_uses::walk::{next_after, next_under};
 
 /// sysDescr (RFC 3418), columns of interfaces by their number (RFC 2863), connections over IPv4 and
 /// IPv6 by addresses and ports (RFC 4022), enterprises.

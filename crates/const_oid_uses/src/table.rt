@@ -1,0 +1,102 @@
+//! Attribute types of a directory (RFC 4519), as a table of constants.
+
+ghost use Rattle.std.specs.Prelude.{◌≡◌, ◌↔◌, IsTrue, Some};
+ghost use Rattle.std.specs.List.{Any};
+ghost use Rattle.const_oid.specs.OidRef.{ref_arcs};
+ghost use Rattle.const_oid_uses.specs.AttributeTypes.{attribute_types, first_arcs};
+
+use const_oid::ObjectIdentifierRef;
+use const_oid::db::{RefDatabase, SortedDatabase};
+
+/// The identifiers, whose octets the checker reads, and their names, in the order of arcs.
+pub const ATTRIBUTE_TYPES: [(ObjectIdentifierRef<'static>, &str); 12] = [
+    (
+        ObjectIdentifierRef {
+            ber: &[0x09, 0x92, 0x26, 0x89, 0x93, 0xF2, 0x2C, 0x64, 0x01, 0x01],
+        },
+        "uid",
+    ),
+    (
+        ObjectIdentifierRef {
+            ber: &[0x09, 0x92, 0x26, 0x89, 0x93, 0xF2, 0x2C, 0x64, 0x01, 0x19],
+        },
+        "dc",
+    ),
+    (
+        ObjectIdentifierRef {
+            ber: &[0x55, 0x04, 0x03],
+        },
+        "cn",
+    ),
+    (
+        ObjectIdentifierRef {
+            ber: &[0x55, 0x04, 0x04],
+        },
+        "sn",
+    ),
+    (
+        ObjectIdentifierRef {
+            ber: &[0x55, 0x04, 0x05],
+        },
+        "serialNumber",
+    ),
+    (
+        ObjectIdentifierRef {
+            ber: &[0x55, 0x04, 0x06],
+        },
+        "c",
+    ),
+    (
+        ObjectIdentifierRef {
+            ber: &[0x55, 0x04, 0x07],
+        },
+        "l",
+    ),
+    (
+        ObjectIdentifierRef {
+            ber: &[0x55, 0x04, 0x08],
+        },
+        "st",
+    ),
+    (
+        ObjectIdentifierRef {
+            ber: &[0x55, 0x04, 0x09],
+        },
+        "street",
+    ),
+    (
+        ObjectIdentifierRef {
+            ber: &[0x55, 0x04, 0x0A],
+        },
+        "o",
+    ),
+    (
+        ObjectIdentifierRef {
+            ber: &[0x55, 0x04, 0x0B],
+        },
+        "ou",
+    ),
+    (
+        ObjectIdentifierRef {
+            ber: &[0x55, 0x04, 0x0C],
+        },
+        "title",
+    ),
+];
+
+/// Whether an attribute type has this name, ignoring ASCII case.
+pub fn is_named(oid: &ObjectIdentifierRef<'_>, name: &str) -> bool
+    ensures { IsTrue result ↔ (first_arcs attribute_types name.now ≡ Some (ref_arcs oid.now)) }
+{
+    match RefDatabase::new(&ATTRIBUTE_TYPES).by_name(name) {
+        Some(found) => found == *oid,
+        None => false,
+    }
+}
+
+/// Whether the table has an attribute type.
+pub fn is_attribute_type(oid: &ObjectIdentifierRef<'_>) -> bool
+    ensures { IsTrue result ↔ Any (λ row. row.0 ≡ ref_arcs oid.now) attribute_types }
+{
+    SortedDatabase::new(&ATTRIBUTE_TYPES).by_oid(oid).is_some()
+}
