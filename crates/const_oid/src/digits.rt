@@ -18,7 +18,7 @@ pub(crate) fn arc_len(arc: Arc, is_first: bool) -> usize
 }
 
 /// Writes an arc at an index, after a dot unless it is the first, and returns the index after it.
-#[inline]
+#[inline(always)]
 pub(crate) fn write_arc(arc: Arc, is_first: bool, out: &mut [u8], at: usize) -> usize
     requires { at + length (arc_text is_first arc) ≤ length out.old }
     ensures end { result ≡ at + length (arc_text is_first arc) }

@@ -15,7 +15,7 @@ pub(crate) fn arc_len(arc: Arc, is_first: bool) -> usize {
 }
 
 /// Writes an arc at an index, after a dot unless it is the first, and returns the index after it.
-#[inline]
+#[inline(always)]
 pub(crate) fn write_arc(arc: Arc, is_first: bool, out: &mut [u8], at: usize) -> usize {
     if is_first {
         return write_digits(arc, out, at);
