@@ -1,5 +1,5 @@
 -- Sorted tables of names: lists in the order of arcs, whose items are entries.
-use Rattle.std.proofs.Common.{◌≡◌, ◌+◌, ◌-◌, ◌<◌, ◌≤◌, ℕ, Bool, true, false, List, ◌∷◌, length, ⊎_elim}
+use Rattle.std.proofs.Common.{◌≡◌, ◌+◌, ◌-◌, ◌<◌, ◌≤◌, ℕ, Bool, false, List, length}
 use Rattle.std.proofs.Common.{take, drop, get_or, Option, Some, nat_cmp, sym, arith, Bor, slice_get}
 use Rattle.std.specs.{Prelude.{◌↔◌, IfSome}, Cmp.Lexicographic.slice_cmp, Ordering.is_le}
 use Rattle.std.specs.List.{HoldsAt, IsFirstMatchOrLen, find}

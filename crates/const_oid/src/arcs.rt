@@ -1,12 +1,10 @@
 //! Contents octets read as arcs (X.690, 8.19.2 to 8.19.4).
-ghost use Rattle.std.specs.Prelude.{◌≡◌, ℕ, ◌+◌, ◌*◌, ◌%◌, ◌^◌, ◌<◌, ◌≤◌, List, ◌∷◌, map, length, take, slice_get, slice_index, None};
-ghost use Rattle.std.specs.Result.{result_err};
+ghost use Rattle.std.specs.Prelude.{◌≡◌, ℕ, ◌+◌, ◌*◌, ◌%◌, ◌<◌, ◌≤◌, List, ◌∷◌, slice_get, None};
 ghost use Rattle.std.specs.Iterator.{YieldsFirst, item_count};
-ghost use Rattle.const_oid.specs.Base128.{value_of};
-ghost use Rattle.const_oid.specs.Private.Groups.{IsFirst, IsLong};
 ghost use Rattle.const_oid.specs.Identifier.{root_rule, max_second};
-ghost use Rattle.const_oid.specs.Contents.{cut, later_fault, parts_fault, max_first, arcs_from, arcs_of_octets};
+ghost use Rattle.const_oid.specs.Contents.{cut, parts_fault, max_first, arcs_from, arcs_of_octets};
 
+use crate::base128::read_group;
 use crate::parts::skip_parts;
 use std::marker::Model;
 
@@ -105,78 +103,6 @@ pub(crate) fn arc_at(octets: &[u8], index: usize) -> Option<Arc>
         return None;
     }
     Some(read_group(rest).0 as Arc)
-}
-
-/// The number of the first group, and the octets after it.
-#[inline(always)]
-fn read_group(octets: &[u8]) -> (u64, &[u8])
-    requires { parts_fault root_rule (cut octets.now) ≡ None }
-    ensures { IsFirst octets.now result.0 result.1.now }
-{
-    match octets {
-        // The shortest group is the most frequent one.
-        [octet, after @ ..] if *octet < 128 => (*octet as u64, after),
-        longer => read_long_group(longer),
-    }
-}
-
-/// The same, where the group has two octets or more: no more than five.
-#[tactic(auto, using(std::proofs::lemmas::Grind::common_steps, crate::proofs::PartsFault::first_valid))]
-#[inline(never)]
-fn read_long_group(octets: &[u8]) -> (u64, &[u8])
-    requires valid { parts_fault root_rule (cut octets.now) ≡ None }
-    requires long { 128 ≤ slice_index octets.now 0 }
-    ensures { IsFirst octets.now result.0 result.1.now }
-{
-    match octets {
-        [a, b, after @ ..] if *b < 128 => (add_digit(add_digit(0, *a), *b), after),
-        [a, b, c, after @ ..] if *c < 128 => (
-            add_digit(add_digit(add_digit(0, *a), *b), *c),
-            after,
-        ),
-        [a, b, c, d, after @ ..] if *d < 128 => {
-            (
-                add_digit(add_digit(add_digit(add_digit(0, *a), *b), *c), *d),
-                after,
-            )
-        }
-        _ => read_five(octets),
-    }
-}
-
-/// The same, where the group has five octets.
-#[tactic(auto, using(crate::proofs::PartsFault::five_read, std::proofs::lemmas::List::take_all))]
-#[inline(always)]
-fn read_five(octets: &[u8]) -> (u64, &[u8])
-    requires valid { parts_fault root_rule (cut octets.now) ≡ None }
-    requires some { 0 < length octets.now }
-    requires long { IsLong octets.now }
-    ensures { IsFirst octets.now result.0 result.1.now }
-{
-    match octets {
-        [_, _, _, _, _, after @ ..] => (number_of_five(octets), after),
-        // Not reached, since the last octet ends its group.
-        _ => (0, octets),
-    }
-}
-
-/// The number of five octets.
-#[inline(always)]
-pub(crate) fn number_of_five(octets: &[u8]) -> u64
-    requires { 5 ≤ length octets.now }
-    ensures { result ≡ value_of (take 5 octets.now) }
-{
-    let high = add_digit(add_digit(add_digit(0, octets[0]), octets[1]), octets[2]);
-    add_digit(add_digit(high, octets[3]), octets[4])
-}
-
-/// A number with one more digit in base 128.
-#[inline(always)]
-pub(crate) fn add_digit(high: u64, octet: u8) -> u64
-    requires { high < 2 ^ 35 }
-    ensures { result ≡ high * 128 + octet % 128 }
-{
-    high * 128 + (octet % 128) as u64
 }
 
 /// The two arcs that the first subidentifier holds.

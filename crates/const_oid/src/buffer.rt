@@ -1,12 +1,13 @@
 //! Octets in an array. The first ones are in use.
 
-ghost use Rattle.std.specs.Prelude.{◌≡◌, ℕ, List, ◌++◌, ◌+◌, ◌-◌, ◌^◌, ◌<◌, ◌≤◌, ◌↔◌, [], length, take, drop, replicate, min, nat_eq, IsTrue};
+ghost use Rattle.std.specs.Prelude.{◌≡◌, ◌++◌, ◌+◌, ◌-◌, ◌^◌, ◌<◌, ◌≤◌, ◌↔◌, [], length, take, drop, replicate, min, nat_eq, IsTrue};
 ghost use Rattle.std.proofs.Props.{props};
 ghost use Rattle.std.specs.Cmp.Lexicographic.{pointwise};
-ghost use Rattle.const_oid.specs.Base128.{AreOctets, IsGroup, width};
+ghost use Rattle.const_oid.specs.Base128.{AreOctets, width};
 ghost use Rattle.const_oid.specs.Private.Octets.{IsAppended};
 
 use crate::Arc;
+use crate::base128::{group_len, write_group_at};
 use crate::compare::{are_arrays_equal, order};
 use crate::error::{Error, Result};
 use std::cmp::Ordering;
@@ -158,54 +159,6 @@ const fn copy_to(octets: &[u8], out: &mut [u8])
     while index < octets.len() {
         out[index] = octets[index];
         index += 1;
-    }
-}
-
-#[tactic(auto, using(crate::proofs::Octets::widths))]
-/// How many octets the group of a number takes.
-const fn group_len(number: u64) -> usize
-    requires { number < 2 ^ 35 }
-    ensures width { result ≡ width number }
-    ensures short { result ≤ 5 }
-{
-    match number {
-        0..=0x7f => 1,
-        0x80..=0x3fff => 2,
-        0x4000..=0x1f_ffff => 3,
-        0x20_0000..=0xfff_ffff => 4,
-        _ => 5,
-    }
-}
-
-/// Writes the group of a number, of so many octets, from an index on.
-// erase: const
-#[inline(always)]
-fn write_group_at(octets: &mut [u8], start: usize, number: u64, count: usize)
-    requires small { number < 2 ^ 35 }
-    requires wide { count ≡ width number }
-    requires fits { start + count ≤ length octets.old }
-    ensures { (group : List ℕ) × IsGroup number group
-        × (octets.new ≡ take start octets.old ++ (group ++ drop (start + count) octets.old)) }
-{
-    let (_, free) = octets.split_at_mut(start);
-    let (group, _) = free.split_at_mut(count);
-    write_group(group, number);
-}
-
-/// Writes the group of a number into a slice, which is as long.
-#[inline(always)]
-const fn write_group(octets: &mut [u8], number: u64)
-    requires small { number < 2 ^ 35 }
-    requires wide { length octets.old ≡ width number }
-    ensures { IsGroup number octets.new }
-{
-    let mut index = octets.len() - 1;
-    octets[index] = (number % 128) as u8;
-    let mut rest = number / 128;
-    while index > 0 {
-        index -= 1;
-        octets[index] = 128 + (rest % 128) as u8;
-        rest /= 128;
     }
 }
 

@@ -2,6 +2,7 @@
 #![tactic(auto)]
 
 pub mod arcs;
+mod base128;
 pub mod buffer;
 pub mod by_arcs;
 mod compare;

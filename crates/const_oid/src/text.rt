@@ -10,9 +10,9 @@ ghost use Rattle.const_oid.specs.Private.Text.{arc_text, text_left};
 
 use crate::Arc;
 use crate::arcs::{Arcs, split_root};
+use crate::base128::{MAX_FIRST, checked_group, group_fault};
 use crate::digits::{MAX_ARC_LEN, arc_len, write_arc};
 use crate::error::{Error, Result};
-use crate::valid::{MAX_FIRST, checked_group, group_fault};
 use std::str;
 
 /// The length of the arcs' text, or `None` where it is over a limit.

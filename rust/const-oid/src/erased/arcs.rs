@@ -2,6 +2,7 @@
 
 //! Contents octets read as arcs (X.690, 8.19.2 to 8.19.4).
 
+use crate::erased::base128::read_group;
 use crate::erased::parts::skip_parts;
 /// One arc of an object identifier, a 32-bit number.
 #[doc = include_str!("../examples/Arc.md")]
@@ -84,55 +85,6 @@ pub(crate) fn arc_at(octets: &[u8], index: usize) -> Option<Arc> {
         return None;
     }
     Some(read_group(rest).0 as Arc)
-}
-
-/// The number of the first group, and the octets after it.
-#[inline(always)]
-fn read_group(octets: &[u8]) -> (u64, &[u8]) {
-    match octets {
-        // The shortest group is the most frequent one.
-        [octet, after @ ..] if *octet < 128 => (*octet as u64, after),
-        longer => read_long_group(longer),
-    }
-}
-
-/// The same, where the group has two octets or more: no more than five.
-#[inline(never)]
-fn read_long_group(octets: &[u8]) -> (u64, &[u8]) {
-    match octets {
-        [a, b, after @ ..] if *b < 128 => (add_digit(add_digit(0, *a), *b), after),
-        [a, b, c, after @ ..] if *c < 128 => {
-            (add_digit(add_digit(add_digit(0, *a), *b), *c), after)
-        }
-        [a, b, c, d, after @ ..] if *d < 128 => (
-            add_digit(add_digit(add_digit(add_digit(0, *a), *b), *c), *d),
-            after,
-        ),
-        _ => read_five(octets),
-    }
-}
-
-/// The same, where the group has five octets.
-#[inline(always)]
-fn read_five(octets: &[u8]) -> (u64, &[u8]) {
-    match octets {
-        [_, _, _, _, _, after @ ..] => (number_of_five(octets), after),
-        // Not reached, since the last octet ends its group.
-        _ => (0, octets),
-    }
-}
-
-/// The number of five octets.
-#[inline(always)]
-pub(crate) fn number_of_five(octets: &[u8]) -> u64 {
-    let high = add_digit(add_digit(add_digit(0, octets[0]), octets[1]), octets[2]);
-    add_digit(add_digit(high, octets[3]), octets[4])
-}
-
-/// A number with one more digit in base 128.
-#[inline(always)]
-pub(crate) fn add_digit(high: u64, octet: u8) -> u64 {
-    high * 128 + (octet % 128) as u64
 }
 
 /// The two arcs that the first subidentifier holds.

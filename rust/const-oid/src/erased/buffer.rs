@@ -3,6 +3,7 @@
 //! Octets in an array. The first ones are in use.
 
 use crate::erased::Arc;
+use crate::erased::base128::{group_len, write_group_at};
 use crate::erased::compare::{are_arrays_equal, order};
 use crate::erased::error::{Error, Result};
 use core::cmp::Ordering;
@@ -120,38 +121,6 @@ const fn copy_to(octets: &[u8], out: &mut [u8]) {
     while index < octets.len() {
         out[index] = octets[index];
         index += 1;
-    }
-}
-
-/// How many octets the group of a number takes.
-const fn group_len(number: u64) -> usize {
-    match number {
-        0..=0x7f => 1,
-        0x80..=0x3fff => 2,
-        0x4000..=0x1f_ffff => 3,
-        0x20_0000..=0xfff_ffff => 4,
-        _ => 5,
-    }
-}
-
-/// Writes the group of a number, of so many octets, from an index on.
-#[inline(always)]
-const fn write_group_at(octets: &mut [u8], start: usize, number: u64, count: usize) {
-    let (_, free) = octets.split_at_mut(start);
-    let (group, _) = free.split_at_mut(count);
-    write_group(group, number);
-}
-
-/// Writes the group of a number into a slice, which is as long.
-#[inline(always)]
-const fn write_group(octets: &mut [u8], number: u64) {
-    let mut index = octets.len() - 1;
-    octets[index] = (number % 128) as u8;
-    let mut rest = number / 128;
-    while index > 0 {
-        index -= 1;
-        octets[index] = 128 + (rest % 128) as u8;
-        rest /= 128;
     }
 }
 

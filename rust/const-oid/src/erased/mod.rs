@@ -3,6 +3,7 @@
 //! Object identifiers (ITU-T X.660) as text, arcs and contents octets (ITU-T X.690, 8.19).
 
 pub mod arcs;
+mod base128;
 pub mod buffer;
 pub mod by_arcs;
 mod compare;

@@ -4,9 +4,9 @@
 
 use crate::erased::Arc;
 use crate::erased::arcs::{Arcs, split_root};
+use crate::erased::base128::{MAX_FIRST, checked_group, group_fault};
 use crate::erased::digits::{MAX_ARC_LEN, arc_len, write_arc};
 use crate::erased::error::{Error, Result};
-use crate::erased::valid::{MAX_FIRST, checked_group, group_fault};
 use core::str;
 
 /// The length of the arcs' text, or `None` where it is over a limit.

@@ -3,11 +3,8 @@
 //! Octets checked for faults (X.690, 8.19.2).
 
 use crate::erased::Arc;
-use crate::erased::arcs::{add_digit, number_of_five};
+use crate::erased::base128::{MAX_FIRST, checked_group, group_fault};
 use crate::erased::error::{Error, Result};
-
-/// The greatest first subidentifier: of the first arc 2 and the greatest second arc.
-pub(crate) const MAX_FIRST: u64 = 2 * 40 + Arc::MAX as u64;
 
 /// The fault of octets, whatever their number, if there is one.
 #[inline(never)]
@@ -26,40 +23,4 @@ pub(crate) fn check(octets: &[u8]) -> Result<()> {
         };
     }
     Ok(())
-}
-
-/// The number of the first group, at most a limit, and the octets after it, or `None` where the group has a fault.
-#[inline(always)]
-pub(crate) fn checked_group(octets: &[u8], limit: u64) -> Option<(u64, &[u8])> {
-    match octets {
-        [a, after @ ..] if *a < 128 => Some((*a as u64, after)),
-        [a, ..] if *a == 128 => None,
-        [a, b, after @ ..] if *b < 128 => Some((add_digit(add_digit(0, *a), *b), after)),
-        [a, b, c, after @ ..] if *c < 128 => {
-            Some((add_digit(add_digit(add_digit(0, *a), *b), *c), after))
-        }
-        [a, b, c, d, after @ ..] if *d < 128 => Some((
-            add_digit(add_digit(add_digit(add_digit(0, *a), *b), *c), *d),
-            after,
-        )),
-        [_, _, _, _, e, after @ ..] if *e < 128 && number_of_five(octets) <= limit => {
-            Some((number_of_five(octets), after))
-        }
-        _ => None,
-    }
-}
-
-/// The fault of the first group, which has one.
-#[cold]
-pub(crate) fn group_fault(octets: &[u8], limit: u64) -> Error {
-    if octets[0] == 128 || octets.len() < 5 {
-        return Error::Base128;
-    }
-    if number_of_five(octets) > limit {
-        return Error::ArcTooBig;
-    }
-    if octets.len() > 5 {
-        return Error::ArcTooBig;
-    }
-    Error::Base128
 }

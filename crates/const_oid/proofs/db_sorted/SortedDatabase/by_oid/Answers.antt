@@ -1,5 +1,5 @@
-use Rattle.std.proofs.Common.{◌≡◌, Some, arith, ap, sym, ◌∙◌}
-use Rattle.std.specs.{List.find, Option.option_map}
+use Rattle.std.proofs.Common.{ap, sym, ◌∙◌}
+use Rattle.std.specs.{Option.option_map}
 use Rattle.const_oid.specs.{Names.{has_arcs, name_of}, OidRef.ref_arcs}
 use Rattle.const_oid.proofs.{SortedLists.{find_none, find_some}, SortedNames.{slice_get_there, table_list}}
 use Rattle.const_oid.proofs.db_sorted.SortedDatabase.by_oid.Goals as goal

@@ -1,7 +1,7 @@
 use Rattle.std.proofs.Common.{◌≡◌, ◌<◌, length, drop}
 use Rattle.const_oid.specs.Base128.{width}
 use Rattle.const_oid.proofs.Written.{IsTail}
-use Rattle.const_oid.proofs.buffer.write_group.Given as goal
+use Rattle.const_oid.proofs.base128.write_group.Given as goal
 
 abbrev pub invariant-loop-index : goal.invariant-loop-index
 invariant-loop-index l = record {

@@ -1,7 +1,7 @@
 use Rattle.std.proofs.Common.{arith, length-set, ◌≡◌, ◌+◌, ◌-◌, ◌%◌}
 use Rattle.std.proofs.lemmas.List.{drop-set, drop_all}
 use Rattle.const_oid.proofs.{Groups.width_is, Written.{tail_last, tail_more, tail_group}}
-use Rattle.const_oid.proofs.buffer.write_group.Goals as goal
+use Rattle.const_oid.proofs.base128.write_group.Goals as goal
 
 pub loop-index-init : goal.loop-index-init
 loop-index-init c = grind (arith, length-set, drop-set, drop_all, width_is, tail_last)

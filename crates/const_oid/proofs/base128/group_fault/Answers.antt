@@ -1,6 +1,6 @@
 use Rattle.std.proofs.Common.{arith}
 use Rattle.const_oid.proofs.PartsFault.{more_fault, open_fault}
-use Rattle.const_oid.proofs.valid.group_fault.Goals as goal
+use Rattle.const_oid.proofs.base128.group_fault.Goals as goal
 
 pub returns-then-octets-gt5 : goal.returns-then-octets-gt5
 returns-then-octets-gt5 c =

@@ -1,0 +1,163 @@
+//! The octets of one subidentifier: a group in base 128 (X.690, 8.19.2).
+
+ghost use Rattle.std.specs.Prelude.{◌≡◌, ℕ, List, ◌++◌, ◌+◌, ◌*◌, ◌%◌, ◌^◌, ◌<◌, ◌≤◌, ◌∷◌, None, Some, length, map, slice_index, take, drop, IfSome, MatchOption};
+ghost use Rattle.const_oid.specs.Base128.{IsGroup, value_of, width};
+ghost use Rattle.const_oid.specs.Contents.{cut, later_fault, parts_fault, max_first};
+ghost use Rattle.const_oid.specs.Identifier.{root_rule, max_arc};
+ghost use Rattle.const_oid.specs.Private.Groups.{IsFaulty, IsFirst};
+ghost use Rattle.const_oid.specs.Private.Octets.{fault_from};
+
+use crate::Arc;
+use crate::error::Error;
+
+/// The greatest first subidentifier: of the first arc 2 and the greatest second arc.
+pub(crate) const MAX_FIRST: u64 = 2 * 40 + Arc::MAX as u64;
+
+/// The number of the first group, and the octets after it.
+#[inline(always)]
+pub(crate) fn read_group(octets: &[u8]) -> (u64, &[u8])
+    requires { parts_fault root_rule (cut octets.now) ≡ None }
+    ensures { IsFirst octets.now result.0 result.1.now }
+{
+    match octets {
+        // The shortest group is the most frequent one.
+        [octet, after @ ..] if *octet < 128 => (*octet as u64, after),
+        longer => read_long_group(longer),
+    }
+}
+
+/// The number of the first group, which has two octets or more, and the octets after it.
+#[tactic(auto, using(crate::proofs::PartsFault::parts_at, crate::proofs::PartsFault::not_faulty))]
+#[inline(never)]
+fn read_long_group(octets: &[u8]) -> (u64, &[u8])
+    requires valid { parts_fault root_rule (cut octets.now) ≡ None }
+    requires long { 128 ≤ slice_index octets.now 0 }
+    ensures { IsFirst octets.now result.0 result.1.now }
+{
+    match checked_group(octets, MAX_FIRST) {
+        Some(group) => group,
+        // Not reached, since the octets have no fault.
+        None => (0, octets),
+    }
+}
+
+/// The number of the first group, at most a limit, and the octets after it, or `None` where the group has a fault.
+#[tactic(auto, using(crate::proofs::PartsFault::groups_read))]
+#[inline(always)]
+pub(crate) fn checked_group(octets: &[u8], limit: u64) -> Option<(u64, &[u8])>
+    requires some { 0 < length octets.now }
+    requires wide { max_arc ≤ limit }
+    requires small { limit ≤ max_first root_rule }
+    ensures read { MatchOption result (IsFaulty limit octets.now)
+        (λ group. (fault_from limit (cut octets.now) ≡ later_fault (cut group.1.now)) × (group.0 ≤ limit)) }
+    ensures number { IfSome result (λ group. map value_of (cut octets.now) ≡ group.0 ∷ map value_of (cut group.1.now)) }
+    ensures width { IfSome result (λ group. width group.0 + length group.1.now ≤ length octets.now) }
+    ensures shorter { IfSome result (λ group. length group.1.now < length octets.now) }
+{
+    match octets {
+        [a, after @ ..] if *a < 128 => Some((*a as u64, after)),
+        [a, ..] if *a == 128 => None,
+        [a, b, after @ ..] if *b < 128 => Some((add_digit(add_digit(0, *a), *b), after)),
+        [a, b, c, after @ ..] if *c < 128 => Some((
+            add_digit(add_digit(add_digit(0, *a), *b), *c),
+            after,
+        )),
+        [a, b, c, d, after @ ..] if *d < 128 => Some((
+            add_digit(add_digit(add_digit(add_digit(0, *a), *b), *c), *d),
+            after,
+        )),
+        [_, _, _, _, e, after @ ..] if *e < 128 && number_of_five(octets) <= limit => {
+            Some((number_of_five(octets), after))
+        }
+        _ => None,
+    }
+}
+
+/// The fault of the first group, which has one.
+#[tactic(auto, using(crate::proofs::PartsFault::group_faults))]
+#[cold]
+pub(crate) fn group_fault(octets: &[u8], limit: u64) -> Error
+    requires some { 0 < length octets.now }
+    requires wide { max_arc ≤ limit }
+    requires small { limit ≤ max_first root_rule }
+    requires faulty { IsFaulty limit octets.now }
+    ensures { fault_from limit (cut octets.now) ≡ Some result }
+{
+    if octets[0] == 128 || octets.len() < 5 {
+        return Error::Base128;
+    }
+    if number_of_five(octets) > limit {
+        return Error::ArcTooBig;
+    }
+    if octets.len() > 5 {
+        return Error::ArcTooBig;
+    }
+    Error::Base128
+}
+
+/// The number of five octets.
+#[inline(always)]
+fn number_of_five(octets: &[u8]) -> u64
+    requires { 5 ≤ length octets.now }
+    ensures { result ≡ value_of (take 5 octets.now) }
+{
+    let high = add_digit(add_digit(add_digit(0, octets[0]), octets[1]), octets[2]);
+    add_digit(add_digit(high, octets[3]), octets[4])
+}
+
+/// A number with one more digit in base 128.
+#[inline(always)]
+fn add_digit(high: u64, octet: u8) -> u64
+    requires { high < 2 ^ 35 }
+    ensures { result ≡ high * 128 + octet % 128 }
+{
+    high * 128 + (octet % 128) as u64
+}
+
+/// How many octets the group of a number takes.
+#[tactic(auto, using(crate::proofs::Octets::widths))]
+pub(crate) const fn group_len(number: u64) -> usize
+    requires { number < 2 ^ 35 }
+    ensures width { result ≡ width number }
+    ensures short { result ≤ 5 }
+{
+    match number {
+        0..=0x7f => 1,
+        0x80..=0x3fff => 2,
+        0x4000..=0x1f_ffff => 3,
+        0x20_0000..=0xfff_ffff => 4,
+        _ => 5,
+    }
+}
+
+/// Writes the group of a number, of so many octets, from an index on.
+// erase: const
+#[inline(always)]
+pub(crate) fn write_group_at(octets: &mut [u8], start: usize, number: u64, count: usize)
+    requires small { number < 2 ^ 35 }
+    requires wide { count ≡ width number }
+    requires fits { start + count ≤ length octets.old }
+    ensures { (group : List ℕ) × IsGroup number group
+        × (octets.new ≡ take start octets.old ++ (group ++ drop (start + count) octets.old)) }
+{
+    let (_, free) = octets.split_at_mut(start);
+    let (group, _) = free.split_at_mut(count);
+    write_group(group, number);
+}
+
+/// Writes the group of a number into a slice, which is as long.
+#[inline(always)]
+const fn write_group(octets: &mut [u8], number: u64)
+    requires small { number < 2 ^ 35 }
+    requires wide { length octets.old ≡ width number }
+    ensures { IsGroup number octets.new }
+{
+    let mut index = octets.len() - 1;
+    octets[index] = (number % 128) as u8;
+    let mut rest = number / 128;
+    while index > 0 {
+        index -= 1;
+        octets[index] = 128 + (rest % 128) as u8;
+        rest /= 128;
+    }
+}
