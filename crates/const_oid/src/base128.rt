@@ -1,4 +1,4 @@
-//! The octets of one subidentifier: a group in base 128 (X.690, 8.19.2).
+//! The octets of one subidentifier, a number in base 128 (X.690, 8.19.2). In names, they are its `group`.
 
 ghost use Rattle.std.specs.Prelude.{◌≡◌, ℕ, List, ◌++◌, ◌+◌, ◌*◌, ◌%◌, ◌^◌, ◌<◌, ◌≤◌, ◌∷◌, None, Some, length, map, slice_index, take, drop, IfSome, MatchOption};
 ghost use Rattle.const_oid.specs.Base128.{IsGroup, value_of, width};
@@ -13,20 +13,20 @@ use crate::error::Error;
 /// The greatest first subidentifier: of the first arc 2 and the greatest second arc.
 pub(crate) const MAX_FIRST: u64 = 2 * 40 + Arc::MAX as u64;
 
-/// The number of the first group, and the octets after it.
+/// The number of the first subidentifier, and the octets after it.
 #[inline(always)]
 pub(crate) fn read_group(octets: &[u8]) -> (u64, &[u8])
     requires { parts_fault root_rule (cut octets.now) ≡ None }
     ensures { IsFirst octets.now result.0 result.1.now }
 {
     match octets {
-        // The shortest group is the most frequent one.
+        // A subidentifier of one octet is the most frequent one.
         [octet, after @ ..] if *octet < 128 => (*octet as u64, after),
         longer => read_long_group(longer),
     }
 }
 
-/// The number of the first group, which has two octets or more, and the octets after it.
+/// The number of the first subidentifier, which has two octets or more, and the octets after it.
 #[tactic(auto, using(crate::proofs::PartsFault::parts_at, crate::proofs::PartsFault::not_faulty))]
 #[inline(never)]
 fn read_long_group(octets: &[u8]) -> (u64, &[u8])
@@ -41,7 +41,7 @@ fn read_long_group(octets: &[u8]) -> (u64, &[u8])
     }
 }
 
-/// The number of the first group, at most a limit, and the octets after it, or `None` where the group has a fault.
+/// The number of the first subidentifier, at most a limit, and the octets after it, or `None` where it has a fault.
 #[tactic(auto, using(crate::proofs::PartsFault::groups_read))]
 #[inline(always)]
 pub(crate) fn checked_group(octets: &[u8], limit: u64) -> Option<(u64, &[u8])>
@@ -73,7 +73,7 @@ pub(crate) fn checked_group(octets: &[u8], limit: u64) -> Option<(u64, &[u8])>
     }
 }
 
-/// The fault of the first group, which has one.
+/// The fault of the first subidentifier, which has one.
 #[tactic(auto, using(crate::proofs::PartsFault::group_faults))]
 #[cold]
 pub(crate) fn group_fault(octets: &[u8], limit: u64) -> Error
@@ -114,7 +114,7 @@ fn add_digit(high: u64, octet: u8) -> u64
     high * 128 + (octet % 128) as u64
 }
 
-/// How many octets the group of a number takes.
+/// How many octets the subidentifier of a number takes.
 #[tactic(auto, using(crate::proofs::Octets::widths))]
 pub(crate) const fn group_len(number: u64) -> usize
     requires { number < 2 ^ 35 }
@@ -130,7 +130,7 @@ pub(crate) const fn group_len(number: u64) -> usize
     }
 }
 
-/// Writes the group of a number, of so many octets, from an index on.
+/// Writes the subidentifier of a number, which takes `count` octets, from an index on.
 // erase: const
 #[inline(always)]
 pub(crate) fn write_group_at(octets: &mut [u8], start: usize, number: u64, count: usize)
@@ -145,7 +145,7 @@ pub(crate) fn write_group_at(octets: &mut [u8], start: usize, number: u64, count
     write_group(group, number);
 }
 
-/// Writes the group of a number into a slice, which is as long.
+/// Writes the subidentifier of a number into a slice, which is as long.
 #[inline(always)]
 const fn write_group(octets: &mut [u8], number: u64)
     requires small { number < 2 ^ 35 }

@@ -20,7 +20,8 @@ use std::hash::{Hash, Hasher};
 pub struct Buffer<const SIZE: usize> {
     bytes: [u8; SIZE],
     used: u8,
-    // Empty. It aligns a buffer as an `Error` is, so a `Result` of one is moved in pieces that do not overlap.
+    // Empty: it sets the alignment alone. A buffer then has the alignment of an `Error`, so in a `Result` both begin at the
+    // same offset. Without it, the compiler copies a `Result` in pieces that overlap, which takes more time.
     aligned: [u32; 0],
     ghost within: { used ≤ min SIZE 255 },
     ghost octets: { AreOctets (take used bytes) } by { Prim.hlevel props },
@@ -53,7 +54,7 @@ impl<const SIZE: usize> Buffer<SIZE> {
         buffer
     }
 
-    /// Appends the group of a number, or returns `Length` where it does not fit.
+    /// Appends the subidentifier of a number, or returns `Length` where it does not fit.
     // erase: const
     #[tactic(auto, using(crate::proofs::Groups::width_is))]
     #[inline(always)]
@@ -61,7 +62,7 @@ impl<const SIZE: usize> Buffer<SIZE> {
         requires { number < 2 ^ 35 }
         ensures { IsAppended (min SIZE 255) number (octets_of self.old) (octets_of self.new) result }
     {
-        // With a literal length, a group is written without a loop.
+        // With a literal length, a subidentifier is written without a loop.
         match group_len(number) {
             1 => self.push_number_of_len(number, 1),
             2 => self.push_number_of_len(number, 2),
@@ -71,7 +72,7 @@ impl<const SIZE: usize> Buffer<SIZE> {
         }
     }
 
-    /// Appends the group of an arc, or returns `Length` where it does not fit. Short groups have paths of
+    /// Appends the subidentifier of an arc, or returns `Length` where it does not fit. Short ones have paths of
     /// their own, which are quicker in a single call, and slower in the loop of an encoder.
     // erase: const
     #[inline(always)]
@@ -86,7 +87,7 @@ impl<const SIZE: usize> Buffer<SIZE> {
         }
     }
 
-    /// Appends the group of a number, which takes `count` octets, or returns `Length`.
+    /// Appends the subidentifier of a number, which takes `count` octets, or returns `Length` where it does not fit.
     // erase: const
     #[inline(always)]
     fn push_number_of_len(&mut self, number: u64, count: usize) -> Result<()>

@@ -11,8 +11,8 @@ ghost use Rattle.const_oid.specs.Private.Words.{IsWord};
 use crate::parts::first_len;
 use std::cmp::Ordering;
 
-#[tactic(auto, using(crate::proofs::BeginsWith::begins_iff))]
 /// Whether octets begin with others.
+#[tactic(auto, using(crate::proofs::BeginsWith::begins_iff))]
 // erase: const
 #[inline(always)]
 pub(crate) fn begins_with(octets: &[u8], prefix: &[u8]) -> bool
@@ -29,8 +29,8 @@ pub(crate) fn begins_with(octets: &[u8], prefix: &[u8]) -> bool
     are_equal(prefix, start)
 }
 
-#[tactic(auto, using(crate::proofs::Orders::after_same, crate::proofs::ByParts::same_up_to))]
 /// The first index from one on where octets are not the same, or the end. What is from there on has their orders.
+#[tactic(auto, using(crate::proofs::Orders::after_same, crate::proofs::ByParts::same_up_to))]
 #[inline(always)]
 const fn same_until(a: &[u8], b: &[u8], start: usize, end: usize) -> usize
     requires ends { end ≤ min (length a.now) (length b.now) }
@@ -74,8 +74,8 @@ pub(crate) fn are_equal(a: &[u8], b: &[u8]) -> bool
     first_unequal(a, b, len - WORD).is_none()
 }
 
-#[tactic(auto, using(crate::proofs::Words::word_by_word))]
 /// The first words that are not the same, of those that begin before an index.
+#[tactic(auto, using(crate::proofs::Words::word_by_word))]
 // erase: const
 #[inline(always)]
 fn first_unequal(a: &[u8], b: &[u8], end: usize) -> Option<(u64, u64)>
@@ -132,9 +132,9 @@ const fn are_few_equal(a: &[u8], b: &[u8]) -> bool
     true
 }
 
-#[tactic(auto, using(crate::proofs::Words::unequal_cmp))]
 /// The octets in lexicographic order: by words, where the last one overlaps, or one by one where they are
 /// fewer than a word.
+#[tactic(auto, using(crate::proofs::Words::unequal_cmp))]
 #[inline(always)]
 pub(crate) fn order(a: &[u8], b: &[u8]) -> Ordering
     ensures { result ≡ slice_cmp nat_cmp a.now b.now }
@@ -154,8 +154,8 @@ pub(crate) fn order(a: &[u8], b: &[u8]) -> Ordering
     a.len().cmp(&b.len())
 }
 
-#[tactic(auto, using(crate::proofs::Words::ended_cmp))]
 /// The octets in lexicographic order, one by one.
+#[tactic(auto, using(crate::proofs::Words::ended_cmp))]
 #[inline(always)]
 fn order_few(a: &[u8], b: &[u8]) -> Ordering
     ensures { result ≡ slice_cmp nat_cmp a.now b.now }
@@ -187,11 +187,11 @@ fn word(octets: &[u8], at: usize) -> u64
     }
 }
 
-#[tactic(auto, using(crate::proofs::ByParts::ended_parts))]
 /// The octets in the order of their parts, a shorter part first.
 ///
 /// Where they differ first, the parts begin at one index. So the part that goes on for longer from
 /// there is the longer one, and an octet that ends its part decides.
+#[tactic(auto, using(crate::proofs::ByParts::ended_parts))]
 pub(crate) fn order_by_parts(a: &[u8], b: &[u8]) -> Ordering
     ensures { result ≡ parts_cmp a.now b.now }
 {

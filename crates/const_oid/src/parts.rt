@@ -33,8 +33,8 @@ fn count_lanes(octets: &[u8]) -> usize
     lanes.to_bitmask().count_ones() as usize
 }
 
-#[tactic(auto, using(crate::proofs::PartBounds::after_more, std::proofs::lemmas::List::take_rest))]
 /// The octets after so many parts: where the next one begins, and those before it end.
+#[tactic(auto, using(crate::proofs::PartBounds::after_more, std::proofs::lemmas::List::take_rest))]
 #[inline(always)]
 pub(crate) fn skip_parts(octets: &[u8], parts: usize) -> &[u8]
     ensures { cut result.now ≡ drop parts (cut octets.now) }

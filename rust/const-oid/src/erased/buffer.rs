@@ -17,7 +17,8 @@ use core::hash::{Hash, Hasher};
 pub struct Buffer<const SIZE: usize> {
     bytes: [u8; SIZE],
     used: u8,
-    // Empty. It aligns a buffer as an `Error` is, so a `Result` of one is moved in pieces that do not overlap.
+    // Empty: it sets the alignment alone. A buffer then has the alignment of an `Error`, so in a `Result` both begin at the
+    // same offset. Without it, the compiler copies a `Result` in pieces that overlap, which takes more time.
     aligned: [u32; 0],
 }
 
@@ -40,10 +41,10 @@ impl<const SIZE: usize> Buffer<SIZE> {
         buffer
     }
 
-    /// Appends the group of a number, or returns `Length` where it does not fit.
+    /// Appends the subidentifier of a number, or returns `Length` where it does not fit.
     #[inline(always)]
     pub(crate) const fn push_group(&mut self, number: u64) -> Result<()> {
-        // With a literal length, a group is written without a loop.
+        // With a literal length, a subidentifier is written without a loop.
         match group_len(number) {
             1 => self.push_number_of_len(number, 1),
             2 => self.push_number_of_len(number, 2),
@@ -53,7 +54,7 @@ impl<const SIZE: usize> Buffer<SIZE> {
         }
     }
 
-    /// Appends the group of an arc, or returns `Length` where it does not fit. Short groups have paths of
+    /// Appends the subidentifier of an arc, or returns `Length` where it does not fit. Short ones have paths of
     /// their own, which are quicker in a single call, and slower in the loop of an encoder.
     #[inline(always)]
     pub(crate) const fn push_arc(&mut self, arc: Arc) -> Result<()> {
@@ -65,7 +66,7 @@ impl<const SIZE: usize> Buffer<SIZE> {
         }
     }
 
-    /// Appends the group of a number, which takes `count` octets, or returns `Length`.
+    /// Appends the subidentifier of a number, which takes `count` octets, or returns `Length` where it does not fit.
     #[inline(always)]
     const fn push_number_of_len(&mut self, number: u64, count: usize) -> Result<()> {
         let start = self.used as usize;
