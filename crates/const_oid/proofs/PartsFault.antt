@@ -153,17 +153,14 @@ pub first_valid : (octets : List ℕ) → parts_fault root_rule (cut octets) ≡
 first_valid [] valid = absurd (cc)
 first_valid (x ∷ xs) valid = grind (arith, nat_tests)
 
-valid_some : (octets : List ℕ) → parts_fault root_rule (cut octets) ≡ None → 0 < length octets
-valid_some [] valid = absurd (cc)
-valid_some (x ∷ xs) valid = omega arith
-
--- octets without a fault begin with a group without one
-pub not_faulty : (octets : List ℕ) → parts_fault root_rule (cut octets) ≡ None → IsFaulty (max_first root_rule) octets → ⊥
-not_faulty octets valid faulty =
-    let some = valid_some octets valid in
-    let (long, last) = faulty (first_valid octets valid) in
+-- it has five octets at most
+pub five_read : (octets : List ℕ) → 0 < length octets → IsLong octets → parts_fault root_rule (cut octets) ≡ None
+    → (5 ≤ length octets) × (value_of (take 5 octets) ≤ max_first root_rule)
+    × (later_fault (cut (drop 5 octets)) ≡ None)
+    × (map value_of (cut octets) ≡ value_of (take 5 octets) ∷ map value_of (cut (drop 5 octets)))
+five_read octets some long valid =
     let none : fault_from (max_first root_rule) (cut octets) ≡ None = grind (arith, parts_at) in
     let five : 5 ≤ length octets = grind (arith, four_open) in
     let small : value_of (take 5 octets) ≤ max_first root_rule = grind (arith, five_big) in
-    let ended : get_or octets 4 0 < 128 = grind (arith, five_open, six_big) in
-    omega (arith, last five ended)
+    let last : get_or octets 4 0 < 128 = grind (arith, five_open, six_big) in
+    (five, small, grind (arith, five_last), five_numbers octets five long last)

@@ -21,10 +21,27 @@ pub(crate) fn read_group(octets: &[u8]) -> (u64, &[u8]) {
 /// The number of the first subidentifier, which has two octets or more, and the octets after it.
 #[inline(never)]
 fn read_long_group(octets: &[u8]) -> (u64, &[u8]) {
-    match checked_group(octets, MAX_FIRST) {
-        Some(group) => group,
-        // Not reached, since the octets have no fault.
-        None => (0, octets),
+    // The arms of `checked_group` without its tests: octets without a fault pass them, and each arc would pay for them.
+    match octets {
+        [a, b, after @ ..] if *b < 128 => (add_digit(add_digit(0, *a), *b), after),
+        [a, b, c, after @ ..] if *c < 128 => {
+            (add_digit(add_digit(add_digit(0, *a), *b), *c), after)
+        }
+        [a, b, c, d, after @ ..] if *d < 128 => (
+            add_digit(add_digit(add_digit(add_digit(0, *a), *b), *c), *d),
+            after,
+        ),
+        _ => read_five(octets),
+    }
+}
+
+/// The number of the first subidentifier, which has five octets, and the octets after it.
+#[inline(always)]
+fn read_five(octets: &[u8]) -> (u64, &[u8]) {
+    match octets {
+        [_, _, _, _, _, after @ ..] => (number_of_five(octets), after),
+        // Not reached, since the last octet ends its subidentifier.
+        _ => (0, octets),
     }
 }
 
