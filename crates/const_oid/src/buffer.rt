@@ -30,6 +30,7 @@ pub struct Buffer<const SIZE: usize> {
 
 impl<const SIZE: usize> Buffer<SIZE> {
     ghost use Rattle.const_oid.specs.Buffer.{octets_of};
+    ghost use Rattle.const_oid.specs.Private.Encoder.{buffer_answer, HasEncoding};
 
     /// A buffer with no octet in use.
     pub(crate) const fn empty() -> Self
@@ -52,6 +53,21 @@ impl<const SIZE: usize> Buffer<SIZE> {
         copy_to(octets, &mut buffer.bytes);
         buffer.used = octets.len() as u8;
         buffer
+    }
+
+    /// What a function returned at 255 octets, in a longer array. Such an array holds no more octets, and could be too
+    /// large for the memory where it is filled.
+    // erase: const
+    #[inline(always)]
+    pub(crate) fn widened(short: Result<Buffer<255>>) -> Result<Self>
+        requires { 255 ≤ SIZE }
+        ensures answer { buffer_answer result ≡ buffer_answer short }
+        ensures encoding { HasEncoding short → HasEncoding result }
+    {
+        match short {
+            Ok(octets) => Ok(Buffer::copied(octets.as_bytes())),
+            Err(fault) => Err(fault),
+        }
     }
 
     /// Appends the subidentifier of a number, or returns `Length` where it does not fit.

@@ -98,14 +98,13 @@ where
         × TakesItems root_rule (min SIZE 255) I.IntoIter.next_gives iterator (buffer_answer result) }
     ensures encoding { HasEncoding result }
 {
-    // A longer array holds no more octets: an encoder of it could be too large for the memory.
     if SIZE > 255 {
-        return Ok(Buffer::copied(encode_within::<255, I>(arcs)?.as_bytes()));
+        return Buffer::widened(encode_within(arcs));
     }
     encode_within(arcs)
 }
 
-/// The same, where all of the array can be in use.
+/// The encoding of the arcs that an iterator gives, in an array that can all be in use.
 #[inline(always)]
 fn encode_within<const SIZE: usize, I: IntoIterator<Item = Arc>>(arcs: I) -> Result<Buffer<SIZE>>
 where

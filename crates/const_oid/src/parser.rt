@@ -24,12 +24,8 @@ pub(crate) fn parse<const SIZE: usize>(text: &[u8]) -> Result<Buffer<SIZE>>
     ensures answer { buffer_answer result ≡ text_answer root_rule text.now (min SIZE 255) }
     ensures encoding { HasEncoding result }
 {
-    // A longer array holds no more octets, and could be too large for the memory.
     if SIZE > 255 {
-        return match parse_within::<255>(text) {
-            Ok(octets) => Ok(Buffer::copied(octets.as_bytes())),
-            Err(fault) => Err(fault),
-        };
+        return Buffer::widened(parse_within(text));
     }
     parse_within(text)
 }

@@ -14,12 +14,8 @@ use core::result;
 /// The encoding of the identifier that a text denotes, in up to `SIZE` octets, and never past 255.
 #[inline(always)]
 pub(crate) const fn parse<const SIZE: usize>(text: &[u8]) -> Result<Buffer<SIZE>> {
-    // A longer array holds no more octets, and could be too large for the memory.
     if SIZE > 255 {
-        return match parse_within::<255>(text) {
-            Ok(octets) => Ok(Buffer::copied(octets.as_bytes())),
-            Err(fault) => Err(fault),
-        };
+        return Buffer::widened(parse_within(text));
     }
     parse_within(text)
 }
