@@ -8,12 +8,12 @@ use Rattle.std.proofs.lemmas.{Bool.Decides.nat_tests, List.{take_at, drop_more, 
 use Rattle.std.proofs.lemmas.{Int.Digits.digits_value_push, List.Splits.length-slice_split}
 use Rattle.std.proofs.lemmas.Str.Parse.{digits_value-take-le}
 use Rattle.const_oid.specs.{declared.error.Error.Error, Identifier.{RootRule, root_rule, max_arc, IsEncoding}, Items.{arc_fault, too_few_fault}}
-use Rattle.const_oid.specs.{declared.error.Error.TheVariants.{ArcInvalid, DigitExpected, Empty, Length, RepeatedDot, TrailingDot}, Error.{answer, fault_if}}
+use Rattle.const_oid.specs.{declared.error.Error.TheVariants.{ArcInvalid, DigitExpected, Length, RepeatedDot, TrailingDot}, Error.{answer, fault_if}}
 use Rattle.const_oid.specs.{Base128.width, Contents.arcs_of_octets, Private.Octets.{GoesOn, IsAppended}}
 use Rattle.const_oid.specs.Private.Parser.{dot_fault, text_pass, IsPiece, IsRoot}
 use Rattle.const_oid.specs.Text.{pieces_of, number_of, is_empty, is_one_empty, empty_fault, pieces_fault, text_answer}
 use Rattle.const_oid.proofs.Lists.{append-cons, onto_all, onto_all-first, not_empty_push, onto_all-cons, onto_all-some}
-use Rattle.const_oid.proofs.{Encodings.{arcs_of_encoding, encoding_back}, Faults.{none_from_below, some_from_above}}
+use Rattle.const_oid.proofs.{Encodings.{arcs_of_encoding, encoding_back}, Faults.none_from_below}
 use Rattle.const_oid.proofs.{Started.later_fault, Children.{encoding_two, child_encoding}}
 use Rattle.const_oid.proofs.Numbers.{number_of_digits, find-none, take_while-digits, find-digits, digit-undotted}
 
@@ -71,48 +71,48 @@ module _ (rule : RootRule) (capacity : ℕ) where
       rw (onto_all-cons digits [] [], append-nil digits) (grind (arith, nat_tests, find-none))
 
   -- a piece that a dot ends
-  dot_answer : (before digits bs : List ℕ) → all_ascii_digits digits ≡ true → number_of digits ≤ max_arc
+  dot_answer : (before digits bytes : List ℕ) → all_ascii_digits digits ≡ true → number_of digits ≤ max_arc
       → let piece = then_some (not (is_empty digits)) (number_of digits) in
-      unwrap_or (option_map (λ fault. Err fault) (dot_fault rule capacity before piece (is_empty bs)))
-      (pieces_answer rule capacity (before ++ unwrap_or piece 0 ∷ []) (pieces_of bs))
-      ≡ pieces_answer rule capacity before (digits ∷ pieces_of bs)
+      unwrap_or (option_map (λ fault. Err fault) (dot_fault rule capacity before piece (is_empty bytes)))
+      (pieces_answer rule capacity (before ++ unwrap_or piece 0 ∷ []) (pieces_of bytes))
+      ≡ pieces_answer rule capacity before (digits ∷ pieces_of bytes)
   dot_answer before digits [] are small = grind (arith, nat_tests, find-none)
-  dot_answer before digits (b ∷ bs) are small =
-      rw first_fault (grind (arith, nat_tests, find-none, empty-several, one_empty-pieces (b ∷ bs), append_assoc))
+  dot_answer before digits (byte ∷ bytes) are small =
+      rw first_fault (grind (arith, nat_tests, find-none, empty-several, one_empty-pieces (byte ∷ bytes), append_assoc))
 
-  module _ (b : ℕ) (bs : List ℕ) where
-    at_digit : is_ascii_digit b ≡ true → IsPassed bs → IsPassed (b ∷ bs)
-    at_digit d rest before digits are small =
-        let longer = digits ++ b ∷ [] in
-        let all = digits_push digits b are d in
-        rw (d, digit-undotted b d, onto_all-first digits b (pieces_of bs), ← number_push digits b are d) (⊎_elim
+  module _ (byte : ℕ) (bytes : List ℕ) where
+    at_digit : is_ascii_digit byte ≡ true → IsPassed bytes → IsPassed (byte ∷ bytes)
+    at_digit digit rest before digits are small =
+        let longer = digits ++ byte ∷ [] in
+        let all = digits_push digits byte are digit in
+        rw (digit, digit-undotted byte digit, onto_all-first digits byte (pieces_of bytes), ← number_push digits byte are digit) (⊎_elim
         (λ (big : max_arc < number_of longer).
-        let (tail, after, first) = onto_all-some digits b (pieces_of bs) in
+        let (tail, after, first) = onto_all-some digits byte (pieces_of bytes) in
         let least = rw append-cons at (number_more longer tail all) in
-        rw (lt-ltb _ _ big, first, lt-ltb max_arc (number_of (digits ++ b ∷ tail)) (omega arith)) refl)
-        (λ (fits : number_of longer ≤ max_arc). rw (le-ltb _ _ fits, not_empty_push digits b) (rest _ _ all fits))
+        rw (lt-ltb _ _ big, first, lt-ltb max_arc (number_of (digits ++ byte ∷ tail)) (omega arith)) refl)
+        (λ (fits : number_of longer ≤ max_arc). rw (le-ltb _ _ fits, not_empty_push digits byte) (rest _ _ all fits))
         (cases_lt max_arc (number_of longer)))
 
-    at_other : is_ascii_digit b ≡ false → (b == 46) ≡ false → IsPassed (b ∷ bs)
-    at_other d e before digits are small =
-        let (tail, after, first) = onto_all-some digits b (pieces_of bs) in
-        rw (d, e, onto_all-first digits b (pieces_of bs), first)
+    at_other : is_ascii_digit byte ≡ false → (byte == 46) ≡ false → IsPassed (byte ∷ bytes)
+    at_other other undotted before digits are small =
+        let (tail, after, first) = onto_all-some digits byte (pieces_of bytes) in
+        rw (other, undotted, onto_all-first digits byte (pieces_of bytes), first)
         (grind (arith, nat_tests, append-nil, number_of_digits, take_while-digits, find-digits))
 
-    at_dot : is_ascii_digit b ≡ false → (b == 46) ≡ true → IsPassed bs → IsPassed (b ∷ bs)
-    at_dot d e rest before digits are small =
-        rw (d, e, onto_all-cons digits [] (pieces_of bs), append-nil digits, rest _ [] refl (omega arith))
-        (dot_answer before digits bs are small)
+    at_dot : is_ascii_digit byte ≡ false → (byte == 46) ≡ true → IsPassed bytes → IsPassed (byte ∷ bytes)
+    at_dot other dotted rest before digits are small =
+        rw (other, dotted, onto_all-cons digits [] (pieces_of bytes), append-nil digits, rest _ [] refl (omega arith))
+        (dot_answer before digits bytes are small)
 
-    at_byte : (is_digit is_dot : Bool) → is_ascii_digit b ≡ is_digit → (b == 46) ≡ is_dot
-        → IsPassed bs → IsPassed (b ∷ bs)
-    at_byte true is_dot d e rest = at_digit d rest
-    at_byte false true d e rest = at_dot d e rest
-    at_byte false false d e rest = at_other d e
+    at_byte : (is_digit is_dot : Bool) → is_ascii_digit byte ≡ is_digit → (byte == 46) ≡ is_dot
+        → IsPassed bytes → IsPassed (byte ∷ bytes)
+    at_byte true is_dot digit dotted rest = at_digit digit rest
+    at_byte false true other dotted rest = at_dot other dotted rest
+    at_byte false false other undotted rest = at_other other undotted
 
   text_pass_is : (bytes : List ℕ) → IsPassed bytes
   text_pass_is [] = at_end
-  text_pass_is (b ∷ bs) = at_byte b bs (is_ascii_digit b) (b == 46) refl refl (text_pass_is bs)
+  text_pass_is (byte ∷ bytes) = at_byte byte bytes (is_ascii_digit byte) (byte == 46) refl refl (text_pass_is bytes)
 
 pub text_answer_is : (rule : RootRule) (capacity : ℕ) (text : List ℕ)
     → text_pass rule capacity [] false 0 text ≡ text_answer rule text capacity
@@ -121,10 +121,21 @@ text_answer_is rule capacity text = text_pass_is rule capacity text [] [] refl (
 -- ---- the arc of a piece that was read
 
 -- what comes after the piece that ends at an index
-abbrev after_piece : RootRule → ℕ → List ℕ → List ℕ → ℕ → Result (List ℕ) Error
-after_piece rule capacity text arcs end =
-    if nat_lt end (length text) then text_pass rule capacity arcs false 0 (drop (end + 1) text)
+abbrev after_piece : ℕ → List ℕ → List ℕ → ℕ → Result (List ℕ) Error
+after_piece capacity text arcs end =
+    if nat_lt end (length text) then text_pass root_rule capacity arcs false 0 (drop (end + 1) text)
     else answer (too_few_fault arcs) arcs
+
+-- the text is read up to an index, where the piece of an arc ends
+pub record IsRead (capacity : ℕ) (text before : List ℕ) (arc end : ℕ) : Type 0 where
+  pub same : text_answer root_rule text capacity ≡ text_pass root_rule capacity before true arc (drop end text)
+  pub dot : end < length text → get_or text end 0 ≡ 46
+  pub within : end ≤ length text
+
+-- the answer, by the fault of this arc
+abbrev after_arc : ℕ → List ℕ → List ℕ → ℕ → ℕ → Option Error → Result (List ℕ) Error
+after_arc capacity text before arc end None = after_piece capacity text (before ++ arc ∷ []) end
+after_arc capacity text before arc end (Some fault) = Err (if end + 1 == length text then TrailingDot else fault)
 
 empty_at : (text : List ℕ) (end : ℕ) → end ≤ length text → is_empty (drop end text) ≡ (end == length text)
 empty_at text end h = empty_by_length (drop end text) ∙ grind (arith, nat_tests, length-drop) where
@@ -132,24 +143,14 @@ empty_at text end h = empty_by_length (drop end text) ∙ grind (arith, nat_test
   empty_by_length [] = refl
   empty_by_length (b ∷ bs) = grind (arith, nat_tests)
 
-module _ (rule : RootRule) (capacity : ℕ) (text before : List ℕ) (arc end : ℕ)
-    (at : text_answer rule text capacity ≡ text_pass rule capacity before true arc (drop end text))
-    (dot : end < length text → get_or text end 0 ≡ 46) (within : end ≤ length text) where
-  pub arc_refused : (fault : Error) → arc_fault rule capacity before arc ≡ Some fault
-      → text_answer rule text capacity ≡ Err (if end + 1 == length text then TrailingDot else fault)
-  arc_refused fault h = ⊎_elim
-      (λ (less : end < length text). at ∙ rw (drop_more text end 0 less, dot less)
-      (grind (arith, nat_tests, empty_at text (end + 1) (omega (arith, less)))))
-      (λ (last : length text ≤ end). at ∙ rw (drop_all end text last) (grind (arith, nat_tests)))
-      (cases_lt end (length text))
-
-  pub arc_taken : arc_fault rule capacity before arc ≡ None
-      → text_answer rule text capacity ≡ after_piece rule capacity text (before ++ arc ∷ []) end
-  arc_taken h = ⊎_elim
-      (λ (less : end < length text). at ∙ rw (drop_more text end 0 less, dot less)
-      (grind (arith, nat_tests)))
-      (λ (last : length text ≤ end). at ∙ rw (drop_all end text last) (grind (arith, nat_tests)))
-      (cases_lt end (length text))
+pub arc_read : {capacity : ℕ} {text before : List ℕ} {arc end : ℕ} (fault : Option Error)
+    → IsRead capacity text before arc end → arc_fault root_rule capacity before arc ≡ fault
+    → text_answer root_rule text capacity ≡ after_arc capacity text before arc end fault
+arc_read {text} {end} fault read is = ⊎_elim
+    (λ (less : end < length text). read.same ∙ rw (drop_more text end 0 less, read.dot less)
+    (grind (arith, nat_tests, empty_at text (end + 1) (omega (arith, less)))))
+    (λ (last : length text ≤ end). read.same ∙ rw (drop_all end text last) (grind (arith, nat_tests, read.within)))
+    (cases_lt end (length text))
 
 -- ---- the first piece
 
@@ -160,72 +161,70 @@ pub first_digit : (text : List ℕ) (start first : ℕ) → start < length text
     ≡ text_pass root_rule capacity before true first (drop (start + 1) text)
 first_digit text start first less e capacity before = rw (drop_more text start 0 less) (grind (arith, nat_tests))
 
-module _ (text : List ℕ) (first end : ℕ) (piece : IsPiece text 0 first end) (capacity : ℕ) where
-  first_read : text_answer root_rule text capacity ≡ text_pass root_rule capacity [] true first (drop end text)
-  first_read = sym (text_answer_is root_rule capacity text) ∙ piece.0.same capacity []
+pub first_read : {text : List ℕ} {first end : ℕ} (capacity : ℕ) → IsPiece text 0 first end
+    → IsRead capacity text [] first end
+first_read {text} capacity piece = record {
+  same = sym (text_answer_is root_rule capacity text) ∙ piece.0.same capacity [];
+  dot = piece.1;
+  within = piece.0.within;
+}
 
-  pub first_refused : 2 < first
-      → text_answer root_rule text capacity ≡ Err (if end + 1 == length text then TrailingDot else ArcInvalid first)
-  first_refused high = arc_refused root_rule capacity text [] first end first_read piece.1 piece.0.within (ArcInvalid first)
-      (some_from_above 2 first (ArcInvalid first) high)
+pub first_taken : {text : List ℕ} {first end : ℕ} (capacity : ℕ) → IsPiece text 0 first end → first ≤ 2
+    → text_answer root_rule text capacity ≡ after_piece capacity text (first ∷ []) end
+first_taken {first} capacity piece low =
+    arc_read None (first_read capacity piece) (none_from_below 2 first (ArcInvalid first) low)
 
-  first_after : first ≤ 2 → text_answer root_rule text capacity ≡ after_piece root_rule capacity text (first ∷ []) end
-  first_after low = arc_taken root_rule capacity text [] first end first_read piece.1 piece.0.within
-      (none_from_below 2 first (ArcInvalid first) low)
+-- ---- a later piece
 
-  pub first_alone : first ≤ 2 → length text ≤ end → text_answer root_rule text capacity ≡ Err Empty
-  first_alone low last = first_after low ∙ rw (le-ltb _ _ last) refl
-
-  pub first_taken : first ≤ 2 → end < length text
-      → text_answer root_rule text capacity ≡ text_pass root_rule capacity (first ∷ []) false 0 (drop (end + 1) text)
-  first_taken low less = first_after low ∙ rw (lt-ltb _ _ less) refl
+pub later_read : {capacity : ℕ} {text arcs : List ℕ} {arc place end : ℕ}
+    → text_answer root_rule text capacity ≡ after_piece capacity text arcs place → place < length text
+    → IsPiece text (place + 1) arc end → IsRead capacity text arcs arc end
+later_read {capacity} {arcs} taken less piece = record {
+  same = taken ∙ rw (lt-ltb _ _ less) (piece.0.same capacity arcs);
+  dot = piece.1;
+  within = piece.0.within;
+}
 
 -- ---- the octets of the pieces so far
 
-pub record IsReadTo (rule : RootRule) (capacity : ℕ) (text octets : List ℕ) (end : ℕ) : Type 0 where
-  pub encoding : IsEncoding rule (arcs_of_octets octets) octets
-  pub answer : text_answer rule text capacity ≡ after_piece rule capacity text (arcs_of_octets octets) end
+pub record IsReadTo (capacity : ℕ) (text octets : List ℕ) (end : ℕ) : Type 0 where
+  pub encoding : IsEncoding root_rule (arcs_of_octets octets) octets
+  pub answer : text_answer root_rule text capacity ≡ after_piece capacity text (arcs_of_octets octets) end
 
 -- what becomes of them by a piece, whose group is appended or does not fit
-abbrev pub BecomesBy : RootRule → ℕ → List ℕ → List ℕ → ℕ → Result (Unit {0}) Error → Type 0
-BecomesBy rule capacity text longer end result = MatchResult result (λ _. IsReadTo rule capacity text longer end)
-    (λ fault. text_answer rule text capacity ≡ Err (if end + 1 == length text then TrailingDot else fault))
+abbrev pub BecomesBy : ℕ → List ℕ → List ℕ → ℕ → Result (Unit {0}) Error → Type 0
+BecomesBy capacity text longer end result = MatchResult result (λ _. IsReadTo capacity text longer end)
+    (λ fault. text_answer root_rule text capacity ≡ Err (if end + 1 == length text then TrailingDot else fault))
 
-module _ (rule : RootRule) (capacity : ℕ) (text before octets longer : List ℕ) (arc number end : ℕ)
-    (at : text_answer rule text capacity ≡ text_pass rule capacity before true arc (drop end text))
-    (dot : end < length text → get_or text end 0 ≡ 46) (within : end ≤ length text)
-    (fault_is : arc_fault rule capacity before arc ≡ fault_if (nat_lt capacity (length octets + width number)) Length)
-    (encoding : GoesOn number octets longer → IsEncoding rule (before ++ arc ∷ []) longer) where
+module _ (capacity : ℕ) (text before octets longer : List ℕ) (arc number end : ℕ)
+    (read : IsRead capacity text before arc end)
+    (fault_is : arc_fault root_rule capacity before arc ≡ fault_if (nat_lt capacity (length octets + width number)) Length)
+    (encoding : GoesOn number octets longer → IsEncoding root_rule (before ++ arc ∷ []) longer) where
   becomes : (result : Result (Unit {0}) Error) → IsAppended capacity number octets longer result
-      → BecomesBy rule capacity text longer end result
-  becomes (Ok x) (fits, on) =
+      → BecomesBy capacity text longer end result
+  becomes (Ok done) (fits, on) =
       let none = fault_is ∙ none_from_below capacity (length octets + width number) Length fits in
-      let e = encoding on in
-      record {
-        encoding = encoding_back e;
-        answer = rw (arcs_of_encoding e) (arc_taken rule capacity text before arc end at dot within none);
-      }
+      let read_on = encoding on in
+      record { encoding = encoding_back read_on; answer = rw (arcs_of_encoding read_on) (arc_read None read none) }
   becomes (Err fault) (is, long, same) =
-      arc_refused rule capacity text before arc end at dot within fault
-      (fault_is ∙ rw (lt-ltb capacity (length octets + width number) long, is) refl)
+      arc_read (Some fault) read (fault_is ∙ rw (lt-ltb capacity (length octets + width number) long, is) refl)
 
 module _ (capacity : ℕ) (text : List ℕ) where
   pub root_becomes : (longer : List ℕ) (number end : ℕ) (result : Result (Unit {0}) Error) → IsRoot text number end
-      → IsAppended capacity number [] longer result → BecomesBy root_rule capacity text longer end result
+      → IsAppended capacity number [] longer result → BecomesBy capacity text longer end result
   root_becomes longer number end result root =
       let first = root.first in
       let second = root.second in
-      becomes root_rule capacity text (first ∷ []) [] longer second number end
-      (root.same capacity) root.dot root.within
+      becomes capacity text (first ∷ []) [] longer second number end
+      (record { same = root.same capacity; dot = root.dot; within = root.within })
       (grind (arith, nat_tests, none_from_below, root.number, root.high))
       (λ (group, is, on). rw on (encoding_two root_rule first second group root.low root.high (rw root.number at is))) result
 
   pub later_becomes : (octets longer : List ℕ) (arc place end : ℕ) (result : Result (Unit {0}) Error)
-      → IsReadTo root_rule capacity text octets place → place < length text → IsPiece text (place + 1) arc end
-      → IsAppended capacity arc octets longer result → BecomesBy root_rule capacity text longer end result
+      → IsReadTo capacity text octets place → place < length text → IsPiece text (place + 1) arc end
+      → IsAppended capacity arc octets longer result → BecomesBy capacity text longer end result
   later_becomes octets longer arc place end result read less piece =
       let arcs = arcs_of_octets octets in
-      becomes root_rule capacity text arcs octets longer arc arc end
-      (read.answer ∙ rw (lt-ltb _ _ less) (piece.0.same capacity arcs)) piece.1 piece.0.within
+      becomes capacity text arcs octets longer arc arc end (later_read read.answer less piece)
       (later_fault root_rule octets arcs arc capacity read.encoding)
       (λ on. child_encoding longer arc read.encoding piece.0.small on) result

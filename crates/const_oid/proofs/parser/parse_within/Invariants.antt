@@ -1,11 +1,11 @@
 use Rattle.std.proofs.Common.{length, ◌-◌, ◌≤◌, min}
-use Rattle.const_oid.specs.{Buffer.octets_of, Identifier.root_rule}
+use Rattle.const_oid.specs.Buffer.{octets_of}
 use Rattle.const_oid.proofs.TextPass.{IsReadTo}
 use Rattle.const_oid.proofs.parser.parse_within.Given as goal
 
 abbrev pub invariant-loop-end : goal.invariant-loop-end
 invariant-loop-end g l = record {
-  read : IsReadTo root_rule (min g.row.SIZE 255) l.text (octets_of l.octets) l.end;
+  read : IsReadTo (min g.row.SIZE 255) l.text (octets_of l.octets) l.end;
   within : l.end ≤ length l.text;
 }
 
