@@ -1,12 +1,15 @@
--- Dotted text.
-use Rattle.std.specs.Prelude.{◌≡◌, ℕ, ◌<◌, Bool, true, false, not, List, [], ◌∷◌, ◌++◌, length, map, decimal, nat_lt, ◌==◌, if◌then◌else◌, Option, Result, take_while, find}
+-- Dotted text, and a text in an output.
+use Rattle.std.specs.Prelude.{◌≡◌, ℕ, ◌<◌, Bool, true, false, not, List, [], ◌∷◌, ◌++◌, length, map, take, drop, decimal, nat_lt, ◌==◌, if◌then◌else◌, Option, IfSome, MatchOption, Result, take_while, find}
+use Rattle.std.specs.Borrow.{Bor}
 use Rattle.std.specs.List.{slice_split, join_with_byte, AllByRecursion}
 use Rattle.std.specs.Str.{all_ascii_digits}
 use Rattle.std.specs.Option.{option_or, option_map}
+use Rattle.std.specs.Result.{result_map_both}
 use Rattle.std.specs.Char.{is_ascii_digit}
 use Rattle.std.specs.Str.Parse.{digits_value}
 use Rattle.const_oid.specs.declared.error.Error.{Error}
 use Rattle.const_oid.specs.declared.error.Error.TheVariants.{ArcTooBig, DigitExpected, Empty, RepeatedDot, TrailingDot}
+use Rattle.const_oid.specs.Contents.{octet_answer, borrowed_capacity}
 use Rattle.const_oid.specs.Identifier.{RootRule, max_arc, IsIdentifier}
 use Rattle.const_oid.specs.Error.{fault_if, answer}
 use Rattle.const_oid.specs.Items.{arc_fault, too_few_fault}
@@ -88,3 +91,23 @@ strip text = join_with_byte dot (map strip_piece (pieces_of text))
 -- what the text is read as at a capacity: its fault, or the numbers of its pieces
 abbrev pub text_answer : RootRule → List ℕ → ℕ → Result (List ℕ) Error
 text_answer rule text capacity = answer (text_fault rule text capacity) (map number_of (pieces_of text))
+
+-- the result is the length of a text, or None exactly where the text is longer than the output
+abbrev pub ReturnsLength : List ℕ → List ℕ → Option ℕ → Type 0
+ReturnsLength text out result = MatchOption result (length out < length text) (λ len. len ≡ length text)
+
+-- the result is the text, or None exactly where the text is longer than the output
+abbrev pub ReturnsText : List ℕ → List ℕ → Option (Bor (List ℕ)) → Type 0
+ReturnsText text out result = MatchOption result (length out < length text) (λ written. written.now ≡ text)
+
+-- where a length is returned, the new output is the text, and then the old bytes
+abbrev pub WritesText : List ℕ → List ℕ → List ℕ → Option ℕ → Type 0
+WritesText text old new result = IfSome result (λ len. new ≡ text ++ drop len old)
+
+-- what octets of any length are printed as: their fault, or the text of their arcs
+abbrev pub octet_text : RootRule → List ℕ → Result (List ℕ) Error
+octet_text rule octets = result_map_both text_of (λ fault. fault) (octet_answer rule octets borrowed_capacity)
+
+-- the text that a length stands for: that many bytes of the output
+abbrev pub text_in : List ℕ → Result ℕ Error → Result (List ℕ) Error
+text_in out written = result_map_both (λ len. take len out) (λ fault. fault) written

@@ -1,6 +1,7 @@
 //! The errors of this crate.
-ghost use Rattle.std.specs.Prelude.{◌≡◌, ◌+◌, ◌<◌, ◌≤◌, ◌++◌, length, take, drop, None, Some, IfSome, IsSome, MatchOption};
+ghost use Rattle.std.specs.Prelude.{◌≡◌, ◌+◌, ◌<◌, ◌≤◌, ◌++◌, length, take, drop, None, Some, IfSome, IsSome};
 ghost use Rattle.std.specs.Str.{IsUtf8};
+ghost use Rattle.const_oid.specs.Text.{ReturnsLength, ReturnsText, WritesText};
 
 use crate::Arc;
 use crate::digits::{arc_len, write_arc};
@@ -68,8 +69,8 @@ impl Error {
     /// where it is longer than `out`, which is then unchanged.
     #[inline(always)]
     pub fn encode_text(self, out: &mut [u8]) -> Option<usize>
-        ensures cases { MatchOption result (length out.old < length (message_of self)) (λ len. len ≡ length (message_of self)) }
-        ensures written { IfSome result (λ len. out.new ≡ message_of self ++ drop len out.old) }
+        ensures cases { ReturnsLength (message_of self) out.old result }
+        ensures written { WritesText (message_of self) out.old out.new result }
         ensures kept { result ≡ None → out.new ≡ out.old }
         ensures enough { 47 ≤ length out.old → IsSome result }
         ensures utf8 { IfSome result (λ _. IsUtf8 (message_of self)) }
@@ -86,7 +87,7 @@ impl Error {
     /// Writes the text as [`encode_text`](Self::encode_text) does, and borrows it as a `str`.
     #[tactic(auto, using(crate::proofs::Sets::bytes_put))]
     pub fn encode_str<'o>(self, out: &'o mut [u8]) -> Option<&'o str>
-        ensures cases { MatchOption result (length out.old < length (message_of self)) (λ text. text.now ≡ message_of self) }
+        ensures cases { ReturnsText (message_of self) out.old result }
         ensures enough { 47 ≤ length out.old → IsSome result }
     {
         let len = self.encode_text(out)?;

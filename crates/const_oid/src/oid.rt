@@ -1,13 +1,13 @@
 //! Owned object identifiers.
 
-ghost use Rattle.std.specs.Prelude.{◌≡◌, ◌*◌, ◌<◌, ◌≤◌, ◌↔◌, ◌++◌, length, drop, min, slice_get, None, Some, IfOk, IfSome, IsSome, IsTrue, MatchOption, MatchResult};
+ghost use Rattle.std.specs.Prelude.{◌≡◌, ◌*◌, ◌<◌, ◌≤◌, ◌↔◌, length, min, slice_get, None, Some, IfOk, IsSome, IsTrue, MatchResult};
 ghost use Rattle.std.specs.Iterator.{IsFiniteIterable};
 ghost use Rattle.std.specs.Cmp.Lexicographic.{slice_cmp};
 ghost use Rattle.std.specs.Option.{option_map};
 ghost use Rattle.std.specs.Ordering.{nat_cmp};
 ghost use Rattle.const_oid.specs.Buffer.{octets_of};
 ghost use Rattle.const_oid.specs.Contents.{cut, parts_fault, octet_answer};
-ghost use Rattle.const_oid.specs.Text.{text_of, text_fault, text_answer, Denotes};
+ghost use Rattle.const_oid.specs.Text.{text_of, text_fault, text_answer, Denotes, ReturnsLength, ReturnsText, WritesText};
 ghost use Rattle.const_oid.specs.Identifier.{root_rule, usual_capacity, IsEncoding, size};
 ghost use Rattle.const_oid.specs.Items.{TakesItems};
 ghost use Rattle.const_oid.specs.Tree.{BeginsWith, child_of, parent_of};
@@ -269,8 +269,8 @@ impl<const MAX_SIZE: usize> ObjectIdentifier<MAX_SIZE> {
     /// Writes the text that `{}` writes at the start of `out`, and returns its length. Returns `None`
     /// if it is longer than `out`, which is then unchanged.
     pub fn encode_text(&self, out: &mut [u8]) -> Option<usize>
-        ensures cases { MatchOption result (length out.old < length (text_of (oid_arcs self.now))) (λ len. len ≡ length (text_of (oid_arcs self.now))) }
-        ensures written { IfSome result (λ len. out.new ≡ text_of (oid_arcs self.now) ++ drop len out.old) }
+        ensures cases { ReturnsLength (text_of (oid_arcs self.now)) out.old result }
+        ensures written { WritesText (text_of (oid_arcs self.now)) out.old out.new result }
         ensures kept { result ≡ None → out.new ≡ out.old }
         ensures enough { 4 * min MAX_SIZE 255 ≤ length out.old → IsSome result }
     {
@@ -279,7 +279,7 @@ impl<const MAX_SIZE: usize> ObjectIdentifier<MAX_SIZE> {
 
     /// Writes the text as [`encode_text`](Self::encode_text) does, and borrows it as a `str`.
     pub fn encode_str<'o>(&self, out: &'o mut [u8]) -> Option<&'o str>
-        ensures cases { MatchOption result (length out.old < length (text_of (oid_arcs self.now))) (λ text. text.now ≡ text_of (oid_arcs self.now)) }
+        ensures cases { ReturnsText (text_of (oid_arcs self.now)) out.old result }
         ensures enough { 4 * min MAX_SIZE 255 ≤ length out.old → IsSome result }
     {
         self.as_oid_ref().encode_str(out)

@@ -1,7 +1,6 @@
 //! Borrowed object identifiers.
-ghost use Rattle.std.specs.Prelude.{◌≡◌, ◌*◌, ◌≤◌, ◌<◌, ◌↔◌, ◌++◌, ◌+◌, ℕ, length, take, drop, min, slice_get, count_by, None, Some, IfOk, IfSome, IsSome, IsTrue, MatchOption};
+ghost use Rattle.std.specs.Prelude.{◌≡◌, ◌*◌, ◌≤◌, ◌<◌, ◌↔◌, ◌+◌, ℕ, length, min, slice_get, count_by, None, Some, IfOk, IfSome, IsSome, IsTrue, MatchOption};
 ghost use Rattle.std.specs.Option.{option_map};
-ghost use Rattle.std.specs.Result.{result_map_both};
 ghost use Rattle.std.specs.Cmp.Lexicographic.{slice_cmp};
 ghost use Rattle.std.specs.List.Sorted.{IsSortedByKey};
 ghost use Rattle.std.specs.Ordering.{nat_cmp, is_lt};
@@ -9,7 +8,7 @@ ghost use Rattle.std.proofs.Props.{props};
 ghost use Rattle.const_oid.specs.Base128.{AreOctets};
 ghost use Rattle.const_oid.specs.Contents.{cut, parts_fault, octet_answer, borrowed_capacity};
 ghost use Rattle.const_oid.specs.Identifier.{root_rule, IsEncoding};
-ghost use Rattle.const_oid.specs.Text.{text_of};
+ghost use Rattle.const_oid.specs.Text.{text_of, text_in, octet_text, ReturnsLength, ReturnsText, WritesText};
 
 use crate::Arc;
 use crate::arcs::{Arcs, arc_at};
@@ -109,8 +108,8 @@ impl<'a> ObjectIdentifierRef<'a> {
     /// Writes the text that `{}` writes at the start of `out`, and returns its length. Returns `None`
     /// where it is longer than `out`, which is then unchanged.
     pub fn encode_text(&self, out: &mut [u8]) -> Option<usize>
-        ensures cases { MatchOption result (length out.old < length (text_of (ref_arcs self.now))) (λ len. len ≡ length (text_of (ref_arcs self.now))) }
-        ensures written { IfSome result (λ len. out.new ≡ text_of (ref_arcs self.now) ++ drop len out.old) }
+        ensures cases { ReturnsLength (text_of (ref_arcs self.now)) out.old result }
+        ensures written { WritesText (text_of (ref_arcs self.now)) out.old out.new result }
         ensures kept { result ≡ None → out.new ≡ out.old }
         ensures enough { 4 * length (ref_octets self.now) ≤ length out.old → IsSome result }
     {
@@ -123,7 +122,7 @@ impl<'a> ObjectIdentifierRef<'a> {
 
     /// Writes the text as [`encode_text`](Self::encode_text) does, and borrows it as a `str`.
     pub fn encode_str<'o>(&self, out: &'o mut [u8]) -> Option<&'o str>
-        ensures cases { MatchOption result (length out.old < length (text_of (ref_arcs self.now))) (λ text. text.now ≡ text_of (ref_arcs self.now)) }
+        ensures cases { ReturnsText (text_of (ref_arcs self.now)) out.old result }
         ensures enough { 4 * length (ref_octets self.now) ≤ length out.old → IsSome result }
     {
         let len = self.encode_text(out)?;
@@ -135,7 +134,8 @@ impl<'a> ObjectIdentifierRef<'a> {
     /// where `out` has less than four bytes an octet and eleven more. On `Err`, `out` may be changed.
     #[inline(always)]
     pub fn text_from_bytes(ber: &[u8], out: &mut [u8]) -> Option<Result<usize>>
-        ensures answer { MatchOption result (length out.old < 4 * length ber.now + 11) (λ written. (4 * length ber.now + 11 ≤ length out.old) × (result_map_both (λ len. take len out.new) (λ fault. fault) written ≡ result_map_both text_of (λ fault. fault) (octet_answer root_rule ber.now borrowed_capacity))) }
+        ensures room { MatchOption result (length out.old < 4 * length ber.now + 11) (λ _. 4 * length ber.now + 11 ≤ length out.old) }
+        ensures answer { IfSome result (λ written. text_in out.new written ≡ octet_text root_rule ber.now) }
         ensures within { IfSome result (λ written. IfOk written (λ len. len ≤ length out.new)) }
         ensures kept { result ≡ None → out.new ≡ out.old }
     {
