@@ -36,7 +36,7 @@ name_of entry = entry.1
 abbrev pub has_arcs : {Oid : Type 0} → (Oid → List ℕ) → List ℕ → Entry Oid → Bool
 has_arcs arcs_of arcs entry = pointwise nat_eq (arcs_of (oid_of entry)) arcs
 
--- its name is the same once the ASCII letters are folded
+-- its name is the same, ignoring ASCII case
 abbrev pub has_name : {Oid : Type 0} → List ℕ → Entry Oid → Bool
 has_name name entry = str_eq_ignore_ascii_case (name_of entry).now name
 
@@ -48,7 +48,7 @@ first_name arcs_of entries arcs = option_map name_of (find (has_arcs arcs_of arc
 abbrev pub all_names : {Oid : Type 0} → (Oid → List ℕ) → List (Entry Oid) → List ℕ → List (Bor (List ℕ))
 all_names arcs_of entries arcs = map name_of (filter (has_arcs arcs_of arcs) entries)
 
--- the identifier that the first entry of this name has
+-- the identifier in the first entry with this name
 abbrev pub first_oid : {Oid : Type 0} → List (Entry Oid) → List ℕ → Option Oid
 first_oid entries name = option_map oid_of (find (has_name name) entries)
 
@@ -72,7 +72,7 @@ names_left names = all_names lent_arcs names.left.now (oid_arcs names.oid)
 abbrev pub ref_names_left : RefNames → List (Bor (List ℕ))
 ref_names_left names = all_names ref_arcs names.left.now (ref_arcs names.oid)
 
--- the name of the first entry with these arcs, or a text where there is no such entry
+-- the name in the first entry with these arcs, or a text if there is no such entry
 abbrev pub name_or : List (Entry (Bor (ObjectIdentifier 39))) → Bor (List ℕ) → List ℕ → Bor (List ℕ)
 name_or entries text arcs = unwrap_or (first_name lent_arcs entries arcs) text
 
@@ -89,17 +89,17 @@ entry_arcs entry = ref_arcs (oid_of entry)
 abbrev pub sorted_entries_of : SortedDatabase → List (Entry ObjectIdentifierRef)
 sorted_entries_of database = database.entries.now
 
--- the item is the nearest one to arcs, by the arcs of an item: they begin with its own, of which it is the first item, and its own begin with all others that they begin with
+-- the item has the longest prefix of the arcs: its own arcs are a prefix of them, it is the first item with its arcs, and each item whose arcs are a prefix of them has a prefix of its own
 pub record IsNearestBy {Item : Type 0} (arcs_of : Item → List ℕ) (items : List Item) (arcs : List ℕ) (item : Item) : Type 0 where
   pub begins : BeginsWith arcs (arcs_of item)
   pub first : find (λ other. pointwise nat_eq (arcs_of other) (arcs_of item)) items ≡ Some item
   pub longest : All (λ other. BeginsWith arcs (arcs_of other) → BeginsWith (arcs_of item) (arcs_of other)) items
 
--- the entry is the nearest one to arcs
+-- the entry has the longest prefix of the arcs
 abbrev pub IsNearest : List (Entry ObjectIdentifierRef) → List ℕ → Entry ObjectIdentifierRef → Type 0
 IsNearest = IsNearestBy entry_arcs
 
--- these are the entries that begin with arcs: the table has them in a row, and no others begin so
+-- these are the entries that begin with the arcs: they are adjacent in the table, and no other entry begins so
 pub record IsSubtree (entries : List (Entry ObjectIdentifierRef)) (arcs : List ℕ) (subtree : List (Entry ObjectIdentifierRef)) : Type 0 where
   pub before : List (Entry ObjectIdentifierRef)
   pub after : List (Entry ObjectIdentifierRef)

@@ -14,6 +14,6 @@ oid_octets oid = octets_of oid.ber
 abbrev pub oid_arcs : {N : ℕ} → ObjectIdentifier N → List ℕ
 oid_arcs oid = arcs_of_octets (oid_octets oid)
 
--- what a call returns, by the arcs of the identifier
+-- the result of a function, by the arcs of the identifier
 abbrev pub oid_answer : {N : ℕ} → Result (ObjectIdentifier N) Error → Result (List ℕ) Error
 oid_answer result = result_map_both oid_arcs (λ fault. fault) result

@@ -23,6 +23,6 @@ ref_arcs oid = arcs_of_octets (ref_octets oid)
 abbrev pub key_arcs : ByArcs → List ℕ
 key_arcs key = ref_arcs key.0
 
--- what a call returns, by the arcs of the identifier
+-- the result of a function, by the arcs of the identifier
 abbrev pub ref_answer : Result ObjectIdentifierRef Error → Result (List ℕ) Error
 ref_answer result = result_map_both ref_arcs (λ fault. fault) result

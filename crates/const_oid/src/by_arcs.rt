@@ -5,9 +5,9 @@ ghost use Rattle.std.specs.Prelude.{◌≡◌, ◌↔◌, IsTrue};
 use crate::oid_ref::ObjectIdentifierRef;
 use std::cmp::Ordering;
 
-/// A borrowed identifier as a key whose order is that of its arcs.
+/// A borrowed identifier whose `Ord` is the lexicographic order of arcs, in which SNMP sorts names (RFC 3416).
 ///
-/// SNMP orders names so (RFC 3416). It is a key for maps and for `sort_by_key`.
+/// It is a key for sorted maps and for `sort_by_key`.
 #[derive(Copy, Clone)]
 pub struct ByArcs<'a>(pub ObjectIdentifierRef<'a>);
 

@@ -12,8 +12,8 @@ use crate::parts::first_len;
 use std::cmp::Ordering;
 
 /// Whether octets begin with others.
-#[tactic(auto, using(crate::proofs::BeginsWith::begins_iff))]
 // erase: const
+#[tactic(auto, using(crate::proofs::BeginsWith::begins_iff))]
 #[inline(always)]
 pub(crate) fn begins_with(octets: &[u8], prefix: &[u8]) -> bool
     ensures { IsTrue result ↔ ((rest : List ℕ) × (octets.now ≡ prefix.now ++ rest)) }
@@ -23,13 +23,14 @@ pub(crate) fn begins_with(octets: &[u8], prefix: &[u8]) -> bool
     }
     let (start, _) = octets.split_at(prefix.len());
     if prefix.len() < WORD {
-        // The first one first, since most identifiers begin with a prefix or differ from its start on.
+        // The first octet first, since most identifiers begin with a prefix or differ at its start.
         return same_until(prefix, start, 0, prefix.len()) == prefix.len();
     }
     are_equal(prefix, start)
 }
 
-/// The first index from one on where octets are not the same, or the end. What is from there on has their orders.
+/// The first index from `start` on at which the octets differ, or `end`. The octets from there on have the orders of
+/// all octets.
 #[tactic(auto, using(crate::proofs::Orders::after_same, crate::proofs::ByParts::same_up_to))]
 #[inline(always)]
 const fn same_until(a: &[u8], b: &[u8], start: usize, end: usize) -> usize
@@ -51,8 +52,8 @@ const fn same_until(a: &[u8], b: &[u8], start: usize, end: usize) -> usize
     end
 }
 
-/// Whether octets are the same: the last one first, since most pairs differ there, then by words, where
-/// the last one overlaps and comes first, or one by one where they are fewer than a word.
+/// Whether octets are the same. The last octet is compared first, since most pairs differ there, then the last word,
+/// and then the words before it, which may overlap it. Fewer octets than a word are compared one by one.
 // erase: const
 #[inline(always)]
 pub(crate) fn are_equal(a: &[u8], b: &[u8]) -> bool
@@ -74,9 +75,9 @@ pub(crate) fn are_equal(a: &[u8], b: &[u8]) -> bool
     first_unequal(a, b, len - WORD).is_none()
 }
 
-/// The first words that are not the same, of those that begin before an index.
-#[tactic(auto, using(crate::proofs::Words::word_by_word))]
+/// The first two words that differ, of those that begin before `end`.
 // erase: const
+#[tactic(auto, using(crate::proofs::Words::word_by_word))]
 #[inline(always)]
 fn first_unequal(a: &[u8], b: &[u8], end: usize) -> Option<(u64, u64)>
     requires in_a { end + 8 ≤ length a.now }
@@ -95,7 +96,7 @@ fn first_unequal(a: &[u8], b: &[u8], end: usize) -> Option<(u64, u64)>
     None
 }
 
-/// Whether as many octets are the same, without a branch for each word: for arrays, whose few words the
+/// Whether slices of one length have the same octets, without a branch for each word: for arrays, whose few words the
 /// compiler compares at once.
 // erase: const
 #[inline(always)]
@@ -116,7 +117,7 @@ pub(crate) fn are_arrays_equal(a: &[u8], b: &[u8]) -> bool
     same & (word(a, len - WORD) == word(b, len - WORD))
 }
 
-/// Whether as many octets are the same: the last one first, since most pairs differ there.
+/// Whether slices of one length have the same octets: the last one first, since most pairs differ there.
 #[inline(always)]
 const fn are_few_equal(a: &[u8], b: &[u8]) -> bool
     requires { length a.now ≡ length b.now }
@@ -132,8 +133,8 @@ const fn are_few_equal(a: &[u8], b: &[u8]) -> bool
     true
 }
 
-/// The octets in lexicographic order: by words, where the last one overlaps, or one by one where they are
-/// fewer than a word.
+/// The lexicographic order of octets: by words, of which the last may overlap the one before, or one by one where there
+/// are fewer than a word has.
 #[tactic(auto, using(crate::proofs::Words::unequal_cmp))]
 #[inline(always)]
 pub(crate) fn order(a: &[u8], b: &[u8]) -> Ordering
@@ -154,7 +155,7 @@ pub(crate) fn order(a: &[u8], b: &[u8]) -> Ordering
     a.len().cmp(&b.len())
 }
 
-/// The octets in lexicographic order, one by one.
+/// The lexicographic order of octets, one by one.
 #[tactic(auto, using(crate::proofs::Words::ended_cmp))]
 #[inline(always)]
 fn order_few(a: &[u8], b: &[u8]) -> Ordering
@@ -171,8 +172,7 @@ fn order_few(a: &[u8], b: &[u8]) -> Ordering
 /// How many octets a word has.
 const WORD: usize = 8;
 
-/// The eight octets from an index on as a number, the first one the most significant: so words have the
-/// lexicographic order of their octets.
+/// The eight octets from an index on as a big-endian number: so words have the lexicographic order of their octets.
 // erase: const
 #[inline(always)]
 fn word(octets: &[u8], at: usize) -> u64
@@ -187,10 +187,10 @@ fn word(octets: &[u8], at: usize) -> u64
     }
 }
 
-/// The octets in the order of their parts, a shorter part first.
+/// The lexicographic order of the parts of octets, a shorter part first.
 ///
-/// Where they differ first, the parts begin at one index. So the part that goes on for longer from
-/// there is the longer one, and an octet that ends its part decides.
+/// At the first octet that differs, both parts began at the same index. So the part with more octets left is the longer
+/// one, and an octet that ends its part decides.
 #[tactic(auto, using(crate::proofs::ByParts::ended_parts))]
 pub(crate) fn order_by_parts(a: &[u8], b: &[u8]) -> Ordering
     ensures { result ≡ parts_cmp a.now b.now }

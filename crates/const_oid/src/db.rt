@@ -12,7 +12,8 @@ pub use crate::db_sorted::SortedDatabase;
 use crate::error::Result;
 use crate::oid::Oid;
 
-/// A table of identifiers and their names, in any order. Both may be in it more than once.
+/// A table of identifiers and their names, in any order. An identifier may have several names, and a name several
+/// identifiers.
 ///
 /// Names are compared without regard to ASCII case.
 #[derive(Copy, Clone)]

@@ -9,8 +9,8 @@ use crate::compare::is_same_name;
 use crate::db_sorted::has_ref;
 use crate::oid_ref::ObjectIdentifierRef;
 
-/// A table of borrowed identifiers and their names, as a constant can hold it. Both may be in it
-/// more than once, and names are the same as in a [`Database`](crate::db::Database).
+/// A table of borrowed identifiers and their names, in any order, which a constant can hold. An identifier may have
+/// several names, and a name several identifiers. Names are compared as in a [`Database`](crate::db::Database).
 #[derive(Copy, Clone)]
 pub struct RefDatabase<'a> {
     entries: &'a [(ObjectIdentifierRef<'a>, &'a str)],
@@ -24,7 +24,7 @@ impl<'a> RefDatabase<'a> {
         RefDatabase { entries }
     }
 
-    /// The name that the first entry of this identifier has, or `None` without such an entry.
+    /// The name in the first entry with this identifier, or `None` if there is no such entry.
     pub fn by_oid(&self, oid: &ObjectIdentifierRef<'_>) -> Option<&'a str>
         ensures { result ≡ first_name ref_arcs (ref_entries_of self.now) (ref_arcs oid.now) }
     {
@@ -38,7 +38,7 @@ impl<'a> RefDatabase<'a> {
         None
     }
 
-    /// The identifier that the first entry of this name has, or `None` without such an entry.
+    /// The identifier in the first entry with this name, in any ASCII case, or `None` if there is no such entry.
     pub fn by_name(&self, name: &str) -> Option<ObjectIdentifierRef<'a>>
         ensures { result ≡ first_oid (ref_entries_of self.now) name.now }
     {
@@ -52,7 +52,7 @@ impl<'a> RefDatabase<'a> {
         None
     }
 
-    /// The names of the identifier, one for each of its entries, in the order of the table.
+    /// All names of this identifier, in the order of the table.
     pub fn find_names_for_oid<'b>(&self, oid: ObjectIdentifierRef<'b>) -> RefNames<'a, 'b>
         ensures { ref_names_left result ≡ all_names ref_arcs (ref_entries_of self.now) (ref_arcs oid.entry) }
     {
@@ -63,7 +63,7 @@ impl<'a> RefDatabase<'a> {
     }
 }
 
-/// The names of an identifier in a table of borrowed ones, in table order.
+/// An iterator over the names of a borrowed identifier, in the order of the table.
 #[derive(Drop)]
 pub struct RefNames<'a, 'b> {
     left: &'a [(ObjectIdentifierRef<'a>, &'a str)],

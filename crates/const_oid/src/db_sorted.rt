@@ -1,4 +1,4 @@
-//! Names of borrowed identifiers, by a table in the order of arcs, which is halved.
+//! Names of borrowed identifiers, by binary search in a table that is sorted by arcs.
 
 ghost use Rattle.std.specs.Prelude.{◌≡◌, ◌≤◌, ◌↔◌, length, nat_eq, IfNone, IfSome, IsSome, find, true, false};
 ghost use Rattle.std.specs.Cmp.Lexicographic.{pointwise, slice_cmp};
@@ -17,7 +17,7 @@ use crate::search::{Contents, end_of, first_of, nearest_of, subtree_of};
 type Entry<'a> = (ObjectIdentifierRef<'a>, &'a str);
 
 /// A table of borrowed identifiers and their names, sorted by [`cmp_arcs`](ObjectIdentifierRef::cmp_arcs), so that a
-/// look-up is a binary search. Both may be in it more than once.
+/// lookup is a binary search. An identifier may have several names, and a name several identifiers.
 #[derive(Copy, Clone)]
 pub struct SortedDatabase<'a> {
     entries: &'a [Entry<'a>],
@@ -28,8 +28,8 @@ impl<'a> SortedDatabase<'a> {
     ghost use Rattle.const_oid.specs.Names.{IsNearest, IsSubtree, entry_arcs, first_name, has_arcs, sorted_entries_of};
     ghost use Rattle.const_oid.specs.Tree.{BeginsWith};
 
-    /// A database over sorted entries. This call does not test their order, and over unsorted entries the results
-    /// of look-ups are unspecified: [`try_new`](Self::try_new) tests it.
+    /// A database over sorted entries. Their order is not checked, and over unsorted entries the results of lookups are
+    /// unspecified: [`try_new`](Self::try_new) checks it.
     // In Rattle, the caller proves the order.
     pub const fn new(entries: &'a [Entry<'a>]) -> Self
         requires { IsSortedByKey entry_arcs (slice_cmp nat_cmp) entries.now }
@@ -68,7 +68,7 @@ impl<'a> SortedDatabase<'a> {
         Some(&self.entries[index])
     }
 
-    /// The entries of the identifier and of its descendants.
+    /// The entries of the identifier and of its descendants, which are adjacent.
     pub fn subtree(&self, oid: &ObjectIdentifierRef<'_>) -> &'a [Entry<'a>]
         ensures { IsSubtree (sorted_entries_of self.now) (ref_arcs oid.now) result.now }
     {
@@ -76,7 +76,7 @@ impl<'a> SortedDatabase<'a> {
         &self.entries[from..end]
     }
 
-    /// The first entry after the identifier, which need not be in the table: what GETNEXT of SNMP returns (RFC 3416).
+    /// The first entry after the identifier, which need not be in the table, as GetNext of SNMP returns it (RFC 3416).
     pub fn next_after(&self, oid: &ObjectIdentifierRef<'_>) -> Option<&'a Entry<'a>>
         ensures { option_copied result ≡ find (λ entry. is_lt (slice_cmp nat_cmp (ref_arcs oid.now) (entry_arcs entry))) (sorted_entries_of self.now) }
     {

@@ -66,7 +66,7 @@ impl Error {
     }
 
     /// Writes the text that `{}` writes at the start of `out`, and returns its length. Returns `None`
-    /// where it is longer than `out`, which is then unchanged.
+    /// if it is longer than `out`, which is then unchanged.
     #[inline(always)]
     pub fn encode_text(self, out: &mut [u8]) -> Option<usize>
         ensures cases { ReturnsLength (message_of self) out.old result }

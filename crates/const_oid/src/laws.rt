@@ -62,7 +62,7 @@ pub fn unique_groups()
     ensures least { (n : ℕ) → IsWidth n (width n) }
 {}
 
-/// The group of one number never begins that of another, whatever follows.
+/// Groups are a prefix-free code: octets begin with the group of at most one number.
 #[tactic(auto, using(crate::proofs::Groups::prefix_free))]
 pub fn prefix_free()
     ensures { (m n : ℕ) (g h x y : List ℕ) → IsGroup m g → IsGroup n h → g ++ x ≡ h ++ y
@@ -107,7 +107,7 @@ pub fn second_fits()
         ≡ fault_if (nat_lt (max_second rule first) second) (ArcInvalid second) }
 {}
 
-/// An encoding begins another exactly where its arcs begin the other's.
+/// An encoding is a prefix of another exactly where its arcs are a prefix of the other's.
 pub fn prefixes()
     ensures { (rule : RootRule) (p x a b : List ℕ) → IsEncoding rule p a → IsEncoding rule x b
         → BeginsWith b a ↔ BeginsWith x p }
@@ -143,7 +143,7 @@ pub fn order_of_arcs()
         → slice_cmp nat_cmp a b ≡ slice_cmp nat_cmp p x }
 {}
 
-/// Equal arcs, equal encodings and equal printed texts are one.
+/// Identifiers have equal arcs exactly where their encodings are equal, and exactly where their printed texts are.
 pub fn same_identifiers()
     ensures octets { (rule : RootRule) (a b x y : List ℕ) → IsEncoding rule a x
         → IsEncoding rule b y → (a ≡ b) ↔ (x ≡ y) }
@@ -256,8 +256,9 @@ pub fn parts()
         → 2 ≤ i → slice_get arcs i ≡ option_map value_of (slice_get (cut octets) (i - 1)) }
 {}
 
-/// A child's octets go on by one group; a parent's are those without the last part. A child's parent
-/// is the one that it was made of, and a parent has the one that it came from as a child.
+/// A child's octets are its parent's and one more group; a parent's are its child's without the last part. A child's
+/// parent is the identifier that it was made of, and an identifier with a parent is a child of it. There is no parent
+/// exactly where there is one part.
 pub fn tree()
     ensures child { (rule : RootRule) (arcs octets : List ℕ) (arc : ℕ) (group : List ℕ)
         → IsEncoding rule arcs octets → arc ≤ max_arc → IsGroup arc group
@@ -283,8 +284,8 @@ pub fn printed_length()
         → length (text_of arcs) ≤ 4 * length octets }
 {}
 
-/// Descendants are adjacent and follow their ancestor in lexicographic order, and come after it where shorter
-/// encodings come first.
+/// An encoding comes before those of its descendants, both where shorter ones come first and in lexicographic order. In
+/// the latter, descendants are adjacent.
 pub fn ranges()
     ensures short { (rule : RootRule) (p x a b : List ℕ) → IsEncoding rule p a
         → IsEncoding rule x b → BeginsWith x p → length p < length x → shortlex_cmp a b ≡ Less }

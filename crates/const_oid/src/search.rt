@@ -1,7 +1,7 @@
 //! Searches in a list of items with contents octets that is sorted by arcs.
 //!
-//! No search checks the list. Over a list that is not sorted, or with an item that is not valid, what it finds
-//! means nothing, but is within the list.
+//! No search checks the list. Over a list that is not sorted, or with an item that is not valid, the result is
+//! unspecified, but within the list.
 
 ghost use Rattle.std.specs.Prelude.{◌≡◌, ◌<◌, ◌≤◌, ◌↔◌, ℕ, List, length, nat_eq, true, false, count_by, slice_get, All, IfNone, IfSome, Some};
 ghost use Rattle.std.specs.Cmp.Lexicographic.{pointwise, slice_cmp};
@@ -46,7 +46,7 @@ pub fn end_of<T: Contents>(items: &[T], oid: &ObjectIdentifierRef<'_>) -> usize
     items.partition_point(|item| order_by_parts(oid.as_bytes(), item.contents()).is_ge())
 }
 
-/// The index of the first item of an identifier.
+/// The index of the first item with the arcs of an identifier, or `None` if no item has them.
 pub fn first_of<T: Contents>(items: &[T], oid: &ObjectIdentifierRef<'_>) -> Option<usize>
     ensures found { IsSortedList T.octets_of items.now → result ≡ position (has_item_arcs T.octets_of (ref_arcs oid.now)) items.now }
     ensures within { IfSome result (λ index. index < length items.now) }
@@ -66,8 +66,8 @@ fn has_octets<T: Contents>(item: &T, oid: &ObjectIdentifierRef<'_>) -> bool
     are_equal(item.contents(), oid.as_bytes())
 }
 
-/// The range of the items that begin with an identifier: from the first index up to, but not including, the
-/// second. Where there are none, both are the index at which the identifier would be inserted.
+/// The range of the items whose arcs begin with those of an identifier: from the first index up to, but not including,
+/// the second. If there are none, both are the index at which the identifier would be inserted.
 pub fn subtree_of<T: Contents>(items: &[T], oid: &ObjectIdentifierRef<'_>) -> (usize, usize)
     ensures bounds { (result.0 ≤ result.1) × (result.1 ≤ length items.now) }
     ensures from { IsSortedList T.octets_of items.now → result.0
@@ -89,7 +89,7 @@ pub fn nearest_of<T: Contents>(items: &[T], oid: &ObjectIdentifierRef<'_>) -> Op
     ensures none { IsSortedList T.octets_of items.now → IfNone result (All (λ item. BeginsWith (ref_arcs oid.now) (item_arcs T.octets_of item) → ⊥) items.now) }
     ensures within { IfSome result (λ index. index < length items.now) }
 {
-    // All that the identifier begins with come up to it, and the last item up to it begins with them.
+    // A prefix of the identifier in the list is at or before it, so the last item up to it begins with that prefix, too.
     let last = items[..end_of(items, oid)].last()?.contents();
     let mut above = *oid;
     loop {

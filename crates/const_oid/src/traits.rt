@@ -34,7 +34,7 @@ impl<T: AssociatedOid> DynAssociatedOid for T {
     }
 }
 
-/// The first index, counted from 0, whose value has this identifier, or `None` where no value has it.
+/// The first index, counted from 0, whose value has this identifier, or `None` if no value has it.
 pub fn position_of(values: &[Box<dyn DynAssociatedOid + Drop>], oid: &Oid) -> Option<usize>
     ensures within { IfSome result (λ i. i < length values.now) }
     ensures found { IfSome result (λ i.

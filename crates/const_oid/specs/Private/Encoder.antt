@@ -19,7 +19,7 @@ IsStarted rule None octets = octets ≡ []
 IsStarted rule (Some first) [] = first ≤ 2
 IsStarted rule (Some first) (x ∷ xs) = IsEncoding rule (arcs_of_octets (x ∷ xs)) (x ∷ xs)
 
--- what a call returns, by the arcs of the octets
+-- the result of a function, by the arcs of the octets
 abbrev pub buffer_answer : {SIZE : ℕ} → Result (Buffer SIZE) Error → Result (List ℕ) Error
 buffer_answer result = result_map_both (λ buffer. arcs_of_octets (octets_of buffer)) (λ fault. fault) result
 

@@ -13,13 +13,14 @@ pub(crate) const fn begins_with(octets: &[u8], prefix: &[u8]) -> bool {
     }
     let (start, _) = octets.split_at(prefix.len());
     if prefix.len() < WORD {
-        // The first one first, since most identifiers begin with a prefix or differ from its start on.
+        // The first octet first, since most identifiers begin with a prefix or differ at its start.
         return same_until(prefix, start, 0, prefix.len()) == prefix.len();
     }
     are_equal(prefix, start)
 }
 
-/// The first index from one on where octets are not the same, or the end. What is from there on has their orders.
+/// The first index from `start` on at which the octets differ, or `end`. The octets from there on have the orders of
+/// all octets.
 #[inline(always)]
 const fn same_until(a: &[u8], b: &[u8], start: usize, end: usize) -> usize {
     let mut index = start;
@@ -32,8 +33,8 @@ const fn same_until(a: &[u8], b: &[u8], start: usize, end: usize) -> usize {
     end
 }
 
-/// Whether octets are the same: the last one first, since most pairs differ there, then by words, where
-/// the last one overlaps and comes first, or one by one where they are fewer than a word.
+/// Whether octets are the same. The last octet is compared first, since most pairs differ there, then the last word,
+/// and then the words before it, which may overlap it. Fewer octets than a word are compared one by one.
 #[inline(always)]
 pub(crate) const fn are_equal(a: &[u8], b: &[u8]) -> bool {
     let len = a.len();
@@ -52,7 +53,7 @@ pub(crate) const fn are_equal(a: &[u8], b: &[u8]) -> bool {
     first_unequal(a, b, len - WORD).is_none()
 }
 
-/// The first words that are not the same, of those that begin before an index.
+/// The first two words that differ, of those that begin before `end`.
 #[inline(always)]
 const fn first_unequal(a: &[u8], b: &[u8], end: usize) -> Option<(u64, u64)> {
     let mut at = 0;
@@ -66,7 +67,7 @@ const fn first_unequal(a: &[u8], b: &[u8], end: usize) -> Option<(u64, u64)> {
     None
 }
 
-/// Whether as many octets are the same, without a branch for each word: for arrays, whose few words the
+/// Whether slices of one length have the same octets, without a branch for each word: for arrays, whose few words the
 /// compiler compares at once.
 #[inline(always)]
 pub(crate) const fn are_arrays_equal(a: &[u8], b: &[u8]) -> bool {
@@ -83,7 +84,7 @@ pub(crate) const fn are_arrays_equal(a: &[u8], b: &[u8]) -> bool {
     same & (word(a, len - WORD) == word(b, len - WORD))
 }
 
-/// Whether as many octets are the same: the last one first, since most pairs differ there.
+/// Whether slices of one length have the same octets: the last one first, since most pairs differ there.
 #[inline(always)]
 const fn are_few_equal(a: &[u8], b: &[u8]) -> bool {
     let mut left = a.len();
@@ -96,8 +97,8 @@ const fn are_few_equal(a: &[u8], b: &[u8]) -> bool {
     true
 }
 
-/// The octets in lexicographic order: by words, where the last one overlaps, or one by one where they are
-/// fewer than a word.
+/// The lexicographic order of octets: by words, of which the last may overlap the one before, or one by one where there
+/// are fewer than a word has.
 #[inline(always)]
 pub(crate) fn order(a: &[u8], b: &[u8]) -> Ordering {
     let near = a.len().min(b.len());
@@ -115,7 +116,7 @@ pub(crate) fn order(a: &[u8], b: &[u8]) -> Ordering {
     a.len().cmp(&b.len())
 }
 
-/// The octets in lexicographic order, one by one.
+/// The lexicographic order of octets, one by one.
 #[inline(always)]
 fn order_few(a: &[u8], b: &[u8]) -> Ordering {
     let near = a.len().min(b.len());
@@ -129,8 +130,7 @@ fn order_few(a: &[u8], b: &[u8]) -> Ordering {
 /// How many octets a word has.
 const WORD: usize = 8;
 
-/// The eight octets from an index on as a number, the first one the most significant: so words have the
-/// lexicographic order of their octets.
+/// The eight octets from an index on as a big-endian number: so words have the lexicographic order of their octets.
 #[inline(always)]
 const fn word(octets: &[u8], at: usize) -> u64 {
     // The compiler knows the length of this slice, so it leaves the test out.
@@ -141,10 +141,10 @@ const fn word(octets: &[u8], at: usize) -> u64 {
     }
 }
 
-/// The octets in the order of their parts, a shorter part first.
+/// The lexicographic order of the parts of octets, a shorter part first.
 ///
-/// Where they differ first, the parts begin at one index. So the part that goes on for longer from
-/// there is the longer one, and an octet that ends its part decides.
+/// At the first octet that differs, both parts began at the same index. So the part with more octets left is the longer
+/// one, and an octet that ends its part decides.
 pub(crate) fn order_by_parts(a: &[u8], b: &[u8]) -> Ordering {
     let near = a.len().min(b.len());
     let i = same_until(a, b, same_start(a, b), near);

@@ -8,7 +8,8 @@ pub use crate::erased::db_sorted::SortedDatabase;
 use crate::erased::error::Result;
 use crate::erased::oid::ObjectIdentifier;
 
-/// A table of identifiers and their names, in any order. Both may be in it more than once.
+/// A table of identifiers and their names, in any order. An identifier may have several names, and a name several
+/// identifiers.
 ///
 /// Names are compared without regard to ASCII case.
 #[derive(Copy, Clone)]

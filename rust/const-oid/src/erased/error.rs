@@ -61,7 +61,7 @@ impl Error {
     }
 
     /// Writes the text that `{}` writes at the start of `out`, and returns its length. Returns `None`
-    /// where it is longer than `out`, which is then unchanged.
+    /// if it is longer than `out`, which is then unchanged.
     #[inline(always)]
     #[doc = include_str!("../examples/Error.encode_text.md")]
     pub fn encode_text(self, out: &mut [u8]) -> Option<usize> {

@@ -24,16 +24,19 @@ pub struct ObjectIdentifierRef<'a> {
 }
 
 impl<'a> ObjectIdentifierRef<'a> {
-    /// Decodes contents octets (X.690, 8.19). The first of these that applies is the error:
-    ///
-    /// - [`Error::Empty`]: there is no octet;
-    /// - [`Error::Base128`] or [`Error::ArcTooBig`]: of the first wrong group, that it begins
-    ///   with 0x80, that its number is above 4294967295 (above 4294967375 in the first group, which holds
-    ///   two arcs), or that it does not end;
-    /// - [`Error::Length`]: there are more than `isize::MAX` octets, which no slice has.
+    /// Decodes contents octets (X.690, 8.19).
     ///
     /// Tag and length are not removed: a complete encoding `06 09 2A ..` is no error, but another identifier,
     /// 0.6.9.42 and so on.
+    ///
+    /// # Errors
+    ///
+    /// The first of these that applies:
+    ///
+    /// - [`Error::Empty`]: there is no octet;
+    /// - [`Error::Base128`] or [`Error::ArcTooBig`], by the first wrong subidentifier: it begins with 0x80; it is above
+    ///   4294967295, or above 4294967375 as the first, which holds two arcs; or the octets end within it;
+    /// - [`Error::Length`]: there are more than `isize::MAX` octets, which no slice has.
     #[inline(always)]
     pub fn from_bytes(ber: &'a [u8]) -> Result<Self> {
         check(ber)?;
@@ -53,7 +56,7 @@ impl<'a> ObjectIdentifierRef<'a> {
         self.ber
     }
 
-    /// The arc at an index, counted from 0, or `None` past the last.
+    /// The arc at an index, counted from 0, or `None` past the last one.
     pub fn arc(&self, index: usize) -> Option<Arc> {
         arc_at(self.ber, index)
     }
@@ -63,18 +66,18 @@ impl<'a> ObjectIdentifierRef<'a> {
         Arcs::new(self.ber)
     }
 
-    /// How many arcs there are.
+    /// The number of arcs, two or more.
     pub fn len(&self) -> usize {
         count_parts(self.ber) + 1
     }
 
-    /// The length of the text that `{}` writes, or `usize::MAX` where it is past that.
+    /// The length in bytes of the text that `{}` writes, or `usize::MAX` if it is greater than that.
     pub fn text_len(&self) -> usize {
         text_len(self.arcs(), usize::MAX).unwrap_or(usize::MAX)
     }
 
     /// Writes the text that `{}` writes at the start of `out`, and returns its length. Returns `None`
-    /// where it is longer than `out`, which is then unchanged.
+    /// if it is longer than `out`, which is then unchanged.
     pub fn encode_text(&self, out: &mut [u8]) -> Option<usize> {
         // An octet takes four bytes of text at most.
         if self.ber.len() > out.len() / 4 {
@@ -89,9 +92,11 @@ impl<'a> ObjectIdentifierRef<'a> {
         Some(utf8(&out[..len]))
     }
 
-    /// Decodes contents octets as [`from_bytes`](Self::from_bytes) does, and writes the text that `{}` writes
-    /// of them at the start of `out` in the same pass. Returns the text's length. Returns `None`, and reads no octet,
-    /// where `out` has less than four bytes an octet and eleven more. On `Err`, `out` may be changed.
+    /// Decodes contents octets as [`from_bytes`](Self::from_bytes) does, writes their text at the start of `out` in the
+    /// same pass, as `{}` writes it, and returns its length.
+    ///
+    /// Returns `None` if `out` has fewer bytes than four for each octet and eleven more, and is then unchanged. On `Err`,
+    /// `out` may be changed.
     #[inline(always)]
     pub fn text_from_bytes(ber: &[u8], out: &mut [u8]) -> Option<Result<usize>> {
         if out.len() < MAX_ARC_LEN || ber.len() > (out.len() - MAX_ARC_LEN) / 4 {
@@ -105,8 +110,7 @@ impl<'a> ObjectIdentifierRef<'a> {
         are_equal(self.as_bytes(), other.as_bytes())
     }
 
-    /// The identifier of all arcs except the last, over a prefix of the caller's octets, or `None` where there
-    /// are two arcs.
+    /// The parent: all arcs except the last. Its octets are a prefix of these. `None` if there are only two arcs.
     pub fn parent(&self) -> Option<ObjectIdentifierRef<'a>> {
         let prefix = without_last_part(self.ber);
         if prefix.is_empty() {
@@ -115,22 +119,22 @@ impl<'a> ObjectIdentifierRef<'a> {
         Some(ObjectIdentifierRef::from_checked(prefix))
     }
 
-    /// Whether the arcs begin with all those of another identifier, which may be all of these.
+    /// Whether the arcs begin with all those of another identifier: whether it is this one or an ancestor.
     #[inline(always)]
     pub const fn starts_with(&self, other: &ObjectIdentifierRef<'_>) -> bool {
         begins_with(self.ber, other.ber)
     }
 
-    /// The order of the arcs, a prefix before what begins with it, as SNMP orders names (RFC 3416).
+    /// Compares the arcs lexicographically, a prefix before what begins with it. SNMP orders names so (RFC 3416).
     pub fn cmp_arcs(&self, other: &ObjectIdentifierRef<'_>) -> Ordering {
         order_by_parts(self.ber, other.ber)
     }
 
-    /// The range of indices of a sorted list at which the identifiers begin with this one, itself among
-    /// them: from the first index up to, but not including, the second. Where there are none, both are the index at
-    /// which this one would be inserted.
+    /// The range of indices of a sorted list at which the arcs begin with those of this identifier, itself included:
+    /// from the first index up to, but not including, the second. If there are none, both are the index at which this
+    /// one would be inserted.
     ///
-    /// The list does not descend in the order of `cmp`. It may hold an identifier more than once.
+    /// The list is sorted by `cmp`, and may hold an identifier more than once.
     pub fn subtree(&self, sorted: &[&crate::ObjectIdentifierRef]) -> (usize, usize) {
         let from = sorted.partition_point(|oid| order(oid.as_bytes(), self.ber).is_lt());
         let inside = sorted[from..].partition_point(|oid| oid.as_bytes().starts_with(self.ber));

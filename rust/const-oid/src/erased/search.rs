@@ -2,8 +2,8 @@
 
 //! Searches in a list of items with contents octets that is sorted by arcs.
 //!
-//! No search checks the list. Over a list that is not sorted, or with an item that is not valid, what it finds
-//! means nothing, but is within the list.
+//! No search checks the list. Over a list that is not sorted, or with an item that is not valid, the result is
+//! unspecified, but within the list.
 
 use crate::erased::compare::{are_equal, begins_with, order_by_parts};
 use crate::erased::oid_ref::ObjectIdentifierRef;
@@ -24,7 +24,7 @@ pub fn end_of<T: Contents>(items: &[T], oid: &ObjectIdentifierRef<'_>) -> usize 
     items.partition_point(|item| order_by_parts(oid.as_bytes(), item.contents()).is_ge())
 }
 
-/// The index of the first item of an identifier.
+/// The index of the first item with the arcs of an identifier, or `None` if no item has them.
 pub fn first_of<T: Contents>(items: &[T], oid: &ObjectIdentifierRef<'_>) -> Option<usize> {
     let index = start_of(items, oid);
     if index < items.len() && has_octets(&items[index], oid) {
@@ -39,8 +39,8 @@ fn has_octets<T: Contents>(item: &T, oid: &ObjectIdentifierRef<'_>) -> bool {
     are_equal(item.contents(), oid.as_bytes())
 }
 
-/// The range of the items that begin with an identifier: from the first index up to, but not including, the
-/// second. Where there are none, both are the index at which the identifier would be inserted.
+/// The range of the items whose arcs begin with those of an identifier: from the first index up to, but not including,
+/// the second. If there are none, both are the index at which the identifier would be inserted.
 pub fn subtree_of<T: Contents>(items: &[T], oid: &ObjectIdentifierRef<'_>) -> (usize, usize) {
     let from = start_of(items, oid);
     let inside = items[from..].partition_point(|item| begins_with(item.contents(), oid.as_bytes()));
@@ -49,7 +49,7 @@ pub fn subtree_of<T: Contents>(items: &[T], oid: &ObjectIdentifierRef<'_>) -> (u
 
 /// The index of the nearest item to an identifier: the first item of the longest prefix of it in the list.
 pub fn nearest_of<T: Contents>(items: &[T], oid: &ObjectIdentifierRef<'_>) -> Option<usize> {
-    // All that the identifier begins with come up to it, and the last item up to it begins with them.
+    // A prefix of the identifier in the list is at or before it, so the last item up to it begins with that prefix, too.
     let last = items[..end_of(items, oid)].last()?.contents();
     let mut above = *oid;
     loop {
