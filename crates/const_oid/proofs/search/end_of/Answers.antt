@@ -8,10 +8,10 @@ returns-clause-cut g c = λ list.
     let octets_of = g.T.Contents.octets_of in
     let oid = c.args.oid.now in
     let items = c.args.items.now in
-    let p = upto_arcs octets_of oid items list in
-    let q = is_upto octets_of oid items list in
+    let by_arcs = upto_arcs octets_of oid items list in
+    let by_octets = is_upto octets_of oid items list in
     let same = upto_same octets_of oid items list in
-    let parted = parted_as p q items same (cut_upto octets_of oid items list) in
-    let (early, late) = cut_as p q items same _ c.partition_point.ensures.bound
-    (IsPartitionPoint-from_clause q items _ c.partition_point.ensures.partitioned parted (λ a r f called. search rules)) in
-    (λ k d z l. grind (arith, early k d z l), λ k d m l. grind (arith, late k d m l))
+    let parted = parted_as by_arcs by_octets items same (cut_upto octets_of oid items list) in
+    let (early, late) = cut_as by_arcs by_octets items same _ c.partition_point.ensures.bound
+    (IsPartitionPoint-from_clause by_octets items _ c.partition_point.ensures.partitioned parted (λ args result after called. search rules)) in
+    (λ k below item found. grind (arith, early k below item found), λ k above within found. grind (arith, late k above within found))

@@ -9,9 +9,9 @@ returns-clause-cut g c = λ list.
     let octets_of = g.T.Contents.octets_of in
     let oid = c.args.oid.now in
     let items = c.args.items.now in
-    let p = key_before (item_arcs octets_of) (ref_arcs oid) in
-    let q = is_early octets_of oid items list in
+    let by_arcs = key_before (item_arcs octets_of) (ref_arcs oid) in
+    let by_octets = is_early octets_of oid items list in
     let same = early_same octets_of oid items list in
-    let parted = parted_as p q items same (cut_before (item_arcs octets_of) items list.sorted (ref_arcs oid)) in
-    cut_as p q items same _ c.partition_point.ensures.bound
-    (IsPartitionPoint-from_clause q items _ c.partition_point.ensures.partitioned parted (λ a r f called. search rules))
+    let parted = parted_as by_arcs by_octets items same (cut_before (item_arcs octets_of) items list.sorted (ref_arcs oid)) in
+    cut_as by_arcs by_octets items same _ c.partition_point.ensures.bound
+    (IsPartitionPoint-from_clause by_octets items _ c.partition_point.ensures.partitioned parted (λ args result after called. search rules))

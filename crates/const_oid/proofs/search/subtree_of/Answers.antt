@@ -18,13 +18,13 @@ returns-clause-inside g c = λ list.
     let items = c.args.items.now in
     let from = c.start_of-from.result in
     let first = c.start_of-from.ensures.cut list in
-    let p = key_under (item_arcs octets_of) (ref_arcs oid) in
-    let q = is_inside octets_of oid items list in
+    let by_arcs = key_under (item_arcs octets_of) (ref_arcs oid) in
+    let by_octets = is_inside octets_of oid items list in
     let same = inside_same octets_of oid items list from in
-    let parted = parted_as p q (drop from items) same (cut_after (item_arcs octets_of) items list.sorted (ref_arcs oid) from first) in
+    let parted = parted_as by_arcs by_octets (drop from items) same (cut_after (item_arcs octets_of) items list.sorted (ref_arcs oid) from first) in
     let bound = rw (take_rest items from) at c.partition_point-inside.ensures.bound in
     let rest = rw (take_rest items from) at c.partition_point-inside.ensures.partitioned in
-    let second = cut_as p q (drop from items) same _ bound
-    (IsPartitionPoint-from_clause q (drop from items) _ rest parted
-    (λ a r f called. (tells_under (ref_octets oid) (octets_of a.0.now) r (search rules), search rules))) in
+    let second = cut_as by_arcs by_octets (drop from items) same _ bound
+    (IsPartitionPoint-from_clause by_octets (drop from items) _ rest parted
+    (λ args result after called. (tells_under (ref_octets oid) (octets_of args.0.now) result (search rules), search rules))) in
     range_is octets_of oid items list from _ first second
