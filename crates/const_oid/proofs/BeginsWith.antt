@@ -18,24 +18,24 @@ chain_not_empty (a ∷ g) x c e = cc
 -- numbers whose groups begin others
 numbers_prefix : (ns ms : List ℕ) (gs hs : List (List ℕ)) (rest : List ℕ) → AllZip IsGroup ns gs → AllZip IsGroup ms hs
     → concat hs ≡ concat gs ++ rest → BeginsWith ms ns
-numbers_prefix [] ms [] hs rest p q e = (ms, refl)
-numbers_prefix (n ∷ ns) (m ∷ ms) (g ∷ gs) (h ∷ hs) rest p q e =
-    let joined = e ∙ append_assoc g (concat gs) rest in
-    let (same, others) = same_prefix h g (concat hs) (concat gs ++ rest) q.0.continued p.0.continued joined in
-    let (more, f) = numbers_prefix ns ms gs hs rest p.1 q.1 others in
-    let s : m ≡ n = q.0.value ∙ ap value_of same ∙ sym p.0.value in
+numbers_prefix [] ms [] hs rest groups others same = (ms, refl)
+numbers_prefix (n ∷ ns) (m ∷ ms) (group ∷ gs) (other ∷ hs) rest groups others same =
+    let joined = same ∙ append_assoc group (concat gs) rest in
+    let (first, later) = same_prefix other group (concat hs) (concat gs ++ rest) others.0.continued groups.0.continued joined in
+    let (more, begins) = numbers_prefix ns ms gs hs rest groups.1 others.1 later in
+    let number : m ≡ n = others.0.value ∙ ap value_of first ∙ sym groups.0.value in
     (more, cc)
-numbers_prefix (n ∷ ns) [] (g ∷ gs) [] rest p q e = grind (arith, chain_not_empty, append_assoc)
-numbers_prefix _ _ _ _ rest p q e = absurd assumption
+numbers_prefix (n ∷ ns) [] (group ∷ gs) [] rest groups others same = grind (arith, chain_not_empty, append_assoc)
+numbers_prefix _ _ _ _ rest groups others same = absurd assumption
 
 -- groups of numbers that begin others
 octets_prefix : (ns more : List ℕ) (gs hs : List (List ℕ)) → AllZip IsGroup ns gs → AllZip IsGroup (ns ++ more) hs
     → BeginsWith (concat hs) (concat gs)
-octets_prefix [] more [] hs p q = (concat hs, refl)
-octets_prefix (n ∷ ns) more (g ∷ gs) (h ∷ hs) p q =
-    let (rest, e) = octets_prefix ns more gs hs p.1 q.1 in
-    (rest, ap₂ (λ x y. x ++ y) (same_group q.0 p.0) e ∙ sym (append_assoc g (concat gs) rest))
-octets_prefix _ more _ _ p q = absurd assumption
+octets_prefix [] more [] hs groups others = (concat hs, refl)
+octets_prefix (n ∷ ns) more (group ∷ gs) (other ∷ hs) groups others =
+    let (rest, later) = octets_prefix ns more gs hs groups.1 others.1 in
+    (rest, ap₂ (λ xs ys. xs ++ ys) (same_group others.0 groups.0) later ∙ sym (append_assoc group (concat gs) rest))
+octets_prefix _ more _ _ groups others = absurd assumption
 
 -- the arcs of p begin those of x
 pub arcs_prefix : (rule : RootRule) (p x a b : List ℕ) → IsEncoding rule p a → IsEncoding rule x b
@@ -45,11 +45,11 @@ arcs_prefix rule p x a b e f s = grind (arith, numbers_prefix, arcs_back)
 -- the octets of p begin those of x
 pub encoding_prefix : (rule : RootRule) (p x a b : List ℕ) → IsEncoding rule p a → IsEncoding rule x b
     → BeginsWith x p → BeginsWith b a
-encoding_prefix rule (c ∷ d ∷ later) x a b e f (more, s) =
-    let numbers = subidentifiers (c ∷ d ∷ later) in
-    let (rest, t) = octets_prefix numbers more e.groups f.groups e.each (rw (ap subidentifiers s) at f.each) in
-    (rest, f.joined ∙ t ∙ ap (λ y. y ++ rest) (sym e.joined))
-encoding_prefix rule _ x a b e f s = absurd e.identifier
+encoding_prefix rule (first ∷ second ∷ later) x a b prefix longer (more, begins) =
+    let numbers = subidentifiers (first ∷ second ∷ later) in
+    let (rest, joined) = octets_prefix numbers more prefix.groups longer.groups prefix.each (rw (ap subidentifiers begins) at longer.each) in
+    (rest, longer.joined ∙ joined ∙ ap (λ octets. octets ++ rest) (sym prefix.joined))
+encoding_prefix rule _ x a b prefix longer begins = absurd prefix.identifier
 
 -- encodings begin others exactly where their arcs begin theirs
 pub iff_begins : {rule : RootRule} {x p b a : List ℕ} (P : Type 0)
@@ -62,22 +62,22 @@ iff_begins {rule} {x} {p} {b} {a} P f e iff =
 -- what is between two lists that begin with the prefix begins with it, too
 pub between : (prefix x y z : List ℕ) → slice_cmp nat_cmp y (prefix ++ x) ≢ Less
     → slice_cmp nat_cmp y (prefix ++ z) ≢ Greater → BeginsWith y prefix
-between [] x y z h k = (y, refl)
-between (b ∷ prefix) x [] z h k = absurd (h refl)
-between (b ∷ prefix) x (d ∷ y) z h k = by_ranked _ _ _ (nat_cmp d b) (ranks d b)
-    (λ is l. absurd (h (rw is refl)))
-    (λ is same. let (rest, e) = between prefix x y z (λ l. h (rw is l)) (λ g. k (rw is g)) in (rest, cc))
-    (λ is g. absurd (k (rw is refl)))
+between [] x y z from to = (y, refl)
+between (arc ∷ prefix) x [] z from to = absurd (from refl)
+between (arc ∷ prefix) x (first ∷ y) z from to = by_ranked _ _ _ (nat_cmp first arc) (ranks first arc)
+    (λ is less. absurd (from (rw is refl)))
+    (λ is same. let (rest, begins) = between prefix x y z (λ less. from (rw is less)) (λ greater. to (rw is greater)) in (rest, cc))
+    (λ is greater. absurd (to (rw is refl)))
 
--- the same of identifiers
+-- so does an identifier whose encoding is between those of two that begin with another
 pub encodings_between : {rule : RootRule} {p x y z a b c d : List ℕ}
     → IsEncoding rule p a → IsEncoding rule x b → IsEncoding rule y c → IsEncoding rule z d
     → BeginsWith x p → BeginsWith z p
     → slice_cmp nat_cmp c b ≢ Less → slice_cmp nat_cmp c d ≢ Greater → BeginsWith y p
-encodings_between {rule} {p} {x} {y} {z} {a} {b} {c} {d} ep ex ey ez bx bz h k =
-    let (xs, e) = encoding_prefix rule p x a b ep ex bx in
-    let (zs, f) = encoding_prefix rule p z a d ep ez bz in
-    arcs_prefix rule p y a c ep ey (between a xs c zs (rw e at h) (rw f at k))
+encodings_between {rule} {p} {x} {y} {z} {a} {b} {c} {d} prefix low middle high begins begins' from to =
+    let (more, joined) = encoding_prefix rule p x a b prefix low begins in
+    let (more', joined') = encoding_prefix rule p z a d prefix high begins' in
+    arcs_prefix rule p y a c prefix middle (between a more c more' (rw joined at from) (rw joined' at to))
 
 pub before_more : (a rest : List ℕ) → 0 < length rest → slice_cmp nat_cmp a (a ++ rest) ≡ Less
 before_more a [] some = absurd (omega arith)

@@ -61,11 +61,12 @@ ended_parts a b same = grind (arith, length-drop, ended, same_up_to a b (min (le
 
 numbers_cmp : (ns ms : List ℕ) (gs hs : List (List ℕ))
     → AllZip IsGroup ns gs → AllZip IsGroup ms hs → slice_cmp shortlex_cmp gs hs ≡ slice_cmp nat_cmp ns ms
-numbers_cmp [] [] [] [] p q = refl
-numbers_cmp [] (m ∷ ms) [] (h ∷ hs) p q = refl
-numbers_cmp (n ∷ ns) [] (g ∷ gs) [] p q = refl
-numbers_cmp (n ∷ ns) (m ∷ ms) (g ∷ gs) (h ∷ hs) p q = rw (groups_short p.0 q.0, numbers_cmp ns ms gs hs p.1 q.1)
-numbers_cmp _ _ _ _ p q = absurd assumption
+numbers_cmp [] [] [] [] groups others = refl
+numbers_cmp [] (m ∷ ms) [] (other ∷ hs) groups others = refl
+numbers_cmp (n ∷ ns) [] (group ∷ gs) [] groups others = refl
+numbers_cmp (n ∷ ns) (m ∷ ms) (group ∷ gs) (other ∷ hs) groups others =
+    rw (groups_short groups.0 others.0, numbers_cmp ns ms gs hs groups.1 others.1)
+numbers_cmp _ _ _ _ groups others = absurd assumption
 
 -- where the groups at each index are of one length, the octets are in the order of the numbers
 abbrev pub AreLevel : List (List ℕ) → List (List ℕ) → Type 0
@@ -78,14 +79,14 @@ level_append g h x y l = grind (arith, common_steps, split_cmp (length g) (g ++ 
 level_numbers : (ns ms : List ℕ) (gs hs : List (List ℕ))
     → AllZip IsGroup ns gs → AllZip IsGroup ms hs → AreLevel gs hs
     → slice_cmp nat_cmp (concat gs) (concat hs) ≡ slice_cmp nat_cmp ns ms
-level_numbers [] [] [] [] p q l = refl
-level_numbers [] (m ∷ ms) [] ((b ∷ h) ∷ hs) p q l = refl
-level_numbers (n ∷ ns) [] ((a ∷ g) ∷ gs) [] p q l = refl
-level_numbers (n ∷ ns) (m ∷ ms) (g ∷ gs) (h ∷ hs) p q l =
-    let long : length g ≡ length h = l 0 g h refl refl in
-    level_append g h (concat gs) (concat hs) long
-    ∙ rw (groups_cmp p.0 q.0 long, level_numbers ns ms gs hs p.1 q.1 (λ i a b e f. l (suc i) a b e f)) refl
-level_numbers _ _ _ _ p q l = absurd assumption
+level_numbers [] [] [] [] groups others level = refl
+level_numbers [] (m ∷ ms) [] ((x ∷ other) ∷ hs) groups others level = refl
+level_numbers (n ∷ ns) [] ((x ∷ group) ∷ gs) [] groups others level = refl
+level_numbers (n ∷ ns) (m ∷ ms) (group ∷ gs) (other ∷ hs) groups others level =
+    let long : length group ≡ length other = level 0 group other refl refl in
+    let later = level_numbers ns ms gs hs groups.1 others.1 (λ i g h at_group at_other. level (suc i) g h at_group at_other) in
+    level_append group other (concat gs) (concat hs) long ∙ rw (groups_cmp groups.0 others.0 long, later) refl
+level_numbers _ _ _ _ groups others level = absurd assumption
 
 subidentifiers_cmp : (rule : RootRule) (xs ys : List ℕ) → IsIdentifier rule xs → IsIdentifier rule ys
     → slice_cmp nat_cmp (subidentifiers xs) (subidentifiers ys) ≡ slice_cmp nat_cmp xs ys
