@@ -87,7 +87,7 @@ impl ObjectIdentifierRef {
     }
 }
 
-/// Calls of the sized form, over the same octets.
+/// Methods that are those of the sized form of the same octets.
 macro_rules! calls {
     ($($(#[$doc:meta])* fn $name:ident $(<$life:lifetime>)? ($($argument:ident: $type:ty)?) -> $result:ty;)*) => {
         impl ObjectIdentifierRef {
@@ -101,7 +101,7 @@ macro_rules! calls {
     };
 }
 
-/// The same, of two identifiers.
+/// Methods with another identifier, which are those of the sized forms of both.
 macro_rules! calls_of_two {
     ($($(#[$doc:meta])* fn $name:ident(other: &Self) -> $result:ty;)*) => {
         impl ObjectIdentifierRef {

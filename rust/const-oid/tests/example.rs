@@ -1,4 +1,4 @@
-//! What the example `oid` prints.
+//! What `run` of the example `oid` prints, and its errors.
 #![cfg(feature = "db")]
 
 #[allow(dead_code)] // its `main`
@@ -150,7 +150,7 @@ fn run(arguments: &str, input: &str) -> (String, String, bool) {
 }
 
 #[test]
-fn rows() {
+fn prints_each_row() {
     for (arguments, input, printed, errors) in ROWS {
         let (out, err, is_read) = run(arguments, input);
         assert_eq!((&*out, &*err), (*printed, *errors), "{arguments}");
@@ -158,9 +158,9 @@ fn rows() {
     }
 }
 
-/// Contents octets of 127 to 256 after tag and length, in the form of DER and in others.
+/// 127 to 256 contents octets after tag and length, in DER and in other encodings of BER.
 #[test]
-fn long_der() {
+fn reads_long_der() {
     for (len, head, is_der) in [
         (127, "067F", true),
         (127, "06817F", false),
@@ -177,7 +177,7 @@ fn long_der() {
 }
 
 #[test]
-fn help() {
+fn help_names_each_option() {
     let (out, errors, is_read) = run("--help 3.1", "");
     for option in ["--text", "--hex", "--der", "--name", "--tree", "--help"] {
         assert!(out.contains(&format!("\n  {option} ")), "{option}");

@@ -1,5 +1,5 @@
-//! Each form of each call beside a model, which is written from docs/RULES.md alone: all octets of up to
-//! three, edges of up to eight, all texts of up to eight bytes over a few, lists of arcs, and long ones.
+//! Each form of each function of identifiers beside a model, which is written from docs/RULES.md alone: all octets of
+//! up to three, edges of up to eight, all texts of up to eight bytes over a few, arrays of arcs, and long ones.
 
 use const_oid::{Arc, Error, ObjectIdentifier, ObjectIdentifierRef};
 use std::borrow::Borrow;
@@ -23,7 +23,7 @@ macro_rules! each_capacity {
     };
 }
 
-/// The rules of docs/RULES.md, over lists.
+/// The rules of docs/RULES.md, over vectors.
 mod model {
     use super::{Arc, Error};
 
@@ -174,7 +174,7 @@ fn fed(value: &(impl Hash + ?Sized)) -> Vec<u8> {
     fed.0
 }
 
-/// The calls that read octets, at a capacity.
+/// The functions that read octets, at a capacity.
 fn read_octets<const N: usize>(octets: &[u8], answer: &model::Answer) {
     let fits = octets.len() <= model::capacity(N);
     let owned = ObjectIdentifier::<N>::from_bytes_sized(octets);
@@ -185,7 +185,7 @@ fn read_octets<const N: usize>(octets: &[u8], answer: &model::Answer) {
     }
 }
 
-/// The calls that read octets.
+/// The functions that read octets.
 fn check_octets(octets: &[u8]) {
     let answer = model::of_octets(octets);
     let borrowed = ObjectIdentifierRef::from_bytes(octets);
@@ -208,7 +208,7 @@ fn check_octets(octets: &[u8]) {
     }
 }
 
-/// The calls that read text, at a capacity.
+/// The functions that parse text, at a capacity.
 fn read_text<const N: usize>(text: &str) {
     let answer = model::of_text(text.as_bytes(), model::capacity(N));
     let owned = ObjectIdentifier::<N>::new_sized(text);
@@ -223,7 +223,7 @@ fn read_text<const N: usize>(text: &str) {
     }
 }
 
-/// The calls that read text.
+/// The functions that parse text.
 fn check_text(text: &str) {
     let usual = ObjectIdentifier::new_sized(text);
     assert_eq!(ObjectIdentifier::new(text), usual, "{text}");
@@ -231,7 +231,7 @@ fn check_text(text: &str) {
     read_text::<39>(text);
 }
 
-/// The calls that read arcs, at a capacity.
+/// The functions that take arcs, at a capacity.
 fn read_arcs<const N: usize>(arcs: &[Arc]) {
     let answer = model::of_arcs(arcs, model::capacity(N));
     let owned = ObjectIdentifier::<N>::from_arcs_sized(arcs.iter().copied());
@@ -247,7 +247,7 @@ fn read_arcs<const N: usize>(arcs: &[Arc]) {
     }
 }
 
-/// The calls on a valid identifier, owned.
+/// The functions of a valid identifier, owned.
 fn check_owned<const N: usize>(octets: &[u8], arcs: &[Arc]) {
     let borrowed = ObjectIdentifierRef::from_bytes(octets).unwrap();
     let copied = ObjectIdentifier::<N>::try_from(borrowed);
@@ -295,7 +295,7 @@ fn check_owned<const N: usize>(octets: &[u8], arcs: &[Arc]) {
     }
 }
 
-/// The calls on a valid identifier, borrowed.
+/// The functions of a valid identifier, borrowed.
 fn check_borrowed(octets: &[u8], arcs: &[Arc]) {
     let oid = ObjectIdentifierRef::from_bytes(octets).unwrap();
     let slice: &[u8] = oid.as_ref();
@@ -387,7 +387,7 @@ fn check_encoded(
     }
 }
 
-/// The calls on two identifiers, in each pair of forms.
+/// The functions of two identifiers, in each pair of forms.
 fn check_pair(a: &[u8], b: &[u8]) {
     let (x, y) = (
         ObjectIdentifierRef::from_bytes(a).unwrap(),
@@ -481,13 +481,13 @@ fn valid() -> Vec<Vec<u8>> {
 }
 
 #[test]
-fn all_octets() {
+fn reads_all_octets_up_to_three() {
     let octets: Vec<u8> = (0..=255).collect();
     all(&octets, 3, check_octets);
 }
 
 #[test]
-fn octets_at_edges() {
+fn reads_octets_at_edges() {
     all(&EDGES, 8, check_octets);
     all(&EDGES, 4, |octets| {
         if let Ok(arcs) = model::of_octets(octets) {
@@ -497,7 +497,7 @@ fn octets_at_edges() {
 }
 
 #[test]
-fn long_octets() {
+fn reads_long_octets() {
     for octets in valid() {
         check_octets(&octets);
         check_borrowed(&octets, &model::of_octets(&octets).unwrap());
@@ -509,7 +509,7 @@ fn long_octets() {
 }
 
 #[test]
-fn pairs() {
+fn compares_pairs() {
     let valid: Vec<Vec<u8>> = valid()
         .into_iter()
         .filter(|octets| octets.len() < 90)
@@ -529,7 +529,7 @@ fn pairs() {
 }
 
 #[test]
-fn texts() {
+fn parses_texts() {
     all(b"01234 9.x", 8, |text| {
         let text = std::str::from_utf8(text).unwrap();
         check_text(text);
@@ -561,7 +561,7 @@ fn texts() {
 }
 
 #[test]
-fn arcs() {
+fn encodes_arcs() {
     all(
         &[
             0,
@@ -592,7 +592,7 @@ fn arcs() {
 }
 
 #[test]
-fn subtrees() {
+fn finds_subtrees() {
     let octets: Vec<Vec<u8>> = valid()
         .into_iter()
         .filter(|octets| octets.len() < 12)

@@ -1,4 +1,4 @@
-//! Names of SNMP (RFC 2863, 3418) in a sorted table.
+//! `SortedDatabase` over names of SNMP (RFC 2863, 3418), and `ByArcs` as a key.
 #![cfg(feature = "db")]
 
 use const_oid::db::SortedDatabase;
@@ -119,7 +119,7 @@ fn entries() -> Vec<(&'static ObjectIdentifierRef, &'static str)> {
 }
 
 #[test]
-fn rows() {
+fn finds_each_row() {
     let entries = entries();
     let names = SortedDatabase::try_new(&entries).unwrap();
     for (octets, name, nearest, count, next) in ROWS {
@@ -140,7 +140,7 @@ fn rows() {
 }
 
 #[test]
-fn keys() {
+fn keys_sort_by_arcs() {
     let mut backwards = entries();
     backwards.reverse();
     assert!(SortedDatabase::try_new(&backwards).is_none());
@@ -169,16 +169,16 @@ fn owned(text: &str) -> Result<ByArcs<ObjectIdentifier<255>>, Error> {
     ObjectIdentifier::new_sized(text.strip_prefix('.').unwrap_or(text)).map(ByArcs)
 }
 
-/// Rows of a table of addresses (RFC 4292), too long for 39 octets, in the order in which GETNEXT meets them.
+/// Rows of a table of addresses (RFC 4292), too long for 39 octets, in the order in which GetNext meets them.
 const ROUTES: [&str; 3] = [
     ".1.3.6.1.2.1.4.24.7.1.9.2.16.32.1.13.184.0.0.0.0.0.0.0.0.0.0.0.0.32.2.0.0.2.16.254.128.0.0.0.0.0.0.0.0.0.0.0.0.0.1",
     ".1.3.6.1.2.1.4.24.7.1.9.2.16.32.1.13.184.0.0.0.0.0.0.0.0.0.0.0.0.64.2.0.0.2.16.254.128.0.0.0.0.0.0.0.0.0.0.0.0.0.1",
     ".1.3.6.1.2.1.4.24.7.1.9.2.16.32.2.0.0.0.0.0.0.0.0.0.0.0.0.0.0.16.2.0.0.2.16.254.128.0.0.0.0.0.0.0.0.0.0.0.0.0.1",
 ];
 
-/// A map of owned keys, walked as by GETNEXT.
+/// A map of owned keys, walked as by GetNext.
 #[test]
-fn owned_keys() {
+fn a_map_of_owned_keys_is_walked_in_order() {
     let texts = [
         ROUTES[2],
         ".1.3.256",
@@ -216,7 +216,7 @@ fn owned_keys() {
 
 /// Owned and borrowed keys, in other traits.
 #[test]
-fn key_traits() {
+fn keys_convert_print_and_hash() {
     let key = owned("2.999").unwrap();
     let borrowed: ByArcs<&ObjectIdentifierRef> = oid(&[0x88, 0x37]).into();
     assert_eq!(key, ObjectIdentifier::new_sized("2.999").unwrap().into());

@@ -1,4 +1,4 @@
-//! Identifiers for fuzzing.
+//! Identifiers for fuzzing: `Arbitrary` of `ObjectIdentifier`.
 #![cfg(feature = "arbitrary")]
 
 use arbitrary::{Arbitrary, Unstructured};
@@ -9,7 +9,7 @@ fn drawn(octets: &[u8]) -> arbitrary::Result<ObjectIdentifier> {
 }
 
 #[test]
-fn arcs() {
+fn octets_become_arcs() {
     let oid = drawn(&[2, 0, 0, 0, 231, 3, 0, 0, 3, 0, 0, 0, 1, 4, 0, 0, 0, 0]).unwrap();
     assert_eq!(oid.to_string(), "2.999.3.4");
     let oid = drawn(&[4, 0, 0, 0, 40, 0, 0, 0, 7, 0, 0, 0]).unwrap();
@@ -17,14 +17,14 @@ fn arcs() {
 }
 
 #[test]
-fn as_many_as_fit() {
+fn takes_as_many_arcs_as_fit() {
     let oid = drawn(&[1; 1000]).unwrap();
     assert_eq!(oid.len(), 11);
     assert!(oid.push_arc(0x0101_0101).is_err());
 }
 
 #[test]
-fn three_at_least() {
+fn needs_octets_of_three_arcs() {
     assert!(drawn(&[1; 11]).is_err());
     assert_eq!(drawn(&[1; 12]).unwrap().len(), 3);
     assert_eq!(ObjectIdentifier::size_hint(0), (12, None));
@@ -32,7 +32,7 @@ fn three_at_least() {
 
 /// Every second arc, and every later one, the fourth too.
 #[test]
-fn every_arc() {
+fn takes_any_arc_that_is_in_range() {
     for arc in [
         0,
         39,
