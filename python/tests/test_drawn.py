@@ -1,4 +1,4 @@
-"""100,000 drawn inputs of each kind, against tuples and the model."""
+"""ObjectIdentifier beside tuples and the model: 100,000 drawn inputs of each kind."""
 import random
 import unittest
 
@@ -53,7 +53,7 @@ class Drawn(unittest.TestCase):
         if wanted != found:
             self.fail(f"seed {SEED}: {given!r}: {found!r} is not {wanted!r}")
 
-    def test_arcs(self):
+    def test_arcs_have_the_octets_of_the_model(self):
         """100,000 lists: what is made of them, and their parents and children."""
         for _ in range(100_000):
             arcs = drawn_arcs(self.draw)
@@ -72,7 +72,7 @@ class Drawn(unittest.TestCase):
         self.same(arcs[:-1] if len(arcs) > 2 else None, parent and parent.arcs, arcs)
         self.same(bytes(oid) + model.group(arc), bytes(oid.child(arc)), (arcs, arc))
 
-    def test_pairs(self):
+    def test_pairs_compare_as_tuples_do(self):
         """100,000 pairs: equality, hashes, order and prefixes are those of tuples."""
         for _ in range(100_000):
             left = drawn_arcs(self.draw)[:40]
@@ -86,7 +86,7 @@ class Drawn(unittest.TestCase):
             is_prefix = left[: len(right)] == right
             self.same(is_prefix, a.starts_with(b), (left, right))
 
-    def test_texts(self):
+    def test_texts_have_the_arcs_of_the_model(self):
         """100,000 texts, most of them wrong."""
         for _ in range(100_000):
             text = model.text_of(drawn_arcs(self.draw)[: self.draw.choice([1, 3, 9, 254])])
@@ -94,7 +94,7 @@ class Drawn(unittest.TestCase):
             text = self.draw.choice([changed(self.draw, text, other), text + other, text])
             self.same(result(model.arcs_of_text, text), result(lambda: ObjectIdentifier(text).arcs), text)
 
-    def test_octets(self):
+    def test_octets_have_the_arcs_of_the_model(self):
         """100,000 octets, most of them wrong."""
         for _ in range(100_000):
             octets = b"".join(map(model.group, drawn_arcs(self.draw)[1:]))

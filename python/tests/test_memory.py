@@ -1,4 +1,5 @@
-"""What calls keep of memory. Under the sanitizers of a C compiler, also what they read and write."""
+"""What the functions of ObjectIdentifier and OidError keep of memory. Under the sanitizers of a C compiler, also what
+they read and write."""
 import gc
 import sys
 import tracemalloc
@@ -62,12 +63,12 @@ def measured():
 
 
 class Memory(unittest.TestCase):
-    def test_calls(self):
+    def test_functions_run_in_turn(self):
         """Each call in turn with the others, also where its objects are freed in another order."""
         results = [call() for _ in range(20) for call in CALLS.values()]
         self.assertEqual(20 * len(CALLS), len(results))
 
-    def test_leaks(self):
+    def test_functions_keep_no_memory(self):
         """No call keeps memory, or a reference to what it was given or made from."""
         tracemalloc.start()
         self.addCleanup(tracemalloc.stop)

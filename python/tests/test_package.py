@@ -1,4 +1,4 @@
-"""The package: its examples, the pages, the header, and its types."""
+"""The package const_oid: its examples, the pages, the codes and version of the header, its names and its types."""
 import ast
 import contextlib
 import doctest
@@ -30,7 +30,7 @@ def load_tests(loader, tests, pattern):
 
 
 class Package(unittest.TestCase):
-    def test_pages(self):
+    def test_pages_print_their_comments(self):
         """A line of a page that prints has what it prints as its comment."""
         for page in ("README.md", "python/README.md"):
             blocks = re.findall(r"^```python\n(.*?)^```", (TOP / page).read_text(encoding="utf-8"), re.M | re.S)
@@ -43,18 +43,18 @@ class Package(unittest.TestCase):
                 self.assertEqual(wanted, out.getvalue().splitlines())
                 self.assertEqual(len(wanted), block.count("print("))
 
-    def test_codes(self):
+    def test_codes_are_those_of_the_header(self):
         codes = dict(re.findall(r"CONST_OID_(\w+) = (\d+)", HEADER.split("enum const_oid_code")[1].split("}")[0]))
         del codes["OK"]
         self.assertEqual({code.name: str(int(code)) for code in const_oid.Code}, codes)
 
-    def test_version(self):
+    def test_versions_are_the_same(self):
         version = ".".join(re.search(rf"VERSION_{part} (\d+)", HEADER)[1] for part in ("MAJOR", "MINOR", "PATCH"))
         project = (TOP / "python/pyproject.toml").read_text(encoding="utf-8")
         self.assertIn(f'\nversion = "{version}"\n', project)
         self.assertEqual(version, const_oid.__version__)
 
-    def test_names(self):
+    def test_public_names(self):
         """What the package and each class has, aside from what Python gives it."""
         public = {"Code", "ObjectIdentifier", "OidError", "SortedMap", "__version__", "names"}
         self.assertEqual(public, set(const_oid.__all__))
@@ -63,7 +63,7 @@ class Package(unittest.TestCase):
         self.assertEqual(methods.split(), [name for name in dir(ObjectIdentifier) if not name.startswith("_")])
         self.assertEqual({"const_oid"}, {value.__module__ for value in (ObjectIdentifier, OidError, const_oid.Code)})
 
-    def test_documented(self):
+    def test_public_names_are_documented(self):
         for owner in (const_oid, names, ObjectIdentifier, OidError, SortedMap):
             for name in [name for name in vars(owner) if not name.startswith("_")]:
                 value = getattr(owner, name)
@@ -73,7 +73,7 @@ class Package(unittest.TestCase):
 
 
 class Types(unittest.TestCase):
-    def test_stub(self):
+    def test_the_stub_has_the_arguments(self):
         """The types of the class in C are for the arguments that it has."""
         stub = ast.parse((TOP / "python/src/const_oid/_native.pyi").read_text(encoding="utf-8"))
         declared = {node.name: node for node in stub.body if isinstance(node, ast.ClassDef)}["ObjectIdentifier"]
@@ -85,11 +85,11 @@ class Types(unittest.TestCase):
                 text = inspect.getattr_static(ObjectIdentifier, name).__text_signature__
                 self.assertEqual(arguments, re.findall(r", (\w+)", text))
 
-    def test_typed(self):
+    def test_declared_uses_run(self):
         typed.uses()
 
     @unittest.skipUnless(shutil.which("mypy"), "mypy is not installed")
-    def test_mypy(self):
+    def test_mypy_accepts_declared_uses(self):
         command = ["mypy", "--strict", "--cache-dir=/dev/null", "--python-version=3.11"]
         files = [TOP / "python/src/const_oid", HERE / "typed.py"]
         run = subprocess.run([*command, *files], cwd=TOP / "python/src", text=True, capture_output=True)

@@ -1,4 +1,4 @@
-"""The stored rows of the library for C."""
+"""The rows of the library for C, whose results this package has too: ObjectIdentifier, OidError and SortedMap."""
 import pathlib
 import unittest
 
@@ -82,7 +82,7 @@ def answer(call, words):
 
 
 class Rows(unittest.TestCase):
-    def test_rows(self):
+    def test_rows_have_their_results(self):
         found = set()
         for row in ROWS.read_text(encoding="utf-8").split("\n"):
             if row.startswith("#") or " = " not in row:

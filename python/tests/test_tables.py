@@ -1,4 +1,4 @@
-"""Names, and mappings sorted by arcs, beside tables of tuples."""
+"""const_oid.names and SortedMap, beside tables of tuples."""
 import pathlib
 import random
 import unittest
@@ -17,18 +17,18 @@ def rows():
 
 
 class Names(unittest.TestCase):
-    def test_entries(self):
+    def test_entries_are_the_rows(self):
         self.assertEqual(1492, len(rows()))
         self.assertEqual(rows(), [(oid.arcs, name) for oid, name in names.entries()])
 
-    def test_names(self):
+    def test_each_identifier_has_its_names(self):
         for arcs in {arcs for arcs, _ in rows()}:
             wanted = tuple(name for others, name in rows_of[arcs])
             with self.subTest(arcs):
                 oid = ObjectIdentifier.from_arcs(arcs)
                 self.assertEqual((wanted, wanted[0]), (names.names_of(oid), names.name_of(oid)))
 
-    def test_identifiers(self):
+    def test_each_name_has_its_first_identifier(self):
         """The first entry with a name; the case of ASCII letters does not count, that of others does."""
         first = {}
         for arcs, name in rows():
@@ -38,7 +38,7 @@ class Names(unittest.TestCase):
                 with self.subTest(given):
                     self.assertEqual(arcs, names.by_name(given).arcs)
 
-    def test_unknown(self):
+    def test_others_are_not_found(self):
         oid = ObjectIdentifier("2.999")
         self.assertEqual((None, ()), (names.name_of(oid), names.names_of(oid)))
         # The Kelvin sign is a k in lower case, but no ASCII letter.
@@ -73,7 +73,7 @@ class Sorted(unittest.TestCase):
         self.assertEqual([entry(key, table) for key in below], found.subtree(oid))
         self.assertEqual((arcs in table, table.get(arcs)), (oid in found, found.get(oid)))
 
-    def test_drawn(self):
+    def test_drawn_maps_find_what_tuples_do(self):
         draw = random.Random(SEED)
         for _ in range(200):
             table = {drawn(draw): number for number in range(draw.choice([0, 1, 2, 20]))}
@@ -93,7 +93,7 @@ class Sorted(unittest.TestCase):
         self.assertEqual(sorted(table, reverse=True), [key.arcs for key in reversed(found)])
         self.assertEqual((len(table), bool(table)), (len(found), bool(found)))
 
-    def test_mapping(self):
+    def test_a_map_is_a_mutable_mapping(self):
         oid = ObjectIdentifier("2.5")
         table = SortedMap({oid: 1})
         self.assertIsInstance(table, MutableMapping)
@@ -107,7 +107,7 @@ class Sorted(unittest.TestCase):
                 call(ObjectIdentifier("2.6"))
         self.assertEqual([(oid, 1)], list(table.items()))
 
-    def test_other_types(self):
+    def test_keys_of_other_types_are_rejected(self):
         table = SortedMap()
         for call in (table.nearest, table.next_after, table.subtree, lambda key: table.setdefault(key, 1), lambda key: SortedMap({key: 1})):
             for key in ("2.5", (2, 5), None):

@@ -1,4 +1,4 @@
-"""What identifiers and errors are as values of Python: types, copies, pickles, threads, interpreters."""
+"""ObjectIdentifier and OidError as values of Python: their inputs, copies, pickles, threads and interpreters."""
 import array
 import collections.abc
 import copy
@@ -27,7 +27,7 @@ class Index:
 
 
 class Inputs(unittest.TestCase):
-    def test_other_types(self):
+    def test_other_types_are_rejected(self):
         wrong = {
             ObjectIdentifier: [b"1.2", None, 1, 1.2, ("1", "2")],
             ObjectIdentifier.from_bytes: ["2.999", None, 42, [42, 3], OID, array.array("B", [42])],
@@ -43,7 +43,7 @@ class Inputs(unittest.TestCase):
                 with self.subTest(call=call, given=given), self.assertRaises(TypeError):
                     call(given)
 
-    def test_octets(self):
+    def test_octets_come_from_any_buffer(self):
         source = bytearray(OCTETS)
         taken = [ObjectIdentifier.from_bytes(given) for given in (OCTETS, source, memoryview(source))]
         taken.append(ObjectIdentifier.from_bytes(memoryview(bytes(2 * octet for octet in OCTETS[:1]) + OCTETS)[1:]))
@@ -52,19 +52,19 @@ class Inputs(unittest.TestCase):
         self.assertEqual([OCTETS] * 5, [bytes(oid) for oid in taken])
         self.assertIs(type(bytes(taken[1])), bytes)
 
-    def test_arcs(self):
+    def test_arcs_come_from_any_iterable(self):
         self.assertEqual((2, 999, 1), ObjectIdentifier.from_arcs(iter([2, Index(), True])).arcs)
         self.assertEqual((2, 5, 999), ObjectIdentifier("2.5").child(Index()).arcs)
         self.assertEqual((2, 5), ObjectIdentifier.from_arcs(ObjectIdentifier("2.5")).arcs)
 
-    def test_negative_arcs(self):
+    def test_negative_arcs_are_rejected(self):
         for call, given in {ObjectIdentifier.from_arcs: (1, -2), OID.child: -2}.items():
             with self.subTest(call=call), self.assertRaisesRegex(ValueError, "^an arc is negative: -2$"):
                 call(given)
         with self.assertRaisesRegex(ValueError, "^an arc is negative$"):
             OID.child(-(10**5000))
 
-    def test_identifiers(self):
+    def test_an_identifier_in_place_of_a_text(self):
         """An identifier in place of a text: itself, or one of another class with its octets."""
         under = Under(OID)
         self.assertIs(OID, ObjectIdentifier(OID))
@@ -76,7 +76,7 @@ class Inputs(unittest.TestCase):
             with self.assertRaises(TypeError):
                 ObjectIdentifier(*wrong)
 
-    def test_faults(self):
+    def test_errors_have_code_and_detail(self):
         faults = {
             (ObjectIdentifier, "1.2\n"): (4, 10),
             (ObjectIdentifier, "1.2\0.3"): (4, 0),
@@ -99,7 +99,7 @@ class Inputs(unittest.TestCase):
                     call(*inputs)
                 self.assertEqual(wanted, (caught.exception.code, caught.exception.detail))
 
-    def test_long(self):
+    def test_long_identifiers_work_as_short_ones(self):
         self.assertEqual(LONG.arcs[:-1], LONG.parent.arcs)
         self.assertEqual((*LONG.arcs, 1), LONG.child(1).arcs)
         self.assertEqual((1, 2, *[3] * 299), LONG.arcs)
@@ -112,14 +112,14 @@ class Inputs(unittest.TestCase):
         same = ObjectIdentifier.from_bytes(bytes(LONG))
         self.assertEqual((LONG, hash(LONG), repr(LONG)), (same, hash(same), f"ObjectIdentifier('{LONG}')"))
 
-    def test_long_faults(self):
+    def test_long_octets_are_read_to_the_end(self):
         """Octets past each length that a call might cut: the fault is in the last group."""
         for length in (255, 256, 65_535, 65_536, 70_000, 2**20 + 1):
             with self.subTest(length), self.assertRaises(OidError) as caught:
                 ObjectIdentifier.from_bytes(bytes(length - 1) + b"\x80")
             self.assertIs(caught.exception.code, Code.BASE128)
 
-    def test_long_families(self):
+    def test_long_identifiers_have_parents_and_children(self):
         for oid in (LONG, ObjectIdentifier.from_bytes(bytes(70_000)), ObjectIdentifier("1.2" + ".3" * 254)):
             child = oid.child(2**32 - 1)
             self.assertEqual((bytes(oid) + b"\x8f\xff\xff\xff\x7f", oid), (bytes(child), child.parent))
@@ -127,7 +127,7 @@ class Inputs(unittest.TestCase):
 
 
 class Values(unittest.TestCase):
-    def test_copies(self):
+    def test_copies_are_equal_and_of_one_class(self):
         for oid in (OID, LONG, Under("2.999")):
             copies = [pickle.loads(pickle.dumps(oid, protocol)) for protocol in range(pickle.HIGHEST_PROTOCOL + 1)]
             for other in [*copies, copy.copy(oid), copy.deepcopy([oid])[0]]:
@@ -138,7 +138,7 @@ class Values(unittest.TestCase):
         self.assertEqual(("Under('2.999')", True, False), (repr(Under("2.999")), Under(OID) == OID, Under(OID) < OID))
         self.assertEqual({OID: 1}, {Under(OID): 1})
 
-    def test_subclasses(self):
+    def test_subclasses_have_slots_attributes_and_bases(self):
         """Subclasses have slots, attributes and other bases as those of other classes do."""
 
         class Named(ObjectIdentifier):
@@ -156,7 +156,7 @@ class Values(unittest.TestCase):
         with self.assertRaises(OidError):
             pickle.loads(pickle.dumps(OID, 4).replace(OCTETS, OCTETS[:-1] + b"\x80"))
 
-    def test_immutable(self):
+    def test_nothing_changes_an_identifier(self):
         for name in ("arcs", "parent", "_octets", "_known", "other"):
             with self.subTest(name), self.assertRaises(AttributeError):
                 setattr(OID, name, 1)
@@ -170,7 +170,7 @@ class Values(unittest.TestCase):
         self.assertEqual("1.2.840.10045.2.1", str(OID))
         self.assertFalse(hasattr(OID, "__dict__"))
 
-    def test_keys(self):
+    def test_equal_identifiers_are_one_key(self):
         same = ObjectIdentifier.from_bytes(OCTETS)
         self.assertEqual({OID: 1}, {same: 1})
         self.assertEqual(1, len({OID, same, ObjectIdentifier("01.2.840.10045.2.1")}))
@@ -181,7 +181,7 @@ class Values(unittest.TestCase):
                 with self.assertRaises(TypeError):
                     order(OID, other)
 
-    def test_sequence(self):
+    def test_an_identifier_is_a_sequence(self):
         self.assertEqual([1, 2, 840, 10045, 2, 1], list(OID))
         self.assertEqual((6, 1, 1, (10045, 1)), (len(OID), OID[0], OID[-1], OID[3::2]))
         several = ObjectIdentifier.from_arcs([2, *range(3, 300, 3)])
@@ -204,12 +204,12 @@ class Values(unittest.TestCase):
                 OID[index]
         self.assertEqual("ObjectIdentifier('1.2.840.10045.2.1')", repr(OID))
 
-    def test_format(self):
+    def test_format_is_that_of_the_text(self):
         self.assertEqual("   2.999|2.999*|2.9|2.999", "{0:>8}|{0:*<6}|{0:.3}|{0}".format(ObjectIdentifier("2.999")))
         with self.assertRaises(ValueError):
             f"{OID:d}"
 
-    def test_weak_references(self):
+    def test_weak_references_end(self):
         oid, seen = Under("2.999"), []
         plain = ObjectIdentifier("2.5")
         references = [weakref.ref(oid, seen.append), weakref.ref(plain, seen.append)]
@@ -219,7 +219,7 @@ class Values(unittest.TestCase):
 
 
 class Errors(unittest.TestCase):
-    def test_errors(self):
+    def test_copies_of_an_error_have_its_fields(self):
         with self.assertRaises(ValueError) as caught:
             ObjectIdentifier("1.40")
         error = caught.exception
@@ -234,7 +234,7 @@ class Errors(unittest.TestCase):
         self.assertEqual("expected digit, got 'ÿ'", str(OidError(4, 255)))
         self.assertEqual("DIGIT_EXPECTED 256", str(OidError(4, 256)))
 
-    def test_given(self):
+    def test_an_error_has_what_was_given(self):
         calls = {
             ObjectIdentifier.from_bytes: (b"\x80", b"\x80"),
             ObjectIdentifier.from_arcs: (iter((3, 1)), (3, 1)),
@@ -245,7 +245,7 @@ class Errors(unittest.TestCase):
                 call(given)
             self.assertEqual((wanted, None), (caught.exception.given, caught.exception.piece))
 
-    def test_pieces(self):
+    def test_an_error_has_the_first_wrong_piece(self):
         """Which piece is the first wrong one."""
         pieces = {"": 0, "1": None, "3": 0, "x.2": 0, ".1": 0, "..": 0, "1.": 1, "1..2": 1, "1.2.": 2, "1.2.3..4": 3}
         pieces |= {"3.4": 0, "1.40.x": 1, "2.99999999999": 1, "1.2.3x.y": 2, "1.2" + ".3" * 255 + ".4": 256, "1.\ud800": 1}
@@ -256,7 +256,7 @@ class Errors(unittest.TestCase):
 
 
 class Threads(unittest.TestCase):
-    def test_threads(self):
+    def test_threads_do_not_mix_identifiers(self):
         """Eight threads, each with identifiers and errors of its own."""
         interval, wrong = sys.getswitchinterval(), []
         start = threading.Barrier(8)
@@ -294,7 +294,7 @@ except const_oid.OidError as error:
 
 
 class Interpreters(unittest.TestCase):
-    def test_interpreters(self):
+    def test_interpreters_have_their_own_class(self):
         """Each interpreter has its own class."""
         try:
             import _interpreters as interpreters

@@ -1,4 +1,4 @@
-"""The wheel, what is installed of it, and how it is built."""
+"""backend.py: the wheel, what is installed of it, and how it is built."""
 import base64
 import email
 import hashlib
@@ -53,7 +53,7 @@ class Wheel(unittest.TestCase):
             cls.entries = archive.infolist()
             cls.files = {entry.filename: archive.read(entry) for entry in cls.entries}
 
-    def test_files(self):
+    def test_the_wheel_has_the_package_alone(self):
         """Nothing but the package and what says what it is; all may read it, none may run it."""
         self.assertEqual((FILES, len(FILES)), (set(self.files), len(self.entries)))
         self.assertEqual({0o100644}, {entry.external_attr >> 16 for entry in self.entries})
@@ -62,11 +62,11 @@ class Wheel(unittest.TestCase):
         for name in ("LICENSE-APACHE", "LICENSE-MIT"):
             self.assertEqual((TOP / name).read_bytes(), self.files[f"{STEM}.dist-info/{name}"])
 
-    def test_installed(self):
+    def test_each_file_is_installed(self):
         installed = {str(path) for path in importlib.metadata.files("const-oid") if path.suffix != ".pyc"}
         self.assertEqual(FILES | {f"{STEM}.dist-info/{name}" for name in ("INSTALLER", "REQUESTED", "direct_url.json")}, installed)
 
-    def test_record(self):
+    def test_the_record_has_each_digest(self):
         rows = [row.split(",") for row in self.files[f"{STEM}.dist-info/RECORD"].decode().splitlines()]
         self.assertEqual(sorted(FILES), sorted(name for name, _, _ in rows))
         for name, digest, length in rows:
@@ -74,13 +74,13 @@ class Wheel(unittest.TestCase):
                 wanted = base64.urlsafe_b64encode(hashlib.sha256(self.files[name]).digest()).decode().rstrip("=")
                 self.assertEqual((f"sha256={wanted}", str(len(self.files[name]))), (digest, length))
 
-    def test_tag(self):
+    def test_the_tag_says_abi_and_machine(self):
         """The name and WHEEL say that the module is for the stable ABI, and for this machine."""
         self.assertRegex(self.name, rf"^{STEM}-cp311-abi3-[a-z]+_[a-z0-9_]+\.whl$")
         said = email.message_from_bytes(self.files[f"{STEM}.dist-info/WHEEL"])
         self.assertEqual((self.name.removeprefix(f"{STEM}-").removesuffix(".whl"), "false"), (said["Tag"], said["Root-Is-Purelib"]))
 
-    def test_metadata(self):
+    def test_the_metadata_is_that_of_the_project(self):
         project = tomllib.loads((TOP / "python/pyproject.toml").read_text(encoding="utf-8"))["project"]
         readme = (TOP / "python/README.md").read_text(encoding="utf-8")
         self.check_metadata(self.files[f"{STEM}.dist-info/METADATA"].decode(), project, readme)
@@ -95,14 +95,14 @@ class Wheel(unittest.TestCase):
         self.assertEqual(project["classifiers"], said.get_all("Classifier"))
         self.assertEqual(("text/markdown", readme), (said["Description-Content-Type"], said.get_payload()))
 
-    def test_same(self):
+    def test_another_build_has_the_same_bytes(self):
         """Another build has the same bytes."""
         status, name, files = built("build_wheel")
         self.assertEqual((0, self.name), (status, name))
         self.assertEqual({name: self.wheel}, files)
 
     @unittest.skipUnless(shutil.which("twine"), "twine is not installed")
-    def test_twine(self):
+    def test_twine_accepts_the_wheel(self):
         with tempfile.TemporaryDirectory() as folder:
             wheel = pathlib.Path(folder) / self.name
             wheel.write_bytes(self.wheel)
@@ -110,7 +110,7 @@ class Wheel(unittest.TestCase):
         self.assertEqual(0, run.returncode, run.stdout + run.stderr)
 
     @unittest.skipUnless(shutil.which("nm"), "nm is not installed")
-    def test_symbols(self):
+    def test_the_module_shows_its_start_alone(self):
         """The module shows its start alone, and needs no library but that of C."""
         module = pathlib.Path(importlib.util.find_spec("const_oid._native").origin)
         run = subprocess.run(["nm", "-D", "--defined-only", module], text=True, capture_output=True, check=True)
@@ -134,7 +134,7 @@ def program(folder, name, text):
 
 
 class Build(unittest.TestCase):
-    def test_cargo(self):
+    def test_cargo_builds_for_this_machine(self):
         """cargo builds for this machine whatever its configuration says, and the module has what it built."""
         libdir = subprocess.run(["pkg-config", "--variable=libdir", "const_oid_c"], text=True, capture_output=True, check=True)
         with tempfile.TemporaryDirectory() as name:
@@ -152,7 +152,7 @@ class Build(unittest.TestCase):
         crate = str(TOP / "rust/const-oid-c/Cargo.toml")
         self.assertEqual({"--target": "a-host", "--target-dir": f"{name}/target", "--manifest-path": crate}, found)
 
-    def test_editable(self):
+    def test_an_editable_install_sees_a_change(self):
         """A change of a source is seen at once; the wheel has no file of the package."""
         with tempfile.TemporaryDirectory() as folder:
             top = pathlib.Path(folder)
@@ -172,7 +172,7 @@ class Build(unittest.TestCase):
             self.assertEqual(("cn\n", ""), (run.stdout, run.stderr))
             self.assertEqual(["const_oid"], os.listdir(place))
 
-    def test_missing(self):
+    def test_what_is_missing_is_named(self):
         """What is missing is named, all of it, before anything is built."""
         status, said, files = built("build_wheel", None, PATH="/missing")
         self.assertEqual((1, {}), (status, files))
@@ -182,19 +182,19 @@ class Build(unittest.TestCase):
         status, said, files = built("build_wheel", PKG_CONFIG_PATH="/missing", PKG_CONFIG_LIBDIR="/missing")
         self.assertRegex(said, r"^const-oid: to be installed first: the library const_oid_c, .* PKG_CONFIG_PATH")
 
-    def test_old_rust(self):
+    def test_an_old_rust_is_rejected(self):
         with tempfile.TemporaryDirectory() as folder:
             for tool in ("rustc", "cargo"):
                 program(pathlib.Path(folder), tool, "#!/bin/sh\necho 'rustc 1.84.1'\n")
             status, said, files = built("build_wheel", None, PATH=f"{folder}:{os.environ['PATH']}", RUSTC=f"{folder}/rustc")
         self.assertEqual("const-oid: to be installed first: rustc 1.85 or later (https://rustup.rs)", said)
 
-    def test_compiler_fails(self):
+    def test_a_compiler_that_fails_is_reported(self):
         status, said, files = built("build_wheel", CC="false")
         self.assertEqual((1, {}), (status, files))
         self.assertIn("ends with status 1", said)
 
-    def test_other_version(self):
+    def test_a_library_of_another_version_is_rejected(self):
         """A module over a library of another version does not import."""
         with tempfile.TemporaryDirectory() as folder:
             other = pathlib.Path(folder) / "other.h"

@@ -34,10 +34,10 @@ def _by_oid() -> dict[ObjectIdentifier, list[str]]:
 
 @cache
 def _by_name() -> dict[bytes, ObjectIdentifier]:
-    return {_folded(name): oid for oid, name in reversed(entries())}
+    return {_fold_case(name): oid for oid, name in reversed(entries())}
 
 
-def _folded(name: str) -> bytes:
+def _fold_case(name: str) -> bytes:
     """A name without the case of its ASCII letters."""
     return name.encode("utf-8", "surrogatepass").lower()
 
@@ -58,4 +58,4 @@ def names_of(oid: ObjectIdentifier) -> tuple[str, ...]:
 
 def by_name(name: str) -> ObjectIdentifier | None:
     """The first identifier with a name, whatever the case of its ASCII letters, or None."""
-    return _by_name().get(_folded(name))
+    return _by_name().get(_fold_case(name))

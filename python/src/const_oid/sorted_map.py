@@ -27,7 +27,7 @@ class SortedMap(MutableMapping[ObjectIdentifier, Value]):
     ) -> None:
         self._values = dict(entries)
         for key in self._values:
-            _checked(key)
+            _require_oid(key)
         self._keys = sorted(self._values)
 
     def nearest(self, oid: ObjectIdentifier) -> tuple[ObjectIdentifier, Value] | None:
@@ -37,7 +37,7 @@ class SortedMap(MutableMapping[ObjectIdentifier, Value]):
         >>> names.nearest(ObjectIdentifier("2.5.4.3"))
         (ObjectIdentifier('2.5.4'), 'attributes')
         """
-        prefix: ObjectIdentifier | None = _checked(oid)
+        prefix: ObjectIdentifier | None = _require_oid(oid)
         while prefix is not None and prefix not in self._values:
             prefix = prefix.parent
         return None if prefix is None else self._entry(bisect_left(self._keys, prefix))
@@ -49,7 +49,7 @@ class SortedMap(MutableMapping[ObjectIdentifier, Value]):
         >>> names.next_after(ObjectIdentifier("2.5.4"))
         (ObjectIdentifier('2.5.10'), 2)
         """
-        index = bisect(self._keys, _checked(oid))
+        index = bisect(self._keys, _require_oid(oid))
         return self._entry(index) if index < len(self._keys) else None
 
     def subtree(self, oid: ObjectIdentifier) -> list[tuple[ObjectIdentifier, Value]]:
@@ -59,7 +59,7 @@ class SortedMap(MutableMapping[ObjectIdentifier, Value]):
         >>> names.subtree(ObjectIdentifier("2.5"))
         [(ObjectIdentifier('2.5.4'), 1), (ObjectIdentifier('2.5.4.3'), 2)]
         """
-        start = bisect_left(self._keys, _checked(oid))
+        start = bisect_left(self._keys, _require_oid(oid))
         end = bisect_left(self._keys, True, start, key=lambda key: not key.starts_with(oid))
         return [self._entry(index) for index in range(start, end)]
 
@@ -71,7 +71,7 @@ class SortedMap(MutableMapping[ObjectIdentifier, Value]):
         return self._values[key]
 
     def __setitem__(self, key: ObjectIdentifier, value: Value) -> None:
-        if _checked(key) not in self._values:
+        if _require_oid(key) not in self._values:
             insort(self._keys, key)
         self._values[key] = value
 
@@ -95,7 +95,7 @@ class SortedMap(MutableMapping[ObjectIdentifier, Value]):
         return f"{type(self).__name__}({dict(self.items())!r})"
 
 
-def _checked(key: ObjectIdentifier) -> ObjectIdentifier:
+def _require_oid(key: ObjectIdentifier) -> ObjectIdentifier:
     if not isinstance(key, ObjectIdentifier):
         raise TypeError(f"the key is an ObjectIdentifier, not {type(key).__name__}")
     return key
