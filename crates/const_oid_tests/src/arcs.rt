@@ -5,8 +5,8 @@ use const_oid::arcs::Arc;
 use const_oid::{Error, ObjectIdentifierRef, Oid};
 use std::alloc::{AllocError, Global};
 
-/// How octets begin, how many times a unit of octets follows, how they end; how many arcs they have, an index, and
-/// the arc there, if there is one.
+/// How octets begin, how many times other octets follow, how they end; how many arcs they have, an index, and the
+/// arc there, if there is one.
 type Row = (
     &'static [u8],
     usize,
@@ -49,7 +49,7 @@ fn of_borrowed(octets: &[u8], index: usize) -> Result<(usize, Option<Arc>), Erro
     Ok((oid.len(), oid.arc(index)))
 }
 
-/// The same of an owned identifier.
+/// How many arcs owned octets have, and the arc at an index.
 fn of_owned(octets: &[u8], index: usize) -> Result<(usize, Option<Arc>), Error> {
     let oid = Oid::from_bytes(octets)?;
     Ok((oid.len(), oid.arc(index)))
@@ -66,7 +66,7 @@ fn has_arcs(alloc: Global, row: &Row) -> Result<bool, AllocError> {
 }
 
 #[test]
-fn counts_and_arcs(rt: HostRuntime) -> Result<(), AllocError> {
+fn counts_arcs_and_finds_each(rt: HostRuntime) -> Result<(), AllocError> {
     for row in ROWS {
         assert!(rt; has_arcs(rt.alloc(), row)?, "{row:?}");
     }
@@ -87,7 +87,7 @@ fn has_last_arc(alloc: Global, len: usize) -> Result<bool, AllocError> {
 }
 
 #[test]
-fn many_arcs(rt: HostRuntime) -> Result<(), AllocError> {
+fn finds_the_last_of_many_arcs(rt: HostRuntime) -> Result<(), AllocError> {
     for len in LENGTHS {
         assert!(rt; has_last_arc(rt.alloc(), *len)?, "{len} octets");
     }

@@ -1,10 +1,7 @@
-//! Each use, run once.
+//! Tests of `const_oid_uses`, without the modules `label` and `walk`: each function runs once.
 
 use const_oid::db::Database;
 use const_oid::{Arc, AssociatedOid, Error, ObjectIdentifierRef, Oid};
-use std::alloc::{AllocError, Global};
-use std::cmp::Ordering;
-use std::test::Fail;
 use const_oid_uses::algorithms::{name_in, name_of};
 use const_oid_uses::constants::{EC_PUBLIC_KEY, is_ec_public_key, is_its_text, sha256_with_rsa};
 use const_oid_uses::fixed::printed;
@@ -13,6 +10,9 @@ use const_oid_uses::schema::{Attribute, CommonName, Country, find, has_type};
 use const_oid_uses::subtree::range_of;
 use const_oid_uses::table::{ATTRIBUTE_TYPES, is_attribute_type, is_named};
 use const_oid_uses::theorems;
+use std::alloc::{AllocError, Global};
+use std::cmp::Ordering;
+use std::test::Fail;
 
 /// rsaEncryption (RFC 8017).
 const RSA: [u8; 9] = [0x2A, 0x86, 0x48, 0x86, 0xF7, 0x0D, 0x01, 0x01, 0x01];
@@ -35,7 +35,7 @@ fn is_above_enterprises(text: &str) -> Result<bool, Error> {
 }
 
 #[test]
-fn facts(rt: HostRuntime) -> Result<(), Fail> {
+fn rsa_and_enterprises_have_their_relatives(rt: HostRuntime) -> Result<(), Fail> {
     let rsa = theorems::rsa_encryption();
     assert!(rt; is_known(rsa));
     assert!(rt; is_above_enterprises("1.3.6.1.4") == Ok(true));
@@ -43,9 +43,9 @@ fn facts(rt: HostRuntime) -> Result<(), Fail> {
     Ok(())
 }
 
-/// A call: what both orders return is proved.
+/// What both orders return is proved, and here it runs.
 #[test]
-fn orders(rt: HostRuntime) -> Result<(), Fail> {
+fn a_prefix_is_less_in_both_orders(rt: HostRuntime) -> Result<(), Fail> {
     let oid = Oid::new("1.3.6.1")?;
     let below = Oid::new("1.3.6.1.4.1")?;
     assert!(rt; below.starts_with(oid) && below != oid);
@@ -53,9 +53,9 @@ fn orders(rt: HostRuntime) -> Result<(), Fail> {
     Ok(())
 }
 
-/// The text denotes the octets; the first line is two calls, whose results are proved.
+/// The text denotes the octets. The results of the first line are proved, and here they run.
 #[test]
-fn constant(rt: HostRuntime) -> Result<(), Fail> {
+fn constants_have_their_texts_and_octets(rt: HostRuntime) -> Result<(), Fail> {
     assert!(rt; is_its_text() && is_ec_public_key(&EC_PUBLIC_KEY));
     assert!(rt; format!(in rt.alloc(); "{EC_PUBLIC_KEY}")?.as_str() == "1.2.840.10045.2.1");
     assert!(rt;
@@ -68,7 +68,7 @@ fn constant(rt: HostRuntime) -> Result<(), Fail> {
 
 /// The shortest text, and the longest of 39 octets: 2.47, and .127 for each octet that follows.
 #[test]
-fn shortest_and_longest_text(rt: HostRuntime) -> Result<(), Fail> {
+fn prints_the_shortest_and_the_longest_text(rt: HostRuntime) -> Result<(), Fail> {
     let mut out = [0; 156];
     assert!(rt; printed(&Oid::new("0.0")?, &mut out) == "0.0");
     let text = printed(&Oid::from_bytes(&[0x7F; 39])?, &mut out);
@@ -83,7 +83,7 @@ fn last_of_child(oid: ObjectIdentifierRef<'_>, arc: Arc) -> Result<Option<u8>, E
 }
 
 #[test]
-fn capacity(rt: HostRuntime) -> Result<(), Error> {
+fn a_child_fits_ten_octets_or_is_too_long(rt: HostRuntime) -> Result<(), Error> {
     let oid = ObjectIdentifierRef::from_bytes(&RSA)?;
     let wide = widened::<255>(&theorems::rsa_encryption())?;
     assert!(rt; last_of_child(oid, 127) == Ok(Some(127)));
@@ -93,7 +93,7 @@ fn capacity(rt: HostRuntime) -> Result<(), Error> {
 }
 
 #[test]
-fn attributes(rt: HostRuntime) {
+fn finds_attribute_types_by_name_and_text(rt: HostRuntime) {
     let common_name = CommonName::associated_oid();
     let country = Country::associated_oid();
     let entries = [
@@ -127,7 +127,7 @@ const ATTRIBUTE_ROWS: &[(&str, &str)] = &[
 
 /// The table has each row, and no other.
 #[test]
-fn attribute_types(rt: HostRuntime) -> Result<(), Fail> {
+fn the_table_has_each_row_and_no_other(rt: HostRuntime) -> Result<(), Fail> {
     assert!(rt; ATTRIBUTE_TYPES.len() == ATTRIBUTE_ROWS.len());
     for (name, text) in ATTRIBUTE_ROWS {
         let oid = Oid::new(text)?;
@@ -139,13 +139,14 @@ fn attribute_types(rt: HostRuntime) -> Result<(), Fail> {
 
 /// A name in another case, and identifiers that the table has by another name or not at all.
 #[test]
-fn other_names(rt: HostRuntime) {
-    let unit = Oid::new_unwrap("2.5.4.11");
-    assert!(rt; is_named(&unit.as_oid_ref(), "OU") && !is_named(&unit.as_oid_ref(), "o"));
+fn matches_a_name_in_any_case_and_no_other(rt: HostRuntime) {
+    let organizational_unit = Oid::new_unwrap("2.5.4.11");
+    let oid = organizational_unit.as_oid_ref();
+    assert!(rt; is_named(&oid, "OU") && !is_named(&oid, "o"));
     assert!(rt; !is_attribute_type(&EC_PUBLIC_KEY));
 }
 
-/// Octets, and the name of their algorithm or their fault.
+/// Octets, and the name of their algorithm, if it has one, or their error.
 const NAMED: &[(&[u8], Result<Option<&str>, Error>)] = &[
     (&RSA, Ok(Some("rsaEncryption"))),
     (&[0x2B, 0x65, 0x70], Ok(Some("Ed25519"))),
@@ -163,13 +164,13 @@ fn is_answered(
 }
 
 #[test]
-fn algorithms(rt: HostRuntime) {
+fn names_algorithms(rt: HostRuntime) {
     let rsa = theorems::rsa_encryption();
     let ed25519 = Oid::new_unwrap("1.3.101.112");
     let entries = [(&rsa, "rsaEncryption"), (&ed25519, "Ed25519")];
     let database = Database::new(&entries);
     for (octets, answer) in NAMED {
-        assert!(rt; is_answered(&database, octets, answer));
+        assert!(rt; is_answered(&database, octets, answer), "{octets:?}");
     }
     assert!(rt; name_in(&Database::new(&[]), &database, &rsa) == Some("rsaEncryption"));
 }
@@ -195,7 +196,7 @@ fn borrowed(alloc: Global, owned: &[Oid]) -> Result<Vec<ObjectIdentifierRef<'_>>
 }
 
 #[test]
-fn thousand(rt: HostRuntime) -> Result<(), Fail> {
+fn finds_a_column_of_a_thousand_sorted_cells(rt: HostRuntime) -> Result<(), Fail> {
     let cells = cells(rt.alloc())?;
     let mut oids = borrowed(rt.alloc(), &cells)?;
     let third = Oid::new_unwrap("1.3.6.1.2.1.2.2.1.3");

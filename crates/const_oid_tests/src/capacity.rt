@@ -12,9 +12,9 @@ fn max_size() -> usize
     Oid::MAX_SIZE
 }
 
-/// A call: its result is proved.
+/// The result is proved, and here it runs.
 #[test]
-fn usual_capacity(rt: HostRuntime) {
+fn the_usual_capacity_is_39(rt: HostRuntime) {
     assert!(rt; max_size() == 39);
 }
 
@@ -68,7 +68,7 @@ fn is_accepted(alloc: Global, row: &Row) -> Result<bool, AllocError> {
 }
 
 #[test]
-fn octets(rt: HostRuntime) -> Result<(), AllocError> {
+fn octets_fit_or_are_too_long(rt: HostRuntime) -> Result<(), AllocError> {
     for row in OCTETS {
         assert!(rt; is_accepted(rt.alloc(), row)?, "{row:?}");
     }
@@ -105,15 +105,15 @@ const SECOND_ARCS: &[(usize, &str, Option<Error>)] = &[
 ];
 
 #[test]
-fn second_arcs(rt: HostRuntime) {
+fn second_arcs_fit_or_are_too_long(rt: HostRuntime) {
     for (capacity, text, error) in SECOND_ARCS {
         assert!(rt; text_error(*capacity, text) == *error, "{capacity}: {text}");
     }
 }
 
-/// Long groups in just enough octets.
+/// Subidentifiers of more than one octet, in just enough octets.
 #[test]
-fn seven_octets(rt: HostRuntime) {
+fn arcs_of_seven_octets_fit(rt: HostRuntime) {
     let arcs: &[Arc] = &[1, 2, 840, 10045, 2, 1];
     let oid = ObjectIdentifier::<7>::from_arcs_sized(arcs.iter().copied());
     assert!(rt; is_answer(oid, Ok(&[0x2A, 0x86, 0x48, 0xCE, 0x3D, 0x02, 0x01])));

@@ -3,7 +3,7 @@
 use const_oid::{Error, ObjectIdentifier, Oid};
 use std::cmp::Ordering;
 
-/// Two texts, and how the arcs of the first compare to those of the second. A longer group is the greater
+/// Two texts, and how the arcs of the first compare to those of the second. A longer subidentifier is the greater
 /// number, whatever its first octet.
 const ROWS: &[(&str, &str, Ordering)] = &[
     ("0.0", "0.39", Ordering::Less),
@@ -42,7 +42,7 @@ fn compare(left: &str, right: &str, order: Ordering) -> Result<bool, Error> {
 }
 
 #[test]
-fn order_of_arcs(rt: HostRuntime) {
+fn compares_arcs_as_numbers(rt: HostRuntime) {
     for (left, right, order) in ROWS {
         assert!(rt; compare(left, right, *order) == Ok(true), "{left} {right}");
     }

@@ -15,7 +15,7 @@ fn copies<const N: usize>(octets: &[u8], error: Option<Error>) -> Result<bool, E
     })
 }
 
-/// The same for one of the capacities that the rows name.
+/// `copies` at one of the capacities that the rows name.
 fn copies_at(capacity: usize, octets: &[u8], error: Option<Error>) -> Result<bool, Error> {
     match capacity {
         2 => copies::<2>(octets, error),
@@ -51,7 +51,7 @@ fn is_equal<const N: usize>(borrowed: &[u8], owned: &[u8]) -> Result<bool, Error
     Ok(ObjectIdentifierRef::from_bytes(borrowed)?.eq_oid(&owned))
 }
 
-/// The same for one of the capacities that the rows name.
+/// `is_equal` at one of the capacities that the rows name.
 fn is_equal_at(capacity: usize, borrowed: &[u8], owned: &[u8]) -> Result<bool, Error> {
     match capacity {
         2 => is_equal::<2>(borrowed, owned),
@@ -69,11 +69,11 @@ const PAIRS: &[(usize, &[u8], &[u8], bool)] = &[
 ];
 
 #[test]
-fn equal_to_an_owned_one(rt: HostRuntime) {
+fn equals_an_owned_one_of_any_capacity(rt: HostRuntime) {
     for (capacity, borrowed, owned, wanted) in PAIRS {
         assert!(rt;
             is_equal_at(*capacity, borrowed, owned) == Ok(*wanted),
-            "{capacity}: {borrowed:?}"
+            "{capacity}: {borrowed:?} and {owned:?}"
         );
     }
 }

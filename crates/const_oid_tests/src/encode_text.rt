@@ -30,27 +30,29 @@ pub const ARCS: &[(Arc, &str)] = &[
     (4_294_967_295, "1.2.4294967295"),
 ];
 
+/// Whether an output begins with a text, whose length `text_len` and `encode_text` returned.
+fn has_text(out: &[u8], text: &[u8], len: usize, written: Option<usize>) -> bool {
+    len == text.len() && written == Some(len) && out.starts_with(text)
+}
+
 /// Whether a borrowed identifier writes its text, borrows it as a `str`, and returns its length.
 fn borrowed_writes(oid: ObjectIdentifierRef<'_>, text: &[u8], out: &mut [u8]) -> bool {
-    oid.text_len() == text.len()
-        && oid.encode_text(out) == Some(text.len())
-        && out.starts_with(text)
+    let written = oid.encode_text(out);
+    has_text(out, text, oid.text_len(), written)
         && oid.encode_str(out).map(str::as_bytes) == Some(text)
 }
 
-/// The same of an owned one.
+/// Whether an owned identifier does.
 fn owned_writes(oid: &ObjectIdentifier<255>, text: &[u8], out: &mut [u8]) -> bool {
-    oid.text_len() == text.len()
-        && oid.encode_text(out) == Some(text.len())
-        && out.starts_with(text)
+    let written = oid.encode_text(out);
+    has_text(out, text, oid.text_len(), written)
         && oid.encode_str(out).map(str::as_bytes) == Some(text)
 }
 
-/// The same of an error.
+/// Whether an error does.
 fn error_writes(error: Error, text: &[u8], out: &mut [u8]) -> bool {
-    error.text_len() == text.len()
-        && error.encode_text(out) == Some(text.len())
-        && out.starts_with(text)
+    let written = error.encode_text(out);
+    has_text(out, text, error.text_len(), written)
         && error.encode_str(out).map(str::as_bytes) == Some(text)
 }
 
@@ -63,14 +65,14 @@ fn both_write(arc: Arc, text: &[u8]) -> Result<bool, Error> {
 }
 
 #[test]
-fn arcs(rt: HostRuntime) {
+fn writes_arcs_of_each_number_of_digits(rt: HostRuntime) {
     for (arc, text) in ARCS {
         assert!(rt; both_write(*arc, text.as_bytes()) == Ok(true), "{text}");
     }
 }
 
 #[test]
-fn errors(rt: HostRuntime) {
+fn writes_each_error(rt: HostRuntime) {
     for (error, text) in MESSAGES {
         assert!(rt;
             error_writes(*error, text.as_bytes(), &mut [0; 48]),
@@ -79,7 +81,7 @@ fn errors(rt: HostRuntime) {
     }
 }
 
-/// The octets and the text of a first group, how many groups follow, and their octets and text.
+/// The octets and the text of the first subidentifier, how many others follow, and the octets and the text of each.
 type Row = (
     &'static [u8],
     &'static [u8],
@@ -120,9 +122,13 @@ fn is_written(alloc: Global, row: &Row) -> Result<bool, Fail> {
 }
 
 #[test]
-fn long_texts(rt: HostRuntime) -> Result<(), Fail> {
+fn writes_long_texts(rt: HostRuntime) -> Result<(), Fail> {
     for row in LONG {
-        assert!(rt; is_written(rt.alloc(), row)?, "{} groups", row.2);
+        assert!(rt;
+            is_written(rt.alloc(), row)?,
+            "{} subidentifiers",
+            row.2.saturating_add(1)
+        );
     }
     Ok(())
 }
@@ -145,9 +151,9 @@ fn writes_nothing(len: usize) -> bool {
     is_none && out == [b'x'; 5]
 }
 
-/// Where `encode_str` returns `None`, it writes nothing. A clause of `encode_text` says so of that call.
+/// Where `encode_str` returns `None`, it writes nothing. A clause says so of `encode_text`.
 #[test]
-fn written_before_none(rt: HostRuntime) {
+fn none_leaves_the_output_as_it_was(rt: HostRuntime) {
     for len in 0..5 {
         assert!(rt; writes_nothing(len), "{len}");
     }

@@ -1,4 +1,4 @@
-//! Errors: compared, copied and printed.
+//! Errors, compared, copied and printed: `==`, `cmp`, `partial_cmp`, `clone` and Display of `Error`.
 
 ghost use Rattle.std.specs.Prelude.{◌≡◌, ◌↔◌, IsTrue, IsOk, IfOk, Some};
 ghost use Rattle.const_oid.specs.Error.{error_cmp};
@@ -36,7 +36,7 @@ fn cloned(error: &Error) -> Result<Error, AllocError>
 }
 
 #[test]
-fn compared(rt: HostRuntime) -> Result<(), AllocError> {
+fn compares_variants_and_then_numbers(rt: HostRuntime) -> Result<(), AllocError> {
     let error = Error::ArcInvalid { arc: 40 };
     let other = Error::ArcInvalid { arc: 3 };
     assert!(rt; same(error, cloned(&error)?) && !same(error, other));
@@ -133,7 +133,7 @@ pub const MESSAGES: &[(Error, &str)] = &[
 
 /// Each error prints its text in one write, whatever the options, and reports a failed write.
 #[test]
-fn messages(rt: HostRuntime) -> Result<(), AllocError> {
+fn prints_each_error_in_one_write(rt: HostRuntime) -> Result<(), AllocError> {
     for (error, text) in MESSAGES {
         let is_printed = prints(rt.alloc(), error, text)? && count_writes(error, text) == Some(1);
         assert!(rt; is_printed, "{text}");
@@ -148,7 +148,7 @@ fn prints_byte(alloc: Global, actual: u8) -> Result<bool, AllocError> {
 }
 
 #[test]
-fn each_byte(rt: HostRuntime) -> Result<(), AllocError> {
+fn prints_each_byte_as_a_character(rt: HostRuntime) -> Result<(), AllocError> {
     for actual in 0..=255 {
         assert!(rt; prints_byte(rt.alloc(), actual)?, "{actual}");
     }
@@ -162,7 +162,7 @@ fn prints_arc(alloc: Global, arc: Arc) -> Result<bool, AllocError> {
 }
 
 #[test]
-fn each_arc(rt: HostRuntime) -> Result<(), AllocError> {
+fn prints_arcs_in_decimal(rt: HostRuntime) -> Result<(), AllocError> {
     for arc in 0..=9_999 {
         assert!(rt; prints_arc(rt.alloc(), arc)?, "{arc}");
     }

@@ -1,4 +1,4 @@
-//! What values print, and a formatter's target that takes one text alone and may fail a write.
+//! What several tests share to print values: a formatter's target that takes one text alone and may fail a write.
 
 use crate::vectors::long_text;
 use std::alloc::{AllocError, Global};
@@ -7,12 +7,12 @@ use std::fmt::{Debug, Display, Write};
 
 /// Whether a value prints as this text, plain and under each option, alone and together.
 pub fn prints<T: Display>(alloc: Global, value: &T, text: &str) -> Result<bool, AllocError> {
-    let unit = long_text(alloc, text, 1, "|", "")?;
-    let texts = long_text(alloc, "", 10, unit.as_str(), "")?;
+    let column = long_text(alloc, text, 1, "|", "")?;
+    let texts = long_text(alloc, "", 11, column.as_str(), "")?;
     let mut target = OneText::of(texts.as_str());
     let written = write!(
         target,
-        "{value}|{value:#}|{value:+}|{value:.3}|{value:30}|{value:030}|{value:<30}|{value:^30}|{value:*>60}|{value:*^+#80.1}|"
+        "{value}|{value:#}|{value:+}|{value:.3}|{value:20}|{value:30}|{value:030}|{value:<30}|{value:^30}|{value:*>60}|{value:*^+#80.1}|"
     );
     Ok(written.is_ok() && target.rest.is_empty())
 }

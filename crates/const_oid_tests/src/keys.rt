@@ -1,4 +1,4 @@
-//! Identifiers as keys of maps, and their hashes.
+//! Identifiers of both forms as keys of `HashMap` and `BTreeMap`, and their hashes: `hash`, `==` and `cmp`.
 
 ghost use Rattle.std.specs.Prelude.{◌≡◌, fold};
 ghost use Rattle.std.specs.Hash as fed;
@@ -39,7 +39,7 @@ fn hashed(alloc: Global) -> Result<HashMap<Oid, usize>, Fail> {
     Ok(counts)
 }
 
-/// The same in order.
+/// The numbers of arcs of the shared rows, in the order of the identifiers of their octets.
 fn sorted(alloc: Global) -> Result<BTreeMap<Oid, usize>, Fail> {
     let mut counts = BTreeMap::new(alloc);
     for (_, octets, arcs) in accepted_rows() {
@@ -62,9 +62,9 @@ fn wrong_key(hashed: &HashMap<Oid, usize>, sorted: &BTreeMap<Oid, usize>) -> Opt
     None
 }
 
-/// The identifiers of the texts are the same keys.
+/// The identifiers of the texts are those keys.
 #[test]
-fn finds_keys(rt: HostRuntime) -> Result<(), Fail> {
+fn finds_keys_by_text(rt: HostRuntime) -> Result<(), Fail> {
     let hashed = hashed(rt.alloc())?;
     let sorted = sorted(rt.alloc())?;
     assert_eq!(rt; wrong_key(&hashed, &sorted), None);
@@ -75,7 +75,8 @@ fn finds_keys(rt: HostRuntime) -> Result<(), Fail> {
     Ok(())
 }
 
-/// Whether the parent of octets, if there is one, hashes as the identifier of the arcs before the last, and is found by it.
+/// Whether the parent of octets, if there is one, hashes as the identifier of the arcs before the last, and is found
+/// by it.
 fn is_parent_found(alloc: Global, octets: &[u8], arcs: &[Arc]) -> Result<bool, Fail> {
     let Some(parent) = Oid::from_bytes(octets)?.parent() else {
         return Ok(arcs.len() == 2);

@@ -1,4 +1,4 @@
-//! Tests of `const_oid` over its public calls, and of `const_oid_uses`: rows from outside, and what no clause says.
+//! Tests of `const_oid` over its public functions, and of `const_oid_uses`: rows from outside, and what no clause says.
 #![tactic(auto)]
 
 #[cfg(test)]
@@ -16,15 +16,13 @@ mod encode_text;
 #[cfg(test)]
 mod errors;
 #[cfg(test)]
-mod readme;
-#[cfg(test)]
 mod formatter;
 #[cfg(test)]
-mod items;
+mod from_arcs;
 #[cfg(test)]
 mod keys;
 #[cfg(test)]
-mod mib;
+mod labels;
 #[cfg(test)]
 mod names;
 #[cfg(test)]
@@ -34,11 +32,13 @@ mod order;
 #[cfg(test)]
 mod printing;
 #[cfg(test)]
+mod readme;
+#[cfg(test)]
+mod search;
+#[cfg(test)]
 mod short_slices;
 #[cfg(test)]
-mod snmp;
-#[cfg(test)]
-mod sorted;
+mod sorted_database;
 #[cfg(test)]
 mod subtree;
 #[cfg(test)]
@@ -49,3 +49,5 @@ mod traits;
 mod tree;
 #[cfg(test)]
 mod vectors;
+#[cfg(test)]
+mod walk;

@@ -1,4 +1,5 @@
-//! Tables of names: `Database`, and `RefDatabase` of constants.
+//! Tables of names: `Database`, and `RefDatabase` of constants, with what they find: `by_oid`, `by_name`,
+//! `find_names_for_oid` and `resolve`.
 
 ghost use Rattle.std.specs.Prelude.{◌≡◌, IsOk, IfOk};
 ghost use Rattle.const_oid.specs.Names.{entries_of, ref_entries_of};
@@ -107,7 +108,7 @@ fn wrong_row(database: &Database<'_>) -> Option<&'static str> {
 
 /// A table of attribute types (RFC 4519) and an algorithm (RFC 8017), in which one identifier has two names.
 #[test]
-fn names_and_identifiers(rt: HostRuntime) -> Result<(), Fail> {
+fn finds_names_and_identifiers(rt: HostRuntime) -> Result<(), Fail> {
     let common_name = Oid::new("2.5.4.3")?;
     let country = Oid::new("2.5.4.6")?;
     let rsa = Oid::new("1.2.840.113549.1.1.1")?;
@@ -195,7 +196,7 @@ fn is_table(row: &Table) -> Result<bool, Error> {
 }
 
 #[test]
-fn tables(rt: HostRuntime) {
+fn finds_the_first_of_equal_names(rt: HostRuntime) {
     for row in TABLES {
         assert!(rt; is_table(row) == Ok(true), "{row:?}");
     }
@@ -216,7 +217,7 @@ const TABLE: [(ObjectIdentifierRef<'static>, &str); 3] = [
     (COMMON_NAME, "commonName"),
 ];
 
-/// Whether an identifier of constants has these names in table order, and then none, each time.
+/// Whether an identifier has these names in the order of the table of constants, and then none, each time.
 fn has_constant_names(oid: ObjectIdentifierRef<'_>, wanted: &[&str]) -> bool {
     let mut names = RefDatabase::new(&TABLE).find_names_for_oid(oid);
     for name in wanted {
@@ -228,7 +229,7 @@ fn has_constant_names(oid: ObjectIdentifierRef<'_>, wanted: &[&str]) -> bool {
 }
 
 #[test]
-fn table_of_constants(rt: HostRuntime) -> Result<(), AllocError> {
+fn finds_in_a_table_of_constants(rt: HostRuntime) -> Result<(), AllocError> {
     let database = ref_clone_of(&RefDatabase::new(&TABLE))?;
     let unnamed = ObjectIdentifierRef { ber: &[0x55, 0x04] };
     assert!(rt; database.by_oid(&COMMON_NAME) == Some("cn") && database.by_oid(&unnamed).is_none());

@@ -1,4 +1,4 @@
-//! Identifiers from contents octets: `from_bytes` of both forms.
+//! Identifiers from contents octets: `from_bytes` of both forms, and `text_from_bytes`.
 
 use crate::vectors::{accepted_rows, refused_octets};
 use const_oid::{Error, ObjectIdentifierRef, Oid};
@@ -10,7 +10,7 @@ fn both_answer(octets: &[u8], error: Option<Error>) -> bool {
 }
 
 #[test]
-fn refused(rt: HostRuntime) {
+fn rejects_each_row(rt: HostRuntime) {
     for (octets, error) in refused_octets() {
         assert!(rt; both_answer(octets, Some(*error)), "{octets:?}");
     }
@@ -18,7 +18,7 @@ fn refused(rt: HostRuntime) {
 
 /// Octets with room for their text are printed as they are checked, and one byte less is no room.
 #[test]
-fn printed(rt: HostRuntime) {
+fn prints_octets_as_it_checks_them(rt: HostRuntime) {
     let mut out = [0; 23];
     let octets = [0x88, 0x37, 0x03];
     assert!(rt; ObjectIdentifierRef::text_from_bytes(&octets, &mut out[..22]) == None);
@@ -28,10 +28,10 @@ fn printed(rt: HostRuntime) {
     assert!(rt; fault == Some(Err(Error::Base128)));
 }
 
-/// The borrowed form has no capacity: it accepts 41 arcs, which are too long for an owned one. Both reject an
-/// unfinished group after them.
+/// The borrowed form has no capacity: it accepts 41 arcs, which are too long for an owned one. Both reject a truncated
+/// subidentifier after them.
 #[test]
-fn longer_than_an_owned_one(rt: HostRuntime) {
+fn borrows_more_octets_than_an_owned_one_has(rt: HostRuntime) {
     let mut octets = [1; 41];
     octets[0] = 0x2A;
     let count = ObjectIdentifierRef::from_bytes(&octets[..40]).map(|oid| oid.len());
@@ -41,8 +41,8 @@ fn longer_than_an_owned_one(rt: HostRuntime) {
     assert!(rt; both_answer(&octets, Some(Error::Base128)));
 }
 
-/// How many octets of accepted ones are accepted or rejected otherwise than by the last of them, which says
-/// whether its group has ended.
+/// How many of accepted octets are accepted or rejected otherwise than by the last of them, which says whether its
+/// subidentifier is complete.
 fn wrong_prefix(octets: &[u8]) -> Option<usize> {
     for end in 0..=octets.len() {
         let prefix = &octets[..end];
@@ -59,15 +59,15 @@ fn wrong_prefix(octets: &[u8]) -> Option<usize> {
 }
 
 #[test]
-fn prefixes(rt: HostRuntime) {
+fn accepts_prefixes_that_end_with_a_subidentifier(rt: HostRuntime) {
     for (text, octets, _) in accepted_rows() {
         let len = wrong_prefix(octets);
         assert!(rt; len.is_none(), "{len:?} octets of {text}");
     }
 }
 
-/// The index of the first group of accepted octets, or their end, before which 0x80 is not `Base128`.
-fn wrong_group(alloc: Global, octets: &[u8]) -> Result<Option<usize>, AllocError> {
+/// The index of the first subidentifier of accepted octets, or their end, before which 0x80 is not `Base128`.
+fn wrong_subidentifier(alloc: Global, octets: &[u8]) -> Result<Option<usize>, AllocError> {
     for index in 0..=octets.len() {
         let (before, after) = octets.split_at(index);
         if let Some(0x80..) = before.last() {
@@ -81,11 +81,11 @@ fn wrong_group(alloc: Global, octets: &[u8]) -> Result<Option<usize>, AllocError
     Ok(None)
 }
 
-/// No group begins with 0x80: the first one, the second, and so on.
+/// No subidentifier begins with 0x80: the first one, the second, and so on.
 #[test]
-fn groups_after_0x80(rt: HostRuntime) -> Result<(), AllocError> {
+fn rejects_0x80_before_each_subidentifier(rt: HostRuntime) -> Result<(), AllocError> {
     for (text, octets, _) in accepted_rows() {
-        let index = wrong_group(rt.alloc(), octets)?;
+        let index = wrong_subidentifier(rt.alloc(), octets)?;
         assert!(rt; index.is_none(), "{index:?} of {text}");
     }
     Ok(())

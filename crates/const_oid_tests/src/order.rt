@@ -61,7 +61,7 @@ fn ref_clone_of<'a>(oid: &ObjectIdentifierRef<'a>) -> Result<ObjectIdentifierRef
     oid.clone()
 }
 
-/// A caller of `clone`, which is proved and not run: no public call returns a buffer.
+/// A caller of `clone`, which is proved and not run: no public function returns a buffer.
 fn buffer_clone_of<const N: usize>(buffer: &Buffer<N>) -> Result<Buffer<N>, AllocError>
     ensures always { IsOk result }
     ensures equal { IfOk result (λ copy. octets_of copy ≡ octets_of buffer.now) }
@@ -101,7 +101,7 @@ fn compare(a: &[u8], b: &[u8], order: Ordering) -> Result<bool, Fail> {
 }
 
 #[test]
-fn owned_pairs(rt: HostRuntime) -> Result<(), Fail> {
+fn owned_ones_are_ordered_by_length_first(rt: HostRuntime) -> Result<(), Fail> {
     for (i, a) in SHORT_FIRST.iter().enumerate() {
         for (j, b) in SHORT_FIRST.iter().enumerate() {
             assert!(rt; compare(a, b, i.cmp(&j))?, "{a:?} and {b:?}");
@@ -123,7 +123,7 @@ fn compare_refs(a: &[u8], b: &[u8], order: Ordering) -> Result<bool, Fail> {
 }
 
 #[test]
-fn borrowed_pairs(rt: HostRuntime) -> Result<(), Fail> {
+fn borrowed_ones_are_ordered_by_octets(rt: HostRuntime) -> Result<(), Fail> {
     for (i, a) in ASCENDING.iter().enumerate() {
         for (j, b) in ASCENDING.iter().enumerate() {
             assert!(rt; compare_refs(a, b, i.cmp(&j))?, "{a:?} and {b:?}");

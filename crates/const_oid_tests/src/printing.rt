@@ -1,4 +1,4 @@
-//! Identifiers of both forms, printed: Display and Debug.
+//! Identifiers of both forms, printed under options and to a target that fails: Display and Debug.
 
 use crate::encode_text::ARCS;
 use crate::formatter::{DebugText, DebugTexts, count_writes, prints, prints_as};
@@ -83,7 +83,7 @@ fn prints_equal_octets(
     prints_octets(alloc, octets.as_slice(), text.as_str())
 }
 
-/// The same of octets 7F and of octets 01.
+/// Whether so many octets 7F print as their text, and so many octets 01.
 fn prints_count(alloc: Global, count: usize) -> Result<bool, Fail> {
     Ok(
         prints_equal_octets(alloc, 0x7F, "2.47", ".127", count)?
@@ -93,7 +93,7 @@ fn prints_count(alloc: Global, count: usize) -> Result<bool, Fail> {
 
 /// Each number of octets up to 520.
 #[test]
-fn of_any_length(rt: HostRuntime) -> Result<(), Fail> {
+fn prints_each_length(rt: HostRuntime) -> Result<(), Fail> {
     for count in 1..=520 {
         assert!(rt; prints_count(rt.alloc(), count)?, "{count}");
     }
@@ -102,7 +102,7 @@ fn of_any_length(rt: HostRuntime) -> Result<(), Fail> {
 
 /// Numbers of octets that are past any buffer of a fixed size.
 #[test]
-fn past_any_buffer(rt: HostRuntime) -> Result<(), Fail> {
+fn prints_past_any_buffer(rt: HostRuntime) -> Result<(), Fail> {
     for count in &[2046, 10_000] {
         assert!(rt; prints_count(rt.alloc(), *count)?, "{count}");
     }
@@ -146,7 +146,7 @@ fn reports_each(row: &Row) -> Result<bool, Error> {
 }
 
 #[test]
-fn refused_writes(rt: HostRuntime) {
+fn reports_each_failed_write(rt: HostRuntime) {
     for row in DEBUG {
         assert!(rt; reports_each(row) == Ok(true), "{}", row.1);
     }
@@ -160,7 +160,7 @@ fn takes_several_writes(text: &str) -> Result<bool, Error> {
 }
 
 #[test]
-fn refused_writes_of_a_long_text(rt: HostRuntime) -> Result<(), Fail> {
+fn reports_each_failed_write_of_a_long_text(rt: HostRuntime) -> Result<(), Fail> {
     let text = long_text(rt.alloc(), "2.47", 254, ".127", "")?;
     assert!(rt; takes_several_writes(text.as_str()) == Ok(true));
     Ok(())

@@ -1,4 +1,4 @@
-//! The first calls.
+//! The block of Rattle in the README.
 
 use const_oid::{ObjectIdentifierRef, Oid};
 use std::test::Fail;

@@ -1,10 +1,11 @@
-//! All slices of at most two octets, counted by what each call returns for them.
+//! All slices of at most two octets, counted by what each function returns for them: `from_bytes`, `from_bytes_sized`
+//! and `try_from_ref`.
 
 ghost use Rattle.std.specs.Prelude.{◌≤◌};
 
 use const_oid::{Error, ObjectIdentifier, ObjectIdentifierRef, Oid};
 
-/// A call that reads octets.
+/// A function that reads octets, at a capacity.
 #[derive(Clone, Copy)]
 enum Form {
     Borrowed,
@@ -20,7 +21,7 @@ enum Form {
     Copied2,
 }
 
-/// What a form returns. [`Error::Overflow`], which no call returns, marks other arcs than those that
+/// What a form returns. [`Error::Overflow`], which no function returns, marks other arcs than those that
 /// are wanted.
 fn answer(form: Form, octets: &[u8]) -> Option<Error> {
     match (form, ObjectIdentifierRef::from_bytes(octets)) {
@@ -120,7 +121,7 @@ const COUNTS: &[(Form, u16, u16, Option<Error>, usize)] = &[
 ];
 
 #[test]
-fn every_short_slice(rt: HostRuntime) {
+fn reads_every_short_slice(rt: HostRuntime) {
     for (row, (form, from, below, wanted, count)) in COUNTS.iter().enumerate() {
         assert!(rt;
             how_many(*form, *from, *below, *wanted) == *count,

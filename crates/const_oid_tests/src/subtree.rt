@@ -1,4 +1,4 @@
-//! Subtrees of borrowed identifiers: `subtree`.
+//! Ranges of borrowed identifiers that begin with a prefix, in the order of octets: `subtree` of `ObjectIdentifierRef`.
 
 use crate::vectors::ASCENDING;
 use const_oid::ObjectIdentifierRef;
@@ -36,9 +36,12 @@ fn range_of(alloc: Global, list: &[&[u8]], prefix: &[u8]) -> Result<(usize, usiz
 }
 
 #[test]
-fn ranges(rt: HostRuntime) -> Result<(), Fail> {
+fn finds_ranges(rt: HostRuntime) -> Result<(), Fail> {
     for (list, prefix, range) in ROWS {
-        assert!(rt; range_of(rt.alloc(), list, prefix)? == *range, "{prefix:?}");
+        assert!(rt;
+            range_of(rt.alloc(), list, prefix)? == *range,
+            "{prefix:?}: {range:?}"
+        );
     }
     Ok(())
 }
@@ -56,7 +59,7 @@ fn are_adjacent(oids: &BTreeSet<ObjectIdentifierRef<'_>>) -> bool {
 
 /// A set in order, put in backwards.
 #[test]
-fn ordered_set(rt: HostRuntime) -> Result<(), Fail> {
+fn a_set_keeps_subtrees_together(rt: HostRuntime) -> Result<(), Fail> {
     let mut oids = BTreeSet::new(rt.alloc());
     for octets in ASCENDING.iter().rev() {
         oids.insert(ObjectIdentifierRef::from_bytes(octets)?)?;

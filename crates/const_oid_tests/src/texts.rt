@@ -1,4 +1,4 @@
-//! Identifiers from dotted text: `new`, `parse`, `from_ascii` and literals.
+//! Identifiers from dotted text: `new`, `parse`, `from_ascii` and `new_unwrap`, and `resolve` of long text.
 
 use crate::formatter::prints_as;
 use crate::vectors::{is_answer, long_text};
@@ -56,7 +56,7 @@ const REFUSED: &[(&str, Error)] = &[
     ("2.40.4294967296", Error::ArcTooBig),
 ];
 
-/// Whether each call that reads a text has this result for it.
+/// Whether each function that parses a text has this result for it.
 fn all_read(text: &str, wanted: Result<&[u8], Error>) -> bool {
     is_answer(Oid::new(text), wanted)
         && is_answer(text.parse(), wanted)
@@ -64,7 +64,7 @@ fn all_read(text: &str, wanted: Result<&[u8], Error>) -> bool {
 }
 
 #[test]
-fn refused(rt: HostRuntime) {
+fn rejects_each_text(rt: HostRuntime) {
     for (text, error) in REFUSED {
         assert!(rt; all_read(text, Err(*error)), "of {text}");
     }
@@ -82,7 +82,7 @@ const NOT_UTF8: &[(&[u8], Error)] = &[
 ];
 
 #[test]
-fn not_utf8(rt: HostRuntime) {
+fn rejects_bytes_that_are_not_utf8(rt: HostRuntime) {
     for (text, error) in NOT_UTF8 {
         assert!(rt; Oid::from_ascii(text) == Err(*error), "of {text:?}");
     }
@@ -107,7 +107,7 @@ fn prints_again(text: &str, printed: &str, octets: &[u8]) -> Result<bool, Error>
 }
 
 #[test]
-fn leading_zeros(rt: HostRuntime) {
+fn leading_zeros_change_nothing(rt: HostRuntime) {
     for (text, printed, octets) in LEADING_ZEROS {
         assert!(rt; prints_again(text, printed, octets) == Ok(true), "{text}");
     }
@@ -135,7 +135,7 @@ fn has_len(alloc: Global, row: &Row) -> Result<bool, AllocError> {
 }
 
 #[test]
-fn longest(rt: HostRuntime) -> Result<(), AllocError> {
+fn parses_39_octets_at_most(rt: HostRuntime) -> Result<(), AllocError> {
     for row in LONG {
         assert!(rt; has_len(rt.alloc(), row)?, "{row:?}");
     }
@@ -160,7 +160,7 @@ fn is_left<'a>(database: &Database<'a>, text: &'a str, error: Option<Error>) -> 
     }
 }
 
-/// Whether each call that reads a text has this result for one of 100,000 zeros between these.
+/// Whether each function that parses a text has this result for one of 100,000 zeros between these.
 fn reads_zeros(
     alloc: Global,
     prefix: &str,
@@ -173,18 +173,18 @@ fn reads_zeros(
 }
 
 #[test]
-fn zeros(rt: HostRuntime) -> Result<(), AllocError> {
+fn parses_100_000_zeros(rt: HostRuntime) -> Result<(), AllocError> {
     for (prefix, end, wanted) in ZEROS {
         assert!(rt;
             reads_zeros(rt.alloc(), prefix, end, *wanted)?,
-            "{prefix} {end}"
+            "{prefix}, zeros, {end}"
         );
     }
     Ok(())
 }
 
 #[test]
-fn literals(rt: HostRuntime) {
+fn parses_a_literal(rt: HostRuntime) {
     let oid = Oid::new_unwrap("1.2.840.113549.1.1.1");
     assert!(rt;
         oid.as_bytes() == [0x2A, 0x86, 0x48, 0x86, 0xF7, 0x0D, 0x01, 0x01, 0x01].as_slice()

@@ -1,4 +1,4 @@
-//! Identifiers of a type, and of values that hold one.
+//! Identifiers of types and of values: `AssociatedOid`, `DynAssociatedOid` and `position_of`.
 
 ghost use Rattle.std.specs.Prelude.{◌≡◌, [], ◌∷◌};
 ghost use Rattle.const_oid.specs.Oid.{oid_arcs};
@@ -42,7 +42,7 @@ fn oid_of<T: AssociatedOid>(value: &T) -> Oid
 }
 
 #[test]
-fn of_a_type(rt: HostRuntime) {
+fn a_value_has_the_identifier_of_its_type(rt: HostRuntime) {
     let oid = Unit::associated_oid();
     assert!(rt; oid.as_bytes() == [0x2A, 0x03].as_slice() && oid_of(&Unit) == oid);
 }
@@ -66,7 +66,7 @@ const INDICES: &[(&[&str], &str, Option<usize>)] = &[
 ];
 
 #[test]
-fn first_index(rt: HostRuntime) -> Result<(), Fail> {
+fn finds_the_first_index(rt: HostRuntime) -> Result<(), Fail> {
     for (held, text, index) in INDICES {
         assert!(rt;
             index_among(rt.alloc(), held, text)? == *index,
@@ -89,7 +89,7 @@ fn indices(alloc: Global) -> Result<(Option<usize>, Option<usize>), AllocError> 
 
 /// Both are first in both orders.
 #[test]
-fn of_both_kinds(rt: HostRuntime) -> Result<(), AllocError> {
+fn finds_values_of_both_kinds(rt: HostRuntime) -> Result<(), AllocError> {
     assert_eq!(rt; indices(rt.alloc())?, (Some(0), Some(0)));
     Ok(())
 }

@@ -5,6 +5,7 @@ ghost use Rattle.std.specs.Prelude.{◌≤◌};
 use crate::vectors::{is_answer, long_octets};
 use const_oid::{Arc, Error, ObjectIdentifier, ObjectIdentifierRef, Oid};
 use std::alloc::{AllocError, Global};
+use std::test::Fail;
 
 /// The octets of an identifier, and those of its parent, if there is one.
 const PARENTS: &[(&[u8], Option<&[u8]>)] = &[
@@ -26,31 +27,6 @@ const PARENTS: &[(&[u8], Option<&[u8]>)] = &[
         Some(&[0x90, 0x80, 0x80, 0x80, 0x4F]),
     ),
     (&[0x2A, 0x86, 0x48, 0x01], Some(&[0x2A, 0x86, 0x48])),
-    // 32 octets before an arc of two.
-    (
-        &[
-            0x2A, 0x01, 0x01, 0x01, 0x01, 0x01, 0x01, 0x01, 0x01, 0x01, 0x01, 0x01, 0x01, 0x01,
-            0x01, 0x01, 0x01, 0x01, 0x01, 0x01, 0x01, 0x01, 0x01, 0x01, 0x01, 0x01, 0x01, 0x01,
-            0x01, 0x01, 0x01, 0x01, 0x81, 0x00,
-        ],
-        Some(&[
-            0x2A, 0x01, 0x01, 0x01, 0x01, 0x01, 0x01, 0x01, 0x01, 0x01, 0x01, 0x01, 0x01, 0x01,
-            0x01, 0x01, 0x01, 0x01, 0x01, 0x01, 0x01, 0x01, 0x01, 0x01, 0x01, 0x01, 0x01, 0x01,
-            0x01, 0x01, 0x01, 0x01,
-        ]),
-    ),
-    (
-        &[
-            0x2A, 0x01, 0x01, 0x01, 0x01, 0x01, 0x01, 0x01, 0x01, 0x01, 0x01, 0x01, 0x01, 0x01,
-            0x01, 0x01, 0x01, 0x01, 0x01, 0x01, 0x01, 0x01, 0x01, 0x01, 0x01, 0x01, 0x01, 0x01,
-            0x01, 0x01, 0x01, 0x81, 0x00,
-        ],
-        Some(&[
-            0x2A, 0x01, 0x01, 0x01, 0x01, 0x01, 0x01, 0x01, 0x01, 0x01, 0x01, 0x01, 0x01, 0x01,
-            0x01, 0x01, 0x01, 0x01, 0x01, 0x01, 0x01, 0x01, 0x01, 0x01, 0x01, 0x01, 0x01, 0x01,
-            0x01, 0x01, 0x01,
-        ]),
-    ),
 ];
 
 /// Whether the parent has these octets in both forms, or there is none.
@@ -67,10 +43,26 @@ fn has_parent(octets: &[u8], wanted: Option<&[u8]>) -> Result<bool, Error> {
 }
 
 #[test]
-fn parents(rt: HostRuntime) {
+fn finds_each_parent(rt: HostRuntime) {
     for (octets, wanted) in PARENTS {
         assert!(rt; has_parent(octets, *wanted) == Ok(true), "{octets:?}");
     }
+}
+
+/// Whether 1.2 and so many arcs 1 are the parent of the identifier with one more arc, of two octets.
+fn is_parent(alloc: Global, count: usize) -> Result<bool, Fail> {
+    let parent = long_octets(alloc, &[0x2A], count, &[0x01], &[])?;
+    let octets = long_octets(alloc, &[0x2A], count, &[0x01], &[0x81, 0x00])?;
+    Ok(has_parent(octets.as_slice(), Some(parent.as_slice()))?)
+}
+
+/// Parents on both sides of 32 octets.
+#[test]
+fn finds_long_parents(rt: HostRuntime) -> Result<(), Fail> {
+    for count in 29..34 {
+        assert!(rt; is_parent(rt.alloc(), count)?, "{count}");
+    }
+    Ok(())
 }
 
 /// Whether a capacity takes one more arc with this result, and keeps the old value.
@@ -83,7 +75,7 @@ fn pushes<const N: usize>(octets: &[u8], arc: Arc, wanted: Result<&[u8], Error>)
     }
 }
 
-/// The same for one of the capacities that the rows name.
+/// `pushes` at one of the capacities that the rows name.
 fn pushes_at(capacity: usize, octets: &[u8], arc: Arc, wanted: Result<&[u8], Error>) -> bool {
     match capacity {
         1 => pushes::<1>(octets, arc, wanted),
@@ -107,7 +99,7 @@ const CHILDREN: &[(usize, &[u8], Arc, Result<&[u8], Error>)] = &[
 ];
 
 #[test]
-fn children(rt: HostRuntime) {
+fn makes_each_child_that_fits(rt: HostRuntime) {
     for (capacity, octets, arc, wanted) in CHILDREN {
         assert!(rt;
             pushes_at(*capacity, octets, *arc, *wanted),
@@ -123,7 +115,7 @@ fn has_no_child(alloc: Global, arc: Arc) -> Result<bool, AllocError> {
 }
 
 #[test]
-fn no_child_of_255_octets(rt: HostRuntime) -> Result<(), AllocError> {
+fn makes_no_child_of_255_octets(rt: HostRuntime) -> Result<(), AllocError> {
     assert!(rt; has_no_child(rt.alloc(), 0)?);
     Ok(())
 }
@@ -173,7 +165,7 @@ fn begins(octets: &[u8], prefix: &[u8], wanted: bool) -> Result<bool, Error> {
 }
 
 #[test]
-fn prefixes(rt: HostRuntime) {
+fn begins_with_each_prefix(rt: HostRuntime) {
     for (octets, prefix, wanted) in PREFIXES {
         assert!(rt;
             begins(octets, prefix, *wanted) == Ok(true),

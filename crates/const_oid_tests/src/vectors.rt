@@ -108,7 +108,7 @@ const ACCEPTED: &[Row] = &[
         &[0x90, 0x80, 0x80, 0x80, 0x4F],
         &[2, 4294967295],
     ),
-    // First groups at the edges of one to five octets.
+    // First subidentifiers at the edges of one to five octets.
     ("2.47.0", &[0x7F, 0x00], &[2, 47, 0]),
     ("2.16303", &[0xFF, 0x7F], &[2, 16303]),
     ("2.16304.127", &[0x81, 0x80, 0x00, 0x7F], &[2, 16304, 127]),
@@ -164,7 +164,7 @@ const REFUSED_OCTETS: &[(&[u8], Error)] = &[
         &[0x2A, 0x81, 0x80, 0x80, 0x80, 0x80, 0x00],
         Error::ArcTooBig,
     ),
-    // Groups with two faults: the first in the order of the rules is returned.
+    // Subidentifiers with two faults: the error of the first in the order of the rules is returned.
     (&[0x2A, 0x80, 0x90, 0x80, 0x80, 0x80, 0x00], Error::Base128),
     (&[0x2A, 0x80, 0x90, 0x80, 0x80, 0x80], Error::Base128),
     (
@@ -196,39 +196,39 @@ pub const ASCENDING: &[&[u8]] = &[
     &[0x88, 0x37, 0x03],
 ];
 
-/// A prefix, so many times a unit, and an end.
+/// A text of a prefix, so many times another text, and an end.
 pub fn long_text(
     alloc: Global,
     prefix: &str,
     count: usize,
-    unit: &str,
+    repeated: &str,
     end: &str,
 ) -> Result<String, AllocError> {
     let mut text = String::from_str(alloc, prefix)?;
     for _ in 0..count {
-        text.push_str(unit)?;
+        text.push_str(repeated)?;
     }
     text.push_str(end)?;
     Ok(text)
 }
 
-/// A prefix, so many times a unit, and an end.
+/// Octets of a prefix, so many times others, and an end.
 pub fn long_octets(
     alloc: Global,
     prefix: &[u8],
     count: usize,
-    unit: &[u8],
+    repeated: &[u8],
     end: &[u8],
 ) -> Result<Vec<u8>, AllocError> {
     let mut octets = prefix.to_vec(alloc)?;
     for _ in 0..count {
-        octets.extend_from_slice(unit)?;
+        octets.extend_from_slice(repeated)?;
     }
     octets.extend_from_slice(end)?;
     Ok(octets)
 }
 
-/// Whether a call made an identifier of these octets, or returned this error.
+/// Whether a function returned an identifier of these octets, or this error.
 pub fn is_answer<const N: usize>(
     made: Result<ObjectIdentifier<N>, Error>,
     wanted: Result<&[u8], Error>,
@@ -255,7 +255,7 @@ fn is_owned(text: &str, octets: &[u8], arcs: &[Arc]) -> Result<bool, Error> {
 }
 
 #[test]
-fn owned(rt: HostRuntime) {
+fn owned_ones_have_the_rows(rt: HostRuntime) {
     for (text, octets, arcs) in accepted_rows() {
         assert!(rt; is_owned(text, octets, arcs) == Ok(true), "{text}");
     }
@@ -274,7 +274,7 @@ fn is_borrowed(text: &str, octets: &[u8], arcs: &[Arc]) -> Result<bool, Error> {
 }
 
 #[test]
-fn borrowed(rt: HostRuntime) {
+fn borrowed_ones_have_the_rows(rt: HostRuntime) {
     for (text, octets, arcs) in accepted_rows() {
         assert!(rt; is_borrowed(text, octets, arcs) == Ok(true), "{text}");
     }

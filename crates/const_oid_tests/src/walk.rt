@@ -1,4 +1,5 @@
-//! Rows of SNMP, in the order of a walk (RFC 3416).
+//! Rows of SNMP in the order of a walk (RFC 3416): `next_after` and `next_under` of `const_oid_uses::walk`, and `ByArcs`
+//! as a key.
 
 ghost use Rattle.std.specs.Cmp.Lexicographic.{slice_cmp};
 ghost use Rattle.std.specs.List.Sorted.{IsSortedByKey};
@@ -6,11 +7,11 @@ ghost use Rattle.std.specs.Ordering.{nat_cmp};
 ghost use Rattle.const_oid.specs.OidRef.{key_arcs};
 
 use const_oid::{ByArcs, Error, ObjectIdentifier, ObjectIdentifierRef, Oid};
+use const_oid_uses::theorems::through_text;
+use const_oid_uses::walk::{next_after, next_under};
 use std::alloc::Global;
 use std::collections::BTreeMap;
 use std::test::Fail;
-use const_oid_uses::theorems::through_text;
-use const_oid_uses::walk::{next_after, next_under};
 
 /// sysDescr (RFC 3418), columns of interfaces by their number (RFC 2863), connections over IPv4 and
 /// IPv6 by addresses and ports (RFC 4022), enterprises.
@@ -58,7 +59,7 @@ fn oids(alloc: Global) -> Result<Vec<ObjectIdentifier<255>>, Fail> {
     Ok(oids)
 }
 
-/// Their keys.
+/// The keys of identifiers.
 fn keys(alloc: Global, oids: &[ObjectIdentifier<255>]) -> Result<Vec<ByArcs<'_>>, Fail> {
     let mut keys = Vec::new(alloc);
     for oid in oids {
@@ -101,7 +102,7 @@ fn count_under(sorted: &[ByArcs<'_>], root: &ObjectIdentifierRef<'_>) -> usize
 }
 
 #[test]
-fn walk(rt: HostRuntime) -> Result<(), Fail> {
+fn walks_the_rows_in_order(rt: HostRuntime) -> Result<(), Fail> {
     let oids = oids(rt.alloc())?;
     let mut keys = keys(rt.alloc(), &oids)?;
     keys.sort()?;
@@ -127,7 +128,7 @@ fn map(
 }
 
 #[test]
-fn map_in_order(rt: HostRuntime) -> Result<(), Fail> {
+fn a_map_keeps_the_rows_in_order(rt: HostRuntime) -> Result<(), Fail> {
     let oids = oids(rt.alloc())?;
     let rows = map(rt.alloc(), &oids)?;
     assert!(rt; rows.len() == ROWS.len());
@@ -138,7 +139,7 @@ fn map_in_order(rt: HostRuntime) -> Result<(), Fail> {
 }
 
 #[test]
-fn row_over_ipv6(rt: HostRuntime) -> Result<(), Fail> {
+fn a_row_over_ipv6_is_past_the_usual_capacity(rt: HostRuntime) -> Result<(), Fail> {
     let row = ROWS[16];
     let oid = oid(row)?;
     assert!(rt; oid.len() == 48 && oid.as_bytes().len() > 39);

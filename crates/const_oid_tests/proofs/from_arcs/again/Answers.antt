@@ -3,7 +3,7 @@ use Rattle.std.proofs.lemmas.List.{length-take}
 use Rattle.const_oid.specs.{declared.oid.ObjectIdentifier.ObjectIdentifier, Error.answer, Identifier.root_rule}
 use Rattle.const_oid.specs.{Items.{item_fault, item_answer}, Oid.oid_arcs}
 use Rattle.const_oid.proofs.{Items.item_fault-none, Encodings.oid_encoding, Lengths.length_is_size}
-use Rattle.const_oid_tests.proofs.items.again.Goals as goal
+use Rattle.const_oid_tests.proofs.from_arcs.again.Goals as goal
 
 no_fault : (oid : ObjectIdentifier 39) → item_fault root_rule (oid_arcs oid) 39 ≡ None
 no_fault oid =

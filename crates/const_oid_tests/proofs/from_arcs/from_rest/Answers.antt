@@ -1,7 +1,7 @@
 use Rattle.std.proofs.Common.{ℕ, List, ap, ◌∙◌}
 use Rattle.const_oid.specs.{Identifier.root_rule, Items.item_answer, Oid.oid_answer}
 use Rattle.const_oid.proofs.Identifiers.{exact_answer}
-use Rattle.const_oid_tests.proofs.items.from_rest.Goals as goal
+use Rattle.const_oid_tests.proofs.from_arcs.from_rest.Goals as goal
 
 pub returns : goal.returns
 returns c =

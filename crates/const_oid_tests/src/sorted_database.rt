@@ -1,4 +1,4 @@
-//! Tables in the order of arcs: `SortedDatabase`, and `ByArcs` as a key.
+//! Tables in the order of arcs: `by_oid`, `nearest`, `subtree` and `next_after` of `SortedDatabase`, and `ByArcs` as a key.
 
 ghost use Rattle.std.specs.Prelude.{◌≡◌, IsOk, IfOk};
 ghost use Rattle.const_oid.specs.Names.{sorted_entries_of};
@@ -147,8 +147,8 @@ fn is_found(names: &SortedDatabase<'_>, row: &Row) -> Result<bool, Error> {
     )
 }
 
-/// The first octets that a table of these entries finds otherwise than their row says; no octets where the
-/// entries are no sorted table.
+/// The octets of the first row that a table of these entries answers otherwise; no octets where the entries are no
+/// sorted table.
 fn wrong_octets(entries: &[Entry]) -> Option<&'static [u8]> {
     let Some(names) = SortedDatabase::try_new(entries) else {
         return Some(&[]);
@@ -165,7 +165,7 @@ fn wrong_octets(entries: &[Entry]) -> Option<&'static [u8]> {
 }
 
 #[test]
-fn rows(rt: HostRuntime) -> Result<(), Fail> {
+fn finds_each_row(rt: HostRuntime) -> Result<(), Fail> {
     let entries = entries(rt.alloc())?;
     assert_eq!(rt; wrong_octets(&entries), None);
     Ok(())
@@ -197,7 +197,7 @@ fn orders(a: &[u8], b: &[u8]) -> Result<(Ordering, Ordering, bool), Fail> {
 
 /// 1.2.256 and 1.2.16384.
 #[test]
-fn keys(rt: HostRuntime) -> Result<(), Fail> {
+fn keys_are_compared_by_arcs(rt: HostRuntime) -> Result<(), Fail> {
     let (small, large) = (&[0x2A, 0x82, 0x00], &[0x2A, 0x81, 0x80, 0x00]);
     assert!(rt; orders(small, large)? == (Ordering::Less, Ordering::Greater, false));
     assert!(rt; orders(small, small)? == (Ordering::Equal, Ordering::Equal, true));

@@ -1,4 +1,4 @@
-//! Identifiers from lists of arcs: `from_arcs`.
+//! Identifiers from arrays, slices, vectors and iterators of arcs: `from_arcs`.
 
 ghost use Rattle.std.specs.Prelude.{◌≡◌};
 ghost use Rattle.const_oid.specs.Identifier.{root_rule};
@@ -53,7 +53,7 @@ fn are_accepted(alloc: Global, arcs: &[Arc], octets: &[u8]) -> Result<bool, Fail
 }
 
 #[test]
-fn accepted(rt: HostRuntime) -> Result<(), Fail> {
+fn encodes_accepted_rows(rt: HostRuntime) -> Result<(), Fail> {
     for (text, octets, arcs) in accepted_rows() {
         assert!(rt; are_accepted(rt.alloc(), arcs, octets)?, "{text}");
     }
@@ -68,7 +68,7 @@ const ARRAYS: &[([Arc; 3], &[u8])] = &[
 ];
 
 #[test]
-fn arrays(rt: HostRuntime) {
+fn encodes_arrays(rt: HostRuntime) {
     for (arcs, octets) in ARRAYS {
         assert!(rt; is_answer(from_array(*arcs), Ok(octets)), "{arcs:?}");
     }
@@ -86,15 +86,15 @@ const REFUSED: &[(&[Arc], Error)] = &[
 ];
 
 #[test]
-fn refused(rt: HostRuntime) {
+fn rejects_each_row(rt: HostRuntime) {
     for (arcs, error) in REFUSED {
         assert!(rt; from_slice(arcs) == Err(*error), "{arcs:?}");
     }
 }
 
-/// 1.2 and 38 more arcs have 39 octets, and nothing after the next arc matters.
+/// 1.2 and 38 more arcs have 39 octets. One more arc is too long, and the error stays the same, however many follow.
 #[test]
-fn longest(rt: HostRuntime) -> Result<(), Error> {
+fn encodes_39_octets_at_most(rt: HostRuntime) -> Result<(), Error> {
     let mut arcs = [1; 60];
     arcs[1] = 2;
     let oid = from_slice(&arcs[..40])?;

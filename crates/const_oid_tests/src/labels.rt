@@ -1,10 +1,10 @@
-//! Labels of SNMP, as tools print them.
+//! Labels of SNMP, as tools print them: `label` and `sorted` of `const_oid_uses::label`.
 
 use const_oid::db::SortedDatabase;
 use const_oid::{ObjectIdentifier, ObjectIdentifierRef};
+use const_oid_uses::label::{label, sorted};
 use std::alloc::Global;
 use std::test::Fail;
-use const_oid_uses::label::{label, sorted};
 
 /// Octets and names (RFC 1155, 2863, 3418), in the order of arcs.
 const ROWS: &[(&[u8], &str)] = &[
@@ -47,7 +47,7 @@ fn is_label(
 }
 
 #[test]
-fn labels(rt: HostRuntime) -> Result<(), Fail> {
+fn prints_the_nearest_name_and_the_arcs_below_it(rt: HostRuntime) -> Result<(), Fail> {
     let mut entries = Vec::new(rt.alloc());
     for (octets, name) in ROWS {
         entries.push((ObjectIdentifierRef::from_bytes(octets)?, *name))?;
@@ -64,7 +64,7 @@ fn labels(rt: HostRuntime) -> Result<(), Fail> {
 
 /// The first of two entries of an identifier stays the first.
 #[test]
-fn sorted_entries(rt: HostRuntime) -> Result<(), Fail> {
+fn sorting_keeps_the_first_of_two_entries_first(rt: HostRuntime) -> Result<(), Fail> {
     let two = ObjectIdentifierRef::from_bytes(&[0x2B, 6, 1, 4, 1, 0x82, 0x00])?;
     let one = ObjectIdentifierRef::from_bytes(&[0x2B, 6, 1, 4, 1, 0x7F])?;
     let mut entries = Vec::new(rt.alloc());
