@@ -137,7 +137,7 @@ fn answers_by(alloc: Global, input: &[u8], wanted: &[u8]) -> bool {
 }
 
 #[test]
-fn rows(rt: HostRuntime) {
+fn answers_each_row(rt: HostRuntime) {
     for (input, wanted) in &ROWS {
         assert!(rt;
             answers_by(rt.alloc(), input.as_bytes(), wanted.as_bytes()),
@@ -148,7 +148,7 @@ fn rows(rt: HostRuntime) {
 
 /// A text that is not UTF-8 is rejected before it is parsed.
 #[test]
-fn no_text(rt: HostRuntime) {
+fn rejects_bytes_that_are_not_utf8(rt: HostRuntime) {
     for input in [
         b"hex \xFF\n".as_slice(),
         b"parent 3.\xFF\n".as_slice(),
@@ -196,7 +196,7 @@ fn answers_padded(alloc: Global, prefix: &str, wanted: &str) -> Result<bool, Fai
 }
 
 #[test]
-fn longest_text(rt: HostRuntime) -> Result<(), Fail> {
+fn answers_the_longest_input_and_rejects_one_byte_more(rt: HostRuntime) -> Result<(), Fail> {
     for (prefix, wanted) in &PADDED {
         assert!(rt; answers_padded(rt.alloc(), prefix, wanted)?, "{prefix}");
     }
@@ -205,14 +205,14 @@ fn longest_text(rt: HostRuntime) -> Result<(), Fail> {
 
 /// The result of a text without a name is that text, however long it is.
 #[test]
-fn longest_unknown_name(rt: HostRuntime) -> Result<(), Fail> {
+fn prints_the_longest_unknown_name(rt: HostRuntime) -> Result<(), Fail> {
     let text = padded(rt.alloc(), "1.2.", 4091)?;
     assert!(rt; answers_padded(rt.alloc(), "name 1.2.", text.as_str())?);
     Ok(())
 }
 
 #[test]
-fn max_lines(rt: HostRuntime) -> Result<(), Fail> {
+fn answers_as_many_lines_as_fit(rt: HostRuntime) -> Result<(), Fail> {
     let wanted = "error: unknown command\n".repeat(rt.alloc(), MAX_INPUT)?;
     assert!(rt; wanted.len() == 94_208);
     assert!(rt; answers_by(rt.alloc(), &[b'\n'; MAX_INPUT], wanted.as_bytes()));
@@ -239,7 +239,7 @@ fn prints_longest(alloc: Global, first: &str, arcs: &str, count: usize) -> Resul
 
 /// The longest lines that are written. The first row has 8,180 bytes and a newline.
 #[test]
-fn longest_line(rt: HostRuntime) -> Result<(), Fail> {
+fn prints_the_longest_line(rt: HostRuntime) -> Result<(), Fail> {
     for (first, arcs, count) in &LONGEST {
         assert!(rt; prints_longest(rt.alloc(), first, arcs, *count)?, "{first}");
     }
@@ -277,7 +277,7 @@ fn ends_after_14_reads() -> bool {
 
 /// Each read fails with each kind of error, `Interrupted` among them.
 #[test]
-fn each_read_fails(rt: HostRuntime) {
+fn reports_each_failed_read(rt: HostRuntime) {
     for kind in KINDS {
         let read = wrong_read(kind);
         assert!(rt; read.is_none(), "read {read:?}, {kind:?}");
@@ -286,7 +286,7 @@ fn each_read_fails(rt: HostRuntime) {
 }
 
 #[test]
-fn endless_input(rt: HostRuntime) {
+fn stops_reading_an_endless_input(rt: HostRuntime) {
     let mut input = EndlessReader { reads: 0 };
     let mut output = SlowWriter::new(64, Failure::none());
     assert!(rt; run(&mut input, &mut output) == Err(ToolError::TooLong));
@@ -334,7 +334,7 @@ fn ends_after_9_writes() -> bool {
 }
 
 #[test]
-fn each_write_fails(rt: HostRuntime) {
+fn reports_each_failed_write(rt: HostRuntime) {
     for kind in KINDS {
         let write = wrong_write(kind);
         assert!(rt; write.is_none(), "write {write:?}, {kind:?}");
@@ -343,7 +343,7 @@ fn each_write_fails(rt: HostRuntime) {
 }
 
 #[test]
-fn no_byte_taken(rt: HostRuntime) {
+fn reports_a_write_that_takes_no_byte(rt: HostRuntime) {
     let mut input = b"text 2A".as_slice();
     let mut output = SlowWriter::new(0, Failure::none());
     assert!(rt; run(&mut input, &mut output) == Err(ToolError::Write));
