@@ -1,5 +1,6 @@
 //! Tests of `const_oid_uses`, without the modules `label` and `walk`: each function runs once.
 
+use crate::vectors::parse;
 use const_oid::db::Database;
 use const_oid::{Arc, AssociatedOid, Error, ObjectIdentifierRef, Oid};
 use const_oid_uses::algorithms::{name_in, name_of};
@@ -130,7 +131,7 @@ const ATTRIBUTE_ROWS: &[(&str, &str)] = &[
 fn the_table_has_each_row_and_no_other(rt: HostRuntime) -> Result<(), Fail> {
     assert!(rt; ATTRIBUTE_TYPES.len() == ATTRIBUTE_ROWS.len());
     for (name, text) in ATTRIBUTE_ROWS {
-        let oid = Oid::new(text)?;
+        let oid = parse(text)?;
         assert!(rt; is_named(&oid.as_oid_ref(), name), "{name}");
         assert!(rt; is_attribute_type(&oid.as_oid_ref()), "{name}");
     }

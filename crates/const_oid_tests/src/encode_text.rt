@@ -3,8 +3,7 @@
 use crate::errors::MESSAGES;
 use crate::vectors::long_octets;
 use const_oid::{Arc, Error, ObjectIdentifier, ObjectIdentifierRef, Oid};
-use std::alloc::Global;
-use std::test::Fail;
+use std::alloc::{AllocError, Global};
 
 /// Arcs on both sides of each number of digits, and the texts of 1.2 and the arc.
 pub const ARCS: &[(Arc, &str)] = &[
@@ -114,15 +113,15 @@ fn octets_write(octets: &[u8], text: &[u8], out: &mut [u8]) -> Result<bool, Erro
 }
 
 /// Whether the octets of a row write its text.
-fn is_written(alloc: Global, row: &Row) -> Result<bool, Fail> {
+fn is_written(alloc: Global, row: &Row) -> Result<bool, AllocError> {
     let octets = long_octets(alloc, row.0, row.2, row.3, &[])?;
     let text = long_octets(alloc, row.1, row.2, row.4, &[])?;
     let mut out = text.as_slice().to_vec(alloc)?;
-    Ok(octets_write(octets.as_slice(), text.as_slice(), out.as_mut_slice())?)
+    Ok(octets_write(octets.as_slice(), text.as_slice(), out.as_mut_slice()) == Ok(true))
 }
 
 #[test]
-fn writes_long_texts(rt: HostRuntime) -> Result<(), Fail> {
+fn writes_long_texts(rt: HostRuntime) -> Result<(), AllocError> {
     for row in LONG {
         assert!(rt;
             is_written(rt.alloc(), row)?,

@@ -7,8 +7,7 @@ ghost use Rattle.const_oid.specs.Oid.{oid_arcs, oid_answer};
 
 use crate::vectors::{accepted_rows, is_answer};
 use const_oid::{Arc, Arcs, Error, Oid};
-use std::alloc::Global;
-use std::test::Fail;
+use std::alloc::{AllocError, Global};
 
 fn from_array(arcs: [Arc; 3]) -> Result<Oid, Error>
     ensures { oid_answer result ≡ item_answer root_rule arcs 39 }
@@ -42,8 +41,10 @@ fn again(oid: &Oid) -> Result<Oid, Error>
 }
 
 /// Whether a slice, a list and an identifier of these arcs are accepted with these octets.
-fn are_accepted(alloc: Global, arcs: &[Arc], octets: &[u8]) -> Result<bool, Fail> {
-    let oid = from_slice(arcs)?;
+fn are_accepted(alloc: Global, arcs: &[Arc], octets: &[u8]) -> Result<bool, AllocError> {
+    let Ok(oid) = from_slice(arcs) else {
+        return Ok(false);
+    };
     let listed = from_vec(arcs.to_vec(alloc)?);
     Ok(
         oid.as_bytes() == octets
@@ -53,7 +54,7 @@ fn are_accepted(alloc: Global, arcs: &[Arc], octets: &[u8]) -> Result<bool, Fail
 }
 
 #[test]
-fn encodes_accepted_rows(rt: HostRuntime) -> Result<(), Fail> {
+fn encodes_accepted_rows(rt: HostRuntime) -> Result<(), AllocError> {
     for (text, octets, arcs) in accepted_rows() {
         assert!(rt; are_accepted(rt.alloc(), arcs, octets)?, "{text}");
     }

@@ -6,7 +6,7 @@ ghost use Rattle.std.specs.Hash.DefaultHasher as sip;
 ghost use Rattle.const_oid.specs.Oid.{oid_octets};
 ghost use Rattle.const_oid.specs.OidRef.{ref_octets};
 
-use crate::vectors::accepted_rows;
+use crate::vectors::{accepted_rows, read_borrowed, read_owned};
 use const_oid::{Arc, ObjectIdentifier, ObjectIdentifierRef, Oid};
 use std::alloc::Global;
 use std::collections::{BTreeMap, HashMap};
@@ -34,7 +34,7 @@ fn ref_hash_of(oid: &ObjectIdentifierRef<'_>) -> u64
 fn hashed(alloc: Global) -> Result<HashMap<Oid, usize>, Fail> {
     let mut counts = HashMap::new(alloc);
     for (_, octets, arcs) in accepted_rows() {
-        counts.insert(Oid::from_bytes(octets)?, arcs.len())?;
+        counts.insert(read_owned(octets)?, arcs.len())?;
     }
     Ok(counts)
 }
@@ -43,7 +43,7 @@ fn hashed(alloc: Global) -> Result<HashMap<Oid, usize>, Fail> {
 fn sorted(alloc: Global) -> Result<BTreeMap<Oid, usize>, Fail> {
     let mut counts = BTreeMap::new(alloc);
     for (_, octets, arcs) in accepted_rows() {
-        counts.insert(Oid::from_bytes(octets)?, arcs.len())?;
+        counts.insert(read_owned(octets)?, arcs.len())?;
     }
     Ok(counts)
 }
@@ -78,10 +78,12 @@ fn finds_keys_by_text(rt: HostRuntime) -> Result<(), Fail> {
 /// Whether the parent of octets, if there is one, hashes as the identifier of the arcs before the last, and is found
 /// by it.
 fn is_parent_found(alloc: Global, octets: &[u8], arcs: &[Arc]) -> Result<bool, Fail> {
-    let Some(parent) = Oid::from_bytes(octets)?.parent() else {
+    let Some(parent) = read_owned(octets)?.parent() else {
         return Ok(arcs.len() == 2);
     };
-    let same = Oid::from_arcs(arcs.iter().copied().take(parent.len()))?;
+    let Ok(same) = Oid::from_arcs(arcs.iter().copied().take(parent.len())) else {
+        return Ok(false);
+    };
     let mut names = HashMap::new(alloc);
     names.insert(parent, "parent")?;
     Ok(
@@ -102,12 +104,8 @@ fn finds_parents(rt: HostRuntime) -> Result<(), Fail> {
 /// Whether a borrowed identifier is found in a map with another one.
 fn is_found(alloc: Global, key: &[u8], octets: &[u8]) -> Result<bool, Fail> {
     let mut names = HashMap::new(alloc);
-    names.insert(ObjectIdentifierRef::from_bytes(key)?, "1.2.3")?;
-    Ok(
-        names
-            .get(&ObjectIdentifierRef::from_bytes(octets)?)
-            .is_some(),
-    )
+    names.insert(read_borrowed(key)?, "1.2.3")?;
+    Ok(names.get(&read_borrowed(octets)?).is_some())
 }
 
 /// Octets of two identifiers that stand at other addresses.

@@ -8,8 +8,8 @@ ghost use Rattle.const_oid.specs.Oid.{oid_octets, oid_arcs};
 ghost use Rattle.const_oid.specs.OidRef.{ref_octets, ref_arcs};
 ghost use Rattle.const_oid.specs.Orders.{shortlex_cmp};
 
-use crate::vectors::ASCENDING;
-use const_oid::{Buffer, ObjectIdentifier, ObjectIdentifierRef, Oid};
+use crate::vectors::{ASCENDING, read_borrowed, read_owned};
+use const_oid::{Buffer, ObjectIdentifier, ObjectIdentifierRef};
 use std::alloc::AllocError;
 use std::cmp::Ordering;
 use std::test::Fail;
@@ -89,8 +89,8 @@ const SHORT_FIRST: &[&[u8]] = &[
 
 /// Whether owned identifiers compare so, and are equal where they tie.
 fn compare(a: &[u8], b: &[u8], order: Ordering) -> Result<bool, Fail> {
-    let a = Oid::from_bytes(a)?;
-    let b = Oid::from_bytes(b)?;
+    let a = read_owned(a)?;
+    let b = read_owned(b)?;
     let is_equal = has_same_arcs(&a, &clone_of(&b)?);
     Ok(
         order_of(&a, &b) == order
@@ -112,8 +112,8 @@ fn owned_ones_are_ordered_by_length_first(rt: HostRuntime) -> Result<(), Fail> {
 
 /// Whether borrowed identifiers compare so, and are equal where they tie.
 fn compare_refs(a: &[u8], b: &[u8], order: Ordering) -> Result<bool, Fail> {
-    let a = ObjectIdentifierRef::from_bytes(a)?;
-    let b = ObjectIdentifierRef::from_bytes(b)?;
+    let a = read_borrowed(a)?;
+    let b = read_borrowed(b)?;
     let is_equal = ref_has_same_arcs(&a, &ref_clone_of(&b)?);
     Ok(
         ref_order_of(&a, &b) == order

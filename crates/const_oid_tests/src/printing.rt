@@ -2,7 +2,7 @@
 
 use crate::encode_text::ARCS;
 use crate::formatter::{DebugText, DebugTexts, count_writes, prints, prints_as};
-use crate::vectors::{long_octets, long_text};
+use crate::vectors::{long_octets, long_text, read_borrowed, read_owned};
 use const_oid::{Arc, Error, ObjectIdentifier, ObjectIdentifierRef, Oid};
 use std::alloc::{AllocError, Global};
 use std::fmt::Debug;
@@ -22,8 +22,8 @@ const ROWS: &[(&[u8], &str)] = &[
 
 /// Whether both forms of octets print as this text under each option.
 fn both_print(alloc: Global, octets: &[u8], text: &str) -> Result<bool, Fail> {
-    let borrowed = ObjectIdentifierRef::from_bytes(octets)?;
-    let owned = Oid::from_bytes(octets)?;
+    let borrowed = read_borrowed(octets)?;
+    let owned = read_owned(octets)?;
     Ok(prints(alloc, &borrowed, text)? && prints(alloc, &owned, text)?)
 }
 
@@ -62,7 +62,7 @@ fn prints_owned(
 
 /// Whether octets print as this text.
 fn prints_octets(alloc: Global, octets: &[u8], text: &str) -> Result<bool, Fail> {
-    let borrowed = ObjectIdentifierRef::from_bytes(octets)?;
+    let borrowed = read_borrowed(octets)?;
     Ok(
         prints_as(&borrowed, text)
             && prints_debug(alloc, borrowed, "ObjectIdentifierRef", text)?

@@ -4,6 +4,7 @@ ghost use Rattle.std.specs.Prelude.{◌≡◌, IsOk, IfOk};
 ghost use Rattle.const_oid.specs.Names.{sorted_entries_of};
 ghost use Rattle.const_oid.specs.OidRef.{key_arcs};
 
+use crate::vectors::read_borrowed;
 use const_oid::db::SortedDatabase;
 use const_oid::{ByArcs, Error, ObjectIdentifierRef};
 use std::alloc::{AllocError, Global};
@@ -131,7 +132,7 @@ const ROWS: &[Row] = &[
 fn entries(alloc: Global) -> Result<Vec<Entry>, Fail> {
     let mut entries = Vec::new(alloc);
     for (octets, name) in TABLE {
-        entries.push((ObjectIdentifierRef::from_bytes(octets)?, *name))?;
+        entries.push((read_borrowed(octets)?, *name))?;
     }
     Ok(entries)
 }
@@ -189,8 +190,8 @@ fn sorted_by_key(rt: HostRuntime) -> Result<(), Fail> {
 
 /// The orders of two identifiers as keys and as they are, and whether they are equal keys.
 fn orders(a: &[u8], b: &[u8]) -> Result<(Ordering, Ordering, bool), Fail> {
-    let a = ObjectIdentifierRef::from_bytes(a)?;
-    let b = ObjectIdentifierRef::from_bytes(b)?;
+    let a = read_borrowed(a)?;
+    let b = read_borrowed(b)?;
     let key = key_clone_of(&ByArcs(b))?;
     Ok((ByArcs(a).cmp(&key), a.cmp(&b), ByArcs(a) == key))
 }

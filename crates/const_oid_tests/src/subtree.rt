@@ -1,6 +1,6 @@
 //! Ranges of borrowed identifiers that begin with a prefix, in the order of octets: `subtree` of `ObjectIdentifierRef`.
 
-use crate::vectors::ASCENDING;
+use crate::vectors::{ASCENDING, read_borrowed};
 use const_oid::ObjectIdentifierRef;
 use std::alloc::Global;
 use std::collections::BTreeSet;
@@ -10,7 +10,7 @@ use std::test::Fail;
 fn read<'a>(alloc: Global, list: &[&'a [u8]]) -> Result<Vec<ObjectIdentifierRef<'a>>, Fail> {
     let mut oids = Vec::new(alloc);
     for octets in list {
-        oids.push(ObjectIdentifierRef::from_bytes(octets)?)?;
+        oids.push(read_borrowed(octets)?)?;
     }
     Ok(oids)
 }
@@ -29,7 +29,7 @@ const ROWS: &[(&[&[u8]], &[u8], (usize, usize))] = &[
 
 /// The range of those that begin with a prefix in a list, once it is sorted.
 fn range_of(alloc: Global, list: &[&[u8]], prefix: &[u8]) -> Result<(usize, usize), Fail> {
-    let prefix = ObjectIdentifierRef::from_bytes(prefix)?;
+    let prefix = read_borrowed(prefix)?;
     let mut oids = read(alloc, list)?;
     oids.sort()?;
     Ok(prefix.subtree(&oids))
@@ -62,7 +62,7 @@ fn are_adjacent(oids: &BTreeSet<ObjectIdentifierRef<'_>>) -> bool {
 fn a_set_keeps_subtrees_together(rt: HostRuntime) -> Result<(), Fail> {
     let mut oids = BTreeSet::new(rt.alloc());
     for octets in ASCENDING.iter().rev() {
-        oids.insert(ObjectIdentifierRef::from_bytes(octets)?)?;
+        oids.insert(read_borrowed(octets)?)?;
     }
     assert!(rt; are_adjacent(&oids));
     Ok(())

@@ -3,6 +3,7 @@
 ghost use Rattle.std.specs.Prelude.{◌≡◌, [], ◌∷◌};
 ghost use Rattle.const_oid.specs.Oid.{oid_arcs};
 
+use crate::vectors::parse;
 use const_oid::traits::position_of;
 use const_oid::{AssociatedOid, DynAssociatedOid, Oid};
 use std::alloc::{AllocError, Global};
@@ -51,10 +52,10 @@ fn a_value_has_the_identifier_of_its_type(rt: HostRuntime) {
 fn index_among(alloc: Global, held: &[&str], text: &str) -> Result<Option<usize>, Fail> {
     let mut values: Vec<Box<dyn DynAssociatedOid + Drop>> = Vec::new(alloc);
     for text in held {
-        let oid = Oid::new(text)?;
+        let oid = parse(text)?;
         values.push(Box::new(alloc, Held { oid })?)?;
     }
-    Ok(position_of(&values, &Oid::new(text)?))
+    Ok(position_of(&values, &parse(text)?))
 }
 
 /// The texts of identifiers that values hold, a text, and the first index of its identifier, if there is one.

@@ -3,6 +3,7 @@
 use crate::formatter::prints_as;
 use const_oid::{Arc, Error, ObjectIdentifier, ObjectIdentifierRef, Oid};
 use std::alloc::{AllocError, Global};
+use std::test::Fail;
 
 /// An identifier as its text, its contents octets and its arcs.
 pub type Row = (&'static str, &'static [u8], &'static [Arc]);
@@ -195,6 +196,30 @@ pub const ASCENDING: &[&[u8]] = &[
     &[0x88, 0x37],
     &[0x88, 0x37, 0x03],
 ];
+
+/// The owned identifier of octets, or a failure that names them.
+pub fn read_owned(octets: &[u8]) -> Result<Oid, Fail> {
+    match Oid::from_bytes(octets) {
+        Ok(oid) => Ok(oid),
+        Err(error) => Err(Fail::new(format_args!("{octets:?}: {error}"))),
+    }
+}
+
+/// The borrowed identifier of octets, or a failure that names them.
+pub fn read_borrowed(octets: &[u8]) -> Result<ObjectIdentifierRef<'_>, Fail> {
+    match ObjectIdentifierRef::from_bytes(octets) {
+        Ok(oid) => Ok(oid),
+        Err(error) => Err(Fail::new(format_args!("{octets:?}: {error}"))),
+    }
+}
+
+/// The identifier of a text, or a failure that names it.
+pub fn parse(text: &str) -> Result<Oid, Fail> {
+    match Oid::new(text) {
+        Ok(oid) => Ok(oid),
+        Err(error) => Err(Fail::new(format_args!("{text}: {error}"))),
+    }
+}
 
 /// A text of a prefix, so many times another text, and an end.
 pub fn long_text(

@@ -54,7 +54,11 @@ fn shuffled(index: usize) -> &'static str {
 fn oids(alloc: Global) -> Result<Vec<ObjectIdentifier<255>>, Fail> {
     let mut oids = Vec::new(alloc);
     for index in 0..ROWS.len() {
-        oids.push(oid(shuffled(index))?)?;
+        let row = shuffled(index);
+        let Ok(oid) = oid(row) else {
+            return Err(Fail::new(row));
+        };
+        oids.push(oid)?;
     }
     Ok(oids)
 }
