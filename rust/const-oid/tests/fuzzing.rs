@@ -47,15 +47,15 @@ fn takes_any_arc_that_is_in_range() {
         u32::MAX,
     ] {
         let octets = [&[2, 0, 0, 0], &arc.to_le_bytes()[..], &arc.to_le_bytes()].concat();
-        assert!(drawn(&octets).unwrap().arcs().eq([2, arc, arc]));
+        assert!(drawn(&octets).unwrap().arcs().eq([2, arc, arc]), "{arc}");
         let octets = [&[1, 0, 0, 0], &arc.to_le_bytes()[..], &[7, 0, 0, 0]].concat();
-        assert!(drawn(&octets).unwrap().arcs().eq([1, arc % 40, 7]));
+        assert!(drawn(&octets).unwrap().arcs().eq([1, arc % 40, 7]), "{arc}");
         let octets = [
             &[1, 0, 0, 0, 5, 0, 0, 0, 7, 0, 0, 0, 1],
             &arc.to_le_bytes()[..],
         ]
         .concat();
-        assert!(drawn(&octets).unwrap().arcs().eq([1, 5, 7, arc]));
+        assert!(drawn(&octets).unwrap().arcs().eq([1, 5, 7, arc]), "{arc}");
     }
     let first = |octet| {
         drawn(&[octet, 0, 0, 0, 5, 0, 0, 0, 7, 0, 0, 0])
