@@ -1,16 +1,16 @@
 //! Comparisons of two identifiers.
-ghost use Rattle.std.specs.Prelude.{◌≡◌};
+ghost use Rattle.std.specs.Prelude.{◌≡◌, IfErr, IfOk};
 ghost use Rattle.std.specs.Cmp.Lexicographic.{slice_cmp};
 ghost use Rattle.std.specs.Ordering.{nat_cmp};
-ghost use Rattle.const_oid.specs.OidRef.{ref_octets};
+ghost use Rattle.const_oid.specs.OidRef.{ref_arcs, ref_octets};
 ghost use Rattle.const_oid.specs.Orders.{shortlex_cmp};
 ghost use Rattle.const_oid.specs.Tree.{BeginsWith};
-ghost use Rattle.const_oid_c.specs.Status.{IsFlagOf, order_status};
+ghost use Rattle.const_oid_c.specs.Status.{IsFlagOf, error_status, order_status};
 ghost use Rattle.const_oid_c.specs.Answers.{IsStatusOfBoth, borrowed_answer, owned_answer};
 
 use crate::owned::read_owned;
 use crate::status::{Status, error_status, flag_status, order_status};
-use const_oid::ObjectIdentifierRef;
+use const_oid::{ObjectIdentifierRef, Result};
 use std::cmp::Ordering;
 
 /// Whether two identifiers of any length are equal.
@@ -19,12 +19,8 @@ pub extern "C" fn const_oid_eq(left: &[u8], right: &[u8]) -> Status
     ensures { IsStatusOfBoth (λ xs ys. IsFlagOf (xs ≡ ys))
         (borrowed_answer left.now) (borrowed_answer right.now) result }
 {
-    let left = match ObjectIdentifierRef::from_bytes(left) {
-        Ok(left) => left,
-        Err(fault) => return error_status(fault),
-    };
-    match ObjectIdentifierRef::from_bytes(right) {
-        Ok(right) => flag_status(left == right),
+    match read_both(left, right) {
+        Ok((left, right)) => flag_status(left == right),
         Err(fault) => error_status(fault),
     }
 }
@@ -35,12 +31,8 @@ pub extern "C" fn const_oid_starts_with(octets: &[u8], prefix: &[u8]) -> Status
     ensures { IsStatusOfBoth (λ arcs prefix. IsFlagOf (BeginsWith arcs prefix))
         (borrowed_answer octets.now) (borrowed_answer prefix.now) result }
 {
-    let oid = match ObjectIdentifierRef::from_bytes(octets) {
-        Ok(oid) => oid,
-        Err(fault) => return error_status(fault),
-    };
-    match ObjectIdentifierRef::from_bytes(prefix) {
-        Ok(prefix) => flag_status(oid.starts_with(&prefix)),
+    match read_both(octets, prefix) {
+        Ok((oid, prefix)) => flag_status(oid.starts_with(&prefix)),
         Err(fault) => error_status(fault),
     }
 }
@@ -51,12 +43,8 @@ pub extern "C" fn const_oid_cmp(left: &[u8], right: &[u8]) -> Status
     ensures { IsStatusOfBoth (λ _ _ status. status ≡ order_status (slice_cmp nat_cmp left.now right.now))
         (borrowed_answer left.now) (borrowed_answer right.now) result }
 {
-    let left = match ObjectIdentifierRef::from_bytes(left) {
-        Ok(left) => left,
-        Err(fault) => return error_status(fault),
-    };
-    match ObjectIdentifierRef::from_bytes(right) {
-        Ok(right) => order_status(left.cmp(&right)),
+    match read_both(left, right) {
+        Ok((left, right)) => order_status(left.cmp(&right)),
         Err(fault) => error_status(fault),
     }
 }
@@ -67,12 +55,8 @@ pub extern "C" fn const_oid_cmp_arcs(left: &[u8], right: &[u8]) -> Status
     ensures { IsStatusOfBoth (λ xs ys status. status ≡ order_status (slice_cmp nat_cmp xs ys))
         (borrowed_answer left.now) (borrowed_answer right.now) result }
 {
-    let left = match ObjectIdentifierRef::from_bytes(left) {
-        Ok(left) => left,
-        Err(fault) => return error_status(fault),
-    };
-    match ObjectIdentifierRef::from_bytes(right) {
-        Ok(right) => order_status(left.cmp_arcs(&right)),
+    match read_both(left, right) {
+        Ok((left, right)) => order_status(left.cmp_arcs(&right)),
         Err(fault) => error_status(fault),
     }
 }
@@ -91,6 +75,24 @@ pub extern "C" fn const_oid_cmp_owned(left: &[u8], right: &[u8]) -> Status
         Ok(second) => order_status(shortlex(first, second)),
         Err(fault) => error_status(fault),
     }
+}
+
+/// Reads two identifiers of any length. The fault is that of the first that is wrong.
+#[inline]
+fn read_both<'a>(
+    left: &'a [u8],
+    right: &'a [u8],
+) -> Result<(ObjectIdentifierRef<'a>, ObjectIdentifierRef<'a>)>
+    ensures left { IfOk result (λ oids. ref_octets oids.0 ≡ left.now) }
+    ensures right { IfOk result (λ oids. ref_octets oids.1 ≡ right.now) }
+    ensures left_arcs { IfOk result (λ oids. borrowed_answer left.now ≡ Ok (ref_arcs oids.0)) }
+    ensures right_arcs { IfOk result (λ oids. borrowed_answer right.now ≡ Ok (ref_arcs oids.1)) }
+    ensures fault { IfErr result (λ fault. IsStatusOfBoth (λ _ _ _. ⊥)
+        (borrowed_answer left.now) (borrowed_answer right.now) (error_status fault)) }
+{
+    let left = ObjectIdentifierRef::from_bytes(left)?;
+    let right = ObjectIdentifierRef::from_bytes(right)?;
+    Ok((left, right))
 }
 
 /// Compares two identifiers by length, and then by their octets.

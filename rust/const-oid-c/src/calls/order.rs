@@ -4,53 +4,37 @@
 
 use crate::calls::owned::read_owned;
 use crate::calls::status::{Status, error_status, flag_status, order_status};
-use const_oid::internal_for_const_oid_c::ObjectIdentifierRef;
+use const_oid::internal_for_const_oid_c::{ObjectIdentifierRef, Result};
 use core::cmp::Ordering;
 
 /// Whether two identifiers of any length are equal.
 pub fn const_oid_eq(left: &[u8], right: &[u8]) -> Status {
-    let left = match ObjectIdentifierRef::from_bytes(left) {
-        Ok(left) => left,
-        Err(fault) => return error_status(fault),
-    };
-    match ObjectIdentifierRef::from_bytes(right) {
-        Ok(right) => flag_status(left == right),
+    match read_both(left, right) {
+        Ok((left, right)) => flag_status(left == right),
         Err(fault) => error_status(fault),
     }
 }
 
 /// Whether an identifier begins with all arcs of a prefix. Both may have any length.
 pub fn const_oid_starts_with(octets: &[u8], prefix: &[u8]) -> Status {
-    let oid = match ObjectIdentifierRef::from_bytes(octets) {
-        Ok(oid) => oid,
-        Err(fault) => return error_status(fault),
-    };
-    match ObjectIdentifierRef::from_bytes(prefix) {
-        Ok(prefix) => flag_status(oid.starts_with(&prefix)),
+    match read_both(octets, prefix) {
+        Ok((oid, prefix)) => flag_status(oid.starts_with(&prefix)),
         Err(fault) => error_status(fault),
     }
 }
 
 /// Compares two identifiers of any length by their octets, as lists. A prefix comes first.
 pub fn const_oid_cmp(left: &[u8], right: &[u8]) -> Status {
-    let left = match ObjectIdentifierRef::from_bytes(left) {
-        Ok(left) => left,
-        Err(fault) => return error_status(fault),
-    };
-    match ObjectIdentifierRef::from_bytes(right) {
-        Ok(right) => order_status(left.cmp(&right)),
+    match read_both(left, right) {
+        Ok((left, right)) => order_status(left.cmp(&right)),
         Err(fault) => error_status(fault),
     }
 }
 
 /// Compares two identifiers of any length by their arcs, as lists. A prefix comes first.
 pub fn const_oid_cmp_arcs(left: &[u8], right: &[u8]) -> Status {
-    let left = match ObjectIdentifierRef::from_bytes(left) {
-        Ok(left) => left,
-        Err(fault) => return error_status(fault),
-    };
-    match ObjectIdentifierRef::from_bytes(right) {
-        Ok(right) => order_status(left.cmp_arcs(&right)),
+    match read_both(left, right) {
+        Ok((left, right)) => order_status(left.cmp_arcs(&right)),
         Err(fault) => error_status(fault),
     }
 }
@@ -65,6 +49,17 @@ pub fn const_oid_cmp_owned(left: &[u8], right: &[u8]) -> Status {
         Ok(second) => order_status(shortlex(first, second)),
         Err(fault) => error_status(fault),
     }
+}
+
+/// Reads two identifiers of any length. The fault is that of the first that is wrong.
+#[inline]
+fn read_both<'a>(
+    left: &'a [u8],
+    right: &'a [u8],
+) -> Result<(ObjectIdentifierRef<'a>, ObjectIdentifierRef<'a>)> {
+    let left = ObjectIdentifierRef::from_bytes(left)?;
+    let right = ObjectIdentifierRef::from_bytes(right)?;
+    Ok((left, right))
 }
 
 /// Compares two identifiers by length, and then by their octets.
