@@ -1,5 +1,5 @@
-/* Object identifiers (ITU-T X.660) for C99 and C++: dotted text, arcs, and the contents octets of
- * ITU-T X.690 section 8.19, without tag and length. In the source, which is in Rattle, each function is
+/* Object identifiers (ITU-T X.660) for C99 and C++: dotted-decimal text, arcs, and the contents octets
+ * of BER and DER (ITU-T X.690 section 8.19), without tag and length. In the source, which is in Rattle, each function is
  * proved to return what its comment says. The Rattle toolchain builds the library from this source.
  * cargo builds it from Rust that is generated from it, and from code for pointers that is written by
  * hand: that build is tested, not proved.
@@ -142,9 +142,9 @@ typedef char const_oid_size_t_has_64_or_32_bits[sizeof(size_t) == 8 || sizeof(si
 uint32_t const_oid_version(void);
 
 /* Writes the contents octets of the identifier that dotted text denotes, such as "1.2.840". Arcs may
- * have leading zeros. For other texts, returns NOT_UTF8, or else the code of the first wrong piece
- * between dots (ARC_TOO_BIG, DIGIT_EXPECTED, REPEATED_DOT, TRAILING_DOT, ARC_INVALID or LENGTH), or else
- * EMPTY if there is only one piece. */
+ * have leading zeros. For other texts, returns NOT_UTF8, or else the code of the first wrong
+ * component (ARC_TOO_BIG, DIGIT_EXPECTED, REPEATED_DOT, TRAILING_DOT, ARC_INVALID or LENGTH), or else
+ * EMPTY if there is only one. */
 const_oid_status const_oid_from_text(
     const char *text, size_t text_len, uint8_t *CONST_OID_RESTRICT out, size_t out_len);
 
@@ -203,8 +203,8 @@ const_oid_status const_oid_eq(
 const_oid_status const_oid_cmp(
     const uint8_t *left, size_t left_len, const uint8_t *right, size_t right_len);
 
-/* Compares two identifiers of any length by their arcs. A prefix comes first. This is the order of
- * SNMP (RFC 3416), and of sorted lists below. Returns the code of the first wrong one, if any. */
+/* Compares two identifiers of any length by their arcs, in lexicographic order. A prefix comes first.
+ * This is the order of SNMP (RFC 3416), and of sorted lists below. Returns the code of the first wrong one, if any. */
 const_oid_status const_oid_cmp_arcs(
     const uint8_t *left, size_t left_len, const uint8_t *right, size_t right_len);
 

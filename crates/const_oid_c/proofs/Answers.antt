@@ -1,4 +1,4 @@
--- What a call writes, by the calls of `const_oid` and `std`.
+-- What a function writes, by the functions of `const_oid` and `std`.
 use Rattle.std.proofs.Common.{◌≡◌, List, ℕ, false, take, refl, Ok, Err}
 use Rattle.std.specs.Prelude.{Result}
 use Rattle.std.specs.Result.{result_map_both}

@@ -1,4 +1,4 @@
--- The statuses that calls return, and the output after a call.
+-- The statuses that functions return, and the output after a call.
 use Rattle.std.specs.Prelude.{◌≡◌, ℕ, ◌-◌, ◌^◌, Bool, true, false, List, length, drop, min, ◌++◌, ◌⊎◌, nat_lt, if◌then◌else◌, Result, Ok, Err}
 use Rattle.std.specs.declared.cmp.Ordering.{Ordering}
 use Rattle.std.specs.declared.cmp.Ordering.TheVariants.{Less, Equal, Greater}

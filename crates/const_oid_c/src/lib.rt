@@ -1,7 +1,7 @@
-//! Object identifiers for C: the calls of `const_oid` over slices that the caller owns.
+//! Object identifiers for C: the functions of `const_oid` over slices that the caller owns.
 //!
-//! No call allocates, keeps a pointer or has a precondition beyond its types.
-//! `include/const_oid.h` declares the calls and says what a C caller must guarantee.
+//! No function allocates, keeps a pointer or has a precondition beyond its types.
+//! `include/const_oid.h` declares the functions and says what a C caller must guarantee.
 #![tactic(auto)]
 
 pub mod arcs;

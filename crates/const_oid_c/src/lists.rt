@@ -1,7 +1,7 @@
-//! Lists of identifiers in the order of arcs, and searches in them.
+//! Lists of identifiers in lexicographic order of arcs, and binary searches in them.
 //!
-//! No search checks the list: over a list that `const_oid_check_sorted` does not accept, what it finds means
-//! nothing, but is within the list.
+//! No search checks the list: over a list that `const_oid_check_sorted` does not accept, what it finds is
+//! unspecified, but is within the list.
 ghost use Rattle.std.specs.Prelude.{◌≡◌, ◌≢◌, ◌+◌, ◌<◌, ◌≤◌, ◌↔◌, ℕ, [], All, None, Some, length, false, count_by, slice_get, IfErr, IfOk, IfSome, IfNone};
 ghost use Rattle.std.specs.Cmp.Lexicographic.{slice_cmp};
 ghost use Rattle.std.specs.List.{position};

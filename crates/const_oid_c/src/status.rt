@@ -1,12 +1,42 @@
-//! What a call returns besides its output.
+//! What a function returns besides its output.
 ghost use Rattle.std.specs.Prelude.{◌≡◌, ◌<◌};
 ghost use Rattle.const_oid_c.specs.Status.{error_status, code_status, len_status, number_status, too_short_status, flag_status, order_status};
 
 use const_oid::Error;
 use std::cmp::Ordering;
 
+/// The code of success.
+pub(crate) const OK: u32 = 0;
+
+/// The code of a first or second arc that is out of range.
+pub(crate) const ARC_INVALID: u32 = 1;
+
+/// The code of an arc above `u32::MAX`.
+pub(crate) const ARC_TOO_BIG: u32 = 2;
+
+/// The code of a subidentifier that begins with 0x80 or does not end.
+pub(crate) const BASE128: u32 = 3;
+
+/// The code of a byte that is not a digit.
+pub(crate) const DIGIT_EXPECTED: u32 = 4;
+
+/// The code of an input with nothing, or only one arc.
+pub(crate) const EMPTY: u32 = 5;
+
+/// The code of more than 255 octets.
+pub(crate) const LENGTH: u32 = 6;
+
+/// The code of a sum that overflows. None does.
+pub(crate) const OVERFLOW: u32 = 7;
+
+/// The code of a dot after another dot.
+pub(crate) const REPEATED_DOT: u32 = 8;
+
+/// The code of a text that ends with a dot.
+pub(crate) const TRAILING_DOT: u32 = 9;
+
 /// The code of an output that is shorter than the result.
-pub(crate) const TOO_SHORT: u32 = 10;
+pub(crate) const OUTPUT_TOO_SHORT: u32 = 10;
 
 /// The code of a text that is not UTF-8.
 pub(crate) const NOT_UTF8: u32 = 11;
@@ -17,17 +47,26 @@ pub(crate) const NONE: u32 = 12;
 /// The code of a list that is not sorted.
 pub(crate) const UNSORTED: u32 = 13;
 
+/// The order of an identifier that comes before the other. No order is 0, which a fault leaves in `detail`.
+const LESS: u32 = 1;
+
+/// The order of equal identifiers.
+const EQUAL: u32 = 2;
+
+/// The order of an identifier that comes after the other.
+const GREATER: u32 = 3;
+
 /// How a call ended, and two numbers.
 #[repr(C)]
 #[derive(Clone, Copy)]
 pub struct Status {
-    /// 0 for success, 1 to 9 for an error of `const_oid`, and 10 to 13 for the codes above.
+    /// One of the codes above.
     pub code: u32,
-    /// With code 0 the arc, the flag or the order that the call returns. With code 1 the arc, and with
-    /// code 4 the byte. Otherwise 0.
+    /// With `OK` the arc, the flag or the order that the function returns. With `ARC_INVALID` the arc, and
+    /// with `DIGIT_EXPECTED` the byte. Otherwise 0.
     pub detail: u32,
-    /// With code 0 the number of items that were written or counted, or the index that was found. With
-    /// code 10 the number of items of the result. For a wrong item of a list its index. Otherwise 0.
+    /// With `OK` the number of items that were written or counted, or the index that was found. With
+    /// `OUTPUT_TOO_SHORT` the number of items of the result. For a wrong item of a list its index. Otherwise 0.
     pub len: usize,
 }
 
@@ -37,15 +76,15 @@ pub(crate) fn error_status(error: Error) -> Status
     ensures code { 0 < result.code }
 {
     let (code, detail) = match error {
-        Error::ArcInvalid { arc } => (1, arc),
-        Error::ArcTooBig => (2, 0),
-        Error::Base128 => (3, 0),
-        Error::DigitExpected { actual } => (4, u32::from(actual)),
-        Error::Empty => (5, 0),
-        Error::Length => (6, 0),
-        Error::Overflow => (7, 0),
-        Error::RepeatedDot => (8, 0),
-        Error::TrailingDot => (9, 0),
+        Error::ArcInvalid { arc } => (ARC_INVALID, arc),
+        Error::ArcTooBig => (ARC_TOO_BIG, 0),
+        Error::Base128 => (BASE128, 0),
+        Error::DigitExpected { actual } => (DIGIT_EXPECTED, u32::from(actual)),
+        Error::Empty => (EMPTY, 0),
+        Error::Length => (LENGTH, 0),
+        Error::Overflow => (OVERFLOW, 0),
+        Error::RepeatedDot => (REPEATED_DOT, 0),
+        Error::TrailingDot => (TRAILING_DOT, 0),
     };
     Status {
         code,
@@ -70,18 +109,18 @@ pub(crate) fn too_short_status(len: usize) -> Status
     ensures { result ≡ too_short_status len }
 {
     Status {
-        code: TOO_SHORT,
+        code: OUTPUT_TOO_SHORT,
         detail: 0,
         len,
     }
 }
 
-/// The call wrote or counted `len` items.
+/// The function wrote or counted `len` items.
 pub(crate) fn len_status(len: usize) -> Status
     ensures { result ≡ len_status len }
 {
     Status {
-        code: 0,
+        code: OK,
         detail: 0,
         len,
     }
@@ -92,7 +131,7 @@ pub(crate) fn number_status(detail: u32) -> Status
     ensures { result ≡ number_status detail }
 {
     Status {
-        code: 0,
+        code: OK,
         detail,
         len: 0,
     }
@@ -105,13 +144,13 @@ pub(crate) fn flag_status(holds: bool) -> Status
     number_status(if holds { 1 } else { 0 })
 }
 
-/// The result is an order. No order is 0, which a fault leaves in `detail`.
+/// The result is an order.
 pub(crate) fn order_status(ordering: Ordering) -> Status
     ensures { result ≡ order_status ordering }
 {
     number_status(match ordering {
-        Ordering::Less => 1,
-        Ordering::Equal => 2,
-        Ordering::Greater => 3,
+        Ordering::Less => LESS,
+        Ordering::Equal => EQUAL,
+        Ordering::Greater => GREATER,
     })
 }

@@ -17,14 +17,15 @@ pub extern "C" fn const_oid_from_text(text: &[u8], out: &mut [u8]) -> Status
     ensures status { result ≡ output_status (length out.old) (octets_of_text text.now) }
     ensures written { out.new ≡ output_after out.old (octets_of_text text.now) }
 {
-    // A small identifier is quicker to make.
+    // An identifier of the usual capacity is quicker to make.
     match Oid::from_ascii(text) {
         Ok(oid) => write_bytes(oid.as_bytes(), out),
         Err(_) => write_other(text, out),
     }
 }
 
-/// The same, where the text denotes no small identifier.
+/// Writes the contents octets of the identifier that dotted text denotes, of at most `MAX_OCTETS` octets, or reports
+/// why there is none.
 #[tactic(auto, using(crate::proofs::Answers::texts))]
 #[cold]
 #[inline(never)]
@@ -63,7 +64,7 @@ pub extern "C" fn const_oid_to_text(octets: &[u8], out: &mut [u8]) -> Status
     }
 }
 
-/// The same for more octets.
+/// Writes the dotted text of contents octets of any length, which may need up to `LONG` bytes.
 #[tactic(auto, using(crate::proofs::Answers::text_again))]
 #[inline(never)]
 fn write_long(octets: &[u8], out: &mut [u8]) -> Status
@@ -78,7 +79,7 @@ fn write_long(octets: &[u8], out: &mut [u8]) -> Status
     }
 }
 
-/// The same for any octets, which are read twice.
+/// Writes the dotted text of contents octets of any length, and reads them twice.
 #[inline(never)]
 fn write_longest(octets: &[u8], out: &mut [u8]) -> Status
     ensures status { result ≡ output_status (length out.old) (output_of text_of (borrowed_answer octets.now)) }

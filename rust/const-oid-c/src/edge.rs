@@ -2,7 +2,7 @@
 //! for its length, or null with length 0, and an output overlaps no input.
 
 use crate::calls::lists::Range;
-use crate::calls::status::Status;
+use crate::calls::status::{OK, Status};
 use crate::calls::{arcs, errors, lists, order, texts, tree, version};
 use const_oid::internal_for_const_oid_c::search::Contents;
 use const_oid::internal_for_const_oid_c::{Error, ObjectIdentifierRef};
@@ -31,6 +31,9 @@ impl Contents for Octets<'_> {
         self.get()
     }
 }
+
+/// The most bytes of an error's text: `CONST_OID_MAX_ERROR_TEXT` of the header.
+const MAX_ERROR_TEXT: usize = 47;
 
 /// The items of an output, which the caller may not have written.
 pub(crate) type Output<T> = [MaybeUninit<T>];
@@ -101,7 +104,7 @@ pub(crate) fn encode(oid: ObjectIdentifierRef<'_>, out: &mut Output<u8>) -> Opti
 /// than the output, which is then unchanged. It is made on the stack.
 #[inline(always)]
 pub(crate) fn encode_error(error: Error, out: &mut Output<u8>) -> Option<usize> {
-    let mut text = [0; 47];
+    let mut text = [0; MAX_ERROR_TEXT];
     let room = out.len().min(text.len());
     let len = error.encode_text(&mut text[..room])?;
     copy(&text[..len], out);
@@ -113,7 +116,7 @@ pub extern "C" fn const_oid_version() -> u32 {
     version::const_oid_version()
 }
 
-/// A call that reads octets.
+/// A function that reads octets.
 macro_rules! reads {
     ($module:ident, $name:ident $(, $number:ident: $type:ty)?) => {
         /// # Safety
@@ -128,7 +131,7 @@ macro_rules! reads {
     };
 }
 
-/// A call that reads two identifiers.
+/// A function that reads two identifiers.
 macro_rules! reads_both {
     ($name:ident) => {
         /// # Safety
@@ -148,7 +151,7 @@ macro_rules! reads_both {
     };
 }
 
-/// A call that reads items of one type and writes items of another.
+/// A function that reads items of one type and writes items of another.
 macro_rules! writes {
     ($module:ident, $name:ident, $input:ty, $output:ty $(, $number:ident: $type:ty)?) => {
         /// # Safety
@@ -169,7 +172,7 @@ macro_rules! writes {
     };
 }
 
-/// A call that searches for an identifier in a list.
+/// A function that searches for an identifier in a list.
 macro_rules! searches {
     ($name:ident) => {
         /// # Safety
@@ -248,7 +251,7 @@ pub unsafe extern "C" fn const_oid_subtree_range(
     let (octets, sorted) = unsafe { (input(octets, len), input(sorted, count)) };
     let mut found = Range { start: 0, end: 0 };
     let status = lists::const_oid_subtree_range(octets, sorted, &mut found);
-    if status.code == 0 {
+    if status.code == OK {
         // SAFETY: the caller guarantees that the range can be written.
         unsafe { range.write(found) };
     }

@@ -1,4 +1,4 @@
-//! The calls of `crates/const_oid_c/include/const_oid.h`, as a static and a shared library.
+//! The functions of `crates/const_oid_c/include/const_oid.h`, as a static and a shared library.
 //!
 //! `rust/erase` generates the module `calls` from sources in Rattle, over the generated modules of `const-oid`. The module
 //! `edge` is written by hand. It makes slices from pointers and lengths, and calls the function of the same name.
@@ -15,7 +15,7 @@ unsafe extern "C" {
     safe fn abort() -> !;
 }
 
-/// No call panics, since each is proved to be safe. A mistake of the eraser or of rustc ends here.
+/// No function panics, since each is proved to be safe. A mistake of the eraser or of rustc ends here.
 #[panic_handler]
 fn panic(_: &core::panic::PanicInfo<'_>) -> ! {
     abort()

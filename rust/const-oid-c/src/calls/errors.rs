@@ -4,28 +4,30 @@
 
 use crate::calls::output::write_bytes;
 use crate::calls::status::{
-    NONE, NOT_UTF8, Status, TOO_SHORT, UNSORTED, code_status, len_status, too_short_status,
+    ARC_INVALID, ARC_TOO_BIG, BASE128, DIGIT_EXPECTED, EMPTY, LENGTH, NONE, NOT_UTF8,
+    OUTPUT_TOO_SHORT, OVERFLOW, REPEATED_DOT, Status, TRAILING_DOT, UNSORTED, code_status,
+    len_status, too_short_status,
 };
 use const_oid::internal_for_const_oid_c::Error;
 
 /// Writes the text of a code and its detail. No zero byte follows it.
 pub fn const_oid_error_text(code: u32, detail: u32, out: &mut crate::edge::Output<u8>) -> Status {
     match code {
-        1 => write_error(Error::ArcInvalid { arc: detail }, out),
-        2 => write_error(Error::ArcTooBig, out),
-        3 => write_error(Error::Base128, out),
-        4 if detail < 256 => write_error(
+        ARC_INVALID => write_error(Error::ArcInvalid { arc: detail }, out),
+        ARC_TOO_BIG => write_error(Error::ArcTooBig, out),
+        BASE128 => write_error(Error::Base128, out),
+        DIGIT_EXPECTED if detail < 256 => write_error(
             Error::DigitExpected {
                 actual: detail as u8,
             },
             out,
         ),
-        5 => write_error(Error::Empty, out),
-        6 => write_error(Error::Length, out),
-        7 => write_error(Error::Overflow, out),
-        8 => write_error(Error::RepeatedDot, out),
-        9 => write_error(Error::TrailingDot, out),
-        TOO_SHORT => write_bytes(b"the output is too short for the result", out),
+        EMPTY => write_error(Error::Empty, out),
+        LENGTH => write_error(Error::Length, out),
+        OVERFLOW => write_error(Error::Overflow, out),
+        REPEATED_DOT => write_error(Error::RepeatedDot, out),
+        TRAILING_DOT => write_error(Error::TrailingDot, out),
+        OUTPUT_TOO_SHORT => write_bytes(b"the output is too short for the result", out),
         NOT_UTF8 => write_bytes(b"the text is not UTF-8", out),
         NONE => write_bytes(b"there is no such arc, parent, item or text", out),
         UNSORTED => write_bytes(b"the list is not sorted", out),

@@ -12,14 +12,15 @@ use core::str;
 
 /// Writes the contents octets of the identifier that dotted text denotes.
 pub fn const_oid_from_text(text: &[u8], out: &mut crate::edge::Output<u8>) -> Status {
-    // A small identifier is quicker to make.
+    // An identifier of the usual capacity is quicker to make.
     match Oid::from_ascii(text) {
         Ok(oid) => write_bytes(oid.as_bytes(), out),
         Err(_) => write_other(text, out),
     }
 }
 
-/// The same, where the text denotes no small identifier.
+/// Writes the contents octets of the identifier that dotted text denotes, of at most `MAX_OCTETS` octets, or reports
+/// why there is none.
 #[cold]
 #[inline(never)]
 fn write_other(text: &[u8], out: &mut crate::edge::Output<u8>) -> Status {
@@ -49,7 +50,7 @@ pub fn const_oid_to_text(octets: &[u8], out: &mut crate::edge::Output<u8>) -> St
     }
 }
 
-/// The same for more octets.
+/// Writes the dotted text of contents octets of any length, which may need up to `LONG` bytes.
 #[inline(never)]
 fn write_long(octets: &[u8], out: &mut crate::edge::Output<u8>) -> Status {
     let mut text = [0; LONG];
@@ -60,7 +61,7 @@ fn write_long(octets: &[u8], out: &mut crate::edge::Output<u8>) -> Status {
     }
 }
 
-/// The same for any octets, which are read twice.
+/// Writes the dotted text of contents octets of any length, and reads them twice.
 #[inline(never)]
 fn write_longest(octets: &[u8], out: &mut crate::edge::Output<u8>) -> Status {
     let oid = match ObjectIdentifierRef::from_bytes(octets) {
