@@ -29,8 +29,8 @@ zero_encoding = encoding_two root_rule 0 0 (0 ∷ []) (omega arith) (omega arith
 pub zero_octets : (result : Result (ObjectIdentifier 6) Error) (arc : ℕ) → arc ≤ max_arc
     → oid_answer result ≡ item_answer root_rule (0 ∷ 0 ∷ arc ∷ []) (min 6 255)
     → IsOk result × IfOk result (λ oid. oid_octets oid ≡ 0 ∷ group_of arc)
-zero_octets (Ok oid) arc small e =
-    let same : oid_arcs oid ≡ 0 ∷ 0 ∷ arc ∷ [] = grind (arith, zero_fits arc small, e) in
+zero_octets (Ok oid) arc small answer =
+    let same : oid_arcs oid ≡ 0 ∷ 0 ∷ arc ∷ [] = grind (arith, zero_fits arc small, answer) in
     let encoded = rw same at (oid_encoding oid) in
     (search rules, same_octets encoded (encoding_push zero_encoding small (group_is arc)))
-zero_octets (Err fault) arc small e = absurd (grind (arith, zero_fits arc small, e))
+zero_octets (Err fault) arc small answer = absurd (grind (arith, zero_fits arc small, answer))

@@ -4,3 +4,4 @@ pub mod Children
 pub mod Indices
 pub mod SkippedArcs
 pub mod SmallTexts
+pub mod SortedList

@@ -2,7 +2,7 @@
 //!
 //! No search checks the list: over a list that `const_oid_check_sorted` does not accept, what it finds is
 //! unspecified, but is within the list.
-ghost use Rattle.std.specs.Prelude.{◌≡◌, ◌≢◌, ◌+◌, ◌<◌, ◌≤◌, ◌↔◌, ℕ, [], All, None, Some, length, false, count_by, slice_get, IfErr, IfOk, IfSome, IfNone};
+ghost use Rattle.std.specs.Prelude.{◌≡◌, ◌≢◌, ◌+◌, ◌<◌, ◌≤◌, ◌↔◌, ℕ, [], All, None, Some, length, true, false, count_by, slice_get, IfErr, IfOk, IfSome, IfNone};
 ghost use Rattle.std.specs.Cmp.Lexicographic.{slice_cmp};
 ghost use Rattle.std.specs.List.{position};
 ghost use Rattle.std.specs.Ordering.{nat_cmp, is_lt};
@@ -55,7 +55,7 @@ pub struct Range {
 #[unsafe(no_mangle)]
 pub extern "C" fn const_oid_check_sorted(items: &[Octets<'_>]) -> Status
     ensures status { result ≡ list_status items.now }
-    ensures sorted { result.code ≡ 0 → IsSortedList octets_at items.now }
+    ensures sorted { result.code ≡ 0 ↔ IsSortedList octets_at items.now }
 {
     match list_fault(items) {
         Some(status) => status,
@@ -164,6 +164,7 @@ fn list_fault(items: &[Octets<'_>]) -> Option<Status>
     ensures status { result ≡ list_fault 0 [] items.now }
     ensures code { IfSome result (λ status. 0 < status.code) }
     ensures sorted { IfNone result (IsSortedList octets_at items.now) }
+    ensures unsorted { IfSome result (λ _. IsSortedList octets_at items.now → ⊥) }
 {
     let mut before: Option<ObjectIdentifierRef<'_>> = None;
     for (index, item) in items.iter().enumerate() {
@@ -187,6 +188,8 @@ fn read_after<'a>(
     ensures sorted { IfOk result (λ oid. is_lt (slice_cmp nat_cmp (ref_arcs oid) (arcs_before before.entry)) ≡ false) }
     ensures status { IfErr result (λ status. item_fault index (arcs_before before.entry) octets.now ≡ Some status) }
     ensures code { IfErr result (λ status. 0 < status.code) }
+    ensures invalid { IfErr result (λ _. IsEncoding root_rule (arcs_of_octets octets.now) octets.now
+        → is_lt (slice_cmp nat_cmp (arcs_of_octets octets.now) (arcs_before before.entry)) ≡ true) }
 {
     match ObjectIdentifierRef::from_bytes(octets) {
         Ok(oid) if comes_before(oid, before) => Err(Status {

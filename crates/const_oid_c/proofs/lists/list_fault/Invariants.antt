@@ -9,6 +9,7 @@ abbrev pub invariant-loop-index : goal.invariant-loop-index
 invariant-loop-index l = record {
   status : list_fault l.index (arcs_before l.before) (drop l.index l.items) ≡ list_fault 0 [] l.items;
   valid : AllWithin (λ item. IsEncoding root_rule (item_arcs octets_at item) (octets_at item)) l.items 0 l.index;
-  sorted : IsSortedWithin (λ x y. is_lt (slice_cmp nat_cmp (item_arcs octets_at x) (item_arcs octets_at y))) l.items 0 l.index;
-  last : (d : Octets) → 0 < l.index → item_arcs octets_at (get_or l.items (l.index - 1) d) ≡ arcs_before l.before;
+  sorted : IsSortedWithin (λ item other. is_lt (slice_cmp nat_cmp (item_arcs octets_at item) (item_arcs octets_at other))) l.items 0 l.index;
+  first : l.index ≡ 0 → arcs_before l.before ≡ [];
+  last : (item : Octets) → 0 < l.index → item_arcs octets_at (get_or l.items (l.index - 1) item) ≡ arcs_before l.before;
 }

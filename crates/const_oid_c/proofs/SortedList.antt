@@ -1,0 +1,21 @@
+-- Lists with an item that is wrong.
+use Rattle.std.proofs.Common.{◌≡◌, ◌-◌, ◌<◌, ◌≤◌, ℕ, List, [], ◌∷◌, get_or, length, true, false, nat_cmp, refl, ⊎_elim, arith}
+use Rattle.std.proofs.lemmas.Bool.{cases_lt}
+use Rattle.std.specs.{Cmp.Lexicographic.slice_cmp, Ordering.is_lt}
+use Rattle.const_oid.specs.SortedList.{IsSortedList, item_arcs}
+
+-- nothing comes before no arcs
+first_of_all : (arcs : List ℕ) → is_lt (slice_cmp nat_cmp arcs []) ≡ false
+first_of_all [] = refl
+first_of_all (arc ∷ arcs) = refl
+
+-- an item that comes before the previous one, or before no arcs
+pub unsorted : {Item : Type 0} (octets_of : Item → List ℕ) (items : List Item) (index : ℕ) (item : Item) (before : List ℕ)
+    → index < length items → (index ≡ 0 → before ≡ [])
+    → (0 < index → item_arcs octets_of (get_or items (index - 1) item) ≡ before)
+    → is_lt (slice_cmp nat_cmp (item_arcs octets_of (get_or items index item)) before) ≡ true
+    → IsSortedList octets_of items → ⊥
+unsorted octets_of items index item before inside first last less list = ⊎_elim
+    (λ (later : 0 < index). grind (arith, list.sorted (index - 1) item (omega arith) (omega arith), last later, less))
+    (λ (none : index ≤ 0). grind (arith, first_of_all (item_arcs octets_of (get_or items index item)), first (omega arith), less))
+    (cases_lt 0 index)
