@@ -1,0 +1,175 @@
+//! sorted SIDE ROW COUNT TIMES: a function of the library for C, or that of the cargo crate's SortedDatabase, so many
+//! times over COUNT identifiers of 8 arcs in lexicographic order. SIDE is c or crate. Valgrind counts its instructions:
+//! those of a thousand calls are the difference of two runs of 1,100 and 100 times, the loop included. Both sides print
+//! the same sum of what they found, and so both find the same.
+//!
+//! Build, after `cargo build --release` in rust/const-oid-c, whose target folder is T:
+//! rustc --edition 2024 -O --crate-type rlib --crate-name const_oid --cfg 'feature="db"' rust/const-oid/src/lib.rs
+//! rustc --edition 2024 -O --extern const_oid=libconst_oid.rlib -L T/release -l static=const_oid_c bench/rustc/sorted.rs
+
+use const_oid::db::SortedDatabase;
+use const_oid::{ObjectIdentifier, ObjectIdentifierRef};
+use std::hint::black_box;
+
+#[repr(C)]
+struct Status {
+    code: u32,
+    detail: u32,
+    len: usize,
+}
+
+#[repr(C)]
+struct Octets {
+    octets: *const u8,
+    len: usize,
+}
+
+#[repr(C)]
+struct Range {
+    start: usize,
+    end: usize,
+}
+
+type Search = unsafe extern "C" fn(*const u8, usize, *const Octets, usize) -> Status;
+
+unsafe extern "C" {
+    fn const_oid_find(octets: *const u8, len: usize, sorted: *const Octets, count: usize)
+    -> Status;
+    fn const_oid_next(octets: *const u8, len: usize, sorted: *const Octets, count: usize)
+    -> Status;
+    fn const_oid_nearest(
+        octets: *const u8,
+        len: usize,
+        sorted: *const Octets,
+        count: usize,
+    ) -> Status;
+    fn const_oid_subtree_range(
+        octets: *const u8,
+        len: usize,
+        sorted: *const Octets,
+        count: usize,
+        range: *mut Range,
+    ) -> Status;
+    fn const_oid_check_sorted(items: *const Octets, count: usize) -> Status;
+}
+
+/// What a search returns that finds nothing.
+const NOTHING: usize = usize::MAX;
+
+/// The identifier at an index: 1.3.6.1.4.1 and two arcs, each of one or two octets.
+fn item(index: usize) -> ObjectIdentifier {
+    let root = ObjectIdentifier::new("1.3.6.1.4.1").unwrap();
+    let (first, second) = (index as u32 / 317, index as u32 % 317);
+    root.push_arc(first).unwrap().push_arc(second).unwrap()
+}
+
+/// The keys of a row: an item, or a child or the parent of one. They are scattered over the items.
+fn keys(row: &str, oids: &[ObjectIdentifier]) -> Vec<ObjectIdentifier> {
+    let scattered = (0..1000).map(|round| &oids[round * 7919 % oids.len()]);
+    match row {
+        "nearest" => scattered.map(|oid| oid.push_arc(1).unwrap()).collect(),
+        "subtree" => scattered.map(|oid| oid.parent().unwrap()).collect(),
+        _ => scattered.copied().collect(),
+    }
+}
+
+fn in_c(row: &str, oids: &[ObjectIdentifier], times: usize) -> usize {
+    let items: Vec<Octets> = oids
+        .iter()
+        .map(|oid| Octets {
+            octets: oid.as_bytes().as_ptr(),
+            len: oid.as_bytes().len(),
+        })
+        .collect();
+    let (list, count) = (items.as_ptr(), items.len());
+    let keys = keys(row, oids);
+    let search = |call: Search| {
+        let mut sum = 0usize;
+        for time in 0..times {
+            let key = keys[time % keys.len()].as_bytes();
+            // SAFETY: the pointers and lengths are those of slices.
+            let status = unsafe { call(key.as_ptr(), key.len(), black_box(list), count) };
+            sum = sum.wrapping_add(if status.code == 0 {
+                status.len
+            } else {
+                NOTHING
+            });
+        }
+        sum
+    };
+    match row {
+        "find" => search(const_oid_find),
+        "next" => search(const_oid_next),
+        "nearest" => search(const_oid_nearest),
+        "subtree" => {
+            let mut sum = 0usize;
+            for time in 0..times {
+                let key = keys[time % keys.len()].as_bytes();
+                let mut range = Range { start: 0, end: 0 };
+                // SAFETY: as above.
+                unsafe {
+                    const_oid_subtree_range(
+                        key.as_ptr(),
+                        key.len(),
+                        black_box(list),
+                        count,
+                        &mut range,
+                    )
+                };
+                sum = sum.wrapping_add(range.end - range.start);
+            }
+            sum
+        }
+        // SAFETY: as above.
+        "check" => (0..times)
+            .filter(|_| unsafe { const_oid_check_sorted(black_box(list), count) }.code == 0)
+            .count(),
+        _ => panic!("no such row"),
+    }
+}
+
+fn in_crate(row: &str, oids: &[ObjectIdentifier], times: usize) -> usize {
+    // The length of a name is the index of its entry.
+    let names = " ".repeat(oids.len());
+    let entries: Vec<(&ObjectIdentifierRef, &str)> = oids
+        .iter()
+        .enumerate()
+        .map(|(index, oid)| (oid.as_oid_ref(), &names[..index]))
+        .collect();
+    let sorted = SortedDatabase::try_new(&entries).unwrap();
+    let keys = keys(row, oids);
+    let at = |entry: Option<&(&ObjectIdentifierRef, &str)>| {
+        entry.map_or(NOTHING, |entry| {
+            (std::ptr::from_ref(entry).addr() - entries.as_ptr().addr()) / size_of_val(entry)
+        })
+    };
+    let mut sum = 0usize;
+    for time in 0..times {
+        let key = keys[time % keys.len()].as_oid_ref();
+        let sorted = black_box(&sorted);
+        sum = sum.wrapping_add(match row {
+            "find" => sorted.by_oid(key).map_or(NOTHING, str::len),
+            "next" => at(sorted.next_after(key)),
+            "nearest" => at(sorted.nearest(key)),
+            "subtree" => sorted.subtree(key).len(),
+            "check" => usize::from(SortedDatabase::try_new(black_box(&entries)).is_some()),
+            _ => panic!("no such row"),
+        });
+    }
+    sum
+}
+
+fn main() {
+    let words: Vec<String> = std::env::args().skip(1).collect();
+    let [side, row, count, times] = &words[..] else {
+        panic!("sorted SIDE ROW COUNT TIMES");
+    };
+    let oids: Vec<ObjectIdentifier> = (0..count.parse().unwrap()).map(item).collect();
+    let times = times.parse().unwrap();
+    let sum = if side == "c" {
+        in_c(row, &oids, times)
+    } else {
+        in_crate(row, &oids, times)
+    };
+    println!("{sum}");
+}
