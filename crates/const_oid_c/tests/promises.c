@@ -150,6 +150,31 @@ static void orders(void) {
     SEE(is(const_oid_cmp(oid, 3, oid, 2), CONST_OID_OK, CONST_OID_GREATER, 0));
 }
 
+/* A caller that forgets the code takes no error for an order: an error leaves 0 in `detail`, and no order is 0. */
+static void orders_of_errors(void) {
+    static const struct {
+        const char *what;
+        uint32_t code;
+        size_t len;
+        uint8_t octets[6];
+    } wrong[] = {
+        {"no octets", CONST_OID_EMPTY, 0, {0}},
+        {"a subidentifier that begins with 0x80", CONST_OID_BASE128, 3, {0x2A, 0x80, 0x01}},
+        {"a subidentifier that does not end", CONST_OID_BASE128, 2, {0x2A, 0x81}},
+        {"an arc above 4294967295", CONST_OID_ARC_TOO_BIG, 6, {0x2A, 0x90, 0x80, 0x80, 0x80, 0x00}},
+    };
+    static const_oid_status (*const compare[])(const uint8_t *, size_t, const uint8_t *, size_t) = {
+        const_oid_cmp, const_oid_cmp_arcs, const_oid_cmp_owned};
+    SEE(CONST_OID_LESS != 0 && CONST_OID_EQUAL != 0 && CONST_OID_GREATER != 0);
+    for (size_t i = 0; i < sizeof wrong / sizeof *wrong; i++) {
+        for (size_t j = 0; j < sizeof compare / sizeof *compare; j++) {
+            const_oid_status left = compare[j](wrong[i].octets, wrong[i].len, oid, 3);
+            const_oid_status right = compare[j](oid, 3, wrong[i].octets, wrong[i].len);
+            see(is(left, wrong[i].code, 0, 0) && is(right, wrong[i].code, 0, 0), __LINE__, wrong[i].what);
+        }
+    }
+}
+
 /* The longest text of a code and a detail is as long as the constant says. */
 static void longest_error_text(void) {
     static const uint32_t details[] = {0, 9, 10, 99, 127, 128, 255, 256, 4294967295u};
@@ -200,6 +225,7 @@ int main(void) {
     numbers();
     codes();
     orders();
+    orders_of_errors();
     longest_error_text();
     constants();
     rest_of_output();
