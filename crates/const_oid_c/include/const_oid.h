@@ -214,9 +214,10 @@ const_oid_status const_oid_cmp_arcs(
 const_oid_status const_oid_cmp_owned(
     const uint8_t *left, size_t left_len, const uint8_t *right, size_t right_len);
 
-/* Checks a list for the functions below: each item is valid, of any length, and none comes before the
- * previous one, in the order of const_oid_cmp_arcs. Items may be repeated. Of the first item that is not
- * so, returns its code, or UNSORTED, and its index in `len`. It reads the whole list. */
+/* Checks a list, which is an array of identifiers, for the functions below: each item is valid, of any
+ * length, and none comes before the previous one, in the order of const_oid_cmp_arcs. Items may be
+ * repeated. The code is 0 exactly if this holds. Of the first item that is not so, returns its code, or
+ * UNSORTED, and its index in `len`. It reads the whole list. */
 const_oid_status const_oid_check_sorted(const const_oid_octets *items, size_t count);
 
 /* The functions below search in a list that const_oid_check_sorted accepts, by a binary search. They check
