@@ -1,11 +1,6 @@
 //! sorted SIDE ROW COUNT TIMES: a function of the library for C, or that of the cargo crate's SortedDatabase, so many
-//! times over COUNT identifiers of 8 arcs in lexicographic order. SIDE is c or crate. Valgrind counts its instructions:
-//! those of a thousand calls are the difference of two runs of 1,100 and 100 times, the loop included. Both sides print
-//! the same sum of what they found, and so both find the same.
-//!
-//! Build, after `cargo build --release` in rust/const-oid-c, whose target folder is T:
-//! rustc --edition 2024 -O --crate-type rlib --crate-name const_oid --cfg 'feature="db"' rust/const-oid/src/lib.rs
-//! rustc --edition 2024 -O --extern const_oid=libconst_oid.rlib -L T/release -l static=const_oid_c bench/rustc/sorted.rs
+//! times over COUNT identifiers of 8 arcs in lexicographic order. SIDE is c or crate. The script `sorted` counts
+//! its instructions, the loop included. Both sides print the same sum of what they found.
 
 use const_oid::db::SortedDatabase;
 use const_oid::{ObjectIdentifier, ObjectIdentifierRef};
