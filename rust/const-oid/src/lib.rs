@@ -19,6 +19,7 @@
 mod arbitrary;
 mod arcs;
 mod by_arcs;
+mod conversions;
 #[cfg(feature = "db")]
 pub mod db;
 #[allow(
@@ -35,7 +36,6 @@ mod erased;
 #[cfg(feature = "internal-for-const-oid-c")]
 #[doc(hidden)]
 pub mod internal_for_const_oid_c;
-mod oid;
 mod oid_ref;
 mod traits;
 

@@ -103,7 +103,8 @@ fn is_here(module: &str, name: &str) -> bool {
         "oid_ref" => has("src/oid_ref.rs", &["    fn ", "pub fn ", "pub const fn "]),
         module => {
             let generated = format!("src/erased/{module}.rs");
-            has(&generated, &["pub fn ", "pub const fn "]) || has("src/oid.rs", &["pub const fn "])
+            has(&generated, &["pub fn ", "pub const fn "])
+                || has("src/conversions.rs", &["pub const fn "])
         }
     }
 }

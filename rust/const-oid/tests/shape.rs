@@ -268,7 +268,7 @@ fn manifest() {
 /// The other packages of this workspace are for the same Rust.
 #[test]
 fn rust_versions() {
-    for package in ["arbitrary", "compare", "const-oid-c", "erase"] {
+    for package in ["arbitrary", "compare_builds", "const-oid-c", "erase"] {
         let settings = settings(&format!("../{package}/Cargo.toml"));
         let version = settings
             .iter()

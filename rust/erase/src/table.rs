@@ -235,7 +235,7 @@ pub const CRATES: &[Crate] = &[
             Edit {
                 module: "oid",
                 old: "Err(_) => unreachable!(\"not the text of an object identifier\")",
-                new: "Err(error) => panic!(\"{}\", crate::oid::panic_text(error))",
+                new: "Err(error) => panic!(\"{}\", crate::conversions::panic_text(error))",
                 why: "outside of constants, Rust does not check the text before the program runs",
             },
         ],

@@ -132,13 +132,13 @@ fn a_generated_file_that_is_changed_removed_or_added() {
 #[test]
 fn a_source_by_hand_whose_public_items_change() {
     let copy = Copy::new("items");
-    copy.append("rust/const-oid/src/oid.rs", "fn private() {}\n");
+    copy.append("rust/const-oid/src/conversions.rs", "fn private() {}\n");
     assert_eq!(copy.faults(), [""; 0]);
-    copy.append("rust/const-oid/src/oid.rs", "pub fn public() {}\n");
+    copy.append("rust/const-oid/src/conversions.rs", "pub fn public() {}\n");
     let list = String::from("rust/const-oid/public-items.txt");
     assert_eq!(copy.faults(), each(&[list], "not what erase generates"));
     let printed = String::from_utf8(copy.erase(&["--items"]).stdout).unwrap();
-    assert!(printed.contains("rust/const-oid/src/oid.rs\t\tpub fn public()\n"));
+    assert!(printed.contains("rust/const-oid/src/conversions.rs\t\tpub fn public()\n"));
 }
 
 #[test]

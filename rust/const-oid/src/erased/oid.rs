@@ -58,7 +58,7 @@ impl ObjectIdentifier<39> {
     pub const fn new_unwrap(s: &str) -> Self {
         match Self::new(s) {
             Ok(oid) => oid,
-            Err(error) => panic!("{}", crate::oid::panic_text(error)),
+            Err(error) => panic!("{}", crate::conversions::panic_text(error)),
         }
     }
 

@@ -1,5 +1,5 @@
 //! Compares the crate const-oid with the static library, which other compilers make of the same
-//! source: `compare [COUNT]`. COUNT is the number of texts, of octets and of lists (a million).
+//! source: `compare_builds [COUNT]`. COUNT is the number of texts, of octets and of lists (a million).
 
 mod draw;
 mod library;

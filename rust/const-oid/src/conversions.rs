@@ -1,4 +1,4 @@
-//! Forms of owned identifiers and of their buffers.
+//! Conversions of owned identifiers and of their buffers, by traits and to the borrowed form.
 
 use crate::{Buffer, Error, ObjectIdentifier, ObjectIdentifierRef, Result};
 use core::borrow::Borrow;
