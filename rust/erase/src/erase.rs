@@ -176,74 +176,6 @@ pub fn modules(tokens: &[Token<'_>]) -> Vec<String> {
     declared.map(|item| item[1].text.to_string()).collect()
 }
 
-/// The source of tokens, in which each of these types and of their public functions has the file of its example after
-/// its summary.
-pub fn with_examples(tokens: &[Token<'_>], types: &[&str]) -> Result<String> {
-    let mut out = String::new();
-    let mut owner = None;
-    for (at, token) in tokens.iter().enumerate() {
-        if token.text == "impl" || token.text == "trait" {
-            let head: Tokens<'_> = tokens[at..]
-                .iter()
-                .copied()
-                .take_while(|token| token.text != "{")
-                .collect();
-            owner = types.iter().find(|name| is_owner(name, &head));
-        }
-        let function = owner.zip(public_function(tokens, at));
-        let item = public_type(tokens, at).filter(|name| types.contains(name));
-        let item = item.map(str::to_string);
-        if let Some(item) = item.or(function.map(|(owner, name)| format!("{owner}.{name}"))) {
-            if !has_summary(tokens, at) {
-                let words = format!("`{item}` has no summary before its example");
-                return Err(Fault::new(token.line, words));
-            }
-            out += &format!("#[doc = include_str!(\"../examples/{item}.md\")]\n");
-        }
-        out += token.text;
-    }
-    Ok(out)
-}
-
-/// Whether the item at this index has a line of documentation, before or after its attributes.
-fn has_summary(tokens: &[Token<'_>], at: usize) -> bool {
-    let before = tokens[..at].iter().rev();
-    before
-        .take_while(|token| !["{", "}", ";"].contains(&token.text))
-        .any(|token| token.text.starts_with("/// "))
-}
-
-/// Whether `impl .. {` is of this type, and of no trait.
-fn is_owner(name: &str, head: &[Token<'_>]) -> bool {
-    let has = |text: &str| head.iter().any(|token| token.text == text);
-    has("impl") && has(name) && !has("for")
-}
-
-/// The name of the function whose `pub` is at this index.
-fn public_function<'a>(tokens: &[Token<'a>], at: usize) -> Option<&'a str> {
-    let is_public = tokens[at].text == "pub";
-    let words = tokens[at..].iter().filter(|token| !token.is_blank());
-    let mut words = words
-        .map(|token| token.text)
-        .skip(1)
-        .filter(|word| *word != "const");
-    words
-        .next()
-        .filter(|word| is_public && *word == "fn")
-        .and(words.next())
-}
-
-/// The name of the type whose `pub` is at this index.
-fn public_type<'a>(tokens: &[Token<'a>], at: usize) -> Option<&'a str> {
-    let is_public = tokens[at].text == "pub";
-    let words = tokens[at..].iter().filter(|token| !token.is_blank());
-    let mut words = words.map(|token| token.text).skip(1);
-    words
-        .next()
-        .filter(|word| is_public && ["struct", "enum", "type"].contains(word))
-        .and(words.next())
-}
-
 #[cfg(test)]
 mod tests {
     use super::*;
@@ -343,51 +275,6 @@ mod tests {
             assert_eq!(
                 erased(left_out).unwrap_err(),
                 "2: `// erase: const` is in what is left out"
-            );
-        }
-    }
-
-    #[test]
-    fn examples() {
-        let source = "impl<T> S<T> {
-                /// A.
-                pub fn a() {}
-                /// B.
-                #[inline]
-                pub const fn b() {}
-                fn c() {}
-                pub(crate) fn d() {}
-            }
-            impl Eq for S { pub fn e() {} } impl R { pub fn f() {} }
-            #[derive(Clone)]
-            /// S.
-            pub struct S<T> {} pub type R = S; struct S;";
-        let out = with_examples(&tokens(source).unwrap(), &["S"]).unwrap();
-        let files: Vec<&str> = out
-            .split("examples/")
-            .skip(1)
-            .filter_map(|file| file.split('"').next())
-            .collect();
-        assert_eq!(files, ["S.a.md", "S.b.md", "S.md"]);
-    }
-
-    #[test]
-    fn an_example_follows_a_summary() {
-        for (source, item) in [
-            ("/// A.\nconst A: u8 = 1;\npub struct S;", "S"),
-            ("struct A {\n/// X.\nx: u8 }\npub struct S;", "S"),
-            ("// S.\npub struct S;", "S"),
-            ("///\npub struct S;", "S"),
-            ("/// S.\nimpl S { pub fn a() {} }", "S.a"),
-            (
-                "impl S {\n/// A.\nfn a() {}\n#[inline]\npub fn b() {} }",
-                "S.b",
-            ),
-        ] {
-            let fault = with_examples(&tokens(source).unwrap(), &["S"]).unwrap_err();
-            assert_eq!(
-                fault.words,
-                format!("`{item}` has no summary before its example")
             );
         }
     }

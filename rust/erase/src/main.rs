@@ -9,6 +9,7 @@
 mod c_names;
 mod edit;
 mod erase;
+mod examples;
 mod fault;
 mod items;
 mod mark;
@@ -16,6 +17,7 @@ mod names;
 mod table;
 mod token;
 
+use examples::Examples;
 use fault::{Fault, Result};
 use std::io::Write;
 use std::path::{Path, PathBuf};
@@ -26,7 +28,7 @@ use table::Crate;
 const TABLE: &str = "rust/names.tsv";
 const NAMES: &str = "rust/const-oid/src/db/names.rs";
 const C_NAMES: &str = "crates/const_oid_c/include/const_oid_names.h";
-const EXAMPLES: &str = "rust/const-oid/src/examples";
+const EXAMPLES: &str = "rust/const-oid/src/examples.md";
 const CRATE: &str = "rust/const-oid/src";
 const ITEMS: &str = "rust/const-oid/public-items.txt";
 
@@ -63,18 +65,11 @@ fn main() -> ExitCode {
 /// The files to write, or the first fault with its file and line.
 fn generated() -> Checked<Vec<File>> {
     let mut files = Vec::new();
+    let mut examples = Examples::new(&read(EXAMPLES)?).map_err(|fault| at(EXAMPLES, &fault))?;
     for table in table::CRATES {
-        files.extend(modules(table)?);
+        files.extend(modules(table, &mut examples)?);
     }
-    let unused = |path: &String| {
-        let (_, name) = path.rsplit_once('/').unwrap_or_default();
-        files
-            .iter()
-            .all(|(_, rust)| !rust.contains(&format!("/{name}\"")))
-    };
-    if let Some(path) = listed(EXAMPLES).into_iter().find(unused) {
-        return Err(format!("{path}: of no public item"));
-    }
+    examples.all_taken().map_err(|fault| at(EXAMPLES, &fault))?;
     let names = names::names(&read(TABLE)?).map_err(|fault| at(TABLE, &fault))?;
     files.push((ITEMS.into(), public_items(&files)?));
     files.push((NAMES.into(), headed(TABLE, &names)));
@@ -111,13 +106,13 @@ fn public_items(files: &[File]) -> Checked<String> {
 }
 
 /// The files of the modules of a crate.
-fn modules(table: &Crate) -> Checked<Vec<File>> {
+fn modules(table: &Crate, examples: &mut Examples) -> Checked<Vec<File>> {
     let mut files = Vec::new();
     let mut counts = vec![0; table.edits.len()];
     let mut left = vec![String::from("lib")];
     while let Some(module) = left.pop() {
         let path = format!("{}/{module}.rt", table.from);
-        let (rust, declared) = module_of(&read(&path)?, table, &module, &mut counts)
+        let (rust, declared) = module_of(&read(&path)?, table, &module, &mut counts, examples)
             .map_err(|fault| at(&path, &fault))?;
         let name = if module == "lib" { "mod" } else { &module };
         files.push((
@@ -136,11 +131,12 @@ fn module_of(
     table: &Crate,
     module: &str,
     counts: &mut [usize],
+    examples: &mut Examples,
 ) -> Result<(String, Vec<String>)> {
     let tokens = erase::erase(&token::tokens(source)?)?;
     let tokens = edit::edited(tokens, table, module, counts)?;
     Ok((
-        erase::with_examples(&tokens, table.with_examples)?,
+        examples.written(&tokens, table.with_examples)?,
         erase::modules(&tokens),
     ))
 }

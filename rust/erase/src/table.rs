@@ -9,7 +9,7 @@ pub struct Crate {
     /// The root module of the generated files.
     pub root: &'static str,
     pub edits: &'static [Edit],
-    /// Types that each have a file with an example, and so have their public functions.
+    /// Types that each have an example, and so have their public functions.
     pub with_examples: &'static [&'static str],
 }
 

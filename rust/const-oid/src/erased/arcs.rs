@@ -5,12 +5,27 @@
 use crate::erased::base128::read_group;
 use crate::erased::parts::skip_parts;
 /// One arc of an object identifier, a 32-bit number.
-#[doc = include_str!("../examples/Arc.md")]
+///
+/// # Examples
+///
+/// ```
+/// const GREATEST: const_oid::Arc = const_oid::Arc::MAX;
+/// assert_eq!(GREATEST, 4_294_967_295);
+/// ```
 pub type Arc = u32;
 
 /// An iterator over the arcs of an identifier, in order. After the last arc, `next` always returns `None`.
+///
+/// # Examples
+///
+/// ```
+/// use const_oid::{Arcs, ObjectIdentifier};
+///
+/// let oid = ObjectIdentifier::new_unwrap("2.999");
+/// let mut arcs: Arcs<'_> = oid.arcs();
+/// assert_eq!((arcs.next(), arcs.next(), arcs.next()), (Some(2), Some(999), None));
+/// ```
 #[derive(Clone)]
-#[doc = include_str!("../examples/Arcs.md")]
 pub struct Arcs<'a> {
     next: Next,
     octets: &'a [u8],

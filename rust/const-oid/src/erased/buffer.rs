@@ -12,8 +12,13 @@ use core::hash::{Hash, Hasher};
 /// The octets of an owned identifier: at most `SIZE`, and never more than 255.
 ///
 /// It has no public constructor.
+///
+/// # Examples
+///
+/// ```
+/// assert_eq!(size_of::<const_oid::Buffer<39>>(), 40);
+/// ```
 #[derive(Copy, Clone, PartialEq, Eq)]
-#[doc = include_str!("../examples/Buffer.md")]
 pub struct Buffer<const SIZE: usize> {
     bytes: [u8; SIZE],
     used: u8,
@@ -90,13 +95,27 @@ impl<const SIZE: usize> Buffer<SIZE> {
     }
 
     /// The octets in use.
-    #[doc = include_str!("../examples/Buffer.as_bytes.md")]
+    ///
+    /// # Examples
+    ///
+    /// ```
+    /// fn octets<const SIZE: usize>(buffer: &const_oid::Buffer<SIZE>) -> &[u8] {
+    ///     buffer.as_bytes()
+    /// }
+    /// ```
     pub const fn as_bytes(&self) -> &[u8] {
         self.bytes.split_at(self.used as usize).0
     }
 
     /// How many octets are in use.
-    #[doc = include_str!("../examples/Buffer.len.md")]
+    ///
+    /// # Examples
+    ///
+    /// ```
+    /// fn is_empty<const SIZE: usize>(buffer: &const_oid::Buffer<SIZE>) -> bool {
+    ///     buffer.len() == 0
+    /// }
+    /// ```
     pub const fn len(&self) -> usize {
         self.used as usize
     }
@@ -117,9 +136,16 @@ impl<const SIZE: usize> Buffer<SIZE> {
     }
 
     /// Whether the octets in use are equal.
+    ///
+    /// # Examples
+    ///
+    /// ```
+    /// const fn are_equal(a: &const_oid::Buffer<39>, b: &const_oid::Buffer<39>) -> bool {
+    ///     a.eq(b)
+    /// }
+    /// ```
     // Whole arrays are compared, since zeros follow in both.
     #[inline(always)]
-    #[doc = include_str!("../examples/Buffer.eq.md")]
     pub const fn eq(&self, rhs: &Self) -> bool {
         self.used == rhs.used && are_arrays_equal(&self.bytes, &rhs.bytes)
     }

@@ -12,21 +12,47 @@ use crate::erased::oid::ObjectIdentifier;
 /// identifiers.
 ///
 /// Names are compared without regard to ASCII case.
+///
+/// # Examples
+///
+/// ```
+/// use const_oid::{ObjectIdentifier, db::Database};
+///
+/// const SYSTEM: ObjectIdentifier = ObjectIdentifier::new_unwrap("1.3.6.1.2.1.1");
+/// const NAMES: Database<'static> = Database::new(&[(&SYSTEM, "system")]);
+/// const NAME: Option<&str> = NAMES.by_oid(&SYSTEM);
+/// assert_eq!(NAME, Some("system"));
+/// ```
 #[derive(Copy, Clone)]
-#[doc = include_str!("../examples/Database.md")]
 pub struct Database<'a> {
     pub(crate) entries: &'a [(&'a ObjectIdentifier, &'a str)],
 }
 
 impl<'a> Database<'a> {
     /// A database over these entries.
-    #[doc = include_str!("../examples/Database.new.md")]
+    ///
+    /// # Examples
+    ///
+    /// ```
+    /// use const_oid::{ObjectIdentifier, db::Database};
+    ///
+    /// const CN: ObjectIdentifier = ObjectIdentifier::new_unwrap("2.5.4.3");
+    /// const NAMES: Database<'static> = Database::new(&[(&CN, "cn"), (&CN, "commonName")]);
+    /// assert_eq!(NAMES.by_oid(&CN), Some("cn"));
+    /// ```
     pub const fn new(entries: &'a [(&'a ObjectIdentifier, &'a str)]) -> Self {
         Database { entries }
     }
 
     /// The name in the first entry with this identifier, or `None` if there is no such entry.
-    #[doc = include_str!("../examples/Database.by_oid.md")]
+    ///
+    /// # Examples
+    ///
+    /// ```
+    /// use const_oid::db::{DB, rfc4519};
+    ///
+    /// assert_eq!(DB.by_oid(&rfc4519::CN), Some("cn"));
+    /// ```
     pub const fn by_oid(&self, oid: &ObjectIdentifier) -> Option<&'a str> {
         let mut left = self.entries;
         while let [entry, after @ ..] = left {
@@ -39,7 +65,14 @@ impl<'a> Database<'a> {
     }
 
     /// The identifier in the first entry with this name, in any ASCII case, or `None` if there is no such entry.
-    #[doc = include_str!("../examples/Database.by_name.md")]
+    ///
+    /// # Examples
+    ///
+    /// ```
+    /// use const_oid::db::{DB, rfc4519};
+    ///
+    /// assert_eq!(DB.by_name("CN"), Some(&rfc4519::CN));
+    /// ```
     pub const fn by_name(&self, name: &str) -> Option<&'a ObjectIdentifier> {
         let mut left = self.entries;
         while let [entry, after @ ..] = left {
@@ -52,7 +85,16 @@ impl<'a> Database<'a> {
     }
 
     /// All names of this identifier, in the order of the table.
-    #[doc = include_str!("../examples/Database.find_names_for_oid.md")]
+    ///
+    /// # Examples
+    ///
+    /// ```
+    /// use const_oid::{ObjectIdentifier, db::Database};
+    ///
+    /// const CN: ObjectIdentifier = ObjectIdentifier::new_unwrap("2.5.4.3");
+    /// let names = Database::new(&[(&CN, "cn"), (&CN, "commonName")]);
+    /// assert!(names.find_names_for_oid(CN).eq(["cn", "commonName"]));
+    /// ```
     pub const fn find_names_for_oid(&self, oid: ObjectIdentifier) -> Names<'a> {
         Names {
             left: self.entries,
@@ -66,7 +108,16 @@ impl<'a> Database<'a> {
     /// # Errors
     ///
     /// Those of `new` of an owned identifier.
-    #[doc = include_str!("../examples/Database.resolve.md")]
+    ///
+    /// # Examples
+    ///
+    /// ```
+    /// use const_oid::{Error, db::DB};
+    ///
+    /// assert_eq!(DB.resolve("2.5.4.3"), Ok("cn"));
+    /// assert_eq!(DB.resolve("2.999"), Ok("2.999"));
+    /// assert_eq!(DB.resolve("2."), Err(Error::TrailingDot));
+    /// ```
     pub fn resolve<'b>(&self, oid: &'b str) -> Result<&'b str>
     where
         'a: 'b,
@@ -77,8 +128,16 @@ impl<'a> Database<'a> {
 }
 
 /// An iterator over the names of an identifier, in the order of the table.
+///
+/// # Examples
+///
+/// ```
+/// use const_oid::db::{DB, Names, rfc4519};
+///
+/// let mut names: Names<'static> = DB.find_names_for_oid(rfc4519::CN);
+/// assert_eq!(names.next(), Some("cn"));
+/// ```
 #[derive(Clone)]
-#[doc = include_str!("../examples/Names.md")]
 pub struct Names<'a> {
     left: &'a [(&'a ObjectIdentifier, &'a str)],
     oid: ObjectIdentifier,

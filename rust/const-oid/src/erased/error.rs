@@ -8,12 +8,33 @@ use crate::erased::text::{utf8, write_bytes};
 use core::fmt;
 
 /// A result whose error is [`Error`].
-#[doc = include_str!("../examples/Result.md")]
+///
+/// # Examples
+///
+/// ```
+/// use const_oid::{ObjectIdentifier, Result};
+///
+/// fn country() -> Result<ObjectIdentifier> {
+///     "2.5.4.6".parse()
+/// }
+///
+/// assert_eq!(country()?.len(), 4);
+/// # Ok::<(), const_oid::Error>(())
+/// ```
 pub type Result<T> = core::result::Result<T, Error>;
 
 /// Why text, a list of arcs or octets were rejected.
+///
+/// # Examples
+///
+/// ```
+/// use const_oid::{Error, ObjectIdentifier};
+///
+/// let error = ObjectIdentifier::new("1..2").unwrap_err();
+/// assert_eq!(error, Error::RepeatedDot);
+/// assert_eq!(error.to_string(), "repeated consecutive '..' characters in OID");
+/// ```
 #[derive(Copy, Clone, Debug, Eq, PartialEq, PartialOrd, Ord)]
-#[doc = include_str!("../examples/Error.md")]
 pub enum Error {
     /// The first or the second arc of a text or a list is out of range.
     ArcInvalid {
@@ -54,7 +75,12 @@ const MAX_TEXT_LEN: usize = 47;
 
 impl Error {
     /// The length of the text that `{}` writes.
-    #[doc = include_str!("../examples/Error.text_len.md")]
+    ///
+    /// # Examples
+    ///
+    /// ```
+    /// assert_eq!(const_oid::Error::Length.text_len(), 18);
+    /// ```
     pub fn text_len(self) -> usize {
         let (before, after) = self.words();
         before.len() + self.detail_len() + after.len()
@@ -62,8 +88,15 @@ impl Error {
 
     /// Writes the text that `{}` writes at the start of `out`, and returns its length. Returns `None`
     /// if it is longer than `out`, which is then unchanged.
+    ///
+    /// # Examples
+    ///
+    /// ```
+    /// let mut out = [0; 32];
+    /// let len = const_oid::Error::Length.encode_text(&mut out).unwrap();
+    /// assert_eq!(&out[..len], b"OID length invalid");
+    /// ```
     #[inline(always)]
-    #[doc = include_str!("../examples/Error.encode_text.md")]
     pub fn encode_text(self, out: &mut [u8]) -> Option<usize> {
         if out.len() < self.text_len() {
             return None;
@@ -75,7 +108,14 @@ impl Error {
     }
 
     /// Writes the text as [`encode_text`](Self::encode_text) does, and borrows it as a `str`.
-    #[doc = include_str!("../examples/Error.encode_str.md")]
+    ///
+    /// # Examples
+    ///
+    /// ```
+    /// let mut out = [0; 32];
+    /// let text = const_oid::Error::Length.encode_str(&mut out);
+    /// assert_eq!(text, Some("OID length invalid"));
+    /// ```
     pub fn encode_str<'o>(self, out: &'o mut [u8]) -> Option<&'o str> {
         let len = self.encode_text(out)?;
         Some(utf8(&out[..len]))

@@ -17,8 +17,18 @@ use core::str::FromStr;
 /// never more than 255.
 ///
 /// Its octets are valid: they are the one encoding of its arcs (X.690, 8.19).
+///
+/// # Examples
+///
+/// ```
+/// use const_oid::ObjectIdentifier;
+///
+/// const CN: ObjectIdentifier = ObjectIdentifier::new_unwrap("2.5.4.3");
+/// assert_eq!("2.5.4.3".parse(), Ok(CN));
+/// assert_eq!(format!("{CN} {CN:?}"), "2.5.4.3 ObjectIdentifier(2.5.4.3)");
+/// assert!(CN > ObjectIdentifier::new_unwrap("2.5.4"));
+/// ```
 #[derive(Copy, Clone, PartialEq, Eq, PartialOrd, Hash)]
-#[doc = include_str!("../examples/ObjectIdentifier.md")]
 pub struct ObjectIdentifier<const MAX_SIZE: usize = 39> {
     ber: Buffer<MAX_SIZE>,
 }
@@ -43,7 +53,17 @@ impl ObjectIdentifier<39> {
     /// - [`Error::ArcInvalid`]: it is the first one and above 2, or the second, above 39 and after 0 or 1 (X.660);
     /// - [`Error::Length`]: the arcs up to it take more than 39 octets (X.690, 8.19);
     /// - [`Error::Empty`]: it is the only one.
-    #[doc = include_str!("../examples/ObjectIdentifier.new.md")]
+    ///
+    /// # Examples
+    ///
+    /// ```
+    /// use const_oid::{Error, ObjectIdentifier};
+    ///
+    /// let oid = ObjectIdentifier::new("2.999.3")?;
+    /// assert_eq!(oid.as_bytes(), [0x88, 0x37, 0x03]);
+    /// assert_eq!(ObjectIdentifier::new("1.40"), Err(Error::ArcInvalid { arc: 40 }));
+    /// # Ok::<(), Error>(())
+    /// ```
     pub const fn new(s: &str) -> Result<Self> {
         Self::new_sized(s)
     }
@@ -53,8 +73,16 @@ impl ObjectIdentifier<39> {
     /// # Panics
     ///
     /// If the text is invalid. A constant of an invalid text does not compile.
+    ///
+    /// # Examples
+    ///
+    /// ```
+    /// use const_oid::ObjectIdentifier;
+    ///
+    /// const CN: ObjectIdentifier = ObjectIdentifier::new_unwrap("2.5.4.3");
+    /// assert_eq!(CN.to_string(), "2.5.4.3");
+    /// ```
     // In Rattle, the checker rejects an invalid text, so nothing panics.
-    #[doc = include_str!("../examples/ObjectIdentifier.new_unwrap.md")]
     pub const fn new_unwrap(s: &str) -> Self {
         match Self::new(s) {
             Ok(oid) => oid,
@@ -73,7 +101,16 @@ impl ObjectIdentifier<39> {
     ///
     /// If none is wrong, [`Error::Empty`]: there are fewer than two. Which arcs after a wrong one are read is
     /// unspecified.
-    #[doc = include_str!("../examples/ObjectIdentifier.from_arcs.md")]
+    ///
+    /// # Examples
+    ///
+    /// ```
+    /// use const_oid::{Error, ObjectIdentifier};
+    ///
+    /// assert_eq!(ObjectIdentifier::from_arcs([2, 999])?.to_string(), "2.999");
+    /// assert_eq!(ObjectIdentifier::from_arcs([3, 1]), Err(Error::ArcInvalid { arc: 3 }));
+    /// # Ok::<(), Error>(())
+    /// ```
     pub fn from_arcs<I: IntoIterator<Item = Arc>>(arcs: I) -> Result<Self> {
         Self::from_arcs_sized(arcs)
     }
@@ -91,8 +128,17 @@ impl ObjectIdentifier<39> {
     /// - [`Error::Base128`] or [`Error::ArcTooBig`], by the first wrong subidentifier: it begins with 0x80; it is above
     ///   4294967295, or above 4294967375 as the first, which holds two arcs; or the octets end within it;
     /// - [`Error::Length`]: there are more than 39 octets.
+    ///
+    /// # Examples
+    ///
+    /// ```
+    /// use const_oid::{Error, ObjectIdentifier};
+    ///
+    /// assert_eq!(ObjectIdentifier::from_bytes(&[0x88, 0x37])?.to_string(), "2.999");
+    /// assert_eq!(ObjectIdentifier::from_bytes(&[0x2A, 0x80, 0x01]), Err(Error::Base128));
+    /// # Ok::<(), Error>(())
+    /// ```
     #[inline(always)]
-    #[doc = include_str!("../examples/ObjectIdentifier.from_bytes.md")]
     pub fn from_bytes(ber_bytes: &[u8]) -> Result<Self> {
         Self::from_bytes_sized(ber_bytes)
     }
@@ -113,8 +159,16 @@ impl<const MAX_SIZE: usize> ObjectIdentifier<MAX_SIZE> {
     /// # Errors
     ///
     /// Those of [`from_bytes`](Self::from_bytes), with [`Error::Length`] if there are more octets than fit.
+    ///
+    /// # Examples
+    ///
+    /// ```
+    /// use const_oid::{Error, ObjectIdentifier};
+    ///
+    /// assert!(ObjectIdentifier::<2>::from_bytes_sized(&[0x88, 0x37]).is_ok());
+    /// assert_eq!(ObjectIdentifier::<1>::from_bytes_sized(&[0x88, 0x37]), Err(Error::Length));
+    /// ```
     #[inline(always)]
-    #[doc = include_str!("../examples/ObjectIdentifier.from_bytes_sized.md")]
     pub fn from_bytes_sized(ber_bytes: &[u8]) -> Result<Self> {
         Self::try_from_ref(ObjectIdentifierRef::from_bytes(ber_bytes)?)
     }
@@ -124,15 +178,32 @@ impl<const MAX_SIZE: usize> ObjectIdentifier<MAX_SIZE> {
     /// # Errors
     ///
     /// Those of [`new`](Self::new), with [`Error::Length`] if the arcs take more octets than fit.
-    #[doc = include_str!("../examples/ObjectIdentifier.new_sized.md")]
+    ///
+    /// # Examples
+    ///
+    /// ```
+    /// use const_oid::{Error, ObjectIdentifier};
+    ///
+    /// assert!(ObjectIdentifier::<3>::new_sized("2.999.3").is_ok());
+    /// assert_eq!(ObjectIdentifier::<2>::new_sized("2.999.3"), Err(Error::Length));
+    /// ```
     pub const fn new_sized(s: &str) -> Result<Self> {
         Self::from_ascii(s.as_bytes())
     }
 
     /// Parses dotted text in ASCII as [`new_sized`](Self::new_sized) does. The bytes need not be UTF-8: one past ASCII
     /// is no digit.
+    ///
+    /// # Examples
+    ///
+    /// ```
+    /// use const_oid::{Error, ObjectIdentifier};
+    ///
+    /// assert_eq!(ObjectIdentifier::from_ascii(b"2.999.3"), ObjectIdentifier::new("2.999.3"));
+    /// let oid: Result<ObjectIdentifier, Error> = ObjectIdentifier::from_ascii(b"2.\xff");
+    /// assert_eq!(oid, Err(Error::DigitExpected { actual: 0xff }));
+    /// ```
     #[inline(always)]
-    #[doc = include_str!("../examples/ObjectIdentifier.from_ascii.md")]
     pub const fn from_ascii(text: &[u8]) -> Result<Self> {
         match parse(text) {
             Ok(ber) => Ok(ObjectIdentifier { ber }),
@@ -145,7 +216,15 @@ impl<const MAX_SIZE: usize> ObjectIdentifier<MAX_SIZE> {
     /// # Errors
     ///
     /// Those of [`from_arcs`](Self::from_arcs), with [`Error::Length`] if the arcs take more octets than fit.
-    #[doc = include_str!("../examples/ObjectIdentifier.from_arcs_sized.md")]
+    ///
+    /// # Examples
+    ///
+    /// ```
+    /// use const_oid::{Error, ObjectIdentifier};
+    ///
+    /// assert!(ObjectIdentifier::<2>::from_arcs_sized([2, 999]).is_ok());
+    /// assert_eq!(ObjectIdentifier::<1>::from_arcs_sized([2, 999]), Err(Error::Length));
+    /// ```
     pub fn from_arcs_sized<I: IntoIterator<Item = Arc>>(arcs: I) -> Result<Self> {
         let ber = encode(arcs)?;
         Ok(ObjectIdentifier { ber })
@@ -163,7 +242,14 @@ impl<const MAX_SIZE: usize> ObjectIdentifier<MAX_SIZE> {
     }
 
     /// The contents octets.
-    #[doc = include_str!("../examples/ObjectIdentifier.as_bytes.md")]
+    ///
+    /// # Examples
+    ///
+    /// ```
+    /// use const_oid::ObjectIdentifier;
+    ///
+    /// assert_eq!(ObjectIdentifier::new_unwrap("1.2.840").as_bytes(), [0x2A, 0x86, 0x48]);
+    /// ```
     pub const fn as_bytes(&self) -> &[u8] {
         self.ber.as_bytes()
     }
@@ -174,44 +260,99 @@ impl<const MAX_SIZE: usize> ObjectIdentifier<MAX_SIZE> {
     }
 
     /// The arc at an index, counted from 0, or `None` past the last one.
-    #[doc = include_str!("../examples/ObjectIdentifier.arc.md")]
+    ///
+    /// # Examples
+    ///
+    /// ```
+    /// use const_oid::ObjectIdentifier;
+    ///
+    /// let oid = ObjectIdentifier::new_unwrap("2.999");
+    /// assert_eq!((oid.arc(1), oid.arc(2)), (Some(999), None));
+    /// ```
     pub fn arc(&self, index: usize) -> Option<Arc> {
         self.borrowed().arc(index)
     }
 
     /// All arcs, in order.
-    #[doc = include_str!("../examples/ObjectIdentifier.arcs.md")]
+    ///
+    /// # Examples
+    ///
+    /// ```
+    /// use const_oid::ObjectIdentifier;
+    ///
+    /// assert!(ObjectIdentifier::new_unwrap("2.999.3").arcs().eq([2, 999, 3]));
+    /// ```
     pub fn arcs(&self) -> Arcs<'_> {
         self.borrowed().arcs()
     }
 
     /// The number of arcs, two or more.
-    #[doc = include_str!("../examples/ObjectIdentifier.len.md")]
+    ///
+    /// # Examples
+    ///
+    /// ```
+    /// use const_oid::ObjectIdentifier;
+    ///
+    /// assert_eq!(ObjectIdentifier::new_unwrap("2.999.3").len(), 3);
+    /// ```
     pub fn len(&self) -> usize {
         self.borrowed().len()
     }
 
     /// The length in bytes of the text that `{}` writes.
-    #[doc = include_str!("../examples/ObjectIdentifier.text_len.md")]
+    ///
+    /// # Examples
+    ///
+    /// ```
+    /// use const_oid::ObjectIdentifier;
+    ///
+    /// assert_eq!(ObjectIdentifier::new_unwrap("2.999").text_len(), 5);
+    /// ```
     pub fn text_len(&self) -> usize {
         self.borrowed().text_len()
     }
 
     /// Writes the text that `{}` writes at the start of `out`, and returns its length. Returns `None`
     /// if it is longer than `out`, which is then unchanged.
-    #[doc = include_str!("../examples/ObjectIdentifier.encode_text.md")]
+    ///
+    /// # Examples
+    ///
+    /// ```
+    /// use const_oid::ObjectIdentifier;
+    ///
+    /// let mut out = [0; 8];
+    /// assert_eq!(ObjectIdentifier::new_unwrap("2.999").encode_text(&mut out), Some(5));
+    /// assert_eq!(&out, b"2.999\0\0\0");
+    /// ```
     pub fn encode_text(&self, out: &mut [u8]) -> Option<usize> {
         self.borrowed().encode_text(out)
     }
 
     /// Writes the text as [`encode_text`](Self::encode_text) does, and borrows it as a `str`.
-    #[doc = include_str!("../examples/ObjectIdentifier.encode_str.md")]
+    ///
+    /// # Examples
+    ///
+    /// ```
+    /// use const_oid::ObjectIdentifier;
+    ///
+    /// let mut out = [0; 8];
+    /// assert_eq!(ObjectIdentifier::new_unwrap("2.999").encode_str(&mut out), Some("2.999"));
+    /// ```
     pub fn encode_str<'o>(&self, out: &'o mut [u8]) -> Option<&'o str> {
         self.borrowed().encode_str(out)
     }
 
     /// The parent: all arcs except the last. `None` if there are only two.
-    #[doc = include_str!("../examples/ObjectIdentifier.parent.md")]
+    ///
+    /// # Examples
+    ///
+    /// ```
+    /// use const_oid::ObjectIdentifier;
+    ///
+    /// let top = ObjectIdentifier::new_unwrap("2.999");
+    /// assert_eq!(ObjectIdentifier::new_unwrap("2.999.3").parent(), Some(top));
+    /// assert_eq!(top.parent(), None);
+    /// ```
     pub fn parent(&self) -> Option<Self> {
         let parent = self.borrowed().parent()?;
         let ber = Buffer::copied(parent.as_bytes());
@@ -223,7 +364,16 @@ impl<const MAX_SIZE: usize> ObjectIdentifier<MAX_SIZE> {
     /// # Errors
     ///
     /// [`Error::Length`] if its octets do not fit.
-    #[doc = include_str!("../examples/ObjectIdentifier.push_arc.md")]
+    ///
+    /// # Examples
+    ///
+    /// ```
+    /// use const_oid::{Error, ObjectIdentifier};
+    ///
+    /// const CHILD: Result<ObjectIdentifier, Error> = ObjectIdentifier::new_unwrap("2.999").push_arc(3);
+    /// assert_eq!(CHILD?.to_string(), "2.999.3");
+    /// # Ok::<(), Error>(())
+    /// ```
     pub const fn push_arc(self, arc: Arc) -> Result<Self> {
         let mut ber = self.ber;
         match ber.push_arc(arc) {
@@ -238,14 +388,30 @@ impl<const MAX_SIZE: usize> ObjectIdentifier<MAX_SIZE> {
     }
 
     /// Whether the arcs begin with all those of another identifier: whether it is this one or an ancestor.
+    ///
+    /// # Examples
+    ///
+    /// ```
+    /// use const_oid::ObjectIdentifier;
+    ///
+    /// let (top, oid) = (ObjectIdentifier::new_unwrap("2.999"), ObjectIdentifier::new_unwrap("2.999.3"));
+    /// assert!(oid.starts_with(top) && !top.starts_with(oid));
+    /// ```
     #[inline(always)]
-    #[doc = include_str!("../examples/ObjectIdentifier.starts_with.md")]
     pub const fn starts_with<const SIZE: usize>(&self, other: ObjectIdentifier<SIZE>) -> bool {
         self.borrowed().starts_with(&other.borrowed())
     }
 
     /// Compares the arcs lexicographically, a prefix before what begins with it. SNMP orders names so (RFC 3416).
-    #[doc = include_str!("../examples/ObjectIdentifier.cmp_arcs.md")]
+    ///
+    /// # Examples
+    ///
+    /// ```
+    /// use const_oid::ObjectIdentifier;
+    ///
+    /// let (short, long) = (ObjectIdentifier::new_unwrap("2.5"), ObjectIdentifier::new_unwrap("1.2.3"));
+    /// assert!(long.cmp_arcs(&short).is_lt() && short < long);
+    /// ```
     pub fn cmp_arcs<const SIZE: usize>(&self, other: &ObjectIdentifier<SIZE>) -> Ordering {
         self.borrowed().cmp_arcs(&other.borrowed())
     }
