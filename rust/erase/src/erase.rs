@@ -123,7 +123,7 @@ fn is_of_model(tokens: &[Token<'_>], at: usize) -> bool {
 
 /// The index after `ghost use ..;`, `ghost name = { .. };` or `ghost name: { .. } by { .. },`,
 /// where `by` and the last comma may be missing.
-fn ghost_end(tokens: &[Token<'_>], from: usize) -> Result<usize> {
+pub fn ghost_end(tokens: &[Token<'_>], from: usize) -> Result<usize> {
     let fault = || Fault::new(tokens[from].line, "an unknown form of `ghost`");
     let name = solid(tokens, from + 1);
     if is(tokens, name, "use") {
@@ -151,7 +151,7 @@ fn ghost_end(tokens: &[Token<'_>], from: usize) -> Result<usize> {
 }
 
 /// The index after `requires name { .. }` or `ensures name { .. }`. The name may be missing.
-fn clause_end(tokens: &[Token<'_>], from: usize) -> Result<usize> {
+pub fn clause_end(tokens: &[Token<'_>], from: usize) -> Result<usize> {
     let mut open = solid(tokens, from + 1);
     if !is(tokens, open, "{") {
         open = solid(tokens, open + 1);

@@ -1,5 +1,7 @@
-//! The public items of a source.
+//! The items of a source, of Rust or Rattle.
 
+use crate::erase::{clause_end, ghost_end};
+use crate::fault::Result;
 use crate::token::{Token, close, is, solid};
 
 /// Attributes that a caller can tell.
@@ -13,10 +15,17 @@ const TOLD: [&str; 7] = [
     "repr",
 ];
 
-/// A public item: the head of what it is in, and its own head.
+/// An item, and the head of what it is in.
+#[derive(Default)]
 pub struct Item {
     pub owner: String,
     pub head: String,
+    /// Its attributes that a caller can tell.
+    pub told: String,
+    pub is_public: bool,
+    /// The clauses of a function, `requires` or `ensures` with the name of one that has a name, each with its text; or
+    /// `=` or `:` and the text of a ghost; or `=` and the value of a constant.
+    pub clauses: Vec<(String, String)>,
 }
 
 /// What makes an item public.
@@ -26,16 +35,33 @@ enum By {
     Itself,
     /// What it is in.
     Owner,
+    /// Nothing: what it is in is private.
+    Nothing,
 }
 
-/// The public items of a source, and its impls of traits, in order. A macro's are those that it writes.
-pub fn items(tokens: &[Token<'_>]) -> Vec<Item> {
+/// What items are in.
+#[derive(Clone, Copy)]
+struct Place<'a> {
+    owner: &'a str,
+    by: By,
+}
+
+/// The items of a source, and its impls of traits, in order, without ghost fields. A macro's are those that it writes.
+pub fn items(tokens: &[Token<'_>]) -> Result<Vec<Item>> {
     let mut out = Vec::new();
-    collect(tokens, "", By::Itself, &mut out);
-    out
+    let owner = "";
+    collect(
+        tokens,
+        Place {
+            owner,
+            by: By::Itself,
+        },
+        &mut out,
+    )?;
+    Ok(out)
 }
 
-fn collect(tokens: &[Token<'_>], owner: &str, by: By, out: &mut Vec<Item>) {
+fn collect(tokens: &[Token<'_>], place: Place<'_>, out: &mut Vec<Item>) -> Result<()> {
     let mut told = String::new();
     let mut at = solid(tokens, 0);
     while at < tokens.len() {
@@ -49,50 +75,96 @@ fn collect(tokens: &[Token<'_>], owner: &str, by: By, out: &mut Vec<Item>) {
             end
         } else if is(tokens, at, "$") && is(tokens, at + 1, "(") {
             let end = close(tokens, at + 1);
-            collect(&tokens[at + 2..end], owner, by, out);
+            collect(&tokens[at + 2..end], place, out)?;
             end + 2
+        } else if is(tokens, at, "ghost") {
+            out.extend(ghost(tokens, at, place.owner));
+            ghost_end(tokens, at)?
         } else {
-            let end = item(&tokens[at..], owner, by, &told, out);
-            told.clear();
-            at + end
+            at + item(&tokens[at..], place, std::mem::take(&mut told), out)?
         };
         at = solid(tokens, end);
     }
+    Ok(())
+}
+
+/// The ghost member at an index.
+fn ghost(tokens: &[Token<'_>], at: usize, owner: &str) -> Option<Item> {
+    let name = solid(tokens, at + 1);
+    let sign = solid(tokens, name + 1);
+    let open = solid(tokens, sign + 1);
+    (is(tokens, open, "{") && !is(tokens, name, "use")).then(|| Item {
+        owner: owner.into(),
+        head: format!("ghost {}", tokens[name].text),
+        clauses: vec![(
+            tokens[sign].text.into(),
+            plain(&tokens[open + 1..close(tokens, open)]),
+        )],
+        ..Item::default()
+    })
 }
 
 /// Adds the item that tokens begin with, and those in it. Returns the index after it.
-fn item(tokens: &[Token<'_>], owner: &str, by: By, told: &str, out: &mut Vec<Item>) -> usize {
-    let (head_end, end) = ends(tokens);
+fn item(
+    tokens: &[Token<'_>],
+    place: Place<'_>,
+    told: String,
+    out: &mut Vec<Item>,
+) -> Result<usize> {
+    let (head_end, end) = ends(tokens)?;
     let head = plain(&tokens[..head_end]);
-    let is_pub = head.starts_with("pub ");
     let kind = kind_of(&head);
-    let is_told = is_pub || by == By::Owner && kind != "mod";
+    if kind == "macro" {
+        return macro_end(tokens, place, &head, head_end, end, out);
+    }
+    let by_owner = place.by == By::Owner && kind != "mod";
+    let is_told = place.by != By::Nothing && (head.starts_with("pub ") || by_owner);
+    let below = |is_told, by| (is_told, if is_told { by } else { By::Nothing });
+    let (is_public, by) = match kind {
+        "impl" if head.contains(" for ") => below(place.by != By::Nothing, By::Owner),
+        "impl" if place.by == By::Nothing => (false, By::Nothing),
+        "impl" => (false, By::Itself),
+        "trait" | "enum" => below(is_told, By::Owner),
+        "struct" | "mod" => below(is_told, By::Itself),
+        "fn" if place.owner.contains(" for ") => (false, By::Nothing),
+        _ => (is_told, By::Nothing),
+    };
+    out.push(Item {
+        owner: place.owner.into(),
+        head: head.clone(),
+        told,
+        is_public,
+        clauses: clauses(tokens, head_end, end)?,
+    });
+    let owner = &head;
     let body = match is(tokens, head_end, "{") {
         true => &tokens[head_end + 1..close(tokens, head_end)],
         false => &[],
     };
-    let (is_listed, inner) = match kind {
-        "impl" if head.contains(" for ") => (true, Some(By::Owner)),
-        "impl" => (false, Some(By::Itself)),
-        "trait" | "enum" => (is_told, is_told.then_some(By::Owner)),
-        "struct" | "mod" => (is_told, is_told.then_some(By::Itself)),
-        "macro" => return macro_end(tokens, owner, &head, head_end, end, out),
-        "fn" if owner.contains(" for ") => (false, None),
-        _ => (is_told, None),
-    };
-    if is_listed && !head.is_empty() {
-        out.push(Item {
-            owner: owner.into(),
-            head: format!("{told}{head}"),
-        });
+    match kind {
+        "enum" | "struct" => parts(body, Place { owner, by }, out),
+        "impl" | "trait" | "mod" => collect(body, Place { owner, by }, out)?,
+        _ => {}
     }
-    if let Some(by) = inner {
-        match kind {
-            "enum" | "struct" => parts(body, &head, by, out),
-            _ => collect(body, &head, by, out),
-        }
+    Ok(end)
+}
+
+/// The clauses after the head of a function, or the value of a constant.
+fn clauses(tokens: &[Token<'_>], from: usize, end: usize) -> Result<Vec<(String, String)>> {
+    if is(tokens, from, "=") {
+        let value = plain(&tokens[from + 1..end - 1]);
+        return Ok(vec![("=".into(), value)]);
     }
-    end
+    let mut out = Vec::new();
+    let mut at = from;
+    while is(tokens, at, "requires") || is(tokens, at, "ensures") {
+        let end = clause_end(tokens, at)?;
+        let is_open = |token: &Token<'_>| token.text == "{";
+        let open = tokens[at..].iter().position(is_open).unwrap_or(0) + at;
+        out.push((plain(&tokens[at..open]), plain(&tokens[open + 1..end - 1])));
+        at = solid(tokens, end);
+    }
+    Ok(out)
 }
 
 /// The first word of a head that says what it is of.
@@ -106,7 +178,7 @@ fn kind_of(head: &str) -> &str {
 }
 
 /// The index after the head of the item that tokens begin with, and the index after the item.
-fn ends(tokens: &[Token<'_>]) -> (usize, usize) {
+fn ends(tokens: &[Token<'_>]) -> Result<(usize, usize)> {
     let mut head_end = None;
     let mut at = 0;
     let (first, is_function) = first_word(tokens);
@@ -114,17 +186,16 @@ fn ends(tokens: &[Token<'_>]) -> (usize, usize) {
     let has_value = ["const", "static"].contains(&first) && !is_function;
     while at < tokens.len() {
         match tokens[at].text {
-            ";" => return (head_end.unwrap_or(at), at + 1),
-            "{" if head_end.is_none() && !is_whole => {
-                return (at, close(tokens, at) + 1);
+            ";" => return Ok((head_end.unwrap_or(at), at + 1)),
+            "requires" | "ensures" => {
+                head_end = head_end.or(Some(at));
+                at = clause_end(tokens, at)?;
+            }
+            "{" if !is_whole && !has_value => {
+                return Ok((head_end.unwrap_or(at), close(tokens, at) + 1));
             }
             "!" if head_end.is_none() && !is(tokens, at + 1, "=") => {
-                // The name of a macro that is defined has its brackets after it.
-                let open = solid(tokens, at + 1);
-                let name = usize::from(!["(", "{", "["].iter().any(|text| is(tokens, open, text)));
-                let open = solid(tokens, open + name);
-                let end = close(tokens, open) + 1;
-                return (open, end + usize::from(is(tokens, end, ";")));
+                return Ok(macro_ends(tokens, at));
             }
             "=" if has_value => {
                 head_end = head_end.or(Some(at));
@@ -134,7 +205,17 @@ fn ends(tokens: &[Token<'_>]) -> (usize, usize) {
             _ => at += 1,
         }
     }
-    (head_end.unwrap_or(at), at)
+    Ok((head_end.unwrap_or(at), at))
+}
+
+/// The index of the brackets after the `!` of a macro, and the index after the macro. The name of one that is defined
+/// comes before its brackets.
+fn macro_ends(tokens: &[Token<'_>], at: usize) -> (usize, usize) {
+    let open = solid(tokens, at + 1);
+    let name = usize::from(!["(", "{", "["].iter().any(|text| is(tokens, open, text)));
+    let open = solid(tokens, open + name);
+    let end = close(tokens, open) + 1;
+    (open, end + usize::from(is(tokens, end, ";")))
 }
 
 /// The word that the item begins with, after its `pub`, and whether a function comes next.
@@ -153,12 +234,17 @@ fn first_word<'a>(tokens: &[Token<'a>]) -> (&'a str, bool) {
 /// The items that a macro writes, or the use of one with its arguments. Returns the index after it.
 fn macro_end(
     tokens: &[Token<'_>],
-    owner: &str,
+    place: Place<'_>,
     head: &str,
     open: usize,
     end: usize,
     out: &mut Vec<Item>,
-) -> usize {
+) -> Result<usize> {
+    let is_public = place.by != By::Nothing;
+    let below = |by| Place {
+        owner: head,
+        by: if is_public { by } else { By::Nothing },
+    };
     let inside = &tokens[open + 1..close(tokens, open)];
     if head.contains("macro_rules!") {
         let mut at = 0;
@@ -167,24 +253,26 @@ fn macro_end(
             let body = solid(inside, at + 2);
             if is_arrow && is(inside, body, "{") {
                 let end = close(inside, body);
-                collect(&inside[body + 1..end], head, By::Itself, out);
+                collect(&inside[body + 1..end], below(By::Itself), out)?;
                 at = end;
             }
             at += 1;
         }
     } else if is(tokens, open, "{") {
-        collect(inside, head, By::Owner, out);
+        collect(inside, below(By::Owner), out)?;
     } else {
         out.push(Item {
-            owner: owner.into(),
+            owner: place.owner.into(),
             head: format!("{head}({})", plain(inside)),
+            is_public,
+            ..Item::default()
         });
     }
-    end
+    Ok(end)
 }
 
-/// The variants of an enum, or the public fields of a struct.
-fn parts(tokens: &[Token<'_>], owner: &str, by: By, out: &mut Vec<Item>) {
+/// The variants of an enum, or the fields of a struct.
+fn parts(tokens: &[Token<'_>], place: Place<'_>, out: &mut Vec<Item>) {
     let mut from = 0;
     let mut at = 0;
     while from < tokens.len() {
@@ -193,10 +281,13 @@ fn parts(tokens: &[Token<'_>], owner: &str, by: By, out: &mut Vec<Item>) {
             Some(text) if text != "," => at += 1,
             _ => {
                 let head = plain(&tokens[from..at.min(tokens.len())]);
-                if !head.is_empty() && (by == By::Owner || head.starts_with("pub ")) {
+                let is_pub = place.by == By::Itself && head.starts_with("pub ");
+                if !head.is_empty() && !head.starts_with("ghost ") {
                     out.push(Item {
-                        owner: owner.into(),
+                        owner: place.owner.into(),
                         head,
+                        is_public: is_pub || place.by == By::Owner,
+                        ..Item::default()
                     });
                 }
                 at += 1;
@@ -229,6 +320,58 @@ fn plain(tokens: &[Token<'_>]) -> String {
 mod tests {
     use super::*;
     use crate::token::tokens;
+
+    /// Sources, and their items with clauses: the owner, the head, the clause and its text.
+    #[test]
+    fn clauses_of_items() {
+        for (source, expected) in [
+            (
+                "impl<T> S<T> {\n ghost use A.{b};\n pub(crate) const fn a(\n b: u8,\n ) -> u8\n requires { b ≤ 1 }\n // Same.\n ensures same { result ≡\n {a}, // b\n }\n { { 1 } }\n fn c(); }",
+                &[
+                    "impl<T> S<T> / pub(crate) const fn a(b: u8) -> u8 / requires / b ≤ 1",
+                    "impl<T> S<T> / pub(crate) const fn a(b: u8) -> u8 / ensures same / result ≡ {a}",
+                ][..],
+            ),
+            (
+                "trait T { ghost a: { ℕ }; fn b(&self)\n where T: U, ensures { c }; }",
+                &[
+                    "trait T / ghost a / : / ℕ",
+                    "trait T / fn b(&self) where T: U / ensures / c",
+                ],
+            ),
+            (
+                "impl T for S { ghost a = { λ a. a }; fn b() requires c { d } ensures e { f } {} }",
+                &[
+                    "impl T for S / ghost a / = / λ a. a",
+                    "impl T for S / fn b() / requires c / d",
+                    "impl T for S / fn b() / ensures e / f",
+                ],
+            ),
+            (
+                "struct S { a: u8, ghost b: { c } by { d }, ghost e: { f } } mod a { const A: u8 = 1 + { 2 }; }",
+                &["mod a / const A: u8 / = / 1 + { 2 }"],
+            ),
+        ] {
+            let row = |item: &Item, (name, text): &(String, String)| {
+                format!("{} / {} / {name} / {text}", item.owner, item.head)
+            };
+            let rows = |item: Item| {
+                item.clauses
+                    .iter()
+                    .map(|clause| row(&item, clause))
+                    .collect()
+            };
+            let found: Vec<String> = items(&tokens(source).unwrap())
+                .unwrap()
+                .into_iter()
+                .flat_map(|item| -> Vec<String> { rows(item) })
+                .collect();
+            assert_eq!(found, expected, "{source}");
+        }
+        for source in ["ghost a = 1;", "fn f() ensures ;"] {
+            assert!(items(&tokens(source).unwrap()).is_err(), "{source}");
+        }
+    }
 
     #[test]
     fn what_is_public() {
@@ -309,8 +452,10 @@ mod tests {
         ] {
             let all = tokens(source).unwrap();
             let found: Vec<String> = items(&all)
+                .unwrap()
                 .iter()
-                .map(|item| format!("{} / {}", item.owner, item.head))
+                .filter(|item| item.is_public)
+                .map(|item| format!("{} / {}{}", item.owner, item.told, item.head))
                 .collect();
             assert_eq!(found, expected, "{source}");
         }

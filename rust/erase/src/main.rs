@@ -1,10 +1,16 @@
-//! Generates Rust from Rattle: `erase [--check | --items]`.
+//! Generates Rust from Rattle: `erase [--check | --items [FOLDER]..]`.
 //!
 //! For each crate of the table, the program reads `lib.rt` and its modules, and writes them as Rust, laid
 //! out by rustfmt. It writes the constants of names, and a header of them for C, from `rust/names.tsv`, and lists the
 //! public items of the cargo crate. With `--check` it writes nothing, and ends with 1 if a file differs from what it
-//! would write. With `--items` it prints the list: a line has the path of a source, the head of what an item is in, and
-//! the item's head, with tabs between them.
+//! would write.
+//!
+//! With `--items` it prints that list. A line has the path of a source, the head of what an item is in, and the item's
+//! head, with tabs between them. With folders it prints all items of the sources in Rattle below them, such as
+//! `crates/const_oid/src`: private ones too, and without attributes. A line with an item's clause follows that of the
+//! item: the same, then `requires` or `ensures`, with a space and the clause's name if it has one, and then its text.
+//! So has a ghost member `=` or `:` and its text, and a constant `=` and its value. Texts have no comments, and one
+//! space where the source has some.
 
 mod c_names;
 mod edit;
@@ -19,6 +25,7 @@ mod token;
 
 use examples::Examples;
 use fault::{Fault, Result};
+use items::Item;
 use std::io::Write;
 use std::path::{Path, PathBuf};
 use std::process::{Command, ExitCode, Stdio};
@@ -40,26 +47,50 @@ type Checked<T> = std::result::Result<T, String>;
 
 fn main() -> ExitCode {
     let arguments: Vec<String> = env::args().skip(1).collect();
-    let faults = match (generated(), &arguments[..]) {
-        (Err(fault), _) => vec![fault],
-        (Ok(files), []) => written(&files),
-        (Ok(files), [flag]) if flag == "--check" => differing(&files),
-        (Ok(files), [flag]) if flag == "--items" => {
-            print!(
-                "{}",
-                files
-                    .iter()
-                    .find(|file| file.0 == ITEMS)
-                    .map_or("", |file| &file.1)
-            );
+    let faults = match &arguments[..] {
+        [] => generated().map(|files| written(&files)),
+        [flag] if flag == "--check" => generated().map(|files| differing(&files)),
+        [flag] if flag == "--items" => generated().map(|files| {
+            let list = files.iter().find(|file| file.0 == ITEMS);
+            print!("{}", list.map_or("", |file| &file.1));
             vec![]
-        }
-        _ => vec!["erase [--check | --items]".into()],
+        }),
+        [flag, folders @ ..] if flag == "--items" => items_below(folders).map(|lines| {
+            print!("{lines}");
+            vec![]
+        }),
+        _ => Err("erase [--check | --items [FOLDER]..]".into()),
     };
+    let faults = faults.unwrap_or_else(|fault| vec![fault]);
     for fault in &faults {
         eprintln!("{fault}");
     }
     ExitCode::from(u8::from(!faults.is_empty()))
+}
+
+/// The items of the sources in Rattle below folders, with their clauses.
+fn items_below(folders: &[String]) -> Checked<String> {
+    let mut out = String::new();
+    let mut left: Vec<String> = folders.to_vec();
+    while let Some(path) = left.pop() {
+        if from_top(&path).is_dir() {
+            left.extend(listed(&path));
+        } else if path.ends_with(".rt") || folders.contains(&path) {
+            for item in items_of(&path, &read(&path)?)? {
+                let line = format!("{path}\t{}\t{}", item.owner, item.head);
+                out += &format!("{line}\n");
+                for (name, text) in item.clauses {
+                    out += &format!("{line}\t{name}\t{text}\n");
+                }
+            }
+        }
+    }
+    Ok(out)
+}
+
+fn items_of(path: &str, source: &str) -> Checked<Vec<Item>> {
+    let items = token::tokens(source).and_then(|tokens| items::items(&tokens));
+    items.map_err(|fault| at(path, &fault))
 }
 
 /// The files to write, or the first fault with its file and line.
@@ -97,9 +128,9 @@ fn public_items(files: &[File]) -> Checked<String> {
     sources.sort();
     let mut out = String::new();
     for (path, source) in &sources {
-        let tokens = token::tokens(source).map_err(|fault| at(path, &fault))?;
-        for item in items::items(&tokens) {
-            out += &format!("{path}\t{}\t{}\n", item.owner, item.head);
+        let items = items_of(path, source)?;
+        for item in items.iter().filter(|item| item.is_public) {
+            out += &format!("{path}\t{}\t{}{}\n", item.owner, item.told, item.head);
         }
     }
     Ok(out)
@@ -189,15 +220,17 @@ fn read(path: &str) -> Checked<String> {
     fs::read_to_string(from_top(path)).map_err(|error| format!("{path}: {error}"))
 }
 
-/// The files of a folder.
+/// The files of a folder, in order.
 fn listed(folder: &str) -> Vec<String> {
     let entries = fs::read_dir(from_top(folder))
         .into_iter()
         .flatten()
         .flatten();
-    entries
+    let mut out: Vec<String> = entries
         .map(|entry| format!("{folder}/{}", entry.file_name().to_string_lossy()))
-        .collect()
+        .collect();
+    out.sort();
+    out
 }
 
 /// The files that differ from the files to write, and other files in their folders.

@@ -142,6 +142,40 @@ fn a_source_by_hand_whose_public_items_change() {
 }
 
 #[test]
+fn items_of_folders() {
+    let copy = Copy::new("below");
+    let folder = "crates/below/src";
+    fs::create_dir_all(copy.0.join(folder).join("inner")).unwrap();
+    copy.append("crates/below/src/a.rt", "const A: u8 = 1;\nfn b();\n");
+    copy.append(
+        "crates/below/src/inner/c.rt",
+        "trait T { fn d() ensures e { f } {} }",
+    );
+    copy.append("crates/below/src/g.rs", "fn g() {}");
+    let printed = copy.erase(&["--items", folder]).stdout;
+    let mut lines: Vec<String> = String::from_utf8(printed)
+        .unwrap()
+        .lines()
+        .map(|line| line.replace('\t', "|"))
+        .collect();
+    lines.sort();
+    let expected = [
+        "crates/below/src/a.rt||const A: u8",
+        "crates/below/src/a.rt||const A: u8|=|1",
+        "crates/below/src/a.rt||fn b()",
+        "crates/below/src/inner/c.rt|trait T|fn d()",
+        "crates/below/src/inner/c.rt|trait T|fn d()|ensures e|f",
+        "crates/below/src/inner/c.rt||trait T",
+    ];
+    assert_eq!(lines, expected);
+    copy.append("crates/below/src/a.rt", "fn h() ensures;");
+    for wrong in [folder, "crates/none"] {
+        let output = copy.erase(&["--items", wrong]);
+        assert!(!output.status.success() && output.stdout.is_empty());
+    }
+}
+
+#[test]
 fn a_source_that_is_wrong() {
     let copy = Copy::new("sources");
     let source = "crates/const_oid/src/valid.rt";
