@@ -1,0 +1,148 @@
+//! The public functions of the source in Rattle: which ones the cargo crate and the library for C lack, and why.
+
+use std::process::Command;
+
+/// Modules, or functions of a module, that the crate lacks.
+const MISSING: [(&str, &str); 6] = [
+    ("db_ref", "in Rust a constant holds a `Database`"),
+    ("laws", "its functions have contracts, and no effect"),
+    ("oid::try_from_ref", "`TryFrom`"),
+    ("oid_ref::eq_oid", "`==`"),
+    (
+        "oid_ref::text_from_bytes",
+        "`from_bytes` and `encode_text`; the library for C calls it",
+    ),
+    ("traits::position_of", "`iter().position(..)`"),
+];
+
+const ONE_FORM: &str = "in C an identifier is its octets";
+
+/// Modules, or functions, and the function for C with the same result, or why there is none.
+const IN_C: [(&str, &str); 36] = [
+    ("buffer", ONE_FORM),
+    ("db", "a table in C is the caller's"),
+    ("db_ref", "a table in C is the caller's"),
+    ("db_sorted", "a table in C is the caller's"),
+    ("error", "const_oid_error_text"),
+    ("laws", "its functions have contracts, and no effect"),
+    ("traits", "C has no traits"),
+    ("arc", "const_oid_arc"),
+    ("arcs", "const_oid_arcs"),
+    ("as_bytes", ONE_FORM),
+    ("as_oid_ref", ONE_FORM),
+    ("cmp_arcs", "const_oid_cmp_arcs"),
+    ("encode_str", "const_oid_to_text"),
+    ("encode_text", "const_oid_to_text"),
+    ("eq_oid", "const_oid_eq"),
+    ("from_arcs", "const_oid_from_arcs"),
+    ("from_arcs_sized", "const_oid_from_arcs"),
+    ("from_ascii", "const_oid_from_text"),
+    ("from_bytes", "const_oid_check"),
+    ("from_bytes_sized", "const_oid_check"),
+    ("len", "const_oid_len"),
+    ("new", "const_oid_from_text"),
+    ("new_sized", "const_oid_from_text"),
+    ("new_unwrap", "no text of C is read before the program runs"),
+    ("parent", "const_oid_parent"),
+    ("push_arc", "const_oid_push_arc"),
+    ("starts_with", "const_oid_starts_with"),
+    ("subtree", "const_oid_subtree_range"),
+    ("start_of", "const_oid_subtree_range"),
+    ("end_of", "const_oid_next"),
+    ("first_of", "const_oid_find"),
+    ("nearest_of", "const_oid_nearest"),
+    ("subtree_of", "const_oid_subtree_range"),
+    ("text_from_bytes", "const_oid_to_text"),
+    ("text_len", "const_oid_to_text"),
+    ("try_from_ref", ONE_FORM),
+];
+
+/// Functions for C of what has no name in Rattle, is an operator there, or is `arcs().skip(first)` or `is_sorted_by_key`.
+const OF_C: [&str; 5] = [
+    "const_oid_arcs_from",
+    "const_oid_check_sorted",
+    "const_oid_cmp",
+    "const_oid_cmp_owned",
+    "const_oid_version",
+];
+
+/// The public functions of a list of items, each with the path of its source.
+fn functions(list: &str) -> Vec<(String, String)> {
+    let function = |line: &str| {
+        let columns: Vec<&str> = line.split('\t').collect();
+        let (before, name) = columns[2].split_once("fn ")?;
+        let is_public = before.starts_with("pub ") || columns[1].ends_with('!');
+        let name = name.split(['(', '<', ' ']).next()?;
+        (is_public && columns.len() == 3).then(|| (columns[0].into(), name.into()))
+    };
+    list.lines().filter_map(function).collect()
+}
+
+/// The public functions of the sources in a folder, each with its module.
+fn of_source(folder: &str) -> Vec<(String, String)> {
+    let mut erase = Command::new(env!("CARGO_BIN_EXE_erase"));
+    let list = erase.args(["--items", folder]).output().unwrap().stdout;
+    let module = |path: String| path.rsplit(['/', '.']).nth(1).unwrap().to_string();
+    functions(&String::from_utf8(list).unwrap())
+        .into_iter()
+        .map(|(path, name)| (module(path), name))
+        .collect()
+}
+
+/// Whether a row's name is that of a module, a function or a function of a module.
+fn names(row: &str, module: &str, name: &str) -> bool {
+    row == module || row == name || row == format!("{module}::{name}")
+}
+
+#[test]
+fn in_the_crate() {
+    let list = include_str!("../../const-oid/public-items.txt");
+    let here = functions(list);
+    let calls = of_source("crates/const_oid/src");
+    for (module, name) in &calls {
+        // The forms of a borrowed identifier are in a file of their own.
+        let is_in = |path: &str| match &**module {
+            "oid_ref" => path.ends_with("src/oid_ref.rs"),
+            module => {
+                path.ends_with(&format!("erased/{module}.rs")) || path.ends_with("conversions.rs")
+            }
+        };
+        let is_here = here
+            .iter()
+            .any(|(path, other)| other == name && is_in(path));
+        let is_missing = MISSING.iter().any(|row| names(row.0, module, name));
+        assert_eq!(is_here, !is_missing, "{module}::{name}");
+    }
+    for (row, why) in MISSING {
+        let is_named = calls.iter().any(|(module, name)| names(row, module, name));
+        assert!(is_named, "{row}: {why}");
+    }
+}
+
+#[test]
+fn in_c() {
+    let (calls, of_c) = (
+        of_source("crates/const_oid/src"),
+        of_source("crates/const_oid_c/src"),
+    );
+    let is_of_c = |call: &str| of_c.iter().any(|(_, name)| name == call);
+    for (module, name) in &calls {
+        let is_named = IN_C.iter().any(|row| names(row.0, module, name));
+        assert!(is_named, "{module}::{name} has no row");
+    }
+    for (row, call) in IN_C {
+        let is_named = calls.iter().any(|(module, name)| names(row, module, name));
+        assert!(is_named, "{row} is no function");
+        assert!(!call.starts_with("const_oid_") || is_of_c(call), "{call}");
+    }
+    for name in OF_C {
+        assert!(is_of_c(name), "{name}");
+    }
+    for (_, name) in of_c
+        .iter()
+        .filter(|(_, name)| name.starts_with("const_oid_"))
+    {
+        let is_named = IN_C.iter().any(|row| row.1 == name) || OF_C.contains(&&**name);
+        assert!(is_named, "{name} has no row");
+    }
+}
