@@ -15,7 +15,7 @@ type Long = ObjectIdentifier<255>;
 fn main() {
     let count = std::env::args()
         .nth(1)
-        .map(|count| count.parse().expect("a number"));
+        .map(|count| count.parse().expect("compare_builds [COUNT]"));
     let count: u32 = count.unwrap_or(1_000_000);
     let mut draw = Draw(0x2545_F491_4F6C_DD1D);
     let mut accepted = 0;

@@ -117,18 +117,7 @@ fn item(
     if kind == "macro" {
         return macro_end(tokens, place, &head, head_end, end, out);
     }
-    let by_owner = place.by == By::Owner && kind != "mod";
-    let is_told = place.by != By::Nothing && (head.starts_with("pub ") || by_owner);
-    let below = |is_told, by| (is_told, if is_told { by } else { By::Nothing });
-    let (is_public, by) = match kind {
-        "impl" if head.contains(" for ") => below(place.by != By::Nothing, By::Owner),
-        "impl" if place.by == By::Nothing => (false, By::Nothing),
-        "impl" => (false, By::Itself),
-        "trait" | "enum" => below(is_told, By::Owner),
-        "struct" | "mod" => below(is_told, By::Itself),
-        "fn" if place.owner.contains(" for ") => (false, By::Nothing),
-        _ => (is_told, By::Nothing),
-    };
+    let (is_public, by) = visibility(place, kind, &head);
     out.push(Item {
         owner: place.owner.into(),
         head: head.clone(),
@@ -147,6 +136,22 @@ fn item(
         _ => {}
     }
     Ok(end)
+}
+
+/// Whether an item is public, and what makes those in it public.
+fn visibility(place: Place<'_>, kind: &str, head: &str) -> (bool, By) {
+    let is_seen = place.by != By::Nothing;
+    let by_owner = place.by == By::Owner && kind != "mod";
+    let is_told = is_seen && (head.starts_with("pub ") || by_owner);
+    let below = |is_public, by| (is_public, if is_public { by } else { By::Nothing });
+    match kind {
+        "impl" if head.contains(" for ") => below(is_seen, By::Owner),
+        "impl" => (false, below(is_seen, By::Itself).1),
+        "trait" | "enum" => below(is_told, By::Owner),
+        "struct" | "mod" => below(is_told, By::Itself),
+        "fn" if place.owner.contains(" for ") => (false, By::Nothing),
+        _ => (is_told, By::Nothing),
+    }
 }
 
 /// The clauses after the head of a function, or the value of a constant.
@@ -322,36 +327,38 @@ mod tests {
     use crate::token::tokens;
 
     /// Sources, and their items with clauses: the owner, the head, the clause and its text.
+    const CLAUSES: &[(&str, &[&str])] = &[
+        (
+            "impl<T> S<T> {\n ghost use A.{b};\n pub(crate) const fn a(\n b: u8,\n ) -> u8\n requires { b ≤ 1 }\n // Same.\n ensures same { result ≡\n {a}, // b\n }\n { { 1 } }\n fn c(); }",
+            &[
+                "impl<T> S<T> / pub(crate) const fn a(b: u8) -> u8 / requires / b ≤ 1",
+                "impl<T> S<T> / pub(crate) const fn a(b: u8) -> u8 / ensures same / result ≡ {a}",
+            ],
+        ),
+        (
+            "trait T { ghost a: { ℕ }; fn b(&self)\n where T: U, ensures { c }; }",
+            &[
+                "trait T / ghost a / : / ℕ",
+                "trait T / fn b(&self) where T: U / ensures / c",
+            ],
+        ),
+        (
+            "impl T for S { ghost a = { λ a. a }; fn b() requires c { d } ensures e { f } {} }",
+            &[
+                "impl T for S / ghost a / = / λ a. a",
+                "impl T for S / fn b() / requires c / d",
+                "impl T for S / fn b() / ensures e / f",
+            ],
+        ),
+        (
+            "struct S { a: u8, ghost b: { c } by { d }, ghost e: { f } } mod a { const A: u8 = 1 + { 2 }; }",
+            &["mod a / const A: u8 / = / 1 + { 2 }"],
+        ),
+    ];
+
     #[test]
     fn clauses_of_items() {
-        for (source, expected) in [
-            (
-                "impl<T> S<T> {\n ghost use A.{b};\n pub(crate) const fn a(\n b: u8,\n ) -> u8\n requires { b ≤ 1 }\n // Same.\n ensures same { result ≡\n {a}, // b\n }\n { { 1 } }\n fn c(); }",
-                &[
-                    "impl<T> S<T> / pub(crate) const fn a(b: u8) -> u8 / requires / b ≤ 1",
-                    "impl<T> S<T> / pub(crate) const fn a(b: u8) -> u8 / ensures same / result ≡ {a}",
-                ][..],
-            ),
-            (
-                "trait T { ghost a: { ℕ }; fn b(&self)\n where T: U, ensures { c }; }",
-                &[
-                    "trait T / ghost a / : / ℕ",
-                    "trait T / fn b(&self) where T: U / ensures / c",
-                ],
-            ),
-            (
-                "impl T for S { ghost a = { λ a. a }; fn b() requires c { d } ensures e { f } {} }",
-                &[
-                    "impl T for S / ghost a / = / λ a. a",
-                    "impl T for S / fn b() / requires c / d",
-                    "impl T for S / fn b() / ensures e / f",
-                ],
-            ),
-            (
-                "struct S { a: u8, ghost b: { c } by { d }, ghost e: { f } } mod a { const A: u8 = 1 + { 2 }; }",
-                &["mod a / const A: u8 / = / 1 + { 2 }"],
-            ),
-        ] {
+        for &(source, expected) in CLAUSES {
             let row = |item: &Item, (name, text): &(String, String)| {
                 format!("{} / {} / {name} / {text}", item.owner, item.head)
             };
@@ -373,83 +380,85 @@ mod tests {
         }
     }
 
+    const PUBLIC: &[(&str, &[&str])] = &[
+        (
+            "pub fn a(\n b: u8,\n) -> u8 { 1 }\nfn c() {} pub(crate) fn d() {}",
+            &[" / pub fn a(b: u8) -> u8"],
+        ),
+        (
+            "/// S.\n#[derive(Copy, Clone)]\n#[inline]\npub struct S<'a> { /// A.\n pub a: &'a [u8], b: u8 } struct T { pub a: u8 }",
+            &[
+                " / #[derive(Copy, Clone)] pub struct S<'a>",
+                "pub struct S<'a> / pub a: &'a [u8]",
+            ],
+        ),
+        (
+            "pub struct S(pub u8, u16);",
+            &[" / pub struct S(pub u8, u16)"],
+        ),
+        (
+            "pub enum E { A, /// B.\n B { c: u8, d: u8, } }",
+            &[
+                " / pub enum E",
+                "pub enum E / A",
+                "pub enum E / B { c: u8, d: u8 }",
+            ],
+        ),
+        (
+            "impl<T> S<T> { pub const fn a<I: J<K = u8>>() where I: L, {} fn b() {} pub const C: [u8; 1] = [2]; }",
+            &[
+                "impl<T> S<T> / pub const fn a<I: J<K = u8>>() where I: L",
+                "impl<T> S<T> / pub const C: [u8; 1]",
+            ],
+        ),
+        (
+            "impl Iterator for S { type Item = u8; fn next(&mut self) -> u8 { 1 } }",
+            &[
+                " / impl Iterator for S",
+                "impl Iterator for S / type Item = u8",
+            ],
+        ),
+        (
+            "pub trait T { const A: u8; fn a(&self) -> u8; }",
+            &[
+                " / pub trait T",
+                "pub trait T / const A: u8",
+                "pub trait T / fn a(&self) -> u8",
+            ],
+        ),
+        (
+            "trait T { fn a(); } mod a; pub mod b; mod c { pub fn d() {} }",
+            &[" / pub mod b"],
+        ),
+        (
+            "#[cfg(feature = \"f\")]\npub use a::{b, e};\nuse c::{d};",
+            &[" / #[cfg(feature = \"f\")] pub use a::{b, e}"],
+        ),
+        (
+            "pub static A: &[u8] = &{ [1] };\npub const B: u8 = 1;\npub type C = u8;",
+            &[
+                " / pub static A: &[u8]",
+                " / pub const B: u8",
+                " / pub type C = u8",
+            ],
+        ),
+        (
+            "macro_rules! m { ($($a:ident)*) => { $( impl $a for S { fn f() {} } /// X.\n pub fn $a() {} )* pub fn b() {} }; }",
+            &[
+                "macro_rules! m / impl $a for S",
+                "macro_rules! m / pub fn $a()",
+                "macro_rules! m / pub fn b()",
+            ],
+        ),
+        (
+            "m! { /// A.\n fn a(b: u8) -> u8; }\nn!(A B);\nfn c() {}",
+            &["m! / fn a(b: u8) -> u8", " / n!(A B)"],
+        ),
+    ];
+
     #[test]
     fn what_is_public() {
-        for (source, expected) in [
-            (
-                "pub fn a(\n b: u8,\n) -> u8 { 1 }\nfn c() {} pub(crate) fn d() {}",
-                &[" / pub fn a(b: u8) -> u8"][..],
-            ),
-            (
-                "/// S.\n#[derive(Copy, Clone)]\n#[inline]\npub struct S<'a> { /// A.\n pub a: &'a [u8], b: u8 } struct T { pub a: u8 }",
-                &[
-                    " / #[derive(Copy, Clone)] pub struct S<'a>",
-                    "pub struct S<'a> / pub a: &'a [u8]",
-                ],
-            ),
-            (
-                "pub struct S(pub u8, u16);",
-                &[" / pub struct S(pub u8, u16)"],
-            ),
-            (
-                "pub enum E { A, /// B.\n B { c: u8, d: u8, } }",
-                &[
-                    " / pub enum E",
-                    "pub enum E / A",
-                    "pub enum E / B { c: u8, d: u8 }",
-                ],
-            ),
-            (
-                "impl<T> S<T> { pub const fn a<I: J<K = u8>>() where I: L, {} fn b() {} pub const C: [u8; 1] = [2]; }",
-                &[
-                    "impl<T> S<T> / pub const fn a<I: J<K = u8>>() where I: L",
-                    "impl<T> S<T> / pub const C: [u8; 1]",
-                ],
-            ),
-            (
-                "impl Iterator for S { type Item = u8; fn next(&mut self) -> u8 { 1 } }",
-                &[
-                    " / impl Iterator for S",
-                    "impl Iterator for S / type Item = u8",
-                ],
-            ),
-            (
-                "pub trait T { const A: u8; fn a(&self) -> u8; }",
-                &[
-                    " / pub trait T",
-                    "pub trait T / const A: u8",
-                    "pub trait T / fn a(&self) -> u8",
-                ],
-            ),
-            (
-                "trait T { fn a(); } mod a; pub mod b; mod c { pub fn d() {} }",
-                &[" / pub mod b"],
-            ),
-            (
-                "#[cfg(feature = \"f\")]\npub use a::{b, e};\nuse c::{d};",
-                &[" / #[cfg(feature = \"f\")] pub use a::{b, e}"],
-            ),
-            (
-                "pub static A: &[u8] = &{ [1] };\npub const B: u8 = 1;\npub type C = u8;",
-                &[
-                    " / pub static A: &[u8]",
-                    " / pub const B: u8",
-                    " / pub type C = u8",
-                ],
-            ),
-            (
-                "macro_rules! m { ($($a:ident)*) => { $( impl $a for S { fn f() {} } /// X.\n pub fn $a() {} )* pub fn b() {} }; }",
-                &[
-                    "macro_rules! m / impl $a for S",
-                    "macro_rules! m / pub fn $a()",
-                    "macro_rules! m / pub fn b()",
-                ],
-            ),
-            (
-                "m! { /// A.\n fn a(b: u8) -> u8; }\nn!(A B);\nfn c() {}",
-                &["m! / fn a(b: u8) -> u8", " / n!(A B)"],
-            ),
-        ] {
+        for &(source, expected) in PUBLIC {
             let all = tokens(source).unwrap();
             let found: Vec<String> = items(&all)
                 .unwrap()
