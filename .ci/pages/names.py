@@ -1,0 +1,57 @@
+"""Names in backticks, outside of blocks, and links:
+
+- CALLING, "Where the definitions are": `FILE`: `NAME`, `NAME`. The names are defined in specs/FILE.antt of const_oid.
+- CALLING, "Lemmas": the names before a colon are public lemmas of proofs/Identifiers.antt.
+- Every page: `NAME`, `NAME` of `specs/FILE.antt` are defined there. MODULE::NAME is in that module of const_oid. Any
+  other name with `_`, `::` or a capital inside is a word of a source, comments aside. Exempt is "What was cut" of
+  DIFFERENCES, whose names are those of the other crate. Links lead to files."""
+import re
+
+from pages.page import CALLING, LIBRARY, PAGES, SPAN, TOP, defined_in, fault, prose_of, section_of
+
+NAME = re.compile(r"[A-Za-z_]\w*(?:::\w+)*")
+OF_FILE = r"(?P<names>(?:`\w+`(?:,\s|\sand\s)?)+)\sof\s`specs/(?P<file>\w+)\.antt`"
+FILE_OF = r"`(?P<file>\w+)`:(?P<names>(?:\s`\w+`,?)+)"
+LEMMAS = r"^- (?P<names>[^:]*):"
+SOURCES = ["crates/*/[sp]*/**/*.rt", "crates/*/[sp]*/**/*.antt", "crates/*/include/*.h", "rust/*/src/**/*.rs"]
+SOURCES += ["python/src/const_oid/*.py"]
+
+
+def undefined(page, text, pattern):
+    """The names in groups of a page that are not defined in the file of their group."""
+    for group in re.finditer(pattern, text, re.M):
+        file = group.groupdict().get("file")
+        path = f"specs/{file}.antt" if file else "proofs/Identifiers.antt"
+        for span in SPAN.finditer(group["names"]):
+            if span[1] not in defined_in(LIBRARY / path):
+                yield fault(page, text, group.start("names") + span.start(), f"not defined in {path}: {span[1]}")
+
+
+def words_of(*paths):
+    """Every word of sources, comments aside."""
+    text = "\n".join(path.read_text(encoding="utf-8") for path in paths)
+    return set(re.findall(r"\w+", re.sub(r"(?://|--).*", "", text)))
+
+
+def is_in_source(name, words):
+    """Whether a name is in the sources: that of a module of the library in this module."""
+    module, *rest = name.split("::")
+    path = LIBRARY / f"src/{module}.rt"
+    return rest[-1] in words_of(path) if rest and path.exists() else words.issuperset(name.split("::"))
+
+
+def faults():
+    yield from undefined(CALLING, section_of(CALLING, "Where the definitions are"), FILE_OF)
+    yield from undefined(CALLING, section_of(CALLING, "Lemmas"), LEMMAS)
+    words = words_of(*(path for pattern in SOURCES for path in TOP.glob(pattern)))
+    for page in PAGES:
+        text = prose_of(page)
+        yield from undefined(page, text, OF_FILE)
+        for link in re.finditer(r"\]\(([^)#:]+)\)", text):
+            if not ((TOP / page).parent / link[1]).exists():
+                yield fault(page, text, link.start(), f"no such file: {link[1]}")
+        exempt = section_of(page, "What was cut").strip() if page == "docs/DIFFERENCES.md" else ""
+        text = text.replace(exempt, "\n" * exempt.count("\n")) if exempt else text
+        for span in SPAN.finditer(text):
+            if NAME.fullmatch(span[1]) and re.search(r"_|::|[a-z][A-Z]", span[1]) and not is_in_source(span[1], words):
+                yield fault(page, text, span.start(), f"in no source: {span[1]}")

@@ -1,0 +1,52 @@
+"""README's blocks are run in order, by bash in a new HOME, and print what their comments say: sh, with each c block as
+`main.c`, and python. Apart from these, blocks of sh with `rt` are run, where `rt run` runs what `rt ci` has proved and
+built."""
+import os
+import pathlib
+import re
+import subprocess
+import sys
+import tempfile
+
+from pages.page import TOP, blocks_of
+
+PAGE = "README.md"
+RT = 'rt() { [ "$*" = run ] && "out/${PWD##*/}"; }\n'
+HOMES = {"CARGO_HOME": ".cargo", "RUSTUP_HOME": ".rustup"}
+OFFLINE = {"CARGO_NET_OFFLINE": "true", "PIP_NO_INDEX": "1", "PYTHONDONTWRITEBYTECODE": "1"}
+
+
+def scripts(with_rt):
+    """The blocks that are run, with `rt` or the others, as scripts of bash."""
+    blocks = [(language, text) for _, language, text in blocks_of(PAGE)]
+    programs = [text for language, text in blocks if language == "c"]
+    for language, text in blocks:
+        if language == "sh" and with_rt == bool(re.search(r"\brt\b", text)):
+            mains = programs if "main.c" in text else []
+            yield from [f"cat > main.c << 'END'\n{main}END\n{text}" for main in mains] or [text]
+        elif language == "python" and not with_rt:
+            yield f"python - << 'END'\n{text}END\n"
+
+
+def run(script):
+    """A run of a script in a checkout, in a new HOME."""
+    with tempfile.TemporaryDirectory() as home:
+        variables = {name: str(pathlib.Path.home() / at) for name, at in HOMES.items()}
+        variables |= {"CARGO_TARGET_DIR": f"{home}/target", **os.environ, "HOME": home, **OFFLINE}
+        variables["PATH"] = f"{pathlib.Path(sys.executable).parent}:{os.environ['PATH']}"
+        clone = pathlib.Path(home) / "const_oid"
+        clone.mkdir()
+        for path in TOP.iterdir():
+            (clone / path.name).symlink_to(path)
+        return subprocess.run(["bash", "-ec", script], cwd=clone, env=variables, text=True, capture_output=True)
+
+
+def faults(with_rt=False):
+    script = "".join(scripts(with_rt))
+    ended = run(RT + script if with_rt else script)
+    if ended.returncode:
+        yield f"{PAGE}: a block ends with status {ended.returncode}: {ended.stderr.strip()[-600:]}"
+    said = re.findall(r"\bprintf?\b.*\s(?:/\*|#) (.*?)(?: \*/)?$", script, re.M)
+    printed = iter(ended.stdout.splitlines())
+    missing = [line for line in said if line not in printed]
+    yield from (f"{PAGE}: a block does not print: {line}" for line in missing[:1])
