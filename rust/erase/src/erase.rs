@@ -189,69 +189,34 @@ mod tests {
     }
 
     /// Sources, and their Rust, where space has no meaning.
-    const GOES: &[(&str, &str)] = &[
-        (
-            "fn f(x: u8) -> u8\n requires { x ≤ 2 }\n // Same.\n ensures same { result ≡ x }\n{\n x\n}",
-            "fn f(x: u8) -> u8 { x }",
-        ),
-        (
-            "trait T { fn f()\n ensures { a };\n}",
-            "trait T { fn f() ; }",
-        ),
-        (
-            "fn f<I>()\nwhere\n I::IntoIter: Drop,\n // Ends.\n requires { a }\n{}",
-            "fn f<I>() {}",
-        ),
-        (
-            "fn f<I>() where 'a: 'b, requires { a }\n{}",
-            "fn f<I>() where 'a: 'b, {}",
-        ),
-        (
-            "//! Head.\nghost use A.{a};\nghost use B.{b};\n\nuse c;\n",
-            "//! Head. use c;",
-        ),
-        (
-            "struct S {\n a: u8,\n /// Gone.\n ghost b: { a ≡ 0 } by { c },\n ghost d: { e }\n}",
-            "struct S { a: u8, }",
-        ),
-        (
-            "impl S {\n ghost use A.{a};\n\n /// Kept.\n fn f() {}\n\n ghost laws = { λ a. a };\n}",
-            "impl S { /// Kept. fn f() {} }",
-        ),
-        (
-            "use std::marker::Model;\n\nimpl<'a> Model for S<'a> {\n ghost view = { a };\n}\n\nfn f() {}",
-            "fn f() {}",
-        ),
-        (
-            "#![tactic(auto)]\n\n#[derive(Drop)]\nstruct S;\n#[inline(always)]\nfn f() {}",
-            "struct S; #[inline(always)] fn f() {}",
-        ),
-        (
-            "/// Kept.\n#[tactic(auto, using(crate::a))]\nfn f() {}",
-            "/// Kept. fn f() {}",
-        ),
-        (
-            "#[unsafe(no_mangle)]\npub extern \"C\" fn f() {}",
-            "pub fn f() {}",
-        ),
-        (
-            "fn fmt<W: fmt::Write>(&self, f: &mut fmt::Formatter<W>) {}",
-            "fn fmt(&self, f: &mut fmt::Formatter<'_>) {}",
-        ),
-        (
-            "// erase: const\n#[inline]\npub fn f() {}\nfn g() {}",
-            "#[inline] pub const fn f() {} fn g() {}",
-        ),
-        ("use std::fmt; // std::x", "use core::fmt; // std::x"),
-        (
-            "mod a;\n// C.\n// erase: omit\npub mod c;\nmod d;",
-            "mod a; mod d;",
-        ),
+    const GOES: &[&str] = &[
+        "fn f(x: u8) -> u8\n requires { x ≤ 2 }\n // Same.\n ensures same { result ≡ x }\n{\n x\n} \
+         ⇒ fn f(x: u8) -> u8 { x }",
+        "trait T { fn f()\n ensures { a };\n} ⇒ trait T { fn f() ; }",
+        "fn f<I>()\nwhere\n I::IntoIter: Drop,\n // Ends.\n requires { a }\n{} ⇒ fn f<I>() {}",
+        "fn f<I>() where 'a: 'b, requires { a }\n{} ⇒ fn f<I>() where 'a: 'b, {}",
+        "//! Head.\nghost use A.{a};\nghost use B.{b};\n\nuse c;\n ⇒ //! Head. use c;",
+        "struct S {\n a: u8,\n /// Gone.\n ghost b: { a ≡ 0 } by { c },\n ghost d: { e }\n} \
+         ⇒ struct S { a: u8, }",
+        "impl S {\n ghost use A.{a};\n\n /// Kept.\n fn f() {}\n\n ghost laws = { λ a. a };\n} \
+         ⇒ impl S { /// Kept. fn f() {} }",
+        "use std::marker::Model;\n\nimpl<'a> Model for S<'a> {\n ghost view = { a };\n}\n\nfn f() {} \
+         ⇒ fn f() {}",
+        "#![tactic(auto)]\n\n#[derive(Drop)]\nstruct S;\n#[inline(always)]\nfn f() {} \
+         ⇒ struct S; #[inline(always)] fn f() {}",
+        "/// Kept.\n#[tactic(auto, using(crate::a))]\nfn f() {} ⇒ /// Kept. fn f() {}",
+        "#[unsafe(no_mangle)]\npub extern \"C\" fn f() {} ⇒ pub fn f() {}",
+        "fn fmt<W: fmt::Write>(&self, f: &mut fmt::Formatter<W>) {} \
+         ⇒ fn fmt(&self, f: &mut fmt::Formatter<'_>) {}",
+        "// erase: const\n#[inline]\npub fn f() {}\nfn g() {} ⇒ #[inline] pub const fn f() {} fn g() {}",
+        "use std::fmt; // std::x ⇒ use core::fmt; // std::x",
+        "mod a;\n// C.\n// erase: omit\npub mod c;\nmod d; ⇒ mod a; mod d;",
     ];
 
     #[test]
     fn what_goes() {
-        for &(source, rust) in GOES {
+        for row in GOES {
+            let (source, rust) = row.split_once(" ⇒ ").unwrap();
             assert_eq!(erased(source).as_deref(), Ok(rust), "{source}");
         }
     }

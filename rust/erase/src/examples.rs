@@ -159,25 +159,17 @@ mod tests {
 
     #[test]
     fn what_is_refused() {
-        for (source, words) in [
-            (
-                "/// A.\nconst A: u8 = 1;\npub struct S;",
-                "`S` has no summary",
-            ),
-            (
-                "struct A {\n/// X.\nx: u8 }\npub struct S;",
-                "`S` has no summary",
-            ),
-            ("// S.\npub struct S;", "`S` has no summary"),
-            ("///\npub struct S;", "`S` has no summary"),
-            ("/// S.\nimpl S { pub fn a() {} }", "`S.a` has no summary"),
-            (
-                "impl S {\n/// A.\nfn a() {}\n#[inline]\npub fn b() {} }",
-                "`S.b` has no summary",
-            ),
-            ("impl S {\n/// C.\npub fn c() {} }", "`S.c` has no example"),
-            ("impl S {\n/// Z.\npub fn z() {} }", "`S.z` has no example"),
+        for row in [
+            "/// A.\nconst A: u8 = 1;\npub struct S; ⇒ `S` has no summary",
+            "struct A {\n/// X.\nx: u8 }\npub struct S; ⇒ `S` has no summary",
+            "// S.\npub struct S; ⇒ `S` has no summary",
+            "///\npub struct S; ⇒ `S` has no summary",
+            "/// S.\nimpl S { pub fn a() {} } ⇒ `S.a` has no summary",
+            "impl S {\n/// A.\nfn a() {}\n#[inline]\npub fn b() {} } ⇒ `S.b` has no summary",
+            "impl S {\n/// C.\npub fn c() {} } ⇒ `S.c` has no example",
+            "impl S {\n/// Z.\npub fn z() {} } ⇒ `S.z` has no example",
         ] {
+            let (source, words) = row.split_once(" ⇒ ").unwrap();
             let fault = examples().written(&tokens(source).unwrap(), &["S"]);
             assert_eq!(fault.unwrap_err().words, words, "{source}");
         }

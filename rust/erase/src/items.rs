@@ -327,146 +327,82 @@ mod tests {
     use crate::token::tokens;
 
     /// Sources, and their items with clauses: the owner, the head, the clause and its text.
-    const CLAUSES: &[(&str, &[&str])] = &[
-        (
-            "impl<T> S<T> {\n ghost use A.{b};\n pub(crate) const fn a(\n b: u8,\n ) -> u8\n requires { b ≤ 1 }\n // Same.\n ensures same { result ≡\n {a}, // b\n }\n { { 1 } }\n fn c(); }",
-            &[
-                "impl<T> S<T> / pub(crate) const fn a(b: u8) -> u8 / requires / b ≤ 1",
-                "impl<T> S<T> / pub(crate) const fn a(b: u8) -> u8 / ensures same / result ≡ {a}",
-            ],
-        ),
-        (
-            "trait T { ghost a: { ℕ }; fn b(&self)\n where T: U, ensures { c }; }",
-            &[
-                "trait T / ghost a / : / ℕ",
-                "trait T / fn b(&self) where T: U / ensures / c",
-            ],
-        ),
-        (
-            "impl T for S { ghost a = { λ a. a }; fn b() requires c { d } ensures e { f } {} }",
-            &[
-                "impl T for S / ghost a / = / λ a. a",
-                "impl T for S / fn b() / requires c / d",
-                "impl T for S / fn b() / ensures e / f",
-            ],
-        ),
-        (
-            "struct S { a: u8, ghost b: { c } by { d }, ghost e: { f } } mod a { const A: u8 = 1 + { 2 }; }",
-            &["mod a / const A: u8 / = / 1 + { 2 }"],
-        ),
+    const CLAUSES: &[&str] = &[
+        "impl<T> S<T> {\n ghost use A.{b};\n pub(crate) const fn a(\n b: u8,\n ) -> u8\n requires { b ≤ 1 }\n // Same.\n ensures same { result ≡\n {a}, // b\n }\n { { 1 } }\n fn c(); } \
+         ⇒ impl<T> S<T> / pub(crate) const fn a(b: u8) -> u8 / requires / b ≤ 1 \
+         ⇒ impl<T> S<T> / pub(crate) const fn a(b: u8) -> u8 / ensures same / result ≡ {a}",
+        "trait T { ghost a: { ℕ }; fn b(&self)\n where T: U, ensures { c }; } \
+         ⇒ trait T / ghost a / : / ℕ \
+         ⇒ trait T / fn b(&self) where T: U / ensures / c",
+        "impl T for S { ghost a = { λ a. a }; fn b() requires c { d } ensures e { f } {} } \
+         ⇒ impl T for S / ghost a / = / λ a. a \
+         ⇒ impl T for S / fn b() / requires c / d \
+         ⇒ impl T for S / fn b() / ensures e / f",
+        "struct S { a: u8, ghost b: { c } by { d }, ghost e: { f } } mod a { const A: u8 = 1 + { 2 }; } \
+         ⇒ mod a / const A: u8 / = / 1 + { 2 }",
     ];
 
     #[test]
     fn clauses_of_items() {
-        for &(source, expected) in CLAUSES {
-            let row = |item: &Item, (name, text): &(String, String)| {
-                format!("{} / {} / {name} / {text}", item.owner, item.head)
-            };
-            let rows = |item: Item| {
-                item.clauses
-                    .iter()
-                    .map(|clause| row(&item, clause))
-                    .collect()
-            };
-            let found: Vec<String> = items(&tokens(source).unwrap())
-                .unwrap()
-                .into_iter()
-                .flat_map(|item| -> Vec<String> { rows(item) })
-                .collect();
-            assert_eq!(found, expected, "{source}");
+        for row in CLAUSES {
+            let (source, expected) = row.split_once(" ⇒ ").unwrap();
+            let mut found = Vec::new();
+            for item in items(&tokens(source).unwrap()).unwrap() {
+                let row = |(name, text): &(String, String)| {
+                    format!("{} / {} / {name} / {text}", item.owner, item.head)
+                };
+                found.extend(item.clauses.iter().map(row));
+            }
+            assert_eq!(found.join(" ⇒ "), expected, "{source}");
         }
         for source in ["ghost a = 1;", "fn f() ensures ;"] {
             assert!(items(&tokens(source).unwrap()).is_err(), "{source}");
         }
     }
 
-    const PUBLIC: &[(&str, &[&str])] = &[
-        (
-            "pub fn a(\n b: u8,\n) -> u8 { 1 }\nfn c() {} pub(crate) fn d() {}",
-            &[" / pub fn a(b: u8) -> u8"],
-        ),
-        (
-            "/// S.\n#[derive(Copy, Clone)]\n#[inline]\npub struct S<'a> { /// A.\n pub a: &'a [u8], b: u8 } struct T { pub a: u8 }",
-            &[
-                " / #[derive(Copy, Clone)] pub struct S<'a>",
-                "pub struct S<'a> / pub a: &'a [u8]",
-            ],
-        ),
-        (
-            "pub struct S(pub u8, u16);",
-            &[" / pub struct S(pub u8, u16)"],
-        ),
-        (
-            "pub enum E { A, /// B.\n B { c: u8, d: u8, } }",
-            &[
-                " / pub enum E",
-                "pub enum E / A",
-                "pub enum E / B { c: u8, d: u8 }",
-            ],
-        ),
-        (
-            "impl<T> S<T> { pub const fn a<I: J<K = u8>>() where I: L, {} fn b() {} pub const C: [u8; 1] = [2]; }",
-            &[
-                "impl<T> S<T> / pub const fn a<I: J<K = u8>>() where I: L",
-                "impl<T> S<T> / pub const C: [u8; 1]",
-            ],
-        ),
-        (
-            "impl Iterator for S { type Item = u8; fn next(&mut self) -> u8 { 1 } }",
-            &[
-                " / impl Iterator for S",
-                "impl Iterator for S / type Item = u8",
-            ],
-        ),
-        (
-            "pub trait T { const A: u8; fn a(&self) -> u8; }",
-            &[
-                " / pub trait T",
-                "pub trait T / const A: u8",
-                "pub trait T / fn a(&self) -> u8",
-            ],
-        ),
-        (
-            "trait T { fn a(); } mod a; pub mod b; mod c { pub fn d() {} }",
-            &[" / pub mod b"],
-        ),
-        (
-            "#[cfg(feature = \"f\")]\npub use a::{b, e};\nuse c::{d};",
-            &[" / #[cfg(feature = \"f\")] pub use a::{b, e}"],
-        ),
-        (
-            "pub static A: &[u8] = &{ [1] };\npub const B: u8 = 1;\npub type C = u8;",
-            &[
-                " / pub static A: &[u8]",
-                " / pub const B: u8",
-                " / pub type C = u8",
-            ],
-        ),
-        (
-            "macro_rules! m { ($($a:ident)*) => { $( impl $a for S { fn f() {} } /// X.\n pub fn $a() {} )* pub fn b() {} }; }",
-            &[
-                "macro_rules! m / impl $a for S",
-                "macro_rules! m / pub fn $a()",
-                "macro_rules! m / pub fn b()",
-            ],
-        ),
-        (
-            "m! { /// A.\n fn a(b: u8) -> u8; }\nn!(A B);\nfn c() {}",
-            &["m! / fn a(b: u8) -> u8", " / n!(A B)"],
-        ),
+    const PUBLIC: &[&str] = &[
+        "pub fn a(\n b: u8,\n) -> u8 { 1 }\nfn c() {} pub(crate) fn d() {} ⇒ / pub fn a(b: u8) -> u8",
+        "/// S.\n#[derive(Copy, Clone)]\n#[inline]\npub struct S<'a> { /// A.\n pub a: &'a [u8], b: u8 } struct T { pub a: u8 } \
+         ⇒ / #[derive(Copy, Clone)] pub struct S<'a> \
+         ⇒ pub struct S<'a> / pub a: &'a [u8]",
+        "pub struct S(pub u8, u16); ⇒ / pub struct S(pub u8, u16)",
+        "pub enum E { A, /// B.\n B { c: u8, d: u8, } } \
+         ⇒ / pub enum E \
+         ⇒ pub enum E / A \
+         ⇒ pub enum E / B { c: u8, d: u8 }",
+        "impl<T> S<T> { pub const fn a<I: J<K = u8>>() where I: L, {} fn b() {} pub const C: [u8; 1] = [2]; } \
+         ⇒ impl<T> S<T> / pub const fn a<I: J<K = u8>>() where I: L \
+         ⇒ impl<T> S<T> / pub const C: [u8; 1]",
+        "impl Iterator for S { type Item = u8; fn next(&mut self) -> u8 { 1 } } \
+         ⇒ / impl Iterator for S \
+         ⇒ impl Iterator for S / type Item = u8",
+        "pub trait T { const A: u8; fn a(&self) -> u8; } \
+         ⇒ / pub trait T \
+         ⇒ pub trait T / const A: u8 \
+         ⇒ pub trait T / fn a(&self) -> u8",
+        "trait T { fn a(); } mod a; pub mod b; mod c { pub fn d() {} } ⇒ / pub mod b",
+        "#[cfg(feature = \"f\")]\npub use a::{b, e};\nuse c::{d}; \
+         ⇒ / #[cfg(feature = \"f\")] pub use a::{b, e}",
+        "pub static A: &[u8] = &{ [1] };\npub const B: u8 = 1;\npub type C = u8; \
+         ⇒ / pub static A: &[u8] \
+         ⇒ / pub const B: u8 \
+         ⇒ / pub type C = u8",
+        "macro_rules! m { ($($a:ident)*) => { $( impl $a for S { fn f() {} } /// X.\n pub fn $a() {} )* pub fn b() {} }; } \
+         ⇒ macro_rules! m / impl $a for S \
+         ⇒ macro_rules! m / pub fn $a() \
+         ⇒ macro_rules! m / pub fn b()",
+        "m! { /// A.\n fn a(b: u8) -> u8; }\nn!(A B);\nfn c() {} ⇒ m! / fn a(b: u8) -> u8 ⇒ / n!(A B)",
     ];
 
     #[test]
     fn what_is_public() {
-        for &(source, expected) in PUBLIC {
-            let all = tokens(source).unwrap();
-            let found: Vec<String> = items(&all)
-                .unwrap()
-                .iter()
-                .filter(|item| item.is_public)
-                .map(|item| format!("{} / {}{}", item.owner, item.told, item.head))
-                .collect();
-            assert_eq!(found, expected, "{source}");
+        for row in PUBLIC {
+            let (source, expected) = row.split_once(" ⇒ ").unwrap();
+            let items = items(&tokens(source).unwrap()).unwrap();
+            let public = items.iter().filter(|item| item.is_public);
+            let row = |item: &Item| format!("{} / {}{}", item.owner, item.told, item.head);
+            let found: Vec<String> = public.map(|item| row(item).trim().into()).collect();
+            assert_eq!(found.join(" ⇒ "), expected, "{source}");
         }
     }
 }

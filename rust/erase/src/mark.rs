@@ -125,76 +125,29 @@ mod tests {
         }
     }
 
-    const REFUSED: &[(&str, &str)] = &[
-        (
-            "// erase: cosnt\nfn f() {}",
-            "1: `// erase: cosnt` is no command of the eraser",
-        ),
-        (
-            "\n//erase: const\nfn f() {}",
-            "2: `//erase: const` is no command of the eraser",
-        ),
-        (
-            "/// erase: const\nfn f() {}",
-            "1: `/// erase: const` is no command of the eraser",
-        ),
-        (
-            "// erase: const.\nfn f() {}",
-            "1: `// erase: const.` is no command of the eraser",
-        ),
-        (
-            "// Erase: omit\nmod a;",
-            "1: `// Erase: omit` is no command of the eraser",
-        ),
-        (
-            "// erse: cosnt\nfn f() {}",
-            "1: `// erse: cosnt` is no command of the eraser",
-        ),
-        (
-            "// const\nfn f() {}",
-            "1: `// const` is no command of the eraser",
-        ),
-        (
-            "// erase: const\nconst fn f() {}",
-            "1: `// erase: const` is not before what it is for",
-        ),
-        (
-            "// erase: const\nmod a;",
-            "1: `// erase: const` is not before what it is for",
-        ),
-        (
-            "// erase: const\nlet f = fn();",
-            "1: `// erase: const` is not before what it is for",
-        ),
-        (
-            "fn f() {\n// erase: const\n}",
-            "2: `// erase: const` is not before what it is for",
-        ),
-        (
-            "// erase: const",
-            "1: `// erase: const` is not before what it is for",
-        ),
-        (
-            "// erase: const\n// erase: const\nfn f() {}",
-            "1: `// erase: const` is not before what it is for",
-        ),
-        (
-            "// erase: omit\nfn f() {}",
-            "1: `// erase: omit` is not before what it is for",
-        ),
-        (
-            "// erase: omit\n#[a]\n// erase: const\nmod a;",
-            "1: `// erase: omit` is not before what it is for",
-        ),
-        (
-            "mod a; // erase: omit\nmod b;",
-            "1: `// erase: omit` is not on a line of its own",
-        ),
+    const REFUSED: &[&str] = &[
+        "// erase: cosnt\nfn f() {} ⇒ 1: `// erase: cosnt` is no command of the eraser",
+        "\n//erase: const\nfn f() {} ⇒ 2: `//erase: const` is no command of the eraser",
+        "/// erase: const\nfn f() {} ⇒ 1: `/// erase: const` is no command of the eraser",
+        "// erase: const.\nfn f() {} ⇒ 1: `// erase: const.` is no command of the eraser",
+        "// Erase: omit\nmod a; ⇒ 1: `// Erase: omit` is no command of the eraser",
+        "// erse: cosnt\nfn f() {} ⇒ 1: `// erse: cosnt` is no command of the eraser",
+        "// const\nfn f() {} ⇒ 1: `// const` is no command of the eraser",
+        "// erase: const\nconst fn f() {} ⇒ 1: `// erase: const` is not before what it is for",
+        "// erase: const\nmod a; ⇒ 1: `// erase: const` is not before what it is for",
+        "// erase: const\nlet f = fn(); ⇒ 1: `// erase: const` is not before what it is for",
+        "fn f() {\n// erase: const\n} ⇒ 2: `// erase: const` is not before what it is for",
+        "// erase: const ⇒ 1: `// erase: const` is not before what it is for",
+        "// erase: const\n// erase: const\nfn f() {} ⇒ 1: `// erase: const` is not before what it is for",
+        "// erase: omit\nfn f() {} ⇒ 1: `// erase: omit` is not before what it is for",
+        "// erase: omit\n#[a]\n// erase: const\nmod a; ⇒ 1: `// erase: omit` is not before what it is for",
+        "mod a; // erase: omit\nmod b; ⇒ 1: `// erase: omit` is not on a line of its own",
     ];
 
     #[test]
     fn what_is_refused() {
-        for &(source, words) in REFUSED {
+        for row in REFUSED {
+            let (source, words) = row.split_once(" ⇒ ").unwrap();
             assert_eq!(lines(source), Err(words.to_string()), "{source}");
         }
     }
