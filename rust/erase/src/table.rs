@@ -23,6 +23,13 @@ pub struct Edit {
     pub why: &'static str,
 }
 
+/// Edits: `MODULE: OLD => NEW, WHY;` each.
+macro_rules! edits {
+    ($($module:literal: $old:literal => $new:literal, $why:expr;)*) => {
+        &[$(Edit { module: $module, old: $old, new: $new, why: $why }),*]
+    };
+}
+
 const LANES: &str = "lanes are unstable in Rust";
 const EQUALITY: &str =
     "constants in patterns need the derived `==`; zeros follow the octets in use (`ghost zeros`)";
@@ -50,258 +57,96 @@ pub const CRATES: &[Crate] = &[
             "Result",
             "SortedDatabase",
         ],
-        edits: &[
-            Edit {
-                module: "lib",
-                old: "pub mod db; mod db_sorted;",
-                new: "#[cfg(feature = \"db\")] pub mod db; #[cfg(feature = \"db\")] mod db_sorted;",
-                why: "they are of a feature",
-            },
-            Edit {
-                module: "by_arcs,db_sorted",
-                old: "use crate::erased::oid_ref::ObjectIdentifierRef;",
-                new: "use crate::ObjectIdentifierRef;",
-                why: LENT,
-            },
-            Edit {
-                module: "by_arcs,db_sorted",
-                old: "&ObjectIdentifierRef<'_>",
-                new: "&ObjectIdentifierRef",
-                why: LENT,
-            },
-            Edit {
-                module: "by_arcs,db_sorted",
-                old: "ObjectIdentifierRef<'_>",
-                new: "&ObjectIdentifierRef",
-                why: LENT,
-            },
-            Edit {
-                module: "by_arcs,db_sorted",
-                old: "ObjectIdentifierRef<'a>",
-                new: "&'a ObjectIdentifierRef",
-                why: LENT,
-            },
-            Edit {
-                module: "arcs",
-                old: "pub struct Arcs<'a>",
-                new: "#[derive(Clone)]\npub struct Arcs<'a>",
-                why: "in Rattle a copy may fail, so a caller asks for the arcs again",
-            },
-            Edit {
-                module: "arcs",
-                old: "type Item = Arc;",
-                new: "type Item = Arc;
+        edits: edits! {
+            "lib": "pub mod db; mod db_sorted;"
+                => "#[cfg(feature = \"db\")] pub mod db; #[cfg(feature = \"db\")] mod db_sorted;",
+                "they are of a feature";
+            "by_arcs,db_sorted": "use crate::erased::oid_ref::ObjectIdentifierRef;"
+                => "use crate::ObjectIdentifierRef;", LENT;
+            "by_arcs,db_sorted": "&ObjectIdentifierRef<'_>" => "&ObjectIdentifierRef", LENT;
+            "by_arcs,db_sorted": "ObjectIdentifierRef<'_>" => "&ObjectIdentifierRef", LENT;
+            "by_arcs,db_sorted": "ObjectIdentifierRef<'a>" => "&'a ObjectIdentifierRef", LENT;
+            "arcs": "pub struct Arcs<'a>"
+                => "#[derive(Clone)]\npub struct Arcs<'a>",
+                "in Rattle a copy may fail, so a caller asks for the arcs again";
+            "arcs": "type Item = Arc;"
+                => "type Item = Arc;
 
-                    // A subidentifier has one to five octets, and the first holds two arcs.
-                    fn size_hint(&self) -> (usize, Option<usize>) {
-                        let held = usize::from(!matches!(self.next, Next::Later));
-                        let octets = self.octets.len();
-                        (octets.div_ceil(5) + held, Some(octets + held))
-                    }",
-                why: BOUNDS,
-            },
-            Edit {
-                module: "db",
-                old: "pub struct Names<'a>",
-                new: "#[derive(Clone)]\npub struct Names<'a>",
-                why: "as above",
-            },
-            Edit {
-                module: "db",
-                old: "type Item = &'a str;",
-                new: "type Item = &'a str;
+                        // A subidentifier has one to five octets, and the first holds two arcs.
+                        fn size_hint(&self) -> (usize, Option<usize>) {
+                            let held = usize::from(!matches!(self.next, Next::Later));
+                            let octets = self.octets.len();
+                            (octets.div_ceil(5) + held, Some(octets + held))
+                        }",
+                BOUNDS;
+            "db": "pub struct Names<'a>" => "#[derive(Clone)]\npub struct Names<'a>", "as above";
+            "db": "type Item = &'a str;"
+                => "type Item = &'a str;
 
-                    fn size_hint(&self) -> (usize, Option<usize>) {
-                        (0, Some(self.left.len()))
-                    }",
-                why: BOUNDS,
-            },
-            Edit {
-                module: "db",
-                old: "entries: &'a [(&'a Oid, &'a str)],",
-                new: "pub(crate) entries: &'a [(&'a Oid, &'a str)],",
-                why: LISTED,
-            },
-            Edit {
-                module: "db_sorted",
-                old: "entries: &'a [Entry<'a>],",
-                new: "pub(crate) entries: &'a [Entry<'a>],",
-                why: LISTED,
-            },
-            Edit {
-                module: "db,db_ref",
-                old: "Oid",
-                new: "ObjectIdentifier",
-                why: "the crate has one name for the type",
-            },
-            Edit {
-                module: "db_sorted",
-                old: "(self.entries, &oid)",
-                new: "(self.entries, &oid.erased())",
-                why: LENT,
-            },
-            Edit {
-                module: "by_arcs,db_sorted",
-                old: "(self.entries, oid)",
-                new: "(self.entries, &oid.erased())",
-                why: LENT,
-            },
-            Edit {
-                module: "parts",
-                old: "use core::simd::prelude::*; use core::simd::u8x32;",
-                new: "",
-                why: LANES,
-            },
-            Edit {
-                module: "parts",
-                old: "let lanes = u8x32::from_slice(octets).simd_lt(u8x32::splat(128));
-                    lanes.to_bitmask().count_ones() as usize",
-                new: "octets.iter().filter(|octet| **octet < 128).count()",
-                why: LANES,
-            },
-            Edit {
-                module: "buffer",
-                old: "#[derive(Copy, Clone)] pub struct Buffer",
-                new: "#[derive(Copy, Clone, PartialEq, Eq)]\npub struct Buffer",
-                why: EQUALITY,
-            },
-            Edit {
-                module: "buffer",
-                old: "impl<const SIZE: usize> PartialEq for Buffer<SIZE> {
-                        fn eq(&self, other: &Self) -> bool { Self::eq(self, other) }
-                    }
-                    impl<const SIZE: usize> Eq for Buffer<SIZE> {}",
-                new: "",
-                why: EQUALITY,
-            },
-            Edit {
-                module: "oid",
-                old: "#[derive(Copy, Clone, Eq, PartialOrd, Hash)]
-                    pub struct ObjectIdentifier<const MAX_SIZE: usize>",
-                new: "#[derive(Copy, Clone, PartialEq, Eq, PartialOrd, Hash)]
-                    pub struct ObjectIdentifier<const MAX_SIZE: usize = 39>",
-                why: "as above; and a capacity has a default, where a type names none",
-            },
-            Edit {
-                module: "oid",
-                old: "impl<const MAX_SIZE: usize> PartialEq for ObjectIdentifier<MAX_SIZE> {
-                        fn eq(&self, other: &Self) -> bool { self.ber.eq(&other.ber) }
-                    }",
-                new: "",
-                why: EQUALITY,
-            },
-            Edit {
-                module: "",
-                old: "as_oid_ref",
-                new: "borrowed",
-                why: UNSIZED,
-            },
-            Edit {
-                module: "oid",
-                old: "pub const fn borrowed",
-                new: "pub(crate) const fn borrowed",
-                why: UNSIZED,
-            },
-            Edit {
-                module: "oid",
-                old: "pub fn try_from_ref",
-                new: "pub(crate) fn try_from_ref",
-                why: "public as `TryFrom`, of the unsized form",
-            },
-            Edit {
-                module: "oid_ref",
-                old: "sorted: &[ObjectIdentifierRef<'_>]",
-                new: "sorted: &[&crate::ObjectIdentifierRef]",
-                why: UNSIZED,
-            },
-            Edit {
-                module: "oid_ref",
-                old: "pub ber: &'a [u8]",
-                new: "ber: &'a [u8]",
-                why: "no checker reads a literal",
-            },
-            Edit {
-                module: "oid_ref",
-                old: "fn eq(&self, other: &Self) -> bool { are_equal(self.ber, other.ber) }",
-                new: "fn eq(&self, other: &Self) -> bool {\n self.ber == other.ber\n }",
-                why: BY_CORE,
-            },
-            Edit {
-                module: "oid_ref",
-                old: "fn cmp(&self, other: &Self) -> Ordering { order(self.ber, other.ber) }",
-                new: "fn cmp(&self, other: &Self) -> Ordering {\n self.ber.cmp(other.ber)\n }",
-                why: BY_CORE,
-            },
-            Edit {
-                module: "oid",
-                old: "Err(_) => unreachable!(\"not the text of an object identifier\")",
-                new: "Err(error) => panic!(\"{}\", crate::conversions::panic_text(error))",
-                why: "outside of constants, Rust does not check the text before the program runs",
-            },
-        ],
+                        fn size_hint(&self) -> (usize, Option<usize>) {
+                            (0, Some(self.left.len()))
+                        }",
+                BOUNDS;
+            "db": "entries: &'a [(&'a Oid, &'a str)]," => "pub(crate) entries: &'a [(&'a Oid, &'a str)],", LISTED;
+            "db_sorted": "entries: &'a [Entry<'a>]," => "pub(crate) entries: &'a [Entry<'a>],", LISTED;
+            "db,db_ref": "Oid" => "ObjectIdentifier", "the crate has one name for the type";
+            "db_sorted": "(self.entries, &oid)" => "(self.entries, &oid.erased())", LENT;
+            "by_arcs,db_sorted": "(self.entries, oid)" => "(self.entries, &oid.erased())", LENT;
+            "parts": "use core::simd::prelude::*; use core::simd::u8x32;" => "", LANES;
+            "parts": "let lanes = u8x32::from_slice(octets).simd_lt(u8x32::splat(128));
+                        lanes.to_bitmask().count_ones() as usize"
+                => "octets.iter().filter(|octet| **octet < 128).count()", LANES;
+            "buffer": "#[derive(Copy, Clone)] pub struct Buffer"
+                => "#[derive(Copy, Clone, PartialEq, Eq)]\npub struct Buffer", EQUALITY;
+            "buffer": "impl<const SIZE: usize> PartialEq for Buffer<SIZE> {
+                            fn eq(&self, other: &Self) -> bool { Self::eq(self, other) }
+                        }
+                        impl<const SIZE: usize> Eq for Buffer<SIZE> {}"
+                => "", EQUALITY;
+            "oid": "#[derive(Copy, Clone, Eq, PartialOrd, Hash)]
+                        pub struct ObjectIdentifier<const MAX_SIZE: usize>"
+                => "#[derive(Copy, Clone, PartialEq, Eq, PartialOrd, Hash)]
+                        pub struct ObjectIdentifier<const MAX_SIZE: usize = 39>",
+                "as above; and a capacity has a default, where a type names none";
+            "oid": "impl<const MAX_SIZE: usize> PartialEq for ObjectIdentifier<MAX_SIZE> {
+                            fn eq(&self, other: &Self) -> bool { self.ber.eq(&other.ber) }
+                        }"
+                => "", EQUALITY;
+            "": "as_oid_ref" => "borrowed", UNSIZED;
+            "oid": "pub const fn borrowed" => "pub(crate) const fn borrowed", UNSIZED;
+            "oid": "pub fn try_from_ref" => "pub(crate) fn try_from_ref", "public as `TryFrom`, of the unsized form";
+            "oid_ref": "sorted: &[ObjectIdentifierRef<'_>]" => "sorted: &[&crate::ObjectIdentifierRef]", UNSIZED;
+            "oid_ref": "pub ber: &'a [u8]" => "ber: &'a [u8]", "no checker reads a literal";
+            "oid_ref": "fn eq(&self, other: &Self) -> bool { are_equal(self.ber, other.ber) }"
+                => "fn eq(&self, other: &Self) -> bool {\n self.ber == other.ber\n }", BY_CORE;
+            "oid_ref": "fn cmp(&self, other: &Self) -> Ordering { order(self.ber, other.ber) }"
+                => "fn cmp(&self, other: &Self) -> Ordering {\n self.ber.cmp(other.ber)\n }", BY_CORE;
+            "oid": "Err(_) => unreachable!(\"not the text of an object identifier\")"
+                => "Err(error) => panic!(\"{}\", crate::conversions::panic_text(error))",
+                "outside of constants, Rust does not check the text before the program runs";
+        },
     },
     Crate {
         from: "crates/const_oid_c/src",
         to: "rust/const-oid-c/src/calls",
         root: "crate::calls::",
         with_examples: &[],
-        edits: &[
-            Edit {
-                module: "",
-                old: "const_oid::",
-                new: "const_oid::internal_for_const_oid_c::",
-                why: "the cargo crate has the generated types under this name",
-            },
-            Edit {
-                module: "lists",
-                old: "#[repr(C)] #[derive(Clone, Copy)] pub struct Octets<'a> { pub octets: &'a [u8], }
-                    impl<'a> Octets<'a> { fn get(&self) -> &'a [u8] { self.octets } }
-                    impl Contents for Octets<'_> { fn contents(&self) -> &[u8] { self.octets } }",
-                new: "pub use crate::edge::Octets;",
-                why: "C gives a pointer, which may be null, and a length: `edge.rs` has such a type",
-            },
-            Edit {
-                module: "",
-                old: "out: &mut [u8]",
-                new: "out: &mut crate::edge::Output<u8>",
-                why: UNWRITTEN,
-            },
-            Edit {
-                module: "",
-                old: "out: &mut [u32]",
-                new: "out: &mut crate::edge::Output<u32>",
-                why: UNWRITTEN,
-            },
-            Edit {
-                module: "output",
-                old: "out[..len].copy_from_slice(bytes);",
-                new: "crate::edge::copy(bytes, out);",
-                why: UNWRITTEN,
-            },
-            Edit {
-                module: "output",
-                old: "out[..first.len()].copy_from_slice(first); out[first.len()..len].copy_from_slice(rest);",
-                new: "crate::edge::copy(first, out); crate::edge::copy(rest, &mut out[first.len()..]);",
-                why: UNWRITTEN,
-            },
-            Edit {
-                module: "arcs",
-                old: "out[index] = arc;",
-                new: "out[index].write(arc);",
-                why: UNWRITTEN,
-            },
-            Edit {
-                module: "texts",
-                old: "oid.encode_text(out)",
-                new: "crate::edge::encode(oid, out)",
-                why: UNWRITTEN,
-            },
-            Edit {
-                module: "errors",
-                old: "error.encode_text(out)",
-                new: "crate::edge::encode_error(error, out)",
-                why: UNWRITTEN,
-            },
-        ],
+        edits: edits! {
+            "": "const_oid::"
+                => "const_oid::internal_for_const_oid_c::", "the cargo crate has the generated types under this name";
+            "lists": "#[repr(C)] #[derive(Clone, Copy)] pub struct Octets<'a> { pub octets: &'a [u8], }
+                        impl<'a> Octets<'a> { fn get(&self) -> &'a [u8] { self.octets } }
+                        impl Contents for Octets<'_> { fn contents(&self) -> &[u8] { self.octets } }"
+                => "pub use crate::edge::Octets;",
+                "C gives a pointer, which may be null, and a length: `edge.rs` has such a type";
+            "": "out: &mut [u8]" => "out: &mut crate::edge::Output<u8>", UNWRITTEN;
+            "": "out: &mut [u32]" => "out: &mut crate::edge::Output<u32>", UNWRITTEN;
+            "output": "out[..len].copy_from_slice(bytes);" => "crate::edge::copy(bytes, out);", UNWRITTEN;
+            "output": "out[..first.len()].copy_from_slice(first); out[first.len()..len].copy_from_slice(rest);"
+                => "crate::edge::copy(first, out); crate::edge::copy(rest, &mut out[first.len()..]);", UNWRITTEN;
+            "arcs": "out[index] = arc;" => "out[index].write(arc);", UNWRITTEN;
+            "texts": "oid.encode_text(out)" => "crate::edge::encode(oid, out)", UNWRITTEN;
+            "errors": "error.encode_text(out)" => "crate::edge::encode_error(error, out)", UNWRITTEN;
+        },
     },
 ];
