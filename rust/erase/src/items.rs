@@ -88,12 +88,12 @@ fn collect(tokens: &[Token<'_>], place: Place<'_>, out: &mut Vec<Item>) -> Resul
     Ok(())
 }
 
-/// The ghost member at an index.
+/// The ghost member at an index. `ghost use` is none.
 fn ghost(tokens: &[Token<'_>], at: usize, owner: &str) -> Option<Item> {
     let name = solid(tokens, at + 1);
     let sign = solid(tokens, name + 1);
     let open = solid(tokens, sign + 1);
-    (is(tokens, open, "{") && !is(tokens, name, "use")).then(|| Item {
+    is(tokens, open, "{").then(|| Item {
         owner: owner.into(),
         head: format!("ghost {}", tokens[name].text),
         clauses: vec![(
@@ -380,7 +380,7 @@ mod tests {
          ⇒ / pub trait T \
          ⇒ pub trait T / const A: u8 \
          ⇒ pub trait T / fn a(&self) -> u8",
-        "trait T { fn a(); } mod a; pub mod b; mod c { pub fn d() {} } ⇒ / pub mod b",
+        "trait T { fn a(); } mod a; pub mod b; mod c { pub fn d() {} impl S { pub fn e() {} } } ⇒ / pub mod b",
         "#[cfg(feature = \"f\")]\npub use a::{b, e};\nuse c::{d}; \
          ⇒ / #[cfg(feature = \"f\")] pub use a::{b, e}",
         "pub static A: &[u8] = &{ [1] };\npub const B: u8 = 1;\npub type C = u8; \
@@ -391,7 +391,7 @@ mod tests {
          ⇒ macro_rules! m / impl $a for S \
          ⇒ macro_rules! m / pub fn $a() \
          ⇒ macro_rules! m / pub fn b()",
-        "m! { /// A.\n fn a(b: u8) -> u8; }\nn!(A B);\nfn c() {} ⇒ m! / fn a(b: u8) -> u8 ⇒ / n!(A B)",
+        "m! { /// A.\n fn a(b: u8) -> u8; mod d { fn e(); } }\nn!(A B);\nfn c() {} ⇒ m! / fn a(b: u8) -> u8 ⇒ / n!(A B)",
     ];
 
     #[test]

@@ -146,7 +146,10 @@ fn items_of_folders() {
     let copy = Copy::new("below");
     let folder = "crates/below/src";
     fs::create_dir_all(copy.0.join(folder).join("inner")).unwrap();
-    copy.append("crates/below/src/a.rt", "const A: u8 = 1;\nfn b();\n");
+    copy.append(
+        "crates/below/src/a.rt",
+        "const A: u8 = 1;\nfn b();\nstruct S { a: u8, ghost b: { c }, }\n",
+    );
     copy.append(
         "crates/below/src/inner/c.rt",
         "trait T { fn d() ensures e { f } {} }",
@@ -160,9 +163,11 @@ fn items_of_folders() {
         .collect();
     lines.sort();
     let expected = [
+        "crates/below/src/a.rt|struct S|a: u8",
         "crates/below/src/a.rt||const A: u8",
         "crates/below/src/a.rt||const A: u8|=|1",
         "crates/below/src/a.rt||fn b()",
+        "crates/below/src/a.rt||struct S",
         "crates/below/src/inner/c.rt|trait T|fn d()",
         "crates/below/src/inner/c.rt|trait T|fn d()|ensures e|f",
         "crates/below/src/inner/c.rt||trait T",
