@@ -109,14 +109,14 @@ static PyObject *identifier_new(PyTypeObject *type, PyObject *arguments, PyObjec
         return NULL;
     }
     if (PyUnicode_Check(given)) return made_of_text(type, given);
-    if (!is_identifier(given)) return wrong_type("the text is a str", given);
+    if (!is_identifier(given)) return wrong_type("text must be a str", given);
     if (Py_TYPE(given) == type) return Py_NewRef(given);
     return made(type, Py_NewRef(((Identifier *)given)->octets));
 }
 
 static PyObject *identifier_from_bytes(PyObject *type, PyObject *given) {
     if (!PyBytes_Check(given) && !PyByteArray_Check(given) && !PyMemoryView_Check(given)) {
-        return wrong_type("octets are bytes, a bytearray or a memoryview", given);
+        return wrong_type("octets must be bytes, bytearray or memoryview", given);
     }
     PyObject *octets = PyBytes_FromObject(given);
     if (!octets) return NULL;
@@ -177,7 +177,7 @@ static PyObject *made_of_arcs(PyTypeObject *type, PyObject *items, Py_ssize_t co
 
 static PyObject *identifier_from_arcs(PyObject *type, PyObject *given) {
     if (PyUnicode_Check(given) || PyBytes_Check(given) || PyByteArray_Check(given) || PyMemoryView_Check(given)) {
-        return wrong_type("arcs are integers", given);
+        return wrong_type("arcs must be an iterable of int", given);
     }
     PyObject *items = PySequence_Tuple(given), *result;
     if (!items) return NULL;
@@ -265,7 +265,7 @@ static PyObject *identifier_child(PyObject *self, PyObject *item) {
 }
 
 static PyObject *identifier_starts_with(PyObject *self, PyObject *prefix) {
-    if (!is_identifier(prefix)) return wrong_type("the prefix is an ObjectIdentifier", prefix);
+    if (!is_identifier(prefix)) return wrong_type("prefix must be an ObjectIdentifier", prefix);
     const_oid_octets octets = octets_of(self), start = octets_of(prefix);
     return PyBool_FromLong((long)const_oid_starts_with(octets.octets, octets.len, start.octets, start.len).detail);
 }
@@ -325,7 +325,7 @@ static Py_ssize_t identifier_len(PyObject *self) {
 
 static int identifier_contains(PyObject *self, PyObject *item) {
     if (!PyIndex_Check(item)) {
-        wrong_type("an arc is an int (starts_with looks for a prefix)", item);
+        wrong_type("arc must be an int (starts_with looks for a prefix)", item);
         return -1;
     }
     PyObject *arcs = arcs_of(self), *number = arcs ? PyNumber_Index(item) : NULL;
@@ -385,8 +385,8 @@ static PyObject *error_text(PyObject *module, PyObject *arguments) {
 PyDoc_STRVAR(identifier_doc, "ObjectIdentifier(text)\n--\n\n\
 An object identifier: at least two arcs of 32 bits.\n\
 \n\
-The constructor parses dotted text, or returns an identifier that it is given. Text and arcs may have at most 255\n\
-octets; octets may have any length.\n\
+The constructor parses dotted text, or returns an identifier that it is given. An identifier of text or arcs has at\n\
+most 255 contents octets; from_bytes reads any length.\n\
 \n\
 >>> oid = ObjectIdentifier(\"2.999.3\")\n\
 >>> oid\n\
@@ -397,7 +397,7 @@ It is an immutable sequence of its arcs (collections.abc.Sequence).\n\
 >>> len(oid), oid[1], oid[-2:], list(oid), 999 in oid\n\
 (3, 999, (999, 3), [2, 999, 3], True)\n\
 \n\
-It is a key of dictionaries, and sorted by its arcs, as SNMP does (RFC 3416). No tuple or text equals it.\n\
+It is immutable and hashable, and ordered by its arcs, as in SNMP (RFC 3416). No tuple or text equals it.\n\
 \n\
 >>> sorted(map(ObjectIdentifier, [\"1.10\", \"1.2.3\", \"1.2\"]))\n\
 [ObjectIdentifier('1.2'), ObjectIdentifier('1.2.3'), ObjectIdentifier('1.10')]\n\
@@ -421,12 +421,12 @@ ObjectIdentifier('1.2.840')\n\
 Traceback (most recent call last):\n\
 ValueError: an arc is negative: -2");
 
-PyDoc_STRVAR(arcs_doc, "The arcs.\n\
+PyDoc_STRVAR(arcs_doc, "All arcs, as a tuple.\n\
 \n\
 >>> ObjectIdentifier(\"2.999\").arcs\n\
 (2, 999)");
 
-PyDoc_STRVAR(parent_doc, "All arcs except the last, or None if there are two.\n\
+PyDoc_STRVAR(parent_doc, "The parent: all arcs except the last. None if there are only two.\n\
 \n\
 >>> ObjectIdentifier(\"1.2.840\").parent\n\
 ObjectIdentifier('1.2')\n\
@@ -434,13 +434,13 @@ ObjectIdentifier('1.2')\n\
 True");
 
 PyDoc_STRVAR(child_doc, "child($self, arc, /)\n--\n\n\
-The arcs and one more.\n\
+The child with one more arc, which is its last.\n\
 \n\
 >>> ObjectIdentifier(\"1.2\").child(840)\n\
 ObjectIdentifier('1.2.840')");
 
 PyDoc_STRVAR(starts_with_doc, "starts_with($self, prefix, /)\n--\n\n\
-Whether the arcs begin with all arcs of a prefix.\n\
+Whether the arcs begin with those of a prefix: whether it is this identifier or an ancestor.\n\
 \n\
 >>> oid = ObjectIdentifier(\"1.2.840\")\n\
 >>> oid.starts_with(ObjectIdentifier(\"1.2\")), oid.starts_with(oid), oid.starts_with(ObjectIdentifier(\"1.28\"))\n\

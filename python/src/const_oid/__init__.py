@@ -1,4 +1,4 @@
-"""Object identifiers (ITU-T X.660) as dotted text, arcs, and contents octets (ITU-T X.690, section 8.19).
+"""Object identifiers (ITU-T X.660) as dotted text, arcs, and contents octets of BER and DER (ITU-T X.690, 8.19).
 
 >>> oid = ObjectIdentifier("1.2.840.10045.2.1")
 >>> bytes(oid).hex()
@@ -25,7 +25,7 @@ identifier is 6. A walk over all values finds them:
 1.2.840.10045.2.1 id-ecPublicKey
 1.2.840.10045.3.1.7 secp256r1
 
-The library const_oid_c computes each result. Any threads may use this package at once.
+The library const_oid_c computes each result. Identifiers and functions are thread-safe.
 """
 
 from __future__ import annotations
@@ -63,7 +63,7 @@ class OidError(ValueError):
     """A text, arcs or octets that denote no identifier, or an identifier that is too long.
 
     `code` is one of `Code`. `detail` is the arc with `ARC_INVALID`, the byte with `DIGIT_EXPECTED`, and otherwise 0.
-    `given` is the text, octets, arcs or arc that the call was given.
+    `given` is the text, octets, arcs or arc that was passed.
 
     >>> try:
     ...     ObjectIdentifier("1.2.x")
@@ -82,13 +82,13 @@ class OidError(ValueError):
 
     @property
     def piece(self) -> int | None:
-        """The index of the first wrong piece between the dots of a text, or None if no piece is wrong."""
+        """The index of the first wrong component, between the dots of a text, or None if no component is wrong."""
         if not isinstance(self.given, str):
             return None
         pieces = self.given.split(".")
 
         def is_wrong(count: int) -> bool:
-            """Whether the first pieces are no identifier, and do not begin one."""
+            """Whether the first components are no identifier, and do not begin one."""
             try:
                 ObjectIdentifier(".".join(pieces[:count] if count > 1 else [pieces[0], "0"]))
             except OidError:

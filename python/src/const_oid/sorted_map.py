@@ -12,7 +12,9 @@ Value = TypeVar("Value")
 
 
 class SortedMap(MutableMapping[ObjectIdentifier, Value]):
-    """A mapping from identifiers to any values. Its keys come in the order of arcs, in which SNMP walks.
+    """A mapping from identifiers to values, with keys in the lexicographic order of arcs, as in SNMP (RFC 3416).
+
+    While one thread changes it, no other may use it.
 
     >>> system = SortedMap({ObjectIdentifier("1.3.6.1.2.1.1.3"): "sysUpTime", ObjectIdentifier("1.3.6.1.2.1.1"): "system"})
     >>> system[ObjectIdentifier("1.3.6.1.2.1.1.10")] = "the last"
@@ -31,7 +33,7 @@ class SortedMap(MutableMapping[ObjectIdentifier, Value]):
         self._keys = sorted(self._values)
 
     def nearest(self, oid: ObjectIdentifier) -> tuple[ObjectIdentifier, Value] | None:
-        """The entry whose key has the most arcs of those that an identifier begins with, or None.
+        """The entry whose key is the longest prefix of an identifier, or None.
 
         >>> names = SortedMap({ObjectIdentifier("2.5"): "directory", ObjectIdentifier("2.5.4"): "attributes"})
         >>> names.nearest(ObjectIdentifier("2.5.4.3"))
@@ -97,5 +99,5 @@ class SortedMap(MutableMapping[ObjectIdentifier, Value]):
 
 def _require_oid(key: ObjectIdentifier) -> ObjectIdentifier:
     if not isinstance(key, ObjectIdentifier):
-        raise TypeError(f"the key is an ObjectIdentifier, not {type(key).__name__}")
+        raise TypeError(f"key must be an ObjectIdentifier, not {type(key).__name__}")
     return key
