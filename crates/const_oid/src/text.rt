@@ -103,7 +103,7 @@ fn write_later(arc: Arc, out: &mut [u8], at: usize) -> usize
     at + write_first_later(arc, &mut out[at..])
 }
 
-/// The same at the start. It returns the length.
+/// Writes a later arc and the dot before it at the start, and returns their length.
 #[inline(always)]
 fn write_first_later(arc: Arc, out: &mut [u8]) -> usize
     requires { 11 ≤ length out.old }

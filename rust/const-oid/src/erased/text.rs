@@ -71,7 +71,7 @@ fn write_later(arc: Arc, out: &mut [u8], at: usize) -> usize {
     at + write_first_later(arc, &mut out[at..])
 }
 
-/// The same at the start. It returns the length.
+/// Writes a later arc and the dot before it at the start, and returns their length.
 #[inline(always)]
 fn write_first_later(arc: Arc, out: &mut [u8]) -> usize {
     // The length of this part is a literal, so rustc checks no index in it.
