@@ -9,7 +9,7 @@ abbrev pub dotted : List ℕ → List ℕ
 dotted [] = []
 dotted (arc ∷ arcs) = dot ∷ (decimal arc ++ dotted arcs)
 
--- the text is the name of the entry that is nearest to arcs, and the arcs after those of the entry
+-- the text is the name of the entry with the longest prefix of the arcs, and the arcs after that prefix
 pub record IsLabel (entries : List (Entry ObjectIdentifierRef)) (arcs text : List ℕ) : Type 0 where
   pub entry : Entry ObjectIdentifierRef
   pub nearest : IsNearest entries arcs entry

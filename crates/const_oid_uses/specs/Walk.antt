@@ -7,7 +7,7 @@ use Rattle.std.specs.declared.cmp.Ordering.TheVariants.{Less, Greater}
 use Rattle.const_oid.specs.declared.by_arcs.ByArcs.{ByArcs}
 use Rattle.const_oid.specs.OidRef.{key_arcs}
 
--- the key is the next one after arcs: it is in the list and after them, and none that is after them is before it
+-- the key is the next one after the arcs: it is in the list and after them, and no key after them is before it
 pub record IsNext (keys : List ByArcs) (arcs : List ℕ) (next : ByArcs) : Type 0 where
   pub inside : Contains keys next
   pub after : slice_cmp nat_cmp arcs (key_arcs next) ≡ Less

@@ -8,7 +8,7 @@ ghost use Rattle.const_oid.specs.Tree.{child_of};
 
 use const_oid::{Arc, Error, ObjectIdentifier, ObjectIdentifierRef, Oid};
 
-/// The child of a borrowed identifier, in a capacity of the caller's choice, where it fits.
+/// The child of a borrowed identifier, in a capacity of the caller's choice, or an error if it does not fit.
 pub fn child_in<const N: usize>(
     parent: ObjectIdentifierRef<'_>,
     arc: Arc,

@@ -9,7 +9,7 @@ ghost use Rattle.const_oid.specs.Tree.{BeginsWith};
 
 use const_oid::ObjectIdentifierRef;
 
-/// The range of the identifiers that begin with one, in a list that is tested to be sorted.
+/// The range of the identifiers that begin with one, or `None` if the list is not sorted.
 #[tactic(auto, using(const_oid::proofs::Identifiers::not_before))]
 pub fn range_of(
     oids: &[ObjectIdentifierRef<'_>],

@@ -8,7 +8,7 @@ ghost use Rattle.const_oid_uses.specs.AttributeTypes.{attribute_types, first_arc
 use const_oid::ObjectIdentifierRef;
 use const_oid::db::{RefDatabase, SortedDatabase};
 
-/// The identifiers, whose octets the checker reads, and their names, in the order of arcs.
+/// Identifiers and their names, sorted by arcs. The checker reads the octets.
 pub const ATTRIBUTE_TYPES: [(ObjectIdentifierRef<'static>, &str); 12] = [
     (
         ObjectIdentifierRef {

@@ -26,7 +26,7 @@ pub fn is_rsa_encryption(octets: &[u8]) -> bool
     octets == Oid::new_unwrap("1.2.840.113549.1.1.1").as_bytes()
 }
 
-/// A child has one arc more than its parent, and begins with it.
+/// A child has one arc more than its parent, begins with it, and exists exactly if its octets fit.
 pub fn child(parent: Oid, arc: Arc) -> Result<Oid, Error>
     ensures fits { IsOk result ↔ (size (child_of (oid_arcs parent) arc) ≤ 39) }
     ensures arcs { IfOk result (λ child. oid_arcs child ≡ child_of (oid_arcs parent) arc) }
@@ -60,7 +60,7 @@ pub fn parent_of_child(oid: Oid, arc: Arc) -> Result<Option<Oid>, Error>
     Ok(oid.push_arc(arc)?.parent())
 }
 
-/// The child of a parent, by the last arc, fits and is the identifier that the parent is of.
+/// The parent's child with the last arc of an identifier fits, and is that identifier.
 pub fn child_of_parent(oid: Oid) -> Option<Result<Oid, Error>>
     ensures found { IsSome result ↔ (2 < length (oid_arcs oid)) }
     ensures again { IfSome result (λ child.

@@ -27,7 +27,7 @@ pub fn next_after<'s, 'a>(
     sorted.get(index)
 }
 
-/// The next key after an identifier, or `None` where that key is not under a root, as at the end of the root's
+/// The next key after an identifier, or `None` if there is none or it is not under a root, as at the end of the root's
 /// subtree.
 pub fn next_under<'s, 'a>(
     sorted: &'s [ByArcs<'a>],
