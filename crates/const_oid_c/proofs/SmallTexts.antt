@@ -1,4 +1,4 @@
--- The octets of a text that denotes a small identifier.
+-- The octets of a text that denotes an identifier of the usual capacity.
 use Rattle.std.proofs.Common.{◌≡◌, ◌≢◌, ℕ, List, Ok, Err, ap, sym, ◌∙◌}
 use Rattle.const_oid.specs.{declared.error.Error.TheVariants.Length}
 use Rattle.const_oid.specs.{Identifier.{root_rule, usual_capacity, IsEncoding}, Text.text_answer}

@@ -56,7 +56,7 @@ pub extern "C" fn const_oid_from_arcs(arcs: &[u32], out: &mut [u8]) -> Status
     ensures status { result ≡ output_status (length out.old) (octets_of_arcs (item_answer root_rule arcs.now owned_capacity)) }
     ensures written { out.new ≡ output_after out.old (octets_of_arcs (item_answer root_rule arcs.now owned_capacity)) }
 {
-    // A small identifier is quicker to make.
+    // An identifier of the usual capacity is quicker to make.
     let small = encoded::<39>(arcs);
     if is_too_long(&small) {
         return write_large(arcs, out);
