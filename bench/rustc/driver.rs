@@ -40,6 +40,31 @@ macro_rules! side {
             use super::*;
             use ::$side::{ObjectIdentifier, ObjectIdentifierRef};
 
+            /// The identifier of a text, another one of the same length, and their parent.
+            struct Values {
+                oid: InLine<ObjectIdentifier>,
+                next: InLine<ObjectIdentifier>,
+                parent: InLine<ObjectIdentifier>,
+            }
+
+            impl Values {
+                fn new(text: &str) -> Self {
+                    let oid = ObjectIdentifier::new(text).unwrap();
+                    let last = oid.arcs().last().unwrap();
+                    let parent = oid.parent().unwrap();
+                    let next = parent
+                        .push_arc(if last == 1 { 2 } else { last - 1 })
+                        .unwrap();
+                    Values {
+                        oid: InLine(oid),
+                        next: InLine(next),
+                        parent: InLine(parent),
+                    }
+                }
+            }
+
+            /// A function of its own for each row, so that no row has its loop's counter on the stack.
+            #[inline(never)]
             fn repeat<T>(times: usize, call: impl Fn() -> T) -> Duration {
                 let start = Instant::now();
                 for _ in 0..times {
@@ -48,20 +73,16 @@ macro_rules! side {
                 start.elapsed()
             }
 
-            pub fn run(row: &str, size: usize, times: usize) -> Duration {
-                let text = TEXTS[size];
-                let oid = ObjectIdentifier::new(text).unwrap();
-                let last = oid.arcs().last().unwrap();
-                let parent = oid.parent().unwrap();
-                let next = parent
-                    .push_arc(if last == 1 { 2 } else { last - 1 })
-                    .unwrap();
-                let (oid, next, parent) = (InLine(oid), InLine(next), InLine(parent));
-                let (oid, next, parent) = (&oid.0, &next.0, &parent.0);
+            /// Rows that read or print.
+            fn convert(row: &str, text: &str, values: &Values, times: usize) -> Option<Duration> {
+                let oid = &values.oid.0;
                 let octets = oid.as_bytes();
-                let (borrowed, other) = (oid.as_oid_ref(), next.as_oid_ref());
-                match row {
+                let wrong = &format!("{text}.x");
+                Some(match row {
                     "new" => repeat(times, || ObjectIdentifier::new(black_box(text)).is_ok()),
+                    "new, an error at the end" => {
+                        repeat(times, || ObjectIdentifier::new(black_box(wrong)).is_ok())
+                    }
                     "from_bytes, borrowed" => repeat(times, || {
                         ObjectIdentifierRef::from_bytes(black_box(octets)).is_ok()
                     }),
@@ -75,6 +96,14 @@ macro_rules! side {
                         };
                         write!(text, "{}", black_box(oid)).map(|()| text.len)
                     }),
+                    _ => return None,
+                })
+            }
+
+            /// Rows of arcs.
+            fn arcs(row: &str, values: &Values, times: usize) -> Option<Duration> {
+                let (oid, parent) = (&values.oid.0, &values.parent.0);
+                Some(match row {
                     "len" => repeat(times, || black_box(oid).len()),
                     "arc(3)" => repeat(times, || black_box(oid).arc(black_box(3))),
                     "arcs, all" => repeat(times, || {
@@ -87,29 +116,49 @@ macro_rules! side {
                     "starts_with, the parent" => {
                         repeat(times, || black_box(oid).starts_with(*black_box(parent)))
                     }
+                    _ => return None,
+                })
+            }
+
+            /// Rows of owned identifiers that are compared or hashed.
+            fn compare(row: &str, values: &Values, times: usize) -> Option<Duration> {
+                let (oid, next) = (&values.oid.0, &values.next.0);
+                Some(match row {
                     "==, the next" => repeat(times, || black_box(oid) == black_box(next)),
                     "==, itself" => repeat(times, || black_box(oid) == black_box(oid)),
-                    "==, borrowed, the next" => {
-                        repeat(times, || black_box(borrowed) == black_box(other))
-                    }
-                    "==, borrowed, itself" => {
-                        repeat(times, || black_box(borrowed) == black_box(borrowed))
-                    }
                     "cmp, owned, the next" => repeat(times, || black_box(oid).cmp(black_box(next))),
                     "cmp, owned, itself" => repeat(times, || black_box(oid).cmp(black_box(oid))),
-                    "cmp, borrowed, the next" => {
-                        repeat(times, || black_box(borrowed).cmp(black_box(other)))
-                    }
-                    "cmp, borrowed, itself" => {
-                        repeat(times, || black_box(borrowed).cmp(black_box(borrowed)))
-                    }
                     "hash" => repeat(times, || {
                         let mut hasher = DefaultHasher::new();
                         black_box(oid).hash(&mut hasher);
                         hasher.finish()
                     }),
-                    _ => panic!("no row {row}"),
-                }
+                    _ => return None,
+                })
+            }
+
+            /// Rows of borrowed identifiers that are compared.
+            fn compare_borrowed(row: &str, values: &Values, times: usize) -> Option<Duration> {
+                let (oid, next) = (values.oid.0.as_oid_ref(), values.next.0.as_oid_ref());
+                Some(match row {
+                    "==, borrowed, the next" => repeat(times, || black_box(oid) == black_box(next)),
+                    "==, borrowed, itself" => repeat(times, || black_box(oid) == black_box(oid)),
+                    "cmp, borrowed, the next" => {
+                        repeat(times, || black_box(oid).cmp(black_box(next)))
+                    }
+                    "cmp, borrowed, itself" => repeat(times, || black_box(oid).cmp(black_box(oid))),
+                    _ => return None,
+                })
+            }
+
+            pub fn run(row: &str, size: usize, times: usize) -> Duration {
+                let text = TEXTS[size];
+                let values = Values::new(text);
+                convert(row, text, &values, times)
+                    .or_else(|| arcs(row, &values, times))
+                    .or_else(|| compare(row, &values, times))
+                    .or_else(|| compare_borrowed(row, &values, times))
+                    .unwrap_or_else(|| panic!("no row {row}"))
             }
         }
     };
