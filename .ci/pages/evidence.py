@@ -22,7 +22,8 @@ def evidence():
             alone.add(name)
         if kind == "fn":
             laws |= {name} if owner == "mod laws" else set()
-            beside = {item.split()[1].strip(":") for _, other, item in listed if other == owner and item.startswith("ghost")}
+            ghosts = (item for _, other, item in listed if other == owner and item.startswith("ghost"))
+            beside = {item.split()[1].strip(":") for item in ghosts}
             named |= {f"{name}: {key}" for key in keys - {"-"} | beside}
     return laws, named, alone
 
