@@ -55,7 +55,7 @@ macro_rules! borrowed {
 borrowed! {
     AsRef::as_ref
 
-    /// For a `HashMap`. In a `BTreeMap` of owned keys, a look-up by a borrowed identifier compiles, and may miss its key,
+    /// For a `HashMap`. In a `BTreeMap` of owned keys, a lookup by a borrowed identifier compiles, and may miss its key,
     /// since [`Ord`] of the two differs, against the rule of [`Borrow`].
     Borrow::borrow
 }

@@ -1,8 +1,8 @@
-//! Names of some 1,500 identifiers: a module of constants for each document that defines some, and the tables [`DB`]
+//! Some 1,500 names of identifiers: a module of constants for each document that defines some, and the tables [`DB`]
 //! and [`SORTED`] of all. Requires the feature `db`.
 //!
-//! A [`Database`] is a table in any order, for look-ups in constants and by name. A [`SortedDatabase`] is in the order of
-//! arcs: a look-up is a binary search, and it also finds the nearest name, subtrees, and what GETNEXT of SNMP returns.
+//! A [`Database`] is a table in any order, for lookups in constants and by name. A [`SortedDatabase`] is in the order of
+//! arcs: a lookup is a binary search, and it also finds the nearest name, subtrees, and what GetNext of SNMP returns.
 
 pub use crate::erased::db::Database;
 pub use crate::erased::db::Names;
@@ -111,7 +111,7 @@ macro_rules! names {
         /// ```
         pub const DB: Database<'static> = Database::new(&ENTRIES);
 
-        /// The entries of [`DB`]. They are a `static`, so that a crate with a look-up in a constant reads their value,
+        /// The entries of [`DB`]. They are a `static`, so that a crate with a lookup in a constant reads their value,
         /// and does not parse all texts again.
         static ENTRIES: [(&ObjectIdentifier, &str); [$($($name,)*)*].len()] =
             [$($((&$module::$constant, $name),)*)*];
