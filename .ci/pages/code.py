@@ -6,7 +6,7 @@
 - c, sh, python, toml: a compiler, bash or Python parses it.
 - rs: cargo builds and runs it, once with each toml block of its page that has dependencies, in a package beside a link
   `const_oid` to this checkout.
-- text, cmake: not checked; contracts: contracts.py checks them."""
+- text, cmake: not checked."""
 import os
 import pathlib
 import shlex
@@ -72,7 +72,7 @@ def block_fault(page, language, text):
         return run_fault(PARSERS[language], input=text)
     if language == "rs":
         return cargo_fault(text, page)
-    is_left = language in ("contracts", "text", "cmake") or page == CRATE and language in ("rust", "rust,compile_fail")
+    is_left = language in ("text", "cmake") or page == CRATE and language in ("rust", "rust,compile_fail")
     return None if is_left else f"a block without a check: {language}"
 
 

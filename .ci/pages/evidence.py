@@ -1,30 +1,41 @@
 """Names in parentheses of RULES, in backticks: after "law" or "laws" a function of laws.rt; `FN: NAME, NAME` clauses of
 functions FN, or ghost members beside them; else a definition of a crate's specs, a trait's ghost member, or a function
 whose one clause has no name. What "of std" follows is std's."""
+import collections
+import pathlib
 import re
+import subprocess
 
-from pages.contracts import items
 from pages.page import SPAN, TOP, defined_in, fault, prose_of
 
 PAGE = "docs/RULES.md"
 SPAN_OR_GROUP = re.compile(r"`[^`]*`|\((?:[^()`]|`[^`]*`)*\)")
 
 
+def items():
+    """The eraser's list of the functions and ghost members of each owner: a line, and the names of its clauses."""
+    folders = sorted(str(path.relative_to(TOP)) for path in TOP.glob("crates/*/src"))
+    erase = ["cargo", "run", "--quiet", "--offline", "--package", "erase", "--", "--items", *folders]
+    listed = subprocess.run(erase, cwd=TOP / "rust", text=True, stdout=subprocess.PIPE, check=True).stdout
+    owners = collections.defaultdict(lambda: collections.defaultdict(set))
+    for path, owner, head, *clause in (line.split("\t") for line in listed.splitlines()):
+        owner = f"{path} {owner}" if owner else f"mod {pathlib.Path(path).stem}"
+        owners[owner][head].update(clause[:1])
+    return owners
+
+
 def evidence():
     """What the parentheses may name: laws, clauses as `FN: NAME`, and what stands alone."""
     laws, named, alone = set(), set(), set()
     alone.update(*(defined_in(path) for path in TOP.glob("crates/*/specs/*.antt")))
-    listed = items()
-    for (_, owner, line), clauses in listed.items():
-        kind, name = re.match(r"(fn|ghost) (\w+)", line).groups()
-        keys = {clause.split(":")[0] for clause in clauses if not clause.startswith("requires")}
-        if keys == {"-"} or kind == "ghost" and owner.startswith("trait"):
-            alone.add(name)
-        if kind == "fn":
+    for owner, heads in items().items():
+        ghosts = {found[1] for head in heads if (found := re.match(r"ghost (\w+)", head))}
+        alone |= ghosts if re.search(r"\btrait\b", owner) else set()
+        for name, clauses in ((found[1], heads[head]) for head in heads if (found := re.search(r"\bfn (\w+)", head))):
+            ensured = {clause.partition(" ")[2] for clause in clauses if clause.startswith("ensures")}
             laws |= {name} if owner == "mod laws" else set()
-            ghosts = (item for _, other, item in listed if other == owner and item.startswith("ghost"))
-            beside = {item.split()[1].strip(":") for item in ghosts}
-            named |= {f"{name}: {key}" for key in keys - {"-"} | beside}
+            alone |= {name} if ensured == {""} else set()
+            named |= {f"{name}: {clause}" for clause in ensured - {""} | ghosts}
     return laws, named, alone
 
 
