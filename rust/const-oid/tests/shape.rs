@@ -190,7 +190,7 @@ mod db {
         let _ = (NAMES, SORTED_ONE, SORTED);
     };
 
-    /// What a look-up finds lives as long as the entries.
+    /// What a lookup finds lives as long as the entries.
     #[test]
     fn lifetimes() {
         fn name<'a>(entries: &'a [(&'a ObjectIdentifier, &'a str)]) -> Option<&'a str> {
