@@ -76,7 +76,7 @@ const fn of_buffers(buffer: &Buffer<7>) -> (bool, usize, &[u8]) {
 
 /// The functions that no constant may call, each with its type.
 #[test]
-fn functions() {
+fn functions_have_their_types() {
     let _ = of_buffers;
     let _: fn([Arc; 3]) -> Result<ObjectIdentifier> = ObjectIdentifier::from_arcs;
     let _: fn([Arc; 3]) -> Result<ObjectIdentifier<7>> = ObjectIdentifier::from_arcs_sized;
@@ -91,7 +91,7 @@ fn functions() {
 
 /// A type with an identifier, as a bound and as `dyn`.
 #[test]
-fn associated_identifiers() {
+fn types_have_identifiers() {
     struct Name;
     impl AssociatedOid for Name {
         const OID: ObjectIdentifier = ObjectIdentifier::new_unwrap("2.5.4.3");
@@ -104,7 +104,7 @@ fn associated_identifiers() {
 
 /// The four operators are those of `cmp`, in both forms.
 #[test]
-fn operators() {
+fn operators_are_those_of_cmp() {
     let oids =
         ["0.0", "2.5.4.3", "2.5.4.6", "2.5.4.3.1", "2.999"].map(ObjectIdentifier::new_unwrap);
     for a in &oids {
@@ -126,7 +126,7 @@ fn operators() {
 
 /// Octets and parents of any length.
 #[test]
-fn long_identifiers() {
+fn takes_octets_of_any_length() {
     for len in [2, 40, 256, 16_385, 70_000] {
         let octets = vec![0x2A; len];
         let oid = ObjectIdentifierRef::from_bytes(&octets).unwrap();
@@ -140,7 +140,7 @@ fn long_identifiers() {
 
 /// A copy fits in each capacity that is not below the number of its octets.
 #[test]
-fn copies() {
+fn copies_where_it_fits() {
     fn copied<const N: usize>(octets: &[u8]) -> Result<ObjectIdentifier<N>> {
         ObjectIdentifierRef::from_bytes(octets)?.try_into()
     }
@@ -192,7 +192,7 @@ mod db {
 
     /// What a lookup finds lives as long as the entries.
     #[test]
-    fn lifetimes() {
+    fn lookups_live_as_long_as_the_entries() {
         fn name<'a>(entries: &'a [(&'a ObjectIdentifier, &'a str)]) -> Option<&'a str> {
             let oid = *entries[0].0;
             Database::new(entries).by_oid(&oid)
@@ -231,7 +231,7 @@ fn settings(path: &str) -> Vec<(String, String)> {
 
 /// What cargo reads of the crate. It depends on nothing beside it.
 #[test]
-fn manifest() {
+fn the_manifest_has_what_cargo_reads() {
     let told = ["description", "readme", "keywords", "categories"];
     let found: Vec<(String, String)> = settings("Cargo.toml")
         .into_iter()
@@ -283,7 +283,7 @@ fn rust_versions() {
 
 /// The library for C has the version of its header.
 #[test]
-fn version_of_the_library_for_c() {
+fn the_library_for_c_has_the_version_of_its_header() {
     let header = concat!(
         env!("CARGO_MANIFEST_DIR"),
         "/../../crates/const_oid_c/include/const_oid.h"

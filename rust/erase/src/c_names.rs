@@ -57,7 +57,7 @@ fn subidentifier(number: u64) -> Vec<u8> {
 }
 
 #[test]
-fn rows() {
+fn lists_the_rows_in_the_order_of_arcs() {
     let made = header("# head\na\tX\t1.2.840\tx\na\tY\t1.2\ty\nb\tX\t2.999\t\"\n").unwrap();
     let lines: Vec<&str> = made
         .lines()

@@ -98,7 +98,7 @@ mod tests {
     }
 
     #[test]
-    fn places() {
+    fn replaces_each_place_by_tokens() {
         let source = "a[b, // c\n b] a[ b]ab";
         let expect = |text: &str, count| (text.to_string(), count);
         assert_eq!(
@@ -115,7 +115,7 @@ mod tests {
     }
 
     #[test]
-    fn counts() {
+    fn each_edit_has_its_places() {
         let edit = |module| Edit {
             module,
             old: "a",

@@ -214,7 +214,7 @@ mod tests {
     ];
 
     #[test]
-    fn what_goes() {
+    fn removes_ghosts_and_contracts() {
         for row in GOES {
             let (source, rust) = row.split_once(" ⇒ ").unwrap();
             assert_eq!(erased(source).as_deref(), Ok(rust), "{source}");
@@ -222,7 +222,7 @@ mod tests {
     }
 
     #[test]
-    fn what_is_refused() {
+    fn refuses_unknown_forms() {
         for source in [
             "ghost fn f() {} fn g();",
             "ghost a = 1;",
@@ -247,7 +247,7 @@ mod tests {
     }
 
     #[test]
-    fn declared() {
+    fn finds_declared_modules() {
         let all = tokens("mod a;\npub mod b;\nmod c {}\n// mod d;\nuse mod_e;").unwrap();
         assert_eq!(modules(&all), ["a", "b"]);
     }

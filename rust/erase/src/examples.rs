@@ -112,7 +112,7 @@ mod tests {
     }
 
     #[test]
-    fn pages() {
+    fn takes_each_example_once() {
         let mut examples = examples();
         for (item, example) in [
             ("S", Some("```\n/// # Ok(())\n/// ```")),
@@ -134,7 +134,7 @@ mod tests {
     }
 
     #[test]
-    fn places() {
+    fn writes_examples_below_docs() {
         let source = "impl<T> S<T> {
                 /// A.
                 pub fn a() {}
@@ -158,7 +158,7 @@ mod tests {
     }
 
     #[test]
-    fn what_is_refused() {
+    fn refuses_items_without_docs_or_example() {
         for row in [
             "/// A.\nconst A: u8 = 1;\npub struct S; ⇒ `S` has no summary",
             "struct A {\n/// X.\nx: u8 }\npub struct S; ⇒ `S` has no summary",

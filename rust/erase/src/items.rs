@@ -343,7 +343,7 @@ mod tests {
     ];
 
     #[test]
-    fn clauses_of_items() {
+    fn lists_each_clause() {
         for row in CLAUSES {
             let (source, expected) = row.split_once(" ⇒ ").unwrap();
             let mut found = Vec::new();
@@ -395,7 +395,7 @@ mod tests {
     ];
 
     #[test]
-    fn what_is_public() {
+    fn tells_public_items() {
         for row in PUBLIC {
             let (source, expected) = row.split_once(" ⇒ ").unwrap();
             let items = items(&tokens(source).unwrap()).unwrap();

@@ -101,7 +101,7 @@ mod tests {
     }
 
     #[test]
-    fn where_they_bind() {
+    fn a_mark_is_of_the_item_below_it() {
         for (source, expected) in [
             ("// erase: const\nfn f() {}", &[1][..]),
             (
@@ -145,7 +145,7 @@ mod tests {
     ];
 
     #[test]
-    fn what_is_refused() {
+    fn refuses_marks_without_an_item() {
         for row in REFUSED {
             let (source, words) = row.split_once(" ⇒ ").unwrap();
             assert_eq!(lines(source), Err(words.to_string()), "{source}");

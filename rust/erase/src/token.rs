@@ -156,7 +156,7 @@ mod tests {
     }
 
     #[test]
-    fn quotes() {
+    fn reads_quotes_and_names() {
         assert_eq!(
             solid_texts(r#"b'.' '\'' 'a "}\"" b"x" bee"#),
             ["b'.'", r"'\''", "'a", r#""}\"""#, "b\"x\"", "bee"]
@@ -168,7 +168,7 @@ mod tests {
     }
 
     #[test]
-    fn lines_of_faults() {
+    fn faults_have_their_lines() {
         let line = |source| tokens(source).unwrap_err().line;
         assert_eq!(line("fn f() {\n\n)"), 3);
         assert_eq!(line("\nfn f() {"), 2);

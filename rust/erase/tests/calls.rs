@@ -95,7 +95,7 @@ fn names(row: &str, module: &str, name: &str) -> bool {
 }
 
 #[test]
-fn in_the_crate() {
+fn what_the_crate_lacks_has_a_reason() {
     let list = include_str!("../../const-oid/public-items.txt");
     let here = functions(list);
     let calls = of_source("crates/const_oid/src");
@@ -120,7 +120,7 @@ fn in_the_crate() {
 }
 
 #[test]
-fn in_c() {
+fn what_c_lacks_has_a_reason() {
     let (calls, of_c) = (
         of_source("crates/const_oid/src"),
         of_source("crates/const_oid_c/src"),
