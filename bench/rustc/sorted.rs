@@ -68,59 +68,51 @@ fn keys(row: &str, oids: &[ObjectIdentifier]) -> Vec<ObjectIdentifier> {
     }
 }
 
-fn in_c(row: &str, oids: &[ObjectIdentifier], times: usize) -> usize {
-    let items: Vec<Octets> = oids
-        .iter()
-        .map(|oid| Octets {
-            octets: oid.as_bytes().as_ptr(),
-            len: oid.as_bytes().len(),
-        })
-        .collect();
-    let (list, count) = (items.as_ptr(), items.len());
-    let keys = keys(row, oids);
-    let search = |call: Search| {
-        let mut sum = 0usize;
-        for time in 0..times {
-            let key = keys[time % keys.len()].as_bytes();
-            // SAFETY: the pointers and lengths are those of slices.
-            let status = unsafe { call(key.as_ptr(), key.len(), black_box(list), count) };
-            sum = sum.wrapping_add(if status.code == 0 {
-                status.len
-            } else {
-                NOTHING
-            });
-        }
-        sum
-    };
-    match row {
-        "find" => search(const_oid_find),
-        "next" => search(const_oid_next),
-        "nearest" => search(const_oid_nearest),
-        "subtree" => {
-            let mut sum = 0usize;
-            for time in 0..times {
-                let key = keys[time % keys.len()].as_bytes();
-                let mut range = Range { start: 0, end: 0 };
-                // SAFETY: as above.
-                unsafe {
-                    const_oid_subtree_range(
-                        key.as_ptr(),
-                        key.len(),
-                        black_box(list),
-                        count,
-                        &mut range,
-                    )
-                };
-                sum = sum.wrapping_add(range.end - range.start);
-            }
-            sum
-        }
-        // SAFETY: as above.
-        "check" => (0..times)
-            .filter(|_| unsafe { const_oid_check_sorted(black_box(list), count) }.code == 0)
-            .count(),
-        _ => panic!("no such row"),
+/// What a search returns: an index, or `NOTHING`.
+fn search(call: Search, key: &[u8], items: &[Octets]) -> usize {
+    // SAFETY: the pointers and lengths are those of slices.
+    let status = unsafe { call(key.as_ptr(), key.len(), items.as_ptr(), items.len()) };
+    if status.code == 0 {
+        status.len
+    } else {
+        NOTHING
     }
+}
+
+fn subtree(key: &[u8], items: &[Octets]) -> usize {
+    let mut range = Range { start: 0, end: 0 };
+    let (list, count) = (items.as_ptr(), items.len());
+    // SAFETY: as above.
+    unsafe { const_oid_subtree_range(key.as_ptr(), key.len(), list, count, &mut range) };
+    range.end - range.start
+}
+
+fn check(items: &[Octets]) -> usize {
+    // SAFETY: as above.
+    usize::from(unsafe { const_oid_check_sorted(items.as_ptr(), items.len()) }.code == 0)
+}
+
+fn in_c(row: &str, oids: &[ObjectIdentifier], times: usize) -> usize {
+    let octets_of = |oid: &ObjectIdentifier| Octets {
+        octets: oid.as_bytes().as_ptr(),
+        len: oid.as_bytes().len(),
+    };
+    let items: Vec<Octets> = oids.iter().map(octets_of).collect();
+    let call: fn(&[u8], &[Octets]) -> usize = match row {
+        "find" => |key, items| search(const_oid_find, key, items),
+        "next" => |key, items| search(const_oid_next, key, items),
+        "nearest" => |key, items| search(const_oid_nearest, key, items),
+        "subtree" => subtree,
+        "check" => |_, items| check(items),
+        _ => panic!("no such row"),
+    };
+    let keys = keys(row, oids);
+    let mut sum = 0usize;
+    for time in 0..times {
+        let key = keys[time % keys.len()].as_bytes();
+        sum = sum.wrapping_add(call(key, black_box(&items)));
+    }
+    sum
 }
 
 fn in_crate(row: &str, oids: &[ObjectIdentifier], times: usize) -> usize {

@@ -247,25 +247,30 @@ fn read_arcs<const N: usize>(arcs: &[Arc]) {
     }
 }
 
+/// What an owned identifier lends: each form is over its octets.
+fn check_forms<const N: usize>(oid: &ObjectIdentifier<N>, borrowed: &ObjectIdentifierRef) {
+    let deref: &ObjectIdentifierRef = oid;
+    let (borrow, as_ref, from): (
+        &ObjectIdentifierRef,
+        &ObjectIdentifierRef,
+        &ObjectIdentifierRef,
+    ) = (oid.borrow(), oid.as_ref(), oid.into());
+    for form in [deref, borrow, as_ref, from, oid.as_oid_ref()] {
+        assert_eq!(
+            form.as_bytes().as_ptr_range(),
+            oid.as_bytes().as_ptr_range()
+        );
+        assert!(*form == *oid && form == borrowed);
+    }
+}
+
 /// The functions of a valid identifier, owned.
 fn check_owned<const N: usize>(octets: &[u8], arcs: &[Arc]) {
     let borrowed = ObjectIdentifierRef::from_bytes(octets).unwrap();
     let copied = ObjectIdentifier::<N>::try_from(borrowed);
     assert_eq!(copied, ObjectIdentifier::from_bytes_sized(octets));
     let Ok(oid) = copied else { return };
-    let deref: &ObjectIdentifierRef = &oid;
-    let (borrow, as_ref, from): (
-        &ObjectIdentifierRef,
-        &ObjectIdentifierRef,
-        &ObjectIdentifierRef,
-    ) = (oid.borrow(), oid.as_ref(), (&oid).into());
-    for form in [deref, borrow, as_ref, from, oid.as_oid_ref()] {
-        assert_eq!(
-            form.as_bytes().as_ptr_range(),
-            oid.as_bytes().as_ptr_range()
-        );
-        assert!(*form == oid && form == borrowed);
-    }
+    check_forms(&oid, borrowed);
     let slice: &[u8] = oid.as_ref();
     assert_eq!(
         (slice, oid.as_bytes(), oid.len()),
