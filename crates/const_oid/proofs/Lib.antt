@@ -17,10 +17,10 @@ pub mod Texts
 pub mod Ascii
 pub mod Children
 pub mod PartsFault
-pub mod TextPass
 pub mod Octets
 pub mod Written
 pub mod Started
+pub mod Pieces
 pub mod PartBounds
 pub mod Parents
 pub mod Printed

@@ -3,13 +3,13 @@
 //! A text is read piece by piece. Where a piece is wrong, only an index is returned, and a function that is rarely
 //! called makes the error of it. So a valid text costs fewer instructions (docs/SPEED.md).
 
-ghost use Rattle.std.specs.Prelude.{◌≡◌, ◌≤◌, ◌<◌, ◌-◌, ◌+◌, ◌==◌, ℕ, List, true, false, drop, length, get_or, min, if◌then◌else◌, Err, MatchResult};
+ghost use Rattle.std.specs.Prelude.{◌≡◌, ◌≤◌, ◌<◌, ◌-◌, ◌+◌, ℕ, false, drop, length, get_or, min, Err, MatchResult};
 ghost use Rattle.std.specs.Bool.{then_some};
 ghost use Rattle.std.specs.Char.{is_ascii_digit};
 ghost use Rattle.const_oid.specs.Private.Encoder.{buffer_answer, HasEncoding};
-ghost use Rattle.const_oid.specs.Private.Parser.{text_pass, stop_fault, GoesOnBy, IsPiece, IsRoot};
-ghost use Rattle.const_oid.specs.Identifier.{root_rule, max_arc};
-ghost use Rattle.const_oid.specs.Text.{is_empty, text_answer};
+ghost use Rattle.const_oid.specs.Private.Parser.{or_trailing, stop_fault, AreDigits, HasFault, IsPiece, IsRoot};
+ghost use Rattle.const_oid.specs.Identifier.{root_rule};
+ghost use Rattle.const_oid.specs.Text.{text_answer};
 
 use crate::Arc;
 use crate::buffer::Buffer;
@@ -94,8 +94,7 @@ fn read_root(text: &[u8]) -> Result<(u64, usize)>
 fn read_piece(text: &[u8], start: usize) -> result::Result<(Arc, usize), usize>
     requires { start ≤ length text.now }
     ensures { MatchResult result (λ piece. IsPiece text.now start piece.0 piece.1)
-        (λ index. (capacity : ℕ) (before : List ℕ) → is_empty before ≡ (start == 0)
-        → text_pass root_rule capacity before false 0 (drop start text.now) ≡ Err (stop_fault text.now start index)) }
+        (λ index. HasFault text.now start (stop_fault text.now start index)) }
 {
     if start >= text.len() {
         return Err(start);
@@ -108,7 +107,7 @@ fn read_piece(text: &[u8], start: usize) -> result::Result<(Arc, usize), usize>
     if next < text.len() && text[next] == b'.' {
         return Ok((first as Arc, next));
     }
-    let (number, end) = match read_digits(first, text, next) {
+    let (number, end) = match read_digits(first, text, start) {
         Ok(read) => read,
         Err(index) => return Err(index),
     };
@@ -118,22 +117,19 @@ fn read_piece(text: &[u8], start: usize) -> result::Result<(Arc, usize), usize>
     Ok((number, end))
 }
 
-/// A number that goes on by the digits from an index on, and where these end. `Err` is the digit that makes it too big
-/// for an arc.
+/// The number of the digits that start at an index, by the first of them, and where they end. `Err` is the digit that
+/// makes it too big for an arc.
 // erase: const
 #[inline(always)]
 fn read_digits(first: u64, text: &[u8], start: usize) -> result::Result<(Arc, usize), usize>
-    requires small { first ≤ max_arc }
-    requires within { start ≤ length text.now }
+    requires { AreDigits text.now start first (start + 1) }
     ensures { MatchResult result
-        (λ read. GoesOnBy text.now true first start read.0 read.1
+        (λ read. AreDigits text.now start read.0 read.1
         × (read.1 < length text.now → is_ascii_digit (get_or text.now read.1 0) ≡ false))
-        (λ index. (index < length text.now) × (is_ascii_digit (get_or text.now index 0) ≡ true)
-        × ((capacity : ℕ) (before : List ℕ)
-        → text_pass root_rule capacity before true first (drop start text.now) ≡ Err Error.ArcTooBig)) }
+        (λ index. HasFault text.now start (stop_fault text.now start index)) }
 {
     let mut number = first;
-    let mut index = start;
+    let mut index = start + 1;
     while index < text.len() {
         let Some(digit) = digit(text[index]) else {
             break;
@@ -180,7 +176,7 @@ const fn piece_fault(text: &[u8], start: usize, index: usize) -> Error
 /// The fault of an arc whose piece ends at an index, or `TrailingDot` where an empty last piece follows.
 const fn or_trailing_dot(fault: Error, text: &[u8], end: usize) -> Error
     requires { end ≤ length text.now }
-    ensures { result ≡ (if end + 1 == length text.now then Error.TrailingDot else fault) }
+    ensures { result ≡ or_trailing fault (drop end text.now) }
 {
     if end + 1 == text.len() {
         Error::TrailingDot

@@ -1,39 +1,29 @@
--- What a parser finds where a piece ends, and what the bytes after it come to.
-use Rattle.std.specs.Prelude.{◌≡◌, ℕ, ◌+◌, ◌-◌, ◌*◌, ◌<◌, ◌≤◌, ◌==◌, ◌&&◌, not, Bool, true, false, List, [], ◌∷◌, ◌++◌, length, drop, get_or}
-use Rattle.std.specs.Prelude.{nat_lt, if◌then◌else◌, Option, Some, None, option_map, unwrap_or, Result, Err}
-use Rattle.std.specs.{Bool.{then_some}, Char.{is_ascii_digit}, Option.{option_or}}
+-- What a parser finds of one piece of a text, and of the first two.
+use Rattle.std.specs.Prelude.{◌≡◌, ℕ, ◌+◌, ◌*◌, ◌<◌, ◌≤◌, ◌==◌, ◌&&◌, not, List, [], ◌∷◌, ◌++◌, length, map, drop, get_or}
+use Rattle.std.specs.Prelude.{nat_lt, if◌then◌else◌, Option, Some, None, Result, Err}
+use Rattle.std.specs.Char.{is_ascii_digit}
 use Rattle.const_oid.specs.declared.error.Error.{Error}
 use Rattle.const_oid.specs.declared.error.Error.TheVariants.{ArcTooBig, DigitExpected, Empty, RepeatedDot, TrailingDot}
-use Rattle.const_oid.specs.{Error.{answer}, Identifier.{RootRule, root_rule, max_arc, max_second}, Items.{arc_fault, too_few_fault}}
-use Rattle.const_oid.specs.Text.{dot, is_empty, empty_fault, text_answer}
+use Rattle.const_oid.specs.{Error.{answer}, Identifier.{root_rule, max_arc, max_second}, Items.{arc_fault}}
+use Rattle.const_oid.specs.Text.{dot, is_empty, number_of, pieces_of, pieces_fault, text_answer, IsNumber}
 
--- the fault of a piece that a dot ends: by the arcs before it, its number if it has digits, and whether the text ends
-abbrev pub dot_fault : RootRule → ℕ → List ℕ → Option ℕ → Bool → Option Error
-dot_fault rule capacity before None ends = Some (if is_empty before then DigitExpected dot else RepeatedDot)
-dot_fault rule capacity before (Some arc) ends =
-    if ends then option_map (λ fault. TrailingDot) (arc_fault rule capacity before arc)
-    else arc_fault rule capacity before arc
+-- the answer of pieces after some arcs
+abbrev pub pieces_answer : ℕ → List ℕ → List (List ℕ) → Result (List ℕ) Error
+pieces_answer capacity before pieces = answer (pieces_fault root_rule capacity before pieces) (before ++ map number_of pieces)
 
--- the fault of the last piece at the end of the text, by the arcs before it and its number if it has digits
-abbrev pub last_fault : RootRule → ℕ → List ℕ → Option ℕ → Option Error
-last_fault rule capacity before None = Some (empty_fault before [])
-last_fault rule capacity before (Some arc) = arc_fault rule capacity before arc
+-- the pieces that come after one, by the bytes after it: a dot and theirs, or nothing
+abbrev pub pieces_then : List ℕ → List (List ℕ)
+pieces_then [] = []
+pieces_then (_ ∷ bytes) = pieces_of bytes
 
--- the answer of the rest of a text, after the arcs before, by whether a piece is begun and its number so far
-abbrev pub text_pass : RootRule → ℕ → List ℕ → Bool → ℕ → List ℕ → Result (List ℕ) Error
-text_pass rule capacity before begun number [] =
-    let piece = then_some begun number in
-    let arcs = before ++ unwrap_or piece 0 ∷ [] in
-    answer (option_or (last_fault rule capacity before piece) (too_few_fault arcs)) arcs
-text_pass rule capacity before begun number (b ∷ bs) =
-    let longer = number * 10 + (b - 48) in
-    let piece = then_some begun number in
-    if is_ascii_digit b
-    then (if nat_lt max_arc longer then Err ArcTooBig else text_pass rule capacity before true longer bs)
-    else (if b == 46
-    then unwrap_or (option_map (λ fault. Err fault) (dot_fault rule capacity before piece (is_empty bs)))
-    (text_pass rule capacity (before ++ unwrap_or piece 0 ∷ []) false 0 bs)
-    else Err (DigitExpected b))
+-- the fault of an arc, by the bytes after its piece: `TrailingDot` where an empty last piece follows
+abbrev pub or_trailing : Error → List ℕ → Error
+or_trailing fault bytes = if length bytes == 1 then TrailingDot else fault
+
+-- the answer of an arc, by the bytes after its piece and the fault of the arc
+abbrev pub arc_answer : ℕ → List ℕ → ℕ → List ℕ → Option Error → Result (List ℕ) Error
+arc_answer capacity before arc bytes None = pieces_answer capacity (before ++ arc ∷ []) (pieces_then bytes)
+arc_answer capacity before arc bytes (Some fault) = Err (or_trailing fault bytes)
 
 -- the fault of a piece that starts at an index and goes wrong at another one
 abbrev pub stop_fault : List ℕ → ℕ → ℕ → Error
@@ -43,17 +33,27 @@ stop_fault text start index =
     then (if is_ascii_digit b then ArcTooBig else if b == dot && not (start == 0) then RepeatedDot else DigitExpected b)
     else (if start == 0 then Empty else TrailingDot)
 
--- a number goes on by the bytes from an index on: up to another one, it is that of an arc
-pub record GoesOnBy (text : List ℕ) (begun : Bool) (number start longer end : ℕ) : Type 0 where
-  pub same : (capacity : ℕ) (before : List ℕ) → text_pass root_rule capacity before begun number (drop start text)
-      ≡ text_pass root_rule capacity before true longer (drop end text)
-  pub small : longer ≤ max_arc
-  pub further : start ≤ end
+-- the piece that starts at an index has a fault; no arcs are before the first one alone
+abbrev pub HasFault : List ℕ → ℕ → Error → Type 0
+HasFault text start fault = (capacity : ℕ) (before : List ℕ) → is_empty before ≡ (start == 0)
+    → pieces_fault root_rule capacity before (pieces_of (drop start text)) ≡ Some fault
+
+-- the bytes from an index up to another one are digits, of the number of an arc
+pub record AreDigits (text : List ℕ) (start number end : ℕ) : Type 0 where
+  pub digits : List ℕ
+  pub are : IsNumber digits
+  pub value : number ≡ number_of digits
+  pub small : number ≤ max_arc
+  pub bytes : drop start text ≡ digits ++ drop end text
   pub within : end ≤ length text
 
--- the piece that starts at an index is a number, and ends at another one
-abbrev pub IsPiece : List ℕ → ℕ → ℕ → ℕ → Type 0
-IsPiece text start number end = GoesOnBy text false 0 start number end × (end < length text → get_or text end 0 ≡ dot)
+-- the piece that starts at an index is the number of an arc, and ends at another one
+pub record IsPiece (text : List ℕ) (start number end : ℕ) : Type 0 where
+  pub same : (capacity : ℕ) (before : List ℕ) → pieces_answer capacity before (pieces_of (drop start text))
+      ≡ arc_answer capacity before number (drop end text) (arc_fault root_rule capacity before number)
+  pub small : number ≤ max_arc
+  pub further : start < end
+  pub within : end ≤ length text
 
 -- the first two pieces are arcs with a subidentifier, and end at an index
 pub record IsRoot (text : List ℕ) (root end : ℕ) : Type 0 where
@@ -63,6 +63,5 @@ pub record IsRoot (text : List ℕ) (root end : ℕ) : Type 0 where
   pub low : first ≤ 2
   pub high : second ≤ max_second root_rule first
   pub same : (capacity : ℕ) → text_answer root_rule text capacity
-      ≡ text_pass root_rule capacity (first ∷ []) true second (drop end text)
+      ≡ arc_answer capacity (first ∷ []) second (drop end text) (arc_fault root_rule capacity (first ∷ []) second)
   pub within : end ≤ length text
-  pub dot : end < length text → get_or text end 0 ≡ dot

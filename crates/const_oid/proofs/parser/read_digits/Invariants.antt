@@ -1,9 +1,9 @@
-use Rattle.std.proofs.Common.{length, true, ◌-◌}
-use Rattle.const_oid.specs.Private.Parser.{GoesOnBy}
+use Rattle.std.proofs.Common.{length, ◌-◌}
+use Rattle.const_oid.specs.Private.Parser.{AreDigits}
 use Rattle.const_oid.proofs.parser.read_digits.Given as goal
 
 abbrev pub invariant-loop-index : goal.invariant-loop-index
-invariant-loop-index l = GoesOnBy l.text true l.first l.start l.number l.index
+invariant-loop-index l = AreDigits l.text l.start l.number l.index
 
 abbrev pub decreases-loop-index : goal.decreases-loop-index
 decreases-loop-index l = length l.text - l.index

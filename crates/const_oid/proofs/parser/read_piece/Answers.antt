@@ -1,30 +1,23 @@
-use Rattle.std.proofs.Common.{arith, ◌∙◌, refl, lt-ltb}
-use Rattle.std.proofs.lemmas.{Bool.Decides.nat_tests, List.drop_more}
-use Rattle.const_oid.proofs.TextPass.{first_digit}
+use Rattle.std.proofs.Common.{arith}
+use Rattle.std.proofs.lemmas.{Bool.Decides.nat_tests}
+use Rattle.const_oid.proofs.Pieces.{first_read, piece_read, byte_fault, first_fault}
 use Rattle.const_oid.proofs.parser.read_piece.Goals as goal
 
-pub returns-in-Err : goal.returns-in-Err
-returns-in-Err c = λ capacity before e.
-    let (less, digit, wrong) = c.in-Err.ensures in
-    first_digit c.args.text.now c.args.start c.in-Some.first (omega (arith, c.if-start-text.false, c.requires)) c.in-Some.ensures capacity before
-    ∙ wrong capacity before ∙ rw (lt-ltb _ _ less, digit) refl
+pub returns-in_default : goal.returns-in_default
+returns-in_default c =
+    first_fault c.args.text.now c.args.start c.if-start-text.false (grind (arith, nat_tests, c.in_default.ensures))
+
+pub returns-then-text-next-eq46 : goal.returns-then-text-next-eq46
+returns-then-text-next-eq46 c =
+    piece_read (first_read c.args.text.now c.args.start c.if-start-text.false c.in-Some.ensures) (λ less. c.if-text-next-eq46.true)
+
+pub read_digits-requires : goal.read_digits-requires
+read_digits-requires c = first_read c.args.text.now c.args.start c.if-start-text.false c.in-Some.ensures
 
 pub returns-then-text-end-ne46 : goal.returns-then-text-end-ne46
-returns-then-text-end-ne46 c = λ capacity before e.
-    let (read, stops) = c.in-Ok.ensures in
+returns-then-text-end-ne46 c =
     let less = c.if-end-text.true in
-    first_digit c.args.text.now c.args.start c.in-Some.first (omega (arith, c.if-start-text.false, c.requires)) c.in-Some.ensures capacity before
-    ∙ read.same capacity before ∙ rw (drop_more c.args.text.now c.in-Ok.read.1 0 less, stops less) (grind (arith, nat_tests))
+    byte_fault c.in-Ok.ensures.0 less (c.in-Ok.ensures.1 less) (grind (arith, nat_tests))
 
 pub returns : goal.returns
-returns c =
-    let (read, stops) = c.in-Ok.ensures in
-    let more = first_digit c.args.text.now c.args.start c.in-Some.first (omega (arith, c.if-start-text.false, c.requires)) c.in-Some.ensures in (
-      record {
-        same = λ capacity before. more capacity before ∙ read.same capacity before;
-        small = read.small;
-        further = omega (arith, read.further);
-        within = read.within;
-      },
-      grind (arith, nat_tests),
-    )
+returns c = piece_read c.in-Ok.ensures.0 (grind (arith, nat_tests))

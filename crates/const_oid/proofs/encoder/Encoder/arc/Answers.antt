@@ -10,18 +10,18 @@ after_push : (g : Over) (c : After-push_group g) → IsPushed root_rule (min g.r
 after_push g c =
     let old = c.self.inside in
     let number = c.if-len-gt0.number in
-    let n : Encodes root_rule old.first (octets_of old.octets) c.args.self.now c.args.arc number =
+    let encodes : Encodes root_rule (octets_of old.octets) c.args.self.now c.args.arc number =
     elim c.if-len-gt0.branch [
       | then-len-gt0 w ↦
-          later_number root_rule old.first _ _ c.args.arc _ (omega (arith, w.if-len-gt0.true, c.len.ensures.value))
-          c.self.invariant c.self.view_is (omega arith) w.number-is
+          rw w.number-is (later_number root_rule old.first _ _ c.args.arc (omega (arith, w.if-len-gt0.true, c.len.ensures.value))
+          c.self.invariant c.self.view_is (omega arith))
       | else-len-gt0+in-Some+else-arc-max_second w ↦
-          second_number root_rule old.first _ _ w.in-Some.first c.args.arc _
-          (omega (arith, w.if-len-gt0.false, c.len.ensures.value)) w.in-Some.is
-          c.self.invariant c.self.view_is (omega (arith, w.max_second.ensures)) w.number-is
+          rw w.number-is (second_number root_rule w.in-Some.first _ _ c.args.arc
+          (omega (arith, w.if-len-gt0.false, c.len.ensures.value)) (rw w.in-Some.is at c.self.invariant)
+          (rw w.in-Some.is at c.self.view_is) (omega (arith, w.max_second.ensures)))
     ] in
     let push = c.push_group in
-    pushed root_rule (min g.row.SIZE 255) old.first _ (octets_of push.new.self) _ c.args.arc number push.result n
+    pushed root_rule (min g.row.SIZE 255) old.first _ (octets_of push.new.self) _ c.args.arc number push.result encodes
     c.self.invariant c.self.view_is push.ensures
 
 pub invariant_of-self-2 : goal.invariant_of-self-2

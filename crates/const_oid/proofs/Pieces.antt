@@ -1,0 +1,238 @@
+-- What the first piece of some bytes comes to, by the digits that it begins with and the byte after them.
+use Rattle.std.proofs.Common.{◌≡◌, ℕ, ◌+◌, ◌-◌, ◌*◌, ◌<◌, ◌≤◌, Bool, true, false, List, [], ◌∷◌, ◌++◌, length, drop, get_or}
+use Rattle.std.proofs.Common.{◌==◌, Option, Some, refl, sym, ◌∙◌, arith, append-nil, take_while}
+use Rattle.std.specs.{Bool.then_some, Char.is_ascii_digit, Str.all_ascii_digits}
+use Rattle.std.proofs.lemmas.{Bool.Decides.nat_tests, List.{take_at, drop_more, drop_all, length-drop}, List.Folds.list_all-append}
+use Rattle.std.proofs.lemmas.{Int.Digits.digits_value_push, List.Splits.{length-slice_split, slice_split_at, slice_split_none}}
+use Rattle.std.proofs.lemmas.Str.Parse.{digits_value-take-le}
+use Rattle.std.proofs.Common.{length-append, get_or-drop, if◌then◌else◌, ap, Result, Ok, Err, MatchResult}
+use Rattle.const_oid.specs.{Identifier.{root_rule, max_arc}, Items.arc_fault}
+use Rattle.const_oid.specs.declared.error.Error.{Error}
+use Rattle.const_oid.specs.declared.error.Error.TheVariants.{ArcInvalid, ArcTooBig, DigitExpected, Length, RepeatedDot}
+use Rattle.const_oid.specs.Private.Parser.{pieces_answer, pieces_then, or_trailing, arc_answer, stop_fault, AreDigits, HasFault, IsPiece, IsRoot}
+use Rattle.const_oid.specs.Text.{pieces_of, number_of, is_empty, is_one_empty, pieces_fault, text_answer, IsNumber}
+use Rattle.const_oid.specs.{Contents.arcs_of_octets, Base128.width, Private.Octets.IsAppended, Identifier.{IsEncoding, IsIdentifier}}
+use Rattle.const_oid.proofs.{Lists.append-cons, Started.{Encodes, root_encodes, later_encodes}, Faults.{none_from_below, some_from_above}}
+use Rattle.const_oid.proofs.Encodings.{arcs_of_encoding, encoding_back}
+use Rattle.const_oid.proofs.Numbers.{number_of_digits, find-none, take_while-digits, find-digits, undotted}
+
+-- ---- digits
+
+digits_push : (digits : List ℕ) (b : ℕ) → all_ascii_digits digits ≡ true → is_ascii_digit b ≡ true
+    → all_ascii_digits (digits ++ b ∷ []) ≡ true
+digits_push digits b are d = rw (list_all-append is_ascii_digit digits (b ∷ []), are, d) refl
+
+number_push : (digits : List ℕ) (b : ℕ) → all_ascii_digits digits ≡ true → is_ascii_digit b ≡ true
+    → number_of (digits ++ b ∷ []) ≡ number_of digits * 10 + (b - 48)
+number_push digits b are d = grind (arith, nat_tests, number_of_digits, digits_push, digits_value_push)
+
+-- a piece that begins with digits has at least their number
+number_more : (digits more : List ℕ) → all_ascii_digits digits ≡ true
+    → number_of digits ≤ number_of (digits ++ more)
+number_more digits more are =
+    let rest = take_while is_ascii_digit more in
+    let least = digits_value-take-le 10 (digits ++ rest) (length digits) (omega arith) in
+    rw (number_of_digits digits are, take_while-digits digits more are)
+    (rw (take_at digits rest (length digits) refl) at least)
+
+-- ---- the pieces of bytes
+
+-- the first piece begins with the digits that the bytes begin with
+begins : (digits more tail : List ℕ) (after : List (List ℕ)) → all_ascii_digits digits ≡ true
+    → pieces_of more ≡ tail ∷ after → pieces_of (digits ++ more) ≡ (digits ++ tail) ∷ after
+begins [] more tail after are e = e
+begins (d ∷ ds) more tail after are e = grind (arith, nat_tests, begins ds more tail after)
+
+some_piece : (bytes : List ℕ) → (tail : List ℕ) × (after : List (List ℕ)) × (pieces_of bytes ≡ tail ∷ after)
+some_piece bytes = some (pieces_of bytes) (omega (arith, length-slice_split (λ b. b == 46) bytes)) where
+  some : (pieces : List (List ℕ)) → 0 < length pieces
+      → (tail : List ℕ) × (after : List (List ℕ)) × (pieces ≡ tail ∷ after)
+  some [] e = absurd (omega (arith, e))
+  some (piece ∷ pieces) e = (piece, pieces, refl)
+
+-- what follows a dot is one empty piece exactly where no byte follows
+one_empty-pieces : (bytes : List ℕ) → is_one_empty (pieces_of bytes) ≡ is_empty bytes
+one_empty-pieces [] = refl
+one_empty-pieces (b ∷ bytes) = grind (arith, nat_tests, length-slice_split (λ b. b == 46) bytes)
+
+module _ (capacity : ℕ) (before : List ℕ) where
+  abbrev fault_of : List ℕ → Option Error
+  fault_of bytes = pieces_fault root_rule capacity before (pieces_of bytes)
+
+  -- ---- a piece without a fault of its own
+
+  number_read : (digits bytes : List ℕ) → IsNumber digits → number_of digits ≤ max_arc
+      → (0 < length bytes → get_or bytes 0 0 ≡ 46) → (fault : Option Error)
+      → arc_fault root_rule capacity before (number_of digits) ≡ fault
+      → pieces_answer capacity before (pieces_of (digits ++ bytes)) ≡ arc_answer capacity before (number_of digits) bytes fault
+  number_read digits [] is small dotted fault e =
+      rw (append-nil digits, slice_split_none (λ b. b == 46) digits (undotted digits is.1))
+      (grind (arith, nat_tests, find-none, append-nil))
+  number_read digits (b ∷ []) is small dotted fault e =
+      rw (slice_split_at (λ b. b == 46) digits b [] (undotted digits is.1) (grind (arith, nat_tests)))
+      (grind (arith, nat_tests, find-none, append-nil))
+  number_read digits (b ∷ c ∷ bytes) is small dotted fault e =
+      rw (slice_split_at (λ b. b == 46) digits b (c ∷ bytes) (undotted digits is.1) (grind (arith, nat_tests)))
+      (grind (arith, nat_tests, find-none, one_empty-pieces (c ∷ bytes), append-cons))
+
+  -- ---- a piece with a fault
+
+  too_big : (digits more : List ℕ) → all_ascii_digits digits ≡ true → max_arc < number_of digits
+      → fault_of (digits ++ more) ≡ Some ArcTooBig
+  too_big digits more are big =
+      let (tail, after, e) = some_piece more in
+      rw (begins digits more tail after are e) (grind (arith, nat_tests, number_more digits tail are))
+
+  no_digit : (digits more : List ℕ) (b : ℕ) → all_ascii_digits digits ≡ true → number_of digits ≤ max_arc
+      → is_ascii_digit b ≡ false → (b == 46) ≡ false → fault_of (digits ++ b ∷ more) ≡ Some (DigitExpected b)
+  no_digit digits more b are small other undotted =
+      let (tail, after, e) = some_piece more in
+      rw (begins digits (b ∷ more) (b ∷ tail) after are (rw (undotted, e) refl))
+      (grind (arith, nat_tests, append-nil, number_of_digits, take_while-digits, find-digits))
+
+  empty_piece : (bytes : List ℕ)
+      → fault_of (46 ∷ bytes) ≡ Some (if is_empty before then DigitExpected 46 else RepeatedDot)
+  empty_piece bytes = grind (arith, nat_tests, length-slice_split (λ b. b == 46) bytes)
+
+-- ---- at an index of a text
+
+-- the first digit
+pub first_read : {digit : ℕ} (text : List ℕ) (start : ℕ) → start < length text
+    → Some digit ≡ then_some (is_ascii_digit (get_or text start 0)) (get_or text start 0 - 48)
+    → AreDigits text start digit (start + 1)
+first_read text start less is = record {
+  digits = get_or text start 0 ∷ [];
+  are = grind (arith, nat_tests);
+  value = grind (arith, nat_tests);
+  small = grind (arith, nat_tests);
+  bytes = drop_more text start 0 less;
+  within = omega arith;
+}
+
+module _ {text : List ℕ} {start number end : ℕ} (read : AreDigits text start number end) where
+  -- the digits and one byte more
+  longer_bytes : end < length text
+      → drop start text ≡ (read.digits ++ get_or text end 0 ∷ []) ++ drop (end + 1) text
+  longer_bytes less =
+      read.bytes ∙ rw (drop_more text end 0 less) (sym (append-cons read.digits (get_or text end 0) (drop (end + 1) text)))
+
+  module _ {digit : ℕ} (less : end < length text)
+      (is : Some digit ≡ then_some (is_ascii_digit (get_or text end 0)) (get_or text end 0 - 48)) where
+    is_digit : is_ascii_digit (get_or text end 0) ≡ true
+    is_digit = grind (arith, nat_tests)
+
+    longer_value : number * 10 + digit ≡ number_of (read.digits ++ get_or text end 0 ∷ [])
+    longer_value = rw (read.value, number_push read.digits (get_or text end 0) read.are.1 is_digit) (grind (arith, nat_tests))
+
+    longer_are : IsNumber (read.digits ++ get_or text end 0 ∷ [])
+    longer_are = (grind (arith, length-append), digits_push read.digits (get_or text end 0) read.are.1 is_digit)
+
+    pub digit_read : number * 10 + digit ≤ max_arc → AreDigits text start (number * 10 + digit) (end + 1)
+    digit_read small = record {
+      digits = read.digits ++ get_or text end 0 ∷ [];
+      are = longer_are;
+      value = longer_value;
+      small = small;
+      bytes = longer_bytes less;
+      within = omega arith;
+    }
+
+    pub big_fault : max_arc < number * 10 + digit → HasFault text start (stop_fault text start end)
+    big_fault big capacity before none =
+        let digits = read.digits ++ get_or text end 0 ∷ [] in
+        rw (longer_bytes less)
+        (too_big capacity before digits (drop (end + 1) text) longer_are.1 (rw longer_value at big) ∙ grind (arith, nat_tests))
+
+  pub piece_read : (end < length text → get_or text end 0 ≡ 46) → IsPiece text start number end
+  piece_read dotted = record {
+    same = λ capacity before.
+        rw (read.bytes, read.value)
+        (number_read capacity before read.digits (drop end text) read.are (rw read.value at read.small)
+        (grind (arith, length-drop, get_or-drop)) _ refl);
+    small = read.small;
+    further = grind (arith, length-drop, length-append, ap length read.bytes);
+    within = read.within;
+  }
+
+  -- the byte after the digits is neither a digit nor a dot
+  pub byte_fault : end < length text → is_ascii_digit (get_or text end 0) ≡ false → (get_or text end 0 == 46) ≡ false
+      → HasFault text start (stop_fault text start end)
+  byte_fault less other undotted capacity before none =
+      rw (read.bytes, drop_more text end 0 less)
+      (no_digit capacity before read.digits (drop (end + 1) text) (get_or text end 0) read.are.1 (rw read.value at read.small) other
+      undotted ∙ grind (arith, nat_tests))
+
+-- the first byte is no digit
+pub first_fault : (text : List ℕ) (start : ℕ) → start < length text → is_ascii_digit (get_or text start 0) ≡ false
+    → HasFault text start (stop_fault text start start)
+first_fault text start less other capacity before none = rw (drop_more text start 0 less) (by_dot (get_or text start 0 == 46) refl) where
+  by_dot : (dotted : Bool) → (get_or text start 0 == 46) ≡ dotted
+      → fault_of capacity before (get_or text start 0 ∷ drop (start + 1) text) ≡ Some (stop_fault text start start)
+  by_dot true dotted =
+      let is_dot : get_or text start 0 ≡ 46 = grind (arith, nat_tests) in
+      rw is_dot (empty_piece capacity before (drop (start + 1) text) ∙ grind (arith, nat_tests))
+  by_dot false dotted =
+      no_digit capacity before [] (drop (start + 1) text) (get_or text start 0) refl (omega arith) other dotted
+      ∙ grind (arith, nat_tests)
+
+-- there is no byte
+pub end_fault : (text : List ℕ) (start : ℕ) → length text ≤ start → HasFault text start (stop_fault text start start)
+end_fault text start last capacity before none = rw (drop_all start text last) (grind (arith, nat_tests))
+
+-- ---- the octets of the pieces so far
+
+-- after the first piece, the second one
+pub root_taken : {text : List ℕ} {first end : ℕ} (capacity : ℕ) → IsPiece text 0 first end → first ≤ 2 → end < length text
+    → text_answer root_rule text capacity ≡ pieces_answer capacity (first ∷ []) (pieces_of (drop (end + 1) text))
+root_taken {text} {first} {end} capacity piece low less =
+    piece.same capacity [] ∙ rw (none_from_below 2 first (ArcInvalid first) low, drop_more text end 0 less) refl
+
+-- the octets are the encoding of the arcs of the pieces that end at an index or before
+pub record IsReadTo (capacity : ℕ) (text octets : List ℕ) (end : ℕ) : Type 0 where
+  pub encoding : IsEncoding root_rule (arcs_of_octets octets) octets
+  pub answer : text_answer root_rule text capacity
+      ≡ pieces_answer capacity (arcs_of_octets octets) (pieces_then (drop end text))
+  pub within : end ≤ length text
+
+-- what becomes of them by a piece, whose group is appended or does not fit
+abbrev BecomesBy : ℕ → List ℕ → List ℕ → ℕ → Result (Unit {0}) Error → Type 0
+BecomesBy capacity text longer end result = MatchResult result (λ _. IsReadTo capacity text longer end)
+    (λ fault. text_answer root_rule text capacity ≡ Err (or_trailing fault (drop end text)))
+
+pub later_fault : {capacity : ℕ} {text octets : List ℕ} {place : ℕ} (fault : Error) → IsReadTo capacity text octets place
+    → place < length text → HasFault text (place + 1) fault → text_answer root_rule text capacity ≡ Err fault
+later_fault {capacity} {text} {octets} {place} fault read less has =
+    read.answer ∙ rw (drop_more text place 0 less, has capacity (arcs_of_octets octets) (some_arc _ read.encoding.identifier)) refl where
+      some_arc : (arcs : List ℕ) → IsIdentifier root_rule arcs → is_empty arcs ≡ (place + 1 == 0)
+      some_arc [] identifier = absurd identifier
+      some_arc (arc ∷ arcs) identifier = grind (arith, nat_tests)
+
+module _ (capacity : ℕ) (text longer : List ℕ) where
+  becomes : {before octets : List ℕ} {arc number : ℕ} (end : ℕ) → Encodes root_rule octets before arc number
+      → text_answer root_rule text capacity
+      ≡ arc_answer capacity before arc (drop end text) (arc_fault root_rule capacity before arc) → end ≤ length text
+      → (result : Result (Unit {0}) Error) → IsAppended capacity number octets longer result
+      → BecomesBy capacity text longer end result
+  becomes {octets} {number} end encodes read within (Ok done) (fits, on) =
+      let none = encodes.fault capacity ∙ none_from_below capacity (length octets + width number) Length fits in
+      let encoding = encodes.step longer on in
+      record {
+        encoding = encoding_back encoding;
+        answer = read ∙ rw (none, arcs_of_encoding encoding) refl;
+        within = within;
+      }
+  becomes {octets} {number} end encodes read within (Err fault) (is, long, same) =
+      read ∙ rw (encodes.fault capacity, some_from_above capacity (length octets + width number) Length long, is) refl
+
+  pub root_becomes : {number end : ℕ} → IsRoot text number end → (result : Result (Unit {0}) Error)
+      → IsAppended capacity number [] longer result → BecomesBy capacity text longer end result
+  root_becomes {end} root result appended =
+      becomes end (root_encodes root_rule root.first root.second root.low root.high) (root.same capacity) root.within result
+      (rw root.number at appended)
+
+  pub later_becomes : {octets : List ℕ} {arc place end : ℕ} → IsReadTo capacity text octets place
+      → place < length text → IsPiece text (place + 1) arc end → (result : Result (Unit {0}) Error)
+      → IsAppended capacity arc octets longer result → BecomesBy capacity text longer end result
+  later_becomes {octets} {arc} {place} {end} read less piece =
+      becomes end (later_encodes root_rule octets (arcs_of_octets octets) arc read.encoding piece.small)
+      (read.answer ∙ rw (drop_more text place 0 less) (piece.same capacity (arcs_of_octets octets))) piece.within
