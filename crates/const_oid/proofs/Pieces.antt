@@ -1,14 +1,14 @@
 -- What the first piece of some bytes comes to, by the digits that it begins with and the byte after them.
-use Rattle.std.proofs.Common.{◌≡◌, ℕ, ◌+◌, ◌-◌, ◌*◌, ◌<◌, ◌≤◌, Bool, true, false, List, [], ◌∷◌, ◌++◌, length, drop, get_or}
+use Rattle.std.proofs.Common.{◌≡◌, ℕ, ◌+◌, ◌-◌, ◌*◌, ◌<◌, ◌≤◌, ◌≢◌, true, false, List, [], ◌∷◌, ◌++◌, length, drop, get_or}
 use Rattle.std.proofs.Common.{◌==◌, Option, Some, refl, sym, ◌∙◌, arith, append-nil, take_while}
-use Rattle.std.specs.{Bool.then_some, Char.is_ascii_digit, Str.all_ascii_digits}
+use Rattle.std.specs.{List.onto_first, Bool.then_some, Char.is_ascii_digit, Str.all_ascii_digits}
 use Rattle.std.proofs.lemmas.{Bool.Decides.nat_tests, List.{take_at, drop_more, drop_all, length-drop}, List.Folds.list_all-append}
 use Rattle.std.proofs.lemmas.{Int.Digits.digits_value_push, List.Splits.{length-slice_split, slice_split_at, slice_split_none}}
 use Rattle.std.proofs.lemmas.Str.Parse.{digits_value-take-le}
 use Rattle.std.proofs.Common.{length-append, get_or-drop, if◌then◌else◌, ap, Result, Ok, Err, MatchResult}
 use Rattle.const_oid.specs.{Identifier.{root_rule, max_arc}, Items.arc_fault}
 use Rattle.const_oid.specs.declared.error.Error.{Error}
-use Rattle.const_oid.specs.declared.error.Error.TheVariants.{ArcInvalid, ArcTooBig, DigitExpected, Length, RepeatedDot}
+use Rattle.const_oid.specs.declared.error.Error.TheVariants.{ArcInvalid, ArcTooBig, DigitExpected, Length}
 use Rattle.const_oid.specs.Private.Parser.{pieces_answer, pieces_then, or_trailing, arc_answer, stop_fault, AreDigits, HasFault, IsPiece, IsRoot}
 use Rattle.const_oid.specs.Text.{pieces_of, number_of, is_empty, is_one_empty, pieces_fault, text_answer, IsNumber}
 use Rattle.const_oid.specs.{Contents.arcs_of_octets, Base128.width, Private.Octets.IsAppended, Identifier.{IsEncoding, IsIdentifier}}
@@ -44,11 +44,12 @@ begins [] more tail after are e = e
 begins (d ∷ ds) more tail after are e = grind (arith, nat_tests, begins ds more tail after)
 
 some_piece : (bytes : List ℕ) → (tail : List ℕ) × (after : List (List ℕ)) × (pieces_of bytes ≡ tail ∷ after)
-some_piece bytes = some (pieces_of bytes) (omega (arith, length-slice_split (λ b. b == 46) bytes)) where
-  some : (pieces : List (List ℕ)) → 0 < length pieces
-      → (tail : List ℕ) × (after : List (List ℕ)) × (pieces ≡ tail ∷ after)
-  some [] e = absurd (omega (arith, e))
-  some (piece ∷ pieces) e = (piece, pieces, refl)
+some_piece [] = ([], [], refl)
+some_piece (b ∷ bytes) =
+    let (tail, after, e) = some_piece bytes in
+    elim (b == 46) as (λ dotted. (tail : List ℕ) × (after : List (List ℕ))
+    × ((if dotted then [] ∷ pieces_of bytes else onto_first b (pieces_of bytes)) ≡ tail ∷ after))
+    [ true ↦ ([], pieces_of bytes, refl) | false ↦ (b ∷ tail, after, rw e refl) ]
 
 -- what follows a dot is one empty piece exactly where no byte follows
 one_empty-pieces : (bytes : List ℕ) → is_one_empty (pieces_of bytes) ≡ is_empty bytes
@@ -66,14 +67,11 @@ module _ (capacity : ℕ) (before : List ℕ) where
       → arc_fault root_rule capacity before (number_of digits) ≡ fault
       → pieces_answer capacity before (pieces_of (digits ++ bytes)) ≡ arc_answer capacity before (number_of digits) bytes fault
   number_read digits [] is small dotted fault e =
-      rw (append-nil digits, slice_split_none (λ b. b == 46) digits (undotted digits is.1))
-      (grind (arith, nat_tests, find-none, append-nil))
+      grind (arith, nat_tests, find-none, append-nil, slice_split_none (λ b. b == 46) digits, undotted)
   number_read digits (b ∷ []) is small dotted fault e =
-      rw (slice_split_at (λ b. b == 46) digits b [] (undotted digits is.1) (grind (arith, nat_tests)))
-      (grind (arith, nat_tests, find-none, append-nil))
+      grind (arith, nat_tests, find-none, append-nil, slice_split_at (λ b. b == 46), undotted)
   number_read digits (b ∷ c ∷ bytes) is small dotted fault e =
-      rw (slice_split_at (λ b. b == 46) digits b (c ∷ bytes) (undotted digits is.1) (grind (arith, nat_tests)))
-      (grind (arith, nat_tests, find-none, one_empty-pieces (c ∷ bytes), append-cons))
+      grind (arith, nat_tests, find-none, one_empty-pieces (c ∷ bytes), append-cons, slice_split_at (λ b. b == 46), undotted)
 
   -- ---- a piece with a fault
 
@@ -90,10 +88,6 @@ module _ (capacity : ℕ) (before : List ℕ) where
       rw (begins digits (b ∷ more) (b ∷ tail) after are (rw (undotted, e) refl))
       (grind (arith, nat_tests, append-nil, number_of_digits, take_while-digits, find-digits))
 
-  empty_piece : (bytes : List ℕ)
-      → fault_of (46 ∷ bytes) ≡ Some (if is_empty before then DigitExpected 46 else RepeatedDot)
-  empty_piece bytes = grind (arith, nat_tests, length-slice_split (λ b. b == 46) bytes)
-
 -- ---- at an index of a text
 
 -- the first digit
@@ -104,52 +98,40 @@ first_read text start less is = record {
   digits = get_or text start 0 ∷ [];
   are = grind (arith, nat_tests);
   value = grind (arith, nat_tests);
-  small = grind (arith, nat_tests);
   bytes = drop_more text start 0 less;
   within = omega arith;
 }
 
-module _ {text : List ℕ} {start number end : ℕ} (read : AreDigits text start number end) where
-  -- the digits and one byte more
-  longer_bytes : end < length text
-      → drop start text ≡ (read.digits ++ get_or text end 0 ∷ []) ++ drop (end + 1) text
-  longer_bytes less =
-      read.bytes ∙ rw (drop_more text end 0 less) (sym (append-cons read.digits (get_or text end 0) (drop (end + 1) text)))
-
-  module _ {digit : ℕ} (less : end < length text)
-      (is : Some digit ≡ then_some (is_ascii_digit (get_or text end 0)) (get_or text end 0 - 48)) where
-    is_digit : is_ascii_digit (get_or text end 0) ≡ true
-    is_digit = grind (arith, nat_tests)
-
-    longer_value : number * 10 + digit ≡ number_of (read.digits ++ get_or text end 0 ∷ [])
-    longer_value = rw (read.value, number_push read.digits (get_or text end 0) read.are.1 is_digit) (grind (arith, nat_tests))
-
-    longer_are : IsNumber (read.digits ++ get_or text end 0 ∷ [])
-    longer_are = (grind (arith, length-append), digits_push read.digits (get_or text end 0) read.are.1 is_digit)
-
-    pub digit_read : number * 10 + digit ≤ max_arc → AreDigits text start (number * 10 + digit) (end + 1)
-    digit_read small = record {
-      digits = read.digits ++ get_or text end 0 ∷ [];
-      are = longer_are;
-      value = longer_value;
-      small = small;
-      bytes = longer_bytes less;
+-- one more
+pub digit_read : {text : List ℕ} {start number end digit : ℕ} → AreDigits text start number end → end < length text
+    → Some digit ≡ then_some (is_ascii_digit (get_or text end 0)) (get_or text end 0 - 48)
+    → AreDigits text start (number * 10 + digit) (end + 1)
+digit_read {text} {end} read less is =
+    let b = get_or text end 0 in
+    let is_digit : is_ascii_digit b ≡ true = grind (arith, nat_tests) in
+    record {
+      digits = read.digits ++ b ∷ [];
+      are = (grind (arith, length-append), digits_push read.digits b read.are.1 is_digit);
+      value = rw (read.value, number_push read.digits b read.are.1 is_digit) (grind (arith, nat_tests));
+      bytes = read.bytes ∙ rw (drop_more text end 0 less) (sym (append-cons read.digits b (drop (end + 1) text)));
       within = omega arith;
     }
 
-    pub big_fault : max_arc < number * 10 + digit → HasFault text start (stop_fault text start end)
-    big_fault big capacity before none =
-        let digits = read.digits ++ get_or text end 0 ∷ [] in
-        rw (longer_bytes less)
-        (too_big capacity before digits (drop (end + 1) text) longer_are.1 (rw longer_value at big) ∙ grind (arith, nat_tests))
+-- the last digit makes the number too big
+pub big_fault : {text : List ℕ} {start number : ℕ} (end : ℕ) → AreDigits text start number (end + 1)
+    → is_ascii_digit (get_or text end 0) ≡ true → max_arc < number → HasFault text start (stop_fault text start end)
+big_fault {text} end read digit big capacity before none =
+    let more = drop (end + 1) text in
+    rw read.bytes (too_big capacity before read.digits more read.are.1 (rw read.value at big) ∙ grind (arith, nat_tests, read.within))
 
+module _ {text : List ℕ} {start number end : ℕ} (read : AreDigits text start number end) (small : number ≤ max_arc) where
   pub piece_read : (end < length text → get_or text end 0 ≡ 46) → IsPiece text start number end
   piece_read dotted = record {
     same = λ capacity before.
         rw (read.bytes, read.value)
-        (number_read capacity before read.digits (drop end text) read.are (rw read.value at read.small)
+        (number_read capacity before read.digits (drop end text) read.are (rw read.value at small)
         (grind (arith, length-drop, get_or-drop)) _ refl);
-    small = read.small;
+    small = small;
     further = grind (arith, length-drop, length-append, ap length read.bytes);
     within = read.within;
   }
@@ -158,22 +140,17 @@ module _ {text : List ℕ} {start number end : ℕ} (read : AreDigits text start
   pub byte_fault : end < length text → is_ascii_digit (get_or text end 0) ≡ false → (get_or text end 0 == 46) ≡ false
       → HasFault text start (stop_fault text start end)
   byte_fault less other undotted capacity before none =
+      let more = drop (end + 1) text in
       rw (read.bytes, drop_more text end 0 less)
-      (no_digit capacity before read.digits (drop (end + 1) text) (get_or text end 0) read.are.1 (rw read.value at read.small) other
-      undotted ∙ grind (arith, nat_tests))
+      (no_digit capacity before read.digits more (get_or text end 0) read.are.1 (rw read.value at small) other undotted
+      ∙ grind (arith, nat_tests))
 
 -- the first byte is no digit
 pub first_fault : (text : List ℕ) (start : ℕ) → start < length text → is_ascii_digit (get_or text start 0) ≡ false
     → HasFault text start (stop_fault text start start)
-first_fault text start less other capacity before none = rw (drop_more text start 0 less) (by_dot (get_or text start 0 == 46) refl) where
-  by_dot : (dotted : Bool) → (get_or text start 0 == 46) ≡ dotted
-      → fault_of capacity before (get_or text start 0 ∷ drop (start + 1) text) ≡ Some (stop_fault text start start)
-  by_dot true dotted =
-      let is_dot : get_or text start 0 ≡ 46 = grind (arith, nat_tests) in
-      rw is_dot (empty_piece capacity before (drop (start + 1) text) ∙ grind (arith, nat_tests))
-  by_dot false dotted =
-      no_digit capacity before [] (drop (start + 1) text) (get_or text start 0) refl (omega arith) other dotted
-      ∙ grind (arith, nat_tests)
+first_fault text start less other capacity before none =
+    let (tail, after, e) = some_piece (drop (start + 1) text) in
+    rw (drop_more text start 0 less, e) (grind (arith, nat_tests, e))
 
 -- there is no byte
 pub end_fault : (text : List ℕ) (start : ℕ) → length text ≤ start → HasFault text start (stop_fault text start start)
@@ -182,10 +159,11 @@ end_fault text start last capacity before none = rw (drop_all start text last) (
 -- ---- the octets of the pieces so far
 
 -- after the first piece, the second one
-pub root_taken : {text : List ℕ} {first end : ℕ} (capacity : ℕ) → IsPiece text 0 first end → first ≤ 2 → end < length text
+pub root_taken : {text : List ℕ} {first end : ℕ} (capacity : ℕ) → IsPiece text 0 first end → first ≤ 2 → end ≢ length text
     → text_answer root_rule text capacity ≡ pieces_answer capacity (first ∷ []) (pieces_of (drop (end + 1) text))
-root_taken {text} {first} {end} capacity piece low less =
-    piece.same capacity [] ∙ rw (none_from_below 2 first (ArcInvalid first) low, drop_more text end 0 less) refl
+root_taken {text} {first} {end} capacity piece low more =
+    piece.same capacity []
+    ∙ rw (none_from_below 2 first (ArcInvalid first) low, drop_more text end 0 (omega (arith, piece.within))) refl
 
 -- the octets are the encoding of the arcs of the pieces that end at an index or before
 pub record IsReadTo (capacity : ℕ) (text octets : List ℕ) (end : ℕ) : Type 0 where

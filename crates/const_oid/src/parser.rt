@@ -8,7 +8,7 @@ ghost use Rattle.std.specs.Bool.{then_some};
 ghost use Rattle.std.specs.Char.{is_ascii_digit};
 ghost use Rattle.const_oid.specs.Private.Encoder.{buffer_answer, HasEncoding};
 ghost use Rattle.const_oid.specs.Private.Parser.{or_trailing, stop_fault, AreDigits, HasFault, IsPiece, IsRoot};
-ghost use Rattle.const_oid.specs.Identifier.{root_rule};
+ghost use Rattle.const_oid.specs.Identifier.{root_rule, max_arc};
 ghost use Rattle.const_oid.specs.Text.{text_answer};
 
 use crate::Arc;
@@ -122,9 +122,10 @@ fn read_piece(text: &[u8], start: usize) -> result::Result<(Arc, usize), usize>
 // erase: const
 #[inline(always)]
 fn read_digits(first: u64, text: &[u8], start: usize) -> result::Result<(Arc, usize), usize>
-    requires { AreDigits text.now start first (start + 1) }
+    requires digit { AreDigits text.now start first (start + 1) }
+    requires small { first ≤ max_arc }
     ensures { MatchResult result
-        (λ read. AreDigits text.now start read.0 read.1
+        (λ read. AreDigits text.now start read.0 read.1 × (read.0 ≤ max_arc)
         × (read.1 < length text.now → is_ascii_digit (get_or text.now read.1 0) ≡ false))
         (λ index. HasFault text.now start (stop_fault text.now start index)) }
 {

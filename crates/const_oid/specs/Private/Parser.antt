@@ -38,12 +38,11 @@ abbrev pub HasFault : List ℕ → ℕ → Error → Type 0
 HasFault text start fault = (capacity : ℕ) (before : List ℕ) → is_empty before ≡ (start == 0)
     → pieces_fault root_rule capacity before (pieces_of (drop start text)) ≡ Some fault
 
--- the bytes from an index up to another one are digits, of the number of an arc
+-- the bytes from an index up to another one are the digits of a number
 pub record AreDigits (text : List ℕ) (start number end : ℕ) : Type 0 where
   pub digits : List ℕ
   pub are : IsNumber digits
   pub value : number ≡ number_of digits
-  pub small : number ≤ max_arc
   pub bytes : drop start text ≡ digits ++ drop end text
   pub within : end ≤ length text
 

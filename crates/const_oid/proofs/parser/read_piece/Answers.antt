@@ -9,15 +9,16 @@ returns-in_default c =
 
 pub returns-then-text-next-eq46 : goal.returns-then-text-next-eq46
 returns-then-text-next-eq46 c =
-    piece_read (first_read c.args.text.now c.args.start c.if-start-text.false c.in-Some.ensures) (λ less. c.if-text-next-eq46.true)
+    piece_read (first_read c.args.text.now c.args.start c.if-start-text.false c.in-Some.ensures)
+    (grind (arith, nat_tests)) (λ less. c.if-text-next-eq46.true)
 
-pub read_digits-requires : goal.read_digits-requires
-read_digits-requires c = first_read c.args.text.now c.args.start c.if-start-text.false c.in-Some.ensures
+pub read_digits-requires-clause-digit : goal.read_digits-requires-clause-digit
+read_digits-requires-clause-digit c = first_read c.args.text.now c.args.start c.if-start-text.false c.in-Some.ensures
 
 pub returns-then-text-end-ne46 : goal.returns-then-text-end-ne46
 returns-then-text-end-ne46 c =
-    let less = c.if-end-text.true in
-    byte_fault c.in-Ok.ensures.0 less (c.in-Ok.ensures.1 less) (grind (arith, nat_tests))
+    let (read, small, stops) = c.in-Ok.ensures in
+    byte_fault read small c.if-end-text.true (stops c.if-end-text.true) (grind (arith, nat_tests))
 
 pub returns : goal.returns
-returns c = piece_read c.in-Ok.ensures.0 (grind (arith, nat_tests))
+returns c = piece_read c.in-Ok.ensures.0 c.in-Ok.ensures.1 (grind (arith, nat_tests))

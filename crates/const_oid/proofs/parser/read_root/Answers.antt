@@ -1,23 +1,20 @@
-use Rattle.std.proofs.Common.{◌∷◌, ◌<◌, [], length, refl, sym, ap, ◌∙◌, arith, Err}
+use Rattle.std.proofs.Common.{◌∷◌, [], refl, sym, ap, ◌∙◌, arith, Err}
 use Rattle.std.proofs.lemmas.Bool.Decides.{nat_tests}
 use Rattle.const_oid.proofs.{Faults.some_from_above, Pieces.root_taken}
 use Rattle.const_oid.proofs.parser.read_root.Goals as goal
 
 pub returns-in-Err-read_piece : goal.returns-in-Err-read_piece
 returns-in-Err-read_piece c = λ capacity.
-    let less : c.in-Ok.piece.1 < length c.args.text.now = omega (arith, c.if-end-text.false, c.in-Ok.ensures.within) in
-    root_taken capacity c.in-Ok.ensures c.if-first-gt2.false less
+    root_taken capacity c.in-Ok.ensures c.if-first-gt2.false c.if-end-text.false
     ∙ rw (c.in-Err-read_piece.ensures capacity (c.in-Ok.piece.0 ∷ []) (grind (arith, nat_tests))) (ap Err (sym c.piece_fault-in-Err-read_piece.ensures))
 
 pub returns-then-second-max_second : goal.returns-then-second-max_second
 returns-then-second-max_second c = λ capacity.
-    let less : c.in-Ok.piece.1 < length c.args.text.now = omega (arith, c.if-end-text.false, c.in-Ok.ensures.within) in
-    root_taken capacity c.in-Ok.ensures c.if-first-gt2.false less
+    root_taken capacity c.in-Ok.ensures c.if-first-gt2.false c.if-end-text.false
     ∙ c.in-Ok-read_piece.ensures.same capacity (c.in-Ok.piece.0 ∷ []) ∙ grind (arith, nat_tests, some_from_above)
 
 pub returns : goal.returns
 returns c =
-    let less : c.in-Ok.piece.1 < length c.args.text.now = omega (arith, c.if-end-text.false, c.in-Ok.ensures.within) in
     let piece = c.in-Ok-read_piece.ensures in
     record {
       first = c.in-Ok.piece.0;
@@ -25,6 +22,6 @@ returns c =
       number = refl;
       low = c.if-first-gt2.false;
       high = omega (arith, c.if-second-max_second.false, c.max_second.ensures);
-      same = λ capacity. root_taken capacity c.in-Ok.ensures c.if-first-gt2.false less ∙ piece.same capacity (c.in-Ok.piece.0 ∷ []);
+      same = λ capacity. root_taken capacity c.in-Ok.ensures c.if-first-gt2.false c.if-end-text.false ∙ piece.same capacity (c.in-Ok.piece.0 ∷ []);
       within = piece.within;
     }
