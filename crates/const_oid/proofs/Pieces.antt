@@ -1,39 +1,20 @@
--- What the first piece of some bytes comes to, by the digits that it begins with and the byte after them.
-use Rattle.std.proofs.Common.{◌≡◌, ℕ, ◌+◌, ◌-◌, ◌*◌, ◌<◌, ◌≤◌, ◌≢◌, true, false, List, [], ◌∷◌, ◌++◌, length, drop, get_or}
-use Rattle.std.proofs.Common.{◌==◌, Option, Some, refl, sym, ◌∙◌, arith, append-nil, take_while}
+-- What the pieces of a text come to: one by the digits that it begins with, and those so far by their octets.
+use Rattle.std.proofs.Common.{◌≡◌, ◌≢◌, ℕ, ◌+◌, ◌-◌, ◌*◌, ◌<◌, ◌≤◌, ◌==◌, true, false, List, [], ◌∷◌, ◌++◌, length, drop, get_or}
+use Rattle.std.proofs.Common.{if◌then◌else◌, Option, Some, Result, Ok, Err, MatchResult, refl, sym, ap, ◌∙◌, arith}
+use Rattle.std.proofs.Common.{append-nil, length-append, get_or-drop}
 use Rattle.std.specs.{List.onto_first, Bool.then_some, Char.is_ascii_digit, Str.all_ascii_digits}
-use Rattle.std.proofs.lemmas.{Bool.Decides.nat_tests, List.{take_at, drop_more, drop_all, length-drop}, List.Folds.list_all-append}
-use Rattle.std.proofs.lemmas.{Int.Digits.digits_value_push, List.Splits.{length-slice_split, slice_split_at, slice_split_none}}
-use Rattle.std.proofs.lemmas.Str.Parse.{digits_value-take-le}
-use Rattle.std.proofs.Common.{length-append, get_or-drop, if◌then◌else◌, ap, Result, Ok, Err, MatchResult}
-use Rattle.const_oid.specs.{Identifier.{root_rule, max_arc}, Items.arc_fault}
-use Rattle.const_oid.specs.declared.error.Error.{Error}
+use Rattle.std.proofs.lemmas.{Bool.Decides.nat_tests, List.{drop_more, drop_all, length-drop}}
+use Rattle.std.proofs.lemmas.List.Splits.{length-slice_split, slice_split_at, slice_split_none}
+use Rattle.const_oid.specs.{Identifier.{root_rule, max_arc, IsEncoding, IsIdentifier}, Items.arc_fault, declared.error.Error.Error}
 use Rattle.const_oid.specs.declared.error.Error.TheVariants.{ArcInvalid, ArcTooBig, DigitExpected, Length}
-use Rattle.const_oid.specs.Private.Parser.{pieces_answer, pieces_then, or_trailing, arc_answer, stop_fault, AreDigits, HasFault, IsPiece, IsRoot}
+use Rattle.const_oid.specs.{Contents.arcs_of_octets, Base128.width, Private.Octets.IsAppended}
+use Rattle.const_oid.specs.Private.Parser.{pieces_answer, pieces_then, or_trailing, arc_answer, stop_fault}
+use Rattle.const_oid.specs.Private.Parser.{AreDigits, HasFault, IsPiece, IsRoot}
 use Rattle.const_oid.specs.Text.{pieces_of, number_of, is_empty, is_one_empty, pieces_fault, text_answer, IsNumber}
-use Rattle.const_oid.specs.{Contents.arcs_of_octets, Base128.width, Private.Octets.IsAppended, Identifier.{IsEncoding, IsIdentifier}}
-use Rattle.const_oid.proofs.{Lists.append-cons, Started.{Encodes, root_encodes, later_encodes}, Faults.{none_from_below, some_from_above}}
-use Rattle.const_oid.proofs.Encodings.{arcs_of_encoding, encoding_back}
+use Rattle.const_oid.proofs.{Lists.append-cons, Started.{Encodes, root_encodes, later_encodes}}
+use Rattle.const_oid.proofs.{Faults.{none_from_below, some_from_above}, Encodings.{arcs_of_encoding, encoding_back}}
 use Rattle.const_oid.proofs.Numbers.{number_of_digits, find-none, take_while-digits, find-digits, undotted}
-
--- ---- digits
-
-digits_push : (digits : List ℕ) (b : ℕ) → all_ascii_digits digits ≡ true → is_ascii_digit b ≡ true
-    → all_ascii_digits (digits ++ b ∷ []) ≡ true
-digits_push digits b are d = rw (list_all-append is_ascii_digit digits (b ∷ []), are, d) refl
-
-number_push : (digits : List ℕ) (b : ℕ) → all_ascii_digits digits ≡ true → is_ascii_digit b ≡ true
-    → number_of (digits ++ b ∷ []) ≡ number_of digits * 10 + (b - 48)
-number_push digits b are d = grind (arith, nat_tests, number_of_digits, digits_push, digits_value_push)
-
--- a piece that begins with digits has at least their number
-number_more : (digits more : List ℕ) → all_ascii_digits digits ≡ true
-    → number_of digits ≤ number_of (digits ++ more)
-number_more digits more are =
-    let rest = take_while is_ascii_digit more in
-    let least = digits_value-take-le 10 (digits ++ rest) (length digits) (omega arith) in
-    rw (number_of_digits digits are, take_while-digits digits more are)
-    (rw (take_at digits rest (length digits) refl) at least)
+use Rattle.const_oid.proofs.Numbers.{digits_push, number_push, number_more}
 
 -- ---- the pieces of bytes
 
@@ -81,11 +62,11 @@ module _ (capacity : ℕ) (before : List ℕ) where
       let (tail, after, e) = some_piece more in
       rw (begins digits more tail after are e) (grind (arith, nat_tests, number_more digits tail are))
 
-  no_digit : (digits more : List ℕ) (b : ℕ) → all_ascii_digits digits ≡ true → number_of digits ≤ max_arc
-      → is_ascii_digit b ≡ false → (b == 46) ≡ false → fault_of (digits ++ b ∷ more) ≡ Some (DigitExpected b)
-  no_digit digits more b are small other undotted =
+  no_digit : (digits more : List ℕ) (byte : ℕ) → all_ascii_digits digits ≡ true → number_of digits ≤ max_arc
+      → is_ascii_digit byte ≡ false → (byte == 46) ≡ false → fault_of (digits ++ byte ∷ more) ≡ Some (DigitExpected byte)
+  no_digit digits more byte are small other undotted =
       let (tail, after, e) = some_piece more in
-      rw (begins digits (b ∷ more) (b ∷ tail) after are (rw (undotted, e) refl))
+      rw (begins digits (byte ∷ more) (byte ∷ tail) after are (rw (undotted, e) refl))
       (grind (arith, nat_tests, append-nil, number_of_digits, take_while-digits, find-digits))
 
 -- ---- at an index of a text
@@ -107,22 +88,24 @@ pub digit_read : {text : List ℕ} {start number end digit : ℕ} → AreDigits 
     → Some digit ≡ then_some (is_ascii_digit (get_or text end 0)) (get_or text end 0 - 48)
     → AreDigits text start (number * 10 + digit) (end + 1)
 digit_read {text} {end} read less is =
-    let b = get_or text end 0 in
-    let is_digit : is_ascii_digit b ≡ true = grind (arith, nat_tests) in
+    let byte = get_or text end 0 in
+    let is_digit : is_ascii_digit byte ≡ true = grind (arith, nat_tests) in
     record {
-      digits = read.digits ++ b ∷ [];
-      are = (grind (arith, length-append), digits_push read.digits b read.are.1 is_digit);
-      value = rw (read.value, number_push read.digits b read.are.1 is_digit) (grind (arith, nat_tests));
-      bytes = read.bytes ∙ rw (drop_more text end 0 less) (sym (append-cons read.digits b (drop (end + 1) text)));
+      digits = read.digits ++ byte ∷ [];
+      are = (grind (arith, length-append), digits_push read.digits byte read.are.1 is_digit);
+      value = rw (read.value, number_push read.digits byte read.are.1 is_digit) (grind (arith, nat_tests));
+      bytes = read.bytes ∙ rw (drop_more text end 0 less) (sym (append-cons read.digits byte (drop (end + 1) text)));
       within = omega arith;
     }
 
 -- the last digit makes the number too big
 pub big_fault : {text : List ℕ} {start number : ℕ} (end : ℕ) → AreDigits text start number (end + 1)
     → is_ascii_digit (get_or text end 0) ≡ true → max_arc < number → HasFault text start (stop_fault text start end)
-big_fault {text} end read digit big capacity before none =
-    let more = drop (end + 1) text in
-    rw read.bytes (too_big capacity before read.digits more read.are.1 (rw read.value at big) ∙ grind (arith, nat_tests, read.within))
+big_fault {text} end read digit big = record {
+  is = λ capacity before none.
+      let more = drop (end + 1) text in
+      rw read.bytes (too_big capacity before read.digits more read.are.1 (rw read.value at big) ∙ grind (arith, nat_tests, read.within));
+}
 
 module _ {text : List ℕ} {start number end : ℕ} (read : AreDigits text start number end) (small : number ≤ max_arc) where
   pub piece_read : (end < length text → get_or text end 0 ≡ 46) → IsPiece text start number end
@@ -139,22 +122,26 @@ module _ {text : List ℕ} {start number end : ℕ} (read : AreDigits text start
   -- the byte after the digits is neither a digit nor a dot
   pub byte_fault : end < length text → is_ascii_digit (get_or text end 0) ≡ false → (get_or text end 0 == 46) ≡ false
       → HasFault text start (stop_fault text start end)
-  byte_fault less other undotted capacity before none =
-      let more = drop (end + 1) text in
-      rw (read.bytes, drop_more text end 0 less)
-      (no_digit capacity before read.digits more (get_or text end 0) read.are.1 (rw read.value at small) other undotted
-      ∙ grind (arith, nat_tests))
+  byte_fault less other undotted = record {
+    is = λ capacity before none.
+        let more = drop (end + 1) text in
+        rw (read.bytes, drop_more text end 0 less)
+        (no_digit capacity before read.digits more (get_or text end 0) read.are.1 (rw read.value at small) other undotted
+        ∙ grind (arith, nat_tests));
+  }
 
 -- the first byte is no digit
 pub first_fault : (text : List ℕ) (start : ℕ) → start < length text → is_ascii_digit (get_or text start 0) ≡ false
     → HasFault text start (stop_fault text start start)
-first_fault text start less other capacity before none =
-    let (tail, after, e) = some_piece (drop (start + 1) text) in
-    rw (drop_more text start 0 less, e) (grind (arith, nat_tests, e))
+first_fault text start less other = record {
+  is = λ capacity before none.
+      let (tail, after, e) = some_piece (drop (start + 1) text) in
+      rw (drop_more text start 0 less, e) (grind (arith, nat_tests, e));
+}
 
 -- there is no byte
 pub end_fault : (text : List ℕ) (start : ℕ) → length text ≤ start → HasFault text start (stop_fault text start start)
-end_fault text start last capacity before none = rw (drop_all start text last) (grind (arith, nat_tests))
+end_fault text start last = record { is = λ capacity before none. rw (drop_all start text last) (grind (arith, nat_tests)) }
 
 -- ---- the octets of the pieces so far
 
@@ -180,7 +167,7 @@ BecomesBy capacity text longer end result = MatchResult result (λ _. IsReadTo c
 pub later_fault : {capacity : ℕ} {text octets : List ℕ} {place : ℕ} (fault : Error) → IsReadTo capacity text octets place
     → place < length text → HasFault text (place + 1) fault → text_answer root_rule text capacity ≡ Err fault
 later_fault {capacity} {text} {octets} {place} fault read less has =
-    read.answer ∙ rw (drop_more text place 0 less, has capacity (arcs_of_octets octets) (some_arc _ read.encoding.identifier)) refl where
+    read.answer ∙ rw (drop_more text place 0 less, has.is capacity (arcs_of_octets octets) (some_arc _ read.encoding.identifier)) refl where
       some_arc : (arcs : List ℕ) → IsIdentifier root_rule arcs → is_empty arcs ≡ (place + 1 == 0)
       some_arc [] identifier = absurd identifier
       some_arc (arc ∷ arcs) identifier = grind (arith, nat_tests)
@@ -214,3 +201,5 @@ module _ (capacity : ℕ) (text longer : List ℕ) where
   later_becomes {octets} {arc} {place} {end} read less piece =
       becomes end (later_encodes root_rule octets (arcs_of_octets octets) arc read.encoding piece.small)
       (read.answer ∙ rw (drop_more text place 0 less) (piece.same capacity (arcs_of_octets octets))) piece.within
+
+pub ruleset digits_read = (first_read, digit_read, big_fault, piece_read, byte_fault, first_fault, end_fault, nat_tests)

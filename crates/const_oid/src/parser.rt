@@ -90,6 +90,7 @@ fn read_root(text: &[u8]) -> Result<(u64, usize)>
 /// The number of the piece that starts at an index, and where it ends: at a dot or at the end of the text. `Err` is
 /// where it goes wrong.
 // erase: const
+#[tactic(auto, using(crate::proofs::Pieces::digits_read))]
 #[inline(always)]
 fn read_piece(text: &[u8], start: usize) -> result::Result<(Arc, usize), usize>
     requires { start ≤ length text.now }
@@ -120,6 +121,7 @@ fn read_piece(text: &[u8], start: usize) -> result::Result<(Arc, usize), usize>
 /// The number of the digits that start at an index, by the first of them, and where they end. `Err` is the digit that
 /// makes it too big for an arc.
 // erase: const
+#[tactic(auto, using(crate::proofs::Pieces::digits_read))]
 #[inline(always)]
 fn read_digits(first: u64, text: &[u8], start: usize) -> result::Result<(Arc, usize), usize>
     requires digit { AreDigits text.now start first (start + 1) }

@@ -34,9 +34,9 @@ stop_fault text start index =
     else (if start == 0 then Empty else TrailingDot)
 
 -- the piece that starts at an index has a fault; no arcs are before the first one alone
-abbrev pub HasFault : List ℕ → ℕ → Error → Type 0
-HasFault text start fault = (capacity : ℕ) (before : List ℕ) → is_empty before ≡ (start == 0)
-    → pieces_fault root_rule capacity before (pieces_of (drop start text)) ≡ Some fault
+pub record HasFault (text : List ℕ) (start : ℕ) (fault : Error) : Type 0 where
+  pub is : (capacity : ℕ) (before : List ℕ) → is_empty before ≡ (start == 0)
+      → pieces_fault root_rule capacity before (pieces_of (drop start text)) ≡ Some fault
 
 -- the bytes from an index up to another one are the digits of a number
 pub record AreDigits (text : List ℕ) (start number end : ℕ) : Type 0 where

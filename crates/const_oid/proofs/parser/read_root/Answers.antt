@@ -6,7 +6,7 @@ use Rattle.const_oid.proofs.parser.read_root.Goals as goal
 pub returns-in-Err-read_piece : goal.returns-in-Err-read_piece
 returns-in-Err-read_piece c = λ capacity.
     root_taken capacity c.in-Ok.ensures c.if-first-gt2.false c.if-end-text.false
-    ∙ rw (c.in-Err-read_piece.ensures capacity (c.in-Ok.piece.0 ∷ []) (grind (arith, nat_tests))) (ap Err (sym c.piece_fault-in-Err-read_piece.ensures))
+    ∙ rw (c.in-Err-read_piece.ensures.is capacity (c.in-Ok.piece.0 ∷ []) (grind (arith, nat_tests))) (ap Err (sym c.piece_fault-in-Err-read_piece.ensures))
 
 pub returns-then-second-max_second : goal.returns-then-second-max_second
 returns-then-second-max_second c = λ capacity.
