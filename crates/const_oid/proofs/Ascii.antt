@@ -1,21 +1,19 @@
 -- A text that denotes arcs is ASCII.
-use Rattle.std.proofs.Common.{◌≡◌, ℕ, ◌<◌, true, List, [], ◌∷◌, All, Ok, arith, sym}
-use Rattle.std.specs.{List.{AllByRecursion, join_with_byte}, Str.{IsAscii, all_ascii_digits, is_utf8}}
-use Rattle.std.proofs.lemmas.{List.Elements.{All-nil, All-cons}, Str.{IsAscii-append, Ascii.{IsAscii-from_all, IsAscii-nil}}}
-use Rattle.std.proofs.lemmas.{Str.{IsUtf8-from_ascii, is_utf8-from_IsUtf8}, Grind.common_steps, Bool.Decides.nat_tests}
-use Rattle.std.proofs.lemmas.List.Splits.{join_with_byte-slice_split}
+use Rattle.std.proofs.Common.{◌≡◌, ℕ, zero, suc, ◌<◌, true, List, [], ◌∷◌, Ok, arith, sym}
+use Rattle.std.specs.{Char.is_ascii_digit, List.{AllByRecursion, join_with_byte}, Str.{IsAscii, all_ascii_digits, is_utf8}}
+use Rattle.std.proofs.lemmas.{Bool.{and_parts, Decides.nat_tests}, Str.{IsAscii-append, Ascii.IsAscii-nil}}
+use Rattle.std.proofs.lemmas.{Str.{IsUtf8-from_ascii, is_utf8-from_IsUtf8}, List.Splits.join_with_byte-slice_split}
 use Rattle.const_oid.specs.{Identifier.RootRule, Text.{IsNumber, pieces_of, text_answer}}
 use Rattle.const_oid.proofs.Texts.{denoted_from_answer}
 
-low_digits : (piece : List ℕ) → all_ascii_digits piece ≡ true → All (λ b. b < 128) piece
-low_digits [] h = All-nil (λ b. b < 128)
-low_digits (b ∷ bs) h = grind (arith, nat_tests, common_steps, All-cons (λ b. b < 128), low_digits bs)
-
 digits_ascii : (piece : List ℕ) → all_ascii_digits piece ≡ true → IsAscii piece
-digits_ascii piece h = IsAscii-from_all piece (low_digits piece h)
+digits_ascii [] are i = omega arith
+digits_ascii (b ∷ bs) are zero = grind (arith, nat_tests)
+digits_ascii (b ∷ bs) are (suc i) = digits_ascii bs (and_parts (is_ascii_digit b) (all_ascii_digits bs) are).1 i
 
 dot_ascii : IsAscii (46 ∷ [])
-dot_ascii = IsAscii-from_all (46 ∷ []) (grind (arith, nat_tests, common_steps, All-cons (λ b. b < 128), All-nil (λ b. b < 128)))
+dot_ascii zero = omega arith
+dot_ascii (suc i) = omega arith
 
 numbers_ascii : (pieces : List (List ℕ)) → AllByRecursion IsNumber pieces → IsAscii (join_with_byte 46 pieces)
 numbers_ascii [] h = IsAscii-nil

@@ -174,6 +174,7 @@ impl<const MAX_SIZE: usize> ObjectIdentifier<MAX_SIZE> {
     /// Parses dotted text in ASCII as [`new_sized`](Self::new_sized) does. The bytes need not be UTF-8: one past ASCII
     /// is no digit.
     // erase: const
+    #[tactic(auto, using(crate::proofs::Encodings::none_from_encoding, crate::proofs::Texts::denoted_from_answer))]
     #[inline(always)]
     pub fn from_ascii(text: &[u8]) -> Result<Self>
         ensures answer { oid_answer result ≡ text_answer root_rule text.now (min MAX_SIZE 255) }
