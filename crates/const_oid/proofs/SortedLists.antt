@@ -33,26 +33,27 @@ module _ {X : Type 0} (p q : X → Bool) (xs : List X)
 
 -- ---- the first element that passes a test
 
-module _ {X : Type 0} (p : X → Bool) (xs : List X) where
-  pub position_is : (i : ℕ) → i < length xs → AllWithin (λ x. p x ≡ false) xs 0 i → HoldsAt (λ x. p x ≡ true) xs i
-      → Some i ≡ position p xs
-  position_is i l early at = ⊎_elim
-      (λ (d, m, is, read).
-      grind (arith, nat_tests, passes_at_first p xs d, fails_before_first p xs i d, early (position_or_len p xs) d, at d))
-      (λ (m, none). absurd (omega arith))
+module _ {X : Type 0} (test : X → Bool) (xs : List X) where
+  pub position_is : (i : ℕ) → i < length xs → AllWithin (λ item. test item ≡ false) xs 0 i
+      → HoldsAt (λ item. test item ≡ true) xs i → Some i ≡ position test xs
+  position_is i below early at = ⊎_elim
+      (λ (item, inside, is, read).
+      let before = early (position_or_len test xs) item in
+      grind (arith, nat_tests, passes_at_first test xs item, fails_before_first test xs i item, before, at item))
+      (λ (past, none). absurd (omega arith))
       (slice_get_cases xs i).1
 
-  pub position_none : All (λ x. p x ≡ false) xs → None ≡ position p xs
+  pub position_none : All (λ x. test x ≡ false) xs → None ≡ position test xs
   position_none none = ⊎_elim
-      (λ (d, m, is, read). grind (arith, nat_tests, passes_at_first p xs d, none (position_or_len p xs) d))
+      (λ (d, m, is, read). grind (arith, nat_tests, passes_at_first test xs d, none (position_or_len test xs) d))
       (λ (m, past). grind (arith, nat_tests))
       (slice_get_cases xs 0).1
 
-  pub find_some : (i : ℕ) → Some i ≡ position p xs → find p xs ≡ slice_get xs i
+  pub find_some : (i : ℕ) → Some i ≡ position test xs → find test xs ≡ slice_get xs i
   find_some i e = grind (arith, nat_tests, find_at, slice_get_cases xs i)
 
-  pub find_none : None ≡ position p xs → find p xs ≡ None
-  find_none e = grind (arith, nat_tests, find_at, slice_get_cases xs (position_or_len p xs))
+  pub find_none : None ≡ position test xs → find test xs ≡ None
+  find_none e = grind (arith, nat_tests, find_at, slice_get_cases xs (position_or_len test xs))
 
 -- ---- lists of arcs
 
@@ -105,16 +106,17 @@ module _ {Item : Type 0} (octets_of : Item → List ℕ) (oid : ObjectIdentifier
   pub cut_upto : IsPartitionedBy upto_arcs items
   cut_upto = cut_by (item_arcs octets_of) items list.sorted (λ x. is_ge (slice_cmp nat_cmp (ref_arcs oid) x)) (upto_down (ref_arcs oid))
 
-  pub inside_same : (from k : ℕ) (d : Item) → k < length (drop from items)
-      → key_under (item_arcs octets_of) (ref_arcs oid) (get_or (drop from items) k d) ≡ is_inside (get_or (drop from items) k d)
-  inside_same from k d l =
-      let n = length-drop from items in
-      let item = get_or items (from + k) d in
+  pub inside_same : (from k : ℕ) (default : Item) → k < length (drop from items)
+      → key_under (item_arcs octets_of) (ref_arcs oid) (get_or (drop from items) k default)
+      ≡ is_inside (get_or (drop from items) k default)
+  inside_same from k default inside =
+      let long = length-drop from items in
+      let item = get_or items (from + k) default in
       let same : is_inside item ≡ key_under (item_arcs octets_of) (ref_arcs oid) item =
       tells_under (ref_arcs oid) (item_arcs octets_of item) (is_inside item)
-      (iff_begins _ (list.valid (from + k) d (omega (arith, n))) (ref_encoding oid)
+      (iff_begins _ (list.valid (from + k) default (omega (arith, long))) (ref_encoding oid)
       (under_iff (ref_octets oid) (octets_of item))) in
-      rw (get_or-drop from items k d) (sym same)
+      rw (get_or-drop from items k default) (sym same)
 
   module _ (i : ℕ) (within : i ≤ length items) (cut : IsCut (key_before (item_arcs octets_of) (ref_arcs oid)) items i) where
     early_other : AllWithin (λ item. has_item_arcs octets_of (ref_arcs oid) item ≡ false) items 0 i
@@ -124,14 +126,16 @@ module _ {Item : Type 0} (octets_of : Item → List ℕ) (oid : ObjectIdentifier
         → Some i ≡ position (has_item_arcs octets_of (ref_arcs oid)) items
     first_is l at = position_is _ items i l early_other at
 
-    pub first_none : (i < length items → (d : Item) → has_item_arcs octets_of (ref_arcs oid) (get_or items i d) ≡ false)
+    pub first_none : (i < length items → (default : Item)
+        → has_item_arcs octets_of (ref_arcs oid) (get_or items i default) ≡ false)
         → None ≡ position (has_item_arcs octets_of (ref_arcs oid)) items
     first_none other =
         let far = sorted_far _ (ranks_by nat_list_cmp_total (item_arcs octets_of)) items list.sorted in
-        position_none _ items (λ k d l. ⊎_elim
-        (λ (early : k < i). early_other k d (omega arith) early)
+        position_none _ items (λ k default inside. ⊎_elim
+        (λ (early : k < i). early_other k default (omega arith) early)
         (λ (late : i ≤ k).
-        none_after (ref_arcs oid) _ _ (cut.1 i d (omega arith) (omega arith)) (far i k d late l) (other (omega arith) d))
+        let past = cut.1 i default (omega arith) (omega arith) in
+        none_after (ref_arcs oid) _ _ past (far i k default late inside) (other (omega arith) default))
         (cases_lt k i))
 
   pub range_is : (from count : ℕ) → IsCut (key_before (item_arcs octets_of) (ref_arcs oid)) items from
@@ -189,14 +193,15 @@ module _ {Item : Type 0} (octets_of : Item → List ℕ) (items : List Item) (ar
 
       -- the last item up to the arcs begins with all that they begin with
       pub last_begins : (last : Item) → Some last ≡ near_end → Comprises (item_arcs octets_of last)
-      last_begins last e k d l b =
-          let prefix = item_arcs octets_of (get_or items k d) in
-          let before = upto k d l b in
-          let is : get_or items (index - 1) d ≡ last = grind (arith, common_steps, gets) in
-          let level = rw is at (far k (index - 1) d (omega arith) (omega arith)) in
-          run_between prefix prefix (item_arcs octets_of last) arcs ([], sym (append-nil prefix)) b
+      last_begins last is_last k default inside begun =
+          let prefix = item_arcs octets_of (get_or items k default) in
+          let before = upto k default inside begun in
+          let is : get_or items (index - 1) default ≡ last = grind (arith, common_steps, gets) in
+          let level = rw is at (far k (index - 1) default (omega arith) (omega arith)) in
+          run_between prefix prefix (item_arcs octets_of last) arcs ([], sym (append-nil prefix)) begun
           (λ early. cc (level, early))
-          (not_greater (item_arcs octets_of last) arcs (rw is at (end.0 (index - 1) d (omega arith) (omega arith))))
+          (not_greater (item_arcs octets_of last) arcs
+          (rw is at (end.0 (index - 1) default (omega arith) (omega arith))))
 
       -- it is valid
       pub last_valid : (last : Item) → Some last ≡ near_end → IsEncoding root_rule (item_arcs octets_of last) (octets_of last)
@@ -209,11 +214,11 @@ module _ {Item : Type 0} (octets_of : Item → List ℕ) (items : List Item) (ar
       none_begins e k d l b = let before = upto k d l b in grind (arith, common_steps, gets)
 
       pub reached_itself : (last : Item) → Some last ≡ near_end → IsReached (octets_of last) arcs
-      reached_itself last e = record {
+      reached_itself last is_last = record {
         begins = ([], sym (append-nil arcs));
-        others = λ k d l b. b;
-        valid = last_valid last e;
-        near = last_begins last e;
+        others = λ k default inside begun. begun;
+        valid = last_valid last is_last;
+        near = last_begins last is_last;
       }
 
     module _ (last : List ℕ) (oid : ObjectIdentifierRef) (reached : IsReached last (ref_arcs oid)) where
@@ -226,21 +231,21 @@ module _ {Item : Type 0} (octets_of : Item → List ℕ) (items : List Item) (ar
       -- its first item is the nearest one
       pub reached_nearest : (index : ℕ) → Some index ≡ position is_item items
           → IfSome (slice_get items index) (IsNearestBy (item_arcs octets_of) items arcs)
-      reached_nearest index e = ⊎_elim
-          (λ (item, l, is, read).
-          let found = find_some is_item items index e ∙ is in
+      reached_nearest index is_first = ⊎_elim
+          (λ (item, inside, is, read).
+          let found = find_some is_item items index is_first ∙ is in
           let same = itself item found in
           rw is (record { begins = rw same reached.begins; first = rw same found; longest = rw same reached.others }))
-          (λ (l, none). rw none tt)
+          (λ (past, none). rw none tt)
           (slice_get_cases items index).1
 
       pub reached_first : (index : ℕ) → Some index ≡ position is_item items → IfSome (slice_get items index)
           (λ item. position (has_item_arcs octets_of (item_arcs octets_of item)) items ≡ Some index)
-      reached_first index e = ⊎_elim
-          (λ (item, l, is, read).
-          let same = itself item (find_some is_item items index e ∙ is) in
-          rw is (rw same (sym e)))
-          (λ (l, none). rw none tt)
+      reached_first index is_first = ⊎_elim
+          (λ (item, inside, is, read).
+          let same = itself item (find_some is_item items index is_first ∙ is) in
+          rw is (rw same (sym is_first)))
+          (λ (past, none). rw none tt)
           (slice_get_cases items index).1
 
       abbrev IsNoItem : Type 0
@@ -249,23 +254,24 @@ module _ {Item : Type 0} (octets_of : Item → List ℕ) (items : List Item) (ar
       -- where the last one does not begin with it, or the list has no item of it
       pub no_item : (tells : Bool) → (tells ≡ true) ↔ BeginsWith last (ref_octets oid)
           → (tells ≡ true → None ≡ position is_item items) → IsNoItem
-      no_item tells told absent k d l e =
-          let near = rw e at (reached.near k d l) in
+      no_item tells told absent k default inside same =
+          let near = rw same at (reached.near k default inside) in
           let begun = iff_begins (tells ≡ true) reached.valid (ref_encoding oid) told in
           let none = find_none is_item items (absent (begun.1 (near reached.begins))) in
           grind (arith, find_at, slice_get_cases, passes_at_first, fails_before_first, nat_list_eq_equiv)
 
       module _ (other : IsNoItem) where
         pub reached_parent : (parent : List ℕ) → parent_of (ref_arcs oid) ≡ Some parent → IsReached last parent
-        reached_parent parent e =
+        reached_parent parent found =
             let valid = (ref_encoding oid).identifier in
-            let (_, arc, _, joined) = child_of-parent_of root_rule (ref_arcs oid) parent valid e in
-            let (rest, f) = reached.begins in
+            let (_, arc, _, joined) = child_of-parent_of root_rule (ref_arcs oid) parent valid found in
+            let (rest, split) = reached.begins in
             record {
               begins = (arc ∷ rest, grind (arith, append_assoc));
-              others = λ k d l b.
-                  let (more, g) = reached.others k d l b in
-                  above_child parent arc _ more (joined ∙ g) (λ nil. other k d l (grind (arith, append-nil)));
+              others = λ k default inside begun.
+                  let (more, split_item) = reached.others k default inside begun in
+                  above_child parent arc _ more (joined ∙ split_item)
+                  (λ nil. other k default inside (grind (arith, append-nil)));
               valid = reached.valid;
               near = reached.near;
             }

@@ -15,15 +15,15 @@ abbrev pub IsCut : {X : Type 0} → (X → Bool) → List X → ℕ → Type 0
 IsCut p xs i = IsPartitionPoint (λ x. p x ≡ true) (λ x. p x ≡ false) xs i
 
 -- an index where a test cuts a list is the number of those that pass
-pub point_is_count : {X : Type 0} (p : X → Bool) (xs : List X) (a : ℕ) → a ≤ length xs → IsCut p xs a
-    → a ≡ count_by p xs
-point_is_count p [] a l cut = omega arith
-point_is_count p (x ∷ xs) a l cut =
-    let rest = point_is_count p xs (a - 1) (omega arith) (
-      λ k d m n. cut.0 (suc k) d (omega arith) (omega arith),
-      λ k d m n. cut.1 (suc k) d (omega arith) (omega arith),
+pub point_is_count : {X : Type 0} (test : X → Bool) (xs : List X) (index : ℕ) → index ≤ length xs → IsCut test xs index
+    → index ≡ count_by test xs
+point_is_count test [] index within cut = omega arith
+point_is_count test (x ∷ xs) index within cut =
+    let rest = point_is_count test xs (index - 1) (omega arith) (
+      λ k default above below. cut.0 (suc k) default (omega arith) (omega arith),
+      λ k default above below. cut.1 (suc k) default (omega arith) (omega arith),
     ) in
-    grind (arith, sum_by-cons (λ y. cond (p y) 1 0) x xs, rest, cut.0 0 x, cut.1 0 x)
+    grind (arith, sum_by-cons (λ item. cond (test item) 1 0) x xs, rest, cut.0 0 x, cut.1 0 x)
 
 -- ---- what comes before and is under a prefix, in a list by keys
 
@@ -36,12 +36,13 @@ module _ {X : Type 0} (key : X → List ℕ) (prefix : List ℕ) where
 
   -- the keys under it are from the cut of those before it to the cut of the rest
   pub under_between : (xs : List X) (from count : ℕ) → IsCut key_before xs from → IsCut key_under (drop from xs) count
-      → (k : ℕ) (d : X) → k < length xs → (key_under (get_or xs k d) ≡ true) ↔ ((from ≤ k) × (k < from + count))
-  under_between xs from count first second k d l =
-      let at = get_or-drop from xs (k - from) d in
-      let n = length-drop from xs in
-      let apart = under_apart prefix (key (get_or xs k d)) in
-      grind (arith, at, n, first.0 k d, second.0 (k - from) d, second.1 (k - from) d, apart)
+      → (k : ℕ) (default : X) → k < length xs
+      → (key_under (get_or xs k default) ≡ true) ↔ ((from ≤ k) × (k < from + count))
+  under_between xs from count first second k default inside =
+      let at = get_or-drop from xs (k - from) default in
+      let long = length-drop from xs in
+      let apart = under_apart prefix (key (get_or xs k default)) in
+      grind (arith, at, long, first.0 k default, second.0 (k - from) default, second.1 (k - from) default, apart)
 
 module _ {X : Type 0} (key : X → List ℕ) (sorted : List X) (up : IsSortedByKey key (slice_cmp nat_cmp) sorted) where
   -- a test that goes down the order cuts the list
