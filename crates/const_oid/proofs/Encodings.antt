@@ -35,13 +35,14 @@ part_none limit {part} g l = grind (arith, shortest, le-ltb, finished_from_chain
 
 -- ---- all parts
 
-later_valid : (parts : List (List ℕ)) → AllByRecursion IsPart parts → later_fault parts ≡ None → AllZip IsGroup (map value_of parts) parts × AllByRecursion (λ n. n ≤ max_arc) (map value_of parts)
-later_valid [] p h = (tt, tt)
-later_valid (part ∷ parts) p h =
-    let (a, b) = both_none (part_fault max_arc part) (later_fault parts) h in
-    let (g, l) = part_valid max_arc part p.0 a in
-    let (gs, ls) = later_valid parts p.1 b in
-    ((g, gs), (l, ls))
+later_valid : (parts : List (List ℕ)) → AllByRecursion IsPart parts → later_fault parts ≡ None
+    → AllZip IsGroup (map value_of parts) parts × AllByRecursion (λ n. n ≤ max_arc) (map value_of parts)
+later_valid [] chains none = (tt, tt)
+later_valid (part ∷ parts) chains none =
+    let (first, later) = both_none (part_fault max_arc part) (later_fault parts) none in
+    let (group, small) = part_valid max_arc part chains.0 first in
+    let (groups, all_small) = later_valid parts chains.1 later in
+    ((group, groups), (small, all_small))
 
 later_none : (numbers : List ℕ) (groups : List (List ℕ)) → AllZip IsGroup numbers groups → AllByRecursion (λ n. n ≤ max_arc) numbers → later_fault groups ≡ None
 later_none [] [] g l = refl
@@ -99,11 +100,14 @@ pub encoding_back : {rule : RootRule} {arcs octets : List ℕ} → IsEncoding ru
 encoding_back e = rw (arcs_of_encoding e) e
 
 -- the later arcs are the values of the later parts
-pub later_arcs : (rule : RootRule) (arcs octets : List ℕ) → IsEncoding rule arcs octets → drop 2 arcs ≡ map value_of (drop 1 (cut octets))
-later_arcs rule (a ∷ b ∷ later) octets e =
-    let numbers = subidentifiers (a ∷ b ∷ later) in
-    ap (drop 1) (sym (groups_valued numbers e.groups e.each)) ∙ drop-map value_of 1 e.groups ∙ ap (λ ps. map value_of (drop 1 ps)) (sym (cut_encoding rule (a ∷ b ∷ later) octets e))
-later_arcs rule _ octets e = absurd e.identifier
+pub later_arcs : (rule : RootRule) (arcs octets : List ℕ) → IsEncoding rule arcs octets
+    → drop 2 arcs ≡ map value_of (drop 1 (cut octets))
+later_arcs rule (first ∷ second ∷ later) octets encoding =
+    let numbers = subidentifiers (first ∷ second ∷ later) in
+    ap (drop 1) (sym (groups_valued numbers encoding.groups encoding.each))
+    ∙ drop-map value_of 1 encoding.groups
+    ∙ ap (λ groups. map value_of (drop 1 groups)) (sym (cut_encoding rule (first ∷ second ∷ later) octets encoding))
+later_arcs rule _ octets encoding = absurd encoding.identifier
 
 -- no two lists of arcs have one encoding
 pub same_arcs : {rule : RootRule} {a b octets : List ℕ} → IsEncoding rule a octets → IsEncoding rule b octets → a ≡ b
@@ -147,20 +151,29 @@ iff_arcs P e f iff = (λ p. same_arcs (rw (iff.0 p) at e) f, λ s. iff.1 (same_o
 
 -- ---- the narrow rule: one octet for the first two arcs
 
-pub root_octet : (a b : ℕ) (later octets : List ℕ) → IsEncoding Narrow (a ∷ b ∷ later) octets → (groups : List (List ℕ)) × AllZip IsGroup later groups × (octets ≡ (40 * a + b) ∷ concat groups)
-root_octet a b later octets e = by e.groups e.each e.joined
+pub root_octet : (first second : ℕ) (later octets : List ℕ) → IsEncoding Narrow (first ∷ second ∷ later) octets
+    → (groups : List (List ℕ)) × AllZip IsGroup later groups × (octets ≡ (40 * first + second) ∷ concat groups)
+root_octet first second later octets encoding = by encoding.groups encoding.each encoding.joined
   where
-    by : (groups : List (List ℕ)) → AllZip IsGroup ((40 * a + b) ∷ later) groups → octets ≡ concat groups → (groups : List (List ℕ)) × AllZip IsGroup later groups × (octets ≡ (40 * a + b) ∷ concat groups)
-    by [] z j = absurd z
-    by (g ∷ gs) z j =
-        let i = e.identifier in
-        let small = first_in_range Narrow a b i.0 i.1 in
-        (gs, z.1, j ∙ ap (λ x. x ++ concat gs) (group-small (omega arith) z.0))
+    by : (groups : List (List ℕ)) → AllZip IsGroup ((40 * first + second) ∷ later) groups → octets ≡ concat groups
+        → (groups : List (List ℕ)) × AllZip IsGroup later groups × (octets ≡ (40 * first + second) ∷ concat groups)
+    by [] each joined = absurd each
+    by (group ∷ groups) each joined =
+        let identifier = encoding.identifier in
+        let small = first_in_range Narrow first second identifier.0 identifier.1 in
+        (groups, each.1, joined ∙ ap (λ start. start ++ concat groups) (group-small (omega arith) each.0))
 
-pub encoding_from_root : (a b : ℕ) (later : List ℕ) (groups : List (List ℕ)) → IsIdentifier Narrow (a ∷ b ∷ later) → AllZip IsGroup later groups → IsEncoding Narrow (a ∷ b ∷ later) ((40 * a + b) ∷ concat groups)
-encoding_from_root a b later groups i z =
-    let small = first_in_range Narrow a b i.0 i.1 in
-    record { identifier = i; groups = ((40 * a + b) ∷ []) ∷ groups; each = (small_is (40 * a + b) (omega arith), z); joined = refl }
+pub encoding_from_root : (first second : ℕ) (later : List ℕ) (groups : List (List ℕ))
+    → IsIdentifier Narrow (first ∷ second ∷ later) → AllZip IsGroup later groups
+    → IsEncoding Narrow (first ∷ second ∷ later) ((40 * first + second) ∷ concat groups)
+encoding_from_root first second later groups identifier each =
+    let small = first_in_range Narrow first second identifier.0 identifier.1 in
+    record {
+      identifier = identifier;
+      groups = ((40 * first + second) ∷ []) ∷ groups;
+      each = (small_is (40 * first + second) (omega arith), each);
+      joined = refl;
+    }
 
 -- ---- what identifiers hold encodes their arcs
 
