@@ -27,18 +27,18 @@ cut_one (y ∷ ys) x high =
     ∙ ap (onto_first y) (cut_one ys x (λ k l m. high (suc k) (omega arith) (omega arith)))
 
 -- the last part begins after the last octet below 128 that another follows
-cut_push : (prefix : List ℕ) (x index : ℕ) → index ≤ length prefix
+cut_push : (prefix : List ℕ) (octet index : ℕ) → index ≤ length prefix
     → ((k : ℕ) → index ≡ suc k → slice_index prefix k < 128) → AreHigh prefix index
-    → (last : List ℕ) × (cut (prefix ++ x ∷ []) ≡ cut (take index prefix) ++ last ∷ [])
-cut_push prefix x zero inside final high = (prefix ++ x ∷ [], cut_one prefix x high)
-cut_push (y ∷ ys) x (suc zero) inside final high =
-    let one = cut_one ys x (λ k l m. high (suc k) (omega arith) (omega arith)) in
-    (ys ++ x ∷ [], grind (arith, cut_after-last, final 0 refl))
-cut_push (y ∷ z ∷ zs) x (suc (suc k)) inside final high =
-    let rest = cut_push (z ∷ zs) x (suc k) (omega arith) (λ i s. final (suc i) (omega arith))
-    (λ i l r. high (suc i) (omega arith) (omega arith)) in
+    → (last : List ℕ) × (cut (prefix ++ octet ∷ []) ≡ cut (take index prefix) ++ last ∷ [])
+cut_push prefix octet zero inside final high = (prefix ++ octet ∷ [], cut_one prefix octet high)
+cut_push (x ∷ xs) octet (suc zero) inside final high =
+    let one = cut_one xs octet (λ k low below. high (suc k) (omega arith) (omega arith)) in
+    (xs ++ octet ∷ [], grind (arith, cut_after-last, final 0 refl))
+cut_push (x ∷ y ∷ ys) octet (suc (suc k)) inside final high =
+    let rest = cut_push (y ∷ ys) octet (suc k) (omega arith) (λ i next. final (suc i) (omega arith))
+    (λ i low below. high (suc i) (omega arith) (omega arith)) in
     grind (arith, cut_after-push, rest)
-cut_push _ x _ inside final high = absurd (omega arith)
+cut_push _ octet _ inside final high = absurd (omega arith)
 
 -- the octets before the last part
 abbrev pub IsWithoutLast : List ℕ → List ℕ → Type 0
@@ -48,12 +48,13 @@ but_last : (parts : List (List ℕ)) (last : List ℕ) → take (length (parts +
 but_last parts last = grind (arith, nat_tests, common_steps, length-append)
 
 -- after the last octet below 128
-pub cut-without_last_part : (octets prefix : List ℕ) (x index : ℕ) → octets ≡ prefix ++ x ∷ []
+pub cut-without_last_part : (octets prefix : List ℕ) (octet index : ℕ) → octets ≡ prefix ++ octet ∷ []
     → index < length prefix → slice_index prefix index < 128
     → ((k : ℕ) → index < k → k < length prefix → 128 ≤ slice_index prefix k)
     → IsWithoutLast octets (take (index + 1) prefix)
-cut-without_last_part octets prefix x index is inside final high =
-    let before = cut_push prefix x (index + 1) (omega arith) (λ k e. grind arith) (λ k l. high k (omega arith)) in
+cut-without_last_part octets prefix octet index is inside final high =
+    let before = cut_push prefix octet (index + 1) (omega arith) (λ k next. grind arith)
+    (λ k low. high k (omega arith)) in
     search (arith, before, but_last)
 
 -- and where there is no such octet
@@ -86,8 +87,8 @@ parent_of-some a b c later =
 parent_of-parts : (parts : List (List ℕ)) → let before = take (length parts - 1) parts in
     before ≢ [] → parent_of (arcs_from (map value_of parts)) ≡ Some (arcs_from (map value_of before))
 parent_of-parts (part ∷ next ∷ later) some =
-    let e : length (part ∷ next ∷ later) - 1 ≡ suc (length later) = omega arith in
-    rw (e, ← take-map value_of (length later) (next ∷ later), ← length-map later value_of)
+    let fewer : length (part ∷ next ∷ later) - 1 ≡ suc (length later) = omega arith in
+    rw (fewer, ← take-map value_of (length later) (next ∷ later), ← length-map later value_of)
     (grind (arith, parent_of-some))
 parent_of-parts _ some = absurd (some refl)
 

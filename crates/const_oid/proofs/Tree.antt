@@ -11,19 +11,19 @@ parent_of-child_of rule arcs arc i = grind (arith, nat_tests, common_steps, leng
 -- a list by its last number
 split : (P : ℕ → Type 0) (x : ℕ) (xs : List ℕ) → AllByRecursion P (x ∷ xs)
     → (prefix : List ℕ) × (last : ℕ) × (x ∷ xs ≡ prefix ++ last ∷ []) × AllByRecursion P prefix × P last
-split P x [] h = ([], x, refl, tt, h.0)
-split P x (y ∷ ys) h =
-    let (prefix, last, joined, all, is) = split P y ys h.1 in
-    (x ∷ prefix, last, ap (λ zs. x ∷ zs) joined, (h.0, all), is)
+split P x [] holds = ([], x, refl, tt, holds.0)
+split P x (y ∷ ys) holds =
+    let (prefix, last, joined, all, is) = split P y ys holds.1 in
+    (x ∷ prefix, last, ap (λ zs. x ∷ zs) joined, (holds.0, all), is)
 
 -- an identifier with a parent is its child by the last arc
 pub child_of-parent_of : (rule : RootRule) (arcs parent : List ℕ) → IsIdentifier rule arcs
     → parent_of arcs ≡ Some parent
     → IsIdentifier rule parent × (last : ℕ) × (last ≤ max_arc) × (child_of parent last ≡ arcs)
-child_of-parent_of rule (a ∷ b ∷ []) parent i e = cc
-child_of-parent_of rule (a ∷ b ∷ c ∷ later) parent i e =
-    let (prefix, last, joined, all, small) = split (λ arc. arc ≤ max_arc) c later i.2 in
-    let found = parent_of-child_of rule (a ∷ b ∷ prefix) last (i.0, i.1, all) in
-    let same : parent ≡ a ∷ b ∷ prefix = cc in
-    rw (same, joined) ((i.0, i.1, all), last, small, refl)
-child_of-parent_of rule _ parent i e = absurd i
+child_of-parent_of rule (first ∷ second ∷ []) parent identifier is_parent = cc
+child_of-parent_of rule (first ∷ second ∷ third ∷ later) parent identifier is_parent =
+    let (prefix, last, joined, all, small) = split (λ arc. arc ≤ max_arc) third later identifier.2 in
+    let found = parent_of-child_of rule (first ∷ second ∷ prefix) last (identifier.0, identifier.1, all) in
+    let same : parent ≡ first ∷ second ∷ prefix = cc in
+    rw (same, joined) ((identifier.0, identifier.1, all), last, small, refl)
+child_of-parent_of rule _ parent identifier is_parent = absurd identifier
