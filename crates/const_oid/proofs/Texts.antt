@@ -78,7 +78,7 @@ module _ (rule : RootRule) (capacity : ℕ) where
     piece_none numbers valid = grind (arith, nat_tests, find-none)
 
     piece_valid : piece_fault rule capacity before piece after ≡ None → IsValidPiece before piece
-    piece_valid h = record {
+    piece_valid none = record {
       number = (grind (arith, nat_tests), grind (arith, nat_tests, digits_from_find));
       small = grind (arith, nat_tests);
       arc = grind (arith, nat_tests);
@@ -96,17 +96,17 @@ module _ (rule : RootRule) (capacity : ℕ) where
 
   pieces_none : (before : List ℕ) (pieces : List (List ℕ)) → AllByRecursion IsNumber pieces
       → IsFitting (before ++ map number_of pieces) → pieces_fault rule capacity before pieces ≡ None
-  pieces_none before [] p f = few_none rule before (rw append-nil at f.0)
-  pieces_none before (piece ∷ after) p f =
+  pieces_none before [] numbers fits = few_none rule before (rw append-nil at fits.0)
+  pieces_none before (piece ∷ after) numbers fits =
       let n = number_of piece in
       let rest = map number_of after in
       let valid : IsValidPiece before piece = record {
-        number = p.0;
-        small = all_at (λ n. n ≤ max_arc) before n rest (arcs_small rule (before ++ n ∷ rest) f.0);
-        arc = arc_none rule capacity before n rest f.0 f.1;
+        number = numbers.0;
+        small = all_at (λ n. n ≤ max_arc) before n rest (arcs_small rule (before ++ n ∷ rest) fits.0);
+        arc = arc_none rule capacity before n rest fits.0 fits.1;
       } in
-      let more = pieces_none (before ++ n ∷ []) after p.1 (rw (append-cons before n rest) f) in
-      rw (piece_none before piece after p.1 valid) more
+      let more = pieces_none (before ++ n ∷ []) after numbers.1 (rw (append-cons before n rest) fits) in
+      rw (piece_none before piece after numbers.1 valid) more
 
   pub text_fault-none : (text arcs : List ℕ) → Denotes rule text arcs → size arcs ≤ capacity
       → text_fault rule text capacity ≡ None
@@ -115,14 +115,14 @@ module _ (rule : RootRule) (capacity : ℕ) where
   pieces_valid : (before : List ℕ) (pieces : List (List ℕ)) → IsBegun rule capacity before
       → pieces_fault rule capacity before pieces ≡ None
       → IsFitting (before ++ map number_of pieces) × AllByRecursion IsNumber pieces
-  pieces_valid before [] b h = (rw append-nil (whole_from_begun rule capacity before b h), tt)
-  pieces_valid before (piece ∷ after) b h =
+  pieces_valid before [] begun none = (rw append-nil (whole_from_begun rule capacity before begun none), tt)
+  pieces_valid before (piece ∷ after) begun none =
       let n = number_of piece in
-      let (p, q) = both_none (piece_fault rule capacity before piece after) _ h in
-      let s = piece_valid before piece after p in
-      let begun = begun_more rule capacity before n b s.small s.arc in
-      let (whole, numbers) = pieces_valid (before ++ n ∷ []) after begun q in
-      (rw (append-cons before n (map number_of after)) at whole, (s.number, numbers))
+      let (first, later) = both_none (piece_fault rule capacity before piece after) _ none in
+      let valid = piece_valid before piece after first in
+      let more = begun_more rule capacity before n begun valid.small valid.arc in
+      let (whole, numbers) = pieces_valid (before ++ n ∷ []) after more later in
+      (rw (append-cons before n (map number_of after)) at whole, (valid.number, numbers))
 
   pub denoted_from_none : (text : List ℕ) → text_fault rule text capacity ≡ None
       → let arcs = map number_of (pieces_of text) in Denotes rule text arcs × (size arcs ≤ capacity)

@@ -19,33 +19,35 @@ byte_first (suc k) n =
     rw (pow-suc 256 (suc k), mul_comm (256 ^ suc k) 256)
     (mod-mul n (omega arith) (one-le-pow (suc k) 256 (omega arith)))
 
-bytes_cmp : (k m n : ℕ)
-    → slice_cmp nat_cmp (bytes_high_first k m) (bytes_high_first k n) ≡ nat_cmp (m % 256 ^ k) (n % 256 ^ k)
-bytes_cmp zero m n = nat_cmp_is (m % 256 ^ 0) (n % 256 ^ 0) Equal (omega arith)
-bytes_cmp (suc k) m n =
+bytes_cmp : (k left right : ℕ)
+    → slice_cmp nat_cmp (bytes_high_first k left) (bytes_high_first k right)
+    ≡ nat_cmp (left % 256 ^ k) (right % 256 ^ k)
+bytes_cmp zero left right = nat_cmp_is (left % 256 ^ 0) (right % 256 ^ 0) Equal (omega arith)
+bytes_cmp (suc k) left right =
     let some : 1 ≤ 256 ^ k = one-le-pow k 256 (omega arith) in
-    let rest = bytes_cmp k m n in
-    rw (byte_first k m, byte_first k n)
-    (digits_cmp (byte_at k m) (byte_at k n) _ _ (m % 256 ^ k) (n % 256 ^ k) rest (omega arith) (omega arith))
+    let rest = bytes_cmp k left right in
+    rw (byte_first k left, byte_first k right)
+    (digits_cmp (byte_at k left) (byte_at k right) _ _ (left % 256 ^ k) (right % 256 ^ k) rest
+    (omega arith) (omega arith))
 
 -- ---- the word at an index
 
 pub word_is : (xs : List ℕ) (at n : ℕ) → at + 8 ≤ length xs → ((i : ℕ) → get_or xs i 0 < 256) → n < 2 ^ 64
     → n ≡ from_be_bytes w64 (take 8 (drop at xs)) → IsWord xs at n
 unfolding bytes_of
-word_is xs at n inside octets fits e =
+word_is xs at n inside octets fits is =
     let long = length-take-le 8 (drop at xs) (omega (arith, length-drop at xs)) in
     let small : (i : ℕ) → get_or (take 8 (drop at xs)) i 0 < 256 =
     λ i. grind (arith, get_or-take, get_or-drop, get_or_past, cases_lt, octets (at + i)) in
-    record { fits = fits; value = be_bytes_8 (take 8 (drop at xs)) n long small e }
+    record { fits = fits; value = be_bytes_8 (take 8 (drop at xs)) n long small is }
 
-chunks_cmp : {xs ys : List ℕ} {at m n : ℕ} → IsWord xs at m → IsWord ys at n
-    → slice_cmp nat_cmp (take 8 (drop at xs)) (take 8 (drop at ys)) ≡ nat_cmp m n
+chunks_cmp : {xs ys : List ℕ} {at left right : ℕ} → IsWord xs at left → IsWord ys at right
+    → slice_cmp nat_cmp (take 8 (drop at xs)) (take 8 (drop at ys)) ≡ nat_cmp left right
 unfolding bytes_of
-chunks_cmp {m} {n} v w =
-    let p : m % 256 ^ 8 ≡ m = omega arith in
-    let q : n % 256 ^ 8 ≡ n = omega arith in
-    rw (← v.value, ← w.value) (rw (p, q) at (bytes_cmp 8 m n))
+chunks_cmp {left} {right} word other =
+    let fits : left % 256 ^ 8 ≡ left = omega arith in
+    let fits' : right % 256 ^ 8 ≡ right = omega arith in
+    rw (← word.value, ← other.value) (rw (fits, fits') at (bytes_cmp 8 left right))
 
 -- equal words are the same octets
 pub same_more : {xs ys : List ℕ} {at m n : ℕ} → IsWord xs at m → IsWord ys at n
@@ -72,11 +74,11 @@ last_words {xs} {ys} {at} v w same e k l = grind (arith, same_more v w, take_all
 -- where lists are the same as far as both go, their lengths decide
 pub ended_at : (xs ys : List ℕ) (at : ℕ) → at ≡ min (length xs) (length ys) → take at xs ≡ take at ys
     → slice_cmp nat_cmp xs ys ≡ nat_cmp (length xs) (length ys)
-ended_at [] [] at e same = refl
-ended_at [] (y ∷ ys) at e same = nat_cmp_is 0 (suc (length ys)) Less (omega arith)
-ended_at (x ∷ xs) [] at e same = nat_cmp_is (suc (length xs)) 0 Greater (omega arith)
-ended_at (x ∷ xs) (y ∷ ys) zero e same = absurd (omega arith)
-ended_at (x ∷ xs) (y ∷ ys) (suc at) e same = grind (arith, nat_tests, ended_at xs ys at (omega arith) (cc))
+ended_at [] [] at is_end same = refl
+ended_at [] (y ∷ ys) at is_end same = nat_cmp_is 0 (suc (length ys)) Less (omega arith)
+ended_at (x ∷ xs) [] at is_end same = nat_cmp_is (suc (length xs)) 0 Greater (omega arith)
+ended_at (x ∷ xs) (y ∷ ys) zero is_end same = absurd (omega arith)
+ended_at (x ∷ xs) (y ∷ ys) (suc at) is_end same = grind (arith, nat_tests, ended_at xs ys at (omega arith) (cc))
 
 pub ended_cmp : (xs ys : List ℕ) → (let end = min (length xs) (length ys) in take end xs ≡ take end ys)
     → slice_cmp nat_cmp xs ys ≡ nat_cmp (length xs) (length ys)
