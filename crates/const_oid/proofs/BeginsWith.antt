@@ -42,14 +42,14 @@ pub arcs_prefix : (rule : RootRule) (p x a b : List ℕ) → IsEncoding rule p a
     → BeginsWith b a → BeginsWith x p
 arcs_prefix rule p x a b e f s = grind (arith, numbers_prefix, arcs_back)
 
--- the octets of p begin those of x
-pub encoding_prefix : (rule : RootRule) (p x a b : List ℕ) → IsEncoding rule p a → IsEncoding rule x b
-    → BeginsWith x p → BeginsWith b a
-encoding_prefix rule (first ∷ second ∷ later) x a b prefix longer (more, begins) =
+-- the octets of arcs begin those of arcs below them
+pub encoding_prefix : (rule : RootRule) (above below upper lower : List ℕ) → IsEncoding rule above upper
+    → IsEncoding rule below lower → BeginsWith below above → BeginsWith lower upper
+encoding_prefix rule (first ∷ second ∷ later) below upper lower prefix longer (more, begins) =
     let numbers = subidentifiers (first ∷ second ∷ later) in
     let (rest, joined) = octets_prefix numbers more prefix.groups longer.groups prefix.each (rw (ap subidentifiers begins) at longer.each) in
     (rest, longer.joined ∙ joined ∙ ap (λ octets. octets ++ rest) (sym prefix.joined))
-encoding_prefix rule _ x a b prefix longer begins = absurd prefix.identifier
+encoding_prefix rule _ below upper lower prefix longer begins = absurd prefix.identifier
 
 -- encodings begin others exactly where their arcs begin theirs
 pub iff_begins : {rule : RootRule} {x p b a : List ℕ} (P : Type 0)
@@ -60,43 +60,53 @@ iff_begins {rule} {x} {p} {b} {a} P f e iff =
 -- ---- ranges in lexicographic order
 
 -- what is between two lists that begin with the prefix begins with it, too
-pub between : (prefix x y z : List ℕ) → slice_cmp nat_cmp y (prefix ++ x) ≢ Less
-    → slice_cmp nat_cmp y (prefix ++ z) ≢ Greater → BeginsWith y prefix
-between [] x y z from to = (y, refl)
-between (arc ∷ prefix) x [] z from to = absurd (from refl)
-between (arc ∷ prefix) x (first ∷ y) z from to = by_ranked _ _ _ (nat_cmp first arc) (ranks first arc)
+pub between : (prefix low middle high : List ℕ) → slice_cmp nat_cmp middle (prefix ++ low) ≢ Less
+    → slice_cmp nat_cmp middle (prefix ++ high) ≢ Greater → BeginsWith middle prefix
+between [] low middle high from to = (middle, refl)
+between (arc ∷ prefix) low [] high from to = absurd (from refl)
+between (arc ∷ prefix) low (first ∷ middle) high from to = by_ranked _ _ _ (nat_cmp first arc) (ranks first arc)
     (λ is less. absurd (from (rw is refl)))
-    (λ is same. let (rest, begins) = between prefix x y z (λ less. from (rw is less)) (λ greater. to (rw is greater)) in (rest, cc))
+    (λ is same.
+    let (rest, begins) = between prefix low middle high (λ less. from (rw is less)) (λ greater. to (rw is greater)) in
+    (rest, cc))
     (λ is greater. absurd (to (rw is refl)))
 
 -- so does an identifier whose encoding is between those of two that begin with another
-pub encodings_between : {rule : RootRule} {p x y z a b c d : List ℕ}
-    → IsEncoding rule p a → IsEncoding rule x b → IsEncoding rule y c → IsEncoding rule z d
-    → BeginsWith x p → BeginsWith z p
-    → slice_cmp nat_cmp c b ≢ Less → slice_cmp nat_cmp c d ≢ Greater → BeginsWith y p
-encodings_between {rule} {p} {x} {y} {z} {a} {b} {c} {d} prefix low middle high begins begins' from to =
-    let (more, joined) = encoding_prefix rule p x a b prefix low begins in
-    let (more', joined') = encoding_prefix rule p z a d prefix high begins' in
-    arcs_prefix rule p y a c prefix middle (between a more c more' (rw joined at from) (rw joined' at to))
+pub encodings_between : {rule : RootRule} {above low middle high upper first octets last : List ℕ}
+    → IsEncoding rule above upper
+    → IsEncoding rule low first → IsEncoding rule middle octets → IsEncoding rule high last
+    → BeginsWith low above → BeginsWith high above
+    → slice_cmp nat_cmp octets first ≢ Less → slice_cmp nat_cmp octets last ≢ Greater → BeginsWith middle above
+encodings_between {rule} {above} {low} {middle} {high} {upper} {first} {octets} {last}
+    encodes encodes_low encodes_middle encodes_high begins begins' from to =
+    let (more, joined) = encoding_prefix rule above low upper first encodes encodes_low begins in
+    let (more', joined') = encoding_prefix rule above high upper last encodes encodes_high begins' in
+    arcs_prefix rule above middle upper octets encodes encodes_middle
+    (between upper more octets more' (rw joined at from) (rw joined' at to))
 
 pub before_more : (a rest : List ℕ) → 0 < length rest → slice_cmp nat_cmp a (a ++ rest) ≡ Less
 before_more a [] some = absurd (omega arith)
 before_more a (y ∷ ys) some = rw append-nil at (slice_cmp-prefix a [] (y ∷ ys))
 
 -- a descendant's encoding is longer, so an ancestor comes before it in both orders
-module _ {rule : RootRule} {p x a b : List ℕ} (e : IsEncoding rule p a) (f : IsEncoding rule x b)
-    (begins : BeginsWith x p) (deeper : length p < length x) where
-  longer : (rest : List ℕ) × (b ≡ a ++ rest) × (0 < length rest)
-  longer = let (rest, joined) = encoding_prefix rule p x a b e f begins in (rest, joined, some rest joined)
+module _ {rule : RootRule} {above below upper lower : List ℕ} (prefix : IsEncoding rule above upper)
+    (encoding : IsEncoding rule below lower) (begins : BeginsWith below above)
+    (deeper : length above < length below) where
+  longer : (rest : List ℕ) × (lower ≡ upper ++ rest) × (0 < length rest)
+  longer =
+      let (rest, joined) = encoding_prefix rule above below upper lower prefix encoding begins in
+      (rest, joined, some rest joined)
     where
-      some : (rest : List ℕ) → b ≡ a ++ rest → 0 < length rest
-      some [] s = let same = same_arcs {a = p} (rw (s ∙ append-nil a) e) f in absurd (omega (arith, ap length same))
-      some (y ∷ ys) s = omega arith
+      some : (rest : List ℕ) → lower ≡ upper ++ rest → 0 < length rest
+      some [] split =
+          let same = same_arcs {a = above} (rw (split ∙ append-nil upper) prefix) encoding in
+          absurd (omega (arith, ap length same))
+      some (y ∷ ys) split = omega arith
 
-  pub ancestor_short : shortlex_cmp a b ≡ Less
+  pub ancestor_short : shortlex_cmp upper lower ≡ Less
   ancestor_short = search (arith, longer, length-append)
 
-  pub ancestor_before : slice_cmp nat_cmp a b ≡ Less
+  pub ancestor_before : slice_cmp nat_cmp upper lower ≡ Less
   ancestor_before = search (arith, longer, before_more)
 
 -- ---- by tests

@@ -25,13 +25,13 @@ begins x xs = ⊎_elim
     onto (part ∷ parts) = (part, parts, refl)
 
 -- after an octet that both begin with, the order is the same
-onto_same : (x : ℕ) (xs ys : List ℕ)
-    → slice_cmp shortlex_cmp (onto_first x (cut xs)) (onto_first x (cut ys)) ≡ parts_cmp xs ys
-onto_same x [] [] = rw (tied_itself shortlex_cmp_total (x ∷ []))
-onto_same x [] (y ∷ ys) =
-    let (q, qs, f) = begins y ys in rw (f, shortlex_cmp-less (x ∷ []) (x ∷ y ∷ q) (omega arith))
-onto_same x (y ∷ xs) [] = search rules
-onto_same x (y ∷ xs) (z ∷ ys) = grind (arith, nat_tests)
+onto_same : (octet : ℕ) (xs ys : List ℕ)
+    → slice_cmp shortlex_cmp (onto_first octet (cut xs)) (onto_first octet (cut ys)) ≡ parts_cmp xs ys
+onto_same octet [] [] = rw (tied_itself shortlex_cmp_total (octet ∷ []))
+onto_same octet [] (y ∷ ys) =
+    let (part, parts, is) = begins y ys in rw (is, shortlex_cmp-less (octet ∷ []) (octet ∷ y ∷ part) (omega arith))
+onto_same octet (x ∷ xs) [] = search rules
+onto_same octet (x ∷ xs) (y ∷ ys) = grind (arith, nat_tests)
 
 same_first : (x : ℕ) (xs ys : List ℕ) → parts_cmp (x ∷ xs) (x ∷ ys) ≡ parts_cmp xs ys
 same_first x xs ys = grind (arith, cut_after-last, tied_itself, cut_after-more, onto_same, cases_lt)
@@ -84,7 +84,8 @@ level_numbers [] (m ∷ ms) [] ((x ∷ other) ∷ hs) groups others level = refl
 level_numbers (n ∷ ns) [] ((x ∷ group) ∷ gs) [] groups others level = refl
 level_numbers (n ∷ ns) (m ∷ ms) (group ∷ gs) (other ∷ hs) groups others level =
     let long : length group ≡ length other = level 0 group other refl refl in
-    let later = level_numbers ns ms gs hs groups.1 others.1 (λ i g h at_group at_other. level (suc i) g h at_group at_other) in
+    let later = level_numbers ns ms gs hs groups.1 others.1
+    (λ i left right at_group at_other. level (suc i) left right at_group at_other) in
     level_append group other (concat gs) (concat hs) long ∙ rw (groups_cmp groups.0 others.0 long, later) refl
 level_numbers _ _ _ _ groups others level = absurd assumption
 

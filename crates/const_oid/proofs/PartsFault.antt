@@ -40,7 +40,7 @@ value_of-more : (xs ys : List ℕ) → value_of xs ≤ value_of (xs ++ ys)
 value_of-more xs ys = grind (arith, nat_tests, value_of-append, one-le-pow, le-mul_of_pos_right)
 
 -- octets with bit 8, and the one after them, begin the first part
-begins_part : (read : List ℕ) (x : ℕ) (xs : List ℕ) → AllByRecursion (λ y. 128 ≤ y) read
+begins_part : (read : List ℕ) (x : ℕ) (xs : List ℕ) → AllByRecursion (λ octet. 128 ≤ octet) read
     → (tail : List ℕ) × (parts : List (List ℕ)) × (cut (read ++ x ∷ xs) ≡ (read ++ x ∷ tail) ∷ parts)
 begins_part [] x xs more = by (nat_lt x 128) (cut xs)
   where
@@ -50,15 +50,16 @@ begins_part [] x xs more = by (nat_lt x 128) (cut xs)
     by false [] = ([], [], refl)
     by false (part ∷ parts) = (part, parts, refl)
 begins_part (y ∷ ys) x xs more =
-    let (tail, parts, e) = begins_part ys x xs more.1 in
-    (tail, parts, rw (cut_after-more y (cut (ys ++ x ∷ xs)) more.0, e) refl)
+    let (tail, parts, is) = begins_part ys x xs more.1 in
+    (tail, parts, rw (cut_after-more y (cut (ys ++ x ∷ xs)) more.0, is) refl)
 
 -- the value of these octets is enough
-big_part : (limit a : ℕ) (read : List ℕ) (x : ℕ) (xs : List ℕ) → AllByRecursion (λ y. 128 ≤ y) (a ∷ read) → a ≢ 128
-    → limit < value_of (a ∷ read ++ x ∷ []) → fault_from limit (cut (a ∷ read ++ x ∷ xs)) ≡ Some ArcTooBig
-big_part limit a read x xs more first big =
-    let (tail, parts, e) = begins_part (a ∷ read) x xs more in
-    let least = rw (append-cons read x tail) at (value_of-more (a ∷ read ++ x ∷ []) tail) in
+big_part : (limit start : ℕ) (read : List ℕ) (x : ℕ) (xs : List ℕ)
+    → AllByRecursion (λ octet. 128 ≤ octet) (start ∷ read) → start ≢ 128
+    → limit < value_of (start ∷ read ++ x ∷ []) → fault_from limit (cut (start ∷ read ++ x ∷ xs)) ≡ Some ArcTooBig
+big_part limit start read x xs more first big =
+    let (tail, parts, is) = begins_part (start ∷ read) x xs more in
+    let least = rw (append-cons read x tail) at (value_of-more (start ∷ read ++ x ∷ []) tail) in
     grind (arith, nat_tests)
 
 -- the value of the first five octets is
@@ -71,9 +72,11 @@ five_big limit _ five long big = absurd (omega arith)
 -- that of six octets always is
 pub six_big : (limit : ℕ) (octets : List ℕ) → 5 < length octets → IsLong octets → 128 ≤ get_or octets 4 0
     → limit ≤ max_first root_rule → fault_from limit (cut octets) ≡ Some ArcTooBig
-six_big limit (a ∷ b ∷ c ∷ d ∷ e ∷ x ∷ xs) six (first, octet, (p, (q, (r, (s, t))))) last small =
-    let big : limit < value_of (a ∷ b ∷ c ∷ d ∷ e ∷ x ∷ []) = omega arith in
-    big_part limit a (b ∷ c ∷ d ∷ e ∷ []) x xs (p, (q, (r, (s, (last, tt))))) first big
+six_big limit (first ∷ second ∷ third ∷ fourth ∷ fifth ∷ sixth ∷ rest) six (shortest, octet, high) last small =
+    let (first_high, (second_high, (third_high, (fourth_high, end)))) = high in
+    let big : limit < value_of (first ∷ second ∷ third ∷ fourth ∷ fifth ∷ sixth ∷ []) = omega arith in
+    big_part limit first (second ∷ third ∷ fourth ∷ fifth ∷ []) sixth rest
+    (first_high, (second_high, (third_high, (fourth_high, (last, tt))))) shortest big
 six_big limit _ six long last small = absurd (omega arith)
 
 -- five octets end a part
@@ -92,11 +95,11 @@ five_open limit _ five long last small = absurd (omega arith)
 pub four_open : (limit : ℕ) (octets : List ℕ) → 0 < length octets → length octets < 5 → IsLong octets → max_arc ≤ limit
     → fault_from limit (cut octets) ≡ Some Base128
 four_open limit [] some four long small = absurd (omega arith)
-four_open limit (a ∷ []) some four long small = grind (arith, nat_tests)
-four_open limit (a ∷ b ∷ []) some four long small = grind (arith, nat_tests)
-four_open limit (a ∷ b ∷ c ∷ []) some four long small = grind (arith, nat_tests)
-four_open limit (a ∷ b ∷ c ∷ d ∷ []) some four long small = grind (arith, nat_tests)
-four_open limit (a ∷ b ∷ c ∷ d ∷ e ∷ xs) some four long small = absurd (omega arith)
+four_open limit (first ∷ []) some four long small = grind (arith, nat_tests)
+four_open limit (first ∷ second ∷ []) some four long small = grind (arith, nat_tests)
+four_open limit (first ∷ second ∷ third ∷ []) some four long small = grind (arith, nat_tests)
+four_open limit (first ∷ second ∷ third ∷ fourth ∷ []) some four long small = grind (arith, nat_tests)
+four_open limit (first ∷ second ∷ third ∷ fourth ∷ fifth ∷ rest) some four long small = absurd (omega arith)
 
 module _ (limit : ℕ) (octets : List ℕ) (first : slice_index octets 0 ≢ 128) (faulty : IsFaulty limit octets) where
   pub few_fault : 0 < length octets → length octets < 5 → max_arc ≤ limit → fault_from limit (cut octets) ≡ Some Base128
