@@ -40,17 +40,22 @@ whole_from_begun rule capacity arcs b h = search rules
 pub few_none : (rule : RootRule) (arcs : List ℕ) → IsIdentifier rule arcs → too_few_fault arcs ≡ None
 few_none rule arcs i = search rules
 
-items_none : (rule : RootRule) (capacity : ℕ) (before items : List ℕ) → IsIdentifier rule (before ++ items) → size (before ++ items) ≤ capacity → items_fault rule capacity before items ≡ None
-items_none rule capacity before [] i s = few_none rule before (rw append-nil at i)
-items_none rule capacity before (x ∷ xs) i s =
-    let e = append-cons before x xs in
-    rw (arc_none rule capacity before x xs i s) (items_none rule capacity (before ++ x ∷ []) xs (rw (← e) at i) (rw (← e) at s))
+items_none : (rule : RootRule) (capacity : ℕ) (before items : List ℕ) → IsIdentifier rule (before ++ items)
+    → size (before ++ items) ≤ capacity → items_fault rule capacity before items ≡ None
+items_none rule capacity before [] identifier fits = few_none rule before (rw append-nil at identifier)
+items_none rule capacity before (x ∷ xs) identifier fits =
+    let joined = append-cons before x xs in
+    rw (arc_none rule capacity before x xs identifier fits)
+    (items_none rule capacity (before ++ x ∷ []) xs (rw (← joined) at identifier) (rw (← joined) at fits))
 
-items_valid : (rule : RootRule) (capacity : ℕ) (before items : List ℕ) → IsBegun rule capacity before → AllByRecursion (λ n. n ≤ max_arc) items → items_fault rule capacity before items ≡ None → IsIdentifier rule (before ++ items) × (size (before ++ items) ≤ capacity)
-items_valid rule capacity before [] b l h = rw append-nil (whole_from_begun rule capacity before b h)
-items_valid rule capacity before (x ∷ xs) b l h =
-    let (p, q) = both_none (arc_fault rule capacity before x) (items_fault rule capacity (before ++ x ∷ []) xs) h in
-    rw (append-cons before x xs) at (items_valid rule capacity (before ++ x ∷ []) xs (begun_more rule capacity before x b l.0 p) l.1 q)
+items_valid : (rule : RootRule) (capacity : ℕ) (before items : List ℕ) → IsBegun rule capacity before
+    → AllByRecursion (λ n. n ≤ max_arc) items → items_fault rule capacity before items ≡ None
+    → IsIdentifier rule (before ++ items) × (size (before ++ items) ≤ capacity)
+items_valid rule capacity before [] begun small none = rw append-nil (whole_from_begun rule capacity before begun none)
+items_valid rule capacity before (x ∷ xs) begun small none =
+    let (first, later) = both_none (arc_fault rule capacity before x) _ none in
+    let more = begun_more rule capacity before x begun small.0 first in
+    rw (append-cons before x xs) at (items_valid rule capacity (before ++ x ∷ []) xs more small.1 later)
 
 -- an identifier that fits has no fault
 pub item_fault-none : (rule : RootRule) (capacity : ℕ) (arcs : List ℕ) → IsIdentifier rule arcs → size arcs ≤ capacity → item_fault rule arcs capacity ≡ None
