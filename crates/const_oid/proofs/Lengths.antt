@@ -58,15 +58,17 @@ count_chains (g ∷ gs) c = grind (arith, sum_by-append, count_chain, count_chai
 
 pub length_by_count : (rule : RootRule) (arcs octets : List ℕ) → IsEncoding rule arcs octets
     → length arcs ≡ 1 + last_octets octets
-length_by_count rule (a ∷ b ∷ later) octets e =
-    let numbers = subidentifiers (a ∷ b ∷ later) in
-    let long = AllZip-long IsGroup numbers e.groups e.each in
-    rw e.joined (omega (arith, count_chains e.groups (groups_continued numbers e.groups e.each)))
-length_by_count rule _ octets e = absurd e.identifier
+length_by_count rule (first ∷ second ∷ later) octets encoding =
+    let numbers = subidentifiers (first ∷ second ∷ later) in
+    let long = AllZip-long IsGroup numbers encoding.groups encoding.each in
+    let continued = groups_continued numbers encoding.groups encoding.each in
+    rw encoding.joined (omega (arith, count_chains encoding.groups continued))
+length_by_count rule _ octets encoding = absurd encoding.identifier
 
 pub length_by_parts : (rule : RootRule) (arcs octets : List ℕ) → IsEncoding rule arcs octets
     → length arcs ≡ 1 + length (cut octets)
-length_by_parts rule (a ∷ b ∷ later) octets e =
-    let arcs = a ∷ b ∷ later in
-    rw (cut_encoding rule arcs octets e) (omega (arith, AllZip-long IsGroup (subidentifiers arcs) e.groups e.each))
-length_by_parts rule _ octets e = absurd e.identifier
+length_by_parts rule (first ∷ second ∷ later) octets encoding =
+    let arcs = first ∷ second ∷ later in
+    let long = AllZip-long IsGroup (subidentifiers arcs) encoding.groups encoding.each in
+    rw (cut_encoding rule arcs octets encoding) (omega (arith, long))
+length_by_parts rule _ octets encoding = absurd encoding.identifier

@@ -63,10 +63,12 @@ module _ (entries : List (Entry ObjectIdentifierRef)) (arcs : List ℕ) where
         before = take from entries;
         after = drop count rest;
         joined = sym (rw (take-append-drop count rest) (take-append-drop from entries));
-        inside = λ k d l. grind (arith, common_steps, slice_get_cases entries (from + k), between (from + k));
+        inside = λ k default below. grind (arith, common_steps, slice_get_cases entries (from + k), between (from + k));
         outside = All-append (λ entry. BeginsWith (entry_arcs entry) arcs → ⊥) (take from entries) (drop count rest)
-            (λ k d l b. grind (arith, common_steps, slice_get_cases entries k, between k))
-            (λ k d l b. grind (arith, common_steps, slice_get_cases entries (from + (count + k)), between (from + (count + k))));
+            (λ k default below begun. grind (arith, common_steps, slice_get_cases entries k, between k))
+            (λ k default below begun.
+            let index = from + (count + k) in
+            grind (arith, common_steps, slice_get_cases entries index, between index));
       }
 
 abbrev pub in_order : Entry ObjectIdentifierRef → Entry ObjectIdentifierRef → Bool

@@ -23,17 +23,17 @@ pub octets_new : (octets : List ℕ) (capacity : ℕ) → AreOctets octets
     → (octet_fault Wide octets capacity ≡ None) × (octet_fault Narrow octets capacity ≢ None)
     ↔ ((arcs : List ℕ) × IsEncoding Wide arcs octets × IsPastNarrow arcs × (length octets ≤ capacity))
 octets_new octets capacity bytes = (
-  λ h.
-      let (none, fits) = fits_from_none Wide octets capacity h.0 in
-      let e = encoding_from_none Wide octets bytes none in
-      (arcs_of_octets octets, e, grind (arith, nat_tests, encoding_narrow e, octet_fault-fits), fits),
-  λ h.
-      let (arcs, e, past, fits) = h in (
-        octet_fault-fits capacity e fits,
+  λ accepted.
+      let (none, fits) = fits_from_none Wide octets capacity accepted.0 in
+      let encoding = encoding_from_none Wide octets bytes none in
+      (arcs_of_octets octets, encoding, grind (arith, nat_tests, encoding_narrow encoding, octet_fault-fits), fits),
+  λ encoded.
+      let (arcs, encoding, past, fits) = encoded in (
+        octet_fault-fits capacity encoding fits,
         λ none.
-            let n = encoding_from_none Narrow octets bytes (fits_from_none Narrow octets capacity none).0 in
-            let same = same_arcs (encoding_wide n) e in
-            grind (arith, nat_tests, same, n.identifier, past),
+            let narrow = encoding_from_none Narrow octets bytes (fits_from_none Narrow octets capacity none).0 in
+            let same = same_arcs (encoding_wide narrow) encoding in
+            grind (arith, nat_tests, same, narrow.identifier, past),
       ),
 )
 

@@ -34,9 +34,9 @@ pieces_later_same capacity a b before (piece ∷ pieces) =
 pub pieces_same : (capacity : ℕ) (pieces : List (List ℕ))
     → (RefusesSecond (map number_of pieces) (pieces_fault Narrow capacity [] pieces) → ⊥)
     → pieces_fault Narrow capacity [] pieces ≡ pieces_fault Wide capacity [] pieces
-pieces_same capacity [] h = refl
-pieces_same capacity (p ∷ []) h = refl
-pieces_same capacity (p ∷ q ∷ more) h = grind (arith, nat_tests, pieces_later_same)
+pieces_same capacity [] not_refused = refl
+pieces_same capacity (first ∷ []) not_refused = refl
+pieces_same capacity (first ∷ second ∷ more) not_refused = grind (arith, nat_tests, pieces_later_same)
 
 -- for the law of what is kept
 pub ruleset wide_keeps = (nat_tests, items_same, pieces_same)
