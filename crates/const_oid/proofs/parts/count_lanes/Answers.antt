@@ -8,8 +8,8 @@ returns-clause-value c =
     let octets = c.args.octets.now in
     let whole : take 32 octets ≡ octets = take_all 32 octets (omega (arith, c.requires)) in
     ap count_ones (bitmask_splat w8 nat_lt (take 32 octets) 32 128 (rw whole c.requires) (omega arith))
-    ∙ ones-mask_l (λ x. nat_lt x 128) (take 32 octets)
-    ∙ ap (count_by (λ x. nat_lt x 128)) whole
+    ∙ ones-mask_l (λ octet. nat_lt octet 128) (take 32 octets)
+    ∙ ap (count_by (λ octet. nat_lt octet 128)) whole
 
 pub returns-clause-fits : goal.returns-clause-fits
 returns-clause-fits c = omega (arith, returns-clause-value c, count_by-le-length (λ x. nat_lt x 128) c.args.octets.now)

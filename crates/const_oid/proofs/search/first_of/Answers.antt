@@ -9,14 +9,17 @@ returns-then-has_octets-clause-found g c = λ list.
     let octets_of = g.T.Contents.octets_of in
     let start = c.start_of-index.ensures in
     first_is octets_of c.args.oid.now c.args.items.now list _ start.within (start.cut list) (omega arith)
-    (λ d. let same = item_same octets_of c.args.oid.now c.args.items.now list c.start_of-index.result d (omega arith) in grind (arith, common_steps, same))
+    (λ default.
+    let same = item_same octets_of c.args.oid.now c.args.items.now list c.start_of-index.result default (omega arith) in
+    grind (arith, common_steps, same))
 
 pub returns-else-index-items-clause-found : goal.returns-else-index-items-clause-found
 returns-else-index-items-clause-found g c = λ list.
     let octets_of = g.T.Contents.octets_of in
     let start = c.start_of-index.ensures in
     first_none octets_of c.args.oid.now c.args.items.now list _ start.within (start.cut list)
-    (λ l d. let same = item_same octets_of c.args.oid.now c.args.items.now list c.start_of-index.result d l in
+    (λ inside default.
+    let same = item_same octets_of c.args.oid.now c.args.items.now list c.start_of-index.result default inside in
     elim c.else-index-items.branch [
       | else-index-items-via-then-index-items+else-has_octets w ↦ grind (arith, common_steps, same)
       | else-index-items-via-else-index-items w ↦ absurd (omega arith)
