@@ -23,13 +23,14 @@ without_empty_last-more piece pieces more = grind arith
 -- the first line, and the lines after it
 lines-first : (text : List ℕ) → 0 < length text → lines text ≡ first_line text ∷ lines (after_line text)
 lines-first text some =
-    let is_newline = λ (b : ℕ). b == 10 in
+    let is_newline = λ (byte : ℕ). byte == 10 in
     ⊎_elim
     (λ (found : position_or_len is_newline text < length text).
     ap without_empty_last (slice_split_first is_newline text 0 found)
     ∙ without_empty_last-more (first_line text) _ (omega (arith, length-slice_split is_newline (after_line text))))
     (λ (none : length text ≤ position_or_len is_newline text).
-    let one = slice_split_none is_newline text (λ k d l. fails_before_first is_newline text k d (omega arith)) in
+    let one = slice_split_none is_newline text
+    (λ k default below. fails_before_first is_newline text k default (omega arith)) in
     let first = take_all (position_or_len is_newline text) text none in
     let after = drop_all (position_or_len is_newline text + 1) text (omega arith) in
     grind arith)

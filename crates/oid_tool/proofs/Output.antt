@@ -41,14 +41,14 @@ module _ {old mid : Option (List ℕ)} {rest whole : List ℕ} (so_far : Appends
 pub first_and_left : (n : ℕ) (bytes left : List ℕ) → left ≡ drop n bytes → bytes ≡ take n bytes ++ left
 first_and_left n bytes left e = rw e (sym (take-append-drop n bytes))
 
--- n bytes are read after the first a of a buffer
-pub take_grown : (a k n : ℕ) (buffer bytes : List ℕ) → a ≤ length buffer → n ≤ length bytes
-    → take (a + n) (put_mid a k buffer bytes) ≡ take a buffer ++ take n bytes
-take_grown a k n buffer bytes within fits =
-    let len = length-take-le a buffer within in
-    ap (λ j. take (j + n) (put_mid a k buffer bytes)) (sym len)
-    ∙ take-append-add (take a buffer) (bytes ++ post_of a k buffer) n
-    ∙ ap (λ l. take a buffer ++ l) (take-append-le n bytes (post_of a k buffer) fits)
+-- n bytes are read after those that are used of a buffer
+pub take_grown : (used room n : ℕ) (buffer bytes : List ℕ) → used ≤ length buffer → n ≤ length bytes
+    → take (used + n) (put_mid used room buffer bytes) ≡ take used buffer ++ take n bytes
+take_grown used room n buffer bytes within fits =
+    let len = length-take-le used buffer within in
+    ap (λ start. take (start + n) (put_mid used room buffer bytes)) (sym len)
+    ∙ take-append-add (take used buffer) (bytes ++ post_of used room buffer) n
+    ∙ ap (λ part. take used buffer ++ part) (take-append-le n bytes (post_of used room buffer) fits)
 
 -- what a buffer has after a read or a write at an index
 pub ruleset grown = (take_grown, append_assoc, take-append_seam)

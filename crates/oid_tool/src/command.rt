@@ -96,7 +96,7 @@ fn name(text: &[u8], table: Database<'_>, out: &mut [u8]) -> Option<usize>
     }
 }
 
-/// Writes an error line at the start of `out`, and returns its length.
+/// Writes an error line at the start of `out`. Returns its length, or `None` if it does not fit.
 fn put_error(error: Error, out: &mut [u8]) -> Option<usize>
     ensures { StandsFirst result out.new (error_line (message_of error)) }
 {
@@ -117,7 +117,8 @@ pub fn put(bytes: &[u8], out: &mut [u8]) -> Option<usize>
     Some(len)
 }
 
-/// Writes octets at the start of `out` as lower-case hexadecimal digits, and returns their number.
+/// Writes octets as lower-case hexadecimal digits at the start of `out`. Returns the number of digits, or
+/// `None` if they do not fit.
 fn encode(octets: &[u8], out: &mut [u8]) -> Option<usize>
     requires { length octets.now ≤ 39 }
     ensures { StandsFirst result out.new (encode_lower octets.now) }
@@ -132,7 +133,8 @@ fn encode(octets: &[u8], out: &mut [u8]) -> Option<usize>
     }
 }
 
-/// Writes the octets of hexadecimal digits at the start of `out`, and returns their number.
+/// Writes the octets that hexadecimal digits denote at the start of `out`. Returns the number of octets, or
+/// `None` if the digits denote none.
 fn decode(digits: &[u8], out: &mut [u8]) -> Option<usize>
     requires { length digits.now ≤ 2 * length out.old }
     ensures within { IfSome result (λ count. count ≤ length out.new) }
@@ -154,7 +156,7 @@ pub fn cut(byte: u8, text: &[u8]) -> (&[u8], &[u8])
     }
 }
 
-/// The index of the first `byte` of a text.
+/// Returns the index of the first `byte` of a text, or `None` if the text lacks it.
 fn position(byte: u8, text: &[u8]) -> Option<usize>
     ensures { result ≡ position (λ b. b == byte) text.now }
 {

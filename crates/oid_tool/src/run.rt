@@ -61,12 +61,12 @@ pub fn run<R: Read, W: Write>(input: &mut R, output: &mut W) -> Result<(), ToolE
     let mut buffer = [0; BUFFER_LEN];
     let len = read_all(input, &mut buffer)?;
     let cn = Oid::new_unwrap("2.5.4.3");
-    let c = Oid::new_unwrap("2.5.4.6");
+    let country = Oid::new_unwrap("2.5.4.6");
     let common_name = Oid::new_unwrap("2.5.4.3");
     let rsa_encryption = Oid::new_unwrap("1.2.840.113549.1.1.1");
     let entries = [
         (&cn, "cn"),
-        (&c, "c"),
+        (&country, "c"),
         (&common_name, "commonName"),
         (&rsa_encryption, "rsaEncryption"),
     ];
