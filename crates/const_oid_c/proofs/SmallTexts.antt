@@ -9,6 +9,6 @@ use Rattle.const_oid_c.proofs.Capacities.{same_text}
 pub small_text : (text arcs octets : List ℕ) → IsEncoding root_rule arcs octets
     → Ok arcs ≡ text_answer root_rule text usual_capacity → Ok octets ≡ octets_of_text text
 small_text text arcs octets encoding answer =
-    let other : text_answer root_rule text usual_capacity ≢ Err Length = λ e. cc in
+    let other : text_answer root_rule text usual_capacity ≢ Err Length = λ same. cc in
     let large = sym (same_text text other) ∙ sym answer in
     rw (answer_utf8 root_rule usual_capacity text arcs (sym answer), large) (ap Ok (sym (encoding_of-encoded encoding)))

@@ -33,9 +33,10 @@ some_row entries arcs =
     let same = any-rows entries arcs in
     let test = row_has_arcs arcs in
     let rows = map row_of entries in (
-      λ t. let (k, row, l, at, has) = Any-from_list_any test rows (sym same ∙ t) in
-          (k, row, l, at, (bytes_decides row.0 arcs).0 has),
-      λ (k, row, l, at, is). same ∙ list_any-from_Any test rows (k, row, l, at, (bytes_decides row.0 arcs).1 is),
+      λ found. let (k, row, inside, at, has) = Any-from_list_any test rows (sym same ∙ found) in
+          (k, row, inside, at, (bytes_decides row.0 arcs).0 has),
+      λ (k, row, inside, at, is). same
+          ∙ list_any-from_Any test rows (k, row, inside, at, (bytes_decides row.0 arcs).1 is),
     )
 
 -- the entries of a table and its rows

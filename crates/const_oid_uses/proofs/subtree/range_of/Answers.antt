@@ -14,4 +14,4 @@ returns-else-is_sorted-clause-sorted c =
     let prefix = c.args.prefix.now in
     let octets = λ (n : ℕ). ref_octets (slice_index_or c.args.oids.now n prefix) in
     let level = level_with (octets k) (octets (k + 1)) in
-    (λ e. cc, λ sorted. sym (unordered prefix) ∙ level (sorted k prefix (omega arith) below))
+    (λ same. cc, λ sorted. sym (unordered prefix) ∙ level (sorted k prefix (omega arith) below))

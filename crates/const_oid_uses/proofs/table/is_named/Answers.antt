@@ -18,4 +18,4 @@ returns-in-None c =
     let entries = ref_entries_of c.new.result in
     let rows : map row_of entries ≡ attribute_types = ap (map row_of) c.new.ensures in
     let found = arcs_found entries attribute_types rows c.args.name.now None c.in-None.ensures in
-    (λ t. cc, λ e. cc)
+    (λ told. cc, λ same. cc)

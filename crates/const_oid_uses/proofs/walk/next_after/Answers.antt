@@ -38,11 +38,12 @@ module _ (keys : List ByArcs) (arcs : List ℕ) (up : IsSortedByKey key_arcs (sl
     at_index next inside is = record {
       inside = (index, inside, sym (is next));
       after = rw (is next) (past_arcs arcs _ (cut.1 index next (omega arith) inside));
-      nearest = λ k d l after. ⊎_elim
-          (λ (early : k < index). absurd (upto_arcs arcs _ (cut.0 k d (omega arith) early) after))
+      nearest = λ k default below after. ⊎_elim
+          (λ (early : k < index). absurd (upto_arcs arcs _ (cut.0 k default (omega arith) early) after))
           (λ (from : index ≤ k).
-          let level = far index k d from l in
-          rw (is d) (not_greater (key_arcs (slice_index_or keys index d)) (key_arcs (slice_index_or keys k d)) level))
+          let level = far index k default from below in
+          rw (is default)
+          (not_greater (key_arcs (slice_index_or keys index default)) (key_arcs (slice_index_or keys k default)) level))
           (cases_lt k index);
     }
 
@@ -52,7 +53,7 @@ module _ (keys : List ByArcs) (arcs : List ℕ) (up : IsSortedByKey key_arcs (sl
         (λ key. (index < length keys) × HoldsAt (λ other. key.now ≡ other) keys index)
         → IfSome next (λ key. IsNext keys arcs key.now)
         × IfNone next (All (λ key. slice_cmp nat_cmp arcs (key_arcs key) ≢ Less) keys)
-    answered None past = (tt, λ k d l. upto_arcs arcs _ (cut.0 k d (omega arith) (omega arith)))
+    answered None past = (tt, λ k default inside. upto_arcs arcs _ (cut.0 k default (omega arith) (omega arith)))
     answered (Some key) (inside, is) = (at_index key.now inside is, tt)
 
 pub returns : goal.returns
@@ -61,6 +62,6 @@ returns c =
     let arcs = ref_arcs c.args.oid.now in
     let point = c.partition_point-index in
     let cut = IsPartitionPoint-from_clause (is_upto keys arcs c.requires) keys point.result point.ensures.partitioned
-    (partitioned keys arcs c.requires) (λ a r f called. search rules) in
+    (partitioned keys arcs c.requires) (λ args result after called. search rules) in
     let (found, none) = answered keys arcs c.requires point.result cut c.get.result (search rules) in
     record { found = found; none = none }

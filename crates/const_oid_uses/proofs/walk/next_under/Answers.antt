@@ -11,9 +11,9 @@ use Rattle.const_oid_uses.proofs.walk.next_under.Goals as goal
 none_under : (keys : List ByArcs) (arcs root : List ℕ) (next : ByArcs) → IsNext keys arcs next
     → ¬ BeginsWith (key_arcs next) root → BeginsWith arcs root
     → All (λ key. BeginsWith (key_arcs key) root → slice_cmp nat_cmp arcs (key_arcs key) ≢ Less) keys
-none_under keys arcs root next is other begun k d l under after =
+none_under keys arcs root next is other begun k default inside under after =
     let greater = nat_list_cmp_total.antisymm (key_arcs next) arcs ∙ ap ordering_reverse is.after in
-    other (run_between root arcs (key_arcs next) _ begun under (λ e. cc) (is.nearest k d l after))
+    other (run_between root arcs (key_arcs next) _ begun under (λ same. cc) (is.nearest k default inside after))
 
 -- a value that a test of a fact leaves out lacks it
 lacks : {X : Type 0} (P Q : Type 0) (x : X) (test : Bool) → (P → test ≡ true) → (¬ P → Q) → IfNone (then_some test x) Q
