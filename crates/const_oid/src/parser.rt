@@ -108,7 +108,7 @@ fn read_piece(text: &[u8], start: usize) -> result::Result<(Arc, usize), usize>
     if next < text.len() && text[next] == b'.' {
         return Ok((first as Arc, next));
     }
-    let (number, end) = match read_digits(first, text, start) {
+    let (number, end) = match read_digits(first, text, next) {
         Ok(read) => read,
         Err(index) => return Err(index),
     };
@@ -118,21 +118,21 @@ fn read_piece(text: &[u8], start: usize) -> result::Result<(Arc, usize), usize>
     Ok((number, end))
 }
 
-/// The number of the digits that start at an index, by the first of them, and where they end. `Err` is the digit that
+/// A number that goes on by the digits from an index on, after its first one, and where they end. `Err` is the digit that
 /// makes it too big for an arc.
 // erase: const
 #[tactic(auto, using(crate::proofs::Pieces::digits_read))]
 #[inline(always)]
 fn read_digits(first: u64, text: &[u8], start: usize) -> result::Result<(Arc, usize), usize>
-    requires digit { AreDigits text.now start first (start + 1) }
+    requires digit { AreDigits text.now (start - 1) first start }
     requires small { first ≤ max_arc }
     ensures { MatchResult result
-        (λ read. AreDigits text.now start read.0 read.1 × (read.0 ≤ max_arc)
+        (λ read. AreDigits text.now (start - 1) read.0 read.1 × (read.0 ≤ max_arc)
         × (read.1 < length text.now → is_ascii_digit (get_or text.now read.1 0) ≡ false))
-        (λ index. HasFault text.now start (stop_fault text.now start index)) }
+        (λ index. HasFault text.now (start - 1) (stop_fault text.now (start - 1) index)) }
 {
     let mut number = first;
-    let mut index = start + 1;
+    let mut index = start;
     while index < text.len() {
         let Some(digit) = digit(text[index]) else {
             break;

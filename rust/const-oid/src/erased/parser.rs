@@ -88,7 +88,7 @@ const fn read_piece(text: &[u8], start: usize) -> result::Result<(Arc, usize), u
     if next < text.len() && text[next] == b'.' {
         return Ok((first as Arc, next));
     }
-    let (number, end) = match read_digits(first, text, start) {
+    let (number, end) = match read_digits(first, text, next) {
         Ok(read) => read,
         Err(index) => return Err(index),
     };
@@ -98,12 +98,12 @@ const fn read_piece(text: &[u8], start: usize) -> result::Result<(Arc, usize), u
     Ok((number, end))
 }
 
-/// The number of the digits that start at an index, by the first of them, and where they end. `Err` is the digit that
+/// A number that goes on by the digits from an index on, after its first one, and where they end. `Err` is the digit that
 /// makes it too big for an arc.
 #[inline(always)]
 const fn read_digits(first: u64, text: &[u8], start: usize) -> result::Result<(Arc, usize), usize> {
     let mut number = first;
-    let mut index = start + 1;
+    let mut index = start;
     while index < text.len() {
         let Some(digit) = digit(text[index]) else {
             break;
