@@ -32,12 +32,12 @@ module _ {number : ℕ} (used more : ℕ) (bytes after : List ℕ) (inside : use
   pub zeros_written : (size : ℕ) → drop used bytes ≡ replicate (size - used) 0
       → drop (used + more) after ≡ replicate (size - (used + more)) 0
   zeros_written size zeros =
-      let (group, g, e) = is in
+      let (group, is_group, written) = is in
       let start = take used bytes in
       let long : length (start ++ group) ≡ used + more =
-      omega (arith, length_is g, length-append start group, length-take-le used bytes inside) in
+      omega (arith, length_is is_group, length-append start group, length-take-le used bytes inside) in
       let fewer : size - used - more ≡ size - (used + more) = omega arith in
-      rw (e, ← append_assoc start group (drop (used + more) bytes), drop_at (start ++ group) _ (used + more) long)
+      rw (written, ← append_assoc start group (drop (used + more) bytes), drop_at (start ++ group) _ (used + more) long)
       (rw (← drop-drop more used bytes, zeros, drop-replicate, fewer))
 
 -- the widths of small numbers

@@ -15,12 +15,12 @@ drop-onto_first : (x left : ℕ) (parts : List (List ℕ)) → drop (suc left) (
 drop-onto_first x left [] = drop-nil left
 drop-onto_first x left (part ∷ parts) = refl
 
-drop-cut_after : (x left ended : ℕ) (parts : List (List ℕ)) → left ≢ 0 → (x < 128 → ended ≡ 1) → (128 ≤ x → ended ≡ 0)
-    → drop left (cut_after x parts) ≡ drop (left - ended) parts
-drop-cut_after x zero ended parts some one none = absurd (some refl)
-drop-cut_after x (suc left) ended parts some one none =
-    let fewer : x < 128 → suc left - ended ≡ left = λ last. omega arith in
-    let as_many : 128 ≤ x → suc left - ended ≡ suc left = λ more. omega arith in
+drop-cut_after : (octet left ended : ℕ) (parts : List (List ℕ)) → left ≢ 0 → (octet < 128 → ended ≡ 1) → (128 ≤ octet → ended ≡ 0)
+    → drop left (cut_after octet parts) ≡ drop (left - ended) parts
+drop-cut_after octet zero ended parts some one none = absurd (some refl)
+drop-cut_after octet (suc left) ended parts some one none =
+    let fewer : octet < 128 → suc left - ended ≡ left = λ last. omega arith in
+    let as_many : 128 ≤ octet → suc left - ended ≡ suc left = λ more. omega arith in
     grind (arith, nat_tests, drop-onto_first, fewer, as_many)
 
 -- one octet further, where it ends one of the parts that are left or none
@@ -42,10 +42,10 @@ first_left k xs y ys e =
 -- by the part that holds it
 later_at : (parts : List (List ℕ)) (index : ℕ) → 2 ≤ index
     → slice_get (arcs_from (map value_of parts)) index ≡ option_map value_of (slice_get parts (index - 1))
-later_at parts zero h = absurd (omega arith)
-later_at parts (suc zero) h = absurd (omega arith)
-later_at [] (suc (suc k)) h = refl
-later_at (part ∷ parts) (suc (suc k)) h = grind (arith, nat_tests, slice_get-map)
+later_at parts zero later = absurd (omega arith)
+later_at parts (suc zero) later = absurd (omega arith)
+later_at [] (suc (suc k)) later = refl
+later_at (part ∷ parts) (suc (suc k)) later = grind (arith, nat_tests, slice_get-map)
 
 later_fault-drop : (k : ℕ) (parts : List (List ℕ)) → later_fault parts ≡ None → later_fault (drop k parts) ≡ None
 later_fault-drop zero parts h = h
@@ -65,11 +65,11 @@ none_after octets (x ∷ xs) index later after none = absurd (omega arith)
 pub arc_after : (octets rest : List ℕ) (index n : ℕ) (ns : List ℕ) → 2 ≤ index
     → cut rest ≡ drop (index - 1) (cut octets) → map value_of (cut rest) ≡ n ∷ ns
     → Some n ≡ slice_get (arcs_of_octets octets) index
-arc_after octets rest index n ns later after e =
+arc_after octets rest index n ns later after values =
     let parts = cut octets in
-    let k = index - 1 in
-    first_left k (map value_of parts) n ns (sym e ∙ ap (map value_of) after ∙ sym (drop-map value_of k parts))
-    ∙ slice_get-map value_of parts k
+    let count = index - 1 in
+    first_left count (map value_of parts) n ns (sym values ∙ ap (map value_of) after ∙ sym (drop-map value_of count parts))
+    ∙ slice_get-map value_of parts count
     ∙ sym (later_at parts index later)
 
 -- ---- arcs by parts, whatever the rule
