@@ -1,4 +1,4 @@
--- Contents octets as they come: the parts, and the first fault (ITU-T X.690, 8.19.2 to 8.19.4).
+-- Contents octets as they come: the parts, which in valid octets are the subidentifiers, and the first fault (ITU-T X.690, 8.19.2 to 8.19.4).
 use Rattle.std.specs.Prelude.{ℕ, ◌+◌, ◌-◌, ◌*◌, ◌^◌, ◌/◌, ◌%◌, Bool, false, List, [], ◌∷◌, length, map, nat_lt, ◌==◌, if◌then◌else◌, Option, Some, None, Result, not}
 use Rattle.std.specs.List.{onto_first}
 use Rattle.std.specs.Option.{option_or}

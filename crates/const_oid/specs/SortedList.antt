@@ -1,4 +1,4 @@
--- Lists in the order of arcs, of items that have contents octets.
+-- Lists of items that have contents octets, sorted by arcs.
 use Rattle.std.specs.Prelude.{ℕ, Bool, List, nat_eq}
 use Rattle.std.specs.Cmp.Lexicographic.{pointwise, slice_cmp}
 use Rattle.std.specs.List.{All}
@@ -15,7 +15,7 @@ item_arcs octets_of item = arcs_of_octets (octets_of item)
 abbrev pub has_item_arcs : {Item : Type 0} → (Item → List ℕ) → List ℕ → Item → Bool
 has_item_arcs octets_of arcs item = pointwise nat_eq (item_arcs octets_of item) arcs
 
--- each item is the encoding of an identifier, and none comes before the previous one in the order of arcs
+-- each item is the encoding of an identifier, and the list is sorted in lexicographic order of arcs
 pub record IsSortedList {Item : Type 0} (octets_of : Item → List ℕ) (items : List Item) : Type 0 where
   pub valid : All (λ item. IsEncoding root_rule (item_arcs octets_of item) (octets_of item)) items
   pub sorted : IsSortedByKey (item_arcs octets_of) (slice_cmp nat_cmp) items

@@ -1,10 +1,10 @@
--- What the wide rule of the root changes: second arcs past `max_narrow` under the first arc 2.
+-- What the wide rule of the root changes: second arcs above `max_narrow` under the first arc 2.
 use Rattle.std.specs.Prelude.{◌≡◌, ℕ, ◌<◌, List, [], ◌∷◌, Option, Some}
 use Rattle.const_oid.specs.declared.error.Error.{Error}
 use Rattle.const_oid.specs.declared.error.Error.TheVariants.{ArcInvalid}
 use Rattle.const_oid.specs.Identifier.{max_narrow}
 
--- the first arc is 2, and the second is past 39
+-- the first arc is 2, and the second is above 39
 abbrev pub IsPastNarrow : List ℕ → Type 0
 IsPastNarrow [] = ⊥
 IsPastNarrow (first ∷ []) = ⊥

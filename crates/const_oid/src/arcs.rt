@@ -18,7 +18,7 @@ pub struct Arcs<'a> {
     octets: &'a [u8],
 }
 
-/// What comes next of the octets.
+/// What the octets that are left begin with.
 #[derive(Clone, Copy)]
 enum Next {
     /// The first subidentifier, which holds the first two arcs.
@@ -41,7 +41,7 @@ impl<'a> Model for Arcs<'a> {
 }
 
 impl<'a> Arcs<'a> {
-    /// All arcs of octets without a fault.
+    /// All arcs of valid octets.
     pub(crate) fn new(octets: &'a [u8]) -> Self
         requires { parts_fault root_rule (cut octets.now) ≡ None }
         ensures { result ≡ arcs_of_octets octets.now }
@@ -87,8 +87,8 @@ impl Iterator for Arcs<'_> {
     }
 }
 
-/// The arc at an index, counted from 0, of octets without a fault, or `None` past the last. The parts
-/// before its own are not read.
+/// The arc at an index, counted from 0, of valid octets, or `None` past the last. The subidentifiers before its own are
+/// skipped, and not decoded.
 #[tactic(auto, using(crate::proofs::Sets::parts_left))]
 pub(crate) fn arc_at(octets: &[u8], index: usize) -> Option<Arc>
     requires { parts_fault root_rule (cut octets.now) ≡ None }

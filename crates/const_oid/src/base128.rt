@@ -34,7 +34,7 @@ fn read_long_group(octets: &[u8]) -> (u64, &[u8])
     requires long { 128 ≤ slice_index octets.now 0 }
     ensures { IsFirst octets.now result.0 result.1.now }
 {
-    // The arms of `checked_group` without its tests: octets without a fault pass them, and each arc would pay for them.
+    // The arms of `checked_group` without its tests: valid octets pass them, and each arc would pay for them.
     match octets {
         [a, b, after @ ..] if *b < 128 => (add_digit(add_digit(0, *a), *b), after),
         [a, b, c, after @ ..] if *c < 128 => (
@@ -67,7 +67,7 @@ fn read_five(octets: &[u8]) -> (u64, &[u8])
     }
 }
 
-/// The number of the first subidentifier, at most a limit, and the octets after it, or `None` where it has a fault.
+/// The number of the first subidentifier, at most a limit, and the octets after it, or `None` if it is not valid.
 #[tactic(auto, using(crate::proofs::PartsFault::groups_read))]
 #[inline(always)]
 pub(crate) fn checked_group(octets: &[u8], limit: u64) -> Option<(u64, &[u8])>
@@ -99,7 +99,7 @@ pub(crate) fn checked_group(octets: &[u8], limit: u64) -> Option<(u64, &[u8])>
     }
 }
 
-/// The fault of the first subidentifier, which has one.
+/// The error of the first subidentifier, which is not valid.
 #[tactic(auto, using(crate::proofs::PartsFault::group_faults))]
 #[cold]
 pub(crate) fn group_fault(octets: &[u8], limit: u64) -> Error

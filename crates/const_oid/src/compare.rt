@@ -187,10 +187,10 @@ fn word(octets: &[u8], at: usize) -> u64
     }
 }
 
-/// The lexicographic order of the parts of octets, a shorter part first.
+/// The lexicographic order of subidentifiers, a shorter one before a longer one: of valid octets, that of their arcs.
 ///
-/// At the first octet that differs, both parts began at the same index. So the part with more octets left is the longer
-/// one, and an octet that ends its part decides.
+/// At the first octet that differs, both subidentifiers began at the same index. So the one with more octets left is
+/// the longer one, and an octet that ends its subidentifier decides.
 #[tactic(auto, using(crate::proofs::ByParts::ended_parts))]
 pub(crate) fn order_by_parts(a: &[u8], b: &[u8]) -> Ordering
     ensures { result ≡ parts_cmp a.now b.now }

@@ -15,7 +15,7 @@ use crate::oid::Oid;
 /// A table of identifiers and their names, in any order. An identifier may have several names, and a name several
 /// identifiers.
 ///
-/// Names are compared without regard to ASCII case.
+/// Names are compared ignoring ASCII case.
 #[derive(Copy, Clone)]
 pub struct Database<'a> {
     entries: &'a [(&'a Oid, &'a str)],
@@ -43,7 +43,7 @@ impl<'a> Database<'a> {
         None
     }
 
-    /// The identifier in the first entry with this name, in any ASCII case, or `None` if there is no such entry.
+    /// The identifier in the first entry with this name, ignoring ASCII case, or `None` if there is no such entry.
     pub const fn by_name(&self, name: &str) -> Option<&'a Oid>
         ensures { result ≡ first_oid (entries_of self.now) name.now }
     {

@@ -38,7 +38,7 @@ impl<'a> RefDatabase<'a> {
         None
     }
 
-    /// The identifier in the first entry with this name, in any ASCII case, or `None` if there is no such entry.
+    /// The identifier in the first entry with this name, ignoring ASCII case, or `None` if there is no such entry.
     pub fn by_name(&self, name: &str) -> Option<ObjectIdentifierRef<'a>>
         ensures { result ≡ first_oid (ref_entries_of self.now) name.now }
     {

@@ -55,7 +55,7 @@ impl Error {
     ghost use Rattle.const_oid.specs.Error.{message_of};
     ghost use Rattle.const_oid.specs.Private.Text.{detail_text};
 
-    /// The length of the text that `{}` writes.
+    /// The length in bytes of the text that `{}` writes.
     #[tactic(auto, using(crate::proofs::Messages::parts_long))]
     pub fn text_len(self) -> usize
         ensures len { result ≡ length (message_of self) }
@@ -65,8 +65,8 @@ impl Error {
         before.len() + self.detail_len() + after.len()
     }
 
-    /// Writes the text that `{}` writes at the start of `out`, and returns its length. Returns `None`
-    /// if it is longer than `out`, which is then unchanged.
+    /// Writes the text that `{}` writes to the start of `out`, and returns its length in bytes. Returns `None` if it is
+    /// longer than `out`, which is then unchanged. 47 bytes are always enough.
     #[inline(always)]
     pub fn encode_text(self, out: &mut [u8]) -> Option<usize>
         ensures cases { ReturnsLength (message_of self) out.old result }

@@ -1,6 +1,7 @@
 //! Laws over the definitions: functions without effect, whose contracts say what holds.
 //!
-//! A `rule` is any of the two rules of the root, `Wide`, which the crate keeps, and `Narrow`.
+//! A `rule` is either of the two rules of the root: `Wide`, which the crate keeps, or `Narrow`. An input is accepted if
+//! it has no fault. A group is the octets of one subidentifier.
 
 ghost use Rattle.std.specs.Prelude.{◌≡◌, ◌≢◌, ◌↔◌, ℕ, ◌+◌, ◌*◌, ◌<◌, ◌≤◌, List, [], ◌∷◌, ◌++◌, length, map, drop, nat_lt, sum_by, count_by, Some, None, Ok, codes, ◌-◌, take, slice_get};
 ghost use Rattle.std.specs.Cmp.{IsTotalOrder};
@@ -54,7 +55,7 @@ pub fn examples()
     ensures narrow { octet_fault Narrow (0xFF ∷ []) 39 ≡ Some (ArcInvalid 6) }
 {}
 
-/// Each number has exactly one group, whose length is the number's width.
+/// Each number has exactly one subidentifier, which has as many octets as the number's width.
 pub fn unique_groups()
     ensures one { (n : ℕ) → IsGroup n (group_of n) }
     ensures only { (n : ℕ) (g h : List ℕ) → IsGroup n g → IsGroup n h → g ≡ h }
@@ -62,15 +63,14 @@ pub fn unique_groups()
     ensures least { (n : ℕ) → IsWidth n (width n) }
 {}
 
-/// Groups are a prefix-free code: octets begin with the group of at most one number.
+/// Subidentifiers are a prefix-free code: octets begin with the subidentifier of at most one number.
 #[tactic(auto, using(crate::proofs::Groups::prefix_free))]
 pub fn prefix_free()
     ensures { (m n : ℕ) (g h x y : List ℕ) → IsGroup m g → IsGroup n h → g ++ x ≡ h ++ y
         → (g ≡ h) × (m ≡ n) }
 {}
 
-/// Octets without a fault are the encoding of their arcs, and of no others; an encoding has no
-/// fault but its length.
+/// Accepted octets are the encoding of their arcs, and of no others. An encoding is accepted exactly if it fits.
 pub fn octets_denote()
     ensures cut { (numbers : List ℕ) (groups : List (List ℕ)) → AllZip IsGroup numbers groups
         → cut (concat groups) ≡ groups }
@@ -99,7 +99,7 @@ pub fn one_encoding()
         → length octets ≡ size arcs }
 {}
 
-/// A second arc in range never makes an encoding of more than five octets, nor one out of range.
+/// At a capacity of five octets or more, a second arc is rejected exactly if it is out of range.
 #[tactic(auto, using(crate::proofs::Items::second_fits))]
 pub fn second_fits()
     ensures { (rule : RootRule) (capacity first second : ℕ) → 5 ≤ capacity → first ≤ 2
@@ -107,14 +107,14 @@ pub fn second_fits()
         ≡ fault_if (nat_lt (max_second rule first) second) (ArcInvalid second) }
 {}
 
-/// An encoding is a prefix of another exactly where its arcs are a prefix of the other's.
+/// An encoding is a prefix of another exactly if its arcs are a prefix of the other's.
 pub fn prefixes()
     ensures { (rule : RootRule) (p x a b : List ℕ) → IsEncoding rule p a → IsEncoding rule x b
         → BeginsWith b a ↔ BeginsWith x p }
 {}
 
-/// The greater of two numbers is as wide as the other, or wider; encodings that differ in the last arc
-/// are in the order of these arcs.
+/// A greater number takes at least as many octets. Encodings that differ in the last arc alone are in the order of
+/// these arcs: in shortlex order, and, if they have the same length, in lexicographic order.
 pub fn siblings()
     ensures width { (m n : ℕ) → m ≤ n → width m ≤ width n }
     ensures level { (rule : RootRule) (parent : List ℕ) (m n : ℕ) (x y : List ℕ)
@@ -125,9 +125,9 @@ pub fn siblings()
         → shortlex_cmp x y ≡ nat_cmp m n }
 {}
 
-/// The order of arcs is that of their encodings by parts, a shorter part first: total, equal
-/// where the octets are, an ancestor before its descendants, which are adjacent. Where the groups
-/// at each index are of one length, it is the order of the octets.
+/// The lexicographic order of arcs is that of subidentifiers, a shorter one first. It is total, and a tie means equal
+/// octets. An ancestor comes before its descendants, which are adjacent. If the subidentifiers at each index have the
+/// same length, it is the order of the octets.
 pub fn order_of_arcs()
     ensures parts { (rule : RootRule) (p x a b : List ℕ) → IsEncoding rule p a → IsEncoding rule x b
         → parts_cmp a b ≡ slice_cmp nat_cmp p x }
@@ -143,7 +143,7 @@ pub fn order_of_arcs()
         → slice_cmp nat_cmp a b ≡ slice_cmp nat_cmp p x }
 {}
 
-/// Identifiers have equal arcs exactly where their encodings are equal, and exactly where their printed texts are.
+/// Identifiers have equal arcs exactly if their encodings are equal, and exactly if their printed texts are.
 pub fn same_identifiers()
     ensures octets { (rule : RootRule) (a b x y : List ℕ) → IsEncoding rule a x
         → IsEncoding rule b y → (a ≡ b) ↔ (x ≡ y) }
@@ -151,8 +151,8 @@ pub fn same_identifiers()
         → (a ≡ b) ↔ (text_of a ≡ text_of b) }
 {}
 
-/// What is printed denotes its arcs; a text has no fault exactly where it denotes arcs that fit; it
-/// is printed again without its leading zeros.
+/// What is printed denotes its arcs. A text is accepted exactly if it denotes arcs that fit, and is printed again
+/// without its leading zeros.
 pub fn texts_denote()
     ensures printed { (rule : RootRule) (arcs : List ℕ) → IsIdentifier rule arcs
         → Denotes rule (text_of arcs) arcs }
@@ -167,7 +167,7 @@ pub fn texts_denote()
         → text_of arcs ≡ strip text }
 {}
 
-/// A list of numbers of 32 bits has no fault exactly where it is an identifier that fits.
+/// A list of 32-bit numbers is accepted exactly if it is an identifier that fits.
 pub fn items_denote()
     ensures fits { (rule : RootRule) (capacity : ℕ) (arcs : List ℕ) → IsIdentifier rule arcs → size arcs ≤ capacity
         → item_fault rule arcs capacity ≡ None }
@@ -176,7 +176,7 @@ pub fn items_denote()
         → IsIdentifier rule items × (size items ≤ capacity) }
 {}
 
-/// The wide rule gives what the narrow one gives, except where octets begin with 120 or more, or the second
+/// The wide rule gives what the narrow one gives, except if octets begin with 120 or more, or the second
 /// arc under 2 was rejected. What was accepted keeps its arcs and octets, and so its text and orders.
 #[tactic(auto, using(crate::proofs::WideKeeps::wide_keeps))]
 pub fn wide_keeps()
@@ -206,8 +206,8 @@ pub fn wide_keeps()
         → slice_cmp nat_cmp x y ≡ slice_cmp nat_cmp v w }
 {}
 
-/// The wide rule accepts what the narrow one rejects exactly where that denotes arcs under 2, the
-/// second past 39, and fits.
+/// The wide rule accepts what the narrow one rejects exactly if that denotes arcs under 2, the second above 39, and
+/// fits.
 #[tactic(auto, using(crate::proofs::WideAdds::wide_adds))]
 pub fn wide_adds()
     ensures octets { (octets : List ℕ) (capacity : ℕ) → AreOctets octets
@@ -241,8 +241,8 @@ pub fn narrow_root()
         → size (a ∷ b ∷ later) ≡ 1 + sum_by width later }
 {}
 
-/// How many arcs octets have, and which part each is read from: the first two from the first part, a
-/// later one from a part of its own.
+/// How many arcs octets have, and which subidentifier each is read from: the first two from the first one, a later arc
+/// from one of its own.
 pub fn parts()
     ensures count { (rule : RootRule) (arcs octets : List ℕ) → IsEncoding rule arcs octets
         → length arcs ≡ 1 + count_by (λ x. nat_lt x 128) octets }
@@ -256,9 +256,9 @@ pub fn parts()
         → 2 ≤ i → slice_get arcs i ≡ option_map value_of (slice_get (cut octets) (i - 1)) }
 {}
 
-/// A child's octets are its parent's and one more group; a parent's are its child's without the last part. A child's
-/// parent is the identifier that it was made of, and an identifier with a parent is a child of it. There is no parent
-/// exactly where there is one part.
+/// A child's octets are its parent's and one more subidentifier; a parent's are its child's without the last one. A
+/// child's parent is the identifier that it was made of, and an identifier with a parent is a child of it. There is no
+/// parent exactly if there is only one subidentifier.
 pub fn tree()
     ensures child { (rule : RootRule) (arcs octets : List ℕ) (arc : ℕ) (group : List ℕ)
         → IsEncoding rule arcs octets → arc ≤ max_arc → IsGroup arc group
@@ -278,14 +278,14 @@ pub fn tree()
         → (parent_of arcs ≡ None) ↔ (length (cut octets) ≡ 1) }
 {}
 
-/// A text has at most four bytes for each octet.
+/// A printed text has at most four bytes for each octet.
 pub fn printed_length()
     ensures { (rule : RootRule) (arcs octets : List ℕ) → IsEncoding rule arcs octets
         → length (text_of arcs) ≤ 4 * length octets }
 {}
 
-/// An encoding comes before those of its descendants, both where shorter ones come first and in lexicographic order. In
-/// the latter, descendants are adjacent.
+/// An encoding comes before those of its descendants, both in shortlex and in lexicographic order. In the latter, an
+/// identifier and its descendants are adjacent.
 pub fn ranges()
     ensures short { (rule : RootRule) (p x a b : List ℕ) → IsEncoding rule p a
         → IsEncoding rule x b → BeginsWith x p → length p < length x → shortlex_cmp a b ≡ Less }

@@ -46,12 +46,12 @@ impl ObjectIdentifier<39> {
     ///
     /// # Errors
     ///
-    /// The text is cut at its dots. The first wrong piece gives the error, by the first of these that applies:
+    /// The dots cut the text into components. The first wrong one gives the error, by the first of these that applies:
     ///
     /// - [`Error::ArcTooBig`]: its leading digits are a number above 4294967295;
     /// - [`Error::DigitExpected`]: it has another byte than a digit, or it is empty and the first of several;
     /// - [`Error::RepeatedDot`] or [`Error::TrailingDot`]: it is empty, and not the first one;
-    /// - [`Error::TrailingDot`]: an empty last piece follows it;
+    /// - [`Error::TrailingDot`]: an empty last component follows it;
     /// - [`Error::ArcInvalid`]: it is the first one and above 2, or the second, above 39 and after 0 or 1 (X.660);
     /// - [`Error::Length`]: the arcs up to it take more than 39 octets (X.690, 8.19);
     /// - [`Error::Empty`]: it is the only one.
@@ -172,7 +172,7 @@ impl<const MAX_SIZE: usize> ObjectIdentifier<MAX_SIZE> {
     }
 
     /// Parses dotted text in ASCII as [`new_sized`](Self::new_sized) does. The bytes need not be UTF-8: one past ASCII
-    /// is no digit.
+    /// is an error, since it is not a digit.
     // erase: const
     #[tactic(auto, using(crate::proofs::Encodings::none_from_encoding, crate::proofs::Texts::denoted_from_answer))]
     #[inline(always)]
@@ -203,7 +203,7 @@ impl<const MAX_SIZE: usize> ObjectIdentifier<MAX_SIZE> {
         Ok(ObjectIdentifier { ber })
     }
 
-    /// Copies a borrowed identifier, or returns [`Error::Length`] where its octets do not fit.
+    /// Copies a borrowed identifier, or returns [`Error::Length`] if its octets do not fit.
     #[inline(always)]
     pub fn try_from_ref(oid_ref: ObjectIdentifierRef<'_>) -> Result<Self>
         ensures fits { let count = length (ref_octets oid_ref.entry) in
@@ -267,8 +267,8 @@ impl<const MAX_SIZE: usize> ObjectIdentifier<MAX_SIZE> {
         self.as_oid_ref().text_len()
     }
 
-    /// Writes the text that `{}` writes at the start of `out`, and returns its length. Returns `None`
-    /// if it is longer than `out`, which is then unchanged.
+    /// Writes the text that `{}` writes to the start of `out`, and returns its length in bytes. Returns `None` if it is
+    /// longer than `out`, which is then unchanged. Four bytes for each octet are always enough.
     pub fn encode_text(&self, out: &mut [u8]) -> Option<usize>
         ensures cases { ReturnsLength (text_of (oid_arcs self.now)) out.old result }
         ensures written { WritesText (text_of (oid_arcs self.now)) out.old out.new result }
@@ -381,8 +381,8 @@ impl<const MAX_SIZE: usize> PartialEq for ObjectIdentifier<MAX_SIZE> {
     }
 }
 
-/// By the number of octets, and then by the octets in lexicographic order. This is not the order of arcs: see
-/// [`cmp_arcs`](Self::cmp_arcs).
+/// By the number of octets, and then by the octets in lexicographic order (shortlex). This is not the order of arcs:
+/// see [`cmp_arcs`](Self::cmp_arcs).
 impl<const MAX_SIZE: usize> Ord for ObjectIdentifier<MAX_SIZE> {
     ghost use Rattle.std.specs.Prelude.{refl};
     ghost use Rattle.std.specs.Cmp.{on_total};

@@ -1,4 +1,5 @@
-//! How many parts octets have, where these begin, and where they end.
+//! Subidentifiers in octets: how many there are, where they begin, and where they end. In names, they are `parts`. What
+//! is left after the last octet below 128 is a part, too.
 
 ghost use Rattle.std.specs.Prelude.{◌≡◌, ◌-◌, ◌≤◌, length, take, drop, count_by, nat_lt};
 ghost use Rattle.const_oid.specs.Contents.{cut};
@@ -33,7 +34,7 @@ fn count_lanes(octets: &[u8]) -> usize
     lanes.to_bitmask().count_ones() as usize
 }
 
-/// The octets after so many parts: where the next one begins, and those before it end.
+/// The octets after so many subidentifiers.
 #[tactic(auto, using(crate::proofs::PartBounds::after_more, std::proofs::lemmas::List::take_rest))]
 #[inline(always)]
 pub(crate) fn skip_parts(octets: &[u8], parts: usize) -> &[u8]
@@ -49,7 +50,7 @@ pub(crate) fn skip_parts(octets: &[u8], parts: usize) -> &[u8]
     &octets[octets.len()..]
 }
 
-/// The octets before the last part: up to the last octet below 128 that others follow.
+/// The octets before the last subidentifier: up to the last octet below 128 that others follow.
 pub(crate) fn without_last_part(octets: &[u8]) -> &[u8]
     ensures parts { let parts = cut octets.now in cut result.now ≡ take (length parts - 1) parts }
     ensures short { length result.now ≤ length octets.now }
@@ -63,7 +64,7 @@ pub(crate) fn without_last_part(octets: &[u8]) -> &[u8]
     }
 }
 
-/// How many octets the first part has.
+/// How many octets the first subidentifier has.
 pub(crate) fn first_len(octets: &[u8]) -> usize
     ensures { result ≡ first_length (cut octets.now) }
 {

@@ -80,7 +80,8 @@ pub fn subtree_of<T: Contents>(items: &[T], oid: &ObjectIdentifierRef<'_>) -> (u
     (from, from + inside)
 }
 
-/// The index of the nearest item to an identifier: the first item of the longest prefix of it in the list.
+/// The index of the item with the longest prefix of an identifier, which may be all of it, or `None` if the list has no
+/// prefix. If several items have it, the first.
 pub fn nearest_of<T: Contents>(items: &[T], oid: &ObjectIdentifierRef<'_>) -> Option<usize>
     ensures found { IsSortedList T.octets_of items.now → IfSome result (λ index.
         IfSome (slice_get items.now index) (IsNearestBy (item_arcs T.octets_of) items.now (ref_arcs oid.now))) }

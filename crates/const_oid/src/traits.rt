@@ -16,7 +16,8 @@ pub trait AssociatedOid {
         ensures { oid_arcs result ≡ type_arcs };
 }
 
-/// A value that has an identifier, by what it holds. A value of a type with an identifier has the type's.
+/// A value that has an identifier, by what it holds. Every value of a type with an identifier has the identifier of its
+/// type.
 pub trait DynAssociatedOid {
     /// The arcs of a value's identifier.
     ghost value_arcs: { Self → List ℕ };

@@ -1,4 +1,4 @@
-//! Octets checked for faults (X.690, 8.19.2).
+//! Checks of contents octets (X.690, 8.19.2).
 
 ghost use Rattle.std.specs.Prelude.{◌≡◌, ◌<◌, Some};
 ghost use Rattle.std.specs.Result.{result_err};
@@ -9,7 +9,7 @@ use crate::Arc;
 use crate::base128::{MAX_FIRST, checked_group, group_fault};
 use crate::error::{Error, Result};
 
-/// The fault of octets, whatever their number, if there is one.
+/// Checks contents octets of any length, or returns their error.
 #[tactic(auto, using(crate::proofs::PartsFault::parts_at))]
 #[inline(never)]
 pub(crate) fn check(octets: &[u8]) -> Result<()>

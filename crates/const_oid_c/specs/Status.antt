@@ -38,7 +38,7 @@ number_status detail = record { code = 0; detail = detail; len = 0 }
 abbrev pub flag_status : Bool → Status
 flag_status holds = number_status (if holds then 1 else 0)
 
--- the flag is true where the fact holds, and false where it does not
+-- the flag is true exactly if the fact holds
 abbrev pub IsFlagOf : Type 0 → Status → Type 0
 IsFlagOf fact status = ((status ≡ flag_status true) × fact) ⊎ ((status ≡ flag_status false) × ¬ fact)
 

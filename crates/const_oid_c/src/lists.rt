@@ -92,7 +92,7 @@ pub extern "C" fn const_oid_next(octets: &[u8], sorted: &[Octets<'_>]) -> Status
     }
 }
 
-/// Finds the nearest item to an identifier: the first item of the longest prefix of it in the list.
+/// Finds the item with the longest prefix of an identifier, which may be all of it; of several, the first.
 #[unsafe(no_mangle)]
 pub extern "C" fn const_oid_nearest(octets: &[u8], sorted: &[Octets<'_>]) -> Status
     ensures found { IsSortedList octets_at sorted.now → result.code ≡ 0 → IfSome (slice_get sorted.now result.len)
@@ -110,7 +110,7 @@ pub extern "C" fn const_oid_nearest(octets: &[u8], sorted: &[Octets<'_>]) -> Sta
     }
 }
 
-/// Finds the range of the items that begin with an identifier.
+/// Finds the range of the items whose arcs begin with those of an identifier.
 #[unsafe(no_mangle)]
 pub extern "C" fn const_oid_subtree_range(
     octets: &[u8],
@@ -159,7 +159,7 @@ fn index_status(index: Option<usize>) -> Status
     }
 }
 
-/// The status of the first item that is no identifier or comes before the previous one.
+/// The status of the first item that is not valid or comes before the previous one.
 fn list_fault(items: &[Octets<'_>]) -> Option<Status>
     ensures status { result ≡ list_fault 0 [] items.now }
     ensures code { IfSome result (λ status. 0 < status.code) }
@@ -212,7 +212,7 @@ fn comes_before(oid: ObjectIdentifierRef<'_>, before: Option<ObjectIdentifierRef
     }
 }
 
-/// The status of a fault of the octets at an index.
+/// The status of an error of the octets at an index.
 fn fault_at(index: usize, fault: Error) -> Status
     ensures status { result ≡ fault_at index fault }
     ensures code { 0 < result.code }

@@ -37,7 +37,7 @@ pub extern "C" fn const_oid_starts_with(octets: &[u8], prefix: &[u8]) -> Status
     }
 }
 
-/// Compares two identifiers of any length by their octets, as lists. A prefix comes first.
+/// Compares two identifiers of any length by their octets, lexicographically. A prefix comes first.
 #[unsafe(no_mangle)]
 pub extern "C" fn const_oid_cmp(left: &[u8], right: &[u8]) -> Status
     ensures { IsStatusOfBoth (λ _ _ status. status ≡ order_status (slice_cmp nat_cmp left.now right.now))
@@ -49,7 +49,7 @@ pub extern "C" fn const_oid_cmp(left: &[u8], right: &[u8]) -> Status
     }
 }
 
-/// Compares two identifiers of any length by their arcs, as lists. A prefix comes first.
+/// Compares two identifiers of any length by their arcs, lexicographically. A prefix comes first.
 #[unsafe(no_mangle)]
 pub extern "C" fn const_oid_cmp_arcs(left: &[u8], right: &[u8]) -> Status
     ensures { IsStatusOfBoth (λ xs ys status. status ≡ order_status (slice_cmp nat_cmp xs ys))
@@ -61,7 +61,7 @@ pub extern "C" fn const_oid_cmp_arcs(left: &[u8], right: &[u8]) -> Status
     }
 }
 
-/// Compares two identifiers of at most 255 octets by length, and then by their octets.
+/// Compares two identifiers of at most 255 octets by length, and then by their octets (shortlex).
 #[unsafe(no_mangle)]
 pub extern "C" fn const_oid_cmp_owned(left: &[u8], right: &[u8]) -> Status
     ensures { IsStatusOfBoth (λ _ _ status. status ≡ order_status (shortlex_cmp left.now right.now))
@@ -77,7 +77,7 @@ pub extern "C" fn const_oid_cmp_owned(left: &[u8], right: &[u8]) -> Status
     }
 }
 
-/// Reads two identifiers of any length. The fault is that of the first that is wrong.
+/// Reads two identifiers of any length. The error is that of the first one that is not valid.
 #[inline]
 fn read_both<'a>(
     left: &'a [u8],

@@ -34,7 +34,7 @@ pub(crate) fn write_joined(first: &[u8], rest: &[u8], out: &mut [u8]) -> Status
     len_status(len)
 }
 
-/// Writes the octets of an identifier, or reports its fault.
+/// Writes the octets of an identifier, or reports its error.
 #[tactic(auto, using(crate::proofs::Answers::octets_again))]
 pub(crate) fn write_octets<const N: usize>(
     oid: Result<ObjectIdentifier<N>>,

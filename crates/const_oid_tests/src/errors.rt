@@ -155,7 +155,7 @@ fn prints_each_byte_as_a_character(rt: HostRuntime) -> Result<(), AllocError> {
     Ok(())
 }
 
-/// Whether an arc prints as its decimals.
+/// Whether an arc prints in decimal.
 fn prints_arc(alloc: Global, arc: Arc) -> Result<bool, AllocError> {
     let text = format!(in alloc; "OID contains out-of-range arc: {arc}")?;
     Ok(prints_as(&Error::ArcInvalid { arc }, text.as_str()))

@@ -62,7 +62,7 @@ impl<T: Debug> Display for DebugTexts<T> {
     }
 }
 
-/// Takes a text piece by piece and nothing else, and fails the write of one number, counted from 1.
+/// Takes one text, in any number of writes, and nothing else. The write numbered `refused`, counted from 1, fails.
 #[derive(Drop)]
 struct OneText<'a> {
     rest: &'a [u8],

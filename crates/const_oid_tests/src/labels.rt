@@ -7,7 +7,7 @@ use const_oid_uses::label::{label, sorted};
 use std::alloc::Global;
 use std::test::Fail;
 
-/// Octets and names (RFC 1155, 2863, 3418), in the order of arcs.
+/// Octets and names (RFC 1155, 2863, 3418), sorted by arcs.
 const ROWS: &[(&[u8], &str)] = &[
     (&[0x2B, 6, 1, 2, 1], "mib-2"),
     (&[0x2B, 6, 1, 2, 1, 1], "system"),

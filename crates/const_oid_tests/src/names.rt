@@ -141,7 +141,7 @@ const ACCENTED: Pair = ("1.2.3", "É");
 
 const UNNAMED: Pair = ("1.2.3", "");
 
-/// The first of two names that are the same is found, and only ASCII letters are folded.
+/// The first of two equal names is found, and only the case of ASCII letters is ignored.
 const TABLES: &[Table] = &[
     (
         (COUNTRY_NAME, ACCENTED, 0),

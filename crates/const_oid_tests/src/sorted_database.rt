@@ -1,4 +1,4 @@
-//! Tables in the order of arcs: `by_oid`, `nearest`, `subtree` and `next_after` of `SortedDatabase`, and `ByArcs` as a key.
+//! Tables sorted by arcs: `by_oid`, `nearest`, `subtree` and `next_after` of `SortedDatabase`, and `ByArcs` as a key.
 
 ghost use Rattle.std.specs.Prelude.{◌≡◌, IsOk, IfOk};
 ghost use Rattle.const_oid.specs.Names.{sorted_entries_of};
@@ -30,7 +30,7 @@ type Entry = (ObjectIdentifierRef<'static>, &'static str);
 /// An identifier of 300 octets, 1.3.43.43 and so on.
 const LONG: &[u8] = &[0x2B; 300];
 
-/// Octets and names (RFC 2863, 3418), in the order of arcs, which is not that of octets: 256 is before 16384.
+/// Octets and names (RFC 2863, 3418), sorted by arcs, and not by octets: 256 is before 16384.
 const TABLE: &[(&[u8], &str)] = &[
     (&[0x2B, 6, 1, 2, 1, 1], "system"),
     (&[0x2B, 6, 1, 2, 1, 1, 1, 0], "sysDescr.0"),
@@ -148,8 +148,8 @@ fn is_found(names: &SortedDatabase<'_>, row: &Row) -> Result<bool, Error> {
     )
 }
 
-/// The octets of the first row that a table of these entries answers otherwise; no octets where the entries are no
-/// sorted table.
+/// The octets of the first row that a table of these entries answers otherwise; no octets if the entries are not
+/// sorted.
 fn wrong_octets(entries: &[Entry]) -> Option<&'static [u8]> {
     let Some(names) = SortedDatabase::try_new(entries) else {
         return Some(&[]);
@@ -179,7 +179,7 @@ fn become_sorted(entries: &mut Vec<Entry>) -> Result<bool, AllocError> {
     Ok(was_none && SortedDatabase::try_new(entries).is_some())
 }
 
-/// The entries put in backwards are no sorted table, and those sorted by a key are one.
+/// The entries in reverse order are not a sorted table, and sorted by a key they are one.
 #[test]
 fn sorted_by_key(rt: HostRuntime) -> Result<(), Fail> {
     let mut entries = entries(rt.alloc())?;

@@ -57,7 +57,7 @@ fn are_adjacent(oids: &BTreeSet<ObjectIdentifierRef<'_>>) -> bool {
     oids.len() == ASCENDING.len()
 }
 
-/// A set in order, put in backwards.
+/// A sorted set, filled in reverse order.
 #[test]
 fn a_set_keeps_subtrees_together(rt: HostRuntime) -> Result<(), Fail> {
     let mut oids = BTreeSet::new(rt.alloc());

@@ -35,7 +35,7 @@ impl DynAssociatedOid for Held {
     }
 }
 
-/// A value of a type with an identifier has the type's.
+/// Every value of a type with an identifier has the identifier of its type.
 fn oid_of<T: AssociatedOid>(value: &T) -> Oid
     ensures { oid_arcs result ≡ T.type_arcs }
 {

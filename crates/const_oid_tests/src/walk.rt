@@ -119,7 +119,7 @@ fn walks_the_rows_in_order(rt: HostRuntime) -> Result<(), Fail> {
     Ok(())
 }
 
-/// The rows by their keys, put in in no order.
+/// The rows by their keys, inserted in no order.
 fn map(
     alloc: Global,
     oids: &[ObjectIdentifier<255>],

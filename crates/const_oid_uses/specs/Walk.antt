@@ -1,4 +1,4 @@
--- Lists of keys in the order of their arcs.
+-- Lists of keys, sorted by their arcs.
 use Rattle.std.specs.Prelude.{◌≡◌, ◌≢◌, ℕ, List}
 use Rattle.std.specs.Cmp.Lexicographic.{slice_cmp}
 use Rattle.std.specs.List.{All, Contains}

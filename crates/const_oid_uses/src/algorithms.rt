@@ -10,7 +10,7 @@ ghost use Rattle.const_oid.specs.Oid.{oid_arcs};
 use const_oid::db::Database;
 use const_oid::{Error, Oid};
 
-/// The name of the algorithm with these octets, `None` where the table has none, or the octets' error.
+/// The first name of the algorithm with these octets, `None` if the table has none, or the error of `from_bytes`.
 pub fn name_of<'a>(database: &Database<'a>, octets: &[u8]) -> Result<Option<&'a str>, Error>
     ensures { MatchResult (octet_answer root_rule octets.now 39)
         (λ arcs. result ≡ Ok (first_name lent_arcs (entries_of database.now) arcs))
@@ -20,7 +20,7 @@ pub fn name_of<'a>(database: &Database<'a>, octets: &[u8]) -> Result<Option<&'a 
     Ok(database.by_oid(&oid))
 }
 
-/// The name in the first of two tables that has one. Both tables have one lifetime.
+/// The name in the first of two tables that has one. Both tables have the same lifetime.
 pub fn name_in<'a>(own: &Database<'a>, others: &Database<'a>, oid: &Oid) -> Option<&'a str>
     ensures { result ≡ option_or (first_name lent_arcs (entries_of own.now) (oid_arcs oid.now))
         (first_name lent_arcs (entries_of others.now) (oid_arcs oid.now)) }

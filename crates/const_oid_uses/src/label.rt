@@ -16,7 +16,8 @@ use const_oid::{ByArcs, ObjectIdentifierRef};
 use std::alloc::{AllocError, Global};
 use std::fmt::Write;
 
-/// The nearest name and the arcs after it, or `None` where no name is near.
+/// The name of the longest prefix of an identifier in a table, and the arcs after it, or `None` if the table has no
+/// prefix.
 pub fn label(
     alloc: Global,
     names: &SortedDatabase<'_>,
@@ -41,7 +42,8 @@ pub fn label(
     Ok(Some(text))
 }
 
-/// The names of entries in any order. The first entry of an identifier stays the first.
+/// Sorts entries by arcs, in place, and makes a table of them. If an identifier has several entries, they keep their
+/// order.
 pub fn sorted<'t, 'a: 't>(
     entries: &'t mut Vec<(ObjectIdentifierRef<'a>, &'a str)>,
 ) -> Result<SortedDatabase<'t>, AllocError>

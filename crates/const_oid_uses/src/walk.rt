@@ -1,4 +1,4 @@
-//! A walk in the order of arcs, for GetNext of SNMP (RFC 3416).
+//! A walk in lexicographic order of arcs, for GetNext of SNMP (RFC 3416).
 
 ghost use Rattle.std.specs.Prelude.{◌≡◌, ◌≢◌, IfSome, IfNone};
 ghost use Rattle.std.specs.Cmp.Lexicographic.{slice_cmp};
@@ -13,7 +13,7 @@ ghost use Rattle.const_oid_uses.specs.Walk.{IsNext};
 
 use const_oid::{ByArcs, ObjectIdentifierRef};
 
-/// The next key of a sorted list after an identifier, which need not be in it.
+/// The first key of a sorted list after an identifier, which need not be in it.
 pub fn next_after<'s, 'a>(
     sorted: &'s [ByArcs<'a>],
     oid: &ObjectIdentifierRef<'_>,

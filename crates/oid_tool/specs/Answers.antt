@@ -66,14 +66,14 @@ answer_to table command argument =
 unfoldable pub answer_line : List Row → List ℕ → List ℕ
 answer_line table line = answer_to table (before_first (λ b. b == 32) line) (after_first (λ b. b == 32) line)
 
--- all pieces except an empty last one
+-- all lists except an empty last one
 abbrev pub without_empty_last : List (List ℕ) → List (List ℕ)
 without_empty_last [] = []
 without_empty_last ([] ∷ []) = []
 without_empty_last ((b ∷ bs) ∷ []) = (b ∷ bs) ∷ []
 without_empty_last (piece ∷ next ∷ more) = piece ∷ without_empty_last (next ∷ more)
 
--- the lines of the input: the pieces between its newlines, except an empty last one
+-- the lines of the input: the texts between its newlines, except an empty last one
 abbrev pub lines : List ℕ → List (List ℕ)
 lines input = without_empty_last (slice_split (λ b. b == 10) input)
 

@@ -1,4 +1,4 @@
--- Octets as they are read part by part, and written group by group.
+-- Octets as they are read and written, one subidentifier after another.
 use Rattle.std.specs.Prelude.{◌≡◌, ℕ, ◌+◌, ◌<◌, ◌≤◌, List, [], ◌∷◌, ◌++◌, length, map, Option, None, Result, MatchResult}
 use Rattle.std.specs.Option.{option_or}
 use Rattle.const_oid.specs.declared.error.Error.{Error}
@@ -31,11 +31,11 @@ abbrev pub fault_from : ℕ → List (List ℕ) → Option Error
 fault_from limit [] = None
 fault_from limit (part ∷ parts) = option_or (part_fault limit part) (later_fault parts)
 
--- the octets go on by a group of the number
+-- the octets go on by the subidentifier of the number
 abbrev pub GoesOn : ℕ → List ℕ → List ℕ → Type 0
 GoesOn number octets longer = (group : List ℕ) × IsGroup number group × (longer ≡ octets ++ group)
 
--- octets go on by the group of a number where it fits a capacity, and stay, with `Length`, where it does not
+-- octets go on by the subidentifier of a number if it fits a capacity, and stay, with `Length`, if it does not
 abbrev pub IsAppended : {X : Type 0} → ℕ → ℕ → List ℕ → List ℕ → Result X Error → Type 0
 IsAppended capacity number octets longer result = MatchResult result
     (λ _. (length octets + width number ≤ capacity) × GoesOn number octets longer)

@@ -46,7 +46,7 @@ pub fn const_oid_next(octets: &[u8], sorted: &[Octets<'_>]) -> Status {
     }
 }
 
-/// Finds the nearest item to an identifier: the first item of the longest prefix of it in the list.
+/// Finds the item with the longest prefix of an identifier, which may be all of it; of several, the first.
 pub fn const_oid_nearest(octets: &[u8], sorted: &[Octets<'_>]) -> Status {
     match ObjectIdentifierRef::from_bytes(octets) {
         Ok(oid) => index_status(nearest_of(sorted, &oid)),
@@ -54,7 +54,7 @@ pub fn const_oid_nearest(octets: &[u8], sorted: &[Octets<'_>]) -> Status {
     }
 }
 
-/// Finds the range of the items that begin with an identifier.
+/// Finds the range of the items whose arcs begin with those of an identifier.
 pub fn const_oid_subtree_range(octets: &[u8], sorted: &[Octets<'_>], range: &mut Range) -> Status {
     match ObjectIdentifierRef::from_bytes(octets) {
         Ok(oid) => {
@@ -84,7 +84,7 @@ fn index_status(index: Option<usize>) -> Status {
     }
 }
 
-/// The status of the first item that is no identifier or comes before the previous one.
+/// The status of the first item that is not valid or comes before the previous one.
 fn list_fault(items: &[Octets<'_>]) -> Option<Status> {
     let mut before: Option<ObjectIdentifierRef<'_>> = None;
     for (index, item) in items.iter().enumerate() {
@@ -121,7 +121,7 @@ fn comes_before(oid: ObjectIdentifierRef<'_>, before: Option<ObjectIdentifierRef
     }
 }
 
-/// The status of a fault of the octets at an index.
+/// The status of an error of the octets at an index.
 fn fault_at(index: usize, fault: Error) -> Status {
     Status {
         len: index,

@@ -23,7 +23,7 @@ pub fn const_oid_starts_with(octets: &[u8], prefix: &[u8]) -> Status {
     }
 }
 
-/// Compares two identifiers of any length by their octets, as lists. A prefix comes first.
+/// Compares two identifiers of any length by their octets, lexicographically. A prefix comes first.
 pub fn const_oid_cmp(left: &[u8], right: &[u8]) -> Status {
     match read_both(left, right) {
         Ok((left, right)) => order_status(left.cmp(&right)),
@@ -31,7 +31,7 @@ pub fn const_oid_cmp(left: &[u8], right: &[u8]) -> Status {
     }
 }
 
-/// Compares two identifiers of any length by their arcs, as lists. A prefix comes first.
+/// Compares two identifiers of any length by their arcs, lexicographically. A prefix comes first.
 pub fn const_oid_cmp_arcs(left: &[u8], right: &[u8]) -> Status {
     match read_both(left, right) {
         Ok((left, right)) => order_status(left.cmp_arcs(&right)),
@@ -39,7 +39,7 @@ pub fn const_oid_cmp_arcs(left: &[u8], right: &[u8]) -> Status {
     }
 }
 
-/// Compares two identifiers of at most 255 octets by length, and then by their octets.
+/// Compares two identifiers of at most 255 octets by length, and then by their octets (shortlex).
 pub fn const_oid_cmp_owned(left: &[u8], right: &[u8]) -> Status {
     let first = match read_owned(left) {
         Ok(first) => first,
@@ -51,7 +51,7 @@ pub fn const_oid_cmp_owned(left: &[u8], right: &[u8]) -> Status {
     }
 }
 
-/// Reads two identifiers of any length. The fault is that of the first that is wrong.
+/// Reads two identifiers of any length. The error is that of the first one that is not valid.
 #[inline]
 fn read_both<'a>(
     left: &'a [u8],

@@ -26,7 +26,7 @@ pub(crate) fn write_joined(first: &[u8], rest: &[u8], out: &mut crate::edge::Out
     len_status(len)
 }
 
-/// Writes the octets of an identifier, or reports its fault.
+/// Writes the octets of an identifier, or reports its error.
 pub(crate) fn write_octets<const N: usize>(
     oid: Result<ObjectIdentifier<N>>,
     out: &mut crate::edge::Output<u8>,

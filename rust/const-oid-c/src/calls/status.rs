@@ -14,19 +14,19 @@ pub(crate) const ARC_INVALID: u32 = 1;
 /// The code of an arc above `u32::MAX`.
 pub(crate) const ARC_TOO_BIG: u32 = 2;
 
-/// The code of a subidentifier that begins with 0x80 or does not end.
+/// The code of a subidentifier that begins with 0x80 or is truncated.
 pub(crate) const BASE128: u32 = 3;
 
 /// The code of a byte that is not a digit.
 pub(crate) const DIGIT_EXPECTED: u32 = 4;
 
-/// The code of an input with nothing, or only one arc.
+/// The code of an input that is empty or has only one arc.
 pub(crate) const EMPTY: u32 = 5;
 
 /// The code of more than 255 octets.
 pub(crate) const LENGTH: u32 = 6;
 
-/// The code of a sum that overflows. None does.
+/// The code of an arithmetic overflow. No function returns it.
 pub(crate) const OVERFLOW: u32 = 7;
 
 /// The code of a dot after another dot.
@@ -35,7 +35,7 @@ pub(crate) const REPEATED_DOT: u32 = 8;
 /// The code of a text that ends with a dot.
 pub(crate) const TRAILING_DOT: u32 = 9;
 
-/// The code of an output that is shorter than the result.
+/// The code of an output that is too short for the result.
 pub(crate) const OUTPUT_TOO_SHORT: u32 = 10;
 
 /// The code of a text that is not UTF-8.

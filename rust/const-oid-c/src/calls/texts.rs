@@ -31,7 +31,7 @@ fn write_other(text: &[u8], out: &mut crate::edge::Output<u8>) -> Status {
     write_octets(ObjectIdentifier::<MAX_OCTETS>::from_ascii(text), out)
 }
 
-/// The room for the text of 16 octets: four bytes an octet, and one arc more.
+/// The room for the text of 16 octets: four bytes for each octet, and eleven for one arc more.
 const SHORT: usize = 75;
 
 /// The room for the text of 255 octets.
@@ -39,8 +39,8 @@ const LONG: usize = 1031;
 
 /// Writes the dotted text of contents octets of any length. No zero byte follows it.
 ///
-/// The octets are checked as they are printed, so the text is made on the stack: on an error the output
-/// is unchanged. Most octets are few, and the less room there is, the sooner it is set to zero.
+/// The octets are checked as they are printed, so the text is made on the stack: on an error the output is unchanged.
+/// Most identifiers are short, and the less room there is, the sooner it is set to zero.
 pub fn const_oid_to_text(octets: &[u8], out: &mut crate::edge::Output<u8>) -> Status {
     let mut text = [0; SHORT];
     match ObjectIdentifierRef::text_from_bytes(octets, &mut text) {

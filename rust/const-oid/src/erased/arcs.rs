@@ -31,7 +31,7 @@ pub struct Arcs<'a> {
     octets: &'a [u8],
 }
 
-/// What comes next of the octets.
+/// What the octets that are left begin with.
 #[derive(Clone, Copy)]
 enum Next {
     /// The first subidentifier, which holds the first two arcs.
@@ -43,7 +43,7 @@ enum Next {
 }
 
 impl<'a> Arcs<'a> {
-    /// All arcs of octets without a fault.
+    /// All arcs of valid octets.
     pub(crate) fn new(octets: &'a [u8]) -> Self {
         Arcs {
             next: Next::First,
@@ -88,8 +88,8 @@ impl Iterator for Arcs<'_> {
     }
 }
 
-/// The arc at an index, counted from 0, of octets without a fault, or `None` past the last. The parts
-/// before its own are not read.
+/// The arc at an index, counted from 0, of valid octets, or `None` past the last. The subidentifiers before its own are
+/// skipped, and not decoded.
 pub(crate) fn arc_at(octets: &[u8], index: usize) -> Option<Arc> {
     if index < 2 {
         let (first, second) = split_root(read_group(octets).0);

@@ -21,7 +21,7 @@ pub(crate) fn read_group(octets: &[u8]) -> (u64, &[u8]) {
 /// The number of the first subidentifier, which has two octets or more, and the octets after it.
 #[inline(never)]
 fn read_long_group(octets: &[u8]) -> (u64, &[u8]) {
-    // The arms of `checked_group` without its tests: octets without a fault pass them, and each arc would pay for them.
+    // The arms of `checked_group` without its tests: valid octets pass them, and each arc would pay for them.
     match octets {
         [a, b, after @ ..] if *b < 128 => (add_digit(add_digit(0, *a), *b), after),
         [a, b, c, after @ ..] if *c < 128 => {
@@ -45,7 +45,7 @@ fn read_five(octets: &[u8]) -> (u64, &[u8]) {
     }
 }
 
-/// The number of the first subidentifier, at most a limit, and the octets after it, or `None` where it has a fault.
+/// The number of the first subidentifier, at most a limit, and the octets after it, or `None` if it is not valid.
 #[inline(always)]
 pub(crate) fn checked_group(octets: &[u8], limit: u64) -> Option<(u64, &[u8])> {
     match octets {
@@ -66,7 +66,7 @@ pub(crate) fn checked_group(octets: &[u8], limit: u64) -> Option<(u64, &[u8])> {
     }
 }
 
-/// The fault of the first subidentifier, which has one.
+/// The error of the first subidentifier, which is not valid.
 #[cold]
 pub(crate) fn group_fault(octets: &[u8], limit: u64) -> Error {
     if octets[0] == 128 || octets.len() < 5 {

@@ -141,10 +141,10 @@ const fn word(octets: &[u8], at: usize) -> u64 {
     }
 }
 
-/// The lexicographic order of the parts of octets, a shorter part first.
+/// The lexicographic order of subidentifiers, a shorter one before a longer one: of valid octets, that of their arcs.
 ///
-/// At the first octet that differs, both parts began at the same index. So the part with more octets left is the longer
-/// one, and an octet that ends its part decides.
+/// At the first octet that differs, both subidentifiers began at the same index. So the one with more octets left is
+/// the longer one, and an octet that ends its subidentifier decides.
 pub(crate) fn order_by_parts(a: &[u8], b: &[u8]) -> Ordering {
     let near = a.len().min(b.len());
     let i = same_until(a, b, same_start(a, b), near);

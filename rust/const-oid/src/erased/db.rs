@@ -11,7 +11,7 @@ use crate::erased::oid::ObjectIdentifier;
 /// A table of identifiers and their names, in any order. An identifier may have several names, and a name several
 /// identifiers.
 ///
-/// Names are compared without regard to ASCII case.
+/// Names are compared ignoring ASCII case.
 ///
 /// # Examples
 ///
@@ -64,7 +64,7 @@ impl<'a> Database<'a> {
         None
     }
 
-    /// The identifier in the first entry with this name, in any ASCII case, or `None` if there is no such entry.
+    /// The identifier in the first entry with this name, ignoring ASCII case, or `None` if there is no such entry.
     ///
     /// # Examples
     ///

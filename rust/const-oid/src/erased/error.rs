@@ -74,7 +74,7 @@ pub enum Error {
 const MAX_TEXT_LEN: usize = 47;
 
 impl Error {
-    /// The length of the text that `{}` writes.
+    /// The length in bytes of the text that `{}` writes.
     ///
     /// # Examples
     ///
@@ -86,8 +86,8 @@ impl Error {
         before.len() + self.detail_len() + after.len()
     }
 
-    /// Writes the text that `{}` writes at the start of `out`, and returns its length. Returns `None`
-    /// if it is longer than `out`, which is then unchanged.
+    /// Writes the text that `{}` writes to the start of `out`, and returns its length in bytes. Returns `None` if it is
+    /// longer than `out`, which is then unchanged. 47 bytes are always enough.
     ///
     /// # Examples
     ///

@@ -44,12 +44,12 @@ impl ObjectIdentifier<39> {
     ///
     /// # Errors
     ///
-    /// The text is cut at its dots. The first wrong piece gives the error, by the first of these that applies:
+    /// The dots cut the text into components. The first wrong one gives the error, by the first of these that applies:
     ///
     /// - [`Error::ArcTooBig`]: its leading digits are a number above 4294967295;
     /// - [`Error::DigitExpected`]: it has another byte than a digit, or it is empty and the first of several;
     /// - [`Error::RepeatedDot`] or [`Error::TrailingDot`]: it is empty, and not the first one;
-    /// - [`Error::TrailingDot`]: an empty last piece follows it;
+    /// - [`Error::TrailingDot`]: an empty last component follows it;
     /// - [`Error::ArcInvalid`]: it is the first one and above 2, or the second, above 39 and after 0 or 1 (X.660);
     /// - [`Error::Length`]: the arcs up to it take more than 39 octets (X.690, 8.19);
     /// - [`Error::Empty`]: it is the only one.
@@ -192,7 +192,7 @@ impl<const MAX_SIZE: usize> ObjectIdentifier<MAX_SIZE> {
     }
 
     /// Parses dotted text in ASCII as [`new_sized`](Self::new_sized) does. The bytes need not be UTF-8: one past ASCII
-    /// is no digit.
+    /// is an error, since it is not a digit.
     ///
     /// # Examples
     ///
@@ -230,7 +230,7 @@ impl<const MAX_SIZE: usize> ObjectIdentifier<MAX_SIZE> {
         Ok(ObjectIdentifier { ber })
     }
 
-    /// Copies a borrowed identifier, or returns [`Error::Length`] where its octets do not fit.
+    /// Copies a borrowed identifier, or returns [`Error::Length`] if its octets do not fit.
     #[inline(always)]
     pub(crate) fn try_from_ref(oid_ref: ObjectIdentifierRef<'_>) -> Result<Self> {
         let octets = oid_ref.as_bytes();
@@ -312,8 +312,8 @@ impl<const MAX_SIZE: usize> ObjectIdentifier<MAX_SIZE> {
         self.borrowed().text_len()
     }
 
-    /// Writes the text that `{}` writes at the start of `out`, and returns its length. Returns `None`
-    /// if it is longer than `out`, which is then unchanged.
+    /// Writes the text that `{}` writes to the start of `out`, and returns its length in bytes. Returns `None` if it is
+    /// longer than `out`, which is then unchanged. Four bytes for each octet are always enough.
     ///
     /// # Examples
     ///
@@ -430,8 +430,8 @@ impl<const MAX_SIZE: usize> fmt::Debug for ObjectIdentifier<MAX_SIZE> {
     }
 }
 
-/// By the number of octets, and then by the octets in lexicographic order. This is not the order of arcs: see
-/// [`cmp_arcs`](Self::cmp_arcs).
+/// By the number of octets, and then by the octets in lexicographic order (shortlex). This is not the order of arcs:
+/// see [`cmp_arcs`](Self::cmp_arcs).
 impl<const MAX_SIZE: usize> Ord for ObjectIdentifier<MAX_SIZE> {
     fn cmp(&self, other: &Self) -> Ordering {
         self.ber.cmp(&other.ber)

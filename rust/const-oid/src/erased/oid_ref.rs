@@ -46,7 +46,7 @@ impl<'a> ObjectIdentifierRef<'a> {
         Ok(ObjectIdentifierRef { ber })
     }
 
-    /// The identifier over octets without a fault.
+    /// The identifier over valid octets.
     pub(crate) const fn from_checked(ber: &'a [u8]) -> Self {
         ObjectIdentifierRef { ber }
     }
@@ -76,8 +76,8 @@ impl<'a> ObjectIdentifierRef<'a> {
         text_len(self.arcs(), usize::MAX).unwrap_or(usize::MAX)
     }
 
-    /// Writes the text that `{}` writes at the start of `out`, and returns its length. Returns `None`
-    /// if it is longer than `out`, which is then unchanged.
+    /// Writes the text that `{}` writes to the start of `out`, and returns its length in bytes. Returns `None` if it is
+    /// longer than `out`, which is then unchanged. Four bytes for each octet are always enough.
     pub fn encode_text(&self, out: &mut [u8]) -> Option<usize> {
         // An octet takes four bytes of text at most.
         if self.ber.len() > out.len() / 4 {
@@ -92,11 +92,11 @@ impl<'a> ObjectIdentifierRef<'a> {
         Some(utf8(&out[..len]))
     }
 
-    /// Decodes contents octets as [`from_bytes`](Self::from_bytes) does, writes their text at the start of `out` in the
-    /// same pass, as `{}` writes it, and returns its length.
+    /// Decodes contents octets as [`from_bytes`](Self::from_bytes) does, writes their text to the start of `out` in the
+    /// same pass, as `{}` writes it, and returns its length in bytes.
     ///
-    /// Returns `None` if `out` has fewer bytes than four for each octet and eleven more, and is then unchanged. On `Err`,
-    /// `out` may be changed.
+    /// Returns `None` if `out` has fewer bytes than four for each octet and eleven more; it is then unchanged. On
+    /// `Err`, `out` may be changed.
     #[inline(always)]
     pub fn text_from_bytes(ber: &[u8], out: &mut [u8]) -> Option<Result<usize>> {
         if out.len() < MAX_ARC_LEN || ber.len() > (out.len() - MAX_ARC_LEN) / 4 {
@@ -142,7 +142,7 @@ impl<'a> ObjectIdentifierRef<'a> {
     }
 }
 
-/// The most octets whose text `{}` writes in one piece.
+/// The most octets whose text `{}` writes at once.
 const PIECE: usize = 40;
 
 /// The most bytes of that text, and of an arc.
@@ -189,7 +189,7 @@ impl PartialOrd for ObjectIdentifierRef<'_> {
 
 /// The lexicographic order of octets, a prefix before what begins with it.
 ///
-/// In it a subtree is one run. It is not the order of SNMP (RFC 3416), which is that of arcs: see
+/// In a list sorted so, a subtree is contiguous. It is not the order of SNMP (RFC 3416), which is that of arcs: see
 /// [`cmp_arcs`](ObjectIdentifierRef::cmp_arcs).
 impl Ord for ObjectIdentifierRef<'_> {
     fn cmp(&self, other: &Self) -> Ordering {

@@ -47,7 +47,8 @@ pub fn subtree_of<T: Contents>(items: &[T], oid: &ObjectIdentifierRef<'_>) -> (u
     (from, from + inside)
 }
 
-/// The index of the nearest item to an identifier: the first item of the longest prefix of it in the list.
+/// The index of the item with the longest prefix of an identifier, which may be all of it, or `None` if the list has no
+/// prefix. If several items have it, the first.
 pub fn nearest_of<T: Contents>(items: &[T], oid: &ObjectIdentifierRef<'_>) -> Option<usize> {
     // A prefix of the identifier in the list is at or before it, so the last item up to it begins with that prefix, too.
     let last = items[..end_of(items, oid)].last()?.contents();
