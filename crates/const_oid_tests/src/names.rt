@@ -2,6 +2,7 @@
 //! `find_names_for_oid` and `resolve`.
 
 ghost use Rattle.std.specs.Prelude.{◌≡◌, IsOk, IfOk};
+ghost use Rattle.std.specs.Iterator.{IsFinite};
 ghost use Rattle.const_oid.specs.Names.{entries_of, ref_entries_of};
 
 use const_oid::db::{Database, RefDatabase};
@@ -23,15 +24,22 @@ fn ref_clone_of<'a>(database: &RefDatabase<'a>) -> Result<RefDatabase<'a>, Alloc
     database.clone()
 }
 
-/// Whether an identifier has these names in table order, and then none, each time.
-fn has_names(database: &Database<'_>, oid: Oid, wanted: &[&str]) -> bool {
-    let mut names = database.find_names_for_oid(oid);
+/// Whether an iterator gives these names, and then none, each time.
+fn gives<'a, I: Iterator<Item = &'a str> + Drop>(mut names: I, wanted: &[&str]) -> bool
+    requires can { (left : I) → I.can_next left }
+    requires ends { IsFinite (I.remaining names) }
+{
     for name in wanted {
         if names.next() != Some(name) {
             return false;
         }
     }
     names.next().is_none() && names.next().is_none()
+}
+
+/// Whether an identifier has these names in table order.
+fn has_names(database: &Database<'_>, oid: Oid, wanted: &[&str]) -> bool {
+    gives(database.find_names_for_oid(oid), wanted)
 }
 
 /// Names, and the texts of their identifiers, if they have one.
@@ -217,17 +225,6 @@ const TABLE: [(ObjectIdentifierRef<'static>, &str); 3] = [
     (COMMON_NAME, "commonName"),
 ];
 
-/// Whether an identifier has these names in the order of the table of constants, and then none, each time.
-fn has_constant_names(oid: ObjectIdentifierRef<'_>, wanted: &[&str]) -> bool {
-    let mut names = RefDatabase::new(&TABLE).find_names_for_oid(oid);
-    for name in wanted {
-        if names.next() != Some(name) {
-            return false;
-        }
-    }
-    names.next().is_none() && names.next().is_none()
-}
-
 #[test]
 fn finds_in_a_table_of_constants(rt: HostRuntime) -> Result<(), AllocError> {
     let database = ref_clone_of(&RefDatabase::new(&TABLE))?;
@@ -235,6 +232,11 @@ fn finds_in_a_table_of_constants(rt: HostRuntime) -> Result<(), AllocError> {
     assert!(rt; database.by_oid(&COMMON_NAME) == Some("cn") && database.by_oid(&unnamed).is_none());
     assert!(rt; database.by_name("COMMONNAME") == Some(COMMON_NAME));
     assert!(rt; database.by_name("common").is_none());
-    assert!(rt; has_constant_names(COMMON_NAME, &["cn", "commonName"]));
+    assert!(rt;
+        gives(
+            database.find_names_for_oid(COMMON_NAME),
+            &["cn", "commonName"]
+        )
+    );
     Ok(())
 }
