@@ -8,10 +8,10 @@ import sys
 from html import escape
 
 DOCS = pathlib.Path(__file__).resolve().parent.parent.parent / "docs"
-LEFT, COLUMN, ROW = 150, 77, 24  # of the matrix: where its columns begin, a column's width, a row's height
-BAR, MOST = 230, 10_500  # of the bars: the width of the longest, and its instructions
+WIDTH, LEFT, ROW = 440, 116, 20  # of a picture, narrow enough for a telephone; of the names in it; a row's height
+BAR, MOST = 260, 10_500  # of the bars: the width of the longest, and its instructions
 STYLE = """<style>
-text { fill: #222 } .note { fill: #666 } .small { font-size: 9px } .ours { font-weight: bold }
+text { fill: #222 } .note { fill: #666 } .small { font-size: 11px } .ours, .strong { font-weight: bold }
 .other { fill: #8a94b8 } .bar { fill: #0a6 }
 .ok { fill: #d8efdf } .rejected { fill: #fbe7b5 } .wrong { fill: #f4b8ae } .either { fill: none } .dark { fill: #222 }
 @media (prefers-color-scheme: dark) { text { fill: #e6e6e6 } .note { fill: #a8a8a8 } .dark { fill: #222 } }
@@ -30,81 +30,98 @@ def text(x, y, words, kind="", anchor="middle"):
     return f'<text x="{x:g}" y="{y}" text-anchor="{anchor}"{kind}>{escape(words)}</text>'
 
 
-def picture(width, height, title, lines):
-    size = f'viewBox="0 0 {width} {height}" font-family="sans-serif" font-size="11"'
-    head = f'<svg xmlns="http://www.w3.org/2000/svg" {size} role="img" aria-labelledby="title">'
+def picture(height, title, lines):
+    size = f'width="{WIDTH}" height="{height}" viewBox="0 0 {WIDTH} {height}"'
+    fonts = 'font-family="Arial, Helvetica, Roboto, sans-serif" font-size="12"'
+    head = f'<svg xmlns="http://www.w3.org/2000/svg" {size} {fonts} role="img" aria-labelledby="title">'
     return "\n".join([head, f'<title id="title">{escape(title)}</title>', STYLE, *lines, "</svg>", ""])
+
+
+def notes(top, *lines):
+    """Lines below a picture."""
+    return [text(8, top + 16 * index, line, "note", "start") for index, line in enumerate(lines)]
 
 
 def expected(heading):
     """What is right for a kind of input."""
-    return {"valid": "right: read", "arc ≥ 2^32": "either", "1.02": "either"}.get(heading, "right: rejected")
+    return {"valid": "read", "arc ≥ 2^32": "either", "1.02": "either"}.get(heading, "rejected")
 
 
 def verdict(heading, cell):
     """The words and the kind of a cell of the matrix: the last share is that of misread inputs, where there are any."""
     if cell == "0":
         return "ok", "ok"
-    share = cell.split(", ")[-1].replace(" %", "%")
-    if share.endswith("misread"):
-        return share.replace("misread", "wrong"), "wrong"
-    if expected(heading) == "either" or cell == "–":
-        return share, "either"
-    return (share, "rejected") if share.endswith("rejected") else (f"{share} wrong", "wrong")
+    share, *what = cell.split(", ")[-1].replace(" %", "%").split(" ")
+    if what == ["misread"]:
+        return share, "wrong"
+    if expected(heading) == "either":
+        return " ".join([share, *what]), "either"
+    return share, "rejected" if what else "wrong"
 
 
-def row_of(y, name, cells, columns):
-    """A row of the matrix: its cells by their columns, each a number and a heading."""
-    yield text(LEFT - 8, y + 16, name, "ours" if name.startswith("this") else "", "end")
-    for (column, heading), cell in zip(columns, cells):
+def row_of(y, column, name, headings, cells):
+    """A row of a table of the matrix, whose columns have this width."""
+    yield text(LEFT - 8, y + 14, name, "ours" if name.startswith("this") else "", "end")
+    for index, (heading, cell) in enumerate(zip(headings, cells)):
         words, kind = verdict(heading, cell)
-        x = LEFT + column * COLUMN
-        yield f'<rect x="{x + 1}" y="{y + 1}" width="{COLUMN - 2}" height="{ROW - 2}" class="{kind}"/>'
-        yield text(x + COLUMN / 2, y + 16, words, "" if kind == "either" else "dark")
+        x = LEFT + index * column
+        look = {"either": "", "wrong": "dark strong"}.get(kind, "dark")
+        yield f'<rect x="{x + 1:g}" y="{y + 1}" width="{column - 2:g}" height="{ROW - 2}" class="{kind}"/>'
+        yield text(x + column / 2, y + 14, words, f"{look} small".strip() if len(words) > 7 else look)
+
+
+def table_of(top, title, headings, rows):
+    """A table of the matrix: a row for each library, a column for each kind of input."""
+    column = (WIDTH - LEFT - 2) / len(headings)
+    yield text((LEFT + WIDTH) / 2, top + 14, title, "ours")
+    yield text(LEFT - 8, top + 58, "right:", "note small", "end")
+    for index, heading in enumerate(headings):
+        x = LEFT + (index + 0.5) * column
+        lines = heading.split(" ", 1) if column < 60 else [heading]
+        yield from (text(x, top + y, words) for y, words in zip((43, 30), reversed(lines)))
+        yield text(x, top + 58, expected(heading), "note small")
+    for y, (name, *cells) in zip(range(top + 64, 10_000, ROW), rows):
+        yield from row_of(y, column, name, headings, cells)
 
 
 def matrix():
-    """A row for each library, a column for each kind of input."""
+    """A table of contents octets, and below it one of texts."""
     (octets, read), (texts, written) = table("Octets"), table("Text")
-    written = {name: cells for name, *cells in written}
-    columns = list(enumerate([*octets, *texts]))
-    half = LEFT + len(octets) * COLUMN
-    lines = [text((LEFT + half) / 2, 18, "contents octets", "ours")]
-    lines.append(text(half + len(texts) * COLUMN / 2, 18, "dotted text", "ours"))
-    for column, heading in columns:
-        x = LEFT + (column + 0.5) * COLUMN
-        lines += [text(x, 40, heading), text(x, 55, expected(heading), "note small")]
-    for y, (name, *cells) in zip(range(64, 10_000, ROW), read):
-        lines += row_of(y, name, [*cells, *written.get(name, ["–"] * len(texts))], columns)
-    bottom = 64 + ROW * len(read) + 18
-    key = "wrong: accepted, or read as another identifier · rejected: although valid · no colour: either is right"
-    lines.append(text(LEFT, bottom, f"{key} · –: no such function", "note", "start"))
-    return picture(1000, bottom + 12, "What each library does with 10,000 test inputs of each kind", lines)
+    middle = 64 + ROW * len(read) + 14
+    bottom = middle + 64 + ROW * len(written) + 20
+    lines = [*table_of(0, "contents octets", octets, read), *table_of(middle, "dotted text", texts, written)]
+    lines += notes(
+        bottom,
+        "red, bold: the share accepted, or read as another identifier",
+        "yellow: the share of valid inputs that are rejected",
+        "no colour: either is right · no row: no such function",
+    )
+    return picture(bottom + 42, "What each library does with 10,000 test inputs of each kind", lines)
 
 
-def bars(left, title, values):
+def bars(top, title, values):
     """A bar for each library, the shortest first."""
-    yield text(left, 20, title, "ours", "start")
-    for y, (value, name) in zip(range(34, 10_000, 22), sorted(values)):
+    yield text(8, top + 14, title, "ours", "start")
+    for y, (value, name) in zip(range(top + 22, 10_000, ROW), sorted(values)):
         ours, width = name.startswith("this"), BAR * value / MOST
         kind = "bar" if ours else "other"
-        yield text(left + 150, y + 13, name, "ours" if ours else "", "end")
-        yield f'<rect x="{left + 158}" y="{y + 2}" width="{width:.1f}" height="15" class="{kind}"/>'
-        yield text(left + 164 + round(width, 1), y + 13, f"{value:,}", "note", "start")
+        yield text(LEFT - 8, y + 14, name, "ours" if ours else "", "end")
+        yield f'<rect x="{LEFT}" y="{y + 2}" width="{width:.1f}" height="{ROW - 4}" class="{kind}"/>'
+        yield text(LEFT + 6 + round(width, 1), y + 14, f"{value:,}", "note", "start")
 
 
 def cost():
     """Instructions of one call, for 7 octets; the build by the Rattle toolchain and C by hand are in SPEED."""
     head, rows = table("Instructions")
     rows = [row for row in rows if row[0] not in ("this library, C, by rt", "by hand in C")]
-    lines = []
-    for left, what, title in [(10, "read, 7 octets", "Text to octets"), (500, "print, 7 octets", "Octets to text")]:
+    lines, bottom = [], 0
+    for what, title in [("read, 7 octets", "Text to octets"), ("print, 7 octets", "Octets to text")]:
         cells = [(row[head.index(what) + 1], row[0].replace(", by cargo", "")) for row in rows]
-        lines += bars(left, title, [(int(cell.replace(",", "")), name) for cell, name in cells if cell != "–"])
-    bottom = 34 + 22 * len(rows) + 16
-    key = "Instructions of one call for 1.2.840.10045.2.1, on x86-64, by valgrind: fewer is better."
-    lines.append(text(10, bottom, key, "note", "start"))
-    return picture(1000, bottom + 12, "Instructions of one call for 1.2.840.10045.2.1, by library", lines)
+        values = [(int(cell.replace(",", "")), name) for cell, name in cells if cell != "–"]
+        lines += bars(bottom, title, values)
+        bottom += 22 + ROW * len(values) + 14
+    lines += notes(bottom + 8, "Instructions of one call for 1.2.840.10045.2.1,", "on x86-64, by valgrind: fewer is better.")
+    return picture(bottom + 34, "Instructions of one call for 1.2.840.10045.2.1, by library", lines)
 
 
 if __name__ == "__main__":
