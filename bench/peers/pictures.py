@@ -120,8 +120,9 @@ def cost():
         values = [(int(cell.replace(",", "")), name) for cell, name in cells if cell != "–"]
         lines += bars(bottom, title, values)
         bottom += 22 + ROW * len(values) + 14
-    lines += notes(bottom + 8, "Instructions of one call for 1.2.840.10045.2.1,", "on x86-64, by valgrind: fewer is better.")
-    return picture(bottom + 34, "Instructions of one call for 1.2.840.10045.2.1, by library", lines)
+    example = "Instructions of one call for 1.2.840.10045.2.1"
+    lines += notes(bottom + 8, f"{example},", "on x86-64, by valgrind: fewer is better.")
+    return picture(bottom + 34, f"{example}, by library", lines)
 
 
 if __name__ == "__main__":

@@ -232,11 +232,7 @@ fn finds_in_a_table_of_constants(rt: HostRuntime) -> Result<(), AllocError> {
     assert!(rt; database.by_oid(&COMMON_NAME) == Some("cn") && database.by_oid(&unnamed).is_none());
     assert!(rt; database.by_name("COMMONNAME") == Some(COMMON_NAME));
     assert!(rt; database.by_name("common").is_none());
-    assert!(rt;
-        gives(
-            database.find_names_for_oid(COMMON_NAME),
-            &["cn", "commonName"]
-        )
-    );
+    let names = database.find_names_for_oid(COMMON_NAME);
+    assert!(rt; gives(names, &["cn", "commonName"]));
     Ok(())
 }
