@@ -38,7 +38,7 @@ subidentifiers [] = []
 subidentifiers (first ∷ []) = []
 subidentifiers (first ∷ second ∷ later) = (40 * first + second) ∷ later
 
--- the octets are the encoding of the arcs: a group for each subidentifier, joined
+-- the octets are the encoding of the arcs: the group of each subidentifier, joined
 pub record IsEncoding (rule : RootRule) (arcs octets : List ℕ) : Type 0 where
   pub identifier : IsIdentifier rule arcs
   pub groups : List (List ℕ)
@@ -54,7 +54,7 @@ usual_capacity = 39
 abbrev pub size : List ℕ → ℕ
 size arcs = sum_by width (subidentifiers arcs)
 
--- the encoding of the arcs, where they are an identifier
+-- the encoding of the arcs, if they are an identifier
 -- a law ties it to IsEncoding: laws::one_encoding
 unfoldable pub encoding_of : List ℕ → List ℕ
 encoding_of arcs = concat (map group_of (subidentifiers arcs))

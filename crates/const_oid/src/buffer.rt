@@ -70,7 +70,7 @@ impl<const SIZE: usize> Buffer<SIZE> {
         }
     }
 
-    /// Appends the subidentifier of a number, or returns `Length` where it does not fit.
+    /// Appends the subidentifier of a number, or returns `Length` if it does not fit.
     // erase: const
     #[tactic(auto, using(crate::proofs::Groups::width_is))]
     #[inline(always)]
@@ -88,7 +88,7 @@ impl<const SIZE: usize> Buffer<SIZE> {
         }
     }
 
-    /// Appends the subidentifier of an arc, or returns `Length` where it does not fit. Short ones have paths of
+    /// Appends the subidentifier of an arc, or returns `Length` if it does not fit. Short ones have paths of
     /// their own, which are quicker in a single call, and slower in the loop of an encoder.
     // erase: const
     #[inline(always)]
@@ -103,7 +103,7 @@ impl<const SIZE: usize> Buffer<SIZE> {
         }
     }
 
-    /// Appends the subidentifier of a number, which takes `count` octets, or returns `Length` where it does not fit.
+    /// Appends the subidentifier of a number, which takes `count` octets, or returns `Length` if it does not fit.
     // erase: const
     #[inline(always)]
     fn push_number_of_len(&mut self, number: u64, count: usize) -> Result<()>

@@ -133,7 +133,7 @@ const fn are_few_equal(a: &[u8], b: &[u8]) -> bool
     true
 }
 
-/// The lexicographic order of octets: by words, of which the last may overlap the one before, or one by one where there
+/// The lexicographic order of octets: by words, of which the last may overlap the one before, or one by one if there
 /// are fewer than a word has.
 #[tactic(auto, using(crate::proofs::Words::unequal_cmp))]
 #[inline(always)]

@@ -14,7 +14,7 @@ pub type Result<T> = std::result::Result<T, Error>;
 /// Why text, a list of arcs or octets were rejected.
 #[derive(Copy, Clone, Debug, Eq, PartialEq, PartialOrd, Ord)]
 pub enum Error {
-    /// The first or the second arc of a text or a list is out of range.
+    /// The first or the second arc of a text or a list is out of range (X.660).
     ArcInvalid {
         /// The arc.
         arc: Arc,
@@ -26,7 +26,7 @@ pub enum Error {
     /// A subidentifier begins with 0x80, which is superfluous, or the octets end within it (X.690, 8.19.2).
     Base128,
 
-    /// A byte is not a digit where one is expected.
+    /// A byte is not a digit, but one is expected.
     DigitExpected {
         /// The byte. Of a character that is not ASCII, it is the first byte in UTF-8.
         actual: u8,

@@ -26,7 +26,7 @@ pub trait Contents {
         ensures { result.now ≡ octets_of self.now };
 }
 
-/// The index of the first item that does not come before an identifier.
+/// The index of the first item that does not come before an identifier, or the number of items if there is none.
 pub fn start_of<T: Contents>(items: &[T], oid: &ObjectIdentifierRef<'_>) -> usize
     ensures within { result ≤ length items.now }
     ensures cut { IsSortedList T.octets_of items.now
@@ -36,7 +36,7 @@ pub fn start_of<T: Contents>(items: &[T], oid: &ObjectIdentifierRef<'_>) -> usiz
     items.partition_point(|item| order_by_parts(item.contents(), oid.as_bytes()).is_lt())
 }
 
-/// The index of the first item that comes after an identifier.
+/// The index of the first item that comes after an identifier, or the number of items if there is none.
 pub fn end_of<T: Contents>(items: &[T], oid: &ObjectIdentifierRef<'_>) -> usize
     ensures within { result ≤ length items.now }
     ensures cut { IsSortedList T.octets_of items.now

@@ -1,4 +1,4 @@
-//! Rows of private parts, for which no public call exists.
+//! Tests of private functions that no public function exposes.
 
 use crate::Arc;
 use crate::buffer::Buffer;

@@ -64,7 +64,7 @@ pub extern "C" fn const_oid_from_arcs(arcs: &[u32], out: &mut [u8]) -> Status
     write_octets(small, out)
 }
 
-/// Writes the contents octets of arcs, where they may be many.
+/// Writes at most `MAX_OCTETS` contents octets of arcs.
 #[inline(never)]
 fn write_large(arcs: &[u32], out: &mut [u8]) -> Status
     ensures status { result ≡ output_status (length out.old) (octets_of_arcs (item_answer root_rule arcs.now owned_capacity)) }

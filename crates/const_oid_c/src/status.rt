@@ -47,7 +47,7 @@ pub(crate) const NONE: u32 = 12;
 /// The code of a list that is not sorted.
 pub(crate) const UNSORTED: u32 = 13;
 
-/// The order of an identifier that comes before the other. No order is 0, which a fault leaves in `detail`.
+/// The order of an identifier that comes before the other. No order is 0, which an error leaves in `detail`.
 const LESS: u32 = 1;
 
 /// The order of equal identifiers.

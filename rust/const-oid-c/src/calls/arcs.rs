@@ -46,7 +46,7 @@ pub fn const_oid_from_arcs(arcs: &[u32], out: &mut crate::edge::Output<u8>) -> S
     write_octets(small, out)
 }
 
-/// Writes the contents octets of arcs, where they may be many.
+/// Writes at most `MAX_OCTETS` contents octets of arcs.
 #[inline(never)]
 fn write_large(arcs: &[u32], out: &mut crate::edge::Output<u8>) -> Status {
     write_octets(encoded::<MAX_OCTETS>(arcs), out)

@@ -56,7 +56,7 @@ impl<const SIZE: usize> Buffer<SIZE> {
         }
     }
 
-    /// Appends the subidentifier of a number, or returns `Length` where it does not fit.
+    /// Appends the subidentifier of a number, or returns `Length` if it does not fit.
     #[inline(always)]
     pub(crate) const fn push_group(&mut self, number: u64) -> Result<()> {
         // With a literal length, a subidentifier is written without a loop.
@@ -69,7 +69,7 @@ impl<const SIZE: usize> Buffer<SIZE> {
         }
     }
 
-    /// Appends the subidentifier of an arc, or returns `Length` where it does not fit. Short ones have paths of
+    /// Appends the subidentifier of an arc, or returns `Length` if it does not fit. Short ones have paths of
     /// their own, which are quicker in a single call, and slower in the loop of an encoder.
     #[inline(always)]
     pub(crate) const fn push_arc(&mut self, arc: Arc) -> Result<()> {
@@ -81,7 +81,7 @@ impl<const SIZE: usize> Buffer<SIZE> {
         }
     }
 
-    /// Appends the subidentifier of a number, which takes `count` octets, or returns `Length` where it does not fit.
+    /// Appends the subidentifier of a number, which takes `count` octets, or returns `Length` if it does not fit.
     #[inline(always)]
     const fn push_number_of_len(&mut self, number: u64, count: usize) -> Result<()> {
         let start = self.used as usize;

@@ -33,11 +33,11 @@ pub struct ObjectIdentifier<const MAX_SIZE: usize = 39> {
     ber: Buffer<MAX_SIZE>,
 }
 
-/// An identifier of the usual capacity, 39 octets.
+/// An identifier of the default capacity, 39 octets.
 pub type Oid = ObjectIdentifier<39>;
 
 impl ObjectIdentifier<39> {
-    /// The usual capacity, 39 octets.
+    /// The default capacity, 39 octets.
     pub const MAX_SIZE: usize = 39;
 
     /// Parses dotted text, such as `1.2.840.10045.2.1`, with any number of leading zeros in an arc.
@@ -125,8 +125,9 @@ impl ObjectIdentifier<39> {
     /// The first of these that applies:
     ///
     /// - [`Error::Empty`]: there is no octet;
-    /// - [`Error::Base128`] or [`Error::ArcTooBig`], by the first wrong subidentifier: it begins with 0x80; it is above
-    ///   4294967295, or above 4294967375 as the first, which holds two arcs; or the octets end within it;
+    /// - by the first wrong subidentifier, [`Error::Base128`] if it begins with 0x80 (X.690, 8.19.2), or else
+    ///   [`Error::ArcTooBig`] if it is above 4294967295, or above 4294967375 as the first one, which holds two arcs, or
+    ///   else [`Error::Base128`]: the octets end within it;
     /// - [`Error::Length`]: there are more than 39 octets.
     ///
     /// # Examples
@@ -154,7 +155,7 @@ impl FromStr for ObjectIdentifier<39> {
 }
 
 impl<const MAX_SIZE: usize> ObjectIdentifier<MAX_SIZE> {
-    /// Decodes contents octets (X.690, 8.19) at any capacity.
+    /// Decodes at most `MAX_SIZE` contents octets (X.690, 8.19), and never more than 255.
     ///
     /// # Errors
     ///
@@ -173,7 +174,7 @@ impl<const MAX_SIZE: usize> ObjectIdentifier<MAX_SIZE> {
         Self::try_from_ref(ObjectIdentifierRef::from_bytes(ber_bytes)?)
     }
 
-    /// Parses dotted text at any capacity.
+    /// Parses dotted text into at most `MAX_SIZE` octets, and never more than 255.
     ///
     /// # Errors
     ///
@@ -211,7 +212,8 @@ impl<const MAX_SIZE: usize> ObjectIdentifier<MAX_SIZE> {
         }
     }
 
-    /// Encodes the arcs that an iterator gives at any capacity. The iterator must end.
+    /// Encodes the arcs that an iterator gives in at most `MAX_SIZE` octets, and never more than 255. The iterator must
+    /// end.
     ///
     /// # Errors
     ///

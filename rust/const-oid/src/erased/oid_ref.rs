@@ -19,7 +19,8 @@ use core::fmt;
 /// Its octets are valid: they are the one encoding of its arcs (X.690, 8.19).
 #[derive(Copy, Clone, Eq, Hash)]
 pub struct ObjectIdentifierRef<'a> {
-    /// The contents octets, which are valid: the checker decodes a literal.
+    /// The contents octets, which are valid.
+    // In Rattle, the checker decodes a literal.
     ber: &'a [u8],
 }
 
@@ -34,8 +35,9 @@ impl<'a> ObjectIdentifierRef<'a> {
     /// The first of these that applies:
     ///
     /// - [`Error::Empty`]: there is no octet;
-    /// - [`Error::Base128`] or [`Error::ArcTooBig`], by the first wrong subidentifier: it begins with 0x80; it is above
-    ///   4294967295, or above 4294967375 as the first, which holds two arcs; or the octets end within it;
+    /// - by the first wrong subidentifier, [`Error::Base128`] if it begins with 0x80 (X.690, 8.19.2), or else
+    ///   [`Error::ArcTooBig`] if it is above 4294967295, or above 4294967375 as the first one, which holds two arcs, or
+    ///   else [`Error::Base128`]: the octets end within it;
     /// - [`Error::Length`]: there are more than `isize::MAX` octets, which no slice has.
     #[inline(always)]
     pub fn from_bytes(ber: &'a [u8]) -> Result<Self> {

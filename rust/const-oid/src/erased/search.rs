@@ -14,12 +14,12 @@ pub trait Contents {
     fn contents(&self) -> &[u8];
 }
 
-/// The index of the first item that does not come before an identifier.
+/// The index of the first item that does not come before an identifier, or the number of items if there is none.
 pub fn start_of<T: Contents>(items: &[T], oid: &ObjectIdentifierRef<'_>) -> usize {
     items.partition_point(|item| order_by_parts(item.contents(), oid.as_bytes()).is_lt())
 }
 
-/// The index of the first item that comes after an identifier.
+/// The index of the first item that comes after an identifier, or the number of items if there is none.
 pub fn end_of<T: Contents>(items: &[T], oid: &ObjectIdentifierRef<'_>) -> usize {
     items.partition_point(|item| order_by_parts(oid.as_bytes(), item.contents()).is_ge())
 }
