@@ -8,7 +8,7 @@ import sys
 from html import escape
 
 DOCS = pathlib.Path(__file__).resolve().parent.parent.parent / "docs"
-WIDTH, LEFT, ROW = 440, 116, 20  # of a picture, narrow enough for a telephone; of the names in it; a row's height
+WIDTH, LEFT, ROW = 440, 116, 20  # a picture's width, for a phone; where columns and bars begin; a row's height
 BAR, MOST = 260, 10_500  # of the bars: the width of the longest, and its instructions
 STYLE = """<style>
 text { fill: #222 } .note { fill: #666 } .small { font-size: 11px } .ours, .strong { font-weight: bold }
