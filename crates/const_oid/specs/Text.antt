@@ -1,4 +1,4 @@
--- Dotted text, and a text in an output.
+-- Dotted text, and a text in an output. The components of a text are its pieces between the dots.
 use Rattle.std.specs.Prelude.{◌≡◌, ℕ, ◌<◌, Bool, true, false, not, List, [], ◌∷◌, ◌++◌, length, map, take, drop, decimal, nat_lt, ◌==◌, if◌then◌else◌, Option, IfSome, MatchOption, Result, take_while, find}
 use Rattle.std.specs.Borrow.{Bor}
 use Rattle.std.specs.List.{slice_split, join_with_byte, AllByRecursion}
@@ -22,7 +22,7 @@ dot = 46
 abbrev pub text_of : List ℕ → List ℕ
 text_of arcs = join_with_byte dot (map decimal arcs)
 
--- the pieces between the dots
+-- the components
 abbrev pub pieces_of : List ℕ → List (List ℕ)
 pieces_of text = slice_split (λ b. b == dot) text
 
@@ -92,15 +92,15 @@ strip text = join_with_byte dot (map strip_piece (pieces_of text))
 abbrev pub text_answer : RootRule → List ℕ → ℕ → Result (List ℕ) Error
 text_answer rule text capacity = answer (text_fault rule text capacity) (map number_of (pieces_of text))
 
--- the result is the length of a text, or None exactly where the text is longer than the output
+-- the result is the length of a text, or None exactly if the text is longer than the output
 abbrev pub ReturnsLength : List ℕ → List ℕ → Option ℕ → Type 0
 ReturnsLength text out result = MatchOption result (length out < length text) (λ len. len ≡ length text)
 
--- the result is the text, or None exactly where the text is longer than the output
+-- the result is the text, or None exactly if the text is longer than the output
 abbrev pub ReturnsText : List ℕ → List ℕ → Option (Bor (List ℕ)) → Type 0
 ReturnsText text out result = MatchOption result (length out < length text) (λ written. written.now ≡ text)
 
--- where a length is returned, the new output is the text, and then the old bytes
+-- if a length is returned, the new output is the text, and then the old bytes
 abbrev pub WritesText : List ℕ → List ℕ → List ℕ → Option ℕ → Type 0
 WritesText text old new result = IfSome result (λ len. new ≡ text ++ drop len old)
 

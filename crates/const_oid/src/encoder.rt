@@ -16,9 +16,9 @@ use std::marker::Model;
 /// An encoder of arcs at a capacity, the smaller of `SIZE` and 255 octets.
 #[derive(Drop)]
 pub(crate) struct Encoder<const SIZE: usize> {
-    /// The first arc, where it was given.
+    /// The first arc, if it was given.
     first: Option<Arc>,
-    /// The encoding, where two arcs or more were given.
+    /// The encoding, if two arcs or more were given.
     octets: Buffer<SIZE>,
 }
 

@@ -1,7 +1,7 @@
 //! Dotted text to octets.
 //!
-//! A text is read piece by piece. Where a piece is wrong, only an index is returned, and a function that is rarely
-//! called makes the error of it. So a valid text costs fewer instructions (docs/SPEED.md).
+//! A text is read component by component; in names, one is a `piece`. If one is wrong, only an index is returned, and a
+//! function that is rarely called makes the error of it. So a valid text costs fewer instructions (docs/SPEED.md).
 
 ghost use Rattle.std.specs.Prelude.{◌≡◌, ◌≤◌, ◌<◌, ◌-◌, ◌+◌, ℕ, false, drop, length, get_or, min, Err, MatchResult};
 ghost use Rattle.std.specs.Bool.{then_some};
@@ -59,7 +59,7 @@ fn parse_within<const SIZE: usize>(text: &[u8]) -> Result<Buffer<SIZE>>
     Ok(octets)
 }
 
-/// The subidentifier of the first two arcs, and where the second piece ends.
+/// The subidentifier of the first two arcs, and where the second component ends.
 // erase: const
 #[inline(always)]
 fn read_root(text: &[u8]) -> Result<(u64, usize)>
@@ -87,7 +87,7 @@ fn read_root(text: &[u8]) -> Result<(u64, usize)>
     Ok((40 * first as u64 + second as u64, end))
 }
 
-/// The number of the piece that starts at an index, and where it ends: at a dot or at the end of the text. `Err` is
+/// The number of the component that starts at an index, and where it ends: at a dot or at the end of the text. `Err` is
 /// where it goes wrong.
 // erase: const
 #[tactic(auto, using(crate::proofs::Pieces::digits_read))]
@@ -104,7 +104,7 @@ fn read_piece(text: &[u8], start: usize) -> result::Result<(Arc, usize), usize>
         return Err(start);
     };
     let next = start + 1;
-    // The shortest piece is the most frequent one.
+    // The shortest component is the most frequent one.
     if next < text.len() && text[next] == b'.' {
         return Ok((first as Arc, next));
     }
@@ -156,7 +156,7 @@ const fn digit(byte: u8) -> Option<u64>
     if number < 10 { Some(number) } else { None }
 }
 
-/// The fault of the piece that starts at an index and goes wrong at another one.
+/// The error of the component that starts at an index and goes wrong at another one.
 #[cold]
 #[inline(never)]
 const fn piece_fault(text: &[u8], start: usize, index: usize) -> Error
@@ -176,7 +176,7 @@ const fn piece_fault(text: &[u8], start: usize, index: usize) -> Error
     }
 }
 
-/// The fault of an arc whose piece ends at an index, or `TrailingDot` where an empty last piece follows.
+/// The error of an arc whose component ends at an index, or `TrailingDot` if an empty last component follows.
 const fn or_trailing_dot(fault: Error, text: &[u8], end: usize) -> Error
     requires { end ≤ length text.now }
     ensures { result ≡ or_trailing fault (drop end text.now) }

@@ -15,7 +15,7 @@ use crate::digits::{MAX_ARC_LEN, arc_len, write_arc};
 use crate::error::{Error, Result};
 use std::str;
 
-/// The length of the arcs' text, or `None` where it is over a limit.
+/// The length of the arcs' text in bytes, or `None` if it is over a limit.
 #[tactic(auto, using(crate::proofs::Sets::texts_left))]
 pub(crate) fn text_len(arcs: Arcs<'_>, limit: usize) -> Option<usize>
     ensures { MatchOption result (limit < length (text_of arcs.entry))
@@ -50,7 +50,7 @@ pub(crate) fn write_text(arcs: Arcs<'_>, out: &mut [u8]) -> usize
 }
 
 /// Checks octets and writes the text of their arcs at the start, in one pass, or returns their fault. There is room for
-/// four bytes an octet, and one arc more. Where there is a fault, some of the text may be written.
+/// four bytes an octet, and one arc more. If there is a fault, some of the text may be written.
 #[tactic(auto, using(crate::proofs::Printed::printed_pass))]
 #[inline(always)]
 pub(crate) fn write_checked(octets: &[u8], out: &mut [u8]) -> Result<usize>

@@ -1,4 +1,4 @@
--- What a parser finds of one piece of a text, and of the first two.
+-- What a parser finds of one component of a text, a piece, and of the first two.
 use Rattle.std.specs.Prelude.{◌≡◌, ℕ, ◌+◌, ◌*◌, ◌<◌, ◌≤◌, ◌==◌, ◌&&◌, not, List, [], ◌∷◌, ◌++◌, length, map, drop, get_or}
 use Rattle.std.specs.Prelude.{nat_lt, if◌then◌else◌, Option, Some, None, Result, Err}
 use Rattle.std.specs.Char.{is_ascii_digit}
@@ -16,7 +16,7 @@ abbrev pub pieces_then : List ℕ → List (List ℕ)
 pieces_then [] = []
 pieces_then (_ ∷ bytes) = pieces_of bytes
 
--- the fault of an arc, by the bytes after its piece: `TrailingDot` where an empty last piece follows
+-- the fault of an arc, by the bytes after its piece: `TrailingDot` if an empty last one follows
 abbrev pub or_trailing : Error → List ℕ → Error
 or_trailing fault bytes = if length bytes == 1 then TrailingDot else fault
 

@@ -9,7 +9,7 @@ use crate::erased::digits::{MAX_ARC_LEN, arc_len, write_arc};
 use crate::erased::error::{Error, Result};
 use core::str;
 
-/// The length of the arcs' text, or `None` where it is over a limit.
+/// The length of the arcs' text in bytes, or `None` if it is over a limit.
 pub(crate) fn text_len(arcs: Arcs<'_>, limit: usize) -> Option<usize> {
     let mut left = limit;
     let mut is_first = true;
@@ -35,7 +35,7 @@ pub(crate) fn write_text(arcs: Arcs<'_>, out: &mut [u8]) -> usize {
 }
 
 /// Checks octets and writes the text of their arcs at the start, in one pass, or returns their fault. There is room for
-/// four bytes an octet, and one arc more. Where there is a fault, some of the text may be written.
+/// four bytes an octet, and one arc more. If there is a fault, some of the text may be written.
 #[inline(always)]
 pub(crate) fn write_checked(octets: &[u8], out: &mut [u8]) -> Result<usize> {
     if octets.is_empty() {
