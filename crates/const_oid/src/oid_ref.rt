@@ -1,6 +1,7 @@
 //! Borrowed object identifiers.
 ghost use Rattle.std.specs.Prelude.{◌≡◌, ◌*◌, ◌≤◌, ◌<◌, ◌↔◌, ◌+◌, ℕ, length, min, slice_get, count_by, None, Some, IfOk, IfSome, IsSome, IsTrue, MatchOption};
 ghost use Rattle.std.specs.Option.{option_map};
+ghost use Rattle.std.specs.Fmt.{WritesStyledOnOk};
 ghost use Rattle.std.specs.Cmp.Lexicographic.{slice_cmp};
 ghost use Rattle.std.specs.List.Sorted.{IsSortedByKey};
 ghost use Rattle.std.specs.Ordering.{nat_cmp, is_lt};
@@ -205,6 +206,26 @@ impl<'a> ObjectIdentifierRef<'a> {
         let inside = sorted[from..].partition_point(|oid| oid.as_bytes().starts_with(self.ber));
         (from, from + inside)
     }
+
+    /// Writes the text in pieces. It is apart from `fmt`, which then saves fewer registers.
+    #[cold]
+    #[inline(never)]
+    fn write_pieces<W: fmt::Write>(&self, f: &mut fmt::Formatter<W>) -> fmt::Result
+        ensures { WritesStyledOnOk W.write_str_gives f.old result (text_of (ref_arcs self.now)) f.new }
+    {
+        let mut text = [0; PIECE_LEN];
+        let mut at = 0;
+        let mut is_first = true;
+        for arc in self.arcs() {
+            if at > PIECE_LEN - MAX_ARC_LEN {
+                f.write_str(utf8(&text[..at]))?;
+                at = 0;
+            }
+            at = write_arc(arc, is_first, &mut text, at);
+            is_first = false;
+        }
+        f.write_str(utf8(&text[..at]))
+    }
 }
 
 /// The most octets whose text `{}` writes at once.
@@ -222,21 +243,14 @@ impl fmt::Display for ObjectIdentifierRef<'_> {
     ghost styled_output = { λ oid _. Some (text_of (ref_arcs oid)) };
 
     fn fmt<W: fmt::Write>(&self, f: &mut fmt::Formatter<W>) -> fmt::Result {
-        if self.ber.len() <= PIECE {
-            let mut text = [0; PIECE_LEN];
-            return match write_checked(self.ber, &mut text) {
-                Ok(len) => f.write_str(utf8(&text[..len])),
-                Err(_) => unreachable!(),
-            };
+        if self.ber.len() > PIECE {
+            return self.write_pieces(f);
         }
-        let mut bytes = [0; MAX_ARC_LEN];
-        let mut is_first = true;
-        for arc in self.arcs() {
-            let len = write_arc(arc, is_first, &mut bytes, 0);
-            f.write_str(utf8(&bytes[..len]))?;
-            is_first = false;
+        let mut text = [0; PIECE_LEN];
+        match write_checked(self.ber, &mut text) {
+            Ok(len) => f.write_str(utf8(&text[..len])),
+            Err(_) => unreachable!(),
         }
-        Ok(())
     }
 }
 

@@ -23,8 +23,8 @@ const SYNTAX: [(&str, &str); 7] = [
     ("extern \"C\"", ""),
     // Rust's formatter has no type of its output.
     (
-        "fn fmt<W: fmt::Write>(&self, f: &mut fmt::Formatter<W>)",
-        "fn fmt(&self, f: &mut fmt::Formatter<'_>)",
+        "<W: fmt::Write>(&self, f: &mut fmt::Formatter<W>)",
+        "(&self, f: &mut fmt::Formatter<'_>)",
     ),
     ("std::", "core::"),
 ];

@@ -142,6 +142,24 @@ impl<'a> ObjectIdentifierRef<'a> {
         let inside = sorted[from..].partition_point(|oid| oid.as_bytes().starts_with(self.ber));
         (from, from + inside)
     }
+
+    /// Writes the text in pieces. It is apart from `fmt`, which then saves fewer registers.
+    #[cold]
+    #[inline(never)]
+    fn write_pieces(&self, f: &mut fmt::Formatter<'_>) -> fmt::Result {
+        let mut text = [0; PIECE_LEN];
+        let mut at = 0;
+        let mut is_first = true;
+        for arc in self.arcs() {
+            if at > PIECE_LEN - MAX_ARC_LEN {
+                f.write_str(utf8(&text[..at]))?;
+                at = 0;
+            }
+            at = write_arc(arc, is_first, &mut text, at);
+            is_first = false;
+        }
+        f.write_str(utf8(&text[..at]))
+    }
 }
 
 /// The most octets whose text `{}` writes at once.
@@ -153,21 +171,14 @@ const PIECE_LEN: usize = 4 * PIECE + MAX_ARC_LEN;
 /// The arcs in decimal, joined by dots, whatever the options.
 impl fmt::Display for ObjectIdentifierRef<'_> {
     fn fmt(&self, f: &mut fmt::Formatter<'_>) -> fmt::Result {
-        if self.ber.len() <= PIECE {
-            let mut text = [0; PIECE_LEN];
-            return match write_checked(self.ber, &mut text) {
-                Ok(len) => f.write_str(utf8(&text[..len])),
-                Err(_) => unreachable!(),
-            };
+        if self.ber.len() > PIECE {
+            return self.write_pieces(f);
         }
-        let mut bytes = [0; MAX_ARC_LEN];
-        let mut is_first = true;
-        for arc in self.arcs() {
-            let len = write_arc(arc, is_first, &mut bytes, 0);
-            f.write_str(utf8(&bytes[..len]))?;
-            is_first = false;
+        let mut text = [0; PIECE_LEN];
+        match write_checked(self.ber, &mut text) {
+            Ok(len) => f.write_str(utf8(&text[..len])),
+            Err(_) => unreachable!(),
         }
-        Ok(())
     }
 }
 
