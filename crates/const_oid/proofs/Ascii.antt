@@ -1,5 +1,5 @@
 -- A text that denotes arcs is ASCII.
-use Rattle.std.proofs.Common.{◌≡◌, ℕ, zero, suc, ◌<◌, true, List, [], ◌∷◌, Ok, arith, sym}
+use Rattle.std.proofs.Common.{◌≡◌, ℕ, zero, suc, true, List, [], ◌∷◌, Ok, arith, sym}
 use Rattle.std.specs.{Char.is_ascii_digit, List.{AllByRecursion, join_with_byte}, Str.{IsAscii, all_ascii_digits, is_utf8}}
 use Rattle.std.proofs.lemmas.{Bool.{and_parts, Decides.nat_tests}, Str.{IsAscii-append, Ascii.IsAscii-nil}}
 use Rattle.std.proofs.lemmas.{Str.{IsUtf8-from_ascii, is_utf8-from_IsUtf8}, List.Splits.join_with_byte-slice_split}
