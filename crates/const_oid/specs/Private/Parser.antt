@@ -33,7 +33,7 @@ stop_fault text start index =
     then (if is_ascii_digit b then ArcTooBig else if b == dot && not (start == 0) then RepeatedDot else DigitExpected b)
     else (if start == 0 then Empty else TrailingDot)
 
--- the piece that starts at an index has a fault; no arcs are before the first one alone
+-- the piece that starts at an index has a fault, whatever arcs are before it: none before the first piece alone
 pub record HasFault (text : List ℕ) (start : ℕ) (fault : Error) : Type 0 where
   pub is : (capacity : ℕ) (before : List ℕ) → is_empty before ≡ (start == 0)
       → pieces_fault root_rule capacity before (pieces_of (drop start text)) ≡ Some fault
