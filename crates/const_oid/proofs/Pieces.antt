@@ -98,14 +98,17 @@ digit_read {text} {end} read less is =
       within = omega arith;
     }
 
--- the last digit makes the number too big
-pub big_fault : {text : List ℕ} {start number : ℕ} (end : ℕ) → AreDigits text start number (end + 1)
-    → is_ascii_digit (get_or text end 0) ≡ true → max_arc < number → HasFault text start (stop_fault text start end)
-big_fault {text} end read digit big = record {
-  is = λ capacity before none.
-      let more = drop (end + 1) text in
-      rw read.bytes (too_big capacity before read.digits more read.are.1 (rw read.value at big) ∙ grind (arith, nat_tests, read.within));
-}
+-- one more makes the number too big
+pub big_fault : {text : List ℕ} {start number digit : ℕ} (end : ℕ) → AreDigits text start number end → end < length text
+    → Some digit ≡ then_some (is_ascii_digit (get_or text end 0)) (get_or text end 0 - 48) → max_arc < number * 10 + digit
+    → HasFault text start (stop_fault text start end)
+big_fault {text} end read less is big =
+    let longer = digit_read read less is in
+    record {
+      is = λ capacity before none.
+          let more = drop (end + 1) text in
+          rw longer.bytes (too_big capacity before longer.digits more longer.are.1 (rw longer.value at big) ∙ grind (arith, nat_tests));
+    }
 
 module _ {text : List ℕ} {start number end : ℕ} (read : AreDigits text start number end) (small : number ≤ max_arc) where
   pub piece_read : (end < length text → get_or text end 0 ≡ 46) → IsPiece text start number end

@@ -100,43 +100,24 @@ fn read_piece(text: &[u8], start: usize) -> result::Result<(Arc, usize), usize>
     if start >= text.len() {
         return Err(start);
     }
-    let Some(first) = digit(text[start]) else {
+    // One subtraction and one comparison. There are no calls here, since each costs the compiler in a constant.
+    let mut number = (text[start] as u64).wrapping_sub(b'0' as u64);
+    if number > 9 {
         return Err(start);
-    };
-    let next = start + 1;
+    }
+    let mut index = start + 1;
     // The shortest component is the most frequent one.
-    if next < text.len() && text[next] == b'.' {
-        return Ok((first as Arc, next));
+    if index < text.len() && text[index] == b'.' {
+        return Ok((number as Arc, index));
     }
-    let (number, end) = match read_digits(first, text, next) {
-        Ok(read) => read,
-        Err(index) => return Err(index),
-    };
-    if end < text.len() && text[end] != b'.' {
-        return Err(end);
-    }
-    Ok((number, end))
-}
-
-/// A number that goes on by the digits from an index on, after its first one, and where they end. `Err` is the digit that
-/// makes it too big for an arc.
-// erase: const
-#[tactic(auto, using(crate::proofs::Pieces::digits_read))]
-#[inline(always)]
-fn read_digits(first: u64, text: &[u8], start: usize) -> result::Result<(Arc, usize), usize>
-    requires digit { AreDigits text.now (start - 1) first start }
-    requires small { first ≤ max_arc }
-    ensures { MatchResult result
-        (λ read. AreDigits text.now (start - 1) read.0 read.1 × (read.0 ≤ max_arc)
-        × (read.1 < length text.now → is_ascii_digit (get_or text.now read.1 0) ≡ false))
-        (λ index. HasFault text.now (start - 1) (stop_fault text.now (start - 1) index)) }
-{
-    let mut number = first;
-    let mut index = start;
     while index < text.len() {
-        let Some(digit) = digit(text[index]) else {
+        let digit = (text[index] as u64).wrapping_sub(b'0' as u64);
+        if digit > 9 {
+            if text[index] != b'.' {
+                return Err(index);
+            }
             break;
-        };
+        }
         number = number * 10 + digit;
         if number > Arc::MAX as u64 {
             return Err(index);
@@ -144,16 +125,6 @@ fn read_digits(first: u64, text: &[u8], start: usize) -> result::Result<(Arc, us
         index += 1;
     }
     Ok((number as Arc, index))
-}
-
-/// The number that a digit denotes.
-#[inline(always)]
-const fn digit(byte: u8) -> Option<u64>
-    ensures { result ≡ then_some (is_ascii_digit byte) (byte - 48) }
-{
-    // One subtraction and one comparison.
-    let number = (byte as u64).wrapping_sub(b'0' as u64);
-    if number < 10 { Some(number) } else { None }
 }
 
 /// The error of the component that starts at an index and goes wrong at another one.

@@ -80,34 +80,24 @@ const fn read_piece(text: &[u8], start: usize) -> result::Result<(Arc, usize), u
     if start >= text.len() {
         return Err(start);
     }
-    let Some(first) = digit(text[start]) else {
+    // One subtraction and one comparison. There are no calls here, since each costs the compiler in a constant.
+    let mut number = (text[start] as u64).wrapping_sub(b'0' as u64);
+    if number > 9 {
         return Err(start);
-    };
-    let next = start + 1;
+    }
+    let mut index = start + 1;
     // The shortest component is the most frequent one.
-    if next < text.len() && text[next] == b'.' {
-        return Ok((first as Arc, next));
+    if index < text.len() && text[index] == b'.' {
+        return Ok((number as Arc, index));
     }
-    let (number, end) = match read_digits(first, text, next) {
-        Ok(read) => read,
-        Err(index) => return Err(index),
-    };
-    if end < text.len() && text[end] != b'.' {
-        return Err(end);
-    }
-    Ok((number, end))
-}
-
-/// A number that goes on by the digits from an index on, after its first one, and where they end. `Err` is the digit that
-/// makes it too big for an arc.
-#[inline(always)]
-const fn read_digits(first: u64, text: &[u8], start: usize) -> result::Result<(Arc, usize), usize> {
-    let mut number = first;
-    let mut index = start;
     while index < text.len() {
-        let Some(digit) = digit(text[index]) else {
+        let digit = (text[index] as u64).wrapping_sub(b'0' as u64);
+        if digit > 9 {
+            if text[index] != b'.' {
+                return Err(index);
+            }
             break;
-        };
+        }
         number = number * 10 + digit;
         if number > Arc::MAX as u64 {
             return Err(index);
@@ -115,14 +105,6 @@ const fn read_digits(first: u64, text: &[u8], start: usize) -> result::Result<(A
         index += 1;
     }
     Ok((number as Arc, index))
-}
-
-/// The number that a digit denotes.
-#[inline(always)]
-const fn digit(byte: u8) -> Option<u64> {
-    // One subtraction and one comparison.
-    let number = (byte as u64).wrapping_sub(b'0' as u64);
-    if number < 10 { Some(number) } else { None }
 }
 
 /// The error of the component that starts at an index and goes wrong at another one.

@@ -1,13 +1,21 @@
-use Rattle.std.proofs.Common.{◌≡◌, ◌+◌, ◌-◌, arith}
-use Rattle.const_oid.proofs.Pieces.{piece_read, byte_fault, digits_read}
+use Rattle.std.proofs.Common.{arith}
+use Rattle.const_oid.proofs.Pieces.{big_fault, piece_read, byte_fault, digits_read}
 use Rattle.const_oid.proofs.parser.read_piece.Goals as goal
 
-pub returns-then-text-next-eq46 : goal.returns-then-text-next-eq46
-returns-then-text-next-eq46 c =
-    piece_read (search (arith, digits_read)) (grind (arith, digits_read)) (λ less. c.if-text-next-eq46.true)
+pub returns-then-text-index-eq46 : goal.returns-then-text-index-eq46
+returns-then-text-index-eq46 c =
+    piece_read (grind (arith, digits_read)) (omega arith) (λ less. c.if-text-index-eq46.true)
 
-pub returns-then-text-end-ne46 : goal.returns-then-text-end-ne46
-returns-then-text-end-ne46 c =
-    let back : c.args.start + 1 - 1 ≡ c.args.start = omega arith in
-    let (read, small, stops) = rw back at c.in-Ok.ensures in
-    byte_fault read small c.if-end-text.true (stops c.if-end-text.true) (grind (arith, digits_read))
+pub returns-then-text-index-ne46 : goal.returns-then-text-index-ne46
+returns-then-text-index-ne46 c =
+    let (read, small) = c.loop-index.invariant in
+    byte_fault read small c.loop-index-test.true (grind (arith, digits_read)) (grind (arith, digits_read))
+
+pub returns-then-number : goal.returns-then-number
+returns-then-number c =
+    big_fault c.loop-index.index c.loop-index.invariant.0 c.loop-index-test.true (grind (arith, digits_read)) c.if-number.true
+
+pub returns : goal.returns
+returns c =
+    let (read, small) = c.loop-index.invariant in
+    piece_read read small (λ less. grind (arith, digits_read, c.loop-index-test.branch))

@@ -1,10 +1,10 @@
 use Rattle.std.proofs.Common.{length, ◌-◌, ◌≤◌}
 use Rattle.const_oid.specs.Identifier.{max_arc}
 use Rattle.const_oid.specs.Private.Parser.{AreDigits}
-use Rattle.const_oid.proofs.parser.read_digits.Given as goal
+use Rattle.const_oid.proofs.parser.read_piece.Given as goal
 
 abbrev pub invariant-loop-index : goal.invariant-loop-index
-invariant-loop-index l = AreDigits l.text (l.start - 1) l.number l.index × (l.number ≤ max_arc)
+invariant-loop-index l = AreDigits l.text l.start l.number l.index × (l.number ≤ max_arc)
 
 abbrev pub decreases-loop-index : goal.decreases-loop-index
 decreases-loop-index l = length l.text - l.index
