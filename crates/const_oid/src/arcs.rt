@@ -1,11 +1,12 @@
 //! Contents octets read as arcs (X.690, 8.19.2 to 8.19.4).
-ghost use Rattle.std.specs.Prelude.{◌≡◌, ℕ, ◌+◌, ◌*◌, ◌%◌, ◌<◌, ◌≤◌, List, ◌∷◌, slice_get, None};
+ghost use Rattle.std.specs.Prelude.{◌≡◌, slice_get, None};
 ghost use Rattle.std.specs.Iterator.{YieldsFirst, item_count};
-ghost use Rattle.const_oid.specs.Identifier.{root_rule, max_second};
-ghost use Rattle.const_oid.specs.Contents.{cut, parts_fault, max_first, arcs_from, arcs_of_octets};
+ghost use Rattle.const_oid.specs.Identifier.{root_rule};
+ghost use Rattle.const_oid.specs.Contents.{cut, parts_fault, arcs_of_octets};
 
 use crate::base128::read_group;
 use crate::parts::skip_parts;
+use crate::root::split_root;
 use std::marker::Model;
 
 /// One arc of an object identifier, a 32-bit number.
@@ -103,17 +104,4 @@ pub(crate) fn arc_at(octets: &[u8], index: usize) -> Option<Arc>
         return None;
     }
     Some(read_group(rest).0 as Arc)
-}
-
-/// The two arcs that the first subidentifier holds.
-pub(crate) fn split_root(root: u64) -> (Arc, Arc)
-    requires { root ≤ max_first root_rule }
-    ensures arcs { (later : List ℕ) → arcs_from (root ∷ later) ≡ result.0 ∷ result.1 ∷ later }
-    ensures valid { (result.0 ≤ 2) × (result.1 ≤ max_second root_rule result.0) × (40 * result.0 + result.1 ≡ root) }
-{
-    if root < 80 {
-        ((root / 40) as Arc, (root % 40) as Arc)
-    } else {
-        (2, (root - 80) as Arc)
-    }
 }

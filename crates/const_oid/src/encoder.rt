@@ -2,7 +2,7 @@
 
 ghost use Rattle.std.specs.Prelude.{◌≡◌, ◌≤◌, ℕ, List, [], ◌∷◌, ◌++◌, min, ◌↔◌, IsTrue, IfOk, OnOk, OnErr};
 ghost use Rattle.std.specs.Result.{result_err};
-ghost use Rattle.const_oid.specs.Identifier.{root_rule, IsEncoding, max_second};
+ghost use Rattle.const_oid.specs.Identifier.{root_rule, IsEncoding};
 ghost use Rattle.const_oid.specs.Items.{arc_fault, too_few_fault, TakesItems};
 ghost use Rattle.std.specs.Iterator.{IsFiniteIterable};
 ghost use Rattle.const_oid.specs.Buffer.{octets_of};
@@ -11,6 +11,7 @@ ghost use Rattle.const_oid.specs.Private.Encoder.{buffer_answer, HasEncoding};
 use crate::Arc;
 use crate::buffer::Buffer;
 use crate::error::{Error, Result};
+use crate::root::max_second;
 use std::marker::Model;
 
 /// An encoder of arcs at a capacity, the smaller of `SIZE` and 255 octets.
@@ -120,12 +121,4 @@ where
         encoder.arc(arc)?;
     }
     encoder.finish()
-}
-
-/// The greatest second arc under a first arc (X.660): 39 under 0 and 1, any of 32 bits under 2.
-#[inline(always)]
-pub(crate) const fn max_second(first: Arc) -> Arc
-    ensures { result ≡ max_second root_rule first }
-{
-    if first < 2 { 39 } else { Arc::MAX }
 }

@@ -21,6 +21,7 @@ pub mod oid;
 pub mod oid_ref;
 mod parser;
 mod parts;
+mod root;
 // Its functions are for the other crates: Rust hides them.
 pub mod search;
 // erase: omit

@@ -13,8 +13,8 @@ ghost use Rattle.const_oid.specs.Text.{text_answer};
 
 use crate::Arc;
 use crate::buffer::Buffer;
-use crate::encoder::max_second;
 use crate::error::{Error, Result};
+use crate::root::max_second;
 use std::result;
 
 /// The encoding of the identifier that a text denotes, in up to `SIZE` octets, and never past 255.

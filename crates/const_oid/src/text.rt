@@ -9,10 +9,11 @@ ghost use Rattle.const_oid.specs.Text.{text_of};
 ghost use Rattle.const_oid.specs.Private.Text.{arc_text, text_left};
 
 use crate::Arc;
-use crate::arcs::{Arcs, split_root};
-use crate::base128::{MAX_FIRST, checked_group, group_fault};
+use crate::arcs::Arcs;
+use crate::base128::{checked_group, group_fault};
 use crate::digits::{MAX_ARC_LEN, arc_len, write_arc};
 use crate::error::{Error, Result};
+use crate::root::{MAX_FIRST, split_root};
 use std::str;
 
 /// The length of the arcs' text in bytes, or `None` if it is over a limit.

@@ -6,8 +6,9 @@ ghost use Rattle.const_oid.specs.Contents.{cut, parts_fault};
 ghost use Rattle.const_oid.specs.Identifier.{root_rule};
 
 use crate::Arc;
-use crate::base128::{MAX_FIRST, checked_group, group_fault};
+use crate::base128::{checked_group, group_fault};
 use crate::error::{Error, Result};
+use crate::root::MAX_FIRST;
 
 /// Checks contents octets of any length, or returns their error.
 #[tactic(auto, using(crate::proofs::PartsFault::parts_at))]

@@ -4,6 +4,7 @@
 
 use crate::erased::base128::read_group;
 use crate::erased::parts::skip_parts;
+use crate::erased::root::split_root;
 /// One arc of an object identifier, a 32-bit number.
 ///
 /// # Examples
@@ -100,13 +101,4 @@ pub(crate) fn arc_at(octets: &[u8], index: usize) -> Option<Arc> {
         return None;
     }
     Some(read_group(rest).0 as Arc)
-}
-
-/// The two arcs that the first subidentifier holds.
-pub(crate) fn split_root(root: u64) -> (Arc, Arc) {
-    if root < 80 {
-        ((root / 40) as Arc, (root % 40) as Arc)
-    } else {
-        (2, (root - 80) as Arc)
-    }
 }

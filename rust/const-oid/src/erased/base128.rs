@@ -5,9 +5,6 @@
 use crate::erased::Arc;
 use crate::erased::error::Error;
 
-/// The greatest first subidentifier: of the first arc 2 and the greatest second arc.
-pub(crate) const MAX_FIRST: u64 = 2 * 40 + Arc::MAX as u64;
-
 /// The number of the first subidentifier, and the octets after it.
 #[inline(always)]
 pub(crate) fn read_group(octets: &[u8]) -> (u64, &[u8]) {

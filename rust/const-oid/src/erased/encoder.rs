@@ -5,6 +5,7 @@
 use crate::erased::Arc;
 use crate::erased::buffer::Buffer;
 use crate::erased::error::{Error, Result};
+use crate::erased::root::max_second;
 /// An encoder of arcs at a capacity, the smaller of `SIZE` and 255 octets.
 pub(crate) struct Encoder<const SIZE: usize> {
     /// The first arc, if it was given.
@@ -71,10 +72,4 @@ fn encode_within<const SIZE: usize, I: IntoIterator<Item = Arc>>(arcs: I) -> Res
         encoder.arc(arc)?;
     }
     encoder.finish()
-}
-
-/// The greatest second arc under a first arc (X.660): 39 under 0 and 1, any of 32 bits under 2.
-#[inline(always)]
-pub(crate) const fn max_second(first: Arc) -> Arc {
-    if first < 2 { 39 } else { Arc::MAX }
 }

@@ -19,6 +19,7 @@ pub mod oid;
 pub mod oid_ref;
 mod parser;
 mod parts;
+mod root;
 // Its functions are for the other crates: Rust hides them.
 pub mod search;
 

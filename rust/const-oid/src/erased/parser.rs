@@ -7,8 +7,8 @@
 
 use crate::erased::Arc;
 use crate::erased::buffer::Buffer;
-use crate::erased::encoder::max_second;
 use crate::erased::error::{Error, Result};
+use crate::erased::root::max_second;
 use core::result;
 
 /// The encoding of the identifier that a text denotes, in up to `SIZE` octets, and never past 255.

@@ -3,10 +3,11 @@
 //! Arcs as text: their decimals joined by dots.
 
 use crate::erased::Arc;
-use crate::erased::arcs::{Arcs, split_root};
-use crate::erased::base128::{MAX_FIRST, checked_group, group_fault};
+use crate::erased::arcs::Arcs;
+use crate::erased::base128::{checked_group, group_fault};
 use crate::erased::digits::{MAX_ARC_LEN, arc_len, write_arc};
 use crate::erased::error::{Error, Result};
+use crate::erased::root::{MAX_FIRST, split_root};
 use core::str;
 
 /// The length of the arcs' text in bytes, or `None` if it is over a limit.

@@ -3,8 +3,9 @@
 //! Checks of contents octets (X.690, 8.19.2).
 
 use crate::erased::Arc;
-use crate::erased::base128::{MAX_FIRST, checked_group, group_fault};
+use crate::erased::base128::{checked_group, group_fault};
 use crate::erased::error::{Error, Result};
+use crate::erased::root::MAX_FIRST;
 
 /// Checks contents octets of any length, or returns their error.
 #[inline(never)]
