@@ -168,7 +168,9 @@ impl<const SIZE: usize> Buffer<SIZE> {
     pub fn as_bytes(&self) -> &[u8]
         ensures { result.now ≡ octets_of self.now }
     {
-        self.bytes.split_at(self.used as usize).0
+        // The lesser of both is `used`. So the compiler sees that it is in range, and makes no panic.
+        let used = self.used as usize;
+        self.bytes.split_at(if used < SIZE { used } else { SIZE }).0
     }
 
     /// How many octets are in use.

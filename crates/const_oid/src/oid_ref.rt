@@ -248,8 +248,9 @@ impl fmt::Display for ObjectIdentifierRef<'_> {
         }
         let mut text = [0; PIECE_LEN];
         match write_checked(self.ber, &mut text) {
-            Ok(len) => f.write_str(utf8(&text[..len])),
-            Err(_) => unreachable!(),
+            Ok(len) if len <= PIECE_LEN => f.write_str(utf8(&text[..len])),
+            // Not reached. So the compiler makes no panic here.
+            _ => Err(fmt::Error),
         }
     }
 }
