@@ -1,14 +1,14 @@
 //! Dotted text.
-ghost use Rattle.std.specs.Prelude.{◌≡◌, length};
+ghost use Rattle.std.specs.Prelude.{◌≡◌, length, Err};
 ghost use Rattle.const_oid.specs.Text.{text_of, text_answer};
-ghost use Rattle.const_oid.specs.Identifier.{root_rule};
+ghost use Rattle.const_oid.specs.Identifier.{root_rule, usual_capacity};
 ghost use Rattle.const_oid_c.specs.Status.{output_status, output_after};
 ghost use Rattle.const_oid_c.specs.Answers.{octets_of_text, octets_of_arcs, output_of, borrowed_answer, owned_capacity};
 
 use crate::output::{write_bytes, write_octets};
 use crate::owned::MAX_OCTETS;
 use crate::status::{NOT_UTF8, Status, code_status, error_status, len_status, too_short_status};
-use const_oid::{ObjectIdentifier, ObjectIdentifierRef, Oid};
+use const_oid::{Error, ObjectIdentifier, ObjectIdentifierRef, Oid};
 use std::str;
 
 /// Writes the contents octets of the identifier that dotted text denotes.
@@ -20,16 +20,17 @@ pub extern "C" fn const_oid_from_text(text: &[u8], out: &mut [u8]) -> Status
     // An identifier of the usual capacity is quicker to make.
     match Oid::from_ascii(text) {
         Ok(oid) => write_bytes(oid.as_bytes(), out),
-        Err(_) => write_other(text, out),
+        Err(fault) => write_other(fault, text, out),
     }
 }
 
 /// Writes the contents octets of the identifier that dotted text denotes, of at most `MAX_OCTETS` octets, or reports
-/// why there is none.
-#[tactic(auto, using(crate::proofs::Answers::texts))]
+/// why there is none. The fault is that of the text at the usual capacity.
+#[tactic(auto, using(crate::proofs::Answers::texts, crate::proofs::Capacities::same_text))]
 #[cold]
 #[inline(never)]
-fn write_other(text: &[u8], out: &mut [u8]) -> Status
+fn write_other(fault: Error, text: &[u8], out: &mut [u8]) -> Status
+    requires { text_answer root_rule text.now usual_capacity ≡ Err fault }
     ensures status { result ≡ output_status (length out.old) (octets_of_text text.now) }
     ensures written { out.new ≡ output_after out.old (octets_of_text text.now) }
 {
@@ -37,7 +38,11 @@ fn write_other(text: &[u8], out: &mut [u8]) -> Status
     if str::from_utf8(text).is_err() {
         return code_status(NOT_UTF8);
     }
-    write_octets(ObjectIdentifier::<MAX_OCTETS>::from_ascii(text), out)
+    // At the greater capacity, only `Length` can become another result.
+    match fault {
+        Error::Length => write_octets(ObjectIdentifier::<MAX_OCTETS>::from_ascii(text), out),
+        other => error_status(other),
+    }
 }
 
 /// The room for the text of 16 octets: four bytes for each octet, and eleven for one arc more.

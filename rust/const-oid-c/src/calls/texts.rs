@@ -7,7 +7,7 @@ use crate::calls::owned::MAX_OCTETS;
 use crate::calls::status::{
     NOT_UTF8, Status, code_status, error_status, len_status, too_short_status,
 };
-use const_oid::internal_for_const_oid_c::{ObjectIdentifier, ObjectIdentifierRef, Oid};
+use const_oid::internal_for_const_oid_c::{Error, ObjectIdentifier, ObjectIdentifierRef, Oid};
 use core::str;
 
 /// Writes the contents octets of the identifier that dotted text denotes.
@@ -15,20 +15,24 @@ pub fn const_oid_from_text(text: &[u8], out: &mut crate::edge::Output<u8>) -> St
     // An identifier of the usual capacity is quicker to make.
     match Oid::from_ascii(text) {
         Ok(oid) => write_bytes(oid.as_bytes(), out),
-        Err(_) => write_other(text, out),
+        Err(fault) => write_other(fault, text, out),
     }
 }
 
 /// Writes the contents octets of the identifier that dotted text denotes, of at most `MAX_OCTETS` octets, or reports
-/// why there is none.
+/// why there is none. The fault is that of the text at the usual capacity.
 #[cold]
 #[inline(never)]
-fn write_other(text: &[u8], out: &mut crate::edge::Output<u8>) -> Status {
+fn write_other(fault: Error, text: &[u8], out: &mut crate::edge::Output<u8>) -> Status {
     // The digits and dots of a valid text are ASCII, so only the others can fail to be UTF-8.
     if str::from_utf8(text).is_err() {
         return code_status(NOT_UTF8);
     }
-    write_octets(ObjectIdentifier::<MAX_OCTETS>::from_ascii(text), out)
+    // At the greater capacity, only `Length` can become another result.
+    match fault {
+        Error::Length => write_octets(ObjectIdentifier::<MAX_OCTETS>::from_ascii(text), out),
+        other => error_status(other),
+    }
 }
 
 /// The room for the text of 16 octets: four bytes for each octet, and eleven for one arc more.
