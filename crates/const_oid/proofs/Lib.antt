@@ -20,6 +20,7 @@ pub mod PartsFault
 pub mod Octets
 pub mod Written
 pub mod Started
+pub mod Outputs
 pub mod Pieces
 pub mod PartBounds
 pub mod Parents

@@ -1,10 +1,10 @@
 -- Octets in an array that is zero past those in use.
-use Rattle.std.proofs.Common.{◌≡◌, ℕ, ◌+◌, ◌-◌, ◌/◌, ◌%◌, ◌≤◌, List, [], ◌∷◌, ◌++◌, length, take, drop, replicate, arith, suc}
+use Rattle.std.proofs.Common.{◌≡◌, ℕ, ◌+◌, ◌-◌, ◌/◌, ◌%◌, ◌≤◌, List, [], ◌∷◌, ◌++◌, length, take, drop, replicate, arith, suc, sym, ◌∙◌}
 use Rattle.std.proofs.Common.{append_assoc, length-append, slice_index, EachIndex, cond, nat_lt, ◌^◌, ◌<◌}
-use Rattle.std.proofs.lemmas.{Grind.common_steps, List.{drop_at, drop-replicate, drop-drop, length-take-le}}
+use Rattle.std.proofs.lemmas.{Grind.common_steps, List.{drop_at, drop-replicate, drop-drop, length-take-le, take-append-drop}}
 use Rattle.std.proofs.{Math.ListN.set, lemmas.Bool.Decides.nat_tests}
 use Rattle.const_oid.specs.{Base128.{IsContinued, IsGroup, AreOctets, width}, Private.Octets.GoesOn}
-use Rattle.const_oid.proofs.{Lists.all_append, Groups.{length_is, width_is, width_between, small_is}}
+use Rattle.const_oid.proofs.{Lists.all_append, Groups.{length_is, width_is, width_between}}
 
 -- octets by what is read at each index
 pub are_octets : (octets : List ℕ) → EachIndex octets (λ k. slice_index octets k < 256) → AreOctets octets
@@ -15,13 +15,6 @@ pub octets_from_chain : (octets : List ℕ) → IsContinued octets → AreOctets
 octets_from_chain [] c = absurd c
 octets_from_chain (x ∷ []) c = (omega arith, tt)
 octets_from_chain (x ∷ y ∷ ys) c = (c.1, octets_from_chain (y ∷ ys) c.2)
-
--- the zeros past more octets
-pub zeros_left : (size used more : ℕ) (bytes : List ℕ) → drop used bytes ≡ replicate (size - used) 0
-    → drop (used + more) bytes ≡ replicate (size - (used + more)) 0
-zeros_left size used more bytes zeros =
-    let fewer : size - used - more ≡ size - (used + more) = omega arith in
-    rw (← drop-drop more used bytes, zeros, drop-replicate, fewer)
 
 -- a group written past the octets in use
 module _ {number : ℕ} (used more : ℕ) (bytes after : List ℕ) (inside : used ≤ length bytes)
@@ -43,8 +36,9 @@ module _ {number : ℕ} (used more : ℕ) (bytes after : List ℕ) (inside : use
       let start = take used bytes in
       let long : length (start ++ group) ≡ used + more =
       omega (arith, length_is is_group, length-append start group, length-take-le used bytes inside) in
+      let fewer : size - used - more ≡ size - (used + more) = omega arith in
       rw (written, ← append_assoc start group (drop (used + more) bytes), drop_at (start ++ group) _ (used + more) long)
-      (zeros_left size used more bytes zeros)
+      (rw (← drop-drop more used bytes, zeros, drop-replicate, fewer))
 
 -- the widths of small numbers
 pub width_steps : (n : ℕ) → n < 128 ^ 5 → width n ≡ cond (nat_lt n (128 ^ 1)) 1
@@ -70,20 +64,34 @@ pub group_5 : (n : ℕ) → 268435456 ≤ n → n < 2 ^ 35
     → IsGroup n ((128 + n / 268435456 % 128) ∷ (128 + n / 2097152 % 128) ∷ (128 + n / 16384 % 128) ∷ (128 + n / 128 % 128) ∷ n % 128 ∷ [])
 group_5 n low high = record { continued = omega arith; shortest = λ padded. omega arith; value = omega arith }
 
--- five octets written past those in use, one after another
-module _ (used : ℕ) (bytes : List ℕ) (a b c d e : ℕ) (fits : used + 5 ≤ length bytes) where
-  abbrev with_five : List ℕ
-  with_five = set (set (set (set (set bytes used a) (used + 1) b) (used + 2) c) (used + 3) d) (used + 4) e
+-- octets that are set one after another
+sets_joined : (used end : ℕ) (bytes group new : List ℕ) → take end new ≡ take used bytes ++ group
+    → drop end new ≡ drop end bytes → new ≡ take used bytes ++ (group ++ drop end bytes)
+sets_joined used end bytes group new taken left =
+    sym (take-append-drop end new) ∙ rw (taken, left) (append_assoc (take used bytes) group (drop end bytes))
 
-  pub five_octets : AreOctets (take used bytes) → AreOctets (a ∷ b ∷ c ∷ d ∷ e ∷ []) → AreOctets (take (used + 5) with_five)
-  five_octets octets more =
-      let taken : take (used + 5) with_five ≡ take used bytes ++ a ∷ b ∷ c ∷ d ∷ e ∷ [] = grind (arith, common_steps) in
-      rw taken (all_append (λ x. x < 256) (take used bytes) _ octets more)
+module _ (used : ℕ) (bytes : List ℕ) where
+  pub set_1 : (a : ℕ) → used + 1 ≤ length bytes
+      → set bytes used a ≡ take used bytes ++ ((a ∷ []) ++ drop (used + 1) bytes)
+  set_1 a fits =
+      sets_joined used (used + 1) bytes (a ∷ []) _ (grind (arith, common_steps)) (grind (arith, common_steps))
 
-  pub five_zeros : (size : ℕ) → drop used bytes ≡ replicate (size - used) 0
-      → drop (used + 5) with_five ≡ replicate (size - (used + 5)) 0
-  five_zeros size zeros =
-      let left : drop (used + 5) with_five ≡ drop (used + 5) bytes = grind (arith, common_steps) in
-      rw left (zeros_left size used 5 bytes zeros)
+  pub set_2 : (a b : ℕ) → used + 2 ≤ length bytes
+      → set (set bytes used a) (used + 1) b ≡ take used bytes ++ ((a ∷ b ∷ []) ++ drop (used + 2) bytes)
+  set_2 a b fits =
+      sets_joined used (used + 2) bytes (a ∷ b ∷ []) _ (grind (arith, common_steps)) (grind (arith, common_steps))
 
-pub ruleset pushes = (width_steps, nat_tests, small_is, group_2, all_append, zeros_left, length-take-le)
+  pub set_3 : (a b c : ℕ) → used + 3 ≤ length bytes
+      → set (set (set bytes used a) (used + 1) b) (used + 2) c ≡ take used bytes ++ ((a ∷ b ∷ c ∷ []) ++ drop (used + 3) bytes)
+  set_3 a b c fits =
+      sets_joined used (used + 3) bytes (a ∷ b ∷ c ∷ []) _ (grind (arith, common_steps)) (grind (arith, common_steps))
+
+  pub set_4 : (a b c d : ℕ) → used + 4 ≤ length bytes
+      → set (set (set (set bytes used a) (used + 1) b) (used + 2) c) (used + 3) d ≡ take used bytes ++ ((a ∷ b ∷ c ∷ d ∷ []) ++ drop (used + 4) bytes)
+  set_4 a b c d fits =
+      sets_joined used (used + 4) bytes (a ∷ b ∷ c ∷ d ∷ []) _ (grind (arith, common_steps)) (grind (arith, common_steps))
+
+  pub set_5 : (a b c d e : ℕ) → used + 5 ≤ length bytes
+      → set (set (set (set (set bytes used a) (used + 1) b) (used + 2) c) (used + 3) d) (used + 4) e ≡ take used bytes ++ ((a ∷ b ∷ c ∷ d ∷ e ∷ []) ++ drop (used + 5) bytes)
+  set_5 a b c d e fits =
+      sets_joined used (used + 5) bytes (a ∷ b ∷ c ∷ d ∷ e ∷ []) _ (grind (arith, common_steps)) (grind (arith, common_steps))

@@ -7,10 +7,11 @@ use Rattle.std.proofs.lemmas.{Bool.Decides.nat_tests, List.{drop_more, drop_all,
 use Rattle.std.proofs.lemmas.List.Splits.{length-slice_split, slice_split_at, slice_split_none}
 use Rattle.const_oid.specs.{Identifier.{root_rule, max_arc, IsEncoding, IsIdentifier}, Items.arc_fault, declared.error.Error.Error}
 use Rattle.const_oid.specs.declared.error.Error.TheVariants.{ArcInvalid, ArcTooBig, DigitExpected, Length}
-use Rattle.const_oid.specs.{Contents.arcs_of_octets, Base128.width, Private.Octets.IsAppended}
+use Rattle.const_oid.specs.{Contents.arcs_of_octets, Base128.width, Private.Octets.{AppendsTo, BeginsBy, IsAppended, IsEncodedIn}}
 use Rattle.const_oid.specs.Private.Parser.{pieces_answer, pieces_then, or_trailing, arc_answer, stop_fault}
 use Rattle.const_oid.specs.Private.Parser.{AreDigits, HasFault, IsPiece, IsRoot}
 use Rattle.const_oid.specs.Text.{pieces_of, number_of, is_empty, is_one_empty, pieces_fault, text_answer, IsNumber}
+use Rattle.const_oid.proofs.{Items.few_none, Outputs.{IsLonger, longer_by}}
 use Rattle.const_oid.proofs.{Lists.append-cons, Started.{Encodes, root_encodes, later_encodes}}
 use Rattle.const_oid.proofs.{Faults.{none_from_below, some_from_above}, Encodings.{arcs_of_encoding, encoding_back}}
 use Rattle.const_oid.proofs.Numbers.{number_of_digits, find-none, take_while-digits, find-digits, undotted}
@@ -163,7 +164,7 @@ pub record IsReadTo (capacity : ℕ) (text octets : List ℕ) (end : ℕ) : Type
   pub within : end ≤ length text
 
 -- what becomes of them by a piece, whose group is appended or does not fit
-abbrev BecomesBy : ℕ → List ℕ → List ℕ → ℕ → Result (Unit {0}) Error → Type 0
+abbrev pub BecomesBy : {X : Type 0} → ℕ → List ℕ → List ℕ → ℕ → Result X Error → Type 0
 BecomesBy capacity text longer end result = MatchResult result (λ _. IsReadTo capacity text longer end)
     (λ fault. text_answer root_rule text capacity ≡ Err (or_trailing fault (drop end text)))
 
@@ -175,11 +176,11 @@ later_fault {capacity} {text} {octets} {place} fault read less has =
       some_arc [] identifier = absurd identifier
       some_arc (arc ∷ arcs) identifier = grind (arith, nat_tests)
 
-module _ (capacity : ℕ) (text longer : List ℕ) where
+module _ {X : Type 0} (capacity : ℕ) (text longer : List ℕ) where
   becomes : {before octets : List ℕ} {arc number : ℕ} (end : ℕ) → Encodes root_rule octets before arc number
       → text_answer root_rule text capacity
       ≡ arc_answer capacity before arc (drop end text) (arc_fault root_rule capacity before arc) → end ≤ length text
-      → (result : Result (Unit {0}) Error) → IsAppended capacity number octets longer result
+      → (result : Result X Error) → IsAppended capacity number octets longer result
       → BecomesBy capacity text longer end result
   becomes {octets} {number} end encodes read within (Ok done) (fits, on) =
       let none = encodes.fault capacity ∙ none_from_below capacity (length octets + width number) Length fits in
@@ -192,17 +193,72 @@ module _ (capacity : ℕ) (text longer : List ℕ) where
   becomes {octets} {number} end encodes read within (Err fault) (is, long, same) =
       read ∙ rw (encodes.fault capacity, some_from_above capacity (length octets + width number) Length long, is) refl
 
-  pub root_becomes : {number end : ℕ} → IsRoot text number end → (result : Result (Unit {0}) Error)
+  pub root_becomes : {number end : ℕ} → IsRoot text number end → (result : Result X Error)
       → IsAppended capacity number [] longer result → BecomesBy capacity text longer end result
   root_becomes {end} root result appended =
       becomes end (root_encodes root_rule root.first root.second root.low root.high) (root.same capacity) root.within result
       (rw root.number at appended)
 
   pub later_becomes : {octets : List ℕ} {arc place end : ℕ} → IsReadTo capacity text octets place
-      → place < length text → IsPiece text (place + 1) arc end → (result : Result (Unit {0}) Error)
+      → place < length text → IsPiece text (place + 1) arc end → (result : Result X Error)
       → IsAppended capacity arc octets longer result → BecomesBy capacity text longer end result
   later_becomes {octets} {arc} {place} {end} read less piece =
       becomes end (later_encodes root_rule octets (arcs_of_octets octets) arc read.encoding piece.small)
       (read.answer ∙ rw (drop_more text place 0 less) (piece.same capacity (arcs_of_octets octets))) piece.within
+
+-- ---- octets in a slice
+
+-- its first octets are the encoding of the arcs of the pieces that end at an index or before, if it has the capacity
+pub record IsWrittenTo (capacity : ℕ) (text old new : List ℕ) (used end : ℕ) : Type 0 where
+  pub octets : List ℕ
+  pub read : IsReadTo capacity text octets end
+  pub long : used ≡ length octets
+  pub fits : used ≤ capacity
+  pub begins : BeginsBy capacity octets old new
+
+-- what becomes of it by a piece, whose group is appended or does not fit
+abbrev pub WrittenBy : ℕ → List ℕ → List ℕ → List ℕ → ℕ → Result ℕ Error → Type 0
+WrittenBy capacity text old new end result = MatchResult result (λ used. IsWrittenTo capacity text old new used end)
+    (λ fault. text_answer root_rule text capacity ≡ Err (or_trailing fault (drop end text)))
+
+module _ (capacity : ℕ) (text old : List ℕ) where
+  written_by : {number : ℕ} {octets new : List ℕ} (end : ℕ) (result : Result ℕ Error)
+      → (longer : IsLonger capacity number octets old new result) → BecomesBy capacity text longer.more end result
+      → WrittenBy capacity text old new end result
+  written_by end (Ok used) longer read = record {
+    octets = longer.more;
+    read = read;
+    long = longer.long.0;
+    fits = longer.long.1;
+    begins = longer.begins;
+  }
+  written_by end (Err fault) longer read = read
+
+  pub root_written : {number end : ℕ} (longer : List ℕ) → IsRoot text number end → (result : Result ℕ Error)
+      → AppendsTo capacity number 0 old longer result → WrittenBy capacity text old longer end result
+  root_written {number} {end} longer root result appends =
+      let more = longer_by {number = number} {octets = []} {old = old} longer refl refl (λ room. refl) result appends in
+      written_by end result more (root_becomes capacity text more.more root result more.appended)
+
+  pub later_written : {new : List ℕ} {used arc place end : ℕ} (longer : List ℕ)
+      → IsWrittenTo capacity text old new used place → length new ≡ length old → place < length text
+      → IsPiece text (place + 1) arc end → (result : Result ℕ Error) → AppendsTo capacity arc used new longer result
+      → WrittenBy capacity text old longer end result
+  later_written {arc} {end} longer written same less piece result appends =
+      let more = longer_by {number = arc} longer written.long same written.begins result appends in
+      written_by end result more (later_becomes capacity text more.more written.read less piece result more.appended)
+
+  -- at the end of the text
+  pub all_written : {new : List ℕ} {used end : ℕ} → IsWrittenTo capacity text old new used end → length text ≤ end
+      → IsEncodedIn capacity (text_answer root_rule text capacity) old new used
+  all_written {end} written last = record {
+    octets = written.octets;
+    encoding = written.read.encoding;
+    answer = written.read.answer
+        ∙ rw (drop_all end text last, append-nil, few_none root_rule _ written.read.encoding.identifier) refl;
+    long = written.long;
+    within = written.fits;
+    begins = written.begins;
+  }
 
 pub ruleset digits_read = (first_read, digit_read, big_fault, piece_read, byte_fault, first_fault, end_fault, nat_tests)

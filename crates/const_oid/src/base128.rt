@@ -5,10 +5,10 @@ ghost use Rattle.const_oid.specs.Base128.{IsGroup, value_of, width};
 ghost use Rattle.const_oid.specs.Contents.{cut, later_fault, parts_fault, max_first};
 ghost use Rattle.const_oid.specs.Identifier.{root_rule, max_arc};
 ghost use Rattle.const_oid.specs.Private.Groups.{IsFaulty, IsFirst, IsLong};
-ghost use Rattle.const_oid.specs.Private.Octets.{fault_from};
+ghost use Rattle.const_oid.specs.Private.Octets.{AppendsTo, fault_from};
 
 use crate::Arc;
-use crate::error::Error;
+use crate::error::{Error, Result};
 
 /// The number of the first subidentifier, and the octets after it.
 #[inline(always)]
@@ -99,6 +99,7 @@ pub(crate) fn checked_group(octets: &[u8], limit: u64) -> Option<(u64, &[u8])>
 /// The error of the first subidentifier, which is not valid.
 #[tactic(auto, using(crate::proofs::PartsFault::group_faults))]
 #[cold]
+#[inline]
 pub(crate) fn group_fault(octets: &[u8], limit: u64) -> Error
     requires some { 0 < length octets.now }
     requires wide { max_arc ≤ limit }
@@ -139,6 +140,7 @@ fn add_digit(high: u64, octet: u8) -> u64
 
 /// How many octets the subidentifier of a number takes.
 #[tactic(auto, using(crate::proofs::Octets::widths))]
+#[inline]
 pub(crate) const fn group_len(number: u64) -> usize
     requires { number < 2 ^ 35 }
     ensures width { result ≡ width number }
@@ -166,6 +168,77 @@ pub(crate) fn write_group_at(octets: &mut [u8], start: usize, number: u64, count
     let (_, free) = octets.split_at_mut(start);
     let (group, _) = free.split_at_mut(count);
     write_group(group, number);
+}
+
+/// Appends the subidentifier of a number to the first octets of a slice, if they then fit a capacity, and returns how
+/// many there are. Into a slice that is shorter than the capacity nothing is written: the octets are counted alone.
+// erase: const
+#[tactic(auto, using(crate::proofs::Octets::widths))]
+#[inline(always)]
+pub(crate) fn append_group(
+    out: &mut [u8],
+    used: usize,
+    number: u64,
+    capacity: usize,
+) -> Result<usize>
+    requires { number < 2 ^ 35 }
+    ensures { AppendsTo capacity number used out.old out.new result }
+{
+    // There are no calls here, since each costs the compiler in a constant. No sum is compared with the capacity, so that
+    // no index is checked twice.
+    if number < 0x80 {
+        if used >= capacity {
+            return Err(Error::Length);
+        }
+        if capacity <= out.len() {
+            out[used] = number as u8;
+        }
+        return Ok(used + 1);
+    }
+    if number < 0x4000 {
+        if capacity < 2 || used > capacity - 2 {
+            return Err(Error::Length);
+        }
+        if capacity <= out.len() {
+            out[used] = 128 + ((number >> 7) % 128) as u8;
+            out[used + 1] = (number % 128) as u8;
+        }
+        return Ok(used + 2);
+    }
+    if number < 0x20_0000 {
+        if capacity < 3 || used > capacity - 3 {
+            return Err(Error::Length);
+        }
+        if capacity <= out.len() {
+            out[used] = 128 + ((number >> 14) % 128) as u8;
+            out[used + 1] = 128 + ((number >> 7) % 128) as u8;
+            out[used + 2] = (number % 128) as u8;
+        }
+        return Ok(used + 3);
+    }
+    if number < 0x1000_0000 {
+        if capacity < 4 || used > capacity - 4 {
+            return Err(Error::Length);
+        }
+        if capacity <= out.len() {
+            out[used] = 128 + ((number >> 21) % 128) as u8;
+            out[used + 1] = 128 + ((number >> 14) % 128) as u8;
+            out[used + 2] = 128 + ((number >> 7) % 128) as u8;
+            out[used + 3] = (number % 128) as u8;
+        }
+        return Ok(used + 4);
+    }
+    if capacity < 5 || used > capacity - 5 {
+        return Err(Error::Length);
+    }
+    if capacity <= out.len() {
+        out[used] = 128 + ((number >> 28) % 128) as u8;
+        out[used + 1] = 128 + ((number >> 21) % 128) as u8;
+        out[used + 2] = 128 + ((number >> 14) % 128) as u8;
+        out[used + 3] = 128 + ((number >> 7) % 128) as u8;
+        out[used + 4] = (number % 128) as u8;
+    }
+    Ok(used + 5)
 }
 
 /// Writes the subidentifier of a number into a slice, which is as long.

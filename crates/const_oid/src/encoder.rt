@@ -1,14 +1,16 @@
 //! Arcs, one after another, to octets.
 
-ghost use Rattle.std.specs.Prelude.{◌≡◌, ◌≤◌, ℕ, List, [], ◌∷◌, ◌++◌, min, ◌↔◌, IsTrue, IfOk, OnOk, OnErr};
+ghost use Rattle.std.specs.Prelude.{◌≡◌, ◌≤◌, ◌<◌, ℕ, List, [], ◌∷◌, ◌++◌, length, min, ◌↔◌, IsTrue, IfOk, OnOk, OnErr, MatchResult};
 ghost use Rattle.std.specs.Result.{result_err};
 ghost use Rattle.const_oid.specs.Identifier.{root_rule, IsEncoding};
-ghost use Rattle.const_oid.specs.Items.{arc_fault, too_few_fault, TakesItems};
+ghost use Rattle.const_oid.specs.Items.{arc_fault, item_answer, too_few_fault, TakesItems};
 ghost use Rattle.std.specs.Iterator.{IsFiniteIterable};
 ghost use Rattle.const_oid.specs.Buffer.{octets_of};
-ghost use Rattle.const_oid.specs.Private.Encoder.{buffer_answer, HasEncoding};
+ghost use Rattle.const_oid.specs.Private.Encoder.{buffer_answer, HasEncoding, IsFirstNumber};
+ghost use Rattle.const_oid.specs.Private.Octets.{IsEncodedIn};
 
 use crate::Arc;
+use crate::base128::append_group;
 use crate::buffer::Buffer;
 use crate::error::{Error, Result};
 use crate::root::max_second;
@@ -121,4 +123,52 @@ where
         encoder.arc(arc)?;
     }
     encoder.finish()
+}
+
+/// Writes the encoding of arcs to the start of a slice, if it fits a capacity, and returns its length. Into a slice that
+/// is shorter than the capacity nothing is written: the octets are counted alone.
+#[inline(never)]
+pub(crate) fn encode_to(arcs: &[Arc], out: &mut [u8], capacity: usize) -> Result<usize>
+    ensures { let answer = item_answer root_rule arcs.now capacity in
+        MatchResult result (λ len. IsEncodedIn capacity answer out.old out.new len) (λ fault. answer ≡ Err fault) }
+{
+    let number = match first_number(arcs) {
+        Ok(number) => number,
+        Err(fault) => return Err(fault),
+    };
+    let mut used = match append_group(out, 0, number, capacity) {
+        Ok(used) => used,
+        Err(fault) => return Err(fault),
+    };
+    let mut index = 2;
+    while index < arcs.len() {
+        used = match append_group(out, used, arcs[index] as u64, capacity) {
+            Ok(used) => used,
+            Err(fault) => return Err(fault),
+        };
+        index += 1;
+    }
+    Ok(used)
+}
+
+/// The subidentifier of the first two arcs.
+fn first_number(arcs: &[Arc]) -> Result<u64>
+    ensures { MatchResult result (λ number. IsFirstNumber arcs.now number)
+        (λ fault. (capacity : ℕ) → item_answer root_rule arcs.now capacity ≡ Err fault) }
+{
+    if arcs.is_empty() {
+        return Err(Error::Empty);
+    }
+    let first = arcs[0];
+    if first > 2 {
+        return Err(Error::ArcInvalid { arc: first });
+    }
+    if arcs.len() == 1 {
+        return Err(Error::Empty);
+    }
+    let second = arcs[1];
+    if second > max_second(first) {
+        return Err(Error::ArcInvalid { arc: second });
+    }
+    Ok(40 * first as u64 + second as u64)
 }

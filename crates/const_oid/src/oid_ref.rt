@@ -1,5 +1,5 @@
 //! Borrowed object identifiers.
-ghost use Rattle.std.specs.Prelude.{◌≡◌, ◌*◌, ◌≤◌, ◌<◌, ◌↔◌, ◌+◌, ℕ, length, min, slice_get, count_by, None, Some, IfOk, IfSome, IsSome, IsTrue, MatchOption};
+ghost use Rattle.std.specs.Prelude.{◌≡◌, ◌*◌, ◌≤◌, ◌<◌, ◌↔◌, ◌+◌, ℕ, drop, length, min, slice_get, take, count_by, None, Some, IfErr, IfOk, IfSome, IsSome, IsTrue, MatchOption};
 ghost use Rattle.std.specs.Option.{option_map};
 ghost use Rattle.std.specs.Fmt.{WritesStyledOnOk};
 ghost use Rattle.std.specs.Cmp.Lexicographic.{slice_cmp};
@@ -7,16 +7,19 @@ ghost use Rattle.std.specs.List.Sorted.{IsSortedByKey};
 ghost use Rattle.std.specs.Ordering.{nat_cmp, is_lt};
 ghost use Rattle.std.proofs.Props.{props};
 ghost use Rattle.const_oid.specs.Base128.{AreOctets};
-ghost use Rattle.const_oid.specs.Contents.{cut, parts_fault, octet_answer, borrowed_capacity};
+ghost use Rattle.const_oid.specs.Contents.{arcs_of_octets, cut, parts_fault, octet_answer, borrowed_capacity};
 ghost use Rattle.const_oid.specs.Identifier.{root_rule, IsEncoding};
-ghost use Rattle.const_oid.specs.Text.{text_of, text_in, octet_text, ReturnsLength, ReturnsText, WritesText};
+ghost use Rattle.const_oid.specs.Items.{item_answer};
+ghost use Rattle.const_oid.specs.Text.{bytes_answer, size_answer, text_answer, text_of, text_in, octet_text, Denotes, ReturnsLength, ReturnsText, WritesText};
 
 use crate::Arc;
 use crate::arcs::{Arcs, arc_at};
 use crate::compare::{are_equal, begins_with, order, order_by_parts};
 use crate::digits::{MAX_ARC_LEN, write_arc};
+use crate::encoder::encode_to;
 use crate::error::{Error, Result};
 use crate::oid::ObjectIdentifier;
+use crate::parser::parse_long;
 use crate::parts::{count_parts, without_last_part};
 use crate::text::{text_len, utf8, write_checked, write_text};
 use crate::valid::check;
@@ -151,6 +154,86 @@ impl<'a> ObjectIdentifierRef<'a> {
             return None;
         }
         Some(write_checked(ber, out))
+    }
+
+    /// Counts the contents octets of the identifier that dotted text in ASCII denotes, of any length. They are no more
+    /// than the bytes of the text.
+    ///
+    /// # Errors
+    ///
+    /// Those of [`new`](ObjectIdentifier::new), with [`Error::Length`] if the arcs take more octets than `limit`.
+    pub fn bytes_len_from_ascii(text: &[u8], limit: usize) -> Result<usize>
+        ensures { result ≡ size_answer (text_answer root_rule text.now limit) }
+    {
+        parse_long(text, &mut [], limit)
+    }
+
+    /// Parses dotted text in ASCII, of any length, and writes its contents octets to the start of `out`. Returns how many
+    /// there are, which are no more than the bytes of the text.
+    ///
+    /// # Errors
+    ///
+    /// Those of [`new`](ObjectIdentifier::new), with [`Error::Length`] if the arcs take more octets than `out` has. It is
+    /// then unchanged.
+    pub fn bytes_from_ascii(text: &[u8], out: &mut [u8]) -> Result<usize>
+        ensures answer { bytes_answer out.new result ≡ text_answer root_rule text.now (length out.old) }
+        ensures encoding { IfOk result (λ len. IsEncoding root_rule (arcs_of_octets (take len out.new)) (take len out.new)) }
+        ensures rest { IfOk result (λ len. (len ≤ length out.old) × (drop len out.new ≡ drop len out.old)) }
+        ensures kept { IfErr result (λ _. out.new ≡ out.old) }
+    {
+        let capacity = out.len();
+        // The octets are counted first, so that on an error none is written.
+        parse_long(text, &mut [], capacity)?;
+        parse_long(text, out, capacity)
+    }
+
+    /// Counts the contents octets of arcs, any number of them. They are at most five for each arc.
+    ///
+    /// # Errors
+    ///
+    /// Those of [`from_arcs`](ObjectIdentifier::from_arcs), with [`Error::Length`] if the arcs take more octets than
+    /// `limit`.
+    pub fn bytes_len_from_arcs(arcs: &[Arc], limit: usize) -> Result<usize>
+        ensures { result ≡ size_answer (item_answer root_rule arcs.now limit) }
+    {
+        encode_to(arcs, &mut [], limit)
+    }
+
+    /// Encodes arcs, any number of them, and writes the contents octets to the start of `out`. Returns how many there
+    /// are, which are at most five for each arc.
+    ///
+    /// # Errors
+    ///
+    /// Those of [`from_arcs`](ObjectIdentifier::from_arcs), with [`Error::Length`] if the arcs take more octets than
+    /// `out` has. It is then unchanged.
+    pub fn bytes_from_arcs(arcs: &[Arc], out: &mut [u8]) -> Result<usize>
+        ensures answer { bytes_answer out.new result ≡ item_answer root_rule arcs.now (length out.old) }
+        ensures encoding { IfOk result (λ len. IsEncoding root_rule (arcs_of_octets (take len out.new)) (take len out.new)) }
+        ensures rest { IfOk result (λ len. (len ≤ length out.old) × (drop len out.new ≡ drop len out.old)) }
+        ensures kept { IfErr result (λ _. out.new ≡ out.old) }
+    {
+        let capacity = out.len();
+        encode_to(arcs, &mut [], capacity)?;
+        encode_to(arcs, out, capacity)
+    }
+
+    /// Parses dotted text as [`bytes_from_ascii`](Self::bytes_from_ascii) does, and borrows its octets.
+    #[tactic(auto, using(crate::proofs::Encodings::none_from_encoding, crate::proofs::Texts::denoted_from_answer))]
+    pub fn from_ascii_in(text: &[u8], out: &'a mut [u8]) -> Result<Self>
+        ensures answer { ref_answer result ≡ text_answer root_rule text.now (length out.old) }
+        ensures denoted { IfOk result (λ oid. Denotes root_rule text.now (ref_arcs oid)) }
+    {
+        let len = Self::bytes_from_ascii(text, out)?;
+        Ok(ObjectIdentifierRef::from_checked(&out[..len]))
+    }
+
+    /// Encodes arcs as [`bytes_from_arcs`](Self::bytes_from_arcs) does, and borrows their octets.
+    #[tactic(auto, using(crate::proofs::Encodings::none_from_encoding))]
+    pub fn from_arcs_in(arcs: &[Arc], out: &'a mut [u8]) -> Result<Self>
+        ensures { ref_answer result ≡ item_answer root_rule arcs.now (length out.old) }
+    {
+        let len = Self::bytes_from_arcs(arcs, out)?;
+        Ok(ObjectIdentifierRef::from_checked(&out[..len]))
     }
 
     /// Whether an owned identifier, of any capacity, has the same octets, and so the same arcs.

@@ -3,15 +3,15 @@
 //! A text is read component by component; in names, one is a `piece`. If one is wrong, only an index is returned, and a
 //! function that is rarely called makes the error of it. So a valid text costs fewer instructions (docs/SPEED.md).
 
-ghost use Rattle.std.specs.Prelude.{◌≡◌, ◌≤◌, ◌<◌, ◌-◌, ◌+◌, ℕ, false, drop, length, get_or, min, Err, MatchResult};
-ghost use Rattle.std.specs.Bool.{then_some};
-ghost use Rattle.std.specs.Char.{is_ascii_digit};
+ghost use Rattle.std.specs.Prelude.{◌≡◌, ◌≤◌, ℕ, drop, length, min, Err, MatchResult};
 ghost use Rattle.const_oid.specs.Private.Encoder.{buffer_answer, HasEncoding};
-ghost use Rattle.const_oid.specs.Private.Parser.{or_trailing, stop_fault, AreDigits, HasFault, IsPiece, IsRoot};
-ghost use Rattle.const_oid.specs.Identifier.{root_rule, max_arc};
+ghost use Rattle.const_oid.specs.Private.Octets.{IsEncodedIn};
+ghost use Rattle.const_oid.specs.Private.Parser.{or_trailing, stop_fault, HasFault, IsPiece, IsRoot};
+ghost use Rattle.const_oid.specs.Identifier.{root_rule};
 ghost use Rattle.const_oid.specs.Text.{text_answer};
 
 use crate::Arc;
+use crate::base128::append_group;
 use crate::buffer::Buffer;
 use crate::error::{Error, Result};
 use crate::root::max_second;
@@ -32,31 +32,58 @@ pub(crate) fn parse<const SIZE: usize>(text: &[u8]) -> Result<Buffer<SIZE>>
 
 /// The encoding as `parse` gives it, in an array that can all be in use.
 // erase: const
+#[tactic(auto, using(crate::proofs::Outputs::buffered))]
 #[inline(always)]
 fn parse_within<const SIZE: usize>(text: &[u8]) -> Result<Buffer<SIZE>>
     ensures answer { buffer_answer result ≡ text_answer root_rule text.now (min SIZE 255) }
     ensures encoding { HasEncoding result }
 {
+    let mut bytes = [0; SIZE];
+    let capacity = if SIZE < 255 { SIZE } else { 255 };
+    match parse_to(text, &mut bytes, capacity) {
+        Ok(len) => Ok(Buffer::begun(bytes, len)),
+        Err(fault) => Err(fault),
+    }
+}
+
+/// `parse_to`, which is compiled once for all calls with octets of any length.
+#[inline(never)]
+pub(crate) fn parse_long(text: &[u8], out: &mut [u8], capacity: usize) -> Result<usize>
+    ensures { let answer = text_answer root_rule text.now capacity in
+        MatchResult result (λ len. IsEncodedIn capacity answer out.old out.new len) (λ fault. answer ≡ Err fault) }
+{
+    parse_to(text, out, capacity)
+}
+
+/// Writes the encoding of the identifier that a text denotes to the start of a slice, if it fits a capacity, and returns
+/// its length. Into a slice that is shorter than the capacity nothing is written: the octets are counted alone.
+// erase: const
+#[inline(always)]
+fn parse_to(text: &[u8], out: &mut [u8], capacity: usize) -> Result<usize>
+    ensures { let answer = text_answer root_rule text.now capacity in
+        MatchResult result (λ len. IsEncodedIn capacity answer out.old out.new len) (λ fault. answer ≡ Err fault) }
+{
     let (number, mut end) = match read_root(text) {
         Ok(root) => root,
         Err(fault) => return Err(fault),
     };
-    let mut octets = Buffer::empty();
-    if let Err(fault) = octets.push_group(number) {
-        return Err(or_trailing_dot(fault, text, end));
-    }
+    let mut used = match append_group(out, 0, number, capacity) {
+        Ok(used) => used,
+        Err(fault) => return Err(or_trailing_dot(fault, text, end)),
+    };
     while end < text.len() {
         let start = end + 1;
         let (arc, after) = match read_piece(text, start) {
             Ok(piece) => piece,
             Err(index) => return Err(piece_fault(text, start, index)),
         };
-        if let Err(fault) = octets.push_group(arc as u64) {
-            return Err(or_trailing_dot(fault, text, after));
-        }
+        used = match append_group(out, used, arc as u64, capacity) {
+            Ok(used) => used,
+            Err(fault) => return Err(or_trailing_dot(fault, text, after)),
+        };
         end = after;
     }
-    Ok(octets)
+    Ok(used)
 }
 
 /// The subidentifier of the first two arcs, and where the second component ends.

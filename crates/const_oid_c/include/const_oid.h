@@ -65,8 +65,9 @@ extern "C" {
 #define CONST_OID_RESTRICT restrict
 #endif
 
-/* The most octets that from_text and from_arcs write, and that cmp_owned reads. The other functions take
- * octets of any length. */
+/* The most octets that from_text and from_arcs write to an output of this length or a shorter one, and that
+ * cmp_owned reads. To a longer output they write as many as fit, and the other functions take octets of any
+ * length. */
 #define CONST_OID_MAX_OCTETS 255
 
 /* The most bytes of text of CONST_OID_MAX_OCTETS octets. Longer inputs also have at most four bytes of
@@ -91,7 +92,7 @@ enum const_oid_code {
     CONST_OID_BASE128 = 3,           /* a subidentifier begins with 0x80 or does not end */
     CONST_OID_DIGIT_EXPECTED = 4,    /* a byte is not a digit */
     CONST_OID_EMPTY = 5,             /* there is nothing, or only one arc */
-    CONST_OID_LENGTH = 6,            /* there are, or would be, more than 255 octets */
+    CONST_OID_LENGTH = 6,            /* there are, or would be, more than 255 octets, and more than fit */
     CONST_OID_OVERFLOW = 7,          /* never returned: no sum overflows */
     CONST_OID_REPEATED_DOT = 8,      /* a dot follows another dot */
     CONST_OID_TRAILING_DOT = 9,      /* the text ends with a dot */
@@ -144,7 +145,7 @@ uint32_t const_oid_version(void);
 /* Writes the contents octets of the identifier that dotted text denotes, such as "1.2.840". Arcs may
  * have leading zeros. For other texts, returns NOT_UTF8, or else the code of the first wrong
  * component (ARC_TOO_BIG, DIGIT_EXPECTED, REPEATED_DOT, TRAILING_DOT, ARC_INVALID or LENGTH), or else
- * EMPTY if there is only one. */
+ * EMPTY if there is only one. LENGTH: the arcs up to it take more than 255 octets, and more than `out_len`. */
 const_oid_status const_oid_from_text(
     const char *text, size_t text_len, uint8_t *CONST_OID_RESTRICT out, size_t out_len);
 

@@ -1,46 +1,46 @@
 -- A result at the usual capacity is the result at 255 octets, unless it is the fault `Length`.
-use Rattle.std.proofs.Common.{◌≡◌, ◌≢◌, ℕ, List, [], ◌∷◌, ◌++◌, refl, arith}
+use Rattle.std.proofs.Common.{◌≡◌, ◌≢◌, ℕ, ◌≤◌, List, [], ◌∷◌, ◌++◌, refl, arith}
 use Rattle.std.specs.Prelude.{Option, Some, Result, Err}
 use Rattle.std.proofs.lemmas.Bool.Decides.{nat_tests}
 use Rattle.const_oid.specs.{declared.error.Error.Error, declared.error.Error.TheVariants.Length}
-use Rattle.const_oid.specs.{Identifier.{root_rule, usual_capacity}, Items.{arc_fault, items_fault, item_answer}}
+use Rattle.const_oid.specs.{Identifier.root_rule, Items.{arc_fault, items_fault, item_answer}}
 use Rattle.const_oid.specs.Text.{piece_fault, pieces_fault, pieces_of, number_of, text_answer}
-use Rattle.const_oid_c.specs.Answers.{owned_capacity}
 
--- the fault at the usual capacity is that at the other one, or `Length`
-abbrev IsSame : (ℕ → Option Error) → Type 0
-IsSame fault = fault usual_capacity ≢ Some Length → fault usual_capacity ≡ fault owned_capacity
+module _ (low high : ℕ) (less : low ≤ high) where
+  -- the fault at the low capacity is that at the high one, or `Length`
+  abbrev IsSame : (ℕ → Option Error) → Type 0
+  IsSame fault = fault low ≢ Some Length → fault low ≡ fault high
 
--- an arc, after others
-same_arc : (before : List ℕ) (arc : ℕ) → IsSame (λ capacity. arc_fault root_rule capacity before arc)
-same_arc before arc other = grind (arith, nat_tests)
+  -- an arc, after others
+  same_arc : (before : List ℕ) (arc : ℕ) → IsSame (λ capacity. arc_fault root_rule capacity before arc)
+  same_arc before arc other = grind (arith, nat_tests)
 
--- arcs, after others
-same_items : (before items : List ℕ) → IsSame (λ capacity. items_fault root_rule capacity before items)
-same_items before [] other = refl
-same_items before (item ∷ items) other =
-    grind (arith, same_arc before item, same_items (before ++ item ∷ []) items)
+  -- arcs, after others
+  same_items : (before items : List ℕ) → IsSame (λ capacity. items_fault root_rule capacity before items)
+  same_items before [] other = refl
+  same_items before (item ∷ items) other =
+      grind (arith, same_arc before item, same_items (before ++ item ∷ []) items)
 
--- a piece of a text, between others
-same_piece : (before piece : List ℕ) (after : List (List ℕ))
-    → IsSame (λ capacity. piece_fault root_rule capacity before piece after)
-same_piece before piece after other = grind (arith, same_arc before (number_of piece))
+  -- a piece of a text, between others
+  same_piece : (before piece : List ℕ) (after : List (List ℕ))
+      → IsSame (λ capacity. piece_fault root_rule capacity before piece after)
+  same_piece before piece after other = grind (arith, same_arc before (number_of piece))
 
--- pieces of a text, after others
-same_pieces : (before : List ℕ) (pieces : List (List ℕ))
-    → IsSame (λ capacity. pieces_fault root_rule capacity before pieces)
-same_pieces before [] other = refl
-same_pieces before (piece ∷ after) other =
-    grind (arith, same_piece before piece after, same_pieces (before ++ number_of piece ∷ []) after)
+  -- pieces of a text, after others
+  same_pieces : (before : List ℕ) (pieces : List (List ℕ))
+      → IsSame (λ capacity. pieces_fault root_rule capacity before pieces)
+  same_pieces before [] other = refl
+  same_pieces before (piece ∷ after) other =
+      grind (arith, same_piece before piece after, same_pieces (before ++ number_of piece ∷ []) after)
 
--- the result at the usual capacity is that at the other one, or the fault `Length`
-abbrev IsSameAnswer : (ℕ → Result (List ℕ) Error) → Type 0
-IsSameAnswer result = result usual_capacity ≢ Err Length → result usual_capacity ≡ result owned_capacity
+  -- the result at the low capacity is that at the high one, or the fault `Length`
+  abbrev IsSameAnswer : (ℕ → Result (List ℕ) Error) → Type 0
+  IsSameAnswer result = result low ≢ Err Length → result low ≡ result high
 
--- the result of a text
-pub same_text : (text : List ℕ) → IsSameAnswer (text_answer root_rule text)
-same_text text other = grind (arith, same_pieces [] (pieces_of text))
+  -- the result of a text
+  pub same_text : (text : List ℕ) → IsSameAnswer (text_answer root_rule text)
+  same_text text other = grind (arith, same_pieces [] (pieces_of text))
 
--- the result of arcs
-pub same_arcs : (arcs : List ℕ) → IsSameAnswer (item_answer root_rule arcs)
-same_arcs arcs other = grind (arith, same_items [] arcs)
+  -- the result of arcs
+  pub same_arcs : (arcs : List ℕ) → IsSameAnswer (item_answer root_rule arcs)
+  same_arcs arcs other = grind (arith, same_items [] arcs)

@@ -4,7 +4,7 @@ ghost use Rattle.const_oid.specs.Identifier.{root_rule};
 ghost use Rattle.const_oid.specs.Items.{item_answer};
 ghost use Rattle.const_oid.specs.Oid.{oid_answer};
 ghost use Rattle.const_oid_c.specs.Status.{output_status, output_after, len_status};
-ghost use Rattle.const_oid_c.specs.Answers.{octets_of_arcs, output_of, status_of, borrowed_answer, arc_status, owned_capacity};
+ghost use Rattle.const_oid_c.specs.Answers.{octets_of_arcs, output_of, status_of, borrowed_answer, arc_status, most_octets};
 
 use crate::output::write_octets;
 use crate::owned::{MAX_OCTETS, is_too_long};
@@ -53,8 +53,8 @@ pub extern "C" fn const_oid_arc(octets: &[u8], index: usize) -> Status
 #[tactic(auto, using(crate::proofs::Capacities::same_arcs))]
 #[unsafe(no_mangle)]
 pub extern "C" fn const_oid_from_arcs(arcs: &[u32], out: &mut [u8]) -> Status
-    ensures status { result ≡ output_status (length out.old) (octets_of_arcs (item_answer root_rule arcs.now owned_capacity)) }
-    ensures written { out.new ≡ output_after out.old (octets_of_arcs (item_answer root_rule arcs.now owned_capacity)) }
+    ensures status { result ≡ output_status (length out.old) (octets_of_arcs (item_answer root_rule arcs.now (most_octets (length out.old)))) }
+    ensures written { out.new ≡ output_after out.old (octets_of_arcs (item_answer root_rule arcs.now (most_octets (length out.old)))) }
 {
     // An identifier of the usual capacity is quicker to make.
     let small = encoded::<39>(arcs);
@@ -64,13 +64,29 @@ pub extern "C" fn const_oid_from_arcs(arcs: &[u32], out: &mut [u8]) -> Status
     write_octets(small, out)
 }
 
-/// Writes at most `MAX_OCTETS` contents octets of arcs.
+/// Writes the contents octets of arcs, or reports why there are none.
+#[tactic(auto, using(crate::proofs::Capacities::same_arcs))]
 #[inline(never)]
 fn write_large(arcs: &[u32], out: &mut [u8]) -> Status
-    ensures status { result ≡ output_status (length out.old) (octets_of_arcs (item_answer root_rule arcs.now owned_capacity)) }
-    ensures written { out.new ≡ output_after out.old (octets_of_arcs (item_answer root_rule arcs.now owned_capacity)) }
+    ensures status { result ≡ output_status (length out.old) (octets_of_arcs (item_answer root_rule arcs.now (most_octets (length out.old)))) }
+    ensures written { out.new ≡ output_after out.old (octets_of_arcs (item_answer root_rule arcs.now (most_octets (length out.old)))) }
 {
-    write_octets(encoded::<MAX_OCTETS>(arcs), out)
+    let oid = encoded::<MAX_OCTETS>(arcs);
+    if is_too_long(&oid) && out.len() > MAX_OCTETS {
+        return write_longer(arcs, out);
+    }
+    write_octets(oid, out)
+}
+
+/// Writes the contents octets of arcs, as many as the output has.
+fn write_longer(arcs: &[u32], out: &mut [u8]) -> Status
+    ensures status { result ≡ output_status (length out.old) (octets_of_arcs (item_answer root_rule arcs.now (length out.old))) }
+    ensures written { out.new ≡ output_after out.old (octets_of_arcs (item_answer root_rule arcs.now (length out.old))) }
+{
+    match ObjectIdentifierRef::bytes_from_arcs(arcs, out) {
+        Ok(len) => len_status(len),
+        Err(fault) => error_status(fault),
+    }
 }
 
 /// The identifier that has these arcs.

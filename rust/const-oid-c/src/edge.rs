@@ -5,7 +5,7 @@ use crate::calls::lists::Range;
 use crate::calls::status::{OK, Status};
 use crate::calls::{arcs, errors, lists, order, texts, tree, version};
 use const_oid::internal_for_const_oid_c::search::Contents;
-use const_oid::internal_for_const_oid_c::{Error, ObjectIdentifierRef};
+use const_oid::internal_for_const_oid_c::{Error, ObjectIdentifierRef, Result};
 use core::marker::PhantomData;
 use core::mem::MaybeUninit;
 use core::slice;
@@ -90,14 +90,30 @@ fn copy_ends<const N: usize>(bytes: &Output<u8>, out: &mut Output<u8>) {
     out[end..].copy_from_slice(&bytes[end..]);
 }
 
+/// The bytes of an output, set to zero.
+fn zeroed(out: &mut Output<u8>) -> &mut [u8] {
+    out.fill(MaybeUninit::new(0));
+    // SAFETY: all of these bytes were written.
+    unsafe { slice::from_raw_parts_mut(out.as_mut_ptr().cast(), out.len()) }
+}
+
 /// Writes the text of an identifier at the start of an output, and returns its length. `None` if it is
 /// longer than the output, which is then unchanged.
 pub(crate) fn encode(oid: ObjectIdentifierRef<'_>, out: &mut Output<u8>) -> Option<usize> {
     let out = out.get_mut(..oid.text_len())?;
-    out.fill(MaybeUninit::new(0));
-    // SAFETY: all of these bytes were written.
-    let out = unsafe { slice::from_raw_parts_mut(out.as_mut_ptr().cast(), out.len()) };
-    oid.encode_text(out)
+    oid.encode_text(zeroed(out))
+}
+
+/// Writes the octets of a text at the start of an output, and returns how many. On an error it is unchanged.
+pub(crate) fn bytes_from_ascii(text: &[u8], out: &mut Output<u8>) -> Result<usize> {
+    let len = ObjectIdentifierRef::bytes_len_from_ascii(text, out.len())?;
+    ObjectIdentifierRef::bytes_from_ascii(text, zeroed(&mut out[..len]))
+}
+
+/// Writes the octets of arcs at the start of an output, and returns how many. On an error it is unchanged.
+pub(crate) fn bytes_from_arcs(arcs: &[u32], out: &mut Output<u8>) -> Result<usize> {
+    let len = ObjectIdentifierRef::bytes_len_from_arcs(arcs, out.len())?;
+    ObjectIdentifierRef::bytes_from_arcs(arcs, zeroed(&mut out[..len]))
 }
 
 /// Writes the text of an error at the start of an output, and returns its length. `None` if it is longer

@@ -58,6 +58,52 @@ impl ObjectIdentifierRef {
         erased::ObjectIdentifierRef::from_bytes(ber).map(|oid| Self::from_checked(oid.as_bytes()))
     }
 
+    /// Parses dotted text in ASCII, of any length, into octets at the start of `out`. As many as the text has bytes
+    /// are always enough.
+    ///
+    /// # Errors
+    ///
+    /// Those of [`ObjectIdentifier::new`], with [`Error::Length`] if the arcs take more octets than `out` has. `out` is
+    /// then unchanged.
+    ///
+    /// # Examples
+    ///
+    /// ```
+    /// use const_oid::ObjectIdentifierRef;
+    ///
+    /// let text = format!("1.3{}", ".4294967295".repeat(126)); // 128 arcs, the most of SNMP
+    /// let mut out = [0; 640];
+    /// let oid = ObjectIdentifierRef::from_ascii_in(text.as_bytes(), &mut out)?;
+    /// assert_eq!((oid.len(), oid.as_bytes().len()), (128, 631));
+    /// # Ok::<(), const_oid::Error>(())
+    /// ```
+    pub fn from_ascii_in<'o>(text: &[u8], out: &'o mut [u8]) -> Result<&'o Self> {
+        erased::ObjectIdentifierRef::from_ascii_in(text, out)
+            .map(|oid| Self::from_checked(oid.as_bytes()))
+    }
+
+    /// Encodes arcs, any number of them, into octets at the start of `out`. Five for each arc are always enough.
+    ///
+    /// # Errors
+    ///
+    /// Those of [`ObjectIdentifier::from_arcs`], with [`Error::Length`] if the arcs take more octets than `out` has.
+    /// `out` is then unchanged.
+    ///
+    /// # Examples
+    ///
+    /// ```
+    /// use const_oid::ObjectIdentifierRef;
+    ///
+    /// let mut out = [0; 640];
+    /// let oid = ObjectIdentifierRef::from_arcs_in(&[2; 128], &mut out)?;
+    /// assert_eq!((oid.len(), oid.as_bytes().len()), (128, 127));
+    /// # Ok::<(), const_oid::Error>(())
+    /// ```
+    pub fn from_arcs_in<'o>(arcs: &[Arc], out: &'o mut [u8]) -> Result<&'o Self> {
+        erased::ObjectIdentifierRef::from_arcs_in(arcs, out)
+            .map(|oid| Self::from_checked(oid.as_bytes()))
+    }
+
     /// The contents octets.
     ///
     /// # Examples

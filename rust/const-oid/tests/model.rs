@@ -208,8 +208,26 @@ fn check_octets(octets: &[u8]) {
     }
 }
 
+/// A function that writes octets of any length into an output of N octets.
+fn check_written<const N: usize>(
+    answer: model::Answer,
+    write: impl FnOnce(&mut [u8]) -> Result<Vec<u8>, Error>,
+) {
+    let mut out = [0xA5; N];
+    let octets = answer.map(|arcs| model::encoding(&arcs));
+    assert_eq!(write(&mut out), octets);
+    let len = octets.map_or(0, |octets| {
+        assert!(out.starts_with(&octets));
+        octets.len()
+    });
+    assert!(out[len..].iter().all(|byte| *byte == 0xA5));
+}
+
 /// The functions that parse text, at a capacity.
 fn read_text<const N: usize>(text: &str) {
+    check_written::<N>(model::of_text(text.as_bytes(), N), |out| {
+        ObjectIdentifierRef::from_ascii_in(text.as_bytes(), out).map(|oid| oid.as_bytes().to_vec())
+    });
     let answer = model::of_text(text.as_bytes(), model::capacity(N));
     let owned = ObjectIdentifier::<N>::new_sized(text);
     assert_eq!(
@@ -233,6 +251,9 @@ fn check_text(text: &str) {
 
 /// The functions that take arcs, at a capacity.
 fn read_arcs<const N: usize>(arcs: &[Arc]) {
+    check_written::<N>(model::of_arcs(arcs, N), |out| {
+        ObjectIdentifierRef::from_arcs_in(arcs, out).map(|oid| oid.as_bytes().to_vec())
+    });
     let answer = model::of_arcs(arcs, model::capacity(N));
     let owned = ObjectIdentifier::<N>::from_arcs_sized(arcs.iter().copied());
     let octets = owned.map(|oid| oid.as_bytes().to_vec());
@@ -592,6 +613,9 @@ fn encodes_arcs() {
         for arc in [0, 128, u32::MAX] {
             let arcs = [&[2, 999][..], &[arc].repeat(len)].concat();
             each_capacity!(read_arcs(&arcs));
+            for end in ["", ".x", ".", "..1"] {
+                each_capacity!(read_text(&(model::text(&arcs) + end)));
+            }
         }
     }
 }

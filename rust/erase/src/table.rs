@@ -146,6 +146,10 @@ pub const CRATES: &[Crate] = &[
                 => "crate::edge::copy(first, out); crate::edge::copy(rest, &mut out[first.len()..]);", UNWRITTEN;
             "arcs": "out[index] = arc;" => "out[index].write(arc);", UNWRITTEN;
             "texts": "oid.encode_text(out)" => "crate::edge::encode(oid, out)", UNWRITTEN;
+            "texts": "ObjectIdentifierRef::bytes_from_ascii(text, out)"
+                => "crate::edge::bytes_from_ascii(text, out)", UNWRITTEN;
+            "arcs": "ObjectIdentifierRef::bytes_from_arcs(arcs, out)"
+                => "crate::edge::bytes_from_arcs(arcs, out)", UNWRITTEN;
             "errors": "error.encode_text(out)" => "crate::edge::encode_error(error, out)", UNWRITTEN;
         },
     },

@@ -3,11 +3,27 @@
 use std::process::Command;
 
 /// Modules, or functions of a module, that the crate lacks.
-const MISSING: [(&str, &str); 6] = [
+const MISSING: [(&str, &str); 10] = [
     ("db_ref", "in Rust a constant holds a `Database`"),
     ("laws", "its functions have contracts, and no effect"),
     ("oid::try_from_ref", "`TryFrom`"),
     ("oid_ref::eq_oid", "`==`"),
+    (
+        "oid_ref::bytes_from_arcs",
+        "`from_arcs_in`; the library for C calls it",
+    ),
+    (
+        "oid_ref::bytes_from_ascii",
+        "`from_ascii_in`; the library for C calls it",
+    ),
+    (
+        "oid_ref::bytes_len_from_arcs",
+        "`from_arcs_in`; the library for C calls it",
+    ),
+    (
+        "oid_ref::bytes_len_from_ascii",
+        "`from_ascii_in`; the library for C calls it",
+    ),
     (
         "oid_ref::text_from_bytes",
         "`from_bytes` and `encode_text`; the library for C calls it",
@@ -18,7 +34,7 @@ const MISSING: [(&str, &str); 6] = [
 const ONE_FORM: &str = "in C an identifier is its octets";
 
 /// Modules, or functions, and the function for C with the same result, or why there is none.
-const IN_C: [(&str, &str); 36] = [
+const IN_C: [(&str, &str); 42] = [
     ("buffer", ONE_FORM),
     ("db", "a table in C is the caller's"),
     ("db_ref", "a table in C is the caller's"),
@@ -30,13 +46,19 @@ const IN_C: [(&str, &str); 36] = [
     ("arcs", "const_oid_arcs"),
     ("as_bytes", ONE_FORM),
     ("as_oid_ref", ONE_FORM),
+    ("bytes_from_arcs", "const_oid_from_arcs"),
+    ("bytes_from_ascii", "const_oid_from_text"),
+    ("bytes_len_from_arcs", "const_oid_from_arcs"),
+    ("bytes_len_from_ascii", "const_oid_from_text"),
     ("cmp_arcs", "const_oid_cmp_arcs"),
     ("encode_str", "const_oid_to_text"),
     ("encode_text", "const_oid_to_text"),
     ("eq_oid", "const_oid_eq"),
     ("from_arcs", "const_oid_from_arcs"),
+    ("from_arcs_in", "const_oid_from_arcs"),
     ("from_arcs_sized", "const_oid_from_arcs"),
     ("from_ascii", "const_oid_from_text"),
+    ("from_ascii_in", "const_oid_from_text"),
     ("from_bytes", "const_oid_check"),
     ("from_bytes_sized", "const_oid_check"),
     ("len", "const_oid_len"),

@@ -1,10 +1,10 @@
 -- What an encoder holds between two arcs, and its buffer.
-use Rattle.std.specs.Prelude.{◌≡◌, ℕ, ◌≤◌, List, [], ◌∷◌, Option, Some, None, Result, IfOk}
+use Rattle.std.specs.Prelude.{◌≡◌, ℕ, ◌+◌, ◌*◌, ◌≤◌, List, [], ◌∷◌, drop, Option, Some, None, Result, IfOk}
 use Rattle.std.specs.Result.{result_map_both}
 use Rattle.const_oid.specs.declared.buffer.Buffer.{Buffer}
 use Rattle.const_oid.specs.declared.error.Error.{Error}
 use Rattle.const_oid.specs.Buffer.{octets_of}
-use Rattle.const_oid.specs.Identifier.{RootRule, root_rule, IsEncoding}
+use Rattle.const_oid.specs.Identifier.{RootRule, root_rule, max_second, IsEncoding}
 use Rattle.const_oid.specs.Contents.{arcs_of_octets}
 
 -- the arcs given, by the first one and the octets in use
@@ -26,3 +26,12 @@ buffer_answer result = result_map_both (λ buffer. arcs_of_octets (octets_of buf
 -- what it returns is the encoding of its arcs
 abbrev pub HasEncoding : {SIZE : ℕ} → Result (Buffer SIZE) Error → Type 0
 HasEncoding result = IfOk result (λ buffer. IsEncoding root_rule (arcs_of_octets (octets_of buffer)) (octets_of buffer))
+
+-- the arcs begin with two that are in range, whose subidentifier is the number
+pub record IsFirstNumber (arcs : List ℕ) (root : ℕ) : Type 0 where
+  pub first : ℕ
+  pub second : ℕ
+  pub are : arcs ≡ first ∷ second ∷ drop 2 arcs
+  pub low : first ≤ 2
+  pub high : second ≤ max_second root_rule first
+  pub number : root ≡ 40 * first + second

@@ -1,12 +1,12 @@
 -- Octets as they are read and written, one subidentifier after another.
-use Rattle.std.specs.Prelude.{◌≡◌, ℕ, ◌+◌, ◌<◌, ◌≤◌, List, [], ◌∷◌, ◌++◌, length, map, Option, None, Result, MatchResult}
+use Rattle.std.specs.Prelude.{◌≡◌, ℕ, ◌+◌, ◌<◌, ◌≤◌, List, [], ◌∷◌, ◌++◌, length, map, take, drop, Option, None, Result, Ok, MatchResult}
 use Rattle.std.specs.Option.{option_or}
 use Rattle.const_oid.specs.declared.error.Error.{Error}
 use Rattle.const_oid.specs.declared.error.Error.TheVariants.{Length}
 use Rattle.const_oid.specs.declared.arcs.Next.{Next}
 use Rattle.const_oid.specs.declared.arcs.Next.TheVariants.{First, Second, Later}
 use Rattle.const_oid.specs.Base128.{IsGroup, value_of, width}
-use Rattle.const_oid.specs.Identifier.{root_rule}
+use Rattle.const_oid.specs.Identifier.{root_rule, IsEncoding}
 use Rattle.const_oid.specs.Contents.{cut, part_fault, later_fault, parts_fault, arcs_of_octets}
 
 -- the arcs that an iterator has left, by what comes next of the octets
@@ -40,3 +40,25 @@ abbrev pub IsAppended : {X : Type 0} → ℕ → ℕ → List ℕ → List ℕ �
 IsAppended capacity number octets longer result = MatchResult result
     (λ _. (length octets + width number ≤ capacity) × GoesOn number octets longer)
     (λ fault. (fault ≡ Length) × (capacity < length octets + width number) × (longer ≡ octets))
+
+-- the first octets of a slice, so many, go on by the subidentifier of a number if it fits a capacity that the slice has;
+-- the result is how many there are then, or `Length` if it does not fit
+abbrev pub AppendsTo : ℕ → ℕ → ℕ → List ℕ → List ℕ → Result ℕ Error → Type 0
+AppendsTo capacity number used out longer result = MatchResult result
+    (λ end. (end ≡ used + width number) × (end ≤ capacity)
+    × (capacity ≤ length out → (group : List ℕ) × IsGroup number group × (longer ≡ take used out ++ (group ++ drop end out))))
+    (λ fault. (fault ≡ Length) × (capacity < used + width number))
+
+-- a slice that has the capacity begins with the octets, and is as before after them
+abbrev pub BeginsBy : ℕ → List ℕ → List ℕ → List ℕ → Type 0
+BeginsBy capacity octets old new = capacity ≤ length old → new ≡ octets ++ drop (length octets) old
+
+-- a length is that of the encoding of the arcs of an answer, which fits a capacity, and with which a slice of that
+-- capacity begins
+pub record IsEncodedIn (capacity : ℕ) (read : Result (List ℕ) Error) (old new : List ℕ) (len : ℕ) : Type 0 where
+  pub octets : List ℕ
+  pub encoding : IsEncoding root_rule (arcs_of_octets octets) octets
+  pub answer : read ≡ Ok (arcs_of_octets octets)
+  pub long : len ≡ length octets
+  pub within : len ≤ capacity
+  pub begins : BeginsBy capacity octets old new

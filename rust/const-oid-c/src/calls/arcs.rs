@@ -46,10 +46,22 @@ pub fn const_oid_from_arcs(arcs: &[u32], out: &mut crate::edge::Output<u8>) -> S
     write_octets(small, out)
 }
 
-/// Writes at most `MAX_OCTETS` contents octets of arcs.
+/// Writes the contents octets of arcs, or reports why there are none.
 #[inline(never)]
 fn write_large(arcs: &[u32], out: &mut crate::edge::Output<u8>) -> Status {
-    write_octets(encoded::<MAX_OCTETS>(arcs), out)
+    let oid = encoded::<MAX_OCTETS>(arcs);
+    if is_too_long(&oid) && out.len() > MAX_OCTETS {
+        return write_longer(arcs, out);
+    }
+    write_octets(oid, out)
+}
+
+/// Writes the contents octets of arcs, as many as the output has.
+fn write_longer(arcs: &[u32], out: &mut crate::edge::Output<u8>) -> Status {
+    match crate::edge::bytes_from_arcs(arcs, out) {
+        Ok(len) => len_status(len),
+        Err(fault) => error_status(fault),
+    }
 }
 
 /// The identifier that has these arcs.

@@ -3,7 +3,7 @@
 //! Dotted text.
 
 use crate::calls::output::{write_bytes, write_octets};
-use crate::calls::owned::MAX_OCTETS;
+use crate::calls::owned::{MAX_OCTETS, is_too_long};
 use crate::calls::status::{
     NOT_UTF8, Status, code_status, error_status, len_status, too_short_status,
 };
@@ -19,8 +19,8 @@ pub fn const_oid_from_text(text: &[u8], out: &mut crate::edge::Output<u8>) -> St
     }
 }
 
-/// Writes the contents octets of the identifier that dotted text denotes, of at most `MAX_OCTETS` octets, or reports
-/// why there is none. The fault is that of the text at the usual capacity.
+/// Writes the contents octets of the identifier that dotted text denotes, or reports why there is none. The fault is that
+/// of the text at the usual capacity.
 #[cold]
 #[inline(never)]
 fn write_other(fault: Error, text: &[u8], out: &mut crate::edge::Output<u8>) -> Status {
@@ -28,10 +28,27 @@ fn write_other(fault: Error, text: &[u8], out: &mut crate::edge::Output<u8>) -> 
     if str::from_utf8(text).is_err() {
         return code_status(NOT_UTF8);
     }
-    // At the greater capacity, only `Length` can become another result.
+    // At a greater capacity, only `Length` can become another result.
     match fault {
-        Error::Length => write_octets(ObjectIdentifier::<MAX_OCTETS>::from_ascii(text), out),
+        Error::Length => write_large(text, out),
         other => error_status(other),
+    }
+}
+
+/// Writes the contents octets of the identifier that a text denotes, or reports why there are none.
+fn write_large(text: &[u8], out: &mut crate::edge::Output<u8>) -> Status {
+    let oid = ObjectIdentifier::<MAX_OCTETS>::from_ascii(text);
+    if is_too_long(&oid) && out.len() > MAX_OCTETS {
+        return write_longer(text, out);
+    }
+    write_octets(oid, out)
+}
+
+/// Writes the contents octets of the identifier that dotted text denotes, as many as the output has.
+fn write_longer(text: &[u8], out: &mut crate::edge::Output<u8>) -> Status {
+    match crate::edge::bytes_from_ascii(text, out) {
+        Ok(len) => len_status(len),
+        Err(fault) => error_status(fault),
     }
 }
 

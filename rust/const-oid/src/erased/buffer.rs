@@ -46,6 +46,16 @@ impl<const SIZE: usize> Buffer<SIZE> {
         buffer
     }
 
+    /// The first octets of an array, whose others are zero.
+    #[inline(always)]
+    pub(crate) const fn begun(bytes: [u8; SIZE], used: usize) -> Self {
+        Buffer {
+            bytes,
+            used: used as u8,
+            aligned: [],
+        }
+    }
+
     /// What a function returned at 255 octets, in a longer array. Such an array holds no more octets, and could be too
     /// large for the memory where it is filled.
     #[inline(always)]
@@ -59,56 +69,14 @@ impl<const SIZE: usize> Buffer<SIZE> {
     /// Appends the subidentifier of a number, or returns `Length` if it does not fit.
     #[inline(always)]
     pub(crate) const fn push_group(&mut self, number: u64) -> Result<()> {
-        // There are no calls here, since each costs the compiler in a constant.
-        let start = self.used as usize;
-        if number < 0x80 {
-            if start + 1 > SIZE || start + 1 > 255 {
-                return Err(Error::Length);
-            }
-            self.bytes[start] = number as u8;
-            self.used = (start + 1) as u8;
-            return Ok(());
+        // With a literal length, a subidentifier is written without a loop.
+        match group_len(number) {
+            1 => self.push_number_of_len(number, 1),
+            2 => self.push_number_of_len(number, 2),
+            3 => self.push_number_of_len(number, 3),
+            4 => self.push_number_of_len(number, 4),
+            longer => self.push_number_of_len(number, longer),
         }
-        if number < 0x4000 {
-            if start + 2 > SIZE || start + 2 > 255 {
-                return Err(Error::Length);
-            }
-            self.bytes[start] = 128 + ((number >> 7) % 128) as u8;
-            self.bytes[start + 1] = (number % 128) as u8;
-            self.used = (start + 2) as u8;
-            return Ok(());
-        }
-        if number < 0x20_0000 {
-            if start + 3 > SIZE || start + 3 > 255 {
-                return Err(Error::Length);
-            }
-            self.bytes[start] = 128 + ((number >> 14) % 128) as u8;
-            self.bytes[start + 1] = 128 + ((number >> 7) % 128) as u8;
-            self.bytes[start + 2] = (number % 128) as u8;
-            self.used = (start + 3) as u8;
-            return Ok(());
-        }
-        if number < 0x1000_0000 {
-            if start + 4 > SIZE || start + 4 > 255 {
-                return Err(Error::Length);
-            }
-            self.bytes[start] = 128 + ((number >> 21) % 128) as u8;
-            self.bytes[start + 1] = 128 + ((number >> 14) % 128) as u8;
-            self.bytes[start + 2] = 128 + ((number >> 7) % 128) as u8;
-            self.bytes[start + 3] = (number % 128) as u8;
-            self.used = (start + 4) as u8;
-            return Ok(());
-        }
-        if start + 5 > SIZE || start + 5 > 255 {
-            return Err(Error::Length);
-        }
-        self.bytes[start] = 128 + ((number >> 28) % 128) as u8;
-        self.bytes[start + 1] = 128 + ((number >> 21) % 128) as u8;
-        self.bytes[start + 2] = 128 + ((number >> 14) % 128) as u8;
-        self.bytes[start + 3] = 128 + ((number >> 7) % 128) as u8;
-        self.bytes[start + 4] = (number % 128) as u8;
-        self.used = (start + 5) as u8;
-        Ok(())
     }
 
     /// Appends the subidentifier of an arc, or returns `Length` if it does not fit. Short ones have paths of

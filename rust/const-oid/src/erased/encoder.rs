@@ -3,6 +3,7 @@
 //! Arcs, one after another, to octets.
 
 use crate::erased::Arc;
+use crate::erased::base128::append_group;
 use crate::erased::buffer::Buffer;
 use crate::erased::error::{Error, Result};
 use crate::erased::root::max_second;
@@ -72,4 +73,46 @@ fn encode_within<const SIZE: usize, I: IntoIterator<Item = Arc>>(arcs: I) -> Res
         encoder.arc(arc)?;
     }
     encoder.finish()
+}
+
+/// Writes the encoding of arcs to the start of a slice, if it fits a capacity, and returns its length. Into a slice that
+/// is shorter than the capacity nothing is written: the octets are counted alone.
+#[inline(never)]
+pub(crate) fn encode_to(arcs: &[Arc], out: &mut [u8], capacity: usize) -> Result<usize> {
+    let number = match first_number(arcs) {
+        Ok(number) => number,
+        Err(fault) => return Err(fault),
+    };
+    let mut used = match append_group(out, 0, number, capacity) {
+        Ok(used) => used,
+        Err(fault) => return Err(fault),
+    };
+    let mut index = 2;
+    while index < arcs.len() {
+        used = match append_group(out, used, arcs[index] as u64, capacity) {
+            Ok(used) => used,
+            Err(fault) => return Err(fault),
+        };
+        index += 1;
+    }
+    Ok(used)
+}
+
+/// The subidentifier of the first two arcs.
+fn first_number(arcs: &[Arc]) -> Result<u64> {
+    if arcs.is_empty() {
+        return Err(Error::Empty);
+    }
+    let first = arcs[0];
+    if first > 2 {
+        return Err(Error::ArcInvalid { arc: first });
+    }
+    if arcs.len() == 1 {
+        return Err(Error::Empty);
+    }
+    let second = arcs[1];
+    if second > max_second(first) {
+        return Err(Error::ArcInvalid { arc: second });
+    }
+    Ok(40 * first as u64 + second as u64)
 }

@@ -6,8 +6,10 @@ use crate::erased::Arc;
 use crate::erased::arcs::{Arcs, arc_at};
 use crate::erased::compare::{are_equal, begins_with, order, order_by_parts};
 use crate::erased::digits::{MAX_ARC_LEN, write_arc};
+use crate::erased::encoder::encode_to;
 use crate::erased::error::{Error, Result};
 use crate::erased::oid::ObjectIdentifier;
+use crate::erased::parser::parse_long;
 use crate::erased::parts::{count_parts, without_last_part};
 use crate::erased::text::{text_len, utf8, write_checked, write_text};
 use crate::erased::valid::check;
@@ -105,6 +107,65 @@ impl<'a> ObjectIdentifierRef<'a> {
             return None;
         }
         Some(write_checked(ber, out))
+    }
+
+    /// Counts the contents octets of the identifier that dotted text in ASCII denotes, of any length. They are no more
+    /// than the bytes of the text.
+    ///
+    /// # Errors
+    ///
+    /// Those of [`new`](ObjectIdentifier::new), with [`Error::Length`] if the arcs take more octets than `limit`.
+    pub fn bytes_len_from_ascii(text: &[u8], limit: usize) -> Result<usize> {
+        parse_long(text, &mut [], limit)
+    }
+
+    /// Parses dotted text in ASCII, of any length, and writes its contents octets to the start of `out`. Returns how many
+    /// there are, which are no more than the bytes of the text.
+    ///
+    /// # Errors
+    ///
+    /// Those of [`new`](ObjectIdentifier::new), with [`Error::Length`] if the arcs take more octets than `out` has. It is
+    /// then unchanged.
+    pub fn bytes_from_ascii(text: &[u8], out: &mut [u8]) -> Result<usize> {
+        let capacity = out.len();
+        // The octets are counted first, so that on an error none is written.
+        parse_long(text, &mut [], capacity)?;
+        parse_long(text, out, capacity)
+    }
+
+    /// Counts the contents octets of arcs, any number of them. They are at most five for each arc.
+    ///
+    /// # Errors
+    ///
+    /// Those of [`from_arcs`](ObjectIdentifier::from_arcs), with [`Error::Length`] if the arcs take more octets than
+    /// `limit`.
+    pub fn bytes_len_from_arcs(arcs: &[Arc], limit: usize) -> Result<usize> {
+        encode_to(arcs, &mut [], limit)
+    }
+
+    /// Encodes arcs, any number of them, and writes the contents octets to the start of `out`. Returns how many there
+    /// are, which are at most five for each arc.
+    ///
+    /// # Errors
+    ///
+    /// Those of [`from_arcs`](ObjectIdentifier::from_arcs), with [`Error::Length`] if the arcs take more octets than
+    /// `out` has. It is then unchanged.
+    pub fn bytes_from_arcs(arcs: &[Arc], out: &mut [u8]) -> Result<usize> {
+        let capacity = out.len();
+        encode_to(arcs, &mut [], capacity)?;
+        encode_to(arcs, out, capacity)
+    }
+
+    /// Parses dotted text as [`bytes_from_ascii`](Self::bytes_from_ascii) does, and borrows its octets.
+    pub fn from_ascii_in(text: &[u8], out: &'a mut [u8]) -> Result<Self> {
+        let len = Self::bytes_from_ascii(text, out)?;
+        Ok(ObjectIdentifierRef::from_checked(&out[..len]))
+    }
+
+    /// Encodes arcs as [`bytes_from_arcs`](Self::bytes_from_arcs) does, and borrows their octets.
+    pub fn from_arcs_in(arcs: &[Arc], out: &'a mut [u8]) -> Result<Self> {
+        let len = Self::bytes_from_arcs(arcs, out)?;
+        Ok(ObjectIdentifierRef::from_checked(&out[..len]))
     }
 
     /// Whether an owned identifier, of any capacity, has the same octets, and so the same arcs.

@@ -6,6 +6,7 @@
 //! function that is rarely called makes the error of it. So a valid text costs fewer instructions (docs/SPEED.md).
 
 use crate::erased::Arc;
+use crate::erased::base128::append_group;
 use crate::erased::buffer::Buffer;
 use crate::erased::error::{Error, Result};
 use crate::erased::root::max_second;
@@ -23,26 +24,45 @@ pub(crate) const fn parse<const SIZE: usize>(text: &[u8]) -> Result<Buffer<SIZE>
 /// The encoding as `parse` gives it, in an array that can all be in use.
 #[inline(always)]
 const fn parse_within<const SIZE: usize>(text: &[u8]) -> Result<Buffer<SIZE>> {
+    let mut bytes = [0; SIZE];
+    let capacity = if SIZE < 255 { SIZE } else { 255 };
+    match parse_to(text, &mut bytes, capacity) {
+        Ok(len) => Ok(Buffer::begun(bytes, len)),
+        Err(fault) => Err(fault),
+    }
+}
+
+/// `parse_to`, which is compiled once for all calls with octets of any length.
+#[inline(never)]
+pub(crate) fn parse_long(text: &[u8], out: &mut [u8], capacity: usize) -> Result<usize> {
+    parse_to(text, out, capacity)
+}
+
+/// Writes the encoding of the identifier that a text denotes to the start of a slice, if it fits a capacity, and returns
+/// its length. Into a slice that is shorter than the capacity nothing is written: the octets are counted alone.
+#[inline(always)]
+const fn parse_to(text: &[u8], out: &mut [u8], capacity: usize) -> Result<usize> {
     let (number, mut end) = match read_root(text) {
         Ok(root) => root,
         Err(fault) => return Err(fault),
     };
-    let mut octets = Buffer::empty();
-    if let Err(fault) = octets.push_group(number) {
-        return Err(or_trailing_dot(fault, text, end));
-    }
+    let mut used = match append_group(out, 0, number, capacity) {
+        Ok(used) => used,
+        Err(fault) => return Err(or_trailing_dot(fault, text, end)),
+    };
     while end < text.len() {
         let start = end + 1;
         let (arc, after) = match read_piece(text, start) {
             Ok(piece) => piece,
             Err(index) => return Err(piece_fault(text, start, index)),
         };
-        if let Err(fault) = octets.push_group(arc as u64) {
-            return Err(or_trailing_dot(fault, text, after));
-        }
+        used = match append_group(out, used, arc as u64, capacity) {
+            Ok(used) => used,
+            Err(fault) => return Err(or_trailing_dot(fault, text, after)),
+        };
         end = after;
     }
-    Ok(octets)
+    Ok(used)
 }
 
 /// The subidentifier of the first two arcs, and where the second component ends.

@@ -1,0 +1,188 @@
+-- Octets that are written to a slice, one subidentifier after another, or only counted.
+use Rattle.std.proofs.Common.{◌≡◌, ℕ, ◌+◌, ◌<◌, ◌≤◌, List, [], ◌∷◌, ◌++◌, length, take, drop, refl, sym, ap, ◌∙◌, arith, ⊎_elim}
+use Rattle.std.proofs.Common.{append_assoc, get_or, length-append, None, MatchResult, Result, Ok, Err}
+use Rattle.std.specs.{List.{AllByRecursion, concat}, Option.option_or, Prelude.IfOk}
+use Rattle.std.proofs.{Math.Seq.take-append_seam, lemmas.{Bool.cases_lt, Slice.drop-append-drop}}
+use Rattle.std.proofs.lemmas.List.{drop-replicate, drop_all, drop_more, take_all, take_more}
+use Rattle.const_oid.specs.Base128.{AreOctets, IsContinued, group_of, width}
+use Rattle.const_oid.specs.{declared.error.Error.Error, declared.error.Error.TheVariants.{ArcInvalid, Length}}
+use Rattle.const_oid.specs.{Contents.arcs_of_octets, Items.{item_answer, item_fault, items_fault}, Text.{bytes_answer, size_answer}}
+use Rattle.const_oid.specs.Identifier.{RootRule, root_rule, max_arc, subidentifiers, IsEncoding}
+use Rattle.const_oid.specs.Private.{Encoder.IsFirstNumber, Octets.{AppendsTo, BeginsBy, IsAppended, IsEncodedIn}}
+use Rattle.const_oid.proofs.{Faults.{none_from_below, some_from_above}, Groups.{group_is, length_is}, Items.few_none}
+use Rattle.const_oid.proofs.{Encodings.{arcs_of_encoding, encoding_back, groups_continued}, Lengths.length_is_size, Lists.all_append}
+use Rattle.const_oid.proofs.{Octets.octets_from_chain, Started.{Encodes, later_encodes, root_encodes}}
+
+-- the octets that a slice begins with go on by a group
+written_more : (octets group old new longer : List ℕ) (used end : ℕ) → used ≡ length octets → end ≡ used + length group
+    → new ≡ octets ++ drop (length octets) old → longer ≡ take used new ++ (group ++ drop end new)
+    → longer ≡ (octets ++ group) ++ drop (length (octets ++ group)) old
+written_more octets group old new longer used end long ends begins written =
+    let front : take used new ≡ octets = rw (long, begins) (take-append_seam octets (drop (length octets) old)) in
+    let back : drop end new ≡ drop end old = rw begins (drop-append-drop (length octets) old octets end (omega arith) refl) in
+    let all : end ≡ length (octets ++ group) = omega (arith, length-append octets group) in
+    written ∙ rw (front, back, all) (sym (append_assoc octets group _))
+
+-- what the octets become
+pub record IsLonger (capacity number : ℕ) (octets old longer : List ℕ) (result : Result ℕ Error) : Type 0 where
+  pub more : List ℕ
+  pub appended : IsAppended capacity number octets more result
+  pub long : IfOk result (λ end. (end ≡ length more) × (end ≤ capacity))
+  pub begins : IfOk result (λ end. BeginsBy capacity more old longer)
+
+pub longer_by : {capacity number used : ℕ} {octets old new : List ℕ} (longer : List ℕ) → used ≡ length octets
+    → length new ≡ length old → BeginsBy capacity octets old new → (result : Result ℕ Error)
+    → AppendsTo capacity number used new longer result → IsLonger capacity number octets old longer result
+longer_by {capacity} {number} {used} {octets} {old} {new} longer long same begins (Ok end) (ends, fits, written) =
+    ⊎_elim
+    (λ (short : length old < capacity).
+    let is = length_is (group_is number) in
+    record {
+      more = octets ++ group_of number;
+      appended = (omega (arith, long, ends, fits), (group_of number, group_is number, refl));
+      long = (grind (arith, length-append), fits);
+      begins = λ room. absurd (omega arith);
+    })
+    (λ (room : capacity ≤ length old).
+    let (group, is_group, on) = written (omega arith) in
+    let is = length_is is_group in
+    record {
+      more = octets ++ group;
+      appended = (omega (arith, long, ends, fits), (group, is_group, refl));
+      long = (grind (arith, length-append), fits);
+      begins = λ room. written_more octets group old new longer used end long (omega arith) (begins room) on;
+    })
+    (cases_lt (length old) capacity)
+longer_by {octets} longer long same begins (Err fault) (is, over) = record {
+  more = octets;
+  appended = (is, omega arith, refl);
+  long = tt;
+  begins = tt;
+}
+
+-- ---- what is in the slice at the end
+
+-- its first octets are the encoding, and those after them are as before
+pub record IsTaken (read : Result (List ℕ) Error) (old new : List ℕ) (len : ℕ) : Type 0 where
+  pub encoding : IsEncoding root_rule (arcs_of_octets (take len new)) (take len new)
+  pub octets : AreOctets (take len new)
+  pub answer : read ≡ Ok (arcs_of_octets (take len new))
+  pub rest : drop len new ≡ drop len old
+
+groups_octets : (groups : List (List ℕ)) → AllByRecursion IsContinued groups → AreOctets (concat groups)
+groups_octets [] are = tt
+groups_octets (group ∷ groups) are =
+    all_append (λ x. x < 256) group (concat groups) (octets_from_chain group are.0) (groups_octets groups are.1)
+
+encoding_octets : {rule : RootRule} {arcs octets : List ℕ} → IsEncoding rule arcs octets → AreOctets octets
+encoding_octets {arcs} encoding =
+    rw encoding.joined (groups_octets encoding.groups (groups_continued (subidentifiers arcs) encoding.groups encoding.each))
+
+pub taken : {capacity len : ℕ} {read : Result (List ℕ) Error} {old new : List ℕ}
+    → IsEncodedIn capacity read old new len → capacity ≤ length old → IsTaken read old new len
+taken {len} {old} {new} is room =
+    let begins = is.begins room in
+    let front : take len new ≡ is.octets = rw (is.long, begins) (take-append_seam is.octets (drop (length is.octets) old)) in
+    record {
+      encoding = rw front is.encoding;
+      octets = rw front (encoding_octets is.encoding);
+      answer = rw front is.answer;
+      rest = rw begins (drop-append-drop (length is.octets) old is.octets len (omega (arith, is.long)) refl);
+    }
+
+pub ruleset buffered = (taken, drop-replicate)
+
+-- what the length says that a function returns
+pub record IsReturned (read : Result (List ℕ) Error) (old new : List ℕ) (result : Result ℕ Error) : Type 0 where
+  pub answer : bytes_answer new result ≡ read
+  pub encoding : IfOk result (λ len. IsEncoding root_rule (arcs_of_octets (take len new)) (take len new))
+  pub rest : IfOk result (λ len. (len ≤ length old) × (drop len new ≡ drop len old))
+
+pub returned : {capacity : ℕ} {read : Result (List ℕ) Error} {old new : List ℕ} (result : Result ℕ Error)
+    → MatchResult result (λ len. IsEncodedIn capacity read old new len) (λ fault. read ≡ Err fault)
+    → capacity ≤ length old → IsReturned read old new result
+returned (Ok len) is room =
+    let end = taken is room in
+    record { answer = sym end.answer; encoding = end.encoding; rest = (omega (arith, is.within), end.rest) }
+returned (Err fault) is room = record { answer = sym is; encoding = tt; rest = tt }
+
+pub counted : (capacity : ℕ) (read : Result (List ℕ) Error) (old new : List ℕ) (result : Result ℕ Error)
+    → MatchResult result (λ len. IsEncodedIn capacity read old new len) (λ fault. read ≡ Err fault)
+    → result ≡ size_answer read
+counted capacity read old new (Ok len) is = rw is.answer (ap Ok (is.long ∙ length_is_size is.encoding))
+counted capacity read old new (Err fault) is = rw is refl
+
+-- ---- arcs so far
+
+-- the first octets are the encoding of the arcs given, of which none has a fault, and others are to come
+pub record IsGivenTo (capacity : ℕ) (arcs old new : List ℕ) (used : ℕ) (given later : List ℕ) : Type 0 where
+  pub octets : List ℕ
+  pub encoding : IsEncoding root_rule given octets
+  pub fault : item_fault root_rule arcs capacity ≡ items_fault root_rule capacity given later
+  pub long : used ≡ length octets
+  pub fits : used ≤ capacity
+  pub begins : BeginsBy capacity octets old new
+
+-- what becomes of it by an arc, whose group is appended or does not fit
+abbrev pub GivenBy : ℕ → List ℕ → List ℕ → List ℕ → List ℕ → List ℕ → Result ℕ Error → Type 0
+GivenBy capacity arcs old new given later result = MatchResult result
+    (λ used. IsGivenTo capacity arcs old new used given later) (λ fault. item_answer root_rule arcs capacity ≡ Err fault)
+
+module _ (capacity : ℕ) (arcs old : List ℕ) where
+  given_by : {arc number : ℕ} {octets given new : List ℕ} (later : List ℕ) → Encodes root_rule octets given arc number
+      → item_fault root_rule arcs capacity ≡ items_fault root_rule capacity given (arc ∷ later)
+      → (result : Result ℕ Error) → IsLonger capacity number octets old new result
+      → GivenBy capacity arcs old new (given ++ arc ∷ []) later result
+  given_by {number} {octets} later encodes fault (Ok used) longer =
+      let none = encodes.fault capacity ∙ none_from_below capacity (length octets + width number) Length longer.appended.0 in
+      record {
+        octets = longer.more;
+        encoding = encodes.step longer.more longer.appended.1;
+        fault = fault ∙ rw none refl;
+        long = longer.long.0;
+        fits = longer.long.1;
+        begins = longer.begins;
+      }
+  given_by {number} {octets} later encodes fault (Err error) longer =
+      let some = encodes.fault capacity ∙ some_from_above capacity (length octets + width number) Length longer.appended.1 in
+      rw (fault, some, longer.appended.0) refl
+
+  pub root_given : {number : ℕ} (longer : List ℕ) → IsFirstNumber arcs number → (result : Result ℕ Error)
+      → AppendsTo capacity number 0 old longer result
+      → GivenBy capacity arcs old longer (take 2 arcs) (drop 2 arcs) result
+  root_given {number} longer root result appends =
+      let encodes = rw (← root.number) at (root_encodes root_rule root.first root.second root.low root.high) in
+      let more = longer_by {number = number} {octets = []} {old = old} longer refl refl (λ room. refl) result appends in
+      let low = none_from_below 2 root.first (ArcInvalid root.first) root.low in
+      let front : take 2 arcs ≡ root.first ∷ root.second ∷ [] = ap (take 2) root.are in
+      let fault = ap (λ items. items_fault root_rule capacity [] items) root.are ∙ ap (λ fault. option_or fault (items_fault root_rule capacity (root.first ∷ []) (root.second ∷ drop 2 arcs))) low in
+      rw front (given_by (drop 2 arcs) encodes fault result more)
+
+  pub later_given : {new : List ℕ} {used index : ℕ} (longer : List ℕ)
+      → IsGivenTo capacity arcs old new used (take index arcs) (drop index arcs) → length new ≡ length old
+      → index < length arcs → get_or arcs index 0 ≤ max_arc → (result : Result ℕ Error)
+      → AppendsTo capacity (get_or arcs index 0) used new longer result
+      → GivenBy capacity arcs old longer (take (index + 1) arcs) (drop (index + 1) arcs) result
+  later_given {index} longer given same less small result appends =
+      let arc = get_or arcs index 0 in
+      let encodes = later_encodes root_rule given.octets (take index arcs) arc given.encoding small in
+      let more = longer_by {number = arc} longer given.long same given.begins result appends in
+      let fault = ap (λ items. items_fault root_rule capacity (take index arcs) items) (drop_more arcs index 0 less) in
+      rw (take_more arcs index 0 less)
+      (given_by (drop (index + 1) arcs) encodes (given.fault ∙ fault) result more)
+
+  pub all_given : {new : List ℕ} {used index : ℕ}
+      → IsGivenTo capacity arcs old new used (take index arcs) (drop index arcs) → length arcs ≤ index
+      → IsEncodedIn capacity (item_answer root_rule arcs capacity) old new used
+  all_given {index} given last =
+      let encoding = rw (take_all index arcs last) at given.encoding in
+      let none : item_fault root_rule arcs capacity ≡ None =
+      given.fault ∙ rw (drop_all index arcs last, take_all index arcs last) (few_none root_rule arcs encoding.identifier) in
+      record {
+        octets = given.octets;
+        encoding = encoding_back encoding;
+        answer = rw (none, arcs_of_encoding encoding) refl;
+        long = given.long;
+        within = given.fits;
+        begins = given.begins;
+      }
