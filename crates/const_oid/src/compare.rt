@@ -192,6 +192,7 @@ fn word(octets: &[u8], at: usize) -> u64
 /// At the first octet that differs, both subidentifiers began at the same index. So the one with more octets left is
 /// the longer one, and an octet that ends its subidentifier decides.
 #[tactic(auto, using(crate::proofs::ByParts::ended_parts))]
+#[inline]
 pub(crate) fn order_by_parts(a: &[u8], b: &[u8]) -> Ordering
     ensures { result ≡ parts_cmp a.now b.now }
 {

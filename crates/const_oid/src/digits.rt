@@ -28,7 +28,9 @@ pub(crate) fn write_arc(arc: Arc, is_first: bool, out: &mut [u8], at: usize) -> 
     if is_first {
         return write_digits(arc, out, at);
     }
-    out[at] = b'.';
+    if at < out.len() {
+        out[at] = b'.';
+    }
     write_digits(arc, out, at + 1)
 }
 
@@ -81,7 +83,7 @@ fn write_digits(arc: Arc, out: &mut [u8], at: usize) -> usize
 
 /// Writes the digits of a number, of which there are no more than four. The fewest are the most frequent.
 #[tactic(auto, using(crate::proofs::Decimals::few_digits))]
-#[inline(always)]
+#[inline]
 fn write_few(number: u32, out: &mut [u8], at: usize) -> usize
     requires few { number < 10000 }
     requires room { at + length (decimal number) ≤ length out.old }
@@ -104,7 +106,7 @@ fn write_few(number: u32, out: &mut [u8], at: usize) -> usize
 
 /// Writes four digits, zeros first.
 #[tactic(auto, using(crate::proofs::Decimals::drop_more))]
-#[inline(always)]
+#[inline]
 fn write_four(number: u32, out: &mut [u8], at: usize) -> usize
     requires few { number < 10000 }
     requires room { at + 4 ≤ length out.old }
@@ -118,7 +120,7 @@ fn write_four(number: u32, out: &mut [u8], at: usize) -> usize
 
 /// Writes two digits, a zero first.
 #[tactic(auto, using(crate::proofs::PairTable::pairs_put))]
-#[inline(always)]
+#[inline]
 fn write_two(number: u32, out: &mut [u8], at: usize) -> usize
     requires few { number < 100 }
     requires room { at + 2 ≤ length out.old }
@@ -145,7 +147,9 @@ fn write_one(number: u32, out: &mut [u8], at: usize) -> usize
     ensures prefix { take result out.new ≡ take at out.old ++ (48 + number) ∷ [] }
     ensures after { drop result out.new ≡ drop result out.old }
 {
-    out[at] = b'0' + number as u8;
+    if at < out.len() {
+        out[at] = b'0' + number as u8;
+    }
     at + 1
 }
 

@@ -57,6 +57,7 @@ impl Error {
 
     /// The length in bytes of the text that `{}` writes.
     #[tactic(auto, using(crate::proofs::Messages::parts_long))]
+    #[inline]
     pub fn text_len(self) -> usize
         ensures len { result ≡ length (message_of self) }
         ensures short { result ≤ 47 }
@@ -86,6 +87,7 @@ impl Error {
 
     /// Writes the text as [`encode_text`](Self::encode_text) does, and borrows it as a `str`.
     #[tactic(auto, using(crate::proofs::Sets::bytes_put))]
+    #[inline]
     pub fn encode_str<'o>(self, out: &'o mut [u8]) -> Option<&'o str>
         ensures cases { ReturnsText (message_of self) out.old result }
         ensures enough { 47 ≤ length out.old → IsSome result }
@@ -95,6 +97,7 @@ impl Error {
     }
 
     /// The words before the number that the error carries, and those after it.
+    #[inline]
     pub(crate) const fn words(self) -> (&'static str, &'static str)
         ensures { message_of self ≡ result.0.now ++ (detail_text self ++ result.1.now) }
     {
@@ -112,6 +115,7 @@ impl Error {
     }
 
     /// How many bytes the number that the error carries takes in the text.
+    #[inline]
     fn detail_len(self) -> usize
         ensures len { result ≡ length (detail_text self) }
         ensures short { length (message_of self) ≤ 47 }

@@ -87,6 +87,7 @@ impl<'a> ObjectIdentifierRef<'a> {
     }
 
     /// The arc at an index, counted from 0, or `None` past the last one.
+    #[inline]
     pub fn arc(&self, index: usize) -> Option<Arc>
         ensures { result ≡ slice_get (ref_arcs self.now) index }
     {
@@ -101,6 +102,7 @@ impl<'a> ObjectIdentifierRef<'a> {
     }
 
     /// The number of arcs, two or more.
+    #[inline]
     pub fn len(&self) -> usize
         ensures { result ≡ length (ref_arcs self.now) }
     {
@@ -108,6 +110,7 @@ impl<'a> ObjectIdentifierRef<'a> {
     }
 
     /// The length in bytes of the text that `{}` writes, or `usize::MAX` if it is greater than that.
+    #[inline]
     pub fn text_len(&self) -> usize
         ensures { result ≡ min (length (text_of (ref_arcs self.now))) usize.MAX }
     {
@@ -116,6 +119,7 @@ impl<'a> ObjectIdentifierRef<'a> {
 
     /// Writes the text that `{}` writes to the start of `out`, and returns its length in bytes. Returns `None` if it is
     /// longer than `out`, which is then unchanged. Four bytes for each octet are always enough.
+    #[inline]
     pub fn encode_text(&self, out: &mut [u8]) -> Option<usize>
         ensures cases { ReturnsLength (text_of (ref_arcs self.now)) out.old result }
         ensures written { WritesText (text_of (ref_arcs self.now)) out.old out.new result }
@@ -130,6 +134,7 @@ impl<'a> ObjectIdentifierRef<'a> {
     }
 
     /// Writes the text as [`encode_text`](Self::encode_text) does, and borrows it as a `str`.
+    #[inline]
     pub fn encode_str<'o>(&self, out: &'o mut [u8]) -> Option<&'o str>
         ensures cases { ReturnsText (text_of (ref_arcs self.now)) out.old result }
         ensures enough { 4 * length (ref_octets self.now) ≤ length out.old → IsSome result }
@@ -246,6 +251,7 @@ impl<'a> ObjectIdentifierRef<'a> {
     }
 
     /// The parent: all arcs except the last. Its octets are a prefix of these. `None` if there are only two arcs.
+    #[inline]
     pub fn parent(&self) -> Option<ObjectIdentifierRef<'a>>
         ensures arcs { option_map ref_arcs result ≡ parent_of (ref_arcs self.now) }
         ensures prefix { IfSome result (λ oid. BeginsWith (ref_octets self.now) (ref_octets oid)) }
@@ -267,6 +273,7 @@ impl<'a> ObjectIdentifierRef<'a> {
     }
 
     /// Compares the arcs lexicographically, a prefix before what begins with it. SNMP orders names so (RFC 3416).
+    #[inline]
     pub fn cmp_arcs(&self, other: &ObjectIdentifierRef<'_>) -> Ordering
         ensures { result ≡ slice_cmp nat_cmp (ref_arcs self.now) (ref_arcs other.now) }
     {
@@ -278,6 +285,7 @@ impl<'a> ObjectIdentifierRef<'a> {
     /// one would be inserted.
     ///
     /// The list is sorted by `cmp`, and may hold an identifier more than once.
+    #[inline]
     pub fn subtree(&self, sorted: &[ObjectIdentifierRef<'_>]) -> (usize, usize)
         requires { IsSortedByKey ref_octets (slice_cmp nat_cmp) sorted.now }
         ensures bounds { (result.0 ≤ result.1) × (result.1 ≤ length sorted.now) }

@@ -9,6 +9,7 @@ use std::simd::prelude::*;
 use std::simd::u8x32;
 
 /// How many octets are below 128, counted 32 at a time.
+#[inline]
 pub(crate) fn count_parts(octets: &[u8]) -> usize
     ensures value { result ≡ count_by (λ x. nat_lt x 128) octets.now }
     ensures fits { result ≤ length octets.now }
@@ -51,6 +52,7 @@ pub(crate) fn skip_parts(octets: &[u8], parts: usize) -> &[u8]
 }
 
 /// The octets before the last subidentifier: up to the last octet below 128 that others follow.
+#[inline]
 pub(crate) fn without_last_part(octets: &[u8]) -> &[u8]
     ensures parts { let parts = cut octets.now in cut result.now ≡ take (length parts - 1) parts }
     ensures short { length result.now ≤ length octets.now }
@@ -65,6 +67,7 @@ pub(crate) fn without_last_part(octets: &[u8]) -> &[u8]
 }
 
 /// How many octets the first subidentifier has.
+#[inline]
 pub(crate) fn first_len(octets: &[u8]) -> usize
     ensures { result ≡ first_length (cut octets.now) }
 {

@@ -18,6 +18,7 @@ pub(crate) const fn max_second(first: Arc) -> Arc
 }
 
 /// The two arcs that the first subidentifier holds.
+#[inline]
 pub(crate) fn split_root(root: u64) -> (Arc, Arc)
     requires { root ≤ max_first root_rule }
     ensures arcs { (later : List ℕ) → arcs_from (root ∷ later) ≡ result.0 ∷ result.1 ∷ later }

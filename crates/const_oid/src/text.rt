@@ -18,6 +18,7 @@ use std::str;
 
 /// The length of the arcs' text in bytes, or `None` if it is over a limit.
 #[tactic(auto, using(crate::proofs::Sets::texts_left))]
+#[inline]
 pub(crate) fn text_len(arcs: Arcs<'_>, limit: usize) -> Option<usize>
     ensures { MatchOption result (limit < length (text_of arcs.entry))
         (λ len. (len ≡ length (text_of arcs.entry)) × (len ≤ limit)) }
@@ -37,6 +38,7 @@ pub(crate) fn text_len(arcs: Arcs<'_>, limit: usize) -> Option<usize>
 
 /// Writes the arcs' text at the start, and returns its length.
 #[tactic(auto, using(crate::proofs::Texts::root_within))]
+#[inline]
 pub(crate) fn write_text(arcs: Arcs<'_>, out: &mut [u8]) -> usize
     requires { length (text_of arcs) ≤ length out.old }
     ensures len { result ≡ length (text_of arcs.entry) }
@@ -137,6 +139,7 @@ fn write_root(arcs: &mut Arcs<'_>, out: &mut [u8]) -> usize
 
 /// Writes bytes at an index, and returns the index after them.
 #[tactic(auto, using(crate::proofs::Sets::bytes_put))]
+#[inline]
 pub(crate) fn write_bytes(bytes: &[u8], out: &mut [u8], at: usize) -> usize
     requires { at + length bytes.now ≤ length out.old }
     ensures end { result ≡ at + length bytes.now }
@@ -149,6 +152,7 @@ pub(crate) fn write_bytes(bytes: &[u8], out: &mut [u8], at: usize) -> usize
 }
 
 /// The text of bytes that are UTF-8.
+#[inline]
 pub(crate) fn utf8(bytes: &[u8]) -> &str
     requires { IsUtf8 bytes.now }
     ensures { result.now ≡ bytes.now }

@@ -134,8 +134,23 @@ macro_rules! sorted {
 
         /// The entries of [`SORTED`], as a `static`, as above.
         static IN_ORDER: [(&ObjectIdentifierRef, &str); [$($name,)*].len()] =
-            [$(($module::$constant.as_oid_ref(), $name),)*];
+            [$(({
+                const OID: ObjectIdentifier = $module::$constant;
+                const LEN: usize = OID.as_bytes().len();
+                ObjectIdentifierRef::from_checked(const { &exact::<LEN>(OID.as_bytes()) })
+            }, $name),)*];
     };
+}
+
+/// Octets in an array that has no others.
+const fn exact<const LEN: usize>(octets: &[u8]) -> [u8; LEN] {
+    let mut exact = [0; LEN];
+    let mut index = 0;
+    while index < LEN {
+        exact[index] = octets[index];
+        index += 1;
+    }
+    exact
 }
 
 include!("db/names.rs");

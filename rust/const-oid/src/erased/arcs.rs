@@ -65,32 +65,28 @@ impl Iterator for Arcs<'_> {
 
     #[inline]
     fn next(&mut self) -> Option<Arc> {
-        match self.next {
-            Next::First => {
-                let (root, later) = read_group(self.octets);
-                let (first, second) = split_root(root);
-                self.octets = later;
-                self.next = Next::Second(second);
-                Some(first)
-            }
-            Next::Second(arc) => {
-                self.next = Next::Later;
-                Some(arc)
-            }
-            Next::Later => {
-                let (arc, later) = match self.octets {
-                    [] => return None,
-                    octets => read_group(octets),
-                };
-                self.octets = later;
-                Some(arc as Arc)
-            }
+        if let Next::Second(arc) = self.next {
+            self.next = Next::Later;
+            return Some(arc);
         }
+        if self.octets.is_empty() {
+            return None;
+        }
+        // The first subidentifier and those after it are read at one place.
+        let (number, later) = read_group(self.octets);
+        self.octets = later;
+        if let Next::First = self.next {
+            let (first, second) = split_root(number);
+            self.next = Next::Second(second);
+            return Some(first);
+        }
+        Some(number as Arc)
     }
 }
 
 /// The arc at an index, counted from 0, of valid octets, or `None` past the last. The subidentifiers before its own are
 /// skipped, and not decoded.
+#[inline]
 pub(crate) fn arc_at(octets: &[u8], index: usize) -> Option<Arc> {
     if index < 2 {
         let (first, second) = split_root(read_group(octets).0);

@@ -145,6 +145,7 @@ const fn word(octets: &[u8], at: usize) -> u64 {
 ///
 /// At the first octet that differs, both subidentifiers began at the same index. So the one with more octets left is
 /// the longer one, and an octet that ends its subidentifier decides.
+#[inline]
 pub(crate) fn order_by_parts(a: &[u8], b: &[u8]) -> Ordering {
     let near = a.len().min(b.len());
     let i = same_until(a, b, same_start(a, b), near);

@@ -20,7 +20,9 @@ pub(crate) fn write_arc(arc: Arc, is_first: bool, out: &mut [u8], at: usize) -> 
     if is_first {
         return write_digits(arc, out, at);
     }
-    out[at] = b'.';
+    if at < out.len() {
+        out[at] = b'.';
+    }
     write_digits(arc, out, at + 1)
 }
 
@@ -62,7 +64,7 @@ fn write_digits(arc: Arc, out: &mut [u8], at: usize) -> usize {
 }
 
 /// Writes the digits of a number, of which there are no more than four. The fewest are the most frequent.
-#[inline(always)]
+#[inline]
 fn write_few(number: u32, out: &mut [u8], at: usize) -> usize {
     if number < 10 {
         return write_one(number, out, at);
@@ -78,14 +80,14 @@ fn write_few(number: u32, out: &mut [u8], at: usize) -> usize {
 }
 
 /// Writes four digits, zeros first.
-#[inline(always)]
+#[inline]
 fn write_four(number: u32, out: &mut [u8], at: usize) -> usize {
     let at = write_two(number / 100, out, at);
     write_two(number % 100, out, at)
 }
 
 /// Writes two digits, a zero first.
-#[inline(always)]
+#[inline]
 fn write_two(number: u32, out: &mut [u8], at: usize) -> usize {
     let pair = 2 * number as usize;
     let (tens, ones) = (PAIRS[pair], PAIRS[pair + 1]);
@@ -99,7 +101,9 @@ fn write_two(number: u32, out: &mut [u8], at: usize) -> usize {
 /// Writes a digit.
 #[inline(always)]
 fn write_one(number: u32, out: &mut [u8], at: usize) -> usize {
-    out[at] = b'0' + number as u8;
+    if at < out.len() {
+        out[at] = b'0' + number as u8;
+    }
     at + 1
 }
 

@@ -81,6 +81,7 @@ impl Error {
     /// ```
     /// assert_eq!(const_oid::Error::Length.text_len(), 18);
     /// ```
+    #[inline]
     pub fn text_len(self) -> usize {
         let (before, after) = self.words();
         before.len() + self.detail_len() + after.len()
@@ -116,12 +117,14 @@ impl Error {
     /// let text = const_oid::Error::Length.encode_str(&mut out);
     /// assert_eq!(text, Some("OID length invalid"));
     /// ```
+    #[inline]
     pub fn encode_str<'o>(self, out: &'o mut [u8]) -> Option<&'o str> {
         let len = self.encode_text(out)?;
         Some(utf8(&out[..len]))
     }
 
     /// The words before the number that the error carries, and those after it.
+    #[inline]
     pub(crate) const fn words(self) -> (&'static str, &'static str) {
         match self {
             Error::ArcInvalid { .. } => ("OID contains out-of-range arc: ", ""),
@@ -137,6 +140,7 @@ impl Error {
     }
 
     /// How many bytes the number that the error carries takes in the text.
+    #[inline]
     fn detail_len(self) -> usize {
         match self {
             Error::ArcInvalid { arc } => arc_len(arc, true),

@@ -61,6 +61,7 @@ impl<'a> ObjectIdentifierRef<'a> {
     }
 
     /// The arc at an index, counted from 0, or `None` past the last one.
+    #[inline]
     pub fn arc(&self, index: usize) -> Option<Arc> {
         arc_at(self.ber, index)
     }
@@ -71,17 +72,20 @@ impl<'a> ObjectIdentifierRef<'a> {
     }
 
     /// The number of arcs, two or more.
+    #[inline]
     pub fn len(&self) -> usize {
         count_parts(self.ber) + 1
     }
 
     /// The length in bytes of the text that `{}` writes, or `usize::MAX` if it is greater than that.
+    #[inline]
     pub fn text_len(&self) -> usize {
         text_len(self.arcs(), usize::MAX).unwrap_or(usize::MAX)
     }
 
     /// Writes the text that `{}` writes to the start of `out`, and returns its length in bytes. Returns `None` if it is
     /// longer than `out`, which is then unchanged. Four bytes for each octet are always enough.
+    #[inline]
     pub fn encode_text(&self, out: &mut [u8]) -> Option<usize> {
         // An octet takes four bytes of text at most.
         if self.ber.len() > out.len() / 4 {
@@ -91,6 +95,7 @@ impl<'a> ObjectIdentifierRef<'a> {
     }
 
     /// Writes the text as [`encode_text`](Self::encode_text) does, and borrows it as a `str`.
+    #[inline]
     pub fn encode_str<'o>(&self, out: &'o mut [u8]) -> Option<&'o str> {
         let len = self.encode_text(out)?;
         Some(utf8(&out[..len]))
@@ -174,6 +179,7 @@ impl<'a> ObjectIdentifierRef<'a> {
     }
 
     /// The parent: all arcs except the last. Its octets are a prefix of these. `None` if there are only two arcs.
+    #[inline]
     pub fn parent(&self) -> Option<ObjectIdentifierRef<'a>> {
         let prefix = without_last_part(self.ber);
         if prefix.is_empty() {
@@ -189,6 +195,7 @@ impl<'a> ObjectIdentifierRef<'a> {
     }
 
     /// Compares the arcs lexicographically, a prefix before what begins with it. SNMP orders names so (RFC 3416).
+    #[inline]
     pub fn cmp_arcs(&self, other: &ObjectIdentifierRef<'_>) -> Ordering {
         order_by_parts(self.ber, other.ber)
     }
@@ -198,6 +205,7 @@ impl<'a> ObjectIdentifierRef<'a> {
     /// one would be inserted.
     ///
     /// The list is sorted by `cmp`, and may hold an identifier more than once.
+    #[inline]
     pub fn subtree(&self, sorted: &[&crate::ObjectIdentifierRef]) -> (usize, usize) {
         let from = sorted.partition_point(|oid| order(oid.as_bytes(), self.ber).is_lt());
         let inside = sorted[from..].partition_point(|oid| oid.as_bytes().starts_with(self.ber));

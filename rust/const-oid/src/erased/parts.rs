@@ -4,6 +4,7 @@
 //! is left after the last octet below 128 is a part, too.
 
 /// How many octets are below 128, counted 32 at a time.
+#[inline]
 pub(crate) fn count_parts(octets: &[u8]) -> usize {
     let mut count = 0;
     let mut rest = octets;
@@ -35,6 +36,7 @@ pub(crate) fn skip_parts(octets: &[u8], parts: usize) -> &[u8] {
 }
 
 /// The octets before the last subidentifier: up to the last octet below 128 that others follow.
+#[inline]
 pub(crate) fn without_last_part(octets: &[u8]) -> &[u8] {
     let Some((_, prefix)) = octets.split_last() else {
         return octets;
@@ -46,6 +48,7 @@ pub(crate) fn without_last_part(octets: &[u8]) -> &[u8] {
 }
 
 /// How many octets the first subidentifier has.
+#[inline]
 pub(crate) fn first_len(octets: &[u8]) -> usize {
     for (i, octet) in octets.iter().enumerate() {
         if *octet < 128 {

@@ -14,6 +14,7 @@ pub(crate) const fn max_second(first: Arc) -> Arc {
 }
 
 /// The two arcs that the first subidentifier holds.
+#[inline]
 pub(crate) fn split_root(root: u64) -> (Arc, Arc) {
     if root < 80 {
         ((root / 40) as Arc, (root % 40) as Arc)

@@ -11,6 +11,7 @@ use crate::erased::root::{MAX_FIRST, split_root};
 use core::str;
 
 /// The length of the arcs' text in bytes, or `None` if it is over a limit.
+#[inline]
 pub(crate) fn text_len(arcs: Arcs<'_>, limit: usize) -> Option<usize> {
     let mut left = limit;
     let mut is_first = true;
@@ -26,6 +27,7 @@ pub(crate) fn text_len(arcs: Arcs<'_>, limit: usize) -> Option<usize> {
 }
 
 /// Writes the arcs' text at the start, and returns its length.
+#[inline]
 pub(crate) fn write_text(arcs: Arcs<'_>, out: &mut [u8]) -> usize {
     let mut left = arcs;
     let mut at = write_root(&mut left, out);
@@ -93,6 +95,7 @@ fn write_root(arcs: &mut Arcs<'_>, out: &mut [u8]) -> usize {
 }
 
 /// Writes bytes at an index, and returns the index after them.
+#[inline]
 pub(crate) fn write_bytes(bytes: &[u8], out: &mut [u8], at: usize) -> usize {
     let end = at + bytes.len();
     out[at..end].copy_from_slice(bytes);
@@ -100,6 +103,7 @@ pub(crate) fn write_bytes(bytes: &[u8], out: &mut [u8], at: usize) -> usize {
 }
 
 /// The text of bytes that are UTF-8.
+#[inline]
 pub(crate) fn utf8(bytes: &[u8]) -> &str {
     // SAFETY: each call is proved to pass UTF-8, so the bytes are not looked at again.
     unsafe { str::from_utf8_unchecked(bytes) }
