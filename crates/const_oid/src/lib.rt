@@ -4,6 +4,8 @@
 pub mod arcs;
 mod base128;
 pub mod buffer;
+// In Rust a key is generic over what holds an identifier.
+// erase: omit
 pub mod by_arcs;
 mod compare;
 pub mod db;
@@ -35,6 +37,7 @@ mod valid;
 
 pub use arcs::{Arc, Arcs};
 pub use buffer::Buffer;
+// erase: omit
 pub use by_arcs::ByArcs;
 pub use error::{Error, Result};
 pub use oid::{ObjectIdentifier, Oid};

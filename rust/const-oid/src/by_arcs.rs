@@ -1,6 +1,6 @@
 //! Keys in the order of arcs, over what holds or borrows an identifier.
 
-use crate::{ObjectIdentifierRef, erased};
+use crate::ObjectIdentifierRef;
 use core::borrow::Borrow;
 use core::cmp::Ordering;
 use core::fmt;
@@ -28,13 +28,6 @@ use core::hash::{Hash, Hasher};
 #[derive(Copy, Clone, Debug)]
 pub struct ByArcs<T>(pub T);
 
-impl<T: Borrow<ObjectIdentifierRef>> ByArcs<T> {
-    /// The generated key over the same octets.
-    fn erased(&self) -> erased::ByArcs<'_> {
-        erased::ByArcs(self.0.borrow())
-    }
-}
-
 impl<T> From<T> for ByArcs<T> {
     fn from(oid: T) -> Self {
         ByArcs(oid)
@@ -43,7 +36,7 @@ impl<T> From<T> for ByArcs<T> {
 
 impl<T: Borrow<ObjectIdentifierRef>> PartialEq for ByArcs<T> {
     fn eq(&self, other: &Self) -> bool {
-        self.erased() == other.erased()
+        self.0.borrow() == other.0.borrow()
     }
 }
 
@@ -58,7 +51,7 @@ impl<T: Borrow<ObjectIdentifierRef>> PartialOrd for ByArcs<T> {
 /// The arcs in lexicographic order, a prefix before what begins with it.
 impl<T: Borrow<ObjectIdentifierRef>> Ord for ByArcs<T> {
     fn cmp(&self, other: &Self) -> Ordering {
-        self.erased().cmp(&other.erased())
+        self.0.borrow().cmp_arcs(other.0.borrow())
     }
 }
 

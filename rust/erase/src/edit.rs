@@ -61,7 +61,7 @@ pub fn edited<'a>(
 ) -> Result<Vec<Token<'a>>> {
     let mut out = replaced(&source, "crate::", table.root)?.0;
     for (edit, total) in table.edits.iter().zip(counts) {
-        if edit.module.is_empty() || edit.module.split(',').any(|name| name == module) {
+        if edit.module.is_empty() || edit.module.trim_end_matches('*') == module {
             let count;
             (out, count) = replaced(&out, edit.old, edit.new)?;
             *total += count;
@@ -70,11 +70,11 @@ pub fn edited<'a>(
     Ok(out)
 }
 
-/// Rejects an edit that was not made, or that was made twice in its only module.
+/// Rejects an edit that was not made, or that was made twice where `old` occurs once.
 pub fn all_made(table: &Crate, counts: &[usize]) -> Result<()> {
     for (edit, count) in table.edits.iter().zip(counts) {
-        let is_of_one = !edit.module.is_empty() && !edit.module.contains(',');
-        if *count == 0 || (*count > 1 && is_of_one) {
+        let is_once = !edit.module.is_empty() && !edit.module.ends_with('*');
+        if *count == 0 || (*count > 1 && is_once) {
             let words = format!(
                 "the table has `{}` ({}), which is there {count} times",
                 edit.old, edit.why
@@ -122,7 +122,7 @@ mod tests {
             new: "b",
             why: "c",
         };
-        let edits: &'static [Edit] = Vec::leak(vec![edit(""), edit("m"), edit("l,m")]);
+        let edits: &'static [Edit] = Vec::leak(vec![edit(""), edit("m"), edit("m*")]);
         let table = Crate {
             from: "",
             to: "",

@@ -57,7 +57,7 @@ fn without_ghosts<'a>(tokens: &[Token<'a>]) -> Result<Tokens<'a>> {
             }
             text if mark(text) == Some(Mark::Omit) => {
                 let end = tokens[at..].iter().position(|token| token.text == ";");
-                leave_out(&mut out, end.map_or(tokens.len(), |end| at + end + 1))
+                leave_out(&mut out, end.map_or(tokens.len(), |end| at + end + 1)) + 1
             }
             text if mark(text) == Some(Mark::Const) => {
                 is_constant = true;

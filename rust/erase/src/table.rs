@@ -13,10 +13,9 @@ pub struct Crate {
     pub with_examples: &'static [&'static str],
 }
 
-/// An edit of a module, in which `old` occurs once, or of several modules or of all, where it occurs any
-/// number of times.
+/// An edit.
 pub struct Edit {
-    /// The module; or modules with a comma between them; or nothing, for all.
+    /// The module in which `old` occurs once; with `*` after it, any number of times; nothing is any number in all.
     pub module: &'static str,
     pub old: &'static str,
     pub new: &'static str,
@@ -61,11 +60,11 @@ pub const CRATES: &[Crate] = &[
             "lib": "pub mod db; mod db_sorted;"
                 => "#[cfg(feature = \"db\")] pub mod db; #[cfg(feature = \"db\")] mod db_sorted;",
                 "they are of a feature";
-            "by_arcs,db_sorted": "use crate::erased::oid_ref::ObjectIdentifierRef;"
+            "db_sorted*": "use crate::erased::oid_ref::ObjectIdentifierRef;"
                 => "use crate::ObjectIdentifierRef;", LENT;
-            "by_arcs,db_sorted": "&ObjectIdentifierRef<'_>" => "&ObjectIdentifierRef", LENT;
-            "by_arcs,db_sorted": "ObjectIdentifierRef<'_>" => "&ObjectIdentifierRef", LENT;
-            "by_arcs,db_sorted": "ObjectIdentifierRef<'a>" => "&'a ObjectIdentifierRef", LENT;
+            "db_sorted*": "&ObjectIdentifierRef<'_>" => "&ObjectIdentifierRef", LENT;
+            "db_sorted*": "ObjectIdentifierRef<'_>" => "&ObjectIdentifierRef", LENT;
+            "db_sorted*": "ObjectIdentifierRef<'a>" => "&'a ObjectIdentifierRef", LENT;
             "arcs": "pub struct Arcs<'a>"
                 => "#[derive(Clone)]\npub struct Arcs<'a>",
                 "in Rattle a copy may fail, so a caller asks for the arcs again";
@@ -89,9 +88,9 @@ pub const CRATES: &[Crate] = &[
                 BOUNDS;
             "db": "entries: &'a [(&'a Oid, &'a str)]," => "pub(crate) entries: &'a [(&'a Oid, &'a str)],", LISTED;
             "db_sorted": "entries: &'a [Entry<'a>]," => "pub(crate) entries: &'a [Entry<'a>],", LISTED;
-            "db,db_ref": "Oid" => "ObjectIdentifier", "the crate has one name for the type";
+            "db*": "Oid" => "ObjectIdentifier", "the crate has one name for the type";
             "db_sorted": "(self.entries, &oid)" => "(self.entries, &oid.erased())", LENT;
-            "by_arcs,db_sorted": "(self.entries, oid)" => "(self.entries, &oid.erased())", LENT;
+            "db_sorted*": "(self.entries, oid)" => "(self.entries, &oid.erased())", LENT;
             "parts": "use core::simd::prelude::*; use core::simd::u8x32;" => "", LANES;
             "parts": "let lanes = u8x32::from_slice(octets).simd_lt(u8x32::splat(128));
                         lanes.to_bitmask().count_ones() as usize"

@@ -3,7 +3,6 @@
 //! Names of identifiers, by a table that the caller holds.
 
 use crate::erased::compare::is_same_name;
-
 pub use crate::erased::db_sorted::SortedDatabase;
 use crate::erased::error::Result;
 use crate::erased::oid::ObjectIdentifier;

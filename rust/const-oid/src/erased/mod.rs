@@ -5,7 +5,6 @@
 pub mod arcs;
 mod base128;
 pub mod buffer;
-pub mod by_arcs;
 mod compare;
 #[cfg(feature = "db")]
 pub mod db;
@@ -14,7 +13,6 @@ mod db_sorted;
 mod digits;
 mod encoder;
 pub mod error;
-
 pub mod oid;
 pub mod oid_ref;
 mod parser;
@@ -22,14 +20,11 @@ mod parts;
 mod root;
 // Its functions are for the other crates: Rust hides them.
 pub mod search;
-
 mod text;
-
 mod valid;
 
 pub use arcs::{Arc, Arcs};
 pub use buffer::Buffer;
-pub use by_arcs::ByArcs;
 pub use error::{Error, Result};
 pub use oid::{ObjectIdentifier, Oid};
 pub use oid_ref::ObjectIdentifierRef;
