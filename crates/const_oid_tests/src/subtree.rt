@@ -46,6 +46,18 @@ fn finds_ranges(rt: HostRuntime) -> Result<(), Fail> {
     Ok(())
 }
 
+/// The rows of the first ten identifiers of the list, over these ten alone.
+#[test]
+fn finds_ranges_in_ten(rt: HostRuntime) -> Result<(), Fail> {
+    for (_, prefix, range) in &ROWS[..4] {
+        assert!(rt;
+            range_of(rt.alloc(), &ASCENDING[..10], prefix)? == *range,
+            "{prefix:?}: {range:?}"
+        );
+    }
+    Ok(())
+}
+
 /// Whether the identifiers that begin with 1.2 are at the indices 1 to 7.
 fn are_adjacent(oids: &BTreeSet<ObjectIdentifierRef<'_>>) -> bool {
     for (index, oid) in oids.iter().enumerate() {
@@ -54,16 +66,18 @@ fn are_adjacent(oids: &BTreeSet<ObjectIdentifierRef<'_>>) -> bool {
             return false;
         }
     }
-    oids.len() == ASCENDING.len()
+    true
 }
 
-/// A sorted set, filled in reverse order.
+/// Sorted sets, filled in reverse order.
 #[test]
 fn a_set_keeps_subtrees_together(rt: HostRuntime) -> Result<(), Fail> {
-    let mut oids = BTreeSet::new(rt.alloc());
-    for octets in ASCENDING.iter().rev() {
-        oids.insert(read_borrowed(octets)?)?;
+    for count in [10, ASCENDING.len()] {
+        let mut oids = BTreeSet::new(rt.alloc());
+        for octets in ASCENDING[..count].iter().rev() {
+            oids.insert(read_borrowed(octets)?)?;
+        }
+        assert!(rt; oids.len() == count && are_adjacent(&oids), "{count}");
     }
-    assert!(rt; are_adjacent(&oids));
     Ok(())
 }

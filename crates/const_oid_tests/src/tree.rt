@@ -48,11 +48,16 @@ fn finds_each_parent(rt: HostRuntime) {
     }
 }
 
-/// Whether 1.2 and so many arcs 1 are the parent of the identifier with one more arc, of two octets.
+/// Whether 1.2 and so many arcs 1 are the parent of the identifier with one more arc, of two octets, and counted so.
 fn is_parent(alloc: Global, count: usize) -> Result<bool, AllocError> {
     let parent = long_octets(alloc, &[0x2A], count, &[0x01], &[])?;
     let octets = long_octets(alloc, &[0x2A], count, &[0x01], &[0x81, 0x00])?;
-    Ok(has_parent(octets.as_slice(), Some(parent.as_slice())) == Ok(true))
+    let len = match Oid::from_bytes(octets.as_slice()) {
+        Ok(oid) => oid.parent().map(|parent| parent.len()),
+        Err(_) => None,
+    };
+    let has_octets = has_parent(octets.as_slice(), Some(parent.as_slice())) == Ok(true);
+    Ok(has_octets && len == Some(2 + count))
 }
 
 /// Parents on both sides of 32 octets.
