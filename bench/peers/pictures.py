@@ -8,7 +8,7 @@ import sys
 from html import escape
 
 DOCS = pathlib.Path(__file__).resolve().parent.parent.parent / "docs"
-WIDTH, LEFT, ROW = 440, 116, 20  # a picture's width, for a phone; where columns and bars begin; a row's height
+WIDTH, LEFT, ROW = 480, 136, 20  # a picture's width, for a phone; where columns and bars begin; a row's height
 BAR, MOST = 260, 10_500  # of the bars: the width of the longest, and its instructions
 STYLE = """<style>
 text { fill: #222 } .note { fill: #666 } .small { font-size: 11px } .ours, .strong { font-weight: bold }
@@ -111,7 +111,7 @@ def bars(top, title, values):
 
 
 def cost():
-    """Instructions of one call, for 7 octets; the build by the Rattle toolchain and C by hand are in SPEED."""
+    """Instructions of one call, for 7 octets; the build by the Rattle toolchain and C by hand are in PEERS."""
     head, rows = table("Instructions")
     rows = [row for row in rows if row[0] not in ("this library, C, by rt", "by hand in C")]
     lines, bottom = [], 0
