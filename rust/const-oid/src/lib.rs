@@ -1,4 +1,4 @@
-#![doc = include_str!("../README.md")]
+//! Object identifiers (ITU-T X.660) as dotted text, arcs, and contents octets of BER and DER (ITU-T X.690, 8.19).
 //!
 //! # Which type, and which order
 //!
@@ -10,6 +10,8 @@
 //!   descendants are adjacent, and a comparison takes longer.
 //!
 //! [`Error`] says why an input was rejected. [`Arcs`] gives the arcs, each an [`Arc`].
+//!
+#![doc = include_str!("../README.md")]
 #![no_std]
 #![deny(missing_docs, unsafe_code)]
 // An identifier has two arcs or more.
