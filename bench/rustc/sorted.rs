@@ -2,51 +2,16 @@
 //! times over COUNT identifiers of 8 arcs in lexicographic order. SIDE is c or crate. The script `sorted` counts
 //! its instructions, the loop included. Both sides print the same sum of what they found.
 
+use calls::*;
 use const_oid::db::SortedDatabase;
 use const_oid::{ObjectIdentifier, ObjectIdentifierRef};
 use std::hint::black_box;
 
-#[repr(C)]
-struct Status {
-    code: u32,
-    detail: u32,
-    len: usize,
-}
-
-#[repr(C)]
-struct Octets {
-    octets: *const u8,
-    len: usize,
-}
-
-#[repr(C)]
-struct Range {
-    start: usize,
-    end: usize,
-}
+#[allow(dead_code)]
+#[path = "../../rust/compare_builds/src/calls.rs"]
+mod calls;
 
 type Search = unsafe extern "C" fn(*const u8, usize, *const Octets, usize) -> Status;
-
-unsafe extern "C" {
-    fn const_oid_find(octets: *const u8, len: usize, sorted: *const Octets, count: usize)
-    -> Status;
-    fn const_oid_next(octets: *const u8, len: usize, sorted: *const Octets, count: usize)
-    -> Status;
-    fn const_oid_nearest(
-        octets: *const u8,
-        len: usize,
-        sorted: *const Octets,
-        count: usize,
-    ) -> Status;
-    fn const_oid_subtree_range(
-        octets: *const u8,
-        len: usize,
-        sorted: *const Octets,
-        count: usize,
-        range: *mut Range,
-    ) -> Status;
-    fn const_oid_check_sorted(items: *const Octets, count: usize) -> Status;
-}
 
 /// What a search returns that finds nothing.
 const NOTHING: usize = usize::MAX;

@@ -1,61 +1,8 @@
-//! The calls of the static library, as `crates/const_oid_c/include/const_oid.h` declares them.
+//! The functions of the static library over slices.
 
+use crate::calls::*;
 use std::cmp::Ordering;
 use std::marker::PhantomData;
-
-#[repr(C)]
-struct Status {
-    code: u32,
-    detail: u32,
-    len: usize,
-}
-
-#[repr(C)]
-struct Octets {
-    octets: *const u8,
-    len: usize,
-}
-
-#[repr(C)]
-#[derive(Default)]
-struct Range {
-    start: usize,
-    end: usize,
-}
-
-unsafe extern "C" {
-    fn const_oid_from_text(text: *const u8, len: usize, out: *mut u8, out_len: usize) -> Status;
-    fn const_oid_to_text(octets: *const u8, len: usize, out: *mut u8, out_len: usize) -> Status;
-    fn const_oid_arc(octets: *const u8, len: usize, index: usize) -> Status;
-    fn const_oid_arcs(octets: *const u8, len: usize, out: *mut u32, out_len: usize) -> Status;
-    fn const_oid_from_arcs(arcs: *const u32, len: usize, out: *mut u8, out_len: usize) -> Status;
-    fn const_oid_parent(octets: *const u8, len: usize, out: *mut u8, out_len: usize) -> Status;
-    fn const_oid_push_arc(
-        octets: *const u8,
-        len: usize,
-        arc: u32,
-        out: *mut u8,
-        out_len: usize,
-    ) -> Status;
-    fn const_oid_starts_with(a: *const u8, len: usize, b: *const u8, other_len: usize) -> Status;
-    fn const_oid_eq(a: *const u8, len: usize, b: *const u8, other_len: usize) -> Status;
-    fn const_oid_cmp(a: *const u8, len: usize, b: *const u8, other_len: usize) -> Status;
-    fn const_oid_cmp_arcs(a: *const u8, len: usize, b: *const u8, other_len: usize) -> Status;
-    fn const_oid_cmp_owned(a: *const u8, len: usize, b: *const u8, other_len: usize) -> Status;
-    fn const_oid_check_sorted(items: *const Octets, count: usize) -> Status;
-    fn const_oid_find(oid: *const u8, len: usize, sorted: *const Octets, count: usize) -> Status;
-    fn const_oid_next(oid: *const u8, len: usize, sorted: *const Octets, count: usize) -> Status;
-    fn const_oid_nearest(oid: *const u8, len: usize, sorted: *const Octets, count: usize)
-    -> Status;
-    fn const_oid_subtree_range(
-        octets: *const u8,
-        len: usize,
-        sorted: *const Octets,
-        count: usize,
-        range: *mut Range,
-    ) -> Status;
-    fn const_oid_error_text(code: u32, detail: u32, out: *mut u8, out_len: usize) -> Status;
-}
 
 /// A result, or the code and the detail of an error.
 pub type Answer<T> = Result<T, (u32, u32)>;

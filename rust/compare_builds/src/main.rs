@@ -1,9 +1,14 @@
 //! Compares the crate const-oid with the static library, which other compilers make of the same
 //! source: `compare_builds [COUNT]`. COUNT is the number of texts, of octets and of lists (a million).
 
+#[allow(dead_code)]
+mod calls;
+#[path = "../../const-oid/tests/shared/codes.rs"]
+mod codes;
 mod draw;
 mod library;
 
+use codes::code;
 use const_oid::{ByArcs, Error, ObjectIdentifier, ObjectIdentifierRef};
 use draw::Draw;
 use library::{Answer, List};
@@ -54,21 +59,6 @@ fn coded<T>(answer: Result<T, Error>) -> Answer<T> {
         same(code, Ok(error.to_string().into_bytes()), text);
         code
     })
-}
-
-/// The code and the detail of an error.
-fn code(error: Error) -> (u32, u32) {
-    match error {
-        Error::ArcInvalid { arc } => (1, arc),
-        Error::ArcTooBig => (2, 0),
-        Error::Base128 => (3, 0),
-        Error::DigitExpected { actual } => (4, actual.into()),
-        Error::Empty => (5, 0),
-        Error::Length => (6, 0),
-        Error::Overflow => (7, 0),
-        Error::RepeatedDot => (8, 0),
-        Error::TrailingDot => (9, 0),
-    }
 }
 
 /// The library's code of an arc, parent or item that does not exist.

@@ -1,7 +1,8 @@
 //! The functions of `crates/const_oid_c/include/const_oid.h`, as a static and a shared library.
 //!
-//! `rust/erase` generates the module `calls` from sources in Rattle, over the generated modules of `const-oid`. The module
-//! `edge` is written by hand. It makes slices from pointers and lengths, and calls the function of the same name.
+//! `rust/erase` generates the module `calls` from sources in Rattle, over the generated modules of `const-oid`, and
+//! `exports`: each function over pointers calls that of the same name over slices. By hand are `edge`, which makes these
+//! slices, and `outputs`, which writes where C may not have written.
 #![no_std]
 #![deny(unsafe_op_in_unsafe_fn, clippy::undocumented_unsafe_blocks)]
 
@@ -9,6 +10,9 @@
 #[allow(dead_code, unused_imports, clippy::all)]
 mod calls;
 mod edge;
+mod exports;
+#[forbid(unsafe_code)]
+mod outputs;
 
 unsafe extern "C" {
     /// Ends the process, in the C library.

@@ -1,9 +1,9 @@
 //! Generates Rust from Rattle: `erase [--check | --items [FOLDER]..]`.
 //!
 //! For each crate of the table, the program reads `lib.rt` and its modules, and writes them as Rust, laid
-//! out by rustfmt. It writes the constants of names, and a header of them for C, from `rust/names.tsv`, and lists the
-//! public items of the cargo crate. With `--check` it writes nothing, and ends with 1 if a file differs from what it
-//! would write.
+//! out by rustfmt. It writes the constants of names, and a header of them for C, from `rust/names.tsv`, lists the
+//! public items of the cargo crate, and writes the exports of the library for C, with what its tests need of them. With
+//! `--check` it writes nothing, and ends with 1 if a file differs from what it would write.
 //!
 //! With `--items` it prints that list. A line has the path of a source, the head of what an item is in, and the item's
 //! head, with tabs between them. With folders it prints all items of the sources in Rattle below them, such as
@@ -13,6 +13,7 @@
 //! space where the source has some.
 
 mod c_names;
+mod calls;
 mod edit;
 mod erase;
 mod examples;
@@ -23,6 +24,7 @@ mod names;
 mod table;
 mod token;
 
+use calls::Call;
 use examples::Examples;
 use fault::{Fault, Result};
 use items::Item;
@@ -38,6 +40,10 @@ const C_NAMES: &str = "crates/const_oid_c/include/const_oid_names.h";
 const EXAMPLES: &str = "rust/const-oid/src/examples.md";
 const CRATE: &str = "rust/const-oid/src";
 const ITEMS: &str = "rust/const-oid/public-items.txt";
+const FOR_C: &str = "crates/const_oid_c/src";
+const EXPORTS: &str = "rust/const-oid-c/src/exports.rs";
+const DECLARATIONS: &str = "rust/compare_builds/src/calls.rs";
+const C_CALLS: &str = "crates/const_oid_c/tests/calls.h";
 
 /// A path from the top of the repository, and the text of its file.
 type File = (String, String);
@@ -109,7 +115,28 @@ fn generated() -> Checked<Vec<File>> {
         C_NAMES.into(),
         format!("/* {} */\n{names}", generated_from(TABLE)),
     ));
+    files.extend(for_c()?);
     Ok(files)
+}
+
+/// What is made from the heads of the functions for C.
+fn for_c() -> Checked<Vec<File>> {
+    let mut calls = Vec::new();
+    for path in listed(FOR_C) {
+        let module = path.rsplit(['/', '.']).nth(1).unwrap_or("");
+        let items = items_of(&path, &read(&path)?)?;
+        calls.extend(items.iter().filter_map(|item| Call::of(module, item)));
+    }
+    let rust = |text: String| laid_out(&headed(FOR_C, &text));
+    let list = calls::list(&calls)?;
+    Ok(vec![
+        (EXPORTS.into(), rust(calls::exports(&calls))?),
+        (DECLARATIONS.into(), rust(calls::declarations(&calls))?),
+        (
+            C_CALLS.into(),
+            format!("/* {} */\n{list}", generated_from(FOR_C)),
+        ),
+    ])
 }
 
 /// The public items of the cargo crate: of its sources by hand, and of the files to write.

@@ -38,7 +38,7 @@ const LENT: &str = "the crate's borrowed form is unsized, and lies behind a refe
 const BY_CORE: &str = "`core` compares slices by `memcmp`, which takes less time";
 const BOUNDS: &str = "a bound at no cost, where Rattle keeps the default of the trait";
 const LISTED: &str = "a caller by hand lists the entries";
-const UNWRITTEN: &str = "Rust has no `&mut [u8]` over memory that C may not have written";
+const UNWRITTEN: &str = "in Rust no reference is to memory that C may not have written";
 
 pub const CRATES: &[Crate] = &[
     Crate {
@@ -140,16 +140,18 @@ pub const CRATES: &[Crate] = &[
                 "C gives a pointer, which may be null, and a length: `edge.rs` has such a type";
             "": "out: &mut [u8]" => "out: &mut crate::edge::Output<u8>", UNWRITTEN;
             "": "out: &mut [u32]" => "out: &mut crate::edge::Output<u32>", UNWRITTEN;
+            "lists": "range: &mut Range" => "range: &mut core::mem::MaybeUninit<Range>", UNWRITTEN;
+            "lists": "*range = Range { start, end };" => "range.write(Range { start, end });", UNWRITTEN;
             "output": "out[..len].copy_from_slice(bytes);" => "crate::edge::copy(bytes, out);", UNWRITTEN;
             "output": "out[..first.len()].copy_from_slice(first); out[first.len()..len].copy_from_slice(rest);"
                 => "crate::edge::copy(first, out); crate::edge::copy(rest, &mut out[first.len()..]);", UNWRITTEN;
             "arcs": "out[index] = arc;" => "out[index].write(arc);", UNWRITTEN;
-            "texts": "oid.encode_text(out)" => "crate::edge::encode(oid, out)", UNWRITTEN;
+            "texts": "oid.encode_text(out)" => "crate::outputs::encode(oid, out)", UNWRITTEN;
             "texts": "ObjectIdentifierRef::bytes_from_ascii(text, out)"
-                => "crate::edge::bytes_from_ascii(text, out)", UNWRITTEN;
+                => "crate::outputs::bytes_from_ascii(text, out)", UNWRITTEN;
             "arcs": "ObjectIdentifierRef::bytes_from_arcs(arcs, out)"
-                => "crate::edge::bytes_from_arcs(arcs, out)", UNWRITTEN;
-            "errors": "error.encode_text(out)" => "crate::edge::encode_error(error, out)", UNWRITTEN;
+                => "crate::outputs::bytes_from_arcs(arcs, out)", UNWRITTEN;
+            "errors": "error.encode_text(out)" => "crate::outputs::encode_error(error, out)", UNWRITTEN;
         },
     },
 ];

@@ -5,10 +5,12 @@ use std::path::{Path, PathBuf};
 use std::process::{Command, Output};
 
 /// What the eraser reads and writes, from the top of the repository.
-const FOLDERS: [&str; 6] = [
+const FOLDERS: [&str; 8] = [
     "crates/const_oid/src",
     "crates/const_oid_c/include",
     "crates/const_oid_c/src",
+    "crates/const_oid_c/tests",
+    "rust/compare_builds/src",
     "rust/const-oid",
     "rust/const-oid-c/src",
     "rust/erase",
@@ -18,8 +20,11 @@ const FOLDERS: [&str; 6] = [
 const GENERATED: [&str; 2] = ["rust/const-oid/src/erased", "rust/const-oid-c/src/calls"];
 
 /// The generated files in other folders.
-const FILES: [&str; 3] = [
+const FILES: [&str; 6] = [
     "crates/const_oid_c/include/const_oid_names.h",
+    "crates/const_oid_c/tests/calls.h",
+    "rust/compare_builds/src/calls.rs",
+    "rust/const-oid-c/src/exports.rs",
     "rust/const-oid/src/db/names.rs",
     "rust/const-oid/public-items.txt",
 ];

@@ -58,7 +58,7 @@ fn write_large(arcs: &[u32], out: &mut crate::edge::Output<u8>) -> Status {
 
 /// Writes the contents octets of arcs, as many as the output has.
 fn write_longer(arcs: &[u32], out: &mut crate::edge::Output<u8>) -> Status {
-    match crate::edge::bytes_from_arcs(arcs, out) {
+    match crate::outputs::bytes_from_arcs(arcs, out) {
         Ok(len) => len_status(len),
         Err(fault) => error_status(fault),
     }

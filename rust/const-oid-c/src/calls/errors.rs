@@ -38,7 +38,7 @@ pub fn const_oid_error_text(code: u32, detail: u32, out: &mut crate::edge::Outpu
 /// Writes the text of an error.
 #[inline(always)]
 fn write_error(error: Error, out: &mut crate::edge::Output<u8>) -> Status {
-    match crate::edge::encode_error(error, out) {
+    match crate::outputs::encode_error(error, out) {
         Some(len) => len_status(len),
         None => too_short_status(error.text_len()),
     }

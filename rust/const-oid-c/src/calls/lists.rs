@@ -55,11 +55,15 @@ pub fn const_oid_nearest(octets: &[u8], sorted: &[Octets<'_>]) -> Status {
 }
 
 /// Finds the range of the items whose arcs begin with those of an identifier.
-pub fn const_oid_subtree_range(octets: &[u8], sorted: &[Octets<'_>], range: &mut Range) -> Status {
+pub fn const_oid_subtree_range(
+    octets: &[u8],
+    sorted: &[Octets<'_>],
+    range: &mut core::mem::MaybeUninit<Range>,
+) -> Status {
     match ObjectIdentifierRef::from_bytes(octets) {
         Ok(oid) => {
             let (start, end) = subtree_of(sorted, &oid);
-            *range = Range { start, end };
+            range.write(Range { start, end });
             len_status(0)
         }
         Err(fault) => error_status(fault),

@@ -46,7 +46,7 @@ fn write_large(text: &[u8], out: &mut crate::edge::Output<u8>) -> Status {
 
 /// Writes the contents octets of the identifier that dotted text denotes, as many as the output has.
 fn write_longer(text: &[u8], out: &mut crate::edge::Output<u8>) -> Status {
-    match crate::edge::bytes_from_ascii(text, out) {
+    match crate::outputs::bytes_from_ascii(text, out) {
         Ok(len) => len_status(len),
         Err(fault) => error_status(fault),
     }
@@ -89,7 +89,7 @@ fn write_longest(octets: &[u8], out: &mut crate::edge::Output<u8>) -> Status {
         Ok(oid) => oid,
         Err(fault) => return error_status(fault),
     };
-    match crate::edge::encode(oid, out) {
+    match crate::outputs::encode(oid, out) {
         Some(len) => len_status(len),
         None => too_short_status(oid.text_len()),
     }

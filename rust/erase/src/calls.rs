@@ -1,0 +1,226 @@
+//! The functions for C, from their heads in Rattle: their exports over pointers, declarations of these for callers in
+//! Rust, and a list for the tests in C.
+
+use crate::items::Item;
+
+/// Types of arguments, and what the list for C calls them.
+const KINDS: [(&str, &str); 9] = [
+    ("&[u8]", "OCTETS"),
+    ("&[u32]", "ARCS"),
+    ("&[Octets<'_>]", "LIST"),
+    ("&Octets<'_>", "ITEM"),
+    ("&mut [u8]", "OCTETS_OUT"),
+    ("&mut [u32]", "ARCS_OUT"),
+    ("&mut Range", "RANGE_OUT"),
+    ("usize", "INDEX"),
+    ("u32", "NUMBER"),
+];
+
+/// Types of results, and those of C.
+const RESULTS: [(&str, &str); 3] = [
+    ("Status", "const_oid_status"),
+    ("u32", "uint32_t"),
+    ("i32", "int"),
+];
+
+/// The types that declarations are over.
+const TYPES: &str = "
+#[repr(C)]
+pub struct Status {
+    pub code: u32,
+    pub detail: u32,
+    pub len: usize,
+}
+
+#[repr(C)]
+pub struct Octets {
+    pub octets: *const u8,
+    pub len: usize,
+}
+
+#[repr(C)]
+#[derive(Default)]
+pub struct Range {
+    pub start: usize,
+    pub end: usize,
+}
+";
+
+/// A function for C: its module, its name, its arguments with their types, and the type of its result.
+pub struct Call {
+    module: String,
+    name: String,
+    arguments: Vec<(String, String)>,
+    result: String,
+}
+
+impl Call {
+    /// The function of a module that an item is, if it is one for C.
+    pub fn of(module: &str, item: &Item) -> Option<Self> {
+        let head = item.head.strip_prefix("pub extern \"C\" fn ")?;
+        let (name, rest) = head.split_once('(')?;
+        let (arguments, result) = rest.split_once(") -> ")?;
+        let arguments = arguments
+            .split(", ")
+            .filter_map(|text| text.split_once(": "));
+        Some(Call {
+            module: module.into(),
+            name: name.into(),
+            arguments: arguments
+                .map(|(name, of)| (name.into(), of.into()))
+                .collect(),
+            result: result.into(),
+        })
+    }
+
+    /// The head over pointers, and what the function over slices is given.
+    fn over_pointers(&self) -> (String, String) {
+        let arguments = self
+            .arguments
+            .iter()
+            .map(|(name, of)| over_pointers(name, of));
+        let (parameters, given): (Vec<String>, Vec<String>) = arguments.unzip();
+        let (name, result) = (&self.name, &self.result);
+        let head = format!("fn {name}({}) -> {result}", parameters.join(", "));
+        (head, given.join(", "))
+    }
+
+    fn export(&self) -> String {
+        let (head, given) = self.over_pointers();
+        let call = format!("crate::calls::{}::{}({given})", self.module, self.name);
+        if given.is_empty() {
+            return format!("\n#[unsafe(no_mangle)]\npub extern \"C\" {head} {{ {call} }}\n");
+        }
+        format!(
+            "\n/// # Safety\n///\n/// The header says what a caller guarantees.\n#[unsafe(no_mangle)]\n\
+             pub unsafe extern \"C\" {head} {{\n// SAFETY: the caller guarantees it.\nunsafe {{ {call} }}\n}}\n"
+        )
+    }
+
+    /// The row of the list for C.
+    fn row(&self) -> Result<String, String> {
+        let mut out = format!("CALL({}, {}", known(&RESULTS, &self.result)?, self.name);
+        for (index, (name, of)) in self.arguments.iter().enumerate() {
+            let kind = known(&KINDS, of)?;
+            let is_text = name == "text"
+                || name == "out"
+                    && ["const_oid_to_text", "const_oid_error_text"].contains(&&*self.name);
+            let kind = if is_text {
+                kind.replace("OCTETS", "TEXT")
+            } else {
+                kind.into()
+            };
+            out += &format!(", ARGUMENT({kind}, {index})");
+        }
+        Ok(out
+            + if self.arguments.is_empty() {
+                ", void)\n"
+            } else {
+                ")\n"
+            })
+    }
+}
+
+/// What a table has for a type.
+fn known(table: &[(&str, &'static str)], of: &str) -> Result<&'static str, String> {
+    let row = table.iter().find(|row| row.0 == of);
+    row.map(|row| row.1)
+        .ok_or(format!("no function for C has the type {of}"))
+}
+
+/// The parameters of an argument over pointers, and what is made of them. A slice is a pointer and a length.
+fn over_pointers(name: &str, of: &str) -> (String, String) {
+    let (pointer, rest, slice, one) = match (of.strip_prefix("&mut "), of.strip_prefix('&')) {
+        (Some(rest), _) => ("*mut", rest, "output", "&mut "),
+        (None, Some(rest)) => ("*const", rest, "input", "&"),
+        (None, None) => return (format!("{name}: {of}"), name.into()),
+    };
+    match rest
+        .strip_prefix('[')
+        .and_then(|rest| rest.strip_suffix(']'))
+    {
+        Some(item) => (
+            format!("{name}: {pointer} {item}, {name}_len: usize"),
+            format!("{slice}({name}, {name}_len)"),
+        ),
+        None => (
+            format!("{name}: {pointer} {rest}"),
+            format!("{one}{slice}({name}, 1)[0]"),
+        ),
+    }
+}
+
+/// The exported functions of the library.
+pub fn exports(calls: &[Call]) -> String {
+    let exports = calls.iter().map(Call::export).collect::<String>();
+    format!(
+        "//! The exported functions, over pointers. The header says what a caller guarantees.\n\n\
+         use crate::calls::lists::{{Octets, Range}};\nuse crate::calls::status::Status;\n\
+         use crate::edge::{{input, output}};\n{exports}"
+    )
+}
+
+/// Declarations of the exported functions.
+pub fn declarations(calls: &[Call]) -> String {
+    let declared = calls
+        .iter()
+        .map(|call| format!("pub {};\n", call.over_pointers().0.replace("<'_>", "")));
+    let declared = declared.collect::<String>();
+    format!(
+        "//! The functions of the library for C, as its header declares them.\n{TYPES}\nunsafe extern \"C\" {{\n{declared}}}\n"
+    )
+}
+
+/// The list for C.
+pub fn list(calls: &[Call]) -> Result<String, String> {
+    let rows: Result<String, String> = calls.iter().map(Call::row).collect();
+    Ok(format!(
+        "/* The functions of const_oid.h: the type of each result, the name, and the kinds of the arguments, counted from 0. */\n{}",
+        rows?
+    ))
+}
+
+#[cfg(test)]
+mod tests {
+    use super::*;
+
+    #[test]
+    fn writes_what_the_types_say() {
+        let call = |head: &str| {
+            let head = format!("pub extern \"C\" fn {head}");
+            Call::of(
+                "m",
+                &Item {
+                    head,
+                    ..Item::default()
+                },
+            )
+            .unwrap()
+        };
+        let one =
+            call("f(text: &[u8], a: u32, b: &mut [u32], c: &mut Range, d: &Octets<'_>) -> i32");
+        let head = "fn f(text: *const u8, text_len: usize, a: u32, b: *mut u32, b_len: usize, c: *mut Range, d: *const Octets<'_>) -> i32";
+        let given =
+            "input(text, text_len), a, output(b, b_len), &mut output(c, 1)[0], &input(d, 1)[0]";
+        assert_eq!(one.over_pointers(), (head.into(), given.into()));
+        assert_eq!(
+            one.row().unwrap(),
+            "CALL(int, f, ARGUMENT(TEXT, 0), ARGUMENT(NUMBER, 1), ARGUMENT(ARCS_OUT, 2), ARGUMENT(RANGE_OUT, 3), ARGUMENT(ITEM, 4))\n"
+        );
+        assert_eq!(
+            call("g() -> u32").row().unwrap(),
+            "CALL(uint32_t, g, void)\n"
+        );
+        assert!(call("g(a: u64) -> u32").row().is_err() && call("g() -> u64").row().is_err());
+        assert!(
+            Call::of(
+                "m",
+                &Item {
+                    head: "pub fn f()".into(),
+                    ..Item::default()
+                }
+            )
+            .is_none()
+        );
+    }
+}
