@@ -21,4 +21,4 @@ CALL(const_oid_status, const_oid_from_text, ARGUMENT(TEXT, 0), ARGUMENT(OCTETS_O
 CALL(const_oid_status, const_oid_to_text, ARGUMENT(OCTETS, 0), ARGUMENT(TEXT_OUT, 1))
 CALL(const_oid_status, const_oid_parent, ARGUMENT(OCTETS, 0), ARGUMENT(OCTETS_OUT, 1))
 CALL(const_oid_status, const_oid_push_arc, ARGUMENT(OCTETS, 0), ARGUMENT(NUMBER, 1), ARGUMENT(OCTETS_OUT, 2))
-CALL(uint32_t, const_oid_version, void)
+CALL(uint32_t, const_oid_version, NOTHING)

@@ -1,4 +1,4 @@
-/* The header in C: read twice, its layouts, and its constants where the preprocessor reads them. */
+/* The header in C: read twice, its layouts, its constants, also where the preprocessor reads them, and functions. */
 #include "const_oid.h"
 #include "const_oid.h"
 
@@ -23,10 +23,20 @@ HAS_TYPE(const_oid_octets, len, size_t);
 HAS_TYPE(const_oid_range, start, size_t);
 HAS_TYPE(const_oid_range, end, size_t);
 
-#if CONST_OID_VERSION < 65536 || CONST_OID_MAX_OCTETS != 255 || CONST_OID_MAX_TEXT != 1020 || CONST_OID_MAX_ARCS != 256 \
-    || CONST_OID_USUAL_OCTETS != 39 || CONST_OID_MAX_ERROR_TEXT != 47
-#error "a constant is no number of the preprocessor, or another one"
+#if !(CONST_OID_VERSION && CONST_OID_MAX_OCTETS && CONST_OID_MAX_TEXT && CONST_OID_MAX_ARCS && CONST_OID_USUAL_OCTETS \
+    && CONST_OID_MAX_ERROR_TEXT)
+#error "a constant is no number of the preprocessor"
 #endif
+
+#define HAS_VALUE(name, wanted) \
+    _Static_assert(CONST_OID_##name == wanted && _Generic(CONST_OID_##name, int: 1, default: 0), "the value of " #name)
+HAS_VALUE(MAX_OCTETS, 255);
+HAS_VALUE(MAX_TEXT, 1020);
+HAS_VALUE(MAX_ARCS, 256);
+HAS_VALUE(USUAL_OCTETS, 39);
+HAS_VALUE(MAX_ERROR_TEXT, 47);
+
+#include "declared.h"
 
 /* The version of each triple, also within an expression. */
 #undef CONST_OID_VERSION_MAJOR
@@ -35,5 +45,6 @@ HAS_TYPE(const_oid_range, end, size_t);
 #define CONST_OID_VERSION_MAJOR 2
 #define CONST_OID_VERSION_MINOR 3
 #define CONST_OID_VERSION_PATCH 4
+HAS_VALUE(VERSION, 0x020304);
 _Static_assert(CONST_OID_VERSION == 0x020304, "65536 of the major, 256 of the minor, and the patch number");
 _Static_assert(3 * CONST_OID_VERSION == 3 * 0x020304, "the version in a product");

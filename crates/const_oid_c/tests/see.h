@@ -1,4 +1,6 @@
 /* What the programs of this folder share: SEE(fact, number) ends the process where a fact is not true, and names both. */
+#include "const_oid.h"
+
 #include <stdio.h>
 #include <stdlib.h>
 

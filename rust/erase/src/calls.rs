@@ -114,7 +114,7 @@ impl Call {
         }
         Ok(out
             + if self.arguments.is_empty() {
-                ", void)\n"
+                ", NOTHING)\n"
             } else {
                 ")\n"
             })
@@ -209,7 +209,7 @@ mod tests {
         );
         assert_eq!(
             call("g() -> u32").row().unwrap(),
-            "CALL(uint32_t, g, void)\n"
+            "CALL(uint32_t, g, NOTHING)\n"
         );
         assert!(call("g(a: u64) -> u32").row().is_err() && call("g() -> u64").row().is_err());
         assert!(

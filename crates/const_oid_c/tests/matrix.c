@@ -1,0 +1,612 @@
+#define _GNU_SOURCE
+/* Each function of calls.h, by the rules of reference.h: each of its arguments in turn has each length and each number
+ * at which code for pointers could cut, and so has each item of a list. Inputs and outputs end at pages that no one may
+ * touch. Pages that are mapped and never written take no memory, so lengths pass 2^32 where pointers have 64 bits. A
+ * null pointer with a length ends the process. */
+#include "reference.h"
+
+#include <sys/mman.h>
+#include <sys/resource.h>
+#include <sys/wait.h>
+#include <unistd.h>
+
+enum { ARGUMENTS = 4, SLOT = 1 << 21, AROUND = 64, UNWRITTEN = 0xEE };
+
+enum kind { NOTHING, OCTETS, TEXT, ARCS, LIST, ITEM, INDEX, NUMBER, OCTETS_OUT, TEXT_OUT, ARCS_OUT, RANGE_OUT };
+
+/* How many bytes an item has; a number has none. */
+static const size_t sizes[] = {0, 1, 1, sizeof(uint32_t), sizeof(const_oid_octets), 1, 0, 0, 1, 1, sizeof(uint32_t),
+    sizeof(const_oid_range)};
+
+typedef struct {
+    const char *name;
+    const_oid_status (*call)(const argument *);
+    const_oid_status (*call_twice)(const argument *, void (*)(void));
+    answer (*rule)(const argument *);
+    enum kind kinds[ARGUMENTS];
+} function;
+
+static const_oid_status status_of(uint32_t number) { return (const_oid_status){CONST_OID_OK, number, 0}; }
+
+/* An argument as a function is given it. */
+#define GIVEN_OCTETS(i) a[i].items, a[i].len
+#define GIVEN_TEXT(i) a[i].items, a[i].len
+#define GIVEN_ARCS(i) a[i].items, a[i].len
+#define GIVEN_LIST(i) a[i].items, a[i].len
+#define GIVEN_ITEM(i) a[i].items == NULL && a[i].len > 0 ? NULL : &(const_oid_octets){a[i].items, a[i].len}
+#define GIVEN_INDEX(i) a[i].len
+#define GIVEN_NUMBER(i) (uint32_t)a[i].len
+#define GIVEN_OCTETS_OUT(i) (void *)a[i].items, a[i].len
+#define GIVEN_TEXT_OUT(i) (void *)a[i].items, a[i].len
+#define GIVEN_ARCS_OUT(i) (void *)a[i].items, a[i].len
+#define GIVEN_RANGE_OUT(i) (void *)a[i].items
+
+#define STATUS_const_oid_status(status) (status)
+#define STATUS_uint32_t(number) status_of(number)
+#define STATUS_int(number) status_of((uint32_t)(number))
+
+#define ARGUMENT(kind, i) GIVEN_##kind(i)
+#define NOTHING
+#define CALL(result, name, ...) \
+    static const_oid_status name##_call(const argument *a) { \
+        return a == NULL ? status_of(0) : STATUS_##result(name(__VA_ARGS__)); \
+    } \
+    static const_oid_status name##_twice(const argument *given, void (*between)(void)) { \
+        const argument a[] = {given[0], given[1], given[2], given[3]}; \
+        const_oid_status before = STATUS_##result(name(__VA_ARGS__)); \
+        between(); \
+        const_oid_status after = STATUS_##result(name(__VA_ARGS__)); \
+        return a[0].len + before.code == SIZE_MAX ? before : after; \
+    }
+#include "calls.h"
+#undef ARGUMENT
+#undef NOTHING
+#undef CALL
+
+static const function functions[] = {
+#define ARGUMENT(kind, i) kind
+#define CALL(result, name, ...) {#name, name##_call, name##_twice, name##_rule, {__VA_ARGS__}},
+#include "calls.h"
+};
+enum { FUNCTIONS = sizeof functions / sizeof *functions };
+
+/* The function that is called, its arguments, and the ends of the memory of each. */
+static const function *f;
+static argument a[ARGUMENTS];
+static uint8_t *ends[ARGUMENTS];
+
+static void must(int fact, const char *words) {
+    if (fact) return;
+    fprintf(stderr, "tests: %s: %s:", f->name, words);
+    for (int i = 0; i < ARGUMENTS; i++) fprintf(stderr, " %zu", a[i].len);
+    for (size_t i = 0; i < run_count; i++) fprintf(stderr, " (%zu of %zu)", runs[i].times, runs[i].item.len);
+    fprintf(stderr, "\n");
+    exit(1);
+}
+
+static int is_output(int at) { return f->kinds[at] >= OCTETS_OUT; }
+
+/* The index of the output, or of the first argument that is not there. */
+static int output_at(void) {
+    int at = 0;
+    while (at < ARGUMENTS - 1 && f->kinds[at] != NOTHING && !is_output(at)) at++;
+    return at;
+}
+
+static size_t bytes_of(int at) { return a[at].len * sizes[f->kinds[at]]; }
+
+/* The arguments as they are given: those that fit are copied to the ends of their memory. */
+static void place(argument *given) {
+    for (int at = 0; at < ARGUMENTS; at++) {
+        given[at] = a[at];
+        if (a[at].items == NULL || sizes[f->kinds[at]] == 0 || a[at].len >= SLOT / sizes[f->kinds[at]]) continue;
+        given[at].items = ends[at] - bytes_of(at);
+        if (is_output(at)) memset(ends[at] - bytes_of(at) - AROUND, UNWRITTEN, bytes_of(at) + AROUND);
+        else memcpy(ends[at] - bytes_of(at), a[at].items, bytes_of(at));
+    }
+}
+
+static int is_unwritten(const uint8_t *from, size_t len) {
+    for (size_t i = 0; i < len; i++)
+        if (from[i] != UNWRITTEN) return 0;
+    return 1;
+}
+
+/* What was written is what the rule says, and the bytes around it are unchanged. */
+static void check_output(argument out, size_t size, const void *wanted, size_t count) {
+    const uint8_t *start = out.items;
+    size_t written = count * size, room = out.len * size;
+    if (start == NULL) return;
+    must(written == 0 || memcmp(start, wanted, written) == 0, "it wrote something else");
+    must(is_unwritten(start + written, room < SLOT ? room - written : AROUND), "it wrote more");
+    must(room >= SLOT || is_unwritten(start - AROUND, AROUND), "it wrote before the output");
+}
+
+/* What a search may find in a list that is not sorted. */
+static void check_any(const_oid_status got, const argument *given) {
+    size_t count = a[1].len;
+    if (f->kinds[2] == RANGE_OUT) {
+        const const_oid_range *range = given[2].items;
+        must(got.code == CONST_OID_OK && range->start <= range->end && range->end <= count, "the range is elsewhere");
+        return;
+    }
+    must(got.code == CONST_OID_OK ? got.len < count : got.code == CONST_OID_NONE && got.len == 0, "it is elsewhere");
+}
+
+/* Calls the function, and compares all that it returns and writes with its rule. */
+static void check(void) {
+    argument given[ARGUMENTS];
+    answer wanted = f->rule(a);
+    int out = output_at();
+    size_t count = 0, size = sizes[f->kinds[out]];
+    place(given);
+    if (wanted.status.code == CONST_OID_OK && is_output(out)) {
+        int is_range = f->kinds[out] == RANGE_OUT;
+        count = is_range ? 1 : wanted.status.len;
+        if (!is_range && count > a[out].len) {
+            wanted.status.code = CONST_OID_OUTPUT_TOO_SHORT;
+            count = 0;
+        }
+    }
+    const_oid_status got = f->call(given);
+    if (wanted.is_any) {
+        check_any(got, given);
+        return;
+    }
+    must(got.code == wanted.status.code, "another code");
+    must(got.detail == wanted.status.detail, "another detail");
+    must(got.len == wanted.status.len, "another len");
+    if (is_output(out)) check_output(given[out], size, wanted.items, count);
+    for (int at = 0; at < out; at++) {
+        if (given[at].items == a[at].items) continue;
+        must(memcmp(given[at].items, a[at].items, bytes_of(at)) == 0, "it wrote an input");
+    }
+}
+
+/* Lengths past which a length of fewer bits would be one of three or of one. */
+static const uint64_t cuts[] = {1u << 8, 1u << 16, 1u << 20, 1u << 24, 1u << 31, UINT64_C(1) << 32};
+enum { CUTS = sizeof cuts / sizeof *cuts };
+
+/* Memory that is mapped and not written: for octets, text and arcs, for lists, and for outputs. */
+typedef struct {
+    uint8_t *start;
+    uint64_t len;
+} pages;
+static pages input_pages, list_pages, output_pages;
+static const_oid_octets *equal_items;
+
+/* Whether so many items, and a few, are there. */
+static int has(uint64_t len, uint64_t count, size_t size) { return count + 4 <= len / size; }
+
+/* Calls with an output of each length near that of the result, null ones included; or with one that is huge. */
+static void with_outputs(void) {
+    int out = output_at();
+    static const uint8_t none[1];
+    if (!is_output(out) || f->kinds[out] == RANGE_OUT) {
+        a[out] = (argument){none, is_output(out)};
+        check();
+        return;
+    }
+    a[out] = (argument){none, SLOT / 8};
+    answer all = f->rule(a);
+    size_t len = all.status.code == CONST_OID_OK ? all.status.len : 0;
+    int is_long = len > 1100;
+    const argument rooms[] = {{none, len}, {none, len - 1}, {NULL, 0}, {none, 0}, {none, len + 1}, {none, len + 20}};
+    for (size_t i = 0; i < (is_long ? 2 : sizeof rooms / sizeof *rooms); i++) {
+        a[out] = rooms[i];
+        if (a[out].len != SIZE_MAX) check();
+    }
+}
+
+static void with_huge_outputs(void) {
+    int out = output_at();
+    size_t size = sizes[f->kinds[out]];
+    for (int i = 0; i < CUTS; i++) {
+        if (!has(output_pages.len, cuts[i], size)) continue;
+        a[out] = (argument){output_pages.start, (size_t)cuts[i] + 1};
+        memset(output_pages.start, UNWRITTEN, 4096);
+        check();
+    }
+}
+
+/* The octets of 1.2.840.10045, their text, their arcs, and a list of 0.1, them, 1.2.840.10045.1 and 2.5. */
+static const uint8_t usual[] = {0x2A, 0x86, 0x48, 0xCE, 0x3D, 1}, root[] = {1}, last[] = {0x55};
+static const uint32_t usual_arcs[] = {1, 2, 840, 10045};
+static const char usual_text[] = "1.2.840.10045";
+static const const_oid_octets usual_list[] = {{root, 1}, {usual, 5}, {usual, 6}, {last, 1}};
+enum { USUAL_LEN = 5, SEARCHED = 8 };
+
+/* Which identifiers are searched for in a list: the item that varies, its neighbours, and those around the list. */
+static argument searched[SEARCHED];
+
+/* The values of an argument beside one that varies. How many. */
+static size_t values_beside(enum kind kind, enum kind lead, argument varied, argument *values) {
+    static uint8_t changed[MOST];
+    size_t count = 0;
+    const size_t numbers[] = {0, 1, 4, varied.len, varied.len + 1, 128, 4294967295u};
+    switch (kind) {
+        case TEXT: values[count++] = (argument){usual_text, sizeof usual_text - 1}; break;
+        case ARCS: values[count++] = (argument){usual_arcs, 4}; break;
+        case LIST: values[count++] = (argument){usual_list, 4}; break;
+        case INDEX:
+        case NUMBER:
+            for (size_t i = 0; i < sizeof numbers / sizeof *numbers; i++) values[count++].len = numbers[i];
+            break;
+        default:
+            if (lead == LIST) {
+                memcpy(values, searched, sizeof searched);
+                return SEARCHED;
+            }
+            values[count++] = (argument){usual, USUAL_LEN};
+            if (lead != OCTETS && lead != ITEM) break;
+            values[count++] = varied;
+            if (varied.len < 2 || varied.len > MOST) break;
+            values[count++] = (argument){varied.items, varied.len - 1};
+            memcpy(changed, varied.items, varied.len);
+            changed[varied.len - 1] ^= 1;
+            values[count++] = (argument){changed, varied.len};
+    }
+    return count;
+}
+
+/* Sets each input beside the one that varies, and calls. */
+static void with_others(int lead, int at) {
+    argument values[SEARCHED] = {{NULL, 0}};
+    if (at == output_at()) {
+        with_outputs();
+    } else if (at == lead) {
+        with_others(lead, at + 1);
+    } else {
+        size_t count = values_beside(f->kinds[at], f->kinds[lead], a[lead], values);
+        for (size_t i = 0; i < count; i++) {
+            a[at] = values[i];
+            with_others(lead, at + 1);
+        }
+    }
+}
+
+static void with(int lead, const void *items, size_t len) {
+    a[lead] = (argument){items, len};
+    with_others(lead, 0);
+}
+
+/* Each length up to 66, and those around the sizes of the library and the ends of 8 and 16 bits. */
+static const size_t lens[] = {127, 128, 129, 254, 255, 256, 257, 258, 300, 515, 65535, 65539};
+enum { SHORT = 67, LENS = SHORT + sizeof lens / sizeof *lens };
+
+static size_t len_at(int i) { return i < SHORT ? (size_t)i : lens[i - SHORT]; }
+
+/* Octets of a length: 1.2 or 1.10, and then arcs of three digits, of one, or of two octets; or the last or the first
+ * octet or the last arc is wrong. */
+static void fill_octets(void *out, size_t len, int form) {
+    static const uint8_t big[] = {0x90, 0x80, 0x80, 0x80, 0};
+    uint8_t *to = out;
+    memset(to, form == 1 || form == 2 ? 1 : 0x7F, len);
+    if (len == 0) return;
+    to[0] = form == 2 ? 0x32 : 0x2A;
+    for (size_t i = len % 2 ? 1 : 2; form == 3 && i + 1 < len; i += 2) to[i] = 0x81;
+    if (form == 4) to[len - 1] = 0x80;
+    if (form == 5) to[len - 1] = 0x81;
+    if (form == 6 && len > 5) memcpy(to + len - 5, big, 5);
+    if (form == 7) to[0] = 0x80;
+    if (form == 8) memset(to, 0xFF, len < 6 ? len : 6);
+}
+
+/* Text of a length: 1.2 or 1.10, and then arcs of a digit, or one of many digits; or the last byte is wrong. */
+static void fill_text(void *out, size_t len, int form) {
+    static const char bytes[] = {'.', 'x', 0, '\xFF'};
+    char *to = out;
+    for (size_t i = 0; i < len; i++) to[i] = i % 2 == len % 2 ? '.' : '1';
+    memcpy(to, "1.2", len < 3 ? len : 3);
+    if (form == 1 && len > 4) memset(to + 4, '0', len - 4);
+    if (form == 2 && len > 4) memset(to + 4, '9', len - 4);
+    if (form > 2 && len > 0) to[len - 1] = bytes[form - 3];
+}
+
+/* Arcs 1.2.127.127.., or those of 2 with each arc of five octets; or the first or the second one is out of range. */
+static const uint32_t starts[][2] = {{1, 40}, {1, 2}, {2, 4294967295u}, {3, 1}, {4294967295u, 0}};
+static void fill_arcs(void *out, size_t len, int form) {
+    uint32_t *to = out;
+    for (size_t i = 0; i < len; i++) to[i] = i < 2 ? starts[form][i] : form == 2 ? 4294967295u : 127;
+}
+
+/* How arrays are filled, and what huge ones begin with, in which an item is wrong that a shorter length leaves out. */
+static const struct {
+    void (*fill)(void *to, size_t len, int form);
+    int forms;
+    const void *start;
+    size_t right;
+} fillings[] = {[OCTETS] = {fill_octets, 9, "\x2A\3\4\x80", 3}, [TEXT] = {fill_text, 7, "1.2\xFF", 3},
+    [ARCS] = {fill_arcs, 5, starts, 1}};
+
+static void vary_array(int lead, enum kind kind) {
+    static uint32_t items[MOST];
+    with(lead, NULL, 0);
+    for (int i = 0; i < LENS; i++) {
+        for (int form = 0; form < fillings[kind].forms; form += len_at(i) > 1000 ? 2 : 1) {
+            fillings[kind].fill(items, len_at(i), form);
+            with(lead, items, len_at(i));
+        }
+    }
+    memcpy(input_pages.start, fillings[kind].start, (fillings[kind].right + 1) * sizes[kind]);
+    for (int i = 0; i < CUTS; i++)
+        if (has(input_pages.len, cuts[i], sizes[kind]))
+            with(lead, input_pages.start, (size_t)cuts[i] + fillings[kind].right);
+}
+
+static void vary_numbers(int lead) {
+    for (size_t number = 0; number < 300; number++) with(lead, NULL, number);
+    for (size_t bit = 9; bit < 8 * sizeof(size_t); bit++) {
+        if (f->kinds[lead] == NUMBER && bit >= 32) break;
+        for (size_t low = 0; low < 14; low++) with(lead, NULL, ((size_t)1 << bit) + low);
+        with(lead, NULL, ((size_t)1 << bit) - 1);
+    }
+    with(lead, NULL, f->kinds[lead] == NUMBER ? UINT32_MAX : SIZE_MAX);
+}
+
+static void run_of(const uint8_t *octets, size_t len, size_t times) {
+    if (times == 0) return;
+    runs[run_count].item = (argument){octets, len};
+    runs[run_count++].times = times;
+}
+
+/* The runs: so many of an item, the item that varies, and so many of another. */
+static size_t set_runs(const uint8_t *before, size_t lower, argument item, const uint8_t *after, size_t upper) {
+    run_count = 0;
+    run_of(before, 1, lower);
+    run_of(item.items, item.len, 1);
+    run_of(after, 1, upper);
+    return lower + 1 + upper;
+}
+
+/* The identifiers beside an item of a few octets or of many. */
+static void search_beside(argument item) {
+    static uint8_t longer[MOST], other[MOST];
+    static const uint8_t low[] = {0}, high[] = {0x2C}, above[] = {0x2A}, below[] = {0x2B, 1};
+    size_t len = item.len < MOST - 1 ? item.len : 3;
+    if (len > 0) memcpy(longer, item.items, len);
+    if (len > 0) memcpy(other, item.items, len);
+    longer[len] = 1;
+    if (len > 0) other[len - 1] ^= 1;
+    const argument all[SEARCHED] = {{longer, len}, {longer, len > 0 ? len - 1 : 0}, {longer, len + 1}, {other, len},
+        {low, 1}, {high, 1}, {above, 1}, {below, 2}};
+    memcpy(searched, all, sizeof all);
+}
+
+/* The list of the runs, copied out. */
+static void with_runs(int lead, argument item, size_t count) {
+    static const_oid_octets items[MOST];
+    size_t at = 0;
+    for (size_t i = 0; i < run_count; i++) {
+        const const_oid_octets octets = {runs[i].item.items, runs[i].item.len};
+        for (size_t k = 0; k < runs[i].times; k++) items[at++] = octets;
+    }
+    search_beside(item);
+    with(lead, items, count);
+}
+
+static const uint8_t one[] = {1}, two[] = {0x2B}, three[] = {0x2C};
+
+/* An item of each length, the first one, in the middle and the last one. */
+static void vary_items(int lead, argument item) {
+    for (size_t lower = 0; lower <= 2; lower++) with_runs(lead, item, set_runs(one, lower, item, two, 2 - lower));
+}
+
+static void vary_item_lengths(int lead) {
+    static uint8_t octets[MOST];
+    for (int i = 0; i < LENS; i++) {
+        for (int form = 0; form < 6; form += len_at(i) > 1000 ? 4 : 1) {
+            fill_octets(octets, len_at(i), form);
+            vary_items(lead, (argument){octets, len_at(i)});
+        }
+    }
+    vary_items(lead, (argument){NULL, 0});
+    /* Checks read all of an item that is right. */
+    int reads_all = lead == 0;
+    memcpy(input_pages.start, (const uint8_t[]){0x2A, 3, 4, reads_all ? 0x80 : 0}, 4);
+    is_sorted = !reads_all;
+    for (int i = 2; i < CUTS; i++)
+        if (has(input_pages.len, cuts[i], 1)) vary_items(lead, (argument){input_pages.start, (size_t)cuts[i] + 3});
+    is_sorted = 0;
+}
+
+/* An item in lists of each number of items; and lists that are not sorted. */
+static void vary_counts(int lead) {
+    static const uint8_t middle[] = {0x2A, 3};
+    const argument item = {middle, 2};
+    search_beside(item);
+    run_count = 0;
+    with(lead, NULL, 0);
+    with(lead, usual_list, 0);
+    for (int i = 0; i < LENS; i++) {
+        size_t others = len_at(i);
+        with_runs(lead, item, set_runs(one, others, item, two, 0));
+        with_runs(lead, item, set_runs(one, others / 2, item, two, others - others / 2));
+        with_runs(lead, item, set_runs(one, 0, item, two, others));
+        with_runs(lead, item, set_runs(three, others, item, NULL, 0));
+    }
+}
+
+/* A list of 2^32 items and one more: wrong from the second one on, or sorted, all equal but the last one. */
+static void vary_huge_lists(int lead) {
+    const_oid_octets *items = (const_oid_octets *)(void *)list_pages.start;
+    int reads_all = lead == 0;
+    if (reads_all) {
+        items[0] = (const_oid_octets){one, 1};
+        set_runs(one, 1, (argument){NULL, 0}, NULL, 0);
+        for (int i = 0; i < CUTS; i++)
+            if (has(list_pages.len, cuts[i], sizeof *items)) with(lead, items, (size_t)cuts[i] + 1);
+    } else if (equal_items != NULL) {
+        const argument item = {three, 1};
+        set_runs(one, (size_t)cuts[CUTS - 1], item, NULL, 0);
+        is_sorted = 1;
+        search_beside(item);
+        with(lead, equal_items, (size_t)cuts[CUTS - 1] + 1);
+        is_sorted = 0;
+    }
+}
+
+static void vary_list(int lead) {
+    vary_item_lengths(lead);
+    vary_counts(lead);
+    vary_huge_lists(lead);
+}
+
+/* The list of usual_list. */
+static void list_usual(void) {
+    run_count = 4;
+    for (size_t i = 0; i < run_count; i++) {
+        runs[i].item = (argument){usual_list[i].octets, usual_list[i].len};
+        runs[i].times = 1;
+    }
+}
+
+static void vary(int lead) {
+    list_usual();
+    switch (f->kinds[lead]) {
+        case OCTETS:
+        case ITEM: vary_array(lead, OCTETS); break;
+        case TEXT:
+        case ARCS: vary_array(lead, f->kinds[lead]); break;
+        case LIST: vary_list(lead); break;
+        default: vary_numbers(lead);
+    }
+}
+
+/* Arguments with a result that is written. */
+static void set_usual(void) {
+    argument values[SEARCHED] = {{NULL, 0}};
+    list_usual();
+    for (int at = 0; at < ARGUMENTS; at++) {
+        values_beside(f->kinds[at], NOTHING, a[at], values);
+        a[at] = sizes[f->kinds[at]] == 0 ? (argument){NULL, 1} : is_output(at) ? (argument){usual, 64} : values[0];
+    }
+}
+
+/* The call ends the process. */
+static void ends_process(const argument *given) {
+    fflush(NULL);
+    pid_t child = fork();
+    if (child == 0) {
+        const struct rlimit no_dump = {0, 0};
+        setrlimit(RLIMIT_CORE, &no_dump);
+        if (freopen("/dev/null", "w", stderr) != NULL) f->call(given);
+        _exit(0);
+    }
+    int ended = 0;
+    must(child > 0 && waitpid(child, &ended, 0) == child, "no process");
+    must(!WIFEXITED(ended) || WEXITSTATUS(ended) != 0, "a null pointer with a length is accepted");
+}
+
+/* A null pointer with a length is a mistake of the caller, also in an item. It is not taken for an empty array. */
+static void check_nulls(void) {
+    static const const_oid_octets null_item[] = {{NULL, 3}};
+    set_usual();
+    for (int at = 0; at < ARGUMENTS; at++) {
+        argument given[ARGUMENTS];
+        if (sizes[f->kinds[at]] == 0) continue;
+        place(given);
+        given[at].items = NULL;
+        ends_process(given);
+        if (f->kinds[at] != LIST) continue;
+        given[at] = (argument){null_item, 1};
+        ends_process(given);
+    }
+}
+
+/* The input changes between two calls, which a compiler that is told that they read no memory would not see. */
+static uint8_t *changed_input;
+static size_t changed_len;
+static int changed_to;
+static void change(void) { memset(changed_input, changed_to, changed_len); }
+
+static void check_changes(void) {
+    for (int at = 0; at < output_at(); at++) {
+        argument given[ARGUMENTS];
+        if (sizes[f->kinds[at]] == 0) continue;
+        set_usual();
+        place(given);
+        const_oid_status before = f->call(given);
+        changed_input = ends[at] - bytes_of(at);
+        changed_len = f->kinds[at] == LIST ? bytes_of(at) : sizes[f->kinds[at]];
+        changed_to = f->kinds[at] == LIST ? 0 : 0x80;
+        const_oid_status after = f->call_twice(given, change), again = f->call(given);
+        must(after.code == again.code && after.len == again.len, "a call does not read its input again");
+        must(before.code != after.code || f->kinds[2] == RANGE_OUT, "the change has no effect");
+    }
+}
+
+/* The constants of the header are the greatest results. */
+static void check_constants(void) {
+    static uint8_t octets[CONST_OID_MAX_OCTETS + 1];
+    size_t longest = 0;
+    memset(octets, 0x7F, sizeof octets);
+    SEE(const_oid_to_text(octets, CONST_OID_MAX_OCTETS, NULL, 0).len == CONST_OID_MAX_TEXT, 0);
+    SEE(const_oid_len(octets, CONST_OID_MAX_OCTETS).len == CONST_OID_MAX_ARCS, 0);
+    SEE(const_oid_cmp_owned(octets, CONST_OID_MAX_OCTETS, octets, 1).code == CONST_OID_OK, 0);
+    SEE(const_oid_cmp_owned(octets, CONST_OID_MAX_OCTETS + 1, octets, 1).code == CONST_OID_LENGTH, 0);
+    for (uint32_t code = 0; code < 16; code++) {
+        size_t len = const_oid_error_text(code, UINT32_MAX, NULL, 0).len;
+        longest = len > longest ? len : longest;
+    }
+    SEE(longest == CONST_OID_MAX_ERROR_TEXT, longest);
+}
+
+/* Memory that is mapped and not written, of so many bytes or as many as there are. */
+static void map(pages *to, int bits) {
+    for (; to->start == NULL && bits > 20; bits--) {
+        uint64_t bytes = (UINT64_C(1) << bits) + 4096;
+        if (bytes > SIZE_MAX / 2) continue;
+        void *start = mmap(NULL, (size_t)bytes, PROT_READ | PROT_WRITE,
+            MAP_PRIVATE | MAP_ANONYMOUS | MAP_NORESERVE, -1, 0);
+        if (start != MAP_FAILED) *to = (pages){start, bytes};
+    }
+    SEE(to->start != NULL, 0);
+}
+
+/* 2^32 items that are equal and one more: some pages of a file again and again. */
+static void map_equal_items(void) {
+    enum { CHUNK = 1 << 24 };
+    static pages all;
+    map(&all, 36);
+    int file = memfd_create("items", 0);
+    if (!has(all.len, cuts[CUTS - 1], sizeof(const_oid_octets)) || file < 0 || ftruncate(file, CHUNK) != 0) return;
+    for (uint64_t at = 0; at < UINT64_C(1) << 36; at += CHUNK) {
+        void *start = mmap(all.start + at, CHUNK, PROT_READ | PROT_WRITE, MAP_SHARED | MAP_FIXED, file, 0);
+        SEE(start != MAP_FAILED, (size_t)at);
+    }
+    equal_items = (const_oid_octets *)(void *)all.start;
+    for (size_t i = 0; i < CHUNK / sizeof *equal_items; i++) equal_items[i] = (const_oid_octets){one, 1};
+    equal_items[cuts[CUTS - 1]] = (const_oid_octets){three, 1};
+}
+
+/* The memory of an argument, between pages that no one may touch. */
+static void map_arguments(void) {
+    size_t page = (size_t)sysconf(_SC_PAGESIZE);
+    for (int at = 0; at < ARGUMENTS; at++) {
+        uint8_t *start = mmap(NULL, SLOT + 2 * page, PROT_NONE, MAP_PRIVATE | MAP_ANONYMOUS, -1, 0);
+        SEE(start != MAP_FAILED && mprotect(start + page, SLOT, PROT_READ | PROT_WRITE) == 0, (size_t)at);
+        ends[at] = start + page + SLOT;
+    }
+}
+
+int main(void) {
+    map_arguments();
+    map(&input_pages, 34);
+    map(&output_pages, 34);
+    map(&list_pages, 36);
+    map_equal_items();
+    for (int i = 0; i < FUNCTIONS; i++) {
+        f = &functions[i];
+        check_nulls();
+        check_changes();
+        set_usual();
+        with_outputs();
+        set_usual();
+        if (is_output(output_at()) && f->kinds[output_at()] != RANGE_OUT) with_huge_outputs();
+        for (int at = 0; at < output_at(); at++) vary(at);
+    }
+    check_constants();
+    if (equal_items == NULL) printf("tests: no length past 2^32, since no more is mapped\n");
+    return 0;
+}
