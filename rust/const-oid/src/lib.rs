@@ -29,8 +29,6 @@ pub mod db;
     dead_code,
     unused_imports,
     missing_docs,
-// Bytes that are UTF-8 become a text without a check.
-    unsafe_code,
 // Written for the checker, or for functions that are constant.
     clippy::all,
 )]

@@ -91,6 +91,8 @@ pub const CRATES: &[Crate] = &[
             "db*": "Oid" => "ObjectIdentifier", "the crate has one name for the type";
             "db_sorted": "(self.entries, &oid)" => "(self.entries, &oid.erased())", LENT;
             "db_sorted*": "(self.entries, oid)" => "(self.entries, &oid.erased())", LENT;
+            "text": "pub(crate) fn utf8" => "#[allow(unsafe_code)]\npub(crate) fn utf8",
+                "bytes that are UTF-8 become a text without a check: the crate denies other unsafe code";
             "parts": "use core::simd::prelude::*; use core::simd::u8x32;" => "", LANES;
             "parts": "let lanes = u8x32::from_slice(octets).simd_lt(u8x32::splat(128));
                         lanes.to_bitmask().count_ones() as usize"

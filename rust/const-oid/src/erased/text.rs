@@ -104,6 +104,7 @@ pub(crate) fn write_bytes(bytes: &[u8], out: &mut [u8], at: usize) -> usize {
 
 /// The text of bytes that are UTF-8.
 #[inline]
+#[allow(unsafe_code)]
 pub(crate) fn utf8(bytes: &[u8]) -> &str {
     // SAFETY: each call is proved to pass UTF-8, so the bytes are not looked at again.
     unsafe { str::from_utf8_unchecked(bytes) }
