@@ -1,5 +1,5 @@
-/* The extension module const_oid._native, for the stable ABI of Python 3.11. An identifier holds its contents octets, and
- * const_oid.h computes each result. There is no state here, so each interpreter has its own module and type. */
+/* The extension module const_oid._native, for the stable ABI of Python 3.11. An identifier holds its contents octets,
+ * and const_oid.h computes each result. There is no state here, so each interpreter has its own module and type. */
 #define Py_LIMITED_API 0x030B0000
 #define PY_SSIZE_T_CLEAN
 #include <Python.h>
@@ -34,34 +34,57 @@ static void identifier_dealloc(PyObject *self) {
     Py_DECREF(type);
 }
 
-/* Whether an object is an ObjectIdentifier, or of a type that is made from it. */
-static int is_identifier(PyObject *object) {
-    PyTypeObject *type = Py_TYPE(object);
-    while (type && (destructor)PyType_GetSlot(type, Py_tp_dealloc) != identifier_dealloc) {
-        type = (PyTypeObject *)PyType_GetSlot(type, Py_tp_base);
-    }
-    return type != NULL;
+/* Whether a type is ObjectIdentifier itself, and no subclass. */
+static int is_plain(PyTypeObject *type) {
+    return (destructor)PyType_GetSlot(type, Py_tp_dealloc) == identifier_dealloc;
 }
 
-/* Raises the OidError of a status, with what was given. */
-static PyObject *failed(const_oid_status status, PyObject *given) {
-    PyObject *package = PyImport_ImportModule("const_oid"), *error = NULL;
-    if (package) error = PyObject_CallMethod(package, "OidError", "IIO", status.code, status.detail, given);
+/* ObjectIdentifier, of which a type is a subclass, or which it is. NULL if it is another type. */
+static PyTypeObject *base_of(PyTypeObject *type) {
+    while (type && !is_plain(type)) type = (PyTypeObject *)PyType_GetSlot(type, Py_tp_base);
+    return type;
+}
+
+static int is_identifier(PyObject *object) { return base_of(Py_TYPE(object)) != NULL; }
+
+/* An attribute. Python's cache of methods would keep each name that is not interned. */
+static PyObject *attribute(PyObject *object, const char *name) {
+    PyObject *interned = object ? PyUnicode_InternFromString(name) : NULL;
+    PyObject *result = interned ? PyObject_GetAttr(object, interned) : NULL;
+    Py_XDECREF(interned);
+    return result;
+}
+
+/* What a function of const_oid._support returns. The arguments are a tuple, which it takes. */
+static PyObject *supported(const char *name, PyObject *arguments) {
+    PyObject *module = arguments ? PyImport_ImportModule("const_oid._support") : NULL;
+    PyObject *function = attribute(module, name);
+    PyObject *result = function ? PyObject_CallObject(function, arguments) : NULL;
+    Py_XDECREF(module);
+    Py_XDECREF(function);
+    Py_XDECREF(arguments);
+    return result;
+}
+
+/* Raises the exception that such a function returns. */
+static PyObject *raised(const char *name, PyObject *arguments) {
+    PyObject *error = supported(name, arguments);
     if (error) PyErr_SetObject((PyObject *)Py_TYPE(error), error);
-    Py_XDECREF(package);
     Py_XDECREF(error);
     return NULL;
 }
 
-static PyObject *wrong_type(const char *wanted, PyObject *given) {
-    PyObject *name = PyType_GetName(Py_TYPE(given));
-    if (name) PyErr_Format(PyExc_TypeError, "%s, not %U", wanted, name);
-    Py_XDECREF(name);
-    return NULL;
+/* Raises the OidError of a status, with what was given. */
+static PyObject *failed(const_oid_status status, PyObject *given) {
+    return raised("OidError", Py_BuildValue("IIO", status.code, status.detail, given));
 }
 
-/* The identifier with valid octets, which it takes. */
-static PyObject *made(PyTypeObject *type, PyObject *octets) {
+static PyObject *wrong_type(const char *wanted, PyObject *given) {
+    return raised("wrong_type", Py_BuildValue("sO", wanted, given));
+}
+
+/* An object of a type, with valid octets, which it takes. */
+static PyObject *allocated(PyTypeObject *type, PyObject *octets) {
     if (!octets) return NULL;
     Identifier *self = (Identifier *)PyType_GenericAlloc(type, 0);
     if (self) {
@@ -73,10 +96,38 @@ static PyObject *made(PyTypeObject *type, PyObject *octets) {
     return (PyObject *)self;
 }
 
-/* The identifier with the octets that a call wrote, or its error. */
-static PyObject *made_of(PyTypeObject *type, const uint8_t *out, const_oid_status status, PyObject *given) {
-    if (status.code) return failed(status, given);
-    return made(type, PyBytes_FromStringAndSize((const char *)out, (Py_ssize_t)status.len));
+/* The same by a call of a subclass with a plain identifier, so that its __init__ runs. */
+static PyObject *made(PyTypeObject *type, PyObject *octets) {
+    if (is_plain(type)) return allocated(type, octets);
+    PyObject *plain = allocated(base_of(type), octets);
+    PyObject *result = plain ? PyObject_CallFunctionObjArgs((PyObject *)type, plain, NULL) : NULL;
+    Py_XDECREF(plain);
+    return result;
+}
+
+/* The most octets of an arc. */
+#define ARC_OCTETS 5
+
+/* Where a call writes octets: `room`, or memory to free. */
+typedef struct {
+    uint8_t room[ARC_OCTETS * CONST_OID_MAX_ARCS];
+    uint8_t *start;
+    size_t len;
+} Output;
+
+static int has_room(Output *out, size_t len) {
+    out->len = len;
+    out->start = len <= sizeof out->room ? out->room : PyMem_Malloc(len);
+    if (!out->start) PyErr_NoMemory();
+    return out->start != NULL;
+}
+
+/* The octets that a call wrote, or its error. Frees the output. */
+static PyObject *written(Output *out, const_oid_status status, PyObject *given) {
+    PyObject *octets = status.code ? failed(status, given)
+                                   : PyBytes_FromStringAndSize((const char *)out->start, (Py_ssize_t)status.len);
+    if (out->start != out->room) PyMem_Free(out->start);
+    return octets;
 }
 
 /* UTF-8 of a str; a surrogate is no UTF-8, as the library says itself. */
@@ -90,15 +141,17 @@ static const char *utf8_of(PyObject *text, Py_ssize_t *len, PyObject **encoded) 
     return PyBytes_AsString(*encoded);
 }
 
-static PyObject *made_of_text(PyTypeObject *type, PyObject *text) {
-    uint8_t out[CONST_OID_MAX_OCTETS];
-    PyObject *encoded = NULL;
+/* The octets of a text, which has at least as many bytes. */
+static PyObject *octets_of_text(PyObject *text) {
+    Output out;
+    PyObject *encoded = NULL, *octets = NULL;
     Py_ssize_t len;
     const char *data = utf8_of(text, &len, &encoded);
-    if (!data) return NULL;
-    const_oid_status status = const_oid_from_text((const void *)data, (size_t)len, out, sizeof out);
+    if (data && has_room(&out, (size_t)len)) {
+        octets = written(&out, const_oid_from_text((const void *)data, (size_t)len, out.start, out.len), text);
+    }
     Py_XDECREF(encoded);
-    return made_of(type, out, status, text);
+    return octets;
 }
 
 static PyObject *identifier_new(PyTypeObject *type, PyObject *arguments, PyObject *keywords) {
@@ -108,10 +161,10 @@ static PyObject *identifier_new(PyTypeObject *type, PyObject *arguments, PyObjec
                  : !PyArg_UnpackTuple(arguments, "ObjectIdentifier", 1, 1, &given)) {
         return NULL;
     }
-    if (PyUnicode_Check(given)) return made_of_text(type, given);
+    if (PyUnicode_Check(given)) return allocated(type, octets_of_text(given));
     if (!is_identifier(given)) return wrong_type("text must be a str", given);
-    if (Py_TYPE(given) == type) return Py_NewRef(given);
-    return made(type, Py_NewRef(((Identifier *)given)->octets));
+    if (Py_TYPE(given) == type && is_plain(type)) return Py_NewRef(given);
+    return allocated(type, Py_NewRef(((Identifier *)given)->octets));
 }
 
 static PyObject *identifier_from_bytes(PyObject *type, PyObject *given) {
@@ -155,39 +208,33 @@ static Py_ssize_t read_arcs(PyObject *items, Py_ssize_t count, uint32_t *arcs) {
     return fitting;
 }
 
-/* Raises the error of arcs and then one past 32 bits, which only a text can have. */
-static PyObject *failed_past_32_bits(const uint32_t *arcs, size_t len, PyObject *given) {
-    char *text = PyMem_Malloc(11 * len + sizeof "4294967296"), *end = text;
-    if (!text) return PyErr_NoMemory();
-    for (size_t index = 0; index < len; index++) end += sprintf(end, "%lu.", (unsigned long)arcs[index]);
-    end += sprintf(end, "4294967296");
-    const_oid_status status = const_oid_from_text((const void *)text, (size_t)(end - text), NULL, 0);
-    PyMem_Free(text);
-    return failed(status, given);
+/* An arc past 32 bits is wrong if none before it is. */
+static const_oid_status past_32_bits(const_oid_status before) {
+    const_oid_status status = {CONST_OID_ARC_TOO_BIG, 0, 0};
+    return before.code && before.code != CONST_OID_EMPTY ? before : status;
 }
 
-static PyObject *made_of_arcs(PyTypeObject *type, PyObject *items, Py_ssize_t count, uint32_t *arcs) {
-    uint8_t out[CONST_OID_MAX_OCTETS];
+static PyObject *octets_of_arcs(PyObject *items, Py_ssize_t count, uint32_t *arcs) {
+    Output out;
     Py_ssize_t fitting = read_arcs(items, count, arcs);
-    if (fitting < 0) return NULL;
-    if (fitting < count) return failed_past_32_bits(arcs, (size_t)fitting, items);
-    const_oid_status status = const_oid_from_arcs(arcs, (size_t)count, out, sizeof out);
-    return made_of(type, out, status, items);
+    if (fitting < 0 || !has_room(&out, ARC_OCTETS * (size_t)fitting)) return NULL;
+    const_oid_status status = const_oid_from_arcs(arcs, (size_t)fitting, out.start, out.len);
+    return written(&out, fitting < count ? past_32_bits(status) : status, items);
 }
 
 static PyObject *identifier_from_arcs(PyObject *type, PyObject *given) {
     if (PyUnicode_Check(given) || PyBytes_Check(given) || PyByteArray_Check(given) || PyMemoryView_Check(given)) {
         return wrong_type("arcs must be an iterable of int", given);
     }
-    PyObject *items = PySequence_Tuple(given), *result;
+    PyObject *items = PySequence_Tuple(given), *octets;
     if (!items) return NULL;
     uint32_t room[CONST_OID_MAX_ARCS], *arcs = room;
     Py_ssize_t count = PyTuple_Size(items);
     if (count > CONST_OID_MAX_ARCS) arcs = PyMem_Calloc((size_t)count, sizeof *arcs);
-    result = arcs ? made_of_arcs((PyTypeObject *)type, items, count, arcs) : PyErr_NoMemory();
+    octets = arcs ? octets_of_arcs(items, count, arcs) : PyErr_NoMemory();
     if (arcs != room) PyMem_Free(arcs);
     Py_DECREF(items);
-    return result;
+    return made((PyTypeObject *)type, octets);
 }
 
 static PyObject *decoded(const_oid_octets octets) {
@@ -219,49 +266,22 @@ static PyObject *identifier_arcs(PyObject *self, void *closure) {
     return Py_XNewRef(arcs_of(self));
 }
 
-/* The most octets of an arc. */
-#define ARC_OCTETS 5
-
-/* Room for octets and one more arc: `room`, or memory to free. */
-typedef struct {
-    uint8_t room[CONST_OID_MAX_OCTETS + ARC_OCTETS];
-    uint8_t *start;
-    size_t len;
-} Output;
-
-static int has_room(Output *out, size_t octets) {
-    out->len = octets + ARC_OCTETS;
-    out->start = out->len <= sizeof out->room ? out->room : PyMem_Malloc(out->len);
-    if (!out->start) PyErr_NoMemory();
-    return out->start != NULL;
-}
-
-static void free_room(Output *out) {
-    if (out->start != out->room) PyMem_Free(out->start);
-}
-
+/* The octets of a parent are a prefix, of the length that a call without output needs. */
 static PyObject *identifier_parent(PyObject *self, void *closure) {
     (void)closure;
-    Output out;
     const_oid_octets octets = octets_of(self);
-    if (!has_room(&out, octets.len)) return NULL;
-    const_oid_status status = const_oid_parent(octets.octets, octets.len, out.start, out.len);
-    PyObject *result = status.code == CONST_OID_NONE ? Py_NewRef(Py_None) : made_of(Py_TYPE(self), out.start, status, self);
-    free_room(&out);
-    return result;
+    const_oid_status status = const_oid_parent(octets.octets, octets.len, NULL, 0);
+    if (status.code == CONST_OID_NONE) Py_RETURN_NONE;
+    return made(Py_TYPE(self), PyBytes_FromStringAndSize((const char *)octets.octets, (Py_ssize_t)status.len));
 }
 
 static PyObject *identifier_child(PyObject *self, PyObject *item) {
     Output out;
     uint64_t arc;
-    if (!read_arc(item, &arc)) return NULL;
-    if (arc > UINT32_MAX) return failed_past_32_bits(NULL, 0, item);
     const_oid_octets octets = octets_of(self);
-    if (!has_room(&out, octets.len)) return NULL;
+    if (!read_arc(item, &arc) || !has_room(&out, octets.len + ARC_OCTETS)) return NULL;
     const_oid_status status = const_oid_push_arc(octets.octets, octets.len, (uint32_t)arc, out.start, out.len);
-    PyObject *result = made_of(Py_TYPE(self), out.start, status, item);
-    free_room(&out);
-    return result;
+    return made(Py_TYPE(self), written(&out, arc > UINT32_MAX ? past_32_bits(status) : status, item));
 }
 
 static PyObject *identifier_starts_with(PyObject *self, PyObject *prefix) {
@@ -325,7 +345,7 @@ static Py_ssize_t identifier_len(PyObject *self) {
 
 static int identifier_contains(PyObject *self, PyObject *item) {
     if (!PyIndex_Check(item)) {
-        wrong_type("arc must be an int (starts_with looks for a prefix)", item);
+        wrong_type("arc must be an int (starts_with takes a prefix)", item);
         return -1;
     }
     PyObject *arcs = arcs_of(self), *number = arcs ? PyNumber_Index(item) : NULL;
@@ -351,32 +371,75 @@ static PyObject *identifier_iter(PyObject *self) {
 
 /* A method of the tuple of arcs. */
 static PyObject *of_arcs(PyObject *self, const char *name, PyObject *arguments) {
-    PyObject *arcs = arcs_of(self), *method = arcs ? PyObject_GetAttrString(arcs, name) : NULL;
+    PyObject *method = attribute(arcs_of(self), name);
     PyObject *result = method ? PyObject_CallObject(method, arguments) : NULL;
     Py_XDECREF(method);
     return result;
 }
 
-static PyObject *identifier_index(PyObject *self, PyObject *arguments) { return of_arcs(self, "index", arguments); }
+static PyObject *identifier_index(PyObject *self, PyObject *arguments) {
+    PyObject *index = of_arcs(self, "index", arguments);
+    if (!index && PyErr_ExceptionMatches(PyExc_ValueError)) {
+        PyErr_Format(PyExc_ValueError, "%R is not among the arcs", PyTuple_GetItem(arguments, 0));
+    }
+    return index;
+}
+
 static PyObject *identifier_count(PyObject *self, PyObject *arguments) { return of_arcs(self, "count", arguments); }
 
-static PyObject *identifier_copy(PyObject *self, PyObject *memo) {
-    (void)memo;
-    return Py_NewRef(self);
+static PyObject *identifier_copy(PyObject *self, PyObject *none) {
+    (void)none;
+    return is_plain(Py_TYPE(self)) ? Py_NewRef(self) : supported("copied", Py_BuildValue("(O)", self));
+}
+
+static PyObject *identifier_deepcopy(PyObject *self, PyObject *memo) {
+    return is_plain(Py_TYPE(self)) ? Py_NewRef(self) : supported("copied", Py_BuildValue("OO", self, memo));
+}
+
+/* A subclass is called again, and gets its attributes. */
+static PyObject *reduced_subclass(PyObject *self) {
+    PyObject *method = attribute(self, "__getstate__"), *state = method ? PyObject_CallNoArgs(method) : NULL;
+    PyObject *plain = state ? allocated(base_of(Py_TYPE(self)), Py_NewRef(((Identifier *)self)->octets)) : NULL;
+    PyObject *result = plain ? Py_BuildValue("O(O)O", Py_TYPE(self), plain, state) : NULL;
+    Py_XDECREF(method);
+    Py_XDECREF(state);
+    Py_XDECREF(plain);
+    return result;
 }
 
 static PyObject *identifier_reduce(PyObject *self, PyObject *none) {
     (void)none;
-    PyObject *call = PyObject_GetAttrString((PyObject *)Py_TYPE(self), "from_bytes");
-    return call ? Py_BuildValue("N(O)", call, ((Identifier *)self)->octets) : NULL;
+    if (!is_plain(Py_TYPE(self))) return reduced_subclass(self);
+    PyObject *restored = attribute(PyType_GetModule(Py_TYPE(self)), "restored");
+    return restored ? Py_BuildValue("N(O)", restored, ((Identifier *)self)->octets) : NULL;
+}
+
+/* numpy takes an identifier as one value, and not as a sequence. */
+static PyObject *identifier_array(PyObject *self, PyObject *arguments, PyObject *keywords) {
+    (void)arguments, (void)keywords;
+    PyObject *numpy = PyImport_ImportModule("numpy"), *none = PyTuple_New(0), *array = NULL;
+    if (numpy && none) array = PyObject_CallMethod(numpy, "empty", "Os", none, "O");
+    if (array && PyObject_SetItem(array, none, self)) Py_CLEAR(array);
+    Py_XDECREF(numpy);
+    Py_XDECREF(none);
+    return array;
+}
+
+/* Reads a number of 32 bits. Returns whether there is one. */
+static int read_number(PyObject *item, void *number) {
+    unsigned long value = PyLong_AsUnsignedLong(item);
+    if (value == (unsigned long)-1 && PyErr_Occurred()) return 0;
+    if (value > UINT32_MAX) PyErr_SetString(PyExc_OverflowError, "a number of more than 32 bits");
+    *(uint32_t *)number = (uint32_t)value;
+    return value <= UINT32_MAX;
 }
 
 /* The text of a code and its detail, or None. */
 static PyObject *error_text(PyObject *module, PyObject *arguments) {
     (void)module;
     char text[CONST_OID_MAX_ERROR_TEXT];
-    unsigned int code, detail;
-    if (!PyArg_ParseTuple(arguments, "II", &code, &detail)) return NULL;
+    uint32_t code, detail;
+    if (!PyArg_ParseTuple(arguments, "O&O&", read_number, &code, read_number, &detail)) return NULL;
     const_oid_status status = const_oid_error_text(code, detail, (void *)text, sizeof text);
     if (status.code) Py_RETURN_NONE;
     return PyUnicode_FromStringAndSize(text, (Py_ssize_t)status.len);
@@ -385,8 +448,7 @@ static PyObject *error_text(PyObject *module, PyObject *arguments) {
 PyDoc_STRVAR(identifier_doc, "ObjectIdentifier(text)\n--\n\n\
 An object identifier: at least two arcs of 32 bits.\n\
 \n\
-The constructor parses dotted text, or returns an identifier that it is given. An identifier of text or arcs has at\n\
-most 255 contents octets; from_bytes reads any length.\n\
+The constructor parses dotted text, or returns an identifier that it is given. There may be any number of arcs.\n\
 \n\
 >>> oid = ObjectIdentifier(\"2.999.3\")\n\
 >>> oid\n\
@@ -404,7 +466,22 @@ It is immutable and hashable, and ordered by its arcs, as in SNMP (RFC 3416). No
 >>> oid == (2, 999, 3), oid == \"2.999.3\", oid.arcs == (2, 999, 3), str(oid) == \"2.999.3\"\n\
 (False, False, True, True)\n\
 >>> f\"{oid:>10}\"\n\
-'   2.999.3'");
+'   2.999.3'\n\
+>>> match oid:\n\
+...     case ObjectIdentifier((2, 999, *rest)):\n\
+...         print(rest)\n\
+[3]\n\
+\n\
+numpy takes it as one value: numpy.array makes an array of objects from a list of identifiers.\n\
+\n\
+from_bytes, from_arcs, parent, child, copies and pickles of a subclass call it with an ObjectIdentifier, so its\n\
+__init__ runs. Copies and pickles then also get the attributes.\n\
+\n\
+>>> class Named(ObjectIdentifier):\n\
+...     def __init__(self, text):\n\
+...         self.name = names.name_of(ObjectIdentifier(text))\n\
+>>> Named(\"2.5.4\").child(3).name\n\
+'cn'");
 
 PyDoc_STRVAR(from_bytes_doc, "from_bytes($type, octets, /)\n--\n\n\
 Decodes contents octets: those after the tag and the length.\n\
@@ -413,7 +490,8 @@ Decodes contents octets: those after the tag and the length.\n\
 ObjectIdentifier('1.2.840')");
 
 PyDoc_STRVAR(from_arcs_doc, "from_arcs($type, arcs, /)\n--\n\n\
-Encodes arcs. One past 32 bits has the same error as in text, and a negative one is a ValueError.\n\
+Encodes arcs. One past 32 bits has the same error as in text, and a negative one is a ValueError. All arcs are\n\
+read first, so it does not return if they have no end.\n\
 \n\
 >>> ObjectIdentifier.from_arcs([1, 2, 840])\n\
 ObjectIdentifier('1.2.840')\n\
@@ -466,10 +544,12 @@ static PyMethodDef identifier_methods[] = {
     {"index", identifier_index, METH_VARARGS, index_doc},
     {"count", identifier_count, METH_VARARGS, count_doc},
     {"__bytes__", identifier_bytes, METH_NOARGS, "__bytes__($self, /)\n--\n\nThe contents octets."},
-    {"__format__", identifier_format, METH_O, "__format__($self, specification, /)\n--\n\nFormats the text, as str does."},
-    {"__copy__", identifier_copy, METH_NOARGS, "__copy__($self, /)\n--\n\nReturns itself."},
-    {"__deepcopy__", identifier_copy, METH_O, "__deepcopy__($self, memo, /)\n--\n\nReturns itself."},
+    {"__format__", identifier_format, METH_O, "__format__($self, specification, /)\n--\n\nFormats the text, as str."},
+    {"__copy__", identifier_copy, METH_NOARGS, "__copy__($self, /)\n--\n\nItself, unless of a subclass."},
+    {"__deepcopy__", identifier_deepcopy, METH_O, "__deepcopy__($self, memo, /)\n--\n\nItself, unless of a subclass."},
     {"__reduce__", identifier_reduce, METH_NOARGS, "__reduce__($self, /)\n--\n\nFor pickle, which checks the octets."},
+    {"__array__", (PyCFunction)(void (*)(void))identifier_array, METH_VARARGS | METH_KEYWORDS,
+        "__array__($self, dtype=None, copy=None)\n--\n\nAn array of numpy, without dimensions, of this object."},
     {0},
 };
 
@@ -517,16 +597,27 @@ static int module_exec(PyObject *module) {
         return -1;
     }
     PyObject *text = PyUnicode_FromFormat("%lu.%lu.%lu", version / 65536, version / 256 % 256, version % 256);
-    PyObject *type = PyType_FromModuleAndSpec(module, &identifier_spec, NULL);
-    int status = text && type ? PyModule_AddObjectRef(module, "__version__", text) : -1;
+    PyObject *type = PyType_FromModuleAndSpec(module, &identifier_spec, NULL), *arcs = Py_BuildValue("(s)", "arcs");
+    int status = text && type && arcs ? PyObject_SetAttrString(type, "__match_args__", arcs) : -1;
+    if (!status) status = PyModule_AddObjectRef(module, "__version__", text);
     if (!status) status = PyModule_AddType(module, (PyTypeObject *)type);
     Py_XDECREF(text);
     Py_XDECREF(type);
+    Py_XDECREF(arcs);
     return status;
+}
+
+/* The identifier of a pickle. */
+static PyObject *restored(PyObject *module, PyObject *octets) {
+    PyObject *type = PyObject_GetAttrString(module, "ObjectIdentifier");
+    PyObject *result = type ? identifier_from_bytes(type, octets) : NULL;
+    Py_XDECREF(type);
+    return result;
 }
 
 static PyMethodDef module_methods[] = {
     {"error_text", error_text, METH_VARARGS, "The text of a code and its detail, or None."},
+    {"restored", restored, METH_O, "The identifier of a pickle, which has its octets."},
     {0},
 };
 
@@ -538,7 +629,8 @@ static PyModuleDef_Slot module_slots[] = {
 };
 
 static struct PyModuleDef module = {
-    PyModuleDef_HEAD_INIT, "_native", "Identifiers over the library const_oid_c.", 0, module_methods, NULL, NULL, NULL, NULL,
+    PyModuleDef_HEAD_INIT, "_native", "Identifiers over the library const_oid_c.", 0, module_methods, NULL, NULL, NULL,
+    NULL,
 };
 
 PyMODINIT_FUNC PyInit__native(void) {

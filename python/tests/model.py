@@ -1,8 +1,7 @@
 """The rules of X.660 and of X.690, 8.19, in Python: what the library must return. Arcs are tuples."""
 
 MAX_ARC = 2**32 - 1
-MAX_OCTETS = 255
-ARC_INVALID, ARC_TOO_BIG, BASE128, DIGIT_EXPECTED, EMPTY, LENGTH = 1, 2, 3, 4, 5, 6
+ARC_INVALID, ARC_TOO_BIG, BASE128, DIGIT_EXPECTED, EMPTY = 1, 2, 3, 4, 5
 REPEATED_DOT, TRAILING_DOT, NOT_UTF8 = 8, 9, 11
 
 
@@ -33,8 +32,6 @@ class Made:
             raise Fault(ARC_INVALID, arc)
         if count > 0:
             self.octets += group(40 * self.arcs[0] + arc if count == 1 else arc)
-        if len(self.octets) > MAX_OCTETS:
-            raise Fault(LENGTH, 0)
         self.arcs.append(arc)
 
     def ended(self):

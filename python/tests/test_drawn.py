@@ -6,7 +6,7 @@ import model
 from const_oid import ObjectIdentifier, OidError
 
 SEED = 8825
-COUNTS = 20 * [2, 2, 3, 3, 3, 4, 4, 6, 6, 9] + [14, 20, 52, 254]
+COUNTS = 20 * [2, 2, 3, 3, 3, 4, 4, 6, 6, 9] + [14, 20, 52, 53, 128, 255, 256, 257]
 EDGES = [0, 1, 39, 40, 127, 128, 2**28, 2**32 - 1]
 OTHER_TEXTS = [".", "0", "00", "9", "4294967296", "x", " ", "\n", "\0", "é", "٣", "\ud800", "-", "1.2."]
 OTHER_OCTETS = [b"\x00", b"\x80", b"\xff", b"\x8f", b"\x90\x80\x80\x80\x50"]
@@ -26,7 +26,7 @@ def drawn_arc(draw):
 
 
 def drawn_arcs(draw):
-    """Arcs in range, most of them of at most 255 octets."""
+    """Arcs in range."""
     first = draw.randint(0, 2)
     second = draw.randint(0, 39) if first < 2 else drawn_arc(draw)
     return (first, second, *(drawn_arc(draw) for _ in range(draw.choice(COUNTS) - 2)))
@@ -89,7 +89,7 @@ class Drawn(unittest.TestCase):
     def test_texts_have_the_arcs_of_the_model(self):
         """100,000 texts, most of them wrong."""
         for _ in range(100_000):
-            text = model.text_of(drawn_arcs(self.draw)[: self.draw.choice([1, 3, 9, 254])])
+            text = model.text_of(drawn_arcs(self.draw)[: self.draw.choice([1, 3, 9, 300])])
             other = self.draw.choice(OTHER_TEXTS)
             text = self.draw.choice([changed(self.draw, text, other), text + other, text])
             self.same(result(model.arcs_of_text, text), result(lambda: ObjectIdentifier(text).arcs), text)

@@ -1,14 +1,29 @@
-"""What the functions of ObjectIdentifier and OidError keep of memory. Under the sanitizers of a C compiler, also what
-they read and write."""
+"""What the functions of the extension module keep of memory, and what they do without it. Under the sanitizers of a C
+compiler, also what they read and write."""
+import copy
 import gc
+import operator
+import pickle
 import sys
 import tracemalloc
 import unittest
 
-from const_oid import ObjectIdentifier, OidError
+import const_oid
+from const_oid import Code, ObjectIdentifier, OidError, SortedMap, _support
 
-OID, OTHER, LONG = ObjectIdentifier("1.2.840.10045.2.1"), ObjectIdentifier("1.2"), ObjectIdentifier.from_bytes(bytes(3000))
+try:
+    import _testcapi
+except ImportError:
+    _testcapi = None
 
+# Short and long octets, of arcs that differ and are no small integers: the last have ten digits.
+OCTETS = {
+    "short": bytes.fromhex("2A8648CE3D0201"),
+    "300 octets": b"\x2a" + bytes([0x84, 0]) * 149 + b"\x01",
+    "301 arcs": b"\x2a" + b"".join(bytes([0x82 + arc // 128, arc % 128]) for arc in range(300)),
+    "100 arcs of ten digits": b"\x2a" + b"".join(bytes([0x8F, 0xFF, 0xFF, 0xFE, arc]) for arc in range(100)),
+}
+OTHER = ObjectIdentifier("1.2")
 WRONG = b"\x80\x01"
 
 
@@ -20,40 +35,62 @@ def raised(call, *given):
     """Calls what raises an error."""
     try:
         call(*given)
-    except (ValueError, TypeError):
+    except (OidError, ValueError, TypeError, OverflowError):
         return
     raise AssertionError("there is no error")
 
 
+def matched(oid):
+    match oid:
+        case ObjectIdentifier((1, 2, *rest)):
+            return rest
+    return None
+
+
+# Calls with an identifier that is made anew each time.
+OF_FRESH = {
+    "text": lambda oid: (ObjectIdentifier(str(oid)), ObjectIdentifier(text=str(oid)), Under(str(oid))),
+    "wrong text": lambda oid: (raised(ObjectIdentifier, f"{oid}.x"), raised(ObjectIdentifier, f"{oid}.\ud800")),
+    "identifier": lambda oid: (ObjectIdentifier(oid), Under(oid), Under(Under(oid))),
+    "octets": lambda oid: (ObjectIdentifier.from_bytes(bytes(oid)), Under.from_bytes(bytearray(bytes(oid)))),
+    "view": lambda oid: ObjectIdentifier.from_bytes(memoryview(bytes(oid))),
+    "wrong octets": lambda oid: raised(ObjectIdentifier.from_bytes, bytes(oid) + WRONG),
+    "arcs": lambda oid: (ObjectIdentifier.from_arcs(oid.arcs), Under.from_arcs(list(oid)), Under.from_arcs(oid)),
+    "wrong arcs": lambda oid: raised(ObjectIdentifier.from_arcs, [3, *oid]),
+    "arcs past 32 bits": lambda oid: raised(ObjectIdentifier.from_arcs, [*oid, 2**70]),
+    "negative arc": lambda oid: raised(ObjectIdentifier.from_arcs, [*oid, -2]),
+    "no arcs": lambda oid: raised(ObjectIdentifier.from_arcs, [*oid, "2"]),
+    "parent": lambda oid: (oid.parent, Under(oid).parent, OTHER.parent),
+    "child": lambda oid: (oid.child(2**32 - 1), Under(oid).child(4)),
+    "wrong child": lambda oid: (raised(oid.child, 2**32), raised(oid.child, -1), raised(oid.child, "1")),
+    "starts_with": lambda oid: (oid.starts_with(OTHER), oid.starts_with(oid), raised(oid.starts_with, "1.2")),
+    "text of": lambda oid: (str(oid), repr(oid), repr(Under(oid)), f"{oid:>9}", raised(format, oid, "d")),
+    "order": lambda oid: (oid < OTHER, oid == OTHER, oid != "1.2", Under(oid) >= OTHER, raised(operator.lt, oid, 1)),
+    "hash": lambda oid: ({oid: 1}, hash(Under(oid))),
+    "sequence": lambda oid: (len(oid), oid[-1], oid[1:], list(oid), oid.count(1), raised(operator.getitem, oid, "")),
+    "index": lambda oid: (oid.index(oid[2]), raised(oid.index, 7 * 10**9), raised(oid.index)),
+    "in": lambda oid: (oid[2] in oid, int("70000") in oid, raised(oid.__contains__, "1")),
+    "match": matched,
+    "copies": lambda oid: (copy.copy(oid), copy.deepcopy(oid), copy.copy(Under(oid)), copy.deepcopy(Under(oid))),
+    "pickles": lambda oid: pickle.loads(pickle.dumps((oid, Under(oid)))),
+    "map": lambda oid: (SortedMap({oid: 1}).nearest(oid.child(1)), SortedMap({oid: 1}).next_after(OTHER)),
+}
 CALLS = {
-    "text": lambda: ObjectIdentifier("2.999.3"),
-    "text=": lambda: ObjectIdentifier(text="2.999.3"),
-    "surrogate": lambda: raised(ObjectIdentifier, "1.2.\ud800"),
-    "wrong text": lambda: raised(ObjectIdentifier, "1.2.x"),
-    "no text": lambda: raised(ObjectIdentifier, 1),
-    "identifier": lambda: (ObjectIdentifier(OID), Under(OID)),
-    "octets": lambda: (ObjectIdentifier.from_bytes(b"\x2a\x03"), Under.from_bytes(bytearray(b"\x2a\x03"))),
-    "wrong octets": lambda: (raised(ObjectIdentifier.from_bytes, WRONG), raised(ObjectIdentifier.from_bytes, bytearray(WRONG))),
-    "arcs": lambda: (ObjectIdentifier.from_arcs([2, 999, 2**32 - 1]), Under.from_arcs((1, 2))),
-    "wrong arcs": lambda: raised(ObjectIdentifier.from_arcs, [3] * 300),
-    "arcs past 32 bits": lambda: raised(ObjectIdentifier.from_arcs, [1] * 300 + [2**70]),
-    "negative arc": lambda: raised(ObjectIdentifier.from_arcs, [1, -2]),
-    "no arcs": lambda: raised(ObjectIdentifier.from_arcs, [1, "2"]),
-    "arcs of": lambda: (ObjectIdentifier("2.5.4").arcs, ObjectIdentifier.from_bytes(bytes(3000)).arcs),
-    "parent": lambda: (OID.parent, OTHER.parent, Under("2.5.4").parent),
-    "child": lambda: (OID.child(3), Under("2.5").child(4)),
-    "wrong child": lambda: (raised(OID.child, 2**32), raised(OID.child, -1), raised(OID.child, "1")),
-    "starts_with": lambda: (OID.starts_with(OTHER), raised(OID.starts_with, "1.2")),
-    "text of": lambda: (str(OID), repr(OID), f"{OID:>30}", str(LONG), raised(format, OID, "d")),
-    "order": lambda: (OID < OTHER, OID == OTHER, OID != "1.2", hash(OID), Under("1.2") >= OTHER),
-    "sequence": lambda: (len(OID), OID[1], OID[1:], list(OID), OID.index(840), OID.count(1), raised(OID.index, 7)),
-    "in": lambda: (840 in OID, raised(OID.__contains__, "1")),
-    "copies": lambda: (OID.__copy__(), OID.__deepcopy__({}), OID.__reduce__(), bytes(OID)),
-    "error": lambda: (str(OidError(4, 120)), str(OidError(4, 300))),
+    f"{name}, {kind}": lambda call=call, octets=octets: call(ObjectIdentifier.from_bytes(octets))
+    for name, call in OF_FRESH.items()
+    for kind, octets in OCTETS.items()
+}
+CALLS |= {
+    "short text": lambda: (ObjectIdentifier("2.999.3"), raised(ObjectIdentifier, 1), raised(ObjectIdentifier, "3.2")),
+    "short arcs": lambda: (ObjectIdentifier.from_arcs([2, 999, 2**32 - 1]), raised(ObjectIdentifier.from_arcs, b"")),
+    "error": lambda: [str(OidError(code, detail)) for code in Code for detail in (0, 255, 256, 2**32 - 1)],
+    "wrong error": lambda: (raised(OidError, 4, 2**32), raised(OidError, 2**70, 0), raised(OidError, "4", 0)),
 }
 
-
-KEPT = (ObjectIdentifier, Under, OidError, OID, OTHER, LONG, bytes(OID), bytes(LONG), WRONG, str, tuple)
+# What raises an exception in a function of Python, which may be lost where there is no memory.
+IN_PYTHON = ("pickles", "wrong error")
+KEPT = [ObjectIdentifier, Under, OidError, OTHER, bytes(OTHER), WRONG, str, tuple, const_oid, _support]
+KEPT += OCTETS.values()
 
 
 def measured():
@@ -62,11 +99,20 @@ def measured():
     return tracemalloc.get_traced_memory()[0], [sys.getrefcount(value) for value in KEPT]
 
 
+def keeps_nothing(call):
+    """Whether 200 calls keep less than 16 bytes each, and no reference."""
+    before, counts = measured()
+    for _ in range(200):
+        call()
+    after, others = measured()
+    return after - before < 200 * 16 and counts == others
+
+
 class Memory(unittest.TestCase):
     def test_functions_run_in_turn(self):
         """Each call in turn with the others, also where its objects are freed in another order."""
-        results = [call() for _ in range(20) for call in CALLS.values()]
-        self.assertEqual(20 * len(CALLS), len(results))
+        results = [call() for _ in range(5) for call in CALLS.values()]
+        self.assertEqual(5 * len(CALLS), len(results))
 
     def test_functions_keep_no_memory(self):
         """No call keeps memory, or a reference to what it was given or made from."""
@@ -74,11 +120,20 @@ class Memory(unittest.TestCase):
         self.addCleanup(tracemalloc.stop)
         for name, call in CALLS.items():
             with self.subTest(name):
-                for _ in range(500):
-                    call()
-                (before, counts) = measured()
-                for _ in range(2_000):
-                    call()
-                (after, others) = measured()
-                self.assertLess(after - before, 20_000)
-                self.assertEqual(counts, others)
+                # The first rounds also fill caches of Python.
+                self.assertTrue(any(keeps_nothing(call) for _ in range(5)))
+
+    @unittest.skipUnless(_testcapi, "Python's module for tests of its C API is not installed")
+    def test_functions_raise_memory_error(self):
+        """A call whose n-th allocation fails raises MemoryError, for each n, or has its result without it."""
+        for name, call in CALLS.items():
+            with self.subTest(name):
+                call()
+                for number in range(0 if name.startswith(IN_PYTHON) else 40):
+                    _testcapi.set_nomemory(number, number + 1)
+                    try:
+                        call()
+                    except MemoryError:
+                        pass
+                    finally:
+                        _testcapi.remove_mem_hooks()

@@ -5,6 +5,7 @@ import doctest
 import inspect
 import io
 import pathlib
+import pydoc
 import re
 import shutil
 import subprocess
@@ -62,6 +63,14 @@ class Package(unittest.TestCase):
         methods = "arcs child count from_arcs from_bytes index parent starts_with"
         self.assertEqual(methods.split(), [name for name in dir(ObjectIdentifier) if not name.startswith("_")])
         self.assertEqual({"const_oid"}, {value.__module__ for value in (ObjectIdentifier, OidError, const_oid.Code)})
+        self.assertEqual((const_oid.Code.EMPTY, 5), (const_oid.Code(5), const_oid.Code.EMPTY))
+        with self.assertRaisesRegex(AttributeError, "^module 'const_oid' has no attribute 'Codes'$"):
+            const_oid.Codes
+
+    def test_help_begins_with_the_identifier(self):
+        """The first class of help is ObjectIdentifier; a class of numbers would come with all methods of int."""
+        said = pydoc.render_doc(const_oid, renderer=pydoc.plaintext)
+        self.assertEqual(["ObjectIdentifier", "OidError", "SortedMap"], re.findall(r"^    class (\w+)", said, re.M))
 
     def test_public_names_are_documented(self):
         for owner in (const_oid, names, ObjectIdentifier, OidError, SortedMap):

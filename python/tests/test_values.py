@@ -7,9 +7,11 @@ import os
 import pickle
 import sys
 import threading
+import time
 import unittest
 import weakref
 
+import model
 from const_oid import Code, ObjectIdentifier, OidError
 
 OID = ObjectIdentifier("1.2.840.10045.2.1")
@@ -19,6 +21,19 @@ LONG = ObjectIdentifier.from_bytes(bytes([42] + [3] * 299))
 
 class Under(ObjectIdentifier):
     __slots__ = ()
+
+
+class Text(str):
+    pass
+
+
+class Named(ObjectIdentifier):
+    """A subclass whose __init__ sets attributes, one of them in a slot."""
+
+    __slots__ = ("__dict__", "slot")
+
+    def __init__(self, text):
+        self.text, self.slot, self.calls = str(text), [], getattr(self, "calls", 0) + 1
 
 
 class Index:
@@ -32,6 +47,7 @@ class Inputs(unittest.TestCase):
             ObjectIdentifier: [b"1.2", None, 1, 1.2, ("1", "2")],
             ObjectIdentifier.from_bytes: ["2.999", None, 42, [42, 3], OID, array.array("B", [42])],
             ObjectIdentifier.from_arcs: ["12", "", b"\x01\x02", bytearray(b"\x01"), None, 1, [1, "2"], [1.0, 2]],
+            (lambda octets: ObjectIdentifier.from_arcs(memoryview(octets))): [b"\x01\x02"],
             (lambda arcs: ObjectIdentifier.from_arcs((1, 2**32, *arcs))): ["3", [2.0], None],
             OID.child: ["1", 1.0, None, OID],
             OID.starts_with: ["1.2", b"\x2a", None, (1, 2)],
@@ -64,11 +80,33 @@ class Inputs(unittest.TestCase):
         with self.assertRaisesRegex(ValueError, "^an arc is negative$"):
             OID.child(-(10**5000))
 
+    def test_errors_of_type_say_what_to_do(self):
+        other = type("Other", (), {"__module__": "cryptography.x509", "dotted_string": "1.2"})()
+        third = type("Other", (), {"__module__": "asn1crypto.core", "dotted": "1.2"})()
+        takes = "(ObjectIdentifier takes its .dotted"
+        said = {
+            (ObjectIdentifier, other): f"text must be a str, not cryptography.x509.Other {takes}_string)",
+            (OID.starts_with, other): f"prefix must be an ObjectIdentifier, not cryptography.x509.Other {takes}_string)",
+            (ObjectIdentifier, third): f"text must be a str, not asn1crypto.core.Other {takes})",
+            (ObjectIdentifier, b"1"): "text must be a str, not bytes (from_bytes takes octets)",
+            (ObjectIdentifier, (1, 2)): "text must be a str, not tuple (from_arcs takes arcs)",
+            (ObjectIdentifier, 1): "text must be a str, not int",
+            (OID.starts_with, "1"): "prefix must be an ObjectIdentifier, not str (ObjectIdentifier takes text)",
+            (OID.__contains__, OID): "arc must be an int (starts_with takes a prefix), not const_oid.ObjectIdentifier",
+        }
+        for (call, given), text in said.items():
+            with self.subTest(text), self.assertRaises(TypeError) as caught:
+                call(given)
+            self.assertEqual(text, str(caught.exception))
+
     def test_an_identifier_in_place_of_a_text(self):
         """An identifier in place of a text: itself, or one of another class with its octets."""
-        under = Under(OID)
+        under, named = Under(OID), Named("2.999")
         self.assertIs(OID, ObjectIdentifier(OID))
-        self.assertIs(under, Under(under))
+        # As with tuple, another object: else its __init__ would run again.
+        self.assertIsNot(named, Named(named))
+        self.assertEqual(1, named.calls)
+        self.assertEqual(OID, ObjectIdentifier(Text("1.2.840.10045.2.1")))
         self.assertEqual((Under, OCTETS), (type(under), bytes(under)))
         self.assertEqual((ObjectIdentifier, OCTETS), (type(ObjectIdentifier(under)), bytes(ObjectIdentifier(under))))
         self.assertEqual(OID, ObjectIdentifier(text="1.2.840.10045.2.1"))
@@ -119,6 +157,41 @@ class Inputs(unittest.TestCase):
                 ObjectIdentifier.from_bytes(bytes(length - 1) + b"\x80")
             self.assertIs(caught.exception.code, Code.BASE128)
 
+    def test_text_and_arcs_have_any_length(self):
+        """Text and arcs of 254 to 70,000 octets, made of small arcs and of the greatest, beside the model."""
+        for count in (126, 127, 128, 253, 254, 255, 256, 257, 1000, 14_000):
+            for arc in (3, 2**32 - 1):
+                arcs = (2, arc, *[arc, *range(5)][: count % 7], *[arc] * count)
+                octets, text = model.octets_of_arcs(arcs), model.text_of(arcs)
+                with self.subTest(count=count, arc=arc):
+                    oid = ObjectIdentifier(text)
+                    self.assertEqual((octets, octets), (bytes(oid), bytes(ObjectIdentifier.from_arcs(arcs))))
+                    self.assertEqual((arcs, text, oid), (oid.arcs, str(oid), oid.parent.child(oid[-1])))
+                    for wrong in (f"{text}.x", f"{text}.", text.replace(".", "..", count // 2), f"{text}.4294967296"):
+                        with self.assertRaises(OidError) as caught:
+                            ObjectIdentifier(wrong)
+                        with self.assertRaises(model.Fault) as fault:
+                            model.arcs_of_text(wrong)
+                        self.assertEqual(fault.exception.args, caught.exception.args)
+                    with self.assertRaises(OidError) as caught:
+                        ObjectIdentifier.from_arcs((*arcs, 2**32))
+                    self.assertIs(caught.exception.code, Code.ARC_TOO_BIG)
+
+    def test_long_texts_take_linear_time(self):
+        """Eight times as long a text takes less than 24 times as long, as an identifier and as an error."""
+
+        def seconds(text):
+            start = time.process_time()
+            try:
+                str(ObjectIdentifier(text))
+            except OidError as error:
+                self.assertEqual(text.count("."), error.piece)
+            return time.process_time() - start
+
+        for end in ("", ".x"):
+            short, long = ("1.2" + ".4294967295.7" * count + end for count in (10_000, 80_000))
+            self.assertLess(min(seconds(long) for _ in range(3)), 24 * min(seconds(short) for _ in range(5)))
+
     def test_long_identifiers_have_parents_and_children(self):
         for oid in (LONG, ObjectIdentifier.from_bytes(bytes(70_000)), ObjectIdentifier("1.2" + ".3" * 254)):
             child = oid.child(2**32 - 1)
@@ -133,10 +206,47 @@ class Values(unittest.TestCase):
             for other in [*copies, copy.copy(oid), copy.deepcopy([oid])[0]]:
                 self.assertEqual((oid, oid.arcs, hash(oid)), (other, other.arcs, hash(other)))
                 self.assertIs(type(oid), type(other))
-        for oid in (Under("2.999.1").parent, Under("2.999").child(1), Under.from_arcs((2, 999)), Under.from_bytes(OCTETS)):
-            self.assertIs(type(oid), Under)
         self.assertEqual(("Under('2.999')", True, False), (repr(Under("2.999")), Under(OID) == OID, Under(OID) < OID))
         self.assertEqual({OID: 1}, {Under(OID): 1})
+
+    def test_a_subclass_is_called_with_an_identifier(self):
+        """What makes an object of a subclass calls it once, with a plain identifier."""
+        source = Named("2.999")
+        made = [Named.from_bytes(b"\x88\x37"), Named.from_arcs((2, 999)), Named("2.999.1").parent, Named("2.999")]
+        made += [Named(source), Named(OID).parent.parent.parent.parent.child(3).parent]
+        for oid, text in zip(made, [*["2.999"] * 5, "1.2"]):
+            self.assertEqual((Named, text, text, 1), (type(oid), str(oid), oid.text, oid.calls))
+        self.assertEqual("2.999.7", source.child(7).text)
+
+        class Two(ObjectIdentifier):
+            def __new__(cls, text, other):
+                return super().__new__(cls, text)
+
+        for call in (lambda: Two.from_arcs((1, 2)), lambda: Two("1.2", 0).child(3)):
+            with self.assertRaises(TypeError):
+                call()
+
+    def test_copies_of_a_subclass_have_its_attributes(self):
+        """Copies and pickles have all attributes: deep copies have copies of them, and may be cyclic."""
+        oid = Named("2.999")
+        oid.text, oid.slot, oid.other = "changed", [1], [oid]
+        copies = [pickle.loads(pickle.dumps(oid, protocol)) for protocol in range(2, pickle.HIGHEST_PROTOCOL + 1)]
+        for other in [*copies, copy.deepcopy(oid), copy.deepcopy([oid])[0]]:
+            self.assertEqual((oid, "changed", [1], other), (other, other.text, other.slot, other.other[0]))
+            self.assertIsNot(oid.slot, other.slot)
+            self.assertIsNot(oid, other)
+        other = copy.copy(oid)
+        self.assertEqual((oid, "changed"), (other, other.text))
+        self.assertTrue(other is not oid and other.slot is oid.slot and other.other is oid.other)
+        other.text = "again"
+        self.assertEqual("changed", oid.text)
+        self.assertTrue(copy.copy(OID) is OID and copy.deepcopy(OID) is OID)
+
+    def test_pickles_are_short(self):
+        """A pickle has little more than the octets."""
+        oids = [ObjectIdentifier(f"1.3.6.1.2.1.{arc}.4.7") for arc in range(2, 102)]
+        alone = len(pickle.dumps(oids[:1]))
+        self.assertLess(len(pickle.dumps(oids)) - alone, 99 * (8 + 10))
 
     def test_subclasses_have_slots_attributes_and_bases(self):
         """Subclasses have slots, attributes and other bases as those of other classes do."""
@@ -196,8 +306,13 @@ class Values(unittest.TestCase):
                 self.assertEqual([10045, 2, 1], rest)
             case _:
                 self.fail("an identifier is no sequence")
-        for call in (lambda: OID.index(3), lambda: OID.index(2, 0, 1)):
-            with self.assertRaises(ValueError):
+        match OID:
+            case ObjectIdentifier((1, 2, *rest)):
+                self.assertEqual([840, 10045, 2, 1], rest)
+            case _:
+                self.fail("a pattern has no arcs")
+        for call, arc in ((lambda: OID.index(3), 3), (lambda: OID.index(2, 0, 1), 2)):
+            with self.assertRaisesRegex(ValueError, f"^{arc} is not among the arcs$"):
                 call()
         for index in (6, -7):
             with self.assertRaises(IndexError):
@@ -234,6 +349,22 @@ class Errors(unittest.TestCase):
         self.assertEqual("expected digit, got 'ÿ'", str(OidError(4, 255)))
         self.assertEqual("DIGIT_EXPECTED 256", str(OidError(4, 256)))
 
+    def test_an_error_shows_what_the_user_wrote(self):
+        """The character of the text in place of its first byte, and what to do with a leading dot."""
+        said = {"1.2.x": "'x'", "1.2.٣": "'٣'", "1.é": "'é'", "1.2.😀.x": "'😀'", "1.2. ": "' '"}
+        said |= {".1.3.6": "'.' (remove the first dot)", ".": "'.'", "1.2.ü٣": "'ü'"}
+        for text, wanted in said.items():
+            with self.subTest(text), self.assertRaises(OidError) as caught:
+                ObjectIdentifier(text)
+            self.assertEqual(f"expected digit, got {wanted}", str(caught.exception))
+
+    def test_numbers_of_an_error_have_32_bits(self):
+        for code, detail in ((4, 2**32 + 120), (4, -1), (2**32 + 4, 120), (-1, 0), (4, 2**64 + 120)):
+            with self.subTest(code=code, detail=detail), self.assertRaises(OverflowError):
+                OidError(code, detail)
+        with self.assertRaises(ValueError):
+            OidError(99)
+
     def test_an_error_has_what_was_given(self):
         calls = {
             ObjectIdentifier.from_bytes: (b"\x80", b"\x80"),
@@ -248,7 +379,7 @@ class Errors(unittest.TestCase):
     def test_an_error_has_the_first_wrong_piece(self):
         """Which piece is the first wrong one."""
         pieces = {"": 0, "1": None, "3": 0, "x.2": 0, ".1": 0, "..": 0, "1.": 1, "1..2": 1, "1.2.": 2, "1.2.3..4": 3}
-        pieces |= {"3.4": 0, "1.40.x": 1, "2.99999999999": 1, "1.2.3x.y": 2, "1.2" + ".3" * 255 + ".4": 256, "1.\ud800": 1}
+        pieces |= {"3.4": 0, "1.40.x": 1, "2.99999999999": 1, "1.2.3x.y": 2, "1.\ud800": 1, "1.2" + 300 * ".3" + ".x": 302}
         for text, piece in pieces.items():
             with self.subTest(text), self.assertRaises(OidError) as caught:
                 ObjectIdentifier(text)
@@ -289,7 +420,8 @@ oid = ObjectIdentifier("2.999.3")
 try:
     ObjectIdentifier("1.40")
 except const_oid.OidError as error:
-    os.write({}, f"{{oid.parent}} {{len({{oid, ObjectIdentifier(oid)}})}} {{error}} {{id(ObjectIdentifier)}}\\n".encode())
+    said = f"{{oid.parent}} {{len({{oid, ObjectIdentifier(oid)}})}} {{error}} {{id(ObjectIdentifier)}}\\n"
+    os.write({}, said.encode())
 """
 
 

@@ -17,7 +17,8 @@ import zipfile
 
 TOP = pathlib.Path(__file__).resolve().parents[2]
 STEM = "const_oid-1.0.0"
-PACKAGE = {"__init__.py", "_native.abi3.so", "_native.pyi", "names.py", "names.tsv", "py.typed", "sorted_map.py"}
+PACKAGE = {"__init__.py", "_native.abi3.so", "_native.pyi", "_support.py", "names.py", "names.tsv", "py.typed"}
+PACKAGE.add("sorted_map.py")
 INFORMATION = {"LICENSE-APACHE", "LICENSE-MIT", "METADATA", "RECORD", "WHEEL"}
 FILES = {f"const_oid/{name}" for name in PACKAGE} | {f"{STEM}.dist-info/{name}" for name in INFORMATION}
 INSTALLED = {"library": "installed"}

@@ -30,80 +30,24 @@ The library const_oid_c computes each result. Identifiers and functions are thre
 
 from __future__ import annotations
 
-import enum
-from bisect import bisect_left
 from collections.abc import Sequence
+from typing import TYPE_CHECKING, Any
 
-from . import names
-from ._native import ObjectIdentifier, __version__, error_text
+from . import _support, names
+from ._native import ObjectIdentifier, __version__
+from ._support import OidError
 from .sorted_map import SortedMap
+
+if TYPE_CHECKING:
+    from ._support import Code
 
 __all__ = ["Code", "ObjectIdentifier", "OidError", "SortedMap", "__version__", "names"]
 
-
-class Code(enum.IntEnum):
-    """Why there is no result: `code` of an `OidError`."""
-
-    ARC_INVALID = 1
-    ARC_TOO_BIG = 2
-    BASE128 = 3
-    DIGIT_EXPECTED = 4
-    EMPTY = 5
-    LENGTH = 6
-    OVERFLOW = 7
-    REPEATED_DOT = 8
-    TRAILING_DOT = 9
-    OUTPUT_TOO_SHORT = 10
-    NOT_UTF8 = 11
-    NONE = 12
-    UNSORTED = 13
-
-
-class OidError(ValueError):
-    """A text, arcs or octets that denote no identifier, or an identifier that is too long.
-
-    `code` is one of `Code`. `detail` is the arc with `ARC_INVALID`, the byte with `DIGIT_EXPECTED`, and otherwise 0.
-    `given` is the text, octets, arcs or arc that was passed.
-
-    >>> try:
-    ...     ObjectIdentifier("1.2.x")
-    ... except OidError as error:
-    ...     print(error, error.code == Code.DIGIT_EXPECTED, error.detail, error.given, error.piece, sep="; ")
-    expected digit, got 'x'; True; 120; 1.2.x; 2
-    """
-
-    code: Code
-    detail: int
-    given: object
-
-    def __init__(self, code: int, detail: int = 0, given: object = None) -> None:
-        super().__init__(code, detail)
-        self.code, self.detail, self.given = Code(code), detail, given
-
-    @property
-    def piece(self) -> int | None:
-        """The index of the first wrong component, between the dots of a text, or None if no component is wrong."""
-        if not isinstance(self.given, str):
-            return None
-        pieces = self.given.split(".")
-
-        def is_wrong(count: int) -> bool:
-            """Whether the first components are no identifier, and do not begin one."""
-            try:
-                ObjectIdentifier(".".join(pieces[:count] if count > 1 else [pieces[0], "0"]))
-            except OidError:
-                return True
-            return False
-
-        piece = bisect_left(range(1, len(pieces) + 1), True, key=is_wrong)
-        return piece if piece < len(pieces) else None
-
-    def __str__(self) -> str:
-        return error_text(self.code, self.detail) or f"{self.code.name} {self.detail}"
-
-    def __repr__(self) -> str:
-        given = "" if self.given is None else f", {self.given!r}"
-        return f"{type(self).__name__}(Code.{self.code.name}, {self.detail}{given})"
-
-
 Sequence.register(ObjectIdentifier)
+
+
+def __getattr__(name: str) -> Any:
+    """`Code`: as a name of the module, it would begin help(const_oid), with all methods of int."""
+    if name == "Code":
+        return _support.Code
+    raise AttributeError(f"module {__name__!r} has no attribute {name!r}")
