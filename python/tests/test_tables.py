@@ -1,10 +1,14 @@
 """const_oid.names and SortedMap, beside tables of tuples."""
+import copy
 import pathlib
+import pickle
 import random
+import time
 import unittest
 from collections.abc import MutableMapping
+from unittest import mock
 
-from const_oid import ObjectIdentifier, SortedMap, names
+from const_oid import ObjectIdentifier, SortedMap, names, sorted_map
 
 ROWS = pathlib.Path(__file__).resolve().parents[2] / "rust/names.tsv"
 SEED = 3416
@@ -23,7 +27,7 @@ class Names(unittest.TestCase):
 
     def test_each_identifier_has_its_names(self):
         for arcs in {arcs for arcs, _ in rows()}:
-            wanted = tuple(name for others, name in rows_of[arcs])
+            wanted = tuple(dict.fromkeys(name for others, name in rows_of[arcs]))
             with self.subTest(arcs):
                 oid = ObjectIdentifier.from_arcs(arcs)
                 self.assertEqual((wanted, wanted[0]), (names.names_of(oid), names.name_of(oid)))
@@ -47,6 +51,16 @@ class Names(unittest.TestCase):
                 self.assertIsNone(names.by_name(name))
         self.assertEqual((1, 2, 112, 0, 2, 0, 34, 101, 66), names.by_name("BaKe").arcs)
 
+    def test_other_types_are_rejected(self):
+        text = r"must be an ObjectIdentifier, not (str|tuple|NoneType)\b"
+        for call in (names.name_of, names.names_of):
+            for given in ("2.5.4.3", (2, 5, 4, 3), None):
+                with self.subTest(call=call, given=given), self.assertRaisesRegex(TypeError, text):
+                    call(given)
+        for given in (3, b"cn", None, ObjectIdentifier("2.5.4.3")):
+            with self.subTest(given), self.assertRaisesRegex(TypeError, "^name must be a str, not "):
+                names.by_name(given)
+
 
 rows_of = {}
 for row in rows():
@@ -55,6 +69,27 @@ for row in rows():
 
 def drawn(draw):
     return (2, *(draw.choice([1, 2, 3, 9, 10, 200]) for _ in range(draw.randint(1, 5))))
+
+
+class Key(ObjectIdentifier):
+    pass
+
+
+class Attributes(SortedMap):
+    __slots__ = ("__dict__", "slot")
+
+
+def seconds(call):
+    start = time.process_time()
+    call()
+    return time.process_time() - start
+
+
+def walked(table):
+    """All entries, as an SNMP agent finds them."""
+    entry = table.next_after(ObjectIdentifier("0.0"))
+    while entry is not None:
+        entry = table.next_after(entry[0])
 
 
 def entry(arcs, table):
@@ -75,7 +110,8 @@ class Sorted(unittest.TestCase):
 
     def test_drawn_maps_find_what_tuples_do(self):
         draw = random.Random(SEED)
-        for _ in range(200):
+        for part in 100 * [1, sorted_map.PART]:
+            self.enterContext(mock.patch.object(sorted_map, "PART", part))
             table = {drawn(draw): number for number in range(draw.choice([0, 1, 2, 20]))}
             found = SortedMap((ObjectIdentifier.from_arcs(arcs), number) for arcs, number in table.items())
             for number in range(10):
@@ -83,12 +119,16 @@ class Sorted(unittest.TestCase):
                 self.changed(found, table, drawn(draw), number)
 
     def changed(self, found, table, arcs, number):
-        """Sets a value, or removes it if it is there, and looks at all entries."""
+        """Sets a value or several, or removes it if it is there, and looks at all entries."""
         oid = ObjectIdentifier.from_arcs(arcs)
         if arcs in table and number % 2:
             self.assertEqual(table.pop(arcs), found.pop(oid))
-        else:
+        elif number % 3:
             table[arcs] = found[oid] = number
+        else:
+            others = {arcs: number, (*arcs, 1): number, arcs[:2]: number}
+            table.update(others)
+            found.update({ObjectIdentifier.from_arcs(other): number for other in others})
         self.assertEqual(sorted(table.items()), [(key.arcs, value) for key, value in found.items()])
         self.assertEqual(sorted(table, reverse=True), [key.arcs for key in reversed(found)])
         self.assertEqual((len(table), bool(table)), (len(found), bool(found)))
@@ -99,17 +139,142 @@ class Sorted(unittest.TestCase):
         self.assertIsInstance(table, MutableMapping)
         self.assertEqual(({oid: 1}, table), (table, SortedMap([(oid, 1)])))
         self.assertEqual("SortedMap({ObjectIdentifier('2.5'): 1})", repr(table))
-        copied = SortedMap(table)
-        copied[oid] = 2
-        self.assertEqual(1, table[oid])
+        later, first = ObjectIdentifier("2.5.10"), ObjectIdentifier("2.5.9")
+        both = "SortedMap({ObjectIdentifier('2.5.9'): 2, ObjectIdentifier('2.5.10'): 1})"
+        self.assertEqual(both, repr(SortedMap({later: 1, first: 2})))
         for call in (table.__getitem__, table.__delitem__):
             with self.assertRaises(KeyError):
                 call(ObjectIdentifier("2.6"))
         self.assertEqual([(oid, 1)], list(table.items()))
 
+    def test_copies_are_apart(self):
+        """A map is no part of what it was made from, nor of its copies, which have the attributes of a subclass."""
+        one, other, values = ObjectIdentifier("2.5"), ObjectIdentifier("2.6"), [1]
+        source = {one: values}
+        table = Attributes(source)
+        table.name, table.slot = "name", [2]
+        copies = {
+            "copy": table.copy(),
+            "copy.copy": copy.copy(table),
+            "deepcopy": copy.deepcopy(table),
+            **{f"pickle {number}": pickle.loads(pickle.dumps(table, number)) for number in range(2, 6)},
+            "SortedMap": SortedMap(table),
+            "|": table | {},
+        }
+        for name, made in copies.items():
+            with self.subTest(name):
+                self.assertEqual({one: [1]}, made)
+                is_shared = name in ("copy", "copy.copy", "SortedMap", "|")
+                self.assertEqual(is_shared, made[one] is values)
+                if name != "SortedMap":
+                    self.assertEqual((Attributes, "name", [2]), (type(made), made.name, made.slot))
+                made[other] = 3
+                del made[one]
+                self.assertEqual(([one], {one: [1]}, {one: [1]}), (list(table), table, source))
+        table.name = table
+        self.assertIs((again := copy.deepcopy(table)), again.name)
+        table[other] = 4
+        self.assertEqual({one: [1]}, source)
+        self.assertEqual([one, other], list(table))
+
+    def test_a_change_ends_an_iteration(self):
+        """Keys that come or go while a map is iterated are an error, as with dict, after its last key, too."""
+        changes = {
+            "del": lambda table, key: table.pop(key),
+            "set": lambda table, key: table.setdefault(key.child(0), 1),
+            "update": lambda table, key: table.update({key.child(arc): 1 for arc in range(9)}),
+            "clear": lambda table, key: table.clear(),
+            "another": lambda table, key: table.update({key.child(0): table.pop(key)}),
+        }
+        for name, change in changes.items():
+            for order in (iter, reversed, lambda table: iter(table.items()), lambda table: iter(table.values())):
+                for count in (1, 6):
+                    table = SortedMap({ObjectIdentifier(f"2.{arc}"): arc for arc in range(count)})
+                    keys = order(table)
+                    next(keys)
+                    with self.subTest(name, count=count), self.assertRaisesRegex(RuntimeError, "^SortedMap changed"):
+                        change(table, max(table))
+                        next(keys)
+        table = SortedMap({ObjectIdentifier("2.5"): 1, ObjectIdentifier("2.6"): 1})
+        for key in table:
+            table[key] = 2
+            table.update({key: 3})
+        self.assertEqual([3, 3], list(table.values()))
+
+    def test_maps_join(self):
+        one, other = {ObjectIdentifier("2.5"): 1}, {ObjectIdentifier("2.4"): 2, ObjectIdentifier("2.5"): 3}
+        table = SortedMap(one)
+        both = {**one, **other}
+        for joined, wanted in ((table | other, both), (other | table, other | one), (table | SortedMap(other), both)):
+            self.assertIs(SortedMap, type(joined))
+            self.assertEqual(wanted, joined)
+            self.assertEqual(sorted(wanted), list(joined))
+        self.assertEqual(one, table)
+        same = table
+        table |= list(other.items())
+        self.assertTrue(table is same and table == both)
+        for wrong in (lambda: table | [1], lambda: [1] | table):
+            with self.assertRaises(TypeError):
+                wrong()
+        with self.assertRaisesRegex(TypeError, "key must be an ObjectIdentifier, not str"):
+            table.update({ObjectIdentifier("2.7"): 1, "2.8": 2})
+        self.assertEqual(both, table)
+
+    def test_an_entry_has_the_key_of_the_map(self):
+        """What a search returns is the key that is in the map, and not one that is equal."""
+        key = Key("2.5")
+        table = SortedMap({key: 1, ObjectIdentifier("2.7"): 2})
+        oid = ObjectIdentifier("2.5")
+        for found in (table.nearest(oid.child(4)), table.next_after(ObjectIdentifier("2.4")), table.subtree(oid)[0]):
+            self.assertIs(key, found[0])
+
+    def test_a_table_of_long_identifiers(self):
+        """10,000 of 100 to 128 arcs, as SNMP has, a third of them above 255 octets: made, printed, sorted, searched."""
+        draw = random.Random(SEED)
+        table = {}
+        for number in range(10_000):
+            bits = 32 if number % 3 == 0 else 7
+            count = draw.randint(100, 128)
+            arcs = (1, 3, 6, 1, *(draw.getrandbits(bits) for _ in range(count - 5)), draw.getrandbits(32))
+            table[arcs] = ".".join(map(str, arcs))
+        found = SortedMap((ObjectIdentifier(text), text) for text in table.values())
+        self.assertEqual(3334, sum(len(bytes(oid)) > 255 for oid in found))
+        wanted = sorted(table)
+        self.assertEqual([table[arcs] for arcs in wanted], [str(oid) for oid in found])
+        self.assertEqual([table[arcs] for arcs in wanted], list(found.values()))
+        for arcs, after in zip(wanted[:-1:7], wanted[1::7]):
+            oid = ObjectIdentifier.from_arcs(arcs)
+            self.assertEqual((table[arcs], table[after]), (found[oid], found.next_after(oid)[1]))
+            self.assertEqual((oid, table[arcs]), found.nearest(oid.child(2**32 - 1).child(0)))
+            self.assertEqual([(oid, table[arcs])], found.subtree(oid))
+        self.assertEqual(10_000, len(found.subtree(ObjectIdentifier("1.3.6.1"))))
+
+    def test_all_entries_take_about_the_time_of_making_the_map(self):
+        """On 50,000 entries, a call takes no more than a few times as long as making the map of them."""
+        draw = random.Random(SEED)
+        entries = {ObjectIdentifier(f"1.3.6.1.2.1.{draw.getrandbits(32)}.{arc}"): arc for arc in range(50_000)}
+        calls = {
+            "update": (3, lambda table: SortedMap().update(entries)),
+            "clear": (1, lambda table: table.clear()),
+            "copy": (3, lambda table: table.copy()),
+            "|": (3, lambda table: table | {ObjectIdentifier("2.5"): 1}),
+            "subtree": (3, lambda table: table.subtree(ObjectIdentifier("1.3"))),
+            "walk": (6, walked),
+            "set": (6, lambda table, made=SortedMap(): [made.__setitem__(*entry) for entry in entries.items()]),
+            "setdefault": (6, lambda table, made=SortedMap(): [made.setdefault(*entry) for entry in entries.items()]),
+            "pop": (6, lambda table: [table.pop(key) for key in entries]),
+            "popitem": (6, lambda table: [table.popitem() for _ in range(len(table))]),
+        }
+        time_of_making = min(seconds(lambda: SortedMap(entries)) for _ in range(3))
+        for name, (limit, call) in calls.items():
+            table = SortedMap(entries)
+            with self.subTest(name):
+                self.assertLess(seconds(lambda: call(table)), limit * time_of_making)
+
     def test_keys_of_other_types_are_rejected(self):
         table = SortedMap()
-        for call in (table.nearest, table.next_after, table.subtree, lambda key: table.setdefault(key, 1), lambda key: SortedMap({key: 1})):
+        calls = [table.nearest, table.next_after, table.subtree, lambda key: SortedMap({key: 1})]
+        for call in [*calls, lambda key: table.setdefault(key, 1), lambda key: table.update({key: 1})]:
             for key in ("2.5", (2, 5), None):
                 with self.assertRaises(TypeError):
                     call(key)

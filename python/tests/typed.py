@@ -29,6 +29,9 @@ def uses() -> None:
     assert_type(840 in oid, bool)
     assert_type((oid < under, oid == "1.2", len(oid), hash(oid), oid.index(2), oid.count(2)), tuple[bool, bool, int, int, int, int])
     assert_type((str(oid), bytes(oid), f"{oid:>9}", copy.copy(under)), tuple[str, bytes, str, Under])
+    match oid:
+        case ObjectIdentifier((first, *_)):
+            assert_type(first, int)
     arcs: Sequence[int] = oid
     assert_type(iter(arcs), Iterator[int])
     key: dict[ObjectIdentifier, str] = {oid: "name", under: "another"}
@@ -40,6 +43,11 @@ def tables(key: dict[ObjectIdentifier, str]) -> None:
     oid = ObjectIdentifier("2.5.4.3")
     sorted_key = assert_type(SortedMap(key), SortedMap[str])
     assert_type(SortedMap([(oid, 1)]), SortedMap[int])
+    below = {Under(oid): "name"}
+    assert_type(SortedMap(below), SortedMap[str])
+    sorted_key.update(below)
+    assert_type((sorted_key | below, sorted_key.copy()), tuple[SortedMap[str], SortedMap[str]])
+    sorted_key |= [(oid, "name")]
     assert_type(sorted_key.nearest(oid), tuple[ObjectIdentifier, str] | None)
     assert_type(sorted_key.next_after(oid), tuple[ObjectIdentifier, str] | None)
     assert_type(sorted_key.subtree(oid), list[tuple[ObjectIdentifier, str]])

@@ -13,6 +13,7 @@ import pathlib
 from functools import cache
 
 from ._native import ObjectIdentifier
+from ._support import required, wrong_type
 
 __all__ = ["by_name", "entries", "name_of", "names_of"]
 
@@ -25,10 +26,10 @@ def entries() -> tuple[tuple[ObjectIdentifier, str], ...]:
 
 
 @cache
-def _by_oid() -> dict[ObjectIdentifier, list[str]]:
-    names: dict[ObjectIdentifier, list[str]] = {}
+def _by_oid() -> dict[ObjectIdentifier, dict[str, None]]:
+    names: dict[ObjectIdentifier, dict[str, None]] = {}
     for oid, name in entries():
-        names.setdefault(oid, []).append(name)
+        names.setdefault(oid, {})[name] = None
     return names
 
 
@@ -44,18 +45,20 @@ def _fold_case(name: str) -> bytes:
 
 def name_of(oid: ObjectIdentifier) -> str | None:
     """The first name of an identifier, or None."""
-    return next(iter(_by_oid().get(oid, ())), None)
+    return next(iter(_by_oid().get(required(oid, "oid"), ())), None)
 
 
 def names_of(oid: ObjectIdentifier) -> tuple[str, ...]:
-    """All names of an identifier, in the order of the table.
+    """All names of an identifier, each once, in the order of the table.
 
     >>> names_of(ObjectIdentifier("2.5.4.3"))
     ('cn', 'commonName')
     """
-    return tuple(_by_oid().get(oid, ()))
+    return tuple(_by_oid().get(required(oid, "oid"), ()))
 
 
 def by_name(name: str) -> ObjectIdentifier | None:
     """The first identifier with a name, whatever the case of its ASCII letters, or None."""
+    if not isinstance(name, str):
+        raise wrong_type("name must be a str", name)
     return _by_name().get(_fold_case(name))

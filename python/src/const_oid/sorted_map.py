@@ -2,35 +2,40 @@
 
 from __future__ import annotations
 
+import copy
 from bisect import bisect, bisect_left, insort
-from collections.abc import Iterable, Iterator, Mapping, MutableMapping
-from typing import TypeVar
+from collections.abc import Callable, Iterable, Iterator, Mapping, MutableMapping
+from itertools import chain
+from typing import Any, Self, TypeVar
 
 from ._native import ObjectIdentifier
+from ._support import required
 
+Key = TypeVar("Key", bound=ObjectIdentifier)
 Value = TypeVar("Value")
+
+PART = 1000
 
 
 class SortedMap(MutableMapping[ObjectIdentifier, Value]):
     """A mapping from identifiers to values, with keys in the lexicographic order of arcs, as in SNMP (RFC 3416).
 
-    While one thread changes it, no other may use it.
+    Like dict, it has copy() and |, and is not to be changed while it is iterated. While one thread changes it, no other
+    may use it.
 
-    >>> system = SortedMap({ObjectIdentifier("1.3.6.1.2.1.1.3"): "sysUpTime", ObjectIdentifier("1.3.6.1.2.1.1"): "system"})
-    >>> system[ObjectIdentifier("1.3.6.1.2.1.1.10")] = "the last"
-    >>> list(system.values())
+    >>> up_time, system = ObjectIdentifier("1.3.6.1.2.1.1.3"), ObjectIdentifier("1.3.6.1.2.1.1")
+    >>> table = SortedMap({up_time: "sysUpTime", system: "system"})
+    >>> table[ObjectIdentifier("1.3.6.1.2.1.1.10")] = "the last"
+    >>> list(table.values())
     ['system', 'sysUpTime', 'the last']
     """
 
     __slots__ = ("_keys", "_values")
 
-    def __init__(
-        self, entries: Mapping[ObjectIdentifier, Value] | Iterable[tuple[ObjectIdentifier, Value]] = ()
-    ) -> None:
-        self._values = dict(entries)
-        for key in self._values:
-            _require_oid(key)
-        self._keys = sorted(self._values)
+    def __init__(self, entries: Mapping[Key, Value] | Iterable[tuple[ObjectIdentifier, Value]] = ()) -> None:
+        self._values: dict[ObjectIdentifier, Value] = {}
+        self._keys = _Keys(())
+        self.update(entries)
 
     def nearest(self, oid: ObjectIdentifier) -> tuple[ObjectIdentifier, Value] | None:
         """The entry whose key is the longest prefix of an identifier, or None.
@@ -39,10 +44,10 @@ class SortedMap(MutableMapping[ObjectIdentifier, Value]):
         >>> names.nearest(ObjectIdentifier("2.5.4.3"))
         (ObjectIdentifier('2.5.4'), 'attributes')
         """
-        prefix: ObjectIdentifier | None = _require_oid(oid)
+        prefix: ObjectIdentifier | None = required(oid, "key")
         while prefix is not None and prefix not in self._values:
             prefix = prefix.parent
-        return None if prefix is None else self._entry(bisect_left(self._keys, prefix))
+        return None if prefix is None else self._entry(bisect_left, prefix)
 
     def next_after(self, oid: ObjectIdentifier) -> tuple[ObjectIdentifier, Value] | None:
         """The first entry after an identifier, as GetNext of SNMP returns it, or None.
@@ -51,53 +56,168 @@ class SortedMap(MutableMapping[ObjectIdentifier, Value]):
         >>> names.next_after(ObjectIdentifier("2.5.4"))
         (ObjectIdentifier('2.5.10'), 2)
         """
-        index = bisect(self._keys, _require_oid(oid))
-        return self._entry(index) if index < len(self._keys) else None
+        return self._entry(bisect, required(oid, "key"))
 
     def subtree(self, oid: ObjectIdentifier) -> list[tuple[ObjectIdentifier, Value]]:
         """All entries whose keys begin with an identifier, which may be a key itself.
 
-        >>> names = SortedMap({ObjectIdentifier("2.5.4"): 1, ObjectIdentifier("2.5.4.3"): 2, ObjectIdentifier("2.6"): 3})
+        >>> arcs = [(2, 5, 4), (2, 5, 4, 3), (2, 6)]
+        >>> names = SortedMap(zip(map(ObjectIdentifier.from_arcs, arcs), [1, 2, 3]))
         >>> names.subtree(ObjectIdentifier("2.5"))
         [(ObjectIdentifier('2.5.4'), 1), (ObjectIdentifier('2.5.4.3'), 2)]
         """
-        start = bisect_left(self._keys, _require_oid(oid))
-        end = bisect_left(self._keys, True, start, key=lambda key: not key.starts_with(oid))
-        return [self._entry(index) for index in range(start, end)]
+        return [(key, self._values[key]) for key in self._keys.subtree(required(oid, "key"))]
 
-    def _entry(self, index: int) -> tuple[ObjectIdentifier, Value]:
-        key = self._keys[index]
-        return key, self._values[key]
+    def _entry(self, find: Callable[..., int], oid: ObjectIdentifier) -> tuple[ObjectIdentifier, Value] | None:
+        key = self._keys.first(find, oid)
+        return None if key is None else (key, self._values[key])
+
+    def copy(self) -> Self:
+        """A map with the same keys and values, which are not copied."""
+        return copy.copy(self)
+
+    def clear(self) -> None:
+        self._values.clear()
+        self._keys = _Keys(())
+
+    def update(  # type: ignore[override]
+        self, entries: Mapping[Key, Value] | Iterable[tuple[ObjectIdentifier, Value]] = (), /
+    ) -> None:
+        """Sets all entries of a mapping or an iterable, or none if a key is no identifier."""
+        values: dict[ObjectIdentifier, Value] = {}
+        values.update(entries)  # type: ignore[arg-type]
+        for key in values:
+            required(key, "key")
+        added = values.keys() - self._values.keys()
+        self._values.update(values)
+        if 8 * len(added) > len(self._values):
+            self._keys = _Keys(self._values)
+        else:
+            for key in added:
+                self._keys.add(key)
+
+    def __or__(self, other: Mapping[Key, Value]) -> Self:
+        if not isinstance(other, Mapping):
+            return NotImplemented
+        result = self.copy()
+        result.update(other)
+        return result
+
+    def __ror__(self, other: Mapping[Key, Value]) -> Self:
+        if not isinstance(other, Mapping):
+            return NotImplemented
+        result = self.copy()
+        result.clear()
+        result.update(other)
+        result.update(self)
+        return result
+
+    def __ior__(self, other: Mapping[Key, Value] | Iterable[tuple[ObjectIdentifier, Value]]) -> Self:
+        self.update(other)
+        return self
 
     def __getitem__(self, key: ObjectIdentifier) -> Value:
         return self._values[key]
 
     def __setitem__(self, key: ObjectIdentifier, value: Value) -> None:
-        if _require_oid(key) not in self._values:
-            insort(self._keys, key)
+        if required(key, "key") not in self._values:
+            self._keys.add(key)
         self._values[key] = value
 
     def __delitem__(self, key: ObjectIdentifier) -> None:
         del self._values[key]
-        del self._keys[bisect_left(self._keys, key)]
+        self._keys.remove(key)
 
     def __contains__(self, key: object) -> bool:
         return key in self._values
 
     def __iter__(self) -> Iterator[ObjectIdentifier]:
-        return iter(self._keys)
+        return self._walk(iter)
 
     def __reversed__(self) -> Iterator[ObjectIdentifier]:
-        return reversed(self._keys)
+        return self._walk(reversed)
+
+    def _walk(self, order: Callable[[Any], Iterator[ObjectIdentifier]]) -> Iterator[ObjectIdentifier]:
+        """Yields the keys, and fails if others have been added or removed."""
+        keys = self._keys
+        changes = keys.changes
+        for key in order(keys):
+            yield key
+            if self._keys is not keys or keys.changes != changes:
+                raise RuntimeError(f"{type(self).__name__} changed during iteration")
 
     def __len__(self) -> int:
-        return len(self._keys)
+        return len(self._values)
 
     def __repr__(self) -> str:
         return f"{type(self).__name__}({dict(self.items())!r})"
 
+    def __getstate__(self) -> tuple[dict[str, Any] | None, dict[str, Any]]:
+        """For copies and pickles: the entries in order, and the attributes of a subclass."""
+        attributes, slots = super().__getstate__()  # type: ignore[misc]
+        return attributes, {**slots, "_values": dict(self.items()), "_keys": None}
 
-def _require_oid(key: ObjectIdentifier) -> ObjectIdentifier:
-    if not isinstance(key, ObjectIdentifier):
-        raise TypeError(f"key must be an ObjectIdentifier, not {type(key).__name__}")
-    return key
+    def __setstate__(self, state: tuple[dict[str, Any] | None, dict[str, Any]]) -> None:
+        attributes, slots = state
+        for name, value in {**(attributes or {}), **slots}.items():
+            setattr(self, name, value)
+        self._keys = _Keys(self._values)
+
+
+class _Keys:
+    """Keys in order, in parts of at most 2 * PART, so that one more moves few of them."""
+
+    __slots__ = ("_lasts", "_parts", "changes")
+
+    def __init__(self, keys: Iterable[ObjectIdentifier]) -> None:
+        keys = sorted(keys)
+        self._parts = [keys[start : start + PART] for start in range(0, len(keys), PART)]
+        self._lasts = [part[-1] for part in self._parts]
+        self.changes = 0
+
+    def add(self, key: ObjectIdentifier) -> None:
+        index = min(bisect_left(self._lasts, key), len(self._lasts) - 1)
+        part = self._parts[index] if self._parts else []
+        insort(part, key)
+        self._replace(index, part)
+
+    def remove(self, key: ObjectIdentifier) -> None:
+        index = bisect_left(self._lasts, key)
+        part = self._parts[index]
+        del part[bisect_left(part, key)]
+        self._replace(index, part)
+
+    def _replace(self, index: int, part: list[ObjectIdentifier]) -> None:
+        """Puts a part that has changed in its place: as two if it is too long, and as none if it is empty."""
+        self.changes += 1
+        if 0 < len(part) <= 2 * PART and self._parts:
+            self._lasts[index] = part[-1]
+            return
+        parts = [half for half in (part[:PART], part[PART:]) if half]
+        self._parts[index : index + 1] = parts
+        self._lasts[index : index + 1] = [half[-1] for half in parts]
+
+    def first(self, find: Callable[..., int], oid: ObjectIdentifier) -> ObjectIdentifier | None:
+        """The first key after an identifier, by `bisect`, or not before it, by `bisect_left`; or None."""
+        index = find(self._lasts, oid)
+        if index == len(self._lasts):
+            return None
+        part = self._parts[index]
+        return part[find(part, oid)]
+
+    def subtree(self, oid: ObjectIdentifier) -> list[ObjectIdentifier]:
+        """The keys that begin with an identifier."""
+        found: list[ObjectIdentifier] = []
+        for part in self._parts[bisect_left(self._lasts, oid) :]:
+            start = bisect_left(part, oid)
+            end = bisect_left(part, True, start, key=lambda key: not key.starts_with(oid))
+            found += part[start:end]
+            if end < len(part):
+                break
+        return found
+
+    def __iter__(self) -> Iterator[ObjectIdentifier]:
+        return chain.from_iterable(self._parts)
+
+    def __reversed__(self) -> Iterator[ObjectIdentifier]:
+        return chain.from_iterable(map(reversed, reversed(self._parts)))
