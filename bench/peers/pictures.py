@@ -2,6 +2,7 @@
 """bench/peers/pictures.py [--check]: draws docs/matrix.svg and docs/cost.svg from the tables of docs/PEERS.md.
 
 With --check it writes nothing, and the exit status is 1 if a picture is not the one of its table."""
+import argparse
 import pathlib
 import re
 import sys
@@ -126,8 +127,11 @@ def cost():
 
 
 if __name__ == "__main__":
+    parser = argparse.ArgumentParser(description=__doc__, formatter_class=argparse.RawDescriptionHelpFormatter)
+    parser.add_argument("--check", action="store_true")
+    is_check = parser.parse_args().check
     drawn = {"matrix.svg": matrix(), "cost.svg": cost()}
-    if "--check" in sys.argv:
+    if is_check:
         old = [name for name, svg in drawn.items() if (DOCS / name).read_text(encoding="utf-8") != svg]
         sys.exit("\n".join(f"docs/{name} is not the picture of docs/PEERS.md" for name in old) or None)
     for name, svg in drawn.items():

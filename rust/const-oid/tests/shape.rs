@@ -5,79 +5,198 @@ use const_oid::{
     ObjectIdentifierRef, Result,
 };
 use std::borrow::Borrow;
+use std::collections::BTreeSet;
 use std::fmt::{Debug, Display};
 use std::hash::Hash;
+use std::iter::FusedIterator;
 use std::ops::Deref;
 use std::str::FromStr;
 
-/// What each type is, whatever its capacity.
-const _: () = {
-    const fn is_value<T: Copy + Eq + Send + Sync + Unpin + 'static>() {}
-    const fn is_ordered<T: Ord + Hash + ?Sized>() {}
-    const fn is_printed<T: Debug + Display + ?Sized>() {}
-    const fn is_lent<T: ?Sized, L: AsRef<[u8]> + AsRef<T> + Borrow<T> + Deref<Target = T>>() {}
-    const fn is_error<T: std::error::Error + Ord + Copy + Debug + Send + Sync + 'static>() {}
-    const fn is_key<T: Copy + Ord + Send + Sync>() {}
-    const fn is_iterator<T: Iterator<Item = Arc> + Send + Sync>() {}
-    const fn is_octets<T: AsRef<[u8]> + Send + Sync + ?Sized>() {}
-    const fn equals<T: PartialEq<U> + ?Sized, U>() {}
-    const fn is_read<T: FromStr<Err = Error> + for<'a> TryFrom<&'a [u8], Error = Error>>() {}
-    const fn is_copied<T: for<'a> TryFrom<&'a ObjectIdentifierRef, Error = Error>>() {}
-    const fn is_borrowed<
-        'a,
-        T: TryFrom<&'a [u8], Error = Error> + From<&'a ObjectIdentifier<7>>,
-    >() {
-    }
-
-    is_value::<ObjectIdentifier>();
-    is_value::<ObjectIdentifier<200>>();
-    is_ordered::<ObjectIdentifier<7>>();
-    is_printed::<ObjectIdentifier<7>>();
-    is_lent::<ObjectIdentifierRef, ObjectIdentifier<7>>();
-    is_read::<ObjectIdentifier>();
-    is_copied::<ObjectIdentifier<7>>();
-
-    is_ordered::<ObjectIdentifierRef>();
-    is_printed::<ObjectIdentifierRef>();
-    is_octets::<ObjectIdentifierRef>();
-    is_borrowed::<&ObjectIdentifierRef>();
-    equals::<ObjectIdentifierRef, ObjectIdentifier<7>>();
-
-    is_value::<Buffer<7>>();
-    is_ordered::<Buffer<7>>();
-    is_octets::<Buffer<7>>();
-
-    is_error::<Error>();
-    is_key::<ByArcs<&'static ObjectIdentifierRef>>();
-    is_iterator::<Arcs<'static>>();
-};
-
-/// The functions that a constant may call, each with its type.
-const _: () = {
-    let _: fn(&str) -> Result<ObjectIdentifier> = ObjectIdentifier::new;
-    const OID: ObjectIdentifier = match ObjectIdentifier::new("2.5.4.3") {
-        Ok(oid) => oid,
-        Err(_) => panic!(),
+/// A function for all types with these parameters, which compiles if they have a trait.
+macro_rules! is {
+    ([$($generic:tt)*] $type:ty, $trait:path) => {
+        const _: () = {
+            #[allow(dead_code)]
+            fn is<$($generic)*>(value: &$type) -> &(impl $trait + ?Sized) {
+                value
+            }
+        };
     };
-    const SAME: ObjectIdentifier = ObjectIdentifier::new_unwrap("2.5.4.3");
+}
+
+/// Asserts traits of types with parameters, and names them: the type and the trait.
+macro_rules! traits {
+    ($names:ident: $($generics:tt $type:ty: $($trait:path),*;)*) => {
+        pub const $names: &[(&str, &str)] = &[$($((stringify!($type), stringify!($trait)),)*)*];
+        $($(is!($generics $type, $trait);)*)*
+    };
+}
+
+traits! { TRAITS:
+    [const N: usize] ObjectIdentifier<N>: Copy, Clone, Eq, PartialEq, Ord, PartialOrd, Hash, Debug, Display, Send, Sync,
+        Unpin, AsRef<[u8]>, AsRef<ObjectIdentifierRef>, Borrow<ObjectIdentifierRef>, Deref<Target = ObjectIdentifierRef>;
+    ['a, const N: usize] ObjectIdentifier<N>: TryFrom<&'a ObjectIdentifierRef, Error = Error>;
+    [] ObjectIdentifier: FromStr<Err = Error>;
+    ['a] ObjectIdentifier: TryFrom<&'a [u8], Error = Error>;
+    [const N: usize] ObjectIdentifierRef: Eq, PartialEq, Ord, PartialOrd, Hash, Debug, Display, Send, Sync, AsRef<[u8]>,
+        PartialEq<ObjectIdentifier<N>>;
+    ['a, const N: usize] &'a ObjectIdentifierRef: From<&'a ObjectIdentifier<N>>, TryFrom<&'a [u8], Error = Error>;
+    [const N: usize] Buffer<N>: Copy, Clone, Eq, PartialEq, Ord, PartialOrd, Hash, Send, Sync, Unpin, AsRef<[u8]>;
+    [] Error: Copy, Clone, Debug, Display, Eq, PartialEq, Ord, PartialOrd, Send, Sync, std::error::Error;
+    [T: Borrow<ObjectIdentifierRef>] ByArcs<T>: Eq, PartialEq, Ord, PartialOrd, Hash, Display;
+    [T: Copy + Debug + Send + Sync] ByArcs<T>: Copy, Clone, Debug, Send, Sync, From<T>;
+    ['a] Arcs<'a>: Iterator<Item = Arc>, FusedIterator, Clone, Debug, Send, Sync;
+    [T: AssociatedOid] T: DynAssociatedOid;
+}
+
+#[cfg(feature = "arbitrary")]
+traits! { DRAWN: ['a] ObjectIdentifier: arbitrary::Arbitrary<'a>; }
+
+/// Calls functions as a constant may, and names them: the type and the function.
+macro_rules! constants {
+    ($names:ident($($given:tt)*) $($type:ident $(<$size:literal>)?::$name:ident($($argument:expr),*);)*) => {
+        pub const $names: &[(&str, &str)] = &[$((stringify!($type), stringify!($name)),)*];
+        const _: () = {
+            #[allow(dead_code)]
+            const fn calls($($given)*) {
+                $(let _ = $type$(::<$size>)?::$name($($argument),*);)*
+            }
+        };
+    };
+}
+
+const CN: ObjectIdentifier = ObjectIdentifier::new_unwrap("2.5.4.3");
+
+// No caller makes a buffer.
+constants! { CALLED(buffer: &Buffer<7>)
+    ObjectIdentifier::new("2.5.4.3");
+    ObjectIdentifier::new_unwrap("2.5.4.3");
+    ObjectIdentifier<4>::new_sized("2.5.4.3");
+    ObjectIdentifier<4>::from_ascii(b"2.5.4.3");
+    ObjectIdentifier::as_bytes(&CN);
+    ObjectIdentifier::as_oid_ref(&CN);
+    ObjectIdentifier::push_arc(CN, 1);
+    ObjectIdentifier::starts_with(&CN, CN);
+    ObjectIdentifierRef::as_bytes(CN.as_oid_ref());
+    Buffer::as_bytes(buffer);
+    Buffer::len(buffer);
+    Buffer::eq(buffer, buffer);
+}
+
+/// Items of the list that no caller reaches: those of the generated forms of both types, and those for C.
+const HIDDEN: [&str; 3] = ["erased/by_arcs.rs", "erased/oid_ref.rs", "erased/search.rs"];
+
+/// The lines of the list of public items that callers reach: the path below `src`, what an item is in, and its head.
+fn listed() -> impl Iterator<Item = [&'static str; 3]> {
+    let lines = include_str!("../public-items.txt").lines();
+    let rows = lines.map(|line| {
+        let row: Vec<&str> = line
+            .trim_start_matches("rust/const-oid/src/")
+            .split('\t')
+            .collect();
+        [row[0], row[1], row[2]]
+    });
+    rows.filter(|[path, ..]| !HIDDEN.contains(path))
+}
+
+/// The last word of a path before its parameters.
+fn word(path: &str) -> String {
+    let path = path.trim_start_matches("&'a ").split('<').next().unwrap();
+    path.rsplit("::").next().unwrap().trim().into()
+}
+
+/// A text after the parameters that it may begin with.
+fn after_parameters(text: &str) -> &str {
+    let mut depth = 0;
+    let end = text.find(|c| {
+        depth += i32::from(c == '<') - i32::from(c == '>');
+        depth == 0
+    });
+    text[end.unwrap_or(0)..].trim_start_matches('>').trim()
+}
+
+/// Each trait that the list has of a type, by an `impl` or `derive`, is asserted here.
+#[test]
+fn each_listed_trait_is_asserted() {
+    let named = |(of, name): &(&str, &str)| (word(of), word(name));
+    let asserted: BTreeSet<_> = TRAITS.iter().map(named).collect();
+    #[cfg(feature = "arbitrary")]
+    let asserted = &asserted | &DRAWN.iter().map(named).collect();
+    #[cfg(feature = "db")]
+    let asserted = &asserted | &db::TRAITS.iter().map(named).collect();
+    let mut count = 0;
+    for [path, _, head] in listed() {
+        let is_off = path == "arbitrary.rs" && !cfg!(feature = "arbitrary")
+            || path.contains("db") && !cfg!(feature = "db");
+        if is_off || head.contains('$') || head.contains("Contents for") || head.contains("List<I>")
+        {
+            continue;
+        }
+        let pairs: Vec<_> = if let Some(head) = head.strip_prefix("impl") {
+            let (name, of) = after_parameters(head).split_once(" for ").unwrap();
+            vec![(word(of), word(name))]
+        } else if let Some(head) = head.strip_prefix("#[derive(") {
+            let (names, item) = head.split_once(")] pub ").unwrap();
+            let of = item
+                .split_once(' ')
+                .unwrap()
+                .1
+                .split(['<', '('])
+                .next()
+                .unwrap();
+            names
+                .split(", ")
+                .map(|name| (of.into(), name.into()))
+                .collect()
+        } else {
+            vec![]
+        };
+        count += pairs.len();
+        for pair in pairs {
+            assert!(asserted.contains(&pair), "{path}: {pair:?}");
+        }
+    }
+    assert!(count > 40, "{count}");
+}
+
+/// Each function that is `const` in the list is called in a constant function here.
+#[test]
+fn each_constant_function_is_called() {
+    let called: BTreeSet<_> = CALLED.iter().copied().collect();
+    #[cfg(feature = "db")]
+    let called = &called | &db::CALLED.iter().copied().collect();
+    let mut expected = BTreeSet::new();
+    for [path, owner, head] in listed() {
+        let Some(head) = head.strip_prefix("pub const fn ") else {
+            continue;
+        };
+        let name = head.split(['(', '<']).next().unwrap();
+        let of = after_parameters(owner.strip_prefix("impl").unwrap())
+            .split('<')
+            .next()
+            .unwrap();
+        let tables = ["Database", "SortedDatabase"];
+        let owners = if of == "$table" { &tables[..] } else { &[of] };
+        if cfg!(feature = "db") || !path.contains("db") {
+            expected.extend(owners.iter().map(|of| (*of, name)));
+        }
+    }
+    assert_eq!(called, expected);
+}
+
+/// The values of constants.
+const _: () = {
+    const CHILD: Result<ObjectIdentifier> = CN.push_arc(1 as Arc);
     const SIZED: Result<ObjectIdentifier<4>> = ObjectIdentifier::<4>::new_sized("2.5.4.3");
-    const OCTETS: &[u8] = SAME.as_bytes();
-    const BORROWED: &ObjectIdentifierRef = SAME.as_oid_ref();
-    const CHILD: Result<ObjectIdentifier> = OID.push_arc(1 as Arc);
-    assert!(OCTETS.len() == 3 && BORROWED.as_bytes().len() == 3);
-    assert!(SIZED.is_ok() && CHILD.is_ok() && SAME.starts_with(OID));
+    assert!(CN.as_bytes().len() == 3 && CN.as_oid_ref().as_bytes().len() == 3);
+    assert!(SIZED.is_ok() && CHILD.is_ok() && CN.starts_with(CN));
     assert!(ObjectIdentifier::MAX_SIZE == 39);
 };
-
-/// The functions of a buffer that a constant may call. No caller makes a buffer.
-const fn of_buffers(buffer: &Buffer<7>) -> (bool, usize, &[u8]) {
-    (buffer.eq(buffer), buffer.len(), buffer.as_bytes())
-}
 
 /// The functions that no constant may call, each with its type.
 #[test]
 fn functions_have_their_types() {
-    let _ = of_buffers;
+    let _: fn(&str) -> Result<ObjectIdentifier> = ObjectIdentifier::new;
     let _: fn([Arc; 3]) -> Result<ObjectIdentifier> = ObjectIdentifier::from_arcs;
     let _: fn([Arc; 3]) -> Result<ObjectIdentifier<7>> = ObjectIdentifier::from_arcs_sized;
     let _: fn(&[u8]) -> Result<ObjectIdentifier> = ObjectIdentifier::from_bytes;
@@ -89,17 +208,34 @@ fn functions_have_their_types() {
     let _: fn(Error) -> usize = Error::text_len;
 }
 
-/// A type with an identifier, as a bound and as `dyn`.
+/// A type with an identifier, as a bound and as `dyn`: one that borrows, and one without a size.
 #[test]
 fn types_have_identifiers() {
-    struct Name;
-    impl AssociatedOid for Name {
-        const OID: ObjectIdentifier = ObjectIdentifier::new_unwrap("2.5.4.3");
+    #[allow(dead_code)]
+    struct Name<'a>(&'a str);
+    impl AssociatedOid for Name<'_> {
+        const OID: ObjectIdentifier = CN;
     }
-    fn of_value(value: &dyn DynAssociatedOid) -> ObjectIdentifier {
+    struct Values<T: ?Sized>(T);
+    impl AssociatedOid for Values<str> {
+        const OID: ObjectIdentifier = CN;
+    }
+    impl DynAssociatedOid for Values<[Arc]> {
+        fn oid(&self) -> ObjectIdentifier {
+            ObjectIdentifier::from_arcs(self.0.iter().copied()).unwrap()
+        }
+    }
+    fn of_value<'a>(value: &'a (dyn DynAssociatedOid + 'a)) -> ObjectIdentifier {
         value.oid()
     }
-    assert_eq!(of_value(&Name).to_string(), "2.5.4.3");
+    fn of_type<T: AssociatedOid + ?Sized>() -> ObjectIdentifier {
+        T::OID
+    }
+    let text = String::from("cn");
+    assert_eq!(of_value(&Name(&text)), CN);
+    assert_eq!(of_type::<Values<str>>(), CN);
+    let values: &Values<[Arc]> = &Values([2, 5, 4, 3]);
+    assert_eq!(values.oid(), CN);
 }
 
 /// The four operators are those of `cmp`, in both forms.
@@ -169,26 +305,28 @@ fn copies_where_it_fits() {
 
 #[cfg(feature = "db")]
 mod db {
-    use const_oid::db::{DB, Database, Names, SORTED, SortedDatabase, rfc4519::CN};
-    use const_oid::{ObjectIdentifier, ObjectIdentifierRef};
+    use const_oid::ObjectIdentifier;
+    use const_oid::db::{Database, Names, SortedDatabase, rfc4519::CN};
+    use std::fmt::Debug;
+    use std::iter::FusedIterator;
 
-    /// What each type of the feature is, and the functions that a constant may call.
-    const _: () = {
-        const fn is_table<T: Copy + Send + Sync>() {}
-        is_table::<Database<'static>>();
-        is_table::<SortedDatabase<'static>>();
-        const fn is_iterator<T: Iterator<Item = &'static str>>() {}
-        is_iterator::<Names<'static>>();
-        const ENTRIES: [(&ObjectIdentifier, &str); 1] = [(&CN, "cn")];
-        const ONE: Database<'static> = Database::new(&ENTRIES);
-        const NAME: Option<&str> = ONE.by_oid(&CN);
-        const OID: Option<&ObjectIdentifier> = ONE.by_name("cn");
-        const NAMES: Names<'static> = ONE.find_names_for_oid(CN);
-        const IN_ORDER: [(&ObjectIdentifierRef, &str); 1] = [(CN.as_oid_ref(), "cn")];
-        const SORTED_ONE: SortedDatabase<'static> = SortedDatabase::new(&IN_ORDER);
-        assert!(NAME.is_some() && OID.is_some() && DB.by_oid(&CN).is_some());
-        let _ = (NAMES, SORTED_ONE, SORTED);
-    };
+    traits! { TRAITS:
+        ['a] Database<'a>: Copy, Clone, Debug, Send, Sync;
+        ['a] SortedDatabase<'a>: Copy, Clone, Debug, Send, Sync;
+        ['a] Names<'a>: Iterator<Item = &'a str>, FusedIterator, Clone, Debug;
+    }
+
+    constants! { CALLED(table: Database<'static>, sorted: SortedDatabase<'static>)
+        Database::new(&[(&CN, "cn")]);
+        Database::by_oid(&table, &CN);
+        Database::by_name(&table, "cn");
+        Database::find_names_for_oid(&table, CN);
+        Database::entries(&table);
+        Database::len(&table);
+        SortedDatabase::new(&[(CN.as_oid_ref(), "cn")]);
+        SortedDatabase::entries(&sorted);
+        SortedDatabase::len(&sorted);
+    }
 
     /// What a lookup finds lives as long as the entries.
     #[test]
@@ -200,13 +338,6 @@ mod db {
         assert_eq!(name(&[(&CN, "cn")]), Some("cn"));
     }
 }
-
-/// The feature `arbitrary` stands alone.
-#[cfg(feature = "arbitrary")]
-const _: () = {
-    const fn is_drawn<T: for<'a> arbitrary::Arbitrary<'a>>() {}
-    is_drawn::<ObjectIdentifier>();
-};
 
 /// The settings of a `Cargo.toml`, each with its section.
 fn settings(path: &str) -> Vec<(String, String)> {
