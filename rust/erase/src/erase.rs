@@ -4,13 +4,16 @@
 
 use crate::edit::replaced;
 use crate::fault::{Fault, Result};
-use crate::mark::{Mark, mark, marks};
 use crate::token::{Token, close, is, solid};
 
 type Tokens<'a> = Vec<Token<'a>>;
 
-/// The marks that are left to read.
-type Left = std::iter::Peekable<std::vec::IntoIter<usize>>;
+/// A command to the eraser: the function after it is `const` in Rust, since a constant calls it there. In Rattle it calls
+/// a function of `std` that is not `const`.
+const CONST: &str = "// erase: const";
+
+/// A command to the eraser: Rust lacks the `mod` or `use` after it.
+const OMIT: &str = "// erase: omit";
 
 /// What Rust writes in another way, wherever it is.
 const SYNTAX: [(&str, &str); 7] = [
@@ -38,33 +41,29 @@ pub fn erase<'a>(tokens: &[Token<'a>]) -> Result<Tokens<'a>> {
     Ok(out)
 }
 
-/// Without ghosts, contracts, tactics and impls of `Model`, and with what the marks command.
+/// Without ghosts, contracts, tactics and impls of `Model`, and with what the commands say.
 fn without_ghosts<'a>(tokens: &[Token<'a>]) -> Result<Tokens<'a>> {
     let mut out = Tokens::new();
-    let mut left = marks(tokens)?.into_iter().peekable();
-    let mut is_constant = false;
+    let mut command: Option<Token<'_>> = None;
     let mut at = 0;
     while at < tokens.len() {
-        refuse_left_out(tokens, &mut left, at)?;
         let token = tokens[at];
+        let mut leave_out = |end| leave_out(&mut out, tokens, at, end);
         at = match token.text {
-            "ghost" => leave_out(&mut out, ghost_end(tokens, at)?),
-            "requires" | "ensures" => leave_out(&mut out, clause_end(tokens, at)?),
-            "impl" if is_of_model(tokens, at) => leave_out(&mut out, item_end(tokens, at)),
+            "ghost" => leave_out(ghost_end(tokens, at)?)?,
+            "requires" | "ensures" => leave_out(clause_end(tokens, at)?)?,
+            "impl" if is_of_model(tokens, at) => leave_out(item_end(tokens, at))?,
             // One of a function, with the end of its line.
             "#" if is_tactic(tokens, at) => {
                 item_end(tokens, at) + usize::from(!is(tokens, at + 1, "!"))
             }
-            text if mark(text) == Some(Mark::Omit) => {
-                let end = tokens[at..].iter().position(|token| token.text == ";");
-                leave_out(&mut out, end.map_or(tokens.len(), |end| at + end + 1)) + 1
-            }
-            text if mark(text) == Some(Mark::Const) => {
-                is_constant = true;
+            OMIT => leave_out(omitted_end(tokens, at)?)? + 1,
+            CONST if command.is_none() => {
+                command = Some(token);
                 at + 2
             }
-            "fn" if is_constant => {
-                is_constant = false;
+            text if is_command(text) => return Err(fault_of(token)),
+            "fn" if command.take().is_some() => {
                 out.extend(["const", " "].map(|text| Token { text, ..token }));
                 out.push(token);
                 at + 1
@@ -75,23 +74,25 @@ fn without_ghosts<'a>(tokens: &[Token<'a>]) -> Result<Tokens<'a>> {
             }
         };
     }
-    refuse_left_out(tokens, &mut left, at)?;
-    Ok(out)
+    command.map_or(Ok(out), |token| Err(fault_of(token)))
 }
 
-/// Takes the marks up to an index, and rejects one before it, which was left out unread.
-fn refuse_left_out(tokens: &[Token<'_>], left: &mut Left, at: usize) -> Result<()> {
-    match left.next_if(|mark| *mark <= at) {
-        Some(mark) if mark < at => {
-            let words = format!("`{}` is in what is left out", tokens[mark].text);
-            Err(Fault::new(tokens[mark].line, words))
-        }
-        _ => Ok(()),
+/// Whether a comment is a command, or was meant as one.
+fn is_command(text: &str) -> bool {
+    text.starts_with("//") && text.to_lowercase().contains("erase:")
+}
+
+fn fault_of(command: Token<'_>) -> Fault {
+    let words = format!("`{}` is no command here", command.text);
+    Fault::new(command.line, words)
+}
+
+/// Leaves out the tokens up to an index, in which is no other command, and the comments right before them.
+fn leave_out(out: &mut Tokens<'_>, tokens: &[Token<'_>], at: usize, end: usize) -> Result<usize> {
+    let left = &tokens[at + 1..end];
+    if let Some(command) = left.iter().find(|token| is_command(token.text)) {
+        return Err(fault_of(*command));
     }
-}
-
-/// Leaves out what ends before `end`, and the comments right before it.
-fn leave_out(out: &mut Tokens<'_>, end: usize) -> usize {
     let is_gap = |token: &Token<'_>| token.is_blank() && !token.text.starts_with("//!");
     while out.last().is_some_and(is_gap) {
         out.pop();
@@ -100,7 +101,20 @@ fn leave_out(out: &mut Tokens<'_>, end: usize) -> usize {
         text: "\n",
         line: 0,
     });
-    end
+    Ok(end)
+}
+
+/// The index after the `mod` or `use` that a command leaves out.
+fn omitted_end(tokens: &[Token<'_>], at: usize) -> Result<usize> {
+    let end = tokens[at..].iter().position(|token| token.text == ";");
+    let end = end.map_or(at, |end| at + end + 1);
+    let has = |words: &[&str]| {
+        tokens[at..end]
+            .iter()
+            .any(|token| words.contains(&token.text))
+    };
+    let is_item = has(&["mod", "use"]) && !has(&["fn", "struct", "impl"]);
+    is_item.then_some(end).ok_or_else(|| fault_of(tokens[at]))
 }
 
 /// The index after the first brackets of an item. Braces are an item's last brackets.
@@ -234,17 +248,27 @@ mod tests {
         }
         let words = "2: `ensures` without its braces";
         assert_eq!(erased("\nfn f() ensures ;").unwrap_err(), words);
-        for left_out in [
-            "impl Model for S {\n// erase: const\nfn f() {} }\nfn g() {}",
-            "fn g() ensures {\n// erase: const\nfn f() {} }\n{}",
-            "impl Model for S {\n// erase: const\nfn f() {} }",
-        ] {
-            assert_eq!(
-                erased(left_out).unwrap_err(),
-                "2: `// erase: const` is in what is left out"
-            );
+        for row in COMMANDS {
+            let (source, words) = row.split_once(" ⇒ ").unwrap();
+            let words = words.split_once(": ").unwrap();
+            let words = format!("{}: `{}` is no command here", words.0, words.1);
+            assert_eq!(erased(source), Err(words), "{source}");
         }
     }
+
+    /// Sources with a command that is misspelt, in what is left out, or before nothing that it is for.
+    const COMMANDS: &[&str] = &[
+        "impl Model for S {\n// erase: const\nfn f() {} }\nfn g() {} ⇒ 2: // erase: const",
+        "fn g() ensures {\n// erase: const\nfn f() {} }\n{} ⇒ 2: // erase: const",
+        "// erase: cosnt\nfn f() {} ⇒ 1: // erase: cosnt",
+        "\n//erase: const\nfn f() {} ⇒ 2: //erase: const",
+        "/// Erase: omit\nmod a; ⇒ 1: /// Erase: omit",
+        "// erase: const\n// erase: const\nfn f() {} ⇒ 2: // erase: const",
+        "// erase: const\nmod a; ⇒ 1: // erase: const",
+        "// erase: omit\nfn f() { mod a; } ⇒ 1: // erase: omit",
+        "// erase: omit\n// erase: const\nmod a; ⇒ 2: // erase: const",
+        "// erase: omit\n#[a]\nmod a {} ⇒ 1: // erase: omit",
+    ];
 
     #[test]
     fn finds_declared_modules() {

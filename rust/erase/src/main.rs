@@ -19,7 +19,6 @@ mod erase;
 mod examples;
 mod fault;
 mod items;
-mod mark;
 mod names;
 mod table;
 mod token;
