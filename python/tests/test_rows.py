@@ -70,7 +70,7 @@ CALLS = {
 
 # What this package has no call for: the other orders, and other answers of lists. `error` has rows of codes that there
 # are not.
-LEFT_OUT = {"owned", "borrowed", "range", "sorted"}
+LEFT_OUT = {"items", "owned", "borrowed", "range", "sorted"}
 # Calls of lists, of which there may be no rows.
 OF_LISTS = {"find", "next", "nearest"}
 

@@ -2,12 +2,12 @@
 use Rattle.std.proofs.Common.{◌≡◌, ◌≢◌, ℕ, suc, ◌<◌, ◌≤◌, List, [], ◌∷◌, ◌++◌, length, min, take, drop, refl, sym, ap}
 use Rattle.std.proofs.Common.{◌∙◌, ⊎_elim, arith, Less, Equal, Greater, nat_cmp, length-append, Some, rules}
 use Rattle.std.specs.{Prelude.{◌↔◌, slice_get}, List.{AllZip, onto_first, concat}, Ordering.{ordering_then, is_eq}}
-use Rattle.std.specs.{Cmp.Lexicographic.{slice_cmp, nat_list_cmp_total, texts_ties, same_text}, Cmp.nat_cmp_is}
+use Rattle.std.specs.{Cmp.Lexicographic.{slice_cmp, nat_list_cmp_total, lists_total, texts_ties, same_text}, Cmp.{IsTotalOrder, nat_cmp_is, on_total}}
 use Rattle.std.proofs.lemmas.{Bool.cases_lt, Cmp.tied_itself, List.{length-drop, take-append-drop}, Grind.common_steps}
 use Rattle.std.proofs.lemmas.Bool.Decides.{nat_tests}
-use Rattle.const_oid.specs.{Base128.IsGroup, Contents.cut, Orders.{shortlex_cmp, shortlex_cmp_total, parts_cmp}}
+use Rattle.const_oid.specs.{Base128.IsGroup, Contents.cut, Orders.{shortlex_cmp, shortlex_cmp_total, shortlex_cmp_ties, parts_cmp}}
 use Rattle.const_oid.specs.{Identifier.{RootRule, IsIdentifier, IsEncoding, subidentifiers}, Tree.BeginsWith}
-use Rattle.const_oid.proofs.{BeginsWith.{before_more, between}, Cutting.{cut_after-last, cut_after-more}}
+use Rattle.const_oid.proofs.{BeginsWith.{before_more, between}, Cutting.{cut_after-last, cut_after-more, concat-cut}}
 use Rattle.const_oid.proofs.Encodings.{cut_encoding, same_arcs, same_octets}
 use Rattle.const_oid.proofs.Orders.{groups_cmp, groups_short, shortlex_cmp-less, split_cmp}
 
@@ -56,6 +56,26 @@ ended (x ∷ xs) (y ∷ ys) e = absurd (omega arith)
 pub ended_parts : (a b : List ℕ) → (let end = min (length a) (length b) in take end a ≡ take end b)
     → parts_cmp a b ≡ nat_cmp (length a) (length b)
 ended_parts a b same = grind (arith, length-drop, ended, same_up_to a b (min (length a) (length b)) same)
+
+-- ---- any octets
+
+pub parts_total : IsTotalOrder parts_cmp
+parts_total = on_total cut (lists_total shortlex_cmp_total)
+
+-- only equal lists tie
+tied_short : (g h : List ℕ) → shortlex_cmp g h ≡ Equal → g ≡ h
+tied_short g h tie = same_text g h (sym (shortlex_cmp_ties g h ∙ ap is_eq tie))
+
+tied_parts : (gs hs : List (List ℕ)) → slice_cmp shortlex_cmp gs hs ≡ Equal → gs ≡ hs
+tied_parts [] [] tie = refl
+tied_parts (g ∷ gs) (h ∷ hs) tie = grind (arith, common_steps, tied_parts gs hs, tied_short g h)
+tied_parts _ _ tie = absurd (grind arith)
+
+pub parts_same : (xs ys : List ℕ) → (parts_cmp xs ys ≡ Equal) ↔ (xs ≡ ys)
+parts_same xs ys = (
+  λ tie. sym (concat-cut xs) ∙ ap concat (tied_parts (cut xs) (cut ys) tie) ∙ concat-cut ys,
+  λ same. rw same (tied_itself parts_total ys),
+)
 
 -- ---- the order of the arcs
 

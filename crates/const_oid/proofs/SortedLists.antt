@@ -5,7 +5,7 @@ use Rattle.std.proofs.Common.{length-append, append-nil, append_assoc}
 use Rattle.std.specs.{Prelude.{◌↔◌, IfSome}, Cmp.Lexicographic.{pointwise, slice_cmp, same_text, texts_ties}}
 use Rattle.std.specs.Ordering.{is_lt, is_ge}
 use Rattle.std.specs.List.{All, AllWithin, HoldsAt, find, position, position_or_len}
-use Rattle.std.specs.List.Sorted.{IsPartitionedBy, IsPartitionPoint}
+use Rattle.std.specs.List.Sorted.{IsPartitionedBy, IsPartitionPoint, IsSortedByKey}
 use Rattle.std.proofs.lemmas.{Cmp.{nat_list_cmp_total, nat_list_eq_equiv}, List.{get_or-drop, length-drop}, List.Folds.find_at}
 use Rattle.std.proofs.lemmas.List.Sorted.{sorted_far, ranks_by}
 use Rattle.std.proofs.lemmas.List.Sums.{passes_at_first, fails_before_first}
@@ -54,6 +54,18 @@ module _ {X : Type 0} (test : X → Bool) (xs : List X) where
 
   pub find_none : None ≡ position test xs → find test xs ≡ None
   find_none e = grind (arith, nat_tests, find_at, slice_get_cases xs (position_or_len test xs))
+
+-- ---- lists sorted by octets alone
+
+-- valid items that are sorted by their parts are sorted by their arcs
+pub sorted_by_parts : {Item : Type 0} (octets_of : Item → List ℕ) (items : List Item)
+    → All (λ item. IsEncoding root_rule (item_arcs octets_of item) (octets_of item)) items
+    → IsSortedByKey octets_of parts_cmp items → IsSortedList octets_of items
+sorted_by_parts octets_of items valid sorted = record {
+  valid = valid;
+  sorted = λ at item from within.
+      rw (← arcs_cmp (valid (at + 1) item within) (valid at item (omega arith))) (sorted at item from within);
+}
 
 -- ---- lists of arcs
 

@@ -143,6 +143,12 @@ pub fn order_of_arcs()
         → slice_cmp nat_cmp a b ≡ slice_cmp nat_cmp p x }
 {}
 
+/// The order of parts is total over any octets, valid or not. A tie means equal octets.
+pub fn order_of_parts()
+    ensures total { IsTotalOrder parts_cmp }
+    ensures equal { (a b : List ℕ) → (parts_cmp a b ≡ Equal) ↔ (a ≡ b) }
+{}
+
 /// Identifiers have equal arcs exactly if their encodings are equal, and exactly if their printed texts are.
 pub fn same_identifiers()
     ensures octets { (rule : RootRule) (a b x y : List ℕ) → IsEncoding rule a x

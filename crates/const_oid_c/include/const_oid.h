@@ -9,9 +9,9 @@
  * - Arrays. An input is a pointer and a number of items. An output is a pointer and the number of
  *   items that fit there. All of them belong to the caller. A function reads the input and writes within
  *   the output. It keeps no pointer, does not allocate and has no state.
- * - Null. A pointer may be null if its length is 0; so may an item of a list. `range` is never null. To
- *   learn how long a result is, pass a null output of length 0: the code is OUTPUT_TOO_SHORT, and `len`
- *   is the length. Null pointers are tested, not proved.
+ * - Null. A pointer may be null if its length is 0; so may the octets of an item of a list. `range`, and what
+ *   const_oid_by_arcs compares, must not be null. To learn how long a result is, pass a null output of
+ *   length 0: the code is OUTPUT_TOO_SHORT, and `len` is the length. Null pointers are tested, not proved.
  * - Overlap. An output does not overlap an input, whatever the lengths. gcc -Wall (-Wrestrict) warns of
  *   some calls that break this.
  * - Lengths. A length is that of its array, which has at most 2^63 - 1 bytes, or 2^30 - 1 where size_t
@@ -25,7 +25,8 @@
  * - Octets. They follow the tag and the length, and no function removes these. A complete
  *   06 09 2A 86 .. is no error: it is read as 0.6.9.42...
  *
- * What a function returns: a status, by value. Code 0 is success. With any other code it wrote
+ * What a function returns: a number if it is const_oid_version or const_oid_by_arcs, and otherwise a status,
+ * by value. Code 0 is success. With any other code it wrote
  * nothing, and the output is unchanged, bit for bit. Items of the output after the first `len` are
  * always unchanged. The comments of const_oid_status say what its fields hold.
  *
@@ -143,9 +144,16 @@ typedef char const_oid_size_t_has_64_or_32_bits[sizeof(size_t) == 8 || sizeof(si
 uint32_t const_oid_version(void);
 
 /* Writes the contents octets of the identifier that dotted text denotes, such as "1.2.840". Arcs may
- * have leading zeros. For other texts, returns NOT_UTF8, or else the code of the first wrong
- * component (ARC_TOO_BIG, DIGIT_EXPECTED, REPEATED_DOT, TRAILING_DOT, ARC_INVALID or LENGTH), or else
- * EMPTY if there is only one. LENGTH: the arcs up to it take more than 255 octets, and more than `out_len`. */
+ * have leading zeros. For other texts, returns NOT_UTF8 if the text is not UTF-8, or else the code of the
+ * first wrong component, by the first of these that applies:
+ *
+ * - ARC_TOO_BIG: its leading digits are a number above 4294967295.
+ * - DIGIT_EXPECTED: it has another byte than a digit, or it is empty and the first of several.
+ * - REPEATED_DOT: it is empty, and not the first one.
+ * - TRAILING_DOT: an empty last component follows it, as in "3." and "1.40.".
+ * - ARC_INVALID: it is the first one and above 2, or the second one, above 39 and after 0 or 1.
+ * - LENGTH: the arcs up to it take more than 255 octets, and more than `out_len`.
+ * - EMPTY: it is the only one. */
 const_oid_status const_oid_from_text(
     const char *text, size_t text_len, uint8_t *CONST_OID_RESTRICT out, size_t out_len);
 
@@ -215,10 +223,17 @@ const_oid_status const_oid_cmp_arcs(
 const_oid_status const_oid_cmp_owned(
     const uint8_t *left, size_t left_len, const uint8_t *right, size_t right_len);
 
+/* Compares two items of a list, as qsort and bsearch do: both point to a const_oid_octets. The result is below 0, 0
+ * or above 0. Of valid items it is the order of const_oid_cmp_arcs. It checks neither item, and is a total
+ * order of any: the octets are cut after each one below 0x80, and what this gives is compared in lexicographic order,
+ * a longer part as the greater one, and equally long ones by their octets. Only equal octets compare as
+ * equal. A list that is sorted by this order is accepted by const_oid_check_sorted exactly if each item is valid. */
+int const_oid_by_arcs(const void *left, const void *right);
+
 /* Checks a list, which is an array of identifiers, for the functions below: each item is valid, of any
  * length, and none comes before the previous one, in the order of const_oid_cmp_arcs. Items may be
  * repeated. The code is 0 exactly if this holds. Of the first item that is not so, returns its code, or
- * UNSORTED, and its index in `len`. It reads the whole list. */
+ * UNSORTED, and its index in `len`. It reads the list up to that item. */
 const_oid_status const_oid_check_sorted(const const_oid_octets *items, size_t count);
 
 /* The functions below search in a list that const_oid_check_sorted accepts, by a binary search. They check
@@ -242,14 +257,16 @@ const_oid_status const_oid_nearest(
     const uint8_t *octets, size_t len, const const_oid_octets *sorted, size_t count);
 
 /* Finds the items that begin with all arcs of an identifier, itself included, and stores where they are in
- * `range`. If there are none, both ends are where the identifier would be inserted. `len` is 0. If the
- * identifier is invalid, `range` is unchanged. */
+ * `range`, which must not be null. `start` is where the identifier would be inserted, whether there are such
+ * items or not; if not, `end` is the same. `len` is 0. If the identifier is invalid, `range` is unchanged. */
 const_oid_status const_oid_subtree_range(
     const uint8_t *octets, size_t len, const const_oid_octets *sorted, size_t count,
     const_oid_range *CONST_OID_RESTRICT range);
 
-/* Writes the text, in UTF-8, of a code and its detail. The code is NONE if there is no such text: for
- * OK, for an unknown code, and for DIGIT_EXPECTED with a detail above 255. */
+/* Writes the text, in UTF-8, of a code and its detail. The byte of DIGIT_EXPECTED stands in it as the character
+ * of that number, also if this is a zero byte, a newline or another control character. All other characters
+ * are printable ASCII. The code is NONE if there is no such text: for OK, for an unknown code, and for
+ * DIGIT_EXPECTED with a detail above 255. */
 const_oid_status const_oid_error_text(
     uint32_t code, uint32_t detail, char *CONST_OID_RESTRICT out, size_t out_len);
 

@@ -1,5 +1,5 @@
 -- The statuses that functions return, and the output after a call.
-use Rattle.std.specs.Prelude.{◌≡◌, ℕ, ◌-◌, ◌^◌, Bool, true, false, List, length, drop, min, ◌++◌, ◌⊎◌, nat_lt, if◌then◌else◌, Result, Ok, Err}
+use Rattle.std.specs.Prelude.{◌≡◌, ℕ, ℤ, pos, negsuc, ◌-◌, ◌^◌, Bool, true, false, List, length, drop, min, ◌++◌, ◌⊎◌, nat_lt, if◌then◌else◌, Result, Ok, Err}
 use Rattle.std.specs.declared.cmp.Ordering.{Ordering}
 use Rattle.std.specs.declared.cmp.Ordering.TheVariants.{Less, Equal, Greater}
 use Rattle.const_oid.specs.declared.error.Error.{Error}
@@ -47,6 +47,12 @@ abbrev pub order_status : Ordering → Status
 order_status Less = number_status 1
 order_status Equal = number_status 2
 order_status Greater = number_status 3
+
+-- an order as a comparator of C returns it
+abbrev pub order_number : Ordering → ℤ
+order_number Less = negsuc 0
+order_number Equal = pos 0
+order_number Greater = pos 1
 
 -- the greatest length
 abbrev pub max_len : ℕ

@@ -5,11 +5,13 @@
 ghost use Rattle.std.specs.Prelude.{◌≡◌, ◌≢◌, ◌+◌, ◌<◌, ◌≤◌, ◌↔◌, ℕ, [], All, None, Some, length, true, false, count_by, slice_get, IfErr, IfOk, IfSome, IfNone};
 ghost use Rattle.std.specs.Cmp.Lexicographic.{slice_cmp};
 ghost use Rattle.std.specs.List.{position};
+ghost use Rattle.std.specs.List.Sorted.{IsSortedByKey};
 ghost use Rattle.std.specs.Ordering.{nat_cmp, is_lt};
 ghost use Rattle.const_oid.specs.Contents.{arcs_of_octets};
 ghost use Rattle.const_oid.specs.Identifier.{root_rule, IsEncoding};
 ghost use Rattle.const_oid.specs.Names.{IsNearestBy};
 ghost use Rattle.const_oid.specs.OidRef.{ref_arcs, ref_octets};
+ghost use Rattle.const_oid.specs.Orders.{parts_cmp};
 ghost use Rattle.const_oid.specs.SortedList.{IsSortedList, has_item_arcs, item_arcs};
 ghost use Rattle.const_oid.specs.Tree.{BeginsWith};
 ghost use Rattle.const_oid_c.specs.Answers.{borrowed_answer, status_of};
@@ -51,11 +53,14 @@ pub struct Range {
     pub end: usize,
 }
 
-/// Checks that each item of a list is an identifier, and that none comes before the previous one.
+/// Checks that each item of a list is an identifier, and that none comes before the previous one. So it is if all are and
+/// the list was sorted by `const_oid_by_arcs`.
 #[unsafe(no_mangle)]
 pub extern "C" fn const_oid_check_sorted(items: &[Octets<'_>]) -> Status
     ensures status { result ≡ list_status items.now }
     ensures sorted { result.code ≡ 0 ↔ IsSortedList octets_at items.now }
+    ensures by_arcs { All (λ item. IsEncoding root_rule (item_arcs octets_at item) (octets_at item)) items.now
+        → IsSortedByKey octets_at parts_cmp items.now → result.code ≡ 0 }
 {
     match list_fault(items) {
         Some(status) => status,

@@ -1,15 +1,19 @@
 //! Comparisons of two identifiers.
-ghost use Rattle.std.specs.Prelude.{◌≡◌, IfErr, IfOk};
+ghost use Rattle.std.specs.Prelude.{◌≡◌, ℕ, List, IfErr, IfOk};
 ghost use Rattle.std.specs.Cmp.Lexicographic.{slice_cmp};
 ghost use Rattle.std.specs.Ordering.{nat_cmp};
+ghost use Rattle.const_oid.specs.Identifier.{root_rule, IsEncoding};
 ghost use Rattle.const_oid.specs.OidRef.{ref_arcs, ref_octets};
-ghost use Rattle.const_oid.specs.Orders.{shortlex_cmp};
+ghost use Rattle.const_oid.specs.Orders.{parts_cmp, shortlex_cmp};
 ghost use Rattle.const_oid.specs.Tree.{BeginsWith};
-ghost use Rattle.const_oid_c.specs.Status.{IsFlagOf, error_status, order_status};
+ghost use Rattle.const_oid_c.specs.Lists.{octets_at};
+ghost use Rattle.const_oid_c.specs.Status.{IsFlagOf, error_status, order_number, order_status};
 ghost use Rattle.const_oid_c.specs.Answers.{IsStatusOfBoth, borrowed_answer, owned_answer};
 
+use crate::lists::Octets;
 use crate::owned::read_owned;
-use crate::status::{Status, error_status, flag_status, order_status};
+use crate::status::{Status, error_status, flag_status, order_number, order_status};
+use const_oid::search::{Contents, order_of};
 use const_oid::{ObjectIdentifierRef, Result};
 use std::cmp::Ordering;
 
@@ -75,6 +79,17 @@ pub extern "C" fn const_oid_cmp_owned(left: &[u8], right: &[u8]) -> Status
         Ok(second) => order_status(shortlex(first, second)),
         Err(fault) => error_status(fault),
     }
+}
+
+/// Compares two items of a list by their arcs, lexicographically: -1, 0 or 1, as `qsort` asks for. A prefix comes first.
+/// Of octets that are not valid it is the order of their parts, so it is total over any items.
+#[unsafe(no_mangle)]
+pub extern "C" fn const_oid_by_arcs(left: &Octets<'_>, right: &Octets<'_>) -> i32
+    ensures parts { result ≡ order_number (parts_cmp (octets_at left.now) (octets_at right.now)) }
+    ensures arcs { (xs ys : List ℕ) → IsEncoding root_rule xs (octets_at left.now)
+        → IsEncoding root_rule ys (octets_at right.now) → result ≡ order_number (slice_cmp nat_cmp xs ys) }
+{
+    order_number(order_of(left.contents(), right.contents()))
 }
 
 /// Reads two identifiers of any length. The error is that of the first one that is not valid.

@@ -1,6 +1,6 @@
 //! What a function returns besides its output.
 ghost use Rattle.std.specs.Prelude.{◌≡◌, ◌<◌};
-ghost use Rattle.const_oid_c.specs.Status.{error_status, code_status, len_status, number_status, too_short_status, flag_status, order_status};
+ghost use Rattle.const_oid_c.specs.Status.{error_status, code_status, len_status, number_status, too_short_status, flag_status, order_number, order_status};
 
 use const_oid::Error;
 use std::cmp::Ordering;
@@ -153,4 +153,15 @@ pub(crate) fn order_status(ordering: Ordering) -> Status
         Ordering::Equal => EQUAL,
         Ordering::Greater => GREATER,
     })
+}
+
+/// An order as a comparator of C returns it: -1, 0 or 1.
+pub(crate) fn order_number(ordering: Ordering) -> i32
+    ensures { result ≡ order_number ordering }
+{
+    match ordering {
+        Ordering::Less => -1,
+        Ordering::Equal => 0,
+        Ordering::Greater => 1,
+    }
 }

@@ -17,6 +17,7 @@ CALL(const_oid_status, const_oid_starts_with, ARGUMENT(OCTETS, 0), ARGUMENT(OCTE
 CALL(const_oid_status, const_oid_cmp, ARGUMENT(OCTETS, 0), ARGUMENT(OCTETS, 1))
 CALL(const_oid_status, const_oid_cmp_arcs, ARGUMENT(OCTETS, 0), ARGUMENT(OCTETS, 1))
 CALL(const_oid_status, const_oid_cmp_owned, ARGUMENT(OCTETS, 0), ARGUMENT(OCTETS, 1))
+CALL(int, const_oid_by_arcs, ARGUMENT(ITEM, 0), ARGUMENT(ITEM, 1))
 CALL(const_oid_status, const_oid_from_text, ARGUMENT(TEXT, 0), ARGUMENT(OCTETS_OUT, 1))
 CALL(const_oid_status, const_oid_to_text, ARGUMENT(OCTETS, 0), ARGUMENT(TEXT_OUT, 1))
 CALL(const_oid_status, const_oid_parent, ARGUMENT(OCTETS, 0), ARGUMENT(OCTETS_OUT, 1))

@@ -74,11 +74,6 @@ static void of_item(const const_oid_octets *items, size_t count, size_t at, int 
     SEE(order(octets, len, items[end - 1].octets, items[end - 1].len) == CONST_OID_EQUAL);
 }
 
-static int by_arcs(const void *left, const void *right) {
-    const const_oid_octets *a = left, *b = right;
-    return (int)const_oid_cmp_arcs(a->octets, a->len, b->octets, b->len).detail - CONST_OID_EQUAL;
-}
-
 /* The input as items of lengths that it says. */
 static void of_list(const uint8_t *input, size_t size) {
     static const_oid_octets items[ITEMS], valid[ITEMS];
@@ -94,7 +89,10 @@ static void of_list(const uint8_t *input, size_t size) {
     }
     int is_sorted = const_oid_check_sorted(items, count).code == CONST_OID_OK;
     for (size_t i = 0; i < count; i++) of_item(items, count, i, is_sorted);
-    qsort(valid, good, sizeof *valid, by_arcs);
+    qsort(items, count, sizeof *items, const_oid_by_arcs);
+    const_oid_status sorted = const_oid_check_sorted(items, count);
+    SEE(sorted.code != CONST_OID_UNSORTED && (sorted.code == CONST_OID_OK) == (good == count));
+    qsort(valid, good, sizeof *valid, const_oid_by_arcs);
     SEE(const_oid_check_sorted(valid, good).code == CONST_OID_OK);
     for (size_t i = 0; i < good; i++) of_item(valid, good, i, 1);
 }

@@ -259,7 +259,10 @@ static void pair_row(const char *call, char *rest) {
     static const char *const orders[] = {"no order", "less", "equal", "greater"};
     bytes a = read_hex(word(&rest));
     bytes b = read_hex(word(&rest));
-    if (strcmp(call, "begins") == 0) {
+    const const_oid_octets left = {a.octets, a.len}, right = {b.octets, b.len};
+    if (strcmp(call, "items") == 0) {
+        printf("%s", orders[const_oid_by_arcs(&left, &right) + CONST_OID_EQUAL]);
+    } else if (strcmp(call, "begins") == 0) {
         in_word(const_oid_starts_with(a.octets, a.len, b.octets, b.len), whether);
     } else if (strcmp(call, "equal") == 0) {
         in_word(const_oid_eq(a.octets, a.len, b.octets, b.len), whether);
@@ -268,7 +271,10 @@ static void pair_row(const char *call, char *rest) {
     } else if (strcmp(call, "borrowed") == 0) {
         in_word(const_oid_cmp(a.octets, a.len, b.octets, b.len), orders);
     } else if (strcmp(call, "by_arcs") == 0) {
-        in_word(const_oid_cmp_arcs(a.octets, a.len, b.octets, b.len), orders);
+        const_oid_status order = const_oid_cmp_arcs(a.octets, a.len, b.octets, b.len);
+        if (order.code == CONST_OID_OK && (int)order.detail - CONST_OID_EQUAL != const_oid_by_arcs(&left, &right))
+            fail("items have another order");
+        in_word(order, orders);
     } else {
         fail("a row has an unknown call");
     }

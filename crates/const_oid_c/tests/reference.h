@@ -1,9 +1,8 @@
 /* What each function of const_oid.h returns, by rules over arcs that are slow and plain: written by hand after the
  * header, and not after the code of the library. A rule has the result of a function for its arguments and an output
  * that is long enough. */
+#include "parts.h"
 #include "see.h"
-
-#include <string.h>
 
 enum { MOST = 66000 };
 
@@ -269,6 +268,10 @@ RULE(const_oid_cmp_owned) {
     READ(a[1], &second);
     if (a[1].len > 255) return of_code(CONST_OID_LENGTH, 0);
     return a[0].len == a[1].len ? const_oid_cmp_rule(a) : of_order(a[0].len < a[1].len ? -1 : 1);
+}
+
+RULE(const_oid_by_arcs) {
+    return of_number((uint32_t)by_parts(a[0].items, a[0].len, a[1].items, a[1].len));
 }
 
 RULE(const_oid_check_sorted) {

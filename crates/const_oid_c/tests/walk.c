@@ -36,11 +36,6 @@ static const_oid_octets read_oid(const char *text, size_t len, uint8_t *out) {
     return oid;
 }
 
-static int by_arcs(const void *left, const void *right) {
-    const const_oid_octets *a = left, *b = right;
-    return (int)const_oid_cmp_arcs(a->octets, a->len, b->octets, b->len).detail - CONST_OID_EQUAL;
-}
-
 /* The objects of standard input, in the order of arcs. Their number. */
 static size_t read_objects(void) {
     static char line[4096];
@@ -51,7 +46,7 @@ static size_t read_objects(void) {
         walked[count] = objects[count];
         count++;
     }
-    qsort(objects, count, sizeof *objects, by_arcs);
+    qsort(objects, count, sizeof *objects, const_oid_by_arcs);
     SEE(const_oid_check_sorted(objects, count).code == CONST_OID_OK);
     return count;
 }

@@ -102,6 +102,7 @@ unsafe extern "C" {
         right: *const u8,
         right_len: usize,
     ) -> Status;
+    pub fn const_oid_by_arcs(left: *const Octets, right: *const Octets) -> i32;
     pub fn const_oid_from_text(
         text: *const u8,
         text_len: usize,

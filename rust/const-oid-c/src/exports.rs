@@ -264,6 +264,18 @@ pub unsafe extern "C" fn const_oid_cmp_owned(
 ///
 /// The header says what a caller guarantees.
 #[unsafe(no_mangle)]
+pub unsafe extern "C" fn const_oid_by_arcs(
+    left: *const Octets<'_>,
+    right: *const Octets<'_>,
+) -> i32 {
+    // SAFETY: the caller guarantees it.
+    unsafe { crate::calls::order::const_oid_by_arcs(&input(left, 1)[0], &input(right, 1)[0]) }
+}
+
+/// # Safety
+///
+/// The header says what a caller guarantees.
+#[unsafe(no_mangle)]
 pub unsafe extern "C" fn const_oid_from_text(
     text: *const u8,
     text_len: usize,

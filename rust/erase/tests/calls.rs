@@ -34,7 +34,7 @@ const MISSING: [(&str, &str); 10] = [
 const ONE_FORM: &str = "in C an identifier is its octets";
 
 /// Modules, or functions, and the function for C with the same result, or why there is none.
-const IN_C: [(&str, &str); 42] = [
+const IN_C: [(&str, &str); 43] = [
     ("buffer", ONE_FORM),
     ("db", "a table in C is the caller's"),
     ("db_ref", "a table in C is the caller's"),
@@ -69,6 +69,7 @@ const IN_C: [(&str, &str); 42] = [
     ("push_arc", "const_oid_push_arc"),
     ("starts_with", "const_oid_starts_with"),
     ("subtree", "const_oid_subtree_range"),
+    ("order_of", "const_oid_by_arcs"),
     ("start_of", "const_oid_subtree_range"),
     ("end_of", "const_oid_next"),
     ("first_of", "const_oid_find"),

@@ -2,8 +2,10 @@
 
 //! Comparisons of two identifiers.
 
+use crate::calls::lists::Octets;
 use crate::calls::owned::read_owned;
-use crate::calls::status::{Status, error_status, flag_status, order_status};
+use crate::calls::status::{Status, error_status, flag_status, order_number, order_status};
+use const_oid::internal_for_const_oid_c::search::{Contents, order_of};
 use const_oid::internal_for_const_oid_c::{ObjectIdentifierRef, Result};
 use core::cmp::Ordering;
 
@@ -49,6 +51,12 @@ pub fn const_oid_cmp_owned(left: &[u8], right: &[u8]) -> Status {
         Ok(second) => order_status(shortlex(first, second)),
         Err(fault) => error_status(fault),
     }
+}
+
+/// Compares two items of a list by their arcs, lexicographically: -1, 0 or 1, as `qsort` asks for. A prefix comes first.
+/// Of octets that are not valid it is the order of their parts, so it is total over any items.
+pub fn const_oid_by_arcs(left: &Octets<'_>, right: &Octets<'_>) -> i32 {
+    order_number(order_of(left.contents(), right.contents()))
 }
 
 /// Reads two identifiers of any length. The error is that of the first one that is not valid.

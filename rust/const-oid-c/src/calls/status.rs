@@ -139,3 +139,12 @@ pub(crate) fn order_status(ordering: Ordering) -> Status {
         Ordering::Greater => GREATER,
     })
 }
+
+/// An order as a comparator of C returns it: -1, 0 or 1.
+pub(crate) fn order_number(ordering: Ordering) -> i32 {
+    match ordering {
+        Ordering::Less => -1,
+        Ordering::Equal => 0,
+        Ordering::Greater => 1,
+    }
+}

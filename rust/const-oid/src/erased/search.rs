@@ -7,11 +7,19 @@
 
 use crate::erased::compare::{are_equal, begins_with, order_by_parts};
 use crate::erased::oid_ref::ObjectIdentifierRef;
+use core::cmp::Ordering;
 
 /// An item that has contents octets, which need not be valid.
 pub trait Contents {
     /// The contents octets.
     fn contents(&self) -> &[u8];
+}
+
+/// The order of the arcs of octets. If they are not valid, it is that of their parts, each of which ends with its first
+/// octet below 0x80: a longer part is greater, and of equally long ones the octets decide.
+#[inline]
+pub fn order_of(left: &[u8], right: &[u8]) -> Ordering {
+    order_by_parts(left, right)
 }
 
 /// The index of the first item that does not come before an identifier, or the number of items if there is none.
