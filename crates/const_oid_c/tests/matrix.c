@@ -239,6 +239,8 @@ static size_t values_beside(enum kind kind, enum kind lead, argument varied, arg
             }
             values[count++] = (argument){usual, USUAL_LEN};
             if (lead != OCTETS && lead != ITEM) break;
+            /* An item need not be valid, so all of its octets are compared. */
+            if (lead == ITEM && varied.len > MOST) break;
             values[count++] = varied;
             if (varied.len < 2 || varied.len > MOST) break;
             values[count++] = (argument){varied.items, varied.len - 1};
@@ -531,8 +533,10 @@ static void check_changes(void) {
         changed_len = f->kinds[at] == LIST ? bytes_of(at) : sizes[f->kinds[at]];
         changed_to = f->kinds[at] == LIST ? 0 : 0x80;
         const_oid_status after = f->call_twice(given, change), again = f->call(given);
-        must(after.code == again.code && after.len == again.len, "a call does not read its input again");
-        must(before.code != after.code || f->kinds[2] == RANGE_OUT, "the change has no effect");
+        must(after.code == again.code && after.detail == again.detail && after.len == again.len,
+            "a call does not read its input again");
+        must(before.code != after.code || before.detail != after.detail || f->kinds[2] == RANGE_OUT,
+            "the change has no effect");
     }
 }
 
