@@ -88,6 +88,17 @@ pub fn cmp_owned(a: &[u8], b: &[u8]) -> Answer<Ordering> {
     of_two(const_oid_cmp_owned, a, b).map(order)
 }
 
+fn item(octets: &[u8]) -> Octets {
+    Octets {
+        octets: octets.as_ptr(),
+        len: octets.len(),
+    }
+}
+
+pub fn by_arcs(a: &[u8], b: &[u8]) -> Ordering {
+    unsafe { const_oid_by_arcs(&item(a), &item(b)) }.cmp(&0)
+}
+
 /// A list that the library reads, over octets that outlive it.
 pub struct List<'a> {
     items: Vec<Octets>,
@@ -96,12 +107,8 @@ pub struct List<'a> {
 
 impl<'a> List<'a> {
     pub fn new(items: &[&'a [u8]]) -> Self {
-        let lent = |octets: &&[u8]| Octets {
-            octets: octets.as_ptr(),
-            len: octets.len(),
-        };
         List {
-            items: items.iter().map(lent).collect(),
+            items: items.iter().map(|octets| item(octets)).collect(),
             octets: PhantomData,
         }
     }

@@ -142,6 +142,7 @@ fn of_two(a: &Long, b: &Long, arc: u32) {
         Ok(a_ref.cmp_arcs(b_ref)),
         library::cmp_arcs(left, right),
     );
+    same(input, a_ref.cmp_arcs(b_ref), library::by_arcs(left, right));
     same(
         input,
         Ok(a.starts_with(*b)),
