@@ -1,6 +1,7 @@
 // The calls from C++, over the texts and octets of string_view and vector.
 #include "const_oid.h"
 
+#include <algorithm>
 #include <cstdio>
 #include <string_view>
 #include <vector>
@@ -22,6 +23,31 @@ static std::vector<const_oid_octets> list_of(const std::vector<Octets> &all) {
     std::vector<const_oid_octets> items;
     for (const Octets &octets : all) items.push_back({octets.data(), octets.size()});
     return items;
+}
+
+// std::sort asks whether an item comes before another.
+static bool comes_before(const const_oid_octets &left, const const_oid_octets &right) {
+    return const_oid_by_arcs(&left, &right) < 0;
+}
+
+static bool is_invalid(const const_oid_octets &item) {
+    return const_oid_check(item.octets, item.len).code != CONST_OID_OK;
+}
+
+// Sorts 900 items, a third of them invalid. Then the invalid ones are removed, and the others are a list.
+static bool sorts() {
+    std::vector<Octets> all;
+    for (unsigned i = 0; i < 900; i++) {
+        const unsigned number = i * 607 % 900;
+        all.push_back({0x2B, static_cast<uint8_t>(0x81 + number / 128), static_cast<uint8_t>(number % 128), 0x05});
+        if (i % 3 == 0) all[i].pop_back(), all[i][2] = static_cast<uint8_t>(0x80 + number % 128);
+    }
+    std::vector<const_oid_octets> items = list_of(all);
+    std::sort(items.begin(), items.end(), comes_before);
+    bool right = std::is_sorted(items.begin(), items.end(), comes_before);
+    for (size_t i = 1; i < items.size(); i++) right = right && comes_before(items[i - 1], items[i]);
+    items.erase(std::remove_if(items.begin(), items.end(), is_invalid), items.end());
+    return right && items.size() == 600 && const_oid_check_sorted(items.data(), items.size()).code == CONST_OID_OK;
 }
 
 // Searches in a list of 1.2, 1.2.128 and 2.999.
@@ -47,7 +73,7 @@ int main() {
     bool right = octets == Octets{0x2A, 0x86, 0x48, 0xCE, 0x3D, 0x02, 0x01} && from_text("1..2").empty()
         && from_text({}).empty() && const_oid_check(empty.data(), empty.size()).code == CONST_OID_EMPTY
         && const_oid_eq(octets.data(), octets.size(), octets.data(), octets.size()).detail == 1
-        && searches();
+        && searches() && sorts();
     if (!right) std::fputs("tests: the C++ program has other results\n", stderr);
     return right ? 0 : 1;
 }
