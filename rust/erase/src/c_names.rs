@@ -2,49 +2,76 @@
 
 use crate::fault::{Fault, Result};
 
-/// The rows of a table with four columns (module, constant, arcs and name) in the order of arcs, those of an
-/// identifier in the order of the table: the contents octets of each, and its name.
-pub fn header(table: &str) -> Result<String> {
+/// A row of the table: the name of its macro in C, its arcs and its name.
+struct Row<'a> {
+    constant: String,
+    arcs: Vec<u64>,
+    name: &'a str,
+}
+
+/// The rows of a table with four columns: module, constant, arcs and name.
+fn rows(table: &str) -> Result<Vec<Row<'_>>> {
     let mut rows = Vec::new();
     for (index, row) in table.lines().enumerate() {
         if row.starts_with('#') {
             continue;
         }
         let columns: Vec<&str> = row.split('\t').collect();
-        let [_, _, arcs, name] = columns[..] else {
+        let [module, constant, arcs, name] = columns[..] else {
             return Err(Fault::new(index + 1, "not four columns"));
         };
-        let arcs: std::result::Result<Vec<u64>, _> = arcs.split('.').map(str::parse).collect();
-        let arcs = arcs.map_err(|_| Fault::new(index + 1, "not arcs"))?;
-        rows.push((arcs, name));
+        let arcs: std::result::Result<_, _> = arcs.split('.').map(str::parse).collect();
+        rows.push(Row {
+            constant: format!("CONST_OID_{}_{constant}", module.to_uppercase()),
+            arcs: arcs.map_err(|_| Fault::new(index + 1, "not arcs"))?,
+            name,
+        });
     }
-    rows.sort_by(|a, b| a.0.cmp(&b.0));
-    let count = rows.len();
-    let octets: String = rows.iter().map(|(arcs, _)| item(arcs)).collect();
-    let names: String = rows
-        .iter()
-        .map(|(_, name)| format!("    {name:?},\n"))
-        .collect();
-    Ok(format!(
-        "/* Names of object identifiers, in the order of arcs, for the functions of const_oid.h that search in a\n \
-         * sorted list: const_oid_name_octets is a list that const_oid_check_sorted accepts, and const_oid_names has\n \
-         * the null-terminated name of each of its items, at the same index. */\n\
-         #ifndef CONST_OID_NAMES_H\n#define CONST_OID_NAMES_H\n\n#include \"const_oid.h\"\n\n\
-         #define CONST_OID_NAMES_COUNT {count}\n\n\
-         static const const_oid_octets const_oid_name_octets[CONST_OID_NAMES_COUNT] = {{\n{octets}}};\n\n\
-         static const char *const const_oid_names[CONST_OID_NAMES_COUNT] = {{\n{names}}};\n\n#endif\n"
-    ))
+    Ok(rows)
 }
 
-/// The contents octets of arcs, as an item of a list.
-fn item(arcs: &[u64]) -> String {
+/// The rows of a table in `c_names.h`. Those of an identifier or of a name stay in the order of the table.
+pub fn header(table: &str) -> Result<String> {
+    let rows = rows(table)?;
+    let mut sorted: Vec<(usize, &Row)> = rows.iter().enumerate().collect();
+    sorted.sort_by(|a, b| a.1.arcs.cmp(&b.1.arcs));
+    let entries = sorted.iter().enumerate();
+    let mut by_name: Vec<(String, usize, usize)> = entries
+        .map(|(index, (place, row))| (row.name.to_ascii_lowercase(), *place, index))
+        .collect();
+    by_name.sort();
+    let constant = |row: &Row| format!("#define {} \"{}\"\n", row.constant, octets(&row.arcs));
+    let item = |row: &Row| format!("    {{CONST_OID_OCTETS({})}},\n", row.constant);
+    let name = |row: &Row| format!("    {:?},\n", row.name);
+    let indexes: Vec<String> = by_name.iter().map(|entry| entry.2.to_string()).collect();
+    let line = |part: &[String]| format!("    {},\n", part.join(", "));
+    let parts: [(&str, String); 5] = [
+        ("@COUNT@", rows.len().to_string()),
+        ("@CONSTANTS@", rows.iter().map(constant).collect()),
+        (
+            "@OCTETS@",
+            sorted.iter().map(|entry| item(entry.1)).collect(),
+        ),
+        (
+            "@NAMES@",
+            sorted.iter().map(|entry| name(entry.1)).collect(),
+        ),
+        ("@BY_NAME@", indexes.chunks(16).map(line).collect()),
+    ];
+    let filled = |header: String, (mark, text): (&str, String)| header.replace(mark, &text);
+    Ok(parts
+        .into_iter()
+        .fold(include_str!("c_names.h").into(), filled))
+}
+
+/// The contents octets of arcs, in a string literal.
+fn octets(arcs: &[u64]) -> String {
     let mut octets = subidentifier(40 * arcs[0] + arcs[1]);
     octets.extend(arcs[2..].iter().flat_map(|arc| subidentifier(*arc)));
-    let text: String = octets
+    octets
         .iter()
         .map(|octet| format!("\\x{octet:02X}"))
-        .collect();
-    format!("    {{(const uint8_t *)\"{text}\", {}}},\n", octets.len())
+        .collect()
 }
 
 /// A number in base 128, with bit 8 in all octets but the last.
@@ -57,24 +84,35 @@ fn subidentifier(number: u64) -> Vec<u8> {
 }
 
 #[test]
-fn lists_the_rows_in_the_order_of_arcs() {
-    let made = header("# head\na\tX\t1.2.840\tx\na\tY\t1.2\ty\nb\tX\t2.999\t\"\n").unwrap();
+fn lists_the_rows_in_the_order_of_arcs_and_of_names() {
+    let made =
+        header("# head\na\tX\t1.2.840\tx\na\tY\t1.2\tY\nb\tX\t2.999\t\"\nb\tY\t1.2\tX\n").unwrap();
     let lines: Vec<&str> = made
         .lines()
-        .filter(|line| line.starts_with("    "))
+        .filter(|line| {
+            line.starts_with("#define CONST_OID_")
+                || line.starts_with("    ") && line.ends_with(',')
+        })
         .collect();
     assert_eq!(
-        lines,
+        lines[lines.len() - 14..],
         [
-            r#"    {(const uint8_t *)"\x2A", 1},"#,
-            r#"    {(const uint8_t *)"\x2A\x86\x48", 3},"#,
-            r#"    {(const uint8_t *)"\x88\x37", 2},"#,
-            r#"    "y","#,
+            r#"#define CONST_OID_A_X "\x2A\x86\x48""#,
+            r#"#define CONST_OID_A_Y "\x2A""#,
+            r#"#define CONST_OID_B_X "\x88\x37""#,
+            r#"#define CONST_OID_B_Y "\x2A""#,
+            "#define CONST_OID_NAMES_COUNT 4",
+            "    {CONST_OID_OCTETS(CONST_OID_A_Y)},",
+            "    {CONST_OID_OCTETS(CONST_OID_B_Y)},",
+            "    {CONST_OID_OCTETS(CONST_OID_A_X)},",
+            "    {CONST_OID_OCTETS(CONST_OID_B_X)},",
+            r#"    "Y","#,
+            r#"    "X","#,
             r#"    "x","#,
             r#"    "\"","#,
+            "    3, 2, 1, 0,",
         ]
     );
-    assert!(made.contains("COUNT 3\n"));
     for row in ["a\tX\t1.2", "a\tX\t1,2\tx"] {
         assert_eq!(header(&format!("# head\n{row}")).unwrap_err().line, 2);
     }

@@ -1,0 +1,91 @@
+/* Compares const_oid_names.h with rust/names.tsv, of which rows.inc has a ROW(constant, arcs, name) for each row: the
+ * octets of each constant, the arrays row by row, and what is found by name. */
+#include "const_oid_names.h"
+#include "see.h"
+
+#include <ctype.h>
+#include <string.h>
+#include <strings.h>
+
+typedef struct {
+    const_oid_octets octets;
+    const char *arcs, *name;
+    size_t place;
+} row;
+
+#define ROW(constant, arcs, name) {{CONST_OID_OCTETS(constant)}, arcs, name, 0},
+static row rows[] = {
+#include "rows.inc"
+};
+static const size_t count = sizeof rows / sizeof *rows;
+
+/* Writes a subidentifier (X.690, section 8.19.2), and returns its end. */
+static uint8_t *put(uint8_t *out, uint64_t number) {
+    for (int shift = 63; shift > 0; shift -= 7) {
+        if (number >> shift != 0) *out++ = (uint8_t)(128 | (number >> shift & 127));
+    }
+    *out++ = number & 127;
+    return out;
+}
+
+static int is_encoding(const_oid_octets octets, const char *arcs) {
+    uint8_t out[128];
+    char *rest;
+    uint64_t root = 40 * strtoul(arcs, &rest, 10);
+    uint8_t *end = put(out, root + strtoul(rest + 1, &rest, 10));
+    while (*rest != 0) end = put(end, strtoul(rest + 1, &rest, 10));
+    return octets.len == (size_t)(end - out) && memcmp(octets.octets, out, octets.len) == 0;
+}
+
+/* The order of arcs, and of the table where they are equal. */
+static int by_arcs(const void *left, const void *right) {
+    const row *a = (const row *)left, *b = (const row *)right;
+    char *x, *y;
+    unsigned long m = strtoul(a->arcs, &x, 10), n = strtoul(b->arcs, &y, 10);
+    while (m == n && *x != 0 && *y != 0) {
+        m = strtoul(x + 1, &x, 10);
+        n = strtoul(y + 1, &y, 10);
+    }
+    if (m != n) return m < n ? -1 : 1;
+    if (*x != *y) return *x != 0 ? 1 : -1;
+    return a->place < b->place ? -1 : 1;
+}
+
+/* The first row of the table with a name. */
+static size_t named(const char *name) {
+    size_t first = count;
+    for (size_t i = 0; i < count; i++) {
+        if (strcasecmp(rows[i].name, name) == 0 && (first == count || rows[i].place < rows[first].place)) first = i;
+    }
+    return first;
+}
+
+/* Finds a name, also with other letters: as it is, in upper case, with a letter more and with one less. */
+static void find(size_t index) {
+    char text[128] = "";
+    size_t len = strlen(rows[index].name);
+    memcpy(text, rows[index].name, len);
+    SEE(const_oid_by_name(text) == named(text), index);
+    for (size_t i = 0; i < len; i++) text[i] = (char)toupper((unsigned char)text[i]);
+    SEE(const_oid_by_name(text) == named(text), index);
+    text[len] = 'x';
+    SEE(const_oid_by_name(text) == named(text), index);
+    text[len - 1] = 0;
+    SEE(const_oid_by_name(text) == named(text), index);
+}
+
+int main(void) {
+    SEE(count == CONST_OID_NAMES_COUNT, count);
+    for (size_t i = 0; i < count; i++) {
+        rows[i].place = i;
+        SEE(is_encoding(rows[i].octets, rows[i].arcs), i);
+    }
+    qsort(rows, count, sizeof *rows, by_arcs);
+    for (size_t i = 0; i < count; i++) {
+        SEE(is_encoding(const_oid_name_octets[i], rows[i].arcs), i);
+        SEE(strcmp(const_oid_names[i], rows[i].name) == 0, i);
+        find(i);
+    }
+    SEE(const_oid_by_name("") == count && const_oid_by_name("zz") == count && const_oid_by_name("\xC3") == count, 0);
+    return 0;
+}

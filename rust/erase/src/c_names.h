@@ -1,0 +1,68 @@
+/* Names of object identifiers, from RFCs and other documents.
+ *
+ * - A constant for each entry of the table, such as CONST_OID_RFC5912_ID_EC_PUBLIC_KEY, which in Rust is
+ *   rfc5912::ID_EC_PUBLIC_KEY: a macro with its contents octets as a string literal. It costs nothing where it
+ *   is not used. CONST_OID_OCTETS makes of it a pointer and a length, as two arguments of a call or as an
+ *   initializer of const_oid_octets.
+ * - The entries in the order of arcs: const_oid_name_octets is a list that const_oid_check_sorted accepts, and
+ *   const_oid_names has the null-terminated name of each of its items, at the same index. An identifier may
+ *   have several names. They are adjacent, in the order of the table, and const_oid_find and const_oid_nearest
+ *   return the first.
+ * - const_oid_by_name, from a name to the index of its entry.
+ *
+ * The arrays are static: each file that uses them has a copy of some 110 KB, so let one file use them. */
+#ifndef CONST_OID_NAMES_H
+#define CONST_OID_NAMES_H
+
+#include "const_oid.h"
+
+#ifdef __cplusplus
+#define CONST_OID_OCTETS(constant) reinterpret_cast<const uint8_t *>(constant), sizeof(constant) - 1
+#else
+#define CONST_OID_OCTETS(constant) (const uint8_t *)(constant), sizeof(constant) - 1
+#endif
+
+@CONSTANTS@
+#define CONST_OID_NAMES_COUNT @COUNT@
+
+static const const_oid_octets const_oid_name_octets[CONST_OID_NAMES_COUNT] = {
+@OCTETS@};
+
+static const char *const const_oid_names[CONST_OID_NAMES_COUNT] = {
+@NAMES@};
+
+/* The indexes of the entries in the order of names, without the case of their letters. Those with one name are
+ * in the order of the table. */
+static const uint16_t const_oid_names_by_name[CONST_OID_NAMES_COUNT] = {
+@BY_NAME@};
+
+static __inline int const_oid_lower_case(char letter) {
+    return letter >= 'A' && letter <= 'Z' ? letter + ('a' - 'A') : letter;
+}
+
+static __inline int const_oid_cmp_names(const char *left, const char *right) {
+    while (*left != 0 && const_oid_lower_case(*left) == const_oid_lower_case(*right)) {
+        left++;
+        right++;
+    }
+    return const_oid_lower_case(*left) - const_oid_lower_case(*right);
+}
+
+/* The index of the first entry of the table that has a name, which is null-terminated, whatever the case of its
+ * ASCII letters. CONST_OID_NAMES_COUNT if there is none. */
+static __inline size_t const_oid_by_name(const char *name) {
+    size_t first = 0, end = CONST_OID_NAMES_COUNT;
+    while (first < end) {
+        size_t middle = (first + end) / 2;
+        if (const_oid_cmp_names(const_oid_names[const_oid_names_by_name[middle]], name) < 0) {
+            first = middle + 1;
+        } else {
+            end = middle;
+        }
+    }
+    if (first == CONST_OID_NAMES_COUNT) return first;
+    first = const_oid_names_by_name[first];
+    return const_oid_cmp_names(const_oid_names[first], name) == 0 ? first : CONST_OID_NAMES_COUNT;
+}
+
+#endif
