@@ -1,5 +1,5 @@
 -- What the absence of a fault says of the tests after it.
-use Rattle.std.proofs.Common.{◌≡◌, ℕ, ◌<◌, ◌≤◌, Bool, true, false, nat_lt, Option, Some, None, refl, lt-ltb, le-ltb}
+use Rattle.std.proofs.Common.{◌≡◌, ◌≢◌, ℕ, ◌<◌, ◌≤◌, Bool, true, false, nat_lt, Option, Some, None, refl, lt-ltb, le-ltb}
 use Rattle.std.specs.Option.{option_or}
 use Rattle.std.proofs.lemmas.Bool.{ltb-false}
 use Rattle.const_oid.specs.{declared.error.Error.Error, Error.fault_if}
@@ -7,6 +7,11 @@ use Rattle.const_oid.specs.{declared.error.Error.Error, Error.fault_if}
 pub both_none : (a b : Option Error) → option_or a b ≡ None → (a ≡ None) × (b ≡ None)
 both_none None b h = (refl, h)
 both_none (Some x) b h = cc
+
+-- neither is this fault
+pub both_other : (a b : Option Error) (fault : Error) → a ≢ Some fault → b ≢ Some fault → option_or a b ≢ Some fault
+both_other None b fault first later = later
+both_other (Some x) b fault first later = first
 
 pub false_from_none : (test : Bool) (fault : Error) → fault_if test fault ≡ None → test ≡ false
 false_from_none true fault h = cc

@@ -15,6 +15,7 @@ pub mod Numbers
 pub mod Decimals
 pub mod Texts
 pub mod Ascii
+pub mod Enough
 pub mod Children
 pub mod PartsFault
 pub mod Octets

@@ -1,5 +1,5 @@
 //! Borrowed object identifiers.
-ghost use Rattle.std.specs.Prelude.{◌≡◌, ◌*◌, ◌≤◌, ◌<◌, ◌↔◌, ◌+◌, ℕ, drop, length, min, slice_get, take, count_by, None, Some, IfErr, IfOk, IfSome, IsSome, IsTrue, MatchOption};
+ghost use Rattle.std.specs.Prelude.{◌≡◌, ◌≢◌, ◌*◌, ◌≤◌, ◌<◌, ◌↔◌, ◌+◌, ℕ, drop, length, min, slice_get, take, count_by, None, Some, Err, IfErr, IfOk, IfSome, IsSome, IsTrue, MatchOption};
 ghost use Rattle.std.specs.Option.{option_map};
 ghost use Rattle.std.specs.Fmt.{WritesStyledOnOk};
 ghost use Rattle.std.specs.Cmp.Lexicographic.{slice_cmp};
@@ -168,7 +168,8 @@ impl<'a> ObjectIdentifierRef<'a> {
     ///
     /// Those of [`new`](ObjectIdentifier::new), with [`Error::Length`] if the arcs take more octets than `limit`.
     pub fn bytes_len_from_ascii(text: &[u8], limit: usize) -> Result<usize>
-        ensures { result ≡ size_answer (text_answer root_rule text.now limit) }
+        ensures len { result ≡ size_answer (text_answer root_rule text.now limit) }
+        ensures enough { length text.now ≤ limit → result ≢ Err Error.Length }
     {
         parse_long(text, &mut [], limit)
     }
@@ -185,6 +186,7 @@ impl<'a> ObjectIdentifierRef<'a> {
         ensures encoding { IfOk result (λ len. IsEncoding root_rule (arcs_of_octets (take len out.new)) (take len out.new)) }
         ensures rest { IfOk result (λ len. (len ≤ length out.old) × (drop len out.new ≡ drop len out.old)) }
         ensures kept { IfErr result (λ _. out.new ≡ out.old) }
+        ensures enough { length text.now ≤ length out.old → result ≢ Err Error.Length }
     {
         let capacity = out.len();
         // The octets are counted first, so that on an error none is written.
@@ -199,7 +201,8 @@ impl<'a> ObjectIdentifierRef<'a> {
     /// Those of [`from_arcs`](ObjectIdentifier::from_arcs), with [`Error::Length`] if the arcs take more octets than
     /// `limit`.
     pub fn bytes_len_from_arcs(arcs: &[Arc], limit: usize) -> Result<usize>
-        ensures { result ≡ size_answer (item_answer root_rule arcs.now limit) }
+        ensures len { result ≡ size_answer (item_answer root_rule arcs.now limit) }
+        ensures enough { 5 * length arcs.now ≤ limit → result ≢ Err Error.Length }
     {
         encode_to(arcs, &mut [], limit)
     }
@@ -216,6 +219,7 @@ impl<'a> ObjectIdentifierRef<'a> {
         ensures encoding { IfOk result (λ len. IsEncoding root_rule (arcs_of_octets (take len out.new)) (take len out.new)) }
         ensures rest { IfOk result (λ len. (len ≤ length out.old) × (drop len out.new ≡ drop len out.old)) }
         ensures kept { IfErr result (λ _. out.new ≡ out.old) }
+        ensures enough { 5 * length arcs.now ≤ length out.old → result ≢ Err Error.Length }
     {
         let capacity = out.len();
         encode_to(arcs, &mut [], capacity)?;
@@ -227,6 +231,7 @@ impl<'a> ObjectIdentifierRef<'a> {
     pub fn from_ascii_in(text: &[u8], out: &'a mut [u8]) -> Result<Self>
         ensures answer { ref_answer result ≡ text_answer root_rule text.now (length out.old) }
         ensures denoted { IfOk result (λ oid. Denotes root_rule text.now (ref_arcs oid)) }
+        ensures enough { length text.now ≤ length out.old → result ≢ Err Error.Length }
     {
         let len = Self::bytes_from_ascii(text, out)?;
         Ok(ObjectIdentifierRef::from_checked(&out[..len]))
@@ -235,7 +240,8 @@ impl<'a> ObjectIdentifierRef<'a> {
     /// Encodes arcs as [`bytes_from_arcs`](Self::bytes_from_arcs) does, and borrows their octets.
     #[tactic(auto, using(crate::proofs::Encodings::none_from_encoding))]
     pub fn from_arcs_in(arcs: &[Arc], out: &'a mut [u8]) -> Result<Self>
-        ensures { ref_answer result ≡ item_answer root_rule arcs.now (length out.old) }
+        ensures answer { ref_answer result ≡ item_answer root_rule arcs.now (length out.old) }
+        ensures enough { 5 * length arcs.now ≤ length out.old → result ≢ Err Error.Length }
     {
         let len = Self::bytes_from_arcs(arcs, out)?;
         Ok(ObjectIdentifierRef::from_checked(&out[..len]))

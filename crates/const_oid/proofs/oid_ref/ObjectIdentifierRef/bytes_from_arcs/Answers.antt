@@ -1,5 +1,6 @@
-use Rattle.std.proofs.Common.{arith}
-use Rattle.const_oid.proofs.Outputs.{returned}
+use Rattle.std.proofs.Common.{length, arith}
+use Rattle.const_oid.specs.Identifier.{root_rule}
+use Rattle.const_oid.proofs.{Enough.five_enough, Outputs.returned}
 use Rattle.const_oid.proofs.oid_ref.ObjectIdentifierRef.bytes_from_arcs.Goals as goal
 
 pub returns-clause-answer : goal.returns-clause-answer
@@ -10,3 +11,8 @@ returns-clause-encoding c = (returned c.encode_to-2.result c.encode_to-2.ensures
 
 pub returns-clause-rest : goal.returns-clause-rest
 returns-clause-rest c = (returned c.encode_to-2.result c.encode_to-2.ensures (omega arith)).rest
+
+pub returns-in_err-encode_to-clause-enough : goal.returns-in_err-encode_to-clause-enough
+returns-in_err-encode_to-clause-enough c =
+    let other = five_enough root_rule c.args.arcs.now (length c.args.out.now) (λ k. omega (arith, c.type_inv.arcs k)) in
+    grind (arith, other)

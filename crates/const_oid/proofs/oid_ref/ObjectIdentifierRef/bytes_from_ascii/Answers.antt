@@ -1,5 +1,6 @@
-use Rattle.std.proofs.Common.{arith}
-use Rattle.const_oid.proofs.Outputs.{returned}
+use Rattle.std.proofs.Common.{length, arith}
+use Rattle.const_oid.specs.Identifier.{root_rule}
+use Rattle.const_oid.proofs.{Enough.bytes_enough, Outputs.returned}
 use Rattle.const_oid.proofs.oid_ref.ObjectIdentifierRef.bytes_from_ascii.Goals as goal
 
 pub returns-clause-answer : goal.returns-clause-answer
@@ -10,3 +11,8 @@ returns-clause-encoding c = (returned c.parse_long-2.result c.parse_long-2.ensur
 
 pub returns-clause-rest : goal.returns-clause-rest
 returns-clause-rest c = (returned c.parse_long-2.result c.parse_long-2.ensures (omega arith)).rest
+
+pub returns-in_err-parse_long-clause-enough : goal.returns-in_err-parse_long-clause-enough
+returns-in_err-parse_long-clause-enough c =
+    let other = bytes_enough root_rule c.args.text.now (length c.args.out.now) in
+    grind (arith, other)

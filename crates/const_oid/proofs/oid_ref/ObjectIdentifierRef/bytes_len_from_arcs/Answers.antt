@@ -1,5 +1,12 @@
-use Rattle.const_oid.proofs.Outputs.{counted}
+use Rattle.std.proofs.Common.{arith}
+use Rattle.const_oid.specs.Identifier.{root_rule}
+use Rattle.const_oid.proofs.{Enough.five_enough, Outputs.counted}
 use Rattle.const_oid.proofs.oid_ref.ObjectIdentifierRef.bytes_len_from_arcs.Goals as goal
 
-pub returns : goal.returns
-returns c = counted _ _ _ _ c.encode_to.result c.encode_to.ensures
+pub returns-clause-len : goal.returns-clause-len
+returns-clause-len c = counted _ _ _ _ c.encode_to.result c.encode_to.ensures
+
+pub returns-clause-enough : goal.returns-clause-enough
+returns-clause-enough c =
+    let other = five_enough root_rule c.args.arcs.now c.args.limit (λ k. omega (arith, c.type_inv.arcs k)) in
+    grind (arith, other)
