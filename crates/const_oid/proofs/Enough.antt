@@ -79,7 +79,7 @@ size_arcs (arc ∷ []) small = omega arith
 size_arcs (first ∷ second ∷ later) small =
     omega (arith, size-cons first second later, root_wide first second small.0 small.1.0, widths_arcs later small.1.1)
 
-all_small : (arcs : List ℕ) → ((k : ℕ) → get_or arcs k 0 < 2 ^ 32) → AllByRecursion (λ arc. arc ≤ max_arc) arcs
+pub all_small : (arcs : List ℕ) → ((k : ℕ) → get_or arcs k 0 < 2 ^ 32) → AllByRecursion (λ arc. arc ≤ max_arc) arcs
 all_small [] small = tt
 all_small (arc ∷ arcs) small = (omega (arith, small 0), all_small arcs (λ k. small (suc k)))
 

@@ -52,7 +52,7 @@ extern "C" {
 
 /* The version of these declarations. const_oid_version() returns the version of the library. */
 #define CONST_OID_VERSION_MAJOR 1
-#define CONST_OID_VERSION_MINOR 0
+#define CONST_OID_VERSION_MINOR 1
 #define CONST_OID_VERSION_PATCH 0
 #define CONST_OID_VERSION \
     (65536 * CONST_OID_VERSION_MAJOR + 256 * CONST_OID_VERSION_MINOR + CONST_OID_VERSION_PATCH)
@@ -66,9 +66,7 @@ extern "C" {
 #define CONST_OID_RESTRICT restrict
 #endif
 
-/* The most octets that from_text and from_arcs write to an output of this length or a shorter one, and that
- * cmp_owned reads. To a longer output they write as many as fit, and the other functions take octets of any
- * length. */
+/* The most octets that const_oid_cmp_owned reads. The other functions read and write octets of any length. */
 #define CONST_OID_MAX_OCTETS 255
 
 /* The most bytes of text of CONST_OID_MAX_OCTETS octets. Longer inputs also have at most four bytes of
@@ -93,7 +91,7 @@ enum const_oid_code {
     CONST_OID_BASE128 = 3,           /* a subidentifier begins with 0x80 or does not end */
     CONST_OID_DIGIT_EXPECTED = 4,    /* a byte is not a digit */
     CONST_OID_EMPTY = 5,             /* there is nothing, or only one arc */
-    CONST_OID_LENGTH = 6,            /* there are, or would be, more than 255 octets, and more than fit */
+    CONST_OID_LENGTH = 6,            /* there are more than 255 octets, in const_oid_cmp_owned */
     CONST_OID_OVERFLOW = 7,          /* never returned: no sum overflows */
     CONST_OID_REPEATED_DOT = 8,      /* a dot follows another dot */
     CONST_OID_TRAILING_DOT = 9,      /* the text ends with a dot */
@@ -152,8 +150,9 @@ uint32_t const_oid_version(void);
  * - REPEATED_DOT: it is empty, and not the first one.
  * - TRAILING_DOT: an empty last component follows it, as in "3." and "1.40.".
  * - ARC_INVALID: it is the first one and above 2, or the second one, above 39 and after 0 or 1.
- * - LENGTH: the arcs up to it take more than 255 octets, and more than `out_len`.
- * - EMPTY: it is the only one. */
+ * - EMPTY: it is the only one.
+ *
+ * The octets are no more than the bytes of the text. */
 const_oid_status const_oid_from_text(
     const char *text, size_t text_len, uint8_t *CONST_OID_RESTRICT out, size_t out_len);
 
@@ -181,8 +180,8 @@ const_oid_status const_oid_arcs(
 const_oid_status const_oid_arcs_from(
     const uint8_t *octets, size_t len, size_t first, uint32_t *CONST_OID_RESTRICT out, size_t out_len);
 
-/* Writes the contents octets of arcs. For other arcs, returns the code of the first wrong one,
- * ARC_INVALID or LENGTH, or else EMPTY if there are fewer than two. */
+/* Writes the contents octets of arcs, five for each arc at most. For other arcs, returns ARC_INVALID with
+ * the first wrong one, or else EMPTY if there are fewer than two. */
 const_oid_status const_oid_from_arcs(
     const uint32_t *arcs, size_t len, uint8_t *CONST_OID_RESTRICT out, size_t out_len);
 

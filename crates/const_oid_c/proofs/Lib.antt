@@ -1,6 +1,7 @@
 pub mod Answers
 pub mod Capacities
 pub mod Children
+pub mod Counted
 pub mod Indices
 pub mod SkippedArcs
 pub mod SmallTexts

@@ -1,5 +1,5 @@
 -- The results of functions: what a function writes, or its status.
-use Rattle.std.specs.Prelude.{◌≡◌, ℕ, List, [], ◌∷◌, codes, max, nat_lt, slice_index_or, if◌then◌else◌, Option, Some, None, Result, Ok, Err}
+use Rattle.std.specs.Prelude.{◌≡◌, ℕ, List, [], ◌∷◌, codes, nat_lt, slice_index_or, if◌then◌else◌, Option, Some, None, Result, Ok, Err}
 use Rattle.std.specs.Option.{option_map, option_map_or}
 use Rattle.std.specs.Result.{result_flatten, result_map_both}
 use Rattle.std.specs.Str.{is_utf8}
@@ -11,15 +11,11 @@ use Rattle.const_oid.specs.Identifier.{root_rule, encoding_of}
 use Rattle.const_oid.specs.Text.{text_answer}
 use Rattle.const_oid.specs.Tree.{child_of, parent_of}
 use Rattle.const_oid_c.specs.declared.status.Status.{Status}
-use Rattle.const_oid_c.specs.Status.{error_status, not_utf8_status, none_status, number_status}
+use Rattle.const_oid_c.specs.Status.{error_status, max_len, not_utf8_status, none_status, number_status}
 
 -- the most octets that an owned identifier can have
 abbrev pub owned_capacity : ℕ
 owned_capacity = 255
-
--- the most octets that are made of text or arcs for an output of a length: 255, or as many as it has
-abbrev pub most_octets : ℕ → ℕ
-most_octets out_len = max owned_capacity out_len
 
 -- the arcs of octets of any length, or their fault
 abbrev pub borrowed_answer : List ℕ → Result (List ℕ) Error
@@ -56,9 +52,9 @@ ok_or_none items = option_map_or (λ items. Ok items) items (Err none_status)
 abbrev pub octets_of_arcs : Result (List ℕ) Error → Result (List ℕ) Status
 octets_of_arcs answer = output_of encoding_of answer
 
--- the contents octets of the arcs that a text denotes, for an output of a length
-abbrev pub octets_of_text : ℕ → List ℕ → Result (List ℕ) Status
-octets_of_text out_len text = if is_utf8 text then octets_of_arcs (text_answer root_rule text (most_octets out_len)) else Err not_utf8_status
+-- the contents octets of the arcs that a text denotes, of any length
+abbrev pub octets_of_text : List ℕ → Result (List ℕ) Status
+octets_of_text text = if is_utf8 text then octets_of_arcs (text_answer root_rule text max_len) else Err not_utf8_status
 
 -- the contents octets of the parent, if there is one
 abbrev pub octets_of_parent : List ℕ → Result (List ℕ) Status

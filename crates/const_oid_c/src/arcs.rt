@@ -3,10 +3,10 @@ ghost use Rattle.std.specs.Prelude.{◌≡◌, ◌≤◌, ◌++◌, length, take
 ghost use Rattle.const_oid.specs.Identifier.{root_rule};
 ghost use Rattle.const_oid.specs.Items.{item_answer};
 ghost use Rattle.const_oid.specs.Oid.{oid_answer};
-ghost use Rattle.const_oid_c.specs.Status.{output_status, output_after, len_status};
-ghost use Rattle.const_oid_c.specs.Answers.{octets_of_arcs, output_of, status_of, borrowed_answer, arc_status, most_octets};
+ghost use Rattle.const_oid_c.specs.Status.{max_len, output_status, output_after, len_status};
+ghost use Rattle.const_oid_c.specs.Answers.{octets_of_arcs, output_of, status_of, borrowed_answer, arc_status};
 
-use crate::output::write_octets;
+use crate::output::{unwritten_status, write_octets};
 use crate::owned::{MAX_OCTETS, is_too_long};
 use crate::status::{
     NONE, Status, code_status, error_status, len_status, number_status, too_short_status,
@@ -53,8 +53,8 @@ pub extern "C" fn const_oid_arc(octets: &[u8], index: usize) -> Status
 #[tactic(auto, using(crate::proofs::Capacities::same_arcs))]
 #[unsafe(no_mangle)]
 pub extern "C" fn const_oid_from_arcs(arcs: &[u32], out: &mut [u8]) -> Status
-    ensures status { result ≡ output_status (length out.old) (octets_of_arcs (item_answer root_rule arcs.now (most_octets (length out.old)))) }
-    ensures written { out.new ≡ output_after out.old (octets_of_arcs (item_answer root_rule arcs.now (most_octets (length out.old)))) }
+    ensures status { result ≡ output_status (length out.old) (octets_of_arcs (item_answer root_rule arcs.now max_len)) }
+    ensures written { out.new ≡ output_after out.old (octets_of_arcs (item_answer root_rule arcs.now max_len)) }
 {
     // An identifier of the usual capacity is quicker to make.
     let small = encoded::<39>(arcs);
@@ -68,24 +68,25 @@ pub extern "C" fn const_oid_from_arcs(arcs: &[u32], out: &mut [u8]) -> Status
 #[tactic(auto, using(crate::proofs::Capacities::same_arcs))]
 #[inline(never)]
 fn write_large(arcs: &[u32], out: &mut [u8]) -> Status
-    ensures status { result ≡ output_status (length out.old) (octets_of_arcs (item_answer root_rule arcs.now (most_octets (length out.old)))) }
-    ensures written { out.new ≡ output_after out.old (octets_of_arcs (item_answer root_rule arcs.now (most_octets (length out.old)))) }
+    ensures status { result ≡ output_status (length out.old) (octets_of_arcs (item_answer root_rule arcs.now max_len)) }
+    ensures written { out.new ≡ output_after out.old (octets_of_arcs (item_answer root_rule arcs.now max_len)) }
 {
     let oid = encoded::<MAX_OCTETS>(arcs);
-    if is_too_long(&oid) && out.len() > MAX_OCTETS {
+    if is_too_long(&oid) {
         return write_longer(arcs, out);
     }
     write_octets(oid, out)
 }
 
-/// Writes the contents octets of arcs, as many as the output has.
+/// Writes the contents octets of arcs, any number of them, or counts those that do not fit.
 fn write_longer(arcs: &[u32], out: &mut [u8]) -> Status
-    ensures status { result ≡ output_status (length out.old) (octets_of_arcs (item_answer root_rule arcs.now (length out.old))) }
-    ensures written { out.new ≡ output_after out.old (octets_of_arcs (item_answer root_rule arcs.now (length out.old))) }
+    ensures status { result ≡ output_status (length out.old) (octets_of_arcs (item_answer root_rule arcs.now max_len)) }
+    ensures written { out.new ≡ output_after out.old (octets_of_arcs (item_answer root_rule arcs.now max_len)) }
 {
     match ObjectIdentifierRef::bytes_from_arcs(arcs, out) {
         Ok(len) => len_status(len),
-        Err(fault) => error_status(fault),
+        // At the greatest limit, the error of any other kind is the same.
+        Err(_) => unwritten_status(ObjectIdentifierRef::bytes_len_from_arcs(arcs, usize::MAX)),
     }
 }
 

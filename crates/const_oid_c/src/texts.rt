@@ -2,10 +2,10 @@
 ghost use Rattle.std.specs.Prelude.{◌≡◌, length, Err};
 ghost use Rattle.const_oid.specs.Text.{text_of, text_answer};
 ghost use Rattle.const_oid.specs.Identifier.{root_rule, usual_capacity};
-ghost use Rattle.const_oid_c.specs.Status.{output_status, output_after};
-ghost use Rattle.const_oid_c.specs.Answers.{most_octets, octets_of_text, octets_of_arcs, output_of, borrowed_answer};
+ghost use Rattle.const_oid_c.specs.Status.{max_len, output_status, output_after};
+ghost use Rattle.const_oid_c.specs.Answers.{octets_of_text, octets_of_arcs, output_of, borrowed_answer};
 
-use crate::output::{write_bytes, write_octets};
+use crate::output::{unwritten_status, write_bytes, write_octets};
 use crate::owned::{MAX_OCTETS, is_too_long};
 use crate::status::{NOT_UTF8, Status, code_status, error_status, len_status, too_short_status};
 use const_oid::{Error, ObjectIdentifier, ObjectIdentifierRef, Oid};
@@ -14,8 +14,8 @@ use std::str;
 /// Writes the contents octets of the identifier that dotted text denotes.
 #[unsafe(no_mangle)]
 pub extern "C" fn const_oid_from_text(text: &[u8], out: &mut [u8]) -> Status
-    ensures status { result ≡ output_status (length out.old) (octets_of_text (length out.old) text.now) }
-    ensures written { out.new ≡ output_after out.old (octets_of_text (length out.old) text.now) }
+    ensures status { result ≡ output_status (length out.old) (octets_of_text text.now) }
+    ensures written { out.new ≡ output_after out.old (octets_of_text text.now) }
 {
     // An identifier of the usual capacity is quicker to make.
     match Oid::from_ascii(text) {
@@ -31,8 +31,8 @@ pub extern "C" fn const_oid_from_text(text: &[u8], out: &mut [u8]) -> Status
 #[inline(never)]
 fn write_other(fault: Error, text: &[u8], out: &mut [u8]) -> Status
     requires { text_answer root_rule text.now usual_capacity ≡ Err fault }
-    ensures status { result ≡ output_status (length out.old) (octets_of_text (length out.old) text.now) }
-    ensures written { out.new ≡ output_after out.old (octets_of_text (length out.old) text.now) }
+    ensures status { result ≡ output_status (length out.old) (octets_of_text text.now) }
+    ensures written { out.new ≡ output_after out.old (octets_of_text text.now) }
 {
     // The digits and dots of a valid text are ASCII, so only the others can fail to be UTF-8.
     if str::from_utf8(text).is_err() {
@@ -48,24 +48,25 @@ fn write_other(fault: Error, text: &[u8], out: &mut [u8]) -> Status
 /// Writes the contents octets of the identifier that a text denotes, or reports why there are none.
 #[tactic(auto, using(crate::proofs::Capacities::same_text))]
 fn write_large(text: &[u8], out: &mut [u8]) -> Status
-    ensures status { result ≡ output_status (length out.old) (octets_of_arcs (text_answer root_rule text.now (most_octets (length out.old)))) }
-    ensures written { out.new ≡ output_after out.old (octets_of_arcs (text_answer root_rule text.now (most_octets (length out.old)))) }
+    ensures status { result ≡ output_status (length out.old) (octets_of_arcs (text_answer root_rule text.now max_len)) }
+    ensures written { out.new ≡ output_after out.old (octets_of_arcs (text_answer root_rule text.now max_len)) }
 {
     let oid = ObjectIdentifier::<MAX_OCTETS>::from_ascii(text);
-    if is_too_long(&oid) && out.len() > MAX_OCTETS {
+    if is_too_long(&oid) {
         return write_longer(text, out);
     }
     write_octets(oid, out)
 }
 
-/// Writes the contents octets of the identifier that dotted text denotes, as many as the output has.
+/// Writes the contents octets of the identifier that dotted text denotes, of any length, or counts those that do not fit.
 fn write_longer(text: &[u8], out: &mut [u8]) -> Status
-    ensures status { result ≡ output_status (length out.old) (octets_of_arcs (text_answer root_rule text.now (length out.old))) }
-    ensures written { out.new ≡ output_after out.old (octets_of_arcs (text_answer root_rule text.now (length out.old))) }
+    ensures status { result ≡ output_status (length out.old) (octets_of_arcs (text_answer root_rule text.now max_len)) }
+    ensures written { out.new ≡ output_after out.old (octets_of_arcs (text_answer root_rule text.now max_len)) }
 {
     match ObjectIdentifierRef::bytes_from_ascii(text, out) {
         Ok(len) => len_status(len),
-        Err(fault) => error_status(fault),
+        // At the greatest limit, the error of any other kind is the same.
+        Err(_) => unwritten_status(ObjectIdentifierRef::bytes_len_from_ascii(text, usize::MAX)),
     }
 }
 

@@ -5,7 +5,7 @@ ghost use Rattle.std.specs.Prelude.{◌≡◌};
 /// `CONST_OID_VERSION`.
 #[unsafe(no_mangle)]
 pub extern "C" fn const_oid_version() -> u32
-    ensures { result ≡ 65536 }
+    ensures { result ≡ 65792 }
 {
-    1 << 16
+    (1 << 16) + (1 << 8)
 }

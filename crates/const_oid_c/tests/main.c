@@ -84,12 +84,16 @@ static void too_short(const_oid_status status, const_oid_status less, const void
 }
 
 static void text_row(const char *text, size_t len) {
-    uint8_t out[CONST_OID_MAX_OCTETS];
-    uint8_t less[CONST_OID_MAX_OCTETS];
+    uint8_t out[MOST];
+    uint8_t less[MOST];
     const_oid_status status = const_oid_from_text(text, len, out, sizeof out);
     memset(less, 0xEE, sizeof less);
-    if (status.code == CONST_OID_OK)
+    if (status.code == CONST_OID_OK) {
         too_short(status, const_oid_from_text(text, len, less, status.len - 1), less, sizeof less);
+        too_short(status, const_oid_from_text(text, len, NULL, 0), NULL, 0);
+        const_oid_from_text(text, len, less, status.len);
+        if (memcmp(less, out, status.len) != 0) fail("octets in an output of their length differ");
+    }
     written(status, out);
 }
 
@@ -145,10 +149,19 @@ static void octets_row(char *rest) {
 
 static void arcs_row(char *rest) {
     static uint32_t arcs[MOST];
-    uint8_t out[CONST_OID_MAX_OCTETS];
+    uint8_t out[MOST];
+    uint8_t less[MOST];
     size_t len = 0;
     while (*rest != 0 && len < MOST) arcs[len++] = number(&rest);
-    written(const_oid_from_arcs(arcs, len, out, sizeof out), out);
+    const_oid_status status = const_oid_from_arcs(arcs, len, out, sizeof out);
+    memset(less, 0xEE, sizeof less);
+    if (status.code == CONST_OID_OK) {
+        too_short(status, const_oid_from_arcs(arcs, len, less, status.len - 1), less, sizeof less);
+        too_short(status, const_oid_from_arcs(arcs, len, NULL, 0), NULL, 0);
+        const_oid_from_arcs(arcs, len, less, status.len);
+        if (memcmp(less, out, status.len) != 0) fail("octets in an output of their length differ");
+    }
+    written(status, out);
 }
 
 static void arcs_from_row(char *rest) {

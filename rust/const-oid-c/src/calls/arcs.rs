@@ -2,7 +2,7 @@
 
 //! Octets to arcs, and arcs to octets.
 
-use crate::calls::output::write_octets;
+use crate::calls::output::{unwritten_status, write_octets};
 use crate::calls::owned::{MAX_OCTETS, is_too_long};
 use crate::calls::status::{
     NONE, Status, code_status, error_status, len_status, number_status, too_short_status,
@@ -50,17 +50,18 @@ pub fn const_oid_from_arcs(arcs: &[u32], out: &mut crate::edge::Output<u8>) -> S
 #[inline(never)]
 fn write_large(arcs: &[u32], out: &mut crate::edge::Output<u8>) -> Status {
     let oid = encoded::<MAX_OCTETS>(arcs);
-    if is_too_long(&oid) && out.len() > MAX_OCTETS {
+    if is_too_long(&oid) {
         return write_longer(arcs, out);
     }
     write_octets(oid, out)
 }
 
-/// Writes the contents octets of arcs, as many as the output has.
+/// Writes the contents octets of arcs, any number of them, or counts those that do not fit.
 fn write_longer(arcs: &[u32], out: &mut crate::edge::Output<u8>) -> Status {
     match crate::outputs::bytes_from_arcs(arcs, out) {
         Ok(len) => len_status(len),
-        Err(fault) => error_status(fault),
+        // At the greatest limit, the error of any other kind is the same.
+        Err(_) => unwritten_status(ObjectIdentifierRef::bytes_len_from_arcs(arcs, usize::MAX)),
     }
 }
 

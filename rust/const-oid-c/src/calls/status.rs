@@ -23,7 +23,7 @@ pub(crate) const DIGIT_EXPECTED: u32 = 4;
 /// The code of an input that is empty or has only one arc.
 pub(crate) const EMPTY: u32 = 5;
 
-/// The code of more than 255 octets.
+/// The code of more than 255 octets, in `const_oid_cmp_owned` alone.
 pub(crate) const LENGTH: u32 = 6;
 
 /// The code of an arithmetic overflow. No function returns it.

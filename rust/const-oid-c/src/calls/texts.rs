@@ -2,7 +2,7 @@
 
 //! Dotted text.
 
-use crate::calls::output::{write_bytes, write_octets};
+use crate::calls::output::{unwritten_status, write_bytes, write_octets};
 use crate::calls::owned::{MAX_OCTETS, is_too_long};
 use crate::calls::status::{
     NOT_UTF8, Status, code_status, error_status, len_status, too_short_status,
@@ -38,17 +38,18 @@ fn write_other(fault: Error, text: &[u8], out: &mut crate::edge::Output<u8>) -> 
 /// Writes the contents octets of the identifier that a text denotes, or reports why there are none.
 fn write_large(text: &[u8], out: &mut crate::edge::Output<u8>) -> Status {
     let oid = ObjectIdentifier::<MAX_OCTETS>::from_ascii(text);
-    if is_too_long(&oid) && out.len() > MAX_OCTETS {
+    if is_too_long(&oid) {
         return write_longer(text, out);
     }
     write_octets(oid, out)
 }
 
-/// Writes the contents octets of the identifier that dotted text denotes, as many as the output has.
+/// Writes the contents octets of the identifier that dotted text denotes, of any length, or counts those that do not fit.
 fn write_longer(text: &[u8], out: &mut crate::edge::Output<u8>) -> Status {
     match crate::outputs::bytes_from_ascii(text, out) {
         Ok(len) => len_status(len),
-        Err(fault) => error_status(fault),
+        // At the greatest limit, the error of any other kind is the same.
+        Err(_) => unwritten_status(ObjectIdentifierRef::bytes_len_from_ascii(text, usize::MAX)),
     }
 }
 

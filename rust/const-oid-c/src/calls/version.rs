@@ -5,5 +5,5 @@
 /// 65536 times the major number, 256 times the minor one and the patch number, as
 /// `CONST_OID_VERSION`.
 pub fn const_oid_version() -> u32 {
-    1 << 16
+    (1 << 16) + (1 << 8)
 }

@@ -1,13 +1,38 @@
-use Rattle.std.proofs.Common.{◌∙◌}
-use Rattle.const_oid_c.proofs.Answers.{bytes_written}
+use Rattle.std.proofs.Common.{◌≡◌, ◌≢◌, ◌≤◌, length, Err, sym, ◌∙◌, arith}
+use Rattle.const_oid.specs.{declared.error.Error.TheVariants.Length, Identifier.root_rule, Text.text_answer}
+use Rattle.const_oid_c.specs.Status.{max_len}
+use Rattle.const_oid_c.proofs.{Answers.bytes_written, Capacities.same_text, Counted.{longer_text, not_written}}
 use Rattle.const_oid_c.proofs.texts.write_longer.Goals as goal
 
 pub returns-in-Ok-clause-status : goal.returns-in-Ok-clause-status
 returns-in-Ok-clause-status c =
     let is = c.in-Ok.ensures in
-    c.len_status.ensures ∙ (bytes_written c.in-Ok.len is.answer c.bytes_from_ascii.auto.out is.encoding is.rest).status
+    let few = length c.args.out.now in
+    let fits : few ≤ max_len = omega arith in
+    let other : text_answer root_rule c.args.text.now few ≢ Err Length = λ same. cc in
+    let answer = is.answer ∙ same_text few max_len fits c.args.text.now other in
+    c.len_status.ensures ∙ (bytes_written c.in-Ok.len answer c.bytes_from_ascii.auto.out is.encoding is.rest).status
 
 pub returns-in-Ok-clause-written : goal.returns-in-Ok-clause-written
 returns-in-Ok-clause-written c =
     let is = c.in-Ok.ensures in
-    (bytes_written c.in-Ok.len is.answer c.bytes_from_ascii.auto.out is.encoding is.rest).after
+    let few = length c.args.out.now in
+    let fits : few ≤ max_len = omega arith in
+    let other : text_answer root_rule c.args.text.now few ≢ Err Length = λ same. cc in
+    let answer = is.answer ∙ same_text few max_len fits c.args.text.now other in
+    (bytes_written c.in-Ok.len answer c.bytes_from_ascii.auto.out is.encoding is.rest).after
+
+pub returns-in-Err-clause-status : goal.returns-in-Err-clause-status
+returns-in-Err-clause-status c =
+    let few = length c.args.out.now in
+    let count = rw c.bytes_len_from_ascii.ensures.len at c.unwritten_status.ensures in
+    (not_written (text_answer root_rule c.args.text.now max_len)
+    (λ arcs read. longer_text few c.args.text.now arcs (sym c.in-Err.ensures.answer) read) count).status
+
+pub returns-in-Err-clause-written : goal.returns-in-Err-clause-written
+returns-in-Err-clause-written c =
+    let few = length c.args.out.now in
+    let count = rw c.bytes_len_from_ascii.ensures.len at c.unwritten_status.ensures in
+    c.in-Err.ensures.kept
+    ∙ (not_written (text_answer root_rule c.args.text.now max_len)
+    (λ arcs read. longer_text few c.args.text.now arcs (sym c.in-Err.ensures.answer) read) count).after
