@@ -101,22 +101,12 @@ static answer printed(const identifier *from) {
     return of_items(out, len);
 }
 
-/* Of a library 1.0, which makes at most 255 octets, or as many as fit: whether there are more. */
-static size_t most, size;
-static int is_too_long(const identifier *of) {
-    uint8_t out[10];
-    size_t last = of->count - 1;
-    if (of->count == 1) size = 0;
-    else size += write_number(of->count == 2 ? 40 * (uint64_t)of->arcs[0] + of->arcs[1] : of->arcs[last], out);
-    return CONST_OID_VERSION_MINOR == 0 && size > most;
-}
-
 /* Adds an arc, if the first two are in their ranges. */
 static answer added(uint32_t arc, identifier *to) {
     if (to->count == 0 && arc > 2) return of_code(CONST_OID_ARC_INVALID, arc);
     if (to->count == 1 && to->arcs[0] < 2 && arc > 39) return of_code(CONST_OID_ARC_INVALID, arc);
     to->arcs[to->count++] = arc;
-    return of_code(is_too_long(to) ? CONST_OID_LENGTH : CONST_OID_OK, 0);
+    return of_code(CONST_OID_OK, 0);
 }
 
 /* Adds the arc of a component, which ends before an index. What is wrong with it is the first that applies. */
@@ -209,7 +199,6 @@ RULE(const_oid_to_text) {
 }
 
 RULE(const_oid_from_text) {
-    most = a[1].len > 255 ? a[1].len : 255;
     answer read = read_text(a[0], &first);
     return read.status.code == CONST_OID_OK ? encoded(&first) : read;
 }
@@ -217,7 +206,6 @@ RULE(const_oid_from_text) {
 RULE(const_oid_from_arcs) {
     const uint32_t *arcs = a[0].items;
     first.count = 0;
-    most = a[1].len > 255 ? a[1].len : 255;
     for (size_t i = 0; i < a[0].len; i++) {
         answer wrong = added(arcs[i], &first);
         if (wrong.status.code != CONST_OID_OK) return wrong;
