@@ -1,32 +1,47 @@
-"""The build backend of this folder (PEP 517 and 660): a wheel with the extension module and the table of names.
+"""The build backend of this folder (PEP 517 and 660): a wheel with the extension module and the table of names, and a
+source archive of all that the wheel is made from.
 
-It needs a C compiler, the headers of Python, and cargo, and nothing from a network. With the setting `library=installed`,
-an installed library that pkg-config finds takes the place of cargo.
+It needs a C compiler, the headers of Python, and cargo, and nothing from a network. With the setting
+`library=installed`, an installed library that pkg-config finds takes the place of cargo.
 """
+import sys
+
+if sys.version_info < (3, 11):
+    raise SystemExit(f"const-oid: needs Python 3.11 or later, and this is {sys.version.split()[0]}")
+
 import base64
+import gzip
 import hashlib
+import io
 import os
 import pathlib
 import re
 import shlex
 import shutil
 import subprocess
-import sys
 import sysconfig
+import tarfile
 import tempfile
 import tomllib
 import zipfile
 
 HERE = pathlib.Path(__file__).resolve().parent
-TOP = HERE.parent
+# In a source archive, what a checkout has beside this folder is in it.
+TOP = HERE if (HERE / "PKG-INFO").exists() else HERE.parent
 CRATE = TOP / "rust/const-oid-c/Cargo.toml"
 EXTENSION = "_native.abi3.so"
 SOURCES = ("__init__.py", "_native.pyi", "_support.py", "names.py", "py.typed", "sorted_map.py")
 LICENCES = ("LICENSE-APACHE", "LICENSE-MIT")
+ARCHIVED = ("backend.py", "pyproject.toml", "README.md", "src/native.c", *(f"src/const_oid/{name}" for name in SOURCES))
+ARCHIVED_OF_TOP = (*LICENCES, "crates/const_oid_c/include", "rust/names.tsv", "rust/const-oid-c")
+ARCHIVED_OF_TOP += tuple(f"rust/const-oid/{name}" for name in ("Cargo.toml", "README.md", "examples", "src"))
 COMPILER = shlex.split(os.environ.get("CC", "cc"))
 RUSTC = os.environ.get("RUSTC", "rustc")
 INCLUDE = pathlib.Path(sysconfig.get_path("include"))
 RUST = (1, 85)
+
+if not CRATE.exists():
+    raise SystemExit(f"const-oid: there is no {CRATE}: install a checkout of the repository, or a source archive")
 
 
 def _output(*command):
@@ -54,11 +69,10 @@ def _missing(is_installed):
         yield "rustc 1.85 or later (https://rustup.rs)"
 
 
-def _built():
+def _built(temporary):
     """The header's folder and the static library, which cargo builds for this machine."""
     host = re.search(r"^host: (.+)$", _output(RUSTC, "-vV"), re.M)[1]
-    folder = pathlib.Path(os.environ.get("CARGO_TARGET_DIR", ""))
-    folder = folder if folder.is_absolute() else TOP / "rust/target"
+    folder = pathlib.Path(os.environ.get("CARGO_TARGET_DIR") or temporary)
     command = ["cargo", "build", "--quiet", "--release", "--locked", "--offline", "--target", host]
     _output(*command, "--target-dir", folder, "--manifest-path", CRATE)
     return TOP / "crates/const_oid_c/include", folder / host / "release/libconst_oid_c.a"
@@ -66,7 +80,8 @@ def _built():
 
 def _installed():
     """The same of an installed library."""
-    include, library = (_output("pkg-config", f"--variable={name}", "const_oid_c").strip() for name in ("includedir", "libdir"))
+    folders = (_output("pkg-config", f"--variable={name}", "const_oid_c").strip() for name in ("includedir", "libdir"))
+    include, library = folders
     return include, pathlib.Path(library) / "libconst_oid_c.a"
 
 
@@ -76,11 +91,14 @@ def _compile(target, config_settings):
     missing = list(_missing(is_installed))
     if missing:
         raise SystemExit(f"const-oid: to be installed first: {'; '.join(missing)}")
-    include, library = _installed() if is_installed else _built()
-    link = ["-bundle", "-undefined", "dynamic_lookup"] if sys.platform == "darwin" else ["-shared", "-Wl,--exclude-libs,ALL", "-s"]
+    link = ["-shared", "-Wl,--exclude-libs,ALL", "-s"]
+    if sys.platform == "darwin":
+        link = ["-bundle", "-undefined", "dynamic_lookup"]
     flags = ["-std=c11", "-O2", "-fPIC", "-fvisibility=hidden", *shlex.split(os.environ.get("CFLAGS", ""))]
-    files = [f"-I{INCLUDE}", f"-I{include}", HERE / "src/native.c", library, "-o", target]
-    _output(*COMPILER, *flags, *link, *files, *shlex.split(os.environ.get("LDFLAGS", "")))
+    with tempfile.TemporaryDirectory() as temporary:
+        include, library = _installed() if is_installed else _built(temporary)
+        files = [f"-I{INCLUDE}", f"-I{include}", HERE / "src/native.c", library, "-o", target]
+        _output(*COMPILER, *flags, *link, *files, *shlex.split(os.environ.get("LDFLAGS", "")))
 
 
 def _names():
@@ -109,6 +127,25 @@ def metadata(of, readme):
     return "\n".join(lines) + "\n\n" + readme
 
 
+def _stem():
+    return f"{project()['name'].replace('-', '_')}-{project()['version']}"
+
+
+def _tag():
+    return f"cp311-abi3-{re.sub('[-.]', '_', sysconfig.get_platform())}"
+
+
+def _metadata():
+    return metadata(project(), (HERE / "README.md").read_text(encoding="utf-8")).encode()
+
+
+def _information():
+    """The folder that says what a wheel is, and its files, aside from RECORD."""
+    files = {name: (TOP / name).read_bytes() for name in LICENCES}
+    head = "Wheel-Version: 1.0\nGenerator: const_oid\nRoot-Is-Purelib: false\n"
+    return f"{_stem()}.dist-info", {**files, "METADATA": _metadata(), "WHEEL": f"{head}Tag: {_tag()}\n".encode()}
+
+
 def _recorded(name, content):
     digest = base64.urlsafe_b64encode(hashlib.sha256(content).digest()).rstrip(b"=").decode()
     return f"{name},sha256={digest},{len(content)}\n"
@@ -116,19 +153,11 @@ def _recorded(name, content):
 
 def _write_wheel(folder, files):
     """Writes a wheel of these files and those that say what it is, and returns its name."""
-    of = project()
-    tag = f"cp311-abi3-{re.sub('[-.]', '_', sysconfig.get_platform())}"
-    stem = f"{of['name'].replace('-', '_')}-{of['version']}"
-    information = f"{stem}.dist-info"
-    files = dict(files)
-    for name in LICENCES:
-        files[f"{information}/{name}"] = (TOP / name).read_bytes()
-    files[f"{information}/METADATA"] = metadata(of, (HERE / "README.md").read_text(encoding="utf-8")).encode()
-    head = "Wheel-Version: 1.0\nGenerator: const_oid\nRoot-Is-Purelib: false\n"
-    files[f"{information}/WHEEL"] = f"{head}Tag: {tag}\n".encode()
+    information, others = _information()
+    files = {**files, **{f"{information}/{name}": content for name, content in others.items()}}
     record = f"{information}/RECORD"
     files[record] = ("".join(_recorded(*file) for file in files.items()) + f"{record},,\n").encode()
-    wheel = f"{stem}-{tag}.whl"
+    wheel = f"{_stem()}-{_tag()}.whl"
     with zipfile.ZipFile(pathlib.Path(folder) / wheel, "w", zipfile.ZIP_DEFLATED) as archive:
         for name, content in files.items():
             entry = zipfile.ZipInfo(name)
@@ -149,7 +178,7 @@ def build_wheel(wheel_directory, config_settings=None, metadata_directory=None):
 
 
 def build_editable(wheel_directory, config_settings=None, metadata_directory=None):
-    """Writes a wheel that leads to out/, where the package is links to its sources, the extension module and the names."""
+    """Writes a wheel that leads to out/, where there are links to the sources, the extension module and the names."""
     package = HERE / "out/const_oid"
     shutil.rmtree(package, ignore_errors=True)
     package.mkdir(parents=True)
@@ -160,6 +189,35 @@ def build_editable(wheel_directory, config_settings=None, metadata_directory=Non
     return _write_wheel(wheel_directory, {"const_oid.pth": f"{package.parent}\n".encode()})
 
 
+def prepare_metadata_for_build_wheel(metadata_directory, config_settings=None):
+    """Writes what a wheel would say of itself, without building it, and returns the folder's name."""
+    information, files = _information()
+    folder = pathlib.Path(metadata_directory) / information
+    folder.mkdir()
+    for name, content in files.items():
+        (folder / name).write_bytes(content)
+    return information
+
+
+prepare_metadata_for_build_editable = prepare_metadata_for_build_wheel
+
+
+def _archived():
+    """The files of the source archive: the name of each, and its content."""
+    for top, roots in ((HERE, ARCHIVED), (TOP, ARCHIVED_OF_TOP)):
+        for path in (path for root in roots for path in (top / root, *sorted((top / root).rglob("*")))):
+            name = path.relative_to(top)
+            if path.is_file() and "target" not in name.parts:
+                yield name.as_posix(), path.read_bytes()
+
+
 def build_sdist(sdist_directory, config_settings=None):
-    """There is no source archive: the checkout is the source."""
-    raise SystemExit("const-oid: there is no source archive: install this folder, or build a wheel")
+    """Writes the source archive into a folder, and returns its name."""
+    archive, file = io.BytesIO(), f"{_stem()}.tar.gz"
+    with tarfile.open(mode="w", fileobj=archive, format=tarfile.PAX_FORMAT) as tar:
+        for name, content in (*_archived(), ("PKG-INFO", _metadata())):
+            entry = tarfile.TarInfo(f"{_stem()}/{name}")
+            entry.size = len(content)
+            tar.addfile(entry, io.BytesIO(content))
+    (pathlib.Path(sdist_directory) / file).write_bytes(gzip.compress(archive.getvalue(), mtime=0))
+    return file

@@ -25,7 +25,8 @@ def load_tests(loader, tests, pattern):
         tests.addTests(doctest.DocTestSuite(module))
     # doctest does not look for properties of a class in C.
     for name in ("arcs", "parent"):
-        examples = doctest.DocTestParser().get_doctest(vars(ObjectIdentifier)[name].__doc__, vars(const_oid), name, None, 0)
+        text = vars(ObjectIdentifier)[name].__doc__
+        examples = doctest.DocTestParser().get_doctest(text, vars(const_oid), name, None, 0)
         tests.addTest(doctest.DocTestCase(examples))
     return tests
 

@@ -1,4 +1,5 @@
 """backend.py: the wheel, what is installed of it, and how it is built."""
+import ast
 import base64
 import email
 import hashlib
@@ -10,18 +11,37 @@ import pathlib
 import shutil
 import subprocess
 import sys
+import tarfile
 import tempfile
 import tomllib
 import unittest
 import zipfile
 
 TOP = pathlib.Path(__file__).resolve().parents[2]
-STEM = "const_oid-1.0.0"
+PROJECT = tomllib.loads((TOP / "python/pyproject.toml").read_text(encoding="utf-8"))["project"]
+STEM = f"const_oid-{PROJECT['version']}"
 PACKAGE = {"__init__.py", "_native.abi3.so", "_native.pyi", "_support.py", "names.py", "names.tsv", "py.typed"}
 PACKAGE.add("sorted_map.py")
 INFORMATION = {"LICENSE-APACHE", "LICENSE-MIT", "METADATA", "RECORD", "WHEEL"}
 FILES = {f"const_oid/{name}" for name in PACKAGE} | {f"{STEM}.dist-info/{name}" for name in INFORMATION}
 INSTALLED = {"library": "installed"}
+
+
+def stable():
+    """The symbols of the stable ABI, which the tests of Python list: that of 3.11 for its tests alone."""
+    try:
+        from test.test_stable_abi_ctypes import SYMBOL_NAMES
+    except ImportError:
+        return ()
+    return SYMBOL_NAMES if sys.version_info[:2] == (3, 11) else ()
+
+
+STABLE = stable()
+
+
+def symbols_of(module, kind):
+    run = subprocess.run(["nm", "-D", kind, module], text=True, capture_output=True, check=True)
+    return {line.split()[-1] for line in run.stdout.splitlines()}
 
 
 def backend():
@@ -32,15 +52,16 @@ def backend():
     return module
 
 
-def built(call, settings=INSTALLED, python=TOP / "python", **variables):
+def built(call, settings=INSTALLED, python=TOP / "python", program=sys.executable, before="", **variables):
     """What a hook of the backend writes into a new folder in a new process: its files, and what the process says."""
-    code = f"import backend; print(backend.{call}(FOLDER, {settings!r}))"
-    with tempfile.TemporaryDirectory() as folder:
-        code = code.replace("FOLDER", repr(folder))
-        run = subprocess.run(
-            [sys.executable, "-c", code], cwd=python, env=os.environ | variables, text=True, capture_output=True
-        )
-        files = {path.name: path.read_bytes() for path in pathlib.Path(folder).iterdir()}
+    code = f"{before}\nimport backend; print(backend.{call}(FOLDER, {settings!r}))"
+    with tempfile.TemporaryDirectory() as name:
+        folder = pathlib.Path(name)
+        code = code.replace("FOLDER", repr(name))
+        environment = os.environ | variables
+        run = subprocess.run([program, "-c", code], cwd=python, env=environment, text=True, capture_output=True)
+        paths = [path for path in folder.rglob("*") if path.is_file()]
+        files = {path.relative_to(folder).as_posix(): path.read_bytes() for path in paths}
     return run.returncode, run.stdout.strip() or run.stderr.strip(), files
 
 
@@ -65,7 +86,8 @@ class Wheel(unittest.TestCase):
 
     def test_each_file_is_installed(self):
         installed = {str(path) for path in importlib.metadata.files("const-oid") if path.suffix != ".pyc"}
-        self.assertEqual(FILES | {f"{STEM}.dist-info/{name}" for name in ("INSTALLER", "REQUESTED", "direct_url.json")}, installed)
+        of_pip = {f"{STEM}.dist-info/{name}" for name in ("INSTALLER", "REQUESTED", "direct_url.json")}
+        self.assertEqual(FILES | of_pip, installed)
 
     def test_the_record_has_each_digest(self):
         rows = [row.split(",") for row in self.files[f"{STEM}.dist-info/RECORD"].decode().splitlines()]
@@ -79,14 +101,23 @@ class Wheel(unittest.TestCase):
         """The name and WHEEL say that the module is for the stable ABI, and for this machine."""
         self.assertRegex(self.name, rf"^{STEM}-cp311-abi3-[a-z]+_[a-z0-9_]+\.whl$")
         said = email.message_from_bytes(self.files[f"{STEM}.dist-info/WHEEL"])
-        self.assertEqual((self.name.removeprefix(f"{STEM}-").removesuffix(".whl"), "false"), (said["Tag"], said["Root-Is-Purelib"]))
+        tag = self.name.removeprefix(f"{STEM}-").removesuffix(".whl")
+        self.assertEqual((tag, "false"), (said["Tag"], said["Root-Is-Purelib"]))
 
     def test_the_metadata_is_that_of_the_project(self):
-        project = tomllib.loads((TOP / "python/pyproject.toml").read_text(encoding="utf-8"))["project"]
+        project = PROJECT
+        self.assertEqual(">=3.11", project["requires-python"])
         readme = (TOP / "python/README.md").read_text(encoding="utf-8")
         self.check_metadata(self.files[f"{STEM}.dist-info/METADATA"].decode(), project, readme)
-        other = {**project, "name": "another", "version": "9.8.7", "description": "Another", "classifiers": ["Typing :: Typed"]}
+        other = {**project, "name": "another", "version": "9.8.7", "description": "Another", "classifiers": ["Typed"]}
         self.check_metadata(backend().metadata(other, "# Another\n"), other, "# Another\n")
+
+    def test_metadata_comes_without_a_build(self):
+        """What a wheel says of itself comes before it is built, without a compiler."""
+        files = {name: content for name, content in self.files.items() if "dist-info" in name and "RECORD" not in name}
+        for kind in ("wheel", "editable"):
+            status, name, found = built(f"prepare_metadata_for_build_{kind}", None, PATH="/missing")
+            self.assertEqual((0, f"{STEM}.dist-info", files), (status, name, found))
 
     def check_metadata(self, text, project, readme):
         said = email.message_from_string(text)
@@ -96,11 +127,29 @@ class Wheel(unittest.TestCase):
         self.assertEqual(project["classifiers"], said.get_all("Classifier"))
         self.assertEqual(("text/markdown", readme), (said["Description-Content-Type"], said.get_payload()))
 
-    def test_another_build_has_the_same_bytes(self):
-        """Another build has the same bytes."""
-        status, name, files = built("build_wheel")
-        self.assertEqual((0, self.name), (status, name))
-        self.assertEqual({name: self.wheel}, files)
+    def test_a_source_archive_builds_the_same_wheel(self):
+        """The archive has all that the wheel is made from, and each has the same bytes each time."""
+        status, name, archive = built("build_sdist")
+        self.assertEqual((0, f"{STEM}.tar.gz", {f"{STEM}.tar.gz"}), (status, name, set(archive)))
+        self.assertEqual(archive, built("build_sdist")[2])
+        with tempfile.TemporaryDirectory() as folder:
+            source = unpacked(archive[name], folder)
+            self.assertEqual(self.files[f"{STEM}.dist-info/METADATA"], (source / "PKG-INFO").read_bytes())
+            self.assertEqual((0, self.name, {self.name: self.wheel}), built("build_wheel", python=source))
+            self.assertEqual(archive, built("build_sdist", python=source)[2])
+
+    @unittest.skipUnless(shutil.which("cargo"), "cargo is not installed")
+    def test_cargo_builds_a_source_archive(self):
+        """Without a network, in a new home, in another folder, and not in the folder of the archive."""
+        with tempfile.TemporaryDirectory() as folder:
+            (archive,) = built("build_sdist")[2].values()
+            source = unpacked(archive, folder)
+            before = set(source.rglob("*"))
+            rustup = os.environ.get("RUSTUP_HOME", str(pathlib.Path.home() / ".rustup"))
+            variables = {"HOME": folder, "CARGO_HOME": f"{folder}/cargo", "RUSTUP_HOME": rustup, "CARGO_TARGET_DIR": ""}
+            status, said, files = built("build_wheel", None, python=source, PYTHONDONTWRITEBYTECODE="1", **variables)
+            self.assertEqual((0, [self.name]), (status, list(files)), said)
+            self.assertEqual(before, set(source.rglob("*")))
 
     @unittest.skipUnless(shutil.which("twine"), "twine is not installed")
     def test_twine_accepts_the_wheel(self):
@@ -114,14 +163,37 @@ class Wheel(unittest.TestCase):
     def test_the_module_shows_its_start_alone(self):
         """The module shows its start alone, and needs no library but that of C."""
         module = pathlib.Path(importlib.util.find_spec("const_oid._native").origin)
-        run = subprocess.run(["nm", "-D", "--defined-only", module], text=True, capture_output=True, check=True)
-        self.assertEqual(["PyInit__native"], [line.split()[-1] for line in run.stdout.splitlines()])
+        self.assertEqual({"PyInit__native"}, symbols_of(module, "--defined-only"))
+
+    def test_the_source_asks_for_the_limited_api(self):
+        """Python's headers declare what the stable ABI of 3.11 has, as the tag says."""
+        tools = backend()
+        folders = [f"-I{tools.INCLUDE}", f"-I{TOP / 'crates/const_oid_c/include'}"]
+        command = [*tools.COMPILER, "-E", "-dM", *folders, TOP / "python/src/native.c"]
+        said = subprocess.run(command, text=True, capture_output=True, check=True).stdout
+        self.assertIn("#define Py_LIMITED_API 0x030B0000\n", said)
+
+    @unittest.skipUnless(shutil.which("nm") and STABLE, "nm, or the tests of Python 3.11, are not installed")
+    def test_the_module_needs_the_stable_abi_alone(self):
+        module = pathlib.Path(importlib.util.find_spec("const_oid._native").origin)
+        names = {name for name in symbols_of(module, "--undefined-only") if name.lstrip("_").startswith("Py")}
+        self.assertIn("PyType_FromModuleAndSpec", names)
+        self.assertEqual(set(), names - set(STABLE))
+
+    @unittest.skipUnless(shutil.which("abi3audit"), "abi3audit is not installed")
+    def test_abi3audit_accepts_the_wheel(self):
+        with tempfile.TemporaryDirectory() as folder:
+            wheel = pathlib.Path(folder) / self.name
+            wheel.write_bytes(self.wheel)
+            run = subprocess.run(["abi3audit", "--strict", wheel], text=True, capture_output=True)
+        self.assertEqual(0, run.returncode, run.stdout + run.stderr)
 
 
 CARGO = """#!/bin/sh
 printf '%s\n' "$@" > "$SAID"
-mkdir -p "$CARGO_TARGET_DIR/a-host/release"
-cp "$LIBRARY" "$CARGO_TARGET_DIR/a-host/release/libconst_oid_c.a"
+while [ "$1" != --target-dir ]; do shift; done
+mkdir -p "$2/a-host/release"
+cp "$LIBRARY" "$2/a-host/release/libconst_oid_c.a"
 """
 RUSTC = """#!/bin/sh
 echo "rustc 1.85.0"
@@ -129,42 +201,96 @@ if [ "$1" = -vV ]; then echo "host: a-host"; fi
 """
 
 
+def unpacked(archive, folder):
+    """The folder of a source archive."""
+    with tarfile.open(fileobj=io.BytesIO(archive)) as tar:
+        assert {STEM} == {member.name.split("/")[0] for member in tar}
+        tar.extractall(folder)
+    return pathlib.Path(folder) / STEM
+
+
+def linked(folder):
+    """Links a folder, in the place of a checkout, to what is beside this package."""
+    for path in TOP.iterdir():
+        if path.name != "python":
+            (folder / path.name).symlink_to(path)
+
+
 def program(folder, name, text):
     (folder / name).write_text(text, encoding="utf-8")
     (folder / name).chmod(0o755)
 
 
+def arguments_of_cargo(folder, target, **options):
+    """What the backend passes to cargo, with a target folder of the user, or None. The module has what cargo built."""
+    command = ["pkg-config", "--variable=libdir", "const_oid_c"]
+    libdir = subprocess.run(command, text=True, capture_output=True, check=True).stdout.strip()
+    program(folder, "cargo", CARGO)
+    program(folder, "rustc", RUSTC)
+    variables = {"SAID": f"{folder}/said", "LIBRARY": f"{libdir}/libconst_oid_c.a", "RUSTC": "rustc"}
+    variables |= {"PATH": f"{folder}:{os.environ['PATH']}", "CARGO_TARGET_DIR": target, "CARGO_BUILD_TARGET": "another"}
+    status, said, files = built("build_wheel", None, **variables, **options)
+    assert (status, len(files)) == (0, 1), said
+    return (folder / "said").read_text(encoding="utf-8").split("\n")
+
+
 class Build(unittest.TestCase):
     def test_cargo_builds_for_this_machine(self):
-        """cargo builds for this machine whatever its configuration says, and the module has what it built."""
-        libdir = subprocess.run(["pkg-config", "--variable=libdir", "const_oid_c"], text=True, capture_output=True, check=True)
+        """cargo builds for this machine whatever its configuration says, and nothing in the checkout."""
         with tempfile.TemporaryDirectory() as name:
             folder = pathlib.Path(name)
-            program(folder, "cargo", CARGO)
-            program(folder, "rustc", RUSTC)
-            variables = {"SAID": f"{name}/said", "LIBRARY": f"{libdir.stdout.strip()}/libconst_oid_c.a"}
-            variables |= {"PATH": f"{name}:{os.environ['PATH']}", "CARGO_TARGET_DIR": f"{name}/target", "RUSTC": "rustc"}
-            status, said, files = built("build_wheel", None, **variables, CARGO_BUILD_TARGET="another")
-            self.assertEqual((0, 1), (status, len(files)), said)
-            arguments = (folder / "said").read_text(encoding="utf-8").split("\n")
-        self.assertEqual("build", arguments[0])
-        self.assertLessEqual({"--release", "--locked", "--offline"}, set(arguments))
-        found = {name: arguments[arguments.index(name) + 1] for name in ("--target", "--target-dir", "--manifest-path")}
-        crate = str(TOP / "rust/const-oid-c/Cargo.toml")
-        self.assertEqual({"--target": "a-host", "--target-dir": f"{name}/target", "--manifest-path": crate}, found)
+            # A folder of the user may be relative; without one the checkout may be read-only.
+            shutil.copytree(TOP / "python", folder / "python", ignore=shutil.ignore_patterns("out", "tests"))
+            linked(folder)
+            for given in (f"{name}/target", "made", ""):
+                arguments = arguments_of_cargo(folder, given, python=folder / "python")
+                self.assertEqual("build", arguments[0])
+                self.assertLessEqual({"--release", "--locked", "--offline"}, set(arguments))
+                names = ("--target", "--target-dir", "--manifest-path")
+                found = {name: arguments[arguments.index(name) + 1] for name in names}
+                crate = str(folder / "rust/const-oid-c/Cargo.toml")
+                self.assertEqual(("a-host", crate), (found["--target"], found["--manifest-path"]))
+                target = found["--target-dir"]
+                is_elsewhere = not given and not pathlib.Path(target).is_relative_to(folder)
+                self.assertTrue(target == given or is_elsewhere, target)
+
+    def test_an_old_python_is_named(self):
+        """A Python before 3.11 reads the backend, which then says what it needs."""
+        ast.parse((TOP / "python/backend.py").read_text(encoding="utf-8"), feature_version=(3, 8))
+        version = "import sys; sys.version_info, sys.version = (3, 8, 18), '3.8.18 (of a day)'"
+        wanted = (1, "const-oid: needs Python 3.11 or later, and this is 3.8.18", {})
+        self.assertEqual(wanted, built("build_wheel", before=version))
+        for minor in (8, 9, 10):
+            program = shutil.which(f"python3.{minor}")
+            if program and subprocess.run([program, "-c", ""], capture_output=True).returncode == 0:
+                status, said, files = built("build_wheel", program=program)
+                self.assertRegex(said, rf"^const-oid: needs Python 3\.11 or later, and this is 3\.{minor}\.\d+$")
+
+    def test_the_folder_alone_says_what_is_missing(self):
+        with tempfile.TemporaryDirectory() as name:
+            folder = pathlib.Path(name) / "python"
+            shutil.copytree(TOP / "python", folder, ignore=shutil.ignore_patterns("out", "tests"))
+            status, said, files = built("build_wheel", python=folder)
+            crate = pathlib.Path(name).resolve() / "rust/const-oid-c/Cargo.toml"
+        wanted = f"const-oid: there is no {crate}: install a checkout of the repository, or a source archive"
+        self.assertEqual((1, wanted, {}), (status, said, files))
 
     def test_an_editable_install_sees_a_change(self):
         """A change of a source is seen at once; the wheel has no file of the package."""
         with tempfile.TemporaryDirectory() as folder:
             top = pathlib.Path(folder)
             shutil.copytree(TOP / "python", top / "python", ignore=shutil.ignore_patterns("out", "tests"))
-            for path in TOP.iterdir():
-                if path.name != "python":
-                    (top / path.name).symlink_to(path)
+            linked(top)
+            # What an earlier build left goes.
+            (top / "python/out/const_oid").mkdir(parents=True)
+            for stale in ("names.tsv", "stale.py"):
+                (top / "python/out/const_oid" / stale).write_text("1.2\tstale\n", encoding="utf-8")
             status, name, files = built("build_editable", python=top / "python")
             self.assertEqual(0, status, name)
+            self.assertEqual(PACKAGE, set(os.listdir(top / "python/out/const_oid")))
             with zipfile.ZipFile(io.BytesIO(files[name])) as archive:
-                self.assertEqual({"const_oid.pth"} | {name for name in FILES if "dist-info" in name}, set(archive.namelist()))
+                information = {name for name in FILES if "dist-info" in name}
+                self.assertEqual({"const_oid.pth"} | information, set(archive.namelist()))
                 (place,) = archive.read("const_oid.pth").decode().splitlines()
             with (top / "python/src/const_oid/names.py").open("a", encoding="utf-8") as source:
                 source.write("\nCHANGED = name_of(ObjectIdentifier('2.5.4.3'))\n")
@@ -177,7 +303,8 @@ class Build(unittest.TestCase):
         """What is missing is named, all of it, before anything is built."""
         status, said, files = built("build_wheel", None, PATH="/missing")
         self.assertEqual((1, {}), (status, files))
-        self.assertRegex(said, r"^const-oid: to be installed first: a C compiler, \S+ \(Debian: gcc\); cargo and rustc, 1\.85")
+        wanted = r"^const-oid: to be installed first: a C compiler, \S+ \(Debian: gcc\); cargo and rustc, 1"
+        self.assertRegex(said, wanted)
         status, said, files = built("build_wheel", PATH="/missing")
         self.assertRegex(said, r"; pkg-config \(Debian: pkg-config\)$")
         status, said, files = built("build_wheel", PKG_CONFIG_PATH="/missing", PKG_CONFIG_LIBDIR="/missing")
@@ -187,7 +314,8 @@ class Build(unittest.TestCase):
         with tempfile.TemporaryDirectory() as folder:
             for tool in ("rustc", "cargo"):
                 program(pathlib.Path(folder), tool, "#!/bin/sh\necho 'rustc 1.84.1'\n")
-            status, said, files = built("build_wheel", None, PATH=f"{folder}:{os.environ['PATH']}", RUSTC=f"{folder}/rustc")
+            variables = {"PATH": f"{folder}:{os.environ['PATH']}", "RUSTC": f"{folder}/rustc"}
+            status, said, files = built("build_wheel", None, **variables)
         self.assertEqual("const-oid: to be installed first: rustc 1.85 or later (https://rustup.rs)", said)
 
     def test_a_compiler_that_fails_is_reported(self):

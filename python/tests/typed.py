@@ -27,7 +27,8 @@ def uses() -> None:
     assert_type(oid[1:], tuple[int, ...])
     assert_type(oid.starts_with(under), bool)
     assert_type(840 in oid, bool)
-    assert_type((oid < under, oid == "1.2", len(oid), hash(oid), oid.index(2), oid.count(2)), tuple[bool, bool, int, int, int, int])
+    assert_type((oid < under, oid == "1.2"), tuple[bool, bool])
+    assert_type((len(oid), hash(oid), oid.index(2), oid.count(2)), tuple[int, int, int, int])
     assert_type((str(oid), bytes(oid), f"{oid:>9}", copy.copy(under)), tuple[str, bytes, str, Under])
     match oid:
         case ObjectIdentifier((first, *_)):
