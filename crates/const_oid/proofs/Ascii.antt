@@ -1,8 +1,8 @@
--- A text that denotes arcs is ASCII.
-use Rattle.std.proofs.Common.{◌≡◌, ℕ, zero, suc, true, List, [], ◌∷◌, Ok, arith, sym}
-use Rattle.std.specs.{Char.is_ascii_digit, List.{AllByRecursion, join_with_byte}, Str.{IsAscii, all_ascii_digits, is_utf8}}
-use Rattle.std.proofs.lemmas.{Bool.{and_parts, Decides.nat_tests}, Str.{IsAscii-append, Ascii.IsAscii-nil}}
-use Rattle.std.proofs.lemmas.{Str.{IsUtf8-from_ascii, is_utf8-from_IsUtf8}, List.Splits.join_with_byte-slice_split}
+-- A text that denotes arcs is ASCII, and so UTF-8.
+use Rattle.std.proofs.Common.{◌≡◌, ℕ, zero, suc, true, false, List, [], ◌∷◌, Ok, arith, sym}
+use Rattle.std.specs.{Char.is_ascii_digit, List.{AllByRecursion, join_with_byte}, Str.{IsAscii, IsUtf8, all_ascii_digits, is_utf8}}
+use Rattle.std.proofs.lemmas.{Bool.{and_parts, false_from_ne_true, Decides.nat_tests}, Str.{IsAscii-append, Ascii.IsAscii-nil}}
+use Rattle.std.proofs.lemmas.{Str.{IsUtf8-from_ascii, IsUtf8-from_is_utf8, is_utf8-from_IsUtf8}, List.Splits.join_with_byte-slice_split}
 use Rattle.const_oid.specs.{Identifier.RootRule, Text.{IsNumber, pieces_of, text_answer}}
 use Rattle.const_oid.proofs.Texts.{denoted_from_answer}
 
@@ -28,3 +28,7 @@ answer_utf8 rule capacity text arcs e =
     let numbers = (denoted_from_answer rule capacity text arcs (sym e)).numbers in
     let ascii = rw (join_with_byte-slice_split 46 text) at (numbers_ascii (pieces_of text) numbers) in
     is_utf8-from_IsUtf8 text (IsUtf8-from_ascii text ascii)
+
+-- bytes that are not UTF-8 fail its test
+pub is_not_utf8 : (bytes : List ℕ) → ¬ IsUtf8 bytes → is_utf8 bytes ≡ false
+is_not_utf8 bytes other = false_from_ne_true (is_utf8 bytes) (λ t. other (IsUtf8-from_is_utf8 bytes t))

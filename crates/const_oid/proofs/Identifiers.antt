@@ -7,7 +7,8 @@ use Rattle.std.proofs.lemmas.{Bool.{and_parts, not-true}, Option.gets, Cmp.nat_l
 use Rattle.std.proofs.lemmas.Bool.Decides.{nat_tests}
 use Rattle.const_oid.specs.{declared.oid.ObjectIdentifier.ObjectIdentifier, declared.error.Error.Error, OidRef.ref_arcs}
 use Rattle.const_oid.specs.{declared.oid_ref.ObjectIdentifierRef.ObjectIdentifierRef, Items.{item_answer, TakesItems}}
-use Rattle.const_oid.specs.{Identifier.{RootRule, root_rule, IsIdentifier, size, encoding_of}, Orders.shortlex_cmp}
+use Rattle.const_oid.specs.{Contents.arcs_of_octets, Orders.shortlex_cmp}
+use Rattle.const_oid.specs.Identifier.{RootRule, root_rule, IsIdentifier, IsEncoding, size, encoding_of}
 use Rattle.const_oid.specs.{Oid.{oid_arcs, oid_octets}, Text.{text_of, text_answer}}
 use Rattle.const_oid.specs.Tree.{BeginsWith, parent_of, child_of}
 use Rattle.const_oid.proofs.{BeginsWith.{ancestor_short, ancestor_before}, Lengths.length_is_size}
@@ -17,6 +18,11 @@ use Rattle.const_oid.proofs.{Texts.{text_denotes, text_fault-none}, Tree.{parent
 -- its octets, which compute where its arcs are known
 pub octets_are : {N : ℕ} (oid : ObjectIdentifier N) → oid_octets oid ≡ encoding_of (oid_arcs oid)
 octets_are oid = sym (encoding_of-encoded (oid_encoding oid))
+
+-- octets that encode their arcs are the encoding of their arcs
+pub octets_again : (octets : List ℕ) → IsEncoding root_rule (arcs_of_octets octets) octets
+    → encoding_of (arcs_of_octets octets) ≡ octets
+octets_again octets encoded = encoding_of-encoded encoded
 
 -- its size is within the capacity
 pub size_fits : {N : ℕ} (oid : ObjectIdentifier N) → size (oid_arcs oid) ≤ min N 255

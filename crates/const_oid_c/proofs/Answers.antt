@@ -1,19 +1,13 @@
 -- What a function writes, by the functions of `const_oid` and `std`.
-use Rattle.std.proofs.Common.{◌≡◌, ◌≤◌, ◌++◌, List, ℕ, false, drop, length, take, refl, sym, ap, ◌∙◌, arith, le-ltb, Ok, Err}
+use Rattle.std.proofs.Common.{◌≡◌, ◌≤◌, ◌++◌, List, ℕ, drop, length, take, refl, sym, ap, ◌∙◌, arith, le-ltb, Ok, Err}
 use Rattle.std.specs.Prelude.{Result}
 use Rattle.std.specs.Result.{result_map_both}
-use Rattle.std.specs.Str.{IsUtf8, is_utf8}
-use Rattle.std.proofs.lemmas.{List.{length-take-le, take-append-drop}, Bool.false_from_ne_true, Str.{IsUtf8-from_is_utf8, is_utf8-from_IsUtf8}}
-use Rattle.const_oid.specs.{declared.error.Error.Error, Text.text_of, Contents.{arcs_of_octets, borrowed_capacity}, Identifier.{root_rule, IsEncoding, encoding_of}}
+use Rattle.std.proofs.lemmas.{List.{length-take-le, take-append-drop}, Str.is_utf8-from_IsUtf8}
+use Rattle.const_oid.specs.{declared.error.Error.Error, Text.text_of, Contents.{arcs_of_octets, borrowed_capacity}, Identifier.{root_rule, IsEncoding}}
 use Rattle.const_oid_c.specs.{declared.status.Status.Status}
 use Rattle.const_oid_c.specs.Answers.{borrowed_answer, octets_of_arcs, output_of}
 use Rattle.const_oid_c.specs.Status.{len_status, output_after, output_status}
-use Rattle.const_oid.proofs.Encodings.{encoding_of-encoded, octet_fault-fits}
-
--- octets that encode their arcs are the encoding of their arcs
-pub octets_again : (octets : List ℕ) → IsEncoding root_rule (arcs_of_octets octets) octets
-    → encoding_of (arcs_of_octets octets) ≡ octets
-octets_again octets encoded = encoding_of-encoded encoded
+use Rattle.const_oid.proofs.{Ascii.is_not_utf8, Encodings.{encoding_of-encoded, octet_fault-fits}}
 
 -- octets that encode an identifier have no fault
 pub valid_answer : (octets : List ℕ) → IsEncoding root_rule (arcs_of_octets octets) octets → length octets ≤ borrowed_capacity
@@ -21,9 +15,6 @@ pub valid_answer : (octets : List ℕ) → IsEncoding root_rule (arcs_of_octets 
 valid_answer octets encoding fits = rw (octet_fault-fits borrowed_capacity encoding fits)
 
 -- bytes, UTF-8 or not
-pub is_not_utf8 : (bytes : List ℕ) → ¬ IsUtf8 bytes → is_utf8 bytes ≡ false
-is_not_utf8 bytes other = false_from_ne_true (is_utf8 bytes) (λ t. other (IsUtf8-from_is_utf8 bytes t))
-
 pub ruleset texts = (is_utf8-from_IsUtf8, is_not_utf8)
 
 -- a text with room is the text of the answer, and a fault is its fault

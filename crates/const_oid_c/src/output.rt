@@ -35,7 +35,7 @@ pub(crate) fn write_joined(first: &[u8], rest: &[u8], out: &mut [u8]) -> Status
 }
 
 /// Writes the octets of an identifier, or reports its error.
-#[tactic(auto, using(crate::proofs::Answers::octets_again))]
+#[tactic(auto, using(const_oid::proofs::Identifiers::octets_again))]
 pub(crate) fn write_octets<const N: usize>(
     oid: Result<ObjectIdentifier<N>>,
     out: &mut [u8],

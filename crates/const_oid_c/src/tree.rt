@@ -11,7 +11,7 @@ use crate::status::{NONE, Status, code_status, error_status};
 use const_oid::{ObjectIdentifier, ObjectIdentifierRef, Result};
 
 /// Writes the contents octets of all arcs except the last.
-#[tactic(auto, using(crate::proofs::Answers::octets_again))]
+#[tactic(auto, using(const_oid::proofs::Identifiers::octets_again))]
 #[unsafe(no_mangle)]
 pub extern "C" fn const_oid_parent(octets: &[u8], out: &mut [u8]) -> Status
     ensures status { result ≡ output_status (length out.old) (octets_of_parent octets.now) }
