@@ -2,10 +2,11 @@
 //!
 //! The workspace replaces that crate by this one, so that the feature is built and tested without a
 //! registry. A crate that depends on `const-oid` gets the real one.
+#![no_std]
 
-use std::ops::RangeInclusive;
+use core::ops::RangeInclusive;
 
-pub type Result<T> = std::result::Result<T, Error>;
+pub type Result<T> = core::result::Result<T, Error>;
 
 #[derive(Debug)]
 pub enum Error {

@@ -138,6 +138,7 @@ const ROWS: &[Row] = &[
         "",
         "--octal: no such option; see --help\n",
     ),
+    ("-h 2.5.4.3", "", "", "-h: no such option; see --help\n"),
 ];
 
 /// What is printed, the errors, and whether all was read.

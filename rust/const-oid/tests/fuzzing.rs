@@ -64,3 +64,33 @@ fn takes_any_arc_that_is_in_range() {
     };
     assert_eq!([0, 1, 2].map(first), [0, 1, 2].map(Some));
 }
+
+/// Every number of arcs, and at every place an arc of every length: as many arcs as fit.
+#[test]
+fn reaches_each_number_and_length_of_arcs() {
+    let edges = [0, 7, 14, 21, 28].map(|bits| 1_u32 << bits);
+    for arc in edges
+        .iter()
+        .flat_map(|edge| [edge - 1, *edge])
+        .chain([u32::MAX])
+    {
+        for len in 3..=41 {
+            let mut arcs = vec![1; len];
+            arcs[0] = 2;
+            arcs[len - 1] = arc;
+            let mut octets = arcs[..3]
+                .iter()
+                .flat_map(|arc| arc.to_le_bytes())
+                .collect::<Vec<_>>();
+            octets.extend(
+                arcs[3..]
+                    .iter()
+                    .flat_map(|arc| [&[1], &arc.to_le_bytes()[..]].concat()),
+            );
+            let all = ObjectIdentifier::from_arcs(arcs.iter().copied());
+            let expected =
+                all.or_else(|_| ObjectIdentifier::from_arcs(arcs[..len - 1].iter().copied()));
+            assert_eq!(drawn(&octets).unwrap(), expected.unwrap(), "{arc} {len}");
+        }
+    }
+}

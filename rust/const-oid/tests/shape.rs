@@ -16,8 +16,8 @@ use std::str::FromStr;
 macro_rules! is {
     ([$($generic:tt)*] $type:ty, $trait:path) => {
         const _: () = {
-            #[allow(dead_code)]
-            fn is<$($generic)*>(value: &$type) -> &(impl $trait + ?Sized) {
+            #[allow(dead_code, clippy::needless_lifetimes)]
+            fn is<'x, $($generic)*>(value: &'x $type) -> &'x (impl $trait + ?Sized) {
                 value
             }
         };
@@ -393,6 +393,31 @@ fn the_manifest_has_what_cargo_reads() {
     assert_eq!(
         found,
         expected.map(|(key, value)| (key.to_string(), value.to_string()))
+    );
+}
+
+/// The tests see a sum that overflows.
+#[test]
+#[should_panic(expected = "attempt to add with overflow")]
+fn sums_are_checked() {
+    let _ = std::hint::black_box(u8::MAX) + std::hint::black_box(1);
+}
+
+/// What the compiler denies in this crate and in the library for C, whose generated functions have no unsafe code.
+#[test]
+fn unsafe_code_is_where_it_is_allowed() {
+    let ours = include_str!("../src/lib.rs");
+    assert!(ours.contains("\n#![no_std]\n#![deny(missing_docs, unsafe_code)]\n"));
+    let for_c = include_str!("../../const-oid-c/src/lib.rs");
+    let denied = "#![deny(unsafe_op_in_unsafe_fn, clippy::undocumented_unsafe_blocks)]";
+    assert!(for_c.contains(&format!("\n#![no_std]\n{denied}\n")));
+    let (_, above_calls) = for_c.split_once("#[forbid(unsafe_code)]").unwrap();
+    assert!(
+        above_calls
+            .split_once("mod ")
+            .unwrap()
+            .1
+            .starts_with("calls;")
     );
 }
 

@@ -76,11 +76,8 @@ fn main() -> ExitCode {
 /// The items of the sources in Rattle below folders, with their clauses.
 fn items_below(folders: &[String]) -> Checked<String> {
     let mut out = String::new();
-    let mut left: Vec<String> = folders.to_vec();
-    while let Some(path) = left.pop() {
-        if from_top(&path).is_dir() {
-            left.extend(listed(&path));
-        } else if path.ends_with(".rt") || folders.contains(&path) {
+    for path in below(folders) {
+        if path.ends_with(".rt") || folders.contains(&path) {
             for item in items_of(&path, &read(&path)?)? {
                 let line = format!("{path}\t{}\t{}", item.owner, item.head);
                 out += &format!("{line}\n");
@@ -145,11 +142,11 @@ fn public_items(files: &[File]) -> Checked<String> {
         .filter(|file| file.0.starts_with(CRATE))
         .cloned()
         .collect();
-    for path in listed(CRATE)
-        .into_iter()
-        .filter(|path| path.ends_with(".rs"))
-    {
-        sources.push((path.clone(), read(&path)?));
+    for path in below(&[CRATE.into()]) {
+        let is_generated = path == NAMES || sources.iter().any(|file| file.0 == path);
+        if path.ends_with(".rs") && !is_generated {
+            sources.push((path.clone(), read(&path)?));
+        }
     }
     sources.sort();
     let mut out = String::new();
@@ -256,6 +253,19 @@ fn listed(folder: &str) -> Vec<String> {
         .map(|entry| format!("{folder}/{}", entry.file_name().to_string_lossy()))
         .collect();
     out.sort();
+    out
+}
+
+/// The files of folders and of those in them.
+fn below(folders: &[String]) -> Vec<String> {
+    let mut out = Vec::new();
+    let mut left: Vec<String> = folders.to_vec();
+    while let Some(path) = left.pop() {
+        match from_top(&path).is_dir() {
+            true => left.extend(listed(&path)),
+            false => out.push(path),
+        }
+    }
     out
 }
 

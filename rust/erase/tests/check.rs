@@ -146,6 +146,55 @@ fn a_source_by_hand_whose_public_items_change() {
     assert!(printed.contains("rust/const-oid/src/conversions.rs\t\tpub fn public()\n"));
 }
 
+/// Each source by hand is in the list of public items, in a folder too.
+#[test]
+fn every_source_is_listed() {
+    let copy = Copy::new("sources_by_hand");
+    let generated = copy.generated();
+    let mut left = vec![String::from("rust/const-oid/src")];
+    fs::create_dir_all(copy.0.join(&left[0]).join("in/folders")).unwrap();
+    copy.append("rust/const-oid/src/in/folders/new.rs", "");
+    let mut by_hand = vec![];
+    while let Some(path) = left.pop() {
+        if let Ok(entries) = fs::read_dir(copy.0.join(&path)) {
+            let names = entries.map(|entry| entry.unwrap().file_name().into_string().unwrap());
+            left.extend(names.map(|name| format!("{path}/{name}")));
+        } else if path.ends_with(".rs") && !generated.contains(&path) {
+            by_hand.push(path);
+        }
+    }
+    assert!(by_hand.len() > 9, "{by_hand:?}");
+    let added = by_hand
+        .iter()
+        .map(|path| copy.append(path, "\npub fn added() {}\n"));
+    added.for_each(drop);
+    let printed = String::from_utf8(copy.erase(&["--items"]).stdout).unwrap();
+    for path in by_hand {
+        let line = format!("{path}\t\tpub fn added()\n");
+        assert!(printed.contains(&line), "{path}");
+    }
+}
+
+/// Files that cannot be written or removed, since folders have their names, are named.
+#[test]
+fn files_that_are_not_written() {
+    let copy = Copy::new("unwritten");
+    let calls = GENERATED[1];
+    let other = format!("{calls}/zzz.rs");
+    let paths = FILES.map(str::to_string).to_vec();
+    let paths = [paths, vec![format!("{calls}/mod.rs"), other]].concat();
+    for path in paths.iter().map(|path| copy.0.join(path)) {
+        let _ = fs::remove_file(&path);
+        fs::create_dir(path).unwrap();
+    }
+    let output = copy.erase(&[]);
+    assert!(!output.status.success());
+    let text = String::from_utf8(output.stderr).unwrap();
+    for path in paths {
+        assert!(text.contains(&format!("{path}: ")), "{path}: {text}");
+    }
+}
+
 #[test]
 fn items_of_folders() {
     let copy = Copy::new("below");
