@@ -18,6 +18,7 @@ pub mod Ascii
 pub mod Enough
 pub mod Children
 pub mod PartsFault
+pub mod PartEnds
 pub mod Octets
 pub mod Written
 pub mod Started

@@ -1,5 +1,6 @@
 -- What only the contracts of private functions cite. No public contract cites it.
 pub mod Octets
+pub mod Ends
 pub mod Encoder
 pub mod Groups
 pub mod Parser

@@ -231,7 +231,7 @@ const HALF: usize = 4;
 
 /// The first four octets as a number.
 #[inline(always)]
-fn half_word(octets: &[u8]) -> u32
+pub(crate) fn half_word(octets: &[u8]) -> u32
     requires { 4 ≤ length octets.now }
     ensures { to_be_bytes w32 result ≡ take 4 octets.now }
 {

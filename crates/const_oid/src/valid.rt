@@ -1,17 +1,18 @@
 //! Checks of contents octets (X.690, 8.19.2).
 
-ghost use Rattle.std.specs.Prelude.{◌≡◌, ◌<◌, Some};
+ghost use Rattle.std.specs.Prelude.{◌≡◌, ◌↔◌, ◌+◌, ◌<◌, ◌≤◌, Some, IsTrue, length, slice_index, take, drop};
 ghost use Rattle.std.specs.Result.{result_err};
+ghost use Rattle.const_oid.specs.Base128.{value_of};
 ghost use Rattle.const_oid.specs.Contents.{cut, parts_fault};
 ghost use Rattle.const_oid.specs.Identifier.{root_rule};
+ghost use Rattle.const_oid.specs.Private.Groups.{IsLong};
+ghost use Rattle.const_oid.specs.Private.Ends.{EndsAt, limit_at};
 
-use crate::Arc;
-use crate::base128::{checked_group, group_fault};
+use crate::compare::half_word;
 use crate::error::{Error, Result};
-use crate::root::MAX_FIRST;
 
 /// Checks contents octets of any length, or returns their error.
-#[tactic(auto, using(crate::proofs::PartsFault::parts_at))]
+#[tactic(auto, using(crate::proofs::PartEnds::ends))]
 #[inline(never)]
 pub(crate) fn check(octets: &[u8]) -> Result<()>
     ensures { result_err result ≡ parts_fault root_rule (cut octets.now) }
@@ -19,15 +20,77 @@ pub(crate) fn check(octets: &[u8]) -> Result<()>
     if octets.is_empty() {
         return Err(Error::Empty);
     }
-    let mut rest = match checked_group(octets, MAX_FIRST) {
-        Some((_, after)) => after,
-        None => return Err(group_fault(octets, MAX_FIRST)),
-    };
-    while !rest.is_empty() {
-        rest = match checked_group(rest, Arc::MAX as u64) {
-            Some((_, after)) => after,
-            None => return Err(group_fault(rest, Arc::MAX as u64)),
+    let mut at = 0;
+    while at < octets.len() {
+        let start = at;
+        at += 1;
+        // A subidentifier of one octet is the most frequent one.
+        if octets[start] < 128 {
+            continue;
+        }
+        at = match long_end(octets, start) {
+            Ok(end) => end,
+            Err(fault) => return Err(fault),
         };
     }
     Ok(())
+}
+
+/// The index after the subidentifier that starts at an index, with an octet of 128 or more, or its error.
+#[tactic(auto, using(crate::proofs::PartEnds::more_at))]
+#[inline(always)]
+fn long_end(octets: &[u8], start: usize) -> Result<usize>
+    requires inside { start < length octets.now }
+    requires long { 128 ≤ slice_index octets.now start }
+    ensures { EndsAt octets.now start result }
+{
+    // The octet is 128. Its remainder compiles to fewer instructions.
+    if octets[start] % 128 == 0 {
+        return Err(Error::Base128);
+    }
+    for len in 1..4 {
+        if start + len >= octets.len() {
+            return Err(Error::Base128);
+        }
+        if octets[start + len] < 128 {
+            return Ok(start + len + 1);
+        }
+    }
+    five_end(octets, start)
+}
+
+/// The index after the subidentifier that starts at an index, and does not end within four octets, or its error.
+#[tactic(auto, using(crate::proofs::PartEnds::five_ends))]
+#[inline(always)]
+fn five_end(octets: &[u8], start: usize) -> Result<usize>
+    requires inside { start < length octets.now }
+    requires long { IsLong (drop start octets.now) }
+    ensures { EndsAt octets.now start result }
+{
+    let last = start + 4;
+    if last >= octets.len() {
+        return Err(Error::Base128);
+    }
+    if !is_in_range(octets, start) {
+        return Err(Error::ArcTooBig);
+    }
+    if octets[last] < 128 {
+        return Ok(last + 1);
+    }
+    if last + 1 == octets.len() {
+        return Err(Error::Base128);
+    }
+    Err(Error::ArcTooBig)
+}
+
+/// Whether five octets, of the subidentifier that starts at an index, are a number in its range. Numbers below 2^32 have
+/// a first digit below 16. Those from there to the greatest first subidentifier have the digits 16, 0, 0, 0 and one below
+/// 80.
+#[inline(always)]
+fn is_in_range(octets: &[u8], start: usize) -> bool
+    requires inside { start + 4 < length octets.now }
+    requires long { IsLong (drop start octets.now) }
+    ensures { IsTrue result ↔ (value_of (take 5 (drop start octets.now)) ≤ limit_at start) }
+{
+    octets[start] < 0x90 || start == 0 && half_word(octets) == 0x9080_8080 && octets[4] % 128 < 80
 }

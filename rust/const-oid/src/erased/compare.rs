@@ -179,7 +179,7 @@ const HALF: usize = 4;
 
 /// The first four octets as a number.
 #[inline(always)]
-fn half_word(octets: &[u8]) -> u32 {
+pub(crate) fn half_word(octets: &[u8]) -> u32 {
     match octets.first_chunk::<HALF>() {
         Some(half) => u32::from_be_bytes(*half),
         None => unreachable!(),

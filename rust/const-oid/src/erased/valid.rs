@@ -2,10 +2,8 @@
 
 //! Checks of contents octets (X.690, 8.19.2).
 
-use crate::erased::Arc;
-use crate::erased::base128::{checked_group, group_fault};
+use crate::erased::compare::half_word;
 use crate::erased::error::{Error, Result};
-use crate::erased::root::MAX_FIRST;
 
 /// Checks contents octets of any length, or returns their error.
 #[inline(never)]
@@ -13,15 +11,63 @@ pub(crate) fn check(octets: &[u8]) -> Result<()> {
     if octets.is_empty() {
         return Err(Error::Empty);
     }
-    let mut rest = match checked_group(octets, MAX_FIRST) {
-        Some((_, after)) => after,
-        None => return Err(group_fault(octets, MAX_FIRST)),
-    };
-    while !rest.is_empty() {
-        rest = match checked_group(rest, Arc::MAX as u64) {
-            Some((_, after)) => after,
-            None => return Err(group_fault(rest, Arc::MAX as u64)),
+    let mut at = 0;
+    while at < octets.len() {
+        let start = at;
+        at += 1;
+        // A subidentifier of one octet is the most frequent one.
+        if octets[start] < 128 {
+            continue;
+        }
+        at = match long_end(octets, start) {
+            Ok(end) => end,
+            Err(fault) => return Err(fault),
         };
     }
     Ok(())
+}
+
+/// The index after the subidentifier that starts at an index, with an octet of 128 or more, or its error.
+#[inline(always)]
+fn long_end(octets: &[u8], start: usize) -> Result<usize> {
+    // The octet is 128. Its remainder compiles to fewer instructions.
+    if octets[start] % 128 == 0 {
+        return Err(Error::Base128);
+    }
+    for len in 1..4 {
+        if start + len >= octets.len() {
+            return Err(Error::Base128);
+        }
+        if octets[start + len] < 128 {
+            return Ok(start + len + 1);
+        }
+    }
+    five_end(octets, start)
+}
+
+/// The index after the subidentifier that starts at an index, and does not end within four octets, or its error.
+#[inline(always)]
+fn five_end(octets: &[u8], start: usize) -> Result<usize> {
+    let last = start + 4;
+    if last >= octets.len() {
+        return Err(Error::Base128);
+    }
+    if !is_in_range(octets, start) {
+        return Err(Error::ArcTooBig);
+    }
+    if octets[last] < 128 {
+        return Ok(last + 1);
+    }
+    if last + 1 == octets.len() {
+        return Err(Error::Base128);
+    }
+    Err(Error::ArcTooBig)
+}
+
+/// Whether five octets, of the subidentifier that starts at an index, are a number in its range. Numbers below 2^32 have
+/// a first digit below 16. Those from there to the greatest first subidentifier have the digits 16, 0, 0, 0 and one below
+/// 80.
+#[inline(always)]
+fn is_in_range(octets: &[u8], start: usize) -> bool {
+    octets[start] < 0x90 || start == 0 && half_word(octets) == 0x9080_8080 && octets[4] % 128 < 80
 }

@@ -1,10 +1,10 @@
-use Rattle.std.proofs.Common.{◌≡◌, length}
-use Rattle.const_oid.specs.{Contents.{cut, later_fault, parts_fault}, Identifier.root_rule}
+use Rattle.std.proofs.Common.{◌≡◌, ◌-◌, ◌≤◌, length}
+use Rattle.const_oid.specs.{Contents.{cut, parts_fault}, Identifier.root_rule, Private.Ends.fault_at}
 use Rattle.const_oid.proofs.valid.check.Given as goal
 
--- the rest has the fault of the whole
-abbrev pub invariant-loop-rest : goal.invariant-loop-rest
-invariant-loop-rest l = later_fault (cut l.rest) ≡ parts_fault root_rule (cut l.octets)
+-- the parts that are left have the fault of all
+abbrev pub invariant-loop-at : goal.invariant-loop-at
+invariant-loop-at l = (l.at ≤ length l.octets) × (fault_at l.octets l.at ≡ parts_fault root_rule (cut l.octets))
 
-abbrev pub decreases-loop-rest : goal.decreases-loop-rest
-decreases-loop-rest l = length l.rest
+abbrev pub decreases-loop-at : goal.decreases-loop-at
+decreases-loop-at l = length l.octets - l.at
