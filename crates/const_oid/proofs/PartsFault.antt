@@ -167,3 +167,5 @@ five_read octets some long valid =
     let small : value_of (take 5 octets) ≤ max_first root_rule = grind (arith, five_big) in
     let last : get_or octets 4 0 < 128 = grind (arith, five_open, six_big) in
     (five, small, grind (arith, five_last), five_numbers octets five long last)
+
+pub ruleset valid_read = (common_steps, first_valid, five_read)

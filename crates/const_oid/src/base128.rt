@@ -4,7 +4,7 @@ ghost use Rattle.std.specs.Prelude.{◌≡◌, ℕ, List, ◌++◌, ◌+◌, ◌
 ghost use Rattle.const_oid.specs.Base128.{IsGroup, value_of, width};
 ghost use Rattle.const_oid.specs.Contents.{cut, later_fault, parts_fault, max_first};
 ghost use Rattle.const_oid.specs.Identifier.{root_rule, max_arc};
-ghost use Rattle.const_oid.specs.Private.Groups.{IsFaulty, IsFirst, IsLong};
+ghost use Rattle.const_oid.specs.Private.Groups.{IsFaulty, IsFirst};
 ghost use Rattle.const_oid.specs.Private.Octets.{AppendsTo, fault_from};
 
 use crate::Arc;
@@ -24,43 +24,28 @@ pub(crate) fn read_group(octets: &[u8]) -> (u64, &[u8])
 }
 
 /// The number of the first subidentifier, which has two octets or more, and the octets after it.
-#[tactic(auto, using(std::proofs::lemmas::Grind::common_steps, crate::proofs::PartsFault::first_valid))]
+#[tactic(auto, using(crate::proofs::PartsFault::valid_read))]
 #[inline(never)]
 fn read_long_group(octets: &[u8]) -> (u64, &[u8])
     requires valid { parts_fault root_rule (cut octets.now) ≡ None }
     requires long { 128 ≤ slice_index octets.now 0 }
     ensures { IsFirst octets.now result.0 result.1.now }
 {
-    // The arms of `checked_group` without its tests: valid octets pass them, and each arc would pay for them.
+    // The arms that return 0 are not reached, since a subidentifier of valid octets ends, within five octets.
     match octets {
         [a, b, after @ ..] if *b < 128 => (add_digit(add_digit(0, *a), *b), after),
-        [a, b, c, after @ ..] if *c < 128 => (
-            add_digit(add_digit(add_digit(0, *a), *b), *c),
-            after,
-        ),
-        [a, b, c, d, after @ ..] if *d < 128 => {
-            (
-                add_digit(add_digit(add_digit(add_digit(0, *a), *b), *c), *d),
-                after,
-            )
+        [a, b, c, after @ ..] => {
+            let number = add_digit(add_digit(add_digit(0, *a), *b), *c);
+            if *c < 128 {
+                return (number, after);
+            }
+            match after {
+                [d, after @ ..] if *d < 128 => (add_digit(number, *d), after),
+                [d, e, after @ ..] => (add_digit(add_digit(number, *d), *e), after),
+                _ => (0, &[]),
+            }
         }
-        _ => read_five(octets),
-    }
-}
-
-/// The number of the first subidentifier, which has five octets, and the octets after it.
-#[tactic(auto, using(crate::proofs::PartsFault::five_read, std::proofs::lemmas::List::take_all))]
-#[inline(always)]
-fn read_five(octets: &[u8]) -> (u64, &[u8])
-    requires valid { parts_fault root_rule (cut octets.now) ≡ None }
-    requires some { 0 < length octets.now }
-    requires long { IsLong octets.now }
-    ensures { IsFirst octets.now result.0 result.1.now }
-{
-    match octets {
-        [_, _, _, _, _, after @ ..] => (number_of_five(octets), after),
-        // Not reached, since the last octet ends its subidentifier.
-        _ => (0, octets),
+        _ => (0, &[]),
     }
 }
 

@@ -18,27 +18,21 @@ pub(crate) fn read_group(octets: &[u8]) -> (u64, &[u8]) {
 /// The number of the first subidentifier, which has two octets or more, and the octets after it.
 #[inline(never)]
 fn read_long_group(octets: &[u8]) -> (u64, &[u8]) {
-    // The arms of `checked_group` without its tests: valid octets pass them, and each arc would pay for them.
+    // The arms that return 0 are not reached, since a subidentifier of valid octets ends, within five octets.
     match octets {
         [a, b, after @ ..] if *b < 128 => (add_digit(add_digit(0, *a), *b), after),
-        [a, b, c, after @ ..] if *c < 128 => {
-            (add_digit(add_digit(add_digit(0, *a), *b), *c), after)
+        [a, b, c, after @ ..] => {
+            let number = add_digit(add_digit(add_digit(0, *a), *b), *c);
+            if *c < 128 {
+                return (number, after);
+            }
+            match after {
+                [d, after @ ..] if *d < 128 => (add_digit(number, *d), after),
+                [d, e, after @ ..] => (add_digit(add_digit(number, *d), *e), after),
+                _ => (0, &[]),
+            }
         }
-        [a, b, c, d, after @ ..] if *d < 128 => (
-            add_digit(add_digit(add_digit(add_digit(0, *a), *b), *c), *d),
-            after,
-        ),
-        _ => read_five(octets),
-    }
-}
-
-/// The number of the first subidentifier, which has five octets, and the octets after it.
-#[inline(always)]
-fn read_five(octets: &[u8]) -> (u64, &[u8]) {
-    match octets {
-        [_, _, _, _, _, after @ ..] => (number_of_five(octets), after),
-        // Not reached, since the last octet ends its subidentifier.
-        _ => (0, octets),
+        _ => (0, &[]),
     }
 }
 
