@@ -190,7 +190,7 @@ const fn copy_to(octets: &[u8], out: &mut [u8])
     ensures { out.new ≡ octets.now ++ drop (length octets.now) out.old }
 {
     let mut index = 0;
-    while index < octets.len() {
+    while index < octets.len() && index < out.len() {
         out[index] = octets[index];
         index += 1;
     }

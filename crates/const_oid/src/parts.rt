@@ -61,9 +61,19 @@ pub(crate) fn without_last_part(octets: &[u8]) -> &[u8]
         return octets;
     };
     match prefix.iter().rposition(|octet| *octet < 128) {
-        Some(index) => &prefix[..index + 1],
-        None => &prefix[..0],
+        Some(index) => first_octets(prefix, index + 1),
+        None => &[],
     }
+}
+
+/// The first octets, so many of them.
+#[inline(always)]
+fn first_octets(octets: &[u8], len: usize) -> &[u8]
+    requires { len ≤ length octets.now }
+    ensures { result.now ≡ take len octets.now }
+{
+    // Unlike an index, `get` compiles to no panic.
+    octets.get(..len).unwrap_or(&[])
 }
 
 /// How many octets the first subidentifier has.

@@ -167,7 +167,7 @@ impl<const SIZE: usize> Buffer<SIZE> {
 #[inline(always)]
 const fn copy_to(octets: &[u8], out: &mut [u8]) {
     let mut index = 0;
-    while index < octets.len() {
+    while index < octets.len() && index < out.len() {
         out[index] = octets[index];
         index += 1;
     }
