@@ -20,6 +20,7 @@ pub mod Children
 pub mod PartsFault
 pub mod PartEnds
 pub mod Octets
+pub mod Leading
 pub mod Written
 pub mod Started
 pub mod Outputs

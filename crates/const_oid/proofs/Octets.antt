@@ -1,8 +1,8 @@
 -- Octets in an array that is zero past those in use.
-use Rattle.std.proofs.Common.{◌≡◌, ℕ, ◌+◌, ◌-◌, ◌/◌, ◌%◌, ◌≤◌, List, [], ◌∷◌, ◌++◌, length, take, drop, replicate, arith, suc, sym, ◌∙◌}
+use Rattle.std.proofs.Common.{◌≡◌, ℕ, ◌+◌, ◌-◌, ◌≤◌, List, [], ◌∷◌, ◌++◌, length, take, drop, replicate, arith, suc}
 use Rattle.std.proofs.Common.{append_assoc, length-append, slice_index, EachIndex, cond, nat_lt, ◌^◌, ◌<◌}
-use Rattle.std.proofs.lemmas.{Grind.common_steps, List.{drop_at, drop-replicate, drop-drop, length-take-le, take-append-drop}}
-use Rattle.std.proofs.{Math.ListN.set, lemmas.Bool.Decides.nat_tests}
+use Rattle.std.proofs.lemmas.{Grind.common_steps, List.{drop_at, drop-replicate, drop-drop, length-take-le}}
+use Rattle.std.proofs.{lemmas.Bool.Decides.nat_tests}
 use Rattle.const_oid.specs.{Base128.{IsContinued, IsGroup, AreOctets, width}, Private.Octets.GoesOn}
 use Rattle.const_oid.proofs.{Lists.all_append, Groups.{length_is, width_is, width_between}}
 
@@ -47,51 +47,3 @@ width_steps n small =
     grind (arith, nat_tests, width_is, width_between 1 n, width_between 2 n, width_between 3 n, width_between 4 n)
 
 pub ruleset widths = (width_steps, nat_tests)
-
--- their groups, each octet by a division of its own
-pub group_2 : (n : ℕ) → 128 ≤ n → n < 16384 → IsGroup n ((128 + n / 128 % 128) ∷ n % 128 ∷ [])
-group_2 n low high = record { continued = omega arith; shortest = λ padded. omega arith; value = omega arith }
-
-pub group_3 : (n : ℕ) → 16384 ≤ n → n < 2097152
-    → IsGroup n ((128 + n / 16384 % 128) ∷ (128 + n / 128 % 128) ∷ n % 128 ∷ [])
-group_3 n low high = record { continued = omega arith; shortest = λ padded. omega arith; value = omega arith }
-
-pub group_4 : (n : ℕ) → 2097152 ≤ n → n < 268435456
-    → IsGroup n ((128 + n / 2097152 % 128) ∷ (128 + n / 16384 % 128) ∷ (128 + n / 128 % 128) ∷ n % 128 ∷ [])
-group_4 n low high = record { continued = omega arith; shortest = λ padded. omega arith; value = omega arith }
-
-pub group_5 : (n : ℕ) → 268435456 ≤ n → n < 2 ^ 35
-    → IsGroup n ((128 + n / 268435456 % 128) ∷ (128 + n / 2097152 % 128) ∷ (128 + n / 16384 % 128) ∷ (128 + n / 128 % 128) ∷ n % 128 ∷ [])
-group_5 n low high = record { continued = omega arith; shortest = λ padded. omega arith; value = omega arith }
-
--- octets that are set one after another
-sets_joined : (used end : ℕ) (bytes group new : List ℕ) → take end new ≡ take used bytes ++ group
-    → drop end new ≡ drop end bytes → new ≡ take used bytes ++ (group ++ drop end bytes)
-sets_joined used end bytes group new taken left =
-    sym (take-append-drop end new) ∙ rw (taken, left) (append_assoc (take used bytes) group (drop end bytes))
-
-module _ (used : ℕ) (bytes : List ℕ) where
-  pub set_1 : (a : ℕ) → used + 1 ≤ length bytes
-      → set bytes used a ≡ take used bytes ++ ((a ∷ []) ++ drop (used + 1) bytes)
-  set_1 a fits =
-      sets_joined used (used + 1) bytes (a ∷ []) _ (grind (arith, common_steps)) (grind (arith, common_steps))
-
-  pub set_2 : (a b : ℕ) → used + 2 ≤ length bytes
-      → set (set bytes used a) (used + 1) b ≡ take used bytes ++ ((a ∷ b ∷ []) ++ drop (used + 2) bytes)
-  set_2 a b fits =
-      sets_joined used (used + 2) bytes (a ∷ b ∷ []) _ (grind (arith, common_steps)) (grind (arith, common_steps))
-
-  pub set_3 : (a b c : ℕ) → used + 3 ≤ length bytes
-      → set (set (set bytes used a) (used + 1) b) (used + 2) c ≡ take used bytes ++ ((a ∷ b ∷ c ∷ []) ++ drop (used + 3) bytes)
-  set_3 a b c fits =
-      sets_joined used (used + 3) bytes (a ∷ b ∷ c ∷ []) _ (grind (arith, common_steps)) (grind (arith, common_steps))
-
-  pub set_4 : (a b c d : ℕ) → used + 4 ≤ length bytes
-      → set (set (set (set bytes used a) (used + 1) b) (used + 2) c) (used + 3) d ≡ take used bytes ++ ((a ∷ b ∷ c ∷ d ∷ []) ++ drop (used + 4) bytes)
-  set_4 a b c d fits =
-      sets_joined used (used + 4) bytes (a ∷ b ∷ c ∷ d ∷ []) _ (grind (arith, common_steps)) (grind (arith, common_steps))
-
-  pub set_5 : (a b c d e : ℕ) → used + 5 ≤ length bytes
-      → set (set (set (set (set bytes used a) (used + 1) b) (used + 2) c) (used + 3) d) (used + 4) e ≡ take used bytes ++ ((a ∷ b ∷ c ∷ d ∷ e ∷ []) ++ drop (used + 5) bytes)
-  set_5 a b c d e fits =
-      sets_joined used (used + 5) bytes (a ∷ b ∷ c ∷ d ∷ e ∷ []) _ (grind (arith, common_steps)) (grind (arith, common_steps))

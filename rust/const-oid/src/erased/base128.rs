@@ -115,61 +115,30 @@ pub(crate) const fn append_group(
     number: u64,
     capacity: usize,
 ) -> Result<usize> {
-    // There are no calls here, since each costs the compiler in a constant. No sum is compared with the capacity, so that
-    // no index is checked twice.
-    if number < 0x80 {
-        if used >= capacity {
-            return Err(Error::Length);
+    let mut at = used;
+    if number >= 0x80 {
+        // A literal number of turns is unrolled at opt-level 3.
+        let mut shift: u32 = 28;
+        while shift > 0 {
+            if number >> shift > 0 {
+                if at >= capacity {
+                    return Err(Error::Length);
+                }
+                if capacity <= out.len() {
+                    out[at] = 128 + ((number >> shift) % 128) as u8;
+                }
+                at += 1;
+            }
+            shift -= 7;
         }
-        if capacity <= out.len() {
-            out[used] = number as u8;
-        }
-        return Ok(used + 1);
     }
-    if number < 0x4000 {
-        if capacity < 2 || used > capacity - 2 {
-            return Err(Error::Length);
-        }
-        if capacity <= out.len() {
-            out[used] = 128 + ((number >> 7) % 128) as u8;
-            out[used + 1] = (number % 128) as u8;
-        }
-        return Ok(used + 2);
-    }
-    if number < 0x20_0000 {
-        if capacity < 3 || used > capacity - 3 {
-            return Err(Error::Length);
-        }
-        if capacity <= out.len() {
-            out[used] = 128 + ((number >> 14) % 128) as u8;
-            out[used + 1] = 128 + ((number >> 7) % 128) as u8;
-            out[used + 2] = (number % 128) as u8;
-        }
-        return Ok(used + 3);
-    }
-    if number < 0x1000_0000 {
-        if capacity < 4 || used > capacity - 4 {
-            return Err(Error::Length);
-        }
-        if capacity <= out.len() {
-            out[used] = 128 + ((number >> 21) % 128) as u8;
-            out[used + 1] = 128 + ((number >> 14) % 128) as u8;
-            out[used + 2] = 128 + ((number >> 7) % 128) as u8;
-            out[used + 3] = (number % 128) as u8;
-        }
-        return Ok(used + 4);
-    }
-    if capacity < 5 || used > capacity - 5 {
+    if at >= capacity {
         return Err(Error::Length);
     }
     if capacity <= out.len() {
-        out[used] = 128 + ((number >> 28) % 128) as u8;
-        out[used + 1] = 128 + ((number >> 21) % 128) as u8;
-        out[used + 2] = 128 + ((number >> 14) % 128) as u8;
-        out[used + 3] = 128 + ((number >> 7) % 128) as u8;
-        out[used + 4] = (number % 128) as u8;
+        out[at] = (number % 128) as u8;
     }
-    Ok(used + 5)
+    Ok(at + 1)
 }
 
 /// Writes the subidentifier of a number into a slice, which is as long.

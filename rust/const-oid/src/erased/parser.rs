@@ -100,25 +100,27 @@ const fn read_piece(text: &[u8], start: usize) -> result::Result<(Arc, usize), u
     if start >= text.len() {
         return Err(start);
     }
-    // One subtraction and one comparison. There are no calls here, since each costs the compiler in a constant.
-    let mut number = (text[start] as u64).wrapping_sub(b'0' as u64);
-    if number > 9 {
+    // One subtraction and one comparison, of words of the machine. There are no calls here, since each costs the compiler
+    // in a constant.
+    let first = (text[start] as usize).wrapping_sub(b'0' as usize);
+    if first > 9 {
         return Err(start);
     }
     let mut index = start + 1;
     // The shortest component is the most frequent one.
     if index < text.len() && text[index] == b'.' {
-        return Ok((number as Arc, index));
+        return Ok((first as Arc, index));
     }
+    let mut number = first as u64;
     while index < text.len() {
-        let digit = (text[index] as u64).wrapping_sub(b'0' as u64);
+        let digit = (text[index] as usize).wrapping_sub(b'0' as usize);
         if digit > 9 {
             if text[index] != b'.' {
                 return Err(index);
             }
             break;
         }
-        number = number * 10 + digit;
+        number = number * 10 + digit as u64;
         if number > Arc::MAX as u64 {
             return Err(index);
         }

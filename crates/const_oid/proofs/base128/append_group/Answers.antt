@@ -1,63 +1,75 @@
-use Rattle.std.proofs.Common.{arith, ◌∙◌}
-use Rattle.const_oid.proofs.{Groups.small_is, Octets.{widths, group_2, group_3, group_4, group_5, set_1, set_2, set_3, set_4, set_5}}
+use Rattle.std.proofs.Common.{◌≡◌, ◌≤◌, ◌+◌, ◌-◌, ◌/◌, ◌^◌, [], refl, ◌∙◌, arith}
+use Rattle.std.proofs.Math.Nat.{div-le_self}
+use Rattle.const_oid.proofs.Leading.{IsLed, digits_above, led_on, led_past, led_to, nothing_led}
 use Rattle.const_oid.proofs.base128.append_group.Goals as goal
+use Rattle.const_oid.proofs.base128.append_group.Goals.{then-number-shift-gt0+else-at-capacity, else-number-shift-gt0}
 use Rattle.const_oid.proofs.base128.append_group.Goals.{then-capacity-out, else-capacity-out}
+use Rattle.const_oid.proofs.base128.append_group.Goals.{then-number-ge128+else-loop-shift-test, else-number-ge128}
 use Rattle.const_oid.proofs.base128.append_group.Goals.{then-capacity-out-2, else-capacity-out-2}
-use Rattle.const_oid.proofs.base128.append_group.Goals.{then-capacity-out-3, else-capacity-out-3}
-use Rattle.const_oid.proofs.base128.append_group.Goals.{then-capacity-out-4, else-capacity-out-4}
-use Rattle.const_oid.proofs.base128.append_group.Goals.{then-capacity-out-5, else-capacity-out-5}
 
-pub returns-then-number-lt128 : goal.returns-then-number-lt128
-returns-then-number-lt128 c = (
-  grind (arith, widths),
-  omega arith,
-  λ room.
-      elim c.if-capacity-out.branch [
-        | then-capacity-out w ↦ (_, small_is c.args.number (omega arith), w.out-is ∙ set_1 c.args.used c.args.out.now _ (omega arith))
-        | else-capacity-out w ↦ absurd (omega arith)
-      ],
-)
+pub loop-shift-init : goal.loop-shift-init
+loop-shift-init c =
+    let none : c.args.number / 2 ^ 35 ≡ 0 = omega arith in
+    (omega arith, refl, rw none (nothing_led c.args.capacity c.args.used c.args.out.now))
 
-pub returns-then-number-lt16384 : goal.returns-then-number-lt16384
-returns-then-number-lt16384 c = (
-  grind (arith, widths),
-  omega arith,
-  λ room.
-      elim c.if-capacity-out-2.branch [
-        | then-capacity-out-2 w ↦ (_, group_2 c.args.number (omega arith) (omega arith), w.out-is ∙ set_2 c.args.used c.args.out.now _ _ (omega arith))
-        | else-capacity-out-2 w ↦ absurd (omega arith)
-      ],
-)
+pub loop-shift-preserved : goal.loop-shift-preserved
+loop-shift-preserved c =
+    let shift = c.loop-shift.shift in
+    let led = c.loop-shift.invariant.2 in
+    let above = digits_above c.args.number shift in
+    let back : shift - 7 + 7 ≡ shift = omega arith in (
+      omega arith,
+      omega arith,
+      rw back
+          (elim c.if-number-shift-gt0.branch [
+            | then-number-shift-gt0+else-at-capacity w ↦
+                rw w.at-is
+                (led_on c.args.capacity c.args.used c.args.out.now (c.args.number / 2 ^ shift) led above w.if-number-shift-gt0.true w.if-at-capacity.false
+                (λ room.
+                elim w.if-capacity-out.branch [
+                  | then-capacity-out w' ↦ w.out-is ∙ w'.out-is
+                  | else-capacity-out w' ↦ absurd (omega arith)
+                ]))
+            | else-number-shift-gt0 w ↦
+                let same : c.args.number / 2 ^ (shift + 7) ≡ c.args.number / 2 ^ shift = omega arith in
+                rw (w.out-is, w.at-is) (rw same at led)
+          ]),
+    )
 
-pub returns-then-number-lt2097152 : goal.returns-then-number-lt2097152
-returns-then-number-lt2097152 c = (
-  grind (arith, widths),
-  omega arith,
-  λ room.
-      elim c.if-capacity-out-3.branch [
-        | then-capacity-out-3 w ↦ (_, group_3 c.args.number (omega arith) (omega arith), w.out-is ∙ set_3 c.args.used c.args.out.now _ _ _ (omega arith))
-        | else-capacity-out-3 w ↦ absurd (omega arith)
-      ],
-)
+pub returns-then-at-capacity : goal.returns-then-at-capacity
+returns-then-at-capacity c =
+    let n = c.args.number / 2 ^ c.loop-shift.shift in
+    let fewer : n ≤ c.args.number = div-le_self c.args.number (2 ^ c.loop-shift.shift) in
+    led_past c.args.capacity c.args.used c.args.out.now [] n c.args.number c.loop-shift.invariant.2
+    (digits_above c.args.number c.loop-shift.shift) fewer c.if-at-capacity.true
 
-pub returns-then-number-lt268435456 : goal.returns-then-number-lt268435456
-returns-then-number-lt268435456 c = (
-  grind (arith, widths),
-  omega arith,
-  λ room.
-      elim c.if-capacity-out-4.branch [
-        | then-capacity-out-4 w ↦ (_, group_4 c.args.number (omega arith) (omega arith), w.out-is ∙ set_4 c.args.used c.args.out.now _ _ _ _ (omega arith))
-        | else-capacity-out-4 w ↦ absurd (omega arith)
-      ],
-)
+pub returns-then-at-capacity-2 : goal.returns-then-at-capacity-2
+returns-then-at-capacity-2 c =
+    let led : IsLed c.args.capacity c.args.used (c.args.number / 128) c.args.out.now c.if-number-ge128.out c.if-number-ge128.at =
+    elim c.if-number-ge128.branch [
+      | then-number-ge128+else-loop-shift-test w ↦
+          let none : w.loop-shift.shift ≡ 0 = omega arith in
+          rw (w.out-is, w.at-is) (rw none at w.loop-shift.invariant.2)
+      | else-number-ge128 w ↦
+          let none : c.args.number / 128 ≡ 0 = omega arith in
+          rw (w.out-is, w.at-is, none) (nothing_led c.args.capacity c.args.used c.args.out.now)
+    ] in
+    led_past c.args.capacity c.args.used c.args.out.now [] c.args.number c.args.number led refl (omega arith) c.if-at-capacity-2.true
 
 pub returns : goal.returns
-returns c = (
-  grind (arith, widths),
-  omega arith,
-  λ room.
-      elim c.if-capacity-out-5.branch [
-        | then-capacity-out-5 w ↦ (_, group_5 c.args.number (omega arith) c.requires, w.out-is ∙ set_5 c.args.used c.args.out.now _ _ _ _ _ (omega arith))
-        | else-capacity-out-5 w ↦ absurd (omega arith)
-      ],
-)
+returns c =
+    let led : IsLed c.args.capacity c.args.used (c.args.number / 128) c.args.out.now c.if-number-ge128.out c.if-number-ge128.at =
+    elim c.if-number-ge128.branch [
+      | then-number-ge128+else-loop-shift-test w ↦
+          let none : w.loop-shift.shift ≡ 0 = omega arith in
+          rw (w.out-is, w.at-is) (rw none at w.loop-shift.invariant.2)
+      | else-number-ge128 w ↦
+          let none : c.args.number / 128 ≡ 0 = omega arith in
+          rw (w.out-is, w.at-is, none) (nothing_led c.args.capacity c.args.used c.args.out.now)
+    ] in
+    led_to c.args.capacity c.args.used c.args.out.now c.args.number led refl c.if-at-capacity-2.false
+    (λ room.
+    elim c.if-capacity-out-2.branch [
+      | then-capacity-out-2 w ↦ w.out-is
+      | else-capacity-out-2 w ↦ absurd (omega arith)
+    ])
