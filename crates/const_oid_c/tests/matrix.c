@@ -542,8 +542,8 @@ static void map(pages *to, int bits) {
 static void map_equal_items(void) {
     enum { CHUNK = 1 << 24 };
     static pages all;
-    map(&all, 36);
     int file = memfd_create("items", 0);
+    if (has(list_pages.len, cuts[CUTS - 1], sizeof(const_oid_octets))) map(&all, 36);
     if (!has(all.len, cuts[CUTS - 1], sizeof(const_oid_octets)) || file < 0 || ftruncate(file, CHUNK) != 0) return;
     for (uint64_t at = 0; at < UINT64_C(1) << 36; at += CHUNK) {
         void *start = mmap(all.start + at, CHUNK, PROT_READ | PROT_WRITE, MAP_SHARED | MAP_FIXED, file, 0);
