@@ -33,6 +33,7 @@ pub struct Status {
 }
 
 #[repr(C)]
+#[derive(Clone, Copy)]
 pub struct Octets {
     pub octets: *const u8,
     pub len: usize,
