@@ -4622,16 +4622,15 @@ static __inline int const_oid_cmp_names(const char *left, const char *right) {
 /* The index of the first entry of the table that has a name, which is null-terminated, whatever the case of its
  * ASCII letters. CONST_OID_NAMES_COUNT if there is none. */
 static __inline size_t const_oid_by_name(const char *name) {
-    size_t first = 0, end = CONST_OID_NAMES_COUNT;
-    while (first < end) {
-        size_t middle = (first + end) / 2;
+    size_t first = 0, last = CONST_OID_NAMES_COUNT - 1;
+    while (first < last) {
+        size_t middle = (first + last) / 2;
         if (const_oid_cmp_names(const_oid_names[const_oid_names_by_name[middle]], name) < 0) {
             first = middle + 1;
         } else {
-            end = middle;
+            last = middle;
         }
     }
-    if (first == CONST_OID_NAMES_COUNT) return first;
     first = const_oid_names_by_name[first];
     return const_oid_cmp_names(const_oid_names[first], name) == 0 ? first : CONST_OID_NAMES_COUNT;
 }
