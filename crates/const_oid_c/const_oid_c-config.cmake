@@ -1,5 +1,5 @@
-# find_package(const_oid_c CONFIG): the targets const_oid_c::static and const_oid_c::shared, which are also its components.
-# The files are found from where this one is, so that the whole prefix may be moved.
+# find_package(const_oid_c CONFIG): the components static and shared, as targets const_oid_c::static and
+# const_oid_c::shared. The files are found from where this one is, so that the whole prefix may be moved.
 get_filename_component(const_oid_c_PREFIX "${CMAKE_CURRENT_LIST_DIR}/../../.." ABSOLUTE)
 if(NOT TARGET const_oid_c::static)
     add_library(const_oid_c::static STATIC IMPORTED)
