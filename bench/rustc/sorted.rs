@@ -1,10 +1,11 @@
 //! sorted SIDE ROW COUNT TIMES: a function of the library for C, or that of the cargo crate's SortedDatabase, so many
-//! times over COUNT identifiers of 8 arcs in lexicographic order. SIDE is c or crate. The script `sorted` counts
-//! its instructions, the loop included. Both sides print the same sum of what they found.
+//! times over COUNT identifiers of 8 arcs in lexicographic order. The row `sort` sorts them, in C by qsort. SIDE is c or
+//! crate. The script `sorted` counts its instructions, the loop included. Both sides print the same sum of what they
+//! found.
 
 use calls::*;
 use const_oid::db::SortedDatabase;
-use const_oid::{ObjectIdentifier, ObjectIdentifierRef};
+use const_oid::{ByArcs, ObjectIdentifier, ObjectIdentifierRef};
 use std::hint::black_box;
 
 #[allow(dead_code)]
@@ -12,6 +13,12 @@ use std::hint::black_box;
 mod calls;
 
 type Search = unsafe extern "C" fn(*const u8, usize, *const Octets, usize) -> Status;
+
+type Order = unsafe extern "C" fn(*const Octets, *const Octets) -> i32;
+
+unsafe extern "C" {
+    fn qsort(items: *mut Octets, count: usize, size: usize, order: Order);
+}
 
 /// What a search returns that finds nothing.
 const NOTHING: usize = usize::MAX;
@@ -57,6 +64,34 @@ fn check(items: &[Octets]) -> usize {
     usize::from(unsafe { const_oid_check_sorted(items.as_ptr(), items.len()) }.code == 0)
 }
 
+/// Items in another order. 7919 is a prime that does not divide their number, so each is there once.
+fn scattered<T: Copy>(items: &[T]) -> Vec<T> {
+    (0..items.len())
+        .map(|index| items[index * 7919 % items.len()])
+        .collect()
+}
+
+/// Sorts scattered items, and returns the sum of each last octet by its index.
+fn sort(items: &[Octets]) -> usize {
+    let mut items = scattered(items);
+    // SAFETY: as above.
+    unsafe {
+        qsort(
+            items.as_mut_ptr(),
+            items.len(),
+            size_of::<Octets>(),
+            const_oid_by_arcs,
+        )
+    };
+    // SAFETY: as above.
+    let last = |item: &Octets| usize::from(unsafe { *item.octets.add(item.len - 1) });
+    items
+        .iter()
+        .enumerate()
+        .map(|(index, item)| index * last(item))
+        .sum()
+}
+
 fn in_c(row: &str, oids: &[ObjectIdentifier], times: usize) -> usize {
     let octets_of = |oid: &ObjectIdentifier| Octets {
         octets: oid.as_bytes().as_ptr(),
@@ -69,6 +104,7 @@ fn in_c(row: &str, oids: &[ObjectIdentifier], times: usize) -> usize {
         "nearest" => |key, items| search(const_oid_nearest, key, items),
         "subtree" => subtree,
         "check" => |_, items| check(items),
+        "sort" => |_, items| sort(items),
         _ => panic!("no such row"),
     };
     let keys = keys(row, oids);
@@ -78,6 +114,16 @@ fn in_c(row: &str, oids: &[ObjectIdentifier], times: usize) -> usize {
         sum = sum.wrapping_add(call(key, black_box(&items)));
     }
     sum
+}
+
+fn sort_by_key(oids: &[&ObjectIdentifierRef]) -> usize {
+    let mut oids = scattered(oids);
+    oids.sort_by_key(|oid| ByArcs(*oid));
+    let last = |oid: &ObjectIdentifierRef| usize::from(*oid.as_bytes().last().unwrap());
+    oids.iter()
+        .enumerate()
+        .map(|(index, oid)| index * last(oid))
+        .sum()
 }
 
 fn in_crate(row: &str, oids: &[ObjectIdentifier], times: usize) -> usize {
@@ -90,6 +136,7 @@ fn in_crate(row: &str, oids: &[ObjectIdentifier], times: usize) -> usize {
         .collect();
     let sorted = SortedDatabase::try_new(&entries).unwrap();
     let keys = keys(row, oids);
+    let borrowed: Vec<&ObjectIdentifierRef> = oids.iter().map(|oid| oid.as_oid_ref()).collect();
     let at = |entry: Option<&(&ObjectIdentifierRef, &str)>| {
         entry.map_or(NOTHING, |entry| {
             (std::ptr::from_ref(entry).addr() - entries.as_ptr().addr()) / size_of_val(entry)
@@ -105,6 +152,7 @@ fn in_crate(row: &str, oids: &[ObjectIdentifier], times: usize) -> usize {
             "nearest" => at(sorted.nearest(key)),
             "subtree" => sorted.subtree(key).len(),
             "check" => usize::from(SortedDatabase::try_new(black_box(&entries)).is_some()),
+            "sort" => sort_by_key(black_box(&borrowed)),
             _ => panic!("no such row"),
         });
     }

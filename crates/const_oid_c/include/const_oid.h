@@ -1,6 +1,6 @@
 /* Object identifiers (ITU-T X.660) for C99 and C++: dotted-decimal text, arcs, and the contents octets
- * of BER and DER (ITU-T X.690 section 8.19), without tag and length. In the source, which is in Rattle, each function is
- * proved to return what its comment says. The Rattle toolchain builds the library from this source.
+ * of BER and DER (ITU-T X.690 section 8.19), without tag and length. In the source, which is in Rattle, each function
+ * is proved to return what its comment says. The Rattle toolchain builds the library from this source.
  * cargo builds it from Rust that is generated from it, and from code for pointers that is written by
  * hand: that build is tested, not proved.
  *
@@ -25,10 +25,10 @@
  * - Octets. They follow the tag and the length, and no function removes these. A complete
  *   06 09 2A 86 .. is no error: it is read as 0.6.9.42...
  *
- * What a function returns: a number if it is const_oid_version or const_oid_by_arcs, and otherwise a status,
- * by value. Code 0 is success. With any other code it wrote
- * nothing, and the output is unchanged, bit for bit. Items of the output after the first `len` are
- * always unchanged. The comments of const_oid_status say what its fields hold.
+ * What a function returns: a number from const_oid_version and const_oid_by_arcs, and otherwise a status, by
+ * value. Code 0 is success. With any other code it wrote nothing, and the output is unchanged, bit for
+ * bit. Items of the output after the first `len` are always unchanged. The comments of const_oid_status say
+ * what its fields hold.
  *
  * A function that is given invalid octets returns the first of these codes that applies:
  *
@@ -222,11 +222,14 @@ const_oid_status const_oid_cmp_arcs(
 const_oid_status const_oid_cmp_owned(
     const uint8_t *left, size_t left_len, const uint8_t *right, size_t right_len);
 
-/* Compares two items of a list, as qsort and bsearch do: both point to a const_oid_octets. The result is below 0, 0
- * or above 0. Of valid items it is the order of const_oid_cmp_arcs. It checks neither item, and is a total
- * order of any: the octets are cut after each one below 0x80, and what this gives is compared in lexicographic order,
- * a longer part as the greater one, and equally long ones by their octets. Only equal octets compare as
- * equal. A list that is sorted by this order is accepted by const_oid_check_sorted exactly if each item is valid. */
+/* Compares two items of a list for qsort and bsearch: each pointer is to a const_oid_octets. Returns -1 if the
+ * first comes before the second, 0 if they are equal, and 1 if it comes after. std::sort takes
+ * `const_oid_by_arcs(&left, &right) < 0`.
+ *
+ * The order of valid items is that of const_oid_cmp_arcs. Items are not checked, and the order of any items is
+ * total. Their octets are cut after each octet below 0x80, and these parts are compared in lexicographic order: a
+ * longer part is greater, and parts of one length are compared by their octets. Only equal octets are
+ * equal. After sorting by this order, const_oid_check_sorted accepts the list exactly if all items are valid. */
 int const_oid_by_arcs(const void *left, const void *right);
 
 /* Checks a list, which is an array of identifiers, for the functions below: each item is valid, of any

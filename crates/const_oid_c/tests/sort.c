@@ -20,6 +20,10 @@ static void after_wrong(void) {
     munmap(nowhere, 1);
 }
 
+static int of_items(const const_oid_octets *a, const const_oid_octets *b) {
+    return by_parts(a->octets, a->len, b->octets, b->len);
+}
+
 enum { DIGITS = 5, LONGEST = 4, ANY = 1 + 5 + 25 + 125 + 625 };
 
 static uint8_t any_octets[ANY][12 + LONGEST];
@@ -44,7 +48,7 @@ static void any_order(size_t shared) {
     fill_any(shared);
     for (size_t i = 0; i < ANY; i++)
         for (size_t k = 0; k < ANY; k++)
-            SEE(const_oid_by_arcs(&any[i], &any[k]) == by_parts(any[i].octets, any[i].len, any[k].octets, any[k].len), i);
+            SEE(const_oid_by_arcs(&any[i], &any[k]) == of_items(&any[i], &any[k]), i);
 }
 
 /* Invalid items are sorted, too, and one is found again. Sorted valid items are accepted. */
@@ -55,7 +59,7 @@ static void sorted_any(void) {
     SEE(const_oid_check_sorted(any, ANY).code == CONST_OID_EMPTY, 0);
     for (size_t i = 0; i < ANY; i++) {
         const const_oid_octets item = any[i];
-        SEE(i == 0 || by_parts(any[i - 1].octets, any[i - 1].len, item.octets, item.len) < 0, i);
+        SEE(i == 0 || of_items(&any[i - 1], &item) < 0, i);
         SEE(bsearch(&item, any, ANY, sizeof *any, const_oid_by_arcs) == &any[i], i);
     }
     for (size_t i = 0; i < ANY; i++)
