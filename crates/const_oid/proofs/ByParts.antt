@@ -2,10 +2,12 @@
 use Rattle.std.proofs.Common.{◌≡◌, ◌≢◌, ℕ, suc, ◌<◌, ◌≤◌, List, [], ◌∷◌, ◌++◌, length, min, take, drop, refl, sym, ap}
 use Rattle.std.proofs.Common.{◌∙◌, ⊎_elim, arith, Less, Equal, Greater, nat_cmp, length-append, Some, rules}
 use Rattle.std.specs.{Prelude.{◌↔◌, slice_get}, List.{AllZip, onto_first, concat}, Ordering.{ordering_then, is_eq}}
-use Rattle.std.specs.{Cmp.Lexicographic.{slice_cmp, nat_list_cmp_total, lists_total, texts_ties, same_text}, Cmp.{IsTotalOrder, nat_cmp_is, on_total}}
+use Rattle.std.specs.Cmp.Lexicographic.{slice_cmp, nat_list_cmp_total, lists_total, texts_ties, same_text}
+use Rattle.std.specs.Cmp.{IsTotalOrder, nat_cmp_is, on_total}
 use Rattle.std.proofs.lemmas.{Bool.cases_lt, Cmp.tied_itself, List.{length-drop, take-append-drop}, Grind.common_steps}
 use Rattle.std.proofs.lemmas.Bool.Decides.{nat_tests}
-use Rattle.const_oid.specs.{Base128.IsGroup, Contents.cut, Orders.{shortlex_cmp, shortlex_cmp_total, shortlex_cmp_ties, parts_cmp}}
+use Rattle.const_oid.specs.{Base128.IsGroup, Contents.cut}
+use Rattle.const_oid.specs.Orders.{shortlex_cmp, shortlex_cmp_total, shortlex_cmp_ties, parts_cmp}
 use Rattle.const_oid.specs.{Identifier.{RootRule, IsIdentifier, IsEncoding, subidentifiers}, Tree.BeginsWith}
 use Rattle.const_oid.proofs.{BeginsWith.{before_more, between}, Cutting.{cut_after-last, cut_after-more, concat-cut}}
 use Rattle.const_oid.proofs.Encodings.{cut_encoding, same_arcs, same_octets}
