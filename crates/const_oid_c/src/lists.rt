@@ -53,8 +53,8 @@ pub struct Range {
     pub end: usize,
 }
 
-/// Checks that each item of a list is an identifier, and that none comes before the previous one. So it is if all are and
-/// the list was sorted by `const_oid_by_arcs`.
+/// Checks that each item of a list is an identifier, and that none comes before the previous one: so in each list of
+/// identifiers that `const_oid_by_arcs` has sorted.
 #[unsafe(no_mangle)]
 pub extern "C" fn const_oid_check_sorted(items: &[Octets<'_>]) -> Status
     ensures status { result ≡ list_status items.now }

@@ -53,8 +53,8 @@ pub fn const_oid_cmp_owned(left: &[u8], right: &[u8]) -> Status {
     }
 }
 
-/// Compares two items of a list by their arcs, lexicographically: -1, 0 or 1, as `qsort` asks for. A prefix comes first.
-/// Of octets that are not valid it is the order of their parts, so it is total over any items.
+/// Compares two items of a list by their arcs, lexicographically, as `qsort` asks for: -1, 0 or 1. A prefix comes
+/// first. Of octets that are not valid it is the order of their parts, so it is total over any items.
 pub fn const_oid_by_arcs(left: &Octets<'_>, right: &Octets<'_>) -> i32 {
     order_number(order_of(left.contents(), right.contents()))
 }
