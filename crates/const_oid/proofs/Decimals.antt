@@ -37,6 +37,11 @@ decimal_lengths n h =
     let is = λ (k : ℕ). length_between k n in
     grind (arith, nat_tests, length_digit n, is 1, is 2, is 3, is 4, is 5, is 6, is 7, is 8, is 9)
 
+-- the last digit before other bytes
+pub decimal-last : (n : ℕ) (bytes : List ℕ) → 10 ≤ n → n < 2 ^ 64
+    → decimal n ++ bytes ≡ decimal (n / 10) ++ (48 + n % 10) ∷ bytes
+decimal-last n bytes low high = ap (λ l. l ++ bytes) (decimal_step n low high) ∙ append-cons _ _ bytes
+
 -- one digit put into bytes
 pub ruleset digit_put = (take_more_set, drop-set-lt)
 
@@ -83,4 +88,4 @@ drop_more n m xs ys h e = let f : n + (m - n) ≡ m = omega arith in rw (drop-dr
 pub ruleset few_digits = (decimal_digit, decimal_two, decimal_three, decimal_four, drop_more, append-cons)
 
 -- five digits or more
-pub ruleset many_digits = (decimal_many, length_many, drop_more, append_assoc)
+pub ruleset many_digits = (decimal_digit, length_digit, decimal_many, length_many, drop_more, append_assoc)

@@ -67,5 +67,15 @@ two_texts first second later small =
     let rest = ap (λ l. (48 + first) ∷ l) (text_left-cons false second later) in
     sym (text_left-cons true first (second ∷ later) ∙ rw (decimal_digit first small) rest)
 
+-- an arc, written after other text
+pub arc_written : (before begun piece : List ℕ) (arc : ℕ) (arcs : List ℕ) → piece ≡ begun ++ arc_text false arc
+    → (before ++ piece) ++ text_left false arcs ≡ (before ++ begun) ++ text_left false (arc ∷ arcs)
+arc_written before begun piece arc arcs is =
+    let added = arc_text false arc in
+    let left = text_left false arcs in
+    ap (λ p. (before ++ p) ++ left) is ∙ append_assoc before (begun ++ added) left
+    ∙ ap (λ l. before ++ l) (append_assoc begun added left) ∙ sym (append_assoc before begun (added ++ left))
+    ∙ ap (λ l. (before ++ begun) ++ l) (sym (text_left-cons false arc arcs))
+
 -- a pass over octets
 pub ruleset printed_pass = (arc_printed, parts_at, text_left-cons, text_left-nil, append_assoc, append-nil)

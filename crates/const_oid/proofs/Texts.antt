@@ -1,6 +1,6 @@
 -- Texts: what is printed is read back, and texts have no fault exactly where they denote arcs that fit.
 use Rattle.std.proofs.Common.{◌≡◌, ℕ, ◌+◌, ◌≤◌, false, List, [], ◌∷◌, ◌++◌, length, map, None, refl, sym, ap, ◌∙◌}
-use Rattle.std.proofs.Common.{arith, decimal, ◌==◌, append-nil, Bool, true, take, length-append, rules}
+use Rattle.std.proofs.Common.{arith, decimal, ◌==◌, append-nil, Bool, true, length-append, rules}
 use Rattle.std.specs.{List.{AllByRecursion, join_with_byte}, Prelude.Ok, Str.IsAscii}
 use Rattle.std.proofs.lemmas.{Str.IsAscii-append, List.Splits.{slice_split_at, slice_split_none}}
 use Rattle.std.proofs.lemmas.Bool.Decides.{nat_tests}
@@ -161,7 +161,3 @@ texts_ascii is_first (arc ∷ arcs) h =
 
 pub text_ascii : (rule : RootRule) (arcs : List ℕ) → IsIdentifier rule arcs → IsAscii (text_of arcs)
 text_ascii rule arcs i = texts_ascii true arcs (arcs_small rule arcs i)
-
--- the first two arcs take no more than all
-pub root_within : (arcs : List ℕ) → length (text_of (take 2 arcs)) ≤ length (text_of arcs)
-root_within arcs = grind (arith, length-append)

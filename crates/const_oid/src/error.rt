@@ -4,7 +4,7 @@ ghost use Rattle.std.specs.Str.{IsUtf8};
 ghost use Rattle.const_oid.specs.Text.{ReturnsLength, ReturnsText, WritesText};
 
 use crate::Arc;
-use crate::digits::{arc_len, write_arc};
+use crate::digits::{MAX_DIGITS, arc_len, write_last_digits};
 use crate::text::{utf8, write_bytes};
 use std::fmt;
 
@@ -93,7 +93,7 @@ impl Error {
         ensures enough { 47 ≤ length out.old → IsSome result }
     {
         let len = self.encode_text(out)?;
-        Some(utf8(&out[..len]))
+        Some(utf8(out, len))
     }
 
     /// The words before the number that the error carries, and those after it.
@@ -138,7 +138,11 @@ impl Error {
         ensures utf8 { IsUtf8 (detail_text self) }
     {
         match self {
-            Error::ArcInvalid { arc } => write_arc(arc, true, out, at),
+            Error::ArcInvalid { arc } => {
+                let mut digits = [0; MAX_DIGITS];
+                let start = write_last_digits(arc, &mut digits);
+                write_bytes(&digits[start..], out, at)
+            }
             Error::DigitExpected { actual } => {
                 let mut bytes = [0; 4];
                 let character = char::from(actual).encode_utf8(&mut bytes);
@@ -161,7 +165,8 @@ impl fmt::Display for Error {
         let mut out = [0; MAX_TEXT_LEN];
         match self.encode_str(&mut out) {
             Some(text) => f.write_str(text),
-            None => unreachable!(),
+            // Not reached. So the compiler makes no panic here.
+            None => Err(fmt::Error),
         }
     }
 }

@@ -14,6 +14,7 @@ ghost use Rattle.const_oid.specs.Text.{bytes_answer, size_answer, text_answer, t
 
 use crate::Arc;
 use crate::arcs::{Arcs, arc_at};
+use crate::base128::read_group;
 use crate::compare::{are_equal, begins_with, order, order_by_parts};
 use crate::digits::{MAX_ARC_LEN, write_arc};
 use crate::encoder::encode_to;
@@ -21,6 +22,7 @@ use crate::error::{Error, Result};
 use crate::oid::ObjectIdentifier;
 use crate::parser::parse_long;
 use crate::parts::{count_parts, without_last_part};
+use crate::root::split_root;
 use crate::text::{text_len, utf8, write_checked, write_text};
 use crate::valid::check;
 use std::cmp::Ordering;
@@ -140,7 +142,7 @@ impl<'a> ObjectIdentifierRef<'a> {
         ensures enough { 4 * length (ref_octets self.now) ≤ length out.old → IsSome result }
     {
         let len = self.encode_text(out)?;
-        Some(utf8(&out[..len]))
+        Some(utf8(out, len))
     }
 
     /// Decodes contents octets as [`from_bytes`](Self::from_bytes) does, writes their text to the start of `out` in the
@@ -304,31 +306,37 @@ impl<'a> ObjectIdentifierRef<'a> {
         (from, from + inside)
     }
 
-    /// Writes the text in pieces. It is apart from `fmt`, which then saves fewer registers.
-    #[cold]
-    #[inline(never)]
+    /// Writes the text: in one piece, unless it is long.
+    #[inline]
     fn write_pieces<W: fmt::Write>(&self, f: &mut fmt::Formatter<W>) -> fmt::Result
         ensures { WritesStyledOnOk W.write_str_gives f.old result (text_of (ref_arcs self.now)) f.new }
     {
         let mut text = [0; PIECE_LEN];
-        let mut at = 0;
-        let mut is_first = true;
-        for arc in self.arcs() {
+        let (root, mut rest) = read_group(self.ber);
+        let (first, mut arc) = split_root(root);
+        text[0] = b'0' + first as u8;
+        let mut at = 1;
+        // An arc is written at one place, which takes the most code.
+        loop {
+            at = write_arc(arc, false, &mut text, at);
+            if rest.is_empty() {
+                return f.write_str(utf8(&text, at));
+            }
             if at > PIECE_LEN - MAX_ARC_LEN {
-                f.write_str(utf8(&text[..at]))?;
+                f.write_str(utf8(&text, at))?;
                 at = 0;
             }
-            at = write_arc(arc, is_first, &mut text, at);
-            is_first = false;
+            let (number, after) = read_group(rest);
+            arc = number as Arc;
+            rest = after;
         }
-        f.write_str(utf8(&text[..at]))
     }
 }
 
-/// The most octets whose text `{}` writes at once.
+/// The text of so many octets is always written at once.
 const PIECE: usize = 40;
 
-/// The most bytes of that text, and of an arc.
+/// The most bytes of that text, and of one more arc.
 const PIECE_LEN: usize = 4 * PIECE + MAX_ARC_LEN;
 
 /// The arcs in decimal, joined by dots, whatever the options.
@@ -340,15 +348,7 @@ impl fmt::Display for ObjectIdentifierRef<'_> {
     ghost styled_output = { λ oid _. Some (text_of (ref_arcs oid)) };
 
     fn fmt<W: fmt::Write>(&self, f: &mut fmt::Formatter<W>) -> fmt::Result {
-        if self.ber.len() > PIECE {
-            return self.write_pieces(f);
-        }
-        let mut text = [0; PIECE_LEN];
-        match write_checked(self.ber, &mut text) {
-            Ok(len) if len <= PIECE_LEN => f.write_str(utf8(&text[..len])),
-            // Not reached. So the compiler makes no panic here.
-            _ => Err(fmt::Error),
-        }
+        self.write_pieces(f)
     }
 }
 

@@ -37,17 +37,18 @@ pub(crate) fn text_len(arcs: Arcs<'_>, limit: usize) -> Option<usize>
 }
 
 /// Writes the arcs' text at the start, and returns its length.
-#[tactic(auto, using(crate::proofs::Texts::root_within))]
+#[tactic(auto, using(crate::proofs::Sets::texts_left))]
 #[inline]
 pub(crate) fn write_text(arcs: Arcs<'_>, out: &mut [u8]) -> usize
     requires { length (text_of arcs) ≤ length out.old }
     ensures len { result ≡ length (text_of arcs.entry) }
     ensures written { out.new ≡ text_of arcs.entry ++ drop result out.old }
 {
-    let mut left = arcs;
-    let mut at = write_root(&mut left, out);
-    for arc in left {
-        at = write_arc(arc, false, out, at);
+    let mut at = 0;
+    let mut is_first = true;
+    for arc in arcs {
+        at = write_arc(arc, is_first, out, at);
+        is_first = false;
     }
     at
 }
@@ -118,25 +119,6 @@ fn write_first_later(arc: Arc, out: &mut [u8]) -> usize
     write_arc(arc, false, &mut out[..MAX_ARC_LEN], 0)
 }
 
-/// Takes the first two arcs, writes them at the start, and returns the length.
-#[inline(always)]
-#[tactic(auto, using(crate::proofs::Decimals::drop_more))]
-fn write_root(arcs: &mut Arcs<'_>, out: &mut [u8]) -> usize
-    requires { length (text_of (take 2 arcs.old)) ≤ length out.old }
-    ensures within { result ≤ length out.new }
-    ensures prefix { take result out.new ++ text_left false arcs.new ≡ text_of arcs.old }
-    ensures after { drop result out.new ≡ drop result out.old }
-{
-    let Some(first) = arcs.next() else {
-        return 0;
-    };
-    let at = write_arc(first, true, out, 0);
-    let Some(second) = arcs.next() else {
-        return at;
-    };
-    write_arc(second, false, out, at)
-}
-
 /// Writes bytes at an index, and returns the index after them.
 #[tactic(auto, using(crate::proofs::Sets::bytes_put))]
 #[inline]
@@ -147,16 +129,22 @@ pub(crate) fn write_bytes(bytes: &[u8], out: &mut [u8], at: usize) -> usize
     ensures after { drop result out.new ≡ drop result out.old }
 {
     let end = at + bytes.len();
-    out[at..end].copy_from_slice(bytes);
+    // This always holds. rustc does not know it, and would make panics.
+    if at <= end && end <= out.len() {
+        out[at..end].copy_from_slice(bytes);
+    }
     end
 }
 
-/// The text of bytes that are UTF-8.
+/// The text of the first bytes, which are UTF-8.
 #[inline]
-pub(crate) fn utf8(bytes: &[u8]) -> &str
-    requires { IsUtf8 bytes.now }
-    ensures { result.now ≡ bytes.now }
+pub(crate) fn utf8(bytes: &[u8], len: usize) -> &str
+    requires within { len ≤ length bytes.now }
+    requires utf8 { IsUtf8 (take len bytes.now) }
+    ensures { result.now ≡ take len bytes.now }
 {
+    // The lesser one is always `len`. rustc does not know it, and would make a panic.
+    let text = &bytes[..len.min(bytes.len())];
     // SAFETY: each call is proved to pass UTF-8, so the bytes are not looked at again.
-    unsafe { str::from_utf8_unchecked(bytes) }
+    unsafe { str::from_utf8_unchecked(text) }
 }

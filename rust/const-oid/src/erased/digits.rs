@@ -3,9 +3,13 @@
 //! Arcs in decimal, written into bytes.
 
 use crate::erased::Arc;
+use crate::erased::text::write_bytes;
 
 /// The most bytes that an arc takes in a text: a dot, and ten digits.
 pub(crate) const MAX_ARC_LEN: usize = 11;
+
+/// The most digits of an arc.
+pub(crate) const MAX_DIGITS: usize = 10;
 
 /// How many bytes an arc takes in a text: its digits, and a dot before them unless it is the first.
 #[inline]
@@ -17,13 +21,12 @@ pub(crate) fn arc_len(arc: Arc, is_first: bool) -> usize {
 /// Writes an arc at an index, after a dot unless it is the first, and returns the index after it.
 #[inline(always)]
 pub(crate) fn write_arc(arc: Arc, is_first: bool, out: &mut [u8], at: usize) -> usize {
-    if is_first {
-        return write_digits(arc, out, at);
-    }
-    if at < out.len() {
-        out[at] = b'.';
-    }
-    write_digits(arc, out, at + 1)
+    let start = if is_first {
+        at
+    } else {
+        write_bytes(b".", out, at)
+    };
+    write_digits(arc, out, start)
 }
 
 /// How many digits an arc has.
@@ -50,6 +53,10 @@ fn count_digits(arc: Arc) -> usize {
 /// digit is written into its place.
 #[inline(always)]
 fn write_digits(arc: Arc, out: &mut [u8], at: usize) -> usize {
+    // One digit is the most frequent number of them.
+    if arc < 10 {
+        return write_one(arc, out, at);
+    }
     if arc < 10_000 {
         return write_few(arc, out, at);
     }
@@ -63,7 +70,7 @@ fn write_digits(arc: Arc, out: &mut [u8], at: usize) -> usize {
     write_four(arc % 10_000, out, at)
 }
 
-/// Writes the digits of a number, of which there are no more than four. The fewest are the most frequent.
+/// Writes the digits of a number, of which there are no more than four.
 #[inline]
 fn write_few(number: u32, out: &mut [u8], at: usize) -> usize {
     if number < 10 {
@@ -90,12 +97,7 @@ fn write_four(number: u32, out: &mut [u8], at: usize) -> usize {
 #[inline]
 fn write_two(number: u32, out: &mut [u8], at: usize) -> usize {
     let pair = 2 * number as usize;
-    let (tens, ones) = (PAIRS[pair], PAIRS[pair + 1]);
-    // The length of this part is a literal, so rustc checks once, and stores both digits at once.
-    let digits = &mut out[at..at + 2];
-    digits[0] = tens;
-    digits[1] = ones;
-    at + 2
+    write_bytes(&PAIRS[pair..pair + 2], out, at)
 }
 
 /// Writes a digit.
@@ -105,6 +107,23 @@ fn write_one(number: u32, out: &mut [u8], at: usize) -> usize {
         out[at] = b'0' + number as u8;
     }
     at + 1
+}
+
+/// Writes the digits of an arc at the end of an array, and returns the index of the first. It is less code than
+/// [`write_arc`], and takes more time.
+#[inline]
+pub(crate) fn write_last_digits(arc: Arc, out: &mut [u8; MAX_DIGITS]) -> usize {
+    let mut at = MAX_DIGITS;
+    let mut rest = arc;
+    while at > 0 {
+        at -= 1;
+        out[at] = b'0' + (rest % 10) as u8;
+        rest /= 10;
+        if rest == 0 {
+            return at;
+        }
+    }
+    at
 }
 
 /// The two digits of each number below a hundred, one after another.

@@ -3,7 +3,7 @@
 //! The errors of this crate.
 
 use crate::erased::Arc;
-use crate::erased::digits::{arc_len, write_arc};
+use crate::erased::digits::{MAX_DIGITS, arc_len, write_last_digits};
 use crate::erased::text::{utf8, write_bytes};
 use core::fmt;
 
@@ -120,7 +120,7 @@ impl Error {
     #[inline]
     pub fn encode_str<'o>(self, out: &'o mut [u8]) -> Option<&'o str> {
         let len = self.encode_text(out)?;
-        Some(utf8(&out[..len]))
+        Some(utf8(out, len))
     }
 
     /// The words before the number that the error carries, and those after it.
@@ -153,7 +153,11 @@ impl Error {
     #[inline(always)]
     fn write_detail(self, out: &mut [u8], at: usize) -> usize {
         match self {
-            Error::ArcInvalid { arc } => write_arc(arc, true, out, at),
+            Error::ArcInvalid { arc } => {
+                let mut digits = [0; MAX_DIGITS];
+                let start = write_last_digits(arc, &mut digits);
+                write_bytes(&digits[start..], out, at)
+            }
             Error::DigitExpected { actual } => {
                 let mut bytes = [0; 4];
                 let character = char::from(actual).encode_utf8(&mut bytes);
@@ -170,7 +174,8 @@ impl fmt::Display for Error {
         let mut out = [0; MAX_TEXT_LEN];
         match self.encode_str(&mut out) {
             Some(text) => f.write_str(text),
-            None => unreachable!(),
+            // Not reached. So the compiler makes no panic here.
+            None => Err(fmt::Error),
         }
     }
 }

@@ -29,10 +29,11 @@ pub(crate) fn text_len(arcs: Arcs<'_>, limit: usize) -> Option<usize> {
 /// Writes the arcs' text at the start, and returns its length.
 #[inline]
 pub(crate) fn write_text(arcs: Arcs<'_>, out: &mut [u8]) -> usize {
-    let mut left = arcs;
-    let mut at = write_root(&mut left, out);
-    for arc in left {
-        at = write_arc(arc, false, out, at);
+    let mut at = 0;
+    let mut is_first = true;
+    for arc in arcs {
+        at = write_arc(arc, is_first, out, at);
+        is_first = false;
     }
     at
 }
@@ -81,31 +82,23 @@ fn write_first_later(arc: Arc, out: &mut [u8]) -> usize {
     write_arc(arc, false, &mut out[..MAX_ARC_LEN], 0)
 }
 
-/// Takes the first two arcs, writes them at the start, and returns the length.
-#[inline(always)]
-fn write_root(arcs: &mut Arcs<'_>, out: &mut [u8]) -> usize {
-    let Some(first) = arcs.next() else {
-        return 0;
-    };
-    let at = write_arc(first, true, out, 0);
-    let Some(second) = arcs.next() else {
-        return at;
-    };
-    write_arc(second, false, out, at)
-}
-
 /// Writes bytes at an index, and returns the index after them.
 #[inline]
 pub(crate) fn write_bytes(bytes: &[u8], out: &mut [u8], at: usize) -> usize {
     let end = at + bytes.len();
-    out[at..end].copy_from_slice(bytes);
+    // This always holds. rustc does not know it, and would make panics.
+    if at <= end && end <= out.len() {
+        out[at..end].copy_from_slice(bytes);
+    }
     end
 }
 
-/// The text of bytes that are UTF-8.
+/// The text of the first bytes, which are UTF-8.
 #[inline]
 #[allow(unsafe_code)]
-pub(crate) fn utf8(bytes: &[u8]) -> &str {
+pub(crate) fn utf8(bytes: &[u8], len: usize) -> &str {
+    // The lesser one is always `len`. rustc does not know it, and would make a panic.
+    let text = &bytes[..len.min(bytes.len())];
     // SAFETY: each call is proved to pass UTF-8, so the bytes are not looked at again.
-    unsafe { str::from_utf8_unchecked(bytes) }
+    unsafe { str::from_utf8_unchecked(text) }
 }

@@ -1,4 +1,4 @@
-use Rattle.std.proofs.Common.{false, ◌∙◌, arith, append_assoc}
+use Rattle.std.proofs.Common.{◌∙◌, arith, append_assoc}
 use Rattle.std.proofs.lemmas.Grind.{common_steps}
 use Rattle.const_oid.proofs.{Decimals.drop_more, Texts.text_left-cons}
 use Rattle.const_oid.proofs.text.write_text.Goals as goal
@@ -9,7 +9,7 @@ loop-arc-preserved c =
     let w = c.write_arc-at.ensures in
     let text = rw c.in-Some.ensures.steps at l.invariant.text in
     record {
-      text = rw (w.prefix, append_assoc, ← text_left-cons false c.in-Some.arc c.next.new.self) text;
+      text = rw (w.prefix, append_assoc, ← text_left-cons l.is_first c.in-Some.arc c.next.new.self) text;
       within = grind (arith, common_steps);
       after = w.after ∙ drop_more l.at c.write_arc-at.result _ _ (omega arith) l.invariant.after;
     }
