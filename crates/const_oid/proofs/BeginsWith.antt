@@ -9,7 +9,7 @@ use Rattle.std.proofs.lemmas.{List.Sorted.ranks_by, Slice.Eq.starts_is, Grind.co
 use Rattle.const_oid.specs.{Base128.{value_of, IsContinued, IsGroup}, Identifier.{RootRule, IsEncoding, subidentifiers}}
 use Rattle.const_oid.specs.{Tree.BeginsWith, Orders.shortlex_cmp}
 use Rattle.const_oid.proofs.{Groups.{same_prefix, same_group}, Subidentifiers.arcs_back, Encodings.same_arcs}
-use Rattle.const_oid.proofs.Orders.{slice_cmp-prefix}
+use Rattle.const_oid.proofs.Shortlex.{slice_cmp-prefix}
 
 chain_not_empty : (g x : List ℕ) → IsContinued g → [] ≡ g ++ x → ⊥
 chain_not_empty [] x c e = c

@@ -11,7 +11,7 @@ use Rattle.const_oid.specs.Orders.{shortlex_cmp, shortlex_cmp_total, shortlex_cm
 use Rattle.const_oid.specs.{Identifier.{RootRule, IsIdentifier, IsEncoding, subidentifiers}, Tree.BeginsWith}
 use Rattle.const_oid.proofs.{BeginsWith.{before_more, between}, Cutting.{cut_after-last, cut_after-more, concat-cut}}
 use Rattle.const_oid.proofs.Encodings.{cut_encoding, same_arcs, same_octets}
-use Rattle.const_oid.proofs.Orders.{groups_cmp, groups_short, shortlex_cmp-less, split_cmp}
+use Rattle.const_oid.proofs.Shortlex.{groups_cmp, groups_short, shortlex_cmp-less, split_cmp}
 
 -- ---- octets compared from an index on
 

@@ -5,7 +5,7 @@ pub mod Subidentifiers
 pub mod Cutting
 pub mod Encodings
 pub mod Lengths
-pub mod Orders
+pub mod Shortlex
 pub mod ByParts
 pub mod Words
 pub mod BeginsWith

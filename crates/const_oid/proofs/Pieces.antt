@@ -168,9 +168,9 @@ abbrev pub BecomesBy : {X : Type 0} → ℕ → List ℕ → List ℕ → ℕ �
 BecomesBy capacity text longer end result = MatchResult result (λ _. IsReadTo capacity text longer end)
     (λ fault. text_answer root_rule text capacity ≡ Err (or_trailing fault (drop end text)))
 
-pub later_fault : {capacity : ℕ} {text octets : List ℕ} {place : ℕ} (fault : Error) → IsReadTo capacity text octets place
+pub wrong_piece : {capacity : ℕ} {text octets : List ℕ} {place : ℕ} (fault : Error) → IsReadTo capacity text octets place
     → place < length text → HasFault text (place + 1) fault → text_answer root_rule text capacity ≡ Err fault
-later_fault {capacity} {text} {octets} {place} fault read less has =
+wrong_piece {capacity} {text} {octets} {place} fault read less has =
     read.answer ∙ rw (drop_more text place 0 less, has.is capacity (arcs_of_octets octets) (some_arc _ read.encoding.identifier)) refl where
       some_arc : (arcs : List ℕ) → IsIdentifier root_rule arcs → is_empty arcs ≡ (place + 1 == 0)
       some_arc [] identifier = absurd identifier

@@ -15,11 +15,11 @@ started_from_encoding : (rule : RootRule) (first : ℕ) (octets given : List ℕ
 started_from_encoding rule first [] given e = absurd (encoding_back e).identifier
 started_from_encoding rule first (x ∷ xs) given e = (encoding_back e, arcs_of_encoding e)
 
-later_fault : (rule : RootRule) (octets given : List ℕ) (arc capacity : ℕ) → IsEncoding rule given octets
+later_arc_fault : (rule : RootRule) (octets given : List ℕ) (arc capacity : ℕ) → IsEncoding rule given octets
     → arc_fault rule capacity given arc ≡ fault_if (nat_lt capacity (length octets + width arc)) Length
-later_fault rule octets [] arc capacity e = absurd e.identifier
-later_fault rule octets (a ∷ []) arc capacity e = absurd e.identifier
-later_fault rule octets (a ∷ b ∷ later) arc capacity e =
+later_arc_fault rule octets [] arc capacity e = absurd e.identifier
+later_arc_fault rule octets (a ∷ []) arc capacity e = absurd e.identifier
+later_arc_fault rule octets (a ∷ b ∷ later) arc capacity e =
     ap (λ n. fault_if (nat_lt capacity n) Length) (size_push rule (a ∷ b ∷ later) octets arc e)
 
 -- the number is that of an arc after those given: its group makes the encoding longer, and its width decides the fault
@@ -41,7 +41,7 @@ pub later_encodes : (rule : RootRule) (octets given : List ℕ) (arc : ℕ) → 
     → Encodes rule octets given arc arc
 later_encodes rule octets given arc encoding small = record {
   step = λ longer more. child_encoding longer arc encoding small more;
-  fault = λ capacity. later_fault rule octets given arc capacity encoding;
+  fault = λ capacity. later_arc_fault rule octets given arc capacity encoding;
 }
 
 -- the encoder's number, by its state

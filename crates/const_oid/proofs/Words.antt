@@ -9,7 +9,7 @@ use Rattle.std.proofs.lemmas.{Bool.cases_lt, Bool.Decides.nat_tests, Cmp.{nat_li
 use Rattle.std.proofs.lemmas.List.{length-take-le, take-take, take_all, length-drop, get_or-take, get_or-drop}
 use Rattle.std.proofs.lemmas.{List.get_or_past, Nat.{from_be_bytes-to_be_bytes_8, be_bytes_8}}
 use Rattle.const_oid.specs.Private.Words.{bytes_of, IsWord}
-use Rattle.const_oid.proofs.Orders.{digits_cmp, split_cmp, after_same, shortlex_cmp-level}
+use Rattle.const_oid.proofs.Shortlex.{digits_cmp, split_cmp, after_same, shortlex_cmp-level}
 
 -- ---- the order of numbers by their bytes
 

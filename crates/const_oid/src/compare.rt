@@ -31,7 +31,7 @@ pub(crate) fn begins_with(octets: &[u8], prefix: &[u8]) -> bool
 
 /// The first index from `start` on at which the octets differ, or `end`. The octets from there on have the orders of
 /// all octets.
-#[tactic(auto, using(crate::proofs::Orders::after_same, crate::proofs::ByParts::same_up_to))]
+#[tactic(auto, using(crate::proofs::Shortlex::after_same, crate::proofs::ByParts::same_up_to))]
 #[inline(always)]
 const fn same_until(a: &[u8], b: &[u8], start: usize, end: usize) -> usize
     requires ends { end ≤ min (length a.now) (length b.now) }

@@ -1,5 +1,7 @@
 //! Names of identifiers, by a table that the caller holds.
 
+// `db_ref` is the same over borrowed identifiers: a trait for both forms would stand in each clause.
+
 ghost use Rattle.std.specs.Prelude.{◌≡◌};
 ghost use Rattle.std.specs.Iterator.{YieldsFirst, item_count};
 ghost use Rattle.const_oid.specs.Names.{lent_arcs, entries_of, has_arcs, first_name, resolve_answer, all_names, first_oid, names_left};

@@ -1,5 +1,7 @@
 //! Names of borrowed identifiers, by a table that a constant can hold.
 
+// It is `db` over another type of entries: a trait for both forms would stand in each clause.
+
 ghost use Rattle.std.specs.Prelude.{◌≡◌};
 ghost use Rattle.std.specs.Iterator.{YieldsFirst, item_count};
 ghost use Rattle.const_oid.specs.Names.{ref_entries_of, first_name, all_names, first_oid, ref_names_left};

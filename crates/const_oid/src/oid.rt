@@ -275,7 +275,7 @@ impl<const MAX_SIZE: usize> ObjectIdentifier<MAX_SIZE> {
         ensures cases { ReturnsLength (text_of (oid_arcs self.now)) out.old result }
         ensures written { WritesText (text_of (oid_arcs self.now)) out.old out.new result }
         ensures kept { result ≡ None → out.new ≡ out.old }
-        ensures enough { 4 * min MAX_SIZE 255 ≤ length out.old → IsSome result }
+        ensures enough { 4 * length (oid_octets self.now) ≤ length out.old → IsSome result }
     {
         self.as_oid_ref().encode_text(out)
     }
@@ -283,7 +283,7 @@ impl<const MAX_SIZE: usize> ObjectIdentifier<MAX_SIZE> {
     /// Writes the text as [`encode_text`](Self::encode_text) does, and borrows it as a `str`.
     pub fn encode_str<'o>(&self, out: &'o mut [u8]) -> Option<&'o str>
         ensures cases { ReturnsText (text_of (oid_arcs self.now)) out.old result }
-        ensures enough { 4 * min MAX_SIZE 255 ≤ length out.old → IsSome result }
+        ensures enough { 4 * length (oid_octets self.now) ≤ length out.old → IsSome result }
     {
         self.as_oid_ref().encode_str(out)
     }

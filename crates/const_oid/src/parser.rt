@@ -1,7 +1,7 @@
 //! Dotted text to octets.
 //!
 //! A text is read component by component; in names, one is a `piece`. If one is wrong, only an index is returned, and a
-//! function that is rarely called makes the error of it. So a valid text costs fewer instructions (docs/SPEED.md).
+//! function that is rarely called makes the error of it. So a valid text costs fewer instructions.
 
 ghost use Rattle.std.specs.Prelude.{◌≡◌, ◌≤◌, ℕ, drop, length, min, Err, MatchResult};
 ghost use Rattle.const_oid.specs.Private.Encoder.{buffer_answer, HasEncoding};

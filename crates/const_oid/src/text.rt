@@ -104,12 +104,12 @@ fn write_later(arc: Arc, out: &mut [u8], at: usize) -> usize
     ensures prefix { take result out.new ≡ take at out.old ++ arc_text false arc }
     ensures within { result ≤ length out.new }
 {
-    at + write_first_later(arc, &mut out[at..])
+    at + write_after_dot(arc, &mut out[at..])
 }
 
 /// Writes a later arc and the dot before it at the start, and returns their length.
 #[inline(always)]
-fn write_first_later(arc: Arc, out: &mut [u8]) -> usize
+fn write_after_dot(arc: Arc, out: &mut [u8]) -> usize
     requires { 11 ≤ length out.old }
     ensures end { result ≡ length (arc_text false arc) }
     ensures prefix { take result out.new ≡ arc_text false arc }

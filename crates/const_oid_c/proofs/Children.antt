@@ -8,7 +8,7 @@ use Rattle.const_oid.specs.{Identifier.{root_rule, max_arc, IsEncoding, encoding
 use Rattle.const_oid.proofs.Children.{encoding_push, encoding_two}
 use Rattle.const_oid.proofs.Encodings.{encoding_of-encoded, oid_encoding, same_octets}
 use Rattle.const_oid.proofs.{Groups.{group_is, small_is}, Lengths.root_short}
-use Rattle.const_oid_c.specs.Answers.{borrowed_answer, octets_of_child}
+use Rattle.const_oid_c.specs.Results.{borrowed_answer, octets_of_child}
 
 -- they are the parent's, and the group of the last arc
 pub child_octets : (octets arcs : List ℕ) (arc : ℕ) → Ok arcs ≡ borrowed_answer octets → IsEncoding root_rule arcs octets

@@ -8,9 +8,9 @@ use Rattle.const_oid.specs.Identifier.{root_rule, size, encoding_of, IsIdentifie
 use Rattle.const_oid.specs.{Items.{item_answer, item_fault}, Text.{number_of, pieces_of, size_answer, text_answer, text_fault}}
 use Rattle.const_oid.proofs.{Encodings.encoding_is, Lengths.length_is_size, Texts.{denoted_from_none, text_fault-none}}
 use Rattle.const_oid.proofs.{Enough.all_small, Items.{identifier_from_none, item_fault-none}}
-use Rattle.const_oid_c.specs.{declared.status.Status.Status, Answers.octets_of_arcs}
+use Rattle.const_oid_c.specs.{declared.status.Status.Status, Results.octets_of_arcs}
 use Rattle.const_oid_c.specs.Status.{error_status, max_len, output_after, output_status, too_short_status}
-use Rattle.const_oid_c.proofs.Answers.{IsWritten}
+use Rattle.const_oid_c.proofs.Writes.{IsWritten}
 
 -- arcs of an identifier that takes more octets than so many
 pub record IsLonger (few : ℕ) (arcs : List ℕ) : Type 0 where

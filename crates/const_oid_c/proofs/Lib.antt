@@ -1,4 +1,4 @@
-pub mod Answers
+pub mod Writes
 pub mod Capacities
 pub mod Children
 pub mod Counted

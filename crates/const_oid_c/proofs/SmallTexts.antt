@@ -3,7 +3,7 @@ use Rattle.std.proofs.Common.{◌≡◌, ◌≢◌, ℕ, List, Ok, Err, ap, sym,
 use Rattle.const_oid.specs.{declared.error.Error.TheVariants.Length}
 use Rattle.const_oid.specs.{Identifier.{root_rule, usual_capacity, IsEncoding}, Text.text_answer}
 use Rattle.const_oid.proofs.{Ascii.answer_utf8, Encodings.encoding_of-encoded}
-use Rattle.const_oid_c.specs.{Answers.octets_of_text, Status.max_len}
+use Rattle.const_oid_c.specs.{Results.octets_of_text, Status.max_len}
 use Rattle.const_oid_c.proofs.Capacities.{same_text}
 
 pub small_text : (text arcs octets : List ℕ) → IsEncoding root_rule arcs octets

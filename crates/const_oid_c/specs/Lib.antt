@@ -1,3 +1,3 @@
 pub mod Status
-pub mod Answers
+pub mod Results
 pub mod Lists

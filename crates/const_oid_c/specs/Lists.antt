@@ -10,7 +10,7 @@ use Rattle.const_oid.specs.SortedList.{item_arcs}
 use Rattle.const_oid_c.specs.declared.status.Status.{Status}
 use Rattle.const_oid_c.specs.declared.lists.Octets.{Octets}
 use Rattle.const_oid_c.specs.Status.{error_status, len_status, none_status}
-use Rattle.const_oid_c.specs.Answers.{borrowed_answer}
+use Rattle.const_oid_c.specs.Results.{borrowed_answer}
 
 -- the octets of an item
 abbrev pub octets_at : Octets → List ℕ

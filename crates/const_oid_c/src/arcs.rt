@@ -4,7 +4,7 @@ ghost use Rattle.const_oid.specs.Identifier.{root_rule};
 ghost use Rattle.const_oid.specs.Items.{item_answer};
 ghost use Rattle.const_oid.specs.Oid.{oid_answer};
 ghost use Rattle.const_oid_c.specs.Status.{max_len, output_status, output_after, len_status};
-ghost use Rattle.const_oid_c.specs.Answers.{octets_of_arcs, output_of, status_of, borrowed_answer, arc_status};
+ghost use Rattle.const_oid_c.specs.Results.{octets_of_arcs, output_of, status_of, borrowed_answer, arc_status};
 
 use crate::output::{unwritten_status, write_octets};
 use crate::owned::{MAX_OCTETS, is_too_long};

@@ -2,7 +2,7 @@
 ghost use Rattle.std.specs.Prelude.{◌≡◌, length, Ok};
 ghost use Rattle.const_oid.specs.Error.{message_of};
 ghost use Rattle.const_oid_c.specs.Status.{output_status, output_after};
-ghost use Rattle.const_oid_c.specs.Answers.{text_of_code};
+ghost use Rattle.const_oid_c.specs.Results.{text_of_code};
 
 use crate::output::write_bytes;
 use crate::status::{

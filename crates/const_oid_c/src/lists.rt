@@ -14,7 +14,7 @@ ghost use Rattle.const_oid.specs.OidRef.{ref_arcs, ref_octets};
 ghost use Rattle.const_oid.specs.Orders.{parts_cmp};
 ghost use Rattle.const_oid.specs.SortedList.{IsSortedList, has_item_arcs, item_arcs};
 ghost use Rattle.const_oid.specs.Tree.{BeginsWith};
-ghost use Rattle.const_oid_c.specs.Answers.{borrowed_answer, status_of};
+ghost use Rattle.const_oid_c.specs.Results.{borrowed_answer, status_of};
 ghost use Rattle.const_oid_c.specs.Lists.{IsIndexOrNone, arcs_before, fault_at, index_status, item_fault, list_fault, list_status, octets_at};
 ghost use Rattle.const_oid_c.specs.Status.{error_status, len_status, none_status};
 

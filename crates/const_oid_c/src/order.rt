@@ -8,7 +8,7 @@ ghost use Rattle.const_oid.specs.Orders.{parts_cmp, shortlex_cmp};
 ghost use Rattle.const_oid.specs.Tree.{BeginsWith};
 ghost use Rattle.const_oid_c.specs.Lists.{octets_at};
 ghost use Rattle.const_oid_c.specs.Status.{IsFlagOf, error_status, order_number, order_status};
-ghost use Rattle.const_oid_c.specs.Answers.{IsStatusOfBoth, borrowed_answer, owned_answer};
+ghost use Rattle.const_oid_c.specs.Results.{IsStatusOfBoth, borrowed_answer, owned_answer};
 
 use crate::lists::Octets;
 use crate::owned::read_owned;

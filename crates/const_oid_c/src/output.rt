@@ -2,7 +2,7 @@
 ghost use Rattle.std.specs.Prelude.{◌≡◌, ◌++◌, length, Ok, MatchResult};
 ghost use Rattle.const_oid.specs.Oid.{oid_answer};
 ghost use Rattle.const_oid_c.specs.Status.{error_status, output_status, output_after, too_short_status};
-ghost use Rattle.const_oid_c.specs.Answers.{octets_of_arcs};
+ghost use Rattle.const_oid_c.specs.Results.{octets_of_arcs};
 
 use crate::status::{Status, error_status, len_status, too_short_status};
 use const_oid::{ObjectIdentifier, Result};

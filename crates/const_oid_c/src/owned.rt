@@ -2,7 +2,7 @@
 ghost use Rattle.std.specs.Prelude.{◌≡◌, ◌↔◌, Err, IfOk, IsTrue};
 ghost use Rattle.const_oid.specs.Oid.{oid_answer};
 ghost use Rattle.const_oid.specs.OidRef.{ref_answer, ref_octets};
-ghost use Rattle.const_oid_c.specs.Answers.{owned_answer};
+ghost use Rattle.const_oid_c.specs.Results.{owned_answer};
 
 use const_oid::{Error, ObjectIdentifier, ObjectIdentifierRef, Result};
 

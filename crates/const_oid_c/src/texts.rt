@@ -3,7 +3,7 @@ ghost use Rattle.std.specs.Prelude.{◌≡◌, length, Err};
 ghost use Rattle.const_oid.specs.Text.{text_of, text_answer};
 ghost use Rattle.const_oid.specs.Identifier.{root_rule, usual_capacity};
 ghost use Rattle.const_oid_c.specs.Status.{max_len, output_status, output_after};
-ghost use Rattle.const_oid_c.specs.Answers.{octets_of_text, octets_of_arcs, output_of, borrowed_answer};
+ghost use Rattle.const_oid_c.specs.Results.{octets_of_text, octets_of_arcs, output_of, borrowed_answer};
 
 use crate::output::{unwritten_status, write_bytes, write_octets};
 use crate::owned::{MAX_OCTETS, is_too_long};
@@ -26,7 +26,7 @@ pub extern "C" fn const_oid_from_text(text: &[u8], out: &mut [u8]) -> Status
 
 /// Writes the contents octets of the identifier that dotted text denotes, or reports why there is none. The fault is that
 /// of the text at the usual capacity.
-#[tactic(auto, using(crate::proofs::Answers::texts, crate::proofs::Capacities::same_text))]
+#[tactic(auto, using(crate::proofs::Writes::texts, crate::proofs::Capacities::same_text))]
 #[cold]
 #[inline(never)]
 fn write_other(fault: Error, text: &[u8], out: &mut [u8]) -> Status
@@ -80,7 +80,7 @@ const LONG: usize = 1031;
 ///
 /// The octets are checked as they are printed, so the text is made on the stack: on an error the output is unchanged.
 /// Most identifiers are short, and the less room there is, the sooner it is set to zero.
-#[tactic(auto, using(crate::proofs::Answers::text_again))]
+#[tactic(auto, using(crate::proofs::Writes::text_again))]
 #[unsafe(no_mangle)]
 pub extern "C" fn const_oid_to_text(octets: &[u8], out: &mut [u8]) -> Status
     ensures status { result ≡ output_status (length out.old) (output_of text_of (borrowed_answer octets.now)) }
@@ -95,7 +95,7 @@ pub extern "C" fn const_oid_to_text(octets: &[u8], out: &mut [u8]) -> Status
 }
 
 /// Writes the dotted text of contents octets of any length, which may need up to `LONG` bytes.
-#[tactic(auto, using(crate::proofs::Answers::text_again))]
+#[tactic(auto, using(crate::proofs::Writes::text_again))]
 #[inline(never)]
 fn write_long(octets: &[u8], out: &mut [u8]) -> Status
     ensures status { result ≡ output_status (length out.old) (output_of text_of (borrowed_answer octets.now)) }

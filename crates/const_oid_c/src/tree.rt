@@ -3,7 +3,7 @@ ghost use Rattle.std.specs.Prelude.{◌≡◌, ◌∷◌, length, IfOk, IsOk};
 ghost use Rattle.const_oid.specs.Base128.{group_of};
 ghost use Rattle.const_oid.specs.Oid.{oid_octets};
 ghost use Rattle.const_oid_c.specs.Status.{output_status, output_after};
-ghost use Rattle.const_oid_c.specs.Answers.{octets_of_parent, octets_of_child};
+ghost use Rattle.const_oid_c.specs.Results.{octets_of_parent, octets_of_child};
 
 use crate::arcs::encoded;
 use crate::output::{write_bytes, write_joined};

@@ -5,7 +5,7 @@ use Rattle.std.specs.List.{before_first, after_first, position_or_len, flat_map}
 use Rattle.std.proofs.lemmas.{Bool.cases_lt, Bool.Decides.nat_tests, List.Concat.flat_map-cons}
 use Rattle.std.proofs.lemmas.{List.{take_all, drop_all, length-append, nil_from_length}, List.Sums.fails_before_first}
 use Rattle.std.proofs.lemmas.List.Splits.{slice_split_first, slice_split_none, length-slice_split}
-use Rattle.oid_tool.specs.{Answers.{without_empty_last, lines, output_line, answers}, Names.Row}
+use Rattle.oid_tool.specs.{Results.{without_empty_last, lines, output_line, answers}, Names.Row}
 
 -- the text before the first newline
 abbrev first_line : List ℕ → List ℕ

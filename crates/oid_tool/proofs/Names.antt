@@ -4,7 +4,7 @@ use Rattle.std.specs.{Borrow.Bor, Str.IsUtf8}
 use Rattle.std.proofs.lemmas.Str.{is_utf8-from_IsUtf8}
 use Rattle.const_oid.specs.declared.oid.ObjectIdentifier.{ObjectIdentifier}
 use Rattle.const_oid.specs.Names.{Entry, lent_arcs, oid_of, name_of, name_or, resolve_answer}
-use Rattle.oid_tool.specs.{Answers.{line_of, name_line}, Names.{Row, row_name_or}}
+use Rattle.oid_tool.specs.{Results.{line_of, name_line}, Names.{Row, row_name_or}}
 
 abbrev Entries : Type 0
 Entries = List (Entry (Bor (ObjectIdentifier 39)))

@@ -1,4 +1,4 @@
 pub mod Names
-pub mod Answers
+pub mod Results
 pub mod Output
 pub mod ToolError

@@ -3,7 +3,7 @@ ghost use Rattle.std.specs.Prelude.{◌≡◌, ◌*◌, ◌≤◌, ◌==◌, len
 ghost use Rattle.std.specs.List.{before_first, after_first};
 ghost use Rattle.hex.specs.Hex.{decode_of, encode_lower};
 ghost use Rattle.const_oid.specs.Error.{message_of};
-ghost use Rattle.oid_tool.specs.Answers.{answer_line, error_line, text_line, hex_line, parent_line, name_line};
+ghost use Rattle.oid_tool.specs.Results.{answer_line, error_line, text_line, hex_line, parent_line, name_line};
 ghost use Rattle.oid_tool.specs.Names.{rows_of};
 ghost use Rattle.oid_tool.specs.Output.{StandsFirst};
 
@@ -16,7 +16,7 @@ pub const MAX_INPUT: usize = 4096;
 
 /// Writes the result of a line at the start of `out`, with a table of names. Returns its length, or
 /// `None` if it is longer than `out`.
-#[tactic(auto, unfolding(crate::specs::Answers::answer_line))]
+#[tactic(auto, unfolding(crate::specs::Results::answer_line))]
 pub fn answer(line: &[u8], table: Database<'_>, out: &mut [u8]) -> Option<usize>
     requires { length line.now ≤ MAX_INPUT }
     ensures { StandsFirst result out.new (answer_line (rows_of table.entry) line.now) }
@@ -36,7 +36,7 @@ pub fn answer(line: &[u8], table: Database<'_>, out: &mut [u8]) -> Option<usize>
 }
 
 /// `text H`: the dotted text of the octets that the hexadecimal digits H denote.
-#[tactic(auto, unfolding(crate::specs::Answers::text_line))]
+#[tactic(auto, unfolding(crate::specs::Results::text_line))]
 fn text(digits: &[u8], out: &mut [u8]) -> Option<usize>
     requires { length digits.now ≤ MAX_INPUT }
     ensures { StandsFirst result out.new (text_line digits.now) }
@@ -52,7 +52,7 @@ fn text(digits: &[u8], out: &mut [u8]) -> Option<usize>
 }
 
 /// `hex T`: the contents octets of the identifier that the text T denotes, as hexadecimal digits.
-#[tactic(auto, using(crate::proofs::Commands::lines), unfolding(crate::specs::Answers::hex_line))]
+#[tactic(auto, using(crate::proofs::Commands::lines), unfolding(crate::specs::Results::hex_line))]
 fn hex(text: &[u8], out: &mut [u8]) -> Option<usize>
     ensures { StandsFirst result out.new (hex_line text.now) }
 {
@@ -66,7 +66,7 @@ fn hex(text: &[u8], out: &mut [u8]) -> Option<usize>
 }
 
 /// `parent T`: the parent of the identifier that the text T denotes, or `none`.
-#[tactic(auto, using(crate::proofs::Commands::lines), unfolding(crate::specs::Answers::parent_line))]
+#[tactic(auto, using(crate::proofs::Commands::lines), unfolding(crate::specs::Results::parent_line))]
 fn parent(text: &[u8], out: &mut [u8]) -> Option<usize>
     ensures { StandsFirst result out.new (parent_line text.now) }
 {
@@ -83,7 +83,7 @@ fn parent(text: &[u8], out: &mut [u8]) -> Option<usize>
 }
 
 /// `name T`: the name of the identifier that the text T denotes, or T itself if it has no name.
-#[tactic(auto, using(crate::proofs::Commands::lines), unfolding(crate::specs::Answers::name_line))]
+#[tactic(auto, using(crate::proofs::Commands::lines), unfolding(crate::specs::Results::name_line))]
 fn name(text: &[u8], table: Database<'_>, out: &mut [u8]) -> Option<usize>
     ensures { StandsFirst result out.new (name_line (rows_of table.entry) text.now) }
 {

@@ -1,7 +1,7 @@
 //! Reads the whole input, and then writes the results of its lines.
 ghost use Rattle.std.specs.Prelude.{◌≡◌, ◌+◌, ◌≤◌, ◌⊎◌, length, take, IsOk, OnOk, OnErr, IfOk, IfErr, IfSome, Some};
 ghost use Rattle.std.specs.Io.KnownBytes.{Appends, Consumes, IsAtEnd};
-ghost use Rattle.oid_tool.specs.Answers.{answers, output_line};
+ghost use Rattle.oid_tool.specs.Results.{answers, output_line};
 ghost use Rattle.oid_tool.specs.Names.{known_names, rows_of};
 ghost use Rattle.oid_tool.specs.Output.{AppendsPrefix, ConsumesNumber, StandsFirst};
 

@@ -2,9 +2,9 @@
 
 //! The exported functions, over pointers. The header says what a caller guarantees.
 
-use crate::calls::lists::{Octets, Range};
-use crate::calls::status::Status;
 use crate::edge::{input, output};
+use crate::erased::lists::{Octets, Range};
+use crate::erased::status::Status;
 
 /// # Safety
 ///
@@ -12,7 +12,7 @@ use crate::edge::{input, output};
 #[unsafe(no_mangle)]
 pub unsafe extern "C" fn const_oid_check(octets: *const u8, octets_len: usize) -> Status {
     // SAFETY: the caller guarantees it.
-    unsafe { crate::calls::arcs::const_oid_check(input(octets, octets_len)) }
+    unsafe { crate::erased::arcs::const_oid_check(input(octets, octets_len)) }
 }
 
 /// # Safety
@@ -21,7 +21,7 @@ pub unsafe extern "C" fn const_oid_check(octets: *const u8, octets_len: usize) -
 #[unsafe(no_mangle)]
 pub unsafe extern "C" fn const_oid_len(octets: *const u8, octets_len: usize) -> Status {
     // SAFETY: the caller guarantees it.
-    unsafe { crate::calls::arcs::const_oid_len(input(octets, octets_len)) }
+    unsafe { crate::erased::arcs::const_oid_len(input(octets, octets_len)) }
 }
 
 /// # Safety
@@ -34,7 +34,7 @@ pub unsafe extern "C" fn const_oid_arc(
     index: usize,
 ) -> Status {
     // SAFETY: the caller guarantees it.
-    unsafe { crate::calls::arcs::const_oid_arc(input(octets, octets_len), index) }
+    unsafe { crate::erased::arcs::const_oid_arc(input(octets, octets_len), index) }
 }
 
 /// # Safety
@@ -48,7 +48,7 @@ pub unsafe extern "C" fn const_oid_from_arcs(
     out_len: usize,
 ) -> Status {
     // SAFETY: the caller guarantees it.
-    unsafe { crate::calls::arcs::const_oid_from_arcs(input(arcs, arcs_len), output(out, out_len)) }
+    unsafe { crate::erased::arcs::const_oid_from_arcs(input(arcs, arcs_len), output(out, out_len)) }
 }
 
 /// # Safety
@@ -62,7 +62,7 @@ pub unsafe extern "C" fn const_oid_arcs(
     out_len: usize,
 ) -> Status {
     // SAFETY: the caller guarantees it.
-    unsafe { crate::calls::arcs::const_oid_arcs(input(octets, octets_len), output(out, out_len)) }
+    unsafe { crate::erased::arcs::const_oid_arcs(input(octets, octets_len), output(out, out_len)) }
 }
 
 /// # Safety
@@ -78,7 +78,7 @@ pub unsafe extern "C" fn const_oid_arcs_from(
 ) -> Status {
     // SAFETY: the caller guarantees it.
     unsafe {
-        crate::calls::arcs::const_oid_arcs_from(
+        crate::erased::arcs::const_oid_arcs_from(
             input(octets, octets_len),
             first,
             output(out, out_len),
@@ -97,7 +97,7 @@ pub unsafe extern "C" fn const_oid_error_text(
     out_len: usize,
 ) -> Status {
     // SAFETY: the caller guarantees it.
-    unsafe { crate::calls::errors::const_oid_error_text(code, detail, output(out, out_len)) }
+    unsafe { crate::erased::errors::const_oid_error_text(code, detail, output(out, out_len)) }
 }
 
 /// # Safety
@@ -109,7 +109,7 @@ pub unsafe extern "C" fn const_oid_check_sorted(
     items_len: usize,
 ) -> Status {
     // SAFETY: the caller guarantees it.
-    unsafe { crate::calls::lists::const_oid_check_sorted(input(items, items_len)) }
+    unsafe { crate::erased::lists::const_oid_check_sorted(input(items, items_len)) }
 }
 
 /// # Safety
@@ -124,7 +124,7 @@ pub unsafe extern "C" fn const_oid_find(
 ) -> Status {
     // SAFETY: the caller guarantees it.
     unsafe {
-        crate::calls::lists::const_oid_find(input(octets, octets_len), input(sorted, sorted_len))
+        crate::erased::lists::const_oid_find(input(octets, octets_len), input(sorted, sorted_len))
     }
 }
 
@@ -140,7 +140,7 @@ pub unsafe extern "C" fn const_oid_next(
 ) -> Status {
     // SAFETY: the caller guarantees it.
     unsafe {
-        crate::calls::lists::const_oid_next(input(octets, octets_len), input(sorted, sorted_len))
+        crate::erased::lists::const_oid_next(input(octets, octets_len), input(sorted, sorted_len))
     }
 }
 
@@ -156,7 +156,10 @@ pub unsafe extern "C" fn const_oid_nearest(
 ) -> Status {
     // SAFETY: the caller guarantees it.
     unsafe {
-        crate::calls::lists::const_oid_nearest(input(octets, octets_len), input(sorted, sorted_len))
+        crate::erased::lists::const_oid_nearest(
+            input(octets, octets_len),
+            input(sorted, sorted_len),
+        )
     }
 }
 
@@ -173,7 +176,7 @@ pub unsafe extern "C" fn const_oid_subtree_range(
 ) -> Status {
     // SAFETY: the caller guarantees it.
     unsafe {
-        crate::calls::lists::const_oid_subtree_range(
+        crate::erased::lists::const_oid_subtree_range(
             input(octets, octets_len),
             input(sorted, sorted_len),
             &mut output(range, 1)[0],
@@ -192,7 +195,7 @@ pub unsafe extern "C" fn const_oid_eq(
     right_len: usize,
 ) -> Status {
     // SAFETY: the caller guarantees it.
-    unsafe { crate::calls::order::const_oid_eq(input(left, left_len), input(right, right_len)) }
+    unsafe { crate::erased::order::const_oid_eq(input(left, left_len), input(right, right_len)) }
 }
 
 /// # Safety
@@ -207,7 +210,7 @@ pub unsafe extern "C" fn const_oid_starts_with(
 ) -> Status {
     // SAFETY: the caller guarantees it.
     unsafe {
-        crate::calls::order::const_oid_starts_with(
+        crate::erased::order::const_oid_starts_with(
             input(octets, octets_len),
             input(prefix, prefix_len),
         )
@@ -225,7 +228,7 @@ pub unsafe extern "C" fn const_oid_cmp(
     right_len: usize,
 ) -> Status {
     // SAFETY: the caller guarantees it.
-    unsafe { crate::calls::order::const_oid_cmp(input(left, left_len), input(right, right_len)) }
+    unsafe { crate::erased::order::const_oid_cmp(input(left, left_len), input(right, right_len)) }
 }
 
 /// # Safety
@@ -240,7 +243,7 @@ pub unsafe extern "C" fn const_oid_cmp_arcs(
 ) -> Status {
     // SAFETY: the caller guarantees it.
     unsafe {
-        crate::calls::order::const_oid_cmp_arcs(input(left, left_len), input(right, right_len))
+        crate::erased::order::const_oid_cmp_arcs(input(left, left_len), input(right, right_len))
     }
 }
 
@@ -256,7 +259,7 @@ pub unsafe extern "C" fn const_oid_cmp_owned(
 ) -> Status {
     // SAFETY: the caller guarantees it.
     unsafe {
-        crate::calls::order::const_oid_cmp_owned(input(left, left_len), input(right, right_len))
+        crate::erased::order::const_oid_cmp_owned(input(left, left_len), input(right, right_len))
     }
 }
 
@@ -269,7 +272,7 @@ pub unsafe extern "C" fn const_oid_by_arcs(
     right: *const Octets<'_>,
 ) -> i32 {
     // SAFETY: the caller guarantees it.
-    unsafe { crate::calls::order::const_oid_by_arcs(&input(left, 1)[0], &input(right, 1)[0]) }
+    unsafe { crate::erased::order::const_oid_by_arcs(&input(left, 1)[0], &input(right, 1)[0]) }
 }
 
 /// # Safety
@@ -283,7 +286,9 @@ pub unsafe extern "C" fn const_oid_from_text(
     out_len: usize,
 ) -> Status {
     // SAFETY: the caller guarantees it.
-    unsafe { crate::calls::texts::const_oid_from_text(input(text, text_len), output(out, out_len)) }
+    unsafe {
+        crate::erased::texts::const_oid_from_text(input(text, text_len), output(out, out_len))
+    }
 }
 
 /// # Safety
@@ -298,7 +303,7 @@ pub unsafe extern "C" fn const_oid_to_text(
 ) -> Status {
     // SAFETY: the caller guarantees it.
     unsafe {
-        crate::calls::texts::const_oid_to_text(input(octets, octets_len), output(out, out_len))
+        crate::erased::texts::const_oid_to_text(input(octets, octets_len), output(out, out_len))
     }
 }
 
@@ -313,7 +318,9 @@ pub unsafe extern "C" fn const_oid_parent(
     out_len: usize,
 ) -> Status {
     // SAFETY: the caller guarantees it.
-    unsafe { crate::calls::tree::const_oid_parent(input(octets, octets_len), output(out, out_len)) }
+    unsafe {
+        crate::erased::tree::const_oid_parent(input(octets, octets_len), output(out, out_len))
+    }
 }
 
 /// # Safety
@@ -329,11 +336,15 @@ pub unsafe extern "C" fn const_oid_push_arc(
 ) -> Status {
     // SAFETY: the caller guarantees it.
     unsafe {
-        crate::calls::tree::const_oid_push_arc(input(octets, octets_len), arc, output(out, out_len))
+        crate::erased::tree::const_oid_push_arc(
+            input(octets, octets_len),
+            arc,
+            output(out, out_len),
+        )
     }
 }
 
 #[unsafe(no_mangle)]
 pub extern "C" fn const_oid_version() -> u32 {
-    crate::calls::version::const_oid_version()
+    crate::erased::version::const_oid_version()
 }

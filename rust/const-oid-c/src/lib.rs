@@ -1,15 +1,15 @@
 //! The functions of `crates/const_oid_c/include/const_oid.h`, as a static and a shared library.
 //!
-//! `rust/erase` generates the module `calls` from sources in Rattle, over the generated modules of `const-oid`, and
+//! `rust/erase` generates the module `erased` from sources in Rattle, over the generated modules of `const-oid`, and
 //! `exports`: each function over pointers calls that of the same name over slices. By hand are `edge`, which makes these
 //! slices, and `outputs`, which writes where C may not have written.
 #![no_std]
 #![deny(unsafe_op_in_unsafe_fn, clippy::undocumented_unsafe_blocks)]
 
+mod edge;
 #[forbid(unsafe_code)]
 #[allow(dead_code, unused_imports, clippy::all)]
-mod calls;
-mod edge;
+mod erased;
 mod exports;
 #[forbid(unsafe_code)]
 mod outputs;

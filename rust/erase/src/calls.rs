@@ -88,7 +88,7 @@ impl Call {
 
     fn export(&self) -> String {
         let (head, given) = self.over_pointers();
-        let call = format!("crate::calls::{}::{}({given})", self.module, self.name);
+        let call = format!("crate::erased::{}::{}({given})", self.module, self.name);
         if given.is_empty() {
             return format!("\n#[unsafe(no_mangle)]\npub extern \"C\" {head} {{ {call} }}\n");
         }
@@ -156,7 +156,7 @@ pub fn exports(calls: &[Call]) -> String {
     let exports = calls.iter().map(Call::export).collect::<String>();
     format!(
         "//! The exported functions, over pointers. The header says what a caller guarantees.\n\n\
-         use crate::calls::lists::{{Octets, Range}};\nuse crate::calls::status::Status;\n\
+         use crate::erased::lists::{{Octets, Range}};\nuse crate::erased::status::Status;\n\
          use crate::edge::{{input, output}};\n{exports}"
     )
 }

@@ -129,8 +129,8 @@ pub const CRATES: &[Crate] = &[
     },
     Crate {
         from: "crates/const_oid_c/src",
-        to: "rust/const-oid-c/src/calls",
-        root: "crate::calls::",
+        to: "rust/const-oid-c/src/erased",
+        root: "crate::erased::",
         with_examples: &[],
         edits: edits! {
             "": "const_oid::"

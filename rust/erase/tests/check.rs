@@ -17,7 +17,7 @@ const FOLDERS: [&str; 8] = [
 ];
 
 /// The generated folders.
-const GENERATED: [&str; 2] = ["rust/const-oid/src/erased", "rust/const-oid-c/src/calls"];
+const GENERATED: [&str; 2] = ["rust/const-oid/src/erased", "rust/const-oid-c/src/erased"];
 
 /// The generated files in other folders.
 const FILES: [&str; 6] = [

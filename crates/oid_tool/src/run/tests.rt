@@ -1,6 +1,6 @@
 //! The output of `run` in memory, and its errors if a reader or a writer fails.
 ghost use Rattle.std.specs.Prelude.{◌≡◌, ◌≤◌, ◌++◌, length, OnOk};
-ghost use Rattle.oid_tool.specs.Answers.{answers};
+ghost use Rattle.oid_tool.specs.Results.{answers};
 ghost use Rattle.oid_tool.specs.Names.{known_names};
 
 use super::devices::{EndlessReader, Failure, KINDS, OneByteReader, SlowWriter};

@@ -3,7 +3,7 @@
 //! Dotted text to octets.
 //!
 //! A text is read component by component; in names, one is a `piece`. If one is wrong, only an index is returned, and a
-//! function that is rarely called makes the error of it. So a valid text costs fewer instructions (docs/SPEED.md).
+//! function that is rarely called makes the error of it. So a valid text costs fewer instructions.
 
 use crate::erased::Arc;
 use crate::erased::base128::append_group;

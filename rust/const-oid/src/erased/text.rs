@@ -72,12 +72,12 @@ fn write_first(root: u64, out: &mut [u8]) -> usize {
 /// Writes an arc and the dot before it at an index, after which there is room for any arc, and returns the index after it.
 #[inline(always)]
 fn write_later(arc: Arc, out: &mut [u8], at: usize) -> usize {
-    at + write_first_later(arc, &mut out[at..])
+    at + write_after_dot(arc, &mut out[at..])
 }
 
 /// Writes a later arc and the dot before it at the start, and returns their length.
 #[inline(always)]
-fn write_first_later(arc: Arc, out: &mut [u8]) -> usize {
+fn write_after_dot(arc: Arc, out: &mut [u8]) -> usize {
     // The length of this part is a literal, so rustc checks no index in it.
     write_arc(arc, false, &mut out[..MAX_ARC_LEN], 0)
 }

@@ -1,5 +1,5 @@
 use Rattle.std.proofs.Common.{Ok, Err, sym, ap, ◌∙◌}
-use Rattle.const_oid.proofs.Pieces.{root_written, later_written, later_fault}
+use Rattle.const_oid.proofs.Pieces.{root_written, later_written, wrong_piece}
 use Rattle.const_oid.proofs.parser.parse_to.Goals as goal
 
 pub loop-end-init : goal.loop-end-init
@@ -9,7 +9,7 @@ loop-end-init c =
 
 pub returns-in-Err-read_piece : goal.returns-in-Err-read_piece
 returns-in-Err-read_piece c =
-    later_fault _ c.loop-end.invariant.read c.loop-end-test.true c.in-Err-read_piece.ensures
+    wrong_piece _ c.loop-end.invariant.read c.loop-end-test.true c.in-Err-read_piece.ensures
     ∙ sym (ap Err c.piece_fault.ensures)
 
 pub returns-in-Err-append_group-2 : goal.returns-in-Err-append_group-2

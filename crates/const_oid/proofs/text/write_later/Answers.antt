@@ -4,5 +4,5 @@ use Rattle.const_oid.proofs.text.write_later.Goals as goal
 
 pub returns-clause-prefix : goal.returns-clause-prefix
 returns-clause-prefix c =
-    let inner = c.write_first_later.ensures in
+    let inner = c.write_after_dot.ensures in
     part_written _ _ _ _ _ _ (omega arith) inner.within inner.prefix

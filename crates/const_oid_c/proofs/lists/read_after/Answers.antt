@@ -1,5 +1,5 @@
 use Rattle.std.proofs.Common.{arith}
-use Rattle.const_oid_c.proofs.Answers.{valid_answer}
+use Rattle.const_oid_c.proofs.Writes.{valid_answer}
 use Rattle.const_oid_c.proofs.lists.read_after.Goals as goal
 
 pub returns-in-Err-clause-invalid : goal.returns-in-Err-clause-invalid

@@ -1,6 +1,6 @@
 use Rattle.std.proofs.Common.{ap, arith}
 use Rattle.std.proofs.lemmas.Grind.{common_steps}
-use Rattle.oid_tool.specs.Answers.{parent_line, text_or_none}
+use Rattle.oid_tool.specs.Results.{parent_line, text_or_none}
 use Rattle.oid_tool.proofs.Commands.{lines}
 use Rattle.oid_tool.proofs.command.parent.Goals as goal
 

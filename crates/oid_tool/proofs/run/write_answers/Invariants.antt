@@ -1,5 +1,5 @@
 use Rattle.std.proofs.Common.{◌≤◌, length}
-use Rattle.oid_tool.specs.{declared.command.TheConstants.MAX_INPUT, Answers.answers, Names.rows_of}
+use Rattle.oid_tool.specs.{declared.command.TheConstants.MAX_INPUT, Results.answers, Names.rows_of}
 use Rattle.oid_tool.proofs.Output.{AppendsAllBut}
 use Rattle.oid_tool.proofs.run.write_answers.Given as goal
 

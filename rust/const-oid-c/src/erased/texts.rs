@@ -2,9 +2,9 @@
 
 //! Dotted text.
 
-use crate::calls::output::{unwritten_status, write_bytes, write_octets};
-use crate::calls::owned::{MAX_OCTETS, is_too_long};
-use crate::calls::status::{
+use crate::erased::output::{unwritten_status, write_bytes, write_octets};
+use crate::erased::owned::{MAX_OCTETS, is_too_long};
+use crate::erased::status::{
     NOT_UTF8, Status, code_status, error_status, len_status, too_short_status,
 };
 use const_oid::internal_for_const_oid_c::{Error, ObjectIdentifier, ObjectIdentifierRef, Oid};

@@ -2,9 +2,9 @@
 
 //! Parents and children.
 
-use crate::calls::arcs::encoded;
-use crate::calls::output::{write_bytes, write_joined};
-use crate::calls::status::{NONE, Status, code_status, error_status};
+use crate::erased::arcs::encoded;
+use crate::erased::output::{write_bytes, write_joined};
+use crate::erased::status::{NONE, Status, code_status, error_status};
 use const_oid::internal_for_const_oid_c::{ObjectIdentifier, ObjectIdentifierRef, Result};
 
 /// Writes the contents octets of all arcs except the last.

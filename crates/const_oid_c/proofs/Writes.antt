@@ -5,7 +5,7 @@ use Rattle.std.specs.Result.{result_map_both}
 use Rattle.std.proofs.lemmas.{List.{length-take-le, take-append-drop}, Str.is_utf8-from_IsUtf8}
 use Rattle.const_oid.specs.{declared.error.Error.Error, Text.text_of, Contents.{arcs_of_octets, borrowed_capacity}, Identifier.{root_rule, IsEncoding}}
 use Rattle.const_oid_c.specs.{declared.status.Status.Status}
-use Rattle.const_oid_c.specs.Answers.{borrowed_answer, octets_of_arcs, output_of}
+use Rattle.const_oid_c.specs.Results.{borrowed_answer, octets_of_arcs, output_of}
 use Rattle.const_oid_c.specs.Status.{len_status, output_after, output_status}
 use Rattle.const_oid.proofs.{Ascii.is_not_utf8, Encodings.{encoding_of-encoded, octet_fault-fits}}
 

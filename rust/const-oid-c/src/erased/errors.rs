@@ -2,8 +2,8 @@
 
 //! The texts of codes.
 
-use crate::calls::output::write_bytes;
-use crate::calls::status::{
+use crate::erased::output::write_bytes;
+use crate::erased::status::{
     ARC_INVALID, ARC_TOO_BIG, BASE128, DIGIT_EXPECTED, EMPTY, LENGTH, NONE, NOT_UTF8,
     OUTPUT_TOO_SHORT, OVERFLOW, REPEATED_DOT, Status, TRAILING_DOT, UNSORTED, code_status,
     len_status, too_short_status,

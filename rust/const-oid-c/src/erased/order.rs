@@ -2,9 +2,9 @@
 
 //! Comparisons of two identifiers.
 
-use crate::calls::lists::Octets;
-use crate::calls::owned::read_owned;
-use crate::calls::status::{Status, error_status, flag_status, order_number, order_status};
+use crate::erased::lists::Octets;
+use crate::erased::owned::read_owned;
+use crate::erased::status::{Status, error_status, flag_status, order_number, order_status};
 use const_oid::internal_for_const_oid_c::search::{Contents, order_of};
 use const_oid::internal_for_const_oid_c::{ObjectIdentifierRef, Result};
 use core::cmp::Ordering;

@@ -2,9 +2,9 @@
 
 //! Octets to arcs, and arcs to octets.
 
-use crate::calls::output::{unwritten_status, write_octets};
-use crate::calls::owned::{MAX_OCTETS, is_too_long};
-use crate::calls::status::{
+use crate::erased::output::{unwritten_status, write_octets};
+use crate::erased::owned::{MAX_OCTETS, is_too_long};
+use crate::erased::status::{
     NONE, Status, code_status, error_status, len_status, number_status, too_short_status,
 };
 use const_oid::internal_for_const_oid_c::{Arcs, ObjectIdentifier, ObjectIdentifierRef, Result};

@@ -2,7 +2,7 @@ use Rattle.std.proofs.Common.{◌≤◌, arith, false, length, ◌∙◌}
 use Rattle.std.proofs.lemmas.{Grind.common_steps, List.take-append-le}
 use Rattle.const_oid.specs.Private.Text.{arc_text}
 use Rattle.const_oid.proofs.{Decimals.arc_text_short}
-use Rattle.const_oid.proofs.text.write_first_later.Goals as goal
+use Rattle.const_oid.proofs.text.write_after_dot.Goals as goal
 
 pub write_arc-requires : goal.write_arc-requires
 write_arc-requires c =

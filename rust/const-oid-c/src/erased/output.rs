@@ -2,7 +2,7 @@
 
 //! Results that are written to the caller's slice.
 
-use crate::calls::status::{Status, error_status, len_status, too_short_status};
+use crate::erased::status::{Status, error_status, len_status, too_short_status};
 use const_oid::internal_for_const_oid_c::{ObjectIdentifier, Result};
 
 /// Writes bytes at the start of a slice, if they fit.
