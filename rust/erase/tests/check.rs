@@ -146,6 +146,16 @@ fn a_source_by_hand_whose_public_items_change() {
     assert!(printed.contains("rust/const-oid/src/conversions.rs\t\tpub fn public()\n"));
 }
 
+#[test]
+fn generated_files_have_their_attribute() {
+    let attributes = fs::read_to_string(top().join(".gitattributes")).unwrap();
+    let folders = GENERATED.map(|folder| format!("{folder}/*.rs"));
+    for path in FILES.map(str::to_string).into_iter().chain(folders) {
+        let line = format!("{path} linguist-generated\n");
+        assert!(attributes.contains(&line), "{path}");
+    }
+}
+
 /// Each source by hand is in the list of public items, in a folder too.
 #[test]
 fn every_source_is_listed() {
