@@ -19,9 +19,9 @@ except ImportError:
 # Short and long octets, of arcs that differ and are no small integers: the last have ten digits.
 OCTETS = {
     "short": bytes.fromhex("2A8648CE3D0201"),
-    "300 octets": b"\x2a" + bytes([0x84, 0]) * 149 + b"\x01",
-    "301 arcs": b"\x2a" + b"".join(bytes([0x82 + arc // 128, arc % 128]) for arc in range(300)),
-    "100 arcs of ten digits": b"\x2a" + b"".join(bytes([0x8F, 0xFF, 0xFF, 0xFE, arc]) for arc in range(100)),
+    "300 arcs": b"\x2a" + b"".join(bytes([0x82 + arc // 128, arc % 128]) for arc in range(298)),
+    "100 arcs of ten digits": b"\x2a" + b"".join(bytes([0x8F, 0xFF, 0xFF, 0xFE, arc]) for arc in range(98)),
+    "300 arcs of ten digits": b"\x2a" + b"".join(bytes([0x8F, 0xFF, 0xFF, 0xF0 + arc % 3, arc // 3]) for arc in range(298)),
 }
 OTHER = ObjectIdentifier("1.2")
 WRONG = b"\x80\x01"
@@ -88,7 +88,7 @@ CALLS |= {
 }
 
 # What raises an exception in a function of Python, which may be lost where there is no memory.
-IN_PYTHON = ("pickles", "wrong error")
+IN_PYTHON = ("pickles", "error", "wrong error")
 KEPT = [ObjectIdentifier, Under, OidError, OTHER, bytes(OTHER), WRONG, str, tuple, const_oid, _support]
 KEPT += OCTETS.values()
 
@@ -129,11 +129,14 @@ class Memory(unittest.TestCase):
         for name, call in CALLS.items():
             with self.subTest(name):
                 call()
-                for number in range(0 if name.startswith(IN_PYTHON) else 40):
+                number = last = 0
+                # The last allocation is before ten numbers without an error.
+                while number < last + 10 and not name.startswith(IN_PYTHON):
                     _testcapi.set_nomemory(number, number + 1)
                     try:
                         call()
                     except MemoryError:
-                        pass
+                        last = number
                     finally:
                         _testcapi.remove_mem_hooks()
+                    number += 1

@@ -2,6 +2,7 @@
 import ast
 import contextlib
 import doctest
+import importlib.util
 import inspect
 import io
 import pathlib
@@ -33,17 +34,35 @@ def load_tests(loader, tests, pattern):
 
 class Package(unittest.TestCase):
     def test_pages_print_their_comments(self):
-        """A line of a page that prints has what it prints as its comment."""
+        """A line of a page that prints has what it prints as its comment, where what the block imports is installed."""
         for page in ("README.md", "python/README.md"):
             blocks = re.findall(r"^```python\n(.*?)^```", (TOP / page).read_text(encoding="utf-8"), re.M | re.S)
-            self.assertTrue(blocks)
+            self.assertIn("import ObjectIdentifier", blocks[0])
+            variables = {}
             for block in blocks:
-                wanted = re.findall(r"^ *print\(.*\)\s+# (.*)$", block, re.M)
-                out = io.StringIO()
-                with contextlib.redirect_stdout(out):
-                    exec(compile(block, page, "exec"), {})
-                self.assertEqual(wanted, out.getvalue().splitlines())
-                self.assertEqual(len(wanted), block.count("print("))
+                with self.subTest(block):
+                    self.check_block(compile(block, page, "exec"), block, variables)
+
+    def check_block(self, code, block, variables):
+        wanted = re.findall(r"^ *print\(.*\)\s+# (.*)$", block, re.M)
+        self.assertTrue(0 < len(wanted) == block.count("print("))
+        out = io.StringIO()
+        try:
+            with contextlib.redirect_stdout(out):
+                exec(code, variables)
+        except ModuleNotFoundError as error:
+            self.assertIn(error.name.split(".")[0], {"asn1crypto", "cryptography", "numpy", "pandas", "pyasn1"})
+            self.skipTest(str(error))
+        self.assertEqual(wanted, out.getvalue().splitlines())
+
+    @unittest.skipUnless(importlib.util.find_spec("numpy"), "numpy is not installed")
+    def test_numpy_takes_an_identifier_as_one_value(self):
+        import numpy
+
+        oids = [ObjectIdentifier("2.5.4"), ObjectIdentifier("2.5.6")]
+        array = numpy.array(oids)
+        self.assertEqual(((2,), "O", oids), (array.shape, array.dtype.char, array.tolist()))
+        self.assertEqual(((), oids[0]), (numpy.asarray(oids[0]).shape, numpy.asarray(oids[0])[()]))
 
     def test_codes_are_those_of_the_header(self):
         codes = dict(re.findall(r"CONST_OID_(\w+) = (\d+)", HEADER.split("enum const_oid_code")[1].split("}")[0]))

@@ -62,15 +62,22 @@ class OidError(ValueError):
         if not isinstance(self.given, str):
             return None
         text: str = self.given
+        head, right = "", 0  # All components before this offset are right, and these stand for them.
 
         def is_wrong(offset: int) -> bool:
             """Whether the components up to that of an offset are no identifier, and do not begin one."""
+            nonlocal head, right
             end = text.find(".", offset)
-            start = text if end < 0 else text[:end]
+            end = len(text) if end < 0 else end
+            if end < right:
+                return False
+            start = head + text[right:end]
             try:
                 ObjectIdentifier(start if "." in start else start + ".0")
             except OidError:
                 return True
+            if "." in start:
+                head, right = "1.1.", end + 1
             return False
 
         offset = bisect_left(range(len(text) + 1), True, key=is_wrong)

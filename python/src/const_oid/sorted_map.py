@@ -33,9 +33,8 @@ class SortedMap(MutableMapping[ObjectIdentifier, Value]):
     __slots__ = ("_keys", "_values")
 
     def __init__(self, entries: Mapping[Key, Value] | Iterable[tuple[ObjectIdentifier, Value]] = ()) -> None:
-        self._values: dict[ObjectIdentifier, Value] = {}
-        self._keys = _Keys(())
-        self.update(entries)
+        self._values = _checked(entries)
+        self._keys = _Keys(self._values)
 
     def nearest(self, oid: ObjectIdentifier) -> tuple[ObjectIdentifier, Value] | None:
         """The entry whose key is the longest prefix of an identifier, or None.
@@ -84,14 +83,11 @@ class SortedMap(MutableMapping[ObjectIdentifier, Value]):
         self, entries: Mapping[Key, Value] | Iterable[tuple[ObjectIdentifier, Value]] = (), /
     ) -> None:
         """Sets all entries of a mapping or an iterable, or none if a key is no identifier."""
-        values: dict[ObjectIdentifier, Value] = {}
-        values.update(entries)  # type: ignore[arg-type]
-        for key in values:
-            required(key, "key")
+        values = _checked(entries)
         added = values.keys() - self._values.keys()
         self._values.update(values)
         if 8 * len(added) > len(self._values):
-            self._keys = _Keys(self._values)
+            self._keys = _Keys([*self._keys, *added])
         else:
             for key in added:
                 self._keys.add(key)
@@ -155,13 +151,21 @@ class SortedMap(MutableMapping[ObjectIdentifier, Value]):
     def __getstate__(self) -> tuple[dict[str, Any] | None, dict[str, Any]]:
         """For copies and pickles: the entries in order, and the attributes of a subclass."""
         attributes, slots = super().__getstate__()  # type: ignore[misc]
-        return attributes, {**slots, "_values": dict(self.items()), "_keys": None}
+        return attributes, {**slots, "_values": {key: self._values[key] for key in self._keys}, "_keys": None}
 
     def __setstate__(self, state: tuple[dict[str, Any] | None, dict[str, Any]]) -> None:
         attributes, slots = state
         for name, value in {**(attributes or {}), **slots}.items():
             setattr(self, name, value)
         self._keys = _Keys(self._values)
+
+
+def _checked(entries: Mapping[Key, Value] | Iterable[tuple[ObjectIdentifier, Value]]) -> dict[ObjectIdentifier, Value]:
+    """A new dict of entries, whose keys are identifiers."""
+    values: dict[ObjectIdentifier, Value] = dict(entries)  # type: ignore[arg-type]
+    for key in values:
+        required(key, "key")
+    return values
 
 
 class _Keys:
