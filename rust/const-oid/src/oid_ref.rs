@@ -58,8 +58,7 @@ impl ObjectIdentifierRef {
         erased::ObjectIdentifierRef::from_bytes(ber).map(|oid| Self::from_checked(oid.as_bytes()))
     }
 
-    /// Parses dotted text in ASCII, of any length, into octets at the start of `out`. As many as the text has bytes
-    /// are always enough.
+    /// Parses dotted text of any length into octets at the start of `out`. As many as the text has bytes are always enough.
     ///
     /// # Errors
     ///
@@ -69,12 +68,26 @@ impl ObjectIdentifierRef {
     /// # Examples
     ///
     /// ```
+    /// use const_oid::{Error, ObjectIdentifierRef};
+    ///
+    /// let mut out = [0; 2];
+    /// assert_eq!(ObjectIdentifierRef::new_in("2.999", &mut out)?.as_bytes(), [0x88, 0x37]);
+    /// assert_eq!(ObjectIdentifierRef::new_in("2.999.3", &mut out), Err(Error::Length));
+    /// # Ok::<(), Error>(())
+    /// ```
+    pub fn new_in<'o>(s: &str, out: &'o mut [u8]) -> Result<&'o Self> {
+        Self::from_ascii_in(s.as_bytes(), out)
+    }
+
+    /// Parses dotted text in ASCII as [`new_in`](Self::new_in) does. The bytes need not be UTF-8.
+    ///
+    /// # Examples
+    ///
+    /// ```
     /// use const_oid::ObjectIdentifierRef;
     ///
-    /// let text = format!("1.3{}", ".4294967295".repeat(126)); // 128 arcs, the most of SNMP
-    /// let mut out = [0; 640];
-    /// let oid = ObjectIdentifierRef::from_ascii_in(text.as_bytes(), &mut out)?;
-    /// assert_eq!((oid.len(), oid.as_bytes().len()), (128, 631));
+    /// let mut out = [0; 5];
+    /// assert_eq!(ObjectIdentifierRef::from_ascii_in(b"2.999", &mut out)?.to_string(), "2.999");
     /// # Ok::<(), const_oid::Error>(())
     /// ```
     pub fn from_ascii_in<'o>(text: &[u8], out: &'o mut [u8]) -> Result<&'o Self> {

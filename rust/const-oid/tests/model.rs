@@ -1,7 +1,7 @@
 //! Each form of each function of identifiers beside a model, which is written from docs/RULES.md alone: all octets of
 //! up to three, edges of up to eight, all texts of up to eight bytes over a few, arrays of arcs, and long ones.
 
-use const_oid::{Arc, Error, ObjectIdentifier, ObjectIdentifierRef};
+use const_oid::{Arc, ByArcs, Error, ObjectIdentifier, ObjectIdentifierRef};
 use std::borrow::Borrow;
 use std::cmp::Ordering;
 use std::hash::{Hash, Hasher};
@@ -208,12 +208,13 @@ fn check_octets(octets: &[u8]) {
     }
 }
 
-/// A function that writes octets of any length into an output of N octets.
-fn check_written<const N: usize>(
+/// A function that writes octets of any length into an output of so many octets.
+fn check_written(
+    size: usize,
     answer: model::Answer,
     write: impl FnOnce(&mut [u8]) -> Result<Vec<u8>, Error>,
 ) {
-    let mut out = [0xA5; N];
+    let mut out = vec![0xA5; size];
     let octets = answer.map(|arcs| model::encoding(&arcs));
     assert_eq!(write(&mut out), octets);
     let len = octets.map_or(0, |octets| {
@@ -223,11 +224,27 @@ fn check_written<const N: usize>(
     assert!(out[len..].iter().all(|byte| *byte == 0xA5));
 }
 
-/// The functions that parse text, at a capacity.
-fn read_text<const N: usize>(text: &str) {
-    check_written::<N>(model::of_text(text.as_bytes(), N), |out| {
+/// The functions that write the octets of a text into an output of so many octets.
+fn write_text(text: &str, size: usize) {
+    let answer = model::of_text(text.as_bytes(), size);
+    check_written(size, answer.clone(), |out| {
+        ObjectIdentifierRef::new_in(text, out).map(|oid| oid.as_bytes().to_vec())
+    });
+    check_written(size, answer, |out| {
         ObjectIdentifierRef::from_ascii_in(text.as_bytes(), out).map(|oid| oid.as_bytes().to_vec())
     });
+}
+
+/// The function that writes the octets of arcs into an output of so many octets.
+fn write_arcs(arcs: &[Arc], size: usize) {
+    check_written(size, model::of_arcs(arcs, size), |out| {
+        ObjectIdentifierRef::from_arcs_in(arcs, out).map(|oid| oid.as_bytes().to_vec())
+    });
+}
+
+/// The functions that parse text, at a capacity.
+fn read_text<const N: usize>(text: &str) {
+    write_text(text, N);
     let answer = model::of_text(text.as_bytes(), model::capacity(N));
     let owned = ObjectIdentifier::<N>::new_sized(text);
     assert_eq!(
@@ -251,9 +268,7 @@ fn check_text(text: &str) {
 
 /// The functions that take arcs, at a capacity.
 fn read_arcs<const N: usize>(arcs: &[Arc]) {
-    check_written::<N>(model::of_arcs(arcs, N), |out| {
-        ObjectIdentifierRef::from_arcs_in(arcs, out).map(|oid| oid.as_bytes().to_vec())
-    });
+    write_arcs(arcs, N);
     let answer = model::of_arcs(arcs, model::capacity(N));
     let owned = ObjectIdentifier::<N>::from_arcs_sized(arcs.iter().copied());
     let octets = owned.map(|oid| oid.as_bytes().to_vec());
@@ -617,6 +632,120 @@ fn encodes_arcs() {
                 each_capacity!(read_text(&(model::text(&arcs) + end)));
             }
         }
+    }
+}
+
+/// Numbers that are drawn, the same each time (xorshift).
+struct Drawn(u64);
+
+impl Drawn {
+    fn below(&mut self, end: usize) -> usize {
+        self.0 ^= self.0 << 13;
+        self.0 ^= self.0 >> 7;
+        self.0 ^= self.0 << 17;
+        (self.0 % end as u64) as usize
+    }
+
+    /// An arc of one to five octets.
+    fn arc(&mut self) -> Arc {
+        let bits = [1, 7, 8, 14, 21, 28, 32][self.below(7)];
+        self.below(1 << bits) as Arc
+    }
+
+    /// Arcs of an identifier, up to so many octets or a few more.
+    fn arcs(&mut self, octets: usize) -> Vec<Arc> {
+        let first = self.below(3) as Arc;
+        let second = if first < 2 {
+            self.below(40) as Arc
+        } else {
+            self.arc()
+        };
+        let mut arcs = vec![first, second];
+        let mut len = model::encoding(&arcs).len();
+        while len < octets {
+            let arc = self.arc();
+            len += model::encoding(&[1, 2, arc]).len() - 1;
+            arcs.push(arc);
+        }
+        arcs
+    }
+}
+
+/// Texts and arcs of some 255 octets, with an error anywhere in every other one, into outputs of about as many octets.
+#[test]
+fn writes_octets_at_the_end_of_the_output() {
+    let mut drawn = Drawn(88172645463325252);
+    for count in 0..100_000 {
+        let octets = [1, 39, 254, 255, 256, 300][drawn.below(6)];
+        let mut arcs = drawn.arcs(octets);
+        let len = model::encoding(&arcs).len();
+        let size = [(len + drawn.below(12)).saturating_sub(6), 0, 255, 256][drawn.below(8).min(3)];
+        let mut parts: Vec<String> = arcs.iter().map(Arc::to_string).collect();
+        if count % 2 == 0 {
+            let wrong = ["", "x", "4294967296", "1x", "\u{e9}", "0001"][drawn.below(6)];
+            let at = drawn.below(parts.len() + 1);
+            parts.insert(at, wrong.to_string());
+            let at = drawn.below(2);
+            arcs[at] = drawn.arc();
+        }
+        write_text(&parts.join("."), size);
+        write_arcs(&arcs, size);
+    }
+}
+
+/// A table of 10,000 names of 100 to 128 arcs, made from text, sorted, searched and printed.
+#[test]
+fn finds_names_past_255_octets() {
+    let mut drawn = Drawn(2463534242);
+    let mut names: Vec<(Vec<Arc>, Vec<u8>)> = Vec::new();
+    while names.len() < 10_000 {
+        let few = names.len() % 3 > 0;
+        let mut arcs = vec![1, 3, 6, 1];
+        let count = 100 + drawn.below(29);
+        arcs.resize_with(count, || {
+            if few {
+                drawn.below(128) as Arc
+            } else {
+                drawn.0 as Arc / 2 + drawn.arc() / 2
+            }
+        });
+        let text = arcs
+            .iter()
+            .map(Arc::to_string)
+            .collect::<Vec<_>>()
+            .join(".");
+        let mut out = vec![0; text.len()];
+        let octets = ObjectIdentifierRef::new_in(&text, &mut out)
+            .unwrap()
+            .as_bytes()
+            .to_vec();
+        assert_eq!(octets, model::encoding(&arcs));
+        names.push((arcs, octets));
+    }
+    assert!(
+        names
+            .iter()
+            .filter(|(_, octets)| octets.len() > 255)
+            .count()
+            > 3_333
+    );
+    names.sort();
+    let sorted: Vec<ByArcs<&ObjectIdentifierRef>> = names
+        .iter()
+        .map(|(_, octets)| ByArcs(ObjectIdentifierRef::from_bytes(octets).unwrap()))
+        .collect();
+    assert!(sorted.is_sorted());
+    for (index, (arcs, octets)) in names.iter().enumerate() {
+        let mut out = vec![0; 5 * arcs.len()];
+        let oid = ObjectIdentifierRef::from_arcs_in(arcs, &mut out).unwrap();
+        assert_eq!(oid.as_bytes(), octets);
+        assert_eq!(sorted.binary_search(&ByArcs(oid)), Ok(index));
+        assert!(
+            oid.to_string()
+                .split('.')
+                .map(|arc| arc.parse::<Arc>().unwrap())
+                .eq(arcs.iter().copied())
+        );
     }
 }
 

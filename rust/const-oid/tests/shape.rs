@@ -201,6 +201,12 @@ fn functions_have_their_types() {
     let _: fn([Arc; 3]) -> Result<ObjectIdentifier<7>> = ObjectIdentifier::from_arcs_sized;
     let _: fn(&[u8]) -> Result<ObjectIdentifier> = ObjectIdentifier::from_bytes;
     let _: fn(&[u8]) -> Result<ObjectIdentifier<7>> = ObjectIdentifier::from_bytes_sized;
+    let _: for<'o> fn(&str, &'o mut [u8]) -> Result<&'o ObjectIdentifierRef> =
+        ObjectIdentifierRef::new_in;
+    let _: for<'o> fn(&[u8], &'o mut [u8]) -> Result<&'o ObjectIdentifierRef> =
+        ObjectIdentifierRef::from_ascii_in;
+    let _: for<'o> fn(&[Arc], &'o mut [u8]) -> Result<&'o ObjectIdentifierRef> =
+        ObjectIdentifierRef::from_arcs_in;
     let _: fn(&ObjectIdentifier<7>) -> Option<ObjectIdentifier<7>> = ObjectIdentifier::parent;
     let _: fn(&ObjectIdentifier<7>) -> Arcs<'_> = ObjectIdentifier::arcs;
     let _: fn(&ObjectIdentifierRef) -> Arcs<'_> = ObjectIdentifierRef::arcs;
