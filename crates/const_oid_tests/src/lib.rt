@@ -2,6 +2,8 @@
 #![tactic(auto)]
 
 #[cfg(test)]
+mod any_length;
+#[cfg(test)]
 mod arcs;
 #[cfg(test)]
 mod callers;

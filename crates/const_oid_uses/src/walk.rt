@@ -1,17 +1,31 @@
-//! A walk in lexicographic order of arcs, for GetNext of SNMP (RFC 3416).
+//! Names of SNMP, and a walk in lexicographic order of arcs, for GetNext (RFC 3416).
 
-ghost use Rattle.std.specs.Prelude.{◌≡◌, ◌≢◌, IfSome, IfNone};
+ghost use Rattle.std.specs.Prelude.{◌≡◌, ◌≢◌, ◌≤◌, Err, IfSome, IfNone, length};
 ghost use Rattle.std.specs.Cmp.Lexicographic.{slice_cmp};
 ghost use Rattle.std.specs.List.{All};
 ghost use Rattle.std.specs.List.Sorted.{IsSortedByKey};
 ghost use Rattle.std.specs.Ordering.{nat_cmp};
 ghost use Rattle.std.specs.declared.cmp.Ordering.TheVariants.{Less};
-ghost use Rattle.const_oid.specs.OidRef.{key_arcs, ref_arcs};
+ghost use Rattle.const_oid.specs.Identifier.{root_rule};
+ghost use Rattle.const_oid.specs.Items.{item_answer};
+ghost use Rattle.const_oid.specs.OidRef.{key_arcs, ref_answer, ref_arcs};
 ghost use Rattle.const_oid.specs.Tree.{BeginsWith};
 ghost use Rattle.const_oid.specs.declared.by_arcs.ByArcs.{ByArcs};
 ghost use Rattle.const_oid_uses.specs.Walk.{IsNext};
 
-use const_oid::{ByArcs, ObjectIdentifierRef};
+use const_oid::{Arc, ByArcs, Error, ObjectIdentifierRef, Result};
+
+/// Octets that are enough for the 128 arcs that a name may have (RFC 2578, 3.5).
+pub const MAX_NAME: usize = 640;
+
+/// The name of these arcs, in the caller's octets, which are enough.
+pub fn name<'o>(arcs: &[Arc], out: &'o mut [u8; MAX_NAME]) -> Result<ObjectIdentifierRef<'o>>
+    requires { length arcs.now ≤ 128 }
+    ensures answer { ref_answer result ≡ item_answer root_rule arcs.now 640 }
+    ensures fits { result ≢ Err Error.Length }
+{
+    ObjectIdentifierRef::from_arcs_in(arcs, out)
+}
 
 /// The first key of a sorted list after an identifier, which need not be in it.
 pub fn next_after<'s, 'a>(
