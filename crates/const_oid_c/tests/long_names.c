@@ -41,7 +41,8 @@ static void draw(name *made, size_t index) {
     made->text_len = 0;
     for (size_t i = 0; i < made->count; i++) {
         const char *format = i == 0 ? "%lu" : ".%lu";
-        made->text_len += (size_t)snprintf(made->text + made->text_len, MOST_TEXT - made->text_len, format, (unsigned long)made->arcs[i]);
+        char *end = made->text + made->text_len;
+        made->text_len += (size_t)snprintf(end, MOST_TEXT - made->text_len, format, (unsigned long)made->arcs[i]);
     }
 }
 
@@ -60,8 +61,10 @@ static void make(size_t index) {
     uint8_t again[MOST_OCTETS];
     const_oid_status needed = const_oid_from_text(made->text, made->text_len, NULL, 0);
     SEE(needed.code == CONST_OID_OUTPUT_TOO_SHORT && needed.len <= made->text_len, index);
-    SEE(is(const_oid_from_text(made->text, made->text_len, octets[index], needed.len - 1), CONST_OID_OUTPUT_TOO_SHORT, 0, needed.len), index);
-    SEE(is(const_oid_from_text(made->text, made->text_len, octets[index], needed.len), CONST_OID_OK, 0, needed.len), index);
+    const_oid_status less = const_oid_from_text(made->text, made->text_len, octets[index], needed.len - 1);
+    SEE(is(less, CONST_OID_OUTPUT_TOO_SHORT, 0, needed.len), index);
+    const_oid_status read = const_oid_from_text(made->text, made->text_len, octets[index], needed.len);
+    SEE(is(read, CONST_OID_OK, 0, needed.len), index);
     SEE(is(const_oid_from_arcs(made->arcs, made->count, NULL, 0), CONST_OID_OUTPUT_TOO_SHORT, 0, needed.len), index);
     SEE(is(const_oid_from_arcs(made->arcs, made->count, again, 5 * made->count), CONST_OID_OK, 0, needed.len), index);
     SEE(memcmp(again, octets[index], needed.len) == 0, index);
@@ -78,7 +81,8 @@ static void search(size_t index) {
     const_oid_status longer = const_oid_push_arc(item.octets, item.len, 7, child, sizeof child);
     SEE(is(const_oid_find(item.octets, item.len, sorted, COUNT), CONST_OID_OK, 0, index), index);
     SEE(is(const_oid_nearest(child, longer.len, sorted, COUNT), CONST_OID_OK, 0, index), index);
-    if (index + 1 < COUNT) SEE(is(const_oid_next(item.octets, item.len, sorted, COUNT), CONST_OID_OK, 0, index + 1), index);
+    const_oid_status next = const_oid_next(item.octets, item.len, sorted, COUNT);
+    SEE(index + 1 == COUNT || is(next, CONST_OID_OK, 0, index + 1), index);
     SEE(is(const_oid_to_text(item.octets, item.len, text, sizeof text), CONST_OID_OK, 0, made->text_len), index);
     SEE(memcmp(text, made->text, made->text_len) == 0, index);
 }

@@ -5,8 +5,8 @@ use const_oid::{Arc, Error, ObjectIdentifierRef};
 use const_oid_uses::walk::{MAX_NAME, name};
 use std::alloc::{AllocError, Global};
 
-/// How many octets an output has, the start of a text, how many times the middle follows, the middle and the end. Then the
-/// start and the middle of the octets, or the error.
+/// How many octets an output has, the start of a text, how many times the middle follows, the middle and the end. Then
+/// the start and the middle of the octets, or the error.
 type Row = (
     usize,
     &'static str,

@@ -58,7 +58,8 @@ impl ObjectIdentifierRef {
         erased::ObjectIdentifierRef::from_bytes(ber).map(|oid| Self::from_checked(oid.as_bytes()))
     }
 
-    /// Parses dotted text of any length into octets at the start of `out`. As many as the text has bytes are always enough.
+    /// Parses dotted text of any length into octets at the start of `out`. As many as the text has bytes are always
+    /// enough.
     ///
     /// # Errors
     ///
