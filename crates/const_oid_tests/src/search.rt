@@ -1,6 +1,7 @@
-//! Searches in a sorted array of items: `start_of`, `end_of`, `first_of`, `subtree_of` and `nearest_of`.
+//! Searches in a sorted array of items: `start_of`, `end_of`, `first_of`, `subtree_of` and `nearest_of`. The order of any
+//! octets: `order_of`.
 
-use const_oid::search::{Contents, end_of, first_of, nearest_of, start_of, subtree_of};
+use const_oid::search::{Contents, end_of, first_of, nearest_of, order_of, start_of, subtree_of};
 use const_oid::{Error, ObjectIdentifierRef};
 
 /// An item with contents octets.
@@ -113,5 +114,46 @@ fn finds_each_row(rt: HostRuntime) {
     for (items, rows) in TABLES {
         let octets = wrong_octets(items, rows);
         assert!(rt; octets.is_none(), "{octets:?} in {} items", items.len());
+    }
+}
+
+/// Octets, valid or not, in ascending order. A part ends with its first octet below 0x80, and a longer part is greater.
+const ASCENDING: &[&[u8]] = &[
+    &[],
+    &[0x00],
+    &[0x2A],
+    &[0x2A, 0x03],
+    &[0x2A, 0x03, 0x04],
+    &[0x2A, 0x7F],
+    &[0x2A, 0x80],
+    &[0x2A, 0x81],
+    &[0x2A, 0x80, 0x01],
+    &[0x2A, 0x81, 0x00],
+    &[0x2A, 0x81, 0x81],
+    &[0x2A, 0x80, 0x80, 0x00],
+    &[0x2A, 0x90, 0x80, 0x80, 0x80, 0x80, 0x00],
+    &[0x55],
+    &[0x80],
+    &[0xFF],
+    &[0x80, 0x00],
+    &[0x80, 0x00, 0x01],
+    &[0x81, 0x80],
+];
+
+/// The first octets of the order whose place to those at an index is wrong.
+fn wrong_order(index: usize, octets: &[u8]) -> Option<&'static [u8]> {
+    for (other, right) in ASCENDING.iter().enumerate() {
+        if order_of(octets, right) != index.cmp(&other) {
+            return Some(right);
+        }
+    }
+    None
+}
+
+#[test]
+fn orders_any_octets(rt: HostRuntime) {
+    for (index, octets) in ASCENDING.iter().enumerate() {
+        let other = wrong_order(index, octets);
+        assert!(rt; other.is_none(), "{octets:?} and {other:?}");
     }
 }
