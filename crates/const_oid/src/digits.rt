@@ -3,7 +3,6 @@ ghost use Rattle.std.specs.Prelude.{◌≡◌, ◌+◌, ◌<◌, ◌≤◌, [], 
 ghost use Rattle.const_oid.specs.Private.Text.{arc_text, pair_text, four_text};
 
 use crate::Arc;
-use crate::text::write_bytes;
 
 /// The most bytes that an arc takes in a text: a dot, and ten digits.
 pub(crate) const MAX_ARC_LEN: usize = 11;
@@ -33,7 +32,7 @@ pub(crate) fn write_arc(arc: Arc, is_first: bool, out: &mut [u8], at: usize) -> 
     let start = if is_first {
         at
     } else {
-        write_bytes(b".", out, at)
+        write_byte(b'.', out, at)
     };
     write_digits(arc, out, start)
 }
@@ -127,7 +126,7 @@ fn write_four(number: u32, out: &mut [u8], at: usize) -> usize
 }
 
 /// Writes two digits, a zero first.
-#[tactic(auto, using(crate::proofs::PairTable::pair_at))]
+#[tactic(auto, using(crate::proofs::PairTable::pairs_put))]
 #[inline]
 fn write_two(number: u32, out: &mut [u8], at: usize) -> usize
     requires few { number < 100 }
@@ -137,11 +136,18 @@ fn write_two(number: u32, out: &mut [u8], at: usize) -> usize
     ensures after { drop result out.new ≡ drop result out.old }
 {
     let pair = 2 * number as usize;
-    write_bytes(&PAIRS[pair..pair + 2], out, at)
+    let (tens, ones) = (PAIRS[pair], PAIRS[pair + 1]);
+    let end = at + 2;
+    // This always holds. rustc does not know it, and would make a panic. It stores both digits at once.
+    if at <= end && end <= out.len() {
+        let digits = &mut out[at..end];
+        digits[0] = tens;
+        digits[1] = ones;
+    }
+    end
 }
 
 /// Writes a digit.
-#[tactic(auto, using(crate::proofs::Decimals::digit_put))]
 #[inline(always)]
 fn write_one(number: u32, out: &mut [u8], at: usize) -> usize
     requires few { number < 10 }
@@ -150,8 +156,20 @@ fn write_one(number: u32, out: &mut [u8], at: usize) -> usize
     ensures prefix { take result out.new ≡ take at out.old ++ (48 + number) ∷ [] }
     ensures after { drop result out.new ≡ drop result out.old }
 {
+    write_byte(b'0' + number as u8, out, at)
+}
+
+/// Writes a byte at an index, and returns the index after it.
+#[tactic(auto, using(crate::proofs::Decimals::digit_put))]
+#[inline(always)]
+fn write_byte(byte: u8, out: &mut [u8], at: usize) -> usize
+    requires { at < length out.old }
+    ensures end { result ≡ at + 1 }
+    ensures prefix { take result out.new ≡ take at out.old ++ byte ∷ [] }
+    ensures after { drop result out.new ≡ drop result out.old }
+{
     if at < out.len() {
-        out[at] = b'0' + number as u8;
+        out[at] = byte;
     }
     at + 1
 }

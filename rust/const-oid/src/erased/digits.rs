@@ -3,7 +3,6 @@
 //! Arcs in decimal, written into bytes.
 
 use crate::erased::Arc;
-use crate::erased::text::write_bytes;
 
 /// The most bytes that an arc takes in a text: a dot, and ten digits.
 pub(crate) const MAX_ARC_LEN: usize = 11;
@@ -24,7 +23,7 @@ pub(crate) fn write_arc(arc: Arc, is_first: bool, out: &mut [u8], at: usize) -> 
     let start = if is_first {
         at
     } else {
-        write_bytes(b".", out, at)
+        write_byte(b'.', out, at)
     };
     write_digits(arc, out, start)
 }
@@ -97,14 +96,28 @@ fn write_four(number: u32, out: &mut [u8], at: usize) -> usize {
 #[inline]
 fn write_two(number: u32, out: &mut [u8], at: usize) -> usize {
     let pair = 2 * number as usize;
-    write_bytes(&PAIRS[pair..pair + 2], out, at)
+    let (tens, ones) = (PAIRS[pair], PAIRS[pair + 1]);
+    let end = at + 2;
+    // This always holds. rustc does not know it, and would make a panic. It stores both digits at once.
+    if at <= end && end <= out.len() {
+        let digits = &mut out[at..end];
+        digits[0] = tens;
+        digits[1] = ones;
+    }
+    end
 }
 
 /// Writes a digit.
 #[inline(always)]
 fn write_one(number: u32, out: &mut [u8], at: usize) -> usize {
+    write_byte(b'0' + number as u8, out, at)
+}
+
+/// Writes a byte at an index, and returns the index after it.
+#[inline(always)]
+fn write_byte(byte: u8, out: &mut [u8], at: usize) -> usize {
     if at < out.len() {
-        out[at] = b'0' + number as u8;
+        out[at] = byte;
     }
     at + 1
 }
