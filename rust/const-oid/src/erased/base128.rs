@@ -117,20 +117,29 @@ pub(crate) const fn append_group(
 ) -> Result<usize> {
     let mut at = used;
     if number >= 0x80 {
-        // A literal number of turns is unrolled at opt-level 3.
-        let mut shift: u32 = 28;
-        while shift > 0 {
-            if number >> shift > 0 {
-                if at >= capacity {
-                    return Err(Error::Length);
+        if number >= 0x4000 {
+            // A literal number of turns is unrolled at opt-level 3.
+            let mut shift: u32 = 28;
+            while shift > 7 {
+                if number >> shift > 0 {
+                    if at >= capacity {
+                        return Err(Error::Length);
+                    }
+                    if capacity <= out.len() {
+                        out[at] = 128 + ((number >> shift) % 128) as u8;
+                    }
+                    at += 1;
                 }
-                if capacity <= out.len() {
-                    out[at] = 128 + ((number >> shift) % 128) as u8;
-                }
-                at += 1;
+                shift -= 7;
             }
-            shift -= 7;
         }
+        if at >= capacity {
+            return Err(Error::Length);
+        }
+        if capacity <= out.len() {
+            out[at] = 128 + ((number >> 7) % 128) as u8;
+        }
+        at += 1;
     }
     if at >= capacity {
         return Err(Error::Length);
