@@ -20,8 +20,8 @@ except ImportError:
 OCTETS = {
     "short": bytes.fromhex("2A8648CE3D0201"),
     "300 arcs": b"\x2a" + b"".join(bytes([0x82 + arc // 128, arc % 128]) for arc in range(298)),
-    "100 arcs of ten digits": b"\x2a" + b"".join(bytes([0x8F, 0xFF, 0xFF, 0xFE, arc]) for arc in range(98)),
-    "300 arcs of ten digits": b"\x2a" + b"".join(bytes([0x8F, 0xFF, 0xFF, 0xF0 + arc % 3, arc // 3]) for arc in range(298)),
+    "100 arcs of ten digits": b"\x2a" + b"".join(bytes([0x8F, 255, 255, 255, arc]) for arc in range(98)),
+    "300 arcs of ten digits": b"\x2a" + b"".join(bytes([0x8F, 255, 255, 253 + n % 3, n // 3]) for n in range(298)),
 }
 OTHER = ObjectIdentifier("1.2")
 WRONG = b"\x80\x01"

@@ -232,7 +232,8 @@ class Values(unittest.TestCase):
         oid.text, oid.slot, oid.other = "changed", [1], [oid]
         copies = [pickle.loads(pickle.dumps(oid, protocol)) for protocol in range(2, pickle.HIGHEST_PROTOCOL + 1)]
         for other in [*copies, copy.deepcopy(oid), copy.deepcopy([oid])[0]]:
-            self.assertEqual((oid, "changed", [1], other), (other, other.text, other.slot, other.other[0]))
+            self.assertEqual((oid, "changed", [1]), (other, other.text, other.slot))
+            self.assertIs(other, other.other[0])
             self.assertIsNot(oid.slot, other.slot)
             self.assertIsNot(oid, other)
         other = copy.copy(oid)
