@@ -43,8 +43,9 @@ class SortedMap(MutableMapping[ObjectIdentifier, Value]):
         >>> names.nearest(ObjectIdentifier("2.5.4.3"))
         (ObjectIdentifier('2.5.4'), 'attributes')
         """
-        prefix: ObjectIdentifier | None = required(oid, "key")
-        while prefix is not None and prefix not in self._values:
+        # A key that is a prefix of the identifier is also one of the last key that is not after it.
+        prefix = self._keys.last_until(required(oid, "key"))
+        while prefix is not None and not (oid.starts_with(prefix) and prefix in self._values):
             prefix = prefix.parent
         return None if prefix is None else self._entry(bisect_left, prefix)
 
@@ -208,6 +209,14 @@ class _Keys:
             return None
         part = self._parts[index]
         return part[find(part, oid)]
+
+    def last_until(self, oid: ObjectIdentifier) -> ObjectIdentifier | None:
+        """The last key that is not after an identifier, or None."""
+        index = bisect(self._lasts, oid)
+        before = bisect(self._parts[index], oid) if index < len(self._parts) else 0
+        if before:
+            return self._parts[index][before - 1]
+        return self._lasts[index - 1] if index else None
 
     def subtree(self, oid: ObjectIdentifier) -> list[ObjectIdentifier]:
         """The keys that begin with an identifier."""
