@@ -3,7 +3,7 @@
 use std::process::Command;
 
 /// Modules, or functions of a module, that the crate lacks.
-const MISSING: [(&str, &str); 10] = [
+const MISSING: &[(&str, &str)] = &[
     ("db_ref", "in Rust a constant holds a `Database`"),
     ("laws", "its functions have contracts, and no effect"),
     ("oid::try_from_ref", "`TryFrom`"),
@@ -34,7 +34,7 @@ const MISSING: [(&str, &str); 10] = [
 const ONE_FORM: &str = "in C an identifier is its octets";
 
 /// Modules, or functions, and the function for C with the same result, or why there is none.
-const IN_C: [(&str, &str); 43] = [
+const IN_C: &[(&str, &str)] = &[
     ("buffer", ONE_FORM),
     ("db", "a table in C is the caller's"),
     ("db_ref", "a table in C is the caller's"),
