@@ -3,7 +3,7 @@
 - rust: the lines are in a file of crates/const_oid_uses/src or const_oid_tests/src, in order, indentation and blank lines
   aside. On the page of the cargo crate, cargo tests them.
 - antt: the same, in a file of crates/const_oid_uses/proofs.
-- c, cpp: the same, in agent.c or main.cpp of crates/const_oid_c/tests. README's is run.
+- c, cpp: the same, in agent.c, by_name.c or main.cpp of crates/const_oid_c/tests. README's is run.
 - c of README, sh, python, toml: a compiler, bash or Python parses it.
 - rs: cargo builds and runs it, once with each toml block of its page that has dependencies, in a package beside a link
   `const_oid` to this checkout.
@@ -28,7 +28,7 @@ PARSERS = {
 QUOTED = {
     "rust": ["crates/const_oid_uses/src/**/*.rt", "crates/const_oid_tests/src/**/*.rt"],
     "antt": ["crates/const_oid_uses/proofs/**/*.antt"],
-    "c": ["crates/const_oid_c/tests/agent.c"],
+    "c": ["crates/const_oid_c/tests/agent.c", "crates/const_oid_c/tests/by_name.c"],
     "cpp": ["crates/const_oid_c/tests/main.cpp"],
 }
 HEAD = '[package]\nname = "app"\nversion = "0.1.0"\nedition = "2024"\n\n'
