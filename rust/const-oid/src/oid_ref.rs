@@ -54,6 +54,7 @@ impl ObjectIdentifierRef {
     /// assert_eq!(ObjectIdentifierRef::from_bytes(&[0x88]), Err(Error::Base128));
     /// # Ok::<(), Error>(())
     /// ```
+    #[inline]
     pub fn from_bytes(ber: &[u8]) -> Result<&Self> {
         erased::ObjectIdentifierRef::from_bytes(ber).map(|oid| Self::from_checked(oid.as_bytes()))
     }
@@ -76,6 +77,7 @@ impl ObjectIdentifierRef {
     /// assert_eq!(ObjectIdentifierRef::new_in("2.999.3", &mut out), Err(Error::Length));
     /// # Ok::<(), Error>(())
     /// ```
+    #[inline]
     pub fn new_in<'o>(s: &str, out: &'o mut [u8]) -> Result<&'o Self> {
         Self::from_ascii_in(s.as_bytes(), out)
     }
@@ -91,6 +93,7 @@ impl ObjectIdentifierRef {
     /// assert_eq!(ObjectIdentifierRef::from_ascii_in(b"2.999", &mut out)?.to_string(), "2.999");
     /// # Ok::<(), const_oid::Error>(())
     /// ```
+    #[inline]
     pub fn from_ascii_in<'o>(text: &[u8], out: &'o mut [u8]) -> Result<&'o Self> {
         erased::ObjectIdentifierRef::from_ascii_in(text, out)
             .map(|oid| Self::from_checked(oid.as_bytes()))
@@ -113,6 +116,7 @@ impl ObjectIdentifierRef {
     /// assert_eq!((oid.len(), oid.as_bytes().len()), (128, 127));
     /// # Ok::<(), const_oid::Error>(())
     /// ```
+    #[inline]
     pub fn from_arcs_in<'o>(arcs: &[Arc], out: &'o mut [u8]) -> Result<&'o Self> {
         erased::ObjectIdentifierRef::from_arcs_in(arcs, out)
             .map(|oid| Self::from_checked(oid.as_bytes()))
@@ -140,6 +144,7 @@ impl ObjectIdentifierRef {
     /// assert_eq!(oid.parent().unwrap().to_string(), "2.999");
     /// # Ok::<(), const_oid::Error>(())
     /// ```
+    #[inline]
     pub fn parent(&self) -> Option<&Self> {
         self.erased()
             .parent()
@@ -153,6 +158,7 @@ macro_rules! calls {
         impl ObjectIdentifierRef {
             $(
                 $(#[$doc])*
+                #[inline]
                 pub fn $name $(<$life>)? (&self $(, $argument: $type)?) -> $result {
                     self.erased().$name($($argument)?)
                 }
@@ -167,6 +173,7 @@ macro_rules! calls_of_two {
         impl ObjectIdentifierRef {
             $(
                 $(#[$doc])*
+                #[inline]
                 pub fn $name(&self, other: &Self) -> $result {
                     self.erased().$name(&other.erased())
                 }
