@@ -120,7 +120,7 @@ macro_rules! names {
 
 /// The table of all entries in the order of arcs.
 macro_rules! sorted {
-    ($($module:ident::$constant:ident, $name:literal;)*) => {
+    ($($octets:literal, $name:literal;)*) => {
         /// The entries of [`DB`] in the order of arcs, those of an identifier in the order of [`DB`].
         ///
         /// # Examples
@@ -132,25 +132,10 @@ macro_rules! sorted {
         /// ```
         pub const SORTED: SortedDatabase<'static> = SortedDatabase::new(&IN_ORDER);
 
-        /// The entries of [`SORTED`], as a `static`, as above.
+        /// The entries of [`SORTED`], as a `static`, as above. Their octets are compared with [`DB`] by a test.
         static IN_ORDER: [(&ObjectIdentifierRef, &str); [$($name,)*].len()] =
-            [$(({
-                const OID: ObjectIdentifier = $module::$constant;
-                const LEN: usize = OID.as_bytes().len();
-                ObjectIdentifierRef::from_checked(const { &exact::<LEN>(OID.as_bytes()) })
-            }, $name),)*];
+            [$((ObjectIdentifierRef::from_checked($octets), $name),)*];
     };
-}
-
-/// Octets in an array that has no others.
-const fn exact<const LEN: usize>(octets: &[u8]) -> [u8; LEN] {
-    let mut exact = [0; LEN];
-    let mut index = 0;
-    while index < LEN {
-        exact[index] = octets[index];
-        index += 1;
-    }
-    exact
 }
 
 include!("db/names.rs");

@@ -65,7 +65,7 @@ pub fn header(table: &str) -> Result<String> {
 }
 
 /// The contents octets of arcs, in a string literal.
-fn octets(arcs: &[u64]) -> String {
+pub fn octets(arcs: &[u64]) -> String {
     let mut octets = subidentifier(40 * arcs[0] + arcs[1]);
     octets.extend(arcs[2..].iter().flat_map(|arc| subidentifier(*arc)));
     octets
