@@ -3,8 +3,8 @@
 SortedDict of sortedcontainers (Debian: python3-sortedcontainers).
 
 It ends with status 1 if a row of identifiers is slower here than in the fastest of them, aside from asn1crypto's text,
-which it keeps. pyasn1 and asn1crypto encode and decode whole values, with tag and length. cryptography has no octets,
-no order and no pickles, and identifiers of asn1crypto have no hash and no order.
+which it keeps. pyasn1 and asn1crypto encode and decode whole values, with tag and length. cryptography has no octets
+and no order, and identifiers of asn1crypto have no hash, no order and no pickles.
 """
 import importlib
 import pickle

@@ -6,7 +6,7 @@ import model
 from const_oid import ObjectIdentifier, OidError
 
 SEED = 8825
-COUNTS = 20 * [2, 2, 3, 3, 3, 4, 4, 6, 6, 9] + [14, 20, 52, 53, 128, 255, 256, 257]
+COUNTS = 20 * [2, 2, 3, 3, 3, 4, 4, 6, 6, 9] + [14, 52, 53, 257]
 EDGES = [0, 1, 39, 40, 127, 128, 2**28, 2**32 - 1]
 OTHER_TEXTS = [".", "0", "00", "9", "4294967296", "x", " ", "\n", "\0", "é", "٣", "\ud800", "-", "1.2."]
 OTHER_OCTETS = [b"\x00", b"\x80", b"\xff", b"\x8f", b"\x90\x80\x80\x80\x50"]

@@ -62,19 +62,21 @@ class OidError(ValueError):
         if not isinstance(self.given, str):
             return None
         text: str = self.given
-        head, right = "", 0  # All components before this offset are right, and these stand for them.
+        # All components before `right` are right, and `head` stands for them; those up to `wrong` are not.
+        head, right, wrong = "", 0, len(text) + 1
 
         def is_wrong(offset: int) -> bool:
             """Whether the components up to that of an offset are no identifier, and do not begin one."""
-            nonlocal head, right
+            nonlocal head, right, wrong
             end = text.find(".", offset)
             end = len(text) if end < 0 else end
-            if end < right:
-                return False
+            if end < right or end >= wrong:
+                return end >= wrong
             start = head + text[right:end]
             try:
                 ObjectIdentifier(start if "." in start else start + ".0")
             except OidError:
+                wrong = end
                 return True
             if "." in start:
                 head, right = "1.1.", end + 1
