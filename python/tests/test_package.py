@@ -11,6 +11,7 @@ import re
 import shutil
 import subprocess
 import unittest
+import warnings
 
 import const_oid
 import typed
@@ -48,7 +49,8 @@ class Package(unittest.TestCase):
         self.assertTrue(0 < len(wanted) == block.count("print("))
         out = io.StringIO()
         try:
-            with contextlib.redirect_stdout(out):
+            with contextlib.redirect_stdout(out), warnings.catch_warnings():
+                warnings.simplefilter("ignore")  # those of other packages
                 exec(code, variables)
         except ModuleNotFoundError as error:
             self.assertIn(error.name.split(".")[0], {"asn1crypto", "cryptography", "numpy", "pandas", "pyasn1"})
@@ -57,7 +59,9 @@ class Package(unittest.TestCase):
 
     @unittest.skipUnless(importlib.util.find_spec("numpy"), "numpy is not installed")
     def test_numpy_takes_an_identifier_as_one_value(self):
-        import numpy
+        with warnings.catch_warnings():
+            warnings.simplefilter("ignore")
+            import numpy
 
         oids = [ObjectIdentifier("2.5.4"), ObjectIdentifier("2.5.6")]
         array = numpy.array(oids)
