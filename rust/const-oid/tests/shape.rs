@@ -417,13 +417,13 @@ fn unsafe_code_is_where_it_is_allowed() {
     let for_c = include_str!("../../const-oid-c/src/lib.rs");
     let denied = "#![deny(unsafe_op_in_unsafe_fn, clippy::undocumented_unsafe_blocks)]";
     assert!(for_c.contains(&format!("\n#![no_std]\n{denied}\n")));
-    let (_, above_calls) = for_c.split_once("#[forbid(unsafe_code)]").unwrap();
+    let (_, generated) = for_c.split_once("#[forbid(unsafe_code)]").unwrap();
     assert!(
-        above_calls
+        generated
             .split_once("mod ")
             .unwrap()
             .1
-            .starts_with("calls;")
+            .starts_with("erased;")
     );
 }
 
