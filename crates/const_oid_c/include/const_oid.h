@@ -1,45 +1,41 @@
-/* Object identifiers (ITU-T X.660) for C99 and C++: dotted-decimal text, arcs, and the contents octets
- * of BER and DER (ITU-T X.690 section 8.19), without tag and length. In the source, which is in Rattle, each function
- * is proved to return what its comment says. The Rattle toolchain builds the library from this source.
- * cargo builds it from Rust that is generated from it, and from code for pointers that is written by
- * hand: that build is tested, not proved.
+/* Object identifiers (ITU-T X.660) for C99 and C++: dotted-decimal text, arcs, and the contents octets of BER and DER
+ * (ITU-T X.690 section 8.19), without tag and length. The source is in Rattle, where each function is proved to return
+ * what its comment says. The Rattle toolchain builds the library from this source. cargo builds it from Rust that is
+ * generated from the source, and from code for pointers that is written by hand. That build is tested, not proved.
  *
  * What the caller must guarantee, for all functions:
  *
- * - Arrays. An input is a pointer and a number of items. An output is a pointer and the number of
- *   items that fit there. All of them belong to the caller. A function reads the input and writes within
- *   the output. It keeps no pointer, does not allocate and has no state.
- * - Null. A pointer may be null if its length is 0; so may the octets of an item of a list. `range`, and what
- *   const_oid_by_arcs compares, must not be null. To learn how long a result is, pass a null output of
- *   length 0: the code is OUTPUT_TOO_SHORT, and `len` is the length. Null pointers are tested, not proved.
- * - Overlap. An output does not overlap an input, whatever the lengths. gcc -Wall (-Wrestrict) warns of
- *   some calls that break this.
- * - Lengths. A length is that of its array, which has at most 2^63 - 1 bytes, or 2^30 - 1 where size_t
- *   has 32 bits. Texts are not null-terminated: no function looks for a zero byte or writes one.
- * - Threads. Every function is thread-safe. While a call runs, no other thread writes its inputs or
- *   touches its output.
- * - Machines. The system is Linux with glibc. The library that Rattle builds needs x86-64-v2
- *   (POPCNT, SSE4.1). The one that cargo builds is for each processor for which rustc has
- *   a target with such a system, also where size_t has 32 bits. The proofs are for 64 bits; 32 bits are
- *   tested. The tests run on x86-64 and i686.
- * - Octets. They follow the tag and the length, and no function removes these. A complete
- *   06 09 2A 86 .. is no error: it is read as 0.6.9.42...
+ * - Arrays. An input is a pointer and a number of items. An output is a pointer and the number of items that fit there.
+ *   Both arrays belong to the caller. A function reads the input and writes within the output. It keeps no pointer,
+ *   does not allocate and has no state.
+ * - Null. A pointer may be null if its length is 0. So may the octets of an item in a list. `range` and the arguments
+ *   of const_oid_by_arcs must not be null. To learn how long a result is, pass a null output with length 0: the code is
+ *   OUTPUT_TOO_SHORT, and `len` is the length. Null pointers are tested, not proved.
+ * - Overlap. An output must not overlap an input, whatever the lengths. gcc -Wall (-Wrestrict) warns about some calls
+ *   that break this.
+ * - Lengths. A length is that of its array, which has at most 2^63 - 1 bytes, or 2^30 - 1 if size_t has 32 bits. Texts
+ *   are not null-terminated: no function looks for a zero byte or writes one.
+ * - Threads. Every function is thread-safe. While a call runs, no other thread may write its inputs or touch its
+ *   output.
+ * - Machines. The system is Linux with glibc. The library that Rattle builds needs x86-64-v2 (POPCNT, SSE4.1). cargo
+ *   builds it for each processor for which rustc has a target with this system, also with 32 bits. The proofs are for
+ *   64 bits. The tests run on x86-64 and i686.
+ * - Octets. They come after the tag and the length, which no function removes. A complete 06 09 2A 86 .. is no error:
+ *   it is read as 0.6.9.42...
  *
- * What a function returns: a number from const_oid_version and const_oid_by_arcs, and otherwise a status, by
- * value. Code 0 is success. With any other code it wrote nothing, and the output is unchanged, bit for
- * bit. Items of the output after the first `len` are always unchanged. The comments of const_oid_status say
- * what its fields hold.
+ * What a function returns: const_oid_version and const_oid_by_arcs return a number, all others a status, by value. Code
+ * 0 is success. With any other code the function wrote nothing, and the output is unchanged, bit for bit. Items of the
+ * output after the first `len` are always unchanged. The comment before const_oid_status says what its fields hold.
  *
  * A function that is given invalid octets returns the first of these codes that applies:
  *
  * - EMPTY: there is no octet.
- * - The code of the first wrong subidentifier, which ends with its first octet below 0x80. BASE128 if it
- *   begins with 0x80; else ARC_TOO_BIG if its number is above 4294967295, or above 4294967375 in the
- *   first one; else BASE128 if the octets end before it does.
- * - LENGTH: there are more than 255 octets, in const_oid_cmp_owned.
+ * - The code for the first wrong subidentifier, which ends with its first octet below 0x80: BASE128 if it begins with
+ *   0x80; else ARC_TOO_BIG if its number is above 4294967295, or above 4294967375 if it is the first one; else BASE128
+ *   if the octets end before it does.
+ * - LENGTH, from const_oid_cmp_owned alone: there are more than 255 octets.
  *
- * Tests check the layouts below, the values of the constants, and that the library has exactly these
- * functions. */
+ * Tests check the layouts below, the values of the constants, and that the library has exactly these functions. */
 #ifndef CONST_OID_H
 #define CONST_OID_H
 
@@ -69,15 +65,14 @@ extern "C" {
 /* The most octets that const_oid_cmp_owned reads. The other functions read and write octets of any length. */
 #define CONST_OID_MAX_OCTETS 255
 
-/* The most bytes of text of CONST_OID_MAX_OCTETS octets. Longer inputs also have at most four bytes of
- * text per octet. */
+/* The most bytes of text for CONST_OID_MAX_OCTETS octets. For any number of octets, four bytes for each are enough. */
 #define CONST_OID_MAX_TEXT 1020
 
 /* The most arcs that CONST_OID_MAX_OCTETS octets have. */
 #define CONST_OID_MAX_ARCS 256
 
-/* The usual capacity in octets, which is the default of the Rust crate const-oid. For an identifier
- * that does not fit an output of this length, the code is OUTPUT_TOO_SHORT. */
+/* The usual capacity in octets, which is the default in the Rust crate const-oid. If an identifier does not fit an
+ * output of this length, the code is OUTPUT_TOO_SHORT. */
 #define CONST_OID_USUAL_OCTETS 39
 
 /* The length in bytes of the longest error text. */
@@ -91,7 +86,7 @@ enum const_oid_code {
     CONST_OID_BASE128 = 3,           /* a subidentifier begins with 0x80 or does not end */
     CONST_OID_DIGIT_EXPECTED = 4,    /* a byte is not a digit */
     CONST_OID_EMPTY = 5,             /* there is nothing, or only one arc */
-    CONST_OID_LENGTH = 6,            /* there are more than 255 octets, in const_oid_cmp_owned */
+    CONST_OID_LENGTH = 6,            /* const_oid_cmp_owned: more than 255 octets */
     CONST_OID_OVERFLOW = 7,          /* never returned: no sum overflows */
     CONST_OID_REPEATED_DOT = 8,      /* a dot follows another dot */
     CONST_OID_TRAILING_DOT = 9,      /* the text ends with a dot */
@@ -101,7 +96,7 @@ enum const_oid_code {
     CONST_OID_UNSORTED = 13          /* an item of the list comes before the previous one */
 };
 
-/* What a comparison returns in `detail`. None is 0, which an error leaves there. */
+/* What a comparison returns in `detail`, which is 0 after an error. */
 enum const_oid_order {
     CONST_OID_LESS = 1,   /* the first comes before the second */
     CONST_OID_EQUAL = 2,  /* they are equal */
@@ -111,12 +106,12 @@ enum const_oid_order {
 /* How a call ended, and two numbers.
  *
  * - `code` is one of const_oid_code.
- * - `detail` is, on success: of const_oid_arc the arc; of const_oid_starts_with and const_oid_eq 1 for
- *   true and 0 for false; of a comparison a const_oid_order. With ARC_INVALID it is the arc, with
- *   DIGIT_EXPECTED the byte. Otherwise it is 0.
+ * - `detail` is, on success, the arc from const_oid_arc, 1 for true and 0 for false from const_oid_starts_with and
+ *   const_oid_eq, and a const_oid_order from a comparison. With ARC_INVALID it is the arc, with DIGIT_EXPECTED the
+ *   byte. Otherwise it is 0.
  * - `len` is, on success, how many items the function wrote or counted, or the index that it found. With
- *   OUTPUT_TOO_SHORT it is how many items the result has. Of const_oid_check_sorted it is the index of the
- *   first wrong item. Otherwise it is 0. */
+ *   OUTPUT_TOO_SHORT it is how many items the result has. If const_oid_check_sorted finds a wrong item, it is the index
+ *   of the first one. Otherwise it is 0. */
 typedef struct const_oid_status {
     uint32_t code;
     uint32_t detail;
@@ -129,7 +124,7 @@ typedef struct const_oid_octets {
     size_t len;            /* how many there are */
 } const_oid_octets;
 
-/* The indices of a list from `start` up to, but not including, `end`, counted from 0. */
+/* Indices in a list, counted from 0: from `start` up to, but not including, `end`. */
 typedef struct const_oid_range {
     size_t start;
     size_t end;
@@ -138,137 +133,133 @@ typedef struct const_oid_range {
 /* The library keeps lengths in 64 bits, or in 32. */
 typedef char const_oid_size_t_has_64_or_32_bits[sizeof(size_t) == 8 || sizeof(size_t) == 4 ? 1 : -1];
 
-/* The version of the library: CONST_OID_VERSION of its header. */
+/* The version of the library: CONST_OID_VERSION in its header. */
 uint32_t const_oid_version(void);
 
-/* Writes the contents octets of the identifier that dotted text denotes, such as "1.2.840". Arcs may
- * have leading zeros. For other texts, returns NOT_UTF8 if the text is not UTF-8, or else the code of the
+/* Writes the contents octets of the identifier that dotted text denotes, such as "1.2.840". Arcs may have leading
+ * zeros. The text may have any length. If it is invalid, returns NOT_UTF8 if it is not UTF-8, or else the code for the
  * first wrong component, by the first of these that applies:
  *
  * - ARC_TOO_BIG: its leading digits are a number above 4294967295.
- * - DIGIT_EXPECTED: it has another byte than a digit, or it is empty and the first of several.
+ * - DIGIT_EXPECTED: it has a byte that is not a digit, or it is empty and the first of several.
  * - REPEATED_DOT: it is empty, and not the first one.
  * - TRAILING_DOT: an empty last component follows it, as in "3." and "1.40.".
  * - ARC_INVALID: it is the first one and above 2, or the second one, above 39 and after 0 or 1.
  * - EMPTY: it is the only one.
  *
- * The octets are no more than the bytes of the text. */
+ * There are no more octets than the text has bytes. */
 const_oid_status const_oid_from_text(
     const char *text, size_t text_len, uint8_t *CONST_OID_RESTRICT out, size_t out_len);
 
-/* Writes the dotted text of octets of any length: the arcs in decimal, joined by dots. */
+/* Writes dotted text for octets of any length: the arcs in decimal, joined by dots. */
 const_oid_status const_oid_to_text(
     const uint8_t *octets, size_t len, char *CONST_OID_RESTRICT out, size_t out_len);
 
-/* Checks octets of any length. The code is 0 if they are the encoding of an identifier. */
+/* Checks octets of any length. The code is 0 exactly if they encode an identifier. */
 const_oid_status const_oid_check(const uint8_t *octets, size_t len);
 
-/* Counts the arcs of octets of any length. */
+/* Counts the arcs in octets of any length. */
 const_oid_status const_oid_len(const uint8_t *octets, size_t len);
 
-/* Finds the arc at an index, counted from 0, of octets of any length. The code is NONE if there is no
- * such arc. */
+/* Finds the arc at an index, counted from 0, in octets of any length. The code is NONE if there is no such arc. */
 const_oid_status const_oid_arc(const uint8_t *octets, size_t len, size_t index);
 
-/* Writes all arcs of octets of any length, in order. `out_len` counts arcs. */
+/* Writes all arcs in octets of any length, in order. `out_len` counts arcs. */
 const_oid_status const_oid_arcs(
     const uint8_t *octets, size_t len, uint32_t *CONST_OID_RESTRICT out, size_t out_len);
 
-/* Writes as many arcs as fit, from the index `first` on, in order, of octets of any length. `out_len`
- * counts arcs. `len` is 0 past the last arc, and the code is never OUTPUT_TOO_SHORT. A loop over all arcs
- * with a short output adds `len` to `first` until `len` is 0. */
+/* Writes as many arcs as fit, in order, from the index `first` on. The octets may have any length. `out_len` counts
+ * arcs. `len` is 0 past the last arc, and the code is never OUTPUT_TOO_SHORT. A loop over all arcs with a short output
+ * adds `len` to `first` until `len` is 0. */
 const_oid_status const_oid_arcs_from(
     const uint8_t *octets, size_t len, size_t first, uint32_t *CONST_OID_RESTRICT out, size_t out_len);
 
-/* Writes the contents octets of arcs, five for each arc at most. For other arcs, returns ARC_INVALID with
- * the first wrong one, or else EMPTY if there are fewer than two. */
+/* Writes the contents octets for any number of arcs, at most five for each. If the arcs are invalid, returns
+ * ARC_INVALID with the first wrong one, or else EMPTY if there are fewer than two. */
 const_oid_status const_oid_from_arcs(
     const uint32_t *arcs, size_t len, uint8_t *CONST_OID_RESTRICT out, size_t out_len);
 
-/* Writes the contents octets of all arcs except the last, of octets of any length: a prefix of them. The
- * code is NONE if there are two arcs. */
+/* Writes the contents octets of the parent: all arcs except the last. They are a prefix of the octets, which may have
+ * any length. The code is NONE if there are only two arcs. */
 const_oid_status const_oid_parent(
     const uint8_t *octets, size_t len, uint8_t *CONST_OID_RESTRICT out, size_t out_len);
 
-/* Writes the contents octets of the arcs and one more, of octets of any length: these octets, and then
- * those of the arc, five at most. */
+/* Writes the contents octets of a child: all arcs, and one more. They are the octets, which may have any length, and
+ * then at most five for the arc. */
 const_oid_status const_oid_push_arc(
     const uint8_t *octets, size_t len, uint32_t arc, uint8_t *CONST_OID_RESTRICT out,
     size_t out_len);
 
-/* Whether the arcs of octets begin with all arcs of a prefix. Both may have any length. If the octets
- * are wrong, returns their code, or else that of a wrong prefix. */
+/* Whether an identifier begins with all arcs of a prefix. Both may have any length. If the octets are invalid, returns
+ * their code, or else, if the prefix is invalid, its code. */
 const_oid_status const_oid_starts_with(
     const uint8_t *octets, size_t len, const uint8_t *prefix, size_t prefix_len);
 
-/* Whether two identifiers of any length are equal. Returns the code of the first wrong one, if any. */
+/* Whether two identifiers of any length are equal. Returns the code for the first invalid one, if any. */
 const_oid_status const_oid_eq(
     const uint8_t *left, size_t left_len, const uint8_t *right, size_t right_len);
 
-/* Compares two identifiers of any length by their octets, as memcmp does. A prefix comes first. The
- * descendants of an identifier follow it without a gap. This is not the order of SNMP. Returns the code of
- * the first wrong one, if any. */
+/* Compares two identifiers of any length by their octets, as memcmp does. A prefix comes first. An identifier's
+ * descendants follow it without a gap. This is not the order in SNMP. Returns the code for the first invalid one, if
+ * any. */
 const_oid_status const_oid_cmp(
     const uint8_t *left, size_t left_len, const uint8_t *right, size_t right_len);
 
-/* Compares two identifiers of any length by their arcs, in lexicographic order. A prefix comes first.
- * This is the order of SNMP (RFC 3416), and of sorted lists below. Returns the code of the first wrong one, if any. */
+/* Compares two identifiers of any length by their arcs, in lexicographic order. A prefix comes first. This is the order
+ * in SNMP (RFC 3416) and in the sorted lists below. Returns the code for the first invalid one, if any. */
 const_oid_status const_oid_cmp_arcs(
     const uint8_t *left, size_t left_len, const uint8_t *right, size_t right_len);
 
-/* Compares two identifiers of at most 255 octets by length, and then by their octets. This is the
- * order of the Rust crate const-oid, and not that of SNMP. Returns the code of the first wrong one, if
- * any. */
+/* Compares two identifiers of at most 255 octets by length, and then by their octets. This is the order in the Rust
+ * crate const-oid, and not in SNMP. Returns the code for the first invalid one, if any. */
 const_oid_status const_oid_cmp_owned(
     const uint8_t *left, size_t left_len, const uint8_t *right, size_t right_len);
 
-/* Compares two items of a list for qsort and bsearch: each pointer is to a const_oid_octets. Returns -1 if the
- * first comes before the second, 0 if they are equal, and 1 if it comes after. std::sort takes
+/* Compares two items of a list, for qsort and bsearch. Each pointer is to a const_oid_octets. Returns -1 if the first
+ * comes before the second, 0 if they are equal, and 1 if it comes after. For std::sort, compare by
  * `const_oid_by_arcs(&left, &right) < 0`.
  *
- * The order of valid items is that of const_oid_cmp_arcs. Items are not checked, and the order of any items is
- * total. Their octets are cut after each octet below 0x80, and these parts are compared in lexicographic order: a
- * longer part is greater, and parts of one length are compared by their octets. Only equal octets are
- * equal. After sorting by this order, const_oid_check_sorted accepts the list exactly if all items are valid. */
+ * The order of valid items is that of const_oid_cmp_arcs. Items are not checked, and the order is total for any items:
+ * octets are cut after each octet below 0x80, and the parts are compared in lexicographic order. A longer part is
+ * greater. Parts of one length are compared by their octets. Only equal octets are equal. After sorting by this order,
+ * const_oid_check_sorted accepts the list exactly if all items are valid. */
 int const_oid_by_arcs(const void *left, const void *right);
 
-/* Checks a list, which is an array of identifiers, for the functions below: each item is valid, of any
- * length, and none comes before the previous one, in the order of const_oid_cmp_arcs. Items may be
- * repeated. The code is 0 exactly if this holds. Of the first item that is not so, returns its code, or
- * UNSORTED, and its index in `len`. It reads the list up to that item. */
+/* Checks a list, which is an array of identifiers, for the functions below. Each item must be valid, of any length, and
+ * none may come before the previous one, in the order of const_oid_cmp_arcs. Items may be repeated. The code is 0
+ * exactly if this holds. Otherwise it is that of the first wrong item, or UNSORTED if that comes before the previous
+ * one, and `len` is its index. The list is read up to that item. */
 const_oid_status const_oid_check_sorted(const const_oid_octets *items, size_t count);
 
-/* The functions below search in a list that const_oid_check_sorted accepts, by a binary search. They check
- * the identifier, which may have any length, and return its code if it is invalid. They do not check the
- * list. In another list, what they find is unspecified, but it is within the list, and they read nothing
- * else: indices are below `count`, and the ends of a range at most `count`. `len` is the index of the item
- * found, and the code is NONE if there is none. */
+/* The functions below do a binary search in a list that const_oid_check_sorted accepts. They check the identifier,
+ * which may have any length, and return its code if it is invalid. They do not check the list. In another list, what
+ * they find is unspecified, but it is within the list, and they read nothing else: indices are below `count`, and the
+ * ends of a range at most `count`. `len` is the index of the item found, and the code is NONE if there is none. */
 
 /* Finds the first item that is equal to an identifier. */
 const_oid_status const_oid_find(
     const uint8_t *octets, size_t len, const const_oid_octets *sorted, size_t count);
 
-/* Finds the first item that comes after an identifier, which need not be an item: what GetNext of SNMP
- * returns. */
+/* Finds the first item that comes after an identifier, which need not be an item: what SNMP's GetNext returns. */
 const_oid_status const_oid_next(
     const uint8_t *octets, size_t len, const const_oid_octets *sorted, size_t count);
 
-/* Finds the nearest item to an identifier: the first item that is equal to it, or else to the longest
- * prefix of it that is an item. */
+/* Finds the nearest item to an identifier: the first item that is equal to it, or else to its longest prefix in the
+ * list. The time may grow with the square of the identifier's length. */
 const_oid_status const_oid_nearest(
     const uint8_t *octets, size_t len, const const_oid_octets *sorted, size_t count);
 
-/* Finds the items that begin with all arcs of an identifier, itself included, and stores where they are in
- * `range`, which must not be null. `start` is where the identifier would be inserted, whether there are such
- * items or not; if not, `end` is the same. `len` is 0. If the identifier is invalid, `range` is unchanged. */
+/* Finds the items that begin with all arcs of an identifier, itself included, and stores where they are in `range`,
+ * which must not be null. `start` is where the identifier would be inserted, whether there are such items or not. If
+ * there are none, `end` is the same. `len` is 0. If the identifier is invalid, `range` is unchanged. */
 const_oid_status const_oid_subtree_range(
     const uint8_t *octets, size_t len, const const_oid_octets *sorted, size_t count,
     const_oid_range *CONST_OID_RESTRICT range);
 
-/* Writes the text, in UTF-8, of a code and its detail. The byte of DIGIT_EXPECTED stands in it as the character
- * of that number, also if this is a zero byte, a newline or another control character. All other characters
- * are printable ASCII. The code is NONE if there is no such text: for OK, for an unknown code, and for
- * DIGIT_EXPECTED with a detail above 255. */
+/* Writes the text for a code and its detail, in UTF-8. With DIGIT_EXPECTED, the byte stands in it as the character with
+ * that number, even if this is a zero byte, a newline or another control character. All other characters are printable
+ * ASCII. The code is NONE if there is no such text: for OK, for an unknown code, and for DIGIT_EXPECTED with a detail
+ * above 255. */
 const_oid_status const_oid_error_text(
     uint32_t code, uint32_t detail, char *CONST_OID_RESTRICT out, size_t out_len);
 
