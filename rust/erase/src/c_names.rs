@@ -1,34 +1,7 @@
 //! The table of names as a header of data for C.
 
-use crate::fault::{Fault, Result};
-
-/// A row of the table: the name of its macro in C, its arcs and its name.
-struct Row<'a> {
-    constant: String,
-    arcs: Vec<u64>,
-    name: &'a str,
-}
-
-/// The rows of a table with four columns: module, constant, arcs and name.
-fn rows(table: &str) -> Result<Vec<Row<'_>>> {
-    let mut rows = Vec::new();
-    for (index, row) in table.lines().enumerate() {
-        if row.starts_with('#') {
-            continue;
-        }
-        let columns: Vec<&str> = row.split('\t').collect();
-        let [module, constant, arcs, name] = columns[..] else {
-            return Err(Fault::new(index + 1, "not four columns"));
-        };
-        let arcs: std::result::Result<_, _> = arcs.split('.').map(str::parse).collect();
-        rows.push(Row {
-            constant: format!("CONST_OID_{}_{constant}", module.to_uppercase()),
-            arcs: arcs.map_err(|_| Fault::new(index + 1, "not arcs"))?,
-            name,
-        });
-    }
-    Ok(rows)
-}
+use crate::fault::Result;
+use crate::names::{Row, rows};
 
 /// The rows of a table in `c_names.h`. Those of an identifier or of a name stay in the order of the table.
 pub fn header(table: &str) -> Result<String> {
@@ -40,14 +13,15 @@ pub fn header(table: &str) -> Result<String> {
         .map(|(index, (place, row))| (row.name.to_ascii_lowercase(), *place, index))
         .collect();
     by_name.sort();
-    let constant = |row: &Row| format!("#define {} \"{}\"\n", row.constant, octets(&row.arcs));
-    let item = |row: &Row| format!("    {{CONST_OID_OCTETS({})}},\n", row.constant);
+    let constant = |row: &Row| format!("CONST_OID_{}_{}", row.module.to_uppercase(), row.constant);
+    let define = |row: &Row| format!("#define {} \"{}\"\n", constant(row), octets(&row.arcs));
+    let item = |row: &Row| format!("    {{CONST_OID_OCTETS({})}},\n", constant(row));
     let name = |row: &Row| format!("    {:?},\n", row.name);
     let indexes: Vec<String> = by_name.iter().map(|entry| entry.2.to_string()).collect();
     let line = |part: &[String]| format!("    {},\n", part.join(", "));
     let parts: [(&str, String); 5] = [
         ("@COUNT@", rows.len().to_string()),
-        ("@CONSTANTS@", rows.iter().map(constant).collect()),
+        ("@CONSTANTS@", rows.iter().map(define).collect()),
         (
             "@OCTETS@",
             sorted.iter().map(|entry| item(entry.1)).collect(),
