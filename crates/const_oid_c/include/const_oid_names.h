@@ -3,13 +3,13 @@
  *
  * - A constant for each entry of the table, such as CONST_OID_RFC5912_ID_EC_PUBLIC_KEY, which in Rust is
  *   rfc5912::ID_EC_PUBLIC_KEY: a macro with its contents octets as a string literal. It costs nothing where it
- *   is not used. CONST_OID_OCTETS makes of it a pointer and a length, as two arguments of a call or as an
- *   initializer of const_oid_octets.
+ *   is not used. CONST_OID_OCTETS gives its pointer and its length: two arguments of a call, or the initializer
+ *   of a const_oid_octets.
  * - The entries in the order of arcs: const_oid_name_octets is a list that const_oid_check_sorted accepts, and
  *   const_oid_names has the null-terminated name of each of its items, at the same index. An identifier may
  *   have several names. They are adjacent, in the order of the table, and const_oid_find and const_oid_nearest
  *   return the first.
- * - const_oid_by_name, from a name to the index of its entry.
+ * - const_oid_by_name, which returns the index of the entry with a name.
  *
  * The arrays are static: each file that uses them has a copy of some 110 KB, so let one file use them. */
 #ifndef CONST_OID_NAMES_H
