@@ -57,7 +57,7 @@ fn is_parent(alloc: Global, count: usize) -> Result<bool, AllocError> {
         Err(_) => None,
     };
     let has_octets = has_parent(octets.as_slice(), Some(parent.as_slice())) == Ok(true);
-    Ok(has_octets && len == Some(2 + count))
+    Ok(has_octets && len == count.checked_add(2))
 }
 
 /// Parents on both sides of 32 octets.
