@@ -510,6 +510,46 @@ static void check_nulls(void) {
     }
 }
 
+/* A number below another that is drawn, the same in each run. */
+static uint32_t drawn(uint32_t end) {
+    static uint32_t state = 2463534242u;
+    state ^= state << 13;
+    state ^= state >> 17;
+    state ^= state << 5;
+    return state % end;
+}
+
+/* Text of arcs, in half of the draws with another byte at some place. How long it is. */
+static size_t draw_text(const uint32_t *arcs, size_t count, char *text) {
+    static const char bytes[] = {'.', 'x', '9', '\xFF'};
+    size_t len = 0;
+    for (size_t i = 0; i < count; i++) {
+        if (i > 0) text[len++] = '.';
+        len += write_decimal(arcs[i], text + len);
+    }
+    if (drawn(2)) text[drawn((uint32_t)len)] = bytes[drawn(4)];
+    return len + (drawn(16) == 0 ? (text[len] = '.', 1) : 0);
+}
+
+/* Drawn texts or arcs whose octets are around 255 and 256, some wrong, and outputs around their length. */
+static void check_drawn(void) {
+    static uint32_t arcs[320];
+    static char text[11 * 320 + 1];
+    if (f->kinds[0] != TEXT && f->kinds[0] != ARCS) return;
+    for (int round = 0; round < 50000; round++) {
+        size_t count = 2, octets = 1, aim = 230 + drawn(50);
+        arcs[0] = drawn(3);
+        arcs[1] = drawn(16) == 0 ? drawn(UINT32_MAX) : drawn(40);
+        for (; octets < aim; octets += write_number(arcs[count++], (uint8_t *)text)) {
+            arcs[count] = drawn(UINT32_MAX) >> 7 * drawn(5);
+        }
+        if (f->kinds[0] == ARCS && drawn(16) == 0) arcs[drawn((uint32_t)count)] = drawn(8);
+        a[0] = f->kinds[0] == ARCS ? (argument){arcs, count} : (argument){text, draw_text(arcs, count, text)};
+        a[1] = (argument){usual, octets - 4 + drawn(9)};
+        check();
+    }
+}
+
 /* The constants of the header are the greatest results. */
 static void check_constants(void) {
     static uint8_t octets[CONST_OID_MAX_OCTETS + 1];
@@ -573,6 +613,7 @@ int main(void) {
     for (int i = 0; i < FUNCTIONS; i++) {
         f = &functions[i];
         check_nulls();
+        check_drawn();
         set_usual();
         with_outputs();
         set_usual();
