@@ -6,7 +6,7 @@ use Rattle.std.specs.{List.onto_first, Bool.then_some, Char.is_ascii_digit, Str.
 use Rattle.std.proofs.lemmas.{Bool.Decides.nat_tests, List.{drop_more, drop_all, length-drop}}
 use Rattle.std.proofs.lemmas.List.Splits.{length-slice_split, slice_split_at, slice_split_none}
 use Rattle.const_oid.specs.{Identifier.{root_rule, max_arc, IsEncoding, IsIdentifier}, Items.arc_fault, declared.error.Error.Error}
-use Rattle.const_oid.specs.declared.error.Error.TheVariants.{ArcInvalid, ArcTooBig, DigitExpected, Length}
+use Rattle.const_oid.specs.declared.error.Error.TheVariants.{ArcInvalid, ArcTooBig, DigitExpected, Length, TrailingDot}
 use Rattle.const_oid.specs.{Contents.arcs_of_octets, Base128.width, Private.Octets.{AppendsTo, BeginsBy, IsAppended, IsEncodedIn}}
 use Rattle.const_oid.specs.Private.Parser.{pieces_answer, pieces_then, or_trailing, arc_answer, stop_fault}
 use Rattle.const_oid.specs.Private.Parser.{AreDigits, HasFault, IsPiece, IsRoot}
@@ -175,6 +175,13 @@ wrong_piece {capacity} {text} {octets} {place} fault read less has =
       some_arc : (arcs : List ℕ) → IsIdentifier root_rule arcs → is_empty arcs ≡ (place + 1 == 0)
       some_arc [] identifier = absurd identifier
       some_arc (arc ∷ arcs) identifier = grind (arith, nat_tests)
+
+-- a dot is left, so the last piece is empty
+pub dot_left : {capacity : ℕ} {text octets : List ℕ} {place : ℕ} → IsReadTo capacity text octets place
+    → place + 1 ≡ length text → text_answer root_rule text capacity ≡ Err TrailingDot
+dot_left {text} {place} read last =
+    wrong_piece (stop_fault text (place + 1) (place + 1)) read (omega arith) (end_fault text (place + 1) (omega arith))
+    ∙ grind (arith, nat_tests)
 
 module _ {X : Type 0} (capacity : ℕ) (text longer : List ℕ) where
   becomes : {before octets : List ℕ} {arc number : ℕ} (end : ℕ) → Encodes root_rule octets before arc number

@@ -7,13 +7,15 @@ ghost use Rattle.std.specs.Prelude.{◌≡◌, ◌≤◌, ℕ, drop, length, min
 ghost use Rattle.const_oid.specs.Private.Encoder.{buffer_answer, HasEncoding};
 ghost use Rattle.const_oid.specs.Private.Octets.{IsEncodedIn};
 ghost use Rattle.const_oid.specs.Private.Parser.{or_trailing, stop_fault, HasFault, IsPiece, IsRoot};
-ghost use Rattle.const_oid.specs.Identifier.{root_rule};
+ghost use Rattle.const_oid.specs.Identifier.{root_rule, usual_capacity};
 ghost use Rattle.const_oid.specs.Text.{text_answer};
+ghost use Rattle.const_oid.specs.OidRef.{ref_answer};
 
 use crate::Arc;
 use crate::base128::append_group;
 use crate::buffer::Buffer;
 use crate::error::{Error, Result};
+use crate::oid_ref::ObjectIdentifierRef;
 use crate::root::max_second;
 use std::result;
 
@@ -46,6 +48,19 @@ fn parse_within<const SIZE: usize>(text: &[u8]) -> Result<Buffer<SIZE>>
     }
 }
 
+/// Parses dotted text in ASCII into octets of the usual capacity, and borrows them. A caller that needs no owned identifier
+/// copies none.
+#[tactic(auto, using(crate::proofs::Outputs::taken, crate::proofs::Encodings::none_from_encoding))]
+#[inline(always)]
+pub fn parse_usual<'a>(text: &[u8], out: &'a mut [u8; 39]) -> Result<ObjectIdentifierRef<'a>>
+    ensures { ref_answer result ≡ text_answer root_rule text.now usual_capacity }
+{
+    match parse_to(text, out, 39) {
+        Ok(len) => Ok(ObjectIdentifierRef::from_checked(&out[..len])),
+        Err(fault) => Err(fault),
+    }
+}
+
 /// `parse_to`, which is compiled once for all calls with octets of any length.
 #[inline(never)]
 pub(crate) fn parse_long(text: &[u8], out: &mut [u8], capacity: usize) -> Result<usize>
@@ -71,7 +86,7 @@ fn parse_to(text: &[u8], out: &mut [u8], capacity: usize) -> Result<usize>
         Ok(used) => used,
         Err(fault) => return Err(or_trailing_dot(fault, text, end)),
     };
-    while end < text.len() {
+    while end + 1 < text.len() {
         let start = end + 1;
         let (arc, after) = match read_piece(text, start) {
             Ok(piece) => piece,
@@ -82,6 +97,10 @@ fn parse_to(text: &[u8], out: &mut [u8], capacity: usize) -> Result<usize>
             Err(fault) => return Err(or_trailing_dot(fault, text, after)),
         };
         end = after;
+    }
+    // Nothing is left, or a dot.
+    if end < text.len() {
+        return Err(Error::TrailingDot);
     }
     Ok(used)
 }
@@ -100,10 +119,14 @@ fn read_root(text: &[u8]) -> Result<(u64, usize)>
     if first > 2 {
         return Err(or_trailing_dot(Error::ArcInvalid { arc: first }, text, end));
     }
-    if end == text.len() {
-        return Err(Error::Empty);
-    }
     let start = end + 1;
+    if start >= text.len() {
+        return Err(if end < text.len() {
+            Error::TrailingDot
+        } else {
+            Error::Empty
+        });
+    }
     let (second, end) = match read_piece(text, start) {
         Ok(piece) => piece,
         Err(index) => return Err(piece_fault(text, start, index)),

@@ -8,7 +8,8 @@ ghost use Rattle.const_oid_c.specs.Results.{octets_of_text, octets_of_arcs, outp
 use crate::output::{unwritten_status, write_bytes, write_octets};
 use crate::owned::{MAX_OCTETS, is_too_long};
 use crate::status::{NOT_UTF8, Status, code_status, error_status, len_status, too_short_status};
-use const_oid::{Error, ObjectIdentifier, ObjectIdentifierRef, Oid};
+use const_oid::parser::parse_usual;
+use const_oid::{Error, ObjectIdentifier, ObjectIdentifierRef};
 use std::str;
 
 /// Writes the contents octets of the identifier that dotted text denotes.
@@ -18,7 +19,8 @@ pub extern "C" fn const_oid_from_text(text: &[u8], out: &mut [u8]) -> Status
     ensures written { out.new ≡ output_after out.old (octets_of_text text.now) }
 {
     // An identifier of the usual capacity is quicker to make.
-    match Oid::from_ascii(text) {
+    let mut octets = [0; 39];
+    match parse_usual(text, &mut octets) {
         Ok(oid) => write_bytes(oid.as_bytes(), out),
         Err(fault) => write_other(fault, text, out),
     }

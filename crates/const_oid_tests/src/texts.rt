@@ -1,8 +1,9 @@
-//! Identifiers from dotted text: `new`, `parse`, `from_ascii` and `new_unwrap`, and `resolve` of long text.
+//! Identifiers from dotted text: `new`, `parse`, `from_ascii`, `parse_usual` and `new_unwrap`, and `resolve` of long text.
 
 use crate::formatter::prints_as;
 use crate::vectors::{is_answer, long_text};
 use const_oid::db::Database;
+use const_oid::parser::parse_usual;
 use const_oid::{Error, Oid};
 use std::alloc::{AllocError, Global};
 
@@ -61,6 +62,13 @@ fn all_read(text: &str, wanted: Result<&[u8], Error>) -> bool {
     is_answer(Oid::new(text), wanted)
         && is_answer(text.parse(), wanted)
         && is_answer(Oid::from_ascii(text.as_bytes()), wanted)
+        && is_borrowed(text, wanted)
+}
+
+/// Whether `parse_usual` has this result for a text.
+fn is_borrowed(text: &str, wanted: Result<&[u8], Error>) -> bool {
+    let mut out = [0xEE; 39];
+    parse_usual(text.as_bytes(), &mut out).map(|oid| oid.as_bytes()) == wanted
 }
 
 #[test]
@@ -131,7 +139,9 @@ const LONG: &[Row] = &[
 /// Whether the long text of a row has as many octets as it says, or its error.
 fn has_len(alloc: Global, row: &Row) -> Result<bool, AllocError> {
     let text = long_text(alloc, row.0, row.1, ".1", row.2)?;
-    Ok(Oid::new(text.as_str()).map(|oid| oid.as_bytes().len()) == row.3)
+    let mut out = [0; 39];
+    let borrowed = parse_usual(text.as_bytes(), &mut out).map(|oid| oid.as_bytes().len());
+    Ok(borrowed == row.3 && Oid::new(text.as_str()).map(|oid| oid.as_bytes().len()) == row.3)
 }
 
 #[test]

@@ -7,13 +7,15 @@ use crate::erased::owned::{MAX_OCTETS, is_too_long};
 use crate::erased::status::{
     NOT_UTF8, Status, code_status, error_status, len_status, too_short_status,
 };
-use const_oid::internal_for_const_oid_c::{Error, ObjectIdentifier, ObjectIdentifierRef, Oid};
+use const_oid::internal_for_const_oid_c::parser::parse_usual;
+use const_oid::internal_for_const_oid_c::{Error, ObjectIdentifier, ObjectIdentifierRef};
 use core::str;
 
 /// Writes the contents octets of the identifier that dotted text denotes.
 pub fn const_oid_from_text(text: &[u8], out: &mut crate::edge::Output<u8>) -> Status {
     // An identifier of the usual capacity is quicker to make.
-    match Oid::from_ascii(text) {
+    let mut octets = [0; 39];
+    match parse_usual(text, &mut octets) {
         Ok(oid) => write_bytes(oid.as_bytes(), out),
         Err(fault) => write_other(fault, text, out),
     }

@@ -15,7 +15,8 @@ mod encoder;
 pub mod error;
 pub mod oid;
 pub mod oid_ref;
-mod parser;
+// Its functions are for the other crates: Rust hides them.
+pub mod parser;
 mod parts;
 mod root;
 // Its functions are for the other crates: Rust hides them.

@@ -9,6 +9,7 @@ use crate::erased::Arc;
 use crate::erased::base128::append_group;
 use crate::erased::buffer::Buffer;
 use crate::erased::error::{Error, Result};
+use crate::erased::oid_ref::ObjectIdentifierRef;
 use crate::erased::root::max_second;
 use core::result;
 
@@ -32,6 +33,16 @@ const fn parse_within<const SIZE: usize>(text: &[u8]) -> Result<Buffer<SIZE>> {
     }
 }
 
+/// Parses dotted text in ASCII into octets of the usual capacity, and borrows them. A caller that needs no owned identifier
+/// copies none.
+#[inline(always)]
+pub fn parse_usual<'a>(text: &[u8], out: &'a mut [u8; 39]) -> Result<ObjectIdentifierRef<'a>> {
+    match parse_to(text, out, 39) {
+        Ok(len) => Ok(ObjectIdentifierRef::from_checked(&out[..len])),
+        Err(fault) => Err(fault),
+    }
+}
+
 /// `parse_to`, which is compiled once for all calls with octets of any length.
 #[inline(never)]
 pub(crate) fn parse_long(text: &[u8], out: &mut [u8], capacity: usize) -> Result<usize> {
@@ -50,7 +61,7 @@ const fn parse_to(text: &[u8], out: &mut [u8], capacity: usize) -> Result<usize>
         Ok(used) => used,
         Err(fault) => return Err(or_trailing_dot(fault, text, end)),
     };
-    while end < text.len() {
+    while end + 1 < text.len() {
         let start = end + 1;
         let (arc, after) = match read_piece(text, start) {
             Ok(piece) => piece,
@@ -61,6 +72,10 @@ const fn parse_to(text: &[u8], out: &mut [u8], capacity: usize) -> Result<usize>
             Err(fault) => return Err(or_trailing_dot(fault, text, after)),
         };
         end = after;
+    }
+    // Nothing is left, or a dot.
+    if end < text.len() {
+        return Err(Error::TrailingDot);
     }
     Ok(used)
 }
@@ -75,10 +90,14 @@ const fn read_root(text: &[u8]) -> Result<(u64, usize)> {
     if first > 2 {
         return Err(or_trailing_dot(Error::ArcInvalid { arc: first }, text, end));
     }
-    if end == text.len() {
-        return Err(Error::Empty);
-    }
     let start = end + 1;
+    if start >= text.len() {
+        return Err(if end < text.len() {
+            Error::TrailingDot
+        } else {
+            Error::Empty
+        });
+    }
     let (second, end) = match read_piece(text, start) {
         Ok(piece) => piece,
         Err(index) => return Err(piece_fault(text, start, index)),

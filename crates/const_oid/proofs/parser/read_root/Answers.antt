@@ -1,16 +1,20 @@
-use Rattle.std.proofs.Common.{◌∷◌, [], refl, sym, ap, ◌∙◌, arith, Err}
-use Rattle.std.proofs.lemmas.Bool.Decides.{nat_tests}
+use Rattle.std.proofs.Common.{◌+◌, ◌∷◌, [], refl, sym, ap, ◌∙◌, arith, Err}
+use Rattle.std.proofs.lemmas.{Bool.Decides.nat_tests, List.drop_all}
 use Rattle.const_oid.proofs.{Faults.some_from_above, Pieces.root_taken}
 use Rattle.const_oid.proofs.parser.read_root.Goals as goal
 
+pub returns-then-end-text : goal.returns-then-end-text
+returns-then-end-text c = λ capacity.
+    root_taken capacity c.in-Ok.ensures c.if-first-gt2.false (omega arith) ∙ rw (drop_all (c.in-Ok.piece.1 + 1) c.args.text.now (omega arith)) refl
+
 pub returns-in-Err-read_piece : goal.returns-in-Err-read_piece
 returns-in-Err-read_piece c = λ capacity.
-    root_taken capacity c.in-Ok.ensures c.if-first-gt2.false c.if-end-text.false
+    root_taken capacity c.in-Ok.ensures c.if-first-gt2.false (omega arith)
     ∙ rw (c.in-Err-read_piece.ensures.is capacity (c.in-Ok.piece.0 ∷ []) (grind (arith, nat_tests))) (ap Err (sym c.piece_fault-in-Err-read_piece.ensures))
 
 pub returns-then-second-max_second : goal.returns-then-second-max_second
 returns-then-second-max_second c = λ capacity.
-    root_taken capacity c.in-Ok.ensures c.if-first-gt2.false c.if-end-text.false
+    root_taken capacity c.in-Ok.ensures c.if-first-gt2.false (omega arith)
     ∙ c.in-Ok-read_piece.ensures.same capacity (c.in-Ok.piece.0 ∷ []) ∙ grind (arith, nat_tests, some_from_above)
 
 pub returns : goal.returns
@@ -22,6 +26,6 @@ returns c =
       number = refl;
       low = c.if-first-gt2.false;
       high = omega (arith, c.if-second-max_second.false, c.max_second.ensures);
-      same = λ capacity. root_taken capacity c.in-Ok.ensures c.if-first-gt2.false c.if-end-text.false ∙ piece.same capacity (c.in-Ok.piece.0 ∷ []);
+      same = λ capacity. root_taken capacity c.in-Ok.ensures c.if-first-gt2.false (omega arith) ∙ piece.same capacity (c.in-Ok.piece.0 ∷ []);
       within = piece.within;
     }

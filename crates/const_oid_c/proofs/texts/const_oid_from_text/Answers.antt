@@ -5,8 +5,8 @@ use Rattle.const_oid_c.proofs.texts.const_oid_from_text.Goals as goal
 
 pub returns-in-Ok-clause-status : goal.returns-in-Ok-clause-status
 returns-in-Ok-clause-status c = c.write_bytes.ensures.status ∙ ap (output_status (length c.args.out.now))
-    (small_text c.args.text.now _ c.as_bytes.result.now c.as_bytes.ensures.encoding c.in-Ok.ensures.answer)
+    (small_text c.args.text.now _ c.as_bytes.result.now c.as_bytes.ensures.encoding c.in-Ok.ensures)
 
 pub returns-in-Ok-clause-written : goal.returns-in-Ok-clause-written
 returns-in-Ok-clause-written c = c.write_bytes.ensures.written ∙ ap (output_after c.args.out.now)
-    (small_text c.args.text.now _ c.as_bytes.result.now c.as_bytes.ensures.encoding c.in-Ok.ensures.answer)
+    (small_text c.args.text.now _ c.as_bytes.result.now c.as_bytes.ensures.encoding c.in-Ok.ensures)
