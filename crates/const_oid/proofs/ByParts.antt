@@ -1,12 +1,12 @@
 -- The order of arcs is that of the parts of their encodings, a shorter part first.
-use Rattle.std.proofs.Common.{◌≡◌, ◌≢◌, ℕ, suc, ◌<◌, ◌≤◌, List, [], ◌∷◌, ◌++◌, length, min, take, drop, refl, sym, ap}
-use Rattle.std.proofs.Common.{◌∙◌, ⊎_elim, arith, Less, Equal, Greater, nat_cmp, length-append, Some, rules}
-use Rattle.std.specs.{Prelude.{◌↔◌, slice_get}, List.{AllZip, onto_first, concat}, Ordering.{ordering_then, is_eq}}
+use Rattle.std.proofs.Common.{◌≡◌, ◌≢◌, ℕ, suc, ◌+◌, ◌<◌, ◌≤◌, List, [], ◌∷◌, ◌++◌, length, min, take, drop, get_or, refl, sym, ap}
+use Rattle.std.proofs.Common.{◌∙◌, ⊎_elim, arith, Ordering, Less, Equal, Greater, nat_cmp, length-append, Some, rules}
+use Rattle.std.specs.{Prelude.{◌↔◌, slice_get}, List.{AllZip, onto_first, concat}, Ordering.{ordering_then, is_eq, MatchOrdering}}
 use Rattle.std.specs.Cmp.Lexicographic.{slice_cmp, nat_list_cmp_total, lists_total, texts_ties, same_text}
 use Rattle.std.specs.Cmp.{IsTotalOrder, nat_cmp_is, on_total}
-use Rattle.std.proofs.lemmas.{Bool.cases_lt, Cmp.tied_itself, List.{length-drop, take-append-drop}, Grind.common_steps}
+use Rattle.std.proofs.lemmas.{Bool.cases_lt, Cmp.tied_itself, List.{drop_all, drop_more, length-drop, take-append-drop}, Grind.common_steps}
 use Rattle.std.proofs.lemmas.Bool.Decides.{nat_tests}
-use Rattle.const_oid.specs.{Base128.IsGroup, Contents.cut}
+use Rattle.const_oid.specs.{Base128.IsGroup, Contents.cut, Private.Octets.{first_length, length_at, lens_cmp}}
 use Rattle.const_oid.specs.Orders.{shortlex_cmp, shortlex_cmp_total, shortlex_cmp_ties, parts_cmp}
 use Rattle.const_oid.specs.{Identifier.{RootRule, IsIdentifier, IsEncoding, subidentifiers}, Tree.BeginsWith}
 use Rattle.const_oid.proofs.{BeginsWith.{before_more, between}, Cutting.{cut_after-last, cut_after-more, concat-cut}}
@@ -58,6 +58,70 @@ ended (x ∷ xs) (y ∷ ys) e = absurd (omega arith)
 pub ended_parts : (a b : List ℕ) → (let end = min (length a) (length b) in take end a ≡ take end b)
     → parts_cmp a b ≡ nat_cmp (length a) (length b)
 ended_parts a b same = grind (arith, length-drop, ended, same_up_to a b (min (length a) (length b)) same)
+
+-- ---- the lengths of the parts that begin at an index
+
+one_last : (x : ℕ) (xs : List ℕ) → x < 128 → first_length (cut (x ∷ xs)) ≡ 1
+one_last x xs last = rw (cut_after-last x (cut xs) last) refl
+
+one_more : (x : ℕ) (xs : List ℕ) → 128 ≤ x → first_length (cut (x ∷ xs)) ≡ suc (first_length (cut xs))
+one_more x xs more = rw (cut_after-more x (cut xs) more) (onto (cut xs)) where
+  onto : (parts : List (List ℕ)) → first_length (onto_first x parts) ≡ suc (first_length parts)
+  onto [] = refl
+  onto (part ∷ parts) = refl
+
+some_length : (xs : List ℕ) → 0 < length xs → 0 < first_length (cut xs)
+some_length [] some = absurd (omega arith)
+some_length (x ∷ xs) some = let (part, parts, is) = begins x xs in rw is (omega arith)
+
+module _ (octets : List ℕ) (index : ℕ) where
+  -- an octet below 128 ends its part
+  pub ends_below : index < length octets → get_or octets index 0 < 128 → length_at octets index ≡ 1
+  ends_below inside last = rw (drop_more octets index 0 inside) (one_last _ (drop (index + 1) octets) last)
+
+  goes_on : index < length octets → 128 ≤ get_or octets index 0
+      → length_at octets index ≡ suc (length_at octets (index + 1))
+  goes_on inside more = rw (drop_more octets index 0 inside) (one_more _ (drop (index + 1) octets) more)
+
+  -- and so does the last one
+  pub ends_last : index + 1 ≡ length octets → 128 ≤ get_or octets index 0 → length_at octets index ≡ 1
+  ends_last end more = goes_on (omega (arith, end)) more ∙ rw (drop_all (index + 1) octets (omega (arith, end))) refl
+
+  pub more_after : index + 1 < length octets → 128 ≤ get_or octets index 0 → 1 < length_at octets index
+  more_after inside more =
+      omega (arith, goes_on (omega arith) more, some_length (drop (index + 1) octets) (omega (arith, length-drop (index + 1) octets)))
+
+pub ruleset part_ends = (ends_below, ends_last, more_after)
+
+-- both go on
+pub lens_on : (a b : List ℕ) (index : ℕ) → index < min (length a) (length b)
+    → 128 ≤ get_or a index 0 → 128 ≤ get_or b index 0 → lens_cmp index a b ≡ lens_cmp (index + 1) a b
+lens_on a b index inside more_a more_b =
+    rw (goes_on a index (omega arith) more_a, goes_on b index (omega arith) more_b) (grind (arith, nat_tests))
+
+abbrev IsOrder : Ordering → ℕ → ℕ → Type 0
+IsOrder order m n = MatchOrdering order (m < n) (m ≡ n) (n < m)
+
+-- where one of the octets ends, the longer part is that of the longer one
+pub lens_ended : (a b : List ℕ) (index : ℕ) → index ≡ min (length a) (length b)
+    → lens_cmp index a b ≡ nat_cmp (length a) (length b)
+lens_ended a b index end = ⊎_elim
+    (λ (less : length a < length b). same Less (omega (arith, none a (omega arith), some b (omega arith))) less)
+    (λ (least : length b ≤ length a). ⊎_elim
+    (λ (more : length b < length a). same Greater (omega (arith, none b (omega arith), some a (omega arith))) more)
+    (λ (most : length a ≤ length b). same Equal (omega (arith, none a (omega arith), none b (omega arith))) (omega arith))
+    (cases_lt (length b) (length a)))
+    (cases_lt (length a) (length b))
+  where
+    none : (octets : List ℕ) → length octets ≤ index → length_at octets index ≡ 0
+    none octets last = rw (drop_all index octets last) refl
+
+    some : (octets : List ℕ) → index < length octets → 0 < length_at octets index
+    some octets inside = some_length (drop index octets) (omega (arith, length-drop index octets))
+
+    same : (order : Ordering) → IsOrder order (length_at a index) (length_at b index) → IsOrder order (length a) (length b)
+        → lens_cmp index a b ≡ nat_cmp (length a) (length b)
+    same order lens all = sym (nat_cmp_is _ _ order lens) ∙ nat_cmp_is _ _ order all
 
 -- ---- any octets
 

@@ -3,7 +3,6 @@
 
 ghost use Rattle.std.specs.Prelude.{◌≡◌, ◌-◌, ◌≤◌, length, take, drop, count_by, nat_lt};
 ghost use Rattle.const_oid.specs.Contents.{cut};
-ghost use Rattle.const_oid.specs.Private.Octets.{first_length};
 
 use std::simd::prelude::*;
 use std::simd::u8x32;
@@ -74,17 +73,4 @@ fn first_octets(octets: &[u8], len: usize) -> &[u8]
 {
     // Unlike an index, `get` compiles to no panic.
     octets.get(..len).unwrap_or(&[])
-}
-
-/// How many octets the first subidentifier has.
-#[inline]
-pub(crate) fn first_len(octets: &[u8]) -> usize
-    ensures { result ≡ first_length (cut octets.now) }
-{
-    for (i, octet) in octets.iter().enumerate() {
-        if *octet < 128 {
-            return i + 1;
-        }
-    }
-    octets.len()
 }

@@ -138,6 +138,7 @@ const ASCENDING: &[&[u8]] = &[
     &[0x80, 0x00],
     &[0x80, 0x00, 0x01],
     &[0x81, 0x80],
+    &[0x82, 0x00],
 ];
 
 /// The first octets of the order whose place to those at an index is wrong.

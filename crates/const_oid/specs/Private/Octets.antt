@@ -1,6 +1,8 @@
 -- Octets as they are read and written, one subidentifier after another.
 use Rattle.std.specs.Prelude.{◌≡◌, ℕ, ◌+◌, ◌<◌, ◌≤◌, List, [], ◌∷◌, ◌++◌, length, map, take, drop, Option, None, Result, Ok, MatchResult}
+use Rattle.std.specs.declared.cmp.Ordering.{Ordering}
 use Rattle.std.specs.Option.{option_or}
+use Rattle.std.specs.Ordering.{nat_cmp}
 use Rattle.const_oid.specs.declared.error.Error.{Error}
 use Rattle.const_oid.specs.declared.error.Error.TheVariants.{Length}
 use Rattle.const_oid.specs.declared.arcs.Next.{Next}
@@ -25,6 +27,14 @@ fault_left Later octets = later_fault (cut octets)
 abbrev pub first_length : List (List ℕ) → ℕ
 first_length [] = 0
 first_length (part ∷ parts) = length part
+
+-- how many octets the part has that begins at an index
+abbrev pub length_at : List ℕ → ℕ → ℕ
+length_at octets index = first_length (cut (drop index octets))
+
+-- the order of the lengths of the parts that begin at an index
+abbrev pub lens_cmp : ℕ → List ℕ → List ℕ → Ordering
+lens_cmp index a b = nat_cmp (length_at a index) (length_at b index)
 
 -- the first fault of parts; the first part has a limit of its own
 abbrev pub fault_from : ℕ → List (List ℕ) → Option Error

@@ -2,7 +2,6 @@
 
 //! How slices of octets and names compare.
 
-use crate::erased::parts::first_len;
 use core::cmp::Ordering;
 
 /// Whether octets begin with others.
@@ -155,10 +154,42 @@ pub(crate) fn order_by_parts(a: &[u8], b: &[u8]) -> Ordering {
     if a[i] < 128 || b[i] < 128 {
         return a[i].cmp(&b[i]);
     }
-    match first_len(&a[i..]).cmp(&first_len(&b[i..])) {
+    match order_of_lens(a, b, i) {
         Ordering::Equal => a[i].cmp(&b[i]),
         unequal => unequal,
     }
+}
+
+/// The order of the lengths of the subidentifiers that begin at an index. They are read in turn, which takes fewer
+/// instructions than to count both.
+#[inline(always)]
+fn order_of_lens(a: &[u8], b: &[u8], start: usize) -> Ordering {
+    let near = a.len().min(b.len());
+    let mut index = start;
+    while index < near {
+        if a[index] < 128 {
+            return if ends_at(b, index) {
+                Ordering::Equal
+            } else {
+                Ordering::Less
+            };
+        }
+        if b[index] < 128 {
+            return if ends_at(a, index) {
+                Ordering::Equal
+            } else {
+                Ordering::Greater
+            };
+        }
+        index += 1;
+    }
+    a.len().cmp(&b.len())
+}
+
+/// Whether a subidentifier ends at an index: its octet is below 128, or the last one.
+#[inline(always)]
+fn ends_at(octets: &[u8], index: usize) -> bool {
+    octets[index] < 128 || index + 1 == octets.len()
 }
 
 /// How many of the first octets are known to be the same: a word, half a word or none.

@@ -53,14 +53,3 @@ fn first_octets(octets: &[u8], len: usize) -> &[u8] {
     // Unlike an index, `get` compiles to no panic.
     octets.get(..len).unwrap_or(&[])
 }
-
-/// How many octets the first subidentifier has.
-#[inline]
-pub(crate) fn first_len(octets: &[u8]) -> usize {
-    for (i, octet) in octets.iter().enumerate() {
-        if *octet < 128 {
-            return i + 1;
-        }
-    }
-    octets.len()
-}
