@@ -1,6 +1,6 @@
 """README's blocks are run in order, by bash in a new HOME, and print what their comments say: sh, with each c block as
-`main.c`, and python. Apart from these, blocks of sh with `rt` are run, where `rt run` runs what `rt ci` has proved and
-built."""
+`main.c`, and python. `cargo test` runs the examples alone, and rust/check all tests. Apart from these, blocks of sh with
+`rt` are run, where `rt run` runs what `rt ci` has proved and built."""
 import os
 import pathlib
 import re
@@ -11,6 +11,7 @@ import tempfile
 from pages.page import TOP, blocks_of
 
 PAGE = "README.md"
+CARGO = 'cargo() { command cargo "$@" $([ "$1" != test ] || echo --doc); }\n'
 RT = 'rt() { [ "$*" = run ] && "out/${PWD##*/}"; }\n'
 HOMES = {"CARGO_HOME": ".cargo", "RUSTUP_HOME": ".rustup"}
 OFFLINE = {"CARGO_NET_OFFLINE": "true", "PIP_NO_INDEX": "1", "PYTHONDONTWRITEBYTECODE": "1"}
@@ -43,7 +44,7 @@ def run(script):
 
 def faults(with_rt=False):
     script = "".join(scripts(with_rt))
-    ended = run(RT + script if with_rt else script)
+    ended = run((RT if with_rt else CARGO) + script)
     if ended.returncode:
         yield f"{PAGE}: a block ends with status {ended.returncode}: {ended.stderr.strip()[-600:]}"
     said = re.findall(r"\bprintf?\b.*\s(?:/\*|#) (.*?)(?: \*/)?$", script, re.M)
