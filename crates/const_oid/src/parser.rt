@@ -48,8 +48,12 @@ fn parse_within<const SIZE: usize>(text: &[u8]) -> Result<Buffer<SIZE>>
     }
 }
 
-/// Parses dotted text in ASCII into octets of the usual capacity, and borrows them. A caller that needs no owned identifier
-/// copies none.
+/// Parses dotted text in ASCII into 39 octets, the usual capacity, and borrows those of its identifier (X.690, 8.19). A
+/// caller that needs no owned identifier copies none.
+///
+/// # Errors
+///
+/// Those of [`new`](crate::ObjectIdentifier::new).
 #[tactic(auto, using(crate::proofs::Outputs::taken, crate::proofs::Encodings::none_from_encoding))]
 #[inline(always)]
 pub fn parse_usual<'a>(text: &[u8], out: &'a mut [u8; 39]) -> Result<ObjectIdentifierRef<'a>>

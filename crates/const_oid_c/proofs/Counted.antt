@@ -1,5 +1,5 @@
 -- Octets that do not fit an output are counted.
-use Rattle.std.proofs.Common.{◌≡◌, ℕ, ◌<◌, ◌≤◌, List, get_or, length, map, refl, sym, ap, ◌∙◌, arith, ⊎_elim, lt-ltb, Ok, Err}
+use Rattle.std.proofs.Common.{◌≡◌, ℕ, ◌<◌, ◌≤◌, List, get_or, length, map, refl, ◌∙◌, arith, ⊎_elim, lt-ltb, Ok, Err}
 use Rattle.std.proofs.Common.{◌^◌, min, MatchResult, Result}
 use Rattle.std.specs.Prelude.{Option, Some, None}
 use Rattle.std.proofs.lemmas.Bool.{cases_lt}
@@ -8,8 +8,8 @@ use Rattle.const_oid.specs.Identifier.{root_rule, size, encoding_of, IsIdentifie
 use Rattle.const_oid.specs.{Items.{item_answer, item_fault}, Text.{number_of, pieces_of, size_answer, text_answer, text_fault}}
 use Rattle.const_oid.proofs.{Encodings.encoding_is, Lengths.length_is_size, Texts.{denoted_from_none, text_fault-none}}
 use Rattle.const_oid.proofs.{Enough.all_small, Items.{identifier_from_none, item_fault-none}}
-use Rattle.const_oid_c.specs.{declared.status.Status.Status, Results.octets_of_arcs}
-use Rattle.const_oid_c.specs.Status.{error_status, max_len, output_after, output_status, too_short_status}
+use Rattle.const_oid_c.specs.{declared.status.Status.Status}
+use Rattle.const_oid_c.specs.Status.{error_status, max_len, too_short_status}
 use Rattle.const_oid_c.proofs.Writes.{IsWritten}
 
 -- arcs of an identifier that takes more octets than so many

@@ -1,4 +1,4 @@
-use Rattle.std.proofs.Common.{◌≡◌, ◌≢◌, ◌≤◌, length, Err, sym, ◌∙◌, arith}
+use Rattle.std.proofs.Common.{◌≢◌, ◌≤◌, length, Err, sym, ◌∙◌, arith}
 use Rattle.const_oid.specs.{declared.error.Error.TheVariants.Length, Identifier.root_rule, Text.text_answer}
 use Rattle.const_oid_c.specs.Status.{max_len}
 use Rattle.const_oid_c.proofs.{Writes.bytes_written, Capacities.same_text, Counted.{longer_text, not_written}}
