@@ -66,6 +66,7 @@ const IN_C: &[(&str, &str)] = &[
     ("new_sized", "const_oid_from_text"),
     ("new_unwrap", "no text of C is read before the program runs"),
     ("parent", "const_oid_parent"),
+    ("parse_usual", "const_oid_from_text"),
     ("push_arc", "const_oid_push_arc"),
     ("starts_with", "const_oid_starts_with"),
     ("subtree", "const_oid_subtree_range"),
