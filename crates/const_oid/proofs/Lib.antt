@@ -27,6 +27,7 @@ pub mod Outputs
 pub mod Pieces
 pub mod PartBounds
 pub mod Parents
+pub mod Prefixes
 pub mod Printed
 pub mod Subtree
 pub mod SortedLists

@@ -1,20 +1,17 @@
 -- Octets without their last part.
-use Rattle.std.proofs.Common.{◌≡◌, ◌≢◌, ℕ, zero, suc, ◌+◌, ◌-◌, ◌<◌, ◌≤◌, List, [], ◌∷◌, ◌++◌, length, map, take, drop}
+use Rattle.std.proofs.Common.{◌≡◌, ◌≢◌, ℕ, zero, suc, ◌-◌, ◌<◌, ◌≤◌, List, [], ◌∷◌, ◌++◌, length, map, take, drop}
 use Rattle.std.proofs.Common.{slice_index, Some, None, refl, ap, ◌∙◌, arith, lt-ltb, length-append, rules}
 use Rattle.std.specs.{Prelude.◌↔◌, List.{onto_first, concat}}
+use Rattle.std.proofs.Math.Seq.{take-append_seam}
 use Rattle.std.proofs.lemmas.{List.{length-map, take-map, take-append-drop}, List.Folds.concat-append}
 use Rattle.std.proofs.lemmas.{Bool.Decides.nat_tests, Grind.common_steps}
 use Rattle.const_oid.specs.{Base128.value_of, Identifier.{RootRule, IsIdentifier, IsEncoding}}
-use Rattle.const_oid.specs.Contents.{cut, cut_after, later_fault, parts_fault, arcs_from, arcs_of_octets}
-use Rattle.const_oid.specs.Tree.{BeginsWith, parent_of}
+use Rattle.const_oid.specs.Contents.{cut, later_fault, parts_fault, arcs_from, arcs_of_octets}
+use Rattle.const_oid.specs.{Tree.{BeginsWith, parent_of}, Private.Prefixes.IsFinishedPrefix}
 use Rattle.const_oid.proofs.{Tree.child_of-parent_of, Children.encoding_parent, Lengths.length_by_parts}
-use Rattle.const_oid.proofs.Cutting.{cut_after-last, cut_after-more, cut-some, concat-cut}
+use Rattle.const_oid.proofs.Cutting.{cut_after-append, cut_after-last, cut_after-more, cut-some, concat-cut}
 
 -- ---- where the last part begins
-
-cut_after-push : (x : ℕ) (parts : List (List ℕ)) (last : List ℕ) → parts ≢ []
-    → cut_after x (parts ++ last ∷ []) ≡ cut_after x parts ++ last ∷ []
-cut_after-push x parts last some = search rules
 
 -- each octet from an index on is 128 at least
 abbrev AreHigh : List ℕ → ℕ → Type 0
@@ -37,7 +34,7 @@ cut_push (x ∷ xs) octet (suc zero) inside final high =
 cut_push (x ∷ y ∷ ys) octet (suc (suc k)) inside final high =
     let rest = cut_push (y ∷ ys) octet (suc k) (omega arith) (λ i next. final (suc i) (omega arith))
     (λ i low below. high (suc i) (omega arith) (omega arith)) in
-    grind (arith, cut_after-push, rest)
+    grind (arith, cut_after-append, rest)
 cut_push _ octet _ inside final high = absurd (omega arith)
 
 -- the octets before the last part
@@ -47,20 +44,14 @@ IsWithoutLast octets before = let parts = cut octets in cut before ≡ take (len
 but_last : (parts : List (List ℕ)) (last : List ℕ) → take (length (parts ++ last ∷ []) - 1) (parts ++ last ∷ []) ≡ parts
 but_last parts last = grind (arith, nat_tests, common_steps, length-append)
 
--- after the last octet below 128
-pub cut-without_last_part : (octets prefix : List ℕ) (octet index : ℕ) → octets ≡ prefix ++ octet ∷ []
-    → index < length prefix → slice_index prefix index < 128
-    → ((k : ℕ) → index < k → k < length prefix → 128 ≤ slice_index prefix k)
-    → IsWithoutLast octets (take (index + 1) prefix)
-cut-without_last_part octets prefix octet index is inside final high =
-    let before = cut_push prefix octet (index + 1) (omega arith) (λ k next. grind arith)
-    (λ k low. high k (omega arith)) in
-    search (arith, before, but_last)
-
--- and where there is no such octet
-pub cut-before_only : (octets prefix : List ℕ) (x : ℕ) → octets ≡ prefix ++ x ∷ []
-    → ((k : ℕ) → k < length prefix → 128 ≤ slice_index prefix k) → IsWithoutLast octets (take 0 prefix)
-cut-before_only octets prefix x is high = search (arith, cut_one prefix x (λ k l. high k), but_last [])
+pub parts_without_last : (octets prefix before : List ℕ) (octet : ℕ) → octets ≡ prefix ++ octet ∷ []
+    → IsFinishedPrefix prefix before → IsWithoutLast octets before
+parts_without_last octets prefix before octet is finished =
+    let (rest, begins) = finished.begins in
+    let same : take (length before) prefix ≡ before = rw begins (take-append_seam before rest) in
+    let (last, parts) = cut_push prefix octet (length before) (omega (arith, ap length begins, length-append before rest))
+    finished.ends finished.last in
+    search (arith, same, parts, but_last)
 
 -- ---- what they encode
 
@@ -69,7 +60,7 @@ later_fault-take zero parts h = refl
 later_fault-take (suc k) [] h = refl
 later_fault-take (suc k) (part ∷ parts) h = grind (arith, nat_tests, later_fault-take k parts)
 
-fault_before : (rule : RootRule) (k : ℕ) (parts : List (List ℕ)) → take k parts ≢ []
+pub fault_before : (rule : RootRule) (k : ℕ) (parts : List (List ℕ)) → take k parts ≢ []
     → parts_fault rule parts ≡ None → parts_fault rule (take k parts) ≡ None
 fault_before rule k parts some h = search (rules, some, later_fault-take)
 

@@ -1,19 +1,21 @@
 -- Lists in the order of arcs: where tests by octets cut them, and what is there.
 use Rattle.std.proofs.Common.{◌≡◌, ◌≢◌, ℕ, ◌+◌, ◌-◌, ◌<◌, ◌≤◌, Bool, true, false, List, [], ◌∷◌, ◌++◌, length, take, drop, get_or}
-use Rattle.std.proofs.Common.{Option, Some, None, nat_cmp, nat_eq, refl, sym, ap, ◌∙◌, arith, ⊎_elim, rules, slice_get}
+use Rattle.std.proofs.Common.{Option, Some, None, Less, nat_cmp, nat_eq, refl, sym, ap, ◌∙◌, arith, ⊎_elim, rules, slice_get}
 use Rattle.std.proofs.Common.{length-append, append-nil, append_assoc}
 use Rattle.std.specs.{Prelude.{◌↔◌, IfSome}, Cmp.Lexicographic.{pointwise, slice_cmp, same_text, texts_ties}}
 use Rattle.std.specs.Ordering.{is_lt, is_ge}
 use Rattle.std.specs.List.{All, AllWithin, HoldsAt, find, position, position_or_len}
-use Rattle.std.specs.List.Sorted.{IsPartitionedBy, IsPartitionPoint, IsSortedByKey}
+use Rattle.std.specs.List.Sorted.{IsPartitionedBy, IsSortedByKey}
 use Rattle.std.proofs.lemmas.{Cmp.{nat_list_cmp_total, nat_list_eq_equiv}, List.{get_or-drop, length-drop}, List.Folds.find_at}
 use Rattle.std.proofs.lemmas.List.Sorted.{sorted_far, ranks_by}
 use Rattle.std.proofs.lemmas.List.Sums.{passes_at_first, fails_before_first}
 use Rattle.std.proofs.lemmas.{Option.{gets, slice_get_cases}, Bool.{cases_lt, Decides.nat_tests}, Grind.common_steps}
 use Rattle.const_oid.specs.{declared.oid_ref.ObjectIdentifierRef.ObjectIdentifierRef, OidRef.{ref_arcs, ref_octets}}
-use Rattle.const_oid.specs.{Contents.arcs_of_octets, Identifier.{root_rule, IsEncoding}, Names.IsNearestBy, Orders.parts_cmp}
+use Rattle.const_oid.specs.{Identifier.{root_rule, IsEncoding}, Names.IsNearestBy, Orders.parts_cmp}
 use Rattle.const_oid.specs.{SortedList.{IsSortedList, item_arcs, has_item_arcs}, Tree.{BeginsWith, parent_of}}
-use Rattle.const_oid.proofs.BeginsWith.{is_before, is_under, under_iff, under_apart, tells_under, iff_begins, not_greater}
+use Rattle.const_oid.specs.Private.Prefixes.{IsCommonPrefix}
+use Rattle.const_oid.proofs.BeginsWith.{is_before, is_under, under_iff, tells_under, iff_begins}
+use Rattle.const_oid.proofs.BeginsWith.{arcs_prefix, encoding_prefix, before_more}
 use Rattle.const_oid.proofs.{ByParts.{arcs_cmp, run_between}, Encodings.{ref_encoding, iff_arcs}}
 use Rattle.const_oid.proofs.{Parents.{none_of_two, two_arcs}, Tree.child_of-parent_of}
 use Rattle.const_oid.proofs.Subtree.{IsCut, key_before, key_under, cut_by, under_between}
@@ -160,6 +162,19 @@ module _ {Item : Type 0} (octets_of : Item → List ℕ) (oid : ObjectIdentifier
 
 -- ---- from an identifier up to the root
 
+-- what begins with a list begins with what that begins with
+begins_again : (x y z : List ℕ) → BeginsWith x y → BeginsWith y z → BeginsWith x z
+begins_again x y z (rest, split) (more, split') = (more ++ rest, split ∙ ap (λ xs. xs ++ rest) split' ∙ append_assoc z more rest)
+
+-- a list comes before each other list that begins with it
+prefix_less : (prefix list : List ℕ) → BeginsWith list prefix → prefix ≢ list → slice_cmp nat_cmp prefix list ≡ Less
+prefix_less prefix list ([], split) other = absurd (other (sym (split ∙ append-nil prefix)))
+prefix_less prefix list (x ∷ xs, split) other = rw split (before_more prefix (x ∷ xs) (omega arith))
+
+begins_nil : (prefix rest : List ℕ) → [] ≡ prefix ++ rest → prefix ≡ []
+begins_nil [] rest e = refl
+begins_nil (x ∷ xs) rest e = cc
+
 above_child : (parent : List ℕ) (last : ℕ) (prefix rest : List ℕ) → parent ++ last ∷ [] ≡ prefix ++ rest → rest ≢ []
     → BeginsWith parent prefix
 above_child parent last [] rest e some = (parent, refl)
@@ -168,6 +183,16 @@ above_child (x ∷ xs) last (y ∷ ys) rest e some = grind (arith, above_child x
 
 above_root : (arcs prefix : List ℕ) → length arcs ≡ 2 → 2 ≤ length prefix → BeginsWith arcs prefix → prefix ≢ arcs → ⊥
 above_root arcs prefix two more begins other = grind (arith, nat_tests, common_steps, append-nil, length-append)
+
+-- what begins the parent is shorter
+pub shorter : (above parent prefix : ObjectIdentifierRef) → parent_of (ref_arcs above) ≡ Some (ref_arcs parent)
+    → BeginsWith (ref_octets parent) (ref_octets prefix) → length (ref_arcs prefix) < length (ref_arcs above)
+shorter above parent prefix found begun =
+    let (_, arc, _, joined) = child_of-parent_of root_rule _ (ref_arcs parent) (ref_encoding above).identifier found in
+    let (rest, split) = arcs_prefix root_rule _ _ _ _ (ref_encoding prefix) (ref_encoding parent) begun in
+    let long = length-append (ref_arcs prefix) rest in
+    let longer = length-append (ref_arcs parent) (arc ∷ []) in
+    omega (arith, long, longer, ap length split, ap length joined)
 
 module _ {Item : Type 0} (octets_of : Item → List ℕ) (items : List Item) (arcs : List ℕ) where
   -- a list comprises what arcs begin with in a list of items: it begins with each item's arcs that they begin with
@@ -178,62 +203,20 @@ module _ {Item : Type 0} (octets_of : Item → List ℕ) (items : List Item) (ar
   abbrev pub IsNoneAbove : Type 0
   IsNoneAbove = All (λ item. BeginsWith arcs (item_arcs octets_of item) → ⊥) items
 
-  -- an index has the items up to them before it, and the later ones after it
-  abbrev pub IsEnd : ℕ → Type 0
-  IsEnd = IsPartitionPoint (λ item. is_before (item_arcs octets_of item) arcs ≡ false)
-      (λ item. is_before (item_arcs octets_of item) arcs ≡ true) items
-
-  -- a list is reached on the way up from arcs: no item that they begin with is below it, or not above the last one
-  pub record IsReached (last above : List ℕ) : Type 0 where
+  -- a list is reached on the way up from arcs: they begin with it, and no item that they begin with is below it
+  pub record IsReached (above : List ℕ) : Type 0 where
     pub begins : BeginsWith arcs above
     pub others : Comprises above
-    pub valid : IsEncoding root_rule (arcs_of_octets last) last
-    pub near : Comprises (arcs_of_octets last)
+
+  pub reached_itself : IsReached arcs
+  reached_itself = record { begins = ([], sym (append-nil arcs)); others = λ k default inside begun. begun }
 
   module _ (list : IsSortedList octets_of items) where
     far : (i j : ℕ) (d : Item) → i ≤ j → j < length items
         → is_before (item_arcs octets_of (get_or items i d)) (item_arcs octets_of (get_or items j d)) ≡ false
     far = sorted_far _ (ranks_by nat_list_cmp_total (item_arcs octets_of)) items list.sorted
 
-    module _ (index : ℕ) (end : IsEnd index) (within : index ≤ length items) where
-      -- what they begin with is up to them
-      upto : (k : ℕ) (d : Item) → k < length items → BeginsWith arcs (item_arcs octets_of (get_or items k d)) → k < index
-      upto k d l b = grind (arith, under_apart, under_iff, end.1 k d, nat_list_cmp_total)
-
-      abbrev near_end : Option Item
-      near_end = slice_get (take index items) (length (take index items) - 1)
-
-      -- the last item up to the arcs begins with all that they begin with
-      pub last_begins : (last : Item) → Some last ≡ near_end → Comprises (item_arcs octets_of last)
-      last_begins last is_last k default inside begun =
-          let prefix = item_arcs octets_of (get_or items k default) in
-          let before = upto k default inside begun in
-          let is : get_or items (index - 1) default ≡ last = grind (arith, common_steps, gets) in
-          let level = rw is at (far k (index - 1) default (omega arith) (omega arith)) in
-          run_between prefix prefix (item_arcs octets_of last) arcs ([], sym (append-nil prefix)) begun
-          (λ early. cc (level, early))
-          (not_greater (item_arcs octets_of last) arcs
-          (rw is at (end.0 (index - 1) default (omega arith) (omega arith))))
-
-      -- it is valid
-      pub last_valid : (last : Item) → Some last ≡ near_end → IsEncoding root_rule (item_arcs octets_of last) (octets_of last)
-      last_valid last e =
-          let is : get_or items (index - 1) last ≡ last = grind (arith, common_steps, gets) in
-          rw is at (list.valid (index - 1) last (grind (arith, common_steps, gets)))
-
-      -- without an item up to the arcs, they begin with none
-      pub none_begins : None ≡ near_end → IsNoneAbove
-      none_begins e k d l b = let before = upto k d l b in grind (arith, common_steps, gets)
-
-      pub reached_itself : (last : Item) → Some last ≡ near_end → IsReached (octets_of last) arcs
-      reached_itself last is_last = record {
-        begins = ([], sym (append-nil arcs));
-        others = λ k default inside begun. begun;
-        valid = last_valid last is_last;
-        near = last_begins last is_last;
-      }
-
-    module _ (last : List ℕ) (oid : ObjectIdentifierRef) (reached : IsReached last (ref_arcs oid)) where
+    module _ (oid : ObjectIdentifierRef) (reached : IsReached (ref_arcs oid)) where
       abbrev is_item : Item → Bool
       is_item = has_item_arcs octets_of (ref_arcs oid)
 
@@ -260,20 +243,14 @@ module _ {Item : Type 0} (octets_of : Item → List ℕ) (items : List Item) (ar
           (λ (past, none). rw none tt)
           (slice_get_cases items index).1
 
-      abbrev IsNoItem : Type 0
-      IsNoItem = All (λ item. item_arcs octets_of item ≢ ref_arcs oid) items
+      -- without an item of it
+      module _ (absent : None ≡ position is_item items) where
+        other : All (λ item. item_arcs octets_of item ≢ ref_arcs oid) items
+        other k default inside same =
+            let none = find_none is_item items absent in
+            grind (arith, find_at, slice_get_cases, passes_at_first, fails_before_first, nat_list_eq_equiv)
 
-      -- where the last one does not begin with it, or the list has no item of it
-      pub no_item : (tells : Bool) → (tells ≡ true) ↔ BeginsWith last (ref_octets oid)
-          → (tells ≡ true → None ≡ position is_item items) → IsNoItem
-      no_item tells told absent k default inside same =
-          let near = rw same at (reached.near k default inside) in
-          let begun = iff_begins (tells ≡ true) reached.valid (ref_encoding oid) told in
-          let none = find_none is_item items (absent (begun.1 (near reached.begins))) in
-          grind (arith, find_at, slice_get_cases, passes_at_first, fails_before_first, nat_list_eq_equiv)
-
-      module _ (other : IsNoItem) where
-        pub reached_parent : (parent : List ℕ) → parent_of (ref_arcs oid) ≡ Some parent → IsReached last parent
+        pub reached_parent : (parent : List ℕ) → parent_of (ref_arcs oid) ≡ Some parent → IsReached parent
         reached_parent parent found =
             let valid = (ref_encoding oid).identifier in
             let (_, arc, _, joined) = child_of-parent_of root_rule (ref_arcs oid) parent valid found in
@@ -284,8 +261,6 @@ module _ {Item : Type 0} (octets_of : Item → List ℕ) (items : List Item) (ar
                   let (more, split_item) = reached.others k default inside begun in
                   above_child parent arc _ more (joined ∙ split_item)
                   (λ nil. other k default inside (grind (arith, append-nil)));
-              valid = reached.valid;
-              near = reached.near;
             }
 
         pub reached_root : parent_of (ref_arcs oid) ≡ None → IsNoneAbove
@@ -293,3 +268,67 @@ module _ {Item : Type 0} (octets_of : Item → List ℕ) (items : List Item) (ar
             let two = (none_of_two (ref_arcs oid) (two_arcs root_rule (ref_arcs oid) (ref_encoding oid).identifier)).0 e in
             let many = two_arcs root_rule _ (list.valid k d l).identifier in
             above_root (ref_arcs oid) _ two many (reached.others k d l b) (other k d l)
+
+        -- the items before it
+        module _ (index : ℕ) (within : index ≤ length items) (cut : IsCut (key_before (item_arcs octets_of) (ref_arcs oid)) items index) where
+          -- what they begin with is there
+          before : (k : ℕ) (d : Item) → k < length items → BeginsWith arcs (item_arcs octets_of (get_or items k d)) → k < index
+          before k d l b = ⊎_elim
+              (λ (early : k < index). early)
+              (λ (late : index ≤ k).
+              absurd (cc (cut.1 k d late l, ap is_lt (prefix_less _ (ref_arcs oid) (reached.others k d l b) (other k d l)))))
+              (cases_lt k index)
+
+          abbrev last_before : Option Item
+          last_before = slice_get (take index items) (length (take index items) - 1)
+
+          -- the last one begins with all that they begin with
+          last_begins : (last : Item) → Some last ≡ last_before → Comprises (item_arcs octets_of last)
+          last_begins last is_last k default inside begun =
+              let prefix = item_arcs octets_of (get_or items k default) in
+              let early = before k default inside begun in
+              let is : get_or items (index - 1) default ≡ last = grind (arith, common_steps, gets) in
+              let level = rw is at (far k (index - 1) default (omega arith) (omega arith)) in
+              let least = rw is at (cut.0 (index - 1) default (omega arith) (omega arith)) in
+              run_between prefix prefix (item_arcs octets_of last) (ref_arcs oid) ([], sym (append-nil prefix))
+              (reached.others k default inside begun)
+              (λ less. cc (level, less))
+              (λ greater. cc (least, greater))
+
+          -- it is valid
+          last_valid : (last : Item) → Some last ≡ last_before → IsEncoding root_rule (item_arcs octets_of last) (octets_of last)
+          last_valid last e =
+              let is : get_or items (index - 1) last ≡ last = grind (arith, common_steps, gets) in
+              rw is at (list.valid (index - 1) last (grind (arith, common_steps, gets)))
+
+          -- without one, they begin with none
+          pub none_above : None ≡ last_before → IsNoneAbove
+          none_above e k d l b = let early = before k d l b in grind (arith, common_steps, gets)
+
+          -- and what the parent has in common with it is reached
+          module _ (last : Item) (is_last : Some last ≡ last_before) (parent : ObjectIdentifierRef)
+              (found : parent_of (ref_arcs oid) ≡ Some (ref_arcs parent)) (prefix : List ℕ)
+              (common : IsCommonPrefix (ref_octets parent) (octets_of last) prefix) where
+            up : IsReached (ref_arcs parent)
+            up = reached_parent (ref_arcs parent) found
+
+            comprises : (k : ℕ) (d : Item) → k < length items → BeginsWith arcs (item_arcs octets_of (get_or items k d))
+                → BeginsWith prefix (octets_of (get_or items k d))
+            comprises k d l b =
+                let item = list.valid k d l in
+                common.longest _ item (encoding_prefix root_rule _ _ _ _ item (ref_encoding parent) (up.others k d l b))
+                (encoding_prefix root_rule _ _ _ _ item (last_valid last is_last) (last_begins last is_last k d l b))
+
+            pub reached_common : (shared : ObjectIdentifierRef) → ref_octets shared ≡ prefix → IsReached (ref_arcs shared)
+            reached_common shared is =
+                let begun = arcs_prefix root_rule _ _ _ _ (ref_encoding shared) (ref_encoding parent) (rw is common.begins) in
+                record {
+                  begins = begins_again _ _ _ up.begins begun;
+                  others = λ k d l b.
+                      arcs_prefix root_rule _ _ _ _ (list.valid k d l) (ref_encoding shared) (rw is (comprises k d l b));
+                }
+
+            pub none_common : prefix ≡ [] → IsNoneAbove
+            none_common is k d l b =
+                let (rest, split) = comprises k d l b in
+                absurd (rw (begins_nil _ rest (sym is ∙ split)) at (list.valid k d l).identifier)

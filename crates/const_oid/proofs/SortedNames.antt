@@ -1,16 +1,16 @@
 -- Sorted tables of names: lists in the order of arcs, whose items are entries.
-use Rattle.std.proofs.Common.{◌≡◌, ◌+◌, ◌-◌, ◌<◌, ◌≤◌, ℕ, Bool, false, List, length}
+use Rattle.std.proofs.Common.{◌≡◌, ◌+◌, ◌-◌, ◌<◌, ◌≤◌, ℕ, Bool, true, false, List, length}
 use Rattle.std.proofs.Common.{take, drop, get_or, Option, Some, nat_cmp, sym, arith, Bor, slice_get}
 use Rattle.std.specs.{Prelude.{◌↔◌, IfSome}, Cmp.Lexicographic.slice_cmp, Ordering.is_le}
 use Rattle.std.specs.List.{HoldsAt, IsFirstMatchOrLen, find}
-use Rattle.std.specs.List.Sorted.{IsSortedByKey}
+use Rattle.std.specs.List.Sorted.{IsPartitionPoint, IsSortedByKey}
 use Rattle.std.specs.Option.{MatchOption, option_copied}
 use Rattle.std.proofs.lemmas.{Cmp.nat_list_cmp_total, List.take-append-drop, List.Folds.find_at}
 use Rattle.std.proofs.lemmas.{List.Elements.All-append, Grind.common_steps}
 use Rattle.std.proofs.lemmas.{List.Sums.{fails_before_first, passes_at_first}, Option.{gets, slice_get_cases}}
 use Rattle.const_oid.specs.{declared.oid_ref.ObjectIdentifierRef.ObjectIdentifierRef, OidRef.ref_octets}
 use Rattle.const_oid.specs.{Names.{Entry, oid_of, entry_arcs, IsSubtree}, SortedList.IsSortedList, Tree.BeginsWith}
-use Rattle.const_oid.proofs.{BeginsWith.is_before, Encodings.ref_encoding, SortedLists.IsEnd}
+use Rattle.const_oid.proofs.{BeginsWith.is_before, Encodings.ref_encoding}
 
 -- the octets of an entry
 abbrev pub entry_octets : Entry ObjectIdentifierRef → List ℕ
@@ -48,7 +48,8 @@ holds_there P xs i d l at = rw (slice_get_there xs i d l) at at
 
 module _ (entries : List (Entry ObjectIdentifierRef)) (arcs : List ℕ) where
   -- the first entry after arcs is where those up to them end
-  pub find_after : (index : ℕ) → IsEnd entry_octets entries arcs index
+  pub find_after : (index : ℕ) → IsPartitionPoint (λ entry. is_before (entry_arcs entry) arcs ≡ false)
+      (λ entry. is_before (entry_arcs entry) arcs ≡ true) entries index
       → find (λ entry. is_before (entry_arcs entry) arcs) entries ≡ slice_get entries index
   find_after index end = find_is _ entries index (end.0, λ l d. end.1 index d (omega arith) l)
 

@@ -4,5 +4,6 @@ pub mod Ends
 pub mod Encoder
 pub mod Groups
 pub mod Parser
+pub mod Prefixes
 pub mod Text
 pub mod Words

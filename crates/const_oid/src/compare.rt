@@ -7,8 +7,10 @@ ghost use Rattle.std.specs.Ordering.{nat_cmp};
 ghost use Rattle.std.specs.Str.{str_eq_ignore_ascii_case};
 ghost use Rattle.const_oid.specs.Orders.{parts_cmp};
 ghost use Rattle.const_oid.specs.Private.Octets.{lens_cmp, length_at};
+ghost use Rattle.const_oid.specs.Private.Prefixes.{IsCommonPrefix};
 ghost use Rattle.const_oid.specs.Private.Words.{IsWord};
 
+use crate::parts::{finished_parts, first_octets};
 use std::cmp::Ordering;
 
 /// Whether octets begin with others.
@@ -248,6 +250,15 @@ fn ends_at(octets: &[u8], index: usize) -> bool
     ensures more { IsFalse result → 1 < length_at octets.now index }
 {
     octets[index] < 128 || index + 1 == octets.len()
+}
+
+/// The subidentifiers that octets and others begin with, up to the first that differs.
+pub(crate) fn common_parts<'a>(octets: &'a [u8], others: &[u8]) -> &'a [u8]
+    ensures { IsCommonPrefix octets.now others.now result.now }
+{
+    let near = octets.len().min(others.len());
+    let same = same_until(octets, others, same_start(octets, others), near);
+    finished_parts(first_octets(octets, same))
 }
 
 /// How many of the first octets are known to be the same: a word, half a word or none.

@@ -3,7 +3,7 @@
 //! No search checks the list. Over a list that is not sorted, or with an item that is not valid, the result is
 //! unspecified, but within the list.
 
-ghost use Rattle.std.specs.Prelude.{◌≡◌, ◌<◌, ◌≤◌, ◌↔◌, ℕ, List, length, nat_eq, true, false, count_by, slice_get, All, IfNone, IfSome, Some};
+ghost use Rattle.std.specs.Prelude.{◌≡◌, ◌<◌, ◌≤◌, ◌↔◌, ℕ, List, [], length, nat_eq, true, false, count_by, slice_get, All, IfErr, IfNone, IfOk, IfSome, MatchResult, None, Some};
 ghost use Rattle.std.specs.Cmp.Lexicographic.{pointwise, slice_cmp};
 ghost use Rattle.std.specs.List.{position};
 ghost use Rattle.std.specs.List.Sorted.{IsPartitionPoint};
@@ -11,12 +11,14 @@ ghost use Rattle.std.specs.Ordering.{nat_cmp, is_lt};
 ghost use Rattle.const_oid.specs.Names.{IsNearestBy};
 ghost use Rattle.const_oid.specs.OidRef.{ref_arcs, ref_octets};
 ghost use Rattle.const_oid.specs.Orders.{parts_cmp};
+ghost use Rattle.const_oid.specs.Private.Prefixes.{IsCommonPrefix};
 ghost use Rattle.const_oid.specs.SortedList.{IsSortedList, has_item_arcs, item_arcs};
 ghost use Rattle.const_oid.specs.Tree.{BeginsWith};
 
-use crate::compare::{are_equal, begins_with, order_by_parts};
+use crate::compare::{are_equal, begins_with, common_parts, order_by_parts};
 use crate::oid_ref::ObjectIdentifierRef;
 use std::cmp::Ordering;
+use std::result;
 
 /// An item that has contents octets, which need not be valid.
 pub trait Contents {
@@ -62,11 +64,28 @@ pub fn first_of<T: Contents>(items: &[T], oid: &ObjectIdentifierRef<'_>) -> Opti
     ensures found { IsSortedList T.octets_of items.now → result ≡ position (has_item_arcs T.octets_of (ref_arcs oid.now)) items.now }
     ensures within { IfSome result (λ index. index < length items.now) }
 {
+    match find(items, oid) {
+        Ok(index) => Some(index),
+        Err(_) => None,
+    }
+}
+
+/// The index of the first item with the arcs of an identifier, or `Err` with the index at which the identifier would be
+/// inserted.
+fn find<T: Contents>(items: &[T], oid: &ObjectIdentifierRef<'_>) -> result::Result<usize, usize>
+    ensures found { IsSortedList T.octets_of items.now
+        → IfOk result (λ index. Some index ≡ position (has_item_arcs T.octets_of (ref_arcs oid.now)) items.now) }
+    ensures absent { IsSortedList T.octets_of items.now
+        → IfErr result (λ index. (None ≡ position (has_item_arcs T.octets_of (ref_arcs oid.now)) items.now)
+        × IsPartitionPoint (λ item. is_lt (slice_cmp nat_cmp (item_arcs T.octets_of item) (ref_arcs oid.now)) ≡ true)
+        (λ item. is_lt (slice_cmp nat_cmp (item_arcs T.octets_of item) (ref_arcs oid.now)) ≡ false) items.now index) }
+    ensures within { MatchResult result (λ index. index < length items.now) (λ index. index ≤ length items.now) }
+{
     let index = start_of(items, oid);
     if index < items.len() && has_octets(&items[index], oid) {
-        Some(index)
+        Ok(index)
     } else {
-        None
+        Err(index)
     }
 }
 
@@ -101,15 +120,26 @@ pub fn nearest_of<T: Contents>(items: &[T], oid: &ObjectIdentifierRef<'_>) -> Op
     ensures none { IsSortedList T.octets_of items.now → IfNone result (All (λ item. BeginsWith (ref_arcs oid.now) (item_arcs T.octets_of item) → ⊥) items.now) }
     ensures within { IfSome result (λ index. index < length items.now) }
 {
-    // A prefix of the identifier in the list is at or before it, so the last item up to it begins with that prefix, too.
-    let last = items[..end_of(items, oid)].last()?.contents();
     let mut above = *oid;
     loop {
-        if begins_with(last, above.as_bytes()) {
-            if let Some(index) = first_of(items, &above) {
-                return Some(index);
-            }
-        }
-        above = above.parent()?;
+        let index = match find(items, &above) {
+            Ok(index) => return Some(index),
+            Err(index) => index,
+        };
+        // An item that it begins with comes before it, so the last item before it begins with that one, too.
+        let before = items[..index].last()?.contents();
+        above = common_prefix(above.parent()?, before)?;
     }
+}
+
+/// The longest identifier that begins an identifier and other octets, or `None` if there is none.
+fn common_prefix<'a>(oid: ObjectIdentifierRef<'a>, others: &[u8]) -> Option<ObjectIdentifierRef<'a>>
+    ensures some { IfSome result (λ prefix. IsCommonPrefix (ref_octets oid.entry) others.now (ref_octets prefix)) }
+    ensures none { IfNone result (IsCommonPrefix (ref_octets oid.entry) others.now []) }
+{
+    let prefix = common_parts(oid.as_bytes(), others);
+    if prefix.is_empty() {
+        return None;
+    }
+    Some(ObjectIdentifierRef::from_checked(prefix))
 }

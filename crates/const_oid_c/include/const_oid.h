@@ -245,7 +245,7 @@ const_oid_status const_oid_next(
     const uint8_t *octets, size_t len, const const_oid_octets *sorted, size_t count);
 
 /* Finds the nearest item to an identifier: the first item that is equal to it, or else to its longest prefix in the
- * list. The time may grow with the square of the identifier's length. */
+ * list. */
 const_oid_status const_oid_nearest(
     const uint8_t *octets, size_t len, const const_oid_octets *sorted, size_t count);
 

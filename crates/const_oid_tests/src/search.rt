@@ -3,12 +3,13 @@
 
 use const_oid::search::{Contents, end_of, first_of, nearest_of, order_of, start_of, subtree_of};
 use const_oid::{Error, ObjectIdentifierRef};
+use std::test::Fail;
 
 /// An item with contents octets.
 #[derive(Clone, Copy)]
-struct Item(&'static [u8]);
+struct Item<'a>(&'a [u8]);
 
-impl Contents for Item {
+impl Contents for Item<'_> {
     ghost octets_of = { λ item. item.0.now };
 
     fn contents(&self) -> &[u8] {
@@ -27,15 +28,17 @@ type Row = (
 );
 
 /// Arrays, and rows of identifiers that are sought in them.
-const TABLES: &[(&[Item], &[Row])] = &[
+const TABLES: &[(&[Item<'static>], &[Row])] = &[
     (&[], &[(&[0x2A], 0, 0, None, (0, 0), None)]),
     (ONE, IN_ONE),
     (SAME, IN_SAME),
     (SORTED, IN_SORTED),
+    (STEPS, IN_STEPS),
+    (NO_STEPS, IN_NO_STEPS),
 ];
 
 /// 1.2.3.
-const ONE: &[Item] = &[Item(&[0x2A, 0x03])];
+const ONE: &[Item<'static>] = &[Item(&[0x2A, 0x03])];
 
 /// A parent, the item, a child, and identifiers before and after them.
 const IN_ONE: &[Row] = &[
@@ -47,7 +50,7 @@ const IN_ONE: &[Row] = &[
 ];
 
 /// 1.2.3, three times.
-const SAME: &[Item] = &[
+const SAME: &[Item<'static>] = &[
     Item(&[0x2A, 0x03]),
     Item(&[0x2A, 0x03]),
     Item(&[0x2A, 0x03]),
@@ -60,7 +63,7 @@ const IN_SAME: &[Row] = &[
 ];
 
 /// 1.2.3, 1.2.3.4 twice, 1.2.256, 1.2.16384 and 2.5.
-const SORTED: &[Item] = &[
+const SORTED: &[Item<'static>] = &[
     Item(&[0x2A, 0x03]),
     Item(&[0x2A, 0x03, 0x04]),
     Item(&[0x2A, 0x03, 0x04]),
@@ -87,8 +90,78 @@ const IN_SORTED: &[Row] = &[
     (&[0x56], 6, 6, None, (6, 6), None),
 ];
 
+/// 1.2.3, 1.2.3.4.0, 1.2.3.4.5.0, 1.2.3.4.5.6.0 and 1.2.3.4.5.16384.
+const STEPS: &[Item<'static>] = &[
+    Item(&[0x2A, 0x03]),
+    Item(&[0x2A, 0x03, 0x04, 0x00]),
+    Item(&[0x2A, 0x03, 0x04, 0x05, 0x00]),
+    Item(&[0x2A, 0x03, 0x04, 0x05, 0x06, 0x00]),
+    Item(&[0x2A, 0x03, 0x04, 0x05, 0x81, 0x80, 0x00]),
+];
+
+/// Each item before one of these has an arc in common less, up to 1.2.3.
+const IN_STEPS: &[Row] = &[
+    (&[0x2A, 0x03, 0x04], 1, 1, None, (1, 5), Some(0)),
+    (&[0x2A, 0x03, 0x04, 0x05], 2, 2, None, (2, 5), Some(0)),
+    (&[0x2A, 0x03, 0x04, 0x05, 0x06], 3, 3, None, (3, 4), Some(0)),
+    (
+        &[0x2A, 0x03, 0x04, 0x05, 0x06, 0x00, 0x00],
+        4,
+        4,
+        None,
+        (4, 4),
+        Some(3),
+    ),
+    (
+        &[0x2A, 0x03, 0x04, 0x05, 0x06, 0x07, 0x08],
+        4,
+        4,
+        None,
+        (4, 4),
+        Some(0),
+    ),
+    (
+        &[0x2A, 0x03, 0x04, 0x05, 0x81, 0x80, 0x01],
+        5,
+        5,
+        None,
+        (5, 5),
+        Some(0),
+    ),
+    (&[0x2A, 0x04], 5, 5, None, (5, 5), None),
+];
+
+/// The same without 1.2.3.
+const NO_STEPS: &[Item<'static>] = &[
+    Item(&[0x2A, 0x03, 0x04, 0x00]),
+    Item(&[0x2A, 0x03, 0x04, 0x05, 0x00]),
+    Item(&[0x2A, 0x03, 0x04, 0x05, 0x06, 0x00]),
+    Item(&[0x2A, 0x03, 0x04, 0x05, 0x81, 0x80, 0x00]),
+];
+
+const IN_NO_STEPS: &[Row] = &[
+    (&[0x2A, 0x03, 0x04, 0x05], 1, 1, None, (1, 4), None),
+    (
+        &[0x2A, 0x03, 0x04, 0x05, 0x06, 0x07, 0x08],
+        3,
+        3,
+        None,
+        (3, 3),
+        None,
+    ),
+    (
+        &[0x2A, 0x03, 0x04, 0x05, 0x81, 0x80, 0x01],
+        4,
+        4,
+        None,
+        (4, 4),
+        None,
+    ),
+    (&[0x2B], 4, 4, None, (4, 4), None),
+];
+
 /// Whether each search in an array has the result of a row.
-fn is_found(items: &[Item], row: &Row) -> Result<bool, Error> {
+fn is_found(items: &[Item<'_>], row: &Row) -> Result<bool, Error> {
     let oid = ObjectIdentifierRef::from_bytes(row.0)?;
     Ok(
         start_of(items, &oid) == row.1
@@ -100,7 +173,7 @@ fn is_found(items: &[Item], row: &Row) -> Result<bool, Error> {
 }
 
 /// The octets of the first row of an array that has other results.
-fn wrong_octets(items: &[Item], rows: &[Row]) -> Option<&'static [u8]> {
+fn wrong_octets(items: &[Item<'_>], rows: &[Row]) -> Option<&'static [u8]> {
     for row in rows {
         if is_found(items, row) != Ok(true) {
             return Some(row.0);
@@ -115,6 +188,20 @@ fn finds_each_row(rt: HostRuntime) {
         let octets = wrong_octets(items, rows);
         assert!(rt; octets.is_none(), "{octets:?} in {} items", items.len());
     }
+}
+
+/// The item before 0.1.1.1.. is the same but for its last arc. A search that tried each prefix in turn would take longer
+/// than a test may.
+#[test]
+fn finds_the_nearest_of_a_long_identifier(rt: HostRuntime) -> Result<(), Fail> {
+    let octets = vec![in rt.alloc(); 1; 4_000_000]?;
+    let mut before = octets.clone()?;
+    before.pop();
+    before.push(0)?;
+    let oid = ObjectIdentifierRef::from_bytes(&octets)?;
+    assert!(rt; nearest_of(&[Item(&before)], &oid).is_none());
+    assert!(rt; nearest_of(&[Item(&[1, 1]), Item(&before)], &oid) == Some(0));
+    Ok(())
 }
 
 /// Octets, valid or not, in ascending order. A part ends with its first octet below 0x80, and a longer part is greater.

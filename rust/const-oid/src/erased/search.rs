@@ -5,9 +5,10 @@
 //! No search checks the list. Over a list that is not sorted, or with an item that is not valid, the result is
 //! unspecified, but within the list.
 
-use crate::erased::compare::{are_equal, begins_with, order_by_parts};
+use crate::erased::compare::{are_equal, begins_with, common_parts, order_by_parts};
 use crate::erased::oid_ref::ObjectIdentifierRef;
 use core::cmp::Ordering;
+use core::result;
 
 /// An item that has contents octets, which need not be valid.
 pub trait Contents {
@@ -34,11 +35,20 @@ pub fn end_of<T: Contents>(items: &[T], oid: &ObjectIdentifierRef<'_>) -> usize 
 
 /// The index of the first item with the arcs of an identifier, or `None` if no item has them.
 pub fn first_of<T: Contents>(items: &[T], oid: &ObjectIdentifierRef<'_>) -> Option<usize> {
+    match find(items, oid) {
+        Ok(index) => Some(index),
+        Err(_) => None,
+    }
+}
+
+/// The index of the first item with the arcs of an identifier, or `Err` with the index at which the identifier would be
+/// inserted.
+fn find<T: Contents>(items: &[T], oid: &ObjectIdentifierRef<'_>) -> result::Result<usize, usize> {
     let index = start_of(items, oid);
     if index < items.len() && has_octets(&items[index], oid) {
-        Some(index)
+        Ok(index)
     } else {
-        None
+        Err(index)
     }
 }
 
@@ -58,15 +68,26 @@ pub fn subtree_of<T: Contents>(items: &[T], oid: &ObjectIdentifierRef<'_>) -> (u
 /// The index of the item with the longest prefix of an identifier, which may be all of it, or `None` if the list has no
 /// prefix. If several items have it, the first.
 pub fn nearest_of<T: Contents>(items: &[T], oid: &ObjectIdentifierRef<'_>) -> Option<usize> {
-    // A prefix of the identifier in the list is at or before it, so the last item up to it begins with that prefix, too.
-    let last = items[..end_of(items, oid)].last()?.contents();
     let mut above = *oid;
     loop {
-        if begins_with(last, above.as_bytes()) {
-            if let Some(index) = first_of(items, &above) {
-                return Some(index);
-            }
-        }
-        above = above.parent()?;
+        let index = match find(items, &above) {
+            Ok(index) => return Some(index),
+            Err(index) => index,
+        };
+        // An item that it begins with comes before it, so the last item before it begins with that one, too.
+        let before = items[..index].last()?.contents();
+        above = common_prefix(above.parent()?, before)?;
     }
+}
+
+/// The longest identifier that begins an identifier and other octets, or `None` if there is none.
+fn common_prefix<'a>(
+    oid: ObjectIdentifierRef<'a>,
+    others: &[u8],
+) -> Option<ObjectIdentifierRef<'a>> {
+    let prefix = common_parts(oid.as_bytes(), others);
+    if prefix.is_empty() {
+        return None;
+    }
+    Some(ObjectIdentifierRef::from_checked(prefix))
 }

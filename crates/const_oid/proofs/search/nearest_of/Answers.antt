@@ -1,46 +1,45 @@
-use Rattle.std.proofs.Common.{arith, sym}
-use Rattle.const_oid.specs.OidRef.{ref_arcs}
-use Rattle.const_oid.proofs.SortedLists.{none_begins, no_item, reached_itself, reached_nearest, reached_first}
-use Rattle.const_oid.proofs.SortedLists.{reached_parent, reached_root}
+use Rattle.std.proofs.Common.{refl, sym}
+use Rattle.const_oid.proofs.SortedLists.{reached_nearest, reached_first, reached_root}
+use Rattle.const_oid.proofs.SortedLists.{none_above, reached_common, none_common, shorter}
 use Rattle.const_oid.proofs.search.nearest_of.Goals as goal
 
-pub loop-above-init : goal.loop-above-init
-loop-above-init g c = λ list.
-    let end = c.end_of.ensures in
-    let value = c.in_ok-last.ensures.value in
-    rw c.contents-last.ensures
-    (reached_itself g.T.Contents.octets_of _ (ref_arcs c.args.oid.now) list _ (end.cut list) end.within _ value)
+pub returns-in-Ok-clause-found : goal.returns-in-Ok-clause-found
+returns-in-Ok-clause-found g c = λ list.
+    reached_nearest g.T.Contents.octets_of _ _ list c.loop-index.above (c.loop-index.invariant list) _ (c.in-Ok.ensures.found list)
+
+pub returns-in-Ok-clause-first : goal.returns-in-Ok-clause-first
+returns-in-Ok-clause-first g c = λ list.
+    reached_first g.T.Contents.octets_of _ _ list c.loop-index.above (c.loop-index.invariant list) _ (c.in-Ok.ensures.found list)
 
 pub returns-in_err-last-clause-none : goal.returns-in_err-last-clause-none
 returns-in_err-last-clause-none g c = λ list.
-    let end = c.end_of.ensures in
-    let value = c.in_err-last.ensures.value in
+    let (absent, cut) = c.in-Err.ensures.absent list in
     rw c.from_residual.ensures
-    (none_begins g.T.Contents.octets_of _ (ref_arcs c.args.oid.now) list _ (end.cut list) end.within value)
+    (none_above g.T.Contents.octets_of _ _ list c.loop-index.above (c.loop-index.invariant list) absent
+    _ c.in-Err.ensures.within cut c.in_err-last.ensures.value)
 
-pub returns-in-Some-clause-found : goal.returns-in-Some-clause-found
-returns-in-Some-clause-found g c = λ list.
-    reached_nearest g.T.Contents.octets_of _ _ list _ c.loop-above.above (c.loop-above.invariant list) _
-    (c.in-Some.ensures.found list)
-
-pub returns-in-Some-clause-first : goal.returns-in-Some-clause-first
-returns-in-Some-clause-first g c = λ list.
-    reached_first g.T.Contents.octets_of _ _ list _ c.loop-above.above (c.loop-above.invariant list) _
-    (c.in-Some.ensures.found list)
+pub returns-in_err-parent-clause-none : goal.returns-in_err-parent-clause-none
+returns-in_err-parent-clause-none g c = λ list.
+    let (absent, _) = c.in-Err.ensures.absent list in
+    rw c.from_residual-in_err-parent.ensures
+    (reached_root g.T.Contents.octets_of _ _ list c.loop-index.above (c.loop-index.invariant list) absent (sym c.in_err-parent.ensures.arcs))
 
 pub returns-in_err-above-clause-none : goal.returns-in_err-above-clause-none
 returns-in_err-above-clause-none g c = λ list.
-    let reached = c.loop-above.invariant list in
-    let told = rw c.as_bytes.ensures.slice at c.begins_with.ensures in
-    let other = no_item g.T.Contents.octets_of _ _ list _ c.loop-above.above reached _ told
-    (λ begun. grind arith) in
+    let (absent, cut) = c.in-Err.ensures.absent list in
     rw c.from_residual-in_err-above.ensures
-    (reached_root g.T.Contents.octets_of _ _ list _ c.loop-above.above reached other (sym c.in_err-above.ensures.arcs))
+    (none_common g.T.Contents.octets_of _ _ list c.loop-index.above (c.loop-index.invariant list) absent
+    _ c.in-Err.ensures.within cut _ c.in_ok-last.ensures.value c.in_ok-parent.field-0 (sym c.in_ok-parent.ensures.arcs)
+    _ (rw c.contents-before.ensures at c.in_err-above.ensures.none) refl)
 
-pub loop-above-preserved : goal.loop-above-preserved
-loop-above-preserved g c = λ list.
-    let reached = c.loop-above.invariant list in
-    let told = rw c.as_bytes.ensures.slice at c.begins_with.ensures in
-    let other = no_item g.T.Contents.octets_of _ _ list _ c.loop-above.above reached _ told
-    (λ begun. grind arith) in
-    reached_parent g.T.Contents.octets_of _ _ list _ c.loop-above.above reached other _ (sym c.in_ok-above.ensures.arcs)
+pub loop-index-smaller : goal.loop-index-smaller
+loop-index-smaller g c =
+    shorter c.loop-index.above c.in_ok-parent.field-0 c.in_ok-above.above (sym c.in_ok-parent.ensures.arcs)
+    c.in_ok-above.ensures.some.begins
+
+pub loop-index-preserved : goal.loop-index-preserved
+loop-index-preserved g c = λ list.
+    let (absent, cut) = c.in-Err.ensures.absent list in
+    reached_common g.T.Contents.octets_of _ _ list c.loop-index.above (c.loop-index.invariant list) absent
+    _ c.in-Err.ensures.within cut _ c.in_ok-last.ensures.value c.in_ok-parent.field-0 (sym c.in_ok-parent.ensures.arcs)
+    _ (rw c.contents-before.ensures at c.in_ok-above.ensures.some) c.in_ok-above.above refl
