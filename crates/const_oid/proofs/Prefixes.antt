@@ -85,7 +85,15 @@ longer_begins prefix rest encoding more joined within =
     sym (take-append-le (length encoding) prefix rest within) ∙ ap (take (length encoding)) joined ∙ take-append_seam encoding more in
     (drop (length encoding) prefix, sym (take-append-drop (length encoding) prefix) ∙ ap (λ xs. xs ++ drop (length encoding) prefix) same)
 
+-- what begins the first elements begins them all
+begins_all : (prefix list : List ℕ) (count : ℕ) → BeginsWith (take count list) prefix → BeginsWith list prefix
+begins_all prefix list count (rest, split) = (
+  rest ++ drop count list,
+  sym (take-append-drop count list) ∙ ap (λ xs. xs ++ drop count list) split ∙ append_assoc prefix rest (drop count list),
+)
+
 module _ (octets others prefix : List ℕ) (count : ℕ) (inside : count ≤ length octets)
+    (same : take count octets ≡ take count others)
     (unequal : count < min (length octets) (length others) → slice_index octets count ≢ slice_index others count)
     (finished : IsFinishedPrefix (take count octets) prefix) where
   long : length (take count octets) ≡ count
@@ -111,12 +119,13 @@ module _ (octets others prefix : List ℕ) (count : ℕ) (inside : count ≤ len
   pub common_is : IsCommonPrefix octets others prefix
   common_is =
       let (rest, begins) = finished.begins in
-      let joined : prefix ++ (rest ++ drop count octets) ≡ octets =
-      sym (append_assoc prefix rest (drop count octets)) ∙ ap (λ xs. xs ++ drop count octets) (sym begins) ∙ take-append-drop count octets in
+      let (more, joined) = begins_all prefix octets count (rest, begins) in
       let ends : (k : ℕ) → length prefix ≡ suc k → slice_index prefix k < 128 = λ k is.
       rw (sym (get_or_append_left prefix rest 0 k (omega (arith, is))) ∙ ap (λ xs. slice_index xs k) (sym begins)) (finished.ends k is) in
       record {
-        begins = (rest ++ drop count octets, sym joined);
-        valid = λ none some. valid_prefix prefix (rest ++ drop count octets) ends some (rw joined none);
-        longest = λ encoding e (more, split) begun. longer_begins prefix _ encoding more (joined ∙ split) (no_longer e (more, split) begun);
+        begins = (more, joined);
+        begins_others = begins_all prefix others count (rest, sym same ∙ begins);
+        valid = λ none some. valid_prefix prefix more ends some (rw joined at none);
+        longest = λ encoding e (after, split) begun.
+            longer_begins prefix more encoding after (sym joined ∙ split) (no_longer e (after, split) begun);
       }

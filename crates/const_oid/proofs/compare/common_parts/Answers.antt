@@ -6,4 +6,4 @@ pub returns : goal.returns
 returns c =
     let same = c.same_until-same.ensures in
     common_is c.args.octets.now c.args.others.now c.finished_parts.result.now c.same_until-same.result (omega arith)
-    (λ below. same.unequal (omega arith)) (rw c.first_octets.ensures at c.finished_parts.ensures)
+    same.same (λ below. same.unequal (omega arith)) (rw c.first_octets.ensures at c.finished_parts.ensures)
