@@ -1,14 +1,14 @@
 -- Octets without their last part.
 use Rattle.std.proofs.Common.{◌≡◌, ◌≢◌, ℕ, zero, suc, ◌-◌, ◌<◌, ◌≤◌, List, [], ◌∷◌, ◌++◌, length, map, take, drop}
-use Rattle.std.proofs.Common.{slice_index, Some, None, refl, ap, ◌∙◌, arith, lt-ltb, length-append, rules}
+use Rattle.std.proofs.Common.{slice_index, Some, None, refl, sym, ap, ◌∙◌, arith, lt-ltb, length-append, rules}
 use Rattle.std.specs.{Prelude.◌↔◌, List.{onto_first, concat}}
 use Rattle.std.proofs.Math.Seq.{take-append_seam}
-use Rattle.std.proofs.lemmas.{List.{length-map, take-map, take-append-drop}, List.Folds.concat-append}
+use Rattle.std.proofs.lemmas.{List.{length-map, length-take-le, take-map, take-append-drop}, List.Folds.concat-append}
 use Rattle.std.proofs.lemmas.{Bool.Decides.nat_tests, Grind.common_steps}
 use Rattle.const_oid.specs.{Base128.value_of, Identifier.{RootRule, IsIdentifier, IsEncoding}}
 use Rattle.const_oid.specs.Contents.{cut, later_fault, parts_fault, arcs_from, arcs_of_octets}
 use Rattle.const_oid.specs.{Tree.{BeginsWith, parent_of}, Private.Prefixes.IsFinishedPrefix}
-use Rattle.const_oid.proofs.{Tree.child_of-parent_of, Children.encoding_parent, Lengths.length_by_parts}
+use Rattle.const_oid.proofs.{Tree.child_of-parent_of, Children.encoding_parent, Encodings.none_from_encoding, Lengths.length_by_parts}
 use Rattle.const_oid.proofs.Cutting.{cut_after-append, cut_after-last, cut_after-more, cut-some, concat-cut}
 
 -- ---- where the last part begins
@@ -52,6 +52,13 @@ parts_without_last octets prefix before octet is finished =
     let (last, parts) = cut_push prefix octet (length before) (omega (arith, ap length begins, length-append before rest))
     finished.ends finished.last in
     search (arith, same, parts, but_last)
+
+-- which are all but the last one
+pub but_last_octet : (octets prefix : List ℕ) (octet : ℕ) → octets ≡ prefix ++ octet ∷ []
+    → take (length octets - 1) octets ≡ prefix
+but_last_octet octets prefix octet is =
+    let long : length octets - 1 ≡ length prefix = omega (arith, ap length is, length-append prefix (octet ∷ [])) in
+    rw (long, is) (take-append_seam prefix (octet ∷ []))
 
 -- ---- what they encode
 
@@ -113,3 +120,17 @@ two_arcs rule arcs i = search rules
 pub parent_of_one : {rule : RootRule} {arcs octets : List ℕ} → IsEncoding rule arcs octets
     → (parent_of arcs ≡ None) ↔ (length (cut octets) ≡ 1)
 parent_of_one {rule} {arcs} {octets} e = grind (arith, nat_tests, length_by_parts rule arcs octets e)
+
+parts_some : (rule : RootRule) (parts : List (List ℕ)) → parts_fault rule parts ≡ None → 0 < length parts
+parts_some rule [] none = cc
+parts_some rule (part ∷ parts) none = omega arith
+
+-- where no octets are left before the last part there is none
+pub no_parent : (rule : RootRule) (octets before : List ℕ) → IsEncoding rule (arcs_of_octets octets) octets
+    → IsWithoutLast octets before → length before ≡ 0 → None ≡ parent_of (arcs_of_octets octets)
+no_parent rule octets [] e without none =
+    let parts = cut octets in
+    let some = parts_some rule parts (none_from_encoding e) in
+    let long = length-take-le (length parts - 1) parts (omega arith) in
+    sym ((parent_of_one e).1 (omega (arith, some, ap length without, long)))
+no_parent rule octets (x ∷ xs) e without none = absurd (omega (arith, none))

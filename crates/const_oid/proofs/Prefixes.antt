@@ -1,8 +1,8 @@
 -- What octets begin with: whole subidentifiers.
 use Rattle.std.proofs.Common.{◌≡◌, ◌≢◌, ℕ, zero, suc, ◌+◌, ◌-◌, ◌<◌, ◌≤◌, List, [], ◌∷◌, ◌++◌, length, min, take, drop}
-use Rattle.std.proofs.Common.{slice_index, None, refl, sym, ap, ◌∙◌, arith, ⊎_elim, append_assoc, length-append}
+use Rattle.std.proofs.Common.{slice_index, None, refl, sym, ap, ◌∙◌, arith, ⊎_elim, append_assoc, append-nil, length-append}
 use Rattle.std.specs.List.{AllByRecursion, concat}
-use Rattle.std.proofs.Math.{Seq.take-append_seam, Nat.eq-zero-or-pos}
+use Rattle.std.proofs.Math.{Seq.{take-append_seam, take-length}, Nat.eq-zero-or-pos}
 use Rattle.std.proofs.lemmas.Bool.{cases_lt}
 use Rattle.std.proofs.lemmas.List.{length-take-le, take-append-drop, take-append-le, get_or-take, get_or_append_left, get_or-append_right}
 use Rattle.const_oid.specs.{Base128.IsContinued, Contents.{cut, parts_fault}, Tree.BeginsWith}
@@ -116,8 +116,8 @@ module _ (octets others prefix : List ℕ) (count : ℕ) (inside : count ≤ len
       (cases_lt (length prefix) (length encoding))
 
   -- the finished prefix of what is the same is what they have in common
-  pub common_is : IsCommonPrefix octets others prefix
-  common_is =
+  pub common_is : parts_fault root_rule (cut octets) ≡ None → IsCommonPrefix octets others prefix
+  common_is none =
       let (rest, begins) = finished.begins in
       let (more, joined) = begins_all prefix octets count (rest, begins) in
       let ends : (k : ℕ) → length prefix ≡ suc k → slice_index prefix k < 128 = λ k is.
@@ -125,7 +125,18 @@ module _ (octets others prefix : List ℕ) (count : ℕ) (inside : count ≤ len
       record {
         begins = (more, joined);
         begins_others = begins_all prefix others count (rest, sym same ∙ begins);
-        valid = λ none some. valid_prefix prefix more ends some (rw joined at none);
+        valid = λ some. valid_prefix prefix more ends some (rw joined at none);
         longest = λ encoding e (after, split) begun.
             longer_begins prefix more encoding after (sym joined ∙ split) (no_longer e (after, split) begun);
       }
+
+-- or all octets
+pub common_all : (octets others : List ℕ) → parts_fault root_rule (cut octets) ≡ None
+    → take (length octets) octets ≡ take (length octets) others → IsCommonPrefix octets others octets
+common_all octets others none same = record {
+  begins = ([], sym (append-nil octets));
+  begins_others = begins_all octets others (length octets)
+      ([], sym same ∙ take-length octets ∙ sym (append-nil octets));
+  valid = λ some. none;
+  longest = λ encoding e begun begun'. begun;
+}

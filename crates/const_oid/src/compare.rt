@@ -1,16 +1,18 @@
 //! How slices of octets and names compare.
 
-ghost use Rattle.std.specs.Prelude.{◌≡◌, ◌≢◌, ◌↔◌, ℕ, ◌+◌, ◌<◌, ◌≤◌, List, ◌++◌, length, slice_index, take, drop, min, nat_eq, IsFalse, IsTrue, MatchOption};
+ghost use Rattle.std.specs.Prelude.{◌≡◌, ◌≢◌, ◌↔◌, ℕ, ◌+◌, ◌<◌, ◌≤◌, List, ◌++◌, length, slice_index, take, drop, min, nat_eq, None, IsFalse, IsTrue, MatchOption};
 ghost use Rattle.std.specs.Cmp.Lexicographic.{pointwise, slice_cmp};
 ghost use Rattle.std.specs.Int.{to_be_bytes, w32};
 ghost use Rattle.std.specs.Ordering.{nat_cmp};
 ghost use Rattle.std.specs.Str.{str_eq_ignore_ascii_case};
+ghost use Rattle.const_oid.specs.Contents.{cut, parts_fault};
+ghost use Rattle.const_oid.specs.Identifier.{root_rule};
 ghost use Rattle.const_oid.specs.Orders.{parts_cmp};
 ghost use Rattle.const_oid.specs.Private.Octets.{lens_cmp, length_at};
 ghost use Rattle.const_oid.specs.Private.Prefixes.{IsCommonPrefix};
 ghost use Rattle.const_oid.specs.Private.Words.{IsWord};
 
-use crate::parts::{finished_parts, first_octets};
+use crate::parts::{first_octets, without_last_part};
 use std::cmp::Ordering;
 
 /// Whether octets begin with others.
@@ -252,13 +254,17 @@ fn ends_at(octets: &[u8], index: usize) -> bool
     octets[index] < 128 || index + 1 == octets.len()
 }
 
-/// The subidentifiers that octets and others begin with, up to the first that differs.
+/// The subidentifiers that valid octets and others begin with, up to the first that differs.
 pub(crate) fn common_parts<'a>(octets: &'a [u8], others: &[u8]) -> &'a [u8]
+    requires { parts_fault root_rule (cut octets.now) ≡ None }
     ensures { IsCommonPrefix octets.now others.now result.now }
 {
     let near = octets.len().min(others.len());
     let same = same_until(octets, others, same_start(octets, others), near);
-    finished_parts(first_octets(octets, same))
+    if same == octets.len() {
+        return octets;
+    }
+    without_last_part(first_octets(octets, same + 1))
 }
 
 /// How many of the first octets are known to be the same: a word, half a word or none.

@@ -52,26 +52,17 @@ pub(crate) fn skip_parts(octets: &[u8], parts: usize) -> &[u8]
 }
 
 /// The octets before the last subidentifier: up to the last octet below 128 that others follow.
-#[tactic(auto, using(crate::proofs::Parents::parts_without_last))]
 #[inline]
 pub(crate) fn without_last_part(octets: &[u8]) -> &[u8]
     ensures parts { let parts = cut octets.now in cut result.now ≡ take (length parts - 1) parts }
     ensures short { length result.now ≤ length octets.now }
+    ensures finished { IsFinishedPrefix (take (length octets.now - 1) octets.now) result.now }
 {
-    match octets.split_last() {
-        Some((_, prefix)) => finished_parts(prefix),
-        None => octets,
-    }
-}
-
-/// The subidentifiers that end: the octets up to the last one below 128.
-#[tactic(auto, using(crate::proofs::Prefixes::finished_none))]
-#[inline]
-pub(crate) fn finished_parts(octets: &[u8]) -> &[u8]
-    ensures { IsFinishedPrefix octets.now result.now }
-{
-    match octets.iter().rposition(|octet| *octet < 128) {
-        Some(index) => first_octets(octets, index + 1),
+    let Some((_, prefix)) = octets.split_last() else {
+        return octets;
+    };
+    match prefix.iter().rposition(|octet| *octet < 128) {
+        Some(index) => first_octets(prefix, index + 1),
         None => &[],
     }
 }

@@ -2,7 +2,7 @@
 
 //! How slices of octets and names compare.
 
-use crate::erased::parts::{finished_parts, first_octets};
+use crate::erased::parts::{first_octets, without_last_part};
 use core::cmp::Ordering;
 
 /// Whether octets begin with others.
@@ -193,11 +193,14 @@ fn ends_at(octets: &[u8], index: usize) -> bool {
     octets[index] < 128 || index + 1 == octets.len()
 }
 
-/// The subidentifiers that octets and others begin with, up to the first that differs.
+/// The subidentifiers that valid octets and others begin with, up to the first that differs.
 pub(crate) fn common_parts<'a>(octets: &'a [u8], others: &[u8]) -> &'a [u8] {
     let near = octets.len().min(others.len());
     let same = same_until(octets, others, same_start(octets, others), near);
-    finished_parts(first_octets(octets, same))
+    if same == octets.len() {
+        return octets;
+    }
+    without_last_part(first_octets(octets, same + 1))
 }
 
 /// How many of the first octets are known to be the same: a word, half a word or none.

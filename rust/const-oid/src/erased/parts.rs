@@ -38,17 +38,11 @@ pub(crate) fn skip_parts(octets: &[u8], parts: usize) -> &[u8] {
 /// The octets before the last subidentifier: up to the last octet below 128 that others follow.
 #[inline]
 pub(crate) fn without_last_part(octets: &[u8]) -> &[u8] {
-    match octets.split_last() {
-        Some((_, prefix)) => finished_parts(prefix),
-        None => octets,
-    }
-}
-
-/// The subidentifiers that end: the octets up to the last one below 128.
-#[inline]
-pub(crate) fn finished_parts(octets: &[u8]) -> &[u8] {
-    match octets.iter().rposition(|octet| *octet < 128) {
-        Some(index) => first_octets(octets, index + 1),
+    let Some((_, prefix)) = octets.split_last() else {
+        return octets;
+    };
+    match prefix.iter().rposition(|octet| *octet < 128) {
+        Some(index) => first_octets(prefix, index + 1),
         None => &[],
     }
 }
