@@ -232,10 +232,12 @@ class Sorted(unittest.TestCase):
         self.assertEqual(both, table)
 
     def test_a_long_identifier_is_found_in_linear_time(self):
-        """The search for a prefix does not make all prefixes of what it is given."""
-        oid = ObjectIdentifier.from_bytes(bytes(500_000))
+        """The search for a prefix does not make all prefixes of what it is given, nor of what that shares with a key."""
+        oid, long = ObjectIdentifier.from_bytes(bytes(500_000)), ObjectIdentifier.from_bytes(bytes(499_999))
         table = SortedMap({ObjectIdentifier("0.0.0"): 1, ObjectIdentifier("0.0.1"): 2})
         self.assertLess(seconds(lambda: self.assertEqual(1, table.nearest(oid)[1])), 1)
+        table[long.child(0)] = 3
+        self.assertLess(seconds(lambda: self.assertEqual(1, table.nearest(long.child(1))[1])), 1)
 
     def test_an_entry_has_the_key_of_the_map(self):
         """What a search returns is the key that is in the map, and not one that is equal."""

@@ -5,7 +5,7 @@ from __future__ import annotations
 import copy
 from bisect import bisect, bisect_left, insort
 from collections.abc import Callable, Iterable, Iterator, Mapping, MutableMapping
-from itertools import chain
+from itertools import chain, takewhile
 from typing import Any, Self, TypeVar
 
 from ._native import ObjectIdentifier
@@ -44,10 +44,12 @@ class SortedMap(MutableMapping[ObjectIdentifier, Value]):
         (ObjectIdentifier('2.5.4'), 'attributes')
         """
         # A key that is a prefix of the identifier is also one of the last key that is not after it.
-        prefix = self._keys.last_until(required(oid, "key"))
-        while prefix is not None and not (oid.starts_with(prefix) and prefix in self._values):
-            prefix = prefix.parent
-        return None if prefix is None else self._entry(bisect_left, prefix)
+        above: ObjectIdentifier | None = required(oid, "key")
+        while above is not None and (last := self._keys.last_until(above)) is not None:
+            if above.starts_with(last):
+                return last, self._values[last]
+            above = _common_prefix(above, last)
+        return None
 
     def next_after(self, oid: ObjectIdentifier) -> tuple[ObjectIdentifier, Value] | None:
         """The first entry after an identifier, as GetNext of SNMP returns it, or None.
@@ -56,7 +58,8 @@ class SortedMap(MutableMapping[ObjectIdentifier, Value]):
         >>> names.next_after(ObjectIdentifier("2.5.4"))
         (ObjectIdentifier('2.5.10'), 2)
         """
-        return self._entry(bisect, required(oid, "key"))
+        key = self._keys.first_after(required(oid, "key"))
+        return None if key is None else (key, self._values[key])
 
     def subtree(self, oid: ObjectIdentifier) -> list[tuple[ObjectIdentifier, Value]]:
         """All entries whose keys begin with an identifier, which may be a key itself.
@@ -67,10 +70,6 @@ class SortedMap(MutableMapping[ObjectIdentifier, Value]):
         [(ObjectIdentifier('2.5.4'), 1), (ObjectIdentifier('2.5.4.3'), 2)]
         """
         return [(key, self._values[key]) for key in self._keys.subtree(required(oid, "key"))]
-
-    def _entry(self, find: Callable[..., int], oid: ObjectIdentifier) -> tuple[ObjectIdentifier, Value] | None:
-        key = self._keys.first(find, oid)
-        return None if key is None else (key, self._values[key])
 
     def copy(self) -> Self:
         """A map with the same keys and values, which are not copied."""
@@ -169,6 +168,13 @@ def _checked(entries: Mapping[Key, Value] | Iterable[tuple[ObjectIdentifier, Val
     return values
 
 
+def _common_prefix(oid: ObjectIdentifier, other: ObjectIdentifier) -> ObjectIdentifier | None:
+    """The longest identifier that begins both, or None."""
+    both = takewhile(lambda arcs: arcs[0] == arcs[1], zip(oid.arcs, other.arcs))
+    arcs = [arc for arc, _ in both]
+    return ObjectIdentifier.from_arcs(arcs) if len(arcs) > 1 else None
+
+
 class _Keys:
     """Keys in order, in parts of at most 2 * PART, so that one more moves few of them."""
 
@@ -202,13 +208,13 @@ class _Keys:
         self._parts[index : index + 1] = parts
         self._lasts[index : index + 1] = [half[-1] for half in parts]
 
-    def first(self, find: Callable[..., int], oid: ObjectIdentifier) -> ObjectIdentifier | None:
-        """The first key after an identifier, by `bisect`, or not before it, by `bisect_left`; or None."""
-        index = find(self._lasts, oid)
+    def first_after(self, oid: ObjectIdentifier) -> ObjectIdentifier | None:
+        """The first key after an identifier, or None."""
+        index = bisect(self._lasts, oid)
         if index == len(self._lasts):
             return None
         part = self._parts[index]
-        return part[find(part, oid)]
+        return part[bisect(part, oid)]
 
     def last_until(self, oid: ObjectIdentifier) -> ObjectIdentifier | None:
         """The last key that is not after an identifier, or None."""
