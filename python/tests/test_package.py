@@ -117,6 +117,8 @@ class Types(unittest.TestCase):
                 arguments = [argument.arg for argument in functions[name].args.posonlyargs][1:]
                 text = inspect.getattr_static(ObjectIdentifier, name).__text_signature__
                 self.assertEqual(arguments, re.findall(r", (\w+)", text))
+        returns = {name: ast.unparse(node.returns) for name, node in functions.items()}
+        self.assertEqual(["parent"], [name for name, text in returns.items() if "None" in text])
 
     def test_declared_uses_run(self):
         typed.uses()

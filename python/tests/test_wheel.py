@@ -323,6 +323,26 @@ class Build(unittest.TestCase):
         self.assertEqual((1, {}), (status, files))
         self.assertIn("ends with status 1", said)
 
+    def test_flags_of_the_user_are_taken(self):
+        for flags in ("CFLAGS", "LDFLAGS"):
+            status, said, files = built("build_wheel", **{flags: "-Wl,--no-such-option"})
+            self.assertEqual((1, []), (status, list(files)), said)
+
+    @unittest.skipUnless(sys.version_info < (3, 12), "later versions know the slot")
+    def test_a_later_python_reads_the_slot_of_interpreters(self):
+        """A module that takes this Python for 3.12 has the slot, which this one does not know."""
+        with tempfile.TemporaryDirectory() as folder:
+            later = pathlib.Path(folder) / "later.h"
+            before = "#define Py_LIMITED_API 0x030B0000\n#define PY_SSIZE_T_CLEAN\n#include <Python.h>\n"
+            later.write_text(f"{before}#define Py_Version 0x030C0000\n", encoding="utf-8")
+            status, name, files = built("build_wheel", CFLAGS=f"-include {later}")
+            self.assertEqual(0, status, name)
+            with zipfile.ZipFile(io.BytesIO(files[name])) as archive:
+                archive.extractall(folder)
+            code = f"import sys; sys.path.insert(0, {folder!r}); import const_oid"
+            run = subprocess.run([sys.executable, "-c", code], text=True, capture_output=True)
+        self.assertIn("SystemError: module const_oid._native uses unknown slot ID 3", run.stderr)
+
     def test_a_library_of_another_version_is_rejected(self):
         """A module over a library of another version does not import."""
         with tempfile.TemporaryDirectory() as folder:
