@@ -328,32 +328,27 @@ class Build(unittest.TestCase):
             status, said, files = built("build_wheel", **{flags: "-Wl,--no-such-option"})
             self.assertEqual((1, []), (status, list(files)), said)
 
-    @unittest.skipUnless(sys.version_info < (3, 12), "later versions know the slot")
-    def test_a_later_python_reads_the_slot_of_interpreters(self):
-        """A module that takes this Python for 3.12 has the slot, which this one does not know."""
+    def import_with(self, header):
+        """What the import of a wheel says whose module is compiled after a header."""
         with tempfile.TemporaryDirectory() as folder:
-            later = pathlib.Path(folder) / "later.h"
-            before = "#define Py_LIMITED_API 0x030B0000\n#define PY_SSIZE_T_CLEAN\n#include <Python.h>\n"
-            later.write_text(f"{before}#define Py_Version 0x030C0000\n", encoding="utf-8")
-            status, name, files = built("build_wheel", CFLAGS=f"-include {later}")
+            path = pathlib.Path(folder) / "before.h"
+            path.write_text(header, encoding="utf-8")
+            status, name, files = built("build_wheel", CFLAGS=f"-include {path}")
             self.assertEqual(0, status, name)
             with zipfile.ZipFile(io.BytesIO(files[name])) as archive:
                 archive.extractall(folder)
             code = f"import sys; sys.path.insert(0, {folder!r}); import const_oid"
-            run = subprocess.run([sys.executable, "-c", code], text=True, capture_output=True)
-        self.assertIn("SystemError: module const_oid._native uses unknown slot ID 3", run.stderr)
+            return subprocess.run([sys.executable, "-c", code], text=True, capture_output=True).stderr
+
+    @unittest.skipUnless(sys.version_info < (3, 12), "later versions know the slot")
+    def test_a_later_python_reads_the_slot_of_interpreters(self):
+        """A module that takes this Python for 3.12 has the slot, which this one does not know."""
+        python = "#define Py_LIMITED_API 0x030B0000\n#define PY_SSIZE_T_CLEAN\n#include <Python.h>\n"
+        said = self.import_with(f"{python}#define Py_Version 0x030C0000\n")
+        self.assertIn("SystemError: module const_oid._native uses unknown slot ID 3", said)
 
     def test_a_library_of_another_version_is_rejected(self):
         """A module over a library of another version does not import."""
-        with tempfile.TemporaryDirectory() as folder:
-            other = pathlib.Path(folder) / "other.h"
-            version = "static uint32_t other(void) { return 2 << 16 | 3; }\n#define const_oid_version other\n"
-            other.write_text(f"#include <const_oid.h>\n{version}", encoding="utf-8")
-            status, name, files = built("build_wheel", CFLAGS=f"-include {other}")
-            self.assertEqual(0, status, name)
-            (pathlib.Path(folder) / name).write_bytes(files[name])
-            with zipfile.ZipFile(pathlib.Path(folder) / name) as archive:
-                archive.extractall(folder)
-            code = f"import sys; sys.path.insert(0, {folder!r}); import const_oid"
-            run = subprocess.run([sys.executable, "-c", code], text=True, capture_output=True)
-        self.assertIn("ImportError: the library const_oid_c has version 2, not 1", run.stderr)
+        version = "static uint32_t other(void) { return 2 << 16 | 3; }\n#define const_oid_version other\n"
+        said = self.import_with(f"#include <const_oid.h>\n{version}")
+        self.assertIn("ImportError: the library const_oid_c has version 2, not 1", said)
