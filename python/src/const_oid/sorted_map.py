@@ -5,7 +5,7 @@ from __future__ import annotations
 import copy
 from bisect import bisect, bisect_left, insort
 from collections.abc import Callable, Iterable, Iterator, Mapping, MutableMapping
-from itertools import chain, takewhile
+from itertools import chain
 from typing import Any, Self, TypeVar
 
 from ._native import ObjectIdentifier
@@ -15,6 +15,7 @@ Key = TypeVar("Key", bound=ObjectIdentifier)
 Value = TypeVar("Value")
 
 PART = 1000
+_CONTINUED = bytes(range(128, 256))
 
 
 class SortedMap(MutableMapping[ObjectIdentifier, Value]):
@@ -170,9 +171,12 @@ def _checked(entries: Mapping[Key, Value] | Iterable[tuple[ObjectIdentifier, Val
 
 def _common_prefix(oid: ObjectIdentifier, other: ObjectIdentifier) -> ObjectIdentifier | None:
     """The longest identifier that begins both, or None."""
-    both = takewhile(lambda arcs: arcs[0] == arcs[1], zip(oid.arcs, other.arcs))
-    arcs = [arc for arc, _ in both]
-    return ObjectIdentifier.from_arcs(arcs) if len(arcs) > 1 else None
+    left, right = bytes(oid), bytes(other)
+    count = min(len(left), len(right))
+    differing = int.from_bytes(left[:count], "big") ^ int.from_bytes(right[:count], "big")
+    # A subidentifier ends with an octet below 128.
+    prefix = left[: count - (differing.bit_length() + 7) // 8].rstrip(_CONTINUED)
+    return ObjectIdentifier.from_bytes(prefix) if prefix else None
 
 
 class _Keys:
