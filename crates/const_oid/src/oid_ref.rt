@@ -358,8 +358,12 @@ impl fmt::Debug for ObjectIdentifierRef<'_> {
 
     ghost debug_output = { λ oid. Some (codes "ObjectIdentifierRef(" ++ (text_of (ref_arcs oid) ++ codes ")")) };
 
-    fn fmt<W: fmt::Write>(&self, f: &mut fmt::Formatter<W>) -> fmt::Result {
-        write!(f, "ObjectIdentifierRef({self})")
+    fn fmt<W: fmt::Write>(&self, f: &mut fmt::Formatter<W>) -> fmt::Result
+        ensures { WritesStyledOnOk W.write_str_gives f.old result (codes "ObjectIdentifierRef(" ++ (text_of (ref_arcs self.now) ++ codes ")")) f.new }
+    {
+        f.write_str("ObjectIdentifierRef(")?;
+        self.write_pieces(f)?;
+        f.write_str(")")
     }
 }
 

@@ -392,6 +392,9 @@ fn check_text_of(
     for printed in [
         format!("{oid:?}"),
         format!("{oid:#?}"),
+        format!("{oid:+?}"),
+        format!("{oid:.3?}"),
+        format!("{oid:x?}"),
         format!("{oid:>wide$?}"),
     ] {
         assert_eq!(printed, debug);

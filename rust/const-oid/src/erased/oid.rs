@@ -428,7 +428,9 @@ impl<const MAX_SIZE: usize> fmt::Display for ObjectIdentifier<MAX_SIZE> {
 
 impl<const MAX_SIZE: usize> fmt::Debug for ObjectIdentifier<MAX_SIZE> {
     fn fmt(&self, f: &mut fmt::Formatter<'_>) -> fmt::Result {
-        write!(f, "ObjectIdentifier({self})")
+        f.write_str("ObjectIdentifier(")?;
+        fmt::Display::fmt(&self.borrowed(), f)?;
+        f.write_str(")")
     }
 }
 

@@ -254,7 +254,9 @@ impl fmt::Display for ObjectIdentifierRef<'_> {
 
 impl fmt::Debug for ObjectIdentifierRef<'_> {
     fn fmt(&self, f: &mut fmt::Formatter<'_>) -> fmt::Result {
-        write!(f, "ObjectIdentifierRef({self})")
+        f.write_str("ObjectIdentifierRef(")?;
+        self.write_pieces(f)?;
+        f.write_str(")")
     }
 }
 
