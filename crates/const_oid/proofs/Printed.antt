@@ -1,11 +1,11 @@
 -- The length of printed text: four bytes an octet at most.
 use Rattle.std.proofs.Common.{◌≡◌, ℕ, ◌+◌, ◌*◌, ◌^◌, ◌<◌, ◌≤◌, true, false, List, [], ◌∷◌, ◌++◌, length, arith, decimal}
-use Rattle.std.proofs.Common.{sum_by, take, ap, sym, ◌∙◌, append_assoc, append-nil}
+use Rattle.std.proofs.Common.{sum_by, take, drop, ap, sym, ◌∙◌, append_assoc, append-nil}
 use Rattle.std.specs.List.{AllByRecursion}
-use Rattle.std.proofs.Math.{Nat.pow-le-pow_right, Seq.take-append-add}
+use Rattle.std.proofs.Math.{Nat.pow-le-pow_right, Seq.{take-append-add, drop-append-add}}
 use Rattle.std.proofs.lemmas.{Grind.common_steps, Bool.Decides.nat_tests, Fmt.{length-decimal-le, decimal_digit}}
-use Rattle.std.proofs.lemmas.List.{take-append-le, length-take-le}
-use borrow.Rule.Slice.PartMut.{put_mid, post_of}
+use Rattle.std.proofs.lemmas.List.{take-append-le, length-take-le, take-append-drop, drop-append-le, drop-drop}
+use borrow.Rule.Slice.PartMut.{put_mid, mid_of, post_of}
 use Rattle.const_oid.specs.{Base128.width, Identifier.{RootRule, max_arc, max_second, IsEncoding}, Text.text_of}
 use Rattle.const_oid.specs.Private.Text.{arc_text, text_left}
 use Rattle.const_oid.proofs.{Subidentifiers.second_low, Groups.width_is, Lengths.length_is_size}
@@ -59,6 +59,15 @@ pub part_written : (at n k : ℕ) (xs ys piece : List ℕ) → at ≤ length xs 
 part_written at n k xs ys piece inside fits is =
     rw (length-take-le at xs inside, take-append-le n ys (post_of at k xs) fits, is)
     at (take-append-add (take at xs) (ys ++ post_of at k xs) n)
+
+-- what lies after bytes at the start of a part
+pub part_kept : (at n k : ℕ) (xs ys : List ℕ) → at ≤ length xs → n ≤ length ys → n ≤ length (mid_of at k xs)
+    → drop n ys ≡ drop n (mid_of at k xs) → drop (at + n) (put_mid at k xs ys) ≡ drop (at + n) xs
+part_kept at n k xs ys inside new old is =
+    let rest = post_of at k xs in
+    rw (length-take-le at xs inside) at (drop-append-add (take at xs) (ys ++ rest) n)
+    ∙ drop-append-le n ys rest new ∙ ap (λ l. l ++ rest) is ∙ sym (drop-append-le n (mid_of at k xs) rest old)
+    ∙ ap (drop n) (take-append-drop k (drop at xs)) ∙ drop-drop _ _ xs
 
 -- the first two arcs
 pub two_texts : (first second : ℕ) (later : List ℕ) → first < 10

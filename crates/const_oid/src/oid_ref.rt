@@ -148,13 +148,14 @@ impl<'a> ObjectIdentifierRef<'a> {
     /// Decodes contents octets as [`from_bytes`](Self::from_bytes) does, writes their text to the start of `out` in the
     /// same pass, as `{}` writes it, and returns its length in bytes.
     ///
-    /// Returns `None` if `out` has fewer bytes than four for each octet and eleven more; it is then unchanged. On
-    /// `Err`, `out` may be changed.
+    /// Returns `None` if `out` has fewer bytes than four for each octet and eleven more; it is then unchanged. What lies
+    /// after the text is unchanged on `Ok`. On `Err`, `out` may be changed.
     #[inline(always)]
     pub fn text_from_bytes(ber: &[u8], out: &mut [u8]) -> Option<Result<usize>>
         ensures room { MatchOption result (length out.old < 4 * length ber.now + 11) (λ _. 4 * length ber.now + 11 ≤ length out.old) }
         ensures answer { IfSome result (λ written. text_in out.new written ≡ octet_text root_rule ber.now) }
         ensures within { IfSome result (λ written. IfOk written (λ len. len ≤ length out.new)) }
+        ensures rest { IfSome result (λ written. IfOk written (λ len. drop len out.new ≡ drop len out.old)) }
         ensures kept { result ≡ None → out.new ≡ out.old }
     {
         if out.len() < MAX_ARC_LEN || ber.len() > (out.len() - MAX_ARC_LEN) / 4 {

@@ -55,13 +55,14 @@ pub(crate) fn write_text(arcs: Arcs<'_>, out: &mut [u8]) -> usize
 
 /// Checks octets and writes the text of their arcs at the start, in one pass, or returns their fault. There is room for
 /// four bytes an octet, and one arc more. If there is a fault, some of the text may be written.
-#[tactic(auto, using(crate::proofs::Printed::printed_pass))]
+#[tactic(auto, using(crate::proofs::Printed::printed_pass, crate::proofs::Decimals::drop_more))]
 #[inline(always)]
 pub(crate) fn write_checked(octets: &[u8], out: &mut [u8]) -> Result<usize>
     requires { 4 * length octets.now + 11 ≤ length out.old }
     ensures fault { result_err result ≡ parts_fault root_rule (cut octets.now) }
     ensures within { IfOk result (λ len. len ≤ length out.new) }
     ensures text { IfOk result (λ len. take len out.new ≡ text_of (arcs_of_octets octets.now)) }
+    ensures rest { IfOk result (λ len. drop len out.new ≡ drop len out.old) }
 {
     if octets.is_empty() {
         return Err(Error::Empty);
@@ -90,6 +91,7 @@ fn write_first(root: u64, out: &mut [u8]) -> usize
     ensures within { result ≤ length out.new }
     ensures short { result ≤ 4 * width root }
     ensures prefix { (later : List ℕ) → take result out.new ++ text_left false later ≡ text_of (arcs_from (root ∷ later)) }
+    ensures after { drop result out.new ≡ drop result out.old }
 {
     let (first, second) = split_root(root);
     out[0] = b'0' + first as u8;
@@ -102,6 +104,7 @@ fn write_later(arc: Arc, out: &mut [u8], at: usize) -> usize
     requires { at + 11 ≤ length out.old }
     ensures end { result ≡ at + length (arc_text false arc) }
     ensures prefix { take result out.new ≡ take at out.old ++ arc_text false arc }
+    ensures after { drop result out.new ≡ drop result out.old }
     ensures within { result ≤ length out.new }
 {
     at + write_after_dot(arc, &mut out[at..])
@@ -113,6 +116,7 @@ fn write_after_dot(arc: Arc, out: &mut [u8]) -> usize
     requires { 11 ≤ length out.old }
     ensures end { result ≡ length (arc_text false arc) }
     ensures prefix { take result out.new ≡ arc_text false arc }
+    ensures after { drop result out.new ≡ drop result out.old }
     ensures within { result ≤ length out.new }
 {
     // The length of this part is a literal, so rustc checks no index in it.

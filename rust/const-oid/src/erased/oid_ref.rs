@@ -106,8 +106,8 @@ impl<'a> ObjectIdentifierRef<'a> {
     /// Decodes contents octets as [`from_bytes`](Self::from_bytes) does, writes their text to the start of `out` in the
     /// same pass, as `{}` writes it, and returns its length in bytes.
     ///
-    /// Returns `None` if `out` has fewer bytes than four for each octet and eleven more; it is then unchanged. On
-    /// `Err`, `out` may be changed.
+    /// Returns `None` if `out` has fewer bytes than four for each octet and eleven more; it is then unchanged. What lies
+    /// after the text is unchanged on `Ok`. On `Err`, `out` may be changed.
     #[inline(always)]
     pub fn text_from_bytes(ber: &[u8], out: &mut [u8]) -> Option<Result<usize>> {
         if out.len() < MAX_ARC_LEN || ber.len() > (out.len() - MAX_ARC_LEN) / 4 {

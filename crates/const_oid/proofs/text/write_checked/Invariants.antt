@@ -1,4 +1,4 @@
-use Rattle.std.proofs.Common.{false, ◌≡◌, ◌+◌, ◌*◌, ◌≤◌, ◌++◌, length, map, take}
+use Rattle.std.proofs.Common.{false, ◌≡◌, ◌+◌, ◌*◌, ◌≤◌, ◌++◌, length, map, take, drop}
 use Rattle.const_oid.specs.{Base128.value_of, Contents.{cut, later_fault, parts_fault, arcs_of_octets}}
 use Rattle.const_oid.specs.{Identifier.root_rule, Text.text_of, Private.Text.text_left}
 use Rattle.const_oid.proofs.text.write_checked.Given as goal
@@ -8,6 +8,7 @@ abbrev pub invariant-loop-rest : goal.invariant-loop-rest
 invariant-loop-rest l = record {
   fault : later_fault (cut l.rest) ≡ parts_fault root_rule (cut l.octets);
   text : take l.at l.out ++ text_left false (map value_of (cut l.rest)) ≡ text_of (arcs_of_octets l.octets);
+  after : drop l.at l.out ≡ drop l.at l.fn.out;
   room : l.at + 4 * length l.rest ≤ 4 * length l.octets;
 }
 
