@@ -4,7 +4,7 @@ ghost use Rattle.std.specs.Prelude.{◌≡◌, ◌*◌, ◌<◌, ◌≤◌, ◌�
 ghost use Rattle.std.specs.Iterator.{IsFiniteIterable};
 ghost use Rattle.std.specs.Cmp.Lexicographic.{slice_cmp};
 ghost use Rattle.std.specs.Option.{option_map};
-ghost use Rattle.std.specs.Fmt.{WritesStyledOnOk};
+ghost use Rattle.std.specs.Fmt.{DisplaysOnOk, WritesStyledOnOk};
 ghost use Rattle.std.specs.Ordering.{nat_cmp};
 ghost use Rattle.const_oid.specs.Buffer.{octets_of};
 ghost use Rattle.const_oid.specs.Contents.{cut, parts_fault, octet_answer};
@@ -361,7 +361,8 @@ impl<const MAX_SIZE: usize> fmt::Debug for ObjectIdentifier<MAX_SIZE> {
     ghost debug_output = { λ oid. Some (codes "ObjectIdentifier(" ++ (text_of (oid_arcs oid) ++ codes ")")) };
 
     fn fmt<W: fmt::Write>(&self, f: &mut fmt::Formatter<W>) -> fmt::Result
-        ensures { WritesStyledOnOk W.write_str_gives f.old result (codes "ObjectIdentifier(" ++ (text_of (oid_arcs self.now) ++ codes ")")) f.new }
+        ensures writes { DisplaysOnOk W.write_str_gives f.old result (Some (codes "ObjectIdentifier(" ++ (text_of (oid_arcs self.now) ++ codes ")"))) f.new }
+        ensures styled { WritesStyledOnOk W.write_str_gives f.old result (codes "ObjectIdentifier(" ++ (text_of (oid_arcs self.now) ++ codes ")")) f.new }
     {
         f.write_str("ObjectIdentifier(")?;
         fmt::Display::fmt(&self.as_oid_ref(), f)?;

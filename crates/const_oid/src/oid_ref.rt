@@ -1,7 +1,7 @@
 //! Borrowed object identifiers.
 ghost use Rattle.std.specs.Prelude.{◌≡◌, ◌≢◌, ◌*◌, ◌≤◌, ◌<◌, ◌↔◌, ◌+◌, ℕ, drop, length, min, slice_get, take, count_by, None, Some, Err, IfErr, IfOk, IfSome, IsSome, IsTrue, MatchOption};
 ghost use Rattle.std.specs.Option.{option_map};
-ghost use Rattle.std.specs.Fmt.{WritesStyledOnOk};
+ghost use Rattle.std.specs.Fmt.{DisplaysOnOk, WritesStyledOnOk};
 ghost use Rattle.std.specs.Cmp.Lexicographic.{slice_cmp};
 ghost use Rattle.std.specs.List.Sorted.{IsSortedByKey};
 ghost use Rattle.std.specs.Ordering.{nat_cmp, is_lt};
@@ -360,7 +360,8 @@ impl fmt::Debug for ObjectIdentifierRef<'_> {
     ghost debug_output = { λ oid. Some (codes "ObjectIdentifierRef(" ++ (text_of (ref_arcs oid) ++ codes ")")) };
 
     fn fmt<W: fmt::Write>(&self, f: &mut fmt::Formatter<W>) -> fmt::Result
-        ensures { WritesStyledOnOk W.write_str_gives f.old result (codes "ObjectIdentifierRef(" ++ (text_of (ref_arcs self.now) ++ codes ")")) f.new }
+        ensures writes { DisplaysOnOk W.write_str_gives f.old result (Some (codes "ObjectIdentifierRef(" ++ (text_of (ref_arcs self.now) ++ codes ")"))) f.new }
+        ensures styled { WritesStyledOnOk W.write_str_gives f.old result (codes "ObjectIdentifierRef(" ++ (text_of (ref_arcs self.now) ++ codes ")")) f.new }
     {
         f.write_str("ObjectIdentifierRef(")?;
         self.write_pieces(f)?;

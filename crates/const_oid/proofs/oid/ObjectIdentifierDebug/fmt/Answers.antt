@@ -2,8 +2,8 @@ use Rattle.std.proofs.Common.{refl}
 use Rattle.std.proofs.Output.{has_written_styled_append}
 use Rattle.const_oid.proofs.oid.ObjectIdentifierDebug.fmt.Goals as goal
 
-pub returns : goal.returns
-returns g c flush ok =
+pub returns-clause-styled : goal.returns-clause-styled
+returns-clause-styled g c flush ok =
     let first = c.in_ok-write_str.ensures.styled flush refl in
     let second = rw c.as_oid_ref.ensures.arcs at (c.in_ok-fmt.ensures.styled first.flush refl) in
     let third = c.write_str-2.ensures.styled second.flush ok in
