@@ -16,6 +16,12 @@ pub record ConsumesNumber (old new : Option (List ℕ)) (n : ℕ) : Type 0 where
   pub consumes : Consumes old new bytes
   pub number : length bytes ≡ n
 
+-- known bytes lose at most n of them
+pub record ConsumesAtMost (old new : Option (List ℕ)) (n : ℕ) : Type 0 where
+  pub bytes : List ℕ
+  pub consumes : Consumes old new bytes
+  pub number : length bytes ≤ n
+
 -- the result is the length of a text that the output begins with, or the text is longer than the output
 abbrev pub StandsFirst : Option ℕ → List ℕ → List ℕ → Type 0
 StandsFirst result out text = MatchOption result (length out < length text) (λ len. (len ≤ length out) × (take len out ≡ text))

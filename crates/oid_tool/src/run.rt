@@ -3,7 +3,7 @@ ghost use Rattle.std.specs.Prelude.{◌≡◌, ◌+◌, ◌≤◌, ◌⊎◌, le
 ghost use Rattle.std.specs.Io.KnownBytes.{Appends, Consumes, IsAtEnd};
 ghost use Rattle.oid_tool.specs.Results.{answers, output_line};
 ghost use Rattle.oid_tool.specs.Names.{known_names, rows_of};
-ghost use Rattle.oid_tool.specs.Output.{AppendsPrefix, ConsumesNumber, StandsFirst};
+ghost use Rattle.oid_tool.specs.Output.{AppendsPrefix, ConsumesAtMost, ConsumesNumber, StandsFirst};
 
 use crate::command::{MAX_INPUT, answer, cut, put};
 use const_oid::Oid;
@@ -54,9 +54,11 @@ pub fn run<R: Read, W: Write>(input: &mut R, output: &mut W) -> Result<(), ToolE
     ensures whole { IsOk result ⊎ (result ≡ Err ToolError.Write) → IfSome (R.remaining input.old)
         (λ text. Consumes (R.remaining input.old) (R.remaining input.new) text) }
     ensures within { IsOk result ⊎ (result ≡ Err ToolError.Write) → IfSome (R.remaining input.old)
-        (λ text. length text ≤ MAX_INPUT) }
+        (λ text. length text ≤ 4096) }
     ensures too_long { result ≡ Err ToolError.TooLong →
-        ConsumesNumber (R.remaining input.old) (R.remaining input.new) (MAX_INPUT + 1) }
+        ConsumesNumber (R.remaining input.old) (R.remaining input.new) 4097 }
+    ensures read { result ≡ Err ToolError.Read →
+        ConsumesAtMost (R.remaining input.old) (R.remaining input.new) 4096 }
 {
     let mut buffer = [0; BUFFER_LEN];
     let len = read_all(input, &mut buffer)?;
@@ -87,6 +89,8 @@ fn read_all<R: Read>(input: &mut R, buffer: &mut [u8]) -> Result<usize, ToolErro
     ensures err { IfErr result (λ e. (e ≡ ToolError.Read) ⊎ (e ≡ ToolError.TooLong)) }
     ensures too_long { result ≡ Err ToolError.TooLong →
         ConsumesNumber (R.remaining input.old) (R.remaining input.new) BUFFER_LEN }
+    ensures read { result ≡ Err ToolError.Read →
+        ConsumesAtMost (R.remaining input.old) (R.remaining input.new) MAX_INPUT }
 {
     let mut len = 0;
     while len < BUFFER_LEN {
