@@ -18,7 +18,7 @@ pub record IsLonger (few : ℕ) (arcs : List ℕ) : Type 0 where
   pub more : few < size arcs
   pub fits : size arcs ≤ max_len
 
-none_from_answer : (fault : Option Error) (xs ys : List ℕ) → answer fault xs ≡ Ok ys → (fault ≡ None) × (xs ≡ ys)
+pub none_from_answer : (fault : Option Error) (xs ys : List ℕ) → answer fault xs ≡ Ok ys → (fault ≡ None) × (xs ≡ ys)
 none_from_answer None xs ys same = (refl, cc)
 none_from_answer (Some fault) xs ys same = cc
 

@@ -3,6 +3,7 @@ pub mod Capacities
 pub mod Children
 pub mod Counted
 pub mod Indices
+pub mod Rooms
 pub mod SkippedArcs
 pub mod SmallTexts
 pub mod SortedList

@@ -1,12 +1,12 @@
 -- Lists of identifiers in lexicographic order of arcs.
-use Rattle.std.specs.Prelude.{◌≡◌, ℕ, ◌+◌, ◌<◌, ◌⊎◌, List, [], ◌∷◌, if◌then◌else◌, Option, Some, None, unwrap_or, Result, Ok, Err}
+use Rattle.std.specs.Prelude.{◌≡◌, ℕ, ◌+◌, ◌<◌, ◌⊎◌, List, [], ◌∷◌, if◌then◌else◌, Option, Some, None, unwrap_or, Result, Ok, Err, length, take}
 use Rattle.std.specs.Cmp.Lexicographic.{slice_cmp}
 use Rattle.std.specs.Option.{option_or, option_map_or}
 use Rattle.std.specs.Ordering.{nat_cmp, is_lt}
 use Rattle.const_oid.specs.declared.error.Error.{Error}
 use Rattle.const_oid.specs.declared.oid_ref.ObjectIdentifierRef.{ObjectIdentifierRef}
 use Rattle.const_oid.specs.OidRef.{ref_arcs}
-use Rattle.const_oid.specs.SortedList.{item_arcs}
+use Rattle.const_oid.specs.SortedList.{IsSortedList, item_arcs}
 use Rattle.const_oid_c.specs.declared.status.Status.{Status}
 use Rattle.const_oid_c.specs.declared.lists.Octets.{Octets}
 use Rattle.const_oid_c.specs.Status.{error_status, len_status, none_status}
@@ -41,6 +41,12 @@ list_fault index before (item ∷ items) = option_or (item_fault index before (o
 -- the status of a list
 abbrev pub list_status : List Octets → Status
 list_status items = unwrap_or (list_fault 0 [] items) (len_status 0)
+
+-- the items before the index are a sorted list, and with the item at the index they are not
+pub record IsFirstUnsorted (items : List Octets) (index : ℕ) : Type 0 where
+  pub within : index < length items
+  pub sorted : IsSortedList octets_at (take index items)
+  pub unsorted : IsSortedList octets_at (take (index + 1) items) → ⊥
 
 -- the status of an index, if there is one
 abbrev pub index_status : Option ℕ → Status

@@ -1,5 +1,5 @@
 //! Octets to arcs, and arcs to octets.
-ghost use Rattle.std.specs.Prelude.{◌≡◌, ◌≤◌, ◌++◌, length, take, drop, min, slice_get};
+ghost use Rattle.std.specs.Prelude.{◌≡◌, ◌≢◌, ◌*◌, ◌≤◌, ◌++◌, length, take, drop, min, slice_get};
 ghost use Rattle.const_oid.specs.Identifier.{root_rule};
 ghost use Rattle.const_oid.specs.Items.{item_answer};
 ghost use Rattle.const_oid.specs.Oid.{oid_answer};
@@ -55,6 +55,8 @@ pub extern "C" fn const_oid_arc(octets: &[u8], index: usize) -> Status
 pub extern "C" fn const_oid_from_arcs(arcs: &[u32], out: &mut [u8]) -> Status
     ensures status { result ≡ output_status (length out.old) (octets_of_arcs (item_answer root_rule arcs.now max_len)) }
     ensures written { out.new ≡ output_after out.old (octets_of_arcs (item_answer root_rule arcs.now max_len)) }
+    ensures enough { 5 * length arcs.now ≤ length out.old → result.code ≢ 10 }
+    ensures no_length { result.code ≢ 6 }
 {
     // An identifier of the usual capacity is quicker to make.
     let small = encoded::<39>(arcs);

@@ -15,7 +15,7 @@ ghost use Rattle.const_oid.specs.Orders.{parts_cmp};
 ghost use Rattle.const_oid.specs.SortedList.{IsSortedList, has_item_arcs, item_arcs};
 ghost use Rattle.const_oid.specs.Tree.{BeginsWith};
 ghost use Rattle.const_oid_c.specs.Results.{borrowed_answer, status_of};
-ghost use Rattle.const_oid_c.specs.Lists.{IsIndexOrNone, arcs_before, fault_at, index_status, item_fault, list_fault, list_status, octets_at};
+ghost use Rattle.const_oid_c.specs.Lists.{IsIndexOrNone, arcs_before, fault_at, index_status, item_fault, list_fault, list_status, octets_at, IsFirstUnsorted};
 ghost use Rattle.const_oid_c.specs.Status.{error_status, len_status, none_status};
 
 use crate::status::{NONE, Status, UNSORTED, code_status, error_status, len_status};
@@ -59,6 +59,7 @@ pub struct Range {
 pub extern "C" fn const_oid_check_sorted(items: &[Octets<'_>]) -> Status
     ensures status { result ≡ list_status items.now }
     ensures sorted { result.code ≡ 0 ↔ IsSortedList octets_at items.now }
+    ensures first { 0 < result.code → IsFirstUnsorted items.now result.len }
     ensures by_arcs { All (λ item. IsEncoding root_rule (item_arcs octets_at item) (octets_at item)) items.now
         → IsSortedByKey octets_at parts_cmp items.now → result.code ≡ 0 }
 {
@@ -170,6 +171,7 @@ fn list_fault(items: &[Octets<'_>]) -> Option<Status>
     ensures code { IfSome result (λ status. 0 < status.code) }
     ensures sorted { IfNone result (IsSortedList octets_at items.now) }
     ensures unsorted { IfSome result (λ _. IsSortedList octets_at items.now → ⊥) }
+    ensures first { IfSome result (λ status. IsFirstUnsorted items.now status.len) }
 {
     let mut before: Option<ObjectIdentifierRef<'_>> = None;
     for (index, item) in items.iter().enumerate() {
@@ -193,6 +195,7 @@ fn read_after<'a>(
     ensures sorted { IfOk result (λ oid. is_lt (slice_cmp nat_cmp (ref_arcs oid) (arcs_before before.entry)) ≡ false) }
     ensures status { IfErr result (λ status. item_fault index (arcs_before before.entry) octets.now ≡ Some status) }
     ensures code { IfErr result (λ status. 0 < status.code) }
+    ensures index { IfErr result (λ status. status.len ≡ index) }
     ensures invalid { IfErr result (λ _. IsEncoding root_rule (arcs_of_octets octets.now) octets.now
         → is_lt (slice_cmp nat_cmp (arcs_of_octets octets.now) (arcs_before before.entry)) ≡ true) }
 {

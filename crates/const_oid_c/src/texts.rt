@@ -1,5 +1,5 @@
 //! Dotted text.
-ghost use Rattle.std.specs.Prelude.{◌≡◌, length, Err};
+ghost use Rattle.std.specs.Prelude.{◌≡◌, ◌≢◌, ◌≤◌, length, Err};
 ghost use Rattle.const_oid.specs.Text.{text_of, text_answer};
 ghost use Rattle.const_oid.specs.Identifier.{root_rule, usual_capacity};
 ghost use Rattle.const_oid_c.specs.Status.{max_len, output_status, output_after};
@@ -17,6 +17,8 @@ use std::str;
 pub extern "C" fn const_oid_from_text(text: &[u8], out: &mut [u8]) -> Status
     ensures status { result ≡ output_status (length out.old) (octets_of_text text.now) }
     ensures written { out.new ≡ output_after out.old (octets_of_text text.now) }
+    ensures enough { length text.now ≤ length out.old → result.code ≢ 10 }
+    ensures no_length { result.code ≢ 6 }
 {
     // An identifier of the usual capacity is quicker to make.
     let mut octets = [0; 39];

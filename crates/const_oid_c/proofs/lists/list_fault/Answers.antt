@@ -1,9 +1,9 @@
-use Rattle.std.proofs.Common.{◌≡◌, ◌<◌, ◌≤◌, get_or, ⊎_elim, arith}
-use Rattle.std.proofs.lemmas.{Bool.cases_lt, Grind.common_steps}
+use Rattle.std.proofs.Common.{◌≡◌, ◌+◌, ◌-◌, ◌<◌, ◌≤◌, ◌∙◌, ap, get_or, length, take, ⊎_elim, arith}
+use Rattle.std.proofs.lemmas.{Bool.cases_lt, Grind.common_steps, List.{get_or-take, length-take-le}}
 use Rattle.const_oid.specs.OidRef.{ref_octets}
 use Rattle.const_oid.proofs.Encodings.{ref_encoding}
 use Rattle.const_oid_c.specs.{declared.lists.Octets.Octets, Lists.octets_at}
-use Rattle.const_oid_c.proofs.SortedList.{unsorted}
+use Rattle.const_oid_c.proofs.SortedList.{unsorted, sorted_before}
 use Rattle.const_oid_c.proofs.lists.list_fault.Goals as goal
 
 pub loop-index-preserved : goal.loop-index-preserved
@@ -37,3 +37,23 @@ returns-in-Err-clause-unsorted c = λ list.
     let here : octets_at (get_or items index item) ≡ c.get.result.now = grind (arith, common_steps, c.get.ensures) in
     let less = c.in-Err.ensures.invalid (rw here at (list.valid index item (omega arith))) in
     unsorted octets_at items index item _ (omega arith) before.first (before.last item) (rw here less) list
+
+pub returns-in-Err-clause-first : goal.returns-in-Err-clause-first
+returns-in-Err-clause-first c =
+    let items = c.args.items.now in
+    let index = c.loop-index.index in
+    let before = c.loop-index.invariant in
+    let item : Octets = record { octets = c.get.result } in
+    let here : octets_at (get_or items index item) ≡ c.get.result.now = grind (arith, common_steps, c.get.ensures) in
+    let inside : index < length items = omega arith in
+    let cut = get_or-take (index + 1) items index item (omega arith) in
+    let same : octets_at (get_or (take (index + 1) items) index item) ≡ c.get.result.now = ap octets_at cut ∙ here in
+    let len = length-take-le (index + 1) items (omega arith) in
+    rw c.in-Err.ensures.index record {
+      within = inside;
+      sorted = sorted_before octets_at items index (omega arith) before.valid before.sorted;
+      unsorted = λ list.
+          let less = c.in-Err.ensures.invalid (rw same at (list.valid index item (omega (arith, len)))) in
+          unsorted octets_at (take (index + 1) items) index item _ (omega (arith, len)) before.first
+          (λ some. rw (get_or-take (index + 1) items (index - 1) item (omega arith)) (before.last item some)) (rw same less) list;
+    }
