@@ -21,7 +21,6 @@ pub mod PartsFault
 pub mod PartEnds
 pub mod Octets
 pub mod Leading
-pub mod Written
 pub mod Started
 pub mod Outputs
 pub mod Pieces

@@ -17,28 +17,29 @@ octets_from_chain (x ∷ []) c = (omega arith, tt)
 octets_from_chain (x ∷ y ∷ ys) c = (c.1, octets_from_chain (y ∷ ys) c.2)
 
 -- a group written past the octets in use
-module _ {number : ℕ} (used more : ℕ) (bytes after : List ℕ) (inside : used ≤ length bytes)
-    (wide : more ≡ width number)
-    (is : (group : List ℕ) × IsGroup number group
-    × (after ≡ take used bytes ++ (group ++ drop (used + more) bytes))) where
-  pub taken_written : GoesOn number (take used bytes) (take (used + more) after)
+module _ {number : ℕ} (used end : ℕ) (bytes after : List ℕ) (inside : used ≤ length bytes)
+    (wide : end ≡ used + width number)
+    (is : (group : List ℕ) × IsGroup number group × (after ≡ take used bytes ++ (group ++ drop end bytes))) where
+  pub taken_written : GoesOn number (take used bytes) (take end after)
   taken_written = let (group, g, e) = is in let l = length_is g in (group, g, grind (arith, common_steps))
 
-  pub octets_written : AreOctets (take used bytes) → AreOctets (take (used + more) after)
+  pub octets_written : AreOctets (take used bytes) → AreOctets (take end after)
   octets_written octets =
       let (group, g, e) = taken_written in
       rw e (all_append (λ x. x < 256) (take used bytes) group octets (octets_from_chain group g.continued))
 
   pub zeros_written : (size : ℕ) → drop used bytes ≡ replicate (size - used) 0
-      → drop (used + more) after ≡ replicate (size - (used + more)) 0
+      → drop end after ≡ replicate (size - end) 0
   zeros_written size zeros =
       let (group, is_group, written) = is in
       let start = take used bytes in
-      let long : length (start ++ group) ≡ used + more =
+      let more = end - used in
+      let long : length (start ++ group) ≡ end =
       omega (arith, length_is is_group, length-append start group, length-take-le used bytes inside) in
+      let reach : used + more ≡ end = omega arith in
       let fewer : size - used - more ≡ size - (used + more) = omega arith in
-      rw (written, ← append_assoc start group (drop (used + more) bytes), drop_at (start ++ group) _ (used + more) long)
-      (rw (← drop-drop more used bytes, zeros, drop-replicate, fewer))
+      rw (written, ← append_assoc start group (drop end bytes), drop_at (start ++ group) _ end long)
+      (rw (← reach, ← drop-drop more used bytes, zeros, drop-replicate, fewer))
 
 -- the widths of small numbers
 pub width_steps : (n : ℕ) → n < 128 ^ 5 → width n ≡ cond (nat_lt n (128 ^ 1)) 1

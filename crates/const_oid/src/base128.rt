@@ -140,21 +140,6 @@ pub(crate) const fn group_len(number: u64) -> usize
     }
 }
 
-/// Writes the subidentifier of a number, which takes `count` octets, from an index on.
-// erase: const
-#[inline(always)]
-pub(crate) fn write_group_at(octets: &mut [u8], start: usize, number: u64, count: usize)
-    requires small { number < 2 ^ 35 }
-    requires wide { count ≡ width number }
-    requires fits { start + count ≤ length octets.old }
-    ensures { (group : List ℕ) × IsGroup number group
-        × (octets.new ≡ take start octets.old ++ (group ++ drop (start + count) octets.old)) }
-{
-    let (_, free) = octets.split_at_mut(start);
-    let (group, _) = free.split_at_mut(count);
-    write_group(group, number);
-}
-
 /// Appends the subidentifier of a number to the first octets of a slice, if they then fit a capacity, and returns how
 /// many there are. Into a slice that is shorter than the capacity nothing is written: the octets are counted alone.
 // erase: const
@@ -201,21 +186,4 @@ pub(crate) fn append_group(
         out[at] = (number % 128) as u8;
     }
     Ok(at + 1)
-}
-
-/// Writes the subidentifier of a number into a slice, which is as long.
-#[inline(always)]
-const fn write_group(octets: &mut [u8], number: u64)
-    requires small { number < 2 ^ 35 }
-    requires wide { length octets.old ≡ width number }
-    ensures { IsGroup number octets.new }
-{
-    let mut index = octets.len() - 1;
-    octets[index] = (number % 128) as u8;
-    let mut rest = number / 128;
-    while index > 0 {
-        index -= 1;
-        octets[index] = 128 + (rest % 128) as u8;
-        rest /= 128;
-    }
 }

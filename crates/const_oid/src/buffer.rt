@@ -6,8 +6,7 @@ ghost use Rattle.std.specs.Cmp.Lexicographic.{pointwise};
 ghost use Rattle.const_oid.specs.Base128.{AreOctets, width};
 ghost use Rattle.const_oid.specs.Private.Octets.{IsAppended};
 
-use crate::Arc;
-use crate::base128::{group_len, write_group_at};
+use crate::base128::{append_group, group_len};
 use crate::compare::{are_arrays_equal, order};
 use crate::error::{Error, Result};
 use std::cmp::Ordering;
@@ -87,52 +86,21 @@ impl<const SIZE: usize> Buffer<SIZE> {
 
     /// Appends the subidentifier of a number, or returns `Length` if it does not fit.
     // erase: const
-    #[tactic(auto, using(crate::proofs::Groups::width_is))]
     #[inline(always)]
-    pub(crate) fn push_group(&mut self, number: u64) -> Result<()>
+    pub(crate) fn push(&mut self, number: u64) -> Result<()>
         requires { number < 2 ^ 35 }
         ensures { IsAppended (min SIZE 255) number (octets_of self.old) (octets_of self.new) result }
     {
-        // With a literal length, a subidentifier is written without a loop.
-        match group_len(number) {
-            1 => self.push_number_of_len(number, 1),
-            2 => self.push_number_of_len(number, 2),
-            3 => self.push_number_of_len(number, 3),
-            4 => self.push_number_of_len(number, 4),
-            longer => self.push_number_of_len(number, longer),
-        }
-    }
-
-    /// Appends the subidentifier of an arc, or returns `Length` if it does not fit. Short ones have paths of
-    /// their own, which are quicker in a single call, and slower in the loop of an encoder.
-    // erase: const
-    #[inline(always)]
-    pub(crate) fn push_arc(&mut self, arc: Arc) -> Result<()>
-        ensures { IsAppended (min SIZE 255) arc (octets_of self.old) (octets_of self.new) result }
-    {
-        let number = arc as u64;
-        match group_len(number) {
-            1 => self.push_number_of_len(number, 1),
-            2 => self.push_number_of_len(number, 2),
-            longer => self.push_number_of_len(number, longer),
-        }
-    }
-
-    /// Appends the subidentifier of a number, which takes `count` octets, or returns `Length` if it does not fit.
-    // erase: const
-    #[inline(always)]
-    fn push_number_of_len(&mut self, number: u64, count: usize) -> Result<()>
-        requires small { number < 2 ^ 35 }
-        requires wide { count ≡ width number }
-        ensures { IsAppended (min SIZE 255) number (octets_of self.old) (octets_of self.new) result }
-    {
         let start = self.used as usize;
-        let end = start + count;
-        if end > SIZE || end > 255 {
+        let capacity = if SIZE < 255 { SIZE } else { 255 };
+        // The length first, so that nothing is written where it does not fit.
+        if start + group_len(number) > capacity {
             return Err(Error::Length);
         }
-        write_group_at(&mut self.bytes, start, number, count);
-        self.used = end as u8;
+        match append_group(&mut self.bytes, start, number, capacity) {
+            Ok(end) => self.used = end as u8,
+            Err(fault) => return Err(fault),
+        }
         Ok(())
     }
 

@@ -311,7 +311,7 @@ impl<const MAX_SIZE: usize> ObjectIdentifier<MAX_SIZE> {
         ensures child { IfOk result (λ oid. oid_arcs oid ≡ child_of (oid_arcs self.entry) arc) }
     {
         let mut ber = self.ber;
-        match ber.push_arc(arc) {
+        match ber.push(arc as u64) {
             Ok(()) => Ok(ObjectIdentifier { ber }),
             Err(fault) => Err(fault),
         }

@@ -2,8 +2,7 @@
 
 //! Octets in an array. The first ones are in use.
 
-use crate::erased::Arc;
-use crate::erased::base128::{group_len, write_group_at};
+use crate::erased::base128::{append_group, group_len};
 use crate::erased::compare::{are_arrays_equal, order};
 use crate::erased::error::{Error, Result};
 use core::cmp::Ordering;
@@ -68,39 +67,17 @@ impl<const SIZE: usize> Buffer<SIZE> {
 
     /// Appends the subidentifier of a number, or returns `Length` if it does not fit.
     #[inline(always)]
-    pub(crate) const fn push_group(&mut self, number: u64) -> Result<()> {
-        // With a literal length, a subidentifier is written without a loop.
-        match group_len(number) {
-            1 => self.push_number_of_len(number, 1),
-            2 => self.push_number_of_len(number, 2),
-            3 => self.push_number_of_len(number, 3),
-            4 => self.push_number_of_len(number, 4),
-            longer => self.push_number_of_len(number, longer),
-        }
-    }
-
-    /// Appends the subidentifier of an arc, or returns `Length` if it does not fit. Short ones have paths of
-    /// their own, which are quicker in a single call, and slower in the loop of an encoder.
-    #[inline(always)]
-    pub(crate) const fn push_arc(&mut self, arc: Arc) -> Result<()> {
-        let number = arc as u64;
-        match group_len(number) {
-            1 => self.push_number_of_len(number, 1),
-            2 => self.push_number_of_len(number, 2),
-            longer => self.push_number_of_len(number, longer),
-        }
-    }
-
-    /// Appends the subidentifier of a number, which takes `count` octets, or returns `Length` if it does not fit.
-    #[inline(always)]
-    const fn push_number_of_len(&mut self, number: u64, count: usize) -> Result<()> {
+    pub(crate) const fn push(&mut self, number: u64) -> Result<()> {
         let start = self.used as usize;
-        let end = start + count;
-        if end > SIZE || end > 255 {
+        let capacity = if SIZE < 255 { SIZE } else { 255 };
+        // The length first, so that nothing is written where it does not fit.
+        if start + group_len(number) > capacity {
             return Err(Error::Length);
         }
-        write_group_at(&mut self.bytes, start, number, count);
-        self.used = end as u8;
+        match append_group(&mut self.bytes, start, number, capacity) {
+            Ok(end) => self.used = end as u8,
+            Err(fault) => return Err(fault),
+        }
         Ok(())
     }
 

@@ -43,7 +43,7 @@ impl<const SIZE: usize> Encoder<SIZE> {
                 40 * first as u64 + arc as u64
             }
         };
-        self.octets.push_group(number)
+        self.octets.push(number)
     }
 
     /// The encoding of the arcs given, which are two or more.

@@ -378,7 +378,7 @@ impl<const MAX_SIZE: usize> ObjectIdentifier<MAX_SIZE> {
     /// ```
     pub const fn push_arc(self, arc: Arc) -> Result<Self> {
         let mut ber = self.ber;
-        match ber.push_arc(arc) {
+        match ber.push(arc as u64) {
             Ok(()) => Ok(ObjectIdentifier { ber }),
             Err(fault) => Err(fault),
         }

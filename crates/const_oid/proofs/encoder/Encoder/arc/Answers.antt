@@ -1,12 +1,12 @@
 use Rattle.std.proofs.Common.{arith, min}
 use Rattle.const_oid.specs.{Buffer.octets_of, Identifier.root_rule}
 use Rattle.const_oid.proofs.Started.{Encodes, IsPushed, later_number, second_number, pushed}
-use Rattle.const_oid.proofs.{encoder.Encoder.arc.Given.Over, encoder.Encoder.arc.Goals.{After-push_group, then-len-gt0}}
+use Rattle.const_oid.proofs.{encoder.Encoder.arc.Given.Over, encoder.Encoder.arc.Goals.{After-push, then-len-gt0}}
 use Rattle.const_oid.proofs.encoder.Encoder.arc.Goals.{else-len-gt0+in-Some+else-arc-max_second}
 use Rattle.const_oid.proofs.encoder.Encoder.arc.Goals as goal
 
-after_push : (g : Over) (c : After-push_group g) → IsPushed root_rule (min g.row.SIZE 255) c.self.inside.first
-    (octets_of c.push_group.new.self) c.args.self.now c.args.arc c.push_group.result
+after_push : (g : Over) (c : After-push g) → IsPushed root_rule (min g.row.SIZE 255) c.self.inside.first
+    (octets_of c.push.new.self) c.args.self.now c.args.arc c.push.result
 after_push g c =
     let old = c.self.inside in
     let number = c.if-len-gt0.number in
@@ -20,14 +20,14 @@ after_push g c =
           (omega (arith, w.if-len-gt0.false, c.len.ensures.value)) (rw w.in-Some.is at c.self.invariant)
           (rw w.in-Some.is at c.self.view_is) (omega (arith, w.max_second.ensures)))
     ] in
-    let push = c.push_group in
+    let push = c.push in
     pushed root_rule (min g.row.SIZE 255) old.first _ (octets_of push.new.self) _ c.args.arc number push.result encodes
     c.self.invariant c.self.view_is push.ensures
 
 pub invariant_of-self-2 : goal.invariant_of-self-2
-invariant_of-self-2 g c = (after_push g (goal.at.invariant_of-self-2 g c).After-push_group).started
+invariant_of-self-2 g c = (after_push g (goal.at.invariant_of-self-2 g c).After-push).started
 
 pub returns : goal.returns
 returns g c =
-    let p = after_push g (goal.at.returns g c).After-push_group in
+    let p = after_push g (goal.at.returns g c).After-push in
     record { fault = p.fault; given = p.more; unchanged = p.same }
