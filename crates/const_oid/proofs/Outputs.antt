@@ -1,15 +1,15 @@
 -- Octets that are written to a slice, one subidentifier after another, or only counted.
 use Rattle.std.proofs.Common.{◌≡◌, ℕ, ◌+◌, ◌<◌, ◌≤◌, List, [], ◌∷◌, ◌++◌, length, take, drop, refl, sym, ap, ◌∙◌, arith, ⊎_elim}
-use Rattle.std.proofs.Common.{append_assoc, get_or, length-append, None, MatchResult, Result, Ok, Err}
-use Rattle.std.specs.{List.{AllByRecursion, concat}, Option.option_or, Prelude.IfOk}
+use Rattle.std.proofs.Common.{◌*◌, append_assoc, length-append, Some, MatchResult, Result, Ok, Err}
+use Rattle.std.specs.{List.{AllByRecursion, concat}, Prelude.IfOk}
 use Rattle.std.proofs.{Math.Seq.take-append_seam, lemmas.{Bool.cases_lt, Slice.drop-append-drop}}
-use Rattle.std.proofs.lemmas.List.{drop-replicate, drop_all, drop_more, take_all, take_more}
+use Rattle.std.proofs.lemmas.List.{drop-replicate}
 use Rattle.const_oid.specs.Base128.{AreOctets, IsContinued, group_of, width}
-use Rattle.const_oid.specs.{declared.error.Error.Error, declared.error.Error.TheVariants.{ArcInvalid, Length}}
-use Rattle.const_oid.specs.{Contents.arcs_of_octets, Items.{item_answer, item_fault, items_fault}, Text.{bytes_answer, size_answer}}
-use Rattle.const_oid.specs.Identifier.{RootRule, root_rule, max_arc, subidentifiers, IsEncoding}
-use Rattle.const_oid.specs.Private.{Encoder.IsFirstNumber, Octets.{AppendsTo, BeginsBy, IsAppended, IsEncodedIn}}
-use Rattle.const_oid.proofs.{Faults.{none_from_below, some_from_above}, Groups.{group_is, length_is}, Items.few_none}
+use Rattle.const_oid.specs.{declared.error.Error.Error, declared.error.Error.TheVariants.{Length}}
+use Rattle.const_oid.specs.{Contents.arcs_of_octets, Items.arc_fault, Text.{bytes_answer, size_answer}}
+use Rattle.const_oid.specs.Identifier.{RootRule, root_rule, max_arc, max_second, subidentifiers, IsEncoding}
+use Rattle.const_oid.specs.Private.Octets.{AppendsTo, BeginsBy, IsAppended, IsEncodedIn}
+use Rattle.const_oid.proofs.{Faults.{none_from_below, some_from_above}, Groups.{group_is, length_is}, TakesItems.{AreTaken, first_taken, taken_more}}
 use Rattle.const_oid.proofs.{Encodings.{arcs_of_encoding, encoding_back, groups_continued}, Lengths.length_is_size, Lists.all_append}
 use Rattle.const_oid.proofs.{Octets.octets_from_chain, Started.{Encodes, later_encodes, root_encodes}}
 
@@ -114,75 +114,61 @@ counted capacity read old new (Err fault) is = rw is refl
 
 -- ---- arcs so far
 
--- the first octets are the encoding of the arcs given, of which none has a fault, and others are to come
-pub record IsGivenTo (capacity : ℕ) (arcs old new : List ℕ) (used : ℕ) (given later : List ℕ) : Type 0 where
+-- the first octets are the encoding of the arcs given, of which none has a fault
+pub record IsGivenTo (capacity : ℕ) (old new : List ℕ) (used : ℕ) (given : List ℕ) : Type 0 where
   pub octets : List ℕ
   pub encoding : IsEncoding root_rule given octets
-  pub fault : item_fault root_rule arcs capacity ≡ items_fault root_rule capacity given later
+  pub taken : AreTaken root_rule capacity given
   pub long : used ≡ length octets
   pub fits : used ≤ capacity
   pub begins : BeginsBy capacity octets old new
 
 -- what becomes of it by an arc, whose group is appended or does not fit
-abbrev pub GivenBy : ℕ → List ℕ → List ℕ → List ℕ → List ℕ → List ℕ → Result ℕ Error → Type 0
-GivenBy capacity arcs old new given later result = MatchResult result
-    (λ used. IsGivenTo capacity arcs old new used given later) (λ fault. item_answer root_rule arcs capacity ≡ Err fault)
+abbrev pub GivenBy : ℕ → List ℕ → List ℕ → List ℕ → ℕ → Result ℕ Error → Type 0
+GivenBy capacity old new given arc result = MatchResult result
+    (λ used. IsGivenTo capacity old new used (given ++ arc ∷ [])) (λ fault. Some fault ≡ arc_fault root_rule capacity given arc)
 
-module _ (capacity : ℕ) (arcs old : List ℕ) where
-  given_by : {arc number : ℕ} {octets given new : List ℕ} (later : List ℕ) → Encodes root_rule octets given arc number
-      → item_fault root_rule arcs capacity ≡ items_fault root_rule capacity given (arc ∷ later)
-      → (result : Result ℕ Error) → IsLonger capacity number octets old new result
-      → GivenBy capacity arcs old new (given ++ arc ∷ []) later result
-  given_by {number} {octets} later encodes fault (Ok used) longer =
+module _ (capacity : ℕ) (old : List ℕ) where
+  given_by : {arc number : ℕ} {octets given new : List ℕ} → Encodes root_rule octets given arc number
+      → AreTaken root_rule capacity given → (result : Result ℕ Error) → IsLonger capacity number octets old new result
+      → GivenBy capacity old new given arc result
+  given_by {arc} {number} {octets} {given} encodes taken (Ok used) longer =
       let none = encodes.fault capacity ∙ none_from_below capacity (length octets + width number) Length longer.appended.0 in
       record {
         octets = longer.more;
         encoding = encodes.step longer.more longer.appended.1;
-        fault = fault ∙ rw none refl;
+        taken = taken_more root_rule capacity given arc taken none;
         long = longer.long.0;
         fits = longer.long.1;
         begins = longer.begins;
       }
-  given_by {number} {octets} later encodes fault (Err error) longer =
+  given_by {number} {octets} encodes taken (Err error) longer =
       let some = encodes.fault capacity ∙ some_from_above capacity (length octets + width number) Length longer.appended.1 in
-      rw (fault, some, longer.appended.0) refl
+      rw (some, longer.appended.0) refl
 
-  pub root_given : {number : ℕ} (longer : List ℕ) → IsFirstNumber arcs number → (result : Result ℕ Error)
-      → AppendsTo capacity number 0 old longer result
-      → GivenBy capacity arcs old longer (take 2 arcs) (drop 2 arcs) result
-  root_given {number} longer root result appends =
-      let encodes = rw (← root.number) at (root_encodes root_rule root.first root.second root.low root.high) in
+  pub root_given : {first second number : ℕ} (longer : List ℕ) → first ≤ 2 → second ≤ max_second root_rule first
+      → number ≡ 40 * first + second → (result : Result ℕ Error) → AppendsTo capacity number 0 old longer result
+      → GivenBy capacity old longer (first ∷ []) second result
+  root_given {first} {second} {number} longer low high is result appends =
+      let encodes = rw (← is) at (root_encodes root_rule first second low high) in
       let more = longer_by {number = number} {octets = []} {old = old} longer refl refl (λ room. refl) result appends in
-      let low = none_from_below 2 root.first (ArcInvalid root.first) root.low in
-      let front : take 2 arcs ≡ root.first ∷ root.second ∷ [] = ap (take 2) root.are in
-      let fault = ap (λ items. items_fault root_rule capacity [] items) root.are ∙ ap (λ fault. option_or fault (items_fault root_rule capacity (root.first ∷ []) (root.second ∷ drop 2 arcs))) low in
-      rw front (given_by (drop 2 arcs) encodes fault result more)
+      given_by encodes (first_taken capacity low) result more
 
-  pub later_given : {new : List ℕ} {used index : ℕ} (longer : List ℕ)
-      → IsGivenTo capacity arcs old new used (take index arcs) (drop index arcs) → length new ≡ length old
-      → index < length arcs → get_or arcs index 0 ≤ max_arc → (result : Result ℕ Error)
-      → AppendsTo capacity (get_or arcs index 0) used new longer result
-      → GivenBy capacity arcs old longer (take (index + 1) arcs) (drop (index + 1) arcs) result
-  later_given {index} longer given same less small result appends =
-      let arc = get_or arcs index 0 in
-      let encodes = later_encodes root_rule given.octets (take index arcs) arc given.encoding small in
-      let more = longer_by {number = arc} longer given.long same given.begins result appends in
-      let fault = ap (λ items. items_fault root_rule capacity (take index arcs) items) (drop_more arcs index 0 less) in
-      rw (take_more arcs index 0 less)
-      (given_by (drop (index + 1) arcs) encodes (given.fault ∙ fault) result more)
+  pub later_given : {new given : List ℕ} {used arc : ℕ} (longer : List ℕ) → IsGivenTo capacity old new used given
+      → length new ≡ length old → arc ≤ max_arc → (result : Result ℕ Error)
+      → AppendsTo capacity arc used new longer result → GivenBy capacity old longer given arc result
+  later_given {given} {arc} longer is same small result appends =
+      let encodes = later_encodes root_rule is.octets given arc is.encoding small in
+      let more = longer_by {number = arc} longer is.long same is.begins result appends in
+      given_by encodes is.taken result more
 
-  pub all_given : {new : List ℕ} {used index : ℕ}
-      → IsGivenTo capacity arcs old new used (take index arcs) (drop index arcs) → length arcs ≤ index
-      → IsEncodedIn capacity (item_answer root_rule arcs capacity) old new used
-  all_given {index} given last =
-      let encoding = rw (take_all index arcs last) at given.encoding in
-      let none : item_fault root_rule arcs capacity ≡ None =
-      given.fault ∙ rw (drop_all index arcs last, take_all index arcs last) (few_none root_rule arcs encoding.identifier) in
-      record {
-        octets = given.octets;
-        encoding = encoding_back encoding;
-        answer = rw (none, arcs_of_encoding encoding) refl;
-        long = given.long;
-        within = given.fits;
-        begins = given.begins;
-      }
+  pub all_given : {new given : List ℕ} {used : ℕ} → IsGivenTo capacity old new used given
+      → IsEncodedIn capacity (Ok given) old new used
+  all_given {given} is = record {
+    octets = is.octets;
+    encoding = encoding_back is.encoding;
+    answer = rw (arcs_of_encoding is.encoding) refl;
+    long = is.long;
+    within = is.fits;
+    begins = is.begins;
+  }

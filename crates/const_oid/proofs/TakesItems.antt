@@ -1,13 +1,13 @@
 -- What the items that an iterator gave say of each list that they begin.
-use Rattle.std.proofs.Common.{◌≡◌, ℕ, List, [], ◌∷◌, ◌++◌, None, refl, arith, append_assoc, append-nil, true, false}
+use Rattle.std.proofs.Common.{◌≡◌, ℕ, ◌≤◌, List, [], ◌∷◌, ◌++◌, None, refl, arith, append_assoc, append-nil, true, false}
 use Rattle.std.proofs.Common.{drop, length, Option, Some, sym, ap, ◌∙◌}
-use Rattle.std.specs.{Prelude.{Result, Ok, Err, IfOk, IsErrAnd}, Iterator.Yields, Iterator.Runs.{Run, ItemsAre}}
-use Rattle.std.specs.Result.{result_err, result_map_both}
+use Rattle.std.specs.{Prelude.{Result, Ok, Err, IsErrAnd}, Iterator.Yields, Iterator.Runs.{EachRunFrom, Run, ItemsAre}}
 use Rattle.std.proofs.iter.runs.Made.{run, to_end, to_item}
 use Rattle.std.proofs.lemmas.List.Prefix.{front_from_reads}
-use Rattle.const_oid.specs.{declared.error.Error.Error, Identifier.{RootRule, IsEncoding}, Contents.arcs_of_octets}
-use Rattle.const_oid.specs.Items.{arc_fault, too_few_fault, items_fault, item_fault, TakesItems}
-use Rattle.const_oid.proofs.{Lists.append-cons, Encodings.arcs_of_encoding}
+use Rattle.const_oid.specs.{declared.error.Error.Error, Identifier.{RootRule, root_rule}, Private.Encoder.EncodesItems}
+use Rattle.const_oid.specs.Items.{arc_fault, too_few_fault, items_fault, item_answer, item_fault, TakesItems}
+use Rattle.const_oid.specs.declared.error.Error.TheVariants.{ArcInvalid}
+use Rattle.const_oid.proofs.{Lists.append-cons, Faults.none_from_below}
 
 -- none of the items is rejected, whatever follows them
 abbrev pub AreTaken : RootRule → ℕ → List ℕ → Type 0
@@ -16,6 +16,11 @@ AreTaken rule capacity given = (later : List ℕ) → item_fault rule (given ++ 
 -- one more item without a fault
 pub taken_more : (rule : RootRule) (capacity : ℕ) (given : List ℕ) (arc : ℕ) → AreTaken rule capacity given → arc_fault rule capacity given arc ≡ None → AreTaken rule capacity (given ++ arc ∷ [])
 taken_more rule capacity given arc taken fits = grind (arith, append_assoc)
+
+-- the first item, in range
+pub first_taken : {first : ℕ} (capacity : ℕ) → first ≤ 2 → AreTaken root_rule capacity (first ∷ [])
+first_taken {first} capacity low =
+    taken_more root_rule capacity [] first (λ later. refl) (none_from_below 2 first (ArcInvalid first) low)
 
 -- a list begins with the items that a run gave of it
 begins_with_run : {S : Type 0} {steps : S → Option ℕ → S → Type 0} (calls : Run steps) (items : List ℕ)
@@ -32,31 +37,21 @@ module _ {S : Type 0} (rule : RootRule) (capacity : ℕ) (steps : S → Option �
   whole : item_fault rule given capacity ≡ too_few_fault given
   whole = rw append-nil at (taken [])
 
-  -- no item is left, and the arcs were encoded
-  takes_all : steps reached None after → (octets : List ℕ) → None ≡ too_few_fault given
-      → IsEncoding rule given octets → TakesItems rule capacity steps start (Ok (arcs_of_octets octets))
-  takes_all none octets few encoding =
-      let back : arcs_of_octets octets ≡ given = arcs_of_encoding encoding in
+  -- no item is left, and there are two or more
+  pub takes_all : steps reached None after → too_few_fault given ≡ None → TakesItems rule capacity steps start (Ok given)
+  takes_all none enough =
       let calls = run steps start given true (to_end steps start given (after, (reached, yielded, none))) in
-      (calls, refl, refl, (sym back, rw back (whole ∙ sym few)))
+      (calls, refl, refl, (refl, whole ∙ enough))
 
   -- no item is left, and there are too few
-  takes_few : steps reached None after → (fault : Error) → Some fault ≡ too_few_fault given
+  pub takes_few : steps reached None after → (fault : Error) → too_few_fault given ≡ Some fault
       → TakesItems rule capacity steps start (Err fault)
   takes_few none fault few =
       let calls = run steps start given true (to_end steps start given (after, (reached, yielded, none))) in (
         calls,
         refl,
-        λ items are. ap (λ items. item_fault rule items capacity) (sym (are.4 refl)) ∙ whole ∙ sym few,
+        λ items are. ap (λ items. item_fault rule items capacity) (sym (are.4 refl)) ∙ whole ∙ few,
       )
-
-  -- no item is left, and the encoder ends
-  pub takes_end : {X : Type 0} (octets_in : X → List ℕ) (result : Result X Error) → steps reached None after
-      → result_err result ≡ too_few_fault given → IfOk result (λ value. IsEncoding rule given (octets_in value))
-      → TakesItems rule capacity steps start
-      (result_map_both (λ value. arcs_of_octets (octets_in value)) (λ fault. fault) result)
-  takes_end octets_in (Ok value) none few encoding = takes_all none (octets_in value) few encoding
-  takes_end octets_in (Err fault) none few encoding = takes_few none fault few
 
   -- the next item is rejected
   pub takes_prefix : (item : ℕ) (fault : Error) → steps reached (Some item) after
@@ -74,6 +69,19 @@ module _ {S : Type 0} (rule : RootRule) (capacity : ℕ) (steps : S → Option �
       )
 
 -- the fault that `?` passes on
-pub handed_on : {X Y E : Type 0} (f : X → Y) (result : Result X E) (fault : E) → IsErrAnd result (λ handed. handed ≡ fault) → result_map_both f (λ fault. fault) result ≡ Err fault
-handed_on f (Ok x) fault h = absurd h
-handed_on f (Err handed) fault h = ap Err h
+pub stopped : {S : Type 0} {steps : S → Option ℕ → S → Type 0} {start : S} (capacity : ℕ) (old new : List ℕ)
+    (result : Result ℕ Error) (fault : Error) → IsErrAnd result (λ handed. handed ≡ fault)
+    → TakesItems root_rule capacity steps start (Err fault) → EncodesItems capacity steps start old new result
+stopped capacity old new (Ok x) fault handed takes = absurd handed
+stopped capacity old new (Err error) fault handed takes = (Err fault, takes, ap Err (sym handed))
+
+-- the answer of a list, where each run of the iterator reads it
+pub list_answer : {S : Type 0} (rule : RootRule) (capacity : ℕ) (steps : S → Option ℕ → S → Type 0) (start : S)
+    (items : List ℕ) → EachRunFrom steps start (λ run. ItemsAre run items) → (result : Result (List ℕ) Error)
+    → TakesItems rule capacity steps start result → result ≡ item_answer rule items capacity
+list_answer rule capacity steps start items each (Ok arcs) (calls, from, ended, is) =
+    let all : calls.items ≡ items = (each calls calls.seen from).4 ended in
+    let same : arcs ≡ items = sym is.0 ∙ all in
+    rw same (rw (rw same at is.1) refl)
+list_answer rule capacity steps start items each (Err fault) (calls, from, fails) =
+    rw (fails items (each calls calls.seen from)) refl

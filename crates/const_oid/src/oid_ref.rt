@@ -17,7 +17,7 @@ use crate::arcs::{Arcs, arc_at};
 use crate::base128::read_group;
 use crate::compare::{are_equal, begins_with, order, order_by_parts};
 use crate::digits::{MAX_ARC_LEN, write_arc};
-use crate::encoder::encode_to;
+use crate::encoder::encode_long;
 use crate::error::{Error, Result};
 use crate::oid::ObjectIdentifier;
 use crate::parser::parse_long;
@@ -207,7 +207,7 @@ impl<'a> ObjectIdentifierRef<'a> {
         ensures len { result ≡ size_answer (item_answer root_rule arcs.now limit) }
         ensures enough { 5 * length arcs.now ≤ limit → result ≢ Err Error.Length }
     {
-        encode_to(arcs, &mut [], limit)
+        encode_long(arcs, &mut [], limit)
     }
 
     /// Encodes arcs, any number of them, and writes the contents octets to the start of `out`. Returns how many there
@@ -225,8 +225,8 @@ impl<'a> ObjectIdentifierRef<'a> {
         ensures enough { 5 * length arcs.now ≤ length out.old → result ≢ Err Error.Length }
     {
         let capacity = out.len();
-        encode_to(arcs, &mut [], capacity)?;
-        encode_to(arcs, out, capacity)
+        encode_long(arcs, &mut [], capacity)?;
+        encode_long(arcs, out, capacity)
     }
 
     /// Parses dotted text as [`bytes_from_ascii`](Self::bytes_from_ascii) does, and borrows its octets.

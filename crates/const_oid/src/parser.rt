@@ -16,7 +16,7 @@ use crate::base128::append_group;
 use crate::buffer::Buffer;
 use crate::error::{Error, Result};
 use crate::oid_ref::ObjectIdentifierRef;
-use crate::root::max_second;
+use crate::root::{check_first, join_root};
 use std::result;
 
 /// The encoding of the identifier that a text denotes, in up to `SIZE` octets, and never past 255.
@@ -120,8 +120,8 @@ fn read_root(text: &[u8]) -> Result<(u64, usize)>
         Ok(piece) => piece,
         Err(index) => return Err(piece_fault(text, 0, index)),
     };
-    if first > 2 {
-        return Err(or_trailing_dot(Error::ArcInvalid { arc: first }, text, end));
+    if let Err(fault) = check_first(first) {
+        return Err(or_trailing_dot(fault, text, end));
     }
     let start = end + 1;
     if start >= text.len() {
@@ -135,10 +135,10 @@ fn read_root(text: &[u8]) -> Result<(u64, usize)>
         Ok(piece) => piece,
         Err(index) => return Err(piece_fault(text, start, index)),
     };
-    if second > max_second(first) {
-        return Err(or_trailing_dot(Error::ArcInvalid { arc: second }, text, end));
+    match join_root(first, second) {
+        Ok(number) => Ok((number, end)),
+        Err(fault) => Err(or_trailing_dot(fault, text, end)),
     }
-    Ok((40 * first as u64 + second as u64, end))
 }
 
 /// The number of the component that starts at an index, and where it ends: at a dot or at the end of the text. `Err` is

@@ -2,7 +2,7 @@
 
 use crate::Arc;
 use crate::buffer::Buffer;
-use crate::encoder::Encoder;
+use crate::encoder::encode;
 use crate::error::{Error, Result};
 use std::cmp::Ordering;
 
@@ -36,11 +36,7 @@ fn buffers(rt: HostRuntime) {
 
 /// The encoding of arcs in seven octets.
 fn encode_in_seven(arcs: &[Arc]) -> Result<Buffer<7>> {
-    let mut encoder = Encoder::<7>::new();
-    for arc in arcs {
-        encoder.arc(*arc)?;
-    }
-    encoder.finish()
+    encode(arcs.iter().copied())
 }
 
 /// Arcs, and their octets in seven, or the error.

@@ -1,23 +1,13 @@
--- What an encoder holds between two arcs, and its buffer.
-use Rattle.std.specs.Prelude.{◌≡◌, ℕ, ◌+◌, ◌*◌, ◌≤◌, List, [], ◌∷◌, drop, Option, Some, None, Result, IfOk}
+-- What an encoder returns, and its buffer.
+use Rattle.std.specs.Prelude.{◌≡◌, ℕ, List, Option, Result, Err, IfOk, MatchResult}
 use Rattle.std.specs.Result.{result_map_both}
 use Rattle.const_oid.specs.declared.buffer.Buffer.{Buffer}
 use Rattle.const_oid.specs.declared.error.Error.{Error}
 use Rattle.const_oid.specs.Buffer.{octets_of}
-use Rattle.const_oid.specs.Identifier.{RootRule, root_rule, max_second, IsEncoding}
+use Rattle.const_oid.specs.Identifier.{root_rule, IsEncoding}
+use Rattle.const_oid.specs.Items.{TakesItems}
 use Rattle.const_oid.specs.Contents.{arcs_of_octets}
-
--- the arcs given, by the first one and the octets in use
-abbrev pub arcs_given : Option ℕ → List ℕ → List ℕ
-arcs_given None octets = []
-arcs_given (Some first) [] = first ∷ []
-arcs_given (Some first) (x ∷ xs) = arcs_of_octets (x ∷ xs)
-
--- the octets in use are the encoding of two arcs or more, and before them there are none
-abbrev pub IsStarted : RootRule → Option ℕ → List ℕ → Type 0
-IsStarted rule None octets = octets ≡ []
-IsStarted rule (Some first) [] = first ≤ 2
-IsStarted rule (Some first) (x ∷ xs) = IsEncoding rule (arcs_of_octets (x ∷ xs)) (x ∷ xs)
+use Rattle.const_oid.specs.Private.Octets.{IsEncodedIn}
 
 -- the result of a function, by the arcs of the octets
 abbrev pub buffer_answer : {SIZE : ℕ} → Result (Buffer SIZE) Error → Result (List ℕ) Error
@@ -27,11 +17,8 @@ buffer_answer result = result_map_both (λ buffer. arcs_of_octets (octets_of buf
 abbrev pub HasEncoding : {SIZE : ℕ} → Result (Buffer SIZE) Error → Type 0
 HasEncoding result = IfOk result (λ buffer. IsEncoding root_rule (arcs_of_octets (octets_of buffer)) (octets_of buffer))
 
--- the arcs begin with two that are in range, whose subidentifier is the number
-pub record IsFirstNumber (arcs : List ℕ) (root : ℕ) : Type 0 where
-  pub first : ℕ
-  pub second : ℕ
-  pub are : arcs ≡ first ∷ second ∷ drop 2 arcs
-  pub low : first ≤ 2
-  pub high : second ≤ max_second root_rule first
-  pub number : root ≡ 40 * first + second
+-- the result is the length of the encoding of what the iterator gave, or its fault, and the octets are written
+abbrev pub EncodesItems : {S : Type 0} → ℕ → (S → Option ℕ → S → Type 0) → S → List ℕ → List ℕ → Result ℕ Error → Type 0
+EncodesItems capacity steps iterator old new result = (answer : Result (List ℕ) Error)
+    × TakesItems root_rule capacity steps iterator answer
+    × MatchResult result (λ len. IsEncodedIn capacity answer old new len) (λ fault. answer ≡ Err fault)

@@ -6,54 +6,7 @@ use crate::erased::Arc;
 use crate::erased::base128::append_group;
 use crate::erased::buffer::Buffer;
 use crate::erased::error::{Error, Result};
-use crate::erased::root::max_second;
-/// An encoder of arcs at a capacity, the smaller of `SIZE` and 255 octets.
-pub(crate) struct Encoder<const SIZE: usize> {
-    /// The first arc, if it was given.
-    first: Option<Arc>,
-    /// The encoding, if two arcs or more were given.
-    octets: Buffer<SIZE>,
-}
-
-impl<const SIZE: usize> Encoder<SIZE> {
-    /// An encoder that was given no arc.
-    pub(crate) const fn new() -> Self {
-        Encoder {
-            first: None,
-            octets: Buffer::empty(),
-        }
-    }
-
-    /// Encodes one more arc.
-    #[inline(always)]
-    pub(crate) const fn arc(&mut self, arc: Arc) -> Result<()> {
-        let number = match self.first {
-            _ if self.octets.len() > 0 => arc as u64,
-            None => {
-                if arc > 2 {
-                    return Err(Error::ArcInvalid { arc });
-                }
-                self.first = Some(arc);
-                return Ok(());
-            }
-            Some(first) => {
-                if arc > max_second(first) {
-                    return Err(Error::ArcInvalid { arc });
-                }
-                40 * first as u64 + arc as u64
-            }
-        };
-        self.octets.push(number)
-    }
-
-    /// The encoding of the arcs given, which are two or more.
-    pub(crate) const fn finish(self) -> Result<Buffer<SIZE>> {
-        if self.octets.len() == 0 {
-            return Err(Error::Empty);
-        }
-        Ok(self.octets)
-    }
-}
+use crate::erased::root::{check_first, join_root};
 
 /// The encoding of the arcs that an iterator gives, in up to `SIZE` octets, and never past 255.
 pub(crate) fn encode<const SIZE: usize, I: IntoIterator<Item = Arc>>(
@@ -68,51 +21,40 @@ pub(crate) fn encode<const SIZE: usize, I: IntoIterator<Item = Arc>>(
 /// The encoding of the arcs that an iterator gives, in an array that can all be in use.
 #[inline(always)]
 fn encode_within<const SIZE: usize, I: IntoIterator<Item = Arc>>(arcs: I) -> Result<Buffer<SIZE>> {
-    let mut encoder = Encoder::new();
-    for arc in arcs {
-        encoder.arc(arc)?;
+    let mut bytes = [0; SIZE];
+    let capacity = if SIZE < 255 { SIZE } else { 255 };
+    match encode_to(arcs, &mut bytes, capacity) {
+        Ok(len) => Ok(Buffer::begun(bytes, len)),
+        Err(fault) => Err(fault),
     }
-    encoder.finish()
 }
 
-/// Writes the encoding of arcs to the start of a slice, if it fits a capacity, and returns its length. Into a slice that
-/// is shorter than the capacity nothing is written: the octets are counted alone.
+/// `encode_to` of a slice of arcs, which is compiled once for all calls with octets of any length.
 #[inline(never)]
-pub(crate) fn encode_to(arcs: &[Arc], out: &mut [u8], capacity: usize) -> Result<usize> {
-    let number = match first_number(arcs) {
-        Ok(number) => number,
-        Err(fault) => return Err(fault),
+pub(crate) fn encode_long(arcs: &[Arc], out: &mut [u8], capacity: usize) -> Result<usize> {
+    encode_to(arcs.iter().copied(), out, capacity)
+}
+
+/// Writes the encoding of the arcs that an iterator gives to the start of a slice, if it fits a capacity, and returns its
+/// length. Into a slice that is shorter than the capacity nothing is written: the octets are counted alone.
+#[inline(always)]
+fn encode_to<I: IntoIterator<Item = Arc>>(
+    arcs: I,
+    out: &mut [u8],
+    capacity: usize,
+) -> Result<usize> {
+    let mut arcs = arcs.into_iter();
+    let Some(first) = arcs.next() else {
+        return Err(Error::Empty);
     };
-    let mut used = match append_group(out, 0, number, capacity) {
-        Ok(used) => used,
-        Err(fault) => return Err(fault),
+    check_first(first)?;
+    let Some(second) = arcs.next() else {
+        return Err(Error::Empty);
     };
-    let mut index = 2;
-    while index < arcs.len() {
-        used = match append_group(out, used, arcs[index] as u64, capacity) {
-            Ok(used) => used,
-            Err(fault) => return Err(fault),
-        };
-        index += 1;
+    let number = join_root(first, second)?;
+    let mut used = append_group(out, 0, number, capacity)?;
+    for arc in arcs {
+        used = append_group(out, used, arc as u64, capacity)?;
     }
     Ok(used)
-}
-
-/// The subidentifier of the first two arcs.
-fn first_number(arcs: &[Arc]) -> Result<u64> {
-    if arcs.is_empty() {
-        return Err(Error::Empty);
-    }
-    let first = arcs[0];
-    if first > 2 {
-        return Err(Error::ArcInvalid { arc: first });
-    }
-    if arcs.len() == 1 {
-        return Err(Error::Empty);
-    }
-    let second = arcs[1];
-    if second > max_second(first) {
-        return Err(Error::ArcInvalid { arc: second });
-    }
-    Ok(40 * first as u64 + second as u64)
 }

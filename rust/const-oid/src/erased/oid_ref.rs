@@ -7,7 +7,7 @@ use crate::erased::arcs::{Arcs, arc_at};
 use crate::erased::base128::read_group;
 use crate::erased::compare::{are_equal, begins_with, order, order_by_parts};
 use crate::erased::digits::{MAX_ARC_LEN, write_arc};
-use crate::erased::encoder::encode_to;
+use crate::erased::encoder::encode_long;
 use crate::erased::error::{Error, Result};
 use crate::erased::oid::ObjectIdentifier;
 use crate::erased::parser::parse_long;
@@ -147,7 +147,7 @@ impl<'a> ObjectIdentifierRef<'a> {
     /// Those of [`from_arcs`](ObjectIdentifier::from_arcs), with [`Error::Length`] if the arcs take more octets than
     /// `limit`.
     pub fn bytes_len_from_arcs(arcs: &[Arc], limit: usize) -> Result<usize> {
-        encode_to(arcs, &mut [], limit)
+        encode_long(arcs, &mut [], limit)
     }
 
     /// Encodes arcs, any number of them, and writes the contents octets to the start of `out`. Returns how many there
@@ -159,8 +159,8 @@ impl<'a> ObjectIdentifierRef<'a> {
     /// `out` has. It is then unchanged.
     pub fn bytes_from_arcs(arcs: &[Arc], out: &mut [u8]) -> Result<usize> {
         let capacity = out.len();
-        encode_to(arcs, &mut [], capacity)?;
-        encode_to(arcs, out, capacity)
+        encode_long(arcs, &mut [], capacity)?;
+        encode_long(arcs, out, capacity)
     }
 
     /// Parses dotted text as [`bytes_from_ascii`](Self::bytes_from_ascii) does, and borrows its octets.

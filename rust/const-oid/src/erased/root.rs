@@ -3,14 +3,27 @@
 //! The first two arcs and the number that holds both (X.690, 8.19.4).
 
 use crate::erased::Arc;
+use crate::erased::error::{Error, Result};
 
 /// The greatest first subidentifier: of the first arc 2 and the greatest second arc.
 pub(crate) const MAX_FIRST: u64 = 2 * 40 + Arc::MAX as u64;
 
-/// The greatest second arc under a first arc (X.660): 39 under 0 and 1, any of 32 bits under 2.
+/// Refuses a first arc past 2 (X.660).
 #[inline(always)]
-pub(crate) const fn max_second(first: Arc) -> Arc {
-    if first < 2 { 39 } else { Arc::MAX }
+pub(crate) const fn check_first(first: Arc) -> Result<()> {
+    if first > 2 {
+        return Err(Error::ArcInvalid { arc: first });
+    }
+    Ok(())
+}
+
+/// The number that holds both arcs. Refuses a second arc past 39 under 0 and 1. Under 2, any of 32 bits is allowed.
+#[inline(always)]
+pub(crate) const fn join_root(first: Arc, second: Arc) -> Result<u64> {
+    if first < 2 && second > 39 {
+        return Err(Error::ArcInvalid { arc: second });
+    }
+    Ok(40 * first as u64 + second as u64)
 }
 
 /// The two arcs that the first subidentifier holds.

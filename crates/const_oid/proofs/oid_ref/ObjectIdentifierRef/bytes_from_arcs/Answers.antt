@@ -4,15 +4,15 @@ use Rattle.const_oid.proofs.{Enough.five_enough, Outputs.returned}
 use Rattle.const_oid.proofs.oid_ref.ObjectIdentifierRef.bytes_from_arcs.Goals as goal
 
 pub returns-clause-answer : goal.returns-clause-answer
-returns-clause-answer c = (returned c.encode_to-2.result c.encode_to-2.ensures (omega arith)).answer
+returns-clause-answer c = (returned c.encode_long-2.result c.encode_long-2.ensures (omega arith)).answer
 
 pub returns-clause-encoding : goal.returns-clause-encoding
-returns-clause-encoding c = (returned c.encode_to-2.result c.encode_to-2.ensures (omega arith)).encoding
+returns-clause-encoding c = (returned c.encode_long-2.result c.encode_long-2.ensures (omega arith)).encoding
 
 pub returns-clause-rest : goal.returns-clause-rest
-returns-clause-rest c = (returned c.encode_to-2.result c.encode_to-2.ensures (omega arith)).rest
+returns-clause-rest c = (returned c.encode_long-2.result c.encode_long-2.ensures (omega arith)).rest
 
-pub returns-in_err-encode_to-clause-enough : goal.returns-in_err-encode_to-clause-enough
-returns-in_err-encode_to-clause-enough c =
+pub returns-in_err-encode_long-clause-enough : goal.returns-in_err-encode_long-clause-enough
+returns-in_err-encode_long-clause-enough c =
     let other = five_enough root_rule c.args.arcs.now (length c.args.out.now) (λ k. omega (arith, c.type_inv.arcs k)) in
     grind (arith, other)
