@@ -29,7 +29,6 @@ pub struct Buffer<const SIZE: usize> {
 
 impl<const SIZE: usize> Buffer<SIZE> {
     ghost use Rattle.const_oid.specs.Buffer.{octets_of};
-    ghost use Rattle.const_oid.specs.Private.Encoder.{buffer_answer, HasEncoding};
 
     /// A buffer with no octet in use.
     pub(crate) const fn empty() -> Self
@@ -66,21 +65,6 @@ impl<const SIZE: usize> Buffer<SIZE> {
             bytes,
             used: used as u8,
             aligned: [],
-        }
-    }
-
-    /// What a function returned at 255 octets, in a longer array. Such an array holds no more octets, and could be too
-    /// large for the memory where it is filled.
-    // erase: const
-    #[inline(always)]
-    pub(crate) fn widened(short: Result<Buffer<255>>) -> Result<Self>
-        requires { 255 ≤ SIZE }
-        ensures answer { buffer_answer result ≡ buffer_answer short }
-        ensures encoding { HasEncoding short → HasEncoding result }
-    {
-        match short {
-            Ok(octets) => Ok(Buffer::copied(octets.as_bytes())),
-            Err(fault) => Err(fault),
         }
     }
 

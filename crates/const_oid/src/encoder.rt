@@ -14,6 +14,7 @@ use crate::error::{Error, Result};
 use crate::root::{check_first, join_root};
 
 /// The encoding of the arcs that an iterator gives, in up to `SIZE` octets, and never past 255.
+#[tactic(auto, using(crate::proofs::Outputs::buffered))]
 pub(crate) fn encode<const SIZE: usize, I: IntoIterator<Item = Arc>>(
     arcs: I,
 ) -> Result<Buffer<SIZE>>
@@ -21,24 +22,6 @@ where
     I::IntoIter: Drop,
     // The iterator can be asked for all of its items, and ends.
     requires { IsFiniteIterable I.into_iter_gives I.IntoIter.can_next I.IntoIter.remaining arcs }
-    ensures takes { (iterator : I.IntoIter) × I.into_iter_gives arcs iterator
-        × TakesItems root_rule (min SIZE 255) I.IntoIter.next_gives iterator (buffer_answer result) }
-    ensures encoding { HasEncoding result }
-{
-    if SIZE > 255 {
-        return Buffer::widened(encode_within(arcs));
-    }
-    encode_within(arcs)
-}
-
-/// The encoding of the arcs that an iterator gives, in an array that can all be in use.
-#[tactic(auto, using(crate::proofs::Outputs::buffered))]
-#[inline(always)]
-fn encode_within<const SIZE: usize, I: IntoIterator<Item = Arc>>(arcs: I) -> Result<Buffer<SIZE>>
-where
-    I::IntoIter: Drop,
-    requires ends { IsFiniteIterable I.into_iter_gives I.IntoIter.can_next I.IntoIter.remaining arcs }
-    requires small { SIZE ≤ 255 }
     ensures takes { (iterator : I.IntoIter) × I.into_iter_gives arcs iterator
         × TakesItems root_rule (min SIZE 255) I.IntoIter.next_gives iterator (buffer_answer result) }
     ensures encoding { HasEncoding result }

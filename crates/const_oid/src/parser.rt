@@ -21,22 +21,9 @@ use std::result;
 
 /// The encoding of the identifier that a text denotes, in up to `SIZE` octets, and never past 255.
 // erase: const
-#[inline(always)]
-pub(crate) fn parse<const SIZE: usize>(text: &[u8]) -> Result<Buffer<SIZE>>
-    ensures answer { buffer_answer result ≡ text_answer root_rule text.now (min SIZE 255) }
-    ensures encoding { HasEncoding result }
-{
-    if SIZE > 255 {
-        return Buffer::widened(parse_within(text));
-    }
-    parse_within(text)
-}
-
-/// The encoding as `parse` gives it, in an array that can all be in use.
-// erase: const
 #[tactic(auto, using(crate::proofs::Outputs::buffered))]
 #[inline(always)]
-fn parse_within<const SIZE: usize>(text: &[u8]) -> Result<Buffer<SIZE>>
+pub(crate) fn parse<const SIZE: usize>(text: &[u8]) -> Result<Buffer<SIZE>>
     ensures answer { buffer_answer result ≡ text_answer root_rule text.now (min SIZE 255) }
     ensures encoding { HasEncoding result }
 {

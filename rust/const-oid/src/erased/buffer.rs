@@ -55,16 +55,6 @@ impl<const SIZE: usize> Buffer<SIZE> {
         }
     }
 
-    /// What a function returned at 255 octets, in a longer array. Such an array holds no more octets, and could be too
-    /// large for the memory where it is filled.
-    #[inline(always)]
-    pub(crate) const fn widened(short: Result<Buffer<255>>) -> Result<Self> {
-        match short {
-            Ok(octets) => Ok(Buffer::copied(octets.as_bytes())),
-            Err(fault) => Err(fault),
-        }
-    }
-
     /// Appends the subidentifier of a number, or returns `Length` if it does not fit.
     #[inline(always)]
     pub(crate) const fn push(&mut self, number: u64) -> Result<()> {

@@ -12,15 +12,6 @@ use crate::erased::root::{check_first, join_root};
 pub(crate) fn encode<const SIZE: usize, I: IntoIterator<Item = Arc>>(
     arcs: I,
 ) -> Result<Buffer<SIZE>> {
-    if SIZE > 255 {
-        return Buffer::widened(encode_within(arcs));
-    }
-    encode_within(arcs)
-}
-
-/// The encoding of the arcs that an iterator gives, in an array that can all be in use.
-#[inline(always)]
-fn encode_within<const SIZE: usize, I: IntoIterator<Item = Arc>>(arcs: I) -> Result<Buffer<SIZE>> {
     let mut bytes = [0; SIZE];
     let capacity = if SIZE < 255 { SIZE } else { 255 };
     match encode_to(arcs, &mut bytes, capacity) {

@@ -16,15 +16,6 @@ use core::result;
 /// The encoding of the identifier that a text denotes, in up to `SIZE` octets, and never past 255.
 #[inline(always)]
 pub(crate) const fn parse<const SIZE: usize>(text: &[u8]) -> Result<Buffer<SIZE>> {
-    if SIZE > 255 {
-        return Buffer::widened(parse_within(text));
-    }
-    parse_within(text)
-}
-
-/// The encoding as `parse` gives it, in an array that can all be in use.
-#[inline(always)]
-const fn parse_within<const SIZE: usize>(text: &[u8]) -> Result<Buffer<SIZE>> {
     let mut bytes = [0; SIZE];
     let capacity = if SIZE < 255 { SIZE } else { 255 };
     match parse_to(text, &mut bytes, capacity) {
