@@ -49,7 +49,9 @@ pub(crate) fn write_checked(octets: &[u8], out: &mut [u8]) -> Result<usize> {
         Some(group) => group,
         None => return Err(group_fault(octets, MAX_FIRST)),
     };
-    let mut at = write_first(root, out);
+    let (first, second) = split_root(root);
+    out[0] = b'0' + first as u8;
+    let mut at = write_later(second, out, 1);
     while !rest.is_empty() {
         let (arc, after) = match checked_group(rest, Arc::MAX as u64) {
             Some(group) => group,
@@ -61,25 +63,11 @@ pub(crate) fn write_checked(octets: &[u8], out: &mut [u8]) -> Result<usize> {
     Ok(at)
 }
 
-/// Writes the two arcs of the first subidentifier at the start, and returns their length.
-#[inline(always)]
-fn write_first(root: u64, out: &mut [u8]) -> usize {
-    let (first, second) = split_root(root);
-    out[0] = b'0' + first as u8;
-    write_later(second, out, 1)
-}
-
 /// Writes an arc and the dot before it at an index, after which there is room for any arc, and returns the index after it.
 #[inline(always)]
 fn write_later(arc: Arc, out: &mut [u8], at: usize) -> usize {
-    at + write_after_dot(arc, &mut out[at..])
-}
-
-/// Writes a later arc and the dot before it at the start, and returns their length.
-#[inline(always)]
-fn write_after_dot(arc: Arc, out: &mut [u8]) -> usize {
     // The length of this part is a literal, so rustc checks no index in it.
-    write_arc(arc, false, &mut out[..MAX_ARC_LEN], 0)
+    at + write_arc(arc, false, &mut out[at..at + MAX_ARC_LEN], 0)
 }
 
 /// Writes bytes at an index, and returns the index after them.
