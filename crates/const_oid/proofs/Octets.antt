@@ -1,10 +1,9 @@
 -- Octets in an array that is zero past those in use.
 use Rattle.std.proofs.Common.{◌≡◌, ℕ, ◌+◌, ◌-◌, ◌≤◌, List, [], ◌∷◌, ◌++◌, length, take, drop, replicate, arith, suc}
-use Rattle.std.proofs.Common.{append_assoc, length-append, slice_index, EachIndex, cond, nat_lt, ◌^◌, ◌<◌}
+use Rattle.std.proofs.Common.{append_assoc, length-append, slice_index, EachIndex, ◌<◌}
 use Rattle.std.proofs.lemmas.{Grind.common_steps, List.{drop_at, drop-replicate, drop-drop, length-take-le}}
-use Rattle.std.proofs.{lemmas.Bool.Decides.nat_tests}
 use Rattle.const_oid.specs.{Base128.{IsContinued, IsGroup, AreOctets, width}, Private.Octets.GoesOn}
-use Rattle.const_oid.proofs.{Lists.all_append, Groups.{length_is, width_is, width_between}}
+use Rattle.const_oid.proofs.{Lists.all_append, Groups.{length_is}}
 
 -- octets by what is read at each index
 pub are_octets : (octets : List ℕ) → EachIndex octets (λ k. slice_index octets k < 256) → AreOctets octets
@@ -40,11 +39,3 @@ module _ {number : ℕ} (used end : ℕ) (bytes after : List ℕ) (inside : used
       let fewer : size - used - more ≡ size - (used + more) = omega arith in
       rw (written, ← append_assoc start group (drop end bytes), drop_at (start ++ group) _ end long)
       (rw (← reach, ← drop-drop more used bytes, zeros, drop-replicate, fewer))
-
--- the widths of small numbers
-pub width_steps : (n : ℕ) → n < 128 ^ 5 → width n ≡ cond (nat_lt n (128 ^ 1)) 1
-    (cond (nat_lt n (128 ^ 2)) 2 (cond (nat_lt n (128 ^ 3)) 3 (cond (nat_lt n (128 ^ 4)) 4 5)))
-width_steps n small =
-    grind (arith, nat_tests, width_is, width_between 1 n, width_between 2 n, width_between 3 n, width_between 4 n)
-
-pub ruleset widths = (width_steps, nat_tests)

@@ -123,23 +123,6 @@ fn add_digit(high: u64, octet: u8) -> u64
     high * 128 + (octet % 128) as u64
 }
 
-/// How many octets the subidentifier of a number takes.
-#[tactic(auto, using(crate::proofs::Octets::widths))]
-#[inline]
-pub(crate) const fn group_len(number: u64) -> usize
-    requires { number < 2 ^ 35 }
-    ensures width { result ≡ width number }
-    ensures short { result ≤ 5 }
-{
-    match number {
-        0..=0x7f => 1,
-        0x80..=0x3fff => 2,
-        0x4000..=0x1f_ffff => 3,
-        0x20_0000..=0xfff_ffff => 4,
-        _ => 5,
-    }
-}
-
 /// Appends the subidentifier of a number to the first octets of a slice, if they then fit a capacity, and returns how
 /// many there are. Into a slice that is shorter than the capacity nothing is written: the octets are counted alone.
 // erase: const

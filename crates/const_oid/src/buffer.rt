@@ -1,12 +1,12 @@
 //! Octets in an array. The first ones are in use.
 
-ghost use Rattle.std.specs.Prelude.{◌≡◌, ◌++◌, ◌+◌, ◌-◌, ◌^◌, ◌<◌, ◌≤◌, ◌↔◌, [], length, take, drop, replicate, min, nat_eq, IsTrue};
+ghost use Rattle.std.specs.Prelude.{◌≡◌, ◌++◌, ◌+◌, ◌-◌, ◌^◌, ◌<◌, ◌≤◌, ◌↔◌, [], length, take, drop, replicate, min, nat_eq, IsTrue, MatchResult};
 ghost use Rattle.std.proofs.Props.{props};
 ghost use Rattle.std.specs.Cmp.Lexicographic.{pointwise};
 ghost use Rattle.const_oid.specs.Base128.{AreOctets, width};
-ghost use Rattle.const_oid.specs.Private.Octets.{IsAppended};
+ghost use Rattle.const_oid.specs.Private.Octets.{GoesOn};
 
-use crate::base128::{append_group, group_len};
+use crate::base128::append_group;
 use crate::compare::{are_arrays_equal, order};
 use crate::error::{Error, Result};
 use std::cmp::Ordering;
@@ -68,24 +68,21 @@ impl<const SIZE: usize> Buffer<SIZE> {
         }
     }
 
-    /// Appends the subidentifier of a number, or returns `Length` if it does not fit.
+    /// These octets and the subidentifier of a number, or `Length` if it does not fit.
     // erase: const
     #[inline(always)]
-    pub(crate) fn push(&mut self, number: u64) -> Result<()>
+    pub(crate) fn pushed(self, number: u64) -> Result<Self>
         requires { number < 2 ^ 35 }
-        ensures { IsAppended (min SIZE 255) number (octets_of self.old) (octets_of self.new) result }
+        ensures { let long = length (octets_of self.entry) + width number in MatchResult result
+            (λ longer. (long ≤ min SIZE 255) × GoesOn number (octets_of self.entry) (octets_of longer))
+            (λ fault. (fault ≡ Error.Length) × (min SIZE 255 < long)) }
     {
-        let start = self.used as usize;
+        let mut bytes = self.bytes;
         let capacity = if SIZE < 255 { SIZE } else { 255 };
-        // The length first, so that nothing is written where it does not fit.
-        if start + group_len(number) > capacity {
-            return Err(Error::Length);
+        match append_group(&mut bytes, self.used as usize, number, capacity) {
+            Ok(used) => Ok(Buffer::begun(bytes, used)),
+            Err(fault) => Err(fault),
         }
-        match append_group(&mut self.bytes, start, number, capacity) {
-            Ok(end) => self.used = end as u8,
-            Err(fault) => return Err(fault),
-        }
-        Ok(())
     }
 
     /// The octets in use.

@@ -310,9 +310,8 @@ impl<const MAX_SIZE: usize> ObjectIdentifier<MAX_SIZE> {
             (λ fault. (fault ≡ Error.Length) × (min MAX_SIZE 255 < count)) }
         ensures child { IfOk result (λ oid. oid_arcs oid ≡ child_of (oid_arcs self.entry) arc) }
     {
-        let mut ber = self.ber;
-        match ber.push(arc as u64) {
-            Ok(()) => Ok(ObjectIdentifier { ber }),
+        match self.ber.pushed(arc as u64) {
+            Ok(ber) => Ok(ObjectIdentifier { ber }),
             Err(fault) => Err(fault),
         }
     }

@@ -2,7 +2,7 @@
 
 //! Octets in an array. The first ones are in use.
 
-use crate::erased::base128::{append_group, group_len};
+use crate::erased::base128::append_group;
 use crate::erased::compare::{are_arrays_equal, order};
 use crate::erased::error::{Error, Result};
 use core::cmp::Ordering;
@@ -55,20 +55,15 @@ impl<const SIZE: usize> Buffer<SIZE> {
         }
     }
 
-    /// Appends the subidentifier of a number, or returns `Length` if it does not fit.
+    /// These octets and the subidentifier of a number, or `Length` if it does not fit.
     #[inline(always)]
-    pub(crate) const fn push(&mut self, number: u64) -> Result<()> {
-        let start = self.used as usize;
+    pub(crate) const fn pushed(self, number: u64) -> Result<Self> {
+        let mut bytes = self.bytes;
         let capacity = if SIZE < 255 { SIZE } else { 255 };
-        // The length first, so that nothing is written where it does not fit.
-        if start + group_len(number) > capacity {
-            return Err(Error::Length);
+        match append_group(&mut bytes, self.used as usize, number, capacity) {
+            Ok(used) => Ok(Buffer::begun(bytes, used)),
+            Err(fault) => Err(fault),
         }
-        match append_group(&mut self.bytes, start, number, capacity) {
-            Ok(end) => self.used = end as u8,
-            Err(fault) => return Err(fault),
-        }
-        Ok(())
     }
 
     /// The octets in use.

@@ -377,9 +377,8 @@ impl<const MAX_SIZE: usize> ObjectIdentifier<MAX_SIZE> {
     /// # Ok::<(), Error>(())
     /// ```
     pub const fn push_arc(self, arc: Arc) -> Result<Self> {
-        let mut ber = self.ber;
-        match ber.push(arc as u64) {
-            Ok(()) => Ok(ObjectIdentifier { ber }),
+        match self.ber.pushed(arc as u64) {
+            Ok(ber) => Ok(ObjectIdentifier { ber }),
             Err(fault) => Err(fault),
         }
     }
