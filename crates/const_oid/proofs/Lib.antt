@@ -29,6 +29,7 @@ pub mod Parents
 pub mod Prefixes
 pub mod Printed
 pub mod Subtree
+pub mod Linked
 pub mod SortedLists
 pub mod SortedNames
 pub mod Overflow

@@ -3,6 +3,7 @@ pub mod Octets
 pub mod Ends
 pub mod Encoder
 pub mod Groups
+pub mod Links
 pub mod Parser
 pub mod Prefixes
 pub mod Text

@@ -2,16 +2,19 @@
 
 // `db_ref` is the same over borrowed identifiers: a trait for both forms would stand in each clause.
 
-ghost use Rattle.std.specs.Prelude.{◌≡◌};
+ghost use Rattle.std.specs.Prelude.{◌≡◌, nat_eq, true, false};
+ghost use Rattle.std.specs.Cmp.Lexicographic.{pointwise};
 ghost use Rattle.std.specs.Iterator.{YieldsFirst, item_count};
-ghost use Rattle.const_oid.specs.Names.{lent_arcs, entries_of, has_arcs, first_name, resolve_answer, all_names, first_oid, names_left};
+ghost use Rattle.std.proofs.Props.{props};
 ghost use Rattle.const_oid.specs.Oid.{oid_arcs};
+ghost use Rattle.const_oid.specs.Private.Links.{AreLinks, key_of};
 
 use crate::compare::is_same_name;
 // erase: omit
 pub use crate::db_ref::{RefDatabase, RefNames};
 pub use crate::db_sorted::SortedDatabase;
 use crate::error::Result;
+use crate::links::{first_link, next_link};
 use crate::oid::Oid;
 
 /// A table of identifiers and their names, in any order. An identifier may have several names, and a name several
@@ -21,26 +24,53 @@ use crate::oid::Oid;
 #[derive(Copy, Clone)]
 pub struct Database<'a> {
     entries: &'a [(&'a Oid, &'a str)],
+    /// Links by identifier, and by name, or none.
+    oid_links: &'a [u16],
+    name_links: &'a [u16],
+    ghost by_oid: { AreLinks (key_of false) entries.now oid_links.now } by { Prim.hlevel props },
+    ghost by_name: { AreLinks (key_of true) entries.now name_links.now } by { Prim.hlevel props },
 }
 
 impl<'a> Database<'a> {
+    ghost use Rattle.const_oid.specs.Names.{lent_arcs, entries_of, first_name, resolve_answer, all_names, first_oid, names_left};
+
     /// A database over these entries.
     pub const fn new(entries: &'a [(&'a Oid, &'a str)]) -> Self
         ensures { entries_of result ≡ entries.now }
     {
-        Database { entries }
+        Database {
+            entries,
+            oid_links: &[],
+            name_links: &[],
+        }
+    }
+
+    /// The database with links of its entries.
+    pub(crate) const fn linked(self, oid_links: &'a [u16], name_links: &'a [u16]) -> Self
+        requires by_oid { AreLinks (key_of false) (entries_of self) oid_links.now }
+        requires by_name { AreLinks (key_of true) (entries_of self) name_links.now }
+        ensures { entries_of result ≡ entries_of self.entry }
+    {
+        Database {
+            entries: self.entries,
+            oid_links,
+            name_links,
+        }
     }
 
     /// The name in the first entry with this identifier, or `None` if there is no such entry.
-    pub const fn by_oid(&self, oid: &Oid) -> Option<&'a str>
+    // erase: const
+    pub fn by_oid(&self, oid: &Oid) -> Option<&'a str>
         ensures { result ≡ first_name lent_arcs (entries_of self.now) (oid_arcs oid.now) }
     {
-        let mut left = self.entries;
-        while let [entry, after @ ..] = left {
+        let count = self.entries.len();
+        let mut index = first_link(self.oid_links, count, oid.as_bytes());
+        while index < count {
+            let entry = &self.entries[index];
             if has_oid(entry, oid) {
                 return Some(entry.1);
             }
-            left = after;
+            index = next_link(self.oid_links, count, index);
         }
         None
     }
@@ -49,12 +79,14 @@ impl<'a> Database<'a> {
     pub const fn by_name(&self, name: &str) -> Option<&'a Oid>
         ensures { result ≡ first_oid (entries_of self.now) name.now }
     {
-        let mut left = self.entries;
-        while let [entry, after @ ..] = left {
+        let count = self.entries.len();
+        let mut index = first_link(self.name_links, count, name.as_bytes());
+        while index < count {
+            let entry = &self.entries[index];
             if is_same_name(entry.1, name) {
                 return Some(entry.0);
             }
-            left = after;
+            index = next_link(self.name_links, count, index);
         }
         None
     }
@@ -95,6 +127,8 @@ pub struct Names<'a> {
 impl<'a> Iterator for Names<'a> {
     type Item = &'a str;
 
+    ghost use Rattle.const_oid.specs.Names.{names_left};
+
     ghost next_gives = { YieldsFirst names_left };
 
     ghost remaining = { item_count names_left };
@@ -113,7 +147,7 @@ impl<'a> Iterator for Names<'a> {
 
 /// Whether an entry has this identifier.
 const fn has_oid(entry: &(&Oid, &str), oid: &Oid) -> bool
-    ensures { result ≡ has_arcs lent_arcs (oid_arcs oid.now) entry.now }
+    ensures { result ≡ pointwise nat_eq (oid_arcs entry.now.0.now) (oid_arcs oid.now) }
 {
     entry.0.is_same(oid)
 }

@@ -19,6 +19,7 @@ pub mod error;
 // Its functions have contracts, and no effect.
 // erase: omit
 pub mod laws;
+pub(crate) mod links;
 pub mod oid;
 pub mod oid_ref;
 // Its functions are for the other crates: Rust hides them.

@@ -9,6 +9,7 @@ pub use crate::erased::db::Names;
 pub use crate::erased::db::SortedDatabase;
 
 use crate::arcs::write_items;
+use crate::erased::links::links_of;
 use crate::{ObjectIdentifier, ObjectIdentifierRef};
 use core::fmt;
 use core::iter::FusedIterator;
@@ -109,12 +110,16 @@ macro_rules! names {
         /// ```
         /// assert_eq!(const_oid::db::DB.resolve("1.2.840.10045.2.1"), Ok("id-ecPublicKey"));
         /// ```
-        pub const DB: Database<'static> = Database::new(&ENTRIES);
+        pub const DB: Database<'static> = Database::new(&ENTRIES).linked(&OID_LINKS, &NAME_LINKS);
 
         /// The entries of [`DB`]. They are a `static`, so that a crate with a lookup in a constant reads their value,
         /// and does not parse all texts again.
         static ENTRIES: [(&ObjectIdentifier, &str); [$($($name,)*)*].len()] =
             [$($((&$module::$constant, $name),)*)*];
+
+        /// A link for each entry of [`DB`], and some 500 slots.
+        static OID_LINKS: [u16; 2000] = links_of(&ENTRIES, false);
+        static NAME_LINKS: [u16; 2000] = links_of(&ENTRIES, true);
     };
 }
 

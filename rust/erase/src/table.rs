@@ -60,6 +60,7 @@ pub const CRATES: &[Crate] = &[
             "lib": "pub mod db; mod db_sorted;"
                 => "#[cfg(feature = \"db\")] pub mod db; #[cfg(feature = \"db\")] mod db_sorted;",
                 "they are of a feature";
+            "lib": "pub(crate) mod links;" => "#[cfg(feature = \"db\")] pub(crate) mod links;", "as above";
             "db_sorted*": "use crate::erased::oid_ref::ObjectIdentifierRef;"
                 => "use crate::ObjectIdentifierRef;", LENT;
             "db_sorted*": "&ObjectIdentifierRef<'_>" => "&ObjectIdentifierRef", LENT;
@@ -89,6 +90,7 @@ pub const CRATES: &[Crate] = &[
             "db": "entries: &'a [(&'a Oid, &'a str)]," => "pub(crate) entries: &'a [(&'a Oid, &'a str)],", LISTED;
             "db_sorted": "entries: &'a [Entry<'a>]," => "pub(crate) entries: &'a [Entry<'a>],", LISTED;
             "db*": "Oid" => "ObjectIdentifier", "the crate has one name for the type";
+            "links*": "Oid" => "ObjectIdentifier", "as above";
             "db_sorted": "(self.entries, &oid)" => "(self.entries, &oid.erased())", LENT;
             "db_sorted*": "(self.entries, oid)" => "(self.entries, &oid.erased())", LENT;
             "text": "pub(crate) fn utf8" => "#[allow(unsafe_code)]\npub(crate) fn utf8",

@@ -5,6 +5,7 @@
 use crate::erased::compare::is_same_name;
 pub use crate::erased::db_sorted::SortedDatabase;
 use crate::erased::error::Result;
+use crate::erased::links::{first_link, next_link};
 use crate::erased::oid::ObjectIdentifier;
 
 /// A table of identifiers and their names, in any order. An identifier may have several names, and a name several
@@ -25,6 +26,9 @@ use crate::erased::oid::ObjectIdentifier;
 #[derive(Copy, Clone)]
 pub struct Database<'a> {
     pub(crate) entries: &'a [(&'a ObjectIdentifier, &'a str)],
+    /// Links by identifier, and by name, or none.
+    oid_links: &'a [u16],
+    name_links: &'a [u16],
 }
 
 impl<'a> Database<'a> {
@@ -40,7 +44,20 @@ impl<'a> Database<'a> {
     /// assert_eq!(NAMES.by_oid(&CN), Some("cn"));
     /// ```
     pub const fn new(entries: &'a [(&'a ObjectIdentifier, &'a str)]) -> Self {
-        Database { entries }
+        Database {
+            entries,
+            oid_links: &[],
+            name_links: &[],
+        }
+    }
+
+    /// The database with links of its entries.
+    pub(crate) const fn linked(self, oid_links: &'a [u16], name_links: &'a [u16]) -> Self {
+        Database {
+            entries: self.entries,
+            oid_links,
+            name_links,
+        }
     }
 
     /// The name in the first entry with this identifier, or `None` if there is no such entry.
@@ -53,12 +70,14 @@ impl<'a> Database<'a> {
     /// assert_eq!(DB.by_oid(&rfc4519::CN), Some("cn"));
     /// ```
     pub const fn by_oid(&self, oid: &ObjectIdentifier) -> Option<&'a str> {
-        let mut left = self.entries;
-        while let [entry, after @ ..] = left {
+        let count = self.entries.len();
+        let mut index = first_link(self.oid_links, count, oid.as_bytes());
+        while index < count {
+            let entry = &self.entries[index];
             if has_oid(entry, oid) {
                 return Some(entry.1);
             }
-            left = after;
+            index = next_link(self.oid_links, count, index);
         }
         None
     }
@@ -73,12 +92,14 @@ impl<'a> Database<'a> {
     /// assert_eq!(DB.by_name("CN"), Some(&rfc4519::CN));
     /// ```
     pub const fn by_name(&self, name: &str) -> Option<&'a ObjectIdentifier> {
-        let mut left = self.entries;
-        while let [entry, after @ ..] = left {
+        let count = self.entries.len();
+        let mut index = first_link(self.name_links, count, name.as_bytes());
+        while index < count {
+            let entry = &self.entries[index];
             if is_same_name(entry.1, name) {
                 return Some(entry.0);
             }
-            left = after;
+            index = next_link(self.name_links, count, index);
         }
         None
     }

@@ -13,6 +13,8 @@ mod db_sorted;
 mod digits;
 mod encoder;
 pub mod error;
+#[cfg(feature = "db")]
+pub(crate) mod links;
 pub mod oid;
 pub mod oid_ref;
 // Its functions are for the other crates: Rust hides them.

@@ -1,10 +1,12 @@
-use Rattle.std.proofs.Common.{◌≡◌, length}
-use Rattle.const_oid.specs.{Names.{lent_arcs, first_name}, Oid.oid_arcs}
+use Rattle.std.proofs.Common.{◌-◌, false, length}
+use Rattle.const_oid.specs.Names.{has_arcs, lent_arcs}
+use Rattle.const_oid.specs.Oid.{oid_arcs, oid_octets}
+use Rattle.const_oid.specs.Private.Links.{key_of}
+use Rattle.const_oid.proofs.Linked.{IsReached}
 use Rattle.const_oid.proofs.db.Database.by_oid.Given as goal
 
-abbrev pub invariant-loop-left : goal.invariant-loop-left
-invariant-loop-left l =
-    first_name lent_arcs l.initial.left (oid_arcs l.oid) ≡ first_name lent_arcs l.left (oid_arcs l.oid)
+abbrev pub invariant-loop-index : goal.invariant-loop-index
+invariant-loop-index l = IsReached (key_of false) (has_arcs lent_arcs (oid_arcs l.oid)) l.self.entries.now l.self.oid_links.now (oid_octets l.oid) l.index
 
-abbrev pub decreases-loop-left : goal.decreases-loop-left
-decreases-loop-left l = length l.left
+abbrev pub decreases-loop-index : goal.decreases-loop-index
+decreases-loop-index l = length l.self.entries.now - l.index
