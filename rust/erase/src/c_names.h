@@ -31,37 +31,36 @@ static const const_oid_octets const_oid_name_octets[CONST_OID_NAMES_COUNT] = {
 static const char *const const_oid_names[CONST_OID_NAMES_COUNT] = {
 @NAMES@};
 
-/* The indexes of the entries in the order of names, without the case of their letters. Those with one name are
- * in the order of the table. */
-static const uint16_t const_oid_names_by_name[CONST_OID_NAMES_COUNT] = {
-@BY_NAME@};
+/* The indexes of the entries by a hash of their names, each in the first place that is free from its own on. Those with
+ * one name are in the order of the table, and CONST_OID_NAMES_COUNT is in the places that are free. */
+static const uint16_t const_oid_names_by_hash[@PLACES@] = {
+@BY_HASH@};
 
 static __inline int const_oid_lower_case(char letter) {
     return letter >= 'A' && letter <= 'Z' ? letter + ('a' - 'A') : letter;
 }
 
-static __inline int const_oid_cmp_names(const char *left, const char *right) {
-    while (*left != 0 && const_oid_lower_case(*left) == const_oid_lower_case(*right)) {
+/* Whether two names are the same, without the case of their letters. */
+static __inline int const_oid_is_same_name(const char *left, const char *right) {
+    while (*left == *right || const_oid_lower_case(*left) == const_oid_lower_case(*right)) {
+        if (*left == 0) return 1;
         left++;
         right++;
     }
-    return const_oid_lower_case(*left) - const_oid_lower_case(*right);
+    return 0;
 }
 
 /* The index of the first entry of the table that has a name, which is null-terminated, whatever the case of its
  * ASCII letters. CONST_OID_NAMES_COUNT if there is none. */
 static __inline size_t const_oid_by_name(const char *name) {
-    size_t first = 0, last = CONST_OID_NAMES_COUNT - 1;
-    while (first < last) {
-        size_t middle = (first + last) / 2;
-        if (const_oid_cmp_names(const_oid_names[const_oid_names_by_name[middle]], name) < 0) {
-            first = middle + 1;
-        } else {
-            last = middle;
-        }
+    const char *letter;
+    uint32_t hash = 0;
+    size_t index;
+    for (letter = name; *letter != 0; letter++) hash = hash * 33 + (*letter & 31);
+    for (;; hash++) {
+        index = const_oid_names_by_hash[hash % @PLACES@];
+        if (index == CONST_OID_NAMES_COUNT || const_oid_is_same_name(const_oid_names[index], name)) return index;
     }
-    first = const_oid_names_by_name[first];
-    return const_oid_cmp_names(const_oid_names[first], name) == 0 ? first : CONST_OID_NAMES_COUNT;
 }
 
 #endif
