@@ -8,7 +8,7 @@
 
 mod edge;
 #[forbid(unsafe_code)]
-#[allow(dead_code, unused_imports, clippy::all)]
+#[allow(dead_code, unused_imports, improper_ctypes_definitions, clippy::all)]
 mod erased;
 mod exports;
 #[forbid(unsafe_code)]

@@ -25,7 +25,7 @@ pub fn const_oid_from_text(text: &[u8], out: &mut crate::edge::Output<u8>) -> St
 /// of the text at the usual capacity.
 #[cold]
 #[inline(never)]
-fn write_other(fault: Error, text: &[u8], out: &mut crate::edge::Output<u8>) -> Status {
+extern "C" fn write_other(fault: Error, text: &[u8], out: &mut crate::edge::Output<u8>) -> Status {
     // The digits and dots of a valid text are ASCII, so only the others can fail to be UTF-8.
     if str::from_utf8(text).is_err() {
         return code_status(NOT_UTF8);
@@ -76,7 +76,7 @@ pub fn const_oid_to_text(octets: &[u8], out: &mut crate::edge::Output<u8>) -> St
 
 /// Writes the dotted text of contents octets of any length, which may need up to `LONG` bytes.
 #[inline(never)]
-fn write_long(octets: &[u8], out: &mut crate::edge::Output<u8>) -> Status {
+extern "C" fn write_long(octets: &[u8], out: &mut crate::edge::Output<u8>) -> Status {
     let mut text = [0; LONG];
     match ObjectIdentifierRef::text_from_bytes(octets, &mut text) {
         Some(Ok(len)) => write_bytes(&text[..len], out),
@@ -87,7 +87,7 @@ fn write_long(octets: &[u8], out: &mut crate::edge::Output<u8>) -> Status {
 
 /// Writes the dotted text of contents octets of any length, and reads them twice.
 #[inline(never)]
-fn write_longest(octets: &[u8], out: &mut crate::edge::Output<u8>) -> Status {
+extern "C" fn write_longest(octets: &[u8], out: &mut crate::edge::Output<u8>) -> Status {
     let oid = match ObjectIdentifierRef::from_bytes(octets) {
         Ok(oid) => oid,
         Err(fault) => return error_status(fault),
