@@ -1,11 +1,11 @@
 -- Links between the entries of a table, by a hash: what they are at each step, and what a lookup along them finds.
 use Rattle.std.proofs.Common.{◌≡◌, ◌≢◌, ℕ, ◌+◌, ◌-◌, ◌%◌, ◌<◌, ◌≤◌, Bool, true, false, List, length, get_or, set, Some, None, arith, refl, sym, ap, ◌∙◌, ⊎_elim}
 use Rattle.std.proofs.Common.{get_or-set_other, get_or-set_same}
-use Rattle.std.specs.List.{AllWithin, HoldsAt, find}
-use Rattle.std.proofs.Common.{◌*◌, ◌^◌, Bor, nat_eq}
+use Rattle.std.specs.List.{AllWithin, HoldsAt, filter, find}
+use Rattle.std.proofs.Common.{◌*◌, ◌^◌, [], ◌∷◌, Bor, nat_eq, drop, drop-cons, add-one, suc, zero}
 use Rattle.std.specs.{Cmp.Lexicographic.pointwise, List.fold, Str.str_to_ascii_lowercase}
-use Rattle.std.proofs.lemmas.{Slice.Eq.bytes_eq-Decides, Bool.{cases_eq, cases_lt}, Grind.common_steps, List.get_or_default, Option.slice_get-get_or}
-use Rattle.const_oid.specs.Private.Links.{IsFirstIn, AreLinks, AreLinksFrom, hash_of, key_of, slot_by}
+use Rattle.std.proofs.lemmas.{Slice.Eq.bytes_eq-Decides, Bool.{cases_eq, cases_lt}, Grind.common_steps, List.get_or_default, Option.{slice_get_cases, slice_get-get_or}}
+use Rattle.const_oid.specs.Private.Links.{IsFirstIn, AreLinks, AreLinksFrom, IsInSlot, hash_of, key_of, slot_by}
 use Rattle.const_oid.specs.declared.oid.ObjectIdentifier.{ObjectIdentifier}
 use Rattle.const_oid.specs.{Names.{Entry, has_arcs, has_name, lent_arcs}, Oid.{oid_arcs, oid_octets}}
 use Rattle.const_oid.proofs.Encodings.{oid_encoding, same_octets}
@@ -78,15 +78,40 @@ module _ {Row : Type 0} (slot_of : Row → ℕ) (entries : List Row) where
             (cases_eq other slot);
       }
 
--- a lookup has come to an index: no entry before it passes a test, and the one there is of the slot of some bytes
-pub record IsReached {Row : Type 0} (key : Row → List ℕ) (test : Row → Bool) (entries : List Row) (links bytes : List ℕ) (index : ℕ) : Type 0 where
-  pub passed : AllWithin (λ entry. test entry ≡ false) entries 0 index
-  pub there : length entries < length links → index < length entries
-      → HoldsAt (λ entry. slot_by key (length links - length entries) entry ≡ hash_of bytes % (length links - length entries)) entries index
+-- a lookup has come from an index to another: no entry between them passes a test, and the one there is of the slot of some bytes
+pub record IsReached {Row : Type 0} (key : Row → List ℕ) (test : Row → Bool) (entries : List Row) (links bytes : List ℕ) (from index : ℕ) : Type 0 where
+  pub after : from ≤ index
+  pub within : index ≤ length entries
+  pub passed : AllWithin (λ entry. test entry ≡ false) entries from index
+  pub there : IsInSlot key entries links bytes index
 
 not_true : (b : Bool) → (b ≡ true → ⊥) → b ≡ false
 not_true true fails = absurd (fails refl)
 not_true false fails = refl
+
+module _ {Row : Type 0} (test : Row → Bool) (entries : List Row) where
+  -- an entry that passes, and one that does not
+  pub keeps : (index : ℕ) (entry : Row) → index < length entries → entry ≡ get_or entries index entry → test entry ≡ true
+      → filter test (drop index entries) ≡ entry ∷ filter test (drop (index + 1) entries)
+  keeps index entry below is passes = rw (drop-cons entries index entry, ← is, passes, add-one)
+
+  pub leaves : (index : ℕ) (entry : Row) → index < length entries → entry ≡ get_or entries index entry → test entry ≡ false
+      → filter test (drop index entries) ≡ filter test (drop (index + 1) entries)
+  leaves index entry below is fails = rw (drop-cons entries index entry, ← is, fails, add-one)
+
+  pub past_end : (index : ℕ) → length entries ≤ index → filter test (drop index entries) ≡ []
+  past_end index end = grind (arith, common_steps)
+
+  leaves_all : (count from : ℕ) → from + count ≤ length entries → AllWithin (λ entry. test entry ≡ false) entries from (from + count)
+      → filter test (drop from entries) ≡ filter test (drop (from + count) entries)
+  leaves_all zero from within fails = let e : from + zero ≡ from = omega arith in rw e
+  leaves_all (suc count) from within fails = ⊎_elim
+      (λ (some, inside, is, read).
+      let e : from + 1 + count ≡ from + suc count = omega arith in
+      leaves from some inside (sym read) (rw read at (fails from some (omega arith) (omega arith)))
+      ∙ rw e at (leaves_all count (from + 1) (omega arith) (λ k d f t. fails k d (omega arith) (omega arith))))
+      (λ (past, none). absurd (omega arith))
+      (slice_get_cases entries from).1
 
 module _ {Row : Type 0} (key : Row → List ℕ) (test : Row → Bool) (entries : List Row) (links bytes : List ℕ)
     (same : (entry : Row) → test entry ≡ true → hash_of (key entry) ≡ hash_of bytes)
@@ -94,70 +119,95 @@ module _ {Row : Type 0} (key : Row → List ℕ) (test : Row → Bool) (entries 
   abbrev slots : ℕ
   slots = length links - length entries
 
-  -- the first entry of the slot, from an index on that the lookup has come to
-  goes_on : (from index : ℕ) → length entries < length links
-      → AllWithin (λ entry. test entry ≡ false) entries 0 from
-      → IsFirstIn (slot_by key slots) entries (hash_of bytes % slots) from index
-      → IsReached key test entries links bytes index
-  goes_on from index linked before first = record {
-    passed = λ k d z l. ⊎_elim
-        (λ (early : k < from). before k d z early)
-        (λ (late : from ≤ k). not_true (test (get_or entries k d))
-        (λ passes. first.passed k d late l (ap (λ hash. hash % slots) (same (get_or entries k d) passes))))
-        (cases_lt k from);
+  -- to the first entry of the slot
+  goes_on : (from index : ℕ) → IsFirstIn (slot_by key slots) entries (hash_of bytes % slots) from index
+      → IsReached key test entries links bytes from index
+  goes_on from index first = record {
+    after = first.after;
+    within = first.within;
+    passed = λ k d late l. not_true (test (get_or entries k d))
+        (λ passes. first.passed k d late l (ap (λ hash. hash % slots) (same (get_or entries k d) passes)));
     there = λ _ below. first.there below;
   }
 
   pub comes_first : (index : ℕ)
       → (length entries < length links → index ≡ get_or links (length entries + hash_of bytes % slots) 0)
       → (length links ≤ length entries → index ≡ 0)
-      → IsReached key test entries links bytes index
+      → IsReached key test entries links bytes 0 index
   comes_first index linked scanned = ⊎_elim
       (λ (more : length entries < length links).
       let first = (right more).first (hash_of bytes % slots) (omega arith) in
-      goes_on 0 index more (λ k d z l. absurd (omega arith)) (rw (linked more) first))
+      goes_on 0 index (rw (linked more) first))
       (λ (none : length links ≤ length entries). record {
+        after = omega arith;
+        within = omega (arith, scanned none);
         passed = λ k d z l. absurd (omega (arith, scanned none));
         there = λ more. absurd (omega arith);
       })
       (cases_lt (length entries) (length links))
 
-  -- the next entry of the slot, after one that does not pass
-  pub comes_next : (index next : ℕ) (some : Row) → index < length entries → test (get_or entries index some) ≡ false
+  -- from an entry to the next one of the slot
+  pub comes_next : (index next : ℕ) (some : Row) → index < length entries
       → (length entries < length links → next ≡ get_or links index 0)
       → (length links ≤ length entries → next ≡ index + 1)
-      → IsReached key test entries links bytes index
-      → IsReached key test entries links bytes next × (index < next)
-  comes_next index next some below fails linked scanned reached =
-      let before : AllWithin (λ entry. test entry ≡ false) entries 0 (index + 1) = λ k d z l. ⊎_elim
-      (λ (e : k ≡ index). rw (e, get_or_default entries index d some below) fails)
-      (λ (ne : k ≡ index → ⊥). reached.passed k d z (omega arith))
-      (cases_eq k index) in
-      ⊎_elim
+      → IsInSlot key entries links bytes index
+      → IsReached key test entries links bytes (index + 1) next
+  comes_next index next some below linked scanned there = ⊎_elim
       (λ (more : length entries < length links).
-      let first = rw (reached.there more below some) at ((right more).next index (omega arith) below some) in
-      (goes_on (index + 1) next more before (rw (linked more) first), omega (arith, first.after, linked more)))
-      (λ (none : length links ≤ length entries). (
-        record {
-          passed = rw (scanned none) before;
-          there = λ more. absurd (omega arith);
-        },
-        omega (arith, scanned none),
-      ))
+      let first = rw (there more below some) at ((right more).next index (omega arith) below some) in
+      goes_on (index + 1) next (rw (linked more) first))
+      (λ (none : length links ≤ length entries). record {
+        after = omega (arith, scanned none);
+        within = omega (arith, scanned none);
+        passed = λ k d z l. absurd (omega (arith, scanned none));
+        there = λ more. absurd (omega arith);
+      })
       (cases_lt (length entries) (length links))
+
+  -- past an entry that does not pass
+  pub goes_past : (from index next : ℕ) (some : Row) → index < length entries → test (get_or entries index some) ≡ false
+      → (length entries < length links → next ≡ get_or links index 0)
+      → (length links ≤ length entries → next ≡ index + 1)
+      → IsReached key test entries links bytes from index
+      → IsReached key test entries links bytes from next × (index < next)
+  goes_past from index next some below fails linked scanned reached =
+      let more = comes_next index next some below linked scanned reached.there in (
+        record {
+          after = omega (arith, reached.after, more.after);
+          within = more.within;
+          passed = λ k d z l. ⊎_elim
+              (λ (early : k < index). reached.passed k d z early)
+              (λ (late : index ≤ k). ⊎_elim
+              (λ (e : k ≡ index). rw (e, get_or_default entries index d some below) fails)
+              (λ (ne : k ≡ index → ⊥). more.passed k d (omega arith) l)
+              (cases_eq k index))
+              (cases_lt k index);
+          there = more.there;
+        },
+        omega (arith, more.after),
+      )
 
   -- the first entry that passes
   pub finds : (index : ℕ) (some : Row) → index < length entries → test (get_or entries index some) ≡ true
-      → IsReached key test entries links bytes index → find test entries ≡ Some (get_or entries index some)
+      → IsReached key test entries links bytes 0 index → find test entries ≡ Some (get_or entries index some)
   finds index some below passes reached =
-      let at : HoldsAt (λ entry. test entry ≡ true) entries index = λ d. rw (get_or_default entries index d some below) passes in
+      let at : HoldsAt (λ entry. test entry ≡ true) entries index =
+      λ d. rw (get_or_default entries index d some below) passes in
       find_some test entries index (position_is test entries index below reached.passed at)
       ∙ slice_get-get_or entries index some below
 
   -- no entry passes
-  pub finds_none : (index : ℕ) → length entries ≤ index → IsReached key test entries links bytes index → find test entries ≡ None
+  pub finds_none : (index : ℕ) → length entries ≤ index → IsReached key test entries links bytes 0 index → find test entries ≡ None
   finds_none index end reached =
       find_none test entries (position_none test entries (λ k d l. reached.passed k d (omega arith) (omega arith)))
+
+  -- what passes is left
+  pub left : (from index : ℕ) → IsReached key test entries links bytes from index
+      → filter test (drop from entries) ≡ filter test (drop index entries)
+  left from index reached =
+      let count = index - from in
+      let end : from + count ≡ index = omega (arith, reached.after) in
+      rw end at (leaves_all test entries count from (omega (arith, reached.within)) (rw end reached.passed))
 
 -- ---- what is the same has the same hash
 

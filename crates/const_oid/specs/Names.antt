@@ -1,5 +1,5 @@
 -- Tables of identifiers and names.
-use Rattle.std.specs.Prelude.{◌≡◌, ◌++◌, ℕ, Bool, List, map, filter, find, nat_eq, Option, Some, unwrap_or, Result}
+use Rattle.std.specs.Prelude.{◌≡◌, ◌++◌, ℕ, Bool, List, map, drop, filter, find, nat_eq, Option, Some, unwrap_or, Result}
 use Rattle.std.specs.Borrow.{Bor}
 use Rattle.std.specs.Cmp.Lexicographic.{pointwise}
 use Rattle.std.specs.List.{All}
@@ -66,7 +66,7 @@ ref_entries_of database = database.entries.now
 
 -- the names that an iterator has left
 abbrev pub names_left : Names → List (Bor (List ℕ))
-names_left names = all_names lent_arcs names.left.now (oid_arcs names.oid)
+names_left names = all_names lent_arcs (drop names.index (entries_of names.database)) (oid_arcs names.oid)
 
 -- the names that an iterator over entries of borrowed identifiers has left
 abbrev pub ref_names_left : RefNames → List (Bor (List ℕ))

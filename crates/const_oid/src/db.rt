@@ -2,12 +2,12 @@
 
 // `db_ref` is the same over borrowed identifiers: a trait for both forms would stand in each clause.
 
-ghost use Rattle.std.specs.Prelude.{◌≡◌, nat_eq, true, false};
+ghost use Rattle.std.specs.Prelude.{◌≡◌, ◌≤◌, length, nat_eq, true, false};
 ghost use Rattle.std.specs.Cmp.Lexicographic.{pointwise};
 ghost use Rattle.std.specs.Iterator.{YieldsFirst, item_count};
 ghost use Rattle.std.proofs.Props.{props};
-ghost use Rattle.const_oid.specs.Oid.{oid_arcs};
-ghost use Rattle.const_oid.specs.Private.Links.{AreLinks, key_of};
+ghost use Rattle.const_oid.specs.Oid.{oid_arcs, oid_octets};
+ghost use Rattle.const_oid.specs.Private.Links.{AreLinks, IsInSlot, key_of};
 
 use crate::compare::is_same_name;
 // erase: omit
@@ -92,11 +92,13 @@ impl<'a> Database<'a> {
     }
 
     /// All names of this identifier, in the order of the table.
-    pub const fn find_names_for_oid(&self, oid: Oid) -> Names<'a>
+    // erase: const
+    pub fn find_names_for_oid(&self, oid: Oid) -> Names<'a>
         ensures { names_left result ≡ all_names lent_arcs (entries_of self.now) (oid_arcs oid) }
     {
         Names {
-            left: self.entries,
+            database: *self,
+            index: first_link(self.oid_links, self.entries.len(), oid.as_bytes()),
             oid,
         }
     }
@@ -120,8 +122,12 @@ impl<'a> Database<'a> {
 /// An iterator over the names of an identifier, in the order of the table.
 #[derive(Drop)]
 pub struct Names<'a> {
-    left: &'a [(&'a Oid, &'a str)],
+    database: Database<'a>,
+    /// The index of the first entry that is left.
+    index: usize,
     oid: Oid,
+    ghost within: { index ≤ length database.entries.now },
+    ghost in_slot: { IsInSlot (key_of false) database.entries.now database.oid_links.now (oid_octets oid) index } by { Prim.hlevel props },
 }
 
 impl<'a> Iterator for Names<'a> {
@@ -135,8 +141,14 @@ impl<'a> Iterator for Names<'a> {
 
     /// The next name; after the last one `None`, each time.
     fn next(&mut self) -> Option<&'a str> {
-        while let [entry, after @ ..] = self.left {
-            self.left = after;
+        while self.index < self.database.entries.len() {
+            let Database {
+                oid_links,
+                entries,
+                ..
+            } = self.database;
+            let entry = &entries[self.index];
+            self.index = next_link(oid_links, entries.len(), self.index);
             if has_oid(entry, &self.oid) {
                 return Some(entry.1);
             }

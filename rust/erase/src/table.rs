@@ -84,7 +84,7 @@ pub const CRATES: &[Crate] = &[
                 => "type Item = &'a str;
 
                         fn size_hint(&self) -> (usize, Option<usize>) {
-                            (0, Some(self.left.len()))
+                            (0, Some(self.database.entries.len() - self.index))
                         }",
                 BOUNDS;
             "db": "entries: &'a [(&'a Oid, &'a str)]," => "pub(crate) entries: &'a [(&'a Oid, &'a str)],", LISTED;

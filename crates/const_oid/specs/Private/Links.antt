@@ -36,3 +36,10 @@ abbrev pub AreLinks : {Entry : Type 0} → (Entry → List ℕ) → List Entry �
 AreLinks key entries links =
     let slots = length links - length entries in
     length entries < length links → AreLinksFrom (slot_by key slots) slots entries 0 links
+
+-- an entry at an index is of the slot of some bytes
+abbrev pub IsInSlot : {Entry : Type 0} → (Entry → List ℕ) → List Entry → List ℕ → List ℕ → ℕ → Type 0
+IsInSlot key entries links bytes index =
+    let slots = length links - length entries in
+    length entries < length links → index < length entries
+    → HoldsAt (λ entry. slot_by key slots entry ≡ hash_of bytes % slots) entries index

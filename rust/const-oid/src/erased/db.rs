@@ -117,7 +117,8 @@ impl<'a> Database<'a> {
     /// ```
     pub const fn find_names_for_oid(&self, oid: ObjectIdentifier) -> Names<'a> {
         Names {
-            left: self.entries,
+            database: *self,
+            index: first_link(self.oid_links, self.entries.len(), oid.as_bytes()),
             oid,
         }
     }
@@ -159,7 +160,9 @@ impl<'a> Database<'a> {
 /// ```
 #[derive(Clone)]
 pub struct Names<'a> {
-    left: &'a [(&'a ObjectIdentifier, &'a str)],
+    database: Database<'a>,
+    /// The index of the first entry that is left.
+    index: usize,
     oid: ObjectIdentifier,
 }
 
@@ -167,13 +170,17 @@ impl<'a> Iterator for Names<'a> {
     type Item = &'a str;
 
     fn size_hint(&self) -> (usize, Option<usize>) {
-        (0, Some(self.left.len()))
+        (0, Some(self.database.entries.len() - self.index))
     }
 
     /// The next name; after the last one `None`, each time.
     fn next(&mut self) -> Option<&'a str> {
-        while let [entry, after @ ..] = self.left {
-            self.left = after;
+        while self.index < self.database.entries.len() {
+            let Database {
+                oid_links, entries, ..
+            } = self.database;
+            let entry = &entries[self.index];
+            self.index = next_link(oid_links, entries.len(), self.index);
             if has_oid(entry, &self.oid) {
                 return Some(entry.1);
             }

@@ -6,7 +6,7 @@ use Rattle.const_oid.proofs.Linked.{IsReached}
 use Rattle.const_oid.proofs.db.Database.by_oid.Given as goal
 
 abbrev pub invariant-loop-index : goal.invariant-loop-index
-invariant-loop-index l = IsReached (key_of false) (has_arcs lent_arcs (oid_arcs l.oid)) l.self.entries.now l.self.oid_links.now (oid_octets l.oid) l.index
+invariant-loop-index l = IsReached (key_of false) (has_arcs lent_arcs (oid_arcs l.oid)) l.self.entries.now l.self.oid_links.now (oid_octets l.oid) 0 l.index
 
 abbrev pub decreases-loop-index : goal.decreases-loop-index
 decreases-loop-index l = length l.self.entries.now - l.index
