@@ -27,18 +27,8 @@ unsafe extern "C" {
     pub fn const_oid_check(octets: *const u8, octets_len: usize) -> Status;
     pub fn const_oid_len(octets: *const u8, octets_len: usize) -> Status;
     pub fn const_oid_arc(octets: *const u8, octets_len: usize, index: usize) -> Status;
-    pub fn const_oid_from_arcs(
-        arcs: *const u32,
-        arcs_len: usize,
-        out: *mut u8,
-        out_len: usize,
-    ) -> Status;
-    pub fn const_oid_arcs(
-        octets: *const u8,
-        octets_len: usize,
-        out: *mut u32,
-        out_len: usize,
-    ) -> Status;
+    pub fn const_oid_from_arcs(arcs: *const u32, arcs_len: usize, out: *mut u8, out_len: usize) -> Status;
+    pub fn const_oid_arcs(octets: *const u8, octets_len: usize, out: *mut u32, out_len: usize) -> Status;
     pub fn const_oid_arcs_from(
         octets: *const u8,
         octets_len: usize,
@@ -48,24 +38,9 @@ unsafe extern "C" {
     ) -> Status;
     pub fn const_oid_error_text(code: u32, detail: u32, out: *mut u8, out_len: usize) -> Status;
     pub fn const_oid_check_sorted(items: *const Octets, items_len: usize) -> Status;
-    pub fn const_oid_find(
-        octets: *const u8,
-        octets_len: usize,
-        sorted: *const Octets,
-        sorted_len: usize,
-    ) -> Status;
-    pub fn const_oid_next(
-        octets: *const u8,
-        octets_len: usize,
-        sorted: *const Octets,
-        sorted_len: usize,
-    ) -> Status;
-    pub fn const_oid_nearest(
-        octets: *const u8,
-        octets_len: usize,
-        sorted: *const Octets,
-        sorted_len: usize,
-    ) -> Status;
+    pub fn const_oid_find(octets: *const u8, octets_len: usize, sorted: *const Octets, sorted_len: usize) -> Status;
+    pub fn const_oid_next(octets: *const u8, octets_len: usize, sorted: *const Octets, sorted_len: usize) -> Status;
+    pub fn const_oid_nearest(octets: *const u8, octets_len: usize, sorted: *const Octets, sorted_len: usize) -> Status;
     pub fn const_oid_subtree_range(
         octets: *const u8,
         octets_len: usize,
@@ -73,61 +48,15 @@ unsafe extern "C" {
         sorted_len: usize,
         range: *mut Range,
     ) -> Status;
-    pub fn const_oid_eq(
-        left: *const u8,
-        left_len: usize,
-        right: *const u8,
-        right_len: usize,
-    ) -> Status;
-    pub fn const_oid_starts_with(
-        octets: *const u8,
-        octets_len: usize,
-        prefix: *const u8,
-        prefix_len: usize,
-    ) -> Status;
-    pub fn const_oid_cmp(
-        left: *const u8,
-        left_len: usize,
-        right: *const u8,
-        right_len: usize,
-    ) -> Status;
-    pub fn const_oid_cmp_arcs(
-        left: *const u8,
-        left_len: usize,
-        right: *const u8,
-        right_len: usize,
-    ) -> Status;
-    pub fn const_oid_cmp_owned(
-        left: *const u8,
-        left_len: usize,
-        right: *const u8,
-        right_len: usize,
-    ) -> Status;
+    pub fn const_oid_eq(left: *const u8, left_len: usize, right: *const u8, right_len: usize) -> Status;
+    pub fn const_oid_starts_with(octets: *const u8, octets_len: usize, prefix: *const u8, prefix_len: usize) -> Status;
+    pub fn const_oid_cmp(left: *const u8, left_len: usize, right: *const u8, right_len: usize) -> Status;
+    pub fn const_oid_cmp_arcs(left: *const u8, left_len: usize, right: *const u8, right_len: usize) -> Status;
+    pub fn const_oid_cmp_owned(left: *const u8, left_len: usize, right: *const u8, right_len: usize) -> Status;
     pub fn const_oid_by_arcs(left: *const Octets, right: *const Octets) -> i32;
-    pub fn const_oid_from_text(
-        text: *const u8,
-        text_len: usize,
-        out: *mut u8,
-        out_len: usize,
-    ) -> Status;
-    pub fn const_oid_to_text(
-        octets: *const u8,
-        octets_len: usize,
-        out: *mut u8,
-        out_len: usize,
-    ) -> Status;
-    pub fn const_oid_parent(
-        octets: *const u8,
-        octets_len: usize,
-        out: *mut u8,
-        out_len: usize,
-    ) -> Status;
-    pub fn const_oid_push_arc(
-        octets: *const u8,
-        octets_len: usize,
-        arc: u32,
-        out: *mut u8,
-        out_len: usize,
-    ) -> Status;
+    pub fn const_oid_from_text(text: *const u8, text_len: usize, out: *mut u8, out_len: usize) -> Status;
+    pub fn const_oid_to_text(octets: *const u8, octets_len: usize, out: *mut u8, out_len: usize) -> Status;
+    pub fn const_oid_parent(octets: *const u8, octets_len: usize, out: *mut u8, out_len: usize) -> Status;
+    pub fn const_oid_push_arc(octets: *const u8, octets_len: usize, arc: u32, out: *mut u8, out_len: usize) -> Status;
     pub fn const_oid_version() -> u32;
 }

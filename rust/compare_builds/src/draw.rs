@@ -42,10 +42,7 @@ impl Draw {
     }
 
     pub fn list(&mut self) -> Vec<u32> {
-        self.numbers()
-            .into_iter()
-            .map(|number| number as u32)
-            .collect()
+        self.numbers().into_iter().map(|number| number as u32).collect()
     }
 
     pub fn text(&mut self) -> String {
@@ -73,9 +70,7 @@ impl Draw {
     pub fn octets(&mut self) -> Vec<u8> {
         let mut out = Vec::new();
         for number in self.numbers() {
-            let groups = (1..6)
-                .find(|groups| number >> (7 * groups) == 0)
-                .unwrap_or(6);
+            let groups = (1..6).find(|groups| number >> (7 * groups) == 0).unwrap_or(6);
             let digit = |index: u32| (number >> (7 * index)) as u8 | 0x80;
             out.extend((0..groups).rev().map(digit));
             if let Some(last) = out.last_mut() {

@@ -36,9 +36,7 @@ pub fn from_arcs(arcs: &[u32]) -> Answer<Vec<u8>> {
 }
 
 pub fn to_text(octets: &[u8]) -> Answer<Vec<u8>> {
-    written(|out, out_len| unsafe {
-        const_oid_to_text(octets.as_ptr(), octets.len(), out, out_len)
-    })
+    written(|out, out_len| unsafe { const_oid_to_text(octets.as_ptr(), octets.len(), out, out_len) })
 }
 
 pub fn arcs(octets: &[u8]) -> Answer<Vec<u32>> {
@@ -89,10 +87,7 @@ pub fn cmp_owned(a: &[u8], b: &[u8]) -> Answer<Ordering> {
 }
 
 fn item(octets: &[u8]) -> Octets {
-    Octets {
-        octets: octets.as_ptr(),
-        len: octets.len(),
-    }
+    Octets { octets: octets.as_ptr(), len: octets.len() }
 }
 
 pub fn by_arcs(a: &[u8], b: &[u8]) -> Ordering {
@@ -107,10 +102,7 @@ pub struct List<'a> {
 
 impl<'a> List<'a> {
     pub fn new(items: &[&'a [u8]]) -> Self {
-        List {
-            items: items.iter().map(|octets| item(octets)).collect(),
-            octets: PhantomData,
-        }
+        List { items: items.iter().map(|octets| item(octets)).collect(), octets: PhantomData }
     }
 
     /// The code of the first wrong item, and its index.
@@ -144,9 +136,7 @@ impl<'a> List<'a> {
     pub fn subtree_range(&self, oid: &[u8]) -> Answer<(usize, usize)> {
         let mut range = Range::default();
         let (items, count) = (self.items.as_ptr(), self.items.len());
-        answer(unsafe {
-            const_oid_subtree_range(oid.as_ptr(), oid.len(), items, count, &mut range)
-        })?;
+        answer(unsafe { const_oid_subtree_range(oid.as_ptr(), oid.len(), items, count, &mut range) })?;
         Ok((range.start, range.end))
     }
 }

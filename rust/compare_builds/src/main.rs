@@ -18,18 +18,13 @@ use std::fmt::Debug;
 type Long = ObjectIdentifier<255>;
 
 fn main() {
-    let count = std::env::args()
-        .nth(1)
-        .map(|count| count.parse().expect("compare_builds [COUNT]"));
+    let count = std::env::args().nth(1).map(|count| count.parse().expect("compare_builds [COUNT]"));
     let count: u32 = count.unwrap_or(1_000_000);
     let mut draw = Draw(0x2545_F491_4F6C_DD1D);
     let mut accepted = 0;
     let mut last = Long::new_sized("2.999").expect("no fault");
     for _ in 0..count {
-        for oid in [of_text(&mut draw), of_list(&mut draw)]
-            .into_iter()
-            .flatten()
-        {
+        for oid in [of_text(&mut draw), of_list(&mut draw)].into_iter().flatten() {
             of_two(&oid, &last, draw.arc());
             last = oid;
             accepted += 1;
@@ -45,10 +40,7 @@ fn main() {
 /// Checks that the crate and the library return the same.
 #[track_caller]
 fn same<T: PartialEq + Debug>(input: impl Debug, ours: T, theirs: T) {
-    assert!(
-        ours == theirs,
-        "{input:?}: the crate {ours:?}, the library {theirs:?}"
-    );
+    assert!(ours == theirs, "{input:?}: the crate {ours:?}, the library {theirs:?}");
 }
 
 /// A result in the form of the library.
@@ -95,11 +87,7 @@ fn of_list(draw: &mut Draw) -> Option<Long> {
     let oid = Long::from_arcs_sized(arcs.iter().copied());
     let ours = coded(oid.map(|oid| bytes(&oid)));
     same(&arcs, ours, library::from_arcs(&arcs));
-    small(
-        &arcs,
-        ObjectIdentifier::from_arcs(arcs.iter().copied()),
-        oid,
-    );
+    small(&arcs, ObjectIdentifier::from_arcs(arcs.iter().copied()), oid);
     oid.ok()
 }
 
@@ -137,32 +125,16 @@ fn of_two(a: &Long, b: &Long, arc: u32) {
     same(input, Ok(a_ref == b), library::eq(left, right));
     same(input, Ok(a.cmp(b)), library::cmp_owned(left, right));
     same(input, Ok(a_ref.cmp(b_ref)), library::cmp(left, right));
-    same(
-        input,
-        Ok(a_ref.cmp_arcs(b_ref)),
-        library::cmp_arcs(left, right),
-    );
+    same(input, Ok(a_ref.cmp_arcs(b_ref)), library::cmp_arcs(left, right));
     same(input, a_ref.cmp_arcs(b_ref), library::by_arcs(left, right));
-    same(
-        input,
-        Ok(a.starts_with(*b)),
-        library::starts_with(left, right),
-    );
+    same(input, Ok(a.starts_with(*b)), library::starts_with(left, right));
     let child = a.push_arc(arc);
     let ours = coded(child.map(|oid| bytes(&oid)));
     same((a, arc), ours, library::push_arc(left, arc));
     if let Ok(child) = child {
         let octets = child.as_bytes();
-        same(
-            child,
-            Ok(child.starts_with(*a)),
-            library::starts_with(octets, left),
-        );
-        same(
-            child,
-            Ok(child.as_oid_ref() == a),
-            library::eq(octets, left),
-        );
+        same(child, Ok(child.starts_with(*a)), library::starts_with(octets, left));
+        same(child, Ok(child.as_oid_ref() == a), library::eq(octets, left));
     }
 }
 
@@ -170,11 +142,7 @@ fn of_two(a: &Long, b: &Long, arc: u32) {
 fn of_lists(draw: &mut Draw) {
     let drawn: Vec<Vec<u8>> = (0..200).map(|_| draw.octets()).collect();
     let octets: Vec<&[u8]> = drawn.iter().map(Vec::as_slice).collect();
-    same(
-        &drawn,
-        first_wrong(&octets),
-        List::new(&octets).check_sorted(),
-    );
+    same(&drawn, first_wrong(&octets), List::new(&octets).check_sorted());
     let mut sorted: Vec<&ObjectIdentifierRef> = Vec::new();
     for octets in octets {
         if let Ok(oid) = ObjectIdentifierRef::from_bytes(octets) {
@@ -221,17 +189,10 @@ fn of_list_and(sorted: &[&ObjectIdentifierRef], list: &List<'_>, oid: &ObjectIde
     let first = |oid: &ObjectIdentifierRef| sorted.iter().position(|item| *item == oid);
     let up = std::iter::successors(Some(oid), |oid| oid.parent());
     let next = sorted.iter().position(|item| item.cmp_arcs(oid).is_gt());
-    let start = sorted
-        .iter()
-        .filter(|item| item.cmp_arcs(oid).is_lt())
-        .count();
+    let start = sorted.iter().filter(|item| item.cmp_arcs(oid).is_lt()).count();
     let inside = sorted.iter().filter(|item| item.starts_with(oid)).count();
     same(oid, first(oid).ok_or(NONE), list.find(octets));
     same(oid, next.ok_or(NONE), list.next(octets));
-    same(
-        oid,
-        up.filter_map(first).next().ok_or(NONE),
-        list.nearest(octets),
-    );
+    same(oid, up.filter_map(first).next().ok_or(NONE), list.nearest(octets));
     same(oid, Ok((start, start + inside)), list.subtree_range(octets));
 }

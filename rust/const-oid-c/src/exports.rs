@@ -28,11 +28,7 @@ pub unsafe extern "C" fn const_oid_len(octets: *const u8, octets_len: usize) -> 
 ///
 /// The header says what a caller guarantees.
 #[unsafe(no_mangle)]
-pub unsafe extern "C" fn const_oid_arc(
-    octets: *const u8,
-    octets_len: usize,
-    index: usize,
-) -> Status {
+pub unsafe extern "C" fn const_oid_arc(octets: *const u8, octets_len: usize, index: usize) -> Status {
     // SAFETY: the caller guarantees it.
     unsafe { crate::erased::arcs::const_oid_arc(input(octets, octets_len), index) }
 }
@@ -55,12 +51,7 @@ pub unsafe extern "C" fn const_oid_from_arcs(
 ///
 /// The header says what a caller guarantees.
 #[unsafe(no_mangle)]
-pub unsafe extern "C" fn const_oid_arcs(
-    octets: *const u8,
-    octets_len: usize,
-    out: *mut u32,
-    out_len: usize,
-) -> Status {
+pub unsafe extern "C" fn const_oid_arcs(octets: *const u8, octets_len: usize, out: *mut u32, out_len: usize) -> Status {
     // SAFETY: the caller guarantees it.
     unsafe { crate::erased::arcs::const_oid_arcs(input(octets, octets_len), output(out, out_len)) }
 }
@@ -77,25 +68,14 @@ pub unsafe extern "C" fn const_oid_arcs_from(
     out_len: usize,
 ) -> Status {
     // SAFETY: the caller guarantees it.
-    unsafe {
-        crate::erased::arcs::const_oid_arcs_from(
-            input(octets, octets_len),
-            first,
-            output(out, out_len),
-        )
-    }
+    unsafe { crate::erased::arcs::const_oid_arcs_from(input(octets, octets_len), first, output(out, out_len)) }
 }
 
 /// # Safety
 ///
 /// The header says what a caller guarantees.
 #[unsafe(no_mangle)]
-pub unsafe extern "C" fn const_oid_error_text(
-    code: u32,
-    detail: u32,
-    out: *mut u8,
-    out_len: usize,
-) -> Status {
+pub unsafe extern "C" fn const_oid_error_text(code: u32, detail: u32, out: *mut u8, out_len: usize) -> Status {
     // SAFETY: the caller guarantees it.
     unsafe { crate::erased::errors::const_oid_error_text(code, detail, output(out, out_len)) }
 }
@@ -104,10 +84,7 @@ pub unsafe extern "C" fn const_oid_error_text(
 ///
 /// The header says what a caller guarantees.
 #[unsafe(no_mangle)]
-pub unsafe extern "C" fn const_oid_check_sorted(
-    items: *const Octets<'_>,
-    items_len: usize,
-) -> Status {
+pub unsafe extern "C" fn const_oid_check_sorted(items: *const Octets<'_>, items_len: usize) -> Status {
     // SAFETY: the caller guarantees it.
     unsafe { crate::erased::lists::const_oid_check_sorted(input(items, items_len)) }
 }
@@ -123,9 +100,7 @@ pub unsafe extern "C" fn const_oid_find(
     sorted_len: usize,
 ) -> Status {
     // SAFETY: the caller guarantees it.
-    unsafe {
-        crate::erased::lists::const_oid_find(input(octets, octets_len), input(sorted, sorted_len))
-    }
+    unsafe { crate::erased::lists::const_oid_find(input(octets, octets_len), input(sorted, sorted_len)) }
 }
 
 /// # Safety
@@ -139,9 +114,7 @@ pub unsafe extern "C" fn const_oid_next(
     sorted_len: usize,
 ) -> Status {
     // SAFETY: the caller guarantees it.
-    unsafe {
-        crate::erased::lists::const_oid_next(input(octets, octets_len), input(sorted, sorted_len))
-    }
+    unsafe { crate::erased::lists::const_oid_next(input(octets, octets_len), input(sorted, sorted_len)) }
 }
 
 /// # Safety
@@ -155,12 +128,7 @@ pub unsafe extern "C" fn const_oid_nearest(
     sorted_len: usize,
 ) -> Status {
     // SAFETY: the caller guarantees it.
-    unsafe {
-        crate::erased::lists::const_oid_nearest(
-            input(octets, octets_len),
-            input(sorted, sorted_len),
-        )
-    }
+    unsafe { crate::erased::lists::const_oid_nearest(input(octets, octets_len), input(sorted, sorted_len)) }
 }
 
 /// # Safety
@@ -188,12 +156,7 @@ pub unsafe extern "C" fn const_oid_subtree_range(
 ///
 /// The header says what a caller guarantees.
 #[unsafe(no_mangle)]
-pub unsafe extern "C" fn const_oid_eq(
-    left: *const u8,
-    left_len: usize,
-    right: *const u8,
-    right_len: usize,
-) -> Status {
+pub unsafe extern "C" fn const_oid_eq(left: *const u8, left_len: usize, right: *const u8, right_len: usize) -> Status {
     // SAFETY: the caller guarantees it.
     unsafe { crate::erased::order::const_oid_eq(input(left, left_len), input(right, right_len)) }
 }
@@ -209,24 +172,14 @@ pub unsafe extern "C" fn const_oid_starts_with(
     prefix_len: usize,
 ) -> Status {
     // SAFETY: the caller guarantees it.
-    unsafe {
-        crate::erased::order::const_oid_starts_with(
-            input(octets, octets_len),
-            input(prefix, prefix_len),
-        )
-    }
+    unsafe { crate::erased::order::const_oid_starts_with(input(octets, octets_len), input(prefix, prefix_len)) }
 }
 
 /// # Safety
 ///
 /// The header says what a caller guarantees.
 #[unsafe(no_mangle)]
-pub unsafe extern "C" fn const_oid_cmp(
-    left: *const u8,
-    left_len: usize,
-    right: *const u8,
-    right_len: usize,
-) -> Status {
+pub unsafe extern "C" fn const_oid_cmp(left: *const u8, left_len: usize, right: *const u8, right_len: usize) -> Status {
     // SAFETY: the caller guarantees it.
     unsafe { crate::erased::order::const_oid_cmp(input(left, left_len), input(right, right_len)) }
 }
@@ -242,9 +195,7 @@ pub unsafe extern "C" fn const_oid_cmp_arcs(
     right_len: usize,
 ) -> Status {
     // SAFETY: the caller guarantees it.
-    unsafe {
-        crate::erased::order::const_oid_cmp_arcs(input(left, left_len), input(right, right_len))
-    }
+    unsafe { crate::erased::order::const_oid_cmp_arcs(input(left, left_len), input(right, right_len)) }
 }
 
 /// # Safety
@@ -258,19 +209,14 @@ pub unsafe extern "C" fn const_oid_cmp_owned(
     right_len: usize,
 ) -> Status {
     // SAFETY: the caller guarantees it.
-    unsafe {
-        crate::erased::order::const_oid_cmp_owned(input(left, left_len), input(right, right_len))
-    }
+    unsafe { crate::erased::order::const_oid_cmp_owned(input(left, left_len), input(right, right_len)) }
 }
 
 /// # Safety
 ///
 /// The header says what a caller guarantees.
 #[unsafe(no_mangle)]
-pub unsafe extern "C" fn const_oid_by_arcs(
-    left: *const Octets<'_>,
-    right: *const Octets<'_>,
-) -> i32 {
+pub unsafe extern "C" fn const_oid_by_arcs(left: *const Octets<'_>, right: *const Octets<'_>) -> i32 {
     // SAFETY: the caller guarantees it.
     unsafe { crate::erased::order::const_oid_by_arcs(&input(left, 1)[0], &input(right, 1)[0]) }
 }
@@ -279,16 +225,9 @@ pub unsafe extern "C" fn const_oid_by_arcs(
 ///
 /// The header says what a caller guarantees.
 #[unsafe(no_mangle)]
-pub unsafe extern "C" fn const_oid_from_text(
-    text: *const u8,
-    text_len: usize,
-    out: *mut u8,
-    out_len: usize,
-) -> Status {
+pub unsafe extern "C" fn const_oid_from_text(text: *const u8, text_len: usize, out: *mut u8, out_len: usize) -> Status {
     // SAFETY: the caller guarantees it.
-    unsafe {
-        crate::erased::texts::const_oid_from_text(input(text, text_len), output(out, out_len))
-    }
+    unsafe { crate::erased::texts::const_oid_from_text(input(text, text_len), output(out, out_len)) }
 }
 
 /// # Safety
@@ -302,9 +241,7 @@ pub unsafe extern "C" fn const_oid_to_text(
     out_len: usize,
 ) -> Status {
     // SAFETY: the caller guarantees it.
-    unsafe {
-        crate::erased::texts::const_oid_to_text(input(octets, octets_len), output(out, out_len))
-    }
+    unsafe { crate::erased::texts::const_oid_to_text(input(octets, octets_len), output(out, out_len)) }
 }
 
 /// # Safety
@@ -318,9 +255,7 @@ pub unsafe extern "C" fn const_oid_parent(
     out_len: usize,
 ) -> Status {
     // SAFETY: the caller guarantees it.
-    unsafe {
-        crate::erased::tree::const_oid_parent(input(octets, octets_len), output(out, out_len))
-    }
+    unsafe { crate::erased::tree::const_oid_parent(input(octets, octets_len), output(out, out_len)) }
 }
 
 /// # Safety
@@ -335,13 +270,7 @@ pub unsafe extern "C" fn const_oid_push_arc(
     out_len: usize,
 ) -> Status {
     // SAFETY: the caller guarantees it.
-    unsafe {
-        crate::erased::tree::const_oid_push_arc(
-            input(octets, octets_len),
-            arc,
-            output(out, out_len),
-        )
-    }
+    unsafe { crate::erased::tree::const_oid_push_arc(input(octets, octets_len), arc, output(out, out_len)) }
 }
 
 #[unsafe(no_mangle)]

@@ -96,11 +96,7 @@ fn contents_of(der: &[u8]) -> Result<&[u8]> {
 /// The names of an identifier, each once.
 fn names_of(oid: &ObjectIdentifierRef) -> String {
     let mut names = Vec::new();
-    for (_, name) in SORTED
-        .subtree(oid)
-        .iter()
-        .take_while(|entry| entry.0 == oid)
-    {
+    for (_, name) in SORTED.subtree(oid).iter().take_while(|entry| entry.0 == oid) {
         if !names.contains(name) {
             names.push(*name);
         }
@@ -109,11 +105,7 @@ fn names_of(oid: &ObjectIdentifierRef) -> String {
 }
 
 fn print(oid: &ObjectIdentifierRef, out: &mut impl Write) -> io::Result<()> {
-    let octets: Vec<String> = oid
-        .as_bytes()
-        .iter()
-        .map(|octet| format!("{octet:02X}"))
-        .collect();
+    let octets: Vec<String> = oid.as_bytes().iter().map(|octet| format!("{octet:02X}")).collect();
     let arcs: Vec<u32> = oid.arcs().collect();
     writeln!(out, "{oid}")?;
     writeln!(out, "  octets: {}", octets.join(" "))?;
@@ -147,11 +139,7 @@ struct Arguments {
 impl Arguments {
     /// Reads arguments. The error is the first option that is unknown.
     fn read(arguments: impl IntoIterator<Item = String>) -> std::result::Result<Self, String> {
-        let mut read = Arguments {
-            form: None,
-            is_tree: false,
-            inputs: Vec::new(),
-        };
+        let mut read = Arguments { form: None, is_tree: false, inputs: Vec::new() };
         for argument in arguments {
             match argument.as_str() {
                 "--text" => read.form = Some(Form::Text),
@@ -168,12 +156,7 @@ impl Arguments {
 }
 
 /// Runs the program, and returns whether it could read all of its arguments and inputs.
-pub fn run(
-    arguments: &[&str],
-    input: impl BufRead,
-    out: &mut impl Write,
-    errors: &mut impl Write,
-) -> io::Result<bool> {
+pub fn run(arguments: &[&str], input: impl BufRead, out: &mut impl Write, errors: &mut impl Write) -> io::Result<bool> {
     if arguments.contains(&"--help") {
         write!(out, "{HELP}")?;
         return Ok(true);
@@ -206,11 +189,6 @@ pub fn run(
 fn main() -> io::Result<ExitCode> {
     let arguments: Vec<String> = std::env::args().skip(1).collect();
     let arguments: Vec<&str> = arguments.iter().map(String::as_str).collect();
-    let is_read = run(
-        &arguments,
-        io::stdin().lock(),
-        &mut io::stdout(),
-        &mut io::stderr(),
-    )?;
+    let is_read = run(&arguments, io::stdin().lock(), &mut io::stdout(), &mut io::stderr())?;
     Ok(ExitCode::from(u8::from(!is_read)))
 }

@@ -95,8 +95,7 @@ impl ObjectIdentifierRef {
     /// ```
     #[inline]
     pub fn from_ascii_in<'o>(text: &[u8], out: &'o mut [u8]) -> Result<&'o Self> {
-        erased::ObjectIdentifierRef::from_ascii_in(text, out)
-            .map(|oid| Self::from_checked(oid.as_bytes()))
+        erased::ObjectIdentifierRef::from_ascii_in(text, out).map(|oid| Self::from_checked(oid.as_bytes()))
     }
 
     /// Encodes arcs, any number of them, into octets at the start of `out`. Five for each arc are always enough.
@@ -118,8 +117,7 @@ impl ObjectIdentifierRef {
     /// ```
     #[inline]
     pub fn from_arcs_in<'o>(arcs: &[Arc], out: &'o mut [u8]) -> Result<&'o Self> {
-        erased::ObjectIdentifierRef::from_arcs_in(arcs, out)
-            .map(|oid| Self::from_checked(oid.as_bytes()))
+        erased::ObjectIdentifierRef::from_arcs_in(arcs, out).map(|oid| Self::from_checked(oid.as_bytes()))
     }
 
     /// The contents octets.
@@ -146,9 +144,7 @@ impl ObjectIdentifierRef {
     /// ```
     #[inline]
     pub fn parent(&self) -> Option<&Self> {
-        self.erased()
-            .parent()
-            .map(|oid| Self::from_checked(oid.as_bytes()))
+        self.erased().parent().map(|oid| Self::from_checked(oid.as_bytes()))
     }
 }
 

@@ -9,8 +9,7 @@ mod oid;
 type Row = (&'static str, &'static str, &'static str, &'static str);
 
 const CN: &str = "2.5.4.3\n  octets: 55 04 03\n  arcs: [2, 5, 4, 3]\n  names: cn, commonName\n";
-const ENTERPRISES: &str =
-    "1.3.6.1.4.1\n  octets: 2B 06 01 04 01\n  arcs: [1, 3, 6, 1, 4, 1]\n  names: \n";
+const ENTERPRISES: &str = "1.3.6.1.4.1\n  octets: 2B 06 01 04 01\n  arcs: [1, 3, 6, 1, 4, 1]\n  names: \n";
 const RSA: &str = "1.2.840.113549.1.1.1\n  octets: 2A 86 48 86 F7 0D 01 01 01
   arcs: [1, 2, 840, 113549, 1, 1, 1]\n  names: rsaEncryption\n";
 const DC: &str = "0.9.2342.19200300.100.1.25\n  octets: 09 92 26 89 93 F2 2C 64 01 19
@@ -40,104 +39,34 @@ const ROWS: &[Row] = &[
     ("CommonName", "", CN, ""),
     ("DC", "", DC, ""),
     ("10", "", "", "10: text, or octets? Give --text or --hex\n"),
-    (
-        "550403",
-        "",
-        "",
-        "550403: text, or octets? Give --text or --hex\n",
-    ),
+    ("550403", "", "", "550403: text, or octets? Give --text or --hex\n"),
     ("nothing", "", "", "nothing: no known name\n"),
-    (
-        "1.2..3",
-        "",
-        "",
-        "1.2..3: repeated consecutive '..' characters in OID\n",
-    ),
+    ("1.2..3", "", "", "1.2..3: repeated consecutive '..' characters in OID\n"),
     ("..1.2", "", "", "..1.2: expected digit, got '.'\n"),
-    (
-        "2A8001",
-        "",
-        "",
-        "2A8001: OID contains arc with invalid base 128 encoding\n",
-    ),
+    ("2A8001", "", "", "2A8001: OID contains arc with invalid base 128 encoding\n"),
     ("--hex 550403", "", CN, ""),
     ("550403 --hex", "", CN, ""),
-    (
-        "--hex DC",
-        "",
-        "",
-        "DC: OID contains arc with invalid base 128 encoding\n",
-    ),
+    ("--hex DC", "", "", "DC: OID contains arc with invalid base 128 encoding\n"),
     ("--hex 55040", "", "", "55040: not octets in hexadecimal\n"),
-    (
-        "--hex 2.5.4.3",
-        "",
-        "",
-        "2.5.4.3: not octets in hexadecimal\n",
-    ),
+    ("--hex 2.5.4.3", "", "", "2.5.4.3: not octets in hexadecimal\n"),
     ("--text .2.5.4.3", "", CN, ""),
-    (
-        "--text 10",
-        "",
-        "",
-        "10: OID contains out-of-range arc: 10\n",
-    ),
+    ("--text 10", "", "", "10: OID contains out-of-range arc: 10\n"),
     ("--name commonName", "", CN, ""),
     ("--name 2.5.4.3", "", "", "2.5.4.3: no known name\n"),
     ("--der 0603550403", "", CN, ""),
-    (
-        "--der 550403",
-        "",
-        "",
-        "550403: not an identifier of DER, of at most 255 octets\n",
-    ),
-    (
-        "--der 060355040300",
-        "",
-        "",
-        "060355040300: the length of DER is not that of the octets\n",
-    ),
-    (
-        "--der 0604550403",
-        "",
-        "",
-        "0604550403: the length of DER is not that of the octets\n",
-    ),
-    (
-        "--der 068103550403",
-        "",
-        "",
-        "068103550403: not an identifier of DER, of at most 255 octets\n",
-    ),
-    (
-        "",
-        "2.5.4.3\n\nnothing\n",
-        CN,
-        ": OID value is empty\nnothing: no known name\n",
-    ),
+    ("--der 550403", "", "", "550403: not an identifier of DER, of at most 255 octets\n"),
+    ("--der 060355040300", "", "", "060355040300: the length of DER is not that of the octets\n"),
+    ("--der 0604550403", "", "", "0604550403: the length of DER is not that of the octets\n"),
+    ("--der 068103550403", "", "", "068103550403: not an identifier of DER, of at most 255 octets\n"),
+    ("", "2.5.4.3\n\nnothing\n", CN, ": OID value is empty\nnothing: no known name\n"),
     ("--hex", "550403\n\n", CN, ": OID value is empty\n"),
-    (
-        "3.1 2.5.4.3",
-        "DC",
-        CN,
-        "3.1: OID contains out-of-range arc: 3\n",
-    ),
+    ("3.1 2.5.4.3", "DC", CN, "3.1: OID contains out-of-range arc: 3\n"),
     ("--tree bake", "", BAKE, ""),
     ("1.3.6.1.4.1.453.7.1 --tree", "", MIXER, ""),
     ("--tree 2.5.4.3", "", "2.5.4.3 cn, commonName\n", ""),
     ("--tree 2.999", "", "2.999\n", ""),
-    (
-        "--tree 2.999.",
-        "",
-        "",
-        "2.999.: OID ends with invalid trailing '.'\n",
-    ),
-    (
-        "--octal 2.5.4.3",
-        "",
-        "",
-        "--octal: no such option; see --help\n",
-    ),
+    ("--tree 2.999.", "", "", "2.999.: OID ends with invalid trailing '.'\n"),
+    ("--octal 2.5.4.3", "", "", "--octal: no such option; see --help\n"),
     ("-h 2.5.4.3", "", "", "-h: no such option; see --help\n"),
 ];
 

@@ -37,9 +37,7 @@ mod model {
     }
 
     fn number(base: u128, digits: impl Iterator<Item = u8>) -> u128 {
-        digits.fold(0, |number, digit| {
-            number.saturating_mul(base).saturating_add(digit.into())
-        })
+        digits.fold(0, |number, digit| number.saturating_mul(base).saturating_add(digit.into()))
     }
 
     /// Section 4, of octets whose number the capacity does not limit.
@@ -49,11 +47,7 @@ mod model {
         }
         let mut numbers = Vec::with_capacity(octets.len());
         for part in octets.split_inclusive(|octet| *octet < 0x80) {
-            let limit = if numbers.is_empty() {
-                MAX_FIRST
-            } else {
-                MAX_ARC
-            };
+            let limit = if numbers.is_empty() { MAX_FIRST } else { MAX_ARC };
             let number = number(128, part.iter().map(|octet| octet % 128));
             if part[0] == 0x80 {
                 return Err(Error::Base128);
@@ -76,10 +70,7 @@ mod model {
     pub fn encoding(arcs: &[Arc]) -> Vec<u8> {
         let mut octets = Vec::with_capacity(5 * arcs.len());
         let first = 40 * u64::from(arcs[0]) + u64::from(arcs[1]);
-        for number in [first]
-            .into_iter()
-            .chain(arcs[2..].iter().map(|arc| u64::from(*arc)))
-        {
+        for number in [first].into_iter().chain(arcs[2..].iter().map(|arc| u64::from(*arc))) {
             let width = (1..).find(|width| number < 128_u64.pow(*width)).unwrap();
             for place in (0..width).rev() {
                 let digit = (number / 128_u64.pow(place) % 128) as u8;
@@ -105,11 +96,7 @@ mod model {
         for count in 1..=arcs.len() {
             arc_fault(&arcs[..count], capacity).map_or(Ok(()), Err)?;
         }
-        if arcs.len() < 2 {
-            Err(Error::Empty)
-        } else {
-            Ok(arcs.to_vec())
-        }
+        if arcs.len() < 2 { Err(Error::Empty) } else { Ok(arcs.to_vec()) }
     }
 
     /// Section 5.
@@ -140,11 +127,7 @@ mod model {
             arcs.push(number as Arc);
             arc_fault(&arcs, capacity).map_or(Ok(()), Err)?;
         }
-        if arcs.len() < 2 {
-            Err(Error::Empty)
-        } else {
-            Ok(arcs)
-        }
+        if arcs.len() < 2 { Err(Error::Empty) } else { Ok(arcs) }
     }
 
     /// Section 8.
@@ -191,10 +174,7 @@ fn check_octets(octets: &[u8]) {
     let borrowed = ObjectIdentifierRef::from_bytes(octets);
     assert_eq!(
         borrowed.map(|oid| oid.as_bytes().as_ptr_range()),
-        answer
-            .as_ref()
-            .map(|_| octets.as_ptr_range())
-            .map_err(|fault| *fault),
+        answer.as_ref().map(|_| octets.as_ptr_range()).map_err(|fault| *fault),
         "{octets:02X?}"
     );
     assert_eq!(borrowed, octets.try_into());
@@ -209,11 +189,7 @@ fn check_octets(octets: &[u8]) {
 }
 
 /// A function that writes octets of any length into an output of so many octets.
-fn check_written(
-    size: usize,
-    answer: model::Answer,
-    write: impl FnOnce(&mut [u8]) -> Result<Vec<u8>, Error>,
-) {
+fn check_written(size: usize, answer: model::Answer, write: impl FnOnce(&mut [u8]) -> Result<Vec<u8>, Error>) {
     let mut out = vec![0xA5; size];
     let octets = answer.map(|arcs| model::encoding(&arcs));
     assert_eq!(write(&mut out), octets);
@@ -247,11 +223,7 @@ fn read_text<const N: usize>(text: &str) {
     write_text(text, N);
     let answer = model::of_text(text.as_bytes(), model::capacity(N));
     let owned = ObjectIdentifier::<N>::new_sized(text);
-    assert_eq!(
-        ObjectIdentifier::from_ascii(text.as_bytes()),
-        owned,
-        "{text}, {N}"
-    );
+    assert_eq!(ObjectIdentifier::from_ascii(text.as_bytes()), owned, "{text}, {N}");
     match (answer, owned) {
         (Ok(arcs), Ok(oid)) => assert!(oid.as_bytes() == model::encoding(&arcs), "{text}, {N}"),
         (answer, owned) => assert_eq!(owned.err(), answer.err(), "{text}, {N}"),
@@ -272,11 +244,7 @@ fn read_arcs<const N: usize>(arcs: &[Arc]) {
     let answer = model::of_arcs(arcs, model::capacity(N));
     let owned = ObjectIdentifier::<N>::from_arcs_sized(arcs.iter().copied());
     let octets = owned.map(|oid| oid.as_bytes().to_vec());
-    assert_eq!(
-        octets,
-        answer.map(|arcs| model::encoding(&arcs)),
-        "{arcs:?}, {N}"
-    );
+    assert_eq!(octets, answer.map(|arcs| model::encoding(&arcs)), "{arcs:?}, {N}");
     if N == 39 {
         let usual = ObjectIdentifier::from_arcs(arcs.iter().copied());
         assert_eq!(usual.map(|oid| oid.as_bytes().to_vec()), octets);
@@ -286,16 +254,10 @@ fn read_arcs<const N: usize>(arcs: &[Arc]) {
 /// What an owned identifier lends: each form is over its octets.
 fn check_forms<const N: usize>(oid: &ObjectIdentifier<N>, borrowed: &ObjectIdentifierRef) {
     let deref: &ObjectIdentifierRef = oid;
-    let (borrow, as_ref, from): (
-        &ObjectIdentifierRef,
-        &ObjectIdentifierRef,
-        &ObjectIdentifierRef,
-    ) = (oid.borrow(), oid.as_ref(), oid.into());
+    let (borrow, as_ref, from): (&ObjectIdentifierRef, &ObjectIdentifierRef, &ObjectIdentifierRef) =
+        (oid.borrow(), oid.as_ref(), oid.into());
     for form in [deref, borrow, as_ref, from, oid.as_oid_ref()] {
-        assert_eq!(
-            form.as_bytes().as_ptr_range(),
-            oid.as_bytes().as_ptr_range()
-        );
+        assert_eq!(form.as_bytes().as_ptr_range(), oid.as_bytes().as_ptr_range());
         assert!(*form == *oid && form == borrowed);
     }
 }
@@ -308,22 +270,14 @@ fn check_owned<const N: usize>(octets: &[u8], arcs: &[Arc]) {
     let Ok(oid) = copied else { return };
     check_forms(&oid, borrowed);
     let slice: &[u8] = oid.as_ref();
-    assert_eq!(
-        (slice, oid.as_bytes(), oid.len()),
-        (octets, octets, arcs.len())
-    );
+    assert_eq!((slice, oid.as_bytes(), oid.len()), (octets, octets, arcs.len()));
     assert!(oid.arcs().eq(arcs.iter().copied()));
     for index in indices(arcs.len()) {
         assert_eq!(oid.arc(index), arcs.get(index).copied());
     }
     let text = model::text(arcs);
     check_text_of(&oid, &text, "ObjectIdentifier");
-    check_encoded(
-        &text,
-        oid.text_len(),
-        |out| oid.encode_text(out),
-        |out| oid.encode_str(out).map(str::len),
-    );
+    check_encoded(&text, oid.text_len(), |out| oid.encode_text(out), |out| oid.encode_str(out).map(str::len));
     assert_eq!(fed(&oid), fed(octets));
     let (_, parent) = arcs.split_last().unwrap();
     let parent = (parent.len() >= 2).then(|| model::encoding(parent));
@@ -340,22 +294,14 @@ fn check_owned<const N: usize>(octets: &[u8], arcs: &[Arc]) {
 fn check_borrowed(octets: &[u8], arcs: &[Arc]) {
     let oid = ObjectIdentifierRef::from_bytes(octets).unwrap();
     let slice: &[u8] = oid.as_ref();
-    assert_eq!(
-        (slice, oid.as_bytes(), oid.len()),
-        (octets, octets, arcs.len())
-    );
+    assert_eq!((slice, oid.as_bytes(), oid.len()), (octets, octets, arcs.len()));
     assert!(oid.arcs().eq(arcs.iter().copied()));
     for index in indices(arcs.len()) {
         assert_eq!(oid.arc(index), arcs.get(index).copied());
     }
     let text = model::text(arcs);
     check_text_of(oid, &text, "ObjectIdentifierRef");
-    check_encoded(
-        &text,
-        oid.text_len(),
-        |out| oid.encode_text(out),
-        |out| oid.encode_str(out).map(str::len),
-    );
+    check_encoded(&text, oid.text_len(), |out| oid.encode_text(out), |out| oid.encode_str(out).map(str::len));
     assert_eq!(fed(oid), fed(octets));
     let (_, parent) = arcs.split_last().unwrap();
     let parent = (parent.len() >= 2).then(|| model::encoding(parent));
@@ -367,25 +313,16 @@ fn check_borrowed(octets: &[u8], arcs: &[Arc]) {
 fn indices(len: usize) -> impl Iterator<Item = usize> {
     let near = [0, 1, 2, 3, len / 2, len - 1, len, len + 1];
     // Past 32 bits, where an index has more.
-    let far =
-        [1 << 32, (1 << 32) + 1].map(|index: u64| usize::try_from(index).unwrap_or(usize::MAX));
+    let far = [1 << 32, (1 << 32) + 1].map(|index: u64| usize::try_from(index).unwrap_or(usize::MAX));
     near.into_iter().chain(far).chain([usize::MAX])
 }
 
 /// Display and Debug, whatever the options.
-fn check_text_of(
-    oid: &(impl std::fmt::Display + std::fmt::Debug + ?Sized),
-    text: &str,
-    name: &str,
-) {
+fn check_text_of(oid: &(impl std::fmt::Display + std::fmt::Debug + ?Sized), text: &str, name: &str) {
     let wide = text.len() + 9;
-    for printed in [
-        oid.to_string(),
-        format!("{oid:>wide$}"),
-        format!("{oid:#}"),
-        format!("{oid:.1}"),
-        format!("{oid:+09}"),
-    ] {
+    for printed in
+        [oid.to_string(), format!("{oid:>wide$}"), format!("{oid:#}"), format!("{oid:.1}"), format!("{oid:+09}")]
+    {
         assert_eq!(printed, text);
     }
     let debug = format!("{name}({text})");
@@ -413,59 +350,31 @@ fn check_encoded(
         let expected = (room >= len).then_some(len);
         let written = [text.as_bytes(), &[0xEE].repeat(room.saturating_sub(len))].concat();
         let untouched = [0xEE].repeat(room);
-        for encode in [
-            &encode_text as &dyn Fn(&mut [u8]) -> Option<usize>,
-            &encode_str,
-        ] {
+        for encode in [&encode_text as &dyn Fn(&mut [u8]) -> Option<usize>, &encode_str] {
             let mut out = untouched.clone();
             assert_eq!(encode(&mut out), expected, "{text}, {room}");
-            assert_eq!(
-                out,
-                if room >= len {
-                    &written[..]
-                } else {
-                    &untouched[..]
-                }
-            );
+            assert_eq!(out, if room >= len { &written[..] } else { &untouched[..] });
         }
     }
 }
 
 /// The functions of two identifiers, in each pair of forms.
 fn check_pair(a: &[u8], b: &[u8]) {
-    let (x, y) = (
-        ObjectIdentifierRef::from_bytes(a).unwrap(),
-        ObjectIdentifierRef::from_bytes(b).unwrap(),
-    );
+    let (x, y) = (ObjectIdentifierRef::from_bytes(a).unwrap(), ObjectIdentifierRef::from_bytes(b).unwrap());
     let (p, q) = (model::of_octets(a).unwrap(), model::of_octets(b).unwrap());
     let (is_equal, starts, by_arcs) = (a == b, p.starts_with(&q), p.cmp(&q));
-    assert_eq!(
-        (x == y, x != y, x.cmp(y), x.partial_cmp(y)),
-        (is_equal, !is_equal, a.cmp(b), Some(a.cmp(b)))
-    );
+    assert_eq!((x == y, x != y, x.cmp(y), x.partial_cmp(y)), (is_equal, !is_equal, a.cmp(b), Some(a.cmp(b))));
     assert_eq!((x.starts_with(y), x.cmp_arcs(y)), (starts, by_arcs));
-    let (Ok(i), Ok(j)) = (
-        ObjectIdentifier::<255>::try_from(x),
-        ObjectIdentifier::<255>::try_from(y),
-    ) else {
+    let (Ok(i), Ok(j)) = (ObjectIdentifier::<255>::try_from(x), ObjectIdentifier::<255>::try_from(y)) else {
         return;
     };
     let order: Ordering = a.len().cmp(&b.len()).then(a.cmp(b));
-    assert_eq!(
-        (i == j, i != j, i.cmp(&j), i.partial_cmp(&j)),
-        (is_equal, !is_equal, order, Some(order))
-    );
-    assert_eq!(
-        (i.starts_with(j), i.cmp_arcs(&j), *x == j),
-        (starts, by_arcs, is_equal)
-    );
+    assert_eq!((i == j, i != j, i.cmp(&j), i.partial_cmp(&j)), (is_equal, !is_equal, order, Some(order)));
+    assert_eq!((i.starts_with(j), i.cmp_arcs(&j), *x == j), (starts, by_arcs, is_equal));
     let Ok(small) = ObjectIdentifier::<39>::try_from(y) else {
         return;
     };
-    assert_eq!(
-        (i.starts_with(small), i.cmp_arcs(&small), *x == small),
-        (starts, by_arcs, is_equal)
-    );
+    assert_eq!((i.starts_with(small), i.cmp_arcs(&small), *x == small), (starts, by_arcs, is_equal));
 }
 
 /// Calls a check for all lists of up to `most` items over some, on as many threads as there are cores.
@@ -495,28 +404,14 @@ const EDGES: [u8; 8] = [0, 0x4F, 0x50, 0x7F, 0x80, 0x8F, 0x90, 0xFF];
 
 /// Identifiers of many lengths.
 fn valid() -> Vec<Vec<u8>> {
-    let groups: [&[u8]; 5] = [
-        &[0],
-        &[0x7F],
-        &[0x81, 0],
-        &[0x82, 0x80, 1],
-        &[0x8F, 0xFF, 0xFF, 0xFF, 0x7F],
-    ];
-    let lengths = (1..=60)
-        .chain(250..=260)
-        .chain([300, 1_021, 4_095, 4_096, 4_097, 9_000]);
+    let groups: [&[u8]; 5] = [&[0], &[0x7F], &[0x81, 0], &[0x82, 0x80, 1], &[0x8F, 0xFF, 0xFF, 0xFF, 0x7F]];
+    let lengths = (1..=60).chain(250..=260).chain([300, 1_021, 4_095, 4_096, 4_097, 9_000]);
     let mut out: Vec<Vec<u8>> = (0..0x80).map(|octet| vec![octet]).collect();
     for len in lengths {
         for group in groups {
             for root in [0x2A, 0x4F, 0x50] {
                 let mut octets = vec![root];
-                octets.extend(
-                    group
-                        .iter()
-                        .copied()
-                        .cycle()
-                        .take((len - 1) / group.len() * group.len()),
-                );
+                octets.extend(group.iter().copied().cycle().take((len - 1) / group.len() * group.len()));
                 out.push(octets);
             }
         }
@@ -554,11 +449,7 @@ fn reads_long_octets() {
 
 #[test]
 fn compares_pairs() {
-    let valid: Vec<Vec<u8>> = valid()
-        .into_iter()
-        .filter(|octets| octets.len() < 90)
-        .step_by(3)
-        .collect();
+    let valid: Vec<Vec<u8>> = valid().into_iter().filter(|octets| octets.len() < 90).step_by(3).collect();
     for a in &valid {
         for b in &valid {
             check_pair(a, b);
@@ -582,19 +473,7 @@ fn parses_texts() {
         }
     });
     all(
-        &[
-            "0",
-            "1",
-            "2",
-            "39",
-            "40",
-            ".",
-            "4294967295",
-            "4294967296",
-            "00",
-            "é",
-            "99999999999999999999",
-        ],
+        &["0", "1", "2", "39", "40", ".", "4294967295", "4294967296", "00", "é", "99999999999999999999"],
         5,
         |pieces| {
             let text = pieces.concat();
@@ -606,27 +485,9 @@ fn parses_texts() {
 
 #[test]
 fn encodes_arcs() {
-    all(
-        &[
-            0,
-            1,
-            2,
-            3,
-            39,
-            40,
-            47,
-            48,
-            127,
-            128,
-            16_383,
-            16_384,
-            u32::MAX,
-        ],
-        5,
-        |arcs| {
-            each_capacity!(read_arcs(arcs));
-        },
-    );
+    all(&[0, 1, 2, 3, 39, 40, 47, 48, 127, 128, 16_383, 16_384, u32::MAX], 5, |arcs| {
+        each_capacity!(read_arcs(arcs));
+    });
     for len in 0..300 {
         for arc in [0, 128, u32::MAX] {
             let arcs = [&[2, 999][..], &[arc].repeat(len)].concat();
@@ -658,11 +519,7 @@ impl Drawn {
     /// Arcs of an identifier, up to so many octets or a few more.
     fn arcs(&mut self, octets: usize) -> Vec<Arc> {
         let first = self.below(3) as Arc;
-        let second = if first < 2 {
-            self.below(40) as Arc
-        } else {
-            self.arc()
-        };
+        let second = if first < 2 { self.below(40) as Arc } else { self.arc() };
         let mut arcs = vec![first, second];
         let mut len = model::encoding(&arcs).len();
         while len < octets {
@@ -705,80 +562,38 @@ fn finds_names_past_255_octets() {
         let few = names.len() % 3 > 0;
         let mut arcs = vec![1, 3, 6, 1];
         let count = 100 + drawn.below(29);
-        arcs.resize_with(count, || {
-            if few {
-                drawn.below(128) as Arc
-            } else {
-                drawn.0 as Arc / 2 + drawn.arc() / 2
-            }
-        });
-        let text = arcs
-            .iter()
-            .map(Arc::to_string)
-            .collect::<Vec<_>>()
-            .join(".");
+        arcs.resize_with(count, || if few { drawn.below(128) as Arc } else { drawn.0 as Arc / 2 + drawn.arc() / 2 });
+        let text = arcs.iter().map(Arc::to_string).collect::<Vec<_>>().join(".");
         let mut out = vec![0; text.len()];
-        let octets = ObjectIdentifierRef::new_in(&text, &mut out)
-            .unwrap()
-            .as_bytes()
-            .to_vec();
+        let octets = ObjectIdentifierRef::new_in(&text, &mut out).unwrap().as_bytes().to_vec();
         assert_eq!(octets, model::encoding(&arcs));
         names.push((arcs, octets));
     }
-    assert!(
-        names
-            .iter()
-            .filter(|(_, octets)| octets.len() > 255)
-            .count()
-            > 3_333
-    );
+    assert!(names.iter().filter(|(_, octets)| octets.len() > 255).count() > 3_333);
     names.sort();
-    let sorted: Vec<ByArcs<&ObjectIdentifierRef>> = names
-        .iter()
-        .map(|(_, octets)| ByArcs(ObjectIdentifierRef::from_bytes(octets).unwrap()))
-        .collect();
+    let sorted: Vec<ByArcs<&ObjectIdentifierRef>> =
+        names.iter().map(|(_, octets)| ByArcs(ObjectIdentifierRef::from_bytes(octets).unwrap())).collect();
     assert!(sorted.is_sorted());
     for (index, (arcs, octets)) in names.iter().enumerate() {
         let mut out = vec![0; 5 * arcs.len()];
         let oid = ObjectIdentifierRef::from_arcs_in(arcs, &mut out).unwrap();
         assert_eq!(oid.as_bytes(), octets);
         assert_eq!(sorted.binary_search(&ByArcs(oid)), Ok(index));
-        assert!(
-            oid.to_string()
-                .split('.')
-                .map(|arc| arc.parse::<Arc>().unwrap())
-                .eq(arcs.iter().copied())
-        );
+        assert!(oid.to_string().split('.').map(|arc| arc.parse::<Arc>().unwrap()).eq(arcs.iter().copied()));
     }
 }
 
 #[test]
 fn finds_subtrees() {
-    let octets: Vec<Vec<u8>> = valid()
-        .into_iter()
-        .filter(|octets| octets.len() < 12)
-        .collect();
-    let mut sorted: Vec<&ObjectIdentifierRef> = octets
-        .iter()
-        .map(|octets| ObjectIdentifierRef::from_bytes(octets).unwrap())
-        .collect();
+    let octets: Vec<Vec<u8>> = valid().into_iter().filter(|octets| octets.len() < 12).collect();
+    let mut sorted: Vec<&ObjectIdentifierRef> =
+        octets.iter().map(|octets| ObjectIdentifierRef::from_bytes(octets).unwrap()).collect();
     sorted.sort_by_key(|oid| oid.as_bytes());
     for prefix in &octets {
-        let start = sorted
-            .iter()
-            .filter(|oid| oid.as_bytes() < &prefix[..])
-            .count();
-        let inside = sorted
-            .iter()
-            .filter(|oid| oid.as_bytes().starts_with(prefix))
-            .count();
+        let start = sorted.iter().filter(|oid| oid.as_bytes() < &prefix[..]).count();
+        let inside = sorted.iter().filter(|oid| oid.as_bytes().starts_with(prefix)).count();
         let oid = ObjectIdentifierRef::from_bytes(prefix).unwrap();
         assert_eq!(oid.subtree(&sorted), (start, start + inside));
-        assert_eq!(
-            ObjectIdentifier::<39>::try_from(oid)
-                .unwrap()
-                .subtree(&sorted),
-            (start, start + inside)
-        );
+        assert_eq!(ObjectIdentifier::<39>::try_from(oid).unwrap().subtree(&sorted), (start, start + inside));
     }
 }

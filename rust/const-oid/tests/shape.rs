@@ -1,8 +1,7 @@
 //! The shape of the crate: its public items with their traits, its constant functions, and its `Cargo.toml`.
 
 use const_oid::{
-    Arc, Arcs, AssociatedOid, Buffer, ByArcs, DynAssociatedOid, Error, ObjectIdentifier,
-    ObjectIdentifierRef, Result,
+    Arc, Arcs, AssociatedOid, Buffer, ByArcs, DynAssociatedOid, Error, ObjectIdentifier, ObjectIdentifierRef, Result,
 };
 use std::borrow::Borrow;
 use std::collections::BTreeSet;
@@ -90,10 +89,7 @@ const HIDDEN: [&str; 3] = ["erased/by_arcs.rs", "erased/oid_ref.rs", "erased/sea
 fn listed() -> impl Iterator<Item = [&'static str; 3]> {
     let lines = include_str!("../public-items.txt").lines();
     let rows = lines.map(|line| {
-        let row: Vec<&str> = line
-            .trim_start_matches("rust/const-oid/src/")
-            .split('\t')
-            .collect();
+        let row: Vec<&str> = line.trim_start_matches("rust/const-oid/src/").split('\t').collect();
         [row[0], row[1], row[2]]
     });
     rows.filter(|[path, ..]| !HIDDEN.contains(path))
@@ -126,10 +122,9 @@ fn each_listed_trait_is_asserted() {
     let asserted = &asserted | &db::TRAITS.iter().map(named).collect();
     let mut count = 0;
     for [path, _, head] in listed() {
-        let is_off = path == "arbitrary.rs" && !cfg!(feature = "arbitrary")
-            || path.contains("db") && !cfg!(feature = "db");
-        if is_off || head.contains('$') || head.contains("Contents for") || head.contains("List<I>")
-        {
+        let is_off =
+            path == "arbitrary.rs" && !cfg!(feature = "arbitrary") || path.contains("db") && !cfg!(feature = "db");
+        if is_off || head.contains('$') || head.contains("Contents for") || head.contains("List<I>") {
             continue;
         }
         let pairs: Vec<_> = if let Some(head) = head.strip_prefix("impl") {
@@ -137,17 +132,8 @@ fn each_listed_trait_is_asserted() {
             vec![(word(of), word(name))]
         } else if let Some(head) = head.strip_prefix("#[derive(") {
             let (names, item) = head.split_once(")] pub ").unwrap();
-            let of = item
-                .split_once(' ')
-                .unwrap()
-                .1
-                .split(['<', '('])
-                .next()
-                .unwrap();
-            names
-                .split(", ")
-                .map(|name| (of.into(), name.into()))
-                .collect()
+            let of = item.split_once(' ').unwrap().1.split(['<', '(']).next().unwrap();
+            names.split(", ").map(|name| (of.into(), name.into())).collect()
         } else {
             vec![]
         };
@@ -171,10 +157,7 @@ fn each_constant_function_is_called() {
             continue;
         };
         let name = head.split(['(', '<']).next().unwrap();
-        let of = after_parameters(owner.strip_prefix("impl").unwrap())
-            .split('<')
-            .next()
-            .unwrap();
+        let of = after_parameters(owner.strip_prefix("impl").unwrap()).split('<').next().unwrap();
         let tables = ["Database", "SortedDatabase"];
         let owners = if of == "$table" { &tables[..] } else { &[of] };
         if cfg!(feature = "db") || !path.contains("db") {
@@ -201,12 +184,9 @@ fn functions_have_their_types() {
     let _: fn([Arc; 3]) -> Result<ObjectIdentifier<7>> = ObjectIdentifier::from_arcs_sized;
     let _: fn(&[u8]) -> Result<ObjectIdentifier> = ObjectIdentifier::from_bytes;
     let _: fn(&[u8]) -> Result<ObjectIdentifier<7>> = ObjectIdentifier::from_bytes_sized;
-    let _: for<'o> fn(&str, &'o mut [u8]) -> Result<&'o ObjectIdentifierRef> =
-        ObjectIdentifierRef::new_in;
-    let _: for<'o> fn(&[u8], &'o mut [u8]) -> Result<&'o ObjectIdentifierRef> =
-        ObjectIdentifierRef::from_ascii_in;
-    let _: for<'o> fn(&[Arc], &'o mut [u8]) -> Result<&'o ObjectIdentifierRef> =
-        ObjectIdentifierRef::from_arcs_in;
+    let _: for<'o> fn(&str, &'o mut [u8]) -> Result<&'o ObjectIdentifierRef> = ObjectIdentifierRef::new_in;
+    let _: for<'o> fn(&[u8], &'o mut [u8]) -> Result<&'o ObjectIdentifierRef> = ObjectIdentifierRef::from_ascii_in;
+    let _: for<'o> fn(&[Arc], &'o mut [u8]) -> Result<&'o ObjectIdentifierRef> = ObjectIdentifierRef::from_arcs_in;
     let _: fn(&ObjectIdentifier<7>) -> Option<ObjectIdentifier<7>> = ObjectIdentifier::parent;
     let _: fn(&ObjectIdentifier<7>) -> Arcs<'_> = ObjectIdentifier::arcs;
     let _: fn(&ObjectIdentifierRef) -> Arcs<'_> = ObjectIdentifierRef::arcs;
@@ -247,17 +227,13 @@ fn types_have_identifiers() {
 /// The four operators are those of `cmp`, in both forms.
 #[test]
 fn operators_are_those_of_cmp() {
-    let oids =
-        ["0.0", "2.5.4.3", "2.5.4.6", "2.5.4.3.1", "2.999"].map(ObjectIdentifier::new_unwrap);
+    let oids = ["0.0", "2.5.4.3", "2.5.4.6", "2.5.4.3.1", "2.999"].map(ObjectIdentifier::new_unwrap);
     for a in &oids {
         for b in &oids {
             let (lent, other) = (a.as_oid_ref(), b.as_oid_ref());
             for (order, operators) in [
                 (a.cmp(b), [a < b, a <= b, a > b, a >= b]),
-                (
-                    lent.cmp(other),
-                    [lent < other, lent <= other, lent > other, lent >= other],
-                ),
+                (lent.cmp(other), [lent < other, lent <= other, lent > other, lent >= other]),
             ] {
                 let expected = [order.is_lt(), order.is_le(), order.is_gt(), order.is_ge()];
                 assert_eq!(operators, expected, "{a} {b}");
@@ -289,18 +265,9 @@ fn copies_where_it_fits() {
     for len in [1, 38, 39, 40, 63, 64, 65, 254, 255, 256] {
         let octets = vec![0x2A; len];
         for (capacity, is_copied) in [
-            (
-                39,
-                copied::<39>(&octets).is_ok_and(|oid| oid.as_bytes() == octets),
-            ),
-            (
-                64,
-                copied::<64>(&octets).is_ok_and(|oid| oid.as_bytes() == octets),
-            ),
-            (
-                255,
-                copied::<255>(&octets).is_ok_and(|oid| oid.as_bytes() == octets),
-            ),
+            (39, copied::<39>(&octets).is_ok_and(|oid| oid.as_bytes() == octets)),
+            (64, copied::<64>(&octets).is_ok_and(|oid| oid.as_bytes() == octets)),
+            (255, copied::<255>(&octets).is_ok_and(|oid| oid.as_bytes() == octets)),
         ] {
             assert_eq!(is_copied, len <= capacity, "{len} {capacity}");
         }
@@ -351,10 +318,7 @@ fn settings(path: &str) -> Vec<(String, String)> {
     let text = std::fs::read_to_string(path).unwrap();
     let mut section = "";
     let mut out = Vec::new();
-    for line in text
-        .lines()
-        .filter(|line| !line.starts_with('#') && !line.is_empty())
-    {
+    for line in text.lines().filter(|line| !line.starts_with('#') && !line.is_empty()) {
         if line.starts_with('[') {
             section = line.trim_matches(['[', ']']);
             out.push((section.into(), String::new()));
@@ -396,10 +360,7 @@ fn the_manifest_has_what_cargo_reads() {
         ("example.name", "\"oid\""),
         ("example.required-features", "[\"db\"]"),
     ];
-    assert_eq!(
-        found,
-        expected.map(|(key, value)| (key.to_string(), value.to_string()))
-    );
+    assert_eq!(found, expected.map(|(key, value)| (key.to_string(), value.to_string())));
 }
 
 /// The tests see a sum that overflows.
@@ -418,13 +379,7 @@ fn unsafe_code_is_where_it_is_allowed() {
     let denied = "#![deny(unsafe_op_in_unsafe_fn, clippy::undocumented_unsafe_blocks)]";
     assert!(for_c.contains(&format!("\n#![no_std]\n{denied}\n")));
     let (_, generated) = for_c.split_once("#[forbid(unsafe_code)]").unwrap();
-    assert!(
-        generated
-            .split_once("mod ")
-            .unwrap()
-            .1
-            .starts_with("erased;")
-    );
+    assert!(generated.split_once("mod ").unwrap().1.starts_with("erased;"));
 }
 
 /// The other packages of this workspace are for the same Rust.
@@ -432,39 +387,22 @@ fn unsafe_code_is_where_it_is_allowed() {
 fn rust_versions() {
     for package in ["arbitrary", "compare_builds", "const-oid-c", "erase"] {
         let settings = settings(&format!("../{package}/Cargo.toml"));
-        let version = settings
-            .iter()
-            .find(|(key, _)| key == "package.rust-version");
-        assert_eq!(
-            version.map(|(_, version)| &**version),
-            Some("\"1.85\""),
-            "{package}"
-        );
+        let version = settings.iter().find(|(key, _)| key == "package.rust-version");
+        assert_eq!(version.map(|(_, version)| &**version), Some("\"1.85\""), "{package}");
     }
 }
 
 /// The library for C has the version of its header.
 #[test]
 fn the_library_for_c_has_the_version_of_its_header() {
-    let header = concat!(
-        env!("CARGO_MANIFEST_DIR"),
-        "/../../crates/const_oid_c/include/const_oid.h"
-    );
+    let header = concat!(env!("CARGO_MANIFEST_DIR"), "/../../crates/const_oid_c/include/const_oid.h");
     let header = std::fs::read_to_string(header).unwrap();
     let part = |name: &str| {
         let define = format!("#define CONST_OID_VERSION_{name} ");
         let (_, rest) = header.split_once(&define).unwrap();
-        rest.lines()
-            .next()
-            .unwrap()
-            .trim()
-            .trim_end_matches(['u', 'U'])
-            .to_string()
+        rest.lines().next().unwrap().trim().trim_end_matches(['u', 'U']).to_string()
     };
     let version = ["MAJOR", "MINOR", "PATCH"].map(part).join(".");
     let settings = settings("../const-oid-c/Cargo.toml");
-    assert!(
-        settings.contains(&("package.version".into(), format!("\"{version}\""))),
-        "{version}"
-    );
+    assert!(settings.contains(&("package.version".into(), format!("\"{version}\""))), "{version}");
 }

@@ -9,8 +9,7 @@ pub fn header(table: &str) -> Result<String> {
     let mut sorted: Vec<(usize, &Row)> = rows.iter().enumerate().collect();
     sorted.sort_by(|a, b| a.1.arcs.cmp(&b.1.arcs));
     let entries = sorted.iter().enumerate();
-    let mut by_place: Vec<(usize, usize)> =
-        entries.map(|(index, (place, _))| (*place, index)).collect();
+    let mut by_place: Vec<(usize, usize)> = entries.map(|(index, (place, _))| (*place, index)).collect();
     by_place.sort();
     // At least one place is free.
     let places = (rows.len() + 1).next_power_of_two();
@@ -31,21 +30,13 @@ pub fn header(table: &str) -> Result<String> {
     let parts: [(&str, String); 6] = [
         ("@COUNT@", rows.len().to_string()),
         ("@CONSTANTS@", rows.iter().map(define).collect()),
-        (
-            "@OCTETS@",
-            sorted.iter().map(|entry| item(entry.1)).collect(),
-        ),
-        (
-            "@NAMES@",
-            sorted.iter().map(|entry| name(entry.1)).collect(),
-        ),
+        ("@OCTETS@", sorted.iter().map(|entry| item(entry.1)).collect()),
+        ("@NAMES@", sorted.iter().map(|entry| name(entry.1)).collect()),
         ("@PLACES@", places.to_string()),
         ("@BY_HASH@", indexes.chunks(16).map(line).collect()),
     ];
     let filled = |header: String, (mark, text): (&str, String)| header.replace(mark, &text);
-    Ok(parts
-        .into_iter()
-        .fold(include_str!("c_names.h").into(), filled))
+    Ok(parts.into_iter().fold(include_str!("c_names.h").into(), filled))
 }
 
 /// The hash of a name, as `c_names.h` has it. The last five bits of a letter are those of both cases.
@@ -58,31 +49,22 @@ fn hash(name: &str) -> usize {
 pub fn octets(arcs: &[u64]) -> String {
     let mut octets = subidentifier(40 * arcs[0] + arcs[1]);
     octets.extend(arcs[2..].iter().flat_map(|arc| subidentifier(*arc)));
-    octets
-        .iter()
-        .map(|octet| format!("\\x{octet:02X}"))
-        .collect()
+    octets.iter().map(|octet| format!("\\x{octet:02X}")).collect()
 }
 
 /// A number in base 128, with bit 8 in all octets but the last.
 fn subidentifier(number: u64) -> Vec<u8> {
-    let digits = (1..10)
-        .find(|digits| number >> (7 * digits) == 0)
-        .unwrap_or(10);
+    let digits = (1..10).find(|digits| number >> (7 * digits) == 0).unwrap_or(10);
     let digit = |index: u32| (number >> (7 * index)) as u8 & 0x7F | u8::from(index > 0) << 7;
     (0..digits).rev().map(digit).collect()
 }
 
 #[test]
 fn lists_the_rows_in_the_order_of_arcs_and_by_hash() {
-    let made =
-        header("# head\na\tX\t1.2.840\tx\na\tY\t1.2\tY\nb\tX\t2.999\t\"\nb\tY\t1.2\tX\n").unwrap();
+    let made = header("# head\na\tX\t1.2.840\tx\na\tY\t1.2\tY\nb\tX\t2.999\t\"\nb\tY\t1.2\tX\n").unwrap();
     let lines: Vec<&str> = made
         .lines()
-        .filter(|line| {
-            line.starts_with("#define CONST_OID_")
-                || line.starts_with("    ") && line.ends_with(',')
-        })
+        .filter(|line| line.starts_with("#define CONST_OID_") || line.starts_with("    ") && line.ends_with(','))
         .collect();
     assert_eq!(
         lines[lines.len() - 14..],

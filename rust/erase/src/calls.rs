@@ -17,11 +17,7 @@ const KINDS: [(&str, &str); 9] = [
 ];
 
 /// Types of results, and those of C.
-const RESULTS: [(&str, &str); 3] = [
-    ("Status", "const_oid_status"),
-    ("u32", "uint32_t"),
-    ("i32", "int"),
-];
+const RESULTS: [(&str, &str); 3] = [("Status", "const_oid_status"), ("u32", "uint32_t"), ("i32", "int")];
 
 /// The types that declarations are over.
 const TYPES: &str = "
@@ -61,25 +57,18 @@ impl Call {
         let head = item.head.strip_prefix("pub extern \"C\" fn ")?;
         let (name, rest) = head.split_once('(')?;
         let (arguments, result) = rest.split_once(") -> ")?;
-        let arguments = arguments
-            .split(", ")
-            .filter_map(|text| text.split_once(": "));
+        let arguments = arguments.split(", ").filter_map(|text| text.split_once(": "));
         Some(Call {
             module: module.into(),
             name: name.into(),
-            arguments: arguments
-                .map(|(name, of)| (name.into(), of.into()))
-                .collect(),
+            arguments: arguments.map(|(name, of)| (name.into(), of.into())).collect(),
             result: result.into(),
         })
     }
 
     /// The head over pointers, and what the function over slices is given.
     fn over_pointers(&self) -> (String, String) {
-        let arguments = self
-            .arguments
-            .iter()
-            .map(|(name, of)| over_pointers(name, of));
+        let arguments = self.arguments.iter().map(|(name, of)| over_pointers(name, of));
         let (parameters, given): (Vec<String>, Vec<String>) = arguments.unzip();
         let (name, result) = (&self.name, &self.result);
         let head = format!("fn {name}({}) -> {result}", parameters.join(", "));
@@ -103,30 +92,19 @@ impl Call {
         let mut out = format!("CALL({}, {}", known(&RESULTS, &self.result)?, self.name);
         for (index, (name, of)) in self.arguments.iter().enumerate() {
             let kind = known(&KINDS, of)?;
-            let is_text = name == "text"
-                || name == "out"
-                    && ["const_oid_to_text", "const_oid_error_text"].contains(&&*self.name);
-            let kind = if is_text {
-                kind.replace("OCTETS", "TEXT")
-            } else {
-                kind.into()
-            };
+            let is_text =
+                name == "text" || name == "out" && ["const_oid_to_text", "const_oid_error_text"].contains(&&*self.name);
+            let kind = if is_text { kind.replace("OCTETS", "TEXT") } else { kind.into() };
             out += &format!(", ARGUMENT({kind}, {index})");
         }
-        Ok(out
-            + if self.arguments.is_empty() {
-                ", NOTHING)\n"
-            } else {
-                ")\n"
-            })
+        Ok(out + if self.arguments.is_empty() { ", NOTHING)\n" } else { ")\n" })
     }
 }
 
 /// What a table has for a type.
 fn known(table: &[(&str, &'static str)], of: &str) -> Result<&'static str, String> {
     let row = table.iter().find(|row| row.0 == of);
-    row.map(|row| row.1)
-        .ok_or(format!("no function for C has the type {of}"))
+    row.map(|row| row.1).ok_or(format!("no function for C has the type {of}"))
 }
 
 /// The parameters of an argument over pointers, and what is made of them. A slice is a pointer and a length.
@@ -136,18 +114,9 @@ fn over_pointers(name: &str, of: &str) -> (String, String) {
         (None, Some(rest)) => ("*const", rest, "input", "&"),
         (None, None) => return (format!("{name}: {of}"), name.into()),
     };
-    match rest
-        .strip_prefix('[')
-        .and_then(|rest| rest.strip_suffix(']'))
-    {
-        Some(item) => (
-            format!("{name}: {pointer} {item}, {name}_len: usize"),
-            format!("{slice}({name}, {name}_len)"),
-        ),
-        None => (
-            format!("{name}: {pointer} {rest}"),
-            format!("{one}{slice}({name}, 1)[0]"),
-        ),
+    match rest.strip_prefix('[').and_then(|rest| rest.strip_suffix(']')) {
+        Some(item) => (format!("{name}: {pointer} {item}, {name}_len: usize"), format!("{slice}({name}, {name}_len)")),
+        None => (format!("{name}: {pointer} {rest}"), format!("{one}{slice}({name}, 1)[0]")),
     }
 }
 
@@ -163,9 +132,7 @@ pub fn exports(calls: &[Call]) -> String {
 
 /// Declarations of the exported functions.
 pub fn declarations(calls: &[Call]) -> String {
-    let declared = calls
-        .iter()
-        .map(|call| format!("pub {};\n", call.over_pointers().0.replace("<'_>", "")));
+    let declared = calls.iter().map(|call| format!("pub {};\n", call.over_pointers().0.replace("<'_>", "")));
     let declared = declared.collect::<String>();
     format!(
         "//! The functions of the library for C, as its header declares them.\n{TYPES}\nunsafe extern \"C\" {{\n{declared}}}\n"
@@ -189,39 +156,18 @@ mod tests {
     fn writes_what_the_types_say() {
         let call = |head: &str| {
             let head = format!("pub extern \"C\" fn {head}");
-            Call::of(
-                "m",
-                &Item {
-                    head,
-                    ..Item::default()
-                },
-            )
-            .unwrap()
+            Call::of("m", &Item { head, ..Item::default() }).unwrap()
         };
-        let one =
-            call("f(text: &[u8], a: u32, b: &mut [u32], c: &mut Range, d: &Octets<'_>) -> i32");
+        let one = call("f(text: &[u8], a: u32, b: &mut [u32], c: &mut Range, d: &Octets<'_>) -> i32");
         let head = "fn f(text: *const u8, text_len: usize, a: u32, b: *mut u32, b_len: usize, c: *mut Range, d: *const Octets<'_>) -> i32";
-        let given =
-            "input(text, text_len), a, output(b, b_len), &mut output(c, 1)[0], &input(d, 1)[0]";
+        let given = "input(text, text_len), a, output(b, b_len), &mut output(c, 1)[0], &input(d, 1)[0]";
         assert_eq!(one.over_pointers(), (head.into(), given.into()));
         assert_eq!(
             one.row().unwrap(),
             "CALL(int, f, ARGUMENT(TEXT, 0), ARGUMENT(NUMBER, 1), ARGUMENT(ARCS_OUT, 2), ARGUMENT(RANGE_OUT, 3), ARGUMENT(ITEM, 4))\n"
         );
-        assert_eq!(
-            call("g() -> u32").row().unwrap(),
-            "CALL(uint32_t, g, NOTHING)\n"
-        );
+        assert_eq!(call("g() -> u32").row().unwrap(), "CALL(uint32_t, g, NOTHING)\n");
         assert!(call("g(a: u64) -> u32").row().is_err() && call("g() -> u64").row().is_err());
-        assert!(
-            Call::of(
-                "m",
-                &Item {
-                    head: "pub fn f()".into(),
-                    ..Item::default()
-                }
-            )
-            .is_none()
-        );
+        assert!(Call::of("m", &Item { head: "pub fn f()".into(), ..Item::default() }).is_none());
     }
 }

@@ -5,17 +5,9 @@ use crate::table::Crate;
 use crate::token::{Token, tokens};
 
 /// The tokens with `new` in place of `old`, and how often. Neither space nor comments are compared.
-pub fn replaced<'a>(
-    source: &[Token<'a>],
-    old: &'a str,
-    new: &'a str,
-) -> Result<(Vec<Token<'a>>, usize)> {
+pub fn replaced<'a>(source: &[Token<'a>], old: &'a str, new: &'a str) -> Result<(Vec<Token<'a>>, usize)> {
     let (old, new) = (tokens(old)?, tokens(new)?);
-    let old: Vec<&str> = old
-        .iter()
-        .filter(|token| !token.is_blank())
-        .map(|token| token.text)
-        .collect();
+    let old: Vec<&str> = old.iter().filter(|token| !token.is_blank()).map(|token| token.text).collect();
     let mut out = Vec::new();
     let (mut at, mut count) = (0, 0);
     while at < source.len() {
@@ -53,12 +45,7 @@ fn end_of(source: &[Token<'_>], texts: &[&str]) -> Option<usize> {
 }
 
 /// The tokens of a module after the edits of the table. Each edit adds to its count.
-pub fn edited<'a>(
-    source: Vec<Token<'a>>,
-    table: &Crate,
-    module: &str,
-    counts: &mut [usize],
-) -> Result<Vec<Token<'a>>> {
+pub fn edited<'a>(source: Vec<Token<'a>>, table: &Crate, module: &str, counts: &mut [usize]) -> Result<Vec<Token<'a>>> {
     let mut out = replaced(&source, "crate::", table.root)?.0;
     for (edit, total) in table.edits.iter().zip(counts) {
         if edit.module.is_empty() || edit.module.trim_end_matches('*') == module {
@@ -75,10 +62,7 @@ pub fn all_made(table: &Crate, counts: &[usize]) -> Result<()> {
     for (edit, count) in table.edits.iter().zip(counts) {
         let is_once = !edit.module.is_empty() && !edit.module.ends_with('*');
         if *count == 0 || (*count > 1 && is_once) {
-            let words = format!(
-                "the table has `{}` ({}), which is there {count} times",
-                edit.old, edit.why
-            );
+            let words = format!("the table has `{}` ({}), which is there {count} times", edit.old, edit.why);
             return Err(Fault::new(0, words));
         }
     }
@@ -92,8 +76,7 @@ mod tests {
     use crate::token::text;
 
     fn text_of(source: &str, old: &'static str, new: &'static str) -> (String, usize) {
-        let out =
-            replaced(&tokens(source).unwrap(), old, new).map(|(out, count)| (text(&out), count));
+        let out = replaced(&tokens(source).unwrap(), old, new).map(|(out, count)| (text(&out), count));
         out.unwrap()
     }
 
@@ -101,14 +84,8 @@ mod tests {
     fn replaces_each_place_by_tokens() {
         let source = "a[b, // c\n b] a[ b]ab";
         let expect = |text: &str, count| (text.to_string(), count);
-        assert_eq!(
-            text_of(source, "a [b]", "x"),
-            expect("a[b, // c\n b] xab", 1)
-        );
-        assert_eq!(
-            text_of(source, "b", "c"),
-            expect("a[c, // c\n c] a[ c]ab", 3)
-        );
+        assert_eq!(text_of(source, "a [b]", "x"), expect("a[b, // c\n b] xab", 1));
+        assert_eq!(text_of(source, "b", "c"), expect("a[c, // c\n c] a[ c]ab", 3));
         assert_eq!(text_of(source, "b,b", ""), expect("a[] a[ b]ab", 1));
         assert_eq!(text_of("mod a; // c", "mod a;", ""), expect("// c", 1));
         assert_eq!(text_of(source, "ab b", "x"), expect(source, 0));
@@ -116,20 +93,9 @@ mod tests {
 
     #[test]
     fn each_edit_has_its_places() {
-        let edit = |module| Edit {
-            module,
-            old: "a",
-            new: "b",
-            why: "c",
-        };
+        let edit = |module| Edit { module, old: "a", new: "b", why: "c" };
         let edits: &'static [Edit] = Vec::leak(vec![edit(""), edit("m"), edit("m*")]);
-        let table = Crate {
-            from: "",
-            to: "",
-            root: "x::",
-            edits,
-            with_examples: &[],
-        };
+        let table = Crate { from: "", to: "", root: "x::", edits, with_examples: &[] };
         let mut counts = [0, 0, 0];
         for (module, source) in [("l", "a a"), ("m", "crate::b")] {
             edited(tokens(source).unwrap(), &table, module, &mut counts).unwrap();

@@ -25,10 +25,7 @@ const SYNTAX: [(&str, &str); 7] = [
     ("#[unsafe(no_mangle)]", ""),
     ("extern \"C\"", ""),
     // Rust's formatter has no type of its output.
-    (
-        "<W: fmt::Write>(&self, f: &mut fmt::Formatter<W>)",
-        "(&self, f: &mut fmt::Formatter<'_>)",
-    ),
+    ("<W: fmt::Write>(&self, f: &mut fmt::Formatter<W>)", "(&self, f: &mut fmt::Formatter<'_>)"),
     ("std::", "core::"),
 ];
 
@@ -54,9 +51,7 @@ fn without_ghosts<'a>(tokens: &[Token<'a>]) -> Result<Tokens<'a>> {
             "requires" | "ensures" => leave_out(clause_end(tokens, at)?)?,
             "impl" if is_of_model(tokens, at) => leave_out(item_end(tokens, at))?,
             // One of a function, with the end of its line.
-            "#" if is_tactic(tokens, at) => {
-                item_end(tokens, at) + usize::from(!is(tokens, at + 1, "!"))
-            }
+            "#" if is_tactic(tokens, at) => item_end(tokens, at) + usize::from(!is(tokens, at + 1, "!")),
             OMIT => leave_out(omitted_end(tokens, at)?)? + 1,
             CONST if command.is_none() => {
                 command = Some(token);
@@ -97,10 +92,7 @@ fn leave_out(out: &mut Tokens<'_>, tokens: &[Token<'_>], at: usize, end: usize) 
     while out.last().is_some_and(is_gap) {
         out.pop();
     }
-    out.push(Token {
-        text: "\n",
-        line: 0,
-    });
+    out.push(Token { text: "\n", line: 0 });
     Ok(end)
 }
 
@@ -108,11 +100,7 @@ fn leave_out(out: &mut Tokens<'_>, tokens: &[Token<'_>], at: usize, end: usize) 
 fn omitted_end(tokens: &[Token<'_>], at: usize) -> Result<usize> {
     let end = tokens[at..].iter().position(|token| token.text == ";");
     let end = end.map_or(at, |end| at + end + 1);
-    let has = |words: &[&str]| {
-        tokens[at..end]
-            .iter()
-            .any(|token| words.contains(&token.text))
-    };
+    let has = |words: &[&str]| tokens[at..end].iter().any(|token| words.contains(&token.text));
     let is_item = has(&["mod", "use"]) && !has(&["fn", "struct", "impl"]);
     is_item.then_some(end).ok_or_else(|| fault_of(tokens[at]))
 }
@@ -179,14 +167,8 @@ pub fn clause_end(tokens: &[Token<'_>], from: usize) -> Result<usize> {
 
 /// The modules that a source declares.
 pub fn modules(tokens: &[Token<'_>]) -> Vec<String> {
-    let solid: Vec<Token<'_>> = tokens
-        .iter()
-        .filter(|token| !token.is_blank())
-        .copied()
-        .collect();
-    let declared = solid
-        .windows(3)
-        .filter(|item| item[0].text == "mod" && item[2].text == ";");
+    let solid: Vec<Token<'_>> = tokens.iter().filter(|token| !token.is_blank()).copied().collect();
+    let declared = solid.windows(3).filter(|item| item[0].text == "mod" && item[2].text == ";");
     declared.map(|item| item[1].text.to_string()).collect()
 }
 
@@ -237,13 +219,7 @@ mod tests {
 
     #[test]
     fn refuses_unknown_forms() {
-        for source in [
-            "ghost fn f() {} fn g();",
-            "ghost a = 1;",
-            "ghost a = { b } c;",
-            "ghost use a",
-            "ghost",
-        ] {
+        for source in ["ghost fn f() {} fn g();", "ghost a = 1;", "ghost a = { b } c;", "ghost use a", "ghost"] {
             assert_eq!(erased(source).unwrap_err(), "1: an unknown form of `ghost`");
         }
         let words = "2: `ensures` without its braces";

@@ -15,10 +15,7 @@ impl Examples {
             is_code ^= line.starts_with("```");
             if let Some(heading) = line.strip_prefix("# ").filter(|_| !is_code) {
                 item = heading.into();
-                if all
-                    .insert(item.clone(), (index + 1, String::new()))
-                    .is_some()
-                {
+                if all.insert(item.clone(), (index + 1, String::new())).is_some() {
                     return Err(Fault::new(index + 1, format!("`{item}` is here twice")));
                 }
             } else if let Some((_, example)) = all.get_mut(&item) {
@@ -32,9 +29,7 @@ impl Examples {
     fn take(&mut self, item: &str) -> Option<String> {
         let (_, example) = self.0.remove(item)?;
         let text = format!("\n# Examples\n\n{}", example.trim());
-        let lines = text
-            .lines()
-            .map(|line| format!("\n{}", format!("/// {line}").trim_end()));
+        let lines = text.lines().map(|line| format!("\n{}", format!("/// {line}").trim_end()));
         (!example.trim().is_empty()).then(|| lines.collect())
     }
 
@@ -42,9 +37,7 @@ impl Examples {
     pub fn all_taken(&self) -> Result<()> {
         let words = |item| format!("`{item}` is no public item");
         let mut left = self.0.iter();
-        left.next().map_or(Ok(()), |(item, (line, _))| {
-            Err(Fault::new(*line, words(item)))
-        })
+        left.next().map_or(Ok(()), |(item, (line, _))| Err(Fault::new(*line, words(item))))
     }
 
     /// The source of tokens, in which each of these types and of their public functions has its example after its
@@ -92,9 +85,7 @@ fn public<'a>(tokens: &[Token<'a>], at: usize, kinds: &[&str]) -> Option<&'a str
         return None;
     }
     let words = tokens[at + 1..].iter().filter(|token| !token.is_blank());
-    let mut words = words
-        .map(|token| token.text)
-        .filter(|word| *word != "const");
+    let mut words = words.map(|token| token.text).filter(|word| *word != "const");
     words.next().filter(|kind| kinds.contains(kind))?;
     words.next()
 }
@@ -104,8 +95,7 @@ mod tests {
     use super::*;
     use crate::token::tokens;
 
-    const PAGE: &str =
-        "Head.\n\n# S\n\n```\n# Ok(())\n```\n\n# S.a\nOne.\n\nTwo.\n# S.b\nThree.\n# S.z\n\n";
+    const PAGE: &str = "Head.\n\n# S\n\n```\n# Ok(())\n```\n\n# S.a\nOne.\n\nTwo.\n# S.b\nThree.\n# S.z\n\n";
 
     fn examples() -> Examples {
         Examples::new(PAGE).unwrap()

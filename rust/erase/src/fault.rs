@@ -11,9 +11,6 @@ pub struct Fault {
 
 impl Fault {
     pub fn new(line: usize, words: impl Into<String>) -> Self {
-        Fault {
-            line,
-            words: words.into(),
-        }
+        Fault { line, words: words.into() }
     }
 }

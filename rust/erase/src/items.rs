@@ -5,15 +5,7 @@ use crate::fault::Result;
 use crate::token::{Token, close, is, solid};
 
 /// Attributes that a caller can tell.
-const TOLD: [&str; 7] = [
-    "cfg",
-    "deprecated",
-    "derive",
-    "doc(hidden)",
-    "must_use",
-    "non_exhaustive",
-    "repr",
-];
+const TOLD: [&str; 7] = ["cfg", "deprecated", "derive", "doc(hidden)", "must_use", "non_exhaustive", "repr"];
 
 /// An item, and the head of what it is in.
 #[derive(Default)]
@@ -50,14 +42,7 @@ struct Place<'a> {
 pub fn items(tokens: &[Token<'_>]) -> Result<Vec<Item>> {
     let mut out = Vec::new();
     let owner = "";
-    collect(
-        tokens,
-        Place {
-            owner,
-            by: By::Itself,
-        },
-        &mut out,
-    )?;
+    collect(tokens, Place { owner, by: By::Itself }, &mut out)?;
     Ok(out)
 }
 
@@ -96,21 +81,13 @@ fn ghost(tokens: &[Token<'_>], at: usize, owner: &str) -> Option<Item> {
     is(tokens, open, "{").then(|| Item {
         owner: owner.into(),
         head: format!("ghost {}", tokens[name].text),
-        clauses: vec![(
-            tokens[sign].text.into(),
-            plain(&tokens[open + 1..close(tokens, open)]),
-        )],
+        clauses: vec![(tokens[sign].text.into(), plain(&tokens[open + 1..close(tokens, open)]))],
         ..Item::default()
     })
 }
 
 /// Adds the item that tokens begin with, and those in it. Returns the index after it.
-fn item(
-    tokens: &[Token<'_>],
-    place: Place<'_>,
-    told: String,
-    out: &mut Vec<Item>,
-) -> Result<usize> {
+fn item(tokens: &[Token<'_>], place: Place<'_>, told: String, out: &mut Vec<Item>) -> Result<usize> {
     let (head_end, end) = ends(tokens)?;
     let head = plain(&tokens[..head_end]);
     let kind = kind_of(&head);
@@ -246,10 +223,7 @@ fn macro_end(
     out: &mut Vec<Item>,
 ) -> Result<usize> {
     let is_public = place.by != By::Nothing;
-    let below = |by| Place {
-        owner: head,
-        by: if is_public { by } else { By::Nothing },
-    };
+    let below = |by| Place { owner: head, by: if is_public { by } else { By::Nothing } };
     let inside = &tokens[open + 1..close(tokens, open)];
     if head.contains("macro_rules!") {
         let mut at = 0;
@@ -304,21 +278,10 @@ fn parts(tokens: &[Token<'_>], place: Place<'_>, out: &mut Vec<Item>) {
 
 /// Tokens without comments, with one space where there is some.
 fn plain(tokens: &[Token<'_>]) -> String {
-    let texts = tokens.iter().map(|token| {
-        if token.text.starts_with("//") {
-            ""
-        } else {
-            token.text
-        }
-    });
+    let texts = tokens.iter().map(|token| if token.text.starts_with("//") { "" } else { token.text });
     let text = texts.collect::<String>();
     let text = text.split_whitespace().collect::<Vec<_>>().join(" ");
-    text.replace("( ", "(")
-        .replace(", )", ")")
-        .replace(" )", ")")
-        .replace(", }", " }")
-        .trim_end_matches(',')
-        .into()
+    text.replace("( ", "(").replace(", )", ")").replace(" )", ")").replace(", }", " }").trim_end_matches(',').into()
 }
 
 #[cfg(test)]
@@ -348,9 +311,7 @@ mod tests {
             let (source, expected) = row.split_once(" ⇒ ").unwrap();
             let mut found = Vec::new();
             for item in items(&tokens(source).unwrap()).unwrap() {
-                let row = |(name, text): &(String, String)| {
-                    format!("{} / {} / {name} / {text}", item.owner, item.head)
-                };
+                let row = |(name, text): &(String, String)| format!("{} / {} / {name} / {text}", item.owner, item.head);
                 found.extend(item.clauses.iter().map(row));
             }
             assert_eq!(found.join(" ⇒ "), expected, "{source}");

@@ -30,10 +30,8 @@ macro_rules! edits {
 }
 
 const LANES: &str = "lanes are unstable in Rust";
-const EQUALITY: &str =
-    "constants in patterns need the derived `==`; zeros follow the octets in use (`ghost zeros`)";
-const UNSIZED: &str =
-    "the crate's borrowed form is unsized, and its function of this name is of that form";
+const EQUALITY: &str = "constants in patterns need the derived `==`; zeros follow the octets in use (`ghost zeros`)";
+const UNSIZED: &str = "the crate's borrowed form is unsized, and its function of this name is of that form";
 const LENT: &str = "the crate's borrowed form is unsized, and lies behind a reference";
 const BY_CORE: &str = "`core` compares slices by `memcmp`, which takes less time";
 const BOUNDS: &str = "a bound at no cost, where Rattle keeps the default of the trait";

@@ -106,8 +106,7 @@ fn nest(tokens: &[Token<'_>]) -> Result<()> {
             return Err(Fault::new(token.line, words));
         }
     }
-    let unclosed =
-        |last: &Token<'_>| Fault::new(last.line, format!("`{}` is not closed", last.text));
+    let unclosed = |last: &Token<'_>| Fault::new(last.line, format!("`{}` is not closed", last.text));
     open.pop().map_or(Ok(()), |last| Err(unclosed(last)))
 }
 
@@ -157,14 +156,8 @@ mod tests {
 
     #[test]
     fn reads_quotes_and_names() {
-        assert_eq!(
-            solid_texts(r#"b'.' '\'' 'a "}\"" b"x" bee"#),
-            ["b'.'", r"'\''", "'a", r#""}\"""#, "b\"x\"", "bee"]
-        );
-        assert_eq!(
-            solid_texts("λ a. a' ≡ 1 // {\n"),
-            ["λ", "a", ".", "a", "'", "≡", "1"]
-        );
+        assert_eq!(solid_texts(r#"b'.' '\'' 'a "}\"" b"x" bee"#), ["b'.'", r"'\''", "'a", r#""}\"""#, "b\"x\"", "bee"]);
+        assert_eq!(solid_texts("λ a. a' ≡ 1 // {\n"), ["λ", "a", ".", "a", "'", "≡", "1"]);
     }
 
     #[test]

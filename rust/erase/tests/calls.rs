@@ -8,26 +8,11 @@ const MISSING: &[(&str, &str)] = &[
     ("laws", "its functions have contracts, and no effect"),
     ("oid::try_from_ref", "`TryFrom`"),
     ("oid_ref::eq_oid", "`==`"),
-    (
-        "oid_ref::bytes_from_arcs",
-        "`from_arcs_in`; the library for C calls it",
-    ),
-    (
-        "oid_ref::bytes_from_ascii",
-        "`from_ascii_in`; the library for C calls it",
-    ),
-    (
-        "oid_ref::bytes_len_from_arcs",
-        "`from_arcs_in`; the library for C calls it",
-    ),
-    (
-        "oid_ref::bytes_len_from_ascii",
-        "`from_ascii_in`; the library for C calls it",
-    ),
-    (
-        "oid_ref::text_from_bytes",
-        "`from_bytes` and `encode_text`; the library for C calls it",
-    ),
+    ("oid_ref::bytes_from_arcs", "`from_arcs_in`; the library for C calls it"),
+    ("oid_ref::bytes_from_ascii", "`from_ascii_in`; the library for C calls it"),
+    ("oid_ref::bytes_len_from_arcs", "`from_arcs_in`; the library for C calls it"),
+    ("oid_ref::bytes_len_from_ascii", "`from_ascii_in`; the library for C calls it"),
+    ("oid_ref::text_from_bytes", "`from_bytes` and `encode_text`; the library for C calls it"),
     ("traits::position_of", "`iter().position(..)`"),
 ];
 
@@ -82,13 +67,8 @@ const IN_C: &[(&str, &str)] = &[
 ];
 
 /// Functions for C of what has no name in Rattle, is an operator there, or is `arcs().skip(first)` or `is_sorted_by_key`.
-const OF_C: [&str; 5] = [
-    "const_oid_arcs_from",
-    "const_oid_check_sorted",
-    "const_oid_cmp",
-    "const_oid_cmp_owned",
-    "const_oid_version",
-];
+const OF_C: [&str; 5] =
+    ["const_oid_arcs_from", "const_oid_check_sorted", "const_oid_cmp", "const_oid_cmp_owned", "const_oid_version"];
 
 /// The public functions of a list of items, each with the path of its source.
 fn functions(list: &str) -> Vec<(String, String)> {
@@ -107,10 +87,7 @@ fn of_source(folder: &str) -> Vec<(String, String)> {
     let mut erase = Command::new(env!("CARGO_BIN_EXE_erase"));
     let list = erase.args(["--items", folder]).output().unwrap().stdout;
     let module = |path: String| path.rsplit(['/', '.']).nth(1).unwrap().to_string();
-    functions(&String::from_utf8(list).unwrap())
-        .into_iter()
-        .map(|(path, name)| (module(path), name))
-        .collect()
+    functions(&String::from_utf8(list).unwrap()).into_iter().map(|(path, name)| (module(path), name)).collect()
 }
 
 /// Whether a row's name is that of a module, a function or a function of a module.
@@ -127,13 +104,9 @@ fn what_the_crate_lacks_has_a_reason() {
         // The forms of a borrowed identifier are in a file of their own.
         let is_in = |path: &str| match &**module {
             "oid_ref" => path.ends_with("src/oid_ref.rs"),
-            module => {
-                path.ends_with(&format!("erased/{module}.rs")) || path.ends_with("conversions.rs")
-            }
+            module => path.ends_with(&format!("erased/{module}.rs")) || path.ends_with("conversions.rs"),
         };
-        let is_here = here
-            .iter()
-            .any(|(path, other)| other == name && is_in(path));
+        let is_here = here.iter().any(|(path, other)| other == name && is_in(path));
         let is_missing = MISSING.iter().any(|row| names(row.0, module, name));
         assert_eq!(is_here, !is_missing, "{module}::{name}");
     }
@@ -145,10 +118,7 @@ fn what_the_crate_lacks_has_a_reason() {
 
 #[test]
 fn what_c_lacks_has_a_reason() {
-    let (calls, of_c) = (
-        of_source("crates/const_oid/src"),
-        of_source("crates/const_oid_c/src"),
-    );
+    let (calls, of_c) = (of_source("crates/const_oid/src"), of_source("crates/const_oid_c/src"));
     let is_of_c = |call: &str| of_c.iter().any(|(_, name)| name == call);
     for (module, name) in &calls {
         let is_named = IN_C.iter().any(|row| names(row.0, module, name));
@@ -162,10 +132,7 @@ fn what_c_lacks_has_a_reason() {
     for name in OF_C {
         assert!(is_of_c(name), "{name}");
     }
-    for (_, name) in of_c
-        .iter()
-        .filter(|(_, name)| name.starts_with("const_oid_"))
-    {
+    for (_, name) in of_c.iter().filter(|(_, name)| name.starts_with("const_oid_")) {
         let is_named = IN_C.iter().any(|row| row.1 == name) || OF_C.contains(&&**name);
         assert!(is_named, "{name} has no row");
     }

@@ -54,7 +54,9 @@ impl Copy {
         for folder in FOLDERS {
             copy(&top().join(folder), &to.join(folder));
         }
-        fs::copy(top().join("rust/names.tsv"), to.join("rust/names.tsv")).unwrap();
+        for file in ["rust/names.tsv", "rust/rustfmt.toml"] {
+            fs::copy(top().join(file), to.join(file)).unwrap();
+        }
         Copy(to)
     }
 
@@ -106,10 +108,7 @@ impl Drop for Copy {
 }
 
 fn each(paths: &[String], words: &str) -> Vec<String> {
-    paths
-        .iter()
-        .map(|path| format!("{path}: {words}"))
-        .collect()
+    paths.iter().map(|path| format!("{path}: {words}")).collect()
 }
 
 #[test]
@@ -119,9 +118,7 @@ fn a_generated_file_that_is_changed_removed_or_added() {
     let generated = copy.generated();
     generated.iter().for_each(|path| copy.append(path, " "));
     assert_eq!(copy.faults(), each(&generated, "not what erase generates"));
-    generated
-        .iter()
-        .for_each(|path| fs::remove_file(copy.0.join(path)).unwrap());
+    generated.iter().for_each(|path| fs::remove_file(copy.0.join(path)).unwrap());
     assert_eq!(copy.faults(), each(&generated, "not what erase generates"));
     assert!(copy.erase(&[]).status.success());
     let added = GENERATED.map(|folder| format!("{folder}/zzz.rs"));
@@ -174,9 +171,7 @@ fn every_source_is_listed() {
         }
     }
     assert!(by_hand.len() > 9, "{by_hand:?}");
-    let added = by_hand
-        .iter()
-        .map(|path| copy.append(path, "\npub fn added() {}\n"));
+    let added = by_hand.iter().map(|path| copy.append(path, "\npub fn added() {}\n"));
     added.for_each(drop);
     let printed = String::from_utf8(copy.erase(&["--items"]).stdout).unwrap();
     for path in by_hand {
@@ -210,21 +205,12 @@ fn items_of_folders() {
     let copy = Copy::new("below");
     let folder = "crates/below/src";
     fs::create_dir_all(copy.0.join(folder).join("inner")).unwrap();
-    copy.append(
-        "crates/below/src/a.rt",
-        "const A: u8 = 1;\nfn b();\nstruct S { a: u8, ghost b: { c }, }\n",
-    );
-    copy.append(
-        "crates/below/src/inner/c.rt",
-        "trait T { fn d() ensures e { f } {} }",
-    );
+    copy.append("crates/below/src/a.rt", "const A: u8 = 1;\nfn b();\nstruct S { a: u8, ghost b: { c }, }\n");
+    copy.append("crates/below/src/inner/c.rt", "trait T { fn d() ensures e { f } {} }");
     copy.append("crates/below/src/g.rs", "fn g() {}");
     let printed = copy.erase(&["--items", folder]).stdout;
-    let mut lines: Vec<String> = String::from_utf8(printed)
-        .unwrap()
-        .lines()
-        .map(|line| line.replace('\t', "|"))
-        .collect();
+    let mut lines: Vec<String> =
+        String::from_utf8(printed).unwrap().lines().map(|line| line.replace('\t', "|")).collect();
     lines.sort();
     let expected = [
         "crates/below/src/a.rt|struct S|a: u8",
@@ -261,10 +247,7 @@ fn a_source_that_is_wrong() {
             copy.replace(source, last, wrong);
         }
         let faults = copy.faults();
-        assert!(
-            faults.iter().any(|line| line.starts_with(words)),
-            "{wrong}: {faults:?}"
-        );
+        assert!(faults.iter().any(|line| line.starts_with(words)), "{wrong}: {faults:?}");
         last = wrong;
     }
     copy.replace(source, last, "");

@@ -4,9 +4,7 @@
 
 use crate::erased::output::{unwritten_status, write_octets};
 use crate::erased::owned::{MAX_OCTETS, is_too_long};
-use crate::erased::status::{
-    NONE, Status, code_status, error_status, len_status, number_status, too_short_status,
-};
+use crate::erased::status::{NONE, Status, code_status, error_status, len_status, number_status, too_short_status};
 use const_oid::internal_for_const_oid_c::{Arcs, ObjectIdentifier, ObjectIdentifierRef, Result};
 
 /// Checks contents octets of any length.
@@ -85,11 +83,7 @@ pub fn const_oid_arcs(octets: &[u8], out: &mut crate::edge::Output<u32>) -> Stat
 }
 
 /// Writes the arcs of contents octets of any length from an index on, as many as fit.
-pub fn const_oid_arcs_from(
-    octets: &[u8],
-    first: usize,
-    out: &mut crate::edge::Output<u32>,
-) -> Status {
+pub fn const_oid_arcs_from(octets: &[u8], first: usize, out: &mut crate::edge::Output<u32>) -> Status {
     match ObjectIdentifierRef::from_bytes(octets) {
         Ok(oid) => len_status(write_arcs(skip_arcs(oid.arcs(), first), out)),
         Err(fault) => error_status(fault),

@@ -4,9 +4,8 @@
 
 use crate::erased::output::write_bytes;
 use crate::erased::status::{
-    ARC_INVALID, ARC_TOO_BIG, BASE128, DIGIT_EXPECTED, EMPTY, LENGTH, NONE, NOT_UTF8,
-    OUTPUT_TOO_SHORT, OVERFLOW, REPEATED_DOT, Status, TRAILING_DOT, UNSORTED, code_status,
-    len_status, too_short_status,
+    ARC_INVALID, ARC_TOO_BIG, BASE128, DIGIT_EXPECTED, EMPTY, LENGTH, NONE, NOT_UTF8, OUTPUT_TOO_SHORT, OVERFLOW,
+    REPEATED_DOT, Status, TRAILING_DOT, UNSORTED, code_status, len_status, too_short_status,
 };
 use const_oid::internal_for_const_oid_c::Error;
 
@@ -16,12 +15,7 @@ pub fn const_oid_error_text(code: u32, detail: u32, out: &mut crate::edge::Outpu
         ARC_INVALID => write_error(Error::ArcInvalid { arc: detail }, out),
         ARC_TOO_BIG => write_error(Error::ArcTooBig, out),
         BASE128 => write_error(Error::Base128, out),
-        DIGIT_EXPECTED if detail < 256 => write_error(
-            Error::DigitExpected {
-                actual: detail as u8,
-            },
-            out,
-        ),
+        DIGIT_EXPECTED if detail < 256 => write_error(Error::DigitExpected { actual: detail as u8 }, out),
         EMPTY => write_error(Error::Empty, out),
         LENGTH => write_error(Error::Length, out),
         OVERFLOW => write_error(Error::Overflow, out),

@@ -6,9 +6,7 @@
 //! unspecified, but is within the list.
 
 use crate::erased::status::{NONE, Status, UNSORTED, code_status, error_status, len_status};
-use const_oid::internal_for_const_oid_c::search::{
-    Contents, end_of, first_of, nearest_of, subtree_of,
-};
+use const_oid::internal_for_const_oid_c::search::{Contents, end_of, first_of, nearest_of, subtree_of};
 use const_oid::internal_for_const_oid_c::{Error, ObjectIdentifierRef};
 
 /// The contents octets of one identifier of a list.
@@ -74,11 +72,7 @@ pub fn const_oid_subtree_range(
 /// The index of the first item that comes after an identifier.
 fn next_of(sorted: &[Octets<'_>], oid: &ObjectIdentifierRef<'_>) -> Option<usize> {
     let index = end_of(sorted, oid);
-    if index < sorted.len() {
-        Some(index)
-    } else {
-        None
-    }
+    if index < sorted.len() { Some(index) } else { None }
 }
 
 /// The status of an index, if there is one.
@@ -108,11 +102,7 @@ fn read_after<'a>(
     octets: &'a [u8],
 ) -> Result<ObjectIdentifierRef<'a>, Status> {
     match ObjectIdentifierRef::from_bytes(octets) {
-        Ok(oid) if comes_before(oid, before) => Err(Status {
-            code: UNSORTED,
-            detail: 0,
-            len: index,
-        }),
+        Ok(oid) if comes_before(oid, before) => Err(Status { code: UNSORTED, detail: 0, len: index }),
         Ok(oid) => Ok(oid),
         Err(fault) => Err(fault_at(index, fault)),
     }
@@ -128,8 +118,5 @@ fn comes_before(oid: ObjectIdentifierRef<'_>, before: Option<ObjectIdentifierRef
 
 /// The status of an error of the octets at an index.
 fn fault_at(index: usize, fault: Error) -> Status {
-    Status {
-        len: index,
-        ..error_status(fault)
-    }
+    Status { len: index, ..error_status(fault) }
 }

@@ -83,47 +83,27 @@ pub(crate) fn error_status(error: Error) -> Status {
         Error::RepeatedDot => (REPEATED_DOT, 0),
         Error::TrailingDot => (TRAILING_DOT, 0),
     };
-    Status {
-        code,
-        detail,
-        len: 0,
-    }
+    Status { code, detail, len: 0 }
 }
 
 /// A status that has a code alone.
 pub(crate) fn code_status(code: u32) -> Status {
-    Status {
-        code,
-        detail: 0,
-        len: 0,
-    }
+    Status { code, detail: 0, len: 0 }
 }
 
 /// The output is too short for `len` items.
 pub(crate) fn too_short_status(len: usize) -> Status {
-    Status {
-        code: OUTPUT_TOO_SHORT,
-        detail: 0,
-        len,
-    }
+    Status { code: OUTPUT_TOO_SHORT, detail: 0, len }
 }
 
 /// The function wrote or counted `len` items.
 pub(crate) fn len_status(len: usize) -> Status {
-    Status {
-        code: OK,
-        detail: 0,
-        len,
-    }
+    Status { code: OK, detail: 0, len }
 }
 
 /// The result is a number.
 pub(crate) fn number_status(detail: u32) -> Status {
-    Status {
-        code: OK,
-        detail,
-        len: 0,
-    }
+    Status { code: OK, detail, len: 0 }
 }
 
 /// The result is true or false.

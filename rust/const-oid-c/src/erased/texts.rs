@@ -4,9 +4,7 @@
 
 use crate::erased::output::{unwritten_status, write_bytes, write_octets};
 use crate::erased::owned::{MAX_OCTETS, is_too_long};
-use crate::erased::status::{
-    NOT_UTF8, Status, code_status, error_status, len_status, too_short_status,
-};
+use crate::erased::status::{NOT_UTF8, Status, code_status, error_status, len_status, too_short_status};
 use const_oid::internal_for_const_oid_c::parser::parse_usual;
 use const_oid::internal_for_const_oid_c::{Error, ObjectIdentifier, ObjectIdentifierRef};
 use core::str;

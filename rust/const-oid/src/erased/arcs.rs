@@ -46,10 +46,7 @@ enum Next {
 impl<'a> Arcs<'a> {
     /// All arcs of valid octets.
     pub(crate) fn new(octets: &'a [u8]) -> Self {
-        Arcs {
-            next: Next::First,
-            octets,
-        }
+        Arcs { next: Next::First, octets }
     }
 }
 

@@ -43,13 +43,10 @@ pub(crate) fn checked_group(octets: &[u8], limit: u64) -> Option<(u64, &[u8])> {
         [a, after @ ..] if *a < 128 => Some((*a as u64, after)),
         [a, ..] if *a == 128 => None,
         [a, b, after @ ..] if *b < 128 => Some((add_digit(add_digit(0, *a), *b), after)),
-        [a, b, c, after @ ..] if *c < 128 => {
-            Some((add_digit(add_digit(add_digit(0, *a), *b), *c), after))
+        [a, b, c, after @ ..] if *c < 128 => Some((add_digit(add_digit(add_digit(0, *a), *b), *c), after)),
+        [a, b, c, d, after @ ..] if *d < 128 => {
+            Some((add_digit(add_digit(add_digit(add_digit(0, *a), *b), *c), *d), after))
         }
-        [a, b, c, d, after @ ..] if *d < 128 => Some((
-            add_digit(add_digit(add_digit(add_digit(0, *a), *b), *c), *d),
-            after,
-        )),
         [_, _, _, _, e, after @ ..] if *e < 128 && number_of_five(octets) <= limit => {
             Some((number_of_five(octets), after))
         }
@@ -89,12 +86,7 @@ fn add_digit(high: u64, octet: u8) -> u64 {
 /// Appends the subidentifier of a number to the first octets of a slice, if they then fit a capacity, and returns how
 /// many there are. Into a slice that is shorter than the capacity nothing is written: the octets are counted alone.
 #[inline(always)]
-pub(crate) const fn append_group(
-    out: &mut [u8],
-    used: usize,
-    number: u64,
-    capacity: usize,
-) -> Result<usize> {
+pub(crate) const fn append_group(out: &mut [u8], used: usize, number: u64, capacity: usize) -> Result<usize> {
     let mut at = used;
     if number >= 0x80 {
         if number >= 0x4000 {

@@ -29,11 +29,7 @@ pub struct Buffer<const SIZE: usize> {
 impl<const SIZE: usize> Buffer<SIZE> {
     /// A buffer with no octet in use.
     pub(crate) const fn empty() -> Self {
-        Buffer {
-            bytes: [0; SIZE],
-            used: 0,
-            aligned: [],
-        }
+        Buffer { bytes: [0; SIZE], used: 0, aligned: [] }
     }
 
     /// The octets copied, which fit.
@@ -48,11 +44,7 @@ impl<const SIZE: usize> Buffer<SIZE> {
     /// The first octets of an array, whose others are zero.
     #[inline(always)]
     pub(crate) const fn begun(bytes: [u8; SIZE], used: usize) -> Self {
-        Buffer {
-            bytes,
-            used: used as u8,
-            aligned: [],
-        }
+        Buffer { bytes, used: used as u8, aligned: [] }
     }
 
     /// These octets and the subidentifier of a number, or `Length` if it does not fit.

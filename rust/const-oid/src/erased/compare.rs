@@ -169,18 +169,10 @@ fn order_of_lens(a: &[u8], b: &[u8], start: usize) -> Ordering {
     let mut index = start;
     while index < near {
         if a[index] < 128 {
-            return if ends_at(b, index) {
-                Ordering::Equal
-            } else {
-                Ordering::Less
-            };
+            return if ends_at(b, index) { Ordering::Equal } else { Ordering::Less };
         }
         if b[index] < 128 {
-            return if ends_at(a, index) {
-                Ordering::Equal
-            } else {
-                Ordering::Greater
-            };
+            return if ends_at(a, index) { Ordering::Equal } else { Ordering::Greater };
         }
         index += 1;
     }

@@ -44,20 +44,12 @@ impl<'a> Database<'a> {
     /// assert_eq!(NAMES.by_oid(&CN), Some("cn"));
     /// ```
     pub const fn new(entries: &'a [(&'a ObjectIdentifier, &'a str)]) -> Self {
-        Database {
-            entries,
-            oid_links: &[],
-            name_links: &[],
-        }
+        Database { entries, oid_links: &[], name_links: &[] }
     }
 
     /// The database with links of its entries.
     pub(crate) const fn linked(self, oid_links: &'a [u16], name_links: &'a [u16]) -> Self {
-        Database {
-            entries: self.entries,
-            oid_links,
-            name_links,
-        }
+        Database { entries: self.entries, oid_links, name_links }
     }
 
     /// The name in the first entry with this identifier, or `None` if there is no such entry.
@@ -116,11 +108,7 @@ impl<'a> Database<'a> {
     /// assert!(names.find_names_for_oid(CN).eq(["cn", "commonName"]));
     /// ```
     pub const fn find_names_for_oid(&self, oid: ObjectIdentifier) -> Names<'a> {
-        Names {
-            database: *self,
-            index: first_link(self.oid_links, self.entries.len(), oid.as_bytes()),
-            oid,
-        }
+        Names { database: *self, index: first_link(self.oid_links, self.entries.len(), oid.as_bytes()), oid }
     }
 
     /// Parses dotted text, and returns the name of its identifier as [`by_oid`](Self::by_oid) does, or the text
@@ -176,9 +164,7 @@ impl<'a> Iterator for Names<'a> {
     /// The next name; after the last one `None`, each time.
     fn next(&mut self) -> Option<&'a str> {
         while self.index < self.database.entries.len() {
-            let Database {
-                oid_links, entries, ..
-            } = self.database;
+            let Database { oid_links, entries, .. } = self.database;
             let entry = &entries[self.index];
             self.index = next_link(oid_links, entries.len(), self.index);
             if has_oid(entry, &self.oid) {

@@ -59,11 +59,7 @@ impl<'a> SortedDatabase<'a> {
     /// # Ok::<(), const_oid::Error>(())
     /// ```
     pub fn try_new(entries: &'a [Entry<'a>]) -> Option<Self> {
-        if entries.is_sorted_by(|a, b| a.0.cmp_arcs(&b.0).is_le()) {
-            Some(SortedDatabase { entries })
-        } else {
-            None
-        }
+        if entries.is_sorted_by(|a, b| a.0.cmp_arcs(&b.0).is_le()) { Some(SortedDatabase { entries }) } else { None }
     }
 
     /// The name in the first entry with this identifier, or `None` if there is no such entry.

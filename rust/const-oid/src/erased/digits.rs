@@ -20,11 +20,7 @@ pub(crate) fn arc_len(arc: Arc, is_first: bool) -> usize {
 /// Writes an arc at an index, after a dot unless it is the first, and returns the index after it.
 #[inline(always)]
 pub(crate) fn write_arc(arc: Arc, is_first: bool, out: &mut [u8], at: usize) -> usize {
-    let start = if is_first {
-        at
-    } else {
-        write_byte(b'.', out, at)
-    };
+    let start = if is_first { at } else { write_byte(b'.', out, at) };
     write_digits(arc, out, start)
 }
 

@@ -9,9 +9,7 @@ use crate::erased::error::{Error, Result};
 use crate::erased::root::{check_first, join_root};
 
 /// The encoding of the arcs that an iterator gives, in up to `SIZE` octets, and never past 255.
-pub(crate) fn encode<const SIZE: usize, I: IntoIterator<Item = Arc>>(
-    arcs: I,
-) -> Result<Buffer<SIZE>> {
+pub(crate) fn encode<const SIZE: usize, I: IntoIterator<Item = Arc>>(arcs: I) -> Result<Buffer<SIZE>> {
     let mut bytes = [0; SIZE];
     let capacity = if SIZE < 255 { SIZE } else { 255 };
     match encode_to(arcs, &mut bytes, capacity) {
@@ -29,11 +27,7 @@ pub(crate) fn encode_long(arcs: &[Arc], out: &mut [u8], capacity: usize) -> Resu
 /// Writes the encoding of the arcs that an iterator gives to the start of a slice, if it fits a capacity, and returns its
 /// length. Into a slice that is shorter than the capacity nothing is written: the octets are counted alone.
 #[inline(always)]
-fn encode_to<I: IntoIterator<Item = Arc>>(
-    arcs: I,
-    out: &mut [u8],
-    capacity: usize,
-) -> Result<usize> {
+fn encode_to<I: IntoIterator<Item = Arc>>(arcs: I, out: &mut [u8], capacity: usize) -> Result<usize> {
     let mut arcs = arcs.into_iter();
     let Some(first) = arcs.next() else {
         return Err(Error::Empty);

@@ -12,9 +12,7 @@ pub(crate) const fn hash(bytes: &[u8]) -> u32 {
     let mut hash: u32 = 0;
     let mut left = bytes;
     while let [first, after @ ..] = left {
-        hash = hash
-            .wrapping_mul(33)
-            .wrapping_add(first.to_ascii_lowercase() as u32);
+        hash = hash.wrapping_mul(33).wrapping_add(first.to_ascii_lowercase() as u32);
         left = after;
     }
     hash
@@ -22,18 +20,11 @@ pub(crate) const fn hash(bytes: &[u8]) -> u32 {
 
 /// What is looked for in an entry: its name, or the octets of its identifier.
 const fn key<'a>(entry: &(&'a ObjectIdentifier, &'a str), by_name: bool) -> &'a [u8] {
-    if by_name {
-        entry.1.as_bytes()
-    } else {
-        entry.0.as_bytes()
-    }
+    if by_name { entry.1.as_bytes() } else { entry.0.as_bytes() }
 }
 
 /// The links of entries by name, or by identifier.
-pub(crate) const fn links_of<const SIZE: usize>(
-    entries: &[(&ObjectIdentifier, &str)],
-    by_name: bool,
-) -> [u16; SIZE] {
+pub(crate) const fn links_of<const SIZE: usize>(entries: &[(&ObjectIdentifier, &str)], by_name: bool) -> [u16; SIZE] {
     let count = entries.len();
     let mut links = [count as u16; SIZE];
     let mut index = count;
@@ -48,18 +39,10 @@ pub(crate) const fn links_of<const SIZE: usize>(
 
 /// The first entry of the slot of bytes, or the number of entries.
 pub(crate) const fn first_link(links: &[u16], count: usize, bytes: &[u8]) -> usize {
-    if count < links.len() {
-        links[count + hash(bytes) as usize % (links.len() - count)] as usize
-    } else {
-        0
-    }
+    if count < links.len() { links[count + hash(bytes) as usize % (links.len() - count)] as usize } else { 0 }
 }
 
 /// The next entry of the slot of an entry, or the number of entries.
 pub(crate) const fn next_link(links: &[u16], count: usize, index: usize) -> usize {
-    if count < links.len() {
-        links[index] as usize
-    } else {
-        index + 1
-    }
+    if count < links.len() { links[index] as usize } else { index + 1 }
 }

@@ -87,11 +87,7 @@ const fn read_root(text: &[u8]) -> Result<(u64, usize)> {
     }
     let start = end + 1;
     if start >= text.len() {
-        return Err(if end < text.len() {
-            Error::TrailingDot
-        } else {
-            Error::Empty
-        });
+        return Err(if end < text.len() { Error::TrailingDot } else { Error::Empty });
     }
     let (second, end) = match read_piece(text, start) {
         Ok(piece) => piece,
@@ -144,11 +140,7 @@ const fn read_piece(text: &[u8], start: usize) -> result::Result<(Arc, usize), u
 #[inline(never)]
 const fn piece_fault(text: &[u8], start: usize, index: usize) -> Error {
     if index >= text.len() {
-        return if start == 0 {
-            Error::Empty
-        } else {
-            Error::TrailingDot
-        };
+        return if start == 0 { Error::Empty } else { Error::TrailingDot };
     }
     match text[index] {
         b'0'..=b'9' => Error::ArcTooBig,
@@ -159,9 +151,5 @@ const fn piece_fault(text: &[u8], start: usize, index: usize) -> Error {
 
 /// The error of an arc whose component ends at an index, or `TrailingDot` if an empty last component follows.
 const fn or_trailing_dot(fault: Error, text: &[u8], end: usize) -> Error {
-    if end + 1 == text.len() {
-        Error::TrailingDot
-    } else {
-        fault
-    }
+    if end + 1 == text.len() { Error::TrailingDot } else { fault }
 }

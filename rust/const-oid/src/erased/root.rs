@@ -29,9 +29,5 @@ pub(crate) const fn join_root(first: Arc, second: Arc) -> Result<u64> {
 /// The two arcs that the first subidentifier holds.
 #[inline]
 pub(crate) fn split_root(root: u64) -> (Arc, Arc) {
-    if root < 80 {
-        ((root / 40) as Arc, (root % 40) as Arc)
-    } else {
-        (2, (root - 80) as Arc)
-    }
+    if root < 80 { ((root / 40) as Arc, (root % 40) as Arc) } else { (2, (root - 80) as Arc) }
 }

@@ -45,11 +45,7 @@ pub fn first_of<T: Contents>(items: &[T], oid: &ObjectIdentifierRef<'_>) -> Opti
 /// inserted.
 fn find<T: Contents>(items: &[T], oid: &ObjectIdentifierRef<'_>) -> result::Result<usize, usize> {
     let index = start_of(items, oid);
-    if index < items.len() && has_octets(&items[index], oid) {
-        Ok(index)
-    } else {
-        Err(index)
-    }
+    if index < items.len() && has_octets(&items[index], oid) { Ok(index) } else { Err(index) }
 }
 
 /// Whether an item has the octets of an identifier.
@@ -81,10 +77,7 @@ pub fn nearest_of<T: Contents>(items: &[T], oid: &ObjectIdentifierRef<'_>) -> Op
 }
 
 /// The longest identifier that begins an identifier and other octets, or `None` if there is none.
-fn common_prefix<'a>(
-    oid: ObjectIdentifierRef<'a>,
-    others: &[u8],
-) -> Option<ObjectIdentifierRef<'a>> {
+fn common_prefix<'a>(oid: ObjectIdentifierRef<'a>, others: &[u8]) -> Option<ObjectIdentifierRef<'a>> {
     let prefix = common_parts(oid.as_bytes(), others);
     if prefix.is_empty() {
         return None;
