@@ -33,7 +33,7 @@ EXTENSION = "_native.abi3.so"
 SOURCES = ("__init__.py", "_native.pyi", "_support.py", "names.py", "py.typed", "sorted_map.py")
 LICENCES = ("LICENSE-APACHE", "LICENSE-MIT")
 ARCHIVED = ("backend.py", "pyproject.toml", "README.md", "src/native.c", *(f"src/const_oid/{name}" for name in SOURCES))
-ARCHIVED_OF_TOP = (*LICENCES, "crates/const_oid_c/include", "rust/names.tsv", "rust/const-oid-c")
+ARCHIVED_OF_TOP = (*LICENCES, "crates/const_oid_c/include", "rust/const-oid-c")
 ARCHIVED_OF_TOP += tuple(f"rust/const-oid/{name}" for name in ("Cargo.toml", "README.md", "examples", "src"))
 COMPILER = shlex.split(os.environ.get("CC", "cc"))
 RUSTC = os.environ.get("RUSTC", "rustc")
@@ -103,8 +103,8 @@ def _compile(target, config_settings):
 
 def _names():
     """The table of names: for each entry the arcs and the name."""
-    lines = (TOP / "rust/names.tsv").read_text(encoding="utf-8").splitlines()
-    return "".join(line.split("\t", 2)[2] + "\n" for line in lines if not line.startswith("#"))
+    table = (TOP / "rust/const-oid/src/db/names.rs").read_text(encoding="utf-8")
+    return "".join(f"{arcs}\t{name}\n" for arcs, name in re.findall(r' = "(.*)", "(.*)";', table))
 
 
 def project():

@@ -13,14 +13,14 @@ from unittest import mock
 
 from const_oid import ObjectIdentifier, SortedMap, names, sorted_map
 
-ROWS = pathlib.Path(__file__).resolve().parents[2] / "rust/names.tsv"
+ROWS = pathlib.Path(__file__).resolve().parents[2] / "rust/const-oid/src/db/names.rs"
 SEED = 3416
 
 
 def rows():
     """The arcs and the name of each entry."""
-    lines = ROWS.read_text(encoding="utf-8").splitlines()[1:]
-    return [(tuple(map(int, arcs.split("."))), name) for _, _, arcs, name in (line.split("\t") for line in lines)]
+    lines = (line.split('"') for line in ROWS.read_text(encoding="utf-8").splitlines() if line.endswith('";'))
+    return [(tuple(map(int, arcs.split("."))), name) for _, arcs, _, name, _ in lines]
 
 
 class Names(unittest.TestCase):

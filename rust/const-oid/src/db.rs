@@ -144,3 +144,5 @@ macro_rules! sorted {
 }
 
 include!("db/names.rs");
+
+include!("db/sorted.rs");

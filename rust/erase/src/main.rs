@@ -1,7 +1,7 @@
 //! Generates Rust from Rattle: `erase [--check | --items [FOLDER]..]`.
 //!
 //! For each crate of the table, the program reads `lib.rt` and its modules, and writes them as Rust, laid
-//! out by rustfmt. It writes the constants of names, and a header of them for C, from `rust/names.tsv`, lists the
+//! out by rustfmt. It writes the sorted table of names, and a header of names for C, from the table of names, lists the
 //! public items of the cargo crate, and writes the exports of the library for C, with what its tests need of them. With
 //! `--check` it writes nothing, and ends with 1 if a file differs from what it would write.
 //!
@@ -33,8 +33,8 @@ use std::process::{Command, ExitCode, Stdio};
 use std::{env, fs, io};
 use table::Crate;
 
-const TABLE: &str = "rust/names.tsv";
 const NAMES: &str = "rust/const-oid/src/db/names.rs";
+const SORTED: &str = "rust/const-oid/src/db/sorted.rs";
 const C_NAMES: &str = "crates/const_oid_c/include/const_oid_names.h";
 const EXAMPLES: &str = "rust/const-oid/src/examples.md";
 const CRATE: &str = "rust/const-oid/src";
@@ -103,11 +103,12 @@ fn generated() -> Checked<Vec<File>> {
         files.extend(modules(table, &mut examples)?);
     }
     examples.all_taken().map_err(|fault| at(EXAMPLES, &fault))?;
-    let names = names::names(&read(TABLE)?).map_err(|fault| at(TABLE, &fault))?;
     files.push((ITEMS.into(), public_items(&files)?));
-    files.push((NAMES.into(), headed(TABLE, &names)));
-    let names = c_names::header(&read(TABLE)?).map_err(|fault| at(TABLE, &fault))?;
-    files.push((C_NAMES.into(), format!("/* {} */\n{names}", generated_from(TABLE))));
+    let table = read(NAMES)?;
+    let sorted = names::sorted(&table).map_err(|fault| at(NAMES, &fault))?;
+    files.push((SORTED.into(), headed(NAMES, &sorted)));
+    let names = c_names::header(&table).map_err(|fault| at(NAMES, &fault))?;
+    files.push((C_NAMES.into(), format!("/* {} */\n{names}", generated_from(NAMES))));
     files.extend(for_c()?);
     Ok(files)
 }
@@ -133,7 +134,7 @@ fn for_c() -> Checked<Vec<File>> {
 fn public_items(files: &[File]) -> Checked<String> {
     let mut sources: Vec<File> = files.iter().filter(|file| file.0.starts_with(CRATE)).cloned().collect();
     for path in below(&[CRATE.into()]) {
-        let is_generated = path == NAMES || sources.iter().any(|file| file.0 == path);
+        let is_generated = path == NAMES || path == SORTED || sources.iter().any(|file| file.0 == path);
         if path.ends_with(".rs") && !is_generated {
             sources.push((path.clone(), read(&path)?));
         }
