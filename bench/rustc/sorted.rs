@@ -3,20 +3,42 @@
 //! crate. The script `sorted` counts its instructions, the loop included. Both sides print the same sum of what they
 //! found.
 
-use calls::*;
 use const_oid::db::SortedDatabase;
 use const_oid::{ByArcs, ObjectIdentifier, ObjectIdentifierRef};
 use std::hint::black_box;
-
-#[allow(dead_code)]
-#[path = "../../rust/compare_builds/src/calls.rs"]
-mod calls;
 
 type Search = unsafe extern "C" fn(*const u8, usize, *const Octets, usize) -> Status;
 
 type Order = unsafe extern "C" fn(*const Octets, *const Octets) -> i32;
 
+#[repr(C)]
+struct Status {
+    code: u32,
+    detail: u32,
+    len: usize,
+}
+
+#[repr(C)]
+#[derive(Clone, Copy)]
+struct Octets {
+    octets: *const u8,
+    len: usize,
+}
+
+#[repr(C)]
+struct Range {
+    start: usize,
+    end: usize,
+}
+
 unsafe extern "C" {
+    fn const_oid_find(octets: *const u8, len: usize, items: *const Octets, count: usize) -> Status;
+    fn const_oid_next(octets: *const u8, len: usize, items: *const Octets, count: usize) -> Status;
+    fn const_oid_nearest(octets: *const u8, len: usize, items: *const Octets, count: usize) -> Status;
+    fn const_oid_subtree_range(octets: *const u8, len: usize, items: *const Octets, count: usize, range: *mut Range)
+        -> Status;
+    fn const_oid_check_sorted(items: *const Octets, count: usize) -> Status;
+    fn const_oid_by_arcs(left: *const Octets, right: *const Octets) -> i32;
     fn qsort(items: *mut Octets, count: usize, size: usize, order: Order);
 }
 

@@ -18,6 +18,7 @@ macro_rules! each_capacity {
         $call::<5>($($argument),*);
         $call::<6>($($argument),*);
         $call::<39>($($argument),*);
+        $call::<64>($($argument),*);
         $call::<255>($($argument),*);
         $call::<300>($($argument),*);
     };
@@ -365,11 +366,13 @@ fn check_pair(a: &[u8], b: &[u8]) {
     let (is_equal, starts, by_arcs) = (a == b, p.starts_with(&q), p.cmp(&q));
     assert_eq!((x == y, x != y, x.cmp(y), x.partial_cmp(y)), (is_equal, !is_equal, a.cmp(b), Some(a.cmp(b))));
     assert_eq!((x.starts_with(y), x.cmp_arcs(y)), (starts, by_arcs));
+    assert_eq!([x < y, x <= y, x > y, x >= y], [a < b, a <= b, a > b, a >= b]);
     let (Ok(i), Ok(j)) = (ObjectIdentifier::<255>::try_from(x), ObjectIdentifier::<255>::try_from(y)) else {
         return;
     };
     let order: Ordering = a.len().cmp(&b.len()).then(a.cmp(b));
     assert_eq!((i == j, i != j, i.cmp(&j), i.partial_cmp(&j)), (is_equal, !is_equal, order, Some(order)));
+    assert_eq!([i < j, i <= j, i > j, i >= j], [order.is_lt(), order.is_le(), order.is_gt(), order.is_ge()]);
     assert_eq!((i.starts_with(j), i.cmp_arcs(&j), *x == j), (starts, by_arcs, is_equal));
     let Ok(small) = ObjectIdentifier::<39>::try_from(y) else {
         return;
@@ -405,7 +408,7 @@ const EDGES: [u8; 8] = [0, 0x4F, 0x50, 0x7F, 0x80, 0x8F, 0x90, 0xFF];
 /// Identifiers of many lengths.
 fn valid() -> Vec<Vec<u8>> {
     let groups: [&[u8]; 5] = [&[0], &[0x7F], &[0x81, 0], &[0x82, 0x80, 1], &[0x8F, 0xFF, 0xFF, 0xFF, 0x7F]];
-    let lengths = (1..=60).chain(250..=260).chain([300, 1_021, 4_095, 4_096, 4_097, 9_000]);
+    let lengths = (1..=66).chain(250..=260).chain([300, 1_021, 4_095, 4_096, 4_097, 16_385, 70_000]);
     let mut out: Vec<Vec<u8>> = (0..0x80).map(|octet| vec![octet]).collect();
     for len in lengths {
         for group in groups {

@@ -224,58 +224,6 @@ fn types_have_identifiers() {
     assert_eq!(values.oid(), CN);
 }
 
-/// The four operators are those of `cmp`, in both forms.
-#[test]
-fn operators_are_those_of_cmp() {
-    let oids = ["0.0", "2.5.4.3", "2.5.4.6", "2.5.4.3.1", "2.999"].map(ObjectIdentifier::new_unwrap);
-    for a in &oids {
-        for b in &oids {
-            let (lent, other) = (a.as_oid_ref(), b.as_oid_ref());
-            for (order, operators) in [
-                (a.cmp(b), [a < b, a <= b, a > b, a >= b]),
-                (lent.cmp(other), [lent < other, lent <= other, lent > other, lent >= other]),
-            ] {
-                let expected = [order.is_lt(), order.is_le(), order.is_gt(), order.is_ge()];
-                assert_eq!(operators, expected, "{a} {b}");
-            }
-        }
-    }
-}
-
-/// Octets and parents of any length.
-#[test]
-fn takes_octets_of_any_length() {
-    for len in [2, 40, 256, 16_385, 70_000] {
-        let octets = vec![0x2A; len];
-        let oid = ObjectIdentifierRef::from_bytes(&octets).unwrap();
-        let parent = oid.parent().map(ObjectIdentifierRef::as_bytes);
-        assert_eq!(parent, Some(&octets[1..]), "{len}");
-        assert_eq!(AsRef::<[u8]>::as_ref(oid), octets, "{len}");
-        let read: &ObjectIdentifierRef = octets[..].try_into().unwrap();
-        assert_eq!(read.as_bytes(), octets, "{len}");
-    }
-}
-
-/// A copy fits in each capacity that is not below the number of its octets.
-#[test]
-fn copies_where_it_fits() {
-    fn copied<const N: usize>(octets: &[u8]) -> Result<ObjectIdentifier<N>> {
-        ObjectIdentifierRef::from_bytes(octets)?.try_into()
-    }
-    for len in [1, 38, 39, 40, 63, 64, 65, 254, 255, 256] {
-        let octets = vec![0x2A; len];
-        for (capacity, is_copied) in [
-            (39, copied::<39>(&octets).is_ok_and(|oid| oid.as_bytes() == octets)),
-            (64, copied::<64>(&octets).is_ok_and(|oid| oid.as_bytes() == octets)),
-            (255, copied::<255>(&octets).is_ok_and(|oid| oid.as_bytes() == octets)),
-        ] {
-            assert_eq!(is_copied, len <= capacity, "{len} {capacity}");
-        }
-        let is_length = copied::<255>(&octets) == Err(Error::Length);
-        assert_eq!(is_length, len > 255, "{len}");
-    }
-}
-
 #[cfg(feature = "db")]
 mod db {
     use const_oid::ObjectIdentifier;
@@ -385,7 +333,7 @@ fn unsafe_code_is_where_it_is_allowed() {
 /// The other packages of this workspace are for the same Rust.
 #[test]
 fn rust_versions() {
-    for package in ["arbitrary", "compare_builds", "const-oid-c", "erase"] {
+    for package in ["arbitrary", "const-oid-c", "erase"] {
         let settings = settings(&format!("../{package}/Cargo.toml"));
         let version = settings.iter().find(|(key, _)| key == "package.rust-version");
         assert_eq!(version.map(|(_, version)| &**version), Some("\"1.85\""), "{package}");

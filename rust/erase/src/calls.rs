@@ -1,5 +1,4 @@
-//! The functions for C, from their heads in Rattle: their exports over pointers, declarations of these for callers in
-//! Rust, and a list for the tests in C.
+//! The functions for C, from their heads in Rattle: their exports over pointers, and a list for the tests in C.
 
 use crate::items::Item;
 
@@ -18,30 +17,6 @@ const KINDS: [(&str, &str); 9] = [
 
 /// Types of results, and those of C.
 const RESULTS: [(&str, &str); 3] = [("Status", "const_oid_status"), ("u32", "uint32_t"), ("i32", "int")];
-
-/// The types that declarations are over.
-const TYPES: &str = "
-#[repr(C)]
-pub struct Status {
-    pub code: u32,
-    pub detail: u32,
-    pub len: usize,
-}
-
-#[repr(C)]
-#[derive(Clone, Copy)]
-pub struct Octets {
-    pub octets: *const u8,
-    pub len: usize,
-}
-
-#[repr(C)]
-#[derive(Default)]
-pub struct Range {
-    pub start: usize,
-    pub end: usize,
-}
-";
 
 /// A function for C: its module, its name, its arguments with their types, and the type of its result.
 pub struct Call {
@@ -127,15 +102,6 @@ pub fn exports(calls: &[Call]) -> String {
         "//! The exported functions, over pointers. The header says what a caller guarantees.\n\n\
          use crate::erased::lists::{{Octets, Range}};\nuse crate::erased::status::Status;\n\
          use crate::edge::{{input, output}};\n{exports}"
-    )
-}
-
-/// Declarations of the exported functions.
-pub fn declarations(calls: &[Call]) -> String {
-    let declared = calls.iter().map(|call| format!("pub {};\n", call.over_pointers().0.replace("<'_>", "")));
-    let declared = declared.collect::<String>();
-    format!(
-        "//! The functions of the library for C, as its header declares them.\n{TYPES}\nunsafe extern \"C\" {{\n{declared}}}\n"
     )
 }
 

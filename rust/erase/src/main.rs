@@ -41,7 +41,6 @@ const CRATE: &str = "rust/const-oid/src";
 const ITEMS: &str = "rust/const-oid/public-items.txt";
 const FOR_C: &str = "crates/const_oid_c/src";
 const EXPORTS: &str = "rust/const-oid-c/src/exports.rs";
-const DECLARATIONS: &str = "rust/compare_builds/src/calls.rs";
 const C_CALLS: &str = "crates/const_oid_c/tests/calls.h";
 
 /// A path from the top of the repository, and the text of its file.
@@ -125,7 +124,6 @@ fn for_c() -> Checked<Vec<File>> {
     let list = calls::list(&calls)?;
     Ok(vec![
         (EXPORTS.into(), rust(calls::exports(&calls))?),
-        (DECLARATIONS.into(), rust(calls::declarations(&calls))?),
         (C_CALLS.into(), format!("/* {} */\n{list}", generated_from(FOR_C))),
     ])
 }

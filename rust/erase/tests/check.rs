@@ -5,12 +5,11 @@ use std::path::{Path, PathBuf};
 use std::process::{Command, Output};
 
 /// What the eraser reads and writes, from the top of the repository.
-const FOLDERS: [&str; 8] = [
+const FOLDERS: [&str; 7] = [
     "crates/const_oid/src",
     "crates/const_oid_c/include",
     "crates/const_oid_c/src",
     "crates/const_oid_c/tests",
-    "rust/compare_builds/src",
     "rust/const-oid",
     "rust/const-oid-c/src",
     "rust/erase",
@@ -20,10 +19,9 @@ const FOLDERS: [&str; 8] = [
 const GENERATED: [&str; 2] = ["rust/const-oid/src/erased", "rust/const-oid-c/src/erased"];
 
 /// The generated files in other folders.
-const FILES: [&str; 6] = [
+const FILES: [&str; 5] = [
     "crates/const_oid_c/include/const_oid_names.h",
     "crates/const_oid_c/tests/calls.h",
-    "rust/compare_builds/src/calls.rs",
     "rust/const-oid-c/src/exports.rs",
     "rust/const-oid/src/db/sorted.rs",
     "rust/const-oid/public-items.txt",
