@@ -2,9 +2,7 @@
 functions FN, or ghost members beside them; else a definition of a crate's specs, a trait's ghost member, or a function
 whose one clause has no name. What "of std" follows is std's."""
 import collections
-import pathlib
 import re
-import subprocess
 
 from pages.page import SPAN, TOP, defined_in, fault, prose_of
 
@@ -13,14 +11,17 @@ SPAN_OR_GROUP = re.compile(r"`[^`]*`|\((?:[^()`]|`[^`]*`)*\)")
 
 
 def items():
-    """The eraser's list of the functions and ghost members of each owner: a line, and the names of its clauses."""
-    folders = sorted(str(path.relative_to(TOP)) for path in TOP.glob("crates/*/src"))
-    erase = ["cargo", "run", "--quiet", "--offline", "--package", "erase", "--", "--items", *folders]
-    listed = subprocess.run(erase, cwd=TOP / "rust", text=True, stdout=subprocess.PIPE, check=True).stdout
+    """The functions and ghost members of each owner in Rattle, as rt fmt lays them out, and the names of their clauses."""
     owners = collections.defaultdict(lambda: collections.defaultdict(set))
-    for path, owner, head, *clause in (line.split("\t") for line in listed.splitlines()):
-        owner = f"{path} {owner}" if owner else f"mod {pathlib.Path(path).stem}"
-        owners[owner][head].update(clause[:1])
+    for path in TOP.glob("crates/*/src/**/*.rt"):
+        owner = outside = f"mod {path.stem}"
+        for line in path.read_text(encoding="utf-8").splitlines():
+            if found := re.match(r"(?:pub )?(?:impl|trait)\b.*(?=\{$)|\}$", line):
+                owner = outside if line == "}" else f"{path} {found[0]}"
+            elif found := re.match(r"\s*(?:pub\S* )?(?:const )?(?:extern \"C\" )?(fn \w+)|\s+(ghost (?!use )\w+)", line):
+                clauses = owners[owner][found[1] or found[2]]
+            elif found := re.match(r"\s*((?:ensures|requires)(?: \w+)?) \{", line):
+                clauses.add(found[1].strip())
     return owners
 
 

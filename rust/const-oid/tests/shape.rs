@@ -4,7 +4,6 @@ use const_oid::{
     Arc, Arcs, AssociatedOid, Buffer, ByArcs, DynAssociatedOid, Error, ObjectIdentifier, ObjectIdentifierRef, Result,
 };
 use std::borrow::Borrow;
-use std::collections::BTreeSet;
 use std::fmt::{Debug, Display};
 use std::hash::Hash;
 use std::iter::FusedIterator;
@@ -23,15 +22,14 @@ macro_rules! is {
     };
 }
 
-/// Asserts traits of types with parameters, and names them: the type and the trait.
+/// Asserts traits of types with parameters.
 macro_rules! traits {
-    ($names:ident: $($generics:tt $type:ty: $($trait:path),*;)*) => {
-        pub const $names: &[(&str, &str)] = &[$($((stringify!($type), stringify!($trait)),)*)*];
+    ($($generics:tt $type:ty: $($trait:path),*;)*) => {
         $($(is!($generics $type, $trait);)*)*
     };
 }
 
-traits! { TRAITS:
+traits! {
     [const N: usize] ObjectIdentifier<N>: Copy, Clone, Eq, PartialEq, Ord, PartialOrd, Hash, Debug, Display, Send, Sync,
         Unpin, AsRef<[u8]>, AsRef<ObjectIdentifierRef>, Borrow<ObjectIdentifierRef>, Deref<Target = ObjectIdentifierRef>;
     ['a, const N: usize] ObjectIdentifier<N>: TryFrom<&'a ObjectIdentifierRef, Error = Error>;
@@ -49,12 +47,11 @@ traits! { TRAITS:
 }
 
 #[cfg(feature = "arbitrary")]
-traits! { DRAWN: ['a] ObjectIdentifier: arbitrary::Arbitrary<'a>; }
+traits! { ['a] ObjectIdentifier: arbitrary::Arbitrary<'a>; }
 
-/// Calls functions as a constant may, and names them: the type and the function.
+/// Calls functions as a constant may.
 macro_rules! constants {
-    ($names:ident($($given:tt)*) $($type:ident $(<$size:literal>)?::$name:ident($($argument:expr),*);)*) => {
-        pub const $names: &[(&str, &str)] = &[$((stringify!($type), stringify!($name)),)*];
+    (($($given:tt)*) $($type:ident $(<$size:literal>)?::$name:ident($($argument:expr),*);)*) => {
         const _: () = {
             #[allow(dead_code)]
             const fn calls($($given)*) {
@@ -67,7 +64,7 @@ macro_rules! constants {
 const CN: ObjectIdentifier = ObjectIdentifier::new_unwrap("2.5.4.3");
 
 // No caller makes a buffer.
-constants! { CALLED(buffer: &Buffer<7>)
+constants! { (buffer: &Buffer<7>)
     ObjectIdentifier::new("2.5.4.3");
     ObjectIdentifier::new_unwrap("2.5.4.3");
     ObjectIdentifier<4>::new_sized("2.5.4.3");
@@ -80,91 +77,6 @@ constants! { CALLED(buffer: &Buffer<7>)
     Buffer::as_bytes(buffer);
     Buffer::len(buffer);
     Buffer::eq(buffer, buffer);
-}
-
-/// Items of the list that no caller reaches: those of the generated forms of both types, and those for C.
-const HIDDEN: [&str; 3] = ["erased/by_arcs.rs", "erased/oid_ref.rs", "erased/search.rs"];
-
-/// The lines of the list of public items that callers reach: the path below `src`, what an item is in, and its head.
-fn listed() -> impl Iterator<Item = [&'static str; 3]> {
-    let lines = include_str!("../public-items.txt").lines();
-    let rows = lines.map(|line| {
-        let row: Vec<&str> = line.trim_start_matches("rust/const-oid/src/").split('\t').collect();
-        [row[0], row[1], row[2]]
-    });
-    rows.filter(|[path, ..]| !HIDDEN.contains(path))
-}
-
-/// The last word of a path before its parameters.
-fn word(path: &str) -> String {
-    let path = path.trim_start_matches("&'a ").split('<').next().unwrap();
-    path.rsplit("::").next().unwrap().trim().into()
-}
-
-/// A text after the parameters that it may begin with.
-fn after_parameters(text: &str) -> &str {
-    let mut depth = 0;
-    let end = text.find(|c| {
-        depth += i32::from(c == '<') - i32::from(c == '>');
-        depth == 0
-    });
-    text[end.unwrap_or(0)..].trim_start_matches('>').trim()
-}
-
-/// Each trait that the list has of a type, by an `impl` or `derive`, is asserted here.
-#[test]
-fn each_listed_trait_is_asserted() {
-    let named = |(of, name): &(&str, &str)| (word(of), word(name));
-    let asserted: BTreeSet<_> = TRAITS.iter().map(named).collect();
-    #[cfg(feature = "arbitrary")]
-    let asserted = &asserted | &DRAWN.iter().map(named).collect();
-    #[cfg(feature = "db")]
-    let asserted = &asserted | &db::TRAITS.iter().map(named).collect();
-    let mut count = 0;
-    for [path, _, head] in listed() {
-        let is_off =
-            path == "arbitrary.rs" && !cfg!(feature = "arbitrary") || path.contains("db") && !cfg!(feature = "db");
-        if is_off || head.contains('$') || head.contains("Contents for") || head.contains("List<I>") {
-            continue;
-        }
-        let pairs: Vec<_> = if let Some(head) = head.strip_prefix("impl") {
-            let (name, of) = after_parameters(head).split_once(" for ").unwrap();
-            vec![(word(of), word(name))]
-        } else if let Some(head) = head.strip_prefix("#[derive(") {
-            let (names, item) = head.split_once(")] pub ").unwrap();
-            let of = item.split_once(' ').unwrap().1.split(['<', '(']).next().unwrap();
-            names.split(", ").map(|name| (of.into(), name.into())).collect()
-        } else {
-            vec![]
-        };
-        count += pairs.len();
-        for pair in pairs {
-            assert!(asserted.contains(&pair), "{path}: {pair:?}");
-        }
-    }
-    assert!(count > 40, "{count}");
-}
-
-/// Each function that is `const` in the list is called in a constant function here.
-#[test]
-fn each_constant_function_is_called() {
-    let called: BTreeSet<_> = CALLED.iter().copied().collect();
-    #[cfg(feature = "db")]
-    let called = &called | &db::CALLED.iter().copied().collect();
-    let mut expected = BTreeSet::new();
-    for [path, owner, head] in listed() {
-        let Some(head) = head.strip_prefix("pub const fn ") else {
-            continue;
-        };
-        let name = head.split(['(', '<']).next().unwrap();
-        let of = after_parameters(owner.strip_prefix("impl").unwrap()).split('<').next().unwrap();
-        let tables = ["Database", "SortedDatabase"];
-        let owners = if of == "$table" { &tables[..] } else { &[of] };
-        if cfg!(feature = "db") || !path.contains("db") {
-            expected.extend(owners.iter().map(|of| (*of, name)));
-        }
-    }
-    assert_eq!(called, expected);
 }
 
 /// The values of constants.
@@ -231,13 +143,13 @@ mod db {
     use std::fmt::Debug;
     use std::iter::FusedIterator;
 
-    traits! { TRAITS:
+    traits! {
         ['a] Database<'a>: Copy, Clone, Debug, Send, Sync;
         ['a] SortedDatabase<'a>: Copy, Clone, Debug, Send, Sync;
         ['a] Names<'a>: Iterator<Item = &'a str>, FusedIterator, Clone, Debug;
     }
 
-    constants! { CALLED(table: Database<'static>, sorted: SortedDatabase<'static>)
+    constants! { (table: Database<'static>, sorted: SortedDatabase<'static>)
         Database::new(&[(&CN, "cn")]);
         Database::by_oid(&table, &CN);
         Database::by_name(&table, "cn");

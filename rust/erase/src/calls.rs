@@ -1,7 +1,5 @@
 //! The functions for C, from their heads in Rattle: their exports over pointers, and a list for the tests in C.
 
-use crate::items::Item;
-
 /// Types of arguments, and what the list for C calls them.
 const KINDS: [(&str, &str); 9] = [
     ("&[u8]", "OCTETS"),
@@ -27,17 +25,21 @@ pub struct Call {
 }
 
 impl Call {
-    /// The function of a module that an item is, if it is one for C.
-    pub fn of(module: &str, item: &Item) -> Option<Self> {
-        let head = item.head.strip_prefix("pub extern \"C\" fn ")?;
-        let (name, rest) = head.split_once('(')?;
-        let (arguments, result) = rest.split_once(") -> ")?;
-        let arguments = arguments.split(", ").filter_map(|text| text.split_once(": "));
+    /// The functions of a module for C.
+    pub fn all(module: &str, source: &str) -> Vec<Self> {
+        source.split("pub extern \"C\" fn ").skip(1).filter_map(|text| Call::of(module, text)).collect()
+    }
+
+    /// The function whose text begins with its name.
+    fn of(module: &str, text: &str) -> Option<Self> {
+        let (name, rest) = text.split_once('(')?;
+        let (arguments, rest) = rest.split_once(") -> ")?;
+        let arguments = arguments.split(',').filter_map(|text| text.trim().split_once(": "));
         Some(Call {
             module: module.into(),
             name: name.into(),
             arguments: arguments.map(|(name, of)| (name.into(), of.into())).collect(),
-            result: result.into(),
+            result: rest.split_whitespace().next()?.into(),
         })
     }
 
@@ -121,10 +123,13 @@ mod tests {
     #[test]
     fn writes_what_the_types_say() {
         let call = |head: &str| {
-            let head = format!("pub extern \"C\" fn {head}");
-            Call::of("m", &Item { head, ..Item::default() }).unwrap()
+            let source =
+                format!("fn a() {{}}\n\n#[unsafe(no_mangle)]\npub extern \"C\" fn {head}\n    ensures {{ b }}\n{{}}\n");
+            let mut calls = Call::all("m", &source);
+            assert_eq!(calls.len(), 1);
+            calls.remove(0)
         };
-        let one = call("f(text: &[u8], a: u32, b: &mut [u32], c: &mut Range, d: &Octets<'_>) -> i32");
+        let one = call("f(\n    text: &[u8], a: u32,\n    b: &mut [u32], c: &mut Range, d: &Octets<'_>,\n) -> i32");
         let head = "fn f(text: *const u8, text_len: usize, a: u32, b: *mut u32, b_len: usize, c: *mut Range, d: *const Octets<'_>) -> i32";
         let given = "input(text, text_len), a, output(b, b_len), &mut output(c, 1)[0], &input(d, 1)[0]";
         assert_eq!(one.over_pointers(), (head.into(), given.into()));
@@ -134,6 +139,6 @@ mod tests {
         );
         assert_eq!(call("g() -> u32").row().unwrap(), "CALL(uint32_t, g, NOTHING)\n");
         assert!(call("g(a: u64) -> u32").row().is_err() && call("g() -> u64").row().is_err());
-        assert!(Call::of("m", &Item { head: "pub fn f()".into(), ..Item::default() }).is_none());
+        assert!(Call::all("m", "pub fn f() {}").is_empty());
     }
 }

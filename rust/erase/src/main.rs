@@ -1,16 +1,9 @@
-//! Generates Rust from Rattle: `erase [--check | --items [FOLDER]..]`.
+//! Generates Rust from Rattle: `erase [--check]`.
 //!
-//! For each crate of the table, the program reads `lib.rt` and its modules, and writes them as Rust, laid
-//! out by rustfmt. It writes the sorted table of names, and a header of names for C, from the table of names, lists the
-//! public items of the cargo crate, and writes the exports of the library for C, with what its tests need of them. With
-//! `--check` it writes nothing, and ends with 1 if a file differs from what it would write.
-//!
-//! With `--items` it prints that list. A line has the path of a source, the head of what an item is in, and the item's
-//! head, with tabs between them. With folders it prints all items of the sources in Rattle below them, such as
-//! `crates/const_oid/src`: private ones too, and without attributes. A line with an item's clause follows that of the
-//! item: the same, then `requires` or `ensures`, with a space and the clause's name if it has one, and then its text.
-//! So has a ghost member `=` or `:` and its text, and a constant `=` and its value. Texts have no comments, and one
-//! space where the source has some.
+//! For each crate of the table, the program reads `lib.rt` and its modules, and writes them as Rust, laid out by rustfmt.
+//! It writes the sorted table of names, and a header of names for C, from the table of names, and the exports of the
+//! library for C, with what its tests need of them. With `--check` it writes nothing, and ends with 1 if a file differs
+//! from what it would write.
 
 mod c_names;
 mod calls;
@@ -18,7 +11,6 @@ mod edit;
 mod erase;
 mod examples;
 mod fault;
-mod items;
 mod names;
 mod table;
 mod token;
@@ -26,7 +18,6 @@ mod token;
 use calls::Call;
 use examples::Examples;
 use fault::{Fault, Result};
-use items::Item;
 use std::io::Write;
 use std::path::{Path, PathBuf};
 use std::process::{Command, ExitCode, Stdio};
@@ -37,8 +28,6 @@ const NAMES: &str = "rust/const-oid/src/db/names.rs";
 const SORTED: &str = "rust/const-oid/src/db/sorted.rs";
 const C_NAMES: &str = "crates/const_oid_c/include/const_oid_names.h";
 const EXAMPLES: &str = "rust/const-oid/src/examples.md";
-const CRATE: &str = "rust/const-oid/src";
-const ITEMS: &str = "rust/const-oid/public-items.txt";
 const FOR_C: &str = "crates/const_oid_c/src";
 const EXPORTS: &str = "rust/const-oid-c/src/exports.rs";
 const C_CALLS: &str = "crates/const_oid_c/tests/calls.h";
@@ -54,44 +43,13 @@ fn main() -> ExitCode {
     let faults = match &arguments[..] {
         [] => generated().map(|files| written(&files)),
         [flag] if flag == "--check" => generated().map(|files| differing(&files)),
-        [flag] if flag == "--items" => generated().map(|files| {
-            let list = files.iter().find(|file| file.0 == ITEMS);
-            print!("{}", list.map_or("", |file| &file.1));
-            vec![]
-        }),
-        [flag, folders @ ..] if flag == "--items" => items_below(folders).map(|lines| {
-            print!("{lines}");
-            vec![]
-        }),
-        _ => Err("erase [--check | --items [FOLDER]..]".into()),
+        _ => Err("erase [--check]".into()),
     };
     let faults = faults.unwrap_or_else(|fault| vec![fault]);
     for fault in &faults {
         eprintln!("{fault}");
     }
     ExitCode::from(u8::from(!faults.is_empty()))
-}
-
-/// The items of the sources in Rattle below folders, with their clauses.
-fn items_below(folders: &[String]) -> Checked<String> {
-    let mut out = String::new();
-    for path in below(folders) {
-        if path.ends_with(".rt") || folders.contains(&path) {
-            for item in items_of(&path, &read(&path)?)? {
-                let line = format!("{path}\t{}\t{}", item.owner, item.head);
-                out += &format!("{line}\n");
-                for (name, text) in item.clauses {
-                    out += &format!("{line}\t{name}\t{text}\n");
-                }
-            }
-        }
-    }
-    Ok(out)
-}
-
-fn items_of(path: &str, source: &str) -> Checked<Vec<Item>> {
-    let items = token::tokens(source).and_then(|tokens| items::items(&tokens));
-    items.map_err(|fault| at(path, &fault))
 }
 
 /// The files to write, or the first fault with its file and line.
@@ -102,7 +60,6 @@ fn generated() -> Checked<Vec<File>> {
         files.extend(modules(table, &mut examples)?);
     }
     examples.all_taken().map_err(|fault| at(EXAMPLES, &fault))?;
-    files.push((ITEMS.into(), public_items(&files)?));
     let table = read(NAMES)?;
     let sorted = names::sorted(&table).map_err(|fault| at(NAMES, &fault))?;
     files.push((SORTED.into(), headed(NAMES, &sorted)));
@@ -117,8 +74,7 @@ fn for_c() -> Checked<Vec<File>> {
     let mut calls = Vec::new();
     for path in listed(FOR_C) {
         let module = path.rsplit(['/', '.']).nth(1).unwrap_or("");
-        let items = items_of(&path, &read(&path)?)?;
-        calls.extend(items.iter().filter_map(|item| Call::of(module, item)));
+        calls.extend(Call::all(module, &read(&path)?));
     }
     let rust = |text: String| laid_out(&headed(FOR_C, &text));
     let list = calls::list(&calls)?;
@@ -126,26 +82,6 @@ fn for_c() -> Checked<Vec<File>> {
         (EXPORTS.into(), rust(calls::exports(&calls))?),
         (C_CALLS.into(), format!("/* {} */\n{list}", generated_from(FOR_C))),
     ])
-}
-
-/// The public items of the cargo crate: of its sources by hand, and of the files to write.
-fn public_items(files: &[File]) -> Checked<String> {
-    let mut sources: Vec<File> = files.iter().filter(|file| file.0.starts_with(CRATE)).cloned().collect();
-    for path in below(&[CRATE.into()]) {
-        let is_generated = path == NAMES || path == SORTED || sources.iter().any(|file| file.0 == path);
-        if path.ends_with(".rs") && !is_generated {
-            sources.push((path.clone(), read(&path)?));
-        }
-    }
-    sources.sort();
-    let mut out = String::new();
-    for (path, source) in &sources {
-        let items = items_of(path, source)?;
-        for item in items.iter().filter(|item| item.is_public) {
-            out += &format!("{path}\t{}\t{}{}\n", item.owner, item.told, item.head);
-        }
-    }
-    Ok(out)
 }
 
 /// The files of the modules of a crate.
@@ -227,19 +163,6 @@ fn listed(folder: &str) -> Vec<String> {
     let mut out: Vec<String> =
         entries.map(|entry| format!("{folder}/{}", entry.file_name().to_string_lossy())).collect();
     out.sort();
-    out
-}
-
-/// The files of folders and of those in them.
-fn below(folders: &[String]) -> Vec<String> {
-    let mut out = Vec::new();
-    let mut left: Vec<String> = folders.to_vec();
-    while let Some(path) = left.pop() {
-        match from_top(&path).is_dir() {
-            true => left.extend(listed(&path)),
-            false => out.push(path),
-        }
-    }
     out
 }
 

@@ -1,6 +1,7 @@
 //! The public functions of the source in Rattle: which ones the cargo crate and the library for C lack, and why.
 
-use std::process::Command;
+use std::fs;
+use std::path::Path;
 
 /// Modules, or functions of a module, that the crate lacks.
 const MISSING: &[(&str, &str)] = &[
@@ -70,24 +71,21 @@ const IN_C: &[(&str, &str)] = &[
 const OF_C: [&str; 5] =
     ["const_oid_arcs_from", "const_oid_check_sorted", "const_oid_cmp", "const_oid_cmp_owned", "const_oid_version"];
 
-/// The public functions of a list of items, each with the path of its source.
-fn functions(list: &str) -> Vec<(String, String)> {
-    let function = |line: &str| {
-        let columns: Vec<&str> = line.split('\t').collect();
-        let (before, name) = columns[2].split_once("fn ")?;
-        let is_public = before.starts_with("pub ") || columns[1].ends_with('!');
-        let name = name.split(['(', '<', ' ']).next()?;
-        (is_public && columns.len() == 3).then(|| (columns[0].into(), name.into()))
-    };
-    list.lines().filter_map(function).collect()
-}
-
-/// The public functions of the sources in a folder, each with its module.
+/// The public functions of the sources in a folder, each with its module. In `oid_ref.rs` macros write some.
 fn of_source(folder: &str) -> Vec<(String, String)> {
-    let mut erase = Command::new(env!("CARGO_BIN_EXE_erase"));
-    let list = erase.args(["--items", folder]).output().unwrap().stdout;
-    let module = |path: String| path.rsplit(['/', '.']).nth(1).unwrap().to_string();
-    functions(&String::from_utf8(list).unwrap()).into_iter().map(|(path, name)| (module(path), name)).collect()
+    let folder = Path::new(env!("CARGO_MANIFEST_DIR")).join("../..").join(folder);
+    let mut out = Vec::new();
+    for path in fs::read_dir(folder).unwrap().map(|entry| entry.unwrap().path()).filter(|path| path.is_file()) {
+        let module = path.file_stem().unwrap().to_str().unwrap();
+        for line in fs::read_to_string(&path).unwrap().lines().map(str::trim) {
+            let (before, name) = line.split_once("fn ").unwrap_or(("//", ""));
+            let is_public = ["pub ", "pub const ", "pub extern \"C\" "].contains(&before);
+            if is_public || before.is_empty() && line.ends_with(';') && module == "oid_ref" {
+                out.push((module.into(), name.split(['(', '<', ' ']).next().unwrap().into()));
+            }
+        }
+    }
+    out
 }
 
 /// Whether a row's name is that of a module, a function or a function of a module.
@@ -97,16 +95,14 @@ fn names(row: &str, module: &str, name: &str) -> bool {
 
 #[test]
 fn what_the_crate_lacks_has_a_reason() {
-    let list = include_str!("../../const-oid/public-items.txt");
-    let here = functions(list);
+    let by_hand = of_source("rust/const-oid/src");
+    let generated = of_source("rust/const-oid/src/erased");
     let calls = of_source("crates/const_oid/src");
     for (module, name) in &calls {
         // The forms of a borrowed identifier are in a file of their own.
-        let is_in = |path: &str| match &**module {
-            "oid_ref" => path.ends_with("src/oid_ref.rs"),
-            module => path.ends_with(&format!("erased/{module}.rs")) || path.ends_with("conversions.rs"),
-        };
-        let is_here = here.iter().any(|(path, other)| other == name && is_in(path));
+        let is_in = |other: &str| other == module || other == "conversions";
+        let is_here = by_hand.iter().any(|(other, found)| found == name && is_in(other))
+            || module != "oid_ref" && generated.contains(&(module.clone(), name.clone()));
         let is_missing = MISSING.iter().any(|row| names(row.0, module, name));
         assert_eq!(is_here, !is_missing, "{module}::{name}");
     }

@@ -19,12 +19,11 @@ const FOLDERS: [&str; 7] = [
 const GENERATED: [&str; 2] = ["rust/const-oid/src/erased", "rust/const-oid-c/src/erased"];
 
 /// The generated files in other folders.
-const FILES: [&str; 5] = [
+const FILES: [&str; 4] = [
     "crates/const_oid_c/include/const_oid_names.h",
     "crates/const_oid_c/tests/calls.h",
     "rust/const-oid-c/src/exports.rs",
     "rust/const-oid/src/db/sorted.rs",
-    "rust/const-oid/public-items.txt",
 ];
 
 fn top() -> PathBuf {
@@ -128,51 +127,12 @@ fn a_generated_file_that_is_changed_removed_or_added() {
 }
 
 #[test]
-fn a_source_by_hand_whose_public_items_change() {
-    let copy = Copy::new("items");
-    copy.append("rust/const-oid/src/conversions.rs", "fn private() {}\n");
-    assert_eq!(copy.faults(), [""; 0]);
-    copy.append("rust/const-oid/src/conversions.rs", "pub fn public() {}\n");
-    let list = String::from("rust/const-oid/public-items.txt");
-    assert_eq!(copy.faults(), each(&[list], "not what erase generates"));
-    let printed = String::from_utf8(copy.erase(&["--items"]).stdout).unwrap();
-    assert!(printed.contains("rust/const-oid/src/conversions.rs\t\tpub fn public()\n"));
-}
-
-#[test]
 fn generated_files_have_their_attribute() {
     let attributes = fs::read_to_string(top().join(".gitattributes")).unwrap();
     let folders = GENERATED.map(|folder| format!("{folder}/*.rs"));
     for path in FILES.map(str::to_string).into_iter().chain(folders) {
         let line = format!("{path} linguist-generated\n");
         assert!(attributes.contains(&line), "{path}");
-    }
-}
-
-/// Each source by hand is in the list of public items, in a folder too.
-#[test]
-fn every_source_is_listed() {
-    let copy = Copy::new("sources_by_hand");
-    let generated = copy.generated();
-    let mut left = vec![String::from("rust/const-oid/src")];
-    fs::create_dir_all(copy.0.join(&left[0]).join("in/folders")).unwrap();
-    copy.append("rust/const-oid/src/in/folders/new.rs", "");
-    let mut by_hand = vec![];
-    while let Some(path) = left.pop() {
-        if let Ok(entries) = fs::read_dir(copy.0.join(&path)) {
-            let names = entries.map(|entry| entry.unwrap().file_name().into_string().unwrap());
-            left.extend(names.map(|name| format!("{path}/{name}")));
-        } else if path.ends_with(".rs") && !path.ends_with("db/names.rs") && !generated.contains(&path) {
-            by_hand.push(path);
-        }
-    }
-    assert!(by_hand.len() > 9, "{by_hand:?}");
-    let added = by_hand.iter().map(|path| copy.append(path, "\npub fn added() {}\n"));
-    added.for_each(drop);
-    let printed = String::from_utf8(copy.erase(&["--items"]).stdout).unwrap();
-    for path in by_hand {
-        let line = format!("{path}\t\tpub fn added()\n");
-        assert!(printed.contains(&line), "{path}");
     }
 }
 
@@ -193,36 +153,6 @@ fn files_that_are_not_written() {
     let text = String::from_utf8(output.stderr).unwrap();
     for path in paths {
         assert!(text.contains(&format!("{path}: ")), "{path}: {text}");
-    }
-}
-
-#[test]
-fn items_of_folders() {
-    let copy = Copy::new("below");
-    let folder = "crates/below/src";
-    fs::create_dir_all(copy.0.join(folder).join("inner")).unwrap();
-    copy.append("crates/below/src/a.rt", "const A: u8 = 1;\nfn b();\nstruct S { a: u8, ghost b: { c }, }\n");
-    copy.append("crates/below/src/inner/c.rt", "trait T { fn d() ensures e { f } {} }");
-    copy.append("crates/below/src/g.rs", "fn g() {}");
-    let printed = copy.erase(&["--items", folder]).stdout;
-    let mut lines: Vec<String> =
-        String::from_utf8(printed).unwrap().lines().map(|line| line.replace('\t', "|")).collect();
-    lines.sort();
-    let expected = [
-        "crates/below/src/a.rt|struct S|a: u8",
-        "crates/below/src/a.rt||const A: u8",
-        "crates/below/src/a.rt||const A: u8|=|1",
-        "crates/below/src/a.rt||fn b()",
-        "crates/below/src/a.rt||struct S",
-        "crates/below/src/inner/c.rt|trait T|fn d()",
-        "crates/below/src/inner/c.rt|trait T|fn d()|ensures e|f",
-        "crates/below/src/inner/c.rt||trait T",
-    ];
-    assert_eq!(lines, expected);
-    copy.append("crates/below/src/a.rt", "fn h() ensures;");
-    for wrong in [folder, "crates/none"] {
-        let output = copy.erase(&["--items", wrong]);
-        assert!(!output.status.success() && output.stdout.is_empty());
     }
 }
 
