@@ -5,13 +5,13 @@ import copy
 import operator
 import os
 import pickle
+import random
 import sys
 import threading
 import time
 import unittest
 import weakref
 
-import model
 from const_oid import Code, ObjectIdentifier, OidError
 
 OID = ObjectIdentifier("1.2.840.10045.2.1")
@@ -158,21 +158,21 @@ class Inputs(unittest.TestCase):
             self.assertIs(caught.exception.code, Code.BASE128)
 
     def test_text_and_arcs_have_any_length(self):
-        """Text and arcs of 254 to 70,000 octets, made of small arcs and of the greatest, beside the model."""
+        """Text and arcs of up to 70,000 octets, made of small arcs and of the greatest, and their errors."""
         for count in (126, 127, 128, 253, 254, 255, 256, 257, 1000, 14_000):
-            for arc in (3, 2**32 - 1):
-                arcs = (2, arc, *[arc, *range(5)][: count % 7], *[arc] * count)
-                octets, text = model.octets_of_arcs(arcs), model.text_of(arcs)
+            for arc, first, later in ((3, b"\x53", b"\x03"), (2**32 - 1, b"\x90\x80\x80\x80\x4f", b"\x8f\xff\xff\xff\x7f")):
+                arcs, octets = (2, *[arc] * (count + 1)), first + later * count
+                text = ".".join(map(str, arcs))
                 with self.subTest(count=count, arc=arc):
                     oid = ObjectIdentifier(text)
                     self.assertEqual((octets, octets), (bytes(oid), bytes(ObjectIdentifier.from_arcs(arcs))))
                     self.assertEqual((arcs, text, oid), (oid.arcs, str(oid), oid.parent.child(oid[-1])))
-                    for wrong in (f"{text}.x", f"{text}.", text.replace(".", "..", count // 2), f"{text}.4294967296"):
+                    self.assertEqual((arcs[1:], arcs[::-1]), (oid[1:], oid[::-1]))
+                    wrong = {f"{text}.x": (4, 120), f"{text}.": (9, 0), f"{text}..1": (8, 0), f"{text}.4294967296": (2, 0)}
+                    for given, args in wrong.items():
                         with self.assertRaises(OidError) as caught:
-                            ObjectIdentifier(wrong)
-                        with self.assertRaises(model.Fault) as fault:
-                            model.arcs_of_text(wrong)
-                        self.assertEqual(fault.exception.args, caught.exception.args)
+                            ObjectIdentifier(given)
+                        self.assertEqual(args, (caught.exception.code, caught.exception.detail))
                     with self.assertRaises(OidError) as caught:
                         ObjectIdentifier.from_arcs((*arcs, 2**32))
                     self.assertIs(caught.exception.code, Code.ARC_TOO_BIG)
@@ -291,6 +291,20 @@ class Values(unittest.TestCase):
             for order in (operator.lt, operator.le, operator.gt, operator.ge):
                 with self.assertRaises(TypeError):
                     order(OID, other)
+
+    def test_pairs_compare_as_tuples_do(self):
+        """10,000 drawn pairs: equality, hashes, order and prefixes are those of tuples."""
+        draw = random.Random(8825)
+        for _ in range(10_000):
+            left = (draw.randint(0, 2), *(draw.getrandbits(draw.choice([1, 7, 32])) for _ in range(draw.randint(1, 40))))
+            left = (left[0], left[1] % 40, *left[2:])
+            cut = draw.randint(2, len(left))
+            right = draw.choice([left, left[:cut], (*left[:cut], draw.getrandbits(32)), (left[0], 3, *left[2:]), (*left, 0)])
+            a, b = ObjectIdentifier.from_arcs(left), ObjectIdentifier.from_arcs(right)
+            wanted = (left == right, left != right, left < right, left <= right, left > right, left >= right)
+            self.assertEqual(wanted, (a == b, a != b, a < b, a <= b, a > b, a >= b), (left, right))
+            found = (hash(a) == hash(b), a.starts_with(b))
+            self.assertEqual((left == right, left[: len(right)] == right), found, (left, right))
 
     def test_an_identifier_is_a_sequence(self):
         self.assertEqual([1, 2, 840, 10045, 2, 1], list(OID))
