@@ -8,8 +8,6 @@ use Rattle.std.specs.Result.{result_map_both}
 use Rattle.std.specs.Str.{str_eq_ignore_ascii_case}
 use Rattle.const_oid.specs.declared.db.Database.{Database}
 use Rattle.const_oid.specs.declared.db.Names.{Names}
-use Rattle.const_oid.specs.declared.db_ref.RefDatabase.{RefDatabase}
-use Rattle.const_oid.specs.declared.db_ref.RefNames.{RefNames}
 use Rattle.const_oid.specs.declared.db_sorted.SortedDatabase.{SortedDatabase}
 use Rattle.const_oid.specs.declared.error.Error.{Error}
 use Rattle.const_oid.specs.declared.oid.ObjectIdentifier.{ObjectIdentifier}
@@ -60,17 +58,9 @@ lent_arcs oid = oid_arcs oid.now
 abbrev pub entries_of : Database → List (Entry (Bor (ObjectIdentifier 39)))
 entries_of database = database.entries.now
 
--- the entries of a database of borrowed identifiers, in table order
-abbrev pub ref_entries_of : RefDatabase → List (Entry ObjectIdentifierRef)
-ref_entries_of database = database.entries.now
-
 -- the names that an iterator has left
 abbrev pub names_left : Names → List (Bor (List ℕ))
 names_left names = all_names lent_arcs (drop names.index (entries_of names.database)) (oid_arcs names.oid)
-
--- the names that an iterator over entries of borrowed identifiers has left
-abbrev pub ref_names_left : RefNames → List (Bor (List ℕ))
-ref_names_left names = all_names ref_arcs names.left.now (ref_arcs names.oid)
 
 -- the name in the first entry with these arcs, or a text if there is no such entry
 abbrev pub name_or : List (Entry (Bor (ObjectIdentifier 39))) → Bor (List ℕ) → List ℕ → Bor (List ℕ)

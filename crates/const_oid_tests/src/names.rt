@@ -1,25 +1,17 @@
-//! Tables of names: `Database`, and `RefDatabase` of constants, with what they find: `by_oid`, `by_name`,
-//! `find_names_for_oid` and `resolve`.
+//! Tables of names, with what they find: `by_oid`, `by_name`, `find_names_for_oid` and `resolve`.
 
 ghost use Rattle.std.specs.Prelude.{◌≡◌, IsOk, IfOk};
 ghost use Rattle.std.specs.Iterator.{IsFinite};
-ghost use Rattle.const_oid.specs.Names.{entries_of, ref_entries_of};
+ghost use Rattle.const_oid.specs.Names.{entries_of};
 
-use const_oid::db::{Database, RefDatabase};
-use const_oid::{Error, ObjectIdentifierRef, Oid};
+use const_oid::db::Database;
+use const_oid::{Error, Oid};
 use std::alloc::AllocError;
 use std::test::Fail;
 
 fn clone_of<'a>(database: &Database<'a>) -> Result<Database<'a>, AllocError>
     ensures always { IsOk result }
     ensures same { IfOk result (λ copy. entries_of copy ≡ entries_of database.now) }
-{
-    database.clone()
-}
-
-fn ref_clone_of<'a>(database: &RefDatabase<'a>) -> Result<RefDatabase<'a>, AllocError>
-    ensures always { IsOk result }
-    ensures same { IfOk result (λ copy. ref_entries_of copy ≡ ref_entries_of database.now) }
 {
     database.clone()
 }
@@ -208,31 +200,4 @@ fn finds_the_first_of_equal_names(rt: HostRuntime) {
     for row in TABLES {
         assert!(rt; is_table(row) == Ok(true), "{row:?}");
     }
-}
-
-const COMMON_NAME: ObjectIdentifierRef<'static> = ObjectIdentifierRef {
-    ber: &[0x55, 0x04, 0x03],
-};
-
-const COUNTRY: ObjectIdentifierRef<'static> = ObjectIdentifierRef {
-    ber: &[0x55, 0x04, 0x06],
-};
-
-/// cn and commonName of 2.5.4.3, and c of 2.5.4.6 (RFC 4519).
-const TABLE: [(ObjectIdentifierRef<'static>, &str); 3] = [
-    (COMMON_NAME, "cn"),
-    (COUNTRY, "c"),
-    (COMMON_NAME, "commonName"),
-];
-
-#[test]
-fn finds_in_a_table_of_constants(rt: HostRuntime) -> Result<(), AllocError> {
-    let database = ref_clone_of(&RefDatabase::new(&TABLE))?;
-    let unnamed = ObjectIdentifierRef { ber: &[0x55, 0x04] };
-    assert!(rt; database.by_oid(&COMMON_NAME) == Some("cn") && database.by_oid(&unnamed).is_none());
-    assert!(rt; database.by_name("COMMONNAME") == Some(COMMON_NAME));
-    assert!(rt; database.by_name("common").is_none());
-    let names = database.find_names_for_oid(COMMON_NAME);
-    assert!(rt; gives(names, &["cn", "commonName"]));
-    Ok(())
 }

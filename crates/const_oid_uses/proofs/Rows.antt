@@ -1,11 +1,11 @@
 -- What a table of borrowed identifiers finds, by its rows.
-use Rattle.std.proofs.Common.{arith, ◌≡◌, ◌↔◌, ℕ, Bool, List, [], ◌∷◌, nat_eq, map, Some, IsTrue, refl, ap, ◌∙◌, sym}
+use Rattle.std.proofs.Common.{arith, ◌≡◌, ◌↔◌, ℕ, Bool, List, [], ◌∷◌, nat_eq, map, IsTrue, refl, ◌∙◌, sym}
 use Rattle.std.proofs.Common.{Option, Bor}
-use Rattle.std.specs.{Cmp.Lexicographic.{pointwise, bytes_decides}, List.{Any, list_any}, Option.{option_map, is_some}}
+use Rattle.std.specs.{Cmp.Lexicographic.{pointwise, bytes_decides}, List.{Any, list_any}, Option.{is_some}}
 use Rattle.std.proofs.lemmas.List.Folds.{Any-from_list_any, list_any-from_Any}
 use Rattle.const_oid.specs.{declared.oid_ref.ObjectIdentifierRef.ObjectIdentifierRef, OidRef.ref_arcs}
-use Rattle.const_oid.specs.Names.{Entry, oid_of, name_of, first_oid, first_name}
-use Rattle.const_oid_uses.specs.AttributeTypes.{Row, first_arcs}
+use Rattle.const_oid.specs.Names.{Entry, oid_of, name_of, first_name}
+use Rattle.const_oid_uses.specs.AttributeTypes.{Row}
 
 -- the row of an entry
 abbrev pub row_of : Entry ObjectIdentifierRef → Row
@@ -14,12 +14,6 @@ row_of entry = (ref_arcs (oid_of entry), (name_of entry).now)
 -- a row has these arcs
 abbrev row_has_arcs : List ℕ → Row → Bool
 row_has_arcs arcs row = pointwise nat_eq row.0 arcs
-
--- the arcs of a name are those of the identifier that the entries have for it
-first_arcs-rows : (entries : List (Entry ObjectIdentifierRef)) (name : List ℕ)
-    → first_arcs (map row_of entries) name ≡ option_map ref_arcs (first_oid entries name)
-first_arcs-rows [] name = refl
-first_arcs-rows (entry ∷ entries) name = grind (arith, first_arcs-rows entries name)
 
 -- the entries have a name for arcs exactly where some row has them
 any-rows : (entries : List (Entry ObjectIdentifierRef)) (arcs : List ℕ)
@@ -41,18 +35,8 @@ some_row entries arcs =
 
 -- the entries of a table and its rows
 module _ (entries : List (Entry ObjectIdentifierRef)) (rows : List Row) (made : map row_of entries ≡ rows) where
-  -- the arcs of a name are those of the identifier that the table has by it
-  pub arcs_found : (name : List ℕ) (found : Option ObjectIdentifierRef) → found ≡ first_oid entries name
-      → first_arcs rows name ≡ option_map ref_arcs found
-  arcs_found name found e = rw (← made, e) (first_arcs-rows entries name)
-
   -- the table finds a name by arcs exactly where some row has them
   pub row_found : (arcs : List ℕ) (found : Option (Bor (List ℕ))) (result : Bool)
       → found ≡ first_name ref_arcs entries arcs → result ≡ is_some found
       → IsTrue result ↔ Any (λ row. row.0 ≡ arcs) rows
   row_found arcs found result e f = rw (← made, f, e) (some_row entries arcs)
-
--- the arcs that were found are others exactly where a test says so
-pub are_arcs : (answer : Option (List ℕ)) (found other : List ℕ) (result : Bool) → answer ≡ Some found
-    → IsTrue result ↔ (found ≡ other) → IsTrue result ↔ (answer ≡ Some other)
-are_arcs answer found other result e (told, tells) = (λ t. e ∙ ap Some (told t), λ h. tells cc)

@@ -1,15 +1,9 @@
 -- The attribute types of a directory that the table has.
-use Rattle.std.specs.Prelude.{ℕ, List, [], ◌∷◌, Option, codes, find}
-use Rattle.std.specs.Option.{option_map}
-use Rattle.std.specs.Str.{str_eq_ignore_ascii_case}
+use Rattle.std.specs.Prelude.{ℕ, List, [], ◌∷◌, codes}
 
 -- a row of a table: arcs and their name
 abbrev pub Row : Type 0
 Row = List ℕ × List ℕ
-
--- the arcs of the first row of this name, ignoring ASCII case
-abbrev pub first_arcs : List Row → List ℕ → Option (List ℕ)
-first_arcs rows name = option_map (λ row. row.0) (find (λ row. str_eq_ignore_ascii_case row.1 name) rows)
 
 -- attribute types with their names (RFC 4519, section 2)
 unfoldable pub attribute_types : List Row

@@ -1,12 +1,12 @@
 //! Attribute types of a directory (RFC 4519), as a table of constants.
 
-ghost use Rattle.std.specs.Prelude.{◌≡◌, ◌↔◌, IsTrue, Some};
+ghost use Rattle.std.specs.Prelude.{◌≡◌, ◌↔◌, IsTrue};
 ghost use Rattle.std.specs.List.{Any};
 ghost use Rattle.const_oid.specs.OidRef.{ref_arcs};
-ghost use Rattle.const_oid_uses.specs.AttributeTypes.{attribute_types, first_arcs};
+ghost use Rattle.const_oid_uses.specs.AttributeTypes.{attribute_types};
 
 use const_oid::ObjectIdentifierRef;
-use const_oid::db::{RefDatabase, SortedDatabase};
+use const_oid::db::SortedDatabase;
 
 /// Identifiers and their names, sorted by arcs. The checker reads the octets.
 pub const ATTRIBUTE_TYPES: [(ObjectIdentifierRef<'static>, &str); 12] = [
@@ -83,16 +83,6 @@ pub const ATTRIBUTE_TYPES: [(ObjectIdentifierRef<'static>, &str); 12] = [
         "title",
     ),
 ];
-
-/// Whether an attribute type has this name, ignoring ASCII case.
-pub fn is_named(oid: &ObjectIdentifierRef<'_>, name: &str) -> bool
-    ensures { IsTrue result ↔ (first_arcs attribute_types name.now ≡ Some (ref_arcs oid.now)) }
-{
-    match RefDatabase::new(&ATTRIBUTE_TYPES).by_name(name) {
-        Some(found) => found == *oid,
-        None => false,
-    }
-}
 
 /// Whether the table has an attribute type.
 pub fn is_attribute_type(oid: &ObjectIdentifierRef<'_>) -> bool

@@ -5,7 +5,6 @@ use std::path::Path;
 
 /// Modules, or functions of a module, that the crate lacks.
 const MISSING: &[(&str, &str)] = &[
-    ("db_ref", "in Rust a constant holds a `Database`"),
     ("laws", "its functions have contracts, and no effect"),
     ("oid::try_from_ref", "`TryFrom`"),
     ("oid_ref::eq_oid", "`==`"),
@@ -23,7 +22,6 @@ const ONE_FORM: &str = "in C an identifier is its octets";
 const IN_C: &[(&str, &str)] = &[
     ("buffer", ONE_FORM),
     ("db", "a table in C is the caller's"),
-    ("db_ref", "a table in C is the caller's"),
     ("db_sorted", "a table in C is the caller's"),
     ("error", "const_oid_error_text"),
     ("laws", "its functions have contracts, and no effect"),

@@ -1,9 +1,0 @@
-use Rattle.std.proofs.Common.{◌≡◌, length}
-use Rattle.const_oid.specs.Names.{ref_names_left}
-use Rattle.const_oid.proofs.db_ref.RefNamesIterator.next.Given as goal
-
-abbrev pub invariant-loop-self : goal.invariant-loop-self
-invariant-loop-self l = ref_names_left l.initial.self ≡ ref_names_left l.self
-
-abbrev pub decreases-loop-self : goal.decreases-loop-self
-decreases-loop-self l = length l.self.left.now
