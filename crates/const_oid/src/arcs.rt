@@ -10,9 +10,26 @@ use crate::root::split_root;
 use std::marker::Model;
 
 /// One arc of an object identifier, a 32-bit number.
+///
+/// # Examples
+///
+/// ```
+/// const GREATEST: const_oid::Arc = const_oid::Arc::MAX;
+/// assert_eq!(GREATEST, 4_294_967_295);
+/// ```
 pub type Arc = u32;
 
 /// An iterator over the arcs of an identifier, in order. After the last arc, `next` always returns `None`.
+///
+/// # Examples
+///
+/// ```
+/// use const_oid::{Arcs, ObjectIdentifier};
+///
+/// let oid = ObjectIdentifier::new_unwrap("2.999");
+/// let mut arcs: Arcs<'_> = oid.arcs();
+/// assert_eq!((arcs.next(), arcs.next(), arcs.next()), (Some(2), Some(999), None));
+/// ```
 #[derive(Drop)]
 pub struct Arcs<'a> {
     next: Next,

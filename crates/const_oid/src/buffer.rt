@@ -15,6 +15,12 @@ use std::hash::{Hash, Hasher};
 /// The octets of an owned identifier: at most `SIZE`, and never more than 255.
 ///
 /// It has no public constructor.
+///
+/// # Examples
+///
+/// ```
+/// assert_eq!(size_of::<const_oid::Buffer<39>>(), 40);
+/// ```
 #[derive(Copy, Clone)]
 pub struct Buffer<const SIZE: usize> {
     bytes: [u8; SIZE],
@@ -86,6 +92,14 @@ impl<const SIZE: usize> Buffer<SIZE> {
     }
 
     /// The octets in use.
+    ///
+    /// # Examples
+    ///
+    /// ```
+    /// fn octets<const SIZE: usize>(buffer: &const_oid::Buffer<SIZE>) -> &[u8] {
+    ///     buffer.as_bytes()
+    /// }
+    /// ```
     // erase: const
     pub fn as_bytes(&self) -> &[u8]
         ensures { result.now ≡ octets_of self.now }
@@ -96,6 +110,14 @@ impl<const SIZE: usize> Buffer<SIZE> {
     }
 
     /// How many octets are in use.
+    ///
+    /// # Examples
+    ///
+    /// ```
+    /// fn is_empty<const SIZE: usize>(buffer: &const_oid::Buffer<SIZE>) -> bool {
+    ///     buffer.len() == 0
+    /// }
+    /// ```
     pub const fn len(&self) -> usize
         ensures value { result ≡ length (octets_of self.now) }
         ensures fits { result ≤ min SIZE 255 }
@@ -121,6 +143,14 @@ impl<const SIZE: usize> Buffer<SIZE> {
     }
 
     /// Whether the octets in use are equal.
+    ///
+    /// # Examples
+    ///
+    /// ```
+    /// const fn are_equal(a: &const_oid::Buffer<39>, b: &const_oid::Buffer<39>) -> bool {
+    ///     a.eq(b)
+    /// }
+    /// ```
     // Whole arrays are compared, since zeros follow in both.
     // erase: const
     #[inline(always)]

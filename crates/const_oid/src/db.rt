@@ -17,6 +17,17 @@ use crate::oid::Oid;
 /// identifiers.
 ///
 /// Names are compared ignoring ASCII case.
+///
+/// # Examples
+///
+/// ```
+/// use const_oid::{ObjectIdentifier, db::Database};
+///
+/// const SYSTEM: ObjectIdentifier = ObjectIdentifier::new_unwrap("1.3.6.1.2.1.1");
+/// const NAMES: Database<'static> = Database::new(&[(&SYSTEM, "system")]);
+/// const NAME: Option<&str> = NAMES.by_oid(&SYSTEM);
+/// assert_eq!(NAME, Some("system"));
+/// ```
 #[derive(Copy, Clone)]
 pub struct Database<'a> {
     entries: &'a [(&'a Oid, &'a str)],
@@ -31,6 +42,16 @@ impl<'a> Database<'a> {
     ghost use Rattle.const_oid.specs.Names.{lent_arcs, entries_of, first_name, resolve_answer, all_names, first_oid, names_left};
 
     /// A database over these entries.
+    ///
+    /// # Examples
+    ///
+    /// ```
+    /// use const_oid::{ObjectIdentifier, db::Database};
+    ///
+    /// const CN: ObjectIdentifier = ObjectIdentifier::new_unwrap("2.5.4.3");
+    /// const NAMES: Database<'static> = Database::new(&[(&CN, "cn"), (&CN, "commonName")]);
+    /// assert_eq!(NAMES.by_oid(&CN), Some("cn"));
+    /// ```
     pub const fn new(entries: &'a [(&'a Oid, &'a str)]) -> Self
         ensures { entries_of result ≡ entries.now }
     {
@@ -55,6 +76,14 @@ impl<'a> Database<'a> {
     }
 
     /// The name in the first entry with this identifier, or `None` if there is no such entry.
+    ///
+    /// # Examples
+    ///
+    /// ```
+    /// use const_oid::db::{DB, rfc4519};
+    ///
+    /// assert_eq!(DB.by_oid(&rfc4519::CN), Some("cn"));
+    /// ```
     // erase: const
     pub fn by_oid(&self, oid: &Oid) -> Option<&'a str>
         ensures { result ≡ first_name lent_arcs (entries_of self.now) (oid_arcs oid.now) }
@@ -72,6 +101,14 @@ impl<'a> Database<'a> {
     }
 
     /// The identifier in the first entry with this name, ignoring ASCII case, or `None` if there is no such entry.
+    ///
+    /// # Examples
+    ///
+    /// ```
+    /// use const_oid::db::{DB, rfc4519};
+    ///
+    /// assert_eq!(DB.by_name("CN"), Some(&rfc4519::CN));
+    /// ```
     pub const fn by_name(&self, name: &str) -> Option<&'a Oid>
         ensures { result ≡ first_oid (entries_of self.now) name.now }
     {
@@ -88,6 +125,16 @@ impl<'a> Database<'a> {
     }
 
     /// All names of this identifier, in the order of the table.
+    ///
+    /// # Examples
+    ///
+    /// ```
+    /// use const_oid::{ObjectIdentifier, db::Database};
+    ///
+    /// const CN: ObjectIdentifier = ObjectIdentifier::new_unwrap("2.5.4.3");
+    /// let names = Database::new(&[(&CN, "cn"), (&CN, "commonName")]);
+    /// assert!(names.find_names_for_oid(CN).eq(["cn", "commonName"]));
+    /// ```
     // erase: const
     pub fn find_names_for_oid(&self, oid: Oid) -> Names<'a>
         ensures { names_left result ≡ all_names lent_arcs (entries_of self.now) (oid_arcs oid) }
@@ -105,6 +152,16 @@ impl<'a> Database<'a> {
     /// # Errors
     ///
     /// Those of `new` of an owned identifier.
+    ///
+    /// # Examples
+    ///
+    /// ```
+    /// use const_oid::{Error, db::DB};
+    ///
+    /// assert_eq!(DB.resolve("2.5.4.3"), Ok("cn"));
+    /// assert_eq!(DB.resolve("2.999"), Ok("2.999"));
+    /// assert_eq!(DB.resolve("2."), Err(Error::TrailingDot));
+    /// ```
     pub fn resolve<'b>(&self, oid: &'b str) -> Result<&'b str>
     where
         'a: 'b,
@@ -116,6 +173,15 @@ impl<'a> Database<'a> {
 }
 
 /// An iterator over the names of an identifier, in the order of the table.
+///
+/// # Examples
+///
+/// ```
+/// use const_oid::db::{DB, Names, rfc4519};
+///
+/// let mut names: Names<'static> = DB.find_names_for_oid(rfc4519::CN);
+/// assert_eq!(names.next(), Some("cn"));
+/// ```
 #[derive(Drop)]
 pub struct Names<'a> {
     database: Database<'a>,

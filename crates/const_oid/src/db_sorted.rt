@@ -18,6 +18,17 @@ type Entry<'a> = (ObjectIdentifierRef<'a>, &'a str);
 
 /// A table of borrowed identifiers and their names, sorted by [`cmp_arcs`](ObjectIdentifierRef::cmp_arcs), so that a
 /// lookup is a binary search. An identifier may have several names, and a name several identifiers.
+///
+/// # Examples
+///
+/// ```
+/// use const_oid::{ObjectIdentifier, db::SortedDatabase};
+///
+/// const COLUMN: ObjectIdentifier = ObjectIdentifier::new_unwrap("1.3.6.1.2.1.2.2.1.10");
+/// const NAMES: SortedDatabase<'static> = SortedDatabase::new(&[(COLUMN.as_oid_ref(), "ifInOctets")]);
+/// assert_eq!(NAMES.nearest(COLUMN.push_arc(3)?.as_oid_ref()).unwrap().1, "ifInOctets");
+/// # Ok::<(), const_oid::Error>(())
+/// ```
 #[derive(Copy, Clone)]
 pub struct SortedDatabase<'a> {
     entries: &'a [Entry<'a>],
@@ -30,6 +41,16 @@ impl<'a> SortedDatabase<'a> {
 
     /// A database over sorted entries. Their order is not checked, and over unsorted entries the results of lookups are
     /// unspecified: [`try_new`](Self::try_new) checks it.
+    ///
+    /// # Examples
+    ///
+    /// ```
+    /// use const_oid::{ObjectIdentifier, db::SortedDatabase};
+    ///
+    /// const CN: ObjectIdentifier = ObjectIdentifier::new_unwrap("2.5.4.3");
+    /// const NAMES: SortedDatabase<'static> = SortedDatabase::new(&[(CN.as_oid_ref(), "cn")]);
+    /// assert_eq!(NAMES.by_oid(CN.as_oid_ref()), Some("cn"));
+    /// ```
     // In Rattle, the caller proves the order.
     pub const fn new(entries: &'a [Entry<'a>]) -> Self
         requires { IsSortedByKey entry_arcs (slice_cmp nat_cmp) entries.now }
@@ -39,6 +60,18 @@ impl<'a> SortedDatabase<'a> {
     }
 
     /// A database over these entries, or `None` if they are not sorted.
+    ///
+    /// # Examples
+    ///
+    /// ```
+    /// use const_oid::{ObjectIdentifierRef, db::SortedDatabase};
+    ///
+    /// let cn = ObjectIdentifierRef::from_bytes(&[0x55, 4, 3])?;
+    /// let c = ObjectIdentifierRef::from_bytes(&[0x55, 4, 6])?;
+    /// assert!(SortedDatabase::try_new(&[(cn, "cn"), (c, "c")]).is_some());
+    /// assert!(SortedDatabase::try_new(&[(c, "c"), (cn, "cn")]).is_none());
+    /// # Ok::<(), const_oid::Error>(())
+    /// ```
     pub fn try_new(entries: &'a [Entry<'a>]) -> Option<Self>
         ensures sorted { IsSome result ↔ IsSortedByKey entry_arcs (slice_cmp nat_cmp) entries.now }
         ensures entries { IfSome result (λ database. sorted_entries_of database ≡ entries.now) }
@@ -51,6 +84,14 @@ impl<'a> SortedDatabase<'a> {
     }
 
     /// The name in the first entry with this identifier, or `None` if there is no such entry.
+    ///
+    /// # Examples
+    ///
+    /// ```
+    /// use const_oid::db::{SORTED, rfc4519};
+    ///
+    /// assert_eq!(SORTED.by_oid(rfc4519::CN.as_oid_ref()), Some("cn"));
+    /// ```
     pub fn by_oid(&self, oid: &ObjectIdentifierRef<'_>) -> Option<&'a str>
         ensures { result ≡ first_name ref_arcs (sorted_entries_of self.now) (ref_arcs oid.now) }
     {
@@ -60,6 +101,25 @@ impl<'a> SortedDatabase<'a> {
 
     /// The entry with the longest prefix of the identifier, which may be all of it, or `None` if the table has no
     /// prefix. If several entries have it, the first.
+    ///
+    /// # Examples
+    ///
+    /// ```
+    /// use const_oid::{ObjectIdentifier, db::SortedDatabase};
+    ///
+    /// let [mib_2, system, enterprises] =
+    ///     ["1.3.6.1.2.1", "1.3.6.1.2.1.1", "1.3.6.1.4.1"].map(ObjectIdentifier::new_unwrap);
+    /// let entries = [
+    ///     (mib_2.as_oid_ref(), "mib-2"),
+    ///     (system.as_oid_ref(), "system"),
+    ///     (enterprises.as_oid_ref(), "enterprises"),
+    /// ];
+    /// let names = SortedDatabase::new(&entries);
+    /// let oid = ObjectIdentifier::new_unwrap("1.3.6.1.4.1.8072.3.2");
+    /// let (named, name) = names.nearest(oid.as_oid_ref()).unwrap();
+    /// assert_eq!(*name, "enterprises");
+    /// assert!(oid.arcs().skip(named.len()).eq([8072, 3, 2]));
+    /// ```
     pub fn nearest(&self, oid: ObjectIdentifierRef<'_>) -> Option<&'a Entry<'a>>
         ensures found { IfSome result (λ entry. IsNearest (sorted_entries_of self.now) (ref_arcs oid.entry) entry.now) }
         ensures none { IfNone result (All (λ entry. BeginsWith (ref_arcs oid.entry) (entry_arcs entry) → ⊥) (sorted_entries_of self.now)) }
@@ -69,6 +129,22 @@ impl<'a> SortedDatabase<'a> {
     }
 
     /// The entries of the identifier and of its descendants, which are adjacent.
+    ///
+    /// # Examples
+    ///
+    /// ```
+    /// use const_oid::{ObjectIdentifier, db::SortedDatabase};
+    ///
+    /// let [mib_2, system, enterprises] =
+    ///     ["1.3.6.1.2.1", "1.3.6.1.2.1.1", "1.3.6.1.4.1"].map(ObjectIdentifier::new_unwrap);
+    /// let entries = [
+    ///     (mib_2.as_oid_ref(), "mib-2"),
+    ///     (system.as_oid_ref(), "system"),
+    ///     (enterprises.as_oid_ref(), "enterprises"),
+    /// ];
+    /// let names = SortedDatabase::new(&entries);
+    /// assert_eq!(names.subtree(mib_2.as_oid_ref()), &entries[..2]);
+    /// ```
     pub fn subtree(&self, oid: &ObjectIdentifierRef<'_>) -> &'a [Entry<'a>]
         ensures { IsSubtree (sorted_entries_of self.now) (ref_arcs oid.now) result.now }
     {
@@ -77,6 +153,23 @@ impl<'a> SortedDatabase<'a> {
     }
 
     /// The first entry after the identifier, which need not be in the table, as GetNext of SNMP returns it (RFC 3416).
+    ///
+    /// # Examples
+    ///
+    /// ```
+    /// use const_oid::{ObjectIdentifier, db::SortedDatabase};
+    ///
+    /// let [mib_2, system, enterprises] =
+    ///     ["1.3.6.1.2.1", "1.3.6.1.2.1.1", "1.3.6.1.4.1"].map(ObjectIdentifier::new_unwrap);
+    /// let entries = [
+    ///     (mib_2.as_oid_ref(), "mib-2"),
+    ///     (system.as_oid_ref(), "system"),
+    ///     (enterprises.as_oid_ref(), "enterprises"),
+    /// ];
+    /// let names = SortedDatabase::new(&entries);
+    /// assert_eq!(names.next_after(mib_2.as_oid_ref()), Some(&entries[1]));
+    /// assert_eq!(names.next_after(enterprises.as_oid_ref()), None);
+    /// ```
     pub fn next_after(&self, oid: &ObjectIdentifierRef<'_>) -> Option<&'a Entry<'a>>
         ensures { option_copied result ≡ find (λ entry. is_lt (slice_cmp nat_cmp (ref_arcs oid.now) (entry_arcs entry))) (sorted_entries_of self.now) }
     {

@@ -9,9 +9,32 @@ use crate::text::{utf8, write_bytes};
 use std::fmt;
 
 /// A result whose error is [`Error`].
+///
+/// # Examples
+///
+/// ```
+/// use const_oid::{ObjectIdentifier, Result};
+///
+/// fn country() -> Result<ObjectIdentifier> {
+///     "2.5.4.6".parse()
+/// }
+///
+/// assert_eq!(country()?.len(), 4);
+/// # Ok::<(), const_oid::Error>(())
+/// ```
 pub type Result<T> = std::result::Result<T, Error>;
 
 /// Why text, a list of arcs or octets were rejected.
+///
+/// # Examples
+///
+/// ```
+/// use const_oid::{Error, ObjectIdentifier};
+///
+/// let error = ObjectIdentifier::new("1..2").unwrap_err();
+/// assert_eq!(error, Error::RepeatedDot);
+/// assert_eq!(error.to_string(), "repeated consecutive '..' characters in OID");
+/// ```
 #[derive(Copy, Clone, Debug, Eq, PartialEq, PartialOrd, Ord)]
 pub enum Error {
     /// The first or the second arc of a text or a list is out of range (X.660).
@@ -56,6 +79,12 @@ impl Error {
     ghost use Rattle.const_oid.specs.Private.Text.{detail_text};
 
     /// The length in bytes of the text that `{}` writes.
+    ///
+    /// # Examples
+    ///
+    /// ```
+    /// assert_eq!(const_oid::Error::Length.text_len(), 18);
+    /// ```
     #[tactic(auto, using(crate::proofs::Messages::parts_long))]
     #[inline]
     pub fn text_len(self) -> usize
@@ -68,6 +97,14 @@ impl Error {
 
     /// Writes the text that `{}` writes to the start of `out`, and returns its length in bytes. Returns `None` if it is
     /// longer than `out`, which is then unchanged. 47 bytes are always enough.
+    ///
+    /// # Examples
+    ///
+    /// ```
+    /// let mut out = [0; 32];
+    /// let len = const_oid::Error::Length.encode_text(&mut out).unwrap();
+    /// assert_eq!(&out[..len], b"OID length invalid");
+    /// ```
     #[inline(always)]
     pub fn encode_text(self, out: &mut [u8]) -> Option<usize>
         ensures cases { ReturnsLength (message_of self) out.old result }
@@ -86,6 +123,14 @@ impl Error {
     }
 
     /// Writes the text as [`encode_text`](Self::encode_text) does, and borrows it as a `str`.
+    ///
+    /// # Examples
+    ///
+    /// ```
+    /// let mut out = [0; 32];
+    /// let text = const_oid::Error::Length.encode_str(&mut out);
+    /// assert_eq!(text, Some("OID length invalid"));
+    /// ```
     #[tactic(auto, using(crate::proofs::Sets::bytes_put))]
     #[inline]
     pub fn encode_str<'o>(self, out: &'o mut [u8]) -> Option<&'o str>

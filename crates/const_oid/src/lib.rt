@@ -1,4 +1,6 @@
 //! Object identifiers (ITU-T X.660) as text, arcs and contents octets (ITU-T X.690, 8.19).
+
+// The examples are for the cargo crate, which runs them.
 #![tactic(auto)]
 
 pub mod arcs;

@@ -28,6 +28,17 @@ use std::str::FromStr;
 /// never more than 255.
 ///
 /// Its octets are valid: they are the one encoding of its arcs (X.690, 8.19).
+///
+/// # Examples
+///
+/// ```
+/// use const_oid::ObjectIdentifier;
+///
+/// const CN: ObjectIdentifier = ObjectIdentifier::new_unwrap("2.5.4.3");
+/// assert_eq!("2.5.4.3".parse(), Ok(CN));
+/// assert_eq!(format!("{CN} {CN:?}"), "2.5.4.3 ObjectIdentifier(2.5.4.3)");
+/// assert!(CN > ObjectIdentifier::new_unwrap("2.5.4"));
+/// ```
 #[derive(Copy, Clone, Eq, PartialOrd, Hash)]
 pub struct ObjectIdentifier<const MAX_SIZE: usize> {
     ber: Buffer<MAX_SIZE>,
@@ -56,6 +67,17 @@ impl ObjectIdentifier<39> {
     /// - [`Error::ArcInvalid`]: it is the first one and above 2, or the second, above 39 and after 0 or 1 (X.660);
     /// - [`Error::Length`]: the arcs up to it take more than 39 octets (X.690, 8.19);
     /// - [`Error::Empty`]: it is the only one.
+    ///
+    /// # Examples
+    ///
+    /// ```
+    /// use const_oid::{Error, ObjectIdentifier};
+    ///
+    /// let oid = ObjectIdentifier::new("2.999.3")?;
+    /// assert_eq!(oid.as_bytes(), [0x88, 0x37, 0x03]);
+    /// assert_eq!(ObjectIdentifier::new("1.40"), Err(Error::ArcInvalid { arc: 40 }));
+    /// # Ok::<(), Error>(())
+    /// ```
     // erase: const
     pub fn new(s: &str) -> Result<Self>
         ensures answer { oid_answer result ≡ text_answer root_rule s.now usual_capacity }
@@ -69,6 +91,15 @@ impl ObjectIdentifier<39> {
     /// # Panics
     ///
     /// If the text is invalid. A constant of an invalid text does not compile.
+    ///
+    /// # Examples
+    ///
+    /// ```
+    /// use const_oid::ObjectIdentifier;
+    ///
+    /// const CN: ObjectIdentifier = ObjectIdentifier::new_unwrap("2.5.4.3");
+    /// assert_eq!(CN.to_string(), "2.5.4.3");
+    /// ```
     // In Rattle, the checker rejects an invalid text, so nothing panics.
     // erase: const
     pub fn new_unwrap(s: &str) -> Self
@@ -92,6 +123,16 @@ impl ObjectIdentifier<39> {
     ///
     /// If none is wrong, [`Error::Empty`]: there are fewer than two. Which arcs after a wrong one are read is
     /// unspecified.
+    ///
+    /// # Examples
+    ///
+    /// ```
+    /// use const_oid::{Error, ObjectIdentifier};
+    ///
+    /// assert_eq!(ObjectIdentifier::from_arcs([2, 999])?.to_string(), "2.999");
+    /// assert_eq!(ObjectIdentifier::from_arcs([3, 1]), Err(Error::ArcInvalid { arc: 3 }));
+    /// # Ok::<(), Error>(())
+    /// ```
     pub fn from_arcs<I: IntoIterator<Item = Arc>>(arcs: I) -> Result<Self>
     where
         I::IntoIter: Drop,
@@ -119,6 +160,16 @@ impl ObjectIdentifier<39> {
     ///   [`Error::ArcTooBig`] if it is above 4294967295, or above 4294967375 as the first one, which holds two arcs, or
     ///   else [`Error::Base128`]: the octets end within it;
     /// - [`Error::Length`]: there are more than 39 octets.
+    ///
+    /// # Examples
+    ///
+    /// ```
+    /// use const_oid::{Error, ObjectIdentifier};
+    ///
+    /// assert_eq!(ObjectIdentifier::from_bytes(&[0x88, 0x37])?.to_string(), "2.999");
+    /// assert_eq!(ObjectIdentifier::from_bytes(&[0x2A, 0x80, 0x01]), Err(Error::Base128));
+    /// # Ok::<(), Error>(())
+    /// ```
     #[inline(always)]
     pub fn from_bytes(ber_bytes: &[u8]) -> Result<Self>
         ensures answer { oid_answer result ≡ octet_answer root_rule ber_bytes.now usual_capacity }
@@ -151,6 +202,15 @@ impl<const MAX_SIZE: usize> ObjectIdentifier<MAX_SIZE> {
     /// # Errors
     ///
     /// Those of [`from_bytes`](Self::from_bytes), with [`Error::Length`] if there are more octets than fit.
+    ///
+    /// # Examples
+    ///
+    /// ```
+    /// use const_oid::{Error, ObjectIdentifier};
+    ///
+    /// assert!(ObjectIdentifier::<2>::from_bytes_sized(&[0x88, 0x37]).is_ok());
+    /// assert_eq!(ObjectIdentifier::<1>::from_bytes_sized(&[0x88, 0x37]), Err(Error::Length));
+    /// ```
     #[inline(always)]
     pub fn from_bytes_sized(ber_bytes: &[u8]) -> Result<Self>
         ensures answer { oid_answer result ≡ octet_answer root_rule ber_bytes.now (min MAX_SIZE 255) }
@@ -165,6 +225,15 @@ impl<const MAX_SIZE: usize> ObjectIdentifier<MAX_SIZE> {
     /// # Errors
     ///
     /// Those of [`new`](Self::new), with [`Error::Length`] if the arcs take more octets than fit.
+    ///
+    /// # Examples
+    ///
+    /// ```
+    /// use const_oid::{Error, ObjectIdentifier};
+    ///
+    /// assert!(ObjectIdentifier::<3>::new_sized("2.999.3").is_ok());
+    /// assert_eq!(ObjectIdentifier::<2>::new_sized("2.999.3"), Err(Error::Length));
+    /// ```
     // erase: const
     pub fn new_sized(s: &str) -> Result<Self>
         ensures answer { oid_answer result ≡ text_answer root_rule s.now (min MAX_SIZE 255) }
@@ -175,6 +244,16 @@ impl<const MAX_SIZE: usize> ObjectIdentifier<MAX_SIZE> {
 
     /// Parses dotted text in ASCII as [`new_sized`](Self::new_sized) does. The bytes need not be UTF-8: one past ASCII
     /// is an error, since it is not a digit.
+    ///
+    /// # Examples
+    ///
+    /// ```
+    /// use const_oid::{Error, ObjectIdentifier};
+    ///
+    /// assert_eq!(ObjectIdentifier::from_ascii(b"2.999.3"), ObjectIdentifier::new("2.999.3"));
+    /// let oid: Result<ObjectIdentifier, Error> = ObjectIdentifier::from_ascii(b"2.\xff");
+    /// assert_eq!(oid, Err(Error::DigitExpected { actual: 0xff }));
+    /// ```
     // erase: const
     #[tactic(auto, using(crate::proofs::Encodings::none_from_encoding, crate::proofs::Texts::denoted_from_answer))]
     #[inline(always)]
@@ -194,6 +273,15 @@ impl<const MAX_SIZE: usize> ObjectIdentifier<MAX_SIZE> {
     /// # Errors
     ///
     /// Those of [`from_arcs`](Self::from_arcs), with [`Error::Length`] if the arcs take more octets than fit.
+    ///
+    /// # Examples
+    ///
+    /// ```
+    /// use const_oid::{Error, ObjectIdentifier};
+    ///
+    /// assert!(ObjectIdentifier::<2>::from_arcs_sized([2, 999]).is_ok());
+    /// assert_eq!(ObjectIdentifier::<1>::from_arcs_sized([2, 999]), Err(Error::Length));
+    /// ```
     pub fn from_arcs_sized<I: IntoIterator<Item = Arc>>(arcs: I) -> Result<Self>
     where
         I::IntoIter: Drop,
@@ -224,6 +312,14 @@ impl<const MAX_SIZE: usize> ObjectIdentifier<MAX_SIZE> {
     }
 
     /// The contents octets.
+    ///
+    /// # Examples
+    ///
+    /// ```
+    /// use const_oid::ObjectIdentifier;
+    ///
+    /// assert_eq!(ObjectIdentifier::new_unwrap("1.2.840").as_bytes(), [0x2A, 0x86, 0x48]);
+    /// ```
     // erase: const
     pub fn as_bytes(&self) -> &[u8]
         ensures octets { result.now ≡ oid_octets self.now }
@@ -243,6 +339,15 @@ impl<const MAX_SIZE: usize> ObjectIdentifier<MAX_SIZE> {
     }
 
     /// The arc at an index, counted from 0, or `None` past the last one.
+    ///
+    /// # Examples
+    ///
+    /// ```
+    /// use const_oid::ObjectIdentifier;
+    ///
+    /// let oid = ObjectIdentifier::new_unwrap("2.999");
+    /// assert_eq!((oid.arc(1), oid.arc(2)), (Some(999), None));
+    /// ```
     pub fn arc(&self, index: usize) -> Option<Arc>
         ensures { result ≡ slice_get (oid_arcs self.now) index }
     {
@@ -250,6 +355,14 @@ impl<const MAX_SIZE: usize> ObjectIdentifier<MAX_SIZE> {
     }
 
     /// All arcs, in order.
+    ///
+    /// # Examples
+    ///
+    /// ```
+    /// use const_oid::ObjectIdentifier;
+    ///
+    /// assert!(ObjectIdentifier::new_unwrap("2.999.3").arcs().eq([2, 999, 3]));
+    /// ```
     pub fn arcs(&self) -> Arcs<'_>
         ensures { result ≡ oid_arcs self.now }
     {
@@ -257,6 +370,14 @@ impl<const MAX_SIZE: usize> ObjectIdentifier<MAX_SIZE> {
     }
 
     /// The number of arcs, two or more.
+    ///
+    /// # Examples
+    ///
+    /// ```
+    /// use const_oid::ObjectIdentifier;
+    ///
+    /// assert_eq!(ObjectIdentifier::new_unwrap("2.999.3").len(), 3);
+    /// ```
     pub fn len(&self) -> usize
         ensures { result ≡ length (oid_arcs self.now) }
     {
@@ -264,6 +385,14 @@ impl<const MAX_SIZE: usize> ObjectIdentifier<MAX_SIZE> {
     }
 
     /// The length in bytes of the text that `{}` writes.
+    ///
+    /// # Examples
+    ///
+    /// ```
+    /// use const_oid::ObjectIdentifier;
+    ///
+    /// assert_eq!(ObjectIdentifier::new_unwrap("2.999").text_len(), 5);
+    /// ```
     pub fn text_len(&self) -> usize
         ensures { result ≡ length (text_of (oid_arcs self.now)) }
     {
@@ -272,6 +401,16 @@ impl<const MAX_SIZE: usize> ObjectIdentifier<MAX_SIZE> {
 
     /// Writes the text that `{}` writes to the start of `out`, and returns its length in bytes. Returns `None` if it is
     /// longer than `out`, which is then unchanged. Four bytes for each octet are always enough.
+    ///
+    /// # Examples
+    ///
+    /// ```
+    /// use const_oid::ObjectIdentifier;
+    ///
+    /// let mut out = [0; 8];
+    /// assert_eq!(ObjectIdentifier::new_unwrap("2.999").encode_text(&mut out), Some(5));
+    /// assert_eq!(&out, b"2.999\0\0\0");
+    /// ```
     pub fn encode_text(&self, out: &mut [u8]) -> Option<usize>
         ensures cases { ReturnsLength (text_of (oid_arcs self.now)) out.old result }
         ensures written { WritesText (text_of (oid_arcs self.now)) out.old out.new result }
@@ -282,6 +421,15 @@ impl<const MAX_SIZE: usize> ObjectIdentifier<MAX_SIZE> {
     }
 
     /// Writes the text as [`encode_text`](Self::encode_text) does, and borrows it as a `str`.
+    ///
+    /// # Examples
+    ///
+    /// ```
+    /// use const_oid::ObjectIdentifier;
+    ///
+    /// let mut out = [0; 8];
+    /// assert_eq!(ObjectIdentifier::new_unwrap("2.999").encode_str(&mut out), Some("2.999"));
+    /// ```
     pub fn encode_str<'o>(&self, out: &'o mut [u8]) -> Option<&'o str>
         ensures cases { ReturnsText (text_of (oid_arcs self.now)) out.old result }
         ensures enough { 4 * length (oid_octets self.now) ≤ length out.old → IsSome result }
@@ -290,6 +438,16 @@ impl<const MAX_SIZE: usize> ObjectIdentifier<MAX_SIZE> {
     }
 
     /// The parent: all arcs except the last. `None` if there are only two.
+    ///
+    /// # Examples
+    ///
+    /// ```
+    /// use const_oid::ObjectIdentifier;
+    ///
+    /// let top = ObjectIdentifier::new_unwrap("2.999");
+    /// assert_eq!(ObjectIdentifier::new_unwrap("2.999.3").parent(), Some(top));
+    /// assert_eq!(top.parent(), None);
+    /// ```
     pub fn parent(&self) -> Option<Self>
         ensures { option_map oid_arcs result ≡ parent_of (oid_arcs self.now) }
     {
@@ -303,6 +461,16 @@ impl<const MAX_SIZE: usize> ObjectIdentifier<MAX_SIZE> {
     /// # Errors
     ///
     /// [`Error::Length`] if its octets do not fit.
+    ///
+    /// # Examples
+    ///
+    /// ```
+    /// use const_oid::{Error, ObjectIdentifier};
+    ///
+    /// const CHILD: Result<ObjectIdentifier, Error> = ObjectIdentifier::new_unwrap("2.999").push_arc(3);
+    /// assert_eq!(CHILD?.to_string(), "2.999.3");
+    /// # Ok::<(), Error>(())
+    /// ```
     // erase: const
     pub fn push_arc(self, arc: Arc) -> Result<Self>
         ensures fits { let count = size (child_of (oid_arcs self.entry) arc) in
@@ -324,6 +492,15 @@ impl<const MAX_SIZE: usize> ObjectIdentifier<MAX_SIZE> {
     }
 
     /// Whether the arcs begin with all those of another identifier: whether it is this one or an ancestor.
+    ///
+    /// # Examples
+    ///
+    /// ```
+    /// use const_oid::ObjectIdentifier;
+    ///
+    /// let (top, oid) = (ObjectIdentifier::new_unwrap("2.999"), ObjectIdentifier::new_unwrap("2.999.3"));
+    /// assert!(oid.starts_with(top) && !top.starts_with(oid));
+    /// ```
     // erase: const
     #[inline(always)]
     pub fn starts_with<const SIZE: usize>(&self, other: ObjectIdentifier<SIZE>) -> bool
@@ -333,6 +510,15 @@ impl<const MAX_SIZE: usize> ObjectIdentifier<MAX_SIZE> {
     }
 
     /// Compares the arcs lexicographically, a prefix before what begins with it. SNMP orders names so (RFC 3416).
+    ///
+    /// # Examples
+    ///
+    /// ```
+    /// use const_oid::ObjectIdentifier;
+    ///
+    /// let (short, long) = (ObjectIdentifier::new_unwrap("2.5"), ObjectIdentifier::new_unwrap("1.2.3"));
+    /// assert!(long.cmp_arcs(&short).is_lt() && short < long);
+    /// ```
     pub fn cmp_arcs<const SIZE: usize>(&self, other: &ObjectIdentifier<SIZE>) -> Ordering
         ensures { result ≡ slice_cmp nat_cmp (oid_arcs self.now) (oid_arcs other.now) }
     {

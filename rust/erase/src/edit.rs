@@ -95,7 +95,7 @@ mod tests {
     fn each_edit_has_its_places() {
         let edit = |module| Edit { module, old: "a", new: "b", why: "c" };
         let edits: &'static [Edit] = Vec::leak(vec![edit(""), edit("m"), edit("m*")]);
-        let table = Crate { from: "", to: "", root: "x::", edits, with_examples: &[] };
+        let table = Crate { from: "", to: "", root: "x::", edits };
         let mut counts = [0, 0, 0];
         for (module, source) in [("l", "a a"), ("m", "crate::b")] {
             edited(tokens(source).unwrap(), &table, module, &mut counts).unwrap();

@@ -9,14 +9,12 @@ mod c_names;
 mod calls;
 mod edit;
 mod erase;
-mod examples;
 mod fault;
 mod names;
 mod table;
 mod token;
 
 use calls::Call;
-use examples::Examples;
 use fault::{Fault, Result};
 use std::io::Write;
 use std::path::{Path, PathBuf};
@@ -27,7 +25,6 @@ use table::Crate;
 const NAMES: &str = "rust/const-oid/src/db/names.rs";
 const SORTED: &str = "rust/const-oid/src/db/sorted.rs";
 const C_NAMES: &str = "crates/const_oid_c/include/const_oid_names.h";
-const EXAMPLES: &str = "rust/const-oid/src/examples.md";
 const FOR_C: &str = "crates/const_oid_c/src";
 const EXPORTS: &str = "rust/const-oid-c/src/exports.rs";
 const C_CALLS: &str = "crates/const_oid_c/tests/calls.h";
@@ -55,11 +52,9 @@ fn main() -> ExitCode {
 /// The files to write, or the first fault with its file and line.
 fn generated() -> Checked<Vec<File>> {
     let mut files = Vec::new();
-    let mut examples = Examples::new(&read(EXAMPLES)?).map_err(|fault| at(EXAMPLES, &fault))?;
     for table in table::CRATES {
-        files.extend(modules(table, &mut examples)?);
+        files.extend(modules(table)?);
     }
-    examples.all_taken().map_err(|fault| at(EXAMPLES, &fault))?;
     let table = read(NAMES)?;
     let sorted = names::sorted(&table).map_err(|fault| at(NAMES, &fault))?;
     files.push((SORTED.into(), headed(NAMES, &sorted)));
@@ -85,14 +80,14 @@ fn for_c() -> Checked<Vec<File>> {
 }
 
 /// The files of the modules of a crate.
-fn modules(table: &Crate, examples: &mut Examples) -> Checked<Vec<File>> {
+fn modules(table: &Crate) -> Checked<Vec<File>> {
     let mut files = Vec::new();
     let mut counts = vec![0; table.edits.len()];
     let mut left = vec![String::from("lib")];
     while let Some(module) = left.pop() {
         let path = format!("{}/{module}.rt", table.from);
         let (rust, declared) =
-            module_of(&read(&path)?, table, &module, &mut counts, examples).map_err(|fault| at(&path, &fault))?;
+            module_of(&read(&path)?, table, &module, &mut counts).map_err(|fault| at(&path, &fault))?;
         let name = if module == "lib" { "mod" } else { &module };
         files.push((format!("{}/{name}.rs", table.to), laid_out(&headed(&path, &rust))?));
         left.extend(declared);
@@ -102,16 +97,10 @@ fn modules(table: &Crate, examples: &mut Examples) -> Checked<Vec<File>> {
 }
 
 /// The Rust of a source, and the modules that it declares.
-fn module_of(
-    source: &str,
-    table: &Crate,
-    module: &str,
-    counts: &mut [usize],
-    examples: &mut Examples,
-) -> Result<(String, Vec<String>)> {
+fn module_of(source: &str, table: &Crate, module: &str, counts: &mut [usize]) -> Result<(String, Vec<String>)> {
     let tokens = erase::erase(&token::tokens(source)?)?;
     let tokens = edit::edited(tokens, table, module, counts)?;
-    Ok((examples.written(&tokens, table.with_examples)?, erase::modules(&tokens)))
+    Ok((tokens.iter().map(|token| token.text).collect(), erase::modules(&tokens)))
 }
 
 fn headed(from: &str, rust: &str) -> String {

@@ -9,8 +9,6 @@ pub struct Crate {
     /// The root module of the generated files.
     pub root: &'static str,
     pub edits: &'static [Edit],
-    /// Types that each have an example, and so have their public functions.
-    pub with_examples: &'static [&'static str],
 }
 
 /// An edit.
@@ -43,17 +41,6 @@ pub const CRATES: &[Crate] = &[
         from: "crates/const_oid/src",
         to: "rust/const-oid/src/erased",
         root: "crate::erased::",
-        with_examples: &[
-            "Arc",
-            "Arcs",
-            "Buffer",
-            "Database",
-            "Error",
-            "Names",
-            "ObjectIdentifier",
-            "Result",
-            "SortedDatabase",
-        ],
         edits: edits! {
             "lib": "pub mod db; mod db_sorted;"
                 => "#[cfg(feature = \"db\")] pub mod db; #[cfg(feature = \"db\")] mod db_sorted;",
@@ -131,7 +118,6 @@ pub const CRATES: &[Crate] = &[
         from: "crates/const_oid_c/src",
         to: "rust/const-oid-c/src/erased",
         root: "crate::erased::",
-        with_examples: &[],
         edits: edits! {
             "": "const_oid::"
                 => "const_oid::internal_for_const_oid_c::", "the cargo crate has the generated types under this name";

@@ -177,16 +177,4 @@ fn a_source_that_is_wrong() {
         last = wrong;
     }
     copy.replace(source, last, "");
-    let examples = "rust/const-oid/src/examples.md";
-    copy.replace(examples, "# Arcs\n", "# None\n");
-    let faults = copy.faults();
-    assert_eq!(faults.len(), 1, "{faults:?}");
-    assert!(faults[0].starts_with("crates/const_oid/src/arcs.rt:"));
-    assert!(faults[0].ends_with(": `Arcs` has no example"));
-    copy.replace(examples, "# None\n", "# Arcs\n");
-    copy.append(examples, "# None\n");
-    let faults = copy.faults();
-    assert_eq!(faults.len(), 1, "{faults:?}");
-    assert!(faults[0].starts_with(examples));
-    assert!(faults[0].ends_with(": `None` is no public item"));
 }

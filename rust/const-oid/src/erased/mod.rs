@@ -2,6 +2,8 @@
 
 //! Object identifiers (ITU-T X.660) as text, arcs and contents octets (ITU-T X.690, 8.19).
 
+// The examples are for the cargo crate, which runs them.
+
 pub mod arcs;
 mod base128;
 pub mod buffer;
