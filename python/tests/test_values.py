@@ -27,6 +27,10 @@ class Text(str):
     pass
 
 
+class Octets(bytes):
+    pass
+
+
 class Named(ObjectIdentifier):
     """A subclass whose __init__ sets attributes, one of them in a slot."""
 
@@ -64,9 +68,9 @@ class Inputs(unittest.TestCase):
         taken = [ObjectIdentifier.from_bytes(given) for given in (OCTETS, source, memoryview(source))]
         taken.append(ObjectIdentifier.from_bytes(memoryview(bytes(2 * octet for octet in OCTETS[:1]) + OCTETS)[1:]))
         taken.append(ObjectIdentifier.from_bytes(memoryview(OCTETS[::-1])[::-1]))
+        taken.append(ObjectIdentifier.from_bytes(Octets(OCTETS)))
         source[:] = bytes(len(source))
-        self.assertEqual([OCTETS] * 5, [bytes(oid) for oid in taken])
-        self.assertIs(type(bytes(taken[1])), bytes)
+        self.assertEqual([(bytes, OCTETS)] * 6, [(type(bytes(oid)), bytes(oid)) for oid in taken])
 
     def test_arcs_come_from_any_iterable(self):
         self.assertEqual((2, 999, 1), ObjectIdentifier.from_arcs(iter([2, Index(), True])).arcs)
@@ -168,6 +172,7 @@ class Inputs(unittest.TestCase):
                     self.assertEqual((octets, octets), (bytes(oid), bytes(ObjectIdentifier.from_arcs(arcs))))
                     self.assertEqual((arcs, text, oid), (oid.arcs, str(oid), oid.parent.child(oid[-1])))
                     self.assertEqual((arcs[1:], arcs[::-1]), (oid[1:], oid[::-1]))
+                    self.assertNotEqual(oid, ObjectIdentifier.from_arcs((*arcs[:-1], arc - 1)))
                     wrong = {f"{text}.x": (4, 120), f"{text}.": (9, 0), f"{text}..1": (8, 0), f"{text}.4294967296": (2, 0)}
                     for given, args in wrong.items():
                         with self.assertRaises(OidError) as caught:
