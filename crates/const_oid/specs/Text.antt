@@ -1,5 +1,5 @@
 -- Dotted text, and a text in an output. The components of a text are its pieces between the dots.
-use Rattle.std.specs.Prelude.{◌≡◌, ℕ, ◌<◌, Bool, true, false, not, List, [], ◌∷◌, ◌++◌, length, map, take, drop, decimal, nat_lt, ◌==◌, if◌then◌else◌, Option, IfSome, MatchOption, Result, take_while, find}
+use Rattle.std.specs.Prelude.{◌≡◌, ℕ, ◌<◌, ◌≤◌, Bool, true, false, not, List, [], ◌∷◌, ◌++◌, length, map, take, drop, decimal, nat_lt, ◌==◌, if◌then◌else◌, Option, IfSome, MatchOption, Result, take_while, find}
 use Rattle.std.specs.Borrow.{Bor}
 use Rattle.std.specs.List.{slice_split, join_with_byte, AllByRecursion}
 use Rattle.std.specs.Str.{all_ascii_digits}
@@ -96,9 +96,10 @@ text_answer rule text capacity = answer (text_fault rule text capacity) (map num
 abbrev pub ReturnsLength : List ℕ → List ℕ → Option ℕ → Type 0
 ReturnsLength text out result = MatchOption result (length out < length text) (λ len. len ≡ length text)
 
--- the result is the text, or None exactly if the text is longer than the output
+-- the result is the text, which is no longer than the output, or None exactly if the text is longer
 abbrev pub ReturnsText : List ℕ → List ℕ → Option (Bor (List ℕ)) → Type 0
-ReturnsText text out result = MatchOption result (length out < length text) (λ written. written.now ≡ text)
+ReturnsText text out result = MatchOption result (length out < length text)
+    (λ written. (written.now ≡ text) × (length text ≤ length out))
 
 -- if a length is returned, the new output is the text, and then the old bytes
 abbrev pub WritesText : List ℕ → List ℕ → List ℕ → Option ℕ → Type 0
