@@ -1,8 +1,8 @@
 -- Octets without a fault are the encoding of their arcs, and encodings have no fault but their length; each identifier has just one encoding.
 use Rattle.std.proofs.Common.{true, ◌≡◌, ◌≢◌, ℕ, ◌+◌, ◌*◌, ◌/◌, ◌<◌, ◌≤◌, false, List, [], ◌∷◌, length, map, rules}
-use Rattle.std.proofs.Common.{slice_index, Some, None, refl, sym, ◌∙◌, arith, lt-ltb, le-ltb, ◌++◌, drop, ap, min}
+use Rattle.std.proofs.Common.{slice_index, Some, None, refl, sym, ◌∙◌, arith, lt-ltb, le-ltb, ◌++◌, drop, ap}
 use Rattle.std.specs.{List.{AllByRecursion, AllZip, concat}, Prelude.◌↔◌}
-use Rattle.std.proofs.lemmas.{List.{drop-map, length-take}, Bool.Decides.nat_tests}
+use Rattle.std.proofs.lemmas.{List.drop-map, Bool.Decides.nat_tests}
 use Rattle.const_oid.specs.{declared.error.Error.TheVariants.{ArcInvalid, Length}, Identifier.{encoding_of, root_rule}}
 use Rattle.const_oid.specs.{declared.oid_ref.ObjectIdentifierRef.ObjectIdentifierRef, OidRef.{ref_octets, ref_arcs}}
 use Rattle.const_oid.specs.{declared.oid.ObjectIdentifier.ObjectIdentifier, Oid.{oid_octets, oid_arcs}}
@@ -179,9 +179,6 @@ encoding_from_root first second later groups identifier each =
 
 pub oid_encoding : {N : ℕ} (oid : ObjectIdentifier N) → IsEncoding root_rule (oid_arcs oid) (oid_octets oid)
 oid_encoding oid = encoding_from_none root_rule (oid_octets oid) oid.ber.octets oid.valid
-
-pub oid_within : {N : ℕ} (oid : ObjectIdentifier N) → length (oid_octets oid) ≤ min N 255
-oid_within oid = omega (arith, oid.ber.within, length-take oid.ber.used oid.ber.bytes)
 
 pub ref_encoding : (oid : ObjectIdentifierRef) → IsEncoding root_rule (ref_arcs oid) (ref_octets oid)
 ref_encoding oid = encoding_from_none root_rule (ref_octets oid) oid.octets oid.valid

@@ -3,7 +3,7 @@ use Rattle.std.proofs.Common.{◌≡◌, ◌≢◌, ℕ, zero, suc, ◌+◌, Boo
 use Rattle.std.proofs.Common.{min, Some, Ok, Less, nat_cmp, sym, arith, slice_get, length-append, append-nil}
 use Rattle.std.specs.{Cmp.Lexicographic.slice_cmp, Ordering.{is_le, is_lt}, Prelude.Result, Iterator.YieldsFirst}
 use Rattle.std.proofs.{Math.Seq.get_or-append_seam, iter.Rest.run_of_first}
-use Rattle.std.proofs.lemmas.{Bool.{and_parts, not-true}, Option.gets, Cmp.nat_list_cmp_total, Grind.common_steps}
+use Rattle.std.proofs.lemmas.{Bool.{and_parts, not-true}, List.length-take, Option.gets, Cmp.nat_list_cmp_total, Grind.common_steps}
 use Rattle.std.proofs.lemmas.Bool.Decides.{nat_tests}
 use Rattle.const_oid.specs.{declared.oid.ObjectIdentifier.ObjectIdentifier, declared.error.Error.Error, OidRef.ref_arcs}
 use Rattle.const_oid.specs.{declared.oid_ref.ObjectIdentifierRef.ObjectIdentifierRef, Items.{item_answer, TakesItems}}
@@ -12,7 +12,7 @@ use Rattle.const_oid.specs.Identifier.{RootRule, root_rule, IsIdentifier, IsEnco
 use Rattle.const_oid.specs.{Oid.{oid_arcs, oid_octets}, Text.{text_of, text_answer}}
 use Rattle.const_oid.specs.Tree.{BeginsWith, parent_of, child_of}
 use Rattle.const_oid.proofs.{BeginsWith.{ancestor_short, ancestor_before}, Lengths.length_is_size}
-use Rattle.const_oid.proofs.Encodings.{oid_encoding, ref_encoding, oid_within, encoding_of-encoded}
+use Rattle.const_oid.proofs.Encodings.{oid_encoding, ref_encoding, encoding_of-encoded}
 use Rattle.const_oid.proofs.{Texts.{text_denotes, text_fault-none}, Tree.{parent_of-child_of, child_of-parent_of}}
 
 -- its octets, which compute where its arcs are known
@@ -23,6 +23,10 @@ octets_are oid = sym (encoding_of-encoded (oid_encoding oid))
 pub octets_again : (octets : List ℕ) → IsEncoding root_rule (arcs_of_octets octets) octets
     → encoding_of (arcs_of_octets octets) ≡ octets
 octets_again octets encoded = encoding_of-encoded encoded
+
+-- its octets are within the capacity
+pub oid_within : {N : ℕ} (oid : ObjectIdentifier N) → length (oid_octets oid) ≤ min N 255
+oid_within oid = omega (arith, oid.ber.within, length-take oid.ber.used oid.ber.bytes)
 
 -- its size is within the capacity
 pub size_fits : {N : ℕ} (oid : ObjectIdentifier N) → size (oid_arcs oid) ≤ min N 255

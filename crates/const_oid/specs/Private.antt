@@ -1,4 +1,4 @@
--- What only the contracts of private functions cite. No public contract cites it.
+-- What the contracts of private functions cite, and the model of `Arcs`. No clause of a public function cites it.
 pub mod Octets
 pub mod Ends
 pub mod Encoder

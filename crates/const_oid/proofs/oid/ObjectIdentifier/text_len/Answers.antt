@@ -1,5 +1,5 @@
 use Rattle.std.proofs.Common.{arith}
-use Rattle.const_oid.proofs.{Encodings.{oid_encoding, oid_within}, Printed.printed_short}
+use Rattle.const_oid.proofs.{Encodings.oid_encoding, Identifiers.oid_within, Printed.printed_short}
 use Rattle.const_oid.proofs.oid.ObjectIdentifier.text_len.Goals as goal
 
 pub returns : goal.returns
