@@ -14,8 +14,8 @@ using Octets = std::vector<uint8_t>;
 static Octets from_text(std::string_view text) {
     const_oid_status wanted = const_oid_from_text(text.data(), text.size(), nullptr, 0);
     Octets octets(wanted.code == CONST_OID_OUTPUT_TOO_SHORT ? wanted.len : 0);
-    const_oid_from_text(text.data(), text.size(), octets.data(), octets.size());
-    return octets;
+    wanted = const_oid_from_text(text.data(), text.size(), octets.data(), octets.size());
+    return wanted.code == CONST_OID_OK ? octets : Octets();
 }
 
 // The items of a list, which views the octets that it is made of.
@@ -34,6 +34,22 @@ static bool is_invalid(const const_oid_octets &item) {
     return const_oid_check(item.octets, item.len).code != CONST_OID_OK;
 }
 
+// Whether each item of a list is found where it is, and after it the next one.
+static bool finds_each(const std::vector<const_oid_octets> &items) {
+    const const_oid_octets *sorted = items.data();
+    bool right = true;
+    for (size_t i = 0; i < items.size(); i++) {
+        const_oid_range range = {0, 0};
+        const_oid_status next = const_oid_next(items[i].octets, items[i].len, sorted, items.size());
+        const_oid_subtree_range(items[i].octets, items[i].len, sorted, items.size(), &range);
+        right = right && const_oid_find(items[i].octets, items[i].len, sorted, items.size()).len == i
+            && const_oid_nearest(items[i].octets, items[i].len, sorted, items.size()).len == i
+            && (i + 1 < items.size() ? next.len == i + 1 : next.code == CONST_OID_NONE)
+            && range.start == i && range.end == i + 1;
+    }
+    return right;
+}
+
 // Sorts 900 items, a third of them invalid. Then the invalid ones are removed, and the others are a list.
 static bool sorts() {
     std::vector<Octets> all;
@@ -47,7 +63,8 @@ static bool sorts() {
     bool right = std::is_sorted(items.begin(), items.end(), comes_before);
     for (size_t i = 1; i < items.size(); i++) right = right && comes_before(items[i - 1], items[i]);
     items.erase(std::remove_if(items.begin(), items.end(), is_invalid), items.end());
-    return right && items.size() == 600 && const_oid_check_sorted(items.data(), items.size()).code == CONST_OID_OK;
+    return right && items.size() == 600 && const_oid_check_sorted(items.data(), items.size()).code == CONST_OID_OK
+        && finds_each(items);
 }
 
 // Searches in a list of 1.2, 1.2.128 and 2.999.
