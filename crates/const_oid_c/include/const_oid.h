@@ -1,7 +1,9 @@
 /* Object identifiers (ITU-T X.660) for C99 and C++: dotted-decimal text, arcs, and the contents octets of BER and DER
  * (ITU-T X.690 section 8.19), without tag and length. The source is in Rattle, where each function is proved to return
- * what its comment says. The Rattle toolchain builds the library from this source. cargo builds it from Rust that is
- * generated from the source, and from code for pointers that is written by hand. That build is tested, not proved.
+ * what its comment says. Only tested are null pointers, threads, how far const_oid_check_sorted reads, the layouts and
+ * constants below, and that the library has exactly these functions. The Rattle toolchain builds it from this source.
+ * cargo builds it from Rust that is generated from the source, and from code for pointers that is written by hand. That
+ * build is tested, not proved.
  *
  * What the caller must guarantee, for all functions:
  *
@@ -10,22 +12,22 @@
  *   does not allocate and has no state.
  * - Null. A pointer may be null if its length is 0. So may the octets of an item in a list. `range` and the arguments
  *   of const_oid_by_arcs must not be null. To learn how long a result is, pass a null output with length 0: the code is
- *   OUTPUT_TOO_SHORT, and `len` is the length. Null pointers are tested, not proved.
+ *   OUTPUT_TOO_SHORT, and `len` is the length.
  * - Overlap. An output must not overlap an input, whatever the lengths. gcc -Wall (-Wrestrict) warns about some calls
  *   that break this.
  * - Lengths. A length is that of its array, which has at most 2^63 - 1 bytes, or 2^30 - 1 if size_t has 32 bits. Texts
  *   are not null-terminated: no function looks for a zero byte or writes one.
  * - Threads. Every function is thread-safe. While a call runs, no other thread may write its inputs or touch its
  *   output.
- * - Machines. The system is Linux with glibc. The library that Rattle builds needs x86-64-v2 (POPCNT, SSE4.1). cargo
- *   builds it for each processor for which rustc has a target with this system, also with 32 bits. The proofs are for
- *   64 bits. The tests run on x86-64 and i686.
+ * - Machines. The tests run on Linux with glibc, on x86-64 and i686. The proofs are for 64 bits. The library that
+ *   Rattle builds needs x86-64-v2 (POPCNT, SSE4.1). The library needs no system: of the C library it calls memory
+ *   functions, and cargo's build also abort.
  * - Octets. They come after the tag and the length, which no function removes. A complete 06 09 2A 86 .. is no error:
  *   it is read as 0.6.9.42...
  *
  * What a function returns: const_oid_version and const_oid_by_arcs return a number, all others a status, by value. Code
  * 0 is success. With any other code the function wrote nothing, and the output is unchanged, bit for bit. Items of the
- * output after the first `len` are always unchanged. The comment before const_oid_status says what its fields hold.
+ * output after the first `len` are always unchanged.
  *
  * A function that is given invalid octets returns the first of these codes that applies:
  *
@@ -33,9 +35,7 @@
  * - The code for the first wrong subidentifier, which ends with its first octet below 0x80: BASE128 if it begins with
  *   0x80; else ARC_TOO_BIG if its number is above 4294967295, or above 4294967375 if it is the first one; else BASE128
  *   if the octets end before it does.
- * - LENGTH, from const_oid_cmp_owned alone: there are more than 255 octets.
- *
- * Tests check the layouts below, the values of the constants, and that the library has exactly these functions. */
+ * - LENGTH, from const_oid_cmp_owned alone: there are more than 255 octets. */
 #ifndef CONST_OID_H
 #define CONST_OID_H
 
@@ -60,6 +60,18 @@ extern "C" {
 #define CONST_OID_RESTRICT
 #else
 #define CONST_OID_RESTRICT restrict
+#endif
+
+/* A compiler warns where a result is not used. */
+#if defined(__clang__)
+#define CONST_OID_NODISCARD __attribute__((__warn_unused_result__))
+#elif (defined(__cplusplus) && __cplusplus >= 201703L) || (defined(_MSVC_LANG) && _MSVC_LANG >= 201703L) \
+    || (defined(__STDC_VERSION__) && __STDC_VERSION__ >= 202311L)
+#define CONST_OID_NODISCARD [[nodiscard]]
+#elif defined(__GNUC__)
+#define CONST_OID_NODISCARD __attribute__((__warn_unused_result__))
+#else
+#define CONST_OID_NODISCARD
 #endif
 
 /* The most octets that const_oid_cmp_owned reads. The other functions read and write octets of any length. */
@@ -134,7 +146,7 @@ typedef struct const_oid_range {
 typedef char const_oid_size_t_has_64_or_32_bits[sizeof(size_t) == 8 || sizeof(size_t) == 4 ? 1 : -1];
 
 /* The version of the library: CONST_OID_VERSION in its header. */
-uint32_t const_oid_version(void);
+CONST_OID_NODISCARD uint32_t const_oid_version(void);
 
 /* Writes the contents octets of the identifier that dotted text denotes, such as "1.2.840". Arcs may have leading
  * zeros. The text may have any length. If it is invalid, returns NOT_UTF8 if it is not UTF-8, or else the code for the
@@ -147,72 +159,72 @@ uint32_t const_oid_version(void);
  * - ARC_INVALID: it is the first one and above 2, or the second one, above 39 and after 0 or 1.
  * - EMPTY: it is the only one.
  *
- * There are no more octets than the text has bytes. */
-const_oid_status const_oid_from_text(
+ * There are no more octets than the text has bytes, so an output of as many is long enough. */
+CONST_OID_NODISCARD const_oid_status const_oid_from_text(
     const char *text, size_t text_len, uint8_t *CONST_OID_RESTRICT out, size_t out_len);
 
 /* Writes dotted text for octets of any length: the arcs in decimal, joined by dots. */
-const_oid_status const_oid_to_text(
+CONST_OID_NODISCARD const_oid_status const_oid_to_text(
     const uint8_t *octets, size_t len, char *CONST_OID_RESTRICT out, size_t out_len);
 
 /* Checks octets of any length. The code is 0 exactly if they encode an identifier. */
-const_oid_status const_oid_check(const uint8_t *octets, size_t len);
+CONST_OID_NODISCARD const_oid_status const_oid_check(const uint8_t *octets, size_t len);
 
 /* Counts the arcs in octets of any length. */
-const_oid_status const_oid_len(const uint8_t *octets, size_t len);
+CONST_OID_NODISCARD const_oid_status const_oid_len(const uint8_t *octets, size_t len);
 
 /* Finds the arc at an index, counted from 0, in octets of any length. The code is NONE if there is no such arc. */
-const_oid_status const_oid_arc(const uint8_t *octets, size_t len, size_t index);
+CONST_OID_NODISCARD const_oid_status const_oid_arc(const uint8_t *octets, size_t len, size_t index);
 
 /* Writes all arcs in octets of any length, in order. `out_len` counts arcs. */
-const_oid_status const_oid_arcs(
+CONST_OID_NODISCARD const_oid_status const_oid_arcs(
     const uint8_t *octets, size_t len, uint32_t *CONST_OID_RESTRICT out, size_t out_len);
 
 /* Writes as many arcs as fit, in order, from the index `first` on. The octets may have any length. `out_len` counts
  * arcs. `len` is 0 past the last arc, and the code is never OUTPUT_TOO_SHORT. A loop over all arcs with a short output
  * adds `len` to `first` until `len` is 0. */
-const_oid_status const_oid_arcs_from(
+CONST_OID_NODISCARD const_oid_status const_oid_arcs_from(
     const uint8_t *octets, size_t len, size_t first, uint32_t *CONST_OID_RESTRICT out, size_t out_len);
 
-/* Writes the contents octets for any number of arcs, at most five for each. If the arcs are invalid, returns
- * ARC_INVALID with the first wrong one, or else EMPTY if there are fewer than two. */
-const_oid_status const_oid_from_arcs(
+/* Writes the contents octets for any number of arcs, at most five for each, so an output of as many is long enough. If
+ * the arcs are invalid, returns ARC_INVALID with the first wrong one, or else EMPTY if there are fewer than two. */
+CONST_OID_NODISCARD const_oid_status const_oid_from_arcs(
     const uint32_t *arcs, size_t len, uint8_t *CONST_OID_RESTRICT out, size_t out_len);
 
 /* Writes the contents octets of the parent: all arcs except the last. They are a prefix of the octets, which may have
  * any length. The code is NONE if there are only two arcs. */
-const_oid_status const_oid_parent(
+CONST_OID_NODISCARD const_oid_status const_oid_parent(
     const uint8_t *octets, size_t len, uint8_t *CONST_OID_RESTRICT out, size_t out_len);
 
 /* Writes the contents octets of a child: all arcs, and one more. They are the octets, which may have any length, and
  * then at most five for the arc. */
-const_oid_status const_oid_push_arc(
+CONST_OID_NODISCARD const_oid_status const_oid_push_arc(
     const uint8_t *octets, size_t len, uint32_t arc, uint8_t *CONST_OID_RESTRICT out,
     size_t out_len);
 
 /* Whether an identifier begins with all arcs of a prefix. Both may have any length. If the octets are invalid, returns
  * their code, or else, if the prefix is invalid, its code. */
-const_oid_status const_oid_starts_with(
+CONST_OID_NODISCARD const_oid_status const_oid_starts_with(
     const uint8_t *octets, size_t len, const uint8_t *prefix, size_t prefix_len);
 
 /* Whether two identifiers of any length are equal. Returns the code for the first invalid one, if any. */
-const_oid_status const_oid_eq(
+CONST_OID_NODISCARD const_oid_status const_oid_eq(
     const uint8_t *left, size_t left_len, const uint8_t *right, size_t right_len);
 
 /* Compares two identifiers of any length by their octets, as memcmp does. A prefix comes first. An identifier's
  * descendants follow it without a gap. This is not the order in SNMP. Returns the code for the first invalid one, if
  * any. */
-const_oid_status const_oid_cmp(
+CONST_OID_NODISCARD const_oid_status const_oid_cmp(
     const uint8_t *left, size_t left_len, const uint8_t *right, size_t right_len);
 
 /* Compares two identifiers of any length by their arcs, in lexicographic order. A prefix comes first. This is the order
  * in SNMP (RFC 3416) and in the sorted lists below. Returns the code for the first invalid one, if any. */
-const_oid_status const_oid_cmp_arcs(
+CONST_OID_NODISCARD const_oid_status const_oid_cmp_arcs(
     const uint8_t *left, size_t left_len, const uint8_t *right, size_t right_len);
 
 /* Compares two identifiers of at most 255 octets by length, and then by their octets. This is the order in the Rust
  * crate const-oid, and not in SNMP. Returns the code for the first invalid one, if any. */
-const_oid_status const_oid_cmp_owned(
+CONST_OID_NODISCARD const_oid_status const_oid_cmp_owned(
     const uint8_t *left, size_t left_len, const uint8_t *right, size_t right_len);
 
 /* Compares two items of a list, for qsort and bsearch. Each pointer is to a const_oid_octets. Returns -1 if the first
@@ -223,13 +235,13 @@ const_oid_status const_oid_cmp_owned(
  * octets are cut after each octet below 0x80, and the parts are compared in lexicographic order. A longer part is
  * greater. Parts of one length are compared by their octets. Only equal octets are equal. After sorting by this order,
  * const_oid_check_sorted accepts the list exactly if all items are valid. */
-int const_oid_by_arcs(const void *left, const void *right);
+CONST_OID_NODISCARD int const_oid_by_arcs(const void *left, const void *right);
 
 /* Checks a list, which is an array of identifiers, for the functions below. Each item must be valid, of any length, and
  * none may come before the previous one, in the order of const_oid_cmp_arcs. Items may be repeated. The code is 0
  * exactly if this holds. Otherwise it is that of the first wrong item, or UNSORTED if that comes before the previous
- * one, and `len` is its index. The list is read up to that item. */
-const_oid_status const_oid_check_sorted(const const_oid_octets *items, size_t count);
+ * one, and `len` is its index: the items before it are such a list. The list is read up to that item. */
+CONST_OID_NODISCARD const_oid_status const_oid_check_sorted(const const_oid_octets *items, size_t count);
 
 /* The functions below do a binary search in a list that const_oid_check_sorted accepts. They check the identifier,
  * which may have any length, and return its code if it is invalid. They do not check the list. In another list, what
@@ -237,16 +249,16 @@ const_oid_status const_oid_check_sorted(const const_oid_octets *items, size_t co
  * ends of a range at most `count`. `len` is the index of the item found, and the code is NONE if there is none. */
 
 /* Finds the first item that is equal to an identifier. */
-const_oid_status const_oid_find(
+CONST_OID_NODISCARD const_oid_status const_oid_find(
     const uint8_t *octets, size_t len, const const_oid_octets *sorted, size_t count);
 
 /* Finds the first item that comes after an identifier, which need not be an item: what SNMP's GetNext returns. */
-const_oid_status const_oid_next(
+CONST_OID_NODISCARD const_oid_status const_oid_next(
     const uint8_t *octets, size_t len, const const_oid_octets *sorted, size_t count);
 
 /* Finds the nearest item to an identifier: the first item that is equal to it, or else to its longest prefix in the
  * list. */
-const_oid_status const_oid_nearest(
+CONST_OID_NODISCARD const_oid_status const_oid_nearest(
     const uint8_t *octets, size_t len, const const_oid_octets *sorted, size_t count);
 
 /* Finds the items that begin with all arcs of an identifier, itself included, and stores where they are in `range`,
@@ -258,9 +270,9 @@ const_oid_status const_oid_subtree_range(
 
 /* Writes the text for a code and its detail, in UTF-8. With DIGIT_EXPECTED, the byte stands in it as the character with
  * that number, even if this is a zero byte, a newline or another control character. All other characters are printable
- * ASCII. The code is NONE if there is no such text: for OK, for an unknown code, and for DIGIT_EXPECTED with a detail
- * above 255. */
-const_oid_status const_oid_error_text(
+ * ASCII. The text for EMPTY, "OID value is empty", is also that for one arc alone. The code is NONE if there is no such
+ * text: for OK, for an unknown code, and for DIGIT_EXPECTED with a detail above 255. */
+CONST_OID_NODISCARD const_oid_status const_oid_error_text(
     uint32_t code, uint32_t detail, char *CONST_OID_RESTRICT out, size_t out_len);
 
 #ifdef __cplusplus

@@ -1,5 +1,4 @@
-/* The header in C: read twice, its layouts, its constants, also where the preprocessor reads them, and functions. */
-#include "const_oid.h"
+/* The header in C: its layouts, its constants, also where the preprocessor reads them, and functions. */
 #include "const_oid.h"
 
 #define BYTES sizeof(size_t)

@@ -1,5 +1,4 @@
-// The header in C++: read twice, and the exact types of fields and functions.
-#include "const_oid.h"
+// The header in C++: the exact types of fields and functions.
 #include "const_oid.h"
 
 #include <type_traits>

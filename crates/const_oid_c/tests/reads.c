@@ -12,6 +12,6 @@ int main(int count, char **words) {
     if (len >= sizeof text) return 2;
     memcpy(text, words[1], len);
     for (long times = strtol(words[2], NULL, 10); times > 0; times--)
-        const_oid_from_text((const char *)text, len, out, sizeof out);
+        if (const_oid_from_text((const char *)text, len, out, sizeof out).code > CONST_OID_UNSORTED) return 1;
     return 0;
 }
