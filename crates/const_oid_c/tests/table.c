@@ -1,10 +1,10 @@
-/* Compares const_oid_names.h with rust/const-oid/src/db/names.rs, of which rows.inc has a ROW(constant, arcs, name) for each row: the
- * octets of each constant, the arrays row by row, and what is found by name. */
+/* Compares const_oid_names.h with rust/const-oid/src/db/names.rs, of which rows.inc has a ROW(constant, arcs, name) for
+ * each row: the octets of each constant, the arrays row by row, and what is found by name. */
 #include "const_oid_names.h"
+#include "parts.h"
 #include "see.h"
 
 #include <ctype.h>
-#include <string.h>
 #include <strings.h>
 
 typedef struct {
@@ -40,15 +40,8 @@ static int is_encoding(const_oid_octets octets, const char *arcs) {
 /* The order of arcs, and of the table where they are equal. */
 static int by_arcs(const void *left, const void *right) {
     const row *a = (const row *)left, *b = (const row *)right;
-    char *x, *y;
-    unsigned long m = strtoul(a->arcs, &x, 10), n = strtoul(b->arcs, &y, 10);
-    while (m == n && *x != 0 && *y != 0) {
-        m = strtoul(x + 1, &x, 10);
-        n = strtoul(y + 1, &y, 10);
-    }
-    if (m != n) return m < n ? -1 : 1;
-    if (*x != *y) return *x != 0 ? 1 : -1;
-    return a->place < b->place ? -1 : 1;
+    int order = by_parts(a->octets.octets, a->octets.len, b->octets.octets, b->octets.len);
+    return order != 0 ? order : a->place < b->place ? -1 : 1;
 }
 
 /* The first row of the table with a name. */
@@ -60,18 +53,23 @@ static size_t named(const char *name) {
     return first;
 }
 
-/* Finds a name, also with other letters: as it is, in upper case, with a letter more and with one less. */
-static void find(size_t index) {
+static void find(const char *text, size_t index) { SEE(const_oid_by_name(text) == named(text), index); }
+
+/* Finds a name: as it is, with other characters that are no letters, with letters of the other case, with a letter more
+ * and with one less. */
+static void find_like(size_t index) {
     char text[128] = "";
     size_t len = strlen(rows[index].name);
     memcpy(text, rows[index].name, len);
-    SEE(const_oid_by_name(text) == named(text), index);
-    for (size_t i = 0; i < len; i++) text[i] = (char)toupper((unsigned char)text[i]);
-    SEE(const_oid_by_name(text) == named(text), index);
+    find(text, index);
+    for (size_t i = 0; i < len; i++) text[i] ^= isalpha((unsigned char)text[i]) ? 0 : 32;
+    find(text, index);
+    for (size_t i = 0; i < len; i++) text[i] ^= 32;
+    find(text, index);
     text[len] = 'x';
-    SEE(const_oid_by_name(text) == named(text), index);
+    find(text, index);
     text[len - 1] = 0;
-    SEE(const_oid_by_name(text) == named(text), index);
+    find(text, index);
 }
 
 int main(void) {
@@ -84,7 +82,7 @@ int main(void) {
     for (size_t i = 0; i < count; i++) {
         SEE(is_encoding(const_oid_name_octets[i], rows[i].arcs), i);
         SEE(strcmp(const_oid_names[i], rows[i].name) == 0, i);
-        find(i);
+        find_like(i);
     }
     SEE(const_oid_by_name("") == count && const_oid_by_name("zz") == count && const_oid_by_name("\xC3") == count, 0);
     return 0;
