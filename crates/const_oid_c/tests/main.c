@@ -150,56 +150,54 @@ static void sorted_row(char *rest) {
     printf(" at %zu", status.len);
 }
 
+typedef const_oid_status search(const uint8_t *, size_t, const const_oid_octets *, size_t);
+typedef const_oid_status comparison(const uint8_t *, size_t, const uint8_t *, size_t);
+
 /* Prints the index that a search found. */
-static void index_row(const char *call, char *rest) {
+static void index_row(search *found_by, char *rest) {
     static const_oid_octets items[MOST];
     bytes oid = read_hex(word(&rest));
     size_t count = read_list(&rest, items);
-    const_oid_status status;
-    if (strcmp(call, "find") == 0) {
-        status = const_oid_find(oid.octets, oid.len, items, count);
-    } else if (strcmp(call, "next") == 0) {
-        status = const_oid_next(oid.octets, oid.len, items, count);
-    } else {
-        status = const_oid_nearest(oid.octets, oid.len, items, count);
-    }
+    const_oid_status status = found_by(oid.octets, oid.len, items, count);
     if (status.code == CONST_OID_OK) {
-        if (status.detail != 0) fail("an index has a detail");
         printf("%zu", status.len);
-        return;
+    } else {
+        refused(status);
     }
-    if (status.len != 0) fail("no index has a len");
-    refused(status);
 }
 
 static void range_row(char *rest) {
     static const_oid_octets items[MOST];
-    const_oid_range range = {7, 7};
+    const_oid_range range;
     bytes prefix = read_hex(word(&rest));
     size_t count = read_list(&rest, items);
     const_oid_status status = const_oid_subtree_range(prefix.octets, prefix.len, items, count, &range);
-    if (status.len != 0) fail("a range has a len");
     if (status.code == CONST_OID_OK) {
         printf("%zu %zu", range.start, range.end);
-        return;
+    } else {
+        refused(status);
     }
-    if (range.start != 7 || range.end != 7) fail("a range was written");
-    refused(status);
 }
 
-static void error_row(char *rest) {
+/* Prints the text of an error: as it is, or its bytes. */
+static void error_row(int is_message, char *rest) {
     char text[CONST_OID_MAX_ERROR_TEXT];
     uint32_t code = number(&rest);
-    uint32_t detail = number(&rest);
-    const_oid_status status = const_oid_error_text(code, detail, text, sizeof text);
-    if (status.code != CONST_OID_OK) {
-        refused(status);
-        return;
+    const_oid_status status = const_oid_error_text(code, number(&rest), text, sizeof text);
+    if (is_message || status.code != CONST_OID_OK) {
+        written(status, (const uint8_t *)text);
+    } else {
+        printf("%.*s", (int)status.len, text);
     }
-    printf("%.*s", (int)status.len, text);
 }
 
-static void in_word(const_oid_status status, const char *const *words) {
+static const char *const whether[] = {"no", "yes"};
+static const char *const orders[] = {"no order", "less", "equal", "greater"};
+
+/* Prints how two identifiers compare, in one of these words. */
+static void pair_row(comparison *compared_by, const char *const *words, char *rest) {
+    bytes left = read_hex(word(&rest)), right = read_hex(word(&rest));
+    const_oid_status status = compared_by(left.octets, left.len, right.octets, right.len);
     if (status.code == CONST_OID_OK) {
         printf("%s", words[status.detail]);
     } else {
@@ -207,66 +205,46 @@ static void in_word(const_oid_status status, const char *const *words) {
     }
 }
 
-static void pair_row(const char *call, char *rest) {
-    static const char *const whether[] = {"no", "yes"};
-    static const char *const orders[] = {"no order", "less", "equal", "greater"};
-    bytes a = read_hex(word(&rest));
-    bytes b = read_hex(word(&rest));
-    const const_oid_octets left = {a.octets, a.len}, right = {b.octets, b.len};
-    if (strcmp(call, "items") == 0) {
-        printf("%s", orders[const_oid_by_arcs(&left, &right) + CONST_OID_EQUAL]);
-    } else if (strcmp(call, "begins") == 0) {
-        in_word(const_oid_starts_with(a.octets, a.len, b.octets, b.len), whether);
-    } else if (strcmp(call, "equal") == 0) {
-        in_word(const_oid_eq(a.octets, a.len, b.octets, b.len), whether);
-    } else if (strcmp(call, "owned") == 0) {
-        in_word(const_oid_cmp_owned(a.octets, a.len, b.octets, b.len), orders);
-    } else if (strcmp(call, "borrowed") == 0) {
-        in_word(const_oid_cmp(a.octets, a.len, b.octets, b.len), orders);
-    } else if (strcmp(call, "by_arcs") == 0) {
-        const_oid_status order = const_oid_cmp_arcs(a.octets, a.len, b.octets, b.len);
-        if (order.code == CONST_OID_OK && (int)order.detail - CONST_OID_EQUAL != const_oid_by_arcs(&left, &right))
-            fail("items have another order");
-        in_word(order, orders);
-    } else {
-        fail("a row has an unknown call");
-    }
+static const_oid_status by_arcs(const uint8_t *left, size_t left_len, const uint8_t *right, size_t right_len) {
+    const const_oid_octets a = {left, left_len}, b = {right, right_len};
+    return (const_oid_status){CONST_OID_OK, (uint32_t)(CONST_OID_EQUAL + const_oid_by_arcs(&a, &b)), 0};
 }
 
-static void answer(const char *call, char *rest) {
+static void tree_row(int is_child, char *rest) {
     static uint8_t out[MOST];
-    char text[CONST_OID_MAX_ERROR_TEXT];
-    if (strcmp(call, "text") == 0) {
-        text_row(rest, strlen(rest));
-    } else if (strcmp(call, "bytes") == 0) {
-        bytes row = read_hex(word(&rest));
-        text_row((const char *)row.octets, row.len);
-    } else if (strcmp(call, "octets") == 0) {
-        octets_row(rest);
-    } else if (strcmp(call, "arcs") == 0) {
-        arcs_row(rest);
-    } else if (strcmp(call, "arcs_from") == 0) {
-        arcs_from_row(rest);
-    } else if (strcmp(call, "parent") == 0) {
-        bytes row = read_hex(word(&rest));
-        written(const_oid_parent(row.octets, row.len, out, sizeof out), out);
-    } else if (strcmp(call, "child") == 0) {
-        bytes row = read_hex(word(&rest));
-        written(const_oid_push_arc(row.octets, row.len, number(&rest), out, sizeof out), out);
-    } else if (strcmp(call, "sorted") == 0) {
-        sorted_row(rest);
-    } else if (strcmp(call, "find") == 0 || strcmp(call, "next") == 0 || strcmp(call, "nearest") == 0) {
-        index_row(call, rest);
-    } else if (strcmp(call, "range") == 0) {
-        range_row(rest);
-    } else if (strcmp(call, "error") == 0) {
-        error_row(rest);
-    } else if (strcmp(call, "message") == 0) {
-        uint32_t code = number(&rest);
-        written(const_oid_error_text(code, number(&rest), text, sizeof text), (const uint8_t *)text);
-    } else {
-        pair_row(call, rest);
-    }
+    bytes oid = read_hex(word(&rest));
+    const_oid_status status = is_child ? const_oid_push_arc(oid.octets, oid.len, number(&rest), out, sizeof out)
+        : const_oid_parent(oid.octets, oid.len, out, sizeof out);
+    written(status, out);
+}
+
+static void bytes_row(char *rest) {
+    bytes text = read_hex(word(&rest));
+    text_row((const char *)text.octets, text.len);
+}
+
+#define IS(name) (strcmp(call, name) == 0)
+
+static void answer(const char *call, char *rest) {
+    if (IS("text")) text_row(rest, strlen(rest));
+    else if (IS("bytes")) bytes_row(rest);
+    else if (IS("octets")) octets_row(rest);
+    else if (IS("arcs")) arcs_row(rest);
+    else if (IS("arcs_from")) arcs_from_row(rest);
+    else if (IS("parent") || IS("child")) tree_row(IS("child"), rest);
+    else if (IS("sorted")) sorted_row(rest);
+    else if (IS("find")) index_row(const_oid_find, rest);
+    else if (IS("next")) index_row(const_oid_next, rest);
+    else if (IS("nearest")) index_row(const_oid_nearest, rest);
+    else if (IS("range")) range_row(rest);
+    else if (IS("error") || IS("message")) error_row(IS("message"), rest);
+    else if (IS("items")) pair_row(by_arcs, orders, rest);
+    else if (IS("begins")) pair_row(const_oid_starts_with, whether, rest);
+    else if (IS("equal")) pair_row(const_oid_eq, whether, rest);
+    else if (IS("owned")) pair_row(const_oid_cmp_owned, orders, rest);
+    else if (IS("borrowed")) pair_row(const_oid_cmp, orders, rest);
+    else if (IS("by_arcs")) pair_row(const_oid_cmp_arcs, orders, rest);
+    else fail("a row has an unknown call");
 }
 
 int main(void) {
