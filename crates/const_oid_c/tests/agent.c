@@ -91,16 +91,19 @@ static void get_bulk(const uint8_t *octets, size_t len, size_t most) {
 
 int main(void) {
     static const uint8_t sys_name[] = {0x2B, 6, 1, 2, 1, 1, 5, 0}, up_time[] = {0x2B, 6, 1, 2, 1, 1, 3, 0};
-    static const uint8_t invalid[] = {0x2B, 0x80, 1}, group[] = {0x2B, 6, 1, 2, 1, 1};
+    static const uint8_t invalid[] = {0x2B, 0x80, 1}, group[] = {0x2B, 6, 1, 2, 1, 1}, long_name[MAX_NAME + 1] = {0};
     append(sys_name, sizeof sys_name, "router");
     append(invalid, sizeof invalid, "nothing");
     append(up_time, sizeof up_time, "4711");
+    append(long_name, sizeof long_name, "nothing");
     sort_names();
     /* OID contains arc with invalid base 128 encoding */
     get(up_time, sizeof up_time);
     /* 1.3.6.1.2.1.1.3.0 = 4711 */
     get(group, sizeof group);
     /* there is no such arc, parent, item or text */
+    get_bulk(long_name, 1, 1);
+    /* 1.3.6.1.2.1.1.3.0 = 4711 */
     insert("1.3.6.1.2.1.1.1.0", "a router");
     insert("1.3.6.1.2.1.1.\x1B", "nothing");
     /* expected digit, got '?' */

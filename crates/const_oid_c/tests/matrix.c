@@ -217,7 +217,7 @@ static argument searched[SEARCHED];
 
 /* The values of an argument beside one that varies. How many. */
 static size_t values_beside(enum kind kind, enum kind lead, argument varied, argument *values) {
-    static uint8_t changed[MOST];
+    static uint8_t changed[2][MOST];
     size_t count = 0;
     const size_t numbers[] = {0, 1, 4, varied.len, varied.len + 1, 128, 4294967295u};
     switch (kind) {
@@ -238,9 +238,11 @@ static size_t values_beside(enum kind kind, enum kind lead, argument varied, arg
             values[count++] = (argument){varied.items, varied.len > MOST ? 3 : varied.len};
             if (varied.len < 2 || varied.len > MOST) break;
             values[count++] = (argument){varied.items, varied.len - 1};
-            memcpy(changed, varied.items, varied.len);
-            changed[varied.len - 1] ^= 1;
-            values[count++] = (argument){changed, varied.len};
+            for (size_t i = 0; i < 2; i++) {
+                memcpy(changed[i], varied.items, varied.len);
+                changed[i][varied.len - 1 - i * (varied.len / 4)] ^= 1;
+                values[count++] = (argument){changed[i], varied.len};
+            }
     }
     return count;
 }
@@ -266,8 +268,8 @@ static void with(int lead, const void *items, size_t len) {
     with_others(lead, 0);
 }
 
-/* Each length up to 66, and those around the sizes of the library and the ends of 8 and 16 bits. */
-static const size_t lens[] = {127, 128, 129, 254, 255, 256, 257, 258, 300, 515, 65535, 65539};
+/* Each length up to 66, those around the sizes of the library and the ends of 8 and 16 bits, and a huge one. */
+static const size_t lens[] = {127, 128, 129, 254, 255, 256, 257, 258, 300, 515, 65535, 65539, 200003};
 enum { SHORT = 67, LENS = SHORT + sizeof lens / sizeof *lens };
 
 static size_t len_at(int i) { return i < SHORT ? (size_t)i : lens[i - SHORT]; }
@@ -423,12 +425,14 @@ static void vary_counts(int lead) {
     }
 }
 
-/* A list of 2^32 items and one more: wrong from the second one on, or sorted, all equal but the last one. */
+/* A list of 2^32 items and one more: wrong at the second one, so that the third is not read; or sorted, all equal but
+ * the last one. */
 static void vary_huge_lists(int lead) {
     const_oid_octets *items = (const_oid_octets *)(void *)list_pages.start;
     int reads_all = lead == 0;
     if (reads_all) {
         items[0] = (const_oid_octets){one, 1};
+        items[2].len = 3;
         set_runs(one, 1, (argument){NULL, 0}, NULL, 0);
         for (int i = 0; i < CUTS; i++)
             if (has(list_pages.len, cuts[i], sizeof *items)) with(lead, items, (size_t)cuts[i] + 1);

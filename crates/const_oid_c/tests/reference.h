@@ -4,7 +4,7 @@
 #include "parts.h"
 #include "see.h"
 
-enum { MOST = 66000 };
+enum { MOST = 201000 };
 
 /* An argument: items and how many there are, or a number. */
 typedef struct {
