@@ -70,15 +70,6 @@ static void insert(const char *text, const char *value) {
     count++;
 }
 
-static void get(const uint8_t *octets, size_t len) {
-    const_oid_status found = const_oid_find(octets, len, names, count);
-    if (found.code == CONST_OID_OK) {
-        print_object(found.len);
-    } else {
-        print_error(found);
-    }
-}
-
 /* GETBULK: the objects after a name, which need not be one of theirs. GETNEXT is this with one. */
 static void get_bulk(const uint8_t *octets, size_t len, size_t most) {
     const_oid_status next = const_oid_next(octets, len, names, count);
@@ -87,6 +78,15 @@ static void get_bulk(const uint8_t *octets, size_t len, size_t most) {
         return;
     }
     for (size_t i = next.len; i < count && i - next.len < most; i++) print_object(i);
+}
+
+static void get(const uint8_t *octets, size_t len) {
+    const_oid_status found = const_oid_find(octets, len, names, count);
+    if (found.code == CONST_OID_OK) {
+        print_object(found.len);
+    } else {
+        print_error(found);
+    }
 }
 
 int main(void) {

@@ -1,5 +1,6 @@
 // The calls from C++, over the texts and octets of string_view and vector.
 #include "const_oid.h"
+#include "const_oid_names.h"
 
 #include <algorithm>
 #include <cstdio>
@@ -7,6 +8,18 @@
 #include <vector>
 
 static_assert(sizeof(const_oid_status) == 8 + sizeof(size_t), "a status has no other fields");
+
+// The octets of a constant, from C++14 on.
+template <size_t N> struct known_octets {
+    uint8_t octets[N - 1];
+    constexpr known_octets(const char (&constant)[N]) : octets() {
+        for (size_t i = 0; i < N - 1; i++) octets[i] = static_cast<uint8_t>(constant[i]);
+    }
+    constexpr operator const_oid_octets() const { return {octets, N - 1}; }
+};
+
+static constexpr known_octets<sizeof CONST_OID_RFC4519_CN> common_name{CONST_OID_RFC4519_CN};
+static_assert(const_oid_octets(common_name).len == 3 && const_oid_octets(common_name).octets[0] == 0x55, "2.5.4.3");
 
 using Octets = std::vector<uint8_t>;
 
