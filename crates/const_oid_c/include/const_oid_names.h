@@ -11,7 +11,8 @@
  *   return the first.
  * - const_oid_by_name, which returns the index of the entry with a name.
  *
- * The arrays are static: each file that uses them has a copy of some 110 KB, so let one file use them. */
+ * The arrays are static: each file that uses them has a copy of some 110 KB, so let one file use them. What is here is
+ * tested, not proved. */
 #ifndef CONST_OID_NAMES_H
 #define CONST_OID_NAMES_H
 
@@ -4657,7 +4658,7 @@ static __inline int const_oid_is_same_name(const char *left, const char *right) 
 
 /* The index of the first entry of the table that has a name, which is null-terminated, whatever the case of its
  * ASCII letters. CONST_OID_NAMES_COUNT if there is none. */
-static __inline size_t const_oid_by_name(const char *name) {
+CONST_OID_NODISCARD static __inline size_t const_oid_by_name(const char *name) {
     const char *letter;
     uint32_t hash = 0;
     size_t index;

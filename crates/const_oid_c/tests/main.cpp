@@ -80,22 +80,6 @@ static bool sorts() {
         && finds_each(items);
 }
 
-// Searches in a list of 1.2, 1.2.128 and 2.999.
-static bool searches() {
-    const std::vector<Octets> all = {from_text("1.2"), from_text("1.2.128"), from_text("2.999")};
-    const std::vector<const_oid_octets> items = list_of(all);
-    const Octets below = from_text("1.2.128.7");
-    const const_oid_octets *sorted = items.data();
-    const_oid_range range = {7, 7};
-    return const_oid_check_sorted(sorted, items.size()).code == CONST_OID_OK
-        && const_oid_find(all[2].data(), all[2].size(), sorted, items.size()).len == 2
-        && const_oid_find(below.data(), below.size(), sorted, items.size()).code == CONST_OID_NONE
-        && const_oid_next(below.data(), below.size(), sorted, items.size()).len == 2
-        && const_oid_nearest(below.data(), below.size(), sorted, items.size()).len == 1
-        && const_oid_subtree_range(all[0].data(), all[0].size(), sorted, items.size(), &range).code == CONST_OID_OK
-        && range.start == 0 && range.end == 2;
-}
-
 int main() {
     std::string_view row = "oid=1.2.840.10045.2.1;";
     Octets octets = from_text(row.substr(4, 17));
@@ -103,7 +87,7 @@ int main() {
     bool right = octets == Octets{0x2A, 0x86, 0x48, 0xCE, 0x3D, 0x02, 0x01} && from_text("1..2").empty()
         && from_text({}).empty() && const_oid_check(empty.data(), empty.size()).code == CONST_OID_EMPTY
         && const_oid_eq(octets.data(), octets.size(), octets.data(), octets.size()).detail == 1
-        && searches() && sorts();
+        && sorts();
     if (!right) std::fputs("tests: the C++ program has other results\n", stderr);
     return right ? 0 : 1;
 }

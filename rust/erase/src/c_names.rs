@@ -44,32 +44,3 @@ fn hash(name: &str) -> usize {
     let more = |hash: u32, byte| hash.wrapping_mul(33).wrapping_add(u32::from(byte & 31));
     name.bytes().fold(0, more) as usize
 }
-
-#[test]
-fn lists_the_rows_in_the_order_of_arcs_and_by_hash() {
-    let table = "names! {\n    a \"A\" {\n        X = \"1.2.840\", \"x\";\n        Y = \"1.2\", \"Y\";\n    }\n    b \"B\" {\n        X = \"2.999\", \"z\";\n        Y = \"1.2\", \"X\";\n    }\n}\n";
-    let made = header(table).unwrap();
-    let lines: Vec<&str> = made
-        .lines()
-        .filter(|line| line.starts_with("#define CONST_OID_") || line.starts_with("    ") && line.ends_with(','))
-        .collect();
-    assert_eq!(
-        lines[lines.len() - 14..],
-        [
-            r#"#define CONST_OID_A_X "\x2A\x86\x48""#,
-            r#"#define CONST_OID_A_Y "\x2A""#,
-            r#"#define CONST_OID_B_X "\x88\x37""#,
-            r#"#define CONST_OID_B_Y "\x2A""#,
-            "#define CONST_OID_NAMES_COUNT 4",
-            "    {CONST_OID_OCTETS(CONST_OID_A_Y)},",
-            "    {CONST_OID_OCTETS(CONST_OID_B_Y)},",
-            "    {CONST_OID_OCTETS(CONST_OID_A_X)},",
-            "    {CONST_OID_OCTETS(CONST_OID_B_X)},",
-            r#"    "Y","#,
-            r#"    "X","#,
-            r#"    "x","#,
-            r#"    "z","#,
-            "    2, 0, 3, 1, 4, 4, 4, 4,",
-        ]
-    );
-}
