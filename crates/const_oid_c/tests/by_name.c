@@ -22,12 +22,12 @@ static int finds_each(void) {
     size_t first = 0;
     int right = const_oid_check_sorted(const_oid_name_octets, CONST_OID_NAMES_COUNT).code == CONST_OID_OK;
     for (size_t i = 0; i < CONST_OID_NAMES_COUNT; i++) {
-        const_oid_octets entry = const_oid_name_octets[i];
+        const const_oid_octets *names = const_oid_name_octets, entry = names[i];
         uint8_t below[64];
         size_t len = const_oid_push_arc(entry.octets, entry.len, UINT32_MAX, below, sizeof below).len;
-        if (const_oid_by_arcs(&const_oid_name_octets[first], &entry) != 0) first = i;
-        right = right && const_oid_find(entry.octets, entry.len, const_oid_name_octets, CONST_OID_NAMES_COUNT).len == first
-            && const_oid_nearest(below, len, const_oid_name_octets, CONST_OID_NAMES_COUNT).len == first;
+        if (const_oid_by_arcs(&names[first], &entry) != 0) first = i;
+        right = right && const_oid_find(entry.octets, entry.len, names, CONST_OID_NAMES_COUNT).len == first
+            && const_oid_nearest(below, len, names, CONST_OID_NAMES_COUNT).len == first;
     }
     return right;
 }

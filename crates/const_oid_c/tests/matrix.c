@@ -554,22 +554,6 @@ static void check_drawn(void) {
     }
 }
 
-/* The constants of the header are the greatest results. */
-static void check_constants(void) {
-    static uint8_t octets[CONST_OID_MAX_OCTETS + 1];
-    size_t longest = 0;
-    memset(octets, 0x7F, sizeof octets);
-    SEE(const_oid_to_text(octets, CONST_OID_MAX_OCTETS, NULL, 0).len == CONST_OID_MAX_TEXT, 0);
-    SEE(const_oid_len(octets, CONST_OID_MAX_OCTETS).len == CONST_OID_MAX_ARCS, 0);
-    SEE(const_oid_cmp_owned(octets, CONST_OID_MAX_OCTETS, octets, 1).code == CONST_OID_OK, 0);
-    SEE(const_oid_cmp_owned(octets, CONST_OID_MAX_OCTETS + 1, octets, 1).code == CONST_OID_LENGTH, 0);
-    for (uint32_t code = 0; code < 16; code++) {
-        size_t len = const_oid_error_text(code, UINT32_MAX, NULL, 0).len;
-        longest = len > longest ? len : longest;
-    }
-    SEE(longest == CONST_OID_MAX_ERROR_TEXT, longest);
-}
-
 /* Memory that is mapped and not written, of so many bytes or as many as there are. */
 static void map(pages *to, int bits) {
     for (; to->start == NULL && bits > 20; bits--) {
@@ -624,7 +608,6 @@ int main(void) {
         if (is_output(output_at()) && f->kinds[output_at()] != RANGE_OUT) with_huge_outputs();
         for (int at = 0; at < output_at(); at++) vary(at);
     }
-    check_constants();
     if (equal_items == NULL) printf("tests: no length past 2^32, since no more is mapped\n");
     return 0;
 }
