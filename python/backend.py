@@ -62,7 +62,7 @@ def _missing(is_installed):
         if not shutil.which("pkg-config"):
             yield "pkg-config (Debian: pkg-config)"
         elif subprocess.run(["pkg-config", "--exists", "const_oid_c"]).returncode:
-            yield "the library const_oid_c, where pkg-config finds it (crates/const_oid_c/install; set PKG_CONFIG_PATH)"
+            yield "the library const_oid_c, where pkg-config finds it (see crates/const_oid_c/README.md; set PKG_CONFIG_PATH)"
     elif not (shutil.which("cargo") and shutil.which(RUSTC)):
         yield "cargo and rustc, 1.85 or later (https://rustup.rs)"
     elif tuple(map(int, re.findall(r"\d+", _output(RUSTC, "--version"))[:2])) < RUST:
