@@ -4,20 +4,11 @@ ghost use Rattle.std.specs.Iterator.{YieldsFirst, item_count};
 ghost use Rattle.const_oid.specs.Identifier.{root_rule};
 ghost use Rattle.const_oid.specs.Contents.{cut, parts_fault, arcs_of_octets};
 
+use crate::Arc;
 use crate::base128::read_group;
 use crate::parts::skip_parts;
 use crate::root::split_root;
 use std::marker::Model;
-
-/// One arc of an object identifier, a 32-bit number.
-///
-/// # Examples
-///
-/// ```
-/// const GREATEST: const_oid::Arc = const_oid::Arc::MAX;
-/// assert_eq!(GREATEST, 4_294_967_295);
-/// ```
-pub type Arc = u32;
 
 /// An iterator over the arcs of an identifier, in order. After the last arc, `next` always returns `None`.
 ///

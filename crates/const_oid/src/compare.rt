@@ -2,7 +2,6 @@
 
 ghost use Rattle.std.specs.Prelude.{◌≡◌, ◌≢◌, ◌↔◌, ℕ, ◌+◌, ◌<◌, ◌≤◌, List, ◌++◌, length, slice_index, take, drop, min, nat_eq, None, IsFalse, IsTrue, MatchOption};
 ghost use Rattle.std.specs.Cmp.Lexicographic.{pointwise, slice_cmp};
-ghost use Rattle.std.specs.Int.{to_be_bytes, w32};
 ghost use Rattle.std.specs.Ordering.{nat_cmp};
 ghost use Rattle.std.specs.Str.{str_eq_ignore_ascii_case};
 ghost use Rattle.const_oid.specs.Contents.{cut, parts_fault};
@@ -10,9 +9,9 @@ ghost use Rattle.const_oid.specs.Identifier.{root_rule};
 ghost use Rattle.const_oid.specs.Orders.{parts_cmp};
 ghost use Rattle.const_oid.specs.Private.Octets.{lens_cmp, length_at};
 ghost use Rattle.const_oid.specs.Private.Prefixes.{IsCommonPrefix};
-ghost use Rattle.const_oid.specs.Private.Words.{IsWord};
 
 use crate::parts::{first_octets, without_last_part};
+use crate::words::{HALF, WORD, half_word, word};
 use std::cmp::Ordering;
 
 /// Whether octets begin with others.
@@ -173,24 +172,6 @@ fn order_few(a: &[u8], b: &[u8]) -> Ordering
     a.len().cmp(&b.len())
 }
 
-/// How many octets a word has.
-const WORD: usize = 8;
-
-/// The eight octets from an index on as a big-endian number: so words have the lexicographic order of their octets.
-// erase: const
-#[inline(always)]
-fn word(octets: &[u8], at: usize) -> u64
-    requires { at + 8 ≤ length octets.now }
-    ensures { IsWord octets.now at result }
-{
-    // The compiler knows the length of this slice, so it leaves the test out.
-    let (word, _) = octets.split_at(at).1.split_at(WORD);
-    match word.first_chunk::<WORD>() {
-        Some(word) => u64::from_be_bytes(*word),
-        None => unreachable!(),
-    }
-}
-
 /// The lexicographic order of subidentifiers, a shorter one before a longer one: of valid octets, that of their arcs.
 ///
 /// At the first octet that differs, both subidentifiers began at the same index. So the one with more octets left is
@@ -280,21 +261,6 @@ fn same_start(a: &[u8], b: &[u8]) -> usize
         HALF
     } else {
         0
-    }
-}
-
-/// How many octets half a word has.
-const HALF: usize = 4;
-
-/// The first four octets as a number.
-#[inline(always)]
-pub(crate) fn half_word(octets: &[u8]) -> u32
-    requires { 4 ≤ length octets.now }
-    ensures { to_be_bytes w32 result ≡ take 4 octets.now }
-{
-    match octets.first_chunk::<HALF>() {
-        Some(half) => u32::from_be_bytes(*half),
-        None => unreachable!(),
     }
 }
 

@@ -1,8 +1,10 @@
-//! Arcs in decimal, written into bytes.
+//! Digits and other bytes of a text, written at an index, and read as a `str`.
 ghost use Rattle.std.specs.Prelude.{◌≡◌, ◌+◌, ◌<◌, ◌≤◌, [], ◌∷◌, ◌++◌, length, take, drop, decimal};
+ghost use Rattle.std.specs.Str.{IsUtf8};
 ghost use Rattle.const_oid.specs.Private.Text.{arc_text, pair_text, four_text};
 
 use crate::Arc;
+use std::str;
 
 /// The most bytes that an arc takes in a text: a dot, and ten digits.
 pub(crate) const MAX_ARC_LEN: usize = 11;
@@ -174,6 +176,23 @@ fn write_byte(byte: u8, out: &mut [u8], at: usize) -> usize
     at + 1
 }
 
+/// Writes bytes at an index, and returns the index after them.
+#[tactic(auto, using(crate::proofs::Sets::bytes_put))]
+#[inline]
+pub(crate) fn write_bytes(bytes: &[u8], out: &mut [u8], at: usize) -> usize
+    requires { at + length bytes.now ≤ length out.old }
+    ensures end { result ≡ at + length bytes.now }
+    ensures prefix { take result out.new ≡ take at out.old ++ bytes.now }
+    ensures after { drop result out.new ≡ drop result out.old }
+{
+    let end = at + bytes.len();
+    // This always holds. rustc does not know it, and would make panics.
+    if at <= end && end <= out.len() {
+        out[at..end].copy_from_slice(bytes);
+    }
+    end
+}
+
 /// Writes the digits of an arc at the end of an array, and returns the index of the first. It is less code than
 /// [`write_arc`], and takes more time.
 #[inline]
@@ -192,6 +211,19 @@ pub(crate) fn write_last_digits(arc: Arc, out: &mut [u8; MAX_DIGITS]) -> usize
         }
     }
     at
+}
+
+/// The text of the first bytes, which are UTF-8.
+#[inline]
+pub(crate) fn utf8(bytes: &[u8], len: usize) -> &str
+    requires within { len ≤ length bytes.now }
+    requires utf8 { IsUtf8 (take len bytes.now) }
+    ensures { result.now ≡ take len bytes.now }
+{
+    // The lesser one is always `len`. rustc does not know it, and would make a panic.
+    let text = &bytes[..len.min(bytes.len())];
+    // SAFETY: each call is proved to pass UTF-8, so the bytes are not looked at again.
+    unsafe { str::from_utf8_unchecked(text) }
 }
 
 /// The two digits of each number below a hundred, one after another.

@@ -4,8 +4,7 @@ ghost use Rattle.std.specs.Str.{IsUtf8};
 ghost use Rattle.const_oid.specs.Text.{ReturnsLength, ReturnsText, WritesText};
 
 use crate::Arc;
-use crate::digits::{MAX_DIGITS, arc_len, write_last_digits};
-use crate::text::{utf8, write_bytes};
+use crate::digits::{MAX_DIGITS, arc_len, utf8, write_bytes, write_last_digits};
 use std::fmt;
 
 /// A result whose error is [`Error`].

@@ -21,8 +21,7 @@ pub mod laws;
 pub(crate) mod links;
 pub mod oid;
 pub mod oid_ref;
-// Its functions are for the other crates: Rust hides them.
-pub mod parser;
+mod parser;
 mod parts;
 mod root;
 // Its functions are for the other crates: Rust hides them.
@@ -35,8 +34,9 @@ mod text;
 // erase: omit
 pub mod traits;
 mod valid;
+mod words;
 
-pub use arcs::{Arc, Arcs};
+pub use arcs::Arcs;
 pub use buffer::Buffer;
 // erase: omit
 pub use by_arcs::ByArcs;
@@ -45,3 +45,13 @@ pub use oid::{ObjectIdentifier, Oid};
 pub use oid_ref::ObjectIdentifierRef;
 // erase: omit
 pub use traits::{AssociatedOid, DynAssociatedOid};
+
+/// One arc of an object identifier, a 32-bit number.
+///
+/// # Examples
+///
+/// ```
+/// const GREATEST: const_oid::Arc = const_oid::Arc::MAX;
+/// assert_eq!(GREATEST, 4_294_967_295);
+/// ```
+pub type Arc = u32;

@@ -16,6 +16,7 @@ ghost use Rattle.const_oid.specs.Tree.{BeginsWith, child_of, parent_of};
 use crate::Arc;
 use crate::arcs::Arcs;
 use crate::buffer::Buffer;
+use crate::compare::are_equal;
 use crate::encoder::encode;
 use crate::error::{Error, Result};
 use crate::oid_ref::ObjectIdentifierRef;
@@ -523,6 +524,20 @@ impl<const MAX_SIZE: usize> ObjectIdentifier<MAX_SIZE> {
         ensures { result ≡ slice_cmp nat_cmp (oid_arcs self.now) (oid_arcs other.now) }
     {
         self.as_oid_ref().cmp_arcs(&other.as_oid_ref())
+    }
+}
+
+impl ObjectIdentifierRef<'_> {
+    ghost use Rattle.const_oid.specs.Oid.{oid_octets, oid_arcs};
+    ghost use Rattle.const_oid.specs.OidRef.{ref_octets, ref_arcs};
+
+    /// Whether an owned identifier, of any capacity, has the same octets, and so the same arcs.
+    // erase: const
+    pub fn eq_oid<const N: usize>(&self, other: &ObjectIdentifier<N>) -> bool
+        ensures octets { IsTrue result ↔ (ref_octets self.now ≡ oid_octets other.now) }
+        ensures arcs { IsTrue result ↔ (ref_arcs self.now ≡ oid_arcs other.now) }
+    {
+        are_equal(self.as_bytes(), other.as_bytes())
     }
 }
 

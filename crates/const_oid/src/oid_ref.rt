@@ -8,7 +8,7 @@ ghost use Rattle.std.specs.Ordering.{nat_cmp, is_lt};
 ghost use Rattle.std.proofs.Props.{props};
 ghost use Rattle.const_oid.specs.Base128.{AreOctets};
 ghost use Rattle.const_oid.specs.Contents.{arcs_of_octets, cut, parts_fault, octet_answer, borrowed_capacity};
-ghost use Rattle.const_oid.specs.Identifier.{root_rule, IsEncoding};
+ghost use Rattle.const_oid.specs.Identifier.{root_rule, usual_capacity, IsEncoding};
 ghost use Rattle.const_oid.specs.Items.{item_answer};
 ghost use Rattle.const_oid.specs.Text.{bytes_answer, size_answer, text_answer, text_of, text_in, octet_text, Denotes, ReturnsLength, ReturnsText, WritesText};
 
@@ -16,14 +16,13 @@ use crate::Arc;
 use crate::arcs::{Arcs, arc_at};
 use crate::base128::read_group;
 use crate::compare::{are_equal, begins_with, order, order_by_parts};
-use crate::digits::{MAX_ARC_LEN, write_arc};
+use crate::digits::{MAX_ARC_LEN, utf8, write_arc};
 use crate::encoder::encode_long;
 use crate::error::{Error, Result};
-use crate::oid::ObjectIdentifier;
-use crate::parser::parse_long;
+use crate::parser::{parse_long, parse_to};
 use crate::parts::{count_parts, without_last_part};
 use crate::root::split_root;
-use crate::text::{text_len, utf8, write_checked, write_text};
+use crate::text::{text_len, write_checked, write_text};
 use crate::valid::check;
 use std::cmp::Ordering;
 use std::fmt;
@@ -41,7 +40,6 @@ pub struct ObjectIdentifierRef<'a> {
 }
 
 impl<'a> ObjectIdentifierRef<'a> {
-    ghost use Rattle.const_oid.specs.Oid.{oid_octets, oid_arcs};
     ghost use Rattle.const_oid.specs.OidRef.{ref_slice, ref_octets, ref_arcs, ref_answer};
     ghost use Rattle.const_oid.specs.Tree.{BeginsWith, parent_of};
 
@@ -169,7 +167,8 @@ impl<'a> ObjectIdentifierRef<'a> {
     ///
     /// # Errors
     ///
-    /// Those of [`new`](ObjectIdentifier::new), with [`Error::Length`] if the arcs take more octets than `limit`.
+    /// Those of [`new`](crate::ObjectIdentifier::new), with [`Error::Length`] if the arcs take more octets than
+    /// `limit`.
     pub fn bytes_len_from_ascii(text: &[u8], limit: usize) -> Result<usize>
         ensures len { result ≡ size_answer (text_answer root_rule text.now limit) }
         ensures enough { length text.now ≤ limit → result ≢ Err Error.Length }
@@ -182,8 +181,8 @@ impl<'a> ObjectIdentifierRef<'a> {
     ///
     /// # Errors
     ///
-    /// Those of [`new`](ObjectIdentifier::new), with [`Error::Length`] if the arcs take more octets than `out` has. It is
-    /// then unchanged.
+    /// Those of [`new`](crate::ObjectIdentifier::new), with [`Error::Length`] if the arcs take more octets than `out`
+    /// has. It is then unchanged.
     pub fn bytes_from_ascii(text: &[u8], out: &mut [u8]) -> Result<usize>
         ensures answer { bytes_answer out.new result ≡ text_answer root_rule text.now (length out.old) }
         ensures encoding { IfOk result (λ len. IsEncoding root_rule (arcs_of_octets (take len out.new)) (take len out.new)) }
@@ -201,8 +200,8 @@ impl<'a> ObjectIdentifierRef<'a> {
     ///
     /// # Errors
     ///
-    /// Those of [`from_arcs`](ObjectIdentifier::from_arcs), with [`Error::Length`] if the arcs take more octets than
-    /// `limit`.
+    /// Those of [`from_arcs`](crate::ObjectIdentifier::from_arcs), with [`Error::Length`] if the arcs take more octets
+    /// than `limit`.
     pub fn bytes_len_from_arcs(arcs: &[Arc], limit: usize) -> Result<usize>
         ensures len { result ≡ size_answer (item_answer root_rule arcs.now limit) }
         ensures enough { 5 * length arcs.now ≤ limit → result ≢ Err Error.Length }
@@ -215,8 +214,8 @@ impl<'a> ObjectIdentifierRef<'a> {
     ///
     /// # Errors
     ///
-    /// Those of [`from_arcs`](ObjectIdentifier::from_arcs), with [`Error::Length`] if the arcs take more octets than
-    /// `out` has. It is then unchanged.
+    /// Those of [`from_arcs`](crate::ObjectIdentifier::from_arcs), with [`Error::Length`] if the arcs take more octets
+    /// than `out` has. It is then unchanged.
     pub fn bytes_from_arcs(arcs: &[Arc], out: &mut [u8]) -> Result<usize>
         ensures answer { bytes_answer out.new result ≡ item_answer root_rule arcs.now (length out.old) }
         ensures encoding { IfOk result (λ len. IsEncoding root_rule (arcs_of_octets (take len out.new)) (take len out.new)) }
@@ -240,6 +239,21 @@ impl<'a> ObjectIdentifierRef<'a> {
         Ok(ObjectIdentifierRef::from_checked(&out[..len]))
     }
 
+    /// Parses dotted text in ASCII into 39 octets, the usual capacity, in one pass, and borrows those of its identifier. On
+    /// `Err`, `out` may be changed.
+    ///
+    /// # Errors
+    ///
+    /// Those of [`new`](crate::ObjectIdentifier::new).
+    #[tactic(auto, using(crate::proofs::Outputs::taken, crate::proofs::Encodings::none_from_encoding))]
+    #[inline(always)]
+    pub fn parse_usual(text: &[u8], out: &'a mut [u8; 39]) -> Result<Self>
+        ensures { ref_answer result ≡ text_answer root_rule text.now usual_capacity }
+    {
+        let len = parse_to(text, out, 39)?;
+        Ok(ObjectIdentifierRef::from_checked(&out[..len]))
+    }
+
     /// Encodes arcs as [`bytes_from_arcs`](Self::bytes_from_arcs) does, and borrows their octets.
     #[tactic(auto, using(crate::proofs::Encodings::none_from_encoding))]
     pub fn from_arcs_in(arcs: &[Arc], out: &'a mut [u8]) -> Result<Self>
@@ -248,15 +262,6 @@ impl<'a> ObjectIdentifierRef<'a> {
     {
         let len = Self::bytes_from_arcs(arcs, out)?;
         Ok(ObjectIdentifierRef::from_checked(&out[..len]))
-    }
-
-    /// Whether an owned identifier, of any capacity, has the same octets, and so the same arcs.
-    // erase: const
-    pub fn eq_oid<const N: usize>(&self, other: &ObjectIdentifier<N>) -> bool
-        ensures octets { IsTrue result ↔ (ref_octets self.now ≡ oid_octets other.now) }
-        ensures arcs { IsTrue result ↔ (ref_arcs self.now ≡ oid_arcs other.now) }
-    {
-        are_equal(self.as_bytes(), other.as_bytes())
     }
 
     /// The parent: all arcs except the last. Its octets are a prefix of these. `None` if there are only two arcs.

@@ -7,15 +7,13 @@ ghost use Rattle.std.specs.Prelude.{◌≡◌, ◌≤◌, ℕ, drop, length, min
 ghost use Rattle.const_oid.specs.Private.Encoder.{buffer_answer, HasEncoding};
 ghost use Rattle.const_oid.specs.Private.Octets.{IsEncodedIn};
 ghost use Rattle.const_oid.specs.Private.Parser.{or_trailing, stop_fault, HasFault, IsPiece, IsRoot};
-ghost use Rattle.const_oid.specs.Identifier.{root_rule, usual_capacity};
+ghost use Rattle.const_oid.specs.Identifier.{root_rule};
 ghost use Rattle.const_oid.specs.Text.{text_answer};
-ghost use Rattle.const_oid.specs.OidRef.{ref_answer};
 
 use crate::Arc;
 use crate::base128::append_group;
 use crate::buffer::Buffer;
 use crate::error::{Error, Result};
-use crate::oid_ref::ObjectIdentifierRef;
 use crate::root::{check_first, join_root};
 use std::result;
 
@@ -35,23 +33,6 @@ pub(crate) fn parse<const SIZE: usize>(text: &[u8]) -> Result<Buffer<SIZE>>
     }
 }
 
-/// Parses dotted text in ASCII into 39 octets, the usual capacity, and borrows those of its identifier (X.690, 8.19). A
-/// caller that needs no owned identifier copies none.
-///
-/// # Errors
-///
-/// Those of [`new`](crate::ObjectIdentifier::new).
-#[tactic(auto, using(crate::proofs::Outputs::taken, crate::proofs::Encodings::none_from_encoding))]
-#[inline(always)]
-pub fn parse_usual<'a>(text: &[u8], out: &'a mut [u8; 39]) -> Result<ObjectIdentifierRef<'a>>
-    ensures { ref_answer result ≡ text_answer root_rule text.now usual_capacity }
-{
-    match parse_to(text, out, 39) {
-        Ok(len) => Ok(ObjectIdentifierRef::from_checked(&out[..len])),
-        Err(fault) => Err(fault),
-    }
-}
-
 /// `parse_to`, which is compiled once for all calls with octets of any length.
 #[inline(never)]
 pub(crate) fn parse_long(text: &[u8], out: &mut [u8], capacity: usize) -> Result<usize>
@@ -65,7 +46,7 @@ pub(crate) fn parse_long(text: &[u8], out: &mut [u8], capacity: usize) -> Result
 /// its length. Into a slice that is shorter than the capacity nothing is written: the octets are counted alone.
 // erase: const
 #[inline(always)]
-fn parse_to(text: &[u8], out: &mut [u8], capacity: usize) -> Result<usize>
+pub(crate) fn parse_to(text: &[u8], out: &mut [u8], capacity: usize) -> Result<usize>
     ensures { let answer = text_answer root_rule text.now capacity in
         MatchResult result (λ len. IsEncodedIn capacity answer out.old out.new len) (λ fault. answer ≡ Err fault) }
 {

@@ -1,7 +1,6 @@
 //! Arcs as text: their decimals joined by dots.
 ghost use Rattle.std.specs.Prelude.{◌≡◌, ℕ, ◌+◌, ◌*◌, ◌<◌, ◌≤◌, List, ◌∷◌, ◌++◌, length, take, drop, false, MatchOption, IfOk};
 ghost use Rattle.std.specs.Result.{result_err};
-ghost use Rattle.std.specs.Str.{IsUtf8};
 ghost use Rattle.const_oid.specs.Base128.{width};
 ghost use Rattle.const_oid.specs.Contents.{cut, parts_fault, max_first, arcs_from, arcs_of_octets};
 ghost use Rattle.const_oid.specs.Identifier.{root_rule};
@@ -14,7 +13,6 @@ use crate::base128::{checked_group, group_fault};
 use crate::digits::{MAX_ARC_LEN, arc_len, write_arc};
 use crate::error::{Error, Result};
 use crate::root::{MAX_FIRST, split_root};
-use std::str;
 
 /// The length of the arcs' text in bytes, or `None` if it is over a limit.
 #[tactic(auto, using(crate::proofs::Sets::texts_left))]
@@ -96,34 +94,4 @@ fn write_later(arc: Arc, out: &mut [u8], at: usize) -> usize
 {
     // The length of this part is a literal, so rustc checks no index in it.
     at + write_arc(arc, false, &mut out[at..at + MAX_ARC_LEN], 0)
-}
-
-/// Writes bytes at an index, and returns the index after them.
-#[tactic(auto, using(crate::proofs::Sets::bytes_put))]
-#[inline]
-pub(crate) fn write_bytes(bytes: &[u8], out: &mut [u8], at: usize) -> usize
-    requires { at + length bytes.now ≤ length out.old }
-    ensures end { result ≡ at + length bytes.now }
-    ensures prefix { take result out.new ≡ take at out.old ++ bytes.now }
-    ensures after { drop result out.new ≡ drop result out.old }
-{
-    let end = at + bytes.len();
-    // This always holds. rustc does not know it, and would make panics.
-    if at <= end && end <= out.len() {
-        out[at..end].copy_from_slice(bytes);
-    }
-    end
-}
-
-/// The text of the first bytes, which are UTF-8.
-#[inline]
-pub(crate) fn utf8(bytes: &[u8], len: usize) -> &str
-    requires within { len ≤ length bytes.now }
-    requires utf8 { IsUtf8 (take len bytes.now) }
-    ensures { result.now ≡ take len bytes.now }
-{
-    // The lesser one is always `len`. rustc does not know it, and would make a panic.
-    let text = &bytes[..len.min(bytes.len())];
-    // SAFETY: each call is proved to pass UTF-8, so the bytes are not looked at again.
-    unsafe { str::from_utf8_unchecked(text) }
 }

@@ -8,8 +8,8 @@ ghost use Rattle.const_oid.specs.Identifier.{root_rule};
 ghost use Rattle.const_oid.specs.Private.Groups.{IsLong};
 ghost use Rattle.const_oid.specs.Private.Ends.{EndsAt, limit_at};
 
-use crate::compare::half_word;
 use crate::error::{Error, Result};
+use crate::words::half_word;
 
 /// Checks contents octets of any length, or returns their error.
 #[tactic(auto, using(crate::proofs::PartEnds::ends))]

@@ -8,7 +8,6 @@ ghost use Rattle.const_oid_c.specs.Results.{octets_of_text, octets_of_arcs, outp
 use crate::output::{unwritten_status, write_bytes, write_octets};
 use crate::owned::{MAX_OCTETS, is_too_long};
 use crate::status::{NOT_UTF8, Status, code_status, error_status, len_status, too_short_status};
-use const_oid::parser::parse_usual;
 use const_oid::{Error, ObjectIdentifier, ObjectIdentifierRef};
 use std::str;
 
@@ -22,7 +21,7 @@ pub extern "C" fn const_oid_from_text(text: &[u8], out: &mut [u8]) -> Status
 {
     // An identifier of the usual capacity is quicker to make.
     let mut octets = [0; 39];
-    match parse_usual(text, &mut octets) {
+    match ObjectIdentifierRef::parse_usual(text, &mut octets) {
         Ok(oid) => write_bytes(oid.as_bytes(), out),
         Err(fault) => write_other(fault, text, out),
     }

@@ -1,8 +1,7 @@
 //! The arcs of both forms: `len` and `arc`.
 
 use crate::vectors::long_octets;
-use const_oid::arcs::Arc;
-use const_oid::{Error, ObjectIdentifierRef, Oid};
+use const_oid::{Arc, Error, ObjectIdentifierRef, Oid};
 use std::alloc::{AllocError, Global};
 
 /// How octets begin, how many times other octets follow, how they end; how many arcs they have, an index, and the

@@ -3,8 +3,7 @@
 use crate::formatter::prints_as;
 use crate::vectors::{is_answer, long_text};
 use const_oid::db::Database;
-use const_oid::parser::parse_usual;
-use const_oid::{Error, Oid};
+use const_oid::{Error, ObjectIdentifierRef, Oid};
 use std::alloc::{AllocError, Global};
 
 /// Texts that are rejected, and the error.
@@ -68,7 +67,7 @@ fn all_read(text: &str, wanted: Result<&[u8], Error>) -> bool {
 /// Whether `parse_usual` has this result for a text.
 fn is_borrowed(text: &str, wanted: Result<&[u8], Error>) -> bool {
     let mut out = [0xEE; 39];
-    parse_usual(text.as_bytes(), &mut out).map(|oid| oid.as_bytes()) == wanted
+    ObjectIdentifierRef::parse_usual(text.as_bytes(), &mut out).map(|oid| oid.as_bytes()) == wanted
 }
 
 #[test]
@@ -140,7 +139,9 @@ const LONG: &[Row] = &[
 fn has_len(alloc: Global, row: &Row) -> Result<bool, AllocError> {
     let text = long_text(alloc, row.0, row.1, ".1", row.2)?;
     let mut out = [0; 39];
-    let borrowed = parse_usual(text.as_bytes(), &mut out).map(|oid| oid.as_bytes().len());
+    let borrowed = ObjectIdentifierRef::parse_usual(text.as_bytes(), &mut out).map(|oid| oid
+        .as_bytes()
+        .len());
     Ok(borrowed == row.3 && Oid::new(text.as_str()).map(|oid| oid.as_bytes().len()) == row.3)
 }
 

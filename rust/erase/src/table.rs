@@ -78,7 +78,7 @@ pub const CRATES: &[Crate] = &[
             "links*": "Oid" => "ObjectIdentifier", "as above";
             "db_sorted": "(self.entries, &oid)" => "(self.entries, &oid.erased())", LENT;
             "db_sorted*": "(self.entries, oid)" => "(self.entries, &oid.erased())", LENT;
-            "text": "pub(crate) fn utf8" => "#[allow(unsafe_code)]\npub(crate) fn utf8",
+            "digits": "pub(crate) fn utf8" => "#[allow(unsafe_code)]\npub(crate) fn utf8",
                 "bytes that are UTF-8 become a text without a check: the crate denies other unsafe code";
             "parts": "use core::simd::prelude::*; use core::simd::u8x32;" => "", LANES;
             "parts": "let lanes = u8x32::from_slice(octets).simd_lt(u8x32::splat(128));

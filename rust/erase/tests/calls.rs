@@ -7,11 +7,11 @@ use std::path::Path;
 const MISSING: &[(&str, &str)] = &[
     ("laws", "its functions have contracts, and no effect"),
     ("oid::try_from_ref", "`TryFrom`"),
-    ("oid_ref::eq_oid", "`==`"),
     ("oid_ref::bytes_from_arcs", "`from_arcs_in`; the library for C calls it"),
     ("oid_ref::bytes_from_ascii", "`from_ascii_in`; the library for C calls it"),
     ("oid_ref::bytes_len_from_arcs", "`from_arcs_in`; the library for C calls it"),
     ("oid_ref::bytes_len_from_ascii", "`from_ascii_in`; the library for C calls it"),
+    ("oid_ref::parse_usual", "`new`; the library for C calls it"),
     ("oid_ref::text_from_bytes", "`from_bytes` and `encode_text`; the library for C calls it"),
     ("traits::position_of", "`iter().position(..)`"),
 ];

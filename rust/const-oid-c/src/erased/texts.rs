@@ -5,7 +5,6 @@
 use crate::erased::output::{unwritten_status, write_bytes, write_octets};
 use crate::erased::owned::{MAX_OCTETS, is_too_long};
 use crate::erased::status::{NOT_UTF8, Status, code_status, error_status, len_status, too_short_status};
-use const_oid::internal_for_const_oid_c::parser::parse_usual;
 use const_oid::internal_for_const_oid_c::{Error, ObjectIdentifier, ObjectIdentifierRef};
 use core::str;
 
@@ -13,7 +12,7 @@ use core::str;
 pub fn const_oid_from_text(text: &[u8], out: &mut crate::edge::Output<u8>) -> Status {
     // An identifier of the usual capacity is quicker to make.
     let mut octets = [0; 39];
-    match parse_usual(text, &mut octets) {
+    match ObjectIdentifierRef::parse_usual(text, &mut octets) {
         Ok(oid) => write_bytes(oid.as_bytes(), out),
         Err(fault) => write_other(fault, text, out),
     }

@@ -2,19 +2,10 @@
 
 //! Contents octets read as arcs (X.690, 8.19.2 to 8.19.4).
 
+use crate::erased::Arc;
 use crate::erased::base128::read_group;
 use crate::erased::parts::skip_parts;
 use crate::erased::root::split_root;
-/// One arc of an object identifier, a 32-bit number.
-///
-/// # Examples
-///
-/// ```
-/// const GREATEST: const_oid::Arc = const_oid::Arc::MAX;
-/// assert_eq!(GREATEST, 4_294_967_295);
-/// ```
-pub type Arc = u32;
-
 /// An iterator over the arcs of an identifier, in order. After the last arc, `next` always returns `None`.
 ///
 /// # Examples

@@ -3,6 +3,7 @@
 //! How slices of octets and names compare.
 
 use crate::erased::parts::{first_octets, without_last_part};
+use crate::erased::words::{HALF, WORD, half_word, word};
 use core::cmp::Ordering;
 
 /// Whether octets begin with others.
@@ -127,20 +128,6 @@ fn order_few(a: &[u8], b: &[u8]) -> Ordering {
     a.len().cmp(&b.len())
 }
 
-/// How many octets a word has.
-const WORD: usize = 8;
-
-/// The eight octets from an index on as a big-endian number: so words have the lexicographic order of their octets.
-#[inline(always)]
-const fn word(octets: &[u8], at: usize) -> u64 {
-    // The compiler knows the length of this slice, so it leaves the test out.
-    let (word, _) = octets.split_at(at).1.split_at(WORD);
-    match word.first_chunk::<WORD>() {
-        Some(word) => u64::from_be_bytes(*word),
-        None => unreachable!(),
-    }
-}
-
 /// The lexicographic order of subidentifiers, a shorter one before a longer one: of valid octets, that of their arcs.
 ///
 /// At the first octet that differs, both subidentifiers began at the same index. So the one with more octets left is
@@ -205,18 +192,6 @@ fn same_start(a: &[u8], b: &[u8]) -> usize {
         HALF
     } else {
         0
-    }
-}
-
-/// How many octets half a word has.
-const HALF: usize = 4;
-
-/// The first four octets as a number.
-#[inline(always)]
-pub(crate) fn half_word(octets: &[u8]) -> u32 {
-    match octets.first_chunk::<HALF>() {
-        Some(half) => u32::from_be_bytes(*half),
-        None => unreachable!(),
     }
 }
 

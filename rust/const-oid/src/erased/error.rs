@@ -3,8 +3,7 @@
 //! The errors of this crate.
 
 use crate::erased::Arc;
-use crate::erased::digits::{MAX_DIGITS, arc_len, write_last_digits};
-use crate::erased::text::{utf8, write_bytes};
+use crate::erased::digits::{MAX_DIGITS, arc_len, utf8, write_bytes, write_last_digits};
 use core::fmt;
 
 /// A result whose error is [`Error`].

@@ -19,17 +19,26 @@ pub mod error;
 pub(crate) mod links;
 pub mod oid;
 pub mod oid_ref;
-// Its functions are for the other crates: Rust hides them.
-pub mod parser;
+mod parser;
 mod parts;
 mod root;
 // Its functions are for the other crates: Rust hides them.
 pub mod search;
 mod text;
 mod valid;
+mod words;
 
-pub use arcs::{Arc, Arcs};
+pub use arcs::Arcs;
 pub use buffer::Buffer;
 pub use error::{Error, Result};
 pub use oid::{ObjectIdentifier, Oid};
 pub use oid_ref::ObjectIdentifierRef;
+/// One arc of an object identifier, a 32-bit number.
+///
+/// # Examples
+///
+/// ```
+/// const GREATEST: const_oid::Arc = const_oid::Arc::MAX;
+/// assert_eq!(GREATEST, 4_294_967_295);
+/// ```
+pub type Arc = u32;

@@ -5,6 +5,7 @@
 use crate::erased::Arc;
 use crate::erased::arcs::Arcs;
 use crate::erased::buffer::Buffer;
+use crate::erased::compare::are_equal;
 use crate::erased::encoder::encode;
 use crate::erased::error::{Error, Result};
 use crate::erased::oid_ref::ObjectIdentifierRef;
@@ -415,6 +416,13 @@ impl<const MAX_SIZE: usize> ObjectIdentifier<MAX_SIZE> {
     /// ```
     pub fn cmp_arcs<const SIZE: usize>(&self, other: &ObjectIdentifier<SIZE>) -> Ordering {
         self.borrowed().cmp_arcs(&other.borrowed())
+    }
+}
+
+impl ObjectIdentifierRef<'_> {
+    /// Whether an owned identifier, of any capacity, has the same octets, and so the same arcs.
+    pub const fn eq_oid<const N: usize>(&self, other: &ObjectIdentifier<N>) -> bool {
+        are_equal(self.as_bytes(), other.as_bytes())
     }
 }
 

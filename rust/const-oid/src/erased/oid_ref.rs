@@ -6,14 +6,13 @@ use crate::erased::Arc;
 use crate::erased::arcs::{Arcs, arc_at};
 use crate::erased::base128::read_group;
 use crate::erased::compare::{are_equal, begins_with, order, order_by_parts};
-use crate::erased::digits::{MAX_ARC_LEN, write_arc};
+use crate::erased::digits::{MAX_ARC_LEN, utf8, write_arc};
 use crate::erased::encoder::encode_long;
 use crate::erased::error::{Error, Result};
-use crate::erased::oid::ObjectIdentifier;
-use crate::erased::parser::parse_long;
+use crate::erased::parser::{parse_long, parse_to};
 use crate::erased::parts::{count_parts, without_last_part};
 use crate::erased::root::split_root;
-use crate::erased::text::{text_len, utf8, write_checked, write_text};
+use crate::erased::text::{text_len, write_checked, write_text};
 use crate::erased::valid::check;
 use core::cmp::Ordering;
 use core::fmt;
@@ -121,7 +120,8 @@ impl<'a> ObjectIdentifierRef<'a> {
     ///
     /// # Errors
     ///
-    /// Those of [`new`](ObjectIdentifier::new), with [`Error::Length`] if the arcs take more octets than `limit`.
+    /// Those of [`new`](crate::ObjectIdentifier::new), with [`Error::Length`] if the arcs take more octets than
+    /// `limit`.
     pub fn bytes_len_from_ascii(text: &[u8], limit: usize) -> Result<usize> {
         parse_long(text, &mut [], limit)
     }
@@ -131,8 +131,8 @@ impl<'a> ObjectIdentifierRef<'a> {
     ///
     /// # Errors
     ///
-    /// Those of [`new`](ObjectIdentifier::new), with [`Error::Length`] if the arcs take more octets than `out` has. It is
-    /// then unchanged.
+    /// Those of [`new`](crate::ObjectIdentifier::new), with [`Error::Length`] if the arcs take more octets than `out`
+    /// has. It is then unchanged.
     pub fn bytes_from_ascii(text: &[u8], out: &mut [u8]) -> Result<usize> {
         let capacity = out.len();
         // The octets are counted first, so that on an error none is written.
@@ -144,8 +144,8 @@ impl<'a> ObjectIdentifierRef<'a> {
     ///
     /// # Errors
     ///
-    /// Those of [`from_arcs`](ObjectIdentifier::from_arcs), with [`Error::Length`] if the arcs take more octets than
-    /// `limit`.
+    /// Those of [`from_arcs`](crate::ObjectIdentifier::from_arcs), with [`Error::Length`] if the arcs take more octets
+    /// than `limit`.
     pub fn bytes_len_from_arcs(arcs: &[Arc], limit: usize) -> Result<usize> {
         encode_long(arcs, &mut [], limit)
     }
@@ -155,8 +155,8 @@ impl<'a> ObjectIdentifierRef<'a> {
     ///
     /// # Errors
     ///
-    /// Those of [`from_arcs`](ObjectIdentifier::from_arcs), with [`Error::Length`] if the arcs take more octets than
-    /// `out` has. It is then unchanged.
+    /// Those of [`from_arcs`](crate::ObjectIdentifier::from_arcs), with [`Error::Length`] if the arcs take more octets
+    /// than `out` has. It is then unchanged.
     pub fn bytes_from_arcs(arcs: &[Arc], out: &mut [u8]) -> Result<usize> {
         let capacity = out.len();
         encode_long(arcs, &mut [], capacity)?;
@@ -169,15 +169,22 @@ impl<'a> ObjectIdentifierRef<'a> {
         Ok(ObjectIdentifierRef::from_checked(&out[..len]))
     }
 
+    /// Parses dotted text in ASCII into 39 octets, the usual capacity, in one pass, and borrows those of its identifier. On
+    /// `Err`, `out` may be changed.
+    ///
+    /// # Errors
+    ///
+    /// Those of [`new`](crate::ObjectIdentifier::new).
+    #[inline(always)]
+    pub fn parse_usual(text: &[u8], out: &'a mut [u8; 39]) -> Result<Self> {
+        let len = parse_to(text, out, 39)?;
+        Ok(ObjectIdentifierRef::from_checked(&out[..len]))
+    }
+
     /// Encodes arcs as [`bytes_from_arcs`](Self::bytes_from_arcs) does, and borrows their octets.
     pub fn from_arcs_in(arcs: &[Arc], out: &'a mut [u8]) -> Result<Self> {
         let len = Self::bytes_from_arcs(arcs, out)?;
         Ok(ObjectIdentifierRef::from_checked(&out[..len]))
-    }
-
-    /// Whether an owned identifier, of any capacity, has the same octets, and so the same arcs.
-    pub const fn eq_oid<const N: usize>(&self, other: &ObjectIdentifier<N>) -> bool {
-        are_equal(self.as_bytes(), other.as_bytes())
     }
 
     /// The parent: all arcs except the last. Its octets are a prefix of these. `None` if there are only two arcs.

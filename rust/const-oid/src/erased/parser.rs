@@ -9,7 +9,6 @@ use crate::erased::Arc;
 use crate::erased::base128::append_group;
 use crate::erased::buffer::Buffer;
 use crate::erased::error::{Error, Result};
-use crate::erased::oid_ref::ObjectIdentifierRef;
 use crate::erased::root::{check_first, join_root};
 use core::result;
 
@@ -24,20 +23,6 @@ pub(crate) const fn parse<const SIZE: usize>(text: &[u8]) -> Result<Buffer<SIZE>
     }
 }
 
-/// Parses dotted text in ASCII into 39 octets, the usual capacity, and borrows those of its identifier (X.690, 8.19). A
-/// caller that needs no owned identifier copies none.
-///
-/// # Errors
-///
-/// Those of [`new`](crate::ObjectIdentifier::new).
-#[inline(always)]
-pub fn parse_usual<'a>(text: &[u8], out: &'a mut [u8; 39]) -> Result<ObjectIdentifierRef<'a>> {
-    match parse_to(text, out, 39) {
-        Ok(len) => Ok(ObjectIdentifierRef::from_checked(&out[..len])),
-        Err(fault) => Err(fault),
-    }
-}
-
 /// `parse_to`, which is compiled once for all calls with octets of any length.
 #[inline(never)]
 pub(crate) fn parse_long(text: &[u8], out: &mut [u8], capacity: usize) -> Result<usize> {
@@ -47,7 +32,7 @@ pub(crate) fn parse_long(text: &[u8], out: &mut [u8], capacity: usize) -> Result
 /// Writes the encoding of the identifier that a text denotes to the start of a slice, if it fits a capacity, and returns
 /// its length. Into a slice that is shorter than the capacity nothing is written: the octets are counted alone.
 #[inline(always)]
-const fn parse_to(text: &[u8], out: &mut [u8], capacity: usize) -> Result<usize> {
+pub(crate) const fn parse_to(text: &[u8], out: &mut [u8], capacity: usize) -> Result<usize> {
     let (number, mut end) = match read_root(text) {
         Ok(root) => root,
         Err(fault) => return Err(fault),

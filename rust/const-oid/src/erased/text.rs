@@ -8,7 +8,6 @@ use crate::erased::base128::{checked_group, group_fault};
 use crate::erased::digits::{MAX_ARC_LEN, arc_len, write_arc};
 use crate::erased::error::{Error, Result};
 use crate::erased::root::{MAX_FIRST, split_root};
-use core::str;
 
 /// The length of the arcs' text in bytes, or `None` if it is over a limit.
 #[inline]
@@ -68,25 +67,4 @@ pub(crate) fn write_checked(octets: &[u8], out: &mut [u8]) -> Result<usize> {
 fn write_later(arc: Arc, out: &mut [u8], at: usize) -> usize {
     // The length of this part is a literal, so rustc checks no index in it.
     at + write_arc(arc, false, &mut out[at..at + MAX_ARC_LEN], 0)
-}
-
-/// Writes bytes at an index, and returns the index after them.
-#[inline]
-pub(crate) fn write_bytes(bytes: &[u8], out: &mut [u8], at: usize) -> usize {
-    let end = at + bytes.len();
-    // This always holds. rustc does not know it, and would make panics.
-    if at <= end && end <= out.len() {
-        out[at..end].copy_from_slice(bytes);
-    }
-    end
-}
-
-/// The text of the first bytes, which are UTF-8.
-#[inline]
-#[allow(unsafe_code)]
-pub(crate) fn utf8(bytes: &[u8], len: usize) -> &str {
-    // The lesser one is always `len`. rustc does not know it, and would make a panic.
-    let text = &bytes[..len.min(bytes.len())];
-    // SAFETY: each call is proved to pass UTF-8, so the bytes are not looked at again.
-    unsafe { str::from_utf8_unchecked(text) }
 }

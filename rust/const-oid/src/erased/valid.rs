@@ -2,8 +2,8 @@
 
 //! Checks of contents octets (X.690, 8.19.2).
 
-use crate::erased::compare::half_word;
 use crate::erased::error::{Error, Result};
+use crate::erased::words::half_word;
 
 /// Checks contents octets of any length, or returns their error.
 #[inline(never)]
