@@ -4,7 +4,7 @@ ghost use Rattle.std.specs.Iterator.{YieldsFirst, item_count};
 ghost use Rattle.const_oid.specs.Identifier.{root_rule};
 ghost use Rattle.const_oid.specs.Contents.{cut, parts_fault, arcs_of_octets};
 
-use crate::Arc;
+pub use crate::Arc;
 use crate::base128::read_group;
 use crate::parts::skip_parts;
 use crate::root::split_root;
