@@ -39,7 +39,7 @@ traits! {
         PartialEq<ObjectIdentifier<N>>;
     ['a, const N: usize] &'a ObjectIdentifierRef: From<&'a ObjectIdentifier<N>>, TryFrom<&'a [u8], Error = Error>;
     [const N: usize] Buffer<N>: Copy, Clone, Eq, PartialEq, Ord, PartialOrd, Hash, Send, Sync, Unpin, AsRef<[u8]>;
-    [] Error: Copy, Clone, Debug, Display, Eq, PartialEq, Ord, PartialOrd, Send, Sync, std::error::Error;
+    [] Error: Copy, Clone, Debug, Display, Eq, PartialEq, Ord, PartialOrd, Hash, Send, Sync, std::error::Error;
     [T: Borrow<ObjectIdentifierRef>] ByArcs<T>: Eq, PartialEq, Ord, PartialOrd, Hash, Display;
     [T: Copy + Debug + Send + Sync] ByArcs<T>: Copy, Clone, Debug, Send, Sync, From<T>;
     ['a] Arcs<'a>: Iterator<Item = Arc>, FusedIterator, Clone, Debug, Send, Sync;

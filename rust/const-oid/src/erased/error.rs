@@ -33,7 +33,7 @@ pub type Result<T> = core::result::Result<T, Error>;
 /// assert_eq!(error, Error::RepeatedDot);
 /// assert_eq!(error.to_string(), "repeated consecutive '..' characters in OID");
 /// ```
-#[derive(Copy, Clone, Debug, Eq, PartialEq, PartialOrd, Ord)]
+#[derive(Copy, Clone, Debug, Eq, PartialEq, PartialOrd, Ord, Hash)]
 pub enum Error {
     /// The first or the second arc of a text or a list is out of range (X.660).
     ArcInvalid {
