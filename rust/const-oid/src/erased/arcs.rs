@@ -2,7 +2,7 @@
 
 //! Contents octets read as arcs (X.690, 8.19.2 to 8.19.4).
 
-use crate::erased::Arc;
+pub use crate::erased::Arc;
 use crate::erased::base128::read_group;
 use crate::erased::parts::skip_parts;
 use crate::erased::root::split_root;

@@ -19,7 +19,7 @@ type Entry<'a> = (&'a ObjectIdentifierRef, &'a str);
 ///
 /// const COLUMN: ObjectIdentifier = ObjectIdentifier::new_unwrap("1.3.6.1.2.1.2.2.1.10");
 /// const NAMES: SortedDatabase<'static> = SortedDatabase::new(&[(COLUMN.as_oid_ref(), "ifInOctets")]);
-/// assert_eq!(NAMES.nearest(COLUMN.push_arc(3)?.as_oid_ref()).unwrap().1, "ifInOctets");
+/// assert_eq!(NAMES.nearest(&COLUMN.push_arc(3)?).unwrap().1, "ifInOctets");
 /// # Ok::<(), const_oid::Error>(())
 /// ```
 #[derive(Copy, Clone)]
@@ -38,7 +38,7 @@ impl<'a> SortedDatabase<'a> {
     ///
     /// const CN: ObjectIdentifier = ObjectIdentifier::new_unwrap("2.5.4.3");
     /// const NAMES: SortedDatabase<'static> = SortedDatabase::new(&[(CN.as_oid_ref(), "cn")]);
-    /// assert_eq!(NAMES.by_oid(CN.as_oid_ref()), Some("cn"));
+    /// assert_eq!(NAMES.by_oid(&CN), Some("cn"));
     /// ```
     // In Rattle, the caller proves the order.
     pub const fn new(entries: &'a [Entry<'a>]) -> Self {
@@ -69,7 +69,7 @@ impl<'a> SortedDatabase<'a> {
     /// ```
     /// use const_oid::db::{SORTED, rfc4519};
     ///
-    /// assert_eq!(SORTED.by_oid(rfc4519::CN.as_oid_ref()), Some("cn"));
+    /// assert_eq!(SORTED.by_oid(&rfc4519::CN), Some("cn"));
     /// ```
     pub fn by_oid(&self, oid: &ObjectIdentifierRef) -> Option<&'a str> {
         let index = first_of(self.entries, &oid.erased())?;
@@ -93,7 +93,7 @@ impl<'a> SortedDatabase<'a> {
     /// ];
     /// let names = SortedDatabase::new(&entries);
     /// let oid = ObjectIdentifier::new_unwrap("1.3.6.1.4.1.8072.3.2");
-    /// let (named, name) = names.nearest(oid.as_oid_ref()).unwrap();
+    /// let (named, name) = names.nearest(&oid).unwrap();
     /// assert_eq!(*name, "enterprises");
     /// assert!(oid.arcs().skip(named.len()).eq([8072, 3, 2]));
     /// ```
@@ -117,7 +117,7 @@ impl<'a> SortedDatabase<'a> {
     ///     (enterprises.as_oid_ref(), "enterprises"),
     /// ];
     /// let names = SortedDatabase::new(&entries);
-    /// assert_eq!(names.subtree(mib_2.as_oid_ref()), &entries[..2]);
+    /// assert_eq!(names.subtree(&mib_2), &entries[..2]);
     /// ```
     pub fn subtree(&self, oid: &ObjectIdentifierRef) -> &'a [Entry<'a>] {
         let (from, end) = subtree_of(self.entries, &oid.erased());
@@ -139,8 +139,8 @@ impl<'a> SortedDatabase<'a> {
     ///     (enterprises.as_oid_ref(), "enterprises"),
     /// ];
     /// let names = SortedDatabase::new(&entries);
-    /// assert_eq!(names.next_after(mib_2.as_oid_ref()), Some(&entries[1]));
-    /// assert_eq!(names.next_after(enterprises.as_oid_ref()), None);
+    /// assert_eq!(names.next_after(&mib_2), Some(&entries[1]));
+    /// assert_eq!(names.next_after(&enterprises), None);
     /// ```
     pub fn next_after(&self, oid: &ObjectIdentifierRef) -> Option<&'a Entry<'a>> {
         self.entries.get(end_of(self.entries, &oid.erased()))

@@ -196,6 +196,10 @@ impl<const MAX_SIZE: usize> ObjectIdentifier<MAX_SIZE> {
     /// Parses dotted text in ASCII as [`new_sized`](Self::new_sized) does. The bytes need not be UTF-8: one past ASCII
     /// is an error, since it is not a digit.
     ///
+    /// # Errors
+    ///
+    /// Those of [`new_sized`](Self::new_sized).
+    ///
     /// # Examples
     ///
     /// ```
@@ -258,6 +262,16 @@ impl<const MAX_SIZE: usize> ObjectIdentifier<MAX_SIZE> {
     }
 
     /// The borrowed identifier over the same octets.
+    ///
+    /// # Examples
+    ///
+    /// ```
+    /// use const_oid::{ObjectIdentifier, ObjectIdentifierRef};
+    ///
+    /// const CN: ObjectIdentifier = ObjectIdentifier::new_unwrap("2.5.4.3");
+    /// const BORROWED: &ObjectIdentifierRef = CN.as_oid_ref();
+    /// assert_eq!(BORROWED.as_bytes(), [0x55, 4, 3]);
+    /// ```
     pub(crate) const fn borrowed(&self) -> ObjectIdentifierRef<'_> {
         ObjectIdentifierRef::from_checked(self.as_bytes())
     }

@@ -20,6 +20,16 @@ use core::fmt;
 /// An object identifier over the caller's contents octets, without tag and length.
 ///
 /// Its octets are valid: they are the one encoding of its arcs (X.690, 8.19).
+///
+/// # Examples
+///
+/// ```
+/// use const_oid::{ObjectIdentifier, ObjectIdentifierRef};
+///
+/// let oid: &ObjectIdentifierRef = [0x88, 0x37][..].try_into()?;
+/// assert_eq!(*oid, ObjectIdentifier::new_unwrap("2.999"));
+/// # Ok::<(), const_oid::Error>(())
+/// ```
 #[derive(Copy, Clone, Eq, Hash)]
 pub struct ObjectIdentifierRef<'a> {
     /// The contents octets, which are valid.
@@ -42,6 +52,16 @@ impl<'a> ObjectIdentifierRef<'a> {
     ///   [`Error::ArcTooBig`] if it is above 4294967295, or above 4294967375 as the first one, which holds two arcs, or
     ///   else [`Error::Base128`]: the octets end within it;
     /// - [`Error::Length`]: there are more than `isize::MAX` octets, which no slice has.
+    ///
+    /// # Examples
+    ///
+    /// ```
+    /// use const_oid::{Error, ObjectIdentifierRef};
+    ///
+    /// assert_eq!(ObjectIdentifierRef::from_bytes(&[0x88, 0x37])?.to_string(), "2.999");
+    /// assert_eq!(ObjectIdentifierRef::from_bytes(&[0x88]), Err(Error::Base128));
+    /// # Ok::<(), Error>(())
+    /// ```
     #[inline(always)]
     pub fn from_bytes(ber: &'a [u8]) -> Result<Self> {
         check(ber)?;
@@ -57,28 +77,68 @@ impl<'a> ObjectIdentifierRef<'a> {
     }
 
     /// The contents octets, which are the caller's.
+    ///
+    /// # Examples
+    ///
+    /// ```
+    /// let oid = const_oid::ObjectIdentifierRef::from_bytes(&[0x88, 0x37, 0x03])?;
+    /// assert_eq!(oid.as_bytes(), [0x88, 0x37, 0x03]);
+    /// # Ok::<(), const_oid::Error>(())
+    /// ```
     pub const fn as_bytes(&self) -> &'a [u8] {
         self.ber
     }
 
     /// The arc at an index, counted from 0, or `None` past the last one.
+    ///
+    /// # Examples
+    ///
+    /// ```
+    /// let oid = const_oid::ObjectIdentifierRef::from_bytes(&[0x88, 0x37, 0x03])?;
+    /// assert_eq!((oid.arc(2), oid.arc(3)), (Some(3), None));
+    /// # Ok::<(), const_oid::Error>(())
+    /// ```
     #[inline]
     pub fn arc(&self, index: usize) -> Option<Arc> {
         arc_at(self.ber, index)
     }
 
     /// All arcs, in order.
+    ///
+    /// # Examples
+    ///
+    /// ```
+    /// let oid = const_oid::ObjectIdentifierRef::from_bytes(&[0x88, 0x37, 0x03])?;
+    /// assert!(oid.arcs().eq([2, 999, 3]));
+    /// # Ok::<(), const_oid::Error>(())
+    /// ```
     pub fn arcs(&self) -> Arcs<'a> {
         Arcs::new(self.ber)
     }
 
     /// The number of arcs, two or more.
+    ///
+    /// # Examples
+    ///
+    /// ```
+    /// let oid = const_oid::ObjectIdentifierRef::from_bytes(&[0x88, 0x37, 0x03])?;
+    /// assert_eq!(oid.len(), 3);
+    /// # Ok::<(), const_oid::Error>(())
+    /// ```
     #[inline]
     pub fn len(&self) -> usize {
         count_parts(self.ber) + 1
     }
 
     /// The length in bytes of the text that `{}` writes, or `usize::MAX` if it is greater than that.
+    ///
+    /// # Examples
+    ///
+    /// ```
+    /// let oid = const_oid::ObjectIdentifierRef::from_bytes(&[0x88, 0x37, 0x03])?;
+    /// assert_eq!(oid.text_len(), 7);
+    /// # Ok::<(), const_oid::Error>(())
+    /// ```
     #[inline]
     pub fn text_len(&self) -> usize {
         text_len(self.arcs(), usize::MAX).unwrap_or(usize::MAX)
@@ -86,6 +146,16 @@ impl<'a> ObjectIdentifierRef<'a> {
 
     /// Writes the text that `{}` writes to the start of `out`, and returns its length in bytes. Returns `None` if it is
     /// longer than `out`, which is then unchanged. Four bytes for each octet are always enough.
+    ///
+    /// # Examples
+    ///
+    /// ```
+    /// let oid = const_oid::ObjectIdentifierRef::from_bytes(&[0x88, 0x37, 0x03])?;
+    /// let mut out = [0; 8];
+    /// assert_eq!(oid.encode_text(&mut out), Some(7));
+    /// assert_eq!(&out, b"2.999.3\0");
+    /// # Ok::<(), const_oid::Error>(())
+    /// ```
     #[inline]
     pub fn encode_text(&self, out: &mut [u8]) -> Option<usize> {
         // An octet takes four bytes of text at most.
@@ -96,6 +166,14 @@ impl<'a> ObjectIdentifierRef<'a> {
     }
 
     /// Writes the text as [`encode_text`](Self::encode_text) does, and borrows it as a `str`.
+    ///
+    /// # Examples
+    ///
+    /// ```
+    /// let oid = const_oid::ObjectIdentifierRef::from_bytes(&[0x88, 0x37, 0x03])?;
+    /// assert_eq!(oid.encode_str(&mut [0; 8]), Some("2.999.3"));
+    /// # Ok::<(), const_oid::Error>(())
+    /// ```
     #[inline]
     pub fn encode_str<'o>(&self, out: &'o mut [u8]) -> Option<&'o str> {
         let len = self.encode_text(out)?;
@@ -163,7 +241,24 @@ impl<'a> ObjectIdentifierRef<'a> {
         encode_long(arcs, out, capacity)
     }
 
-    /// Parses dotted text as [`bytes_from_ascii`](Self::bytes_from_ascii) does, and borrows its octets.
+    /// Parses dotted text in ASCII, of any length, and borrows the octets that it writes at the start of `out`. They are
+    /// no more than the bytes of the text, which need not be UTF-8.
+    ///
+    /// # Errors
+    ///
+    /// Those of [`new`](crate::ObjectIdentifier::new), with [`Error::Length`] if the arcs take more octets than `out` has. It is
+    /// then unchanged.
+    ///
+    /// # Examples
+    ///
+    /// ```
+    /// use const_oid::{Error, ObjectIdentifierRef};
+    ///
+    /// let mut out = [0; 5];
+    /// assert_eq!(ObjectIdentifierRef::from_ascii_in(b"2.999", &mut out)?.to_string(), "2.999");
+    /// assert_eq!(ObjectIdentifierRef::from_ascii_in(b"2.999", &mut [0]), Err(Error::Length));
+    /// # Ok::<(), Error>(())
+    /// ```
     pub fn from_ascii_in(text: &[u8], out: &'a mut [u8]) -> Result<Self> {
         let len = Self::bytes_from_ascii(text, out)?;
         Ok(ObjectIdentifierRef::from_checked(&out[..len]))
@@ -181,13 +276,38 @@ impl<'a> ObjectIdentifierRef<'a> {
         Ok(ObjectIdentifierRef::from_checked(&out[..len]))
     }
 
-    /// Encodes arcs as [`bytes_from_arcs`](Self::bytes_from_arcs) does, and borrows their octets.
+    /// Encodes arcs, any number of them, and borrows the octets that it writes at the start of `out`. They are at most
+    /// five for each arc.
+    ///
+    /// # Errors
+    ///
+    /// Those of [`from_arcs`](crate::ObjectIdentifier::from_arcs), with [`Error::Length`] if the arcs take more octets than
+    /// `out` has. It is then unchanged.
+    ///
+    /// # Examples
+    ///
+    /// ```
+    /// use const_oid::ObjectIdentifierRef;
+    ///
+    /// let mut out = [0; 640];
+    /// let oid = ObjectIdentifierRef::from_arcs_in(&[2; 128], &mut out)?;
+    /// assert_eq!((oid.len(), oid.as_bytes().len()), (128, 127));
+    /// # Ok::<(), const_oid::Error>(())
+    /// ```
     pub fn from_arcs_in(arcs: &[Arc], out: &'a mut [u8]) -> Result<Self> {
         let len = Self::bytes_from_arcs(arcs, out)?;
         Ok(ObjectIdentifierRef::from_checked(&out[..len]))
     }
 
     /// The parent: all arcs except the last. Its octets are a prefix of these. `None` if there are only two arcs.
+    ///
+    /// # Examples
+    ///
+    /// ```
+    /// let oid = const_oid::ObjectIdentifierRef::from_bytes(&[0x88, 0x37, 0x03])?;
+    /// assert_eq!(oid.parent().unwrap().to_string(), "2.999");
+    /// # Ok::<(), const_oid::Error>(())
+    /// ```
     #[inline]
     pub fn parent(&self) -> Option<ObjectIdentifierRef<'a>> {
         let prefix = without_last_part(self.ber);
@@ -198,12 +318,29 @@ impl<'a> ObjectIdentifierRef<'a> {
     }
 
     /// Whether the arcs begin with all those of another identifier: whether it is this one or an ancestor.
+    ///
+    /// # Examples
+    ///
+    /// ```
+    /// let oid = const_oid::ObjectIdentifierRef::from_bytes(&[0x88, 0x37, 0x03])?;
+    /// assert!(oid.starts_with(oid.parent().unwrap()));
+    /// # Ok::<(), const_oid::Error>(())
+    /// ```
     #[inline(always)]
     pub const fn starts_with(&self, other: &ObjectIdentifierRef<'_>) -> bool {
         begins_with(self.ber, other.ber)
     }
 
     /// Compares the arcs lexicographically, a prefix before what begins with it. SNMP orders names so (RFC 3416).
+    ///
+    /// # Examples
+    ///
+    /// ```
+    /// let oid = const_oid::ObjectIdentifierRef::from_bytes(&[0x88, 0x37, 0x03])?;
+    /// let small = const_oid::ObjectIdentifierRef::from_bytes(&[0x88, 0x37, 0x81, 0x00])?;
+    /// assert!(oid.cmp_arcs(small).is_lt() && oid < small);
+    /// # Ok::<(), const_oid::Error>(())
+    /// ```
     #[inline]
     pub fn cmp_arcs(&self, other: &ObjectIdentifierRef<'_>) -> Ordering {
         order_by_parts(self.ber, other.ber)
@@ -213,7 +350,20 @@ impl<'a> ObjectIdentifierRef<'a> {
     /// from the first index up to, but not including, the second. If there are none, both are the index at which this
     /// one would be inserted.
     ///
-    /// The list is sorted by `cmp`, and may hold an identifier more than once.
+    /// The list is sorted by `cmp`, and may hold an identifier more than once. On an unsorted list, the result is
+    /// unspecified.
+    ///
+    /// # Examples
+    ///
+    /// ```
+    /// use const_oid::{ObjectIdentifier, ObjectIdentifierRef};
+    ///
+    /// let oids = ["2.5.4", "2.5.4.3", "2.5.4.6", "2.5.29"].map(crate::ObjectIdentifier::new_unwrap);
+    /// let mut sorted: Vec<&ObjectIdentifierRef> = oids.iter().map(|oid| oid.as_oid_ref()).collect();
+    /// sorted.sort();
+    /// let (start, end) = oids[0].subtree(&sorted);
+    /// assert!(sorted[start..end].iter().all(|oid| oid.starts_with(&oids[0])) && end - start == 3);
+    /// ```
     #[inline]
     pub fn subtree(&self, sorted: &[&crate::ObjectIdentifierRef]) -> (usize, usize) {
         let from = sorted.partition_point(|oid| order(oid.as_bytes(), self.ber).is_lt());
