@@ -1,4 +1,4 @@
-//! Conversions of owned identifiers and of their buffers, by traits and to the borrowed form.
+//! Conversions of identifiers and of their buffers.
 
 use crate::{Buffer, Error, ObjectIdentifier, ObjectIdentifierRef, Result};
 use core::borrow::Borrow;
@@ -13,20 +13,28 @@ pub(crate) const fn panic_text(error: Error) -> &'static str {
     }
 }
 
-impl<const MAX_SIZE: usize> ObjectIdentifier<MAX_SIZE> {
-    /// The borrowed form of the same octets.
+impl ObjectIdentifierRef {
+    /// Parses dotted text of any length into octets at the start of `out`. As many as the text has bytes are always
+    /// enough.
+    ///
+    /// # Errors
+    ///
+    /// Those of [`ObjectIdentifier::new`], with [`Error::Length`] if the arcs take more octets than `out` has. `out` is
+    /// then unchanged.
     ///
     /// # Examples
     ///
     /// ```
-    /// use const_oid::{ObjectIdentifier, ObjectIdentifierRef};
+    /// use const_oid::{Error, ObjectIdentifierRef};
     ///
-    /// const CN: ObjectIdentifier = ObjectIdentifier::new_unwrap("2.5.4.3");
-    /// const BORROWED: &ObjectIdentifierRef = CN.as_oid_ref();
-    /// assert_eq!(BORROWED.as_bytes(), [0x55, 4, 3]);
+    /// let mut out = [0; 2];
+    /// assert_eq!(ObjectIdentifierRef::new_in("2.999", &mut out)?.as_bytes(), [0x88, 0x37]);
+    /// assert_eq!(ObjectIdentifierRef::new_in("2.999.3", &mut out), Err(Error::Length));
+    /// # Ok::<(), Error>(())
     /// ```
-    pub const fn as_oid_ref(&self) -> &ObjectIdentifierRef {
-        ObjectIdentifierRef::from_checked(self.as_bytes())
+    #[inline]
+    pub fn new_in<'o>(s: &str, out: &'o mut [u8]) -> Result<&'o Self> {
+        Self::from_ascii_in(s.as_bytes(), out)
     }
 }
 
@@ -60,11 +68,11 @@ borrowed! {
     Borrow::borrow
 }
 
-/// The octets of both, as a slice.
+/// The octets, as a slice.
 macro_rules! octets {
-    ($($type:ident)*) => {
+    ($($type:ident $(<$size:ident>)?)*) => {
         $(
-            impl<const MAX_SIZE: usize> AsRef<[u8]> for $type<MAX_SIZE> {
+            impl $(<const $size: usize>)? AsRef<[u8]> for $type $(<$size>)? {
                 fn as_ref(&self) -> &[u8] {
                     self.as_bytes()
                 }
@@ -73,7 +81,7 @@ macro_rules! octets {
     };
 }
 
-octets!(Buffer ObjectIdentifier);
+octets!(Buffer<MAX_SIZE> ObjectIdentifier<MAX_SIZE> ObjectIdentifierRef);
 
 impl TryFrom<&[u8]> for ObjectIdentifier {
     type Error = Error;
@@ -93,6 +101,28 @@ impl<const MAX_SIZE: usize> TryFrom<&ObjectIdentifierRef> for ObjectIdentifier<M
     ///
     /// [`Error::Length`] if its octets do not fit.
     fn try_from(oid_ref: &ObjectIdentifierRef) -> Result<Self> {
-        Self::try_from_ref(oid_ref.erased())
+        Self::try_from_ref(oid_ref)
+    }
+}
+
+impl<'a, const MAX_SIZE: usize> From<&'a ObjectIdentifier<MAX_SIZE>> for &'a ObjectIdentifierRef {
+    fn from(oid: &'a ObjectIdentifier<MAX_SIZE>) -> Self {
+        oid.as_oid_ref()
+    }
+}
+
+impl<'a> TryFrom<&'a [u8]> for &'a ObjectIdentifierRef {
+    type Error = Error;
+
+    fn try_from(ber: &'a [u8]) -> Result<Self> {
+        ObjectIdentifierRef::from_bytes(ber)
+    }
+}
+
+// Without its mirror: a second type to compare an owned identifier to would leave the type of
+// `oid == text.parse()?` open, which callers write.
+impl<const MAX_SIZE: usize> PartialEq<ObjectIdentifier<MAX_SIZE>> for ObjectIdentifierRef {
+    fn eq(&self, other: &ObjectIdentifier<MAX_SIZE>) -> bool {
+        self.eq_oid(other)
     }
 }

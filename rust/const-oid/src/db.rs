@@ -39,6 +39,7 @@ macro_rules! entries {
                 ///     println!("{oid} {name}");
                 /// }
                 /// ```
+                #[must_use]
                 pub const fn entries(&self) -> &'a [(&'a $oid, &'a str)] {
                     self.entries
                 }
@@ -50,6 +51,7 @@ macro_rules! entries {
                 /// ```
                 #[doc = concat!("assert_eq!(const_oid::db::", stringify!($all), ".len(), 1492);")]
                 /// ```
+                #[must_use]
                 pub const fn len(&self) -> usize {
                     self.entries.len()
                 }
@@ -133,7 +135,7 @@ macro_rules! sorted {
         /// ```
         /// use const_oid::db::{SORTED, rfc4519};
         ///
-        /// assert_eq!(SORTED.by_oid(rfc4519::CN.as_oid_ref()), Some("cn"));
+        /// assert_eq!(SORTED.by_oid(&rfc4519::CN), Some("cn"));
         /// ```
         pub const SORTED: SortedDatabase<'static> = SortedDatabase::new(&IN_ORDER);
 

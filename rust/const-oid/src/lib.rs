@@ -6,7 +6,7 @@
 //!   constant. Its order is by the number of octets, and then by octets.
 //! - [`ObjectIdentifierRef`] borrows octets of any length. In its order the descendants of an identifier are adjacent:
 //!   [`subtree`](ObjectIdentifierRef::subtree) finds them in a sorted list.
-//! - [`ByArcs`] holds either, and has the order of arcs, as has [`cmp_arcs`](ObjectIdentifier::cmp_arcs). In it, too,
+//! - [`ByArcs`] is a key over either, in the order of arcs, as is [`cmp_arcs`](ObjectIdentifier::cmp_arcs). In it, too,
 //!   descendants are adjacent, and a comparison takes longer.
 //!
 //! [`Error`] says why an input was rejected. [`Arcs`] gives the arcs, each an [`Arc`].
@@ -14,6 +14,7 @@
 #![doc = include_str!("../README.md")]
 #![no_std]
 #![deny(missing_docs, unsafe_code)]
+#![warn(clippy::missing_errors_doc, clippy::must_use_candidate)]
 // An identifier has two arcs or more.
 #![allow(clippy::len_without_is_empty)]
 
@@ -21,7 +22,6 @@
 mod arbitrary;
 mod arcs;
 mod by_arcs;
-mod conversions;
 #[cfg(feature = "db")]
 pub mod db;
 #[allow(
@@ -33,10 +33,11 @@ pub mod db;
     clippy::all,
 )]
 mod erased;
+// After `erased`, so that `new` is the first method of its type.
+mod conversions;
 #[cfg(feature = "internal-for-const-oid-c")]
 #[doc(hidden)]
 pub mod internal_for_const_oid_c;
-mod oid_ref;
 mod traits;
 
 pub use by_arcs::ByArcs;
@@ -45,6 +46,6 @@ pub use erased::Arcs;
 pub use erased::Buffer;
 pub use erased::Error;
 pub use erased::ObjectIdentifier;
+pub use erased::ObjectIdentifierRef;
 pub use erased::Result;
-pub use oid_ref::ObjectIdentifierRef;
 pub use traits::{AssociatedOid, DynAssociatedOid};

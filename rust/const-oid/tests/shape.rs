@@ -236,7 +236,9 @@ fn unsafe_code_is_where_it_is_allowed() {
     let ours = include_str!("../src/lib.rs");
     assert!(ours.contains("\n#![no_std]\n#![deny(missing_docs, unsafe_code)]\n"));
     // The cast of octets to it is sound.
-    assert!(include_str!("../src/oid_ref.rs").contains("\n#[repr(transparent)]\npub struct ObjectIdentifierRef {\n"));
+    assert!(
+        include_str!("../src/erased/oid_ref.rs").contains("\n#[repr(transparent)]\npub struct ObjectIdentifierRef {\n")
+    );
     let for_c = include_str!("../../const-oid-c/src/lib.rs");
     let denied = "#![deny(unsafe_op_in_unsafe_fn, clippy::undocumented_unsafe_blocks)]";
     assert!(for_c.contains(&format!("\n#![no_std]\n{denied}\n")));

@@ -38,7 +38,7 @@ pub fn erase<'a>(tokens: &[Token<'a>]) -> Result<Tokens<'a>> {
     Ok(out)
 }
 
-/// Without ghosts, contracts, tactics and impls of `Model`, and with what the commands say.
+/// Without ghosts, contracts, tactics and impls of `Model`, with `#[must_use]` and with what the commands say.
 fn without_ghosts<'a>(tokens: &[Token<'a>]) -> Result<Tokens<'a>> {
     let mut out = Tokens::new();
     let mut command: Option<Token<'_>> = None;
@@ -56,6 +56,11 @@ fn without_ghosts<'a>(tokens: &[Token<'a>]) -> Result<Tokens<'a>> {
             CONST if command.is_none() => {
                 command = Some(token);
                 at + 2
+            }
+            "pub" if is_without_effect(tokens, at) => {
+                out.extend(["#[must_use]", "\n"].map(|text| Token { text, ..token }));
+                out.push(token);
+                at + 1
             }
             text if is_command(text) => return Err(fault_of(token)),
             "fn" if command.take().is_some() => {
@@ -116,6 +121,16 @@ fn item_end(tokens: &[Token<'_>], from: usize) -> usize {
 fn is_tactic(tokens: &[Token<'_>], at: usize) -> bool {
     let open = at + 1 + usize::from(is(tokens, at + 1, "!"));
     is(tokens, open, "[") && is(tokens, open + 1, "tactic")
+}
+
+/// Whether a token begins a public function that changes nothing, and whose result no lint asks for otherwise.
+fn is_without_effect(tokens: &[Token<'_>], at: usize) -> bool {
+    let ends = |token: &&Token<'_>| !["{", ";", "requires", "ensures"].contains(&token.text);
+    let head = tokens[at..].iter().take_while(ends).filter(|token| !token.is_blank());
+    let head: Vec<&str> = head.map(|token| token.text).collect();
+    let is_function = head.len() > 1 && ["fn", "const"].contains(&head[1]);
+    let result = head.windows(3).find(|texts| texts[..2] == ["-", ">"]).map(|texts| texts[2]);
+    is_function && !head.contains(&"mut") && result.is_some_and(|result| result != "Result")
 }
 
 fn is_of_model(tokens: &[Token<'_>], at: usize) -> bool {
@@ -205,6 +220,8 @@ mod tests {
         "fn fmt<W: fmt::Write>(&self, f: &mut fmt::Formatter<W>) {} \
          ⇒ fn fmt(&self, f: &mut fmt::Formatter<'_>) {}",
         "// erase: const\n#[inline]\npub fn f() {}\nfn g() {} ⇒ #[inline] pub const fn f() {} fn g() {}",
+        "pub fn f(x: u8) -> u8\n ensures { a }\n{}\npub fn g(x: &mut u8) -> u8 {}\npub fn h() -> Result<u8> {} \
+         ⇒ #[must_use] pub fn f(x: u8) -> u8 {} pub fn g(x: &mut u8) -> u8 {} pub fn h() -> Result<u8> {}",
         "use std::fmt; // std::x ⇒ use core::fmt; // std::x",
         "mod a;\n// C.\n// erase: omit\npub mod c;\nmod d; ⇒ mod a; mod d;",
     ];

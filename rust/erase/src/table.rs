@@ -29,8 +29,8 @@ macro_rules! edits {
 
 const LANES: &str = "lanes are unstable in Rust";
 const EQUALITY: &str = "constants in patterns need the derived `==`; zeros follow the octets in use (`ghost zeros`)";
-const UNSIZED: &str = "the crate's borrowed form is unsized, and its function of this name is of that form";
-const LENT: &str = "the crate's borrowed form is unsized, and lies behind a reference";
+const UNSIZED: &str = "the crate's borrowed form is unsized, as in the crate of this name, and lies behind a reference";
+const FOR_C: &str = "the library for C calls it, and the API has no such function";
 const BY_CORE: &str = "`core` compares slices by `memcmp`, which takes less time";
 const BOUNDS: &str = "a bound at no cost, where Rattle keeps the default of the trait";
 const LISTED: &str = "a caller by hand lists the entries";
@@ -46,11 +46,44 @@ pub const CRATES: &[Crate] = &[
                 => "#[cfg(feature = \"db\")] pub mod db; #[cfg(feature = \"db\")] mod db_sorted;",
                 "they are of a feature";
             "lib": "pub(crate) mod links;" => "#[cfg(feature = \"db\")] pub(crate) mod links;", "as above";
-            "db_sorted*": "use crate::erased::oid_ref::ObjectIdentifierRef;"
-                => "use crate::ObjectIdentifierRef;", LENT;
-            "db_sorted*": "&ObjectIdentifierRef<'_>" => "&ObjectIdentifierRef", LENT;
-            "db_sorted*": "ObjectIdentifierRef<'_>" => "&ObjectIdentifierRef", LENT;
-            "db_sorted*": "ObjectIdentifierRef<'a>" => "&'a ObjectIdentifierRef", LENT;
+            "oid_ref": "#[derive(Copy, Clone, Eq, Hash)] pub struct ObjectIdentifierRef<'a> { pub ber: &'a [u8], }"
+                => "#[derive(Eq, Hash)]\n#[repr(transparent)]\npub struct ObjectIdentifierRef {\n ber: [u8],\n}", UNSIZED;
+            "oid_ref": "pub(crate) const fn from_checked(ber: &'a [u8]) -> Self { ObjectIdentifierRef { ber } }"
+                => "#[allow(unsafe_code)]
+                        pub(crate) const fn from_checked(ber: &[u8]) -> &Self {
+                            // SAFETY: the type is laid out as its only field, and the reference lives as long.
+                            unsafe { &*(ber as *const [u8] as *const Self) }
+                        }",
+                UNSIZED;
+            "oid_ref": "impl<'a> ObjectIdentifierRef<'a>" => "impl ObjectIdentifierRef", UNSIZED;
+            "oid_ref*": "for ObjectIdentifierRef<'_>" => "for ObjectIdentifierRef", UNSIZED;
+            "oid_ref": "from_bytes(ber: &'a [u8]) -> Result<Self>" => "from_bytes(ber: &[u8]) -> Result<&Self>", UNSIZED;
+            "oid_ref": "Ok(ObjectIdentifierRef { ber })" => "Ok(Self::from_checked(ber))", UNSIZED;
+            "oid_ref": "fn from_ascii_in" => "fn from_ascii_in<'a>", UNSIZED;
+            "oid_ref": "fn from_arcs_in" => "fn from_arcs_in<'a>", UNSIZED;
+            "oid_ref*": "Result<Self>" => "Result<&'a Self>", UNSIZED;
+            "oid_ref*": "self.ber" => "self.as_bytes()", UNSIZED;
+            "oid_ref*": "other.ber" => "other.as_bytes()", UNSIZED;
+            "oid_ref": "-> &'a [u8] { self.as_bytes() }" => "-> &[u8] {\n &self.ber\n }", UNSIZED;
+            "oid_ref": "Arcs<'a>" => "Arcs<'_>", UNSIZED;
+            "oid_ref": "Option<ObjectIdentifierRef<'a>>" => "Option<&Self>", UNSIZED;
+            "oid_ref": "fn eq(&self, other: &Self) -> bool { are_equal(self.as_bytes(), other.as_bytes()) }"
+                => "fn eq(&self, other: &Self) -> bool {\n self.ber == other.ber\n }", BY_CORE;
+            "oid_ref": "fn cmp(&self, other: &Self) -> Ordering { order(self.as_bytes(), other.as_bytes()) }"
+                => "fn cmp(&self, other: &Self) -> Ordering {\n self.ber.cmp(&other.ber)\n }", BY_CORE;
+            "oid_ref": "fn parse_usual" => "fn parse_usual<'a>", UNSIZED;
+            "oid": "impl ObjectIdentifierRef<'_>" => "impl ObjectIdentifierRef", UNSIZED;
+            "oid": "pub const fn eq_oid" => "pub(crate) const fn eq_oid", "public as `==`";
+            "oid_ref": "pub fn bytes_from_arcs" => "pub(crate) fn bytes_from_arcs", FOR_C;
+            "oid_ref": "pub fn bytes_from_ascii" => "pub(crate) fn bytes_from_ascii", FOR_C;
+            "oid_ref": "pub fn bytes_len_from_arcs" => "pub(crate) fn bytes_len_from_arcs", FOR_C;
+            "oid_ref": "pub fn bytes_len_from_ascii" => "pub(crate) fn bytes_len_from_ascii", FOR_C;
+            "oid_ref": "pub fn parse_usual" => "pub(crate) fn parse_usual", FOR_C;
+            "oid_ref": "pub fn text_from_bytes" => "pub(crate) fn text_from_bytes", FOR_C;
+            "": "&ObjectIdentifierRef<'_>" => "&ObjectIdentifierRef", UNSIZED;
+            "": "ObjectIdentifierRef<'_>" => "&ObjectIdentifierRef", UNSIZED;
+            "": "ObjectIdentifierRef<'a>" => "&'a ObjectIdentifierRef", UNSIZED;
+            "search": "let mut above = *oid;" => "let mut above = oid;", UNSIZED;
             "arcs": "pub struct Arcs<'a>"
                 => "#[derive(Clone)]\npub struct Arcs<'a>",
                 "in Rattle a copy may fail, so a caller asks for the arcs again";
@@ -76,8 +109,6 @@ pub const CRATES: &[Crate] = &[
             "db_sorted": "entries: &'a [Entry<'a>]," => "pub(crate) entries: &'a [Entry<'a>],", LISTED;
             "db*": "Oid" => "ObjectIdentifier", "the crate has one name for the type";
             "links*": "Oid" => "ObjectIdentifier", "as above";
-            "db_sorted": "(self.entries, &oid)" => "(self.entries, &oid.erased())", LENT;
-            "db_sorted*": "(self.entries, oid)" => "(self.entries, &oid.erased())", LENT;
             "digits": "pub(crate) fn utf8" => "#[allow(unsafe_code)]\npub(crate) fn utf8",
                 "bytes that are UTF-8 become a text without a check: the crate denies other unsafe code";
             "parts": "use core::simd::prelude::*; use core::simd::u8x32;" => "", LANES;
@@ -100,15 +131,7 @@ pub const CRATES: &[Crate] = &[
                             fn eq(&self, other: &Self) -> bool { self.ber.eq(&other.ber) }
                         }"
                 => "", EQUALITY;
-            "": "as_oid_ref" => "borrowed", UNSIZED;
-            "oid": "pub const fn borrowed" => "pub(crate) const fn borrowed", UNSIZED;
-            "oid": "pub fn try_from_ref" => "pub(crate) fn try_from_ref", "public as `TryFrom`, of the unsized form";
-            "oid_ref": "sorted: &[ObjectIdentifierRef<'_>]" => "sorted: &[&crate::ObjectIdentifierRef]", UNSIZED;
-            "oid_ref": "pub ber: &'a [u8]" => "ber: &'a [u8]", "no checker reads a literal";
-            "oid_ref": "fn eq(&self, other: &Self) -> bool { are_equal(self.ber, other.ber) }"
-                => "fn eq(&self, other: &Self) -> bool {\n self.ber == other.ber\n }", BY_CORE;
-            "oid_ref": "fn cmp(&self, other: &Self) -> Ordering { order(self.ber, other.ber) }"
-                => "fn cmp(&self, other: &Self) -> Ordering {\n self.ber.cmp(other.ber)\n }", BY_CORE;
+            "oid": "pub fn try_from_ref" => "pub(crate) fn try_from_ref", "public as `TryFrom`";
             "oid": "Err(_) => unreachable!(\"not the text of an object identifier\")"
                 => "Err(error) => panic!(\"{}\", crate::conversions::panic_text(error))",
                 "outside of constants, Rust does not check the text before the program runs";
@@ -121,6 +144,16 @@ pub const CRATES: &[Crate] = &[
         edits: edits! {
             "": "const_oid::"
                 => "const_oid::internal_for_const_oid_c::", "the cargo crate has the generated types under this name";
+            "": "&ObjectIdentifierRef<'_>" => "&ObjectIdentifierRef", UNSIZED;
+            "": "ObjectIdentifierRef<'_>" => "&ObjectIdentifierRef", UNSIZED;
+            "": "ObjectIdentifierRef<'a>" => "&'a ObjectIdentifierRef", UNSIZED;
+            "texts*": "ObjectIdentifierRef::text_from_bytes"
+                => "const_oid::internal_for_const_oid_c::text_from_bytes", FOR_C;
+            "texts": "ObjectIdentifierRef::parse_usual" => "const_oid::internal_for_const_oid_c::parse_usual", FOR_C;
+            "texts": "ObjectIdentifierRef::bytes_len_from_ascii"
+                => "const_oid::internal_for_const_oid_c::bytes_len_from_ascii", FOR_C;
+            "arcs": "ObjectIdentifierRef::bytes_len_from_arcs"
+                => "const_oid::internal_for_const_oid_c::bytes_len_from_arcs", FOR_C;
             "lists": "#[repr(C)] #[derive(Clone, Copy)] pub struct Octets<'a> { pub octets: &'a [u8], }
                         impl<'a> Octets<'a> { fn get(&self) -> &'a [u8] { self.octets } }
                         impl Contents for Octets<'_> { fn contents(&self) -> &[u8] { self.octets } }"

@@ -6,6 +6,7 @@ use std::path::Path;
 /// Modules, or functions of a module, that the crate lacks.
 const MISSING: &[(&str, &str)] = &[
     ("laws", "its functions have contracts, and no effect"),
+    ("oid::eq_oid", "`==`"),
     ("oid::try_from_ref", "`TryFrom`"),
     ("oid_ref::bytes_from_arcs", "`from_arcs_in`; the library for C calls it"),
     ("oid_ref::bytes_from_ascii", "`from_ascii_in`; the library for C calls it"),
@@ -69,7 +70,7 @@ const IN_C: &[(&str, &str)] = &[
 const OF_C: [&str; 5] =
     ["const_oid_arcs_from", "const_oid_check_sorted", "const_oid_cmp", "const_oid_cmp_owned", "const_oid_version"];
 
-/// The public functions of the sources in a folder, each with its module. In `oid_ref.rs` macros write some.
+/// The public functions of the sources in a folder, each with its module.
 fn of_source(folder: &str) -> Vec<(String, String)> {
     let folder = Path::new(env!("CARGO_MANIFEST_DIR")).join("../..").join(folder);
     let mut out = Vec::new();
@@ -77,8 +78,7 @@ fn of_source(folder: &str) -> Vec<(String, String)> {
         let module = path.file_stem().unwrap().to_str().unwrap();
         for line in fs::read_to_string(&path).unwrap().lines().map(str::trim) {
             let (before, name) = line.split_once("fn ").unwrap_or(("//", ""));
-            let is_public = ["pub ", "pub const ", "pub extern \"C\" "].contains(&before);
-            if is_public || before.is_empty() && line.ends_with(';') && module == "oid_ref" {
+            if ["pub ", "pub const ", "pub extern \"C\" "].contains(&before) {
                 out.push((module.into(), name.split(['(', '<', ' ']).next().unwrap().into()));
             }
         }
@@ -93,16 +93,11 @@ fn names(row: &str, module: &str, name: &str) -> bool {
 
 #[test]
 fn what_the_crate_lacks_has_a_reason() {
-    let by_hand = of_source("rust/const-oid/src");
     let generated = of_source("rust/const-oid/src/erased");
     let calls = of_source("crates/const_oid/src");
-    for (module, name) in &calls {
-        // The forms of a borrowed identifier are in a file of their own.
-        let is_in = |other: &str| other == module || other == "conversions";
-        let is_here = by_hand.iter().any(|(other, found)| found == name && is_in(other))
-            || module != "oid_ref" && generated.contains(&(module.clone(), name.clone()));
-        let is_missing = MISSING.iter().any(|row| names(row.0, module, name));
-        assert_eq!(is_here, !is_missing, "{module}::{name}");
+    for call in &calls {
+        let is_missing = MISSING.iter().any(|row| names(row.0, &call.0, &call.1));
+        assert_eq!(generated.contains(call), !is_missing, "{call:?}");
     }
     for (row, why) in MISSING {
         let is_named = calls.iter().any(|(module, name)| names(row, module, name));

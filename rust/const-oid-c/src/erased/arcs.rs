@@ -59,7 +59,7 @@ fn write_longer(arcs: &[u32], out: &mut crate::edge::Output<u8>) -> Status {
     match crate::outputs::bytes_from_arcs(arcs, out) {
         Ok(len) => len_status(len),
         // At the greatest limit, the error of any other kind is the same.
-        Err(_) => unwritten_status(ObjectIdentifierRef::bytes_len_from_arcs(arcs, usize::MAX)),
+        Err(_) => unwritten_status(const_oid::internal_for_const_oid_c::bytes_len_from_arcs(arcs, usize::MAX)),
     }
 }
 

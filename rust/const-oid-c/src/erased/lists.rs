@@ -70,7 +70,7 @@ pub fn const_oid_subtree_range(
 }
 
 /// The index of the first item that comes after an identifier.
-fn next_of(sorted: &[Octets<'_>], oid: &ObjectIdentifierRef<'_>) -> Option<usize> {
+fn next_of(sorted: &[Octets<'_>], oid: &ObjectIdentifierRef) -> Option<usize> {
     let index = end_of(sorted, oid);
     if index < sorted.len() { Some(index) } else { None }
 }
@@ -85,7 +85,7 @@ fn index_status(index: Option<usize>) -> Status {
 
 /// The status of the first item that is not valid or comes before the previous one.
 fn list_fault(items: &[Octets<'_>]) -> Option<Status> {
-    let mut before: Option<ObjectIdentifierRef<'_>> = None;
+    let mut before: Option<&ObjectIdentifierRef> = None;
     for (index, item) in items.iter().enumerate() {
         match read_after(index, before, item.get()) {
             Ok(oid) => before = Some(oid),
@@ -98,9 +98,9 @@ fn list_fault(items: &[Octets<'_>]) -> Option<Status> {
 /// The identifier at an index, after the previous one, or the status of what is wrong with it.
 fn read_after<'a>(
     index: usize,
-    before: Option<ObjectIdentifierRef<'_>>,
+    before: Option<&ObjectIdentifierRef>,
     octets: &'a [u8],
-) -> Result<ObjectIdentifierRef<'a>, Status> {
+) -> Result<&'a ObjectIdentifierRef, Status> {
     match ObjectIdentifierRef::from_bytes(octets) {
         Ok(oid) if comes_before(oid, before) => Err(Status { code: UNSORTED, detail: 0, len: index }),
         Ok(oid) => Ok(oid),
@@ -109,7 +109,7 @@ fn read_after<'a>(
 }
 
 /// Whether an identifier comes before the previous one, if there is one.
-fn comes_before(oid: ObjectIdentifierRef<'_>, before: Option<ObjectIdentifierRef<'_>>) -> bool {
+fn comes_before(oid: &ObjectIdentifierRef, before: Option<&ObjectIdentifierRef>) -> bool {
     match before {
         Some(before) => oid.cmp_arcs(&before).is_lt(),
         None => false,

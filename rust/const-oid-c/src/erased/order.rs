@@ -61,14 +61,14 @@ pub fn const_oid_by_arcs(left: &Octets<'_>, right: &Octets<'_>) -> i32 {
 
 /// Reads two identifiers of any length. The error is that of the first one that is not valid.
 #[inline]
-fn read_both<'a>(left: &'a [u8], right: &'a [u8]) -> Result<(ObjectIdentifierRef<'a>, ObjectIdentifierRef<'a>)> {
+fn read_both<'a>(left: &'a [u8], right: &'a [u8]) -> Result<(&'a ObjectIdentifierRef, &'a ObjectIdentifierRef)> {
     let left = ObjectIdentifierRef::from_bytes(left)?;
     let right = ObjectIdentifierRef::from_bytes(right)?;
     Ok((left, right))
 }
 
 /// Compares two identifiers by length, and then by their octets.
-fn shortlex(left: ObjectIdentifierRef<'_>, right: ObjectIdentifierRef<'_>) -> Ordering {
+fn shortlex(left: &ObjectIdentifierRef, right: &ObjectIdentifierRef) -> Ordering {
     match left.as_bytes().len().cmp(&right.as_bytes().len()) {
         Ordering::Equal => left.cmp(&right),
         other => other,

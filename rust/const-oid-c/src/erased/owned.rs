@@ -8,7 +8,7 @@ use const_oid::internal_for_const_oid_c::{Error, ObjectIdentifier, ObjectIdentif
 pub(crate) const MAX_OCTETS: usize = 255;
 
 /// Reads at most `MAX_OCTETS` contents octets, without copying them.
-pub(crate) fn read_owned<'a>(octets: &'a [u8]) -> Result<ObjectIdentifierRef<'a>> {
+pub(crate) fn read_owned<'a>(octets: &'a [u8]) -> Result<&'a ObjectIdentifierRef> {
     let oid = ObjectIdentifierRef::from_bytes(octets)?;
     if octets.len() > MAX_OCTETS {
         return Err(Error::Length);

@@ -12,7 +12,7 @@ use core::str;
 pub fn const_oid_from_text(text: &[u8], out: &mut crate::edge::Output<u8>) -> Status {
     // An identifier of the usual capacity is quicker to make.
     let mut octets = [0; 39];
-    match ObjectIdentifierRef::parse_usual(text, &mut octets) {
+    match const_oid::internal_for_const_oid_c::parse_usual(text, &mut octets) {
         Ok(oid) => write_bytes(oid.as_bytes(), out),
         Err(fault) => write_other(fault, text, out),
     }
@@ -48,7 +48,7 @@ fn write_longer(text: &[u8], out: &mut crate::edge::Output<u8>) -> Status {
     match crate::outputs::bytes_from_ascii(text, out) {
         Ok(len) => len_status(len),
         // At the greatest limit, the error of any other kind is the same.
-        Err(_) => unwritten_status(ObjectIdentifierRef::bytes_len_from_ascii(text, usize::MAX)),
+        Err(_) => unwritten_status(const_oid::internal_for_const_oid_c::bytes_len_from_ascii(text, usize::MAX)),
     }
 }
 
@@ -64,7 +64,7 @@ const LONG: usize = 1031;
 /// Most identifiers are short, and the less room there is, the sooner it is set to zero.
 pub fn const_oid_to_text(octets: &[u8], out: &mut crate::edge::Output<u8>) -> Status {
     let mut text = [0; SHORT];
-    match ObjectIdentifierRef::text_from_bytes(octets, &mut text) {
+    match const_oid::internal_for_const_oid_c::text_from_bytes(octets, &mut text) {
         Some(Ok(len)) => write_bytes(&text[..len], out),
         Some(Err(fault)) => error_status(fault),
         None => write_long(octets, out),
@@ -75,7 +75,7 @@ pub fn const_oid_to_text(octets: &[u8], out: &mut crate::edge::Output<u8>) -> St
 #[inline(never)]
 extern "C" fn write_long(octets: &[u8], out: &mut crate::edge::Output<u8>) -> Status {
     let mut text = [0; LONG];
-    match ObjectIdentifierRef::text_from_bytes(octets, &mut text) {
+    match const_oid::internal_for_const_oid_c::text_from_bytes(octets, &mut text) {
         Some(Ok(len)) => write_bytes(&text[..len], out),
         Some(Err(fault)) => error_status(fault),
         None => write_longest(octets, out),

@@ -67,6 +67,7 @@ impl<const SIZE: usize> Buffer<SIZE> {
     ///     buffer.as_bytes()
     /// }
     /// ```
+    #[must_use]
     pub const fn as_bytes(&self) -> &[u8] {
         // The lesser of both is `used`. So the compiler sees that it is in range, and makes no panic.
         let used = self.used as usize;
@@ -82,6 +83,7 @@ impl<const SIZE: usize> Buffer<SIZE> {
     ///     buffer.len() == 0
     /// }
     /// ```
+    #[must_use]
     pub const fn len(&self) -> usize {
         self.used as usize
     }
@@ -112,6 +114,7 @@ impl<const SIZE: usize> Buffer<SIZE> {
     /// ```
     // Whole arrays are compared, since zeros follow in both.
     #[inline(always)]
+    #[must_use]
     pub const fn eq(&self, rhs: &Self) -> bool {
         self.used == rhs.used && are_arrays_equal(&self.bytes, &rhs.bytes)
     }

@@ -43,6 +43,7 @@ impl<'a> Database<'a> {
     /// const NAMES: Database<'static> = Database::new(&[(&CN, "cn"), (&CN, "commonName")]);
     /// assert_eq!(NAMES.by_oid(&CN), Some("cn"));
     /// ```
+    #[must_use]
     pub const fn new(entries: &'a [(&'a ObjectIdentifier, &'a str)]) -> Self {
         Database { entries, oid_links: &[], name_links: &[] }
     }
@@ -61,6 +62,7 @@ impl<'a> Database<'a> {
     ///
     /// assert_eq!(DB.by_oid(&rfc4519::CN), Some("cn"));
     /// ```
+    #[must_use]
     pub const fn by_oid(&self, oid: &ObjectIdentifier) -> Option<&'a str> {
         let count = self.entries.len();
         let mut index = first_link(self.oid_links, count, oid.as_bytes());
@@ -83,6 +85,7 @@ impl<'a> Database<'a> {
     ///
     /// assert_eq!(DB.by_name("CN"), Some(&rfc4519::CN));
     /// ```
+    #[must_use]
     pub const fn by_name(&self, name: &str) -> Option<&'a ObjectIdentifier> {
         let count = self.entries.len();
         let mut index = first_link(self.name_links, count, name.as_bytes());
@@ -107,6 +110,7 @@ impl<'a> Database<'a> {
     /// let names = Database::new(&[(&CN, "cn"), (&CN, "commonName")]);
     /// assert!(names.find_names_for_oid(CN).eq(["cn", "commonName"]));
     /// ```
+    #[must_use]
     pub const fn find_names_for_oid(&self, oid: ObjectIdentifier) -> Names<'a> {
         Names { database: *self, index: first_link(self.oid_links, self.entries.len(), oid.as_bytes()), oid }
     }

@@ -2,8 +2,8 @@
 
 //! Names of borrowed identifiers, by binary search in a table that is sorted by arcs.
 
-use crate::ObjectIdentifierRef;
 use crate::erased::compare::are_equal;
+use crate::erased::oid_ref::ObjectIdentifierRef;
 use crate::erased::search::{Contents, end_of, first_of, nearest_of, subtree_of};
 
 /// An identifier and its name.
@@ -41,6 +41,7 @@ impl<'a> SortedDatabase<'a> {
     /// assert_eq!(NAMES.by_oid(&CN), Some("cn"));
     /// ```
     // In Rattle, the caller proves the order.
+    #[must_use]
     pub const fn new(entries: &'a [Entry<'a>]) -> Self {
         SortedDatabase { entries }
     }
@@ -58,6 +59,7 @@ impl<'a> SortedDatabase<'a> {
     /// assert!(SortedDatabase::try_new(&[(c, "c"), (cn, "cn")]).is_none());
     /// # Ok::<(), const_oid::Error>(())
     /// ```
+    #[must_use]
     pub fn try_new(entries: &'a [Entry<'a>]) -> Option<Self> {
         if entries.is_sorted_by(|a, b| a.0.cmp_arcs(&b.0).is_le()) { Some(SortedDatabase { entries }) } else { None }
     }
@@ -71,8 +73,9 @@ impl<'a> SortedDatabase<'a> {
     ///
     /// assert_eq!(SORTED.by_oid(&rfc4519::CN), Some("cn"));
     /// ```
+    #[must_use]
     pub fn by_oid(&self, oid: &ObjectIdentifierRef) -> Option<&'a str> {
-        let index = first_of(self.entries, &oid.erased())?;
+        let index = first_of(self.entries, oid)?;
         Some(self.entries[index].1)
     }
 
@@ -97,8 +100,9 @@ impl<'a> SortedDatabase<'a> {
     /// assert_eq!(*name, "enterprises");
     /// assert!(oid.arcs().skip(named.len()).eq([8072, 3, 2]));
     /// ```
+    #[must_use]
     pub fn nearest(&self, oid: &ObjectIdentifierRef) -> Option<&'a Entry<'a>> {
-        let index = nearest_of(self.entries, &oid.erased())?;
+        let index = nearest_of(self.entries, &oid)?;
         Some(&self.entries[index])
     }
 
@@ -119,8 +123,9 @@ impl<'a> SortedDatabase<'a> {
     /// let names = SortedDatabase::new(&entries);
     /// assert_eq!(names.subtree(&mib_2), &entries[..2]);
     /// ```
+    #[must_use]
     pub fn subtree(&self, oid: &ObjectIdentifierRef) -> &'a [Entry<'a>] {
-        let (from, end) = subtree_of(self.entries, &oid.erased());
+        let (from, end) = subtree_of(self.entries, oid);
         &self.entries[from..end]
     }
 
@@ -142,8 +147,9 @@ impl<'a> SortedDatabase<'a> {
     /// assert_eq!(names.next_after(&mib_2), Some(&entries[1]));
     /// assert_eq!(names.next_after(&enterprises), None);
     /// ```
+    #[must_use]
     pub fn next_after(&self, oid: &ObjectIdentifierRef) -> Option<&'a Entry<'a>> {
-        self.entries.get(end_of(self.entries, &oid.erased()))
+        self.entries.get(end_of(self.entries, oid))
     }
 }
 

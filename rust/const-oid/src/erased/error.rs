@@ -81,6 +81,7 @@ impl Error {
     /// assert_eq!(const_oid::Error::Length.text_len(), 18);
     /// ```
     #[inline]
+    #[must_use]
     pub fn text_len(self) -> usize {
         let (before, after) = self.words();
         before.len() + self.detail_len() + after.len()

@@ -84,6 +84,7 @@ impl ObjectIdentifier<39> {
     /// assert_eq!(CN.to_string(), "2.5.4.3");
     /// ```
     // In Rattle, the checker rejects an invalid text, so nothing panics.
+    #[must_use]
     pub const fn new_unwrap(s: &str) -> Self {
         match Self::new(s) {
             Ok(oid) => oid,
@@ -239,7 +240,7 @@ impl<const MAX_SIZE: usize> ObjectIdentifier<MAX_SIZE> {
 
     /// Copies a borrowed identifier, or returns [`Error::Length`] if its octets do not fit.
     #[inline(always)]
-    pub(crate) fn try_from_ref(oid_ref: ObjectIdentifierRef<'_>) -> Result<Self> {
+    pub(crate) fn try_from_ref(oid_ref: &ObjectIdentifierRef) -> Result<Self> {
         let octets = oid_ref.as_bytes();
         if octets.len() > MAX_SIZE.min(255) {
             return Err(Error::Length);
@@ -257,6 +258,7 @@ impl<const MAX_SIZE: usize> ObjectIdentifier<MAX_SIZE> {
     ///
     /// assert_eq!(ObjectIdentifier::new_unwrap("1.2.840").as_bytes(), [0x2A, 0x86, 0x48]);
     /// ```
+    #[must_use]
     pub const fn as_bytes(&self) -> &[u8] {
         self.ber.as_bytes()
     }
@@ -272,7 +274,8 @@ impl<const MAX_SIZE: usize> ObjectIdentifier<MAX_SIZE> {
     /// const BORROWED: &ObjectIdentifierRef = CN.as_oid_ref();
     /// assert_eq!(BORROWED.as_bytes(), [0x55, 4, 3]);
     /// ```
-    pub(crate) const fn borrowed(&self) -> ObjectIdentifierRef<'_> {
+    #[must_use]
+    pub const fn as_oid_ref(&self) -> &ObjectIdentifierRef {
         ObjectIdentifierRef::from_checked(self.as_bytes())
     }
 
@@ -286,8 +289,9 @@ impl<const MAX_SIZE: usize> ObjectIdentifier<MAX_SIZE> {
     /// let oid = ObjectIdentifier::new_unwrap("2.999");
     /// assert_eq!((oid.arc(1), oid.arc(2)), (Some(999), None));
     /// ```
+    #[must_use]
     pub fn arc(&self, index: usize) -> Option<Arc> {
-        self.borrowed().arc(index)
+        self.as_oid_ref().arc(index)
     }
 
     /// All arcs, in order.
@@ -299,8 +303,9 @@ impl<const MAX_SIZE: usize> ObjectIdentifier<MAX_SIZE> {
     ///
     /// assert!(ObjectIdentifier::new_unwrap("2.999.3").arcs().eq([2, 999, 3]));
     /// ```
+    #[must_use]
     pub fn arcs(&self) -> Arcs<'_> {
-        self.borrowed().arcs()
+        self.as_oid_ref().arcs()
     }
 
     /// The number of arcs, two or more.
@@ -312,8 +317,9 @@ impl<const MAX_SIZE: usize> ObjectIdentifier<MAX_SIZE> {
     ///
     /// assert_eq!(ObjectIdentifier::new_unwrap("2.999.3").len(), 3);
     /// ```
+    #[must_use]
     pub fn len(&self) -> usize {
-        self.borrowed().len()
+        self.as_oid_ref().len()
     }
 
     /// The length in bytes of the text that `{}` writes.
@@ -325,8 +331,9 @@ impl<const MAX_SIZE: usize> ObjectIdentifier<MAX_SIZE> {
     ///
     /// assert_eq!(ObjectIdentifier::new_unwrap("2.999").text_len(), 5);
     /// ```
+    #[must_use]
     pub fn text_len(&self) -> usize {
-        self.borrowed().text_len()
+        self.as_oid_ref().text_len()
     }
 
     /// Writes the text that `{}` writes to the start of `out`, and returns its length in bytes. Returns `None` if it is
@@ -342,7 +349,7 @@ impl<const MAX_SIZE: usize> ObjectIdentifier<MAX_SIZE> {
     /// assert_eq!(&out, b"2.999\0\0\0");
     /// ```
     pub fn encode_text(&self, out: &mut [u8]) -> Option<usize> {
-        self.borrowed().encode_text(out)
+        self.as_oid_ref().encode_text(out)
     }
 
     /// Writes the text as [`encode_text`](Self::encode_text) does, and borrows it as a `str`.
@@ -356,7 +363,7 @@ impl<const MAX_SIZE: usize> ObjectIdentifier<MAX_SIZE> {
     /// assert_eq!(ObjectIdentifier::new_unwrap("2.999").encode_str(&mut out), Some("2.999"));
     /// ```
     pub fn encode_str<'o>(&self, out: &'o mut [u8]) -> Option<&'o str> {
-        self.borrowed().encode_str(out)
+        self.as_oid_ref().encode_str(out)
     }
 
     /// The parent: all arcs except the last. `None` if there are only two.
@@ -370,8 +377,9 @@ impl<const MAX_SIZE: usize> ObjectIdentifier<MAX_SIZE> {
     /// assert_eq!(ObjectIdentifier::new_unwrap("2.999.3").parent(), Some(top));
     /// assert_eq!(top.parent(), None);
     /// ```
+    #[must_use]
     pub fn parent(&self) -> Option<Self> {
-        let parent = self.borrowed().parent()?;
+        let parent = self.as_oid_ref().parent()?;
         let ber = Buffer::copied(parent.as_bytes());
         Some(ObjectIdentifier { ber })
     }
@@ -414,8 +422,9 @@ impl<const MAX_SIZE: usize> ObjectIdentifier<MAX_SIZE> {
     /// assert!(oid.starts_with(top) && !top.starts_with(oid));
     /// ```
     #[inline(always)]
+    #[must_use]
     pub const fn starts_with<const SIZE: usize>(&self, other: ObjectIdentifier<SIZE>) -> bool {
-        self.borrowed().starts_with(&other.borrowed())
+        self.as_oid_ref().starts_with(&other.as_oid_ref())
     }
 
     /// Compares the arcs lexicographically, a prefix before what begins with it. SNMP orders names so (RFC 3416).
@@ -428,14 +437,16 @@ impl<const MAX_SIZE: usize> ObjectIdentifier<MAX_SIZE> {
     /// let (short, long) = (ObjectIdentifier::new_unwrap("2.5"), ObjectIdentifier::new_unwrap("1.2.3"));
     /// assert!(long.cmp_arcs(&short).is_lt() && short < long);
     /// ```
+    #[must_use]
     pub fn cmp_arcs<const SIZE: usize>(&self, other: &ObjectIdentifier<SIZE>) -> Ordering {
-        self.borrowed().cmp_arcs(&other.borrowed())
+        self.as_oid_ref().cmp_arcs(&other.as_oid_ref())
     }
 }
 
-impl ObjectIdentifierRef<'_> {
+impl ObjectIdentifierRef {
     /// Whether an owned identifier, of any capacity, has the same octets, and so the same arcs.
-    pub const fn eq_oid<const N: usize>(&self, other: &ObjectIdentifier<N>) -> bool {
+    #[must_use]
+    pub(crate) const fn eq_oid<const N: usize>(&self, other: &ObjectIdentifier<N>) -> bool {
         are_equal(self.as_bytes(), other.as_bytes())
     }
 }
@@ -443,14 +454,14 @@ impl ObjectIdentifierRef<'_> {
 /// The arcs in decimal, joined by dots, whatever the options.
 impl<const MAX_SIZE: usize> fmt::Display for ObjectIdentifier<MAX_SIZE> {
     fn fmt(&self, f: &mut fmt::Formatter<'_>) -> fmt::Result {
-        fmt::Display::fmt(&self.borrowed(), f)
+        fmt::Display::fmt(&self.as_oid_ref(), f)
     }
 }
 
 impl<const MAX_SIZE: usize> fmt::Debug for ObjectIdentifier<MAX_SIZE> {
     fn fmt(&self, f: &mut fmt::Formatter<'_>) -> fmt::Result {
         f.write_str("ObjectIdentifier(")?;
-        fmt::Display::fmt(&self.borrowed(), f)?;
+        fmt::Display::fmt(&self.as_oid_ref(), f)?;
         f.write_str(")")
     }
 }

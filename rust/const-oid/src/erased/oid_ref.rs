@@ -30,14 +30,13 @@ use core::fmt;
 /// assert_eq!(*oid, ObjectIdentifier::new_unwrap("2.999"));
 /// # Ok::<(), const_oid::Error>(())
 /// ```
-#[derive(Copy, Clone, Eq, Hash)]
-pub struct ObjectIdentifierRef<'a> {
-    /// The contents octets, which are valid.
-    // In Rattle, the checker decodes a literal.
-    ber: &'a [u8],
+#[derive(Eq, Hash)]
+#[repr(transparent)]
+pub struct ObjectIdentifierRef {
+    ber: [u8],
 }
 
-impl<'a> ObjectIdentifierRef<'a> {
+impl ObjectIdentifierRef {
     /// Decodes contents octets (X.690, 8.19).
     ///
     /// Tag and length are not removed: a complete encoding `06 09 2A ..` is no error, but another identifier,
@@ -63,17 +62,19 @@ impl<'a> ObjectIdentifierRef<'a> {
     /// # Ok::<(), Error>(())
     /// ```
     #[inline(always)]
-    pub fn from_bytes(ber: &'a [u8]) -> Result<Self> {
+    pub fn from_bytes(ber: &[u8]) -> Result<&Self> {
         check(ber)?;
         if ber.len() > isize::MAX as usize {
             return Err(Error::Length);
         }
-        Ok(ObjectIdentifierRef { ber })
+        Ok(Self::from_checked(ber))
     }
 
     /// The identifier over valid octets.
-    pub(crate) const fn from_checked(ber: &'a [u8]) -> Self {
-        ObjectIdentifierRef { ber }
+    #[allow(unsafe_code)]
+    pub(crate) const fn from_checked(ber: &[u8]) -> &Self {
+        // SAFETY: the type is laid out as its only field, and the reference lives as long.
+        unsafe { &*(ber as *const [u8] as *const Self) }
     }
 
     /// The contents octets, which are the caller's.
@@ -85,8 +86,9 @@ impl<'a> ObjectIdentifierRef<'a> {
     /// assert_eq!(oid.as_bytes(), [0x88, 0x37, 0x03]);
     /// # Ok::<(), const_oid::Error>(())
     /// ```
-    pub const fn as_bytes(&self) -> &'a [u8] {
-        self.ber
+    #[must_use]
+    pub const fn as_bytes(&self) -> &[u8] {
+        &self.ber
     }
 
     /// The arc at an index, counted from 0, or `None` past the last one.
@@ -99,8 +101,9 @@ impl<'a> ObjectIdentifierRef<'a> {
     /// # Ok::<(), const_oid::Error>(())
     /// ```
     #[inline]
+    #[must_use]
     pub fn arc(&self, index: usize) -> Option<Arc> {
-        arc_at(self.ber, index)
+        arc_at(self.as_bytes(), index)
     }
 
     /// All arcs, in order.
@@ -112,8 +115,9 @@ impl<'a> ObjectIdentifierRef<'a> {
     /// assert!(oid.arcs().eq([2, 999, 3]));
     /// # Ok::<(), const_oid::Error>(())
     /// ```
-    pub fn arcs(&self) -> Arcs<'a> {
-        Arcs::new(self.ber)
+    #[must_use]
+    pub fn arcs(&self) -> Arcs<'_> {
+        Arcs::new(self.as_bytes())
     }
 
     /// The number of arcs, two or more.
@@ -126,8 +130,9 @@ impl<'a> ObjectIdentifierRef<'a> {
     /// # Ok::<(), const_oid::Error>(())
     /// ```
     #[inline]
+    #[must_use]
     pub fn len(&self) -> usize {
-        count_parts(self.ber) + 1
+        count_parts(self.as_bytes()) + 1
     }
 
     /// The length in bytes of the text that `{}` writes, or `usize::MAX` if it is greater than that.
@@ -140,6 +145,7 @@ impl<'a> ObjectIdentifierRef<'a> {
     /// # Ok::<(), const_oid::Error>(())
     /// ```
     #[inline]
+    #[must_use]
     pub fn text_len(&self) -> usize {
         text_len(self.arcs(), usize::MAX).unwrap_or(usize::MAX)
     }
@@ -159,7 +165,7 @@ impl<'a> ObjectIdentifierRef<'a> {
     #[inline]
     pub fn encode_text(&self, out: &mut [u8]) -> Option<usize> {
         // An octet takes four bytes of text at most.
-        if self.ber.len() > out.len() / 4 {
+        if self.as_bytes().len() > out.len() / 4 {
             text_len(self.arcs(), out.len())?;
         }
         Some(write_text(self.arcs(), out))
@@ -186,7 +192,7 @@ impl<'a> ObjectIdentifierRef<'a> {
     /// Returns `None` if `out` has fewer bytes than four for each octet and eleven more; it is then unchanged. What lies
     /// after the text is unchanged on `Ok`. On `Err`, `out` may be changed.
     #[inline(always)]
-    pub fn text_from_bytes(ber: &[u8], out: &mut [u8]) -> Option<Result<usize>> {
+    pub(crate) fn text_from_bytes(ber: &[u8], out: &mut [u8]) -> Option<Result<usize>> {
         if out.len() < MAX_ARC_LEN || ber.len() > (out.len() - MAX_ARC_LEN) / 4 {
             return None;
         }
@@ -200,7 +206,7 @@ impl<'a> ObjectIdentifierRef<'a> {
     ///
     /// Those of [`new`](crate::ObjectIdentifier::new), with [`Error::Length`] if the arcs take more octets than
     /// `limit`.
-    pub fn bytes_len_from_ascii(text: &[u8], limit: usize) -> Result<usize> {
+    pub(crate) fn bytes_len_from_ascii(text: &[u8], limit: usize) -> Result<usize> {
         parse_long(text, &mut [], limit)
     }
 
@@ -211,7 +217,7 @@ impl<'a> ObjectIdentifierRef<'a> {
     ///
     /// Those of [`new`](crate::ObjectIdentifier::new), with [`Error::Length`] if the arcs take more octets than `out`
     /// has. It is then unchanged.
-    pub fn bytes_from_ascii(text: &[u8], out: &mut [u8]) -> Result<usize> {
+    pub(crate) fn bytes_from_ascii(text: &[u8], out: &mut [u8]) -> Result<usize> {
         let capacity = out.len();
         // The octets are counted first, so that on an error none is written.
         parse_long(text, &mut [], capacity)?;
@@ -224,7 +230,7 @@ impl<'a> ObjectIdentifierRef<'a> {
     ///
     /// Those of [`from_arcs`](crate::ObjectIdentifier::from_arcs), with [`Error::Length`] if the arcs take more octets
     /// than `limit`.
-    pub fn bytes_len_from_arcs(arcs: &[Arc], limit: usize) -> Result<usize> {
+    pub(crate) fn bytes_len_from_arcs(arcs: &[Arc], limit: usize) -> Result<usize> {
         encode_long(arcs, &mut [], limit)
     }
 
@@ -235,7 +241,7 @@ impl<'a> ObjectIdentifierRef<'a> {
     ///
     /// Those of [`from_arcs`](crate::ObjectIdentifier::from_arcs), with [`Error::Length`] if the arcs take more octets
     /// than `out` has. It is then unchanged.
-    pub fn bytes_from_arcs(arcs: &[Arc], out: &mut [u8]) -> Result<usize> {
+    pub(crate) fn bytes_from_arcs(arcs: &[Arc], out: &mut [u8]) -> Result<usize> {
         let capacity = out.len();
         encode_long(arcs, &mut [], capacity)?;
         encode_long(arcs, out, capacity)
@@ -259,7 +265,7 @@ impl<'a> ObjectIdentifierRef<'a> {
     /// assert_eq!(ObjectIdentifierRef::from_ascii_in(b"2.999", &mut [0]), Err(Error::Length));
     /// # Ok::<(), Error>(())
     /// ```
-    pub fn from_ascii_in(text: &[u8], out: &'a mut [u8]) -> Result<Self> {
+    pub fn from_ascii_in<'a>(text: &[u8], out: &'a mut [u8]) -> Result<&'a Self> {
         let len = Self::bytes_from_ascii(text, out)?;
         Ok(ObjectIdentifierRef::from_checked(&out[..len]))
     }
@@ -271,7 +277,7 @@ impl<'a> ObjectIdentifierRef<'a> {
     ///
     /// Those of [`new`](crate::ObjectIdentifier::new).
     #[inline(always)]
-    pub fn parse_usual(text: &[u8], out: &'a mut [u8; 39]) -> Result<Self> {
+    pub(crate) fn parse_usual<'a>(text: &[u8], out: &'a mut [u8; 39]) -> Result<&'a Self> {
         let len = parse_to(text, out, 39)?;
         Ok(ObjectIdentifierRef::from_checked(&out[..len]))
     }
@@ -294,7 +300,7 @@ impl<'a> ObjectIdentifierRef<'a> {
     /// assert_eq!((oid.len(), oid.as_bytes().len()), (128, 127));
     /// # Ok::<(), const_oid::Error>(())
     /// ```
-    pub fn from_arcs_in(arcs: &[Arc], out: &'a mut [u8]) -> Result<Self> {
+    pub fn from_arcs_in<'a>(arcs: &[Arc], out: &'a mut [u8]) -> Result<&'a Self> {
         let len = Self::bytes_from_arcs(arcs, out)?;
         Ok(ObjectIdentifierRef::from_checked(&out[..len]))
     }
@@ -309,8 +315,9 @@ impl<'a> ObjectIdentifierRef<'a> {
     /// # Ok::<(), const_oid::Error>(())
     /// ```
     #[inline]
-    pub fn parent(&self) -> Option<ObjectIdentifierRef<'a>> {
-        let prefix = without_last_part(self.ber);
+    #[must_use]
+    pub fn parent(&self) -> Option<&Self> {
+        let prefix = without_last_part(self.as_bytes());
         if prefix.is_empty() {
             return None;
         }
@@ -327,8 +334,9 @@ impl<'a> ObjectIdentifierRef<'a> {
     /// # Ok::<(), const_oid::Error>(())
     /// ```
     #[inline(always)]
-    pub const fn starts_with(&self, other: &ObjectIdentifierRef<'_>) -> bool {
-        begins_with(self.ber, other.ber)
+    #[must_use]
+    pub const fn starts_with(&self, other: &ObjectIdentifierRef) -> bool {
+        begins_with(self.as_bytes(), other.as_bytes())
     }
 
     /// Compares the arcs lexicographically, a prefix before what begins with it. SNMP orders names so (RFC 3416).
@@ -342,8 +350,9 @@ impl<'a> ObjectIdentifierRef<'a> {
     /// # Ok::<(), const_oid::Error>(())
     /// ```
     #[inline]
-    pub fn cmp_arcs(&self, other: &ObjectIdentifierRef<'_>) -> Ordering {
-        order_by_parts(self.ber, other.ber)
+    #[must_use]
+    pub fn cmp_arcs(&self, other: &ObjectIdentifierRef) -> Ordering {
+        order_by_parts(self.as_bytes(), other.as_bytes())
     }
 
     /// The range of indices of a sorted list at which the arcs begin with those of this identifier, itself included:
@@ -365,9 +374,10 @@ impl<'a> ObjectIdentifierRef<'a> {
     /// assert!(sorted[start..end].iter().all(|oid| oid.starts_with(&oids[0])) && end - start == 3);
     /// ```
     #[inline]
-    pub fn subtree(&self, sorted: &[&crate::ObjectIdentifierRef]) -> (usize, usize) {
-        let from = sorted.partition_point(|oid| order(oid.as_bytes(), self.ber).is_lt());
-        let inside = sorted[from..].partition_point(|oid| oid.as_bytes().starts_with(self.ber));
+    #[must_use]
+    pub fn subtree(&self, sorted: &[&ObjectIdentifierRef]) -> (usize, usize) {
+        let from = sorted.partition_point(|oid| order(oid.as_bytes(), self.as_bytes()).is_lt());
+        let inside = sorted[from..].partition_point(|oid| oid.as_bytes().starts_with(self.as_bytes()));
         (from, from + inside)
     }
 
@@ -375,7 +385,7 @@ impl<'a> ObjectIdentifierRef<'a> {
     #[inline]
     fn write_pieces(&self, f: &mut fmt::Formatter<'_>) -> fmt::Result {
         let mut text = [0; PIECE_LEN];
-        let (root, mut rest) = read_group(self.ber);
+        let (root, mut rest) = read_group(self.as_bytes());
         let (first, mut arc) = split_root(root);
         text[0] = b'0' + first as u8;
         let mut at = 1;
@@ -403,13 +413,13 @@ const PIECE: usize = 40;
 const PIECE_LEN: usize = 4 * PIECE + MAX_ARC_LEN;
 
 /// The arcs in decimal, joined by dots, whatever the options.
-impl fmt::Display for ObjectIdentifierRef<'_> {
+impl fmt::Display for ObjectIdentifierRef {
     fn fmt(&self, f: &mut fmt::Formatter<'_>) -> fmt::Result {
         self.write_pieces(f)
     }
 }
 
-impl fmt::Debug for ObjectIdentifierRef<'_> {
+impl fmt::Debug for ObjectIdentifierRef {
     fn fmt(&self, f: &mut fmt::Formatter<'_>) -> fmt::Result {
         f.write_str("ObjectIdentifierRef(")?;
         self.write_pieces(f)?;
@@ -417,13 +427,13 @@ impl fmt::Debug for ObjectIdentifierRef<'_> {
     }
 }
 
-impl PartialEq for ObjectIdentifierRef<'_> {
+impl PartialEq for ObjectIdentifierRef {
     fn eq(&self, other: &Self) -> bool {
         self.ber == other.ber
     }
 }
 
-impl PartialOrd for ObjectIdentifierRef<'_> {
+impl PartialOrd for ObjectIdentifierRef {
     fn partial_cmp(&self, other: &Self) -> Option<Ordering> {
         Some(self.cmp(other))
     }
@@ -433,8 +443,8 @@ impl PartialOrd for ObjectIdentifierRef<'_> {
 ///
 /// In a list sorted so, a subtree is contiguous. It is not the order of SNMP (RFC 3416), which is that of arcs: see
 /// [`cmp_arcs`](ObjectIdentifierRef::cmp_arcs).
-impl Ord for ObjectIdentifierRef<'_> {
+impl Ord for ObjectIdentifierRef {
     fn cmp(&self, other: &Self) -> Ordering {
-        self.ber.cmp(other.ber)
+        self.ber.cmp(&other.ber)
     }
 }

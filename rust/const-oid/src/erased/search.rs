@@ -19,22 +19,26 @@ pub trait Contents {
 /// The order of the arcs of octets. If they are not valid, it is that of their parts, each of which ends with its first
 /// octet below 0x80: a longer part is greater, and of equally long ones the octets decide.
 #[inline]
+#[must_use]
 pub fn order_of(left: &[u8], right: &[u8]) -> Ordering {
     order_by_parts(left, right)
 }
 
 /// The index of the first item that does not come before an identifier, or the number of items if there is none.
-pub fn start_of<T: Contents>(items: &[T], oid: &ObjectIdentifierRef<'_>) -> usize {
+#[must_use]
+pub fn start_of<T: Contents>(items: &[T], oid: &ObjectIdentifierRef) -> usize {
     items.partition_point(|item| order_by_parts(item.contents(), oid.as_bytes()).is_lt())
 }
 
 /// The index of the first item that comes after an identifier, or the number of items if there is none.
-pub fn end_of<T: Contents>(items: &[T], oid: &ObjectIdentifierRef<'_>) -> usize {
+#[must_use]
+pub fn end_of<T: Contents>(items: &[T], oid: &ObjectIdentifierRef) -> usize {
     items.partition_point(|item| order_by_parts(oid.as_bytes(), item.contents()).is_ge())
 }
 
 /// The index of the first item with the arcs of an identifier, or `None` if no item has them.
-pub fn first_of<T: Contents>(items: &[T], oid: &ObjectIdentifierRef<'_>) -> Option<usize> {
+#[must_use]
+pub fn first_of<T: Contents>(items: &[T], oid: &ObjectIdentifierRef) -> Option<usize> {
     match find(items, oid) {
         Ok(index) => Some(index),
         Err(_) => None,
@@ -43,19 +47,20 @@ pub fn first_of<T: Contents>(items: &[T], oid: &ObjectIdentifierRef<'_>) -> Opti
 
 /// The index of the first item with the arcs of an identifier, or `Err` with the index at which the identifier would be
 /// inserted.
-fn find<T: Contents>(items: &[T], oid: &ObjectIdentifierRef<'_>) -> result::Result<usize, usize> {
+fn find<T: Contents>(items: &[T], oid: &ObjectIdentifierRef) -> result::Result<usize, usize> {
     let index = start_of(items, oid);
     if index < items.len() && has_octets(&items[index], oid) { Ok(index) } else { Err(index) }
 }
 
 /// Whether an item has the octets of an identifier.
-fn has_octets<T: Contents>(item: &T, oid: &ObjectIdentifierRef<'_>) -> bool {
+fn has_octets<T: Contents>(item: &T, oid: &ObjectIdentifierRef) -> bool {
     are_equal(item.contents(), oid.as_bytes())
 }
 
 /// The range of the items whose arcs begin with those of an identifier: from the first index up to, but not including,
 /// the second. If there are none, both are the index at which the identifier would be inserted.
-pub fn subtree_of<T: Contents>(items: &[T], oid: &ObjectIdentifierRef<'_>) -> (usize, usize) {
+#[must_use]
+pub fn subtree_of<T: Contents>(items: &[T], oid: &ObjectIdentifierRef) -> (usize, usize) {
     let from = start_of(items, oid);
     let inside = items[from..].partition_point(|item| begins_with(item.contents(), oid.as_bytes()));
     (from, from + inside)
@@ -63,8 +68,9 @@ pub fn subtree_of<T: Contents>(items: &[T], oid: &ObjectIdentifierRef<'_>) -> (u
 
 /// The index of the item with the longest prefix of an identifier, which may be all of it, or `None` if the list has no
 /// prefix. If several items have it, the first.
-pub fn nearest_of<T: Contents>(items: &[T], oid: &ObjectIdentifierRef<'_>) -> Option<usize> {
-    let mut above = *oid;
+#[must_use]
+pub fn nearest_of<T: Contents>(items: &[T], oid: &ObjectIdentifierRef) -> Option<usize> {
+    let mut above = oid;
     loop {
         let index = match find(items, &above) {
             Ok(index) => return Some(index),
@@ -77,7 +83,7 @@ pub fn nearest_of<T: Contents>(items: &[T], oid: &ObjectIdentifierRef<'_>) -> Op
 }
 
 /// The longest identifier that begins an identifier and other octets, or `None` if there is none.
-fn common_prefix<'a>(oid: ObjectIdentifierRef<'a>, others: &[u8]) -> Option<ObjectIdentifierRef<'a>> {
+fn common_prefix<'a>(oid: &'a ObjectIdentifierRef, others: &[u8]) -> Option<&'a ObjectIdentifierRef> {
     let prefix = common_parts(oid.as_bytes(), others);
     if prefix.is_empty() {
         return None;
