@@ -443,7 +443,7 @@ impl<'a> ObjectIdentifierRef<'a> {
     /// ```
     /// use const_oid::{ObjectIdentifier, ObjectIdentifierRef};
     ///
-    /// let oids = ["2.5.4", "2.5.4.3", "2.5.4.6", "2.5.29"].map(crate::ObjectIdentifier::new_unwrap);
+    /// let oids = ["2.5.4", "2.5.4.3", "2.5.4.6", "2.5.29"].map(ObjectIdentifier::new_unwrap);
     /// let mut sorted: Vec<&ObjectIdentifierRef> = oids.iter().map(|oid| oid.as_oid_ref()).collect();
     /// sorted.sort();
     /// let (start, end) = oids[0].subtree(&sorted);
