@@ -7,7 +7,7 @@ pub mod Encodings
 pub mod Lengths
 pub mod Shortlex
 pub mod ByParts
-pub mod Words
+pub mod ByWords
 pub mod BeginsWith
 pub mod Items
 pub mod TakesItems

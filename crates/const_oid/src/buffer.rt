@@ -230,7 +230,7 @@ impl<const SIZE: usize> Ord for Buffer<SIZE> {
 
     ghost matches_eq = { λ a b. shortlex_cmp_ties (octets_of a) (octets_of b) };
 
-    #[tactic(auto, using(crate::proofs::Words::arrays_cmp))]
+    #[tactic(auto, using(crate::proofs::ByWords::arrays_cmp))]
     fn cmp(&self, other: &Self) -> Ordering
         ensures { result ≡ shortlex_cmp (octets_of self.now) (octets_of other.now) }
     {

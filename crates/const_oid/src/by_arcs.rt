@@ -21,7 +21,7 @@ impl PartialEq for ByArcs<'_> {
 
     ghost laws = { on_per key_arcs (partial_equiv_from_equiv nat_list_eq_equiv) };
 
-    #[tactic(auto, using(crate::proofs::Words::tells_same))]
+    #[tactic(auto, using(crate::proofs::ByWords::tells_same))]
     fn eq(&self, other: &Self) -> bool
         ensures value { result ≡ pointwise nat_eq (key_arcs self.now) (key_arcs other.now) }
         ensures arcs { IsTrue result ↔ (key_arcs self.now ≡ key_arcs other.now) }

@@ -80,7 +80,7 @@ pub(crate) fn are_equal(a: &[u8], b: &[u8]) -> bool
 
 /// The first two words that differ, of those that begin before `end`.
 // erase: const
-#[tactic(auto, using(crate::proofs::Words::word_by_word))]
+#[tactic(auto, using(crate::proofs::ByWords::word_by_word))]
 #[inline(always)]
 fn first_unequal(a: &[u8], b: &[u8], end: usize) -> Option<(u64, u64)>
     requires in_a { end + 8 ≤ length a.now }
@@ -138,7 +138,7 @@ const fn are_few_equal(a: &[u8], b: &[u8]) -> bool
 
 /// The lexicographic order of octets: by words, of which the last may overlap the one before, or one by one if there
 /// are fewer than a word has.
-#[tactic(auto, using(crate::proofs::Words::unequal_cmp))]
+#[tactic(auto, using(crate::proofs::ByWords::unequal_cmp))]
 #[inline(always)]
 pub(crate) fn order(a: &[u8], b: &[u8]) -> Ordering
     ensures { result ≡ slice_cmp nat_cmp a.now b.now }
@@ -159,7 +159,7 @@ pub(crate) fn order(a: &[u8], b: &[u8]) -> Ordering
 }
 
 /// The lexicographic order of octets, one by one.
-#[tactic(auto, using(crate::proofs::Words::ended_cmp))]
+#[tactic(auto, using(crate::proofs::ByWords::ended_cmp))]
 #[inline(always)]
 fn order_few(a: &[u8], b: &[u8]) -> Ordering
     ensures { result ≡ slice_cmp nat_cmp a.now b.now }

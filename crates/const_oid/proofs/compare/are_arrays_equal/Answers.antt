@@ -1,6 +1,6 @@
 use Rattle.std.proofs.Common.{arith}
 use Rattle.std.proofs.lemmas.Bool.Decides.{nat_tests}
-use Rattle.const_oid.proofs.Words.{same_more, equal_words, same_less, last_words, tells_same}
+use Rattle.const_oid.proofs.ByWords.{same_more, equal_words, same_less, last_words, tells_same}
 use Rattle.const_oid.proofs.compare.are_arrays_equal.Goals as goal
 
 pub loop-at-preserved : goal.loop-at-preserved

@@ -1,6 +1,6 @@
 use Rattle.std.proofs.Common.{arith}
 use Rattle.std.proofs.lemmas.Bool.Decides.{nat_tests}
-use Rattle.const_oid.proofs.Words.{equal_words, last_words, tells_same}
+use Rattle.const_oid.proofs.ByWords.{equal_words, last_words, tells_same}
 use Rattle.const_oid.proofs.compare.are_equal.Goals as goal
 
 pub returns-then-word : goal.returns-then-word

@@ -1,5 +1,5 @@
 use Rattle.std.proofs.Common.{◌+◌, ◌-◌, arith, sym, ◌∙◌}
-use Rattle.const_oid.proofs.Words.{same_more, ended_at}
+use Rattle.const_oid.proofs.ByWords.{same_more, ended_at}
 use Rattle.const_oid.proofs.compare.order.Goals as goal
 
 pub returns : goal.returns

@@ -1,5 +1,5 @@
 use Rattle.std.proofs.Common.{arith}
-use Rattle.const_oid.proofs.Words.{word_is}
+use Rattle.const_oid.proofs.ByWords.{word_is}
 use Rattle.const_oid.proofs.words.word.Goals as goal
 
 pub returns : goal.returns

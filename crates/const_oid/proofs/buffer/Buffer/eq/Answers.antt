@@ -1,6 +1,6 @@
 use Rattle.std.proofs.Common.{arith}
 use Rattle.std.proofs.lemmas.{Bool.Decides.Decides-eqb, Slice.Eq.slice_eq-Decides, Grind.common_steps}
-use Rattle.const_oid.proofs.Words.{whole_eq}
+use Rattle.const_oid.proofs.ByWords.{whole_eq}
 use Rattle.const_oid.proofs.buffer.Buffer.eq.Goals as goal
 
 pub returns-then-self-rhs-clause-value : goal.returns-then-self-rhs-clause-value
