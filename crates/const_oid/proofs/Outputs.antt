@@ -6,7 +6,7 @@ use Rattle.std.proofs.{Math.Seq.take-append_seam, lemmas.{Bool.cases_lt, Slice.d
 use Rattle.std.proofs.lemmas.List.{drop-replicate}
 use Rattle.const_oid.specs.Base128.{AreOctets, IsContinued, group_of, width}
 use Rattle.const_oid.specs.{declared.error.Error.Error, declared.error.Error.TheVariants.{Length}}
-use Rattle.const_oid.specs.{Contents.arcs_of_octets, Items.arc_fault, Text.{bytes_answer, size_answer}}
+use Rattle.const_oid.specs.{Contents.{arcs_of_octets, bytes_answer, size_answer}, Items.arc_fault}
 use Rattle.const_oid.specs.Identifier.{RootRule, root_rule, max_arc, max_second, subidentifiers, IsEncoding}
 use Rattle.const_oid.specs.Private.Octets.{AppendsTo, BeginsBy, IsAppended, IsEncodedIn}
 use Rattle.const_oid.proofs.{Faults.{none_from_below, some_from_above}, Groups.{group_is, length_is}, TakesItems.{AreTaken, first_taken, taken_more}}

@@ -3,5 +3,5 @@ use Rattle.std.specs.Prelude.{ℕ, List, take}
 use Rattle.const_oid.specs.declared.buffer.Buffer.{Buffer}
 
 -- the octets in use
-abbrev pub octets_of : {SIZE : ℕ} → Buffer SIZE → List ℕ
-octets_of buffer = take buffer.used buffer.bytes
+abbrev pub buffer_octets : {SIZE : ℕ} → Buffer SIZE → List ℕ
+buffer_octets buffer = take buffer.used buffer.bytes

@@ -1,12 +1,13 @@
 -- Contents octets as they come: the parts, which in valid octets are the subidentifiers, and the first fault (ITU-T X.690, 8.19.2 to 8.19.4).
-use Rattle.std.specs.Prelude.{ℕ, ◌+◌, ◌-◌, ◌*◌, ◌^◌, ◌/◌, ◌%◌, Bool, false, List, [], ◌∷◌, length, map, nat_lt, ◌==◌, if◌then◌else◌, Option, Some, None, Result, not}
+use Rattle.std.specs.Prelude.{ℕ, ◌+◌, ◌-◌, ◌*◌, ◌^◌, ◌/◌, ◌%◌, Bool, false, List, [], ◌∷◌, length, map, take, nat_lt, ◌==◌, if◌then◌else◌, Option, Some, None, Result, not}
 use Rattle.std.specs.List.{onto_first}
 use Rattle.std.specs.Option.{option_or}
+use Rattle.std.specs.Result.{result_map_both}
 use Rattle.const_oid.specs.declared.error.Error.{Error}
 use Rattle.const_oid.specs.declared.error.Error.TheVariants.{ArcInvalid, ArcTooBig, Base128, Empty, Length}
 use Rattle.const_oid.specs.Base128.{value_of}
 use Rattle.const_oid.specs.Error.{fault_if, answer}
-use Rattle.const_oid.specs.Identifier.{RootRule, Narrow, Wide, max_arc, max_second}
+use Rattle.const_oid.specs.Identifier.{RootRule, Narrow, Wide, max_arc, max_second, size}
 
 -- an octet put before the parts that follow it
 abbrev pub cut_after : ℕ → List (List ℕ) → List (List ℕ)
@@ -76,3 +77,11 @@ borrowed_capacity = 2 ^ 63 - 1
 -- what the octets are read as at a capacity: their fault, or their arcs
 abbrev pub octet_answer : RootRule → List ℕ → ℕ → Result (List ℕ) Error
 octet_answer rule octets capacity = answer (octet_fault rule octets capacity) (arcs_of_octets octets)
+
+-- the arcs that a length stands for: those of that many octets of the output
+abbrev pub bytes_answer : List ℕ → Result ℕ Error → Result (List ℕ) Error
+bytes_answer out written = result_map_both (λ len. arcs_of_octets (take len out)) (λ fault. fault) written
+
+-- how many octets the arcs take
+abbrev pub size_answer : Result (List ℕ) Error → Result ℕ Error
+size_answer answer = result_map_both size (λ fault. fault) answer

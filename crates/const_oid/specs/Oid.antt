@@ -3,12 +3,12 @@ use Rattle.std.specs.Prelude.{ℕ, List, Result}
 use Rattle.std.specs.Result.{result_map_both}
 use Rattle.const_oid.specs.declared.error.Error.{Error}
 use Rattle.const_oid.specs.declared.oid.ObjectIdentifier.{ObjectIdentifier}
-use Rattle.const_oid.specs.Buffer.{octets_of}
+use Rattle.const_oid.specs.Buffer.{buffer_octets}
 use Rattle.const_oid.specs.Contents.{arcs_of_octets}
 
 -- the octets that it holds
 abbrev pub oid_octets : {N : ℕ} → ObjectIdentifier N → List ℕ
-oid_octets oid = octets_of oid.ber
+oid_octets oid = buffer_octets oid.ber
 
 -- its arcs
 abbrev pub oid_arcs : {N : ℕ} → ObjectIdentifier N → List ℕ

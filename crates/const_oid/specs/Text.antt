@@ -9,8 +9,8 @@ use Rattle.std.specs.Char.{is_ascii_digit}
 use Rattle.std.specs.Str.Parse.{digits_value}
 use Rattle.const_oid.specs.declared.error.Error.{Error}
 use Rattle.const_oid.specs.declared.error.Error.TheVariants.{ArcTooBig, DigitExpected, Empty, RepeatedDot, TrailingDot}
-use Rattle.const_oid.specs.Contents.{arcs_of_octets, octet_answer, borrowed_capacity}
-use Rattle.const_oid.specs.Identifier.{RootRule, max_arc, IsIdentifier, size}
+use Rattle.const_oid.specs.Contents.{octet_answer, borrowed_capacity}
+use Rattle.const_oid.specs.Identifier.{RootRule, max_arc, IsIdentifier}
 use Rattle.const_oid.specs.Error.{fault_if, answer}
 use Rattle.const_oid.specs.Items.{arc_fault, too_few_fault}
 
@@ -112,11 +112,3 @@ octet_text rule octets = result_map_both text_of (λ fault. fault) (octet_answer
 -- the text that a length stands for: that many bytes of the output
 abbrev pub text_in : List ℕ → Result ℕ Error → Result (List ℕ) Error
 text_in out written = result_map_both (λ len. take len out) (λ fault. fault) written
-
--- the arcs that a length stands for: those of that many octets of the output
-abbrev pub bytes_answer : List ℕ → Result ℕ Error → Result (List ℕ) Error
-bytes_answer out written = result_map_both (λ len. arcs_of_octets (take len out)) (λ fault. fault) written
-
--- how many octets the arcs take
-abbrev pub size_answer : Result (List ℕ) Error → Result ℕ Error
-size_answer answer = result_map_both size (λ fault. fault) answer

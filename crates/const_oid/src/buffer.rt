@@ -34,11 +34,11 @@ pub struct Buffer<const SIZE: usize> {
 }
 
 impl<const SIZE: usize> Buffer<SIZE> {
-    ghost use Rattle.const_oid.specs.Buffer.{octets_of};
+    ghost use Rattle.const_oid.specs.Buffer.{buffer_octets};
 
     /// A buffer with no octet in use.
     pub(crate) const fn empty() -> Self
-        ensures { octets_of result ≡ [] }
+        ensures { buffer_octets result ≡ [] }
     {
         Buffer {
             bytes: [0; SIZE],
@@ -51,7 +51,7 @@ impl<const SIZE: usize> Buffer<SIZE> {
     #[inline(always)]
     pub(crate) const fn copied(octets: &[u8]) -> Self
         requires { length octets.now ≤ min SIZE 255 }
-        ensures { octets_of result ≡ octets.now }
+        ensures { buffer_octets result ≡ octets.now }
     {
         let mut buffer = Buffer::empty();
         copy_to(octets, &mut buffer.bytes);
@@ -65,7 +65,7 @@ impl<const SIZE: usize> Buffer<SIZE> {
         requires within { used ≤ min SIZE 255 }
         requires octets { AreOctets (take used bytes) }
         requires zeros { drop used bytes ≡ replicate (SIZE - used) 0 }
-        ensures { octets_of result ≡ take used bytes.entry }
+        ensures { buffer_octets result ≡ take used bytes.entry }
     {
         Buffer {
             bytes,
@@ -79,8 +79,8 @@ impl<const SIZE: usize> Buffer<SIZE> {
     #[inline(always)]
     pub(crate) fn pushed(self, number: u64) -> Result<Self>
         requires { number < 2 ^ 35 }
-        ensures { let long = length (octets_of self.entry) + width number in MatchResult result
-            (λ longer. (long ≤ min SIZE 255) × GoesOn number (octets_of self.entry) (octets_of longer))
+        ensures { let long = length (buffer_octets self.entry) + width number in MatchResult result
+            (λ longer. (long ≤ min SIZE 255) × GoesOn number (buffer_octets self.entry) (buffer_octets longer))
             (λ fault. (fault ≡ Error.Length) × (min SIZE 255 < long)) }
     {
         let mut bytes = self.bytes;
@@ -102,7 +102,7 @@ impl<const SIZE: usize> Buffer<SIZE> {
     /// ```
     // erase: const
     pub fn as_bytes(&self) -> &[u8]
-        ensures { result.now ≡ octets_of self.now }
+        ensures { result.now ≡ buffer_octets self.now }
     {
         // The lesser of both is `used`. So the compiler sees that it is in range, and makes no panic.
         let used = self.used as usize;
@@ -119,7 +119,7 @@ impl<const SIZE: usize> Buffer<SIZE> {
     /// }
     /// ```
     pub const fn len(&self) -> usize
-        ensures value { result ≡ length (octets_of self.now) }
+        ensures value { result ≡ length (buffer_octets self.now) }
         ensures fits { result ≤ min SIZE 255 }
     {
         self.used as usize
@@ -127,7 +127,7 @@ impl<const SIZE: usize> Buffer<SIZE> {
 
     /// Whether the octets in use are equal, the last first. This is for constants: there a slice costs the compiler.
     pub(crate) const fn is_same(&self, other: &Self) -> bool
-        ensures { IsTrue result ↔ (octets_of self.now ≡ octets_of other.now) }
+        ensures { IsTrue result ↔ (buffer_octets self.now ≡ buffer_octets other.now) }
     {
         if self.used != other.used {
             return false;
@@ -155,8 +155,8 @@ impl<const SIZE: usize> Buffer<SIZE> {
     // erase: const
     #[inline(always)]
     pub fn eq(&self, rhs: &Self) -> bool
-        ensures value { result ≡ pointwise nat_eq (octets_of self.now) (octets_of rhs.now) }
-        ensures meaning { IsTrue result ↔ (octets_of self.now ≡ octets_of rhs.now) }
+        ensures value { result ≡ pointwise nat_eq (buffer_octets self.now) (buffer_octets rhs.now) }
+        ensures meaning { IsTrue result ↔ (buffer_octets self.now ≡ buffer_octets rhs.now) }
     {
         self.used == rhs.used && are_arrays_equal(&self.bytes, &rhs.bytes)
     }
@@ -179,15 +179,15 @@ impl<const SIZE: usize> PartialEq for Buffer<SIZE> {
     ghost use Rattle.std.specs.Prelude.{◌≡◌, ◌↔◌, IsTrue, nat_eq};
     ghost use Rattle.std.specs.Cmp.{on_per, partial_equiv_from_equiv};
     ghost use Rattle.std.specs.Cmp.Lexicographic.{pointwise, nat_list_eq_equiv};
-    ghost use Rattle.const_oid.specs.Buffer.{octets_of};
+    ghost use Rattle.const_oid.specs.Buffer.{buffer_octets};
 
-    ghost eq = { λ a b. pointwise nat_eq (octets_of a) (octets_of b) };
+    ghost eq = { λ a b. pointwise nat_eq (buffer_octets a) (buffer_octets b) };
 
-    ghost laws = { on_per octets_of (partial_equiv_from_equiv nat_list_eq_equiv) };
+    ghost laws = { on_per buffer_octets (partial_equiv_from_equiv nat_list_eq_equiv) };
 
     fn eq(&self, other: &Self) -> bool
-        ensures value { result ≡ pointwise nat_eq (octets_of self.now) (octets_of other.now) }
-        ensures meaning { IsTrue result ↔ (octets_of self.now ≡ octets_of other.now) }
+        ensures value { result ≡ pointwise nat_eq (buffer_octets self.now) (buffer_octets other.now) }
+        ensures meaning { IsTrue result ↔ (buffer_octets self.now ≡ buffer_octets other.now) }
     {
         Self::eq(self, other)
     }
@@ -196,20 +196,20 @@ impl<const SIZE: usize> PartialEq for Buffer<SIZE> {
 impl<const SIZE: usize> Eq for Buffer<SIZE> {
     ghost use Rattle.std.specs.Cmp.{on_equiv};
     ghost use Rattle.std.specs.Cmp.Lexicographic.{nat_list_eq_equiv};
-    ghost use Rattle.const_oid.specs.Buffer.{octets_of};
+    ghost use Rattle.const_oid.specs.Buffer.{buffer_octets};
 
-    ghost laws = { on_equiv octets_of nat_list_eq_equiv };
+    ghost laws = { on_equiv buffer_octets nat_list_eq_equiv };
 }
 
 impl<const SIZE: usize> PartialOrd for Buffer<SIZE> {
     ghost use Rattle.std.specs.Prelude.{Some};
     ghost use Rattle.std.specs.Cmp.{on_po};
-    ghost use Rattle.const_oid.specs.Buffer.{octets_of};
+    ghost use Rattle.const_oid.specs.Buffer.{buffer_octets};
     ghost use Rattle.const_oid.specs.Orders.{shortlex_cmp, shortlex_cmp_po};
 
-    ghost partial_cmp = { λ a b. Some (shortlex_cmp (octets_of a) (octets_of b)) };
+    ghost partial_cmp = { λ a b. Some (shortlex_cmp (buffer_octets a) (buffer_octets b)) };
 
-    ghost laws = { on_po octets_of shortlex_cmp_po };
+    ghost laws = { on_po buffer_octets shortlex_cmp_po };
 
     fn partial_cmp(&self, other: &Self) -> Option<Ordering> {
         Some(self.cmp(other))
@@ -219,20 +219,20 @@ impl<const SIZE: usize> PartialOrd for Buffer<SIZE> {
 impl<const SIZE: usize> Ord for Buffer<SIZE> {
     ghost use Rattle.std.specs.Prelude.{◌≡◌, refl};
     ghost use Rattle.std.specs.Cmp.{on_total};
-    ghost use Rattle.const_oid.specs.Buffer.{octets_of};
+    ghost use Rattle.const_oid.specs.Buffer.{buffer_octets};
     ghost use Rattle.const_oid.specs.Orders.{shortlex_cmp, shortlex_cmp_total, shortlex_cmp_ties};
 
-    ghost cmp = { λ a b. shortlex_cmp (octets_of a) (octets_of b) };
+    ghost cmp = { λ a b. shortlex_cmp (buffer_octets a) (buffer_octets b) };
 
-    ghost total = { on_total octets_of shortlex_cmp_total };
+    ghost total = { on_total buffer_octets shortlex_cmp_total };
 
     ghost matches_partial_cmp = { λ a b. refl };
 
-    ghost matches_eq = { λ a b. shortlex_cmp_ties (octets_of a) (octets_of b) };
+    ghost matches_eq = { λ a b. shortlex_cmp_ties (buffer_octets a) (buffer_octets b) };
 
     #[tactic(auto, using(crate::proofs::ByWords::arrays_cmp))]
     fn cmp(&self, other: &Self) -> Ordering
-        ensures { result ≡ shortlex_cmp (octets_of self.now) (octets_of other.now) }
+        ensures { result ≡ shortlex_cmp (buffer_octets self.now) (buffer_octets other.now) }
     {
         match self.len().cmp(&other.len()) {
             Ordering::Equal => order(&self.bytes, &other.bytes),
@@ -245,9 +245,9 @@ impl<const SIZE: usize> Hash for Buffer<SIZE> {
     ghost use Rattle.std.specs.Hash as fed;
     ghost use Rattle.std.specs.Cmp.Rules.{hashing};
     ghost use Rattle.std.proofs.Common.{rules};
-    ghost use Rattle.const_oid.specs.Buffer.{octets_of};
+    ghost use Rattle.const_oid.specs.Buffer.{buffer_octets};
 
-    ghost hash_input = { λ a. fed.slice fed.u8 (octets_of a) };
+    ghost hash_input = { λ a. fed.slice fed.u8 (buffer_octets a) };
 
     ghost respects_eq = { Prim.search (hashing, rules) };
 

@@ -172,13 +172,14 @@ fn order_few(a: &[u8], b: &[u8]) -> Ordering
     a.len().cmp(&b.len())
 }
 
-/// The lexicographic order of subidentifiers, a shorter one before a longer one: of valid octets, that of their arcs.
+/// The lexicographic order of subidentifiers, a shorter one before a longer one: of valid octets, that of their arcs. If
+/// they are not valid, a subidentifier ends with its first octet below 0x80, or with the last octet.
 ///
 /// At the first octet that differs, both subidentifiers began at the same index. So the one with more octets left is
 /// the longer one, and an octet that ends its subidentifier decides.
 #[tactic(auto, using(crate::proofs::ByParts::ended_parts))]
 #[inline]
-pub(crate) fn order_by_parts(a: &[u8], b: &[u8]) -> Ordering
+pub fn order_by_parts(a: &[u8], b: &[u8]) -> Ordering
     ensures { result ≡ parts_cmp a.now b.now }
 {
     let near = a.len().min(b.len());

@@ -6,7 +6,7 @@ ghost use Rattle.std.specs.Cmp.Lexicographic.{slice_cmp};
 ghost use Rattle.std.specs.Option.{option_map};
 ghost use Rattle.std.specs.Fmt.{DisplaysOnOk, WritesStyledOnOk};
 ghost use Rattle.std.specs.Ordering.{nat_cmp};
-ghost use Rattle.const_oid.specs.Buffer.{octets_of};
+ghost use Rattle.const_oid.specs.Buffer.{buffer_octets};
 ghost use Rattle.const_oid.specs.Contents.{cut, parts_fault, octet_answer};
 ghost use Rattle.const_oid.specs.Text.{text_of, text_fault, text_answer, Denotes, ReturnsLength, ReturnsText, WritesText};
 ghost use Rattle.const_oid.specs.Identifier.{root_rule, usual_capacity, IsEncoding, size};
@@ -43,7 +43,7 @@ use std::str::FromStr;
 #[derive(Copy, Clone, Eq, PartialOrd, Hash)]
 pub struct ObjectIdentifier<const MAX_SIZE: usize> {
     ber: Buffer<MAX_SIZE>,
-    ghost valid: { parts_fault root_rule (cut (octets_of ber)) ≡ None },
+    ghost valid: { parts_fault root_rule (cut (buffer_octets ber)) ≡ None },
 }
 
 /// An identifier of the default capacity, 39 octets.

@@ -10,14 +10,13 @@ ghost use Rattle.std.specs.List.Sorted.{IsPartitionPoint};
 ghost use Rattle.std.specs.Ordering.{nat_cmp, is_lt};
 ghost use Rattle.const_oid.specs.Names.{IsNearestBy};
 ghost use Rattle.const_oid.specs.OidRef.{ref_arcs, ref_octets};
-ghost use Rattle.const_oid.specs.Orders.{parts_cmp};
 ghost use Rattle.const_oid.specs.Private.Prefixes.{IsCommonPrefix};
 ghost use Rattle.const_oid.specs.SortedList.{IsSortedList, has_item_arcs, item_arcs};
 ghost use Rattle.const_oid.specs.Tree.{BeginsWith};
 
-use crate::compare::{are_equal, begins_with, common_parts, order_by_parts};
+pub use crate::compare::order_by_parts;
+use crate::compare::{are_equal, begins_with, common_parts};
 use crate::oid_ref::ObjectIdentifierRef;
-use std::cmp::Ordering;
 use std::result;
 
 /// An item that has contents octets, which need not be valid.
@@ -28,15 +27,6 @@ pub trait Contents {
     /// The contents octets.
     fn contents(&self) -> &[u8]
         ensures { result.now ≡ octets_of self.now };
-}
-
-/// The order of the arcs of octets. If they are not valid, it is that of their parts, each of which ends with its first
-/// octet below 0x80: a longer part is greater, and of equally long ones the octets decide.
-#[inline]
-pub fn order_of(left: &[u8], right: &[u8]) -> Ordering
-    ensures { result ≡ parts_cmp left.now right.now }
-{
-    order_by_parts(left, right)
 }
 
 /// The index of the first item that does not come before an identifier, or the number of items if there is none.

@@ -5,7 +5,7 @@ use Rattle.std.specs.Prelude.{Option, Some, None}
 use Rattle.std.proofs.lemmas.Bool.{cases_lt}
 use Rattle.const_oid.specs.{declared.error.Error.Error, Error.answer}
 use Rattle.const_oid.specs.Identifier.{root_rule, size, encoding_of, IsIdentifier}
-use Rattle.const_oid.specs.{Items.{item_answer, item_fault}, Text.{number_of, pieces_of, size_answer, text_answer, text_fault}}
+use Rattle.const_oid.specs.{Contents.size_answer, Items.{item_answer, item_fault}, Text.{number_of, pieces_of, text_answer, text_fault}}
 use Rattle.const_oid.proofs.{Encodings.encoding_is, Lengths.length_is_size, Texts.{denoted_from_none, text_fault-none}}
 use Rattle.const_oid.proofs.{Enough.all_small, Items.{identifier_from_none, item_fault-none}}
 use Rattle.const_oid_c.specs.{declared.status.Status.Status}

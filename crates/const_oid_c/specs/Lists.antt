@@ -30,13 +30,13 @@ read_fault index before (Ok arcs) = if is_lt (slice_cmp nat_cmp arcs before) the
 read_fault index before (Err fault) = Some (fault_at index fault)
 
 -- the status of the octets at an index, after the arcs of the previous index, if something is wrong
-abbrev pub item_fault : ℕ → List ℕ → List ℕ → Option Status
-item_fault index before octets = read_fault index before (borrowed_answer octets)
+abbrev pub fault_after : ℕ → List ℕ → List ℕ → Option Status
+fault_after index before octets = read_fault index before (borrowed_answer octets)
 
 -- the status of the first item that is wrong, if there is one
 abbrev pub list_fault : ℕ → List ℕ → List Octets → Option Status
 list_fault index before [] = None
-list_fault index before (item ∷ items) = option_or (item_fault index before (octets_at item)) (list_fault (index + 1) (item_arcs octets_at item) items)
+list_fault index before (item ∷ items) = option_or (fault_after index before (octets_at item)) (list_fault (index + 1) (item_arcs octets_at item) items)
 
 -- the status of a list
 abbrev pub list_status : List Octets → Status

@@ -15,7 +15,7 @@ ghost use Rattle.const_oid.specs.Orders.{parts_cmp};
 ghost use Rattle.const_oid.specs.SortedList.{IsSortedList, has_item_arcs, item_arcs};
 ghost use Rattle.const_oid.specs.Tree.{BeginsWith};
 ghost use Rattle.const_oid_c.specs.Results.{borrowed_answer, status_of};
-ghost use Rattle.const_oid_c.specs.Lists.{IsIndexOrNone, arcs_before, fault_at, index_status, item_fault, list_fault, list_status, octets_at, IsFirstUnsorted};
+ghost use Rattle.const_oid_c.specs.Lists.{IsIndexOrNone, arcs_before, fault_at, index_status, fault_after, list_fault, list_status, octets_at, IsFirstUnsorted};
 ghost use Rattle.const_oid_c.specs.Status.{error_status, len_status, none_status};
 
 use crate::status::{NONE, Status, UNSORTED, code_status, error_status, len_status};
@@ -189,11 +189,11 @@ fn read_after<'a>(
     before: Option<ObjectIdentifierRef<'_>>,
     octets: &'a [u8],
 ) -> Result<ObjectIdentifierRef<'a>, Status>
-    ensures none { IfOk result (λ oid. item_fault index (arcs_before before.entry) octets.now ≡ None) }
+    ensures none { IfOk result (λ oid. fault_after index (arcs_before before.entry) octets.now ≡ None) }
     ensures octets { IfOk result (λ oid. ref_octets oid ≡ octets.now) }
     ensures encoding { IfOk result (λ oid. IsEncoding root_rule (ref_arcs oid) octets.now) }
     ensures sorted { IfOk result (λ oid. is_lt (slice_cmp nat_cmp (ref_arcs oid) (arcs_before before.entry)) ≡ false) }
-    ensures status { IfErr result (λ status. item_fault index (arcs_before before.entry) octets.now ≡ Some status) }
+    ensures status { IfErr result (λ status. fault_after index (arcs_before before.entry) octets.now ≡ Some status) }
     ensures code { IfErr result (λ status. 0 < status.code) }
     ensures index { IfErr result (λ status. status.len ≡ index) }
     ensures invalid { IfErr result (λ _. IsEncoding root_rule (arcs_of_octets octets.now) octets.now

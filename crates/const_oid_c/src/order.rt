@@ -13,7 +13,7 @@ ghost use Rattle.const_oid_c.specs.Results.{IsStatusOfBoth, borrowed_answer, own
 use crate::lists::Octets;
 use crate::owned::read_owned;
 use crate::status::{Status, error_status, flag_status, order_number, order_status};
-use const_oid::search::{Contents, order_of};
+use const_oid::search::{Contents, order_by_parts};
 use const_oid::{ObjectIdentifierRef, Result};
 use std::cmp::Ordering;
 
@@ -89,7 +89,7 @@ pub extern "C" fn const_oid_by_arcs(left: &Octets<'_>, right: &Octets<'_>) -> i3
     ensures arcs { (xs ys : List ℕ) → IsEncoding root_rule xs (octets_at left.now)
         → IsEncoding root_rule ys (octets_at right.now) → result ≡ order_number (slice_cmp nat_cmp xs ys) }
 {
-    order_number(order_of(left.contents(), right.contents()))
+    order_number(order_by_parts(left.contents(), right.contents()))
 }
 
 /// Reads two identifiers of any length. The error is that of the first one that is not valid.

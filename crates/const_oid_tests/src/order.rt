@@ -3,7 +3,7 @@
 ghost use Rattle.std.specs.Prelude.{◌≡◌, ◌↔◌, IsTrue, IsOk, IfOk, Some};
 ghost use Rattle.std.specs.Ordering.{nat_cmp};
 ghost use Rattle.std.specs.Cmp.Lexicographic.{slice_cmp};
-ghost use Rattle.const_oid.specs.Buffer.{octets_of};
+ghost use Rattle.const_oid.specs.Buffer.{buffer_octets};
 ghost use Rattle.const_oid.specs.Oid.{oid_octets, oid_arcs};
 ghost use Rattle.const_oid.specs.OidRef.{ref_octets, ref_arcs};
 ghost use Rattle.const_oid.specs.Orders.{shortlex_cmp};
@@ -64,7 +64,7 @@ fn ref_clone_of<'a>(oid: &ObjectIdentifierRef<'a>) -> Result<ObjectIdentifierRef
 /// A caller of `clone`, which is proved and not run: no public function returns a buffer.
 fn buffer_clone_of<const N: usize>(buffer: &Buffer<N>) -> Result<Buffer<N>, AllocError>
     ensures always { IsOk result }
-    ensures equal { IfOk result (λ copy. octets_of copy ≡ octets_of buffer.now) }
+    ensures equal { IfOk result (λ copy. buffer_octets copy ≡ buffer_octets buffer.now) }
 {
     buffer.clone()
 }

@@ -1,7 +1,9 @@
 //! Searches in a sorted array of items: `start_of`, `end_of`, `first_of`, `subtree_of` and `nearest_of`. The order of any
-//! octets: `order_of`.
+//! octets: `order_by_parts`.
 
-use const_oid::search::{Contents, end_of, first_of, nearest_of, order_of, start_of, subtree_of};
+use const_oid::search::{
+    Contents, end_of, first_of, nearest_of, order_by_parts, start_of, subtree_of,
+};
 use const_oid::{Error, ObjectIdentifierRef};
 use std::test::Fail;
 
@@ -231,7 +233,7 @@ const ASCENDING: &[&[u8]] = &[
 /// The first octets of the order whose place to those at an index is wrong.
 fn wrong_order(index: usize, octets: &[u8]) -> Option<&'static [u8]> {
     for (other, right) in ASCENDING.iter().enumerate() {
-        if order_of(octets, right) != index.cmp(&other) {
+        if order_by_parts(octets, right) != index.cmp(&other) {
             return Some(right);
         }
     }

@@ -55,7 +55,7 @@ const IN_C: &[(&str, &str)] = &[
     ("push_arc", "const_oid_push_arc"),
     ("starts_with", "const_oid_starts_with"),
     ("subtree", "const_oid_subtree_range"),
-    ("order_of", "const_oid_by_arcs"),
+    ("order_by_parts", "const_oid_by_arcs"),
     ("start_of", "const_oid_subtree_range"),
     ("end_of", "const_oid_next"),
     ("first_of", "const_oid_find"),

@@ -5,7 +5,7 @@
 use crate::erased::lists::Octets;
 use crate::erased::owned::read_owned;
 use crate::erased::status::{Status, error_status, flag_status, order_number, order_status};
-use const_oid::internal_for_const_oid_c::search::{Contents, order_of};
+use const_oid::internal_for_const_oid_c::search::{Contents, order_by_parts};
 use const_oid::internal_for_const_oid_c::{ObjectIdentifierRef, Result};
 use core::cmp::Ordering;
 
@@ -56,7 +56,7 @@ pub fn const_oid_cmp_owned(left: &[u8], right: &[u8]) -> Status {
 /// Compares two items of a list by their arcs, lexicographically, as `qsort` asks for: -1, 0 or 1. A prefix comes
 /// first. Of octets that are not valid it is the order of their parts, so it is total over any items.
 pub fn const_oid_by_arcs(left: &Octets<'_>, right: &Octets<'_>) -> i32 {
-    order_number(order_of(left.contents(), right.contents()))
+    order_number(order_by_parts(left.contents(), right.contents()))
 }
 
 /// Reads two identifiers of any length. The error is that of the first one that is not valid.

@@ -5,23 +5,15 @@
 //! No search checks the list. Over a list that is not sorted, or with an item that is not valid, the result is
 //! unspecified, but within the list.
 
-use crate::erased::compare::{are_equal, begins_with, common_parts, order_by_parts};
+pub use crate::erased::compare::order_by_parts;
+use crate::erased::compare::{are_equal, begins_with, common_parts};
 use crate::erased::oid_ref::ObjectIdentifierRef;
-use core::cmp::Ordering;
 use core::result;
 
 /// An item that has contents octets, which need not be valid.
 pub trait Contents {
     /// The contents octets.
     fn contents(&self) -> &[u8];
-}
-
-/// The order of the arcs of octets. If they are not valid, it is that of their parts, each of which ends with its first
-/// octet below 0x80: a longer part is greater, and of equally long ones the octets decide.
-#[inline]
-#[must_use]
-pub fn order_of(left: &[u8], right: &[u8]) -> Ordering {
-    order_by_parts(left, right)
 }
 
 /// The index of the first item that does not come before an identifier, or the number of items if there is none.
