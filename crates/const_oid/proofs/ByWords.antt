@@ -1,6 +1,6 @@
 -- Words of eight octets: they are the same where their octets are, and have their lexicographic order.
 use Rattle.std.proofs.Common.{◌≡◌, ◌≢◌, ℕ, zero, suc, ◌+◌, ◌*◌, ◌%◌, ◌^◌, ◌<◌, ◌≤◌, List, [], ◌∷◌, length, take, drop}
-use Rattle.std.proofs.Common.{get_or, slice_index, refl, arith, min, Bool, true, false, nat_eq, IsTrue, Less, Equal}
+use Rattle.std.proofs.Common.{get_or, refl, arith, min, Bool, true, false, nat_eq, IsTrue, Less, Equal}
 use Rattle.std.proofs.Common.{Greater, nat_cmp, w64, pow-suc, rules}
 use Rattle.std.specs.{Int.{from_be_bytes, byte_at, bytes_high_first}, Cmp.nat_cmp_is}
 use Rattle.std.specs.Cmp.Lexicographic.{pointwise, slice_cmp, texts_ties}

@@ -1,5 +1,5 @@
 -- The digits of a number.
-use Rattle.std.proofs.Common.{◌≡◌, Bool, true, false, ℕ, zero, suc, ◌+◌, ◌-◌, ◌/◌, ◌^◌, ◌<◌, ◌≤◌, List, ◌∷◌, ◌++◌, length}
+use Rattle.std.proofs.Common.{◌≡◌, Bool, ℕ, zero, suc, ◌+◌, ◌-◌, ◌/◌, ◌^◌, ◌<◌, ◌≤◌, List, ◌∷◌, ◌++◌, length}
 use Rattle.std.proofs.Common.{drop, ap, append_assoc, ◌∙◌, ◌%◌, arith, decimal, nat_lt, if◌then◌else◌, length-append, pow-suc}
 use Rattle.std.specs.Str.{IsAscii}
 use Rattle.std.proofs.lemmas.{Grind.common_steps, Bool.Decides.nat_tests, List.{drop-drop, drop-set-lt, take_more_set}}
@@ -68,12 +68,6 @@ decimal_many n low high =
 
 pub length_many : (n : ℕ) → 10000 ≤ n → n < 2 ^ 64 → length (decimal n) ≡ length (decimal (n / 10000)) + 4
 length_many n low high = ap length (decimal_many n low high) ∙ length-append _ _
-
-pub length_pair : (n : ℕ) → 100 ≤ n → n < 2 ^ 64 → length (decimal n) ≡ length (decimal (n / 100)) + 2
-length_pair n low high = ap length (decimal_pair n low high) ∙ length-append _ _
-
-pub length_two : (n : ℕ) → 10 ≤ n → n < 2 ^ 64 → 2 ≤ length (decimal n)
-length_two n low high = grind (arith, nat_tests, decimal_two, length_pair)
 
 pub arc_text_short : (is_first : Bool) (arc : ℕ) → arc < 2 ^ 32 → length (arc_text is_first arc) ≤ 11
 arc_text_short is_first arc h = grind (arith, nat_tests, length-decimal-le 10 arc)

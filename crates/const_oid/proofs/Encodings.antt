@@ -1,14 +1,14 @@
 -- Octets without a fault are the encoding of their arcs, and encodings have no fault but their length; each identifier has just one encoding.
-use Rattle.std.proofs.Common.{true, ◌≡◌, ◌≢◌, ℕ, ◌+◌, ◌*◌, ◌/◌, ◌<◌, ◌≤◌, false, List, [], ◌∷◌, length, map, rules}
+use Rattle.std.proofs.Common.{◌≡◌, ◌≢◌, ℕ, ◌+◌, ◌*◌, ◌/◌, ◌<◌, ◌≤◌, false, List, [], ◌∷◌, length, map, rules}
 use Rattle.std.proofs.Common.{slice_index, Some, None, refl, sym, ◌∙◌, arith, lt-ltb, le-ltb, ◌++◌, drop, ap}
 use Rattle.std.specs.{List.{AllByRecursion, AllZip, concat}, Prelude.◌↔◌}
-use Rattle.std.proofs.lemmas.{List.drop-map, Bool.Decides.nat_tests}
+use Rattle.std.proofs.lemmas.List.drop-map
 use Rattle.const_oid.specs.{declared.error.Error.TheVariants.{ArcInvalid, Length}, Identifier.{encoding_of, root_rule}}
 use Rattle.const_oid.specs.{declared.oid_ref.ObjectIdentifierRef.ObjectIdentifierRef, OidRef.{ref_octets, ref_arcs}}
 use Rattle.const_oid.specs.{declared.oid.ObjectIdentifier.ObjectIdentifier, Oid.{oid_octets, oid_arcs}}
 use Rattle.const_oid.specs.Base128.{value_of, IsContinued, AreOctets, IsGroup, group_of}
 use Rattle.const_oid.specs.Identifier.{RootRule, Narrow, Wide, max_arc, IsEncoding, subidentifiers, IsIdentifier}
-use Rattle.const_oid.specs.Contents.{cut, is_finished, begins_with_128, part_fault, first_fault, later_fault}
+use Rattle.const_oid.specs.Contents.{cut, begins_with_128, part_fault, first_fault, later_fault}
 use Rattle.const_oid.specs.Contents.{parts_fault, max_first, octet_fault, arcs_of_octets}
 use Rattle.const_oid.proofs.{Faults.{both_none, below_from_none}, Groups.{small_is, group-small, group_is, same_group}}
 use Rattle.const_oid.proofs.Subidentifiers.{InRange, in_range, arcs_back, numbers_back, first_in_range}
@@ -22,10 +22,6 @@ shortest part h = search rules
 -- the part is the group of a number that is at most the limit
 abbrev IsGroupUpTo : ℕ → List ℕ → Type 0
 IsGroupUpTo limit part = IsGroup (value_of part) part × (value_of part ≤ limit)
-
--- what a part without a fault is not
-pub part_tests : (limit : ℕ) (part : List ℕ) → part_fault limit part ≡ None → (begins_with_128 part ≡ false) × (value_of part ≤ limit) × (is_finished part ≡ true)
-part_tests limit part h = (grind (arith, nat_tests), grind (arith, nat_tests), grind (arith, nat_tests))
 
 part_valid : (limit : ℕ) (part : List ℕ) → IsPart part → part_fault limit part ≡ None → IsGroupUpTo limit part
 part_valid limit part p h = grind (arith, chain_from_part, shortest)

@@ -7,11 +7,11 @@ use Rattle.std.proofs.lemmas.{Bool.Decides.nat_tests, List.{drop_more, drop_all,
 use Rattle.std.proofs.lemmas.List.Splits.{length-slice_split, slice_split_at, slice_split_none}
 use Rattle.const_oid.specs.{Identifier.{root_rule, max_arc, IsEncoding, IsIdentifier}, Items.arc_fault, declared.error.Error.Error}
 use Rattle.const_oid.specs.declared.error.Error.TheVariants.{ArcInvalid, ArcTooBig, DigitExpected, Length, TrailingDot}
-use Rattle.const_oid.specs.{Contents.arcs_of_octets, Base128.width, Private.Octets.{AppendsTo, BeginsBy, IsAppended, IsEncodedIn}}
+use Rattle.const_oid.specs.{Contents.arcs_of_octets, Base128.width, Private.Octets.{AppendsTo, BeginsBy, IsAppended}}
 use Rattle.const_oid.specs.Private.Parser.{pieces_answer, pieces_then, or_trailing, arc_answer, stop_fault}
 use Rattle.const_oid.specs.Private.Parser.{AreDigits, HasFault, IsPiece, IsRoot}
 use Rattle.const_oid.specs.Text.{pieces_of, number_of, is_empty, is_one_empty, pieces_fault, text_answer, IsNumber}
-use Rattle.const_oid.proofs.{Items.few_none, Outputs.{IsLonger, longer_by}}
+use Rattle.const_oid.proofs.Outputs.{IsLonger, longer_by}
 use Rattle.const_oid.proofs.{Lists.append-cons, Started.{Encodes, root_encodes, later_encodes}}
 use Rattle.const_oid.proofs.{Faults.{none_from_below, some_from_above}, Encodings.{arcs_of_encoding, encoding_back}}
 use Rattle.const_oid.proofs.Numbers.{number_of_digits, find-none, take_while-digits, find-digits, undotted}
@@ -254,18 +254,5 @@ module _ (capacity : ℕ) (text old : List ℕ) where
   later_written {arc} {end} longer written same less piece result appends =
       let more = longer_by {number = arc} longer written.long same written.begins result appends in
       written_by end result more (later_becomes capacity text more.more written.read less piece result more.appended)
-
-  -- at the end of the text
-  pub all_written : {new : List ℕ} {used end : ℕ} → IsWrittenTo capacity text old new used end → length text ≤ end
-      → IsEncodedIn capacity (text_answer root_rule text capacity) old new used
-  all_written {end} written last = record {
-    octets = written.octets;
-    encoding = written.read.encoding;
-    answer = written.read.answer
-        ∙ rw (drop_all end text last, append-nil, few_none root_rule _ written.read.encoding.identifier) refl;
-    long = written.long;
-    within = written.fits;
-    begins = written.begins;
-  }
 
 pub ruleset digits_read = (first_read, digit_read, big_fault, piece_read, byte_fault, first_fault, end_fault, nat_tests)

@@ -208,9 +208,6 @@ module _ {Item : Type 0} (octets_of : Item → List ℕ) (items : List Item) (ar
     pub begins : BeginsWith arcs above
     pub others : Comprises above
 
-  pub reached_itself : IsReached arcs
-  reached_itself = record { begins = ([], sym (append-nil arcs)); others = λ k default inside begun. begun }
-
   module _ (list : IsSortedList octets_of items) where
     far : (i j : ℕ) (d : Item) → i ≤ j → j < length items
         → is_before (item_arcs octets_of (get_or items i d)) (item_arcs octets_of (get_or items j d)) ≡ false

@@ -84,10 +84,6 @@ module _ (rule : RootRule) (capacity : ℕ) where
       arc = grind (arith, nat_tests);
     }
 
-    pub arc_from_piece : piece_fault rule capacity before piece after ≡ None
-        → arc_fault rule capacity before (number_of piece) ≡ None
-    arc_from_piece h = (piece_valid h).arc
-
   -- ---- whole texts
 
   -- an identifier that fits

@@ -1,7 +1,7 @@
 //! The octets of one subidentifier, a number in base 128 (X.690, 8.19.2). In names, they are its `group`.
 
-ghost use Rattle.std.specs.Prelude.{◌≡◌, ℕ, List, ◌++◌, ◌+◌, ◌*◌, ◌%◌, ◌^◌, ◌<◌, ◌≤◌, ◌∷◌, None, Some, length, map, slice_index, take, drop, IfSome, MatchOption};
-ghost use Rattle.const_oid.specs.Base128.{IsGroup, value_of, width};
+ghost use Rattle.std.specs.Prelude.{◌≡◌, ◌+◌, ◌*◌, ◌%◌, ◌^◌, ◌<◌, ◌≤◌, ◌∷◌, None, Some, length, map, slice_index, take, IfSome, MatchOption};
+ghost use Rattle.const_oid.specs.Base128.{value_of, width};
 ghost use Rattle.const_oid.specs.Contents.{cut, later_fault, parts_fault, max_first};
 ghost use Rattle.const_oid.specs.Identifier.{root_rule, max_arc};
 ghost use Rattle.const_oid.specs.Private.Groups.{IsFaulty, IsFirst};

@@ -1,9 +1,9 @@
 //! Names of borrowed identifiers, by binary search in a table that is sorted by arcs.
 
-ghost use Rattle.std.specs.Prelude.{◌≡◌, ◌≤◌, ◌↔◌, length, nat_eq, IfNone, IfSome, IsSome, find, true, false};
+ghost use Rattle.std.specs.Prelude.{◌≡◌, ◌↔◌, nat_eq, IfNone, IfSome, IsSome, find};
 ghost use Rattle.std.specs.Cmp.Lexicographic.{pointwise, slice_cmp};
 ghost use Rattle.std.specs.List.{All};
-ghost use Rattle.std.specs.List.Sorted.{IsPartitionPoint, IsSortedByKey};
+ghost use Rattle.std.specs.List.Sorted.{IsSortedByKey};
 ghost use Rattle.std.specs.Option.{option_copied};
 ghost use Rattle.std.specs.Ordering.{nat_cmp, is_lt};
 ghost use Rattle.std.proofs.Props.{props};
@@ -36,7 +36,7 @@ pub struct SortedDatabase<'a> {
 }
 
 impl<'a> SortedDatabase<'a> {
-    ghost use Rattle.const_oid.specs.Names.{IsNearest, IsSubtree, entry_arcs, first_name, has_arcs, sorted_entries_of};
+    ghost use Rattle.const_oid.specs.Names.{IsNearest, IsSubtree, entry_arcs, first_name, sorted_entries_of};
     ghost use Rattle.const_oid.specs.Tree.{BeginsWith};
 
     /// A database over sorted entries. Their order is not checked, and over unsorted entries the results of lookups are

@@ -1,6 +1,6 @@
 //! Arcs, one after another, to octets.
 
-ghost use Rattle.std.specs.Prelude.{◌≡◌, ◌≤◌, length, min, Err, MatchResult};
+ghost use Rattle.std.specs.Prelude.{◌≡◌, min, Err, MatchResult};
 ghost use Rattle.const_oid.specs.Identifier.{root_rule};
 ghost use Rattle.const_oid.specs.Items.{item_answer, TakesItems};
 ghost use Rattle.std.specs.Iterator.{IsFiniteIterable};

@@ -1,11 +1,10 @@
 //! Arcs as text: their decimals joined by dots.
-ghost use Rattle.std.specs.Prelude.{◌≡◌, ℕ, ◌+◌, ◌*◌, ◌<◌, ◌≤◌, List, ◌∷◌, ◌++◌, length, take, drop, false, MatchOption, IfOk};
+ghost use Rattle.std.specs.Prelude.{◌≡◌, ◌+◌, ◌*◌, ◌<◌, ◌≤◌, ◌++◌, length, take, drop, false, MatchOption, IfOk};
 ghost use Rattle.std.specs.Result.{result_err};
-ghost use Rattle.const_oid.specs.Base128.{width};
-ghost use Rattle.const_oid.specs.Contents.{cut, parts_fault, max_first, arcs_from, arcs_of_octets};
+ghost use Rattle.const_oid.specs.Contents.{cut, parts_fault, arcs_of_octets};
 ghost use Rattle.const_oid.specs.Identifier.{root_rule};
 ghost use Rattle.const_oid.specs.Text.{text_of};
-ghost use Rattle.const_oid.specs.Private.Text.{arc_text, text_left};
+ghost use Rattle.const_oid.specs.Private.Text.{arc_text};
 
 use crate::Arc;
 use crate::arcs::Arcs;
