@@ -40,7 +40,8 @@ traits! {
     ['a, const N: usize] &'a ObjectIdentifierRef: From<&'a ObjectIdentifier<N>>, TryFrom<&'a [u8], Error = Error>;
     [const N: usize] Buffer<N>: Copy, Clone, Eq, PartialEq, Ord, PartialOrd, Hash, Send, Sync, Unpin, AsRef<[u8]>;
     [] Error: Copy, Clone, Debug, Display, Eq, PartialEq, Ord, PartialOrd, Hash, Send, Sync, std::error::Error;
-    [T: Borrow<ObjectIdentifierRef>] ByArcs<T>: Eq, PartialEq, Ord, PartialOrd, Hash, Display;
+    [T: Borrow<ObjectIdentifierRef>] ByArcs<T>: Borrow<ByArcs<ObjectIdentifierRef>>;
+    [T: Borrow<ObjectIdentifierRef> + ?Sized] ByArcs<T>: Eq, PartialEq, Ord, PartialOrd, Hash, Display, Deref<Target = T>;
     [T: Copy + Debug + Send + Sync] ByArcs<T>: Copy, Clone, Debug, Send, Sync, From<T>;
     ['a] Arcs<'a>: Iterator<Item = Arc>, FusedIterator, Clone, Debug, Send, Sync;
     [T: AssociatedOid] T: DynAssociatedOid;
