@@ -1,7 +1,7 @@
 //! Each form of each function of identifiers beside a model, which is written from docs/RULES.md alone: all octets of
 //! up to three, edges of up to eight, all texts of up to eight bytes over a few, arrays of arcs, and long ones.
 
-use const_oid::{Arc, ByArcs, Error, ObjectIdentifier, ObjectIdentifierRef};
+use const_oid::{Arc, Arcs, ByArcs, Error, ObjectIdentifier, ObjectIdentifierRef};
 use std::borrow::Borrow;
 use std::cmp::Ordering;
 use std::hash::{Hash, Hasher};
@@ -72,8 +72,7 @@ mod model {
         let mut octets = Vec::with_capacity(5 * arcs.len());
         let first = 40 * u64::from(arcs[0]) + u64::from(arcs[1]);
         for number in [first].into_iter().chain(arcs[2..].iter().map(|arc| u64::from(*arc))) {
-            let width = (1..).find(|width| number < 128_u64.pow(*width)).unwrap();
-            for place in (0..width).rev() {
+            for place in (0..width(number)).rev() {
                 let digit = (number / 128_u64.pow(place) % 128) as u8;
                 octets.push(if place > 0 { digit + 128 } else { digit });
             }
@@ -81,21 +80,36 @@ mod model {
         octets
     }
 
-    /// The fault of the last of these arcs, if the ones before have none (cases 5 and 6 of section 5 of RULES).
-    fn arc_fault(arcs: &[Arc], capacity: usize) -> Option<Error> {
-        let arc = *arcs.last()?;
+    /// The number of octets of a subidentifier.
+    fn width(number: u64) -> u32 {
+        (1..).find(|width| number < 128_u64.pow(*width)).unwrap()
+    }
+
+    /// The fault of the last of these arcs, if the ones before have none (cases 5 and 6 of section 5 of RULES). Its octets
+    /// are taken of the room that those before leave.
+    fn arc_fault(arcs: &[Arc], room: &mut usize) -> Option<Error> {
+        let (arc, number) = match arcs {
+            [.., first, arc] if arcs.len() == 2 => (*arc, 40 * u64::from(*first) + u64::from(*arc)),
+            [.., arc] => (*arc, u64::from(*arc)),
+            [] => return None,
+        };
+        let width = if arcs.len() < 2 { 0 } else { width(number) as usize };
         match arcs {
             [first] if *first > 2 => Some(Error::ArcInvalid { arc }),
             [0 | 1, second] if *second > 39 => Some(Error::ArcInvalid { arc }),
-            [_, _, ..] if encoding(arcs).len() > capacity => Some(Error::Length),
-            _ => None,
+            _ if width > *room => Some(Error::Length),
+            _ => {
+                *room -= width;
+                None
+            }
         }
     }
 
     /// Section 6.
     pub fn of_arcs(arcs: &[Arc], capacity: usize) -> Answer {
+        let mut room = capacity;
         for count in 1..=arcs.len() {
-            arc_fault(&arcs[..count], capacity).map_or(Ok(()), Err)?;
+            arc_fault(&arcs[..count], &mut room).map_or(Ok(()), Err)?;
         }
         if arcs.len() < 2 { Err(Error::Empty) } else { Ok(arcs.to_vec()) }
     }
@@ -103,7 +117,7 @@ mod model {
     /// Section 5.
     pub fn of_text(text: &[u8], capacity: usize) -> Answer {
         let pieces: Vec<&[u8]> = text.split(|byte| *byte == b'.').collect();
-        let mut arcs = Vec::new();
+        let (mut arcs, mut room) = (Vec::new(), capacity);
         for (index, piece) in pieces.iter().enumerate() {
             let digits = piece.iter().take_while(|byte| byte.is_ascii_digit());
             let number = number(10, digits.map(|digit| digit - b'0'));
@@ -126,7 +140,7 @@ mod model {
                 return Err(Error::TrailingDot);
             }
             arcs.push(number as Arc);
-            arc_fault(&arcs, capacity).map_or(Ok(()), Err)?;
+            arc_fault(&arcs, &mut room).map_or(Ok(()), Err)?;
         }
         if arcs.len() < 2 { Err(Error::Empty) } else { Ok(arcs) }
     }
@@ -189,34 +203,37 @@ fn check_octets(octets: &[u8]) {
     }
 }
 
-/// A function that writes octets of any length into an output of so many octets.
-fn check_written(size: usize, answer: model::Answer, write: impl FnOnce(&mut [u8]) -> Result<Vec<u8>, Error>) {
+/// A function that writes octets of any length into an output of so many octets. The result is at its start, and the rest
+/// is kept.
+fn check_written(
+    size: usize,
+    answer: &model::Answer,
+    write: impl for<'o> FnOnce(&'o mut [u8]) -> Result<&'o ObjectIdentifierRef, Error>,
+) {
     let mut out = vec![0xA5; size];
-    let octets = answer.map(|arcs| model::encoding(&arcs));
-    assert_eq!(write(&mut out), octets);
-    let len = octets.map_or(0, |octets| {
-        assert!(out.starts_with(&octets));
-        octets.len()
-    });
-    assert!(out[len..].iter().all(|byte| *byte == 0xA5));
+    let start = out.as_ptr();
+    let octets = answer.as_ref().map(|arcs| model::encoding(arcs)).map_err(|fault| *fault);
+    let written = write(&mut out).map(|oid| (oid.as_bytes().as_ptr(), oid.as_bytes().to_vec()));
+    assert_eq!(written, octets.clone().map(|octets| (start, octets)));
+    let octets = octets.unwrap_or_default();
+    assert!(out.starts_with(&octets) && out[octets.len()..].iter().all(|byte| *byte == 0xA5));
 }
 
 /// The functions that write the octets of a text into an output of so many octets.
 fn write_text(text: &str, size: usize) {
     let answer = model::of_text(text.as_bytes(), size);
-    check_written(size, answer.clone(), |out| {
-        ObjectIdentifierRef::new_in(text, out).map(|oid| oid.as_bytes().to_vec())
-    });
-    check_written(size, answer, |out| {
-        ObjectIdentifierRef::from_ascii_in(text.as_bytes(), out).map(|oid| oid.as_bytes().to_vec())
-    });
+    check_written(size, &answer, |out| ObjectIdentifierRef::new_in(text, out));
+    check_written(size, &answer, |out| ObjectIdentifierRef::from_ascii_in(text.as_bytes(), out));
+    #[cfg(feature = "internal-for-const-oid-c")]
+    if let (39, Ok(_)) = (size, &answer) {
+        let parse = const_oid::internal_for_const_oid_c::parser::parse_usual;
+        check_written(size, &answer, |out| parse(text.as_bytes(), out.try_into().unwrap()));
+    }
 }
 
 /// The function that writes the octets of arcs into an output of so many octets.
 fn write_arcs(arcs: &[Arc], size: usize) {
-    check_written(size, model::of_arcs(arcs, size), |out| {
-        ObjectIdentifierRef::from_arcs_in(arcs, out).map(|oid| oid.as_bytes().to_vec())
-    });
+    check_written(size, &model::of_arcs(arcs, size), |out| ObjectIdentifierRef::from_arcs_in(arcs, out));
 }
 
 /// The functions that parse text, at a capacity.
@@ -263,6 +280,25 @@ fn check_forms<const N: usize>(oid: &ObjectIdentifier<N>, borrowed: &ObjectIdent
     }
 }
 
+/// The functions that both forms of a valid identifier have.
+macro_rules! check_values {
+    ($oid:expr, $octets:ident, $arcs:ident, $name:literal) => {
+        let slice: &[u8] = $oid.as_ref();
+        assert_eq!((slice, $oid.as_bytes(), $oid.len()), ($octets, $octets, $arcs.len()));
+        assert!($oid.arcs().eq($arcs.iter().copied()));
+        for index in indices($arcs.len()) {
+            assert_eq!($oid.arc(index), $arcs.get(index).copied());
+        }
+        let text = model::text($arcs);
+        check_text_of($oid, &text, $name);
+        check_encoded(&text, $oid.text_len(), |out| $oid.encode_text(out), |out| $oid.encode_str(out));
+        assert_eq!((fed($oid), fed(ByArcs::of($oid))), (fed($octets), fed($octets)));
+        let (_, parent) = $arcs.split_last().unwrap();
+        let parent = (parent.len() >= 2).then(|| model::encoding(parent));
+        assert_eq!($oid.parent().map(|oid| oid.as_bytes().to_vec()), parent);
+    };
+}
+
 /// The functions of a valid identifier, owned.
 fn check_owned<const N: usize>(octets: &[u8], arcs: &[Arc]) {
     let borrowed = ObjectIdentifierRef::from_bytes(octets).unwrap();
@@ -270,19 +306,7 @@ fn check_owned<const N: usize>(octets: &[u8], arcs: &[Arc]) {
     assert_eq!(copied, ObjectIdentifier::from_bytes_sized(octets));
     let Ok(oid) = copied else { return };
     check_forms(&oid, borrowed);
-    let slice: &[u8] = oid.as_ref();
-    assert_eq!((slice, oid.as_bytes(), oid.len()), (octets, octets, arcs.len()));
-    assert!(oid.arcs().eq(arcs.iter().copied()));
-    for index in indices(arcs.len()) {
-        assert_eq!(oid.arc(index), arcs.get(index).copied());
-    }
-    let text = model::text(arcs);
-    check_text_of(&oid, &text, "ObjectIdentifier");
-    check_encoded(&text, oid.text_len(), |out| oid.encode_text(out), |out| oid.encode_str(out).map(str::len));
-    assert_eq!(fed(&oid), fed(octets));
-    let (_, parent) = arcs.split_last().unwrap();
-    let parent = (parent.len() >= 2).then(|| model::encoding(parent));
-    assert_eq!(oid.parent().map(|oid| oid.as_bytes().to_vec()), parent);
+    check_values!(&oid, octets, arcs, "ObjectIdentifier");
     for arc in [0, 127, 128, 16_384, Arc::MAX] {
         let child = model::encoding(&[arcs, &[arc]].concat());
         let pushed = oid.push_arc(arc).map(|oid| oid.as_bytes().to_vec());
@@ -294,20 +318,21 @@ fn check_owned<const N: usize>(octets: &[u8], arcs: &[Arc]) {
 /// The functions of a valid identifier, borrowed.
 fn check_borrowed(octets: &[u8], arcs: &[Arc]) {
     let oid = ObjectIdentifierRef::from_bytes(octets).unwrap();
-    let slice: &[u8] = oid.as_ref();
-    assert_eq!((slice, oid.as_bytes(), oid.len()), (octets, octets, arcs.len()));
-    assert!(oid.arcs().eq(arcs.iter().copied()));
-    for index in indices(arcs.len()) {
-        assert_eq!(oid.arc(index), arcs.get(index).copied());
-    }
-    let text = model::text(arcs);
-    check_text_of(oid, &text, "ObjectIdentifierRef");
-    check_encoded(&text, oid.text_len(), |out| oid.encode_text(out), |out| oid.encode_str(out).map(str::len));
-    assert_eq!(fed(oid), fed(octets));
-    let (_, parent) = arcs.split_last().unwrap();
-    let parent = (parent.len() >= 2).then(|| model::encoding(parent));
-    assert_eq!(oid.parent().map(|oid| oid.as_bytes().to_vec()), parent);
+    check_values!(oid, octets, arcs, "ObjectIdentifierRef");
+    check_left(oid.arcs(), octets);
     each_capacity!(check_owned(octets, arcs));
+}
+
+/// How many arcs are left, at each of them: no fewer than a fifth of the octets that are left, and no more than these,
+/// besides the second arc, which the first octets hold, too.
+fn check_left(mut arcs: Arcs<'_>, octets: &[u8]) {
+    let ends = octets.iter().enumerate().filter(|(_, octet)| **octet < 0x80).map(|(index, _)| index + 1);
+    let firsts = [(octets.len(), 1), (octets.len() - ends.clone().next().unwrap(), 1)];
+    for (left, held) in firsts.into_iter().chain(ends.map(|end| (octets.len() - end, 0))) {
+        assert_eq!(arcs.size_hint(), (left.div_ceil(5) + held, Some(left + held)), "{octets:02X?}");
+        arcs.next();
+    }
+    assert_eq!((arcs.next(), arcs.size_hint()), (None, (0, Some(0))));
 }
 
 /// Indices at the edges of a list of this length, and far past it.
@@ -333,30 +358,66 @@ fn check_text_of(oid: &(impl std::fmt::Display + std::fmt::Debug + ?Sized), text
         format!("{oid:+?}"),
         format!("{oid:.3?}"),
         format!("{oid:x?}"),
+        format!("{oid:30?}"),
         format!("{oid:>wide$?}"),
     ] {
         assert_eq!(printed, debug);
     }
 }
 
-/// A text written into outputs near its length.
+/// A text written into outputs near its length: the result is at the start, and the rest is kept.
 fn check_encoded(
     text: &str,
     len: usize,
     encode_text: impl Fn(&mut [u8]) -> Option<usize>,
-    encode_str: impl Fn(&mut [u8]) -> Option<usize>,
+    encode_str: impl for<'o> Fn(&'o mut [u8]) -> Option<&'o str>,
 ) {
     assert_eq!(len, text.len());
     for room in [0, 1, len - 1, len, len + 1, 4 * len] {
-        let expected = (room >= len).then_some(len);
-        let written = [text.as_bytes(), &[0xEE].repeat(room.saturating_sub(len))].concat();
-        let untouched = [0xEE].repeat(room);
-        for encode in [&encode_text as &dyn Fn(&mut [u8]) -> Option<usize>, &encode_str] {
-            let mut out = untouched.clone();
-            assert_eq!(encode(&mut out), expected, "{text}, {room}");
-            assert_eq!(out, if room >= len { &written[..] } else { &untouched[..] });
-        }
+        let expected = (room >= len).then_some(text);
+        let written = [expected.unwrap_or("").as_bytes(), &[0xEE].repeat(room - expected.map_or(0, str::len))].concat();
+        let mut out = [0xEE].repeat(room);
+        assert_eq!(encode_text(&mut out), expected.map(str::len), "{text}, {room}");
+        assert_eq!(out, written, "{text}, {room}");
+        out.fill(0xEE);
+        let start = out.as_ptr();
+        assert_eq!(encode_str(&mut out).map(|text| (text.as_ptr(), text.len())), expected.map(|_| (start, len)));
+        assert_eq!(out, written, "{text}, {room}");
     }
+}
+
+/// Each error, with numbers of each length.
+#[test]
+fn writes_errors() {
+    use Error::{ArcInvalid, ArcTooBig, Base128, DigitExpected, Empty, Length, Overflow, RepeatedDot, TrailingDot};
+    let plain = [ArcTooBig, Base128, Empty, Length, Overflow, RepeatedDot, TrailingDot];
+    let edges = (0..10).flat_map(|digits| [10_u32.pow(digits) - 1, 10_u32.pow(digits)]).chain([Arc::MAX]);
+    let arcs = edges.map(|arc| (ArcInvalid { arc }, format!("OID contains out-of-range arc: {arc}")));
+    let bytes =
+        (0..=255).map(|actual| (DigitExpected { actual }, format!("expected digit, got '{}'", char::from(actual))));
+    for (error, text) in plain.map(|error| (error, error.to_string())).into_iter().chain(arcs).chain(bytes) {
+        assert_eq!([format!("{error}"), format!("{error:+#060.3}")], [&*text, &*text]);
+        check_encoded(&text, error.text_len(), |out| error.encode_text(out), |out| error.encode_str(out));
+    }
+}
+
+/// What std's options do with the numbers of an error and of arcs.
+#[test]
+fn debug_has_the_options_of_its_numbers() {
+    let error = Error::ArcInvalid { arc: 999 };
+    let oid = ObjectIdentifier::new_unwrap("2.999");
+    let mut arcs = oid.arcs();
+    arcs.next();
+    for (error, arcs, number) in [
+        (format!("{error:?}"), format!("{arcs:?}"), "999"),
+        (format!("{error:+?}"), format!("{arcs:+?}"), "+999"),
+        (format!("{error:.3?}"), format!("{arcs:.3?}"), "999"),
+        (format!("{error:x?}"), format!("{arcs:x?}"), "3e7"),
+        (format!("{error:30?}"), format!("{arcs:30?}"), "                           999"),
+    ] {
+        assert_eq!((error, arcs), (format!("ArcInvalid {{ arc: {number} }}"), format!("Arcs([{number}])")));
+    }
+    assert_eq!(format!("{error:#?} {arcs:#?}"), "ArcInvalid {\n    arc: 999,\n} Arcs(\n    [\n        999,\n    ],\n)");
 }
 
 /// The functions of two identifiers, in each pair of forms.
@@ -367,6 +428,9 @@ fn check_pair(a: &[u8], b: &[u8]) {
     assert_eq!((x == y, x != y, x.cmp(y), x.partial_cmp(y)), (is_equal, !is_equal, a.cmp(b), Some(a.cmp(b))));
     assert_eq!((x.starts_with(y), x.cmp_arcs(y)), (starts, by_arcs));
     assert_eq!([x < y, x <= y, x > y, x >= y], [a < b, a <= b, a > b, a >= b]);
+    let (s, t) = (ByArcs::of(x), ByArcs::of(y));
+    assert_eq!((s == t, s.cmp(t), s.partial_cmp(t)), (is_equal, by_arcs, Some(by_arcs)));
+    assert_eq!((fed(x) == fed(y), fed(s) == fed(t)), (is_equal, is_equal));
     let (Ok(i), Ok(j)) = (ObjectIdentifier::<255>::try_from(x), ObjectIdentifier::<255>::try_from(y)) else {
         return;
     };
@@ -374,10 +438,33 @@ fn check_pair(a: &[u8], b: &[u8]) {
     assert_eq!((i == j, i != j, i.cmp(&j), i.partial_cmp(&j)), (is_equal, !is_equal, order, Some(order)));
     assert_eq!([i < j, i <= j, i > j, i >= j], [order.is_lt(), order.is_le(), order.is_gt(), order.is_ge()]);
     assert_eq!((i.starts_with(j), i.cmp_arcs(&j), *x == j), (starts, by_arcs, is_equal));
+    assert_eq!((ByArcs(i) == ByArcs(j), ByArcs(i).cmp(&ByArcs(j))), (is_equal, by_arcs));
+    assert_eq!((fed(&i), fed(&ByArcs(i))), (fed(x), fed(s)));
     let Ok(small) = ObjectIdentifier::<39>::try_from(y) else {
         return;
     };
     assert_eq!((i.starts_with(small), i.cmp_arcs(&small), *x == small), (starts, by_arcs, is_equal));
+}
+
+/// Pairs that differ in one octet, at the start, in the midst or late, and those of which one begins with the other.
+#[test]
+fn compares_long_pairs() {
+    for len in [40, 63, 64, 65, 255, 256, 1_001, 4_097, 70_000] {
+        for group in [&[1][..], &[0x81, 1], &[0x8F, 0xFF, 0xFF, 0xFF, 0x7F]] {
+            let octets: Vec<u8> = [0x2A].into_iter().chain(group.iter().copied().cycle()).take(len).collect();
+            let end = octets.iter().rposition(|octet| *octet < 0x80).unwrap() + 1;
+            let octets = &octets[..end];
+            for late in [0, 1, 2, 7, 8, 9, 31, 32, 33, end / 2, end - 1] {
+                let mut other = octets.to_vec();
+                other[end - 1 - late] ^= 2;
+                check_pair(octets, &other);
+                check_pair(&other, octets);
+                let prefix = ObjectIdentifierRef::from_bytes(octets).unwrap().parent().unwrap().as_bytes();
+                check_pair(octets, prefix);
+                check_pair(prefix, &other);
+            }
+        }
+    }
 }
 
 /// Calls a check for all lists of up to `most` items over some, on as many threads as there are cores.
@@ -505,6 +592,15 @@ fn encodes_arcs() {
                 each_capacity!(read_text(&(model::text(&arcs) + end)));
             }
         }
+    }
+    for (len, arc) in [257, 1_001, 70_000].into_iter().flat_map(|len| [(len, 1), (len, 128), (len, u32::MAX)]) {
+        let arcs = [&[2, 999][..], &[arc].repeat(len)].concat();
+        let octets = model::encoding(&arcs);
+        for size in [octets.len() - 1, octets.len(), 5 * arcs.len()] {
+            write_arcs(&arcs, size);
+            write_text(&model::text(&arcs), size);
+        }
+        check_octets(&octets);
     }
 }
 
