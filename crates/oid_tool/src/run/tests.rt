@@ -19,6 +19,10 @@ fn run_over_memory(input: &[u8], output: &mut Vec<u8>) -> Result<(), ToolError>
     run(&mut rest, output)
 }
 
+const BASE128: &str = "error: OID contains arc with invalid base 128 encoding\n";
+
+const TOO_BIG: &str = "error: OID contains arc which is larger than 32-bits\n";
+
 /// Inputs and their outputs.
 const ROWS: [(&str, &str); 68] = [
     ("", ""),
@@ -34,18 +38,9 @@ const ROWS: [(&str, &str); 68] = [
     ("text 2G\n", "error: not hex\n"),
     ("text 2A\r\n", "error: not hex\n"),
     ("text\n", "error: OID value is empty\n"),
-    (
-        "text 2A8001\n",
-        "error: OID contains arc with invalid base 128 encoding\n",
-    ),
-    (
-        "text 2A808080808000\n",
-        "error: OID contains arc with invalid base 128 encoding\n",
-    ),
-    (
-        "text 2A9080808000\n",
-        "error: OID contains arc which is larger than 32-bits\n",
-    ),
+    ("text 2A8001\n", BASE128),
+    ("text 2A808080808000\n", BASE128),
+    ("text 2A9080808000\n", TOO_BIG),
     // Octets and texts whose second arc is past 39, and their neighbours.
     ("text 78\n", "2.40\n"),
     ("text 7F\n", "2.47\n"),
@@ -55,37 +50,16 @@ const ROWS: [(&str, &str); 68] = [
     ("text 883703\n", "2.999.3\n"),
     ("text 8FFFFFFF7F\n", "2.4294967215\n"),
     ("text 908080804F\n", "2.4294967295\n"),
-    (
-        "text 9080808050\n",
-        "error: OID contains arc which is larger than 32-bits\n",
-    ),
-    (
-        "text 9080808080\n",
-        "error: OID contains arc with invalid base 128 encoding\n",
-    ),
-    (
-        "text 90808080D0\n",
-        "error: OID contains arc which is larger than 32-bits\n",
-    ),
-    (
-        "text 80\n",
-        "error: OID contains arc with invalid base 128 encoding\n",
-    ),
-    (
-        "text 8001\n",
-        "error: OID contains arc with invalid base 128 encoding\n",
-    ),
-    (
-        "text FF\n",
-        "error: OID contains arc with invalid base 128 encoding\n",
-    ),
+    ("text 9080808050\n", TOO_BIG),
+    ("text 9080808080\n", BASE128),
+    ("text 90808080D0\n", TOO_BIG),
+    ("text 80\n", BASE128),
+    ("text 8001\n", BASE128),
+    ("text FF\n", BASE128),
     ("hex 2.40\n", "78\n"),
     ("hex 2.999\n", "8837\n"),
     ("hex 2.4294967295\n", "908080804f\n"),
-    (
-        "hex 2.4294967296\n",
-        "error: OID contains arc which is larger than 32-bits\n",
-    ),
+    ("hex 2.4294967296\n", TOO_BIG),
     ("hex 0.40\n", "error: OID contains out-of-range arc: 40\n"),
     ("hex 1.40\n", "error: OID contains out-of-range arc: 40\n"),
     ("hex 3.1\n", "error: OID contains out-of-range arc: 3\n"),
@@ -256,33 +230,18 @@ fn read_fails(failure: Failure) -> bool {
         && output.flushes == 0
 }
 
-/// The first of 14 reads that fails in another way, for this kind of error.
-fn wrong_read(kind: ErrorKind) -> Option<usize> {
-    for at in 1..15 {
-        if !read_fails(Failure { at, kind }) {
-            return Some(at);
-        }
-    }
-    None
-}
-
-/// Whether 14 reads are enough, where the next one would fail.
-fn ends_after_14_reads() -> bool {
-    let mut input = OneByteReader::new(b"parent 1.2.3\n", Failure::at(15));
-    let mut output = SlowWriter::new(64, Failure::none());
-    run(&mut input, &mut output) == Ok(())
-        && input.reads == 14
-        && output.written() == b"1.2\n".as_slice()
-}
-
-/// Each read fails with each kind of error, `Interrupted` among them.
+/// Each of 14 reads fails with each kind of error, `Interrupted` among them, and 14 are enough.
 #[test]
 fn reports_each_failed_read(rt: HostRuntime) {
     for kind in KINDS {
-        let read = wrong_read(kind);
-        assert!(rt; read.is_none(), "read {read:?}, {kind:?}");
+        for at in 1..15 {
+            assert!(rt; read_fails(Failure { at, kind }), "read {at}, {kind:?}");
+        }
     }
-    assert!(rt; ends_after_14_reads());
+    let mut input = OneByteReader::new(b"parent 1.2.3\n", Failure::at(15));
+    let mut output = SlowWriter::new(64, Failure::none());
+    assert!(rt; run(&mut input, &mut output) == Ok(()));
+    assert!(rt; input.reads == 14 && output.written() == b"1.2\n".as_slice());
 }
 
 #[test]
@@ -313,33 +272,18 @@ fn write_fails(failure: Failure) -> bool {
         && written.len() < THREE.1.len()
 }
 
-/// The first of nine writes that fails in another way, for this kind of error.
-fn wrong_write(kind: ErrorKind) -> Option<usize> {
-    for at in 1..10 {
-        if !write_fails(Failure { at, kind }) {
-            return Some(at);
-        }
-    }
-    None
-}
-
-/// Whether nine writes and no flush are enough.
-fn ends_after_9_writes() -> bool {
-    let mut rest = THREE.0;
-    let mut output = SlowWriter::new(3, Failure::at(10));
-    run(&mut rest, &mut output) == Ok(())
-        && output.writes == 9
-        && output.flushes == 0
-        && output.written() == THREE.1
-}
-
+/// Each of nine writes fails with each kind of error, and nine and no flush are enough.
 #[test]
 fn reports_each_failed_write(rt: HostRuntime) {
     for kind in KINDS {
-        let write = wrong_write(kind);
-        assert!(rt; write.is_none(), "write {write:?}, {kind:?}");
+        for at in 1..10 {
+            assert!(rt; write_fails(Failure { at, kind }), "write {at}, {kind:?}");
+        }
     }
-    assert!(rt; ends_after_9_writes());
+    let mut rest = THREE.0;
+    let mut output = SlowWriter::new(3, Failure::at(10));
+    assert!(rt; run(&mut rest, &mut output) == Ok(()));
+    assert!(rt; output.writes == 9 && output.flushes == 0 && output.written() == THREE.1);
 }
 
 #[test]
@@ -348,4 +292,22 @@ fn reports_a_write_that_takes_no_byte(rt: HostRuntime) {
     let mut output = SlowWriter::new(0, Failure::none());
     assert!(rt; run(&mut input, &mut output) == Err(ToolError::Write));
     assert!(rt; output.writes == 1);
+}
+
+/// Errors and their texts.
+const REASONS: [(ToolError, &str); 3] = [
+    (ToolError::Read, "read failed"),
+    (ToolError::Write, "write failed"),
+    (ToolError::TooLong, "input too long"),
+];
+
+#[test]
+fn prints_each_error(rt: HostRuntime) -> Result<(), Fail> {
+    for (error, text) in &REASONS {
+        assert!(rt;
+            format!(in rt.alloc(); "{error}")?.as_str() == *text,
+            "{text}"
+        );
+    }
+    Ok(())
 }
