@@ -1,7 +1,6 @@
 //! Identifiers as constants: the checker reads the octets.
 
 ghost use Rattle.std.specs.Prelude.{◌≡◌, ◌↔◌, [], ◌∷◌, IsTrue};
-ghost use Rattle.const_oid.specs.Oid.{oid_arcs};
 ghost use Rattle.const_oid.specs.OidRef.{ref_arcs};
 
 use const_oid::{ObjectIdentifierRef, Oid};
@@ -23,14 +22,4 @@ pub fn is_ec_public_key(oid: &ObjectIdentifierRef<'_>) -> bool
     ensures { IsTrue result ↔ (ref_arcs oid.now ≡ 1 ∷ 2 ∷ 840 ∷ 10045 ∷ 2 ∷ 1 ∷ []) }
 {
     *oid == EC_PUBLIC_KEY
-}
-
-/// sha256WithRSAEncryption (RFC 8017), as text.
-const SHA256_WITH_RSA: &str = "1.2.840.113549.1.1.11";
-
-/// The identifier of a text that is a constant: the checker reads it as it reads a literal.
-pub fn sha256_with_rsa() -> Oid
-    ensures { oid_arcs result ≡ 1 ∷ 2 ∷ 840 ∷ 113549 ∷ 1 ∷ 1 ∷ 11 ∷ [] }
-{
-    Oid::new_unwrap(SHA256_WITH_RSA)
 }

@@ -4,7 +4,7 @@ ghost use Rattle.std.specs.Prelude.{◌≡◌, ◌≤◌, ◌↔◌, min, IfOk, 
 ghost use Rattle.const_oid.specs.Identifier.{size};
 ghost use Rattle.const_oid.specs.Oid.{oid_arcs};
 ghost use Rattle.const_oid.specs.OidRef.{ref_arcs};
-ghost use Rattle.const_oid.specs.Tree.{child_of};
+ghost use Rattle.const_oid.specs.Tree.{BeginsWith, child_of};
 
 use const_oid::{Arc, Error, ObjectIdentifier, ObjectIdentifierRef, Oid};
 
@@ -15,6 +15,7 @@ pub fn child_in<const N: usize>(
 ) -> Result<ObjectIdentifier<N>, Error>
     ensures fits { IsOk result ↔ (size (child_of (ref_arcs parent.entry) arc) ≤ min N 255) }
     ensures arcs { IfOk result (λ child. oid_arcs child ≡ child_of (ref_arcs parent.entry) arc) }
+    ensures begins { IfOk result (λ child. BeginsWith (oid_arcs child) (ref_arcs parent.entry)) }
 {
     ObjectIdentifier::try_from_ref(parent)?.push_arc(arc)
 }

@@ -12,11 +12,14 @@ use const_oid::{Arc, Error, ObjectIdentifier, ObjectIdentifierRef, Oid};
 use std::alloc::{AllocError, Global};
 use std::cmp::Ordering;
 
-/// rsaEncryption (RFC 8017), by its arcs.
+/// rsaEncryption (RFC 8017), as text.
+const RSA_ENCRYPTION: &str = "1.2.840.113549.1.1.1";
+
+/// The identifier of a text that is a constant: the checker reads it as it reads a literal.
 pub fn rsa_encryption() -> Oid
     ensures { oid_arcs result ≡ 1 ∷ 2 ∷ 840 ∷ 113549 ∷ 1 ∷ 1 ∷ 1 ∷ [] }
 {
-    Oid::new_unwrap("1.2.840.113549.1.1.1")
+    Oid::new_unwrap(RSA_ENCRYPTION)
 }
 
 /// Whether contents octets are those of rsaEncryption.
@@ -24,15 +27,6 @@ pub fn is_rsa_encryption(octets: &[u8]) -> bool
     ensures { IsTrue result ↔ (octets.now ≡ 42 ∷ 134 ∷ 72 ∷ 134 ∷ 247 ∷ 13 ∷ 1 ∷ 1 ∷ 1 ∷ []) }
 {
     octets == Oid::new_unwrap("1.2.840.113549.1.1.1").as_bytes()
-}
-
-/// A child has one arc more than its parent, begins with it, and exists exactly if its octets fit.
-pub fn child(parent: Oid, arc: Arc) -> Result<Oid, Error>
-    ensures fits { IsOk result ↔ (size (child_of (oid_arcs parent) arc) ≤ 39) }
-    ensures arcs { IfOk result (λ child. oid_arcs child ≡ child_of (oid_arcs parent) arc) }
-    ensures begins { IfOk result (λ child. BeginsWith (oid_arcs child) (oid_arcs parent)) }
-{
-    parent.push_arc(arc)
 }
 
 /// Whether an identifier is in the subtree of the enterprises, 1.3.6.1.4.1.
