@@ -2,88 +2,63 @@
 
 use crate::vectors::long_octets;
 use const_oid::{Arc, Error, ObjectIdentifierRef};
-use const_oid_uses::walk::{MAX_NAME, name};
 use std::alloc::{AllocError, Global};
 
-/// How many octets an output has, the start of a text, how many times the middle follows, the middle and the end. Then
-/// the start and the middle of the octets, or the error.
-type Row = (
-    usize,
-    &'static str,
-    usize,
-    &'static str,
-    &'static str,
-    Result<(&'static [u8], &'static [u8]), Error>,
-);
+/// How an identifier begins and what follows any number of times: as text, as octets and as arcs.
+#[derive(Clone, Copy)]
+struct Repeated {
+    text: (&'static str, &'static str),
+    octets: (&'static [u8], &'static [u8]),
+    arcs: (&'static [Arc], Arc),
+}
 
-/// 1.2.1.1.. of 255 and 256 octets, 128 arcs of 635, and an error before and after the place where the output ends.
-const TEXTS: &[Row] = &[
-    (0, "1.2", 0, "", "", Err(Error::Length)),
-    (1, "1.2", 0, "", "", Ok((&[0x2A], &[]))),
-    (254, "1.2", 254, ".1", "", Err(Error::Length)),
-    (255, "1.2", 254, ".1", "", Ok((&[0x2A], &[1]))),
-    (300, "1.2", 254, ".1", "", Ok((&[0x2A], &[1]))),
-    (0, "1.2", 255, ".1", "", Err(Error::Length)),
-    (255, "1.2", 255, ".1", "", Err(Error::Length)),
-    (256, "1.2", 255, ".1", "", Ok((&[0x2A], &[1]))),
-    (300, "1.2", 255, ".1", "", Ok((&[0x2A], &[1]))),
-    (
-        634,
-        "2.4294967295",
-        126,
-        ".4294967295",
-        "",
-        Err(Error::Length),
+/// 1.2.1.1.., with an octet for each arc after the second.
+const SMALL: Repeated = Repeated {
+    text: ("1.2", ".1"),
+    octets: (&[0x2A], &[0x01]),
+    arcs: (&[1, 2], 1),
+};
+
+/// 2.4294967295.4294967295.., with five octets for each arc after the first.
+const LARGE: Repeated = Repeated {
+    text: ("2.4294967295", ".4294967295"),
+    octets: (
+        &[0x90, 0x80, 0x80, 0x80, 0x4F],
+        &[0x8F, 0xFF, 0xFF, 0xFF, 0x7F],
     ),
-    (
-        635,
-        "2.4294967295",
-        126,
-        ".4294967295",
-        "",
-        Ok((MAX_ROOT, MAX_ARC)),
-    ),
-    (
-        640,
-        "2.4294967295",
-        126,
-        ".4294967295",
-        "",
-        Ok((MAX_ROOT, MAX_ARC)),
-    ),
-    (255, "1.2", 255, ".1", ".x", Err(Error::Length)),
-    (
-        256,
-        "1.2",
-        255,
-        ".1",
-        ".x",
-        Err(Error::DigitExpected { actual: b'x' }),
-    ),
-    (255, "1.2", 255, ".1", ".4294967296", Err(Error::Length)),
-    (256, "1.2", 255, ".1", ".4294967296", Err(Error::ArcTooBig)),
-    (255, "1.2", 255, ".1", "..1", Err(Error::Length)),
-    (256, "1.2", 255, ".1", "..1", Err(Error::RepeatedDot)),
-    (254, "1.2", 255, ".1", ".", Err(Error::Length)),
-    (256, "1.2", 255, ".1", ".", Err(Error::TrailingDot)),
-    (0, "1.40", 255, ".1", "", Err(Error::ArcInvalid { arc: 40 })),
-    (300, "3", 255, ".1", "", Err(Error::ArcInvalid { arc: 3 })),
-    (300, "1", 0, "", "", Err(Error::Empty)),
+    arcs: (&[2, 4_294_967_295], 4_294_967_295),
+};
+
+/// An identifier, how many times the rest follows, how many octets an output has, and whether it fits.
+const LENGTHS: &[(Repeated, usize, usize, bool)] = &[
+    (SMALL, 0, 0, false),
+    (SMALL, 0, 1, true),
+    (SMALL, 254, 254, false),
+    (SMALL, 254, 255, true),
+    (SMALL, 254, 300, true),
+    (SMALL, 255, 0, false),
+    (SMALL, 255, 255, false),
+    (SMALL, 255, 256, true),
+    (SMALL, 255, 300, true),
+    (LARGE, 126, 634, false),
+    (LARGE, 126, 635, true),
+    (LARGE, 126, 640, true),
 ];
 
-/// The octets of 2.4294967295, and those of an arc 4294967295.
-const MAX_ROOT: &[u8] = &[0x90, 0x80, 0x80, 0x80, 0x4F];
-
-const MAX_ARC: &[u8] = &[0x8F, 0xFF, 0xFF, 0xFF, 0x7F];
-
-/// Whether an output begins with the octets and goes on as before, or is unchanged after the error.
-fn is_written(out: &[u8], written: Result<usize, Error>, wanted: Result<&[u8], Error>) -> bool {
+/// Whether octets were counted as wanted, and an output begins with them and goes on as before, or is unchanged after
+/// the error.
+fn is_written(
+    out: &[u8],
+    counted: Result<usize, Error>,
+    written: Result<usize, Error>,
+    wanted: Result<&[u8], Error>,
+) -> bool {
     let rest = match (written, wanted) {
         (Ok(len), Ok(octets)) if len == octets.len() && out.starts_with(octets) => &out[len..],
         (Err(error), Err(wanted)) if error == wanted => out,
         _ => return false,
     };
-    rest.iter().all(|octet| *octet == 0xEE)
+    counted == written && rest.iter().all(|octet| *octet == 0xEE)
 }
 
 /// Whether the identifier that is borrowed in an output has the octets, or the error is the same.
@@ -91,7 +66,7 @@ fn is_borrowed(oid: Result<ObjectIdentifierRef<'_>, Error>, wanted: Result<&[u8]
     oid.map(|oid| oid.as_bytes()) == wanted
 }
 
-/// Whether a text is counted and written as a row says.
+/// Whether a text has these octets in an output of so many, or this error.
 fn is_read(
     alloc: Global,
     text: &[u8],
@@ -102,13 +77,12 @@ fn is_read(
     let counted = ObjectIdentifierRef::bytes_len_from_ascii(text, room);
     let written = ObjectIdentifierRef::bytes_from_ascii(text, &mut out);
     Ok(
-        counted == wanted.map(|octets| octets.len())
-            && is_written(&out, written, wanted)
+        is_written(&out, counted, written, wanted)
             && is_borrowed(ObjectIdentifierRef::from_ascii_in(text, &mut out), wanted),
     )
 }
 
-/// Whether arcs are.
+/// Whether arcs have these octets in an output of so many, or this error.
 fn is_encoded(
     alloc: Global,
     arcs: &[Arc],
@@ -119,120 +93,105 @@ fn is_encoded(
     let counted = ObjectIdentifierRef::bytes_len_from_arcs(arcs, room);
     let written = ObjectIdentifierRef::bytes_from_arcs(arcs, &mut out);
     Ok(
-        counted == wanted.map(|octets| octets.len())
-            && is_written(&out, written, wanted)
+        is_written(&out, counted, written, wanted)
             && is_borrowed(ObjectIdentifierRef::from_arcs_in(arcs, &mut out), wanted),
     )
 }
 
-/// Whether the text of a row is read as it says.
-fn is_text_row(alloc: Global, row: &Row) -> Result<bool, AllocError> {
-    let text = long_octets(
+/// A text, so many times `.1`, and an end.
+fn text_of(
+    alloc: Global,
+    first: (&str, &str),
+    count: usize,
+    end: &str,
+) -> Result<Vec<u8>, AllocError> {
+    long_octets(
         alloc,
-        row.1.as_bytes(),
-        row.2,
-        row.3.as_bytes(),
-        row.4.as_bytes(),
-    )?;
-    match row.5 {
-        Ok((start, middle)) => {
-            let octets = long_octets(alloc, start, row.2, middle, &[])?;
-            is_read(alloc, &text, row.0, Ok(&octets))
-        }
-        Err(error) => is_read(alloc, &text, row.0, Err(error)),
-    }
+        first.0.as_bytes(),
+        count,
+        first.1.as_bytes(),
+        end.as_bytes(),
+    )
 }
 
-#[test]
-fn texts_fit_or_leave_the_output(rt: HostRuntime) -> Result<(), AllocError> {
-    for row in TEXTS {
-        assert!(rt; is_text_row(rt.alloc(), row)?, "{row:?}");
-    }
-    Ok(())
-}
-
-/// How many octets an output has, the first arcs, how many times the last arc follows, and it. Then the start and the
-/// middle of the octets, or the error.
-type ArcRow = (
-    usize,
-    &'static [Arc],
-    usize,
-    Arc,
-    Result<(&'static [u8], &'static [u8]), Error>,
-);
-
-/// The same for arcs.
-const ARCS: &[ArcRow] = &[
-    (0, &[1, 2], 0, 1, Err(Error::Length)),
-    (1, &[1, 2], 0, 1, Ok((&[0x2A], &[]))),
-    (254, &[1, 2], 254, 1, Err(Error::Length)),
-    (255, &[1, 2], 254, 1, Ok((&[0x2A], &[1]))),
-    (255, &[1, 2], 255, 1, Err(Error::Length)),
-    (256, &[1, 2], 255, 1, Ok((&[0x2A], &[1]))),
-    (300, &[1, 2], 255, 1, Ok((&[0x2A], &[1]))),
-    (
-        634,
-        &[2, 4_294_967_295],
-        126,
-        4_294_967_295,
-        Err(Error::Length),
-    ),
-    (
-        635,
-        &[2, 4_294_967_295],
-        126,
-        4_294_967_295,
-        Ok((MAX_ROOT, MAX_ARC)),
-    ),
-    (
-        640,
-        &[2, 4_294_967_295],
-        126,
-        4_294_967_295,
-        Ok((MAX_ROOT, MAX_ARC)),
-    ),
-    (0, &[1, 40], 255, 1, Err(Error::ArcInvalid { arc: 40 })),
-    (300, &[3], 255, 1, Err(Error::ArcInvalid { arc: 3 })),
-    (300, &[1], 0, 1, Err(Error::Empty)),
-    (0, &[], 0, 1, Err(Error::Empty)),
-];
-
-/// The arcs of a row.
-fn arcs_of(alloc: Global, row: &ArcRow) -> Result<Vec<Arc>, AllocError> {
-    let mut arcs = row.1.to_vec(alloc)?;
-    for _ in 0..row.2 {
-        arcs.push(row.3)?;
+/// Some arcs, and then so many times another.
+fn arcs_of(alloc: Global, first: &[Arc], count: usize, arc: Arc) -> Result<Vec<Arc>, AllocError> {
+    let mut arcs = first.to_vec(alloc)?;
+    for _ in 0..count {
+        arcs.push(arc)?;
     }
     Ok(arcs)
 }
 
-/// Whether the arcs of a row are encoded as it says.
-fn is_arc_row(alloc: Global, row: &ArcRow) -> Result<bool, AllocError> {
-    let arcs = arcs_of(alloc, row)?;
-    match row.4 {
-        Ok((start, middle)) => {
-            let octets = long_octets(alloc, start, row.2, middle, &[])?;
-            is_encoded(alloc, &arcs, row.0, Ok(&octets))
-        }
-        Err(error) => is_encoded(alloc, &arcs, row.0, Err(error)),
-    }
+/// Whether the text and the arcs of an identifier have its octets in an output of so many, or are too long for it.
+fn is_length(
+    alloc: Global,
+    oid: Repeated,
+    count: usize,
+    room: usize,
+    fits: bool,
+) -> Result<bool, AllocError> {
+    let text = text_of(alloc, oid.text, count, "")?;
+    let arcs = arcs_of(alloc, oid.arcs.0, count, oid.arcs.1)?;
+    let octets = long_octets(alloc, oid.octets.0, count, oid.octets.1, &[])?;
+    let wanted = if fits {
+        Ok(octets.as_slice())
+    } else {
+        Err(Error::Length)
+    };
+    Ok(is_read(alloc, &text, room, wanted)? && is_encoded(alloc, &arcs, room, wanted)?)
 }
 
 #[test]
-fn arcs_fit_or_leave_the_output(rt: HostRuntime) -> Result<(), AllocError> {
-    for row in ARCS {
-        assert!(rt; is_arc_row(rt.alloc(), row)?, "{row:?}");
+fn octets_fit_or_leave_the_output(rt: HostRuntime) -> Result<(), AllocError> {
+    for (oid, count, room, fits) in LENGTHS {
+        assert!(rt;
+            is_length(rt.alloc(), *oid, *count, *room, *fits)?,
+            "{count} times in {room} octets"
+        );
     }
     Ok(())
 }
 
+/// How many octets an output has, how a text begins, how many times `.1` follows, how it ends, and the error: before
+/// and after the place where the output ends.
+const WRONG_TEXTS: &[(usize, &str, usize, &str, Error)] = &[
+    (255, "1.2", 255, ".x", Error::Length),
+    (256, "1.2", 255, ".x", Error::DigitExpected { actual: b'x' }),
+    (255, "1.2", 255, ".4294967296", Error::Length),
+    (256, "1.2", 255, ".4294967296", Error::ArcTooBig),
+    (255, "1.2", 255, "..1", Error::Length),
+    (256, "1.2", 255, "..1", Error::RepeatedDot),
+    (254, "1.2", 255, ".", Error::Length),
+    (256, "1.2", 255, ".", Error::TrailingDot),
+    (0, "1.40", 255, "", Error::ArcInvalid { arc: 40 }),
+    (300, "3", 255, "", Error::ArcInvalid { arc: 3 }),
+    (300, "1", 0, "", Error::Empty),
+];
+
+/// How many octets an output has, the first arcs, how many times 1 follows, and the error.
+const WRONG_ARCS: &[(usize, &[Arc], usize, Error)] = &[
+    (0, &[1, 40], 255, Error::ArcInvalid { arc: 40 }),
+    (300, &[3], 255, Error::ArcInvalid { arc: 3 }),
+    (300, &[1], 0, Error::Empty),
+    (0, &[], 0, Error::Empty),
+];
+
 #[test]
-fn names_the_arcs_of_a_cell(rt: HostRuntime) {
-    let mut out = [0; MAX_NAME];
-    assert!(rt;
-        is_borrowed(
-            name(&[1, 3, 6, 1, 300], &mut out),
-            Ok(&[0x2B, 6, 1, 0x82, 0x2C])
-        )
-    );
+fn errors_leave_the_output(rt: HostRuntime) -> Result<(), AllocError> {
+    for (room, first, count, end, error) in WRONG_TEXTS {
+        let text = text_of(rt.alloc(), (first, ".1"), *count, end)?;
+        assert!(rt;
+            is_read(rt.alloc(), &text, *room, Err(*error))?,
+            "{room}: {first}, {end}"
+        );
+    }
+    for (room, first, count, error) in WRONG_ARCS {
+        let arcs = arcs_of(rt.alloc(), first, *count, 1)?;
+        assert!(rt;
+            is_encoded(rt.alloc(), &arcs, *room, Err(*error))?,
+            "{room}: {first:?}"
+        );
+    }
+    Ok(())
 }

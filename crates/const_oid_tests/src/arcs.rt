@@ -1,7 +1,7 @@
 //! The arcs of both forms: `len` and `arc`.
 
 use crate::vectors::long_octets;
-use const_oid::{Arc, Error, ObjectIdentifierRef, Oid};
+use const_oid::{Arc, Error, ObjectIdentifier, ObjectIdentifierRef};
 use std::alloc::{AllocError, Global};
 
 /// How octets begin, how many times other octets follow, how they end; how many arcs they have, an index, and the
@@ -19,7 +19,7 @@ type Row = (
 /// 1.2.840.10045.2.1.
 const FIELD: &[u8] = &[0x2A, 0x86, 0x48, 0xCE, 0x3D, 0x02, 0x01];
 
-/// Some rows have 31, 32 and 33 octets. The last arcs of two octets cross the edge of 32.
+/// Some rows have 31, 32 and 33 octets, and so around 64 and 96. The last arcs of two octets cross the edge of 32.
 const ROWS: &[Row] = &[
     (&[0x2A], 0, &[], &[], 2, 1, Some(2)),
     (FIELD, 0, &[], &[], 6, 2, Some(840)),
@@ -32,6 +32,12 @@ const ROWS: &[Row] = &[
     (&[0x2A], 31, &[0x01], &[], 33, 32, Some(1)),
     (&[0x2A], 32, &[0x01], &[], 34, 33, Some(1)),
     (&[0x2A], 32, &[0x01], &[], 34, 34, None),
+    (&[0x2A], 62, &[0x01], &[], 64, 63, Some(1)),
+    (&[0x2A], 63, &[0x01], &[], 65, 64, Some(1)),
+    (&[0x2A], 64, &[0x01], &[], 66, 65, Some(1)),
+    (&[0x2A], 94, &[0x01], &[], 96, 95, Some(1)),
+    (&[0x2A], 95, &[0x01], &[], 97, 96, Some(1)),
+    (&[0x2A], 96, &[0x01], &[], 98, 97, Some(1)),
     (&[0x2A], 15, &[0x81, 0x00], &[], 17, 16, Some(128)),
     (&[], 31, &[0x7F], &[], 32, 31, Some(127)),
     (&[], 32, &[0x7F], &[], 33, 32, Some(127)),
@@ -42,22 +48,22 @@ const ROWS: &[Row] = &[
     (&[0x01], 30, &[0x01], &[0x86, 0x48], 33, 32, Some(840)),
 ];
 
-/// How many arcs borrowed octets have, and the arc at an index.
-fn of_borrowed(octets: &[u8], index: usize) -> Result<(usize, Option<Arc>), Error> {
+/// How many arcs borrowed octets have, the arc at an index, and the one after the last.
+fn of_borrowed(octets: &[u8], index: usize) -> Result<(usize, Option<Arc>, Option<Arc>), Error> {
     let oid = ObjectIdentifierRef::from_bytes(octets)?;
-    Ok((oid.len(), oid.arc(index)))
+    Ok((oid.len(), oid.arc(index), oid.arc(oid.len())))
 }
 
-/// How many arcs owned octets have, and the arc at an index.
-fn of_owned(octets: &[u8], index: usize) -> Result<(usize, Option<Arc>), Error> {
-    let oid = Oid::from_bytes(octets)?;
-    Ok((oid.len(), oid.arc(index)))
+/// The same of owned octets.
+fn of_owned(octets: &[u8], index: usize) -> Result<(usize, Option<Arc>, Option<Arc>), Error> {
+    let oid = ObjectIdentifier::<255>::from_bytes_sized(octets)?;
+    Ok((oid.len(), oid.arc(index), oid.arc(oid.len())))
 }
 
 /// Whether both forms of the octets of a row have the arcs that it says.
 fn has_arcs(alloc: Global, row: &Row) -> Result<bool, AllocError> {
     let octets = long_octets(alloc, row.0, row.1, row.2, row.3)?;
-    let wanted = Ok((row.4, row.6));
+    let wanted = Ok((row.4, row.6, None));
     Ok(
         of_borrowed(octets.as_slice(), row.5) == wanted
             && of_owned(octets.as_slice(), row.5) == wanted,
@@ -68,27 +74,6 @@ fn has_arcs(alloc: Global, row: &Row) -> Result<bool, AllocError> {
 fn counts_arcs_and_finds_each(rt: HostRuntime) -> Result<(), AllocError> {
     for row in ROWS {
         assert!(rt; has_arcs(rt.alloc(), row)?, "{row:?}");
-    }
-    Ok(())
-}
-
-/// Numbers of octets around 32, 64 and 96.
-const LENGTHS: &[usize] = &[31, 32, 33, 63, 64, 65, 95, 96, 97];
-
-/// Whether 1.2 and an octet 01 for each later arc have the last arc at the index of their number, and none after it.
-fn has_last_arc(alloc: Global, len: usize) -> Result<bool, AllocError> {
-    let octets = long_octets(alloc, &[0x2A], len.saturating_sub(1), &[0x01], &[])?;
-    let count = len.saturating_add(1);
-    Ok(
-        of_borrowed(octets.as_slice(), len) == Ok((count, Some(1)))
-            && of_borrowed(octets.as_slice(), count) == Ok((count, None)),
-    )
-}
-
-#[test]
-fn finds_the_last_of_many_arcs(rt: HostRuntime) -> Result<(), AllocError> {
-    for len in LENGTHS {
-        assert!(rt; has_last_arc(rt.alloc(), *len)?, "{len} octets");
     }
     Ok(())
 }

@@ -1,12 +1,12 @@
-//! Texts of identifiers and errors in slices: `encode_text`, `encode_str` and `text_len`.
+//! Texts of identifiers in slices: `encode_text`, `encode_str` and `text_len`.
 
-use crate::errors::MESSAGES;
+use crate::formatter::count_writes;
 use crate::vectors::long_octets;
 use const_oid::{Arc, Error, ObjectIdentifier, ObjectIdentifierRef, Oid};
 use std::alloc::{AllocError, Global};
 
 /// Arcs on both sides of each number of digits, and the texts of 1.2 and the arc.
-pub const ARCS: &[(Arc, &str)] = &[
+const ARCS: &[(Arc, &str)] = &[
     (0, "1.2.0"),
     (9, "1.2.9"),
     (10, "1.2.10"),
@@ -30,7 +30,7 @@ pub const ARCS: &[(Arc, &str)] = &[
 ];
 
 /// Whether an output begins with a text, whose length `text_len` and `encode_text` returned.
-fn has_text(out: &[u8], text: &[u8], len: usize, written: Option<usize>) -> bool {
+pub fn has_text(out: &[u8], text: &[u8], len: usize, written: Option<usize>) -> bool {
     len == text.len() && written == Some(len) && out.starts_with(text)
 }
 
@@ -48,35 +48,22 @@ fn owned_writes(oid: &ObjectIdentifier<255>, text: &[u8], out: &mut [u8]) -> boo
         && oid.encode_str(out).map(str::as_bytes) == Some(text)
 }
 
-/// Whether an error does.
-fn error_writes(error: Error, text: &[u8], out: &mut [u8]) -> bool {
-    let written = error.encode_text(out);
-    has_text(out, text, error.text_len(), written)
-        && error.encode_str(out).map(str::as_bytes) == Some(text)
-}
-
-/// Whether both forms of 1.2 and an arc write this text.
-fn both_write(arc: Arc, text: &[u8]) -> Result<bool, Error> {
+/// Whether both forms of 1.2 and an arc write this text, which prints in one write.
+fn both_write(arc: Arc, text: &str) -> Result<bool, Error> {
     let arcs: &[Arc] = &[1, 2, arc];
     let oid = ObjectIdentifier::<255>::from_arcs_sized(arcs.iter().copied())?;
     let mut out = [0; 16];
-    Ok(owned_writes(&oid, text, &mut out) && borrowed_writes(oid.as_oid_ref(), text, &mut out))
+    Ok(
+        owned_writes(&oid, text.as_bytes(), &mut out)
+            && borrowed_writes(oid.as_oid_ref(), text.as_bytes(), &mut out)
+            && count_writes(&oid, text) == Some(1),
+    )
 }
 
 #[test]
 fn writes_arcs_of_each_number_of_digits(rt: HostRuntime) {
     for (arc, text) in ARCS {
-        assert!(rt; both_write(*arc, text.as_bytes()) == Ok(true), "{text}");
-    }
-}
-
-#[test]
-fn writes_each_error(rt: HostRuntime) {
-    for (error, text) in MESSAGES {
-        assert!(rt;
-            error_writes(*error, text.as_bytes(), &mut [0; 48]),
-            "{text}"
-        );
+        assert!(rt; both_write(*arc, text) == Ok(true), "{text}");
     }
 }
 

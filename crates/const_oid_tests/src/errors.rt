@@ -1,8 +1,10 @@
-//! Errors, compared, copied and printed: `==`, `cmp`, `partial_cmp`, `clone` and Display of `Error`.
+//! Errors, compared, copied and printed: `==`, `cmp`, `partial_cmp`, `clone`, Display, `encode_text`, `encode_str` and
+//! `text_len` of `Error`.
 
 ghost use Rattle.std.specs.Prelude.{◌≡◌, ◌↔◌, IsTrue, IsOk, IfOk, Some};
 ghost use Rattle.const_oid.specs.Error.{error_cmp};
 
+use crate::encode_text::has_text;
 use crate::formatter::{count_writes, prints, prints_as};
 use const_oid::{Arc, Error};
 use std::alloc::{AllocError, Global};
@@ -47,36 +49,32 @@ fn compares_variants_and_then_numbers(rt: HostRuntime) -> Result<(), AllocError>
     Ok(())
 }
 
-/// Errors, and what they print. A byte past ASCII prints as a character.
-pub const MESSAGES: &[(Error, &str)] = &[
-    (
-        Error::ArcInvalid { arc: 3 },
-        "OID contains out-of-range arc: 3",
-    ),
-    (
-        Error::ArcInvalid { arc: 40 },
-        "OID contains out-of-range arc: 40",
-    ),
-    (
-        Error::ArcInvalid { arc: 10000 },
-        "OID contains out-of-range arc: 10000",
-    ),
-    (
-        Error::ArcInvalid { arc: 65535 },
-        "OID contains out-of-range arc: 65535",
-    ),
-    (
-        Error::ArcInvalid { arc: 65536 },
-        "OID contains out-of-range arc: 65536",
-    ),
-    (
-        Error::ArcInvalid { arc: 1000000000 },
-        "OID contains out-of-range arc: 1000000000",
-    ),
-    (
-        Error::ArcInvalid { arc: 4294967295 },
-        "OID contains out-of-range arc: 4294967295",
-    ),
+/// Arcs, and the texts of errors that carry them.
+const ARCS: &[(Arc, &str)] = &[
+    (3, "OID contains out-of-range arc: 3"),
+    (40, "OID contains out-of-range arc: 40"),
+    (10000, "OID contains out-of-range arc: 10000"),
+    (65535, "OID contains out-of-range arc: 65535"),
+    (65536, "OID contains out-of-range arc: 65536"),
+    (1000000000, "OID contains out-of-range arc: 1000000000"),
+    (4294967295, "OID contains out-of-range arc: 4294967295"),
+];
+
+/// Bytes, and the texts of errors that carry them. A byte past ASCII prints as a character.
+const BYTES: &[(u8, &str)] = &[
+    (0x58, "expected digit, got 'X'"),
+    (0, "expected digit, got '\0'"),
+    (9, "expected digit, got '\t'"),
+    (13, "expected digit, got '\r'"),
+    (0x7F, "expected digit, got '\u{7F}'"),
+    (0x80, "expected digit, got '\u{80}'"),
+    (0xC3, "expected digit, got 'Ã'"),
+    (0xEF, "expected digit, got 'ï'"),
+    (0xFF, "expected digit, got 'ÿ'"),
+];
+
+/// The other errors, and their texts.
+const OTHERS: &[(Error, &str)] = &[
     (
         Error::ArcTooBig,
         "OID contains arc which is larger than 32-bits",
@@ -84,42 +82,6 @@ pub const MESSAGES: &[(Error, &str)] = &[
     (
         Error::Base128,
         "OID contains arc with invalid base 128 encoding",
-    ),
-    (
-        Error::DigitExpected { actual: 0x58 },
-        "expected digit, got 'X'",
-    ),
-    (
-        Error::DigitExpected { actual: 0 },
-        "expected digit, got '\0'",
-    ),
-    (
-        Error::DigitExpected { actual: 9 },
-        "expected digit, got '\t'",
-    ),
-    (
-        Error::DigitExpected { actual: 13 },
-        "expected digit, got '\r'",
-    ),
-    (
-        Error::DigitExpected { actual: 0x7F },
-        "expected digit, got '\u{7F}'",
-    ),
-    (
-        Error::DigitExpected { actual: 0x80 },
-        "expected digit, got '\u{80}'",
-    ),
-    (
-        Error::DigitExpected { actual: 0xC3 },
-        "expected digit, got 'Ã'",
-    ),
-    (
-        Error::DigitExpected { actual: 0xEF },
-        "expected digit, got 'ï'",
-    ),
-    (
-        Error::DigitExpected { actual: 0xFF },
-        "expected digit, got 'ÿ'",
     ),
     (Error::Empty, "OID value is empty"),
     (Error::Length, "OID length invalid"),
@@ -131,12 +93,35 @@ pub const MESSAGES: &[(Error, &str)] = &[
     (Error::TrailingDot, "OID ends with invalid trailing '.'"),
 ];
 
-/// Each error prints its text in one write, whatever the options, and reports a failed write.
+/// Whether an error prints a text in one write, whatever the options, reports a failed write, and writes the text to a
+/// slice.
+fn is_text(alloc: Global, error: Error, text: &str) -> Result<bool, AllocError> {
+    let mut out = [0; 48];
+    let written = error.encode_text(&mut out);
+    Ok(
+        has_text(&out, text.as_bytes(), error.text_len(), written)
+            && error.encode_str(&mut out) == Some(text)
+            && count_writes(&error, text) == Some(1)
+            && prints(alloc, &error, text)?,
+    )
+}
+
 #[test]
-fn prints_each_error_in_one_write(rt: HostRuntime) -> Result<(), AllocError> {
-    for (error, text) in MESSAGES {
-        let is_printed = prints(rt.alloc(), error, text)? && count_writes(error, text) == Some(1);
-        assert!(rt; is_printed, "{text}");
+fn has_each_text(rt: HostRuntime) -> Result<(), AllocError> {
+    for (arc, text) in ARCS {
+        assert!(rt;
+            is_text(rt.alloc(), Error::ArcInvalid { arc: *arc }, text)?,
+            "{text}"
+        );
+    }
+    for (actual, text) in BYTES {
+        assert!(rt;
+            is_text(rt.alloc(), Error::DigitExpected { actual: *actual }, text)?,
+            "{text}"
+        );
+    }
+    for (error, text) in OTHERS {
+        assert!(rt; is_text(rt.alloc(), *error, text)?, "{text}");
     }
     Ok(())
 }

@@ -42,16 +42,6 @@ pub fn count_writes<T: Display>(value: &T, text: &str) -> Option<usize> {
     None
 }
 
-/// Prints the Debug text of a value.
-#[derive(Drop)]
-pub struct DebugText<T>(pub T);
-
-impl<T: Debug> Display for DebugText<T> {
-    fn fmt<W: Write>(&self, f: &mut fmt::Formatter<W>) -> fmt::Result {
-        write!(f, "{:?}", self.0)
-    }
-}
-
 /// Prints the Debug texts of a value under options.
 #[derive(Drop)]
 pub struct DebugTexts<T>(pub T);

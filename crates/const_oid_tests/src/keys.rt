@@ -6,7 +6,7 @@ ghost use Rattle.std.specs.Hash.DefaultHasher as sip;
 ghost use Rattle.const_oid.specs.Oid.{oid_octets};
 ghost use Rattle.const_oid.specs.OidRef.{ref_octets};
 
-use crate::vectors::{accepted_rows, read_borrowed, read_owned};
+use crate::vectors::{accepted_rows, parse, read_borrowed, read_owned};
 use const_oid::{Arc, ObjectIdentifier, ObjectIdentifierRef, Oid};
 use std::alloc::Global;
 use std::collections::{BTreeMap, HashMap};
@@ -31,47 +31,27 @@ fn ref_hash_of(oid: &ObjectIdentifierRef<'_>) -> u64
 }
 
 /// The numbers of arcs of the shared rows, by the identifiers of their octets.
-fn hashed(alloc: Global) -> Result<HashMap<Oid, usize>, Fail> {
-    let mut counts = HashMap::new(alloc);
+fn maps(alloc: Global) -> Result<(HashMap<Oid, usize>, BTreeMap<Oid, usize>), Fail> {
+    let mut hashed = HashMap::new(alloc);
+    let mut sorted = BTreeMap::new(alloc);
     for (_, octets, arcs) in accepted_rows() {
-        counts.insert(read_owned(octets)?, arcs.len())?;
+        let oid = read_owned(octets)?;
+        hashed.insert(oid, arcs.len())?;
+        sorted.insert(oid, arcs.len())?;
     }
-    Ok(counts)
-}
-
-/// The numbers of arcs of the shared rows, in the order of the identifiers of their octets.
-fn sorted(alloc: Global) -> Result<BTreeMap<Oid, usize>, Fail> {
-    let mut counts = BTreeMap::new(alloc);
-    for (_, octets, arcs) in accepted_rows() {
-        counts.insert(read_owned(octets)?, arcs.len())?;
-    }
-    Ok(counts)
-}
-
-/// The first text whose identifier is no key of both maps, or that of another number.
-fn wrong_key(hashed: &HashMap<Oid, usize>, sorted: &BTreeMap<Oid, usize>) -> Option<&'static str> {
-    for (text, _, arcs) in accepted_rows() {
-        let Ok(oid) = Oid::new(text) else {
-            return Some(text);
-        };
-        let count = Some(arcs.len());
-        if hashed.get(&oid).copied() != count || sorted.get(&oid).copied() != count {
-            return Some(text);
-        }
-    }
-    None
+    Ok((hashed, sorted))
 }
 
 /// The identifiers of the texts are those keys.
 #[test]
 fn finds_keys_by_text(rt: HostRuntime) -> Result<(), Fail> {
-    let hashed = hashed(rt.alloc())?;
-    let sorted = sorted(rt.alloc())?;
-    assert_eq!(rt; wrong_key(&hashed, &sorted), None);
-    assert_eq!(rt;
-        (hashed.len(), sorted.len()),
-        (accepted_rows().len(), accepted_rows().len())
-    );
+    let (hashed, sorted) = maps(rt.alloc())?;
+    for (text, _, arcs) in accepted_rows() {
+        let oid = parse(text)?;
+        assert!(rt; hashed.get(&oid).copied() == Some(arcs.len()), "{text}");
+        assert!(rt; sorted.get(&oid).copied() == Some(arcs.len()), "{text}");
+    }
+    assert!(rt; hashed.len() == accepted_rows().len() && sorted.len() == accepted_rows().len());
     Ok(())
 }
 

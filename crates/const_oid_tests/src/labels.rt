@@ -1,5 +1,6 @@
 //! Labels of SNMP, as tools print them: `label` and `sorted` of `const_oid_uses::label`.
 
+use crate::sorted_database::entries;
 use crate::vectors::read_borrowed;
 use const_oid::ObjectIdentifier;
 use const_oid::db::SortedDatabase;
@@ -51,10 +52,7 @@ fn is_label(
 
 #[test]
 fn prints_the_nearest_name_and_the_arcs_below_it(rt: HostRuntime) -> Result<(), Fail> {
-    let mut entries = Vec::new(rt.alloc());
-    for (octets, name) in ROWS {
-        entries.push((read_borrowed(octets)?, *name))?;
-    }
+    let entries = entries(rt.alloc(), ROWS)?;
     let names = SortedDatabase::try_new(&entries);
     assert!(rt; names.is_some());
     if let Some(names) = names {

@@ -10,10 +10,6 @@ mod callers;
 #[cfg(test)]
 mod capacity;
 #[cfg(test)]
-mod cmp_arcs;
-#[cfg(test)]
-mod conversions;
-#[cfg(test)]
 mod encode_text;
 #[cfg(test)]
 mod errors;
@@ -34,15 +30,11 @@ mod order;
 #[cfg(test)]
 mod printing;
 #[cfg(test)]
-mod readme;
-#[cfg(test)]
 mod search;
 #[cfg(test)]
 mod short_slices;
 #[cfg(test)]
 mod sorted_database;
-#[cfg(test)]
-mod subtree;
 #[cfg(test)]
 mod texts;
 #[cfg(test)]

@@ -1,4 +1,4 @@
-//! Equality, copies and the orders of both forms: `==`, `clone` and `cmp`.
+//! Equality, copies and the orders of both forms: `==`, `eq_oid`, `clone`, `cmp`, `cmp_arcs` and `subtree`.
 
 ghost use Rattle.std.specs.Prelude.{◌≡◌, ◌↔◌, IsTrue, IsOk, IfOk, Some};
 ghost use Rattle.std.specs.Ordering.{nat_cmp};
@@ -8,10 +8,11 @@ ghost use Rattle.const_oid.specs.Oid.{oid_octets, oid_arcs};
 ghost use Rattle.const_oid.specs.OidRef.{ref_octets, ref_arcs};
 ghost use Rattle.const_oid.specs.Orders.{shortlex_cmp};
 
-use crate::vectors::{ASCENDING, read_borrowed, read_owned};
-use const_oid::{Buffer, ObjectIdentifier, ObjectIdentifierRef};
-use std::alloc::AllocError;
+use crate::vectors::{read_borrowed, read_owned};
+use const_oid::{Buffer, Error, ObjectIdentifier, ObjectIdentifierRef, Oid};
+use std::alloc::{AllocError, Global};
 use std::cmp::Ordering;
+use std::collections::BTreeSet;
 use std::test::Fail;
 
 fn has_same_arcs<const N: usize>(a: &ObjectIdentifier<N>, b: &ObjectIdentifier<N>) -> bool
@@ -110,6 +111,24 @@ fn owned_ones_are_ordered_by_length_first(rt: HostRuntime) -> Result<(), Fail> {
     Ok(())
 }
 
+/// Identifiers in the borrowed order. Those at the indices 1 to 7 begin with 1.2.
+const ASCENDING: &[&[u8]] = &[
+    &[0x00],
+    &[0x2A],
+    &[0x2A, 0x03],
+    &[0x2A, 0x03, 0x04],
+    &[0x2A, 0x7F],
+    &[0x2A, 0x81, 0x00],
+    &[0x2A, 0x81, 0x80, 0x00],
+    &[0x2A, 0xFF, 0x7F],
+    &[0x55],
+    &[0x77],
+    &[0x78],
+    &[0x81, 0x00],
+    &[0x88, 0x37],
+    &[0x88, 0x37, 0x03],
+];
+
 /// Whether borrowed identifiers compare so, and are equal where they tie.
 fn compare_refs(a: &[u8], b: &[u8], order: Ordering) -> Result<bool, Fail> {
     let a = read_borrowed(a)?;
@@ -128,6 +147,119 @@ fn borrowed_ones_are_ordered_by_octets(rt: HostRuntime) -> Result<(), Fail> {
         for (j, b) in ASCENDING.iter().enumerate() {
             assert!(rt; compare_refs(a, b, i.cmp(&j))?, "{a:?} and {b:?}");
         }
+    }
+    Ok(())
+}
+
+/// Two texts, and how the arcs of the first compare to those of the second. A longer subidentifier is the greater
+/// number, whatever its first octet.
+const BY_ARCS: &[(&str, &str, Ordering)] = &[
+    ("0.0", "0.39", Ordering::Less),
+    ("0.39", "1.0", Ordering::Less),
+    ("1.39", "2.0", Ordering::Less),
+    ("2.39", "2.40.0", Ordering::Less),
+    ("2.47", "2.48", Ordering::Less),
+    ("1.2.300", "1.2.16384", Ordering::Less),
+    ("1.2.16384.1", "1.2.300.2", Ordering::Greater),
+    ("1.2.840", "1.2.840.0", Ordering::Less),
+    (
+        "1.2.840.4294967295",
+        "1.2.840.4294967294",
+        Ordering::Greater,
+    ),
+    ("1.2.840", "1.2.840", Ordering::Equal),
+    ("1.3.6.1.255", "1.3.6.1.256", Ordering::Less),
+    ("1.3.6.1.16383", "1.3.6.1.16384", Ordering::Less),
+    ("1.3.6.1.2097152", "1.3.6.1.16384", Ordering::Greater),
+    ("1.3.6.1.255.9", "1.3.6.1.256", Ordering::Less),
+    ("1.3.6.1", "1.3.6.1", Ordering::Equal),
+    ("1.2.128", "1.2.1", Ordering::Greater),
+];
+
+/// Whether the arcs of two texts compare so: in both forms, either way, and owned ones of two capacities; and whether
+/// they are equal where they tie.
+fn compare_arcs(left: &str, right: &str, order: Ordering) -> Result<bool, Error> {
+    let left = Oid::new(left)?;
+    let right = ObjectIdentifier::<255>::new_sized(right)?;
+    let (a, b) = (left.as_oid_ref(), right.as_oid_ref());
+    Ok(
+        left.cmp_arcs(&right) == order
+            && right.cmp_arcs(&left) == order.reverse()
+            && a.cmp_arcs(&b) == order
+            && b.cmp_arcs(&a) == order.reverse()
+            && a.arcs().cmp(b.arcs()) == order
+            && a.eq_oid(&right) == order.is_eq(),
+    )
+}
+
+#[test]
+fn compares_arcs_as_numbers(rt: HostRuntime) {
+    for (left, right, order) in BY_ARCS {
+        assert!(rt;
+            compare_arcs(left, right, *order) == Ok(true),
+            "{left} {right}"
+        );
+    }
+}
+
+/// Lists, a prefix, and the range of those that begin with it.
+const RANGES: &[(&[&[u8]], &[u8], (usize, usize))] = &[
+    (ASCENDING, &[0x2A], (1, 8)),
+    (ASCENDING, &[0x2A, 0x03], (2, 4)),
+    (ASCENDING, &[0x2A, 0x04], (4, 4)),
+    (ASCENDING, &[0x77], (9, 10)),
+    (ASCENDING, &[0x88, 0x37], (12, 14)),
+    (ASCENDING, &[0x89, 0x00], (14, 14)),
+    (&[&[0x2A], &[0x2A]], &[0x2A], (0, 2)),
+    (&[], &[0x2A], (0, 0)),
+];
+
+/// The range of those that begin with a prefix in a list, once it is sorted.
+fn range_of(alloc: Global, list: &[&[u8]], prefix: &[u8]) -> Result<(usize, usize), Fail> {
+    let mut oids = Vec::new(alloc);
+    for octets in list {
+        oids.push(read_borrowed(octets)?)?;
+    }
+    oids.sort()?;
+    Ok(read_borrowed(prefix)?.subtree(&oids))
+}
+
+/// The ranges of the first four rows are the same in the first ten identifiers alone.
+#[test]
+fn finds_ranges(rt: HostRuntime) -> Result<(), Fail> {
+    for (list, prefix, range) in RANGES {
+        assert!(rt;
+            range_of(rt.alloc(), list, prefix)? == *range,
+            "{prefix:?}: {range:?}"
+        );
+    }
+    for (_, prefix, range) in &RANGES[..4] {
+        let found = range_of(rt.alloc(), &ASCENDING[..10], prefix)?;
+        assert!(rt; found == *range, "{prefix:?}: {range:?}");
+    }
+    Ok(())
+}
+
+/// Whether the identifiers that begin with 1.2 are at the indices 1 to 7.
+fn are_adjacent(oids: &BTreeSet<ObjectIdentifierRef<'_>>) -> bool {
+    for (index, oid) in oids.iter().enumerate() {
+        let is_under = oid.arc(0) == Some(1) && oid.arc(1) == Some(2);
+        if is_under != (1..8).contains(&index) {
+            return false;
+        }
+    }
+    true
+}
+
+/// Sorted sets, filled in reverse order.
+#[test]
+fn a_set_keeps_subtrees_together(rt: HostRuntime) -> Result<(), Fail> {
+    for count in [10, ASCENDING.len()] {
+        let mut oids = BTreeSet::new(rt.alloc());
+        for octets in ASCENDING[..count].iter().rev() {
+            oids.insert(read_borrowed(octets)?)?;
+        }
+        assert!(rt; oids.len() == count && are_adjacent(&oids), "{count}");
     }
     Ok(())
 }

@@ -1,11 +1,10 @@
 //! Identifiers of both forms, printed under options and to a target that fails: Display and Debug.
 
-use crate::encode_text::ARCS;
-use crate::formatter::{DebugText, DebugTexts, count_writes, prints, prints_as};
+use crate::formatter::{DebugTexts, count_writes, prints, prints_as};
 use crate::vectors::{long_octets, long_text, read_borrowed, read_owned};
-use const_oid::{Arc, Error, ObjectIdentifier, ObjectIdentifierRef, Oid};
+use const_oid::{Error, ObjectIdentifier, ObjectIdentifierRef};
 use std::alloc::{AllocError, Global};
-use std::fmt::Debug;
+use std::fmt::{Debug, Display};
 use std::test::Fail;
 
 /// Octets, and what they print.
@@ -18,31 +17,59 @@ const ROWS: &[(&[u8], &str)] = &[
         &[0x2A, 0x86, 0x48, 0x86, 0xF7, 0x0D, 0x01, 0x01, 0x01],
         "1.2.840.113549.1.1.1",
     ),
+    (
+        &[0x7F; 20],
+        "2.47.127.127.127.127.127.127.127.127.127.127.127.127.127.127.127.127.127.127.127",
+    ),
 ];
 
-/// Whether both forms of octets print as this text under each option.
+/// The Debug texts of a value under options: each time a name and the text of the value.
+fn debug_texts(alloc: Global, name: &str, text: &str) -> Result<String, AllocError> {
+    format!(in alloc; "{name}({text})|{name}({text})|{name}({text})")
+}
+
+/// Whether a value prints as this text under each option, its Debug texts have this name, and each write that fails is
+/// reported.
+fn prints_both<T: Copy + Debug + Display + Drop>(
+    alloc: Global,
+    value: T,
+    name: &str,
+    text: &str,
+) -> Result<bool, AllocError> {
+    let debug = debug_texts(alloc, name, text)?;
+    Ok(
+        prints(alloc, &value, text)?
+            && count_writes(&value, text).is_some()
+            && count_writes(&DebugTexts(value), debug.as_str()).is_some(),
+    )
+}
+
+/// Whether both forms of octets print as this text.
 fn both_print(alloc: Global, octets: &[u8], text: &str) -> Result<bool, Fail> {
     let borrowed = read_borrowed(octets)?;
     let owned = read_owned(octets)?;
-    Ok(prints(alloc, &borrowed, text)? && prints(alloc, &owned, text)?)
+    Ok(
+        prints_both(alloc, borrowed, "ObjectIdentifierRef", text)?
+            && prints_both(alloc, owned, "ObjectIdentifier", text)?,
+    )
 }
 
 #[test]
-fn options_change_nothing(rt: HostRuntime) -> Result<(), Fail> {
+fn prints_each_row(rt: HostRuntime) -> Result<(), Fail> {
     for (octets, text) in ROWS {
         assert!(rt; both_print(rt.alloc(), octets, text)?, "{text}");
     }
     Ok(())
 }
 
-/// Whether the Debug texts of a value under options are a name and this text.
+/// Whether the Debug texts of a value have this name.
 fn prints_debug<T: Debug + Drop>(
     alloc: Global,
     value: T,
     name: &str,
     text: &str,
 ) -> Result<bool, AllocError> {
-    let debug = format!(in alloc; "{name}({text})|{name}({text})|{name}({text})")?;
+    let debug = debug_texts(alloc, name, text)?;
     Ok(prints_as(&DebugTexts(value), debug.as_str()))
 }
 
@@ -91,65 +118,13 @@ fn prints_count(alloc: Global, count: usize) -> Result<bool, Fail> {
     )
 }
 
-/// Each number of octets up to 520.
+/// Each number of octets up to 520, and some that are past any buffer of a fixed size.
 #[test]
 fn prints_each_length(rt: HostRuntime) -> Result<(), Fail> {
-    for count in 1..=520 {
+    for count in (1..=520).chain([2046, 10_000]) {
         assert!(rt; prints_count(rt.alloc(), count)?, "{count}");
     }
     Ok(())
-}
-
-/// Numbers of octets that are past any buffer of a fixed size.
-#[test]
-fn prints_past_any_buffer(rt: HostRuntime) -> Result<(), Fail> {
-    for count in &[2046, 10_000] {
-        assert!(rt; prints_count(rt.alloc(), *count)?, "{count}");
-    }
-    Ok(())
-}
-
-/// Octets, what Display prints of them, and what Debug prints of both forms.
-type Row = (&'static [u8], &'static str, &'static str, &'static str);
-
-const DEBUG: &[Row] = &[
-    (
-        &[0x2A, 0x03],
-        "1.2.3",
-        "ObjectIdentifierRef(1.2.3)",
-        "ObjectIdentifier(1.2.3)",
-    ),
-    (
-        &[0x2A, 0x86, 0x48, 0x86, 0xF7, 0x0D, 0x01, 0x01, 0x01],
-        "1.2.840.113549.1.1.1",
-        "ObjectIdentifierRef(1.2.840.113549.1.1.1)",
-        "ObjectIdentifier(1.2.840.113549.1.1.1)",
-    ),
-    (
-        &[0x7F; 20],
-        "2.47.127.127.127.127.127.127.127.127.127.127.127.127.127.127.127.127.127.127.127",
-        "ObjectIdentifierRef(2.47.127.127.127.127.127.127.127.127.127.127.127.127.127.127.127.127.127.127.127)",
-        "ObjectIdentifier(2.47.127.127.127.127.127.127.127.127.127.127.127.127.127.127.127.127.127.127.127)",
-    ),
-];
-
-/// Whether each write that fails is reported, of both forms and their Debug texts.
-fn reports_each(row: &Row) -> Result<bool, Error> {
-    let borrowed = ObjectIdentifierRef::from_bytes(row.0)?;
-    let owned = Oid::from_bytes(row.0)?;
-    Ok(
-        count_writes(&borrowed, row.1).is_some()
-            && count_writes(&owned, row.1).is_some()
-            && count_writes(&DebugText(borrowed), row.2).is_some()
-            && count_writes(&DebugText(owned), row.3).is_some(),
-    )
-}
-
-#[test]
-fn reports_each_failed_write(rt: HostRuntime) {
-    for row in DEBUG {
-        assert!(rt; reports_each(row) == Ok(true), "{}", row.1);
-    }
 }
 
 /// Whether 255 octets are printed as this text in more than one write, and the failure of each is reported.
@@ -164,17 +139,4 @@ fn reports_each_failed_write_of_a_long_text(rt: HostRuntime) -> Result<(), Fail>
     let text = long_text(rt.alloc(), "2.47", 254, ".127", "")?;
     assert!(rt; takes_several_writes(text.as_str()) == Ok(true));
     Ok(())
-}
-
-/// In how many writes 1.2 and an arc is printed as this text.
-fn writes_of(arc: Arc, text: &str) -> Result<Option<usize>, Error> {
-    Ok(count_writes(&Oid::from_arcs([1, 2, arc])?, text))
-}
-
-/// A short text is one write.
-#[test]
-fn short_texts_are_one_write(rt: HostRuntime) {
-    for (arc, text) in ARCS {
-        assert!(rt; writes_of(*arc, text) == Ok(Some(1)), "{text}");
-    }
 }

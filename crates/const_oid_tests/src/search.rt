@@ -4,7 +4,7 @@
 use const_oid::search::{
     Contents, end_of, first_of, nearest_of, order_by_parts, start_of, subtree_of,
 };
-use const_oid::{Error, ObjectIdentifierRef};
+use const_oid::{Error, ObjectIdentifierRef, Oid};
 use std::test::Fail;
 
 /// An item with contents octets.
@@ -19,9 +19,9 @@ impl Contents for Item<'_> {
     }
 }
 
-/// The octets of an identifier, and its results: of `start_of`, `end_of`, `first_of`, `subtree_of` and `nearest_of`.
+/// The text of an identifier, and its results: of `start_of`, `end_of`, `first_of`, `subtree_of` and `nearest_of`.
 type Row = (
-    &'static [u8],
+    &'static str,
     usize,
     usize,
     Option<usize>,
@@ -29,14 +29,14 @@ type Row = (
     Option<usize>,
 );
 
-/// Arrays, and rows of identifiers that are sought in them.
-const TABLES: &[(&[Item<'static>], &[Row])] = &[
-    (&[], &[(&[0x2A], 0, 0, None, (0, 0), None)]),
-    (ONE, IN_ONE),
-    (SAME, IN_SAME),
-    (SORTED, IN_SORTED),
-    (STEPS, IN_STEPS),
-    (NO_STEPS, IN_NO_STEPS),
+/// Arrays, the index at which one begins, and rows of identifiers that are sought from there on.
+const TABLES: &[(&[Item<'static>], usize, &[Row])] = &[
+    (&[], 0, &[("1.2", 0, 0, None, (0, 0), None)]),
+    (ONE, 0, IN_ONE),
+    (SAME, 0, IN_SAME),
+    (SORTED, 0, IN_SORTED),
+    (STEPS, 0, IN_STEPS),
+    (STEPS, 1, IN_LATER_STEPS),
 ];
 
 /// 1.2.3.
@@ -44,11 +44,11 @@ const ONE: &[Item<'static>] = &[Item(&[0x2A, 0x03])];
 
 /// A parent, the item, a child, and identifiers before and after them.
 const IN_ONE: &[Row] = &[
-    (&[0x2A], 0, 0, None, (0, 1), None),
-    (&[0x2A, 0x02], 0, 0, None, (0, 0), None),
-    (&[0x2A, 0x03], 0, 1, Some(0), (0, 1), Some(0)),
-    (&[0x2A, 0x03, 0x00], 1, 1, None, (1, 1), Some(0)),
-    (&[0x2A, 0x04], 1, 1, None, (1, 1), None),
+    ("1.2", 0, 0, None, (0, 1), None),
+    ("1.2.2", 0, 0, None, (0, 0), None),
+    ("1.2.3", 0, 1, Some(0), (0, 1), Some(0)),
+    ("1.2.3.0", 1, 1, None, (1, 1), Some(0)),
+    ("1.2.4", 1, 1, None, (1, 1), None),
 ];
 
 /// 1.2.3, three times.
@@ -59,9 +59,9 @@ const SAME: &[Item<'static>] = &[
 ];
 
 const IN_SAME: &[Row] = &[
-    (&[0x2A], 0, 0, None, (0, 3), None),
-    (&[0x2A, 0x03], 0, 3, Some(0), (0, 3), Some(0)),
-    (&[0x2A, 0x03, 0x00], 3, 3, None, (3, 3), Some(0)),
+    ("1.2", 0, 0, None, (0, 3), None),
+    ("1.2.3", 0, 3, Some(0), (0, 3), Some(0)),
+    ("1.2.3.0", 3, 3, None, (3, 3), Some(0)),
 ];
 
 /// 1.2.3, 1.2.3.4 twice, 1.2.256, 1.2.16384 and 2.5.
@@ -76,20 +76,20 @@ const SORTED: &[Item<'static>] = &[
 
 /// From 0.0, which is before all, to 2.6, which is after all.
 const IN_SORTED: &[Row] = &[
-    (&[0x00], 0, 0, None, (0, 0), None),
-    (&[0x2A], 0, 0, None, (0, 5), None),
-    (&[0x2A, 0x03], 0, 1, Some(0), (0, 3), Some(0)),
-    (&[0x2A, 0x03, 0x04], 1, 3, Some(1), (1, 3), Some(1)),
-    (&[0x2A, 0x03, 0x04, 0x05], 3, 3, None, (3, 3), Some(1)),
-    (&[0x2A, 0x03, 0x05], 3, 3, None, (3, 3), Some(0)),
-    (&[0x2A, 0x81, 0x48], 3, 3, None, (3, 3), None),
-    (&[0x2A, 0x82, 0x00], 3, 4, Some(3), (3, 4), Some(3)),
-    (&[0x2A, 0x82, 0x00, 0x01], 4, 4, None, (4, 4), Some(3)),
-    (&[0x2A, 0x82, 0x2C], 4, 4, None, (4, 4), None),
-    (&[0x2A, 0x81, 0x80, 0x00], 4, 5, Some(4), (4, 5), Some(4)),
-    (&[0x55], 5, 6, Some(5), (5, 6), Some(5)),
-    (&[0x55, 0x04], 6, 6, None, (6, 6), Some(5)),
-    (&[0x56], 6, 6, None, (6, 6), None),
+    ("0.0", 0, 0, None, (0, 0), None),
+    ("1.2", 0, 0, None, (0, 5), None),
+    ("1.2.3", 0, 1, Some(0), (0, 3), Some(0)),
+    ("1.2.3.4", 1, 3, Some(1), (1, 3), Some(1)),
+    ("1.2.3.4.5", 3, 3, None, (3, 3), Some(1)),
+    ("1.2.3.5", 3, 3, None, (3, 3), Some(0)),
+    ("1.2.200", 3, 3, None, (3, 3), None),
+    ("1.2.256", 3, 4, Some(3), (3, 4), Some(3)),
+    ("1.2.256.1", 4, 4, None, (4, 4), Some(3)),
+    ("1.2.300", 4, 4, None, (4, 4), None),
+    ("1.2.16384", 4, 5, Some(4), (4, 5), Some(4)),
+    ("2.5", 5, 6, Some(5), (5, 6), Some(5)),
+    ("2.5.4", 6, 6, None, (6, 6), Some(5)),
+    ("2.6", 6, 6, None, (6, 6), None),
 ];
 
 /// 1.2.3, 1.2.3.4.0, 1.2.3.4.5.0, 1.2.3.4.5.6.0 and 1.2.3.4.5.16384.
@@ -103,68 +103,27 @@ const STEPS: &[Item<'static>] = &[
 
 /// Each item before one of these has an arc in common less, up to 1.2.3.
 const IN_STEPS: &[Row] = &[
-    (&[0x2A, 0x03, 0x04], 1, 1, None, (1, 5), Some(0)),
-    (&[0x2A, 0x03, 0x04, 0x05], 2, 2, None, (2, 5), Some(0)),
-    (&[0x2A, 0x03, 0x04, 0x05, 0x06], 3, 3, None, (3, 4), Some(0)),
-    (
-        &[0x2A, 0x03, 0x04, 0x05, 0x06, 0x00, 0x00],
-        4,
-        4,
-        None,
-        (4, 4),
-        Some(3),
-    ),
-    (
-        &[0x2A, 0x03, 0x04, 0x05, 0x06, 0x07, 0x08],
-        4,
-        4,
-        None,
-        (4, 4),
-        Some(0),
-    ),
-    (
-        &[0x2A, 0x03, 0x04, 0x05, 0x81, 0x80, 0x01],
-        5,
-        5,
-        None,
-        (5, 5),
-        Some(0),
-    ),
-    (&[0x2A, 0x04], 5, 5, None, (5, 5), None),
+    ("1.2.3.4", 1, 1, None, (1, 5), Some(0)),
+    ("1.2.3.4.5", 2, 2, None, (2, 5), Some(0)),
+    ("1.2.3.4.5.6", 3, 3, None, (3, 4), Some(0)),
+    ("1.2.3.4.5.6.0.0", 4, 4, None, (4, 4), Some(3)),
+    ("1.2.3.4.5.6.7.8", 4, 4, None, (4, 4), Some(0)),
+    ("1.2.3.4.5.16385", 5, 5, None, (5, 5), Some(0)),
+    ("1.2.4", 5, 5, None, (5, 5), None),
 ];
 
 /// The same without 1.2.3.
-const NO_STEPS: &[Item<'static>] = &[
-    Item(&[0x2A, 0x03, 0x04, 0x00]),
-    Item(&[0x2A, 0x03, 0x04, 0x05, 0x00]),
-    Item(&[0x2A, 0x03, 0x04, 0x05, 0x06, 0x00]),
-    Item(&[0x2A, 0x03, 0x04, 0x05, 0x81, 0x80, 0x00]),
-];
-
-const IN_NO_STEPS: &[Row] = &[
-    (&[0x2A, 0x03, 0x04, 0x05], 1, 1, None, (1, 4), None),
-    (
-        &[0x2A, 0x03, 0x04, 0x05, 0x06, 0x07, 0x08],
-        3,
-        3,
-        None,
-        (3, 3),
-        None,
-    ),
-    (
-        &[0x2A, 0x03, 0x04, 0x05, 0x81, 0x80, 0x01],
-        4,
-        4,
-        None,
-        (4, 4),
-        None,
-    ),
-    (&[0x2B], 4, 4, None, (4, 4), None),
+const IN_LATER_STEPS: &[Row] = &[
+    ("1.2.3.4.5", 1, 1, None, (1, 4), None),
+    ("1.2.3.4.5.6.7.8", 3, 3, None, (3, 3), None),
+    ("1.2.3.4.5.16385", 4, 4, None, (4, 4), None),
+    ("1.3", 4, 4, None, (4, 4), None),
 ];
 
 /// Whether each search in an array has the result of a row.
 fn is_found(items: &[Item<'_>], row: &Row) -> Result<bool, Error> {
-    let oid = ObjectIdentifierRef::from_bytes(row.0)?;
+    let owned = Oid::new(row.0)?;
+    let oid = owned.as_oid_ref();
     Ok(
         start_of(items, &oid) == row.1
             && end_of(items, &oid) == row.2
@@ -174,21 +133,18 @@ fn is_found(items: &[Item<'_>], row: &Row) -> Result<bool, Error> {
     )
 }
 
-/// The octets of the first row of an array that has other results.
-fn wrong_octets(items: &[Item<'_>], rows: &[Row]) -> Option<&'static [u8]> {
-    for row in rows {
-        if is_found(items, row) != Ok(true) {
-            return Some(row.0);
-        }
-    }
-    None
-}
-
 #[test]
 fn finds_each_row(rt: HostRuntime) {
-    for (items, rows) in TABLES {
-        let octets = wrong_octets(items, rows);
-        assert!(rt; octets.is_none(), "{octets:?} in {} items", items.len());
+    for (items, first, rows) in TABLES {
+        let items = items.get(*first..).unwrap_or(&[]);
+        for row in *rows {
+            assert!(rt;
+                is_found(items, row) == Ok(true),
+                "{} in {} items",
+                row.0,
+                items.len()
+            );
+        }
     }
 }
 
@@ -230,20 +186,14 @@ const ASCENDING: &[&[u8]] = &[
     &[0x82, 0x00],
 ];
 
-/// The first octets of the order whose place to those at an index is wrong.
-fn wrong_order(index: usize, octets: &[u8]) -> Option<&'static [u8]> {
-    for (other, right) in ASCENDING.iter().enumerate() {
-        if order_by_parts(octets, right) != index.cmp(&other) {
-            return Some(right);
-        }
-    }
-    None
-}
-
 #[test]
 fn orders_any_octets(rt: HostRuntime) {
-    for (index, octets) in ASCENDING.iter().enumerate() {
-        let other = wrong_order(index, octets);
-        assert!(rt; other.is_none(), "{octets:?} and {other:?}");
+    for (index, left) in ASCENDING.iter().enumerate() {
+        for (other, right) in ASCENDING.iter().enumerate() {
+            assert!(rt;
+                order_by_parts(left, right) == index.cmp(&other),
+                "{left:?} and {right:?}"
+            );
+        }
     }
 }

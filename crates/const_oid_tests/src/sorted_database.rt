@@ -4,9 +4,9 @@ ghost use Rattle.std.specs.Prelude.{◌≡◌, IsOk, IfOk};
 ghost use Rattle.const_oid.specs.Names.{sorted_entries_of};
 ghost use Rattle.const_oid.specs.OidRef.{key_arcs};
 
-use crate::vectors::read_borrowed;
+use crate::vectors::{parse, read_borrowed};
 use const_oid::db::SortedDatabase;
-use const_oid::{ByArcs, Error, ObjectIdentifierRef};
+use const_oid::{ByArcs, ObjectIdentifierRef};
 use std::alloc::{AllocError, Global};
 use std::cmp::Ordering;
 use std::test::Fail;
@@ -25,7 +25,8 @@ fn key_clone_of<'a>(key: &ByArcs<'a>) -> Result<ByArcs<'a>, AllocError>
     key.clone()
 }
 
-type Entry = (ObjectIdentifierRef<'static>, &'static str);
+/// An identifier and its name.
+pub type Entry = (ObjectIdentifierRef<'static>, &'static str);
 
 /// An identifier of 300 octets, 1.3.43.43 and so on.
 const LONG: &[u8] = &[0x2B; 300];
@@ -48,127 +49,60 @@ const TABLE: &[(&[u8], &str)] = &[
     (LONG, "long"),
 ];
 
-/// Octets, the name that the table has for them, the name of the nearest entry, how many entries begin with
-/// them, and the name of the entry after them.
-type Row = (
-    &'static [u8],
-    Option<&'static str>,
-    Option<&'static str>,
-    usize,
-    Option<&'static str>,
-);
+/// What a table finds for an identifier, by indices: its first entry, the nearest one, how many entries begin with it,
+/// and the entry after it.
+type Found = (Option<usize>, Option<usize>, usize, Option<usize>);
 
-const ROWS: &[Row] = &[
-    (&[0x2B], None, None, 11, Some("system")),
-    (&[0x2B, 6, 1, 2, 1], None, None, 9, Some("system")),
-    (
-        &[0x2B, 6, 1, 2, 1, 1],
-        Some("system"),
-        Some("system"),
-        2,
-        Some("sysDescr.0"),
-    ),
-    (
-        &[0x2B, 6, 1, 2, 1, 1, 3, 0],
-        None,
-        Some("system"),
-        0,
-        Some("interfaces"),
-    ),
-    (
-        &[0x2B, 6, 1, 2, 1, 2, 2, 1],
-        None,
-        Some("interfaces"),
-        6,
-        Some("ifDescr.2"),
-    ),
-    (
-        &[0x2B, 6, 1, 2, 1, 2, 2, 1, 2, 2],
-        Some("ifDescr.2"),
-        Some("ifDescr.2"),
-        1,
-        Some("ifDescr.10"),
-    ),
-    (
-        &[0x2B, 6, 1, 2, 1, 2, 2, 1, 2, 10],
-        Some("ifDescr.10"),
-        Some("ifDescr.10"),
-        1,
-        Some("ifDescr.256"),
-    ),
-    (
-        &[0x2B, 6, 1, 2, 1, 2, 2, 1, 2, 0x82, 0],
-        Some("ifDescr.256"),
-        Some("ifDescr.256"),
-        1,
-        Some("ifDescr.16384"),
-    ),
-    (
-        &[0x2B, 6, 1, 2, 1, 2, 2, 1, 10],
-        Some("ifInOctets"),
-        Some("ifInOctets"),
-        2,
-        Some("enterprises"),
-    ),
-    (
-        &[0x2B, 6, 1, 2, 1, 2, 2, 1, 10, 3],
-        None,
-        Some("ifInOctets"),
-        0,
-        Some("enterprises"),
-    ),
-    (
-        &[0x2B, 6, 1, 4, 1, 0xBF, 8, 3, 2],
-        None,
-        Some("enterprises"),
-        0,
-        Some("long"),
-    ),
-    (LONG, Some("long"), Some("long"), 1, None),
-    (&[0x55], None, None, 0, None),
+const ROWS: &[(&str, Found)] = &[
+    ("1.3", (None, None, 11, Some(0))),
+    ("1.3.6.1.2.1", (None, None, 9, Some(0))),
+    ("1.3.6.1.2.1.1", (Some(0), Some(0), 2, Some(1))),
+    ("1.3.6.1.2.1.1.3.0", (None, Some(0), 0, Some(2))),
+    ("1.3.6.1.2.1.2.2.1", (None, Some(2), 6, Some(3))),
+    ("1.3.6.1.2.1.2.2.1.2.2", (Some(3), Some(3), 1, Some(4))),
+    ("1.3.6.1.2.1.2.2.1.2.10", (Some(4), Some(4), 1, Some(5))),
+    ("1.3.6.1.2.1.2.2.1.2.256", (Some(5), Some(5), 1, Some(6))),
+    ("1.3.6.1.2.1.2.2.1.10", (Some(7), Some(7), 2, Some(9))),
+    ("1.3.6.1.2.1.2.2.1.10.3", (None, Some(7), 0, Some(9))),
+    ("1.3.6.1.4.1.8072.3.2", (None, Some(9), 0, Some(10))),
+    ("2.5", (None, None, 0, None)),
 ];
 
-/// The entries of the table.
-fn entries(alloc: Global) -> Result<Vec<Entry>, Fail> {
+/// The entries of rows.
+pub fn entries(alloc: Global, rows: &[(&'static [u8], &'static str)]) -> Result<Vec<Entry>, Fail> {
     let mut entries = Vec::new(alloc);
-    for (octets, name) in TABLE {
+    for (octets, name) in rows {
         entries.push((read_borrowed(octets)?, *name))?;
     }
     Ok(entries)
 }
 
-/// Whether a table finds what a row says.
-fn is_found(names: &SortedDatabase<'_>, row: &Row) -> Result<bool, Error> {
-    let oid = ObjectIdentifierRef::from_bytes(row.0)?;
-    Ok(
-        names.by_oid(&oid) == row.1
-            && names.nearest(oid).map(|entry| entry.1) == row.2
-            && names.subtree(&oid).len() == row.3
-            && names.next_after(&oid).map(|entry| entry.1) == row.4,
-    )
+/// The name of the entry at an index.
+fn name_at(index: Option<usize>) -> Option<&'static str> {
+    TABLE.get(index?).map(|entry| entry.1)
 }
 
-/// The octets of the first row that a table of these entries answers otherwise; no octets if the entries are not
-/// sorted.
-fn wrong_octets(entries: &[Entry]) -> Option<&'static [u8]> {
-    let Some(names) = SortedDatabase::try_new(entries) else {
-        return Some(&[]);
-    };
-    let Ok(names) = clone_of(&names) else {
-        return Some(&[]);
-    };
-    for row in ROWS {
-        if is_found(&names, row) != Ok(true) {
-            return Some(row.0);
-        }
-    }
-    None
+/// Whether a table finds this.
+fn finds(names: &SortedDatabase<'_>, oid: &ObjectIdentifierRef<'_>, found: Found) -> bool {
+    names.by_oid(oid) == name_at(found.0)
+        && names.nearest(*oid).map(|entry| entry.1) == name_at(found.1)
+        && names.subtree(oid).len() == found.2
+        && names.next_after(oid).map(|entry| entry.1) == name_at(found.3)
 }
 
 #[test]
 fn finds_each_row(rt: HostRuntime) -> Result<(), Fail> {
-    let entries = entries(rt.alloc())?;
-    assert_eq!(rt; wrong_octets(&entries), None);
+    let entries = entries(rt.alloc(), TABLE)?;
+    let names = SortedDatabase::try_new(&entries);
+    assert!(rt; names.is_some());
+    if let Some(names) = names {
+        let names = clone_of(&names)?;
+        for (text, found) in ROWS {
+            assert!(rt; finds(&names, &parse(text)?.as_oid_ref(), *found), "{text}");
+        }
+        let last = Some(TABLE.len() - 1);
+        assert!(rt; finds(&names, &read_borrowed(LONG)?, (last, last, 1, None)));
+    }
     Ok(())
 }
 
@@ -182,7 +116,7 @@ fn become_sorted(entries: &mut Vec<Entry>) -> Result<bool, AllocError> {
 /// The entries in reverse order are not a sorted table, and sorted by a key they are one.
 #[test]
 fn sorted_by_key(rt: HostRuntime) -> Result<(), Fail> {
-    let mut entries = entries(rt.alloc())?;
+    let mut entries = entries(rt.alloc(), TABLE)?;
     entries.reverse();
     assert!(rt; become_sorted(&mut entries)?);
     Ok(())

@@ -1,4 +1,4 @@
-//! Identifiers from dotted text: `new`, `parse`, `from_ascii`, `parse_usual` and `new_unwrap`, and `resolve` of long text.
+//! Identifiers from dotted text: `new`, `parse`, `from_ascii` and `parse_usual`, and `resolve` of long text.
 
 use crate::formatter::prints_as;
 use crate::vectors::{is_answer, long_text};
@@ -192,12 +192,4 @@ fn parses_100_000_zeros(rt: HostRuntime) -> Result<(), AllocError> {
         );
     }
     Ok(())
-}
-
-#[test]
-fn parses_a_literal(rt: HostRuntime) {
-    let oid = Oid::new_unwrap("1.2.840.113549.1.1.1");
-    assert!(rt;
-        oid.as_bytes() == [0x2A, 0x86, 0x48, 0x86, 0xF7, 0x0D, 0x01, 0x01, 0x01].as_slice()
-    );
 }

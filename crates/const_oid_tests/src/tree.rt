@@ -103,24 +103,16 @@ const CHILDREN: &[(usize, &[u8], Arc, Result<&[u8], Error>)] = &[
 ];
 
 #[test]
-fn makes_each_child_that_fits(rt: HostRuntime) {
+fn makes_each_child_that_fits(rt: HostRuntime) -> Result<(), AllocError> {
     for (capacity, octets, arc, wanted) in CHILDREN {
         assert!(rt;
             pushes_at(*capacity, octets, *arc, *wanted),
             "{capacity}, {octets:?} and {arc}"
         );
     }
-}
-
-/// Whether 1.2 and 254 more arcs of an octet have no child at the capacity 300.
-fn has_no_child(alloc: Global, arc: Arc) -> Result<bool, AllocError> {
-    let octets = long_octets(alloc, &[0x2A], 254, &[0x01], &[])?;
-    Ok(pushes::<300>(octets.as_slice(), arc, Err(Error::Length)))
-}
-
-#[test]
-fn makes_no_child_of_255_octets(rt: HostRuntime) -> Result<(), AllocError> {
-    assert!(rt; has_no_child(rt.alloc(), 0)?);
+    // No identifier has more than 255 octets.
+    let octets = long_octets(rt.alloc(), &[0x2A], 254, &[0x01], &[])?;
+    assert!(rt; pushes::<300>(octets.as_slice(), 0, Err(Error::Length)));
     Ok(())
 }
 

@@ -179,24 +179,6 @@ const REFUSED_OCTETS: &[(&[u8], Error)] = &[
     (&[0x00, 0x90, 0x80, 0x80, 0x80, 0x80], Error::ArcTooBig),
 ];
 
-/// Identifiers in the borrowed order. Those at the indices 1 to 7 begin with 1.2.
-pub const ASCENDING: &[&[u8]] = &[
-    &[0x00],
-    &[0x2A],
-    &[0x2A, 0x03],
-    &[0x2A, 0x03, 0x04],
-    &[0x2A, 0x7F],
-    &[0x2A, 0x81, 0x00],
-    &[0x2A, 0x81, 0x80, 0x00],
-    &[0x2A, 0xFF, 0x7F],
-    &[0x55],
-    &[0x77],
-    &[0x78],
-    &[0x81, 0x00],
-    &[0x88, 0x37],
-    &[0x88, 0x37, 0x03],
-];
-
 /// The owned identifier of octets, or a failure that names them.
 pub fn read_owned(octets: &[u8]) -> Result<Oid, Fail> {
     match Oid::from_bytes(octets) {

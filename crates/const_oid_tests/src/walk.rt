@@ -1,5 +1,5 @@
-//! Rows of SNMP in the order of a walk (RFC 3416): `next_after` and `next_under` of `const_oid_uses::walk`, and `ByArcs`
-//! as a key.
+//! Rows of SNMP in the order of a walk (RFC 3416): `next_after`, `next_under` and `name` of `const_oid_uses::walk`, and
+//! `ByArcs` as a key.
 
 ghost use Rattle.std.specs.Cmp.Lexicographic.{slice_cmp};
 ghost use Rattle.std.specs.List.Sorted.{IsSortedByKey};
@@ -8,7 +8,7 @@ ghost use Rattle.const_oid.specs.OidRef.{key_arcs};
 
 use const_oid::{ByArcs, Error, ObjectIdentifier, ObjectIdentifierRef, Oid};
 use const_oid_uses::theorems::through_text;
-use const_oid_uses::walk::{next_after, next_under};
+use const_oid_uses::walk::{MAX_NAME, name, next_after, next_under};
 use std::alloc::Global;
 use std::collections::BTreeMap;
 use std::test::Fail;
@@ -150,5 +150,13 @@ fn a_row_over_ipv6_is_past_the_usual_capacity(rt: HostRuntime) -> Result<(), Fai
     assert!(rt; Oid::new(row) == Err(Error::Length));
     assert!(rt; format!(in rt.alloc(); "{oid}")?.as_str() == row);
     assert!(rt; through_text(rt.alloc(), oid)? == Ok(oid));
+    Ok(())
+}
+
+#[test]
+fn names_the_arcs_of_a_cell(rt: HostRuntime) -> Result<(), Error> {
+    let mut out = [0; MAX_NAME];
+    let oid = name(&[1, 3, 6, 1, 300], &mut out)?;
+    assert!(rt; oid.as_bytes() == [0x2B, 6, 1, 0x82, 0x2C].as_slice());
     Ok(())
 }
