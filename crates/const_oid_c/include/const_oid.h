@@ -62,7 +62,7 @@ extern "C" {
 #define CONST_OID_RESTRICT restrict
 #endif
 
-/* A compiler warns where a result is not used. */
+/* A compiler warns where a result is not used: gcc in C even after a cast to void. */
 #if defined(__clang__)
 #define CONST_OID_NODISCARD __attribute__((__warn_unused_result__))
 #elif (defined(__cplusplus) && __cplusplus >= 201703L) || (defined(_MSVC_LANG) && _MSVC_LANG >= 201703L) \
