@@ -210,10 +210,12 @@ static const uint8_t usual[] = {0x2A, 0x86, 0x48, 0xCE, 0x3D, 1}, root[] = {1}, 
 static const uint32_t usual_arcs[] = {1, 2, 840, 10045};
 static const char usual_text[] = "1.2.840.10045";
 static const const_oid_octets usual_list[] = {{root, 1}, {usual, 5}, {usual, 6}, {last, 1}};
-enum { USUAL_LEN = 5, SEARCHED = 8 };
+enum { USUAL_LEN = 5, SEARCHED = 10 };
 
-/* Which identifiers are searched for in a list: the item that varies, its neighbours, and those around the list. */
+/* Which identifiers are searched for in a list: the item that varies, its neighbours, the other items, and those around
+ * the list. */
 static argument searched[SEARCHED];
+static const uint8_t one[] = {1}, two[] = {0x2B}, three[] = {0x2C};
 
 /* The values of an argument beside one that varies. How many. */
 static size_t values_beside(enum kind kind, enum kind lead, argument varied, argument *values) {
@@ -360,14 +362,14 @@ static size_t set_runs(const uint8_t *before, size_t lower, argument item, const
 /* The identifiers beside an item of a few octets or of many. */
 static void search_beside(argument item) {
     static uint8_t longer[MOST], other[MOST];
-    static const uint8_t low[] = {0}, high[] = {0x2C}, above[] = {0x2A}, below[] = {0x2B, 1};
+    static const uint8_t low[] = {0}, above[] = {0x2A}, below[] = {0x2B, 1};
     size_t len = item.len < MOST - 1 ? item.len : 3;
     if (len > 0) memcpy(longer, item.items, len);
     if (len > 0) memcpy(other, item.items, len);
     longer[len] = 1;
     if (len > 0) other[len - 1] ^= 1;
     const argument all[SEARCHED] = {{longer, len}, {longer, len > 0 ? len - 1 : 0}, {longer, len + 1}, {other, len},
-        {low, 1}, {high, 1}, {above, 1}, {below, 2}};
+        {low, 1}, {one, 1}, {above, 1}, {two, 1}, {below, 2}, {three, 1}};
     memcpy(searched, all, sizeof all);
 }
 
@@ -382,8 +384,6 @@ static void with_runs(int lead, argument item, size_t count) {
     search_beside(item);
     with(lead, items, count);
 }
-
-static const uint8_t one[] = {1}, two[] = {0x2B}, three[] = {0x2C};
 
 /* An item of each length, the first one, in the middle and the last one. */
 static void vary_items(int lead, argument item) {
