@@ -2,7 +2,9 @@
 /* Each function of calls.h, by the rules of reference.h: each of its arguments in turn has each length and each number
  * at which code for pointers could cut, and so has each item of a list. Inputs and outputs end at pages that no one may
  * touch. Pages that are mapped and never written take no memory, so lengths pass 2^32 where pointers have 64 bits. A
- * null pointer with a length ends the process. */
+ * null pointer with a length ends the process.
+ *
+ * With -DFUZZED -fsanitize=fuzzer, what libFuzzer gives takes the place of the lengths and numbers. */
 #include "reference.h"
 
 #include <sys/mman.h>
@@ -592,6 +594,28 @@ static void map_arguments(void) {
     }
 }
 
+#ifdef FUZZED
+/* Octets, text or arcs. In a text, what is not ASCII is not UTF-8. */
+int LLVMFuzzerTestOneInput(const uint8_t *data, size_t len) {
+    static uint32_t items[MOST];
+    static uint8_t text[MOST];
+    if (len > MOST) return -1;
+    if (output_pages.start == NULL) map_arguments();
+    map(&output_pages, 34);
+    memcpy(items, data, len);
+    for (size_t i = 0; i < len; i++) text[i] = data[i] < 0x80 ? data[i] : 0xFF;
+    for (int i = 0; i < FUNCTIONS; i++) {
+        f = &functions[i];
+        list_usual();
+        for (int at = 0; at < output_at(); at++) {
+            enum kind kind = f->kinds[at];
+            if (sizes[kind] == 0 || kind == LIST) continue;
+            with(at, kind == TEXT ? (void *)text : items, len / sizes[kind]);
+        }
+    }
+    return 0;
+}
+#else
 int main(void) {
     map_arguments();
     map(&input_pages, 34);
@@ -611,3 +635,4 @@ int main(void) {
     if (equal_items == NULL) printf("tests: no length past 2^32, since no more is mapped\n");
     return 0;
 }
+#endif

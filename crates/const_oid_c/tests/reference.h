@@ -151,7 +151,7 @@ static int compare(argument left, argument right) {
 }
 
 static int begins_with(argument octets, argument prefix) {
-    return prefix.len <= octets.len && compare((argument){octets.items, prefix.len}, prefix) == 0;
+    return prefix.len <= octets.len && memcmp(octets.items, prefix.items, prefix.len) == 0;
 }
 
 #define RULE(name) static answer name##_rule(const argument *a)
