@@ -15,6 +15,7 @@ import hashlib
 import io
 import os
 import pathlib
+import platform
 import re
 import shlex
 import shutil
@@ -33,13 +34,15 @@ EXTENSION = "_native.abi3.so"
 SOURCES = ("__init__.py", "_native.pyi", "_support.py", "names.py", "py.typed", "sorted_map.py")
 LICENCES = ("LICENSE-APACHE", "LICENSE-MIT")
 ARCHIVED = ("backend.py", "pyproject.toml", "README.md", "src/native.c", *(f"src/const_oid/{name}" for name in SOURCES))
-ARCHIVED_OF_TOP = (*LICENCES, "crates/const_oid_c/include", "rust/const-oid-c")
-ARCHIVED_OF_TOP += tuple(f"rust/const-oid/{name}" for name in ("Cargo.toml", "README.md", "examples", "src"))
+ARCHIVED_OF_TOP = (*LICENCES, "crates/const_oid_c/include/*.h", "rust/const-oid/README.md", "rust/const-oid*/Cargo.*")
+ARCHIVED_OF_TOP += ("rust/const-oid*/*.rs", "rust/const-oid/examples/*.rs", "rust/const-oid*/src/**/*.rs")
 COMPILER = shlex.split(os.environ.get("CC", "cc"))
 RUSTC = os.environ.get("RUSTC", "rustc")
 INCLUDE = pathlib.Path(sysconfig.get_path("include"))
 RUST = (1, 85)
 
+if sysconfig.get_config_var("Py_GIL_DISABLED"):
+    raise SystemExit("const-oid: a free-threaded Python has no stable ABI, for which the module is written")
 if not CRATE.exists():
     raise SystemExit(f"const-oid: there is no {CRATE}: install a checkout of the repository, or a source archive")
 
@@ -114,11 +117,11 @@ def project():
 def metadata(of, readme):
     """The file METADATA of a project."""
     lines = [
-        "Metadata-Version: 2.1",
+        "Metadata-Version: 2.4",
         f"Name: {of['name']}",
         f"Version: {of['version']}",
         f"Summary: {of['description']}",
-        f"License: {of['license']}",
+        f"License-Expression: {of['license']}",
         *(f"License-File: {name}" for name in LICENCES),
         *(f"Classifier: {classifier}" for classifier in of["classifiers"]),
         f"Requires-Python: {of['requires-python']}",
@@ -132,7 +135,10 @@ def _stem():
 
 
 def _tag():
-    return f"cp311-abi3-{re.sub('[-.]', '_', sysconfig.get_platform())}"
+    system, machine = sysconfig.get_platform(), platform.machine()
+    if system.endswith("universal2"):  # a Python for both machines of macOS, and a module for this one
+        system = f"macosx_{'11_0' if machine == 'arm64' else '10_12'}_{machine}"
+    return f"cp311-abi3-{re.sub('[-.]', '_', system)}"
 
 
 def _metadata():
@@ -141,7 +147,7 @@ def _metadata():
 
 def _information():
     """The folder that says what a wheel is, and its files, aside from RECORD."""
-    files = {name: (TOP / name).read_bytes() for name in LICENCES}
+    files = {f"licenses/{name}": (TOP / name).read_bytes() for name in LICENCES}
     head = "Wheel-Version: 1.0\nGenerator: const_oid\nRoot-Is-Purelib: false\n"
     return f"{_stem()}.dist-info", {**files, "METADATA": _metadata(), "WHEEL": f"{head}Tag: {_tag()}\n".encode()}
 
@@ -193,7 +199,7 @@ def prepare_metadata_for_build_wheel(metadata_directory, config_settings=None):
     """Writes what a wheel would say of itself, without building it, and returns the folder's name."""
     information, files = _information()
     folder = pathlib.Path(metadata_directory) / information
-    folder.mkdir()
+    (folder / "licenses").mkdir(parents=True)
     for name, content in files.items():
         (folder / name).write_bytes(content)
     return information
@@ -204,11 +210,9 @@ prepare_metadata_for_build_editable = prepare_metadata_for_build_wheel
 
 def _archived():
     """The files of the source archive: the name of each, and its content."""
-    for top, roots in ((HERE, ARCHIVED), (TOP, ARCHIVED_OF_TOP)):
-        for path in (path for root in roots for path in (top / root, *sorted((top / root).rglob("*")))):
-            name = path.relative_to(top)
-            if path.is_file() and "target" not in name.parts:
-                yield name.as_posix(), path.read_bytes()
+    for top, patterns in ((HERE, ARCHIVED), (TOP, ARCHIVED_OF_TOP)):
+        for path in (path for pattern in patterns for path in sorted(top.glob(pattern))):
+            yield path.relative_to(top).as_posix(), path.read_bytes()
 
 
 def build_sdist(sdist_directory, config_settings=None):

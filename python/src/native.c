@@ -14,6 +14,7 @@ typedef struct {
     const_oid_octets items; /* those of `octets` */
     PyObject *octets;       /* bytes that const_oid_check accepts */
     PyObject *arcs;         /* a tuple, or NULL before its first use */
+    Py_ssize_t count;       /* how many arcs there are, or 0 before its first use */
     PyObject *weak_references;
 } Identifier;
 
@@ -108,50 +109,44 @@ static PyObject *made(PyTypeObject *type, PyObject *octets) {
 /* The most octets of an arc. */
 #define ARC_OCTETS 5
 
-/* Where a call writes octets: `room`, or memory to free. */
+/* Where a call writes: `room`, or memory to free. */
 typedef struct {
-    uint8_t room[ARC_OCTETS * CONST_OID_MAX_ARCS];
-    uint8_t *start;
+    uint32_t room[CONST_OID_MAX_ARCS + CONST_OID_MAX_ARCS / 4];
+    void *start;
     size_t len;
 } Output;
 
-static int has_room(Output *out, size_t len) {
+/* Makes room for items of a size. */
+static int has_room(Output *out, size_t len, size_t size) {
     out->len = len;
-    out->start = len <= sizeof out->room ? out->room : PyMem_Malloc(len);
+    out->start = len <= sizeof out->room / size ? out->room : PyMem_Calloc(len, size);
     if (!out->start) PyErr_NoMemory();
     return out->start != NULL;
 }
 
+static void release(Output *out) {
+    if (out->start != out->room) PyMem_Free(out->start);
+}
+
 /* The octets that a call wrote, or its error. Frees the output. */
 static PyObject *written(Output *out, const_oid_status status, PyObject *given) {
-    PyObject *octets = status.code ? failed(status, given)
-                                   : PyBytes_FromStringAndSize((const char *)out->start, (Py_ssize_t)status.len);
-    if (out->start != out->room) PyMem_Free(out->start);
+    PyObject *octets = status.code ? failed(status, given) : PyBytes_FromStringAndSize(out->start, (Py_ssize_t)status.len);
+    release(out);
     return octets;
 }
 
-/* UTF-8 of a str; a surrogate is no UTF-8, as the library says itself. */
-static const char *utf8_of(PyObject *text, Py_ssize_t *len, PyObject **encoded) {
-    const char *data = PyUnicode_AsUTF8AndSize(text, len);
-    if (data || !PyErr_ExceptionMatches(PyExc_UnicodeEncodeError)) return data;
-    PyErr_Clear();
-    *encoded = PyUnicode_AsEncodedString(text, "utf-8", "surrogatepass");
-    if (!*encoded) return NULL;
-    *len = PyBytes_Size(*encoded);
-    return PyBytes_AsString(*encoded);
-}
-
-/* The octets of a text, which has at least as many bytes. */
+/* The octets of a text, which has at least as many bytes. Python makes no UTF-8 of a surrogate. */
 static PyObject *octets_of_text(PyObject *text) {
     Output out;
-    PyObject *encoded = NULL, *octets = NULL;
     Py_ssize_t len;
-    const char *data = utf8_of(text, &len, &encoded);
-    if (data && has_room(&out, (size_t)len)) {
-        octets = written(&out, const_oid_from_text((const void *)data, (size_t)len, out.start, out.len), text);
+    const char *data = PyUnicode_AsUTF8AndSize(text, &len);
+    if (!data && PyErr_ExceptionMatches(PyExc_UnicodeEncodeError)) {
+        const_oid_status status = {CONST_OID_NOT_UTF8, 0, 0};
+        PyErr_Clear();
+        return failed(status, text);
     }
-    Py_XDECREF(encoded);
-    return octets;
+    if (!data || !has_room(&out, (size_t)len, 1)) return NULL;
+    return written(&out, const_oid_from_text(data, (size_t)len, out.start, out.len), text);
 }
 
 static PyObject *identifier_new(PyTypeObject *type, PyObject *arguments, PyObject *keywords) {
@@ -167,10 +162,12 @@ static PyObject *identifier_new(PyTypeObject *type, PyObject *arguments, PyObjec
     return allocated(type, Py_NewRef(((Identifier *)given)->octets));
 }
 
+static int is_octets(PyObject *given) {
+    return PyBytes_Check(given) || PyByteArray_Check(given) || PyMemoryView_Check(given);
+}
+
 static PyObject *identifier_from_bytes(PyObject *type, PyObject *given) {
-    if (!PyBytes_Check(given) && !PyByteArray_Check(given) && !PyMemoryView_Check(given)) {
-        return wrong_type("octets must be bytes, bytearray or memoryview", given);
-    }
+    if (!is_octets(given)) return wrong_type("octets must be bytes, bytearray or memoryview", given);
     PyObject *octets = PyBytes_FromObject(given);
     if (!octets) return NULL;
     const_oid_octets items = items_of(octets);
@@ -217,40 +214,36 @@ static const_oid_status past_32_bits(const_oid_status before) {
 static PyObject *octets_of_arcs(PyObject *items, Py_ssize_t count, uint32_t *arcs) {
     Output out;
     Py_ssize_t fitting = read_arcs(items, count, arcs);
-    if (fitting < 0 || !has_room(&out, ARC_OCTETS * (size_t)fitting)) return NULL;
+    if (fitting < 0 || !has_room(&out, ARC_OCTETS * (size_t)fitting, 1)) return NULL;
     const_oid_status status = const_oid_from_arcs(arcs, (size_t)fitting, out.start, out.len);
     return written(&out, fitting < count ? past_32_bits(status) : status, items);
 }
 
 static PyObject *identifier_from_arcs(PyObject *type, PyObject *given) {
-    if (PyUnicode_Check(given) || PyBytes_Check(given) || PyByteArray_Check(given) || PyMemoryView_Check(given)) {
+    if (PyUnicode_Check(given) || is_octets(given) || PyAnySet_Check(given)) {
         return wrong_type("arcs must be an iterable of int", given);
     }
-    PyObject *items = PySequence_Tuple(given), *octets;
-    if (!items) return NULL;
-    uint32_t room[CONST_OID_MAX_ARCS], *arcs = room;
-    Py_ssize_t count = PyTuple_Size(items);
-    if (count > CONST_OID_MAX_ARCS) arcs = PyMem_Calloc((size_t)count, sizeof *arcs);
-    octets = arcs ? octets_of_arcs(items, count, arcs) : PyErr_NoMemory();
-    if (arcs != room) PyMem_Free(arcs);
-    Py_DECREF(items);
+    Output arcs;
+    PyObject *items = PySequence_Tuple(given), *octets = NULL;
+    if (items && has_room(&arcs, (size_t)PyTuple_Size(items), sizeof(uint32_t))) {
+        octets = octets_of_arcs(items, (Py_ssize_t)arcs.len, arcs.start);
+        release(&arcs);
+    }
+    Py_XDECREF(items);
     return made((PyTypeObject *)type, octets);
 }
 
+/* Octets have at most one arc more than there are octets. */
 static PyObject *decoded(const_oid_octets octets) {
-    uint32_t room[CONST_OID_MAX_ARCS], *arcs = room;
-    const_oid_status status = const_oid_arcs(octets.octets, octets.len, arcs, CONST_OID_MAX_ARCS);
-    if (status.code == CONST_OID_OUTPUT_TOO_SHORT) {
-        arcs = PyMem_Calloc(status.len, sizeof *arcs);
-        if (!arcs) return PyErr_NoMemory();
-        status = const_oid_arcs(octets.octets, octets.len, arcs, status.len);
-    }
+    Output out;
+    if (!has_room(&out, octets.len + 1, sizeof(uint32_t))) return NULL;
+    const_oid_status status = const_oid_arcs(octets.octets, octets.len, out.start, out.len);
     PyObject *tuple = PyTuple_New((Py_ssize_t)status.len);
     for (size_t index = 0; tuple && index < status.len; index++) {
-        PyObject *arc = PyLong_FromUnsignedLong(arcs[index]);
+        PyObject *arc = PyLong_FromUnsignedLong(((uint32_t *)out.start)[index]);
         if (!arc || PyTuple_SetItem(tuple, (Py_ssize_t)index, arc)) Py_CLEAR(tuple);
     }
-    if (arcs != room) PyMem_Free(arcs);
+    release(&out);
     return tuple;
 }
 
@@ -279,7 +272,7 @@ static PyObject *identifier_child(PyObject *self, PyObject *item) {
     Output out;
     uint64_t arc;
     const_oid_octets octets = octets_of(self);
-    if (!read_arc(item, &arc) || !has_room(&out, octets.len + ARC_OCTETS)) return NULL;
+    if (!read_arc(item, &arc) || !has_room(&out, octets.len + ARC_OCTETS, 1)) return NULL;
     const_oid_status status = const_oid_push_arc(octets.octets, octets.len, (uint32_t)arc, out.start, out.len);
     return made(Py_TYPE(self), written(&out, arc > UINT32_MAX ? past_32_bits(status) : status, item));
 }
@@ -290,17 +283,14 @@ static PyObject *identifier_starts_with(PyObject *self, PyObject *prefix) {
     return PyBool_FromLong((long)const_oid_starts_with(octets.octets, octets.len, start.octets, start.len).detail);
 }
 
+/* Text has at most four bytes for each octet. */
 static PyObject *identifier_str(PyObject *self) {
-    char room[CONST_OID_MAX_TEXT], *text = room;
+    Output out;
     const_oid_octets octets = octets_of(self);
-    const_oid_status status = const_oid_to_text(octets.octets, octets.len, (void *)text, sizeof room);
-    if (status.code == CONST_OID_OUTPUT_TOO_SHORT) {
-        text = PyMem_Malloc(status.len);
-        if (!text) return PyErr_NoMemory();
-        status = const_oid_to_text(octets.octets, octets.len, (void *)text, status.len);
-    }
-    PyObject *result = PyUnicode_FromStringAndSize(text, (Py_ssize_t)status.len);
-    if (text != room) PyMem_Free(text);
+    if (!has_room(&out, octets.len, 4)) return NULL;
+    const_oid_status status = const_oid_to_text(octets.octets, octets.len, out.start, 4 * out.len);
+    PyObject *result = PyUnicode_FromStringAndSize(out.start, (Py_ssize_t)status.len);
+    release(&out);
     return result;
 }
 
@@ -339,29 +329,28 @@ static PyObject *identifier_compare(PyObject *self, PyObject *other, int operati
 }
 
 static Py_ssize_t identifier_len(PyObject *self) {
-    const_oid_octets octets = octets_of(self);
-    return (Py_ssize_t)const_oid_len(octets.octets, octets.len).len;
+    Identifier *identifier = (Identifier *)self;
+    const_oid_octets octets = identifier->items;
+    if (!identifier->count) identifier->count = (Py_ssize_t)const_oid_len(octets.octets, octets.len).len;
+    return identifier->count;
 }
 
 static int identifier_contains(PyObject *self, PyObject *item) {
-    if (!PyIndex_Check(item)) {
-        wrong_type("arc must be an int (starts_with takes a prefix)", item);
-        return -1;
-    }
-    PyObject *arcs = arcs_of(self), *number = arcs ? PyNumber_Index(item) : NULL;
-    int is_found = number ? PySequence_Contains(arcs, number) : -1;
-    Py_XDECREF(number);
-    return is_found;
+    PyObject *arcs = arcs_of(self);
+    return arcs ? PySequence_Contains(arcs, item) : -1;
+}
+
+/* An item of the tuple of arcs; its own error would speak of a tuple. */
+static PyObject *identifier_subscript(PyObject *self, PyObject *key) {
+    PyObject *arcs = arcs_of(self), *result = arcs ? PyObject_GetItem(arcs, key) : NULL;
+    if (!result && PyErr_ExceptionMatches(PyExc_IndexError)) PyErr_SetString(PyExc_IndexError, "index out of range");
+    return result;
 }
 
 static PyObject *identifier_item(PyObject *self, Py_ssize_t index) {
-    PyObject *arcs = arcs_of(self);
-    return arcs ? PySequence_GetItem(arcs, index) : NULL;
-}
-
-static PyObject *identifier_subscript(PyObject *self, PyObject *key) {
-    PyObject *arcs = arcs_of(self);
-    return arcs ? PyObject_GetItem(arcs, key) : NULL;
+    PyObject *key = PyLong_FromSsize_t(index), *result = key ? identifier_subscript(self, key) : NULL;
+    Py_XDECREF(key);
+    return result;
 }
 
 static PyObject *identifier_iter(PyObject *self) {
@@ -387,60 +376,39 @@ static PyObject *identifier_index(PyObject *self, PyObject *arguments) {
 
 static PyObject *identifier_count(PyObject *self, PyObject *arguments) { return of_arcs(self, "count", arguments); }
 
-static PyObject *identifier_copy(PyObject *self, PyObject *none) {
-    (void)none;
-    return is_plain(Py_TYPE(self)) ? Py_NewRef(self) : supported("copied", Py_BuildValue("(O)", self));
-}
-
-static PyObject *identifier_deepcopy(PyObject *self, PyObject *memo) {
-    return is_plain(Py_TYPE(self)) ? Py_NewRef(self) : supported("copied", Py_BuildValue("OO", self, memo));
-}
-
-/* A subclass is called again, and gets its attributes. */
-static PyObject *reduced_subclass(PyObject *self) {
-    PyObject *method = attribute(self, "__getstate__"), *state = method ? PyObject_CallNoArgs(method) : NULL;
-    PyObject *plain = state ? allocated(base_of(Py_TYPE(self)), Py_NewRef(((Identifier *)self)->octets)) : NULL;
-    PyObject *result = plain ? Py_BuildValue("O(O)O", Py_TYPE(self), plain, state) : NULL;
-    Py_XDECREF(method);
-    Py_XDECREF(state);
-    Py_XDECREF(plain);
-    return result;
-}
-
-static PyObject *identifier_reduce(PyObject *self, PyObject *none) {
-    (void)none;
-    if (!is_plain(Py_TYPE(self))) return reduced_subclass(self);
-    PyObject *restored = attribute(PyType_GetModule(Py_TYPE(self)), "restored");
-    return restored ? Py_BuildValue("N(O)", restored, ((Identifier *)self)->octets) : NULL;
-}
+/* Methods by a function of const_oid._support of the object, or its class, and the arguments. */
+#define BY_FUNCTION(name) \
+    static PyObject *identifier_##name(PyObject *self, PyObject *arguments) { \
+        return supported(#name, Py_BuildValue("OO", self, arguments)); \
+    }
+BY_FUNCTION(copied)
+BY_FUNCTION(pydantic_schema)
+BY_FUNCTION(pydantic_validators)
 
 /* numpy takes an identifier as one value, and not as a sequence. */
 static PyObject *identifier_array(PyObject *self, PyObject *arguments, PyObject *keywords) {
     (void)arguments, (void)keywords;
-    PyObject *numpy = PyImport_ImportModule("numpy"), *none = PyTuple_New(0), *array = NULL;
-    if (numpy && none) array = PyObject_CallMethod(numpy, "empty", "Os", none, "O");
-    if (array && PyObject_SetItem(array, none, self)) Py_CLEAR(array);
-    Py_XDECREF(numpy);
-    Py_XDECREF(none);
-    return array;
+    return supported("as_array", Py_BuildValue("(O)", self));
 }
 
-/* Reads a number of 32 bits. Returns whether there is one. */
-static int read_number(PyObject *item, void *number) {
-    unsigned long value = PyLong_AsUnsignedLong(item);
-    if (value == (unsigned long)-1 && PyErr_Occurred()) return 0;
-    if (value > UINT32_MAX) PyErr_SetString(PyExc_OverflowError, "a number of more than 32 bits");
-    *(uint32_t *)number = (uint32_t)value;
-    return value <= UINT32_MAX;
+static PyObject *identifier_reduce(PyObject *self, PyObject *none) {
+    (void)none;
+    if (!is_plain(Py_TYPE(self))) return supported("reduced", Py_BuildValue("(O)", self));
+    PyObject *restored = attribute(PyType_GetModule(Py_TYPE(self)), "restored");
+    return restored ? Py_BuildValue("N(O)", restored, ((Identifier *)self)->octets) : NULL;
 }
 
 /* The text of a code and its detail, or None. */
 static PyObject *error_text(PyObject *module, PyObject *arguments) {
     (void)module;
     char text[CONST_OID_MAX_ERROR_TEXT];
-    uint32_t code, detail;
-    if (!PyArg_ParseTuple(arguments, "O&O&", read_number, &code, read_number, &detail)) return NULL;
-    const_oid_status status = const_oid_error_text(code, detail, (void *)text, sizeof text);
+    long long code, detail;
+    if (!PyArg_ParseTuple(arguments, "LL", &code, &detail)) return NULL;
+    if (code != (uint32_t)code || detail != (uint32_t)detail) {
+        PyErr_SetString(PyExc_OverflowError, "a number has 32 bits");
+        return NULL;
+    }
+    const_oid_status status = const_oid_error_text((uint32_t)code, (uint32_t)detail, text, sizeof text);
     if (status.code) Py_RETURN_NONE;
     return PyUnicode_FromStringAndSize(text, (Py_ssize_t)status.len);
 }
@@ -545,11 +513,13 @@ static PyMethodDef identifier_methods[] = {
     {"count", identifier_count, METH_VARARGS, count_doc},
     {"__bytes__", identifier_bytes, METH_NOARGS, "__bytes__($self, /)\n--\n\nThe contents octets."},
     {"__format__", identifier_format, METH_O, "__format__($self, specification, /)\n--\n\nFormats the text, as str."},
-    {"__copy__", identifier_copy, METH_NOARGS, "__copy__($self, /)\n--\n\nItself, unless of a subclass."},
-    {"__deepcopy__", identifier_deepcopy, METH_O, "__deepcopy__($self, memo, /)\n--\n\nItself, unless of a subclass."},
+    {"__copy__", identifier_copied, METH_VARARGS, "__copy__($self, /)\n--\n\nItself, unless of a subclass."},
+    {"__deepcopy__", identifier_copied, METH_VARARGS, "__deepcopy__($self, memo, /)\n--\n\nItself, unless of a subclass."},
     {"__reduce__", identifier_reduce, METH_NOARGS, "__reduce__($self, /)\n--\n\nFor pickle, which checks the octets."},
     {"__array__", (PyCFunction)(void (*)(void))identifier_array, METH_VARARGS | METH_KEYWORDS,
         "__array__($self, dtype=None, copy=None)\n--\n\nAn array of numpy, without dimensions, of this object."},
+    {"__get_pydantic_core_schema__", identifier_pydantic_schema, METH_VARARGS | METH_CLASS, "For a field of pydantic 2."},
+    {"__get_validators__", identifier_pydantic_validators, METH_VARARGS | METH_CLASS, "For a field of pydantic 1."},
     {0},
 };
 
@@ -584,8 +554,12 @@ static PyType_Slot identifier_slots[] = {
     {0},
 };
 
+/* Patterns take it for a sequence by a flag, which headers of the stable ABI do not name. */
+#define IS_SEQUENCE (1UL << 5) /* Py_TPFLAGS_SEQUENCE */
+
 static PyType_Spec identifier_spec = {
-    "const_oid.ObjectIdentifier", sizeof(Identifier), 0, Py_TPFLAGS_DEFAULT | Py_TPFLAGS_BASETYPE, identifier_slots,
+    "const_oid.ObjectIdentifier", sizeof(Identifier), 0,
+    Py_TPFLAGS_DEFAULT | Py_TPFLAGS_BASETYPE | Py_TPFLAGS_IMMUTABLETYPE | IS_SEQUENCE, identifier_slots,
 };
 
 /* The library may be an installed one, of another version than its header. */
@@ -598,12 +572,15 @@ static int module_exec(PyObject *module) {
     }
     PyObject *text = PyUnicode_FromFormat("%lu.%lu.%lu", version / 65536, version / 256 % 256, version % 256);
     PyObject *type = PyType_FromModuleAndSpec(module, &identifier_spec, NULL), *arcs = Py_BuildValue("(s)", "arcs");
-    int status = text && type && arcs ? PyObject_SetAttrString(type, "__match_args__", arcs) : -1;
+    /* Nobody can set an attribute of the class, which has its last one here. */
+    PyObject *attributes = type ? PyObject_GenericGetDict(type, NULL) : NULL;
+    int status = text && attributes && arcs ? PyDict_SetItemString(attributes, "__match_args__", arcs) : -1;
     if (!status) status = PyModule_AddObjectRef(module, "__version__", text);
     if (!status) status = PyModule_AddType(module, (PyTypeObject *)type);
     Py_XDECREF(text);
     Py_XDECREF(type);
     Py_XDECREF(arcs);
+    Py_XDECREF(attributes);
     return status;
 }
 

@@ -69,7 +69,7 @@ OF_FRESH = {
     "hash": lambda oid: ({oid: 1}, hash(Under(oid))),
     "sequence": lambda oid: (len(oid), oid[-1], oid[1:], list(oid), oid.count(1), raised(operator.getitem, oid, "")),
     "index": lambda oid: (oid.index(oid[2]), raised(oid.index, 7 * 10**9), raised(oid.index)),
-    "in": lambda oid: (oid[2] in oid, int("70000") in oid, raised(oid.__contains__, "1")),
+    "in": lambda oid: (oid[2] in oid, int("70000") in oid, "1" in oid),
     "match": matched,
     "copies": lambda oid: (copy.copy(oid), copy.deepcopy(oid), copy.copy(Under(oid)), copy.deepcopy(Under(oid))),
     "pickles": lambda oid: pickle.loads(pickle.dumps((oid, Under(oid)))),

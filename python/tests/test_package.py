@@ -2,16 +2,20 @@
 import ast
 import contextlib
 import doctest
-import importlib.util
+import importlib
 import inspect
 import io
+import json
 import pathlib
 import pydoc
 import re
 import shutil
 import subprocess
+import sys
+import types
 import unittest
 import warnings
+from unittest import mock
 
 import const_oid
 import typed
@@ -33,6 +37,22 @@ def load_tests(loader, tests, pattern):
     return tests
 
 
+class Key(ObjectIdentifier):
+    pass
+
+
+@contextlib.contextmanager
+def installed(*names):
+    """Those of other packages that are installed, without their warnings."""
+    with warnings.catch_warnings():
+        warnings.simplefilter("ignore")
+        found = []
+        for name in names:
+            with contextlib.suppress(ImportError):
+                found.append(importlib.import_module(name))
+        yield found
+
+
 class Package(unittest.TestCase):
     def test_pages_print_their_comments(self):
         """A line of a page that prints has what it prints as its comment, where what the block imports is installed."""
@@ -49,24 +69,57 @@ class Package(unittest.TestCase):
         self.assertTrue(0 < len(wanted) == block.count("print("))
         out = io.StringIO()
         try:
-            with contextlib.redirect_stdout(out), warnings.catch_warnings():
-                warnings.simplefilter("ignore")  # those of other packages
+            with contextlib.redirect_stdout(out), installed():
                 exec(code, variables)
         except ModuleNotFoundError as error:
-            self.assertIn(error.name.split(".")[0], {"asn1crypto", "cryptography", "numpy", "pandas", "pyasn1"})
+            self.assertIn(error.name.split(".")[0], {"asn1crypto", "cryptography", "numpy", "pandas", "pyasn1", "pydantic"})
             self.skipTest(str(error))
         self.assertEqual(wanted, out.getvalue().splitlines())
 
-    @unittest.skipUnless(importlib.util.find_spec("numpy"), "numpy is not installed")
-    def test_numpy_takes_an_identifier_as_one_value(self):
-        with warnings.catch_warnings():
-            warnings.simplefilter("ignore")
-            import numpy
+    def test_the_walk_rejects_what_is_cut(self):
+        """The first example finds all identifiers of an encoding, and is an error for each shorter one."""
+        source = next(example.source for example in doctest.DocTestParser().get_examples(const_oid.__doc__) if "def" in example.source)
+        exec(source, variables := vars(const_oid).copy())
+        long = b"\x06\x81\x80" + bytes(128)
+        whole = b"\x30\x82\0\x8c" + b"\x06\x03\x2a\x03\x04" + b"\xa0\x02\x05\0" + long
+        self.assertEqual([b"\x2a\x03\x04", bytes(128)], list(map(bytes, variables["identifiers"](whole))))
+        wrong = [whole[:end] for end in range(1, len(whole))]
+        # What goes on past what it is in, and a tag of several octets.
+        for der in [*wrong, b"\x30\x02\x06\x03\x2a\x03\x04", b"\x1f\x81\x06\x02\x2a\x03"]:
+            with self.subTest(der.hex()), self.assertRaises(ValueError):
+                list(variables["identifiers"](der))
 
+    def test_numpy_takes_an_identifier_as_one_value(self):
         oids = [ObjectIdentifier("2.5.4"), ObjectIdentifier("2.5.6")]
-        array = numpy.array(oids)
-        self.assertEqual(((2,), "O", oids), (array.shape, array.dtype.char, array.tolist()))
-        self.assertEqual(((), oids[0]), (numpy.asarray(oids[0]).shape, numpy.asarray(oids[0])[()]))
+        with mock.patch.dict(sys.modules, numpy=types.SimpleNamespace(empty=lambda shape, kind: {"empty": (shape, kind)})):
+            self.assertEqual({"empty": ((), "O"), (): oids[0]}, oids[0].__array__())
+        with installed("numpy") as found:
+            for numpy in found:
+                array = numpy.array(oids)
+                self.assertEqual(((2,), "O", oids), (array.shape, array.dtype.char, array.tolist()))
+                self.assertEqual(((), oids[0]), (numpy.asarray(oids[0]).shape, numpy.asarray(oids[0])[()]))
+
+    def test_pydantic_takes_and_gives_text(self):
+        """pydantic, and the version 1 that is in version 2, take text or an identifier, and give text in JSON."""
+        with installed("pydantic", "pydantic.v1") as found:
+            for pydantic in found:
+                with self.subTest(pydantic):
+                    self.check_model(pydantic.create_model("Model", oid=(ObjectIdentifier, ...), key=(Key, ...)))
+            if not found:
+                self.skipTest("pydantic is not installed")
+
+    def check_model(self, model):
+        oid = ObjectIdentifier("2.5.4")
+        texts = {"oid": "2.5.4", "key": "2.5.4.3"}
+        for made in (model(**texts), model(oid=oid, key=oid.child(3)), model(oid=oid, key=Key("2.5.4.3"))):
+            self.assertEqual((oid, Key("2.5.4.3"), Key), (made.oid, made.key, type(made.key)))
+            self.assertEqual(texts, json.loads(made.json()))
+            self.assertEqual(made, model.parse_raw(made.json()))
+        for wrong in ("1.40", 3, None, [2, 5]):
+            with self.assertRaises(ValueError):
+                model(oid=wrong, key="2.5.4.3")
+        if hasattr(model, "model_json_schema"):
+            self.assertEqual("string", model.model_json_schema()["properties"]["oid"]["type"])
 
     def test_codes_are_those_of_the_header(self):
         codes = dict(re.findall(r"CONST_OID_(\w+) = (\d+)", HEADER.split("enum const_oid_code")[1].split("}")[0]))
@@ -82,27 +135,29 @@ class Package(unittest.TestCase):
     def test_public_names(self):
         """What the package and each class has, aside from what Python gives it."""
         public = {"Code", "ObjectIdentifier", "OidError", "SortedMap", "__version__", "names"}
-        self.assertEqual(public, set(const_oid.__all__))
+        self.assertEqual((public, public - {"Code"}), (set(const_oid.__all__), set(dir(const_oid))))
         self.assertEqual({"by_name", "entries", "name_of", "names_of"}, set(names.__all__))
         methods = "arcs child count from_arcs from_bytes index parent starts_with"
         self.assertEqual(methods.split(), [name for name in dir(ObjectIdentifier) if not name.startswith("_")])
         self.assertEqual({"const_oid"}, {value.__module__ for value in (ObjectIdentifier, OidError, const_oid.Code)})
         self.assertEqual((const_oid.Code.EMPTY, 5), (const_oid.Code(5), const_oid.Code.EMPTY))
-        with self.assertRaisesRegex(AttributeError, "^module 'const_oid' has no attribute 'Codes'$"):
-            const_oid.Codes
 
     def test_help_begins_with_the_identifier(self):
-        """The first class of help is ObjectIdentifier; a class of numbers would come with all methods of int."""
+        """The first class of help is ObjectIdentifier; a class of numbers would come with all methods of int. It has
+        nothing that is internal."""
         said = pydoc.render_doc(const_oid, renderer=pydoc.plaintext)
         self.assertEqual(["ObjectIdentifier", "OidError", "SortedMap"], re.findall(r"^    class (\w+)", said, re.M))
+        self.assertNotIn("\nFUNCTIONS\n", said)
+        said = pydoc.render_doc(names, renderer=pydoc.plaintext)
+        self.assertEqual(names.__all__, re.findall(r"^    (\w+)\(", said.split("\nFUNCTIONS\n")[1], re.M))
 
-    def test_public_names_are_documented(self):
-        for owner in (const_oid, names, ObjectIdentifier, OidError, SortedMap):
-            for name in [name for name in vars(owner) if not name.startswith("_")]:
+    def test_functions_have_examples(self):
+        for owner in (names, ObjectIdentifier, OidError, SortedMap):
+            for name in getattr(owner, "__all__", [name for name in vars(owner) if not name.startswith("_")]):
                 value = getattr(owner, name)
                 if callable(value) or inspect.isdatadescriptor(value):
                     with self.subTest(owner=owner, name=name):
-                        self.assertTrue(inspect.getdoc(value))
+                        self.assertIn(">>> ", inspect.getdoc(value))
 
 
 class Types(unittest.TestCase):

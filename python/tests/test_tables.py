@@ -27,6 +27,7 @@ class Names(unittest.TestCase):
     def test_entries_are_the_rows(self):
         self.assertEqual(1492, len(rows()))
         self.assertEqual(rows(), [(oid.arcs, name) for oid, name in names.entries()])
+        self.assertEqual({tuple}, set(map(type, [names.entries(), *names.entries()])))
 
     def test_each_identifier_has_its_names(self):
         for arcs in {arcs for arcs, _ in rows()}:
@@ -79,7 +80,9 @@ for row in rows():
 
 
 def drawn(draw):
-    return (2, *(draw.choice([1, 2, 3, 9, 10, 200]) for _ in range(draw.randint(1, 5))))
+    """Arcs of a short identifier, or, with a long start, of one above 255 octets."""
+    start = draw.choice([(), (), 60 * (2**32 - 1,)])
+    return (2, *start, *(draw.choice([1, 2, 3, 9, 10, 200]) for _ in range(draw.randint(1, 5))))
 
 
 class Key(ObjectIdentifier):
@@ -157,6 +160,12 @@ class Sorted(unittest.TestCase):
             with self.assertRaises(KeyError):
                 call(ObjectIdentifier("2.6"))
         self.assertEqual([(oid, 1)], list(table.items()))
+        self.assertEqual([(oid, None), (later, None)], list(SortedMap.fromkeys([later, oid]).items()))
+        made = Attributes.fromkeys(iter([oid]), [1])
+        self.assertEqual((Attributes, {oid: [1]}), (type(made), made))
+        self.assertEqual((oid, 1), table.popitem())
+        with self.assertRaises(KeyError):
+            table.popitem()
 
     def test_copies_are_apart(self):
         """A map is no part of what it was made from, nor of its copies, which have the attributes of a subclass."""
@@ -247,27 +256,6 @@ class Sorted(unittest.TestCase):
         for found in (table.nearest(oid.child(4)), table.next_after(ObjectIdentifier("2.4")), table.subtree(oid)[0]):
             self.assertIs(key, found[0])
 
-    def test_a_table_of_long_identifiers(self):
-        """10,000 of 100 to 128 arcs, as SNMP has, a third of them above 255 octets: made, printed, sorted, searched."""
-        draw = random.Random(SEED)
-        table = {}
-        for number in range(10_000):
-            bits = 32 if number % 3 == 0 else 7
-            count = draw.randint(100, 128)
-            arcs = (1, 3, 6, 1, *(draw.getrandbits(bits) for _ in range(count - 5)), draw.getrandbits(32))
-            table[arcs] = ".".join(map(str, arcs))
-        found = SortedMap((ObjectIdentifier(text), text) for text in table.values())
-        self.assertEqual(3334, sum(len(bytes(oid)) > 255 for oid in found))
-        wanted = sorted(table)
-        self.assertEqual([table[arcs] for arcs in wanted], [str(oid) for oid in found])
-        self.assertEqual([table[arcs] for arcs in wanted], list(found.values()))
-        for arcs, after in zip(wanted[:-1:7], wanted[1::7]):
-            oid = ObjectIdentifier.from_arcs(arcs)
-            self.assertEqual((table[arcs], table[after]), (found[oid], found.next_after(oid)[1]))
-            self.assertEqual((oid, table[arcs]), found.nearest(oid.child(2**32 - 1).child(0)))
-            self.assertEqual([(oid, table[arcs])], found.subtree(oid))
-        self.assertEqual(10_000, len(found.subtree(ObjectIdentifier("1.3.6.1"))))
-
     def test_a_key_moves_few_others(self):
         """Keys that come and go one by one leave no long list of keys, in which each would move all others."""
         draw = random.Random(SEED)
@@ -277,8 +265,9 @@ class Sorted(unittest.TestCase):
         for key, number in entries.items():
             table[key] = wanted[key] = number
             if number % 3 == 0:
-                table.popitem()
-                del wanted[min(wanted)]
+                self.assertEqual((max(wanted), wanted.pop(max(wanted))), table.popitem())
+            if number % 5 == 0 and wanted:
+                self.assertEqual(wanted.pop(min(wanted)), table.pop(min(table)))
             self.assertLessEqual(max(map(len, table._keys._parts), default=0), 8)
         self.assertEqual(sorted(wanted.items()), list(table.items()))
 

@@ -1,6 +1,7 @@
 """ObjectIdentifier and OidError as values of Python: their inputs, copies, pickles, threads and interpreters."""
 import array
 import collections.abc
+import concurrent.futures
 import copy
 import operator
 import os
@@ -17,6 +18,40 @@ from const_oid import Code, ObjectIdentifier, OidError
 OID = ObjectIdentifier("1.2.840.10045.2.1")
 OCTETS = bytes.fromhex("2A8648CE3D0201")
 LONG = ObjectIdentifier.from_bytes(bytes([42] + [3] * 299))
+GREATEST = b"\x8f\xff\xff\xff\x7f"
+
+# Errors: the call, the code and what it says; for each input the detail, and the wrong piece of a text.
+WRONG = [
+    (ObjectIdentifier, 5, "OID value is empty", {"": (0, 0)}),
+    (ObjectIdentifier, 5, "an identifier has two arcs or more", {"1": (0, 0)}),
+    (ObjectIdentifier, 1, "OID contains out-of-range arc: 3", {"3": (3, 0), "3.4": (3, 0)}),
+    (ObjectIdentifier, 1, "OID contains out-of-range arc: 40", {"1.40.x": (40, 1)}),
+    (ObjectIdentifier, 2, "OID contains arc which is larger than 32-bits", {"2.99999999999": (0, 1)}),
+    (ObjectIdentifier, 9, "OID ends with invalid trailing '.'", {"1.": (0, 0), "3.": (0, 0), "1.2.": (0, 1), "1.40.": (0, 1)}),
+    (ObjectIdentifier, 8, "repeated consecutive '..' characters in OID", {"1..2": (0, 1), "1..": (0, 1), "1.2.3..4": (0, 3)}),
+    (ObjectIdentifier, 4, "expected digit, got '.'", {".": (46, 0), "..": (46, 0)}),
+    (ObjectIdentifier, 4, "expected digit, got '.' (remove the first dot)", {".1.3.6": (46, 0)}),
+    (ObjectIdentifier, 4, "expected digit, got ' '", {" 1.2": (32, 0), "1.2. ": (32, 2)}),
+    (ObjectIdentifier, 4, "expected digit, got 'x'", {"x.2": (120, 0), "1.2.3x.y": (120, 2)}),
+    (ObjectIdentifier, 4, r"expected digit, got '\x00'", {"1.2\0.3": (0, 1)}),
+    (ObjectIdentifier, 4, r"expected digit, got '\n'", {"1.2\n": (10, 1)}),
+    (ObjectIdentifier, 4, r"expected digit, got '\x1b'", {"1.3.\x1b[31m": (27, 2)}),
+    (ObjectIdentifier, 4, r"expected digit, got '\u2028'", {"1.2.\u2028": (0xE2, 2)}),
+    (ObjectIdentifier, 4, "expected digit, got 'é'", {"1.é": (0xC3, 1)}),
+    (ObjectIdentifier, 4, "expected digit, got '٣'", {"1.2.٣": (0xD9, 2)}),
+    (ObjectIdentifier, 4, "expected digit, got 'ü'", {"1.2.ü٣": (0xC3, 2)}),
+    (ObjectIdentifier, 4, "expected digit, got '😀'", {"1.2.😀.x": (0xF0, 2)}),
+    (ObjectIdentifier, 11, "the text is not UTF-8", {"1.\ud800": (0, 1), "1.2.\ud800": (0, 2)}),
+    (ObjectIdentifier.from_bytes, 5, "OID value is empty", {b"": (0, None)}),
+    (ObjectIdentifier.from_bytes, 3, "OID contains arc with invalid base 128 encoding",
+        {b"\x80": (0, None), b"\x2a\x80\x01": (0, None), b"\x2a\0\x80": (0, None)}),
+    (ObjectIdentifier.from_arcs, 5, "OID value is empty", {(): (0, None)}),
+    (ObjectIdentifier.from_arcs, 5, "an identifier has two arcs or more", {(1,): (0, None)}),
+    (ObjectIdentifier.from_arcs, 2, "OID contains arc which is larger than 32-bits", {(1, 2, 2**32): (0, None)}),
+    (ObjectIdentifier.from_arcs, 1, "OID contains out-of-range arc: 3", {(3, 2**32): (3, None)}),
+    (OID.child, 2, "OID contains arc which is larger than 32-bits", {2**32: (0, None)}),
+    (LONG.child, 2, "OID contains arc which is larger than 32-bits", {2**32: (0, None)}),
+]
 
 
 class Under(ObjectIdentifier):
@@ -50,12 +85,11 @@ class Inputs(unittest.TestCase):
         wrong = {
             ObjectIdentifier: [b"1.2", None, 1, 1.2, ("1", "2")],
             ObjectIdentifier.from_bytes: ["2.999", None, 42, [42, 3], OID, array.array("B", [42])],
-            ObjectIdentifier.from_arcs: ["12", "", b"\x01\x02", bytearray(b"\x01"), None, 1, [1, "2"], [1.0, 2]],
-            (lambda octets: ObjectIdentifier.from_arcs(memoryview(octets))): [b"\x01\x02"],
+            ObjectIdentifier.from_arcs: ["12", "", b"\x01\x02", bytearray(b"\x01"), memoryview(b"\x01\x02"), None, 1,
+                [1, "2"], [1.0, 2], {1, 2}, frozenset((1, 2))],
             (lambda arcs: ObjectIdentifier.from_arcs((1, 2**32, *arcs))): ["3", [2.0], None],
             OID.child: ["1", 1.0, None, OID],
             OID.starts_with: ["1.2", b"\x2a", None, (1, 2)],
-            OID.__contains__: ["1.2", None, 1.0, OID],
             OID.__getitem__: ["1", None, 1.0],
         }
         for call, inputs in wrong.items():
@@ -96,7 +130,7 @@ class Inputs(unittest.TestCase):
             (ObjectIdentifier, (1, 2)): "text must be a str, not tuple (from_arcs takes arcs)",
             (ObjectIdentifier, 1): "text must be a str, not int",
             (OID.starts_with, "1"): "prefix must be an ObjectIdentifier, not str (ObjectIdentifier takes text)",
-            (OID.__contains__, OID): "arc must be an int (starts_with takes a prefix), not const_oid.ObjectIdentifier",
+            (ObjectIdentifier.from_arcs, frozenset()): "arcs must be an iterable of int, not frozenset (a set has no order)",
         }
         for (call, given), text in said.items():
             with self.subTest(text), self.assertRaises(TypeError) as caught:
@@ -118,69 +152,56 @@ class Inputs(unittest.TestCase):
             with self.assertRaises(TypeError):
                 ObjectIdentifier(*wrong)
 
-    def test_errors_have_code_and_detail(self):
-        faults = {
-            (ObjectIdentifier, "1.2\n"): (4, 10),
-            (ObjectIdentifier, "1.2\0.3"): (4, 0),
-            (ObjectIdentifier, " 1.2"): (4, 32),
-            (ObjectIdentifier, "1.2.٣"): (4, 0xD9),
-            (ObjectIdentifier, "1.2.\ud800"): (11, 0),
-            (ObjectIdentifier.from_bytes, b""): (5, 0),
-            (ObjectIdentifier.from_bytes, b"\x2a\x80\x01"): (3, 0),
-            (ObjectIdentifier.from_bytes, b"\x2a\0\x80"): (3, 0),
-            (ObjectIdentifier.from_arcs, ()): (5, 0),
-            (ObjectIdentifier.from_arcs, (1, 2, 2**32)): (2, 0),
-            (ObjectIdentifier.from_arcs, (1, 2, 10**5000)): (2, 0),
-            (ObjectIdentifier.from_arcs, (3, 2**32)): (1, 3),
-            (OID.child, 2**32): (2, 0),
-            (LONG.child, 2**32): (2, 0),
-        }
-        for (call, *inputs), wanted in faults.items():
-            with self.subTest(call=call, wanted=wanted):
-                with self.assertRaises(OidError) as caught:
-                    call(*inputs)
-                self.assertEqual(wanted, (caught.exception.code, caught.exception.detail))
+    def test_errors_say_what_is_wrong(self):
+        for call, code, text, inputs in WRONG:
+            for given, (detail, piece) in inputs.items():
+                with self.subTest(call=call, given=given), self.assertRaises(OidError) as caught:
+                    call(given)
+                error = caught.exception
+                self.assertEqual((code, detail, given, piece), (error.code, error.detail, error.given, error.piece))
+                self.assertEqual(f"{text}, given {given!r}", str(error))
 
-    def test_long_identifiers_work_as_short_ones(self):
-        self.assertEqual(LONG.arcs[:-1], LONG.parent.arcs)
-        self.assertEqual((*LONG.arcs, 1), LONG.child(1).arcs)
-        self.assertEqual((1, 2, *[3] * 299), LONG.arcs)
-        self.assertEqual("1.2" + ".3" * 299, str(LONG))
-        largest = ObjectIdentifier.from_bytes(b"\x8f\xff\xff\xff\x7f" * 400)
-        self.assertEqual("2.4294967215" + ".4294967295" * 399, str(largest))
-        self.assertTrue(largest.starts_with(largest) and LONG.starts_with(ObjectIdentifier("1.2.3")))
-        self.assertTrue(LONG < OID < largest and not LONG > OID and LONG != OID and LONG <= LONG)
-        self.assertEqual((301, 3, (1, 2), 299), (len(LONG), LONG[-1], LONG[:2], LONG.count(3)))
-        same = ObjectIdentifier.from_bytes(bytes(LONG))
-        self.assertEqual((LONG, hash(LONG), repr(LONG)), (same, hash(same), f"ObjectIdentifier('{LONG}')"))
+    def test_long_inputs_are_cut(self):
+        """An error shows the start of what is long, and has it whole, also if it has more digits than Python prints."""
+        longs = {ObjectIdentifier: 4000 * "1." + "x", ObjectIdentifier.from_bytes: bytes(4000) + b"\x80"}
+        longs |= {ObjectIdentifier.from_arcs: (3, *range(4000)), OID.child: 2**190, LONG.child: 10**5000}
+        starts = ["'1.1.1", "b'\\x00\\x00", "(3, 0, 1, ", "156927543384", "<int"]
+        for (call, given), start in zip(longs.items(), starts):
+            with self.subTest(call=call), self.assertRaises(OidError) as caught:
+                call(given)
+            self.assertIs(given, caught.exception.given)
+            for shown in (str(caught.exception), repr(caught.exception)):
+                self.assertIn(f", given {start}" if "given" in shown else f", {start}", shown)
+                self.assertLess(len(shown), 130)
 
-    def test_long_octets_are_read_to_the_end(self):
-        """Octets past each length that a call might cut: the fault is in the last group."""
-        for length in (255, 256, 65_535, 65_536, 70_000, 2**20 + 1):
-            with self.subTest(length), self.assertRaises(OidError) as caught:
-                ObjectIdentifier.from_bytes(bytes(length - 1) + b"\x80")
-            self.assertIs(caught.exception.code, Code.BASE128)
-
-    def test_text_and_arcs_have_any_length(self):
-        """Text and arcs of up to 70,000 octets, made of small arcs and of the greatest, and their errors."""
-        for count in (126, 127, 128, 253, 254, 255, 256, 257, 1000, 14_000):
-            for arc, first, later in ((3, b"\x53", b"\x03"), (2**32 - 1, b"\x90\x80\x80\x80\x4f", b"\x8f\xff\xff\xff\x7f")):
-                arcs, octets = (2, *[arc] * (count + 1)), first + later * count
-                text = ".".join(map(str, arcs))
+    def test_identifiers_have_any_length(self):
+        """Identifiers of up to 70,000 octets, of small arcs and of the greatest, work as short ones, and so do errors."""
+        for count in (126, 127, 128, 253, 254, 255, 256, 257, 1000, 14_000, 70_000):
+            for first, later, arc in ((b"\x53", b"\x03", 3), (b"\x90\x80\x80\x80\x4f", GREATEST, 2**32 - 1)):
                 with self.subTest(count=count, arc=arc):
-                    oid = ObjectIdentifier(text)
-                    self.assertEqual((octets, octets), (bytes(oid), bytes(ObjectIdentifier.from_arcs(arcs))))
-                    self.assertEqual((arcs, text, oid), (oid.arcs, str(oid), oid.parent.child(oid[-1])))
-                    self.assertEqual((arcs[1:], arcs[::-1]), (oid[1:], oid[::-1]))
-                    self.assertNotEqual(oid, ObjectIdentifier.from_arcs((*arcs[:-1], arc - 1)))
-                    wrong = {f"{text}.x": (4, 120), f"{text}.": (9, 0), f"{text}..1": (8, 0), f"{text}.4294967296": (2, 0)}
-                    for given, args in wrong.items():
-                        with self.assertRaises(OidError) as caught:
-                            ObjectIdentifier(given)
-                        self.assertEqual(args, (caught.exception.code, caught.exception.detail))
-                    with self.assertRaises(OidError) as caught:
-                        ObjectIdentifier.from_arcs((*arcs, 2**32))
-                    self.assertIs(caught.exception.code, Code.ARC_TOO_BIG)
+                    self.check_length((2, *[arc] * (count + 1)), first + later * count)
+
+    def check_length(self, arcs, octets):
+        """All calls with an identifier, one that differs in the last arc, and errors at the end."""
+        *before, last = arcs
+        text = ".".join(map(str, arcs))
+        oid, same = ObjectIdentifier(text), ObjectIdentifier.from_bytes(octets)
+        other, child = ObjectIdentifier.from_arcs((*before, last - 1)), oid.child(2**32 - 1)
+        self.assertEqual((octets, octets), (bytes(oid), bytes(ObjectIdentifier.from_arcs(arcs))))
+        self.assertEqual((len(arcs), arcs, text), (len(oid), oid.arcs, str(oid)))
+        self.assertEqual((arcs[1:], arcs[::-1], len(before)), (oid[1:], oid[::-1], oid.count(last)))
+        self.assertEqual((f"ObjectIdentifier('{text}')", same, hash(same)), (repr(oid), oid, hash(oid)))
+        self.assertEqual((octets + GREATEST, octets), (bytes(child), bytes(child.parent)))
+        self.assertEqual((oid, tuple(before)), (oid.parent.child(last), oid.parent.arcs))
+        self.assertEqual((False, True, True), (oid == other, oid != other, hash(oid) != hash(other)))
+        self.assertEqual((False, True, False, True), (oid < other, other < oid, oid.starts_with(other), oid.starts_with(same)))
+        wrong = {f"{text}.x": (4, 120), f"{text}.": (9, 0), f"{text}..1": (8, 0), f"{text}.4294967296": (2, 0)}
+        calls = [(ObjectIdentifier, given, args) for given, args in wrong.items()]
+        calls.append((ObjectIdentifier.from_bytes, octets + b"\x80", (3, 0)))
+        for call, given, args in [*calls, (ObjectIdentifier.from_arcs, (*arcs, 2**32), (2, 0))]:
+            with self.assertRaises(OidError) as caught:
+                call(given)
+            self.assertEqual(args, (caught.exception.code, caught.exception.detail))
 
     def test_long_texts_take_linear_time(self):
         """Eight times as long a text takes less than 24 times as long, as an identifier and as an error."""
@@ -196,12 +217,6 @@ class Inputs(unittest.TestCase):
         for end in ("", ".x"):
             short, long = ("1.2" + ".4294967295.7" * count + end for count in (10_000, 80_000))
             self.assertLess(min(seconds(long) for _ in range(3)), 24 * min(seconds(short) for _ in range(5)))
-
-    def test_long_identifiers_have_parents_and_children(self):
-        for oid in (LONG, ObjectIdentifier.from_bytes(bytes(70_000)), ObjectIdentifier("1.2" + ".3" * 254)):
-            child = oid.child(2**32 - 1)
-            self.assertEqual((bytes(oid) + b"\x8f\xff\xff\xff\x7f", oid), (bytes(child), child.parent))
-            self.assertEqual(bytes(oid)[:-1], bytes(oid.parent))
 
 
 class Values(unittest.TestCase):
@@ -265,7 +280,8 @@ class Values(unittest.TestCase):
 
         named, attributes = Named("1.2"), Attributes("1.2.3")
         named.name, attributes.name = "n", "a"
-        self.assertEqual(("n", "a", True), (named.name, attributes.name, attributes.starts_with(named)))
+        Attributes.other = 1
+        self.assertEqual(("n", "a", 1, True), (named.name, attributes.name, attributes.other, attributes.starts_with(named)))
         self.assertEqual((1, 2, 3), attributes.arcs)
 
     def test_pickle_is_checked(self):
@@ -282,6 +298,9 @@ class Values(unittest.TestCase):
             OID[0] = 1
         with self.assertRaises(TypeError):
             del OID[0]
+        for change in (lambda: setattr(ObjectIdentifier, "other", 1), lambda: setattr(OID, "__class__", Under)):
+            with self.assertRaises(TypeError):
+                change()
         OID.__init__("2.5")
         self.assertEqual("1.2.840.10045.2.1", str(OID))
         self.assertFalse(hasattr(OID, "__dict__"))
@@ -317,7 +336,7 @@ class Values(unittest.TestCase):
         several = ObjectIdentifier.from_arcs([2, *range(3, 300, 3)])
         self.assertEqual([arc for arc in range(310) if arc in several], list(several))
         self.assertEqual((True, False, True, False), (840 in OID, 841 in OID, True in OID, 10**5000 in OID))
-        self.assertIn(Index(), ObjectIdentifier("2.999"))
+        self.assertEqual([False, False, False, True], [item in OID for item in ("1", None, OID, 1.0)])
         self.assertEqual((1, 4, 2), (OID.index(2), OID.index(2, 2), OID.count(1)))
         self.assertEqual([1, 2, 10045, 840, 2, 1], list(reversed(OID)))
         self.assertIsInstance(OID, collections.abc.Sequence)
@@ -334,8 +353,8 @@ class Values(unittest.TestCase):
         for call, arc in ((lambda: OID.index(3), 3), (lambda: OID.index(2, 0, 1), 2)):
             with self.assertRaisesRegex(ValueError, f"^{arc} is not among the arcs$"):
                 call()
-        for index in (6, -7):
-            with self.assertRaises(IndexError):
+        for index in (6, -7, 10**50):
+            with self.assertRaisesRegex(IndexError, "^index out of range$"):
                 OID[index]
         self.assertEqual("ObjectIdentifier('1.2.840.10045.2.1')", repr(OID))
 
@@ -362,21 +381,13 @@ class Errors(unittest.TestCase):
         for other in [error, *copies, copy.copy(error), copy.deepcopy(error)]:
             self.assertIs(type(other), OidError)
             self.assertIs(other.code, Code.ARC_INVALID)
-            self.assertEqual((40, "OID contains out-of-range arc: 40"), (other.detail, str(other)))
+            self.assertEqual((40, "OID contains out-of-range arc: 40, given '1.40'"), (other.detail, str(other)))
             self.assertEqual(("1.40", 1, (1, 40)), (other.given, other.piece, other.args))
         self.assertEqual("OidError(Code.DIGIT_EXPECTED, 255)", repr(OidError(4, 255)))
         self.assertEqual("OidError(Code.ARC_INVALID, 40, '1.40')", repr(error))
         self.assertEqual("expected digit, got 'ÿ'", str(OidError(4, 255)))
         self.assertEqual("DIGIT_EXPECTED 256", str(OidError(4, 256)))
-
-    def test_an_error_shows_what_the_user_wrote(self):
-        """The character of the text in place of its first byte, and what to do with a leading dot."""
-        said = {"1.2.x": "'x'", "1.2.٣": "'٣'", "1.é": "'é'", "1.2.😀.x": "'😀'", "1.2. ": "' '"}
-        said |= {".1.3.6": "'.' (remove the first dot)", ".": "'.'", "1.2.ü٣": "'ü'"}
-        for text, wanted in said.items():
-            with self.subTest(text), self.assertRaises(OidError) as caught:
-                ObjectIdentifier(text)
-            self.assertEqual(f"expected digit, got {wanted}", str(caught.exception))
+        self.assertEqual((None, None), (OidError(4, 120).piece, OidError(4, 120, "1.2").piece))
 
     def test_numbers_of_an_error_have_32_bits(self):
         for code, detail in ((4, 2**32 + 120), (4, -1), (2**32 + 4, 120), (-1, 0), (4, 2**64 + 120)):
@@ -385,31 +396,10 @@ class Errors(unittest.TestCase):
         with self.assertRaises(ValueError):
             OidError(99)
 
-    def test_an_error_has_what_was_given(self):
-        calls = {
-            ObjectIdentifier.from_bytes: (b"\x80", b"\x80"),
-            ObjectIdentifier.from_arcs: (iter((3, 1)), (3, 1)),
-            OID.child: (2**32, 2**32),
-        }
-        for call, (given, wanted) in calls.items():
-            with self.subTest(call=call), self.assertRaises(OidError) as caught:
-                call(given)
-            self.assertEqual((wanted, None), (caught.exception.given, caught.exception.piece))
-
-    def test_an_error_has_the_first_wrong_piece(self):
-        """Which piece is the first wrong one."""
-        pieces = {"": 0, "1": None, "3": 0, "x.2": 0, ".1": 0, "..": 0, "1.": 1, "1..2": 1, "1.2.": 2, "1.2.3..4": 3}
-        pieces |= {"3.4": 0, "1.40.x": 1, "2.99999999999": 1, "1.2.3x.y": 2, "1.\ud800": 1, 400 * "1." + "x": 400}
-        for text, piece in pieces.items():
-            with self.subTest(text), self.assertRaises(OidError) as caught:
-                ObjectIdentifier(text)
-            self.assertEqual((text, piece), (caught.exception.given, caught.exception.piece))
-
 
 class Threads(unittest.TestCase):
     def test_threads_do_not_mix_identifiers(self):
         """Eight threads, each with identifiers and errors of its own."""
-        interval, wrong = sys.getswitchinterval(), []
         start = threading.Barrier(8)
 
         def work(own):
@@ -418,19 +408,13 @@ class Threads(unittest.TestCase):
                 text = f"1.{own}.{arc}.{2**32 - 1 - arc}"
                 oid = ObjectIdentifier(text)
                 found = (str(oid), oid.child(own).arcs, str(oid.parent), hash(oid), OidError(1, arc).args)
-                if found != (text, (1, own, arc, 2**32 - 1 - arc, own), f"1.{own}.{arc}", hash(bytes(oid)), (1, arc)):
-                    wrong.append((text, found))
+                wanted = (text, (1, own, arc, 2**32 - 1 - arc, own), f"1.{own}.{arc}", hash(bytes(oid)), (1, arc))
+                self.assertEqual(wanted, found)
 
+        self.addCleanup(sys.setswitchinterval, sys.getswitchinterval())
         sys.setswitchinterval(1e-6)
-        try:
-            threads = [threading.Thread(target=work, args=(own,)) for own in range(8)]
-            for thread in threads:
-                thread.start()
-            for thread in threads:
-                thread.join()
-        finally:
-            sys.setswitchinterval(interval)
-        self.assertEqual([], wrong[:3])
+        with concurrent.futures.ThreadPoolExecutor(8) as threads:
+            list(threads.map(work, range(8)))
 
 
 INTERPRETED = """
@@ -440,7 +424,7 @@ oid = ObjectIdentifier("2.999.3")
 try:
     ObjectIdentifier("1.40")
 except const_oid.OidError as error:
-    said = f"{{oid.parent}} {{len({{oid, ObjectIdentifier(oid)}})}} {{error}} {{id(ObjectIdentifier)}}\\n"
+    said = f"{{oid.parent}} {{len({{oid, ObjectIdentifier(oid)}})}} {{error.detail}} {{id(ObjectIdentifier)}}\\n"
     os.write({}, said.encode())
 """
 
@@ -460,7 +444,7 @@ class Interpreters(unittest.TestCase):
         os.close(write)
         with open(read, encoding="utf-8") as lines:
             said = [line.split() for line in lines]
-        wanted = "2.999 1 OID contains out-of-range arc: 40".split()
+        wanted = "2.999 1 40".split()
         self.assertEqual([wanted] * 3, [words[:-1] for words in said])
         self.assertNotIn(str(id(ObjectIdentifier)), [words[-1] for words in said])
         self.assertEqual("2.999", str(ObjectIdentifier("2.999")))

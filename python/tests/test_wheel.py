@@ -17,15 +17,34 @@ import tempfile
 import tomllib
 import unittest
 import zipfile
+from unittest import mock
 
 TOP = pathlib.Path(__file__).resolve().parents[2]
 PROJECT = tomllib.loads((TOP / "python/pyproject.toml").read_text(encoding="utf-8"))["project"]
 STEM = f"const_oid-{PROJECT['version']}"
 PACKAGE = {"__init__.py", "_native.abi3.so", "_native.pyi", "_support.py", "names.py", "names.tsv", "py.typed"}
 PACKAGE.add("sorted_map.py")
-INFORMATION = {"LICENSE-APACHE", "LICENSE-MIT", "METADATA", "RECORD", "WHEEL"}
+INFORMATION = {"licenses/LICENSE-APACHE", "licenses/LICENSE-MIT", "METADATA", "RECORD", "WHEEL"}
 FILES = {f"const_oid/{name}" for name in PACKAGE} | {f"{STEM}.dist-info/{name}" for name in INFORMATION}
 INSTALLED = {"library": "installed"}
+CC = os.environ.get("CC", "cc")
+
+# What a build says that is refused, and how it is called.
+FIRST = "^const-oid: to be installed first: "
+REFUSED = {
+    r"^const-oid: needs Python 3\.11 or later, and this is 3\.8\.18$":
+        {"before": "import sys; sys.version_info, sys.version = (3, 8, 18), '3.8.18 (of a day)'"},
+    "^const-oid: a free-threaded Python has no stable ABI, for which the module is written$":
+        {"before": "import sysconfig; sysconfig.get_config_var = {'Py_GIL_DISABLED': 1}.get"},
+    FIRST + r"/missing/Python\.h \(Debian: python3-dev\)$":
+        {"before": "import sysconfig; sysconfig.get_path = lambda name: '/missing'"},
+    FIRST + r"a C compiler, \S+ \(Debian: gcc\); cargo and rustc, 1": {"settings": None, "PATH": "/missing"},
+    FIRST + r"a C compiler, .*; pkg-config \(Debian: pkg-config\)$": {"PATH": "/missing"},
+    FIRST + "the library const_oid_c, .* PKG_CONFIG_PATH": {"PKG_CONFIG_PATH": "/missing", "PKG_CONFIG_LIBDIR": "/missing"},
+    "^const-oid: false .* ends with status 1$": {"CC": "false"},
+    " --no-such-option -shared .* ends with status 1$": {"CFLAGS": "--no-such-option"},
+    " -o .* --no-such-option ends with status 1$": {"LDFLAGS": "--no-such-option"},
+}
 
 
 def said_by(*command):
@@ -65,15 +84,13 @@ class Wheel(unittest.TestCase):
             cls.files = {entry.filename: archive.read(entry) for entry in cls.entries}
 
     def test_the_wheel_has_the_package_alone(self):
-        """Nothing but the package and what says what it is; all may read it, none may run it."""
+        """Nothing but the package and what says what it is, which is installed; all may read it, none may run it."""
         self.assertEqual((FILES, len(FILES)), (set(self.files), len(self.entries)))
         self.assertEqual({0o100644}, {entry.external_attr >> 16 for entry in self.entries})
-        for name in PACKAGE - {"_native.abi3.so", "names.tsv"}:
-            self.assertEqual((TOP / "python/src/const_oid" / name).read_bytes(), self.files[f"const_oid/{name}"])
-        for name in ("LICENSE-APACHE", "LICENSE-MIT"):
-            self.assertEqual((TOP / name).read_bytes(), self.files[f"{STEM}.dist-info/{name}"])
-
-    def test_each_file_is_installed(self):
+        sources = {f"const_oid/{name}": f"python/src/const_oid/{name}" for name in PACKAGE - {"_native.abi3.so", "names.tsv"}}
+        sources |= {f"{STEM}.dist-info/licenses/{name}": name for name in ("LICENSE-APACHE", "LICENSE-MIT")}
+        for name, source in sources.items():
+            self.assertEqual((TOP / source).read_bytes(), self.files[name])
         installed = {str(path) for path in importlib.metadata.files("const-oid") if path.suffix != ".pyc"}
         of_pip = {f"{STEM}.dist-info/{name}" for name in ("INSTALLER", "REQUESTED", "direct_url.json")}
         self.assertEqual(FILES | of_pip, installed)
@@ -87,19 +104,33 @@ class Wheel(unittest.TestCase):
                 self.assertEqual((f"sha256={wanted}", str(len(self.files[name]))), (digest, length))
 
     def test_the_tag_says_abi_and_machine(self):
-        """The name and WHEEL say that the module is for the stable ABI, and for this machine."""
+        """The name and WHEEL say that the module is for the stable ABI, and for this machine, also on macOS."""
         self.assertRegex(self.name, rf"^{STEM}-cp311-abi3-[a-z]+_[a-z0-9_]+\.whl$")
         said = email.message_from_bytes(self.files[f"{STEM}.dist-info/WHEEL"])
         tag = self.name.removeprefix(f"{STEM}-").removesuffix(".whl")
         self.assertEqual((tag, "false"), (said["Tag"], said["Root-Is-Purelib"]))
+        for machine, version in (("arm64", "11_0"), ("x86_64", "10_12")):
+            self.enterContext(mock.patch("sysconfig.get_platform", return_value="macosx-10.9-universal2"))
+            self.enterContext(mock.patch("platform.machine", return_value=machine))
+            self.assertEqual(f"cp311-abi3-macosx_{version}_{machine}", backend()._tag())
 
     def test_the_metadata_is_that_of_the_project(self):
-        project = PROJECT
-        self.assertEqual(">=3.11", project["requires-python"])
+        """The metadata is that of any project; the licence is an expression, and no classifier says it again."""
+        self.assertEqual(">=3.11", PROJECT["requires-python"])
         readme = (TOP / "python/README.md").read_text(encoding="utf-8")
-        self.check_metadata(self.files[f"{STEM}.dist-info/METADATA"].decode(), project, readme)
-        other = {**project, "name": "another", "version": "9.8.7", "description": "Another", "classifiers": ["Typed"]}
-        self.check_metadata(backend().metadata(other, "# Another\n"), other, "# Another\n")
+        other = {**PROJECT, "name": "another", "version": "9.8.7", "description": "Another", "classifiers": ["Typed"]}
+        texts = {self.files[f"{STEM}.dist-info/METADATA"].decode(): (PROJECT, readme)}
+        texts[backend().metadata(other, "# Another\n")] = other, "# Another\n"
+        for text, (project, page) in texts.items():
+            said = email.message_from_string(text)
+            fields = ("Name", "Version", "Summary", "License-Expression", "Requires-Python")
+            names = ("name", "version", "description", "license", "requires-python")
+            self.assertEqual([project[name] for name in names], [said[field] for field in fields])
+            self.assertEqual(("2.4", None), (said["Metadata-Version"], said["License"]))
+            self.assertEqual(["LICENSE-APACHE", "LICENSE-MIT"], said.get_all("License-File"))
+            self.assertEqual(project["classifiers"], said.get_all("Classifier"))
+            self.assertEqual(("text/markdown", page), (said["Description-Content-Type"], said.get_payload()))
+        self.assertEqual([], [text for text in PROJECT["classifiers"] if text.startswith("License")])
 
     def test_metadata_comes_without_a_build(self):
         """What a wheel says of itself comes before it is built, without a compiler."""
@@ -108,16 +139,8 @@ class Wheel(unittest.TestCase):
             status, name, found = built(f"prepare_metadata_for_build_{kind}", None, PATH="/missing")
             self.assertEqual((0, f"{STEM}.dist-info", files), (status, name, found))
 
-    def check_metadata(self, text, project, readme):
-        said = email.message_from_string(text)
-        wanted = [project[name] for name in ("name", "version", "description", "license", "requires-python")]
-        self.assertEqual(wanted, [said[name] for name in ("Name", "Version", "Summary", "License", "Requires-Python")])
-        self.assertEqual(["LICENSE-APACHE", "LICENSE-MIT"], said.get_all("License-File"))
-        self.assertEqual(project["classifiers"], said.get_all("Classifier"))
-        self.assertEqual(("text/markdown", readme), (said["Description-Content-Type"], said.get_payload()))
-
     def test_a_source_archive_builds_the_same_wheel(self):
-        """The archive has all that the wheel is made from, and each has the same bytes each time."""
+        """The archive has all that the wheel is made from, and nothing else. Each has the same bytes each time."""
         status, name, archive = built("build_sdist")
         self.assertEqual((0, f"{STEM}.tar.gz", {f"{STEM}.tar.gz"}), (status, name, set(archive)))
         self.assertEqual(archive, built("build_sdist")[2])
@@ -125,6 +148,9 @@ class Wheel(unittest.TestCase):
             source = unpacked(archive[name], folder)
             self.assertEqual(self.files[f"{STEM}.dist-info/METADATA"], (source / "PKG-INFO").read_bytes())
             self.assertEqual((0, self.name, {self.name: self.wheel}), built("build_wheel", python=source))
+            for stray in ("rust/const-oid-c/target/x.rs", "rust/const-oid/src/x.rs~", "src/const_oid/x.py", "x"):
+                (source / stray).parent.mkdir(exist_ok=True)
+                (source / stray).touch()
             self.assertEqual(archive, built("build_sdist", python=source)[2])
 
     @unittest.skipUnless(shutil.which("cargo"), "cargo is not installed")
@@ -149,7 +175,7 @@ class Wheel(unittest.TestCase):
         module = importlib.util.find_spec("const_oid._native").origin
         self.assertRegex(said_by("nm", "-D", "--defined-only", module), r"^[0-9a-f]+ T PyInit__native$")
         needed = re.findall(r"\(NEEDED\).*\[(.*)\]", said_by("readelf", "-dW", module))
-        self.assertEqual([], [name for name in needed if not re.match(r"(libc|libm|ld-linux.*|libgcc_s|lib[au]?san)\.so", name)])
+        self.assertEqual(["libc.so.6"], needed)
 
     def test_the_source_asks_for_the_limited_api(self):
         """Python's headers declare what the stable ABI of 3.11 has, as the tag says, and the source uses nothing else."""
@@ -176,12 +202,17 @@ def linked(folder):
 
 
 class Build(unittest.TestCase):
-    def test_an_old_python_is_named(self):
+    def test_what_is_missing_is_named(self):
+        """What is missing is named, all of it, before anything is built, and what fails is reported."""
+        for text, call in REFUSED.items():
+            with self.subTest(text):
+                status, said, files = built("build_wheel", **call)
+                self.assertEqual((1, {}), (status, files))
+                self.assertRegex(said, text)
+
+    def test_an_old_python_reads_the_backend(self):
         """A Python before 3.11 reads the backend, which then says what it needs."""
         ast.parse((TOP / "python/backend.py").read_text(encoding="utf-8"), feature_version=(3, 8))
-        version = "import sys; sys.version_info, sys.version = (3, 8, 18), '3.8.18 (of a day)'"
-        wanted = (1, "const-oid: needs Python 3.11 or later, and this is 3.8.18", {})
-        self.assertEqual(wanted, built("build_wheel", before=version))
         for minor in (8, 9, 10):
             program = shutil.which(f"python3.{minor}")
             if program and subprocess.run([program, "-c", ""], capture_output=True).returncode == 0:
@@ -221,17 +252,6 @@ class Build(unittest.TestCase):
             self.assertEqual(("cn\n", ""), (run.stdout, run.stderr))
             self.assertEqual(["const_oid"], os.listdir(place))
 
-    def test_what_is_missing_is_named(self):
-        """What is missing is named, all of it, before anything is built."""
-        status, said, files = built("build_wheel", None, PATH="/missing")
-        self.assertEqual((1, {}), (status, files))
-        wanted = r"^const-oid: to be installed first: a C compiler, \S+ \(Debian: gcc\); cargo and rustc, 1"
-        self.assertRegex(said, wanted)
-        status, said, files = built("build_wheel", PATH="/missing")
-        self.assertRegex(said, r"; pkg-config \(Debian: pkg-config\)$")
-        status, said, files = built("build_wheel", PKG_CONFIG_PATH="/missing", PKG_CONFIG_LIBDIR="/missing")
-        self.assertRegex(said, r"^const-oid: to be installed first: the library const_oid_c, .* PKG_CONFIG_PATH")
-
     def test_an_old_rust_is_rejected(self):
         wanted = "const-oid: to be installed first: rustc 1.85 or later (https://rustup.rs)"
         for version, is_old in (("1.84.1", True), ("1.100.0", False)):
@@ -244,37 +264,22 @@ class Build(unittest.TestCase):
                 status, said, files = built("build_wheel", None, **variables)
             self.assertEqual((1, is_old), (status, said == wanted), said)
 
-    def test_a_compiler_that_fails_is_reported(self):
-        status, said, files = built("build_wheel", CC="false")
-        self.assertEqual((1, {}), (status, files))
-        self.assertIn("ends with status 1", said)
-
-    def test_flags_of_the_user_are_taken(self):
-        for flags in ("CFLAGS", "LDFLAGS"):
-            status, said, files = built("build_wheel", **{flags: "-Wl,--no-such-option"})
-            self.assertEqual((1, []), (status, list(files)), said)
-
-    def import_with(self, header):
-        """What the import of a wheel says whose module is compiled after a header."""
-        with tempfile.TemporaryDirectory() as folder:
-            path = pathlib.Path(folder) / "before.h"
-            path.write_text(header, encoding="utf-8")
-            status, name, files = built("build_wheel", CFLAGS=f"-include {path}")
-            self.assertEqual(0, status, name)
-            with zipfile.ZipFile(io.BytesIO(files[name])) as archive:
-                archive.extractall(folder)
-            code = f"import sys; sys.path.insert(0, {folder!r}); import const_oid"
-            return subprocess.run([sys.executable, "-c", code], text=True, capture_output=True).stderr
-
-    @unittest.skipUnless(sys.version_info < (3, 12), "later versions know the slot")
-    def test_a_later_python_reads_the_slot_of_interpreters(self):
-        """A module that takes this Python for 3.12 has the slot, which this one does not know."""
-        python = "#define Py_LIMITED_API 0x030B0000\n#define PY_SSIZE_T_CLEAN\n#include <Python.h>\n"
-        said = self.import_with(f"{python}#define Py_Version 0x030C0000\n")
-        self.assertIn("SystemError: module const_oid._native uses unknown slot ID 3", said)
-
-    def test_a_library_of_another_version_is_rejected(self):
-        """A module over a library of another version does not import."""
-        version = "static uint32_t other(void) { return 2 << 16 | 3; }\n#define const_oid_version other\n"
-        said = self.import_with(f"#include <const_oid.h>\n{version}")
-        self.assertIn("ImportError: the library const_oid_c has version 2, not 1", said)
+    def test_wrong_modules_are_not_imported(self):
+        """A module over a library of another version, and one that takes this Python for 3.12 and so has a slot for
+        interpreters, are not imported. They are compiled with other definitions, by a compiler of two words."""
+        other = "static uint32_t other(void) { return 2 << 16 | 3; }\n#define const_oid_version other\n"
+        wrong = {f"#include <const_oid.h>\n{other}": "ImportError: the library const_oid_c has version 2, not 1"}
+        if sys.version_info < (3, 12):
+            python = "#define Py_LIMITED_API 0x030B0000\n#define PY_SSIZE_T_CLEAN\n#include <Python.h>\n"
+            wrong[f"{python}#define Py_Version 0x030C0000\n"] = "module const_oid._native uses unknown slot ID 3"
+        for header, text in wrong.items():
+            with self.subTest(text), tempfile.TemporaryDirectory() as folder:
+                path = pathlib.Path(folder) / "before.h"
+                path.write_text(header, encoding="utf-8")
+                status, name, files = built("build_wheel", CFLAGS=f"-include {path}", CC=f"env {CC}")
+                self.assertEqual(0, status, name)
+                with zipfile.ZipFile(io.BytesIO(files[name])) as archive:
+                    archive.extractall(folder)
+                code = f"import sys; sys.path.insert(0, {folder!r}); import const_oid"
+                run = subprocess.run([sys.executable, "-c", code], text=True, capture_output=True)
+                self.assertIn(text, run.stderr)

@@ -17,18 +17,12 @@ def uses() -> None:
     assert_type(ObjectIdentifier(under), ObjectIdentifier)
     for octets in (b"\x2a", bytearray(b"\x2a"), memoryview(b"\x2a")):
         assert_type(Under.from_bytes(octets), Under)
-    assert_type(Under.from_arcs([2, 999]), Under)
-    assert_type(Under.from_arcs(oid), Under)
-    assert_type(under.child(3), Under)
-    assert_type(under.child(True).first(), int)
-    assert_type(under.parent, Under | None)
-    assert_type(oid.arcs, tuple[int, ...])
-    assert_type(oid[0], int)
-    assert_type(oid[1:], tuple[int, ...])
-    assert_type(oid.starts_with(under), bool)
-    assert_type(840 in oid, bool)
+    assert_type((Under.from_arcs([2, 999]), Under.from_arcs(oid), under.child(3)), tuple[Under, Under, Under])
+    assert_type((under.parent, oid.arcs, oid[1:]), tuple[Under | None, tuple[int, ...], tuple[int, ...]])
+    assert_type((oid.starts_with(under), 840 in oid), tuple[bool, bool])
     assert_type((oid < under, oid == "1.2"), tuple[bool, bool])
-    assert_type((len(oid), hash(oid), oid.index(2), oid.count(2)), tuple[int, int, int, int])
+    assert_type((under.child(True).first(), oid[0], len(oid)), tuple[int, int, int])
+    assert_type((hash(oid), oid.index(2), oid.count(2)), tuple[int, int, int])
     assert_type((str(oid), bytes(oid), f"{oid:>9}", copy.copy(under)), tuple[str, bytes, str, Under])
     match oid:
         case ObjectIdentifier((first, *_)):
@@ -43,18 +37,16 @@ def uses() -> None:
 def tables(key: dict[ObjectIdentifier, str]) -> None:
     oid = ObjectIdentifier("2.5.4.3")
     sorted_key = assert_type(SortedMap(key), SortedMap[str])
-    assert_type(SortedMap([(oid, 1)]), SortedMap[int])
     below = {Under(oid): "name"}
-    assert_type(SortedMap(below), SortedMap[str])
+    assert_type((SortedMap([(oid, 1)]), SortedMap(below)), tuple[SortedMap[int], SortedMap[str]])
     sorted_key.update(below)
     assert_type((sorted_key | below, sorted_key.copy()), tuple[SortedMap[str], SortedMap[str]])
     sorted_key |= [(oid, "name")]
-    assert_type(sorted_key.nearest(oid), tuple[ObjectIdentifier, str] | None)
-    assert_type(sorted_key.next_after(oid), tuple[ObjectIdentifier, str] | None)
-    assert_type(sorted_key.subtree(oid), list[tuple[ObjectIdentifier, str]])
-    assert_type(list(sorted_key), list[ObjectIdentifier])
+    found = (sorted_key.nearest(oid), sorted_key.next_after(oid))
+    assert_type(found, tuple[tuple[ObjectIdentifier, str] | None, tuple[ObjectIdentifier, str] | None])
+    assert_type((sorted_key.subtree(oid), list(sorted_key)), tuple[list[tuple[ObjectIdentifier, str]], list[ObjectIdentifier]])
     assert_type((names.name_of(oid), names.by_name("cn")), tuple[str | None, ObjectIdentifier | None])
-    assert_type(names.names_of(oid), tuple[str, ...])
+    assert_type((names.names_of(oid), sorted_key.popitem()), tuple[tuple[str, ...], tuple[ObjectIdentifier, str]])
     entries: Iterable[tuple[ObjectIdentifier, str]] = names.entries()
     assert_type(SortedMap(entries), SortedMap[str])
 

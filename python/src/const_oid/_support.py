@@ -4,12 +4,18 @@ from __future__ import annotations
 
 import copy
 import enum
+import importlib
 import re
-from bisect import bisect_left
+import reprlib
+import sys
+from collections.abc import Sequence
+from typing import Any
 
 from ._native import ObjectIdentifier, error_text
 
 PUBLIC = "const_oid"
+
+Sequence.register(ObjectIdentifier)
 
 
 class Code(enum.IntEnum):
@@ -42,7 +48,7 @@ class OidError(ValueError):
     ...     ObjectIdentifier("1.2.x")
     ... except OidError as error:
     ...     print(error, error.code.name, error.detail, error.given, error.piece, sep="; ")
-    expected digit, got 'x'; DIGIT_EXPECTED; 120; 1.2.x; 2
+    expected digit, got 'x', given '1.2.x'; DIGIT_EXPECTED; 120; 1.2.x; 2
     """
 
     __module__ = PUBLIC
@@ -58,52 +64,57 @@ class OidError(ValueError):
 
     @property
     def piece(self) -> int | None:
-        """The index of the first wrong component, between the dots of a text, or None if no component is wrong."""
+        """The index of the first wrong component, between the dots of a text, or None if no component is wrong. A dot at
+        the end belongs to the component before it.
+
+        >>> [OidError(Code.TRAILING_DOT, 0, text).piece for text in ("3.", "1.2.")]
+        [0, 1]
+        """
         if not isinstance(self.given, str):
             return None
-        text: str = self.given
-        # All components before `right` are right, and `head` stands for them; those up to `wrong` are not.
-        head, right, wrong = "", 0, len(text) + 1
-
-        def is_wrong(offset: int) -> bool:
-            """Whether the components up to that of an offset are no identifier, and do not begin one."""
-            nonlocal head, right, wrong
-            end = text.find(".", offset)
-            end = len(text) if end < 0 else end
-            if end < right or end >= wrong:
-                return end >= wrong
-            start = head + text[right:end]
+        pieces = self.given.split(".")
+        for index, piece in enumerate(pieces):
             try:
-                ObjectIdentifier(start if "." in start else start + ".0")
+                ObjectIdentifier(f"{piece}.0" if index == 0 else f"{pieces[0] if index == 1 else '1.1'}.{piece}")
             except OidError:
-                wrong = end
-                return True
-            if "." in start:
-                head, right = "1.1.", end + 1
-            return False
-
-        offset = bisect_left(range(len(text) + 1), True, key=is_wrong)
-        return text.count(".", 0, offset) if offset <= len(text) else None
+                return index - 1 if index and pieces[index:] == [""] else index
+        return None if len(pieces) > 1 else 0
 
     def __str__(self) -> str:
         text = error_text(self.code, self.detail) or f"{self.code.name} {self.detail}"
-        if self.code is not Code.DIGIT_EXPECTED or not isinstance(self.given, str):
-            return text
-        if re.match(r"\.[0-9]", self.given):
-            return text + " (remove the first dot)"
-        character = re.search("[^\0-\x7f]", self.given) if 127 < self.detail < 256 else None
-        return text.replace(chr(self.detail), character[0]) if character else text
+        given = self.given if isinstance(self.given, str) else ""
+        if self.code is Code.EMPTY and self.given:
+            text = "an identifier has two arcs or more"
+        elif self.code is Code.DIGIT_EXPECTED and self.detail < 256:
+            character = re.search("[^\0-\x7f]", given) if self.detail > 127 else None
+            text = text.replace(chr(self.detail), repr(character[0] if character else chr(self.detail))[1:-1])
+            if re.match(r"\.[0-9]", given):
+                text += " (remove the first dot)"
+        return text if self.given is None else f"{text}, given {SHOWN.repr(self.given)}"
 
     def __repr__(self) -> str:
-        given = "" if self.given is None else f", {self.given!r}"
+        given = "" if self.given is None else f", {SHOWN.repr(self.given)}"
         return f"{type(self).__name__}(Code.{self.code.name}, {self.detail}{given})"
 
+
+class _Shown(reprlib.Repr):
+    """Shows a value as repr does, but cut if it is long."""
+
+    # One of more digits than Python prints is no error.
+    repr_int = reprlib.Repr.repr_instance
+
+
+SHOWN = _Shown()
+SHOWN.maxstring = SHOWN.maxother = 60
+SHOWN.maxtuple = 12
 
 HINTS: dict[type, str] = {
     str: "ObjectIdentifier takes text",
     bytes: "from_bytes takes octets",
     tuple: "from_arcs takes arcs",
     list: "from_arcs takes arcs",
+    set: "a set has no order",
+    frozenset: "a set has no order",
 }
 
 
@@ -123,13 +134,43 @@ def required(oid: ObjectIdentifier, name: str) -> ObjectIdentifier:
     return oid
 
 
-def copied(oid: ObjectIdentifier, memo: dict[int, object] | None = None) -> ObjectIdentifier:
-    """A copy of an identifier of a subclass, with its attributes, which are copied too if there is a memo."""
+def copied(oid: ObjectIdentifier, memos: tuple[dict[int, object], ...]) -> ObjectIdentifier:
+    """An identifier, or a copy of one of a subclass, with its attributes, which are copied too if there is a memo."""
+    if type(oid) is ObjectIdentifier:
+        return oid
     made, state = type(oid)(ObjectIdentifier(oid)), oid.__getstate__()
-    if memo is not None:
+    for memo in memos:
         memo[id(oid)] = made
         state = copy.deepcopy(state, memo)
     for attributes in state if isinstance(state, tuple) else (state,):
         for name, value in (attributes or {}).items():
             setattr(made, name, value)
     return made
+
+
+def reduced(oid: ObjectIdentifier) -> tuple[object, ...]:
+    """For pickles of a subclass, which is called again, and gets its attributes."""
+    return type(oid), (ObjectIdentifier(oid),), oid.__getstate__()
+
+
+def as_array(oid: ObjectIdentifier) -> Any:
+    """An array of numpy, without dimensions, of this object."""
+    array: Any = importlib.import_module("numpy").empty((), "O")
+    array[()] = oid
+    return array
+
+
+def pydantic_schema(kind: type[ObjectIdentifier], _: object) -> Any:
+    """For a field of pydantic 2: text and identifiers are taken, and text is given in JSON."""
+    schemas: Any = importlib.import_module("pydantic_core").core_schema
+    text = schemas.str_schema()
+    either = schemas.union_schema([schemas.is_instance_schema(ObjectIdentifier), text])
+    taken, given = schemas.json_or_python_schema(text, either), schemas.to_string_ser_schema()
+    return schemas.no_info_after_validator_function(kind, taken, serialization=given)
+
+
+def pydantic_validators(kind: type[ObjectIdentifier], _: object) -> list[type[ObjectIdentifier]]:
+    """The same for pydantic 1, which looks in a table of its own for what gives text."""
+    for name in ("pydantic.json", "pydantic.v1.json"):
+        getattr(sys.modules.get(name), "ENCODERS_BY_TYPE", {})[ObjectIdentifier] = str
+    return [kind]

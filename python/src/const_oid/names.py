@@ -1,11 +1,4 @@
-"""Names of identifiers, from RFCs and other documents: 1,492 entries.
-
->>> from const_oid import ObjectIdentifier, names
->>> names.name_of(ObjectIdentifier("1.2.840.10045.2.1"))
-'id-ecPublicKey'
->>> names.by_name("ID-ECPUBLICKEY")
-ObjectIdentifier('1.2.840.10045.2.1')
-"""
+"""Names of identifiers, from RFCs and other documents: 1,492 entries."""
 
 from __future__ import annotations
 
@@ -20,7 +13,11 @@ __all__ = ["by_name", "entries", "name_of", "names_of"]
 
 @cache
 def entries() -> tuple[tuple[ObjectIdentifier, str], ...]:
-    """All entries, each an identifier and a name, in the order of the table."""
+    """All entries, each an identifier and a name, in the order of the table.
+
+    >>> len(entries()), entries()[0]
+    (1492, (ObjectIdentifier('1.2.112.0.2.0.34.101.66'), 'bake'))
+    """
     lines = pathlib.Path(__file__).with_name("names.tsv").read_text(encoding="utf-8").splitlines()
     return tuple((ObjectIdentifier(text), name) for text, name in (line.split("\t") for line in lines))
 
@@ -44,7 +41,11 @@ def _fold_case(name: str) -> bytes:
 
 
 def name_of(oid: ObjectIdentifier) -> str | None:
-    """The first name of an identifier, or None."""
+    """The first name of an identifier, or None.
+
+    >>> name_of(ObjectIdentifier("1.2.840.10045.2.1"))
+    'id-ecPublicKey'
+    """
     return next(iter(_by_oid().get(required(oid, "oid"), ())), None)
 
 
@@ -58,7 +59,11 @@ def names_of(oid: ObjectIdentifier) -> tuple[str, ...]:
 
 
 def by_name(name: str) -> ObjectIdentifier | None:
-    """The first identifier with a name, whatever the case of its ASCII letters, or None."""
+    """The first identifier with a name, whatever the case of its ASCII letters, or None.
+
+    >>> by_name("ID-ECPUBLICKEY")
+    ObjectIdentifier('1.2.840.10045.2.1')
+    """
     if not isinstance(name, str):
         raise wrong_type("name must be a str", name)
     return _by_name().get(_fold_case(name))

@@ -6,6 +6,7 @@ import copy
 from bisect import bisect, bisect_left, insort
 from collections.abc import Callable, Iterable, Iterator, Mapping, MutableMapping
 from itertools import chain
+from operator import itemgetter
 from typing import Any, Self, TypeVar
 
 from ._native import ObjectIdentifier
@@ -16,6 +17,7 @@ Value = TypeVar("Value")
 
 PART = 1000
 _CONTINUED = bytes(range(128, 256))
+_LAST = itemgetter(-1)
 
 
 class SortedMap(MutableMapping[ObjectIdentifier, Value]):
@@ -73,17 +75,54 @@ class SortedMap(MutableMapping[ObjectIdentifier, Value]):
         return [(key, self._values[key]) for key in self._keys.subtree(required(oid, "key"))]
 
     def copy(self) -> Self:
-        """A map with the same keys and values, which are not copied."""
+        """A map with the same keys and values, which are not copied.
+
+        >>> table = SortedMap({ObjectIdentifier("2.5"): "directory"})
+        >>> table.copy() == table, table.copy() is table
+        (True, False)
+        """
         return copy.copy(self)
 
+    @classmethod
+    def fromkeys(cls, keys: Iterable[ObjectIdentifier], value: Any = None) -> Self:
+        """A map of keys that all have one value.
+
+        >>> SortedMap.fromkeys([ObjectIdentifier("2.5")], 1)
+        SortedMap({ObjectIdentifier('2.5'): 1})
+        """
+        return cls((key, value) for key in keys)
+
+    def popitem(self) -> tuple[ObjectIdentifier, Value]:
+        """Removes the last entry and returns it, or raises a KeyError if there is none.
+
+        >>> SortedMap({ObjectIdentifier("2.6"): 2, ObjectIdentifier("2.5"): 1}).popitem()
+        (ObjectIdentifier('2.6'), 2)
+        """
+        for key in reversed(self):
+            return key, self.pop(key)
+        raise KeyError("popitem(): the map is empty")
+
     def clear(self) -> None:
+        """Removes all entries.
+
+        >>> table = SortedMap({ObjectIdentifier("2.5"): "directory"})
+        >>> table.clear()
+        >>> table
+        SortedMap({})
+        """
         self._values.clear()
         self._keys = _Keys(())
 
     def update(  # type: ignore[override]
         self, entries: Mapping[Key, Value] | Iterable[tuple[ObjectIdentifier, Value]] = (), /
     ) -> None:
-        """Sets all entries of a mapping or an iterable, or none if a key is no identifier."""
+        """Sets all entries of a mapping or an iterable, or none if a key is no identifier.
+
+        >>> table = SortedMap({ObjectIdentifier("2.5"): 1})
+        >>> table.update({ObjectIdentifier("2.5"): 2, ObjectIdentifier("2.4"): 3})
+        >>> table
+        SortedMap({ObjectIdentifier('2.4'): 3, ObjectIdentifier('2.5'): 2})
+        """
         values = _checked(entries)
         added = values.keys() - self._values.keys()
         self._values.update(values)
@@ -105,9 +144,7 @@ class SortedMap(MutableMapping[ObjectIdentifier, Value]):
             return NotImplemented
         result = self.copy()
         result.clear()
-        result.update(other)
-        result.update(self)
-        return result
+        return result | other | self
 
     def __ior__(self, other: Mapping[Key, Value] | Iterable[tuple[ObjectIdentifier, Value]]) -> Self:
         self.update(other)
@@ -182,22 +219,21 @@ def _common_prefix(oid: ObjectIdentifier, other: ObjectIdentifier) -> ObjectIden
 class _Keys:
     """Keys in order, in parts of at most 2 * PART, so that one more moves few of them."""
 
-    __slots__ = ("_lasts", "_parts", "changes")
+    __slots__ = ("_parts", "changes")
 
     def __init__(self, keys: Iterable[ObjectIdentifier]) -> None:
         keys = sorted(keys)
         self._parts = [keys[start : start + PART] for start in range(0, len(keys), PART)]
-        self._lasts = [part[-1] for part in self._parts]
         self.changes = 0
 
     def add(self, key: ObjectIdentifier) -> None:
-        index = min(bisect_left(self._lasts, key), len(self._lasts) - 1)
+        index = min(bisect_left(self._parts, key, key=_LAST), len(self._parts) - 1)
         part = self._parts[index] if self._parts else []
         insort(part, key)
         self._replace(index, part)
 
     def remove(self, key: ObjectIdentifier) -> None:
-        index = bisect_left(self._lasts, key)
+        index = bisect_left(self._parts, key, key=_LAST)
         part = self._parts[index]
         del part[bisect_left(part, key)]
         self._replace(index, part)
@@ -205,33 +241,26 @@ class _Keys:
     def _replace(self, index: int, part: list[ObjectIdentifier]) -> None:
         """Puts a part that has changed in its place: as two if it is too long, and as none if it is empty."""
         self.changes += 1
-        if 0 < len(part) <= 2 * PART and self._parts:
-            self._lasts[index] = part[-1]
-            return
-        parts = [half for half in (part[:PART], part[PART:]) if half]
-        self._parts[index : index + 1] = parts
-        self._lasts[index : index + 1] = [half[-1] for half in parts]
+        if not (0 < len(part) <= 2 * PART and self._parts):
+            self._parts[index : index + 1] = [half for half in (part[:PART], part[PART:]) if half]
 
     def first_after(self, oid: ObjectIdentifier) -> ObjectIdentifier | None:
         """The first key after an identifier, or None."""
-        index = bisect(self._lasts, oid)
-        if index == len(self._lasts):
-            return None
-        part = self._parts[index]
-        return part[bisect(part, oid)]
+        index = bisect(self._parts, oid, key=_LAST)
+        return self._parts[index][bisect(self._parts[index], oid)] if index < len(self._parts) else None
 
     def last_until(self, oid: ObjectIdentifier) -> ObjectIdentifier | None:
         """The last key that is not after an identifier, or None."""
-        index = bisect(self._lasts, oid)
+        index = bisect(self._parts, oid, key=_LAST)
         before = bisect(self._parts[index], oid) if index < len(self._parts) else 0
         if before:
             return self._parts[index][before - 1]
-        return self._lasts[index - 1] if index else None
+        return self._parts[index - 1][-1] if index else None
 
     def subtree(self, oid: ObjectIdentifier) -> list[ObjectIdentifier]:
         """The keys that begin with an identifier."""
         found: list[ObjectIdentifier] = []
-        for part in self._parts[bisect_left(self._lasts, oid) :]:
+        for part in self._parts[bisect_left(self._parts, oid, key=_LAST) :]:
             start = bisect_left(part, oid)
             end = bisect_left(part, True, start, key=lambda key: not key.starts_with(oid))
             found += part[start:end]
