@@ -1,3 +1,4 @@
+#define _POSIX_C_SOURCE 200809L
 /* Threads that make calls at once, each with an identifier and an error of its own, get what one thread alone got. */
 #include "const_oid.h"
 #include "see.h"
@@ -7,7 +8,7 @@
 
 enum { THREADS = 8, TURNS = 2000, MOST = 300, COUNTS = 8 };
 
-static const size_t counts[COUNTS] = {2, 5, 17, 39, 65, 255, 256, MOST};
+static const size_t counts[COUNTS] = {2, 5, 9, 14, 30, 65, 255, MOST};
 
 /* What calls write and return. */
 typedef struct {
@@ -18,6 +19,7 @@ typedef struct {
 } results;
 
 static results alone[THREADS][COUNTS];
+static pthread_barrier_t start;
 
 /* Makes calls for an identifier of so many octets: 1.2, and then one arc again and again, of two digits. */
 static void call(unsigned arc, size_t count, results *to) {
@@ -37,6 +39,7 @@ static void call(unsigned arc, size_t count, results *to) {
 static void *run(void *of_thread) {
     const results *wanted = of_thread; /* for each number of octets */
     results got;
+    pthread_barrier_wait(&start);
     for (int turn = 0; turn < TURNS * COUNTS; turn++) {
         call(wanted->arcs[2], counts[turn % COUNTS], &got);
         SEE(memcmp(&got, &wanted[turn % COUNTS], sizeof got) == 0, counts[turn % COUNTS]);
@@ -46,6 +49,7 @@ static void *run(void *of_thread) {
 
 int main(void) {
     pthread_t threads[THREADS];
+    SEE(pthread_barrier_init(&start, NULL, THREADS) == 0, 0);
     for (unsigned i = 0; i < THREADS; i++)
         for (int k = 0; k < COUNTS; k++) call(11 * (i + 1), counts[k], &alone[i][k]);
     for (int i = 0; i < THREADS; i++) SEE(pthread_create(&threads[i], NULL, run, alone[i]) == 0, (size_t)i);
