@@ -106,6 +106,18 @@ fn reads_long_der() {
     }
 }
 
+/// Input that is not UTF-8, and a full device, end it with an error.
+#[test]
+fn input_and_output_that_fail_are_errors() {
+    let (mut out, mut errors) = (Vec::new(), Vec::new());
+    assert!(oid::run(&[], &b"2.5.4.3\n\xFF\n2.5.4.6\n"[..], &mut out, &mut errors).is_err());
+    let Ok(mut full) = std::fs::File::create("/dev/full") else { return };
+    for arguments in [&["2.5.4.3"][..], &["--tree", "bake"], &["--help"]] {
+        assert!(oid::run(arguments, &b""[..], &mut full, &mut errors).is_err(), "{arguments:?}");
+    }
+    assert!(oid::run(&["2.5."], &b""[..], &mut out, &mut full).is_err());
+}
+
 #[test]
 fn help_names_each_option() {
     let (out, errors, is_read) = run("--help 3.1", "");

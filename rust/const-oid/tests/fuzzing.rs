@@ -9,40 +9,19 @@ fn drawn(octets: &[u8]) -> arbitrary::Result<ObjectIdentifier> {
 }
 
 #[test]
-fn octets_become_arcs() {
+fn octets_become_arcs_that_are_in_range() {
     let oid = drawn(&[2, 0, 0, 0, 231, 3, 0, 0, 3, 0, 0, 0, 1, 4, 0, 0, 0, 0]).unwrap();
     assert_eq!(oid.to_string(), "2.999.3.4");
     let oid = drawn(&[4, 0, 0, 0, 40, 0, 0, 0, 7, 0, 0, 0]).unwrap();
     assert_eq!(oid.to_string(), "1.0.7");
-}
-
-#[test]
-fn takes_as_many_arcs_as_fit() {
-    let oid = drawn(&[1; 1000]).unwrap();
-    assert_eq!(oid.len(), 11);
-    assert!(oid.push_arc(0x0101_0101).is_err());
-}
-
-#[test]
-fn needs_octets_of_three_arcs() {
     assert!(drawn(&[1; 11]).is_err());
-    assert_eq!(drawn(&[1; 12]).unwrap().len(), 3);
     assert_eq!(ObjectIdentifier::size_hint(0), (12, None));
-}
-
-/// Every second arc, and every later one, the fourth too.
-#[test]
-fn takes_any_arc_that_is_in_range() {
     for arc in [0, 39, 40, 127, 128, 999, 1_000, 1_001, 65_535, 65_536, u32::MAX] {
-        let octets = [&[2, 0, 0, 0], &arc.to_le_bytes()[..], &arc.to_le_bytes()].concat();
-        assert!(drawn(&octets).unwrap().arcs().eq([2, arc, arc]), "{arc}");
-        let octets = [&[1, 0, 0, 0], &arc.to_le_bytes()[..], &[7, 0, 0, 0]].concat();
-        assert!(drawn(&octets).unwrap().arcs().eq([1, arc % 40, 7]), "{arc}");
-        let octets = [&[1, 0, 0, 0, 5, 0, 0, 0, 7, 0, 0, 0, 1], &arc.to_le_bytes()[..]].concat();
-        assert!(drawn(&octets).unwrap().arcs().eq([1, 5, 7, arc]), "{arc}");
+        for (first, second) in [(2, arc), (1, arc % 40), (0, arc % 40)] {
+            let octets = [first, arc, arc].map(u32::to_le_bytes).concat();
+            assert!(drawn(&octets).unwrap().arcs().eq([first, second, arc]), "{first} {arc}");
+        }
     }
-    let first = |octet| drawn(&[octet, 0, 0, 0, 5, 0, 0, 0, 7, 0, 0, 0]).unwrap().arc(0);
-    assert_eq!([0, 1, 2].map(first), [0, 1, 2].map(Some));
 }
 
 /// Every number of arcs, and at every place an arc of every length: as many arcs as fit.

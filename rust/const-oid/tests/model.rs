@@ -4,7 +4,9 @@
 use const_oid::{Arc, Arcs, ByArcs, Error, ObjectIdentifier, ObjectIdentifierRef};
 use std::borrow::Borrow;
 use std::cmp::Ordering;
+use std::collections::{BTreeMap, HashMap};
 use std::hash::{Hash, Hasher};
+use std::ops::Bound::{Excluded, Unbounded};
 use std::thread;
 
 /// Calls a macro for each capacity.
@@ -685,6 +687,29 @@ fn finds_names_past_255_octets() {
         assert_eq!(oid.as_bytes(), octets);
         assert_eq!(sorted.binary_search(&ByArcs(oid)), Ok(index));
         assert!(oid.to_string().split('.').map(|arc| arc.parse::<Arc>().unwrap()).eq(arcs.iter().copied()));
+    }
+}
+
+/// Maps of owned keys by arcs, searched by borrowed ones.
+#[test]
+fn maps_of_keys_by_arcs_are_searched_by_borrowed_ones() {
+    let mut names: Vec<Vec<Arc>> = valid().iter().map(|octets| model::of_octets(octets).unwrap()).collect();
+    names.retain(|arcs| model::encoding(arcs).len() <= 255);
+    names.sort();
+    names.dedup();
+    let owned = |arcs: &Vec<Arc>| ObjectIdentifier::<255>::from_arcs_sized(arcs.iter().copied()).unwrap();
+    let by_arcs: BTreeMap<ByArcs<_>, usize> = names.iter().map(|arcs| owned(arcs).into()).zip(0..).step_by(2).collect();
+    let by_hash: HashMap<_, usize> = by_arcs.clone().into_iter().collect();
+    let plain: HashMap<_, usize> = by_arcs.iter().map(|(key, index)| (key.0, *index)).collect();
+    for (index, arcs) in names.iter().enumerate() {
+        let oid = owned(arcs);
+        let key = ByArcs::of(&oid);
+        let found = (index % 2 == 0).then_some(&index);
+        assert_eq!((by_arcs.get(key), by_hash.get(key), plain.get(oid.as_oid_ref())), (found, found, found));
+        let next = by_arcs.range::<ByArcs<_>, _>((Excluded(key), Unbounded)).next();
+        assert_eq!(next.map(|entry| *entry.1), (index / 2 * 2 + 2 < names.len()).then_some(index / 2 * 2 + 2));
+        assert!(key.arcs().eq(arcs.iter().copied()) && ByArcs(oid).parent() == oid.parent());
+        assert_eq!(format!("{key} {key:?}"), format!("{oid} ByArcs({:?})", oid.as_oid_ref()));
     }
 }
 

@@ -1,4 +1,4 @@
-//! The shape of the crate: its public items with their traits, its constant functions, and its `Cargo.toml`.
+//! The shape of the crate: its public items with their traits, its constants, and what `Cargo.toml` says.
 
 use const_oid::{
     Arc, Arcs, AssociatedOid, Buffer, ByArcs, DynAssociatedOid, Error, ObjectIdentifier, ObjectIdentifierRef, Result,
@@ -8,6 +8,7 @@ use std::fmt::{Debug, Display};
 use std::hash::Hash;
 use std::iter::FusedIterator;
 use std::ops::Deref;
+use std::panic::catch_unwind;
 use std::str::FromStr;
 
 /// A function for all types with these parameters, which compiles if they have a trait.
@@ -80,14 +81,40 @@ constants! { (buffer: &Buffer<7>)
     Buffer::eq(buffer, buffer);
 }
 
-/// The values of constants.
-const _: () = {
-    const CHILD: Result<ObjectIdentifier> = CN.push_arc(1 as Arc);
+/// Constants, as values and as patterns.
+#[test]
+fn constants_have_their_values() {
+    const CHILD: Result<ObjectIdentifier> = CN.push_arc(Arc::MAX);
     const SIZED: Result<ObjectIdentifier<4>> = ObjectIdentifier::<4>::new_sized("2.5.4.3");
-    assert!(CN.as_bytes().len() == 3 && CN.as_oid_ref().as_bytes().len() == 3);
-    assert!(SIZED.is_ok() && CHILD.is_ok() && CN.starts_with(CN));
-    assert!(ObjectIdentifier::MAX_SIZE == 39);
-};
+    const REFUSED: Result<ObjectIdentifier> = ObjectIdentifier::new("2.5.");
+    const BORROWED: &ObjectIdentifierRef = CN.as_oid_ref();
+    const { assert!(SIZED.is_ok() && CN.starts_with(CN) && ObjectIdentifier::MAX_SIZE == 39) };
+    assert_eq!(CHILD.unwrap().to_string(), "2.5.4.3.4294967295");
+    assert_eq!((REFUSED, BORROWED.as_bytes()), (Err(Error::TrailingDot), CN.as_bytes()));
+    assert_eq!(size_of::<ObjectIdentifier>(), 40);
+    let is_cn = |oid| matches!(oid, CN);
+    assert!(is_cn("2.5.4.3".parse().unwrap()) && is_cn(CHILD.unwrap().parent().unwrap()) && !is_cn(CHILD.unwrap()));
+    // `parse` has one capacity, so that of an argument is known.
+    assert!(CN == "2.5.4.3".parse().unwrap() && CN.starts_with("2.5.4".parse().unwrap()));
+}
+
+#[test]
+fn a_wrong_text_panics_with_the_text_of_its_error() {
+    for (text, expected) in [
+        ("3.1", "OID contains invalid arc"),
+        ("1.40", "OID contains invalid arc"),
+        ("1.2.4294967296", "OID contains invalid arc"),
+        ("1.2.X", "OID expected to start with digit"),
+        ("1", "OID value is empty"),
+        (&format!("2{}", ".4294967295".repeat(8)), "OID length invalid"),
+        ("1.2..3", "repeated consecutive '..' characters in OID"),
+        ("1.2.", "OID ends with invalid trailing '.'"),
+    ] {
+        let panic = catch_unwind(|| ObjectIdentifier::new_unwrap(text)).expect_err(text);
+        let message = panic.downcast_ref::<String>().map(String::as_str);
+        assert_eq!(message.or(panic.downcast_ref::<&str>().copied()), Some(expected), "{text}");
+    }
+}
 
 /// The functions that no constant may call, each with its type.
 #[test]
@@ -173,101 +200,35 @@ mod db {
     }
 }
 
-/// The settings of a `Cargo.toml`, each with its section.
-fn settings(path: &str) -> Vec<(String, String)> {
-    let path = format!("{}/{path}", env!("CARGO_MANIFEST_DIR"));
+/// The value of the first setting of a name in a file, from the top of the repository.
+fn setting(path: &str, name: &str) -> String {
+    let path = format!("{}/../../{path}", env!("CARGO_MANIFEST_DIR"));
     let text = std::fs::read_to_string(path).unwrap();
-    let mut section = "";
-    let mut out = Vec::new();
-    for line in text.lines().filter(|line| !line.starts_with('#') && !line.is_empty()) {
-        if line.starts_with('[') {
-            section = line.trim_matches(['[', ']']);
-            out.push((section.into(), String::new()));
-        } else {
-            let (key, value) = line.split_once(" = ").unwrap();
-            out.push((format!("{section}.{key}"), value.into()));
-        }
+    let value = text.lines().find_map(|line| line.strip_prefix(name)).unwrap();
+    value.trim_matches([' ', '=', '"', 'u', 'U']).to_string()
+}
+
+/// The crate replaces const-oid 0.10.2, the library for C has the version of its header, and all are for the same Rust.
+#[test]
+fn packages_have_their_versions() {
+    assert_eq!(setting("rust/const-oid/Cargo.toml", "version"), "0.10.2");
+    for package in ["arbitrary", "const-oid", "const-oid-c", "erase"] {
+        assert_eq!(setting(&format!("rust/{package}/Cargo.toml"), "rust-version"), "1.85", "{package}");
     }
-    out
-}
-
-/// What cargo reads of the crate. It depends on nothing beside it.
-#[test]
-fn the_manifest_has_what_cargo_reads() {
-    let told = ["description", "readme", "keywords", "categories"];
-    let found: Vec<(String, String)> = settings("Cargo.toml")
-        .into_iter()
-        .filter(|(key, _)| !told.iter().any(|told| *key == format!("package.{told}")))
-        .collect();
-    let expected = [
-        ("package", ""),
-        ("package.name", "\"const-oid\""),
-        ("package.version", "\"0.10.2\""),
-        ("package.edition", "\"2024\""),
-        ("package.rust-version", "\"1.85\""),
-        ("package.license", "\"Apache-2.0 OR MIT\""),
-        ("package.publish", "false"),
-        ("package.exclude", "[\"tests\"]"),
-        ("package.metadata.docs.rs", ""),
-        ("package.metadata.docs.rs.all-features", "true"),
-        ("features", ""),
-        ("features.arbitrary", "[\"dep:arbitrary\"]"),
-        ("features.db", "[]"),
-        ("features.internal-for-const-oid-c", "[]"),
-        ("dependencies.arbitrary", ""),
-        ("dependencies.arbitrary.version", "\"1.4\""),
-        ("dependencies.arbitrary.optional", "true"),
-        ("example", ""),
-        ("example.name", "\"oid\""),
-        ("example.required-features", "[\"db\"]"),
-    ];
-    assert_eq!(found, expected.map(|(key, value)| (key.to_string(), value.to_string())));
-}
-
-/// The tests see a sum that overflows.
-#[test]
-#[should_panic(expected = "attempt to add with overflow")]
-fn sums_are_checked() {
-    let _ = std::hint::black_box(u8::MAX) + std::hint::black_box(1);
+    let part = |part| setting("crates/const_oid_c/include/const_oid.h", &format!("#define CONST_OID_VERSION_{part} "));
+    assert_eq!(setting("rust/const-oid-c/Cargo.toml", "version"), ["MAJOR", "MINOR", "PATCH"].map(part).join("."));
 }
 
 /// What the compiler denies in this crate and in the library for C, whose generated functions have no unsafe code.
 #[test]
 fn unsafe_code_is_where_it_is_allowed() {
-    let ours = include_str!("../src/lib.rs");
-    assert!(ours.contains("\n#![no_std]\n#![deny(missing_docs, unsafe_code)]\n"));
-    // The cast of octets to it is sound.
-    assert!(
-        include_str!("../src/erased/oid_ref.rs").contains("\n#[repr(transparent)]\npub struct ObjectIdentifierRef {\n")
-    );
+    assert!(include_str!("../src/lib.rs").contains("\n#![no_std]\n#![deny(missing_docs, unsafe_code)]\n"));
     let for_c = include_str!("../../const-oid-c/src/lib.rs");
-    let denied = "#![deny(unsafe_op_in_unsafe_fn, clippy::undocumented_unsafe_blocks)]";
-    assert!(for_c.contains(&format!("\n#![no_std]\n{denied}\n")));
+    assert!(for_c.contains("\n#![deny(unsafe_op_in_unsafe_fn, clippy::undocumented_unsafe_blocks)]\n"));
     let (_, generated) = for_c.split_once("#[forbid(unsafe_code)]").unwrap();
     assert!(generated.split_once("mod ").unwrap().1.starts_with("erased;"));
-}
-
-/// The other packages of this workspace are for the same Rust.
-#[test]
-fn rust_versions() {
-    for package in ["arbitrary", "const-oid-c", "erase"] {
-        let settings = settings(&format!("../{package}/Cargo.toml"));
-        let version = settings.iter().find(|(key, _)| key == "package.rust-version");
-        assert_eq!(version.map(|(_, version)| &**version), Some("\"1.85\""), "{package}");
+    // The casts to these types are sound.
+    for source in [include_str!("../src/erased/oid_ref.rs"), include_str!("../src/by_arcs.rs")] {
+        assert!(source.contains("\n#[repr(transparent)]\npub struct "));
     }
-}
-
-/// The library for C has the version of its header.
-#[test]
-fn the_library_for_c_has_the_version_of_its_header() {
-    let header = concat!(env!("CARGO_MANIFEST_DIR"), "/../../crates/const_oid_c/include/const_oid.h");
-    let header = std::fs::read_to_string(header).unwrap();
-    let part = |name: &str| {
-        let define = format!("#define CONST_OID_VERSION_{name} ");
-        let (_, rest) = header.split_once(&define).unwrap();
-        rest.lines().next().unwrap().trim().trim_end_matches(['u', 'U']).to_string()
-    };
-    let version = ["MAJOR", "MINOR", "PATCH"].map(part).join(".");
-    let settings = settings("../const-oid-c/Cargo.toml");
-    assert!(settings.contains(&("package.version".into(), format!("\"{version}\""))), "{version}");
 }

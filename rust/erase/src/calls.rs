@@ -115,30 +115,3 @@ pub fn list(calls: &[Call]) -> Result<String, String> {
         rows?
     ))
 }
-
-#[cfg(test)]
-mod tests {
-    use super::*;
-
-    #[test]
-    fn writes_what_the_types_say() {
-        let call = |head: &str| {
-            let source =
-                format!("fn a() {{}}\n\n#[unsafe(no_mangle)]\npub extern \"C\" fn {head}\n    ensures {{ b }}\n{{}}\n");
-            let mut calls = Call::all("m", &source);
-            assert_eq!(calls.len(), 1);
-            calls.remove(0)
-        };
-        let one = call("f(\n    text: &[u8], a: u32,\n    b: &mut [u32], c: &mut Range, d: &Octets<'_>,\n) -> i32");
-        let head = "fn f(text: *const u8, text_len: usize, a: u32, b: *mut u32, b_len: usize, c: *mut Range, d: *const Octets<'_>) -> i32";
-        let given = "input(text, text_len), a, output(b, b_len), &mut output(c, 1)[0], &input(d, 1)[0]";
-        assert_eq!(one.over_pointers(), (head.into(), given.into()));
-        assert_eq!(
-            one.row().unwrap(),
-            "CALL(int, f, ARGUMENT(TEXT, 0), ARGUMENT(NUMBER, 1), ARGUMENT(ARCS_OUT, 2), ARGUMENT(RANGE_OUT, 3), ARGUMENT(ITEM, 4))\n"
-        );
-        assert_eq!(call("g() -> u32").row().unwrap(), "CALL(uint32_t, g, NOTHING)\n");
-        assert!(call("g(a: u64) -> u32").row().is_err() && call("g() -> u64").row().is_err());
-        assert!(Call::all("m", "pub fn f() {}").is_empty());
-    }
-}

@@ -68,9 +68,9 @@ pub const CRATES: &[Crate] = &[
             "oid_ref": "Arcs<'a>" => "Arcs<'_>", UNSIZED;
             "oid_ref": "Option<ObjectIdentifierRef<'a>>" => "Option<&Self>", UNSIZED;
             "oid_ref": "fn eq(&self, other: &Self) -> bool { are_equal(self.as_bytes(), other.as_bytes()) }"
-                => "fn eq(&self, other: &Self) -> bool {\n self.ber == other.ber\n }", BY_CORE;
+                => "#[inline]\nfn eq(&self, other: &Self) -> bool {\n self.ber == other.ber\n }", BY_CORE;
             "oid_ref": "fn cmp(&self, other: &Self) -> Ordering { order(self.as_bytes(), other.as_bytes()) }"
-                => "fn cmp(&self, other: &Self) -> Ordering {\n self.ber.cmp(&other.ber)\n }", BY_CORE;
+                => "#[inline]\nfn cmp(&self, other: &Self) -> Ordering {\n self.ber.cmp(&other.ber)\n }", BY_CORE;
             "oid_ref": "fn parse_usual" => "fn parse_usual<'a>", UNSIZED;
             "oid": "impl ObjectIdentifierRef<'_>" => "impl ObjectIdentifierRef", UNSIZED;
             "oid": "pub const fn eq_oid" => "pub(crate) const fn eq_oid", "public as `==`";

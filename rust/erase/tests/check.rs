@@ -88,12 +88,6 @@ impl Copy {
         let old = fs::read_to_string(&path).unwrap_or_default();
         fs::write(path, old + text).unwrap();
     }
-
-    fn replace(&self, path: &str, old: &str, new: &str) {
-        let source = fs::read_to_string(self.0.join(path)).unwrap();
-        assert_eq!(source.matches(old).count(), 1, "{old}");
-        fs::write(self.0.join(path), source.replace(old, new)).unwrap();
-    }
 }
 
 impl Drop for Copy {
@@ -102,79 +96,45 @@ impl Drop for Copy {
     }
 }
 
-fn each(paths: &[String], words: &str) -> Vec<String> {
-    paths.iter().map(|path| format!("{path}: {words}")).collect()
-}
-
+/// What is changed, removed or added is named, and made again.
 #[test]
-fn a_generated_file_that_is_changed_removed_or_added() {
+fn generated_files_are_compared() {
     let copy = Copy::new("files");
     assert_eq!(copy.faults(), [""; 0]);
     let generated = copy.generated();
+    let differs = generated.iter().map(|path| format!("{path}: not what erase generates")).collect::<Vec<_>>();
     generated.iter().for_each(|path| copy.append(path, " "));
-    assert_eq!(copy.faults(), each(&generated, "not what erase generates"));
+    assert_eq!(copy.faults(), differs);
     generated.iter().for_each(|path| fs::remove_file(copy.0.join(path)).unwrap());
-    assert_eq!(copy.faults(), each(&generated, "not what erase generates"));
+    assert_eq!(copy.faults(), differs);
     assert!(copy.erase(&[]).status.success());
     let added = GENERATED.map(|folder| format!("{folder}/zzz.rs"));
     added.iter().for_each(|path| copy.append(path, ""));
-    let mut faults = each(&added, "erase generates no such file");
+    let mut faults = added.map(|path| format!("{path}: erase generates no such file"));
     faults.sort();
     assert_eq!(copy.faults(), faults);
     assert!(copy.erase(&[]).status.success());
-    assert_eq!(copy.faults(), [""; 0]);
-    assert_eq!(copy.generated(), generated);
+    assert_eq!((copy.faults(), copy.generated()), (vec![], generated));
 }
 
+/// A source that is wrong is named, and so is a file that cannot be written.
 #[test]
-fn generated_files_have_their_attribute() {
-    let attributes = fs::read_to_string(top().join(".gitattributes")).unwrap();
-    let folders = GENERATED.map(|folder| format!("{folder}/*.rs"));
-    for path in FILES.map(str::to_string).into_iter().chain(folders) {
-        let line = format!("{path} linguist-generated\n");
-        assert!(attributes.contains(&line), "{path}");
-    }
-}
-
-/// Files that cannot be written or removed, since folders have their names, are named.
-#[test]
-fn files_that_are_not_written() {
-    let copy = Copy::new("unwritten");
-    let calls = GENERATED[1];
-    let other = format!("{calls}/zzz.rs");
-    let paths = FILES.map(str::to_string).to_vec();
-    let paths = [paths, vec![format!("{calls}/mod.rs"), other]].concat();
-    for path in paths.iter().map(|path| copy.0.join(path)) {
-        let _ = fs::remove_file(&path);
-        fs::create_dir(path).unwrap();
-    }
-    let output = copy.erase(&[]);
-    assert!(!output.status.success());
-    let text = String::from_utf8(output.stderr).unwrap();
-    for path in paths {
-        assert!(text.contains(&format!("{path}: ")), "{path}: {text}");
-    }
-}
-
-#[test]
-fn a_source_that_is_wrong() {
-    let copy = Copy::new("sources");
+fn faults_are_named() {
+    let copy = Copy::new("faults");
     let source = "crates/const_oid/src/valid.rt";
-    let mut last = "";
+    let right = fs::read_to_string(copy.0.join(source)).unwrap();
     for (wrong, words) in [
         ("// erase: cosnt\n", "crates/const_oid/src/valid.rt:"),
         ("fn f( {\n", "crates/const_oid/src/valid.rt:"),
-        ("fn f() { c\"x\"; }\n", "crates/const_oid/src/valid.rt:"),
         ("fn 1() {}\n", "rustfmt fails on:"),
     ] {
-        if last.is_empty() {
-            copy.append(source, wrong);
-        } else {
-            copy.replace(source, last, wrong);
-        }
+        fs::write(copy.0.join(source), right.clone() + wrong).unwrap();
         let faults = copy.faults();
         assert!(faults.iter().any(|line| line.starts_with(words)), "{wrong}: {faults:?}");
-        last = wrong;
     }
-    copy.replace(source, last, "");
+    fs::write(copy.0.join(source), right).unwrap();
+    fs::remove_file(copy.0.join(FILES[0])).unwrap();
+    fs::create_dir(copy.0.join(FILES[0])).unwrap();
+    let output = copy.erase(&[]);
+    assert!(!output.status.success() && String::from_utf8(output.stderr).unwrap().contains(FILES[0]));
 }

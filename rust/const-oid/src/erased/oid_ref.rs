@@ -428,6 +428,7 @@ impl fmt::Debug for ObjectIdentifierRef {
 }
 
 impl PartialEq for ObjectIdentifierRef {
+    #[inline]
     fn eq(&self, other: &Self) -> bool {
         self.ber == other.ber
     }
@@ -444,6 +445,7 @@ impl PartialOrd for ObjectIdentifierRef {
 /// In a list sorted so, a subtree is contiguous. It is not the order of SNMP (RFC 3416), which is that of arcs: see
 /// [`cmp_arcs`](ObjectIdentifierRef::cmp_arcs).
 impl Ord for ObjectIdentifierRef {
+    #[inline]
     fn cmp(&self, other: &Self) -> Ordering {
         self.ber.cmp(&other.ber)
     }
