@@ -7,10 +7,6 @@ use const_oid::db::SortedDatabase;
 use const_oid::{ByArcs, ObjectIdentifier, ObjectIdentifierRef};
 use std::hint::black_box;
 
-type Search = unsafe extern "C" fn(*const u8, usize, *const Octets, usize) -> Status;
-
-type Order = unsafe extern "C" fn(*const Octets, *const Octets) -> i32;
-
 #[repr(C)]
 struct Status {
     code: u32,
@@ -25,173 +21,116 @@ struct Octets {
     len: usize,
 }
 
-#[repr(C)]
-struct Range {
-    start: usize,
-    end: usize,
-}
+type Search = unsafe extern "C" fn(*const u8, usize, *const Octets, usize) -> Status;
+type Order = unsafe extern "C" fn(*const Octets, *const Octets) -> i32;
 
 unsafe extern "C" {
     fn const_oid_find(octets: *const u8, len: usize, items: *const Octets, count: usize) -> Status;
     fn const_oid_next(octets: *const u8, len: usize, items: *const Octets, count: usize) -> Status;
     fn const_oid_nearest(octets: *const u8, len: usize, items: *const Octets, count: usize) -> Status;
-    fn const_oid_subtree_range(octets: *const u8, len: usize, items: *const Octets, count: usize, range: *mut Range)
-        -> Status;
+    fn const_oid_subtree_range(
+        octets: *const u8,
+        len: usize,
+        items: *const Octets,
+        count: usize,
+        range: *mut [usize; 2],
+    ) -> Status;
     fn const_oid_check_sorted(items: *const Octets, count: usize) -> Status;
     fn const_oid_by_arcs(left: *const Octets, right: *const Octets) -> i32;
     fn qsort(items: *mut Octets, count: usize, size: usize, order: Order);
 }
 
-/// What a search returns that finds nothing.
-const NOTHING: usize = usize::MAX;
-
 /// The identifier at an index: 1.3.6.1.4.1 and two arcs, each of one or two octets.
 fn item(index: usize) -> ObjectIdentifier {
-    let root = ObjectIdentifier::new("1.3.6.1.4.1").unwrap();
-    let (first, second) = (index as u32 / 317, index as u32 % 317);
-    root.push_arc(first).unwrap().push_arc(second).unwrap()
+    ObjectIdentifier::from_arcs([1, 3, 6, 1, 4, 1, index as u32 / 317, index as u32 % 317]).unwrap()
 }
 
-/// The keys of a row: an item, or a child or the parent of one. They are scattered over the items.
-fn keys(row: &str, oids: &[ObjectIdentifier]) -> Vec<ObjectIdentifier> {
-    let scattered = (0..1000).map(|round| &oids[round * 7919 % oids.len()]);
+/// The key of a round: an item, or a child or the parent of one. They are scattered over the items.
+fn key(row: &str, oid: &ObjectIdentifier) -> ObjectIdentifier {
     match row {
-        "nearest" => scattered.map(|oid| oid.push_arc(1).unwrap()).collect(),
-        "subtree" => scattered.map(|oid| oid.parent().unwrap()).collect(),
-        _ => scattered.copied().collect(),
+        "nearest" => oid.push_arc(1).unwrap(),
+        "subtree" => oid.parent().unwrap(),
+        _ => *oid,
     }
-}
-
-/// What a search returns: an index, or `NOTHING`.
-fn search(call: Search, key: &[u8], items: &[Octets]) -> usize {
-    // SAFETY: the pointers and lengths are those of slices.
-    let status = unsafe { call(key.as_ptr(), key.len(), items.as_ptr(), items.len()) };
-    if status.code == 0 {
-        status.len
-    } else {
-        NOTHING
-    }
-}
-
-fn subtree(key: &[u8], items: &[Octets]) -> usize {
-    let mut range = Range { start: 0, end: 0 };
-    let (list, count) = (items.as_ptr(), items.len());
-    // SAFETY: as above.
-    unsafe { const_oid_subtree_range(key.as_ptr(), key.len(), list, count, &mut range) };
-    range.end - range.start
-}
-
-fn check(items: &[Octets]) -> usize {
-    // SAFETY: as above.
-    usize::from(unsafe { const_oid_check_sorted(items.as_ptr(), items.len()) }.code == 0)
 }
 
 /// Items in another order. 7919 is a prime that does not divide their number, so each is there once.
 fn scattered<T: Copy>(items: &[T]) -> Vec<T> {
-    (0..items.len())
-        .map(|index| items[index * 7919 % items.len()])
-        .collect()
+    (0..items.len()).map(|index| items[index * 7919 % items.len()]).collect()
 }
 
-/// Sorts scattered items, and returns the sum of each last octet by its index.
+/// The sum of each last octet by its index, or the greatest number for what is not found.
+fn sum<'a>(items: impl Iterator<Item = &'a [u8]>) -> usize {
+    items.enumerate().map(|(index, octets)| index * usize::from(*octets.last().unwrap())).sum()
+}
+
+/// The index that a search in C returns, or the greatest number if it finds nothing.
+fn search(call: Search, key: &[u8], items: &[Octets]) -> usize {
+    // SAFETY: the pointers and lengths are those of slices.
+    let status = unsafe { call(key.as_ptr(), key.len(), items.as_ptr(), items.len()) };
+    if status.code == 0 { status.len } else { usize::MAX }
+}
+
+fn subtree(key: &[u8], items: &[Octets]) -> usize {
+    let mut range = [0, 0];
+    // SAFETY: as above.
+    unsafe { const_oid_subtree_range(key.as_ptr(), key.len(), items.as_ptr(), items.len(), &mut range) };
+    range[1] - range[0]
+}
+
 fn sort(items: &[Octets]) -> usize {
     let mut items = scattered(items);
     // SAFETY: as above.
-    unsafe {
-        qsort(
-            items.as_mut_ptr(),
-            items.len(),
-            size_of::<Octets>(),
-            const_oid_by_arcs,
-        )
-    };
+    unsafe { qsort(items.as_mut_ptr(), items.len(), size_of::<Octets>(), const_oid_by_arcs) };
     // SAFETY: as above.
-    let last = |item: &Octets| usize::from(unsafe { *item.octets.add(item.len - 1) });
-    items
-        .iter()
-        .enumerate()
-        .map(|(index, item)| index * last(item))
-        .sum()
+    sum(items.iter().map(|item| unsafe { std::slice::from_raw_parts(item.octets, item.len) }))
 }
 
-fn in_c(row: &str, oids: &[ObjectIdentifier], times: usize) -> usize {
-    let octets_of = |oid: &ObjectIdentifier| Octets {
-        octets: oid.as_bytes().as_ptr(),
-        len: oid.as_bytes().len(),
-    };
-    let items: Vec<Octets> = oids.iter().map(octets_of).collect();
-    let call: fn(&[u8], &[Octets]) -> usize = match row {
+/// The call of a row in C.
+fn in_c(row: &str) -> fn(&[u8], &[Octets]) -> usize {
+    match row {
         "find" => |key, items| search(const_oid_find, key, items),
         "next" => |key, items| search(const_oid_next, key, items),
         "nearest" => |key, items| search(const_oid_nearest, key, items),
         "subtree" => subtree,
-        "check" => |_, items| check(items),
-        "sort" => |_, items| sort(items),
-        _ => panic!("no such row"),
-    };
-    let keys = keys(row, oids);
-    let mut sum = 0usize;
-    for time in 0..times {
-        let key = keys[time % keys.len()].as_bytes();
-        sum = sum.wrapping_add(call(key, black_box(&items)));
+        // SAFETY: as above.
+        "check" => |_, items| unsafe { const_oid_check_sorted(items.as_ptr(), items.len()) }.code as usize,
+        _ => |_, items| sort(items),
     }
-    sum
 }
 
-fn sort_by_key(oids: &[&ObjectIdentifierRef]) -> usize {
-    let mut oids = scattered(oids);
-    oids.sort_by_key(|oid| ByArcs(*oid));
-    let last = |oid: &ObjectIdentifierRef| usize::from(*oid.as_bytes().last().unwrap());
-    oids.iter()
-        .enumerate()
-        .map(|(index, oid)| index * last(oid))
-        .sum()
-}
-
-fn in_crate(row: &str, oids: &[ObjectIdentifier], times: usize) -> usize {
-    // The length of a name is the index of its entry.
-    let names = " ".repeat(oids.len());
-    let entries: Vec<(&ObjectIdentifierRef, &str)> = oids
-        .iter()
-        .enumerate()
-        .map(|(index, oid)| (oid.as_oid_ref(), &names[..index]))
-        .collect();
-    let sorted = SortedDatabase::try_new(&entries).unwrap();
-    let keys = keys(row, oids);
-    let borrowed: Vec<&ObjectIdentifierRef> = oids.iter().map(|oid| oid.as_oid_ref()).collect();
-    let at = |entry: Option<&(&ObjectIdentifierRef, &str)>| {
-        entry.map_or(NOTHING, |entry| {
-            (std::ptr::from_ref(entry).addr() - entries.as_ptr().addr()) / size_of_val(entry)
-        })
-    };
-    let mut sum = 0usize;
-    for time in 0..times {
-        let key = keys[time % keys.len()].as_oid_ref();
-        let sorted = black_box(&sorted);
-        sum = sum.wrapping_add(match row {
-            "find" => sorted.by_oid(key).map_or(NOTHING, str::len),
-            "next" => at(sorted.next_after(key)),
-            "nearest" => at(sorted.nearest(key)),
-            "subtree" => sorted.subtree(key).len(),
-            "check" => usize::from(SortedDatabase::try_new(black_box(&entries)).is_some()),
-            "sort" => sort_by_key(black_box(&borrowed)),
-            _ => panic!("no such row"),
-        });
+/// The call of a row in the crate. The length of a name is the index of its entry.
+fn in_crate(row: &str) -> fn(&ObjectIdentifierRef, &SortedDatabase) -> usize {
+    match row {
+        "find" => |key, sorted| sorted.by_oid(key).map_or(usize::MAX, str::len),
+        "next" => |key, sorted| sorted.next_after(key).map_or(usize::MAX, |entry| entry.1.len()),
+        "nearest" => |key, sorted| sorted.nearest(key).map_or(usize::MAX, |entry| entry.1.len()),
+        "subtree" => |key, sorted| sorted.subtree(key).len(),
+        "check" => |_, sorted| usize::from(SortedDatabase::try_new(sorted.entries()).is_none()),
+        _ => |_, sorted| {
+            let mut oids = scattered(sorted.entries());
+            oids.sort_by_key(|entry| ByArcs(entry.0));
+            sum(oids.iter().map(|entry| entry.0.as_bytes()))
+        },
     }
-    sum
 }
 
 fn main() {
     let words: Vec<String> = std::env::args().skip(1).collect();
-    let [side, row, count, times] = &words[..] else {
-        panic!("sorted SIDE ROW COUNT TIMES");
-    };
+    let [side, row, count, times] = &words[..] else { panic!("sorted SIDE ROW COUNT TIMES") };
     let oids: Vec<ObjectIdentifier> = (0..count.parse().unwrap()).map(item).collect();
-    let times = times.parse().unwrap();
-    let sum = if side == "c" {
-        in_c(row, &oids, times)
+    let keys: Vec<ObjectIdentifier> = scattered(&oids).iter().take(1000).map(|oid| key(row, oid)).collect();
+    let times = (0..times.parse().unwrap()).map(|time: usize| &keys[time % keys.len()]);
+    let lent: Vec<&ObjectIdentifierRef> = oids.iter().map(|oid| oid.as_oid_ref()).collect();
+    let found = if side == "c" {
+        let item = |oid: &&ObjectIdentifierRef| Octets { octets: oid.as_bytes().as_ptr(), len: oid.as_bytes().len() };
+        let (call, items) = (in_c(row), lent.iter().map(item).collect::<Vec<Octets>>());
+        times.fold(0, |sum: usize, key| sum.wrapping_add(call(key.as_bytes(), black_box(&items))))
     } else {
-        in_crate(row, &oids, times)
+        let names = " ".repeat(oids.len());
+        let entries: Vec<_> = lent.iter().enumerate().map(|(index, oid)| (*oid, &names[..index])).collect();
+        let (call, sorted) = (in_crate(row), SortedDatabase::try_new(&entries).unwrap());
+        times.fold(0, |sum: usize, key| sum.wrapping_add(call(key, black_box(&sorted))))
     };
-    println!("{sum}");
+    println!("{found}");
 }

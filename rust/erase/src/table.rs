@@ -31,7 +31,7 @@ const LANES: &str = "lanes are unstable in Rust";
 const EQUALITY: &str = "constants in patterns need the derived `==`; zeros follow the octets in use (`ghost zeros`)";
 const UNSIZED: &str = "the crate's borrowed form is unsized, as in the crate of this name, and lies behind a reference";
 const FOR_C: &str = "the library for C calls it, and the API has no such function";
-const BY_CORE: &str = "`core` compares slices by `memcmp`, which takes less time";
+const BY_CORE: &str = "`core` compares slices by `memcmp`, which takes less time, and callers inline the call";
 const BOUNDS: &str = "a bound at no cost, where Rattle keeps the default of the trait";
 const LISTED: &str = "a caller by hand lists the entries";
 const UNWRITTEN: &str = "in Rust no reference is to memory that C may not have written";
@@ -71,6 +71,7 @@ pub const CRATES: &[Crate] = &[
                 => "#[inline]\nfn eq(&self, other: &Self) -> bool {\n self.ber == other.ber\n }", BY_CORE;
             "oid_ref": "fn cmp(&self, other: &Self) -> Ordering { order(self.as_bytes(), other.as_bytes()) }"
                 => "#[inline]\nfn cmp(&self, other: &Self) -> Ordering {\n self.ber.cmp(&other.ber)\n }", BY_CORE;
+            "oid_ref": "fn partial_cmp" => "#[inline]\nfn partial_cmp", "as above, where a caller is compiled without LTO";
             "oid_ref": "fn parse_usual" => "fn parse_usual<'a>", UNSIZED;
             "oid": "impl ObjectIdentifierRef<'_>" => "impl ObjectIdentifierRef", UNSIZED;
             "oid": "pub const fn eq_oid" => "pub(crate) const fn eq_oid", "public as `==`";

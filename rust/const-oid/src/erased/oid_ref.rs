@@ -435,6 +435,7 @@ impl PartialEq for ObjectIdentifierRef {
 }
 
 impl PartialOrd for ObjectIdentifierRef {
+    #[inline]
     fn partial_cmp(&self, other: &Self) -> Option<Ordering> {
         Some(self.cmp(other))
     }
