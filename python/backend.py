@@ -33,6 +33,8 @@ CRATE = TOP / "rust/const-oid-c/Cargo.toml"
 EXTENSION = "_native.abi3.so"
 SOURCES = ("__init__.py", "_native.pyi", "_support.py", "names.py", "py.typed", "sorted_map.py")
 LICENCES = ("LICENSE-APACHE", "LICENSE-MIT")
+PROJECT = tomllib.loads((HERE / "pyproject.toml").read_text(encoding="utf-8"))["project"]
+STEM = f"{PROJECT['name'].replace('-', '_')}-{PROJECT['version']}"
 ARCHIVED = ("backend.py", "pyproject.toml", "README.md", "src/native.c", *(f"src/const_oid/{name}" for name in SOURCES))
 ARCHIVED_OF_TOP = (*LICENCES, "crates/const_oid_c/include/*.h", "rust/const-oid/README.md", "rust/const-oid*/Cargo.*")
 ARCHIVED_OF_TOP += ("rust/const-oid*/*.rs", "rust/const-oid/examples/*.rs", "rust/const-oid*/src/**/*.rs")
@@ -110,28 +112,17 @@ def _names():
     return "".join(f"{arcs}\t{name}\n" for arcs, name in re.findall(r' = "(.*)", "(.*)";', table))
 
 
-def project():
-    return tomllib.loads((HERE / "pyproject.toml").read_text(encoding="utf-8"))["project"]
-
-
 def metadata(of, readme):
     """The file METADATA of a project."""
-    lines = [
-        "Metadata-Version: 2.4",
-        f"Name: {of['name']}",
-        f"Version: {of['version']}",
-        f"Summary: {of['description']}",
-        f"License-Expression: {of['license']}",
-        *(f"License-File: {name}" for name in LICENCES),
-        *(f"Classifier: {classifier}" for classifier in of["classifiers"]),
-        f"Requires-Python: {of['requires-python']}",
-        "Description-Content-Type: text/markdown",
-    ]
+    fields = {"Name": "name", "Version": "version", "Summary": "description", "License-Expression": "license"}
+    lines = ["Metadata-Version: 2.4", "Description-Content-Type: text/markdown"]
+    lines += [f"{field}: {of[name]}" for field, name in {**fields, "Requires-Python": "requires-python"}.items()]
+    lines += [f"License-File: {name}" for name in LICENCES]
+    lines += [f"Classifier: {classifier}" for classifier in of["classifiers"]]
     return "\n".join(lines) + "\n\n" + readme
 
 
-def _stem():
-    return f"{project()['name'].replace('-', '_')}-{project()['version']}"
+METADATA = metadata(PROJECT, (HERE / "README.md").read_text(encoding="utf-8")).encode()
 
 
 def _tag():
@@ -141,15 +132,12 @@ def _tag():
     return f"cp311-abi3-{re.sub('[-.]', '_', system)}"
 
 
-def _metadata():
-    return metadata(project(), (HERE / "README.md").read_text(encoding="utf-8")).encode()
-
-
 def _information():
-    """The folder that says what a wheel is, and its files, aside from RECORD."""
+    """The files that say what a wheel is, aside from RECORD."""
     files = {f"licenses/{name}": (TOP / name).read_bytes() for name in LICENCES}
     head = "Wheel-Version: 1.0\nGenerator: const_oid\nRoot-Is-Purelib: false\n"
-    return f"{_stem()}.dist-info", {**files, "METADATA": _metadata(), "WHEEL": f"{head}Tag: {_tag()}\n".encode()}
+    files |= {"METADATA": METADATA, "WHEEL": f"{head}Tag: {_tag()}\n".encode()}
+    return {f"{STEM}.dist-info/{name}": content for name, content in files.items()}
 
 
 def _recorded(name, content):
@@ -159,11 +147,9 @@ def _recorded(name, content):
 
 def _write_wheel(folder, files):
     """Writes a wheel of these files and those that say what it is, and returns its name."""
-    information, others = _information()
-    files = {**files, **{f"{information}/{name}": content for name, content in others.items()}}
-    record = f"{information}/RECORD"
+    files, record = {**files, **_information()}, f"{STEM}.dist-info/RECORD"
     files[record] = ("".join(_recorded(*file) for file in files.items()) + f"{record},,\n").encode()
-    wheel = f"{_stem()}-{_tag()}.whl"
+    wheel = f"{STEM}-{_tag()}.whl"
     with zipfile.ZipFile(pathlib.Path(folder) / wheel, "w", zipfile.ZIP_DEFLATED) as archive:
         for name, content in files.items():
             entry = zipfile.ZipInfo(name)
@@ -197,12 +183,11 @@ def build_editable(wheel_directory, config_settings=None, metadata_directory=Non
 
 def prepare_metadata_for_build_wheel(metadata_directory, config_settings=None):
     """Writes what a wheel would say of itself, without building it, and returns the folder's name."""
-    information, files = _information()
-    folder = pathlib.Path(metadata_directory) / information
-    (folder / "licenses").mkdir(parents=True)
-    for name, content in files.items():
-        (folder / name).write_bytes(content)
-    return information
+    for name, content in _information().items():
+        path = pathlib.Path(metadata_directory) / name
+        path.parent.mkdir(parents=True, exist_ok=True)
+        path.write_bytes(content)
+    return f"{STEM}.dist-info"
 
 
 prepare_metadata_for_build_editable = prepare_metadata_for_build_wheel
@@ -217,10 +202,10 @@ def _archived():
 
 def build_sdist(sdist_directory, config_settings=None):
     """Writes the source archive into a folder, and returns its name."""
-    archive, file = io.BytesIO(), f"{_stem()}.tar.gz"
+    archive, file = io.BytesIO(), f"{STEM}.tar.gz"
     with tarfile.open(mode="w", fileobj=archive, format=tarfile.PAX_FORMAT) as tar:
-        for name, content in (*_archived(), ("PKG-INFO", _metadata())):
-            entry = tarfile.TarInfo(f"{_stem()}/{name}")
+        for name, content in (*_archived(), ("PKG-INFO", METADATA)):
+            entry = tarfile.TarInfo(f"{STEM}/{name}")
             entry.size = len(content)
             tar.addfile(entry, io.BytesIO(content))
     (pathlib.Path(sdist_directory) / file).write_bytes(gzip.compress(archive.getvalue(), mtime=0))

@@ -130,7 +130,8 @@ static void release(Output *out) {
 
 /* The octets that a call wrote, or its error. Frees the output. */
 static PyObject *written(Output *out, const_oid_status status, PyObject *given) {
-    PyObject *octets = status.code ? failed(status, given) : PyBytes_FromStringAndSize(out->start, (Py_ssize_t)status.len);
+    Py_ssize_t len = (Py_ssize_t)status.len;
+    PyObject *octets = status.code ? failed(status, given) : PyBytes_FromStringAndSize(out->start, len);
     release(out);
     return octets;
 }
@@ -211,25 +212,23 @@ static const_oid_status past_32_bits(const_oid_status before) {
     return before.code && before.code != CONST_OID_EMPTY ? before : status;
 }
 
-static PyObject *octets_of_arcs(PyObject *items, Py_ssize_t count, uint32_t *arcs) {
-    Output out;
-    Py_ssize_t fitting = read_arcs(items, count, arcs);
-    if (fitting < 0 || !has_room(&out, ARC_OCTETS * (size_t)fitting, 1)) return NULL;
-    const_oid_status status = const_oid_from_arcs(arcs, (size_t)fitting, out.start, out.len);
-    return written(&out, fitting < count ? past_32_bits(status) : status, items);
-}
-
 static PyObject *identifier_from_arcs(PyObject *type, PyObject *given) {
     if (PyUnicode_Check(given) || is_octets(given) || PyAnySet_Check(given)) {
         return wrong_type("arcs must be an iterable of int", given);
     }
-    Output arcs;
     PyObject *items = PySequence_Tuple(given), *octets = NULL;
-    if (items && has_room(&arcs, (size_t)PyTuple_Size(items), sizeof(uint32_t))) {
-        octets = octets_of_arcs(items, (Py_ssize_t)arcs.len, arcs.start);
-        release(&arcs);
+    Output arcs, out;
+    if (!items || !has_room(&arcs, (size_t)PyTuple_Size(items), sizeof(uint32_t))) {
+        Py_XDECREF(items);
+        return NULL;
     }
-    Py_XDECREF(items);
+    Py_ssize_t count = (Py_ssize_t)arcs.len, fitting = read_arcs(items, count, arcs.start);
+    if (fitting >= 0 && has_room(&out, ARC_OCTETS * (size_t)fitting, 1)) {
+        const_oid_status status = const_oid_from_arcs(arcs.start, (size_t)fitting, out.start, out.len);
+        octets = written(&out, fitting < count ? past_32_bits(status) : status, items);
+    }
+    release(&arcs);
+    Py_DECREF(items);
     return made((PyTypeObject *)type, octets);
 }
 
@@ -358,23 +357,21 @@ static PyObject *identifier_iter(PyObject *self) {
     return arcs ? PyObject_GetIter(arcs) : NULL;
 }
 
-/* A method of the tuple of arcs. */
-static PyObject *of_arcs(PyObject *self, const char *name, PyObject *arguments) {
-    PyObject *method = attribute(arcs_of(self), name);
-    PyObject *result = method ? PyObject_CallObject(method, arguments) : NULL;
-    Py_XDECREF(method);
-    return result;
-}
-
 static PyObject *identifier_index(PyObject *self, PyObject *arguments) {
-    PyObject *index = of_arcs(self, "index", arguments);
+    PyObject *method = attribute(arcs_of(self), "index");
+    PyObject *index = method ? PyObject_CallObject(method, arguments) : NULL;
     if (!index && PyErr_ExceptionMatches(PyExc_ValueError)) {
         PyErr_Format(PyExc_ValueError, "%R is not among the arcs", PyTuple_GetItem(arguments, 0));
     }
+    Py_XDECREF(method);
     return index;
 }
 
-static PyObject *identifier_count(PyObject *self, PyObject *arguments) { return of_arcs(self, "count", arguments); }
+static PyObject *identifier_count(PyObject *self, PyObject *arc) {
+    PyObject *arcs = arcs_of(self);
+    Py_ssize_t count = arcs ? PySequence_Count(arcs, arc) : -1;
+    return count < 0 ? NULL : PyLong_FromSsize_t(count);
+}
 
 /* Methods by a function of const_oid._support of the object, or its class, and the arguments. */
 #define BY_FUNCTION(name) \
@@ -510,16 +507,17 @@ static PyMethodDef identifier_methods[] = {
     {"child", identifier_child, METH_O, child_doc},
     {"starts_with", identifier_starts_with, METH_O, starts_with_doc},
     {"index", identifier_index, METH_VARARGS, index_doc},
-    {"count", identifier_count, METH_VARARGS, count_doc},
+    {"count", identifier_count, METH_O, count_doc},
     {"__bytes__", identifier_bytes, METH_NOARGS, "__bytes__($self, /)\n--\n\nThe contents octets."},
     {"__format__", identifier_format, METH_O, "__format__($self, specification, /)\n--\n\nFormats the text, as str."},
     {"__copy__", identifier_copied, METH_VARARGS, "__copy__($self, /)\n--\n\nItself, unless of a subclass."},
-    {"__deepcopy__", identifier_copied, METH_VARARGS, "__deepcopy__($self, memo, /)\n--\n\nItself, unless of a subclass."},
+    {"__deepcopy__", identifier_copied, METH_VARARGS,
+        "__deepcopy__($self, memo, /)\n--\n\nItself, unless of a subclass."},
     {"__reduce__", identifier_reduce, METH_NOARGS, "__reduce__($self, /)\n--\n\nFor pickle, which checks the octets."},
     {"__array__", (PyCFunction)(void (*)(void))identifier_array, METH_VARARGS | METH_KEYWORDS,
         "__array__($self, dtype=None, copy=None)\n--\n\nAn array of numpy, without dimensions, of this object."},
-    {"__get_pydantic_core_schema__", identifier_pydantic_schema, METH_VARARGS | METH_CLASS, "For a field of pydantic 2."},
-    {"__get_validators__", identifier_pydantic_validators, METH_VARARGS | METH_CLASS, "For a field of pydantic 1."},
+    {"__get_pydantic_core_schema__", identifier_pydantic_schema, METH_VARARGS | METH_CLASS, "For pydantic 2."},
+    {"__get_validators__", identifier_pydantic_validators, METH_VARARGS | METH_CLASS, "For pydantic 1."},
     {0},
 };
 
@@ -546,7 +544,6 @@ static PyType_Slot identifier_slots[] = {
     {Py_sq_length, (void *)identifier_len},
     {Py_sq_item, (void *)identifier_item},
     {Py_sq_contains, (void *)identifier_contains},
-    {Py_mp_length, (void *)identifier_len},
     {Py_mp_subscript, (void *)identifier_subscript},
     {Py_tp_methods, identifier_methods},
     {Py_tp_getset, identifier_properties},

@@ -20,6 +20,7 @@ from unittest import mock
 import const_oid
 import typed
 from const_oid import ObjectIdentifier, OidError, SortedMap, names, sorted_map
+from test_values import Under, error_of
 
 HERE = pathlib.Path(__file__).resolve().parent
 TOP = HERE.parents[1]
@@ -35,10 +36,6 @@ def load_tests(loader, tests, pattern):
         examples = doctest.DocTestParser().get_doctest(text, vars(const_oid), name, None, 0)
         tests.addTest(doctest.DocTestCase(examples))
     return tests
-
-
-class Key(ObjectIdentifier):
-    pass
 
 
 @contextlib.contextmanager
@@ -72,27 +69,31 @@ class Package(unittest.TestCase):
             with contextlib.redirect_stdout(out), installed():
                 exec(code, variables)
         except ModuleNotFoundError as error:
-            self.assertIn(error.name.split(".")[0], {"asn1crypto", "cryptography", "numpy", "pandas", "pyasn1", "pydantic"})
+            others = {"asn1crypto", "cryptography", "numpy", "pandas", "pyasn1", "pydantic"}
+            self.assertIn(error.name.split(".")[0], others)
             self.skipTest(str(error))
         self.assertEqual(wanted, out.getvalue().splitlines())
 
     def test_the_walk_rejects_what_is_cut(self):
         """The first example finds all identifiers of an encoding, and is an error for each shorter one."""
-        source = next(example.source for example in doctest.DocTestParser().get_examples(const_oid.__doc__) if "def" in example.source)
-        exec(source, variables := vars(const_oid).copy())
-        long = b"\x06\x81\x80" + bytes(128)
-        whole = b"\x30\x82\0\x8c" + b"\x06\x03\x2a\x03\x04" + b"\xa0\x02\x05\0" + long
-        self.assertEqual([b"\x2a\x03\x04", bytes(128)], list(map(bytes, variables["identifiers"](whole))))
-        wrong = [whole[:end] for end in range(1, len(whole))]
-        # What goes on past what it is in, and a tag of several octets.
-        for der in [*wrong, b"\x30\x02\x06\x03\x2a\x03\x04", b"\x1f\x81\x06\x02\x2a\x03"]:
-            with self.subTest(der.hex()), self.assertRaises(ValueError):
-                list(variables["identifiers"](der))
+        sources = (example.source for example in doctest.DocTestParser().get_examples(const_oid.__doc__))
+        exec(next(source for source in sources if "def " in source), variables := vars(const_oid).copy())
+
+        def found(der):
+            return list(map(bytes, variables["identifiers"](der)))
+
+        whole = bytes.fromhex("3082008C 06032A0304 A0020500 068180") + bytes(128)
+        self.assertEqual([b"\x2a\x03\x04", bytes(128)], found(whole))
+        # Also what goes on past what it is in, and a tag of several octets.
+        others = bytes.fromhex("300206032A0304"), bytes.fromhex("1F8106022A03")
+        for der in [*(whole[:end] for end in range(1, len(whole))), *others]:
+            self.assertIsInstance(error_of(found, der), ValueError, der.hex())
 
     def test_numpy_takes_an_identifier_as_one_value(self):
         oids = [ObjectIdentifier("2.5.4"), ObjectIdentifier("2.5.6")]
-        with mock.patch.dict(sys.modules, numpy=types.SimpleNamespace(empty=lambda shape, kind: {"empty": (shape, kind)})):
-            self.assertEqual({"empty": ((), "O"), (): oids[0]}, oids[0].__array__())
+        other = types.SimpleNamespace(empty=lambda shape, kind: {"made": (shape, kind)})
+        with mock.patch.dict(sys.modules, numpy=other):
+            self.assertEqual({"made": ((), "O"), (): oids[0]}, oids[0].__array__())
         with installed("numpy") as found:
             for numpy in found:
                 array = numpy.array(oids)
@@ -104,29 +105,25 @@ class Package(unittest.TestCase):
         with installed("pydantic", "pydantic.v1") as found:
             for pydantic in found:
                 with self.subTest(pydantic):
-                    self.check_model(pydantic.create_model("Model", oid=(ObjectIdentifier, ...), key=(Key, ...)))
+                    self.check_model(pydantic.create_model("Model", oid=(ObjectIdentifier, ...), key=(Under, ...)))
             if not found:
                 self.skipTest("pydantic is not installed")
 
     def check_model(self, model):
         oid = ObjectIdentifier("2.5.4")
         texts = {"oid": "2.5.4", "key": "2.5.4.3"}
-        for made in (model(**texts), model(oid=oid, key=oid.child(3)), model(oid=oid, key=Key("2.5.4.3"))):
-            self.assertEqual((oid, Key("2.5.4.3"), Key), (made.oid, made.key, type(made.key)))
+        for made in (model(**texts), model(oid=oid, key=oid.child(3)), model(oid=oid, key=Under("2.5.4.3"))):
+            self.assertEqual((oid, oid.child(3), Under), (made.oid, made.key, type(made.key)))
             self.assertEqual(texts, json.loads(made.json()))
             self.assertEqual(made, model.parse_raw(made.json()))
         for wrong in ("1.40", 3, None, [2, 5]):
-            with self.assertRaises(ValueError):
-                model(oid=wrong, key="2.5.4.3")
+            self.assertIsInstance(error_of(lambda: model(oid=wrong, key="2.5.4.3")), ValueError)
         if hasattr(model, "model_json_schema"):
             self.assertEqual("string", model.model_json_schema()["properties"]["oid"]["type"])
 
-    def test_codes_are_those_of_the_header(self):
+    def test_codes_and_version_are_those_of_the_header(self):
         codes = dict(re.findall(r"CONST_OID_(\w+) = (\d+)", HEADER.split("enum const_oid_code")[1].split("}")[0]))
-        del codes["OK"]
-        self.assertEqual({code.name: str(int(code)) for code in const_oid.Code}, codes)
-
-    def test_versions_are_the_same(self):
+        self.assertEqual({code.name: str(int(code)) for code in const_oid.Code} | {"OK": "0"}, codes)
         version = ".".join(re.search(rf"VERSION_{part} (\d+)", HEADER)[1] for part in ("MAJOR", "MINOR", "PATCH"))
         project = (TOP / "python/pyproject.toml").read_text(encoding="utf-8")
         self.assertIn(f'\nversion = "{version}"\n', project)
@@ -156,8 +153,7 @@ class Package(unittest.TestCase):
             for name in getattr(owner, "__all__", [name for name in vars(owner) if not name.startswith("_")]):
                 value = getattr(owner, name)
                 if callable(value) or inspect.isdatadescriptor(value):
-                    with self.subTest(owner=owner, name=name):
-                        self.assertIn(">>> ", inspect.getdoc(value))
+                    self.assertIn(">>> ", inspect.getdoc(value), name)
 
 
 class Types(unittest.TestCase):
@@ -168,10 +164,9 @@ class Types(unittest.TestCase):
         functions = {node.name: node for node in declared.body if isinstance(node, ast.FunctionDef)}
         self.assertEqual({name for name in vars(ObjectIdentifier) if not name.startswith("_")} - set(functions), set())
         for name in ("from_bytes", "from_arcs", "child", "starts_with", "index", "count", "__format__", "__deepcopy__"):
-            with self.subTest(name):
-                arguments = [argument.arg for argument in functions[name].args.posonlyargs][1:]
-                text = inspect.getattr_static(ObjectIdentifier, name).__text_signature__
-                self.assertEqual(arguments, re.findall(r", (\w+)", text))
+            arguments = [argument.arg for argument in functions[name].args.posonlyargs][1:]
+            text = inspect.getattr_static(ObjectIdentifier, name).__text_signature__
+            self.assertEqual(arguments, re.findall(r", (\w+)", text), name)
         returns = {name: ast.unparse(node.returns) for name, node in functions.items()}
         self.assertEqual(["parent"], [name for name, text in returns.items() if "None" in text])
 

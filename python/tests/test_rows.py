@@ -27,10 +27,6 @@ def arcs_from(words):
     return " ".join([str(len(arcs)), "arcs", *map(str, arcs)])
 
 
-def whether(holds):
-    return "yes" if holds else "no"
-
-
 def order_of(left, right):
     return "less" if left < right else "greater" if left > right else "equal"
 
@@ -58,8 +54,8 @@ CALLS = {
     "arcs_from": arcs_from,
     "parent": lambda digits: digits_of(oid_of(digits).parent),
     "child": lambda words: digits_of(oid_of(words.split(" ")[0]).child(int(words.split(" ")[1]))),
-    "begins": pair(lambda oid, prefix: whether(oid.starts_with(prefix))),
-    "equal": pair(lambda left, right: whether(left == right)),
+    "begins": pair(lambda oid, prefix: "yes" if oid.starts_with(prefix) else "no"),
+    "equal": pair(lambda left, right: "yes" if left == right else "no"),
     "by_arcs": pair(order_of),
     "find": index_in(lambda table, oid: (oid, table[oid]) if oid in table else None),
     "next": index_in(SortedMap.next_after),

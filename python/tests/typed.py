@@ -44,7 +44,8 @@ def tables(key: dict[ObjectIdentifier, str]) -> None:
     sorted_key |= [(oid, "name")]
     found = (sorted_key.nearest(oid), sorted_key.next_after(oid))
     assert_type(found, tuple[tuple[ObjectIdentifier, str] | None, tuple[ObjectIdentifier, str] | None])
-    assert_type((sorted_key.subtree(oid), list(sorted_key)), tuple[list[tuple[ObjectIdentifier, str]], list[ObjectIdentifier]])
+    assert_type(sorted_key.subtree(oid), list[tuple[ObjectIdentifier, str]])
+    assert_type(list(sorted_key), list[ObjectIdentifier])
     assert_type((names.name_of(oid), names.by_name("cn")), tuple[str | None, ObjectIdentifier | None])
     assert_type((names.names_of(oid), sorted_key.popitem()), tuple[tuple[str, ...], tuple[ObjectIdentifier, str]])
     entries: Iterable[tuple[ObjectIdentifier, str]] = names.entries()

@@ -1,12 +1,8 @@
 """Object identifiers (ITU-T X.660) as dotted text, arcs, and contents octets of BER and DER (ITU-T X.690, 8.19).
 
 >>> oid = ObjectIdentifier("1.2.840.10045.2.1")
->>> bytes(oid).hex()
-'2a8648ce3d0201'
->>> oid.arcs
-(1, 2, 840, 10045, 2, 1)
->>> oid.starts_with(ObjectIdentifier("1.2.840.10045"))
-True
+>>> bytes(oid).hex(), oid.arcs
+('2a8648ce3d0201', (1, 2, 840, 10045, 2, 1))
 
 Contents octets have no tag and no length. In DER, such as that of a certificate, these come first: the tag of an
 identifier is 6. A walk over all values finds them:

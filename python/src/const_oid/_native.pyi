@@ -4,7 +4,6 @@ from typing import Any, Self, SupportsIndex, overload
 __version__: str
 
 def error_text(code: int, detail: int, /) -> str | None: ...
-def restored(octets: bytes, /) -> ObjectIdentifier: ...
 
 class ObjectIdentifier(Sequence[int]):
     __match_args__ = ("arcs",)

@@ -53,10 +53,6 @@ class OidError(ValueError):
 
     __module__ = PUBLIC
 
-    code: Code
-    detail: int
-    given: object
-
     def __init__(self, code: int, detail: int = 0, given: object = None) -> None:
         super().__init__(code, detail)
         error_text(code, detail)  # an error if a number is out of range
@@ -64,8 +60,8 @@ class OidError(ValueError):
 
     @property
     def piece(self) -> int | None:
-        """The index of the first wrong component, between the dots of a text, or None if no component is wrong. A dot at
-        the end belongs to the component before it.
+        """The index of the first wrong component, between the dots of a text, or None if no component is wrong. A dot
+        at the end belongs to the component before it.
 
         >>> [OidError(Code.TRAILING_DOT, 0, text).piece for text in ("3.", "1.2.")]
         [0, 1]
@@ -108,14 +104,8 @@ SHOWN = _Shown()
 SHOWN.maxstring = SHOWN.maxother = 60
 SHOWN.maxtuple = 12
 
-HINTS: dict[type, str] = {
-    str: "ObjectIdentifier takes text",
-    bytes: "from_bytes takes octets",
-    tuple: "from_arcs takes arcs",
-    list: "from_arcs takes arcs",
-    set: "a set has no order",
-    frozenset: "a set has no order",
-}
+HINTS: dict[type, str] = {str: "ObjectIdentifier takes text", bytes: "from_bytes takes octets"}
+HINTS |= dict.fromkeys((tuple, list), "from_arcs takes arcs") | dict.fromkeys((set, frozenset), "a set has no order")
 
 
 def wrong_type(wanted: str, given: object) -> TypeError:

@@ -106,9 +106,8 @@ class SortedMap(MutableMapping[ObjectIdentifier, Value]):
         """Removes all entries.
 
         >>> table = SortedMap({ObjectIdentifier("2.5"): "directory"})
-        >>> table.clear()
-        >>> table
-        SortedMap({})
+        >>> table.clear(), table
+        (None, SortedMap({}))
         """
         self._values.clear()
         self._keys = _Keys(())
