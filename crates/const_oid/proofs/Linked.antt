@@ -1,213 +1,165 @@
 -- Links between the entries of a table, by a hash: what they are at each step, and what a lookup along them finds.
-use Rattle.std.proofs.Common.{◌≡◌, ◌≢◌, ℕ, ◌+◌, ◌-◌, ◌%◌, ◌<◌, ◌≤◌, Bool, true, false, List, length, get_or, set, Some, None, arith, refl, sym, ap, ◌∙◌, ⊎_elim}
-use Rattle.std.proofs.Common.{get_or-set_other, get_or-set_same}
-use Rattle.std.specs.List.{AllWithin, HoldsAt, filter, find}
-use Rattle.std.proofs.Common.{◌*◌, ◌^◌, [], ◌∷◌, Bor, nat_eq, drop, drop-cons, add-one, suc, zero}
-use Rattle.std.specs.{Cmp.Lexicographic.pointwise, List.fold, Str.str_to_ascii_lowercase}
-use Rattle.std.proofs.lemmas.{Slice.Eq.bytes_eq-Decides, Bool.{cases_eq, cases_lt}, Grind.common_steps, List.get_or_default, Option.{slice_get_cases, slice_get-get_or}}
-use Rattle.const_oid.specs.Private.Links.{IsFirstIn, AreLinks, AreLinksFrom, IsInSlot, hash_of, key_of, slot_by}
+use Rattle.std.proofs.Common.{◌≡◌, ◌≢◌, ℕ, ◌+◌, ◌-◌, ◌*◌, ◌%◌, ◌^◌, ◌<◌, ◌≤◌, Bool, true, false, List, [], ◌∷◌, Bor, drop, length, get_or, set, nat_eq}
+use Rattle.std.proofs.Common.{arith, refl, sym, ap, ◌∙◌, Some, None, ⊎_elim, suc, zero, rules, add-one, drop-cons, get_or-set_other, get_or-set_same}
+use Rattle.std.specs.{Cmp.Lexicographic.pointwise, List.{fold, filter, find, position_or_len, slice_get, HoldsAt}, Str.str_to_ascii_lowercase}
+use Rattle.std.proofs.lemmas.{Slice.Eq.bytes_eq-Decides, Bool.{cases_Bool, cases_eq, cases_lt, eqb-true, eq-eqb, ne_eqb, Decides.nat_tests}, Grind.common_steps, Option.{slice_get-get_or, slice_get_cases}}
+use Rattle.std.proofs.lemmas.List.{Folds.find_at, drop-drop, get_or-drop, get_or_default, length-drop, Sums.{passes_at_first, prefix_len-le-length}}
+use Rattle.const_oid.specs.Private.Links.{AreLinks, AreLinksFrom, IsInSlot, first_by, hash_of, in_slot, key_of}
 use Rattle.const_oid.specs.declared.oid.ObjectIdentifier.{ObjectIdentifier}
 use Rattle.const_oid.specs.{Names.{Entry, has_arcs, has_name, lent_arcs}, Oid.{oid_arcs, oid_octets}}
 use Rattle.const_oid.proofs.Encodings.{oid_encoding, same_octets}
-use Rattle.const_oid.proofs.SortedLists.{find_none, find_some, position_is, position_none}
 
-module _ {Row : Type 0} (slot_of : Row → ℕ) (entries : List Row) where
+module _ {Row : Type 0} (test : Row → Bool) where
+  fails : {wider : Row → Bool} → ((row : Row) → test row ≡ true → wider row ≡ true) → (row : Row) → wider row ≡ false → test row ≡ false
+  fails passes row narrow = grind (arith, cases_Bool (test row), passes row)
+
+  -- the first row that passes is the first one from where one passes another test, which is wider
+  skips_to : (wider : Row → Bool) → ((row : Row) → test row ≡ true → wider row ≡ true) → (rows : List Row)
+      → position_or_len test rows ≡ position_or_len wider rows + position_or_len test (drop (position_or_len wider rows) rows)
+  skips_to wider passes [] = refl
+  skips_to wider passes (row ∷ rows) = ⊎_elim
+      (λ (wide : wider row ≡ true). simp wide (omega arith))
+      (λ (narrow : wider row ≡ false).
+      let next : 1 + position_or_len wider rows ≡ suc (position_or_len wider rows) = omega arith in
+      simp (narrow, fails passes row narrow, next) (omega (arith, skips_to wider passes rows)))
+      (cases_Bool (wider row))
+
+  filter_from : (rows : List Row) → filter test rows ≡ filter test (drop (position_or_len test rows) rows)
+  filter_from [] = refl
+  filter_from (row ∷ rows) = ⊎_elim
+      (λ (pass : test row ≡ true). simp pass)
+      (λ (fail : test row ≡ false).
+      let next : 1 + position_or_len test rows ≡ suc (position_or_len test rows) = omega arith in
+      simp (fail, next) (filter_from rows))
+      (cases_Bool (test row))
+
+module _ {Row : Type 0} (test : Row → Bool) (rows : List Row) where
+  -- a row that passes, one that does not, and none
+  pub passes_at : (index : ℕ) (row : Row) → index < length rows → test (get_or rows index row) ≡ true → index ≡ first_by test rows index
+  passes_at index row below passes = rw (drop-cons rows index row, passes) (omega arith)
+
+  pub fails_at : (index : ℕ) (row : Row) → index < length rows → test (get_or rows index row) ≡ false
+      → first_by test rows index ≡ first_by test rows (index + 1)
+  fails_at index row below fails = rw (drop-cons rows index row, fails, add-one) (omega arith)
+
+  pub past_end : (index : ℕ) → length rows ≤ index → index ≡ first_by test rows index
+  past_end index end = grind (arith, common_steps)
+
+  pub stops : (from : ℕ) → first_by test rows from < length rows → HoldsAt (λ row. test row ≡ true) rows (first_by test rows from)
+  stops from below row = rw (← get_or-drop) (passes_at_first test (drop from rows) row (simp length-drop (omega arith)))
+
+  keeps : (from : ℕ) → filter test (drop from rows) ≡ filter test (drop (first_by test rows from) rows)
+  keeps from = rw (← drop-drop (position_or_len test (drop from rows)) from rows) (filter_from test (drop from rows))
+
+  -- what passes is left, also after a row that passes
+  pub left : (from to : ℕ) → first_by test rows from ≡ first_by test rows to → filter test (drop from rows) ≡ filter test (drop to rows)
+  left from to same = keeps from ∙ rw same (sym (keeps to))
+
+  pub takes : (index to : ℕ) (row : Row) → index < length rows → test (get_or rows index row) ≡ true → first_by test rows (index + 1) ≡ first_by test rows to
+      → filter test (drop index rows) ≡ get_or rows index row ∷ filter test (drop to rows)
+  takes index to row below passes same =
+      rw (drop-cons rows index row, passes) (ap (λ others. get_or rows index row ∷ others) (rw add-one at (left (index + 1) to same)))
+
+module _ {Row : Type 0} (key : Row → List ℕ) (slots : ℕ) (rows : List Row) where
   -- at the end there are none
-  pub no_links : (slots : ℕ) (links : List ℕ)
-      → ((slot : ℕ) → slot < slots → get_or links (length entries + slot) 0 ≡ length entries)
-      → AreLinksFrom slot_of slots entries (length entries) links
-  no_links slots links ends = record {
-    next = λ k l m. absurd (omega arith);
-    first = λ slot l.
-        let e = ends slot l in
-        record {
-          after = omega arith;
-          within = omega arith;
-          passed = λ k d f t. absurd (omega arith);
-          there = λ t. absurd (omega arith);
-        };
+  pub no_links : (links : List ℕ) → ((slot : ℕ) → slot < slots → get_or links (length rows + slot) 0 ≡ length rows)
+      → AreLinksFrom key slots rows (length rows) links
+  no_links links ends = record {
+    next = λ k slot l m. absurd (omega arith);
+    first = λ slot l. ends slot l ∙ past_end (in_slot key slots slot) rows (length rows) (omega arith);
   }
 
-  -- an entry of another slot comes before
-  before_other : (slot other index to : ℕ) → HoldsAt (λ entry. slot_of entry ≡ slot) entries index → other ≢ slot
-      → IsFirstIn slot_of entries other (index + 1) to → IsFirstIn slot_of entries other index to
-  before_other slot other index to here unlike first = record {
-    after = omega arith;
-    within = first.within;
-    passed = λ k d f t same. ⊎_elim
-        (λ e. unlike (sym same ∙ (rw e (here d))))
-        (λ ne. first.passed k d (omega arith) t same)
-        (cases_eq k index);
-    there = first.there;
-  }
-
-  -- one more entry
-  pub one_more : (slots index slot : ℕ) (links : List ℕ) → index < length entries → slot < slots
-      → length entries + slots ≤ length links
-      → HoldsAt (λ entry. slot_of entry ≡ slot) entries index
-      → AreLinksFrom slot_of slots entries (index + 1) links
-      → AreLinksFrom slot_of slots entries index (set (set links index (get_or links (length entries + slot) 0)) (length entries + slot) index)
-  one_more slots index slot links below small fit here old =
-      let link = get_or links (length entries + slot) 0 in
-      let changed = set links index link in
+  -- one more row
+  pub one_more : (index slot : ℕ) (row : Row) (links : List ℕ) → index < length rows → slot < slots → length rows + slots ≤ length links
+      → row ≡ get_or rows index row → slot ≡ hash_of (key row) % slots
+      → AreLinksFrom key slots rows (index + 1) links
+      → AreLinksFrom key slots rows index (set (set links index (get_or links (length rows + slot) 0)) (length rows + slot) index)
+  one_more index slot row links below small fit here hashed old =
+      let changed = set (set links index (get_or links (length rows + slot) 0)) (length rows + slot) index in
       record {
-        next = λ k l m d.
-            let apart : k ≢ length entries + slot = omega arith in
-            let outside = get_or-set_other changed (length entries + slot) k index 0 apart in
-            ⊎_elim
+        next = λ k other l m at. ⊎_elim
             (λ (e : k ≡ index).
-            let inside : index < length links = omega arith in
-            let at = get_or-set_same links index link 0 inside in
-            rw (outside, e, at, here d) (old.first slot small))
+            let link : get_or changed k 0 ≡ get_or links (length rows + slot) 0 = grind (arith, common_steps) in
+            let same : other ≡ slot = sym (eqb-true _ _ (rw (e, ← here) at (at row))) ∙ sym hashed in
+            rw (link, e, same) (old.first slot small))
             (λ (ne : k ≢ index).
-            let at = get_or-set_other links index k link 0 ne in
-            rw (outside, at) (old.next k (omega arith) m d))
+            let link : get_or changed k 0 ≡ get_or links k 0 = grind (arith, common_steps) in
+            rw link (old.next k other (omega arith) m at))
             (cases_eq k index);
         first = λ other l. ⊎_elim
             (λ (e : other ≡ slot).
-            let at : get_or (set changed (length entries + slot) index) (length entries + other) 0 ≡ index = grind (arith, common_steps) in
-            rw at (record {
-              after = omega arith;
-              within = omega arith;
-              passed = λ k d f t. absurd (omega arith);
-              there = λ t d. here d ∙ sym e;
-            }))
+            let link : get_or changed (length rows + other) 0 ≡ index = grind (arith, common_steps) in
+            rw link (passes_at (in_slot key slots other) rows index row below (rw (← here) (eq-eqb _ _ (sym (e ∙ hashed))))))
             (λ (ne : other ≢ slot).
-            let at : get_or (set changed (length entries + slot) index) (length entries + other) 0 ≡ get_or links (length entries + other) 0 = grind (arith, common_steps) in
-            rw at (before_other slot other index _ here ne (old.first other l)))
+            let link : get_or changed (length rows + other) 0 ≡ get_or links (length rows + other) 0 = grind (arith, common_steps) in
+            rw link (old.first other l ∙ sym (fails_at (in_slot key slots other) rows index row below (rw (← here) (ne_eqb _ _ (λ e. ne (sym (hashed ∙ e))))))))
             (cases_eq other slot);
       }
 
--- a lookup has come from an index to another: no entry between them passes a test, and the one there is of the slot of some bytes
-pub record IsReached {Row : Type 0} (key : Row → List ℕ) (test : Row → Bool) (entries : List Row) (links bytes : List ℕ) (from index : ℕ) : Type 0 where
-  pub after : from ≤ index
-  pub within : index ≤ length entries
-  pub passed : AllWithin (λ entry. test entry ≡ false) entries from index
-  pub there : IsInSlot key entries links bytes index
+-- a lookup goes from an index to another: no entry between them passes a test, and the one there is of the slot of some bytes
+pub record Leads {Row : Type 0} (key : Row → List ℕ) (test : Row → Bool) (rows : List Row) (links bytes : List ℕ) (from to : ℕ) : Type 0 where
+  pub after : from ≤ to
+  pub within : to ≤ length rows
+  pub same : first_by test rows from ≡ first_by test rows to
+  pub there : IsInSlot key rows links bytes to
 
-not_true : (b : Bool) → (b ≡ true → ⊥) → b ≡ false
-not_true true fails = absurd (fails refl)
-not_true false fails = refl
-
-module _ {Row : Type 0} (test : Row → Bool) (entries : List Row) where
-  -- an entry that passes, and one that does not
-  pub keeps : (index : ℕ) (entry : Row) → index < length entries → entry ≡ get_or entries index entry → test entry ≡ true
-      → filter test (drop index entries) ≡ entry ∷ filter test (drop (index + 1) entries)
-  keeps index entry below is passes = rw (drop-cons entries index entry, ← is, passes, add-one)
-
-  pub leaves : (index : ℕ) (entry : Row) → index < length entries → entry ≡ get_or entries index entry → test entry ≡ false
-      → filter test (drop index entries) ≡ filter test (drop (index + 1) entries)
-  leaves index entry below is fails = rw (drop-cons entries index entry, ← is, fails, add-one)
-
-  pub past_end : (index : ℕ) → length entries ≤ index → filter test (drop index entries) ≡ []
-  past_end index end = grind (arith, common_steps)
-
-  leaves_all : (count from : ℕ) → from + count ≤ length entries → AllWithin (λ entry. test entry ≡ false) entries from (from + count)
-      → filter test (drop from entries) ≡ filter test (drop (from + count) entries)
-  leaves_all zero from within fails = let e : from + zero ≡ from = omega arith in rw e
-  leaves_all (suc count) from within fails = ⊎_elim
-      (λ (some, inside, is, read).
-      let e : from + 1 + count ≡ from + suc count = omega arith in
-      leaves from some inside (sym read) (rw read at (fails from some (omega arith) (omega arith)))
-      ∙ rw e at (leaves_all count (from + 1) (omega arith) (λ k d f t. fails k d (omega arith) (omega arith))))
-      (λ (past, none). absurd (omega arith))
-      (slice_get_cases entries from).1
-
-module _ {Row : Type 0} (key : Row → List ℕ) (test : Row → Bool) (entries : List Row) (links bytes : List ℕ)
-    (same : (entry : Row) → test entry ≡ true → hash_of (key entry) ≡ hash_of bytes)
-    (right : AreLinks key entries links) where
+module _ {Row : Type 0} (key : Row → List ℕ) (test : Row → Bool) (rows : List Row) (links bytes : List ℕ)
+    (same : (row : Row) → test row ≡ true → hash_of (key row) ≡ hash_of bytes)
+    (right : AreLinks key rows links) where
   abbrev slots : ℕ
-  slots = length links - length entries
+  slots = length links - length rows
 
-  -- to the first entry of the slot
-  goes_on : (from index : ℕ) → IsFirstIn (slot_by key slots) entries (hash_of bytes % slots) from index
-      → IsReached key test entries links bytes from index
-  goes_on from index first = record {
-    after = first.after;
-    within = first.within;
-    passed = λ k d late l. not_true (test (get_or entries k d))
-        (λ passes. first.passed k d late l (ap (λ hash. hash % slots) (same (get_or entries k d) passes)));
-    there = λ _ below. first.there below;
-  }
+  abbrev of_slot : Row → Bool
+  of_slot = in_slot key slots (hash_of bytes % slots)
 
-  pub comes_first : (index : ℕ)
-      → (length entries < length links → index ≡ get_or links (length entries + hash_of bytes % slots) 0)
-      → (length links ≤ length entries → index ≡ 0)
-      → IsReached key test entries links bytes 0 index
-  comes_first index linked scanned = ⊎_elim
-      (λ (more : length entries < length links).
-      let first = (right more).first (hash_of bytes % slots) (omega arith) in
-      goes_on 0 index (rw (linked more) first))
-      (λ (none : length links ≤ length entries). record {
+  -- to the first entry of the slot, or without links to the next entry
+  leads : (from to : ℕ) → from ≤ length rows → (length rows < length links → to ≡ first_by of_slot rows from)
+      → (length links ≤ length rows → to ≡ from) → Leads key test rows links bytes from to
+  leads from to early linked scanned = ⊎_elim
+      (λ (more : length rows < length links). rw (linked more) (record {
         after = omega arith;
-        within = omega (arith, scanned none);
-        passed = λ k d z l. absurd (omega (arith, scanned none));
+        within = omega (arith, prefix_len-le-length {X = Row}, length-drop {A = Row});
+        same = rw (← drop-drop (position_or_len of_slot (drop from rows)) from rows)
+            (omega (arith, skips_to test of_slot (λ row passes. eq-eqb _ _ (ap (λ hash. hash % slots) (same row passes))) (drop from rows)));
+        there = λ _ below. stops of_slot rows from below;
+      }))
+      (λ (none : length links ≤ length rows). rw (scanned none) (record {
+        after = omega arith;
+        within = early;
+        same = refl;
         there = λ more. absurd (omega arith);
-      })
-      (cases_lt (length entries) (length links))
+      }))
+      (cases_lt (length rows) (length links))
 
-  -- from an entry to the next one of the slot
-  pub comes_next : (index next : ℕ) (some : Row) → index < length entries
-      → (length entries < length links → next ≡ get_or links index 0)
-      → (length links ≤ length entries → next ≡ index + 1)
-      → IsInSlot key entries links bytes index
-      → IsReached key test entries links bytes (index + 1) next
-  comes_next index next some below linked scanned there = ⊎_elim
-      (λ (more : length entries < length links).
-      let first = rw (there more below some) at ((right more).next index (omega arith) below some) in
-      goes_on (index + 1) next (rw (linked more) first))
-      (λ (none : length links ≤ length entries). record {
-        after = omega (arith, scanned none);
-        within = omega (arith, scanned none);
-        passed = λ k d z l. absurd (omega (arith, scanned none));
-        there = λ more. absurd (omega arith);
-      })
-      (cases_lt (length entries) (length links))
+  pub starts : (to : ℕ) → (length rows < length links → to ≡ get_or links (length rows + hash_of bytes % slots) 0)
+      → (length links ≤ length rows → to ≡ 0) → Leads key test rows links bytes 0 to
+  starts to linked scanned = leads 0 to (omega arith) (λ more. linked more ∙ (right more).first (hash_of bytes % slots) (omega arith)) scanned
+
+  pub goes_on : (index to : ℕ) → index < length rows → (length rows < length links → to ≡ get_or links index 0)
+      → (length links ≤ length rows → to ≡ index + 1) → IsInSlot key rows links bytes index → Leads key test rows links bytes (index + 1) to
+  goes_on index to below linked scanned there = leads (index + 1) to (omega arith)
+      (λ more. linked more ∙ (right more).next index (hash_of bytes % slots) (omega arith) below (there more below)) scanned
 
   -- past an entry that does not pass
-  pub goes_past : (from index next : ℕ) (some : Row) → index < length entries → test (get_or entries index some) ≡ false
-      → (length entries < length links → next ≡ get_or links index 0)
-      → (length links ≤ length entries → next ≡ index + 1)
-      → IsReached key test entries links bytes from index
-      → IsReached key test entries links bytes from next × (index < next)
-  goes_past from index next some below fails linked scanned reached =
-      let more = comes_next index next some below linked scanned reached.there in (
-        record {
-          after = omega (arith, reached.after, more.after);
-          within = more.within;
-          passed = λ k d z l. ⊎_elim
-              (λ (early : k < index). reached.passed k d z early)
-              (λ (late : index ≤ k). ⊎_elim
-              (λ (e : k ≡ index). rw (e, get_or_default entries index d some below) fails)
-              (λ (ne : k ≡ index → ⊥). more.passed k d (omega arith) l)
-              (cases_eq k index))
-              (cases_lt k index);
-          there = more.there;
-        },
-        omega (arith, more.after),
-      )
+  pub goes_past : (from index to : ℕ) (row : Row) → index < length rows → test (get_or rows index row) ≡ false
+      → Leads key test rows links bytes from index → Leads key test rows links bytes (index + 1) to → Leads key test rows links bytes from to
+  goes_past from index to row below fails reached more = record {
+    after = omega (arith, reached.after, more.after);
+    within = more.within;
+    same = reached.same ∙ fails_at test rows index row below fails ∙ more.same;
+    there = more.there;
+  }
 
-  -- the first entry that passes
-  pub finds : (index : ℕ) (some : Row) → index < length entries → test (get_or entries index some) ≡ true
-      → IsReached key test entries links bytes 0 index → find test entries ≡ Some (get_or entries index some)
-  finds index some below passes reached =
-      let at : HoldsAt (λ entry. test entry ≡ true) entries index =
-      λ d. rw (get_or_default entries index d some below) passes in
-      find_some test entries index (position_is test entries index below reached.passed at)
-      ∙ slice_get-get_or entries index some below
+  pub finds : (index : ℕ) (row : Row) → index < length rows → test (get_or rows index row) ≡ true
+      → Leads key test rows links bytes 0 index → Some (get_or rows index row) ≡ find test rows
+  finds index row below passes reached =
+      let at : position_or_len test rows ≡ index = omega (arith, reached.same, passes_at test rows index row below passes) in
+      sym (find_at test rows ∙ rw at (slice_get-get_or rows index row below))
 
-  -- no entry passes
-  pub finds_none : (index : ℕ) → length entries ≤ index → IsReached key test entries links bytes 0 index → find test entries ≡ None
+  pub finds_none : (index : ℕ) → length rows ≤ index → Leads key test rows links bytes 0 index → None ≡ find test rows
   finds_none index end reached =
-      find_none test entries (position_none test entries (λ k d l. reached.passed k d (omega arith) (omega arith)))
-
-  -- what passes is left
-  pub left : (from index : ℕ) → IsReached key test entries links bytes from index
-      → filter test (drop from entries) ≡ filter test (drop index entries)
-  left from index reached =
-      let count = index - from in
-      let end : from + count ≡ index = omega (arith, reached.after) in
-      rw end at (leaves_all test entries count from (omega (arith, reached.within)) (rw end reached.passed))
+      let at : position_or_len test rows ≡ index = omega (arith, reached.same, past_end test rows index end) in
+      grind (arith, nat_tests, find_at test rows, slice_get_cases rows index)
 
 -- ---- what is the same has the same hash
 

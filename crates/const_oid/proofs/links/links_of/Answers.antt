@@ -1,7 +1,6 @@
-use Rattle.std.proofs.Common.{◌≡◌, ◌+◌, ◌-◌, ◌%◌, length, arith, ap, ◌∙◌, sym}
-use Rattle.std.proofs.lemmas.{Grind.common_steps, List.{get_or-replicate, get_or_default}}
-use Rattle.std.specs.List.{HoldsAt}
-use Rattle.const_oid.specs.Private.Links.{hash_of, key_of, slot_by}
+use Rattle.std.proofs.Common.{◌≡◌, ◌+◌, ◌-◌, length, arith, ap, ◌∙◌, sym}
+use Rattle.std.proofs.lemmas.{Grind.common_steps, List.get_or-replicate}
+use Rattle.const_oid.specs.Private.Links.{hash_of}
 use Rattle.const_oid.proofs.Linked.{no_links, one_more}
 use Rattle.const_oid.proofs.links.links_of.Goals as goal
 
@@ -14,20 +13,12 @@ loop-index-init g c = record {
 
 pub loop-index-preserved : goal.loop-index-preserved
 loop-index-preserved g c =
-    let entries = c.args.entries.now in
-    let slots = g.row.SIZE - length entries in
-    let index = c.loop-index.index - 1 in
-    let slot = c.hash.result % slots in
-    let entry = c.index-entries-index.result in
-    let key = key_of c.args.by_name in
-    let hashed : slot_by key slots entry ≡ slot = ap (λ hash. hash % slots) (sym (c.hash.ensures ∙ ap hash_of c.key.ensures)) in
-    let here : HoldsAt (λ other. slot_by key slots other ≡ slot) entries index =
-    λ d. rw (get_or_default entries index d entry (omega arith), ← c.index-entries-index.is) hashed in
-    let again : index + 1 ≡ c.loop-index.index = omega arith in
+    let again : c.loop-index.index - 1 + 1 ≡ c.loop-index.index = omega arith in
     record {
       within = omega arith;
       long = grind (arith, common_steps);
-      so_far = one_more (slot_by key slots) entries slots index slot c.loop-index.links (omega arith) (omega arith) (omega arith) here
+      so_far = one_more _ (g.row.SIZE - length c.args.entries.now) _ _ _ c.index-entries-index.result c.loop-index.links
+          (omega arith) (omega arith) (omega arith) c.index-entries-index.is (cc)
           (rw again c.loop-index.invariant.so_far);
     }
 

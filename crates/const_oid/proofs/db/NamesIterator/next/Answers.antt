@@ -1,27 +1,26 @@
-use Rattle.std.proofs.Common.{◌+◌, ◌∷◌, arith, rules, ap, map, sym, ◌∙◌}
+use Rattle.std.proofs.Common.{arith, rules, ap, map, sym, ◌∙◌}
 use Rattle.std.proofs.lemmas.{Grind.common_steps}
-use Rattle.const_oid.specs.{Names.{has_arcs, lent_arcs, name_of}, Oid.oid_arcs}
-use Rattle.const_oid.proofs.Linked.{comes_next, keeps, leaves, left, past_end, same_oids}
+use Rattle.const_oid.specs.Names.{name_of}
+use Rattle.const_oid.proofs.Linked.{fails_at, goes_on, left, same_oids, takes}
 use Rattle.const_oid.proofs.db.NamesIterator.next.Goals as goal
 
 pub invariant_of-self : goal.invariant_of-self
 invariant_of-self c =
     let names = c.loop-self.self in
     let next = c.next_link-self in
-    let reached = comes_next _ _ _ _ _ (same_oids names.oid) names.database.by_oid names.index next.result
-    c.index-entries-self.result c.loop-self-test.true next.ensures.linked next.ensures.scanned names.in_slot in
-    record { within = reached.within; in_slot = reached.there }
+    let more = goes_on _ _ _ _ _ (same_oids names.oid) names.database.by_oid names.index next.result
+    c.loop-self-test.true next.ensures.linked next.ensures.scanned names.in_slot in
+    record { within = more.within; in_slot = more.there }
 
 pub returns-then-has_oid-clause-steps : goal.returns-then-has_oid-clause-steps
 returns-then-has_oid-clause-steps c =
     let names = c.loop-self.self in
     let next = c.next_link-self in
-    let reached = comes_next _ _ _ _ _ (same_oids names.oid) names.database.by_oid names.index next.result
-    c.index-entries-self.result c.loop-self-test.true next.ensures.linked next.ensures.scanned names.in_slot in
-    let rest = left _ _ _ _ _ (same_oids names.oid) names.database.by_oid (names.index + 1) next.result reached in
-    let entries = names.database.entries.now in
-    let kept = keeps _ entries names.index c.index-entries-self.result c.loop-self-test.true c.index-entries-self.is (sym (c.if-has_oid.ensures)) in
-    c.loop-self.invariant ∙ ap (map name_of) (kept ∙ ap (λ others. c.index-entries-self.result ∷ others) rest)
+    let more = goes_on _ _ _ _ _ (same_oids names.oid) names.database.by_oid names.index next.result
+    c.loop-self-test.true next.ensures.linked next.ensures.scanned names.in_slot in
+    let passes = takes _ names.database.entries.now names.index next.result c.index-entries-self.result c.loop-self-test.true
+    (rw (← c.index-entries-self.is) (sym (c.if-has_oid.ensures))) more.same in
+    c.loop-self.invariant ∙ ap (map name_of) (rw (← c.index-entries-self.is) at passes)
 
 pub returns-then-has_oid-clause-goes : goal.returns-then-has_oid-clause-goes
 returns-then-has_oid-clause-goes c =
@@ -32,22 +31,16 @@ pub loop-self-smaller : goal.loop-self-smaller
 loop-self-smaller c =
     let names = c.loop-self.self in
     let next = c.next_link-self in
-    let reached = comes_next _ _ _ _ _ (same_oids names.oid) names.database.by_oid names.index next.result
-    c.index-entries-self.result c.loop-self-test.true next.ensures.linked next.ensures.scanned names.in_slot in
-    omega (arith, reached.after)
+    let more = goes_on _ _ _ _ _ (same_oids names.oid) names.database.by_oid names.index next.result
+    c.loop-self-test.true next.ensures.linked next.ensures.scanned names.in_slot in
+    omega (arith, more.after)
 
 pub loop-self-preserved : goal.loop-self-preserved
 loop-self-preserved c =
     let names = c.loop-self.self in
     let next = c.next_link-self in
-    let reached = comes_next _ _ _ _ _ (same_oids names.oid) names.database.by_oid names.index next.result
-    c.index-entries-self.result c.loop-self-test.true next.ensures.linked next.ensures.scanned names.in_slot in
-    let rest = left _ _ _ _ _ (same_oids names.oid) names.database.by_oid (names.index + 1) next.result reached in
-    let entries = names.database.entries.now in
-    let left_out = leaves _ entries names.index c.index-entries-self.result c.loop-self-test.true c.index-entries-self.is (sym (c.if-has_oid.ensures)) in
-    c.loop-self.invariant ∙ ap (map name_of) (left_out ∙ rest)
-
-pub returns-clause-steps : goal.returns-clause-steps
-returns-clause-steps c =
-    let none = past_end (has_arcs lent_arcs (oid_arcs c.loop-self.self.oid)) c.loop-self.self.database.entries.now c.loop-self.self.index c.loop-self-test.false in
-    (c.loop-self.invariant ∙ ap (map name_of) none, ap (map name_of) none)
+    let more = goes_on _ _ _ _ _ (same_oids names.oid) names.database.by_oid names.index next.result
+    c.loop-self-test.true next.ensures.linked next.ensures.scanned names.in_slot in
+    let past = fails_at _ names.database.entries.now names.index c.index-entries-self.result c.loop-self-test.true
+    (rw (← c.index-entries-self.is) (sym (c.if-has_oid.ensures))) in
+    c.loop-self.invariant ∙ ap (map name_of) (left _ _ names.index next.result (past ∙ more.same))
