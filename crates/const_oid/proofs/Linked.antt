@@ -1,64 +1,58 @@
 -- Links between the entries of a table, by a hash: what they are at each step, and what a lookup along them finds.
 use Rattle.std.proofs.Common.{◌≡◌, ◌≢◌, ℕ, ◌+◌, ◌-◌, ◌*◌, ◌%◌, ◌^◌, ◌<◌, ◌≤◌, Bool, true, false, List, [], ◌∷◌, Bor, drop, length, get_or, set, nat_eq}
-use Rattle.std.proofs.Common.{arith, refl, sym, ap, ◌∙◌, Some, None, ⊎_elim, suc, zero, rules, add-one, drop-cons, get_or-set_other, get_or-set_same}
+use Rattle.std.proofs.Common.{arith, refl, sym, ap, ◌∙◌, Some, None, ⊎_elim, suc, add-one, drop-cons, get_or-set_other, get_or-set_same}
 use Rattle.std.specs.{Cmp.Lexicographic.pointwise, List.{fold, filter, find, position_or_len, slice_get, HoldsAt}, Str.str_to_ascii_lowercase}
-use Rattle.std.proofs.lemmas.{Slice.Eq.bytes_eq-Decides, Bool.{cases_Bool, cases_eq, cases_lt, eqb-true, eq-eqb, ne_eqb, Decides.nat_tests}, Grind.common_steps, Option.{slice_get-get_or, slice_get_cases}}
-use Rattle.std.proofs.lemmas.List.{Folds.find_at, drop-drop, get_or-drop, get_or_default, length-drop, Sums.{passes_at_first, prefix_len-le-length}}
+use Rattle.std.proofs.lemmas.{Slice.Eq.bytes_eq-Decides, Bool.{cases_Bool, cases_eq, cases_lt, eqb-true, eq-eqb, ne_eqb}, Grind.common_steps, Option.slice_get-get_or}
+use Rattle.std.proofs.lemmas.List.{drop-drop, get_or-drop, get_or_default, length-drop, Sums.{passes_at_first, prefix_len-le-length}}
 use Rattle.const_oid.specs.Private.Links.{AreLinks, AreLinksFrom, IsInSlot, first_by, hash_of, in_slot, key_of}
+use Rattle.const_oid.specs.declared.db.Names.{Names}
 use Rattle.const_oid.specs.declared.oid.ObjectIdentifier.{ObjectIdentifier}
 use Rattle.const_oid.specs.{Names.{Entry, has_arcs, has_name, lent_arcs}, Oid.{oid_arcs, oid_octets}}
 use Rattle.const_oid.proofs.Encodings.{oid_encoding, same_octets}
 
 module _ {Row : Type 0} (test : Row → Bool) where
-  fails : {wider : Row → Bool} → ((row : Row) → test row ≡ true → wider row ≡ true) → (row : Row) → wider row ≡ false → test row ≡ false
-  fails passes row narrow = grind (arith, cases_Bool (test row), passes row)
-
-  -- the first row that passes is the first one from where one passes another test, which is wider
-  skips_to : (wider : Row → Bool) → ((row : Row) → test row ≡ true → wider row ≡ true) → (rows : List Row)
-      → position_or_len test rows ≡ position_or_len wider rows + position_or_len test (drop (position_or_len wider rows) rows)
-  skips_to wider passes [] = refl
-  skips_to wider passes (row ∷ rows) = ⊎_elim
-      (λ (wide : wider row ≡ true). simp wide (omega arith))
+  -- what passes is left from the first row on that passes a wider test
+  passes_on : (wider : Row → Bool) → ((row : Row) → test row ≡ true → wider row ≡ true) → (rows : List Row)
+      → filter test rows ≡ filter test (drop (position_or_len wider rows) rows)
+  passes_on wider passes [] = refl
+  passes_on wider passes (row ∷ rows) = ⊎_elim
+      (λ (wide : wider row ≡ true). simp wide)
       (λ (narrow : wider row ≡ false).
+      let fails : test row ≡ false = grind (arith, cases_Bool (test row), passes row) in
       let next : 1 + position_or_len wider rows ≡ suc (position_or_len wider rows) = omega arith in
-      simp (narrow, fails passes row narrow, next) (omega (arith, skips_to wider passes rows)))
+      simp (narrow, fails, next) (passes_on wider passes rows))
       (cases_Bool (wider row))
 
-  filter_from : (rows : List Row) → filter test rows ≡ filter test (drop (position_or_len test rows) rows)
-  filter_from [] = refl
-  filter_from (row ∷ rows) = ⊎_elim
-      (λ (pass : test row ≡ true). simp pass)
-      (λ (fail : test row ≡ false).
-      let next : 1 + position_or_len test rows ≡ suc (position_or_len test rows) = omega arith in
-      simp (fail, next) (filter_from rows))
+  first_of_all : (rows : List Row) → find test rows ≡ slice_get (filter test rows) 0
+  first_of_all [] = refl
+  first_of_all (row ∷ rows) = ⊎_elim
+      (λ (passes : test row ≡ true). simp passes)
+      (λ (fails : test row ≡ false). simp fails (first_of_all rows))
       (cases_Bool (test row))
 
 module _ {Row : Type 0} (test : Row → Bool) (rows : List Row) where
   -- a row that passes, one that does not, and none
-  pub passes_at : (index : ℕ) (row : Row) → index < length rows → test (get_or rows index row) ≡ true → index ≡ first_by test rows index
-  passes_at index row below passes = rw (drop-cons rows index row, passes) (omega arith)
+  passes_at : (index : ℕ) (row : Row) → index < length rows → row ≡ get_or rows index row → test row ≡ true → index ≡ first_by test rows index
+  passes_at index row below here passes = rw (drop-cons rows index row, ← here, passes) (omega arith)
 
-  pub fails_at : (index : ℕ) (row : Row) → index < length rows → test (get_or rows index row) ≡ false
+  fails_at : (index : ℕ) (row : Row) → index < length rows → row ≡ get_or rows index row → test row ≡ false
       → first_by test rows index ≡ first_by test rows (index + 1)
-  fails_at index row below fails = rw (drop-cons rows index row, fails, add-one) (omega arith)
+  fails_at index row below here fails = rw (drop-cons rows index row, ← here, fails, add-one) (omega arith)
 
-  pub past_end : (index : ℕ) → length rows ≤ index → index ≡ first_by test rows index
+  past_end : (index : ℕ) → length rows ≤ index → index ≡ first_by test rows index
   past_end index end = grind (arith, common_steps)
 
-  pub stops : (from : ℕ) → first_by test rows from < length rows → HoldsAt (λ row. test row ≡ true) rows (first_by test rows from)
+  stops : (from : ℕ) → first_by test rows from < length rows → HoldsAt (λ row. test row ≡ true) rows (first_by test rows from)
   stops from below row = rw (← get_or-drop) (passes_at_first test (drop from rows) row (simp length-drop (omega arith)))
 
-  keeps : (from : ℕ) → filter test (drop from rows) ≡ filter test (drop (first_by test rows from) rows)
-  keeps from = rw (← drop-drop (position_or_len test (drop from rows)) from rows) (filter_from test (drop from rows))
+  -- likewise what passes from there on
+  pub takes : (index : ℕ) (row : Row) → index < length rows → row ≡ get_or rows index row → test row ≡ true
+      → filter test (drop index rows) ≡ row ∷ filter test (drop (index + 1) rows)
+  takes index row below here passes = rw (drop-cons rows index row, ← here, passes, add-one) refl
 
-  -- what passes is left, also after a row that passes
-  pub left : (from to : ℕ) → first_by test rows from ≡ first_by test rows to → filter test (drop from rows) ≡ filter test (drop to rows)
-  left from to same = keeps from ∙ rw same (sym (keeps to))
-
-  pub takes : (index to : ℕ) (row : Row) → index < length rows → test (get_or rows index row) ≡ true → first_by test rows (index + 1) ≡ first_by test rows to
-      → filter test (drop index rows) ≡ get_or rows index row ∷ filter test (drop to rows)
-  takes index to row below passes same =
-      rw (drop-cons rows index row, passes) (ap (λ others. get_or rows index row ∷ others) (rw add-one at (left (index + 1) to same)))
+  pub leaves : (index : ℕ) (row : Row) → index < length rows → row ≡ get_or rows index row → test row ≡ false
+      → filter test (drop index rows) ≡ filter test (drop (index + 1) rows)
+  leaves index row below here fails = rw (drop-cons rows index row, ← here, fails, add-one) refl
 
 module _ {Row : Type 0} (key : Row → List ℕ) (slots : ℕ) (rows : List Row) where
   -- at the end there are none
@@ -89,10 +83,10 @@ module _ {Row : Type 0} (key : Row → List ℕ) (slots : ℕ) (rows : List Row)
         first = λ other l. ⊎_elim
             (λ (e : other ≡ slot).
             let link : get_or changed (length rows + other) 0 ≡ index = grind (arith, common_steps) in
-            rw link (passes_at (in_slot key slots other) rows index row below (rw (← here) (eq-eqb _ _ (sym (e ∙ hashed))))))
+            rw link (passes_at (in_slot key slots other) rows index row below here (eq-eqb _ _ (sym (e ∙ hashed)))))
             (λ (ne : other ≢ slot).
             let link : get_or changed (length rows + other) 0 ≡ get_or links (length rows + other) 0 = grind (arith, common_steps) in
-            rw link (old.first other l ∙ sym (fails_at (in_slot key slots other) rows index row below (rw (← here) (ne_eqb _ _ (λ e. ne (sym (hashed ∙ e))))))))
+            rw link (old.first other l ∙ sym (fails_at (in_slot key slots other) rows index row below here (ne_eqb _ _ (λ e. ne (sym (hashed ∙ e)))))))
             (cases_eq other slot);
       }
 
@@ -100,7 +94,7 @@ module _ {Row : Type 0} (key : Row → List ℕ) (slots : ℕ) (rows : List Row)
 pub record Leads {Row : Type 0} (key : Row → List ℕ) (test : Row → Bool) (rows : List Row) (links bytes : List ℕ) (from to : ℕ) : Type 0 where
   pub after : from ≤ to
   pub within : to ≤ length rows
-  pub same : first_by test rows from ≡ first_by test rows to
+  pub same : filter test (drop from rows) ≡ filter test (drop to rows)
   pub there : IsInSlot key rows links bytes to
 
 module _ {Row : Type 0} (key : Row → List ℕ) (test : Row → Bool) (rows : List Row) (links bytes : List ℕ)
@@ -120,7 +114,7 @@ module _ {Row : Type 0} (key : Row → List ℕ) (test : Row → Bool) (rows : L
         after = omega arith;
         within = omega (arith, prefix_len-le-length {X = Row}, length-drop {A = Row});
         same = rw (← drop-drop (position_or_len of_slot (drop from rows)) from rows)
-            (omega (arith, skips_to test of_slot (λ row passes. eq-eqb _ _ (ap (λ hash. hash % slots) (same row passes))) (drop from rows)));
+            (passes_on test of_slot (λ row passes. eq-eqb _ _ (ap (λ hash. hash % slots) (same row passes))) (drop from rows));
         there = λ _ below. stops of_slot rows from below;
       }))
       (λ (none : length links ≤ length rows). rw (scanned none) (record {
@@ -146,20 +140,19 @@ module _ {Row : Type 0} (key : Row → List ℕ) (test : Row → Bool) (rows : L
   goes_past from index to row below fails reached more = record {
     after = omega (arith, reached.after, more.after);
     within = more.within;
-    same = reached.same ∙ fails_at test rows index row below fails ∙ more.same;
+    same = reached.same ∙ leaves test rows index _ below (get_or_default rows index row _ below) fails ∙ more.same;
     there = more.there;
   }
 
   pub finds : (index : ℕ) (row : Row) → index < length rows → test (get_or rows index row) ≡ true
       → Leads key test rows links bytes 0 index → Some (get_or rows index row) ≡ find test rows
   finds index row below passes reached =
-      let at : position_or_len test rows ≡ index = omega (arith, reached.same, passes_at test rows index row below passes) in
-      sym (find_at test rows ∙ rw at (slice_get-get_or rows index row below))
+      sym (first_of_all test rows ∙ ap (λ found. slice_get found 0) (reached.same ∙ takes test rows index _ below (get_or_default rows index row _ below) passes))
 
   pub finds_none : (index : ℕ) → length rows ≤ index → Leads key test rows links bytes 0 index → None ≡ find test rows
   finds_none index end reached =
-      let at : position_or_len test rows ≡ index = omega (arith, reached.same, past_end test rows index end) in
-      grind (arith, nat_tests, find_at test rows, slice_get_cases rows index)
+      let none : filter test (drop index rows) ≡ [] = grind (arith, common_steps) in
+      sym (first_of_all test rows ∙ ap (λ found. slice_get found 0) (reached.same ∙ none))
 
 -- ---- what is the same has the same hash
 
@@ -178,3 +171,12 @@ unfolding hash_of
 same_names name entry same =
     ap (fold (λ hash byte. ((hash * 33) % 2 ^ 32 + byte) % 2 ^ 32) 0)
     (same_bytes (str_to_ascii_lowercase entry.1.now) (str_to_ascii_lowercase name) same)
+
+-- to the next entry of the slot of the identifier whose names are left
+pub next_name : (names : Names) (next : ℕ)
+    → (let entries = names.database.entries.now in let links = names.database.oid_links.now in
+    names.index < length entries
+    → record { linked : length entries < length links → next ≡ get_or links names.index 0; scanned : length links ≤ length entries → next ≡ names.index + 1 }
+    → Leads (key_of false) (has_arcs lent_arcs (oid_arcs names.oid)) entries links (oid_octets names.oid) (names.index + 1) next)
+next_name names next below ensures =
+    goes_on _ _ _ _ _ (same_oids names.oid) names.database.by_oid names.index next below ensures.linked ensures.scanned names.in_slot

@@ -1,6 +1,6 @@
 use Rattle.std.proofs.Common.{ap, map, sym}
 use Rattle.const_oid.specs.Names.{name_of}
-use Rattle.const_oid.proofs.Linked.{left, same_oids, starts}
+use Rattle.const_oid.proofs.Linked.{same_oids, starts}
 use Rattle.const_oid.proofs.db.Database.find_names_for_oid.Goals as goal
 
 pub invariant_of-result : goal.invariant_of-result
@@ -12,5 +12,4 @@ invariant_of-result c =
 pub returns : goal.returns
 returns c =
     let first = c.first_link.ensures in
-    let reached = starts _ _ _ _ _ (same_oids c.args.oid) c.args.self.now.by_oid c.first_link.result (rw c.as_bytes.ensures.octets at first.linked) first.scanned in
-    sym (ap (map name_of) (left _ _ 0 c.first_link.result reached.same))
+    sym (ap (map name_of) (starts _ _ _ _ _ (same_oids c.args.oid) c.args.self.now.by_oid c.first_link.result (rw c.as_bytes.ensures.octets at first.linked) first.scanned).same)
