@@ -2,7 +2,7 @@
 use Rattle.std.proofs.Common.{◌≡◌, ◌≢◌, ℕ, ◌+◌, ◌*◌, ◌/◌, ◌<◌, ◌≤◌, false, List, [], ◌∷◌, length, map, rules}
 use Rattle.std.proofs.Common.{slice_index, Some, None, refl, sym, ◌∙◌, arith, lt-ltb, le-ltb, ◌++◌, drop, ap}
 use Rattle.std.specs.{List.{AllByRecursion, AllZip, concat}, Prelude.◌↔◌}
-use Rattle.std.proofs.lemmas.List.drop-map
+use Rattle.std.proofs.lemmas.List.{drop-map}
 use Rattle.const_oid.specs.{declared.error.Error.TheVariants.{ArcInvalid, Length}, Identifier.{encoding_of, root_rule}}
 use Rattle.const_oid.specs.{declared.oid_ref.ObjectIdentifierRef.ObjectIdentifierRef, OidRef.{ref_octets, ref_arcs}}
 use Rattle.const_oid.specs.{declared.oid.ObjectIdentifier.ObjectIdentifier, Oid.{oid_octets, oid_arcs}}
