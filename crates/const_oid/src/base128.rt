@@ -11,6 +11,7 @@ use crate::Arc;
 use crate::error::{Error, Result};
 
 /// The number of the first subidentifier, and the octets after it.
+// `checked_group` in its place takes a fifth to a half more instructions for all arcs.
 #[inline(always)]
 pub(crate) fn read_group(octets: &[u8]) -> (u64, &[u8])
     requires { parts_fault root_rule (cut octets.now) ≡ None }

@@ -463,6 +463,7 @@ impl<'a> ObjectIdentifierRef<'a> {
     }
 
     /// Writes the text: in one piece, unless it is long.
+    // Over `arcs()` it takes up to a fifth more instructions.
     #[inline]
     fn write_pieces<W: fmt::Write>(&self, f: &mut fmt::Formatter<W>) -> fmt::Result
         ensures { WritesStyledOnOk W.write_str_gives f.old result (text_of (ref_arcs self.now)) f.new }

@@ -12,6 +12,7 @@ use crate::error::{Error, Result};
 use crate::words::half_word;
 
 /// Checks contents octets of any length, or returns their error.
+// By index: `checked_group` in its place takes an eighth to a fifth more instructions.
 #[tactic(auto, using(crate::proofs::PartEnds::ends))]
 #[inline(never)]
 pub(crate) fn check(octets: &[u8]) -> Result<()>
@@ -86,6 +87,7 @@ fn five_end(octets: &[u8], start: usize) -> Result<usize>
 /// Whether five octets, of the subidentifier that starts at an index, are a number in its range. Numbers below 2^32 have
 /// a first digit below 16. Those from there to the greatest first subidentifier have the digits 16, 0, 0, 0 and one below
 /// 80.
+// To make the number is a quarter more code for `from_bytes` at opt-level s.
 #[inline(always)]
 fn is_in_range(octets: &[u8], start: usize) -> bool
     requires inside { start + 4 < length octets.now }

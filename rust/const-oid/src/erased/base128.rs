@@ -6,6 +6,7 @@ use crate::erased::Arc;
 use crate::erased::error::{Error, Result};
 
 /// The number of the first subidentifier, and the octets after it.
+// `checked_group` in its place takes a fifth to a half more instructions for all arcs.
 #[inline(always)]
 pub(crate) fn read_group(octets: &[u8]) -> (u64, &[u8]) {
     match octets {

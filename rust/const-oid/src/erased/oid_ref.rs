@@ -382,6 +382,7 @@ impl ObjectIdentifierRef {
     }
 
     /// Writes the text: in one piece, unless it is long.
+    // Over `arcs()` it takes up to a fifth more instructions.
     #[inline]
     fn write_pieces(&self, f: &mut fmt::Formatter<'_>) -> fmt::Result {
         let mut text = [0; PIECE_LEN];

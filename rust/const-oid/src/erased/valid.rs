@@ -6,6 +6,7 @@ use crate::erased::error::{Error, Result};
 use crate::erased::words::half_word;
 
 /// Checks contents octets of any length, or returns their error.
+// By index: `checked_group` in its place takes an eighth to a fifth more instructions.
 #[inline(never)]
 pub(crate) fn check(octets: &[u8]) -> Result<()> {
     if octets.is_empty() {
@@ -67,6 +68,7 @@ fn five_end(octets: &[u8], start: usize) -> Result<usize> {
 /// Whether five octets, of the subidentifier that starts at an index, are a number in its range. Numbers below 2^32 have
 /// a first digit below 16. Those from there to the greatest first subidentifier have the digits 16, 0, 0, 0 and one below
 /// 80.
+// To make the number is a quarter more code for `from_bytes` at opt-level s.
 #[inline(always)]
 fn is_in_range(octets: &[u8], start: usize) -> bool {
     octets[start] < 0x90 || start == 0 && half_word(octets) == 0x9080_8080 && octets[4] % 128 < 80
