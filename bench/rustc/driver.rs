@@ -41,26 +41,12 @@ macro_rules! side {
             use ::$side::{ObjectIdentifier, ObjectIdentifierRef};
 
             /// The identifier of a text, another one of the same length, and their parent.
-            struct Values {
-                oid: InLine<ObjectIdentifier>,
-                next: InLine<ObjectIdentifier>,
-                parent: InLine<ObjectIdentifier>,
-            }
-
-            impl Values {
-                fn new(text: &str) -> Self {
-                    let oid = ObjectIdentifier::new(text).unwrap();
-                    let last = oid.arcs().last().unwrap();
-                    let parent = oid.parent().unwrap();
-                    let next = parent
-                        .push_arc(if last == 1 { 2 } else { last - 1 })
-                        .unwrap();
-                    Values {
-                        oid: InLine(oid),
-                        next: InLine(next),
-                        parent: InLine(parent),
-                    }
-                }
+            fn values(text: &str) -> [InLine<ObjectIdentifier>; 3] {
+                let oid = ObjectIdentifier::new(text).unwrap();
+                let last = oid.arcs().last().unwrap();
+                let parent = oid.parent().unwrap();
+                let next = parent.push_arc(if last == 1 { 2 } else { last - 1 }).unwrap();
+                [InLine(oid), InLine(next), InLine(parent)]
             }
 
             /// A function of its own for each row, so that no row has its loop's counter on the stack.
@@ -73,92 +59,47 @@ macro_rules! side {
                 start.elapsed()
             }
 
-            /// Rows that read or print.
-            fn convert(row: &str, text: &str, values: &Values, times: usize) -> Option<Duration> {
-                let oid = &values.oid.0;
-                let octets = oid.as_bytes();
-                let wrong = &format!("{text}.x");
-                Some(match row {
-                    "new" => repeat(times, || ObjectIdentifier::new(black_box(text)).is_ok()),
-                    "new, an error at the end" => {
-                        repeat(times, || ObjectIdentifier::new(black_box(wrong)).is_ok())
-                    }
-                    "from_bytes, borrowed" => repeat(times, || {
-                        ObjectIdentifierRef::from_bytes(black_box(octets)).is_ok()
-                    }),
-                    "from_bytes, owned" => {
-                        repeat(times, || ObjectIdentifier::from_bytes(black_box(octets)))
-                    }
-                    "Display" => repeat(times, || {
-                        let mut text = Text {
-                            bytes: [0; 400],
-                            len: 0,
-                        };
-                        write!(text, "{}", black_box(oid)).map(|()| text.len)
-                    }),
-                    _ => return None,
-                })
+            fn print(oid: &ObjectIdentifier) -> usize {
+                let mut text = Text { bytes: [0; 400], len: 0 };
+                write!(text, "{}", black_box(oid)).map_or(0, |()| text.len)
             }
 
-            /// Rows of arcs.
-            fn arcs(row: &str, values: &Values, times: usize) -> Option<Duration> {
-                let (oid, parent) = (&values.oid.0, &values.parent.0);
-                Some(match row {
+            fn hash(oid: &ObjectIdentifier) -> u64 {
+                let mut hasher = DefaultHasher::new();
+                black_box(oid).hash(&mut hasher);
+                hasher.finish()
+            }
+
+            pub fn run(row: &str, size: usize, times: usize) -> Duration {
+                let (text, wrong) = (TEXTS[size], &format!("{}.x", TEXTS[size]));
+                let [oid, next, parent] = &values(text);
+                let (oid, next, parent, octets) = (&oid.0, &next.0, &parent.0, oid.0.as_bytes());
+                let (lent, other) = (oid.as_oid_ref(), next.as_oid_ref());
+                match row {
+                    "new" => repeat(times, || ObjectIdentifier::new(black_box(text)).is_ok()),
+                    "new, an error at the end" => repeat(times, || ObjectIdentifier::new(black_box(wrong)).is_ok()),
+                    "from_bytes, borrowed" => {
+                        repeat(times, || ObjectIdentifierRef::from_bytes(black_box(octets)).is_ok())
+                    }
+                    "from_bytes, owned" => repeat(times, || ObjectIdentifier::from_bytes(black_box(octets))),
+                    "Display" => repeat(times, || print(oid)),
                     "len" => repeat(times, || black_box(oid).len()),
                     "arc(3)" => repeat(times, || black_box(oid).arc(black_box(3))),
-                    "arcs, all" => repeat(times, || {
-                        black_box(oid).arcs().fold(0, |all, arc| all ^ arc)
-                    }),
+                    "arcs, all" => repeat(times, || black_box(oid).arcs().fold(0, |all, arc| all ^ arc)),
                     "parent" => repeat(times, || black_box(oid).parent()),
-                    "push_arc(300)" => {
-                        repeat(times, || black_box(*parent).push_arc(black_box(300)))
-                    }
-                    "starts_with, the parent" => {
-                        repeat(times, || black_box(oid).starts_with(*black_box(parent)))
-                    }
-                    _ => return None,
-                })
-            }
-
-            /// Rows of owned identifiers that are compared or hashed.
-            fn compare(row: &str, values: &Values, times: usize) -> Option<Duration> {
-                let (oid, next) = (&values.oid.0, &values.next.0);
-                Some(match row {
+                    "push_arc(300)" => repeat(times, || black_box(*parent).push_arc(black_box(300))),
+                    "starts_with, the parent" => repeat(times, || black_box(oid).starts_with(*black_box(parent))),
                     "==, the next" => repeat(times, || black_box(oid) == black_box(next)),
                     "==, itself" => repeat(times, || black_box(oid) == black_box(oid)),
                     "cmp, owned, the next" => repeat(times, || black_box(oid).cmp(black_box(next))),
                     "cmp, owned, itself" => repeat(times, || black_box(oid).cmp(black_box(oid))),
-                    "hash" => repeat(times, || {
-                        let mut hasher = DefaultHasher::new();
-                        black_box(oid).hash(&mut hasher);
-                        hasher.finish()
-                    }),
-                    _ => return None,
-                })
-            }
-
-            /// Rows of borrowed identifiers that are compared.
-            fn compare_borrowed(row: &str, values: &Values, times: usize) -> Option<Duration> {
-                let (oid, next) = (values.oid.0.as_oid_ref(), values.next.0.as_oid_ref());
-                Some(match row {
-                    "==, borrowed, the next" => repeat(times, || black_box(oid) == black_box(next)),
-                    "==, borrowed, itself" => repeat(times, || black_box(oid) == black_box(oid)),
-                    "cmp, borrowed, the next" => {
-                        repeat(times, || black_box(oid).cmp(black_box(next)))
-                    }
-                    "cmp, borrowed, itself" => repeat(times, || black_box(oid).cmp(black_box(oid))),
-                    _ => return None,
-                })
-            }
-
-            pub fn run(row: &str, size: usize, times: usize) -> Duration {
-                let text = TEXTS[size];
-                let values = Values::new(text);
-                convert(row, text, &values, times)
-                    .or_else(|| arcs(row, &values, times))
-                    .or_else(|| compare(row, &values, times))
-                    .or_else(|| compare_borrowed(row, &values, times))
-                    .unwrap_or_else(|| panic!("no row {row}"))
+                    "hash" => repeat(times, || hash(oid)),
+                    "==, borrowed, the next" => repeat(times, || black_box(lent) == black_box(other)),
+                    "==, borrowed, itself" => repeat(times, || black_box(lent) == black_box(lent)),
+                    "cmp, borrowed, the next" => repeat(times, || black_box(lent).cmp(black_box(other))),
+                    "cmp, borrowed, itself" => repeat(times, || black_box(lent).cmp(black_box(lent))),
+                    _ => panic!("no row {row}"),
+                }
             }
         }
     };
@@ -187,11 +128,7 @@ fn main() {
     match &arguments[..] {
         [row, size, rounds] => println!("{:.4}", ratio(row, number(size), number(rounds))),
         [side, row, size, times] => {
-            let run = if side == "ours" {
-                ours::run
-            } else {
-                theirs::run
-            };
+            let run = if side == "ours" { ours::run } else { theirs::run };
             run(row, number(size), number(times));
         }
         _ => panic!("SIDE ROW SIZE TIMES, or ROW SIZE ROUNDS"),

@@ -660,43 +660,19 @@ fn writes_octets_at_the_end_of_the_output() {
     }
 }
 
-/// A table of 10,000 names of 100 to 128 arcs, made from text, sorted, searched and printed.
-#[test]
-fn finds_names_past_255_octets() {
-    let mut drawn = Drawn(2463534242);
-    let mut names: Vec<(Vec<Arc>, Vec<u8>)> = Vec::new();
-    while names.len() < 10_000 {
-        let few = names.len() % 3 > 0;
-        let mut arcs = vec![1, 3, 6, 1];
-        let count = 100 + drawn.below(29);
-        arcs.resize_with(count, || if few { drawn.below(128) as Arc } else { drawn.0 as Arc / 2 + drawn.arc() / 2 });
-        let text = arcs.iter().map(Arc::to_string).collect::<Vec<_>>().join(".");
-        let mut out = vec![0; text.len()];
-        let octets = ObjectIdentifierRef::new_in(&text, &mut out).unwrap().as_bytes().to_vec();
-        assert_eq!(octets, model::encoding(&arcs));
-        names.push((arcs, octets));
-    }
-    assert!(names.iter().filter(|(_, octets)| octets.len() > 255).count() > 3_333);
-    names.sort();
-    let sorted: Vec<ByArcs<&ObjectIdentifierRef>> =
-        names.iter().map(|(_, octets)| ByArcs(ObjectIdentifierRef::from_bytes(octets).unwrap())).collect();
-    assert!(sorted.is_sorted());
-    for (index, (arcs, octets)) in names.iter().enumerate() {
-        let mut out = vec![0; 5 * arcs.len()];
-        let oid = ObjectIdentifierRef::from_arcs_in(arcs, &mut out).unwrap();
-        assert_eq!(oid.as_bytes(), octets);
-        assert_eq!(sorted.binary_search(&ByArcs(oid)), Ok(index));
-        assert!(oid.to_string().split('.').map(|arc| arc.parse::<Arc>().unwrap()).eq(arcs.iter().copied()));
-    }
-}
-
 /// Maps of owned keys by arcs, searched by borrowed ones.
 #[test]
 fn maps_of_keys_by_arcs_are_searched_by_borrowed_ones() {
-    let mut names: Vec<Vec<Arc>> = valid().iter().map(|octets| model::of_octets(octets).unwrap()).collect();
-    names.retain(|arcs| model::encoding(arcs).len() <= 255);
+    let valid = valid();
+    let mut borrowed: Vec<_> =
+        valid.iter().map(|octets| ByArcs::of(ObjectIdentifierRef::from_bytes(octets).unwrap())).collect();
+    borrowed.sort();
+    borrowed.dedup();
+    let mut names: Vec<Vec<Arc>> = valid.iter().map(|octets| model::of_octets(octets).unwrap()).collect();
     names.sort();
     names.dedup();
+    assert!(borrowed.iter().map(|key| key.arcs().collect::<Vec<_>>()).eq(names.iter().cloned()));
+    names.retain(|arcs| model::encoding(arcs).len() <= 255);
     let owned = |arcs: &Vec<Arc>| ObjectIdentifier::<255>::from_arcs_sized(arcs.iter().copied()).unwrap();
     let by_arcs: BTreeMap<ByArcs<_>, usize> = names.iter().map(|arcs| owned(arcs).into()).zip(0..).step_by(2).collect();
     let by_hash: HashMap<_, usize> = by_arcs.clone().into_iter().collect();
