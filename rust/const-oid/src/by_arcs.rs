@@ -45,7 +45,6 @@ impl ByArcs<ObjectIdentifierRef> {
     /// let names = BTreeMap::from([(ByArcs(oid), "example")]);
     /// let borrowed = ObjectIdentifierRef::from_bytes(&[0x88, 0x37])?;
     /// assert_eq!(names.get(ByArcs::of(borrowed)), Some(&"example"));
-    /// assert_eq!(names.range(ByArcs::of(borrowed)..).count(), 1);
     /// # Ok::<(), const_oid::Error>(())
     /// ```
     #[must_use]
