@@ -76,6 +76,7 @@ constants! { (buffer: &Buffer<7>)
     ObjectIdentifier::push_arc(CN, 1);
     ObjectIdentifier::starts_with(&CN, CN);
     ObjectIdentifierRef::as_bytes(CN.as_oid_ref());
+    ObjectIdentifierRef::starts_with(CN.as_oid_ref(), CN.as_oid_ref());
     Buffer::as_bytes(buffer);
     Buffer::len(buffer);
     Buffer::eq(buffer, buffer);
