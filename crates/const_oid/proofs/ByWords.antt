@@ -8,7 +8,7 @@ use Rattle.std.proofs.{Math.Seq.take-add, Math.Arith.mod-mul, Math.Nat.{mul_comm
 use Rattle.std.proofs.lemmas.{Bool.cases_lt, Bool.Decides.nat_tests, Cmp.{nat_list_cmp_total, tied_itself}}
 use Rattle.std.proofs.lemmas.List.{length-take-le, take-take, take_all, length-drop, get_or-take, get_or-drop}
 use Rattle.std.proofs.lemmas.{List.get_or_past, Nat.{from_be_bytes-to_be_bytes_8, be_bytes_8}}
-use Rattle.const_oid.specs.Private.Words.{bytes_of, IsWord}
+use Rattle.const_oid.specs.Private.Octets.{bytes_of, IsWord}
 use Rattle.const_oid.proofs.Shortlex.{digits_cmp, split_cmp, after_same, shortlex_cmp-level}
 
 -- ---- the order of numbers by their bytes

@@ -1,11 +1,18 @@
 -- The digits of a number.
-use Rattle.std.proofs.Common.{◌≡◌, Bool, ℕ, zero, suc, ◌+◌, ◌-◌, ◌/◌, ◌^◌, ◌<◌, ◌≤◌, List, ◌∷◌, ◌++◌, length}
-use Rattle.std.proofs.Common.{drop, ap, append_assoc, ◌∙◌, ◌%◌, arith, decimal, nat_lt, if◌then◌else◌, length-append, pow-suc}
+use Rattle.std.proofs.Common.{◌≡◌, Bool, ℕ, zero, suc, ◌+◌, ◌-◌, ◌/◌, ◌^◌, ◌<◌, ◌≤◌, List, ◌∷◌, ◌++◌, length, drop}
+use Rattle.std.proofs.Common.{ap, append_assoc, ◌∙◌, ◌%◌, arith, decimal, nat_lt, if◌then◌else◌, length-append}
+use Rattle.std.proofs.Common.{pow-suc, ◌*◌, [], set, get_or, map, refl, sym}
 use Rattle.std.specs.Str.{IsAscii}
-use Rattle.std.proofs.lemmas.{Grind.common_steps, Bool.Decides.nat_tests, List.{drop-drop, drop-set-lt, take_more_set}}
-use Rattle.std.proofs.lemmas.{Fmt.{decimal_digit, decimal_step, length-decimal-le, IsAscii-decimal}}
+use Rattle.std.proofs.lemmas.Grind.{common_steps}
+use Rattle.std.proofs.lemmas.Bool.Decides.{nat_tests}
+use Rattle.std.proofs.lemmas.List.{drop-drop, drop-set-lt, take_more_set}
+use Rattle.std.proofs.lemmas.Fmt.{decimal_digit, decimal_step, length-decimal-le, IsAscii-decimal}
 use Rattle.const_oid.specs.Private.Text.{arc_text, pair_text, four_text}
 use Rattle.const_oid.proofs.Lists.{append-cons}
+use Rattle.std.specs.List.{range_with_len}
+use Rattle.std.proofs.lemmas.Slice.{take-put_mid, drop-put_mid}
+use Rattle.std.proofs.lemmas.List.FromFn.{get_or-map-range_with_len}
+use Rattle.const_oid.specs.declared.digits.TheConstants.{PAIRS}
 
 pub length_digit : (n : ℕ) → n < 10 → length (decimal n) ≡ 1
 length_digit n h = ap length (decimal_digit n h)
@@ -83,3 +90,24 @@ pub ruleset few_digits = (decimal_digit, decimal_two, decimal_three, decimal_fou
 
 -- five digits or more
 pub ruleset many_digits = (decimal_digit, length_digit, decimal_many, length_many, drop_more, append_assoc)
+
+-- functions whose first hundred values are one list, as `refl` computes, agree at each number below a hundred
+agree_at : (f g : ℕ → ℕ) → map f (range_with_len 0 100) ≡ map g (range_with_len 0 100) → (p : ℕ) → p < 100 → f p ≡ g p
+agree_at f g e p h =
+    let at = λ (f : ℕ → ℕ). get_or-map-range_with_len f 0 100 p p 0 h (omega arith) in
+    sym (at f) ∙ ap (λ xs. get_or xs p 0) e ∙ at g
+
+pub tens_at : (p : ℕ) → p < 100 → get_or PAIRS (2 * p) 0 ≡ 48 + p / 10
+tens_at = agree_at (λ p. get_or PAIRS (2 * p) 0) (λ p. 48 + p / 10) refl
+
+pub ones_at : (p : ℕ) → p < 100 → get_or PAIRS (2 * p + 1) 0 ≡ 48 + p % 10
+ones_at = agree_at (λ p. get_or PAIRS (2 * p + 1) 0) (λ p. 48 + p % 10) refl
+
+pub set_two : (xs : List ℕ) (x y : ℕ) → length xs ≡ 2 → set (set xs 0 x) 1 y ≡ x ∷ y ∷ []
+set_two [] x y h = absurd (omega (arith, h))
+set_two (a ∷ []) x y h = absurd (omega (arith, h))
+set_two (a ∷ b ∷ []) x y h = refl
+set_two (a ∷ b ∷ c ∷ xs) x y h = absurd (omega (arith, h))
+
+-- a pair put into bytes
+pub ruleset pairs_put = (tens_at, ones_at, set_two, take-put_mid, drop-put_mid)

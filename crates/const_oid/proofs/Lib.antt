@@ -34,9 +34,6 @@ pub mod SortedLists
 pub mod SortedNames
 pub mod Overflow
 pub mod Tree
-pub mod WideKeeps
-pub mod WideAdds
+pub mod WideRule
 pub mod Identifiers
-pub mod PairTable
-pub mod Messages
 pub mod Sets

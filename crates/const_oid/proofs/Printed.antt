@@ -1,15 +1,25 @@
 -- The length of printed text: four bytes an octet at most.
-use Rattle.std.proofs.Common.{◌≡◌, ℕ, ◌+◌, ◌*◌, ◌^◌, ◌<◌, ◌≤◌, true, false, List, [], ◌∷◌, ◌++◌, length, arith, decimal}
-use Rattle.std.proofs.Common.{sum_by, take, drop, ap, sym, ◌∙◌, append_assoc, append-nil}
+use Rattle.std.proofs.Common.{◌≡◌, ℕ, ◌+◌, ◌*◌, ◌^◌, ◌<◌, ◌≤◌, true, false, List, [], ◌∷◌, ◌++◌, length, arith}
+use Rattle.std.proofs.Common.{decimal, sum_by, take, drop, ap, sym, ◌∙◌, append_assoc, append-nil, length-append}
 use Rattle.std.specs.List.{AllByRecursion}
-use Rattle.std.proofs.Math.{Nat.pow-le-pow_right, Seq.{take-append-add, drop-append-add}}
-use Rattle.std.proofs.lemmas.{Grind.common_steps, Bool.Decides.nat_tests, Fmt.{length-decimal-le, decimal_digit}}
+use Rattle.std.proofs.Math.Nat.{pow-le-pow_right}
+use Rattle.std.proofs.Math.Seq.{take-append-add, drop-append-add}
+use Rattle.std.proofs.lemmas.Grind.{common_steps}
+use Rattle.std.proofs.lemmas.Bool.Decides.{nat_tests}
+use Rattle.std.proofs.lemmas.Fmt.{length-decimal-le, decimal_digit}
 use Rattle.std.proofs.lemmas.List.{take-append-le, length-take-le, take-append-drop, drop-append-le, drop-drop}
 use borrow.Rule.Slice.PartMut.{put_mid, mid_of, post_of}
-use Rattle.const_oid.specs.{Base128.width, Identifier.{RootRule, max_arc, max_second, IsEncoding}, Text.text_of}
-use Rattle.const_oid.specs.Private.Text.{arc_text, text_left}
-use Rattle.const_oid.proofs.{Subidentifiers.second_low, Groups.width_is, Lengths.length_is_size}
-use Rattle.const_oid.proofs.{PartsFault.parts_at, Texts.{second_small, text_left-cons, text_left-nil}}
+use Rattle.const_oid.specs.Base128.{width}
+use Rattle.const_oid.specs.Identifier.{RootRule, max_arc, max_second, IsEncoding}
+use Rattle.const_oid.specs.Text.{text_of}
+use Rattle.const_oid.specs.Private.Text.{arc_text, text_left, detail_text}
+use Rattle.const_oid.proofs.Subidentifiers.{second_low}
+use Rattle.const_oid.proofs.Groups.{width_is}
+use Rattle.const_oid.proofs.Lengths.{length_is_size}
+use Rattle.const_oid.proofs.PartsFault.{parts_at}
+use Rattle.const_oid.proofs.Texts.{second_small, text_left-cons, text_left-nil}
+use Rattle.const_oid.specs.declared.error.Error.{Error}
+use Rattle.const_oid.specs.Error.{message_of}
 
 -- a number past a power is wider than its exponent
 wider : (n k : ℕ) → 128 ^ k ≤ n → k < width n
@@ -88,3 +98,8 @@ arc_written before begun piece arc arcs is =
 
 -- a pass over octets
 pub ruleset printed_pass = (arc_printed, parts_at, text_left-cons, text_left-nil, append_assoc, append-nil)
+
+-- the words before the number, and those after it
+pub parts_long : (error : Error) (before after : List ℕ) → message_of error ≡ before ++ (detail_text error ++ after)
+    → length before + length (detail_text error) + length after ≡ length (message_of error)
+parts_long error before after e = rw e (simp length-append (omega arith))

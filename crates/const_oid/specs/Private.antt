@@ -1,10 +1,8 @@
 -- What the contracts of private functions cite, and the model of `Arcs`. No clause of a public function cites it.
 pub mod Octets
-pub mod Ends
 pub mod Encoder
 pub mod Groups
 pub mod Links
 pub mod Parser
 pub mod Prefixes
 pub mod Text
-pub mod Words

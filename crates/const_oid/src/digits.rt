@@ -128,7 +128,7 @@ fn write_four(number: u32, out: &mut [u8], at: usize) -> usize
 }
 
 /// Writes two digits, a zero first.
-#[tactic(auto, using(crate::proofs::PairTable::pairs_put))]
+#[tactic(auto, using(crate::proofs::Decimals::pairs_put))]
 #[inline]
 fn write_two(number: u32, out: &mut [u8], at: usize) -> usize
     requires few { number < 100 }

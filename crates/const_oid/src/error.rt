@@ -84,7 +84,7 @@ impl Error {
     /// ```
     /// assert_eq!(const_oid::Error::Length.text_len(), 18);
     /// ```
-    #[tactic(auto, using(crate::proofs::Messages::parts_long))]
+    #[tactic(auto, using(crate::proofs::Printed::parts_long))]
     #[inline]
     pub fn text_len(self) -> usize
         ensures len { result ≡ length (message_of self) }

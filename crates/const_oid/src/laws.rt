@@ -184,7 +184,7 @@ pub fn items_denote()
 
 /// The wide rule gives what the narrow one gives, except if octets begin with 120 or more, or the second
 /// arc under 2 was rejected. What was accepted keeps its arcs and octets, and so its text and orders.
-#[tactic(auto, using(crate::proofs::WideKeeps::wide_keeps))]
+#[tactic(auto, using(crate::proofs::WideRule::wide_keeps))]
 pub fn wide_keeps()
     ensures no_octets { (capacity : ℕ)
         → octet_answer Wide [] capacity ≡ octet_answer Narrow [] capacity }
@@ -214,7 +214,7 @@ pub fn wide_keeps()
 
 /// The wide rule accepts what the narrow one rejects exactly if that denotes arcs under 2, the second above 39, and
 /// fits.
-#[tactic(auto, using(crate::proofs::WideAdds::wide_adds))]
+#[tactic(auto, using(crate::proofs::WideRule::wide_adds))]
 pub fn wide_adds()
     ensures octets { (octets : List ℕ) (capacity : ℕ) → AreOctets octets
         → (octet_fault Wide octets capacity ≡ None) × (octet_fault Narrow octets capacity ≢ None)

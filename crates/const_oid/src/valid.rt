@@ -6,7 +6,7 @@ ghost use Rattle.const_oid.specs.Base128.{value_of};
 ghost use Rattle.const_oid.specs.Contents.{cut, parts_fault};
 ghost use Rattle.const_oid.specs.Identifier.{root_rule};
 ghost use Rattle.const_oid.specs.Private.Groups.{IsLong};
-ghost use Rattle.const_oid.specs.Private.Ends.{EndsAt, limit_at};
+ghost use Rattle.const_oid.specs.Private.Octets.{EndsAt, limit_at};
 
 use crate::error::{Error, Result};
 use crate::words::half_word;

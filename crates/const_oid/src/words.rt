@@ -2,7 +2,7 @@
 
 ghost use Rattle.std.specs.Prelude.{◌≡◌, ◌+◌, ◌≤◌, length, take};
 ghost use Rattle.std.specs.Int.{to_be_bytes, w32};
-ghost use Rattle.const_oid.specs.Private.Words.{IsWord};
+ghost use Rattle.const_oid.specs.Private.Octets.{IsWord};
 
 /// How many octets a word has.
 pub(crate) const WORD: usize = 8;

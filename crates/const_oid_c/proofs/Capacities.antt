@@ -1,10 +1,16 @@
 -- A result at the usual capacity is the result at 255 octets, unless it is the fault `Length`.
-use Rattle.std.proofs.Common.{◌≡◌, ◌≢◌, ℕ, ◌≤◌, List, [], ◌∷◌, ◌++◌, refl, arith}
-use Rattle.std.specs.Prelude.{Option, Some, Result, Err}
+use Rattle.std.proofs.Common.{◌≡◌, ◌≢◌, ℕ, ◌≤◌, List, [], ◌∷◌, ◌++◌, refl, arith, Ok, Err, ap, sym, ◌∙◌}
+use Rattle.std.specs.Prelude.{Option, Some, Result}
 use Rattle.std.proofs.lemmas.Bool.Decides.{nat_tests}
-use Rattle.const_oid.specs.{declared.error.Error.Error, declared.error.Error.TheVariants.Length}
-use Rattle.const_oid.specs.{Identifier.root_rule, Items.{arc_fault, items_fault, item_answer}}
+use Rattle.const_oid.specs.declared.error.Error.{Error}
+use Rattle.const_oid.specs.declared.error.Error.TheVariants.{Length}
+use Rattle.const_oid.specs.Identifier.{root_rule, usual_capacity, IsEncoding}
+use Rattle.const_oid.specs.Items.{arc_fault, items_fault, item_answer}
 use Rattle.const_oid.specs.Text.{piece_fault, pieces_fault, pieces_of, number_of, text_answer}
+use Rattle.const_oid.proofs.Ascii.{answer_utf8}
+use Rattle.const_oid.proofs.Encodings.{encoding_of-encoded}
+use Rattle.const_oid_c.specs.Results.{octets_of_text}
+use Rattle.const_oid_c.specs.Status.{max_len}
 
 module _ (low high : ℕ) (less : low ≤ high) where
   -- the fault at the low capacity is that at the high one, or `Length`
@@ -44,3 +50,10 @@ module _ (low high : ℕ) (less : low ≤ high) where
   -- the result of arcs
   pub same_arcs : (arcs : List ℕ) → IsSameAnswer (item_answer root_rule arcs)
   same_arcs arcs other = grind (arith, same_items [] arcs)
+
+pub small_text : (text arcs octets : List ℕ) → IsEncoding root_rule arcs octets
+    → Ok arcs ≡ text_answer root_rule text usual_capacity → Ok octets ≡ octets_of_text text
+small_text text arcs octets encoding answer =
+    let other : text_answer root_rule text usual_capacity ≢ Err Length = λ same. cc in
+    let large = sym (same_text usual_capacity max_len (omega arith) text other) ∙ sym answer in
+    rw (answer_utf8 root_rule usual_capacity text arcs (sym answer), large) (ap Ok (sym (encoding_of-encoded encoding)))

@@ -1,9 +1,17 @@
 -- Lists with an item that is wrong.
-use Rattle.std.proofs.Common.{◌≡◌, ◌+◌, ◌-◌, ◌<◌, ◌≤◌, ℕ, List, [], ◌∷◌, get_or, length, take, true, false, nat_cmp, refl, ⊎_elim, arith}
-use Rattle.std.proofs.lemmas.{Bool.cases_lt, List.{get_or-take, length-take-le}}
-use Rattle.std.specs.{Cmp.Lexicographic.slice_cmp, List.AllWithin, List.Sorted.IsSortedWithin, Ordering.is_lt}
+use Rattle.std.proofs.Common.{◌≡◌, ◌+◌, ◌-◌, ◌<◌, ◌≤◌, ℕ, List, [], ◌∷◌, get_or, length, take, true, false, nat_cmp}
+use Rattle.std.proofs.Common.{refl, ⊎_elim, arith, Option, Some, None}
+use Rattle.std.proofs.lemmas.Bool.{cases_lt}
+use Rattle.std.proofs.lemmas.List.{get_or-take, length-take-le}
+use Rattle.std.specs.Cmp.Lexicographic.{slice_cmp}
+use Rattle.std.specs.List.{AllWithin}
+use Rattle.std.specs.List.Sorted.{IsSortedWithin}
+use Rattle.std.specs.Ordering.{is_lt}
 use Rattle.const_oid.specs.Identifier.{root_rule, IsEncoding}
 use Rattle.const_oid.specs.SortedList.{IsSortedList, item_arcs}
+use Rattle.std.specs.Prelude.{IfNone}
+use Rattle.const_oid_c.specs.Lists.{index_status}
+use Rattle.const_oid_c.specs.Status.{none_status}
 
 -- nothing comes before no arcs
 first_of_all : (arcs : List ℕ) → is_lt (slice_cmp nat_cmp arcs []) ≡ false
@@ -35,3 +43,8 @@ sorted_before octets_of items index within valid sorted =
           rw (get_or-take index items (k + 1) item (omega (arith, len)), get_or-take index items k item (omega (arith, len)))
           (sorted k item low (omega (arith, len)));
     }
+
+-- where it is that of none, there is no index
+pub none_from_status : (index : Option ℕ) (P : Type 0) → index_status index ≡ none_status → IfNone index P → P
+none_from_status None P e none = none
+none_from_status (Some index) P e none = absurd (grind (arith, e))

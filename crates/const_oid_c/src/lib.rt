@@ -13,4 +13,3 @@ pub mod owned;
 pub mod status;
 pub mod texts;
 pub mod tree;
-pub mod version;

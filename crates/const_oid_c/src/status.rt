@@ -1,4 +1,4 @@
-//! What a function returns besides its output.
+//! What a function returns besides its output, and the version of the library.
 ghost use Rattle.std.specs.Prelude.{◌≡◌, ◌<◌};
 ghost use Rattle.const_oid_c.specs.Status.{error_status, code_status, len_status, number_status, too_short_status, flag_status, order_number, order_status};
 
@@ -164,4 +164,13 @@ pub(crate) fn order_number(ordering: Ordering) -> i32
         Ordering::Equal => 0,
         Ordering::Greater => 1,
     }
+}
+
+/// 65536 times the major number, 256 times the minor one and the patch number, as
+/// `CONST_OID_VERSION`.
+#[unsafe(no_mangle)]
+pub extern "C" fn const_oid_version() -> u32
+    ensures { result ≡ 65792 }
+{
+    (1 << 16) + (1 << 8)
 }

@@ -221,6 +221,11 @@ pub unsafe extern "C" fn const_oid_by_arcs(left: *const Octets<'_>, right: *cons
     unsafe { crate::erased::order::const_oid_by_arcs(&input(left, 1)[0], &input(right, 1)[0]) }
 }
 
+#[unsafe(no_mangle)]
+pub extern "C" fn const_oid_version() -> u32 {
+    crate::erased::status::const_oid_version()
+}
+
 /// # Safety
 ///
 /// The header says what a caller guarantees.
@@ -271,9 +276,4 @@ pub unsafe extern "C" fn const_oid_push_arc(
 ) -> Status {
     // SAFETY: the caller guarantees it.
     unsafe { crate::erased::tree::const_oid_push_arc(input(octets, octets_len), arc, output(out, out_len)) }
-}
-
-#[unsafe(no_mangle)]
-pub extern "C" fn const_oid_version() -> u32 {
-    crate::erased::version::const_oid_version()
 }

@@ -1,5 +1,6 @@
 -- Octets as they are read and written, one subidentifier after another.
-use Rattle.std.specs.Prelude.{◌≡◌, ℕ, ◌+◌, ◌<◌, ◌≤◌, List, [], ◌∷◌, ◌++◌, length, map, take, drop, Option, None, Result, Ok, MatchResult}
+use Rattle.std.specs.Prelude.{◌≡◌, ℕ, ◌+◌, ◌<◌, ◌≤◌, List, [], ◌∷◌, ◌++◌, length, map, take, drop, Option, None}
+use Rattle.std.specs.Prelude.{Result, Ok, MatchResult, ◌==◌, if◌then◌else◌, Some, ◌^◌}
 use Rattle.std.specs.declared.cmp.Ordering.{Ordering}
 use Rattle.std.specs.Option.{option_or}
 use Rattle.std.specs.Ordering.{nat_cmp}
@@ -8,8 +9,9 @@ use Rattle.const_oid.specs.declared.error.Error.TheVariants.{Length}
 use Rattle.const_oid.specs.declared.arcs.Next.{Next}
 use Rattle.const_oid.specs.declared.arcs.Next.TheVariants.{First, Second, Later}
 use Rattle.const_oid.specs.Base128.{IsGroup, value_of, width}
-use Rattle.const_oid.specs.Identifier.{root_rule, IsEncoding}
-use Rattle.const_oid.specs.Contents.{cut, part_fault, later_fault, parts_fault, arcs_of_octets}
+use Rattle.const_oid.specs.Identifier.{root_rule, IsEncoding, max_arc}
+use Rattle.const_oid.specs.Contents.{cut, part_fault, later_fault, parts_fault, arcs_of_octets, max_first}
+use Rattle.std.specs.Int.{w64, to_be_bytes}
 
 -- the arcs that an iterator has left, by what comes next of the octets
 abbrev pub arcs_left : Next → List ℕ → List ℕ
@@ -72,3 +74,26 @@ pub record IsEncodedIn (capacity : ℕ) (read : Result (List ℕ) Error) (old ne
   pub long : len ≡ length octets
   pub within : len ≤ capacity
   pub begins : BeginsBy capacity octets old new
+
+-- the greatest number of a subidentifier that starts at an index
+abbrev pub limit_at : ℕ → ℕ
+limit_at start = if start == 0 then max_first root_rule else max_arc
+
+-- the first fault of the parts from an index on, at which a part starts
+abbrev pub fault_at : List ℕ → ℕ → Option Error
+fault_at octets start = fault_from (limit_at start) (cut (drop start octets))
+
+-- the part that starts at an index has no fault and ends before another index, or the fault is its own
+abbrev pub EndsAt : List ℕ → ℕ → Result ℕ Error → Type 0
+EndsAt octets start result = MatchResult result
+    (λ end. (start < end) × (end ≤ length octets) × (fault_at octets start ≡ fault_at octets end))
+    (λ fault. fault_at octets start ≡ Some fault)
+
+-- the bytes of a number, the most significant first
+unfoldable pub bytes_of : ℕ → List ℕ
+bytes_of number = to_be_bytes w64 number
+
+-- the eight octets from an index on, as a number
+pub record IsWord (octets : List ℕ) (at number : ℕ) : Type 0 where
+  pub fits : number < 2 ^ 64
+  pub value : bytes_of number ≡ take 8 (drop at octets)

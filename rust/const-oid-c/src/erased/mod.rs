@@ -14,4 +14,3 @@ pub mod owned;
 pub mod status;
 pub mod texts;
 pub mod tree;
-pub mod version;

@@ -1,4 +1,4 @@
-use Rattle.const_oid.proofs.WideAdds.{octets_new}
+use Rattle.const_oid.proofs.WideRule.{octets_new}
 use Rattle.const_oid.proofs.laws.wide_adds.Goals as goal
 
 pub returns-clause-octets : goal.returns-clause-octets

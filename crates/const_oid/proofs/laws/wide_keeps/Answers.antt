@@ -1,5 +1,5 @@
 use Rattle.std.proofs.Common.{arith}
-use Rattle.const_oid.proofs.{Encodings.same_octets, WideAdds.encoding_wide, WideKeeps.octets_kept}
+use Rattle.const_oid.proofs.{Encodings.same_octets, WideRule.encoding_wide, WideRule.octets_kept}
 use Rattle.const_oid.proofs.laws.wide_keeps.Goals as goal
 
 pub returns-clause-octets_accepted : goal.returns-clause-octets_accepted

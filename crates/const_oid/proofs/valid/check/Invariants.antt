@@ -1,5 +1,5 @@
 use Rattle.std.proofs.Common.{◌≡◌, ◌-◌, ◌≤◌, length}
-use Rattle.const_oid.specs.{Contents.{cut, parts_fault}, Identifier.root_rule, Private.Ends.fault_at}
+use Rattle.const_oid.specs.{Contents.{cut, parts_fault}, Identifier.root_rule, Private.Octets.fault_at}
 use Rattle.const_oid.proofs.valid.check.Given as goal
 
 -- the parts that are left have the fault of all

@@ -1,5 +1,5 @@
 use Rattle.std.proofs.Common.{◌∙◌, sym}
-use Rattle.const_oid_c.proofs.Indices.{none_from_status}
+use Rattle.const_oid_c.proofs.SortedList.{none_from_status}
 use Rattle.const_oid_c.proofs.lists.const_oid_nearest.Goals as goal
 
 pub returns-in-Ok-clause-none : goal.returns-in-Ok-clause-none

@@ -1,6 +1,6 @@
 use Rattle.std.proofs.Common.{ap, arith, length, ◌∙◌}
 use Rattle.const_oid_c.specs.Status.{output_status, output_after}
-use Rattle.const_oid_c.proofs.{Rooms.{text_enough, text_no_length}, SmallTexts.small_text}
+use Rattle.const_oid_c.proofs.{Rooms.{text_enough, text_no_length}, Capacities.small_text}
 use Rattle.const_oid_c.proofs.texts.const_oid_from_text.Goals as goal
 
 pub returns-in-Ok-clause-status : goal.returns-in-Ok-clause-status
