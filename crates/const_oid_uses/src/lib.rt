@@ -3,7 +3,6 @@
 
 pub mod algorithms;
 pub mod constants;
-pub mod fixed;
 pub mod generic;
 pub mod label;
 pub mod schema;
