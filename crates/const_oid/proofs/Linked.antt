@@ -1,8 +1,8 @@
 -- Links between the entries of a table, by a hash: what they are at each step, and what a lookup along them finds.
 use Rattle.std.proofs.Common.{◌≡◌, ◌≢◌, ℕ, ◌+◌, ◌-◌, ◌*◌, ◌%◌, ◌^◌, ◌<◌, ◌≤◌, Bool, true, false, List, [], ◌∷◌, Bor, drop, length, get_or, set, nat_eq}
-use Rattle.std.proofs.Common.{arith, refl, sym, ap, ◌∙◌, Some, None, ⊎_elim, suc, add-one, drop-cons, get_or-set_other, get_or-set_same}
+use Rattle.std.proofs.Common.{arith, refl, sym, ap, ◌∙◌, Some, None, ⊎_elim, suc, add-one, drop-cons}
 use Rattle.std.specs.{Cmp.Lexicographic.pointwise, List.{fold, filter, find, position_or_len, slice_get, HoldsAt}, Str.str_to_ascii_lowercase}
-use Rattle.std.proofs.lemmas.{Slice.Eq.bytes_eq-Decides, Bool.{cases_Bool, cases_eq, cases_lt, eqb-true, eq-eqb, ne_eqb}, Grind.common_steps, Option.slice_get-get_or}
+use Rattle.std.proofs.lemmas.{Slice.Eq.bytes_eq-Decides, Bool.{cases_Bool, cases_eq, cases_lt, eqb-true, eq-eqb, ne_eqb}, Grind.common_steps}
 use Rattle.std.proofs.lemmas.List.{drop-drop, get_or-drop, get_or_default, length-drop, Sums.{passes_at_first, prefix_len-le-length}}
 use Rattle.const_oid.specs.Private.Links.{AreLinks, AreLinksFrom, IsInSlot, first_by, hash_of, in_slot, key_of}
 use Rattle.const_oid.specs.declared.db.Names.{Names}

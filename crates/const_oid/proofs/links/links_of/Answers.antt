@@ -1,6 +1,5 @@
-use Rattle.std.proofs.Common.{◌≡◌, ◌+◌, ◌-◌, length, arith, ap, ◌∙◌, sym}
+use Rattle.std.proofs.Common.{◌≡◌, ◌+◌, ◌-◌, length, arith}
 use Rattle.std.proofs.lemmas.{Grind.common_steps, List.get_or-replicate}
-use Rattle.const_oid.specs.Private.Links.{hash_of}
 use Rattle.const_oid.proofs.Linked.{no_links, one_more}
 use Rattle.const_oid.proofs.links.links_of.Goals as goal
 

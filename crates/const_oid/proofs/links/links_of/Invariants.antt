@@ -1,12 +1,12 @@
 use Rattle.std.proofs.Common.{◌≡◌, ◌-◌, ◌≤◌, length}
-use Rattle.const_oid.specs.Private.Links.{AreLinksFrom, hashed_of}
+use Rattle.const_oid.specs.Private.Links.{AreLinksFrom, key_of}
 use Rattle.const_oid.proofs.links.links_of.Given as goal
 
 abbrev pub invariant-loop-index : goal.invariant-loop-index
 invariant-loop-index g l = record {
   within : l.index ≤ length l.entries;
   long : length l.links ≡ g.row.SIZE;
-  so_far : AreLinksFrom (hashed_of l.by_name) (g.row.SIZE - length l.entries) l.entries l.index l.links;
+  so_far : AreLinksFrom (key_of l.by_name) (g.row.SIZE - length l.entries) l.entries l.index l.links;
 }
 
 abbrev pub decreases-loop-index : goal.decreases-loop-index
