@@ -1,7 +1,7 @@
 //! Names of borrowed identifiers, by binary search in a table that is sorted by arcs.
 
-ghost use Rattle.std.specs.Prelude.{◌≡◌, ◌↔◌, nat_eq, IfNone, IfSome, IsSome, find};
-ghost use Rattle.std.specs.Cmp.Lexicographic.{pointwise, slice_cmp};
+ghost use Rattle.std.specs.Prelude.{◌≡◌, ◌↔◌, IfNone, IfSome, IsSome, find};
+ghost use Rattle.std.specs.Cmp.Lexicographic.{slice_cmp};
 ghost use Rattle.std.specs.List.{All};
 ghost use Rattle.std.specs.List.Sorted.{IsSortedByKey};
 ghost use Rattle.std.specs.Option.{option_copied};
@@ -9,7 +9,6 @@ ghost use Rattle.std.specs.Ordering.{nat_cmp, is_lt};
 ghost use Rattle.std.proofs.Props.{props};
 ghost use Rattle.const_oid.specs.OidRef.{ref_arcs, ref_octets};
 
-use crate::compare::are_equal;
 use crate::oid_ref::ObjectIdentifierRef;
 use crate::search::{Contents, end_of, first_of, nearest_of, subtree_of};
 
@@ -184,14 +183,4 @@ impl Contents for (ObjectIdentifierRef<'_>, &str) {
     fn contents(&self) -> &[u8] {
         self.0.as_bytes()
     }
-}
-
-/// Whether an entry has this borrowed identifier.
-pub(crate) fn has_ref(
-    entry: &(ObjectIdentifierRef<'_>, &str),
-    oid: &ObjectIdentifierRef<'_>,
-) -> bool
-    ensures { result ≡ pointwise nat_eq (ref_arcs entry.now.0) (ref_arcs oid.now) }
-{
-    are_equal(entry.0.as_bytes(), oid.as_bytes())
 }

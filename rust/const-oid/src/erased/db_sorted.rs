@@ -2,7 +2,6 @@
 
 //! Names of borrowed identifiers, by binary search in a table that is sorted by arcs.
 
-use crate::erased::compare::are_equal;
 use crate::erased::oid_ref::ObjectIdentifierRef;
 use crate::erased::search::{Contents, end_of, first_of, nearest_of, subtree_of};
 
@@ -158,9 +157,4 @@ impl Contents for (&ObjectIdentifierRef, &str) {
     fn contents(&self) -> &[u8] {
         self.0.as_bytes()
     }
-}
-
-/// Whether an entry has this borrowed identifier.
-pub(crate) fn has_ref(entry: &(&ObjectIdentifierRef, &str), oid: &ObjectIdentifierRef) -> bool {
-    are_equal(entry.0.as_bytes(), oid.as_bytes())
 }
