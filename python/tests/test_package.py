@@ -85,7 +85,7 @@ class Package(unittest.TestCase):
         whole = bytes.fromhex("3082008C 06032A0304 A0020500 068180") + bytes(128)
         self.assertEqual([b"\x2a\x03\x04", bytes(128)], found(whole))
         # Also what goes on past what it is in, and a tag of several octets.
-        others = bytes.fromhex("300206032A0304"), bytes.fromhex("1F8106022A03")
+        others = bytes.fromhex("300206032A0304"), bytes.fromhex("1F1F1E") + bytes(30)
         for der in [*(whole[:end] for end in range(1, len(whole))), *others]:
             self.assertIsInstance(error_of(found, der), ValueError, der.hex())
 
