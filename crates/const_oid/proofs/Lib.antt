@@ -16,7 +16,6 @@ pub mod Decimals
 pub mod Texts
 pub mod Ascii
 pub mod Enough
-pub mod Children
 pub mod PartsFault
 pub mod PartEnds
 pub mod Octets

@@ -8,7 +8,7 @@ use Rattle.std.proofs.lemmas.{Bool.Decides.nat_tests, Grind.common_steps}
 use Rattle.const_oid.specs.{Base128.value_of, Identifier.{RootRule, IsIdentifier, IsEncoding}}
 use Rattle.const_oid.specs.Contents.{cut, later_fault, parts_fault, arcs_from, arcs_of_octets}
 use Rattle.const_oid.specs.{Tree.{BeginsWith, parent_of}, Private.Prefixes.IsFinishedPrefix}
-use Rattle.const_oid.proofs.{Tree.child_of-parent_of, Children.encoding_parent, Encodings.none_from_encoding, Lengths.length_by_parts}
+use Rattle.const_oid.proofs.{Tree.{child_of-parent_of, encoding_parent}, Encodings.none_from_encoding, Lengths.length_by_parts}
 use Rattle.const_oid.proofs.Cutting.{cut_after-append, cut_after-last, cut_after-more, cut-some, concat-cut}
 
 -- ---- where the last part begins

@@ -6,7 +6,7 @@ use Rattle.const_oid.specs.{declared.error.Error.TheVariants.{Length}}
 use Rattle.const_oid.specs.{Base128.width, Private.Octets.GoesOn}
 use Rattle.const_oid.specs.{Identifier.{RootRule, max_arc, max_second, IsEncoding}, Error.fault_if, Items.arc_fault}
 use Rattle.const_oid.proofs.{Faults.none_from_below, Lengths.size_push}
-use Rattle.const_oid.proofs.Children.{encoding_two, child_encoding}
+use Rattle.const_oid.proofs.Tree.{encoding_two, child_encoding}
 
 later_arc_fault : (rule : RootRule) (octets given : List ℕ) (arc capacity : ℕ) → IsEncoding rule given octets
     → arc_fault rule capacity given arc ≡ fault_if (nat_lt capacity (length octets + width arc)) Length

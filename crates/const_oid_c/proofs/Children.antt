@@ -5,7 +5,7 @@ use Rattle.std.proofs.lemmas.Bool.Decides.{nat_tests}
 use Rattle.const_oid.specs.{Base128.group_of, Items.item_answer, Tree.child_of}
 use Rattle.const_oid.specs.{declared.error.Error.Error, declared.oid.ObjectIdentifier.ObjectIdentifier}
 use Rattle.const_oid.specs.{Identifier.{root_rule, max_arc, IsEncoding, encoding_of}, Oid.{oid_answer, oid_arcs, oid_octets}}
-use Rattle.const_oid.proofs.Children.{encoding_push, encoding_two}
+use Rattle.const_oid.proofs.Tree.{encoding_push, encoding_two}
 use Rattle.const_oid.proofs.Encodings.{encoding_of-encoded, oid_encoding, same_octets}
 use Rattle.const_oid.proofs.{Groups.{group_is, small_is}, Lengths.root_short}
 use Rattle.const_oid_c.specs.Results.{borrowed_answer, octets_of_child}

@@ -1,4 +1,3 @@
 pub mod Output
-pub mod Commands
 pub mod Lines
 pub mod Names

@@ -5,6 +5,8 @@ use Rattle.std.specs.List.{before_first, after_first, position_or_len, flat_map}
 use Rattle.std.proofs.lemmas.{Bool.cases_lt, Bool.Decides.nat_tests, List.Concat.flat_map-cons}
 use Rattle.std.proofs.lemmas.{List.{take_all, drop_all, length-append, nil_from_length}, List.Sums.fails_before_first}
 use Rattle.std.proofs.lemmas.List.Splits.{slice_split_first, slice_split_none, length-slice_split}
+use Rattle.std.proofs.lemmas.Str.{is_utf8-from_IsUtf8}
+use Rattle.const_oid.proofs.{Ascii.is_not_utf8, Identifiers.octets_again}
 use Rattle.oid_tool.specs.{Results.{without_empty_last, lines, output_line, answers}, Names.Row}
 
 -- the text before the first newline
@@ -59,3 +61,6 @@ module _ (table : List Row) (text : List ℕ) (some : false ≡ nat_eq (length t
   answers_not_empty none =
       let e = ap length (sym (answers-first table text (grind (arith, nat_tests))) ∙ none) in
       omega (arith, simp length-append at e)
+
+-- a text is UTF-8 or not, and the octets of its arcs
+pub ruleset lines_read = (is_utf8-from_IsUtf8, is_not_utf8, octets_again)

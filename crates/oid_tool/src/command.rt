@@ -52,7 +52,7 @@ fn text(digits: &[u8], out: &mut [u8]) -> Option<usize>
 }
 
 /// `hex T`: the contents octets of the identifier that the text T denotes, as hexadecimal digits.
-#[tactic(auto, using(crate::proofs::Commands::lines), unfolding(crate::specs::Results::hex_line))]
+#[tactic(auto, using(crate::proofs::Lines::lines_read), unfolding(crate::specs::Results::hex_line))]
 fn hex(text: &[u8], out: &mut [u8]) -> Option<usize>
     ensures { StandsFirst result out.new (hex_line text.now) }
 {
@@ -66,7 +66,7 @@ fn hex(text: &[u8], out: &mut [u8]) -> Option<usize>
 }
 
 /// `parent T`: the parent of the identifier that the text T denotes, or `none`.
-#[tactic(auto, using(crate::proofs::Commands::lines), unfolding(crate::specs::Results::parent_line))]
+#[tactic(auto, using(crate::proofs::Lines::lines_read), unfolding(crate::specs::Results::parent_line))]
 fn parent(text: &[u8], out: &mut [u8]) -> Option<usize>
     ensures { StandsFirst result out.new (parent_line text.now) }
 {
@@ -83,7 +83,7 @@ fn parent(text: &[u8], out: &mut [u8]) -> Option<usize>
 }
 
 /// `name T`: the name of the identifier that the text T denotes, or T itself if it has no name.
-#[tactic(auto, using(crate::proofs::Commands::lines), unfolding(crate::specs::Results::name_line))]
+#[tactic(auto, using(crate::proofs::Lines::lines_read), unfolding(crate::specs::Results::name_line))]
 fn name(text: &[u8], table: Database<'_>, out: &mut [u8]) -> Option<usize>
     ensures { StandsFirst result out.new (name_line (rows_of table.entry) text.now) }
 {

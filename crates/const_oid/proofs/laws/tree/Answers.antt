@@ -1,4 +1,4 @@
-use Rattle.const_oid.proofs.{Tree.{parent_of-child_of, child_of-parent_of}, Children.{encoding_push, encoding_parent}}
+use Rattle.const_oid.proofs.Tree.{parent_of-child_of, child_of-parent_of, encoding_push, encoding_parent}
 use Rattle.const_oid.proofs.Parents.{parent_octets, parent_of_one}
 use Rattle.const_oid.proofs.laws.tree.Goals as goal
 

@@ -1,5 +1,5 @@
 use Rattle.std.proofs.Common.{arith}
-use Rattle.const_oid.proofs.{Encodings.oid_encoding, Lengths.size_push, Children.{child_none, child_arcs}}
+use Rattle.const_oid.proofs.{Encodings.oid_encoding, Lengths.size_push, Tree.{child_none, child_arcs}}
 use Rattle.const_oid.proofs.oid.ObjectIdentifier.push_arc.Goals as goal
 
 pub returns-in-Err-clause-fits : goal.returns-in-Err-clause-fits
