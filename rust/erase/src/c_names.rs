@@ -1,7 +1,7 @@
 //! The table of names as a header of data for C.
 
-use crate::fault::Result;
 use crate::names::{Row, octets, rows};
+use crate::token::Result;
 
 /// The rows of a table in `c_names.h`. Those of an identifier or of a name stay in the order of the table.
 pub fn header(table: &str) -> Result<String> {

@@ -1,7 +1,7 @@
 //! Applies edits: tokens that other tokens replace.
 
-use crate::fault::{Fault, Result};
 use crate::table::Crate;
+use crate::token::{Fault, Result};
 use crate::token::{Token, tokens};
 
 /// The tokens with `new` in place of `old`, and how often. Neither space nor comments are compared.

@@ -3,8 +3,7 @@
 //! Each rule is for one kind of syntax. What no rule knows stays, and rustc decides on it.
 
 use crate::edit::replaced;
-use crate::fault::{Fault, Result};
-use crate::token::{Token, close, is, solid};
+use crate::token::{Fault, Result, Token, close, is, solid};
 
 type Tokens<'a> = Vec<Token<'a>>;
 

@@ -9,18 +9,17 @@ mod c_names;
 mod calls;
 mod edit;
 mod erase;
-mod fault;
 mod names;
 mod table;
 mod token;
 
 use calls::Call;
-use fault::{Fault, Result};
 use std::io::Write;
 use std::path::{Path, PathBuf};
 use std::process::{Command, ExitCode, Stdio};
 use std::{env, fs, io};
 use table::Crate;
+use token::{Fault, Result};
 
 const NAMES: &str = "rust/const-oid/src/db/names.rs";
 const SORTED: &str = "rust/const-oid/src/db/sorted.rs";

@@ -1,9 +1,23 @@
-//! The tokens of a source. Their texts together are the source.
+//! The tokens of a source, and its faults. The texts of the tokens together are the source.
 //!
 //! Rattle has the tokens of Rust. Ghost terms are another language. But their brackets nest, and their
 //! strings are those of Rust, so they can be skipped.
 
-use crate::fault::{Fault, Result};
+pub type Result<T> = std::result::Result<T, Fault>;
+
+/// A fault of a source, and its line.
+#[derive(Debug)]
+pub struct Fault {
+    /// Counted from 1, or 0 for a fault of no line.
+    pub line: usize,
+    pub words: String,
+}
+
+impl Fault {
+    pub fn new(line: usize, words: impl Into<String>) -> Self {
+        Fault { line, words: words.into() }
+    }
+}
 
 #[derive(Clone, Copy, Debug)]
 pub struct Token<'a> {
