@@ -24,9 +24,7 @@ returns-then-has_oid-clause-goes c =
     first_of (search rules, grind (arith, common_steps))
 
 pub loop-self-smaller : goal.loop-self-smaller
-loop-self-smaller c =
-    let more = next_name c.loop-self.self c.next_link-self.result c.loop-self-test.true c.next_link-self.ensures in
-    omega (arith, more.after)
+loop-self-smaller c = omega (arith, (next_name c.loop-self.self c.next_link-self.result c.loop-self-test.true c.next_link-self.ensures).after)
 
 pub loop-self-preserved : goal.loop-self-preserved
 loop-self-preserved c =
