@@ -1,6 +1,5 @@
 """README's blocks are run in order, by bash in a new HOME, and print what their comments say: sh, with each c block as
-`main.c`, and python. `cargo test` runs the examples alone, and rust/check all tests. Apart from these, blocks of sh with
-`rt` are run, where `rt run` runs what `rt ci` has proved and built."""
+`main.c`, and python. `cargo test` runs the examples alone, and rust/check all tests."""
 import os
 import pathlib
 import re
@@ -12,20 +11,19 @@ from pages.page import TOP, blocks_of
 
 PAGE = "README.md"
 CARGO = 'cargo() { command cargo "$@" $([ "$1" != test ] || echo --doc); }\n'
-RT = 'rt() { [ "$*" = run ] && "out/${PWD##*/}"; }\n'
 HOMES = {"CARGO_HOME": ".cargo", "RUSTUP_HOME": ".rustup"}
 OFFLINE = {"CARGO_NET_OFFLINE": "true", "PIP_NO_INDEX": "1", "PYTHONDONTWRITEBYTECODE": "1"}
 
 
-def scripts(with_rt):
-    """The blocks that are run, with `rt` or the others, as scripts of bash."""
+def scripts():
+    """The blocks that are run, as scripts of bash."""
     blocks = [(language, text) for _, language, text in blocks_of(PAGE)]
     programs = [text for language, text in blocks if language == "c"]
     for language, text in blocks:
-        if language == "sh" and with_rt == bool(re.search(r"\brt\b", text)):
+        if language == "sh":
             mains = programs if "main.c" in text else []
             yield from [f"cat > main.c << 'END'\n{main}END\n{text}" for main in mains] or [text]
-        elif language == "python" and not with_rt:
+        elif language == "python":
             yield f"python - << 'END'\n{text}END\n"
 
 
@@ -42,9 +40,9 @@ def run(script):
         return subprocess.run(["bash", "-ec", script], cwd=clone, env=variables, text=True, capture_output=True)
 
 
-def faults(with_rt=False):
-    script = "".join(scripts(with_rt))
-    ended = run((RT if with_rt else CARGO) + script)
+def faults():
+    script = "".join(scripts())
+    ended = run(CARGO + script)
     if ended.returncode:
         yield f"{PAGE}: a block ends with status {ended.returncode}: {ended.stderr.strip()[-600:]}"
     said = re.findall(r"\bprintf?\b.*\s(?:/\*|#) (.*?)(?: \*/)?$", script, re.M)
