@@ -6,7 +6,7 @@ use native.Mathlib.Numerals.{unary_clauses}
 use Rattle.std.proofs.lemmas.{Bool.Decides.nat_tests, List.{length-drop, drop-drop, get_or-drop, take_all}}
 use Rattle.const_oid.specs.{declared.error.Error.TheVariants.{ArcTooBig, Base128}, Base128.value_of}
 use Rattle.const_oid.specs.{Identifier.{root_rule, max_arc}, Contents.{cut, later_fault, max_first}}
-use Rattle.const_oid.specs.Private.{Octets.fault_from, Ends.{limit_at, fault_at}, Groups.IsLong}
+use Rattle.const_oid.specs.Private.{Octets.{fault_from, limit_at, fault_at}, Groups.IsLong}
 use Rattle.const_oid.proofs.PartsFault.{parts_at, four_open, five_big, five_last, five_open, six_big}
 
 limit_wide : (start : ℕ) → max_arc ≤ limit_at start
