@@ -350,6 +350,7 @@ class Values(unittest.TestCase):
         self.assertEqual((1, 4, 2), (OID.index(2), OID.index(2, 2), OID.count(1)))
         self.assertEqual([1, 2, 10045, 840, 2, 1], list(reversed(OID)))
         self.assertIsInstance(OID, collections.abc.Sequence)
+        self.assertEqual([b"\x2a\x03", b"\1\2\3"], [kind(ObjectIdentifier("1.2.3")) for kind in (bytes, bytearray)])
         for oid in (OID, Under(OID)):
             match oid, oid:
                 case [1, 2, 840, *rest], ObjectIdentifier((1, 2, *others)):

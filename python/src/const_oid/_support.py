@@ -125,9 +125,7 @@ def required(oid: ObjectIdentifier, name: str) -> ObjectIdentifier:
 
 
 def copied(oid: ObjectIdentifier, memos: tuple[dict[int, object], ...]) -> ObjectIdentifier:
-    """An identifier, or a copy of one of a subclass, with its attributes, which are copied too if there is a memo."""
-    if type(oid) is ObjectIdentifier:
-        return oid
+    """An identifier; if of a subclass, a copy with its attributes, which are copied too if there is a memo."""
     made, state = type(oid)(ObjectIdentifier(oid)), oid.__getstate__()
     for memo in memos:
         memo[id(oid)] = made
