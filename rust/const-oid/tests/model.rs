@@ -496,7 +496,7 @@ const EDGES: [u8; 8] = [0, 0x4F, 0x50, 0x7F, 0x80, 0x8F, 0x90, 0xFF];
 
 /// Identifiers of many lengths.
 fn valid() -> Vec<Vec<u8>> {
-    let groups: [&[u8]; 5] = [&[0], &[0x7F], &[0x81, 0], &[0x82, 0x80, 1], &[0x8F, 0xFF, 0xFF, 0xFF, 0x7F]];
+    let groups: [&[u8]; 6] = [&[0], &[0x7F], &[0x81, 0], &[0x90, 0], &[0x82, 0x80, 1], &[0x8F, 0xFF, 0xFF, 0xFF, 0x7F]];
     let lengths = (1..=66).chain(250..=260).chain([300, 1_021, 4_095, 4_096, 4_097, 9_000]);
     let mut out: Vec<Vec<u8>> = (0..0x80).map(|octet| vec![octet]).collect();
     for len in lengths {
