@@ -1,5 +1,5 @@
 -- Octets that are written where there is room for them: their status is neither `Length` nor that of an output that is too short.
-use Rattle.std.proofs.Common.{◌≡◌, ◌≢◌, ℕ, ◌+◌, ◌*◌, ◌^◌, ◌<◌, ◌≤◌, List, get_or, length, map, Bool, true, false, cond, refl, sym, ◌∙◌, arith, le-ltb, Result, Ok, Err}
+use Rattle.std.proofs.Common.{◌≡◌, ◌≢◌, ℕ, ◌*◌, ◌^◌, ◌<◌, ◌≤◌, List, get_or, length, map, Bool, true, false, cond, refl, ◌∙◌, arith, le-ltb, Result, Ok, Err}
 use Rattle.std.proofs.lemmas.Bool.Decides.{nat_tests}
 use Rattle.std.specs.Str.{is_utf8}
 use Rattle.const_oid.specs.{declared.error.Error.Error, Error.code_of}

@@ -1,4 +1,4 @@
-use Rattle.std.proofs.Common.{arith, length, rules, ◌≡◌}
+use Rattle.std.proofs.Common.{arith, length, ◌≡◌}
 use Rattle.std.proofs.lemmas.Grind.{common_steps}
 use Rattle.const_oid.specs.{Identifier.root_rule, Items.item_answer}
 use Rattle.const_oid_c.specs.{Results.octets_of_arcs, Status.{max_len, output_status}}
