@@ -67,7 +67,7 @@ impl ObjectIdentifier<39> {
     /// - [`Error::TrailingDot`]: an empty last component follows it;
     /// - [`Error::ArcInvalid`]: it is the first one and above 2, or the second, above 39 and after 0 or 1 (X.660);
     /// - [`Error::Length`]: the arcs up to it take more than 39 octets (X.690, 8.19);
-    /// - [`Error::Empty`]: it is the only one.
+    /// - [`Error::Empty`]: it is the only one, as in `1`.
     ///
     /// # Examples
     ///
@@ -506,7 +506,8 @@ impl<const MAX_SIZE: usize> ObjectIdentifier<MAX_SIZE> {
         self.ber.is_same(&other.ber)
     }
 
-    /// Whether the arcs begin with all those of another identifier: whether it is this one or an ancestor.
+    /// Whether the arcs begin with all those of another identifier: whether the other one is this one or an ancestor of
+    /// it.
     ///
     /// # Examples
     ///
@@ -555,7 +556,8 @@ impl ObjectIdentifierRef<'_> {
     }
 }
 
-/// The arcs in decimal, joined by dots, whatever the options.
+/// The arcs in decimal, joined by dots. Width, fill, sign and precision are ignored: to fill a column, print
+/// `oid.to_string()`.
 impl<const MAX_SIZE: usize> fmt::Display for ObjectIdentifier<MAX_SIZE> {
     ghost use Rattle.const_oid.specs.Oid.{oid_arcs};
 

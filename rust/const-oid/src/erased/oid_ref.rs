@@ -324,7 +324,8 @@ impl ObjectIdentifierRef {
         Some(ObjectIdentifierRef::from_checked(prefix))
     }
 
-    /// Whether the arcs begin with all those of another identifier: whether it is this one or an ancestor.
+    /// Whether the arcs begin with all those of another identifier: whether the other one is this one or an ancestor of
+    /// it.
     ///
     /// # Examples
     ///
@@ -413,7 +414,8 @@ const PIECE: usize = 40;
 /// The most bytes of that text, and of one more arc.
 const PIECE_LEN: usize = 4 * PIECE + MAX_ARC_LEN;
 
-/// The arcs in decimal, joined by dots, whatever the options.
+/// The arcs in decimal, joined by dots. Width, fill, sign and precision are ignored: to fill a column, print
+/// `oid.to_string()`.
 impl fmt::Display for ObjectIdentifierRef {
     fn fmt(&self, f: &mut fmt::Formatter<'_>) -> fmt::Result {
         self.write_pieces(f)
