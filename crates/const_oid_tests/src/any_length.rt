@@ -98,7 +98,7 @@ fn is_encoded(
     )
 }
 
-/// A text, so many times `.1`, and an end.
+/// The start of a text, so many times what follows, and an end.
 fn text_of(
     alloc: Global,
     first: (&str, &str),

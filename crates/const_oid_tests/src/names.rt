@@ -110,6 +110,12 @@ fn is_answer(database: &Database<'_>, query: &Query) -> Result<bool, Error> {
     })
 }
 
+/// Whether a table of these identifiers and names answers so.
+fn is_answered<'a>(named: &'a [(&'a Oid, &'a str)], query: &Query) -> Result<bool, Fail> {
+    let database = clone_of(&Database::new(named))?;
+    Ok(is_answer(&database, query) == Ok(true))
+}
+
 /// Whether a table of these entries answers so.
 fn answers(alloc: Global, entries: &[Entry], query: &Query) -> Result<bool, Fail> {
     let mut oids = Vec::new(alloc);
@@ -120,8 +126,7 @@ fn answers(alloc: Global, entries: &[Entry], query: &Query) -> Result<bool, Fail
     for (oid, (_, name)) in oids.iter().zip(entries) {
         named.push((oid, *name))?;
     }
-    let database = clone_of(&Database::new(&named))?;
-    Ok(is_answer(&database, query) == Ok(true))
+    is_answered(&named, query)
 }
 
 #[test]
