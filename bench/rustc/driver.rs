@@ -1,11 +1,8 @@
 //! driver SIDE ROW SIZE TIMES: one operation of one crate, so many times. `run` counts its instructions.
-//! driver ROW SIZE ROUNDS: the time of the operation of this crate, divided by that of const-oid. Rounds of both take
-//! turns, and each side has its least.
 
 use std::fmt::Write;
 use std::hash::{DefaultHasher, Hash, Hasher};
 use std::hint::black_box;
-use std::time::{Duration, Instant};
 
 /// A short, a typical and a long identifier.
 const TEXTS: [&str; 3] = [
@@ -51,12 +48,10 @@ macro_rules! side {
 
             /// A function of its own for each row, so that no row has its loop's counter on the stack.
             #[inline(never)]
-            fn repeat<T>(times: usize, call: impl Fn() -> T) -> Duration {
-                let start = Instant::now();
+            fn repeat<T>(times: usize, call: impl Fn() -> T) {
                 for _ in 0..times {
                     black_box(call());
                 }
-                start.elapsed()
             }
 
             fn print(oid: &ObjectIdentifier) -> usize {
@@ -70,7 +65,7 @@ macro_rules! side {
                 hasher.finish()
             }
 
-            pub fn run(row: &str, size: usize, times: usize) -> Duration {
+            pub fn run(row: &str, size: usize, times: usize) {
                 let (text, wrong) = (TEXTS[size], &format!("{}.x", TEXTS[size]));
                 let [oid, next, parent] = &values(text);
                 let (oid, next, parent, octets) = (&oid.0, &next.0, &parent.0, oid.0.as_bytes());
@@ -108,29 +103,9 @@ macro_rules! side {
 side!(ours);
 side!(theirs);
 
-/// The calls of a round.
-const TIMES: usize = 500;
-
-/// The ratio of the least times of both sides.
-fn ratio(row: &str, size: usize, rounds: usize) -> f64 {
-    let mut least = [Duration::MAX; 2];
-    for _ in 0..rounds {
-        for (run, least) in [ours::run, theirs::run].iter().zip(&mut least) {
-            *least = run(row, size, TIMES).min(*least);
-        }
-    }
-    least[0].as_secs_f64() / least[1].as_secs_f64()
-}
-
 fn main() {
     let arguments: Vec<String> = std::env::args().skip(1).collect();
-    let number = |text: &String| text.parse().unwrap();
-    match &arguments[..] {
-        [row, size, rounds] => println!("{:.4}", ratio(row, number(size), number(rounds))),
-        [side, row, size, times] => {
-            let run = if side == "ours" { ours::run } else { theirs::run };
-            run(row, number(size), number(times));
-        }
-        _ => panic!("SIDE ROW SIZE TIMES, or ROW SIZE ROUNDS"),
-    }
+    let [side, row, size, times] = &arguments[..] else { panic!("SIDE ROW SIZE TIMES") };
+    let run = if side == "ours" { ours::run } else { theirs::run };
+    run(row, size.parse().unwrap(), times.parse().unwrap());
 }
