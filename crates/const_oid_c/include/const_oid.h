@@ -19,9 +19,9 @@
  *   are not null-terminated: no function looks for a zero byte or writes one.
  * - Threads. Every function is thread-safe. While a call runs, no other thread may write its inputs or touch its
  *   output.
- * - Machines. The tests run on Linux with glibc, on x86-64 and i686. The proofs are for 64 bits. The library that
- *   Rattle builds needs x86-64-v2 (POPCNT, SSE4.1). The library needs no system: of the C library it calls memory
- *   functions, and cargo's build also abort.
+ * - Machines. The tests run on Linux, with glibc on x86-64 and i686, and with musl on x86-64. The proofs are for 64
+ *   bits. The library that Rattle builds needs x86-64-v2 (POPCNT, SSE4.1). The library needs no system: of the C
+ *   library it calls memory functions, and cargo's build also abort.
  * - Octets. They come after the tag and the length, which no function removes. A complete 06 09 2A 86 .. is no error:
  *   it is read as 0.6.9.42...
  *
