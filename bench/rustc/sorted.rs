@@ -108,9 +108,9 @@ fn in_crate(row: &str) -> fn(&ObjectIdentifierRef, &SortedDatabase) -> usize {
         "subtree" => |key, sorted| sorted.subtree(key).len(),
         "check" => |_, sorted| usize::from(SortedDatabase::try_new(sorted.entries()).is_none()),
         _ => |_, sorted| {
-            let mut oids = scattered(sorted.entries());
-            oids.sort_by_key(|entry| ByArcs(entry.0));
-            sum(oids.iter().map(|entry| entry.0.as_bytes()))
+            let mut oids: Vec<_> = scattered(sorted.entries()).iter().map(|entry| entry.0).collect();
+            oids.sort_by_key(|oid| ByArcs(*oid));
+            sum(oids.iter().map(|oid| oid.as_bytes()))
         },
     }
 }
