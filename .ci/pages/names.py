@@ -1,6 +1,5 @@
 """Names in backticks, outside of blocks, and links:
 
-- CALLING, "Where the definitions are": `FILE`: `NAME`, `NAME`. The names are defined in specs/FILE.antt of const_oid.
 - CALLING, "Lemmas": the names before a colon are public lemmas of proofs/Identifiers.antt.
 - Every page: `NAME`, `NAME` of `specs/FILE.antt` are defined there. MODULE::NAME is in that module of const_oid. Any
   other name with `_`, `::` or a capital inside is a word of a source, comments aside. Exempt is "What was cut" of
@@ -11,7 +10,6 @@ from pages.page import CALLING, LIBRARY, PAGES, SPAN, TOP, defined_in, fault, pr
 
 NAME = re.compile(r"[A-Za-z_]\w*(?:::\w+)*")
 OF_FILE = r"(?P<names>(?:`\w+`(?:,\s|\sand\s)?)+)\sof\s`specs/(?P<file>\w+)\.antt`"
-FILE_OF = r"`(?P<file>\w+)`:(?P<names>(?:\s`\w+`,?)+)"
 LEMMAS = r"^- (?P<names>[^:]*):"
 SOURCES = ["crates/*/[sp]*/**/*.rt", "crates/*/[sp]*/**/*.antt", "crates/*/include/*.h", "rust/*/src/**/*.rs"]
 SOURCES += ["python/src/const_oid/*.py"]
@@ -41,7 +39,6 @@ def is_in_source(name, words):
 
 
 def faults():
-    yield from undefined(CALLING, section_of(CALLING, "Where the definitions are"), FILE_OF)
     yield from undefined(CALLING, section_of(CALLING, "Lemmas"), LEMMAS)
     words = words_of(*(path for pattern in SOURCES for path in TOP.glob(pattern)))
     for page in PAGES:

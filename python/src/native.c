@@ -424,7 +424,7 @@ It is an immutable sequence of its arcs (collections.abc.Sequence).\n\
 >>> len(oid), oid[1], oid[-2:], list(oid), 999 in oid\n\
 (3, 999, (999, 3), [2, 999, 3], True)\n\
 \n\
-It is immutable and hashable, and ordered by its arcs, as in SNMP (RFC 3416). No tuple or text equals it.\n\
+It is hashable, and ordered by its arcs, as in SNMP. No tuple or text equals it.\n\
 \n\
 >>> sorted(map(ObjectIdentifier, [\"1.10\", \"1.2.3\", \"1.2\"]))\n\
 [ObjectIdentifier('1.2'), ObjectIdentifier('1.2.3'), ObjectIdentifier('1.10')]\n\

@@ -16,7 +16,7 @@
  * - Overlap. An output must not overlap an input, whatever the lengths. gcc -Wall (-Wrestrict) warns about some calls
  *   that break this.
  * - Lengths. A length is that of its array, which has at most 2^63 - 1 bytes, or 2^30 - 1 if size_t has 32 bits. Texts
- *   are not null-terminated: no function looks for a zero byte or writes one.
+ *   have a length and no zero byte at the end: print one with `%.*s`.
  * - Threads. Every function is thread-safe. While a call runs, no other thread may write its inputs or touch its
  *   output.
  * - Machines. The tests run on Linux, with glibc on x86-64 and i686, and with musl on x86-64. The proofs are for 64
@@ -202,8 +202,8 @@ CONST_OID_NODISCARD const_oid_status const_oid_push_arc(
     const uint8_t *octets, size_t len, uint32_t arc, uint8_t *CONST_OID_RESTRICT out,
     size_t out_len);
 
-/* Whether an identifier begins with all arcs of a prefix. Both may have any length. If the octets are invalid, returns
- * their code, or else, if the prefix is invalid, its code. */
+/* Whether an identifier begins with all arcs of a prefix. Both may have any length. Returns the code of the octets if
+ * they are invalid, or else that of the prefix. */
 CONST_OID_NODISCARD const_oid_status const_oid_starts_with(
     const uint8_t *octets, size_t len, const uint8_t *prefix, size_t prefix_len);
 

@@ -3,7 +3,7 @@
 #include <stdlib.h>
 #include <string.h>
 
-/* Prints the text of an error. A byte of the input may stand in it, so what is no printable ASCII is replaced. */
+/* Prints the text of an error. A byte of the input may stand in it: bytes that are not printable ASCII are replaced. */
 static void print_error(const_oid_status error) {
     char text[CONST_OID_MAX_ERROR_TEXT];
     size_t len = const_oid_error_text(error.code, error.detail, text, sizeof text).len;

@@ -63,8 +63,8 @@ macro_rules! borrowed {
 borrowed! {
     AsRef::as_ref
 
-    /// For a `HashMap`. In a `BTreeMap` of owned keys, a lookup by a borrowed identifier compiles, and may miss its key,
-    /// since [`Ord`] of the two differs, against the rule of [`Borrow`].
+    /// For a `HashMap`. In a `BTreeMap`, use [`ByArcs`](crate::ByArcs): the orders of the two forms differ, against the
+    /// rule of [`Borrow`].
     Borrow::borrow
 }
 

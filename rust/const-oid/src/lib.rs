@@ -3,11 +3,11 @@
 //! # Which type, and which order
 //!
 //! - [`ObjectIdentifier`] holds its octets: 39 at most, or up to 255 as `ObjectIdentifier<N>`. It is `Copy`, and may be a
-//!   constant. Its order is by the number of octets, and then by octets.
+//!   constant. A shorter encoding comes first; equally long ones are compared by octets.
 //! - [`ObjectIdentifierRef`] borrows octets of any length. In its order the descendants of an identifier are adjacent:
 //!   [`subtree`](ObjectIdentifierRef::subtree) finds them in a sorted list.
-//! - [`ByArcs`] is a key over either, in the order of arcs, as is [`cmp_arcs`](ObjectIdentifier::cmp_arcs). In it, too,
-//!   descendants are adjacent, and a comparison takes longer.
+//! - [`ByArcs`] is a key over either, in the order of arcs, as is [`cmp_arcs`](ObjectIdentifier::cmp_arcs). There, too,
+//!   descendants are adjacent. A comparison takes longer.
 //!
 //! [`Error`] says why an input was rejected. [`Arcs`] gives the arcs, each an [`Arc`].
 //!
