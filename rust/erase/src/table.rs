@@ -112,6 +112,7 @@ pub const CRATES: &[Crate] = &[
             "links*": "Oid" => "ObjectIdentifier", "as above";
             "digits": "pub(crate) fn utf8" => "#[allow(unsafe_code)]\npub(crate) fn utf8",
                 "bytes that are UTF-8 become a text without a check: the crate denies other unsafe code";
+            "text": "out[at..at + MAX_ARC_LEN]" => "out[at..][..MAX_ARC_LEN]", "the same part in fewer instructions";
             "parts": "use core::simd::prelude::*; use core::simd::u8x32;" => "", LANES;
             "parts": "let lanes = u8x32::from_slice(octets).simd_lt(u8x32::splat(128));
                         lanes.to_bitmask().count_ones() as usize"

@@ -66,5 +66,5 @@ pub(crate) fn write_checked(octets: &[u8], out: &mut [u8]) -> Result<usize> {
 #[inline(always)]
 fn write_later(arc: Arc, out: &mut [u8], at: usize) -> usize {
     // The length of this part is a literal, so rustc checks no index in it.
-    at + write_arc(arc, false, &mut out[at..at + MAX_ARC_LEN], 0)
+    at + write_arc(arc, false, &mut out[at..][..MAX_ARC_LEN], 0)
 }
