@@ -1,7 +1,7 @@
 //! The arcs of both forms: `len` and `arc`.
 
 use crate::vectors::long_octets;
-use const_oid::{Arc, Error, ObjectIdentifier, ObjectIdentifierRef};
+use const_oid::{Arc, Error, ObjectIdentifierRef, Oid};
 use std::alloc::{AllocError, Global};
 
 /// How octets begin, how many times other octets follow, how they end; how many arcs they have, an index, and the
@@ -54,9 +54,9 @@ fn of_borrowed(octets: &[u8], index: usize) -> Result<(usize, Option<Arc>, Optio
     Ok((oid.len(), oid.arc(index), oid.arc(oid.len())))
 }
 
-/// The same of owned octets.
+/// The same of owned octets, at most 39.
 fn of_owned(octets: &[u8], index: usize) -> Result<(usize, Option<Arc>, Option<Arc>), Error> {
-    let oid = ObjectIdentifier::<255>::from_bytes_sized(octets)?;
+    let oid = Oid::from_bytes(octets)?;
     Ok((oid.len(), oid.arc(index), oid.arc(oid.len())))
 }
 
@@ -66,7 +66,7 @@ fn has_arcs(alloc: Global, row: &Row) -> Result<bool, AllocError> {
     let wanted = Ok((row.4, row.6, None));
     Ok(
         of_borrowed(octets.as_slice(), row.5) == wanted
-            && of_owned(octets.as_slice(), row.5) == wanted,
+            && (octets.len() > 39 || of_owned(octets.as_slice(), row.5) == wanted),
     )
 }
 

@@ -173,7 +173,7 @@ const BY_ARCS: &[(&str, &str, Ordering)] = &[
     ("1.3.6.1.2097152", "1.3.6.1.16384", Ordering::Greater),
     ("1.3.6.1.255.9", "1.3.6.1.256", Ordering::Less),
     ("1.3.6.1", "1.3.6.1", Ordering::Equal),
-    ("1.2.128", "1.2.1", Ordering::Greater),
+    ("1.2.1", "1.2.128", Ordering::Less),
 ];
 
 /// Whether the arcs of two texts compare so: in both forms, either way, and owned ones of two capacities; and whether
@@ -188,7 +188,8 @@ fn compare_arcs(left: &str, right: &str, order: Ordering) -> Result<bool, Error>
             && a.cmp_arcs(&b) == order
             && b.cmp_arcs(&a) == order.reverse()
             && a.arcs().cmp(b.arcs()) == order
-            && a.eq_oid(&right) == order.is_eq(),
+            && a.eq_oid(&right) == order.is_eq()
+            && b.eq_oid(&left) == order.is_eq(),
     )
 }
 
