@@ -134,6 +134,14 @@ pub const CRATES: &[Crate] = &[
                         }"
                 => "", EQUALITY;
             "oid": "pub fn try_from_ref" => "pub(crate) fn try_from_ref", "public as `TryFrom`";
+            "oid": "ObjectIdentifierRef::from_checked(self.as_bytes())"
+                => "// SAFETY: the checker proves it of each buffer.
+                    #[allow(unsafe_code)]
+                    unsafe { core::hint::assert_unchecked(self.ber.len() <= MAX_SIZE) };
+                    ObjectIdentifierRef::from_checked(self.as_bytes())",
+                "so a caller that compares or prints does not test the length";
+            "oid": "self.as_oid_ref().parent()?" => "ObjectIdentifierRef::from_checked(self.as_bytes()).parent()?",
+                "here the test takes fewer instructions than a length that is in range";
             "oid": "Err(_) => unreachable!(\"not the text of an object identifier\")"
                 => "Err(error) => panic!(\"{}\", crate::conversions::panic_text(error))",
                 "outside of constants, Rust does not check the text before the program runs";

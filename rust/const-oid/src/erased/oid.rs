@@ -276,6 +276,11 @@ impl<const MAX_SIZE: usize> ObjectIdentifier<MAX_SIZE> {
     /// ```
     #[must_use]
     pub const fn as_oid_ref(&self) -> &ObjectIdentifierRef {
+        // SAFETY: the checker proves it of each buffer.
+        #[allow(unsafe_code)]
+        unsafe {
+            core::hint::assert_unchecked(self.ber.len() <= MAX_SIZE)
+        };
         ObjectIdentifierRef::from_checked(self.as_bytes())
     }
 
@@ -379,7 +384,7 @@ impl<const MAX_SIZE: usize> ObjectIdentifier<MAX_SIZE> {
     /// ```
     #[must_use]
     pub fn parent(&self) -> Option<Self> {
-        let parent = self.as_oid_ref().parent()?;
+        let parent = ObjectIdentifierRef::from_checked(self.as_bytes()).parent()?;
         let ber = Buffer::copied(parent.as_bytes());
         Some(ObjectIdentifier { ber })
     }
