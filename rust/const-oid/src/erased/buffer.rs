@@ -88,8 +88,23 @@ impl<const SIZE: usize> Buffer<SIZE> {
         self.used as usize
     }
 
-    /// Whether the octets in use are equal, the last first. This is for constants: there a slice costs the compiler.
+    /// Whether the octets in use are equal. This is for constants: there a slice costs the compiler.
     pub(crate) const fn is_same(&self, other: &Self) -> bool {
+        if other.used == 0 {
+            return self.used == 0;
+        }
+        // Most entries of a table differ in this octet, and the length would be foretold wrongly for many: so a lookup that
+        // reads all entries takes less than half the time.
+        let last = other.used as usize - 1;
+        if self.bytes[last] != other.bytes[last] {
+            return false;
+        }
+        self.has_octets(other)
+    }
+
+    /// Whether the octets in use are equal, the last first.
+    #[inline(always)]
+    const fn has_octets(&self, other: &Self) -> bool {
         if self.used != other.used {
             return false;
         }
