@@ -200,7 +200,7 @@ impl<'a> ObjectIdentifierRef<'a> {
         if self.ber.len() > out.len() / 4 {
             text_len(self.arcs(), out.len())?;
         }
-        Some(write_text(self.arcs(), out))
+        Some(write_text(self.ber, out))
     }
 
     /// Writes the text as [`encode_text`](Self::encode_text) does, and borrows it as a `str`.

@@ -1,5 +1,5 @@
 //! Arcs as text: their decimals joined by dots.
-ghost use Rattle.std.specs.Prelude.{◌≡◌, ◌+◌, ◌*◌, ◌<◌, ◌≤◌, ◌++◌, length, take, drop, false, MatchOption, IfOk};
+ghost use Rattle.std.specs.Prelude.{◌≡◌, ◌+◌, ◌*◌, ◌<◌, ◌≤◌, ◌++◌, length, take, drop, false, None, MatchOption, IfOk};
 ghost use Rattle.std.specs.Result.{result_err};
 ghost use Rattle.const_oid.specs.Contents.{cut, parts_fault, arcs_of_octets};
 ghost use Rattle.const_oid.specs.Identifier.{root_rule};
@@ -8,7 +8,7 @@ ghost use Rattle.const_oid.specs.Private.Text.{arc_text};
 
 use crate::Arc;
 use crate::arcs::Arcs;
-use crate::base128::{checked_group, group_fault};
+use crate::base128::{checked_group, group_fault, read_group};
 use crate::digits::{MAX_ARC_LEN, arc_len, write_arc};
 use crate::error::{Error, Result};
 use crate::root::{MAX_FIRST, split_root};
@@ -33,21 +33,29 @@ pub(crate) fn text_len(arcs: Arcs<'_>, limit: usize) -> Option<usize>
     Some(limit - left)
 }
 
-/// Writes the arcs' text at the start, and returns its length.
-#[tactic(auto, using(crate::proofs::Sets::texts_left))]
+/// Writes the text of the arcs of valid octets at the start, and returns its length.
+// Over `Arcs` it takes a sixth to a fourth more time.
 #[inline]
-pub(crate) fn write_text(arcs: Arcs<'_>, out: &mut [u8]) -> usize
-    requires { length (text_of arcs) ≤ length out.old }
-    ensures len { result ≡ length (text_of arcs.entry) }
-    ensures written { out.new ≡ text_of arcs.entry ++ drop result out.old }
+pub(crate) fn write_text(octets: &[u8], out: &mut [u8]) -> usize
+    requires valid { parts_fault root_rule (cut octets.now) ≡ None }
+    requires room { length (text_of (arcs_of_octets octets.now)) ≤ length out.old }
+    ensures len { result ≡ length (text_of (arcs_of_octets octets.now)) }
+    ensures written { out.new ≡ text_of (arcs_of_octets octets.now) ++ drop result out.old }
 {
-    let mut at = 0;
-    let mut is_first = true;
-    for arc in arcs {
-        at = write_arc(arc, is_first, out, at);
-        is_first = false;
+    let (root, mut rest) = read_group(octets);
+    let (first, mut arc) = split_root(root);
+    out[0] = b'0' + first as u8;
+    let mut at = 1;
+    // An arc is written at one place, which takes the most code.
+    loop {
+        at = write_arc(arc, false, out, at);
+        if rest.is_empty() {
+            return at;
+        }
+        let (number, after) = read_group(rest);
+        arc = number as Arc;
+        rest = after;
     }
-    at
 }
 
 /// Checks octets and writes the text of their arcs at the start, in one pass, or returns their fault. There is room for

@@ -168,7 +168,7 @@ impl ObjectIdentifierRef {
         if self.as_bytes().len() > out.len() / 4 {
             text_len(self.arcs(), out.len())?;
         }
-        Some(write_text(self.arcs(), out))
+        Some(write_text(self.as_bytes(), out))
     }
 
     /// Writes the text as [`encode_text`](Self::encode_text) does, and borrows it as a `str`.

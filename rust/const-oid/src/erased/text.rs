@@ -4,7 +4,7 @@
 
 use crate::erased::Arc;
 use crate::erased::arcs::Arcs;
-use crate::erased::base128::{checked_group, group_fault};
+use crate::erased::base128::{checked_group, group_fault, read_group};
 use crate::erased::digits::{MAX_ARC_LEN, arc_len, write_arc};
 use crate::erased::error::{Error, Result};
 use crate::erased::root::{MAX_FIRST, split_root};
@@ -25,16 +25,24 @@ pub(crate) fn text_len(arcs: Arcs<'_>, limit: usize) -> Option<usize> {
     Some(limit - left)
 }
 
-/// Writes the arcs' text at the start, and returns its length.
+/// Writes the text of the arcs of valid octets at the start, and returns its length.
+// Over `Arcs` it takes a sixth to a fourth more time.
 #[inline]
-pub(crate) fn write_text(arcs: Arcs<'_>, out: &mut [u8]) -> usize {
-    let mut at = 0;
-    let mut is_first = true;
-    for arc in arcs {
-        at = write_arc(arc, is_first, out, at);
-        is_first = false;
+pub(crate) fn write_text(octets: &[u8], out: &mut [u8]) -> usize {
+    let (root, mut rest) = read_group(octets);
+    let (first, mut arc) = split_root(root);
+    out[0] = b'0' + first as u8;
+    let mut at = 1;
+    // An arc is written at one place, which takes the most code.
+    loop {
+        at = write_arc(arc, false, out, at);
+        if rest.is_empty() {
+            return at;
+        }
+        let (number, after) = read_group(rest);
+        arc = number as Arc;
+        rest = after;
     }
-    at
 }
 
 /// Checks octets and writes the text of their arcs at the start, in one pass, or returns their fault. There is room for
