@@ -82,6 +82,10 @@ none_after : (arcs first x : List ℕ) → is_before arcs first ≡ false → is
     → pointwise nat_eq first arcs ≡ false → pointwise nat_eq x arcs ≡ false
 none_after arcs first x late level other = grind (arith, texts_ties, nat_list_cmp_total)
 
+none_earlier : (arcs last x : List ℕ) → is_before last arcs ≡ false → is_before x last ≡ false
+    → pointwise nat_eq last arcs ≡ false → pointwise nat_eq x arcs ≡ false
+none_earlier arcs last x late level other = grind (arith, texts_ties, nat_list_cmp_total)
+
 -- encodings are equal exactly where their arcs are
 has_same : (a b x y : List ℕ) → IsEncoding root_rule x a → IsEncoding root_rule y b
     → pointwise nat_eq a b ≡ pointwise nat_eq x y
@@ -151,6 +155,19 @@ module _ {Item : Type 0} (octets_of : Item → List ℕ) (oid : ObjectIdentifier
         let past = cut.1 i default (omega arith) (omega arith) in
         none_after (ref_arcs oid) _ _ past (far i k default late inside) (other (omega arith) default))
         (cases_lt k i))
+
+  -- an item with the arcs is the first one if the item before it is another one
+  pub first_at : (i : ℕ) → i < length items → HoldsAt (λ item. has_item_arcs octets_of (ref_arcs oid) item ≡ true) items i
+      → (0 < i → (default : Item) → has_item_arcs octets_of (ref_arcs oid) (get_or items (i - 1) default) ≡ false)
+      → Some i ≡ position (has_item_arcs octets_of (ref_arcs oid)) items
+  first_at i l at other =
+      let far = sorted_far _ (ranks_by nat_list_cmp_total (item_arcs octets_of)) items list.sorted in
+      position_is _ items i l
+      (λ k default zero early.
+      let is : item_arcs octets_of (get_or items i default) ≡ ref_arcs oid = same_text _ _ (sym (at default)) in
+      let late = rw is at (far (i - 1) i default (omega arith) l) in
+      none_earlier (ref_arcs oid) _ _ late (far k (i - 1) default (omega arith) (omega arith)) (other (omega arith) default))
+      at
 
   pub range_is : (from count : ℕ) → IsCut (key_before (item_arcs octets_of) (ref_arcs oid)) items from
       → IsCut (key_under (item_arcs octets_of) (ref_arcs oid)) (drop from items) count → (k : ℕ)

@@ -3,7 +3,7 @@
 //! No search checks the list. Over a list that is not sorted, or with an item that is not valid, the result is
 //! unspecified, but within the list.
 
-ghost use Rattle.std.specs.Prelude.{◌≡◌, ◌<◌, ◌≤◌, ◌↔◌, ℕ, List, [], length, nat_eq, true, false, count_by, slice_get, All, IfErr, IfNone, IfOk, IfSome, MatchResult, None, Some};
+ghost use Rattle.std.specs.Prelude.{◌≡◌, ◌<◌, ◌≤◌, ◌↔◌, ℕ, List, [], length, nat_eq, true, false, count_by, slice_get, All, IfErr, IfNone, IfOk, IfSome, IsTrue, MatchResult, None, Some};
 ghost use Rattle.std.specs.Cmp.Lexicographic.{pointwise, slice_cmp};
 ghost use Rattle.std.specs.List.{position};
 ghost use Rattle.std.specs.List.Sorted.{IsPartitionPoint};
@@ -79,6 +79,38 @@ fn find<T: Contents>(items: &[T], oid: &ObjectIdentifierRef<'_>) -> result::Resu
     }
 }
 
+/// As `find`, with one index that is tested first.
+fn find_near<T: Contents>(
+    items: &[T],
+    oid: &ObjectIdentifierRef<'_>,
+    at: usize,
+) -> result::Result<usize, usize>
+    ensures found { IsSortedList T.octets_of items.now
+        → IfOk result (λ index. Some index ≡ position (has_item_arcs T.octets_of (ref_arcs oid.now)) items.now) }
+    ensures absent { IsSortedList T.octets_of items.now
+        → IfErr result (λ index. (None ≡ position (has_item_arcs T.octets_of (ref_arcs oid.now)) items.now)
+        × IsPartitionPoint (λ item. is_lt (slice_cmp nat_cmp (item_arcs T.octets_of item) (ref_arcs oid.now)) ≡ true)
+        (λ item. is_lt (slice_cmp nat_cmp (item_arcs T.octets_of item) (ref_arcs oid.now)) ≡ false) items.now index) }
+    ensures within { MatchResult result (λ index. index < length items.now) (λ index. index ≤ length items.now) }
+{
+    if at < items.len() && is_first_at(items, oid, at) {
+        return Ok(at);
+    }
+    find(items, oid)
+}
+
+/// Whether the item at an index has the octets of an identifier, and the one before it has not.
+fn is_first_at<T: Contents>(items: &[T], oid: &ObjectIdentifierRef<'_>, at: usize) -> bool
+    requires { at < length items.now }
+    ensures { IsSortedList T.octets_of items.now → IsTrue result
+        → Some at ≡ position (has_item_arcs T.octets_of (ref_arcs oid.now)) items.now }
+{
+    if !has_octets(&items[at], oid) {
+        return false;
+    }
+    at == 0 || !has_octets(&items[at - 1], oid)
+}
+
 /// Whether an item has the octets of an identifier.
 fn has_octets<T: Contents>(item: &T, oid: &ObjectIdentifierRef<'_>) -> bool
     ensures { result ≡ pointwise nat_eq (T.octets_of item.now) (ref_octets oid.now) }
@@ -111,14 +143,17 @@ pub fn nearest_of<T: Contents>(items: &[T], oid: &ObjectIdentifierRef<'_>) -> Op
     ensures within { IfSome result (λ index. index < length items.now) }
 {
     let mut above = *oid;
+    let mut at = items.len();
     loop {
-        let index = match find(items, &above) {
+        let index = match find_near(items, &above, at) {
             Ok(index) => return Some(index),
             Err(index) => index,
         };
-        // An item that it begins with comes before it, so the last item before it begins with that one, too.
+        // An item that it begins with comes before it, so the last item before it begins with that one, too. Often it is
+        // that one, which saves a second search.
         let before = items[..index].last()?.contents();
         above = common_prefix(above.parent()?, before)?;
+        at = index - 1;
     }
 }
 

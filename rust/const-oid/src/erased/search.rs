@@ -44,6 +44,22 @@ fn find<T: Contents>(items: &[T], oid: &ObjectIdentifierRef) -> result::Result<u
     if index < items.len() && has_octets(&items[index], oid) { Ok(index) } else { Err(index) }
 }
 
+/// As `find`, with one index that is tested first.
+fn find_near<T: Contents>(items: &[T], oid: &ObjectIdentifierRef, at: usize) -> result::Result<usize, usize> {
+    if at < items.len() && is_first_at(items, oid, at) {
+        return Ok(at);
+    }
+    find(items, oid)
+}
+
+/// Whether the item at an index has the octets of an identifier, and the one before it has not.
+fn is_first_at<T: Contents>(items: &[T], oid: &ObjectIdentifierRef, at: usize) -> bool {
+    if !has_octets(&items[at], oid) {
+        return false;
+    }
+    at == 0 || !has_octets(&items[at - 1], oid)
+}
+
 /// Whether an item has the octets of an identifier.
 fn has_octets<T: Contents>(item: &T, oid: &ObjectIdentifierRef) -> bool {
     are_equal(item.contents(), oid.as_bytes())
@@ -63,14 +79,17 @@ pub fn subtree_of<T: Contents>(items: &[T], oid: &ObjectIdentifierRef) -> (usize
 #[must_use]
 pub fn nearest_of<T: Contents>(items: &[T], oid: &ObjectIdentifierRef) -> Option<usize> {
     let mut above = oid;
+    let mut at = items.len();
     loop {
-        let index = match find(items, &above) {
+        let index = match find_near(items, &above, at) {
             Ok(index) => return Some(index),
             Err(index) => index,
         };
-        // An item that it begins with comes before it, so the last item before it begins with that one, too.
+        // An item that it begins with comes before it, so the last item before it begins with that one, too. Often it is
+        // that one, which saves a second search.
         let before = items[..index].last()?.contents();
         above = common_prefix(above.parent()?, before)?;
+        at = index - 1;
     }
 }
 
