@@ -28,6 +28,7 @@ pub mod Parents
 pub mod Prefixes
 pub mod Printed
 pub mod Subtree
+pub mod Runs
 pub mod Linked
 pub mod SortedLists
 pub mod SortedNames

@@ -22,6 +22,7 @@ use crate::error::{Error, Result};
 use crate::parser::{parse_long, parse_to};
 use crate::parts::{count_parts, without_last_part};
 use crate::root::split_root;
+use crate::search::run_of;
 use crate::text::{text_len, write_checked, write_text};
 use crate::valid::check;
 use std::cmp::Ordering;
@@ -459,7 +460,7 @@ impl<'a> ObjectIdentifierRef<'a> {
             BeginsWith (ref_arcs oid) (ref_arcs self.now) ↔ ((result.0 ≤ k) × (k < result.1))) }
     {
         let from = sorted.partition_point(|oid| order(oid.as_bytes(), self.ber).is_lt());
-        let inside = sorted[from..].partition_point(|oid| oid.as_bytes().starts_with(self.ber));
+        let inside = run_of(&sorted[from..], |oid| oid.as_bytes().starts_with(self.ber));
         (from, from + inside)
     }
 

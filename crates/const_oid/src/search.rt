@@ -3,10 +3,11 @@
 //! No search checks the list. Over a list that is not sorted, or with an item that is not valid, the result is
 //! unspecified, but within the list.
 
-ghost use Rattle.std.specs.Prelude.{◌≡◌, ◌<◌, ◌≤◌, ◌↔◌, ℕ, List, [], length, nat_eq, true, false, count_by, slice_get, All, IfErr, IfNone, IfOk, IfSome, IsTrue, MatchResult, None, Some};
+ghost use Rattle.std.specs.Prelude.{◌≡◌, ◌<◌, ◌≤◌, ◌↔◌, ℕ, Bool, List, [], length, nat_eq, true, false, count_by, slice_get, All, IfErr, IfNone, IfOk, IfSome, IsTrue, MatchResult, None, Some};
 ghost use Rattle.std.specs.Cmp.Lexicographic.{pointwise, slice_cmp};
+ghost use Rattle.std.specs.Fn.{ComputesKey};
 ghost use Rattle.std.specs.List.{position};
-ghost use Rattle.std.specs.List.Sorted.{IsPartitionPoint};
+ghost use Rattle.std.specs.List.Sorted.{IsPartitionPoint, IsPartitionedBy};
 ghost use Rattle.std.specs.Ordering.{nat_cmp, is_lt};
 ghost use Rattle.const_oid.specs.Names.{IsNearestBy};
 ghost use Rattle.const_oid.specs.OidRef.{ref_arcs, ref_octets};
@@ -128,8 +129,31 @@ pub fn subtree_of<T: Contents>(items: &[T], oid: &ObjectIdentifierRef<'_>) -> (u
         BeginsWith (item_arcs T.octets_of item) (ref_arcs oid.now) ↔ ((result.0 ≤ k) × (k < result.1))) }
 {
     let from = start_of(items, oid);
-    let inside = items[from..].partition_point(|item| begins_with(item.contents(), oid.as_bytes()));
+    let inside = run_of(
+        &items[from..],
+        |item| begins_with(item.contents(), oid.as_bytes()),
+    );
     (from, from + inside)
+}
+
+/// How many of the first items pass a test that no item passes after one that fails it.
+///
+/// A run of n items takes at most 4/3 log2(n) + 7 tests, however many items follow.
+pub(crate) fn run_of<T, P: FnMut(&T) -> bool>(items: &[T], mut test: P) -> usize
+    requires { P.IsAlwaysCallable test }
+    ensures within { result ≤ length items.now }
+    ensures cut { (p : T → Bool) → ComputesKey P.FnMut p test → IsPartitionedBy p items.now
+        → IsPartitionPoint (λ item. p item ≡ true) (λ item. p item ≡ false) items.now result }
+{
+    let mut start = 0;
+    let mut place = 0;
+    // Most runs are short: an empty one takes one test, a single item takes two, and up to nine items take seven.
+    while place < items.len() && test(&items[place]) {
+        start = place + 1;
+        place = place.saturating_mul(8).saturating_add(1);
+    }
+    let end = place.min(items.len());
+    start + items[start..end].partition_point(test)
 }
 
 /// The index of the item with the longest prefix of an identifier, which may be all of it, or `None` if the list has no

@@ -1,10 +1,14 @@
-//! Searches in a sorted array of items: `start_of`, `end_of`, `first_of`, `subtree_of` and `nearest_of`. The order of any
-//! octets: `order_by_parts`.
+//! Searches in a sorted array of items: `start_of`, `end_of`, `first_of`, `subtree_of` and `nearest_of`. Subtrees of each
+//! size: `subtree` of `ObjectIdentifierRef` and of `SortedDatabase`. The order of any octets: `order_by_parts`.
 
+use crate::vectors::read_borrowed;
+use const_oid::db::SortedDatabase;
 use const_oid::search::{
     Contents, end_of, first_of, nearest_of, order_by_parts, start_of, subtree_of,
 };
 use const_oid::{Error, ObjectIdentifierRef, Oid};
+use const_oid_uses::subtree::range_of;
+use std::alloc::{AllocError, Global};
 use std::test::Fail;
 
 /// An item with contents octets.
@@ -165,6 +169,89 @@ fn finds_the_nearest_of_a_long_identifier(rt: HostRuntime) -> Result<(), Fail> {
     let oid = ObjectIdentifierRef::from_bytes(&octets)?;
     assert!(rt; nearest_of(&[Item(&before)], &oid).is_none());
     assert!(rt; nearest_of(&[Item(&[1, 1]), Item(&before)], &oid) == Some(0));
+    Ok(())
+}
+
+/// How many children each of 1.2.0, 1.2.1 and so on has: some more and some fewer than a search passes over in a step.
+const SIZES: &[u16] = &[
+    0, 1, 2, 7, 8, 9, 10, 63, 64, 65, 72, 73, 74, 511, 512, 513, 584, 585, 586,
+];
+
+/// The octets of those children in ascending order. Each last arc has two octets, so that both orders are the same.
+fn children(alloc: Global) -> Result<Vec<[u8; 4]>, AllocError> {
+    let mut octets = Vec::new(alloc);
+    for (parent, size) in SIZES.iter().enumerate() {
+        for child in 0..*size {
+            let high = 0x81 + (child / 128 % 8) as u8;
+            octets.push([0x2A, (parent % 128) as u8, high, (child % 128) as u8])?;
+        }
+    }
+    Ok(octets)
+}
+
+/// How many identifiers come before one, and how many begin with it.
+fn counts(oids: &[ObjectIdentifierRef<'_>], oid: &ObjectIdentifierRef<'_>) -> (usize, usize) {
+    let before = oids.iter().filter(|other| **other < *oid).count();
+    let inside = oids.iter().filter(|other| other.starts_with(oid)).count();
+    (before, inside)
+}
+
+/// Whether both forms of a list have the subtree of an identifier that a count finds.
+fn is_counted(
+    oids: &[ObjectIdentifierRef<'_>],
+    oid: &ObjectIdentifierRef<'_>,
+    alloc: Global,
+) -> Result<bool, AllocError> {
+    let (before, inside) = counts(oids, oid);
+    let mut entries = Vec::new(alloc);
+    for other in oids {
+        entries.push((*other, ""))?;
+    }
+    let Some(names) = SortedDatabase::try_new(&entries) else {
+        return Ok(false);
+    };
+    let found = names.subtree(oid);
+    let is_found = found.len() == inside && found.iter().all(|entry| entry.0.starts_with(oid));
+    Ok(is_found && range_of(oids, oid) == Some((before, before.saturating_add(inside))))
+}
+
+/// Whether an identifier has the subtree that a count finds, in a list and in the parts that begin or end at it.
+fn is_counted_in_parts(
+    oids: &[ObjectIdentifierRef<'_>],
+    oid: &ObjectIdentifierRef<'_>,
+    alloc: Global,
+) -> Result<bool, AllocError> {
+    let (before, inside) = counts(oids, oid);
+    let end = before.saturating_add(inside);
+    for (from, to) in [
+        (0, oids.len()),
+        (0, end),
+        (before, oids.len()),
+        (before, end),
+    ] {
+        let Some(part) = oids.get(from..to) else {
+            return Ok(false);
+        };
+        if !is_counted(part, oid, alloc)? {
+            return Ok(false);
+        }
+    }
+    Ok(true)
+}
+
+#[test]
+fn finds_subtrees_of_each_size(rt: HostRuntime) -> Result<(), Fail> {
+    let octets = children(rt.alloc())?;
+    let mut oids = Vec::new(rt.alloc());
+    for child in &octets {
+        oids.push(read_borrowed(child)?)?;
+    }
+    for (parent, size) in SIZES.iter().enumerate() {
+        let octets = [0x2A, (parent % 128) as u8];
+        let oid = read_borrowed(&octets)?;
+        assert!(rt; counts(&oids, &oid).1 == *size as usize, "{parent}");
+        assert!(rt; is_counted_in_parts(&oids, &oid, rt.alloc())?, "{parent}");
+    }
     Ok(())
 }
 

@@ -12,6 +12,7 @@ use crate::erased::error::{Error, Result};
 use crate::erased::parser::{parse_long, parse_to};
 use crate::erased::parts::{count_parts, without_last_part};
 use crate::erased::root::split_root;
+use crate::erased::search::run_of;
 use crate::erased::text::{text_len, write_checked, write_text};
 use crate::erased::valid::check;
 use core::cmp::Ordering;
@@ -378,7 +379,7 @@ impl ObjectIdentifierRef {
     #[must_use]
     pub fn subtree(&self, sorted: &[&ObjectIdentifierRef]) -> (usize, usize) {
         let from = sorted.partition_point(|oid| order(oid.as_bytes(), self.as_bytes()).is_lt());
-        let inside = sorted[from..].partition_point(|oid| oid.as_bytes().starts_with(self.as_bytes()));
+        let inside = run_of(&sorted[from..], |oid| oid.as_bytes().starts_with(self.as_bytes()));
         (from, from + inside)
     }
 

@@ -70,8 +70,23 @@ fn has_octets<T: Contents>(item: &T, oid: &ObjectIdentifierRef) -> bool {
 #[must_use]
 pub fn subtree_of<T: Contents>(items: &[T], oid: &ObjectIdentifierRef) -> (usize, usize) {
     let from = start_of(items, oid);
-    let inside = items[from..].partition_point(|item| begins_with(item.contents(), oid.as_bytes()));
+    let inside = run_of(&items[from..], |item| begins_with(item.contents(), oid.as_bytes()));
     (from, from + inside)
+}
+
+/// How many of the first items pass a test that no item passes after one that fails it.
+///
+/// A run of n items takes at most 4/3 log2(n) + 7 tests, however many items follow.
+pub(crate) fn run_of<T, P: FnMut(&T) -> bool>(items: &[T], mut test: P) -> usize {
+    let mut start = 0;
+    let mut place = 0;
+    // Most runs are short: an empty one takes one test, a single item takes two, and up to nine items take seven.
+    while place < items.len() && test(&items[place]) {
+        start = place + 1;
+        place = place.saturating_mul(8).saturating_add(1);
+    }
+    let end = place.min(items.len());
+    start + items[start..end].partition_point(test)
 }
 
 /// The index of the item with the longest prefix of an identifier, which may be all of it, or `None` if the list has no
