@@ -73,7 +73,7 @@ widths_arcs [] small = omega arith
 widths_arcs (arc ∷ arcs) small =
     omega (arith, sum_by-cons width arc arcs, width_arc arc small.0, widths_arcs arcs small.1)
 
-size_arcs : (arcs : List ℕ) → AllByRecursion (λ arc. arc ≤ max_arc) arcs → size arcs ≤ 5 * length arcs
+pub size_arcs : (arcs : List ℕ) → AllByRecursion (λ arc. arc ≤ max_arc) arcs → size arcs ≤ 5 * length arcs
 size_arcs [] small = omega arith
 size_arcs (arc ∷ []) small = omega arith
 size_arcs (first ∷ second ∷ later) small =
@@ -154,6 +154,8 @@ size_pieces (piece ∷ []) = omega arith
 size_pieces (first ∷ second ∷ later) =
     omega (arith, size-cons (number_of first) (number_of second) (map number_of later), root_pieces first second, widths_pieces later)
 
+pub size_text : (text : List ℕ) → size (map number_of (pieces_of text)) ≤ length text
+size_text text = omega (arith, size_pieces (pieces_of text), bytes_of-pieces text)
+
 pub bytes_enough : (rule : RootRule) (text : List ℕ) (capacity : ℕ) → length text ≤ capacity → text_answer rule text capacity ≢ Err Length
-bytes_enough rule text capacity room =
-    size_enough_text rule capacity text (omega (arith, size_pieces (pieces_of text), bytes_of-pieces text))
+bytes_enough rule text capacity room = size_enough_text rule capacity text (omega (arith, size_text text))

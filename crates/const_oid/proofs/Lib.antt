@@ -16,6 +16,7 @@ pub mod Decimals
 pub mod Texts
 pub mod Ascii
 pub mod Enough
+pub mod Capacities
 pub mod PartsFault
 pub mod PartEnds
 pub mod Octets

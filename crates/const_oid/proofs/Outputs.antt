@@ -106,6 +106,21 @@ returned (Ok len) is room =
     record { answer = sym end.answer; encoding = end.encoding; rest = (omega (arith, is.within), end.rest) }
 returned (Err fault) is room = record { answer = sym is; encoding = tt; rest = tt }
 
+-- the octets of a slice that has the capacity, copied to the start of another one
+pub copied : {capacity room len : ℕ} {read answer : Result (List ℕ) Error} {old new out longer : List ℕ}
+    → IsEncodedIn capacity read old new len → capacity ≤ length old → capacity ≤ room → read ≡ answer
+    → longer ≡ take len new ++ drop (length (take len new)) out → IsEncodedIn room answer out longer len
+copied {len} {old} {new} {out} is within less same copy =
+    let front : take len new ≡ is.octets = rw (is.long, is.begins within) (take-append_seam is.octets (drop (length is.octets) old)) in
+    record {
+      octets = is.octets;
+      encoding = is.encoding;
+      answer = sym same ∙ is.answer;
+      long = is.long;
+      within = omega (arith, is.within);
+      begins = λ room. rw front at copy;
+    }
+
 pub counted : (capacity : ℕ) (read : Result (List ℕ) Error) (old new : List ℕ) (result : Result ℕ Error)
     → MatchResult result (λ len. IsEncodedIn capacity read old new len) (λ fault. read ≡ Err fault)
     → result ≡ size_answer read

@@ -181,7 +181,7 @@ impl<const SIZE: usize> Buffer<SIZE> {
 
 /// Copies octets to the start of as many or more. The loop makes it a constant function in Rust.
 #[inline(always)]
-const fn copy_to(octets: &[u8], out: &mut [u8])
+pub(crate) const fn copy_to(octets: &[u8], out: &mut [u8])
     requires { length octets.now ≤ length out.old }
     ensures { out.new ≡ octets.now ++ drop (length octets.now) out.old }
 {

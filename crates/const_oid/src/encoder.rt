@@ -1,6 +1,6 @@
 //! Arcs, one after another, to octets.
 
-ghost use Rattle.std.specs.Prelude.{◌≡◌, min, Err, MatchResult};
+ghost use Rattle.std.specs.Prelude.{◌≡◌, ◌≤◌, length, min, Err, IfErr, MatchResult};
 ghost use Rattle.const_oid.specs.Identifier.{root_rule};
 ghost use Rattle.const_oid.specs.Items.{item_answer, TakesItems};
 ghost use Rattle.std.specs.Iterator.{IsFiniteIterable};
@@ -9,7 +9,7 @@ ghost use Rattle.const_oid.specs.Private.Octets.{IsEncodedIn};
 
 use crate::Arc;
 use crate::base128::append_group;
-use crate::buffer::Buffer;
+use crate::buffer::{Buffer, copy_to};
 use crate::error::{Error, Result};
 use crate::root::{check_first, join_root};
 
@@ -42,6 +42,27 @@ pub(crate) fn encode_long(arcs: &[Arc], out: &mut [u8], capacity: usize) -> Resu
         MatchResult result (λ len. IsEncodedIn capacity answer out.old out.new len) (λ fault. answer ≡ Err fault) }
 {
     encode_to(arcs.iter().copied(), out, capacity)
+}
+
+/// The most arcs that are encoded on the stack.
+pub(crate) const SHORT_ARCS: usize = 12;
+
+/// The most octets that they take, five for each.
+const SHORT_OCTETS: usize = 5 * SHORT_ARCS;
+
+/// Writes the encoding of a few arcs to the start of a slice, if it fits, and returns its length. On an error the slice is
+/// unchanged.
+// One pass in place of two for a few arcs: the octets are made on the stack.
+pub(crate) fn encode_short(arcs: &[Arc], out: &mut [u8]) -> Result<usize>
+    requires { length arcs.now ≤ 12 }
+    ensures answer { let capacity = length out.old in let answer = item_answer root_rule arcs.now capacity in
+        MatchResult result (λ len. IsEncodedIn capacity answer out.old out.new len) (λ fault. answer ≡ Err fault) }
+    ensures kept { IfErr result (λ _. out.new ≡ out.old) }
+{
+    let mut octets = [0; SHORT_OCTETS];
+    let len = encode_long(arcs, &mut octets, out.len().min(SHORT_OCTETS))?;
+    copy_to(&octets[..len], out);
+    Ok(len)
 }
 
 /// Writes the encoding of the arcs that an iterator gives to the start of a slice, if it fits a capacity, and returns its

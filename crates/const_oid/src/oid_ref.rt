@@ -17,9 +17,9 @@ use crate::arcs::{Arcs, arc_at};
 use crate::base128::read_group;
 use crate::compare::{are_equal, begins_with, order, order_by_parts};
 use crate::digits::{MAX_ARC_LEN, utf8, write_arc};
-use crate::encoder::encode_long;
+use crate::encoder::{SHORT_ARCS, encode_long, encode_short};
 use crate::error::{Error, Result};
-use crate::parser::{parse_long, parse_to};
+use crate::parser::{SHORT_TEXT, parse_long, parse_short, parse_to};
 use crate::parts::{count_parts, without_last_part};
 use crate::root::split_root;
 use crate::search::run_of;
@@ -269,6 +269,9 @@ impl<'a> ObjectIdentifierRef<'a> {
         ensures kept { IfErr result (λ _. out.new ≡ out.old) }
         ensures enough { length text.now ≤ length out.old → result ≢ Err Error.Length }
     {
+        if text.len() <= SHORT_TEXT {
+            return parse_short(text, out);
+        }
         let capacity = out.len();
         // The octets are counted first, so that on an error none is written.
         parse_long(text, &mut [], capacity)?;
@@ -302,6 +305,9 @@ impl<'a> ObjectIdentifierRef<'a> {
         ensures kept { IfErr result (λ _. out.new ≡ out.old) }
         ensures enough { 5 * length arcs.now ≤ length out.old → result ≢ Err Error.Length }
     {
+        if arcs.len() <= SHORT_ARCS {
+            return encode_short(arcs, out);
+        }
         let capacity = out.len();
         encode_long(arcs, &mut [], capacity)?;
         encode_long(arcs, out, capacity)

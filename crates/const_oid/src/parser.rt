@@ -3,7 +3,7 @@
 //! A text is read component by component; in names, one is a `piece`. If one is wrong, only an index is returned, and a
 //! function that is rarely called makes the error of it. So a valid text costs fewer instructions.
 
-ghost use Rattle.std.specs.Prelude.{◌≡◌, ◌≤◌, ℕ, drop, length, min, Err, MatchResult};
+ghost use Rattle.std.specs.Prelude.{◌≡◌, ◌≤◌, ℕ, drop, length, min, Err, IfErr, MatchResult};
 ghost use Rattle.const_oid.specs.Private.Encoder.{buffer_answer, HasEncoding};
 ghost use Rattle.const_oid.specs.Private.Octets.{IsEncodedIn};
 ghost use Rattle.const_oid.specs.Private.Parser.{or_trailing, stop_fault, HasFault, IsPiece, IsRoot};
@@ -12,7 +12,7 @@ ghost use Rattle.const_oid.specs.Text.{text_answer};
 
 use crate::Arc;
 use crate::base128::append_group;
-use crate::buffer::Buffer;
+use crate::buffer::{Buffer, copy_to};
 use crate::error::{Error, Result};
 use crate::root::{check_first, join_root};
 use std::result;
@@ -40,6 +40,24 @@ pub(crate) fn parse_long(text: &[u8], out: &mut [u8], capacity: usize) -> Result
         MatchResult result (λ len. IsEncodedIn capacity answer out.old out.new len) (λ fault. answer ≡ Err fault) }
 {
     parse_to(text, out, capacity)
+}
+
+/// The most bytes of a text that is parsed on the stack, and the most octets that it takes.
+pub(crate) const SHORT_TEXT: usize = 64;
+
+/// Writes the encoding of the identifier that a short text denotes to the start of a slice, if it fits, and returns its
+/// length. On an error the slice is unchanged.
+// One pass in place of two for short texts: the octets are made on the stack.
+pub(crate) fn parse_short(text: &[u8], out: &mut [u8]) -> Result<usize>
+    requires { length text.now ≤ 64 }
+    ensures answer { let capacity = length out.old in let answer = text_answer root_rule text.now capacity in
+        MatchResult result (λ len. IsEncodedIn capacity answer out.old out.new len) (λ fault. answer ≡ Err fault) }
+    ensures kept { IfErr result (λ _. out.new ≡ out.old) }
+{
+    let mut octets = [0; SHORT_TEXT];
+    let len = parse_long(text, &mut octets, out.len().min(SHORT_TEXT))?;
+    copy_to(&octets[..len], out);
+    Ok(len)
 }
 
 /// Writes the encoding of the identifier that a text denotes to the start of a slice, if it fits a capacity, and returns

@@ -19,6 +19,13 @@ const SMALL: Repeated = Repeated {
     arcs: (&[1, 2], 1),
 };
 
+/// 1.10.1.1.., whose text has a byte more.
+const TEN: Repeated = Repeated {
+    text: ("1.10", ".1"),
+    octets: (&[0x32], &[0x01]),
+    arcs: (&[1, 10], 1),
+};
+
 /// 2.4294967295.4294967295.., with five octets for each arc after the first.
 const LARGE: Repeated = Repeated {
     text: ("2.4294967295", ".4294967295"),
@@ -153,6 +160,43 @@ fn octets_fit_or_leave_the_output(rt: HostRuntime) -> Result<(), AllocError> {
     Ok(())
 }
 
+/// Identifiers whose text has 62 to 66 bytes, and then those of 11 to 13 arcs: how many times the rest follows, and how
+/// many octets there are.
+const SHORT_OR_LONG: &[(Repeated, usize, usize)] = &[
+    (TEN, 29, 30),
+    (SMALL, 30, 31),
+    (TEN, 30, 31),
+    (SMALL, 31, 32),
+    (TEN, 31, 32),
+    (SMALL, 9, 10),
+    (SMALL, 10, 11),
+    (SMALL, 11, 12),
+    (LARGE, 9, 50),
+    (LARGE, 10, 55),
+    (LARGE, 11, 60),
+];
+
+/// Whether the text and the arcs of an identifier have its octets, so many, in outputs of some lengths where they fit.
+fn fits_or_not(alloc: Global, oid: Repeated, count: usize, len: usize) -> Result<bool, AllocError> {
+    for room in [0, len.saturating_sub(1), len, 63, 64, 65, 200] {
+        if !is_length(alloc, oid, count, room, len <= room)? {
+            return Ok(false);
+        }
+    }
+    Ok(true)
+}
+
+#[test]
+fn short_ones_are_as_long_ones(rt: HostRuntime) -> Result<(), AllocError> {
+    for (oid, count, len) in SHORT_OR_LONG {
+        assert!(rt;
+            fits_or_not(rt.alloc(), *oid, *count, *len)?,
+            "{count} times, {len} octets"
+        );
+    }
+    Ok(())
+}
+
 /// How many octets an output has, how a text begins, how many times `.1` follows, how it ends, and the error: before
 /// and after the place where the output ends.
 const WRONG_TEXTS: &[(usize, &str, usize, &str, Error)] = &[
@@ -167,6 +211,17 @@ const WRONG_TEXTS: &[(usize, &str, usize, &str, Error)] = &[
     (0, "1.40", 255, "", Error::ArcInvalid { arc: 40 }),
     (300, "3", 255, "", Error::ArcInvalid { arc: 3 }),
     (300, "1", 0, "", Error::Empty),
+    // Texts of 64 bytes.
+    (29, "1.10", 29, ".x", Error::Length),
+    (30, "1.10", 29, ".x", Error::DigitExpected { actual: b'x' }),
+    (63, "1.10", 29, ".x", Error::DigitExpected { actual: b'x' }),
+    (200, "1.10", 29, ".x", Error::DigitExpected { actual: b'x' }),
+    (29, "1.2", 30, ".", Error::Length),
+    (64, "1.2", 30, ".", Error::TrailingDot),
+    // Of 65.
+    (30, "1.2", 30, ".x", Error::Length),
+    (31, "1.2", 30, ".x", Error::DigitExpected { actual: b'x' }),
+    (200, "1.2", 30, ".x", Error::DigitExpected { actual: b'x' }),
 ];
 
 /// How many octets an output has, the first arcs, how many times 1 follows, and the error.
@@ -175,6 +230,8 @@ const WRONG_ARCS: &[(usize, &[Arc], usize, Error)] = &[
     (300, &[3], 255, Error::ArcInvalid { arc: 3 }),
     (300, &[1], 0, Error::Empty),
     (0, &[], 0, Error::Empty),
+    (200, &[1, 40], 10, Error::ArcInvalid { arc: 40 }),
+    (10, &[1, 39], 10, Error::Length),
 ];
 
 #[test]

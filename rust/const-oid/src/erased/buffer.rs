@@ -137,7 +137,7 @@ impl<const SIZE: usize> Buffer<SIZE> {
 
 /// Copies octets to the start of as many or more. The loop makes it a constant function in Rust.
 #[inline(always)]
-const fn copy_to(octets: &[u8], out: &mut [u8]) {
+pub(crate) const fn copy_to(octets: &[u8], out: &mut [u8]) {
     let mut index = 0;
     while index < octets.len() && index < out.len() {
         out[index] = octets[index];

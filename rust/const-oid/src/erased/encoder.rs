@@ -4,7 +4,7 @@
 
 use crate::erased::Arc;
 use crate::erased::base128::append_group;
-use crate::erased::buffer::Buffer;
+use crate::erased::buffer::{Buffer, copy_to};
 use crate::erased::error::{Error, Result};
 use crate::erased::root::{check_first, join_root};
 
@@ -22,6 +22,22 @@ pub(crate) fn encode<const SIZE: usize, I: IntoIterator<Item = Arc>>(arcs: I) ->
 #[inline(never)]
 pub(crate) fn encode_long(arcs: &[Arc], out: &mut [u8], capacity: usize) -> Result<usize> {
     encode_to(arcs.iter().copied(), out, capacity)
+}
+
+/// The most arcs that are encoded on the stack.
+pub(crate) const SHORT_ARCS: usize = 12;
+
+/// The most octets that they take, five for each.
+const SHORT_OCTETS: usize = 5 * SHORT_ARCS;
+
+/// Writes the encoding of a few arcs to the start of a slice, if it fits, and returns its length. On an error the slice is
+/// unchanged.
+// One pass in place of two for a few arcs: the octets are made on the stack.
+pub(crate) fn encode_short(arcs: &[Arc], out: &mut [u8]) -> Result<usize> {
+    let mut octets = [0; SHORT_OCTETS];
+    let len = encode_long(arcs, &mut octets, out.len().min(SHORT_OCTETS))?;
+    copy_to(&octets[..len], out);
+    Ok(len)
 }
 
 /// Writes the encoding of the arcs that an iterator gives to the start of a slice, if it fits a capacity, and returns its

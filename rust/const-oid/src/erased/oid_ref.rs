@@ -7,9 +7,9 @@ use crate::erased::arcs::{Arcs, arc_at};
 use crate::erased::base128::read_group;
 use crate::erased::compare::{are_equal, begins_with, order, order_by_parts};
 use crate::erased::digits::{MAX_ARC_LEN, utf8, write_arc};
-use crate::erased::encoder::encode_long;
+use crate::erased::encoder::{SHORT_ARCS, encode_long, encode_short};
 use crate::erased::error::{Error, Result};
-use crate::erased::parser::{parse_long, parse_to};
+use crate::erased::parser::{SHORT_TEXT, parse_long, parse_short, parse_to};
 use crate::erased::parts::{count_parts, without_last_part};
 use crate::erased::root::split_root;
 use crate::erased::search::run_of;
@@ -219,6 +219,9 @@ impl ObjectIdentifierRef {
     /// Those of [`new`](crate::ObjectIdentifier::new), with [`Error::Length`] if the arcs take more octets than `out`
     /// has. It is then unchanged.
     pub(crate) fn bytes_from_ascii(text: &[u8], out: &mut [u8]) -> Result<usize> {
+        if text.len() <= SHORT_TEXT {
+            return parse_short(text, out);
+        }
         let capacity = out.len();
         // The octets are counted first, so that on an error none is written.
         parse_long(text, &mut [], capacity)?;
@@ -243,6 +246,9 @@ impl ObjectIdentifierRef {
     /// Those of [`from_arcs`](crate::ObjectIdentifier::from_arcs), with [`Error::Length`] if the arcs take more octets
     /// than `out` has. It is then unchanged.
     pub(crate) fn bytes_from_arcs(arcs: &[Arc], out: &mut [u8]) -> Result<usize> {
+        if arcs.len() <= SHORT_ARCS {
+            return encode_short(arcs, out);
+        }
         let capacity = out.len();
         encode_long(arcs, &mut [], capacity)?;
         encode_long(arcs, out, capacity)

@@ -7,7 +7,7 @@
 
 use crate::erased::Arc;
 use crate::erased::base128::append_group;
-use crate::erased::buffer::Buffer;
+use crate::erased::buffer::{Buffer, copy_to};
 use crate::erased::error::{Error, Result};
 use crate::erased::root::{check_first, join_root};
 use core::result;
@@ -27,6 +27,19 @@ pub(crate) const fn parse<const SIZE: usize>(text: &[u8]) -> Result<Buffer<SIZE>
 #[inline(never)]
 pub(crate) fn parse_long(text: &[u8], out: &mut [u8], capacity: usize) -> Result<usize> {
     parse_to(text, out, capacity)
+}
+
+/// The most bytes of a text that is parsed on the stack, and the most octets that it takes.
+pub(crate) const SHORT_TEXT: usize = 64;
+
+/// Writes the encoding of the identifier that a short text denotes to the start of a slice, if it fits, and returns its
+/// length. On an error the slice is unchanged.
+// One pass in place of two for short texts: the octets are made on the stack.
+pub(crate) fn parse_short(text: &[u8], out: &mut [u8]) -> Result<usize> {
+    let mut octets = [0; SHORT_TEXT];
+    let len = parse_long(text, &mut octets, out.len().min(SHORT_TEXT))?;
+    copy_to(&octets[..len], out);
+    Ok(len)
 }
 
 /// Writes the encoding of the identifier that a text denotes to the start of a slice, if it fits a capacity, and returns

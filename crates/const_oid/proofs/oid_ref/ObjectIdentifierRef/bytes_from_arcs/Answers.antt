@@ -16,3 +16,8 @@ pub returns-in_err-encode_long-clause-enough : goal.returns-in_err-encode_long-c
 returns-in_err-encode_long-clause-enough c =
     let other = five_enough root_rule c.args.arcs.now (length c.args.out.now) (λ k. omega (arith, c.type_inv.arcs k)) in
     grind (arith, other)
+
+pub returns-then-arcs-le-SHORT_ARCS-clause-enough : goal.returns-then-arcs-le-SHORT_ARCS-clause-enough
+returns-then-arcs-le-SHORT_ARCS-clause-enough c =
+    let other = five_enough root_rule c.args.arcs.now (length c.args.out.now) (λ k. omega (arith, c.type_inv.arcs k)) in
+    grind (arith, other)

@@ -16,3 +16,8 @@ pub returns-in_err-parse_long-clause-enough : goal.returns-in_err-parse_long-cla
 returns-in_err-parse_long-clause-enough c =
     let other = bytes_enough root_rule c.args.text.now (length c.args.out.now) in
     grind (arith, other)
+
+pub returns-then-text-le-SHORT_TEXT-clause-enough : goal.returns-then-text-le-SHORT_TEXT-clause-enough
+returns-then-text-le-SHORT_TEXT-clause-enough c =
+    let other = bytes_enough root_rule c.args.text.now (length c.args.out.now) in
+    grind (arith, other)
