@@ -21,6 +21,7 @@ pub mod PartsFault
 pub mod PartEnds
 pub mod Octets
 pub mod Lanes
+pub mod Ends
 pub mod Leading
 pub mod Started
 pub mod Outputs

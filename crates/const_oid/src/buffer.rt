@@ -1,6 +1,6 @@
 //! Octets in an array. The first ones are in use.
 
-ghost use Rattle.std.specs.Prelude.{◌≡◌, ◌++◌, ◌+◌, ◌-◌, ◌^◌, ◌<◌, ◌≤◌, ◌↔◌, [], length, take, drop, replicate, min, nat_eq, IsTrue, MatchResult};
+ghost use Rattle.std.specs.Prelude.{◌≡◌, ◌++◌, ◌+◌, ◌-◌, ◌*◌, ◌^◌, ◌<◌, ◌≤◌, ◌↔◌, [], length, take, drop, replicate, min, nat_eq, IsTrue, MatchResult};
 ghost use Rattle.std.proofs.Props.{props};
 ghost use Rattle.std.specs.Cmp.Lexicographic.{pointwise};
 ghost use Rattle.const_oid.specs.Base128.{AreOctets, width};
@@ -49,7 +49,7 @@ impl<const SIZE: usize> Buffer<SIZE> {
 
     /// The octets copied, which fit.
     #[inline(always)]
-    pub(crate) const fn copied(octets: &[u8]) -> Self
+    pub(crate) fn copied(octets: &[u8]) -> Self
         requires { length octets.now ≤ min SIZE 255 }
         ensures { buffer_octets result ≡ octets.now }
     {
@@ -57,6 +57,17 @@ impl<const SIZE: usize> Buffer<SIZE> {
         copy_to(octets, &mut buffer.bytes);
         buffer.used = octets.len() as u8;
         buffer
+    }
+
+    /// The first octets in use, so many of them.
+    #[inline(always)]
+    pub(crate) fn truncated(&self, len: usize) -> Self
+        requires { len ≤ length (buffer_octets self.now) }
+        ensures { buffer_octets result ≡ take len (buffer_octets self.now) }
+    {
+        let mut bytes = self.bytes;
+        clear(&mut bytes, len, self.used as usize);
+        Buffer::begun(bytes, len)
     }
 
     /// The first octets of an array, whose others are zero.
@@ -179,9 +190,39 @@ impl<const SIZE: usize> Buffer<SIZE> {
     }
 }
 
-/// Copies octets to the start of as many or more. The loop makes it a constant function in Rust.
+/// Copies octets to the start of as many or more. The usual lengths take two loads and stores, and no call of `memcpy`.
 #[inline(always)]
-pub(crate) const fn copy_to(octets: &[u8], out: &mut [u8])
+pub(crate) fn copy_to(octets: &[u8], out: &mut [u8])
+    requires { length octets.now ≤ length out.old }
+    ensures { out.new ≡ octets.now ++ drop (length octets.now) out.old }
+{
+    match octets.len() {
+        2..=4 => copy_ends::<2>(octets, out),
+        5..=8 => copy_ends::<4>(octets, out),
+        9..=16 => copy_ends::<8>(octets, out),
+        17..=32 => copy_ends::<16>(octets, out),
+        33..=64 => copy_ends::<32>(octets, out),
+        _ => copy_each(octets, out),
+    }
+}
+
+/// Copies the first octets and the last ones, `SIZE` each, which may overlap. So they are all.
+#[inline(always)]
+fn copy_ends<const SIZE: usize>(octets: &[u8], out: &mut [u8])
+    requires enough { SIZE ≤ length octets.now }
+    requires few { length octets.now ≤ 2 * SIZE }
+    requires room { length octets.now ≤ length out.old }
+    ensures { out.new ≡ octets.now ++ drop (length octets.now) out.old }
+{
+    // The length of each part is a constant, so the compiler copies it without a loop or a call.
+    let last = octets.len() - SIZE;
+    out[..SIZE].copy_from_slice(&octets[..SIZE]);
+    out[last..last + SIZE].copy_from_slice(&octets[last..last + SIZE]);
+}
+
+/// Copies octets to the start of as many or more, one by one.
+#[inline(always)]
+fn copy_each(octets: &[u8], out: &mut [u8])
     requires { length octets.now ≤ length out.old }
     ensures { out.new ≡ octets.now ++ drop (length octets.now) out.old }
 {
@@ -189,6 +230,23 @@ pub(crate) const fn copy_to(octets: &[u8], out: &mut [u8])
     while index < octets.len() && index < out.len() {
         out[index] = octets[index];
         index += 1;
+    }
+}
+
+/// Sets the octets from one index to another to zero. Those after them are zero.
+#[inline(always)]
+fn clear(octets: &mut [u8], start: usize, end: usize)
+    requires order { start ≤ end }
+    requires within { end ≤ length octets.old }
+    requires zeros { drop end octets.old ≡ replicate (length octets.old - end) 0 }
+    ensures { octets.new ≡ take start octets.old ++ replicate (length octets.old - start) 0 }
+{
+    // The length of this part is a literal: zeros are stored at once, and zeros after them again. It takes no call of
+    // `memset`.
+    if end - start <= 8 && start + 8 <= octets.len() {
+        octets[start..start + 8].fill(0);
+    } else {
+        octets[start..].fill(0);
     }
 }
 

@@ -467,7 +467,7 @@ impl<const MAX_SIZE: usize> ObjectIdentifier<MAX_SIZE> {
         ensures { option_map oid_arcs result ≡ parent_of (oid_arcs self.now) }
     {
         let parent = self.as_oid_ref().parent()?;
-        let ber = Buffer::copied(parent.as_bytes());
+        let ber = self.ber.truncated(parent.as_bytes().len());
         Some(ObjectIdentifier { ber })
     }
 

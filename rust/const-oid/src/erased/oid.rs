@@ -385,7 +385,7 @@ impl<const MAX_SIZE: usize> ObjectIdentifier<MAX_SIZE> {
     #[must_use]
     pub fn parent(&self) -> Option<Self> {
         let parent = ObjectIdentifierRef::from_checked(self.as_bytes()).parent()?;
-        let ber = Buffer::copied(parent.as_bytes());
+        let ber = self.ber.truncated(parent.as_bytes().len());
         Some(ObjectIdentifier { ber })
     }
 
