@@ -34,6 +34,7 @@ const FOR_C: &str = "the library for C calls it, and the API has no such functio
 const BY_CORE: &str = "`core` compares slices by `memcmp`, which takes less time, and callers inline the call";
 const BOUNDS: &str = "a bound at no cost, where Rattle keeps the default of the trait";
 const LISTED: &str = "a caller by hand lists the entries";
+const SMALL: &str = "it takes two hundred octets of flash, for a fifth of the time of `from_bytes`";
 const UNWRITTEN: &str = "in Rust no reference is to memory that C may not have written";
 
 pub const CRATES: &[Crate] = &[
@@ -126,6 +127,21 @@ pub const CRATES: &[Crate] = &[
             "parts": "let lanes = u8x4::from_slice(first).simd_lt(u8x4::splat(128));
                         (lanes.to_bitmask().count_ones() as usize, rest)"
                 => "(first.iter().filter(|octet| **octet < 128).count(), rest)", LANES;
+            "buffer": "match octets.len() {
+                            2..=4 => copy_ends::<2>(octets, out),
+                            5..=8 => copy_ends::<4>(octets, out),
+                            9..=16 => copy_ends::<8>(octets, out),
+                            17..=32 => copy_ends::<16>(octets, out),
+                            33..=64 => copy_ends::<32>(octets, out),
+                            _ => copy_each(octets, out),
+                        }"
+                => "copy_each(octets, out);", SMALL;
+            "buffer": "#[inline(always)] fn copy_ends<const SIZE: usize>(octets: &[u8], out: &mut [u8]) {
+                            let last = octets.len() - SIZE;
+                            out[..SIZE].copy_from_slice(&octets[..SIZE]);
+                            out[last..last + SIZE].copy_from_slice(&octets[last..last + SIZE]);
+                        }"
+                => "", SMALL;
             "buffer": "#[derive(Copy, Clone)] pub struct Buffer"
                 => "#[derive(Copy, Clone, PartialEq, Eq)]\npub struct Buffer", EQUALITY;
             "buffer": "impl<const SIZE: usize> PartialEq for Buffer<SIZE> {
