@@ -151,8 +151,9 @@ fn octets_of_many(alloc: Global, random: &mut Random) -> Result<Vec<u8>, Fail> {
 fn many_octets(alloc: Global, random: &mut Random, digest: &mut Digest) -> Result<(), Fail> {
     let octets = octets_of_many(alloc, random)?;
     let oid = ObjectIdentifierRef::from_bytes(&octets)?;
-    digest.add(oid.len() as u64);
-    digest.add(oid.arc(oid.len() - 1).unwrap_or(0) as u64);
+    let len = oid.len();
+    digest.add(len as u64);
+    digest.add(oid.arc(len - 1).unwrap_or(0) as u64);
     for arc in oid.arcs() {
         digest.add(arc as u64);
     }

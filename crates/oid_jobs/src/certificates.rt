@@ -9,7 +9,7 @@ use const_oid::db::Database;
 use const_oid::{ObjectIdentifierRef, Oid};
 use std::alloc::Global;
 
-/// How many identifiers are read in a turn, of which one in 32 is wrong.
+/// How many identifiers are read in a turn. In one of 32 an octet is 128, which makes about half of them wrong.
 const READ: u64 = 80_000;
 
 /// The rows of the table of a turn.

@@ -56,11 +56,4 @@ impl Digest {
             Err(error) => self.add_error(*error),
         }
     }
-
-    pub fn add_index(&mut self, index: Option<usize>) {
-        self.add(match index {
-            Some(index) => index as u64,
-            None => u64::MAX,
-        });
-    }
 }

@@ -1,4 +1,4 @@
-//! Identifiers as certificates, algorithm tables and MIBs have them: 5 to 15 arcs, 6 to 15 octets; and long ones.
+//! Identifiers as certificates, algorithm tables and MIBs have them: 5 to 16 arcs, 6 to 15 octets; and long ones.
 //!
 //! They are made in few instructions and without branches, so that a job's time is that of its calls.
 

@@ -5,7 +5,8 @@ use crate::inputs::{Bytes, input_of, long_arcs};
 use crate::random::Random;
 use const_oid::{Arc, Error, ObjectIdentifierRef, Oid};
 
-/// How many identifiers are loaded in a turn, of which one in sixteen is long, and one text in ten is wrong.
+/// How many identifiers are loaded in a turn. One in sixteen is long. In one text of ten a byte is another one, which makes
+/// about six in a hundred wrong.
 const LOADED: u64 = 100_000;
 
 pub fn run(random: &mut Random, turns: u32, digest: &mut Digest) {

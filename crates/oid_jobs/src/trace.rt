@@ -53,7 +53,7 @@ fn print(octets: &[u8], digest: &mut Digest) -> Result<(), Fail> {
     if let Some(len) = borrowed.encode_text(&mut out) {
         digest.add_bytes(out.get(..len).unwrap_or(&[]));
     }
-    // Some lines have too little room, and some just enough.
+    // The long ones have too little room.
     let mut place = [0; 64];
     digest.add_bytes(owned.encode_str(&mut place).unwrap_or("").as_bytes());
     let mut line = Line {

@@ -13,16 +13,17 @@ pub fn run(random: &mut Random, turns: u32, digest: &mut Digest) {
     let mut octets = Bytes::new();
     for turn in 0..turns as u64 {
         for number in 0..WALKED {
-            octets.put_octets(input_of(turn.wrapping_mul(WALKED).wrapping_add(number), key));
+            let number = turn.wrapping_mul(WALKED).wrapping_add(number);
+            octets.put_octets(input_of(number, key));
             match Oid::from_bytes(octets.as_slice()) {
-                Ok(oid) => walk(&oid, number as Arc, digest),
+                Ok(oid) => walk(&oid, (number % (1 << 32)) as Arc, digest),
                 Err(error) => digest.add_error(error),
             }
         }
     }
 }
 
-/// The arcs of an identifier in both forms, its parent, and siblings of it.
+/// The arcs of an identifier, its parent, a sibling of it by a number that no other one has, and a child of that.
 fn walk(oid: &Oid, number: Arc, digest: &mut Digest) {
     for arc in oid.arcs() {
         digest.add(arc as u64);
@@ -34,13 +35,13 @@ fn walk(oid: &Oid, number: Arc, digest: &mut Digest) {
     }
     add_parent(&borrowed, digest);
     if let Some(parent) = oid.parent() {
-        let sibling = parent.push_arc(number % 1_000 + 3);
+        let sibling = parent.push_arc(number);
         digest.add_oid(&sibling);
         if let Ok(sibling) = sibling {
             let above = u64::from(sibling.starts_with(parent));
             let beside = u64::from(sibling.starts_with(*oid));
             digest.add(above * 2 + beside);
-            digest.add_oid(&sibling.push_arc(number));
+            digest.add_oid(&sibling.push_arc(number % 1_000 + 3));
         }
     }
 }
@@ -48,7 +49,7 @@ fn walk(oid: &Oid, number: Arc, digest: &mut Digest) {
 /// The parent of the borrowed form.
 fn add_parent(oid: &ObjectIdentifierRef<'_>, digest: &mut Digest) {
     if let Some(parent) = oid.parent() {
-        digest.add(parent.len() as u64);
+        digest.add(parent.as_bytes().len() as u64);
         digest.add(u64::from(oid.starts_with(&parent)));
     }
 }
