@@ -8,6 +8,7 @@ ghost use Rattle.const_oid.specs.Private.Octets.{GoesOn};
 
 use crate::base128::append_group;
 use crate::compare::{are_arrays_equal, order};
+use crate::copies::copy_parts;
 use crate::error::{Error, Result};
 use std::cmp::Ordering;
 use std::hash::{Hash, Hasher};
@@ -54,7 +55,7 @@ impl<const SIZE: usize> Buffer<SIZE> {
         ensures { buffer_octets result ≡ octets.now }
     {
         let mut buffer = Buffer::empty();
-        copy_to(octets, &mut buffer.bytes);
+        copy_parts(octets, &mut buffer.bytes);
         buffer.used = octets.len() as u8;
         buffer
     }
@@ -145,8 +146,8 @@ impl<const SIZE: usize> Buffer<SIZE> {
         if other.used == 0 {
             return self.used == 0;
         }
-        // Most entries of a table differ in this octet, and the length would be foretold wrongly for many: so a lookup that
-        // reads all entries takes less than half the time.
+        // Most entries of a table differ in this octet, while the branch by the length would be mispredicted for many: so
+        // a lookup that reads all entries takes less than half the time.
         let last = other.used as usize - 1;
         if self.bytes[last] != other.bytes[last] {
             return false;
@@ -192,40 +193,9 @@ impl<const SIZE: usize> Buffer<SIZE> {
     }
 }
 
-/// Copies octets to the start of as many or more.
+/// Copies octets to the start of as many or more. The loop makes it a constant function in Rust.
 #[inline(always)]
-fn copy_to(octets: &[u8], out: &mut [u8])
-    requires { length octets.now ≤ length out.old }
-    ensures { out.new ≡ octets.now ++ drop (length octets.now) out.old }
-{
-    // The usual lengths take two loads and stores, and no call of `memcpy`: `from_bytes` takes a fifth less time.
-    match octets.len() {
-        2..=4 => copy_ends::<2>(octets, out),
-        5..=8 => copy_ends::<4>(octets, out),
-        9..=16 => copy_ends::<8>(octets, out),
-        17..=32 => copy_ends::<16>(octets, out),
-        33..=64 => copy_ends::<32>(octets, out),
-        _ => copy_each(octets, out),
-    }
-}
-
-#[inline(always)]
-fn copy_ends<const SIZE: usize>(octets: &[u8], out: &mut [u8])
-    requires enough { SIZE ≤ length octets.now }
-    requires few { length octets.now ≤ 2 * SIZE }
-    requires room { length octets.now ≤ length out.old }
-    ensures { out.new ≡ octets.now ++ drop (length octets.now) out.old }
-{
-    // The first octets and the last ones may overlap, and are all of them. The length of each part is a constant, so the
-    // compiler copies it without a loop or a call.
-    let last = octets.len() - SIZE;
-    out[..SIZE].copy_from_slice(&octets[..SIZE]);
-    out[last..last + SIZE].copy_from_slice(&octets[last..last + SIZE]);
-}
-
-/// Copies octets to the start of as many or more, one by one.
-#[inline(always)]
-pub(crate) fn copy_each(octets: &[u8], out: &mut [u8])
+pub(crate) const fn copy_to(octets: &[u8], out: &mut [u8])
     requires { length octets.now ≤ length out.old }
     ensures { out.new ≡ octets.now ++ drop (length octets.now) out.old }
 {

@@ -9,7 +9,7 @@ ghost use Rattle.const_oid.specs.Private.Octets.{IsEncodedIn};
 
 use crate::Arc;
 use crate::base128::append_group;
-use crate::buffer::{Buffer, copy_each};
+use crate::buffer::{Buffer, copy_to};
 use crate::error::{Error, Result};
 use crate::root::{check_first, join_root};
 
@@ -61,7 +61,7 @@ pub(crate) fn encode_short(arcs: &[Arc], out: &mut [u8]) -> Result<usize>
 {
     let mut octets = [0; SHORT_OCTETS];
     let len = encode_long(arcs, &mut octets, out.len().min(SHORT_OCTETS))?;
-    copy_each(&octets[..len], out);
+    copy_to(&octets[..len], out);
     Ok(len)
 }
 

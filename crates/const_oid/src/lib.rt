@@ -10,6 +10,9 @@ pub mod buffer;
 // erase: omit
 pub mod by_arcs;
 mod compare;
+// In Rust, these copies would take two hundred octets of flash.
+// erase: omit
+mod copies;
 pub mod db;
 mod db_sorted;
 mod digits;
@@ -26,6 +29,8 @@ mod parts;
 mod root;
 // Its functions are for the other crates: Rust hides them.
 pub mod search;
+mod search_sorted;
+mod steps;
 // erase: omit
 #[cfg(test)]
 mod tests;

@@ -22,7 +22,7 @@ use crate::error::{Error, Result};
 use crate::parser::{SHORT_TEXT, parse_long, parse_short, parse_to};
 use crate::parts::{count_parts, without_last_part};
 use crate::root::split_root;
-use crate::search::run_of;
+use crate::steps::run_of;
 use crate::text::{text_len, write_checked, write_text};
 use crate::valid::check;
 use std::cmp::Ordering;

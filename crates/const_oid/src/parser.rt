@@ -12,7 +12,7 @@ ghost use Rattle.const_oid.specs.Text.{text_answer};
 
 use crate::Arc;
 use crate::base128::append_group;
-use crate::buffer::{Buffer, copy_each};
+use crate::buffer::{Buffer, copy_to};
 use crate::error::{Error, Result};
 use crate::root::{check_first, join_root};
 use std::result;
@@ -56,7 +56,7 @@ pub(crate) fn parse_short(text: &[u8], out: &mut [u8]) -> Result<usize>
 {
     let mut octets = [0; SHORT_TEXT];
     let len = parse_long(text, &mut octets, out.len().min(SHORT_TEXT))?;
-    copy_each(&octets[..len], out);
+    copy_to(&octets[..len], out);
     Ok(len)
 }
 

@@ -3,11 +3,10 @@
 //! No search checks the list. Over a list that is not sorted, or with an item that is not valid, the result is
 //! unspecified, but within the list.
 
-ghost use Rattle.std.specs.Prelude.{◌≡◌, ◌<◌, ◌≤◌, ◌↔◌, ℕ, Bool, List, [], length, nat_eq, true, false, count_by, slice_get, All, IfErr, IfNone, IfOk, IfSome, IsTrue, MatchResult, None, Some};
+ghost use Rattle.std.specs.Prelude.{◌≡◌, ◌<◌, ◌≤◌, ◌↔◌, ℕ, List, [], length, nat_eq, true, false, count_by, slice_get, All, IfErr, IfNone, IfOk, IfSome, MatchResult, None, Some};
 ghost use Rattle.std.specs.Cmp.Lexicographic.{pointwise, slice_cmp};
-ghost use Rattle.std.specs.Fn.{ComputesKey};
 ghost use Rattle.std.specs.List.{position};
-ghost use Rattle.std.specs.List.Sorted.{IsPartitionPoint, IsPartitionedBy};
+ghost use Rattle.std.specs.List.Sorted.{IsPartitionPoint};
 ghost use Rattle.std.specs.Ordering.{nat_cmp, is_lt};
 ghost use Rattle.const_oid.specs.Names.{IsNearestBy};
 ghost use Rattle.const_oid.specs.OidRef.{ref_arcs, ref_octets};
@@ -63,7 +62,10 @@ pub fn first_of<T: Contents>(items: &[T], oid: &ObjectIdentifierRef<'_>) -> Opti
 
 /// The index of the first item with the arcs of an identifier, or `Err` with the index at which the identifier would be
 /// inserted.
-fn find<T: Contents>(items: &[T], oid: &ObjectIdentifierRef<'_>) -> result::Result<usize, usize>
+pub(crate) fn find<T: Contents>(
+    items: &[T],
+    oid: &ObjectIdentifierRef<'_>,
+) -> result::Result<usize, usize>
     ensures found { IsSortedList T.octets_of items.now
         → IfOk result (λ index. Some index ≡ position (has_item_arcs T.octets_of (ref_arcs oid.now)) items.now) }
     ensures absent { IsSortedList T.octets_of items.now
@@ -80,40 +82,8 @@ fn find<T: Contents>(items: &[T], oid: &ObjectIdentifierRef<'_>) -> result::Resu
     }
 }
 
-/// As `find`, with one index that is tested first.
-fn find_near<T: Contents>(
-    items: &[T],
-    oid: &ObjectIdentifierRef<'_>,
-    at: usize,
-) -> result::Result<usize, usize>
-    ensures found { IsSortedList T.octets_of items.now
-        → IfOk result (λ index. Some index ≡ position (has_item_arcs T.octets_of (ref_arcs oid.now)) items.now) }
-    ensures absent { IsSortedList T.octets_of items.now
-        → IfErr result (λ index. (None ≡ position (has_item_arcs T.octets_of (ref_arcs oid.now)) items.now)
-        × IsPartitionPoint (λ item. is_lt (slice_cmp nat_cmp (item_arcs T.octets_of item) (ref_arcs oid.now)) ≡ true)
-        (λ item. is_lt (slice_cmp nat_cmp (item_arcs T.octets_of item) (ref_arcs oid.now)) ≡ false) items.now index) }
-    ensures within { MatchResult result (λ index. index < length items.now) (λ index. index ≤ length items.now) }
-{
-    if at < items.len() && is_first_at(items, oid, at) {
-        return Ok(at);
-    }
-    find(items, oid)
-}
-
-/// Whether the item at an index has the octets of an identifier, and the one before it has not.
-fn is_first_at<T: Contents>(items: &[T], oid: &ObjectIdentifierRef<'_>, at: usize) -> bool
-    requires { at < length items.now }
-    ensures { IsSortedList T.octets_of items.now → IsTrue result
-        → Some at ≡ position (has_item_arcs T.octets_of (ref_arcs oid.now)) items.now }
-{
-    if !has_octets(&items[at], oid) {
-        return false;
-    }
-    at == 0 || !has_octets(&items[at - 1], oid)
-}
-
 /// Whether an item has the octets of an identifier.
-fn has_octets<T: Contents>(item: &T, oid: &ObjectIdentifierRef<'_>) -> bool
+pub(crate) fn has_octets<T: Contents>(item: &T, oid: &ObjectIdentifierRef<'_>) -> bool
     ensures { result ≡ pointwise nat_eq (T.octets_of item.now) (ref_octets oid.now) }
 {
     are_equal(item.contents(), oid.as_bytes())
@@ -129,31 +99,8 @@ pub fn subtree_of<T: Contents>(items: &[T], oid: &ObjectIdentifierRef<'_>) -> (u
         BeginsWith (item_arcs T.octets_of item) (ref_arcs oid.now) ↔ ((result.0 ≤ k) × (k < result.1))) }
 {
     let from = start_of(items, oid);
-    let inside = run_of(
-        &items[from..],
-        |item| begins_with(item.contents(), oid.as_bytes()),
-    );
+    let inside = items[from..].partition_point(|item| begins_with(item.contents(), oid.as_bytes()));
     (from, from + inside)
-}
-
-/// How many of the first items pass a test that no item passes after one that fails it.
-///
-/// A run of n items takes at most 4/3 log2(n) + 7 tests, however many items follow.
-pub(crate) fn run_of<T, P: FnMut(&T) -> bool>(items: &[T], mut test: P) -> usize
-    requires { P.IsAlwaysCallable test }
-    ensures within { result ≤ length items.now }
-    ensures cut { (p : T → Bool) → ComputesKey P.FnMut p test → IsPartitionedBy p items.now
-        → IsPartitionPoint (λ item. p item ≡ true) (λ item. p item ≡ false) items.now result }
-{
-    let mut start = 0;
-    let mut place = 0;
-    // Most runs are short: an empty one takes one test, a single item takes two, and up to nine items take seven.
-    while place < items.len() && test(&items[place]) {
-        start = place + 1;
-        place = place.saturating_mul(8).saturating_add(1);
-    }
-    let end = place.min(items.len());
-    start + items[start..end].partition_point(test)
 }
 
 /// The index of the item with the longest prefix of an identifier, which may be all of it, or `None` if the list has no
@@ -167,22 +114,22 @@ pub fn nearest_of<T: Contents>(items: &[T], oid: &ObjectIdentifierRef<'_>) -> Op
     ensures within { IfSome result (λ index. index < length items.now) }
 {
     let mut above = *oid;
-    let mut at = items.len();
     loop {
-        let index = match find_near(items, &above, at) {
+        let index = match find(items, &above) {
             Ok(index) => return Some(index),
             Err(index) => index,
         };
-        // An item that it begins with comes before it, so the last item before it begins with that one, too. Often it is
-        // that one, which saves a second search.
+        // An item that it begins with comes before it, so the last item before it begins with that one, too.
         let before = items[..index].last()?.contents();
         above = common_prefix(above.parent()?, before)?;
-        at = index - 1;
     }
 }
 
 /// The longest identifier that begins an identifier and other octets, or `None` if there is none.
-fn common_prefix<'a>(oid: ObjectIdentifierRef<'a>, others: &[u8]) -> Option<ObjectIdentifierRef<'a>>
+pub(crate) fn common_prefix<'a>(
+    oid: ObjectIdentifierRef<'a>,
+    others: &[u8],
+) -> Option<ObjectIdentifierRef<'a>>
     ensures some { IfSome result (λ prefix. IsCommonPrefix (ref_octets oid.entry) others.now (ref_octets prefix)) }
     ensures none { IfNone result (IsCommonPrefix (ref_octets oid.entry) others.now []) }
 {

@@ -34,7 +34,7 @@ const FOR_C: &str = "the library for C calls it, and the API has no such functio
 const BY_CORE: &str = "`core` compares slices by `memcmp`, which takes less time, and callers inline the call";
 const BOUNDS: &str = "a bound at no cost, where Rattle keeps the default of the trait";
 const LISTED: &str = "a caller by hand lists the entries";
-const SMALL: &str = "it takes two hundred octets of flash, for a fifth of the time of `from_bytes`";
+const SMALL: &str = "a loop takes two hundred octets of flash less, and `from_bytes` a quarter more time";
 const UNWRITTEN: &str = "in Rust no reference is to memory that C may not have written";
 
 pub const CRATES: &[Crate] = &[
@@ -47,6 +47,7 @@ pub const CRATES: &[Crate] = &[
                 => "#[cfg(feature = \"db\")] pub mod db; #[cfg(feature = \"db\")] mod db_sorted;",
                 "they are of a feature";
             "lib": "pub(crate) mod links;" => "#[cfg(feature = \"db\")] pub(crate) mod links;", "as above";
+            "lib": "mod search_sorted;" => "#[cfg(feature = \"db\")] mod search_sorted;", "as above";
             "oid_ref": "#[derive(Copy, Clone, Eq, Hash)] pub struct ObjectIdentifierRef<'a> { pub ber: &'a [u8], }"
                 => "#[derive(Eq, Hash)]\n#[repr(transparent)]\npub struct ObjectIdentifierRef {\n ber: [u8],\n}", UNSIZED;
             "oid_ref": "pub(crate) const fn from_checked(ber: &'a [u8]) -> Self { ObjectIdentifierRef { ber } }"
@@ -127,21 +128,8 @@ pub const CRATES: &[Crate] = &[
             "parts": "let lanes = u8x4::from_slice(first).simd_lt(u8x4::splat(128));
                         (lanes.to_bitmask().count_ones() as usize, rest)"
                 => "(first.iter().filter(|octet| **octet < 128).count(), rest)", LANES;
-            "buffer": "match octets.len() {
-                            2..=4 => copy_ends::<2>(octets, out),
-                            5..=8 => copy_ends::<4>(octets, out),
-                            9..=16 => copy_ends::<8>(octets, out),
-                            17..=32 => copy_ends::<16>(octets, out),
-                            33..=64 => copy_ends::<32>(octets, out),
-                            _ => copy_each(octets, out),
-                        }"
-                => "copy_each(octets, out);", SMALL;
-            "buffer": "#[inline(always)] fn copy_ends<const SIZE: usize>(octets: &[u8], out: &mut [u8]) {
-                            let last = octets.len() - SIZE;
-                            out[..SIZE].copy_from_slice(&octets[..SIZE]);
-                            out[last..last + SIZE].copy_from_slice(&octets[last..last + SIZE]);
-                        }"
-                => "", SMALL;
+            "buffer": "use crate::erased::copies::copy_parts;" => "", SMALL;
+            "buffer": "copy_parts(octets, &mut buffer.bytes)" => "copy_to(octets, &mut buffer.bytes)", SMALL;
             "buffer": "#[derive(Copy, Clone)] pub struct Buffer"
                 => "#[derive(Copy, Clone, PartialEq, Eq)]\npub struct Buffer", EQUALITY;
             "buffer": "impl<const SIZE: usize> PartialEq for Buffer<SIZE> {

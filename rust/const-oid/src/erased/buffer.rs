@@ -103,8 +103,8 @@ impl<const SIZE: usize> Buffer<SIZE> {
         if other.used == 0 {
             return self.used == 0;
         }
-        // Most entries of a table differ in this octet, and the length would be foretold wrongly for many: so a lookup that
-        // reads all entries takes less than half the time.
+        // Most entries of a table differ in this octet, while the branch by the length would be mispredicted for many: so
+        // a lookup that reads all entries takes less than half the time.
         let last = other.used as usize - 1;
         if self.bytes[last] != other.bytes[last] {
             return false;
@@ -145,16 +145,9 @@ impl<const SIZE: usize> Buffer<SIZE> {
     }
 }
 
-/// Copies octets to the start of as many or more.
+/// Copies octets to the start of as many or more. The loop makes it a constant function in Rust.
 #[inline(always)]
-fn copy_to(octets: &[u8], out: &mut [u8]) {
-    // The usual lengths take two loads and stores, and no call of `memcpy`: `from_bytes` takes a fifth less time.
-    copy_each(octets, out);
-}
-
-/// Copies octets to the start of as many or more, one by one.
-#[inline(always)]
-pub(crate) fn copy_each(octets: &[u8], out: &mut [u8]) {
+pub(crate) const fn copy_to(octets: &[u8], out: &mut [u8]) {
     let mut index = 0;
     while index < octets.len() && index < out.len() {
         out[index] = octets[index];

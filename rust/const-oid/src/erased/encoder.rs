@@ -4,7 +4,7 @@
 
 use crate::erased::Arc;
 use crate::erased::base128::append_group;
-use crate::erased::buffer::{Buffer, copy_each};
+use crate::erased::buffer::{Buffer, copy_to};
 use crate::erased::error::{Error, Result};
 use crate::erased::root::{check_first, join_root};
 
@@ -36,7 +36,7 @@ const SHORT_OCTETS: usize = 5 * SHORT_ARCS;
 pub(crate) fn encode_short(arcs: &[Arc], out: &mut [u8]) -> Result<usize> {
     let mut octets = [0; SHORT_OCTETS];
     let len = encode_long(arcs, &mut octets, out.len().min(SHORT_OCTETS))?;
-    copy_each(&octets[..len], out);
+    copy_to(&octets[..len], out);
     Ok(len)
 }
 

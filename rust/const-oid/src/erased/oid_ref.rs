@@ -12,7 +12,7 @@ use crate::erased::error::{Error, Result};
 use crate::erased::parser::{SHORT_TEXT, parse_long, parse_short, parse_to};
 use crate::erased::parts::{count_parts, without_last_part};
 use crate::erased::root::split_root;
-use crate::erased::search::run_of;
+use crate::erased::steps::run_of;
 use crate::erased::text::{text_len, write_checked, write_text};
 use crate::erased::valid::check;
 use core::cmp::Ordering;

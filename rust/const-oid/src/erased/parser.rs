@@ -7,7 +7,7 @@
 
 use crate::erased::Arc;
 use crate::erased::base128::append_group;
-use crate::erased::buffer::{Buffer, copy_each};
+use crate::erased::buffer::{Buffer, copy_to};
 use crate::erased::error::{Error, Result};
 use crate::erased::root::{check_first, join_root};
 use core::result;
@@ -38,7 +38,7 @@ pub(crate) const SHORT_TEXT: usize = 64;
 pub(crate) fn parse_short(text: &[u8], out: &mut [u8]) -> Result<usize> {
     let mut octets = [0; SHORT_TEXT];
     let len = parse_long(text, &mut octets, out.len().min(SHORT_TEXT))?;
-    copy_each(&octets[..len], out);
+    copy_to(&octets[..len], out);
     Ok(len)
 }
 

@@ -39,29 +39,13 @@ pub fn first_of<T: Contents>(items: &[T], oid: &ObjectIdentifierRef) -> Option<u
 
 /// The index of the first item with the arcs of an identifier, or `Err` with the index at which the identifier would be
 /// inserted.
-fn find<T: Contents>(items: &[T], oid: &ObjectIdentifierRef) -> result::Result<usize, usize> {
+pub(crate) fn find<T: Contents>(items: &[T], oid: &ObjectIdentifierRef) -> result::Result<usize, usize> {
     let index = start_of(items, oid);
     if index < items.len() && has_octets(&items[index], oid) { Ok(index) } else { Err(index) }
 }
 
-/// As `find`, with one index that is tested first.
-fn find_near<T: Contents>(items: &[T], oid: &ObjectIdentifierRef, at: usize) -> result::Result<usize, usize> {
-    if at < items.len() && is_first_at(items, oid, at) {
-        return Ok(at);
-    }
-    find(items, oid)
-}
-
-/// Whether the item at an index has the octets of an identifier, and the one before it has not.
-fn is_first_at<T: Contents>(items: &[T], oid: &ObjectIdentifierRef, at: usize) -> bool {
-    if !has_octets(&items[at], oid) {
-        return false;
-    }
-    at == 0 || !has_octets(&items[at - 1], oid)
-}
-
 /// Whether an item has the octets of an identifier.
-fn has_octets<T: Contents>(item: &T, oid: &ObjectIdentifierRef) -> bool {
+pub(crate) fn has_octets<T: Contents>(item: &T, oid: &ObjectIdentifierRef) -> bool {
     are_equal(item.contents(), oid.as_bytes())
 }
 
@@ -70,23 +54,8 @@ fn has_octets<T: Contents>(item: &T, oid: &ObjectIdentifierRef) -> bool {
 #[must_use]
 pub fn subtree_of<T: Contents>(items: &[T], oid: &ObjectIdentifierRef) -> (usize, usize) {
     let from = start_of(items, oid);
-    let inside = run_of(&items[from..], |item| begins_with(item.contents(), oid.as_bytes()));
+    let inside = items[from..].partition_point(|item| begins_with(item.contents(), oid.as_bytes()));
     (from, from + inside)
-}
-
-/// How many of the first items pass a test that no item passes after one that fails it.
-///
-/// A run of n items takes at most 4/3 log2(n) + 7 tests, however many items follow.
-pub(crate) fn run_of<T, P: FnMut(&T) -> bool>(items: &[T], mut test: P) -> usize {
-    let mut start = 0;
-    let mut place = 0;
-    // Most runs are short: an empty one takes one test, a single item takes two, and up to nine items take seven.
-    while place < items.len() && test(&items[place]) {
-        start = place + 1;
-        place = place.saturating_mul(8).saturating_add(1);
-    }
-    let end = place.min(items.len());
-    start + items[start..end].partition_point(test)
 }
 
 /// The index of the item with the longest prefix of an identifier, which may be all of it, or `None` if the list has no
@@ -94,22 +63,19 @@ pub(crate) fn run_of<T, P: FnMut(&T) -> bool>(items: &[T], mut test: P) -> usize
 #[must_use]
 pub fn nearest_of<T: Contents>(items: &[T], oid: &ObjectIdentifierRef) -> Option<usize> {
     let mut above = oid;
-    let mut at = items.len();
     loop {
-        let index = match find_near(items, &above, at) {
+        let index = match find(items, &above) {
             Ok(index) => return Some(index),
             Err(index) => index,
         };
-        // An item that it begins with comes before it, so the last item before it begins with that one, too. Often it is
-        // that one, which saves a second search.
+        // An item that it begins with comes before it, so the last item before it begins with that one, too.
         let before = items[..index].last()?.contents();
         above = common_prefix(above.parent()?, before)?;
-        at = index - 1;
     }
 }
 
 /// The longest identifier that begins an identifier and other octets, or `None` if there is none.
-fn common_prefix<'a>(oid: &'a ObjectIdentifierRef, others: &[u8]) -> Option<&'a ObjectIdentifierRef> {
+pub(crate) fn common_prefix<'a>(oid: &'a ObjectIdentifierRef, others: &[u8]) -> Option<&'a ObjectIdentifierRef> {
     let prefix = common_parts(oid.as_bytes(), others);
     if prefix.is_empty() {
         return None;

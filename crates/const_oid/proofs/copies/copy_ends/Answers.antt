@@ -1,7 +1,7 @@
 use Rattle.std.proofs.Common.{◌≡◌, ◌+◌, ◌-◌, arith, length, drop}
 use Rattle.std.proofs.lemmas.{Grind.common_steps}
 use Rattle.const_oid.proofs.Ends.{ends_whole}
-use Rattle.const_oid.proofs.buffer.copy_ends.Goals as goal
+use Rattle.const_oid.proofs.copies.copy_ends.Goals as goal
 
 pub returns : goal.returns
 returns g c =
