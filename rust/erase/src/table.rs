@@ -87,6 +87,7 @@ pub const CRATES: &[Crate] = &[
             "": "ObjectIdentifierRef<'_>" => "&ObjectIdentifierRef", UNSIZED;
             "": "ObjectIdentifierRef<'a>" => "&'a ObjectIdentifierRef", UNSIZED;
             "search": "let mut above = *oid;" => "let mut above = oid;", UNSIZED;
+            "search_sorted": "let mut above = *oid;" => "let mut above = oid;", UNSIZED;
             "arcs": "pub struct Arcs<'a>"
                 => "#[derive(Clone)]\npub struct Arcs<'a>",
                 "in Rattle a copy may fail, so a caller asks for the arcs again";

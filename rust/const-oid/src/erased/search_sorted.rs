@@ -20,7 +20,7 @@ pub(crate) fn subtree_in<T: Contents>(items: &[T], oid: &ObjectIdentifierRef) ->
 /// The index of the item with the longest prefix of an identifier, which may be all of it, or `None` if the list has no
 /// prefix. If several items have it, the first.
 pub(crate) fn nearest_in<T: Contents>(items: &[T], oid: &ObjectIdentifierRef) -> Option<usize> {
-    let mut above = *oid;
+    let mut above = oid;
     let mut at = items.len();
     loop {
         let index = match find_near(items, &above, at) {
