@@ -1,9 +1,9 @@
 -- Octets that are written to a slice, one subidentifier after another, or only counted.
-use Rattle.std.proofs.Common.{◌≡◌, ℕ, ◌+◌, ◌<◌, ◌≤◌, List, [], ◌∷◌, ◌++◌, length, take, drop, refl, sym, ap, ◌∙◌, arith, ⊎_elim}
+use Rattle.std.proofs.Common.{◌≡◌, ℕ, ◌+◌, ◌-◌, ◌<◌, ◌≤◌, List, [], ◌∷◌, ◌++◌, length, take, drop, replicate, refl, sym, ap, ◌∙◌, arith, ⊎_elim}
 use Rattle.std.proofs.Common.{◌*◌, append_assoc, length-append, Some, MatchResult, Result, Ok, Err}
 use Rattle.std.specs.{List.{AllByRecursion, concat}, Prelude.IfOk}
 use Rattle.std.proofs.{Math.Seq.take-append_seam, lemmas.{Bool.cases_lt, Slice.drop-append-drop}}
-use Rattle.std.proofs.lemmas.List.{drop-replicate}
+use Rattle.std.proofs.lemmas.List.{drop-replicate, length-take-le}
 use Rattle.const_oid.specs.Base128.{AreOctets, IsContinued, group_of, width}
 use Rattle.const_oid.specs.{declared.error.Error.Error, declared.error.Error.TheVariants.{Length}}
 use Rattle.const_oid.specs.{Contents.{arcs_of_octets, bytes_answer, size_answer}, Items.arc_fault}
@@ -89,6 +89,14 @@ taken {len} {old} {new} is room =
       answer = rw front is.answer;
       rest = rw begins (drop-append-drop (length is.octets) old is.octets len (omega (arith, is.long)) refl);
     }
+
+-- an array in which no octet is in use is all zeros
+pub unused : {used : ℕ} (size : ℕ) (bytes : List ℕ) → take used bytes ≡ [] → used ≤ length bytes
+    → drop used bytes ≡ replicate (size - used) 0 → bytes ≡ replicate size 0
+unused {used} size bytes none within zeros =
+    let zero : used ≡ 0 = omega (arith, ap length none, length-take-le used bytes) in
+    let all : size - 0 ≡ size = omega arith in
+    rw (zero, all) at zeros
 
 pub ruleset buffered = (taken, drop-replicate)
 

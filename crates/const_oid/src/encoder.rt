@@ -26,10 +26,13 @@ where
         × TakesItems root_rule (min SIZE 255) I.IntoIter.next_gives iterator (buffer_answer result) }
     ensures encoding { HasEncoding result }
 {
-    let mut bytes = [0; SIZE];
+    let mut buffer = Buffer::empty();
     let capacity = if SIZE < 255 { SIZE } else { 255 };
-    match encode_to(arcs, &mut bytes, capacity) {
-        Ok(len) => Ok(Buffer::begun(bytes, len)),
+    match encode_to(arcs, &mut buffer.bytes, capacity) {
+        Ok(len) => {
+            buffer.used = len as u8;
+            Ok(buffer)
+        }
         Err(fault) => Err(fault),
     }
 }

@@ -25,10 +25,13 @@ pub(crate) fn parse<const SIZE: usize>(text: &[u8]) -> Result<Buffer<SIZE>>
     ensures answer { buffer_answer result ≡ text_answer root_rule text.now (min SIZE 255) }
     ensures encoding { HasEncoding result }
 {
-    let mut bytes = [0; SIZE];
+    let mut buffer = Buffer::empty();
     let capacity = if SIZE < 255 { SIZE } else { 255 };
-    match parse_to(text, &mut bytes, capacity) {
-        Ok(len) => Ok(Buffer::begun(bytes, len)),
+    match parse_to(text, &mut buffer.bytes, capacity) {
+        Ok(len) => {
+            buffer.used = len as u8;
+            Ok(buffer)
+        }
         Err(fault) => Err(fault),
     }
 }

@@ -10,10 +10,13 @@ use crate::erased::root::{check_first, join_root};
 
 /// The encoding of the arcs that an iterator gives, in up to `SIZE` octets, and never past 255.
 pub(crate) fn encode<const SIZE: usize, I: IntoIterator<Item = Arc>>(arcs: I) -> Result<Buffer<SIZE>> {
-    let mut bytes = [0; SIZE];
+    let mut buffer = Buffer::empty();
     let capacity = if SIZE < 255 { SIZE } else { 255 };
-    match encode_to(arcs, &mut bytes, capacity) {
-        Ok(len) => Ok(Buffer::begun(bytes, len)),
+    match encode_to(arcs, &mut buffer.bytes, capacity) {
+        Ok(len) => {
+            buffer.used = len as u8;
+            Ok(buffer)
+        }
         Err(fault) => Err(fault),
     }
 }

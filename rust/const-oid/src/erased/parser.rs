@@ -15,10 +15,13 @@ use core::result;
 /// The encoding of the identifier that a text denotes, in up to `SIZE` octets, and never past 255.
 #[inline(always)]
 pub(crate) const fn parse<const SIZE: usize>(text: &[u8]) -> Result<Buffer<SIZE>> {
-    let mut bytes = [0; SIZE];
+    let mut buffer = Buffer::empty();
     let capacity = if SIZE < 255 { SIZE } else { 255 };
-    match parse_to(text, &mut bytes, capacity) {
-        Ok(len) => Ok(Buffer::begun(bytes, len)),
+    match parse_to(text, &mut buffer.bytes, capacity) {
+        Ok(len) => {
+            buffer.used = len as u8;
+            Ok(buffer)
+        }
         Err(fault) => Err(fault),
     }
 }

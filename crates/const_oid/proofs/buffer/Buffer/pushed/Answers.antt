@@ -3,19 +3,21 @@ use Rattle.std.proofs.lemmas.List.{length-take-le}
 use Rattle.const_oid.proofs.{Octets.{zeros_written, octets_written, taken_written}}
 use Rattle.const_oid.proofs.buffer.Buffer.pushed.Goals as goal
 
-pub begun-requires : goal.begun-requires
-begun-requires g c =
+pub invariant_of-buffer : goal.invariant_of-buffer
+invariant_of-buffer g c =
     let old = c.args.self in
     let written = c.in-Ok.ensures.2 (omega arith) in
-    let octets = octets_written old.used _ _ _ (omega arith) c.in-Ok.ensures.0 written old.octets in
-    let zeros = zeros_written old.used _ _ _ (omega arith) c.in-Ok.ensures.0 written _ old.zeros in
-    (search rules, (search rules, (omega (arith, c.in-Ok.ensures.1), (octets, zeros))))
+    record {
+      within = omega (arith, c.in-Ok.ensures.1);
+      octets = octets_written old.used _ _ _ (omega arith) c.in-Ok.ensures.0 written old.octets;
+      zeros = zeros_written old.used _ _ _ (omega arith) c.in-Ok.ensures.0 written _ old.zeros;
+    }
 
 pub returns-in-Ok : goal.returns-in-Ok
 returns-in-Ok g c =
     let old = c.args.self in
     let goes_on = taken_written old.used _ _ _ (omega arith) c.in-Ok.ensures.0 (c.in-Ok.ensures.2 (omega arith)) in
-    (omega (arith, c.in-Ok.ensures.0, c.in-Ok.ensures.1, length-take-le old.used old.bytes), rw c.begun.ensures goes_on)
+    (omega (arith, c.in-Ok.ensures.0, c.in-Ok.ensures.1, length-take-le old.used old.bytes), goes_on)
 
 pub returns-in-Err : goal.returns-in-Err
 returns-in-Err g c =

@@ -1,0 +1,14 @@
+use Rattle.std.proofs.Common.{◌≡◌, min, arith}
+use Rattle.std.proofs.lemmas.List.{drop-replicate}
+use Rattle.const_oid.proofs.Outputs.{taken, unused}
+use Rattle.const_oid.proofs.parser.parse.Goals as goal
+
+pub invariant_of-buffer : goal.invariant_of-buffer
+invariant_of-buffer g c =
+    let end = taken {new = c.parse_to.new.out} c.in-Ok.ensures (omega arith) in
+    let zeros = unused _ _ c.empty-buffer.ensures (omega arith) c.empty-buffer.result.zeros in
+    record {
+      within = omega (arith, c.in-Ok.ensures.within);
+      octets = end.octets;
+      zeros = grind (arith, end.rest, zeros, drop-replicate);
+    }
