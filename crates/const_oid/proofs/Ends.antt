@@ -31,7 +31,7 @@ zeros_after end more reach xs is after =
 -- k zeros from an index on, after which there are zeros
 pub zeros_whole : (start end k : ℕ) (xs zeros : List ℕ) → start ≤ end → end ≤ start + k → start + k ≤ length xs
     → zeros ≡ replicate k 0 → drop end xs ≡ replicate (length xs - end) 0
-    → put_mid start k xs zeros ≡ take start xs ++ replicate (length xs - start) 0
+    → take start xs ++ (zeros ++ drop k (drop start xs)) ≡ take start xs ++ replicate (length xs - start) 0
 zeros_whole start end k xs zeros order near room is_zeros after =
     let left = length xs - (start + k) in
     let all : k + left ≡ length xs - start = omega (arith, room) in

@@ -205,12 +205,16 @@ fn clear(octets: &mut [u8], start: usize, end: usize)
     requires zeros { drop end octets.old ≡ replicate (length octets.old - end) 0 }
     ensures { octets.new ≡ take start octets.old ++ replicate (length octets.old - start) 0 }
 {
-    // The length of this part is a literal: zeros are stored at once, and zeros after them again. It takes no call of
-    // `memset`.
-    if end - start <= 8 && start + 8 <= octets.len() {
-        octets[start..start + 8].fill(0);
-    } else {
-        octets[start..].fill(0);
+    // This always holds. rustc does not know it, and would make panics.
+    if start <= octets.len() {
+        let (_, rest) = octets.split_at_mut(start);
+        // The length of this part is a literal: zeros are stored at once, and zeros after them again. It takes no call
+        // of `memset`.
+        if end - start <= 8 && rest.len() >= 8 {
+            rest[..8].fill(0);
+        } else {
+            rest.fill(0);
+        }
     }
 }
 

@@ -158,12 +158,16 @@ pub(crate) const fn copy_to(octets: &[u8], out: &mut [u8]) {
 /// Sets the octets from one index to another to zero. Those after them are zero.
 #[inline(always)]
 fn clear(octets: &mut [u8], start: usize, end: usize) {
-    // The length of this part is a literal: zeros are stored at once, and zeros after them again. It takes no call of
-    // `memset`.
-    if end - start <= 8 && start + 8 <= octets.len() {
-        octets[start..start + 8].fill(0);
-    } else {
-        octets[start..].fill(0);
+    // This always holds. rustc does not know it, and would make panics.
+    if start <= octets.len() {
+        let (_, rest) = octets.split_at_mut(start);
+        // The length of this part is a literal: zeros are stored at once, and zeros after them again. It takes no call
+        // of `memset`.
+        if end - start <= 8 && rest.len() >= 8 {
+            rest[..8].fill(0);
+        } else {
+            rest.fill(0);
+        }
     }
 }
 
