@@ -1,6 +1,5 @@
-use Rattle.std.proofs.Common.{◌≡◌, min, Ok, arith}
+use Rattle.std.proofs.Common.{◌≡◌, min, arith}
 use Rattle.std.proofs.lemmas.List.{drop-replicate}
-use Rattle.const_oid.specs.{Buffer.buffer_octets, Contents.arcs_of_octets}
 use Rattle.const_oid.proofs.Outputs.{taken, unused}
 use Rattle.const_oid.proofs.encoder.encode.Goals as goal
 

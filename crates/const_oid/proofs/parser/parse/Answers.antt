@@ -1,4 +1,4 @@
-use Rattle.std.proofs.Common.{◌≡◌, min, arith}
+use Rattle.std.proofs.Common.{arith}
 use Rattle.std.proofs.lemmas.List.{drop-replicate}
 use Rattle.const_oid.proofs.Outputs.{taken, unused}
 use Rattle.const_oid.proofs.parser.parse.Goals as goal

@@ -1,4 +1,4 @@
-use Rattle.std.proofs.Common.{arith, rules}
+use Rattle.std.proofs.Common.{arith}
 use Rattle.std.proofs.lemmas.List.{length-take-le}
 use Rattle.const_oid.proofs.{Octets.{zeros_written, octets_written, taken_written}}
 use Rattle.const_oid.proofs.buffer.Buffer.pushed.Goals as goal
