@@ -1,7 +1,7 @@
 //! The jobs that users of `const_oid` wait for, over inputs of many sizes and shapes: what `bench/run` times.
 //!
-//! `oid_jobs JOB SEED TURNS` runs one job, or `all`, and prints a digest of all results. Each seed gives other inputs of the same
-//! kind and size, and no call is made twice with the same input. More turns, up to 100, take more inputs.
+//! `oid_jobs JOB SEED TURNS` runs one job, or `all`, and prints a digest of all results. Each seed gives other inputs of
+//! the same kind and size, and no call is made twice with the same input. More turns, up to 100, take more inputs.
 #![tactic(auto)]
 
 mod awkward;

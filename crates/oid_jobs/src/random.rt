@@ -1,4 +1,4 @@
-//! Numbers that look random: SplitMix64, by Steele, Lea and Flood.
+//! Numbers that look random, by SplitMix64.
 
 #[derive(Drop)]
 pub struct Random {
