@@ -1,7 +1,7 @@
 //! Searches in a sorted array of items: `start_of`, `end_of`, `first_of`, `subtree_of` and `nearest_of`. Subtrees of each
 //! size: `subtree` of `ObjectIdentifierRef` and of `SortedDatabase`. The order of any octets: `order_by_parts`.
 
-use crate::vectors::read_borrowed;
+use crate::vectors::{parse, read_borrowed};
 use const_oid::db::SortedDatabase;
 use const_oid::search::{
     Contents, end_of, first_of, nearest_of, order_by_parts, start_of, subtree_of,
@@ -137,25 +137,59 @@ fn is_found(items: &[Item<'_>], row: &Row) -> Result<bool, Error> {
     )
 }
 
+/// Names of entries, by index.
+const NAMES: [&str; 6] = ["0", "1", "2", "3", "4", "5"];
+
+/// Whether a `SortedDatabase` of the items finds the same.
+fn is_named(alloc: Global, items: &[Item<'_>], row: &Row) -> Result<bool, Fail> {
+    let mut entries = Vec::new(alloc);
+    for (item, name) in items.iter().zip(&NAMES) {
+        entries.push((read_borrowed(item.0)?, *name))?;
+    }
+    let owned = parse(row.0)?;
+    let oid = owned.as_oid_ref();
+    let Some(names) = SortedDatabase::try_new(&entries) else {
+        return Ok(false);
+    };
+    let name_at = |index: usize| NAMES.get(index).copied();
+    let after = if row.2 < items.len() {
+        name_at(row.2)
+    } else {
+        None
+    };
+    Ok(
+        names.next_after(&oid).map(|entry| entry.1) == after
+            && names.by_oid(&oid) == row.3.and_then(name_at)
+            && names.subtree(&oid).len() == row.4.1.saturating_sub(row.4.0)
+            && names.nearest(oid).map(|entry| entry.1) == row.5.and_then(name_at),
+    )
+}
+
 /// The text of the first row that has other results in the items from an index on; no text if there is no such index.
-fn wrong_text(items: &[Item<'_>], first: usize, rows: &[Row]) -> Option<&'static str> {
+fn wrong_text(
+    alloc: Global,
+    items: &[Item<'_>],
+    first: usize,
+    rows: &[Row],
+) -> Result<Option<&'static str>, Fail> {
     let Some(later) = items.get(first..) else {
-        return Some("");
+        return Ok(Some(""));
     };
     for row in rows {
-        if is_found(later, row) != Ok(true) {
-            return Some(row.0);
+        if is_found(later, row) != Ok(true) || !is_named(alloc, later, row)? {
+            return Ok(Some(row.0));
         }
     }
-    None
+    Ok(None)
 }
 
 #[test]
-fn finds_each_row(rt: HostRuntime) {
+fn finds_each_row(rt: HostRuntime) -> Result<(), Fail> {
     for (items, first, rows) in TABLES {
-        let text = wrong_text(items, *first, rows);
+        let text = wrong_text(rt.alloc(), items, *first, rows)?;
         assert!(rt; text.is_none(), "{text:?} in {} items", items.len());
     }
+    Ok(())
 }
 
 /// The item before 0.1.1.1.. is the same but for its last arc. A search that tried each prefix in turn would take longer
