@@ -1,6 +1,6 @@
 //! Octets in an array. The first ones are in use.
 
-ghost use Rattle.std.specs.Prelude.{◌≡◌, ◌++◌, ◌+◌, ◌-◌, ◌*◌, ◌^◌, ◌<◌, ◌≤◌, ◌↔◌, [], length, take, drop, replicate, min, nat_eq, IsTrue, MatchResult};
+ghost use Rattle.std.specs.Prelude.{◌≡◌, ◌++◌, ◌+◌, ◌-◌, ◌^◌, ◌<◌, ◌≤◌, ◌↔◌, [], length, take, drop, replicate, min, nat_eq, IsTrue, MatchResult};
 ghost use Rattle.std.proofs.Props.{props};
 ghost use Rattle.std.specs.Cmp.Lexicographic.{pointwise};
 ghost use Rattle.const_oid.specs.Base128.{AreOctets, width};
@@ -24,6 +24,7 @@ use std::hash::{Hash, Hasher};
 /// ```
 #[derive(Copy, Clone)]
 pub struct Buffer<const SIZE: usize> {
+    // Who sets these leaves the octets that are not in use zero, on which `eq` relies.
     pub(crate) bytes: [u8; SIZE],
     pub(crate) used: u8,
     // Empty: it sets the alignment alone. A buffer then has the alignment of an `Error`, so in a `Result` both begin at the
@@ -138,7 +139,7 @@ impl<const SIZE: usize> Buffer<SIZE> {
             return self.used == 0;
         }
         // Most entries of a table differ in this octet, while the branch by the length would be mispredicted for many: so
-        // a lookup that reads all entries takes less than half the time.
+        // a lookup that reads all entries takes half the time.
         let last = other.used as usize - 1;
         if self.bytes[last] != other.bytes[last] {
             return false;
@@ -184,9 +185,9 @@ impl<const SIZE: usize> Buffer<SIZE> {
     }
 }
 
-/// Copies octets to the start of as many or more. The loop makes it a constant function in Rust.
+/// Copies octets to the start of as many or more, by a loop, which takes little code.
 #[inline(always)]
-pub(crate) const fn copy_to(octets: &[u8], out: &mut [u8])
+pub(crate) fn copy_to(octets: &[u8], out: &mut [u8])
     requires { length octets.now ≤ length out.old }
     ensures { out.new ≡ octets.now ++ drop (length octets.now) out.old }
 {

@@ -19,6 +19,7 @@ use core::hash::{Hash, Hasher};
 /// ```
 #[derive(Copy, Clone, PartialEq, Eq)]
 pub struct Buffer<const SIZE: usize> {
+    // Who sets these leaves the octets that are not in use zero, on which `eq` relies.
     pub(crate) bytes: [u8; SIZE],
     pub(crate) used: u8,
     // Empty: it sets the alignment alone. A buffer then has the alignment of an `Error`, so in a `Result` both begin at the
@@ -104,7 +105,7 @@ impl<const SIZE: usize> Buffer<SIZE> {
             return self.used == 0;
         }
         // Most entries of a table differ in this octet, while the branch by the length would be mispredicted for many: so
-        // a lookup that reads all entries takes less than half the time.
+        // a lookup that reads all entries takes half the time.
         let last = other.used as usize - 1;
         if self.bytes[last] != other.bytes[last] {
             return false;
@@ -145,9 +146,9 @@ impl<const SIZE: usize> Buffer<SIZE> {
     }
 }
 
-/// Copies octets to the start of as many or more. The loop makes it a constant function in Rust.
+/// Copies octets to the start of as many or more, by a loop, which takes little code.
 #[inline(always)]
-pub(crate) const fn copy_to(octets: &[u8], out: &mut [u8]) {
+pub(crate) fn copy_to(octets: &[u8], out: &mut [u8]) {
     let mut index = 0;
     while index < octets.len() && index < out.len() {
         out[index] = octets[index];
