@@ -10,8 +10,7 @@ ghost use Rattle.std.proofs.Props.{props};
 ghost use Rattle.const_oid.specs.OidRef.{ref_arcs, ref_octets};
 
 use crate::oid_ref::ObjectIdentifierRef;
-use crate::search::{Contents, end_of, first_of};
-use crate::search_sorted::{nearest_in, subtree_in};
+use crate::search::{Contents, end_of, first_of, nearest_of, subtree_of};
 
 /// An identifier and its name.
 type Entry<'a> = (ObjectIdentifierRef<'a>, &'a str);
@@ -124,7 +123,7 @@ impl<'a> SortedDatabase<'a> {
         ensures found { IfSome result (λ entry. IsNearest (sorted_entries_of self.now) (ref_arcs oid.entry) entry.now) }
         ensures none { IfNone result (All (λ entry. BeginsWith (ref_arcs oid.entry) (entry_arcs entry) → ⊥) (sorted_entries_of self.now)) }
     {
-        let index = nearest_in(self.entries, &oid)?;
+        let index = nearest_of(self.entries, &oid)?;
         Some(&self.entries[index])
     }
 
@@ -148,7 +147,7 @@ impl<'a> SortedDatabase<'a> {
     pub fn subtree(&self, oid: &ObjectIdentifierRef<'_>) -> &'a [Entry<'a>]
         ensures { IsSubtree (sorted_entries_of self.now) (ref_arcs oid.now) result.now }
     {
-        let (from, end) = subtree_in(self.entries, oid);
+        let (from, end) = subtree_of(self.entries, oid);
         &self.entries[from..end]
     }
 

@@ -29,7 +29,6 @@ mod parts;
 mod root;
 // Its functions are for the other crates: Rust hides them.
 pub mod search;
-mod search_sorted;
 mod steps;
 // erase: omit
 #[cfg(test)]

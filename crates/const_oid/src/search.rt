@@ -3,7 +3,7 @@
 //! No search checks the list. Over a list that is not sorted, or with an item that is not valid, the result is
 //! unspecified, but within the list.
 
-ghost use Rattle.std.specs.Prelude.{◌≡◌, ◌<◌, ◌≤◌, ◌↔◌, ℕ, List, [], length, nat_eq, true, false, count_by, slice_get, All, IfErr, IfNone, IfOk, IfSome, MatchResult, None, Some};
+ghost use Rattle.std.specs.Prelude.{◌≡◌, ◌<◌, ◌≤◌, ◌↔◌, ℕ, List, [], length, nat_eq, true, false, count_by, slice_get, All, IfErr, IfNone, IfOk, IfSome, IsTrue, MatchResult, None, Some};
 ghost use Rattle.std.specs.Cmp.Lexicographic.{pointwise, slice_cmp};
 ghost use Rattle.std.specs.List.{position};
 ghost use Rattle.std.specs.List.Sorted.{IsPartitionPoint};
@@ -17,6 +17,7 @@ ghost use Rattle.const_oid.specs.Tree.{BeginsWith};
 pub use crate::compare::order_by_parts;
 use crate::compare::{are_equal, begins_with, common_parts};
 use crate::oid_ref::ObjectIdentifierRef;
+use crate::steps::run_of;
 use std::result;
 
 /// An item that has contents octets, which need not be valid.
@@ -62,10 +63,7 @@ pub fn first_of<T: Contents>(items: &[T], oid: &ObjectIdentifierRef<'_>) -> Opti
 
 /// The index of the first item with the arcs of an identifier, or `Err` with the index at which the identifier would be
 /// inserted.
-pub(crate) fn find<T: Contents>(
-    items: &[T],
-    oid: &ObjectIdentifierRef<'_>,
-) -> result::Result<usize, usize>
+fn find<T: Contents>(items: &[T], oid: &ObjectIdentifierRef<'_>) -> result::Result<usize, usize>
     ensures found { IsSortedList T.octets_of items.now
         → IfOk result (λ index. Some index ≡ position (has_item_arcs T.octets_of (ref_arcs oid.now)) items.now) }
     ensures absent { IsSortedList T.octets_of items.now
@@ -83,7 +81,7 @@ pub(crate) fn find<T: Contents>(
 }
 
 /// Whether an item has the octets of an identifier.
-pub(crate) fn has_octets<T: Contents>(item: &T, oid: &ObjectIdentifierRef<'_>) -> bool
+fn has_octets<T: Contents>(item: &T, oid: &ObjectIdentifierRef<'_>) -> bool
     ensures { result ≡ pointwise nat_eq (T.octets_of item.now) (ref_octets oid.now) }
 {
     are_equal(item.contents(), oid.as_bytes())
@@ -99,7 +97,10 @@ pub fn subtree_of<T: Contents>(items: &[T], oid: &ObjectIdentifierRef<'_>) -> (u
         BeginsWith (item_arcs T.octets_of item) (ref_arcs oid.now) ↔ ((result.0 ≤ k) × (k < result.1))) }
 {
     let from = start_of(items, oid);
-    let inside = items[from..].partition_point(|item| begins_with(item.contents(), oid.as_bytes()));
+    let inside = run_of(
+        &items[from..],
+        |item| begins_with(item.contents(), oid.as_bytes()),
+    );
     (from, from + inside)
 }
 
@@ -119,17 +120,30 @@ pub fn nearest_of<T: Contents>(items: &[T], oid: &ObjectIdentifierRef<'_>) -> Op
             Ok(index) => return Some(index),
             Err(index) => index,
         };
-        // An item that it begins with comes before it, so the last item before it begins with that one, too.
+        // An item that it begins with comes before it, so the last item before it begins with that one, too. Often it is
+        // that one, which saves a second search.
         let before = items[..index].last()?.contents();
         above = common_prefix(above.parent()?, before)?;
+        if is_first_at(items, &above, index - 1) {
+            return Some(index - 1);
+        }
     }
 }
 
+/// Whether the item at an index has the octets of an identifier, and the one before it has not.
+fn is_first_at<T: Contents>(items: &[T], oid: &ObjectIdentifierRef<'_>, at: usize) -> bool
+    requires { at < length items.now }
+    ensures { IsSortedList T.octets_of items.now → IsTrue result
+        → Some at ≡ position (has_item_arcs T.octets_of (ref_arcs oid.now)) items.now }
+{
+    if !has_octets(&items[at], oid) {
+        return false;
+    }
+    at == 0 || !has_octets(&items[at - 1], oid)
+}
+
 /// The longest identifier that begins an identifier and other octets, or `None` if there is none.
-pub(crate) fn common_prefix<'a>(
-    oid: ObjectIdentifierRef<'a>,
-    others: &[u8],
-) -> Option<ObjectIdentifierRef<'a>>
+fn common_prefix<'a>(oid: ObjectIdentifierRef<'a>, others: &[u8]) -> Option<ObjectIdentifierRef<'a>>
     ensures some { IfSome result (λ prefix. IsCommonPrefix (ref_octets oid.entry) others.now (ref_octets prefix)) }
     ensures none { IfNone result (IsCommonPrefix (ref_octets oid.entry) others.now []) }
 {

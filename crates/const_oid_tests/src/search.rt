@@ -1,27 +1,18 @@
-//! Searches in a sorted array of items: `start_of`, `end_of`, `first_of`, `subtree_of` and `nearest_of`. Subtrees of each
-//! size: `subtree` of `ObjectIdentifierRef` and of `SortedDatabase`. The order of any octets: `order_by_parts`.
+//! Searches in sorted entries: `start_of`, `end_of`, `first_of`, `subtree_of` and `nearest_of`, and those of
+//! `SortedDatabase`. Subtrees of each size: `subtree` of `ObjectIdentifierRef`, too. The order of any octets:
+//! `order_by_parts`.
 
+use crate::sorted_database::{Entry, entries};
 use crate::vectors::{parse, read_borrowed};
+use const_oid::ObjectIdentifierRef;
 use const_oid::db::SortedDatabase;
-use const_oid::search::{
-    Contents, end_of, first_of, nearest_of, order_by_parts, start_of, subtree_of,
-};
-use const_oid::{Error, ObjectIdentifierRef, Oid};
+use const_oid::search::{end_of, first_of, nearest_of, order_by_parts, start_of, subtree_of};
 use const_oid_uses::subtree::range_of;
 use std::alloc::{AllocError, Global};
 use std::test::Fail;
 
-/// An item with contents octets.
-#[derive(Clone, Copy)]
-struct Item<'a>(&'a [u8]);
-
-impl Contents for Item<'_> {
-    ghost octets_of = { λ item. item.0.now };
-
-    fn contents(&self) -> &[u8] {
-        self.0
-    }
-}
+/// Octets, and the name of an entry.
+type Named = (&'static [u8], &'static str);
 
 /// The text of an identifier, and its results: of `start_of`, `end_of`, `first_of`, `subtree_of` and `nearest_of`.
 type Row = (
@@ -33,8 +24,8 @@ type Row = (
     Option<usize>,
 );
 
-/// Arrays, the index at which one begins, and rows of identifiers that are sought from there on.
-const TABLES: &[(&[Item<'static>], usize, &[Row])] = &[
+/// Tables, the index at which one begins, and rows of identifiers that are sought from there on.
+const TABLES: &[(&[Named], usize, &[Row])] = &[
     (&[], 0, &[("1.2", 0, 0, None, (0, 0), None)]),
     (ONE, 0, IN_ONE),
     (SAME, 0, IN_SAME),
@@ -44,7 +35,7 @@ const TABLES: &[(&[Item<'static>], usize, &[Row])] = &[
 ];
 
 /// 1.2.3.
-const ONE: &[Item<'static>] = &[Item(&[0x2A, 0x03])];
+const ONE: &[Named] = &[(&[0x2A, 0x03], "0")];
 
 /// A parent, the item, a child, and identifiers before and after them.
 const IN_ONE: &[Row] = &[
@@ -56,10 +47,10 @@ const IN_ONE: &[Row] = &[
 ];
 
 /// 1.2.3, three times.
-const SAME: &[Item<'static>] = &[
-    Item(&[0x2A, 0x03]),
-    Item(&[0x2A, 0x03]),
-    Item(&[0x2A, 0x03]),
+const SAME: &[Named] = &[
+    (&[0x2A, 0x03], "0"),
+    (&[0x2A, 0x03], "1"),
+    (&[0x2A, 0x03], "2"),
 ];
 
 const IN_SAME: &[Row] = &[
@@ -69,13 +60,13 @@ const IN_SAME: &[Row] = &[
 ];
 
 /// 1.2.3, 1.2.3.4 twice, 1.2.256, 1.2.16384 and 2.5.
-const SORTED: &[Item<'static>] = &[
-    Item(&[0x2A, 0x03]),
-    Item(&[0x2A, 0x03, 0x04]),
-    Item(&[0x2A, 0x03, 0x04]),
-    Item(&[0x2A, 0x82, 0x00]),
-    Item(&[0x2A, 0x81, 0x80, 0x00]),
-    Item(&[0x55]),
+const SORTED: &[Named] = &[
+    (&[0x2A, 0x03], "0"),
+    (&[0x2A, 0x03, 0x04], "1"),
+    (&[0x2A, 0x03, 0x04], "2"),
+    (&[0x2A, 0x82, 0x00], "3"),
+    (&[0x2A, 0x81, 0x80, 0x00], "4"),
+    (&[0x55], "5"),
 ];
 
 /// From 0.0, which is before all, to 2.6, which is after all.
@@ -97,15 +88,15 @@ const IN_SORTED: &[Row] = &[
 ];
 
 /// 1.2.3, 1.2.3.4.0, 1.2.3.4.5.0, 1.2.3.4.5.6.0 and 1.2.3.4.5.16384.
-const STEPS: &[Item<'static>] = &[
-    Item(&[0x2A, 0x03]),
-    Item(&[0x2A, 0x03, 0x04, 0x00]),
-    Item(&[0x2A, 0x03, 0x04, 0x05, 0x00]),
-    Item(&[0x2A, 0x03, 0x04, 0x05, 0x06, 0x00]),
-    Item(&[0x2A, 0x03, 0x04, 0x05, 0x81, 0x80, 0x00]),
+const STEPS: &[Named] = &[
+    (&[0x2A, 0x03], "0"),
+    (&[0x2A, 0x03, 0x04, 0x00], "1"),
+    (&[0x2A, 0x03, 0x04, 0x05, 0x00], "2"),
+    (&[0x2A, 0x03, 0x04, 0x05, 0x06, 0x00], "3"),
+    (&[0x2A, 0x03, 0x04, 0x05, 0x81, 0x80, 0x00], "4"),
 ];
 
-/// Each item before one of these has an arc in common less, up to 1.2.3.
+/// Each entry before one of these has an arc in common less, up to 1.2.3.
 const IN_STEPS: &[Row] = &[
     ("1.2.3.4", 1, 1, None, (1, 5), Some(0)),
     ("1.2.3.4.5", 2, 2, None, (2, 5), Some(0)),
@@ -124,59 +115,35 @@ const IN_LATER_STEPS: &[Row] = &[
     ("1.3", 4, 4, None, (4, 4), None),
 ];
 
-/// Whether each search in an array has the result of a row.
-fn is_found(items: &[Item<'_>], row: &Row) -> Result<bool, Error> {
-    let owned = Oid::new(row.0)?;
-    let oid = owned.as_oid_ref();
-    Ok(
-        start_of(items, &oid) == row.1
-            && end_of(items, &oid) == row.2
-            && first_of(items, &oid) == row.3
-            && subtree_of(items, &oid) == row.4
-            && nearest_of(items, &oid) == row.5,
-    )
-}
-
-/// Names of entries, by index.
-const NAMES: [&str; 6] = ["0", "1", "2", "3", "4", "5"];
-
-/// Whether a `SortedDatabase` of the items finds the same.
-fn is_named(alloc: Global, items: &[Item<'_>], row: &Row) -> Result<bool, Fail> {
-    let mut entries = Vec::new(alloc);
-    for (item, name) in items.iter().zip(&NAMES) {
-        entries.push((read_borrowed(item.0)?, *name))?;
-    }
+/// Whether each search in entries, and in the `SortedDatabase` of them, has the result of a row.
+fn is_found(entries: &[Entry], row: &Row) -> Result<bool, Fail> {
     let owned = parse(row.0)?;
     let oid = owned.as_oid_ref();
-    let Some(names) = SortedDatabase::try_new(&entries) else {
+    let is_found = start_of(entries, &oid) == row.1
+        && end_of(entries, &oid) == row.2
+        && first_of(entries, &oid) == row.3
+        && subtree_of(entries, &oid) == row.4
+        && nearest_of(entries, &oid) == row.5;
+    let Some(names) = SortedDatabase::try_new(entries) else {
         return Ok(false);
     };
-    let name_at = |index: usize| NAMES.get(index).copied();
-    let after = if row.2 < items.len() {
-        name_at(row.2)
-    } else {
-        None
-    };
+    let name_at = |index: usize| entries.get(index).map(|entry| entry.1);
     Ok(
-        names.next_after(&oid).map(|entry| entry.1) == after
+        is_found
+            && names.next_after(&oid).map(|entry| entry.1) == name_at(row.2)
             && names.by_oid(&oid) == row.3.and_then(name_at)
             && names.subtree(&oid).len() == row.4.1.saturating_sub(row.4.0)
             && names.nearest(oid).map(|entry| entry.1) == row.5.and_then(name_at),
     )
 }
 
-/// The text of the first row that has other results in the items from an index on; no text if there is no such index.
-fn wrong_text(
-    alloc: Global,
-    items: &[Item<'_>],
-    first: usize,
-    rows: &[Row],
-) -> Result<Option<&'static str>, Fail> {
-    let Some(later) = items.get(first..) else {
+/// The text of the first row that has other results in the entries from an index on; no text if there is no such index.
+fn wrong_text(entries: &[Entry], first: usize, rows: &[Row]) -> Result<Option<&'static str>, Fail> {
+    let Some(later) = entries.get(first..) else {
         return Ok(Some(""));
     };
     for row in rows {
-        if is_found(later, row) != Ok(true) || !is_named(alloc, later, row)? {
+        if !is_found(later, row)? {
             return Ok(Some(row.0));
         }
     }
@@ -185,14 +152,14 @@ fn wrong_text(
 
 #[test]
 fn finds_each_row(rt: HostRuntime) -> Result<(), Fail> {
-    for (items, first, rows) in TABLES {
-        let text = wrong_text(rt.alloc(), items, *first, rows)?;
-        assert!(rt; text.is_none(), "{text:?} in {} items", items.len());
+    for (table, first, rows) in TABLES {
+        let text = wrong_text(&entries(rt.alloc(), table)?, *first, rows)?;
+        assert!(rt; text.is_none(), "{text:?} in {} entries", table.len());
     }
     Ok(())
 }
 
-/// The item before 0.1.1.1.. is the same but for its last arc. A search that tried each prefix in turn would take longer
+/// The entry before 0.1.1.1.. is the same but for its last arc. A search that tried each prefix in turn would take longer
 /// than a test may.
 #[test]
 fn finds_the_nearest_of_a_long_identifier(rt: HostRuntime) -> Result<(), Fail> {
@@ -200,9 +167,10 @@ fn finds_the_nearest_of_a_long_identifier(rt: HostRuntime) -> Result<(), Fail> {
     let mut before = octets.clone()?;
     before.pop();
     before.push(0)?;
-    let oid = ObjectIdentifierRef::from_bytes(&octets)?;
-    assert!(rt; nearest_of(&[Item(&before)], &oid).is_none());
-    assert!(rt; nearest_of(&[Item(&[1, 1]), Item(&before)], &oid) == Some(0));
+    let oid = read_borrowed(&octets)?;
+    let last = (read_borrowed(&before)?, "");
+    assert!(rt; nearest_of(&[last], &oid).is_none());
+    assert!(rt; nearest_of(&[(read_borrowed(&[1, 1])?, ""), last], &oid) == Some(0));
     Ok(())
 }
 
@@ -230,13 +198,14 @@ fn counts(oids: &[ObjectIdentifierRef<'_>], oid: &ObjectIdentifierRef<'_>) -> (u
     (before, inside)
 }
 
-/// Whether both forms of a list have the subtree of an identifier that a count finds.
+/// Whether each form of a list has the subtree of an identifier that a count finds.
 fn is_counted(
     oids: &[ObjectIdentifierRef<'_>],
     oid: &ObjectIdentifierRef<'_>,
     alloc: Global,
 ) -> Result<bool, AllocError> {
     let (before, inside) = counts(oids, oid);
+    let range = (before, before.saturating_add(inside));
     let mut entries = Vec::new(alloc);
     for other in oids {
         entries.push((*other, ""))?;
@@ -246,7 +215,7 @@ fn is_counted(
     };
     let found = names.subtree(oid);
     let is_found = found.len() == inside && found.iter().all(|entry| entry.0.starts_with(oid));
-    Ok(is_found && range_of(oids, oid) == Some((before, before.saturating_add(inside))))
+    Ok(is_found && subtree_of(&entries, oid) == range && range_of(oids, oid) == Some(range))
 }
 
 /// Whether an identifier has the subtree that a count finds, in a list and in the parts that begin or end at it.

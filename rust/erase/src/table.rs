@@ -47,7 +47,6 @@ pub const CRATES: &[Crate] = &[
                 => "#[cfg(feature = \"db\")] pub mod db; #[cfg(feature = \"db\")] mod db_sorted;",
                 "they are of a feature";
             "lib": "pub(crate) mod links;" => "#[cfg(feature = \"db\")] pub(crate) mod links;", "as above";
-            "lib": "mod search_sorted;" => "#[cfg(feature = \"db\")] mod search_sorted;", "as above";
             "oid_ref": "#[derive(Copy, Clone, Eq, Hash)] pub struct ObjectIdentifierRef<'a> { pub ber: &'a [u8], }"
                 => "#[derive(Eq, Hash)]\n#[repr(transparent)]\npub struct ObjectIdentifierRef {\n ber: [u8],\n}", UNSIZED;
             "oid_ref": "pub(crate) const fn from_checked(ber: &'a [u8]) -> Self { ObjectIdentifierRef { ber } }"
@@ -87,7 +86,6 @@ pub const CRATES: &[Crate] = &[
             "": "ObjectIdentifierRef<'_>" => "&ObjectIdentifierRef", UNSIZED;
             "": "ObjectIdentifierRef<'a>" => "&'a ObjectIdentifierRef", UNSIZED;
             "search": "let mut above = *oid;" => "let mut above = oid;", UNSIZED;
-            "search_sorted": "let mut above = *oid;" => "let mut above = oid;", UNSIZED;
             "arcs": "pub struct Arcs<'a>"
                 => "#[derive(Clone)]\npub struct Arcs<'a>",
                 "in Rattle a copy may fail, so a caller asks for the arcs again";

@@ -3,8 +3,7 @@
 //! Names of borrowed identifiers, by binary search in a table that is sorted by arcs.
 
 use crate::erased::oid_ref::ObjectIdentifierRef;
-use crate::erased::search::{Contents, end_of, first_of};
-use crate::erased::search_sorted::{nearest_in, subtree_in};
+use crate::erased::search::{Contents, end_of, first_of, nearest_of, subtree_of};
 
 /// An identifier and its name.
 type Entry<'a> = (&'a ObjectIdentifierRef, &'a str);
@@ -102,7 +101,7 @@ impl<'a> SortedDatabase<'a> {
     /// ```
     #[must_use]
     pub fn nearest(&self, oid: &ObjectIdentifierRef) -> Option<&'a Entry<'a>> {
-        let index = nearest_in(self.entries, &oid)?;
+        let index = nearest_of(self.entries, &oid)?;
         Some(&self.entries[index])
     }
 
@@ -125,7 +124,7 @@ impl<'a> SortedDatabase<'a> {
     /// ```
     #[must_use]
     pub fn subtree(&self, oid: &ObjectIdentifierRef) -> &'a [Entry<'a>] {
-        let (from, end) = subtree_in(self.entries, oid);
+        let (from, end) = subtree_of(self.entries, oid);
         &self.entries[from..end]
     }
 

@@ -24,8 +24,6 @@ mod parts;
 mod root;
 // Its functions are for the other crates: Rust hides them.
 pub mod search;
-#[cfg(feature = "db")]
-mod search_sorted;
 mod steps;
 mod text;
 mod valid;

@@ -8,6 +8,7 @@
 pub use crate::erased::compare::order_by_parts;
 use crate::erased::compare::{are_equal, begins_with, common_parts};
 use crate::erased::oid_ref::ObjectIdentifierRef;
+use crate::erased::steps::run_of;
 use core::result;
 
 /// An item that has contents octets, which need not be valid.
@@ -39,13 +40,13 @@ pub fn first_of<T: Contents>(items: &[T], oid: &ObjectIdentifierRef) -> Option<u
 
 /// The index of the first item with the arcs of an identifier, or `Err` with the index at which the identifier would be
 /// inserted.
-pub(crate) fn find<T: Contents>(items: &[T], oid: &ObjectIdentifierRef) -> result::Result<usize, usize> {
+fn find<T: Contents>(items: &[T], oid: &ObjectIdentifierRef) -> result::Result<usize, usize> {
     let index = start_of(items, oid);
     if index < items.len() && has_octets(&items[index], oid) { Ok(index) } else { Err(index) }
 }
 
 /// Whether an item has the octets of an identifier.
-pub(crate) fn has_octets<T: Contents>(item: &T, oid: &ObjectIdentifierRef) -> bool {
+fn has_octets<T: Contents>(item: &T, oid: &ObjectIdentifierRef) -> bool {
     are_equal(item.contents(), oid.as_bytes())
 }
 
@@ -54,7 +55,7 @@ pub(crate) fn has_octets<T: Contents>(item: &T, oid: &ObjectIdentifierRef) -> bo
 #[must_use]
 pub fn subtree_of<T: Contents>(items: &[T], oid: &ObjectIdentifierRef) -> (usize, usize) {
     let from = start_of(items, oid);
-    let inside = items[from..].partition_point(|item| begins_with(item.contents(), oid.as_bytes()));
+    let inside = run_of(&items[from..], |item| begins_with(item.contents(), oid.as_bytes()));
     (from, from + inside)
 }
 
@@ -68,14 +69,26 @@ pub fn nearest_of<T: Contents>(items: &[T], oid: &ObjectIdentifierRef) -> Option
             Ok(index) => return Some(index),
             Err(index) => index,
         };
-        // An item that it begins with comes before it, so the last item before it begins with that one, too.
+        // An item that it begins with comes before it, so the last item before it begins with that one, too. Often it is
+        // that one, which saves a second search.
         let before = items[..index].last()?.contents();
         above = common_prefix(above.parent()?, before)?;
+        if is_first_at(items, &above, index - 1) {
+            return Some(index - 1);
+        }
     }
 }
 
+/// Whether the item at an index has the octets of an identifier, and the one before it has not.
+fn is_first_at<T: Contents>(items: &[T], oid: &ObjectIdentifierRef, at: usize) -> bool {
+    if !has_octets(&items[at], oid) {
+        return false;
+    }
+    at == 0 || !has_octets(&items[at - 1], oid)
+}
+
 /// The longest identifier that begins an identifier and other octets, or `None` if there is none.
-pub(crate) fn common_prefix<'a>(oid: &'a ObjectIdentifierRef, others: &[u8]) -> Option<&'a ObjectIdentifierRef> {
+fn common_prefix<'a>(oid: &'a ObjectIdentifierRef, others: &[u8]) -> Option<&'a ObjectIdentifierRef> {
     let prefix = common_parts(oid.as_bytes(), others);
     if prefix.is_empty() {
         return None;

@@ -32,6 +32,22 @@ returns-in_err-above-clause-none g c = λ list.
     _ c.in-Err.ensures.within cut _ c.in_ok-last.ensures.value c.in_ok-parent.field-0 (sym c.in_ok-parent.ensures.arcs)
     _ (rw c.contents-before.ensures at c.in_err-above.ensures.none) refl)
 
+pub returns-then-is_first_at-clause-found : goal.returns-then-is_first_at-clause-found
+returns-then-is_first_at-clause-found g c = λ list.
+    let (absent, cut) = c.in-Err.ensures.absent list in
+    let reached = reached_common g.T.Contents.octets_of _ _ list c.loop-index.above (c.loop-index.invariant list) absent
+    _ c.in-Err.ensures.within cut _ c.in_ok-last.ensures.value c.in_ok-parent.field-0 (sym c.in_ok-parent.ensures.arcs)
+    _ (rw c.contents-before.ensures at c.in_ok-above.ensures.some) c.in_ok-above.above refl in
+    reached_nearest g.T.Contents.octets_of _ _ list c.in_ok-above.above reached _ (c.if-is_first_at.ensures list refl)
+
+pub returns-then-is_first_at-clause-first : goal.returns-then-is_first_at-clause-first
+returns-then-is_first_at-clause-first g c = λ list.
+    let (absent, cut) = c.in-Err.ensures.absent list in
+    let reached = reached_common g.T.Contents.octets_of _ _ list c.loop-index.above (c.loop-index.invariant list) absent
+    _ c.in-Err.ensures.within cut _ c.in_ok-last.ensures.value c.in_ok-parent.field-0 (sym c.in_ok-parent.ensures.arcs)
+    _ (rw c.contents-before.ensures at c.in_ok-above.ensures.some) c.in_ok-above.above refl in
+    reached_first g.T.Contents.octets_of _ _ list c.in_ok-above.above reached _ (c.if-is_first_at.ensures list refl)
+
 pub loop-index-smaller : goal.loop-index-smaller
 loop-index-smaller g c =
     shorter c.loop-index.above c.in_ok-parent.field-0 c.in_ok-above.above (sym c.in_ok-parent.ensures.arcs)

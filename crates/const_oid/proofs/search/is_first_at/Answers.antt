@@ -1,7 +1,7 @@
 use Rattle.std.proofs.Common.{◌-◌, arith}
 use Rattle.std.proofs.lemmas.Grind.{common_steps}
 use Rattle.const_oid.proofs.SortedLists.{first_at, item_same}
-use Rattle.const_oid.proofs.search_sorted.is_first_at.Goals as goal
+use Rattle.const_oid.proofs.search.is_first_at.Goals as goal
 
 pub returns-then-at-eq0 : goal.returns-then-at-eq0
 returns-then-at-eq0 g c = λ list first.
