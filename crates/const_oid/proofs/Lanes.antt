@@ -1,13 +1,12 @@
 -- Octets below 128, counted by the bits of lanes.
-use Rattle.std.proofs.Common.{◌≡◌, ◌∙◌, ◌+◌, ◌^◌, ◌%◌, ◌≤◌, ℕ, List, length, take, drop, replicate, map, cond, nat_lt, count_by, arith, ap, w8}
+use Rattle.std.proofs.Common.{◌≡◌, ◌∙◌, ◌^◌, ◌%◌, ◌≤◌, ℕ, List, length, take, replicate, map, cond, nat_lt, count_by, arith, ap, w8}
 use Rattle.std.specs.Int.RustNames.{count_ones}
 use Rattle.std.specs.Simd.Lanes.{mask_l, top, zip2}
 use Rattle.std.proofs.lemmas.List.{take_all}
-use Rattle.std.proofs.lemmas.List.Sums.{count_by-le-length, sum_by-take-drop}
 use Rattle.std.proofs.lemmas.Simd.{bitmask_splat, ones-mask_l}
 
 -- how many bits are set where the first n octets, as lanes, are below 128
-abbrev pub lane_ones : ℕ → List ℕ → ℕ
+abbrev lane_ones : ℕ → List ℕ → ℕ
 lane_ones n octets = count_ones (mask_l (map (top 7) (zip2 (λ a b. cond (nat_lt a b) 255 0) (take n octets) (replicate n 128))) % 2 ^ 64)
 
 -- they count all octets, if these are n
@@ -17,15 +16,3 @@ ones_counted n octets len small =
     ap count_ones (bitmask_splat w8 nat_lt (take n octets) n 128 (rw whole len) small)
     ∙ ones-mask_l (λ x. nat_lt x 128) (take n octets)
     ∙ ap (count_by (λ x. nat_lt x 128)) whole
-
--- they and those of the rest count all octets
-pub ones_and_rest : (n : ℕ) (octets front rest : List ℕ) → front ≡ take n octets → rest ≡ drop n octets → length front ≡ n → n ≤ 64 → lane_ones n front + count_by (λ x. nat_lt x 128) rest ≡ count_by (λ x. nat_lt x 128) octets
-ones_and_rest n octets front rest is_front is_rest len small =
-    ap (λ k. k + count_by (λ x. nat_lt x 128) rest) (ones_counted n front len small)
-    ∙ rw is_front (rw is_rest (sum_by-take-drop _ octets n))
-
--- so they and the rest are no more than all octets
-pub ones_fit : (n : ℕ) (octets front rest : List ℕ) → length front ≡ n → n ≤ 64 → n + length rest ≡ length octets → lane_ones n front + length rest ≤ length octets
-ones_fit n octets front rest len small whole =
-    let few : count_by (λ x. nat_lt x 128) front ≤ length front = count_by-le-length (λ x. nat_lt x 128) front in
-    omega (arith, ones_counted n front len small, few, whole, len)

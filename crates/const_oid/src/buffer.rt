@@ -4,12 +4,19 @@ ghost use Rattle.std.specs.Prelude.{◌≡◌, ◌++◌, ◌+◌, ◌-◌, ◌^�
 ghost use Rattle.std.proofs.Props.{props};
 ghost use Rattle.std.specs.Cmp.Lexicographic.{pointwise};
 ghost use Rattle.const_oid.specs.Base128.{AreOctets, width};
+ghost use Rattle.std.specs.Iterator.{IsFiniteIterable};
+ghost use Rattle.const_oid.specs.Identifier.{root_rule};
+ghost use Rattle.const_oid.specs.Items.{TakesItems};
 ghost use Rattle.const_oid.specs.Private.Octets.{GoesOn};
+ghost use Rattle.const_oid.specs.Text.{text_answer};
 
+use crate::Arc;
 use crate::base128::append_group;
 use crate::compare::{are_arrays_equal, order};
 use crate::copies::copy_parts;
+use crate::encoder::encode_to;
 use crate::error::{Error, Result};
+use crate::parser::parse_to;
 use std::cmp::Ordering;
 use std::hash::{Hash, Hasher};
 
@@ -24,9 +31,9 @@ use std::hash::{Hash, Hasher};
 /// ```
 #[derive(Copy, Clone)]
 pub struct Buffer<const SIZE: usize> {
-    // Who sets these leaves the octets that are not in use zero, on which `eq` relies.
-    pub(crate) bytes: [u8; SIZE],
-    pub(crate) used: u8,
+    // The octets that are not in use are zero, on which `eq` relies.
+    bytes: [u8; SIZE],
+    used: u8,
     // Empty: it sets the alignment alone. A buffer then has the alignment of an `Error`, so in a `Result` both begin at the
     // same offset. Without it, the compiler copies a `Result` in pieces that overlap, which takes more time.
     aligned: [u32; 0],
@@ -37,9 +44,10 @@ pub struct Buffer<const SIZE: usize> {
 
 impl<const SIZE: usize> Buffer<SIZE> {
     ghost use Rattle.const_oid.specs.Buffer.{buffer_octets};
+    ghost use Rattle.const_oid.specs.Private.Encoder.{buffer_answer, HasEncoding};
 
     /// A buffer with no octet in use.
-    pub(crate) const fn empty() -> Self
+    const fn empty() -> Self
         ensures { buffer_octets result ≡ [] }
     {
         Buffer {
@@ -47,6 +55,50 @@ impl<const SIZE: usize> Buffer<SIZE> {
             used: 0,
             aligned: [],
         }
+    }
+
+    /// The most octets that it holds.
+    const fn capacity() -> usize
+        ensures { result ≡ min SIZE 255 }
+    {
+        if SIZE < 255 { SIZE } else { 255 }
+    }
+
+    /// The encoding of the identifier that a text denotes.
+    // Here and below, octets are written into the buffer that is returned: copies of its array alone wait for each other's
+    // stores. So a child takes a tenth less time.
+    // erase: const
+    #[tactic(auto, using(crate::proofs::Outputs::buffered))]
+    #[inline(always)]
+    pub(crate) fn parsed(text: &[u8]) -> Result<Self>
+        ensures answer { buffer_answer result ≡ text_answer root_rule text.now (min SIZE 255) }
+        ensures encoding { HasEncoding result }
+    {
+        let mut buffer = Buffer::empty();
+        match parse_to(text, &mut buffer.bytes, Self::capacity()) {
+            Ok(len) => {
+                buffer.used = len as u8;
+                Ok(buffer)
+            }
+            Err(fault) => Err(fault),
+        }
+    }
+
+    /// The encoding of the arcs that an iterator gives.
+    #[tactic(auto, using(crate::proofs::Outputs::buffered))]
+    pub(crate) fn encoded<I: IntoIterator<Item = Arc>>(arcs: I) -> Result<Self>
+    where
+        I::IntoIter: Drop,
+        // The iterator can be asked for all of its items, and ends.
+        requires { IsFiniteIterable I.into_iter_gives I.IntoIter.can_next I.IntoIter.remaining arcs }
+        ensures takes { (iterator : I.IntoIter) × I.into_iter_gives arcs iterator
+            × TakesItems root_rule (min SIZE 255) I.IntoIter.next_gives iterator (buffer_answer result) }
+        ensures encoding { HasEncoding result }
+    {
+        let mut buffer = Buffer::empty();
+        let len = encode_to(arcs, &mut buffer.bytes, Self::capacity())?;
+        buffer.used = len as u8;
+        Ok(buffer)
     }
 
     /// The octets copied, which fit.
@@ -83,18 +135,13 @@ impl<const SIZE: usize> Buffer<SIZE> {
             (λ longer. (long ≤ min SIZE 255) × GoesOn number (buffer_octets self.entry) (buffer_octets longer))
             (λ fault. (fault ≡ Error.Length) × (min SIZE 255 < long)) }
     {
-        // The octets are written into the copy that is returned, as in `parse` and `encode`: copies of their array alone
-        // wait for each other's stores. So a child takes a tenth less time.
         let mut buffer = self;
-        let capacity = if SIZE < 255 { SIZE } else { 255 };
         let used = buffer.used as usize;
-        match append_group(&mut buffer.bytes, used, number, capacity) {
-            Ok(used) => {
-                buffer.used = used as u8;
-                Ok(buffer)
-            }
-            Err(fault) => Err(fault),
-        }
+        buffer.used = match append_group(&mut buffer.bytes, used, number, Self::capacity()) {
+            Ok(len) => len as u8,
+            Err(fault) => return Err(fault),
+        };
+        Ok(buffer)
     }
 
     /// The octets in use.
@@ -135,27 +182,16 @@ impl<const SIZE: usize> Buffer<SIZE> {
     pub(crate) const fn is_same(&self, other: &Self) -> bool
         ensures { IsTrue result ↔ (buffer_octets self.now ≡ buffer_octets other.now) }
     {
-        if other.used == 0 {
-            return self.used == 0;
-        }
+        let len = other.used as usize;
         // Most entries of a table differ in this octet, while the branch by the length would be mispredicted for many: so
         // a lookup that reads all entries takes half the time.
-        let last = other.used as usize - 1;
-        if self.bytes[last] != other.bytes[last] {
+        if len > 0 && self.bytes[len - 1] != other.bytes[len - 1] {
             return false;
         }
-        self.has_octets(other)
-    }
-
-    /// Whether the octets in use are equal, the last first.
-    #[inline(always)]
-    const fn has_octets(&self, other: &Self) -> bool
-        ensures { IsTrue result ↔ (buffer_octets self.now ≡ buffer_octets other.now) }
-    {
         if self.used != other.used {
             return false;
         }
-        let mut left = self.used as usize;
+        let mut left = len;
         while left > 0 {
             left -= 1;
             if self.bytes[left] != other.bytes[left] {
@@ -182,19 +218,6 @@ impl<const SIZE: usize> Buffer<SIZE> {
         ensures meaning { IsTrue result ↔ (buffer_octets self.now ≡ buffer_octets rhs.now) }
     {
         self.used == rhs.used && are_arrays_equal(&self.bytes, &rhs.bytes)
-    }
-}
-
-/// Copies octets to the start of as many or more, by a loop, which takes little code.
-#[inline(always)]
-pub(crate) fn copy_to(octets: &[u8], out: &mut [u8])
-    requires { length octets.now ≤ length out.old }
-    ensures { out.new ≡ octets.now ++ drop (length octets.now) out.old }
-{
-    let mut index = 0;
-    while index < octets.len() && index < out.len() {
-        out[index] = octets[index];
-        index += 1;
     }
 }
 

@@ -1,41 +1,17 @@
 //! Arcs, one after another, to octets.
 
-ghost use Rattle.std.specs.Prelude.{◌≡◌, ◌≤◌, length, min, Err, IfErr, MatchResult};
+ghost use Rattle.std.specs.Prelude.{◌≡◌, ◌≤◌, length, Err, IfErr, MatchResult};
 ghost use Rattle.const_oid.specs.Identifier.{root_rule};
-ghost use Rattle.const_oid.specs.Items.{item_answer, TakesItems};
+ghost use Rattle.const_oid.specs.Items.{item_answer};
 ghost use Rattle.std.specs.Iterator.{IsFiniteIterable};
-ghost use Rattle.const_oid.specs.Private.Encoder.{buffer_answer, EncodesItems, HasEncoding};
+ghost use Rattle.const_oid.specs.Private.Encoder.{EncodesItems};
 ghost use Rattle.const_oid.specs.Private.Octets.{IsEncodedIn};
 
 use crate::Arc;
 use crate::base128::append_group;
-use crate::buffer::{Buffer, copy_to};
 use crate::error::{Error, Result};
+use crate::parts::copy_to;
 use crate::root::{check_first, join_root};
-
-/// The encoding of the arcs that an iterator gives, in up to `SIZE` octets, and never past 255.
-#[tactic(auto, using(crate::proofs::Outputs::buffered))]
-pub(crate) fn encode<const SIZE: usize, I: IntoIterator<Item = Arc>>(
-    arcs: I,
-) -> Result<Buffer<SIZE>>
-where
-    I::IntoIter: Drop,
-    // The iterator can be asked for all of its items, and ends.
-    requires { IsFiniteIterable I.into_iter_gives I.IntoIter.can_next I.IntoIter.remaining arcs }
-    ensures takes { (iterator : I.IntoIter) × I.into_iter_gives arcs iterator
-        × TakesItems root_rule (min SIZE 255) I.IntoIter.next_gives iterator (buffer_answer result) }
-    ensures encoding { HasEncoding result }
-{
-    let mut buffer = Buffer::empty();
-    let capacity = if SIZE < 255 { SIZE } else { 255 };
-    match encode_to(arcs, &mut buffer.bytes, capacity) {
-        Ok(len) => {
-            buffer.used = len as u8;
-            Ok(buffer)
-        }
-        Err(fault) => Err(fault),
-    }
-}
 
 /// `encode_to` of a slice of arcs, which is compiled once for all calls with octets of any length.
 #[tactic(auto, using(crate::proofs::TakesItems::list_answer))]
@@ -71,7 +47,11 @@ pub(crate) fn encode_short(arcs: &[Arc], out: &mut [u8]) -> Result<usize>
 /// Writes the encoding of the arcs that an iterator gives to the start of a slice, if it fits a capacity, and returns its
 /// length. Into a slice that is shorter than the capacity nothing is written: the octets are counted alone.
 #[inline(always)]
-fn encode_to<I: IntoIterator<Item = Arc>>(arcs: I, out: &mut [u8], capacity: usize) -> Result<usize>
+pub(crate) fn encode_to<I: IntoIterator<Item = Arc>>(
+    arcs: I,
+    out: &mut [u8],
+    capacity: usize,
+) -> Result<usize>
 where
     I::IntoIter: Drop,
     requires { IsFiniteIterable I.into_iter_gives I.IntoIter.can_next I.IntoIter.remaining arcs }

@@ -17,10 +17,8 @@ use crate::Arc;
 use crate::arcs::Arcs;
 use crate::buffer::Buffer;
 use crate::compare::are_equal;
-use crate::encoder::encode;
 use crate::error::{Error, Result};
 use crate::oid_ref::ObjectIdentifierRef;
-use crate::parser::parse;
 use std::cmp::Ordering;
 use std::fmt;
 use std::str::FromStr;
@@ -266,7 +264,7 @@ impl<const MAX_SIZE: usize> ObjectIdentifier<MAX_SIZE> {
         ensures answer { oid_answer result ≡ text_answer root_rule text.now (min MAX_SIZE 255) }
         ensures denoted { IfOk result (λ oid. Denotes root_rule text.now (oid_arcs oid)) }
     {
-        match parse(text) {
+        match Buffer::parsed(text) {
             Ok(ber) => Ok(ObjectIdentifier { ber }),
             Err(fault) => Err(fault),
         }
@@ -295,7 +293,7 @@ impl<const MAX_SIZE: usize> ObjectIdentifier<MAX_SIZE> {
         ensures takes { (iterator : I.IntoIter) × I.into_iter_gives arcs iterator
             × TakesItems root_rule (min MAX_SIZE 255) I.IntoIter.next_gives iterator (oid_answer result) }
     {
-        let ber = encode(arcs)?;
+        let ber = Buffer::encoded(arcs)?;
         Ok(ObjectIdentifier { ber })
     }
 

@@ -3,8 +3,7 @@
 //! A text is read component by component; in names, one is a `piece`. If one is wrong, only an index is returned, and a
 //! function that is rarely called makes the error of it. So a valid text costs fewer instructions.
 
-ghost use Rattle.std.specs.Prelude.{◌≡◌, ◌≤◌, ℕ, drop, length, min, Err, IfErr, MatchResult};
-ghost use Rattle.const_oid.specs.Private.Encoder.{buffer_answer, HasEncoding};
+ghost use Rattle.std.specs.Prelude.{◌≡◌, ◌≤◌, ℕ, drop, length, Err, IfErr, MatchResult};
 ghost use Rattle.const_oid.specs.Private.Octets.{IsEncodedIn};
 ghost use Rattle.const_oid.specs.Private.Parser.{or_trailing, stop_fault, HasFault, IsPiece, IsRoot};
 ghost use Rattle.const_oid.specs.Identifier.{root_rule};
@@ -12,29 +11,10 @@ ghost use Rattle.const_oid.specs.Text.{text_answer};
 
 use crate::Arc;
 use crate::base128::append_group;
-use crate::buffer::{Buffer, copy_to};
 use crate::error::{Error, Result};
+use crate::parts::copy_to;
 use crate::root::{check_first, join_root};
 use std::result;
-
-/// The encoding of the identifier that a text denotes, in up to `SIZE` octets, and never past 255.
-// erase: const
-#[tactic(auto, using(crate::proofs::Outputs::buffered))]
-#[inline(always)]
-pub(crate) fn parse<const SIZE: usize>(text: &[u8]) -> Result<Buffer<SIZE>>
-    ensures answer { buffer_answer result ≡ text_answer root_rule text.now (min SIZE 255) }
-    ensures encoding { HasEncoding result }
-{
-    let mut buffer = Buffer::empty();
-    let capacity = if SIZE < 255 { SIZE } else { 255 };
-    match parse_to(text, &mut buffer.bytes, capacity) {
-        Ok(len) => {
-            buffer.used = len as u8;
-            Ok(buffer)
-        }
-        Err(fault) => Err(fault),
-    }
-}
 
 /// `parse_to`, which is compiled once for all calls with octets of any length.
 #[inline(never)]

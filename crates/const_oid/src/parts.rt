@@ -1,120 +1,72 @@
 //! Subidentifiers in octets: how many there are, where they begin, and where they end. In names, they are `parts`. What
 //! is left after the last octet below 128 is a part, too.
 
-ghost use Rattle.std.specs.Prelude.{◌≡◌, ◌+◌, ◌-◌, ◌≤◌, length, take, drop, count_by, nat_lt};
+ghost use Rattle.std.specs.Prelude.{◌≡◌, ◌+◌, ◌-◌, ◌<◌, ◌≤◌, length, take, drop, count_by, nat_lt, ◌++◌};
 ghost use Rattle.const_oid.specs.Contents.{cut};
 ghost use Rattle.const_oid.specs.Private.Prefixes.{IsFinishedPrefix};
 
+use std::simd::Simd;
 use std::simd::prelude::*;
-use std::simd::{u8x4, u8x8, u8x16, u8x32};
 
-/// How many octets are below 128, counted up to 32 at a time. No branch depends on an octet, so none is mispredicted.
+/// How many octets are below 128. No branch depends on an octet, so none is mispredicted.
 #[inline]
 pub(crate) fn count_parts(octets: &[u8]) -> usize
     ensures value { result ≡ count_by (λ x. nat_lt x 128) octets.now }
     ensures fits { result ≤ length octets.now }
 {
-    let (eights, rest) = count_eights(octets);
-    let (four, rest) = count_four(rest);
-    eights + four + count_each(rest)
-}
-
-/// How many octets are below 128, counted 32, 16 and 8 at a time, and the fewer than 8 octets that are left. A short
-/// identifier has no more, and takes one test here.
-#[inline(always)]
-fn count_eights(octets: &[u8]) -> (usize, &[u8])
-    ensures value { result.0 + count_by (λ x. nat_lt x 128) result.1.now ≡ count_by (λ x. nat_lt x 128) octets.now }
-    ensures fits { result.0 + length result.1.now ≤ length octets.now }
-{
-    if octets.len() < 8 {
-        return (0, octets);
-    }
-    let (whole, rest) = count_whole(octets);
-    let (sixteen, rest) = count_sixteen(rest);
-    let (eight, rest) = count_eight(rest);
-    (whole + sixteen + eight, rest)
+    let (count, rest) = count_by_32(octets);
+    let (count, rest) = count_first::<16>(count, rest);
+    let (count, rest) = count_first::<8>(count, rest);
+    let (count, rest) = count_first::<4>(count, rest);
+    let (count, rest) = count_first::<2>(count, rest);
+    count_first::<1>(count, rest).0
 }
 
 /// How many octets are below 128, counted 32 at a time, and the fewer than 32 octets that are left.
 #[inline(always)]
-fn count_whole(octets: &[u8]) -> (usize, &[u8])
+fn count_by_32(octets: &[u8]) -> (usize, &[u8])
     ensures value { result.0 + count_by (λ x. nat_lt x 128) result.1.now ≡ count_by (λ x. nat_lt x 128) octets.now }
     ensures fits { result.0 + length result.1.now ≤ length octets.now }
+    ensures few { length result.1.now < 32 }
 {
     let mut count = 0;
     let mut rest = octets;
     while rest.len() >= 32 {
-        let (lanes, after) = rest.split_at(32);
-        count += count_lanes(lanes);
+        let (more, after) = count_first::<32>(count, rest);
+        count = more;
         rest = after;
     }
     (count, rest)
 }
 
-/// How many octets are below 128, counted one by one.
+/// A count and how many of the first `COUNT` octets are below 128, and the octets after them. If there are fewer, the
+/// count and all octets.
 #[inline(always)]
-fn count_each(octets: &[u8]) -> usize
-    ensures value { result ≡ count_by (λ x. nat_lt x 128) octets.now }
-    ensures fits { result ≤ length octets.now }
+fn count_first<const COUNT: usize>(count: usize, octets: &[u8]) -> (usize, &[u8])
+    requires lanes { COUNT ≤ 64 }
+    requires room { count + length octets.now ≤ usize.MAX }
+    ensures value { result.0 + count_by (λ x. nat_lt x 128) result.1.now ≡ count + count_by (λ x. nat_lt x 128) octets.now }
+    ensures fits { result.0 + length result.1.now ≤ count + length octets.now }
+    ensures shorter { COUNT ≤ length octets.now → length result.1.now + COUNT ≡ length octets.now }
+    ensures few { length octets.now < COUNT + COUNT → length result.1.now < COUNT }
 {
-    let mut count = 0;
-    for octet in octets {
-        count += usize::from(*octet < 128);
+    if octets.len() < COUNT {
+        return (count, octets);
     }
-    count
+    let (first, rest) = octets.split_at(COUNT);
+    (count + count_all::<COUNT>(first), rest)
 }
 
-/// How many of 32 octets are below 128.
+/// How many of `COUNT` octets are below 128.
 #[inline(always)]
-fn count_lanes(octets: &[u8]) -> usize
-    requires { length octets.now ≡ 32 }
+fn count_all<const COUNT: usize>(octets: &[u8]) -> usize
+    requires all { length octets.now ≡ COUNT }
+    requires lanes { COUNT ≤ 64 }
     ensures value { result ≡ count_by (λ x. nat_lt x 128) octets.now }
     ensures fits { result ≤ length octets.now }
 {
-    let lanes = u8x32::from_slice(octets).simd_lt(u8x32::splat(128));
+    let lanes = Simd::<u8, COUNT>::from_slice(octets).simd_lt(Simd::splat(128));
     lanes.to_bitmask().count_ones() as usize
-}
-
-/// How many of the first 16 octets are below 128, and the octets after them, or none and all octets if there are fewer.
-#[inline(always)]
-fn count_sixteen(octets: &[u8]) -> (usize, &[u8])
-    ensures value { result.0 + count_by (λ x. nat_lt x 128) result.1.now ≡ count_by (λ x. nat_lt x 128) octets.now }
-    ensures fits { result.0 + length result.1.now ≤ length octets.now }
-{
-    if octets.len() < 16 {
-        return (0, octets);
-    }
-    let (first, rest) = octets.split_at(16);
-    let lanes = u8x16::from_slice(first).simd_lt(u8x16::splat(128));
-    (lanes.to_bitmask().count_ones() as usize, rest)
-}
-
-/// How many of the first 8 octets are below 128, and the octets after them, or none and all octets if there are fewer.
-#[inline(always)]
-fn count_eight(octets: &[u8]) -> (usize, &[u8])
-    ensures value { result.0 + count_by (λ x. nat_lt x 128) result.1.now ≡ count_by (λ x. nat_lt x 128) octets.now }
-    ensures fits { result.0 + length result.1.now ≤ length octets.now }
-{
-    if octets.len() < 8 {
-        return (0, octets);
-    }
-    let (first, rest) = octets.split_at(8);
-    let lanes = u8x8::from_slice(first).simd_lt(u8x8::splat(128));
-    (lanes.to_bitmask().count_ones() as usize, rest)
-}
-
-/// How many of the first 4 octets are below 128, and the octets after them, or none and all octets if there are fewer.
-#[inline(always)]
-fn count_four(octets: &[u8]) -> (usize, &[u8])
-    ensures value { result.0 + count_by (λ x. nat_lt x 128) result.1.now ≡ count_by (λ x. nat_lt x 128) octets.now }
-    ensures fits { result.0 + length result.1.now ≤ length octets.now }
-{
-    if octets.len() < 4 {
-        return (0, octets);
-    }
-    let (first, rest) = octets.split_at(4);
-    let lanes = u8x4::from_slice(first).simd_lt(u8x4::splat(128));
-    (lanes.to_bitmask().count_ones() as usize, rest)
 }
 
 /// The octets after so many subidentifiers.
@@ -157,4 +109,17 @@ pub(crate) fn first_octets(octets: &[u8], len: usize) -> &[u8]
 {
     // Unlike an index, `get` compiles to no panic.
     octets.get(..len).unwrap_or(&[])
+}
+
+/// Copies octets to the start of as many or more, by a loop, which takes little code.
+#[inline(always)]
+pub(crate) fn copy_to(octets: &[u8], out: &mut [u8])
+    requires { length octets.now ≤ length out.old }
+    ensures { out.new ≡ octets.now ++ drop (length octets.now) out.old }
+{
+    let mut index = 0;
+    while index < octets.len() && index < out.len() {
+        out[index] = octets[index];
+        index += 1;
+    }
 }

@@ -2,7 +2,6 @@
 
 use crate::Arc;
 use crate::buffer::Buffer;
-use crate::encoder::encode;
 use crate::error::{Error, Result};
 use std::cmp::Ordering;
 
@@ -36,7 +35,7 @@ fn buffers(rt: HostRuntime) {
 
 /// The encoding of arcs in seven octets.
 fn encode_in_seven(arcs: &[Arc]) -> Result<Buffer<7>> {
-    encode(arcs.iter().copied())
+    Buffer::encoded(arcs.iter().copied())
 }
 
 /// Arcs, and their octets in seven, or the error.

@@ -2,9 +2,13 @@
 
 //! Octets in an array. The first ones are in use.
 
+use crate::erased::Arc;
 use crate::erased::base128::append_group;
 use crate::erased::compare::{are_arrays_equal, order};
+use crate::erased::encoder::encode_to;
 use crate::erased::error::{Error, Result};
+use crate::erased::parser::parse_to;
+use crate::erased::parts::copy_to;
 use core::cmp::Ordering;
 use core::hash::{Hash, Hasher};
 
@@ -19,9 +23,9 @@ use core::hash::{Hash, Hasher};
 /// ```
 #[derive(Copy, Clone, PartialEq, Eq)]
 pub struct Buffer<const SIZE: usize> {
-    // Who sets these leaves the octets that are not in use zero, on which `eq` relies.
-    pub(crate) bytes: [u8; SIZE],
-    pub(crate) used: u8,
+    // The octets that are not in use are zero, on which `eq` relies.
+    bytes: [u8; SIZE],
+    used: u8,
     // Empty: it sets the alignment alone. A buffer then has the alignment of an `Error`, so in a `Result` both begin at the
     // same offset. Without it, the compiler copies a `Result` in pieces that overlap, which takes more time.
     aligned: [u32; 0],
@@ -29,8 +33,36 @@ pub struct Buffer<const SIZE: usize> {
 
 impl<const SIZE: usize> Buffer<SIZE> {
     /// A buffer with no octet in use.
-    pub(crate) const fn empty() -> Self {
+    const fn empty() -> Self {
         Buffer { bytes: [0; SIZE], used: 0, aligned: [] }
+    }
+
+    /// The most octets that it holds.
+    const fn capacity() -> usize {
+        if SIZE < 255 { SIZE } else { 255 }
+    }
+
+    /// The encoding of the identifier that a text denotes.
+    // Here and below, octets are written into the buffer that is returned: copies of its array alone wait for each other's
+    // stores. So a child takes a tenth less time.
+    #[inline(always)]
+    pub(crate) const fn parsed(text: &[u8]) -> Result<Self> {
+        let mut buffer = Buffer::empty();
+        match parse_to(text, &mut buffer.bytes, Self::capacity()) {
+            Ok(len) => {
+                buffer.used = len as u8;
+                Ok(buffer)
+            }
+            Err(fault) => Err(fault),
+        }
+    }
+
+    /// The encoding of the arcs that an iterator gives.
+    pub(crate) fn encoded<I: IntoIterator<Item = Arc>>(arcs: I) -> Result<Self> {
+        let mut buffer = Buffer::empty();
+        let len = encode_to(arcs, &mut buffer.bytes, Self::capacity())?;
+        buffer.used = len as u8;
+        Ok(buffer)
     }
 
     /// The octets copied, which fit.
@@ -55,18 +87,13 @@ impl<const SIZE: usize> Buffer<SIZE> {
     /// These octets and the subidentifier of a number, or `Length` if it does not fit.
     #[inline(always)]
     pub(crate) const fn pushed(self, number: u64) -> Result<Self> {
-        // The octets are written into the copy that is returned, as in `parse` and `encode`: copies of their array alone
-        // wait for each other's stores. So a child takes a tenth less time.
         let mut buffer = self;
-        let capacity = if SIZE < 255 { SIZE } else { 255 };
         let used = buffer.used as usize;
-        match append_group(&mut buffer.bytes, used, number, capacity) {
-            Ok(used) => {
-                buffer.used = used as u8;
-                Ok(buffer)
-            }
-            Err(fault) => Err(fault),
-        }
+        buffer.used = match append_group(&mut buffer.bytes, used, number, Self::capacity()) {
+            Ok(len) => len as u8,
+            Err(fault) => return Err(fault),
+        };
+        Ok(buffer)
     }
 
     /// The octets in use.
@@ -101,25 +128,16 @@ impl<const SIZE: usize> Buffer<SIZE> {
 
     /// Whether the octets in use are equal. This is for constants: there a slice costs the compiler.
     pub(crate) const fn is_same(&self, other: &Self) -> bool {
-        if other.used == 0 {
-            return self.used == 0;
-        }
+        let len = other.used as usize;
         // Most entries of a table differ in this octet, while the branch by the length would be mispredicted for many: so
         // a lookup that reads all entries takes half the time.
-        let last = other.used as usize - 1;
-        if self.bytes[last] != other.bytes[last] {
+        if len > 0 && self.bytes[len - 1] != other.bytes[len - 1] {
             return false;
         }
-        self.has_octets(other)
-    }
-
-    /// Whether the octets in use are equal, the last first.
-    #[inline(always)]
-    const fn has_octets(&self, other: &Self) -> bool {
         if self.used != other.used {
             return false;
         }
-        let mut left = self.used as usize;
+        let mut left = len;
         while left > 0 {
             left -= 1;
             if self.bytes[left] != other.bytes[left] {
@@ -143,16 +161,6 @@ impl<const SIZE: usize> Buffer<SIZE> {
     #[must_use]
     pub const fn eq(&self, rhs: &Self) -> bool {
         self.used == rhs.used && are_arrays_equal(&self.bytes, &rhs.bytes)
-    }
-}
-
-/// Copies octets to the start of as many or more, by a loop, which takes little code.
-#[inline(always)]
-pub(crate) fn copy_to(octets: &[u8], out: &mut [u8]) {
-    let mut index = 0;
-    while index < octets.len() && index < out.len() {
-        out[index] = octets[index];
-        index += 1;
     }
 }
 

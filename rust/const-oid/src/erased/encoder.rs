@@ -4,22 +4,9 @@
 
 use crate::erased::Arc;
 use crate::erased::base128::append_group;
-use crate::erased::buffer::{Buffer, copy_to};
 use crate::erased::error::{Error, Result};
+use crate::erased::parts::copy_to;
 use crate::erased::root::{check_first, join_root};
-
-/// The encoding of the arcs that an iterator gives, in up to `SIZE` octets, and never past 255.
-pub(crate) fn encode<const SIZE: usize, I: IntoIterator<Item = Arc>>(arcs: I) -> Result<Buffer<SIZE>> {
-    let mut buffer = Buffer::empty();
-    let capacity = if SIZE < 255 { SIZE } else { 255 };
-    match encode_to(arcs, &mut buffer.bytes, capacity) {
-        Ok(len) => {
-            buffer.used = len as u8;
-            Ok(buffer)
-        }
-        Err(fault) => Err(fault),
-    }
-}
 
 /// `encode_to` of a slice of arcs, which is compiled once for all calls with octets of any length.
 #[inline(never)]
@@ -46,7 +33,7 @@ pub(crate) fn encode_short(arcs: &[Arc], out: &mut [u8]) -> Result<usize> {
 /// Writes the encoding of the arcs that an iterator gives to the start of a slice, if it fits a capacity, and returns its
 /// length. Into a slice that is shorter than the capacity nothing is written: the octets are counted alone.
 #[inline(always)]
-fn encode_to<I: IntoIterator<Item = Arc>>(arcs: I, out: &mut [u8], capacity: usize) -> Result<usize> {
+pub(crate) fn encode_to<I: IntoIterator<Item = Arc>>(arcs: I, out: &mut [u8], capacity: usize) -> Result<usize> {
     let mut arcs = arcs.into_iter();
     let Some(first) = arcs.next() else {
         return Err(Error::Empty);

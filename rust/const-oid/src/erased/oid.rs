@@ -6,10 +6,8 @@ use crate::erased::Arc;
 use crate::erased::arcs::Arcs;
 use crate::erased::buffer::Buffer;
 use crate::erased::compare::are_equal;
-use crate::erased::encoder::encode;
 use crate::erased::error::{Error, Result};
 use crate::erased::oid_ref::ObjectIdentifierRef;
-use crate::erased::parser::parse;
 use core::cmp::Ordering;
 use core::fmt;
 use core::str::FromStr;
@@ -212,7 +210,7 @@ impl<const MAX_SIZE: usize> ObjectIdentifier<MAX_SIZE> {
     /// ```
     #[inline(always)]
     pub const fn from_ascii(text: &[u8]) -> Result<Self> {
-        match parse(text) {
+        match Buffer::parsed(text) {
             Ok(ber) => Ok(ObjectIdentifier { ber }),
             Err(fault) => Err(fault),
         }
@@ -234,7 +232,7 @@ impl<const MAX_SIZE: usize> ObjectIdentifier<MAX_SIZE> {
     /// assert_eq!(ObjectIdentifier::<1>::from_arcs_sized([2, 999]), Err(Error::Length));
     /// ```
     pub fn from_arcs_sized<I: IntoIterator<Item = Arc>>(arcs: I) -> Result<Self> {
-        let ber = encode(arcs)?;
+        let ber = Buffer::encoded(arcs)?;
         Ok(ObjectIdentifier { ber })
     }
 

@@ -7,24 +7,10 @@
 
 use crate::erased::Arc;
 use crate::erased::base128::append_group;
-use crate::erased::buffer::{Buffer, copy_to};
 use crate::erased::error::{Error, Result};
+use crate::erased::parts::copy_to;
 use crate::erased::root::{check_first, join_root};
 use core::result;
-
-/// The encoding of the identifier that a text denotes, in up to `SIZE` octets, and never past 255.
-#[inline(always)]
-pub(crate) const fn parse<const SIZE: usize>(text: &[u8]) -> Result<Buffer<SIZE>> {
-    let mut buffer = Buffer::empty();
-    let capacity = if SIZE < 255 { SIZE } else { 255 };
-    match parse_to(text, &mut buffer.bytes, capacity) {
-        Ok(len) => {
-            buffer.used = len as u8;
-            Ok(buffer)
-        }
-        Err(fault) => Err(fault),
-    }
-}
 
 /// `parse_to`, which is compiled once for all calls with octets of any length.
 #[inline(never)]

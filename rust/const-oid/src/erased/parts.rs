@@ -3,84 +3,45 @@
 //! Subidentifiers in octets: how many there are, where they begin, and where they end. In names, they are `parts`. What
 //! is left after the last octet below 128 is a part, too.
 
-/// How many octets are below 128, counted up to 32 at a time. No branch depends on an octet, so none is mispredicted.
+/// How many octets are below 128. No branch depends on an octet, so none is mispredicted.
 #[inline]
 pub(crate) fn count_parts(octets: &[u8]) -> usize {
-    let (eights, rest) = count_eights(octets);
-    let (four, rest) = count_four(rest);
-    eights + four + count_each(rest)
-}
-
-/// How many octets are below 128, counted 32, 16 and 8 at a time, and the fewer than 8 octets that are left. A short
-/// identifier has no more, and takes one test here.
-#[inline(always)]
-fn count_eights(octets: &[u8]) -> (usize, &[u8]) {
-    if octets.len() < 8 {
-        return (0, octets);
-    }
-    let (whole, rest) = count_whole(octets);
-    let (sixteen, rest) = count_sixteen(rest);
-    let (eight, rest) = count_eight(rest);
-    (whole + sixteen + eight, rest)
+    let (count, rest) = count_by_32(octets);
+    let (count, rest) = count_first::<16>(count, rest);
+    let (count, rest) = count_first::<8>(count, rest);
+    let (count, rest) = count_first::<4>(count, rest);
+    let (count, rest) = count_first::<2>(count, rest);
+    count_first::<1>(count, rest).0
 }
 
 /// How many octets are below 128, counted 32 at a time, and the fewer than 32 octets that are left.
 #[inline(always)]
-fn count_whole(octets: &[u8]) -> (usize, &[u8]) {
+fn count_by_32(octets: &[u8]) -> (usize, &[u8]) {
     let mut count = 0;
     let mut rest = octets;
     while rest.len() >= 32 {
-        let (lanes, after) = rest.split_at(32);
-        count += count_lanes(lanes);
+        let (more, after) = count_first::<32>(count, rest);
+        count = more;
         rest = after;
     }
     (count, rest)
 }
 
-/// How many octets are below 128, counted one by one.
+/// A count and how many of the first `COUNT` octets are below 128, and the octets after them. If there are fewer, the
+/// count and all octets.
 #[inline(always)]
-fn count_each(octets: &[u8]) -> usize {
-    let mut count = 0;
-    for octet in octets {
-        count += usize::from(*octet < 128);
+fn count_first<const COUNT: usize>(count: usize, octets: &[u8]) -> (usize, &[u8]) {
+    if octets.len() < COUNT {
+        return (count, octets);
     }
-    count
+    let (first, rest) = octets.split_at(COUNT);
+    (count + count_all::<COUNT>(first), rest)
 }
 
-/// How many of 32 octets are below 128.
+/// How many of `COUNT` octets are below 128.
 #[inline(always)]
-fn count_lanes(octets: &[u8]) -> usize {
+fn count_all<const COUNT: usize>(octets: &[u8]) -> usize {
     octets.iter().filter(|octet| **octet < 128).count()
-}
-
-/// How many of the first 16 octets are below 128, and the octets after them, or none and all octets if there are fewer.
-#[inline(always)]
-fn count_sixteen(octets: &[u8]) -> (usize, &[u8]) {
-    if octets.len() < 16 {
-        return (0, octets);
-    }
-    let (first, rest) = octets.split_at(16);
-    (first.iter().filter(|octet| **octet < 128).count(), rest)
-}
-
-/// How many of the first 8 octets are below 128, and the octets after them, or none and all octets if there are fewer.
-#[inline(always)]
-fn count_eight(octets: &[u8]) -> (usize, &[u8]) {
-    if octets.len() < 8 {
-        return (0, octets);
-    }
-    let (first, rest) = octets.split_at(8);
-    (first.iter().filter(|octet| **octet < 128).count(), rest)
-}
-
-/// How many of the first 4 octets are below 128, and the octets after them, or none and all octets if there are fewer.
-#[inline(always)]
-fn count_four(octets: &[u8]) -> (usize, &[u8]) {
-    if octets.len() < 4 {
-        return (0, octets);
-    }
-    let (first, rest) = octets.split_at(4);
-    (first.iter().filter(|octet| **octet < 128).count(), rest)
 }
 
 /// The octets after so many subidentifiers.
@@ -113,4 +74,14 @@ pub(crate) fn without_last_part(octets: &[u8]) -> &[u8] {
 pub(crate) fn first_octets(octets: &[u8], len: usize) -> &[u8] {
     // Unlike an index, `get` compiles to no panic.
     octets.get(..len).unwrap_or(&[])
+}
+
+/// Copies octets to the start of as many or more, by a loop, which takes little code.
+#[inline(always)]
+pub(crate) fn copy_to(octets: &[u8], out: &mut [u8]) {
+    let mut index = 0;
+    while index < octets.len() && index < out.len() {
+        out[index] = octets[index];
+        index += 1;
+    }
 }

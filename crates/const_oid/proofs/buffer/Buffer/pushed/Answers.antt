@@ -13,8 +13,8 @@ invariant_of-buffer g c =
       zeros = zeros_written old.used _ _ _ (omega arith) c.in-Ok.ensures.0 written _ old.zeros;
     }
 
-pub returns-in-Ok : goal.returns-in-Ok
-returns-in-Ok g c =
+pub returns : goal.returns
+returns g c =
     let old = c.args.self in
     let goes_on = taken_written old.used _ _ _ (omega arith) c.in-Ok.ensures.0 (c.in-Ok.ensures.2 (omega arith)) in
     (omega (arith, c.in-Ok.ensures.0, c.in-Ok.ensures.1, length-take-le old.used old.bytes), goes_on)

@@ -1,5 +1,5 @@
 use Rattle.std.proofs.Common.{◌≡◌, ◌≤◌, take, drop}
-use Rattle.const_oid.proofs.buffer.Buffer.has_octets.Given as goal
+use Rattle.const_oid.proofs.buffer.Buffer.is_same.Given as goal
 
 -- the octets in use from the index on are the same
 abbrev pub invariant-loop-left : goal.invariant-loop-left

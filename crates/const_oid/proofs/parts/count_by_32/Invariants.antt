@@ -1,5 +1,5 @@
 use Rattle.std.proofs.Common.{◌≡◌, ◌+◌, ◌≤◌, length, count_by, nat_lt}
-use Rattle.const_oid.proofs.parts.count_whole.Given as goal
+use Rattle.const_oid.proofs.parts.count_by_32.Given as goal
 
 abbrev pub invariant-loop-rest : goal.invariant-loop-rest
 invariant-loop-rest l = record {

@@ -1,7 +1,7 @@
 use Rattle.std.proofs.Common.{arith}
 use Rattle.std.proofs.lemmas.List.{drop-replicate}
 use Rattle.const_oid.proofs.Outputs.{taken, unused}
-use Rattle.const_oid.proofs.parser.parse.Goals as goal
+use Rattle.const_oid.proofs.buffer.Buffer.parsed.Goals as goal
 
 pub invariant_of-buffer : goal.invariant_of-buffer
 invariant_of-buffer g c =
