@@ -10,7 +10,7 @@ ghost use Rattle.const_oid.specs.Private.Links.{AreLinks, IsInSlot, key_of};
 use crate::compare::is_same_name;
 pub use crate::db_sorted::SortedDatabase;
 use crate::error::Result;
-use crate::links::{first_link, next_link};
+use crate::links::{first_link, links_in, next_link};
 use crate::oid::Oid;
 
 /// A table of identifiers and their names, in any order. An identifier may have several names, and a name several
@@ -72,6 +72,39 @@ impl<'a> Database<'a> {
             entries: self.entries,
             oid_links,
             name_links,
+        }
+    }
+
+    /// The database with an index in lent memory: a lookup reads a few entries, and not all, and returns the same, for as
+    /// long as the memory is lent.
+    ///
+    /// Four numbers for each entry are a good length. With three or fewer, there is an index by identifier and none by
+    /// name. With one or fewer, or more than 65,535 entries, the database stays as it is.
+    ///
+    /// # Examples
+    ///
+    /// ```
+    /// use const_oid::{ObjectIdentifier, db::Database};
+    ///
+    /// const CN: ObjectIdentifier = ObjectIdentifier::new_unwrap("2.5.4.3");
+    /// let entries = [(&CN, "cn"), (&CN, "commonName")];
+    /// let mut place = [0; 8];
+    /// let names = Database::new(&entries).indexed(&mut place);
+    /// assert_eq!(names.by_name("commonname"), Some(&CN));
+    /// ```
+    pub fn indexed(self, place: &'a mut [u16]) -> Self
+        ensures { entries_of result ≡ entries_of self.entry }
+    {
+        let len = if place.len() / 3 > self.entries.len() {
+            place.len() / 2
+        } else {
+            place.len()
+        };
+        let (by_oid, by_name) = place.split_at_mut(len);
+        Database {
+            entries: self.entries,
+            oid_links: links_in(self.entries, false, by_oid).unwrap_or(self.oid_links),
+            name_links: links_in(self.entries, true, by_name).unwrap_or(self.name_links),
         }
     }
 

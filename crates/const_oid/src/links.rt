@@ -3,7 +3,7 @@
 //! There is a link for each entry, to the next one of its slot, and then one for each slot, to its first entry. If there
 //! is none, the link is the number of entries. A table that has no links has one slot.
 
-ghost use Rattle.std.specs.Prelude.{◌≡◌, ◌+◌, ◌-◌, ◌%◌, ◌^◌, ◌<◌, ◌≤◌, length, slice_index};
+ghost use Rattle.std.specs.Prelude.{◌≡◌, ◌+◌, ◌-◌, ◌%◌, ◌^◌, ◌<◌, ◌≤◌, IfSome, length, replicate, slice_index};
 ghost use Rattle.const_oid.specs.Private.Links.{AreLinks, hash_of, key_of};
 
 use crate::oid::Oid;
@@ -36,22 +36,50 @@ fn key<'a>(entry: &(&'a Oid, &'a str), by_name: bool) -> &'a [u8]
     }
 }
 
+/// Writes the links of entries by name, or by identifier, where each link is the number of entries.
+// erase: const
+fn write_links(entries: &[(&Oid, &str)], by_name: bool, links: &mut [u16])
+    requires fits { (length entries.now < 2 ^ 16) × (length entries.now < length links.old) }
+    requires unlinked { links.old ≡ replicate (length links.old) (length entries.now) }
+    ensures { AreLinks (key_of by_name) entries.now links.new }
+{
+    let count = entries.len();
+    let slots = links.len() - count;
+    let mut index = count;
+    while index > 0 {
+        index -= 1;
+        let slot = count + hash(key(&entries[index], by_name)) as usize % slots;
+        links[index] = links[slot];
+        links[slot] = index as u16;
+    }
+}
+
 /// The links of entries by name, or by identifier.
 // erase: const
 pub(crate) fn links_of<const SIZE: usize>(entries: &[(&Oid, &str)], by_name: bool) -> [u16; SIZE]
     requires { (length entries.now < 2 ^ 16) × (length entries.now < SIZE) }
     ensures { AreLinks (key_of by_name) entries.now result }
 {
-    let count = entries.len();
-    let mut links = [count as u16; SIZE];
-    let mut index = count;
-    while index > 0 {
-        index -= 1;
-        let slot = count + hash(key(&entries[index], by_name)) as usize % (SIZE - count);
-        links[index] = links[slot];
-        links[slot] = index as u16;
-    }
+    let mut links = [entries.len() as u16; SIZE];
+    write_links(entries, by_name, &mut links);
     links
+}
+
+/// These links in lent memory, or `None` if it has no place for a slot, or the entries are too many for links.
+pub(crate) fn links_in<'a>(
+    entries: &[(&Oid, &str)],
+    by_name: bool,
+    place: &'a mut [u16],
+) -> Option<&'a [u16]>
+    ensures { IfSome result (λ links. AreLinks (key_of by_name) entries.now links.now) }
+{
+    let count = entries.len();
+    if place.len() <= count || count > u16::MAX as usize {
+        return None;
+    }
+    place.fill(count as u16);
+    write_links(entries, by_name, place);
+    Some(place)
 }
 
 /// The first entry of the slot of bytes, or the number of entries.

@@ -1,4 +1,4 @@
-//! Tables of names, with what they find: `by_oid`, `by_name`, `find_names_for_oid` and `resolve`.
+//! Tables of names, with what they find: `by_oid`, `by_name`, `find_names_for_oid` and `resolve`, and `indexed`.
 
 ghost use Rattle.std.specs.Prelude.{◌≡◌, IsOk, IfOk};
 ghost use Rattle.std.specs.Iterator.{IsFinite};
@@ -110,10 +110,18 @@ fn is_answer(database: &Database<'_>, query: &Query) -> Result<bool, Error> {
     })
 }
 
-/// Whether a table of these identifiers and names answers so.
+/// Whether a table of these identifiers and names answers so, without an index, and with one in memory of each length.
 fn is_answered<'a>(named: &'a [(&'a Oid, &'a str)], query: &Query) -> Result<bool, Fail> {
     let database = clone_of(&Database::new(named))?;
-    Ok(is_answer(&database, query) == Ok(true))
+    let mut same = is_answer(&database, query) == Ok(true);
+    for len in 0..=24 {
+        let mut place = [0xEEEE; 24];
+        let indexed = Database::new(named).indexed(&mut place[..len]);
+        same = same && is_answer(&indexed, query) == Ok(true);
+        let mut other = [0; 10];
+        same = same && is_answer(&indexed.indexed(&mut other), query) == Ok(true);
+    }
+    Ok(same)
 }
 
 /// Whether a table of these entries answers so.

@@ -148,30 +148,3 @@ macro_rules! sorted {
 include!("db/names.rs");
 
 include!("db/sorted.rs");
-
-/// Links find what a scan does, in any order of the entries, each of which is there twice, with another name.
-#[test]
-fn links_find_what_a_scan_does() {
-    let mut orders = [ENTRIES; 4];
-    orders[1].reverse();
-    orders[2].sort_by_key(|entry| crate::ByArcs(*entry.0));
-    orders[3].sort_by_key(|entry| entry.1);
-    let mut twice = [ENTRIES[0]; 2 * ENTRIES.len()];
-    for (index, entries) in orders.iter().enumerate() {
-        twice[..ENTRIES.len()].copy_from_slice(entries);
-        let next = entries.iter().cycle().skip(index + 1);
-        let renamed = entries.iter().zip(next).map(|(entry, next)| (entry.0, next.1));
-        twice[ENTRIES.len()..].iter_mut().zip(renamed).for_each(|(to, entry)| *to = entry);
-        let (by_oid, by_name) = (links_of::<3500>(&twice, false), links_of::<3500>(&twice, true));
-        let (linked, scanned) = (Database::new(&twice).linked(&by_oid, &by_name), Database::new(&twice));
-        for (oid, name) in entries {
-            assert_eq!(linked.by_oid(oid), scanned.by_oid(oid));
-            assert!(linked.find_names_for_oid(**oid).eq(scanned.find_names_for_oid(**oid)));
-            assert_eq!(linked.by_name(name), scanned.by_name(name));
-            assert_eq!(linked.by_name(&name[1..]), scanned.by_name(&name[1..]));
-            if let Ok(child) = oid.push_arc(300) {
-                assert_eq!(linked.by_oid(&child), scanned.by_oid(&child));
-            }
-        }
-    }
-}

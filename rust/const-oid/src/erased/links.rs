@@ -23,18 +23,39 @@ const fn key<'a>(entry: &(&'a ObjectIdentifier, &'a str), by_name: bool) -> &'a 
     if by_name { entry.1.as_bytes() } else { entry.0.as_bytes() }
 }
 
-/// The links of entries by name, or by identifier.
-pub(crate) const fn links_of<const SIZE: usize>(entries: &[(&ObjectIdentifier, &str)], by_name: bool) -> [u16; SIZE] {
+/// Writes the links of entries by name, or by identifier, where each link is the number of entries.
+const fn write_links(entries: &[(&ObjectIdentifier, &str)], by_name: bool, links: &mut [u16]) {
     let count = entries.len();
-    let mut links = [count as u16; SIZE];
+    let slots = links.len() - count;
     let mut index = count;
     while index > 0 {
         index -= 1;
-        let slot = count + hash(key(&entries[index], by_name)) as usize % (SIZE - count);
+        let slot = count + hash(key(&entries[index], by_name)) as usize % slots;
         links[index] = links[slot];
         links[slot] = index as u16;
     }
+}
+
+/// The links of entries by name, or by identifier.
+pub(crate) const fn links_of<const SIZE: usize>(entries: &[(&ObjectIdentifier, &str)], by_name: bool) -> [u16; SIZE] {
+    let mut links = [entries.len() as u16; SIZE];
+    write_links(entries, by_name, &mut links);
     links
+}
+
+/// These links in lent memory, or `None` if it has no place for a slot, or the entries are too many for links.
+pub(crate) fn links_in<'a>(
+    entries: &[(&ObjectIdentifier, &str)],
+    by_name: bool,
+    place: &'a mut [u16],
+) -> Option<&'a [u16]> {
+    let count = entries.len();
+    if place.len() <= count || count > u16::MAX as usize {
+        return None;
+    }
+    place.fill(count as u16);
+    write_links(entries, by_name, place);
+    Some(place)
 }
 
 /// The first entry of the slot of bytes, or the number of entries.
