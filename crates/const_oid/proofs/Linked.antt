@@ -1,10 +1,10 @@
 -- Links between the entries of a table, by a hash: what they are at each step, and what a lookup along them finds.
-use Rattle.std.proofs.Common.{◌≡◌, ◌≢◌, ℕ, ◌+◌, ◌-◌, ◌*◌, ◌%◌, ◌^◌, ◌<◌, ◌≤◌, Bool, true, false, List, [], ◌∷◌, Bor, drop, length, get_or, set, nat_eq}
+use Rattle.std.proofs.Common.{◌≡◌, ◌≢◌, ℕ, ◌+◌, ◌-◌, ◌%◌, ◌<◌, ◌≤◌, Bool, true, false, List, [], ◌∷◌, Bor, drop, length, get_or, set, nat_eq}
 use Rattle.std.proofs.Common.{arith, refl, sym, ap, ◌∙◌, Some, None, ⊎_elim, suc, add-one, drop-cons}
-use Rattle.std.specs.{Cmp.Lexicographic.pointwise, List.{fold, filter, find, position_or_len, slice_get, HoldsAt}, Str.str_to_ascii_lowercase}
-use Rattle.std.proofs.lemmas.{Slice.Eq.bytes_eq-Decides, Bool.{cases_Bool, cases_eq, cases_lt, eqb-true, eq-eqb, ne_eqb}, Grind.common_steps}
+use Rattle.std.specs.{Char.to_ascii_lowercase, Cmp.Lexicographic.pointwise, Int.Bits.{bit_or, or_add_and}, List.{fold, filter, find, position_or_len, slice_get, HoldsAt}, Str.str_to_ascii_lowercase}
+use Rattle.std.proofs.lemmas.{Slice.Eq.bytes_eq-Decides, Bool.{cases_Bool, cases_eq, cases_lt, eqb-true, eq-eqb, ne_eqb}, Grind.common_steps, Nat.Bits.and_pow, Str.Ascii.lowercase_is}
 use Rattle.std.proofs.lemmas.List.{drop-drop, get_or-drop, get_or_default, length-drop, Sums.{passes_at_first, prefix_len-le-length}}
-use Rattle.const_oid.specs.Private.Links.{AreLinks, AreLinksFrom, IsInSlot, first_by, hash_of, in_slot, key_of}
+use Rattle.const_oid.specs.Private.Links.{AreLinks, AreLinksFrom, IsInSlot, first_by, hash_of, hash_step, in_slot, key_of}
 use Rattle.const_oid.specs.declared.db.Names.{Names}
 use Rattle.const_oid.specs.declared.oid.ObjectIdentifier.{ObjectIdentifier}
 use Rattle.const_oid.specs.{Names.{Entry, has_arcs, has_name, lent_arcs}, Oid.{oid_arcs, oid_octets}}
@@ -165,12 +165,22 @@ same_oids oid entry same =
     let arcs = same_bytes (lent_arcs entry.0) (oid_arcs oid) same in
     ap hash_of (same_octets (rw arcs at (oid_encoding entry.0.now)) (oid_encoding oid))
 
+-- the bit of case is set in both
+with_bit : (byte : ℕ) → bit_or byte 32 ≡ bit_or (to_ascii_lowercase byte) 32
+with_bit byte =
+    let lower = to_ascii_lowercase byte in
+    grind (arith, cases_lt byte 65, cases_lt 90 byte, lowercase_is byte, or_add_and byte 32, and_pow byte 5, or_add_and lower 32, and_pow lower 5)
+
+same_hash : (bytes : List ℕ) (hash : ℕ) → fold hash_step hash bytes ≡ fold hash_step hash (str_to_ascii_lowercase bytes)
+same_hash [] hash = refl
+same_hash (byte ∷ bytes) hash = rw (with_bit byte) (same_hash bytes (hash_step hash (to_ascii_lowercase byte)))
+
 pub same_names : (name : List ℕ) (entry : Entry (Bor (ObjectIdentifier 39)))
     → has_name name entry ≡ true → hash_of (key_of true entry) ≡ hash_of name
 unfolding hash_of
 same_names name entry same =
-    ap (fold (λ hash byte. ((hash * 33) % 2 ^ 32 + byte) % 2 ^ 32) 0)
-    (same_bytes (str_to_ascii_lowercase entry.1.now) (str_to_ascii_lowercase name) same)
+    same_hash entry.1.now 0 ∙ ap (fold hash_step 0) (same_bytes (str_to_ascii_lowercase entry.1.now) (str_to_ascii_lowercase name) same)
+    ∙ sym (same_hash name 0)
 
 -- to the next entry of the slot of the identifier whose names are left
 pub next_name : (names : Names) (next : ℕ)

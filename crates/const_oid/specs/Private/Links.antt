@@ -2,13 +2,17 @@
 use Rattle.std.specs.Prelude.{◌≡◌, ℕ, ◌+◌, ◌-◌, ◌*◌, ◌%◌, ◌^◌, ◌<◌, ◌≤◌, Bool, true, false, List, drop, length, nat_eq, slice_index}
 use Rattle.std.specs.Borrow.{Bor}
 use Rattle.std.specs.List.{fold, position_or_len, HoldsAt}
-use Rattle.std.specs.Str.{str_to_ascii_lowercase}
+use Rattle.std.specs.Int.Bits.{bit_or}
 use Rattle.const_oid.specs.declared.oid.ObjectIdentifier.{ObjectIdentifier}
 use Rattle.const_oid.specs.Oid.{oid_octets}
 
+-- a hash and one byte more, in which the bit of ASCII case is set
+abbrev pub hash_step : ℕ → ℕ → ℕ
+hash_step hash byte = ((hash * 16777619) % 2 ^ 32 + bit_or byte 32) % 2 ^ 32
+
 -- a hash of bytes, ignoring ASCII case
 unfoldable pub hash_of : List ℕ → ℕ
-hash_of bytes = fold (λ hash byte. ((hash * 33) % 2 ^ 32 + byte) % 2 ^ 32) 0 (str_to_ascii_lowercase bytes)
+hash_of bytes = fold hash_step 0 bytes
 
 -- what is looked for in an entry: its name, or the octets of its identifier
 abbrev pub key_of : Bool → Bor (ObjectIdentifier 39) × Bor (List ℕ) → List ℕ

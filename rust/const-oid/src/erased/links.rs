@@ -12,7 +12,7 @@ pub(crate) const fn hash(bytes: &[u8]) -> u32 {
     let mut hash: u32 = 0;
     let mut left = bytes;
     while let [first, after @ ..] = left {
-        hash = hash.wrapping_mul(33).wrapping_add(first.to_ascii_lowercase() as u32);
+        hash = hash.wrapping_mul(16_777_619).wrapping_add((*first | 32) as u32);
         left = after;
     }
     hash
