@@ -24,6 +24,7 @@ pub mod Lanes
 pub mod Ends
 pub mod Leading
 pub mod Started
+mod Stripped
 pub mod Outputs
 pub mod Pieces
 pub mod PartBounds

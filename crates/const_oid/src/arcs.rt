@@ -1,8 +1,9 @@
 //! Contents octets read as arcs (X.690, 8.19.2 to 8.19.4).
-ghost use Rattle.std.specs.Prelude.{◌≡◌, slice_get, None};
+ghost use Rattle.std.specs.Prelude.{◌≡◌, map, slice_get, None};
 ghost use Rattle.std.specs.Iterator.{YieldsFirst, item_count};
+ghost use Rattle.const_oid.specs.Base128.{value_of};
 ghost use Rattle.const_oid.specs.Identifier.{root_rule};
-ghost use Rattle.const_oid.specs.Contents.{cut, parts_fault, arcs_of_octets};
+ghost use Rattle.const_oid.specs.Contents.{cut, later_fault, parts_fault, arcs_of_octets};
 
 pub use crate::Arc;
 use crate::base128::read_group;
@@ -57,6 +58,17 @@ impl<'a> Arcs<'a> {
     {
         Arcs {
             next: Next::First,
+            octets,
+        }
+    }
+
+    /// The arcs of later subidentifiers, which are valid and follow others.
+    pub(crate) fn later(octets: &'a [u8]) -> Self
+        requires { later_fault (cut octets.now) ≡ None }
+        ensures { result ≡ map value_of (cut octets.now) }
+    {
+        Arcs {
+            next: Next::Later,
             octets,
         }
     }

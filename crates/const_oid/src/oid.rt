@@ -1,6 +1,6 @@
 //! Owned object identifiers.
 
-ghost use Rattle.std.specs.Prelude.{◌≡◌, ◌*◌, ◌<◌, ◌≤◌, ◌↔◌, length, min, slice_get, None, Some, IfOk, IsSome, IsTrue, MatchResult};
+ghost use Rattle.std.specs.Prelude.{◌≡◌, ◌*◌, ◌<◌, ◌≤◌, ◌↔◌, length, min, slice_get, None, Some, IfOk, IsSome, IsTrue, MatchOption, MatchResult, ◌++◌};
 ghost use Rattle.std.specs.Iterator.{IsFiniteIterable};
 ghost use Rattle.std.specs.Cmp.Lexicographic.{slice_cmp};
 ghost use Rattle.std.specs.Option.{option_map};
@@ -521,6 +521,28 @@ impl<const MAX_SIZE: usize> ObjectIdentifier<MAX_SIZE> {
         ensures { IsTrue result ↔ BeginsWith (oid_arcs self.now) (oid_arcs other.entry) }
     {
         self.as_oid_ref().starts_with(&other.as_oid_ref())
+    }
+
+    /// The arcs after those of another identifier, or `None` if the arcs do not begin with those. They may be none.
+    ///
+    /// # Examples
+    ///
+    /// ```
+    /// use const_oid::ObjectIdentifier;
+    ///
+    /// let (top, oid) = (ObjectIdentifier::new_unwrap("2.999"), ObjectIdentifier::new_unwrap("2.999.3"));
+    /// assert!(oid.strip_prefix(&top).unwrap().eq([3]));
+    /// assert!(top.strip_prefix(&oid).is_none());
+    /// ```
+    pub fn strip_prefix<const SIZE: usize>(
+        &self,
+        other: &ObjectIdentifier<SIZE>,
+    ) -> Option<Arcs<'_>>
+        ensures { MatchOption result
+            (BeginsWith (oid_arcs self.now) (oid_arcs other.now) → ⊥)
+            (λ rest. oid_arcs self.now ≡ oid_arcs other.now ++ rest) }
+    {
+        self.as_oid_ref().strip_prefix(&other.as_oid_ref())
     }
 
     /// Compares the arcs lexicographically, a prefix before what begins with it. SNMP orders names so (RFC 3416).

@@ -1,5 +1,5 @@
 //! Borrowed object identifiers.
-ghost use Rattle.std.specs.Prelude.{◌≡◌, ◌≢◌, ◌*◌, ◌≤◌, ◌<◌, ◌↔◌, ◌+◌, ℕ, drop, length, min, slice_get, take, count_by, None, Some, Err, IfErr, IfOk, IfSome, IsSome, IsTrue, MatchOption};
+ghost use Rattle.std.specs.Prelude.{◌≡◌, ◌≢◌, ◌*◌, ◌≤◌, ◌<◌, ◌↔◌, ◌+◌, ◌++◌, ℕ, drop, length, min, slice_get, take, count_by, None, Some, Err, IfErr, IfOk, IfSome, IsSome, IsTrue, MatchOption};
 ghost use Rattle.std.specs.Option.{option_map};
 ghost use Rattle.std.specs.Fmt.{DisplaysOnOk, WritesStyledOnOk};
 ghost use Rattle.std.specs.Cmp.Lexicographic.{slice_cmp};
@@ -420,6 +420,27 @@ impl<'a> ObjectIdentifierRef<'a> {
         ensures { IsTrue result ↔ BeginsWith (ref_arcs self.now) (ref_arcs other.now) }
     {
         begins_with(self.ber, other.ber)
+    }
+
+    /// The arcs after those of another identifier, or `None` if the arcs do not begin with those. They may be none.
+    ///
+    /// # Examples
+    ///
+    /// ```
+    /// let oid = const_oid::ObjectIdentifierRef::from_bytes(&[0x88, 0x37, 0x03])?;
+    /// assert!(oid.strip_prefix(oid.parent().unwrap()).unwrap().eq([3]));
+    /// # Ok::<(), const_oid::Error>(())
+    /// ```
+    #[inline]
+    pub fn strip_prefix(&self, other: &ObjectIdentifierRef<'_>) -> Option<Arcs<'a>>
+        ensures { MatchOption result
+            (BeginsWith (ref_arcs self.now) (ref_arcs other.now) → ⊥)
+            (λ rest. ref_arcs self.now ≡ ref_arcs other.now ++ rest) }
+    {
+        if !begins_with(self.ber, other.ber) {
+            return None;
+        }
+        Some(Arcs::later(&self.ber[other.ber.len()..]))
     }
 
     /// Compares the arcs lexicographically, a prefix before what begins with it. SNMP orders names so (RFC 3416).

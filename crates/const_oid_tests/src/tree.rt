@@ -1,4 +1,4 @@
-//! Parents, children and prefixes: `parent`, `push_arc` and `starts_with`.
+//! Parents, children and prefixes: `parent`, `push_arc`, `starts_with` and `strip_prefix`.
 
 ghost use Rattle.std.specs.Prelude.{◌≤◌};
 
@@ -165,6 +165,32 @@ fn begins_with_each_prefix(rt: HostRuntime) {
     for (octets, prefix, wanted) in PREFIXES {
         assert!(rt;
             begins(octets, prefix, *wanted) == Ok(true),
+            "{octets:?} and {prefix:?}"
+        );
+    }
+}
+
+/// Whether so the arcs that are left after a prefix are, or are none: of both forms.
+fn strips(octets: &[u8], prefix: &[u8], wanted: bool) -> Result<bool, Error> {
+    let oid = Oid::from_bytes(octets)?;
+    let prefix = Oid::from_bytes(prefix)?;
+    let borrowed = oid.as_oid_ref().strip_prefix(&prefix.as_oid_ref());
+    Ok(match (oid.strip_prefix(&prefix), borrowed) {
+        (Some(owned), Some(borrowed)) => {
+            wanted
+                && prefix.arcs().chain(owned).eq(oid.arcs())
+                && prefix.arcs().chain(borrowed).eq(oid.arcs())
+        }
+        (None, None) => !wanted,
+        _ => false,
+    })
+}
+
+#[test]
+fn strips_each_prefix(rt: HostRuntime) {
+    for (octets, prefix, wanted) in PREFIXES {
+        assert!(rt;
+            strips(octets, prefix, *wanted) == Ok(true),
             "{octets:?} and {prefix:?}"
         );
     }

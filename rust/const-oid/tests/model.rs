@@ -429,6 +429,8 @@ fn check_pair(a: &[u8], b: &[u8]) {
     let (is_equal, starts, by_arcs) = (a == b, p.starts_with(&q), p.cmp(&q));
     assert_eq!((x == y, x != y, x.cmp(y), x.partial_cmp(y)), (is_equal, !is_equal, a.cmp(b), Some(a.cmp(b))));
     assert_eq!((x.starts_with(y), x.cmp_arcs(y)), (starts, by_arcs));
+    let rest = p.strip_prefix(q.as_slice()).map(Vec::from);
+    assert_eq!(x.strip_prefix(y).map(Vec::from_iter), rest);
     assert_eq!([x < y, x <= y, x > y, x >= y], [a < b, a <= b, a > b, a >= b]);
     let (s, t) = (ByArcs::of(x), ByArcs::of(y));
     assert_eq!((s == t, s.cmp(t), s.partial_cmp(t)), (is_equal, by_arcs, Some(by_arcs)));
@@ -440,6 +442,7 @@ fn check_pair(a: &[u8], b: &[u8]) {
     assert_eq!((i == j, i != j, i.cmp(&j), i.partial_cmp(&j)), (is_equal, !is_equal, order, Some(order)));
     assert_eq!([i < j, i <= j, i > j, i >= j], [order.is_lt(), order.is_le(), order.is_gt(), order.is_ge()]);
     assert_eq!((i.starts_with(j), i.cmp_arcs(&j), *x == j), (starts, by_arcs, is_equal));
+    assert_eq!(i.strip_prefix(&j).map(Vec::from_iter), rest);
     assert_eq!((ByArcs(i) == ByArcs(j), ByArcs(i).cmp(&ByArcs(j))), (is_equal, by_arcs));
     assert_eq!((fed(&i), fed(&ByArcs(i))), (fed(x), fed(s)));
     let Ok(small) = ObjectIdentifier::<39>::try_from(y) else {

@@ -66,7 +66,7 @@ pub const CRATES: &[Crate] = &[
             "oid_ref*": "self.ber" => "self.as_bytes()", UNSIZED;
             "oid_ref*": "other.ber" => "other.as_bytes()", UNSIZED;
             "oid_ref": "-> &'a [u8] { self.as_bytes() }" => "-> &[u8] {\n &self.ber\n }", UNSIZED;
-            "oid_ref": "Arcs<'a>" => "Arcs<'_>", UNSIZED;
+            "oid_ref*": "Arcs<'a>" => "Arcs<'_>", UNSIZED;
             "oid_ref": "Option<ObjectIdentifierRef<'a>>" => "Option<&Self>", UNSIZED;
             "oid_ref": "fn eq(&self, other: &Self) -> bool { are_equal(self.as_bytes(), other.as_bytes()) }"
                 => "#[inline]\nfn eq(&self, other: &Self) -> bool {\n self.ber == other.ber\n }", BY_CORE;

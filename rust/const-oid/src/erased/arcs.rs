@@ -39,6 +39,11 @@ impl<'a> Arcs<'a> {
     pub(crate) fn new(octets: &'a [u8]) -> Self {
         Arcs { next: Next::First, octets }
     }
+
+    /// The arcs of later subidentifiers, which are valid and follow others.
+    pub(crate) fn later(octets: &'a [u8]) -> Self {
+        Arcs { next: Next::Later, octets }
+    }
 }
 
 impl Iterator for Arcs<'_> {

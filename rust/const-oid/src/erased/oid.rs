@@ -431,6 +431,22 @@ impl<const MAX_SIZE: usize> ObjectIdentifier<MAX_SIZE> {
         self.as_oid_ref().starts_with(&other.as_oid_ref())
     }
 
+    /// The arcs after those of another identifier, or `None` if the arcs do not begin with those. They may be none.
+    ///
+    /// # Examples
+    ///
+    /// ```
+    /// use const_oid::ObjectIdentifier;
+    ///
+    /// let (top, oid) = (ObjectIdentifier::new_unwrap("2.999"), ObjectIdentifier::new_unwrap("2.999.3"));
+    /// assert!(oid.strip_prefix(&top).unwrap().eq([3]));
+    /// assert!(top.strip_prefix(&oid).is_none());
+    /// ```
+    #[must_use]
+    pub fn strip_prefix<const SIZE: usize>(&self, other: &ObjectIdentifier<SIZE>) -> Option<Arcs<'_>> {
+        self.as_oid_ref().strip_prefix(&other.as_oid_ref())
+    }
+
     /// Compares the arcs lexicographically, a prefix before what begins with it. SNMP orders names so (RFC 3416).
     ///
     /// # Examples

@@ -347,6 +347,24 @@ impl ObjectIdentifierRef {
         begins_with(self.as_bytes(), other.as_bytes())
     }
 
+    /// The arcs after those of another identifier, or `None` if the arcs do not begin with those. They may be none.
+    ///
+    /// # Examples
+    ///
+    /// ```
+    /// let oid = const_oid::ObjectIdentifierRef::from_bytes(&[0x88, 0x37, 0x03])?;
+    /// assert!(oid.strip_prefix(oid.parent().unwrap()).unwrap().eq([3]));
+    /// # Ok::<(), const_oid::Error>(())
+    /// ```
+    #[inline]
+    #[must_use]
+    pub fn strip_prefix(&self, other: &ObjectIdentifierRef) -> Option<Arcs<'_>> {
+        if !begins_with(self.as_bytes(), other.as_bytes()) {
+            return None;
+        }
+        Some(Arcs::later(&self.as_bytes()[other.as_bytes().len()..]))
+    }
+
     /// Compares the arcs lexicographically, a prefix before what begins with it. SNMP orders names so (RFC 3416).
     ///
     /// # Examples
