@@ -20,6 +20,7 @@ pub mod Capacities
 pub mod PartsFault
 pub mod PartEnds
 pub mod Octets
+pub mod Elements
 pub mod Lanes
 pub mod Ends
 pub mod Leading

@@ -1,11 +1,13 @@
 -- What a borrowed identifier shows.
 use Rattle.std.specs.Borrow.{Bor}
-use Rattle.std.specs.Prelude.{ℕ, List, Result}
+use Rattle.std.specs.Prelude.{◌≡◌, ℕ, List, ◌++◌, Result, IfOk}
 use Rattle.std.specs.Result.{result_map_both}
 use Rattle.const_oid.specs.declared.by_arcs.ByArcs.{ByArcs}
 use Rattle.const_oid.specs.declared.error.Error.{Error}
 use Rattle.const_oid.specs.declared.oid_ref.ObjectIdentifierRef.{ObjectIdentifierRef}
-use Rattle.const_oid.specs.Contents.{arcs_of_octets}
+use Rattle.const_oid.specs.Contents.{arcs_of_octets, octet_answer, borrowed_capacity}
+use Rattle.const_oid.specs.Element.{element}
+use Rattle.const_oid.specs.Identifier.{root_rule}
 
 -- the slice that it holds
 abbrev pub ref_slice : ObjectIdentifierRef → Bor (List ℕ)
@@ -26,3 +28,10 @@ key_arcs key = ref_arcs key.0
 -- the result of a function, by the arcs of the identifier
 abbrev pub ref_answer : Result ObjectIdentifierRef Error → Result (List ℕ) Error
 ref_answer result = result_map_both ref_arcs (λ fault. fault) result
+
+-- the octets are the element of contents octets and then the rest, and the result is what these contents octets are read as
+pub record ReadsElement (der : List ℕ) (result : Result ObjectIdentifierRef Error) (rest : List ℕ) : Type 0 where
+  pub contents : List ℕ
+  pub joined : der ≡ element contents ++ rest
+  pub answer : ref_answer result ≡ octet_answer root_rule contents borrowed_capacity
+  pub octets : IfOk result (λ oid. ref_octets oid ≡ contents)

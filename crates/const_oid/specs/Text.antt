@@ -92,7 +92,7 @@ strip text = join_with_byte dot (map strip_piece (pieces_of text))
 abbrev pub text_answer : RootRule → List ℕ → ℕ → Result (List ℕ) Error
 text_answer rule text capacity = answer (text_fault rule text capacity) (map number_of (pieces_of text))
 
--- the result is the length of a text, or None exactly if the text is longer than the output
+-- the result is the length of a text, or of octets, or None exactly if it is longer than the output
 abbrev pub ReturnsLength : List ℕ → List ℕ → Option ℕ → Type 0
 ReturnsLength text out result = MatchOption result (length out < length text) (λ len. len ≡ length text)
 
@@ -101,7 +101,7 @@ abbrev pub ReturnsText : List ℕ → List ℕ → Option (Bor (List ℕ)) → T
 ReturnsText text out result = MatchOption result (length out < length text)
     (λ written. (written.now ≡ text) × (length text ≤ length out))
 
--- if a length is returned, the new output is the text, and then the old bytes
+-- if a length is returned, the new output is the text, or the octets, and then the old bytes
 abbrev pub WritesText : List ℕ → List ℕ → List ℕ → Option ℕ → Type 0
 WritesText text old new result = IfSome result (λ len. new ≡ text ++ drop len old)
 

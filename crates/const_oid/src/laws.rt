@@ -3,7 +3,7 @@
 //! A `rule` is either of the two rules of the root: `Wide`, which the crate keeps, or `Narrow`. An input is accepted if
 //! it has no fault. A group is the octets of one subidentifier.
 
-ghost use Rattle.std.specs.Prelude.{◌≡◌, ◌≢◌, ◌↔◌, ℕ, ◌+◌, ◌*◌, ◌<◌, ◌≤◌, List, [], ◌∷◌, ◌++◌, length, map, drop, nat_lt, sum_by, count_by, Some, None, Ok, codes, ◌-◌, take, slice_get};
+ghost use Rattle.std.specs.Prelude.{◌≡◌, ◌≢◌, ◌↔◌, ℕ, ◌+◌, ◌*◌, ◌^◌, ◌<◌, ◌≤◌, List, [], ◌∷◌, ◌++◌, length, map, drop, nat_lt, sum_by, count_by, Some, None, Ok, codes, ◌-◌, take, slice_get};
 ghost use Rattle.std.specs.Cmp.{IsTotalOrder};
 ghost use Rattle.std.specs.Cmp.Lexicographic.{slice_cmp};
 ghost use Rattle.std.specs.List.{AllByRecursion, AllZip, concat};
@@ -15,6 +15,7 @@ ghost use Rattle.const_oid.specs.Items.{arc_fault, item_fault, item_answer};
 ghost use Rattle.const_oid.specs.declared.error.Error.TheVariants.{ArcInvalid, ArcTooBig, Base128, DigitExpected, Empty, Length, Overflow, TrailingDot};
 ghost use Rattle.const_oid.specs.Base128.{AreOctets, value_of, IsGroup, IsWidth, group_of, width};
 ghost use Rattle.const_oid.specs.Contents.{cut, octet_fault, octet_answer, arcs_of_octets, arcs_from};
+ghost use Rattle.const_oid.specs.Element.{IsLength, length_octets, element};
 ghost use Rattle.const_oid.specs.Identifier.{RootRule, Narrow, Wide, root_rule, max_arc, max_second, IsIdentifier, IsEncoding, encoding_of, size};
 ghost use Rattle.const_oid.specs.Orders.{shortlex_cmp, parts_cmp};
 ghost use Rattle.const_oid.specs.Text.{text_fault, text_answer, text_of, pieces_of, number_of, Denotes, strip};
@@ -68,6 +69,19 @@ pub fn unique_groups()
 pub fn prefix_free()
     ensures { (m n : ℕ) (g h x y : List ℕ) → IsGroup m g → IsGroup n h → g ++ x ≡ h ++ y
         → (g ≡ h) × (m ≡ n) }
+{}
+
+/// Each number below 2^64, as the length of each slice is, has exactly one form as a length, and this is `length_octets`.
+pub fn unique_lengths()
+    ensures one { (n : ℕ) → n < 2 ^ 64 → IsLength n (length_octets n) }
+    ensures only { (n : ℕ) (octets : List ℕ) → n < 2 ^ 64 → IsLength n octets → octets ≡ length_octets n }
+{}
+
+/// Elements are a prefix-free code: what is written before other octets is read back, with these as the rest.
+#[tactic(auto, using(crate::proofs::Elements::same_element))]
+pub fn unique_elements()
+    ensures { (a b x y : List ℕ) → length a < 2 ^ 64 → length b < 2 ^ 64 → element a ++ x ≡ element b ++ y
+        → (a ≡ b) × (x ≡ y) }
 {}
 
 /// Accepted octets are the encoding of their arcs, and of no others. An encoding is accepted exactly if it fits.

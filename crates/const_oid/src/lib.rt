@@ -16,6 +16,7 @@ mod copies;
 pub mod db;
 mod db_sorted;
 mod digits;
+mod element;
 mod encoder;
 pub mod error;
 // Its functions have contracts, and no effect.

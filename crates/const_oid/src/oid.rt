@@ -1,6 +1,6 @@
 //! Owned object identifiers.
 
-ghost use Rattle.std.specs.Prelude.{◌≡◌, ◌*◌, ◌<◌, ◌≤◌, ◌↔◌, length, min, slice_get, None, Some, IfOk, IsSome, IsTrue, MatchOption, MatchResult, ◌++◌};
+ghost use Rattle.std.specs.Prelude.{◌≡◌, ◌+◌, ◌*◌, ◌<◌, ◌≤◌, ◌↔◌, length, min, slice_get, None, Some, IfOk, IsSome, IsTrue, MatchOption, MatchResult, ◌++◌};
 ghost use Rattle.std.specs.Iterator.{IsFiniteIterable};
 ghost use Rattle.std.specs.Cmp.Lexicographic.{slice_cmp};
 ghost use Rattle.std.specs.Option.{option_map};
@@ -8,6 +8,7 @@ ghost use Rattle.std.specs.Fmt.{DisplaysOnOk, WritesStyledOnOk};
 ghost use Rattle.std.specs.Ordering.{nat_cmp};
 ghost use Rattle.const_oid.specs.Buffer.{buffer_octets};
 ghost use Rattle.const_oid.specs.Contents.{cut, parts_fault, octet_answer};
+ghost use Rattle.const_oid.specs.Element.{element};
 ghost use Rattle.const_oid.specs.Text.{text_of, text_fault, text_answer, Denotes, ReturnsLength, ReturnsText, WritesText};
 ghost use Rattle.const_oid.specs.Identifier.{root_rule, usual_capacity, IsEncoding, size};
 ghost use Rattle.const_oid.specs.Items.{TakesItems};
@@ -148,7 +149,7 @@ impl ObjectIdentifier<39> {
     /// Decodes at most 39 contents octets (X.690, 8.19).
     ///
     /// Tag and length are not removed: a complete encoding `06 09 2A ..` is no error, but another identifier,
-    /// 0.6.9.42 and so on.
+    /// 0.6.9.42 and so on. [`read_element`](ObjectIdentifierRef::read_element) removes them.
     ///
     /// # Errors
     ///
@@ -349,6 +350,43 @@ impl<const MAX_SIZE: usize> ObjectIdentifier<MAX_SIZE> {
         ensures arcs { ref_arcs result ≡ oid_arcs self.now }
     {
         ObjectIdentifierRef::from_checked(self.as_bytes())
+    }
+
+    /// The length in octets of the element that [`write_element`](Self::write_element) writes.
+    ///
+    /// # Examples
+    ///
+    /// ```
+    /// use const_oid::ObjectIdentifier;
+    ///
+    /// assert_eq!(ObjectIdentifier::new_unwrap("2.999.3").element_len(), 5);
+    /// ```
+    pub fn element_len(&self) -> usize
+        ensures { result ≡ length (element (oid_octets self.now)) }
+    {
+        self.as_oid_ref().element_len()
+    }
+
+    /// Writes the element in DER, the tag 6, the length and the contents octets (X.690, 8.1, 8.19 and 10.1), to the start
+    /// of `out`, and returns its length in octets. Returns `None` if it is longer than `out`, which is then unchanged.
+    /// Three octets more than the contents are always enough.
+    ///
+    /// # Examples
+    ///
+    /// ```
+    /// use const_oid::ObjectIdentifier;
+    ///
+    /// let mut out = [0; ObjectIdentifier::MAX_SIZE + 3];
+    /// let len = ObjectIdentifier::new_unwrap("2.999.3").write_element(&mut out).unwrap();
+    /// assert_eq!(out[..len], [0x06, 0x03, 0x88, 0x37, 0x03]);
+    /// ```
+    pub fn write_element(&self, out: &mut [u8]) -> Option<usize>
+        ensures cases { ReturnsLength (element (oid_octets self.now)) out.old result }
+        ensures written { WritesText (element (oid_octets self.now)) out.old out.new result }
+        ensures kept { result ≡ None → out.new ≡ out.old }
+        ensures enough { length (oid_octets self.now) + 3 ≤ length out.old → IsSome result }
+    {
+        self.as_oid_ref().write_element(out)
     }
 
     /// The arc at an index, counted from 0, or `None` past the last one.

@@ -1,5 +1,5 @@
 //! Borrowed object identifiers.
-ghost use Rattle.std.specs.Prelude.{◌≡◌, ◌≢◌, ◌*◌, ◌≤◌, ◌<◌, ◌↔◌, ◌+◌, ◌++◌, ℕ, drop, length, min, slice_get, take, count_by, None, Some, Err, IfErr, IfOk, IfSome, IsSome, IsTrue, MatchOption};
+ghost use Rattle.std.specs.Prelude.{◌≡◌, ◌≢◌, ◌*◌, ◌≤◌, ◌<◌, ◌↔◌, ◌+◌, ◌++◌, ℕ, List, drop, length, min, slice_get, take, count_by, None, Some, Err, IfErr, IfOk, IfSome, IsSome, IsTrue, MatchOption};
 ghost use Rattle.std.specs.Option.{option_map};
 ghost use Rattle.std.specs.Fmt.{DisplaysOnOk, WritesStyledOnOk};
 ghost use Rattle.std.specs.Cmp.Lexicographic.{slice_cmp};
@@ -8,6 +8,7 @@ ghost use Rattle.std.specs.Ordering.{nat_cmp, is_lt};
 ghost use Rattle.std.proofs.Props.{props};
 ghost use Rattle.const_oid.specs.Base128.{AreOctets};
 ghost use Rattle.const_oid.specs.Contents.{arcs_of_octets, cut, parts_fault, octet_answer, bytes_answer, size_answer, borrowed_capacity};
+ghost use Rattle.const_oid.specs.Element.{element};
 ghost use Rattle.const_oid.specs.Identifier.{root_rule, usual_capacity, IsEncoding};
 ghost use Rattle.const_oid.specs.Items.{item_answer};
 ghost use Rattle.const_oid.specs.Text.{text_answer, text_of, text_in, octet_text, Denotes, ReturnsLength, ReturnsText, WritesText};
@@ -17,6 +18,7 @@ use crate::arcs::{Arcs, arc_at};
 use crate::base128::read_group;
 use crate::compare::{are_equal, begins_with, order, order_by_parts};
 use crate::digits::{MAX_ARC_LEN, utf8, write_arc};
+use crate::element::{element_len, split_element, write_element};
 use crate::encoder::{SHORT_ARCS, encode_long, encode_short};
 use crate::error::{Error, Result};
 use crate::parser::{SHORT_TEXT, parse_long, parse_short, parse_to};
@@ -51,13 +53,13 @@ pub struct ObjectIdentifierRef<'a> {
 }
 
 impl<'a> ObjectIdentifierRef<'a> {
-    ghost use Rattle.const_oid.specs.OidRef.{ref_slice, ref_octets, ref_arcs, ref_answer};
+    ghost use Rattle.const_oid.specs.OidRef.{ref_slice, ref_octets, ref_arcs, ref_answer, ReadsElement};
     ghost use Rattle.const_oid.specs.Tree.{BeginsWith, parent_of};
 
     /// Decodes contents octets (X.690, 8.19).
     ///
     /// Tag and length are not removed: a complete encoding `06 09 2A ..` is no error, but another identifier,
-    /// 0.6.9.42 and so on.
+    /// 0.6.9.42 and so on. [`read_element`](Self::read_element) removes them.
     ///
     /// # Errors
     ///
@@ -91,6 +93,36 @@ impl<'a> ObjectIdentifierRef<'a> {
         Ok(ObjectIdentifierRef { ber })
     }
 
+    /// Reads the element in DER that octets begin with: the tag 6, the length, and contents octets (X.690, 8.1, 8.19 and
+    /// 10.1). Returns the identifier, or the error of the contents octets, and the octets after the element.
+    ///
+    /// Returns `None` if the octets begin with no such element: the tag is not 6, the length is indefinite or could be
+    /// in fewer octets, or not all contents octets are there.
+    ///
+    /// # Errors
+    ///
+    /// Those of [`from_bytes`](Self::from_bytes).
+    ///
+    /// # Examples
+    ///
+    /// ```
+    /// use const_oid::{Error, ObjectIdentifierRef};
+    ///
+    /// let (oid, rest) = ObjectIdentifierRef::read_element(&[0x06, 0x02, 0x88, 0x37, 0x05, 0x00]).unwrap();
+    /// assert_eq!((oid?.to_string().as_str(), rest), ("2.999", &[0x05, 0x00][..]));
+    /// assert_eq!(ObjectIdentifierRef::read_element(&[0x06, 0x00]), Some((Err(Error::Empty), &[][..])));
+    /// assert_eq!(ObjectIdentifierRef::read_element(&[0x06, 0x02, 0x88]), None);
+    /// # Ok::<(), Error>(())
+    /// ```
+    #[inline]
+    pub fn read_element(der: &'a [u8]) -> Option<(Result<Self>, &'a [u8])>
+        ensures { MatchOption result ((contents rest : List ℕ) → der.now ≢ element contents ++ rest)
+            (λ read. ReadsElement der.now read.0 read.1.now) }
+    {
+        let (contents, rest) = split_element(der)?;
+        Some((Self::from_bytes(contents), rest))
+    }
+
     /// The identifier over valid octets.
     pub(crate) const fn from_checked(ber: &'a [u8]) -> Self
         requires { parts_fault root_rule (cut ber.now) ≡ None }
@@ -113,6 +145,48 @@ impl<'a> ObjectIdentifierRef<'a> {
         ensures encoding { IsEncoding root_rule (ref_arcs self.now) result.now }
     {
         self.ber
+    }
+
+    /// The length in octets of the element that [`write_element`](Self::write_element) writes.
+    ///
+    /// # Examples
+    ///
+    /// ```
+    /// let oid = const_oid::ObjectIdentifierRef::from_bytes(&[0x88, 0x37, 0x03])?;
+    /// assert_eq!(oid.element_len(), 5);
+    /// # Ok::<(), const_oid::Error>(())
+    /// ```
+    #[inline]
+    pub fn element_len(&self) -> usize
+        ensures { result ≡ length (element (ref_octets self.now)) }
+    {
+        element_len(self.ber)
+    }
+
+    /// Writes the element in DER, the tag 6, the length and the contents octets (X.690, 8.1, 8.19 and 10.1), to the start
+    /// of `out`, and returns its length in octets. Returns `None` if it is longer than `out`, which is then unchanged.
+    /// Ten octets more than the contents are always enough.
+    ///
+    /// # Examples
+    ///
+    /// ```
+    /// let oid = const_oid::ObjectIdentifierRef::from_bytes(&[0x88, 0x37, 0x03])?;
+    /// let mut out = [0; 6];
+    /// assert_eq!(oid.write_element(&mut out), Some(5));
+    /// assert_eq!(out, [0x06, 0x03, 0x88, 0x37, 0x03, 0x00]);
+    /// # Ok::<(), const_oid::Error>(())
+    /// ```
+    #[inline]
+    pub fn write_element(&self, out: &mut [u8]) -> Option<usize>
+        ensures cases { ReturnsLength (element (ref_octets self.now)) out.old result }
+        ensures written { WritesText (element (ref_octets self.now)) out.old out.new result }
+        ensures kept { result ≡ None → out.new ≡ out.old }
+        ensures enough { length (ref_octets self.now) + 10 ≤ length out.old → IsSome result }
+    {
+        if element_len(self.ber) > out.len() {
+            return None;
+        }
+        Some(write_element(self.ber, out))
     }
 
     /// The arc at an index, counted from 0, or `None` past the last one.

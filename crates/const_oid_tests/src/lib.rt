@@ -10,6 +10,8 @@ mod callers;
 #[cfg(test)]
 mod capacity;
 #[cfg(test)]
+mod elements;
+#[cfg(test)]
 mod encode_text;
 #[cfg(test)]
 mod errors;

@@ -1,11 +1,12 @@
 //! What callers want to know of identifiers, as contracts of small functions.
 
-ghost use Rattle.std.specs.Prelude.{◌≡◌, ◌≢◌, ◌<◌, ◌≤◌, ◌↔◌, [], ◌∷◌, length, Some, IsTrue, IsSome};
+ghost use Rattle.std.specs.Prelude.{◌≡◌, ◌≢◌, ◌<◌, ◌≤◌, ◌↔◌, [], ◌∷◌, drop, length, Some, IsTrue, IsSome};
 ghost use Rattle.std.specs.Prelude.{IfOk, IfSome, IsOk, IsOkAnd, IsSomeAnd};
 ghost use Rattle.std.specs.declared.cmp.Ordering.TheVariants.{Less};
+ghost use Rattle.const_oid.specs.Element.{element};
 ghost use Rattle.const_oid.specs.Identifier.{size};
 ghost use Rattle.const_oid.specs.Oid.{oid_arcs};
-ghost use Rattle.const_oid.specs.OidRef.{ref_arcs};
+ghost use Rattle.const_oid.specs.OidRef.{ref_arcs, ref_octets};
 ghost use Rattle.const_oid.specs.Tree.{BeginsWith, child_of, parent_of};
 
 use const_oid::{Arc, Error, ObjectIdentifier, ObjectIdentifierRef, Oid};
@@ -85,4 +86,20 @@ pub fn through_text<const SIZE: usize>(
 {
     let text = oid.to_string(alloc)?;
     Ok(ObjectIdentifier::new_sized(text.as_str()))
+}
+
+/// What is read of octets as an element: the identifier or the error, and the octets after it.
+type Element<'a> = (Result<ObjectIdentifierRef<'a>, Error>, &'a [u8]);
+
+/// An element that is written is read as the same identifier, and the octets after it as the rest.
+pub fn through_element<'a>(
+    oid: ObjectIdentifierRef<'_>,
+    out: &'a mut [u8],
+) -> Option<Option<Element<'a>>>
+    ensures { IfSome result (λ read. IsSomeAnd read (λ read.
+        IsOkAnd read.0 (λ again. ref_octets again ≡ ref_octets oid.entry)
+        × (read.1.now ≡ drop (length (element (ref_octets oid.entry))) out.old))) }
+{
+    oid.write_element(out)?;
+    Some(ObjectIdentifierRef::read_element(out))
 }

@@ -69,6 +69,22 @@ mod model {
         Ok(arcs.map(|arc| arc as Arc).collect())
     }
 
+    /// Section 4: tag and length octets of an element.
+    pub fn head(len: usize) -> Vec<u8> {
+        if len < 128 {
+            return vec![6, len as u8];
+        }
+        let len = len as u128;
+        let count = (1..).find(|count| len < 256_u128.pow(*count)).unwrap();
+        let digits = (0..count).rev().map(|place| (len / 256_u128.pow(place) % 256) as u8);
+        [6, 128 + count as u8].into_iter().chain(digits).collect()
+    }
+
+    /// Section 4: the contents octets of the element that octets begin with, and the octets after it.
+    pub fn of_element(der: &[u8]) -> Option<(&[u8], &[u8])> {
+        (0..=der.len()).find_map(|len| der.strip_prefix(&head(len)[..])?.split_at_checked(len))
+    }
+
     /// Section 2: the octets of arcs.
     pub fn encoding(arcs: &[Arc]) -> Vec<u8> {
         let mut octets = Vec::with_capacity(5 * arcs.len());
@@ -185,6 +201,15 @@ fn read_octets<const N: usize>(octets: &[u8], answer: &model::Answer) {
     }
 }
 
+/// What is read of octets as an element, and where it lies.
+fn check_element(der: &[u8]) {
+    let read = ObjectIdentifierRef::read_element(der)
+        .map(|(oid, rest)| (oid.map(|oid| oid.as_bytes().as_ptr_range()), rest.as_ptr_range()));
+    let expected = model::of_element(der)
+        .map(|(contents, rest)| (model::of_octets(contents).map(|_| contents.as_ptr_range()), rest.as_ptr_range()));
+    assert_eq!(read, expected, "{der:02X?}");
+}
+
 /// The functions that read octets.
 fn check_octets(octets: &[u8]) {
     let answer = model::of_octets(octets);
@@ -294,6 +319,7 @@ macro_rules! check_values {
         let text = model::text($arcs);
         check_text_of($oid, &text, $name);
         check_encoded(&text, $oid.text_len(), |out| $oid.encode_text(out), |out| $oid.encode_str(out));
+        check_element_of($octets, $oid.element_len(), |out| $oid.write_element(out));
         assert_eq!((fed($oid), fed(ByArcs::of($oid))), (fed($octets), fed($octets)));
         let (_, parent) = $arcs.split_last().unwrap();
         let parent = (parent.len() >= 2).then(|| model::encoding(parent));
@@ -385,6 +411,19 @@ fn check_encoded(
         let start = out.as_ptr();
         assert_eq!(encode_str(&mut out).map(|text| (text.as_ptr(), text.len())), expected.map(|_| (start, len)));
         assert_eq!(out, written, "{text}, {room}");
+    }
+}
+
+/// An element written into outputs near its length: the result is at the start, and the rest is kept.
+fn check_element_of(contents: &[u8], len: usize, write_element: impl Fn(&mut [u8]) -> Option<usize>) {
+    let element = [&model::head(contents.len()), contents].concat();
+    assert_eq!(len, element.len());
+    for room in [0, 1, 2, len - 1, len, len + 1, len + 9] {
+        let mut out = vec![0xEE; room];
+        let written = write_element(&mut out);
+        assert_eq!(written, (room >= len).then_some(len), "{contents:02X?}, {room}");
+        let (start, rest) = out.split_at(written.unwrap_or(0));
+        assert!(element.starts_with(start) && rest.iter().all(|octet| *octet == 0xEE), "{contents:02X?}, {room}");
     }
 }
 
@@ -518,6 +557,26 @@ fn valid() -> Vec<Vec<u8>> {
 fn reads_all_octets_up_to_three() {
     let octets: Vec<u8> = (0..=255).collect();
     all(&octets, 3, check_octets);
+}
+
+/// All octets of up to five over a few, and elements around each number of length octets, whole and changed.
+#[test]
+fn reads_elements() {
+    let octets = [0, 1, 2, 3, 5, 6, 0x26, 0x2A, 0x7F, 0x80, 0x81, 0x82, 0x84, 0x88, 0x89, 0xFF];
+    all(&octets, 5, check_element);
+    for len in [1, 126, 127, 128, 129, 254, 255, 256, 257, 65_535, 65_536] {
+        let head = model::head(len);
+        let element = [&head[..], &vec![0x2A; len]].concat();
+        check_element(&element);
+        check_element(&element[..element.len() - 1]);
+        for (index, octet) in (0..head.len()).flat_map(|index| octets.map(|octet| (index, octet))) {
+            let mut other = [&element[..], &[0x2A; 200]].concat();
+            other[index] = octet;
+            check_element(&other);
+            other.insert(index, octet);
+            check_element(&other);
+        }
+    }
 }
 
 #[test]

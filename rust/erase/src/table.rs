@@ -60,6 +60,7 @@ pub const CRATES: &[Crate] = &[
             "oid_ref*": "for ObjectIdentifierRef<'_>" => "for ObjectIdentifierRef", UNSIZED;
             "oid_ref": "from_bytes(ber: &'a [u8]) -> Result<Self>" => "from_bytes(ber: &[u8]) -> Result<&Self>", UNSIZED;
             "oid_ref": "Ok(ObjectIdentifierRef { ber })" => "Ok(Self::from_checked(ber))", UNSIZED;
+            "oid_ref": "fn read_element" => "fn read_element<'a>", UNSIZED;
             "oid_ref": "fn from_ascii_in" => "fn from_ascii_in<'a>", UNSIZED;
             "oid_ref": "fn from_arcs_in" => "fn from_arcs_in<'a>", UNSIZED;
             "oid_ref*": "Result<Self>" => "Result<&'a Self>", UNSIZED;

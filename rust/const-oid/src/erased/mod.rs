@@ -13,6 +13,7 @@ pub mod db;
 #[cfg(feature = "db")]
 mod db_sorted;
 mod digits;
+mod element;
 mod encoder;
 pub mod error;
 #[cfg(feature = "db")]

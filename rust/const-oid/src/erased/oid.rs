@@ -118,7 +118,7 @@ impl ObjectIdentifier<39> {
     /// Decodes at most 39 contents octets (X.690, 8.19).
     ///
     /// Tag and length are not removed: a complete encoding `06 09 2A ..` is no error, but another identifier,
-    /// 0.6.9.42 and so on.
+    /// 0.6.9.42 and so on. [`read_element`](ObjectIdentifierRef::read_element) removes them.
     ///
     /// # Errors
     ///
@@ -280,6 +280,37 @@ impl<const MAX_SIZE: usize> ObjectIdentifier<MAX_SIZE> {
             core::hint::assert_unchecked(self.ber.len() <= MAX_SIZE)
         };
         ObjectIdentifierRef::from_checked(self.as_bytes())
+    }
+
+    /// The length in octets of the element that [`write_element`](Self::write_element) writes.
+    ///
+    /// # Examples
+    ///
+    /// ```
+    /// use const_oid::ObjectIdentifier;
+    ///
+    /// assert_eq!(ObjectIdentifier::new_unwrap("2.999.3").element_len(), 5);
+    /// ```
+    #[must_use]
+    pub fn element_len(&self) -> usize {
+        self.as_oid_ref().element_len()
+    }
+
+    /// Writes the element in DER, the tag 6, the length and the contents octets (X.690, 8.1, 8.19 and 10.1), to the start
+    /// of `out`, and returns its length in octets. Returns `None` if it is longer than `out`, which is then unchanged.
+    /// Three octets more than the contents are always enough.
+    ///
+    /// # Examples
+    ///
+    /// ```
+    /// use const_oid::ObjectIdentifier;
+    ///
+    /// let mut out = [0; ObjectIdentifier::MAX_SIZE + 3];
+    /// let len = ObjectIdentifier::new_unwrap("2.999.3").write_element(&mut out).unwrap();
+    /// assert_eq!(out[..len], [0x06, 0x03, 0x88, 0x37, 0x03]);
+    /// ```
+    pub fn write_element(&self, out: &mut [u8]) -> Option<usize> {
+        self.as_oid_ref().write_element(out)
     }
 
     /// The arc at an index, counted from 0, or `None` past the last one.

@@ -7,6 +7,7 @@ use crate::erased::arcs::{Arcs, arc_at};
 use crate::erased::base128::read_group;
 use crate::erased::compare::{are_equal, begins_with, order, order_by_parts};
 use crate::erased::digits::{MAX_ARC_LEN, utf8, write_arc};
+use crate::erased::element::{element_len, split_element, write_element};
 use crate::erased::encoder::{SHORT_ARCS, encode_long, encode_short};
 use crate::erased::error::{Error, Result};
 use crate::erased::parser::{SHORT_TEXT, parse_long, parse_short, parse_to};
@@ -41,7 +42,7 @@ impl ObjectIdentifierRef {
     /// Decodes contents octets (X.690, 8.19).
     ///
     /// Tag and length are not removed: a complete encoding `06 09 2A ..` is no error, but another identifier,
-    /// 0.6.9.42 and so on.
+    /// 0.6.9.42 and so on. [`read_element`](Self::read_element) removes them.
     ///
     /// # Errors
     ///
@@ -71,6 +72,34 @@ impl ObjectIdentifierRef {
         Ok(Self::from_checked(ber))
     }
 
+    /// Reads the element in DER that octets begin with: the tag 6, the length, and contents octets (X.690, 8.1, 8.19 and
+    /// 10.1). Returns the identifier, or the error of the contents octets, and the octets after the element.
+    ///
+    /// Returns `None` if the octets begin with no such element: the tag is not 6, the length is indefinite or could be
+    /// in fewer octets, or not all contents octets are there.
+    ///
+    /// # Errors
+    ///
+    /// Those of [`from_bytes`](Self::from_bytes).
+    ///
+    /// # Examples
+    ///
+    /// ```
+    /// use const_oid::{Error, ObjectIdentifierRef};
+    ///
+    /// let (oid, rest) = ObjectIdentifierRef::read_element(&[0x06, 0x02, 0x88, 0x37, 0x05, 0x00]).unwrap();
+    /// assert_eq!((oid?.to_string().as_str(), rest), ("2.999", &[0x05, 0x00][..]));
+    /// assert_eq!(ObjectIdentifierRef::read_element(&[0x06, 0x00]), Some((Err(Error::Empty), &[][..])));
+    /// assert_eq!(ObjectIdentifierRef::read_element(&[0x06, 0x02, 0x88]), None);
+    /// # Ok::<(), Error>(())
+    /// ```
+    #[inline]
+    #[must_use]
+    pub fn read_element<'a>(der: &'a [u8]) -> Option<(Result<&'a Self>, &'a [u8])> {
+        let (contents, rest) = split_element(der)?;
+        Some((Self::from_bytes(contents), rest))
+    }
+
     /// The identifier over valid octets.
     #[allow(unsafe_code)]
     pub(crate) const fn from_checked(ber: &[u8]) -> &Self {
@@ -90,6 +119,42 @@ impl ObjectIdentifierRef {
     #[must_use]
     pub const fn as_bytes(&self) -> &[u8] {
         &self.ber
+    }
+
+    /// The length in octets of the element that [`write_element`](Self::write_element) writes.
+    ///
+    /// # Examples
+    ///
+    /// ```
+    /// let oid = const_oid::ObjectIdentifierRef::from_bytes(&[0x88, 0x37, 0x03])?;
+    /// assert_eq!(oid.element_len(), 5);
+    /// # Ok::<(), const_oid::Error>(())
+    /// ```
+    #[inline]
+    #[must_use]
+    pub fn element_len(&self) -> usize {
+        element_len(self.as_bytes())
+    }
+
+    /// Writes the element in DER, the tag 6, the length and the contents octets (X.690, 8.1, 8.19 and 10.1), to the start
+    /// of `out`, and returns its length in octets. Returns `None` if it is longer than `out`, which is then unchanged.
+    /// Ten octets more than the contents are always enough.
+    ///
+    /// # Examples
+    ///
+    /// ```
+    /// let oid = const_oid::ObjectIdentifierRef::from_bytes(&[0x88, 0x37, 0x03])?;
+    /// let mut out = [0; 6];
+    /// assert_eq!(oid.write_element(&mut out), Some(5));
+    /// assert_eq!(out, [0x06, 0x03, 0x88, 0x37, 0x03, 0x00]);
+    /// # Ok::<(), const_oid::Error>(())
+    /// ```
+    #[inline]
+    pub fn write_element(&self, out: &mut [u8]) -> Option<usize> {
+        if element_len(self.as_bytes()) > out.len() {
+            return None;
+        }
+        Some(write_element(self.as_bytes(), out))
     }
 
     /// The arc at an index, counted from 0, or `None` past the last one.

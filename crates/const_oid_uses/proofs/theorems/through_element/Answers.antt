@@ -1,0 +1,47 @@
+use Rattle.std.proofs.Common.{◌≡◌, ◌≢◌, ℕ, ◌≤◌, List, ◌++◌, length, drop, ap, ◌∙◌, sym, arith, subst, length-append}
+use Rattle.std.specs.Borrow.{Bor}
+use Rattle.std.specs.Prelude.{Option, None, Some, Result, Ok, Err, MatchOption, IsSomeAnd, IsOkAnd}
+use Rattle.const_oid.specs.declared.error.Error.{Error}
+use Rattle.const_oid.specs.declared.oid_ref.ObjectIdentifierRef.{ObjectIdentifierRef}
+use Rattle.const_oid.specs.Contents.{octet_answer, arcs_of_octets, borrowed_capacity}
+use Rattle.const_oid.specs.{Element.{element, length_octets}, Error.answer, Identifier.root_rule, OidRef.{ref_octets, ReadsElement}}
+use Rattle.const_oid.proofs.{Elements.same_element, Encodings.{octet_fault-fits, ref_encoding}}
+use Rattle.const_oid_uses.proofs.theorems.through_element.Goals as goal
+
+-- an identifier's octets are read without an error
+accepted : (oid : ObjectIdentifierRef) → length (ref_octets oid) ≤ borrowed_capacity
+    → octet_answer root_rule (ref_octets oid) borrowed_capacity ≡ Ok (arcs_of_octets (ref_octets oid))
+accepted oid fits = ap (λ fault. answer fault (arcs_of_octets (ref_octets oid))) (octet_fault-fits _ (ref_encoding oid) fits)
+
+shorter : (contents rest der : List ℕ) → der ≡ element contents ++ rest → length contents ≤ length der
+shorter contents rest der joined =
+    omega (arith, ap length joined, length-append (element contents) rest, length-append (length_octets (length contents)) contents)
+
+-- what is read of the element of an identifier
+abbrev IsAgain : ObjectIdentifierRef → List ℕ → Result ObjectIdentifierRef Error × Bor (List ℕ) → Type 0
+IsAgain oid rest read = IsOkAnd read.0 (λ again. ref_octets again ≡ ref_octets oid) × (read.1.now ≡ rest)
+
+again : (oid : ObjectIdentifierRef) (rest der : List ℕ) (result : Option (Result ObjectIdentifierRef Error × Bor (List ℕ)))
+    → length der ≤ borrowed_capacity → der ≡ element (ref_octets oid) ++ rest
+    → MatchOption result ((contents after : List ℕ) → der ≢ element contents ++ after) (λ read. ReadsElement der read.0 read.1.now)
+    → IsSomeAnd result (IsAgain oid rest)
+again oid rest der None fits written none = absurd (none (ref_octets oid) rest written)
+again oid rest der (Some (Ok read, after)) fits written reads =
+    let small = shorter reads.contents after.now der reads.joined in
+    let small' = shorter (ref_octets oid) rest der written in
+    let (same, left) = same_element reads.contents (ref_octets oid) after.now rest (omega arith) (omega arith) (sym reads.joined ∙ written) in
+    (reads.octets ∙ same, left)
+again oid rest der (Some (Err fault, after)) fits written reads =
+    let small = shorter reads.contents after.now der reads.joined in
+    let small' = shorter (ref_octets oid) rest der written in
+    let (same, left) = same_element reads.contents (ref_octets oid) after.now rest (omega arith) (omega arith) (sym reads.joined ∙ written) in
+    let wrong : Err fault ≡ Ok (arcs_of_octets (ref_octets oid)) =
+    reads.answer ∙ ap (λ octets. octet_answer root_rule octets borrowed_capacity) same ∙ accepted oid (omega arith) in
+    cc
+
+pub returns : goal.returns
+returns c =
+    let written = c.in_ok-write_element.ensures in
+    let rest = drop c.in_ok-write_element.field-0 c.args.out.now in
+    subst (λ (len : ℕ). IsSomeAnd c.read_element.result (IsAgain c.args.oid (drop len c.args.out.now))) written.cases
+    (again c.args.oid rest c.write_element.new.out c.read_element.result (omega arith) written.written c.read_element.ensures)
