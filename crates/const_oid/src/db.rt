@@ -110,6 +110,9 @@ impl<'a> Database<'a> {
 
     /// The name in the first entry with this identifier, or `None` if there is no such entry.
     ///
+    /// A borrowed identifier, or one of another capacity, is copied first, by `try_into`: if it does not fit, it is not in
+    /// the table.
+    ///
     /// # Examples
     ///
     /// ```
@@ -157,7 +160,7 @@ impl<'a> Database<'a> {
         None
     }
 
-    /// All names of this identifier, in the order of the table.
+    /// All names of this identifier, in the order of the table. A name comes as often as its entries.
     ///
     /// # Examples
     ///

@@ -538,8 +538,8 @@ impl<'a> ObjectIdentifierRef<'a> {
     /// from the first index up to, but not including, the second. If there are none, both are the index at which this
     /// one would be inserted.
     ///
-    /// The list is sorted by `cmp`, and may hold an identifier more than once. On an unsorted list, the result is
-    /// unspecified.
+    /// The list is sorted by `cmp`, so by octets, and may hold an identifier more than once. On another list, such as one
+    /// sorted by `cmp_arcs`, the range is within the list, and which one is unspecified.
     ///
     /// # Examples
     ///

@@ -105,7 +105,7 @@ impl<'a> SortedDatabase<'a> {
         Some(&self.entries[index])
     }
 
-    /// The entries of the identifier and of its descendants, which are adjacent.
+    /// The entries of the identifier and of its descendants, which are adjacent in the order of arcs.
     ///
     /// # Examples
     ///

@@ -25,7 +25,16 @@ use core::str::FromStr;
 /// const CN: ObjectIdentifier = ObjectIdentifier::new_unwrap("2.5.4.3");
 /// assert_eq!("2.5.4.3".parse(), Ok(CN));
 /// assert_eq!(format!("{CN} {CN:?}"), "2.5.4.3 ObjectIdentifier(2.5.4.3)");
-/// assert!(CN > ObjectIdentifier::new_unwrap("2.5.4"));
+/// ```
+///
+/// The order of `<`, `cmp` and `BTreeMap` is by the number of octets, and then by octets. SNMP has that of arcs:
+/// [`cmp_arcs`](ObjectIdentifierRef::cmp_arcs), or keys of type [`ByArcs`](crate::ByArcs).
+///
+/// ```
+/// use const_oid::{ByArcs, ObjectIdentifier};
+///
+/// let [a, b] = ["1.3.256", "1.3.6.1.2"].map(ObjectIdentifier::new_unwrap);
+/// assert!(a < b && ByArcs(a) > ByArcs(b));
 /// ```
 #[derive(Copy, Clone, PartialEq, Eq, PartialOrd, Hash)]
 pub struct ObjectIdentifier<const MAX_SIZE: usize = 39> {
