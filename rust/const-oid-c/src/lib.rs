@@ -14,9 +14,15 @@ mod exports;
 #[forbid(unsafe_code)]
 mod outputs;
 
+#[deny(improper_ctypes)]
 unsafe extern "C" {
     /// Ends the process, in the C library.
     safe fn abort() -> !;
+
+    /// There is no such function: rustc asks only where one is imported whether what is behind its pointers has the layout
+    /// of C.
+    #[allow(dead_code)]
+    fn layouts(status: &erased::status::Status, octets: &edge::Octets<'_>, range: &erased::lists::Range);
 }
 
 /// No function panics, since each is proved to be safe. A mistake of the eraser or of rustc ends here.
