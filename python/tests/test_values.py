@@ -82,7 +82,13 @@ class Named(ObjectIdentifier):
 
 
 class Index:
+    """The arc 999, which calls a function where it is read."""
+
+    def __init__(self, call=int):
+        self.call = call
+
     def __index__(self):
+        self.call()
         return 999
 
 
@@ -131,6 +137,12 @@ class Inputs(unittest.TestCase):
         self.assertEqual((2, 999, 1), ObjectIdentifier.from_arcs(iter([2, Index(), True])).arcs)
         self.assertEqual((2, 5, 999), ObjectIdentifier("2.5").child(Index()).arcs)
         self.assertEqual((2, 5), ObjectIdentifier.from_arcs(ObjectIdentifier("2.5")).arcs)
+
+    def test_arcs_are_those_of_a_list_before_it_changes(self):
+        for change in ("clear", "pop", "reverse"):
+            arcs = [2]
+            arcs += [Index(getattr(arcs, change)), 3, 4]
+            self.assertEqual((2, 999, 3, 4), ObjectIdentifier.from_arcs(arcs).arcs, change)
 
     def test_errors_of_python_say_what_to_do(self):
         other = type("Other", (), {"__module__": "cryptography.x509", "dotted_string": "1.2"})()
