@@ -170,7 +170,7 @@ fn begins_with_each_prefix(rt: HostRuntime) {
     }
 }
 
-/// Whether so the arcs that are left after a prefix are, or are none: of both forms.
+/// Whether both forms give the arcs after a prefix, or none if it is no prefix.
 fn strips(octets: &[u8], prefix: &[u8], wanted: bool) -> Result<bool, Error> {
     let oid = Oid::from_bytes(octets)?;
     let prefix = Oid::from_bytes(prefix)?;
