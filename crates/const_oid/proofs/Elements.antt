@@ -1,12 +1,13 @@
 -- Elements: each length has exactly one form, and none begins another.
-use Rattle.std.proofs.Common.{◌≡◌, ◌≢◌, ℕ, zero, suc, ◌+◌, ◌-◌, ◌^◌, ◌<◌, ◌≤◌, List, [], ◌∷◌, ◌++◌, length, take, drop, replicate, set}
-use Rattle.std.proofs.Common.{get_or, subst, append_assoc, refl, sym, ap, ◌∙◌, one-add, ⊎_elim, arith, w64, append-nil, lt-ltb, le-ltb, length-append}
-use Rattle.std.specs.Prelude.{Option, None, Some, IsSome}
+use Rattle.std.proofs.Common.{◌≡◌, ◌≢◌, ℕ, zero, suc, ◌+◌, ◌-◌, ◌*◌, ◌/◌, ◌^◌, ◌<◌, ◌≤◌, List, [], ◌∷◌, ◌++◌, length, take, drop, replicate, set}
+use Rattle.std.proofs.Common.{pow-suc, get_or, subst, append_assoc, refl, sym, ap, ◌∙◌, ⊎_elim, arith, w64, append-nil, lt-ltb, le-ltb, length-append}
+use Rattle.std.specs.Prelude.{◌↔◌, Option, None, Some, IsSome}
 use Rattle.std.specs.Int.{to_be_bytes, from_be_bytes}
-use Rattle.std.proofs.lemmas.{Bool.Decides.nat_tests, Bool.cases_lt, Grind.common_steps, List.{length-replicate, take-replicate, nil_from_length, length-drop, drop-drop, take_all}, Slice.drop-append-drop}
-use Rattle.std.proofs.Math.{Nat.pow-le-pow_right, Seq.take-append_seam}
-use Rattle.std.proofs.lemmas.Nat.{be_bytes_8, from_be_bytes-to_be_bytes_8}
+use Rattle.std.proofs.lemmas.{Bool.Decides.nat_tests, Bool.cases_lt, Grind.common_steps, List.{length-replicate, take-replicate, nil_from_length, length-drop, drop-drop, take_all}}
+use Rattle.std.proofs.Math.{Nat.pow-le-pow_right, Seq.{take-append_seam, drop-append_seam}}
+use Rattle.std.proofs.lemmas.Nat.{be_bytes_8, from_be_bytes-to_be_bytes_8, leading_top, mul-add-lt, pow-add}
 use borrow.Rule.Slice.PartMut.{put_mid, post_of}
+use lib.Count.{count_leading_zeros}
 use Rattle.const_oid.specs.Base128.{AreOctets}
 use Rattle.const_oid.specs.Element.{value_256, IsLength, without_zeros, base_256, length_octets, element}
 use Rattle.const_oid.specs.Text.{ReturnsLength}
@@ -108,12 +109,31 @@ length_some n =
     ⊎_elim (λ (short : n < 128). rw (length_octets-short n short) (omega arith))
     (λ (long : 128 ≤ n). rw (length_octets-long n long) (omega arith)) (cases_lt n 128)
 
-pub length_written : (n : ℕ) (word digits : List ℕ) → 128 ≤ n → word ≡ to_be_bytes w64 n → digits ≡ without_zeros word
-    → length_octets n ≡ (128 + length digits) ∷ digits
-unfolding base_256
-length_written n word digits long is are =
-    let same : base_256 n ≡ digits = sym (are ∙ ap without_zeros is) in
-    rw same at (length_octets-long n long)
+last_digits : (k : ℕ) (xs digits : List ℕ) → xs ≡ replicate (8 - length digits) 0 ++ digits → k ≡ length digits → k ≤ 8
+    → take (8 - (8 - k)) (drop (8 - k) xs) ≡ digits
+last_digits k xs digits joined counted few =
+    let zeros : length (replicate {A = ℕ} (8 - length digits) 0) ≡ 8 - k = length-replicate {A = ℕ} (8 - length digits) 0 ∙ omega arith in
+    let left : drop (8 - k) xs ≡ digits = rw (joined, ← zeros) (drop-append_seam (replicate (8 - length digits) 0) digits) in
+    rw left (take_all (8 - (8 - k)) digits (omega arith))
+
+-- the first length octet, and as many of the number's eight octets as follow it
+pub length_written : {n count first : ℕ} {word digits : List ℕ} → n < 2 ^ 64 → length (length_octets n) ≡ 1 + count
+    → ((count ≡ 0) ↔ (n < 128)) → (0 < count → first ≡ 128 + count) → (count ≡ 0 → first ≡ n)
+    → word ≡ to_be_bytes w64 n → digits ≡ take (8 - (8 - count)) (drop (8 - count) word)
+    → length_octets n ≡ first ∷ digits
+unfolding bytes_of
+length_written {n} {count} small counted is_short long_first short_first is are =
+    ⊎_elim
+    (λ (short : n < 128).
+    let none : count ≡ 0 = is_short.1 short in
+    rw (are, is, short_first none, none) (length_octets-short n short))
+    (λ (long : 128 ≤ n).
+    let digits = base_256_is n in
+    let same : count ≡ length (base_256 n) = omega (arith, counted, ap length (length_octets-long n long)) in
+    let some = some_digits n (base_256 n) (omega arith) small digits.word in
+    let last = last_digits count (bytes_of n) (base_256 n) digits.word same (omega (arith, digits.few)) in
+    rw (are, is, last, long_first (omega arith), same) (length_octets-long n long))
+    (cases_lt n 128)
 
 -- the octets after the first are the number's and then the rest
 pub record IsLongForm (n count : ℕ) (octets rest : List ℕ) : Type 0 where
@@ -217,13 +237,12 @@ two_octets n small =
     ⊎_elim (λ (short : n < 128). rw (length_octets-short n short) (omega arith))
     (λ (long : 128 ≤ n). rw (length_octets-long n long, base_256-byte n long small) (omega arith)) (cases_lt n 128)
 
--- three octets more than 255 contents octets, or fewer, are enough
-pub three_enough : (contents out : List ℕ) (result : Option ℕ) → length contents ≤ 255
-    → ReturnsLength (element contents) out result → length contents + 3 ≤ length out → IsSome result
-three_enough contents out None fits is room =
-    let two = two_octets (length contents) (omega arith) in
-    absurd (omega (arith, is, two, length-append (length_octets (length contents)) contents))
-three_enough contents out (Some len) fits is room = refl
+-- as many octets more than the contents as tag and length have are enough
+pub enough : (k : ℕ) (contents out : List ℕ) (result : Option ℕ) → length (length_octets (length contents)) ≤ k
+    → ReturnsLength (element contents) out result → length contents + suc k ≤ length out → IsSome result
+enough k contents out None few is room =
+    absurd (omega (arith, is, few, length-append (length_octets (length contents)) contents))
+enough k contents out (Some len) few is room = refl
 
 -- ---- what they are
 
@@ -258,6 +277,7 @@ is_long n (y ∷ ys) long small same =
     let back = sym same in (
       long,
       refl,
+      omega (arith, ap length same, (base_256_is n).few),
       first_read long small same,
       subst (λ digits. AreOctets digits) back (base_256_octets n),
       value_is n small ∙ ap value_256 back,
@@ -267,6 +287,41 @@ pub length_is : (n : ℕ) → n < 2 ^ 64 → IsLength n (length_octets n)
 length_is n small =
     ⊎_elim (λ (short : n < 128). rw (length_octets-short n short) (short, refl))
     (λ (long : 128 ≤ n). rw (length_octets-long n long) (is_long n (base_256 n) long small refl)) (cases_lt n 128)
+
+-- how many leading zeros a number has whose octets are these
+power_256 : (k : ℕ) → 256 ^ k ≡ 2 ^ (8 * k)
+power_256 zero = refl
+power_256 (suc k) =
+    let next : 8 * suc k ≡ 8 + 8 * k = omega arith in
+    rw (next, pow-add 2 8 (8 * k), ← power_256 k) (omega (arith, pow-suc 256 k))
+
+value_below : (xs : List ℕ) → AreOctets xs → value_256 xs < 256 ^ length xs
+value_below [] are = omega arith
+value_below (x ∷ xs) are =
+    rw (pow-suc 256 (length xs)) (mul-add-lt x (256 ^ length xs) (value_256 xs) 256 are.0 (value_below xs are.1))
+
+count_of : (n : ℕ) (digits : List ℕ) → 0 < n → n < 2 ^ 64 → AreOctets digits → (0 < length digits → get_or digits 0 0 ≢ 0)
+    → length digits ≤ 8 → n ≡ value_256 digits → 8 - count_leading_zeros 64 n / 8 ≡ length digits
+count_of n [] some small are first few value = absurd (omega arith)
+count_of n (y ∷ ys) some small are first few value =
+    let (j, zeros, least, most) = leading_top 64 n some small in
+    let nonzero : y ≢ 0 = first (omega arith) in
+    let above : 2 ^ (8 * length ys) ≤ n =
+    rw (value, ← power_256 (length ys)) (at_least y (256 ^ length ys) (value_256 ys) (omega arith)) in
+    let below : n < 2 ^ (8 * suc (length ys)) = rw (value, ← power_256 (suc (length ys))) (value_below (y ∷ ys) are) in
+    let upper : j < 8 * suc (length ys) = ⊎_elim (λ less. less)
+    (λ (more : 8 * suc (length ys) ≤ j). let power = pow-le-pow_right {n = 2} (omega arith) more in absurd (omega arith))
+    (cases_lt j (8 * suc (length ys))) in
+    let lower : 8 * length ys < suc j = ⊎_elim (λ less. less)
+    (λ (more : suc j ≤ 8 * length ys). let power = pow-le-pow_right {n = 2} (omega arith) more in absurd (omega arith))
+    (cases_lt (8 * length ys) (suc j)) in
+    omega arith
+
+pub count_long : (n : ℕ) → 128 ≤ n → n < 2 ^ 64 → length (length_octets n) ≡ 1 + (8 - count_leading_zeros 64 n / 8)
+count_long n long small =
+    let is = base_256_is n in
+    let count = count_of n (base_256 n) (omega arith) small (base_256_octets n) is.first is.few (value_is n small) in
+    rw (length_octets-long n long) (omega arith)
 
 small_at : (xs : List ℕ) → AreOctets xs → (i : ℕ) → get_or xs i 0 < 256
 small_at [] are i = omega arith
@@ -287,12 +342,12 @@ unfolding bytes_of
 length_only n [] small is = absurd is
 length_only n (x ∷ []) small is = rw (length_octets-short n is.0, is.1) refl
 length_only n (x ∷ y ∷ ys) small is =
-    let few = few_from_value n y ys small is.2 is.4 in
+    let few = few_from_value n y ys small is.3 is.5 in
     let word : length (replicate (8 - length (y ∷ ys)) 0 ++ (y ∷ ys)) ≡ 8 =
     omega (arith, few, length-append (replicate (8 - length (y ∷ ys)) 0) (y ∷ ys), length-replicate {A = ℕ} (8 - length (y ∷ ys)) 0) in
     let value : n ≡ from_be_bytes w64 (replicate (8 - length (y ∷ ys)) 0 ++ (y ∷ ys)) =
-    is.4 ∙ sym (value_after_zeros (8 - length (y ∷ ys)) (y ∷ ys)) ∙ sym (value_of_word _ word) in
-    let only = base_256_only n (y ∷ ys) is.2 (be_bytes_8 _ n word (small_after_zeros (8 - length (y ∷ ys)) (y ∷ ys) (small_at (y ∷ ys) is.3)) value) in
+    is.5 ∙ sym (value_after_zeros (8 - length (y ∷ ys)) (y ∷ ys)) ∙ sym (value_of_word _ word) in
+    let only = base_256_only n (y ∷ ys) is.3 (be_bytes_8 _ n word (small_after_zeros (8 - length (y ∷ ys)) (y ∷ ys) (small_at (y ∷ ys) is.4)) value) in
     rw (length_octets-long n is.0, only, is.1) refl
 
 pub same_element : (a b x y : List ℕ) → length a < 2 ^ 64 → length b < 2 ^ 64 → element a ++ x ≡ element b ++ y → (a ≡ b) × (x ≡ y)
@@ -321,33 +376,19 @@ number_put digits copy n few small same is =
     (small_after_zeros (8 - length digits) digits small)
     (is ∙ ap (from_be_bytes w64) word)
 
-pub form_put : (first k : ℕ) (digits copy out : List ℕ) → 0 < length out → k ≡ length digits → copy ≡ digits
-    → put_mid 1 k (set out 0 first) copy ≡ (first ∷ digits) ++ drop (1 + length digits) out
-form_put first k digits copy [] some part same = absurd (omega arith)
-form_put first k digits copy (x ∷ xs) some part same = grind (arith, common_steps)
-
--- the octets after the first, written in a part of their own
-part_put : (first : ℕ) (xs new : List ℕ) → put_mid 1 (length xs) (first ∷ xs) new ≡ first ∷ new
-part_put first xs new =
-    let after : drop (length xs) xs ≡ [] = nil_from_length _ (omega (arith, length-drop (length xs) xs)) in
-    rw (after, append-nil) refl
-
-contents_put : (first l n : ℕ) (form contents xs : List ℕ) → l ≡ length form → n ≡ length contents
-    → put_mid (1 + l) n (first ∷ (form ++ drop l xs)) contents ≡ first ∷ ((form ++ contents) ++ drop (l + n) xs)
-contents_put first l n form contents xs long part =
-    let front : take (1 + l) (first ∷ (form ++ drop l xs)) ≡ first ∷ form =
-    rw (one-add, long) (ap (λ l. first ∷ l) (take-append_seam form (drop (length form) xs))) in
-    let middle : drop (1 + l) (first ∷ (form ++ drop l xs)) ≡ drop l xs =
-    rw one-add (drop-append-drop l xs form l (omega arith) (sym long)) in
-    rw (front, middle, drop-drop) (ap (λ l. first ∷ l) (sym (append_assoc form contents (drop (l + n) xs))))
-
-pub element_put : (first l n k : ℕ) (form contents copy new out : List ℕ) → 0 < length out → l ≡ length form → n ≡ length contents
-    → k ≡ n → copy ≡ contents → new ≡ form ++ drop l (take (length (set out 0 first) - 1) (drop 1 (set out 0 first)))
-    → put_mid (1 + l) k (put_mid 1 (length (set out 0 first) - 1) (set out 0 first) new) copy
-    ≡ first ∷ ((form ++ contents) ++ drop (1 + l + n) out)
-element_put first l n k form contents copy new [] some long part whole same written = absurd (omega arith)
-element_put first l n k form contents copy new (x ∷ xs) some long part whole same written =
-    let count : suc (length xs) - 1 ≡ length xs = omega arith in
-    let all : new ≡ form ++ drop l xs = rw (count, take_all (length xs) xs (omega arith)) at written in
-    let next : 1 + l + n ≡ suc (l + n) = omega arith in
-    rw (count, part_put, all, whole, same, next) (contents_put first l n form contents xs long part)
+-- tag, length octets and contents, written one after another
+pub element_put : (first c n : ℕ) (digits contents copy out : List ℕ) → 2 + c + n ≤ length out → length digits ≡ c
+    → n ≡ length contents → copy ≡ contents
+    → put_mid (2 + c) (2 + c + n - (2 + c)) (put_mid 2 (2 + c - 2) (set (set out 0 6) 1 first) digits) copy
+    ≡ 6 ∷ (((first ∷ digits) ++ contents) ++ drop (2 + c + n) out)
+element_put first c n digits contents copy [] some long part same = absurd (omega arith)
+element_put first c n digits contents copy (x ∷ []) some long part same = absurd (omega arith)
+element_put first c n digits contents copy (x ∷ y ∷ xs) some long part same =
+    let two : 2 + c ≡ suc (suc c) = omega arith in
+    let few : 2 + c - 2 ≡ c = omega arith in
+    let many : 2 + c + n - (2 + c) ≡ n = omega arith in
+    let end : 2 + c + n ≡ suc (suc (c + n)) = omega arith in
+    let front : take c (digits ++ drop c xs) ≡ digits = rw (← long) (take-append_seam digits (drop (length digits) xs)) in
+    let back : drop c (digits ++ drop c xs) ≡ drop c xs = rw (← long) (drop-append_seam digits (drop (length digits) xs)) in
+    rw (few, many, end, two, same, front, back, drop-drop)
+    (ap (λ l. 6 ∷ first ∷ l) (sym (append_assoc digits contents (drop (c + n) xs))))

@@ -8,11 +8,12 @@ abbrev pub value_256 : List ℕ → ℕ
 value_256 [] = 0
 value_256 (x ∷ xs) = x * 256 ^ length xs + value_256 xs
 
--- the octets are the length octets of a number: the short form below 128, and else the long form, which begins with how many octets follow; the first of these is not 0, so they are the fewest
+-- the octets are the length octets of a number: the short form below 128, and else the long form, which begins with 128 and how many octets follow, and not with 255; the first of these is not 0, so they are the fewest
 abbrev pub IsLength : ℕ → List ℕ → Type 0
 IsLength n [] = ⊥
 IsLength n (x ∷ []) = (n < 128) × (x ≡ n)
-IsLength n (x ∷ y ∷ ys) = (128 ≤ n) × (x ≡ 128 + length (y ∷ ys)) × (y ≢ 0) × AreOctets (y ∷ ys) × (n ≡ value_256 (y ∷ ys))
+IsLength n (x ∷ y ∷ ys) =
+    (128 ≤ n) × (x ≡ 128 + length (y ∷ ys)) × (x < 255) × (y ≢ 0) × AreOctets (y ∷ ys) × (n ≡ value_256 (y ∷ ys))
 
 -- the octets from the first one on that is not 0
 abbrev pub without_zeros : List ℕ → List ℕ

@@ -1,8 +1,9 @@
 //! Elements of object identifiers in DER: tag, length and contents octets (X.690, 8.1, 8.19.1 and 10.1).
 
-ghost use Rattle.std.specs.Prelude.{◌≡◌, ◌≢◌, ◌↔◌, ◌+◌, ◌-◌, ◌<◌, ◌≤◌, ◌^◌, ◌∷◌, ◌++◌, ℕ, List, length, drop, replicate, slice_index, IsTrue, MatchOption};
+ghost use Rattle.std.specs.Prelude.{◌≡◌, ◌≢◌, ◌↔◌, ◌+◌, ◌-◌, ◌<◌, ◌≤◌, ◌^◌, ◌∷◌, ◌++◌, ℕ, List, length, drop, replicate, slice_index, None, IsTrue, MatchOption};
 ghost use Rattle.const_oid.specs.Private.Octets.{bytes_of};
-ghost use Rattle.const_oid.specs.Element.{without_zeros, length_octets, element};
+ghost use Rattle.const_oid.specs.Element.{length_octets, element};
+ghost use Rattle.const_oid.specs.Text.{ReturnsLength, WritesText};
 
 /// The tag of an object identifier: class universal, primitive, number 6.
 const TAG: u8 = 6;
@@ -24,8 +25,8 @@ pub(crate) fn split_element(der: &[u8]) -> Option<(&[u8], &[u8])>
     Some(after.split_at(len as usize))
 }
 
-/// The length that octets begin with, and the octets after it. `None` if it is not in the definite form, with the fewest
-/// octets, and of at most eight octets after the first.
+/// The length that octets begin with, and the octets after it. `None` if it is not in the definite form, with the
+/// fewest octets, and of at most eight after the first.
 #[inline]
 fn read_length(octets: &[u8]) -> Option<(u64, &[u8])>
     ensures { MatchOption result ((len : ℕ) (rest : List ℕ) → len < 2 ^ 64 → octets.now ≢ length_octets len ++ rest)
@@ -77,57 +78,50 @@ fn number_of(digits: &[u8]) -> u64
 }
 
 /// How many octets the element of contents octets has.
+// erase: const
 #[inline]
 pub(crate) fn element_len(contents: &[u8]) -> usize
     ensures { result ≡ length (element contents.now) }
 {
+    2 + subsequent_count(contents.len()) + contents.len()
+}
+
+/// Writes the element of contents octets at the start, and returns its length. `None` if it is longer than the output.
+#[inline]
+pub(crate) fn write_element(contents: &[u8], out: &mut [u8]) -> Option<usize>
+    ensures cases { ReturnsLength (element contents.now) out.old result }
+    ensures written { WritesText (element contents.now) out.old out.new result }
+    ensures kept { result ≡ None → out.new ≡ out.old }
+{
     let len = contents.len();
-    if len < 128 {
-        return 2 + len;
+    let count = subsequent_count(len);
+    let start = 2 + count;
+    let end = start + len;
+    if end > out.len() {
+        return None;
     }
-    2 + without_zeros(&(len as u64).to_be_bytes()).len() + len
-}
-
-/// Writes the element of contents octets at the start, and returns its length.
-#[inline]
-pub(crate) fn write_element(contents: &[u8], out: &mut [u8]) -> usize
-    requires { length (element contents.now) ≤ length out.old }
-    ensures len { result ≡ length (element contents.now) }
-    ensures written { out.new ≡ element contents.now ++ drop result out.old }
-{
     out[0] = TAG;
-    let start = 1 + write_length(contents.len(), &mut out[1..]);
-    let end = start + contents.len();
+    // With `len < 128` for the test, rustc keeps checks of indices.
+    out[1] = if count > 0 {
+        128 + count as u8
+    } else {
+        len as u8
+    };
+    out[2..start].copy_from_slice(&(len as u64).to_be_bytes()[8 - count..]);
     out[start..end].copy_from_slice(contents);
-    end
+    Some(end)
 }
 
-/// Writes the length octets of a number at the start, and returns how many there are.
+/// How many of a length's octets follow the first: none below 128.
+// erase: const
 #[inline]
-fn write_length(len: usize, out: &mut [u8]) -> usize
-    requires { length (length_octets len) ≤ length out.old }
-    ensures len { result ≡ length (length_octets len) }
-    ensures written { out.new ≡ length_octets len ++ drop result out.old }
+fn subsequent_count(len: usize) -> usize
+    ensures len { length (length_octets len) ≡ 1 + result }
+    ensures few { result ≤ 8 }
+    ensures short { (result ≡ 0) ↔ (len < 128) }
 {
     if len < 128 {
-        out[0] = len as u8;
-        return 1;
+        return 0;
     }
-    let word = (len as u64).to_be_bytes();
-    let digits = without_zeros(&word);
-    let end = 1 + digits.len();
-    out[0] = 128 + digits.len() as u8;
-    out[1..end].copy_from_slice(digits);
-    end
-}
-
-/// The octets from the first one on that is not 0.
-fn without_zeros(octets: &[u8]) -> &[u8]
-    ensures { result.now ≡ without_zeros octets.now }
-{
-    let mut rest = octets;
-    while let [0, after @ ..] = rest {
-        rest = after;
-    }
-    rest
+    8 - (len as u64).leading_zeros() as usize / 8
 }

@@ -71,7 +71,7 @@ pub fn prefix_free()
         → (g ≡ h) × (m ≡ n) }
 {}
 
-/// Each number below 2^64, as the length of each slice is, has exactly one form as a length, and this is `length_octets`.
+/// Each number below 2^64, as the length of each slice is, has exactly one form as a length: `length_octets`.
 pub fn unique_lengths()
     ensures one { (n : ℕ) → n < 2 ^ 64 → IsLength n (length_octets n) }
     ensures only { (n : ℕ) (octets : List ℕ) → n < 2 ^ 64 → IsLength n octets → octets ≡ length_octets n }

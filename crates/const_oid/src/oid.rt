@@ -1,6 +1,6 @@
 //! Owned object identifiers.
 
-ghost use Rattle.std.specs.Prelude.{◌≡◌, ◌+◌, ◌*◌, ◌<◌, ◌≤◌, ◌↔◌, length, min, slice_get, None, Some, IfOk, IsSome, IsTrue, MatchOption, MatchResult, ◌++◌};
+ghost use Rattle.std.specs.Prelude.{◌≡◌, ◌≢◌, ◌+◌, ◌*◌, ◌<◌, ◌≤◌, ◌↔◌, ℕ, List, length, min, slice_get, None, Some, IfOk, IsSome, IsTrue, MatchOption, MatchResult, ◌++◌};
 ghost use Rattle.std.specs.Iterator.{IsFiniteIterable};
 ghost use Rattle.std.specs.Cmp.Lexicographic.{slice_cmp};
 ghost use Rattle.std.specs.Option.{option_map};
@@ -18,6 +18,7 @@ use crate::Arc;
 use crate::arcs::Arcs;
 use crate::buffer::Buffer;
 use crate::compare::are_equal;
+use crate::element::split_element;
 use crate::error::{Error, Result};
 use crate::oid_ref::ObjectIdentifierRef;
 use std::cmp::Ordering;
@@ -158,7 +159,7 @@ impl ObjectIdentifier<39> {
     /// Decodes at most 39 contents octets (X.690, 8.19).
     ///
     /// Tag and length are not removed: a complete encoding `06 09 2A ..` is no error, but another identifier,
-    /// 0.6.9.42 and so on. [`read_element`](ObjectIdentifierRef::read_element) removes them.
+    /// 0.6.9.42 and so on. [`read_element`](Self::read_element) removes them.
     ///
     /// # Errors
     ///
@@ -203,7 +204,7 @@ impl FromStr for ObjectIdentifier<39> {
 }
 
 impl<const MAX_SIZE: usize> ObjectIdentifier<MAX_SIZE> {
-    ghost use Rattle.const_oid.specs.Oid.{oid_octets, oid_arcs, oid_answer};
+    ghost use Rattle.const_oid.specs.Oid.{oid_octets, oid_arcs, oid_answer, ReadsOwned};
     ghost use Rattle.const_oid.specs.OidRef.{ref_octets, ref_arcs};
 
     /// Decodes at most `MAX_SIZE` contents octets (X.690, 8.19), and never more than 255.
@@ -227,6 +228,29 @@ impl<const MAX_SIZE: usize> ObjectIdentifier<MAX_SIZE> {
         ensures encoding { IfOk result (λ oid. IsEncoding root_rule (oid_arcs oid) ber_bytes.now) }
     {
         Self::try_from_ref(ObjectIdentifierRef::from_bytes(ber_bytes)?)
+    }
+
+    /// Reads the element in DER that octets begin with, as [`ObjectIdentifierRef::read_element`] does.
+    ///
+    /// # Errors
+    ///
+    /// Those of [`from_bytes_sized`](Self::from_bytes_sized).
+    ///
+    /// # Examples
+    ///
+    /// ```
+    /// use const_oid::{Error, ObjectIdentifier};
+    ///
+    /// let (oid, rest) = ObjectIdentifier::<1>::read_element(&[0x06, 0x02, 0x88, 0x37, 0x05, 0x00]).unwrap();
+    /// assert_eq!((oid, rest), (Err(Error::Length), &[0x05, 0x00][..]));
+    /// ```
+    #[inline]
+    pub fn read_element(der: &[u8]) -> Option<(Result<Self>, &[u8])>
+        ensures { MatchOption result ((contents rest : List ℕ) → der.now ≢ element contents ++ rest)
+            (λ read. ReadsOwned der.now read.0 read.1.now) }
+    {
+        let (contents, rest) = split_element(der)?;
+        Some((Self::from_bytes_sized(contents), rest))
     }
 
     /// Parses dotted text into at most `MAX_SIZE` octets, and never more than 255.
@@ -370,6 +394,7 @@ impl<const MAX_SIZE: usize> ObjectIdentifier<MAX_SIZE> {
     ///
     /// assert_eq!(ObjectIdentifier::new_unwrap("2.999.3").element_len(), 5);
     /// ```
+    // erase: const
     pub fn element_len(&self) -> usize
         ensures { result ≡ length (element (oid_octets self.now)) }
     {

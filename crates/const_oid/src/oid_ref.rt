@@ -156,6 +156,7 @@ impl<'a> ObjectIdentifierRef<'a> {
     /// assert_eq!(oid.element_len(), 5);
     /// # Ok::<(), const_oid::Error>(())
     /// ```
+    // erase: const
     #[inline]
     pub fn element_len(&self) -> usize
         ensures { result ≡ length (element (ref_octets self.now)) }
@@ -183,10 +184,7 @@ impl<'a> ObjectIdentifierRef<'a> {
         ensures kept { result ≡ None → out.new ≡ out.old }
         ensures enough { length (ref_octets self.now) + 10 ≤ length out.old → IsSome result }
     {
-        if element_len(self.ber) > out.len() {
-            return None;
-        }
-        Some(write_element(self.ber, out))
+        write_element(self.ber, out)
     }
 
     /// The arc at an index, counted from 0, or `None` past the last one.

@@ -61,6 +61,8 @@ const READ: &[(&[u8], Read)] = &[
     (&[0x26, 0x01, 0x2A], None),
     (&[0x46, 0x01, 0x2A], None),
     (&[0x86, 0x01, 0x2A], None),
+    (&[0xA6, 0x01, 0x2A], None),
+    (&[0x1F, 0x06, 0x01, 0x2A], None),
     (&[0x30, 0x03, 0x06, 0x01, 0x2A], None),
     (&[0x2A, 0x86, 0x48], None),
     // More length octets than are needed, the indefinite form, and the reserved one.
@@ -73,20 +75,31 @@ const READ: &[(&[u8], Read)] = &[
     (&[0x06, 0xFF, 0x2A], None),
 ];
 
-/// Whether this is read of octets.
+/// Whether this is read of octets, by both forms.
 fn is_read(der: &[u8], wanted: Option<(Result<&[u8], Error>, &[u8])>) -> bool {
-    match (ObjectIdentifierRef::read_element(der), wanted) {
-        (Some((read, rest)), Some((octets, after))) => {
-            read.map(|oid| oid.as_bytes()) == octets && rest == after
+    let borrowed = ObjectIdentifierRef::read_element(der);
+    match (borrowed, ObjectIdentifier::read_element(der), wanted) {
+        (Some((read, rest)), Some((owned, left)), Some((octets, after))) => {
+            read.map(|oid| oid.as_bytes()) == octets
+                && owned == octets.and_then(ObjectIdentifier::<255>::from_bytes_sized)
+                && rest == after
+                && left == after
         }
-        (read, wanted) => read.is_none() && wanted.is_none(),
+        (read, owned, wanted) => read.is_none() && owned.is_none() && wanted.is_none(),
     }
 }
 
+/// Each row, and each part of it that ends before the element does.
 #[test]
 fn reads_each_row(rt: HostRuntime) {
     for (der, wanted) in READ {
         assert!(rt; is_read(der, *wanted), "{der:?}");
+        let Some((_, rest)) = wanted else {
+            continue;
+        };
+        for end in 0..der.len().saturating_sub(rest.len()) {
+            assert!(rt; is_read(&der[..end], None), "{end} octets of {der:?}");
+        }
     }
 }
 
@@ -105,6 +118,8 @@ const LENGTHS: &[(&[u8], usize, bool)] = &[
     (&[0x06, 0x82, 0xFF, 0xFF], 65_535, true),
     (&[0x06, 0x83, 0x01, 0x00, 0x00], 65_536, true),
     (&[0x06, 0x84, 0x00, 0x01, 0x00, 0x00], 65_536, false),
+    (&[0x06, 0xFE], 200, false),
+    (&[0x06, 0xFF], 200, false),
 ];
 
 /// Whether an output, which held nothing but 0xEE, begins with the element, whose length was returned, and goes on as
@@ -158,8 +173,8 @@ fn both_write(alloc: Global, contents: &[u8], element: &[u8]) -> Result<bool, Al
     }
 }
 
-/// Whether the contents octets of 1.2.1.1.. are read, and written, with this tag and length. Without the last octet they
-/// are not read.
+/// Whether the contents octets of 1.2.1.1.. are read, and written, with this tag and length. Without the last octet
+/// they are not read.
 fn is_element(
     alloc: Global,
     head: &[u8],

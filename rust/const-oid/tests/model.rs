@@ -192,8 +192,12 @@ fn fed(value: &(impl Hash + ?Sized)) -> Vec<u8> {
 
 /// The functions that read octets, at a capacity.
 fn read_octets<const N: usize>(octets: &[u8], answer: &model::Answer) {
+    check_read(ObjectIdentifier::<N>::from_bytes_sized(octets), octets, answer);
+}
+
+/// What is read of octets, at a capacity.
+fn check_read<const N: usize>(owned: Result<ObjectIdentifier<N>, Error>, octets: &[u8], answer: &model::Answer) {
     let fits = octets.len() <= model::capacity(N);
-    let owned = ObjectIdentifier::<N>::from_bytes_sized(octets);
     match (answer, owned) {
         (Ok(_), Ok(oid)) => assert!(fits && oid.as_bytes() == octets),
         (Ok(_), Err(error)) => assert!(!fits && error == Error::Length, "{octets:02X?}, {N}"),
@@ -203,11 +207,16 @@ fn read_octets<const N: usize>(octets: &[u8], answer: &model::Answer) {
 
 /// What is read of octets as an element, and where it lies.
 fn check_element(der: &[u8]) {
-    let read = ObjectIdentifierRef::read_element(der)
-        .map(|(oid, rest)| (oid.map(|oid| oid.as_bytes().as_ptr_range()), rest.as_ptr_range()));
-    let expected = model::of_element(der)
-        .map(|(contents, rest)| (model::of_octets(contents).map(|_| contents.as_ptr_range()), rest.as_ptr_range()));
-    assert_eq!(read, expected, "{der:02X?}");
+    let borrowed = ObjectIdentifierRef::read_element(der);
+    let owned = ObjectIdentifier::<39>::read_element(der);
+    let Some((contents, after)) = model::of_element(der) else {
+        return assert_eq!((borrowed, owned), (None, None), "{der:02X?}");
+    };
+    let (Some((oid, rest)), Some((owned, left))) = (borrowed, owned) else { panic!("{der:02X?}") };
+    assert_eq!([rest, left].map(<[u8]>::as_ptr_range), [after, after].map(<[u8]>::as_ptr_range));
+    let answer = model::of_octets(contents);
+    check_read(owned, contents, &answer);
+    assert_eq!(oid.map(|oid| oid.as_bytes().as_ptr_range()), answer.map(|_| contents.as_ptr_range()), "{der:02X?}");
 }
 
 /// The functions that read octets.
@@ -559,16 +568,17 @@ fn reads_all_octets_up_to_three() {
     all(&octets, 3, check_octets);
 }
 
-/// All octets of up to five over a few, and elements around each number of length octets, whole and changed.
+/// All octets of up to five over a few, and elements around each number of length octets, whole, cut and changed.
 #[test]
 fn reads_elements() {
-    let octets = [0, 1, 2, 3, 5, 6, 0x26, 0x2A, 0x7F, 0x80, 0x81, 0x82, 0x84, 0x88, 0x89, 0xFF];
+    let octets = [0, 1, 2, 5, 6, 0x26, 0x2A, 0x7F, 0x80, 0x81, 0x82, 0x84, 0x86, 0x88, 0x89, 0xA6, 0xFE, 0xFF];
     all(&octets, 5, check_element);
     for len in [1, 126, 127, 128, 129, 254, 255, 256, 257, 65_535, 65_536] {
         let head = model::head(len);
         let element = [&head[..], &vec![0x2A; len]].concat();
-        check_element(&element);
-        check_element(&element[..element.len() - 1]);
+        for end in (0..=head.len()).chain([element.len() - 1, element.len()]) {
+            check_element(&element[..end]);
+        }
         for (index, octet) in (0..head.len()).flat_map(|index| octets.map(|octet| (index, octet))) {
             let mut other = [&element[..], &[0x2A; 200]].concat();
             other[index] = octet;
@@ -576,6 +586,16 @@ fn reads_elements() {
             other.insert(index, octet);
             check_element(&other);
         }
+    }
+    let mut drawn = Drawn(88172645463325252);
+    for _ in 0..20_000 {
+        let octets = [1, 39, 127, 254][drawn.below(4)];
+        let contents = model::encoding(&drawn.arcs(octets));
+        let mut der = [&model::head(contents.len())[..], &contents, &[6, 1]].concat();
+        let at = [drawn.below(4), drawn.below(der.len())][drawn.below(2)];
+        der[at] = drawn.below(256) as u8;
+        check_element(&der);
+        check_element(&der[..drawn.below(der.len())]);
     }
 }
 

@@ -19,8 +19,8 @@ pub(crate) fn split_element(der: &[u8]) -> Option<(&[u8], &[u8])> {
     Some(after.split_at(len as usize))
 }
 
-/// The length that octets begin with, and the octets after it. `None` if it is not in the definite form, with the fewest
-/// octets, and of at most eight octets after the first.
+/// The length that octets begin with, and the octets after it. `None` if it is not in the definite form, with the
+/// fewest octets, and of at most eight after the first.
 #[inline]
 fn read_length(octets: &[u8]) -> Option<(u64, &[u8])> {
     match octets {
@@ -62,44 +62,33 @@ fn number_of(digits: &[u8]) -> u64 {
 
 /// How many octets the element of contents octets has.
 #[inline]
-pub(crate) fn element_len(contents: &[u8]) -> usize {
+pub(crate) const fn element_len(contents: &[u8]) -> usize {
+    2 + subsequent_count(contents.len()) + contents.len()
+}
+
+/// Writes the element of contents octets at the start, and returns its length. `None` if it is longer than the output.
+#[inline]
+pub(crate) fn write_element(contents: &[u8], out: &mut [u8]) -> Option<usize> {
     let len = contents.len();
-    if len < 128 {
-        return 2 + len;
+    let count = subsequent_count(len);
+    let start = 2 + count;
+    let end = start + len;
+    if end > out.len() {
+        return None;
     }
-    2 + without_zeros(&(len as u64).to_be_bytes()).len() + len
-}
-
-/// Writes the element of contents octets at the start, and returns its length.
-#[inline]
-pub(crate) fn write_element(contents: &[u8], out: &mut [u8]) -> usize {
     out[0] = TAG;
-    let start = 1 + write_length(contents.len(), &mut out[1..]);
-    let end = start + contents.len();
+    // With `len < 128` for the test, rustc keeps checks of indices.
+    out[1] = if count > 0 { 128 + count as u8 } else { len as u8 };
+    out[2..start].copy_from_slice(&(len as u64).to_be_bytes()[8 - count..]);
     out[start..end].copy_from_slice(contents);
-    end
+    Some(end)
 }
 
-/// Writes the length octets of a number at the start, and returns how many there are.
+/// How many of a length's octets follow the first: none below 128.
 #[inline]
-fn write_length(len: usize, out: &mut [u8]) -> usize {
+const fn subsequent_count(len: usize) -> usize {
     if len < 128 {
-        out[0] = len as u8;
-        return 1;
+        return 0;
     }
-    let word = (len as u64).to_be_bytes();
-    let digits = without_zeros(&word);
-    let end = 1 + digits.len();
-    out[0] = 128 + digits.len() as u8;
-    out[1..end].copy_from_slice(digits);
-    end
-}
-
-/// The octets from the first one on that is not 0.
-fn without_zeros(octets: &[u8]) -> &[u8] {
-    let mut rest = octets;
-    while let [0, after @ ..] = rest {
-        rest = after;
-    }
-    rest
+    8 - (len as u64).leading_zeros() as usize / 8
 }

@@ -6,6 +6,7 @@ use crate::erased::Arc;
 use crate::erased::arcs::Arcs;
 use crate::erased::buffer::Buffer;
 use crate::erased::compare::are_equal;
+use crate::erased::element::split_element;
 use crate::erased::error::{Error, Result};
 use crate::erased::oid_ref::ObjectIdentifierRef;
 use core::cmp::Ordering;
@@ -127,7 +128,7 @@ impl ObjectIdentifier<39> {
     /// Decodes at most 39 contents octets (X.690, 8.19).
     ///
     /// Tag and length are not removed: a complete encoding `06 09 2A ..` is no error, but another identifier,
-    /// 0.6.9.42 and so on. [`read_element`](ObjectIdentifierRef::read_element) removes them.
+    /// 0.6.9.42 and so on. [`read_element`](Self::read_element) removes them.
     ///
     /// # Errors
     ///
@@ -181,6 +182,27 @@ impl<const MAX_SIZE: usize> ObjectIdentifier<MAX_SIZE> {
     #[inline(always)]
     pub fn from_bytes_sized(ber_bytes: &[u8]) -> Result<Self> {
         Self::try_from_ref(ObjectIdentifierRef::from_bytes(ber_bytes)?)
+    }
+
+    /// Reads the element in DER that octets begin with, as [`ObjectIdentifierRef::read_element`] does.
+    ///
+    /// # Errors
+    ///
+    /// Those of [`from_bytes_sized`](Self::from_bytes_sized).
+    ///
+    /// # Examples
+    ///
+    /// ```
+    /// use const_oid::{Error, ObjectIdentifier};
+    ///
+    /// let (oid, rest) = ObjectIdentifier::<1>::read_element(&[0x06, 0x02, 0x88, 0x37, 0x05, 0x00]).unwrap();
+    /// assert_eq!((oid, rest), (Err(Error::Length), &[0x05, 0x00][..]));
+    /// ```
+    #[inline]
+    #[must_use]
+    pub fn read_element(der: &[u8]) -> Option<(Result<Self>, &[u8])> {
+        let (contents, rest) = split_element(der)?;
+        Some((Self::from_bytes_sized(contents), rest))
     }
 
     /// Parses dotted text into at most `MAX_SIZE` octets, and never more than 255.
@@ -301,7 +323,7 @@ impl<const MAX_SIZE: usize> ObjectIdentifier<MAX_SIZE> {
     /// assert_eq!(ObjectIdentifier::new_unwrap("2.999.3").element_len(), 5);
     /// ```
     #[must_use]
-    pub fn element_len(&self) -> usize {
+    pub const fn element_len(&self) -> usize {
         self.as_oid_ref().element_len()
     }
 

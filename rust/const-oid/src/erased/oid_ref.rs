@@ -132,7 +132,7 @@ impl ObjectIdentifierRef {
     /// ```
     #[inline]
     #[must_use]
-    pub fn element_len(&self) -> usize {
+    pub const fn element_len(&self) -> usize {
         element_len(self.as_bytes())
     }
 
@@ -151,10 +151,7 @@ impl ObjectIdentifierRef {
     /// ```
     #[inline]
     pub fn write_element(&self, out: &mut [u8]) -> Option<usize> {
-        if element_len(self.as_bytes()) > out.len() {
-            return None;
-        }
-        Some(write_element(self.as_bytes(), out))
+        write_element(self.as_bytes(), out)
     }
 
     /// The arc at an index, counted from 0, or `None` past the last one.

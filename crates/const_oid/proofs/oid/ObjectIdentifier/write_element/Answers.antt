@@ -1,7 +1,7 @@
 use Rattle.std.proofs.Common.{ℕ, List, arith, length, ◌≤◌, subst}
 use Rattle.std.proofs.lemmas.Grind.{common_steps}
 use Rattle.const_oid.specs.{Element.element, Oid.oid_octets, Text.ReturnsLength}
-use Rattle.const_oid.proofs.Elements.{three_enough}
+use Rattle.const_oid.proofs.Elements.{two_octets, enough}
 use Rattle.const_oid.proofs.oid.ObjectIdentifier.write_element.Goals as goal
 
 pub returns-clause-enough : goal.returns-clause-enough
@@ -10,4 +10,4 @@ returns-clause-enough g c =
     let fits : length (oid_octets c.args.self.now) ≤ 255 = grind (arith, common_steps, within) in
     let cases = subst (λ (octets : List ℕ). ReturnsLength (element octets) c.args.out.now c.write_element.result)
     c.as_oid_ref.ensures.octets c.write_element.ensures.cases in
-    three_enough _ _ c.write_element.result fits cases
+    enough 2 _ _ c.write_element.result (two_octets _ (omega arith)) cases
