@@ -1,4 +1,4 @@
-//! Object identifiers (ITU-T X.660) as dotted text, arcs, and contents octets of BER and DER (ITU-T X.690, 8.19).
+//! Object identifiers (ITU-T X.660) as dotted text, arcs, DER, and contents octets of BER and DER (X.690, 8.19).
 //!
 //! # Which type, and which order
 //!
