@@ -1,7 +1,8 @@
-/* Object identifiers (ITU-T X.660) for C99 and C++: dotted-decimal text, arcs, and the contents octets of BER and DER
- * (ITU-T X.690 section 8.19), without tag and length. The source is in Rattle, where each function is proved to return
- * what its comment says. Only tested are null pointers, threads, how far const_oid_check_sorted reads, the layouts and
- * constants below, and that the library has exactly these functions. The Rattle toolchain builds it from this source.
+/* Object identifiers (ITU-T X.660) for C99 and C++: dotted-decimal text, arcs, elements of DER, and the contents octets
+ * of BER and DER (ITU-T X.690 section 8.19), without tag and length. The source is in Rattle, where each function is proved to return
+ * what its comment says. Only tested are null pointers, threads, how far const_oid_check_sorted reads, that what
+ * const_oid_from_der finds lies in its input, the layouts and constants below, and that the library has exactly these
+ * functions. The Rattle toolchain builds it from this source.
  * cargo builds it from Rust that is generated from the source, and from code for pointers that is written by hand. That
  * build is tested, not proved.
  *
@@ -10,8 +11,8 @@
  * - Arrays. An input is a pointer and a number of items. An output is a pointer and the number of items that fit there.
  *   Both arrays belong to the caller. A function reads the input and writes within the output. It keeps no pointer,
  *   does not allocate and has no state.
- * - Null. A pointer may be null if its length is 0. So may the octets of an item in a list. `range` and the arguments
- *   of const_oid_by_arcs must not be null. To learn how long a result is, pass a null output with length 0: the code is
+ * - Null. A pointer may be null if its length is 0. So may the octets of an item in a list. `range`, `contents`
+ *   and the arguments of const_oid_by_arcs must not be null. To learn how long a result is, pass a null output with length 0: the code is
  *   OUTPUT_TOO_SHORT, and `len` is the length.
  * - Overlap. An output must not overlap an input, whatever the lengths. gcc -Wall (-Wrestrict) warns about some calls
  *   that break this.
@@ -22,8 +23,8 @@
  * - Machines. The tests run on Linux, with glibc on x86-64 and i686, and with musl on x86-64. The proofs are for 64
  *   bits. The library that Rattle builds needs x86-64-v2 (POPCNT, SSE4.1). The library needs no system: of the C
  *   library it calls memory functions, and cargo's build also abort.
- * - Octets. They come after the tag and the length, which no function removes. A complete 06 09 2A 86 .. is no error:
- *   it is read as 0.6.9.42...
+ * - Octets. const_oid_from_der finds them in an element, after the tag and the length. No other function removes these:
+ *   to all others a complete 06 09 2A 86 .. is no error, but 0.6.9.42...
  *
  * What a function returns: const_oid_version and const_oid_by_arcs return a number, all others a status, by value. Code
  * 0 is success. With any other code the function wrote nothing, and the output is unchanged, bit for bit. Items of the
@@ -48,7 +49,7 @@ extern "C" {
 
 /* The version of these declarations. const_oid_version() returns the version of the library. */
 #define CONST_OID_VERSION_MAJOR 1
-#define CONST_OID_VERSION_MINOR 1
+#define CONST_OID_VERSION_MINOR 2
 #define CONST_OID_VERSION_PATCH 0
 #define CONST_OID_VERSION \
     (65536 * CONST_OID_VERSION_MAJOR + 256 * CONST_OID_VERSION_MINOR + CONST_OID_VERSION_PATCH)
@@ -105,7 +106,8 @@ enum const_oid_code {
     CONST_OID_OUTPUT_TOO_SHORT = 10, /* the output is too short for the result */
     CONST_OID_NOT_UTF8 = 11,         /* the text is not UTF-8 */
     CONST_OID_NONE = 12,             /* the arc, parent, item or text does not exist */
-    CONST_OID_UNSORTED = 13          /* an item of the list comes before the previous one */
+    CONST_OID_UNSORTED = 13,         /* an item of the list comes before the previous one */
+    CONST_OID_NO_ELEMENT = 14        /* the bytes do not begin with an element of DER with tag 6 */
 };
 
 /* What a comparison returns in `detail`, which is 0 after an error. */
@@ -121,7 +123,7 @@ enum const_oid_order {
  * - `detail` is, on success, the arc from const_oid_arc, 1 for true and 0 for false from const_oid_starts_with and
  *   const_oid_eq, and a const_oid_order from a comparison. With ARC_INVALID it is the arc, with DIGIT_EXPECTED the
  *   byte. Otherwise it is 0.
- * - `len` is, on success, how many items the function wrote or counted, or the index that it found. With
+ * - `len` is, on success, how many items the function wrote, read or counted, or the index that it found. With
  *   OUTPUT_TOO_SHORT it is how many items the result has. If const_oid_check_sorted finds a wrong item, it is the index
  *   of the first one. Otherwise it is 0. */
 typedef struct const_oid_status {
@@ -130,7 +132,7 @@ typedef struct const_oid_status {
     size_t len;
 } const_oid_status;
 
-/* The contents octets of one identifier in a list. */
+/* The contents octets of one identifier, in a list or an element. */
 typedef struct const_oid_octets {
     const uint8_t *octets; /* the first octet */
     size_t len;            /* how many there are */
@@ -147,6 +149,19 @@ typedef char const_oid_size_t_has_64_or_32_bits[sizeof(size_t) == 8 || sizeof(si
 
 /* The version of the library: CONST_OID_VERSION in its header. */
 CONST_OID_NODISCARD uint32_t const_oid_version(void);
+
+/* Reads the element of DER that bytes begin with (X.690, 8.1 and 10.1): the tag 6, the length, and contents octets.
+ * Stores in `contents`, which must not be null, where these are in the input, and returns in `len` how many bytes the
+ * element has. Others may follow. The code is NO_ELEMENT if the tag is not 6, or the length is indefinite or could be in
+ * fewer bytes, or not all contents octets are there; or else that of the contents octets if they are invalid. With any
+ * code but 0, `contents` is unchanged. */
+CONST_OID_NODISCARD const_oid_status const_oid_from_der(
+    const uint8_t *der, size_t len, const_oid_octets *CONST_OID_RESTRICT contents);
+
+/* Writes the element of DER for octets of any length: the tag 6, the length and the octets. It has two bytes more than
+ * the octets up to 127, three up to 255, and never more than ten. */
+CONST_OID_NODISCARD const_oid_status const_oid_to_der(
+    const uint8_t *octets, size_t len, uint8_t *CONST_OID_RESTRICT out, size_t out_len);
 
 /* Writes the contents octets of the identifier that dotted text denotes, such as "1.2.840". Arcs may have leading
  * zeros. The text may have any length. If it is invalid, returns NOT_UTF8 if it is not UTF-8, or else the code for the

@@ -5,6 +5,7 @@
 #![tactic(auto)]
 
 pub mod arcs;
+pub mod der;
 pub mod errors;
 pub mod lists;
 pub mod order;

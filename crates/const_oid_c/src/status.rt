@@ -47,6 +47,9 @@ pub(crate) const NONE: u32 = 12;
 /// The code of a list that is not sorted.
 pub(crate) const UNSORTED: u32 = 13;
 
+/// The code of bytes that do not begin with an element of DER with tag 6.
+pub(crate) const NO_ELEMENT: u32 = 14;
+
 /// The order of an identifier that comes before the other. No order is 0, which an error leaves in `detail`.
 const LESS: u32 = 1;
 
@@ -170,7 +173,7 @@ pub(crate) fn order_number(ordering: Ordering) -> i32
 /// `CONST_OID_VERSION`.
 #[unsafe(no_mangle)]
 pub extern "C" fn const_oid_version() -> u32
-    ensures { result ≡ 65792 }
+    ensures { result ≡ 66048 }
 {
-    (1 << 16) + (1 << 8)
+    (1 << 16) + (2 << 8)
 }

@@ -14,11 +14,13 @@
 
 enum { ARGUMENTS = 4, SLOT = 1 << 21, AROUND = 64, UNWRITTEN = 0xEE };
 
-enum kind { NOTHING, OCTETS, TEXT, ARCS, LIST, ITEM, INDEX, NUMBER, OCTETS_OUT, TEXT_OUT, ARCS_OUT, RANGE_OUT };
+enum kind {
+    NOTHING, OCTETS, DER, TEXT, ARCS, LIST, ITEM, INDEX, NUMBER, OCTETS_OUT, TEXT_OUT, ARCS_OUT, RANGE_OUT, ITEM_OUT
+};
 
 /* How many bytes an item has; a number has none. */
-static const size_t sizes[] = {0, 1, 1, sizeof(uint32_t), sizeof(const_oid_octets), 1, 0, 0, 1, 1, sizeof(uint32_t),
-    sizeof(const_oid_range)};
+static const size_t sizes[] = {0, 1, 1, 1, sizeof(uint32_t), sizeof(const_oid_octets), 1, 0, 0, 1, 1, sizeof(uint32_t),
+    sizeof(const_oid_range), sizeof(const_oid_octets)};
 
 typedef struct {
     const char *name;
@@ -31,6 +33,7 @@ static const_oid_status status_of(uint32_t number) { return (const_oid_status){C
 
 /* An argument as a function is given it. */
 #define GIVEN_OCTETS(i) a[i].items, a[i].len
+#define GIVEN_DER(i) a[i].items, a[i].len
 #define GIVEN_TEXT(i) a[i].items, a[i].len
 #define GIVEN_ARCS(i) a[i].items, a[i].len
 #define GIVEN_LIST(i) a[i].items, a[i].len
@@ -41,6 +44,7 @@ static const_oid_status status_of(uint32_t number) { return (const_oid_status){C
 #define GIVEN_TEXT_OUT(i) (void *)a[i].items, a[i].len
 #define GIVEN_ARCS_OUT(i) (void *)a[i].items, a[i].len
 #define GIVEN_RANGE_OUT(i) (void *)a[i].items
+#define GIVEN_ITEM_OUT(i) (void *)a[i].items
 
 #define STATUS_const_oid_status(status) (status)
 #define STATUS_uint32_t(number) status_of(number)
@@ -81,6 +85,9 @@ static void must(int fact, const char *words) {
 }
 
 static int is_output(int at) { return f->kinds[at] >= OCTETS_OUT; }
+
+/* Whether an output is one item, and no array. */
+static int is_one(int at) { return f->kinds[at] >= RANGE_OUT; }
 
 /* The index of the output, or of the first argument that is not there. */
 static int output_at(void) {
@@ -132,14 +139,13 @@ static void check_any(const_oid_status got, const argument *given) {
 /* Calls the function, and compares all that it returns and writes with its rule. */
 static void check(void) {
     argument given[ARGUMENTS];
-    answer wanted = f->rule(a);
+    place(given);
+    answer wanted = f->rule(given);
     int out = output_at();
     size_t count = 0, size = sizes[f->kinds[out]];
-    place(given);
     if (wanted.status.code == CONST_OID_OK && is_output(out)) {
-        int is_range = f->kinds[out] == RANGE_OUT;
-        count = is_range ? 1 : wanted.status.len;
-        if (!is_range && count > a[out].len) {
+        count = is_one(out) ? 1 : wanted.status.len;
+        if (!is_one(out) && count > a[out].len) {
             wanted.status.code = CONST_OID_OUTPUT_TOO_SHORT;
             count = 0;
         }
@@ -190,7 +196,7 @@ static void with_huge_outputs(void) {
 static void with_outputs(void) {
     int out = output_at();
     static const uint8_t none[1];
-    if (!is_output(out) || f->kinds[out] == RANGE_OUT) {
+    if (!is_output(out) || is_one(out)) {
         a[out] = (argument){none, is_output(out)};
         check();
         return;
@@ -207,8 +213,9 @@ static void with_outputs(void) {
     if (len > CONST_OID_MAX_OCTETS && !is_long) with_huge_outputs();
 }
 
-/* The octets of 1.2.840.10045, their text, their arcs, and a list of 0.1, them, 1.2.840.10045.1 and 2.5. */
+/* The octets of 1.2.840.10045, their element, their text, their arcs, and a list of 0.1, them, 1.2.840.10045.1 and 2.5. */
 static const uint8_t usual[] = {0x2A, 0x86, 0x48, 0xCE, 0x3D, 1}, root[] = {1}, last[] = {0x55};
+static const uint8_t usual_der[] = {6, 5, 0x2A, 0x86, 0x48, 0xCE, 0x3D, 1};
 static const uint32_t usual_arcs[] = {1, 2, 840, 10045};
 static const char usual_text[] = "1.2.840.10045";
 static const const_oid_octets usual_list[] = {{root, 1}, {usual, 5}, {usual, 6}, {last, 1}};
@@ -225,6 +232,7 @@ static size_t values_beside(enum kind kind, enum kind lead, argument varied, arg
     size_t count = 0;
     const size_t numbers[] = {0, 1, 4, varied.len, varied.len + 1, 128, 4294967295u};
     switch (kind) {
+        case DER: values[count++] = (argument){usual_der, sizeof usual_der}; break;
         case TEXT: values[count++] = (argument){usual_text, sizeof usual_text - 1}; break;
         case ARCS: values[count++] = (argument){usual_arcs, 4}; break;
         case LIST: values[count++] = (argument){usual_list, 4}; break;
@@ -273,7 +281,8 @@ static void with(int lead, const void *items, size_t len) {
 }
 
 /* Each length up to 66, those around the sizes of the library and the ends of 8 and 16 bits, and a huge one. */
-static const size_t lens[] = {127, 128, 129, 254, 255, 256, 257, 258, 300, 515, 65535, 65539, 200003};
+static const size_t lens[] = {127, 128, 129, 131, 254, 255, 256, 257, 258, 260, 300, 515, 65535, 65536, 65539,
+    65540, 200003};
 enum { SHORT = 67, LENS = SHORT + sizeof lens / sizeof *lens };
 
 static size_t len_at(int i) { return i < SHORT ? (size_t)i : lens[i - SHORT]; }
@@ -292,6 +301,17 @@ static void fill_octets(void *out, size_t len, int form) {
     if (form == 6 && len > 5) memcpy(to + len - 5, big, 5);
     if (form == 7) to[0] = 0x80;
     if (form == 8) memset(to, 0xFF, len < 6 ? len : 6);
+}
+
+/* The greatest element of such octets that is not longer, and zeros after it. */
+static void fill_der(void *out, size_t len, int form) {
+    uint8_t head[10], *to = out;
+    size_t count = len < 2 ? 0 : len - 2;
+    while (count > 0 && write_head(count, head) + count > len) count--;
+    size_t start = write_head(count, head);
+    memset(to, 0, len);
+    memcpy(to, head, len < start ? len : start);
+    fill_octets(to + start, count, form);
 }
 
 /* Text of a length: 1.2 or 1.10, and then arcs of a digit, or one of many digits; or the last byte is wrong. */
@@ -318,8 +338,8 @@ static const struct {
     int forms;
     const void *start;
     size_t right;
-} fillings[] = {[OCTETS] = {fill_octets, 9, "\x2A\3\4\x80", 3}, [TEXT] = {fill_text, 7, "1.2\xFF", 3},
-    [ARCS] = {fill_arcs, 5, starts, 1}};
+} fillings[] = {[OCTETS] = {fill_octets, 9, "\x2A\3\4\x80", 3}, [DER] = {fill_der, 9, "\x2A\3\4\x80", 3},
+    [TEXT] = {fill_text, 7, "1.2\xFF", 3}, [ARCS] = {fill_arcs, 5, starts, 1}};
 
 static void vary_array(int lead, enum kind kind) {
     static uint32_t items[MOST];
@@ -330,10 +350,30 @@ static void vary_array(int lead, enum kind kind) {
             with(lead, items, len_at(i));
         }
     }
-    memcpy(input_pages.start, fillings[kind].start, (fillings[kind].right + 1) * sizes[kind]);
-    for (int i = 0; i < CUTS; i++)
-        if (has(input_pages.len, cuts[i], sizes[kind]))
-            with(lead, input_pages.start, (size_t)cuts[i] + fillings[kind].right);
+    for (int i = 0; i < CUTS; i++) {
+        if (!has(input_pages.len, cuts[i] + 10, sizes[kind])) continue;
+        size_t len = (size_t)cuts[i] + fillings[kind].right;
+        size_t head = kind == DER ? write_head(len, input_pages.start) : 0;
+        memcpy(input_pages.start + head, fillings[kind].start, (fillings[kind].right + 1) * sizes[kind]);
+        with(lead, input_pages.start, head + len);
+    }
+}
+
+/* Elements whose lengths have one to three octets: cut at each byte, and with each value of each of their first bytes. */
+static void vary_der(int lead) {
+    static const size_t contents[] = {3, 127, 128, 255, 256};
+    static uint8_t der[260];
+    for (size_t i = 0; i < sizeof contents / sizeof *contents; i++) {
+        size_t len = write_head(contents[i], der) + contents[i];
+        for (size_t at = 0; at < 256 * 5; at++) {
+            fill_der(der, len, 0);
+            der[at / 256] = (uint8_t)at;
+            with(lead, der, len);
+        }
+        fill_der(der, len, 0);
+        for (size_t cut = 0; cut < len; cut++) with(lead, der, cut);
+    }
+    vary_array(lead, DER);
 }
 
 static void vary_numbers(int lead) {
@@ -471,6 +511,7 @@ static void vary(int lead) {
         case TEXT:
         case ARCS: vary_array(lead, f->kinds[lead]); break;
         case LIST: vary_list(lead); break;
+        case DER: vary_der(lead); break;
         default: vary_numbers(lead);
     }
 }
@@ -629,7 +670,7 @@ int main(void) {
         set_usual();
         with_outputs();
         set_usual();
-        if (is_output(output_at()) && f->kinds[output_at()] != RANGE_OUT) with_huge_outputs();
+        if (is_output(output_at()) && !is_one(output_at())) with_huge_outputs();
         for (int at = 0; at < output_at(); at++) vary(at);
     }
     if (equal_items == NULL) printf("tests: no length past 2^32, since no more is mapped\n");

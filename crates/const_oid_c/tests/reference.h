@@ -74,6 +74,16 @@ static size_t write_number(uint64_t number, uint8_t *to) {
     return len;
 }
 
+/* Writes the tag and, in DER's one form, the length of so many contents octets. */
+static size_t write_head(uint64_t len, uint8_t *to) {
+    size_t count = 0;
+    while (len >= 128 && count < 8 && len >> 8 * count != 0) count++;
+    to[0] = 6;
+    to[1] = (uint8_t)(len < 128 ? len : 128 + count);
+    for (size_t i = 0; i < count; i++) to[2 + i] = (uint8_t)(len >> 8 * (count - 1 - i));
+    return 2 + count;
+}
+
 /* The octets of arcs. */
 static answer encoded(const identifier *from) {
     static uint8_t out[5 * (MOST + 2)];
@@ -213,6 +223,30 @@ RULE(const_oid_from_arcs) {
     return first.count < 2 ? of_code(CONST_OID_EMPTY, 0) : encoded(&first);
 }
 
+/* The head that the bytes begin with is the one that is written for some length. */
+RULE(const_oid_from_der) {
+    static const_oid_octets contents;
+    const uint8_t *der = a[0].items;
+    uint8_t head[10];
+    uint64_t len = 0;
+    for (size_t end = 2; end <= 10 && end <= a[0].len; end++) {
+        len = (end > 3 ? 256 * len : 0) + der[end - 1];
+        if (write_head(len, head) != end || memcmp(der, head, end) != 0 || len > a[0].len - end) continue;
+        contents = (const_oid_octets){der + end, (size_t)len};
+        READ(((argument){contents.octets, contents.len}), &first);
+        return of_items(&contents, end + contents.len);
+    }
+    return of_code(CONST_OID_NO_ELEMENT, 0);
+}
+
+RULE(const_oid_to_der) {
+    static uint8_t out[10 + MOST];
+    READ(a[0], &first);
+    size_t head = write_head(a[0].len, out);
+    memcpy(out + head, a[0].items, a[0].len);
+    return of_items(out, head + a[0].len);
+}
+
 RULE(const_oid_parent) {
     READ(a[0], &first);
     return first.count-- == 2 ? of_code(CONST_OID_NONE, 0) : encoded(&first);
@@ -328,7 +362,7 @@ RULE(const_oid_error_text) {
         "expected digit, got '", "OID value is empty", "OID length invalid", "arithmetic calculation overflowed",
         "repeated consecutive '..' characters in OID", "OID ends with invalid trailing '.'",
         "the output is too short for the result", "the text is not UTF-8", "there is no such arc, parent, item or text",
-        "the list is not sorted"};
+        "the list is not sorted", "the bytes do not begin with an OID in DER"};
     static char out[64];
     size_t code = a[0].len, detail = a[1].len;
     if (code == CONST_OID_OK || code >= sizeof texts / sizeof *texts) return of_code(CONST_OID_NONE, 0);

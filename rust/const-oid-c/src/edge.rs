@@ -6,7 +6,7 @@ use core::marker::PhantomData;
 use core::mem::MaybeUninit;
 use core::slice;
 
-/// The contents octets of one identifier of a list. C alone makes one, and guarantees its pointer for `'a`.
+/// The contents octets of one identifier. C guarantees the pointer of one that it makes for `'a`.
 #[repr(C)]
 #[derive(Clone, Copy)]
 pub struct Octets<'a> {
@@ -16,8 +16,12 @@ pub struct Octets<'a> {
 }
 
 impl<'a> Octets<'a> {
+    pub(crate) fn of(octets: &'a [u8]) -> Self {
+        Octets { octets: octets.as_ptr(), len: octets.len(), borrowed: PhantomData }
+    }
+
     pub(crate) fn get(&self) -> &'a [u8] {
-        // SAFETY: nothing in Rust makes or changes these fields, so they are what C guaranteed.
+        // SAFETY: these fields are those of a slice, or what C guaranteed, since nothing changes them.
         unsafe { input(self.octets, self.len) }
     }
 }

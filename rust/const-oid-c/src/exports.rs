@@ -75,6 +75,29 @@ pub unsafe extern "C" fn const_oid_arcs_from(
 ///
 /// The header says what a caller guarantees.
 #[unsafe(no_mangle)]
+pub unsafe extern "C" fn const_oid_from_der(der: *const u8, der_len: usize, contents: *mut Octets<'_>) -> Status {
+    // SAFETY: the caller guarantees it.
+    unsafe { crate::erased::der::const_oid_from_der(input(der, der_len), &mut output(contents, 1)[0]) }
+}
+
+/// # Safety
+///
+/// The header says what a caller guarantees.
+#[unsafe(no_mangle)]
+pub unsafe extern "C" fn const_oid_to_der(
+    octets: *const u8,
+    octets_len: usize,
+    out: *mut u8,
+    out_len: usize,
+) -> Status {
+    // SAFETY: the caller guarantees it.
+    unsafe { crate::erased::der::const_oid_to_der(input(octets, octets_len), output(out, out_len)) }
+}
+
+/// # Safety
+///
+/// The header says what a caller guarantees.
+#[unsafe(no_mangle)]
 pub unsafe extern "C" fn const_oid_error_text(code: u32, detail: u32, out: *mut u8, out_len: usize) -> Status {
     // SAFETY: the caller guarantees it.
     unsafe { crate::erased::errors::const_oid_error_text(code, detail, output(out, out_len)) }

@@ -13,6 +13,13 @@ pub(crate) fn encode(oid: &ObjectIdentifierRef, out: &mut Output<u8>) -> Option<
     oid.encode_text(zeroed(out))
 }
 
+/// Writes the element of an identifier at the start of an output, and returns its length. `None` if it is
+/// longer than the output, which is then unchanged.
+pub(crate) fn write_element(oid: &ObjectIdentifierRef, out: &mut Output<u8>) -> Option<usize> {
+    let out = out.get_mut(..oid.element_len())?;
+    oid.write_element(zeroed(out))
+}
+
 /// Writes the octets of a text at the start of an output, and returns how many. On an error it is unchanged.
 pub(crate) fn bytes_from_ascii(text: &[u8], out: &mut Output<u8>) -> Result<usize> {
     let len = internal_for_const_oid_c::bytes_len_from_ascii(text, out.len())?;

@@ -1,7 +1,7 @@
 //! The functions for C, from their heads in Rattle: their exports over pointers, and a list for the tests in C.
 
 /// Types of arguments, and what the list for C calls them.
-const KINDS: [(&str, &str); 9] = [
+const KINDS: [(&str, &str); 10] = [
     ("&[u8]", "OCTETS"),
     ("&[u32]", "ARCS"),
     ("&[Octets<'_>]", "LIST"),
@@ -9,6 +9,7 @@ const KINDS: [(&str, &str); 9] = [
     ("&mut [u8]", "OCTETS_OUT"),
     ("&mut [u32]", "ARCS_OUT"),
     ("&mut Range", "RANGE_OUT"),
+    ("&mut Octets<'_>", "ITEM_OUT"),
     ("usize", "INDEX"),
     ("u32", "NUMBER"),
 ];
@@ -30,10 +31,11 @@ impl Call {
         source.split("pub extern \"C\" fn ").skip(1).filter_map(|text| Call::of(module, text)).collect()
     }
 
-    /// The function whose text begins with its name.
+    /// The function whose text begins with its name. A lifetime of the source is none of its pointers.
     fn of(module: &str, text: &str) -> Option<Self> {
-        let (name, rest) = text.split_once('(')?;
-        let (arguments, rest) = rest.split_once(") -> ")?;
+        let (head, rest) = text.split_once(") -> ")?;
+        let head = head.replace("<'a>(", "(").replace("&'a ", "&").replace("<'a>", "<'_>");
+        let (name, arguments) = head.split_once('(')?;
         let arguments = arguments.split(',').filter_map(|text| text.trim().split_once(": "));
         Some(Call {
             module: module.into(),
@@ -72,6 +74,7 @@ impl Call {
             let is_text =
                 name == "text" || name == "out" && ["const_oid_to_text", "const_oid_error_text"].contains(&&*self.name);
             let kind = if is_text { kind.replace("OCTETS", "TEXT") } else { kind.into() };
+            let kind = if name == "der" { "DER".into() } else { kind };
             out += &format!(", ARGUMENT({kind}, {index})");
         }
         Ok(out + if self.arguments.is_empty() { ", NOTHING)\n" } else { ")\n" })

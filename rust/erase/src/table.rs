@@ -178,6 +178,10 @@ pub const CRATES: &[Crate] = &[
             "": "out: &mut [u32]" => "out: &mut crate::edge::Output<u32>", UNWRITTEN;
             "lists": "range: &mut Range" => "range: &mut core::mem::MaybeUninit<Range>", UNWRITTEN;
             "lists": "*range = Range { start, end };" => "range.write(Range { start, end });", UNWRITTEN;
+            "der": "contents: &mut Octets<'a>" => "contents: &mut core::mem::MaybeUninit<Octets<'a>>", UNWRITTEN;
+            "der": "*contents = Octets { octets: oid.as_bytes(), };" => "contents.write(Octets::of(oid.as_bytes()));",
+                UNWRITTEN;
+            "der": "oid.write_element(out)" => "crate::outputs::write_element(oid, out)", UNWRITTEN;
             "output": "out[..len].copy_from_slice(bytes);" => "crate::edge::copy(bytes, out);", UNWRITTEN;
             "output": "out[..first.len()].copy_from_slice(first); out[first.len()..len].copy_from_slice(rest);"
                 => "crate::edge::copy(first, out); crate::edge::copy(rest, &mut out[first.len()..]);", UNWRITTEN;

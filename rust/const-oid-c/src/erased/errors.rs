@@ -4,8 +4,8 @@
 
 use crate::erased::output::write_bytes;
 use crate::erased::status::{
-    ARC_INVALID, ARC_TOO_BIG, BASE128, DIGIT_EXPECTED, EMPTY, LENGTH, NONE, NOT_UTF8, OUTPUT_TOO_SHORT, OVERFLOW,
-    REPEATED_DOT, Status, TRAILING_DOT, UNSORTED, code_status, len_status, too_short_status,
+    ARC_INVALID, ARC_TOO_BIG, BASE128, DIGIT_EXPECTED, EMPTY, LENGTH, NO_ELEMENT, NONE, NOT_UTF8, OUTPUT_TOO_SHORT,
+    OVERFLOW, REPEATED_DOT, Status, TRAILING_DOT, UNSORTED, code_status, len_status, too_short_status,
 };
 use const_oid::internal_for_const_oid_c::Error;
 
@@ -25,6 +25,7 @@ pub fn const_oid_error_text(code: u32, detail: u32, out: &mut crate::edge::Outpu
         NOT_UTF8 => write_bytes(b"the text is not UTF-8", out),
         NONE => write_bytes(b"there is no such arc, parent, item or text", out),
         UNSORTED => write_bytes(b"the list is not sorted", out),
+        NO_ELEMENT => write_bytes(b"the bytes do not begin with an OID in DER", out),
         _ => code_status(NONE),
     }
 }

@@ -6,6 +6,7 @@
 //! `include/const_oid.h` declares the functions and says what a C caller must guarantee.
 
 pub mod arcs;
+pub mod der;
 pub mod errors;
 pub mod lists;
 pub mod order;

@@ -47,6 +47,9 @@ pub(crate) const NONE: u32 = 12;
 /// The code of a list that is not sorted.
 pub(crate) const UNSORTED: u32 = 13;
 
+/// The code of bytes that do not begin with an element of DER with tag 6.
+pub(crate) const NO_ELEMENT: u32 = 14;
+
 /// The order of an identifier that comes before the other. No order is 0, which an error leaves in `detail`.
 const LESS: u32 = 1;
 
@@ -132,5 +135,5 @@ pub(crate) fn order_number(ordering: Ordering) -> i32 {
 /// 65536 times the major number, 256 times the minor one and the patch number, as
 /// `CONST_OID_VERSION`.
 pub fn const_oid_version() -> u32 {
-    (1 << 16) + (1 << 8)
+    (1 << 16) + (2 << 8)
 }
