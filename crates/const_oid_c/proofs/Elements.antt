@@ -3,7 +3,12 @@ use Rattle.std.proofs.Common.{◌≡◌, ℕ, ◌-◌, ◌≤◌, List, ◌++◌
 use Rattle.const_oid.specs.{declared.error.Error.Error, declared.oid_ref.ObjectIdentifierRef.ObjectIdentifierRef}
 use Rattle.const_oid.specs.{Contents.borrowed_capacity, Element.{element, length_octets}, OidRef.{ref_arcs, ref_octets, ReadsElement}}
 use Rattle.const_oid.proofs.Elements.{same_element}
-use Rattle.const_oid_c.specs.{Results.{borrowed_answer, element_status}, Status.{error_status, len_status}}
+use Rattle.const_oid_c.specs.declared.status.Status.{Status}
+use Rattle.const_oid_c.specs.{Results.{borrowed_answer, status_of}, Status.{error_status, len_status}}
+
+-- the status of the element of octets
+abbrev pub element_status : List ℕ → Status
+element_status octets = status_of (λ _. len_status (length (element octets))) (borrowed_answer octets)
 
 fewer : (der octets rest : List ℕ) → der ≡ element octets ++ rest → length octets ≤ length der
 fewer der octets rest is =

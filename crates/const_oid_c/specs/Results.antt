@@ -1,18 +1,17 @@
 -- The results of functions: what a function writes, or its status.
-use Rattle.std.specs.Prelude.{◌≡◌, ℕ, List, [], ◌∷◌, codes, length, nat_lt, slice_index_or, if◌then◌else◌, Option, Some, None, Result, Ok, Err}
+use Rattle.std.specs.Prelude.{◌≡◌, ℕ, List, [], ◌∷◌, codes, nat_lt, slice_index_or, if◌then◌else◌, Option, Some, None, Result, Ok, Err}
 use Rattle.std.specs.Option.{option_map, option_map_or}
 use Rattle.std.specs.Result.{result_flatten, result_map_both}
 use Rattle.std.specs.Str.{is_utf8}
 use Rattle.const_oid.specs.declared.error.Error.{Error}
 use Rattle.const_oid.specs.declared.error.Error.TheVariants.{ArcInvalid, ArcTooBig, Base128, DigitExpected, Empty, Length, Overflow, RepeatedDot, TrailingDot}
 use Rattle.const_oid.specs.Contents.{octet_answer, borrowed_capacity}
-use Rattle.const_oid.specs.Element.{element}
 use Rattle.const_oid.specs.Error.{message_of}
 use Rattle.const_oid.specs.Identifier.{root_rule, encoding_of}
 use Rattle.const_oid.specs.Text.{text_answer}
 use Rattle.const_oid.specs.Tree.{child_of, parent_of}
 use Rattle.const_oid_c.specs.declared.status.Status.{Status}
-use Rattle.const_oid_c.specs.Status.{error_status, len_status, max_len, not_utf8_status, none_status, number_status}
+use Rattle.const_oid_c.specs.Status.{error_status, max_len, not_utf8_status, none_status, number_status}
 
 -- the most octets that an owned identifier can have
 abbrev pub owned_capacity : ℕ
@@ -64,14 +63,6 @@ octets_of_parent octets = result_flatten (result_map_both (λ arcs. ok_or_none (
 -- the contents octets of the arcs of octets and one more
 abbrev pub octets_of_child : List ℕ → ℕ → Result (List ℕ) Status
 octets_of_child octets arc = output_of (λ arcs. encoding_of (child_of arcs arc)) (borrowed_answer octets)
-
--- the element of octets, if they are valid
-abbrev pub element_of_octets : List ℕ → Result (List ℕ) Status
-element_of_octets octets = output_of (λ _. element octets) (borrowed_answer octets)
-
--- the status of reading the element of octets: how many octets it has, or the fault of its contents octets
-abbrev pub element_status : List ℕ → Status
-element_status octets = status_of (λ _. len_status (length (element octets))) (borrowed_answer octets)
 
 -- the text of each code from 0 on, with this detail
 abbrev pub code_texts : ℕ → List (Option (List ℕ))

@@ -22,10 +22,6 @@ not_utf8_status = code_status 11
 abbrev pub none_status : Status
 none_status = code_status 12
 
--- octets begin with no element
-abbrev pub no_element_status : Status
-no_element_status = code_status 14
-
 -- the output is too short for so many items
 abbrev pub too_short_status : ℕ → Status
 too_short_status len = record { code = 10; detail = 0; len = len }

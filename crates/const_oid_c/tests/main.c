@@ -59,6 +59,8 @@ static void refused(const_oid_status status) {
         printf("no text");
     } else if (status.code == CONST_OID_UNSORTED) {
         printf("unsorted");
+    } else if (status.code == CONST_OID_NO_ELEMENT) {
+        printf("no element");
     } else {
         printf("error %" PRIu32 " %" PRIu32 ": %.*s", status.code, status.detail, (int)words.len, text);
     }
@@ -100,6 +102,19 @@ static void octets_row(char *rest) {
     }
     if (const_oid_arc(row.octets, row.len, count.len).code != CONST_OID_NONE)
         fail("there is an arc past the last");
+}
+
+/* Prints the octets of the element that bytes begin with, and its length. Written again, it is the same. */
+static void element_row(char *rest) {
+    uint8_t out[MOST];
+    const_oid_octets contents = {NULL, 0};
+    bytes der = read_hex(word(&rest));
+    const_oid_status status = const_oid_from_der(der.octets, der.len, &contents);
+    const_oid_status again = const_oid_to_der(contents.octets, contents.len, out, sizeof out);
+    if (status.code == CONST_OID_OK && (again.len != status.len || memcmp(out, der.octets, status.len) != 0))
+        fail("an element is written otherwise");
+    if (status.code == CONST_OID_OK) printf("%zu bytes, ", status.len);
+    written(status.code == CONST_OID_OK ? (const_oid_status){CONST_OID_OK, 0, contents.len} : status, contents.octets);
 }
 
 static void arcs_row(char *rest) {
@@ -229,6 +244,7 @@ static void answer(const char *call, char *rest) {
     if (IS("text")) text_row(rest, strlen(rest));
     else if (IS("bytes")) bytes_row(rest);
     else if (IS("octets")) octets_row(rest);
+    else if (IS("element")) element_row(rest);
     else if (IS("arcs")) arcs_row(rest);
     else if (IS("arcs_from")) arcs_from_row(rest);
     else if (IS("parent") || IS("child")) tree_row(IS("child"), rest);

@@ -14,9 +14,7 @@
 
 enum { ARGUMENTS = 4, SLOT = 1 << 21, AROUND = 64, UNWRITTEN = 0xEE };
 
-enum kind {
-    NOTHING, OCTETS, DER, TEXT, ARCS, LIST, ITEM, INDEX, NUMBER, OCTETS_OUT, TEXT_OUT, ARCS_OUT, RANGE_OUT, ITEM_OUT
-};
+enum kind { NOTHING, OCTETS, DER, TEXT, ARCS, LIST, ITEM, INDEX, NUMBER, OCTETS_OUT, TEXT_OUT, ARCS_OUT, RANGE_OUT, ITEM_OUT };
 
 /* How many bytes an item has; a number has none. */
 static const size_t sizes[] = {0, 1, 1, 1, sizeof(uint32_t), sizeof(const_oid_octets), 1, 0, 0, 1, 1, sizeof(uint32_t),
@@ -367,11 +365,10 @@ static void vary_der(int lead) {
         size_t len = write_head(contents[i], der) + contents[i];
         for (size_t at = 0; at < 256 * 5; at++) {
             fill_der(der, len, 0);
+            if (at < len) with(lead, der, at);
             der[at / 256] = (uint8_t)at;
             with(lead, der, len);
         }
-        fill_der(der, len, 0);
-        for (size_t cut = 0; cut < len; cut++) with(lead, der, cut);
     }
     vary_array(lead, DER);
 }

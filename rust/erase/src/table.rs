@@ -179,8 +179,7 @@ pub const CRATES: &[Crate] = &[
             "lists": "range: &mut Range" => "range: &mut core::mem::MaybeUninit<Range>", UNWRITTEN;
             "lists": "*range = Range { start, end };" => "range.write(Range { start, end });", UNWRITTEN;
             "der": "contents: &mut Octets<'a>" => "contents: &mut core::mem::MaybeUninit<Octets<'a>>", UNWRITTEN;
-            "der": "*contents = Octets { octets: oid.as_bytes(), };" => "contents.write(Octets::of(oid.as_bytes()));",
-                UNWRITTEN;
+            "der": "*contents = Octets { octets };" => "contents.write(Octets::of(octets));", UNWRITTEN;
             "der": "oid.write_element(out)" => "crate::outputs::write_element(oid, out)", UNWRITTEN;
             "output": "out[..len].copy_from_slice(bytes);" => "crate::edge::copy(bytes, out);", UNWRITTEN;
             "output": "out[..first.len()].copy_from_slice(first); out[first.len()..len].copy_from_slice(rest);"

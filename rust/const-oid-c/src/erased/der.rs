@@ -8,26 +8,24 @@ use const_oid::internal_for_const_oid_c::ObjectIdentifierRef;
 
 /// Reads the element that bytes begin with: how many of them it has, and where its contents octets are.
 pub fn const_oid_from_der<'a>(der: &'a [u8], contents: &mut core::mem::MaybeUninit<Octets<'a>>) -> Status {
-    let Some((read, rest)) = ObjectIdentifierRef::read_element(der) else {
-        return code_status(NO_ELEMENT);
-    };
-    match read {
-        Ok(oid) => {
-            contents.write(Octets::of(oid.as_bytes()));
+    match ObjectIdentifierRef::read_element(der) {
+        Some((Ok(oid), rest)) => {
+            let octets = oid.as_bytes();
+            contents.write(Octets::of(octets));
             len_status(der.len() - rest.len())
         }
-        Err(fault) => error_status(fault),
+        Some((Err(fault), _)) => error_status(fault),
+        None => code_status(NO_ELEMENT),
     }
 }
 
 /// Writes the element of contents octets of any length.
 pub fn const_oid_to_der(octets: &[u8], out: &mut crate::edge::Output<u8>) -> Status {
-    let oid = match ObjectIdentifierRef::from_bytes(octets) {
-        Ok(oid) => oid,
-        Err(fault) => return error_status(fault),
-    };
-    match crate::outputs::write_element(oid, out) {
-        Some(len) => len_status(len),
-        None => too_short_status(oid.element_len()),
+    match ObjectIdentifierRef::from_bytes(octets) {
+        Ok(oid) => match crate::outputs::write_element(oid, out) {
+            Some(len) => len_status(len),
+            None => too_short_status(oid.element_len()),
+        },
+        Err(fault) => error_status(fault),
     }
 }
