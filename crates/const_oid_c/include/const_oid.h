@@ -1,19 +1,18 @@
 /* Object identifiers (ITU-T X.660) for C99 and C++: dotted-decimal text, arcs, elements of DER, and the contents octets
- * of BER and DER (ITU-T X.690 section 8.19), without tag and length. The source is in Rattle, where each function is proved to return
- * what its comment says. Only tested are null pointers, threads, how far const_oid_check_sorted reads, that what
- * const_oid_from_der finds lies in its input, the layouts and constants below, and that the library has exactly these
- * functions. The Rattle toolchain builds it from this source.
- * cargo builds it from Rust that is generated from the source, and from code for pointers that is written by hand. That
- * build is tested, not proved.
+ * of BER and DER (ITU-T X.690 section 8.19), without tag and length. The source is in Rattle, where each function is
+ * proved to return what its comment says. Only tested are null pointers, threads, how far const_oid_check_sorted reads,
+ * that what const_oid_from_der finds is in its input, the layouts and constants below, and that the library has exactly
+ * these functions. The Rattle toolchain builds it from this source. cargo builds it from Rust that is generated from
+ * the source, and from code for pointers that is written by hand. That build is tested, not proved.
  *
  * What the caller must guarantee, for all functions:
  *
  * - Arrays. An input is a pointer and a number of items. An output is a pointer and the number of items that fit there.
  *   Both arrays belong to the caller. A function reads the input and writes within the output. It keeps no pointer,
  *   does not allocate and has no state.
- * - Null. A pointer may be null if its length is 0. So may the octets of an item in a list. `range`, `contents`
- *   and the arguments of const_oid_by_arcs must not be null. To learn how long a result is, pass a null output with length 0: the code is
- *   OUTPUT_TOO_SHORT, and `len` is the length.
+ * - Null. A pointer may be null if its length is 0. So may the octets of an item in a list. `range`, `contents` and the
+ *   arguments of const_oid_by_arcs must not be null. To learn how long a result is, pass a null output with length 0:
+ *   the code is OUTPUT_TOO_SHORT, and `len` is the length.
  * - Overlap. An output must not overlap an input, whatever the lengths. gcc -Wall (-Wrestrict) warns about some calls
  *   that break this.
  * - Lengths. A length is that of its array, which has at most 2^63 - 1 bytes, or 2^30 - 1 if size_t has 32 bits. Texts
@@ -152,9 +151,8 @@ CONST_OID_NODISCARD uint32_t const_oid_version(void);
 
 /* Reads the element of DER that bytes begin with (X.690, 8.1 and 10.1): the tag 6, the length, and contents octets.
  * Stores in `contents`, which must not be null, where these are in the input, and returns in `len` how many bytes the
- * element has. Others may follow. The code is NO_ELEMENT if the tag is not 6, or the length is indefinite or could be in
- * fewer bytes, or not all contents octets are there; or else that of the contents octets if they are invalid. With any
- * code but 0, `contents` is unchanged. */
+ * element has. Others may follow. The code is NO_ELEMENT if the tag is not 6, or the length is indefinite or could be
+ * in fewer bytes, or not all contents octets are there; or else that of the octets if they are invalid. */
 CONST_OID_NODISCARD const_oid_status const_oid_from_der(
     const uint8_t *der, size_t len, const_oid_octets *CONST_OID_RESTRICT contents);
 

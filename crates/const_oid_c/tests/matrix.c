@@ -14,7 +14,8 @@
 
 enum { ARGUMENTS = 4, SLOT = 1 << 21, AROUND = 64, UNWRITTEN = 0xEE };
 
-enum kind { NOTHING, OCTETS, DER, TEXT, ARCS, LIST, ITEM, INDEX, NUMBER, OCTETS_OUT, TEXT_OUT, ARCS_OUT, RANGE_OUT, ITEM_OUT };
+enum kind { NOTHING, OCTETS, DER, TEXT, ARCS, LIST, ITEM, INDEX, NUMBER, OCTETS_OUT, TEXT_OUT, ARCS_OUT, RANGE_OUT,
+    ITEM_OUT };
 
 /* How many bytes an item has; a number has none. */
 static const size_t sizes[] = {0, 1, 1, 1, sizeof(uint32_t), sizeof(const_oid_octets), 1, 0, 0, 1, 1, sizeof(uint32_t),
@@ -211,7 +212,7 @@ static void with_outputs(void) {
     if (len > CONST_OID_MAX_OCTETS && !is_long) with_huge_outputs();
 }
 
-/* The octets of 1.2.840.10045, their element, their text, their arcs, and a list of 0.1, them, 1.2.840.10045.1 and 2.5. */
+/* The octets of 1.2.840.10045, their element, text and arcs, and a list of 0.1, them, 1.2.840.10045.1 and 2.5. */
 static const uint8_t usual[] = {0x2A, 0x86, 0x48, 0xCE, 0x3D, 1}, root[] = {1}, last[] = {0x55};
 static const uint8_t usual_der[] = {6, 5, 0x2A, 0x86, 0x48, 0xCE, 0x3D, 1};
 static const uint32_t usual_arcs[] = {1, 2, 840, 10045};
@@ -279,8 +280,7 @@ static void with(int lead, const void *items, size_t len) {
 }
 
 /* Each length up to 66, those around the sizes of the library and the ends of 8 and 16 bits, and a huge one. */
-static const size_t lens[] = {127, 128, 129, 131, 254, 255, 256, 257, 258, 260, 300, 515, 65535, 65536, 65539,
-    65540, 200003};
+static const size_t lens[] = {127, 128, 129, 254, 255, 256, 257, 258, 300, 515, 65535, 65536, 65539, 65540, 200003};
 enum { SHORT = 67, LENS = SHORT + sizeof lens / sizeof *lens };
 
 static size_t len_at(int i) { return i < SHORT ? (size_t)i : lens[i - SHORT]; }
@@ -357,7 +357,7 @@ static void vary_array(int lead, enum kind kind) {
     }
 }
 
-/* Elements whose lengths have one to three octets: cut at each byte, and with each value of each of their first bytes. */
+/* Elements whose lengths have one to three octets: cut at each byte, and with each value of each of the first bytes. */
 static void vary_der(int lead) {
     static const size_t contents[] = {3, 127, 128, 255, 256};
     static uint8_t der[260];

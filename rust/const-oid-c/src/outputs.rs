@@ -13,8 +13,7 @@ pub(crate) fn encode(oid: &ObjectIdentifierRef, out: &mut Output<u8>) -> Option<
     oid.encode_text(zeroed(out))
 }
 
-/// Writes the element of an identifier at the start of an output, and returns its length. `None` if it is
-/// longer than the output, which is then unchanged.
+/// Writes the element of an identifier as `encode` writes its text.
 pub(crate) fn write_element(oid: &ObjectIdentifierRef, out: &mut Output<u8>) -> Option<usize> {
     let out = out.get_mut(..oid.element_len())?;
     oid.write_element(zeroed(out))
