@@ -13,7 +13,7 @@ Prints object identifiers: text, contents octets, arcs and names.
 Usage: oid [OPTION].. [INPUT]..
 
 Without inputs, each line of standard input is one. Without an option for its form, an input with a dot is text; then
-come known names, and then octets in hexadecimal. A number alone needs an option.
+come known names, and then contents octets in hexadecimal. A number alone, and what could be DER, need an option.
 
 Options:
   --text  inputs are dotted text, such as 2.5.4.3 or .1.3.6.1
@@ -48,7 +48,10 @@ impl Form {
             return Ok(Form::Name);
         }
         if input.bytes().all(|byte| byte.is_ascii_digit()) {
-            return Err("text, or octets? Give --text or --hex".into());
+            return Err("text, or octets? Give --text, --hex or --der".into());
+        }
+        if octets_of(input).is_ok_and(|octets| matches!(ObjectIdentifierRef::read_element(&octets), Some((_, [])))) {
+            return Err("contents octets, or DER with tag and length? Give --hex or --der".into());
         }
         let is_hex = input.bytes().all(|byte| byte.is_ascii_hexdigit());
         Ok(if is_hex { Form::Hex } else { Form::Name })
@@ -60,7 +63,11 @@ impl Form {
             // snmpwalk -On prints a leading dot.
             Form::Text => Ok(Oid::new_sized(input.strip_prefix('.').unwrap_or(input))?),
             Form::Hex => Ok(Oid::from_bytes_sized(&octets_of(input)?)?),
-            Form::Der => Ok(Oid::from_bytes_sized(contents_of(&octets_of(input)?)?)?),
+            Form::Der => match ObjectIdentifierRef::read_element(&octets_of(input)?) {
+                Some((oid, [])) => Ok(Oid::try_from(oid?)?),
+                Some(_) => Err("octets come after the element".into()),
+                None => Err("no whole element of tag 06 with the shortest length".into()),
+            },
             Form::Name => {
                 let oid = DB.by_name(input).ok_or("no known name")?;
                 Ok(Oid::try_from(oid.as_oid_ref())?)
@@ -78,19 +85,6 @@ fn octets_of(digits: &str) -> Result<Vec<u8>> {
     };
     let octets: Option<Vec<u8>> = digits.as_bytes().chunks(2).map(octet).collect();
     Ok(octets.ok_or("not octets in hexadecimal")?)
-}
-
-/// The contents octets of an identifier in DER, without tag and length.
-fn contents_of(der: &[u8]) -> Result<&[u8]> {
-    let (len, contents) = match der {
-        [0x06, len @ ..=0x7F, contents @ ..] => (len, contents),
-        [0x06, 0x81, len, contents @ ..] if *len > 0x7F => (len, contents),
-        _ => return Err("not an identifier of DER, of at most 255 octets".into()),
-    };
-    if contents.len() != usize::from(*len) {
-        return Err("the length of DER is not that of the octets".into());
-    }
-    Ok(contents)
 }
 
 /// The names of an identifier, each once.
