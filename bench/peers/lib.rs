@@ -1,4 +1,5 @@
 //! const-oid, and this library's crate: `ObjectIdentifier::new`, `ObjectIdentifierRef::from_bytes`, `Display`.
+//! With the feature `elements`: `ObjectIdentifierRef::read_element`.
 //! asn1: `ObjectIdentifier::from_string`, `write_single`, `parse_single`, `Display`.
 use std::{io::Write, slice};
 
@@ -17,7 +18,9 @@ unsafe extern "C" fn octets_to_text(der: *const u8, len: usize, out: &mut [u8; 4
     let der = unsafe { slice::from_raw_parts(der, len) };
     #[cfg(feature = "asn1")]
     let oid = asn1::parse_single::<asn1::ObjectIdentifier>(der);
-    #[cfg(not(feature = "asn1"))]
+    #[cfg(feature = "elements")]
+    let Some((oid, [])) = const_oid::ObjectIdentifierRef::read_element(der) else { return -1 };
+    #[cfg(not(any(feature = "asn1", feature = "elements")))]
     let oid = const_oid::ObjectIdentifierRef::from_bytes(&der[2..]);
     let mut room = &mut out[..];
     oid.map_or(-1, |oid| write!(room, "{oid}").map_or(-1, |()| 4000 - room.len() as i32))

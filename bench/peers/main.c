@@ -6,7 +6,7 @@
 
 enum { ROOM = 4096, REJECTED = -1, NO_CALL = -4096 };
 /* The length of a result, or a negative number if the input is rejected. A text has a 0 after it. It is read into
-   contents octets, below which there is room for a tag and a length. A whole DER encoding is printed. */
+   contents octets, below which there is room for a tag and a length. A whole element is printed. */
 __attribute__((noinline)) int text_to_octets(const char *text, size_t len, uint8_t *out);
 __attribute__((noinline)) int octets_to_text(const uint8_t *der, size_t len, char *out);
 
@@ -16,7 +16,8 @@ int main(void) {
     while (fgets(line, sizeof line, stdin)) {
         size_t len = 0;
         while (sscanf(line + 2 * len, "%2hhx", &in[len]) == 1) in[++len] = 0;
-        int size = in[0] == 6 ? octets_to_text(in, len, (char *)out + 2) : text_to_octets((char *)in, len, out + 2);
+        int is_text = in[0] >= ' ' && in[0] <= '~' && in[0] != 0x26; /* the only tag in this range */
+        int size = is_text ? text_to_octets((char *)in, len, out + 2) : octets_to_text(in, len, (char *)out + 2);
         for (int i = 0; i < size; i++) printf("%02x", out[i + 2]);
         puts(size == NO_CALL ? "no call" : size < 0 ? "rejected" : "");
     }
