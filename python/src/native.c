@@ -167,9 +167,13 @@ static int is_octets(PyObject *given) {
     return PyBytes_Check(given) || PyByteArray_Check(given) || PyMemoryView_Check(given);
 }
 
+static PyObject *octets_from(PyObject *given) {
+    return is_octets(given) ? PyBytes_FromObject(given)
+                            : wrong_type("octets must be bytes, bytearray or memoryview", given);
+}
+
 static PyObject *identifier_from_bytes(PyObject *type, PyObject *given) {
-    if (!is_octets(given)) return wrong_type("octets must be bytes, bytearray or memoryview", given);
-    PyObject *octets = PyBytes_FromObject(given);
+    PyObject *octets = octets_from(given);
     if (!octets) return NULL;
     const_oid_octets items = items_of(octets);
     const_oid_status status = const_oid_check(items.octets, items.len);
@@ -178,6 +182,29 @@ static PyObject *identifier_from_bytes(PyObject *type, PyObject *given) {
     Py_DECREF(octets);
     return NULL;
 }
+
+/* The identifier of the element that octets begin with. The octets after it come too, or else are an error. */
+static PyObject *from_element(PyObject *type, PyObject *given, int is_whole) {
+    PyObject *octets = octets_from(given), *result = NULL;
+    if (!octets) return NULL;
+    const_oid_octets items = items_of(octets), contents = {NULL, 0};
+    const_oid_status status = const_oid_from_der(items.octets, items.len, &contents);
+    Py_ssize_t left = (Py_ssize_t)(items.len - status.len);
+    if (is_whole && !status.code && left) status.code = CONST_OID_NO_ELEMENT;
+    if (status.code) {
+        failed(status, octets);
+    } else {
+        result = PyBytes_FromStringAndSize((const char *)contents.octets, (Py_ssize_t)contents.len);
+        result = made((PyTypeObject *)type, result);
+    }
+    if (result && !is_whole) result = Py_BuildValue("Ny#", result, items.octets + status.len, left);
+    Py_DECREF(octets);
+    return result;
+}
+
+static PyObject *identifier_from_der(PyObject *type, PyObject *given) { return from_element(type, given, 1); }
+
+static PyObject *identifier_read_der(PyObject *type, PyObject *given) { return from_element(type, given, 0); }
 
 /* An integer, or 2^32 in place of all that are greater. Returns whether there is one. */
 static int read_arc(PyObject *item, uint64_t *arc) {
@@ -256,6 +283,15 @@ static PyObject *arcs_of(PyObject *self) {
 static PyObject *identifier_arcs(PyObject *self, void *closure) {
     (void)closure;
     return Py_XNewRef(arcs_of(self));
+}
+
+/* A tag, and a length of a size_t in at most one octet more, come before the octets. */
+static PyObject *identifier_der(PyObject *self, void *closure) {
+    (void)closure;
+    Output out;
+    const_oid_octets octets = octets_of(self);
+    if (!has_room(&out, octets.len + 2 + sizeof octets.len, 1)) return NULL;
+    return written(&out, const_oid_to_der(octets.octets, octets.len, out.start, out.len), self);
 }
 
 /* The octets of a parent are a prefix, of the length that a call without output needs. */
@@ -439,7 +475,7 @@ It is hashable, and ordered by its arcs, as in SNMP. No tuple or text equals it.
 \n\
 numpy takes it as one value: numpy.array makes an array of objects from a list of identifiers.\n\
 \n\
-from_bytes, from_arcs, parent, child, copies and pickles of a subclass call it with an ObjectIdentifier, so its\n\
+What makes an identifier of a subclass (from_bytes, parent, a copy ..) calls it with an ObjectIdentifier, so its\n\
 __init__ runs. Copies and pickles then also get the attributes.\n\
 \n\
 >>> class Named(ObjectIdentifier):\n\
@@ -453,6 +489,23 @@ Decodes contents octets: those after the tag and the length.\n\
 \n\
 >>> ObjectIdentifier.from_bytes(b\"\\x2a\\x86\\x48\")\n\
 ObjectIdentifier('1.2.840')");
+
+PyDoc_STRVAR(from_der_doc, "from_der($type, octets, /)\n--\n\n\
+Decodes a whole element of DER: the tag 6, the length and the contents octets, with nothing after them.\n\
+\n\
+>>> ObjectIdentifier.from_der(b\"\\x06\\x03\\x2a\\x86\\x48\")\n\
+ObjectIdentifier('1.2.840')");
+
+PyDoc_STRVAR(read_der_doc, "read_der($type, octets, /)\n--\n\n\
+Decodes the element that octets begin with, and returns the identifier and the octets after it.\n\
+\n\
+>>> ObjectIdentifier.read_der(b\"\\x06\\x03\\x2a\\x86\\x48\\x05\\x00\")\n\
+(ObjectIdentifier('1.2.840'), b'\\x05\\x00')");
+
+PyDoc_STRVAR(der_doc, "The element of DER: the tag 6, the length and the contents octets.\n\
+\n\
+>>> ObjectIdentifier(\"1.2.840\").der\n\
+b'\\x06\\x03*\\x86H'");
 
 PyDoc_STRVAR(from_arcs_doc, "from_arcs($type, arcs, /)\n--\n\n\
 Encodes arcs. One past 32 bits has the same error as in text, and a negative one is a ValueError. All arcs are\n\
@@ -503,6 +556,8 @@ How often an arc occurs.\n\
 
 static PyMethodDef identifier_methods[] = {
     {"from_bytes", identifier_from_bytes, METH_O | METH_CLASS, from_bytes_doc},
+    {"from_der", identifier_from_der, METH_O | METH_CLASS, from_der_doc},
+    {"read_der", identifier_read_der, METH_O | METH_CLASS, read_der_doc},
     {"from_arcs", identifier_from_arcs, METH_O | METH_CLASS, from_arcs_doc},
     {"child", identifier_child, METH_O, child_doc},
     {"starts_with", identifier_starts_with, METH_O, starts_with_doc},
@@ -523,6 +578,7 @@ static PyMethodDef identifier_methods[] = {
 
 static PyGetSetDef identifier_properties[] = {
     {"arcs", identifier_arcs, NULL, arcs_doc, NULL},
+    {"der", identifier_der, NULL, der_doc, NULL},
     {"parent", identifier_parent, NULL, parent_doc, NULL},
     {0},
 };

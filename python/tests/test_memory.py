@@ -54,6 +54,8 @@ OF_FRESH = {
     "identifier": lambda oid: (ObjectIdentifier(oid), Under(oid), Under(Under(oid))),
     "octets": lambda oid: [Under.from_bytes(kind(bytes(oid))) for kind in (bytes, bytearray, memoryview)],
     "wrong octets": lambda oid: raised(ObjectIdentifier.from_bytes, bytes(oid) + WRONG),
+    "der": lambda oid: (Under.from_der(oid.der), Under.read_der(bytearray(oid.der + WRONG))),
+    "wrong der": lambda oid: [raised(ObjectIdentifier.from_der, der) for der in (oid.der + WRONG, bytes(oid), "2")],
     "arcs": lambda oid: (ObjectIdentifier.from_arcs(oid.arcs), Under.from_arcs(list(oid)), Under.from_arcs(oid)),
     "wrong arcs": lambda oid: raised(ObjectIdentifier.from_arcs, [3, *oid]),
     "wrong arc": lambda oid: [raised(ObjectIdentifier.from_arcs, [*oid, arc]) for arc in (2**70, -2, "2")],

@@ -134,7 +134,7 @@ class Package(unittest.TestCase):
         public = {"Code", "ObjectIdentifier", "OidError", "SortedMap", "__version__", "names"}
         self.assertEqual((public, public - {"Code"}), (set(const_oid.__all__), set(dir(const_oid))))
         self.assertEqual({"by_name", "entries", "name_of", "names_of"}, set(names.__all__))
-        methods = "arcs child count from_arcs from_bytes index parent starts_with"
+        methods = "arcs child count der from_arcs from_bytes from_der index parent read_der starts_with"
         self.assertEqual(methods.split(), [name for name in dir(ObjectIdentifier) if not name.startswith("_")])
         self.assertEqual({"const_oid"}, {value.__module__ for value in (ObjectIdentifier, OidError, const_oid.Code)})
         self.assertEqual((const_oid.Code.EMPTY, 5), (const_oid.Code(5), const_oid.Code.EMPTY))
@@ -163,7 +163,8 @@ class Types(unittest.TestCase):
         declared = {node.name: node for node in stub.body if isinstance(node, ast.ClassDef)}["ObjectIdentifier"]
         functions = {node.name: node for node in declared.body if isinstance(node, ast.FunctionDef)}
         self.assertEqual({name for name in vars(ObjectIdentifier) if not name.startswith("_")} - set(functions), set())
-        for name in ("from_bytes", "from_arcs", "child", "starts_with", "index", "count", "__format__", "__deepcopy__"):
+        methods = "from_bytes from_der read_der from_arcs child starts_with index count __format__ __deepcopy__"
+        for name in methods.split():
             arguments = [argument.arg for argument in functions[name].args.posonlyargs][1:]
             text = inspect.getattr_static(ObjectIdentifier, name).__text_signature__
             self.assertEqual(arguments, re.findall(r", (\w+)", text), name)

@@ -21,6 +21,12 @@ def printed(digits):
     return " ".join([f"{oid},", str(len(oid)), "arcs", *map(str, oid)])
 
 
+def element(digits):
+    octets = bytes.fromhex(digits)
+    oid, rest = ObjectIdentifier.read_der(octets)
+    return f"{len(oid.der)} bytes, {digits_of(oid)}" if oid.der + rest == octets else "another element"
+
+
 def arcs_from(words):
     digits, first, room = words.split(" ")
     arcs = oid_of(digits)[int(first) : int(first) + int(room)]
@@ -50,6 +56,7 @@ CALLS = {
     "text": lambda text: digits_of(ObjectIdentifier(text)),
     "bytes": lambda digits: digits_of(ObjectIdentifier(bytes.fromhex(digits).decode("utf-8", "surrogateescape"))),
     "octets": printed,
+    "element": element,
     "arcs": lambda arcs: digits_of(ObjectIdentifier.from_arcs(map(int, arcs.split()))),
     "arcs_from": arcs_from,
     "parent": lambda digits: digits_of(oid_of(digits).parent),
@@ -74,7 +81,8 @@ def answer(call, words):
     try:
         return CALLS[call](words)
     except OidError as error:
-        return "no text" if error.code == 11 else f"error {error.code} {error.detail}: {error_text(*error.args)}"
+        said = {11: "no text", 14: "no element"}.get(error.code)
+        return said or f"error {error.code} {error.detail}: {error_text(*error.args)}"
 
 
 class Rows(unittest.TestCase):

@@ -47,6 +47,12 @@ WRONG = [
     (ObjectIdentifier.from_bytes, 5, "OID value is empty", {b"": (0, None)}),
     (ObjectIdentifier.from_bytes, 3, "OID contains arc with invalid base 128 encoding",
         {b"\x80": (0, None), b"\x2a\x80\x01": (0, None), b"\x2a\0\x80": (0, None)}),
+    (ObjectIdentifier.from_der, 5, "OID value is empty", {b"\6\0": (0, None)}),
+    (ObjectIdentifier.from_der, 3, "OID contains arc with invalid base 128 encoding", {b"\6\2\x2a\x80\0": (0, None)}),
+    (ObjectIdentifier.from_der, 14, "the tag is not 6", {b"": (0, None), b"\x26\1\x2a": (0, None)}),
+    (ObjectIdentifier.from_der, 14, "octets come after the element", {b"\6\1\x2a\0": (0, None)}),
+    (ObjectIdentifier.read_der, 14, "the length is not in the form of DER, or octets are missing",
+        {b"\6": (0, None), b"\6\2\x2a": (0, None), b"\6\x81\1\x2a": (0, None), b"\6\x80\x2a\0\0": (0, None)}),
     (ObjectIdentifier.from_arcs, 5, "OID value is empty", {(): (0, None)}),
     (ObjectIdentifier.from_arcs, 5, "an identifier has two arcs or more", {(1,): (0, None)}),
     (ObjectIdentifier.from_arcs, 2, "OID contains arc which is larger than 32-bits", {(1, 2, 2**32): (0, None)}),
@@ -112,6 +118,7 @@ class Inputs(unittest.TestCase):
         wrong = {
             ObjectIdentifier: [b"1.2", None, 1, 1.2, ("1", "2")],
             ObjectIdentifier.from_bytes: ["2.999", None, 42, [42, 3], OID, array.array("B", [42])],
+            ObjectIdentifier.from_der: ["2.999", None, 42, [6, 1, 42], OID, array.array("B", [6, 1, 42])],
             ObjectIdentifier.from_arcs: ["12", "", b"\x01\x02", bytearray(b"\x01"), None, 1, [1, "2"], [1.0, 2]],
             (lambda arcs: ObjectIdentifier.from_arcs((1, 2**32, *arcs))): ["3", [2.0], None],
             OID.child: ["1", 1.0, None, OID],
@@ -125,13 +132,14 @@ class Inputs(unittest.TestCase):
                     self.assertIs(TypeError, type(error_of(call, given)))
 
     def test_octets_come_from_any_buffer(self):
-        source = bytearray(OCTETS)
-        taken = [ObjectIdentifier.from_bytes(given) for given in (OCTETS, source, memoryview(source))]
-        taken.append(ObjectIdentifier.from_bytes(memoryview(bytes(2 * octet for octet in OCTETS[:1]) + OCTETS)[1:]))
-        taken.append(ObjectIdentifier.from_bytes(memoryview(OCTETS[::-1])[::-1]))
-        taken.append(ObjectIdentifier.from_bytes(type("Octets", (bytes,), {})(OCTETS)))
-        source[:] = bytes(len(source))
-        self.assertEqual([(bytes, OCTETS)] * 6, [(type(bytes(oid)), bytes(oid)) for oid in taken])
+        for call, octets in ((ObjectIdentifier.from_bytes, OCTETS), (ObjectIdentifier.from_der, b"\6\7" + OCTETS)):
+            source = bytearray(octets)
+            taken = [call(given) for given in (octets, source, memoryview(source))]
+            taken.append(call(memoryview(bytes(2 * octet for octet in octets[:1]) + octets)[1:]))
+            taken.append(call(memoryview(octets[::-1])[::-1]))
+            taken.append(call(type("Octets", (bytes,), {})(octets)))
+            source[:] = bytes(len(source))
+            self.assertEqual([(bytes, OCTETS)] * 6, [(type(bytes(oid)), bytes(oid)) for oid in taken])
 
     def test_arcs_come_from_any_iterable(self):
         self.assertEqual((2, 999, 1), ObjectIdentifier.from_arcs(iter([2, Index(), True])).arcs)
@@ -231,6 +239,9 @@ class Inputs(unittest.TestCase):
         self.assertTrue((f"ObjectIdentifier('{text}')", same, hash(same)) == (repr(oid), oid, hash(oid)))
         self.assertTrue((octets + GREATEST, octets) == (bytes(child), bytes(child.parent)))
         self.assertTrue((oid, tuple(before)) == (oid.parent.child(last), oid.parent.arcs))
+        size = len(octets).to_bytes((len(octets).bit_length() + 7) // 8, "big")
+        der = b"\6" + (size if len(octets) < 128 else bytes([128 + len(size)]) + size) + octets
+        self.assertTrue((der, oid, (oid, b"\0")) == (oid.der, oid.from_der(der), oid.read_der(der + b"\0")))
         self.assertEqual((False, True, True), (oid == other, oid != other, hash(oid) != hash(other)))
         self.assertEqual((False, True), (oid < other, other < oid))
         self.assertEqual((False, True, True), tuple(map(oid.starts_with, (other, same, oid.parent))))
@@ -268,8 +279,8 @@ class Values(unittest.TestCase):
         """What makes an object of a subclass calls it once, with a plain identifier."""
         source = Named("2.999")
         made = [Named.from_bytes(b"\x88\x37"), Named.from_arcs((2, 999)), Named("2.999.1").parent, Named("2.999")]
-        made += [Named(source), Named(OID).parent.parent.parent.parent.child(3).parent]
-        for oid, text in zip(made, [*["2.999"] * 5, "1.2"]):
+        made += [Named.read_der(source.der)[0], Named(source), Named(OID).parent.parent.parent.parent.child(3).parent]
+        for oid, text in zip(made, [*["2.999"] * 6, "1.2"]):
             self.assertEqual((Named, text, text, 1), (type(oid), str(oid), oid.text, oid.calls))
         self.assertEqual("2.999.7", source.child(7).text)
 
@@ -319,7 +330,7 @@ class Values(unittest.TestCase):
         self.assertEqual(((1, 2, 3), True), (attributes.arcs, attributes.starts_with(named)))
 
     def test_nothing_changes_an_identifier(self):
-        for name in ("arcs", "parent", "_octets", "_known", "other"):
+        for name in ("arcs", "der", "parent", "_octets", "_known", "other"):
             for call in ((setattr, OID, name, 1), (delattr, OID, name)):
                 self.assertIs(AttributeError, type(error_of(*call)), call)
         changes = [(operator.setitem, OID, 0, 1), (operator.delitem, OID, 0), (setattr, OID, "__class__", Under)]

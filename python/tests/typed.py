@@ -15,15 +15,17 @@ def uses() -> None:
     oid = assert_type(ObjectIdentifier("1.2.840.2"), ObjectIdentifier)
     under = assert_type(Under(oid), Under)
     assert_type(ObjectIdentifier(under), ObjectIdentifier)
-    for octets in (b"\x2a", bytearray(b"\x2a"), memoryview(b"\x2a")):
-        assert_type(Under.from_bytes(octets), Under)
+    for octets in (b"\6\1\x2a", bytearray(b"\6\1\x2a"), memoryview(b"\6\1\x2a")):
+        assert_type((Under.from_bytes(octets), Under.from_der(octets)), tuple[Under, Under])
+        assert_type(Under.read_der(octets), tuple[Under, bytes])
     assert_type((Under.from_arcs([2, 999]), Under.from_arcs(oid), under.child(3)), tuple[Under, Under, Under])
     assert_type((under.parent, oid.arcs, oid[1:]), tuple[Under | None, tuple[int, ...], tuple[int, ...]])
     assert_type((oid.starts_with(under), 840 in oid), tuple[bool, bool])
     assert_type((oid < under, oid == "1.2"), tuple[bool, bool])
     assert_type((under.child(True).first(), oid[0], len(oid)), tuple[int, int, int])
     assert_type((hash(oid), oid.index(2), oid.count(2)), tuple[int, int, int])
-    assert_type((str(oid), bytes(oid), f"{oid:>9}", copy.copy(under)), tuple[str, bytes, str, Under])
+    assert_type((str(oid), bytes(oid), oid.der, copy.copy(under)), tuple[str, bytes, bytes, Under])
+    assert_type(f"{oid:>9}", str)
     match oid:
         case ObjectIdentifier((first, *_)):
             assert_type(first, int)

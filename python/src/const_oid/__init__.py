@@ -1,11 +1,11 @@
-"""Object identifiers (ITU-T X.660) as dotted text, arcs, and contents octets of BER and DER (ITU-T X.690, 8.19).
+"""Object identifiers (ITU-T X.660) as dotted text, arcs, elements of DER and contents octets (ITU-T X.690, 8.19).
 
 >>> oid = ObjectIdentifier("1.2.840.10045.2.1")
 >>> bytes(oid).hex(), oid.arcs
 ('2a8648ce3d0201', (1, 2, 840, 10045, 2, 1))
 
 Contents octets have no tag and no length. In DER, such as that of a certificate, these come first: the tag of an
-identifier is 6. A walk over all values finds them:
+identifier is 6. `from_der` and `read_der` take them. A walk over all values finds each identifier:
 
 >>> def identifiers(der):
 ...     while der:

@@ -36,6 +36,7 @@ class Code(enum.IntEnum):
     NOT_UTF8 = 11
     NONE = 12
     UNSORTED = 13
+    NO_ELEMENT = 14
 
 
 class OidError(ValueError):
@@ -79,8 +80,10 @@ class OidError(ValueError):
     def __str__(self) -> str:
         text = error_text(self.code, self.detail) or f"{self.code.name} {self.detail}"
         given = self.given if isinstance(self.given, str) else ""
-        if self.code is Code.EMPTY and self.given:
+        if self.code is Code.EMPTY and self.given and not isinstance(self.given, bytes):
             text = "an identifier has two arcs or more"
+        elif self.code is Code.NO_ELEMENT and isinstance(self.given, bytes):
+            text = _fault_of_element(self.given)
         elif self.code is Code.DIGIT_EXPECTED and self.detail < 256:
             character = re.search("[^\0-\x7f]", given) if self.detail > 127 else None
             text = text.replace(chr(self.detail), repr(character[0] if character else chr(self.detail))[1:-1])
@@ -91,6 +94,17 @@ class OidError(ValueError):
     def __repr__(self) -> str:
         given = "" if self.given is None else f", {SHOWN.repr(self.given)}"
         return f"{type(self).__name__}(Code.{self.code.name}, {self.detail}{given})"
+
+
+def _fault_of_element(octets: bytes) -> str:
+    """Why octets are not one whole element of DER."""
+    if octets[:1] != b"\6":
+        return "the tag is not 6"
+    try:
+        ObjectIdentifier.read_der(octets)
+    except OidError:
+        return "the length is not in the form of DER, or octets are missing"
+    return "octets come after the element"
 
 
 class _Shown(reprlib.Repr):
