@@ -9,6 +9,7 @@ ghost use Rattle.std.specs.Ordering.{nat_cmp, is_lt};
 ghost use Rattle.std.proofs.Props.{props};
 ghost use Rattle.const_oid.specs.OidRef.{ref_arcs, ref_octets};
 
+use crate::compare::is_same_name;
 use crate::oid_ref::ObjectIdentifierRef;
 use crate::search::{Contents, end_of, first_of, nearest_of, subtree_of};
 
@@ -35,7 +36,7 @@ pub struct SortedDatabase<'a> {
 }
 
 impl<'a> SortedDatabase<'a> {
-    ghost use Rattle.const_oid.specs.Names.{IsNearest, IsSubtree, entry_arcs, first_name, sorted_entries_of};
+    ghost use Rattle.const_oid.specs.Names.{IsNearest, IsSubtree, entry_arcs, first_name, first_oid, sorted_entries_of};
     ghost use Rattle.const_oid.specs.Tree.{BeginsWith};
 
     /// A database over sorted entries. Their order is not checked, and over unsorted entries the results of lookups are
@@ -96,6 +97,24 @@ impl<'a> SortedDatabase<'a> {
     {
         let index = first_of(self.entries, oid)?;
         Some(self.entries[index].1)
+    }
+
+    /// The identifier in the first entry with this name, ignoring ASCII case, or `None` if there is no such entry. All
+    /// entries up to it are read.
+    ///
+    /// # Examples
+    ///
+    /// ```
+    /// use const_oid::db::{SORTED, rfc4519};
+    ///
+    /// assert_eq!(SORTED.by_name("CN"), Some(rfc4519::CN.as_oid_ref()));
+    /// ```
+    pub fn by_name(&self, name: &str) -> Option<ObjectIdentifierRef<'a>>
+        ensures { result ≡ first_oid (sorted_entries_of self.now) name.now }
+    {
+        let mut entries = self.entries.iter();
+        let found = entries.find(|entry| is_same_name(entry.1, name))?;
+        Some(found.0)
     }
 
     /// The entry with the longest prefix of the identifier, which may be all of it, or `None` if the table has no

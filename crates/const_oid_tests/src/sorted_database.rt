@@ -1,4 +1,4 @@
-//! Tables sorted by arcs: `by_oid`, `nearest`, `subtree` and `next_after` of `SortedDatabase`, and `ByArcs` as a key.
+//! Tables sorted by arcs: `by_oid`, `by_name`, `nearest`, `subtree` and `next_after` of `SortedDatabase`, and `ByArcs` as a key.
 
 ghost use Rattle.std.specs.Prelude.{◌≡◌, IsOk, IfOk};
 ghost use Rattle.const_oid.specs.Names.{sorted_entries_of};
@@ -68,6 +68,13 @@ const ROWS: &[(&str, Found)] = &[
     ("2.5", (None, None, 0, None)),
 ];
 
+/// Names, and the index of the first entry with each.
+const NAMED: &[(&str, Option<usize>)] = &[
+    ("SYSTEM", Some(0)),
+    ("ifinoctets", Some(7)),
+    ("if", None),
+];
+
 /// The entries of rows.
 pub fn entries(alloc: Global, rows: &[(&'static [u8], &'static str)]) -> Result<Vec<Entry>, Fail> {
     let mut entries = Vec::new(alloc);
@@ -102,6 +109,10 @@ fn finds_each_row(rt: HostRuntime) -> Result<(), Fail> {
         }
         let last = Some(TABLE.len() - 1);
         assert!(rt; finds(&names, &read_borrowed(LONG)?, (last, last, 1, None)));
+        for (name, index) in NAMED {
+            let entry = index.and_then(|index| entries.get(index));
+            assert!(rt; names.by_name(name) == entry.map(|entry| entry.0), "{name}");
+        }
     }
     Ok(())
 }

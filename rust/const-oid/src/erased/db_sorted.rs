@@ -2,6 +2,7 @@
 
 //! Names of borrowed identifiers, by binary search in a table that is sorted by arcs.
 
+use crate::erased::compare::is_same_name;
 use crate::erased::oid_ref::ObjectIdentifierRef;
 use crate::erased::search::{Contents, end_of, first_of, nearest_of, subtree_of};
 
@@ -76,6 +77,23 @@ impl<'a> SortedDatabase<'a> {
     pub fn by_oid(&self, oid: &ObjectIdentifierRef) -> Option<&'a str> {
         let index = first_of(self.entries, oid)?;
         Some(self.entries[index].1)
+    }
+
+    /// The identifier in the first entry with this name, ignoring ASCII case, or `None` if there is no such entry. All
+    /// entries up to it are read.
+    ///
+    /// # Examples
+    ///
+    /// ```
+    /// use const_oid::db::{SORTED, rfc4519};
+    ///
+    /// assert_eq!(SORTED.by_name("CN"), Some(rfc4519::CN.as_oid_ref()));
+    /// ```
+    #[must_use]
+    pub fn by_name(&self, name: &str) -> Option<&'a ObjectIdentifierRef> {
+        let mut entries = self.entries.iter();
+        let found = entries.find(|entry| is_same_name(entry.1, name))?;
+        Some(found.0)
     }
 
     /// The entry with the longest prefix of the identifier, which may be all of it, or `None` if the table has no
