@@ -3,7 +3,7 @@
 //! There is a link for each entry, to the next one of its slot, and then one for each slot, to its first entry. If there
 //! is none, the link is the number of entries. A table that has no links has one slot.
 
-ghost use Rattle.std.specs.Prelude.{◌≡◌, ◌+◌, ◌-◌, ◌%◌, ◌^◌, ◌<◌, ◌≤◌, IfSome, length, replicate, slice_index};
+ghost use Rattle.std.specs.Prelude.{◌≡◌, ◌+◌, ◌-◌, ◌%◌, ◌^◌, ◌<◌, ◌≤◌, length, replicate, slice_index};
 ghost use Rattle.const_oid.specs.Private.Links.{AreLinks, hash_of, key_of};
 
 use crate::oid::Oid;
@@ -65,21 +65,46 @@ pub(crate) fn links_of<const SIZE: usize>(entries: &[(&Oid, &str)], by_name: boo
     links
 }
 
-/// These links in lent memory, or `None` if it has no place for a slot, or the entries are too many for links.
+/// Whether a slot with this first entry has at most so many entries.
+fn is_short(links: &[u16], count: usize, first: usize, most: usize) -> bool {
+    let mut index = first;
+    for _ in 0..most {
+        if index >= count {
+            return true;
+        }
+        index = next_link(links, count, index);
+    }
+    index >= count
+}
+
+/// Whether no slot has more than a quarter of the entries and two. No clause says so: it decides only what lookups cost.
+fn is_spread(links: &[u16], count: usize) -> bool {
+    let mut firsts = links.iter().skip(count);
+    firsts.all(|first| is_short(links, count, *first as usize, count / 4 + 2))
+}
+
+/// The links of entries in lent memory, or these: if that is no longer, the entries are too many, or the links would be
+/// slower than a scan. A processor waits for each link of a slot before it reads the next one.
 pub(crate) fn links_in<'a>(
     entries: &[(&Oid, &str)],
     by_name: bool,
+    links: &'a [u16],
     place: &'a mut [u16],
-) -> Option<&'a [u16]>
-    ensures { IfSome result (λ links. AreLinks (key_of by_name) entries.now links.now) }
+) -> &'a [u16]
+    requires { AreLinks (key_of by_name) entries.now links.now }
+    ensures { AreLinks (key_of by_name) entries.now result.now }
 {
     let count = entries.len();
-    if place.len() <= count || count > u16::MAX as usize {
-        return None;
+    if place.len() <= count.max(links.len()) || count > u16::MAX as usize {
+        return links;
     }
     place.fill(count as u16);
     write_links(entries, by_name, place);
-    Some(place)
+    if is_spread(place, count) {
+        place
+    } else {
+        links
+    }
 }
 
 /// The first entry of the slot of bytes, or the number of entries.

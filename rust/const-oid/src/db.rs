@@ -148,3 +148,20 @@ macro_rules! sorted {
 include!("db/names.rs");
 
 include!("db/sorted.rs");
+
+/// Links are made only in memory longer than those before, and where no slot has over a quarter of the entries and two.
+#[test]
+fn links_are_made_where_they_help() {
+    for (names, before, len, made) in [
+        ("aAaAefgh", 0, 40, 40),
+        ("aaaaafgh", 0, 40, 0),
+        ("abcdefgh", 0, 9, 0),
+        ("abcdefgh", 39, 40, 40),
+        ("abcdefgh", 41, 40, 41),
+    ] {
+        let entries: [_; 8] = core::array::from_fn(|index| (&rfc4519::CN, &names[index..=index]));
+        let (before, mut place) = (&[8; 41][..before], [0; 40]);
+        let links = crate::erased::links::links_in(&entries, true, before, &mut place[..len]);
+        assert_eq!(links.len(), made, "{names} {len}");
+    }
+}

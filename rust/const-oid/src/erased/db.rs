@@ -56,8 +56,9 @@ impl<'a> Database<'a> {
     /// The database with an index in lent memory: a lookup reads a few entries, and not all, and returns the same, for as
     /// long as the memory is lent.
     ///
-    /// Four numbers for each entry are a good length. With three or fewer, there is an index by identifier and none by
-    /// name. With one or fewer, or more than 65,535 entries, the database stays as it is.
+    /// Four numbers for each entry are a good length. Fewer than 3n + 3, for n entries, make no index by name, and n or
+    /// fewer, or more than 65,535 entries, none at all. An index that the database has, as `DB` does, stays if it is no
+    /// shorter. None is made in which some lookup would read over a quarter of the entries and two: a scan is faster.
     ///
     /// # Examples
     ///
@@ -76,8 +77,8 @@ impl<'a> Database<'a> {
         let (by_oid, by_name) = place.split_at_mut(len);
         Database {
             entries: self.entries,
-            oid_links: links_in(self.entries, false, by_oid).unwrap_or(self.oid_links),
-            name_links: links_in(self.entries, true, by_name).unwrap_or(self.name_links),
+            oid_links: links_in(self.entries, false, self.oid_links, by_oid),
+            name_links: links_in(self.entries, true, self.name_links, by_name),
         }
     }
 
