@@ -8,7 +8,7 @@ use const_oid_uses::constants::{EC_PUBLIC_KEY, is_ec_public_key, is_its_text};
 use const_oid_uses::generic::{child_in, printed, widened};
 use const_oid_uses::schema::{Attribute, CommonName, Country, find, has_type};
 use const_oid_uses::subtree::range_of;
-use const_oid_uses::table::{ATTRIBUTE_TYPES, is_attribute_type};
+use const_oid_uses::table::{ATTRIBUTE_TYPES, indexed, is_attribute_type};
 use const_oid_uses::theorems;
 use std::alloc::{AllocError, Global};
 use std::cmp::Ordering;
@@ -159,15 +159,17 @@ fn is_answered(
 }
 
 #[test]
-fn names_algorithms(rt: HostRuntime) {
+fn names_algorithms(rt: HostRuntime) -> Result<(), Fail> {
     let rsa = theorems::rsa_encryption();
     let ed25519 = Oid::new_unwrap("1.3.101.112");
     let entries = [(&rsa, "rsaEncryption"), (&ed25519, "Ed25519")];
-    let database = Database::new(&entries);
+    let mut place = Vec::new(rt.alloc());
+    let database = indexed(&entries, &mut place)?;
     for (octets, answer) in NAMED {
         assert!(rt; is_answered(&database, octets, answer), "{octets:?}");
     }
     assert!(rt; name_in(&Database::new(&[]), &database, &rsa) == Some("rsaEncryption"));
+    Ok(())
 }
 
 /// Ten columns of a hundred rows, as a table of interfaces has them (RFC 2863), in no order.

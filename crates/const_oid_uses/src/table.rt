@@ -1,87 +1,36 @@
-//! Attribute types of a directory (RFC 4519), as a table of constants.
+//! Tables of names: of constants, the attribute types of a directory (RFC 4519), and of rows read at run time.
 
-ghost use Rattle.std.specs.Prelude.{◌≡◌, ◌↔◌, IsTrue};
+ghost use Rattle.std.specs.Prelude.{◌≡◌, ◌↔◌, IfOk, IsTrue};
 ghost use Rattle.std.specs.List.{Any};
+ghost use Rattle.const_oid.specs.Names.{entries_of};
 ghost use Rattle.const_oid.specs.OidRef.{ref_arcs};
 ghost use Rattle.const_oid_uses.specs.AttributeTypes.{attribute_types};
 
-use const_oid::ObjectIdentifierRef;
-use const_oid::db::SortedDatabase;
+use const_oid::db::{Database, SortedDatabase};
+use const_oid::{ObjectIdentifierRef, Oid};
+use std::alloc::AllocError;
+
+/// An identifier, as octets, and its name.
+macro_rules! row {
+    ($octets:expr, $name:expr) => {
+        (ObjectIdentifierRef { ber: &$octets }, $name)
+    };
+}
 
 /// Identifiers and their names, sorted by arcs. The checker reads the octets.
 pub const ATTRIBUTE_TYPES: [(ObjectIdentifierRef<'static>, &str); 12] = [
-    (
-        ObjectIdentifierRef {
-            ber: &[0x09, 0x92, 0x26, 0x89, 0x93, 0xF2, 0x2C, 0x64, 0x01, 0x01],
-        },
-        "uid",
-    ),
-    (
-        ObjectIdentifierRef {
-            ber: &[0x09, 0x92, 0x26, 0x89, 0x93, 0xF2, 0x2C, 0x64, 0x01, 0x19],
-        },
-        "dc",
-    ),
-    (
-        ObjectIdentifierRef {
-            ber: &[0x55, 0x04, 0x03],
-        },
-        "cn",
-    ),
-    (
-        ObjectIdentifierRef {
-            ber: &[0x55, 0x04, 0x04],
-        },
-        "sn",
-    ),
-    (
-        ObjectIdentifierRef {
-            ber: &[0x55, 0x04, 0x05],
-        },
-        "serialNumber",
-    ),
-    (
-        ObjectIdentifierRef {
-            ber: &[0x55, 0x04, 0x06],
-        },
-        "c",
-    ),
-    (
-        ObjectIdentifierRef {
-            ber: &[0x55, 0x04, 0x07],
-        },
-        "l",
-    ),
-    (
-        ObjectIdentifierRef {
-            ber: &[0x55, 0x04, 0x08],
-        },
-        "st",
-    ),
-    (
-        ObjectIdentifierRef {
-            ber: &[0x55, 0x04, 0x09],
-        },
-        "street",
-    ),
-    (
-        ObjectIdentifierRef {
-            ber: &[0x55, 0x04, 0x0A],
-        },
-        "o",
-    ),
-    (
-        ObjectIdentifierRef {
-            ber: &[0x55, 0x04, 0x0B],
-        },
-        "ou",
-    ),
-    (
-        ObjectIdentifierRef {
-            ber: &[0x55, 0x04, 0x0C],
-        },
-        "title",
-    ),
+    row!([9, 0x92, 0x26, 0x89, 0x93, 0xF2, 0x2C, 0x64, 1, 1], "uid"),
+    row!([9, 0x92, 0x26, 0x89, 0x93, 0xF2, 0x2C, 0x64, 1, 0x19], "dc"),
+    row!([0x55, 4, 3], "cn"),
+    row!([0x55, 4, 4], "sn"),
+    row!([0x55, 4, 5], "serialNumber"),
+    row!([0x55, 4, 6], "c"),
+    row!([0x55, 4, 7], "l"),
+    row!([0x55, 4, 8], "st"),
+    row!([0x55, 4, 9], "street"),
+    row!([0x55, 4, 10], "o"),
+    row!([0x55, 4, 11], "ou"),
+    row!([0x55, 4, 12], "title"),
 ];
 
 /// Whether the table has an attribute type.
@@ -89,4 +38,15 @@ pub fn is_attribute_type(oid: &ObjectIdentifierRef<'_>) -> bool
     ensures { IsTrue result ↔ Any (λ row. row.0 ≡ ref_arcs oid.now) attribute_types }
 {
     SortedDatabase::new(&ATTRIBUTE_TYPES).by_oid(oid).is_some()
+}
+
+/// A table of these rows, with an index in a vector that grows for it.
+pub fn indexed<'a>(
+    rows: &'a [(&'a Oid, &'a str)],
+    place: &'a mut Vec<u16>,
+) -> Result<Database<'a>, AllocError>
+    ensures { IfOk result (λ names. entries_of names ≡ rows.now) }
+{
+    place.resize(rows.len().saturating_mul(4), 0)?;
+    Ok(Database::new(rows).indexed(place))
 }
