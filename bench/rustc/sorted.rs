@@ -1,7 +1,9 @@
 //! sorted SIDE ROW COUNT TIMES: a function of the library for C, or that of the cargo crate's SortedDatabase, so many
-//! times over COUNT identifiers of 8 arcs in lexicographic order. The row `sort` sorts them, in C by qsort. SIDE is c or
-//! crate. The script `sorted` counts its instructions, the loop included. Both sides print the same sum of what they
-//! found.
+//! times over COUNT identifiers of 8 arcs in lexicographic order. The row `sort` sorts them, in C by qsort. SIDE is c
+//! or crate, or one of those of `names`. The script `sorted` counts its instructions, the loop included. All sides of a
+//! row print the same sum of what they found.
+
+mod names;
 
 use const_oid::db::SortedDatabase;
 use const_oid::{ByArcs, ObjectIdentifier, ObjectIdentifierRef};
@@ -118,6 +120,9 @@ fn in_crate(row: &str) -> fn(&ObjectIdentifierRef, &SortedDatabase) -> usize {
 fn main() {
     let words: Vec<String> = std::env::args().skip(1).collect();
     let [side, row, count, times] = &words[..] else { panic!("sorted SIDE ROW COUNT TIMES") };
+    if !["c", "crate"].contains(&&**side) {
+        return println!("{}", names::sum(side, row, count.parse().unwrap(), times.parse().unwrap()));
+    }
     let oids: Vec<ObjectIdentifier> = (0..count.parse().unwrap()).map(item).collect();
     let keys: Vec<ObjectIdentifier> = scattered(&oids).iter().take(1000).map(|oid| key(row, oid)).collect();
     let times = (0..times.parse().unwrap()).map(|time: usize| &keys[time % keys.len()]);

@@ -34,8 +34,8 @@ pub struct Buffer<const SIZE: usize> {
     // The octets that are not in use are zero, on which `eq` relies.
     bytes: [u8; SIZE],
     used: u8,
-    // Empty: it sets the alignment alone. A buffer then has the alignment of an `Error`, so in a `Result` both begin at the
-    // same offset. Without it, the compiler copies a `Result` in pieces that overlap, which takes more time.
+    // Empty: it sets the alignment alone. A buffer then has the alignment of an `Error`, so in a `Result` both begin at
+    // the same offset. Without it, the compiler copies a `Result` in pieces that overlap, which takes more time.
     aligned: [u32; 0],
     ghost within: { used ≤ min SIZE 255 },
     ghost octets: { AreOctets (take used bytes) } by { Prim.hlevel props },
@@ -65,8 +65,7 @@ impl<const SIZE: usize> Buffer<SIZE> {
     }
 
     /// The encoding of the identifier that a text denotes.
-    // Here and below, octets are written into the buffer that is returned: copies of its array alone wait for each other's
-    // stores. So a child takes a tenth less time.
+    // Here and below, octets go into the buffer that is returned: copies of an array wait for each other's stores.
     // erase: const
     #[tactic(auto, using(crate::proofs::Outputs::buffered))]
     #[inline(always)]
@@ -183,8 +182,8 @@ impl<const SIZE: usize> Buffer<SIZE> {
         ensures { IsTrue result ↔ (buffer_octets self.now ≡ buffer_octets other.now) }
     {
         let len = other.used as usize;
-        // Most entries of a table differ in this octet, while the branch by the length would be mispredicted for many: so
-        // a lookup that reads all entries takes half the time.
+        // Most entries of a table differ in this octet, while the branch by the length would be mispredicted for many:
+        // so a lookup that reads all entries takes half the time.
         if len > 0 && self.bytes[len - 1] != other.bytes[len - 1] {
             return false;
         }

@@ -34,7 +34,7 @@ const FOR_C: &str = "the library for C calls it, and the API has no such functio
 const BY_CORE: &str = "`core` compares slices by `memcmp`, which takes less time, and callers inline the call";
 const BOUNDS: &str = "a bound at no cost, where Rattle keeps the default of the trait";
 const LISTED: &str = "a caller by hand lists the entries";
-const SMALL: &str = "a loop takes two hundred octets of flash less, and `from_bytes` a quarter more time";
+const SMALL: &str = "a loop takes two hundred octets of flash less";
 const UNWRITTEN: &str = "in Rust no reference is to memory that C may not have written";
 
 pub const CRATES: &[Crate] = &[
