@@ -5,8 +5,12 @@ use const_oid::{Arc, Arcs, ByArcs, Error, ObjectIdentifier, ObjectIdentifierRef}
 use std::borrow::Borrow;
 use std::cmp::Ordering;
 use std::collections::{BTreeMap, HashMap};
+use std::fmt::{Debug, Write};
 use std::hash::{Hash, Hasher};
+use std::iter::repeat;
 use std::ops::Bound::{Excluded, Unbounded};
+use std::panic::{AssertUnwindSafe, catch_unwind};
+use std::rc::Rc;
 use std::thread;
 
 /// Calls a macro for each capacity.
@@ -21,8 +25,10 @@ macro_rules! each_capacity {
         $call::<6>($($argument),*);
         $call::<39>($($argument),*);
         $call::<64>($($argument),*);
+        $call::<128>($($argument),*);
         $call::<255>($($argument),*);
         $call::<300>($($argument),*);
+        $call::<1_000>($($argument),*);
     };
 }
 
@@ -171,7 +177,6 @@ mod model {
 }
 
 /// What a hasher is fed.
-#[derive(Default)]
 struct Fed(Vec<u8>);
 
 impl Hasher for Fed {
@@ -185,9 +190,19 @@ impl Hasher for Fed {
 }
 
 fn fed(value: &(impl Hash + ?Sized)) -> Vec<u8> {
-    let mut fed = Fed::default();
+    let mut fed = Fed(Vec::new());
     value.hash(&mut fed);
     fed.0
+}
+
+/// Counts writes.
+struct Writes(usize);
+
+impl Write for Writes {
+    fn write_str(&mut self, _: &str) -> std::fmt::Result {
+        self.0 += 1;
+        Ok(())
+    }
 }
 
 /// The functions that read octets, at a capacity.
@@ -199,7 +214,7 @@ fn read_octets<const N: usize>(octets: &[u8], answer: &model::Answer) {
 fn check_read<const N: usize>(owned: Result<ObjectIdentifier<N>, Error>, octets: &[u8], answer: &model::Answer) {
     let fits = octets.len() <= model::capacity(N);
     match (answer, owned) {
-        (Ok(_), Ok(oid)) => assert!(fits && oid.as_bytes() == octets),
+        (Ok(_), Ok(oid)) => assert!(fits && oid.as_bytes() == octets, "{octets:02X?}, {N}"),
         (Ok(_), Err(error)) => assert!(!fits && error == Error::Length, "{octets:02X?}, {N}"),
         (Err(fault), owned) => assert_eq!(owned, Err(*fault), "{octets:02X?}, {N}"),
     }
@@ -242,6 +257,7 @@ fn check_octets(octets: &[u8]) {
 /// A function that writes octets of any length into an output of so many octets. The result is at its start, and the rest
 /// is kept.
 fn check_written(
+    row: impl Debug,
     size: usize,
     answer: &model::Answer,
     write: impl for<'o> FnOnce(&'o mut [u8]) -> Result<&'o ObjectIdentifierRef, Error>,
@@ -250,26 +266,26 @@ fn check_written(
     let start = out.as_ptr();
     let octets = answer.as_ref().map(|arcs| model::encoding(arcs)).map_err(|fault| *fault);
     let written = write(&mut out).map(|oid| (oid.as_bytes().as_ptr(), oid.as_bytes().to_vec()));
-    assert_eq!(written, octets.clone().map(|octets| (start, octets)));
+    assert_eq!(written, octets.clone().map(|octets| (start, octets)), "{row:?}, {size}");
     let octets = octets.unwrap_or_default();
-    assert!(out.starts_with(&octets) && out[octets.len()..].iter().all(|byte| *byte == 0xA5));
+    assert!(out.starts_with(&octets) && out[octets.len()..].iter().all(|byte| *byte == 0xA5), "{row:?}, {size}");
 }
 
 /// The functions that write the octets of a text into an output of so many octets.
 fn write_text(text: &str, size: usize) {
     let answer = model::of_text(text.as_bytes(), size);
-    check_written(size, &answer, |out| ObjectIdentifierRef::new_in(text, out));
-    check_written(size, &answer, |out| ObjectIdentifierRef::from_ascii_in(text.as_bytes(), out));
+    check_written(text, size, &answer, |out| ObjectIdentifierRef::new_in(text, out));
+    check_written(text, size, &answer, |out| ObjectIdentifierRef::from_ascii_in(text.as_bytes(), out));
     #[cfg(feature = "internal-for-const-oid-c")]
     if let (39, Ok(_)) = (size, &answer) {
         let parse = const_oid::internal_for_const_oid_c::parse_usual;
-        check_written(size, &answer, |out| parse(text.as_bytes(), out.try_into().unwrap()));
+        check_written(text, size, &answer, |out| parse(text.as_bytes(), out.try_into().unwrap()));
     }
 }
 
 /// The function that writes the octets of arcs into an output of so many octets.
 fn write_arcs(arcs: &[Arc], size: usize) {
-    check_written(size, &model::of_arcs(arcs, size), |out| ObjectIdentifierRef::from_arcs_in(arcs, out));
+    check_written(arcs, size, &model::of_arcs(arcs, size), |out| ObjectIdentifierRef::from_arcs_in(arcs, out));
 }
 
 /// The functions that parse text, at a capacity.
@@ -296,13 +312,16 @@ fn check_text(text: &str) {
 fn read_arcs<const N: usize>(arcs: &[Arc]) {
     write_arcs(arcs, N);
     let answer = model::of_arcs(arcs, model::capacity(N));
-    let owned = ObjectIdentifier::<N>::from_arcs_sized(arcs.iter().copied());
+    let held = Rc::new(());
+    let given = || arcs.iter().copied().zip(repeat(held.clone())).map(|(arc, _)| arc);
+    let owned = ObjectIdentifier::<N>::from_arcs_sized(given());
     let octets = owned.map(|oid| oid.as_bytes().to_vec());
     assert_eq!(octets, answer.map(|arcs| model::encoding(&arcs)), "{arcs:?}, {N}");
     if N == 39 {
-        let usual = ObjectIdentifier::from_arcs(arcs.iter().copied());
+        let usual = ObjectIdentifier::from_arcs(given());
         assert_eq!(usual.map(|oid| oid.as_bytes().to_vec()), octets);
     }
+    assert_eq!(Rc::strong_count(&held), 1, "an iterator of {arcs:?} is not dropped");
 }
 
 /// What an owned identifier lends: each form is over its octets.
@@ -326,6 +345,9 @@ macro_rules! check_values {
             assert_eq!($oid.arc(index), $arcs.get(index).copied());
         }
         let text = model::text($arcs);
+        let mut writes = Writes(0);
+        let is_printed = write!(writes, "{:.0}", $oid).is_ok();
+        assert!(is_printed && (writes.0 == 1 || $octets.len() > 40), "{text}: {} writes", writes.0);
         check_text_of($oid, &text, $name);
         check_encoded(&text, $oid.text_len(), |out| $oid.encode_text(out), |out| $oid.encode_str(out));
         check_element_of($octets, $oid.element_len(), |out| $oid.write_element(out));
@@ -361,12 +383,14 @@ fn check_borrowed(octets: &[u8], arcs: &[Arc]) {
 }
 
 /// How many arcs are left, at each of them: no fewer than a fifth of the octets that are left, and no more than these,
-/// besides the second arc, which the first octets hold, too.
+/// besides the second arc, which the first octets hold, too. `count` is exact.
 fn check_left(mut arcs: Arcs<'_>, octets: &[u8]) {
     let ends = octets.iter().enumerate().filter(|(_, octet)| **octet < 0x80).map(|(index, _)| index + 1);
     let firsts = [(octets.len(), 1), (octets.len() - ends.clone().next().unwrap(), 1)];
     for (left, held) in firsts.into_iter().chain(ends.map(|end| (octets.len() - end, 0))) {
         assert_eq!(arcs.size_hint(), (left.div_ceil(5) + held, Some(left + held)), "{octets:02X?}");
+        let later = || octets[octets.len() - left..].iter().filter(|octet| **octet < 0x80).count();
+        assert!(left > 300 || arcs.clone().count() == later() + held, "{left} octets of {octets:02X?}");
         arcs.next();
     }
     assert_eq!((arcs.next(), arcs.size_hint()), (None, (0, Some(0))));
@@ -384,7 +408,7 @@ fn indices(len: usize) -> impl Iterator<Item = usize> {
 fn check_text_of(oid: &(impl std::fmt::Display + std::fmt::Debug + ?Sized), text: &str, name: &str) {
     let wide = text.len() + 9;
     for printed in
-        [oid.to_string(), format!("{oid:>wide$}"), format!("{oid:#}"), format!("{oid:.1}"), format!("{oid:+09}")]
+        [oid.to_string(), format!("{oid:>wide$}"), format!("{oid:#}"), format!("{oid:.0}"), format!("{oid:+09}")]
     {
         assert_eq!(printed, text);
     }
@@ -410,7 +434,7 @@ fn check_encoded(
     encode_str: impl for<'o> Fn(&'o mut [u8]) -> Option<&'o str>,
 ) {
     assert_eq!(len, text.len());
-    for room in [0, 1, len - 1, len, len + 1, 4 * len] {
+    for room in [0, 1, len / 2, len - 1, len, len + 1, 4 * len, 4 * len + 300] {
         let expected = (room >= len).then_some(text);
         let written = [expected.unwrap_or("").as_bytes(), &[0xEE].repeat(room - expected.map_or(0, str::len))].concat();
         let mut out = [0xEE].repeat(room);
@@ -418,7 +442,8 @@ fn check_encoded(
         assert_eq!(out, written, "{text}, {room}");
         out.fill(0xEE);
         let start = out.as_ptr();
-        assert_eq!(encode_str(&mut out).map(|text| (text.as_ptr(), text.len())), expected.map(|_| (start, len)));
+        let borrowed = encode_str(&mut out).map(|text| (text.as_ptr(), text.len()));
+        assert_eq!(borrowed, expected.map(|_| (start, len)), "{text}, {room}");
         assert_eq!(out, written, "{text}, {room}");
     }
 }
@@ -475,8 +500,8 @@ fn check_pair(a: &[u8], b: &[u8]) {
     let (x, y) = (ObjectIdentifierRef::from_bytes(a).unwrap(), ObjectIdentifierRef::from_bytes(b).unwrap());
     let (p, q) = (model::of_octets(a).unwrap(), model::of_octets(b).unwrap());
     let (is_equal, starts, by_arcs) = (a == b, p.starts_with(&q), p.cmp(&q));
-    assert_eq!((x == y, x != y, x.cmp(y), x.partial_cmp(y)), (is_equal, !is_equal, a.cmp(b), Some(a.cmp(b))));
-    assert_eq!((x.starts_with(y), x.cmp_arcs(y)), (starts, by_arcs));
+    assert_eq!((x == y, x != y, x.cmp(y)), (is_equal, !is_equal, a.cmp(b)), "{a:02X?}, {b:02X?}");
+    assert_eq!((x.partial_cmp(y), x.starts_with(y), x.cmp_arcs(y)), (Some(a.cmp(b)), starts, by_arcs));
     let rest = p.strip_prefix(q.as_slice()).map(Vec::from);
     assert_eq!(x.strip_prefix(y).map(Vec::from_iter), rest);
     assert_eq!([x < y, x <= y, x > y, x >= y], [a < b, a <= b, a > b, a >= b]);
@@ -499,29 +524,34 @@ fn check_pair(a: &[u8], b: &[u8]) {
     assert_eq!((i.starts_with(small), i.cmp_arcs(&small), *x == small), (starts, by_arcs, is_equal));
 }
 
-/// Pairs that differ in one octet, at the start, in the midst or late, and those of which one begins with the other.
+/// Pairs that differ in bit 2 or 8 of one octet: of few octets each one, of many some at the start, in the midst and
+/// late. And those of which one begins with the other.
 #[test]
 fn compares_long_pairs() {
-    for len in [40, 63, 64, 65, 255, 256, 1_001, 4_097, 70_000] {
+    for len in (2..=130).chain([255, 256, 1_001, 4_097, 70_000]) {
         for group in [&[1][..], &[0x81, 1], &[0x8F, 0xFF, 0xFF, 0xFF, 0x7F]] {
             let octets: Vec<u8> = [0x2A].into_iter().chain(group.iter().copied().cycle()).take(len).collect();
             let end = octets.iter().rposition(|octet| *octet < 0x80).unwrap() + 1;
             let octets = &octets[..end];
-            for late in [0, 1, 2, 7, 8, 9, 31, 32, 33, end / 2, end - 1] {
+            let prefix = &octets[..1 + (end - 1).saturating_sub(group.len())];
+            check_pair(octets, prefix);
+            let some = [0, 1, 2, 7, 8, 9, 31, 32, 33, end / 2, end - 1];
+            let lates = (0..end).filter(|late| len <= 130 || some.contains(late));
+            for (late, bit) in lates.flat_map(|late| [(late, 2), (late, 0x80)]) {
                 let mut other = octets.to_vec();
-                other[end - 1 - late] ^= 2;
-                check_pair(octets, &other);
-                check_pair(&other, octets);
-                let prefix = ObjectIdentifierRef::from_bytes(octets).unwrap().parent().unwrap().as_bytes();
-                check_pair(octets, prefix);
-                check_pair(prefix, &other);
+                other[end - 1 - late] ^= bit;
+                if model::of_octets(&other).is_ok() {
+                    check_pair(octets, &other);
+                    check_pair(&other, octets);
+                    check_pair(prefix, &other);
+                }
             }
         }
     }
 }
 
-/// Calls a check for all lists of up to `most` items over some, on as many threads as there are cores.
-fn all<T: Copy + Sync>(items: &[T], most: u32, check: impl Fn(&[T]) + Sync) {
+/// Calls a check for all lists of up to `most` items over some, on a thread for each core. A list that fails is named.
+fn all<T: Copy + Debug + Sync>(items: &[T], most: u32, check: impl Fn(&[T]) + Sync) {
     let threads = thread::available_parallelism().map_or(1, usize::from);
     thread::scope(|scope| {
         for start in 0..threads {
@@ -535,7 +565,7 @@ fn all<T: Copy + Sync>(items: &[T], most: u32, check: impl Fn(&[T]) + Sync) {
                             *item = items[left % items.len()];
                             left /= items.len();
                         }
-                        check(&list);
+                        assert!(catch_unwind(AssertUnwindSafe(|| check(&list))).is_ok(), "{list:?}");
                     }
                 }
             });
@@ -548,7 +578,7 @@ const EDGES: [u8; 8] = [0, 0x4F, 0x50, 0x7F, 0x80, 0x8F, 0x90, 0xFF];
 /// Identifiers of many lengths.
 fn valid() -> Vec<Vec<u8>> {
     let groups: [&[u8]; 6] = [&[0], &[0x7F], &[0x81, 0], &[0x90, 0], &[0x82, 0x80, 1], &[0x8F, 0xFF, 0xFF, 0xFF, 0x7F]];
-    let lengths = (1..=66).chain(250..=260).chain([300, 1_021, 4_095, 4_096, 4_097, 9_000]);
+    let lengths = (1..=260).chain([300, 1_021, 4_095, 4_096, 4_097, 9_000]);
     let mut out: Vec<Vec<u8>> = (0..0x80).map(|octet| vec![octet]).collect();
     for len in lengths {
         for group in groups {
@@ -623,7 +653,20 @@ fn reads_long_octets() {
         let octets = vec![0x2A; len];
         check_octets(&octets);
         let oid = ObjectIdentifierRef::from_bytes(&octets).unwrap();
-        assert_eq!(oid.parent().map(ObjectIdentifierRef::as_bytes), Some(&octets[1..]));
+        assert!(oid.len() == len + 1 && oid.parent().unwrap().as_bytes() == &octets[1..], "{len}");
+    }
+}
+
+/// The identifiers that have names, and one of the examples: a function might know each of these.
+#[cfg(feature = "db")]
+#[test]
+fn reads_and_writes_known_identifiers() {
+    for text in const_oid::db::DB.entries().iter().map(|entry| entry.0.to_string()).chain(["2.999.3".into()]) {
+        let arcs = model::of_text(text.as_bytes(), 255).unwrap();
+        check_octets(&model::encoding(&arcs));
+        check_borrowed(&model::encoding(&arcs), &arcs);
+        each_capacity!(read_text(&text));
+        each_capacity!(read_arcs(&arcs));
     }
 }
 
@@ -783,5 +826,68 @@ fn finds_subtrees() {
         let oid = ObjectIdentifierRef::from_bytes(prefix).unwrap();
         assert_eq!(oid.subtree(&sorted), (start, start + inside));
         assert_eq!(ObjectIdentifier::<39>::try_from(oid).unwrap().subtree(&sorted), (start, start + inside));
+    }
+}
+
+/// Searches in lists: those of identifiers and tables, and those for C.
+#[cfg(all(feature = "db", feature = "internal-for-const-oid-c"))]
+mod searches {
+    use super::{ObjectIdentifier, ObjectIdentifierRef, all};
+    use const_oid::db::SortedDatabase;
+    use const_oid::internal_for_const_oid_c::search::{Contents, end_of, first_of, nearest_of, start_of, subtree_of};
+    use std::cell::Cell;
+
+    /// In a list in any order, a search finds what is in it.
+    fn check_any_order(list: &[&ObjectIdentifierRef], oid: &ObjectIdentifierRef) {
+        let entries: Vec<(&ObjectIdentifierRef, &str)> = list.iter().map(|oid| (*oid, "name")).collect();
+        let table = SortedDatabase::new(&entries);
+        let found = [table.nearest(oid), table.next_after(oid)].into_iter().flatten().chain(table.subtree(oid));
+        let are_entries = found.map(std::ptr::from_ref).all(|entry| entries.as_ptr_range().contains(&entry));
+        assert!(are_entries && table.by_oid(oid).is_none_or(|name| name == "name"), "{oid} in {list:?}");
+        let (range, other) = (oid.subtree(list), subtree_of(&entries, oid));
+        let ends = [first_of, nearest_of].map(|search| search(&entries, oid).map_or(0, |index| index + 1));
+        let places = [start_of, end_of].map(|search| search(&entries, oid));
+        let most = ends.into_iter().chain(places).chain([range.1, other.1]).max();
+        assert!(range.0 <= range.1 && other.0 <= other.1 && most <= Some(list.len()), "{oid} in {list:?}");
+    }
+
+    #[test]
+    fn finds_what_is_in_the_list_in_any_order() {
+        let oids = ["1.2", "1.2.3", "2.5", "1.2.3.4"].map(ObjectIdentifier::new_unwrap);
+        all(&oids.each_ref().map(ObjectIdentifier::as_oid_ref)[..3], 10, |list| {
+            oids.iter().for_each(|oid| check_any_order(list, oid));
+        });
+    }
+
+    /// Octets, and how often such items were read.
+    struct Item<'a>([u8; 4], &'a Cell<u32>);
+
+    impl Contents for Item<'_> {
+        fn contents(&self) -> &[u8] {
+            self.1.set(self.1.get() + 1);
+            &self.0
+        }
+    }
+
+    /// A binary search of n items reads log2(n) + 2 at most, a run of n items, one or more, 4/3 log2(n) + 7 at most.
+    #[test]
+    fn reads_few_items() {
+        let (reads, log) = (Cell::new(0), |count: usize| (count.max(1) as f64).log2());
+        for len in [1_000, 100_000] {
+            let octets = (0..len).map(|row| [0x2A, row >> 14, row >> 7 & 127, row & 127].map(|octet| octet as u8));
+            let items: Vec<Item<'_>> = octets.map(|octets| Item(octets, &reads)).collect();
+            let runs = [len, len.min(16_384), 128.min(len - 896), 1, 0, 0];
+            for (text, run) in ["1.2", "1.2.0", "1.2.0.7", "1.2.0.7.1", "1.2.0.7.1.1", "2.5"].into_iter().zip(runs) {
+                let (oid, search) = (&*ObjectIdentifier::new_unwrap(text), log(len) + 2.0);
+                let counts = [
+                    ((start_of(&items, oid), reads.take()).1, search),
+                    ((end_of(&items, oid), reads.take()).1, search),
+                    ((first_of(&items, oid), reads.take()).1, search + 1.0),
+                    ((nearest_of(&items, oid), reads.take()).1, oid.len() as f64 * (search + 4.0)),
+                    ((subtree_of(&items, oid), reads.take()).1, search + 4.0 / 3.0 * log(run) + 7.0),
+                ];
+                assert!(counts.iter().all(|(count, most)| f64::from(*count) <= *most), "{text} in {len}: {counts:?}");
+            }
+        }
     }
 }
