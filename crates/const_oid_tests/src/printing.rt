@@ -92,6 +92,7 @@ fn prints_octets(alloc: Global, octets: &[u8], text: &str) -> Result<bool, Fail>
     let borrowed = read_borrowed(octets)?;
     Ok(
         prints_as(&borrowed, text)
+            && (octets.len() > 40 || count_writes(&borrowed, text) == Some(1))
             && prints_debug(alloc, borrowed, "ObjectIdentifierRef", text)?
             && prints_owned(alloc, borrowed, text)?,
     )

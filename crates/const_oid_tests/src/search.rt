@@ -168,9 +168,12 @@ fn finds_the_nearest_of_a_long_identifier(rt: HostRuntime) -> Result<(), Fail> {
     before.pop();
     before.push(0)?;
     let oid = read_borrowed(&octets)?;
-    let last = (read_borrowed(&before)?, "");
-    assert!(rt; nearest_of(&[last], &oid).is_none());
-    assert!(rt; nearest_of(&[(read_borrowed(&[1, 1])?, ""), last], &oid) == Some(0));
+    let first = [1, 1];
+    let last = (read_borrowed(&before)?, "last");
+    let entries = [(read_borrowed(&first)?, "first"), last];
+    assert!(rt; nearest_of(&[last], &oid).is_none() && nearest_of(&entries, &oid) == Some(0));
+    let found = SortedDatabase::try_new(&entries).and_then(|names| names.nearest(oid));
+    assert!(rt; found.map(|entry| entry.1) == Some("first"));
     Ok(())
 }
 
