@@ -109,6 +109,7 @@ length_some n =
     ⊎_elim (λ (short : n < 128). rw (length_octets-short n short) (omega arith))
     (λ (long : 128 ≤ n). rw (length_octets-long n long) (omega arith)) (cases_lt n 128)
 
+-- the last octets of a word that has zeros before its digits
 last_digits : (k : ℕ) (xs digits : List ℕ) → xs ≡ replicate (8 - length digits) 0 ++ digits → k ≡ length digits → k ≤ 8
     → take (8 - (8 - k)) (drop (8 - k) xs) ≡ digits
 last_digits k xs digits joined counted few =
@@ -288,7 +289,8 @@ length_is n small =
     ⊎_elim (λ (short : n < 128). rw (length_octets-short n short) (short, refl))
     (λ (long : 128 ≤ n). rw (length_octets-long n long) (is_long n (base_256 n) long small refl)) (cases_lt n 128)
 
--- how many leading zeros a number has whose octets are these
+-- ---- how many octets follow the first, by leading zeros
+
 power_256 : (k : ℕ) → 256 ^ k ≡ 2 ^ (8 * k)
 power_256 zero = refl
 power_256 (suc k) =
