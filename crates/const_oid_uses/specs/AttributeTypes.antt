@@ -8,16 +8,9 @@ Row = List ℕ × List ℕ
 -- attribute types with their names (RFC 4519, section 2)
 unfoldable pub attribute_types : List Row
 attribute_types =
-    (0 ∷ 9 ∷ 2342 ∷ 19200300 ∷ 100 ∷ 1 ∷ 1 ∷ [], codes "uid")
-    ∷ (0 ∷ 9 ∷ 2342 ∷ 19200300 ∷ 100 ∷ 1 ∷ 25 ∷ [], codes "dc")
+    (0 ∷ 9 ∷ 2342 ∷ 19200300 ∷ 100 ∷ 1 ∷ 25 ∷ [], codes "dc")
     ∷ (2 ∷ 5 ∷ 4 ∷ 3 ∷ [], codes "cn")
     ∷ (2 ∷ 5 ∷ 4 ∷ 4 ∷ [], codes "sn")
-    ∷ (2 ∷ 5 ∷ 4 ∷ 5 ∷ [], codes "serialNumber")
     ∷ (2 ∷ 5 ∷ 4 ∷ 6 ∷ [], codes "c")
-    ∷ (2 ∷ 5 ∷ 4 ∷ 7 ∷ [], codes "l")
-    ∷ (2 ∷ 5 ∷ 4 ∷ 8 ∷ [], codes "st")
-    ∷ (2 ∷ 5 ∷ 4 ∷ 9 ∷ [], codes "street")
     ∷ (2 ∷ 5 ∷ 4 ∷ 10 ∷ [], codes "o")
-    ∷ (2 ∷ 5 ∷ 4 ∷ 11 ∷ [], codes "ou")
-    ∷ (2 ∷ 5 ∷ 4 ∷ 12 ∷ [], codes "title")
     ∷ []

@@ -18,19 +18,12 @@ macro_rules! row {
 }
 
 /// Identifiers and their names, sorted by arcs. The checker reads the octets.
-pub const ATTRIBUTE_TYPES: [(ObjectIdentifierRef<'static>, &str); 12] = [
-    row!([9, 0x92, 0x26, 0x89, 0x93, 0xF2, 0x2C, 0x64, 1, 1], "uid"),
+pub const ATTRIBUTE_TYPES: [(ObjectIdentifierRef<'static>, &str); 5] = [
     row!([9, 0x92, 0x26, 0x89, 0x93, 0xF2, 0x2C, 0x64, 1, 0x19], "dc"),
     row!([0x55, 4, 3], "cn"),
     row!([0x55, 4, 4], "sn"),
-    row!([0x55, 4, 5], "serialNumber"),
     row!([0x55, 4, 6], "c"),
-    row!([0x55, 4, 7], "l"),
-    row!([0x55, 4, 8], "st"),
-    row!([0x55, 4, 9], "street"),
     row!([0x55, 4, 10], "o"),
-    row!([0x55, 4, 11], "ou"),
-    row!([0x55, 4, 12], "title"),
 ];
 
 /// Whether the table has an attribute type.

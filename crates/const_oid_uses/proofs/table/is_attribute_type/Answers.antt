@@ -6,7 +6,7 @@ use Rattle.const_oid_uses.proofs.Rows.{row_of, row_found}
 use Rattle.const_oid_uses.proofs.table.is_attribute_type.Goals as goal
 
 pub new-requires : goal.new-requires
-new-requires c = sorted_rows 11 _ (λ d. refl)
+new-requires c = sorted_rows 4 _ (λ d. refl)
 
 pub returns : goal.returns
 unfolding attribute_types
