@@ -1,6 +1,6 @@
 //! Identifiers of any length from text and arcs, in octets of the caller.
 
-use crate::vectors::long_octets;
+use crate::vectors::{long_octets, long_text};
 use const_oid::{Arc, Error, ObjectIdentifierRef};
 use std::alloc::{AllocError, Global};
 
@@ -36,25 +36,24 @@ const LARGE: Repeated = Repeated {
     arcs: (&[2, 4_294_967_295], 4_294_967_295),
 };
 
-/// An identifier, how many times the rest follows, how many octets an output has, and whether it fits.
-const LENGTHS: &[(Repeated, usize, usize, bool)] = &[
-    (SMALL, 0, 0, false),
-    (SMALL, 0, 1, true),
-    (SMALL, 254, 254, false),
-    (SMALL, 254, 255, true),
-    (SMALL, 254, 300, true),
-    (SMALL, 255, 0, false),
-    (SMALL, 255, 255, false),
-    (SMALL, 255, 256, true),
-    (SMALL, 255, 300, true),
-    (LARGE, 126, 634, false),
-    (LARGE, 126, 635, true),
-    (LARGE, 126, 640, true),
+/// An identifier, how many times the rest follows, and how many octets there are: on both sides of 12 arcs, of a text
+/// of 64 bytes, and of 255 octets.
+const LENGTHS: &[(Repeated, usize, usize)] = &[
+    (SMALL, 0, 1),
+    (SMALL, 10, 11),
+    (SMALL, 11, 12),
+    (TEN, 30, 31),
+    (SMALL, 31, 32),
+    (SMALL, 254, 255),
+    (SMALL, 255, 256),
+    (LARGE, 10, 55),
+    (LARGE, 11, 60),
+    (LARGE, 126, 635),
 ];
 
-/// Whether octets were counted as wanted, and an output begins with them and goes on as before, or is unchanged after
-/// the error.
-fn is_written(
+/// Whether octets were counted as wanted, and an output, which held nothing but 0xEE, begins with them and goes on as
+/// before, or is unchanged after the error.
+fn is_filled(
     out: &[u8],
     counted: Result<usize, Error>,
     written: Result<usize, Error>,
@@ -68,11 +67,6 @@ fn is_written(
     counted == written && rest.iter().all(|octet| *octet == 0xEE)
 }
 
-/// Whether the identifier that is borrowed in an output has the octets, or the error is the same.
-fn is_borrowed(oid: Result<ObjectIdentifierRef<'_>, Error>, wanted: Result<&[u8], Error>) -> bool {
-    oid.map(|oid| oid.as_bytes()) == wanted
-}
-
 /// Whether a text has these octets in an output of so many, or this error.
 fn is_read(
     alloc: Global,
@@ -82,11 +76,8 @@ fn is_read(
 ) -> Result<bool, AllocError> {
     let mut out = vec![in alloc; 0xEE; room]?;
     let counted = ObjectIdentifierRef::bytes_len_from_ascii(text, room);
-    let written = ObjectIdentifierRef::bytes_from_ascii(text, &mut out);
-    Ok(
-        is_written(&out, counted, written, wanted)
-            && is_borrowed(ObjectIdentifierRef::from_ascii_in(text, &mut out), wanted),
-    )
+    let read = ObjectIdentifierRef::from_ascii_in(text, &mut out).map(|oid| oid.as_bytes().len());
+    Ok(is_filled(&out, counted, read, wanted))
 }
 
 /// Whether arcs have these octets in an output of so many, or this error.
@@ -98,27 +89,8 @@ fn is_encoded(
 ) -> Result<bool, AllocError> {
     let mut out = vec![in alloc; 0xEE; room]?;
     let counted = ObjectIdentifierRef::bytes_len_from_arcs(arcs, room);
-    let written = ObjectIdentifierRef::bytes_from_arcs(arcs, &mut out);
-    Ok(
-        is_written(&out, counted, written, wanted)
-            && is_borrowed(ObjectIdentifierRef::from_arcs_in(arcs, &mut out), wanted),
-    )
-}
-
-/// The start of a text, so many times what follows, and an end.
-fn text_of(
-    alloc: Global,
-    first: (&str, &str),
-    count: usize,
-    end: &str,
-) -> Result<Vec<u8>, AllocError> {
-    long_octets(
-        alloc,
-        first.0.as_bytes(),
-        count,
-        first.1.as_bytes(),
-        end.as_bytes(),
-    )
+    let read = ObjectIdentifierRef::from_arcs_in(arcs, &mut out).map(|oid| oid.as_bytes().len());
+    Ok(is_filled(&out, counted, read, wanted))
 }
 
 /// Some arcs, and then so many times another.
@@ -130,56 +102,19 @@ fn arcs_of(alloc: Global, first: &[Arc], count: usize, arc: Arc) -> Result<Vec<A
     Ok(arcs)
 }
 
-/// Whether the text and the arcs of an identifier have its octets in an output of so many, or are too long for it.
-fn is_length(
-    alloc: Global,
-    oid: Repeated,
-    count: usize,
-    room: usize,
-    fits: bool,
-) -> Result<bool, AllocError> {
-    let text = text_of(alloc, oid.text, count, "")?;
+/// Whether the text and the arcs of an identifier have its octets, so many, in an output of each length where they fit.
+fn fit_or_not(alloc: Global, oid: Repeated, count: usize, len: usize) -> Result<bool, AllocError> {
+    let text = long_text(alloc, oid.text.0, count, oid.text.1, "")?;
     let arcs = arcs_of(alloc, oid.arcs.0, count, oid.arcs.1)?;
     let octets = long_octets(alloc, oid.octets.0, count, oid.octets.1, &[])?;
-    let wanted = if fits {
-        Ok(octets.as_slice())
-    } else {
-        Err(Error::Length)
-    };
-    Ok(is_read(alloc, &text, room, wanted)? && is_encoded(alloc, &arcs, room, wanted)?)
-}
-
-#[test]
-fn octets_fit_or_leave_the_output(rt: HostRuntime) -> Result<(), AllocError> {
-    for (oid, count, room, fits) in LENGTHS {
-        assert!(rt;
-            is_length(rt.alloc(), *oid, *count, *room, *fits)?,
-            "{count} times in {room} octets"
-        );
-    }
-    Ok(())
-}
-
-/// Identifiers whose text has 62 to 66 bytes, and then those of 11 to 13 arcs: how many times the rest follows, and how
-/// many octets there are.
-const SHORT_OR_LONG: &[(Repeated, usize, usize)] = &[
-    (TEN, 29, 30),
-    (SMALL, 30, 31),
-    (TEN, 30, 31),
-    (SMALL, 31, 32),
-    (TEN, 31, 32),
-    (SMALL, 9, 10),
-    (SMALL, 10, 11),
-    (SMALL, 11, 12),
-    (LARGE, 9, 50),
-    (LARGE, 10, 55),
-    (LARGE, 11, 60),
-];
-
-/// Whether the text and the arcs of an identifier have its octets, so many, in outputs of some lengths where they fit.
-fn fits_or_not(alloc: Global, oid: Repeated, count: usize, len: usize) -> Result<bool, AllocError> {
-    for room in [0, len.saturating_sub(1), len, 63, 64, 65, 200] {
-        if !is_length(alloc, oid, count, room, len <= room)? {
+    for room in [0, len.saturating_sub(1), len, 63, 64, 65, 300, 640] {
+        let wanted = if len <= room {
+            Ok(octets.as_slice())
+        } else {
+            Err(Error::Length)
+        };
+        let is_read = is_read(alloc, text.as_bytes(), room, wanted)?;
+        if !is_read || !is_encoded(alloc, &arcs, room, wanted)? {
             return Ok(false);
         }
     }
@@ -187,10 +122,10 @@ fn fits_or_not(alloc: Global, oid: Repeated, count: usize, len: usize) -> Result
 }
 
 #[test]
-fn short_ones_are_as_long_ones(rt: HostRuntime) -> Result<(), AllocError> {
-    for (oid, count, len) in SHORT_OR_LONG {
+fn octets_fit_or_leave_the_output(rt: HostRuntime) -> Result<(), AllocError> {
+    for (oid, count, len) in LENGTHS {
         assert!(rt;
-            fits_or_not(rt.alloc(), *oid, *count, *len)?,
+            fit_or_not(rt.alloc(), *oid, *count, *len)?,
             "{count} times, {len} octets"
         );
     }
@@ -202,9 +137,7 @@ fn short_ones_are_as_long_ones(rt: HostRuntime) -> Result<(), AllocError> {
 const WRONG_TEXTS: &[(usize, &str, usize, &str, Error)] = &[
     (255, "1.2", 255, ".x", Error::Length),
     (256, "1.2", 255, ".x", Error::DigitExpected { actual: b'x' }),
-    (255, "1.2", 255, ".4294967296", Error::Length),
     (256, "1.2", 255, ".4294967296", Error::ArcTooBig),
-    (255, "1.2", 255, "..1", Error::Length),
     (256, "1.2", 255, "..1", Error::RepeatedDot),
     (254, "1.2", 255, ".", Error::Length),
     (256, "1.2", 255, ".", Error::TrailingDot),
@@ -214,14 +147,10 @@ const WRONG_TEXTS: &[(usize, &str, usize, &str, Error)] = &[
     // Texts of 64 bytes.
     (29, "1.10", 29, ".x", Error::Length),
     (30, "1.10", 29, ".x", Error::DigitExpected { actual: b'x' }),
-    (63, "1.10", 29, ".x", Error::DigitExpected { actual: b'x' }),
-    (200, "1.10", 29, ".x", Error::DigitExpected { actual: b'x' }),
-    (29, "1.2", 30, ".", Error::Length),
     (64, "1.2", 30, ".", Error::TrailingDot),
     // Of 65.
     (30, "1.2", 30, ".x", Error::Length),
     (31, "1.2", 30, ".x", Error::DigitExpected { actual: b'x' }),
-    (200, "1.2", 30, ".x", Error::DigitExpected { actual: b'x' }),
 ];
 
 /// How many octets an output has, the first arcs, how many times 1 follows, and the error.
@@ -237,9 +166,9 @@ const WRONG_ARCS: &[(usize, &[Arc], usize, Error)] = &[
 #[test]
 fn errors_leave_the_output(rt: HostRuntime) -> Result<(), AllocError> {
     for (room, first, count, end, error) in WRONG_TEXTS {
-        let text = text_of(rt.alloc(), (first, ".1"), *count, end)?;
+        let text = long_text(rt.alloc(), first, *count, ".1", end)?;
         assert!(rt;
-            is_read(rt.alloc(), &text, *room, Err(*error))?,
+            is_read(rt.alloc(), text.as_bytes(), *room, Err(*error))?,
             "{room}: {first}, {end}"
         );
     }

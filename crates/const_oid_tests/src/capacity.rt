@@ -1,4 +1,4 @@
-//! Capacities: what `from_bytes_sized`, `try_from_ref`, `new_sized` and `from_arcs_sized` accept.
+//! Capacities: what `from_bytes_sized`, `try_from_ref` and `from_arcs_sized` accept.
 
 ghost use Rattle.std.specs.Prelude.{◌≡◌, ◌≤◌};
 
@@ -86,42 +86,6 @@ fn octets_fit_or_are_too_long(rt: HostRuntime) -> Result<(), AllocError> {
         assert!(rt; is_accepted(rt.alloc(), row)?, "{row:?}");
     }
     Ok(())
-}
-
-/// The error of a text at one of the capacities that the rows name.
-fn text_error(capacity: usize, text: &str) -> Option<Error> {
-    match capacity {
-        0 => ObjectIdentifier::<0>::new_sized(text).err(),
-        1 => ObjectIdentifier::<1>::new_sized(text).err(),
-        2 => ObjectIdentifier::<2>::new_sized(text).err(),
-        4 => ObjectIdentifier::<4>::new_sized(text).err(),
-        5 => ObjectIdentifier::<5>::new_sized(text).err(),
-        6 => ObjectIdentifier::<6>::new_sized(text).err(),
-        _ => Some(Error::Overflow),
-    }
-}
-
-/// Capacities, texts, and the error, if there is one. Below five octets a second arc may be too long, and one
-/// that is out of range is that first.
-const SECOND_ARCS: &[(usize, &str, Option<Error>)] = &[
-    (0, "1.40", Some(Error::ArcInvalid { arc: 40 })),
-    (1, "2.47", None),
-    (1, "2.48", Some(Error::Length)),
-    (2, "2.16303", None),
-    (2, "2.16304", Some(Error::Length)),
-    (4, "2.268435375", None),
-    (4, "2.268435376", Some(Error::Length)),
-    (5, "2.4294967295", None),
-    (5, "2.4294967295.0", Some(Error::Length)),
-    (6, "2.4294967295.127", None),
-    (6, "2.4294967295.128", Some(Error::Length)),
-];
-
-#[test]
-fn second_arcs_fit_or_are_too_long(rt: HostRuntime) {
-    for (capacity, text, error) in SECOND_ARCS {
-        assert!(rt; text_error(*capacity, text) == *error, "{capacity}: {text}");
-    }
 }
 
 /// Subidentifiers of more than one octet, in just enough octets.

@@ -1,6 +1,6 @@
 //! Elements in DER: `read_element`, `write_element` and `element_len`.
 
-use crate::vectors::long_octets;
+use crate::vectors::{is_written, long_octets};
 use const_oid::{Error, ObjectIdentifier, ObjectIdentifierRef};
 use std::alloc::{AllocError, Global};
 
@@ -122,38 +122,26 @@ const LENGTHS: &[(&[u8], usize, bool)] = &[
     (&[0x06, 0xFF], 200, false),
 ];
 
-/// Whether an output, which held nothing but 0xEE, begins with the element, whose length was returned, and goes on as
-/// before. Without room for the element it is as before.
-fn is_written(out: &[u8], element: &[u8], written: Option<usize>) -> bool {
-    let len = match written {
-        Some(len) => len,
-        None => 0,
-    };
-    let is_counted = match written {
-        Some(len) => len == element.len() && out.starts_with(element),
-        None => out.len() < element.len(),
-    };
-    is_counted && out.iter().skip(len).all(|octet| *octet == 0xEE)
-}
-
-/// Whether a borrowed identifier writes the element to outputs of its length, and of one octet less and more.
+/// Whether an identifier writes the element to an output of its length, and nothing to one of an octet less.
 fn borrowed_writes(
     alloc: Global,
     oid: ObjectIdentifierRef<'_>,
     element: &[u8],
 ) -> Result<bool, AllocError> {
-    for more in 0..3 {
-        let room = (element.len() + more).saturating_sub(1);
-        let mut out = long_octets(alloc, &[], room, &[0xEE], &[])?;
-        let written = oid.write_element(out.as_mut_slice());
-        if !is_written(out.as_slice(), element, written) {
-            return Ok(false);
-        }
-    }
-    Ok(oid.element_len() == element.len())
+    let mut out = vec![in alloc; 0xEE; element.len()]?;
+    let too_short = out
+        .as_mut_slice()
+        .get_mut(1..)
+        .and_then(|out| oid.write_element(out));
+    let written = oid.write_element(&mut out);
+    Ok(
+        oid.element_len() == element.len()
+            && too_short.is_none()
+            && is_written(&out, element, written),
+    )
 }
 
-/// Whether an owned one does, if the contents octets fit.
+/// Whether an owned one writes it, if the contents octets fit.
 fn owned_writes(oid: ObjectIdentifierRef<'_>, element: &[u8]) -> bool {
     let mut out = [0xEE; 258];
     match ObjectIdentifier::<255>::try_from_ref(oid) {

@@ -1,11 +1,10 @@
-//! Errors, compared, copied and printed: `==`, `cmp`, `partial_cmp`, `clone`, Display, `encode_text`, `encode_str` and
-//! `text_len` of `Error`.
+//! Errors, compared, copied and printed: `==`, `cmp`, `partial_cmp`, `clone`, Display, `encode_str` and `text_len` of
+//! `Error`.
 
 ghost use Rattle.std.specs.Prelude.{◌≡◌, ◌↔◌, IsTrue, IsOk, IfOk, Some};
 ghost use Rattle.const_oid.specs.Error.{error_cmp};
 
-use crate::encode_text::has_text;
-use crate::formatter::{count_writes, prints, prints_as};
+use crate::formatter::{count_writes, prints};
 use const_oid::{Arc, Error};
 use std::alloc::{AllocError, Global};
 use std::cmp::Ordering;
@@ -97,9 +96,8 @@ const OTHERS: &[(Error, &str)] = &[
 /// slice.
 fn is_text(alloc: Global, error: Error, text: &str) -> Result<bool, AllocError> {
     let mut out = [0; 48];
-    let written = error.encode_text(&mut out);
     Ok(
-        has_text(&out, text.as_bytes(), error.text_len(), written)
+        error.text_len() == text.len()
             && error.encode_str(&mut out) == Some(text)
             && count_writes(&error, text) == Some(1)
             && prints(alloc, &error, text)?,
@@ -122,34 +120,6 @@ fn has_each_text(rt: HostRuntime) -> Result<(), AllocError> {
     }
     for (error, text) in OTHERS {
         assert!(rt; is_text(rt.alloc(), *error, text)?, "{text}");
-    }
-    Ok(())
-}
-
-/// Whether a byte prints as the character with its number.
-fn prints_byte(alloc: Global, actual: u8) -> Result<bool, AllocError> {
-    let text = format!(in alloc; "expected digit, got '{}'", char::from(actual))?;
-    Ok(prints_as(&Error::DigitExpected { actual }, text.as_str()))
-}
-
-#[test]
-fn prints_each_byte_as_a_character(rt: HostRuntime) -> Result<(), AllocError> {
-    for actual in 0..=255 {
-        assert!(rt; prints_byte(rt.alloc(), actual)?, "{actual}");
-    }
-    Ok(())
-}
-
-/// Whether an arc prints in decimal.
-fn prints_arc(alloc: Global, arc: Arc) -> Result<bool, AllocError> {
-    let text = format!(in alloc; "OID contains out-of-range arc: {arc}")?;
-    Ok(prints_as(&Error::ArcInvalid { arc }, text.as_str()))
-}
-
-#[test]
-fn prints_arcs_in_decimal(rt: HostRuntime) -> Result<(), AllocError> {
-    for arc in 0..=9_999 {
-        assert!(rt; prints_arc(rt.alloc(), arc)?, "{arc}");
     }
     Ok(())
 }

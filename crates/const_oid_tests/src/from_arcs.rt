@@ -58,21 +58,8 @@ fn encodes_accepted_rows(rt: HostRuntime) -> Result<(), AllocError> {
     for (text, octets, arcs) in accepted_rows() {
         assert!(rt; are_accepted(rt.alloc(), arcs, octets)?, "{text}");
     }
+    assert!(rt; is_answer(from_array([2, 999, 3]), Ok(&[0x88, 0x37, 0x03])));
     Ok(())
-}
-
-/// Three arcs, and their encoding.
-const ARRAYS: &[([Arc; 3], &[u8])] = &[
-    ([1, 2, 1144201745], &[0x2A, 0x84, 0xA1, 0xCC, 0xC4, 0x11]),
-    ([2, 40, 1], &[0x78, 0x01]),
-    ([2, 999, 3], &[0x88, 0x37, 0x03]),
-];
-
-#[test]
-fn encodes_arrays(rt: HostRuntime) {
-    for (arcs, octets) in ARRAYS {
-        assert!(rt; is_answer(from_array(*arcs), Ok(octets)), "{arcs:?}");
-    }
 }
 
 /// Lists that are rejected, and the error.

@@ -7,7 +7,8 @@ ghost use Rattle.const_oid.specs.Oid.{oid_octets};
 ghost use Rattle.const_oid.specs.OidRef.{ref_octets};
 
 use crate::vectors::{accepted_rows, parse, read_borrowed, read_owned};
-use const_oid::{Arc, ObjectIdentifier, ObjectIdentifierRef, Oid};
+use const_oid::{ObjectIdentifier, ObjectIdentifierRef, Oid};
+use const_oid_uses::theorems::parent_of_child;
 use std::alloc::Global;
 use std::collections::{BTreeMap, HashMap};
 use std::hash::{DefaultHasher, Hash, Hasher};
@@ -42,7 +43,8 @@ fn maps(alloc: Global) -> Result<(HashMap<Oid, usize>, BTreeMap<Oid, usize>), Fa
     Ok((hashed, sorted))
 }
 
-/// The identifiers of the texts are those keys.
+/// The identifiers of the texts are those keys. They hash as the parents of their children and as their borrowed forms
+/// do.
 #[test]
 fn finds_keys_by_text(rt: HostRuntime) -> Result<(), Fail> {
     let (hashed, sorted) = maps(rt.alloc())?;
@@ -50,34 +52,14 @@ fn finds_keys_by_text(rt: HostRuntime) -> Result<(), Fail> {
         let oid = parse(text)?;
         assert!(rt; hashed.get(&oid).copied() == Some(arcs.len()), "{text}");
         assert!(rt; sorted.get(&oid).copied() == Some(arcs.len()), "{text}");
+        let parent = parent_of_child(oid, 128)?;
+        assert!(rt;
+            parent.map(|parent| hash_of(&parent)) == Some(hash_of(&oid)),
+            "{text}"
+        );
+        assert!(rt; ref_hash_of(&oid.as_oid_ref()) == hash_of(&oid), "{text}");
     }
     assert!(rt; hashed.len() == accepted_rows().len() && sorted.len() == accepted_rows().len());
-    Ok(())
-}
-
-/// Whether the parent of octets, if there is one, hashes as the identifier of the arcs before the last, and is found
-/// by it.
-fn is_parent_found(alloc: Global, octets: &[u8], arcs: &[Arc]) -> Result<bool, Fail> {
-    let Some(parent) = read_owned(octets)?.parent() else {
-        return Ok(arcs.len() == 2);
-    };
-    let Ok(same) = Oid::from_arcs(arcs.iter().copied().take(parent.len())) else {
-        return Ok(false);
-    };
-    let mut names = HashMap::new(alloc);
-    names.insert(parent, "parent")?;
-    Ok(
-        hash_of(&parent) == hash_of(&same)
-            && hash_of(&parent) == ref_hash_of(&same.as_oid_ref())
-            && names.get(&same).copied() == Some("parent"),
-    )
-}
-
-#[test]
-fn finds_parents(rt: HostRuntime) -> Result<(), Fail> {
-    for (text, octets, arcs) in accepted_rows() {
-        assert!(rt; is_parent_found(rt.alloc(), octets, arcs)?, "{text}");
-    }
     Ok(())
 }
 

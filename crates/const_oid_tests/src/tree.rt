@@ -25,7 +25,6 @@ const PARENTS: &[(&[u8], Option<&[u8]>)] = &[
         &[0x90, 0x80, 0x80, 0x80, 0x4F, 0x00],
         Some(&[0x90, 0x80, 0x80, 0x80, 0x4F]),
     ),
-    (&[0x2A, 0x86, 0x48, 0x01], Some(&[0x2A, 0x86, 0x48])),
 ];
 
 /// Whether the parent has these octets in both forms, or there is none.
@@ -33,8 +32,10 @@ fn has_parent(octets: &[u8], wanted: Option<&[u8]>) -> Result<bool, Error> {
     let owned = Oid::from_bytes(octets)?;
     let borrowed = ObjectIdentifierRef::from_bytes(octets)?;
     Ok(match (owned.parent(), borrowed.parent()) {
-        (Some(owned), Some(borrowed)) => {
-            wanted == Some(owned.as_bytes()) && wanted == Some(borrowed.as_bytes())
+        (Some(parent), Some(borrowed)) => {
+            wanted == Some(parent.as_bytes())
+                && wanted == Some(borrowed.as_bytes())
+                && parent.len() == owned.len().saturating_sub(1)
         }
         (None, None) => wanted.is_none(),
         _ => false,
@@ -42,30 +43,13 @@ fn has_parent(octets: &[u8], wanted: Option<&[u8]>) -> Result<bool, Error> {
 }
 
 #[test]
-fn finds_each_parent(rt: HostRuntime) {
+fn finds_each_parent(rt: HostRuntime) -> Result<(), AllocError> {
     for (octets, wanted) in PARENTS {
         assert!(rt; has_parent(octets, *wanted) == Ok(true), "{octets:?}");
     }
-}
-
-/// Whether 1.2 and so many arcs 1 are the parent of the identifier with one more arc, of two octets, and counted so.
-fn is_parent(alloc: Global, count: usize) -> Result<bool, AllocError> {
-    let parent = long_octets(alloc, &[0x2A], count, &[0x01], &[])?;
-    let octets = long_octets(alloc, &[0x2A], count, &[0x01], &[0x81, 0x00])?;
-    let len = match Oid::from_bytes(octets.as_slice()) {
-        Ok(oid) => oid.parent().map(|parent| parent.len()),
-        Err(_) => None,
-    };
-    let has_octets = has_parent(octets.as_slice(), Some(parent.as_slice())) == Ok(true);
-    Ok(has_octets && len == count.checked_add(2))
-}
-
-/// Parents on both sides of 32 octets.
-#[test]
-fn finds_long_parents(rt: HostRuntime) -> Result<(), AllocError> {
-    for count in 29..34 {
-        assert!(rt; is_parent(rt.alloc(), count)?, "{count}");
-    }
+    // The last arc is on both sides of 32 octets.
+    let octets = long_octets(rt.alloc(), &[0x2A], 30, &[0x01], &[0x81, 0x00])?;
+    assert!(rt; has_parent(&octets, octets.get(..31)) == Ok(true));
     Ok(())
 }
 
@@ -94,12 +78,9 @@ const CHILDREN: &[(usize, &[u8], Arc, Result<&[u8], Error>)] = &[
     (39, &[0x2A, 0x03], 4, Ok(&[0x2A, 0x03, 0x04])),
     (39, &[0x2A, 0x03], 128, Ok(&[0x2A, 0x03, 0x81, 0x00])),
     (39, &[0x88, 0x37], 3, Ok(&[0x88, 0x37, 0x03])),
-    (3, &[0x2A], 840, Ok(&[0x2A, 0x86, 0x48])),
-    (3, &[0x2A, 0x86, 0x48], 1, Err(Error::Length)),
     (3, &[0x2A], 16383, Ok(&[0x2A, 0xFF, 0x7F])),
     (3, &[0x2A], 16384, Err(Error::Length)),
     (1, &[0x2A], 0, Err(Error::Length)),
-    (1, &[0x78], 0, Err(Error::Length)),
 ];
 
 #[test]
@@ -135,9 +116,6 @@ const PREFIXES: &[(&[u8], &[u8], bool)] = &[
     (&[0x88, 0x37, 0x03], &[0x88, 0x37], true),
     (&[0x88, 0x37, 0x03], &[0x78], false),
     (&[0x81, 0x34, 0x03], &[0x81, 0x00], false),
-    (&[0x2A, 0x86, 0x48, 0x01], &[0x2A, 0x86, 0x48], true),
-    (&[0x2A, 0x86, 0x48, 0x01], &[0x2A, 0x86, 0x48, 0x01], true),
-    (&[0x2A, 0x86, 0x48], &[0x2A, 0x86, 0x48, 0x01], false),
 ];
 
 /// Whether an identifier begins so with a prefix of three octets at most, another capacity.
@@ -148,15 +126,20 @@ fn begins_with_short(oid: &Oid, prefix: &[u8], wanted: bool) -> bool {
     }
 }
 
-/// Whether octets begin with others so: of both forms, and of an owned prefix of another capacity.
+/// Whether octets begin with others so: of both forms, with as many arcs after the prefix, and of an owned prefix of
+/// another capacity.
 fn begins(octets: &[u8], prefix: &[u8], wanted: bool) -> Result<bool, Error> {
     let oid = Oid::from_bytes(octets)?;
     let is_short = begins_with_short(&oid, prefix, wanted);
     let prefix = Oid::from_bytes(prefix)?;
+    let (a, b) = (oid.as_oid_ref(), prefix.as_oid_ref());
+    let left = wanted.then_some(oid.len().saturating_sub(prefix.len()));
     Ok(
         oid.starts_with(prefix) == wanted
             && is_short
-            && oid.as_oid_ref().starts_with(&prefix.as_oid_ref()) == wanted,
+            && a.starts_with(&b) == wanted
+            && oid.strip_prefix(&prefix).map(|arcs| arcs.count()) == left
+            && a.strip_prefix(&b).map(|arcs| arcs.count()) == left,
     )
 }
 
@@ -165,32 +148,6 @@ fn begins_with_each_prefix(rt: HostRuntime) {
     for (octets, prefix, wanted) in PREFIXES {
         assert!(rt;
             begins(octets, prefix, *wanted) == Ok(true),
-            "{octets:?} and {prefix:?}"
-        );
-    }
-}
-
-/// Whether both forms give the arcs after a prefix, or none if it is no prefix.
-fn strips(octets: &[u8], prefix: &[u8], wanted: bool) -> Result<bool, Error> {
-    let oid = Oid::from_bytes(octets)?;
-    let prefix = Oid::from_bytes(prefix)?;
-    let borrowed = oid.as_oid_ref().strip_prefix(&prefix.as_oid_ref());
-    Ok(match (oid.strip_prefix(&prefix), borrowed) {
-        (Some(owned), Some(borrowed)) => {
-            wanted
-                && prefix.arcs().chain(owned).eq(oid.arcs())
-                && prefix.arcs().chain(borrowed).eq(oid.arcs())
-        }
-        (None, None) => !wanted,
-        _ => false,
-    })
-}
-
-#[test]
-fn strips_each_prefix(rt: HostRuntime) {
-    for (octets, prefix, wanted) in PREFIXES {
-        assert!(rt;
-            strips(octets, prefix, *wanted) == Ok(true),
             "{octets:?} and {prefix:?}"
         );
     }

@@ -94,6 +94,7 @@ const ACCEPTED: &[Row] = &[
     ("0.6.2.42.3", &[0x06, 0x02, 0x2A, 0x03], &[0, 6, 2, 42, 3]),
     // Second arcs above 39 under 2.
     ("2.40", &[0x78], &[2, 40]),
+    ("2.40.1", &[0x78, 0x01], &[2, 40, 1]),
     ("2.47", &[0x7F], &[2, 47]),
     ("2.48", &[0x81, 0x00], &[2, 48]),
     ("2.100.3", &[0x81, 0x34, 0x03], &[2, 100, 3]),
@@ -233,6 +234,17 @@ pub fn long_octets(
     }
     octets.extend_from_slice(end)?;
     Ok(octets)
+}
+
+/// Whether an output, which held nothing but 0xEE, begins with these bytes, whose number was returned, and goes on as
+/// before. Without room for them it is as before.
+pub fn is_written(out: &[u8], bytes: &[u8], written: Option<usize>) -> bool {
+    let is_counted = match written {
+        Some(len) => len == bytes.len() && out.starts_with(bytes),
+        None => out.len() < bytes.len(),
+    };
+    let len = written.unwrap_or(0);
+    is_counted && out.iter().skip(len).all(|byte| *byte == 0xEE)
 }
 
 /// Whether a function returned an identifier of these octets, or this error.
