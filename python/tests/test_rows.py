@@ -18,6 +18,8 @@ def digits_of(oid):
 
 def printed(digits):
     oid = oid_of(digits)
+    if [digits, digits] != [digits_of(made) for made in (ObjectIdentifier(str(oid)), ObjectIdentifier.from_arcs(oid))]:
+        return "other octets are made of its text or arcs"
     return " ".join([f"{oid},", str(len(oid)), "arcs", *map(str, oid)])
 
 
@@ -37,19 +39,25 @@ def order_of(left, right):
     return "less" if left < right else "greater" if left > right else "equal"
 
 
+def in_order(words):
+    oids = list(map(oid_of, words.split(" ")))
+    pairs = ((a, b) for a in range(len(oids)) for b in range(len(oids)))
+    return "in order" if all(order_of(oids[a], oids[b]) == order_of(a, b) for a, b in pairs) else "not in order"
+
+
 def pair(call):
     return lambda words: call(*map(oid_of, words.split(" ")))
 
 
-def index_in(call):
-    """The index in a sorted list of the entry that a call finds for an identifier."""
-
-    def row(words):
-        oid, *items = map(oid_of, words.split(" "))
-        found = call(SortedMap({item: index for index, item in reversed(list(enumerate(items)))}), oid)
-        return "none" if found is None else str(found[1])
-
-    return row
+def searched(words):
+    """What a map of the items of a list to their first indices finds for an identifier."""
+    oid, *items = map(oid_of, words.split(" "))
+    table = SortedMap({item: index for index, item in reversed(list(enumerate(items)))})
+    found = (oid, table[oid]) if oid in table else None, table.next_after(oid), table.nearest(oid)
+    find, after, nearest = ("none" if entry is None else entry[1] for entry in found)
+    start, below = sum(item < oid for item in items), {entry[0] for entry in table.subtree(oid)}
+    end = start + sum(item in below for item in items)
+    return f"find {find}, next {after}, nearest {nearest}, range {start} {end}"
 
 
 CALLS = {
@@ -64,17 +72,13 @@ CALLS = {
     "begins": pair(lambda oid, prefix: "yes" if oid.starts_with(prefix) else "no"),
     "equal": pair(lambda left, right: "yes" if left == right else "no"),
     "by_arcs": pair(order_of),
-    "find": index_in(lambda table, oid: (oid, table[oid]) if oid in table else None),
-    "next": index_in(SortedMap.next_after),
-    "nearest": index_in(SortedMap.nearest),
+    "by_arcs_order": in_order,
+    "list": searched,
     "error": lambda words: error_text(*map(int, words.split(" "))) or "none",
-    "message": lambda words: error_text(*map(int, words.split(" "))).encode().hex().upper(),
 }
 
-# What this package has no call for: the other orders, and other answers of lists.
-LEFT_OUT = {"items", "owned", "borrowed", "range", "sorted"}
-# Calls of lists, of which there may be no rows.
-OF_LISTS = {"find", "next", "nearest"}
+# What this package has no call for: the other orders, and whether a list is sorted.
+LEFT_OUT = {"items_order", "owned", "owned_order", "borrowed", "borrowed_order", "sorted"}
 
 
 def answer(call, words):
@@ -97,4 +101,4 @@ class Rows(unittest.TestCase):
             if call not in LEFT_OUT:
                 with self.subTest(row[:200]):
                     self.assertEqual(wanted, answer(call, words))
-        self.assertEqual(found | OF_LISTS | LEFT_OUT, {*CALLS, *LEFT_OUT})
+        self.assertEqual(found | LEFT_OUT, {*CALLS, *LEFT_OUT})

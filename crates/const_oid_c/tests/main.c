@@ -80,10 +80,17 @@ static void text_row(const char *text, size_t len) {
     written(const_oid_from_text(text, len, out, sizeof out), out);
 }
 
+/* Prints of what octets that were made again are not the same. */
+static void again(const char *of, const_oid_status made, const uint8_t *octets, const bytes *row) {
+    if (made.code != CONST_OID_OK || made.len != row->len || memcmp(octets, row->octets, row->len) != 0)
+        printf("; other octets are made of its %s", of);
+}
+
 static void octets_row(char *rest) {
     bytes row = read_hex(word(&rest));
     static char text[4 * MOST];
     static uint32_t arcs[MOST + 1];
+    uint8_t out[MOST];
     const_oid_status checked = const_oid_check(row.octets, row.len);
     const_oid_status printed = const_oid_to_text(row.octets, row.len, text, sizeof text);
     const_oid_status count = const_oid_len(row.octets, row.len);
@@ -102,6 +109,8 @@ static void octets_row(char *rest) {
     }
     if (const_oid_arc(row.octets, row.len, count.len).code != CONST_OID_NONE)
         fail("there is an arc past the last");
+    again("text", const_oid_from_text(text, printed.len, out, sizeof out), out, &row);
+    again("arcs", const_oid_from_arcs(arcs, count.len, out, sizeof out), out, &row);
 }
 
 /* Prints the octets of the element that bytes begin with, and its length. Written again, it is the same. */
@@ -165,44 +174,36 @@ static void sorted_row(char *rest) {
     printf(" at %zu", status.len);
 }
 
-typedef const_oid_status search(const uint8_t *, size_t, const const_oid_octets *, size_t);
 typedef const_oid_status comparison(const uint8_t *, size_t, const uint8_t *, size_t);
 
-/* Prints the index that a search found. */
-static void index_row(search *found_by, char *rest) {
+/* Prints what each search finds for an identifier, or its error. */
+static void list_row(char *rest) {
     static const_oid_octets items[MOST];
+    static const char *const names[] = {"find ", ", next ", ", nearest "};
+    const_oid_range range;
     bytes oid = read_hex(word(&rest));
     size_t count = read_list(&rest, items);
-    const_oid_status status = found_by(oid.octets, oid.len, items, count);
-    if (status.code == CONST_OID_OK) {
-        printf("%zu", status.len);
-    } else {
-        refused(status);
+    const const_oid_status found[] = {const_oid_find(oid.octets, oid.len, items, count),
+        const_oid_next(oid.octets, oid.len, items, count), const_oid_nearest(oid.octets, oid.len, items, count)};
+    const_oid_status last = const_oid_subtree_range(oid.octets, oid.len, items, count, &range);
+    for (size_t i = 0; i < 3; i++) {
+        if (last.code != CONST_OID_OK && found[i].code == last.code) continue;
+        printf("%s", names[i]);
+        if (found[i].code == CONST_OID_OK) printf("%zu", found[i].len);
+        else refused(found[i]);
     }
+    if (last.code == CONST_OID_OK) printf(", range %zu %zu", range.start, range.end);
+    else refused(last);
 }
 
-static void range_row(char *rest) {
-    static const_oid_octets items[MOST];
-    const_oid_range range;
-    bytes prefix = read_hex(word(&rest));
-    size_t count = read_list(&rest, items);
-    const_oid_status status = const_oid_subtree_range(prefix.octets, prefix.len, items, count, &range);
-    if (status.code == CONST_OID_OK) {
-        printf("%zu %zu", range.start, range.end);
-    } else {
-        refused(status);
-    }
-}
-
-/* Prints the text of an error: as it is, or its bytes. */
-static void error_row(int is_message, char *rest) {
+static void error_row(char *rest) {
     char text[CONST_OID_MAX_ERROR_TEXT];
     uint32_t code = number(&rest);
     const_oid_status status = const_oid_error_text(code, number(&rest), text, sizeof text);
-    if (is_message || status.code != CONST_OID_OK) {
-        written(status, (const uint8_t *)text);
-    } else {
+    if (status.code == CONST_OID_OK) {
         printf("%.*s", (int)status.len, text);
+    } else {
+        refused(status);
     }
 }
 
@@ -218,6 +219,20 @@ static void pair_row(comparison *compared_by, const char *const *words, char *re
     } else {
         refused(status);
     }
+}
+
+/* Prints whether each identifier is equal to itself, less than all after it and greater than those before. */
+static void order_row(comparison *compared_by, char *rest) {
+    static const_oid_octets items[MOST];
+    size_t count = read_list(&rest, items);
+    for (size_t i = 0; i < count; i++) {
+        for (size_t j = 0; j < count; j++) {
+            const_oid_status status = compared_by(items[i].octets, items[i].len, items[j].octets, items[j].len);
+            if (status.code != CONST_OID_OK || status.detail != (uint32_t)(CONST_OID_EQUAL + (i > j) - (i < j)))
+                printf("%zu and %zu are not ", i, j);
+        }
+    }
+    printf("in order");
 }
 
 static const_oid_status by_arcs(const uint8_t *left, size_t left_len, const uint8_t *right, size_t right_len) {
@@ -249,17 +264,17 @@ static void answer(const char *call, char *rest) {
     else if (IS("arcs_from")) arcs_from_row(rest);
     else if (IS("parent") || IS("child")) tree_row(IS("child"), rest);
     else if (IS("sorted")) sorted_row(rest);
-    else if (IS("find")) index_row(const_oid_find, rest);
-    else if (IS("next")) index_row(const_oid_next, rest);
-    else if (IS("nearest")) index_row(const_oid_nearest, rest);
-    else if (IS("range")) range_row(rest);
-    else if (IS("error") || IS("message")) error_row(IS("message"), rest);
-    else if (IS("items")) pair_row(by_arcs, orders, rest);
+    else if (IS("list")) list_row(rest);
+    else if (IS("error")) error_row(rest);
     else if (IS("begins")) pair_row(const_oid_starts_with, whether, rest);
     else if (IS("equal")) pair_row(const_oid_eq, whether, rest);
     else if (IS("owned")) pair_row(const_oid_cmp_owned, orders, rest);
     else if (IS("borrowed")) pair_row(const_oid_cmp, orders, rest);
     else if (IS("by_arcs")) pair_row(const_oid_cmp_arcs, orders, rest);
+    else if (IS("items_order")) order_row(by_arcs, rest);
+    else if (IS("owned_order")) order_row(const_oid_cmp_owned, rest);
+    else if (IS("borrowed_order")) order_row(const_oid_cmp, rest);
+    else if (IS("by_arcs_order")) order_row(const_oid_cmp_arcs, rest);
     else fail("a row has an unknown call");
 }
 
