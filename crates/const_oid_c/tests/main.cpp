@@ -47,27 +47,29 @@ static bool is_invalid(const const_oid_octets &item) {
     return const_oid_check(item.octets, item.len).code != CONST_OID_OK;
 }
 
-// Whether each item of a list is found where it is, and after it the next one.
+// Whether each item of a list is found where it is, also from below it, and after it the next one.
 static bool finds_each(const std::vector<const_oid_octets> &items) {
     const const_oid_octets *sorted = items.data();
     bool right = true;
     for (size_t i = 0; i < items.size(); i++) {
+        uint8_t below[16];
         const_oid_range range = {0, 0};
+        const_oid_status child = const_oid_push_arc(items[i].octets, items[i].len, UINT32_MAX, below, sizeof below);
         const_oid_status next = const_oid_next(items[i].octets, items[i].len, sorted, items.size());
         const_oid_subtree_range(items[i].octets, items[i].len, sorted, items.size(), &range);
         right = right && const_oid_find(items[i].octets, items[i].len, sorted, items.size()).len == i
-            && const_oid_nearest(items[i].octets, items[i].len, sorted, items.size()).len == i
+            && const_oid_nearest(below, child.len, sorted, items.size()).len == i
             && (i + 1 < items.size() ? next.len == i + 1 : next.code == CONST_OID_NONE)
             && range.start == i && range.end == i + 1;
     }
     return right;
 }
 
-// Sorts 900 items, a third of them invalid. Then the invalid ones are removed, and the others are a list.
+// Sorts 3,000 items, a third of them invalid. Then the invalid ones are removed, and the others are a list.
 static bool sorts() {
     std::vector<Octets> all;
-    for (unsigned i = 0; i < 900; i++) {
-        const unsigned number = i * 607 % 900;
+    for (unsigned i = 0; i < 3000; i++) {
+        const unsigned number = i * 607 % 3000;
         all.push_back({0x2B, static_cast<uint8_t>(0x81 + number / 128), static_cast<uint8_t>(number % 128), 0x05});
         if (i % 3 == 0) all[i].pop_back(), all[i][2] = static_cast<uint8_t>(0x80 + number % 128);
     }
@@ -76,7 +78,7 @@ static bool sorts() {
     bool right = std::is_sorted(items.begin(), items.end(), comes_before);
     for (size_t i = 1; i < items.size(); i++) right = right && comes_before(items[i - 1], items[i]);
     items.erase(std::remove_if(items.begin(), items.end(), is_invalid), items.end());
-    return right && items.size() == 600 && const_oid_check_sorted(items.data(), items.size()).code == CONST_OID_OK
+    return right && items.size() == 2000 && const_oid_check_sorted(items.data(), items.size()).code == CONST_OID_OK
         && finds_each(items);
 }
 

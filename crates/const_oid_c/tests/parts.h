@@ -1,7 +1,15 @@
-/* The order of any octets, valid or not, as the header defines it. */
+/* The octets of a subidentifier, and the order of any octets, valid or not, as the header defines it. */
 #include <stddef.h>
 #include <stdint.h>
 #include <string.h>
+
+/* Writes a subidentifier (X.690, section 8.19.2). Its length. */
+static size_t write_number(uint64_t number, uint8_t *to) {
+    size_t len = 1;
+    while (number >> 7 * len != 0) len++;
+    for (size_t i = 0; i < len; i++) to[i] = (uint8_t)((number >> 7 * (len - 1 - i)) % 128 + (i + 1 < len ? 128 : 0));
+    return len;
+}
 
 /* How many octets the first part has: up to its first octet below 0x80, or all of them. */
 static size_t part_len(const uint8_t *octets, size_t len) {

@@ -67,13 +67,6 @@ static uint32_t read_octets(argument octets, identifier *to) {
     return octets.len == 0 ? CONST_OID_EMPTY : CONST_OID_OK;
 }
 
-static size_t write_number(uint64_t number, uint8_t *to) {
-    size_t len = 1;
-    while (number >> 7 * len != 0) len++;
-    for (size_t i = 0; i < len; i++) to[i] = (uint8_t)((number >> 7 * (len - 1 - i)) % 128 + (i + 1 < len ? 128 : 0));
-    return len;
-}
-
 /* Writes the tag and, in DER's one form, the length of so many contents octets. */
 static size_t write_head(uint64_t len, uint8_t *to) {
     size_t count = 0;

@@ -19,22 +19,13 @@ static row rows[] = {
 };
 static const size_t count = sizeof rows / sizeof *rows;
 
-/* Writes a subidentifier (X.690, section 8.19.2), and returns its end. */
-static uint8_t *put(uint8_t *out, uint64_t number) {
-    for (int shift = 63; shift > 0; shift -= 7) {
-        if (number >> shift != 0) *out++ = (uint8_t)(128 | (number >> shift & 127));
-    }
-    *out++ = number & 127;
-    return out;
-}
-
 static int is_encoding(const_oid_octets octets, const char *arcs) {
     uint8_t out[128];
     char *rest;
     uint64_t root = 40 * strtoul(arcs, &rest, 10);
-    uint8_t *end = put(out, root + strtoul(rest + 1, &rest, 10));
-    while (*rest != 0) end = put(end, strtoul(rest + 1, &rest, 10));
-    return octets.len == (size_t)(end - out) && memcmp(octets.octets, out, octets.len) == 0;
+    size_t len = write_number(root + strtoul(rest + 1, &rest, 10), out);
+    while (*rest != 0) len += write_number(strtoul(rest + 1, &rest, 10), out + len);
+    return octets.len == len && memcmp(octets.octets, out, len) == 0;
 }
 
 /* The order of arcs, and of the table where they are equal. */
