@@ -393,7 +393,6 @@ class Values(unittest.TestCase):
         del oid, plain
         self.assertEqual(([None, None], references), ([reference() for reference in references], seen))
 
-
     def test_copies_of_an_error_have_its_fields(self):
         error = error_of(ObjectIdentifier, "1.40")
         for other in [error, *copies_of(error), copy.copy(error)]:
@@ -428,7 +427,6 @@ class Values(unittest.TestCase):
         sys.setswitchinterval(1e-6)
         with concurrent.futures.ThreadPoolExecutor(8) as threads:
             list(threads.map(work, range(8)))
-
 
     def test_interpreters_have_their_own_class(self):
         try:
