@@ -1,11 +1,11 @@
 //! `erase --check` on a copy of the repository, whose files are changed.
 
 use std::fs;
-use std::path::{Path, PathBuf};
+use std::path::PathBuf;
 use std::process::{Command, Output};
 
 /// What the eraser reads and writes, from the top of the repository.
-const FOLDERS: [&str; 7] = [
+const PATHS: [&str; 8] = [
     "crates/const_oid/src",
     "crates/const_oid_c/include",
     "crates/const_oid_c/src",
@@ -13,6 +13,7 @@ const FOLDERS: [&str; 7] = [
     "rust/const-oid",
     "rust/const-oid-c/src",
     "rust/erase",
+    "rust/rustfmt.toml",
 ];
 
 /// The generated folders.
@@ -26,32 +27,17 @@ const FILES: [&str; 4] = [
     "rust/const-oid/src/db/sorted.rs",
 ];
 
-fn top() -> PathBuf {
-    Path::new(env!("CARGO_MANIFEST_DIR")).join("../..")
-}
-
-fn copy(from: &Path, to: &Path) {
-    fs::create_dir_all(to).unwrap();
-    for entry in fs::read_dir(from).unwrap().map(|entry| entry.unwrap()) {
-        let to = to.join(entry.file_name());
-        if entry.file_type().unwrap().is_dir() {
-            copy(&entry.path(), &to);
-        } else {
-            fs::copy(entry.path(), to).unwrap();
-        }
-    }
-}
-
 /// A copy of the repository, which is removed at the end.
 struct Copy(PathBuf);
 
 impl Copy {
     fn new(name: &str) -> Self {
         let to = std::env::temp_dir().join(format!("erase-{name}-{}", std::process::id()));
-        for folder in FOLDERS {
-            copy(&top().join(folder), &to.join(folder));
-        }
-        fs::copy(top().join("rust/rustfmt.toml"), to.join("rust/rustfmt.toml")).unwrap();
+        fs::create_dir_all(&to).unwrap();
+        let mut copy = Command::new("cp");
+        copy.args(["-R", "--parents"]).args(PATHS).arg(&to);
+        copy.current_dir(concat!(env!("CARGO_MANIFEST_DIR"), "/../.."));
+        assert!(copy.status().unwrap().success());
         Copy(to)
     }
 
