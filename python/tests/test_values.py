@@ -146,6 +146,13 @@ class Inputs(unittest.TestCase):
         self.assertEqual((2, 5, 999), ObjectIdentifier("2.5").child(Index()).arcs)
         self.assertEqual((2, 5), ObjectIdentifier.from_arcs(ObjectIdentifier("2.5")).arcs)
 
+    def test_long_elements(self):
+        for head, count in (("0682FFFF", 65535), ("0683010000", 65536)):
+            octets = b"\x2a" * count
+            oid = ObjectIdentifier.from_bytes(octets)
+            self.assertEqual(bytes.fromhex(head) + octets, oid.der, head)
+            self.assertEqual((oid, b""), ObjectIdentifier.read_der(oid.der), head)
+
     def test_arcs_are_those_of_a_list_before_it_changes(self):
         for change in ("clear", "pop", "reverse"):
             arcs = [2]
