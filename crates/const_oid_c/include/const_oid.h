@@ -156,8 +156,8 @@ CONST_OID_NODISCARD uint32_t const_oid_version(void);
 CONST_OID_NODISCARD const_oid_status const_oid_from_der(
     const uint8_t *der, size_t len, const_oid_octets *CONST_OID_RESTRICT contents);
 
-/* Writes the element of DER for octets of any length: the tag 6, the length and the octets. It has two bytes more than
- * the octets up to 127, three up to 255, and never more than ten. */
+/* Writes the element of DER for octets of any length: the tag 6, the length and the octets. An output that is ten
+ * bytes longer than the octets is long enough. */
 CONST_OID_NODISCARD const_oid_status const_oid_to_der(
     const uint8_t *octets, size_t len, uint8_t *CONST_OID_RESTRICT out, size_t out_len);
 

@@ -1,5 +1,5 @@
 //! Elements of identifiers in DER: tag, length and contents octets.
-ghost use Rattle.std.specs.Prelude.{◌≡◌, ◌≢◌, ◌++◌, ℕ, List, length};
+ghost use Rattle.std.specs.Prelude.{◌≡◌, ◌≢◌, ◌+◌, ◌≤◌, ◌++◌, ℕ, List, length};
 ghost use Rattle.const_oid.specs.Element.{element};
 ghost use Rattle.const_oid_c.specs.Lists.{octets_at};
 ghost use Rattle.const_oid_c.specs.Status.{code_status, len_status, output_status, output_after};
@@ -35,6 +35,7 @@ pub extern "C" fn const_oid_from_der<'a>(der: &'a [u8], contents: &mut Octets<'a
 pub extern "C" fn const_oid_to_der(octets: &[u8], out: &mut [u8]) -> Status
     ensures status { result ≡ output_status (length out.old) (output_of (λ _. element octets.now) (borrowed_answer octets.now)) }
     ensures written { out.new ≡ output_after out.old (output_of (λ _. element octets.now) (borrowed_answer octets.now)) }
+    ensures enough { length octets.now + 10 ≤ length out.old → result.code ≢ 10 }
 {
     match ObjectIdentifierRef::from_bytes(octets) {
         Ok(oid) => match oid.write_element(out) {

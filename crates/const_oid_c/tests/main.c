@@ -187,7 +187,7 @@ static void list_row(char *rest) {
         const_oid_next(oid.octets, oid.len, items, count), const_oid_nearest(oid.octets, oid.len, items, count)};
     const_oid_status last = const_oid_subtree_range(oid.octets, oid.len, items, count, &range);
     for (size_t i = 0; i < 3; i++) {
-        if (last.code != CONST_OID_OK && found[i].code == last.code) continue;
+        if (last.code != CONST_OID_OK && found[i].code == last.code && found[i].detail == last.detail) continue;
         printf("%s", names[i]);
         if (found[i].code == CONST_OID_OK) printf("%zu", found[i].len);
         else refused(found[i]);

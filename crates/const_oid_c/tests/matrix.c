@@ -440,6 +440,7 @@ static void vary_item_lengths(int lead) {
     vary_items(lead, (argument){NULL, 0});
     /* Checks read all of an item that is right. */
     int reads_all = lead == 0;
+    memset(input_pages.start, 0, 16);
     memcpy(input_pages.start, (const uint8_t[]){0x2A, 3, 4, reads_all ? 0x80 : 0}, 4);
     is_sorted = !reads_all;
     for (int i = 2; i < CUTS; i++)

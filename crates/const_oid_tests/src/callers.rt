@@ -25,6 +25,15 @@ fn is_known(rsa: Oid) -> bool {
         && theorems::child_of_parent(rsa) == Some(Ok(rsa))
 }
 
+/// Whether rsaEncryption is written as an element and read again, with the octet after it.
+fn is_read_again(rsa: Oid) -> bool {
+    let mut out = [0; 12];
+    match theorems::through_element(rsa.as_oid_ref(), &mut out) {
+        Some(Some((Ok(oid), rest))) => oid.eq_oid(&rsa) && rest.len() == 1,
+        _ => false,
+    }
+}
+
 /// Whether the enterprises are the child 1 of this text.
 fn is_above_enterprises(text: &str) -> Result<bool, Error> {
     let child = child_in(Oid::new(text)?.as_oid_ref(), 1)?;
@@ -37,7 +46,7 @@ fn is_above_enterprises(text: &str) -> Result<bool, Error> {
 #[test]
 fn rsa_and_enterprises_have_their_relatives(rt: HostRuntime) -> Result<(), Fail> {
     let rsa = theorems::rsa_encryption();
-    assert!(rt; is_known(rsa));
+    assert!(rt; is_known(rsa) && is_read_again(rsa));
     assert!(rt; is_above_enterprises("1.3.6.1.4") == Ok(true));
     assert!(rt; theorems::through_text(rt.alloc(), rsa)? == Ok(rsa));
     Ok(())

@@ -153,10 +153,18 @@ fn owned_writes(oid: ObjectIdentifierRef<'_>, element: &[u8]) -> bool {
     }
 }
 
-/// Whether both forms write the element of valid contents octets.
-fn both_write(alloc: Global, contents: &[u8], element: &[u8]) -> Result<bool, AllocError> {
+/// Whether each form, or neither, writes this as the element of valid contents octets.
+fn write_so(
+    alloc: Global,
+    contents: &[u8],
+    element: &[u8],
+    wanted: bool,
+) -> Result<bool, AllocError> {
     match ObjectIdentifierRef::from_bytes(contents) {
-        Ok(oid) => Ok(owned_writes(oid, element) && borrowed_writes(alloc, oid, element)?),
+        Ok(oid) => Ok(
+            (owned_writes(oid, element) == wanted || contents.len() > 255)
+                && borrowed_writes(alloc, oid, element)? == wanted,
+        ),
         Err(_) => Ok(false),
     }
 }
@@ -184,7 +192,7 @@ fn is_element(
     Ok(
         is_cut
             && is_read(followed.as_slice(), wanted)
-            && both_write(alloc, contents, element)? == is_shortest,
+            && write_so(alloc, contents, element, is_shortest)?,
     )
 }
 

@@ -2,7 +2,7 @@
 
 use crate::formatter::{DebugTexts, count_writes, prints, prints_as};
 use crate::vectors::{long_octets, long_text, read_borrowed};
-use const_oid::ObjectIdentifier;
+use const_oid::{ObjectIdentifier, Oid};
 use std::alloc::{AllocError, Global};
 use std::fmt::{Debug, Display};
 use std::test::Fail;
@@ -55,6 +55,8 @@ fn prints_each_row(rt: HostRuntime) -> Result<(), Fail> {
     for (octets, text) in ROWS {
         assert!(rt; both_print(rt.alloc(), octets, text)?, "{text}");
     }
+    let usual = Oid::new("1.2.3")?;
+    assert!(rt; prints_both(rt.alloc(), usual, "ObjectIdentifier", "1.2.3")?);
     Ok(())
 }
 

@@ -486,9 +486,13 @@ fn check_pair(a: &[u8], b: &[u8]) {
     let (p, q) = (model::of_octets(a).unwrap(), model::of_octets(b).unwrap());
     let (is_equal, starts, by_arcs) = (a == b, p.starts_with(&q), p.cmp(&q));
     assert_eq!((x == y, x != y, x.cmp(y)), (is_equal, !is_equal, a.cmp(b)), "{a:02X?}, {b:02X?}");
-    assert_eq!((x.partial_cmp(y), x.starts_with(y), x.cmp_arcs(y)), (Some(a.cmp(b)), starts, by_arcs));
+    assert_eq!(
+        (x.partial_cmp(y), x.starts_with(y), x.cmp_arcs(y)),
+        (Some(a.cmp(b)), starts, by_arcs),
+        "{a:02X?}, {b:02X?}"
+    );
     let rest = p.strip_prefix(q.as_slice()).map(Vec::from);
-    assert_eq!(x.strip_prefix(y).map(Vec::from_iter), rest);
+    assert_eq!(x.strip_prefix(y).map(Vec::from_iter), rest, "{a:02X?}, {b:02X?}");
     assert_eq!([x < y, x <= y, x > y, x >= y], [a < b, a <= b, a > b, a >= b]);
     let (s, t) = (ByArcs::of(x), ByArcs::of(y));
     assert_eq!((s == t, s.cmp(t), s.partial_cmp(t)), (is_equal, by_arcs, Some(by_arcs)));
