@@ -178,32 +178,34 @@ fn order_few(a: &[u8], b: &[u8]) -> Ordering
 /// At the first octet that differs, both subidentifiers began at the same index. So the one with more octets left is
 /// the longer one, and an octet that ends its subidentifier decides.
 #[tactic(auto, using(crate::proofs::ByParts::ended_parts))]
+// erase: const
 #[inline]
 pub fn order_by_parts(a: &[u8], b: &[u8]) -> Ordering
     ensures { result ≡ parts_cmp a.now b.now }
 {
-    let near = a.len().min(b.len());
+    let near = lesser(a.len(), b.len());
     let i = same_until(a, b, same_start(a, b), near);
     if i == near {
-        return a.len().cmp(&b.len());
+        return order_of(a.len(), b.len());
     }
     if a[i] < 128 || b[i] < 128 {
-        return a[i].cmp(&b[i]);
+        return order_of(a[i] as usize, b[i] as usize);
     }
     match order_of_lens(a, b, i) {
-        Ordering::Equal => a[i].cmp(&b[i]),
+        Ordering::Equal => order_of(a[i] as usize, b[i] as usize),
         unequal => unequal,
     }
 }
 
 /// The order of the lengths of the subidentifiers that begin at an index. They are read in turn, which takes fewer
 /// instructions than to count both.
+// erase: const
 #[inline(always)]
 fn order_of_lens(a: &[u8], b: &[u8], start: usize) -> Ordering
     requires { start ≤ min (length a.now) (length b.now) }
     ensures { result ≡ lens_cmp start a.now b.now }
 {
-    let near = a.len().min(b.len());
+    let near = lesser(a.len(), b.len());
     let mut index = start;
     while index < near {
         if a[index] < 128 {
@@ -222,11 +224,34 @@ fn order_of_lens(a: &[u8], b: &[u8], start: usize) -> Ordering
         }
         index += 1;
     }
-    a.len().cmp(&b.len())
+    order_of(a.len(), b.len())
+}
+
+/// The lesser of two lengths, in constants, too.
+#[inline(always)]
+const fn lesser(a: usize, b: usize) -> usize
+    ensures { result ≡ min a b }
+{
+    if a < b { a } else { b }
+}
+
+/// The order of two numbers, in constants, too.
+#[inline(always)]
+const fn order_of(a: usize, b: usize) -> Ordering
+    ensures { result ≡ nat_cmp a b }
+{
+    if a < b {
+        Ordering::Less
+    } else if a == b {
+        Ordering::Equal
+    } else {
+        Ordering::Greater
+    }
 }
 
 /// Whether a subidentifier ends at an index: its octet is below 128, or the last one.
 #[tactic(auto, using(crate::proofs::ByParts::part_ends))]
+// erase: const
 #[inline(always)]
 fn ends_at(octets: &[u8], index: usize) -> bool
     requires { index < length octets.now }
@@ -250,12 +275,13 @@ pub(crate) fn common_parts<'a>(octets: &'a [u8], others: &[u8]) -> &'a [u8]
 }
 
 /// How many of the first octets are known to be the same: a word, half a word or none.
+// erase: const
 #[inline(always)]
 fn same_start(a: &[u8], b: &[u8]) -> usize
     ensures within { result ≤ min (length a.now) (length b.now) }
     ensures same { take result a.now ≡ take result b.now }
 {
-    let near = a.len().min(b.len());
+    let near = lesser(a.len(), b.len());
     if near >= WORD && word(a, 0) == word(b, 0) {
         WORD
     } else if near >= HALF && half_word(a) == half_word(b) {

@@ -72,15 +72,21 @@ impl<'a> SortedDatabase<'a> {
     /// assert!(SortedDatabase::try_new(&[(c, "c"), (cn, "cn")]).is_none());
     /// # Ok::<(), const_oid::Error>(())
     /// ```
+    // erase: const
     pub fn try_new(entries: &'a [Entry<'a>]) -> Option<Self>
         ensures sorted { IsSome result ↔ IsSortedByKey entry_arcs (slice_cmp nat_cmp) entries.now }
         ensures entries { IfSome result (λ database. sorted_entries_of database ≡ entries.now) }
     {
-        if entries.is_sorted_by(|a, b| a.0.cmp_arcs(&b.0).is_le()) {
-            Some(SortedDatabase { entries })
-        } else {
-            None
+        let mut index = 1;
+        while index < entries.len() {
+            let previous = &entries[index - 1];
+            let next = &entries[index];
+            if next.0.cmp_arcs(&previous.0).is_lt() {
+                return None;
+            }
+            index += 1;
         }
+        Some(SortedDatabase { entries })
     }
 
     /// The name in the first entry with this identifier, or `None` if there is no such entry.

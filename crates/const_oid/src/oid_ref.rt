@@ -525,6 +525,7 @@ impl<'a> ObjectIdentifierRef<'a> {
     /// assert!(oid.cmp_arcs(small).is_lt() && oid < small);
     /// # Ok::<(), const_oid::Error>(())
     /// ```
+    // erase: const
     #[inline]
     pub fn cmp_arcs(&self, other: &ObjectIdentifierRef<'_>) -> Ordering
         ensures { result ≡ slice_cmp nat_cmp (ref_arcs self.now) (ref_arcs other.now) }

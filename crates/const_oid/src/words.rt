@@ -26,6 +26,7 @@ pub(crate) fn word(octets: &[u8], at: usize) -> u64
 }
 
 /// The first four octets as a number.
+// erase: const
 #[inline(always)]
 pub(crate) fn half_word(octets: &[u8]) -> u32
     requires { 4 ≤ length octets.now }
