@@ -6,7 +6,7 @@ use native.Mathlib.Numerals.{unary_clauses}
 use Rattle.std.proofs.lemmas.{Bool.Decides.nat_tests, List.{length-drop, drop-drop, get_or-drop, take_all}}
 use Rattle.const_oid.specs.{declared.error.Error.TheVariants.{ArcTooBig, Base128}, Base128.value_of}
 use Rattle.const_oid.specs.{Identifier.{root_rule, max_arc}, Contents.{cut, later_fault, max_first}}
-use Rattle.const_oid.specs.Private.{Octets.{fault_from, limit_at, fault_at}, Groups.IsLong}
+use Rattle.const_oid.specs.Private.{Octets.{fault_from, limit_at, fault_at}, Groups.IsPastFour}
 use Rattle.const_oid.proofs.PartsFault.{parts_at, four_open, five_big, five_last, five_open, six_big}
 
 limit_wide : (start : ℕ) → max_arc ≤ limit_at start
@@ -61,7 +61,7 @@ pub more_at : (octets : List ℕ) (start len : ℕ) → AllByRecursion (λ octet
 more_at octets start len more last = more_octets (drop start octets) len more (rw get_or-drop last)
 
 pub long_at : (octets : List ℕ) (start len : ℕ) → len ≡ 4 → get_or octets start 0 ≢ 128 → get_or octets start 0 < 256
-    → AllByRecursion (λ octet. 128 ≤ octet) (take len (drop start octets)) → IsLong (drop start octets)
+    → AllByRecursion (λ octet. 128 ≤ octet) (take len (drop start octets)) → IsPastFour (drop start octets)
 long_at octets start len four first octet more =
     let first_is = get_or-drop start octets 0 0 in (grind arith, grind arith, rw four at more)
 
@@ -81,7 +81,7 @@ open_short octets start len short inside last first octet more =
 
 -- ---- a part of five octets or more
 
-module _ (octets : List ℕ) (start : ℕ) (inside : start < length octets) (long : IsLong (drop start octets)) where
+module _ (octets : List ℕ) (start : ℕ) (inside : start < length octets) (long : IsPastFour (drop start octets)) where
   pub open_four : length octets ≤ start + 4 → fault_at octets start ≡ Some Base128
   open_four last =
       four_open (limit_at start) (drop start octets) (rw length-drop (omega arith)) (rw length-drop (omega arith))

@@ -7,7 +7,7 @@ use Rattle.std.proofs.Math.Nat.{one-le-pow, le-mul_of_pos_right}
 use Rattle.std.proofs.lemmas.{Grind.common_steps, Nat.pow-add, Bool.Decides.nat_tests}
 use Rattle.const_oid.specs.{declared.error.Error.TheVariants.{ArcTooBig, Base128}, Base128.{value_of, width}}
 use Rattle.const_oid.specs.{Identifier.{root_rule, max_arc}, Contents.{cut, later_fault, parts_fault, max_first}}
-use Rattle.const_oid.specs.{Private.Octets.fault_from, Private.Groups.{IsLong, IsFaulty}}
+use Rattle.const_oid.specs.{Private.Octets.fault_from, Private.Groups.{IsPastFour, IsFaulty}}
 use Rattle.const_oid.proofs.{Lists.append-cons, Groups.width_is, Cutting.{cut_after-more, cut-some}}
 
 -- from the start of a later part
@@ -63,14 +63,14 @@ big_part limit start read x xs more first big =
     grind (arith, nat_tests)
 
 -- the value of the first five octets is
-pub five_big : (limit : ℕ) (octets : List ℕ) → 5 ≤ length octets → IsLong octets → limit < value_of (take 5 octets)
+pub five_big : (limit : ℕ) (octets : List ℕ) → 5 ≤ length octets → IsPastFour octets → limit < value_of (take 5 octets)
     → fault_from limit (cut octets) ≡ Some ArcTooBig
 five_big limit (a ∷ b ∷ c ∷ d ∷ e ∷ xs) five (first, octet, more) big =
     big_part limit a (b ∷ c ∷ d ∷ []) e xs more first big
 five_big limit _ five long big = absurd (omega arith)
 
 -- that of six octets always is
-pub six_big : (limit : ℕ) (octets : List ℕ) → 5 < length octets → IsLong octets → 128 ≤ get_or octets 4 0
+pub six_big : (limit : ℕ) (octets : List ℕ) → 5 < length octets → IsPastFour octets → 128 ≤ get_or octets 4 0
     → limit ≤ max_first root_rule → fault_from limit (cut octets) ≡ Some ArcTooBig
 six_big limit (first ∷ second ∷ third ∷ fourth ∷ fifth ∷ sixth ∷ rest) six (shortest, octet, high) last small =
     let (first_high, (second_high, (third_high, (fourth_high, end)))) = high in
@@ -80,19 +80,19 @@ six_big limit (first ∷ second ∷ third ∷ fourth ∷ fifth ∷ sixth ∷ res
 six_big limit _ six long last small = absurd (omega arith)
 
 -- five octets end a part
-pub five_last : (limit : ℕ) (octets : List ℕ) → 5 ≤ length octets → IsLong octets → get_or octets 4 0 < 128
+pub five_last : (limit : ℕ) (octets : List ℕ) → 5 ≤ length octets → IsPastFour octets → get_or octets 4 0 < 128
     → value_of (take 5 octets) ≤ limit → fault_from limit (cut octets) ≡ later_fault (cut (drop 5 octets))
 five_last limit (a ∷ b ∷ c ∷ d ∷ e ∷ xs) five long last small = grind (arith, nat_tests)
 five_last limit _ five long last small = absurd (omega arith)
 
 -- there are just five octets, and the part does not end
-pub five_open : (limit : ℕ) (octets : List ℕ) → length octets ≡ 5 → IsLong octets → 128 ≤ get_or octets 4 0
+pub five_open : (limit : ℕ) (octets : List ℕ) → length octets ≡ 5 → IsPastFour octets → 128 ≤ get_or octets 4 0
     → value_of (take 5 octets) ≤ limit → fault_from limit (cut octets) ≡ Some Base128
 five_open limit (a ∷ b ∷ c ∷ d ∷ e ∷ []) five long last small = grind (arith, nat_tests)
 five_open limit _ five long last small = absurd (omega arith)
 
 -- there are no more than four
-pub four_open : (limit : ℕ) (octets : List ℕ) → 0 < length octets → length octets < 5 → IsLong octets → max_arc ≤ limit
+pub four_open : (limit : ℕ) (octets : List ℕ) → 0 < length octets → length octets < 5 → IsPastFour octets → max_arc ≤ limit
     → fault_from limit (cut octets) ≡ Some Base128
 four_open limit [] some four long small = absurd (omega arith)
 four_open limit (first ∷ []) some four long small = grind (arith, nat_tests)
@@ -144,7 +144,7 @@ width_four n below = width_most 4 n (omega arith) (omega arith)
 pub width_five : (n : ℕ) → n < 34359738368 → width n ≤ 5
 width_five n below = width_most 5 n (omega arith) (omega arith)
 
-pub five_numbers : (octets : List ℕ) → 5 ≤ length octets → IsLong octets → get_or octets 4 0 < 128
+pub five_numbers : (octets : List ℕ) → 5 ≤ length octets → IsPastFour octets → get_or octets 4 0 < 128
     → map value_of (cut octets) ≡ value_of (take 5 octets) ∷ map value_of (cut (drop 5 octets))
 five_numbers (a ∷ b ∷ c ∷ d ∷ e ∷ xs) five long last = grind (arith, nat_tests)
 five_numbers _ five long last = absurd (omega arith)
@@ -157,7 +157,7 @@ first_valid [] valid = absurd (cc)
 first_valid (x ∷ xs) valid = grind (arith, nat_tests)
 
 -- it has five octets at most
-pub five_read : (octets : List ℕ) → 0 < length octets → IsLong octets → parts_fault root_rule (cut octets) ≡ None
+pub five_read : (octets : List ℕ) → 0 < length octets → IsPastFour octets → parts_fault root_rule (cut octets) ≡ None
     → (5 ≤ length octets) × (value_of (take 5 octets) ≤ max_first root_rule)
     × (later_fault (cut (drop 5 octets)) ≡ None)
     × (map value_of (cut octets) ≡ value_of (take 5 octets) ∷ map value_of (cut (drop 5 octets)))

@@ -46,8 +46,8 @@ pub record IsEncoding (rule : RootRule) (arcs octets : List ℕ) : Type 0 where
   pub joined : octets ≡ concat groups
 
 -- how many octets fit an identifier of the usual capacity
-abbrev pub usual_capacity : ℕ
-usual_capacity = 39
+abbrev pub default_capacity : ℕ
+default_capacity = 39
 
 -- how many octets the encoding has
 -- a law ties it to IsEncoding: laws::one_encoding

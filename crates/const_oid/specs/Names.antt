@@ -12,7 +12,7 @@ use Rattle.const_oid.specs.declared.db_sorted.SortedDatabase.{SortedDatabase}
 use Rattle.const_oid.specs.declared.error.Error.{Error}
 use Rattle.const_oid.specs.declared.oid.ObjectIdentifier.{ObjectIdentifier}
 use Rattle.const_oid.specs.declared.oid_ref.ObjectIdentifierRef.{ObjectIdentifierRef}
-use Rattle.const_oid.specs.Identifier.{root_rule, usual_capacity}
+use Rattle.const_oid.specs.Identifier.{root_rule, default_capacity}
 use Rattle.const_oid.specs.Oid.{oid_arcs}
 use Rattle.const_oid.specs.OidRef.{ref_arcs}
 use Rattle.const_oid.specs.Text.{text_answer}
@@ -69,7 +69,7 @@ name_or entries text arcs = unwrap_or (first_name lent_arcs entries arcs) text
 -- what a text is resolved to: its fault, or the first name of the arcs that it denotes, or the text itself
 abbrev pub resolve_answer : List (Entry (Bor (ObjectIdentifier 39))) → Bor (List ℕ) → Result (Bor (List ℕ)) Error
 resolve_answer entries text =
-    result_map_both (name_or entries text) (λ fault. fault) (text_answer root_rule text.now usual_capacity)
+    result_map_both (name_or entries text) (λ fault. fault) (text_answer root_rule text.now default_capacity)
 
 -- the arcs of an entry of a borrowed identifier
 abbrev pub entry_arcs : Entry ObjectIdentifierRef → List ℕ

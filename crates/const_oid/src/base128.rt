@@ -20,14 +20,14 @@ pub(crate) fn read_group(octets: &[u8]) -> (u64, &[u8])
     match octets {
         // A subidentifier of one octet is the most frequent one.
         [octet, after @ ..] if *octet < 128 => (*octet as u64, after),
-        longer => read_long_group(longer),
+        longer => read_two_to_five(longer),
     }
 }
 
 /// The number of the first subidentifier, which has two octets or more, and the octets after it.
 #[tactic(auto, using(crate::proofs::PartsFault::valid_read))]
 #[inline(never)]
-fn read_long_group(octets: &[u8]) -> (u64, &[u8])
+fn read_two_to_five(octets: &[u8]) -> (u64, &[u8])
     requires valid { parts_fault root_rule (cut octets.now) ≡ None }
     requires long { 128 ≤ slice_index octets.now 0 }
     ensures { IsFirst octets.now result.0 result.1.now }

@@ -12,11 +12,11 @@ ghost use Rattle.const_oid.specs.Text.{text_answer};
 
 use crate::Arc;
 use crate::base128::append_group;
-use crate::compare::{are_arrays_equal, order};
-use crate::copies::copy_parts;
 use crate::encoder::encode_to;
 use crate::error::{Error, Result};
-use crate::parser::parse_to;
+use crate::fast::comparison::{are_arrays_equal, order};
+use crate::fast::copies::copy_to;
+use crate::parser::parse_to_inlined;
 use std::cmp::Ordering;
 use std::hash::{Hash, Hasher};
 
@@ -74,7 +74,7 @@ impl<const SIZE: usize> Buffer<SIZE> {
         ensures encoding { HasEncoding result }
     {
         let mut buffer = Buffer::empty();
-        match parse_to(text, &mut buffer.bytes, Self::capacity()) {
+        match parse_to_inlined(text, &mut buffer.bytes, Self::capacity()) {
             Ok(len) => {
                 buffer.used = len as u8;
                 Ok(buffer)
@@ -107,7 +107,7 @@ impl<const SIZE: usize> Buffer<SIZE> {
         ensures { buffer_octets result ≡ octets.now }
     {
         let mut buffer = Buffer::empty();
-        copy_parts(octets, &mut buffer.bytes);
+        copy_to(octets, &mut buffer.bytes);
         buffer.used = octets.len() as u8;
         buffer
     }
@@ -178,7 +178,7 @@ impl<const SIZE: usize> Buffer<SIZE> {
     }
 
     /// Whether the octets in use are equal. This is for constants: there a slice costs the compiler.
-    pub(crate) const fn is_same(&self, other: &Self) -> bool
+    pub(crate) const fn eq_by_octet(&self, other: &Self) -> bool
         ensures { IsTrue result ↔ (buffer_octets self.now ≡ buffer_octets other.now) }
     {
         let len = other.used as usize;

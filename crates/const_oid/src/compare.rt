@@ -1,8 +1,6 @@
 //! How slices of octets and names compare.
 
-ghost use Rattle.std.specs.Prelude.{◌≡◌, ◌≢◌, ◌↔◌, ℕ, ◌+◌, ◌<◌, ◌≤◌, List, ◌++◌, length, slice_index, take, drop, min, nat_eq, None, IsFalse, IsTrue, MatchOption};
-ghost use Rattle.std.specs.Cmp.Lexicographic.{pointwise, slice_cmp};
-ghost use Rattle.std.specs.Ordering.{nat_cmp};
+ghost use Rattle.std.specs.Prelude.{◌≡◌, ◌↔◌, ℕ, ◌<◌, ◌≤◌, List, ◌++◌, length, min, None, IsFalse, IsTrue};
 ghost use Rattle.std.specs.Str.{str_eq_ignore_ascii_case};
 ghost use Rattle.const_oid.specs.Contents.{cut, parts_fault};
 ghost use Rattle.const_oid.specs.Identifier.{root_rule};
@@ -10,8 +8,9 @@ ghost use Rattle.const_oid.specs.Orders.{parts_cmp};
 ghost use Rattle.const_oid.specs.Private.Octets.{lens_cmp, length_at};
 ghost use Rattle.const_oid.specs.Private.Prefixes.{IsCommonPrefix};
 
+use crate::fast::comparison::{are_equal, lesser, order_of, same_start, same_until};
+use crate::fast::words::WORD_OCTETS;
 use crate::parts::{first_octets, without_last_part};
-use crate::words::{HALF, WORD, half_word, word};
 use std::cmp::Ordering;
 
 /// Whether octets begin with others.
@@ -25,151 +24,11 @@ pub(crate) fn begins_with(octets: &[u8], prefix: &[u8]) -> bool
         return false;
     }
     let (start, _) = octets.split_at(prefix.len());
-    if prefix.len() < WORD {
+    if prefix.len() < WORD_OCTETS {
         // The first octet first, since most identifiers begin with a prefix or differ at its start.
         return same_until(prefix, start, 0, prefix.len()) == prefix.len();
     }
     are_equal(prefix, start)
-}
-
-/// The first index from `start` on at which the octets differ, or `end`. The octets from there on have the orders of
-/// all octets.
-#[tactic(auto, using(crate::proofs::Shortlex::after_same, crate::proofs::ByParts::same_up_to))]
-#[inline(always)]
-const fn same_until(a: &[u8], b: &[u8], start: usize, end: usize) -> usize
-    requires ends { end ≤ min (length a.now) (length b.now) }
-    requires starts { (start ≤ end) × (take start a.now ≡ take start b.now) }
-    ensures within { result ≤ end }
-    ensures same { take result a.now ≡ take result b.now }
-    ensures unequal { result < end → slice_index a.now result ≢ slice_index b.now result }
-    ensures order { slice_cmp nat_cmp a.now b.now ≡ slice_cmp nat_cmp (drop result a.now) (drop result b.now) }
-    ensures by_parts { parts_cmp a.now b.now ≡ parts_cmp (drop result a.now) (drop result b.now) }
-{
-    let mut index = start;
-    while index < end {
-        if a[index] != b[index] {
-            return index;
-        }
-        index += 1;
-    }
-    end
-}
-
-/// Whether octets are the same. The last octet is compared first, since most pairs differ there, then the last word,
-/// and then the words before it, which may overlap it. Fewer octets than a word are compared one by one.
-// erase: const
-#[inline(always)]
-pub(crate) fn are_equal(a: &[u8], b: &[u8]) -> bool
-    ensures { result ≡ pointwise nat_eq a.now b.now }
-{
-    let len = a.len();
-    if len != b.len() {
-        return false;
-    }
-    if len < WORD {
-        return are_few_equal(a, b);
-    }
-    if a[len - 1] != b[len - 1] {
-        return false;
-    }
-    if word(a, len - WORD) != word(b, len - WORD) {
-        return false;
-    }
-    first_unequal(a, b, len - WORD).is_none()
-}
-
-/// The first two words that differ, of those that begin before `end`.
-// erase: const
-#[tactic(auto, using(crate::proofs::ByWords::word_by_word))]
-#[inline(always)]
-fn first_unequal(a: &[u8], b: &[u8], end: usize) -> Option<(u64, u64)>
-    requires in_a { end + 8 ≤ length a.now }
-    requires in_b { end + 8 ≤ length b.now }
-    ensures { MatchOption result (take end a.now ≡ take end b.now)
-        (λ words. (a.now ≢ b.now) × (nat_cmp words.0 words.1 ≡ slice_cmp nat_cmp a.now b.now)) }
-{
-    let mut at = 0;
-    while at < end {
-        let (x, y) = (word(a, at), word(b, at));
-        if x != y {
-            return Some((x, y));
-        }
-        at += WORD;
-    }
-    None
-}
-
-/// Whether slices of one length have the same octets, without a branch for each word: for arrays, whose few words the
-/// compiler compares at once.
-// erase: const
-#[inline(always)]
-pub(crate) fn are_arrays_equal(a: &[u8], b: &[u8]) -> bool
-    requires { length a.now ≡ length b.now }
-    ensures { result ≡ pointwise nat_eq a.now b.now }
-{
-    let len = a.len();
-    if len < WORD {
-        return are_few_equal(a, b);
-    }
-    let mut same = true;
-    let mut at = 0;
-    while at < len - WORD {
-        same &= word(a, at) == word(b, at);
-        at += WORD;
-    }
-    same & (word(a, len - WORD) == word(b, len - WORD))
-}
-
-/// Whether slices of one length have the same octets: the last one first, since most pairs differ there.
-#[inline(always)]
-const fn are_few_equal(a: &[u8], b: &[u8]) -> bool
-    requires { length a.now ≡ length b.now }
-    ensures { result ≡ pointwise nat_eq a.now b.now }
-{
-    let mut left = a.len();
-    while left > 0 {
-        left -= 1;
-        if a[left] != b[left] {
-            return false;
-        }
-    }
-    true
-}
-
-/// The lexicographic order of octets: by words, of which the last may overlap the one before, or one by one if there
-/// are fewer than a word has.
-#[tactic(auto, using(crate::proofs::ByWords::unequal_cmp))]
-#[inline(always)]
-pub(crate) fn order(a: &[u8], b: &[u8]) -> Ordering
-    ensures { result ≡ slice_cmp nat_cmp a.now b.now }
-{
-    let near = a.len().min(b.len());
-    if near < WORD {
-        return order_few(a, b);
-    }
-    let last = near - WORD;
-    if let Some((x, y)) = first_unequal(a, b, last) {
-        return x.cmp(&y);
-    }
-    let (x, y) = (word(a, last), word(b, last));
-    if x != y {
-        return x.cmp(&y);
-    }
-    a.len().cmp(&b.len())
-}
-
-/// The lexicographic order of octets, one by one.
-#[tactic(auto, using(crate::proofs::ByWords::ended_cmp))]
-#[inline(always)]
-fn order_few(a: &[u8], b: &[u8]) -> Ordering
-    ensures { result ≡ slice_cmp nat_cmp a.now b.now }
-{
-    let near = a.len().min(b.len());
-    let i = same_until(a, b, 0, near);
-    if i < near {
-        return a[i].cmp(&b[i]);
-    }
-    a.len().cmp(&b.len())
 }
 
 /// The lexicographic order of subidentifiers, a shorter one before a longer one: of valid octets, that of their arcs. If
@@ -227,28 +86,6 @@ fn order_of_lens(a: &[u8], b: &[u8], start: usize) -> Ordering
     order_of(a.len(), b.len())
 }
 
-/// The lesser of two lengths, in constants, too.
-#[inline(always)]
-const fn lesser(a: usize, b: usize) -> usize
-    ensures { result ≡ min a b }
-{
-    if a < b { a } else { b }
-}
-
-/// The order of two numbers, in constants, too.
-#[inline(always)]
-const fn order_of(a: usize, b: usize) -> Ordering
-    ensures { result ≡ nat_cmp a b }
-{
-    if a < b {
-        Ordering::Less
-    } else if a == b {
-        Ordering::Equal
-    } else {
-        Ordering::Greater
-    }
-}
-
 /// Whether a subidentifier ends at an index: its octet is below 128, or the last one.
 #[tactic(auto, using(crate::proofs::ByParts::part_ends))]
 // erase: const
@@ -272,23 +109,6 @@ pub(crate) fn common_parts<'a>(octets: &'a [u8], others: &[u8]) -> &'a [u8]
         return octets;
     }
     without_last_part(first_octets(octets, same + 1))
-}
-
-/// How many of the first octets are known to be the same: a word, half a word or none.
-// erase: const
-#[inline(always)]
-fn same_start(a: &[u8], b: &[u8]) -> usize
-    ensures within { result ≤ min (length a.now) (length b.now) }
-    ensures same { take result a.now ≡ take result b.now }
-{
-    let near = lesser(a.len(), b.len());
-    if near >= WORD && word(a, 0) == word(b, 0) {
-        WORD
-    } else if near >= HALF && half_word(a) == half_word(b) {
-        HALF
-    } else {
-        0
-    }
 }
 
 /// Whether names are the same. Lengths are compared first, and bytes before their case.

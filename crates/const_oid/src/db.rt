@@ -260,5 +260,5 @@ impl<'a> Iterator for Names<'a> {
 const fn has_oid(entry: &(&Oid, &str), oid: &Oid) -> bool
     ensures { result ≡ pointwise nat_eq (oid_arcs entry.now.0.now) (oid_arcs oid.now) }
 {
-    entry.0.is_same(oid)
+    entry.0.eq_by_octet(oid)
 }

@@ -78,13 +78,13 @@ fn write_digits(arc: Arc, out: &mut [u8], at: usize) -> usize
         return write_one(arc, out, at);
     }
     if arc < 10_000 {
-        return write_few(arc, out, at);
+        return write_up_to_four(arc, out, at);
     }
     let high = arc / 10_000;
     let at = if high < 10_000 {
-        write_few(high, out, at)
+        write_up_to_four(high, out, at)
     } else {
-        let at = write_few(high / 10_000, out, at);
+        let at = write_up_to_four(high / 10_000, out, at);
         write_four(high % 10_000, out, at)
     };
     write_four(arc % 10_000, out, at)
@@ -93,7 +93,7 @@ fn write_digits(arc: Arc, out: &mut [u8], at: usize) -> usize
 /// Writes the digits of a number, of which there are no more than four.
 #[tactic(auto, using(crate::proofs::Decimals::few_digits))]
 #[inline]
-fn write_few(number: u32, out: &mut [u8], at: usize) -> usize
+fn write_up_to_four(number: u32, out: &mut [u8], at: usize) -> usize
     requires few { number < 10000 }
     requires room { at + length (decimal number) ≤ length out.old }
     ensures end { result ≡ at + length (decimal number) }

@@ -10,15 +10,13 @@ pub mod buffer;
 // erase: omit
 pub mod by_arcs;
 mod compare;
-// In Rust, these copies would take two hundred octets of flash.
-// erase: omit
-mod copies;
 pub mod db;
 mod db_sorted;
 mod digits;
 mod element;
 mod encoder;
 pub mod error;
+mod fast;
 // Its functions have contracts, and no effect.
 // erase: omit
 pub mod laws;
@@ -30,7 +28,6 @@ mod parts;
 mod root;
 // Its functions are for the other crates: Rust hides them.
 pub mod search;
-mod steps;
 // erase: omit
 #[cfg(test)]
 mod tests;
@@ -39,7 +36,6 @@ mod text;
 // erase: omit
 pub mod traits;
 mod valid;
-mod words;
 
 pub use arcs::Arcs;
 pub use buffer::Buffer;

@@ -66,7 +66,7 @@ pub(crate) fn links_of<const SIZE: usize>(entries: &[(&Oid, &str)], by_name: boo
 }
 
 /// Whether a slot with this first entry has at most so many entries.
-fn is_short(links: &[u16], count: usize, first: usize, most: usize) -> bool {
+fn has_at_most(links: &[u16], count: usize, first: usize, most: usize) -> bool {
     let mut index = first;
     for _ in 0..most {
         if index >= count {
@@ -80,7 +80,7 @@ fn is_short(links: &[u16], count: usize, first: usize, most: usize) -> bool {
 /// Whether no slot has more than a quarter of the entries and two. No clause says so: it decides only what lookups cost.
 fn is_spread(links: &[u16], count: usize) -> bool {
     let mut firsts = links.iter().skip(count);
-    firsts.all(|first| is_short(links, count, *first as usize, count / 4 + 2))
+    firsts.all(|first| has_at_most(links, count, *first as usize, count / 4 + 2))
 }
 
 /// The links of entries in lent memory, or these: if that is no longer, the entries are too many, or the links would be

@@ -10,16 +10,16 @@ ghost use Rattle.const_oid.specs.Buffer.{buffer_octets};
 ghost use Rattle.const_oid.specs.Contents.{cut, parts_fault, octet_answer};
 ghost use Rattle.const_oid.specs.Element.{element};
 ghost use Rattle.const_oid.specs.Text.{text_of, text_fault, text_answer, Denotes, ReturnsLength, ReturnsText, WritesText};
-ghost use Rattle.const_oid.specs.Identifier.{root_rule, usual_capacity, IsEncoding, size};
+ghost use Rattle.const_oid.specs.Identifier.{root_rule, default_capacity, IsEncoding, size};
 ghost use Rattle.const_oid.specs.Items.{TakesItems};
 ghost use Rattle.const_oid.specs.Tree.{BeginsWith, child_of, parent_of};
 
 use crate::Arc;
 use crate::arcs::Arcs;
 use crate::buffer::Buffer;
-use crate::compare::are_equal;
 use crate::element::split_element;
 use crate::error::{Error, Result};
+use crate::fast::comparison::are_equal;
 use crate::oid_ref::ObjectIdentifierRef;
 use std::cmp::Ordering;
 use std::fmt;
@@ -90,7 +90,7 @@ impl ObjectIdentifier<39> {
     /// ```
     // erase: const
     pub fn new(s: &str) -> Result<Self>
-        ensures answer { oid_answer result ≡ text_answer root_rule s.now usual_capacity }
+        ensures answer { oid_answer result ≡ text_answer root_rule s.now default_capacity }
         ensures denoted { IfOk result (λ oid. Denotes root_rule s.now (oid_arcs oid)) }
     {
         Self::new_sized(s)
@@ -113,7 +113,7 @@ impl ObjectIdentifier<39> {
     // In Rattle, the checker rejects an invalid text, so nothing panics.
     // erase: const
     pub fn new_unwrap(s: &str) -> Self
-        requires { text_fault root_rule s.now usual_capacity ≡ None }
+        requires { text_fault root_rule s.now default_capacity ≡ None }
         ensures { Denotes root_rule s.now (oid_arcs result) }
     {
         match Self::new(s) {
@@ -151,7 +151,7 @@ impl ObjectIdentifier<39> {
         // itself; for `Arcs` the lemma `exact_answer` gives it.
         requires { IsFiniteIterable I.into_iter_gives I.IntoIter.can_next I.IntoIter.remaining arcs }
         ensures takes { (iterator : I.IntoIter) × I.into_iter_gives arcs iterator
-            × TakesItems root_rule usual_capacity I.IntoIter.next_gives iterator (oid_answer result) }
+            × TakesItems root_rule default_capacity I.IntoIter.next_gives iterator (oid_answer result) }
     {
         Self::from_arcs_sized(arcs)
     }
@@ -182,7 +182,7 @@ impl ObjectIdentifier<39> {
     /// ```
     #[inline(always)]
     pub fn from_bytes(ber_bytes: &[u8]) -> Result<Self>
-        ensures answer { oid_answer result ≡ octet_answer root_rule ber_bytes.now usual_capacity }
+        ensures answer { oid_answer result ≡ octet_answer root_rule ber_bytes.now default_capacity }
         ensures octets { IfOk result (λ oid. oid_octets oid ≡ ber_bytes.now) }
         ensures encoding { IfOk result (λ oid. IsEncoding root_rule (oid_arcs oid) ber_bytes.now) }
     {
@@ -195,7 +195,7 @@ impl FromStr for ObjectIdentifier<39> {
 
     type Err = Error;
 
-    ghost from_str_gives = { λ text result. oid_answer result ≡ text_answer root_rule text usual_capacity };
+    ghost from_str_gives = { λ text result. oid_answer result ≡ text_answer root_rule text default_capacity };
 
     /// Parses dotted text, as [`new`](Self::new) does.
     fn from_str(s: &str) -> Result<Self> {
@@ -570,10 +570,10 @@ impl<const MAX_SIZE: usize> ObjectIdentifier<MAX_SIZE> {
     }
 
     /// Whether the arcs are the same. Constants call this in place of `==`, which takes the compiler longer.
-    pub(crate) const fn is_same(&self, other: &Self) -> bool
+    pub(crate) const fn eq_by_octet(&self, other: &Self) -> bool
         ensures { IsTrue result ↔ (oid_arcs self.now ≡ oid_arcs other.now) }
     {
-        self.ber.is_same(&other.ber)
+        self.ber.eq_by_octet(&other.ber)
     }
 
     /// Whether the arcs begin with all those of another identifier: whether the other one is this one or an ancestor of

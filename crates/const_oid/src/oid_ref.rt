@@ -9,22 +9,24 @@ ghost use Rattle.std.proofs.Props.{props};
 ghost use Rattle.const_oid.specs.Base128.{AreOctets};
 ghost use Rattle.const_oid.specs.Contents.{arcs_of_octets, cut, parts_fault, octet_answer, bytes_answer, size_answer, borrowed_capacity};
 ghost use Rattle.const_oid.specs.Element.{element};
-ghost use Rattle.const_oid.specs.Identifier.{root_rule, usual_capacity, IsEncoding};
+ghost use Rattle.const_oid.specs.Identifier.{root_rule, default_capacity, IsEncoding};
 ghost use Rattle.const_oid.specs.Items.{item_answer};
 ghost use Rattle.const_oid.specs.Text.{text_answer, text_of, text_in, octet_text, Denotes, ReturnsLength, ReturnsText, WritesText};
 
 use crate::Arc;
 use crate::arcs::{Arcs, arc_at};
 use crate::base128::read_group;
-use crate::compare::{are_equal, begins_with, order, order_by_parts};
+use crate::compare::{begins_with, order_by_parts};
 use crate::digits::{MAX_ARC_LEN, utf8, write_arc};
 use crate::element::{element_len, split_element, write_element};
-use crate::encoder::{SHORT_ARCS, encode_long, encode_short};
+use crate::encoder::{ONE_PASS_ARCS, encode_in_one_pass, encode_slice};
 use crate::error::{Error, Result};
-use crate::parser::{SHORT_TEXT, parse_long, parse_short, parse_to};
-use crate::parts::{count_parts, without_last_part};
+use crate::fast::comparison::{are_equal, order};
+use crate::fast::lanes::count_parts;
+use crate::fast::steps::run_of;
+use crate::parser::{ONE_PASS_BYTES, parse_in_one_pass, parse_to, parse_to_inlined};
+use crate::parts::without_last_part;
 use crate::root::split_root;
-use crate::steps::run_of;
 use crate::text::{text_len, write_checked, write_text};
 use crate::valid::check;
 use std::cmp::Ordering;
@@ -324,7 +326,7 @@ impl<'a> ObjectIdentifierRef<'a> {
         ensures len { result ≡ size_answer (text_answer root_rule text.now limit) }
         ensures enough { length text.now ≤ limit → result ≢ Err Error.Length }
     {
-        parse_long(text, &mut [], limit)
+        parse_to(text, &mut [], limit)
     }
 
     /// Parses dotted text in ASCII, of any length, and writes its contents octets to the start of `out`. Returns how many
@@ -341,13 +343,13 @@ impl<'a> ObjectIdentifierRef<'a> {
         ensures kept { IfErr result (λ _. out.new ≡ out.old) }
         ensures enough { length text.now ≤ length out.old → result ≢ Err Error.Length }
     {
-        if text.len() <= SHORT_TEXT {
-            return parse_short(text, out);
+        if text.len() <= ONE_PASS_BYTES {
+            return parse_in_one_pass(text, out);
         }
         let capacity = out.len();
         // The octets are counted first, so that on an error none is written.
-        parse_long(text, &mut [], capacity)?;
-        parse_long(text, out, capacity)
+        parse_to(text, &mut [], capacity)?;
+        parse_to(text, out, capacity)
     }
 
     /// Counts the contents octets of arcs, any number of them. They are at most five for each arc.
@@ -360,7 +362,7 @@ impl<'a> ObjectIdentifierRef<'a> {
         ensures len { result ≡ size_answer (item_answer root_rule arcs.now limit) }
         ensures enough { 5 * length arcs.now ≤ limit → result ≢ Err Error.Length }
     {
-        encode_long(arcs, &mut [], limit)
+        encode_slice(arcs, &mut [], limit)
     }
 
     /// Encodes arcs, any number of them, and writes the contents octets to the start of `out`. Returns how many there
@@ -377,12 +379,12 @@ impl<'a> ObjectIdentifierRef<'a> {
         ensures kept { IfErr result (λ _. out.new ≡ out.old) }
         ensures enough { 5 * length arcs.now ≤ length out.old → result ≢ Err Error.Length }
     {
-        if arcs.len() <= SHORT_ARCS {
-            return encode_short(arcs, out);
+        if arcs.len() <= ONE_PASS_ARCS {
+            return encode_in_one_pass(arcs, out);
         }
         let capacity = out.len();
-        encode_long(arcs, &mut [], capacity)?;
-        encode_long(arcs, out, capacity)
+        encode_slice(arcs, &mut [], capacity)?;
+        encode_slice(arcs, out, capacity)
     }
 
     /// Parses dotted text in ASCII, of any length, and borrows the octets that it writes at the start of `out`. They are
@@ -421,10 +423,10 @@ impl<'a> ObjectIdentifierRef<'a> {
     /// Those of [`new`](crate::ObjectIdentifier::new).
     #[tactic(auto, using(crate::proofs::Outputs::taken, crate::proofs::Encodings::none_from_encoding))]
     #[inline(always)]
-    pub fn parse_usual(text: &[u8], out: &'a mut [u8; 39]) -> Result<Self>
-        ensures { ref_answer result ≡ text_answer root_rule text.now usual_capacity }
+    pub fn from_ascii_in_39(text: &[u8], out: &'a mut [u8; 39]) -> Result<Self>
+        ensures { ref_answer result ≡ text_answer root_rule text.now default_capacity }
     {
-        let len = parse_to(text, out, 39)?;
+        let len = parse_to_inlined(text, out, 39)?;
         Ok(ObjectIdentifierRef::from_checked(&out[..len]))
     }
 
@@ -567,10 +569,10 @@ impl<'a> ObjectIdentifierRef<'a> {
     /// Writes the text: in one piece, unless it is long.
     // Over `arcs()` it takes up to a fifth more instructions.
     #[inline]
-    fn write_pieces<W: fmt::Write>(&self, f: &mut fmt::Formatter<W>) -> fmt::Result
+    fn write_in_chunks<W: fmt::Write>(&self, f: &mut fmt::Formatter<W>) -> fmt::Result
         ensures { WritesStyledOnOk W.write_str_gives f.old result (text_of (ref_arcs self.now)) f.new }
     {
-        let mut text = [0; PIECE_LEN];
+        let mut text = [0; CHUNK_BYTES];
         let (root, mut rest) = read_group(self.ber);
         let (first, mut arc) = split_root(root);
         text[0] = b'0' + first as u8;
@@ -581,7 +583,7 @@ impl<'a> ObjectIdentifierRef<'a> {
             if rest.is_empty() {
                 return f.write_str(utf8(&text, at));
             }
-            if at > PIECE_LEN - MAX_ARC_LEN {
+            if at > CHUNK_BYTES - MAX_ARC_LEN {
                 f.write_str(utf8(&text, at))?;
                 at = 0;
             }
@@ -593,10 +595,10 @@ impl<'a> ObjectIdentifierRef<'a> {
 }
 
 /// The text of so many octets is always written at once.
-const PIECE: usize = 40;
+const CHUNK_OCTETS: usize = 40;
 
 /// The most bytes of that text, and of one more arc.
-const PIECE_LEN: usize = 4 * PIECE + MAX_ARC_LEN;
+const CHUNK_BYTES: usize = 4 * CHUNK_OCTETS + MAX_ARC_LEN;
 
 /// The arcs in decimal, joined by dots. Width, fill, sign and precision are ignored: to fill a column, print
 /// `oid.to_string()`.
@@ -608,7 +610,7 @@ impl fmt::Display for ObjectIdentifierRef<'_> {
     ghost styled_output = { λ oid _. Some (text_of (ref_arcs oid)) };
 
     fn fmt<W: fmt::Write>(&self, f: &mut fmt::Formatter<W>) -> fmt::Result {
-        self.write_pieces(f)
+        self.write_in_chunks(f)
     }
 }
 
@@ -623,7 +625,7 @@ impl fmt::Debug for ObjectIdentifierRef<'_> {
         ensures styled { WritesStyledOnOk W.write_str_gives f.old result (codes "ObjectIdentifierRef(" ++ (text_of (ref_arcs self.now) ++ codes ")")) f.new }
     {
         f.write_str("ObjectIdentifierRef(")?;
-        self.write_pieces(f)?;
+        self.write_in_chunks(f)?;
         f.write_str(")")
     }
 }

@@ -16,29 +16,29 @@ use crate::parts::copy_to;
 use crate::root::{check_first, join_root};
 use std::result;
 
-/// `parse_to`, which is compiled once for all calls with octets of any length.
+/// `parse_to_inlined`, which is compiled once for all calls with octets of any length.
 #[inline(never)]
-pub(crate) fn parse_long(text: &[u8], out: &mut [u8], capacity: usize) -> Result<usize>
+pub(crate) fn parse_to(text: &[u8], out: &mut [u8], capacity: usize) -> Result<usize>
     ensures { let answer = text_answer root_rule text.now capacity in
         MatchResult result (λ len. IsEncodedIn capacity answer out.old out.new len) (λ fault. answer ≡ Err fault) }
 {
-    parse_to(text, out, capacity)
+    parse_to_inlined(text, out, capacity)
 }
 
 /// The most bytes of a text that is parsed on the stack, and the most octets that it takes.
-pub(crate) const SHORT_TEXT: usize = 64;
+pub(crate) const ONE_PASS_BYTES: usize = 64;
 
 /// Writes the encoding of the identifier that a short text denotes to the start of a slice, if it fits, and returns its
 /// length. On an error the slice is unchanged.
 // One pass in place of two for short texts: the octets are made on the stack.
-pub(crate) fn parse_short(text: &[u8], out: &mut [u8]) -> Result<usize>
+pub(crate) fn parse_in_one_pass(text: &[u8], out: &mut [u8]) -> Result<usize>
     requires { length text.now ≤ 64 }
     ensures answer { let capacity = length out.old in let answer = text_answer root_rule text.now capacity in
         MatchResult result (λ len. IsEncodedIn capacity answer out.old out.new len) (λ fault. answer ≡ Err fault) }
     ensures kept { IfErr result (λ _. out.new ≡ out.old) }
 {
-    let mut octets = [0; SHORT_TEXT];
-    let len = parse_long(text, &mut octets, out.len().min(SHORT_TEXT))?;
+    let mut octets = [0; ONE_PASS_BYTES];
+    let len = parse_to(text, &mut octets, out.len().min(ONE_PASS_BYTES))?;
     copy_to(&octets[..len], out);
     Ok(len)
 }
@@ -47,7 +47,7 @@ pub(crate) fn parse_short(text: &[u8], out: &mut [u8]) -> Result<usize>
 /// its length. Into a slice that is shorter than the capacity nothing is written: the octets are counted alone.
 // erase: const
 #[inline(always)]
-pub(crate) fn parse_to(text: &[u8], out: &mut [u8], capacity: usize) -> Result<usize>
+pub(crate) fn parse_to_inlined(text: &[u8], out: &mut [u8], capacity: usize) -> Result<usize>
     ensures { let answer = text_answer root_rule text.now capacity in
         MatchResult result (λ len. IsEncodedIn capacity answer out.old out.new len) (λ fault. answer ≡ Err fault) }
 {

@@ -15,9 +15,10 @@ ghost use Rattle.const_oid.specs.SortedList.{IsSortedList, has_item_arcs, item_a
 ghost use Rattle.const_oid.specs.Tree.{BeginsWith};
 
 pub use crate::compare::order_by_parts;
-use crate::compare::{are_equal, begins_with, common_parts};
+use crate::compare::{begins_with, common_parts};
+use crate::fast::comparison::are_equal;
+use crate::fast::steps::run_of;
 use crate::oid_ref::ObjectIdentifierRef;
-use crate::steps::run_of;
 use std::result;
 
 /// An item that has contents octets, which need not be valid.

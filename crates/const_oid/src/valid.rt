@@ -5,11 +5,11 @@ ghost use Rattle.std.specs.Result.{result_err};
 ghost use Rattle.const_oid.specs.Base128.{value_of};
 ghost use Rattle.const_oid.specs.Contents.{cut, parts_fault};
 ghost use Rattle.const_oid.specs.Identifier.{root_rule};
-ghost use Rattle.const_oid.specs.Private.Groups.{IsLong};
+ghost use Rattle.const_oid.specs.Private.Groups.{IsPastFour};
 ghost use Rattle.const_oid.specs.Private.Octets.{EndsAt, limit_at};
 
 use crate::error::{Error, Result};
-use crate::words::half_word;
+use crate::fast::words::half_word;
 
 /// Checks contents octets of any length, or returns their error.
 // By index: `checked_group` in its place takes an eighth to a fifth more instructions.
@@ -29,7 +29,7 @@ pub(crate) fn check(octets: &[u8]) -> Result<()>
         if octets[start] < 128 {
             continue;
         }
-        at = match long_end(octets, start) {
+        at = match two_or_more_end(octets, start) {
             Ok(end) => end,
             Err(fault) => return Err(fault),
         };
@@ -40,7 +40,7 @@ pub(crate) fn check(octets: &[u8]) -> Result<()>
 /// The index after the subidentifier that starts at an index, with an octet of 128 or more, or its error.
 #[tactic(auto, using(crate::proofs::PartEnds::more_at))]
 #[inline(always)]
-fn long_end(octets: &[u8], start: usize) -> Result<usize>
+fn two_or_more_end(octets: &[u8], start: usize) -> Result<usize>
     requires inside { start < length octets.now }
     requires long { 128 ≤ slice_index octets.now start }
     ensures { EndsAt octets.now start result }
@@ -65,7 +65,7 @@ fn long_end(octets: &[u8], start: usize) -> Result<usize>
 #[inline(always)]
 fn five_end(octets: &[u8], start: usize) -> Result<usize>
     requires inside { start < length octets.now }
-    requires long { IsLong (drop start octets.now) }
+    requires long { IsPastFour (drop start octets.now) }
     ensures { EndsAt octets.now start result }
 {
     let last = start + 4;
@@ -91,7 +91,7 @@ fn five_end(octets: &[u8], start: usize) -> Result<usize>
 #[inline(always)]
 fn is_in_range(octets: &[u8], start: usize) -> bool
     requires inside { start + 4 < length octets.now }
-    requires long { IsLong (drop start octets.now) }
+    requires long { IsPastFour (drop start octets.now) }
     ensures { IsTrue result ↔ (value_of (take 5 (drop start octets.now)) ≤ limit_at start) }
 {
     octets[start] < 0x90 || start == 0 && half_word(octets) == 0x9080_8080 && octets[4] % 128 < 80

@@ -4,7 +4,7 @@ use Rattle.std.specs.Prelude.{Option, Some, Result}
 use Rattle.std.proofs.lemmas.Bool.Decides.{nat_tests}
 use Rattle.const_oid.specs.declared.error.Error.{Error}
 use Rattle.const_oid.specs.declared.error.Error.TheVariants.{Length}
-use Rattle.const_oid.specs.Identifier.{root_rule, usual_capacity, IsEncoding}
+use Rattle.const_oid.specs.Identifier.{root_rule, default_capacity, IsEncoding}
 use Rattle.const_oid.specs.Items.{arc_fault, items_fault, item_answer}
 use Rattle.const_oid.specs.Text.{piece_fault, pieces_fault, pieces_of, number_of, text_answer}
 use Rattle.const_oid.proofs.Ascii.{answer_utf8}
@@ -52,8 +52,8 @@ module _ (low high : ℕ) (less : low ≤ high) where
   same_arcs arcs other = grind (arith, same_items [] arcs)
 
 pub small_text : (text arcs octets : List ℕ) → IsEncoding root_rule arcs octets
-    → Ok arcs ≡ text_answer root_rule text usual_capacity → Ok octets ≡ octets_of_text text
+    → Ok arcs ≡ text_answer root_rule text default_capacity → Ok octets ≡ octets_of_text text
 small_text text arcs octets encoding answer =
-    let other : text_answer root_rule text usual_capacity ≢ Err Length = λ same. cc in
-    let large = sym (same_text usual_capacity max_len (omega arith) text other) ∙ sym answer in
-    rw (answer_utf8 root_rule usual_capacity text arcs (sym answer), large) (ap Ok (sym (encoding_of-encoded encoding)))
+    let other : text_answer root_rule text default_capacity ≢ Err Length = λ same. cc in
+    let large = sym (same_text default_capacity max_len (omega arith) text other) ∙ sym answer in
+    rw (answer_utf8 root_rule default_capacity text arcs (sym answer), large) (ap Ok (sym (encoding_of-encoded encoding)))

@@ -1,7 +1,7 @@
 //! Dotted text.
 ghost use Rattle.std.specs.Prelude.{◌≡◌, ◌≢◌, ◌≤◌, length, Err};
 ghost use Rattle.const_oid.specs.Text.{text_of, text_answer};
-ghost use Rattle.const_oid.specs.Identifier.{root_rule, usual_capacity};
+ghost use Rattle.const_oid.specs.Identifier.{root_rule, default_capacity};
 ghost use Rattle.const_oid_c.specs.Status.{max_len, output_status, output_after};
 ghost use Rattle.const_oid_c.specs.Results.{octets_of_text, octets_of_arcs, output_of, borrowed_answer};
 
@@ -21,7 +21,7 @@ pub extern "C" fn const_oid_from_text(text: &[u8], out: &mut [u8]) -> Status
 {
     // An identifier of the usual capacity is quicker to make.
     let mut octets = [0; 39];
-    match ObjectIdentifierRef::parse_usual(text, &mut octets) {
+    match ObjectIdentifierRef::from_ascii_in_39(text, &mut octets) {
         Ok(oid) => write_bytes(oid.as_bytes(), out),
         Err(fault) => write_other(fault, text, out),
     }
@@ -33,7 +33,7 @@ pub extern "C" fn const_oid_from_text(text: &[u8], out: &mut [u8]) -> Status
 #[cold]
 #[inline(never)]
 fn write_other(fault: Error, text: &[u8], out: &mut [u8]) -> Status
-    requires { text_answer root_rule text.now usual_capacity ≡ Err fault }
+    requires { text_answer root_rule text.now default_capacity ≡ Err fault }
     ensures status { result ≡ output_status (length out.old) (octets_of_text text.now) }
     ensures written { out.new ≡ output_after out.old (octets_of_text text.now) }
 {

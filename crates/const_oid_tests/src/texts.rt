@@ -1,4 +1,4 @@
-//! Identifiers from dotted text: `new`, `parse`, `from_ascii` and `parse_usual`.
+//! Identifiers from dotted text: `new`, `parse`, `from_ascii` and `from_ascii_in_39`.
 
 use crate::formatter::prints_as;
 use crate::vectors::{is_answer, long_text};
@@ -63,10 +63,10 @@ fn all_read(text: &str, wanted: Result<&[u8], Error>) -> bool {
         && is_borrowed(text, wanted)
 }
 
-/// Whether `parse_usual` has this result for a text.
+/// Whether `from_ascii_in_39` has this result for a text.
 fn is_borrowed(text: &str, wanted: Result<&[u8], Error>) -> bool {
     let mut out = [0xEE; 39];
-    ObjectIdentifierRef::parse_usual(text.as_bytes(), &mut out).map(|oid| oid.as_bytes()) == wanted
+    ObjectIdentifierRef::from_ascii_in_39(text.as_bytes(), &mut out).map(|oid| oid.as_bytes()) == wanted
 }
 
 #[test]
@@ -120,7 +120,7 @@ const LONG: &[Row] = &[
 fn has_len(alloc: Global, row: &Row) -> Result<bool, AllocError> {
     let text = long_text(alloc, row.0, row.1, ".1", row.2)?;
     let mut out = [0; 39];
-    let borrowed = ObjectIdentifierRef::parse_usual(text.as_bytes(), &mut out).map(|oid| oid
+    let borrowed = ObjectIdentifierRef::from_ascii_in_39(text.as_bytes(), &mut out).map(|oid| oid
         .as_bytes()
         .len());
     Ok(borrowed == row.3 && Oid::new(text.as_str()).map(|oid| oid.as_bytes().len()) == row.3)

@@ -6,7 +6,7 @@ use Rattle.hex.specs.Hex.{decode_of, encode_lower}
 use Rattle.hex.specs.declared.error.FromHexError.{FromHexError}
 use Rattle.const_oid.specs.declared.error.Error.{Error}
 use Rattle.const_oid.specs.Contents.{octet_answer, borrowed_capacity}
-use Rattle.const_oid.specs.Identifier.{root_rule, usual_capacity, encoding_of}
+use Rattle.const_oid.specs.Identifier.{root_rule, default_capacity, encoding_of}
 use Rattle.const_oid.specs.Error.{message_of}
 use Rattle.const_oid.specs.Text.{text_of, text_answer}
 use Rattle.const_oid.specs.Tree.{parent_of}
@@ -33,7 +33,7 @@ text_line digits = octets_line (decode_of digits)
 -- the line of the arcs that a text denotes
 abbrev pub denoted_line : (List ℕ → List ℕ) → List ℕ → List ℕ
 denoted_line line text =
-    if is_utf8 text then line_of line (text_answer root_rule text usual_capacity)
+    if is_utf8 text then line_of line (text_answer root_rule text default_capacity)
     else error_line (codes "not UTF-8")
 
 -- the result of `hex` on dotted text: the contents octets as lower-case hexadecimal digits

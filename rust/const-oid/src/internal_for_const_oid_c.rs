@@ -24,6 +24,6 @@ calls! {
     bytes_from_ascii(text: &[u8], out: &mut [u8]) -> Result<usize>;
     bytes_len_from_arcs(arcs: &[Arc], limit: usize) -> Result<usize>;
     bytes_len_from_ascii(text: &[u8], limit: usize) -> Result<usize>;
-    parse_usual<'a>(text: &[u8], out: &'a mut [u8; 39]) -> Result<&'a ObjectIdentifierRef>;
+    from_ascii_in_39<'a>(text: &[u8], out: &'a mut [u8; 39]) -> Result<&'a ObjectIdentifierRef>;
     text_from_bytes(ber: &[u8], out: &mut [u8]) -> Option<Result<usize>>;
 }

@@ -74,14 +74,14 @@ pub const CRATES: &[Crate] = &[
             "oid_ref": "fn cmp(&self, other: &Self) -> Ordering { order(self.as_bytes(), other.as_bytes()) }"
                 => "#[inline]\nfn cmp(&self, other: &Self) -> Ordering {\n self.ber.cmp(&other.ber)\n }", BY_CORE;
             "oid_ref": "fn partial_cmp" => "#[inline]\nfn partial_cmp", "as above, where a caller is compiled without LTO";
-            "oid_ref": "fn parse_usual" => "fn parse_usual<'a>", UNSIZED;
+            "oid_ref": "fn from_ascii_in_39" => "fn from_ascii_in_39<'a>", UNSIZED;
             "oid": "impl ObjectIdentifierRef<'_>" => "impl ObjectIdentifierRef", UNSIZED;
             "oid": "pub const fn eq_oid" => "pub(crate) const fn eq_oid", "public as `==`";
             "oid_ref": "pub fn bytes_from_arcs" => "pub(crate) fn bytes_from_arcs", FOR_C;
             "oid_ref": "pub fn bytes_from_ascii" => "pub(crate) fn bytes_from_ascii", FOR_C;
             "oid_ref": "pub fn bytes_len_from_arcs" => "pub(crate) fn bytes_len_from_arcs", FOR_C;
             "oid_ref": "pub fn bytes_len_from_ascii" => "pub(crate) fn bytes_len_from_ascii", FOR_C;
-            "oid_ref": "pub fn parse_usual" => "pub(crate) fn parse_usual", FOR_C;
+            "oid_ref": "pub fn from_ascii_in_39" => "pub(crate) fn from_ascii_in_39", FOR_C;
             "oid_ref": "pub fn text_from_bytes" => "pub(crate) fn text_from_bytes", FOR_C;
             "": "&ObjectIdentifierRef<'_>" => "&ObjectIdentifierRef", UNSIZED;
             "": "ObjectIdentifierRef<'_>" => "&ObjectIdentifierRef", UNSIZED;
@@ -164,7 +164,7 @@ pub const CRATES: &[Crate] = &[
             "": "ObjectIdentifierRef<'a>" => "&'a ObjectIdentifierRef", UNSIZED;
             "texts*": "ObjectIdentifierRef::text_from_bytes"
                 => "const_oid::internal_for_const_oid_c::text_from_bytes", FOR_C;
-            "texts": "ObjectIdentifierRef::parse_usual" => "const_oid::internal_for_const_oid_c::parse_usual", FOR_C;
+            "texts": "ObjectIdentifierRef::from_ascii_in_39" => "const_oid::internal_for_const_oid_c::from_ascii_in_39", FOR_C;
             "texts": "ObjectIdentifierRef::bytes_len_from_ascii"
                 => "const_oid::internal_for_const_oid_c::bytes_len_from_ascii", FOR_C;
             "arcs": "ObjectIdentifierRef::bytes_len_from_arcs"

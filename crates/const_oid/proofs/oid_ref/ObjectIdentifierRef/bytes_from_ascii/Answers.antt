@@ -4,20 +4,20 @@ use Rattle.const_oid.proofs.{Enough.bytes_enough, Outputs.returned}
 use Rattle.const_oid.proofs.oid_ref.ObjectIdentifierRef.bytes_from_ascii.Goals as goal
 
 pub returns-clause-answer : goal.returns-clause-answer
-returns-clause-answer c = (returned c.parse_long-2.result c.parse_long-2.ensures (omega arith)).answer
+returns-clause-answer c = (returned c.parse_to-2.result c.parse_to-2.ensures (omega arith)).answer
 
 pub returns-clause-encoding : goal.returns-clause-encoding
-returns-clause-encoding c = (returned c.parse_long-2.result c.parse_long-2.ensures (omega arith)).encoding
+returns-clause-encoding c = (returned c.parse_to-2.result c.parse_to-2.ensures (omega arith)).encoding
 
 pub returns-clause-rest : goal.returns-clause-rest
-returns-clause-rest c = (returned c.parse_long-2.result c.parse_long-2.ensures (omega arith)).rest
+returns-clause-rest c = (returned c.parse_to-2.result c.parse_to-2.ensures (omega arith)).rest
 
-pub returns-in_err-parse_long-clause-enough : goal.returns-in_err-parse_long-clause-enough
-returns-in_err-parse_long-clause-enough c =
+pub returns-in_err-parse_to-clause-enough : goal.returns-in_err-parse_to-clause-enough
+returns-in_err-parse_to-clause-enough c =
     let other = bytes_enough root_rule c.args.text.now (length c.args.out.now) in
     grind (arith, other)
 
-pub returns-then-text-le-SHORT_TEXT-clause-enough : goal.returns-then-text-le-SHORT_TEXT-clause-enough
-returns-then-text-le-SHORT_TEXT-clause-enough c =
+pub returns-then-text-le-ONE_PASS_BYTES-clause-enough : goal.returns-then-text-le-ONE_PASS_BYTES-clause-enough
+returns-then-text-le-ONE_PASS_BYTES-clause-enough c =
     let other = bytes_enough root_rule c.args.text.now (length c.args.out.now) in
     grind (arith, other)

@@ -1,0 +1,14 @@
+use Rattle.std.proofs.Common.{length, arith}
+use Rattle.const_oid.specs.Identifier.{root_rule}
+use Rattle.const_oid.proofs.{Capacities.items_bounded, Outputs.copied}
+use Rattle.const_oid.proofs.encoder.encode_in_one_pass.Goals as goal
+
+pub returns-in_err-len-clause-answer : goal.returns-in_err-len-clause-answer
+returns-in_err-len-clause-answer c =
+    let same = items_bounded root_rule c.args.arcs.now c.min.result (length c.args.out.now) 60 (omega arith) (λ k. omega (arith, c.type_inv.arcs k)) (omega arith) in
+    grind (arith, same)
+
+pub returns-clause-answer : goal.returns-clause-answer
+returns-clause-answer c =
+    let same = items_bounded root_rule c.args.arcs.now c.min.result (length c.args.out.now) 60 (omega arith) (λ k. omega (arith, c.type_inv.arcs k)) (omega arith) in
+    copied c.in_ok-len.ensures (omega arith) (omega arith) same c.copy_to.ensures

@@ -1,7 +1,0 @@
-use Rattle.std.specs.Prelude.{IsTrue}
-use Rattle.const_oid.proofs.Encodings.{oid_encoding, iff_arcs}
-use Rattle.const_oid.proofs.oid.ObjectIdentifier.is_same.Goals as goal
-
-pub returns : goal.returns
-returns g c =
-    iff_arcs (IsTrue c.is_same.result) (oid_encoding c.args.self.now) (oid_encoding c.args.other.now) c.is_same.ensures

@@ -1,9 +1,0 @@
-use Rattle.std.proofs.Common.{length, ◌-◌}
-use Rattle.const_oid.proofs.Pieces.{IsWrittenTo}
-use Rattle.const_oid.proofs.parser.parse_to.Given as goal
-
-abbrev pub invariant-loop-end : goal.invariant-loop-end
-invariant-loop-end l = IsWrittenTo l.capacity l.text l.fn.out l.out l.used l.end
-
-abbrev pub decreases-loop-end : goal.decreases-loop-end
-decreases-loop-end l = length l.text - l.end

@@ -1,6 +1,0 @@
-use Rattle.std.proofs.Common.{arith}
-use Rattle.const_oid.proofs.ByWords.{word_is}
-use Rattle.const_oid.proofs.words.word.Goals as goal
-
-pub returns : goal.returns
-returns c = search (arith, word_is)

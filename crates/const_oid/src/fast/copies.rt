@@ -1,0 +1,34 @@
+//! Octets that are copied in parts of constant size.
+
+ghost use Rattle.std.specs.Prelude.{◌≡◌, ◌++◌, ◌*◌, ◌≤◌, length, drop};
+
+/// Copies octets to the start of as many or more.
+#[inline(always)]
+pub(crate) fn copy_to(octets: &[u8], out: &mut [u8])
+    requires { length octets.now ≤ length out.old }
+    ensures { out.new ≡ octets.now ++ drop (length octets.now) out.old }
+{
+    // The usual lengths take two loads and stores, and no call of `memcpy`.
+    match octets.len() {
+        2..=4 => copy_ends::<2>(octets, out),
+        5..=8 => copy_ends::<4>(octets, out),
+        9..=16 => copy_ends::<8>(octets, out),
+        17..=32 => copy_ends::<16>(octets, out),
+        33..=64 => copy_ends::<32>(octets, out),
+        len => out[..len].copy_from_slice(octets),
+    }
+}
+
+/// Copies the first octets and the last ones, `SIZE` each, which may overlap. So they are all.
+#[inline(always)]
+fn copy_ends<const SIZE: usize>(octets: &[u8], out: &mut [u8])
+    requires enough { SIZE ≤ length octets.now }
+    requires few { length octets.now ≤ 2 * SIZE }
+    requires room { length octets.now ≤ length out.old }
+    ensures { out.new ≡ octets.now ++ drop (length octets.now) out.old }
+{
+    // The length of each part is a constant, so the compiler copies it without a loop or a call.
+    let last = octets.len() - SIZE;
+    out[..SIZE].copy_from_slice(&octets[..SIZE]);
+    out[last..last + SIZE].copy_from_slice(&octets[last..last + SIZE]);
+}
