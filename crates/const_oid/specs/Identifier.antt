@@ -45,7 +45,7 @@ pub record IsEncoding (rule : RootRule) (arcs octets : List ℕ) : Type 0 where
   pub each : AllZip IsGroup (subidentifiers arcs) groups
   pub joined : octets ≡ concat groups
 
--- how many octets fit an identifier of the usual capacity
+-- how many octets fit an identifier of the default capacity
 abbrev pub default_capacity : ℕ
 default_capacity = 39
 

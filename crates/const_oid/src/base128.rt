@@ -11,7 +11,7 @@ use crate::Arc;
 use crate::error::{Error, Result};
 
 /// The number of the first subidentifier, and the octets after it.
-// `checked_group` in its place takes a fifth to a half more instructions for all arcs.
+// Apart from `checked_group`, which tests what is known here: the row "arcs, all" of SPEED.
 #[inline(always)]
 pub(crate) fn read_group(octets: &[u8]) -> (u64, &[u8])
     requires { parts_fault root_rule (cut octets.now) ≡ None }
@@ -20,11 +20,11 @@ pub(crate) fn read_group(octets: &[u8]) -> (u64, &[u8])
     match octets {
         // A subidentifier of one octet is the most frequent one.
         [octet, after @ ..] if *octet < 128 => (*octet as u64, after),
-        longer => read_two_to_five(longer),
+        octets => read_two_to_five(octets),
     }
 }
 
-/// The number of the first subidentifier, which has two octets or more, and the octets after it.
+/// The number of the first subidentifier, of two to five octets, and the octets after it.
 #[tactic(auto, using(crate::proofs::PartsFault::valid_read))]
 #[inline(never)]
 fn read_two_to_five(octets: &[u8]) -> (u64, &[u8])

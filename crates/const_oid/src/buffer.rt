@@ -112,7 +112,7 @@ impl<const SIZE: usize> Buffer<SIZE> {
         buffer
     }
 
-    /// The first octets in use, so many of them.
+    /// The first `len` octets in use.
     #[inline(always)]
     pub(crate) fn truncated(&self, len: usize) -> Self
         requires { len ≤ length (buffer_octets self.now) }
@@ -177,13 +177,12 @@ impl<const SIZE: usize> Buffer<SIZE> {
         self.used as usize
     }
 
-    /// Whether the octets in use are equal. This is for constants: there a slice costs the compiler.
+    /// Whether the octets in use are equal, one by one: this is for constants, in which a slice costs the compiler.
     pub(crate) const fn eq_by_octet(&self, other: &Self) -> bool
         ensures { IsTrue result ↔ (buffer_octets self.now ≡ buffer_octets other.now) }
     {
         let len = other.used as usize;
-        // Most entries of a table differ in this octet, while the branch by the length would be mispredicted for many:
-        // so a lookup that reads all entries takes half the time.
+        // Most entries of a table differ in this octet, while a branch by the length would be mispredicted for many.
         if len > 0 && self.bytes[len - 1] != other.bytes[len - 1] {
             return false;
         }

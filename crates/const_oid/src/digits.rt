@@ -193,8 +193,8 @@ pub(crate) fn write_bytes(bytes: &[u8], out: &mut [u8], at: usize) -> usize
     end
 }
 
-/// Writes the digits of an arc at the end of an array, and returns the index of the first. It takes more time than
-/// [`write_arc`]. With that one in its place, all calls in one program take a fifth more code at opt-level s.
+/// Writes the digits of an arc at the end of an array, and returns the index of the first. Slower than [`write_arc`], and
+/// less code: the row `all` of SPEED's sizes.
 #[inline]
 pub(crate) fn write_last_digits(arc: Arc, out: &mut [u8; MAX_DIGITS]) -> usize
     ensures within { result ≤ length out.new }

@@ -13,7 +13,7 @@ use crate::error::{Error, Result};
 use crate::parts::copy_to;
 use crate::root::{check_first, join_root};
 
-/// `encode_to` of a slice of arcs, which is compiled once for all calls with octets of any length.
+/// `encode_to` of a slice of arcs, which is compiled once for all calls.
 #[tactic(auto, using(crate::proofs::TakesItems::list_answer))]
 #[inline(never)]
 pub(crate) fn encode_slice(arcs: &[Arc], out: &mut [u8], capacity: usize) -> Result<usize>
@@ -29,9 +29,9 @@ pub(crate) const ONE_PASS_ARCS: usize = 12;
 /// The most octets that they take, five for each.
 const ONE_PASS_OCTETS: usize = 5 * ONE_PASS_ARCS;
 
-/// Writes the encoding of a few arcs to the start of a slice, if it fits, and returns its length. On an error the slice is
-/// unchanged.
-// One pass in place of two for a few arcs: the octets are made on the stack.
+/// Writes the encoding of at most 12 arcs to the start of a slice, if it fits, and returns its length. On an error the
+/// slice is unchanged.
+// One pass in place of two: the octets are made on the stack.
 pub(crate) fn encode_in_one_pass(arcs: &[Arc], out: &mut [u8]) -> Result<usize>
     requires { length arcs.now ≤ 12 }
     ensures answer { let capacity = length out.old in let answer = item_answer root_rule arcs.now capacity in

@@ -415,8 +415,8 @@ impl<'a> ObjectIdentifierRef<'a> {
         Ok(ObjectIdentifierRef::from_checked(&out[..len]))
     }
 
-    /// Parses dotted text in ASCII into 39 octets, the usual capacity, in one pass, and borrows those of its identifier. On
-    /// `Err`, `out` may be changed.
+    /// Parses dotted text in ASCII into 39 octets, the default capacity, in one pass, and borrows those of its
+    /// identifier. On `Err`, `out` may be changed.
     ///
     /// # Errors
     ///
@@ -566,8 +566,8 @@ impl<'a> ObjectIdentifierRef<'a> {
         (from, from + inside)
     }
 
-    /// Writes the text: in one piece, unless it is long.
-    // Over `arcs()` it takes up to a fifth more instructions.
+    /// Writes the text: that of 40 octets or fewer at once.
+    // Not over `arcs()`, for fewer instructions: the row "Display" of SPEED.
     #[inline]
     fn write_in_chunks<W: fmt::Write>(&self, f: &mut fmt::Formatter<W>) -> fmt::Result
         ensures { WritesStyledOnOk W.write_str_gives f.old result (text_of (ref_arcs self.now)) f.new }
@@ -594,7 +594,7 @@ impl<'a> ObjectIdentifierRef<'a> {
     }
 }
 
-/// The text of so many octets is always written at once.
+/// How many octets' text is written at once.
 const CHUNK_OCTETS: usize = 40;
 
 /// The most bytes of that text, and of one more arc.

@@ -16,7 +16,7 @@ use crate::parts::copy_to;
 use crate::root::{check_first, join_root};
 use std::result;
 
-/// `parse_to_inlined`, which is compiled once for all calls with octets of any length.
+/// `parse_to_inlined`, which is compiled once for all calls.
 #[inline(never)]
 pub(crate) fn parse_to(text: &[u8], out: &mut [u8], capacity: usize) -> Result<usize>
     ensures { let answer = text_answer root_rule text.now capacity in
@@ -28,9 +28,9 @@ pub(crate) fn parse_to(text: &[u8], out: &mut [u8], capacity: usize) -> Result<u
 /// The most bytes of a text that is parsed on the stack, and the most octets that it takes.
 pub(crate) const ONE_PASS_BYTES: usize = 64;
 
-/// Writes the encoding of the identifier that a short text denotes to the start of a slice, if it fits, and returns its
-/// length. On an error the slice is unchanged.
-// One pass in place of two for short texts: the octets are made on the stack.
+/// Writes the encoding of the identifier that a text of at most 64 bytes denotes to the start of a slice, if it fits, and
+/// returns its length. On an error the slice is unchanged.
+// One pass in place of two: the octets are made on the stack.
 pub(crate) fn parse_in_one_pass(text: &[u8], out: &mut [u8]) -> Result<usize>
     requires { length text.now ≤ 64 }
     ensures answer { let capacity = length out.old in let answer = text_answer root_rule text.now capacity in
@@ -130,7 +130,7 @@ fn read_piece(text: &[u8], start: usize) -> result::Result<(Arc, usize), usize>
         return Err(start);
     }
     let mut index = start + 1;
-    // The shortest component is the most frequent one.
+    // A component of one digit is the most frequent one.
     if index < text.len() && text[index] == b'.' {
         return Ok((first as Arc, index));
     }

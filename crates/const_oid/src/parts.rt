@@ -5,7 +5,7 @@ ghost use Rattle.std.specs.Prelude.{◌≡◌, ◌-◌, ◌≤◌, length, take,
 ghost use Rattle.const_oid.specs.Contents.{cut};
 ghost use Rattle.const_oid.specs.Private.Prefixes.{IsFinishedPrefix};
 
-/// The octets after so many subidentifiers.
+/// The octets after the first `parts` subidentifiers.
 #[tactic(auto, using(crate::proofs::PartBounds::after_more, std::proofs::lemmas::List::take_rest))]
 #[inline(always)]
 pub(crate) fn skip_parts(octets: &[u8], parts: usize) -> &[u8]
@@ -37,7 +37,7 @@ pub(crate) fn without_last_part(octets: &[u8]) -> &[u8]
     }
 }
 
-/// The first octets, so many of them.
+/// The first `len` octets.
 #[inline(always)]
 pub(crate) fn first_octets(octets: &[u8], len: usize) -> &[u8]
     requires { len ≤ length octets.now }

@@ -12,7 +12,7 @@ use crate::error::{Error, Result};
 use crate::fast::words::half_word;
 
 /// Checks contents octets of any length, or returns their error.
-// By index: `checked_group` in its place takes an eighth to a fifth more instructions.
+// By index, and not by `checked_group`, for fewer instructions: the row "from_bytes, borrowed" of SPEED.
 #[tactic(auto, using(crate::proofs::PartEnds::ends))]
 #[inline(never)]
 pub(crate) fn check(octets: &[u8]) -> Result<()>
@@ -37,7 +37,7 @@ pub(crate) fn check(octets: &[u8]) -> Result<()>
     Ok(())
 }
 
-/// The index after the subidentifier that starts at an index, with an octet of 128 or more, or its error.
+/// The index after the subidentifier of two octets or more that starts at an index, or its error.
 #[tactic(auto, using(crate::proofs::PartEnds::more_at))]
 #[inline(always)]
 fn two_or_more_end(octets: &[u8], start: usize) -> Result<usize>
@@ -87,7 +87,7 @@ fn five_end(octets: &[u8], start: usize) -> Result<usize>
 /// Whether five octets, of the subidentifier that starts at an index, are a number in its range. Numbers below 2^32 have
 /// a first digit below 16. Those from there to the greatest first subidentifier have the digits 16, 0, 0, 0 and one below
 /// 80.
-// To make the number is a quarter more code for `from_bytes` at opt-level s.
+// The number is not made, for less code: the row `from_bytes` of SPEED's sizes.
 #[inline(always)]
 fn is_in_range(octets: &[u8], start: usize) -> bool
     requires inside { start + 4 < length octets.now }

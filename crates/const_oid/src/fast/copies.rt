@@ -8,7 +8,7 @@ pub(crate) fn copy_to(octets: &[u8], out: &mut [u8])
     requires { length octets.now ≤ length out.old }
     ensures { out.new ≡ octets.now ++ drop (length octets.now) out.old }
 {
-    // The usual lengths take two loads and stores, and no call of `memcpy`.
+    // Up to 64 octets take two loads and stores, and no call of `memcpy`.
     match octets.len() {
         2..=4 => copy_ends::<2>(octets, out),
         5..=8 => copy_ends::<4>(octets, out),
