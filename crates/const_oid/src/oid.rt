@@ -627,6 +627,7 @@ impl<const MAX_SIZE: usize> ObjectIdentifier<MAX_SIZE> {
     /// let (short, long) = (ObjectIdentifier::new_unwrap("2.5"), ObjectIdentifier::new_unwrap("1.2.3"));
     /// assert!(long.cmp_arcs(&short).is_lt() && short < long);
     /// ```
+    // erase: const
     pub fn cmp_arcs<const SIZE: usize>(&self, other: &ObjectIdentifier<SIZE>) -> Ordering
         ensures { result ≡ slice_cmp nat_cmp (oid_arcs self.now) (oid_arcs other.now) }
     {
