@@ -33,9 +33,9 @@ def words_of(*paths):
 
 def is_in_source(name, words):
     """Whether a name is in the sources: that of a module of the library in this module."""
-    module, *rest = name.split("::")
-    path = LIBRARY / f"src/{module}.rt"
-    return rest[-1] in words_of(path) if rest and path.exists() else words.issuperset(name.split("::"))
+    *modules, last = name.split("::")
+    paths = [path for module in modules for path in LIBRARY.glob(f"src/**/{module}.rt")]
+    return last in words_of(paths[-1]) if paths else words.issuperset(name.split("::"))
 
 
 def faults():

@@ -67,8 +67,8 @@ fn generated() -> Checked<Vec<File>> {
 fn for_c() -> Checked<Vec<File>> {
     let mut calls = Vec::new();
     for path in listed(FOR_C) {
-        let module = path.rsplit(['/', '.']).nth(1).unwrap_or("");
-        calls.extend(Call::all(module, &read(&path)?));
+        let module = path[FOR_C.len() + 1..].trim_end_matches(".rt").replace('/', "::");
+        calls.extend(Call::all(&module, &read(&path)?));
     }
     let rust = |text: String| laid_out(&headed(FOR_C, &text));
     let list = calls::list(&calls)?;
@@ -78,7 +78,7 @@ fn for_c() -> Checked<Vec<File>> {
     ])
 }
 
-/// The files of the modules of a crate.
+/// The files of the modules of a crate. The modules that `fast` declares are in the folder `fast`.
 fn modules(table: &Crate) -> Checked<Vec<File>> {
     let mut files = Vec::new();
     let mut counts = vec![0; table.edits.len()];
@@ -87,9 +87,9 @@ fn modules(table: &Crate) -> Checked<Vec<File>> {
         let path = format!("{}/{module}.rt", table.from);
         let (rust, declared) =
             module_of(&read(&path)?, table, &module, &mut counts).map_err(|fault| at(&path, &fault))?;
-        let name = if module == "lib" { "mod" } else { &module };
+        let (name, folder) = if module == "lib" { ("mod", String::new()) } else { (&*module, format!("{module}/")) };
         files.push((format!("{}/{name}.rs", table.to), laid_out(&headed(&path, &rust))?));
-        left.extend(declared);
+        left.extend(declared.iter().map(|name| format!("{folder}{name}")));
     }
     edit::all_made(table, &counts).map_err(|fault| at(table.from, &fault))?;
     Ok(files)
@@ -145,11 +145,12 @@ fn read(path: &str) -> Checked<String> {
     fs::read_to_string(from_top(path)).map_err(|error| format!("{path}: {error}"))
 }
 
-/// The files of a folder, in order.
+/// The files of a folder and of those in it, in order.
 fn listed(folder: &str) -> Vec<String> {
     let entries = fs::read_dir(from_top(folder)).into_iter().flatten().flatten();
-    let mut out: Vec<String> =
-        entries.map(|entry| format!("{folder}/{}", entry.file_name().to_string_lossy())).collect();
+    let paths = entries.map(|entry| format!("{folder}/{}", entry.file_name().to_string_lossy()));
+    let files = |path: String| if from_top(&path).is_dir() { listed(&path) } else { vec![path] };
+    let mut out: Vec<String> = paths.flat_map(files).collect();
     out.sort();
     out
 }
@@ -171,8 +172,14 @@ fn others(files: &[File]) -> Vec<String> {
 
 /// Writes the files, and removes others beside them. Returns the failures.
 fn written(files: &[File]) -> Vec<String> {
-    let written = files.iter().map(|(path, rust)| (path.clone(), fs::write(from_top(path), rust)));
+    let written = files.iter().map(|(path, rust)| (path.clone(), write(&from_top(path), rust)));
     let removed = others(files).into_iter().map(|path| (path.clone(), fs::remove_file(from_top(&path))));
     let faults = written.chain(removed).filter_map(|(path, result)| Some((path, result.err()?)));
     faults.map(|(path, error)| format!("{path}: {error}")).collect()
+}
+
+/// Writes a file, in a folder that may be missing.
+fn write(path: &Path, text: &str) -> io::Result<()> {
+    path.parent().map_or(Ok(()), fs::create_dir_all)?;
+    fs::write(path, text)
 }

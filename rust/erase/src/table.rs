@@ -13,7 +13,8 @@ pub struct Crate {
 
 /// An edit.
 pub struct Edit {
-    /// The module in which `old` occurs once; with `*` after it, any number of times; nothing is any number in all.
+    /// The module in which `old` occurs once, by its path (`fast/lanes`); with `*` after it, any number of times; nothing
+    /// is any number in all.
     pub module: &'static str,
     pub old: &'static str,
     pub new: &'static str,
