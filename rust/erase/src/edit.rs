@@ -1,22 +1,22 @@
 //! Applies edits: tokens that other tokens replace.
 
-use crate::table::Crate;
-use crate::token::{Fault, Result};
-use crate::token::{Token, tokens};
+use crate::table::{Crate, Edit};
+use crate::token::{Result, Token, tokens};
 
-/// The tokens with `new` in place of `old`, and how often. Neither space nor comments are compared.
-pub fn replaced<'a>(source: &[Token<'a>], old: &'a str, new: &'a str) -> Result<(Vec<Token<'a>>, usize)> {
+/// The tokens with `new` in place of `old`, and the line of each place. Neither space nor comments are compared.
+pub fn replaced<'a>(source: &[Token<'a>], old: &'a str, new: &'a str) -> Result<(Vec<Token<'a>>, Vec<usize>)> {
     let (old, new) = (tokens(old)?, tokens(new)?);
     let old: Vec<&str> = old.iter().filter(|token| !token.is_blank()).map(|token| token.text).collect();
-    let mut out = Vec::new();
-    let (mut at, mut count) = (0, 0);
+    let (mut out, mut lines) = (Vec::new(), Vec::new());
+    let mut at = 0;
     while at < source.len() {
         match end_of(&source[at..], &old) {
             Some(len) => {
+                let line = source[at].line;
+                lines.push(line);
+                out.extend(new.iter().map(|token| Token { line, ..*token }));
                 let is_gap = new.is_empty() && source.get(at + len).is_some_and(Token::is_space);
                 at += len + usize::from(is_gap);
-                count += 1;
-                out.extend_from_slice(&new);
             }
             None => {
                 out.push(source[at]);
@@ -24,7 +24,7 @@ pub fn replaced<'a>(source: &[Token<'a>], old: &'a str, new: &'a str) -> Result<
             }
         }
     }
-    Ok((out, count))
+    Ok((out, lines))
 }
 
 /// The length of the tokens that a source begins with, if they are these.
@@ -44,65 +44,39 @@ fn end_of(source: &[Token<'_>], texts: &[&str]) -> Option<usize> {
     None
 }
 
-/// The tokens of a module after the edits of the table. Each edit adds to its count.
-pub fn edited<'a>(source: Vec<Token<'a>>, table: &Crate, module: &str, counts: &mut [usize]) -> Result<Vec<Token<'a>>> {
+/// The lines where each edit of a table is made.
+pub type Places = Vec<Vec<usize>>;
+
+/// The tokens of a module after the edits of the table. Each edit adds to its places.
+pub fn edited<'a>(source: Vec<Token<'a>>, table: &Crate, module: &str, places: &mut Places) -> Result<Vec<Token<'a>>> {
     let mut out = replaced(&source, "crate::", table.root)?.0;
-    for (edit, total) in table.edits.iter().zip(counts) {
+    for (edit, all) in table.edits.iter().zip(places) {
         if edit.module.is_empty() || edit.module.trim_end_matches('*') == module {
-            let count;
-            (out, count) = replaced(&out, edit.old, edit.new)?;
-            *total += count;
+            let lines;
+            (out, lines) = replaced(&out, edit.old, edit.new)?;
+            all.extend(lines);
         }
     }
     Ok(out)
 }
 
-/// Rejects an edit that was not made, or that was made twice where `old` occurs once.
-pub fn all_made(table: &Crate, counts: &[usize]) -> Result<()> {
-    for (edit, count) in table.edits.iter().zip(counts) {
-        let is_once = !edit.module.is_empty() && !edit.module.ends_with('*');
-        if *count == 0 || (*count > 1 && is_once) {
-            let words = format!("the table has `{}` ({}), which is there {count} times", edit.old, edit.why);
-            return Err(Fault::new(0, words));
-        }
-    }
-    Ok(())
+/// Rejects edits that were not made, or that were made twice where `old` occurs once.
+pub fn all_made(table: &Crate, places: &Places) -> std::result::Result<(), String> {
+    let edits = table.edits.iter().zip(places);
+    let faults: Vec<String> = edits.filter_map(|(edit, lines)| fault_of(edit, lines, table.from)).collect();
+    if faults.is_empty() { Ok(()) } else { Err(faults.join("\n")) }
 }
 
-#[cfg(test)]
-mod tests {
-    use super::*;
-    use crate::table::Edit;
-    use crate::token::text;
-
-    fn text_of(source: &str, old: &'static str, new: &'static str) -> (String, usize) {
-        let out = replaced(&tokens(source).unwrap(), old, new).map(|(out, count)| (text(&out), count));
-        out.unwrap()
-    }
-
-    #[test]
-    fn replaces_each_place_by_tokens() {
-        let source = "a[b, // c\n b] a[ b]ab";
-        let expect = |text: &str, count| (text.to_string(), count);
-        assert_eq!(text_of(source, "a [b]", "x"), expect("a[b, // c\n b] xab", 1));
-        assert_eq!(text_of(source, "b", "c"), expect("a[c, // c\n c] a[ c]ab", 3));
-        assert_eq!(text_of(source, "b,b", ""), expect("a[] a[ b]ab", 1));
-        assert_eq!(text_of("mod a; // c", "mod a;", ""), expect("// c", 1));
-        assert_eq!(text_of(source, "ab b", "x"), expect(source, 0));
-    }
-
-    #[test]
-    fn each_edit_has_its_places() {
-        let edit = |module| Edit { module, old: "a", new: "b", why: "c" };
-        let edits: &'static [Edit] = Vec::leak(vec![edit(""), edit("m"), edit("m*")]);
-        let table = Crate { from: "", to: "", root: "x::", edits };
-        let mut counts = [0, 0, 0];
-        for (module, source) in [("l", "a a"), ("m", "crate::b")] {
-            edited(tokens(source).unwrap(), &table, module, &mut counts).unwrap();
-        }
-        assert_eq!(counts, [2, 0, 0]);
-        assert!(all_made(&table, &[2, 0, 1]).is_err() && all_made(&table, &[2, 2, 1]).is_err());
-        assert!(all_made(&table, &[2, 1, 0]).is_err());
-        assert!(all_made(&table, &[2, 1, 2]).is_ok());
-    }
+/// What is wrong with the places of an edit.
+fn fault_of(edit: &Edit, lines: &[usize], folder: &str) -> Option<String> {
+    let module = edit.module.trim_end_matches('*');
+    let is_once = !module.is_empty() && module == edit.module;
+    let file = if module.is_empty() { folder.into() } else { format!("{folder}/{module}.rt") };
+    let found = match lines {
+        [] => "is nowhere in it".into(),
+        [_, _, ..] if is_once => format!("is in its lines {lines:?}, and must be there once"),
+        _ => return None,
+    };
+    let old = edit.old.split_whitespace().collect::<Vec<_>>().join(" ");
+    Some(format!("rust/erase/src/table.rs: an edit of {file} replaces `{old}` ({}), which {found}", edit.why))
 }

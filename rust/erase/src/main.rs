@@ -14,6 +14,7 @@ mod table;
 mod token;
 
 use calls::Call;
+use edit::Places;
 use std::io::Write;
 use std::path::{Path, PathBuf};
 use std::process::{Command, ExitCode, Stdio};
@@ -31,21 +32,28 @@ const C_CALLS: &str = "crates/const_oid_c/tests/calls.h";
 /// A path from the top of the repository, and the text of its file.
 type File = (String, String);
 
-/// A fault in words.
+/// Faults in words, a line each.
 type Checked<T> = std::result::Result<T, String>;
 
 fn main() -> ExitCode {
     let arguments: Vec<String> = env::args().skip(1).collect();
-    let faults = match &arguments[..] {
-        [] => generated().map(|files| written(&files)),
-        [flag] if flag == "--check" => generated().map(|files| differing(&files)),
+    let said = match &arguments[..] {
+        [] => generated().and_then(|files| summary(files.len(), "are written", &written(&files))),
+        [flag] if flag == "--check" => {
+            generated().and_then(|files| summary(files.len(), "are as generated", &differing(&files)))
+        }
         _ => Err("erase [--check]".into()),
     };
-    let faults = faults.unwrap_or_else(|fault| vec![fault]);
-    for fault in &faults {
-        eprintln!("{fault}");
+    match &said {
+        Ok(words) => println!("{words}"),
+        Err(faults) => eprintln!("{faults}"),
     }
-    ExitCode::from(u8::from(!faults.is_empty()))
+    ExitCode::from(u8::from(said.is_err()))
+}
+
+/// What files are, or a line for each fault.
+fn summary(count: usize, are: &str, faults: &[String]) -> Checked<String> {
+    if faults.is_empty() { Ok(format!("erase: {count} files {are}")) } else { Err(faults.join("\n")) }
 }
 
 /// The files to write, or the first fault with its file and line.
@@ -81,24 +89,24 @@ fn for_c() -> Checked<Vec<File>> {
 /// The files of the modules of a crate. The modules that `fast` declares are in the folder `fast`.
 fn modules(table: &Crate) -> Checked<Vec<File>> {
     let mut files = Vec::new();
-    let mut counts = vec![0; table.edits.len()];
+    let mut places = vec![Vec::new(); table.edits.len()];
     let mut left = vec![String::from("lib")];
     while let Some(module) = left.pop() {
         let path = format!("{}/{module}.rt", table.from);
         let (rust, declared) =
-            module_of(&read(&path)?, table, &module, &mut counts).map_err(|fault| at(&path, &fault))?;
+            module_of(&read(&path)?, table, &module, &mut places).map_err(|fault| at(&path, &fault))?;
         let (name, folder) = if module == "lib" { ("mod", String::new()) } else { (&*module, format!("{module}/")) };
-        files.push((format!("{}/{name}.rs", table.to), laid_out(&headed(&path, &rust))?));
+        files.push((format!("{}/{name}.rs", table.to), headed(&path, &rust)));
         left.extend(declared.iter().map(|name| format!("{folder}{name}")));
     }
-    edit::all_made(table, &counts).map_err(|fault| at(table.from, &fault))?;
-    Ok(files)
+    edit::all_made(table, &places)?;
+    files.into_iter().map(|(path, rust)| Ok((path, laid_out(&rust)?))).collect()
 }
 
 /// The Rust of a source, and the modules that it declares.
-fn module_of(source: &str, table: &Crate, module: &str, counts: &mut [usize]) -> Result<(String, Vec<String>)> {
+fn module_of(source: &str, table: &Crate, module: &str, places: &mut Places) -> Result<(String, Vec<String>)> {
     let tokens = erase::erase(&token::tokens(source)?)?;
-    let tokens = edit::edited(tokens, table, module, counts)?;
+    let tokens = edit::edited(tokens, table, module, places)?;
     Ok((tokens.iter().map(|token| token.text).collect(), erase::modules(&tokens)))
 }
 

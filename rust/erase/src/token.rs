@@ -6,9 +6,8 @@
 pub type Result<T> = std::result::Result<T, Fault>;
 
 /// A fault of a source, and its line.
-#[derive(Debug)]
 pub struct Fault {
-    /// Counted from 1, or 0 for a fault of no line.
+    /// Counted from 1.
     pub line: usize,
     pub words: String,
 }
@@ -19,7 +18,7 @@ impl Fault {
     }
 }
 
-#[derive(Clone, Copy, Debug)]
+#[derive(Clone, Copy)]
 pub struct Token<'a> {
     pub text: &'a str,
     pub line: usize,
@@ -149,39 +148,4 @@ pub fn solid(tokens: &[Token<'_>], from: usize) -> usize {
 /// Whether the token at an index is this one.
 pub fn is(tokens: &[Token<'_>], at: usize, text: &str) -> bool {
     tokens.get(at).is_some_and(|token| token.text == text)
-}
-
-/// The source of tokens.
-#[cfg(test)]
-pub fn text(tokens: &[Token<'_>]) -> String {
-    tokens.iter().map(|token| token.text).collect()
-}
-
-#[cfg(test)]
-mod tests {
-    use super::*;
-
-    fn solid_texts(source: &str) -> Vec<&str> {
-        let all = tokens(source).unwrap();
-        assert_eq!(text(&all), source);
-        let solid = all.into_iter().filter(|token| !token.is_blank());
-        solid.map(|token| token.text).collect()
-    }
-
-    #[test]
-    fn reads_quotes_and_names() {
-        assert_eq!(solid_texts(r#"b'.' '\'' 'a "}\"" b"x" bee"#), ["b'.'", r"'\''", "'a", r#""}\"""#, "b\"x\"", "bee"]);
-        assert_eq!(solid_texts("λ a. a' ≡ 1 // {\n"), ["λ", "a", ".", "a", "'", "≡", "1"]);
-    }
-
-    #[test]
-    fn faults_have_their_lines() {
-        let line = |source| tokens(source).unwrap_err().line;
-        assert_eq!(line("fn f() {\n\n)"), 3);
-        assert_eq!(line("\nfn f() {"), 2);
-        assert_eq!(line("}"), 1);
-        for source in ["\n\"x", "\nr\"}\"", "\nbr#\"\"#", "\nc\"x\"", "\n/* { */"] {
-            assert_eq!(line(source), 2);
-        }
-    }
 }
