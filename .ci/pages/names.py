@@ -11,7 +11,7 @@ from pages.page import CALLING, LIBRARY, PAGES, SPAN, TOP, defined_in, fault, pr
 NAME = re.compile(r"[A-Za-z_]\w*(?:::\w+)*")
 OF_FILE = r"(?P<names>(?:`\w+`(?:,\s|\sand\s)?)+)\sof\s`specs/(?P<file>\w+)\.antt`"
 LEMMAS = r"^- (?P<names>[^:]*):"
-SOURCES = ["crates/*/[sp]*/**/*.rt", "crates/*/[sp]*/**/*.antt", "crates/*/include/*.h", "rust/*/src/**/*.rs"]
+SOURCES = ["crates/*/[sp]*/**/*.rt", "crates/*/[sp]*/**/*.antt", "crates/*/include/*.h", "rust/*/[st]*/**/*.rs"]
 SOURCES += ["python/src/const_oid/*.py"]
 
 
