@@ -187,6 +187,7 @@ mod db {
         Database::entries(&table);
         Database::len(&table);
         SortedDatabase::new(&[(CN.as_oid_ref(), "cn")]);
+        SortedDatabase::try_new(&[(CN.as_oid_ref(), "cn")]);
         SortedDatabase::entries(&sorted);
         SortedDatabase::len(&sorted);
     }
