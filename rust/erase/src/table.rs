@@ -117,12 +117,11 @@ pub const CRATES: &[Crate] = &[
             "digits": "pub(crate) fn utf8" => "#[allow(unsafe_code)]\npub(crate) fn utf8",
                 "bytes that are UTF-8 become a text without a check: the crate denies other unsafe code";
             "text": "out[at..at + MAX_ARC_LEN]" => "out[at..][..MAX_ARC_LEN]", "the same part in fewer instructions";
-            "parts": "use core::simd::Simd; use core::simd::prelude::*;" => "", LANES;
-            "parts": "let lanes = Simd::<u8, COUNT>::from_slice(octets).simd_lt(Simd::splat(128));
+            "fast/lanes": "use core::simd::Simd; use core::simd::prelude::*;" => "", LANES;
+            "fast/lanes": "let lanes = Simd::<u8, COUNT>::from_slice(octets).simd_lt(Simd::splat(128));
                         lanes.to_bitmask().count_ones() as usize"
                 => "octets.iter().filter(|octet| **octet < 128).count()", LANES;
-            "buffer": "use crate::erased::copies::copy_parts;" => "use crate::erased::parts::copy_to;", SMALL;
-            "buffer": "copy_parts(octets, &mut buffer.bytes)" => "copy_to(octets, &mut buffer.bytes)", SMALL;
+            "buffer": "fast::copies::copy_to" => "parts::copy_to", SMALL;
             "buffer": "#[derive(Copy, Clone)] pub struct Buffer"
                 => "#[derive(Copy, Clone, PartialEq, Eq)]\npub struct Buffer", EQUALITY;
             "buffer": "impl<const SIZE: usize> PartialEq for Buffer<SIZE> {

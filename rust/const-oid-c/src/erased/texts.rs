@@ -12,7 +12,7 @@ use core::str;
 pub fn const_oid_from_text(text: &[u8], out: &mut crate::edge::Output<u8>) -> Status {
     // An identifier of the usual capacity is quicker to make.
     let mut octets = [0; 39];
-    match const_oid::internal_for_const_oid_c::parse_usual(text, &mut octets) {
+    match const_oid::internal_for_const_oid_c::from_ascii_in_39(text, &mut octets) {
         Ok(oid) => write_bytes(oid.as_bytes(), out),
         Err(fault) => write_other(fault, text, out),
     }

@@ -4,10 +4,10 @@
 
 use crate::erased::Arc;
 use crate::erased::base128::append_group;
-use crate::erased::compare::{are_arrays_equal, order};
 use crate::erased::encoder::encode_to;
 use crate::erased::error::{Error, Result};
-use crate::erased::parser::parse_to;
+use crate::erased::fast::comparison::{are_arrays_equal, order};
+use crate::erased::parser::parse_to_inlined;
 use crate::erased::parts::copy_to;
 use core::cmp::Ordering;
 use core::hash::{Hash, Hasher};
@@ -47,7 +47,7 @@ impl<const SIZE: usize> Buffer<SIZE> {
     #[inline(always)]
     pub(crate) const fn parsed(text: &[u8]) -> Result<Self> {
         let mut buffer = Buffer::empty();
-        match parse_to(text, &mut buffer.bytes, Self::capacity()) {
+        match parse_to_inlined(text, &mut buffer.bytes, Self::capacity()) {
             Ok(len) => {
                 buffer.used = len as u8;
                 Ok(buffer)
@@ -73,7 +73,7 @@ impl<const SIZE: usize> Buffer<SIZE> {
         buffer
     }
 
-    /// The first octets in use, so many of them.
+    /// The first `len` octets in use.
     #[inline(always)]
     pub(crate) fn truncated(&self, len: usize) -> Self {
         // Zeros are stored in the copy itself: a second copy would wait for that store.
@@ -125,11 +125,10 @@ impl<const SIZE: usize> Buffer<SIZE> {
         self.used as usize
     }
 
-    /// Whether the octets in use are equal. This is for constants: there a slice costs the compiler.
-    pub(crate) const fn is_same(&self, other: &Self) -> bool {
+    /// Whether the octets in use are equal, one by one: this is for constants, in which a slice costs the compiler.
+    pub(crate) const fn eq_by_octet(&self, other: &Self) -> bool {
         let len = other.used as usize;
-        // Most entries of a table differ in this octet, while the branch by the length would be mispredicted for many:
-        // so a lookup that reads all entries takes half the time.
+        // Most entries of a table differ in this octet, while a branch by the length would be mispredicted for many.
         if len > 0 && self.bytes[len - 1] != other.bytes[len - 1] {
             return false;
         }

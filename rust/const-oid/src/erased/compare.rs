@@ -2,8 +2,9 @@
 
 //! How slices of octets and names compare.
 
+use crate::erased::fast::comparison::{are_equal, lesser, order_of, same_start, same_until};
+use crate::erased::fast::words::WORD_OCTETS;
 use crate::erased::parts::{first_octets, without_last_part};
-use crate::erased::words::{HALF, WORD, half_word, word};
 use core::cmp::Ordering;
 
 /// Whether octets begin with others.
@@ -13,119 +14,11 @@ pub(crate) const fn begins_with(octets: &[u8], prefix: &[u8]) -> bool {
         return false;
     }
     let (start, _) = octets.split_at(prefix.len());
-    if prefix.len() < WORD {
+    if prefix.len() < WORD_OCTETS {
         // The first octet first, since most identifiers begin with a prefix or differ at its start.
         return same_until(prefix, start, 0, prefix.len()) == prefix.len();
     }
     are_equal(prefix, start)
-}
-
-/// The first index from `start` on at which the octets differ, or `end`. The octets from there on have the orders of
-/// all octets.
-#[inline(always)]
-const fn same_until(a: &[u8], b: &[u8], start: usize, end: usize) -> usize {
-    let mut index = start;
-    while index < end {
-        if a[index] != b[index] {
-            return index;
-        }
-        index += 1;
-    }
-    end
-}
-
-/// Whether octets are the same. The last octet is compared first, since most pairs differ there, then the last word,
-/// and then the words before it, which may overlap it. Fewer octets than a word are compared one by one.
-#[inline(always)]
-pub(crate) const fn are_equal(a: &[u8], b: &[u8]) -> bool {
-    let len = a.len();
-    if len != b.len() {
-        return false;
-    }
-    if len < WORD {
-        return are_few_equal(a, b);
-    }
-    if a[len - 1] != b[len - 1] {
-        return false;
-    }
-    if word(a, len - WORD) != word(b, len - WORD) {
-        return false;
-    }
-    first_unequal(a, b, len - WORD).is_none()
-}
-
-/// The first two words that differ, of those that begin before `end`.
-#[inline(always)]
-const fn first_unequal(a: &[u8], b: &[u8], end: usize) -> Option<(u64, u64)> {
-    let mut at = 0;
-    while at < end {
-        let (x, y) = (word(a, at), word(b, at));
-        if x != y {
-            return Some((x, y));
-        }
-        at += WORD;
-    }
-    None
-}
-
-/// Whether slices of one length have the same octets, without a branch for each word: for arrays, whose few words the
-/// compiler compares at once.
-#[inline(always)]
-pub(crate) const fn are_arrays_equal(a: &[u8], b: &[u8]) -> bool {
-    let len = a.len();
-    if len < WORD {
-        return are_few_equal(a, b);
-    }
-    let mut same = true;
-    let mut at = 0;
-    while at < len - WORD {
-        same &= word(a, at) == word(b, at);
-        at += WORD;
-    }
-    same & (word(a, len - WORD) == word(b, len - WORD))
-}
-
-/// Whether slices of one length have the same octets: the last one first, since most pairs differ there.
-#[inline(always)]
-const fn are_few_equal(a: &[u8], b: &[u8]) -> bool {
-    let mut left = a.len();
-    while left > 0 {
-        left -= 1;
-        if a[left] != b[left] {
-            return false;
-        }
-    }
-    true
-}
-
-/// The lexicographic order of octets: by words, of which the last may overlap the one before, or one by one if there
-/// are fewer than a word has.
-#[inline(always)]
-pub(crate) fn order(a: &[u8], b: &[u8]) -> Ordering {
-    let near = a.len().min(b.len());
-    if near < WORD {
-        return order_few(a, b);
-    }
-    let last = near - WORD;
-    if let Some((x, y)) = first_unequal(a, b, last) {
-        return x.cmp(&y);
-    }
-    let (x, y) = (word(a, last), word(b, last));
-    if x != y {
-        return x.cmp(&y);
-    }
-    a.len().cmp(&b.len())
-}
-
-/// The lexicographic order of octets, one by one.
-#[inline(always)]
-fn order_few(a: &[u8], b: &[u8]) -> Ordering {
-    let near = a.len().min(b.len());
-    let i = same_until(a, b, 0, near);
-    if i < near {
-        return a[i].cmp(&b[i]);
-    }
-    a.len().cmp(&b.len())
 }
 
 /// The lexicographic order of subidentifiers, a shorter one before a longer one: of valid octets, that of their arcs. If
@@ -135,17 +28,17 @@ fn order_few(a: &[u8], b: &[u8]) -> Ordering {
 /// the longer one, and an octet that ends its subidentifier decides.
 #[inline]
 #[must_use]
-pub fn order_by_parts(a: &[u8], b: &[u8]) -> Ordering {
-    let near = a.len().min(b.len());
+pub const fn order_by_parts(a: &[u8], b: &[u8]) -> Ordering {
+    let near = lesser(a.len(), b.len());
     let i = same_until(a, b, same_start(a, b), near);
     if i == near {
-        return a.len().cmp(&b.len());
+        return order_of(a.len(), b.len());
     }
     if a[i] < 128 || b[i] < 128 {
-        return a[i].cmp(&b[i]);
+        return order_of(a[i] as usize, b[i] as usize);
     }
     match order_of_lens(a, b, i) {
-        Ordering::Equal => a[i].cmp(&b[i]),
+        Ordering::Equal => order_of(a[i] as usize, b[i] as usize),
         unequal => unequal,
     }
 }
@@ -153,8 +46,8 @@ pub fn order_by_parts(a: &[u8], b: &[u8]) -> Ordering {
 /// The order of the lengths of the subidentifiers that begin at an index. They are read in turn, which takes fewer
 /// instructions than to count both.
 #[inline(always)]
-fn order_of_lens(a: &[u8], b: &[u8], start: usize) -> Ordering {
-    let near = a.len().min(b.len());
+const fn order_of_lens(a: &[u8], b: &[u8], start: usize) -> Ordering {
+    let near = lesser(a.len(), b.len());
     let mut index = start;
     while index < near {
         if a[index] < 128 {
@@ -165,12 +58,12 @@ fn order_of_lens(a: &[u8], b: &[u8], start: usize) -> Ordering {
         }
         index += 1;
     }
-    a.len().cmp(&b.len())
+    order_of(a.len(), b.len())
 }
 
 /// Whether a subidentifier ends at an index: its octet is below 128, or the last one.
 #[inline(always)]
-fn ends_at(octets: &[u8], index: usize) -> bool {
+const fn ends_at(octets: &[u8], index: usize) -> bool {
     octets[index] < 128 || index + 1 == octets.len()
 }
 
@@ -182,19 +75,6 @@ pub(crate) fn common_parts<'a>(octets: &'a [u8], others: &[u8]) -> &'a [u8] {
         return octets;
     }
     without_last_part(first_octets(octets, same + 1))
-}
-
-/// How many of the first octets are known to be the same: a word, half a word or none.
-#[inline(always)]
-fn same_start(a: &[u8], b: &[u8]) -> usize {
-    let near = a.len().min(b.len());
-    if near >= WORD && word(a, 0) == word(b, 0) {
-        WORD
-    } else if near >= HALF && half_word(a) == half_word(b) {
-        HALF
-    } else {
-        0
-    }
 }
 
 /// Whether names are the same. Lengths are compared first, and bytes before their case.

@@ -56,9 +56,10 @@ impl<'a> Database<'a> {
     /// The database with an index in lent memory: a lookup reads a few entries, and not all, and returns the same, for as
     /// long as the memory is lent.
     ///
-    /// Four numbers for each entry are a good length. Fewer than 3n + 3, for n entries, make no index by name, and n or
-    /// fewer, or more than 65,535 entries, none at all. An index that the database has, as `DB` does, stays if it is no
-    /// shorter. None is made in which some lookup would read over a quarter of the entries and two: a scan is faster.
+    /// Four numbers for each of three entries or more are a good length. Fewer than 3n + 3, for n entries, make no index by
+    /// name, and n or fewer, or more than 65,535 entries, none at all. An index that the database has, as `DB` does, stays
+    /// if it is no shorter. None is made in which some lookup would read over a quarter of the entries and two: a scan is
+    /// faster.
     ///
     /// # Examples
     ///
@@ -67,7 +68,7 @@ impl<'a> Database<'a> {
     ///
     /// const CN: ObjectIdentifier = ObjectIdentifier::new_unwrap("2.5.4.3");
     /// let entries = [(&CN, "cn"), (&CN, "commonName")];
-    /// let mut place = [0; 8];
+    /// let mut place = [0; 9];
     /// let names = Database::new(&entries).indexed(&mut place);
     /// assert_eq!(names.by_name("commonname"), Some(&CN));
     /// ```
@@ -84,8 +85,8 @@ impl<'a> Database<'a> {
 
     /// The name in the first entry with this identifier, or `None` if there is no such entry.
     ///
-    /// A borrowed identifier, or one of another capacity, is copied first, by `try_into`: if it does not fit, it is not in
-    /// the table.
+    /// Copy a borrowed identifier first, by `ObjectIdentifier::try_from(oid)`, and one of another capacity by
+    /// `ObjectIdentifier::try_from(oid.as_oid_ref())`. What does not fit is not in the table.
     ///
     /// # Examples
     ///
@@ -131,7 +132,7 @@ impl<'a> Database<'a> {
         None
     }
 
-    /// All names of this identifier, in the order of the table. A name comes as often as its entries.
+    /// All names of this identifier, in the order of the table. A name of several entries comes as often.
     ///
     /// # Examples
     ///
@@ -213,5 +214,5 @@ impl<'a> Iterator for Names<'a> {
 
 /// Whether an entry has this identifier.
 const fn has_oid(entry: &(&ObjectIdentifier, &str), oid: &ObjectIdentifier) -> bool {
-    entry.0.is_same(oid)
+    entry.0.eq_by_octet(oid)
 }

@@ -60,8 +60,17 @@ impl<'a> SortedDatabase<'a> {
     /// # Ok::<(), const_oid::Error>(())
     /// ```
     #[must_use]
-    pub fn try_new(entries: &'a [Entry<'a>]) -> Option<Self> {
-        if entries.is_sorted_by(|a, b| a.0.cmp_arcs(&b.0).is_le()) { Some(SortedDatabase { entries }) } else { None }
+    pub const fn try_new(entries: &'a [Entry<'a>]) -> Option<Self> {
+        let mut index = 1;
+        while index < entries.len() {
+            let previous = &entries[index - 1];
+            let next = &entries[index];
+            if next.0.cmp_arcs(&previous.0).is_lt() {
+                return None;
+            }
+            index += 1;
+        }
+        Some(SortedDatabase { entries })
     }
 
     /// The name in the first entry with this identifier, or `None` if there is no such entry.

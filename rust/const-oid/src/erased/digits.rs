@@ -54,13 +54,13 @@ fn write_digits(arc: Arc, out: &mut [u8], at: usize) -> usize {
         return write_one(arc, out, at);
     }
     if arc < 10_000 {
-        return write_few(arc, out, at);
+        return write_up_to_four(arc, out, at);
     }
     let high = arc / 10_000;
     let at = if high < 10_000 {
-        write_few(high, out, at)
+        write_up_to_four(high, out, at)
     } else {
-        let at = write_few(high / 10_000, out, at);
+        let at = write_up_to_four(high / 10_000, out, at);
         write_four(high % 10_000, out, at)
     };
     write_four(arc % 10_000, out, at)
@@ -68,7 +68,7 @@ fn write_digits(arc: Arc, out: &mut [u8], at: usize) -> usize {
 
 /// Writes the digits of a number, of which there are no more than four.
 #[inline]
-fn write_few(number: u32, out: &mut [u8], at: usize) -> usize {
+fn write_up_to_four(number: u32, out: &mut [u8], at: usize) -> usize {
     if number < 10 {
         return write_one(number, out, at);
     }
@@ -130,8 +130,8 @@ pub(crate) fn write_bytes(bytes: &[u8], out: &mut [u8], at: usize) -> usize {
     end
 }
 
-/// Writes the digits of an arc at the end of an array, and returns the index of the first. It takes more time than
-/// [`write_arc`]. With that one in its place, all calls in one program take a fifth more code at opt-level s.
+/// Writes the digits of an arc at the end of an array, and returns the index of the first. Slower than [`write_arc`], and
+/// less code: the row `all` of SPEED's sizes.
 #[inline]
 pub(crate) fn write_last_digits(arc: Arc, out: &mut [u8; MAX_DIGITS]) -> usize {
     let mut at = MAX_DIGITS;

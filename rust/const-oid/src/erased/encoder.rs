@@ -8,24 +8,24 @@ use crate::erased::error::{Error, Result};
 use crate::erased::parts::copy_to;
 use crate::erased::root::{check_first, join_root};
 
-/// `encode_to` of a slice of arcs, which is compiled once for all calls with octets of any length.
+/// `encode_to` of a slice of arcs, which is compiled once for all calls.
 #[inline(never)]
-pub(crate) fn encode_long(arcs: &[Arc], out: &mut [u8], capacity: usize) -> Result<usize> {
+pub(crate) fn encode_slice(arcs: &[Arc], out: &mut [u8], capacity: usize) -> Result<usize> {
     encode_to(arcs.iter().copied(), out, capacity)
 }
 
 /// The most arcs that are encoded on the stack.
-pub(crate) const SHORT_ARCS: usize = 12;
+pub(crate) const ONE_PASS_ARCS: usize = 12;
 
 /// The most octets that they take, five for each.
-const SHORT_OCTETS: usize = 5 * SHORT_ARCS;
+const ONE_PASS_OCTETS: usize = 5 * ONE_PASS_ARCS;
 
-/// Writes the encoding of a few arcs to the start of a slice, if it fits, and returns its length. On an error the slice is
-/// unchanged.
-// One pass in place of two for a few arcs: the octets are made on the stack.
-pub(crate) fn encode_short(arcs: &[Arc], out: &mut [u8]) -> Result<usize> {
-    let mut octets = [0; SHORT_OCTETS];
-    let len = encode_long(arcs, &mut octets, out.len().min(SHORT_OCTETS))?;
+/// Writes the encoding of at most 12 arcs to the start of a slice, if it fits, and returns its length. On an error the
+/// slice is unchanged.
+// One pass in place of two: the octets are made on the stack.
+pub(crate) fn encode_in_one_pass(arcs: &[Arc], out: &mut [u8]) -> Result<usize> {
+    let mut octets = [0; ONE_PASS_OCTETS];
+    let len = encode_slice(arcs, &mut octets, out.len().min(ONE_PASS_OCTETS))?;
     copy_to(&octets[..len], out);
     Ok(len)
 }

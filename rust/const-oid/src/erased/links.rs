@@ -43,8 +43,8 @@ pub(crate) const fn links_of<const SIZE: usize>(entries: &[(&ObjectIdentifier, &
     links
 }
 
-/// Whether a slot with this first entry has at most so many entries.
-fn is_short(links: &[u16], count: usize, first: usize, most: usize) -> bool {
+/// Whether a slot with this first entry has at most `most` entries.
+fn has_at_most(links: &[u16], count: usize, first: usize, most: usize) -> bool {
     let mut index = first;
     for _ in 0..most {
         if index >= count {
@@ -58,11 +58,11 @@ fn is_short(links: &[u16], count: usize, first: usize, most: usize) -> bool {
 /// Whether no slot has more than a quarter of the entries and two. No clause says so: it decides only what lookups cost.
 fn is_spread(links: &[u16], count: usize) -> bool {
     let mut firsts = links.iter().skip(count);
-    firsts.all(|first| is_short(links, count, *first as usize, count / 4 + 2))
+    firsts.all(|first| has_at_most(links, count, *first as usize, count / 4 + 2))
 }
 
-/// The links of entries in lent memory, or these: if that is no longer, the entries are too many, or the links would be
-/// slower than a scan. A processor waits for each link of a slot before it reads the next one.
+/// New links of entries in lent memory. The links that there are, if the memory has no more numbers than these, the
+/// entries are too many, or a scan is faster: a processor waits for each link of a slot before it reads the next one.
 pub(crate) fn links_in<'a>(
     entries: &[(&ObjectIdentifier, &str)],
     by_name: bool,

@@ -16,6 +16,7 @@ mod digits;
 mod element;
 mod encoder;
 pub mod error;
+mod fast;
 #[cfg(feature = "db")]
 pub(crate) mod links;
 pub mod oid;
@@ -25,10 +26,8 @@ mod parts;
 mod root;
 // Its functions are for the other crates: Rust hides them.
 pub mod search;
-mod steps;
 mod text;
 mod valid;
-mod words;
 
 pub use arcs::Arcs;
 pub use buffer::Buffer;

@@ -5,9 +5,9 @@
 use crate::erased::Arc;
 use crate::erased::arcs::Arcs;
 use crate::erased::buffer::Buffer;
-use crate::erased::compare::are_equal;
 use crate::erased::element::split_element;
 use crate::erased::error::{Error, Result};
+use crate::erased::fast::comparison::are_equal;
 use crate::erased::oid_ref::ObjectIdentifierRef;
 use core::cmp::Ordering;
 use core::fmt;
@@ -472,8 +472,8 @@ impl<const MAX_SIZE: usize> ObjectIdentifier<MAX_SIZE> {
     }
 
     /// Whether the arcs are the same. Constants call this in place of `==`, which takes the compiler longer.
-    pub(crate) const fn is_same(&self, other: &Self) -> bool {
-        self.ber.is_same(&other.ber)
+    pub(crate) const fn eq_by_octet(&self, other: &Self) -> bool {
+        self.ber.eq_by_octet(&other.ber)
     }
 
     /// Whether the arcs begin with all those of another identifier: whether the other one is this one or an ancestor of
@@ -520,7 +520,7 @@ impl<const MAX_SIZE: usize> ObjectIdentifier<MAX_SIZE> {
     /// assert!(long.cmp_arcs(&short).is_lt() && short < long);
     /// ```
     #[must_use]
-    pub fn cmp_arcs<const SIZE: usize>(&self, other: &ObjectIdentifier<SIZE>) -> Ordering {
+    pub const fn cmp_arcs<const SIZE: usize>(&self, other: &ObjectIdentifier<SIZE>) -> Ordering {
         self.as_oid_ref().cmp_arcs(&other.as_oid_ref())
     }
 }

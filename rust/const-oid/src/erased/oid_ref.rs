@@ -5,15 +5,17 @@
 use crate::erased::Arc;
 use crate::erased::arcs::{Arcs, arc_at};
 use crate::erased::base128::read_group;
-use crate::erased::compare::{are_equal, begins_with, order, order_by_parts};
+use crate::erased::compare::{begins_with, order_by_parts};
 use crate::erased::digits::{MAX_ARC_LEN, utf8, write_arc};
 use crate::erased::element::{element_len, split_element, write_element};
-use crate::erased::encoder::{SHORT_ARCS, encode_long, encode_short};
+use crate::erased::encoder::{ONE_PASS_ARCS, encode_in_one_pass, encode_slice};
 use crate::erased::error::{Error, Result};
-use crate::erased::parser::{SHORT_TEXT, parse_long, parse_short, parse_to};
-use crate::erased::parts::{count_parts, without_last_part};
+use crate::erased::fast::comparison::{are_equal, order};
+use crate::erased::fast::lanes::count_parts;
+use crate::erased::fast::steps::run_of;
+use crate::erased::parser::{ONE_PASS_BYTES, parse_in_one_pass, parse_to, parse_to_inlined};
+use crate::erased::parts::without_last_part;
 use crate::erased::root::split_root;
-use crate::erased::steps::run_of;
 use crate::erased::text::{text_len, write_checked, write_text};
 use crate::erased::valid::check;
 use core::cmp::Ordering;
@@ -270,7 +272,7 @@ impl ObjectIdentifierRef {
     /// Those of [`new`](crate::ObjectIdentifier::new), with [`Error::Length`] if the arcs take more octets than
     /// `limit`.
     pub(crate) fn bytes_len_from_ascii(text: &[u8], limit: usize) -> Result<usize> {
-        parse_long(text, &mut [], limit)
+        parse_to(text, &mut [], limit)
     }
 
     /// Parses dotted text in ASCII, of any length, and writes its contents octets to the start of `out`. Returns how many
@@ -281,13 +283,13 @@ impl ObjectIdentifierRef {
     /// Those of [`new`](crate::ObjectIdentifier::new), with [`Error::Length`] if the arcs take more octets than `out`
     /// has. It is then unchanged.
     pub(crate) fn bytes_from_ascii(text: &[u8], out: &mut [u8]) -> Result<usize> {
-        if text.len() <= SHORT_TEXT {
-            return parse_short(text, out);
+        if text.len() <= ONE_PASS_BYTES {
+            return parse_in_one_pass(text, out);
         }
         let capacity = out.len();
         // The octets are counted first, so that on an error none is written.
-        parse_long(text, &mut [], capacity)?;
-        parse_long(text, out, capacity)
+        parse_to(text, &mut [], capacity)?;
+        parse_to(text, out, capacity)
     }
 
     /// Counts the contents octets of arcs, any number of them. They are at most five for each arc.
@@ -297,7 +299,7 @@ impl ObjectIdentifierRef {
     /// Those of [`from_arcs`](crate::ObjectIdentifier::from_arcs), with [`Error::Length`] if the arcs take more octets
     /// than `limit`.
     pub(crate) fn bytes_len_from_arcs(arcs: &[Arc], limit: usize) -> Result<usize> {
-        encode_long(arcs, &mut [], limit)
+        encode_slice(arcs, &mut [], limit)
     }
 
     /// Encodes arcs, any number of them, and writes the contents octets to the start of `out`. Returns how many there
@@ -308,12 +310,12 @@ impl ObjectIdentifierRef {
     /// Those of [`from_arcs`](crate::ObjectIdentifier::from_arcs), with [`Error::Length`] if the arcs take more octets
     /// than `out` has. It is then unchanged.
     pub(crate) fn bytes_from_arcs(arcs: &[Arc], out: &mut [u8]) -> Result<usize> {
-        if arcs.len() <= SHORT_ARCS {
-            return encode_short(arcs, out);
+        if arcs.len() <= ONE_PASS_ARCS {
+            return encode_in_one_pass(arcs, out);
         }
         let capacity = out.len();
-        encode_long(arcs, &mut [], capacity)?;
-        encode_long(arcs, out, capacity)
+        encode_slice(arcs, &mut [], capacity)?;
+        encode_slice(arcs, out, capacity)
     }
 
     /// Parses dotted text in ASCII, of any length, and borrows the octets that it writes at the start of `out`. They are
@@ -339,15 +341,15 @@ impl ObjectIdentifierRef {
         Ok(ObjectIdentifierRef::from_checked(&out[..len]))
     }
 
-    /// Parses dotted text in ASCII into 39 octets, the usual capacity, in one pass, and borrows those of its identifier. On
-    /// `Err`, `out` may be changed.
+    /// Parses dotted text in ASCII into 39 octets, the default capacity, in one pass, and borrows those of its
+    /// identifier. On `Err`, `out` may be changed.
     ///
     /// # Errors
     ///
     /// Those of [`new`](crate::ObjectIdentifier::new).
     #[inline(always)]
-    pub(crate) fn parse_usual<'a>(text: &[u8], out: &'a mut [u8; 39]) -> Result<&'a Self> {
-        let len = parse_to(text, out, 39)?;
+    pub(crate) fn from_ascii_in_39<'a>(text: &[u8], out: &'a mut [u8; 39]) -> Result<&'a Self> {
+        let len = parse_to_inlined(text, out, 39)?;
         Ok(ObjectIdentifierRef::from_checked(&out[..len]))
     }
 
@@ -439,7 +441,7 @@ impl ObjectIdentifierRef {
     /// ```
     #[inline]
     #[must_use]
-    pub fn cmp_arcs(&self, other: &ObjectIdentifierRef) -> Ordering {
+    pub const fn cmp_arcs(&self, other: &ObjectIdentifierRef) -> Ordering {
         order_by_parts(self.as_bytes(), other.as_bytes())
     }
 
@@ -469,11 +471,11 @@ impl ObjectIdentifierRef {
         (from, from + inside)
     }
 
-    /// Writes the text: in one piece, unless it is long.
-    // Over `arcs()` it takes up to a fifth more instructions.
+    /// Writes the text: that of 40 octets or fewer at once.
+    // Not over `arcs()`, for fewer instructions: the row "Display" of SPEED.
     #[inline]
-    fn write_pieces(&self, f: &mut fmt::Formatter<'_>) -> fmt::Result {
-        let mut text = [0; PIECE_LEN];
+    fn write_in_chunks(&self, f: &mut fmt::Formatter<'_>) -> fmt::Result {
+        let mut text = [0; CHUNK_BYTES];
         let (root, mut rest) = read_group(self.as_bytes());
         let (first, mut arc) = split_root(root);
         text[0] = b'0' + first as u8;
@@ -484,7 +486,7 @@ impl ObjectIdentifierRef {
             if rest.is_empty() {
                 return f.write_str(utf8(&text, at));
             }
-            if at > PIECE_LEN - MAX_ARC_LEN {
+            if at > CHUNK_BYTES - MAX_ARC_LEN {
                 f.write_str(utf8(&text, at))?;
                 at = 0;
             }
@@ -495,24 +497,24 @@ impl ObjectIdentifierRef {
     }
 }
 
-/// The text of so many octets is always written at once.
-const PIECE: usize = 40;
+/// How many octets' text is written at once.
+const CHUNK_OCTETS: usize = 40;
 
 /// The most bytes of that text, and of one more arc.
-const PIECE_LEN: usize = 4 * PIECE + MAX_ARC_LEN;
+const CHUNK_BYTES: usize = 4 * CHUNK_OCTETS + MAX_ARC_LEN;
 
 /// The arcs in decimal, joined by dots. Width, fill, sign and precision are ignored: to fill a column, print
 /// `oid.to_string()`.
 impl fmt::Display for ObjectIdentifierRef {
     fn fmt(&self, f: &mut fmt::Formatter<'_>) -> fmt::Result {
-        self.write_pieces(f)
+        self.write_in_chunks(f)
     }
 }
 
 impl fmt::Debug for ObjectIdentifierRef {
     fn fmt(&self, f: &mut fmt::Formatter<'_>) -> fmt::Result {
         f.write_str("ObjectIdentifierRef(")?;
-        self.write_pieces(f)?;
+        self.write_in_chunks(f)?;
         f.write_str(")")
     }
 }

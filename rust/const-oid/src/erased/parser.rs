@@ -12,21 +12,21 @@ use crate::erased::parts::copy_to;
 use crate::erased::root::{check_first, join_root};
 use core::result;
 
-/// `parse_to`, which is compiled once for all calls with octets of any length.
+/// `parse_to_inlined`, which is compiled once for all calls.
 #[inline(never)]
-pub(crate) fn parse_long(text: &[u8], out: &mut [u8], capacity: usize) -> Result<usize> {
-    parse_to(text, out, capacity)
+pub(crate) fn parse_to(text: &[u8], out: &mut [u8], capacity: usize) -> Result<usize> {
+    parse_to_inlined(text, out, capacity)
 }
 
 /// The most bytes of a text that is parsed on the stack, and the most octets that it takes.
-pub(crate) const SHORT_TEXT: usize = 64;
+pub(crate) const ONE_PASS_BYTES: usize = 64;
 
-/// Writes the encoding of the identifier that a short text denotes to the start of a slice, if it fits, and returns its
-/// length. On an error the slice is unchanged.
-// One pass in place of two for short texts: the octets are made on the stack.
-pub(crate) fn parse_short(text: &[u8], out: &mut [u8]) -> Result<usize> {
-    let mut octets = [0; SHORT_TEXT];
-    let len = parse_long(text, &mut octets, out.len().min(SHORT_TEXT))?;
+/// Writes the encoding of the identifier that a text of at most 64 bytes denotes to the start of a slice, if it fits, and
+/// returns its length. On an error the slice is unchanged.
+// One pass in place of two: the octets are made on the stack.
+pub(crate) fn parse_in_one_pass(text: &[u8], out: &mut [u8]) -> Result<usize> {
+    let mut octets = [0; ONE_PASS_BYTES];
+    let len = parse_to(text, &mut octets, out.len().min(ONE_PASS_BYTES))?;
     copy_to(&octets[..len], out);
     Ok(len)
 }
@@ -34,7 +34,7 @@ pub(crate) fn parse_short(text: &[u8], out: &mut [u8]) -> Result<usize> {
 /// Writes the encoding of the identifier that a text denotes to the start of a slice, if it fits a capacity, and returns
 /// its length. Into a slice that is shorter than the capacity nothing is written: the octets are counted alone.
 #[inline(always)]
-pub(crate) const fn parse_to(text: &[u8], out: &mut [u8], capacity: usize) -> Result<usize> {
+pub(crate) const fn parse_to_inlined(text: &[u8], out: &mut [u8], capacity: usize) -> Result<usize> {
     let (number, mut end) = match read_root(text) {
         Ok(root) => root,
         Err(fault) => return Err(fault),
@@ -100,7 +100,7 @@ const fn read_piece(text: &[u8], start: usize) -> result::Result<(Arc, usize), u
         return Err(start);
     }
     let mut index = start + 1;
-    // The shortest component is the most frequent one.
+    // A component of one digit is the most frequent one.
     if index < text.len() && text[index] == b'.' {
         return Ok((first as Arc, index));
     }

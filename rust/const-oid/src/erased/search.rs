@@ -6,9 +6,10 @@
 //! unspecified, but within the list.
 
 pub use crate::erased::compare::order_by_parts;
-use crate::erased::compare::{are_equal, begins_with, common_parts};
+use crate::erased::compare::{begins_with, common_parts};
+use crate::erased::fast::comparison::are_equal;
+use crate::erased::fast::steps::run_of;
 use crate::erased::oid_ref::ObjectIdentifierRef;
-use crate::erased::steps::run_of;
 use core::result;
 
 /// An item that has contents octets, which need not be valid.
