@@ -25,7 +25,8 @@ type Entry<'a> = (ObjectIdentifierRef<'a>, &'a str);
 /// use const_oid::{ObjectIdentifier, db::SortedDatabase};
 ///
 /// const COLUMN: ObjectIdentifier = ObjectIdentifier::new_unwrap("1.3.6.1.2.1.2.2.1.10");
-/// const NAMES: SortedDatabase<'static> = SortedDatabase::new(&[(COLUMN.as_oid_ref(), "ifInOctets")]);
+/// const NAMES: SortedDatabase<'static> =
+///     SortedDatabase::try_new(&[(COLUMN.as_oid_ref(), "ifInOctets")]).expect("in the order of arcs");
 /// assert_eq!(NAMES.nearest(&COLUMN.push_arc(3)?).unwrap().1, "ifInOctets");
 /// # Ok::<(), const_oid::Error>(())
 /// ```
