@@ -1,11 +1,11 @@
 -- Sorted tables of names: lists in the order of arcs, whose items are entries.
 use Rattle.std.proofs.Common.{◌≡◌, ◌+◌, ◌-◌, ◌<◌, ◌≤◌, ℕ, Bool, true, false, List, length}
 use Rattle.std.proofs.Common.{take, drop, get_or, Option, Some, nat_cmp, sym, arith, Bor, slice_get}
-use Rattle.std.specs.{Prelude.{◌↔◌, IfSome}, Cmp.Lexicographic.slice_cmp, Ordering.is_le}
+use Rattle.std.specs.{Prelude.{◌↔◌, IfSome}, Cmp.Lexicographic.slice_cmp}
 use Rattle.std.specs.List.{HoldsAt, IsFirstMatchOrLen, find}
 use Rattle.std.specs.List.Sorted.{IsPartitionPoint, IsSortedByKey}
 use Rattle.std.specs.Option.{MatchOption, option_copied}
-use Rattle.std.proofs.lemmas.{Cmp.nat_list_cmp_total, List.take-append-drop, List.Folds.find_at}
+use Rattle.std.proofs.lemmas.{List.take-append-drop, List.Folds.find_at}
 use Rattle.std.proofs.lemmas.{List.Elements.All-append, Grind.common_steps}
 use Rattle.std.proofs.lemmas.{List.Sums.{fails_before_first, passes_at_first}, Option.{gets, slice_get_cases}}
 use Rattle.const_oid.specs.{declared.oid_ref.ObjectIdentifierRef.ObjectIdentifierRef, OidRef.ref_octets}
@@ -71,12 +71,3 @@ module _ (entries : List (Entry ObjectIdentifierRef)) (arcs : List ℕ) where
             let index = from + (count + k) in
             grind (arith, common_steps, slice_get_cases entries index, between index));
       }
-
-abbrev pub in_order : Entry ObjectIdentifierRef → Entry ObjectIdentifierRef → Bool
-in_order a b = is_le (slice_cmp nat_cmp (entry_arcs a) (entry_arcs b))
-
--- a list that descends is not sorted
-pub descends : (entries : List (Entry ObjectIdentifierRef)) (k : ℕ) → k + 1 < length entries
-    → ((d : Entry ObjectIdentifierRef) → false ≡ in_order (get_or entries k d) (get_or entries (k + 1) d))
-    → IsSortedByKey entry_arcs (slice_cmp nat_cmp) entries → ⊥
-descends entries k l down up = grind (arith, nat_list_cmp_total, slice_get_cases entries k)

@@ -1,4 +1,4 @@
-use Rattle.std.proofs.Common.{◌≡◌, ◌-◌, ◌<◌, length}
+use Rattle.std.proofs.Common.{◌-◌, ◌<◌, length}
 use Rattle.std.specs.{Cmp.Lexicographic.slice_cmp, Ordering.{nat_cmp, is_lt}, List.Sorted.IsSortedWithin}
 use Rattle.const_oid.specs.Names.{entry_arcs}
 use Rattle.const_oid.proofs.db_sorted.SortedDatabase.try_new.Given as goal
