@@ -8,7 +8,7 @@ abbrev pub value_256 : List ℕ → ℕ
 value_256 [] = 0
 value_256 (x ∷ xs) = x * 256 ^ length xs + value_256 xs
 
--- the octets are the length octets of a number: the short form below 128, and else the long form, whose first octet is 128 and the number of those that follow, and not 255; the next octet is not 0, so they are the fewest
+-- the octets are the length octets of a number: the short form below 128, and else the long form, whose first octet is 128 plus how many follow, and not 255; the next octet is not 0, so they are the fewest
 abbrev pub IsLength : ℕ → List ℕ → Type 0
 IsLength n [] = ⊥
 IsLength n (x ∷ []) = (n < 128) × (x ≡ n)

@@ -29,7 +29,7 @@ pub(crate) fn read_group(octets: &[u8]) -> (u64, &[u8])
 #[inline(never)]
 fn read_two_to_five(octets: &[u8]) -> (u64, &[u8])
     requires valid { parts_fault root_rule (cut octets.now) ≡ None }
-    requires long { 128 ≤ slice_index octets.now 0 }
+    requires more { 128 ≤ slice_index octets.now 0 }
     ensures { IsFirst octets.now result.0 result.1.now }
 {
     // The arms that return 0 are not reached, since a subidentifier of valid octets ends, within five octets.

@@ -8,7 +8,7 @@ ghost use Rattle.const_oid.specs.Orders.{parts_cmp};
 ghost use Rattle.const_oid.specs.Private.Octets.{lens_cmp, length_at};
 ghost use Rattle.const_oid.specs.Private.Prefixes.{IsCommonPrefix};
 
-use crate::fast::comparison::{are_equal, lesser, order_of, same_start, same_until};
+use crate::fast::comparison::{are_equal, lesser, order_of_numbers, same_start, same_until};
 use crate::fast::words::WORD_OCTETS;
 use crate::parts::{first_octets, without_last_part};
 use std::cmp::Ordering;
@@ -36,8 +36,8 @@ pub(crate) fn begins_with(octets: &[u8], prefix: &[u8]) -> bool
 ///
 /// At the first octet that differs, both subidentifiers began at the same index. So the one with more octets left is
 /// the longer one, and an octet that ends its subidentifier decides.
-#[tactic(auto, using(crate::proofs::ByParts::ended_parts))]
 // erase: const
+#[tactic(auto, using(crate::proofs::ByParts::ended_parts))]
 #[inline]
 pub fn order_by_parts(a: &[u8], b: &[u8]) -> Ordering
     ensures { result ≡ parts_cmp a.now b.now }
@@ -45,19 +45,18 @@ pub fn order_by_parts(a: &[u8], b: &[u8]) -> Ordering
     let near = lesser(a.len(), b.len());
     let i = same_until(a, b, same_start(a, b), near);
     if i == near {
-        return order_of(a.len(), b.len());
+        return order_of_numbers(a.len(), b.len());
     }
     if a[i] < 128 || b[i] < 128 {
-        return order_of(a[i] as usize, b[i] as usize);
+        return order_of_numbers(a[i] as usize, b[i] as usize);
     }
     match order_of_lens(a, b, i) {
-        Ordering::Equal => order_of(a[i] as usize, b[i] as usize),
+        Ordering::Equal => order_of_numbers(a[i] as usize, b[i] as usize),
         unequal => unequal,
     }
 }
 
-/// The order of the lengths of the subidentifiers that begin at an index. They are read in turn, which takes fewer
-/// instructions than to count both.
+/// The order of the lengths of the subidentifiers that begin at an index. They are read in turn.
 // erase: const
 #[inline(always)]
 fn order_of_lens(a: &[u8], b: &[u8], start: usize) -> Ordering
@@ -83,12 +82,12 @@ fn order_of_lens(a: &[u8], b: &[u8], start: usize) -> Ordering
         }
         index += 1;
     }
-    order_of(a.len(), b.len())
+    order_of_numbers(a.len(), b.len())
 }
 
 /// Whether a subidentifier ends at an index: its octet is below 128, or the last one.
-#[tactic(auto, using(crate::proofs::ByParts::part_ends))]
 // erase: const
+#[tactic(auto, using(crate::proofs::ByParts::part_ends))]
 #[inline(always)]
 fn ends_at(octets: &[u8], index: usize) -> bool
     requires { index < length octets.now }

@@ -60,7 +60,8 @@ impl<'a> SortedDatabase<'a> {
         SortedDatabase { entries }
     }
 
-    /// A database over these entries, or `None` if they are not sorted.
+    /// A database over these entries, or `None` if they are not in the order of arcs. Entries of one identifier may follow
+    /// each other. In a constant, `.expect(..)` makes a wrong order an error of the compiler.
     ///
     /// # Examples
     ///

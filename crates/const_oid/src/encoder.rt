@@ -13,7 +13,7 @@ use crate::error::{Error, Result};
 use crate::parts::copy_to;
 use crate::root::{check_first, join_root};
 
-/// `encode_to` of a slice of arcs, which is compiled once for all calls.
+/// `encode_to` of a slice of arcs, but not inlined: it is compiled once for all calls.
 #[tactic(auto, using(crate::proofs::TakesItems::list_answer))]
 #[inline(never)]
 pub(crate) fn encode_slice(arcs: &[Arc], out: &mut [u8], capacity: usize) -> Result<usize>

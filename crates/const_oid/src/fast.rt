@@ -1,8 +1,8 @@
-//! What makes the library fast, apart from what it does: octets are counted, copied and compared many at once, and lists
-//! searched by steps that grow. The contracts say nothing of how.
+//! The fast forms: octets are counted, copied and compared many at once, and lists are searched by steps that grow. What
+//! other modules call has the contract of a plain loop, but for `word` and `half_word`.
 
 pub(crate) mod comparison;
-// In Rust, these copies would take two hundred octets of flash.
+// Not in Rust, for less code: there, buffers copy by `parts::copy_to`.
 // erase: omit
 pub(crate) mod copies;
 pub(crate) mod lanes;

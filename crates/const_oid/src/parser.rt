@@ -16,7 +16,7 @@ use crate::parts::copy_to;
 use crate::root::{check_first, join_root};
 use std::result;
 
-/// `parse_to_inlined`, which is compiled once for all calls.
+/// `parse_to_inlined`, but not inlined: it is compiled once for all calls.
 #[inline(never)]
 pub(crate) fn parse_to(text: &[u8], out: &mut [u8], capacity: usize) -> Result<usize>
     ensures { let answer = text_answer root_rule text.now capacity in

@@ -1,5 +1,5 @@
 //! Subidentifiers in octets: where they begin, and where they end. In names, they are `parts`. What is left after the last
-//! octet below 128 is a part, too.
+//! octet below 128 is a part, too. Also the first octets of a slice, and a copy by a loop.
 
 ghost use Rattle.std.specs.Prelude.{◌≡◌, ◌-◌, ◌≤◌, length, take, drop, ◌++◌};
 ghost use Rattle.const_oid.specs.Contents.{cut};

@@ -42,7 +42,7 @@ pub(crate) fn check(octets: &[u8]) -> Result<()>
 #[inline(always)]
 fn two_or_more_end(octets: &[u8], start: usize) -> Result<usize>
     requires inside { start < length octets.now }
-    requires long { 128 ≤ slice_index octets.now start }
+    requires more { 128 ≤ slice_index octets.now start }
     ensures { EndsAt octets.now start result }
 {
     // The octet is 128. Its remainder compiles to fewer instructions.
@@ -65,7 +65,7 @@ fn two_or_more_end(octets: &[u8], start: usize) -> Result<usize>
 #[inline(always)]
 fn five_end(octets: &[u8], start: usize) -> Result<usize>
     requires inside { start < length octets.now }
-    requires long { IsPastFour (drop start octets.now) }
+    requires past_four { IsPastFour (drop start octets.now) }
     ensures { EndsAt octets.now start result }
 {
     let last = start + 4;
@@ -91,7 +91,7 @@ fn five_end(octets: &[u8], start: usize) -> Result<usize>
 #[inline(always)]
 fn is_in_range(octets: &[u8], start: usize) -> bool
     requires inside { start + 4 < length octets.now }
-    requires long { IsPastFour (drop start octets.now) }
+    requires past_four { IsPastFour (drop start octets.now) }
     ensures { IsTrue result ↔ (value_of (take 5 (drop start octets.now)) ≤ limit_at start) }
 {
     octets[start] < 0x90 || start == 0 && half_word(octets) == 0x9080_8080 && octets[4] % 128 < 80

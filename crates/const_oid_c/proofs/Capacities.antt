@@ -1,4 +1,4 @@
--- A result at the usual capacity is the result at 255 octets, unless it is the fault `Length`.
+-- A result at the default capacity is the result at 255 octets, unless it is the fault `Length`.
 use Rattle.std.proofs.Common.{◌≡◌, ◌≢◌, ℕ, ◌≤◌, List, [], ◌∷◌, ◌++◌, refl, arith, Ok, Err, ap, sym, ◌∙◌}
 use Rattle.std.specs.Prelude.{Option, Some, Result}
 use Rattle.std.proofs.lemmas.Bool.Decides.{nat_tests}

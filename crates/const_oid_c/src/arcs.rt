@@ -58,7 +58,7 @@ pub extern "C" fn const_oid_from_arcs(arcs: &[u32], out: &mut [u8]) -> Status
     ensures enough { 5 * length arcs.now ≤ length out.old → result.code ≢ 10 }
     ensures no_length { result.code ≢ 6 }
 {
-    // An identifier of the usual capacity is quicker to make.
+    // An identifier of the default capacity is quicker to make.
     let small = encoded::<39>(arcs);
     if is_too_long(&small) {
         return write_large(arcs, out);

@@ -19,7 +19,7 @@ pub extern "C" fn const_oid_from_text(text: &[u8], out: &mut [u8]) -> Status
     ensures enough { length text.now ≤ length out.old → result.code ≢ 10 }
     ensures no_length { result.code ≢ 6 }
 {
-    // An identifier of the usual capacity is quicker to make.
+    // An identifier of the default capacity is quicker to make.
     let mut octets = [0; 39];
     match ObjectIdentifierRef::from_ascii_in_39(text, &mut octets) {
         Ok(oid) => write_bytes(oid.as_bytes(), out),
@@ -28,7 +28,7 @@ pub extern "C" fn const_oid_from_text(text: &[u8], out: &mut [u8]) -> Status
 }
 
 /// Writes the contents octets of the identifier that dotted text denotes, or reports why there is none. The fault is that
-/// of the text at the usual capacity.
+/// of the text at the default capacity.
 #[tactic(auto, using(crate::proofs::Writes::texts, crate::proofs::Capacities::same_text))]
 #[cold]
 #[inline(never)]

@@ -86,7 +86,7 @@ fn for_c() -> Checked<Vec<File>> {
     ])
 }
 
-/// The files of the modules of a crate. The modules that `fast` declares are in the folder `fast`.
+/// The files of the modules of a crate. A module of `fast` is `fast/NAME`, here and in the table.
 fn modules(table: &Crate) -> Checked<Vec<File>> {
     let mut files = Vec::new();
     let mut places = vec![Vec::new(); table.edits.len()];

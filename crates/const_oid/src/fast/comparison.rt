@@ -1,4 +1,4 @@
-//! Equality and order of octets, by words.
+//! Equality and order of octets, by words, and below a word by octets.
 
 ghost use Rattle.std.specs.Prelude.{◌≡◌, ◌≢◌, ◌+◌, ◌<◌, ◌≤◌, length, slice_index, take, drop, min, nat_eq, MatchOption};
 ghost use Rattle.std.specs.Cmp.Lexicographic.{pointwise, slice_cmp};
@@ -165,7 +165,7 @@ pub(crate) const fn same_until(a: &[u8], b: &[u8], start: usize, end: usize) -> 
     end
 }
 
-/// The lesser of two lengths, in constants, too.
+/// The lesser of two numbers: `usize::min` is not for constants.
 #[inline(always)]
 pub(crate) const fn lesser(a: usize, b: usize) -> usize
     ensures { result ≡ min a b }
@@ -173,9 +173,9 @@ pub(crate) const fn lesser(a: usize, b: usize) -> usize
     if a < b { a } else { b }
 }
 
-/// The order of two numbers, in constants, too.
+/// The order of two numbers: `usize::cmp` is not for constants.
 #[inline(always)]
-pub(crate) const fn order_of(a: usize, b: usize) -> Ordering
+pub(crate) const fn order_of_numbers(a: usize, b: usize) -> Ordering
     ensures { result ≡ nat_cmp a b }
 {
     if a < b {

@@ -1,8 +1,8 @@
-//! Octets that are copied in parts of constant size.
+//! Octets copied by two copies of constant length, which may overlap.
 
 ghost use Rattle.std.specs.Prelude.{◌≡◌, ◌++◌, ◌*◌, ◌≤◌, length, drop};
 
-/// Copies octets to the start of as many or more.
+/// Copies octets to the start of as many or more, as `parts::copy_to` does by a loop.
 #[inline(always)]
 pub(crate) fn copy_to(octets: &[u8], out: &mut [u8])
     requires { length octets.now ≤ length out.old }
@@ -27,7 +27,7 @@ fn copy_ends<const SIZE: usize>(octets: &[u8], out: &mut [u8])
     requires room { length octets.now ≤ length out.old }
     ensures { out.new ≡ octets.now ++ drop (length octets.now) out.old }
 {
-    // The length of each part is a constant, so the compiler copies it without a loop or a call.
+    // The length of each copy is a constant, so the compiler copies it without a loop or a call.
     let last = octets.len() - SIZE;
     out[..SIZE].copy_from_slice(&octets[..SIZE]);
     out[last..last + SIZE].copy_from_slice(&octets[last..last + SIZE]);

@@ -1,11 +1,12 @@
-//! Octets counted in lanes.
+//! How many subidentifiers octets have, counted in lanes. In names, they are `parts`.
 
 ghost use Rattle.std.specs.Prelude.{◌≡◌, ◌+◌, ◌<◌, ◌≤◌, length, count_by, nat_lt};
 
 use std::simd::Simd;
 use std::simd::prelude::*;
 
-/// How many octets are below 128. No branch depends on an octet, so none is mispredicted.
+/// How many octets are below 128: of valid octets, how many subidentifiers. No branch depends on an octet, so none is
+/// mispredicted.
 #[inline]
 pub(crate) fn count_parts(octets: &[u8]) -> usize
     ensures value { result ≡ count_by (λ x. nat_lt x 128) octets.now }

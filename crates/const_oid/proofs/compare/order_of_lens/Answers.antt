@@ -11,5 +11,5 @@ loop-index-preserved c = record {
 
 pub returns : goal.returns
 returns c =
-    c.order_of.ensures ∙ sym (lens_ended c.args.a.now c.args.b.now c.loop-index.index (omega arith))
+    c.order_of_numbers.ensures ∙ sym (lens_ended c.args.a.now c.args.b.now c.loop-index.index (omega arith))
     ∙ sym c.loop-index.invariant.same

@@ -15,7 +15,7 @@ returns-then-octets-start-lt128 c = (
       c.loop-len.invariant.1 c.if-octets-start-lt128.true refl,
 )
 
-pub five_end-requires-clause-long : goal.five_end-requires-clause-long
-five_end-requires-clause-long c =
+pub five_end-requires-clause-past_four : goal.five_end-requires-clause-past_four
+five_end-requires-clause-past_four c =
     long_at c.args.octets.now c.args.start c.loop-len.len (omega arith) (omega arith)
     (omega (arith, c.type_inv.octets c.args.start)) c.loop-len.invariant.1

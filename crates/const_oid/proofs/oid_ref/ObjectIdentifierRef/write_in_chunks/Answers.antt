@@ -49,9 +49,9 @@ pub returns-then-is_empty : goal.returns-then-is_empty
 returns-then-is_empty g c flush ok =
     let (low, small, ascii, valid, before, written, text) = c.loop-rest.invariant in
     let w = c.write_arc-at.ensures in
-    let piece = take c.write_arc-at.result c.write_arc-at.new.out in
+    let chunk = take c.write_arc-at.result c.write_arc-at.new.out in
     let none = nil_from_length c.loop-rest.rest.now (grind (arith, nat_tests)) in
-    let all = arc_written before _ piece c.loop-rest.arc [] w.prefix ∙ rw none at text in
+    let all = arc_written before _ chunk c.loop-rest.arc [] w.prefix ∙ rw none at text in
     rw (← (rw append-nil at all)) (has_written_styled_append _ _ _ _ _ _ (written flush)
     (rw c.utf8-2.ensures at (c.write_str.ensures.styled (written flush).flush ok)))
 
@@ -77,13 +77,13 @@ loop-rest-preserved g c =
     let (low, small, ascii, valid, before, written, text) = l.invariant in
     let (values, number, after) = c.read_group-number.ensures in
     let prefix = c.write_arc-at.ensures.prefix in
-    let piece = take c.write_arc-at.result c.write_arc-at.new.out in
+    let chunk = take c.write_arc-at.result c.write_arc-at.new.out in
     -- the arc is written
-    let text = ap (λ arcs. (before ++ piece) ++ text_left false arcs) (sym values)
-    ∙ arc_written before _ piece l.arc _ prefix ∙ text in
-    let ascii : IsAscii piece = rw prefix (IsAscii-append _ _ ascii (arc_text_ascii false l.arc (omega arith))) in
+    let text = ap (λ arcs. (before ++ chunk) ++ text_left false arcs) (sym values)
+    ∙ arc_written before _ chunk l.arc _ prefix ∙ text in
+    let ascii : IsAscii chunk = rw prefix (IsAscii-append _ _ ascii (arc_text_ascii false l.arc (omega arith))) in
     let small = later_small _ _ _ valid values in
-    -- the piece is written if it is full
+    -- the chunk is written if it is full
     elim c.if-at.branch [
       | then-at+in_ok-write_str w ↦
           rw (w.at-is, w.f-is) (
@@ -91,7 +91,7 @@ loop-rest-preserved g c =
             small,
             IsAscii-nil,
             after,
-            before ++ piece,
+            before ++ chunk,
             λ flush. has_written_styled_append _ _ _ _ _ _ (written flush)
                 (rw w.utf8-then-at.ensures at (w.in_ok-write_str.ensures.styled (written flush).flush refl)),
             rw append-nil text,

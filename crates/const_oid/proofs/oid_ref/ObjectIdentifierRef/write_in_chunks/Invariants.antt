@@ -4,7 +4,7 @@ use Rattle.const_oid.specs.{Base128.value_of, Contents.{cut, later_fault}, Ident
 use Rattle.const_oid.specs.{OidRef.ref_arcs, Text.text_of, Private.Text.text_left}
 use Rattle.const_oid.proofs.oid_ref.ObjectIdentifierRef.write_in_chunks.Given as goal
 
--- what is written, the piece, and the text of the arc and of those left, are the text of all
+-- what is written, the chunk, and the text of the arc and of those left, are the text of all
 abbrev pub invariant-loop-rest : goal.invariant-loop-rest
 invariant-loop-rest g l =
     (l.at ≤ 160) × (l.arc ≤ max_arc) × IsAscii (take l.at l.text) × (later_fault (cut l.rest) ≡ None) × (before : List ℕ)
