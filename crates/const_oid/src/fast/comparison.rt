@@ -178,11 +178,10 @@ pub(crate) const fn lesser(a: usize, b: usize) -> usize
 pub(crate) const fn order_of_numbers(a: usize, b: usize) -> Ordering
     ensures { result ≡ nat_cmp a b }
 {
-    if a < b {
-        Ordering::Less
-    } else if a == b {
-        Ordering::Equal
-    } else {
-        Ordering::Greater
+    // Two branches in its place take more instructions: SPEED's table of searches.
+    match (a > b) as i8 - (a < b) as i8 {
+        -1 => Ordering::Less,
+        0 => Ordering::Equal,
+        _ => Ordering::Greater,
     }
 }

@@ -36,7 +36,7 @@ pub fn const_oid_arc(octets: &[u8], index: usize) -> Status {
 
 /// Writes the contents octets of arcs.
 pub fn const_oid_from_arcs(arcs: &[u32], out: &mut crate::edge::Output<u8>) -> Status {
-    // An identifier of the usual capacity is quicker to make.
+    // An identifier of the default capacity is quicker to make.
     let small = encoded::<39>(arcs);
     if is_too_long(&small) {
         return write_large(arcs, out);

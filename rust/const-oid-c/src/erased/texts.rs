@@ -10,7 +10,7 @@ use core::str;
 
 /// Writes the contents octets of the identifier that dotted text denotes.
 pub fn const_oid_from_text(text: &[u8], out: &mut crate::edge::Output<u8>) -> Status {
-    // An identifier of the usual capacity is quicker to make.
+    // An identifier of the default capacity is quicker to make.
     let mut octets = [0; 39];
     match const_oid::internal_for_const_oid_c::from_ascii_in_39(text, &mut octets) {
         Ok(oid) => write_bytes(oid.as_bytes(), out),
@@ -19,7 +19,7 @@ pub fn const_oid_from_text(text: &[u8], out: &mut crate::edge::Output<u8>) -> St
 }
 
 /// Writes the contents octets of the identifier that dotted text denotes, or reports why there is none. The fault is that
-/// of the text at the usual capacity.
+/// of the text at the default capacity.
 #[cold]
 #[inline(never)]
 extern "C" fn write_other(fault: Error, text: &[u8], out: &mut crate::edge::Output<u8>) -> Status {

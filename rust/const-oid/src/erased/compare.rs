@@ -2,7 +2,7 @@
 
 //! How slices of octets and names compare.
 
-use crate::erased::fast::comparison::{are_equal, lesser, order_of, same_start, same_until};
+use crate::erased::fast::comparison::{are_equal, lesser, order_of_numbers, same_start, same_until};
 use crate::erased::fast::words::WORD_OCTETS;
 use crate::erased::parts::{first_octets, without_last_part};
 use core::cmp::Ordering;
@@ -32,19 +32,18 @@ pub const fn order_by_parts(a: &[u8], b: &[u8]) -> Ordering {
     let near = lesser(a.len(), b.len());
     let i = same_until(a, b, same_start(a, b), near);
     if i == near {
-        return order_of(a.len(), b.len());
+        return order_of_numbers(a.len(), b.len());
     }
     if a[i] < 128 || b[i] < 128 {
-        return order_of(a[i] as usize, b[i] as usize);
+        return order_of_numbers(a[i] as usize, b[i] as usize);
     }
     match order_of_lens(a, b, i) {
-        Ordering::Equal => order_of(a[i] as usize, b[i] as usize),
+        Ordering::Equal => order_of_numbers(a[i] as usize, b[i] as usize),
         unequal => unequal,
     }
 }
 
-/// The order of the lengths of the subidentifiers that begin at an index. They are read in turn, which takes fewer
-/// instructions than to count both.
+/// The order of the lengths of the subidentifiers that begin at an index. They are read in turn.
 #[inline(always)]
 const fn order_of_lens(a: &[u8], b: &[u8], start: usize) -> Ordering {
     let near = lesser(a.len(), b.len());
@@ -58,7 +57,7 @@ const fn order_of_lens(a: &[u8], b: &[u8], start: usize) -> Ordering {
         }
         index += 1;
     }
-    order_of(a.len(), b.len())
+    order_of_numbers(a.len(), b.len())
 }
 
 /// Whether a subidentifier ends at an index: its octet is below 128, or the last one.

@@ -56,10 +56,9 @@ impl<'a> Database<'a> {
     /// The database with an index in lent memory: a lookup reads a few entries, and not all, and returns the same, for as
     /// long as the memory is lent.
     ///
-    /// Four numbers for each of three entries or more are a good length. Fewer than 3n + 3, for n entries, make no index by
-    /// name, and n or fewer, or more than 65,535 entries, none at all. An index that the database has, as `DB` does, stays
-    /// if it is no shorter. None is made in which some lookup would read over a quarter of the entries and two: a scan is
-    /// faster.
+    /// For n entries, from three on, 4n numbers are a good length. With fewer than 3n + 3 there is no index by name, and
+    /// with n or fewer none at all. Over 65,535 entries have no index. One that the database has, as `DB` does, stays if it
+    /// is no shorter. None is made in which some lookup would read over a quarter of the entries and two: a scan is faster.
     ///
     /// # Examples
     ///
@@ -132,7 +131,7 @@ impl<'a> Database<'a> {
         None
     }
 
-    /// All names of this identifier, in the order of the table. A name of several entries comes as often.
+    /// All names of this identifier, in the order of the table. A name in several of these entries comes once for each.
     ///
     /// # Examples
     ///

@@ -18,7 +18,8 @@ type Entry<'a> = (&'a ObjectIdentifierRef, &'a str);
 /// use const_oid::{ObjectIdentifier, db::SortedDatabase};
 ///
 /// const COLUMN: ObjectIdentifier = ObjectIdentifier::new_unwrap("1.3.6.1.2.1.2.2.1.10");
-/// const NAMES: SortedDatabase<'static> = SortedDatabase::new(&[(COLUMN.as_oid_ref(), "ifInOctets")]);
+/// const NAMES: SortedDatabase<'static> =
+///     SortedDatabase::try_new(&[(COLUMN.as_oid_ref(), "ifInOctets")]).expect("in the order of arcs");
 /// assert_eq!(NAMES.nearest(&COLUMN.push_arc(3)?).unwrap().1, "ifInOctets");
 /// # Ok::<(), const_oid::Error>(())
 /// ```
@@ -46,7 +47,8 @@ impl<'a> SortedDatabase<'a> {
         SortedDatabase { entries }
     }
 
-    /// A database over these entries, or `None` if they are not sorted.
+    /// A database over these entries, or `None` if they are not in the order of arcs. Entries of one identifier may follow
+    /// each other. In a constant, `.expect(..)` makes a wrong order an error of the compiler.
     ///
     /// # Examples
     ///

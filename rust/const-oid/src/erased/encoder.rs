@@ -8,7 +8,7 @@ use crate::erased::error::{Error, Result};
 use crate::erased::parts::copy_to;
 use crate::erased::root::{check_first, join_root};
 
-/// `encode_to` of a slice of arcs, which is compiled once for all calls.
+/// `encode_to` of a slice of arcs, but not inlined: it is compiled once for all calls.
 #[inline(never)]
 pub(crate) fn encode_slice(arcs: &[Arc], out: &mut [u8], capacity: usize) -> Result<usize> {
     encode_to(arcs.iter().copied(), out, capacity)

@@ -61,8 +61,8 @@ fn is_spread(links: &[u16], count: usize) -> bool {
     firsts.all(|first| has_at_most(links, count, *first as usize, count / 4 + 2))
 }
 
-/// New links of entries in lent memory. The links that there are, if the memory has no more numbers than these, the
-/// entries are too many, or a scan is faster: a processor waits for each link of a slot before it reads the next one.
+/// Makes links of entries in lent memory, and returns them. Returns the given ones if the memory is no longer than those,
+/// if the entries are too many, or if a scan is faster: a processor waits for each link before it reads the next one.
 pub(crate) fn links_in<'a>(
     entries: &[(&ObjectIdentifier, &str)],
     by_name: bool,

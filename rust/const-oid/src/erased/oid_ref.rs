@@ -471,7 +471,7 @@ impl ObjectIdentifierRef {
         (from, from + inside)
     }
 
-    /// Writes the text: that of 40 octets or fewer at once.
+    /// Writes the text, in chunks: that of 40 octets or fewer is one.
     // Not over `arcs()`, for fewer instructions: the row "Display" of SPEED.
     #[inline]
     fn write_in_chunks(&self, f: &mut fmt::Formatter<'_>) -> fmt::Result {
@@ -497,10 +497,10 @@ impl ObjectIdentifierRef {
     }
 }
 
-/// How many octets' text is written at once.
+/// The text of this many octets, or fewer, is written at once.
 const CHUNK_OCTETS: usize = 40;
 
-/// The most bytes of that text, and of one more arc.
+/// The most bytes of that text, four for each octet, and room for one more arc.
 const CHUNK_BYTES: usize = 4 * CHUNK_OCTETS + MAX_ARC_LEN;
 
 /// The arcs in decimal, joined by dots. Width, fill, sign and precision are ignored: to fill a column, print

@@ -12,7 +12,7 @@ use crate::erased::parts::copy_to;
 use crate::erased::root::{check_first, join_root};
 use core::result;
 
-/// `parse_to_inlined`, which is compiled once for all calls.
+/// `parse_to_inlined`, but not inlined: it is compiled once for all calls.
 #[inline(never)]
 pub(crate) fn parse_to(text: &[u8], out: &mut [u8], capacity: usize) -> Result<usize> {
     parse_to_inlined(text, out, capacity)

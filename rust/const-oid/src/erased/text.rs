@@ -26,7 +26,7 @@ pub(crate) fn text_len(arcs: Arcs<'_>, limit: usize) -> Option<usize> {
 }
 
 /// Writes the text of the arcs of valid octets at the start, and returns its length.
-// Not over `Arcs`, for less time: the workload `certificates` prints by it.
+// Not over `Arcs`, for less time: the workload `trace` of PERF.
 #[inline]
 pub(crate) fn write_text(octets: &[u8], out: &mut [u8]) -> usize {
     let (root, mut rest) = read_group(octets);
