@@ -75,9 +75,11 @@ constants! { (buffer: &Buffer<7>)
     ObjectIdentifier::as_oid_ref(&CN);
     ObjectIdentifier::push_arc(CN, 1);
     ObjectIdentifier::starts_with(&CN, CN);
+    ObjectIdentifier::cmp_arcs(&CN, &CN);
     ObjectIdentifier::element_len(&CN);
     ObjectIdentifierRef::as_bytes(CN.as_oid_ref());
     ObjectIdentifierRef::starts_with(CN.as_oid_ref(), CN.as_oid_ref());
+    ObjectIdentifierRef::cmp_arcs(CN.as_oid_ref(), CN.as_oid_ref());
     Buffer::as_bytes(buffer);
     Buffer::len(buffer);
     Buffer::eq(buffer, buffer);

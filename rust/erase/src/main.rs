@@ -56,7 +56,7 @@ fn summary(count: usize, are: &str, faults: &[String]) -> Checked<String> {
     if faults.is_empty() { Ok(format!("erase: {count} files {are}")) } else { Err(faults.join("\n")) }
 }
 
-/// The files to write, or the first fault with its file and line.
+/// The files to write, or the first fault of a source, or those of all edits.
 fn generated() -> Checked<Vec<File>> {
     let mut files = Vec::new();
     for table in table::CRATES {
