@@ -714,11 +714,11 @@ fn encodes_arcs() {
 struct Drawn(u64);
 
 impl Drawn {
-    fn below(&mut self, end: usize) -> usize {
+    fn below(&mut self, end: u64) -> usize {
         self.0 ^= self.0 << 13;
         self.0 ^= self.0 >> 7;
         self.0 ^= self.0 << 17;
-        (self.0 % end as u64) as usize
+        (self.0 % end) as usize
     }
 
     /// An arc of one to five octets.
@@ -754,7 +754,7 @@ fn writes_octets_at_the_end_of_the_output() {
         let mut parts: Vec<String> = arcs.iter().map(Arc::to_string).collect();
         if count % 2 == 0 {
             let wrong = ["", "x", "4294967296", "1x", "\u{e9}", "0001"][drawn.below(6)];
-            let at = drawn.below(parts.len() + 1);
+            let at = drawn.below(parts.len() as u64 + 1);
             parts.insert(at, wrong.to_string());
             let at = drawn.below(2);
             arcs[at] = drawn.arc();
