@@ -7,7 +7,7 @@ ghost use Rattle.const_oid_c.specs.Status.{max_len, output_status, output_after,
 ghost use Rattle.const_oid_c.specs.Results.{octets_of_arcs, output_of, status_of, borrowed_answer, arc_status};
 
 use crate::output::{unwritten_status, write_octets};
-use crate::owned::{MAX_OCTETS, is_too_long};
+use crate::owned::is_too_long;
 use crate::status::{
     NONE, Status, code_status, error_status, len_status, number_status, too_short_status,
 };
@@ -59,29 +59,16 @@ pub extern "C" fn const_oid_from_arcs(arcs: &[u32], out: &mut [u8]) -> Status
     ensures no_length { result.code ≢ 6 }
 {
     // An identifier of the default capacity is quicker to make.
-    let small = encoded::<39>(arcs);
-    if is_too_long(&small) {
-        return write_large(arcs, out);
-    }
-    write_octets(small, out)
-}
-
-/// Writes the contents octets of arcs, or reports why there are none.
-#[tactic(auto, using(crate::proofs::Capacities::same_arcs))]
-#[inline(never)]
-fn write_large(arcs: &[u32], out: &mut [u8]) -> Status
-    ensures status { result ≡ output_status (length out.old) (octets_of_arcs (item_answer root_rule arcs.now max_len)) }
-    ensures written { out.new ≡ output_after out.old (octets_of_arcs (item_answer root_rule arcs.now max_len)) }
-{
-    let oid = encoded::<MAX_OCTETS>(arcs);
+    let oid = encoded::<39>(arcs);
     if is_too_long(&oid) {
-        return write_longer(arcs, out);
+        return write_past_39_octets(arcs, out);
     }
     write_octets(oid, out)
 }
 
 /// Writes the contents octets of arcs, any number of them, or counts those that do not fit.
-fn write_longer(arcs: &[u32], out: &mut [u8]) -> Status
+#[inline(never)]
+fn write_past_39_octets(arcs: &[u32], out: &mut [u8]) -> Status
     ensures status { result ≡ output_status (length out.old) (octets_of_arcs (item_answer root_rule arcs.now max_len)) }
     ensures written { out.new ≡ output_after out.old (octets_of_arcs (item_answer root_rule arcs.now max_len)) }
 {

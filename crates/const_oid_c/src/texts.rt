@@ -5,10 +5,9 @@ ghost use Rattle.const_oid.specs.Identifier.{root_rule, default_capacity};
 ghost use Rattle.const_oid_c.specs.Status.{max_len, output_status, output_after};
 ghost use Rattle.const_oid_c.specs.Results.{octets_of_text, octets_of_arcs, output_of, borrowed_answer};
 
-use crate::output::{unwritten_status, write_bytes, write_octets};
-use crate::owned::{MAX_OCTETS, is_too_long};
+use crate::output::{unwritten_status, write_bytes};
 use crate::status::{NOT_UTF8, Status, code_status, error_status, len_status, too_short_status};
-use const_oid::{Error, ObjectIdentifier, ObjectIdentifierRef};
+use const_oid::{Error, ObjectIdentifierRef};
 use std::str;
 
 /// Writes the contents octets of the identifier that dotted text denotes.
@@ -23,7 +22,7 @@ pub extern "C" fn const_oid_from_text(text: &[u8], out: &mut [u8]) -> Status
     let mut octets = [0; 39];
     match ObjectIdentifierRef::from_ascii_in_39(text, &mut octets) {
         Ok(oid) => write_bytes(oid.as_bytes(), out),
-        Err(fault) => write_other(fault, text, out),
+        Err(fault) => write_after_fault(fault, text, out),
     }
 }
 
@@ -32,7 +31,7 @@ pub extern "C" fn const_oid_from_text(text: &[u8], out: &mut [u8]) -> Status
 #[tactic(auto, using(crate::proofs::Writes::texts, crate::proofs::Capacities::same_text))]
 #[cold]
 #[inline(never)]
-fn write_other(fault: Error, text: &[u8], out: &mut [u8]) -> Status
+fn write_after_fault(fault: Error, text: &[u8], out: &mut [u8]) -> Status
     requires { text_answer root_rule text.now default_capacity ≡ Err fault }
     ensures status { result ≡ output_status (length out.old) (octets_of_text text.now) }
     ensures written { out.new ≡ output_after out.old (octets_of_text text.now) }
@@ -43,26 +42,13 @@ fn write_other(fault: Error, text: &[u8], out: &mut [u8]) -> Status
     }
     // At a greater capacity, only `Length` can become another result.
     match fault {
-        Error::Length => write_large(text, out),
+        Error::Length => write_past_39_octets(text, out),
         other => error_status(other),
     }
 }
 
-/// Writes the contents octets of the identifier that a text denotes, or reports why there are none.
-#[tactic(auto, using(crate::proofs::Capacities::same_text))]
-fn write_large(text: &[u8], out: &mut [u8]) -> Status
-    ensures status { result ≡ output_status (length out.old) (octets_of_arcs (text_answer root_rule text.now max_len)) }
-    ensures written { out.new ≡ output_after out.old (octets_of_arcs (text_answer root_rule text.now max_len)) }
-{
-    let oid = ObjectIdentifier::<MAX_OCTETS>::from_ascii(text);
-    if is_too_long(&oid) {
-        return write_longer(text, out);
-    }
-    write_octets(oid, out)
-}
-
 /// Writes the contents octets of the identifier that dotted text denotes, of any length, or counts those that do not fit.
-fn write_longer(text: &[u8], out: &mut [u8]) -> Status
+fn write_past_39_octets(text: &[u8], out: &mut [u8]) -> Status
     ensures status { result ≡ output_status (length out.old) (octets_of_arcs (text_answer root_rule text.now max_len)) }
     ensures written { out.new ≡ output_after out.old (octets_of_arcs (text_answer root_rule text.now max_len)) }
 {
@@ -74,47 +60,47 @@ fn write_longer(text: &[u8], out: &mut [u8]) -> Status
 }
 
 /// The room for the text of 16 octets: four bytes for each octet, and eleven for one arc more.
-const SHORT: usize = 75;
+const ROOM_FOR_16_OCTETS: usize = 75;
 
 /// The room for the text of 255 octets.
-const LONG: usize = 1031;
+const ROOM_FOR_255_OCTETS: usize = 1031;
 
 /// Writes the dotted text of contents octets of any length. No zero byte follows it.
 ///
 /// The octets are checked as they are printed, so the text is made on the stack: on an error the output is unchanged.
-/// Most identifiers are short, and the less room there is, the sooner it is set to zero.
+/// Most identifiers have few octets, and the less room there is, the sooner it is set to zero.
 #[tactic(auto, using(crate::proofs::Writes::text_again))]
 #[unsafe(no_mangle)]
 pub extern "C" fn const_oid_to_text(octets: &[u8], out: &mut [u8]) -> Status
     ensures status { result ≡ output_status (length out.old) (output_of text_of (borrowed_answer octets.now)) }
     ensures written { out.new ≡ output_after out.old (output_of text_of (borrowed_answer octets.now)) }
 {
-    let mut text = [0; SHORT];
+    let mut text = [0; ROOM_FOR_16_OCTETS];
     match ObjectIdentifierRef::text_from_bytes(octets, &mut text) {
         Some(Ok(len)) => write_bytes(&text[..len], out),
         Some(Err(fault)) => error_status(fault),
-        None => write_long(octets, out),
+        None => print_past_16_octets(octets, out),
     }
 }
 
-/// Writes the dotted text of contents octets of any length, which may need up to `LONG` bytes.
+/// Writes the dotted text of contents octets of any length, made on the stack if they are 255 or fewer.
 #[tactic(auto, using(crate::proofs::Writes::text_again))]
 #[inline(never)]
-fn write_long(octets: &[u8], out: &mut [u8]) -> Status
+fn print_past_16_octets(octets: &[u8], out: &mut [u8]) -> Status
     ensures status { result ≡ output_status (length out.old) (output_of text_of (borrowed_answer octets.now)) }
     ensures written { out.new ≡ output_after out.old (output_of text_of (borrowed_answer octets.now)) }
 {
-    let mut text = [0; LONG];
+    let mut text = [0; ROOM_FOR_255_OCTETS];
     match ObjectIdentifierRef::text_from_bytes(octets, &mut text) {
         Some(Ok(len)) => write_bytes(&text[..len], out),
         Some(Err(fault)) => error_status(fault),
-        None => write_longest(octets, out),
+        None => print_past_255_octets(octets, out),
     }
 }
 
 /// Writes the dotted text of contents octets of any length, and reads them twice.
 #[inline(never)]
-fn write_longest(octets: &[u8], out: &mut [u8]) -> Status
+fn print_past_255_octets(octets: &[u8], out: &mut [u8]) -> Status
     ensures status { result ≡ output_status (length out.old) (output_of text_of (borrowed_answer octets.now)) }
     ensures written { out.new ≡ output_after out.old (output_of text_of (borrowed_answer octets.now)) }
 {

@@ -3,7 +3,7 @@
 //! Octets to arcs, and arcs to octets.
 
 use crate::erased::output::{unwritten_status, write_octets};
-use crate::erased::owned::{MAX_OCTETS, is_too_long};
+use crate::erased::owned::is_too_long;
 use crate::erased::status::{NONE, Status, code_status, error_status, len_status, number_status, too_short_status};
 use const_oid::internal_for_const_oid_c::{Arcs, ObjectIdentifier, ObjectIdentifierRef, Result};
 
@@ -37,25 +37,16 @@ pub fn const_oid_arc(octets: &[u8], index: usize) -> Status {
 /// Writes the contents octets of arcs.
 pub fn const_oid_from_arcs(arcs: &[u32], out: &mut crate::edge::Output<u8>) -> Status {
     // An identifier of the default capacity is quicker to make.
-    let small = encoded::<39>(arcs);
-    if is_too_long(&small) {
-        return write_large(arcs, out);
-    }
-    write_octets(small, out)
-}
-
-/// Writes the contents octets of arcs, or reports why there are none.
-#[inline(never)]
-fn write_large(arcs: &[u32], out: &mut crate::edge::Output<u8>) -> Status {
-    let oid = encoded::<MAX_OCTETS>(arcs);
+    let oid = encoded::<39>(arcs);
     if is_too_long(&oid) {
-        return write_longer(arcs, out);
+        return write_past_39_octets(arcs, out);
     }
     write_octets(oid, out)
 }
 
 /// Writes the contents octets of arcs, any number of them, or counts those that do not fit.
-fn write_longer(arcs: &[u32], out: &mut crate::edge::Output<u8>) -> Status {
+#[inline(never)]
+fn write_past_39_octets(arcs: &[u32], out: &mut crate::edge::Output<u8>) -> Status {
     match crate::outputs::bytes_from_arcs(arcs, out) {
         Ok(len) => len_status(len),
         // At the greatest limit, the error of any other kind is the same.

@@ -2,10 +2,9 @@
 
 //! Dotted text.
 
-use crate::erased::output::{unwritten_status, write_bytes, write_octets};
-use crate::erased::owned::{MAX_OCTETS, is_too_long};
+use crate::erased::output::{unwritten_status, write_bytes};
 use crate::erased::status::{NOT_UTF8, Status, code_status, error_status, len_status, too_short_status};
-use const_oid::internal_for_const_oid_c::{Error, ObjectIdentifier, ObjectIdentifierRef};
+use const_oid::internal_for_const_oid_c::{Error, ObjectIdentifierRef};
 use core::str;
 
 /// Writes the contents octets of the identifier that dotted text denotes.
@@ -14,7 +13,7 @@ pub fn const_oid_from_text(text: &[u8], out: &mut crate::edge::Output<u8>) -> St
     let mut octets = [0; 39];
     match const_oid::internal_for_const_oid_c::from_ascii_in_39(text, &mut octets) {
         Ok(oid) => write_bytes(oid.as_bytes(), out),
-        Err(fault) => write_other(fault, text, out),
+        Err(fault) => write_after_fault(fault, text, out),
     }
 }
 
@@ -22,29 +21,20 @@ pub fn const_oid_from_text(text: &[u8], out: &mut crate::edge::Output<u8>) -> St
 /// of the text at the default capacity.
 #[cold]
 #[inline(never)]
-extern "C" fn write_other(fault: Error, text: &[u8], out: &mut crate::edge::Output<u8>) -> Status {
+extern "C" fn write_after_fault(fault: Error, text: &[u8], out: &mut crate::edge::Output<u8>) -> Status {
     // The digits and dots of a valid text are ASCII, so only the others can fail to be UTF-8.
     if str::from_utf8(text).is_err() {
         return code_status(NOT_UTF8);
     }
     // At a greater capacity, only `Length` can become another result.
     match fault {
-        Error::Length => write_large(text, out),
+        Error::Length => write_past_39_octets(text, out),
         other => error_status(other),
     }
 }
 
-/// Writes the contents octets of the identifier that a text denotes, or reports why there are none.
-fn write_large(text: &[u8], out: &mut crate::edge::Output<u8>) -> Status {
-    let oid = ObjectIdentifier::<MAX_OCTETS>::from_ascii(text);
-    if is_too_long(&oid) {
-        return write_longer(text, out);
-    }
-    write_octets(oid, out)
-}
-
 /// Writes the contents octets of the identifier that dotted text denotes, of any length, or counts those that do not fit.
-fn write_longer(text: &[u8], out: &mut crate::edge::Output<u8>) -> Status {
+fn write_past_39_octets(text: &[u8], out: &mut crate::edge::Output<u8>) -> Status {
     match crate::outputs::bytes_from_ascii(text, out) {
         Ok(len) => len_status(len),
         // At the greatest limit, the error of any other kind is the same.
@@ -53,38 +43,38 @@ fn write_longer(text: &[u8], out: &mut crate::edge::Output<u8>) -> Status {
 }
 
 /// The room for the text of 16 octets: four bytes for each octet, and eleven for one arc more.
-const SHORT: usize = 75;
+const ROOM_FOR_16_OCTETS: usize = 75;
 
 /// The room for the text of 255 octets.
-const LONG: usize = 1031;
+const ROOM_FOR_255_OCTETS: usize = 1031;
 
 /// Writes the dotted text of contents octets of any length. No zero byte follows it.
 ///
 /// The octets are checked as they are printed, so the text is made on the stack: on an error the output is unchanged.
-/// Most identifiers are short, and the less room there is, the sooner it is set to zero.
+/// Most identifiers have few octets, and the less room there is, the sooner it is set to zero.
 pub fn const_oid_to_text(octets: &[u8], out: &mut crate::edge::Output<u8>) -> Status {
-    let mut text = [0; SHORT];
+    let mut text = [0; ROOM_FOR_16_OCTETS];
     match const_oid::internal_for_const_oid_c::text_from_bytes(octets, &mut text) {
         Some(Ok(len)) => write_bytes(&text[..len], out),
         Some(Err(fault)) => error_status(fault),
-        None => write_long(octets, out),
+        None => print_past_16_octets(octets, out),
     }
 }
 
-/// Writes the dotted text of contents octets of any length, which may need up to `LONG` bytes.
+/// Writes the dotted text of contents octets of any length, made on the stack if they are 255 or fewer.
 #[inline(never)]
-extern "C" fn write_long(octets: &[u8], out: &mut crate::edge::Output<u8>) -> Status {
-    let mut text = [0; LONG];
+extern "C" fn print_past_16_octets(octets: &[u8], out: &mut crate::edge::Output<u8>) -> Status {
+    let mut text = [0; ROOM_FOR_255_OCTETS];
     match const_oid::internal_for_const_oid_c::text_from_bytes(octets, &mut text) {
         Some(Ok(len)) => write_bytes(&text[..len], out),
         Some(Err(fault)) => error_status(fault),
-        None => write_longest(octets, out),
+        None => print_past_255_octets(octets, out),
     }
 }
 
 /// Writes the dotted text of contents octets of any length, and reads them twice.
 #[inline(never)]
-extern "C" fn write_longest(octets: &[u8], out: &mut crate::edge::Output<u8>) -> Status {
+extern "C" fn print_past_255_octets(octets: &[u8], out: &mut crate::edge::Output<u8>) -> Status {
     let oid = match ObjectIdentifierRef::from_bytes(octets) {
         Ok(oid) => oid,
         Err(fault) => return error_status(fault),

@@ -7,11 +7,11 @@ use Rattle.const_oid_c.proofs.arcs.const_oid_from_arcs.Goals as goal
 
 pub returns-then-is_too_long-clause-enough : goal.returns-then-is_too_long-clause-enough
 returns-then-is_too_long-clause-enough c =
-    arcs_enough (length c.args.out.now) c.args.arcs.now (λ k. omega (arith, c.type_inv.arcs k)) (omega arith) c.write_large.ensures.status
+    arcs_enough (length c.args.out.now) c.args.arcs.now (λ k. omega (arith, c.type_inv.arcs k)) (omega arith) c.write_past_39_octets.ensures.status
 
 pub returns-then-is_too_long-clause-no_length : goal.returns-then-is_too_long-clause-no_length
 returns-then-is_too_long-clause-no_length c =
-    arcs_no_length (length c.args.out.now) c.args.arcs.now (λ k. omega (arith, c.type_inv.arcs k)) (omega arith) c.write_large.ensures.status
+    arcs_no_length (length c.args.out.now) c.args.arcs.now (λ k. omega (arith, c.type_inv.arcs k)) (omega arith) c.write_past_39_octets.ensures.status
 
 pub returns-clause-enough : goal.returns-clause-enough
 returns-clause-enough c =

@@ -23,8 +23,8 @@ returns-in-Ok-clause-no_length c = text_no_length (length c.args.out.now) c.args
 
 pub returns-in-Err-clause-enough : goal.returns-in-Err-clause-enough
 returns-in-Err-clause-enough c =
-    text_enough (length c.args.out.now) c.args.text.now (omega arith) c.write_other.ensures.status
+    text_enough (length c.args.out.now) c.args.text.now (omega arith) c.write_after_fault.ensures.status
 
 pub returns-in-Err-clause-no_length : goal.returns-in-Err-clause-no_length
 returns-in-Err-clause-no_length c =
-    text_no_length (length c.args.out.now) c.args.text.now (omega arith) c.write_other.ensures.status
+    text_no_length (length c.args.out.now) c.args.text.now (omega arith) c.write_after_fault.ensures.status

@@ -2,7 +2,7 @@ use Rattle.std.proofs.Common.{◌≢◌, ◌≤◌, length, Err, sym, ◌∙◌,
 use Rattle.const_oid.specs.{declared.error.Error.TheVariants.Length, Identifier.root_rule, Text.text_answer}
 use Rattle.const_oid_c.specs.Status.{max_len}
 use Rattle.const_oid_c.proofs.{Writes.bytes_written, Capacities.same_text, Counted.{longer_text, not_written}}
-use Rattle.const_oid_c.proofs.texts.write_longer.Goals as goal
+use Rattle.const_oid_c.proofs.texts.write_past_39_octets.Goals as goal
 
 pub returns-in-Ok-clause-status : goal.returns-in-Ok-clause-status
 returns-in-Ok-clause-status c =
