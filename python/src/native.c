@@ -315,7 +315,7 @@ static PyObject *identifier_child(PyObject *self, PyObject *item) {
 static PyObject *identifier_starts_with(PyObject *self, PyObject *prefix) {
     if (!is_identifier(prefix)) return wrong_type("prefix must be an ObjectIdentifier", prefix);
     const_oid_octets octets = octets_of(self), start = octets_of(prefix);
-    return PyBool_FromLong((long)const_oid_starts_with(octets.octets, octets.len, start.octets, start.len).detail);
+    return PyBool_FromLong(const_oid_is_under(octets.octets, octets.len, start.octets, start.len));
 }
 
 /* Text has at most four bytes for each octet. */

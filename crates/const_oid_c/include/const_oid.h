@@ -1,8 +1,8 @@
 /* Object identifiers (ITU-T X.660) for C99 and C++: dotted-decimal text, arcs, elements of DER, and the contents octets
  * of BER and DER (ITU-T X.690 section 8.19), without tag and length. The source is in Rattle, where each function is
  * proved to return what its comment says. Only tested are null pointers, threads, how far const_oid_check_sorted reads,
- * that what const_oid_from_der finds is in its input, the layouts and constants below, and that the library has exactly
- * these functions. The Rattle toolchain builds it from this source. cargo builds it from Rust that is generated from
+ * that what const_oid_from_der finds is in its input, the layouts and constants below, the inline functions
+ * const_oid_is_under and const_oid_is_equal, and that the library has exactly the others. The Rattle toolchain builds it from this source. cargo builds it from Rust that is generated from
  * the source, and from code for pointers that is written by hand. That build is tested, not proved.
  *
  * What the caller must guarantee, for all functions:
@@ -25,7 +25,8 @@
  * - Octets. const_oid_from_der finds them in an element, after the tag and the length. No other function removes these:
  *   to all others a complete 06 09 2A 86 .. is no error, but 0.6.9.42...
  *
- * What a function returns: const_oid_version and const_oid_by_arcs return a number, all others a status, by value. Code
+ * What a function returns: const_oid_version, const_oid_by_arcs and the inline functions return a number, all others a
+ * status, by value. Code
  * 0 is success. With any other code the function wrote nothing, and the output is unchanged, bit for bit. Items of the
  * output after the first `len` are always unchanged.
  *
@@ -216,13 +217,27 @@ CONST_OID_NODISCARD const_oid_status const_oid_push_arc(
     size_t out_len);
 
 /* Whether an identifier begins with all arcs of a prefix. Both may have any length. Returns the code of the octets if
- * they are invalid, or else that of the prefix. */
+ * they are invalid, or else that of the prefix. Code 0 says only that both are valid: the answer is in
+ * `detail`. */
 CONST_OID_NODISCARD const_oid_status const_oid_starts_with(
     const uint8_t *octets, size_t len, const uint8_t *prefix, size_t prefix_len);
 
-/* Whether two identifiers of any length are equal. Returns the code for the first invalid one, if any. */
+/* 1 if both are valid and the identifier begins with all arcs of the prefix, and otherwise 0. */
+CONST_OID_NODISCARD static __inline int const_oid_is_under(
+    const uint8_t *octets, size_t len, const uint8_t *prefix, size_t prefix_len) {
+    return const_oid_starts_with(octets, len, prefix, prefix_len).detail == 1; /* it is 0 after an error */
+}
+
+/* Whether two identifiers of any length are equal. Returns the code for the first invalid one, if any. Code 0 says
+ * only that both are valid: the answer is in `detail`. */
 CONST_OID_NODISCARD const_oid_status const_oid_eq(
     const uint8_t *left, size_t left_len, const uint8_t *right, size_t right_len);
+
+/* 1 if both are valid and equal, and otherwise 0. */
+CONST_OID_NODISCARD static __inline int const_oid_is_equal(
+    const uint8_t *left, size_t left_len, const uint8_t *right, size_t right_len) {
+    return const_oid_eq(left, left_len, right, right_len).detail == 1;
+}
 
 /* Compares two identifiers of any length by their octets, as memcmp does. A prefix comes first. An identifier's
  * descendants follow it without a gap. This is not the order in SNMP. Returns the code for the first invalid one, if
@@ -270,7 +285,7 @@ CONST_OID_NODISCARD const_oid_status const_oid_next(
     const uint8_t *octets, size_t len, const const_oid_octets *sorted, size_t count);
 
 /* Finds the nearest item to an identifier: the first item that is equal to it, or else to its longest prefix in the
- * list. */
+ * list. If the item has `k` arcs, by const_oid_len, const_oid_arcs_from(octets, len, k, ..) writes the arcs after it. */
 CONST_OID_NODISCARD const_oid_status const_oid_nearest(
     const uint8_t *octets, size_t len, const const_oid_octets *sorted, size_t count);
 

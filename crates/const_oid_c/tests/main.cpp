@@ -88,7 +88,7 @@ int main() {
     Octets empty;
     bool right = octets == Octets{0x2A, 0x86, 0x48, 0xCE, 0x3D, 0x02, 0x01} && from_text("1..2").empty()
         && from_text({}).empty() && const_oid_check(empty.data(), empty.size()).code == CONST_OID_EMPTY
-        && const_oid_eq(octets.data(), octets.size(), octets.data(), octets.size()).detail == 1
+        && const_oid_is_equal(octets.data(), octets.size(), octets.data(), octets.size())
         && sorts();
     if (!right) std::fputs("tests: the C++ program has other results\n", stderr);
     return right ? 0 : 1;

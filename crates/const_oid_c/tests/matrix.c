@@ -1,5 +1,5 @@
 #define _GNU_SOURCE
-/* Each function of calls.h, by the rules of reference.h: each of its arguments in turn has each length and each number
+/* Each function of const_oid.h, by the rules of reference.h: each of its arguments in turn has each length and each number
  * at which code for pointers could cut, and so has each item of a list. Inputs and outputs end at pages that no one may
  * touch. Pages that are mapped and never written take no memory, so lengths pass 2^32 where pointers have 64 bits. A
  * null pointer with a length ends the process.
@@ -49,6 +49,11 @@ static const_oid_status status_of(uint32_t number) { return (const_oid_status){C
 #define STATUS_uint32_t(number) status_of(number)
 #define STATUS_int(number) status_of((uint32_t)(number))
 
+/* The inline functions, which calls.h does not have. */
+#define INLINE_CALLS \
+    CALL(int, const_oid_is_under, ARGUMENT(OCTETS, 0), ARGUMENT(OCTETS, 1)) \
+    CALL(int, const_oid_is_equal, ARGUMENT(OCTETS, 0), ARGUMENT(OCTETS, 1))
+
 #define ARGUMENT(kind, i) GIVEN_##kind(i)
 #define NOTHING
 #define CALL(result, name, ...) \
@@ -57,6 +62,7 @@ static const_oid_status status_of(uint32_t number) { return (const_oid_status){C
         return STATUS_##result(name(__VA_ARGS__)); \
     }
 #include "calls.h"
+INLINE_CALLS
 #undef ARGUMENT
 #undef NOTHING
 #undef CALL
@@ -65,6 +71,7 @@ static const function functions[] = {
 #define ARGUMENT(kind, i) kind
 #define CALL(result, name, ...) {#name, name##_call, name##_rule, {__VA_ARGS__}},
 #include "calls.h"
+INLINE_CALLS
 };
 enum { FUNCTIONS = sizeof functions / sizeof *functions };
 

@@ -263,6 +263,11 @@ RULE(const_oid_eq) {
     return of_number(first.count == second.count && memcmp(first.arcs, second.arcs, 4 * first.count) == 0);
 }
 
+/* A rule's detail is 0 after an error. */
+RULE(const_oid_is_under) { return of_number(const_oid_starts_with_rule(a).status.detail); }
+
+RULE(const_oid_is_equal) { return of_number(const_oid_eq_rule(a).status.detail); }
+
 RULE(const_oid_cmp_arcs) {
     READ(a[0], &first);
     READ(a[1], &second);
