@@ -3,7 +3,7 @@
 #include <stdio.h>
 
 int is_rsa(const uint8_t *octets, size_t len) {
-    return const_oid_eq(octets, len, CONST_OID_OCTETS(CONST_OID_RFC5912_RSA_ENCRYPTION)).detail == 1;
+    return const_oid_is_equal(octets, len, CONST_OID_OCTETS(CONST_OID_RFC5912_RSA_ENCRYPTION));
 }
 
 void print_name(const uint8_t *octets, size_t len) {
@@ -15,6 +15,43 @@ const_oid_octets octets_of(const char *name) {
     const_oid_octets none = {NULL, 0};
     size_t index = const_oid_by_name(name);
     return index < CONST_OID_NAMES_COUNT ? const_oid_name_octets[index] : none;
+}
+
+#include <const_oid.h>
+#include <const_oid_names.h>
+#include <stdlib.h>
+
+/* Whether an identifier and all below it are allowed, unless a rule for more of its arcs says otherwise. */
+typedef struct {
+    const_oid_octets oid; /* comes first, so const_oid_by_arcs compares rules */
+    int is_allowed;
+} rule;
+
+static rule rules[] = {
+    {{CONST_OID_OCTETS(CONST_OID_RFC5280_ID_KP_CLIENT_AUTH)}, 0},
+    {{CONST_OID_OCTETS(CONST_OID_RFC5280_ID_KP)}, 1},
+};
+enum { RULES = sizeof rules / sizeof *rules };
+static const_oid_octets sorted[RULES];
+
+/* Sorts the rules, before the first question. Returns whether all are valid. */
+int sort_rules(void) {
+    qsort(rules, RULES, sizeof *rules, const_oid_by_arcs);
+    for (size_t i = 0; i < RULES; i++) sorted[i] = rules[i].oid;
+    return const_oid_check_sorted(sorted, RULES).code == CONST_OID_OK;
+}
+
+/* What is invalid, or has no rule, is not allowed. */
+int is_allowed(const uint8_t *octets, size_t len) {
+    const_oid_status found = const_oid_nearest(octets, len, sorted, RULES);
+    return found.code == CONST_OID_OK && rules[found.len].is_allowed;
+}
+
+/* Whether rules for more arcs decide first, and nothing else is allowed. */
+static int decides(void) {
+    static const uint8_t server[] = {0x2B, 6, 1, 5, 5, 7, 3, 1}, client[] = {0x2B, 6, 1, 5, 5, 7, 3, 2, 5};
+    return sort_rules() && is_allowed(server, 8) && is_allowed(server, 7) && !is_allowed(server, 6)
+        && !is_allowed(client, 8) && !is_allowed(client, 9) && !is_allowed(NULL, 0);
 }
 
 /* Whether the table is a list, in which the first entry of each identifier is found, also from below it. */
@@ -35,5 +72,5 @@ static int finds_each(void) {
 int main(void) {
     const_oid_octets rsa = octets_of("RSAEncryption");
     print_name(rsa.octets, rsa.len);
-    return is_rsa(rsa.octets, rsa.len) && octets_of("no name").len == 0 && finds_each() ? 0 : 1;
+    return is_rsa(rsa.octets, rsa.len) && octets_of("no name").len == 0 && finds_each() && decides() ? 0 : 1;
 }
