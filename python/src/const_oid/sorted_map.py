@@ -40,11 +40,13 @@ class SortedMap(MutableMapping[ObjectIdentifier, Value]):
         self._keys = _Keys(self._values)
 
     def nearest(self, oid: ObjectIdentifier) -> tuple[ObjectIdentifier, Value] | None:
-        """The entry whose key is the longest prefix of an identifier, or None.
+        """The entry whose key is the longest prefix of an identifier, or None. A slice gives the arcs after the key.
 
         >>> names = SortedMap({ObjectIdentifier("2.5"): "directory", ObjectIdentifier("2.5.4"): "attributes"})
-        >>> names.nearest(ObjectIdentifier("2.5.4.3"))
+        >>> names.nearest(oid := ObjectIdentifier("2.5.4.3"))
         (ObjectIdentifier('2.5.4'), 'attributes')
+        >>> oid[len(names.nearest(oid)[0]) :]
+        (3,)
         """
         # A key that is a prefix of the identifier is also one of the last key that is not after it.
         above: ObjectIdentifier | None = required(oid, "key")
