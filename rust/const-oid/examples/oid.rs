@@ -61,7 +61,10 @@ impl Form {
     fn read(self, input: &str) -> Result<Oid> {
         match self {
             // snmpwalk -On prints a leading dot.
-            Form::Text => Ok(Oid::new_sized(input.strip_prefix('.').unwrap_or(input))?),
+            Form::Text => match Oid::new_sized(input.strip_prefix('.').unwrap_or(input)) {
+                Err(const_oid::Error::Empty) => Err("OID value is empty: two arcs or more are needed".into()),
+                read => Ok(read?),
+            },
             Form::Hex => Ok(Oid::from_bytes_sized(&octets_of(input)?)?),
             Form::Der => match ObjectIdentifierRef::read_element(&octets_of(input)?) {
                 Some((oid, [])) => Ok(Oid::try_from(oid?)?),

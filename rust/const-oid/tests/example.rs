@@ -50,6 +50,7 @@ const ROWS: &[Row] = &[
     ("--hex 55040", "", "", "55040: not octets in hexadecimal\n"),
     ("--hex 2.5.4.3", "", "", "2.5.4.3: not octets in hexadecimal\n"),
     ("--text .2.5.4.3", "", CN, ""),
+    ("--text 1", "", "", "1: OID value is empty: two arcs or more are needed\n"),
     ("--text 10", "", "", "10: OID contains out-of-range arc: 10\n"),
     ("--name commonName", "", CN, ""),
     ("--name 2.5.4.3", "", "", "2.5.4.3: no known name\n"),
