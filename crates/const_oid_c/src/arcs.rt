@@ -7,11 +7,10 @@ ghost use Rattle.const_oid_c.specs.Status.{max_len, output_status, output_after,
 ghost use Rattle.const_oid_c.specs.Results.{octets_of_arcs, output_of, status_of, borrowed_answer, arc_status};
 
 use crate::output::{unwritten_status, write_octets};
-use crate::owned::is_too_long;
 use crate::status::{
     NONE, Status, code_status, error_status, len_status, number_status, too_short_status,
 };
-use const_oid::{Arcs, ObjectIdentifier, ObjectIdentifierRef, Result};
+use const_oid::{Arcs, Error, ObjectIdentifier, ObjectIdentifierRef, Result};
 
 /// Checks contents octets of any length.
 #[unsafe(no_mangle)]
@@ -59,11 +58,10 @@ pub extern "C" fn const_oid_from_arcs(arcs: &[u32], out: &mut [u8]) -> Status
     ensures no_length { result.code ≢ 6 }
 {
     // An identifier of the default capacity is quicker to make.
-    let oid = encoded::<39>(arcs);
-    if is_too_long(&oid) {
-        return write_past_39_octets(arcs, out);
+    match encoded::<39>(arcs) {
+        Err(Error::Length) => write_past_39_octets(arcs, out),
+        oid => write_octets(oid, out),
     }
-    write_octets(oid, out)
 }
 
 /// Writes the contents octets of arcs, any number of them, or counts those that do not fit.

@@ -3,9 +3,8 @@
 //! Octets to arcs, and arcs to octets.
 
 use crate::erased::output::{unwritten_status, write_octets};
-use crate::erased::owned::is_too_long;
 use crate::erased::status::{NONE, Status, code_status, error_status, len_status, number_status, too_short_status};
-use const_oid::internal_for_const_oid_c::{Arcs, ObjectIdentifier, ObjectIdentifierRef, Result};
+use const_oid::internal_for_const_oid_c::{Arcs, Error, ObjectIdentifier, ObjectIdentifierRef, Result};
 
 /// Checks contents octets of any length.
 pub fn const_oid_check(octets: &[u8]) -> Status {
@@ -37,11 +36,10 @@ pub fn const_oid_arc(octets: &[u8], index: usize) -> Status {
 /// Writes the contents octets of arcs.
 pub fn const_oid_from_arcs(arcs: &[u32], out: &mut crate::edge::Output<u8>) -> Status {
     // An identifier of the default capacity is quicker to make.
-    let oid = encoded::<39>(arcs);
-    if is_too_long(&oid) {
-        return write_past_39_octets(arcs, out);
+    match encoded::<39>(arcs) {
+        Err(Error::Length) => write_past_39_octets(arcs, out),
+        oid => write_octets(oid, out),
     }
-    write_octets(oid, out)
 }
 
 /// Writes the contents octets of arcs, any number of them, or counts those that do not fit.

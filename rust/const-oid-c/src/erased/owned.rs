@@ -2,7 +2,7 @@
 
 //! Octets that fit an owned identifier.
 
-use const_oid::internal_for_const_oid_c::{Error, ObjectIdentifier, ObjectIdentifierRef, Result};
+use const_oid::internal_for_const_oid_c::{Error, ObjectIdentifierRef, Result};
 
 /// The most octets that an owned identifier can have.
 pub(crate) const MAX_OCTETS: usize = 255;
@@ -14,9 +14,4 @@ pub(crate) fn read_owned<'a>(octets: &'a [u8]) -> Result<&'a ObjectIdentifierRef
         return Err(Error::Length);
     }
     Ok(oid)
-}
-
-/// Whether an identifier has too many octets for its capacity.
-pub(crate) fn is_too_long<const N: usize>(oid: &Result<ObjectIdentifier<N>>) -> bool {
-    matches!(oid, Err(Error::Length))
 }
