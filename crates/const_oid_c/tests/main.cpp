@@ -43,10 +43,6 @@ static bool comes_before(const const_oid_octets &left, const const_oid_octets &r
     return const_oid_by_arcs(&left, &right) < 0;
 }
 
-static bool is_invalid(const const_oid_octets &item) {
-    return const_oid_check(item.octets, item.len).code != CONST_OID_OK;
-}
-
 // Whether each item of a list is found where it is, also from below it, and after it the next one.
 static bool finds_each(const std::vector<const_oid_octets> &items) {
     const const_oid_octets *sorted = items.data();
@@ -77,7 +73,8 @@ static bool sorts() {
     std::sort(items.begin(), items.end(), comes_before);
     bool right = std::is_sorted(items.begin(), items.end(), comes_before);
     for (size_t i = 1; i < items.size(); i++) right = right && comes_before(items[i - 1], items[i]);
-    items.erase(std::remove_if(items.begin(), items.end(), is_invalid), items.end());
+    items.erase(std::remove_if(items.begin(), items.end(), [](const const_oid_octets &item) {
+        return const_oid_check(item.octets, item.len).code != CONST_OID_OK; }), items.end());
     return right && items.size() == 2000 && const_oid_check_sorted(items.data(), items.size()).code == CONST_OID_OK
         && finds_each(items);
 }
