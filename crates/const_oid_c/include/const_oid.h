@@ -2,8 +2,9 @@
  * of BER and DER (ITU-T X.690 section 8.19), without tag and length. The source is in Rattle, where each function is
  * proved to return what its comment says. Only tested are null pointers, threads, how far const_oid_check_sorted reads,
  * that what const_oid_from_der finds is in its input, the layouts and constants below, the inline functions
- * const_oid_is_under and const_oid_is_equal, and that the library has exactly the others. The Rattle toolchain builds it from this source. cargo builds it from Rust that is generated from
- * the source, and from code for pointers that is written by hand. That build is tested, not proved.
+ * const_oid_is_under and const_oid_is_equal, and that the library has exactly the others. The Rattle toolchain builds
+ * it from this source. cargo builds it from Rust that is generated from the source, and from code for pointers that is
+ * written by hand. That build is tested, not proved.
  *
  * What the caller must guarantee, for all functions:
  *
@@ -26,9 +27,8 @@
  *   to all others a complete 06 09 2A 86 .. is no error, but 0.6.9.42...
  *
  * What a function returns: const_oid_version, const_oid_by_arcs and the inline functions return a number, all others a
- * status, by value. Code
- * 0 is success. With any other code the function wrote nothing, and the output is unchanged, bit for bit. Items of the
- * output after the first `len` are always unchanged.
+ * status, by value. Code 0 is success. With any other code the function wrote nothing, and the output is unchanged, bit
+ * for bit. Items of the output after the first `len` are always unchanged.
  *
  * A function that is given invalid octets returns the first of these codes that applies:
  *
@@ -285,7 +285,8 @@ CONST_OID_NODISCARD const_oid_status const_oid_next(
     const uint8_t *octets, size_t len, const const_oid_octets *sorted, size_t count);
 
 /* Finds the nearest item to an identifier: the first item that is equal to it, or else to its longest prefix in the
- * list. If the item has `k` arcs, by const_oid_len, const_oid_arcs_from(octets, len, k, ..) writes the arcs after it. */
+ * list. If the item has `k` arcs, as const_oid_len says, const_oid_arcs_from(octets, len, k, ..) writes the arcs after
+ * them. */
 CONST_OID_NODISCARD const_oid_status const_oid_nearest(
     const uint8_t *octets, size_t len, const const_oid_octets *sorted, size_t count);
 

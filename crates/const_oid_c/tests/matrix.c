@@ -1,8 +1,8 @@
 #define _GNU_SOURCE
-/* Each function of const_oid.h, by the rules of reference.h: each of its arguments in turn has each length and each number
- * at which code for pointers could cut, and so has each item of a list. Inputs and outputs end at pages that no one may
- * touch. Pages that are mapped and never written take no memory, so lengths pass 2^32 where pointers have 64 bits. A
- * null pointer with a length ends the process.
+/* Each function of const_oid.h, by the rules of reference.h: each of its arguments in turn has each length and each
+ * number at which code for pointers could cut, and so has each item of a list. Inputs and outputs end at pages that no
+ * one may touch. Pages that are mapped and never written take no memory, so lengths pass 2^32 where pointers have 64
+ * bits. A null pointer with a length ends the process.
  *
  * With -DFUZZED -fsanitize=fuzzer, what libFuzzer gives takes the place of the lengths and numbers. */
 #include "reference.h"
