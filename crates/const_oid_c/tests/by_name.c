@@ -17,7 +17,6 @@ const_oid_octets octets_of(const char *name) {
     return index < CONST_OID_NAMES_COUNT ? const_oid_name_octets[index] : none;
 }
 
-#include <const_oid.h>
 #include <const_oid_names.h>
 #include <stdlib.h>
 

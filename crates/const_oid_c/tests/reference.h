@@ -265,7 +265,6 @@ RULE(const_oid_eq) {
 
 /* A rule's detail is 0 after an error. */
 RULE(const_oid_is_under) { return of_number(const_oid_starts_with_rule(a).status.detail); }
-
 RULE(const_oid_is_equal) { return of_number(const_oid_eq_rule(a).status.detail); }
 
 RULE(const_oid_cmp_arcs) {
