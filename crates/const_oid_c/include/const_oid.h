@@ -124,8 +124,8 @@ enum const_oid_order {
  *   const_oid_eq, and a const_oid_order from a comparison. With ARC_INVALID it is the arc, with DIGIT_EXPECTED the
  *   byte. Otherwise it is 0.
  * - `len` is, on success, how many items the function wrote, read or counted, or the index that it found. With
- *   OUTPUT_TOO_SHORT it is how many items the result has. If const_oid_check_sorted finds a wrong item, it is the index
- *   of the first one. Otherwise it is 0. */
+ *   OUTPUT_TOO_SHORT it is how many items the result has. If const_oid_check_sorted finds a wrong item, or
+ *   const_oid_from_text a wrong component, it is the index of the first one. Otherwise it is 0. */
 typedef struct const_oid_status {
     uint32_t code;
     uint32_t detail;
@@ -164,7 +164,7 @@ CONST_OID_NODISCARD const_oid_status const_oid_to_der(
 
 /* Writes the contents octets of the identifier that dotted text denotes, such as "1.2.840". Arcs may have leading
  * zeros. The text may have any length. If it is invalid, returns NOT_UTF8 if it is not UTF-8, or else the code for the
- * first wrong component, by the first of these that applies:
+ * first wrong component, whose index from 0 is in `len`, by the first of these that applies:
  *
  * - ARC_TOO_BIG: its leading digits are a number above 4294967295.
  * - DIGIT_EXPECTED: it has a byte that is not a digit, or it is empty and the first of several.

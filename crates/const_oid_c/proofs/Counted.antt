@@ -9,7 +9,7 @@ use Rattle.const_oid.specs.{Contents.size_answer, Items.{item_answer, item_fault
 use Rattle.const_oid.proofs.{Encodings.encoding_is, Lengths.length_is_size, Texts.{denoted_from_none, text_fault-none}}
 use Rattle.const_oid.proofs.{Enough.all_small, Items.{identifier_from_none, item_fault-none}}
 use Rattle.const_oid_c.specs.{declared.status.Status.Status}
-use Rattle.const_oid_c.specs.Status.{error_status, max_len, too_short_status}
+use Rattle.const_oid_c.specs.Status.{fault_at, max_len, too_short_status}
 use Rattle.const_oid_c.proofs.Writes.{IsWritten}
 
 -- arcs of an identifier that takes more octets than so many
@@ -50,14 +50,14 @@ longer_arcs few {fault} arcs accepted small refused read =
     rw (← same) record { identifier = identifier; more = more; fits = fits }
 
 -- nothing is written, and the status is that of so many octets, or of the fault
-pub not_written : {old : List ℕ} {status : Status} (read : Result (List ℕ) Error)
+pub not_written : (index : ℕ) {old : List ℕ} {status : Status} (read : Result (List ℕ) Error)
     → ((arcs : List ℕ) → read ≡ Ok arcs → IsLonger (length old) arcs)
-    → MatchResult (size_answer read) (λ len. status ≡ too_short_status len) (λ fault. status ≡ error_status fault)
-    → IsWritten read old old status
-not_written {old} (Ok arcs) longer is =
+    → MatchResult (size_answer read) (λ len. status ≡ too_short_status len) (λ fault. status ≡ fault_at index fault)
+    → IsWritten index read old old status
+not_written index {old} (Ok arcs) longer is =
     let long = longer arcs refl in
     let count : length (encoding_of arcs) ≡ size arcs = length_is_size (encoding_is root_rule arcs long.identifier) in
     let above = lt-ltb (length old) (size arcs) long.more in
     let least : min (size arcs) max_len ≡ size arcs = omega (arith, long.fits) in
     record { status = is ∙ rw (count, above, least) refl; after = rw (count, above) refl }
-not_written (Err fault) longer is = record { status = is; after = refl }
+not_written index (Err fault) longer is = record { status = is; after = refl }

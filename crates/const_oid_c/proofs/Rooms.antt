@@ -1,5 +1,5 @@
 -- Octets that are written where there is room for them: their status is neither `Length` nor that of an output that is too short.
-use Rattle.std.proofs.Common.{◌≡◌, ◌≢◌, ℕ, ◌*◌, ◌^◌, ◌<◌, ◌≤◌, List, get_or, length, map, Bool, true, false, cond, refl, ◌∙◌, arith, le-ltb, Result, Ok, Err}
+use Rattle.std.proofs.Common.{◌≡◌, ◌≢◌, ℕ, ◌*◌, ◌^◌, ◌<◌, ◌≤◌, List, [], get_or, length, map, Bool, true, false, cond, refl, ◌∙◌, arith, le-ltb, Result, Ok, Err}
 use Rattle.std.proofs.lemmas.Bool.Decides.{nat_tests}
 use Rattle.std.specs.Str.{is_utf8}
 use Rattle.const_oid.specs.{declared.error.Error.Error, Error.code_of}
@@ -9,7 +9,7 @@ use Rattle.const_oid.specs.{Items.{item_answer, item_fault}, Text.{number_of, pi
 use Rattle.const_oid.proofs.{Encodings.encoding_is, Lengths.length_is_size, Texts.denoted_from_none}
 use Rattle.const_oid.proofs.{Enough.{all_small, bytes_enough, five_enough}, Items.identifier_from_none}
 use Rattle.const_oid_c.specs.{declared.status.Status.Status}
-use Rattle.const_oid_c.specs.Results.{octets_of_arcs, octets_of_text}
+use Rattle.const_oid_c.specs.Results.{octets_of_arcs, octets_of_ascii, octets_of_text, octets_or_fault, wrong_index}
 use Rattle.const_oid_c.specs.Status.{max_len, not_utf8_status, output_status}
 use Rattle.const_oid_c.proofs.{Capacities.{same_arcs, same_text}, Counted.none_from_answer}
 
@@ -38,14 +38,14 @@ six TrailingDot same = cc
 
 -- ---- any arcs, or their fault
 
-not_short : (few : ℕ) (read : Result (List ℕ) Error)
-    → ((arcs : List ℕ) → read ≡ Ok arcs → length (encoding_of arcs) ≤ few) → (output_status few (octets_of_arcs read)).code ≢ 10
-not_short few (Ok arcs) fits = rw (le-ltb few (length (encoding_of arcs)) (fits arcs refl)) (λ same. cc)
-not_short few (Err fault) fits = not_ten fault
+not_short : (index few : ℕ) (read : Result (List ℕ) Error)
+    → ((arcs : List ℕ) → read ≡ Ok arcs → length (encoding_of arcs) ≤ few) → (output_status few (octets_or_fault index read)).code ≢ 10
+not_short index few (Ok arcs) fits = rw (le-ltb few (length (encoding_of arcs)) (fits arcs refl)) (λ same. cc)
+not_short index few (Err fault) fits = not_ten fault
 
-not_long : (few : ℕ) (read : Result (List ℕ) Error) → read ≢ Err Length → (output_status few (octets_of_arcs read)).code ≢ 6
-not_long few (Ok arcs) other = grind (arith, nat_tests)
-not_long few (Err fault) other = λ same. other (rw (six fault same) refl)
+not_long : (index few : ℕ) (read : Result (List ℕ) Error) → read ≢ Err Length → (output_status few (octets_or_fault index read)).code ≢ 6
+not_long index few (Ok arcs) other = grind (arith, nat_tests)
+not_long index few (Err fault) other = λ same. other (rw (six fault same) refl)
 
 -- ---- a text
 
@@ -59,27 +59,27 @@ text_fits few text arcs within room read =
     let count = length_is_size (encoding_is root_rule numbers denoted.identifier) in
     rw (← is) (omega (arith, count, fits))
 
-utf8_short : (few : ℕ) (read : Result (List ℕ) Error) (test : Bool) → (output_status few (octets_of_arcs read)).code ≢ 10
-    → (output_status few (cond test (octets_of_arcs read) (Err not_utf8_status))).code ≢ 10
-utf8_short few read true other = other
-utf8_short few read false other = λ same. cc
+utf8_short : (few : ℕ) (octets : Result (List ℕ) Status) (test : Bool) → (output_status few octets).code ≢ 10
+    → (output_status few (cond test octets (Err not_utf8_status))).code ≢ 10
+utf8_short few octets true other = other
+utf8_short few octets false other = λ same. cc
 
-utf8_long : (few : ℕ) (read : Result (List ℕ) Error) (test : Bool) → (output_status few (octets_of_arcs read)).code ≢ 6
-    → (output_status few (cond test (octets_of_arcs read) (Err not_utf8_status))).code ≢ 6
-utf8_long few read true other = other
-utf8_long few read false other = λ same. cc
+utf8_long : (few : ℕ) (octets : Result (List ℕ) Status) (test : Bool) → (output_status few octets).code ≢ 6
+    → (output_status few (cond test octets (Err not_utf8_status))).code ≢ 6
+utf8_long few octets true other = other
+utf8_long few octets false other = λ same. cc
 
 pub text_enough : {status : Status} (few : ℕ) (text : List ℕ) → few ≤ max_len → status ≡ output_status few (octets_of_text text)
     → length text ≤ few → status.code ≢ 10
 text_enough few text within is room =
-    rw is (utf8_short few (text_answer root_rule text max_len) (is_utf8 text)
-    (not_short few (text_answer root_rule text max_len) (λ arcs read. text_fits few text arcs within room read)))
+    rw is (utf8_short few (octets_of_ascii text) (is_utf8 text)
+    (not_short (wrong_index [] (pieces_of text)) few (text_answer root_rule text max_len) (λ arcs read. text_fits few text arcs within room read)))
 
 pub text_no_length : {status : Status} (few : ℕ) (text : List ℕ) → length text ≤ max_len
     → status ≡ output_status few (octets_of_text text) → status.code ≢ 6
 text_no_length few text short is =
-    rw is (utf8_long few (text_answer root_rule text max_len) (is_utf8 text)
-    (not_long few (text_answer root_rule text max_len) (bytes_enough root_rule text max_len short)))
+    rw is (utf8_long few (octets_of_ascii text) (is_utf8 text)
+    (not_long (wrong_index [] (pieces_of text)) few (text_answer root_rule text max_len) (bytes_enough root_rule text max_len short)))
 
 -- ---- arcs
 
@@ -95,9 +95,9 @@ arcs_fit few arcs accepted small within room read =
 pub arcs_enough : {status : Status} (few : ℕ) (arcs : List ℕ) → ((k : ℕ) → get_or arcs k 0 < 2 ^ 32) → few ≤ max_len
     → status ≡ output_status few (octets_of_arcs (item_answer root_rule arcs max_len)) → 5 * length arcs ≤ few → status.code ≢ 10
 arcs_enough few arcs small within is room =
-    rw is (not_short few (item_answer root_rule arcs max_len) (λ accepted read. arcs_fit few arcs accepted small within room read))
+    rw is (not_short 0 few (item_answer root_rule arcs max_len) (λ accepted read. arcs_fit few arcs accepted small within room read))
 
 pub arcs_no_length : {status : Status} (few : ℕ) (arcs : List ℕ) → ((k : ℕ) → get_or arcs k 0 < 2 ^ 32) → 5 * length arcs ≤ max_len
     → status ≡ output_status few (octets_of_arcs (item_answer root_rule arcs max_len)) → status.code ≢ 6
 arcs_no_length few arcs small short is =
-    rw is (not_long few (item_answer root_rule arcs max_len) (five_enough root_rule arcs max_len small short))
+    rw is (not_long 0 few (item_answer root_rule arcs max_len) (five_enough root_rule arcs max_len small short))

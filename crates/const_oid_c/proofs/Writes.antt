@@ -5,7 +5,7 @@ use Rattle.std.specs.Result.{result_map_both}
 use Rattle.std.proofs.lemmas.{List.{length-take-le, take-append-drop}, Str.is_utf8-from_IsUtf8}
 use Rattle.const_oid.specs.{declared.error.Error.Error, Text.text_of, Contents.{arcs_of_octets, borrowed_capacity}, Identifier.{root_rule, IsEncoding}}
 use Rattle.const_oid_c.specs.{declared.status.Status.Status}
-use Rattle.const_oid_c.specs.Results.{borrowed_answer, octets_of_arcs, output_of}
+use Rattle.const_oid_c.specs.Results.{borrowed_answer, octets_or_fault, output_of}
 use Rattle.const_oid_c.specs.Status.{len_status, output_after, output_status}
 use Rattle.const_oid.proofs.{Ascii.is_not_utf8, Encodings.{encoding_of-encoded, octet_fault-fits}}
 
@@ -24,17 +24,17 @@ pub text_again : (written : Result ℕ Error) (text : List ℕ) (answer : Result
 text_again written text (Ok arcs) e = rw e refl
 text_again written text (Err fault) e = rw e refl
 
--- the status and the output after a call that writes octets of arcs
-pub record IsWritten (read : Result (List ℕ) Error) (old new : List ℕ) (result : Status) : Type 0 where
-  pub status : result ≡ output_status (length old) (octets_of_arcs read)
-  pub after : new ≡ output_after old (octets_of_arcs read)
+-- the status and the output after a call that writes octets of arcs, or has their fault at an index
+pub record IsWritten (index : ℕ) (read : Result (List ℕ) Error) (old new : List ℕ) (result : Status) : Type 0 where
+  pub status : result ≡ output_status (length old) (octets_or_fault index read)
+  pub after : new ≡ output_after old (octets_or_fault index read)
 
 -- octets at the start of an output, and the old ones after them, are what is written of the arcs that they encode
-pub bytes_written : {read : Result (List ℕ) Error} {old new : List ℕ} (len : ℕ)
+pub bytes_written : (index : ℕ) {read : Result (List ℕ) Error} {old new : List ℕ} (len : ℕ)
     → Ok (arcs_of_octets (take len new)) ≡ read → length new ≡ length old
     → IsEncoding root_rule (arcs_of_octets (take len new)) (take len new)
-    → (len ≤ length old) × (drop len new ≡ drop len old) → IsWritten read old new (len_status len)
-bytes_written {old} {new} len answer same encoding rest =
+    → (len ≤ length old) × (drop len new ≡ drop len old) → IsWritten index read old new (len_status len)
+bytes_written index {old} {new} len answer same encoding rest =
     let long : length (take len new) ≡ len = length-take-le len new (omega (arith, rest.0)) in
     let below = le-ltb (length old) len rest.0 in
     let joined : new ≡ take len new ++ drop len old = sym (take-append-drop len new) ∙ ap (λ l. take len new ++ l) rest.1 in

@@ -9,7 +9,7 @@ use Rattle.const_oid.specs.OidRef.{ref_arcs}
 use Rattle.const_oid.specs.SortedList.{IsSortedList, item_arcs}
 use Rattle.const_oid_c.specs.declared.status.Status.{Status}
 use Rattle.const_oid_c.specs.declared.lists.Octets.{Octets}
-use Rattle.const_oid_c.specs.Status.{error_status, len_status, none_status}
+use Rattle.const_oid_c.specs.Status.{fault_at, len_status, none_status}
 use Rattle.const_oid_c.specs.Results.{borrowed_answer}
 
 -- the octets of an item
@@ -19,10 +19,6 @@ octets_at item = item.octets.now
 -- the arcs of the previous item, if there is one
 abbrev pub arcs_before : Option ObjectIdentifierRef → List ℕ
 arcs_before before = option_map_or ref_arcs before []
-
--- the status of a fault at an index
-abbrev pub fault_at : ℕ → Error → Status
-fault_at index fault = record (error_status fault) { len = index }
 
 -- the status at an index, by what the octets there are read as: their fault, or that their arcs come before those of the previous index
 abbrev pub read_fault : ℕ → List ℕ → Result (List ℕ) Error → Option Status

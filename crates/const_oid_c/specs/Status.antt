@@ -10,6 +10,10 @@ use Rattle.const_oid_c.specs.declared.status.Status.{Status}
 abbrev pub error_status : Error → Status
 error_status error = record { code = code_of error; detail = detail_of error; len = 0 }
 
+-- an error at an index
+abbrev pub fault_at : ℕ → Error → Status
+fault_at index fault = record (error_status fault) { len = index }
+
 -- a code alone
 abbrev pub code_status : ℕ → Status
 code_status code = record { code = code; detail = 0; len = 0 }

@@ -15,12 +15,12 @@ ghost use Rattle.const_oid.specs.Orders.{parts_cmp};
 ghost use Rattle.const_oid.specs.SortedList.{IsSortedList, has_item_arcs, item_arcs};
 ghost use Rattle.const_oid.specs.Tree.{BeginsWith};
 ghost use Rattle.const_oid_c.specs.Results.{borrowed_answer, status_of};
-ghost use Rattle.const_oid_c.specs.Lists.{IsIndexOrNone, arcs_before, fault_at, index_status, fault_after, list_fault, list_status, octets_at, IsFirstUnsorted};
-ghost use Rattle.const_oid_c.specs.Status.{error_status, len_status, none_status};
+ghost use Rattle.const_oid_c.specs.Lists.{IsIndexOrNone, arcs_before, index_status, fault_after, list_fault, list_status, octets_at, IsFirstUnsorted};
+ghost use Rattle.const_oid_c.specs.Status.{error_status, fault_at, len_status, none_status};
 
-use crate::status::{NONE, Status, UNSORTED, code_status, error_status, len_status};
+use crate::status::{NONE, Status, UNSORTED, code_status, error_status, fault_at, len_status};
+use const_oid::ObjectIdentifierRef;
 use const_oid::search::{Contents, end_of, first_of, nearest_of, subtree_of};
-use const_oid::{Error, ObjectIdentifierRef};
 
 /// The contents octets of one identifier of a list.
 #[repr(C)]
@@ -217,16 +217,5 @@ fn comes_before(oid: ObjectIdentifierRef<'_>, before: Option<ObjectIdentifierRef
     match before {
         Some(before) => oid.cmp_arcs(&before).is_lt(),
         None => false,
-    }
-}
-
-/// The status of an error of the octets at an index.
-fn fault_at(index: usize, fault: Error) -> Status
-    ensures status { result ≡ fault_at index fault }
-    ensures code { 0 < result.code }
-{
-    Status {
-        len: index,
-        ..error_status(fault)
     }
 }

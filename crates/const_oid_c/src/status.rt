@@ -1,6 +1,6 @@
 //! What a function returns besides its output, and the version of the library.
 ghost use Rattle.std.specs.Prelude.{◌≡◌, ◌<◌};
-ghost use Rattle.const_oid_c.specs.Status.{error_status, code_status, len_status, number_status, too_short_status, flag_status, order_number, order_status};
+ghost use Rattle.const_oid_c.specs.Status.{error_status, fault_at, code_status, len_status, number_status, too_short_status, flag_status, order_number, order_status};
 
 use const_oid::Error;
 use std::cmp::Ordering;
@@ -69,7 +69,8 @@ pub struct Status {
     /// with `DIGIT_EXPECTED` the byte. Otherwise 0.
     pub detail: u32,
     /// With `OK` the number of items that were written or counted, or the index that was found. With
-    /// `OUTPUT_TOO_SHORT` the number of items of the result. For a wrong item of a list its index. Otherwise 0.
+    /// `OUTPUT_TOO_SHORT` the number of items of the result. For a wrong item of a list, or component of a text, its
+    /// index. Otherwise 0.
     pub len: usize,
 }
 
@@ -93,6 +94,17 @@ pub(crate) fn error_status(error: Error) -> Status
         code,
         detail,
         len: 0,
+    }
+}
+
+/// The status of an error of what is at an index.
+pub(crate) fn fault_at(index: usize, fault: Error) -> Status
+    ensures status { result ≡ fault_at index fault }
+    ensures code { 0 < result.code }
+{
+    Status {
+        len: index,
+        ..error_status(fault)
     }
 }
 

@@ -1,12 +1,14 @@
 //! Dotted text.
-ghost use Rattle.std.specs.Prelude.{◌≡◌, ◌≢◌, ◌≤◌, length, Err};
-ghost use Rattle.const_oid.specs.Text.{text_of, text_answer};
+ghost use Rattle.std.specs.Prelude.{◌≡◌, ◌≢◌, ◌≤◌, [], length, Err};
+ghost use Rattle.const_oid.specs.Text.{pieces_of, text_of, text_answer};
 ghost use Rattle.const_oid.specs.Identifier.{root_rule, default_capacity};
-ghost use Rattle.const_oid_c.specs.Status.{max_len, output_status, output_after};
-ghost use Rattle.const_oid_c.specs.Results.{octets_of_text, octets_of_arcs, output_of, borrowed_answer};
+ghost use Rattle.const_oid_c.specs.Status.{output_status, output_after};
+ghost use Rattle.const_oid_c.specs.Results.{octets_of_ascii, octets_of_text, output_of, borrowed_answer, wrong_index};
 
-use crate::output::{unwritten_status, write_bytes};
-use crate::status::{NOT_UTF8, Status, code_status, error_status, len_status, too_short_status};
+use crate::output::write_bytes;
+use crate::status::{
+    NOT_UTF8, Status, code_status, error_status, fault_at, len_status, too_short_status,
+};
 use const_oid::{Error, ObjectIdentifierRef};
 use std::str;
 
@@ -43,20 +45,56 @@ fn write_after_fault(fault: Error, text: &[u8], out: &mut [u8]) -> Status
     // At a greater capacity, only `Length` can become another result.
     match fault {
         Error::Length => write_past_39_octets(text, out),
-        other => error_status(other),
+        other => fault_at(wrong_component(text), other),
     }
 }
 
 /// Writes the contents octets of the identifier that dotted text denotes, of any length, or counts those that do not fit.
 fn write_past_39_octets(text: &[u8], out: &mut [u8]) -> Status
-    ensures status { result ≡ output_status (length out.old) (octets_of_arcs (text_answer root_rule text.now max_len)) }
-    ensures written { out.new ≡ output_after out.old (octets_of_arcs (text_answer root_rule text.now max_len)) }
+    ensures status { result ≡ output_status (length out.old) (octets_of_ascii text.now) }
+    ensures written { out.new ≡ output_after out.old (octets_of_ascii text.now) }
 {
     match ObjectIdentifierRef::bytes_from_ascii(text, out) {
         Ok(len) => len_status(len),
         // At the greatest limit, the error of any other kind is the same.
-        Err(_) => unwritten_status(ObjectIdentifierRef::bytes_len_from_ascii(text, usize::MAX)),
+        Err(_) => match ObjectIdentifierRef::bytes_len_from_ascii(text, usize::MAX) {
+            Ok(len) => too_short_status(len),
+            Err(fault) => fault_at(wrong_component(text), fault),
+        },
     }
+}
+
+/// The index of the first wrong component of a text, or else of the last one.
+#[inline(never)]
+fn wrong_component(text: &[u8]) -> usize
+    ensures { result ≡ wrong_index [] (pieces_of text.now) }
+{
+    let mut index = 0;
+    let mut start = 0;
+    let mut number: u64 = 0;
+    // The greatest arc that may be there.
+    let mut limit: u64 = 2;
+    for (at, byte) in text.iter().enumerate() {
+        if byte.is_ascii_digit() {
+            number = number * 10 + u64::from(*byte - b'0');
+            if number > u64::from(u32::MAX) {
+                return index;
+            }
+        } else {
+            if *byte != b'.' || at == start || at + 1 == text.len() || number > limit {
+                return index;
+            }
+            limit = if index == 0 && number < 2 {
+                39
+            } else {
+                u64::from(u32::MAX)
+            };
+            index += 1;
+            start = at + 1;
+            number = 0;
+        }
+    }
+    index
 }
 
 /// The room for the text of 16 octets: four bytes for each octet, and eleven for one arc more.

@@ -136,6 +136,7 @@ static answer read_text(argument text, identifier *to) {
     for (size_t start = 0, end = 0; start <= text.len; start = ++end) {
         while (end < text.len && from[end] != '.') end++;
         answer wrong = read_component(from, start, end, text.len, to);
+        wrong.status.len = to->count;
         if (wrong.status.code != CONST_OID_OK) return wrong;
     }
     return of_code(to->count < 2 ? CONST_OID_EMPTY : CONST_OID_OK, 0);

@@ -5,9 +5,9 @@
 //! No search checks the list: over a list that `const_oid_check_sorted` does not accept, what it finds is
 //! unspecified, but is within the list.
 
-use crate::erased::status::{NONE, Status, UNSORTED, code_status, error_status, len_status};
+use crate::erased::status::{NONE, Status, UNSORTED, code_status, error_status, fault_at, len_status};
+use const_oid::internal_for_const_oid_c::ObjectIdentifierRef;
 use const_oid::internal_for_const_oid_c::search::{Contents, end_of, first_of, nearest_of, subtree_of};
-use const_oid::internal_for_const_oid_c::{Error, ObjectIdentifierRef};
 
 /// The contents octets of one identifier of a list.
 pub use crate::edge::Octets;
@@ -114,9 +114,4 @@ fn comes_before(oid: &ObjectIdentifierRef, before: Option<&ObjectIdentifierRef>)
         Some(before) => oid.cmp_arcs(&before).is_lt(),
         None => false,
     }
-}
-
-/// The status of an error of the octets at an index.
-fn fault_at(index: usize, fault: Error) -> Status {
-    Status { len: index, ..error_status(fault) }
 }

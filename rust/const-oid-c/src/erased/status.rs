@@ -69,7 +69,8 @@ pub struct Status {
     /// with `DIGIT_EXPECTED` the byte. Otherwise 0.
     pub detail: u32,
     /// With `OK` the number of items that were written or counted, or the index that was found. With
-    /// `OUTPUT_TOO_SHORT` the number of items of the result. For a wrong item of a list its index. Otherwise 0.
+    /// `OUTPUT_TOO_SHORT` the number of items of the result. For a wrong item of a list, or component of a text, its
+    /// index. Otherwise 0.
     pub len: usize,
 }
 
@@ -87,6 +88,11 @@ pub(crate) fn error_status(error: Error) -> Status {
         Error::TrailingDot => (TRAILING_DOT, 0),
     };
     Status { code, detail, len: 0 }
+}
+
+/// The status of an error of what is at an index.
+pub(crate) fn fault_at(index: usize, fault: Error) -> Status {
+    Status { len: index, ..error_status(fault) }
 }
 
 /// A status that has a code alone.

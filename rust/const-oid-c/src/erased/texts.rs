@@ -2,8 +2,8 @@
 
 //! Dotted text.
 
-use crate::erased::output::{unwritten_status, write_bytes};
-use crate::erased::status::{NOT_UTF8, Status, code_status, error_status, len_status, too_short_status};
+use crate::erased::output::write_bytes;
+use crate::erased::status::{NOT_UTF8, Status, code_status, error_status, fault_at, len_status, too_short_status};
 use const_oid::internal_for_const_oid_c::{Error, ObjectIdentifierRef};
 use core::str;
 
@@ -29,7 +29,7 @@ extern "C" fn write_after_fault(fault: Error, text: &[u8], out: &mut crate::edge
     // At a greater capacity, only `Length` can become another result.
     match fault {
         Error::Length => write_past_39_octets(text, out),
-        other => error_status(other),
+        other => fault_at(wrong_component(text), other),
     }
 }
 
@@ -38,8 +38,38 @@ fn write_past_39_octets(text: &[u8], out: &mut crate::edge::Output<u8>) -> Statu
     match crate::outputs::bytes_from_ascii(text, out) {
         Ok(len) => len_status(len),
         // At the greatest limit, the error of any other kind is the same.
-        Err(_) => unwritten_status(const_oid::internal_for_const_oid_c::bytes_len_from_ascii(text, usize::MAX)),
+        Err(_) => match const_oid::internal_for_const_oid_c::bytes_len_from_ascii(text, usize::MAX) {
+            Ok(len) => too_short_status(len),
+            Err(fault) => fault_at(wrong_component(text), fault),
+        },
     }
+}
+
+/// The index of the first wrong component of a text, or else of the last one.
+#[inline(never)]
+extern "C" fn wrong_component(text: &[u8]) -> usize {
+    let mut index = 0;
+    let mut start = 0;
+    let mut number: u64 = 0;
+    // The greatest arc that may be there.
+    let mut limit: u64 = 2;
+    for (at, byte) in text.iter().enumerate() {
+        if byte.is_ascii_digit() {
+            number = number * 10 + u64::from(*byte - b'0');
+            if number > u64::from(u32::MAX) {
+                return index;
+            }
+        } else {
+            if *byte != b'.' || at == start || at + 1 == text.len() || number > limit {
+                return index;
+            }
+            limit = if index == 0 && number < 2 { 39 } else { u64::from(u32::MAX) };
+            index += 1;
+            start = at + 1;
+            number = 0;
+        }
+    }
+    index
 }
 
 /// The room for the text of 16 octets: four bytes for each octet, and eleven for one arc more.

@@ -5,19 +5,19 @@ use Rattle.const_oid_c.proofs.{Writes.{IsWritten, bytes_written}, Capacities.sam
 use Rattle.const_oid_c.proofs.arcs.write_past_39_octets.Goals as goal
 
 written : (c : goal.After-len_status)
-    → IsWritten (item_answer root_rule c.args.arcs.now max_len) c.args.out.now c.bytes_from_arcs.new.out (len_status c.in-Ok.len)
+    → IsWritten 0 (item_answer root_rule c.args.arcs.now max_len) c.args.out.now c.bytes_from_arcs.new.out (len_status c.in-Ok.len)
 written c =
     let is = c.in-Ok.ensures in
     let few = length c.args.out.now in
     let fits : few ≤ max_len = omega arith in
     let other : item_answer root_rule c.args.arcs.now few ≢ Err Length = λ same. cc in
     let answer = is.answer ∙ same_arcs few max_len fits c.args.arcs.now other in
-    bytes_written c.in-Ok.len answer c.bytes_from_arcs.auto.out is.encoding is.rest
+    bytes_written 0 c.in-Ok.len answer c.bytes_from_arcs.auto.out is.encoding is.rest
 
 counted : (c : goal.After-unwritten_status)
-    → IsWritten (item_answer root_rule c.args.arcs.now max_len) c.args.out.now c.args.out.now c.unwritten_status.result
+    → IsWritten 0 (item_answer root_rule c.args.arcs.now max_len) c.args.out.now c.args.out.now c.unwritten_status.result
 counted c =
-    not_written (item_answer root_rule c.args.arcs.now max_len)
+    not_written 0 (item_answer root_rule c.args.arcs.now max_len)
     (λ arcs read. longer_arcs (length c.args.out.now) c.args.arcs.now arcs (λ k. omega (arith, c.type_inv.arcs k)) (sym c.in-Err.ensures.answer) read)
     (rw c.bytes_len_from_arcs.ensures.len at c.unwritten_status.ensures)
 
