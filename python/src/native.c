@@ -446,6 +446,17 @@ static PyObject *error_text(PyObject *module, PyObject *arguments) {
     return PyUnicode_FromStringAndSize(text, (Py_ssize_t)status.len);
 }
 
+/* The index of the first wrong component of a text's bytes, or None. */
+static PyObject *wrong_component(PyObject *module, PyObject *text) {
+    (void)module;
+    char *bytes;
+    Py_ssize_t len;
+    if (PyBytes_AsStringAndSize(text, &bytes, &len)) return NULL;
+    const_oid_status status = const_oid_from_text(bytes, (size_t)len, NULL, 0);
+    if (status.code == CONST_OID_OK || status.code == CONST_OID_OUTPUT_TOO_SHORT) Py_RETURN_NONE;
+    return PyLong_FromSize_t(status.len);
+}
+
 PyDoc_STRVAR(identifier_doc, "ObjectIdentifier(text)\n--\n\n\
 An object identifier: at least two arcs of 32 bits.\n\
 \n\
@@ -647,6 +658,7 @@ static PyObject *restored(PyObject *module, PyObject *octets) {
 
 static PyMethodDef module_methods[] = {
     {"error_text", error_text, METH_VARARGS, "The text of a code and its detail, or None."},
+    {"wrong_component", wrong_component, METH_O, "The index of the first wrong component of a text's bytes, or None."},
     {"restored", restored, METH_O, "The identifier of a pickle, which has its octets."},
     {0},
 };

@@ -4,6 +4,7 @@ from typing import Any, Self, SupportsIndex, overload
 __version__: str
 
 def error_text(code: int, detail: int, /) -> str | None: ...
+def wrong_component(text: bytes, /) -> int | None: ...
 
 class ObjectIdentifier(Sequence[int]):
     __match_args__ = ("arcs",)

@@ -11,7 +11,7 @@ import sys
 from collections.abc import Sequence
 from typing import Any
 
-from ._native import ObjectIdentifier, error_text
+from ._native import ObjectIdentifier, error_text, wrong_component
 
 PUBLIC = "const_oid"
 
@@ -67,15 +67,7 @@ class OidError(ValueError):
         >>> [OidError(Code.TRAILING_DOT, 0, text).piece for text in ("3.", "1.2.")]
         [0, 1]
         """
-        if not isinstance(self.given, str):
-            return None
-        pieces = self.given.split(".")
-        for index, piece in enumerate(pieces):
-            try:
-                ObjectIdentifier(f"{piece}.0" if index == 0 else f"{pieces[0] if index == 1 else '1.1'}.{piece}")
-            except OidError:
-                return index - 1 if index and pieces[index:] == [""] else index
-        return None if len(pieces) > 1 else 0
+        return wrong_component(self.given.encode(errors="replace")) if isinstance(self.given, str) else None
 
     def __str__(self) -> str:
         text = error_text(self.code, self.detail) or f"{self.code.name} {self.detail}"
