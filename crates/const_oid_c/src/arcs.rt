@@ -7,6 +7,7 @@ ghost use Rattle.const_oid_c.specs.Status.{max_len, output_status, output_after,
 ghost use Rattle.const_oid_c.specs.Results.{octets_of_arcs, output_of, status_of, borrowed_answer, arc_status};
 
 use crate::output::{unwritten_status, write_octets};
+use crate::owned::MAX_OCTETS;
 use crate::status::{
     NONE, Status, code_status, error_status, len_status, number_status, too_short_status,
 };
@@ -64,9 +65,21 @@ pub extern "C" fn const_oid_from_arcs(arcs: &[u32], out: &mut [u8]) -> Status
     }
 }
 
-/// Writes the contents octets of arcs, any number of them, or counts those that do not fit.
+/// Writes the contents octets of arcs, or reports why there are none. An identifier of up to 255 octets is quicker to make.
+#[tactic(auto, using(crate::proofs::Capacities::same_arcs))]
 #[inline(never)]
 fn write_past_39_octets(arcs: &[u32], out: &mut [u8]) -> Status
+    ensures status { result ≡ output_status (length out.old) (octets_of_arcs (item_answer root_rule arcs.now max_len)) }
+    ensures written { out.new ≡ output_after out.old (octets_of_arcs (item_answer root_rule arcs.now max_len)) }
+{
+    match encoded::<MAX_OCTETS>(arcs) {
+        Err(Error::Length) => write_past_255_octets(arcs, out),
+        oid => write_octets(oid, out),
+    }
+}
+
+/// Writes the contents octets of arcs, any number of them, or counts those that do not fit.
+fn write_past_255_octets(arcs: &[u32], out: &mut [u8]) -> Status
     ensures status { result ≡ output_status (length out.old) (octets_of_arcs (item_answer root_rule arcs.now max_len)) }
     ensures written { out.new ≡ output_after out.old (octets_of_arcs (item_answer root_rule arcs.now max_len)) }
 {

@@ -3,6 +3,7 @@
 //! Octets to arcs, and arcs to octets.
 
 use crate::erased::output::{unwritten_status, write_octets};
+use crate::erased::owned::MAX_OCTETS;
 use crate::erased::status::{NONE, Status, code_status, error_status, len_status, number_status, too_short_status};
 use const_oid::internal_for_const_oid_c::{Arcs, Error, ObjectIdentifier, ObjectIdentifierRef, Result};
 
@@ -42,9 +43,17 @@ pub fn const_oid_from_arcs(arcs: &[u32], out: &mut crate::edge::Output<u8>) -> S
     }
 }
 
-/// Writes the contents octets of arcs, any number of them, or counts those that do not fit.
+/// Writes the contents octets of arcs, or reports why there are none. An identifier of up to 255 octets is quicker to make.
 #[inline(never)]
 fn write_past_39_octets(arcs: &[u32], out: &mut crate::edge::Output<u8>) -> Status {
+    match encoded::<MAX_OCTETS>(arcs) {
+        Err(Error::Length) => write_past_255_octets(arcs, out),
+        oid => write_octets(oid, out),
+    }
+}
+
+/// Writes the contents octets of arcs, any number of them, or counts those that do not fit.
+fn write_past_255_octets(arcs: &[u32], out: &mut crate::edge::Output<u8>) -> Status {
     match crate::outputs::bytes_from_arcs(arcs, out) {
         Ok(len) => len_status(len),
         // At the greatest limit, the error of any other kind is the same.
