@@ -446,7 +446,7 @@ static PyObject *error_text(PyObject *module, PyObject *arguments) {
     return PyUnicode_FromStringAndSize(text, (Py_ssize_t)status.len);
 }
 
-/* The index of the first wrong component of a text's bytes, or None. */
+/* The index of the first wrong component of a text in UTF-8, or None if it is valid. */
 static PyObject *wrong_component(PyObject *module, PyObject *text) {
     (void)module;
     char *bytes;
@@ -658,7 +658,7 @@ static PyObject *restored(PyObject *module, PyObject *octets) {
 
 static PyMethodDef module_methods[] = {
     {"error_text", error_text, METH_VARARGS, "The text of a code and its detail, or None."},
-    {"wrong_component", wrong_component, METH_O, "The index of the first wrong component of a text's bytes, or None."},
+    {"wrong_component", wrong_component, METH_O, "The index of the first wrong component of a text in UTF-8, or None."},
     {"restored", restored, METH_O, "The identifier of a pickle, which has its octets."},
     {0},
 };

@@ -217,15 +217,15 @@ CONST_OID_NODISCARD const_oid_status const_oid_push_arc(
     size_t out_len);
 
 /* Whether an identifier begins with all arcs of a prefix. Both may have any length. Returns the code of the octets if
- * they are invalid, or else that of the prefix. Code 0 says only that both are valid: the answer is in
- * `detail`. */
+ * they are invalid, or else that of the prefix. Code 0 says only that both are valid: the answer is in `detail`. */
 CONST_OID_NODISCARD const_oid_status const_oid_starts_with(
     const uint8_t *octets, size_t len, const uint8_t *prefix, size_t prefix_len);
 
-/* 1 if both are valid and the identifier begins with all arcs of the prefix, and otherwise 0. */
+/* 1 if both are valid and the identifier begins with all arcs of the prefix, which may be all that it has, and otherwise
+ * 0, also for invalid octets. */
 CONST_OID_NODISCARD static __inline int const_oid_is_under(
     const uint8_t *octets, size_t len, const uint8_t *prefix, size_t prefix_len) {
-    return const_oid_starts_with(octets, len, prefix, prefix_len).detail == 1; /* it is 0 after an error */
+    return const_oid_starts_with(octets, len, prefix, prefix_len).detail == 1; /* invalid octets leave 0 */
 }
 
 /* Whether two identifiers of any length are equal. Returns the code for the first invalid one, if any. Code 0 says
@@ -233,7 +233,7 @@ CONST_OID_NODISCARD static __inline int const_oid_is_under(
 CONST_OID_NODISCARD const_oid_status const_oid_eq(
     const uint8_t *left, size_t left_len, const uint8_t *right, size_t right_len);
 
-/* 1 if both are valid and equal, and otherwise 0. */
+/* 1 if both are valid and equal, and otherwise 0, also for invalid octets. */
 CONST_OID_NODISCARD static __inline int const_oid_is_equal(
     const uint8_t *left, size_t left_len, const uint8_t *right, size_t right_len) {
     return const_oid_eq(left, left_len, right, right_len).detail == 1;

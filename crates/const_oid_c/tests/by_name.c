@@ -6,6 +6,10 @@ int is_rsa(const uint8_t *octets, size_t len) {
     return const_oid_is_equal(octets, len, CONST_OID_OCTETS(CONST_OID_RFC5912_RSA_ENCRYPTION));
 }
 
+int is_key_purpose(const uint8_t *octets, size_t len) {
+    return const_oid_is_under(octets, len, CONST_OID_OCTETS(CONST_OID_RFC5280_ID_KP));
+}
+
 void print_name(const uint8_t *octets, size_t len) {
     const_oid_status found = const_oid_find(octets, len, const_oid_name_octets, CONST_OID_NAMES_COUNT);
     if (found.code == CONST_OID_OK) printf("%s\n", const_oid_names[found.len]);
@@ -33,10 +37,14 @@ static rule rules[] = {
 enum { RULES = sizeof rules / sizeof *rules };
 static const_oid_octets sorted[RULES];
 
-/* Sorts the rules, before the first question. Returns whether all are valid. */
+/* Sorts the rules, before the first question. Returns whether all are valid, and no two for one identifier. If not, ask
+ * nothing. */
 int sort_rules(void) {
     qsort(rules, RULES, sizeof *rules, const_oid_by_arcs);
-    for (size_t i = 0; i < RULES; i++) sorted[i] = rules[i].oid;
+    for (size_t i = 0; i < RULES; i++) {
+        sorted[i] = rules[i].oid;
+        if (i > 0 && const_oid_by_arcs(&sorted[i - 1], &sorted[i]) == 0) return 0;
+    }
     return const_oid_check_sorted(sorted, RULES).code == CONST_OID_OK;
 }
 

@@ -264,7 +264,7 @@ RULE(const_oid_eq) {
     return of_number(first.count == second.count && memcmp(first.arcs, second.arcs, 4 * first.count) == 0);
 }
 
-/* A rule's detail is 0 after an error. */
+/* Invalid octets leave 0 in `detail`. */
 RULE(const_oid_is_under) { return of_number(const_oid_starts_with_rule(a).status.detail); }
 RULE(const_oid_is_equal) { return of_number(const_oid_eq_rule(a).status.detail); }
 

@@ -13,8 +13,8 @@ pub struct Crate {
 
 /// An edit.
 pub struct Edit {
-    /// The module in which `old` occurs once, by its path (`fast/lanes`); with `*` after it, any number of times; nothing
-    /// is any number in all.
+    /// The module in which `old` occurs once, by its path (`fast/lanes`); with `*` after it, any number of times;
+    /// nothing is any number in all.
     pub module: &'static str,
     pub old: &'static str,
     pub new: &'static str,
@@ -164,7 +164,8 @@ pub const CRATES: &[Crate] = &[
             "": "ObjectIdentifierRef<'a>" => "&'a ObjectIdentifierRef", UNSIZED;
             "texts*": "ObjectIdentifierRef::text_from_bytes"
                 => "const_oid::internal_for_const_oid_c::text_from_bytes", FOR_C;
-            "texts": "ObjectIdentifierRef::from_ascii_in_39" => "const_oid::internal_for_const_oid_c::from_ascii_in_39", FOR_C;
+            "texts": "ObjectIdentifierRef::from_ascii_in_39"
+                => "const_oid::internal_for_const_oid_c::from_ascii_in_39", FOR_C;
             "texts": "ObjectIdentifierRef::bytes_len_from_ascii"
                 => "const_oid::internal_for_const_oid_c::bytes_len_from_ascii", FOR_C;
             "arcs": "ObjectIdentifierRef::bytes_len_from_arcs"
