@@ -221,8 +221,8 @@ CONST_OID_NODISCARD const_oid_status const_oid_push_arc(
 CONST_OID_NODISCARD const_oid_status const_oid_starts_with(
     const uint8_t *octets, size_t len, const uint8_t *prefix, size_t prefix_len);
 
-/* 1 if both are valid and the identifier begins with all arcs of the prefix, which may be all that it has, and otherwise
- * 0, also for invalid octets. */
+/* 1 if both are valid and the identifier begins with all arcs of the prefix, which may be all that it has, and
+ * otherwise 0, also for invalid octets. */
 CONST_OID_NODISCARD static __inline int const_oid_is_under(
     const uint8_t *octets, size_t len, const uint8_t *prefix, size_t prefix_len) {
     return const_oid_starts_with(octets, len, prefix, prefix_len).detail == 1; /* invalid octets leave 0 */
