@@ -66,7 +66,8 @@ fn all_read(text: &str, wanted: Result<&[u8], Error>) -> bool {
 /// Whether `from_ascii_in_39` has this result for a text.
 fn is_borrowed(text: &str, wanted: Result<&[u8], Error>) -> bool {
     let mut out = [0xEE; 39];
-    ObjectIdentifierRef::from_ascii_in_39(text.as_bytes(), &mut out).map(|oid| oid.as_bytes()) == wanted
+    ObjectIdentifierRef::from_ascii_in_39(text.as_bytes(), &mut out).map(|oid| oid.as_bytes())
+        == wanted
 }
 
 #[test]
