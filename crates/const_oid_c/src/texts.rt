@@ -5,11 +5,12 @@ ghost use Rattle.const_oid.specs.Identifier.{root_rule, default_capacity};
 ghost use Rattle.const_oid_c.specs.Status.{output_status, output_after};
 ghost use Rattle.const_oid_c.specs.Results.{octets_of_ascii, octets_of_text, output_of, borrowed_answer, wrong_index};
 
-use crate::output::write_bytes;
+use crate::output::{write_bytes, write_octets};
+use crate::owned::MAX_OCTETS;
 use crate::status::{
     NOT_UTF8, Status, code_status, error_status, fault_at, len_status, too_short_status,
 };
-use const_oid::{Error, ObjectIdentifierRef};
+use const_oid::{Error, ObjectIdentifier, ObjectIdentifierRef};
 use std::str;
 
 /// Writes the contents octets of the identifier that dotted text denotes.
@@ -49,8 +50,22 @@ fn write_after_fault(fault: Error, text: &[u8], out: &mut [u8]) -> Status
     }
 }
 
-/// Writes the contents octets of the identifier that dotted text denotes, of any length, or counts those that do not fit.
+/// Writes the contents octets of the identifier that dotted text denotes, or reports why there is none. An identifier of
+/// up to 255 octets is quicker to make.
+#[tactic(auto, using(crate::proofs::Capacities::same_text))]
 fn write_past_39_octets(text: &[u8], out: &mut [u8]) -> Status
+    ensures status { result ≡ output_status (length out.old) (octets_of_ascii text.now) }
+    ensures written { out.new ≡ output_after out.old (octets_of_ascii text.now) }
+{
+    match ObjectIdentifier::<MAX_OCTETS>::from_ascii(text) {
+        Ok(oid) => write_octets(Ok(oid), out),
+        Err(Error::Length) => write_past_255_octets(text, out),
+        Err(fault) => fault_at(wrong_component(text), fault),
+    }
+}
+
+/// Writes the contents octets of the identifier that dotted text denotes, of any length, or counts those that do not fit.
+fn write_past_255_octets(text: &[u8], out: &mut [u8]) -> Status
     ensures status { result ≡ output_status (length out.old) (octets_of_ascii text.now) }
     ensures written { out.new ≡ output_after out.old (octets_of_ascii text.now) }
 {

@@ -2,9 +2,10 @@
 
 //! Dotted text.
 
-use crate::erased::output::write_bytes;
+use crate::erased::output::{write_bytes, write_octets};
+use crate::erased::owned::MAX_OCTETS;
 use crate::erased::status::{NOT_UTF8, Status, code_status, error_status, fault_at, len_status, too_short_status};
-use const_oid::internal_for_const_oid_c::{Error, ObjectIdentifierRef};
+use const_oid::internal_for_const_oid_c::{Error, ObjectIdentifier, ObjectIdentifierRef};
 use core::str;
 
 /// Writes the contents octets of the identifier that dotted text denotes.
@@ -33,8 +34,18 @@ extern "C" fn write_after_fault(fault: Error, text: &[u8], out: &mut crate::edge
     }
 }
 
-/// Writes the contents octets of the identifier that dotted text denotes, of any length, or counts those that do not fit.
+/// Writes the contents octets of the identifier that dotted text denotes, or reports why there is none. An identifier of
+/// up to 255 octets is quicker to make.
 fn write_past_39_octets(text: &[u8], out: &mut crate::edge::Output<u8>) -> Status {
+    match ObjectIdentifier::<MAX_OCTETS>::from_ascii(text) {
+        Ok(oid) => write_octets(Ok(oid), out),
+        Err(Error::Length) => write_past_255_octets(text, out),
+        Err(fault) => fault_at(wrong_component(text), fault),
+    }
+}
+
+/// Writes the contents octets of the identifier that dotted text denotes, of any length, or counts those that do not fit.
+fn write_past_255_octets(text: &[u8], out: &mut crate::edge::Output<u8>) -> Status {
     match crate::outputs::bytes_from_ascii(text, out) {
         Ok(len) => len_status(len),
         // At the greatest limit, the error of any other kind is the same.

@@ -2,7 +2,7 @@ use Rattle.std.proofs.Common.{◌≢◌, ◌≤◌, [], length, Err, sym, ◌∙
 use Rattle.const_oid.specs.{declared.error.Error.TheVariants.Length, Identifier.root_rule, Text.{pieces_of, text_answer}}
 use Rattle.const_oid_c.specs.{Results.wrong_index, Status.{len_status, max_len}}
 use Rattle.const_oid_c.proofs.{Writes.{IsWritten, bytes_written}, Capacities.same_text, Counted.{longer_text, not_written}}
-use Rattle.const_oid_c.proofs.texts.write_past_39_octets.Goals as goal
+use Rattle.const_oid_c.proofs.texts.write_past_255_octets.Goals as goal
 
 written : (c : goal.After-len_status)
     → IsWritten (wrong_index [] (pieces_of c.args.text.now)) (text_answer root_rule c.args.text.now max_len) c.args.out.now c.bytes_from_ascii.new.out (len_status c.in-Ok.len)
