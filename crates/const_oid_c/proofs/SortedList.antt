@@ -10,8 +10,7 @@ use Rattle.std.specs.Ordering.{is_lt}
 use Rattle.const_oid.specs.Identifier.{root_rule, IsEncoding}
 use Rattle.const_oid.specs.SortedList.{IsSortedList, item_arcs}
 use Rattle.std.specs.Prelude.{IfNone}
-use Rattle.const_oid_c.specs.Lists.{index_status}
-use Rattle.const_oid_c.specs.Status.{none_status}
+use Rattle.const_oid_c.specs.Lists.{index_status, none_of}
 
 -- nothing comes before no arcs
 first_of_all : (arcs : List ℕ) → is_lt (slice_cmp nat_cmp arcs []) ≡ false
@@ -45,6 +44,7 @@ sorted_before octets_of items index within valid sorted =
     }
 
 -- where it is that of none, there is no index
-pub none_from_status : (index : Option ℕ) (P : Type 0) → index_status index ≡ none_status → IfNone index P → P
-none_from_status None P e none = none
-none_from_status (Some index) P e none = absurd (grind (arith, e))
+pub none_from_status : (count : ℕ) (index : Option ℕ) (P : Type 0)
+    → index_status count index ≡ none_of count → IfNone index P → P
+none_from_status count None P e none = none
+none_from_status count (Some index) P e none = absurd (grind (arith, e))

@@ -15,8 +15,8 @@ ghost use Rattle.const_oid.specs.Orders.{parts_cmp};
 ghost use Rattle.const_oid.specs.SortedList.{IsSortedList, has_item_arcs, item_arcs};
 ghost use Rattle.const_oid.specs.Tree.{BeginsWith};
 ghost use Rattle.const_oid_c.specs.Results.{borrowed_answer, status_of};
-ghost use Rattle.const_oid_c.specs.Lists.{IsIndexOrNone, arcs_before, index_status, fault_after, list_fault, list_status, octets_at, IsFirstUnsorted};
-ghost use Rattle.const_oid_c.specs.Status.{error_status, fault_at, len_status, none_status};
+ghost use Rattle.const_oid_c.specs.Lists.{IsIndexOrNone, arcs_before, index_status, fault_after, list_fault, list_status, none_of, octets_at, IsFirstUnsorted};
+ghost use Rattle.const_oid_c.specs.Status.{error_status, fault_at, len_status};
 
 use crate::status::{NONE, Status, UNSORTED, code_status, error_status, fault_at, len_status};
 use const_oid::ObjectIdentifierRef;
@@ -73,12 +73,12 @@ pub extern "C" fn const_oid_check_sorted(items: &[Octets<'_>]) -> Status
 #[unsafe(no_mangle)]
 pub extern "C" fn const_oid_find(octets: &[u8], sorted: &[Octets<'_>]) -> Status
     ensures found { IsSortedList octets_at sorted.now
-        → result ≡ status_of (λ arcs. index_status (position (has_item_arcs octets_at arcs) sorted.now)) (borrowed_answer octets.now) }
+        → result ≡ status_of (λ arcs. index_status (length sorted.now) (position (has_item_arcs octets_at arcs) sorted.now)) (borrowed_answer octets.now) }
     ensures within { IfOk (borrowed_answer octets.now) (λ _. IsIndexOrNone (length sorted.now) result) }
     ensures fault { IfErr (borrowed_answer octets.now) (λ fault. result ≡ error_status fault) }
 {
     match ObjectIdentifierRef::from_bytes(octets) {
-        Ok(oid) => index_status(first_of(sorted, &oid)),
+        Ok(oid) => index_status(first_of(sorted, &oid), sorted.len()),
         Err(fault) => error_status(fault),
     }
 }
@@ -87,13 +87,13 @@ pub extern "C" fn const_oid_find(octets: &[u8], sorted: &[Octets<'_>]) -> Status
 #[unsafe(no_mangle)]
 pub extern "C" fn const_oid_next(octets: &[u8], sorted: &[Octets<'_>]) -> Status
     ensures found { IsSortedList octets_at sorted.now
-        → result ≡ status_of (λ arcs. index_status (position (λ item. is_lt (slice_cmp nat_cmp arcs (item_arcs octets_at item))) sorted.now))
+        → result ≡ status_of (λ arcs. index_status (length sorted.now) (position (λ item. is_lt (slice_cmp nat_cmp arcs (item_arcs octets_at item))) sorted.now))
         (borrowed_answer octets.now) }
     ensures within { IfOk (borrowed_answer octets.now) (λ _. IsIndexOrNone (length sorted.now) result) }
     ensures fault { IfErr (borrowed_answer octets.now) (λ fault. result ≡ error_status fault) }
 {
     match ObjectIdentifierRef::from_bytes(octets) {
-        Ok(oid) => index_status(next_of(sorted, &oid)),
+        Ok(oid) => index_status(next_of(sorted, &oid), sorted.len()),
         Err(fault) => error_status(fault),
     }
 }
@@ -105,13 +105,13 @@ pub extern "C" fn const_oid_nearest(octets: &[u8], sorted: &[Octets<'_>]) -> Sta
         (IsNearestBy (item_arcs octets_at) sorted.now (arcs_of_octets octets.now)) }
     ensures first { IsSortedList octets_at sorted.now → result.code ≡ 0 → IfSome (slice_get sorted.now result.len) (λ item.
         position (has_item_arcs octets_at (item_arcs octets_at item)) sorted.now ≡ Some result.len) }
-    ensures none { IsSortedList octets_at sorted.now → result ≡ none_status
+    ensures none { IsSortedList octets_at sorted.now → result ≡ none_of (length sorted.now)
         → All (λ item. BeginsWith (arcs_of_octets octets.now) (item_arcs octets_at item) → ⊥) sorted.now }
     ensures within { IfOk (borrowed_answer octets.now) (λ _. IsIndexOrNone (length sorted.now) result) }
     ensures fault { IfErr (borrowed_answer octets.now) (λ fault. result ≡ error_status fault) }
 {
     match ObjectIdentifierRef::from_bytes(octets) {
-        Ok(oid) => index_status(nearest_of(sorted, &oid)),
+        Ok(oid) => index_status(nearest_of(sorted, &oid), sorted.len()),
         Err(fault) => error_status(fault),
     }
 }
@@ -155,13 +155,16 @@ fn next_of(sorted: &[Octets<'_>], oid: &ObjectIdentifierRef<'_>) -> Option<usize
     }
 }
 
-/// The status of an index, if there is one.
-fn index_status(index: Option<usize>) -> Status
-    ensures { result ≡ index_status index }
+/// The status of an index, if there is one, or that none of so many items is found.
+fn index_status(index: Option<usize>, count: usize) -> Status
+    ensures { result ≡ index_status count index }
 {
     match index {
         Some(index) => len_status(index),
-        None => code_status(NONE),
+        None => Status {
+            len: count,
+            ..code_status(NONE)
+        },
     }
 }
 
