@@ -3,7 +3,7 @@
 __attribute__((noinline)) size_t lookup_name(const char *name) { return const_oid_by_name(name); }
 
 __attribute__((noinline)) size_t lookup_octets(const uint8_t *octets, size_t len) {
-    return const_oid_find(octets, len, const_oid_name_octets, CONST_OID_NAMES_COUNT).len;
+    return const_oid_name_of(octets, len);
 }
 
 int text_to_octets(const char *text, size_t len, uint8_t *out) {

@@ -54,7 +54,7 @@ def searched(words):
     oid, *items = map(oid_of, words.split(" "))
     table = SortedMap({item: index for index, item in reversed(list(enumerate(items)))})
     found = (oid, table[oid]) if oid in table else None, table.next_after(oid), table.nearest(oid)
-    find, after, nearest = ("none" if entry is None else entry[1] for entry in found)
+    find, after, nearest = (f"none of {len(items)}" if entry is None else entry[1] for entry in found)
     start, below = sum(item < oid for item in items), {entry[0] for entry in table.subtree(oid)}
     end = start + sum(item in below for item in items)
     return f"find {find}, next {after}, nearest {nearest}, range {start} {end}"

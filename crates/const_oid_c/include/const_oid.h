@@ -23,8 +23,8 @@
  * - Machines. The tests run on Linux, with glibc on x86-64 and i686, and with musl on x86-64. The proofs are for 64
  *   bits. The library that Rattle builds needs x86-64-v2 (POPCNT, SSE4.1). The library needs no system: of the C
  *   library it calls memory functions, and cargo's build also abort.
- * - Octets. const_oid_from_der finds them in an element, after the tag and the length. No other function removes these:
- *   to all others a complete 06 09 2A 86 .. is no error, but 0.6.9.42...
+ * - Octets. These are contents octets alone. A complete element 06 09 2A 86 .. and the bytes of the text "1.2" are no
+ *   errors, but 0.6.9.42... and 1.9.46.50. Give an element to const_oid_from_der, and a text to const_oid_from_text.
  *
  * What a function returns: const_oid_version, const_oid_by_arcs and the inline functions return a number, all others a
  * status, by value. Code 0 is success. With any other code the function wrote nothing, and the output is unchanged, bit
@@ -49,7 +49,7 @@ extern "C" {
 
 /* The version of these declarations. const_oid_version() returns the version of the library. */
 #define CONST_OID_VERSION_MAJOR 1
-#define CONST_OID_VERSION_MINOR 2
+#define CONST_OID_VERSION_MINOR 3
 #define CONST_OID_VERSION_PATCH 0
 #define CONST_OID_VERSION \
     (65536 * CONST_OID_VERSION_MAJOR + 256 * CONST_OID_VERSION_MINOR + CONST_OID_VERSION_PATCH)
@@ -125,7 +125,8 @@ enum const_oid_order {
  *   byte. Otherwise it is 0.
  * - `len` is, on success, how many items the function wrote, read or counted, or the index that it found. With
  *   OUTPUT_TOO_SHORT it is how many items the result has. If const_oid_check_sorted finds a wrong item, or
- *   const_oid_from_text a wrong component, it is the index of the first one. Otherwise it is 0. */
+ *   const_oid_from_text a wrong component, it is the index of the first one. With NONE from a search in a list, it is
+ *   how many items the list has, and so the index of none of them. Otherwise it is 0. */
 typedef struct const_oid_status {
     uint32_t code;
     uint32_t detail;
@@ -145,7 +146,7 @@ typedef struct const_oid_range {
 } const_oid_range;
 
 /* The library keeps lengths in 64 bits, or in 32. */
-typedef char const_oid_size_t_has_64_or_32_bits[sizeof(size_t) == 8 || sizeof(size_t) == 4 ? 1 : -1];
+typedef char const_oid_size_t_has_64_or_32_bits[sizeof(size_t) == 8 ? 1 : sizeof(size_t) == 4 ? 1 : -1];
 
 /* The version of the library: CONST_OID_VERSION in its header. */
 CONST_OID_NODISCARD uint32_t const_oid_version(void);
@@ -153,7 +154,10 @@ CONST_OID_NODISCARD uint32_t const_oid_version(void);
 /* Reads the element of DER that bytes begin with (X.690, 8.1 and 10.1): the tag 6, the length, and contents octets.
  * Stores in `contents`, which must not be null, where these are in the input, and returns in `len` how many bytes the
  * element has. Others may follow. The code is NO_ELEMENT if the tag is not 6, or the length is indefinite or could be
- * in fewer bytes, or not all contents octets are there; or else that of the octets if they are invalid. */
+ * in fewer bytes, or not all contents octets are there; or else that of the octets if they are invalid.
+ *
+ * No bytes are NO_ELEMENT too. So a loop over elements runs while bytes are left, `while (len > 0)`, and stops with an
+ * error at any code but OK: a loop that runs while the code is OK takes a malformed element for the end. */
 CONST_OID_NODISCARD const_oid_status const_oid_from_der(
     const uint8_t *der, size_t len, const_oid_octets *CONST_OID_RESTRICT contents);
 
@@ -274,7 +278,8 @@ CONST_OID_NODISCARD const_oid_status const_oid_check_sorted(const const_oid_octe
 /* The functions below do a binary search in a list that const_oid_check_sorted accepts. They check the identifier,
  * which may have any length, and return its code if it is invalid. They do not check the list. In another list, what
  * they find is unspecified, but it is within the list, and they read nothing else: indices are below `count`, and the
- * ends of a range at most `count`. `len` is the index of the item found, and the code is NONE if there is none. */
+ * ends of a range at most `count`. `len` is the index of the item found. If there is none, the code is NONE, and `len`
+ * is `count`. */
 
 /* Finds the first item that is equal to an identifier. */
 CONST_OID_NODISCARD const_oid_status const_oid_find(
@@ -293,7 +298,7 @@ CONST_OID_NODISCARD const_oid_status const_oid_nearest(
 /* Finds the items that begin with all arcs of an identifier, itself included, and stores where they are in `range`,
  * which must not be null. `start` is where the identifier would be inserted, whether there are such items or not. If
  * there are none, `end` is the same. `len` is 0. If the identifier is invalid, `range` is unchanged. */
-const_oid_status const_oid_subtree_range(
+CONST_OID_NODISCARD const_oid_status const_oid_subtree_range(
     const uint8_t *octets, size_t len, const const_oid_octets *sorted, size_t count,
     const_oid_range *CONST_OID_RESTRICT range);
 

@@ -6,10 +6,11 @@
 /* Prints the text of an error. A byte of the input may stand in it: bytes that are not printable ASCII are replaced. */
 static void print_error(const_oid_status error) {
     char text[CONST_OID_MAX_ERROR_TEXT];
-    size_t len = const_oid_error_text(error.code, error.detail, text, sizeof text).len;
-    for (size_t i = 0; i < len; i++)
+    const_oid_status made = const_oid_error_text(error.code, error.detail, text, sizeof text);
+    if (made.code != CONST_OID_OK) return;
+    for (size_t i = 0; i < made.len; i++)
         if (text[i] < ' ' || text[i] > '~') text[i] = '?';
-    printf("%.*s\n", (int)len, text);
+    printf("%.*s\n", (int)made.len, text);
 }
 
 enum { MOST = 100, MAX_NAME = 640 }; /* A name of SNMP has at most 128 arcs, each of at most five octets. */
@@ -27,8 +28,8 @@ static size_t used, count;
 static void print_object(size_t index) {
     char text[4 * MAX_NAME];
     const object *found = (const void *)names[index].octets;
-    size_t len = const_oid_to_text(names[index].octets, names[index].len, text, sizeof text).len;
-    printf("%.*s = %s\n", (int)len, text, found->value);
+    const_oid_status made = const_oid_to_text(names[index].octets, names[index].len, text, sizeof text);
+    if (made.code == CONST_OID_OK) printf("%.*s = %s\n", (int)made.len, text, found->value);
 }
 
 /* Adds an object at the end, if there is room. Its name may be invalid. */
@@ -62,7 +63,7 @@ static void insert(const char *text, const char *value) {
         return;
     }
     if (const_oid_find(added->octets, made.len, names, count).code == CONST_OID_OK) return;
-    const_oid_subtree_range(added->octets, made.len, names, count, &range);
+    if (const_oid_subtree_range(added->octets, made.len, names, count, &range).code != CONST_OID_OK) return;
     memmove(names + range.start + 1, names + range.start, (count - range.start) * sizeof *names);
     names[range.start] = (const_oid_octets){added->octets, made.len};
     added->value = value;

@@ -189,8 +189,9 @@ static void list_row(char *rest) {
     for (size_t i = 0; i < 3; i++) {
         if (last.code != CONST_OID_OK && found[i].code == last.code && found[i].detail == last.detail) continue;
         printf("%s", names[i]);
-        if (found[i].code == CONST_OID_OK) printf("%zu", found[i].len);
-        else refused(found[i]);
+        if (found[i].code != CONST_OID_OK) refused(found[i]);
+        if (found[i].code == CONST_OID_NONE) printf(" of ");
+        printf("%zu", found[i].len);
     }
     if (last.code == CONST_OID_OK) printf(", range %zu %zu", range.start, range.end);
     else refused(last);

@@ -52,10 +52,11 @@ static bool finds_each(const std::vector<const_oid_octets> &items) {
         const_oid_range range = {0, 0};
         const_oid_status child = const_oid_push_arc(items[i].octets, items[i].len, UINT32_MAX, below, sizeof below);
         const_oid_status next = const_oid_next(items[i].octets, items[i].len, sorted, items.size());
-        const_oid_subtree_range(items[i].octets, items[i].len, sorted, items.size(), &range);
-        right = right && const_oid_find(items[i].octets, items[i].len, sorted, items.size()).len == i
+        right = right
+            && const_oid_subtree_range(items[i].octets, items[i].len, sorted, items.size(), &range).code == CONST_OID_OK
+            && const_oid_find(items[i].octets, items[i].len, sorted, items.size()).len == i
             && const_oid_nearest(below, child.len, sorted, items.size()).len == i
-            && (i + 1 < items.size() ? next.len == i + 1 : next.code == CONST_OID_NONE)
+            && next.len == i + 1 && (next.code == CONST_OID_NONE) == (i + 1 == items.size())
             && range.start == i && range.end == i + 1;
     }
     return right;

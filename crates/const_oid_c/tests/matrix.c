@@ -139,7 +139,7 @@ static void check_any(const_oid_status got, const argument *given) {
         must(got.code == CONST_OID_OK && range->start <= range->end && range->end <= count, "the range is elsewhere");
         return;
     }
-    must(got.code == CONST_OID_OK ? got.len < count : got.code == CONST_OID_NONE && got.len == 0, "it is elsewhere");
+    must(got.code == (got.len < count ? CONST_OID_OK : CONST_OID_NONE) && got.len <= count, "it is elsewhere");
 }
 
 /* Calls the function, and compares all that it returns and writes with its rule. */

@@ -314,9 +314,12 @@ static size_t count_up_to(argument oid, int most) {
     return count;
 }
 
-/* The index of the first item that is equal to an identifier, or is its longest prefix, or none. */
-static answer longest_prefix(argument oid, size_t least) {
-    answer best = of_code(CONST_OID_NONE, 0);
+/* There is none of so many items. */
+static answer none_of(size_t count) { return (answer){{CONST_OID_NONE, 0, count}, NULL, 0}; }
+
+/* The index of the first item of a list that is equal to an identifier, or is its longest prefix, or none. */
+static answer longest_prefix(argument oid, argument list, size_t least) {
+    answer best = none_of(list.len);
     for (size_t i = 0, index = 0; i < run_count; index += runs[i++].times) {
         if (runs[i].item.len < least || !begins_with(oid, runs[i].item)) continue;
         least = runs[i].item.len + 1;
@@ -332,18 +335,18 @@ static answer longest_prefix(argument oid, size_t least) {
 
 RULE(const_oid_find) {
     SEARCH();
-    return longest_prefix(a[0], a[0].len);
+    return longest_prefix(a[0], a[1], a[0].len);
 }
 
 RULE(const_oid_nearest) {
     SEARCH();
-    return longest_prefix(a[0], 0);
+    return longest_prefix(a[0], a[1], 0);
 }
 
 RULE(const_oid_next) {
     SEARCH();
     size_t index = count_up_to(a[0], 0);
-    return index < a[1].len ? of_items(NULL, index) : of_code(CONST_OID_NONE, 0);
+    return index < a[1].len ? of_items(NULL, index) : none_of(a[1].len);
 }
 
 RULE(const_oid_subtree_range) {

@@ -1,5 +1,5 @@
 /* Compares const_oid_names.h with rust/const-oid/src/db/names.rs, of which rows.inc has a ROW(constant, arcs, name) for
- * each row: the octets of each constant, the arrays row by row, and what is found by name. */
+ * each row: the octets of each constant, the arrays row by row, and what is found by name and by octets. */
 #include "const_oid_names.h"
 #include "parts.h"
 #include "see.h"
@@ -44,6 +44,13 @@ static size_t named(const char *name) {
     return first;
 }
 
+/* The first row of some octets, of those that are sorted. */
+static size_t first_of(const uint8_t *octets, size_t len) {
+    size_t index = 0;
+    while (index < count && by_parts(rows[index].octets.octets, rows[index].octets.len, octets, len) != 0) index++;
+    return index;
+}
+
 static void find(const char *text, size_t index) { SEE(const_oid_by_name(text) == named(text), index); }
 
 /* Finds a name: as it is, with other characters that are no letters, with letters of the other case, with a letter more
@@ -63,6 +70,20 @@ static void find_like(size_t index) {
     find(text, index);
 }
 
+/* Finds octets: as they are, each prefix of them, and with one more octet or another one at each place. */
+static void find_octets(size_t index) {
+    uint8_t octets[16];
+    size_t len = rows[index].octets.len;
+    memcpy(octets, rows[index].octets.octets, len);
+    octets[len] = 1;
+    for (size_t i = 0; i <= len + 1; i++) SEE(const_oid_name_of(octets, i) == first_of(octets, i), index);
+    for (size_t i = 0; i < len; i++) {
+        octets[i] ^= 1;
+        SEE(const_oid_name_of(octets, len) == first_of(octets, len), index);
+        octets[i] ^= 1;
+    }
+}
+
 int main(void) {
     SEE(count == CONST_OID_NAMES_COUNT, count);
     for (size_t i = 0; i < count; i++) {
@@ -74,7 +95,9 @@ int main(void) {
         SEE(is_encoding(const_oid_name_octets[i], rows[i].arcs), i);
         SEE(strcmp(const_oid_names[i], rows[i].name) == 0, i);
         find_like(i);
+        find_octets(i);
     }
+    SEE(const_oid_name_of(NULL, 0) == count && const_oid_name_of((const uint8_t *)"\x80", 1) == count, 0);
     SEE(const_oid_by_name("") == count && const_oid_by_name("zz") == count && const_oid_by_name("\xC3") == count, 0);
     return 0;
 }

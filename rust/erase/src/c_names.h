@@ -3,12 +3,13 @@
  * - A constant for each entry of the table, such as CONST_OID_RFC5912_ID_EC_PUBLIC_KEY, which in Rust is
  *   rfc5912::ID_EC_PUBLIC_KEY: a macro with its contents octets as a string literal. It costs nothing where it
  *   is not used. CONST_OID_OCTETS gives its pointer and its length: two arguments of a call, or the initializer
- *   of a const_oid_octets.
+ *   of a const_oid_octets. It takes a string literal alone: for an array of your own, use CONST_OID_ARRAY.
+ *   A constant is no text: in @ZEROS@ of the @COUNT@, strlen and std::string stop at an octet that is zero.
  * - The entries in the order of arcs: const_oid_name_octets is a list that const_oid_check_sorted accepts, and
  *   const_oid_names has the null-terminated name of each of its items, at the same index. An identifier may
  *   have several names. They are adjacent, in the order of the table, and const_oid_find and const_oid_nearest
  *   return the first.
- * - const_oid_by_name, which returns the index of the entry with a name.
+ * - const_oid_by_name and const_oid_name_of, which return the index of the entry with a name or with octets.
  *
  * The arrays are static: each file that uses them has a copy of some 110 KB, so let one file use them. What is here is
  * tested, not proved. */
@@ -17,10 +18,19 @@
 
 #include "const_oid.h"
 
+/* The pointer and the length of an array of uint8_t. C++, gcc and clang reject a pointer, and any other array. */
 #ifdef __cplusplus
-#define CONST_OID_OCTETS(constant) reinterpret_cast<const uint8_t *>(constant), sizeof(constant) - 1
+#define CONST_OID_OCTETS(constant) reinterpret_cast<const uint8_t *>("" constant ""), sizeof("" constant "") - 1
+#define CONST_OID_ARRAY(array) (array), sizeof(const_oid_array(array))
+template <size_t N> char (&const_oid_array(const uint8_t (&array)[N]))[N];
 #else
-#define CONST_OID_OCTETS(constant) (const uint8_t *)(constant), sizeof(constant) - 1
+#define CONST_OID_OCTETS(constant) (const uint8_t *)("" constant ""), sizeof("" constant "") - 1
+#ifdef __GNUC__
+#define CONST_OID_ARRAY(array) (array), sizeof(char[__builtin_types_compatible_p( \
+    __typeof__(array), uint8_t[]) ? (ptrdiff_t)sizeof(array) : -1])
+#else
+#define CONST_OID_ARRAY(array) (array), sizeof(array)
+#endif
 #endif
 
 @CONSTANTS@
@@ -35,7 +45,17 @@ static const char *const const_oid_names[CONST_OID_NAMES_COUNT] = {
 /* The indexes of the entries by a hash of their names, each in the first place that is free from its own on. Those with
  * one name are in the order of the table, and CONST_OID_NAMES_COUNT is in the places that are free. */
 static const uint16_t const_oid_names_by_hash[@PLACES@] = {
-@BY_HASH@};
+@BY_NAME@};
+
+/* The same by a hash of their octets, of the first entry of each identifier. */
+static const uint16_t const_oid_octets_by_hash[@PLACES@] = {
+@BY_OCTETS@};
+
+/* The hash of a byte more. That of none is CONST_OID_NO_HASH. */
+#define CONST_OID_NO_HASH 2166136261u
+static __inline uint32_t const_oid_hash(uint32_t hash, uint8_t byte) {
+    return (hash ^ byte) * 16777619u;
+}
 
 static __inline int const_oid_lower_case(char letter) {
     return letter >= 'A' && letter <= 'Z' ? letter + ('a' - 'A') : letter;
@@ -55,12 +75,32 @@ static __inline int const_oid_is_same_name(const char *left, const char *right) 
  * ASCII letters. CONST_OID_NAMES_COUNT if there is none. */
 CONST_OID_NODISCARD static __inline size_t const_oid_by_name(const char *name) {
     const char *letter;
-    uint32_t hash = 0;
+    uint32_t hash = CONST_OID_NO_HASH;
     size_t index;
-    for (letter = name; *letter != 0; letter++) hash = hash * 33 + (*letter & 31);
+    for (letter = name; *letter != 0; letter++) hash = const_oid_hash(hash, *letter & 31);
     for (;; hash++) {
         index = const_oid_names_by_hash[hash % @PLACES@];
         if (index == CONST_OID_NAMES_COUNT || const_oid_is_same_name(const_oid_names[index], name)) return index;
+    }
+}
+
+/* Whether octets are those of an entry. Most that differ do so at the end. */
+static __inline int const_oid_is_entry(size_t index, const uint8_t *octets, size_t len) {
+    const uint8_t *entry = const_oid_name_octets[index].octets;
+    if (const_oid_name_octets[index].len != len) return 0;
+    while (len > 0 && entry[len - 1] == octets[len - 1]) len--;
+    return len == 0;
+}
+
+/* The index of the first entry of an identifier, of its contents octets. CONST_OID_NAMES_COUNT if there is none, as for
+ * invalid octets. */
+CONST_OID_NODISCARD static __inline size_t const_oid_name_of(const uint8_t *octets, size_t len) {
+    uint32_t hash = CONST_OID_NO_HASH;
+    size_t i, index;
+    for (i = 0; i < len; i++) hash = const_oid_hash(hash, octets[i]);
+    for (;; hash++) {
+        index = const_oid_octets_by_hash[hash % @PLACES@];
+        if (index == CONST_OID_NAMES_COUNT || const_oid_is_entry(index, octets, len)) return index;
     }
 }
 

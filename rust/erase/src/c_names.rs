@@ -1,6 +1,6 @@
 //! The table of names as a header of data for C.
 
-use crate::names::{Row, octets, rows};
+use crate::names::{Row, encoding, octets, rows};
 use crate::token::Result;
 
 /// The rows of a table in `c_names.h`. Those of an identifier or of a name stay in the order of the table.
@@ -13,34 +13,42 @@ pub fn header(table: &str) -> Result<String> {
     by_place.sort();
     // At least one place is free.
     let places = (rows.len() + 1).next_power_of_two();
-    let mut by_hash = vec![rows.len(); places];
-    for (place, index) in by_place {
-        let mut hash = hash(rows[place].name);
-        while by_hash[hash % places] != rows.len() {
-            hash += 1;
-        }
-        by_hash[hash % places] = index;
-    }
+    // The last five bits of a letter are those of both cases.
+    let by_name = by_place.iter().map(|(place, index)| (hash(rows[*place].name.bytes().map(|byte| byte & 31)), *index));
+    let firsts = (0..rows.len()).filter(|index| *index == 0 || sorted[*index].1.arcs != sorted[index - 1].1.arcs);
+    let by_octets = firsts.map(|index| (hash(encoding(&sorted[index].1.arcs).into_iter()), index));
+    let has_zero = |row: &&Row| encoding(&row.arcs).contains(&0);
     let constant = |row: &Row| format!("CONST_OID_{}_{}", row.module.to_uppercase(), row.constant);
     let define = |row: &Row| format!("#define {} \"{}\"\n", constant(row), octets(&row.arcs));
     let item = |row: &Row| format!("    {{CONST_OID_OCTETS({})}},\n", constant(row));
     let name = |row: &Row| format!("    {:?},\n", row.name);
-    let indexes: Vec<String> = by_hash.iter().map(usize::to_string).collect();
-    let line = |part: &[String]| format!("    {},\n", part.join(", "));
-    let parts: [(&str, String); 6] = [
+    let parts: [(&str, String); 8] = [
         ("@COUNT@", rows.len().to_string()),
+        ("@ZEROS@", rows.iter().filter(has_zero).count().to_string()),
         ("@CONSTANTS@", rows.iter().map(define).collect()),
         ("@OCTETS@", sorted.iter().map(|entry| item(entry.1)).collect()),
         ("@NAMES@", sorted.iter().map(|entry| name(entry.1)).collect()),
         ("@PLACES@", places.to_string()),
-        ("@BY_HASH@", indexes.chunks(16).map(line).collect()),
+        ("@BY_NAME@", by_hash(by_name, rows.len(), places)),
+        ("@BY_OCTETS@", by_hash(by_octets, rows.len(), places)),
     ];
     let filled = |header: String, (mark, text): (&str, String)| header.replace(mark, &text);
     Ok(parts.into_iter().fold(include_str!("c_names.h").into(), filled))
 }
 
-/// The hash of a name, as `c_names.h` has it. The last five bits of a letter are those of both cases.
-fn hash(name: &str) -> usize {
-    let more = |hash: u32, byte| hash.wrapping_mul(33).wrapping_add(u32::from(byte & 31));
-    name.bytes().fold(0, more) as usize
+/// Hashes and indexes as so many places for `c_names.h`: an index is in the first place that is free from its hash on.
+fn by_hash(hashes: impl Iterator<Item = (u32, usize)>, free: usize, places: usize) -> String {
+    let mut by_hash = vec![free; places];
+    for (hash, index) in hashes {
+        let place = (hash as usize..).find(|place| by_hash[place % places] == free);
+        by_hash[place.unwrap() % places] = index;
+    }
+    let indexes: Vec<String> = by_hash.iter().map(usize::to_string).collect();
+    let line = |part: &[String]| format!("    {},\n", part.join(", "));
+    indexes.chunks(16).map(line).collect()
+}
+
+/// The hash that `c_names.h` has: FNV-1a of 32 bits.
+fn hash(bytes: impl Iterator<Item = u8>) -> u32 {
+    bytes.fold(2_166_136_261, |hash, byte| (hash ^ u32::from(byte)).wrapping_mul(16_777_619))
 }

@@ -32,7 +32,7 @@ pub fn const_oid_check_sorted(items: &[Octets<'_>]) -> Status {
 /// Finds the first item that is equal to an identifier.
 pub fn const_oid_find(octets: &[u8], sorted: &[Octets<'_>]) -> Status {
     match ObjectIdentifierRef::from_bytes(octets) {
-        Ok(oid) => index_status(first_of(sorted, &oid)),
+        Ok(oid) => index_status(first_of(sorted, &oid), sorted.len()),
         Err(fault) => error_status(fault),
     }
 }
@@ -40,7 +40,7 @@ pub fn const_oid_find(octets: &[u8], sorted: &[Octets<'_>]) -> Status {
 /// Finds the first item that comes after an identifier, which need not be an item.
 pub fn const_oid_next(octets: &[u8], sorted: &[Octets<'_>]) -> Status {
     match ObjectIdentifierRef::from_bytes(octets) {
-        Ok(oid) => index_status(next_of(sorted, &oid)),
+        Ok(oid) => index_status(next_of(sorted, &oid), sorted.len()),
         Err(fault) => error_status(fault),
     }
 }
@@ -48,7 +48,7 @@ pub fn const_oid_next(octets: &[u8], sorted: &[Octets<'_>]) -> Status {
 /// Finds the item with the longest prefix of an identifier, which may be all of it; of several, the first.
 pub fn const_oid_nearest(octets: &[u8], sorted: &[Octets<'_>]) -> Status {
     match ObjectIdentifierRef::from_bytes(octets) {
-        Ok(oid) => index_status(nearest_of(sorted, &oid)),
+        Ok(oid) => index_status(nearest_of(sorted, &oid), sorted.len()),
         Err(fault) => error_status(fault),
     }
 }
@@ -75,11 +75,11 @@ fn next_of(sorted: &[Octets<'_>], oid: &ObjectIdentifierRef) -> Option<usize> {
     if index < sorted.len() { Some(index) } else { None }
 }
 
-/// The status of an index, if there is one.
-fn index_status(index: Option<usize>) -> Status {
+/// The status of an index, if there is one, or that none of so many items is found.
+fn index_status(index: Option<usize>, count: usize) -> Status {
     match index {
         Some(index) => len_status(index),
-        None => code_status(NONE),
+        None => Status { len: count, ..code_status(NONE) },
     }
 }
 
