@@ -75,7 +75,7 @@ static void find_octets(size_t index) {
     uint8_t octets[16];
     size_t len = rows[index].octets.len;
     memcpy(octets, rows[index].octets.octets, len);
-    octets[len] = 1;
+    octets[len] = 0;
     for (size_t i = 0; i <= len + 1; i++) SEE(const_oid_name_of(octets, i) == first_of(octets, i), index);
     for (size_t i = 0; i < len; i++) {
         octets[i] ^= 1;
