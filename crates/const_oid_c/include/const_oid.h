@@ -156,8 +156,8 @@ CONST_OID_NODISCARD uint32_t const_oid_version(void);
  * element has. Others may follow. The code is NO_ELEMENT if the tag is not 6, or the length is indefinite or could be
  * in fewer bytes, or not all contents octets are there; or else that of the octets if they are invalid.
  *
- * No bytes are NO_ELEMENT too. So a loop over elements runs while bytes are left, `while (len > 0)`, and stops with an
- * error at any code but OK: a loop that runs while the code is OK takes a malformed element for the end. */
+ * No bytes are NO_ELEMENT too. So a loop over elements runs `while (len > 0)`, and any code but OK is an error: a loop
+ * that runs while the code is OK takes a malformed element for the end. */
 CONST_OID_NODISCARD const_oid_status const_oid_from_der(
     const uint8_t *der, size_t len, const_oid_octets *CONST_OID_RESTRICT contents);
 

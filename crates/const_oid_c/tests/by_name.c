@@ -6,8 +6,16 @@ int is_rsa(const uint8_t *octets, size_t len) {
     return const_oid_is_equal(octets, len, CONST_OID_OCTETS(CONST_OID_RFC5912_RSA_ENCRYPTION));
 }
 
-int is_key_purpose(const uint8_t *octets, size_t len) {
-    return const_oid_is_under(octets, len, CONST_OID_OCTETS(CONST_OID_RFC5280_ID_KP));
+/* Whether all elements in the SEQUENCE of an extended key usage are such purposes. */
+int are_key_purposes(const uint8_t *der, size_t len) {
+    while (len > 0) {
+        const_oid_octets oid;
+        const_oid_status element = const_oid_from_der(der, len, &oid);
+        if (element.code != CONST_OID_OK) return 0;
+        if (!const_oid_is_under(oid.octets, oid.len, CONST_OID_OCTETS(CONST_OID_RFC5280_ID_KP))) return 0;
+        der += element.len, len -= element.len;
+    }
+    return 1;
 }
 
 void print_name(const uint8_t *octets, size_t len) {
@@ -54,33 +62,12 @@ int is_allowed(const uint8_t *octets, size_t len) {
     return found.code == CONST_OID_OK && rules[found.len].is_allowed;
 }
 
-#include <const_oid.h>
-
-/* Whether a certificate's key is for a purpose, by the elements in the SEQUENCE of its extended key usage. If one of
- * them is wrong, it is for none. */
-int has_purpose(const uint8_t *der, size_t len, const uint8_t *purpose, size_t purpose_len) {
-    int is_there = 0;
-    while (len > 0) {
-        const_oid_octets found;
-        const_oid_status element = const_oid_from_der(der, len, &found);
-        if (element.code != CONST_OID_OK) return 0;
-        if (const_oid_is_equal(found.octets, found.len, purpose, purpose_len)) is_there = 1;
-        der += element.len;
-        len -= element.len;
-    }
-    return is_there;
-}
-
-/* Whether a purpose is found where all elements are right, and not beside one that is cut, or whose length, four, has
- * the longer form of BER (X.690, 8.1.3.5). */
-static int finds_purposes(void) {
-    static const uint8_t client[] = {0x2B, 6, 1, 5, 5, 7, 3, 2}, any[] = {0x55, 0x1D, 0x25, 0};
-    static const uint8_t der[] = {6, 8, 0x2B, 6, 1, 5, 5, 7, 3, 2, 6, 4, 0x55, 0x1D, 0x25, 0};
-    static const uint8_t ber[] = {6, 8, 0x2B, 6, 1, 5, 5, 7, 3, 2, 6, 0x81, 4, 0x55, 0x1D, 0x25, 0};
-    return has_purpose(CONST_OID_ARRAY(der), CONST_OID_ARRAY(client))
-        && has_purpose(CONST_OID_ARRAY(der), CONST_OID_ARRAY(any)) && !has_purpose(CONST_OID_ARRAY(der), der, 1)
-        && !has_purpose(CONST_OID_ARRAY(ber), CONST_OID_ARRAY(client)) && !has_purpose(NULL, 0, CONST_OID_ARRAY(any))
-        && !has_purpose(der, sizeof der - 1, CONST_OID_ARRAY(client));
+/* Whether purposes are read, but not if one is cut, is none, or has its length in a longer form (X.690, 8.1.3.5). */
+static int reads_purposes(void) {
+    static const uint8_t der[] = {6, 8, 0x2B, 6, 1, 5, 5, 7, 3, 2, 6, 8, 0x2B, 6, 1, 5, 5, 7, 3, 1, 6, 1, 0x55};
+    static const uint8_t ber[] = {6, 8, 0x2B, 6, 1, 5, 5, 7, 3, 2, 6, 0x81, 8, 0x2B, 6, 1, 5, 5, 7, 3, 1};
+    return are_key_purposes(der, 20) && are_key_purposes(NULL, 0) && !are_key_purposes(der, 19)
+        && !are_key_purposes(der, sizeof der) && !are_key_purposes(ber, sizeof ber);
 }
 
 /* Whether rules for more arcs decide first, and nothing else is allowed. */
@@ -99,8 +86,7 @@ static int finds_each(void) {
         uint8_t below[64];
         size_t len = const_oid_push_arc(entry.octets, entry.len, UINT32_MAX, below, sizeof below).len;
         if (const_oid_by_arcs(&names[first], &entry) != 0) first = i;
-        right = right && const_oid_name_of(entry.octets, entry.len) == first
-            && const_oid_find(entry.octets, entry.len, names, CONST_OID_NAMES_COUNT).len == first
+        right = right && const_oid_find(entry.octets, entry.len, names, CONST_OID_NAMES_COUNT).len == first
             && const_oid_nearest(below, len, names, CONST_OID_NAMES_COUNT).len == first;
     }
     return right;
@@ -110,5 +96,5 @@ int main(void) {
     const_oid_octets rsa = octets_of("RSAEncryption");
     print_name(rsa.octets, rsa.len);
     return is_rsa(rsa.octets, rsa.len) && octets_of("no name").len == 0 && finds_each() && decides()
-        && finds_purposes() ? 0 : 1;
+        && reads_purposes() ? 0 : 1;
 }

@@ -314,12 +314,9 @@ static size_t count_up_to(argument oid, int most) {
     return count;
 }
 
-/* There is none of so many items. */
-static answer none_of(size_t count) { return (answer){{CONST_OID_NONE, 0, count}, NULL, 0}; }
-
 /* The index of the first item of a list that is equal to an identifier, or is its longest prefix, or none. */
 static answer longest_prefix(argument oid, argument list, size_t least) {
-    answer best = none_of(list.len);
+    answer best = {{CONST_OID_NONE, 0, list.len}, NULL, 0};
     for (size_t i = 0, index = 0; i < run_count; index += runs[i++].times) {
         if (runs[i].item.len < least || !begins_with(oid, runs[i].item)) continue;
         least = runs[i].item.len + 1;
@@ -346,7 +343,7 @@ RULE(const_oid_nearest) {
 RULE(const_oid_next) {
     SEARCH();
     size_t index = count_up_to(a[0], 0);
-    return index < a[1].len ? of_items(NULL, index) : none_of(a[1].len);
+    return (answer){{index < a[1].len ? CONST_OID_OK : CONST_OID_NONE, 0, index}, NULL, 0};
 }
 
 RULE(const_oid_subtree_range) {

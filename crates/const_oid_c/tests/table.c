@@ -44,13 +44,6 @@ static size_t named(const char *name) {
     return first;
 }
 
-/* The first row of some octets, of those that are sorted. */
-static size_t first_of(const uint8_t *octets, size_t len) {
-    size_t index = 0;
-    while (index < count && by_parts(rows[index].octets.octets, rows[index].octets.len, octets, len) != 0) index++;
-    return index;
-}
-
 static void find(const char *text, size_t index) { SEE(const_oid_by_name(text) == named(text), index); }
 
 /* Finds a name: as it is, with other characters that are no letters, with letters of the other case, with a letter more
@@ -70,18 +63,22 @@ static void find_like(size_t index) {
     find(text, index);
 }
 
-/* Finds octets: as they are, each prefix of them, and with one more octet or another one at each place. */
-static void find_octets(size_t index) {
-    uint8_t octets[16];
-    size_t len = rows[index].octets.len;
-    memcpy(octets, rows[index].octets.octets, len);
-    octets[len] = 0;
-    for (size_t i = 0; i <= len + 1; i++) SEE(const_oid_name_of(octets, i) == first_of(octets, i), index);
-    for (size_t i = 0; i < len; i++) {
-        octets[i] ^= 1;
-        SEE(const_oid_name_of(octets, len) == first_of(octets, len), index);
-        octets[i] ^= 1;
+/* Finds the first row of octets, of the rows that are sorted. */
+static void find_octets(const uint8_t *octets, size_t len) {
+    size_t first = 0;
+    while (first < count && by_parts(rows[first].octets.octets, rows[first].octets.len, octets, len) != 0) first++;
+    SEE(const_oid_name_of(octets, len) == first, first);
+}
+
+/* Finds octets: each prefix of them, with another octet at each place, and with a zero after them. */
+static void find_octets_like(const_oid_octets of) {
+    uint8_t octets[16] = {0};
+    memcpy(octets, of.octets, of.len);
+    for (size_t i = 0; i <= of.len; i++) {
+        find_octets(octets, i);
+        octets[i] ^= 1, find_octets(octets, of.len), octets[i] ^= 1;
     }
+    find_octets(octets, of.len + 1);
 }
 
 int main(void) {
@@ -95,7 +92,7 @@ int main(void) {
         SEE(is_encoding(const_oid_name_octets[i], rows[i].arcs), i);
         SEE(strcmp(const_oid_names[i], rows[i].name) == 0, i);
         find_like(i);
-        find_octets(i);
+        find_octets_like(rows[i].octets);
     }
     SEE(const_oid_name_of(NULL, 0) == count && const_oid_name_of((const uint8_t *)"\x80", 1) == count, 0);
     SEE(const_oid_by_name("") == count && const_oid_by_name("zz") == count && const_oid_by_name("\xC3") == count, 0);

@@ -51,12 +51,6 @@ static const uint16_t const_oid_names_by_hash[@PLACES@] = {
 static const uint16_t const_oid_octets_by_hash[@PLACES@] = {
 @BY_OCTETS@};
 
-/* The hash of a byte more. That of none is CONST_OID_NO_HASH. */
-#define CONST_OID_NO_HASH 2166136261u
-static __inline uint32_t const_oid_hash(uint32_t hash, uint8_t byte) {
-    return (hash ^ byte) * 16777619u;
-}
-
 static __inline int const_oid_lower_case(char letter) {
     return letter >= 'A' && letter <= 'Z' ? letter + ('a' - 'A') : letter;
 }
@@ -75,9 +69,9 @@ static __inline int const_oid_is_same_name(const char *left, const char *right) 
  * ASCII letters. CONST_OID_NAMES_COUNT if there is none. */
 CONST_OID_NODISCARD static __inline size_t const_oid_by_name(const char *name) {
     const char *letter;
-    uint32_t hash = CONST_OID_NO_HASH;
+    uint32_t hash = 2166136261u;
     size_t index;
-    for (letter = name; *letter != 0; letter++) hash = const_oid_hash(hash, *letter & 31);
+    for (letter = name; *letter != 0; letter++) hash = (hash ^ (*letter & 31)) * 16777619u;
     for (;; hash++) {
         index = const_oid_names_by_hash[hash % @PLACES@];
         if (index == CONST_OID_NAMES_COUNT || const_oid_is_same_name(const_oid_names[index], name)) return index;
@@ -95,9 +89,9 @@ static __inline int const_oid_is_entry(size_t index, const uint8_t *octets, size
 /* The index of the first entry of an identifier, of its contents octets. CONST_OID_NAMES_COUNT if there is none, as for
  * invalid octets. */
 CONST_OID_NODISCARD static __inline size_t const_oid_name_of(const uint8_t *octets, size_t len) {
-    uint32_t hash = CONST_OID_NO_HASH;
+    uint32_t hash = 2166136261u;
     size_t i, index;
-    for (i = 0; i < len; i++) hash = const_oid_hash(hash, octets[i]);
+    for (i = 0; i < len; i++) hash = (hash ^ octets[i]) * 16777619u;
     for (;; hash++) {
         index = const_oid_octets_by_hash[hash % @PLACES@];
         if (index == CONST_OID_NAMES_COUNT || const_oid_is_entry(index, octets, len)) return index;
