@@ -278,8 +278,7 @@ CONST_OID_NODISCARD const_oid_status const_oid_check_sorted(const const_oid_octe
 /* The functions below do a binary search in a list that const_oid_check_sorted accepts. They check the identifier,
  * which may have any length, and return its code if it is invalid. They do not check the list. In another list, what
  * they find is unspecified, but it is within the list, and they read nothing else: indices are below `count`, and the
- * ends of a range at most `count`. `len` is the index of the item found. If there is none, the code is NONE, and `len`
- * is `count`. */
+ * ends of a range at most `count`. `len` is the index of the item found. If there is none, it is `count`, with NONE. */
 
 /* Finds the first item that is equal to an identifier. */
 CONST_OID_NODISCARD const_oid_status const_oid_find(

@@ -70,15 +70,14 @@ static void find_octets(const uint8_t *octets, size_t len) {
     SEE(const_oid_name_of(octets, len) == first, first);
 }
 
-/* Finds octets: each prefix of them, with another octet at each place, and with a zero after them. */
+/* Finds octets: each prefix of them, with the zero that ends their constant, and with another octet at each place. */
 static void find_octets_like(const_oid_octets of) {
-    uint8_t octets[16] = {0};
-    memcpy(octets, of.octets, of.len);
+    uint8_t octets[16];
+    memcpy(octets, of.octets, of.len + 1);
     for (size_t i = 0; i <= of.len; i++) {
-        find_octets(octets, i);
+        find_octets(of.octets, i + 1);
         octets[i] ^= 1, find_octets(octets, of.len), octets[i] ^= 1;
     }
-    find_octets(octets, of.len + 1);
 }
 
 int main(void) {

@@ -47,7 +47,7 @@ static const char *const const_oid_names[CONST_OID_NAMES_COUNT] = {
 static const uint16_t const_oid_names_by_hash[@PLACES@] = {
 @BY_NAME@};
 
-/* The same by a hash of their octets, of the first entry of each identifier. */
+/* The same by a hash of their octets. */
 static const uint16_t const_oid_octets_by_hash[@PLACES@] = {
 @BY_OCTETS@};
 

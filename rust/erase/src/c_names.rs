@@ -15,16 +15,14 @@ pub fn header(table: &str) -> Result<String> {
     let places = (rows.len() + 1).next_power_of_two();
     // The last five bits of a letter are those of both cases.
     let by_name = by_place.iter().map(|(place, index)| (hash(rows[*place].name.bytes().map(|byte| byte & 31)), *index));
-    let firsts = (0..rows.len()).filter(|index| *index == 0 || sorted[*index].1.arcs != sorted[index - 1].1.arcs);
-    let by_octets = firsts.map(|index| (hash(encoding(&sorted[index].1.arcs).into_iter()), index));
-    let has_zero = |row: &&Row| encoding(&row.arcs).contains(&0);
+    let by_octets = sorted.iter().enumerate().map(|(index, (_, row))| (hash(encoding(&row.arcs).into_iter()), index));
     let constant = |row: &Row| format!("CONST_OID_{}_{}", row.module.to_uppercase(), row.constant);
     let define = |row: &Row| format!("#define {} \"{}\"\n", constant(row), octets(&row.arcs));
     let item = |row: &Row| format!("    {{CONST_OID_OCTETS({})}},\n", constant(row));
     let name = |row: &Row| format!("    {:?},\n", row.name);
     let parts: [(&str, String); 8] = [
         ("@COUNT@", rows.len().to_string()),
-        ("@ZEROS@", rows.iter().filter(has_zero).count().to_string()),
+        ("@ZEROS@", rows.iter().filter(|row| encoding(&row.arcs).contains(&0)).count().to_string()),
         ("@CONSTANTS@", rows.iter().map(define).collect()),
         ("@OCTETS@", sorted.iter().map(|entry| item(entry.1)).collect()),
         ("@NAMES@", sorted.iter().map(|entry| name(entry.1)).collect()),
