@@ -23,7 +23,7 @@
 #ifdef __cplusplus
 #define CONST_OID_OCTETS(constant) reinterpret_cast<const uint8_t *>("" constant ""), sizeof("" constant "") - 1
 #define CONST_OID_ARRAY(array) (array), sizeof(const_oid_array(array))
-template <size_t N> char (&const_oid_array(const uint8_t (&array)[N]))[N];
+extern "C++" template <size_t N> char (&const_oid_array(const uint8_t (&array)[N]))[N];
 #else
 #define CONST_OID_OCTETS(constant) (const uint8_t *)("" constant ""), sizeof("" constant "") - 1
 #ifdef __GNUC__
