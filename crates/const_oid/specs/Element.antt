@@ -35,5 +35,6 @@ abbrev pub tag : ℕ
 tag = 6
 
 -- the element of contents octets
+-- a law ties it to IsLength, by length_octets: laws::unique_lengths
 abbrev pub element : List ℕ → List ℕ
 element contents = tag ∷ (length_octets (length contents) ++ contents)

@@ -53,6 +53,9 @@ pub fn examples()
     ensures second_past_39 { item_fault root_rule (1 ∷ 40 ∷ 840 ∷ []) 39 ≡ Some (ArcInvalid 40) }
     ensures max_second_item { item_answer root_rule (2 ∷ 4294967295 ∷ []) 39 ≡ Ok (2 ∷ 4294967295 ∷ []) }
     ensures past_max_second_item { item_fault root_rule (2 ∷ 4294967296 ∷ []) 39 ≡ Some (ArcInvalid 4294967296) }
+    ensures short_length { length_octets 38 ≡ 0x26 ∷ [] }
+    ensures long_length { length_octets 201 ≡ 0x81 ∷ 0xC9 ∷ [] }
+    ensures whole_element { element (0x88 ∷ 0x37 ∷ []) ≡ 0x06 ∷ 0x02 ∷ 0x88 ∷ 0x37 ∷ [] }
     ensures narrow { octet_fault Narrow (0xFF ∷ []) 39 ≡ Some (ArcInvalid 6) }
 {}
 
