@@ -7,6 +7,7 @@ pub mod Text
 pub mod Tree
 pub mod WideRule
 pub mod Orders
+pub mod Slices
 pub mod Element
 pub mod OidRef
 pub mod Buffer

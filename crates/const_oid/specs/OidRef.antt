@@ -8,6 +8,7 @@ use Rattle.const_oid.specs.declared.oid_ref.ObjectIdentifierRef.{ObjectIdentifie
 use Rattle.const_oid.specs.Contents.{arcs_of_octets, octet_answer, borrowed_capacity}
 use Rattle.const_oid.specs.Element.{element}
 use Rattle.const_oid.specs.Identifier.{root_rule}
+use Rattle.const_oid.specs.Slices.{end_of}
 
 -- the slice that it holds
 abbrev pub ref_slice : ObjectIdentifierRef → Bor (List ℕ)
@@ -29,9 +30,11 @@ key_arcs key = ref_arcs key.0
 abbrev pub ref_answer : Result ObjectIdentifierRef Error → Result (List ℕ) Error
 ref_answer result = result_map_both ref_arcs (λ fault. fault) result
 
--- the octets are the element of contents octets and then the rest, and the result is what these contents octets are read as
-pub record ReadsElement (der : List ℕ) (result : Result ObjectIdentifierRef Error) (rest : List ℕ) : Type 0 where
+-- the octets are the element of contents octets and then the rest, and the result is what these contents octets are read as; it holds the very contents octets, just before the rest, which is the end of the slice
+pub record ReadsElement (der : Bor (List ℕ)) (result : Result ObjectIdentifierRef Error) (rest : Bor (List ℕ)) : Type 0 where
   pub contents : List ℕ
-  pub joined : der ≡ element contents ++ rest
+  pub joined : der.now ≡ element contents ++ rest.now
   pub answer : ref_answer result ≡ octet_answer root_rule contents borrowed_capacity
   pub octets : IfOk result (λ oid. ref_octets oid ≡ contents)
+  pub before : IfOk result (λ oid. end_of (ref_slice oid) ≡ rest.ref_ptr)
+  pub end : end_of rest ≡ end_of der

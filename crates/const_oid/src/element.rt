@@ -1,8 +1,9 @@
 //! Elements of object identifiers in DER: tag, length and contents octets (X.690, 8.1, 8.19.1 and 10.1).
 
-ghost use Rattle.std.specs.Prelude.{◌≡◌, ◌≢◌, ◌↔◌, ◌+◌, ◌-◌, ◌<◌, ◌≤◌, ◌^◌, ◌∷◌, ◌++◌, ℕ, List, length, drop, replicate, slice_index, None, IsTrue, MatchOption};
+ghost use Rattle.std.specs.Prelude.{◌≡◌, ◌≢◌, ◌↔◌, ◌+◌, ◌-◌, ◌<◌, ◌≤◌, ◌^◌, ◌∷◌, ◌++◌, ℕ, List, length, drop, replicate, slice_index, None, IfSome, IsTrue, MatchOption};
 ghost use Rattle.const_oid.specs.Private.Octets.{bytes_of};
 ghost use Rattle.const_oid.specs.Element.{length_octets, element};
+ghost use Rattle.const_oid.specs.Slices.{end_of};
 ghost use Rattle.const_oid.specs.Text.{ReturnsLength, WritesText};
 
 /// The tag of an object identifier: class universal, primitive, number 6.
@@ -11,8 +12,10 @@ const TAG: u8 = 6;
 /// The contents octets of the element that octets begin with, and the octets after it. `None` if they begin with none.
 #[inline]
 pub(crate) fn split_element(der: &[u8]) -> Option<(&[u8], &[u8])>
-    ensures { MatchOption result ((contents rest : List ℕ) → der.now ≢ element contents ++ rest)
+    ensures octets { MatchOption result ((contents rest : List ℕ) → der.now ≢ element contents ++ rest)
         (λ split. der.now ≡ element split.0.now ++ split.1.now) }
+    ensures rest { IfSome result (λ split. end_of split.1 ≡ end_of der.entry) }
+    ensures contents { IfSome result (λ split. end_of split.0 ≡ split.1.ref_ptr) }
 {
     let [TAG, after @ ..] = der else {
         return None;
@@ -22,15 +25,17 @@ pub(crate) fn split_element(der: &[u8]) -> Option<(&[u8], &[u8])>
     if len > after.len() as u64 {
         return None;
     }
-    Some(after.split_at(len as usize))
+    let len = len as usize;
+    Some((&after[..len], &after[len..]))
 }
 
 /// The length that octets begin with, and the octets after it. `None` if it is not in the definite form, with the
 /// fewest octets, and of at most eight after the first.
 #[inline]
 fn read_length(octets: &[u8]) -> Option<(u64, &[u8])>
-    ensures { MatchOption result ((len : ℕ) (rest : List ℕ) → len < 2 ^ 64 → octets.now ≢ length_octets len ++ rest)
+    ensures octets { MatchOption result ((len : ℕ) (rest : List ℕ) → len < 2 ^ 64 → octets.now ≢ length_octets len ++ rest)
         (λ read. (read.0 < 2 ^ 64) × (octets.now ≡ length_octets read.0 ++ read.1.now)) }
+    ensures rest { IfSome result (λ read. end_of read.1 ≡ end_of octets.entry) }
 {
     match octets {
         [first, rest @ ..] if *first < 128 => Some((*first as u64, rest)),
@@ -42,18 +47,19 @@ fn read_length(octets: &[u8]) -> Option<(u64, &[u8])>
 /// The length in so many octets, and the octets after it. `None` if fewer octets would do, if there are more than eight
 /// or if they are not all there.
 fn read_long_length(count: usize, octets: &[u8]) -> Option<(u64, &[u8])>
-    ensures { MatchOption result ((len : ℕ) (rest : List ℕ) → len < 2 ^ 64 → (128 + count) ∷ octets.now ≢ length_octets len ++ rest)
+    ensures octets { MatchOption result ((len : ℕ) (rest : List ℕ) → len < 2 ^ 64 → (128 + count) ∷ octets.now ≢ length_octets len ++ rest)
         (λ read. (128 + count) ∷ octets.now ≡ length_octets read.0 ++ read.1.now) }
+    ensures rest { IfSome result (λ read. end_of read.1 ≡ end_of octets.entry) }
 {
     if count > 8 || count > octets.len() {
         return None;
     }
-    let (digits, rest) = octets.split_at(count);
+    let digits = &octets[..count];
     let len = number_of(digits);
     if !is_shortest(len, digits) {
         return None;
     }
-    Some((len, rest))
+    Some((len, &octets[count..]))
 }
 
 /// Whether a length in these octets could not be in fewer: it is past the short form, and the first octet is not 0.

@@ -247,7 +247,7 @@ impl<const MAX_SIZE: usize> ObjectIdentifier<MAX_SIZE> {
     #[inline]
     pub fn read_element(der: &[u8]) -> Option<(Result<Self>, &[u8])>
         ensures { MatchOption result ((contents rest : List ℕ) → der.now ≢ element contents ++ rest)
-            (λ read. ReadsOwned der.now read.0 read.1.now) }
+            (λ read. ReadsOwned der.entry read.0 read.1) }
     {
         let (contents, rest) = split_element(der)?;
         Some((Self::from_bytes_sized(contents), rest))

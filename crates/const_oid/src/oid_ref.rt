@@ -119,7 +119,7 @@ impl<'a> ObjectIdentifierRef<'a> {
     #[inline]
     pub fn read_element(der: &'a [u8]) -> Option<(Result<Self>, &'a [u8])>
         ensures { MatchOption result ((contents rest : List ℕ) → der.now ≢ element contents ++ rest)
-            (λ read. ReadsElement der.now read.0 read.1.now) }
+            (λ read. ReadsElement der.entry read.0 read.1) }
     {
         let (contents, rest) = split_element(der)?;
         Some((Self::from_bytes(contents), rest))
@@ -409,6 +409,7 @@ impl<'a> ObjectIdentifierRef<'a> {
     pub fn from_ascii_in(text: &[u8], out: &'a mut [u8]) -> Result<Self>
         ensures answer { ref_answer result ≡ text_answer root_rule text.now (length out.old) }
         ensures denoted { IfOk result (λ oid. Denotes root_rule text.now (ref_arcs oid)) }
+        ensures start { IfOk result (λ oid. (ref_slice oid).ref_ptr ≡ out.entry.ref_ptr) }
         ensures enough { length text.now ≤ length out.old → result ≢ Err Error.Length }
     {
         let len = Self::bytes_from_ascii(text, out)?;
@@ -424,7 +425,8 @@ impl<'a> ObjectIdentifierRef<'a> {
     #[tactic(auto, using(crate::proofs::Outputs::taken, crate::proofs::Encodings::none_from_encoding))]
     #[inline(always)]
     pub fn from_ascii_in_39(text: &[u8], out: &'a mut [u8; 39]) -> Result<Self>
-        ensures { ref_answer result ≡ text_answer root_rule text.now default_capacity }
+        ensures answer { ref_answer result ≡ text_answer root_rule text.now default_capacity }
+        ensures start { IfOk result (λ oid. (ref_slice oid).ref_ptr ≡ out.entry.ref_ptr) }
     {
         let len = parse_to_inlined(text, out, 39)?;
         Ok(ObjectIdentifierRef::from_checked(&out[..len]))
@@ -451,6 +453,7 @@ impl<'a> ObjectIdentifierRef<'a> {
     #[tactic(auto, using(crate::proofs::Encodings::none_from_encoding))]
     pub fn from_arcs_in(arcs: &[Arc], out: &'a mut [u8]) -> Result<Self>
         ensures answer { ref_answer result ≡ item_answer root_rule arcs.now (length out.old) }
+        ensures start { IfOk result (λ oid. (ref_slice oid).ref_ptr ≡ out.entry.ref_ptr) }
         ensures enough { 5 * length arcs.now ≤ length out.old → result ≢ Err Error.Length }
     {
         let len = Self::bytes_from_arcs(arcs, out)?;

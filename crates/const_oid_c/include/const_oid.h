@@ -1,10 +1,9 @@
 /* Object identifiers (ITU-T X.660) for C99 and C++: dotted-decimal text, arcs, elements of DER, and the contents octets
  * of BER and DER (ITU-T X.690 section 8.19), without tag and length. The source is in Rattle, where each function is
  * proved to return what its comment says. Only tested are null pointers, threads, how far const_oid_check_sorted reads,
- * that what const_oid_from_der finds is in its input, the layouts and constants below, the inline functions
- * const_oid_is_under and const_oid_is_equal, and that the library has exactly the others. The Rattle toolchain builds
- * it from this source. cargo builds it from Rust that is generated from the source, and from code for pointers that is
- * written by hand. That build is tested, not proved.
+ * the layouts and constants below, the inline functions const_oid_is_under and const_oid_is_equal, and that the library
+ * has exactly the others. The Rattle toolchain builds it from this source. cargo builds it from Rust that is generated
+ * from the source, and from code for pointers that is written by hand. That build is tested, not proved.
  *
  * What the caller must guarantee, for all functions:
  *

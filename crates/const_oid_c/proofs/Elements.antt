@@ -1,5 +1,6 @@
 -- Elements: what is read of one is what is read of its only contents octets.
 use Rattle.std.proofs.Common.{◌≡◌, ℕ, ◌-◌, ◌≤◌, List, ◌++◌, length, length-append, arith, refl, sym, ap, ◌∙◌, Ok, Err}
+use Rattle.std.specs.Borrow.{Bor}
 use Rattle.const_oid.specs.{declared.error.Error.Error, declared.oid_ref.ObjectIdentifierRef.ObjectIdentifierRef}
 use Rattle.const_oid.specs.{Contents.borrowed_capacity, Element.{element, length_octets}, OidRef.{ref_arcs, ref_octets, ReadsElement}}
 use Rattle.const_oid.proofs.Elements.{same_element}
@@ -22,19 +23,20 @@ only der octets other rest after fits is is' =
     let small' = fewer der octets rest is' in
     same_element other octets after rest (omega arith) (omega arith) (sym is ∙ is')
 
-pub ok_status : (der octets rest after : List ℕ) (oid : ObjectIdentifierRef) → length der ≤ borrowed_capacity
-    → ReadsElement der (Ok oid) after → der ≡ element octets ++ rest
-    → (len_status (length der - length after) ≡ element_status octets) × (ref_octets oid ≡ octets)
+pub ok_status : (der : Bor (List ℕ)) (octets rest : List ℕ) (after : Bor (List ℕ)) (oid : ObjectIdentifierRef)
+    → length der.now ≤ borrowed_capacity → ReadsElement der (Ok oid) after → der.now ≡ element octets ++ rest
+    → (len_status (length der.now - length after.now) ≡ element_status octets) × (ref_octets oid ≡ octets)
 ok_status der octets rest after oid fits reads is =
-    let (same, left) = only der octets reads.contents rest after fits reads.joined is in
-    let long : length der - length after ≡ length (element octets) =
+    let (same, left) = only der.now octets reads.contents rest after.now fits reads.joined is in
+    let long : length der.now - length after.now ≡ length (element octets) =
     omega (arith, ap length is, length-append (element octets) rest, ap length left) in
     let answer : Ok (ref_arcs oid) ≡ borrowed_answer octets = reads.answer ∙ ap borrowed_answer same in
     (rw (← answer, long) refl, reads.octets ∙ same)
 
-pub err_status : (der octets rest after : List ℕ) (fault : Error) → length der ≤ borrowed_capacity
-    → ReadsElement der (Err fault) after → der ≡ element octets ++ rest → error_status fault ≡ element_status octets
+pub err_status : (der : Bor (List ℕ)) (octets rest : List ℕ) (after : Bor (List ℕ)) (fault : Error)
+    → length der.now ≤ borrowed_capacity → ReadsElement der (Err fault) after → der.now ≡ element octets ++ rest
+    → error_status fault ≡ element_status octets
 err_status der octets rest after fault fits reads is =
-    let (same, left) = only der octets reads.contents rest after fits reads.joined is in
+    let (same, left) = only der.now octets reads.contents rest after.now fits reads.joined is in
     let answer : Err fault ≡ borrowed_answer octets = reads.answer ∙ ap borrowed_answer same in
     rw (← answer) refl

@@ -16,7 +16,8 @@ pub(crate) fn split_element(der: &[u8]) -> Option<(&[u8], &[u8])> {
     if len > after.len() as u64 {
         return None;
     }
-    Some(after.split_at(len as usize))
+    let len = len as usize;
+    Some((&after[..len], &after[len..]))
 }
 
 /// The length that octets begin with, and the octets after it. `None` if it is not in the definite form, with the
@@ -36,12 +37,12 @@ fn read_long_length(count: usize, octets: &[u8]) -> Option<(u64, &[u8])> {
     if count > 8 || count > octets.len() {
         return None;
     }
-    let (digits, rest) = octets.split_at(count);
+    let digits = &octets[..count];
     let len = number_of(digits);
     if !is_shortest(len, digits) {
         return None;
     }
-    Some((len, rest))
+    Some((len, &octets[count..]))
 }
 
 /// Whether a length in these octets could not be in fewer: it is past the short form, and the first octet is not 0.

@@ -3,10 +3,10 @@ use Rattle.std.proofs.lemmas.Grind.{common_steps}
 use Rattle.const_oid.proofs.Elements.{length_octets-short, length_some}
 use Rattle.const_oid.proofs.element.read_length.Goals as goal
 
-pub returns-in_default : goal.returns-in_default
-returns-in_default c n rest small same = grind (arith, common_steps, length_some n)
+pub returns-in_default-clause-octets : goal.returns-in_default-clause-octets
+returns-in_default-clause-octets c n rest small same = grind (arith, common_steps, length_some n)
 
-pub returns-in-len1-up : goal.returns-in-len1-up
-returns-in-len1-up c =
+pub returns-in-len1-up-clause-octets : goal.returns-in-len1-up-clause-octets
+returns-in-len1-up-clause-octets c =
     let form = length_octets-short _ c.if-first-lt128.true in
     grind (arith, common_steps, form)

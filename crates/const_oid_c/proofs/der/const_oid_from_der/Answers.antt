@@ -5,14 +5,14 @@ use Rattle.const_oid_c.proofs.der.const_oid_from_der.Goals as goal
 pub returns-in-Some-Ok-default-clause-status : goal.returns-in-Some-Ok-default-clause-status
 returns-in-Some-Ok-default-clause-status c = λ octets rest is.
     let read = c.in-Some-Ok-default in
-    c.len_status.ensures ∙ (ok_status c.args.der.now octets rest read.rest.now read.oid (omega arith) (rw read.field-0-0-is at read.ensures) is).0
+    c.len_status.ensures ∙ (ok_status c.args.der octets rest read.rest read.oid (omega arith) (rw read.field-0-0-is at read.ensures) is).0
 
 pub returns-in-Some-Ok-default-clause-contents : goal.returns-in-Some-Ok-default-clause-contents
 returns-in-Some-Ok-default-clause-contents c = λ octets rest is success.
     let read = c.in-Some-Ok-default in
-    rw c.as_bytes-octets.ensures.slice (ok_status c.args.der.now octets rest read.rest.now read.oid (omega arith) (rw read.field-0-0-is at read.ensures) is).1
+    rw c.as_bytes-octets.ensures.slice (ok_status c.args.der octets rest read.rest read.oid (omega arith) (rw read.field-0-0-is at read.ensures) is).1
 
 pub returns-in-Some-Err-default-clause-status : goal.returns-in-Some-Err-default-clause-status
 returns-in-Some-Err-default-clause-status c = λ octets rest is.
     let read = c.in-Some-Err-default in
-    c.error_status.ensures.status ∙ err_status c.args.der.now octets rest read.field-0-1.now read.fault (omega arith) (rw read.field-0-0-is at read.ensures) is
+    c.error_status.ensures.status ∙ err_status c.args.der octets rest read.field-0-1 read.fault (omega arith) (rw read.field-0-0-is at read.ensures) is

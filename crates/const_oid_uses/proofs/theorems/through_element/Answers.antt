@@ -21,27 +21,27 @@ shorter contents rest der joined =
 abbrev IsAgain : ObjectIdentifierRef → List ℕ → Result ObjectIdentifierRef Error × Bor (List ℕ) → Type 0
 IsAgain oid rest read = IsOkAnd read.0 (λ again. ref_octets again ≡ ref_octets oid) × (read.1.now ≡ rest)
 
-again : (oid : ObjectIdentifierRef) (rest der : List ℕ) (result : Option (Result ObjectIdentifierRef Error × Bor (List ℕ)))
-    → length der ≤ borrowed_capacity → der ≡ element (ref_octets oid) ++ rest
-    → MatchOption result ((contents after : List ℕ) → der ≢ element contents ++ after) (λ read. ReadsElement der read.0 read.1.now)
+again : (oid : ObjectIdentifierRef) (rest : List ℕ) (der : Bor (List ℕ)) (result : Option (Result ObjectIdentifierRef Error × Bor (List ℕ)))
+    → length der.now ≤ borrowed_capacity → der.now ≡ element (ref_octets oid) ++ rest
+    → MatchOption result ((contents after : List ℕ) → der.now ≢ element contents ++ after) (λ read. ReadsElement der read.0 read.1)
     → IsSomeAnd result (IsAgain oid rest)
 again oid rest der None fits written none = absurd (none (ref_octets oid) rest written)
 again oid rest der (Some (Ok read, after)) fits written reads =
-    let small = shorter reads.contents after.now der reads.joined in
-    let small' = shorter (ref_octets oid) rest der written in
+    let small = shorter reads.contents after.now der.now reads.joined in
+    let small' = shorter (ref_octets oid) rest der.now written in
     let (same, left) = same_element reads.contents (ref_octets oid) after.now rest (omega arith) (omega arith) (sym reads.joined ∙ written) in
     (reads.octets ∙ same, left)
 again oid rest der (Some (Err fault, after)) fits written reads =
-    let small = shorter reads.contents after.now der reads.joined in
-    let small' = shorter (ref_octets oid) rest der written in
+    let small = shorter reads.contents after.now der.now reads.joined in
+    let small' = shorter (ref_octets oid) rest der.now written in
     let (same, left) = same_element reads.contents (ref_octets oid) after.now rest (omega arith) (omega arith) (sym reads.joined ∙ written) in
     let wrong : Err fault ≡ Ok (arcs_of_octets (ref_octets oid)) =
     reads.answer ∙ ap (λ octets. octet_answer root_rule octets borrowed_capacity) same ∙ accepted oid (omega arith) in
     cc
 
-pub returns : goal.returns
-returns c =
+pub returns-clause-again : goal.returns-clause-again
+returns-clause-again c =
     let written = c.in_ok-write_element.ensures in
     let rest = drop c.in_ok-write_element.field-0 c.args.out.now in
     subst (λ (len : ℕ). IsSomeAnd c.read_element.result (IsAgain c.args.oid (drop len c.args.out.now))) written.cases
-    (again c.args.oid rest c.write_element.new.out c.read_element.result (omega arith) written.written c.read_element.ensures)
+    (again c.args.oid rest _ c.read_element.result (omega arith) written.written c.read_element.ensures)
