@@ -91,12 +91,13 @@ pub fn through_text<const SIZE: usize>(
 /// What is read of octets as an element: the identifier or the error, and the octets after it.
 type Element<'a> = (Result<ObjectIdentifierRef<'a>, Error>, &'a [u8]);
 
-/// An element that is written is read as the same identifier, and the octets after it as the rest.
+/// An element that fits is written and read as the same identifier, and the octets after it as the rest.
 pub fn through_element<'a>(
     oid: ObjectIdentifierRef<'_>,
     out: &'a mut [u8],
 ) -> Option<Option<Element<'a>>>
-    ensures { IfSome result (λ read. IsSomeAnd read (λ read.
+    ensures fits { IsSome result ↔ (length (element (ref_octets oid.entry)) ≤ length out.old) }
+    ensures again { IfSome result (λ read. IsSomeAnd read (λ read.
         IsOkAnd read.0 (λ again. ref_octets again ≡ ref_octets oid.entry)
         × (read.1.now ≡ drop (length (element (ref_octets oid.entry))) out.old))) }
 {
