@@ -1,4 +1,5 @@
 use Rattle.std.proofs.Common.{arith, ◌∙◌}
+use Rattle.std.proofs.lemmas.Grind.{common_steps}
 use Rattle.const_oid_c.proofs.Elements.{ok_status, err_status}
 use Rattle.const_oid_c.proofs.der.const_oid_from_der.Goals as goal
 
@@ -10,7 +11,8 @@ returns-in-Some-Ok-default-clause-status c = λ octets rest is.
 pub returns-in-Some-Ok-default-clause-contents : goal.returns-in-Some-Ok-default-clause-contents
 returns-in-Some-Ok-default-clause-contents c = λ octets rest is success.
     let read = c.in-Some-Ok-default in
-    rw c.as_bytes-octets.ensures.slice (ok_status c.args.der octets rest read.rest read.oid (omega arith) (rw read.field-0-0-is at read.ensures) is).1
+    let same = (ok_status c.args.der octets rest read.rest read.oid (omega arith) (rw read.field-0-0-is at read.ensures) is).1 in
+    grind (arith, common_steps, same, c.as_bytes-octets.ensures.slice)
 
 pub returns-in-Some-Err-default-clause-status : goal.returns-in-Some-Err-default-clause-status
 returns-in-Some-Err-default-clause-status c = λ octets rest is.
