@@ -167,9 +167,16 @@ static int is_octets(PyObject *given) {
     return PyBytes_Check(given) || PyByteArray_Check(given) || PyMemoryView_Check(given);
 }
 
+/* A copy of octets. The items of a memoryview may be wider, and are then none. */
 static PyObject *octets_from(PyObject *given) {
-    return is_octets(given) ? PyBytes_FromObject(given)
-                            : wrong_type("octets must be bytes, bytearray or memoryview", given);
+    Py_buffer view = {.itemsize = 1};
+    if (!is_octets(given)) return wrong_type("octets must be bytes, bytearray or memoryview", given);
+    if (PyMemoryView_Check(given)) {
+        if (PyObject_GetBuffer(given, &view, PyBUF_FULL_RO)) return NULL;
+        PyBuffer_Release(&view);
+    }
+    if (view.itemsize == 1) return PyBytes_FromObject(given);
+    return PyErr_Format(PyExc_TypeError, "octets must be items of 1 byte, not %zd: see memoryview.cast", view.itemsize);
 }
 
 static PyObject *identifier_from_bytes(PyObject *type, PyObject *given) {
@@ -338,7 +345,7 @@ static PyObject *identifier_repr(PyObject *self) {
 }
 
 static PyObject *identifier_format(PyObject *self, PyObject *specification) {
-    PyObject *text = identifier_str(self);
+    PyObject *text = PyObject_Str(self);
     PyObject *result = text ? PyObject_Format(text, specification) : NULL;
     Py_XDECREF(text);
     return result;
@@ -359,8 +366,7 @@ static PyObject *identifier_compare(PyObject *self, PyObject *other, int operati
         int is_equal = left.len == right.len && !memcmp(left.octets, right.octets, left.len);
         return PyBool_FromLong(is_equal == (operation == Py_EQ));
     }
-    uint32_t order = const_oid_cmp_arcs(left.octets, left.len, right.octets, right.len).detail;
-    Py_RETURN_RICHCOMPARE(order, CONST_OID_EQUAL, operation);
+    Py_RETURN_RICHCOMPARE(const_oid_by_arcs(&left, &right), 0, operation);
 }
 
 static Py_ssize_t identifier_len(PyObject *self) {
@@ -575,7 +581,7 @@ static PyMethodDef identifier_methods[] = {
     {"index", identifier_index, METH_VARARGS, index_doc},
     {"count", identifier_count, METH_O, count_doc},
     {"__bytes__", identifier_bytes, METH_NOARGS, "__bytes__($self, /)\n--\n\nThe contents octets."},
-    {"__format__", identifier_format, METH_O, "__format__($self, specification, /)\n--\n\nFormats the text, as str."},
+    {"__format__", identifier_format, METH_O, "__format__($self, specification, /)\n--\n\nFormats str(self)."},
     {"__copy__", identifier_copied, METH_VARARGS, "__copy__($self, /)\n--\n\nItself, unless of a subclass."},
     {"__deepcopy__", identifier_copied, METH_VARARGS,
         "__deepcopy__($self, memo, /)\n--\n\nItself, unless of a subclass."},

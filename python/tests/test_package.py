@@ -19,7 +19,7 @@ from unittest import mock
 
 import const_oid
 import typed
-from const_oid import ObjectIdentifier, OidError, SortedMap, names, sorted_map
+from const_oid import Code, ObjectIdentifier, OidError, SortedMap, names, sorted_map
 from test_values import Under, error_of
 
 HERE = pathlib.Path(__file__).resolve().parent
@@ -74,17 +74,20 @@ class Package(unittest.TestCase):
             self.skipTest(str(error))
         self.assertEqual(wanted, out.getvalue().splitlines())
 
-    def test_the_walk_rejects_what_is_cut(self):
-        """The first example finds all identifiers of an encoding, and is an error for each shorter one."""
+    def test_the_walk_finds_elements_and_errors(self):
+        """The walk of the examples has each element with the tag 6 and its place, in a readable OCTET STRING too. What
+        is cut, or goes on past what it is in, and a tag of several octets, are errors."""
         sources = (example.source for example in doctest.DocTestParser().get_examples(const_oid.__doc__))
-        exec(next(source for source in sources if "def " in source), variables := vars(const_oid).copy())
+        variables = {**vars(const_oid), "contextlib": contextlib}
+        exec(next(source for source in sources if "def " in source), variables)
 
         def found(der):
-            return list(map(bytes, variables["identifiers"](der)))
+            return [(place, getattr(oid, "code", str(oid))) for place, oid in variables["identifiers"](der)]
 
-        whole = bytes.fromhex("3082008C 06032A0304 A0020500 068180") + bytes(128)
-        self.assertEqual([b"\x2a\x03\x04", bytes(128)], found(whole))
-        # Also what goes on past what it is in, and a tag of several octets.
+        whole = "308200A6 06032A0304 A004 06022A80 0405 0603550403 04020603 80012A 03040006012A 0681012A 068180"
+        whole = bytes.fromhex(whole) + bytes(128)
+        wanted = [(4, "1.2.3.4"), (11, Code.BASE128), (17, "2.5.4.3"), (35, Code.NO_ELEMENT), (39, "0.0" + 127 * ".0")]
+        self.assertEqual(wanted, found(whole))
         others = bytes.fromhex("300206032A0304"), bytes.fromhex("1F1F1E") + bytes(30)
         for der in [*(whole[:end] for end in range(1, len(whole))), *others]:
             self.assertIsInstance(error_of(found, der), ValueError, der.hex())
@@ -132,19 +135,22 @@ class Package(unittest.TestCase):
     def test_public_names(self):
         """What the package and each class has, aside from what Python gives it."""
         public = {"Code", "ObjectIdentifier", "OidError", "SortedMap", "__version__", "names"}
-        self.assertEqual((public, public - {"Code"}), (set(const_oid.__all__), set(dir(const_oid))))
+        self.assertEqual((public, public), (set(const_oid.__all__), set(dir(const_oid))))
         self.assertEqual({"by_name", "entries", "name_of", "names_of"}, set(names.__all__))
         methods = "arcs child count der from_arcs from_bytes from_der index parent read_der starts_with"
         self.assertEqual(methods.split(), [name for name in dir(ObjectIdentifier) if not name.startswith("_")])
-        self.assertEqual({"const_oid"}, {value.__module__ for value in (ObjectIdentifier, OidError, const_oid.Code)})
-        self.assertEqual((const_oid.Code.EMPTY, 5), (const_oid.Code(5), const_oid.Code.EMPTY))
+        self.assertEqual({"const_oid"}, {value.__module__ for value in (ObjectIdentifier, OidError, Code)})
+        self.assertEqual((Code.EMPTY, 5, set(Code.__members__)), (Code(5), Code.EMPTY, set(dir(Code))))
+        self.assertLess({"code", "detail", "given", "piece"}, set(dir(OidError)))
 
-    def test_help_begins_with_the_identifier(self):
-        """The first class of help is ObjectIdentifier; a class of numbers would come with all methods of int. It has
-        nothing that is internal."""
+    def test_help_has_what_is_public(self):
+        """Help has each class and the fields of OidError, but no method of int, and nothing that is internal."""
         said = pydoc.render_doc(const_oid, renderer=pydoc.plaintext)
-        self.assertEqual(["ObjectIdentifier", "OidError", "SortedMap"], re.findall(r"^    class (\w+)", said, re.M))
-        self.assertNotIn("\nFUNCTIONS\n", said)
+        classes = ["Code", "ObjectIdentifier", "OidError", "SortedMap"]
+        self.assertEqual(classes, re.findall(r"^    class (\w+)", said, re.M))
+        self.assertRegex(said, r" code\n .*Why.*\n[ |]*\n .* detail\n .*The arc.*\n[ |]*\n .* given\n .*The text")
+        for text in ("\nFUNCTIONS\n", "builtins.int:", "bit_length"):
+            self.assertNotIn(text, said)
         said = pydoc.render_doc(names, renderer=pydoc.plaintext)
         self.assertEqual(names.__all__, re.findall(r"^    (\w+)\(", said.split("\nFUNCTIONS\n")[1], re.M))
 
@@ -152,7 +158,7 @@ class Package(unittest.TestCase):
         for owner in (names, ObjectIdentifier, OidError, SortedMap):
             for name in getattr(owner, "__all__", [name for name in vars(owner) if not name.startswith("_")]):
                 value = getattr(owner, name)
-                if callable(value) or inspect.isdatadescriptor(value):
+                if callable(value) or isinstance(value, (property, types.GetSetDescriptorType)):
                     self.assertIn(">>> ", inspect.getdoc(value), name)
 
 

@@ -160,12 +160,17 @@ class Inputs(unittest.TestCase):
             self.assertEqual((2, 999, 3, 4), ObjectIdentifier.from_arcs(arcs).arcs, change)
 
     def test_errors_of_python_say_what_to_do(self):
-        other = type("Other", (), {"__module__": "cryptography.x509", "dotted_string": "1.2"})()
-        third = type("Other", (), {"__module__": "asn1crypto.core", "dotted": "1.2"})()
-        takes, wanted = "(ObjectIdentifier takes its .dotted", "arcs must be an iterable of int"
+        others = [("cryptography.x509", "dotted_string", ".dotted_string"), ("asn1crypto.core", "dotted", ".dotted")]
+        octets, wanted = "octets must be bytes, bytearray or memoryview, not", "arcs must be an iterable of int"
         said = {
-            (ObjectIdentifier, other): f"text must be a str, not cryptography.x509.Other {takes}_string)",
-            (ObjectIdentifier, third): f"text must be a str, not asn1crypto.core.Other {takes})",
+            **{(ObjectIdentifier, type("Other", (), {"__module__": module, field: None})()):
+                f"text must be a str, not {module}.Other (ObjectIdentifier takes its {text})"
+                for module, field, text in [*others, ("pyasn1.type.univ", "isPrefixOf", "str()")]},
+            (ObjectIdentifier.from_bytes, "2A03"):
+                f"{octets} str (ObjectIdentifier takes dotted text, and bytes.fromhex hexadecimal text)",
+            (lambda *arcs: ObjectIdentifier.from_bytes([*arcs]), 1): f"{octets} list (bytes takes octets as numbers)",
+            (lambda kind: ObjectIdentifier.from_bytes(memoryview(array.array(kind, [42]))), "H"):
+                "octets must be items of 1 byte, not 2: see memoryview.cast",
             (ObjectIdentifier, b"1"): "text must be a str, not bytes (from_bytes takes octets)",
             (ObjectIdentifier, (1, 2)): "text must be a str, not tuple (from_arcs takes arcs)",
             (ObjectIdentifier, 1): "text must be a str, not int",
@@ -391,6 +396,8 @@ class Values(unittest.TestCase):
     def test_format_is_that_of_the_text(self):
         self.assertEqual("   2.999|2.999*|2.9|2.999", "{0:>8}|{0:*<6}|{0:.3}|{0}".format(ObjectIdentifier("2.999")))
         self.assertIs(ValueError, type(error_of(format, OID, "d")))
+        said = type("Said", (ObjectIdentifier,), {"__str__": lambda oid: "said"})("2.999")
+        self.assertEqual("said, said|  said", f"{said}, {said!s}|{said:>6}")
 
     def test_weak_references_end(self):
         oid, seen = Under("2.999"), []

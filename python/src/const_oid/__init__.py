@@ -5,26 +5,37 @@
 ('2a8648ce3d0201', (1, 2, 840, 10045, 2, 1))
 
 Contents octets have no tag and no length. In DER, such as that of a certificate, these come first: the tag of an
-identifier is 6. `from_der` and `read_der` take them. A walk over all values finds each identifier:
+identifier is 6. `from_der` and `read_der` take them. A walk over all values gives the place of each element with this
+tag, and its identifier or its error. It takes the contents of an OCTET STRING, such as an extension's, for DER if they
+can be read so. It finds no identifier in a BIT STRING or under an implicit tag, such as a registeredID. A value that
+goes on past what it is in, or a tag of several octets, ends it with a ValueError.
 
->>> def identifiers(der):
+>>> import contextlib
+>>> def identifiers(der, place=0):
 ...     while der:
 ...         start, length = 2, int.from_bytes(der[1:2])
 ...         if length >= 128:  # then it is how many octets the length has
 ...             start = length - 126
 ...             length = int.from_bytes(der[2:start])
-...         value, after = der[start : start + length], der[start + length :]
-...         if len(der) < start + length or der[0] & 31 == 31:
-...             raise ValueError("octets are missing, or a tag has several")
+...         element, value, after = der[: start + length], der[start : start + length], der[start + length :]
+...         if len(element) < start + length or der[0] & 31 == 31:
+...             raise ValueError(f"at {place}, octets are missing, or a tag has several")
 ...         if der[0] == 6:
-...             yield ObjectIdentifier.from_bytes(value)
+...             try:
+...                 yield place, ObjectIdentifier.from_der(element)
+...             except OidError as error:
+...                 yield place, error
 ...         elif der[0] & 32:  # a constructed value
-...             yield from identifiers(value)
-...         der = after
->>> for oid in identifiers(bytes.fromhex("301306072a8648ce3d020106082a8648ce3d030107")):
-...     print(oid, names.name_of(oid))
-1.2.840.10045.2.1 id-ecPublicKey
-1.2.840.10045.3.1.7 secp256r1
+...             yield from identifiers(value, place + start)
+...         elif der[0] == 4:  # an OCTET STRING
+...             with contextlib.suppress(ValueError):
+...                 yield from list(identifiers(value, place + start))
+...         der, place = after, place + len(element)
+>>> for place, found in identifiers(bytes.fromhex("301b 06062a9080808000 0603551d25 040c300a06082b06010505070301")):
+...     print(place, found if isinstance(found, ObjectIdentifier) else found.code.name)
+2 ARC_TOO_BIG
+10 2.5.29.37
+19 1.3.6.1.5.5.7.3.1
 
 The library const_oid_c computes each result. Identifiers and functions are thread-safe.
 """
@@ -38,5 +49,4 @@ __all__ = ["Code", "ObjectIdentifier", "OidError", "SortedMap", "__version__", "
 
 
 def __dir__() -> list[str]:
-    """Names for help, which `Code` would begin with all methods of int."""
-    return __all__[1:]
+    return __all__

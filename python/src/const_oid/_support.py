@@ -18,7 +18,14 @@ PUBLIC = "const_oid"
 Sequence.register(ObjectIdentifier)
 
 
-class Code(enum.IntEnum):
+class _Listed(enum.EnumType):
+    """For help and dir, in which a class of numbers has all methods of int."""
+
+    def __dir__(cls) -> list[str]:
+        return [*cls.__members__]
+
+
+class Code(enum.IntEnum, metaclass=_Listed):
     """Why there is no result: `code` of an `OidError`."""
 
     __module__ = PUBLIC
@@ -42,9 +49,6 @@ class Code(enum.IntEnum):
 class OidError(ValueError):
     """A text, arcs or octets that denote no identifier.
 
-    `code` is one of `const_oid.Code`, which are numbers. `detail` is the arc with `ARC_INVALID`, the byte with
-    `DIGIT_EXPECTED`, and otherwise 0. `given` is the text, octets, arcs or arc that was passed.
-
     >>> try:
     ...     ObjectIdentifier("1.2.x")
     ... except OidError as error:
@@ -53,11 +57,19 @@ class OidError(ValueError):
     """
 
     __module__ = PUBLIC
+    __slots__ = {
+        "code": "Why: one of `const_oid.Code`, which are numbers.",
+        "detail": "The arc with `ARC_INVALID`, the byte with `DIGIT_EXPECTED`, and otherwise 0.",
+        "given": "The text, octets, arcs or arc that was passed, or None.",
+    }
 
     def __init__(self, code: int, detail: int = 0, given: object = None) -> None:
         super().__init__(code, detail)
         error_text(code, detail)  # an error if a number is out of range
         self.code, self.detail, self.given = Code(code), detail, given
+
+    def __reduce__(self) -> tuple[object, ...]:
+        return type(self), self.args, {**self.__dict__, "given": self.given}
 
     @property
     def piece(self) -> int | None:
@@ -112,18 +124,22 @@ SHOWN.maxtuple = 12
 
 HINTS: dict[type, str] = {str: "ObjectIdentifier takes text", bytes: "from_bytes takes octets"}
 HINTS |= dict.fromkeys((tuple, list), "from_arcs takes arcs") | dict.fromkeys((set, frozenset), "a set has no order")
+OF_OCTETS = HINTS | {str: "ObjectIdentifier takes dotted text, and bytes.fromhex hexadecimal text"}
+OF_OCTETS |= dict.fromkeys((tuple, list), "bytes takes octets as numbers")
+# By an attribute that identifiers of cryptography, asn1crypto or pyasn1 have.
+OF_OTHERS = {"dotted_string": "its .dotted_string", "dotted": "its .dotted", "isPrefixOf": "its str()"}
 
 
 def wrong_type(wanted: str, given: object) -> TypeError:
     """The error for a value of another type, which says what makes an identifier of it, if that is known."""
     kind = type(given)
     name = kind.__qualname__ if kind.__module__ == "builtins" else f"{kind.__module__}.{kind.__qualname__}"
-    hints = [f"ObjectIdentifier takes its .{text}" for text in ("dotted_string", "dotted") if hasattr(kind, text)]
-    hint = next(iter(hints), HINTS.get(kind))
+    hints = [f"ObjectIdentifier takes {text}" for field, text in OF_OTHERS.items() if hasattr(kind, field)]
+    hint = next(iter(hints), (OF_OCTETS if wanted.startswith("octets") else HINTS).get(kind))
     return TypeError(f"{wanted}, not {name}" + (f" ({hint})" if hint else ""))
 
 
-def required(oid: ObjectIdentifier, name: str) -> ObjectIdentifier:
+def required(oid: object, name: str) -> ObjectIdentifier:
     """The argument with this name, which has to be an identifier."""
     if not isinstance(oid, ObjectIdentifier):
         raise wrong_type(f"{name} must be an ObjectIdentifier", oid)
