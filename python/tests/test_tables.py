@@ -263,8 +263,10 @@ class Sorted(unittest.TestCase):
 
     def test_keys_of_other_types_are_rejected(self):
         table = SortedMap()
-        calls = [table.nearest, table.next_after, table.subtree, lambda key: SortedMap({key: 1})]
-        for call in [*calls, lambda key: table.setdefault(key, 1), lambda key: table.update({key: 1})]:
+        calls = [table.nearest, table.next_after, table.subtree, table.get, table.__getitem__, table.__delitem__]
+        calls += [lambda key: SortedMap({key: 1}), lambda key: table.update({key: 1}), lambda key: key in table]
+        for call in [*calls, lambda key: table.setdefault(key, 1), lambda key: table.pop(key, None)]:
             for key in ("2.5", (2, 5), None):
-                self.assertIs(TypeError, type(error_of(call, key)))
-        self.assertEqual((0, False), (len(table), "2.5" in table))
+                text = r"^TypeError..key must be an ObjectIdentifier, not (str|tuple|NoneType)\b"
+                self.assertRegex(repr(error_of(call, key)), text)
+        self.assertEqual(0, len(table))

@@ -24,7 +24,7 @@ class SortedMap(MutableMapping[ObjectIdentifier, Value]):
     """A mapping from identifiers to values, with keys in the lexicographic order of arcs, as in SNMP (RFC 3416).
 
     Like dict, it has copy() and |, and is not to be changed while it is iterated. While one thread changes it, no other
-    may use it.
+    may use it. A key that is no identifier is a TypeError, also for get(), pop() and `in`.
 
     >>> up_time, system = ObjectIdentifier("1.3.6.1.2.1.1.3"), ObjectIdentifier("1.3.6.1.2.1.1")
     >>> table = SortedMap({up_time: "sysUpTime", system: "system"})
@@ -152,7 +152,11 @@ class SortedMap(MutableMapping[ObjectIdentifier, Value]):
         return self
 
     def __getitem__(self, key: ObjectIdentifier) -> Value:
-        return self._values[key]
+        try:
+            return self._values[key]
+        except KeyError:
+            required(key, "key")
+            raise
 
     def __setitem__(self, key: ObjectIdentifier, value: Value) -> None:
         if required(key, "key") not in self._values:
@@ -160,11 +164,14 @@ class SortedMap(MutableMapping[ObjectIdentifier, Value]):
         self._values[key] = value
 
     def __delitem__(self, key: ObjectIdentifier) -> None:
-        del self._values[key]
+        del self._values[required(key, "key")]
         self._keys.remove(key)
 
     def __contains__(self, key: object) -> bool:
-        return key in self._values
+        if key in self._values:
+            return True
+        required(key, "key")
+        return False
 
     def __iter__(self) -> Iterator[ObjectIdentifier]:
         return self._walk(iter)
