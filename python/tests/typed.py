@@ -21,7 +21,7 @@ def uses() -> None:
     assert_type((Under.from_arcs([2, 999]), Under.from_arcs(oid), under.child(3)), tuple[Under, Under, Under])
     assert_type((under.parent, oid.arcs, oid[1:]), tuple[Under | None, tuple[int, ...], tuple[int, ...]])
     assert_type((oid.starts_with(under), 840 in oid), tuple[bool, bool])
-    assert_type((oid < under, oid == "1.2"), tuple[bool, bool])
+    assert_type((oid < under, oid == under), tuple[bool, bool])
     assert_type((under.child(True).first(), oid[0], len(oid)), tuple[int, int, int])
     assert_type((hash(oid), oid.index(2), oid.count(2)), tuple[int, int, int])
     assert_type((str(oid), bytes(oid), oid.der, copy.copy(under)), tuple[str, bytes, bytes, Under])
@@ -52,6 +52,16 @@ def tables(key: dict[ObjectIdentifier, str]) -> None:
     assert_type((names.names_of(oid), sorted_key.popitem()), tuple[tuple[str, ...], tuple[ObjectIdentifier, str]])
     entries: Iterable[tuple[ObjectIdentifier, str]] = names.entries()
     assert_type(SortedMap(entries), SortedMap[str])
+
+
+def rejected(oid: ObjectIdentifier, table: SortedMap[str]) -> list[bool]:
+    """Comparisons that are never true, for mypy alone, which also rejects a comment that is not needed."""
+    return [
+        oid == "2.5.4.3",  # type: ignore[comparison-overlap]
+        oid != (2, 5, 4, 3),  # type: ignore[comparison-overlap]
+        "2.5.4.3" in table,  # type: ignore[comparison-overlap]
+        oid in ["2.5.4.3"],  # type: ignore[comparison-overlap]
+    ]
 
 
 def errors(error: OidError) -> None:
