@@ -17,6 +17,12 @@ def entries() -> tuple[tuple[ObjectIdentifier, str], ...]:
 
     >>> len(entries()), entries()[0]
     (1492, (ObjectIdentifier('1.2.112.0.2.0.34.101.66'), 'bake'))
+
+    A map keeps the last value of a key. Reversed entries make one with the name that `name_of` returns:
+
+    >>> oid = ObjectIdentifier("2.5.4.3")
+    >>> dict(entries())[oid], dict(reversed(entries()))[oid], name_of(oid)
+    ('commonName', 'cn', 'cn')
     """
     lines = pathlib.Path(__file__).with_name("names.tsv").read_text(encoding="utf-8").splitlines()
     return tuple((ObjectIdentifier(text), name) for text, name in (line.split("\t") for line in lines))
