@@ -47,6 +47,7 @@ ROWS = {
     "lookup in a dict": ("table = {oid: 1, other: 2}", "table[same]"),
     "dict of 1,000": ("", "dict.fromkeys(oids)"),
     "sorting 1,000": ("", "sorted(oids)"),
+    "sorting 100,000": ('oids = [parse(f"1.3.{n * 7919 % 100_003}.{n % 7}") for n in range(100_000)]', "sorted(oids)"),
     "pickling 1,000": ("import pickle", "pickle.dumps(oids)"),
     "unpickling 1,000": ("import pickle; pickled = pickle.dumps(oids)", "pickle.loads(pickled)"),
 }
@@ -63,9 +64,10 @@ def timer_of(side, setup, call):
     return None
 
 
-def times_of(timers, rounds=400):
+def times_of(timers):
     """The best time of each call, in short turns, since other work on the machine only adds to it."""
-    number = 1 + int(1e-4 / min(timer.timeit(3) / 3 for timer in timers if timer))
+    shortest = min(timer.timeit(3) / 3 for timer in timers if timer)
+    number, rounds = 1 + int(1e-4 / shortest), 400 if shortest < 0.01 else 5
     times = [[timer and timer.timeit(number) for timer in timers] for _ in range(rounds)]
     return [column[0] and min(column) * 1e9 / number for column in zip(*times)]
 
