@@ -56,7 +56,7 @@ fn without_ghosts<'a>(tokens: &[Token<'a>]) -> Result<Tokens<'a>> {
                 command = Some(token);
                 at + 2
             }
-            "pub" if is_without_effect(tokens, at) => {
+            "pub" if is_to_be_used(tokens, at) => {
                 out.extend(["#[must_use]", "\n"].map(|text| Token { text, ..token }));
                 out.push(token);
                 at + 1
@@ -122,14 +122,14 @@ fn is_tactic(tokens: &[Token<'_>], at: usize) -> bool {
     is(tokens, open, "[") && is(tokens, open + 1, "tactic")
 }
 
-/// Whether a token begins a public function that changes nothing, and whose result no lint asks for otherwise.
-fn is_without_effect(tokens: &[Token<'_>], at: usize) -> bool {
+/// Whether a token begins a public function with a result that no lint asks for otherwise, as it does for `Result`.
+fn is_to_be_used(tokens: &[Token<'_>], at: usize) -> bool {
     let ends = |token: &&Token<'_>| !["{", ";", "requires", "ensures"].contains(&token.text);
     let head = tokens[at..].iter().take_while(ends).filter(|token| !token.is_blank());
     let head: Vec<&str> = head.map(|token| token.text).collect();
     let is_function = head.len() > 1 && ["fn", "const"].contains(&head[1]);
     let result = head.windows(3).find(|texts| texts[..2] == ["-", ">"]).map(|texts| texts[2]);
-    is_function && !head.contains(&"mut") && result.is_some_and(|result| result != "Result")
+    is_function && result.is_some_and(|result| result != "Result")
 }
 
 fn is_of_model(tokens: &[Token<'_>], at: usize) -> bool {

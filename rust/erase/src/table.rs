@@ -110,7 +110,6 @@ pub const CRATES: &[Crate] = &[
                         }",
                 BOUNDS;
             "db": "entries: &'a [(&'a Oid, &'a str)]," => "pub(crate) entries: &'a [(&'a Oid, &'a str)],", LISTED;
-            "db": "pub fn indexed" => "#[must_use]\npub fn indexed", "it changes only memory that the result borrows";
             "db_sorted": "entries: &'a [Entry<'a>]," => "pub(crate) entries: &'a [Entry<'a>],", LISTED;
             "db*": "Oid" => "ObjectIdentifier", "the crate has one name for the type";
             "links*": "Oid" => "ObjectIdentifier", "as above";

@@ -98,6 +98,7 @@ impl Error {
     /// assert_eq!(&out[..len], b"OID length invalid");
     /// ```
     #[inline(always)]
+    #[must_use]
     pub fn encode_text(self, out: &mut [u8]) -> Option<usize> {
         if out.len() < self.text_len() {
             return None;
@@ -118,6 +119,7 @@ impl Error {
     /// assert_eq!(text, Some("OID length invalid"));
     /// ```
     #[inline]
+    #[must_use]
     pub fn encode_str<'o>(self, out: &'o mut [u8]) -> Option<&'o str> {
         let len = self.encode_text(out)?;
         Some(utf8(out, len))

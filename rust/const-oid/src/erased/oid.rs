@@ -340,6 +340,7 @@ impl<const MAX_SIZE: usize> ObjectIdentifier<MAX_SIZE> {
     /// let len = ObjectIdentifier::new_unwrap("2.999.3").write_element(&mut out).unwrap();
     /// assert_eq!(out[..len], [0x06, 0x03, 0x88, 0x37, 0x03]);
     /// ```
+    #[must_use]
     pub fn write_element(&self, out: &mut [u8]) -> Option<usize> {
         self.as_oid_ref().write_element(out)
     }
@@ -413,6 +414,7 @@ impl<const MAX_SIZE: usize> ObjectIdentifier<MAX_SIZE> {
     /// assert_eq!(ObjectIdentifier::new_unwrap("2.999").encode_text(&mut out), Some(5));
     /// assert_eq!(&out, b"2.999\0\0\0");
     /// ```
+    #[must_use]
     pub fn encode_text(&self, out: &mut [u8]) -> Option<usize> {
         self.as_oid_ref().encode_text(out)
     }
@@ -427,6 +429,7 @@ impl<const MAX_SIZE: usize> ObjectIdentifier<MAX_SIZE> {
     /// let mut out = [0; 8];
     /// assert_eq!(ObjectIdentifier::new_unwrap("2.999").encode_str(&mut out), Some("2.999"));
     /// ```
+    #[must_use]
     pub fn encode_str<'o>(&self, out: &'o mut [u8]) -> Option<&'o str> {
         self.as_oid_ref().encode_str(out)
     }

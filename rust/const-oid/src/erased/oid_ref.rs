@@ -152,6 +152,7 @@ impl ObjectIdentifierRef {
     /// # Ok::<(), const_oid::Error>(())
     /// ```
     #[inline]
+    #[must_use]
     pub fn write_element(&self, out: &mut [u8]) -> Option<usize> {
         write_element(self.as_bytes(), out)
     }
@@ -228,6 +229,7 @@ impl ObjectIdentifierRef {
     /// # Ok::<(), const_oid::Error>(())
     /// ```
     #[inline]
+    #[must_use]
     pub fn encode_text(&self, out: &mut [u8]) -> Option<usize> {
         // An octet takes four bytes of text at most.
         if self.as_bytes().len() > out.len() / 4 {
@@ -246,6 +248,7 @@ impl ObjectIdentifierRef {
     /// # Ok::<(), const_oid::Error>(())
     /// ```
     #[inline]
+    #[must_use]
     pub fn encode_str<'o>(&self, out: &'o mut [u8]) -> Option<&'o str> {
         let len = self.encode_text(out)?;
         Some(utf8(out, len))
@@ -257,6 +260,7 @@ impl ObjectIdentifierRef {
     /// Returns `None` if `out` has fewer bytes than four for each octet and eleven more; it is then unchanged. What lies
     /// after the text is unchanged on `Ok`. On `Err`, `out` may be changed.
     #[inline(always)]
+    #[must_use]
     pub(crate) fn text_from_bytes(ber: &[u8], out: &mut [u8]) -> Option<Result<usize>> {
         if out.len() < MAX_ARC_LEN || ber.len() > (out.len() - MAX_ARC_LEN) / 4 {
             return None;
