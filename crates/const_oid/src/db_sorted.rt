@@ -40,26 +40,6 @@ impl<'a> SortedDatabase<'a> {
     ghost use Rattle.const_oid.specs.Names.{IsNearest, IsSubtree, entry_arcs, first_name, first_oid, sorted_entries_of};
     ghost use Rattle.const_oid.specs.Tree.{BeginsWith};
 
-    /// A database over sorted entries. Their order is not checked, and over unsorted entries the results of lookups are
-    /// unspecified: [`try_new`](Self::try_new) checks it.
-    ///
-    /// # Examples
-    ///
-    /// ```
-    /// use const_oid::{ObjectIdentifier, db::SortedDatabase};
-    ///
-    /// const CN: ObjectIdentifier = ObjectIdentifier::new_unwrap("2.5.4.3");
-    /// const NAMES: SortedDatabase<'static> = SortedDatabase::new(&[(CN.as_oid_ref(), "cn")]);
-    /// assert_eq!(NAMES.by_oid(&CN), Some("cn"));
-    /// ```
-    // In Rattle, the caller proves the order.
-    pub const fn new(entries: &'a [Entry<'a>]) -> Self
-        requires { IsSortedByKey entry_arcs (slice_cmp nat_cmp) entries.now }
-        ensures { sorted_entries_of result ≡ entries.now }
-    {
-        SortedDatabase { entries }
-    }
-
     /// A database over these entries, or `None` if they are not in the order of arcs. Entries of one identifier may follow
     /// each other. In a constant, `.expect(..)` makes a wrong order an error of the compiler.
     ///
@@ -89,6 +69,26 @@ impl<'a> SortedDatabase<'a> {
             index += 1;
         }
         Some(SortedDatabase { entries })
+    }
+
+    /// A database over entries in the order of arcs, which is not checked. In another order, as that of text or of
+    /// `sort`, lookups miss entries, without an error: [`try_new`](Self::try_new) checks it.
+    ///
+    /// # Examples
+    ///
+    /// ```
+    /// use const_oid::{ObjectIdentifier, db::SortedDatabase};
+    ///
+    /// const CN: ObjectIdentifier = ObjectIdentifier::new_unwrap("2.5.4.3");
+    /// const NAMES: SortedDatabase<'static> = SortedDatabase::new_unchecked(&[(CN.as_oid_ref(), "cn")]);
+    /// assert_eq!(NAMES.by_oid(&CN), Some("cn"));
+    /// ```
+    // In Rattle, this is `new`: the caller proves the order.
+    pub const fn new(entries: &'a [Entry<'a>]) -> Self
+        requires { IsSortedByKey entry_arcs (slice_cmp nat_cmp) entries.now }
+        ensures { sorted_entries_of result ≡ entries.now }
+    {
+        SortedDatabase { entries }
     }
 
     /// The name in the first entry with this identifier, or `None` if there is no such entry.
@@ -140,7 +140,7 @@ impl<'a> SortedDatabase<'a> {
     ///     (system.as_oid_ref(), "system"),
     ///     (enterprises.as_oid_ref(), "enterprises"),
     /// ];
-    /// let names = SortedDatabase::new(&entries);
+    /// let names = SortedDatabase::try_new(&entries).unwrap();
     /// let oid = ObjectIdentifier::new_unwrap("1.3.6.1.4.1.8072.3.2");
     /// let (named, name) = names.nearest(&oid).unwrap();
     /// assert_eq!(*name, "enterprises");
@@ -168,7 +168,7 @@ impl<'a> SortedDatabase<'a> {
     ///     (system.as_oid_ref(), "system"),
     ///     (enterprises.as_oid_ref(), "enterprises"),
     /// ];
-    /// let names = SortedDatabase::new(&entries);
+    /// let names = SortedDatabase::try_new(&entries).unwrap();
     /// assert_eq!(names.subtree(&mib_2), &entries[..2]);
     /// ```
     pub fn subtree(&self, oid: &ObjectIdentifierRef<'_>) -> &'a [Entry<'a>]
@@ -192,7 +192,7 @@ impl<'a> SortedDatabase<'a> {
     ///     (system.as_oid_ref(), "system"),
     ///     (enterprises.as_oid_ref(), "enterprises"),
     /// ];
-    /// let names = SortedDatabase::new(&entries);
+    /// let names = SortedDatabase::try_new(&entries).unwrap();
     /// assert_eq!(names.next_after(&mib_2), Some(&entries[1]));
     /// assert_eq!(names.next_after(&enterprises), None);
     /// ```

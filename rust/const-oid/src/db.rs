@@ -137,7 +137,7 @@ macro_rules! sorted {
         ///
         /// assert_eq!(SORTED.by_oid(&rfc4519::CN), Some("cn"));
         /// ```
-        pub const SORTED: SortedDatabase<'static> = SortedDatabase::new(&IN_ORDER);
+        pub const SORTED: SortedDatabase<'static> = SortedDatabase::new_unchecked(&IN_ORDER);
 
         /// The entries of [`SORTED`], as a `static`, as above. Their octets are compared with [`DB`] by a test.
         static IN_ORDER: [(&ObjectIdentifierRef, &str); [$($name,)*].len()] =

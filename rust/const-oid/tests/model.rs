@@ -819,7 +819,7 @@ mod searches {
     /// In a list in any order, a search finds what is in it.
     fn check_any_order(list: &[&ObjectIdentifierRef], oid: &ObjectIdentifierRef) {
         let entries: Vec<(&ObjectIdentifierRef, &str)> = list.iter().map(|oid| (*oid, "name")).collect();
-        let table = SortedDatabase::new(&entries);
+        let table = SortedDatabase::new_unchecked(&entries);
         let found = [table.nearest(oid), table.next_after(oid)].into_iter().flatten().chain(table.subtree(oid));
         let are_entries = found.map(std::ptr::from_ref).all(|entry| entries.as_ptr_range().contains(&entry));
         assert!(are_entries && table.by_oid(oid).is_none_or(|name| name == "name"), "{oid} in {list:?}");

@@ -188,7 +188,7 @@ mod db {
         Database::find_names_for_oid(&table, CN);
         Database::entries(&table);
         Database::len(&table);
-        SortedDatabase::new(&[(CN.as_oid_ref(), "cn")]);
+        SortedDatabase::new_unchecked(&[(CN.as_oid_ref(), "cn")]);
         SortedDatabase::try_new(&[(CN.as_oid_ref(), "cn")]);
         SortedDatabase::entries(&sorted);
         SortedDatabase::len(&sorted);

@@ -110,6 +110,7 @@ pub const CRATES: &[Crate] = &[
                         }",
                 BOUNDS;
             "db": "entries: &'a [(&'a Oid, &'a str)]," => "pub(crate) entries: &'a [(&'a Oid, &'a str)],", LISTED;
+            "db_sorted": "pub const fn new" => "pub const fn new_unchecked", "no checker rejects a wrong order";
             "db_sorted": "entries: &'a [Entry<'a>]," => "pub(crate) entries: &'a [Entry<'a>],", LISTED;
             "db*": "Oid" => "ObjectIdentifier", "the crate has one name for the type";
             "links*": "Oid" => "ObjectIdentifier", "as above";
