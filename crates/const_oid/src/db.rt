@@ -109,17 +109,21 @@ impl<'a> Database<'a> {
         }
     }
 
-    /// The name in the first entry with this identifier, or `None` if there is no such entry.
+    /// The name in the first entry with this identifier, or `None`. If `oid` is borrowed: `by_oid(&oid.try_into()?)`.
     ///
-    /// Copy a borrowed identifier first, by `ObjectIdentifier::try_from(oid)`, and one of another capacity by
-    /// `ObjectIdentifier::try_from(oid.as_oid_ref())`. What does not fit is not in the table.
+    /// One of another capacity is borrowed first: `by_oid(&oid.as_oid_ref().try_into()?)`. `try_into` fails on what
+    /// does not fit, which is not in the table.
     ///
     /// # Examples
     ///
     /// ```
+    /// use const_oid::ObjectIdentifierRef;
     /// use const_oid::db::{DB, rfc4519};
     ///
     /// assert_eq!(DB.by_oid(&rfc4519::CN), Some("cn"));
+    /// let oid = ObjectIdentifierRef::from_bytes(&[0x55, 4, 3])?;
+    /// assert_eq!(DB.by_oid(&oid.try_into()?), Some("cn"));
+    /// # Ok::<(), const_oid::Error>(())
     /// ```
     // erase: const
     pub fn by_oid(&self, oid: &Oid) -> Option<&'a str>

@@ -1,4 +1,4 @@
-//! Elements in DER: `read_element`, `write_element` and `element_len`.
+//! Elements in DER: `read_element`, `read_element_sized`, `write_element` and `element_len`.
 
 use crate::vectors::{is_written, long_octets};
 use const_oid::{Error, ObjectIdentifier, ObjectIdentifierRef};
@@ -75,10 +75,14 @@ const READ: &[(&[u8], Read)] = &[
     (&[0x06, 0xFF, 0x2A], None),
 ];
 
-/// Whether this is read of octets, by both forms.
+/// Whether this is read of octets, borrowed and owned, at the default capacity and at 255.
 fn is_read(der: &[u8], wanted: Option<(Result<&[u8], Error>, &[u8])>) -> bool {
     let borrowed = ObjectIdentifierRef::read_element(der);
-    match (borrowed, ObjectIdentifier::read_element(der), wanted) {
+    let usual = wanted.map(|(octets, rest)| (octets.and_then(ObjectIdentifier::from_bytes), rest));
+    if ObjectIdentifier::read_element(der) != usual {
+        return false;
+    }
+    match (borrowed, ObjectIdentifier::read_element_sized(der), wanted) {
         (Some((read, rest)), Some((owned, left)), Some((octets, after))) => {
             read.map(|oid| oid.as_bytes()) == octets
                 && owned == octets.and_then(ObjectIdentifier::<255>::from_bytes_sized)

@@ -86,7 +86,7 @@ octets!(Buffer<MAX_SIZE> ObjectIdentifier<MAX_SIZE> ObjectIdentifierRef);
 impl TryFrom<&[u8]> for ObjectIdentifier {
     type Error = Error;
 
-    /// Reads contents octets, as [`from_bytes`](ObjectIdentifier::from_bytes) does.
+    /// Reads contents octets, as [`from_bytes`](ObjectIdentifier::from_bytes) does, and not text.
     fn try_from(ber_bytes: &[u8]) -> Result<Self> {
         Self::from_bytes(ber_bytes)
     }

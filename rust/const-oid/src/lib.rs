@@ -47,5 +47,6 @@ pub use erased::Buffer;
 pub use erased::Error;
 pub use erased::ObjectIdentifier;
 pub use erased::ObjectIdentifierRef;
+pub use erased::Oid;
 pub use erased::Result;
 pub use traits::{AssociatedOid, DynAssociatedOid};

@@ -211,10 +211,18 @@ fn check_read<const N: usize>(owned: Result<ObjectIdentifier<N>, Error>, octets:
     }
 }
 
+/// What is read of octets as an element, at a capacity.
+fn read_element<const N: usize>(der: &[u8]) {
+    let parts = model::of_element(der);
+    let wanted = parts.map(|(contents, rest)| (ObjectIdentifier::<N>::from_bytes_sized(contents), rest));
+    assert_eq!(ObjectIdentifier::read_element_sized(der), wanted, "{der:02X?}, {N}");
+}
+
 /// What is read of octets as an element, and where it lies.
 fn check_element(der: &[u8]) {
     let borrowed = ObjectIdentifierRef::read_element(der);
-    let owned = ObjectIdentifier::<39>::read_element(der);
+    let owned = ObjectIdentifier::read_element(der);
+    each_capacity! { read_element(der) 2 255 }
     let Some((contents, after)) = model::of_element(der) else {
         return assert_eq!((borrowed, owned), (None, None), "{der:02X?}");
     };

@@ -126,7 +126,7 @@ fn functions_have_their_types() {
     let _: fn(&str) -> Result<ObjectIdentifier> = ObjectIdentifier::new;
     let _: fn([Arc; 3]) -> Result<ObjectIdentifier> = ObjectIdentifier::from_arcs;
     let _: fn([Arc; 3]) -> Result<ObjectIdentifier<7>> = ObjectIdentifier::from_arcs_sized;
-    let _: fn(&[u8]) -> Result<ObjectIdentifier> = ObjectIdentifier::from_bytes;
+    let _: fn(&[u8]) -> Result<const_oid::Oid> = ObjectIdentifier::from_bytes;
     let _: fn(&[u8]) -> Result<ObjectIdentifier<7>> = ObjectIdentifier::from_bytes_sized;
     let _: for<'o> fn(&str, &'o mut [u8]) -> Result<&'o ObjectIdentifierRef> = ObjectIdentifierRef::new_in;
     let _: for<'o> fn(&[u8], &'o mut [u8]) -> Result<&'o ObjectIdentifierRef> = ObjectIdentifierRef::from_ascii_in;

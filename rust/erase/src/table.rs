@@ -112,8 +112,6 @@ pub const CRATES: &[Crate] = &[
             "db": "entries: &'a [(&'a Oid, &'a str)]," => "pub(crate) entries: &'a [(&'a Oid, &'a str)],", LISTED;
             "db_sorted": "pub const fn new" => "pub const fn new_unchecked", "no checker rejects a wrong order";
             "db_sorted": "entries: &'a [Entry<'a>]," => "pub(crate) entries: &'a [Entry<'a>],", LISTED;
-            "db*": "Oid" => "ObjectIdentifier", "the crate has one name for the type";
-            "links*": "Oid" => "ObjectIdentifier", "as above";
             "digits": "pub(crate) fn utf8" => "#[allow(unsafe_code)]\npub(crate) fn utf8",
                 "bytes that are UTF-8 become a text without a check: the crate denies other unsafe code";
             "text": "out[at..at + MAX_ARC_LEN]" => "out[at..][..MAX_ARC_LEN]", "the same part in fewer instructions";

@@ -6,7 +6,7 @@ use crate::erased::compare::is_same_name;
 pub use crate::erased::db_sorted::SortedDatabase;
 use crate::erased::error::Result;
 use crate::erased::links::{first_link, links_in, next_link};
-use crate::erased::oid::ObjectIdentifier;
+use crate::erased::oid::Oid;
 
 /// A table of identifiers and their names, in any order. An identifier may have several names, and a name several
 /// identifiers.
@@ -25,7 +25,7 @@ use crate::erased::oid::ObjectIdentifier;
 /// ```
 #[derive(Copy, Clone)]
 pub struct Database<'a> {
-    pub(crate) entries: &'a [(&'a ObjectIdentifier, &'a str)],
+    pub(crate) entries: &'a [(&'a Oid, &'a str)],
     /// Links by identifier, and by name, or none.
     oid_links: &'a [u16],
     name_links: &'a [u16],
@@ -44,7 +44,7 @@ impl<'a> Database<'a> {
     /// assert_eq!(NAMES.by_oid(&CN), Some("cn"));
     /// ```
     #[must_use]
-    pub const fn new(entries: &'a [(&'a ObjectIdentifier, &'a str)]) -> Self {
+    pub const fn new(entries: &'a [(&'a Oid, &'a str)]) -> Self {
         Database { entries, oid_links: &[], name_links: &[] }
     }
 
@@ -82,20 +82,24 @@ impl<'a> Database<'a> {
         }
     }
 
-    /// The name in the first entry with this identifier, or `None` if there is no such entry.
+    /// The name in the first entry with this identifier, or `None`. If `oid` is borrowed: `by_oid(&oid.try_into()?)`.
     ///
-    /// Copy a borrowed identifier first, by `ObjectIdentifier::try_from(oid)`, and one of another capacity by
-    /// `ObjectIdentifier::try_from(oid.as_oid_ref())`. What does not fit is not in the table.
+    /// One of another capacity is borrowed first: `by_oid(&oid.as_oid_ref().try_into()?)`. `try_into` fails on what
+    /// does not fit, which is not in the table.
     ///
     /// # Examples
     ///
     /// ```
+    /// use const_oid::ObjectIdentifierRef;
     /// use const_oid::db::{DB, rfc4519};
     ///
     /// assert_eq!(DB.by_oid(&rfc4519::CN), Some("cn"));
+    /// let oid = ObjectIdentifierRef::from_bytes(&[0x55, 4, 3])?;
+    /// assert_eq!(DB.by_oid(&oid.try_into()?), Some("cn"));
+    /// # Ok::<(), const_oid::Error>(())
     /// ```
     #[must_use]
-    pub const fn by_oid(&self, oid: &ObjectIdentifier) -> Option<&'a str> {
+    pub const fn by_oid(&self, oid: &Oid) -> Option<&'a str> {
         let count = self.entries.len();
         let mut index = first_link(self.oid_links, count, oid.as_bytes());
         while index < count {
@@ -118,7 +122,7 @@ impl<'a> Database<'a> {
     /// assert_eq!(DB.by_name("CN"), Some(&rfc4519::CN));
     /// ```
     #[must_use]
-    pub const fn by_name(&self, name: &str) -> Option<&'a ObjectIdentifier> {
+    pub const fn by_name(&self, name: &str) -> Option<&'a Oid> {
         let count = self.entries.len();
         let mut index = first_link(self.name_links, count, name.as_bytes());
         while index < count {
@@ -143,7 +147,7 @@ impl<'a> Database<'a> {
     /// assert!(names.find_names_for_oid(CN).eq(["cn", "commonName"]));
     /// ```
     #[must_use]
-    pub const fn find_names_for_oid(&self, oid: ObjectIdentifier) -> Names<'a> {
+    pub const fn find_names_for_oid(&self, oid: Oid) -> Names<'a> {
         Names { database: *self, index: first_link(self.oid_links, self.entries.len(), oid.as_bytes()), oid }
     }
 
@@ -167,7 +171,7 @@ impl<'a> Database<'a> {
     where
         'a: 'b,
     {
-        let name = self.by_oid(&ObjectIdentifier::new(oid)?);
+        let name = self.by_oid(&Oid::new(oid)?);
         Ok(name.unwrap_or(oid))
     }
 }
@@ -187,7 +191,7 @@ pub struct Names<'a> {
     database: Database<'a>,
     /// The index of the first entry that is left.
     index: usize,
-    oid: ObjectIdentifier,
+    oid: Oid,
 }
 
 impl<'a> Iterator for Names<'a> {
@@ -212,6 +216,6 @@ impl<'a> Iterator for Names<'a> {
 }
 
 /// Whether an entry has this identifier.
-const fn has_oid(entry: &(&ObjectIdentifier, &str), oid: &ObjectIdentifier) -> bool {
+const fn has_oid(entry: &(&Oid, &str), oid: &Oid) -> bool {
     entry.0.eq_by_octet(oid)
 }

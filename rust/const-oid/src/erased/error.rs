@@ -49,7 +49,8 @@ pub enum Error {
 
     /// A byte is not a digit, but one is expected.
     DigitExpected {
-        /// The byte. Of a character that is not ASCII, it is the first byte in UTF-8.
+        /// The byte. Of a character that is not ASCII, it is the first byte in UTF-8. In the error's text it stands as
+        /// the character with that number, even a control character: `error.to_string().escape_debug()` has none.
         actual: u8,
     },
 

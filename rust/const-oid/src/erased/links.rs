@@ -5,7 +5,7 @@
 //! There is a link for each entry, to the next one of its slot, and then one for each slot, to its first entry. If there
 //! is none, the link is the number of entries. A table that has no links has one slot.
 
-use crate::erased::oid::ObjectIdentifier;
+use crate::erased::oid::Oid;
 
 /// A hash of bytes, ignoring ASCII case.
 pub(crate) const fn hash(bytes: &[u8]) -> u32 {
@@ -19,12 +19,12 @@ pub(crate) const fn hash(bytes: &[u8]) -> u32 {
 }
 
 /// What is looked for in an entry: its name, or the octets of its identifier.
-const fn key<'a>(entry: &(&'a ObjectIdentifier, &'a str), by_name: bool) -> &'a [u8] {
+const fn key<'a>(entry: &(&'a Oid, &'a str), by_name: bool) -> &'a [u8] {
     if by_name { entry.1.as_bytes() } else { entry.0.as_bytes() }
 }
 
 /// Writes the links of entries by name, or by identifier, where each link is the number of entries.
-const fn write_links(entries: &[(&ObjectIdentifier, &str)], by_name: bool, links: &mut [u16]) {
+const fn write_links(entries: &[(&Oid, &str)], by_name: bool, links: &mut [u16]) {
     let count = entries.len();
     let slots = links.len() - count;
     let mut index = count;
@@ -37,7 +37,7 @@ const fn write_links(entries: &[(&ObjectIdentifier, &str)], by_name: bool, links
 }
 
 /// The links of entries by name, or by identifier.
-pub(crate) const fn links_of<const SIZE: usize>(entries: &[(&ObjectIdentifier, &str)], by_name: bool) -> [u16; SIZE] {
+pub(crate) const fn links_of<const SIZE: usize>(entries: &[(&Oid, &str)], by_name: bool) -> [u16; SIZE] {
     let mut links = [entries.len() as u16; SIZE];
     write_links(entries, by_name, &mut links);
     links
@@ -64,7 +64,7 @@ fn is_spread(links: &[u16], count: usize) -> bool {
 /// Makes links of entries in lent memory, and returns them. Returns the given ones if the memory is no longer than those,
 /// if the entries are too many, or if a scan is faster: a processor waits for each link before it reads the next one.
 pub(crate) fn links_in<'a>(
-    entries: &[(&ObjectIdentifier, &str)],
+    entries: &[(&Oid, &str)],
     by_name: bool,
     links: &'a [u16],
     place: &'a mut [u16],

@@ -127,8 +127,9 @@ impl ObjectIdentifier<39> {
 
     /// Decodes at most 39 contents octets (X.690, 8.19).
     ///
-    /// Tag and length are not removed: a complete encoding `06 09 2A ..` is no error, but another identifier,
-    /// 0.6.9.42 and so on. [`read_element`](Self::read_element) removes them.
+    /// A complete encoding `06 09 2A ..` is no error, but another identifier, 0.6.9.42 and so on, and so is text: the
+    /// bytes of `2.5` are 1.10.46.53. [`read_element`](Self::read_element) removes tag and length, and
+    /// [`from_ascii`](Self::from_ascii) reads text.
     ///
     /// # Errors
     ///
@@ -152,6 +153,27 @@ impl ObjectIdentifier<39> {
     #[inline(always)]
     pub fn from_bytes(ber_bytes: &[u8]) -> Result<Self> {
         Self::from_bytes_sized(ber_bytes)
+    }
+
+    /// Reads the element in DER that octets begin with, as [`ObjectIdentifierRef::read_element`] does.
+    ///
+    /// # Errors
+    ///
+    /// Those of [`from_bytes`](Self::from_bytes).
+    ///
+    /// # Examples
+    ///
+    /// ```
+    /// use const_oid::{Error, ObjectIdentifier};
+    ///
+    /// let (oid, rest) = ObjectIdentifier::read_element(&[0x06, 0x02, 0x88, 0x37, 0x05, 0x00]).unwrap();
+    /// assert_eq!((oid?.to_string().as_str(), rest), ("2.999", &[0x05, 0x00][..]));
+    /// # Ok::<(), Error>(())
+    /// ```
+    #[inline]
+    #[must_use]
+    pub fn read_element(der: &[u8]) -> Option<(Result<Self>, &[u8])> {
+        Self::read_element_sized(der)
     }
 }
 
@@ -195,12 +217,12 @@ impl<const MAX_SIZE: usize> ObjectIdentifier<MAX_SIZE> {
     /// ```
     /// use const_oid::{Error, ObjectIdentifier};
     ///
-    /// let (oid, rest) = ObjectIdentifier::<1>::read_element(&[0x06, 0x02, 0x88, 0x37, 0x05, 0x00]).unwrap();
+    /// let (oid, rest) = ObjectIdentifier::<1>::read_element_sized(&[0x06, 0x02, 0x88, 0x37, 0x05, 0x00]).unwrap();
     /// assert_eq!((oid, rest), (Err(Error::Length), &[0x05, 0x00][..]));
     /// ```
     #[inline]
     #[must_use]
-    pub fn read_element(der: &[u8]) -> Option<(Result<Self>, &[u8])> {
+    pub fn read_element_sized(der: &[u8]) -> Option<(Result<Self>, &[u8])> {
         let (contents, rest) = split_element(der)?;
         Some((Self::from_bytes_sized(contents), rest))
     }

@@ -43,8 +43,9 @@ pub struct ObjectIdentifierRef {
 impl ObjectIdentifierRef {
     /// Decodes contents octets (X.690, 8.19).
     ///
-    /// Tag and length are not removed: a complete encoding `06 09 2A ..` is no error, but another identifier,
-    /// 0.6.9.42 and so on. [`read_element`](Self::read_element) removes them.
+    /// A complete encoding `06 09 2A ..` is no error, but another identifier, 0.6.9.42 and so on, and so is text: the
+    /// bytes of `2.5` are 1.10.46.53. [`read_element`](Self::read_element) removes tag and length, and
+    /// [`from_ascii_in`](Self::from_ascii_in) reads text.
     ///
     /// # Errors
     ///
