@@ -3,9 +3,7 @@
 #![deny(unused_must_use)]
 use const_oid::db::{Database, SortedDatabase};
 use const_oid::{Arcs, Buffer, ByArcs, Error, ObjectIdentifier, ObjectIdentifierRef};
-use std::borrow::Borrow;
-use std::collections::BTreeMap;
-use std::ops::Bound::{Excluded, Unbounded};
+use std::{borrow::Borrow, collections::BTreeMap, ops::Bound};
 
 const CN: ObjectIdentifier = ObjectIdentifier::new_unwrap("2.5.4.3");
 const ENTRIES: &[(&ObjectIdentifier, &str)] = &[(&CN, "cn")];

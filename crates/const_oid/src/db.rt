@@ -117,8 +117,7 @@ impl<'a> Database<'a> {
     /// # Examples
     ///
     /// ```
-    /// use const_oid::ObjectIdentifierRef;
-    /// use const_oid::db::{DB, rfc4519};
+    /// use const_oid::{ObjectIdentifierRef, db::{DB, rfc4519}};
     ///
     /// assert_eq!(DB.by_oid(&rfc4519::CN), Some("cn"));
     /// let oid = ObjectIdentifierRef::from_bytes(&[0x55, 4, 3])?;

@@ -211,13 +211,6 @@ fn check_read<const N: usize>(owned: Result<ObjectIdentifier<N>, Error>, octets:
     }
 }
 
-/// What is read of an element, at a capacity.
-fn read_element<const N: usize>(der: &[u8], contents: &[u8], after: &[u8], answer: &model::Answer) {
-    let (owned, rest) = ObjectIdentifier::<N>::read_element_sized(der).unwrap();
-    assert_eq!(rest, after, "{der:02X?}, {N}");
-    check_read(owned, contents, answer);
-}
-
 /// What is read of octets as an element, and where it lies.
 fn check_element(der: &[u8]) {
     let borrowed = ObjectIdentifierRef::read_element(der);
@@ -226,10 +219,11 @@ fn check_element(der: &[u8]) {
         return assert_eq!((borrowed, owned), (None, None), "{der:02X?}");
     };
     let (Some((oid, rest)), Some((owned, left))) = (borrowed, owned) else { panic!("{der:02X?}") };
-    assert_eq!([rest, left].map(<[u8]>::as_ptr_range), [after, after].map(<[u8]>::as_ptr_range));
+    let (sized, last) = ObjectIdentifier::<255>::read_element_sized(der).unwrap();
+    assert_eq!([rest, left, last].map(<[u8]>::as_ptr_range), [after; 3].map(<[u8]>::as_ptr_range));
     let answer = model::of_octets(contents);
     check_read(owned, contents, &answer);
-    each_capacity!(read_element(der, contents, rest, &answer));
+    check_read(sized, contents, &answer);
     assert_eq!(oid.map(|oid| oid.as_bytes().as_ptr_range()), answer.map(|_| contents.as_ptr_range()), "{der:02X?}");
 }
 

@@ -155,20 +155,16 @@ impl ObjectIdentifier<39> {
         Self::from_bytes_sized(ber_bytes)
     }
 
-    /// Reads the element in DER that octets begin with, as [`ObjectIdentifierRef::read_element`] does.
-    ///
-    /// # Errors
-    ///
-    /// Those of [`from_bytes`](Self::from_bytes).
+    /// Reads the element in DER that octets begin with, as [`ObjectIdentifierRef::read_element`] does, with the errors
+    /// of [`from_bytes`](Self::from_bytes).
     ///
     /// # Examples
     ///
     /// ```
-    /// use const_oid::{Error, ObjectIdentifier};
+    /// use const_oid::ObjectIdentifier;
     ///
     /// let (oid, rest) = ObjectIdentifier::read_element(&[0x06, 0x02, 0x88, 0x37, 0x05, 0x00]).unwrap();
-    /// assert_eq!((oid?.to_string().as_str(), rest), ("2.999", &[0x05, 0x00][..]));
-    /// # Ok::<(), Error>(())
+    /// assert_eq!((oid, rest), (ObjectIdentifier::new("2.999"), &[0x05, 0x00][..]));
     /// ```
     #[inline]
     #[must_use]
@@ -206,11 +202,8 @@ impl<const MAX_SIZE: usize> ObjectIdentifier<MAX_SIZE> {
         Self::try_from_ref(ObjectIdentifierRef::from_bytes(ber_bytes)?)
     }
 
-    /// Reads the element in DER that octets begin with, as [`ObjectIdentifierRef::read_element`] does.
-    ///
-    /// # Errors
-    ///
-    /// Those of [`from_bytes_sized`](Self::from_bytes_sized).
+    /// Reads the element in DER that octets begin with, as [`ObjectIdentifierRef::read_element`] does, with the errors
+    /// of [`from_bytes_sized`](Self::from_bytes_sized).
     ///
     /// # Examples
     ///
