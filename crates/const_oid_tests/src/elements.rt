@@ -1,7 +1,7 @@
 //! Elements in DER: `read_element`, `read_element_sized`, `write_element` and `element_len`.
 
 use crate::vectors::{is_written, long_octets};
-use const_oid::{Error, ObjectIdentifier, ObjectIdentifierRef};
+use const_oid::{Error, ObjectIdentifier, ObjectIdentifierRef, Oid};
 use std::alloc::{AllocError, Global};
 
 /// What is read: the contents octets or their error, and the octets after the element, or `None`.
@@ -78,16 +78,14 @@ const READ: &[(&[u8], Read)] = &[
 /// Whether this is read of octets, borrowed and owned, at the default capacity and at 255.
 fn is_read(der: &[u8], wanted: Option<(Result<&[u8], Error>, &[u8])>) -> bool {
     let borrowed = ObjectIdentifierRef::read_element(der);
-    let usual = wanted.map(|(octets, rest)| (octets.and_then(ObjectIdentifier::from_bytes), rest));
-    if ObjectIdentifier::read_element(der) != usual {
-        return false;
-    }
     match (borrowed, ObjectIdentifier::read_element_sized(der), wanted) {
         (Some((read, rest)), Some((owned, left)), Some((octets, after))) => {
             read.map(|oid| oid.as_bytes()) == octets
                 && owned == octets.and_then(ObjectIdentifier::<255>::from_bytes_sized)
                 && rest == after
                 && left == after
+                && ObjectIdentifier::read_element(der)
+                    == Some((octets.and_then(Oid::from_bytes), after))
         }
         (read, owned, wanted) => read.is_none() && owned.is_none() && wanted.is_none(),
     }

@@ -43,9 +43,8 @@ pub struct ObjectIdentifierRef {
 impl ObjectIdentifierRef {
     /// Decodes contents octets (X.690, 8.19).
     ///
-    /// A complete encoding `06 09 2A ..` is no error, but another identifier, 0.6.9.42 and so on, and so is text: the
-    /// bytes of `2.5` are 1.10.46.53. [`read_element`](Self::read_element) removes tag and length, and
-    /// [`from_ascii_in`](Self::from_ascii_in) reads text.
+    /// Tag and length are not removed: an element `06 09 2A ..` is no error, but 0.6.9.42 and so on, and neither is the
+    /// text `2.5`, but 1.10.46.53. Use [`read_element`](Self::read_element) and [`from_ascii_in`](Self::from_ascii_in).
     ///
     /// # Errors
     ///
