@@ -40,8 +40,8 @@ impl<'a> SortedDatabase<'a> {
     ghost use Rattle.const_oid.specs.Names.{IsNearest, IsSubtree, entry_arcs, first_name, first_oid, sorted_entries_of};
     ghost use Rattle.const_oid.specs.Tree.{BeginsWith};
 
-    /// A database over these entries, or `None` if they are not in the order of arcs. Entries of one identifier may follow
-    /// each other. In a constant, `.expect(..)` makes a wrong order an error of the compiler.
+    /// A database over entries in the order of arcs, that of `sort_by_key(|entry| ByArcs(entry.0))`, or `None`. In a
+    /// constant, `.expect(..)` makes another order an error of the compiler. An identifier may have several entries.
     ///
     /// # Examples
     ///
