@@ -95,6 +95,7 @@ static int finds_each(void) {
 int main(void) {
     const_oid_octets rsa = octets_of("RSAEncryption");
     print_name(rsa.octets, rsa.len);
+    /* rsaEncryption */
     return is_rsa(rsa.octets, rsa.len) && octets_of("no name").len == 0 && finds_each() && decides()
         && reads_purposes() ? 0 : 1;
 }

@@ -678,7 +678,7 @@ int main(void) {
         if (is_output(output_at()) && !is_one(output_at())) with_huge_outputs();
         for (int at = 0; at < output_at(); at++) vary(at);
     }
-    if (equal_items == NULL) printf("tests: no length past 2^32, since no more is mapped\n");
+    if (equal_items == NULL) fprintf(stderr, "tests: no length past 2^32, since no more is mapped\n");
     return 0;
 }
 #endif
