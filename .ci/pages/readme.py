@@ -36,8 +36,7 @@ def run(script):
         clone.mkdir()
         for path in TOP.iterdir():
             (clone / path.name).symlink_to(path)
-        outputs = {"stdout": subprocess.PIPE, "stderr": subprocess.STDOUT, "text": True}
-        return subprocess.run(["bash", "-ec", script], cwd=clone, env=variables, **outputs)
+        return subprocess.run(["bash", "-ec", f"exec 2>&1\n{script}"], cwd=clone, env=variables, text=True, capture_output=True)
 
 
 def faults():
@@ -45,7 +44,7 @@ def faults():
     ended = run(script)
     if ended.returncode:
         yield f"{PAGE}: a block ends with status {ended.returncode}: {ended.stdout.strip()[-4000:]}"
-    said = re.findall(r"\b(?:printf?|echo)\b.*\s(?:/\*|#) (.*?)(?: \*/)?$", script, re.M)
+    said = re.findall(r"\S\s+(?:/\*|#) (.*?)(?: \*/)?$", script, re.M)
     printed = iter(ended.stdout.splitlines())
     missing = [line for line in said if line not in printed]
     yield from (f"{PAGE}: a block does not print: {line}" for line in missing[:1])
