@@ -36,11 +36,11 @@ def run(script):
         clone.mkdir()
         for path in TOP.iterdir():
             (clone / path.name).symlink_to(path)
-        return subprocess.run(["bash", "-ec", f"exec 2>&1\n{script}"], cwd=clone, env=variables, text=True, capture_output=True)
+        return subprocess.run(["bash", "-ec", script], cwd=clone, env=variables, text=True, capture_output=True)
 
 
 def faults():
-    script = "".join(scripts())
+    script = "exec 2>&1\n" + "".join(scripts())
     ended = run(script)
     if ended.returncode:
         yield f"{PAGE}: a block ends with status {ended.returncode}: {ended.stdout.strip()[-4000:]}"
