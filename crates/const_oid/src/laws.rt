@@ -22,7 +22,7 @@ ghost use Rattle.const_oid.specs.Text.{text_fault, text_answer, text_of, pieces_
 ghost use Rattle.const_oid.specs.Tree.{BeginsWith, child_of, parent_of};
 ghost use Rattle.const_oid.specs.WideRule.{IsPastNarrow, RefusesSecond};
 
-/// Examples, which the definitions compute: under the rule of this crate, except for the last one.
+/// Examples, which the definitions compute: under the rule of this crate, except for those that name the narrow one.
 pub fn examples()
     ensures read { arcs_of_octets (0x2A ∷ 0x86 ∷ 0x48 ∷ 0xCE ∷ 0x3D ∷ 2 ∷ 1 ∷ [])
         ≡ 1 ∷ 2 ∷ 840 ∷ 10045 ∷ 2 ∷ 1 ∷ [] }
@@ -57,6 +57,9 @@ pub fn examples()
     ensures long_length { length_octets 201 ≡ 0x81 ∷ 0xC9 ∷ [] }
     ensures whole_element { element (0x88 ∷ 0x37 ∷ []) ≡ 0x06 ∷ 0x02 ∷ 0x88 ∷ 0x37 ∷ [] }
     ensures narrow { octet_fault Narrow (0xFF ∷ []) 39 ≡ Some (ArcInvalid 6) }
+    ensures narrow_before_digit { text_fault Narrow (codes "2.40.X") 39 ≡ Some (ArcInvalid 40) }
+    ensures narrow_before_size { text_fault Narrow (codes "2.40.4294967296") 39 ≡ Some (ArcInvalid 40) }
+    ensures narrow_before_second_dot { text_fault Narrow (codes "2.40..") 39 ≡ Some (ArcInvalid 40) }
 {}
 
 /// Each number has exactly one subidentifier, which has as many octets as the number's width.

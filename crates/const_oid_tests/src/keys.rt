@@ -7,7 +7,7 @@ ghost use Rattle.const_oid.specs.Oid.{oid_octets};
 ghost use Rattle.const_oid.specs.OidRef.{ref_octets};
 
 use crate::vectors::{accepted_rows, parse, read_borrowed, read_owned};
-use const_oid::{ObjectIdentifier, ObjectIdentifierRef, Oid};
+use const_oid::{Arc, ObjectIdentifier, ObjectIdentifierRef, Oid};
 use const_oid_uses::theorems::parent_of_child;
 use std::alloc::Global;
 use std::collections::{BTreeMap, HashMap};
@@ -43,8 +43,20 @@ fn maps(alloc: Global) -> Result<(HashMap<Oid, usize>, BTreeMap<Oid, usize>), Fa
     Ok((hashed, sorted))
 }
 
+/// Whether the parent hashes as the identifier of all arcs but the last one, and is found by it. The rows' last arcs
+/// have one to five octets.
+fn parent_is_key(alloc: Global, oid: &Oid, arcs: &[Arc]) -> Result<bool, Fail> {
+    let (Some(parent), Some((_, shorter))) = (oid.parent(), arcs.split_last()) else {
+        return Ok(arcs.len() == 2);
+    };
+    let shorter = Oid::from_arcs(shorter.iter().copied())?;
+    let mut keys = HashMap::new(alloc);
+    keys.insert(shorter, true)?;
+    Ok(hash_of(&parent) == hash_of(&shorter) && keys.get(&parent).is_some())
+}
+
 /// The identifiers of the texts are those keys. They hash as the parents of their children and as their borrowed forms
-/// do.
+/// do, and so do their parents.
 #[test]
 fn finds_keys_by_text(rt: HostRuntime) -> Result<(), Fail> {
     let (hashed, sorted) = maps(rt.alloc())?;
@@ -58,6 +70,7 @@ fn finds_keys_by_text(rt: HostRuntime) -> Result<(), Fail> {
             "{text}"
         );
         assert!(rt; ref_hash_of(&oid.as_oid_ref()) == hash_of(&oid), "{text}");
+        assert!(rt; parent_is_key(rt.alloc(), &oid, arcs)?, "{text}");
     }
     assert!(rt; hashed.len() == accepted_rows().len() && sorted.len() == accepted_rows().len());
     Ok(())

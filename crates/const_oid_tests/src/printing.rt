@@ -19,8 +19,8 @@ const ROWS: &[(&[u8], &str)] = &[
     ),
 ];
 
-/// Whether a value prints as this text, its Debug texts have this name, and each failed write is reported. A text of at
-/// most 160 bytes takes one write, and is printed under each option.
+/// Whether a value prints as this text, its Debug texts have this name, and each failed write is reported, of Debug up to
+/// 300 bytes. A text of at most 160 bytes takes one write, and is printed under each option. One past 171 takes more.
 fn prints_both<T: Copy + Debug + Display + Drop>(
     alloc: Global,
     value: T,
@@ -29,15 +29,16 @@ fn prints_both<T: Copy + Debug + Display + Drop>(
 ) -> Result<bool, AllocError> {
     let debug = format!(in alloc; "{name}({text})|{name}({text})|{name}({text})")?;
     let debug = debug.as_str();
-    let writes = count_writes(&value, text);
-    if text.len() > 160 {
-        return Ok(writes.is_some() && prints_as(&DebugTexts(value), debug));
-    }
-    Ok(
-        writes == Some(1)
-            && count_writes(&DebugTexts(value), debug).is_some()
-            && prints(alloc, &value, text)?,
-    )
+    let is_counted = match (count_writes(&value, text), text.len()) {
+        (Some(1), len) => len <= 171,
+        (Some(_), len) => len > 160,
+        (None, _) => false,
+    };
+    let debug_prints = match text.len() {
+        ..=300 => count_writes(&DebugTexts(value), debug).is_some(),
+        _ => prints_as(&DebugTexts(value), debug),
+    };
+    Ok(is_counted && debug_prints && (text.len() > 160 || prints(alloc, &value, text)?))
 }
 
 /// Whether both forms of octets print as this text. There is no owned one of more than 255.
