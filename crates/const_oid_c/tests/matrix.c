@@ -7,6 +7,7 @@
  * With -DFUZZED -fsanitize=fuzzer, what libFuzzer gives takes the place of the lengths and numbers. */
 #include "reference.h"
 
+#include <const_oid_names.h>
 #include <sys/mman.h>
 #include <sys/resource.h>
 #include <sys/wait.h>
@@ -143,9 +144,7 @@ static void check_any(const_oid_status got, const argument *given) {
 }
 
 /* Calls the function, and compares all that it returns and writes with its rule. */
-static void check(void) {
-    argument given[ARGUMENTS];
-    place(given);
+static void check_given(const argument *given) {
     answer wanted = f->rule(given);
     int out = output_at();
     size_t count = 0, size = sizes[f->kinds[out]];
@@ -169,6 +168,16 @@ static void check(void) {
         if (given[at].items == a[at].items) continue;
         must(memcmp(given[at].items, a[at].items, bytes_of(at)) == 0, "it wrote an input");
     }
+}
+
+/* Calls the function: two inputs that are the same are at two places, and then at one. */
+static void check(void) {
+    argument given[ARGUMENTS];
+    place(given);
+    check_given(given);
+    if (f->kinds[0] != f->kinds[1] || a[0].items != a[1].items || a[0].len != a[1].len) return;
+    given[1] = given[0];
+    check_given(given);
 }
 
 /* Lengths past which a length of fewer bits would be one of three or of one. */
@@ -346,9 +355,23 @@ static const struct {
 } fillings[] = {[OCTETS] = {fill_octets, 9, "\x2A\3\4\x80", 3}, [DER] = {fill_der, 9, "\x2A\3\4\x80", 3},
     [TEXT] = {fill_text, 7, "1.2\xFF", 3}, [ARCS] = {fill_arcs, 5, starts, 1}};
 
+/* Each identifier with a name, since a function could know it. Bytes follow an element. */
+static void vary_names(int lead, enum kind kind) {
+    static uint32_t items[128];
+    for (size_t i = 0; i < CONST_OID_NAMES_COUNT; i++) {
+        const argument octets = {const_oid_name_octets[i].octets, const_oid_name_octets[i].len};
+        answer form = kind == DER ? const_oid_to_der_rule(&octets) : const_oid_arcs_rule(&octets);
+        if (kind == TEXT) form = printed(&first);
+        if (kind == OCTETS) form = encoded(&first);
+        memcpy(items, form.items, form.status.len * sizes[kind]);
+        with(lead, items, form.status.len + (kind == DER ? 3 : 0));
+    }
+}
+
 static void vary_array(int lead, enum kind kind) {
     static uint32_t items[MOST];
     with(lead, NULL, 0);
+    vary_names(lead, kind);
     for (int i = 0; i < LENS; i++) {
         for (int form = 0; form < fillings[kind].forms; form += len_at(i) > 1000 ? 2 : 1) {
             fillings[kind].fill(items, len_at(i), form);

@@ -7,7 +7,7 @@ use std::cmp::Ordering;
 use std::collections::{BTreeMap, HashMap};
 use std::fmt::{Debug, Write};
 use std::hash::{Hash, Hasher};
-use std::iter::repeat;
+use std::iter::{FusedIterator, repeat};
 use std::ops::Bound::{Excluded, Unbounded};
 use std::panic::{AssertUnwindSafe, catch_unwind};
 use std::rc::Rc;
@@ -373,18 +373,66 @@ fn check_borrowed(octets: &[u8], arcs: &[Arc]) {
     let oid = ObjectIdentifierRef::from_bytes(octets).unwrap();
     check_values!(oid, octets, arcs, "ObjectIdentifierRef");
     check_left(oid.arcs(), octets);
+    check_iterator(oid.arcs(), arcs);
+    assert!(oid.parent().is_none_or(|parent| parent.as_bytes().as_ptr() == octets.as_ptr()), "{octets:02X?}");
     each_capacity!(check_owned(octets, arcs));
 }
 
+/// The methods of an iterator over these items, after it gave some of them, all, or `None`.
+fn check_iterator<T: Copy + Debug + Ord>(items: impl FusedIterator<Item = T> + Clone, all: &[T]) {
+    for taken in [0, 1, 2, 3, all.len(), all.len() + 1] {
+        let (mut given, rest) = (items.clone(), &all[taken.min(all.len())..]);
+        (0..taken).for_each(|index| assert_eq!(given.next(), all.get(index).copied()));
+        let (low, high) = given.size_hint();
+        assert!(low <= rest.len() && high >= Some(rest.len()), "{low} to {high:?} of {rest:?}");
+        for count in [0, 1, 2, rest.len() / 2, rest.len()] {
+            check_methods(&given, &rest.iter().copied(), rest.get(count).copied(), count);
+        }
+    }
+}
+
+/// Asserts that each expression has the same value for two iterators.
+macro_rules! assert_same {
+    ($given:ident, $model:ident, $items:ident: $($answer:expr;)*) => {
+        $(assert_eq!(
+            { let mut $items = $given.clone(); $answer }, { let mut $items = $model.clone(); $answer },
+            "{}", stringify!($answer)
+        );)*
+    };
+}
+
+/// The methods of an iterator that can be overridden, beside those of one of core.
+#[allow(unused_mut)]
+fn check_methods<T: Copy + Debug + Ord, G, M>(given: &G, model: &M, wanted: Option<T>, count: usize)
+where
+    G: Iterator<Item = T> + Clone,
+    M: Iterator<Item = T> + Clone,
+{
+    let (is_wanted, other) = (|item| Some(item) == wanted, || model.clone().skip(count));
+    assert_same!(given, model, it:
+        it.count(); it.last(); it.max(); it.min(); it.max_by(T::cmp); it.min_by(T::cmp); it.max_by_key(|item| *item);
+        it.min_by_key(|item| *item); it.is_sorted(); it.is_sorted_by(T::le); it.is_sorted_by_key(|item| item);
+        it.reduce(|first, _| first); it.reduce(|_, last| last); it.collect::<Vec<_>>();
+        it.partition::<Vec<_>, _>(|item| Some(*item) < wanted); it.cmp(other()); it.partial_cmp(other());
+        it.eq(other()); it.ne(other()); it.lt(other()); it.le(other()); it.gt(other()); it.ge(other());
+        it.fold(Vec::new(), |mut items, item| { items.push(item); items });
+        { let mut items = Vec::new(); it.for_each(|item| items.push(item)); items };
+        (it.nth(count), it.collect::<Vec<_>>()); (it.by_ref().take(count).count(), it.collect::<Vec<_>>());
+        (it.all(|item| !is_wanted(item)), it.collect::<Vec<_>>()); (it.any(is_wanted), it.collect::<Vec<_>>());
+        (it.find(|item| is_wanted(*item)), it.collect::<Vec<_>>()); (it.position(is_wanted), it.collect::<Vec<_>>());
+        (it.find_map(|item| is_wanted(item).then_some(item)), it.collect::<Vec<_>>());
+        (it.try_fold(0, |sum, item| (!is_wanted(item)).then_some(sum + 1)), it.collect::<Vec<_>>());
+        (it.try_for_each(|item| (!is_wanted(item)).then_some(())), it.collect::<Vec<_>>());
+    );
+}
+
 /// How many arcs are left, at each of them: no fewer than a fifth of the octets that are left, and no more than these,
-/// besides the second arc, which the first octets hold, too. `count` is exact.
+/// besides the second arc, which the first octets hold, too.
 fn check_left(mut arcs: Arcs<'_>, octets: &[u8]) {
     let ends = octets.iter().enumerate().filter(|(_, octet)| **octet < 0x80).map(|(index, _)| index + 1);
     let firsts = [(octets.len(), 1), (octets.len() - ends.clone().next().unwrap(), 1)];
     for (left, held) in firsts.into_iter().chain(ends.map(|end| (octets.len() - end, 0))) {
         assert_eq!(arcs.size_hint(), (left.div_ceil(5) + held, Some(left + held)), "{octets:02X?}");
-        let later = || octets[octets.len() - left..].iter().filter(|octet| **octet < 0x80).count();
-        assert!(left > 300 || arcs.clone().count() == later() + held, "{left} octets of {octets:02X?}");
         arcs.next();
     }
     assert_eq!((arcs.next(), arcs.size_hint()), (None, (0, Some(0))));
@@ -463,13 +511,15 @@ fn writes_errors() {
     }
 }
 
-/// What std's options do with the numbers of an error and of arcs.
+/// What std's options do with the numbers of an error and of arcs; and the sum and the product of arcs.
 #[test]
 fn debug_has_the_options_of_its_numbers() {
     let error = Error::ArcInvalid { arc: 999 };
     let oid = ObjectIdentifier::new_unwrap("2.999");
     let mut arcs = oid.arcs();
     arcs.next();
+    let [sum, product] = [oid.arcs().sum::<Arc>(), oid.arcs().product()];
+    assert_eq!((sum, product, arcs.clone().sum(), arcs.clone().product()), (1_001, 1_998, 999, 999));
     for (error, arcs, number) in [
         (format!("{error:?}"), format!("{arcs:?}"), "999"),
         (format!("{error:+?}"), format!("{arcs:+?}"), "+999"),
@@ -644,10 +694,27 @@ fn reads_long_octets() {
 fn reads_and_writes_known_identifiers() {
     for text in const_oid::db::DB.entries().iter().map(|entry| entry.0.to_string()).chain(["2.999.3".into()]) {
         let arcs = model::of_text(text.as_bytes(), 255).unwrap();
-        check_octets(&model::encoding(&arcs));
-        check_borrowed(&model::encoding(&arcs), &arcs);
+        let octets = model::encoding(&arcs);
+        check_octets(&octets);
+        check_element(&[&model::head(octets.len()), &octets[..], &[6, 1, 5]].concat());
+        check_borrowed(&octets, &arcs);
         each_capacity!(read_text(&text));
         each_capacity!(read_arcs(&arcs));
+    }
+}
+
+/// Names of an identifier in some rows, in a row or in none, with an index and without.
+#[cfg(feature = "db")]
+#[test]
+fn iterates_over_names() {
+    use const_oid::db::{DB, Database};
+    let entries: Vec<_> = (0..60).map(|row| (DB.entries()[row % 7].0, DB.entries()[row].1)).collect();
+    let mut place = [0; 240];
+    for table in [DB, Database::new(&entries), Database::new(&entries).indexed(&mut place)] {
+        for (oid, _) in DB.entries() {
+            let rows = table.entries().iter().filter(|row| row.0 == *oid);
+            check_iterator(table.find_names_for_oid(**oid), &Vec::from_iter(rows.map(|row| row.1)));
+        }
     }
 }
 

@@ -27,8 +27,8 @@ use crate::erased::oid::Oid;
 pub struct Database<'a> {
     pub(crate) entries: &'a [(&'a Oid, &'a str)],
     /// Links by identifier, and by name, or none.
-    oid_links: &'a [u16],
-    name_links: &'a [u16],
+    pub(crate) oid_links: &'a [u16],
+    pub(crate) name_links: &'a [u16],
 }
 
 impl<'a> Database<'a> {
