@@ -1,17 +1,17 @@
 -- For callers: what follows of identifiers that are held.
-use Rattle.std.proofs.Common.{◌≡◌, ◌≢◌, ℕ, zero, suc, ◌+◌, Bool, ◌&&◌, not, true, false, ◌<◌, ◌≤◌, List, [], length}
+use Rattle.std.proofs.Common.{◌≡◌, ◌≢◌, ℕ, zero, suc, ◌+◌, Bool, ◌&&◌, not, true, false, ◌<◌, ◌≤◌, List, [], length, nat_lt}
 use Rattle.std.proofs.Common.{min, Some, Ok, Less, nat_cmp, sym, arith, slice_get, length-append, append-nil}
 use Rattle.std.specs.{Cmp.Lexicographic.slice_cmp, Ordering.{is_le, is_lt}, Prelude.Result, Iterator.YieldsFirst}
 use Rattle.std.proofs.{Math.Seq.get_or-append_seam, iter.Rest.run_of_first}
-use Rattle.std.proofs.lemmas.{Bool.{and_parts, not-true}, List.length-take, Option.gets, Cmp.nat_list_cmp_total, Grind.common_steps}
+use Rattle.std.proofs.lemmas.{Bool.{and_parts, not-true}, List.{length-take, Sums.count_by-le-length}, Option.gets, Cmp.nat_list_cmp_total, Grind.common_steps}
 use Rattle.std.proofs.lemmas.Bool.Decides.{nat_tests}
-use Rattle.const_oid.specs.{declared.oid.ObjectIdentifier.ObjectIdentifier, declared.error.Error.Error, OidRef.ref_arcs}
+use Rattle.const_oid.specs.{declared.oid.ObjectIdentifier.ObjectIdentifier, declared.error.Error.Error, OidRef.{ref_arcs, ref_octets}}
 use Rattle.const_oid.specs.{declared.oid_ref.ObjectIdentifierRef.ObjectIdentifierRef, Items.{item_answer, TakesItems}}
 use Rattle.const_oid.specs.{Contents.arcs_of_octets, Orders.shortlex_cmp}
 use Rattle.const_oid.specs.Identifier.{RootRule, root_rule, IsIdentifier, IsEncoding, size, encoding_of}
 use Rattle.const_oid.specs.{Oid.{oid_arcs, oid_octets}, Text.{text_of, text_answer}}
 use Rattle.const_oid.specs.Tree.{BeginsWith, parent_of, child_of}
-use Rattle.const_oid.proofs.{BeginsWith.{ancestor_short, ancestor_before}, Lengths.length_is_size}
+use Rattle.const_oid.proofs.{BeginsWith.{ancestor_short, ancestor_before}, Lengths.{length_is_size, length_by_count}}
 use Rattle.const_oid.proofs.Encodings.{oid_encoding, ref_encoding, encoding_of-encoded}
 use Rattle.const_oid.proofs.{Texts.{text_denotes, text_fault-none}, Tree.{parent_of-child_of, child_of-parent_of}}
 
@@ -31,6 +31,17 @@ oid_within oid = omega (arith, oid.ber.within, length-take oid.ber.used oid.ber.
 -- its size is within the capacity
 pub size_fits : {N : ℕ} (oid : ObjectIdentifier N) → size (oid_arcs oid) ≤ min N 255
 size_fits oid = omega (arith, oid_within oid, length_is_size (oid_encoding oid))
+
+-- it has at most one arc more than octets
+few : (arcs octets : List ℕ) → IsEncoding root_rule arcs octets → length arcs ≤ 1 + length octets
+few arcs octets e =
+    omega (arith, length_by_count root_rule arcs octets e, count_by-le-length (λ x. nat_lt x 128) octets)
+
+pub few_arcs : {N : ℕ} (oid : ObjectIdentifier N) → length (oid_arcs oid) ≤ 1 + min N 255
+few_arcs oid = omega (arith, oid_within oid, few (oid_arcs oid) (oid_octets oid) (oid_encoding oid))
+
+pub ref_few_arcs : (oid : ObjectIdentifierRef) → length (ref_arcs oid) ≤ 1 + length (ref_octets oid)
+ref_few_arcs oid = few (ref_arcs oid) (ref_octets oid) (ref_encoding oid)
 
 -- its printed text is read as its arcs
 pub printed_back : {N : ℕ} (oid : ObjectIdentifier N)

@@ -1,7 +1,8 @@
-//! The identifiers that begin with one, in a list sorted by octets.
+//! The identifiers that begin with one, in a list sorted by octets; and one that begins with one of a list.
 
-ghost use Rattle.std.specs.Prelude.{◌≡◌, ◌≤◌, ◌<◌, ◌↔◌, ℕ, IfSome, IsSome, slice_get};
+ghost use Rattle.std.specs.Prelude.{◌≡◌, ◌≤◌, ◌<◌, ◌↔◌, ℕ, IfSome, IsSome, IsTrue, slice_get};
 ghost use Rattle.std.specs.Cmp.Lexicographic.{slice_cmp};
+ghost use Rattle.std.specs.List.{Any};
 ghost use Rattle.std.specs.List.Sorted.{IsSortedByKey};
 ghost use Rattle.std.specs.Ordering.{nat_cmp};
 ghost use Rattle.const_oid.specs.OidRef.{ref_arcs, ref_octets};
@@ -24,4 +25,16 @@ pub fn range_of(
     } else {
         None
     }
+}
+
+/// Whether an identifier is in one of the subtrees of a list.
+pub fn is_under_any(oid: &ObjectIdentifierRef<'_>, roots: &[ObjectIdentifierRef<'_>]) -> bool
+    ensures { IsTrue result ↔ Any (λ root. BeginsWith (ref_arcs oid.now) (ref_arcs root)) roots.now }
+{
+    for root in roots {
+        if oid.starts_with(root) {
+            return true;
+        }
+    }
+    false
 }

@@ -1,6 +1,6 @@
 //! What callers want to know of identifiers, as contracts of small functions.
 
-ghost use Rattle.std.specs.Prelude.{◌≡◌, ◌≢◌, ◌<◌, ◌≤◌, ◌↔◌, [], ◌∷◌, drop, length, Some, IsTrue, IsSome};
+ghost use Rattle.std.specs.Prelude.{◌≡◌, ◌≢◌, ◌<◌, ◌≤◌, ◌↔◌, ◌++◌, ℕ, List, [], ◌∷◌, drop, length, Some, IsTrue, IsSome};
 ghost use Rattle.std.specs.Prelude.{IfOk, IfSome, IsOk, IsOkAnd, IsSomeAnd};
 ghost use Rattle.std.specs.declared.cmp.Ordering.TheVariants.{Less};
 ghost use Rattle.const_oid.specs.Element.{element};
@@ -103,4 +103,18 @@ pub fn through_element<'a>(
 {
     oid.write_element(out)?;
     Some(ObjectIdentifierRef::read_element(out))
+}
+
+/// Whether octets begin with a whole element, whatever its contents octets are.
+pub fn begins_with_element(der: &[u8]) -> bool
+    ensures { IsTrue result ↔ ((contents : List ℕ) × (rest : List ℕ) × (der.now ≡ element contents ++ rest)) }
+{
+    ObjectIdentifierRef::read_element(der).is_some()
+}
+
+/// How many arcs an identifier has. 39 octets have 40 at most.
+pub fn arc_count(oid: &Oid) -> u8
+    ensures { result ≡ length (oid_arcs oid.now) }
+{
+    oid.len() as u8
 }
