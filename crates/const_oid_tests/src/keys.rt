@@ -43,8 +43,7 @@ fn maps(alloc: Global) -> Result<(HashMap<Oid, usize>, BTreeMap<Oid, usize>), Fa
     Ok((hashed, sorted))
 }
 
-/// Whether the parent hashes as the identifier of all arcs but the last one, and is found by it. The rows' last arcs
-/// have one to five octets.
+/// Whether the parent hashes as the identifier of all arcs but the last one, and finds it.
 fn parent_is_key(alloc: Global, oid: &Oid, arcs: &[Arc]) -> Result<bool, Fail> {
     let (Some(parent), Some((_, shorter))) = (oid.parent(), arcs.split_last()) else {
         return Ok(arcs.len() == 2);

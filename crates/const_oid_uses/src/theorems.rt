@@ -111,10 +111,3 @@ pub fn begins_with_element(der: &[u8]) -> bool
 {
     ObjectIdentifierRef::read_element(der).is_some()
 }
-
-/// How many arcs an identifier has. 39 octets have 40 at most.
-pub fn arc_count(oid: &Oid) -> u8
-    ensures { result ≡ length (oid_arcs oid.now) }
-{
-    oid.len() as u8
-}

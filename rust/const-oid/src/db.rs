@@ -149,46 +149,28 @@ include!("db/names.rs");
 
 include!("db/sorted.rs");
 
-/// Whether room for links of these keys is used in place of others: it is longer, and no slot has over a quarter of the
-/// keys and two.
-#[cfg(test)]
-fn are_used<'a>(keys: impl ExactSizeIterator<Item = &'a [u8]>, before: usize, room: usize) -> bool {
-    let (count, mut slots) = (keys.len(), [0; 6_000]);
-    for key in keys.filter(|_| room > count) {
-        let hash = key.iter().fold(0_u32, |hash, byte| hash.wrapping_mul(16_777_619).wrapping_add((byte | 32).into()));
-        slots[hash as usize % (room - count)] += 1;
-    }
-    room > count.max(before) && slots.iter().all(|slot| *slot <= count / 4 + 2)
-}
-
-/// The links of a table that had others are in lent memory where they help.
-#[cfg(test)]
-fn check_links(entries: &[(&ObjectIdentifier, &str)], before: usize, len: usize) {
-    let (had, place) = (&[0; 3_001][..before], &mut [0; 6_000][..len]);
-    let (by_oid, by_name) = place.split_at(if len / 3 > entries.len() { len / 2 } else { len });
-    let is_by_oid = are_used(entries.iter().map(|entry| entry.0.as_bytes()), before, by_oid.len());
-    let is_by_name = are_used(entries.iter().map(|entry| entry.1.as_bytes()), before, by_name.len());
-    let wanted = [if is_by_oid { by_oid } else { had }, if is_by_name { by_name } else { had }];
-    let wanted = wanted.map(<[u16]>::as_ptr_range);
-    let table = Database::new(entries).linked(had, had).indexed(place);
-    let links = [table.oid_links, table.name_links].map(<[u16]>::as_ptr_range);
-    assert_eq!(links, wanted, "{before} links and room for {len}, of {entries:?}");
-}
-
-/// Tables of no, few and many entries, of which some share a slot.
+/// A table has links in lent memory that is longer than those before, and where no slot has over a quarter of the entries
+/// and two.
 #[test]
 fn links_are_made_where_they_help() {
-    for count in (0..=12).chain([100, 101, 255, 256, 257, 1_000, 1_500]) {
-        let most = count / 4 + 2;
-        for (oids, names) in [(0, 0), (most, 0), (most + 1, 0), (0, most), (0, most + 1)] {
-            let entries: [_; 1_500] = core::array::from_fn(|index| {
-                let (oid, name) = ENTRIES[index % ENTRIES.len()];
-                (if index < oids { &rfc4519::CN } else { oid }, if index < names { "cn" } else { name })
-            });
-            for len in [0, count, count + 1, 3 * count + 2, 3 * count + 3, 4 * count] {
-                let before = [0, (2 * count).saturating_sub(1), 2 * count, 2 * count + 1].into_iter();
-                before.for_each(|before| check_links(&entries[..count], before, len));
-            }
+    let (had, mut place) = ([8; 41], [0; 6_000]);
+    for (names, before, len, made) in [
+        ("aAaAefgh", 0, 80, 40),
+        ("aaaaafgh", 0, 80, 0),
+        ("abcdefgh", 0, 26, 0),
+        ("abcdefgh", 39, 80, 40),
+        ("abcdefgh", 41, 80, 41),
+    ] {
+        let entries: [_; 8] = core::array::from_fn(|index| (&rfc4519::CN, &names[index..=index]));
+        let table = Database::new(&entries).linked(&[], &had[..before]).indexed(&mut place[..len]);
+        assert_eq!((table.oid_links.len(), table.name_links.len()), (0, made), "{names} {len}");
+    }
+    for count in [100, 101, 255, 256, 257, 1_000, 1_500] {
+        for (alike, made) in [(0, 2 * count), (count / 5, 2 * count), (count / 4 + 3, 0)] {
+            let entry = |index| if index < alike { ENTRIES[0] } else { ENTRIES[index % ENTRIES.len()] };
+            let entries: [_; 1_500] = core::array::from_fn(entry);
+            let table = Database::new(&entries[..count]).indexed(&mut place[..4 * count]);
+            assert_eq!([table.oid_links.len(), table.name_links.len()], [made; 2], "{count} entries, {alike} alike");
         }
     }
 }

@@ -378,6 +378,14 @@ fn check_borrowed(octets: &[u8], arcs: &[Arc]) {
     each_capacity!(check_owned(octets, arcs));
 }
 
+/// Asserts that each expression has the same value for an iterator and for that of a list.
+macro_rules! assert_same {
+    ($given:ident, $list:ident, $it:ident: $($answer:expr;)*) => {
+        $(let of_list = { let mut $it = $list.iter().copied(); $answer };
+        assert_eq!({ let mut $it = $given.clone(); $answer }, of_list, "{}", stringify!($answer));)*
+    };
+}
+
 /// The methods of an iterator over these items, after it gave some of them, all, or `None`.
 fn check_iterator<T: Copy + Debug + Ord>(items: impl FusedIterator<Item = T> + Clone, all: &[T]) {
     for taken in [0, 1, 2, 3, all.len(), all.len() + 1] {
@@ -385,37 +393,20 @@ fn check_iterator<T: Copy + Debug + Ord>(items: impl FusedIterator<Item = T> + C
         (0..taken).for_each(|index| assert_eq!(given.next(), all.get(index).copied()));
         let (low, high) = given.size_hint();
         assert!(low <= rest.len() && high >= Some(rest.len()), "{low} to {high:?} of {rest:?}");
-        for count in [0, 1, 2, rest.len() / 2, rest.len()] {
-            check_methods(&given, &rest.iter().copied(), rest.get(count).copied(), count);
-        }
+        [0, 1, 2, rest.len() / 2, rest.len()].into_iter().for_each(|count| check_methods(&given, rest, count));
     }
 }
 
-/// Asserts that each expression has the same value for two iterators.
-macro_rules! assert_same {
-    ($given:ident, $model:ident, $items:ident: $($answer:expr;)*) => {
-        $(assert_eq!(
-            { let mut $items = $given.clone(); $answer }, { let mut $items = $model.clone(); $answer },
-            "{}", stringify!($answer)
-        );)*
-    };
-}
-
-/// The methods of an iterator that can be overridden, beside those of one of core.
+/// The methods that an iterator can override. Adapters have types that are made in core alone.
 #[allow(unused_mut)]
-fn check_methods<T: Copy + Debug + Ord, G, M>(given: &G, model: &M, wanted: Option<T>, count: usize)
-where
-    G: Iterator<Item = T> + Clone,
-    M: Iterator<Item = T> + Clone,
-{
-    let (is_wanted, other) = (|item| Some(item) == wanted, || model.clone().skip(count));
-    assert_same!(given, model, it:
+fn check_methods<T: Copy + Debug + Ord>(given: &(impl Iterator<Item = T> + Clone), rest: &[T], count: usize) {
+    let (is_wanted, other) = (|item| Some(&item) == rest.get(count), || rest.iter().copied().skip(count));
+    assert_same!(given, rest, it:
         it.count(); it.last(); it.max(); it.min(); it.max_by(T::cmp); it.min_by(T::cmp); it.max_by_key(|item| *item);
         it.min_by_key(|item| *item); it.is_sorted(); it.is_sorted_by(T::le); it.is_sorted_by_key(|item| item);
-        it.reduce(|first, _| first); it.reduce(|_, last| last); it.collect::<Vec<_>>();
-        it.partition::<Vec<_>, _>(|item| Some(*item) < wanted); it.cmp(other()); it.partial_cmp(other());
-        it.eq(other()); it.ne(other()); it.lt(other()); it.le(other()); it.gt(other()); it.ge(other());
-        it.fold(Vec::new(), |mut items, item| { items.push(item); items });
+        it.reduce(|first, _| first); it.reduce(|_, last| last); it.partition::<Vec<_>, _>(|item| Some(item) < rest.get(count));
+        it.cmp(other()); it.partial_cmp(other()); it.eq(other()); it.ne(other()); it.lt(other()); it.le(other());
+        it.gt(other()); it.ge(other()); it.fold((0, None), |(sum, _), item| (sum + 1, Some(item)));
         { let mut items = Vec::new(); it.for_each(|item| items.push(item)); items };
         (it.nth(count), it.collect::<Vec<_>>()); (it.by_ref().take(count).count(), it.collect::<Vec<_>>());
         (it.all(|item| !is_wanted(item)), it.collect::<Vec<_>>()); (it.any(is_wanted), it.collect::<Vec<_>>());
@@ -708,12 +699,11 @@ fn reads_and_writes_known_identifiers() {
 #[test]
 fn iterates_over_names() {
     use const_oid::db::{DB, Database};
-    let entries: Vec<_> = (0..60).map(|row| (DB.entries()[row % 7].0, DB.entries()[row].1)).collect();
-    let mut place = [0; 240];
-    for table in [DB, Database::new(&entries), Database::new(&entries).indexed(&mut place)] {
+    let rows: Vec<_> = (0..60).map(|row| (DB.entries()[row % 7].0, DB.entries()[row].1)).collect();
+    for table in [DB, Database::new(&rows), Database::new(&rows).indexed(&mut [0; 240])] {
         for (oid, _) in DB.entries() {
-            let rows = table.entries().iter().filter(|row| row.0 == *oid);
-            check_iterator(table.find_names_for_oid(**oid), &Vec::from_iter(rows.map(|row| row.1)));
+            let names = table.entries().iter().filter(|row| row.0 == *oid).map(|row| row.1);
+            check_iterator(table.find_names_for_oid(**oid), &Vec::from_iter(names));
         }
     }
 }
