@@ -387,12 +387,14 @@ macro_rules! assert_same {
 }
 
 /// The methods of an iterator over these items, after it gave some of them, all, or `None`.
-fn check_iterator<T: Copy + Debug + Ord>(items: impl FusedIterator<Item = T> + Clone, all: &[T]) {
+fn check_iterator<T: Copy + Debug + Ord>(items: impl FusedIterator<Item = T> + Clone + Debug, all: &[T]) {
     for taken in [0, 1, 2, 3, all.len(), all.len() + 1] {
         let (mut given, rest) = (items.clone(), &all[taken.min(all.len())..]);
         (0..taken).for_each(|index| assert_eq!(given.next(), all.get(index).copied()));
         let (low, high) = given.size_hint();
         assert!(low <= rest.len() && high >= Some(rest.len()), "{low} to {high:?} of {rest:?}");
+        assert!(taken <= all.len() || high == Some(0), "{high:?}");
+        assert!(format!("{given:?}").ends_with(&format!("s({rest:?})")), "{given:?}");
         [0, 1, 2, rest.len() / 2, rest.len()].into_iter().for_each(|count| check_methods(&given, rest, count));
     }
 }
