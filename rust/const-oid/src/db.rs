@@ -149,8 +149,8 @@ include!("db/names.rs");
 
 include!("db/sorted.rs");
 
-/// A table has links in lent memory that is longer than those before, and where no slot has over a quarter of the entries
-/// and two.
+/// A table has links in lent memory that is longer than those before, and where no slot has over a quarter of the
+/// entries and two.
 #[test]
 fn links_are_made_where_they_help() {
     let (had, mut place) = ([8; 41], [0; 6_000]);
@@ -159,11 +159,13 @@ fn links_are_made_where_they_help() {
         ("aaaaafgh", 0, 80, 0),
         ("abcdefgh", 0, 26, 0),
         ("abcdefgh", 39, 80, 40),
+        ("abcdefgh", 40, 80, 40),
         ("abcdefgh", 41, 80, 41),
     ] {
         let entries: [_; 8] = core::array::from_fn(|index| (&rfc4519::CN, &names[index..=index]));
         let table = Database::new(&entries).linked(&[], &had[..before]).indexed(&mut place[..len]);
         assert_eq!((table.oid_links.len(), table.name_links.len()), (0, made), "{names} {len}");
+        assert_eq!(table.name_links.as_ptr() == had.as_ptr(), made == before, "{names} {len}");
     }
     for count in [100, 101, 255, 256, 257, 1_000, 1_500] {
         for (alike, made) in [(0, 2 * count), (count / 5, 2 * count), (count / 4 + 3, 0)] {

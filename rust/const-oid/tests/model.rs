@@ -406,9 +406,10 @@ fn check_methods<T: Copy + Debug + Ord>(given: &(impl Iterator<Item = T> + Clone
     assert_same!(given, rest, it:
         it.count(); it.last(); it.max(); it.min(); it.max_by(T::cmp); it.min_by(T::cmp); it.max_by_key(|item| *item);
         it.min_by_key(|item| *item); it.is_sorted(); it.is_sorted_by(T::le); it.is_sorted_by_key(|item| item);
-        it.reduce(|first, _| first); it.reduce(|_, last| last); it.partition::<Vec<_>, _>(|item| Some(item) < rest.get(count));
-        it.cmp(other()); it.partial_cmp(other()); it.eq(other()); it.ne(other()); it.lt(other()); it.le(other());
-        it.gt(other()); it.ge(other()); it.fold((0, None), |(sum, _), item| (sum + 1, Some(item)));
+        it.reduce(|first, _| first); it.reduce(|_, last| last); it.cmp(other()); it.partial_cmp(other());
+        it.partition::<Vec<_>, _>(|item| Some(item) < rest.get(count)); it.eq(other()); it.ne(other());
+        it.lt(other()); it.le(other()); it.gt(other()); it.ge(other());
+        it.fold((0, None), |(sum, _), item| (sum + 1, Some(item)));
         { let mut items = Vec::new(); it.for_each(|item| items.push(item)); items };
         (it.nth(count), it.collect::<Vec<_>>()); (it.by_ref().take(count).count(), it.collect::<Vec<_>>());
         (it.all(|item| !is_wanted(item)), it.collect::<Vec<_>>()); (it.any(is_wanted), it.collect::<Vec<_>>());
