@@ -49,12 +49,13 @@ def expected(heading):
 
 
 def verdict(heading, cell):
-    """The words and the kind of a cell of the matrix: the last share is that of misread inputs, where there are any."""
+    """The words and the kind of a cell of the matrix. Where inputs are misread, their share comes first."""
     if cell == "0":
         return "ok", "ok"
     share, *what = cell.split(", ")[-1].replace(" %", "%").split(" ")
     if what == ["misread"]:
-        return share, "wrong"
+        rejected, also, _ = cell.partition(" % rejected, ")
+        return f"{share} + {rejected}%" if also else share, "wrong"
     if expected(heading) == "either":
         return " ".join([share, *what]), "either"
     return share, "rejected" if what else "wrong"
@@ -94,7 +95,7 @@ def matrix():
     lines += notes(
         bottom,
         "red, bold: the share accepted, or read as another identifier",
-        "yellow: the share of valid inputs that are rejected",
+        "yellow, or after +: the share of valid inputs that are rejected",
         "no colour: either is right · no row: no such function",
     )
     return picture(bottom + 42, "What each library does with 10,000 test inputs of each kind", lines)
