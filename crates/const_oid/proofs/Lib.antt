@@ -40,5 +40,6 @@ pub mod SortedNames
 pub mod Overflow
 pub mod Tree
 pub mod WideRule
+pub mod WrongIndex
 pub mod Identifiers
 pub mod Sets

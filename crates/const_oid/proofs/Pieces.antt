@@ -1,16 +1,18 @@
 -- What the pieces of a text come to: one by the digits that it begins with, and those so far by their octets.
-use Rattle.std.proofs.Common.{◌≡◌, ◌≢◌, ℕ, ◌+◌, ◌-◌, ◌*◌, ◌<◌, ◌≤◌, ◌==◌, true, false, List, [], ◌∷◌, ◌++◌, length, drop, get_or}
+use Rattle.std.proofs.Common.{◌≡◌, ℕ, ◌+◌, ◌-◌, ◌*◌, ◌<◌, ◌≤◌, ◌==◌, true, false, List, [], ◌∷◌, ◌++◌, length, drop, get_or}
 use Rattle.std.proofs.Common.{if◌then◌else◌, Option, Some, Result, Ok, Err, MatchResult, refl, sym, ap, ◌∙◌, arith}
-use Rattle.std.proofs.Common.{append-nil, length-append, get_or-drop}
+use Rattle.std.proofs.Common.{append-nil, length-append, get_or-drop, nat_lt}
 use Rattle.std.specs.{List.onto_first, Bool.then_some, Char.is_ascii_digit, Str.all_ascii_digits}
 use Rattle.std.proofs.lemmas.{Bool.Decides.nat_tests, List.{drop_more, drop_all, length-drop}}
+use Rattle.std.proofs.lemmas.List.Sums.{count_by_more_no, count_by_more_yes}
 use Rattle.std.proofs.lemmas.List.Splits.{length-slice_split, slice_split_at, slice_split_none}
 use Rattle.const_oid.specs.{Identifier.{root_rule, max_arc, IsEncoding, IsIdentifier}, Items.arc_fault, declared.error.Error.Error}
-use Rattle.const_oid.specs.declared.error.Error.TheVariants.{ArcInvalid, ArcTooBig, DigitExpected, Length, TrailingDot}
-use Rattle.const_oid.specs.{Contents.arcs_of_octets, Base128.width, Private.Octets.{AppendsTo, BeginsBy, IsAppended}}
-use Rattle.const_oid.specs.Private.Parser.{pieces_answer, pieces_then, or_trailing, arc_answer, stop_fault}
-use Rattle.const_oid.specs.Private.Parser.{AreDigits, HasFault, IsPiece, IsRoot}
-use Rattle.const_oid.specs.Text.{pieces_of, number_of, is_empty, is_one_empty, pieces_fault, text_answer, IsNumber}
+use Rattle.const_oid.specs.declared.error.Error.TheVariants.{ArcInvalid, ArcTooBig, DigitExpected, Empty, Length, TrailingDot}
+use Rattle.const_oid.specs.{Contents.arcs_of_octets, Base128.width, Private.Octets.{AppendsTo, BeginsBy, IsAppended, IsEncodedIn}}
+use Rattle.const_oid.specs.Private.Parser.{pieces_found, text_found, found_after, or_trailing, arc_found, stop_fault}
+use Rattle.const_oid.specs.Private.Parser.{AreDigits, HasFault, IsFoundAt, IsPiece, IsRoot, IsWithin}
+use Rattle.const_oid.specs.Text.{component_at, pieces_of, number_of, is_empty, is_one_empty, text_answer, IsNumber}
+use Rattle.const_oid.proofs.WrongIndex.{same_text}
 use Rattle.const_oid.proofs.Outputs.{IsLonger, longer_by}
 use Rattle.const_oid.proofs.{Lists.append-cons, Started.{Encodes, root_encodes, later_encodes}}
 use Rattle.const_oid.proofs.{Faults.{none_from_below, some_from_above}, Encodings.{arcs_of_encoding, encoding_back}}
@@ -39,38 +41,51 @@ one_empty-pieces [] = refl
 one_empty-pieces (b ∷ bytes) = grind (arith, nat_tests, length-slice_split (λ b. b == 46) bytes)
 
 module _ (capacity : ℕ) (before : List ℕ) where
-  abbrev fault_of : List ℕ → Option Error
-  fault_of bytes = pieces_fault root_rule capacity before (pieces_of bytes)
+  abbrev found : List ℕ → Result (List ℕ) (Error × ℕ)
+  found bytes = pieces_found capacity before (pieces_of bytes)
 
   -- ---- a piece without a fault of its own
 
   number_read : (digits bytes : List ℕ) → IsNumber digits → number_of digits ≤ max_arc
       → (0 < length bytes → get_or bytes 0 0 ≡ 46) → (fault : Option Error)
       → arc_fault root_rule capacity before (number_of digits) ≡ fault
-      → pieces_answer capacity before (pieces_of (digits ++ bytes)) ≡ arc_answer capacity before (number_of digits) bytes fault
+      → found (digits ++ bytes) ≡ arc_found capacity before (number_of digits) bytes fault
   number_read digits [] is small dotted fault e =
       grind (arith, nat_tests, find-none, append-nil, slice_split_none (λ b. b == 46) digits, undotted)
   number_read digits (b ∷ []) is small dotted fault e =
-      grind (arith, nat_tests, find-none, append-nil, slice_split_at (λ b. b == 46), undotted)
+      grind (arith, nat_tests, find-none, append-nil, length-append, slice_split_at (λ b. b == 46), undotted)
   number_read digits (b ∷ c ∷ bytes) is small dotted fault e =
       grind (arith, nat_tests, find-none, one_empty-pieces (c ∷ bytes), append-cons, slice_split_at (λ b. b == 46), undotted)
 
   -- ---- a piece with a fault
 
   too_big : (digits more : List ℕ) → all_ascii_digits digits ≡ true → max_arc < number_of digits
-      → fault_of (digits ++ more) ≡ Some ArcTooBig
+      → found (digits ++ more) ≡ Err (ArcTooBig, length before)
   too_big digits more are big =
       let (tail, after, e) = some_piece more in
       rw (begins digits more tail after are e) (grind (arith, nat_tests, number_more digits tail are))
 
   no_digit : (digits more : List ℕ) (byte : ℕ) → all_ascii_digits digits ≡ true → number_of digits ≤ max_arc
-      → is_ascii_digit byte ≡ false → (byte == 46) ≡ false → fault_of (digits ++ byte ∷ more) ≡ Some (DigitExpected byte)
+      → is_ascii_digit byte ≡ false → (byte == 46) ≡ false → found (digits ++ byte ∷ more) ≡ Err (DigitExpected byte, length before)
   no_digit digits more byte are small other undotted =
       let (tail, after, e) = some_piece more in
       rw (begins digits (byte ∷ more) (byte ∷ tail) after are (rw (undotted, e) refl))
       (grind (arith, nat_tests, append-nil, number_of_digits, take_while-digits, find-digits))
 
 -- ---- at an index of a text
+
+-- a dot ends the component
+pub component_next : (text : List ℕ) (place : ℕ) → place < length text → get_or text place 0 ≡ 46
+    → component_at text (place + 1) ≡ component_at text place + 1
+component_next text place less is = count_by_more_yes (λ b. nat_lt b 48) text place 0 less (rw is refl)
+
+-- a digit does not
+within_more : {text : List ℕ} {start place : ℕ} → IsWithin text start place → place < length text
+    → is_ascii_digit (get_or text place 0) ≡ true → IsWithin text start (place + 1)
+within_more {text} {place} at less is = record {
+  same = count_by_more_no (λ b. nat_lt b 48) text place 0 less (grind (arith, nat_tests)) ∙ at.same;
+  within = omega arith;
+}
 
 -- the first digit
 pub first_read : {digit : ℕ} (text : List ℕ) (start : ℕ) → start < length text
@@ -81,7 +96,7 @@ first_read text start less is = record {
   are = grind (arith, nat_tests);
   value = grind (arith, nat_tests);
   bytes = drop_more text start 0 less;
-  within = omega arith;
+  at = within_more (record { same = refl; within = omega arith }) less (grind (arith, nat_tests));
 }
 
 -- one more
@@ -96,19 +111,20 @@ digit_read {text} {end} read less is =
       are = (grind (arith, length-append), digits_push read.digits byte read.are.1 is_digit);
       value = rw (read.value, number_push read.digits byte read.are.1 is_digit) (grind (arith, nat_tests));
       bytes = read.bytes ∙ rw (drop_more text end 0 less) (sym (append-cons read.digits byte (drop (end + 1) text)));
-      within = omega arith;
+      at = within_more read.at less is_digit;
     }
 
 -- one more makes the number too big
 pub big_fault : {text : List ℕ} {start number digit : ℕ} (end : ℕ) → AreDigits text start number end → end < length text
     → Some digit ≡ then_some (is_ascii_digit (get_or text end 0)) (get_or text end 0 - 48) → max_arc < number * 10 + digit
-    → HasFault text start (stop_fault text start end)
+    → HasFault text start (stop_fault text start end) end
 big_fault {text} end read less is big =
     let longer = digit_read read less is in
     record {
       is = λ capacity before none.
           let more = drop (end + 1) text in
           rw longer.bytes (too_big capacity before longer.digits more longer.are.1 (rw longer.value at big) ∙ grind (arith, nat_tests));
+      at = read.at;
     }
 
 module _ {text : List ℕ} {start number end : ℕ} (read : AreDigits text start number end) (small : number ≤ max_arc) where
@@ -120,98 +136,169 @@ module _ {text : List ℕ} {start number end : ℕ} (read : AreDigits text start
         (grind (arith, length-drop, get_or-drop)) _ refl);
     small = small;
     further = grind (arith, length-drop, length-append, ap length read.bytes);
-    within = read.within;
+    at = read.at;
+    dotted = dotted;
   }
 
   -- the byte after the digits is neither a digit nor a dot
   pub byte_fault : end < length text → is_ascii_digit (get_or text end 0) ≡ false → (get_or text end 0 == 46) ≡ false
-      → HasFault text start (stop_fault text start end)
+      → HasFault text start (stop_fault text start end) end
   byte_fault less other undotted = record {
     is = λ capacity before none.
         let more = drop (end + 1) text in
         rw (read.bytes, drop_more text end 0 less)
         (no_digit capacity before read.digits more (get_or text end 0) read.are.1 (rw read.value at small) other undotted
         ∙ grind (arith, nat_tests));
+    at = read.at;
   }
 
 -- the first byte is no digit
 pub first_fault : (text : List ℕ) (start : ℕ) → start < length text → is_ascii_digit (get_or text start 0) ≡ false
-    → HasFault text start (stop_fault text start start)
+    → HasFault text start (stop_fault text start start) start
 first_fault text start less other = record {
   is = λ capacity before none.
       let (tail, after, e) = some_piece (drop (start + 1) text) in
       rw (drop_more text start 0 less, e) (grind (arith, nat_tests, e));
+  at = record { same = refl; within = omega arith };
 }
 
 -- there is no byte
-pub end_fault : (text : List ℕ) (start : ℕ) → length text ≤ start → HasFault text start (stop_fault text start start)
-end_fault text start last = record { is = λ capacity before none. rw (drop_all start text last) (grind (arith, nat_tests)) }
+pub end_fault : (text : List ℕ) (start : ℕ) → length text ≡ start → HasFault text start (stop_fault text start start) start
+end_fault text start last = record {
+  is = λ capacity before none. rw (drop_all start text (omega arith)) (grind (arith, nat_tests));
+  at = record { same = refl; within = omega arith };
+}
 
 -- ---- the octets of the pieces so far
 
--- after the first piece, the second one
-pub root_taken : {text : List ℕ} {first end : ℕ} (capacity : ℕ) → IsPiece text 0 first end → first ≤ 2 → end ≢ length text
-    → text_answer root_rule text capacity ≡ pieces_answer capacity (first ∷ []) (pieces_of (drop (end + 1) text))
-root_taken {text} {first} {end} capacity piece low more =
-    piece.same capacity []
-    ∙ rw (none_from_below 2 first (ArcInvalid first) low, drop_more text end 0 (omega (arith, piece.within))) refl
+-- the pieces that end at an index or before are arcs, without a fault
+pub record AreRead (capacity : ℕ) (text before : List ℕ) (end : ℕ) : Type 0 where
+  pub found : text_found capacity text ≡ found_after capacity before (drop end text)
+  pub component : component_at text end + 1 ≡ length before
+  pub within : end ≤ length text
+  pub dotted : end < length text → get_or text end 0 ≡ 46
+
+-- the first piece
+pub first_wrong : {text : List ℕ} (capacity : ℕ) {fault : Error} {place : ℕ} → HasFault text 0 fault place
+    → IsFoundAt capacity text fault place
+first_wrong capacity {fault} has = record {
+  found = has.is capacity [] refl ∙ ap (λ n. Err (fault, n)) (sym has.at.same);
+  within = has.at.within;
+}
+
+module _ {text : List ℕ} {first end : ℕ} (capacity : ℕ) (piece : IsPiece text 0 first end) where
+  pub first_above : 2 < first → IsFoundAt capacity text (or_trailing (ArcInvalid first) (drop end text)) end
+  first_above high = record {
+    found = piece.same capacity [] ∙ rw (some_from_above 2 first (ArcInvalid first) high, piece.at.same) refl;
+    within = piece.at.within;
+  }
+
+  pub first_done : first ≤ 2 → AreRead capacity text (first ∷ []) end
+  first_done low = record {
+    found = piece.same capacity [] ∙ rw (none_from_below 2 first (ArcInvalid first) low) refl;
+    component = rw piece.at.same refl;
+    within = piece.at.within;
+    dotted = piece.dotted;
+  }
+
+  -- nothing is left, or a dot
+  pub first_alone : first ≤ 2 → length text ≤ end + 1 → IsFoundAt capacity text (or_trailing Empty (drop end text)) end
+  first_alone low last = record {
+    found = (first_done low).found ∙ rw piece.at.same (alone (drop end text) (omega (arith, length-drop end text)));
+    within = piece.at.within;
+  } where
+    alone : (bytes : List ℕ) → length bytes ≤ 1
+        → found_after capacity (first ∷ []) bytes ≡ Err (or_trailing Empty bytes, 0)
+    alone [] few = refl
+    alone (byte ∷ []) few = refl
+    alone (byte ∷ next ∷ bytes) few = absurd (omega arith)
+
+module _ {capacity : ℕ} {text before : List ℕ} {end : ℕ} (read : AreRead capacity text before end) where
+  -- a dot is left, so the last piece is empty
+  pub dot_left : end + 1 ≡ length text → IsFoundAt capacity text TrailingDot end
+  dot_left last =
+      let index : length before - 1 ≡ component_at text end = omega (arith, read.component) in
+      record {
+        found = read.found
+            ∙ rw (drop_more text end 0 (omega arith), drop_all (end + 1) text (omega arith)) (ap (λ n. Err (TrailingDot, n)) index);
+        within = read.within;
+      }
+
+  module _ (less : end + 1 < length text) where
+    next_component : component_at text (end + 1) ≡ length before
+    next_component = omega (arith, component_next text end (omega arith) (read.dotted (omega arith)), read.component)
+
+    next_found : text_found capacity text ≡ pieces_found capacity before (pieces_of (drop (end + 1) text))
+    next_found = read.found ∙ rw (drop_more text end 0 (omega arith), drop_more text (end + 1) 0 less) refl
+
+    pub wrong_piece : {fault : Error} {place : ℕ} → HasFault text (end + 1) fault place → IsFoundAt capacity text fault place
+    wrong_piece {fault} has = record {
+      found = next_found ∙ has.is capacity before (some_arc before read.component)
+          ∙ ap (λ n. Err (fault, n)) (sym (has.at.same ∙ next_component));
+      within = has.at.within;
+    } where
+      some_arc : (arcs : List ℕ) → component_at text end + 1 ≡ length arcs → is_empty arcs ≡ (end + 1 == 0)
+      some_arc [] none = absurd (omega arith)
+      some_arc (arc ∷ arcs) some = grind (arith, nat_tests)
+
+    module _ {arc place : ℕ} (piece : IsPiece text (end + 1) arc place) where
+      pub piece_component : component_at text place ≡ length before
+      piece_component = piece.at.same ∙ next_component
+
+      pub piece_found : text_found capacity text
+          ≡ arc_found capacity before arc (drop place text) (arc_fault root_rule capacity before arc)
+      piece_found = next_found ∙ piece.same capacity before
+
+      pub wrong_arc : {fault : Error} → arc_fault root_rule capacity before arc ≡ Some fault
+          → IsFoundAt capacity text (or_trailing fault (drop place text)) place
+      wrong_arc has = record { found = piece_found ∙ rw (has, piece_component) refl; within = piece.at.within }
 
 -- the octets are the encoding of the arcs of the pieces that end at an index or before
 pub record IsReadTo (capacity : ℕ) (text octets : List ℕ) (end : ℕ) : Type 0 where
   pub encoding : IsEncoding root_rule (arcs_of_octets octets) octets
-  pub answer : text_answer root_rule text capacity
-      ≡ pieces_answer capacity (arcs_of_octets octets) (pieces_then (drop end text))
-  pub within : end ≤ length text
+  pub arcs : AreRead capacity text (arcs_of_octets octets) end
 
 -- what becomes of them by a piece, whose group is appended or does not fit
 abbrev pub BecomesBy : {X : Type 0} → ℕ → List ℕ → List ℕ → ℕ → Result X Error → Type 0
 BecomesBy capacity text longer end result = MatchResult result (λ _. IsReadTo capacity text longer end)
-    (λ fault. text_answer root_rule text capacity ≡ Err (or_trailing fault (drop end text)))
-
-pub wrong_piece : {capacity : ℕ} {text octets : List ℕ} {place : ℕ} (fault : Error) → IsReadTo capacity text octets place
-    → place < length text → HasFault text (place + 1) fault → text_answer root_rule text capacity ≡ Err fault
-wrong_piece {capacity} {text} {octets} {place} fault read less has =
-    read.answer ∙ rw (drop_more text place 0 less, has.is capacity (arcs_of_octets octets) (some_arc _ read.encoding.identifier)) refl where
-      some_arc : (arcs : List ℕ) → IsIdentifier root_rule arcs → is_empty arcs ≡ (place + 1 == 0)
-      some_arc [] identifier = absurd identifier
-      some_arc (arc ∷ arcs) identifier = grind (arith, nat_tests)
-
--- a dot is left, so the last piece is empty
-pub dot_left : {capacity : ℕ} {text octets : List ℕ} {place : ℕ} → IsReadTo capacity text octets place
-    → place + 1 ≡ length text → text_answer root_rule text capacity ≡ Err TrailingDot
-dot_left {text} {place} read last =
-    wrong_piece (stop_fault text (place + 1) (place + 1)) read (omega arith) (end_fault text (place + 1) (omega arith))
-    ∙ grind (arith, nat_tests)
+    (λ fault. IsFoundAt capacity text (or_trailing fault (drop end text)) end)
 
 module _ {X : Type 0} (capacity : ℕ) (text longer : List ℕ) where
   becomes : {before octets : List ℕ} {arc number : ℕ} (end : ℕ) → Encodes root_rule octets before arc number
-      → text_answer root_rule text capacity
-      ≡ arc_answer capacity before arc (drop end text) (arc_fault root_rule capacity before arc) → end ≤ length text
+      → text_found capacity text
+      ≡ arc_found capacity before arc (drop end text) (arc_fault root_rule capacity before arc)
+      → component_at text end ≡ length before → end ≤ length text → (end < length text → get_or text end 0 ≡ 46)
       → (result : Result X Error) → IsAppended capacity number octets longer result
       → BecomesBy capacity text longer end result
-  becomes {octets} {number} end encodes read within (Ok done) (fits, on) =
+  becomes {octets} {number} end encodes found component within dotted (Ok done) (fits, on) =
       let none = encodes.fault capacity ∙ none_from_below capacity (length octets + width number) Length fits in
       let encoding = encodes.step longer on in
       record {
         encoding = encoding_back encoding;
-        answer = read ∙ rw (none, arcs_of_encoding encoding) refl;
-        within = within;
+        arcs = record {
+          found = found ∙ rw (none, arcs_of_encoding encoding) refl;
+          component = rw (arcs_of_encoding encoding) (grind (arith, length-append));
+          within = within;
+          dotted = dotted;
+        };
       }
-  becomes {octets} {number} end encodes read within (Err fault) (is, long, same) =
-      read ∙ rw (encodes.fault capacity, some_from_above capacity (length octets + width number) Length long, is) refl
+  becomes {octets} {number} end encodes found component within dotted (Err fault) (is, long, same) = record {
+    found = found ∙ rw (encodes.fault capacity, some_from_above capacity (length octets + width number) Length long, is, component) refl;
+    within = within;
+  }
 
   pub root_becomes : {number end : ℕ} → IsRoot text number end → (result : Result X Error)
       → IsAppended capacity number [] longer result → BecomesBy capacity text longer end result
   root_becomes {end} root result appended =
-      becomes end (root_encodes root_rule root.first root.second root.low root.high) (root.same capacity) root.within result
-      (rw root.number at appended)
+      becomes end (root_encodes root_rule root.first root.second root.low root.high) (root.same capacity) root.component
+      root.within root.dotted result (rw root.number at appended)
 
   pub later_becomes : {octets : List ℕ} {arc place end : ℕ} → IsReadTo capacity text octets place
-      → place < length text → IsPiece text (place + 1) arc end → (result : Result X Error)
+      → place + 1 < length text → IsPiece text (place + 1) arc end → (result : Result X Error)
       → IsAppended capacity arc octets longer result → BecomesBy capacity text longer end result
-  later_becomes {octets} {arc} {place} {end} read less piece =
+  later_becomes {octets} {arc} {end} read less piece =
       becomes end (later_encodes root_rule octets (arcs_of_octets octets) arc read.encoding piece.small)
-      (read.answer ∙ rw (drop_more text place 0 less) (piece.same capacity (arcs_of_octets octets))) piece.within
+      (piece_found read.arcs less piece) (piece_component read.arcs less piece) piece.at.within piece.dotted
 
 -- ---- octets in a slice
 
@@ -226,7 +313,7 @@ pub record IsWrittenTo (capacity : ℕ) (text old new : List ℕ) (used end : �
 -- what becomes of it by a piece, whose group is appended or does not fit
 abbrev pub WrittenBy : ℕ → List ℕ → List ℕ → List ℕ → ℕ → Result ℕ Error → Type 0
 WrittenBy capacity text old new end result = MatchResult result (λ used. IsWrittenTo capacity text old new used end)
-    (λ fault. text_answer root_rule text capacity ≡ Err (or_trailing fault (drop end text)))
+    (λ fault. IsFoundAt capacity text (or_trailing fault (drop end text)) end)
 
 module _ (capacity : ℕ) (text old : List ℕ) where
   written_by : {number : ℕ} {octets new : List ℕ} (end : ℕ) (result : Result ℕ Error)
@@ -248,11 +335,33 @@ module _ (capacity : ℕ) (text old : List ℕ) where
       written_by end result more (root_becomes capacity text more.more root result more.appended)
 
   pub later_written : {new : List ℕ} {used arc place end : ℕ} (longer : List ℕ)
-      → IsWrittenTo capacity text old new used place → length new ≡ length old → place < length text
+      → IsWrittenTo capacity text old new used place → length new ≡ length old → place + 1 < length text
       → IsPiece text (place + 1) arc end → (result : Result ℕ Error) → AppendsTo capacity arc used new longer result
       → WrittenBy capacity text old longer end result
   later_written {arc} {end} longer written same less piece result appends =
       let more = longer_by {number = arc} longer written.long same written.begins result appends in
       written_by end result more (later_becomes capacity text more.more written.read less piece result more.appended)
+
+-- all pieces are read
+pub all_written : {capacity : ℕ} {text old new : List ℕ} {used end : ℕ} → IsWrittenTo capacity text old new used end
+    → length text ≤ end → IsEncodedIn capacity (text_answer root_rule text capacity) old new used
+all_written {capacity} {text} {end} written last =
+    let octets = written.octets in
+    let arcs = written.read.arcs in
+    record {
+      octets = octets;
+      encoding = written.read.encoding;
+      answer =
+          let none = enough (arcs_of_octets octets) written.read.encoding.identifier in
+          let found : text_found capacity text ≡ Ok (arcs_of_octets octets) = arcs.found ∙ rw (drop_all end text last) none in
+          sym (same_text capacity text) ∙ rw found refl;
+      long = written.long;
+      within = written.fits;
+      begins = written.begins;
+    } where
+      enough : (arcs : List ℕ) → IsIdentifier root_rule arcs → pieces_found capacity arcs [] ≡ Ok arcs
+      enough [] identifier = absurd identifier
+      enough (arc ∷ []) identifier = absurd identifier
+      enough (first ∷ second ∷ later) identifier = refl
 
 pub ruleset digits_read = (first_read, digit_read, big_fault, piece_read, byte_fault, first_fault, end_fault, nat_tests)

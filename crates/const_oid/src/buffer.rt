@@ -16,7 +16,7 @@ use crate::encoder::encode_to;
 use crate::error::{Error, Result};
 use crate::fast::comparison::{are_arrays_equal, order};
 use crate::fast::copies::copy_to;
-use crate::parser::parse_to_inlined;
+use crate::parser::{fault_of, parse_to_inlined};
 use std::cmp::Ordering;
 use std::hash::{Hash, Hasher};
 
@@ -79,7 +79,7 @@ impl<const SIZE: usize> Buffer<SIZE> {
                 buffer.used = len as u8;
                 Ok(buffer)
             }
-            Err(fault) => Err(fault),
+            Err(wrong) => Err(fault_of(text, wrong).0),
         }
     }
 

@@ -1,5 +1,5 @@
 //! Borrowed object identifiers.
-ghost use Rattle.std.specs.Prelude.{◌≡◌, ◌≢◌, ◌*◌, ◌≤◌, ◌<◌, ◌↔◌, ◌+◌, ◌++◌, ℕ, List, drop, length, min, slice_get, take, count_by, None, Some, Err, IfErr, IfOk, IfSome, IsSome, IsTrue, MatchOption};
+ghost use Rattle.std.specs.Prelude.{◌≡◌, ◌≢◌, ◌*◌, ◌≤◌, ◌<◌, ◌↔◌, ◌+◌, ◌++◌, ℕ, List, drop, length, min, slice_get, take, count_by, None, Some, Err, IfErr, IfOk, IfSome, IsSome, IsTrue, MatchOption, MatchResult, Ok, []};
 ghost use Rattle.std.specs.Option.{option_map};
 ghost use Rattle.std.specs.Fmt.{DisplaysOnOk, WritesStyledOnOk};
 ghost use Rattle.std.specs.Cmp.Lexicographic.{slice_cmp};
@@ -11,7 +11,7 @@ ghost use Rattle.const_oid.specs.Contents.{arcs_of_octets, cut, parts_fault, oct
 ghost use Rattle.const_oid.specs.Element.{element};
 ghost use Rattle.const_oid.specs.Identifier.{root_rule, default_capacity, IsEncoding};
 ghost use Rattle.const_oid.specs.Items.{item_answer};
-ghost use Rattle.const_oid.specs.Text.{text_answer, text_of, text_in, octet_text, Denotes, ReturnsLength, ReturnsText, WritesText};
+ghost use Rattle.const_oid.specs.Text.{component_at, pieces_of, text_answer, text_of, text_in, octet_text, wrong_index, Denotes, IsFaultAt, ReturnsLength, ReturnsText, WritesText};
 
 use crate::Arc;
 use crate::arcs::{Arcs, arc_at};
@@ -22,15 +22,17 @@ use crate::element::{element_len, split_element, write_element};
 use crate::encoder::{ONE_PASS_ARCS, encode_in_one_pass, encode_slice};
 use crate::error::{Error, Result};
 use crate::fast::comparison::{are_equal, order};
-use crate::fast::lanes::count_parts;
+use crate::fast::lanes::count_below;
 use crate::fast::steps::run_of;
-use crate::parser::{ONE_PASS_BYTES, parse_in_one_pass, parse_to, parse_to_inlined};
+use crate::parser::{
+    ONE_PASS_BYTES, fault_of, parse_in_one_pass, parse_placed, parse_to, parse_to_inlined,
+};
 use crate::parts::without_last_part;
 use crate::root::split_root;
 use crate::text::{text_len, write_checked, write_text};
 use crate::valid::check;
 use std::cmp::Ordering;
-use std::fmt;
+use std::{fmt, result};
 
 /// An object identifier over the caller's contents octets, without tag and length.
 ///
@@ -233,7 +235,7 @@ impl<'a> ObjectIdentifierRef<'a> {
     pub fn len(&self) -> usize
         ensures { result ≡ length (ref_arcs self.now) }
     {
-        count_parts(self.ber) + 1
+        count_below(self.ber, 128) + 1
     }
 
     /// The length in bytes of the text that `{}` writes, or `usize::MAX` if it is greater than that.
@@ -421,15 +423,55 @@ impl<'a> ObjectIdentifierRef<'a> {
     ///
     /// # Errors
     ///
-    /// Those of [`new`](crate::ObjectIdentifier::new).
+    /// Those of [`new`](crate::ObjectIdentifier::new), each with a place for [`component_at`](Self::component_at), which
+    /// says nothing for [`Error::Length`].
     #[tactic(auto, using(crate::proofs::Outputs::taken, crate::proofs::Encodings::none_from_encoding))]
     #[inline(always)]
-    pub fn from_ascii_in_39(text: &[u8], out: &'a mut [u8; 39]) -> Result<Self>
-        ensures answer { ref_answer result ≡ text_answer root_rule text.now default_capacity }
+    pub fn from_ascii_in_39(
+        text: &[u8],
+        out: &'a mut [u8; 39],
+    ) -> result::Result<Self, (Error, usize)>
+        ensures answer { MatchResult result (λ oid. Ok (ref_arcs oid) ≡ text_answer root_rule text.now default_capacity)
+            (λ fault. IsFaultAt default_capacity text.now fault.0 fault.1) }
         ensures start { IfOk result (λ oid. (ref_slice oid).ref_ptr ≡ out.entry.ref_ptr) }
     {
-        let len = parse_to_inlined(text, out, 39)?;
-        Ok(ObjectIdentifierRef::from_checked(&out[..len]))
+        match parse_to_inlined(text, out, 39) {
+            Ok(len) => Ok(ObjectIdentifierRef::from_checked(&out[..len])),
+            Err(wrong) => Err(fault_of(text, wrong)),
+        }
+    }
+
+    /// The index of the component that starts or ends at a place in a text, in bytes, or is there: how many dots are
+    /// before it. Before the place are digits and dots alone, as before that of an error.
+    #[cold]
+    #[inline(never)]
+    pub fn component_at(text: &[u8], place: usize) -> usize
+        requires { place ≤ length text.now }
+        ensures { result ≡ component_at text.now place }
+    {
+        count_below(&text[..place], b'0')
+    }
+
+    /// The index of the first wrong component of dotted text, counted from 0, by the rules of
+    /// [`new`](crate::ObjectIdentifier::new) for identifiers of any length. `None` exactly if the text denotes one. Of a
+    /// single component it is 0. Before a dot at the end, it is that of the component before the dot.
+    ///
+    /// # Examples
+    ///
+    /// ```
+    /// use const_oid::ObjectIdentifierRef;
+    ///
+    /// assert_eq!(ObjectIdentifierRef::wrong_component(b"1.2.x"), Some(2));
+    /// assert_eq!(ObjectIdentifierRef::wrong_component(b"2.999"), None);
+    /// ```
+    pub fn wrong_component(text: &[u8]) -> Option<usize>
+        ensures none { result ≡ None ↔ ((arcs : List ℕ) × Denotes root_rule text.now arcs) }
+        ensures index { IfSome result (λ index. index ≡ wrong_index [] (pieces_of text.now)) }
+    {
+        match parse_placed(text, &mut [], usize::MAX) {
+            Ok(_) => None,
+            Err((_, place)) => Some(ObjectIdentifierRef::component_at(text, place)),
+        }
     }
 
     /// Encodes arcs, any number of them, and borrows the octets that it writes at the start of `out`. They are at most

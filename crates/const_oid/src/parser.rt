@@ -5,9 +5,9 @@
 
 ghost use Rattle.std.specs.Prelude.{◌≡◌, ◌≤◌, ℕ, drop, length, Err, IfErr, MatchResult};
 ghost use Rattle.const_oid.specs.Private.Octets.{IsEncodedIn};
-ghost use Rattle.const_oid.specs.Private.Parser.{or_trailing, stop_fault, HasFault, IsPiece, IsRoot};
+ghost use Rattle.const_oid.specs.Private.Parser.{error_of, or_trailing, place_of, stop_fault, HasFault, IsFoundAt, IsPiece, IsRoot};
 ghost use Rattle.const_oid.specs.Identifier.{root_rule};
-ghost use Rattle.const_oid.specs.Text.{text_answer};
+ghost use Rattle.const_oid.specs.Text.{text_answer, IsFaultAt};
 
 use crate::Arc;
 use crate::base128::append_group;
@@ -16,13 +16,49 @@ use crate::parts::copy_to;
 use crate::root::{check_first, join_root};
 use std::result;
 
-/// `parse_to_inlined`, but not inlined: it is compiled once for all calls.
+/// What is wrong with a text.
+pub(crate) enum Wrong {
+    /// The component that starts at an index goes wrong at another one.
+    Piece { start: usize, index: usize },
+    /// An arc, whose component ends at an index.
+    Value { fault: Error, end: usize },
+}
+
+/// The error of a text, and a place: a byte of the wrong component, or where it ends.
+#[inline(always)]
+pub(crate) const fn fault_of(text: &[u8], wrong: Wrong) -> (Error, usize)
+    requires { place_of wrong ≤ length text.now }
+    ensures fault { result.0 ≡ error_of text.now wrong }
+    ensures place { result.1 ≡ place_of wrong }
+{
+    match wrong {
+        Wrong::Piece { start, index } => (piece_fault(text, start, index), index),
+        Wrong::Value { fault, end } => (or_trailing_dot(fault, text, end), end),
+    }
+}
+
+/// `parse_to_inlined`, but not inlined: it is compiled once for all calls. An error has its place beside it.
 #[inline(never)]
+pub(crate) fn parse_placed(
+    text: &[u8],
+    out: &mut [u8],
+    capacity: usize,
+) -> result::Result<usize, (Error, usize)>
+    ensures { MatchResult result (λ len. IsEncodedIn capacity (text_answer root_rule text.now capacity) out.old out.new len)
+        (λ fault. IsFaultAt capacity text.now fault.0 fault.1) }
+{
+    match parse_to_inlined(text, out, capacity) {
+        Ok(len) => Ok(len),
+        Err(wrong) => Err(fault_of(text, wrong)),
+    }
+}
+
+/// `parse_placed`, without the place.
 pub(crate) fn parse_to(text: &[u8], out: &mut [u8], capacity: usize) -> Result<usize>
     ensures { let answer = text_answer root_rule text.now capacity in
         MatchResult result (λ len. IsEncodedIn capacity answer out.old out.new len) (λ fault. answer ≡ Err fault) }
 {
-    parse_to_inlined(text, out, capacity)
+    parse_placed(text, out, capacity).map_err(|fault| fault.0)
 }
 
 /// The most bytes of a text that is parsed on the stack, and the most octets that it takes.
@@ -47,33 +83,38 @@ pub(crate) fn parse_in_one_pass(text: &[u8], out: &mut [u8]) -> Result<usize>
 /// its length. Into a slice that is shorter than the capacity nothing is written: the octets are counted alone.
 // erase: const
 #[inline(always)]
-pub(crate) fn parse_to_inlined(text: &[u8], out: &mut [u8], capacity: usize) -> Result<usize>
-    ensures { let answer = text_answer root_rule text.now capacity in
-        MatchResult result (λ len. IsEncodedIn capacity answer out.old out.new len) (λ fault. answer ≡ Err fault) }
+pub(crate) fn parse_to_inlined(
+    text: &[u8],
+    out: &mut [u8],
+    capacity: usize,
+) -> result::Result<usize, Wrong>
+    ensures { MatchResult result (λ len. IsEncodedIn capacity (text_answer root_rule text.now capacity) out.old out.new len)
+        (λ wrong. IsFaultAt capacity text.now (error_of text.now wrong) (place_of wrong)) }
 {
     let (number, mut end) = match read_root(text) {
         Ok(root) => root,
-        Err(fault) => return Err(fault),
+        Err(wrong) => return Err(wrong),
     };
     let mut used = match append_group(out, 0, number, capacity) {
         Ok(used) => used,
-        Err(fault) => return Err(or_trailing_dot(fault, text, end)),
+        Err(fault) => return Err(Wrong::Value { fault, end }),
     };
     while end + 1 < text.len() {
         let start = end + 1;
         let (arc, after) = match read_piece(text, start) {
             Ok(piece) => piece,
-            Err(index) => return Err(piece_fault(text, start, index)),
+            Err(index) => return Err(Wrong::Piece { start, index }),
         };
         used = match append_group(out, used, arc as u64, capacity) {
             Ok(used) => used,
-            Err(fault) => return Err(or_trailing_dot(fault, text, after)),
+            Err(fault) => return Err(Wrong::Value { fault, end: after }),
         };
         end = after;
     }
     // Nothing is left, or a dot.
     if end < text.len() {
-        return Err(Error::TrailingDot);
+        let fault = Error::TrailingDot;
+        return Err(Wrong::Value { fault, end });
     }
     Ok(used)
 }
@@ -81,32 +122,30 @@ pub(crate) fn parse_to_inlined(text: &[u8], out: &mut [u8], capacity: usize) -> 
 /// The subidentifier of the first two arcs, and where the second component ends.
 // erase: const
 #[inline(always)]
-fn read_root(text: &[u8]) -> Result<(u64, usize)>
+fn read_root(text: &[u8]) -> result::Result<(u64, usize), Wrong>
     ensures { MatchResult result (λ root. IsRoot text.now root.0 root.1)
-        (λ fault. (capacity : ℕ) → text_answer root_rule text.now capacity ≡ Err fault) }
+        (λ wrong. (capacity : ℕ) → IsFoundAt capacity text.now (error_of text.now wrong) (place_of wrong)) }
 {
     let (first, end) = match read_piece(text, 0) {
         Ok(piece) => piece,
-        Err(index) => return Err(piece_fault(text, 0, index)),
+        Err(index) => return Err(Wrong::Piece { start: 0, index }),
     };
     if let Err(fault) = check_first(first) {
-        return Err(or_trailing_dot(fault, text, end));
+        return Err(Wrong::Value { fault, end });
     }
     let start = end + 1;
     if start >= text.len() {
-        return Err(if end < text.len() {
-            Error::TrailingDot
-        } else {
-            Error::Empty
-        });
+        // Or `TrailingDot`.
+        let fault = Error::Empty;
+        return Err(Wrong::Value { fault, end });
     }
     let (second, end) = match read_piece(text, start) {
         Ok(piece) => piece,
-        Err(index) => return Err(piece_fault(text, start, index)),
+        Err(index) => return Err(Wrong::Piece { start, index }),
     };
     match join_root(first, second) {
         Ok(number) => Ok((number, end)),
-        Err(fault) => Err(or_trailing_dot(fault, text, end)),
+        Err(fault) => Err(Wrong::Value { fault, end }),
     }
 }
 
@@ -118,7 +157,7 @@ fn read_root(text: &[u8]) -> Result<(u64, usize)>
 fn read_piece(text: &[u8], start: usize) -> result::Result<(Arc, usize), usize>
     requires { start ≤ length text.now }
     ensures { MatchResult result (λ piece. IsPiece text.now start piece.0 piece.1)
-        (λ index. HasFault text.now start (stop_fault text.now start index)) }
+        (λ index. HasFault text.now start (stop_fault text.now start index) index) }
 {
     if start >= text.len() {
         return Err(start);
@@ -173,6 +212,8 @@ const fn piece_fault(text: &[u8], start: usize, index: usize) -> Error
 }
 
 /// The error of an arc whose component ends at an index, or `TrailingDot` if an empty last component follows.
+#[cold]
+#[inline(never)]
 const fn or_trailing_dot(fault: Error, text: &[u8], end: usize) -> Error
     requires { end ≤ length text.now }
     ensures { result ≡ or_trailing fault (drop end text.now) }

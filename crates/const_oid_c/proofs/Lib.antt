@@ -1,7 +1,6 @@
 pub mod Writes
 pub mod Capacities
 pub mod Children
-pub mod Components
 pub mod Counted
 pub mod Elements
 pub mod Rooms

@@ -5,11 +5,11 @@ use Rattle.std.specs.Str.{is_utf8}
 use Rattle.const_oid.specs.{declared.error.Error.Error, Error.code_of}
 use Rattle.const_oid.specs.declared.error.Error.TheVariants.{ArcInvalid, ArcTooBig, Base128, DigitExpected, Empty, Length, Overflow, RepeatedDot, TrailingDot}
 use Rattle.const_oid.specs.Identifier.{root_rule, encoding_of}
-use Rattle.const_oid.specs.{Items.{item_answer, item_fault}, Text.{number_of, pieces_of, text_answer, text_fault}}
+use Rattle.const_oid.specs.{Items.{item_answer, item_fault}, Text.{number_of, pieces_of, text_answer, text_fault, wrong_index}}
 use Rattle.const_oid.proofs.{Encodings.encoding_is, Lengths.length_is_size, Texts.denoted_from_none}
 use Rattle.const_oid.proofs.{Enough.{all_small, bytes_enough, five_enough}, Items.identifier_from_none}
 use Rattle.const_oid_c.specs.{declared.status.Status.Status}
-use Rattle.const_oid_c.specs.Results.{octets_of_arcs, octets_of_ascii, octets_of_text, octets_or_fault, wrong_index}
+use Rattle.const_oid_c.specs.Results.{octets_of_arcs, octets_of_ascii, octets_of_text, octets_or_fault}
 use Rattle.const_oid_c.specs.Status.{max_len, not_utf8_status, output_status}
 use Rattle.const_oid_c.proofs.{Capacities.{same_arcs, same_text}, Counted.none_from_answer}
 

@@ -1,5 +1,5 @@
 -- The results of functions: what a function writes, or its status.
-use Rattle.std.specs.Prelude.{◌≡◌, ℕ, ◌-◌, List, [], ◌∷◌, ◌++◌, length, codes, nat_lt, slice_index_or, if◌then◌else◌, Option, Some, None, Result, Ok, Err}
+use Rattle.std.specs.Prelude.{◌≡◌, ℕ, List, [], ◌∷◌, codes, nat_lt, slice_index_or, if◌then◌else◌, Option, Some, None, Result, Ok, Err}
 use Rattle.std.specs.Option.{option_map, option_map_or}
 use Rattle.std.specs.Result.{result_flatten, result_map_both}
 use Rattle.std.specs.Str.{is_utf8}
@@ -7,8 +7,8 @@ use Rattle.const_oid.specs.declared.error.Error.{Error}
 use Rattle.const_oid.specs.declared.error.Error.TheVariants.{ArcInvalid, ArcTooBig, Base128, DigitExpected, Empty, Length, Overflow, RepeatedDot, TrailingDot}
 use Rattle.const_oid.specs.Contents.{octet_answer, borrowed_capacity}
 use Rattle.const_oid.specs.Error.{message_of}
-use Rattle.const_oid.specs.Identifier.{root_rule, encoding_of, size}
-use Rattle.const_oid.specs.Text.{number_of, piece_fault, pieces_of, text_answer}
+use Rattle.const_oid.specs.Identifier.{root_rule, encoding_of}
+use Rattle.const_oid.specs.Text.{pieces_of, text_answer, wrong_index}
 use Rattle.const_oid.specs.Tree.{child_of, parent_of}
 use Rattle.const_oid_c.specs.declared.status.Status.{Status}
 use Rattle.const_oid_c.specs.Status.{error_status, fault_at, max_len, not_utf8_status, none_status, number_status}
@@ -51,13 +51,6 @@ ok_or_none items = option_map_or (λ items. Ok items) items (Err none_status)
 -- the contents octets of arcs
 abbrev pub octets_of_arcs : Result (List ℕ) Error → Result (List ℕ) Status
 octets_of_arcs answer = output_of encoding_of answer
-
--- the index of the first wrong component, by the arcs before it, at a capacity that is enough; or else of the last one
-abbrev pub wrong_index : List ℕ → List (List ℕ) → ℕ
-wrong_index before [] = length before - 1
-wrong_index before (piece ∷ after) =
-    let arcs = before ++ number_of piece ∷ [] in
-    option_map_or (λ _. length before) (piece_fault root_rule (size arcs) before piece after) (wrong_index arcs after)
 
 -- the contents octets of arcs, or the status of their fault at an index
 abbrev pub octets_or_fault : ℕ → Result (List ℕ) Error → Result (List ℕ) Status

@@ -1,9 +1,9 @@
 //! Dotted text.
 ghost use Rattle.std.specs.Prelude.{◌≡◌, ◌≢◌, ◌≤◌, [], length, Err};
-ghost use Rattle.const_oid.specs.Text.{pieces_of, text_of, text_answer};
+ghost use Rattle.const_oid.specs.Text.{pieces_of, text_of, text_answer, wrong_index, IsFaultAt};
 ghost use Rattle.const_oid.specs.Identifier.{root_rule, default_capacity};
-ghost use Rattle.const_oid_c.specs.Status.{output_status, output_after};
-ghost use Rattle.const_oid_c.specs.Results.{octets_of_ascii, octets_of_text, output_of, borrowed_answer, wrong_index};
+ghost use Rattle.const_oid_c.specs.Status.{fault_at, max_len, output_status, output_after};
+ghost use Rattle.const_oid_c.specs.Results.{octets_of_ascii, octets_of_text, output_of, borrowed_answer};
 
 use crate::output::{write_bytes, write_octets};
 use crate::owned::MAX_OCTETS;
@@ -25,17 +25,17 @@ pub extern "C" fn const_oid_from_text(text: &[u8], out: &mut [u8]) -> Status
     let mut octets = [0; 39];
     match ObjectIdentifierRef::from_ascii_in_39(text, &mut octets) {
         Ok(oid) => write_bytes(oid.as_bytes(), out),
-        Err(fault) => write_after_fault(fault, text, out),
+        Err((fault, place)) => write_after_fault(text, out, fault, place),
     }
 }
 
-/// Writes the contents octets of the identifier that dotted text denotes, or reports why there is none. The fault is that
-/// of the text at the default capacity.
+/// Writes the contents octets of the identifier that dotted text denotes, or reports why there is none. The fault and its
+/// place are those of the text at the default capacity.
 #[tactic(auto, using(crate::proofs::Writes::texts, crate::proofs::Capacities::same_text))]
 #[cold]
 #[inline(never)]
-fn write_after_fault(fault: Error, text: &[u8], out: &mut [u8]) -> Status
-    requires { text_answer root_rule text.now default_capacity ≡ Err fault }
+fn write_after_fault(text: &[u8], out: &mut [u8], fault: Error, place: usize) -> Status
+    requires { IsFaultAt default_capacity text.now fault place }
     ensures status { result ≡ output_status (length out.old) (octets_of_text text.now) }
     ensures written { out.new ≡ output_after out.old (octets_of_text text.now) }
 {
@@ -46,7 +46,7 @@ fn write_after_fault(fault: Error, text: &[u8], out: &mut [u8]) -> Status
     // At a greater capacity, only `Length` can become another result.
     match fault {
         Error::Length => write_past_39_octets(text, out),
-        other => fault_at(wrong_component(text), other),
+        other => fault_at(ObjectIdentifierRef::component_at(text, place), other),
     }
 }
 
@@ -60,7 +60,7 @@ fn write_past_39_octets(text: &[u8], out: &mut [u8]) -> Status
     match ObjectIdentifier::<MAX_OCTETS>::from_ascii(text) {
         Ok(oid) => write_octets(Ok(oid), out),
         Err(Error::Length) => write_past_255_octets(text, out),
-        Err(fault) => fault_at(wrong_component(text), fault),
+        Err(fault) => component_status(fault, text),
     }
 }
 
@@ -74,42 +74,19 @@ fn write_past_255_octets(text: &[u8], out: &mut [u8]) -> Status
         // At the greatest limit, the error of any other kind is the same.
         Err(_) => match ObjectIdentifierRef::bytes_len_from_ascii(text, usize::MAX) {
             Ok(len) => too_short_status(len),
-            Err(fault) => fault_at(wrong_component(text), fault),
+            Err(fault) => component_status(fault, text),
         },
     }
 }
 
-/// The index of the first wrong component of a text, or else of the last one.
+/// The status of an error of a text, at its first wrong component.
 #[inline(never)]
-fn wrong_component(text: &[u8]) -> usize
-    ensures { result ≡ wrong_index [] (pieces_of text.now) }
+fn component_status(fault: Error, text: &[u8]) -> Status
+    requires { text_answer root_rule text.now max_len ≡ Err fault }
+    ensures { result ≡ fault_at (wrong_index [] (pieces_of text.now)) fault }
 {
-    let mut index = 0;
-    let mut start = 0;
-    let mut number: u64 = 0;
-    // The greatest arc that may be there.
-    let mut limit: u64 = 2;
-    for (at, byte) in text.iter().enumerate() {
-        if byte.is_ascii_digit() {
-            number = number * 10 + u64::from(*byte - b'0');
-            if number > u64::from(u32::MAX) {
-                return index;
-            }
-        } else {
-            if *byte != b'.' || at == start || at + 1 == text.len() || number > limit {
-                return index;
-            }
-            limit = if index == 0 && number < 2 {
-                39
-            } else {
-                u64::from(u32::MAX)
-            };
-            index += 1;
-            start = at + 1;
-            number = 0;
-        }
-    }
-    index
+    let index = ObjectIdentifierRef::wrong_component(text).unwrap_or(0);
+    fault_at(index, fault)
 }
 
 /// The room for the text of 16 octets: four bytes for each octet, and eleven for one arc more.

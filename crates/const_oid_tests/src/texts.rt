@@ -66,8 +66,8 @@ fn all_read(text: &str, wanted: Result<&[u8], Error>) -> bool {
 /// Whether `from_ascii_in_39` has this result for a text.
 fn is_borrowed(text: &str, wanted: Result<&[u8], Error>) -> bool {
     let mut out = [0xEE; 39];
-    ObjectIdentifierRef::from_ascii_in_39(text.as_bytes(), &mut out).map(|oid| oid.as_bytes())
-        == wanted
+    let read = ObjectIdentifierRef::from_ascii_in_39(text.as_bytes(), &mut out);
+    read.map(|oid| oid.as_bytes()).map_err(|fault| fault.0) == wanted
 }
 
 #[test]
@@ -75,6 +75,58 @@ fn rejects_each_text(rt: HostRuntime) {
     for (text, error) in REFUSED {
         assert!(rt; all_read(text, Err(*error)), "of {text}");
     }
+}
+
+/// Texts, and the index of their first wrong component.
+const WRONG_COMPONENTS: &[(&str, Option<usize>)] = &[
+    ("", Some(0)),
+    ("1", Some(0)),
+    ("x", Some(0)),
+    (".1", Some(0)),
+    ("1.", Some(0)),
+    ("3.1", Some(0)),
+    ("3.x", Some(0)),
+    ("1.40", Some(1)),
+    ("1.40.x", Some(1)),
+    ("1..2", Some(1)),
+    ("1.2.", Some(1)),
+    ("2.40.", Some(1)),
+    ("1.2.x", Some(2)),
+    ("1.2.3x.y", Some(2)),
+    ("1.2.4294967296.", Some(2)),
+    ("1.2.3..5", Some(3)),
+    ("1.2.3.4.", Some(3)),
+    ("1.2.840.10045.2.1.x", Some(6)),
+    (
+        "1.2.3.4.5.6.7.8.9.10.11.12.13.14.15.16.17.18.19.20.x",
+        Some(20),
+    ),
+    ("1.2", None),
+    ("2.999", None),
+    ("1.2.0000000004294967295", None),
+];
+
+#[test]
+fn finds_the_first_wrong_component(rt: HostRuntime) {
+    for (text, index) in WRONG_COMPONENTS {
+        assert!(rt;
+            ObjectIdentifierRef::wrong_component(text.as_bytes()) == *index,
+            "{text}"
+        );
+    }
+}
+
+/// An identifier may have any number of octets.
+#[test]
+fn finds_a_wrong_component_of_any_length(rt: HostRuntime) -> Result<(), AllocError> {
+    for (count, end, index) in [(1000, "", None), (1000, ".x", Some(1002))] {
+        let text = long_text(rt.alloc(), "1.2", count, ".1", end)?;
+        assert!(rt;
+            ObjectIdentifierRef::wrong_component(text.as_bytes()) == index,
+            "{end}"
+        );
+    }
+    Ok(())
 }
 
 /// Texts with leading zeros, what their identifiers print, and their contents octets.
@@ -121,10 +173,11 @@ const LONG: &[Row] = &[
 fn has_len(alloc: Global, row: &Row) -> Result<bool, AllocError> {
     let text = long_text(alloc, row.0, row.1, ".1", row.2)?;
     let mut out = [0; 39];
-    let borrowed = ObjectIdentifierRef::from_ascii_in_39(text.as_bytes(), &mut out).map(|oid| oid
-        .as_bytes()
-        .len());
-    Ok(borrowed == row.3 && Oid::new(text.as_str()).map(|oid| oid.as_bytes().len()) == row.3)
+    let borrowed = ObjectIdentifierRef::from_ascii_in_39(text.as_bytes(), &mut out);
+    let len = borrowed
+        .map(|oid| oid.as_bytes().len())
+        .map_err(|fault| fault.0);
+    Ok(len == row.3 && Oid::new(text.as_str()).map(|oid| oid.as_bytes().len()) == row.3)
 }
 
 #[test]

@@ -131,9 +131,21 @@ mod model {
 
     /// Section 5.
     pub fn of_text(text: &[u8], capacity: usize) -> Answer {
+        of_components(text, capacity, &mut 0)
+    }
+
+    /// The index of the first wrong component.
+    pub fn wrong_component(text: &[u8]) -> Option<usize> {
+        let mut index = 0;
+        of_components(text, usize::MAX, &mut index).err().map(|_| index)
+    }
+
+    /// Stops at the index of a wrong component.
+    fn of_components(text: &[u8], capacity: usize, stop: &mut usize) -> Answer {
         let pieces: Vec<&[u8]> = text.split(|byte| *byte == b'.').collect();
         let (mut arcs, mut room) = (Vec::new(), capacity);
         for (index, piece) in pieces.iter().enumerate() {
+            *stop = index;
             let digits = piece.iter().take_while(|byte| byte.is_ascii_digit());
             let number = number(10, digits.map(|digit| digit - b'0'));
             if number > MAX_ARC {
@@ -272,7 +284,9 @@ fn write_text(text: &str, size: usize) {
     #[cfg(feature = "internal-for-const-oid-c")]
     if let (39, Ok(_)) = (size, &answer) {
         let parse = const_oid::internal_for_const_oid_c::from_ascii_in_39;
-        check_written(text, size, &answer, |out| parse(text.as_bytes(), out.try_into().unwrap()));
+        check_written(text, size, &answer, |out| {
+            parse(text.as_bytes(), out.try_into().unwrap()).map_err(|fault| fault.0)
+        });
     }
 }
 
@@ -298,6 +312,8 @@ fn check_text(text: &str) {
     let usual = ObjectIdentifier::new_sized(text);
     assert_eq!(ObjectIdentifier::new(text), usual, "{text}");
     assert_eq!(text.parse(), usual, "{text}");
+    let wrong = ObjectIdentifierRef::wrong_component(text.as_bytes());
+    assert_eq!(wrong, model::wrong_component(text.as_bytes()), "{text}");
     read_text::<39>(text);
 }
 

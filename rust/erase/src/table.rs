@@ -65,6 +65,7 @@ pub const CRATES: &[Crate] = &[
             "oid_ref": "fn from_ascii_in" => "fn from_ascii_in<'a>", UNSIZED;
             "oid_ref": "fn from_arcs_in" => "fn from_arcs_in<'a>", UNSIZED;
             "oid_ref*": "Result<Self>" => "Result<&'a Self>", UNSIZED;
+            "oid_ref": "Result<Self, (Error, usize)>" => "Result<&'a Self, (Error, usize)>", UNSIZED;
             "oid_ref*": "self.ber" => "self.as_bytes()", UNSIZED;
             "oid_ref*": "other.ber" => "other.as_bytes()", UNSIZED;
             "oid_ref": "-> &'a [u8] { self.as_bytes() }" => "-> &[u8] {\n &self.ber\n }", UNSIZED;
@@ -82,6 +83,7 @@ pub const CRATES: &[Crate] = &[
             "oid_ref": "pub fn bytes_from_ascii" => "pub(crate) fn bytes_from_ascii", FOR_C;
             "oid_ref": "pub fn bytes_len_from_arcs" => "pub(crate) fn bytes_len_from_arcs", FOR_C;
             "oid_ref": "pub fn bytes_len_from_ascii" => "pub(crate) fn bytes_len_from_ascii", FOR_C;
+            "oid_ref": "pub fn component_at" => "pub(crate) fn component_at", FOR_C;
             "oid_ref": "pub fn from_ascii_in_39" => "pub(crate) fn from_ascii_in_39", FOR_C;
             "oid_ref": "pub fn text_from_bytes" => "pub(crate) fn text_from_bytes", FOR_C;
             "": "&ObjectIdentifierRef<'_>" => "&ObjectIdentifierRef", UNSIZED;
@@ -118,9 +120,9 @@ pub const CRATES: &[Crate] = &[
                 "bytes that are UTF-8 become a text without a check: the crate denies other unsafe code";
             "text": "out[at..at + MAX_ARC_LEN]" => "out[at..][..MAX_ARC_LEN]", "the same part in fewer instructions";
             "fast/lanes": "use core::simd::Simd; use core::simd::prelude::*;" => "", LANES;
-            "fast/lanes": "let lanes = Simd::<u8, COUNT>::from_slice(octets).simd_lt(Simd::splat(128));
+            "fast/lanes": "let lanes = Simd::<u8, COUNT>::from_slice(octets).simd_lt(Simd::splat(limit));
                         lanes.to_bitmask().count_ones() as usize"
-                => "octets.iter().filter(|octet| **octet < 128).count()", LANES;
+                => "octets.iter().filter(|octet| **octet < limit).count()", LANES;
             "buffer": "fast::copies::copy_to" => "parts::copy_to", SMALL;
             "buffer": "#[derive(Copy, Clone)] pub struct Buffer"
                 => "#[derive(Copy, Clone, PartialEq, Eq)]\npub struct Buffer", EQUALITY;
@@ -166,6 +168,8 @@ pub const CRATES: &[Crate] = &[
                 => "const_oid::internal_for_const_oid_c::text_from_bytes", FOR_C;
             "texts": "ObjectIdentifierRef::from_ascii_in_39"
                 => "const_oid::internal_for_const_oid_c::from_ascii_in_39", FOR_C;
+            "texts": "ObjectIdentifierRef::component_at"
+                => "const_oid::internal_for_const_oid_c::component_at", FOR_C;
             "texts": "ObjectIdentifierRef::bytes_len_from_ascii"
                 => "const_oid::internal_for_const_oid_c::bytes_len_from_ascii", FOR_C;
             "arcs": "ObjectIdentifierRef::bytes_len_from_arcs"

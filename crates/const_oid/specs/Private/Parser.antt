@@ -1,29 +1,43 @@
 -- What a parser finds of one component of a text, a piece, and of the first two.
-use Rattle.std.specs.Prelude.{◌≡◌, ℕ, ◌+◌, ◌*◌, ◌<◌, ◌≤◌, ◌==◌, ◌&&◌, not, List, [], ◌∷◌, ◌++◌, length, map, drop, get_or}
-use Rattle.std.specs.Prelude.{nat_lt, if◌then◌else◌, Option, Some, None, Result, Err}
+use Rattle.std.specs.Prelude.{◌≡◌, ℕ, ◌-◌, ◌*◌, ◌+◌, ◌<◌, ◌≤◌, ◌==◌, ◌&&◌, not, List, [], ◌∷◌, ◌++◌, length, drop, get_or}
+use Rattle.std.specs.Prelude.{nat_lt, if◌then◌else◌, Option, Some, None, Result, Ok, Err}
 use Rattle.std.specs.Char.{is_ascii_digit}
 use Rattle.const_oid.specs.declared.error.Error.{Error}
 use Rattle.const_oid.specs.declared.error.Error.TheVariants.{ArcTooBig, DigitExpected, Empty, RepeatedDot, TrailingDot}
-use Rattle.const_oid.specs.{Error.{answer}, Identifier.{root_rule, max_arc, max_second}, Items.{arc_fault}}
-use Rattle.const_oid.specs.Text.{dot, is_empty, number_of, pieces_of, pieces_fault, text_answer, IsNumber}
+use Rattle.const_oid.specs.declared.parser.Wrong.{Wrong}
+use Rattle.const_oid.specs.declared.parser.Wrong.TheVariants.{Piece, Value}
+use Rattle.const_oid.specs.{Identifier.{root_rule, max_arc, max_second}, Items.{arc_fault, too_few_fault}}
+use Rattle.const_oid.specs.Text.{component_at, dot, is_empty, number_of, piece_fault, pieces_of, IsNumber}
 
--- the answer of pieces after some arcs
-abbrev pub pieces_answer : ℕ → List ℕ → List (List ℕ) → Result (List ℕ) Error
-pieces_answer capacity before pieces = answer (pieces_fault root_rule capacity before pieces) (before ++ map number_of pieces)
+-- a fault and the index of its piece, or else what comes later
+abbrev pub or_later : Option Error → ℕ → Result (List ℕ) (Error × ℕ) → Result (List ℕ) (Error × ℕ)
+or_later None index later = later
+or_later (Some fault) index later = Err (fault, index)
 
--- the pieces that come after one, by the bytes after it: a dot and theirs, or nothing
-abbrev pub pieces_then : List ℕ → List (List ℕ)
-pieces_then [] = []
-pieces_then (_ ∷ bytes) = pieces_of bytes
+-- the arcs of pieces after some arcs, or the first fault at a capacity
+abbrev pub pieces_found : ℕ → List ℕ → List (List ℕ) → Result (List ℕ) (Error × ℕ)
+pieces_found capacity before [] = or_later (too_few_fault before) (length before - 1) (Ok before)
+pieces_found capacity before (piece ∷ after) =
+    or_later (piece_fault root_rule capacity before piece after) (length before) (pieces_found capacity (before ++ number_of piece ∷ []) after)
+
+-- those of a text
+abbrev pub text_found : ℕ → List ℕ → Result (List ℕ) (Error × ℕ)
+text_found capacity text = pieces_found capacity [] (pieces_of text)
+
+-- those of the pieces that come after one, by the bytes after it: a dot and theirs, or nothing
+abbrev pub found_after : ℕ → List ℕ → List ℕ → Result (List ℕ) (Error × ℕ)
+found_after capacity before [] = pieces_found capacity before []
+found_after capacity before (_ ∷ []) = Err (TrailingDot, length before - 1)
+found_after capacity before (_ ∷ byte ∷ bytes) = pieces_found capacity before (pieces_of (byte ∷ bytes))
 
 -- the fault of an arc, by the bytes after its piece: `TrailingDot` if an empty last one follows
 abbrev pub or_trailing : Error → List ℕ → Error
 or_trailing fault bytes = if length bytes == 1 then TrailingDot else fault
 
--- the answer of an arc, by the bytes after its piece and the fault of the arc
-abbrev pub arc_answer : ℕ → List ℕ → ℕ → List ℕ → Option Error → Result (List ℕ) Error
-arc_answer capacity before arc bytes None = pieces_answer capacity (before ++ arc ∷ []) (pieces_then bytes)
-arc_answer capacity before arc bytes (Some fault) = Err (or_trailing fault bytes)
+-- those of an arc and of what follows it, by the bytes after its piece and the fault of the arc
+abbrev pub arc_found : ℕ → List ℕ → ℕ → List ℕ → Option Error → Result (List ℕ) (Error × ℕ)
+arc_found capacity before arc bytes None = found_after capacity (before ++ arc ∷ []) bytes
+arc_found capacity before arc bytes (Some fault) = Err (or_trailing fault bytes, length before)
 
 -- the fault of a piece that starts at an index and goes wrong at another one
 abbrev pub stop_fault : List ℕ → ℕ → ℕ → Error
@@ -33,10 +47,31 @@ stop_fault text start index =
     then (if is_ascii_digit b then ArcTooBig else if b == dot && not (start == 0) then RepeatedDot else DigitExpected b)
     else (if start == 0 then Empty else TrailingDot)
 
+-- the error of what is wrong with a text
+abbrev pub error_of : List ℕ → Wrong → Error
+error_of text (Piece start index) = stop_fault text start index
+error_of text (Value fault end) = or_trailing fault (drop end text)
+
+-- where it is wrong
+abbrev pub place_of : Wrong → ℕ
+place_of (Piece start index) = index
+place_of (Value fault end) = end
+
+-- the first fault of a text at a capacity is that of the component at a place
+pub record IsFoundAt (capacity : ℕ) (text : List ℕ) (fault : Error) (place : ℕ) : Type 0 where
+  pub found : text_found capacity text ≡ Err (fault, component_at text place)
+  pub within : place ≤ length text
+
+-- a place is in the component that starts at an index
+pub record IsWithin (text : List ℕ) (start place : ℕ) : Type 0 where
+  pub same : component_at text place ≡ component_at text start
+  pub within : place ≤ length text
+
 -- the piece that starts at an index has a fault, whatever arcs are before it: none before the first piece alone
-pub record HasFault (text : List ℕ) (start : ℕ) (fault : Error) : Type 0 where
+pub record HasFault (text : List ℕ) (start : ℕ) (fault : Error) (place : ℕ) : Type 0 where
   pub is : (capacity : ℕ) (before : List ℕ) → is_empty before ≡ (start == 0)
-      → pieces_fault root_rule capacity before (pieces_of (drop start text)) ≡ Some fault
+      → pieces_found capacity before (pieces_of (drop start text)) ≡ Err (fault, length before)
+  pub at : IsWithin text start place
 
 -- the bytes from an index up to another one are the digits of a number
 pub record AreDigits (text : List ℕ) (start number end : ℕ) : Type 0 where
@@ -44,23 +79,26 @@ pub record AreDigits (text : List ℕ) (start number end : ℕ) : Type 0 where
   pub are : IsNumber digits
   pub value : number ≡ number_of digits
   pub bytes : drop start text ≡ digits ++ drop end text
-  pub within : end ≤ length text
+  pub at : IsWithin text start end
 
--- the piece that starts at an index is the number of an arc, and ends at another one
+-- the piece that starts at an index is the number of an arc, and ends at another one, with the text or at a dot
 pub record IsPiece (text : List ℕ) (start number end : ℕ) : Type 0 where
-  pub same : (capacity : ℕ) (before : List ℕ) → pieces_answer capacity before (pieces_of (drop start text))
-      ≡ arc_answer capacity before number (drop end text) (arc_fault root_rule capacity before number)
+  pub same : (capacity : ℕ) (before : List ℕ) → pieces_found capacity before (pieces_of (drop start text))
+      ≡ arc_found capacity before number (drop end text) (arc_fault root_rule capacity before number)
   pub small : number ≤ max_arc
   pub further : start < end
-  pub within : end ≤ length text
+  pub at : IsWithin text start end
+  pub dotted : end < length text → get_or text end 0 ≡ dot
 
--- the first two pieces are arcs with a subidentifier, and end at an index
+-- the first two pieces are arcs with a subidentifier, and end at an index, with the text or at a dot
 pub record IsRoot (text : List ℕ) (root end : ℕ) : Type 0 where
   pub first : ℕ
   pub second : ℕ
   pub number : root ≡ 40 * first + second
   pub low : first ≤ 2
   pub high : second ≤ max_second root_rule first
-  pub same : (capacity : ℕ) → text_answer root_rule text capacity
-      ≡ arc_answer capacity (first ∷ []) second (drop end text) (arc_fault root_rule capacity (first ∷ []) second)
+  pub same : (capacity : ℕ) → text_found capacity text
+      ≡ arc_found capacity (first ∷ []) second (drop end text) (arc_fault root_rule capacity (first ∷ []) second)
+  pub component : component_at text end ≡ 1
   pub within : end ≤ length text
+  pub dotted : end < length text → get_or text end 0 ≡ dot

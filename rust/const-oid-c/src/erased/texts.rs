@@ -14,15 +14,15 @@ pub fn const_oid_from_text(text: &[u8], out: &mut crate::edge::Output<u8>) -> St
     let mut octets = [0; 39];
     match const_oid::internal_for_const_oid_c::from_ascii_in_39(text, &mut octets) {
         Ok(oid) => write_bytes(oid.as_bytes(), out),
-        Err(fault) => write_after_fault(fault, text, out),
+        Err((fault, place)) => write_after_fault(text, out, fault, place),
     }
 }
 
-/// Writes the contents octets of the identifier that dotted text denotes, or reports why there is none. The fault is that
-/// of the text at the default capacity.
+/// Writes the contents octets of the identifier that dotted text denotes, or reports why there is none. The fault and its
+/// place are those of the text at the default capacity.
 #[cold]
 #[inline(never)]
-extern "C" fn write_after_fault(fault: Error, text: &[u8], out: &mut crate::edge::Output<u8>) -> Status {
+extern "C" fn write_after_fault(text: &[u8], out: &mut crate::edge::Output<u8>, fault: Error, place: usize) -> Status {
     // The digits and dots of a valid text are ASCII, so only the others can fail to be UTF-8.
     if str::from_utf8(text).is_err() {
         return code_status(NOT_UTF8);
@@ -30,7 +30,7 @@ extern "C" fn write_after_fault(fault: Error, text: &[u8], out: &mut crate::edge
     // At a greater capacity, only `Length` can become another result.
     match fault {
         Error::Length => write_past_39_octets(text, out),
-        other => fault_at(wrong_component(text), other),
+        other => fault_at(const_oid::internal_for_const_oid_c::component_at(text, place), other),
     }
 }
 
@@ -40,7 +40,7 @@ fn write_past_39_octets(text: &[u8], out: &mut crate::edge::Output<u8>) -> Statu
     match ObjectIdentifier::<MAX_OCTETS>::from_ascii(text) {
         Ok(oid) => write_octets(Ok(oid), out),
         Err(Error::Length) => write_past_255_octets(text, out),
-        Err(fault) => fault_at(wrong_component(text), fault),
+        Err(fault) => component_status(fault, text),
     }
 }
 
@@ -51,36 +51,16 @@ fn write_past_255_octets(text: &[u8], out: &mut crate::edge::Output<u8>) -> Stat
         // At the greatest limit, the error of any other kind is the same.
         Err(_) => match const_oid::internal_for_const_oid_c::bytes_len_from_ascii(text, usize::MAX) {
             Ok(len) => too_short_status(len),
-            Err(fault) => fault_at(wrong_component(text), fault),
+            Err(fault) => component_status(fault, text),
         },
     }
 }
 
-/// The index of the first wrong component of a text, or else of the last one.
+/// The status of an error of a text, at its first wrong component.
 #[inline(never)]
-extern "C" fn wrong_component(text: &[u8]) -> usize {
-    let mut index = 0;
-    let mut start = 0;
-    let mut number: u64 = 0;
-    // The greatest arc that may be there.
-    let mut limit: u64 = 2;
-    for (at, byte) in text.iter().enumerate() {
-        if byte.is_ascii_digit() {
-            number = number * 10 + u64::from(*byte - b'0');
-            if number > u64::from(u32::MAX) {
-                return index;
-            }
-        } else {
-            if *byte != b'.' || at == start || at + 1 == text.len() || number > limit {
-                return index;
-            }
-            limit = if index == 0 && number < 2 { 39 } else { u64::from(u32::MAX) };
-            index += 1;
-            start = at + 1;
-            number = 0;
-        }
-    }
-    index
+extern "C" fn component_status(fault: Error, text: &[u8]) -> Status {
+    let index = ObjectIdentifierRef::wrong_component(text).unwrap_or(0);
+    fault_at(index, fault)
 }
 
 /// The room for the text of 16 octets: four bytes for each octet, and eleven for one arc more.

@@ -7,7 +7,7 @@ use crate::erased::base128::append_group;
 use crate::erased::encoder::encode_to;
 use crate::erased::error::{Error, Result};
 use crate::erased::fast::comparison::{are_arrays_equal, order};
-use crate::erased::parser::parse_to_inlined;
+use crate::erased::parser::{fault_of, parse_to_inlined};
 use crate::erased::parts::copy_to;
 use core::cmp::Ordering;
 use core::hash::{Hash, Hasher};
@@ -52,7 +52,7 @@ impl<const SIZE: usize> Buffer<SIZE> {
                 buffer.used = len as u8;
                 Ok(buffer)
             }
-            Err(fault) => Err(fault),
+            Err(wrong) => Err(fault_of(text, wrong).0),
         }
     }
 

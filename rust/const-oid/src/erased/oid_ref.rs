@@ -11,15 +11,15 @@ use crate::erased::element::{element_len, split_element, write_element};
 use crate::erased::encoder::{ONE_PASS_ARCS, encode_in_one_pass, encode_slice};
 use crate::erased::error::{Error, Result};
 use crate::erased::fast::comparison::{are_equal, order};
-use crate::erased::fast::lanes::count_parts;
+use crate::erased::fast::lanes::count_below;
 use crate::erased::fast::steps::run_of;
-use crate::erased::parser::{ONE_PASS_BYTES, parse_in_one_pass, parse_to, parse_to_inlined};
+use crate::erased::parser::{ONE_PASS_BYTES, fault_of, parse_in_one_pass, parse_placed, parse_to, parse_to_inlined};
 use crate::erased::parts::without_last_part;
 use crate::erased::root::split_root;
 use crate::erased::text::{text_len, write_checked, write_text};
 use crate::erased::valid::check;
 use core::cmp::Ordering;
-use core::fmt;
+use core::{fmt, result};
 
 /// An object identifier over the caller's contents octets, without tag and length.
 ///
@@ -198,7 +198,7 @@ impl ObjectIdentifierRef {
     #[inline]
     #[must_use]
     pub fn len(&self) -> usize {
-        count_parts(self.as_bytes()) + 1
+        count_below(self.as_bytes(), 128) + 1
     }
 
     /// The length in bytes of the text that `{}` writes, or `usize::MAX` if it is greater than that.
@@ -350,11 +350,43 @@ impl ObjectIdentifierRef {
     ///
     /// # Errors
     ///
-    /// Those of [`new`](crate::ObjectIdentifier::new).
+    /// Those of [`new`](crate::ObjectIdentifier::new), each with a place for [`component_at`](Self::component_at), which
+    /// says nothing for [`Error::Length`].
     #[inline(always)]
-    pub(crate) fn from_ascii_in_39<'a>(text: &[u8], out: &'a mut [u8; 39]) -> Result<&'a Self> {
-        let len = parse_to_inlined(text, out, 39)?;
-        Ok(ObjectIdentifierRef::from_checked(&out[..len]))
+    pub(crate) fn from_ascii_in_39<'a>(text: &[u8], out: &'a mut [u8; 39]) -> result::Result<&'a Self, (Error, usize)> {
+        match parse_to_inlined(text, out, 39) {
+            Ok(len) => Ok(ObjectIdentifierRef::from_checked(&out[..len])),
+            Err(wrong) => Err(fault_of(text, wrong)),
+        }
+    }
+
+    /// The index of the component that starts or ends at a place in a text, in bytes, or is there: how many dots are
+    /// before it. Before the place are digits and dots alone, as before that of an error.
+    #[cold]
+    #[inline(never)]
+    #[must_use]
+    pub(crate) fn component_at(text: &[u8], place: usize) -> usize {
+        count_below(&text[..place], b'0')
+    }
+
+    /// The index of the first wrong component of dotted text, counted from 0, by the rules of
+    /// [`new`](crate::ObjectIdentifier::new) for identifiers of any length. `None` exactly if the text denotes one. Of a
+    /// single component it is 0. Before a dot at the end, it is that of the component before the dot.
+    ///
+    /// # Examples
+    ///
+    /// ```
+    /// use const_oid::ObjectIdentifierRef;
+    ///
+    /// assert_eq!(ObjectIdentifierRef::wrong_component(b"1.2.x"), Some(2));
+    /// assert_eq!(ObjectIdentifierRef::wrong_component(b"2.999"), None);
+    /// ```
+    #[must_use]
+    pub fn wrong_component(text: &[u8]) -> Option<usize> {
+        match parse_placed(text, &mut [], usize::MAX) {
+            Ok(_) => None,
+            Err((_, place)) => Some(ObjectIdentifierRef::component_at(text, place)),
+        }
     }
 
     /// Encodes arcs, any number of them, and borrows the octets that it writes at the start of `out`. They are at most

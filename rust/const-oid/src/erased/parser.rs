@@ -12,10 +12,35 @@ use crate::erased::parts::copy_to;
 use crate::erased::root::{check_first, join_root};
 use core::result;
 
-/// `parse_to_inlined`, but not inlined: it is compiled once for all calls.
+/// What is wrong with a text.
+pub(crate) enum Wrong {
+    /// The component that starts at an index goes wrong at another one.
+    Piece { start: usize, index: usize },
+    /// An arc, whose component ends at an index.
+    Value { fault: Error, end: usize },
+}
+
+/// The error of a text, and a place: a byte of the wrong component, or where it ends.
+#[inline(always)]
+pub(crate) const fn fault_of(text: &[u8], wrong: Wrong) -> (Error, usize) {
+    match wrong {
+        Wrong::Piece { start, index } => (piece_fault(text, start, index), index),
+        Wrong::Value { fault, end } => (or_trailing_dot(fault, text, end), end),
+    }
+}
+
+/// `parse_to_inlined`, but not inlined: it is compiled once for all calls. An error has its place beside it.
 #[inline(never)]
+pub(crate) fn parse_placed(text: &[u8], out: &mut [u8], capacity: usize) -> result::Result<usize, (Error, usize)> {
+    match parse_to_inlined(text, out, capacity) {
+        Ok(len) => Ok(len),
+        Err(wrong) => Err(fault_of(text, wrong)),
+    }
+}
+
+/// `parse_placed`, without the place.
 pub(crate) fn parse_to(text: &[u8], out: &mut [u8], capacity: usize) -> Result<usize> {
-    parse_to_inlined(text, out, capacity)
+    parse_placed(text, out, capacity).map_err(|fault| fault.0)
 }
 
 /// The most bytes of a text that is parsed on the stack, and the most octets that it takes.
@@ -34,55 +59,58 @@ pub(crate) fn parse_in_one_pass(text: &[u8], out: &mut [u8]) -> Result<usize> {
 /// Writes the encoding of the identifier that a text denotes to the start of a slice, if it fits a capacity, and returns
 /// its length. Into a slice that is shorter than the capacity nothing is written: the octets are counted alone.
 #[inline(always)]
-pub(crate) const fn parse_to_inlined(text: &[u8], out: &mut [u8], capacity: usize) -> Result<usize> {
+pub(crate) const fn parse_to_inlined(text: &[u8], out: &mut [u8], capacity: usize) -> result::Result<usize, Wrong> {
     let (number, mut end) = match read_root(text) {
         Ok(root) => root,
-        Err(fault) => return Err(fault),
+        Err(wrong) => return Err(wrong),
     };
     let mut used = match append_group(out, 0, number, capacity) {
         Ok(used) => used,
-        Err(fault) => return Err(or_trailing_dot(fault, text, end)),
+        Err(fault) => return Err(Wrong::Value { fault, end }),
     };
     while end + 1 < text.len() {
         let start = end + 1;
         let (arc, after) = match read_piece(text, start) {
             Ok(piece) => piece,
-            Err(index) => return Err(piece_fault(text, start, index)),
+            Err(index) => return Err(Wrong::Piece { start, index }),
         };
         used = match append_group(out, used, arc as u64, capacity) {
             Ok(used) => used,
-            Err(fault) => return Err(or_trailing_dot(fault, text, after)),
+            Err(fault) => return Err(Wrong::Value { fault, end: after }),
         };
         end = after;
     }
     // Nothing is left, or a dot.
     if end < text.len() {
-        return Err(Error::TrailingDot);
+        let fault = Error::TrailingDot;
+        return Err(Wrong::Value { fault, end });
     }
     Ok(used)
 }
 
 /// The subidentifier of the first two arcs, and where the second component ends.
 #[inline(always)]
-const fn read_root(text: &[u8]) -> Result<(u64, usize)> {
+const fn read_root(text: &[u8]) -> result::Result<(u64, usize), Wrong> {
     let (first, end) = match read_piece(text, 0) {
         Ok(piece) => piece,
-        Err(index) => return Err(piece_fault(text, 0, index)),
+        Err(index) => return Err(Wrong::Piece { start: 0, index }),
     };
     if let Err(fault) = check_first(first) {
-        return Err(or_trailing_dot(fault, text, end));
+        return Err(Wrong::Value { fault, end });
     }
     let start = end + 1;
     if start >= text.len() {
-        return Err(if end < text.len() { Error::TrailingDot } else { Error::Empty });
+        // Or `TrailingDot`.
+        let fault = Error::Empty;
+        return Err(Wrong::Value { fault, end });
     }
     let (second, end) = match read_piece(text, start) {
         Ok(piece) => piece,
-        Err(index) => return Err(piece_fault(text, start, index)),
+        Err(index) => return Err(Wrong::Piece { start, index }),
     };
     match join_root(first, second) {
         Ok(number) => Ok((number, end)),
-        Err(fault) => Err(or_trailing_dot(fault, text, end)),
+        Err(fault) => Err(Wrong::Value { fault, end }),
     }
 }
 
@@ -137,6 +165,8 @@ const fn piece_fault(text: &[u8], start: usize, index: usize) -> Error {
 }
 
 /// The error of an arc whose component ends at an index, or `TrailingDot` if an empty last component follows.
+#[cold]
+#[inline(never)]
 const fn or_trailing_dot(fault: Error, text: &[u8], end: usize) -> Error {
     if end + 1 == text.len() { Error::TrailingDot } else { fault }
 }

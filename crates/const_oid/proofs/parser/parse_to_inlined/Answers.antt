@@ -1,6 +1,15 @@
-use Rattle.std.proofs.Common.{Ok, Err, sym, ap, ◌∙◌, arith}
-use Rattle.const_oid.proofs.Pieces.{root_written, later_written, dot_left, wrong_piece}
+use Rattle.std.proofs.Common.{Ok, Err, ◌∙◌, arith}
+use Rattle.std.proofs.lemmas.{Bool.Decides.nat_tests}
+use Rattle.const_oid.proofs.{WrongIndex.fault_at, Pieces.{all_written, root_written, later_written, dot_left, wrong_piece}}
 use Rattle.const_oid.proofs.parser.parse_to_inlined.Goals as goal
+
+pub returns-in-Err : goal.returns-in-Err
+returns-in-Err c = fault_at c.args.capacity (c.in-Err.ensures c.args.capacity)
+
+pub returns-in-Err-append_group : goal.returns-in-Err-append_group
+returns-in-Err-append_group c =
+    fault_at c.args.capacity (root_written c.args.capacity c.args.text.now c.args.out.now c.append_group.new.out c.in-Ok.ensures
+    (Err c.in-Err-append_group.fault) c.in-Err-append_group.ensures)
 
 pub loop-end-init : goal.loop-end-init
 loop-end-init c =
@@ -9,15 +18,14 @@ loop-end-init c =
 
 pub returns-in-Err-read_piece : goal.returns-in-Err-read_piece
 returns-in-Err-read_piece c =
-    wrong_piece _ c.loop-end.invariant.read (omega arith) c.in-Err-read_piece.ensures
-    ∙ sym (ap Err c.piece_fault.ensures)
+    fault_at c.args.capacity (wrong_piece c.loop-end.invariant.read.arcs (omega arith) c.in-Err-read_piece.ensures)
 
 pub returns-in-Err-append_group-2 : goal.returns-in-Err-append_group-2
 returns-in-Err-append_group-2 c =
-    later_written c.args.capacity c.args.text.now c.args.out.now c.append_group-in-loop-end.new.out c.loop-end.invariant
+    fault_at c.args.capacity
+    (later_written c.args.capacity c.args.text.now c.args.out.now c.append_group-in-loop-end.new.out c.loop-end.invariant
     (c.loop-end.auto.out ∙ c.append_group.auto.out) (omega arith) c.in-Ok-read_piece.ensures (Err c.in-Err-append_group-2.fault)
-    c.in-Err-append_group-2.ensures
-    ∙ sym (ap Err c.or_trailing_dot-in-Err-append_group-2.ensures)
+    c.in-Err-append_group-2.ensures)
 
 pub loop-end-preserved : goal.loop-end-preserved
 loop-end-preserved c =
@@ -26,4 +34,9 @@ loop-end-preserved c =
     c.in-Ok-append_group-2.ensures
 
 pub returns-then-end-text : goal.returns-then-end-text
-returns-then-end-text c = dot_left c.loop-end.invariant.read (omega arith)
+returns-then-end-text c =
+    let found = dot_left c.loop-end.invariant.read.arcs (omega arith) in
+    fault_at c.args.capacity (grind (arith, nat_tests, found))
+
+pub returns : goal.returns
+returns c = all_written c.loop-end.invariant (omega arith)

@@ -1,6 +1,9 @@
 use Rattle.std.proofs.Common.{arith}
-use Rattle.const_oid.proofs.Pieces.{big_fault, piece_read, byte_fault, digits_read}
+use Rattle.const_oid.proofs.Pieces.{big_fault, piece_read, byte_fault, first_fault, digits_read}
 use Rattle.const_oid.proofs.parser.read_piece.Goals as goal
+
+pub returns-then-first-gt9 : goal.returns-then-first-gt9
+returns-then-first-gt9 c = first_fault c.args.text.now c.args.start (omega arith) (grind (arith, digits_read))
 
 pub returns-then-text-index-eq46 : goal.returns-then-text-index-eq46
 returns-then-text-index-eq46 c =

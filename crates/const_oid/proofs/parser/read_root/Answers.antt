@@ -1,21 +1,26 @@
-use Rattle.std.proofs.Common.{◌+◌, ◌∷◌, [], refl, sym, ap, ◌∙◌, arith, Err}
-use Rattle.std.proofs.lemmas.{Bool.Decides.nat_tests, List.drop_all}
-use Rattle.const_oid.proofs.{Faults.some_from_above, Pieces.root_taken}
+use Rattle.std.proofs.Common.{arith}
+use Rattle.std.proofs.lemmas.{Bool.Decides.nat_tests}
+use Rattle.const_oid.proofs.{Faults.some_from_above, Pieces.{first_above, first_alone, first_done, first_wrong, piece_component, piece_found, wrong_arc, wrong_piece}}
 use Rattle.const_oid.proofs.parser.read_root.Goals as goal
 
-pub returns-then-end-text : goal.returns-then-end-text
-returns-then-end-text c = λ capacity.
-    root_taken capacity c.in-Ok.ensures c.in_default.ensures (omega arith) ∙ rw (drop_all (c.in-Ok.piece.1 + 1) c.args.text.now (omega arith)) refl
+pub returns-in-Err : goal.returns-in-Err
+returns-in-Err c = λ capacity. first_wrong capacity c.in-Err.ensures
+
+pub returns-then-start-text : goal.returns-then-start-text
+returns-then-start-text c = λ capacity. first_alone capacity c.in-Ok.ensures c.in_default.ensures (omega arith)
+
+pub returns-in-Err-check_first : goal.returns-in-Err-check_first
+returns-in-Err-check_first c = λ capacity.
+    rw c.in-Err-check_first.ensures.0 (first_above capacity c.in-Ok.ensures c.in-Err-check_first.ensures.1)
 
 pub returns-in-Err-read_piece : goal.returns-in-Err-read_piece
 returns-in-Err-read_piece c = λ capacity.
-    root_taken capacity c.in-Ok.ensures c.in_default.ensures (omega arith)
-    ∙ rw (c.in-Err-read_piece.ensures.is capacity (c.in-Ok.piece.0 ∷ []) (grind (arith, nat_tests))) (ap Err (sym c.piece_fault-in-Err-read_piece.ensures))
+    wrong_piece (first_done capacity c.in-Ok.ensures c.in_default.ensures) (omega arith) c.in-Err-read_piece.ensures
 
 pub returns-in-Err-join_root : goal.returns-in-Err-join_root
 returns-in-Err-join_root c = λ capacity.
-    root_taken capacity c.in-Ok.ensures c.in_default.ensures (omega arith)
-    ∙ c.in-Ok-read_piece.ensures.same capacity (c.in-Ok.piece.0 ∷ []) ∙ grind (arith, nat_tests, some_from_above)
+    wrong_arc (first_done capacity c.in-Ok.ensures c.in_default.ensures) (omega arith) c.in-Ok-read_piece.ensures
+    (grind (arith, nat_tests, some_from_above))
 
 pub returns-in-Ok-join_root : goal.returns-in-Ok-join_root
 returns-in-Ok-join_root c =
@@ -26,6 +31,8 @@ returns-in-Ok-join_root c =
       number = c.in-Ok-join_root.ensures.1;
       low = c.in_default.ensures;
       high = c.in-Ok-join_root.ensures.0;
-      same = λ capacity. root_taken capacity c.in-Ok.ensures c.in_default.ensures (omega arith) ∙ piece.same capacity (c.in-Ok.piece.0 ∷ []);
-      within = piece.within;
+      same = λ capacity. piece_found (first_done capacity c.in-Ok.ensures c.in_default.ensures) (omega arith) piece;
+      component = piece_component (first_done 0 c.in-Ok.ensures c.in_default.ensures) (omega arith) piece;
+      within = piece.at.within;
+      dotted = piece.dotted;
     }

@@ -1,6 +1,6 @@
 use Rattle.std.proofs.Common.{◌≢◌, ◌≤◌, [], length, Err, sym, ◌∙◌, arith}
-use Rattle.const_oid.specs.{declared.error.Error.TheVariants.Length, Identifier.root_rule, Text.{pieces_of, text_answer}}
-use Rattle.const_oid_c.specs.{Results.wrong_index, Status.{len_status, max_len}}
+use Rattle.const_oid.specs.{declared.error.Error.TheVariants.Length, Identifier.root_rule, Text.{pieces_of, text_answer, wrong_index}}
+use Rattle.const_oid_c.specs.Status.{len_status, max_len}
 use Rattle.const_oid_c.proofs.{Writes.{IsWritten, bytes_written}, Capacities.same_text, Counted.{longer_text, not_written}}
 use Rattle.const_oid_c.proofs.texts.write_past_255_octets.Goals as goal
 

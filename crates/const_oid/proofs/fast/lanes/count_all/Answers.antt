@@ -4,7 +4,7 @@ use Rattle.const_oid.proofs.Lanes.{ones_counted}
 use Rattle.const_oid.proofs.fast.lanes.count_all.Goals as goal
 
 pub returns-clause-value : goal.returns-clause-value
-returns-clause-value g c = ones_counted g.row.COUNT c.args.octets.now c.requires.all c.requires.lanes
+returns-clause-value g c = ones_counted g.row.COUNT c.args.limit c.args.octets.now c.requires.all c.requires.lanes
 
 pub returns-clause-fits : goal.returns-clause-fits
-returns-clause-fits g c = omega (arith, returns-clause-value g c, count_by-le-length (λ x. nat_lt x 128) c.args.octets.now)
+returns-clause-fits g c = omega (arith, returns-clause-value g c, count_by-le-length (λ x. nat_lt x c.args.limit) c.args.octets.now)

@@ -3,7 +3,7 @@ use Rattle.const_oid.proofs.fast.lanes.count_by_32.Given as goal
 
 abbrev pub invariant-loop-rest : goal.invariant-loop-rest
 invariant-loop-rest l = record {
-  counted : l.count + count_by (λ x. nat_lt x 128) l.rest ≡ count_by (λ x. nat_lt x 128) l.octets;
+  counted : l.count + count_by (λ x. nat_lt x l.limit) l.rest ≡ count_by (λ x. nat_lt x l.limit) l.octets;
   fits : l.count + length l.rest ≤ length l.octets;
 }
 
