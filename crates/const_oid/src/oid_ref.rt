@@ -446,10 +446,9 @@ impl<'a> ObjectIdentifierRef<'a> {
     #[cold]
     #[inline(never)]
     pub fn component_at(text: &[u8], place: usize) -> usize
-        requires { place ≤ length text.now }
         ensures { result ≡ component_at text.now place }
     {
-        count_below(&text[..place], b'0')
+        count_below(&text[..place.min(text.len())], b'0')
     }
 
     /// The index of the first wrong component of dotted text, counted from 0, by the rules of

@@ -366,7 +366,7 @@ impl ObjectIdentifierRef {
     #[inline(never)]
     #[must_use]
     pub(crate) fn component_at(text: &[u8], place: usize) -> usize {
-        count_below(&text[..place], b'0')
+        count_below(&text[..place.min(text.len())], b'0')
     }
 
     /// The index of the first wrong component of dotted text, counted from 0, by the rules of
