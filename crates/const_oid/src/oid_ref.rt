@@ -24,9 +24,7 @@ use crate::error::{Error, Result};
 use crate::fast::comparison::{are_equal, order};
 use crate::fast::lanes::count_below;
 use crate::fast::steps::run_of;
-use crate::parser::{
-    ONE_PASS_BYTES, fault_of, parse_in_one_pass, parse_placed, parse_to, parse_to_inlined,
-};
+use crate::parser::{ONE_PASS_BYTES, fault_of, parse_in_one_pass, parse_to, parse_to_inlined};
 use crate::parts::without_last_part;
 use crate::root::split_root;
 use crate::text::{text_len, write_checked, write_text};
@@ -467,9 +465,12 @@ impl<'a> ObjectIdentifierRef<'a> {
         ensures none { result ≡ None ↔ ((arcs : List ℕ) × Denotes root_rule text.now arcs) }
         ensures index { IfSome result (λ index. index ≡ wrong_index [] (pieces_of text.now)) }
     {
-        match parse_placed(text, &mut [], usize::MAX) {
+        match parse_to_inlined(text, &mut [], usize::MAX) {
             Ok(_) => None,
-            Err((_, place)) => Some(ObjectIdentifierRef::component_at(text, place)),
+            Err(wrong) => {
+                let (_, place) = fault_of(text, wrong);
+                Some(ObjectIdentifierRef::component_at(text, place))
+            }
         }
     }
 

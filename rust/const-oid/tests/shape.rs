@@ -135,6 +135,7 @@ fn functions_have_their_types() {
     let _: fn(&ObjectIdentifier<7>) -> Arcs<'_> = ObjectIdentifier::arcs;
     let _: fn(&ObjectIdentifierRef) -> Arcs<'_> = ObjectIdentifierRef::arcs;
     let _: fn(&ObjectIdentifierRef) -> Option<&ObjectIdentifierRef> = ObjectIdentifierRef::parent;
+    let _: fn(&[u8]) -> Option<usize> = ObjectIdentifierRef::wrong_component;
     let _: fn(Error) -> usize = Error::text_len;
 }
 

@@ -13,7 +13,7 @@ use crate::erased::error::{Error, Result};
 use crate::erased::fast::comparison::{are_equal, order};
 use crate::erased::fast::lanes::count_below;
 use crate::erased::fast::steps::run_of;
-use crate::erased::parser::{ONE_PASS_BYTES, fault_of, parse_in_one_pass, parse_placed, parse_to, parse_to_inlined};
+use crate::erased::parser::{ONE_PASS_BYTES, fault_of, parse_in_one_pass, parse_to, parse_to_inlined};
 use crate::erased::parts::without_last_part;
 use crate::erased::root::split_root;
 use crate::erased::text::{text_len, write_checked, write_text};
@@ -383,9 +383,12 @@ impl ObjectIdentifierRef {
     /// ```
     #[must_use]
     pub fn wrong_component(text: &[u8]) -> Option<usize> {
-        match parse_placed(text, &mut [], usize::MAX) {
+        match parse_to_inlined(text, &mut [], usize::MAX) {
             Ok(_) => None,
-            Err((_, place)) => Some(ObjectIdentifierRef::component_at(text, place)),
+            Err(wrong) => {
+                let (_, place) = fault_of(text, wrong);
+                Some(ObjectIdentifierRef::component_at(text, place))
+            }
         }
     }
 

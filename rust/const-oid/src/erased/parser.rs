@@ -29,18 +29,13 @@ pub(crate) const fn fault_of(text: &[u8], wrong: Wrong) -> (Error, usize) {
     }
 }
 
-/// `parse_to_inlined`, but not inlined: it is compiled once for all calls. An error has its place beside it.
+/// `parse_to_inlined`, but not inlined: it is compiled once for all calls. An error has no place.
 #[inline(never)]
-pub(crate) fn parse_placed(text: &[u8], out: &mut [u8], capacity: usize) -> result::Result<usize, (Error, usize)> {
+pub(crate) fn parse_to(text: &[u8], out: &mut [u8], capacity: usize) -> Result<usize> {
     match parse_to_inlined(text, out, capacity) {
         Ok(len) => Ok(len),
-        Err(wrong) => Err(fault_of(text, wrong)),
+        Err(wrong) => Err(fault_of(text, wrong).0),
     }
-}
-
-/// `parse_placed`, without the place.
-pub(crate) fn parse_to(text: &[u8], out: &mut [u8], capacity: usize) -> Result<usize> {
-    parse_placed(text, out, capacity).map_err(|fault| fault.0)
 }
 
 /// The most bytes of a text that is parsed on the stack, and the most octets that it takes.

@@ -12,4 +12,4 @@ returns-in-Err-clause-none c =
     (λ none. absurd (cc), λ denoted. absurd (not_denoted (omega arith) c.in-Err.ensures.answer denoted.0 denoted.1))
 
 pub returns-in-Err-clause-index : goal.returns-in-Err-clause-index
-returns-in-Err-clause-index c = c.component_at.ensures ∙ wrong_at (omega arith) c.in-Err.ensures
+returns-in-Err-clause-index c = c.component_at.ensures ∙ rw c.fault_of-place.ensures.place (wrong_at (omega arith) c.in-Err.ensures)
