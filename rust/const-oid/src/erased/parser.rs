@@ -95,7 +95,7 @@ const fn read_root(text: &[u8]) -> result::Result<(u64, usize), Wrong> {
     }
     let start = end + 1;
     if start >= text.len() {
-        // Or `TrailingDot`.
+        // With a dot after it, `fault_of` makes it `TrailingDot`.
         let fault = Error::Empty;
         return Err(Wrong::Value { fault, end });
     }
