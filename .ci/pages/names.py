@@ -1,28 +1,15 @@
 """Names in backticks, outside of blocks, and links:
 
-- CALLING, "Lemmas": the names before a colon are public lemmas of proofs/Identifiers.antt.
-- Every page: `NAME`, `NAME` of `specs/FILE.antt` are defined there. MODULE::NAME is in that module of const_oid. Any
-  other name with `_`, `::` or a capital inside is a word of a source, comments aside. Exempt is "What was cut" of
-  DIFFERENCES, whose names are those of the other crate. Links lead to files."""
+- MODULE::NAME is in that module of const_oid. Any other name with `_`, `::` or a capital inside is a word of a source,
+  comments aside. Exempt is "What was cut" of DIFFERENCES, whose names are those of the other crate.
+- Links lead to files."""
 import re
 
-from pages.page import CALLING, LIBRARY, PAGES, SPAN, TOP, defined_in, fault, prose_of, section_of
+from pages.page import LIBRARY, PAGES, SPAN, TOP, fault, prose_of, section_of
 
 NAME = re.compile(r"[A-Za-z_]\w*(?:::\w+)*")
-OF_FILE = r"(?P<names>(?:`\w+`(?:,\s|\sand\s)?)+)\sof\s`specs/(?P<file>\w+)\.antt`"
-LEMMAS = r"^- (?P<names>[^:]*):"
 SOURCES = ["crates/*/[sp]*/**/*.rt", "crates/*/[sp]*/**/*.antt", "crates/*/include/*.h", "rust/*/[st]*/**/*.rs"]
 SOURCES += ["python/src/const_oid/*.py"]
-
-
-def undefined(page, text, pattern):
-    """The names in groups of a page that are not defined in the file of their group."""
-    for group in re.finditer(pattern, text, re.M):
-        file = group.groupdict().get("file")
-        path = f"specs/{file}.antt" if file else "proofs/Identifiers.antt"
-        for span in SPAN.finditer(group["names"]):
-            if span[1] not in defined_in(LIBRARY / path):
-                yield fault(page, text, group.start("names") + span.start(), f"not defined in {path}: {span[1]}")
 
 
 def words_of(*paths):
@@ -39,11 +26,9 @@ def is_in_source(name, words):
 
 
 def faults():
-    yield from undefined(CALLING, section_of(CALLING, "Lemmas"), LEMMAS)
     words = words_of(*(path for pattern in SOURCES for path in TOP.glob(pattern)))
     for page in PAGES:
         text = prose_of(page)
-        yield from undefined(page, text, OF_FILE)
         for link in re.finditer(r"\]\(([^)#:]+)\)", text):
             if not ((TOP / page).parent / link[1]).exists():
                 yield fault(page, text, link.start(), f"no such file: {link[1]}")

@@ -4,10 +4,10 @@ import re
 
 TOP = pathlib.Path(__file__).resolve().parents[2]
 LIBRARY = TOP / "crates/const_oid"
-CALLING = "crates/const_oid/CALLING.md"
 CRATE = "rust/const-oid/README.md"
-PAGES = ["README.md", CALLING, CRATE, "rust/README.md", "crates/const_oid/README.md", "crates/const_oid_c/README.md"]
-PAGES += ["python/README.md", *sorted(str(path.relative_to(TOP)) for path in TOP.glob("docs/*.md"))]
+PAGES = ["README.md", "crates/const_oid/CALLING.md", CRATE, "rust/README.md", "crates/const_oid/README.md"]
+PAGES += ["crates/const_oid_c/README.md", "python/README.md"]
+PAGES += sorted(str(path.relative_to(TOP)) for path in TOP.glob("docs/*.md"))
 SPAN = re.compile(r"`([^`]*)`")
 BLOCK = re.compile(r"^```(.*)\n((?:.*\n)*?)```$", re.M)
 DEFINED = re.compile(r"^(?:abbrev |unfoldable )?pub (?:data |record )?([\w-]+)|^  ([A-Z]\w*) :", re.M)
