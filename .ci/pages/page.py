@@ -35,11 +35,11 @@ def prose_of(page):
 
 
 def section_of(page, heading):
-    """A section of a page, below as many empty lines as come before it."""
-    before, line, rest = prose_of(page).partition(f"\n## {heading}\n")
+    """A section of a page, below its heading."""
+    _, line, rest = prose_of(page).partition(f"\n## {heading}\n")
     if not line:
         raise ValueError(f"{page} has no section: {heading}")
-    return "\n" * before.count("\n") + line + rest.partition("\n## ")[0]
+    return rest.partition("\n## ")[0]
 
 
 def defined_in(path):
