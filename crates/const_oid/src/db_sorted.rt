@@ -145,6 +145,10 @@ impl<'a> SortedDatabase<'a> {
     /// let (named, name) = names.nearest(&oid).unwrap();
     /// assert_eq!(*name, "enterprises");
     /// assert!(oid.arcs().skip(named.len()).eq([8072, 3, 2]));
+    ///
+    /// assert_eq!(names.subtree(&mib_2), &entries[..2]);
+    /// assert_eq!(names.next_after(&mib_2), Some(&entries[1]));
+    /// assert_eq!(names.next_after(&enterprises), None);
     /// ```
     pub fn nearest(&self, oid: ObjectIdentifierRef<'_>) -> Option<&'a Entry<'a>>
         ensures found { IfSome result (λ entry. IsNearest (sorted_entries_of self.now) (ref_arcs oid.entry) entry.now) }
@@ -155,22 +159,7 @@ impl<'a> SortedDatabase<'a> {
     }
 
     /// The entries of the identifier and of its descendants, which are adjacent in the order of arcs.
-    ///
-    /// # Examples
-    ///
-    /// ```
-    /// use const_oid::{ObjectIdentifier, db::SortedDatabase};
-    ///
-    /// let [mib_2, system, enterprises] =
-    ///     ["1.3.6.1.2.1", "1.3.6.1.2.1.1", "1.3.6.1.4.1"].map(ObjectIdentifier::new_unwrap);
-    /// let entries = [
-    ///     (mib_2.as_oid_ref(), "mib-2"),
-    ///     (system.as_oid_ref(), "system"),
-    ///     (enterprises.as_oid_ref(), "enterprises"),
-    /// ];
-    /// let names = SortedDatabase::try_new(&entries).unwrap();
-    /// assert_eq!(names.subtree(&mib_2), &entries[..2]);
-    /// ```
+    /// [`nearest`](Self::nearest) has an example.
     pub fn subtree(&self, oid: &ObjectIdentifierRef<'_>) -> &'a [Entry<'a>]
         ensures { IsSubtree (sorted_entries_of self.now) (ref_arcs oid.now) result.now }
     {
@@ -179,23 +168,7 @@ impl<'a> SortedDatabase<'a> {
     }
 
     /// The first entry after the identifier, which need not be in the table, as GetNext of SNMP returns it (RFC 3416).
-    ///
-    /// # Examples
-    ///
-    /// ```
-    /// use const_oid::{ObjectIdentifier, db::SortedDatabase};
-    ///
-    /// let [mib_2, system, enterprises] =
-    ///     ["1.3.6.1.2.1", "1.3.6.1.2.1.1", "1.3.6.1.4.1"].map(ObjectIdentifier::new_unwrap);
-    /// let entries = [
-    ///     (mib_2.as_oid_ref(), "mib-2"),
-    ///     (system.as_oid_ref(), "system"),
-    ///     (enterprises.as_oid_ref(), "enterprises"),
-    /// ];
-    /// let names = SortedDatabase::try_new(&entries).unwrap();
-    /// assert_eq!(names.next_after(&mib_2), Some(&entries[1]));
-    /// assert_eq!(names.next_after(&enterprises), None);
-    /// ```
+    /// [`nearest`](Self::nearest) has an example.
     pub fn next_after(&self, oid: &ObjectIdentifierRef<'_>) -> Option<&'a Entry<'a>>
         ensures { option_copied result ≡ find (λ entry. is_lt (slice_cmp nat_cmp (ref_arcs oid.now) (entry_arcs entry))) (sorted_entries_of self.now) }
     {

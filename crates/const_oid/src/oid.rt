@@ -163,13 +163,7 @@ impl ObjectIdentifier<39> {
     ///
     /// # Errors
     ///
-    /// The first of these that applies:
-    ///
-    /// - [`Error::Empty`]: there is no octet;
-    /// - by the first wrong subidentifier, [`Error::Base128`] if it begins with 0x80 (X.690, 8.19.2), or else
-    ///   [`Error::ArcTooBig`] if it is above 4294967295, or above 4294967375 as the first one, which holds two arcs, or
-    ///   else [`Error::Base128`]: the octets end within it;
-    /// - [`Error::Length`]: there are more than 39 octets.
+    /// Those of [`ObjectIdentifierRef::from_bytes`], with [`Error::Length`] if there are more than 39 octets.
     ///
     /// # Examples
     ///
@@ -191,15 +185,6 @@ impl ObjectIdentifier<39> {
 
     /// Reads the element in DER that octets begin with, as [`ObjectIdentifierRef::read_element`] does, with the errors
     /// of [`from_bytes`](Self::from_bytes).
-    ///
-    /// # Examples
-    ///
-    /// ```
-    /// use const_oid::ObjectIdentifier;
-    ///
-    /// let (oid, rest) = ObjectIdentifier::read_element(&[0x06, 0x02, 0x88, 0x37, 0x05, 0x00]).unwrap();
-    /// assert_eq!((oid, rest), (ObjectIdentifier::new("2.999"), &[0x05, 0x00][..]));
-    /// ```
     #[inline]
     pub fn read_element(der: &[u8]) -> Option<(Result<Self>, &[u8])>
         ensures { MatchOption result ((contents rest : List ℕ) → der.now ≢ element contents ++ rest)
@@ -364,15 +349,7 @@ impl<const MAX_SIZE: usize> ObjectIdentifier<MAX_SIZE> {
         Ok(ObjectIdentifier { ber })
     }
 
-    /// The contents octets.
-    ///
-    /// # Examples
-    ///
-    /// ```
-    /// use const_oid::ObjectIdentifier;
-    ///
-    /// assert_eq!(ObjectIdentifier::new_unwrap("1.2.840").as_bytes(), [0x2A, 0x86, 0x48]);
-    /// ```
+    /// The contents octets. [`ObjectIdentifierRef::as_bytes`] has an example.
     // erase: const
     pub fn as_bytes(&self) -> &[u8]
         ensures octets { result.now ≡ oid_octets self.now }
@@ -402,14 +379,7 @@ impl<const MAX_SIZE: usize> ObjectIdentifier<MAX_SIZE> {
     }
 
     /// The length in octets of the element that [`write_element`](Self::write_element) writes.
-    ///
-    /// # Examples
-    ///
-    /// ```
-    /// use const_oid::ObjectIdentifier;
-    ///
-    /// assert_eq!(ObjectIdentifier::new_unwrap("2.999.3").element_len(), 5);
-    /// ```
+    /// [`ObjectIdentifierRef::element_len`] has an example.
     // erase: const
     pub fn element_len(&self) -> usize
         ensures { result ≡ length (element (oid_octets self.now)) }
@@ -439,61 +409,28 @@ impl<const MAX_SIZE: usize> ObjectIdentifier<MAX_SIZE> {
         self.as_oid_ref().write_element(out)
     }
 
-    /// The arc at an index, counted from 0, or `None` past the last one.
-    ///
-    /// # Examples
-    ///
-    /// ```
-    /// use const_oid::ObjectIdentifier;
-    ///
-    /// let oid = ObjectIdentifier::new_unwrap("2.999");
-    /// assert_eq!((oid.arc(1), oid.arc(2)), (Some(999), None));
-    /// ```
+    /// The arc at an index, counted from 0, or `None` past the last one. [`ObjectIdentifierRef::arc`] has an example.
     pub fn arc(&self, index: usize) -> Option<Arc>
         ensures { result ≡ slice_get (oid_arcs self.now) index }
     {
         self.as_oid_ref().arc(index)
     }
 
-    /// All arcs, in order.
-    ///
-    /// # Examples
-    ///
-    /// ```
-    /// use const_oid::ObjectIdentifier;
-    ///
-    /// assert!(ObjectIdentifier::new_unwrap("2.999.3").arcs().eq([2, 999, 3]));
-    /// ```
+    /// All arcs, in order. [`ObjectIdentifierRef::arcs`] has an example.
     pub fn arcs(&self) -> Arcs<'_>
         ensures { result ≡ oid_arcs self.now }
     {
         self.as_oid_ref().arcs()
     }
 
-    /// The number of arcs, two or more.
-    ///
-    /// # Examples
-    ///
-    /// ```
-    /// use const_oid::ObjectIdentifier;
-    ///
-    /// assert_eq!(ObjectIdentifier::new_unwrap("2.999.3").len(), 3);
-    /// ```
+    /// The number of arcs, two or more. [`ObjectIdentifierRef::len`] has an example.
     pub fn len(&self) -> usize
         ensures { result ≡ length (oid_arcs self.now) }
     {
         self.as_oid_ref().len()
     }
 
-    /// The length in bytes of the text that `{}` writes.
-    ///
-    /// # Examples
-    ///
-    /// ```
-    /// use const_oid::ObjectIdentifier;
-    ///
-    /// assert_eq!(ObjectIdentifier::new_unwrap("2.999").text_len(), 5);
-    /// ```
+    /// The length in bytes of the text that `{}` writes. [`ObjectIdentifierRef::text_len`] has an example.
     pub fn text_len(&self) -> usize
         ensures { result ≡ length (text_of (oid_arcs self.now)) }
     {
@@ -502,16 +439,7 @@ impl<const MAX_SIZE: usize> ObjectIdentifier<MAX_SIZE> {
 
     /// Writes the text that `{}` writes to the start of `out`, and returns its length in bytes. Returns `None` if it is
     /// longer than `out`, which is then unchanged. Four bytes for each octet are always enough.
-    ///
-    /// # Examples
-    ///
-    /// ```
-    /// use const_oid::ObjectIdentifier;
-    ///
-    /// let mut out = [0; 8];
-    /// assert_eq!(ObjectIdentifier::new_unwrap("2.999").encode_text(&mut out), Some(5));
-    /// assert_eq!(&out, b"2.999\0\0\0");
-    /// ```
+    /// [`ObjectIdentifierRef::encode_text`] has an example.
     pub fn encode_text(&self, out: &mut [u8]) -> Option<usize>
         ensures cases { ReturnsLength (text_of (oid_arcs self.now)) out.old result }
         ensures written { WritesText (text_of (oid_arcs self.now)) out.old out.new result }
@@ -522,15 +450,7 @@ impl<const MAX_SIZE: usize> ObjectIdentifier<MAX_SIZE> {
     }
 
     /// Writes the text as [`encode_text`](Self::encode_text) does, and borrows it as a `str`.
-    ///
-    /// # Examples
-    ///
-    /// ```
-    /// use const_oid::ObjectIdentifier;
-    ///
-    /// let mut out = [0; 8];
-    /// assert_eq!(ObjectIdentifier::new_unwrap("2.999").encode_str(&mut out), Some("2.999"));
-    /// ```
+    /// [`ObjectIdentifierRef::encode_str`] has an example.
     pub fn encode_str<'o>(&self, out: &'o mut [u8]) -> Option<&'o str>
         ensures cases { ReturnsText (text_of (oid_arcs self.now)) out.old result }
         ensures enough { 4 * length (oid_octets self.now) ≤ length out.old → IsSome result }
@@ -539,16 +459,7 @@ impl<const MAX_SIZE: usize> ObjectIdentifier<MAX_SIZE> {
     }
 
     /// The parent: all arcs except the last. `None` if there are only two.
-    ///
-    /// # Examples
-    ///
-    /// ```
-    /// use const_oid::ObjectIdentifier;
-    ///
-    /// let top = ObjectIdentifier::new_unwrap("2.999");
-    /// assert_eq!(ObjectIdentifier::new_unwrap("2.999.3").parent(), Some(top));
-    /// assert_eq!(top.parent(), None);
-    /// ```
+    /// [`ObjectIdentifierRef::parent`] has an example.
     pub fn parent(&self) -> Option<Self>
         ensures { option_map oid_arcs result ≡ parent_of (oid_arcs self.now) }
     {
@@ -593,16 +504,7 @@ impl<const MAX_SIZE: usize> ObjectIdentifier<MAX_SIZE> {
     }
 
     /// Whether the arcs begin with all those of another identifier: whether the other one is this one or an ancestor of
-    /// it.
-    ///
-    /// # Examples
-    ///
-    /// ```
-    /// use const_oid::ObjectIdentifier;
-    ///
-    /// let (top, oid) = (ObjectIdentifier::new_unwrap("2.999"), ObjectIdentifier::new_unwrap("2.999.3"));
-    /// assert!(oid.starts_with(top) && !top.starts_with(oid));
-    /// ```
+    /// it. [`ObjectIdentifierRef::starts_with`] has an example.
     // erase: const
     #[inline(always)]
     pub fn starts_with<const SIZE: usize>(&self, other: ObjectIdentifier<SIZE>) -> bool
@@ -612,16 +514,7 @@ impl<const MAX_SIZE: usize> ObjectIdentifier<MAX_SIZE> {
     }
 
     /// The arcs after those of another identifier, or `None` if the arcs do not begin with those. They may be none.
-    ///
-    /// # Examples
-    ///
-    /// ```
-    /// use const_oid::ObjectIdentifier;
-    ///
-    /// let (top, oid) = (ObjectIdentifier::new_unwrap("2.999"), ObjectIdentifier::new_unwrap("2.999.3"));
-    /// assert!(oid.strip_prefix(&top).unwrap().eq([3]));
-    /// assert!(top.strip_prefix(&oid).is_none());
-    /// ```
+    /// [`ObjectIdentifierRef::strip_prefix`] has an example.
     pub fn strip_prefix<const SIZE: usize>(
         &self,
         other: &ObjectIdentifier<SIZE>,
@@ -634,15 +527,7 @@ impl<const MAX_SIZE: usize> ObjectIdentifier<MAX_SIZE> {
     }
 
     /// Compares the arcs lexicographically, a prefix before what begins with it. SNMP orders names so (RFC 3416).
-    ///
-    /// # Examples
-    ///
-    /// ```
-    /// use const_oid::ObjectIdentifier;
-    ///
-    /// let (short, long) = (ObjectIdentifier::new_unwrap("2.5"), ObjectIdentifier::new_unwrap("1.2.3"));
-    /// assert!(long.cmp_arcs(&short).is_lt() && short < long);
-    /// ```
+    /// [`ObjectIdentifierRef::cmp_arcs`] has an example.
     // erase: const
     pub fn cmp_arcs<const SIZE: usize>(&self, other: &ObjectIdentifier<SIZE>) -> Ordering
         ensures { result ≡ slice_cmp nat_cmp (oid_arcs self.now) (oid_arcs other.now) }

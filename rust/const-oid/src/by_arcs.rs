@@ -33,20 +33,7 @@ use core::ops::Deref;
 pub struct ByArcs<T: ?Sized>(pub T);
 
 impl ByArcs<ObjectIdentifierRef> {
-    /// A key over a borrowed identifier, for lookups in a map of keys of any form.
-    ///
-    /// # Examples
-    ///
-    /// ```
-    /// use const_oid::{ByArcs, ObjectIdentifier, ObjectIdentifierRef};
-    /// use std::collections::BTreeMap;
-    ///
-    /// let oid = ObjectIdentifier::new_unwrap("2.999");
-    /// let names = BTreeMap::from([(ByArcs(oid), "example")]);
-    /// let borrowed = ObjectIdentifierRef::from_bytes(&[0x88, 0x37])?;
-    /// assert_eq!(names.get(ByArcs::of(borrowed)), Some(&"example"));
-    /// # Ok::<(), const_oid::Error>(())
-    /// ```
+    /// A key over a borrowed identifier, for lookups in a map of keys of any form. [`ByArcs`] has an example.
     #[must_use]
     #[allow(unsafe_code)]
     pub const fn of(oid: &ObjectIdentifierRef) -> &Self {

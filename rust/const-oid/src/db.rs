@@ -129,14 +129,7 @@ macro_rules! names {
 macro_rules! sorted {
     ($($octets:literal, $name:literal;)*) => {
         /// The entries of [`DB`] in the order of arcs, those of an identifier in the order of [`DB`].
-        ///
-        /// # Examples
-        ///
-        /// ```
-        /// use const_oid::db::{SORTED, rfc4519};
-        ///
-        /// assert_eq!(SORTED.by_oid(&rfc4519::CN), Some("cn"));
-        /// ```
+        /// [`by_oid`](SortedDatabase::by_oid) has an example.
         pub const SORTED: SortedDatabase<'static> = SortedDatabase::new_unchecked(&IN_ORDER);
 
         /// The entries of [`SORTED`], as a `static`, as above. Their octets are compared with [`DB`] by a test.

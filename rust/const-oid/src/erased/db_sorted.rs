@@ -127,6 +127,10 @@ impl<'a> SortedDatabase<'a> {
     /// let (named, name) = names.nearest(&oid).unwrap();
     /// assert_eq!(*name, "enterprises");
     /// assert!(oid.arcs().skip(named.len()).eq([8072, 3, 2]));
+    ///
+    /// assert_eq!(names.subtree(&mib_2), &entries[..2]);
+    /// assert_eq!(names.next_after(&mib_2), Some(&entries[1]));
+    /// assert_eq!(names.next_after(&enterprises), None);
     /// ```
     #[must_use]
     pub fn nearest(&self, oid: &ObjectIdentifierRef) -> Option<&'a Entry<'a>> {
@@ -135,22 +139,7 @@ impl<'a> SortedDatabase<'a> {
     }
 
     /// The entries of the identifier and of its descendants, which are adjacent in the order of arcs.
-    ///
-    /// # Examples
-    ///
-    /// ```
-    /// use const_oid::{ObjectIdentifier, db::SortedDatabase};
-    ///
-    /// let [mib_2, system, enterprises] =
-    ///     ["1.3.6.1.2.1", "1.3.6.1.2.1.1", "1.3.6.1.4.1"].map(ObjectIdentifier::new_unwrap);
-    /// let entries = [
-    ///     (mib_2.as_oid_ref(), "mib-2"),
-    ///     (system.as_oid_ref(), "system"),
-    ///     (enterprises.as_oid_ref(), "enterprises"),
-    /// ];
-    /// let names = SortedDatabase::try_new(&entries).unwrap();
-    /// assert_eq!(names.subtree(&mib_2), &entries[..2]);
-    /// ```
+    /// [`nearest`](Self::nearest) has an example.
     #[must_use]
     pub fn subtree(&self, oid: &ObjectIdentifierRef) -> &'a [Entry<'a>] {
         let (from, end) = subtree_of(self.entries, oid);
@@ -158,23 +147,7 @@ impl<'a> SortedDatabase<'a> {
     }
 
     /// The first entry after the identifier, which need not be in the table, as GetNext of SNMP returns it (RFC 3416).
-    ///
-    /// # Examples
-    ///
-    /// ```
-    /// use const_oid::{ObjectIdentifier, db::SortedDatabase};
-    ///
-    /// let [mib_2, system, enterprises] =
-    ///     ["1.3.6.1.2.1", "1.3.6.1.2.1.1", "1.3.6.1.4.1"].map(ObjectIdentifier::new_unwrap);
-    /// let entries = [
-    ///     (mib_2.as_oid_ref(), "mib-2"),
-    ///     (system.as_oid_ref(), "system"),
-    ///     (enterprises.as_oid_ref(), "enterprises"),
-    /// ];
-    /// let names = SortedDatabase::try_new(&entries).unwrap();
-    /// assert_eq!(names.next_after(&mib_2), Some(&entries[1]));
-    /// assert_eq!(names.next_after(&enterprises), None);
-    /// ```
+    /// [`nearest`](Self::nearest) has an example.
     #[must_use]
     pub fn next_after(&self, oid: &ObjectIdentifierRef) -> Option<&'a Entry<'a>> {
         self.entries.get(end_of(self.entries, oid))
