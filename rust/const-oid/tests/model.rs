@@ -430,7 +430,7 @@ fn check_methods<T: Copy + Debug + Ord>(given: &(impl Iterator<Item = T> + Clone
         (it.nth(count), it.collect::<Vec<_>>()); (it.by_ref().take(count).count(), it.collect::<Vec<_>>());
         (it.all(|item| !is_wanted(item)), it.collect::<Vec<_>>()); (it.any(is_wanted), it.collect::<Vec<_>>());
         (it.find(|item| is_wanted(*item)), it.collect::<Vec<_>>()); (it.position(is_wanted), it.collect::<Vec<_>>());
-        (it.find_map(|item| is_wanted(item).then_some(item)), it.collect::<Vec<_>>());
+        (it.find_map(|item| is_wanted(item).then_some((count, item))), it.collect::<Vec<_>>());
         (it.try_fold(0, |sum, item| (!is_wanted(item)).then_some(sum + 1)), it.collect::<Vec<_>>());
         (it.try_for_each(|item| (!is_wanted(item)).then_some(())), it.collect::<Vec<_>>());
     );
