@@ -41,17 +41,7 @@ pub struct Database<'a> {
 impl<'a> Database<'a> {
     ghost use Rattle.const_oid.specs.Names.{lent_arcs, entries_of, first_name, resolve_answer, all_names, first_oid, names_left};
 
-    /// A database over these entries.
-    ///
-    /// # Examples
-    ///
-    /// ```
-    /// use const_oid::{ObjectIdentifier, db::Database};
-    ///
-    /// const CN: ObjectIdentifier = ObjectIdentifier::new_unwrap("2.5.4.3");
-    /// const NAMES: Database<'static> = Database::new(&[(&CN, "cn"), (&CN, "commonName")]);
-    /// assert_eq!(NAMES.by_oid(&CN), Some("cn"));
-    /// ```
+    /// A database over these entries. [`Database`] has an example.
     pub const fn new(entries: &'a [(&'a Oid, &'a str)]) -> Self
         ensures { entries_of result ≡ entries.now }
     {

@@ -15,23 +15,11 @@ pub(crate) const fn panic_text(error: Error) -> &'static str {
 
 impl ObjectIdentifierRef {
     /// Parses dotted text of any length into octets at the start of `out`. As many as the text has bytes are always
-    /// enough.
+    /// enough. [`from_ascii_in`](Self::from_ascii_in) has an example.
     ///
     /// # Errors
     ///
-    /// Those of [`ObjectIdentifier::new`], with [`Error::Length`] if the arcs take more octets than `out` has. `out` is
-    /// then unchanged.
-    ///
-    /// # Examples
-    ///
-    /// ```
-    /// use const_oid::{Error, ObjectIdentifierRef};
-    ///
-    /// let mut out = [0; 2];
-    /// assert_eq!(ObjectIdentifierRef::new_in("2.999", &mut out)?.as_bytes(), [0x88, 0x37]);
-    /// assert_eq!(ObjectIdentifierRef::new_in("2.999.3", &mut out), Err(Error::Length));
-    /// # Ok::<(), Error>(())
-    /// ```
+    /// Those of [`from_ascii_in`](Self::from_ascii_in).
     #[inline]
     pub fn new_in<'o>(s: &str, out: &'o mut [u8]) -> Result<&'o Self> {
         Self::from_ascii_in(s.as_bytes(), out)

@@ -32,17 +32,7 @@ pub struct Database<'a> {
 }
 
 impl<'a> Database<'a> {
-    /// A database over these entries.
-    ///
-    /// # Examples
-    ///
-    /// ```
-    /// use const_oid::{ObjectIdentifier, db::Database};
-    ///
-    /// const CN: ObjectIdentifier = ObjectIdentifier::new_unwrap("2.5.4.3");
-    /// const NAMES: Database<'static> = Database::new(&[(&CN, "cn"), (&CN, "commonName")]);
-    /// assert_eq!(NAMES.by_oid(&CN), Some("cn"));
-    /// ```
+    /// A database over these entries. [`Database`] has an example.
     #[must_use]
     pub const fn new(entries: &'a [(&'a Oid, &'a str)]) -> Self {
         Database { entries, oid_links: &[], name_links: &[] }
