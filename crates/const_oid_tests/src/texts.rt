@@ -60,14 +60,13 @@ fn all_read(text: &str, wanted: Result<&[u8], Error>) -> bool {
     is_answer(Oid::new(text), wanted)
         && is_answer(text.parse(), wanted)
         && is_answer(Oid::from_ascii(text.as_bytes()), wanted)
-        && is_borrowed(text, wanted)
+        && parse_borrowed(text, &mut [0xEE; 39]) == wanted
 }
 
-/// Whether `from_ascii_in_39` has this result for a text.
-fn is_borrowed(text: &str, wanted: Result<&[u8], Error>) -> bool {
-    let mut out = [0xEE; 39];
-    let read = ObjectIdentifierRef::from_ascii_in_39(text.as_bytes(), &mut out);
-    read.map(|oid| oid.as_bytes()).map_err(|fault| fault.0) == wanted
+/// The octets of a text, or its error, by `from_ascii_in_39`.
+fn parse_borrowed<'o>(text: &str, out: &'o mut [u8; 39]) -> Result<&'o [u8], Error> {
+    let read = ObjectIdentifierRef::from_ascii_in_39(text.as_bytes(), out);
+    read.map(|oid| oid.as_bytes()).map_err(|fault| fault.0)
 }
 
 #[test]
@@ -151,11 +150,7 @@ const LONG: &[Row] = &[
 /// Whether the long text of a row has as many octets as it says, or its error.
 fn has_len(alloc: Global, row: &Row) -> Result<bool, AllocError> {
     let text = long_text(alloc, row.0, row.1, ".1", row.2)?;
-    let mut out = [0; 39];
-    let borrowed = ObjectIdentifierRef::from_ascii_in_39(text.as_bytes(), &mut out);
-    let len = borrowed
-        .map(|oid| oid.as_bytes().len())
-        .map_err(|fault| fault.0);
+    let len = parse_borrowed(text.as_str(), &mut [0; 39]).map(|octets| octets.len());
     Ok(len == row.3 && Oid::new(text.as_str()).map(|oid| oid.as_bytes().len()) == row.3)
 }
 
