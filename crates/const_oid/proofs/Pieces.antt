@@ -9,9 +9,9 @@ use Rattle.std.proofs.lemmas.List.Splits.{length-slice_split, slice_split_at, sl
 use Rattle.const_oid.specs.{Identifier.{root_rule, max_arc, IsEncoding, IsIdentifier}, Items.arc_fault, declared.error.Error.Error}
 use Rattle.const_oid.specs.declared.error.Error.TheVariants.{ArcInvalid, ArcTooBig, DigitExpected, Empty, Length, TrailingDot}
 use Rattle.const_oid.specs.{Contents.arcs_of_octets, Base128.width, Private.Octets.{AppendsTo, BeginsBy, IsAppended, IsEncodedIn}}
-use Rattle.const_oid.specs.Private.Parser.{pieces_found, text_found, found_after, or_trailing, arc_found, stop_fault}
+use Rattle.const_oid.specs.Private.Parser.{component_at, pieces_found, text_found, found_after, or_trailing, arc_found, stop_fault}
 use Rattle.const_oid.specs.Private.Parser.{AreDigits, HasFault, IsFoundAt, IsPiece, IsRoot, IsWithin}
-use Rattle.const_oid.specs.Text.{component_at, pieces_of, number_of, is_empty, is_one_empty, text_answer, IsNumber}
+use Rattle.const_oid.specs.Text.{pieces_of, number_of, is_empty, is_one_empty, text_answer, IsNumber}
 use Rattle.const_oid.proofs.WrongIndex.{same_text}
 use Rattle.const_oid.proofs.Outputs.{IsLonger, longer_by}
 use Rattle.const_oid.proofs.{Lists.append-cons, Started.{Encodes, root_encodes, later_encodes}}

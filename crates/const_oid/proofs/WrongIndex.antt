@@ -6,8 +6,8 @@ use Rattle.std.proofs.lemmas.Bool.Decides.{nat_tests}
 use Rattle.const_oid.specs.declared.error.Error.{Error}
 use Rattle.const_oid.specs.declared.error.Error.TheVariants.{Length}
 use Rattle.const_oid.specs.{Error.answer, Identifier.{root_rule, size}, Items.{arc_fault}}
-use Rattle.const_oid.specs.Private.Parser.{or_later, pieces_found, text_found, IsFoundAt}
-use Rattle.const_oid.specs.Text.{number_of, piece_fault, pieces_fault, pieces_of, text_answer, component_at, wrong_index, Denotes, IsFaultAt}
+use Rattle.const_oid.specs.Private.Parser.{component_at, or_later, pieces_found, text_found, IsFaultAt, IsFoundAt}
+use Rattle.const_oid.specs.Text.{number_of, piece_fault, pieces_fault, pieces_of, text_answer, wrong_index, Denotes}
 use Rattle.const_oid.proofs.{Enough.{bytes_enough, size_text}, Lists.append-cons, Texts.text_fault-none}
 
 -- without the index
@@ -67,8 +67,11 @@ module _ (capacity : ℕ) where
 
 -- at a capacity of as many octets as the text has bytes
 module _ {capacity : ℕ} {text : List ℕ} {fault : Error} (room : length text ≤ capacity) where
+  pub not_length : {place : ℕ} → IsFaultAt capacity text fault place → fault ≢ Length
+  not_length is same = bytes_enough root_rule text capacity room (is.answer ∙ ap Err same)
+
   pub wrong_at : {place : ℕ} → IsFaultAt capacity text fault place → component_at text place ≡ wrong_index [] (pieces_of text)
-  wrong_at is = is.component (λ same. bytes_enough root_rule text capacity room (is.answer ∙ ap Err same))
+  wrong_at is = is.component (not_length is)
 
   pub not_denoted : text_answer root_rule text capacity ≡ Err fault → (arcs : List ℕ) → Denotes root_rule text arcs → ⊥
   not_denoted answer arcs denotes =

@@ -1,5 +1,5 @@
 -- Dotted text, and a text in an output. The components of a text are its pieces between the dots.
-use Rattle.std.specs.Prelude.{◌≡◌, ◌≢◌, ℕ, ◌-◌, ◌<◌, ◌≤◌, Bool, true, false, not, List, [], ◌∷◌, ◌++◌, length, map, count_by, take, drop, decimal, nat_lt, ◌==◌, if◌then◌else◌, Option, IfSome, MatchOption, Result, Err, take_while, find}
+use Rattle.std.specs.Prelude.{◌≡◌, ℕ, ◌-◌, ◌<◌, ◌≤◌, Bool, true, false, not, List, [], ◌∷◌, ◌++◌, length, map, take, drop, decimal, nat_lt, ◌==◌, if◌then◌else◌, Option, IfSome, MatchOption, Result, take_while, find}
 use Rattle.std.specs.Borrow.{Bor}
 use Rattle.std.specs.List.{slice_split, join_with_byte, AllByRecursion}
 use Rattle.std.specs.Str.{all_ascii_digits}
@@ -8,7 +8,7 @@ use Rattle.std.specs.Result.{result_map_both}
 use Rattle.std.specs.Char.{is_ascii_digit}
 use Rattle.std.specs.Str.Parse.{digits_value}
 use Rattle.const_oid.specs.declared.error.Error.{Error}
-use Rattle.const_oid.specs.declared.error.Error.TheVariants.{ArcTooBig, DigitExpected, Empty, Length, RepeatedDot, TrailingDot}
+use Rattle.const_oid.specs.declared.error.Error.TheVariants.{ArcTooBig, DigitExpected, Empty, RepeatedDot, TrailingDot}
 use Rattle.const_oid.specs.Contents.{octet_answer, borrowed_capacity}
 use Rattle.const_oid.specs.Identifier.{RootRule, root_rule, max_arc, size, IsIdentifier}
 use Rattle.const_oid.specs.Error.{fault_if, answer}
@@ -73,10 +73,6 @@ wrong_index before (piece ∷ after) =
     let arcs = before ++ number_of piece ∷ [] in
     option_map_or (λ _. length before) (piece_fault root_rule (size arcs) before piece after) (wrong_index arcs after)
 
--- the index of the component at a place that follows digits and dots: of these, only dots are below the digits
-abbrev pub component_at : List ℕ → ℕ → ℕ
-component_at text place = count_by (λ b. nat_lt b 48) (take place text)
-
 -- a piece is a number in digits
 abbrev pub IsNumber : List ℕ → Type 0
 IsNumber piece = (0 < length piece) × (all_ascii_digits piece ≡ true)
@@ -102,12 +98,6 @@ strip text = join_with_byte dot (map strip_piece (pieces_of text))
 -- what the text is read as at a capacity: its fault, or the numbers of its pieces
 abbrev pub text_answer : RootRule → List ℕ → ℕ → Result (List ℕ) Error
 text_answer rule text capacity = answer (text_fault rule text capacity) (map number_of (pieces_of text))
-
--- the text has the fault at a capacity, and the wrong component is at the place, unless its octets do not fit
-pub record IsFaultAt (capacity : ℕ) (text : List ℕ) (fault : Error) (place : ℕ) : Type 0 where
-  pub answer : text_answer root_rule text capacity ≡ Err fault
-  pub within : place ≤ length text
-  pub component : fault ≢ Length → component_at text place ≡ wrong_index [] (pieces_of text)
 
 -- the result is the length of a text, or of octets, or None exactly if it is longer than the output
 abbrev pub ReturnsLength : List ℕ → List ℕ → Option ℕ → Type 0

@@ -11,7 +11,7 @@ ghost use Rattle.const_oid.specs.Contents.{arcs_of_octets, cut, parts_fault, oct
 ghost use Rattle.const_oid.specs.Element.{element};
 ghost use Rattle.const_oid.specs.Identifier.{root_rule, default_capacity, IsEncoding};
 ghost use Rattle.const_oid.specs.Items.{item_answer};
-ghost use Rattle.const_oid.specs.Text.{component_at, pieces_of, text_answer, text_of, text_in, octet_text, wrong_index, Denotes, IsFaultAt, ReturnsLength, ReturnsText, WritesText};
+ghost use Rattle.const_oid.specs.Text.{pieces_of, text_answer, text_of, text_in, octet_text, wrong_index, Denotes, ReturnsLength, ReturnsText, WritesText};
 
 use crate::Arc;
 use crate::arcs::{Arcs, arc_at};
@@ -24,7 +24,9 @@ use crate::error::{Error, Result};
 use crate::fast::comparison::{are_equal, order};
 use crate::fast::lanes::count_below;
 use crate::fast::steps::run_of;
-use crate::parser::{ONE_PASS_BYTES, fault_of, parse_in_one_pass, parse_to, parse_to_inlined};
+use crate::parser::{
+    ONE_PASS_BYTES, fault_and_index, parse_in_one_pass, parse_to, parse_to_inlined,
+};
 use crate::parts::without_last_part;
 use crate::root::split_root;
 use crate::text::{text_len, write_checked, write_text};
@@ -421,32 +423,23 @@ impl<'a> ObjectIdentifierRef<'a> {
     ///
     /// # Errors
     ///
-    /// Those of [`new`](crate::ObjectIdentifier::new), each with a place for [`component_at`](Self::component_at), which
-    /// says nothing for [`Error::Length`].
+    /// Those of [`new`](crate::ObjectIdentifier::new), each with the index of the first wrong component, but
+    /// [`Error::Length`], whose index says nothing.
     #[tactic(auto, using(crate::proofs::Outputs::taken, crate::proofs::Encodings::none_from_encoding))]
     #[inline(always)]
     pub fn from_ascii_in_39(
         text: &[u8],
         out: &'a mut [u8; 39],
     ) -> result::Result<Self, (Error, usize)>
-        ensures answer { MatchResult result (λ oid. Ok (ref_arcs oid) ≡ text_answer root_rule text.now default_capacity)
-            (λ fault. IsFaultAt default_capacity text.now fault.0 fault.1) }
+        ensures answer { let answer = text_answer root_rule text.now default_capacity in
+            MatchResult result (λ oid. answer ≡ Ok (ref_arcs oid)) (λ fault. answer ≡ Err fault.0) }
+        ensures index { IfErr result (λ fault. fault.0 ≢ Error.Length → fault.1 ≡ wrong_index [] (pieces_of text.now)) }
         ensures start { IfOk result (λ oid. (ref_slice oid).ref_ptr ≡ out.entry.ref_ptr) }
     {
         match parse_to_inlined(text, out, 39) {
             Ok(len) => Ok(ObjectIdentifierRef::from_checked(&out[..len])),
-            Err(wrong) => Err(fault_of(text, wrong)),
+            Err(wrong) => Err(fault_and_index(text, wrong)),
         }
-    }
-
-    /// The index of the component that starts or ends at a place in a text, in bytes, or is there: how many dots are
-    /// before it. Before the place are digits and dots alone, as before that of an error.
-    #[cold]
-    #[inline(never)]
-    pub fn component_at(text: &[u8], place: usize) -> usize
-        ensures { result ≡ component_at text.now place }
-    {
-        count_below(&text[..place.min(text.len())], b'0')
     }
 
     /// The index of the first wrong component of dotted text, counted from 0, by the rules of
@@ -467,10 +460,7 @@ impl<'a> ObjectIdentifierRef<'a> {
     {
         match parse_to_inlined(text, &mut [], usize::MAX) {
             Ok(_) => None,
-            Err(wrong) => {
-                let (_, place) = fault_of(text, wrong);
-                Some(ObjectIdentifierRef::component_at(text, place))
-            }
+            Err(wrong) => Some(fault_and_index(text, wrong).1),
         }
     }
 

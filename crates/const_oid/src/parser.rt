@@ -3,15 +3,16 @@
 //! A text is read component by component; in names, one is a `piece`. If one is wrong, only an index is returned, and a
 //! function that is rarely called makes the error of it. So a valid text costs fewer instructions.
 
-ghost use Rattle.std.specs.Prelude.{◌≡◌, ◌≤◌, ℕ, drop, length, Err, IfErr, MatchResult};
+ghost use Rattle.std.specs.Prelude.{◌≡◌, ◌≢◌, ◌≤◌, ℕ, drop, length, Err, IfErr, MatchResult};
 ghost use Rattle.const_oid.specs.Private.Octets.{IsEncodedIn};
-ghost use Rattle.const_oid.specs.Private.Parser.{error_of, or_trailing, place_of, stop_fault, HasFault, IsFoundAt, IsPiece, IsRoot};
+ghost use Rattle.const_oid.specs.Private.Parser.{component_at, error_of, or_trailing, place_of, stop_fault, HasFault, IsFaultAt, IsFoundAt, IsPiece, IsRoot};
 ghost use Rattle.const_oid.specs.Identifier.{root_rule};
-ghost use Rattle.const_oid.specs.Text.{text_answer, IsFaultAt};
+ghost use Rattle.const_oid.specs.Text.{text_answer};
 
 use crate::Arc;
 use crate::base128::append_group;
 use crate::error::{Error, Result};
+use crate::fast::lanes::count_below;
 use crate::parts::copy_to;
 use crate::root::{check_first, join_root};
 use std::result;
@@ -35,6 +36,23 @@ pub(crate) const fn fault_of(text: &[u8], wrong: Wrong) -> (Error, usize)
         Wrong::Piece { start, index } => (piece_fault(text, start, index), index),
         Wrong::Value { fault, end } => (or_trailing_dot(fault, text, end), end),
     }
+}
+
+/// The error of a text, and the index of its component, which says nothing for `Length`.
+#[cold]
+#[inline(never)]
+pub(crate) fn fault_and_index(text: &[u8], wrong: Wrong) -> (Error, usize)
+    requires { place_of wrong ≤ length text.now }
+    ensures fault { result.0 ≡ error_of text.now wrong }
+    ensures index { result.0 ≢ Error.Length → result.1 ≡ component_at text.now (place_of wrong) }
+{
+    let (fault, place) = fault_of(text, wrong);
+    // Before the place are digits and dots alone, and only dots are below the digits.
+    let index = match fault {
+        Error::Length => 0,
+        _ => count_below(&text[..place], b'0'),
+    };
+    (fault, index)
 }
 
 /// `parse_to_inlined`, but not inlined: it is compiled once for all calls. An error has no place.

@@ -1,6 +1,6 @@
 //! Dotted text.
 ghost use Rattle.std.specs.Prelude.{◌≡◌, ◌≢◌, ◌≤◌, [], length, Err};
-ghost use Rattle.const_oid.specs.Text.{pieces_of, text_of, text_answer, wrong_index, IsFaultAt};
+ghost use Rattle.const_oid.specs.Text.{pieces_of, text_of, text_answer, wrong_index};
 ghost use Rattle.const_oid.specs.Identifier.{root_rule, default_capacity};
 ghost use Rattle.const_oid_c.specs.Status.{fault_at, max_len, output_status, output_after};
 ghost use Rattle.const_oid_c.specs.Results.{octets_of_ascii, octets_of_text, output_of, borrowed_answer};
@@ -25,17 +25,18 @@ pub extern "C" fn const_oid_from_text(text: &[u8], out: &mut [u8]) -> Status
     let mut octets = [0; 39];
     match ObjectIdentifierRef::from_ascii_in_39(text, &mut octets) {
         Ok(oid) => write_bytes(oid.as_bytes(), out),
-        Err((fault, place)) => write_after_fault(text, out, fault, place),
+        Err((fault, index)) => write_after_fault(text, out, fault, index),
     }
 }
 
-/// Writes the contents octets of the identifier that dotted text denotes, or reports why there is none. The fault and its
-/// place are those of the text at the default capacity.
+/// Writes the contents octets of the identifier that dotted text denotes, or reports why there is none, by the fault at
+/// the default capacity and the index of its component.
 #[tactic(auto, using(crate::proofs::Writes::texts, crate::proofs::Capacities::same_text))]
 #[cold]
 #[inline(never)]
-fn write_after_fault(text: &[u8], out: &mut [u8], fault: Error, place: usize) -> Status
-    requires { IsFaultAt default_capacity text.now fault place }
+fn write_after_fault(text: &[u8], out: &mut [u8], fault: Error, index: usize) -> Status
+    requires fault { text_answer root_rule text.now default_capacity ≡ Err fault }
+    requires index { fault ≢ Error.Length → index ≡ wrong_index [] (pieces_of text.now) }
     ensures status { result ≡ output_status (length out.old) (octets_of_text text.now) }
     ensures written { out.new ≡ output_after out.old (octets_of_text text.now) }
 {
@@ -46,7 +47,7 @@ fn write_after_fault(text: &[u8], out: &mut [u8], fault: Error, place: usize) ->
     // At a greater capacity, only `Length` can become another result.
     match fault {
         Error::Length => write_past_39_octets(text, out),
-        other => fault_at(ObjectIdentifierRef::component_at(text, place), other),
+        other => fault_at(index, other),
     }
 }
 

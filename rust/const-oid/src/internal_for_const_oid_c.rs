@@ -6,7 +6,7 @@ pub use crate::erased::{Arcs, Error, ObjectIdentifier, ObjectIdentifierRef, Oid,
 
 use crate::Arc;
 
-/// A result, or an error and its place in a text.
+/// A result, or an error and the index of its component of a text.
 pub type Placed<T> = core::result::Result<T, (Error, usize)>;
 
 /// Functions of borrowed identifiers.
@@ -27,7 +27,6 @@ calls! {
     bytes_from_ascii(text: &[u8], out: &mut [u8]) -> Result<usize>;
     bytes_len_from_arcs(arcs: &[Arc], limit: usize) -> Result<usize>;
     bytes_len_from_ascii(text: &[u8], limit: usize) -> Result<usize>;
-    component_at(text: &[u8], place: usize) -> usize;
     from_ascii_in_39<'a>(text: &[u8], out: &'a mut [u8; 39]) -> Placed<&'a ObjectIdentifierRef>;
     text_from_bytes(ber: &[u8], out: &mut [u8]) -> Option<Result<usize>>;
 }

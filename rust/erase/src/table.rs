@@ -83,7 +83,6 @@ pub const CRATES: &[Crate] = &[
             "oid_ref": "pub fn bytes_from_ascii" => "pub(crate) fn bytes_from_ascii", FOR_C;
             "oid_ref": "pub fn bytes_len_from_arcs" => "pub(crate) fn bytes_len_from_arcs", FOR_C;
             "oid_ref": "pub fn bytes_len_from_ascii" => "pub(crate) fn bytes_len_from_ascii", FOR_C;
-            "oid_ref": "pub fn component_at" => "pub(crate) fn component_at", FOR_C;
             "oid_ref": "pub fn from_ascii_in_39" => "pub(crate) fn from_ascii_in_39", FOR_C;
             "oid_ref": "pub fn text_from_bytes" => "pub(crate) fn text_from_bytes", FOR_C;
             "": "&ObjectIdentifierRef<'_>" => "&ObjectIdentifierRef", UNSIZED;
@@ -168,8 +167,6 @@ pub const CRATES: &[Crate] = &[
                 => "const_oid::internal_for_const_oid_c::text_from_bytes", FOR_C;
             "texts": "ObjectIdentifierRef::from_ascii_in_39"
                 => "const_oid::internal_for_const_oid_c::from_ascii_in_39", FOR_C;
-            "texts": "ObjectIdentifierRef::component_at"
-                => "const_oid::internal_for_const_oid_c::component_at", FOR_C;
             "texts": "ObjectIdentifierRef::bytes_len_from_ascii"
                 => "const_oid::internal_for_const_oid_c::bytes_len_from_ascii", FOR_C;
             "arcs": "ObjectIdentifierRef::bytes_len_from_arcs"

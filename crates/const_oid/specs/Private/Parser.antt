@@ -1,13 +1,13 @@
 -- What a parser finds of one component of a text, a piece, and of the first two.
-use Rattle.std.specs.Prelude.{◌≡◌, ℕ, ◌-◌, ◌*◌, ◌+◌, ◌<◌, ◌≤◌, ◌==◌, ◌&&◌, not, List, [], ◌∷◌, ◌++◌, length, drop, get_or}
+use Rattle.std.specs.Prelude.{◌≡◌, ◌≢◌, ℕ, ◌-◌, ◌*◌, ◌+◌, ◌<◌, ◌≤◌, ◌==◌, ◌&&◌, not, List, [], ◌∷◌, ◌++◌, length, count_by, drop, get_or, take}
 use Rattle.std.specs.Prelude.{nat_lt, if◌then◌else◌, Option, Some, None, Result, Ok, Err}
 use Rattle.std.specs.Char.{is_ascii_digit}
 use Rattle.const_oid.specs.declared.error.Error.{Error}
-use Rattle.const_oid.specs.declared.error.Error.TheVariants.{ArcTooBig, DigitExpected, Empty, RepeatedDot, TrailingDot}
+use Rattle.const_oid.specs.declared.error.Error.TheVariants.{ArcTooBig, DigitExpected, Empty, Length, RepeatedDot, TrailingDot}
 use Rattle.const_oid.specs.declared.parser.Wrong.{Wrong}
 use Rattle.const_oid.specs.declared.parser.Wrong.TheVariants.{Piece, Value}
 use Rattle.const_oid.specs.{Identifier.{root_rule, max_arc, max_second}, Items.{arc_fault, too_few_fault}}
-use Rattle.const_oid.specs.Text.{component_at, dot, is_empty, number_of, piece_fault, pieces_of, IsNumber}
+use Rattle.const_oid.specs.Text.{dot, is_empty, number_of, piece_fault, pieces_of, text_answer, wrong_index, IsNumber}
 
 -- a fault and the index of its piece, or else what comes later
 abbrev pub or_later : Option Error → ℕ → Result (List ℕ) (Error × ℕ) → Result (List ℕ) (Error × ℕ)
@@ -56,6 +56,16 @@ error_of text (Value fault end) = or_trailing fault (drop end text)
 abbrev pub place_of : Wrong → ℕ
 place_of (Piece start index) = index
 place_of (Value fault end) = end
+
+-- the index of the component at a place that follows digits and dots: of these, only dots are below the digits
+abbrev pub component_at : List ℕ → ℕ → ℕ
+component_at text place = count_by (λ b. nat_lt b 48) (take place text)
+
+-- the text has the fault at a capacity, and the wrong component is at the place, unless its octets do not fit
+pub record IsFaultAt (capacity : ℕ) (text : List ℕ) (fault : Error) (place : ℕ) : Type 0 where
+  pub answer : text_answer root_rule text capacity ≡ Err fault
+  pub within : place ≤ length text
+  pub component : fault ≢ Length → component_at text place ≡ wrong_index [] (pieces_of text)
 
 -- the first fault of a text at a capacity is that of the component at a place
 pub record IsFoundAt (capacity : ℕ) (text : List ℕ) (fault : Error) (place : ℕ) : Type 0 where

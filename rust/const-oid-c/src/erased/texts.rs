@@ -14,15 +14,15 @@ pub fn const_oid_from_text(text: &[u8], out: &mut crate::edge::Output<u8>) -> St
     let mut octets = [0; 39];
     match const_oid::internal_for_const_oid_c::from_ascii_in_39(text, &mut octets) {
         Ok(oid) => write_bytes(oid.as_bytes(), out),
-        Err((fault, place)) => write_after_fault(text, out, fault, place),
+        Err((fault, index)) => write_after_fault(text, out, fault, index),
     }
 }
 
-/// Writes the contents octets of the identifier that dotted text denotes, or reports why there is none. The fault and its
-/// place are those of the text at the default capacity.
+/// Writes the contents octets of the identifier that dotted text denotes, or reports why there is none, by the fault at
+/// the default capacity and the index of its component.
 #[cold]
 #[inline(never)]
-extern "C" fn write_after_fault(text: &[u8], out: &mut crate::edge::Output<u8>, fault: Error, place: usize) -> Status {
+extern "C" fn write_after_fault(text: &[u8], out: &mut crate::edge::Output<u8>, fault: Error, index: usize) -> Status {
     // The digits and dots of a valid text are ASCII, so only the others can fail to be UTF-8.
     if str::from_utf8(text).is_err() {
         return code_status(NOT_UTF8);
@@ -30,7 +30,7 @@ extern "C" fn write_after_fault(text: &[u8], out: &mut crate::edge::Output<u8>, 
     // At a greater capacity, only `Length` can become another result.
     match fault {
         Error::Length => write_past_39_octets(text, out),
-        other => fault_at(const_oid::internal_for_const_oid_c::component_at(text, place), other),
+        other => fault_at(index, other),
     }
 }
 

@@ -13,7 +13,7 @@ use crate::erased::error::{Error, Result};
 use crate::erased::fast::comparison::{are_equal, order};
 use crate::erased::fast::lanes::count_below;
 use crate::erased::fast::steps::run_of;
-use crate::erased::parser::{ONE_PASS_BYTES, fault_of, parse_in_one_pass, parse_to, parse_to_inlined};
+use crate::erased::parser::{ONE_PASS_BYTES, fault_and_index, parse_in_one_pass, parse_to, parse_to_inlined};
 use crate::erased::parts::without_last_part;
 use crate::erased::root::split_root;
 use crate::erased::text::{text_len, write_checked, write_text};
@@ -350,23 +350,14 @@ impl ObjectIdentifierRef {
     ///
     /// # Errors
     ///
-    /// Those of [`new`](crate::ObjectIdentifier::new), each with a place for [`component_at`](Self::component_at), which
-    /// says nothing for [`Error::Length`].
+    /// Those of [`new`](crate::ObjectIdentifier::new), each with the index of the first wrong component, but
+    /// [`Error::Length`], whose index says nothing.
     #[inline(always)]
     pub(crate) fn from_ascii_in_39<'a>(text: &[u8], out: &'a mut [u8; 39]) -> result::Result<&'a Self, (Error, usize)> {
         match parse_to_inlined(text, out, 39) {
             Ok(len) => Ok(ObjectIdentifierRef::from_checked(&out[..len])),
-            Err(wrong) => Err(fault_of(text, wrong)),
+            Err(wrong) => Err(fault_and_index(text, wrong)),
         }
-    }
-
-    /// The index of the component that starts or ends at a place in a text, in bytes, or is there: how many dots are
-    /// before it. Before the place are digits and dots alone, as before that of an error.
-    #[cold]
-    #[inline(never)]
-    #[must_use]
-    pub(crate) fn component_at(text: &[u8], place: usize) -> usize {
-        count_below(&text[..place.min(text.len())], b'0')
     }
 
     /// The index of the first wrong component of dotted text, counted from 0, by the rules of
@@ -385,10 +376,7 @@ impl ObjectIdentifierRef {
     pub fn wrong_component(text: &[u8]) -> Option<usize> {
         match parse_to_inlined(text, &mut [], usize::MAX) {
             Ok(_) => None,
-            Err(wrong) => {
-                let (_, place) = fault_of(text, wrong);
-                Some(ObjectIdentifierRef::component_at(text, place))
-            }
+            Err(wrong) => Some(fault_and_index(text, wrong).1),
         }
     }
 

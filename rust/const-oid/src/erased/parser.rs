@@ -8,6 +8,7 @@
 use crate::erased::Arc;
 use crate::erased::base128::append_group;
 use crate::erased::error::{Error, Result};
+use crate::erased::fast::lanes::count_below;
 use crate::erased::parts::copy_to;
 use crate::erased::root::{check_first, join_root};
 use core::result;
@@ -27,6 +28,19 @@ pub(crate) const fn fault_of(text: &[u8], wrong: Wrong) -> (Error, usize) {
         Wrong::Piece { start, index } => (piece_fault(text, start, index), index),
         Wrong::Value { fault, end } => (or_trailing_dot(fault, text, end), end),
     }
+}
+
+/// The error of a text, and the index of its component, which says nothing for `Length`.
+#[cold]
+#[inline(never)]
+pub(crate) fn fault_and_index(text: &[u8], wrong: Wrong) -> (Error, usize) {
+    let (fault, place) = fault_of(text, wrong);
+    // Before the place are digits and dots alone, and only dots are below the digits.
+    let index = match fault {
+        Error::Length => 0,
+        _ => count_below(&text[..place], b'0'),
+    };
+    (fault, index)
 }
 
 /// `parse_to_inlined`, but not inlined: it is compiled once for all calls. An error has no place.

@@ -1,6 +1,6 @@
 use Rattle.std.proofs.Common.{refl, sym, ◌∙◌, arith}
 use Rattle.const_oid.specs.Identifier.{root_rule}
-use Rattle.const_oid.proofs.{Texts.denoted_from_answer, WrongIndex.{not_denoted, wrong_at}}
+use Rattle.const_oid.proofs.{Texts.denoted_from_answer, WrongIndex.{not_denoted, not_length, wrong_at}}
 use Rattle.const_oid.proofs.oid_ref.ObjectIdentifierRef.wrong_component.Goals as goal
 
 pub returns-in-Ok-clause-none : goal.returns-in-Ok-clause-none
@@ -12,4 +12,7 @@ returns-in-Err-clause-none c =
     (λ none. absurd (cc), λ denoted. absurd (not_denoted (omega arith) c.in-Err.ensures.answer denoted.0 denoted.1))
 
 pub returns-in-Err-clause-index : goal.returns-in-Err-clause-index
-returns-in-Err-clause-index c = c.component_at.ensures ∙ rw c.fault_of-place.ensures.place (wrong_at (omega arith) c.in-Err.ensures)
+returns-in-Err-clause-index c =
+    let is = c.in-Err.ensures in
+    let found = c.fault_and_index.ensures in
+    found.index (λ same. not_length (omega arith) is (sym found.fault ∙ same)) ∙ wrong_at (omega arith) is
