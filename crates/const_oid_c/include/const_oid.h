@@ -125,7 +125,7 @@ enum const_oid_order {
  * - `len` is, on success, how many items the function wrote, read or counted, or the index that it found. With
  *   OUTPUT_TOO_SHORT it is how many items the result has. If const_oid_check_sorted finds a wrong item, or
  *   const_oid_from_text a wrong component, it is the index of the first one. With NONE from a search in a list, it is
- *   how many items the list has, and so the index of none of them. Otherwise it is 0. */
+ *   how many items the list has, and so the index of none of them. Otherwise it is 0, and no index. */
 typedef struct const_oid_status {
     uint32_t code;
     uint32_t detail;
@@ -277,7 +277,8 @@ CONST_OID_NODISCARD const_oid_status const_oid_check_sorted(const const_oid_octe
 /* The functions below do a binary search in a list that const_oid_check_sorted accepts. They check the identifier,
  * which may have any length, and return its code if it is invalid. They do not check the list. In another list, what
  * they find is unspecified, but it is within the list, and they read nothing else: indices are below `count`, and the
- * ends of a range at most `count`. `len` is the index of the item found. If there is none, it is `count`, with NONE. */
+ * ends of a range at most `count`. `len` is the index of the item found. If there is none, it is `count`, with NONE.
+ * With any other code `len` is 0, which is the index of an item: look at `code` first. */
 
 /* Finds the first item that is equal to an identifier. */
 CONST_OID_NODISCARD const_oid_status const_oid_find(
