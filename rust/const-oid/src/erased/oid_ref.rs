@@ -78,7 +78,8 @@ impl ObjectIdentifierRef {
     /// 10.1). Returns the identifier, or the error of the contents octets, and the octets after the element.
     ///
     /// Returns `None` if the octets begin with no such element: the tag is not 6, the length is indefinite or could be
-    /// in fewer octets, or not all contents octets are there.
+    /// in fewer octets, or not all contents octets are there. No octets are `None` too. So a loop over elements runs
+    /// `while !der.is_empty()`: `while let Some(..)` takes a wrong element for the end.
     ///
     /// # Errors
     ///
