@@ -5,21 +5,24 @@
 #include <algorithm>
 #include <cstdio>
 #include <string_view>
+#include <type_traits>
 #include <vector>
 
 static_assert(sizeof(const_oid_status) == 8 + sizeof(size_t), "a status has no other fields");
 
-// The octets of a constant, from C++14 on.
+// The octets of a constant, from C++14 on. They last as long as the object does, so a temporary one is refused.
 template <size_t N> struct known_octets {
     uint8_t octets[N - 1];
     constexpr known_octets(const char (&constant)[N]) : octets() {
         for (size_t i = 0; i < N - 1; i++) octets[i] = static_cast<uint8_t>(constant[i]);
     }
-    constexpr operator const_oid_octets() const { return {octets, N - 1}; }
+    constexpr operator const_oid_octets() const & { return {octets, N - 1}; }
+    operator const_oid_octets() const && = delete;
 };
 
-static constexpr known_octets<sizeof CONST_OID_RFC4519_CN> common_name{CONST_OID_RFC4519_CN};
-static_assert(const_oid_octets(common_name).len == 3 && const_oid_octets(common_name).octets[0] == 0x55, "2.5.4.3");
+static constexpr known_octets<sizeof CONST_OID_BAKE_BAKE> bake{CONST_OID_BAKE_BAKE};
+static_assert(const_oid_octets(bake).len == 8 && const_oid_octets(bake).octets[7] == 0x42, "1.2.112.0.2.0.34.101.66");
+static_assert(!std::is_convertible<known_octets<9>, const_oid_octets>::value, "the octets of a temporary do not last");
 
 using Octets = std::vector<uint8_t>;
 
