@@ -19,7 +19,7 @@
 
 #include "const_oid.h"
 
-/* The pointer and the length of an array of uint8_t. C++, gcc and clang reject a pointer, and any other array. */
+/* CONST_OID_ARRAY: an array of uint8_t and its length. C++, gcc and clang reject a pointer, and any other array. */
 #ifdef __cplusplus
 #define CONST_OID_OCTETS(constant) reinterpret_cast<const uint8_t *>("" constant ""), sizeof("" constant "") - 1
 #define CONST_OID_ARRAY(array) (array), sizeof(const_oid_array(array))
