@@ -35,6 +35,6 @@ abbrev pub tag : ℕ
 tag = 6
 
 -- the element of contents octets
--- a law ties it to IsLength, by length_octets: laws::unique_lengths
+-- for length_octets read IsLength, to which a law ties it: laws::unique_lengths
 abbrev pub element : List ℕ → List ℕ
 element contents = tag ∷ (length_octets (length contents) ++ contents)

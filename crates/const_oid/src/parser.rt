@@ -38,19 +38,27 @@ pub(crate) const fn fault_of(text: &[u8], wrong: Wrong) -> (Error, usize)
     }
 }
 
-/// The error of a text, and the index of its component, which says nothing for `Length`.
+/// The index of the component at a place, before which are digits and dots alone: only dots are below the digits.
 #[cold]
 #[inline(never)]
+fn component_at(text: &[u8], place: usize) -> usize
+    requires { place ≤ length text.now }
+    ensures { result ≡ component_at text.now place }
+{
+    count_below(&text[..place], b'0')
+}
+
+/// The error of a text, and the index of its component, which says nothing for `Length`.
+#[inline(always)]
 pub(crate) fn fault_and_index(text: &[u8], wrong: Wrong) -> (Error, usize)
     requires { place_of wrong ≤ length text.now }
     ensures fault { result.0 ≡ error_of text.now wrong }
     ensures index { result.0 ≢ Error.Length → result.1 ≡ component_at text.now (place_of wrong) }
 {
     let (fault, place) = fault_of(text, wrong);
-    // Before the place are digits and dots alone, and only dots are below the digits.
     let index = match fault {
         Error::Length => 0,
-        _ => count_below(&text[..place], b'0'),
+        _ => component_at(text, place),
     };
     (fault, index)
 }

@@ -20,7 +20,8 @@ const ROWS: &[(&[u8], &str)] = &[
 ];
 
 /// Whether a value prints as this text, its Debug texts have this name, and each failed write is reported, of Debug up
-/// to 300 bytes. A text of at most 160 bytes takes one write, and is printed under each option. One past 171 takes more.
+/// to 300 bytes. A text of at most 160 bytes takes one write, and is printed under each option. One past 171 takes
+/// more.
 fn prints_both<T: Copy + Debug + Display + Drop>(
     alloc: Global,
     value: T,

@@ -40,8 +40,8 @@ fn count_by_32(octets: &[u8], limit: u8) -> (usize, &[u8])
     (count, rest)
 }
 
-/// A count and how many of the first `COUNT` octets are below a limit, and the octets after them. If there are fewer, the
-/// count and all octets.
+/// A count and how many of the first `COUNT` octets are below a limit, and the octets after them. If there are fewer,
+/// the count and all octets.
 #[inline(always)]
 fn count_first<const COUNT: usize>(count: usize, octets: &[u8], limit: u8) -> (usize, &[u8])
     requires lanes { COUNT ≤ 64 }

@@ -362,8 +362,8 @@ impl ObjectIdentifierRef {
     }
 
     /// The index of the first wrong component of dotted text, counted from 0, by the rules of
-    /// [`new`](crate::ObjectIdentifier::new) for identifiers of any length. `None` exactly if the text denotes one. Of a
-    /// single component it is 0. Before a dot at the end, it is that of the component before the dot.
+    /// [`new`](crate::ObjectIdentifier::new) for identifiers of any length. `None` exactly if the text denotes one. A
+    /// single component has the index 0. If only a dot at the end is wrong, it is that of the component before it.
     ///
     /// # Examples
     ///

@@ -30,15 +30,20 @@ pub(crate) const fn fault_of(text: &[u8], wrong: Wrong) -> (Error, usize) {
     }
 }
 
-/// The error of a text, and the index of its component, which says nothing for `Length`.
+/// The index of the component at a place, before which are digits and dots alone: only dots are below the digits.
 #[cold]
 #[inline(never)]
+fn component_at(text: &[u8], place: usize) -> usize {
+    count_below(&text[..place], b'0')
+}
+
+/// The error of a text, and the index of its component, which says nothing for `Length`.
+#[inline(always)]
 pub(crate) fn fault_and_index(text: &[u8], wrong: Wrong) -> (Error, usize) {
     let (fault, place) = fault_of(text, wrong);
-    // Before the place are digits and dots alone, and only dots are below the digits.
     let index = match fault {
         Error::Length => 0,
-        _ => count_below(&text[..place], b'0'),
+        _ => component_at(text, place),
     };
     (fault, index)
 }
