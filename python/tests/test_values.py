@@ -98,6 +98,10 @@ class Index:
         return 999
 
 
+OfSystem = type("OfSystem", (OidError, OSError), {})
+Bare = type("Bare", (OidError,), {"__init__": lambda error, *args: None})
+
+
 def error_of(call, *given):
     """The error of a call, or None."""
     try:
@@ -411,6 +415,19 @@ class Values(unittest.TestCase):
         self.assertEqual("expected digit, got 'ÿ'", str(OidError(4, 255)))
         self.assertEqual("DIGIT_EXPECTED 256", str(OidError(4, 256)))
         self.assertEqual((None, None), (OidError(4, 120).piece, OidError(4, 120, "1.2").piece))
+
+    def test_fields_of_an_error_are_attributes(self):
+        """They may change, and are in vars and copies, also of a subclass with another base, or one that sets none."""
+        old = b"cconst_oid\nOidError\n(I1\nI40\ntR(dVcode\ncconst_oid\nCode\n(I3\ntRsVdetail\nI7\nsVgiven\nVx\nsb."
+        fields = {"code": Code.BASE128, "detail": 7, "given": "x"}
+        self.assertEqual(fields, vars(pickle.loads(old)))
+        for error, wanted in ((OidError(1, 40), fields), (OfSystem(1, 40), fields), (Bare(1, 40), {})):
+            error.__setstate__(wanted)
+            for other in [weakref.ref(error)(), copy.copy(error), *copies_of(error)]:
+                self.assertEqual((type(error), (1, 40), wanted), (type(other), other.args, vars(other)))
+            error.given = 1
+            del error.given
+            self.assertFalse(hasattr(error, "given"))
 
     def test_numbers_of_an_error_have_32_bits(self):
         for args in ((4, 2**32 + 120), (4, -1), (2**32 + 4, 120), (-1, 0), (4, 2**64 + 120)):

@@ -57,19 +57,11 @@ class OidError(ValueError):
     """
 
     __module__ = PUBLIC
-    __slots__ = {
-        "code": "Why: one of `const_oid.Code`, which are numbers.",
-        "detail": "The arc with `ARC_INVALID`, the byte with `DIGIT_EXPECTED`, and otherwise 0.",
-        "given": "The text, octets, arcs or arc that was passed, or None.",
-    }
 
     def __init__(self, code: int, detail: int = 0, given: object = None) -> None:
         super().__init__(code, detail)
         error_text(code, detail)  # an error if a number is out of range
         self.code, self.detail, self.given = Code(code), detail, given
-
-    def __reduce__(self) -> tuple[object, ...]:
-        return type(self), self.args, {**self.__dict__, "given": self.given}
 
     @property
     def piece(self) -> int | None:
@@ -98,6 +90,32 @@ class OidError(ValueError):
     def __repr__(self) -> str:
         given = "" if self.given is None else f", {SHOWN.repr(self.given)}"
         return f"{type(self).__name__}(Code.{self.code.name}, {self.detail}{given})"
+
+
+class _Field:
+    """Shows a field of an error in help and dir. The field is in vars(error), where it would be without this."""
+
+    def __init__(self, name: str, words: str) -> None:
+        self.name, self.__doc__ = name, words
+
+    def __get__(self, error: object, kind: type) -> Any:
+        if error is not None and self.name not in vars(error):
+            raise AttributeError(f"{kind.__name__!r} object has no attribute {self.name!r}")
+        return self if error is None else vars(error)[self.name]
+
+    def __set__(self, error: object, value: object) -> None:
+        vars(error)[self.name] = value
+
+    def __delete__(self, error: object) -> None:
+        del vars(error)[self.name]
+
+
+for _field in (
+    _Field("code", "Why: one of `const_oid.Code`, which are numbers."),
+    _Field("detail", "The arc with `ARC_INVALID`, the byte with `DIGIT_EXPECTED`, and otherwise 0."),
+    _Field("given", "The text, octets, arcs or arc that was passed, or None."),
+):
+    setattr(OidError, _field.name, _field)
 
 
 def _fault_of_element(octets: bytes) -> str:
