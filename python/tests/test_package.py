@@ -91,6 +91,11 @@ class Package(unittest.TestCase):
         others = bytes.fromhex("300206032A0304"), bytes.fromhex("1F1F1E") + bytes(30)
         for der in [*(whole[:end] for end in range(1, len(whole))), *others]:
             self.assertIsInstance(error_of(found, der), ValueError, der.hex())
+        deep = b"\6\1\x2a"
+        for _ in range(sys.getrecursionlimit()):
+            deep = b"\x30\x82" + len(deep).to_bytes(2) + deep
+        self.assertIs(RecursionError, type(error_of(found, deep)))
+        self.assertEqual([(len(deep) + 4, "1.2")], found(b"\4\x82" + len(deep).to_bytes(2) + deep + b"\6\1\x2a"))
 
     def test_numpy_takes_an_identifier_as_one_value(self):
         oids = [ObjectIdentifier("2.5.4"), ObjectIdentifier("2.5.6")]

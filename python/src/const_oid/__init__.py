@@ -7,8 +7,9 @@
 Contents octets have no tag and no length. In DER, such as that of a certificate, these come first: the tag of an
 identifier is 6. `from_der` and `read_der` take them. A walk over all values gives the place of each element with this
 tag, and its identifier or its error. It takes the contents of an OCTET STRING, such as an extension's, for DER if they
-can be read so. It finds no identifier in a BIT STRING or under an implicit tag, such as a registeredID. A value that
-goes on past what it is in, or a tag of several octets, ends it with a ValueError.
+can be read so. It finds no identifier in a BIT STRING, nor one whose own tag is implicit, as a registeredID's. A value
+that goes on past what it is in, or a tag of several octets, ends it with a ValueError, and values nested past Python's
+recursion limit with a RecursionError. An OCTET STRING with such contents is passed over.
 
 >>> import contextlib
 >>> def identifiers(der, place=0):
@@ -28,7 +29,7 @@ goes on past what it is in, or a tag of several octets, ends it with a ValueErro
 ...         elif der[0] & 32:  # a constructed value
 ...             yield from identifiers(value, place + start)
 ...         elif der[0] == 4:  # an OCTET STRING
-...             with contextlib.suppress(ValueError):
+...             with contextlib.suppress(ValueError, RecursionError):
 ...                 yield from list(identifiers(value, place + start))
 ...         der, place = after, place + len(element)
 >>> for place, found in identifiers(bytes.fromhex("301b 06062a9080808000 0603551d25 040c300a06082b06010505070301")):
