@@ -502,10 +502,11 @@ __init__ runs. Copies and pickles then also get the attributes.\n\
 'cn'");
 
 PyDoc_STRVAR(from_bytes_doc, "from_bytes($type, octets, /)\n--\n\n\
-Decodes contents octets: those after the tag and the length.\n\
+Decodes contents octets: those after the tag and the length. An element, or the bytes of a text, is read without\n\
+an error as another identifier: from_der takes an element, and ObjectIdentifier a text.\n\
 \n\
->>> ObjectIdentifier.from_bytes(b\"\\x2a\\x86\\x48\")\n\
-ObjectIdentifier('1.2.840')");
+>>> ObjectIdentifier.from_bytes(b\"\\x2a\\x86\\x48\"), ObjectIdentifier.from_bytes(b\"1.2\")\n\
+(ObjectIdentifier('1.2.840'), ObjectIdentifier('1.9.46.50'))");
 
 PyDoc_STRVAR(from_der_doc, "from_der($type, octets, /)\n--\n\n\
 Decodes a whole element of DER: the tag 6, the length and the contents octets, with nothing after them.\n\
