@@ -36,20 +36,16 @@ extern "C++" template <size_t N> char (&const_oid_array(const uint8_t (&array)[N
 @CONSTANTS@
 #define CONST_OID_NAMES_COUNT @COUNT@
 
-static const const_oid_octets const_oid_name_octets[CONST_OID_NAMES_COUNT] = {
-@OCTETS@};
+static const const_oid_octets const_oid_name_octets[CONST_OID_NAMES_COUNT] = {@OCTETS@};
 
-static const char *const const_oid_names[CONST_OID_NAMES_COUNT] = {
-@NAMES@};
+static const char *const const_oid_names[CONST_OID_NAMES_COUNT] = {@NAMES@};
 
 /* The indexes of the entries by a hash of their names, each in the first place that is free from its own on. Those with
  * one name are in the order of the table, and CONST_OID_NAMES_COUNT is in the places that are free. */
-static const uint16_t const_oid_names_by_hash[@PLACES@] = {
-@BY_NAME@};
+static const uint16_t const_oid_names_by_hash[@PLACES@] = {@BY_NAME@};
 
 /* The same by a hash of their octets. */
-static const uint16_t const_oid_octets_by_hash[@PLACES@] = {
-@BY_OCTETS@};
+static const uint16_t const_oid_octets_by_hash[@PLACES@] = {@BY_OCTETS@};
 
 static __inline int const_oid_lower_case(char letter) {
     return letter >= 'A' && letter <= 'Z' ? letter + ('a' - 'A') : letter;

@@ -1,6 +1,6 @@
 //! The table of names as a header of data for C.
 
-use crate::names::{Row, encoding, octets, rows};
+use crate::names::{Row, encoding, lines, octets, rows};
 use crate::token::Result;
 
 /// The rows of a table in `c_names.h`. Those of an identifier or of a name stay in the order of the table.
@@ -18,14 +18,14 @@ pub fn header(table: &str) -> Result<String> {
     let by_octets = sorted.iter().enumerate().map(|(index, (_, row))| (hash(encoding(&row.arcs).into_iter()), index));
     let constant = |row: &Row| format!("CONST_OID_{}_{}", row.module.to_uppercase(), row.constant);
     let define = |row: &Row| format!("#define {} \"{}\"\n", constant(row), octets(&row.arcs));
-    let item = |row: &Row| format!("    {{CONST_OID_OCTETS({})}},\n", constant(row));
-    let name = |row: &Row| format!("    {:?},\n", row.name);
+    let item = |row: &Row| format!("{{CONST_OID_OCTETS({})}},", constant(row));
+    let name = |row: &Row| format!("{:?},", row.name);
     let parts: [(&str, String); 8] = [
         ("@COUNT@", rows.len().to_string()),
         ("@ZEROS@", rows.iter().filter(|row| encoding(&row.arcs).contains(&0)).count().to_string()),
         ("@CONSTANTS@", rows.iter().map(define).collect()),
-        ("@OCTETS@", sorted.iter().map(|entry| item(entry.1)).collect()),
-        ("@NAMES@", sorted.iter().map(|entry| name(entry.1)).collect()),
+        ("@OCTETS@", lines(sorted.iter().map(|entry| item(entry.1)))),
+        ("@NAMES@", lines(sorted.iter().map(|entry| name(entry.1)))),
         ("@PLACES@", places.to_string()),
         ("@BY_NAME@", by_hash(by_name, rows.len(), places)),
         ("@BY_OCTETS@", by_hash(by_octets, rows.len(), places)),
@@ -41,9 +41,7 @@ fn by_hash(hashes: impl Iterator<Item = (u32, usize)>, free: usize, places: usiz
         let place = (hash as usize..).find(|place| by_hash[place % places] == free);
         by_hash[place.unwrap() % places] = index;
     }
-    let indexes: Vec<String> = by_hash.iter().map(usize::to_string).collect();
-    let line = |part: &[String]| format!("    {},\n", part.join(", "));
-    indexes.chunks(16).map(line).collect()
+    lines(by_hash.iter().map(|index| format!("{index},")))
 }
 
 /// The hash that `c_names.h` has: FNV-1a of 32 bits.
