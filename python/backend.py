@@ -30,11 +30,10 @@ HERE = pathlib.Path(__file__).resolve().parent
 # In a source archive, what a checkout has beside this folder is in it.
 TOP = HERE if (HERE / "PKG-INFO").exists() else HERE.parent
 CRATE = TOP / "rust/const-oid-c/Cargo.toml"
+HEADER = TOP / "crates/const_oid_c/include/const_oid.h"
 EXTENSION = "_native.abi3.so"
 SOURCES = ("__init__.py", "_native.pyi", "_support.py", "names.py", "py.typed", "sorted_map.py")
 LICENCES = ("LICENSE-APACHE", "LICENSE-MIT")
-PROJECT = tomllib.loads((HERE / "pyproject.toml").read_text(encoding="utf-8"))["project"]
-STEM = f"{PROJECT['name'].replace('-', '_')}-{PROJECT['version']}"
 ARCHIVED = ("backend.py", "pyproject.toml", "README.md", "src/native.c", *(f"src/const_oid/{name}" for name in SOURCES))
 ARCHIVED_OF_TOP = (*LICENCES, "crates/const_oid_c/include/*.h", "rust/const-oid/README.md", "rust/const-oid*/Cargo.*")
 ARCHIVED_OF_TOP += ("rust/const-oid*/*.rs", "rust/const-oid/examples/*.rs", "rust/const-oid*/src/**/*.rs")
@@ -47,6 +46,9 @@ if sysconfig.get_config_var("Py_GIL_DISABLED"):
     raise SystemExit("const-oid: a free-threaded Python has no stable ABI, for which the module is written")
 if not CRATE.exists():
     raise SystemExit(f"const-oid: there is no {CRATE}: install a checkout of the repository, or a source archive")
+PROJECT = tomllib.loads((HERE / "pyproject.toml").read_text(encoding="utf-8"))["project"]
+PROJECT["version"] = ".".join(re.findall(r"define CONST_OID_VERSION_\w+ (\d+)", HEADER.read_text(encoding="utf-8")))
+STEM = f"{PROJECT['name'].replace('-', '_')}-{PROJECT['version']}"
 
 
 def _output(*command):
@@ -80,7 +82,7 @@ def _built(temporary):
     folder = pathlib.Path(os.environ.get("CARGO_TARGET_DIR") or temporary)
     command = ["cargo", "build", "--quiet", "--release", "--locked", "--offline", "--target", host]
     _output(*command, "--target-dir", folder, "--manifest-path", CRATE)
-    return TOP / "crates/const_oid_c/include", folder / host / "release/libconst_oid_c.a"
+    return HEADER.parent, folder / host / "release/libconst_oid_c.a"
 
 
 def _installed():

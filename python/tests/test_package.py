@@ -133,8 +133,6 @@ class Package(unittest.TestCase):
         codes = dict(re.findall(r"CONST_OID_(\w+) = (\d+)", HEADER.split("enum const_oid_code")[1].split("}")[0]))
         self.assertEqual({code.name: str(int(code)) for code in const_oid.Code} | {"OK": "0"}, codes)
         version = ".".join(re.search(rf"VERSION_{part} (\d+)", HEADER)[1] for part in ("MAJOR", "MINOR", "PATCH"))
-        project = (TOP / "python/pyproject.toml").read_text(encoding="utf-8")
-        self.assertIn(f'\nversion = "{version}"\n', project)
         self.assertEqual(version, const_oid.__version__)
 
     def test_public_names(self):

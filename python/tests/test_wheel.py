@@ -14,7 +14,6 @@ import subprocess
 import sys
 import tarfile
 import tempfile
-import tomllib
 import unittest
 import zipfile
 from unittest import mock
@@ -22,7 +21,7 @@ from unittest import mock
 TOP = pathlib.Path(__file__).resolve().parents[2]
 sys.path.append(str(TOP / "python"))
 backend = importlib.import_module("backend")
-PROJECT = tomllib.loads((TOP / "python/pyproject.toml").read_text(encoding="utf-8"))["project"]
+PROJECT = backend.PROJECT
 STEM = f"const_oid-{PROJECT['version']}"
 PACKAGE = {"__init__.py", "_native.abi3.so", "_native.pyi", "_support.py", "names.py", "names.tsv", "py.typed"}
 PACKAGE.add("sorted_map.py")

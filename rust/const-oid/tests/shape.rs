@@ -214,7 +214,7 @@ fn setting(path: &str, name: &str) -> String {
     value.trim_matches([' ', '=', '"', 'u', 'U']).to_string()
 }
 
-/// The crate replaces const-oid 0.10.2, the library for C has the version of its header, and all are for the same Rust.
+/// The crate replaces const-oid 0.10.2, the first changes are of the header's version, and all are for the same Rust.
 #[test]
 fn packages_have_their_versions() {
     assert_eq!(setting("rust/const-oid/Cargo.toml", "version"), "0.10.2");
@@ -222,7 +222,8 @@ fn packages_have_their_versions() {
         assert_eq!(setting(&format!("rust/{package}/Cargo.toml"), "rust-version"), "1.85", "{package}");
     }
     let part = |part| setting("crates/const_oid_c/include/const_oid.h", &format!("#define CONST_OID_VERSION_{part} "));
-    assert_eq!(setting("rust/const-oid-c/Cargo.toml", "version"), ["MAJOR", "MINOR", "PATCH"].map(part).join("."));
+    let version = format!("C and Python {}", ["MAJOR", "MINOR", "PATCH"].map(part).join("."));
+    assert!(setting("rust/const-oid/CHANGELOG.md", "## rattle").ends_with(&version), "{version}");
 }
 
 /// What the compiler denies in this crate and in the library for C, whose generated functions have no unsafe code.
