@@ -1,4 +1,4 @@
-"""The package const_oid: its examples, the pages, the codes and version of the header, its names and its types."""
+"""The package const_oid: its examples, its page, the codes and version of the header, its names and its types."""
 import ast
 import contextlib
 import doctest
@@ -51,23 +51,23 @@ def installed(*names):
 
 
 class Package(unittest.TestCase):
-    def test_pages_print_their_comments(self):
-        """A line of a page that prints has what it prints as its comment, where what the block imports is installed."""
-        for page in ("README.md", "python/README.md"):
-            blocks = re.findall(r"^```python\n(.*?)^```", (TOP / page).read_text(encoding="utf-8"), re.M | re.S)
-            self.assertIn("import ObjectIdentifier", blocks[0])
-            variables = {}
-            for block in blocks:
-                with self.subTest(block):
-                    self.check_block(compile(block, page, "exec"), block, variables)
+    def test_the_page_prints_its_comments(self):
+        """A line of the page that prints has what it prints as its comment, where what the block imports is installed."""
+        page = (TOP / "python/README.md").read_text(encoding="utf-8")
+        blocks = re.findall(r"^```python\n(.*?)^```", page, re.M | re.S)
+        self.assertIn("import ObjectIdentifier", blocks[0])
+        variables = {}
+        for block in blocks:
+            with self.subTest(block):
+                self.check_block(block, variables)
 
-    def check_block(self, code, block, variables):
+    def check_block(self, block, variables):
         wanted = re.findall(r"^ *print\(.*\)\s+# (.*)$", block, re.M)
         self.assertTrue(0 < len(wanted) == block.count("print("))
         out = io.StringIO()
         try:
             with contextlib.redirect_stdout(out), installed():
-                exec(code, variables)
+                exec(block, variables)
         except ModuleNotFoundError as error:
             others = {"asn1crypto", "cryptography", "numpy", "pandas", "pyasn1", "pydantic"}
             self.assertIn(error.name.split(".")[0], others)
