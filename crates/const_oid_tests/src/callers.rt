@@ -2,16 +2,12 @@
 
 use crate::vectors::parse;
 use const_oid::db::{Database, SortedDatabase};
-use const_oid::{Arc, AssociatedOid, Error, ObjectIdentifierRef, Oid};
-use const_oid_uses::algorithms::{name_in, name_of};
-use const_oid_uses::constants::{EC_PUBLIC_KEY, is_ec_public_key, is_its_text};
-use const_oid_uses::generic::{child_in, printed, widened};
+use const_oid::{AssociatedOid, Error, ObjectIdentifierRef, Oid};
+use const_oid_uses::algorithms::name_of;
 use const_oid_uses::schema::{Attribute, CommonName, Country, find, has_type};
-use const_oid_uses::subtree::{is_under_any, range_of};
+use const_oid_uses::subtree::is_under_any;
 use const_oid_uses::table::{ATTRIBUTE_TYPES, indexed, is_attribute_type};
 use const_oid_uses::theorems;
-use std::alloc::{AllocError, Global};
-use std::cmp::Ordering;
 use std::test::Fail;
 
 /// rsaEncryption (RFC 8017).
@@ -36,7 +32,7 @@ fn is_read_again(rsa: Oid) -> bool {
 
 /// Whether the enterprises are the child 1 of this text.
 fn is_above_enterprises(text: &str) -> Result<bool, Error> {
-    let child = child_in(Oid::new(text)?.as_oid_ref(), 1)?;
+    let child = Oid::new(text)?.push_arc(1)?;
     Ok(
         theorems::is_enterprise(&child)
             && theorems::is_enterprise_number(&child.push_arc(8072)?.as_oid_ref()),
@@ -47,54 +43,12 @@ fn is_above_enterprises(text: &str) -> Result<bool, Error> {
 fn rsa_and_enterprises_have_their_relatives(rt: HostRuntime) -> Result<(), Fail> {
     let rsa = theorems::rsa_encryption();
     assert!(rt; is_known(rsa) && is_read_again(rsa));
-    assert!(rt; is_under_any(&EC_PUBLIC_KEY, &[rsa.as_oid_ref(), EC_PUBLIC_KEY]));
+    let key = Oid::new_unwrap("1.2.840.10045.2.1");
+    let roots = [key.as_oid_ref(), rsa.as_oid_ref()];
+    assert!(rt; is_under_any(&rsa.as_oid_ref(), &roots));
     assert!(rt; theorems::begins_with_element(&[0x06, 0x00]));
     assert!(rt; is_above_enterprises("1.3.6.1.4") == Ok(true));
     assert!(rt; theorems::through_text(rt.alloc(), rsa)? == Ok(rsa));
-    Ok(())
-}
-
-/// What both orders return is proved, and here it runs.
-#[test]
-fn a_prefix_is_less_in_both_orders(rt: HostRuntime) -> Result<(), Fail> {
-    let oid = Oid::new("1.3.6.1")?;
-    let below = Oid::new("1.3.6.1.4.1")?;
-    assert!(rt; below.starts_with(oid) && below != oid);
-    assert!(rt; theorems::both_orders(&oid, &below) == (Ordering::Less, Ordering::Less));
-    Ok(())
-}
-
-/// The text denotes the octets. The results of the first line are proved, and here they run.
-#[test]
-fn constants_have_their_texts_and_octets(rt: HostRuntime) -> Result<(), Fail> {
-    assert!(rt; is_its_text() && is_ec_public_key(&EC_PUBLIC_KEY));
-    assert!(rt; format!(in rt.alloc(); "{EC_PUBLIC_KEY}")?.as_str() == "1.2.840.10045.2.1");
-    Ok(())
-}
-
-/// The shortest text, and the longest of 39 octets: 2.47, and .127 for each octet that follows.
-#[test]
-fn prints_the_shortest_and_the_longest_text(rt: HostRuntime) -> Result<(), Fail> {
-    let mut out = [0; 156];
-    assert!(rt; printed(&Oid::new("0.0")?, &mut out) == "0.0");
-    let text = printed(&Oid::from_bytes(&[0x7F; 39])?, &mut out);
-    assert!(rt; text.len() == 156);
-    assert!(rt; text.starts_with("2.47.127.127."));
-    Ok(())
-}
-
-/// The last octet of a child in a capacity of ten octets.
-fn last_of_child(oid: ObjectIdentifierRef<'_>, arc: Arc) -> Result<Option<u8>, Error> {
-    Ok(child_in::<10>(oid, arc)?.as_bytes().last().copied())
-}
-
-#[test]
-fn a_child_fits_ten_octets_or_is_too_long(rt: HostRuntime) -> Result<(), Error> {
-    let oid = ObjectIdentifierRef::from_bytes(&RSA)?;
-    let wide = widened::<255>(&theorems::rsa_encryption())?;
-    assert!(rt; last_of_child(oid, 127) == Ok(Some(127)));
-    assert!(rt; last_of_child(oid, 128) == Err(Error::Length));
-    assert!(rt; oid.eq_oid(&wide));
     Ok(())
 }
 
@@ -141,7 +95,7 @@ fn the_table_has_each_row_and_no_other(rt: HostRuntime) -> Result<(), Fail> {
         assert!(rt; is_named(&oid.as_oid_ref(), name), "{name}");
         assert!(rt; is_attribute_type(&oid.as_oid_ref()), "{name}");
     }
-    assert!(rt; !is_attribute_type(&EC_PUBLIC_KEY));
+    assert!(rt; !is_attribute_type(&theorems::rsa_encryption().as_oid_ref()));
     Ok(())
 }
 
@@ -172,38 +126,5 @@ fn names_algorithms(rt: HostRuntime) -> Result<(), Fail> {
     for (octets, answer) in NAMED {
         assert!(rt; is_answered(&database, octets, answer), "{octets:?}");
     }
-    assert!(rt; name_in(&Database::new(&[]), &database, &rsa) == Some("rsaEncryption"));
-    Ok(())
-}
-
-/// Ten columns of a hundred rows, as a table of interfaces has them (RFC 2863), in no order.
-fn cells(alloc: Global) -> Result<Vec<Oid>, Fail> {
-    let mut cells = Vec::new(alloc);
-    for i in 0..1000u32 {
-        let index = (i * 37) % 1000;
-        let (column, row) = (index / 100 + 1, index % 100 + 1);
-        cells.push(Oid::from_arcs([1, 3, 6, 1, 2, 1, 2, 2, 1, column, row])?)?;
-    }
-    Ok(cells)
-}
-
-/// The borrowed forms of identifiers.
-fn borrowed(alloc: Global, owned: &[Oid]) -> Result<Vec<ObjectIdentifierRef<'_>>, AllocError> {
-    let mut oids = Vec::new(alloc);
-    for oid in owned {
-        oids.push(oid.as_oid_ref())?;
-    }
-    Ok(oids)
-}
-
-#[test]
-fn finds_a_column_of_a_thousand_sorted_cells(rt: HostRuntime) -> Result<(), Fail> {
-    let cells = cells(rt.alloc())?;
-    let mut oids = borrowed(rt.alloc(), &cells)?;
-    let third = Oid::new_unwrap("1.3.6.1.2.1.2.2.1.3");
-    let column = third.as_oid_ref();
-    assert!(rt; range_of(&oids, &column) == None);
-    oids.sort()?;
-    assert!(rt; range_of(&oids, &column) == Some((200, 300)));
     Ok(())
 }

@@ -1,11 +1,9 @@
 //! Names of algorithms (RFC 5280) by the contents octets of their identifiers.
 
 ghost use Rattle.std.specs.Prelude.{◌≡◌, Ok, Err, MatchResult};
-ghost use Rattle.std.specs.Option.{option_or};
 ghost use Rattle.const_oid.specs.Contents.{octet_answer};
 ghost use Rattle.const_oid.specs.Identifier.{root_rule};
 ghost use Rattle.const_oid.specs.Names.{entries_of, first_name, lent_arcs};
-ghost use Rattle.const_oid.specs.Oid.{oid_arcs};
 
 use const_oid::db::Database;
 use const_oid::{Error, Oid};
@@ -18,12 +16,4 @@ pub fn name_of<'a>(database: &Database<'a>, octets: &[u8]) -> Result<Option<&'a 
 {
     let oid = Oid::from_bytes(octets)?;
     Ok(database.by_oid(&oid))
-}
-
-/// The name in the first of two tables that has one. Both tables have the same lifetime.
-pub fn name_in<'a>(own: &Database<'a>, others: &Database<'a>, oid: &Oid) -> Option<&'a str>
-    ensures { result ≡ option_or (first_name lent_arcs (entries_of own.now) (oid_arcs oid.now))
-        (first_name lent_arcs (entries_of others.now) (oid_arcs oid.now)) }
-{
-    own.by_oid(oid).or(others.by_oid(oid))
 }

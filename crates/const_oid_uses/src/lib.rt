@@ -2,8 +2,6 @@
 #![tactic(auto)]
 
 pub mod algorithms;
-pub mod constants;
-pub mod generic;
 pub mod label;
 pub mod schema;
 pub mod subtree;

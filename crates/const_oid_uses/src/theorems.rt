@@ -1,8 +1,7 @@
 //! What callers want to know of identifiers, as contracts of small functions.
 
-ghost use Rattle.std.specs.Prelude.{◌≡◌, ◌≢◌, ◌<◌, ◌≤◌, ◌↔◌, ◌++◌, ℕ, List, [], ◌∷◌, drop, length, Some, IsTrue, IsSome};
+ghost use Rattle.std.specs.Prelude.{◌≡◌, ◌<◌, ◌≤◌, ◌↔◌, ◌++◌, ℕ, List, [], ◌∷◌, drop, length, Some, IsTrue, IsSome};
 ghost use Rattle.std.specs.Prelude.{IfOk, IfSome, IsOk, IsOkAnd, IsSomeAnd};
-ghost use Rattle.std.specs.declared.cmp.Ordering.TheVariants.{Less};
 ghost use Rattle.const_oid.specs.Element.{element};
 ghost use Rattle.const_oid.specs.Identifier.{size};
 ghost use Rattle.const_oid.specs.Oid.{oid_arcs};
@@ -11,7 +10,6 @@ ghost use Rattle.const_oid.specs.Tree.{BeginsWith, child_of, parent_of};
 
 use const_oid::{Arc, Error, ObjectIdentifier, ObjectIdentifierRef, Oid};
 use std::alloc::{AllocError, Global};
-use std::cmp::Ordering;
 
 /// rsaEncryption (RFC 8017), as text.
 const RSA_ENCRYPTION: &str = "1.2.840.113549.1.1.1";
@@ -64,16 +62,6 @@ pub fn child_of_parent(oid: Oid) -> Option<Result<Oid, Error>>
     let parent = oid.parent()?;
     let last = oid.arc(parent.len())?;
     Some(parent.push_arc(last))
-}
-
-/// Both orders put an identifier before others that begin with it.
-pub fn both_orders(oid: &Oid, below: &Oid) -> (Ordering, Ordering)
-    requires begins { BeginsWith (oid_arcs below.now) (oid_arcs oid.now) }
-    requires other { oid_arcs below.now ≢ oid_arcs oid.now }
-    ensures owned { result.0 ≡ Less }
-    ensures borrowed { result.1 ≡ Less }
-{
-    (oid.cmp(below), oid.as_oid_ref().cmp(&below.as_oid_ref()))
 }
 
 /// What is printed is read as the same identifier.
