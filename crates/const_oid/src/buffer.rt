@@ -27,7 +27,13 @@ use std::hash::{Hash, Hasher};
 /// # Examples
 ///
 /// ```
-/// assert_eq!(size_of::<const_oid::Buffer<39>>(), 40);
+/// use const_oid::Buffer;
+///
+/// assert_eq!(size_of::<Buffer<39>>(), 40);
+///
+/// const fn are_equal(a: &Buffer<39>, b: &Buffer<39>) -> bool {
+///     a.len() == b.as_bytes().len() && a.eq(b)
+/// }
 /// ```
 #[derive(Copy, Clone)]
 pub struct Buffer<const SIZE: usize> {
@@ -144,14 +150,6 @@ impl<const SIZE: usize> Buffer<SIZE> {
     }
 
     /// The octets in use.
-    ///
-    /// # Examples
-    ///
-    /// ```
-    /// fn octets<const SIZE: usize>(buffer: &const_oid::Buffer<SIZE>) -> &[u8] {
-    ///     buffer.as_bytes()
-    /// }
-    /// ```
     // erase: const
     pub fn as_bytes(&self) -> &[u8]
         ensures { result.now ≡ buffer_octets self.now }
@@ -162,14 +160,6 @@ impl<const SIZE: usize> Buffer<SIZE> {
     }
 
     /// How many octets are in use.
-    ///
-    /// # Examples
-    ///
-    /// ```
-    /// fn is_empty<const SIZE: usize>(buffer: &const_oid::Buffer<SIZE>) -> bool {
-    ///     buffer.len() == 0
-    /// }
-    /// ```
     pub const fn len(&self) -> usize
         ensures value { result ≡ length (buffer_octets self.now) }
         ensures fits { result ≤ min SIZE 255 }
@@ -200,14 +190,6 @@ impl<const SIZE: usize> Buffer<SIZE> {
     }
 
     /// Whether the octets in use are equal.
-    ///
-    /// # Examples
-    ///
-    /// ```
-    /// const fn are_equal(a: &const_oid::Buffer<39>, b: &const_oid::Buffer<39>) -> bool {
-    ///     a.eq(b)
-    /// }
-    /// ```
     // Whole arrays are compared, since zeros follow in both.
     // erase: const
     #[inline(always)]

@@ -202,16 +202,8 @@ impl<'a> Database<'a> {
     }
 }
 
-/// An iterator over the names of an identifier, in the order of the table.
-///
-/// # Examples
-///
-/// ```
-/// use const_oid::db::{DB, Names, rfc4519};
-///
-/// let mut names: Names<'static> = DB.find_names_for_oid(rfc4519::CN);
-/// assert_eq!(names.next(), Some("cn"));
-/// ```
+/// An iterator over the names of an identifier, in the order of the table. [`Database::find_names_for_oid`] has an
+/// example.
 #[derive(Drop)]
 pub struct Names<'a> {
     database: Database<'a>,

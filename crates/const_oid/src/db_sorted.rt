@@ -99,6 +99,7 @@ impl<'a> SortedDatabase<'a> {
     /// use const_oid::db::{SORTED, rfc4519};
     ///
     /// assert_eq!(SORTED.by_oid(&rfc4519::CN), Some("cn"));
+    /// assert_eq!(SORTED.by_name("CN"), Some(rfc4519::CN.as_oid_ref()));
     /// ```
     pub fn by_oid(&self, oid: &ObjectIdentifierRef<'_>) -> Option<&'a str>
         ensures { result ≡ first_name ref_arcs (sorted_entries_of self.now) (ref_arcs oid.now) }
@@ -108,15 +109,7 @@ impl<'a> SortedDatabase<'a> {
     }
 
     /// The identifier in the first entry with this name, ignoring ASCII case, or `None` if there is no such entry. All
-    /// entries up to it are read.
-    ///
-    /// # Examples
-    ///
-    /// ```
-    /// use const_oid::db::{SORTED, rfc4519};
-    ///
-    /// assert_eq!(SORTED.by_name("CN"), Some(rfc4519::CN.as_oid_ref()));
-    /// ```
+    /// entries up to it are read. [`by_oid`](Self::by_oid) has an example.
     pub fn by_name(&self, name: &str) -> Option<ObjectIdentifierRef<'a>>
         ensures { result ≡ first_oid (sorted_entries_of self.now) name.now }
     {

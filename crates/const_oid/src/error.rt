@@ -78,13 +78,7 @@ impl Error {
     ghost use Rattle.const_oid.specs.Error.{message_of};
     ghost use Rattle.const_oid.specs.Private.Text.{detail_text};
 
-    /// The length in bytes of the text that `{}` writes.
-    ///
-    /// # Examples
-    ///
-    /// ```
-    /// assert_eq!(const_oid::Error::Length.text_len(), 18);
-    /// ```
+    /// The length in bytes of the text that `{}` writes. [`encode_text`](Self::encode_text) has an example.
     #[tactic(auto, using(crate::proofs::Printed::parts_long))]
     #[inline]
     pub fn text_len(self) -> usize
@@ -104,6 +98,7 @@ impl Error {
     /// let mut out = [0; 32];
     /// let len = const_oid::Error::Length.encode_text(&mut out).unwrap();
     /// assert_eq!(&out[..len], b"OID length invalid");
+    /// assert_eq!(const_oid::Error::Length.text_len(), len);
     /// ```
     #[inline(always)]
     pub fn encode_text(self, out: &mut [u8]) -> Option<usize>

@@ -379,7 +379,7 @@ impl<const MAX_SIZE: usize> ObjectIdentifier<MAX_SIZE> {
     }
 
     /// The length in octets of the element that [`write_element`](Self::write_element) writes.
-    /// [`ObjectIdentifierRef::element_len`] has an example.
+    /// [`ObjectIdentifierRef::write_element`] has an example.
     // erase: const
     pub fn element_len(&self) -> usize
         ensures { result ≡ length (element (oid_octets self.now)) }
@@ -409,7 +409,7 @@ impl<const MAX_SIZE: usize> ObjectIdentifier<MAX_SIZE> {
         self.as_oid_ref().write_element(out)
     }
 
-    /// The arc at an index, counted from 0, or `None` past the last one. [`ObjectIdentifierRef::arc`] has an example.
+    /// The arc at an index, counted from 0, or `None` past the last one. [`ObjectIdentifierRef::arcs`] has an example.
     pub fn arc(&self, index: usize) -> Option<Arc>
         ensures { result ≡ slice_get (oid_arcs self.now) index }
     {
@@ -423,14 +423,14 @@ impl<const MAX_SIZE: usize> ObjectIdentifier<MAX_SIZE> {
         self.as_oid_ref().arcs()
     }
 
-    /// The number of arcs, two or more. [`ObjectIdentifierRef::len`] has an example.
+    /// The number of arcs, two or more. [`ObjectIdentifierRef::arcs`] has an example.
     pub fn len(&self) -> usize
         ensures { result ≡ length (oid_arcs self.now) }
     {
         self.as_oid_ref().len()
     }
 
-    /// The length in bytes of the text that `{}` writes. [`ObjectIdentifierRef::text_len`] has an example.
+    /// The length in bytes of the text that `{}` writes. [`ObjectIdentifierRef::encode_text`] has an example.
     pub fn text_len(&self) -> usize
         ensures { result ≡ length (text_of (oid_arcs self.now)) }
     {

@@ -152,15 +152,7 @@ impl<'a> ObjectIdentifierRef<'a> {
         self.ber
     }
 
-    /// The length in octets of the element that [`write_element`](Self::write_element) writes.
-    ///
-    /// # Examples
-    ///
-    /// ```
-    /// let oid = const_oid::ObjectIdentifierRef::from_bytes(&[0x88, 0x37, 0x03])?;
-    /// assert_eq!(oid.element_len(), 5);
-    /// # Ok::<(), const_oid::Error>(())
-    /// ```
+    /// The length in octets of the element that [`write_element`](Self::write_element) writes, which has an example.
     // erase: const
     #[inline]
     pub fn element_len(&self) -> usize
@@ -178,7 +170,7 @@ impl<'a> ObjectIdentifierRef<'a> {
     /// ```
     /// let oid = const_oid::ObjectIdentifierRef::from_bytes(&[0x88, 0x37, 0x03])?;
     /// let mut out = [0; 6];
-    /// assert_eq!(oid.write_element(&mut out), Some(5));
+    /// assert_eq!((oid.element_len(), oid.write_element(&mut out)), (5, Some(5)));
     /// assert_eq!(out, [0x06, 0x03, 0x88, 0x37, 0x03, 0x00]);
     /// # Ok::<(), const_oid::Error>(())
     /// ```
@@ -192,15 +184,7 @@ impl<'a> ObjectIdentifierRef<'a> {
         write_element(self.ber, out)
     }
 
-    /// The arc at an index, counted from 0, or `None` past the last one.
-    ///
-    /// # Examples
-    ///
-    /// ```
-    /// let oid = const_oid::ObjectIdentifierRef::from_bytes(&[0x88, 0x37, 0x03])?;
-    /// assert_eq!((oid.arc(2), oid.arc(3)), (Some(3), None));
-    /// # Ok::<(), const_oid::Error>(())
-    /// ```
+    /// The arc at an index, counted from 0, or `None` past the last one. [`arcs`](Self::arcs) has an example.
     #[inline]
     pub fn arc(&self, index: usize) -> Option<Arc>
         ensures { result ≡ slice_get (ref_arcs self.now) index }
@@ -215,6 +199,7 @@ impl<'a> ObjectIdentifierRef<'a> {
     /// ```
     /// let oid = const_oid::ObjectIdentifierRef::from_bytes(&[0x88, 0x37, 0x03])?;
     /// assert!(oid.arcs().eq([2, 999, 3]));
+    /// assert_eq!((oid.len(), oid.arc(2), oid.arc(3)), (3, Some(3), None));
     /// # Ok::<(), const_oid::Error>(())
     /// ```
     pub fn arcs(&self) -> Arcs<'a>
@@ -223,15 +208,7 @@ impl<'a> ObjectIdentifierRef<'a> {
         Arcs::new(self.ber)
     }
 
-    /// The number of arcs, two or more.
-    ///
-    /// # Examples
-    ///
-    /// ```
-    /// let oid = const_oid::ObjectIdentifierRef::from_bytes(&[0x88, 0x37, 0x03])?;
-    /// assert_eq!(oid.len(), 3);
-    /// # Ok::<(), const_oid::Error>(())
-    /// ```
+    /// The number of arcs, two or more. [`arcs`](Self::arcs) has an example.
     #[inline]
     pub fn len(&self) -> usize
         ensures { result ≡ length (ref_arcs self.now) }
@@ -240,14 +217,7 @@ impl<'a> ObjectIdentifierRef<'a> {
     }
 
     /// The length in bytes of the text that `{}` writes, or `usize::MAX` if it is greater than that.
-    ///
-    /// # Examples
-    ///
-    /// ```
-    /// let oid = const_oid::ObjectIdentifierRef::from_bytes(&[0x88, 0x37, 0x03])?;
-    /// assert_eq!(oid.text_len(), 7);
-    /// # Ok::<(), const_oid::Error>(())
-    /// ```
+    /// [`encode_text`](Self::encode_text) has an example.
     #[inline]
     pub fn text_len(&self) -> usize
         ensures { result ≡ min (length (text_of (ref_arcs self.now))) usize.MAX }
@@ -263,7 +233,7 @@ impl<'a> ObjectIdentifierRef<'a> {
     /// ```
     /// let oid = const_oid::ObjectIdentifierRef::from_bytes(&[0x88, 0x37, 0x03])?;
     /// let mut out = [0; 8];
-    /// assert_eq!(oid.encode_text(&mut out), Some(7));
+    /// assert_eq!((oid.text_len(), oid.encode_text(&mut out)), (7, Some(7)));
     /// assert_eq!(&out, b"2.999.3\0");
     /// # Ok::<(), const_oid::Error>(())
     /// ```

@@ -19,7 +19,13 @@ use core::hash::{Hash, Hasher};
 /// # Examples
 ///
 /// ```
-/// assert_eq!(size_of::<const_oid::Buffer<39>>(), 40);
+/// use const_oid::Buffer;
+///
+/// assert_eq!(size_of::<Buffer<39>>(), 40);
+///
+/// const fn are_equal(a: &Buffer<39>, b: &Buffer<39>) -> bool {
+///     a.len() == b.as_bytes().len() && a.eq(b)
+/// }
 /// ```
 #[derive(Copy, Clone, PartialEq, Eq)]
 pub struct Buffer<const SIZE: usize> {
@@ -96,14 +102,6 @@ impl<const SIZE: usize> Buffer<SIZE> {
     }
 
     /// The octets in use.
-    ///
-    /// # Examples
-    ///
-    /// ```
-    /// fn octets<const SIZE: usize>(buffer: &const_oid::Buffer<SIZE>) -> &[u8] {
-    ///     buffer.as_bytes()
-    /// }
-    /// ```
     #[must_use]
     pub const fn as_bytes(&self) -> &[u8] {
         // The lesser of both is `used`. So the compiler sees that it is in range, and makes no panic.
@@ -112,14 +110,6 @@ impl<const SIZE: usize> Buffer<SIZE> {
     }
 
     /// How many octets are in use.
-    ///
-    /// # Examples
-    ///
-    /// ```
-    /// fn is_empty<const SIZE: usize>(buffer: &const_oid::Buffer<SIZE>) -> bool {
-    ///     buffer.len() == 0
-    /// }
-    /// ```
     #[must_use]
     pub const fn len(&self) -> usize {
         self.used as usize
@@ -146,14 +136,6 @@ impl<const SIZE: usize> Buffer<SIZE> {
     }
 
     /// Whether the octets in use are equal.
-    ///
-    /// # Examples
-    ///
-    /// ```
-    /// const fn are_equal(a: &const_oid::Buffer<39>, b: &const_oid::Buffer<39>) -> bool {
-    ///     a.eq(b)
-    /// }
-    /// ```
     // Whole arrays are compared, since zeros follow in both.
     #[inline(always)]
     #[must_use]

@@ -83,6 +83,7 @@ impl<'a> SortedDatabase<'a> {
     /// use const_oid::db::{SORTED, rfc4519};
     ///
     /// assert_eq!(SORTED.by_oid(&rfc4519::CN), Some("cn"));
+    /// assert_eq!(SORTED.by_name("CN"), Some(rfc4519::CN.as_oid_ref()));
     /// ```
     #[must_use]
     pub fn by_oid(&self, oid: &ObjectIdentifierRef) -> Option<&'a str> {
@@ -91,15 +92,7 @@ impl<'a> SortedDatabase<'a> {
     }
 
     /// The identifier in the first entry with this name, ignoring ASCII case, or `None` if there is no such entry. All
-    /// entries up to it are read.
-    ///
-    /// # Examples
-    ///
-    /// ```
-    /// use const_oid::db::{SORTED, rfc4519};
-    ///
-    /// assert_eq!(SORTED.by_name("CN"), Some(rfc4519::CN.as_oid_ref()));
-    /// ```
+    /// entries up to it are read. [`by_oid`](Self::by_oid) has an example.
     #[must_use]
     pub fn by_name(&self, name: &str) -> Option<&'a ObjectIdentifierRef> {
         let mut entries = self.entries.iter();

@@ -74,13 +74,7 @@ pub enum Error {
 const MAX_TEXT_LEN: usize = 47;
 
 impl Error {
-    /// The length in bytes of the text that `{}` writes.
-    ///
-    /// # Examples
-    ///
-    /// ```
-    /// assert_eq!(const_oid::Error::Length.text_len(), 18);
-    /// ```
+    /// The length in bytes of the text that `{}` writes. [`encode_text`](Self::encode_text) has an example.
     #[inline]
     #[must_use]
     pub fn text_len(self) -> usize {
@@ -97,6 +91,7 @@ impl Error {
     /// let mut out = [0; 32];
     /// let len = const_oid::Error::Length.encode_text(&mut out).unwrap();
     /// assert_eq!(&out[..len], b"OID length invalid");
+    /// assert_eq!(const_oid::Error::Length.text_len(), len);
     /// ```
     #[inline(always)]
     #[must_use]

@@ -305,7 +305,7 @@ impl<const MAX_SIZE: usize> ObjectIdentifier<MAX_SIZE> {
     }
 
     /// The length in octets of the element that [`write_element`](Self::write_element) writes.
-    /// [`ObjectIdentifierRef::element_len`] has an example.
+    /// [`ObjectIdentifierRef::write_element`] has an example.
     #[must_use]
     pub const fn element_len(&self) -> usize {
         self.as_oid_ref().element_len()
@@ -329,7 +329,7 @@ impl<const MAX_SIZE: usize> ObjectIdentifier<MAX_SIZE> {
         self.as_oid_ref().write_element(out)
     }
 
-    /// The arc at an index, counted from 0, or `None` past the last one. [`ObjectIdentifierRef::arc`] has an example.
+    /// The arc at an index, counted from 0, or `None` past the last one. [`ObjectIdentifierRef::arcs`] has an example.
     #[must_use]
     pub fn arc(&self, index: usize) -> Option<Arc> {
         self.as_oid_ref().arc(index)
@@ -341,13 +341,13 @@ impl<const MAX_SIZE: usize> ObjectIdentifier<MAX_SIZE> {
         self.as_oid_ref().arcs()
     }
 
-    /// The number of arcs, two or more. [`ObjectIdentifierRef::len`] has an example.
+    /// The number of arcs, two or more. [`ObjectIdentifierRef::arcs`] has an example.
     #[must_use]
     pub fn len(&self) -> usize {
         self.as_oid_ref().len()
     }
 
-    /// The length in bytes of the text that `{}` writes. [`ObjectIdentifierRef::text_len`] has an example.
+    /// The length in bytes of the text that `{}` writes. [`ObjectIdentifierRef::encode_text`] has an example.
     #[must_use]
     pub fn text_len(&self) -> usize {
         self.as_oid_ref().text_len()

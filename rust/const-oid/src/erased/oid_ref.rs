@@ -124,15 +124,7 @@ impl ObjectIdentifierRef {
         &self.ber
     }
 
-    /// The length in octets of the element that [`write_element`](Self::write_element) writes.
-    ///
-    /// # Examples
-    ///
-    /// ```
-    /// let oid = const_oid::ObjectIdentifierRef::from_bytes(&[0x88, 0x37, 0x03])?;
-    /// assert_eq!(oid.element_len(), 5);
-    /// # Ok::<(), const_oid::Error>(())
-    /// ```
+    /// The length in octets of the element that [`write_element`](Self::write_element) writes, which has an example.
     #[inline]
     #[must_use]
     pub const fn element_len(&self) -> usize {
@@ -148,7 +140,7 @@ impl ObjectIdentifierRef {
     /// ```
     /// let oid = const_oid::ObjectIdentifierRef::from_bytes(&[0x88, 0x37, 0x03])?;
     /// let mut out = [0; 6];
-    /// assert_eq!(oid.write_element(&mut out), Some(5));
+    /// assert_eq!((oid.element_len(), oid.write_element(&mut out)), (5, Some(5)));
     /// assert_eq!(out, [0x06, 0x03, 0x88, 0x37, 0x03, 0x00]);
     /// # Ok::<(), const_oid::Error>(())
     /// ```
@@ -158,15 +150,7 @@ impl ObjectIdentifierRef {
         write_element(self.as_bytes(), out)
     }
 
-    /// The arc at an index, counted from 0, or `None` past the last one.
-    ///
-    /// # Examples
-    ///
-    /// ```
-    /// let oid = const_oid::ObjectIdentifierRef::from_bytes(&[0x88, 0x37, 0x03])?;
-    /// assert_eq!((oid.arc(2), oid.arc(3)), (Some(3), None));
-    /// # Ok::<(), const_oid::Error>(())
-    /// ```
+    /// The arc at an index, counted from 0, or `None` past the last one. [`arcs`](Self::arcs) has an example.
     #[inline]
     #[must_use]
     pub fn arc(&self, index: usize) -> Option<Arc> {
@@ -180,6 +164,7 @@ impl ObjectIdentifierRef {
     /// ```
     /// let oid = const_oid::ObjectIdentifierRef::from_bytes(&[0x88, 0x37, 0x03])?;
     /// assert!(oid.arcs().eq([2, 999, 3]));
+    /// assert_eq!((oid.len(), oid.arc(2), oid.arc(3)), (3, Some(3), None));
     /// # Ok::<(), const_oid::Error>(())
     /// ```
     #[must_use]
@@ -187,15 +172,7 @@ impl ObjectIdentifierRef {
         Arcs::new(self.as_bytes())
     }
 
-    /// The number of arcs, two or more.
-    ///
-    /// # Examples
-    ///
-    /// ```
-    /// let oid = const_oid::ObjectIdentifierRef::from_bytes(&[0x88, 0x37, 0x03])?;
-    /// assert_eq!(oid.len(), 3);
-    /// # Ok::<(), const_oid::Error>(())
-    /// ```
+    /// The number of arcs, two or more. [`arcs`](Self::arcs) has an example.
     #[inline]
     #[must_use]
     pub fn len(&self) -> usize {
@@ -203,14 +180,7 @@ impl ObjectIdentifierRef {
     }
 
     /// The length in bytes of the text that `{}` writes, or `usize::MAX` if it is greater than that.
-    ///
-    /// # Examples
-    ///
-    /// ```
-    /// let oid = const_oid::ObjectIdentifierRef::from_bytes(&[0x88, 0x37, 0x03])?;
-    /// assert_eq!(oid.text_len(), 7);
-    /// # Ok::<(), const_oid::Error>(())
-    /// ```
+    /// [`encode_text`](Self::encode_text) has an example.
     #[inline]
     #[must_use]
     pub fn text_len(&self) -> usize {
@@ -225,7 +195,7 @@ impl ObjectIdentifierRef {
     /// ```
     /// let oid = const_oid::ObjectIdentifierRef::from_bytes(&[0x88, 0x37, 0x03])?;
     /// let mut out = [0; 8];
-    /// assert_eq!(oid.encode_text(&mut out), Some(7));
+    /// assert_eq!((oid.text_len(), oid.encode_text(&mut out)), (7, Some(7)));
     /// assert_eq!(&out, b"2.999.3\0");
     /// # Ok::<(), const_oid::Error>(())
     /// ```
