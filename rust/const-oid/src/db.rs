@@ -9,7 +9,7 @@ pub use crate::erased::db::Names;
 pub use crate::erased::db::SortedDatabase;
 
 use crate::arcs::write_items;
-use crate::erased::links::links_of;
+use crate::erased::links::{Key, links_of};
 use crate::{ObjectIdentifier, ObjectIdentifierRef};
 use core::fmt;
 use core::iter::FusedIterator;
@@ -120,8 +120,8 @@ macro_rules! names {
             [$($((&$module::$constant, $name),)*)*];
 
         /// A link for each entry of [`DB`], and some 500 slots.
-        static OID_LINKS: [u16; 2000] = links_of(&ENTRIES, false);
-        static NAME_LINKS: [u16; 2000] = links_of(&ENTRIES, true);
+        static OID_LINKS: [u16; 2000] = links_of(&ENTRIES, Key::Oid);
+        static NAME_LINKS: [u16; 2000] = links_of(&ENTRIES, Key::Name);
     };
 }
 

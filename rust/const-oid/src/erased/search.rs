@@ -60,8 +60,8 @@ pub fn subtree_of<T: Contents>(items: &[T], oid: &ObjectIdentifierRef) -> (usize
     (from, from + inside)
 }
 
-/// The index of the item with the longest prefix of an identifier, which may be all of it, or `None` if the list has no
-/// prefix. If several items have it, the first.
+/// The index of the first item with the longest prefix of an identifier, which may be the identifier itself, or `None` if
+/// the list has no prefix.
 #[must_use]
 pub fn nearest_of<T: Contents>(items: &[T], oid: &ObjectIdentifierRef) -> Option<usize> {
     let mut above = oid;
@@ -70,8 +70,8 @@ pub fn nearest_of<T: Contents>(items: &[T], oid: &ObjectIdentifierRef) -> Option
             Ok(index) => return Some(index),
             Err(index) => index,
         };
-        // An item that it begins with comes before it, so the last item before it begins with that one, too. Often it is
-        // that one, which saves a second search.
+        // A prefix of `above` that the list has is also one of the last item before `above`, so their common prefix is looked
+        // for next. Often that is the last item itself, which saves a second search.
         let before = items[..index].last()?.contents();
         above = common_prefix(above.parent()?, before)?;
         if is_first_at(items, &above, index - 1) {
