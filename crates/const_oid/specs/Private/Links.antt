@@ -3,9 +3,7 @@ use Rattle.std.specs.Prelude.{◌≡◌, ℕ, ◌+◌, ◌-◌, ◌*◌, ◌%◌
 use Rattle.std.specs.Borrow.{Bor}
 use Rattle.std.specs.List.{fold, position_or_len, HoldsAt}
 use Rattle.std.specs.Int.Bits.{bit_or}
-use Rattle.const_oid.specs.declared.links.Key.{Key}
-use Rattle.const_oid.specs.declared.links.Key.TheVariants.{Oid, Name}
-use Rattle.const_oid.specs.declared.oid.ObjectIdentifier.{ObjectIdentifier}
+use Rattle.const_oid.specs.declared.{links.Key.{Key, TheVariants.{Oid, Name}}, oid.ObjectIdentifier.ObjectIdentifier}
 use Rattle.const_oid.specs.Oid.{oid_octets}
 
 -- a hash and one byte more, in which the bit of ASCII case is set

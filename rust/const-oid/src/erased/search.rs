@@ -33,10 +33,7 @@ pub fn end_of<T: Contents>(items: &[T], oid: &ObjectIdentifierRef) -> usize {
 /// The index of the first item with the arcs of an identifier, or `None` if no item has them.
 #[must_use]
 pub fn first_of<T: Contents>(items: &[T], oid: &ObjectIdentifierRef) -> Option<usize> {
-    match find(items, oid) {
-        Ok(index) => Some(index),
-        Err(_) => None,
-    }
+    find(items, oid).ok()
 }
 
 /// The index of the first item with the arcs of an identifier, or `Err` with the index at which the identifier would be
@@ -81,11 +78,11 @@ pub fn nearest_of<T: Contents>(items: &[T], oid: &ObjectIdentifierRef) -> Option
 }
 
 /// Whether the item at an index has the octets of an identifier, and the one before it has not.
-fn is_first_at<T: Contents>(items: &[T], oid: &ObjectIdentifierRef, at: usize) -> bool {
-    if !has_octets(&items[at], oid) {
+fn is_first_at<T: Contents>(items: &[T], oid: &ObjectIdentifierRef, index: usize) -> bool {
+    if !has_octets(&items[index], oid) {
         return false;
     }
-    at == 0 || !has_octets(&items[at - 1], oid)
+    index == 0 || !has_octets(&items[index - 1], oid)
 }
 
 /// The longest identifier that begins an identifier and other octets, or `None` if there is none.
