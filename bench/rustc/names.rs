@@ -23,8 +23,8 @@ pub fn sum(side: &str, row: &str, count: u32, times: usize) -> usize {
     let rows: Vec<_> = (0..count).map(|index| (item(row, index), format!("name-{index}"))).collect();
     let entries: Vec<_> = rows.iter().map(|(oid, name)| (oid, &**name)).collect();
     let lent: Vec<_> = entries.iter().map(|(oid, name)| (oid.as_oid_ref(), *name)).collect();
-    let (scanned, mut place) = (Database::new(&entries), vec![0; 4 * entries.len()]);
-    let (indexed, sorted) = (scanned.indexed(&mut place), SortedDatabase::try_new(&lent).unwrap());
+    let (scanned, mut memory) = (Database::new(&entries), vec![0; 4 * entries.len()]);
+    let (indexed, sorted) = (scanned.indexed(&mut memory), SortedDatabase::try_new(&lent).unwrap());
     let map = || entries.iter().copied().collect::<Map<_, _>>();
     let (oids, names) = (map(), entries.iter().map(|(oid, name)| (*name, *oid)).collect::<Map<_, _>>());
 

@@ -5,7 +5,7 @@ use Rattle.std.specs.{Char.to_ascii_lowercase, Cmp.Lexicographic.pointwise, Int.
 use Rattle.std.proofs.lemmas.{Slice.Eq.bytes_eq-Decides, Bool.{cases_Bool, cases_eq, cases_lt, eqb-true, eq-eqb, ne_eqb}, Grind.common_steps, Nat.Bits.and_pow, Str.Ascii.lowercase_is}
 use Rattle.std.proofs.lemmas.List.{drop-drop, get_or-drop, get_or_default, length-drop, Sums.{passes_at_first, prefix_len-le-length}}
 use Rattle.const_oid.specs.Private.Links.{AreLinks, AreLinksFrom, IsInSlot, first_by, hash_of, hash_step, in_slot, key_of}
-use Rattle.const_oid.specs.declared.db.Names.{Names}
+use Rattle.const_oid.specs.declared.{db.Names.Names, links.Key.TheVariants.{Oid, Name}}
 use Rattle.const_oid.specs.declared.oid.ObjectIdentifier.{ObjectIdentifier}
 use Rattle.const_oid.specs.{Names.{Entry, has_arcs, has_name, lent_arcs}, Oid.{oid_arcs, oid_octets}}
 use Rattle.const_oid.proofs.Encodings.{oid_encoding, same_octets}
@@ -160,7 +160,7 @@ same_bytes : (a b : List ℕ) → pointwise nat_eq a b ≡ true → a ≡ b
 same_bytes a b same = grind (arith, bytes_eq-Decides a b)
 
 pub same_oids : (oid : ObjectIdentifier 39) (entry : Entry (Bor (ObjectIdentifier 39)))
-    → has_arcs lent_arcs (oid_arcs oid) entry ≡ true → hash_of (key_of false entry) ≡ hash_of (oid_octets oid)
+    → has_arcs lent_arcs (oid_arcs oid) entry ≡ true → hash_of (key_of Oid entry) ≡ hash_of (oid_octets oid)
 same_oids oid entry same =
     let arcs = same_bytes (lent_arcs entry.0) (oid_arcs oid) same in
     ap hash_of (same_octets (rw arcs at (oid_encoding entry.0.now)) (oid_encoding oid))
@@ -176,7 +176,7 @@ same_hash [] hash = refl
 same_hash (byte ∷ bytes) hash = rw (with_bit byte) (same_hash bytes (hash_step hash (to_ascii_lowercase byte)))
 
 pub same_names : (name : List ℕ) (entry : Entry (Bor (ObjectIdentifier 39)))
-    → has_name name entry ≡ true → hash_of (key_of true entry) ≡ hash_of name
+    → has_name name entry ≡ true → hash_of (key_of Name entry) ≡ hash_of name
 unfolding hash_of
 same_names name entry same =
     same_hash entry.1.now 0 ∙ ap (fold hash_step 0) (same_bytes (str_to_ascii_lowercase entry.1.now) (str_to_ascii_lowercase name) same)
@@ -187,6 +187,6 @@ pub next_name : (names : Names) (next : ℕ)
     → (let entries = names.database.entries.now in let links = names.database.oid_links.now in
     names.index < length entries
     → record { linked : length entries < length links → next ≡ get_or links names.index 0; scanned : length links ≤ length entries → next ≡ names.index + 1 }
-    → Leads (key_of false) (has_arcs lent_arcs (oid_arcs names.oid)) entries links (oid_octets names.oid) (names.index + 1) next)
+    → Leads (key_of Oid) (has_arcs lent_arcs (oid_arcs names.oid)) entries links (oid_octets names.oid) (names.index + 1) next)
 next_name names next below ensures =
     goes_on _ _ _ _ _ (same_oids names.oid) names.database.by_oid names.index next below ensures.linked ensures.scanned names.in_slot

@@ -4,13 +4,14 @@ ghost use Rattle.std.specs.Prelude.{◌≡◌, ◌≤◌, length, nat_eq, true, 
 ghost use Rattle.std.specs.Cmp.Lexicographic.{pointwise};
 ghost use Rattle.std.specs.Iterator.{YieldsFirst, item_count};
 ghost use Rattle.std.proofs.Props.{props};
+ghost use Rattle.const_oid.specs.declared.links.Key.{Key};
 ghost use Rattle.const_oid.specs.Oid.{oid_arcs, oid_octets};
 ghost use Rattle.const_oid.specs.Private.Links.{AreLinks, IsInSlot, key_of};
 
 use crate::compare::is_same_name;
 pub use crate::db_sorted::SortedDatabase;
 use crate::error::Result;
-use crate::links::{first_link, links_in, next_link};
+use crate::links::{Entry, Key, first_candidate, links_in, next_candidate};
 use crate::oid::Oid;
 
 /// A table of identifiers and their names, in any order. An identifier may have several names, and a name several
@@ -30,19 +31,19 @@ use crate::oid::Oid;
 /// ```
 #[derive(Copy, Clone)]
 pub struct Database<'a> {
-    entries: &'a [(&'a Oid, &'a str)],
-    /// Links by identifier, and by name, or none.
+    entries: &'a [Entry<'a>],
+    // Links by identifier, and by name. With no links, such a lookup reads all entries.
     oid_links: &'a [u16],
     name_links: &'a [u16],
-    ghost by_oid: { AreLinks (key_of false) entries.now oid_links.now } by { Prim.hlevel props },
-    ghost by_name: { AreLinks (key_of true) entries.now name_links.now } by { Prim.hlevel props },
+    ghost by_oid: { AreLinks (key_of Key.Oid) entries.now oid_links.now } by { Prim.hlevel props },
+    ghost by_name: { AreLinks (key_of Key.Name) entries.now name_links.now } by { Prim.hlevel props },
 }
 
 impl<'a> Database<'a> {
     ghost use Rattle.const_oid.specs.Names.{lent_arcs, entries_of, first_name, resolve_answer, all_names, first_oid, names_left};
 
     /// A database over these entries. [`Database`] has an example.
-    pub const fn new(entries: &'a [(&'a Oid, &'a str)]) -> Self
+    pub const fn new(entries: &'a [Entry<'a>]) -> Self
         ensures { entries_of result ≡ entries.now }
     {
         Database {
@@ -52,10 +53,10 @@ impl<'a> Database<'a> {
         }
     }
 
-    /// The database with links of its entries.
+    /// The database with links of its entries. Only the cargo crate calls this: for `DB`.
     pub(crate) const fn linked(self, oid_links: &'a [u16], name_links: &'a [u16]) -> Self
-        requires by_oid { AreLinks (key_of false) (entries_of self) oid_links.now }
-        requires by_name { AreLinks (key_of true) (entries_of self) name_links.now }
+        requires by_oid { AreLinks (key_of Key.Oid) (entries_of self) oid_links.now }
+        requires by_name { AreLinks (key_of Key.Name) (entries_of self) name_links.now }
         ensures { entries_of result ≡ entries_of self.entry }
     {
         Database {
@@ -79,23 +80,25 @@ impl<'a> Database<'a> {
     ///
     /// const CN: ObjectIdentifier = ObjectIdentifier::new_unwrap("2.5.4.3");
     /// let entries = [(&CN, "cn"), (&CN, "commonName")];
-    /// let mut place = [0; 9];
-    /// let names = Database::new(&entries).indexed(&mut place);
+    /// let mut memory = [0; 9];
+    /// let names = Database::new(&entries).indexed(&mut memory);
     /// assert_eq!(names.by_name("commonname"), Some(&CN));
     /// ```
-    pub fn indexed(self, place: &'a mut [u16]) -> Self
+    pub fn indexed(self, memory: &'a mut [u16]) -> Self
         ensures { entries_of result ≡ entries_of self.entry }
     {
-        let len = if place.len() / 3 > self.entries.len() {
-            place.len() / 2
+        // An index with a slot for every two entries is fast. If half of the memory is too short for one, all is for the index
+        // by identifier, which has more slots then.
+        let len = if memory.len() / 3 > self.entries.len() {
+            memory.len() / 2
         } else {
-            place.len()
+            memory.len()
         };
-        let (by_oid, by_name) = place.split_at_mut(len);
+        let (by_oid, by_name) = memory.split_at_mut(len);
         Database {
             entries: self.entries,
-            oid_links: links_in(self.entries, false, self.oid_links, by_oid),
-            name_links: links_in(self.entries, true, self.name_links, by_name),
+            oid_links: links_in(self.entries, Key::Oid, self.oid_links, by_oid),
+            name_links: links_in(self.entries, Key::Name, self.name_links, by_name),
         }
     }
 
@@ -119,13 +122,13 @@ impl<'a> Database<'a> {
         ensures { result ≡ first_name lent_arcs (entries_of self.now) (oid_arcs oid.now) }
     {
         let count = self.entries.len();
-        let mut index = first_link(self.oid_links, count, oid.as_bytes());
+        let mut index = first_candidate(self.oid_links, count, oid.as_bytes());
         while index < count {
             let entry = &self.entries[index];
             if has_oid(entry, oid) {
                 return Some(entry.1);
             }
-            index = next_link(self.oid_links, count, index);
+            index = next_candidate(self.oid_links, count, index);
         }
         None
     }
@@ -143,18 +146,18 @@ impl<'a> Database<'a> {
         ensures { result ≡ first_oid (entries_of self.now) name.now }
     {
         let count = self.entries.len();
-        let mut index = first_link(self.name_links, count, name.as_bytes());
+        let mut index = first_candidate(self.name_links, count, name.as_bytes());
         while index < count {
             let entry = &self.entries[index];
             if is_same_name(entry.1, name) {
                 return Some(entry.0);
             }
-            index = next_link(self.name_links, count, index);
+            index = next_candidate(self.name_links, count, index);
         }
         None
     }
 
-    /// All names of this identifier, in the order of the table. A name in several of these entries comes once for each.
+    /// The names in all entries with this identifier, in the order of the table, one for each entry.
     ///
     /// # Examples
     ///
@@ -171,7 +174,7 @@ impl<'a> Database<'a> {
     {
         Names {
             database: *self,
-            index: first_link(self.oid_links, self.entries.len(), oid.as_bytes()),
+            index: first_candidate(self.oid_links, self.entries.len(), oid.as_bytes()),
             oid,
         }
     }
@@ -211,7 +214,7 @@ pub struct Names<'a> {
     index: usize,
     oid: Oid,
     ghost within: { index ≤ length database.entries.now },
-    ghost in_slot: { IsInSlot (key_of false) database.entries.now database.oid_links.now (oid_octets oid) index } by { Prim.hlevel props },
+    ghost in_slot: { IsInSlot (key_of Key.Oid) database.entries.now database.oid_links.now (oid_octets oid) index } by { Prim.hlevel props },
 }
 
 impl<'a> Iterator for Names<'a> {
@@ -232,7 +235,7 @@ impl<'a> Iterator for Names<'a> {
                 ..
             } = self.database;
             let entry = &entries[self.index];
-            self.index = next_link(oid_links, entries.len(), self.index);
+            self.index = next_candidate(oid_links, entries.len(), self.index);
             if has_oid(entry, &self.oid) {
                 return Some(entry.1);
             }
@@ -242,7 +245,7 @@ impl<'a> Iterator for Names<'a> {
 }
 
 /// Whether an entry has this identifier.
-const fn has_oid(entry: &(&Oid, &str), oid: &Oid) -> bool
+const fn has_oid(entry: &Entry<'_>, oid: &Oid) -> bool
     ensures { result ≡ pointwise nat_eq (oid_arcs entry.now.0.now) (oid_arcs oid.now) }
 {
     entry.0.eq_by_octet(oid)

@@ -11,7 +11,7 @@ ghost use Rattle.std.specs.Ordering.{nat_cmp, is_lt};
 ghost use Rattle.const_oid.specs.Names.{IsNearestBy};
 ghost use Rattle.const_oid.specs.OidRef.{ref_arcs, ref_octets};
 ghost use Rattle.const_oid.specs.Private.Prefixes.{IsCommonPrefix};
-ghost use Rattle.const_oid.specs.SortedList.{IsSortedList, has_item_arcs, item_arcs};
+ghost use Rattle.const_oid.specs.SortedList.{IsSortedList, IsStart, has_item_arcs, item_arcs};
 ghost use Rattle.const_oid.specs.Tree.{BeginsWith};
 
 pub use crate::compare::order_by_parts;
@@ -34,9 +34,7 @@ pub trait Contents {
 /// The index of the first item that does not come before an identifier, or the number of items if there is none.
 pub fn start_of<T: Contents>(items: &[T], oid: &ObjectIdentifierRef<'_>) -> usize
     ensures within { result ≤ length items.now }
-    ensures cut { IsSortedList T.octets_of items.now
-        → IsPartitionPoint (λ item. is_lt (slice_cmp nat_cmp (item_arcs T.octets_of item) (ref_arcs oid.now)) ≡ true)
-        (λ item. is_lt (slice_cmp nat_cmp (item_arcs T.octets_of item) (ref_arcs oid.now)) ≡ false) items.now result }
+    ensures cut { IsSortedList T.octets_of items.now → IsStart T.octets_of items.now (ref_arcs oid.now) result }
 {
     items.partition_point(|item| order_by_parts(item.contents(), oid.as_bytes()).is_lt())
 }
@@ -56,10 +54,7 @@ pub fn first_of<T: Contents>(items: &[T], oid: &ObjectIdentifierRef<'_>) -> Opti
     ensures found { IsSortedList T.octets_of items.now → result ≡ position (has_item_arcs T.octets_of (ref_arcs oid.now)) items.now }
     ensures within { IfSome result (λ index. index < length items.now) }
 {
-    match find(items, oid) {
-        Ok(index) => Some(index),
-        Err(_) => None,
-    }
+    find(items, oid).ok()
 }
 
 /// The index of the first item with the arcs of an identifier, or `Err` with the index at which the identifier would be
@@ -69,8 +64,7 @@ fn find<T: Contents>(items: &[T], oid: &ObjectIdentifierRef<'_>) -> result::Resu
         → IfOk result (λ index. Some index ≡ position (has_item_arcs T.octets_of (ref_arcs oid.now)) items.now) }
     ensures absent { IsSortedList T.octets_of items.now
         → IfErr result (λ index. (None ≡ position (has_item_arcs T.octets_of (ref_arcs oid.now)) items.now)
-        × IsPartitionPoint (λ item. is_lt (slice_cmp nat_cmp (item_arcs T.octets_of item) (ref_arcs oid.now)) ≡ true)
-        (λ item. is_lt (slice_cmp nat_cmp (item_arcs T.octets_of item) (ref_arcs oid.now)) ≡ false) items.now index) }
+        × IsStart T.octets_of items.now (ref_arcs oid.now) index) }
     ensures within { MatchResult result (λ index. index < length items.now) (λ index. index ≤ length items.now) }
 {
     let index = start_of(items, oid);
@@ -105,8 +99,8 @@ pub fn subtree_of<T: Contents>(items: &[T], oid: &ObjectIdentifierRef<'_>) -> (u
     (from, from + inside)
 }
 
-/// The index of the item with the longest prefix of an identifier, which may be all of it, or `None` if the list has no
-/// prefix. If several items have it, the first.
+/// The index of the first item with the longest prefix of an identifier, which may be the identifier itself, or `None` if
+/// the list has no prefix.
 pub fn nearest_of<T: Contents>(items: &[T], oid: &ObjectIdentifierRef<'_>) -> Option<usize>
     ensures found { IsSortedList T.octets_of items.now → IfSome result (λ index.
         IfSome (slice_get items.now index) (IsNearestBy (item_arcs T.octets_of) items.now (ref_arcs oid.now))) }
@@ -121,8 +115,8 @@ pub fn nearest_of<T: Contents>(items: &[T], oid: &ObjectIdentifierRef<'_>) -> Op
             Ok(index) => return Some(index),
             Err(index) => index,
         };
-        // An item that it begins with comes before it, so the last item before it begins with that one, too. Often it is
-        // that one, which saves a second search.
+        // A prefix of `above` that the list has is also one of the last item before `above`, so their common prefix is looked
+        // for next. Often that is the last item itself, which saves a second search.
         let before = items[..index].last()?.contents();
         above = common_prefix(above.parent()?, before)?;
         if is_first_at(items, &above, index - 1) {
@@ -132,15 +126,15 @@ pub fn nearest_of<T: Contents>(items: &[T], oid: &ObjectIdentifierRef<'_>) -> Op
 }
 
 /// Whether the item at an index has the octets of an identifier, and the one before it has not.
-fn is_first_at<T: Contents>(items: &[T], oid: &ObjectIdentifierRef<'_>, at: usize) -> bool
-    requires { at < length items.now }
+fn is_first_at<T: Contents>(items: &[T], oid: &ObjectIdentifierRef<'_>, index: usize) -> bool
+    requires { index < length items.now }
     ensures { IsSortedList T.octets_of items.now → IsTrue result
-        → Some at ≡ position (has_item_arcs T.octets_of (ref_arcs oid.now)) items.now }
+        → Some index ≡ position (has_item_arcs T.octets_of (ref_arcs oid.now)) items.now }
 {
-    if !has_octets(&items[at], oid) {
+    if !has_octets(&items[index], oid) {
         return false;
     }
-    at == 0 || !has_octets(&items[at - 1], oid)
+    index == 0 || !has_octets(&items[index - 1], oid)
 }
 
 /// The longest identifier that begins an identifier and other octets, or `None` if there is none.

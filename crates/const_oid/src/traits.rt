@@ -1,6 +1,6 @@
 //! Identifiers of types and of values.
 
-ghost use Rattle.std.specs.Prelude.{◌≡◌, ◌≢◌, ◌<◌, ◌↔◌, ℕ, List, length, All, IfSome, IfNone, IsTrue};
+ghost use Rattle.std.specs.Prelude.{◌≡◌, ◌≢◌, ◌<◌, ℕ, List, length, All, IfSome, IfNone};
 ghost use Rattle.std.specs.List.{HoldsAt, AllWithin};
 ghost use Rattle.const_oid.specs.Oid.{oid_arcs};
 
@@ -37,24 +37,17 @@ impl<T: AssociatedOid> DynAssociatedOid for T {
 
 /// The first index, counted from 0, whose value has this identifier, or `None` if no value has it.
 pub fn position_of(values: &[Box<dyn DynAssociatedOid + Drop>], oid: &Oid) -> Option<usize>
-    ensures within { IfSome result (λ i. i < length values.now) }
-    ensures found { IfSome result (λ i.
-        HoldsAt (λ value. value_arcs value ≡ oid_arcs oid.now) values.now i) }
-    ensures first { IfSome result (λ i.
-        AllWithin (λ value. value_arcs value ≢ oid_arcs oid.now) values.now 0 i) }
+    ensures within { IfSome result (λ index. index < length values.now) }
+    ensures found { IfSome result (λ index.
+        HoldsAt (λ value. value_arcs value ≡ oid_arcs oid.now) values.now index) }
+    ensures first { IfSome result (λ index.
+        AllWithin (λ value. value_arcs value ≢ oid_arcs oid.now) values.now 0 index) }
     ensures none { IfNone result (All (λ value. value_arcs value ≢ oid_arcs oid.now) values.now) }
 {
-    for (i, value) in values.iter().enumerate() {
-        if has_oid(value, oid) {
-            return Some(i);
+    for (index, value) in values.iter().enumerate() {
+        if value.oid() == *oid {
+            return Some(index);
         }
     }
     None
-}
-
-/// Whether the value has this identifier.
-fn has_oid(value: &Box<dyn DynAssociatedOid + Drop>, oid: &Oid) -> bool
-    ensures { IsTrue result ↔ (value_arcs value.now ≡ oid_arcs oid.now) }
-{
-    value.oid() == *oid
 }

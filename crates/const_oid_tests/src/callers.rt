@@ -121,8 +121,8 @@ fn names_algorithms(rt: HostRuntime) -> Result<(), Fail> {
     let rsa = theorems::rsa_encryption();
     let ed25519 = Oid::new_unwrap("1.3.101.112");
     let entries = [(&rsa, "rsaEncryption"), (&ed25519, "Ed25519")];
-    let mut place = Vec::new(rt.alloc());
-    let database = indexed(&entries, &mut place)?;
+    let mut memory = Vec::new(rt.alloc());
+    let database = indexed(&entries, &mut memory)?;
     for (octets, answer) in NAMED {
         assert!(rt; is_answered(&database, octets, answer), "{octets:?}");
     }

@@ -116,8 +116,8 @@ fn is_answered<'a>(named: &'a [(&'a Oid, &'a str)], query: &Query) -> Result<boo
     let database = clone_of(&Database::new(named))?;
     let mut same = is_answer(&database, query) == Ok(true);
     for len in 0..=24 {
-        let mut place = [0xEEEE; 24];
-        let indexed = Database::new(named).indexed(&mut place[..len]);
+        let mut memory = [0xEEEE; 24];
+        let indexed = Database::new(named).indexed(&mut memory[..len]);
         same = same && is_answer(&indexed, query) == Ok(true);
         let mut other = [0; 10];
         same = same && is_answer(&indexed.indexed(&mut other), query) == Ok(true);

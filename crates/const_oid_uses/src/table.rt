@@ -36,10 +36,10 @@ pub fn is_attribute_type(oid: &ObjectIdentifierRef<'_>) -> bool
 /// A table of these rows, with an index in a vector that grows for it.
 pub fn indexed<'a>(
     rows: &'a [(&'a Oid, &'a str)],
-    place: &'a mut Vec<u16>,
+    memory: &'a mut Vec<u16>,
 ) -> Result<Database<'a>, AllocError>
     ensures { IfOk result (λ names. entries_of names ≡ rows.now) }
 {
-    place.resize(rows.len().saturating_mul(4), 0)?;
-    Ok(Database::new(rows).indexed(place))
+    memory.resize(rows.len().saturating_mul(4), 0)?;
+    Ok(Database::new(rows).indexed(memory))
 }

@@ -9,7 +9,7 @@ pub use crate::erased::db::Names;
 pub use crate::erased::db::SortedDatabase;
 
 use crate::arcs::write_items;
-use crate::erased::links::links_of;
+use crate::erased::links::{Key, links_of};
 use crate::{ObjectIdentifier, ObjectIdentifierRef};
 use core::fmt;
 use core::iter::FusedIterator;
@@ -120,8 +120,8 @@ macro_rules! names {
             [$($((&$module::$constant, $name),)*)*];
 
         /// A link for each entry of [`DB`], and some 500 slots.
-        static OID_LINKS: [u16; 2000] = links_of(&ENTRIES, false);
-        static NAME_LINKS: [u16; 2000] = links_of(&ENTRIES, true);
+        static OID_LINKS: [u16; 2000] = links_of(&ENTRIES, Key::Oid);
+        static NAME_LINKS: [u16; 2000] = links_of(&ENTRIES, Key::Name);
     };
 }
 
@@ -146,7 +146,7 @@ include!("db/sorted.rs");
 /// entries and two.
 #[test]
 fn links_are_made_where_they_help() {
-    let (had, mut place) = ([8; 41], [0; 6_000]);
+    let (had, mut memory) = ([8; 41], [0; 6_000]);
     for (names, before, len, made) in [
         ("aAaAefgh", 0, 80, 40),
         ("aaaaafgh", 0, 80, 0),
@@ -156,7 +156,7 @@ fn links_are_made_where_they_help() {
         ("abcdefgh", 41, 80, 41),
     ] {
         let entries: [_; 8] = core::array::from_fn(|index| (&rfc4519::CN, &names[index..=index]));
-        let table = Database::new(&entries).linked(&[], &had[..before]).indexed(&mut place[..len]);
+        let table = Database::new(&entries).linked(&[], &had[..before]).indexed(&mut memory[..len]);
         assert_eq!((table.oid_links.len(), table.name_links.len()), (0, made), "{names} {len}");
         assert_eq!(table.name_links.as_ptr() == had.as_ptr(), made == before, "{names} {len}");
     }
@@ -164,7 +164,7 @@ fn links_are_made_where_they_help() {
         for (alike, made) in [(0, 2 * count), (count / 5, 2 * count), (count / 4 + 3, 0)] {
             let entry = |index| if index < alike { ENTRIES[0] } else { ENTRIES[index % ENTRIES.len()] };
             let entries: [_; 1_500] = core::array::from_fn(entry);
-            let table = Database::new(&entries[..count]).indexed(&mut place[..4 * count]);
+            let table = Database::new(&entries[..count]).indexed(&mut memory[..4 * count]);
             assert_eq!([table.oid_links.len(), table.name_links.len()], [made; 2], "{count} entries, {alike} alike");
         }
     }

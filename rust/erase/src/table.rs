@@ -110,11 +110,10 @@ pub const CRATES: &[Crate] = &[
                             (0, Some(self.database.entries.len() - self.index))
                         }",
                 BOUNDS;
-            "db": "entries: &'a [(&'a Oid, &'a str)]," => "pub(crate) entries: &'a [(&'a Oid, &'a str)],", LISTED;
             "db": "oid_links: &'a [u16], name_links: &'a [u16],"
                 => "pub(crate) oid_links: &'a [u16],\npub(crate) name_links: &'a [u16],", "a unit test sees them";
             "db_sorted": "pub const fn new" => "pub const fn new_unchecked", "no checker rejects a wrong order";
-            "db_sorted": "entries: &'a [Entry<'a>]," => "pub(crate) entries: &'a [Entry<'a>],", LISTED;
+            "": "entries: &'a [Entry<'a>]," => "pub(crate) entries: &'a [Entry<'a>],", LISTED;
             "digits": "pub(crate) fn utf8" => "#[allow(unsafe_code)]\npub(crate) fn utf8",
                 "bytes that are UTF-8 become a text without a check: the crate denies other unsafe code";
             "text": "out[at..at + MAX_ARC_LEN]" => "out[at..][..MAX_ARC_LEN]", "the same part in fewer instructions";

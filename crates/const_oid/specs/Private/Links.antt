@@ -1,9 +1,9 @@
 -- Links between the entries of a table, by a hash.
-use Rattle.std.specs.Prelude.{◌≡◌, ℕ, ◌+◌, ◌-◌, ◌*◌, ◌%◌, ◌^◌, ◌<◌, ◌≤◌, Bool, true, false, List, drop, length, nat_eq, slice_index}
+use Rattle.std.specs.Prelude.{◌≡◌, ℕ, ◌+◌, ◌-◌, ◌*◌, ◌%◌, ◌^◌, ◌<◌, ◌≤◌, Bool, true, List, drop, length, nat_eq, slice_index}
 use Rattle.std.specs.Borrow.{Bor}
 use Rattle.std.specs.List.{fold, position_or_len, HoldsAt}
 use Rattle.std.specs.Int.Bits.{bit_or}
-use Rattle.const_oid.specs.declared.oid.ObjectIdentifier.{ObjectIdentifier}
+use Rattle.const_oid.specs.declared.{links.Key.{Key, TheVariants.{Oid, Name}}, oid.ObjectIdentifier.ObjectIdentifier}
 use Rattle.const_oid.specs.Oid.{oid_octets}
 
 -- a hash and one byte more, in which the bit of ASCII case is set
@@ -14,10 +14,10 @@ hash_step hash byte = ((hash * 16777619) % 2 ^ 32 + bit_or byte 32) % 2 ^ 32
 unfoldable pub hash_of : List ℕ → ℕ
 hash_of bytes = fold hash_step 0 bytes
 
--- what is looked for in an entry: its name, or the octets of its identifier
-abbrev pub key_of : Bool → Bor (ObjectIdentifier 39) × Bor (List ℕ) → List ℕ
-key_of true entry = entry.1.now
-key_of false entry = oid_octets entry.0.now
+-- the bytes of an entry's key: the octets of its identifier, or its name
+abbrev pub key_of : Key → Bor (ObjectIdentifier 39) × Bor (List ℕ) → List ℕ
+key_of Oid entry = oid_octets entry.0.now
+key_of Name entry = entry.1.now
 
 -- the index of the first entry that passes a test, from an index on, or the number of entries if there is none
 abbrev pub first_by : {Entry : Type 0} → (Entry → Bool) → List Entry → ℕ → ℕ

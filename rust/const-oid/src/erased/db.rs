@@ -5,7 +5,7 @@
 use crate::erased::compare::is_same_name;
 pub use crate::erased::db_sorted::SortedDatabase;
 use crate::erased::error::Result;
-use crate::erased::links::{first_link, links_in, next_link};
+use crate::erased::links::{Entry, Key, first_candidate, links_in, next_candidate};
 use crate::erased::oid::Oid;
 
 /// A table of identifiers and their names, in any order. An identifier may have several names, and a name several
@@ -25,8 +25,8 @@ use crate::erased::oid::Oid;
 /// ```
 #[derive(Copy, Clone)]
 pub struct Database<'a> {
-    pub(crate) entries: &'a [(&'a Oid, &'a str)],
-    /// Links by identifier, and by name, or none.
+    pub(crate) entries: &'a [Entry<'a>],
+    // Links by identifier, and by name. With no links, such a lookup reads all entries.
     pub(crate) oid_links: &'a [u16],
     pub(crate) name_links: &'a [u16],
 }
@@ -34,11 +34,11 @@ pub struct Database<'a> {
 impl<'a> Database<'a> {
     /// A database over these entries. [`Database`] has an example.
     #[must_use]
-    pub const fn new(entries: &'a [(&'a Oid, &'a str)]) -> Self {
+    pub const fn new(entries: &'a [Entry<'a>]) -> Self {
         Database { entries, oid_links: &[], name_links: &[] }
     }
 
-    /// The database with links of its entries.
+    /// The database with links of its entries. Only the cargo crate calls this: for `DB`.
     pub(crate) const fn linked(self, oid_links: &'a [u16], name_links: &'a [u16]) -> Self {
         Database { entries: self.entries, oid_links, name_links }
     }
@@ -57,18 +57,20 @@ impl<'a> Database<'a> {
     ///
     /// const CN: ObjectIdentifier = ObjectIdentifier::new_unwrap("2.5.4.3");
     /// let entries = [(&CN, "cn"), (&CN, "commonName")];
-    /// let mut place = [0; 9];
-    /// let names = Database::new(&entries).indexed(&mut place);
+    /// let mut memory = [0; 9];
+    /// let names = Database::new(&entries).indexed(&mut memory);
     /// assert_eq!(names.by_name("commonname"), Some(&CN));
     /// ```
     #[must_use]
-    pub fn indexed(self, place: &'a mut [u16]) -> Self {
-        let len = if place.len() / 3 > self.entries.len() { place.len() / 2 } else { place.len() };
-        let (by_oid, by_name) = place.split_at_mut(len);
+    pub fn indexed(self, memory: &'a mut [u16]) -> Self {
+        // An index with a slot for every two entries is fast. If half of the memory is too short for one, all is for the index
+        // by identifier, which has more slots then.
+        let len = if memory.len() / 3 > self.entries.len() { memory.len() / 2 } else { memory.len() };
+        let (by_oid, by_name) = memory.split_at_mut(len);
         Database {
             entries: self.entries,
-            oid_links: links_in(self.entries, false, self.oid_links, by_oid),
-            name_links: links_in(self.entries, true, self.name_links, by_name),
+            oid_links: links_in(self.entries, Key::Oid, self.oid_links, by_oid),
+            name_links: links_in(self.entries, Key::Name, self.name_links, by_name),
         }
     }
 
@@ -90,13 +92,13 @@ impl<'a> Database<'a> {
     #[must_use]
     pub const fn by_oid(&self, oid: &Oid) -> Option<&'a str> {
         let count = self.entries.len();
-        let mut index = first_link(self.oid_links, count, oid.as_bytes());
+        let mut index = first_candidate(self.oid_links, count, oid.as_bytes());
         while index < count {
             let entry = &self.entries[index];
             if has_oid(entry, oid) {
                 return Some(entry.1);
             }
-            index = next_link(self.oid_links, count, index);
+            index = next_candidate(self.oid_links, count, index);
         }
         None
     }
@@ -113,18 +115,18 @@ impl<'a> Database<'a> {
     #[must_use]
     pub const fn by_name(&self, name: &str) -> Option<&'a Oid> {
         let count = self.entries.len();
-        let mut index = first_link(self.name_links, count, name.as_bytes());
+        let mut index = first_candidate(self.name_links, count, name.as_bytes());
         while index < count {
             let entry = &self.entries[index];
             if is_same_name(entry.1, name) {
                 return Some(entry.0);
             }
-            index = next_link(self.name_links, count, index);
+            index = next_candidate(self.name_links, count, index);
         }
         None
     }
 
-    /// All names of this identifier, in the order of the table. A name in several of these entries comes once for each.
+    /// The names in all entries with this identifier, in the order of the table, one for each entry.
     ///
     /// # Examples
     ///
@@ -137,7 +139,7 @@ impl<'a> Database<'a> {
     /// ```
     #[must_use]
     pub const fn find_names_for_oid(&self, oid: Oid) -> Names<'a> {
-        Names { database: *self, index: first_link(self.oid_links, self.entries.len(), oid.as_bytes()), oid }
+        Names { database: *self, index: first_candidate(self.oid_links, self.entries.len(), oid.as_bytes()), oid }
     }
 
     /// Parses dotted text, and returns the name of its identifier as [`by_oid`](Self::by_oid) does, or the text
@@ -187,7 +189,7 @@ impl<'a> Iterator for Names<'a> {
         while self.index < self.database.entries.len() {
             let Database { oid_links, entries, .. } = self.database;
             let entry = &entries[self.index];
-            self.index = next_link(oid_links, entries.len(), self.index);
+            self.index = next_candidate(oid_links, entries.len(), self.index);
             if has_oid(entry, &self.oid) {
                 return Some(entry.1);
             }
@@ -197,6 +199,6 @@ impl<'a> Iterator for Names<'a> {
 }
 
 /// Whether an entry has this identifier.
-const fn has_oid(entry: &(&Oid, &str), oid: &Oid) -> bool {
+const fn has_oid(entry: &Entry<'_>, oid: &Oid) -> bool {
     entry.0.eq_by_octet(oid)
 }

@@ -17,10 +17,23 @@ type Entry<'a> = (&'a ObjectIdentifierRef, &'a str);
 /// ```
 /// use const_oid::{ObjectIdentifier, db::SortedDatabase};
 ///
-/// const COLUMN: ObjectIdentifier = ObjectIdentifier::new_unwrap("1.3.6.1.2.1.2.2.1.10");
-/// const NAMES: SortedDatabase<'static> =
-///     SortedDatabase::try_new(&[(COLUMN.as_oid_ref(), "ifInOctets")]).expect("in the order of arcs");
-/// assert_eq!(NAMES.nearest(&COLUMN.push_arc(3)?).unwrap().1, "ifInOctets");
+/// const MIB_2: ObjectIdentifier = ObjectIdentifier::new_unwrap("1.3.6.1.2.1");
+/// const SYSTEM: ObjectIdentifier = ObjectIdentifier::new_unwrap("1.3.6.1.2.1.1");
+/// const ENTERPRISES: ObjectIdentifier = ObjectIdentifier::new_unwrap("1.3.6.1.4.1");
+/// const NAMES: SortedDatabase<'static> = SortedDatabase::try_new(&[
+///     (MIB_2.as_oid_ref(), "mib-2"),
+///     (SYSTEM.as_oid_ref(), "system"),
+///     (ENTERPRISES.as_oid_ref(), "enterprises"),
+/// ])
+/// .expect("in the order of arcs");
+///
+/// let oid = ENTERPRISES.push_arc(8072)?;
+/// let (named, name) = NAMES.nearest(&oid).unwrap();
+/// assert_eq!(*name, "enterprises");
+/// assert!(oid.arcs().skip(named.len()).eq([8072]));
+/// assert_eq!(NAMES.subtree(&MIB_2), &NAMES.entries()[..2]);
+/// assert_eq!(NAMES.next_after(&MIB_2), Some(&NAMES.entries()[1]));
+/// assert_eq!(NAMES.next_after(&ENTERPRISES), None);
 /// # Ok::<(), const_oid::Error>(())
 /// ```
 #[derive(Copy, Clone)]
@@ -100,31 +113,8 @@ impl<'a> SortedDatabase<'a> {
         Some(found.0)
     }
 
-    /// The entry with the longest prefix of the identifier, which may be all of it, or `None` if the table has no
-    /// prefix. If several entries have it, the first.
-    ///
-    /// # Examples
-    ///
-    /// ```
-    /// use const_oid::{ObjectIdentifier, db::SortedDatabase};
-    ///
-    /// let [mib_2, system, enterprises] =
-    ///     ["1.3.6.1.2.1", "1.3.6.1.2.1.1", "1.3.6.1.4.1"].map(ObjectIdentifier::new_unwrap);
-    /// let entries = [
-    ///     (mib_2.as_oid_ref(), "mib-2"),
-    ///     (system.as_oid_ref(), "system"),
-    ///     (enterprises.as_oid_ref(), "enterprises"),
-    /// ];
-    /// let names = SortedDatabase::try_new(&entries).unwrap();
-    /// let oid = ObjectIdentifier::new_unwrap("1.3.6.1.4.1.8072.3.2");
-    /// let (named, name) = names.nearest(&oid).unwrap();
-    /// assert_eq!(*name, "enterprises");
-    /// assert!(oid.arcs().skip(named.len()).eq([8072, 3, 2]));
-    ///
-    /// assert_eq!(names.subtree(&mib_2), &entries[..2]);
-    /// assert_eq!(names.next_after(&mib_2), Some(&entries[1]));
-    /// assert_eq!(names.next_after(&enterprises), None);
-    /// ```
+    /// The first entry with the longest prefix of the identifier, which may be the identifier itself, or `None` if the
+    /// table has no prefix. [`SortedDatabase`] has an example.
     #[must_use]
     pub fn nearest(&self, oid: &ObjectIdentifierRef) -> Option<&'a Entry<'a>> {
         let index = nearest_of(self.entries, &oid)?;
@@ -132,7 +122,7 @@ impl<'a> SortedDatabase<'a> {
     }
 
     /// The entries of the identifier and of its descendants, which are adjacent in the order of arcs.
-    /// [`nearest`](Self::nearest) has an example.
+    /// [`SortedDatabase`] has an example.
     #[must_use]
     pub fn subtree(&self, oid: &ObjectIdentifierRef) -> &'a [Entry<'a>] {
         let (from, end) = subtree_of(self.entries, oid);
@@ -140,7 +130,7 @@ impl<'a> SortedDatabase<'a> {
     }
 
     /// The first entry after the identifier, which need not be in the table, as GetNext of SNMP returns it (RFC 3416).
-    /// [`nearest`](Self::nearest) has an example.
+    /// [`SortedDatabase`] has an example.
     #[must_use]
     pub fn next_after(&self, oid: &ObjectIdentifierRef) -> Option<&'a Entry<'a>> {
         self.entries.get(end_of(self.entries, oid))

@@ -33,10 +33,7 @@ pub fn end_of<T: Contents>(items: &[T], oid: &ObjectIdentifierRef) -> usize {
 /// The index of the first item with the arcs of an identifier, or `None` if no item has them.
 #[must_use]
 pub fn first_of<T: Contents>(items: &[T], oid: &ObjectIdentifierRef) -> Option<usize> {
-    match find(items, oid) {
-        Ok(index) => Some(index),
-        Err(_) => None,
-    }
+    find(items, oid).ok()
 }
 
 /// The index of the first item with the arcs of an identifier, or `Err` with the index at which the identifier would be
@@ -60,8 +57,8 @@ pub fn subtree_of<T: Contents>(items: &[T], oid: &ObjectIdentifierRef) -> (usize
     (from, from + inside)
 }
 
-/// The index of the item with the longest prefix of an identifier, which may be all of it, or `None` if the list has no
-/// prefix. If several items have it, the first.
+/// The index of the first item with the longest prefix of an identifier, which may be the identifier itself, or `None` if
+/// the list has no prefix.
 #[must_use]
 pub fn nearest_of<T: Contents>(items: &[T], oid: &ObjectIdentifierRef) -> Option<usize> {
     let mut above = oid;
@@ -70,8 +67,8 @@ pub fn nearest_of<T: Contents>(items: &[T], oid: &ObjectIdentifierRef) -> Option
             Ok(index) => return Some(index),
             Err(index) => index,
         };
-        // An item that it begins with comes before it, so the last item before it begins with that one, too. Often it is
-        // that one, which saves a second search.
+        // A prefix of `above` that the list has is also one of the last item before `above`, so their common prefix is looked
+        // for next. Often that is the last item itself, which saves a second search.
         let before = items[..index].last()?.contents();
         above = common_prefix(above.parent()?, before)?;
         if is_first_at(items, &above, index - 1) {
@@ -81,11 +78,11 @@ pub fn nearest_of<T: Contents>(items: &[T], oid: &ObjectIdentifierRef) -> Option
 }
 
 /// Whether the item at an index has the octets of an identifier, and the one before it has not.
-fn is_first_at<T: Contents>(items: &[T], oid: &ObjectIdentifierRef, at: usize) -> bool {
-    if !has_octets(&items[at], oid) {
+fn is_first_at<T: Contents>(items: &[T], oid: &ObjectIdentifierRef, index: usize) -> bool {
+    if !has_octets(&items[index], oid) {
         return false;
     }
-    at == 0 || !has_octets(&items[at - 1], oid)
+    index == 0 || !has_octets(&items[index - 1], oid)
 }
 
 /// The longest identifier that begins an identifier and other octets, or `None` if there is none.

@@ -6,19 +6,19 @@ use Rattle.const_oid.proofs.db.Database.by_oid.Goals as goal
 
 pub loop-index-init : goal.loop-index-init
 loop-index-init c =
-    let first = c.first_link-index.ensures in
-    starts _ _ _ _ _ (same_oids c.args.oid.now) c.args.self.now.by_oid c.first_link-index.result (rw c.as_bytes.ensures.octets at first.linked) first.scanned
+    let first = c.first_candidate-index.ensures in
+    starts _ _ _ _ _ (same_oids c.args.oid.now) c.args.self.now.by_oid c.first_candidate-index.result (rw c.as_bytes.ensures.octets at first.linked) first.scanned
 
 pub loop-index-preserved : goal.loop-index-preserved
 loop-index-preserved c =
-    let next = c.next_link-index.ensures in
+    let next = c.next_candidate-index.ensures in
     let reached = c.loop-index.invariant in
     goes_past _ _ _ _ _ (same_oids c.args.oid.now) c.args.self.now.by_oid 0 c.loop-index.index _ c.index-self-index.result c.loop-index-test.true (sym (c.if-has_oid.ensures)) reached
     (goes_on _ _ _ _ _ (same_oids c.args.oid.now) c.args.self.now.by_oid c.loop-index.index _ c.loop-index-test.true next.linked next.scanned reached.there)
 
 pub loop-index-smaller : goal.loop-index-smaller
 loop-index-smaller c =
-    let next = c.next_link-index.ensures in
+    let next = c.next_candidate-index.ensures in
     let more = goes_on _ _ _ _ _ (same_oids c.args.oid.now) c.args.self.now.by_oid c.loop-index.index _ c.loop-index-test.true next.linked next.scanned c.loop-index.invariant.there in
     omega (arith, more.after)
 
