@@ -426,7 +426,7 @@ impl<'a> ObjectIdentifierRef<'a> {
     ///
     /// Those of [`new`](crate::ObjectIdentifier::new), each with the index of the first wrong component, but
     /// [`Error::Length`], whose index says nothing.
-    #[tactic(auto, using(crate::proofs::Outputs::taken, crate::proofs::Encodings::none_from_encoding))]
+    #[tactic(auto, using(crate::proofs::Appended::taken, crate::proofs::Encodings::none_from_encoding))]
     #[inline(always)]
     pub fn from_ascii_in_39(
         text: &[u8],

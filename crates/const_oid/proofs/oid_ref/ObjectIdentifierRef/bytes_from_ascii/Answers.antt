@@ -1,6 +1,6 @@
 use Rattle.std.proofs.Common.{length, arith}
 use Rattle.const_oid.specs.Identifier.{root_rule}
-use Rattle.const_oid.proofs.{Enough.bytes_enough, Outputs.returned}
+use Rattle.const_oid.proofs.{Enough.bytes_enough, Appended.returned}
 use Rattle.const_oid.proofs.oid_ref.ObjectIdentifierRef.bytes_from_ascii.Goals as goal
 
 pub returns-clause-answer : goal.returns-clause-answer

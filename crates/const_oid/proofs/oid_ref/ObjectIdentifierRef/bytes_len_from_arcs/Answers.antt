@@ -1,6 +1,6 @@
 use Rattle.std.proofs.Common.{arith}
 use Rattle.const_oid.specs.Identifier.{root_rule}
-use Rattle.const_oid.proofs.{Enough.five_enough, Outputs.counted}
+use Rattle.const_oid.proofs.{Enough.five_enough, Appended.counted}
 use Rattle.const_oid.proofs.oid_ref.ObjectIdentifierRef.bytes_len_from_arcs.Goals as goal
 
 pub returns-clause-len : goal.returns-clause-len

@@ -1,6 +1,6 @@
 use Rattle.std.proofs.Common.{arith}
 use Rattle.const_oid.specs.Identifier.{root_rule}
-use Rattle.const_oid.proofs.{Enough.bytes_enough, Outputs.counted}
+use Rattle.const_oid.proofs.{Enough.bytes_enough, Appended.counted}
 use Rattle.const_oid.proofs.oid_ref.ObjectIdentifierRef.bytes_len_from_ascii.Goals as goal
 
 pub returns-clause-len : goal.returns-clause-len
