@@ -11,7 +11,7 @@ use crate::owned::MAX_OCTETS;
 use crate::status::{
     NONE, Status, code_status, error_status, len_status, number_status, too_short_status,
 };
-use const_oid::{Arcs, Error, ObjectIdentifier, ObjectIdentifierRef, Result};
+use const_oid::{Arcs, Error, ObjectIdentifier, ObjectIdentifierRef, Result, outputs};
 
 /// Checks contents octets of any length.
 #[unsafe(no_mangle)]
@@ -83,10 +83,10 @@ fn write_past_255_octets(arcs: &[u32], out: &mut [u8]) -> Status
     ensures status { result ≡ output_status (length out.old) (octets_of_arcs (item_answer root_rule arcs.now max_len)) }
     ensures written { out.new ≡ output_after out.old (octets_of_arcs (item_answer root_rule arcs.now max_len)) }
 {
-    match ObjectIdentifierRef::bytes_from_arcs(arcs, out) {
+    match outputs::bytes_from_arcs(arcs, out) {
         Ok(len) => len_status(len),
         // At the greatest limit, the error of any other kind is the same.
-        Err(_) => unwritten_status(ObjectIdentifierRef::bytes_len_from_arcs(arcs, usize::MAX)),
+        Err(_) => unwritten_status(outputs::bytes_len_from_arcs(arcs, usize::MAX)),
     }
 }
 

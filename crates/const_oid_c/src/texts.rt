@@ -10,7 +10,7 @@ use crate::owned::MAX_OCTETS;
 use crate::status::{
     NOT_UTF8, Status, code_status, error_status, fault_at, len_status, too_short_status,
 };
-use const_oid::{Error, ObjectIdentifier, ObjectIdentifierRef};
+use const_oid::{Error, ObjectIdentifier, ObjectIdentifierRef, outputs};
 use std::str;
 
 /// Writes the contents octets of the identifier that dotted text denotes.
@@ -23,7 +23,7 @@ pub extern "C" fn const_oid_from_text(text: &[u8], out: &mut [u8]) -> Status
 {
     // An identifier of the default capacity is quicker to make.
     let mut octets = [0; 39];
-    match ObjectIdentifierRef::from_ascii_in_39(text, &mut octets) {
+    match outputs::from_ascii_in_39(text, &mut octets) {
         Ok(oid) => write_bytes(oid.as_bytes(), out),
         Err((fault, index)) => write_after_fault(text, out, fault, index),
     }
@@ -70,10 +70,10 @@ fn write_past_255_octets(text: &[u8], out: &mut [u8]) -> Status
     ensures status { result ≡ output_status (length out.old) (octets_of_ascii text.now) }
     ensures written { out.new ≡ output_after out.old (octets_of_ascii text.now) }
 {
-    match ObjectIdentifierRef::bytes_from_ascii(text, out) {
+    match outputs::bytes_from_ascii(text, out) {
         Ok(len) => len_status(len),
         // At the greatest limit, the error of any other kind is the same.
-        Err(_) => match ObjectIdentifierRef::bytes_len_from_ascii(text, usize::MAX) {
+        Err(_) => match outputs::bytes_len_from_ascii(text, usize::MAX) {
             Ok(len) => too_short_status(len),
             Err(fault) => component_status(fault, text),
         },

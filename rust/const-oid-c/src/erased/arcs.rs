@@ -5,7 +5,7 @@
 use crate::erased::output::{unwritten_status, write_octets};
 use crate::erased::owned::MAX_OCTETS;
 use crate::erased::status::{NONE, Status, code_status, error_status, len_status, number_status, too_short_status};
-use const_oid::internal_for_const_oid_c::{Arcs, Error, ObjectIdentifier, ObjectIdentifierRef, Result};
+use const_oid::internal_for_const_oid_c::{Arcs, Error, ObjectIdentifier, ObjectIdentifierRef, Result, outputs};
 
 /// Checks contents octets of any length.
 pub fn const_oid_check(octets: &[u8]) -> Status {
@@ -57,7 +57,7 @@ fn write_past_255_octets(arcs: &[u32], out: &mut crate::edge::Output<u8>) -> Sta
     match crate::outputs::bytes_from_arcs(arcs, out) {
         Ok(len) => len_status(len),
         // At the greatest limit, the error of any other kind is the same.
-        Err(_) => unwritten_status(const_oid::internal_for_const_oid_c::bytes_len_from_arcs(arcs, usize::MAX)),
+        Err(_) => unwritten_status(outputs::bytes_len_from_arcs(arcs, usize::MAX)),
     }
 }
 

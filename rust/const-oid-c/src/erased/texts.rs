@@ -5,14 +5,14 @@
 use crate::erased::output::{write_bytes, write_octets};
 use crate::erased::owned::MAX_OCTETS;
 use crate::erased::status::{NOT_UTF8, Status, code_status, error_status, fault_at, len_status, too_short_status};
-use const_oid::internal_for_const_oid_c::{Error, ObjectIdentifier, ObjectIdentifierRef};
+use const_oid::internal_for_const_oid_c::{Error, ObjectIdentifier, ObjectIdentifierRef, outputs};
 use core::str;
 
 /// Writes the contents octets of the identifier that dotted text denotes.
 pub fn const_oid_from_text(text: &[u8], out: &mut crate::edge::Output<u8>) -> Status {
     // An identifier of the default capacity is quicker to make.
     let mut octets = [0; 39];
-    match const_oid::internal_for_const_oid_c::from_ascii_in_39(text, &mut octets) {
+    match outputs::from_ascii_in_39(text, &mut octets) {
         Ok(oid) => write_bytes(oid.as_bytes(), out),
         Err((fault, index)) => write_after_fault(text, out, fault, index),
     }
@@ -49,7 +49,7 @@ fn write_past_255_octets(text: &[u8], out: &mut crate::edge::Output<u8>) -> Stat
     match crate::outputs::bytes_from_ascii(text, out) {
         Ok(len) => len_status(len),
         // At the greatest limit, the error of any other kind is the same.
-        Err(_) => match const_oid::internal_for_const_oid_c::bytes_len_from_ascii(text, usize::MAX) {
+        Err(_) => match outputs::bytes_len_from_ascii(text, usize::MAX) {
             Ok(len) => too_short_status(len),
             Err(fault) => component_status(fault, text),
         },
