@@ -1,11 +1,24 @@
-//! What the library `const-oid-c` needs, which is generated over it: generated modules and their types, and a function
+//! What the library `const-oid-c` needs, which is generated over it: generated modules and their types, and functions
 //! that the API lacks. No other crate may use this module: it may change in any release.
 
 pub use crate::erased::{Arcs, Error, ObjectIdentifier, ObjectIdentifierRef, Oid, Result};
 pub use crate::erased::{outputs, search};
 
+use crate::Arc;
+use crate::erased::{encoder, parser};
+
 /// Prints octets as it checks them.
 #[inline(always)]
 pub fn text_from_bytes(ber: &[u8], out: &mut [u8]) -> Option<Result<usize>> {
     ObjectIdentifierRef::text_from_bytes(ber, out)
+}
+
+/// Writes the octets of a text in one pass. On an error, `out` may be changed.
+pub fn parse(text: &[u8], out: &mut [u8], capacity: usize) -> Result<usize> {
+    parser::parse_to(text, out, capacity)
+}
+
+/// Writes the octets of arcs in one pass. On an error, `out` may be changed.
+pub fn encode(arcs: &[Arc], out: &mut [u8], capacity: usize) -> Result<usize> {
+    encoder::encode_slice(arcs, out, capacity)
 }

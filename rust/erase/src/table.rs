@@ -31,7 +31,7 @@ macro_rules! edits {
 const LANES: &str = "lanes are unstable in Rust";
 const EQUALITY: &str = "constants in patterns need the derived `==`; zeros follow the octets in use (`ghost zeros`)";
 const UNSIZED: &str = "the crate's borrowed form is unsized, as in the crate of this name, and lies behind a reference";
-const FOR_C: &str = "the library for C calls it, and the API has no such function";
+const FOR_C: &str = "the library for C calls what the API has no function for";
 const BY_CORE: &str = "`core` compares slices by `memcmp`, which takes less time, and callers inline the call";
 const BOUNDS: &str = "a bound at no cost, where Rattle keeps the default of the trait";
 const LISTED: &str = "a caller by hand lists the entries";
@@ -48,6 +48,8 @@ pub const CRATES: &[Crate] = &[
                 => "#[cfg(feature = \"db\")] pub mod db; #[cfg(feature = \"db\")] mod db_sorted;",
                 "they are of a feature";
             "lib": "pub(crate) mod links;" => "#[cfg(feature = \"db\")] pub(crate) mod links;", "as above";
+            "lib": "mod encoder;" => "pub(crate) mod encoder;", FOR_C;
+            "lib": "mod parser;" => "pub(crate) mod parser;", FOR_C;
             "oid_ref": "#[derive(Copy, Clone, Eq, Hash)] pub struct ObjectIdentifierRef<'a> { pub ber: &'a [u8], }"
                 => "#[derive(Eq, Hash)]\n#[repr(transparent)]\npub struct ObjectIdentifierRef {\n ber: [u8],\n}", UNSIZED;
             "oid_ref": "pub(crate) const fn from_checked(ber: &'a [u8]) -> Self { ObjectIdentifierRef { ber } }"

@@ -14,7 +14,7 @@ pub mod db;
 mod db_sorted;
 mod digits;
 mod element;
-mod encoder;
+pub(crate) mod encoder;
 pub mod error;
 mod fast;
 #[cfg(feature = "db")]
@@ -23,7 +23,7 @@ pub mod oid;
 pub mod oid_ref;
 // Its functions are for the other crates, and so are those of `search`: Rust hides them.
 pub mod outputs;
-mod parser;
+pub(crate) mod parser;
 mod parts;
 mod root;
 pub mod search;
