@@ -358,6 +358,17 @@ same_element a b x y small small' same =
     let (long, rest) = same_length (length a) (length b) (a ++ x) (b ++ y) small small' e in
     append_cancel a b x y long rest
 
+contents_fit : (der octets rest : List ℕ) → der ≡ element octets ++ rest → length octets ≤ length der
+contents_fit der octets rest is =
+    omega (arith, ap length is, length-append (element octets) rest, length-append (length_octets (length octets)) octets)
+
+-- octets begin with only one element
+pub only_element : (der a b x y : List ℕ) → length der < 2 ^ 64 → der ≡ element a ++ x → der ≡ element b ++ y → (a ≡ b) × (x ≡ y)
+only_element der a b x y small is is' =
+    let fits = contents_fit der a x is in
+    let fits' = contents_fit der b y is' in
+    same_element a b x y (omega arith) (omega arith) (sym is ∙ is')
+
 -- ---- octets in slices
 
 word_put : (digits copy : List ℕ) (a k : ℕ) → a + length digits ≡ 8 → k ≡ 8 - a → copy ≡ digits

@@ -26,7 +26,7 @@ pub mod Ends
 pub mod Leading
 pub mod Started
 mod Stripped
-pub mod Outputs
+pub mod Appended
 pub mod Pieces
 pub mod PartBounds
 pub mod Parents

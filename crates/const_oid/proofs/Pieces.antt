@@ -13,7 +13,7 @@ use Rattle.const_oid.specs.Private.Parser.{component_at, pieces_found, text_foun
 use Rattle.const_oid.specs.Private.Parser.{AreDigits, HasFault, IsFoundAt, IsPiece, IsRoot, IsWithin}
 use Rattle.const_oid.specs.Text.{pieces_of, number_of, is_empty, is_one_empty, text_answer, IsNumber}
 use Rattle.const_oid.proofs.WrongIndex.{same_text}
-use Rattle.const_oid.proofs.Outputs.{IsLonger, longer_by}
+use Rattle.const_oid.proofs.Appended.{IsLonger, longer_by}
 use Rattle.const_oid.proofs.{Lists.append-cons, Started.{Encodes, root_encodes, later_encodes}}
 use Rattle.const_oid.proofs.{Faults.{none_from_below, some_from_above}, Encodings.{arcs_of_encoding, encoding_back}}
 use Rattle.const_oid.proofs.Numbers.{number_of_digits, find-none, take_while-digits, find-digits, undotted}

@@ -73,7 +73,7 @@ impl<const SIZE: usize> Buffer<SIZE> {
     /// The encoding of the identifier that a text denotes.
     // Here and below, octets go into the buffer that is returned: copies of an array wait for each other's stores.
     // erase: const
-    #[tactic(auto, using(crate::proofs::Outputs::buffered))]
+    #[tactic(auto, using(crate::proofs::Appended::buffered))]
     #[inline(always)]
     pub(crate) fn parsed(text: &[u8]) -> Result<Self>
         ensures answer { buffer_answer result ≡ text_answer root_rule text.now (min SIZE 255) }
@@ -90,7 +90,7 @@ impl<const SIZE: usize> Buffer<SIZE> {
     }
 
     /// The encoding of the arcs that an iterator gives.
-    #[tactic(auto, using(crate::proofs::Outputs::buffered))]
+    #[tactic(auto, using(crate::proofs::Appended::buffered))]
     pub(crate) fn encoded<I: IntoIterator<Item = Arc>>(arcs: I) -> Result<Self>
     where
         I::IntoIter: Drop,

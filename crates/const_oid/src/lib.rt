@@ -24,10 +24,11 @@ pub mod laws;
 pub(crate) mod links;
 pub mod oid;
 pub mod oid_ref;
+// Its functions are for the other crates, and so are those of `search`: Rust hides them.
+pub mod outputs;
 mod parser;
 mod parts;
 mod root;
-// Its functions are for the other crates: Rust hides them.
 pub mod search;
 // erase: omit
 #[cfg(test)]

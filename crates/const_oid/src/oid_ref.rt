@@ -1,5 +1,5 @@
 //! Borrowed object identifiers.
-ghost use Rattle.std.specs.Prelude.{◌≡◌, ◌≢◌, ◌*◌, ◌≤◌, ◌<◌, ◌↔◌, ◌+◌, ◌++◌, ℕ, List, drop, length, min, slice_get, take, count_by, None, Some, Err, IfErr, IfOk, IfSome, IsSome, IsTrue, MatchOption, MatchResult, Ok, []};
+ghost use Rattle.std.specs.Prelude.{◌≡◌, ◌≢◌, ◌*◌, ◌≤◌, ◌<◌, ◌↔◌, ◌+◌, ◌++◌, ℕ, List, drop, length, min, slice_get, count_by, None, Some, Err, IfOk, IfSome, IsSome, IsTrue, MatchOption, Ok, []};
 ghost use Rattle.std.specs.Option.{option_map};
 ghost use Rattle.std.specs.Fmt.{DisplaysOnOk, WritesStyledOnOk};
 ghost use Rattle.std.specs.Cmp.Lexicographic.{slice_cmp};
@@ -7,32 +7,29 @@ ghost use Rattle.std.specs.List.Sorted.{IsSortedByKey};
 ghost use Rattle.std.specs.Ordering.{nat_cmp, is_lt};
 ghost use Rattle.std.proofs.Props.{props};
 ghost use Rattle.const_oid.specs.Base128.{AreOctets};
-ghost use Rattle.const_oid.specs.Contents.{arcs_of_octets, cut, parts_fault, octet_answer, bytes_answer, size_answer, borrowed_capacity};
+ghost use Rattle.const_oid.specs.Contents.{cut, parts_fault, octet_answer, borrowed_capacity};
 ghost use Rattle.const_oid.specs.Element.{element};
-ghost use Rattle.const_oid.specs.Identifier.{root_rule, default_capacity, IsEncoding};
+ghost use Rattle.const_oid.specs.Identifier.{root_rule, IsEncoding};
 ghost use Rattle.const_oid.specs.Items.{item_answer};
 ghost use Rattle.const_oid.specs.Text.{pieces_of, text_answer, text_of, text_in, octet_text, wrong_index, Denotes, ReturnsLength, ReturnsText, WritesText};
 
-use crate::Arc;
 use crate::arcs::{Arcs, arc_at};
 use crate::base128::read_group;
 use crate::compare::{begins_with, order_by_parts};
 use crate::digits::{MAX_ARC_LEN, utf8, write_arc};
 use crate::element::{element_len, split_element, write_element};
-use crate::encoder::{ONE_PASS_ARCS, encode_in_one_pass, encode_slice};
 use crate::error::{Error, Result};
 use crate::fast::comparison::{are_equal, order};
 use crate::fast::lanes::count_below;
 use crate::fast::steps::run_of;
-use crate::parser::{
-    ONE_PASS_BYTES, fault_and_index, parse_in_one_pass, parse_to, parse_to_inlined,
-};
+use crate::parser::{fault_and_index, parse_to_inlined};
 use crate::parts::without_last_part;
 use crate::root::split_root;
 use crate::text::{text_len, write_checked, write_text};
 use crate::valid::check;
+use crate::{Arc, outputs};
 use std::cmp::Ordering;
-use std::{fmt, result};
+use std::fmt;
 
 /// An object identifier over the caller's contents octets, without tag and length.
 ///
@@ -288,78 +285,6 @@ impl<'a> ObjectIdentifierRef<'a> {
         Some(write_checked(ber, out))
     }
 
-    /// Counts the contents octets of the identifier that dotted text in ASCII denotes, of any length. They are no more
-    /// than the bytes of the text.
-    ///
-    /// # Errors
-    ///
-    /// Those of [`new`](crate::ObjectIdentifier::new), with [`Error::Length`] if the arcs take more octets than
-    /// `limit`.
-    pub fn bytes_len_from_ascii(text: &[u8], limit: usize) -> Result<usize>
-        ensures len { result ≡ size_answer (text_answer root_rule text.now limit) }
-        ensures enough { length text.now ≤ limit → result ≢ Err Error.Length }
-    {
-        parse_to(text, &mut [], limit)
-    }
-
-    /// Parses dotted text in ASCII, of any length, and writes its contents octets to the start of `out`. Returns how many
-    /// there are, which are no more than the bytes of the text.
-    ///
-    /// # Errors
-    ///
-    /// Those of [`new`](crate::ObjectIdentifier::new), with [`Error::Length`] if the arcs take more octets than `out`
-    /// has. It is then unchanged.
-    pub fn bytes_from_ascii(text: &[u8], out: &mut [u8]) -> Result<usize>
-        ensures answer { bytes_answer out.new result ≡ text_answer root_rule text.now (length out.old) }
-        ensures encoding { IfOk result (λ len. IsEncoding root_rule (arcs_of_octets (take len out.new)) (take len out.new)) }
-        ensures rest { IfOk result (λ len. (len ≤ length out.old) × (drop len out.new ≡ drop len out.old)) }
-        ensures kept { IfErr result (λ _. out.new ≡ out.old) }
-        ensures enough { length text.now ≤ length out.old → result ≢ Err Error.Length }
-    {
-        if text.len() <= ONE_PASS_BYTES {
-            return parse_in_one_pass(text, out);
-        }
-        let capacity = out.len();
-        // The octets are counted first, so that on an error none is written.
-        parse_to(text, &mut [], capacity)?;
-        parse_to(text, out, capacity)
-    }
-
-    /// Counts the contents octets of arcs, any number of them. They are at most five for each arc.
-    ///
-    /// # Errors
-    ///
-    /// Those of [`from_arcs`](crate::ObjectIdentifier::from_arcs), with [`Error::Length`] if the arcs take more octets
-    /// than `limit`.
-    pub fn bytes_len_from_arcs(arcs: &[Arc], limit: usize) -> Result<usize>
-        ensures len { result ≡ size_answer (item_answer root_rule arcs.now limit) }
-        ensures enough { 5 * length arcs.now ≤ limit → result ≢ Err Error.Length }
-    {
-        encode_slice(arcs, &mut [], limit)
-    }
-
-    /// Encodes arcs, any number of them, and writes the contents octets to the start of `out`. Returns how many there
-    /// are, which are at most five for each arc.
-    ///
-    /// # Errors
-    ///
-    /// Those of [`from_arcs`](crate::ObjectIdentifier::from_arcs), with [`Error::Length`] if the arcs take more octets
-    /// than `out` has. It is then unchanged.
-    pub fn bytes_from_arcs(arcs: &[Arc], out: &mut [u8]) -> Result<usize>
-        ensures answer { bytes_answer out.new result ≡ item_answer root_rule arcs.now (length out.old) }
-        ensures encoding { IfOk result (λ len. IsEncoding root_rule (arcs_of_octets (take len out.new)) (take len out.new)) }
-        ensures rest { IfOk result (λ len. (len ≤ length out.old) × (drop len out.new ≡ drop len out.old)) }
-        ensures kept { IfErr result (λ _. out.new ≡ out.old) }
-        ensures enough { 5 * length arcs.now ≤ length out.old → result ≢ Err Error.Length }
-    {
-        if arcs.len() <= ONE_PASS_ARCS {
-            return encode_in_one_pass(arcs, out);
-        }
-        let capacity = out.len();
-        encode_slice(arcs, &mut [], capacity)?;
-        encode_slice(arcs, out, capacity)
-    }
-
     /// Parses dotted text in ASCII, of any length, and borrows the octets that it writes at the start of `out`. They are
     /// no more than the bytes of the text, which need not be UTF-8.
     ///
@@ -385,32 +310,8 @@ impl<'a> ObjectIdentifierRef<'a> {
         ensures start { IfOk result (λ oid. (ref_slice oid).ref_ptr ≡ out.entry.ref_ptr) }
         ensures enough { length text.now ≤ length out.old → result ≢ Err Error.Length }
     {
-        let len = Self::bytes_from_ascii(text, out)?;
+        let len = outputs::bytes_from_ascii(text, out)?;
         Ok(ObjectIdentifierRef::from_checked(&out[..len]))
-    }
-
-    /// Parses dotted text in ASCII into 39 octets, the default capacity, in one pass, and borrows those of its
-    /// identifier. On `Err`, `out` may be changed.
-    ///
-    /// # Errors
-    ///
-    /// Those of [`new`](crate::ObjectIdentifier::new), each with the index of the first wrong component, but
-    /// [`Error::Length`], whose index says nothing.
-    #[tactic(auto, using(crate::proofs::Outputs::taken, crate::proofs::Encodings::none_from_encoding))]
-    #[inline(always)]
-    pub fn from_ascii_in_39(
-        text: &[u8],
-        out: &'a mut [u8; 39],
-    ) -> result::Result<Self, (Error, usize)>
-        ensures answer { let answer = text_answer root_rule text.now default_capacity in
-            MatchResult result (λ oid. answer ≡ Ok (ref_arcs oid)) (λ fault. answer ≡ Err fault.0) }
-        ensures index { IfErr result (λ fault. fault.0 ≢ Error.Length → fault.1 ≡ wrong_index [] (pieces_of text.now)) }
-        ensures start { IfOk result (λ oid. (ref_slice oid).ref_ptr ≡ out.entry.ref_ptr) }
-    {
-        match parse_to_inlined(text, out, 39) {
-            Ok(len) => Ok(ObjectIdentifierRef::from_checked(&out[..len])),
-            Err(wrong) => Err(fault_and_index(text, wrong)),
-        }
     }
 
     /// The index of the first wrong component of dotted text, counted from 0, by the rules of
@@ -459,7 +360,7 @@ impl<'a> ObjectIdentifierRef<'a> {
         ensures start { IfOk result (λ oid. (ref_slice oid).ref_ptr ≡ out.entry.ref_ptr) }
         ensures enough { 5 * length arcs.now ≤ length out.old → result ≢ Err Error.Length }
     {
-        let len = Self::bytes_from_arcs(arcs, out)?;
+        let len = outputs::bytes_from_arcs(arcs, out)?;
         Ok(ObjectIdentifierRef::from_checked(&out[..len]))
     }
 

@@ -9,9 +9,10 @@ ghost use Rattle.const_oid_c.specs.Results.{octets_of_arcs, output_of, status_of
 use crate::output::{unwritten_status, write_octets};
 use crate::owned::MAX_OCTETS;
 use crate::status::{
-    NONE, Status, code_status, error_status, len_status, number_status, too_short_status,
+    LENGTH, NONE, OUTPUT_TOO_SHORT, Status, code_status, error_status, len_status, number_status,
+    too_short_status,
 };
-use const_oid::{Arcs, Error, ObjectIdentifier, ObjectIdentifierRef, Result};
+use const_oid::{Arcs, Error, ObjectIdentifier, ObjectIdentifierRef, Result, outputs};
 
 /// Checks contents octets of any length.
 #[unsafe(no_mangle)]
@@ -55,44 +56,37 @@ pub extern "C" fn const_oid_arc(octets: &[u8], index: usize) -> Status
 pub extern "C" fn const_oid_from_arcs(arcs: &[u32], out: &mut [u8]) -> Status
     ensures status { result ≡ output_status (length out.old) (octets_of_arcs (item_answer root_rule arcs.now max_len)) }
     ensures written { out.new ≡ output_after out.old (octets_of_arcs (item_answer root_rule arcs.now max_len)) }
-    ensures enough { 5 * length arcs.now ≤ length out.old → result.code ≢ 10 }
-    ensures no_length { result.code ≢ 6 }
+    ensures enough { 5 * length arcs.now ≤ length out.old → result.code ≢ OUTPUT_TOO_SHORT }
+    ensures no_length { result.code ≢ LENGTH }
 {
     // An identifier of the default capacity is quicker to make.
     match encoded::<39>(arcs) {
-        Err(Error::Length) => write_past_39_octets(arcs, out),
+        Err(Error::Length) => write_long_arcs(arcs, out),
         oid => write_octets(oid, out),
     }
 }
 
-/// Writes the contents octets of arcs, or reports why there are none. An identifier of up to 255 octets is quicker to make.
+/// Writes the contents octets of arcs, any number of them, or counts those that do not fit. An identifier of up to 255
+/// octets is quicker to make.
 #[tactic(auto, using(crate::proofs::Capacities::same_arcs))]
 #[inline(never)]
-fn write_past_39_octets(arcs: &[u32], out: &mut [u8]) -> Status
+fn write_long_arcs(arcs: &[u32], out: &mut [u8]) -> Status
     ensures status { result ≡ output_status (length out.old) (octets_of_arcs (item_answer root_rule arcs.now max_len)) }
     ensures written { out.new ≡ output_after out.old (octets_of_arcs (item_answer root_rule arcs.now max_len)) }
 {
     match encoded::<MAX_OCTETS>(arcs) {
-        Err(Error::Length) => write_past_255_octets(arcs, out),
+        Err(Error::Length) => match outputs::bytes_from_arcs(arcs, out) {
+            Ok(len) => len_status(len),
+            // At the greatest limit, the error of any other kind is the same.
+            Err(_) => unwritten_status(outputs::bytes_len_from_arcs(arcs, usize::MAX)),
+        },
         oid => write_octets(oid, out),
-    }
-}
-
-/// Writes the contents octets of arcs, any number of them, or counts those that do not fit.
-fn write_past_255_octets(arcs: &[u32], out: &mut [u8]) -> Status
-    ensures status { result ≡ output_status (length out.old) (octets_of_arcs (item_answer root_rule arcs.now max_len)) }
-    ensures written { out.new ≡ output_after out.old (octets_of_arcs (item_answer root_rule arcs.now max_len)) }
-{
-    match ObjectIdentifierRef::bytes_from_arcs(arcs, out) {
-        Ok(len) => len_status(len),
-        // At the greatest limit, the error of any other kind is the same.
-        Err(_) => unwritten_status(ObjectIdentifierRef::bytes_len_from_arcs(arcs, usize::MAX)),
     }
 }
 
 /// The identifier that has these arcs.
 pub(crate) fn encoded<const N: usize>(arcs: &[u32]) -> Result<ObjectIdentifier<N>>
-    ensures { oid_answer result ≡ item_answer root_rule arcs.now (min N 255) }
+    ensures { oid_answer result ≡ item_answer root_rule arcs.now (min N MAX_OCTETS) }
 {
     ObjectIdentifier::<N>::from_arcs_sized(arcs.iter().copied())
 }

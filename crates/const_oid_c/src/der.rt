@@ -7,13 +7,15 @@ ghost use Rattle.const_oid_c.specs.Status.{code_status, len_status, output_statu
 ghost use Rattle.const_oid_c.specs.Results.{borrowed_answer, output_of, status_of};
 
 use crate::lists::Octets;
-use crate::status::{NO_ELEMENT, Status, code_status, error_status, len_status, too_short_status};
+use crate::status::{
+    NO_ELEMENT, OUTPUT_TOO_SHORT, Status, code_status, error_status, len_status, too_short_status,
+};
 use const_oid::ObjectIdentifierRef;
 
 /// Reads the element that bytes begin with: how many of them it has, and where its contents octets are.
 #[unsafe(no_mangle)]
 pub extern "C" fn const_oid_from_der<'a>(der: &'a [u8], contents: &mut Octets<'a>) -> Status
-    ensures none { ((octets rest : List ℕ) → der.now ≢ element octets ++ rest) → result ≡ code_status 14 }
+    ensures none { ((octets rest : List ℕ) → der.now ≢ element octets ++ rest) → result ≡ code_status NO_ELEMENT }
     ensures status { (octets rest : List ℕ) → der.now ≡ element octets ++ rest
         → result ≡ status_of (λ _. len_status (length (element octets))) (borrowed_answer octets) }
     ensures contents { (octets rest : List ℕ) → der.now ≡ element octets ++ rest → result.code ≡ 0
@@ -37,7 +39,7 @@ pub extern "C" fn const_oid_from_der<'a>(der: &'a [u8], contents: &mut Octets<'a
 pub extern "C" fn const_oid_to_der(octets: &[u8], out: &mut [u8]) -> Status
     ensures status { result ≡ output_status (length out.old) (output_of (λ _. element octets.now) (borrowed_answer octets.now)) }
     ensures written { out.new ≡ output_after out.old (output_of (λ _. element octets.now) (borrowed_answer octets.now)) }
-    ensures enough { length octets.now + 10 ≤ length out.old → result.code ≢ 10 }
+    ensures enough { length octets.now + 10 ≤ length out.old → result.code ≢ OUTPUT_TOO_SHORT }
 {
     match ObjectIdentifierRef::from_bytes(octets) {
         Ok(oid) => match oid.write_element(out) {

@@ -204,9 +204,8 @@ fn read_after<'a>(
 {
     match ObjectIdentifierRef::from_bytes(octets) {
         Ok(oid) if comes_before(oid, before) => Err(Status {
-            code: UNSORTED,
-            detail: 0,
             len: index,
+            ..code_status(UNSORTED)
         }),
         Ok(oid) => Ok(oid),
         Err(fault) => Err(fault_at(index, fault)),

@@ -1,5 +1,5 @@
 //! What a function returns besides its output, and the version of the library.
-ghost use Rattle.std.specs.Prelude.{◌≡◌, ◌<◌};
+ghost use Rattle.std.specs.Prelude.{◌≡◌, ◌<◌, ◌+◌, ◌*◌};
 ghost use Rattle.const_oid_c.specs.Status.{error_status, fault_at, code_status, len_status, number_status, too_short_status, flag_status, order_number, order_status};
 
 use const_oid::Error;
@@ -187,7 +187,7 @@ pub(crate) fn order_number(ordering: Ordering) -> i32
 /// `CONST_OID_VERSION`.
 #[unsafe(no_mangle)]
 pub extern "C" fn const_oid_version() -> u32
-    ensures { result ≡ 66304 }
+    ensures { result ≡ 65536 * 1 + 256 * 3 }
 {
     (1 << 16) + (3 << 8)
 }

@@ -8,9 +8,10 @@ ghost use Rattle.const_oid_c.specs.Results.{octets_of_ascii, octets_of_text, out
 use crate::output::{write_bytes, write_octets};
 use crate::owned::MAX_OCTETS;
 use crate::status::{
-    NOT_UTF8, Status, code_status, error_status, fault_at, len_status, too_short_status,
+    LENGTH, NOT_UTF8, OUTPUT_TOO_SHORT, Status, code_status, error_status, fault_at, len_status,
+    too_short_status,
 };
-use const_oid::{Error, ObjectIdentifier, ObjectIdentifierRef};
+use const_oid::{Error, ObjectIdentifier, ObjectIdentifierRef, outputs};
 use std::str;
 
 /// Writes the contents octets of the identifier that dotted text denotes.
@@ -18,12 +19,12 @@ use std::str;
 pub extern "C" fn const_oid_from_text(text: &[u8], out: &mut [u8]) -> Status
     ensures status { result ≡ output_status (length out.old) (octets_of_text text.now) }
     ensures written { out.new ≡ output_after out.old (octets_of_text text.now) }
-    ensures enough { length text.now ≤ length out.old → result.code ≢ 10 }
-    ensures no_length { result.code ≢ 6 }
+    ensures enough { length text.now ≤ length out.old → result.code ≢ OUTPUT_TOO_SHORT }
+    ensures no_length { result.code ≢ LENGTH }
 {
     // An identifier of the default capacity is quicker to make.
     let mut octets = [0; 39];
-    match ObjectIdentifierRef::from_ascii_in_39(text, &mut octets) {
+    match outputs::from_ascii_in_39(text, &mut octets) {
         Ok(oid) => write_bytes(oid.as_bytes(), out),
         Err((fault, index)) => write_after_fault(text, out, fault, index),
     }
@@ -40,43 +41,35 @@ fn write_after_fault(text: &[u8], out: &mut [u8], fault: Error, index: usize) ->
     ensures status { result ≡ output_status (length out.old) (octets_of_text text.now) }
     ensures written { out.new ≡ output_after out.old (octets_of_text text.now) }
 {
-    // The digits and dots of a valid text are ASCII, so only the others can fail to be UTF-8.
+    // Only a wrong text can fail to be UTF-8: a valid one has ASCII digits and dots alone.
     if str::from_utf8(text).is_err() {
         return code_status(NOT_UTF8);
     }
     // At a greater capacity, only `Length` can become another result.
     match fault {
-        Error::Length => write_past_39_octets(text, out),
+        Error::Length => write_long_text(text, out),
         other => fault_at(index, other),
     }
 }
 
-/// Writes the contents octets of the identifier that dotted text denotes, or reports why there is none. An identifier of
-/// up to 255 octets is quicker to make.
+/// Writes the contents octets of the identifier that dotted text denotes, of any length, or counts those that do not fit.
+/// An identifier of up to 255 octets is quicker to make.
 #[tactic(auto, using(crate::proofs::Capacities::same_text))]
-fn write_past_39_octets(text: &[u8], out: &mut [u8]) -> Status
+fn write_long_text(text: &[u8], out: &mut [u8]) -> Status
     ensures status { result ≡ output_status (length out.old) (octets_of_ascii text.now) }
     ensures written { out.new ≡ output_after out.old (octets_of_ascii text.now) }
 {
     match ObjectIdentifier::<MAX_OCTETS>::from_ascii(text) {
         Ok(oid) => write_octets(Ok(oid), out),
-        Err(Error::Length) => write_past_255_octets(text, out),
-        Err(fault) => component_status(fault, text),
-    }
-}
-
-/// Writes the contents octets of the identifier that dotted text denotes, of any length, or counts those that do not fit.
-fn write_past_255_octets(text: &[u8], out: &mut [u8]) -> Status
-    ensures status { result ≡ output_status (length out.old) (octets_of_ascii text.now) }
-    ensures written { out.new ≡ output_after out.old (octets_of_ascii text.now) }
-{
-    match ObjectIdentifierRef::bytes_from_ascii(text, out) {
-        Ok(len) => len_status(len),
-        // At the greatest limit, the error of any other kind is the same.
-        Err(_) => match ObjectIdentifierRef::bytes_len_from_ascii(text, usize::MAX) {
-            Ok(len) => too_short_status(len),
-            Err(fault) => component_status(fault, text),
+        Err(Error::Length) => match outputs::bytes_from_ascii(text, out) {
+            Ok(len) => len_status(len),
+            // At the greatest limit, the error of any other kind is the same.
+            Err(_) => match outputs::bytes_len_from_ascii(text, usize::MAX) {
+                Ok(len) => too_short_status(len),
+                Err(fault) => component_status(fault, text),
+            },
         },
+        Err(fault) => component_status(fault, text),
     }
 }
 

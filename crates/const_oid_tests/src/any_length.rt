@@ -1,7 +1,7 @@
 //! Identifiers of any length from text and arcs, in octets of the caller.
 
 use crate::vectors::{long_octets, long_text};
-use const_oid::{Arc, Error, ObjectIdentifierRef};
+use const_oid::{Arc, Error, ObjectIdentifierRef, outputs};
 use std::alloc::{AllocError, Global};
 
 /// How an identifier begins and what follows any number of times: as text, as octets and as arcs.
@@ -75,7 +75,7 @@ fn is_read(
     wanted: Result<&[u8], Error>,
 ) -> Result<bool, AllocError> {
     let mut out = vec![in alloc; 0xEE; room]?;
-    let counted = ObjectIdentifierRef::bytes_len_from_ascii(text, room);
+    let counted = outputs::bytes_len_from_ascii(text, room);
     let read = ObjectIdentifierRef::from_ascii_in(text, &mut out).map(|oid| oid.as_bytes().len());
     Ok(is_filled(&out, counted, read, wanted))
 }
@@ -88,7 +88,7 @@ fn is_encoded(
     wanted: Result<&[u8], Error>,
 ) -> Result<bool, AllocError> {
     let mut out = vec![in alloc; 0xEE; room]?;
-    let counted = ObjectIdentifierRef::bytes_len_from_arcs(arcs, room);
+    let counted = outputs::bytes_len_from_arcs(arcs, room);
     let read = ObjectIdentifierRef::from_arcs_in(arcs, &mut out).map(|oid| oid.as_bytes().len());
     Ok(is_filled(&out, counted, read, wanted))
 }

@@ -2,7 +2,7 @@
 
 use crate::formatter::prints_as;
 use crate::vectors::{is_answer, long_text};
-use const_oid::{Error, ObjectIdentifierRef, Oid};
+use const_oid::{Error, ObjectIdentifierRef, Oid, outputs};
 use std::alloc::{AllocError, Global};
 
 /// Texts that are rejected, and the error.
@@ -65,7 +65,7 @@ fn all_read(text: &str, wanted: Result<&[u8], Error>) -> bool {
 
 /// The octets of a text, or its error, by `from_ascii_in_39`.
 fn parse_borrowed<'o>(text: &str, out: &'o mut [u8; 39]) -> Result<&'o [u8], Error> {
-    let read = ObjectIdentifierRef::from_ascii_in_39(text.as_bytes(), out);
+    let read = outputs::from_ascii_in_39(text.as_bytes(), out);
     read.map(|oid| oid.as_bytes()).map_err(|fault| fault.0)
 }
 

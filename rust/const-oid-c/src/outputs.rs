@@ -1,7 +1,7 @@
 //! Results of `const-oid` that are written to an output, which the caller may not have written: without unsafe code.
 
 use crate::edge::{Output, copy, zeroed};
-use const_oid::internal_for_const_oid_c::{self, Error, ObjectIdentifierRef, Result};
+use const_oid::internal_for_const_oid_c::{self, Error, ObjectIdentifierRef, Result, outputs};
 
 /// The most bytes of an error's text: `CONST_OID_MAX_ERROR_TEXT` of the header.
 const MAX_ERROR_TEXT: usize = 47;
@@ -21,14 +21,14 @@ pub(crate) fn write_element(oid: &ObjectIdentifierRef, out: &mut Output<u8>) -> 
 
 /// Writes the octets of a text at the start of an output, and returns how many. On an error it is unchanged.
 pub(crate) fn bytes_from_ascii(text: &[u8], out: &mut Output<u8>) -> Result<usize> {
-    let len = internal_for_const_oid_c::bytes_len_from_ascii(text, out.len())?;
-    internal_for_const_oid_c::bytes_from_ascii(text, zeroed(&mut out[..len]))
+    let len = outputs::bytes_len_from_ascii(text, out.len())?;
+    internal_for_const_oid_c::parse(text, zeroed(&mut out[..len]), len)
 }
 
 /// Writes the octets of arcs at the start of an output, and returns how many. On an error it is unchanged.
 pub(crate) fn bytes_from_arcs(arcs: &[u32], out: &mut Output<u8>) -> Result<usize> {
-    let len = internal_for_const_oid_c::bytes_len_from_arcs(arcs, out.len())?;
-    internal_for_const_oid_c::bytes_from_arcs(arcs, zeroed(&mut out[..len]))
+    let len = outputs::bytes_len_from_arcs(arcs, out.len())?;
+    internal_for_const_oid_c::encode(arcs, zeroed(&mut out[..len]), len)
 }
 
 /// Writes the text of an error at the start of an output, and returns its length. `None` if it is longer

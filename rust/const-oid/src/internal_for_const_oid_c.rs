@@ -1,32 +1,24 @@
-//! What the library `const-oid-c` needs, which is generated over it: types of the generated modules, and functions that
-//! the API lacks. No other crate may use this module: it may change in any release.
+//! What the library `const-oid-c` needs, which is generated over it: generated modules and their types, and functions
+//! that the API lacks. No other crate may use this module: it may change in any release.
 
-pub use crate::erased::search;
 pub use crate::erased::{Arcs, Error, ObjectIdentifier, ObjectIdentifierRef, Oid, Result};
+pub use crate::erased::{outputs, search};
 
 use crate::Arc;
+use crate::erased::{encoder, parser};
 
-/// A result, or an error and the index of its component of a text.
-pub type Placed<T> = core::result::Result<T, (Error, usize)>;
-
-/// Functions of borrowed identifiers.
-macro_rules! calls {
-    ($($name:ident $(<$life:lifetime>)? ($input:ident: $of:ty, $other:ident: $to:ty) -> $result:ty;)*) => {
-        $(
-            #[inline(always)]
-            #[allow(missing_docs)]
-            pub fn $name $(<$life>)? ($input: $of, $other: $to) -> $result {
-                ObjectIdentifierRef::$name($input, $other)
-            }
-        )*
-    };
+/// Prints octets as it checks them.
+#[inline(always)]
+pub fn text_from_bytes(ber: &[u8], out: &mut [u8]) -> Option<Result<usize>> {
+    ObjectIdentifierRef::text_from_bytes(ber, out)
 }
 
-calls! {
-    bytes_from_arcs(arcs: &[Arc], out: &mut [u8]) -> Result<usize>;
-    bytes_from_ascii(text: &[u8], out: &mut [u8]) -> Result<usize>;
-    bytes_len_from_arcs(arcs: &[Arc], limit: usize) -> Result<usize>;
-    bytes_len_from_ascii(text: &[u8], limit: usize) -> Result<usize>;
-    from_ascii_in_39<'a>(text: &[u8], out: &'a mut [u8; 39]) -> Placed<&'a ObjectIdentifierRef>;
-    text_from_bytes(ber: &[u8], out: &mut [u8]) -> Option<Result<usize>>;
+/// Writes the octets of a text in one pass. On an error, `out` may be changed.
+pub fn parse(text: &[u8], out: &mut [u8], capacity: usize) -> Result<usize> {
+    parser::parse_to(text, out, capacity)
+}
+
+/// Writes the octets of arcs in one pass. On an error, `out` may be changed.
+pub fn encode(arcs: &[Arc], out: &mut [u8], capacity: usize) -> Result<usize> {
+    encoder::encode_slice(arcs, out, capacity)
 }

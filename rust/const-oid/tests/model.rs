@@ -283,7 +283,7 @@ fn write_text(text: &str, size: usize) {
     check_written(text, size, &answer, |out| ObjectIdentifierRef::from_ascii_in(text.as_bytes(), out));
     #[cfg(feature = "internal-for-const-oid-c")]
     if let (39, Ok(_)) = (size, &answer) {
-        let parse = const_oid::internal_for_const_oid_c::from_ascii_in_39;
+        let parse = const_oid::internal_for_const_oid_c::outputs::from_ascii_in_39;
         check_written(text, size, &answer, |out| {
             parse(text.as_bytes(), out.try_into().unwrap()).map_err(|fault| fault.0)
         });

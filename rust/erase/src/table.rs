@@ -31,7 +31,7 @@ macro_rules! edits {
 const LANES: &str = "lanes are unstable in Rust";
 const EQUALITY: &str = "constants in patterns need the derived `==`; zeros follow the octets in use (`ghost zeros`)";
 const UNSIZED: &str = "the crate's borrowed form is unsized, as in the crate of this name, and lies behind a reference";
-const FOR_C: &str = "the library for C calls it, and the API has no such function";
+const FOR_C: &str = "the library for C calls what the API has no function for";
 const BY_CORE: &str = "`core` compares slices by `memcmp`, which takes less time, and callers inline the call";
 const BOUNDS: &str = "a bound at no cost, where Rattle keeps the default of the trait";
 const LISTED: &str = "a caller by hand lists the entries";
@@ -48,6 +48,8 @@ pub const CRATES: &[Crate] = &[
                 => "#[cfg(feature = \"db\")] pub mod db; #[cfg(feature = \"db\")] mod db_sorted;",
                 "they are of a feature";
             "lib": "pub(crate) mod links;" => "#[cfg(feature = \"db\")] pub(crate) mod links;", "as above";
+            "lib": "mod encoder;" => "pub(crate) mod encoder;", FOR_C;
+            "lib": "mod parser;" => "pub(crate) mod parser;", FOR_C;
             "oid_ref": "#[derive(Copy, Clone, Eq, Hash)] pub struct ObjectIdentifierRef<'a> { pub ber: &'a [u8], }"
                 => "#[derive(Eq, Hash)]\n#[repr(transparent)]\npub struct ObjectIdentifierRef {\n ber: [u8],\n}", UNSIZED;
             "oid_ref": "pub(crate) const fn from_checked(ber: &'a [u8]) -> Self { ObjectIdentifierRef { ber } }"
@@ -65,7 +67,6 @@ pub const CRATES: &[Crate] = &[
             "oid_ref": "fn from_ascii_in" => "fn from_ascii_in<'a>", UNSIZED;
             "oid_ref": "fn from_arcs_in" => "fn from_arcs_in<'a>", UNSIZED;
             "oid_ref*": "Result<Self>" => "Result<&'a Self>", UNSIZED;
-            "oid_ref": "Result<Self, (Error, usize)>" => "Result<&'a Self, (Error, usize)>", UNSIZED;
             "oid_ref*": "self.ber" => "self.as_bytes()", UNSIZED;
             "oid_ref*": "other.ber" => "other.as_bytes()", UNSIZED;
             "oid_ref": "-> &'a [u8] { self.as_bytes() }" => "-> &[u8] {\n &self.ber\n }", UNSIZED;
@@ -76,14 +77,8 @@ pub const CRATES: &[Crate] = &[
             "oid_ref": "fn cmp(&self, other: &Self) -> Ordering { order(self.as_bytes(), other.as_bytes()) }"
                 => "#[inline]\nfn cmp(&self, other: &Self) -> Ordering {\n self.ber.cmp(&other.ber)\n }", BY_CORE;
             "oid_ref": "fn partial_cmp" => "#[inline]\nfn partial_cmp", "as above, where a caller is compiled without LTO";
-            "oid_ref": "fn from_ascii_in_39" => "fn from_ascii_in_39<'a>", UNSIZED;
             "oid": "impl ObjectIdentifierRef<'_>" => "impl ObjectIdentifierRef", UNSIZED;
             "oid": "pub const fn eq_oid" => "pub(crate) const fn eq_oid", "public as `==`";
-            "oid_ref": "pub fn bytes_from_arcs" => "pub(crate) fn bytes_from_arcs", FOR_C;
-            "oid_ref": "pub fn bytes_from_ascii" => "pub(crate) fn bytes_from_ascii", FOR_C;
-            "oid_ref": "pub fn bytes_len_from_arcs" => "pub(crate) fn bytes_len_from_arcs", FOR_C;
-            "oid_ref": "pub fn bytes_len_from_ascii" => "pub(crate) fn bytes_len_from_ascii", FOR_C;
-            "oid_ref": "pub fn from_ascii_in_39" => "pub(crate) fn from_ascii_in_39", FOR_C;
             "oid_ref": "pub fn text_from_bytes" => "pub(crate) fn text_from_bytes", FOR_C;
             "": "&ObjectIdentifierRef<'_>" => "&ObjectIdentifierRef", UNSIZED;
             "": "ObjectIdentifierRef<'_>" => "&ObjectIdentifierRef", UNSIZED;
@@ -164,12 +159,6 @@ pub const CRATES: &[Crate] = &[
             "": "ObjectIdentifierRef<'a>" => "&'a ObjectIdentifierRef", UNSIZED;
             "texts*": "ObjectIdentifierRef::text_from_bytes"
                 => "const_oid::internal_for_const_oid_c::text_from_bytes", FOR_C;
-            "texts": "ObjectIdentifierRef::from_ascii_in_39"
-                => "const_oid::internal_for_const_oid_c::from_ascii_in_39", FOR_C;
-            "texts": "ObjectIdentifierRef::bytes_len_from_ascii"
-                => "const_oid::internal_for_const_oid_c::bytes_len_from_ascii", FOR_C;
-            "arcs": "ObjectIdentifierRef::bytes_len_from_arcs"
-                => "const_oid::internal_for_const_oid_c::bytes_len_from_arcs", FOR_C;
             "lists": "#[repr(C)] #[derive(Clone, Copy)] pub struct Octets<'a> { pub octets: &'a [u8], }
                         impl<'a> Octets<'a> { fn get(&self) -> &'a [u8] { self.octets } }
                         impl Contents for Octets<'_> { fn contents(&self) -> &[u8] { self.octets } }"
@@ -189,10 +178,8 @@ pub const CRATES: &[Crate] = &[
             "texts*": "#[inline(never)] fn" => "#[inline(never)]\nextern \"C\" fn",
                 "so a rare path returns in registers, as exports do, and the usual one needs no memory for a `Status`";
             "texts": "oid.encode_text(out)" => "crate::outputs::encode(oid, out)", UNWRITTEN;
-            "texts": "ObjectIdentifierRef::bytes_from_ascii(text, out)"
-                => "crate::outputs::bytes_from_ascii(text, out)", UNWRITTEN;
-            "arcs": "ObjectIdentifierRef::bytes_from_arcs(arcs, out)"
-                => "crate::outputs::bytes_from_arcs(arcs, out)", UNWRITTEN;
+            "texts": "outputs::bytes_from_ascii(text, out)" => "crate::outputs::bytes_from_ascii(text, out)", UNWRITTEN;
+            "arcs": "outputs::bytes_from_arcs(arcs, out)" => "crate::outputs::bytes_from_arcs(arcs, out)", UNWRITTEN;
             "errors": "error.encode_text(out)" => "crate::outputs::encode_error(error, out)", UNWRITTEN;
         },
     },

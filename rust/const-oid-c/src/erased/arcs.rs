@@ -4,8 +4,10 @@
 
 use crate::erased::output::{unwritten_status, write_octets};
 use crate::erased::owned::MAX_OCTETS;
-use crate::erased::status::{NONE, Status, code_status, error_status, len_status, number_status, too_short_status};
-use const_oid::internal_for_const_oid_c::{Arcs, Error, ObjectIdentifier, ObjectIdentifierRef, Result};
+use crate::erased::status::{
+    LENGTH, NONE, OUTPUT_TOO_SHORT, Status, code_status, error_status, len_status, number_status, too_short_status,
+};
+use const_oid::internal_for_const_oid_c::{Arcs, Error, ObjectIdentifier, ObjectIdentifierRef, Result, outputs};
 
 /// Checks contents octets of any length.
 pub fn const_oid_check(octets: &[u8]) -> Status {
@@ -38,26 +40,22 @@ pub fn const_oid_arc(octets: &[u8], index: usize) -> Status {
 pub fn const_oid_from_arcs(arcs: &[u32], out: &mut crate::edge::Output<u8>) -> Status {
     // An identifier of the default capacity is quicker to make.
     match encoded::<39>(arcs) {
-        Err(Error::Length) => write_past_39_octets(arcs, out),
+        Err(Error::Length) => write_long_arcs(arcs, out),
         oid => write_octets(oid, out),
     }
 }
 
-/// Writes the contents octets of arcs, or reports why there are none. An identifier of up to 255 octets is quicker to make.
+/// Writes the contents octets of arcs, any number of them, or counts those that do not fit. An identifier of up to 255
+/// octets is quicker to make.
 #[inline(never)]
-fn write_past_39_octets(arcs: &[u32], out: &mut crate::edge::Output<u8>) -> Status {
+fn write_long_arcs(arcs: &[u32], out: &mut crate::edge::Output<u8>) -> Status {
     match encoded::<MAX_OCTETS>(arcs) {
-        Err(Error::Length) => write_past_255_octets(arcs, out),
+        Err(Error::Length) => match crate::outputs::bytes_from_arcs(arcs, out) {
+            Ok(len) => len_status(len),
+            // At the greatest limit, the error of any other kind is the same.
+            Err(_) => unwritten_status(outputs::bytes_len_from_arcs(arcs, usize::MAX)),
+        },
         oid => write_octets(oid, out),
-    }
-}
-
-/// Writes the contents octets of arcs, any number of them, or counts those that do not fit.
-fn write_past_255_octets(arcs: &[u32], out: &mut crate::edge::Output<u8>) -> Status {
-    match crate::outputs::bytes_from_arcs(arcs, out) {
-        Ok(len) => len_status(len),
-        // At the greatest limit, the error of any other kind is the same.
-        Err(_) => unwritten_status(const_oid::internal_for_const_oid_c::bytes_len_from_arcs(arcs, usize::MAX)),
     }
 }
 

@@ -3,7 +3,9 @@
 //! Elements of identifiers in DER: tag, length and contents octets.
 
 use crate::erased::lists::Octets;
-use crate::erased::status::{NO_ELEMENT, Status, code_status, error_status, len_status, too_short_status};
+use crate::erased::status::{
+    NO_ELEMENT, OUTPUT_TOO_SHORT, Status, code_status, error_status, len_status, too_short_status,
+};
 use const_oid::internal_for_const_oid_c::ObjectIdentifierRef;
 
 /// Reads the element that bytes begin with: how many of them it has, and where its contents octets are.

@@ -102,7 +102,7 @@ fn read_after<'a>(
     octets: &'a [u8],
 ) -> Result<&'a ObjectIdentifierRef, Status> {
     match ObjectIdentifierRef::from_bytes(octets) {
-        Ok(oid) if comes_before(oid, before) => Err(Status { code: UNSORTED, detail: 0, len: index }),
+        Ok(oid) if comes_before(oid, before) => Err(Status { len: index, ..code_status(UNSORTED) }),
         Ok(oid) => Ok(oid),
         Err(fault) => Err(fault_at(index, fault)),
     }

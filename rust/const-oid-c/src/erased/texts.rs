@@ -4,15 +4,17 @@
 
 use crate::erased::output::{write_bytes, write_octets};
 use crate::erased::owned::MAX_OCTETS;
-use crate::erased::status::{NOT_UTF8, Status, code_status, error_status, fault_at, len_status, too_short_status};
-use const_oid::internal_for_const_oid_c::{Error, ObjectIdentifier, ObjectIdentifierRef};
+use crate::erased::status::{
+    LENGTH, NOT_UTF8, OUTPUT_TOO_SHORT, Status, code_status, error_status, fault_at, len_status, too_short_status,
+};
+use const_oid::internal_for_const_oid_c::{Error, ObjectIdentifier, ObjectIdentifierRef, outputs};
 use core::str;
 
 /// Writes the contents octets of the identifier that dotted text denotes.
 pub fn const_oid_from_text(text: &[u8], out: &mut crate::edge::Output<u8>) -> Status {
     // An identifier of the default capacity is quicker to make.
     let mut octets = [0; 39];
-    match const_oid::internal_for_const_oid_c::from_ascii_in_39(text, &mut octets) {
+    match outputs::from_ascii_in_39(text, &mut octets) {
         Ok(oid) => write_bytes(oid.as_bytes(), out),
         Err((fault, index)) => write_after_fault(text, out, fault, index),
     }
@@ -23,36 +25,31 @@ pub fn const_oid_from_text(text: &[u8], out: &mut crate::edge::Output<u8>) -> St
 #[cold]
 #[inline(never)]
 extern "C" fn write_after_fault(text: &[u8], out: &mut crate::edge::Output<u8>, fault: Error, index: usize) -> Status {
-    // The digits and dots of a valid text are ASCII, so only the others can fail to be UTF-8.
+    // Only a wrong text can fail to be UTF-8: a valid one has ASCII digits and dots alone.
     if str::from_utf8(text).is_err() {
         return code_status(NOT_UTF8);
     }
     // At a greater capacity, only `Length` can become another result.
     match fault {
-        Error::Length => write_past_39_octets(text, out),
+        Error::Length => write_long_text(text, out),
         other => fault_at(index, other),
     }
 }
 
-/// Writes the contents octets of the identifier that dotted text denotes, or reports why there is none. An identifier of
-/// up to 255 octets is quicker to make.
-fn write_past_39_octets(text: &[u8], out: &mut crate::edge::Output<u8>) -> Status {
+/// Writes the contents octets of the identifier that dotted text denotes, of any length, or counts those that do not fit.
+/// An identifier of up to 255 octets is quicker to make.
+fn write_long_text(text: &[u8], out: &mut crate::edge::Output<u8>) -> Status {
     match ObjectIdentifier::<MAX_OCTETS>::from_ascii(text) {
         Ok(oid) => write_octets(Ok(oid), out),
-        Err(Error::Length) => write_past_255_octets(text, out),
-        Err(fault) => component_status(fault, text),
-    }
-}
-
-/// Writes the contents octets of the identifier that dotted text denotes, of any length, or counts those that do not fit.
-fn write_past_255_octets(text: &[u8], out: &mut crate::edge::Output<u8>) -> Status {
-    match crate::outputs::bytes_from_ascii(text, out) {
-        Ok(len) => len_status(len),
-        // At the greatest limit, the error of any other kind is the same.
-        Err(_) => match const_oid::internal_for_const_oid_c::bytes_len_from_ascii(text, usize::MAX) {
-            Ok(len) => too_short_status(len),
-            Err(fault) => component_status(fault, text),
+        Err(Error::Length) => match crate::outputs::bytes_from_ascii(text, out) {
+            Ok(len) => len_status(len),
+            // At the greatest limit, the error of any other kind is the same.
+            Err(_) => match outputs::bytes_len_from_ascii(text, usize::MAX) {
+                Ok(len) => too_short_status(len),
+                Err(fault) => component_status(fault, text),
+            },
         },
+        Err(fault) => component_status(fault, text),
     }
 }
 

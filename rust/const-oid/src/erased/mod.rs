@@ -15,17 +15,18 @@ pub mod db;
 mod db_sorted;
 mod digits;
 mod element;
-mod encoder;
+pub(crate) mod encoder;
 pub mod error;
 mod fast;
 #[cfg(feature = "db")]
 pub(crate) mod links;
 pub mod oid;
 pub mod oid_ref;
-mod parser;
+// Its functions are for the other crates, and so are those of `search`: Rust hides them.
+pub mod outputs;
+pub(crate) mod parser;
 mod parts;
 mod root;
-// Its functions are for the other crates: Rust hides them.
 pub mod search;
 mod text;
 mod valid;

@@ -1,6 +1,6 @@
 use Rattle.std.proofs.Common.{length, arith}
 use Rattle.const_oid.specs.Identifier.{root_rule}
-use Rattle.const_oid.proofs.{Capacities.items_bounded, Outputs.copied}
+use Rattle.const_oid.proofs.{Capacities.items_bounded, Appended.copied}
 use Rattle.const_oid.proofs.encoder.encode_in_one_pass.Goals as goal
 
 pub returns-in_err-len-clause-answer : goal.returns-in_err-len-clause-answer

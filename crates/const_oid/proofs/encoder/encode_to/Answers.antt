@@ -1,6 +1,6 @@
 use Rattle.std.proofs.Common.{[], ◌∷◌, Ok, Err, refl, sym, ◌∙◌, arith}
 use Rattle.const_oid.specs.{Identifier.{root_rule, max_second}, declared.error.Error.TheVariants.{ArcInvalid, Empty}}
-use Rattle.const_oid.proofs.{Faults.some_from_above, Outputs.{root_given, later_given, all_given}}
+use Rattle.const_oid.proofs.{Faults.some_from_above, Appended.{root_given, later_given, all_given}}
 use Rattle.const_oid.proofs.TakesItems.{first_taken, takes_all, takes_few, takes_prefix, stopped}
 use Rattle.const_oid.proofs.encoder.encode_to.Goals as goal
 

@@ -1,5 +1,5 @@
 use Rattle.std.proofs.Common.{◌∷◌}
-use Rattle.const_oid.proofs.Outputs.{IsGivenTo}
+use Rattle.const_oid.proofs.Appended.{IsGivenTo}
 use Rattle.const_oid.proofs.encoder.encode_to.Given as goal
 
 abbrev pub invariant-loop-arc : goal.invariant-loop-arc

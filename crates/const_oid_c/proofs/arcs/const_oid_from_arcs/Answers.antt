@@ -7,11 +7,11 @@ use Rattle.const_oid_c.proofs.arcs.const_oid_from_arcs.Goals as goal
 
 pub returns-in-Err-Length-clause-enough : goal.returns-in-Err-Length-clause-enough
 returns-in-Err-Length-clause-enough c =
-    arcs_enough (length c.args.out.now) c.args.arcs.now (λ k. omega (arith, c.type_inv.arcs k)) (omega arith) c.write_past_39_octets.ensures.status
+    arcs_enough (length c.args.out.now) c.args.arcs.now (λ k. omega (arith, c.type_inv.arcs k)) (omega arith) c.write_long_arcs.ensures.status
 
 pub returns-in-Err-Length-clause-no_length : goal.returns-in-Err-Length-clause-no_length
 returns-in-Err-Length-clause-no_length c =
-    arcs_no_length (length c.args.out.now) c.args.arcs.now (λ k. omega (arith, c.type_inv.arcs k)) (omega arith) c.write_past_39_octets.ensures.status
+    arcs_no_length (length c.args.out.now) c.args.arcs.now (λ k. omega (arith, c.type_inv.arcs k)) (omega arith) c.write_long_arcs.ensures.status
 
 pub returns-in_default-clause-enough : goal.returns-in_default-clause-enough
 returns-in_default-clause-enough c =

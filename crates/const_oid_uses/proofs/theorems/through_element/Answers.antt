@@ -1,21 +1,17 @@
-use Rattle.std.proofs.Common.{◌≡◌, ◌≢◌, ℕ, ◌≤◌, List, ◌++◌, length, drop, ap, ◌∙◌, sym, arith, subst, length-append}
+use Rattle.std.proofs.Common.{◌≡◌, ◌≢◌, ℕ, ◌≤◌, List, ◌++◌, length, drop, ap, ◌∙◌, arith, subst}
 use Rattle.std.specs.Borrow.{Bor}
 use Rattle.std.specs.Prelude.{Option, None, Some, Result, Ok, Err, MatchOption, IsSomeAnd, IsOkAnd}
 use Rattle.const_oid.specs.declared.error.Error.{Error}
 use Rattle.const_oid.specs.declared.oid_ref.ObjectIdentifierRef.{ObjectIdentifierRef}
 use Rattle.const_oid.specs.Contents.{octet_answer, arcs_of_octets, borrowed_capacity}
-use Rattle.const_oid.specs.{Element.{element, length_octets}, Error.answer, Identifier.root_rule, OidRef.{ref_octets, ReadsElement}}
-use Rattle.const_oid.proofs.{Elements.same_element, Encodings.{octet_fault-fits, ref_encoding}}
+use Rattle.const_oid.specs.{Element.element, Error.answer, Identifier.root_rule, OidRef.{ref_octets, ReadsElement}}
+use Rattle.const_oid.proofs.{Elements.only_element, Encodings.{octet_fault-fits, ref_encoding}}
 use Rattle.const_oid_uses.proofs.theorems.through_element.Goals as goal
 
 -- an identifier's octets are read without an error
 accepted : (oid : ObjectIdentifierRef) → length (ref_octets oid) ≤ borrowed_capacity
     → octet_answer root_rule (ref_octets oid) borrowed_capacity ≡ Ok (arcs_of_octets (ref_octets oid))
 accepted oid fits = ap (λ fault. answer fault (arcs_of_octets (ref_octets oid))) (octet_fault-fits _ (ref_encoding oid) fits)
-
-shorter : (contents rest der : List ℕ) → der ≡ element contents ++ rest → length contents ≤ length der
-shorter contents rest der joined =
-    omega (arith, ap length joined, length-append (element contents) rest, length-append (length_octets (length contents)) contents)
 
 -- what is read of the element of an identifier
 abbrev IsAgain : ObjectIdentifierRef → List ℕ → Result ObjectIdentifierRef Error × Bor (List ℕ) → Type 0
@@ -27,14 +23,10 @@ again : (oid : ObjectIdentifierRef) (rest : List ℕ) (der : Bor (List ℕ)) (re
     → IsSomeAnd result (IsAgain oid rest)
 again oid rest der None fits written none = absurd (none (ref_octets oid) rest written)
 again oid rest der (Some (Ok read, after)) fits written reads =
-    let small = shorter reads.contents after.now der.now reads.joined in
-    let small' = shorter (ref_octets oid) rest der.now written in
-    let (same, left) = same_element reads.contents (ref_octets oid) after.now rest (omega arith) (omega arith) (sym reads.joined ∙ written) in
+    let (same, left) = only_element der.now reads.contents (ref_octets oid) after.now rest (omega arith) reads.joined written in
     (reads.octets ∙ same, left)
 again oid rest der (Some (Err fault, after)) fits written reads =
-    let small = shorter reads.contents after.now der.now reads.joined in
-    let small' = shorter (ref_octets oid) rest der.now written in
-    let (same, left) = same_element reads.contents (ref_octets oid) after.now rest (omega arith) (omega arith) (sym reads.joined ∙ written) in
+    let (same, left) = only_element der.now reads.contents (ref_octets oid) after.now rest (omega arith) reads.joined written in
     let wrong : Err fault ≡ Ok (arcs_of_octets (ref_octets oid)) =
     reads.answer ∙ ap (λ octets. octet_answer root_rule octets borrowed_capacity) same ∙ accepted oid (omega arith) in
     cc

@@ -3,7 +3,7 @@ use Rattle.std.specs.Result.{IsErrAnd}
 use Rattle.std.proofs.lemmas.List.{drop-replicate}
 use Rattle.const_oid.specs.declared.{buffer.Buffer.Buffer, error.Error.Error}
 use Rattle.const_oid.specs.Private.Encoder.{buffer_answer}
-use Rattle.const_oid.proofs.Outputs.{taken, unused}
+use Rattle.const_oid.proofs.Appended.{taken, unused}
 use Rattle.const_oid.proofs.buffer.Buffer.encoded.Goals as goal
 
 pub invariant_of-buffer : goal.invariant_of-buffer

@@ -1,6 +1,6 @@
 use Rattle.std.proofs.Common.{arith}
 use Rattle.std.proofs.lemmas.List.{drop-replicate}
-use Rattle.const_oid.proofs.Outputs.{taken, unused}
+use Rattle.const_oid.proofs.Appended.{taken, unused}
 use Rattle.const_oid.proofs.buffer.Buffer.parsed.Goals as goal
 
 pub invariant_of-buffer : goal.invariant_of-buffer

@@ -1,7 +1,7 @@
 use Rattle.std.proofs.Common.{length, arith}
 use Rattle.const_oid.specs.Identifier.{root_rule}
-use Rattle.const_oid.proofs.{Enough.bytes_enough, Outputs.returned}
-use Rattle.const_oid.proofs.oid_ref.ObjectIdentifierRef.bytes_from_ascii.Goals as goal
+use Rattle.const_oid.proofs.{Enough.bytes_enough, Appended.returned}
+use Rattle.const_oid.proofs.outputs.bytes_from_ascii.Goals as goal
 
 pub returns-clause-answer : goal.returns-clause-answer
 returns-clause-answer c = (returned c.parse_to-2.result c.parse_to-2.ensures (omega arith)).answer

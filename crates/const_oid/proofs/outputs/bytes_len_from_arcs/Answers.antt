@@ -1,7 +1,7 @@
 use Rattle.std.proofs.Common.{arith}
 use Rattle.const_oid.specs.Identifier.{root_rule}
-use Rattle.const_oid.proofs.{Enough.five_enough, Outputs.counted}
-use Rattle.const_oid.proofs.oid_ref.ObjectIdentifierRef.bytes_len_from_arcs.Goals as goal
+use Rattle.const_oid.proofs.{Enough.five_enough, Appended.counted}
+use Rattle.const_oid.proofs.outputs.bytes_len_from_arcs.Goals as goal
 
 pub returns-clause-len : goal.returns-clause-len
 returns-clause-len c = counted _ _ _ _ c.encode_slice.result c.encode_slice.ensures

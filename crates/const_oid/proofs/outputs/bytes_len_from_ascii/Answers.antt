@@ -1,7 +1,7 @@
 use Rattle.std.proofs.Common.{arith}
 use Rattle.const_oid.specs.Identifier.{root_rule}
-use Rattle.const_oid.proofs.{Enough.bytes_enough, Outputs.counted}
-use Rattle.const_oid.proofs.oid_ref.ObjectIdentifierRef.bytes_len_from_ascii.Goals as goal
+use Rattle.const_oid.proofs.{Enough.bytes_enough, Appended.counted}
+use Rattle.const_oid.proofs.outputs.bytes_len_from_ascii.Goals as goal
 
 pub returns-clause-len : goal.returns-clause-len
 returns-clause-len c = counted _ _ _ _ c.parse_to.result c.parse_to.ensures

@@ -2,7 +2,7 @@ use Rattle.std.proofs.Common.{◌≢◌, ◌≤◌, length, Err, sym, ◌∙◌,
 use Rattle.const_oid.specs.{declared.error.Error.TheVariants.Length, Identifier.root_rule, Items.item_answer}
 use Rattle.const_oid_c.specs.Status.{len_status, max_len}
 use Rattle.const_oid_c.proofs.{Writes.{IsWritten, bytes_written}, Capacities.same_arcs, Counted.{longer_arcs, not_written}}
-use Rattle.const_oid_c.proofs.arcs.write_past_255_octets.Goals as goal
+use Rattle.const_oid_c.proofs.arcs.write_long_arcs.Goals as goal
 
 written : (c : goal.After-len_status)
     → IsWritten 0 (item_answer root_rule c.args.arcs.now max_len) c.args.out.now c.bytes_from_arcs.new.out (len_status c.in-Ok.len)
