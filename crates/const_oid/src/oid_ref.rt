@@ -19,14 +19,12 @@ use crate::base128::read_group;
 use crate::compare::{begins_with, order_by_parts};
 use crate::digits::{MAX_ARC_LEN, utf8, write_arc};
 use crate::element::{element_len, split_element, write_element};
-use crate::encoder::{ONE_PASS_ARCS, encode_in_one_pass, encode_slice};
+use crate::encoder::{ONE_PASS_ARCS, encode, encode_in_one_pass};
 use crate::error::{Error, Result};
 use crate::fast::comparison::{are_equal, order};
 use crate::fast::lanes::count_below;
 use crate::fast::steps::run_of;
-use crate::parser::{
-    ONE_PASS_BYTES, fault_and_index, parse_in_one_pass, parse_to, parse_to_inlined,
-};
+use crate::parser::{ONE_PASS_BYTES, fault_and_index, parse, parse_in_one_pass, parse_inlined};
 use crate::parts::without_last_part;
 use crate::root::split_root;
 use crate::text::{text_len, write_checked, write_text};
@@ -329,7 +327,7 @@ impl<'a> ObjectIdentifierRef<'a> {
         ensures len { result ≡ size_answer (text_answer root_rule text.now limit) }
         ensures enough { length text.now ≤ limit → result ≢ Err Error.Length }
     {
-        parse_to(text, &mut [], limit)
+        parse(text, &mut [], limit)
     }
 
     /// Parses dotted text in ASCII, of any length, and writes its contents octets to the start of `out`. Returns how many
@@ -351,8 +349,8 @@ impl<'a> ObjectIdentifierRef<'a> {
         }
         let capacity = out.len();
         // The octets are counted first, so that on an error none is written.
-        parse_to(text, &mut [], capacity)?;
-        parse_to(text, out, capacity)
+        parse(text, &mut [], capacity)?;
+        parse(text, out, capacity)
     }
 
     /// Counts the contents octets of arcs, any number of them. They are at most five for each arc.
@@ -365,7 +363,7 @@ impl<'a> ObjectIdentifierRef<'a> {
         ensures len { result ≡ size_answer (item_answer root_rule arcs.now limit) }
         ensures enough { 5 * length arcs.now ≤ limit → result ≢ Err Error.Length }
     {
-        encode_slice(arcs, &mut [], limit)
+        encode(arcs, &mut [], limit)
     }
 
     /// Encodes arcs, any number of them, and writes the contents octets to the start of `out`. Returns how many there
@@ -386,8 +384,8 @@ impl<'a> ObjectIdentifierRef<'a> {
             return encode_in_one_pass(arcs, out);
         }
         let capacity = out.len();
-        encode_slice(arcs, &mut [], capacity)?;
-        encode_slice(arcs, out, capacity)
+        encode(arcs, &mut [], capacity)?;
+        encode(arcs, out, capacity)
     }
 
     /// Parses dotted text in ASCII, of any length, and borrows the octets that it writes at the start of `out`. They are
@@ -437,7 +435,7 @@ impl<'a> ObjectIdentifierRef<'a> {
         ensures index { IfErr result (λ fault. fault.0 ≢ Error.Length → fault.1 ≡ wrong_index [] (pieces_of text.now)) }
         ensures start { IfOk result (λ oid. (ref_slice oid).ref_ptr ≡ out.entry.ref_ptr) }
     {
-        match parse_to_inlined(text, out, 39) {
+        match parse_inlined(text, out, 39) {
             Ok(len) => Ok(ObjectIdentifierRef::from_checked(&out[..len])),
             Err(wrong) => Err(fault_and_index(text, wrong)),
         }
@@ -459,7 +457,7 @@ impl<'a> ObjectIdentifierRef<'a> {
         ensures none { result ≡ None ↔ ((arcs : List ℕ) × Denotes root_rule text.now arcs) }
         ensures index { IfSome result (λ index. index ≡ wrong_index [] (pieces_of text.now)) }
     {
-        match parse_to_inlined(text, &mut [], usize::MAX) {
+        match parse_inlined(text, &mut [], usize::MAX) {
             Ok(_) => None,
             Err(wrong) => Some(fault_and_index(text, wrong).1),
         }

@@ -63,13 +63,13 @@ pub(crate) fn fault_and_index(text: &[u8], wrong: Wrong) -> (Error, usize)
     (fault, index)
 }
 
-/// `parse_to_inlined`, but not inlined: it is compiled once for all calls. An error has no place.
+/// `parse_inlined`, but not inlined: it is compiled once for all calls. An error has no place.
 #[inline(never)]
-pub(crate) fn parse_to(text: &[u8], out: &mut [u8], capacity: usize) -> Result<usize>
+pub(crate) fn parse(text: &[u8], out: &mut [u8], capacity: usize) -> Result<usize>
     ensures { let answer = text_answer root_rule text.now capacity in
         MatchResult result (λ len. IsEncodedIn capacity answer out.old out.new len) (λ fault. answer ≡ Err fault) }
 {
-    match parse_to_inlined(text, out, capacity) {
+    match parse_inlined(text, out, capacity) {
         Ok(len) => Ok(len),
         Err(wrong) => Err(fault_of(text, wrong).0),
     }
@@ -88,7 +88,7 @@ pub(crate) fn parse_in_one_pass(text: &[u8], out: &mut [u8]) -> Result<usize>
     ensures kept { IfErr result (λ _. out.new ≡ out.old) }
 {
     let mut octets = [0; ONE_PASS_BYTES];
-    let len = parse_to(text, &mut octets, out.len().min(ONE_PASS_BYTES))?;
+    let len = parse(text, &mut octets, out.len().min(ONE_PASS_BYTES))?;
     copy_to(&octets[..len], out);
     Ok(len)
 }
@@ -97,7 +97,7 @@ pub(crate) fn parse_in_one_pass(text: &[u8], out: &mut [u8]) -> Result<usize>
 /// its length. Into a slice that is shorter than the capacity nothing is written: the octets are counted alone.
 // erase: const
 #[inline(always)]
-pub(crate) fn parse_to_inlined(
+pub(crate) fn parse_inlined(
     text: &[u8],
     out: &mut [u8],
     capacity: usize,

@@ -1,7 +1,7 @@
 use Rattle.std.proofs.Common.{Ok, Err, ◌∙◌, arith}
 use Rattle.std.proofs.lemmas.{Bool.Decides.nat_tests}
 use Rattle.const_oid.proofs.{WrongIndex.fault_at, Pieces.{all_written, root_written, later_written, dot_left, wrong_piece}}
-use Rattle.const_oid.proofs.parser.parse_to_inlined.Goals as goal
+use Rattle.const_oid.proofs.parser.parse_inlined.Goals as goal
 
 pub returns-in-Err : goal.returns-in-Err
 returns-in-Err c = fault_at c.args.capacity (c.in-Err.ensures c.args.capacity)
