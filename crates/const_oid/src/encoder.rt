@@ -29,11 +29,11 @@ pub(crate) const ONE_PASS_ARCS: usize = 12;
 /// The most octets that they take, five for each.
 const ONE_PASS_OCTETS: usize = 5 * ONE_PASS_ARCS;
 
-/// Writes the encoding of at most 12 arcs to the start of a slice, if it fits, and returns its length. On an error the
+/// Writes the encoding of at most `ONE_PASS_ARCS` to the start of a slice, if it fits, and returns its length. On an error the
 /// slice is unchanged.
 // One pass in place of two: the octets are made on the stack.
 pub(crate) fn encode_in_one_pass(arcs: &[Arc], out: &mut [u8]) -> Result<usize>
-    requires { length arcs.now ≤ 12 }
+    requires { length arcs.now ≤ ONE_PASS_ARCS }
     ensures answer { let capacity = length out.old in let answer = item_answer root_rule arcs.now capacity in
         MatchResult result (λ len. IsEncodedIn capacity answer out.old out.new len) (λ fault. answer ≡ Err fault) }
     ensures kept { IfErr result (λ _. out.new ≡ out.old) }
@@ -45,7 +45,7 @@ pub(crate) fn encode_in_one_pass(arcs: &[Arc], out: &mut [u8]) -> Result<usize>
 }
 
 /// Writes the encoding of the arcs that an iterator gives to the start of a slice, if it fits a capacity, and returns its
-/// length. Into a slice that is shorter than the capacity nothing is written: the octets are counted alone.
+/// length.
 #[inline(always)]
 pub(crate) fn encode_inlined<I: IntoIterator<Item = Arc>>(
     arcs: I,

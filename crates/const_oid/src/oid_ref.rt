@@ -613,7 +613,7 @@ impl<'a> ObjectIdentifierRef<'a> {
         let mut at = 1;
         // An arc is written at one place, which takes the most code.
         loop {
-            at = write_arc(arc, false, &mut text, at);
+            at = write_arc(arc, &mut text, at);
             if rest.is_empty() {
                 return f.write_str(utf8(&text, at));
             }
@@ -628,7 +628,7 @@ impl<'a> ObjectIdentifierRef<'a> {
     }
 }
 
-/// The text of this many octets, or fewer, is written at once.
+/// The most octets whose text is written at once.
 const CHUNK_OCTETS: usize = 40;
 
 /// The most bytes of that text, four for each octet, and room for one more arc.

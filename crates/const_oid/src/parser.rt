@@ -78,11 +78,11 @@ pub(crate) fn parse(text: &[u8], out: &mut [u8], capacity: usize) -> Result<usiz
 /// The most bytes of a text that is parsed on the stack, and the most octets that it takes.
 pub(crate) const ONE_PASS_BYTES: usize = 64;
 
-/// Writes the encoding of the identifier that a text of at most 64 bytes denotes to the start of a slice, if it fits, and
-/// returns its length. On an error the slice is unchanged.
+/// Writes the encoding of the identifier that a text of at most `ONE_PASS_BYTES` denotes to the start of a slice, if it fits,
+/// and returns its length. On an error the slice is unchanged.
 // One pass in place of two: the octets are made on the stack.
 pub(crate) fn parse_in_one_pass(text: &[u8], out: &mut [u8]) -> Result<usize>
-    requires { length text.now ≤ 64 }
+    requires { length text.now ≤ ONE_PASS_BYTES }
     ensures answer { let capacity = length out.old in let answer = text_answer root_rule text.now capacity in
         MatchResult result (λ len. IsEncodedIn capacity answer out.old out.new len) (λ fault. answer ≡ Err fault) }
     ensures kept { IfErr result (λ _. out.new ≡ out.old) }
@@ -94,7 +94,7 @@ pub(crate) fn parse_in_one_pass(text: &[u8], out: &mut [u8]) -> Result<usize>
 }
 
 /// Writes the encoding of the identifier that a text denotes to the start of a slice, if it fits a capacity, and returns
-/// its length. Into a slice that is shorter than the capacity nothing is written: the octets are counted alone.
+/// its length.
 // erase: const
 #[inline(always)]
 pub(crate) fn parse_inlined(
