@@ -11,7 +11,7 @@ ghost use Rattle.const_oid.specs.Contents.{arcs_of_octets, cut, parts_fault, oct
 ghost use Rattle.const_oid.specs.Element.{element};
 ghost use Rattle.const_oid.specs.Identifier.{root_rule, default_capacity, IsEncoding};
 ghost use Rattle.const_oid.specs.Items.{item_answer};
-ghost use Rattle.const_oid.specs.Text.{pieces_of, text_answer, text_of, text_in, octet_text, wrong_index, Denotes, ReturnsLength, ReturnsText, WritesText};
+ghost use Rattle.const_oid.specs.Text.{components_of, text_answer, text_of, text_in, octet_text, wrong_index, Denotes, ReturnsLength, ReturnsText, WritesText};
 
 use crate::Arc;
 use crate::arcs::{Arcs, arc_at};
@@ -432,7 +432,7 @@ impl<'a> ObjectIdentifierRef<'a> {
     ) -> result::Result<Self, (Error, usize)>
         ensures answer { let answer = text_answer root_rule text.now default_capacity in
             MatchResult result (λ oid. answer ≡ Ok (ref_arcs oid)) (λ fault. answer ≡ Err fault.0) }
-        ensures index { IfErr result (λ fault. fault.0 ≢ Error.Length → fault.1 ≡ wrong_index [] (pieces_of text.now)) }
+        ensures index { IfErr result (λ fault. fault.0 ≢ Error.Length → fault.1 ≡ wrong_index [] (components_of text.now)) }
         ensures start { IfOk result (λ oid. (ref_slice oid).ref_ptr ≡ out.entry.ref_ptr) }
     {
         match parse_inlined(text, out, 39) {
@@ -455,7 +455,7 @@ impl<'a> ObjectIdentifierRef<'a> {
     /// ```
     pub fn wrong_component(text: &[u8]) -> Option<usize>
         ensures none { result ≡ None ↔ ((arcs : List ℕ) × Denotes root_rule text.now arcs) }
-        ensures index { IfSome result (λ index. index ≡ wrong_index [] (pieces_of text.now)) }
+        ensures index { IfSome result (λ index. index ≡ wrong_index [] (components_of text.now)) }
     {
         match parse_inlined(text, &mut [], usize::MAX) {
             Ok(_) => None,

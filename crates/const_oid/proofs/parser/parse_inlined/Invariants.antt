@@ -1,5 +1,5 @@
 use Rattle.std.proofs.Common.{length, ◌-◌}
-use Rattle.const_oid.proofs.Pieces.{IsWrittenTo}
+use Rattle.const_oid.proofs.Components.{IsWrittenTo}
 use Rattle.const_oid.proofs.parser.parse_inlined.Given as goal
 
 abbrev pub invariant-loop-end : goal.invariant-loop-end
