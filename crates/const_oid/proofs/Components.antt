@@ -302,7 +302,7 @@ module _ {X : Type 0} (capacity : ℕ) (text longer : List ℕ) where
 
 -- ---- octets in a slice
 
--- its first octets are the encoding of the arcs of the components that end at an index or before, if it has the capacity
+-- if it has the capacity, its first octets encode the arcs of the components that end at an index or before
 pub record IsWrittenTo (capacity : ℕ) (text old new : List ℕ) (used end : ℕ) : Type 0 where
   pub octets : List ℕ
   pub read : IsReadTo capacity text octets end

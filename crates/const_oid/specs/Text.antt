@@ -1,4 +1,4 @@
--- Dotted text, and a text in an output. The components of a text are its components between the dots.
+-- Dotted text, and a text in an output. The components of a text stand between its dots.
 use Rattle.std.specs.Prelude.{◌≡◌, ℕ, ◌-◌, ◌<◌, ◌≤◌, Bool, true, false, not, List, [], ◌∷◌, ◌++◌, length, map, take, drop, decimal, nat_lt, ◌==◌, if◌then◌else◌, Option, IfSome, MatchOption, Result, take_while, find}
 use Rattle.std.specs.Borrow.{Bor}
 use Rattle.std.specs.List.{slice_split, join_with_byte, AllByRecursion}
@@ -47,7 +47,7 @@ empty_fault [] (next ∷ more) = DigitExpected dot
 empty_fault (arc ∷ arcs) [] = TrailingDot
 empty_fault (arc ∷ arcs) (next ∷ more) = RepeatedDot
 
--- what is wrong with a component at a capacity, by the arcs before it and the components after it: the first that applies
+-- what is wrong with a component at a capacity, by the arcs before it and the components after it: what applies first
 abbrev pub component_fault : RootRule → ℕ → List ℕ → List ℕ → List (List ℕ) → Option Error
 component_fault rule capacity before component after =
     option_or (fault_if (nat_lt max_arc (number_of component)) ArcTooBig)

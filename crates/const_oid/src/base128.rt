@@ -121,8 +121,8 @@ fn add_digit(high: u64, octet: u8) -> u64
     high * 128 + (octet % 128) as u64
 }
 
-/// Appends the subidentifier of a number to the first `used` octets of a slice, if they then fit a capacity, and returns
-/// how many there are. A slice that is shorter than the capacity stays as it is: its octets are counted alone.
+/// Appends the subidentifier of a number to the first `used` octets of a slice, if they then fit a capacity, and
+/// returns how many there are. A slice that is shorter than the capacity is not written to: octets are counted alone.
 // erase: const
 #[inline(always)]
 pub(crate) fn append_group(

@@ -29,8 +29,8 @@ pub(crate) const ONE_PASS_ARCS: usize = 12;
 /// The most octets that they take, five for each.
 const ONE_PASS_OCTETS: usize = 5 * ONE_PASS_ARCS;
 
-/// Writes the encoding of at most `ONE_PASS_ARCS` to the start of a slice, if it fits, and returns its length. On an error the
-/// slice is unchanged.
+/// Writes the encoding of at most `ONE_PASS_ARCS` arcs to the start of a slice, if it fits, and returns its length. On
+/// an error the slice is unchanged.
 // One pass in place of two: the octets are made on the stack.
 pub(crate) fn encode_in_one_pass(arcs: &[Arc], out: &mut [u8]) -> Result<usize>
     requires { length arcs.now ≤ ONE_PASS_ARCS }
@@ -44,8 +44,8 @@ pub(crate) fn encode_in_one_pass(arcs: &[Arc], out: &mut [u8]) -> Result<usize>
     Ok(len)
 }
 
-/// Writes the encoding of the arcs that an iterator gives to the start of a slice, if it fits a capacity, and returns its
-/// length.
+/// Writes the encoding of the arcs that an iterator gives to the start of a slice, if it fits a capacity, and returns
+/// its length.
 #[inline(always)]
 pub(crate) fn encode_inlined<I: IntoIterator<Item = Arc>>(
     arcs: I,

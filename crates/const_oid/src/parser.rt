@@ -1,11 +1,11 @@
 //! Dotted text to octets.
 //!
-//! A text is read component by component; in names, one is a `component`. If one is wrong, only an index is returned, and a
-//! function that is rarely called makes the error of it. So a valid text costs fewer instructions.
+//! A text is read component by component. If one is wrong, only an index is returned, and a function that is rarely
+//! called makes the error of it. So a valid text costs fewer instructions.
 
 ghost use Rattle.std.specs.Prelude.{◌≡◌, ◌≢◌, ◌≤◌, ℕ, drop, length, Err, IfErr, MatchResult};
 ghost use Rattle.const_oid.specs.Private.Octets.{IsEncodedIn};
-ghost use Rattle.const_oid.specs.Private.Parser.{component_at, error_of, or_trailing, place_of, stop_fault, HasFault, IsFaultAt, IsFoundAt, IsComponent, IsRoot};
+ghost use Rattle.const_oid.specs.Private.Parser.{component_at, error_of, or_trailing, place_of, stop_fault, HasFault, IsComponent, IsFaultAt, IsFoundAt, IsRoot};
 ghost use Rattle.const_oid.specs.Identifier.{root_rule};
 ghost use Rattle.const_oid.specs.Text.{text_answer};
 
@@ -78,8 +78,8 @@ pub(crate) fn parse(text: &[u8], out: &mut [u8], capacity: usize) -> Result<usiz
 /// The most bytes of a text that is parsed on the stack, and the most octets that it takes.
 pub(crate) const ONE_PASS_BYTES: usize = 64;
 
-/// Writes the encoding of the identifier that a text of at most `ONE_PASS_BYTES` denotes to the start of a slice, if it fits,
-/// and returns its length. On an error the slice is unchanged.
+/// Writes the encoding of the identifier that a text of at most `ONE_PASS_BYTES` denotes to the start of a slice, if it
+/// fits, and returns its length. On an error the slice is unchanged.
 // One pass in place of two: the octets are made on the stack.
 pub(crate) fn parse_in_one_pass(text: &[u8], out: &mut [u8]) -> Result<usize>
     requires { length text.now ≤ ONE_PASS_BYTES }
@@ -93,8 +93,8 @@ pub(crate) fn parse_in_one_pass(text: &[u8], out: &mut [u8]) -> Result<usize>
     Ok(len)
 }
 
-/// Writes the encoding of the identifier that a text denotes to the start of a slice, if it fits a capacity, and returns
-/// its length.
+/// Writes the encoding of the identifier that a text denotes to the start of a slice, if it fits a capacity, and
+/// returns its length.
 // erase: const
 #[inline(always)]
 pub(crate) fn parse_inlined(
