@@ -3,7 +3,7 @@ use Rattle.std.proofs.Common.{◌≡◌, ℕ, ◌*◌, ◌^◌, ◌<◌, ◌≤�
 use Rattle.std.proofs.lemmas.Bool.{cases_lt}
 use Rattle.const_oid.specs.{Identifier.{RootRule, size}, Items.{arc_fault, items_fault, item_answer}}
 use Rattle.const_oid.specs.declared.error.Error.TheVariants.{Length}
-use Rattle.const_oid.specs.Text.{pieces_of, number_of, piece_fault, pieces_fault, text_answer}
+use Rattle.const_oid.specs.Text.{components_of, number_of, component_fault, components_fault, text_answer}
 use Rattle.const_oid.proofs.{Enough.{all_small, size_arcs, size_text}, Faults.none_from_below, Lengths.size_prefix, Lists.append-cons}
 
 module _ (rule : RootRule) (small large : ℕ) (less : small ≤ large) where
@@ -25,16 +25,16 @@ module _ (rule : RootRule) (small large : ℕ) (less : small ≤ large) where
   items_same before (item ∷ items) fits =
       rw (arc_same before item items fits, items_same (before ++ item ∷ []) items (rw (append-cons before item items) fits)) refl
 
-  piece_same : (before piece : List ℕ) (after : List (List ℕ)) → size (before ++ number_of piece ∷ map number_of after) ≤ small
-      → piece_fault rule small before piece after ≡ piece_fault rule large before piece after
-  piece_same before piece after fits = rw (arc_same before (number_of piece) (map number_of after) fits) refl
+  component_same : (before component : List ℕ) (after : List (List ℕ)) → size (before ++ number_of component ∷ map number_of after) ≤ small
+      → component_fault rule small before component after ≡ component_fault rule large before component after
+  component_same before component after fits = rw (arc_same before (number_of component) (map number_of after) fits) refl
 
-  pieces_same : (before : List ℕ) (pieces : List (List ℕ)) → size (before ++ map number_of pieces) ≤ small
-      → pieces_fault rule small before pieces ≡ pieces_fault rule large before pieces
-  pieces_same before [] fits = refl
-  pieces_same before (piece ∷ after) fits =
-      let n = number_of piece in
-      rw (piece_same before piece after fits, pieces_same (before ++ n ∷ []) after (rw (append-cons before n (map number_of after)) fits)) refl
+  components_same : (before : List ℕ) (components : List (List ℕ)) → size (before ++ map number_of components) ≤ small
+      → components_fault rule small before components ≡ components_fault rule large before components
+  components_same before [] fits = refl
+  components_same before (component ∷ after) fits =
+      let n = number_of component in
+      rw (component_same before component after fits, components_same (before ++ n ∷ []) after (rw (append-cons before n (map number_of after)) fits)) refl
 
 -- ---- the lesser of the room and of a number that is enough
 
@@ -44,7 +44,7 @@ text_bounded rule text capacity room bound is short = ⊎_elim
     (λ (less : room < bound). let all : capacity ≡ room = omega arith in rw all refl)
     (λ (less : bound ≤ room).
     let fits = size_text text in
-    rw (pieces_same rule capacity room (omega arith) [] (pieces_of text) (omega arith)) refl)
+    rw (components_same rule capacity room (omega arith) [] (components_of text) (omega arith)) refl)
     (cases_lt room bound)
 
 pub items_bounded : (rule : RootRule) (arcs : List ℕ) (capacity room bound : ℕ) → capacity ≡ min room bound

@@ -9,7 +9,7 @@ use Rattle.std.proofs.lemmas.{List.{Folds.length-prefix_len, Sums.{prefix_len-le
 use Rattle.const_oid.specs.{Base128.width, declared.error.Error.TheVariants.{ArcInvalid, Length}, Error.fault_if}
 use Rattle.const_oid.specs.Identifier.{RootRule, max_arc, max_second, size}
 use Rattle.const_oid.specs.Items.{arc_fault, items_fault, item_answer}
-use Rattle.const_oid.specs.Text.{pieces_of, number_of, piece_fault, pieces_fault, text_answer}
+use Rattle.const_oid.specs.Text.{components_of, number_of, component_fault, components_fault, text_answer}
 use Rattle.const_oid.proofs.{Faults.{both_other, none_from_below}, Groups.width_is, Lengths.{size-cons, size_prefix}, Lists.append-cons, Numbers.numerals}
 
 module _ (rule : RootRule) (capacity : ℕ) where
@@ -39,25 +39,25 @@ module _ (rule : RootRule) (capacity : ℕ) where
       (arc_enough before item items fits)
       (items_enough (before ++ item ∷ []) items (rw (append-cons before item items) fits))
 
-  piece_enough : (before piece : List ℕ) (after : List (List ℕ)) → size (before ++ number_of piece ∷ map number_of after) ≤ capacity
-      → piece_fault rule capacity before piece after ≢ Some Length
-  piece_enough before piece after fits = grind (arith, nat_tests, arc_enough before (number_of piece) (map number_of after))
+  component_enough : (before component : List ℕ) (after : List (List ℕ)) → size (before ++ number_of component ∷ map number_of after) ≤ capacity
+      → component_fault rule capacity before component after ≢ Some Length
+  component_enough before component after fits = grind (arith, nat_tests, arc_enough before (number_of component) (map number_of after))
 
-  pieces_enough : (before : List ℕ) (pieces : List (List ℕ)) → size (before ++ map number_of pieces) ≤ capacity
-      → pieces_fault rule capacity before pieces ≢ Some Length
-  pieces_enough before [] fits = grind (arith, nat_tests)
-  pieces_enough before (piece ∷ after) fits =
-      let n = number_of piece in
-      both_other (piece_fault rule capacity before piece after) (pieces_fault rule capacity (before ++ n ∷ []) after) Length
-      (piece_enough before piece after fits)
-      (pieces_enough (before ++ n ∷ []) after (rw (append-cons before n (map number_of after)) fits))
+  components_enough : (before : List ℕ) (components : List (List ℕ)) → size (before ++ map number_of components) ≤ capacity
+      → components_fault rule capacity before components ≢ Some Length
+  components_enough before [] fits = grind (arith, nat_tests)
+  components_enough before (component ∷ after) fits =
+      let n = number_of component in
+      both_other (component_fault rule capacity before component after) (components_fault rule capacity (before ++ n ∷ []) after) Length
+      (component_enough before component after fits)
+      (components_enough (before ++ n ∷ []) after (rw (append-cons before n (map number_of after)) fits))
 
   pub size_enough_items : (arcs : List ℕ) → size arcs ≤ capacity → item_answer rule arcs capacity ≢ Err Length
   size_enough_items arcs fits = grind (arith, nat_tests, items_enough [] arcs)
 
-  pub size_enough_text : (text : List ℕ) → size (map number_of (pieces_of text)) ≤ capacity
+  pub size_enough_text : (text : List ℕ) → size (map number_of (components_of text)) ≤ capacity
       → text_answer rule text capacity ≢ Err Length
-  size_enough_text text fits = grind (arith, nat_tests, pieces_enough [] (pieces_of text))
+  size_enough_text text fits = grind (arith, nat_tests, components_enough [] (components_of text))
 
 -- ---- five for each arc
 
@@ -90,7 +90,7 @@ five_enough rule arcs capacity small room =
 
 -- ---- as many as the text has bytes
 
-digits_first : (piece : List ℕ) → all_ascii_digits (take_while is_ascii_digit piece) ≡ true
+digits_first : (component : List ℕ) → all_ascii_digits (take_while is_ascii_digit component) ≡ true
 digits_first [] = refl
 digits_first (b ∷ bs) = rw take_while-cons (first (digits_first bs) (is_ascii_digit b) refl) where
   first : all_ascii_digits (take_while is_ascii_digit bs) ≡ true → (test : Bool) → is_ascii_digit b ≡ test
@@ -98,20 +98,20 @@ digits_first (b ∷ bs) = rw take_while-cons (first (digits_first bs) (is_ascii_
   first later true is = rw (is, later) refl
   first later false is = refl
 
-fewer_digits : (piece : List ℕ) → length (take_while is_ascii_digit piece) ≤ length piece
-fewer_digits piece = rw length-prefix_len (prefix_len-le-length is_ascii_digit piece)
+fewer_digits : (component : List ℕ) → length (take_while is_ascii_digit component) ≤ length component
+fewer_digits component = rw length-prefix_len (prefix_len-le-length is_ascii_digit component)
 
-number_below : (piece : List ℕ) → number_of piece < 128 ^ length piece
-number_below piece =
-    let below : number_of piece < 10 ^ length piece = digits_value_short numerals (take_while is_ascii_digit piece) (length piece) (digits_first piece) (fewer_digits piece) in
-    let powers : 10 ^ length piece ≤ 128 ^ length piece = pow-le-pow_left (omega arith) (length piece) in
+number_below : (component : List ℕ) → number_of component < 128 ^ length component
+number_below component =
+    let below : number_of component < 10 ^ length component = digits_value_short numerals (take_while is_ascii_digit component) (length component) (digits_first component) (fewer_digits component) in
+    let powers : 10 ^ length component ≤ 128 ^ length component = pow-le-pow_left (omega arith) (length component) in
     omega arith
 
-width_piece : (piece : List ℕ) → width (number_of piece) ≤ 1 + length piece
-width_piece piece =
-    let below = number_below piece in
-    let power = pow-suc 128 (length piece) in
-    omega (arith, (width_is (number_of piece)).least (suc (length piece)) (omega arith) (omega arith))
+width_component : (component : List ℕ) → width (number_of component) ≤ 1 + length component
+width_component component =
+    let below = number_below component in
+    let power = pow-suc 128 (length component) in
+    omega (arith, (width_is (number_of component)).least (suc (length component)) (omega arith) (omega arith))
 
 -- two numbers below powers, and one less than the product of these
 sum_below : (a b p q : ℕ) → a < p → b < q → 40 * a + b < p * q * 128
@@ -119,9 +119,9 @@ sum_below a b zero q a_below b_below = absurd (omega arith)
 sum_below a b (suc p) zero a_below b_below = absurd (omega arith)
 sum_below a b (suc p) (suc q) a_below b_below = omega arith
 
-root_pieces : (first second : List ℕ)
+root_components : (first second : List ℕ)
     → width (40 * number_of first + number_of second) ≤ 1 + length first + length second
-root_pieces first second =
+root_components first second =
     let n = 40 * number_of first + number_of second in
     let k = length first + length second in
     let below = sum_below (number_of first) (number_of second) (128 ^ length first) (128 ^ length second) (number_below first) (number_below second) in
@@ -132,30 +132,30 @@ root_pieces first second =
 -- the bytes of components, and a dot after each
 abbrev bytes_of : List (List ℕ) → ℕ
 bytes_of [] = 0
-bytes_of (piece ∷ pieces) = 1 + length piece + bytes_of pieces
+bytes_of (component ∷ components) = 1 + length component + bytes_of components
 
-bytes_of-onto_first : (b : ℕ) (pieces : List (List ℕ)) → 0 < length pieces → bytes_of (onto_first b pieces) ≡ 1 + bytes_of pieces
+bytes_of-onto_first : (b : ℕ) (components : List (List ℕ)) → 0 < length components → bytes_of (onto_first b components) ≡ 1 + bytes_of components
 bytes_of-onto_first b [] some = absurd (omega arith)
-bytes_of-onto_first b (piece ∷ pieces) some = omega arith
+bytes_of-onto_first b (component ∷ components) some = omega arith
 
-bytes_of-pieces : (text : List ℕ) → bytes_of (pieces_of text) ≡ 1 + length text
-bytes_of-pieces [] = refl
-bytes_of-pieces (b ∷ bs) =
-    grind (arith, nat_tests, bytes_of-pieces bs, length-slice_split (λ b. b == 46) bs, bytes_of-onto_first b (pieces_of bs))
+bytes_of-components : (text : List ℕ) → bytes_of (components_of text) ≡ 1 + length text
+bytes_of-components [] = refl
+bytes_of-components (b ∷ bs) =
+    grind (arith, nat_tests, bytes_of-components bs, length-slice_split (λ b. b == 46) bs, bytes_of-onto_first b (components_of bs))
 
-widths_pieces : (pieces : List (List ℕ)) → sum_by width (map number_of pieces) ≤ bytes_of pieces
-widths_pieces [] = omega arith
-widths_pieces (piece ∷ pieces) =
-    omega (arith, sum_by-cons width (number_of piece) (map number_of pieces), width_piece piece, widths_pieces pieces)
+widths_components : (components : List (List ℕ)) → sum_by width (map number_of components) ≤ bytes_of components
+widths_components [] = omega arith
+widths_components (component ∷ components) =
+    omega (arith, sum_by-cons width (number_of component) (map number_of components), width_component component, widths_components components)
 
-size_pieces : (pieces : List (List ℕ)) → size (map number_of pieces) ≤ bytes_of pieces - 1
-size_pieces [] = omega arith
-size_pieces (piece ∷ []) = omega arith
-size_pieces (first ∷ second ∷ later) =
-    omega (arith, size-cons (number_of first) (number_of second) (map number_of later), root_pieces first second, widths_pieces later)
+size_components : (components : List (List ℕ)) → size (map number_of components) ≤ bytes_of components - 1
+size_components [] = omega arith
+size_components (component ∷ []) = omega arith
+size_components (first ∷ second ∷ later) =
+    omega (arith, size-cons (number_of first) (number_of second) (map number_of later), root_components first second, widths_components later)
 
-pub size_text : (text : List ℕ) → size (map number_of (pieces_of text)) ≤ length text
-size_text text = omega (arith, size_pieces (pieces_of text), bytes_of-pieces text)
+pub size_text : (text : List ℕ) → size (map number_of (components_of text)) ≤ length text
+size_text text = omega (arith, size_components (components_of text), bytes_of-components text)
 
 pub bytes_enough : (rule : RootRule) (text : List ℕ) (capacity : ℕ) → length text ≤ capacity → text_answer rule text capacity ≢ Err Length
 bytes_enough rule text capacity room = size_enough_text rule capacity text (omega (arith, size_text text))

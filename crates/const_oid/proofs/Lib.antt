@@ -27,7 +27,7 @@ pub mod Leading
 pub mod Started
 mod Stripped
 pub mod Appended
-pub mod Pieces
+pub mod Components
 pub mod PartBounds
 pub mod Parents
 pub mod Prefixes

@@ -3,7 +3,7 @@ use Rattle.std.proofs.Common.{◌≢◌, ℕ, List, [], ◌∷◌, ◌++◌, Som
 use Rattle.std.proofs.lemmas.Bool.Decides.{nat_tests}
 use Rattle.const_oid.specs.{declared.error.Error.Error, Identifier.{RootRule, Wide}, Items.{arc_fault, items_fault}}
 use Rattle.const_oid.specs.declared.error.Error.TheVariants.{ArcInvalid, ArcTooBig, Base128, Overflow}
-use Rattle.const_oid.specs.{Contents.{later_fault, octet_fault}, Text.{number_of, piece_fault, pieces_fault}}
+use Rattle.const_oid.specs.{Contents.{later_fault, octet_fault}, Text.{number_of, component_fault, components_fault}}
 
 -- ---- octets
 
@@ -33,14 +33,14 @@ module _ (rule : RootRule) (capacity : ℕ) where
   items_other before (item ∷ items) =
       grind (arith, nat_tests, arc_other before item, items_other (before ++ item ∷ []) items)
 
-  piece_other : (before piece : List ℕ) (after : List (List ℕ))
-      → piece_fault rule capacity before piece after ≢ Some Overflow
-  piece_other before piece after = grind (arith, nat_tests, arc_other before (number_of piece))
+  component_other : (before component : List ℕ) (after : List (List ℕ))
+      → component_fault rule capacity before component after ≢ Some Overflow
+  component_other before component after = grind (arith, nat_tests, arc_other before (number_of component))
 
-  pub pieces_other : (before : List ℕ) (pieces : List (List ℕ))
-      → pieces_fault rule capacity before pieces ≢ Some Overflow
-  pieces_other before [] = grind arith
-  pieces_other before (piece ∷ after) =
-      grind (arith, piece_other before piece after, pieces_other (before ++ number_of piece ∷ []) after)
+  pub components_other : (before : List ℕ) (components : List (List ℕ))
+      → components_fault rule capacity before components ≢ Some Overflow
+  components_other before [] = grind arith
+  components_other before (component ∷ after) =
+      grind (arith, component_other before component after, components_other (before ++ number_of component ∷ []) after)
 
-pub ruleset no_overflow = (octets_not_overflow, pieces_other, items_other)
+pub ruleset no_overflow = (octets_not_overflow, components_other, items_other)

@@ -125,7 +125,7 @@ pub ruleset group_faults = (few_fault, big_fault)
 
 -- ---- a first group without a fault
 
--- so many octets are enough
+-- k octets are enough
 width_most : (k n : ℕ) → 1 ≤ k → n < 128 ^ k → width n ≤ k
 width_most k n some below = (width_is n).least k some below
 

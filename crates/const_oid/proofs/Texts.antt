@@ -5,20 +5,20 @@ use Rattle.std.specs.{List.{AllByRecursion, join_with_byte}, Prelude.Ok, Str.IsA
 use Rattle.std.proofs.lemmas.{Str.IsAscii-append, List.Splits.{slice_split_at, slice_split_none}}
 use Rattle.std.proofs.lemmas.Bool.Decides.{nat_tests}
 use Rattle.const_oid.specs.Identifier.{RootRule, Narrow, Wide, max_arc, max_second, IsIdentifier, size}
-use Rattle.const_oid.specs.{Items.arc_fault, Text.{Denotes, strip_piece, strip, text_answer}}
-use Rattle.const_oid.specs.Text.{text_of, pieces_of, number_of, piece_fault, pieces_fault, text_fault, IsNumber}
+use Rattle.const_oid.specs.{Items.arc_fault, Text.{Denotes, strip_component, strip, text_answer}}
+use Rattle.const_oid.specs.Text.{text_of, components_of, number_of, component_fault, components_fault, text_fault, IsNumber}
 use Rattle.const_oid.specs.Private.Text.{text_left, arc_text}
 use Rattle.const_oid.proofs.{Decimals.arc_text_ascii, Lists.{append-cons, all_at}, Faults.both_none}
 use Rattle.const_oid.proofs.Items.{IsBegun, begun_more, arc_none, few_none, whole_from_begun}
 use Rattle.const_oid.proofs.Numbers.{find-none, digits_from_find, undotted, decimal_is, number_of-decimal}
 use Rattle.const_oid.proofs.Numbers.{decimal-number_of}
 
--- ---- pieces joined and cut again
+-- ---- components joined and cut again
 
-pieces_of-join : (piece : List ℕ) (pieces : List (List ℕ)) → AllByRecursion IsNumber (piece ∷ pieces)
-    → pieces_of (join_with_byte 46 (piece ∷ pieces)) ≡ piece ∷ pieces
-pieces_of-join piece [] h = slice_split_none (λ b. b == 46) piece (undotted piece h.0.1)
-pieces_of-join piece (next ∷ more) h = search (slice_split_at, undotted, pieces_of-join next more h.1)
+components_of-join : (component : List ℕ) (components : List (List ℕ)) → AllByRecursion IsNumber (component ∷ components)
+    → components_of (join_with_byte 46 (component ∷ components)) ≡ component ∷ components
+components_of-join component [] h = slice_split_none (λ b. b == 46) component (undotted component h.0.1)
+components_of-join component (next ∷ more) h = search (slice_split_at, undotted, components_of-join next more h.1)
 
 -- ---- what is printed is read back
 
@@ -41,11 +41,11 @@ pub arcs_small : (rule : RootRule) (arcs : List ℕ) → IsIdentifier rule arcs 
 arcs_small rule arcs i = search rules
 
 module _ (rule : RootRule) where
-  pieces_of-text_of : (arcs : List ℕ) → IsIdentifier rule arcs → pieces_of (text_of arcs) ≡ map decimal arcs
-  pieces_of-text_of arcs i = grind (arith, pieces_of-join, decimals_are)
+  components_of-text_of : (arcs : List ℕ) → IsIdentifier rule arcs → components_of (text_of arcs) ≡ map decimal arcs
+  components_of-text_of arcs i = grind (arith, components_of-join, decimals_are)
 
   pub text_denotes : (arcs : List ℕ) → IsIdentifier rule arcs → Denotes rule (text_of arcs) arcs
-  text_denotes arcs i = grind (arith, pieces_of-text_of, decimals_are, numbers_of-decimals)
+  text_denotes arcs i = grind (arith, components_of-text_of, decimals_are, numbers_of-decimals)
 
   -- no text denotes two lists
   pub same_denoted : (text a b : List ℕ) → Denotes rule text a → Denotes rule text b → a ≡ b
@@ -56,29 +56,29 @@ module _ (rule : RootRule) where
 
 -- ---- a text is printed without its leading zeros
 
-stripped_pieces : (pieces : List (List ℕ)) → AllByRecursion IsNumber pieces → AreArcs (map number_of pieces)
-    → map decimal (map number_of pieces) ≡ map strip_piece pieces
-stripped_pieces [] p l = refl
-stripped_pieces (piece ∷ pieces) p l = search (decimal-number_of, stripped_pieces pieces p.1 l.1)
+stripped_components : (components : List (List ℕ)) → AllByRecursion IsNumber components → AreArcs (map number_of components)
+    → map decimal (map number_of components) ≡ map strip_component components
+stripped_components [] p l = refl
+stripped_components (component ∷ components) p l = search (decimal-number_of, stripped_components components p.1 l.1)
 
 pub text_of-denoted : (rule : RootRule) (text arcs : List ℕ) → Denotes rule text arcs → text_of arcs ≡ strip text
-text_of-denoted rule text arcs d = grind (arith, stripped_pieces)
+text_of-denoted rule text arcs d = grind (arith, stripped_components)
 
 module _ (rule : RootRule) (capacity : ℕ) where
-  -- ---- pieces without a fault
+  -- ---- components without a fault
 
-  record IsValidPiece (before piece : List ℕ) : Type 0 where
-    number : IsNumber piece
-    small : number_of piece ≤ max_arc
-    arc : arc_fault rule capacity before (number_of piece) ≡ None
+  record IsValidComponent (before component : List ℕ) : Type 0 where
+    number : IsNumber component
+    small : number_of component ≤ max_arc
+    arc : arc_fault rule capacity before (number_of component) ≡ None
 
-  module _ (before piece : List ℕ) (after : List (List ℕ)) where
-    piece_none : AllByRecursion IsNumber after → IsValidPiece before piece
-        → piece_fault rule capacity before piece after ≡ None
-    piece_none numbers valid = grind (arith, nat_tests, find-none)
+  module _ (before component : List ℕ) (after : List (List ℕ)) where
+    component_none : AllByRecursion IsNumber after → IsValidComponent before component
+        → component_fault rule capacity before component after ≡ None
+    component_none numbers valid = grind (arith, nat_tests, find-none)
 
-    piece_valid : piece_fault rule capacity before piece after ≡ None → IsValidPiece before piece
-    piece_valid none = record {
+    component_valid : component_fault rule capacity before component after ≡ None → IsValidComponent before component
+    component_valid none = record {
       number = (grind (arith, nat_tests), grind (arith, nat_tests, digits_from_find));
       small = grind (arith, nat_tests);
       arc = grind (arith, nat_tests);
@@ -90,40 +90,40 @@ module _ (rule : RootRule) (capacity : ℕ) where
   abbrev IsFitting : List ℕ → Type 0
   IsFitting arcs = IsIdentifier rule arcs × (size arcs ≤ capacity)
 
-  pieces_none : (before : List ℕ) (pieces : List (List ℕ)) → AllByRecursion IsNumber pieces
-      → IsFitting (before ++ map number_of pieces) → pieces_fault rule capacity before pieces ≡ None
-  pieces_none before [] numbers fits = few_none rule before (rw append-nil at fits.0)
-  pieces_none before (piece ∷ after) numbers fits =
-      let n = number_of piece in
+  components_none : (before : List ℕ) (components : List (List ℕ)) → AllByRecursion IsNumber components
+      → IsFitting (before ++ map number_of components) → components_fault rule capacity before components ≡ None
+  components_none before [] numbers fits = few_none rule before (rw append-nil at fits.0)
+  components_none before (component ∷ after) numbers fits =
+      let n = number_of component in
       let rest = map number_of after in
-      let valid : IsValidPiece before piece = record {
+      let valid : IsValidComponent before component = record {
         number = numbers.0;
         small = all_at (λ n. n ≤ max_arc) before n rest (arcs_small rule (before ++ n ∷ rest) fits.0);
         arc = arc_none rule capacity before n rest fits.0 fits.1;
       } in
-      let more = pieces_none (before ++ n ∷ []) after numbers.1 (rw (append-cons before n rest) fits) in
-      rw (piece_none before piece after numbers.1 valid) more
+      let more = components_none (before ++ n ∷ []) after numbers.1 (rw (append-cons before n rest) fits) in
+      rw (component_none before component after numbers.1 valid) more
 
   pub text_fault-none : (text arcs : List ℕ) → Denotes rule text arcs → size arcs ≤ capacity
       → text_fault rule text capacity ≡ None
-  text_fault-none text arcs d s = grind (arith, pieces_none)
+  text_fault-none text arcs d s = grind (arith, components_none)
 
-  pieces_valid : (before : List ℕ) (pieces : List (List ℕ)) → IsBegun rule capacity before
-      → pieces_fault rule capacity before pieces ≡ None
-      → IsFitting (before ++ map number_of pieces) × AllByRecursion IsNumber pieces
-  pieces_valid before [] begun none = (rw append-nil (whole_from_begun rule capacity before begun none), tt)
-  pieces_valid before (piece ∷ after) begun none =
-      let n = number_of piece in
-      let (first, later) = both_none (piece_fault rule capacity before piece after) _ none in
-      let valid = piece_valid before piece after first in
+  components_valid : (before : List ℕ) (components : List (List ℕ)) → IsBegun rule capacity before
+      → components_fault rule capacity before components ≡ None
+      → IsFitting (before ++ map number_of components) × AllByRecursion IsNumber components
+  components_valid before [] begun none = (rw append-nil (whole_from_begun rule capacity before begun none), tt)
+  components_valid before (component ∷ after) begun none =
+      let n = number_of component in
+      let (first, later) = both_none (component_fault rule capacity before component after) _ none in
+      let valid = component_valid before component after first in
       let more = begun_more rule capacity before n begun valid.small valid.arc in
-      let (whole, numbers) = pieces_valid (before ++ n ∷ []) after more later in
+      let (whole, numbers) = components_valid (before ++ n ∷ []) after more later in
       (rw (append-cons before n (map number_of after)) at whole, (valid.number, numbers))
 
   pub denoted_from_none : (text : List ℕ) → text_fault rule text capacity ≡ None
-      → let arcs = map number_of (pieces_of text) in Denotes rule text arcs × (size arcs ≤ capacity)
+      → let arcs = map number_of (components_of text) in Denotes rule text arcs × (size arcs ≤ capacity)
   denoted_from_none text h =
-      let (fits, numbers) = pieces_valid [] (pieces_of text) tt h in
+      let (fits, numbers) = components_valid [] (components_of text) tt h in
       (record { numbers = numbers; values = refl; identifier = fits.0 }, fits.1)
 
   -- the arcs that a text is read as are those that it denotes

@@ -5,7 +5,7 @@ use Rattle.std.proofs.lemmas.Bool.Decides.{nat_tests}
 use Rattle.const_oid.specs.Identifier.{Narrow, Wide, IsIdentifier, IsEncoding}
 use Rattle.const_oid.specs.Contents.{octet_fault, arcs_of_octets}
 use Rattle.const_oid.specs.Items.{items_fault, item_fault}
-use Rattle.const_oid.specs.Text.{number_of, pieces_fault}
+use Rattle.const_oid.specs.Text.{number_of, components_fault}
 use Rattle.const_oid.specs.WideRule.{RefusesSecond, IsPastNarrow}
 use Rattle.std.specs.Prelude.{◌↔◌}
 use Rattle.const_oid.specs.Base128.{AreOctets}
@@ -34,21 +34,21 @@ items_same items capacity h = grind (arith, nat_tests, items_later_same)
 
 -- ---- texts
 
-pieces_later_same : (capacity a b : ℕ) (before : List ℕ) (pieces : List (List ℕ))
-    → pieces_fault Narrow capacity (a ∷ b ∷ before) pieces ≡ pieces_fault Wide capacity (a ∷ b ∷ before) pieces
-pieces_later_same capacity a b before [] = refl
-pieces_later_same capacity a b before (piece ∷ pieces) =
-    rw (pieces_later_same capacity a b (before ++ number_of piece ∷ []) pieces)
+components_later_same : (capacity a b : ℕ) (before : List ℕ) (components : List (List ℕ))
+    → components_fault Narrow capacity (a ∷ b ∷ before) components ≡ components_fault Wide capacity (a ∷ b ∷ before) components
+components_later_same capacity a b before [] = refl
+components_later_same capacity a b before (component ∷ components) =
+    rw (components_later_same capacity a b (before ++ number_of component ∷ []) components)
 
-pub pieces_same : (capacity : ℕ) (pieces : List (List ℕ))
-    → (RefusesSecond (map number_of pieces) (pieces_fault Narrow capacity [] pieces) → ⊥)
-    → pieces_fault Narrow capacity [] pieces ≡ pieces_fault Wide capacity [] pieces
-pieces_same capacity [] not_refused = refl
-pieces_same capacity (first ∷ []) not_refused = refl
-pieces_same capacity (first ∷ second ∷ more) not_refused = grind (arith, nat_tests, pieces_later_same)
+pub components_same : (capacity : ℕ) (components : List (List ℕ))
+    → (RefusesSecond (map number_of components) (components_fault Narrow capacity [] components) → ⊥)
+    → components_fault Narrow capacity [] components ≡ components_fault Wide capacity [] components
+components_same capacity [] not_refused = refl
+components_same capacity (first ∷ []) not_refused = refl
+components_same capacity (first ∷ second ∷ more) not_refused = grind (arith, nat_tests, components_later_same)
 
 -- for the law of what is kept
-pub ruleset wide_keeps = (nat_tests, items_same, pieces_same)
+pub ruleset wide_keeps = (nat_tests, items_same, components_same)
 
 -- ---- identifiers
 

@@ -6,8 +6,8 @@ use Rattle.std.proofs.lemmas.Bool.Decides.{nat_tests}
 use Rattle.const_oid.specs.declared.error.Error.{Error}
 use Rattle.const_oid.specs.declared.error.Error.TheVariants.{Length}
 use Rattle.const_oid.specs.{Error.answer, Identifier.{root_rule, size}, Items.{arc_fault}}
-use Rattle.const_oid.specs.Private.Parser.{component_at, or_later, pieces_found, text_found, IsFaultAt, IsFoundAt}
-use Rattle.const_oid.specs.Text.{number_of, piece_fault, pieces_fault, pieces_of, text_answer, wrong_index, Denotes}
+use Rattle.const_oid.specs.Private.Parser.{component_at, or_later, components_found, text_found, IsFaultAt, IsFoundAt}
+use Rattle.const_oid.specs.Text.{number_of, component_fault, components_fault, components_of, text_answer, wrong_index, Denotes}
 use Rattle.const_oid.proofs.{Enough.{bytes_enough, size_text}, Lists.append-cons, Texts.text_fault-none}
 
 -- without the index
@@ -23,18 +23,18 @@ first_index (Some own) enough index next later same other rest found =
     rw (← same (λ e. other (grind (arith)))) (grind (arith))
 
 module _ (capacity : ℕ) where
-  same_answer : (before : List ℕ) (pieces : List (List ℕ)) → without_index (pieces_found capacity before pieces)
-      ≡ answer (pieces_fault root_rule capacity before pieces) (before ++ map number_of pieces)
+  same_answer : (before : List ℕ) (components : List (List ℕ)) → without_index (components_found capacity before components)
+      ≡ answer (components_fault root_rule capacity before components) (before ++ map number_of components)
   same_answer [] [] = refl
   same_answer (arc ∷ []) [] = refl
   same_answer (first ∷ second ∷ later) [] = rw append-nil refl
-  same_answer before (piece ∷ after) =
-      let n = number_of piece in
+  same_answer before (component ∷ after) =
+      let n = number_of component in
       let later = same_answer (before ++ n ∷ []) after in
       grind (arith, append-cons before n (map number_of after), later)
 
   pub same_text : (text : List ℕ) → without_index (text_found capacity text) ≡ text_answer root_rule text capacity
-  same_text text = same_answer [] (pieces_of text)
+  same_text text = same_answer [] (components_of text)
 
   -- a fault but `Length` is one at each capacity
   arc_else : (before : List ℕ) (arc : ℕ) → arc_fault root_rule capacity before arc ≢ Some Length
@@ -43,26 +43,26 @@ module _ (capacity : ℕ) where
   arc_else (first ∷ []) arc other = grind (arith, nat_tests)
   arc_else (first ∷ second ∷ later) arc other = grind (arith, nat_tests)
 
-  piece_else : (before piece : List ℕ) (after : List (List ℕ)) → piece_fault root_rule capacity before piece after ≢ Some Length
-      → piece_fault root_rule capacity before piece after
-      ≡ piece_fault root_rule (size (before ++ number_of piece ∷ [])) before piece after
-  piece_else before piece after other = grind (arith, arc_else before (number_of piece))
+  component_else : (before component : List ℕ) (after : List (List ℕ)) → component_fault root_rule capacity before component after ≢ Some Length
+      → component_fault root_rule capacity before component after
+      ≡ component_fault root_rule (size (before ++ number_of component ∷ [])) before component after
+  component_else before component after other = grind (arith, arc_else before (number_of component))
 
-  index_from_found : (before : List ℕ) (pieces : List (List ℕ)) {fault : Error} {index : ℕ} → fault ≢ Length
-      → pieces_found capacity before pieces ≡ Err (fault, index) → index ≡ wrong_index before pieces
+  index_from_found : (before : List ℕ) (components : List (List ℕ)) {fault : Error} {index : ℕ} → fault ≢ Length
+      → components_found capacity before components ≡ Err (fault, index) → index ≡ wrong_index before components
   index_from_found [] [] other found = grind (arith)
   index_from_found (arc ∷ []) [] other found = grind (arith)
   index_from_found (first ∷ second ∷ later) [] other found = cc
-  index_from_found before (piece ∷ after) other found =
-      first_index _ _ (length before) _ _ (piece_else before piece after) other
-      (index_from_found (before ++ number_of piece ∷ []) after other) found
+  index_from_found before (component ∷ after) other found =
+      first_index _ _ (length before) _ _ (component_else before component after) other
+      (index_from_found (before ++ number_of component ∷ []) after other) found
 
   pub fault_at : {text : List ℕ} {fault : Error} {place : ℕ} → IsFoundAt capacity text fault place
       → IsFaultAt capacity text fault place
   fault_at {text} {fault} is = record {
     answer = sym (same_text text) ∙ ap without_index is.found;
     within = is.within;
-    component = λ other. index_from_found [] (pieces_of text) other is.found;
+    component = λ other. index_from_found [] (components_of text) other is.found;
   }
 
 -- at a capacity of as many octets as the text has bytes
@@ -70,7 +70,7 @@ module _ {capacity : ℕ} {text : List ℕ} {fault : Error} (room : length text 
   pub not_length : {place : ℕ} → IsFaultAt capacity text fault place → fault ≢ Length
   not_length is same = bytes_enough root_rule text capacity room (is.answer ∙ ap Err same)
 
-  pub wrong_at : {place : ℕ} → IsFaultAt capacity text fault place → component_at text place ≡ wrong_index [] (pieces_of text)
+  pub wrong_at : {place : ℕ} → IsFaultAt capacity text fault place → component_at text place ≡ wrong_index [] (components_of text)
   wrong_at is = is.component (not_length is)
 
   pub not_denoted : text_answer root_rule text capacity ≡ Err fault → (arcs : List ℕ) → Denotes root_rule text arcs → ⊥

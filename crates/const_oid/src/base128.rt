@@ -1,6 +1,6 @@
 //! The octets of one subidentifier, a number in base 128 (X.690, 8.19.2). In names, they are its `group`.
 
-ghost use Rattle.std.specs.Prelude.{◌≡◌, ◌+◌, ◌*◌, ◌%◌, ◌^◌, ◌<◌, ◌≤◌, ◌∷◌, None, Some, length, map, slice_index, take, IfSome, MatchOption};
+ghost use Rattle.std.specs.Prelude.{◌≡◌, ◌+◌, ◌*◌, ◌%◌, ◌^◌, ◌<◌, ◌≤◌, ◌∷◌, None, Some, length, map, slice_index, take, IfSome, MatchOption, MatchResult};
 ghost use Rattle.const_oid.specs.Base128.{value_of, width};
 ghost use Rattle.const_oid.specs.Contents.{cut, later_fault, parts_fault, max_first};
 ghost use Rattle.const_oid.specs.Identifier.{root_rule, max_arc};
@@ -96,10 +96,7 @@ pub(crate) fn group_fault(octets: &[u8], limit: u64) -> Error
     if octets[0] == 128 || octets.len() < 5 {
         return Error::Base128;
     }
-    if number_of_five(octets) > limit {
-        return Error::ArcTooBig;
-    }
-    if octets.len() > 5 {
+    if number_of_five(octets) > limit || octets.len() > 5 {
         return Error::ArcTooBig;
     }
     Error::Base128
@@ -124,8 +121,8 @@ fn add_digit(high: u64, octet: u8) -> u64
     high * 128 + (octet % 128) as u64
 }
 
-/// Appends the subidentifier of a number to the first octets of a slice, if they then fit a capacity, and returns how
-/// many there are. Into a slice that is shorter than the capacity nothing is written: the octets are counted alone.
+/// Appends the subidentifier of a number to the first `used` octets of a slice, if they then fit a capacity, and
+/// returns how many there are. A slice that is shorter than the capacity is not written to: octets are counted alone.
 // erase: const
 #[inline(always)]
 pub(crate) fn append_group(
@@ -137,6 +134,9 @@ pub(crate) fn append_group(
     requires { number < 2 ^ 35 }
     ensures { AppendsTo capacity number used out.old out.new result }
 {
+    if out.len() < capacity {
+        return count_group(used, number, capacity);
+    }
     let mut at = used;
     if number >= 0x80 {
         if number >= 0x4000 {
@@ -147,9 +147,7 @@ pub(crate) fn append_group(
                     if at >= capacity {
                         return Err(Error::Length);
                     }
-                    if capacity <= out.len() {
-                        out[at] = 128 + ((number >> shift) % 128) as u8;
-                    }
+                    out[at] = 128 + ((number >> shift) % 128) as u8;
                     at += 1;
                 }
                 shift -= 7;
@@ -158,16 +156,34 @@ pub(crate) fn append_group(
         if at >= capacity {
             return Err(Error::Length);
         }
-        if capacity <= out.len() {
-            out[at] = 128 + ((number >> 7) % 128) as u8;
-        }
+        out[at] = 128 + ((number >> 7) % 128) as u8;
         at += 1;
     }
     if at >= capacity {
         return Err(Error::Length);
     }
-    if capacity <= out.len() {
-        out[at] = (number % 128) as u8;
-    }
+    out[at] = (number % 128) as u8;
     Ok(at + 1)
+}
+
+/// How many octets `used` ones and the subidentifier of a number are, if they fit a capacity.
+// erase: const
+#[tactic(auto, using(crate::proofs::Groups::widths_on))]
+#[inline]
+fn count_group(used: usize, number: u64, capacity: usize) -> Result<usize>
+    ensures { MatchResult result (λ end. (end ≡ used + width number) × (end ≤ capacity))
+        (λ fault. (fault ≡ Error.Length) × (capacity < used + width number)) }
+{
+    let mut end = used;
+    let mut rest = number;
+    loop {
+        if end >= capacity {
+            return Err(Error::Length);
+        }
+        end += 1;
+        rest >>= 7;
+        if rest == 0 {
+            return Ok(end);
+        }
+    }
 }

@@ -12,11 +12,11 @@ ghost use Rattle.const_oid.specs.Text.{text_answer};
 
 use crate::Arc;
 use crate::base128::append_group;
-use crate::encoder::encode_to;
+use crate::encoder::encode_inlined;
 use crate::error::{Error, Result};
 use crate::fast::comparison::{are_arrays_equal, order};
 use crate::fast::copies::copy_to;
-use crate::parser::{fault_of, parse_to_inlined};
+use crate::parser::{fault_of, parse_inlined};
 use std::cmp::Ordering;
 use std::hash::{Hash, Hasher};
 
@@ -80,7 +80,7 @@ impl<const SIZE: usize> Buffer<SIZE> {
         ensures encoding { HasEncoding result }
     {
         let mut buffer = Buffer::empty();
-        match parse_to_inlined(text, &mut buffer.bytes, Self::capacity()) {
+        match parse_inlined(text, &mut buffer.bytes, Self::capacity()) {
             Ok(len) => {
                 buffer.used = len as u8;
                 Ok(buffer)
@@ -101,7 +101,7 @@ impl<const SIZE: usize> Buffer<SIZE> {
         ensures encoding { HasEncoding result }
     {
         let mut buffer = Buffer::empty();
-        let len = encode_to(arcs, &mut buffer.bytes, Self::capacity())?;
+        let len = encode_inlined(arcs, &mut buffer.bytes, Self::capacity())?;
         buffer.used = len as u8;
         Ok(buffer)
     }

@@ -1,5 +1,5 @@
 //! Digits and other bytes of a text, written at an index, and read as a `str`.
-ghost use Rattle.std.specs.Prelude.{◌≡◌, ◌+◌, ◌<◌, ◌≤◌, [], ◌∷◌, ◌++◌, length, take, drop, decimal};
+ghost use Rattle.std.specs.Prelude.{◌≡◌, ◌+◌, ◌<◌, ◌≤◌, [], ◌∷◌, ◌++◌, length, take, drop, decimal, false};
 ghost use Rattle.std.specs.Str.{IsUtf8};
 ghost use Rattle.const_oid.specs.Private.Text.{arc_text, pair_text, four_text};
 
@@ -16,26 +16,22 @@ pub(crate) const MAX_DIGITS: usize = 10;
 #[inline]
 pub(crate) fn arc_len(arc: Arc, is_first: bool) -> usize
     ensures len { result ≡ length (arc_text is_first arc) }
-    ensures short { result ≤ 11 }
+    ensures short { result ≤ MAX_ARC_LEN }
 {
     let digits = count_digits(arc);
     if is_first { digits } else { digits + 1 }
 }
 
-/// Writes an arc at an index, after a dot unless it is the first, and returns the index after it.
+/// Writes a dot and an arc at an index, and returns the index after them.
 #[tactic(auto, using(crate::proofs::Decimals::drop_more))]
 #[inline(always)]
-pub(crate) fn write_arc(arc: Arc, is_first: bool, out: &mut [u8], at: usize) -> usize
-    requires { at + length (arc_text is_first arc) ≤ length out.old }
-    ensures end { result ≡ at + length (arc_text is_first arc) }
-    ensures prefix { take result out.new ≡ take at out.old ++ arc_text is_first arc }
+pub(crate) fn write_arc(arc: Arc, out: &mut [u8], at: usize) -> usize
+    requires { at + length (arc_text false arc) ≤ length out.old }
+    ensures end { result ≡ at + length (arc_text false arc) }
+    ensures prefix { take result out.new ≡ take at out.old ++ arc_text false arc }
     ensures after { drop result out.new ≡ drop result out.old }
 {
-    let start = if is_first {
-        at
-    } else {
-        write_byte(b'.', out, at)
-    };
+    let start = write_byte(b'.', out, at);
     write_digits(arc, out, start)
 }
 
@@ -44,7 +40,7 @@ pub(crate) fn write_arc(arc: Arc, is_first: bool, out: &mut [u8], at: usize) -> 
 #[inline]
 fn count_digits(arc: Arc) -> usize
     ensures len { result ≡ length (decimal arc) }
-    ensures short { result ≤ 10 }
+    ensures short { result ≤ MAX_DIGITS }
 {
     if arc < 10 {
         1

@@ -13,14 +13,14 @@ use crate::error::{Error, Result};
 use crate::parts::copy_to;
 use crate::root::{check_first, join_root};
 
-/// `encode_to` of a slice of arcs, but not inlined: it is compiled once for all calls.
+/// `encode_inlined` of a slice of arcs, but not inlined: it is compiled once for all calls.
 #[tactic(auto, using(crate::proofs::TakesItems::list_answer))]
 #[inline(never)]
-pub(crate) fn encode_slice(arcs: &[Arc], out: &mut [u8], capacity: usize) -> Result<usize>
+pub(crate) fn encode(arcs: &[Arc], out: &mut [u8], capacity: usize) -> Result<usize>
     ensures { let answer = item_answer root_rule arcs.now capacity in
         MatchResult result (λ len. IsEncodedIn capacity answer out.old out.new len) (λ fault. answer ≡ Err fault) }
 {
-    encode_to(arcs.iter().copied(), out, capacity)
+    encode_inlined(arcs.iter().copied(), out, capacity)
 }
 
 /// The most arcs that are encoded on the stack.
@@ -29,25 +29,25 @@ pub(crate) const ONE_PASS_ARCS: usize = 12;
 /// The most octets that they take, five for each.
 const ONE_PASS_OCTETS: usize = 5 * ONE_PASS_ARCS;
 
-/// Writes the encoding of at most 12 arcs to the start of a slice, if it fits, and returns its length. On an error the
-/// slice is unchanged.
+/// Writes the encoding of at most `ONE_PASS_ARCS` arcs to the start of a slice, if it fits, and returns its length. On
+/// an error the slice is unchanged.
 // One pass in place of two: the octets are made on the stack.
 pub(crate) fn encode_in_one_pass(arcs: &[Arc], out: &mut [u8]) -> Result<usize>
-    requires { length arcs.now ≤ 12 }
+    requires { length arcs.now ≤ ONE_PASS_ARCS }
     ensures answer { let capacity = length out.old in let answer = item_answer root_rule arcs.now capacity in
         MatchResult result (λ len. IsEncodedIn capacity answer out.old out.new len) (λ fault. answer ≡ Err fault) }
     ensures kept { IfErr result (λ _. out.new ≡ out.old) }
 {
     let mut octets = [0; ONE_PASS_OCTETS];
-    let len = encode_slice(arcs, &mut octets, out.len().min(ONE_PASS_OCTETS))?;
+    let len = encode(arcs, &mut octets, out.len().min(ONE_PASS_OCTETS))?;
     copy_to(&octets[..len], out);
     Ok(len)
 }
 
-/// Writes the encoding of the arcs that an iterator gives to the start of a slice, if it fits a capacity, and returns its
-/// length. Into a slice that is shorter than the capacity nothing is written: the octets are counted alone.
+/// Writes the encoding of the arcs that an iterator gives to the start of a slice, if it fits a capacity, and returns
+/// its length.
 #[inline(always)]
-pub(crate) fn encode_to<I: IntoIterator<Item = Arc>>(
+pub(crate) fn encode_inlined<I: IntoIterator<Item = Arc>>(
     arcs: I,
     out: &mut [u8],
     capacity: usize,

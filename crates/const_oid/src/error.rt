@@ -158,8 +158,7 @@ impl Error {
     #[inline]
     fn detail_len(self) -> usize
         ensures len { result ≡ length (detail_text self) }
-        ensures short { length (message_of self) ≤ 47 }
-        ensures fits { length (message_of self) ≤ MAX_TEXT_LEN }
+        ensures short { length (message_of self) ≤ MAX_TEXT_LEN }
     {
         match self {
             Error::ArcInvalid { arc } => arc_len(arc, true),

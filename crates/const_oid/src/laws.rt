@@ -18,7 +18,7 @@ ghost use Rattle.const_oid.specs.Contents.{cut, octet_fault, octet_answer, arcs_
 ghost use Rattle.const_oid.specs.Element.{IsLength, length_octets, element};
 ghost use Rattle.const_oid.specs.Identifier.{RootRule, Narrow, Wide, root_rule, max_arc, max_second, IsIdentifier, IsEncoding, encoding_of, size};
 ghost use Rattle.const_oid.specs.Orders.{shortlex_cmp, parts_cmp};
-ghost use Rattle.const_oid.specs.Text.{text_fault, text_answer, text_of, pieces_of, number_of, Denotes, strip};
+ghost use Rattle.const_oid.specs.Text.{text_fault, text_answer, text_of, components_of, number_of, Denotes, strip};
 ghost use Rattle.const_oid.specs.Tree.{BeginsWith, child_of, parent_of};
 ghost use Rattle.const_oid.specs.WideRule.{IsPastNarrow, RefusesSecond};
 
@@ -185,8 +185,8 @@ pub fn texts_denote()
     ensures fits { (rule : RootRule) (capacity : ℕ) (text arcs : List ℕ) → Denotes rule text arcs
         → size arcs ≤ capacity → text_fault rule text capacity ≡ None }
     ensures accepted { (rule : RootRule) (capacity : ℕ) (text : List ℕ) → text_fault rule text capacity ≡ None
-        → Denotes rule text (map number_of (pieces_of text))
-        × (size (map number_of (pieces_of text)) ≤ capacity) }
+        → Denotes rule text (map number_of (components_of text))
+        × (size (map number_of (components_of text)) ≤ capacity) }
     ensures only { (rule : RootRule) (text a b : List ℕ) → Denotes rule text a
         → Denotes rule text b → a ≡ b }
     ensures stripped { (rule : RootRule) (text arcs : List ℕ) → Denotes rule text arcs
@@ -211,7 +211,7 @@ pub fn wide_keeps()
     ensures octets { (x : ℕ) (xs : List ℕ) (capacity : ℕ) → x < 120
         → octet_answer Wide (x ∷ xs) capacity ≡ octet_answer Narrow (x ∷ xs) capacity }
     ensures texts { (text : List ℕ) (capacity : ℕ)
-        → (RefusesSecond (map number_of (pieces_of text)) (text_fault Narrow text capacity) → ⊥)
+        → (RefusesSecond (map number_of (components_of text)) (text_fault Narrow text capacity) → ⊥)
         → text_answer Wide text capacity ≡ text_answer Narrow text capacity }
     ensures items { (items : List ℕ) (capacity : ℕ) → (RefusesSecond items (item_fault Narrow items capacity) → ⊥)
         → item_answer Wide items capacity ≡ item_answer Narrow items capacity }

@@ -11,7 +11,7 @@ ghost use Rattle.const_oid.specs.Contents.{cut, parts_fault, octet_answer, borro
 ghost use Rattle.const_oid.specs.Element.{element};
 ghost use Rattle.const_oid.specs.Identifier.{root_rule, IsEncoding};
 ghost use Rattle.const_oid.specs.Items.{item_answer};
-ghost use Rattle.const_oid.specs.Text.{pieces_of, text_answer, text_of, text_in, octet_text, wrong_index, Denotes, ReturnsLength, ReturnsText, WritesText};
+ghost use Rattle.const_oid.specs.Text.{components_of, text_answer, text_of, text_in, octet_text, wrong_index, Denotes, ReturnsLength, ReturnsText, WritesText};
 
 use crate::arcs::{Arcs, arc_at};
 use crate::base128::read_group;
@@ -22,7 +22,7 @@ use crate::error::{Error, Result};
 use crate::fast::comparison::{are_equal, order};
 use crate::fast::lanes::count_below;
 use crate::fast::steps::run_of;
-use crate::parser::{fault_and_index, parse_to_inlined};
+use crate::parser::{fault_and_index, parse_inlined};
 use crate::parts::without_last_part;
 use crate::root::split_root;
 use crate::text::{text_len, write_checked, write_text};
@@ -328,9 +328,9 @@ impl<'a> ObjectIdentifierRef<'a> {
     /// ```
     pub fn wrong_component(text: &[u8]) -> Option<usize>
         ensures none { result ≡ None ↔ ((arcs : List ℕ) × Denotes root_rule text.now arcs) }
-        ensures index { IfSome result (λ index. index ≡ wrong_index [] (pieces_of text.now)) }
+        ensures index { IfSome result (λ index. index ≡ wrong_index [] (components_of text.now)) }
     {
-        match parse_to_inlined(text, &mut [], usize::MAX) {
+        match parse_inlined(text, &mut [], usize::MAX) {
             Ok(_) => None,
             Err(wrong) => Some(fault_and_index(text, wrong).1),
         }
@@ -486,7 +486,7 @@ impl<'a> ObjectIdentifierRef<'a> {
         let mut at = 1;
         // An arc is written at one place, which takes the most code.
         loop {
-            at = write_arc(arc, false, &mut text, at);
+            at = write_arc(arc, &mut text, at);
             if rest.is_empty() {
                 return f.write_str(utf8(&text, at));
             }
@@ -501,7 +501,7 @@ impl<'a> ObjectIdentifierRef<'a> {
     }
 }
 
-/// The text of this many octets, or fewer, is written at once.
+/// The most octets whose text is written at once.
 const CHUNK_OCTETS: usize = 40;
 
 /// The most bytes of that text, four for each octet, and room for one more arc.

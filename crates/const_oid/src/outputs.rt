@@ -5,14 +5,14 @@ ghost use Rattle.const_oid.specs.Contents.{arcs_of_octets, bytes_answer, size_an
 ghost use Rattle.const_oid.specs.Identifier.{root_rule, default_capacity, IsEncoding};
 ghost use Rattle.const_oid.specs.Items.{item_answer};
 ghost use Rattle.const_oid.specs.OidRef.{ref_arcs, ref_slice};
-ghost use Rattle.const_oid.specs.Text.{pieces_of, text_answer, wrong_index};
+ghost use Rattle.const_oid.specs.Text.{components_of, text_answer, wrong_index};
 
 use crate::Arc;
-use crate::encoder::{ONE_PASS_ARCS, encode_in_one_pass, encode_slice};
+use crate::encoder::{ONE_PASS_ARCS, encode_in_one_pass, encode};
 use crate::error::{Error, Result};
 use crate::oid_ref::ObjectIdentifierRef;
 use crate::parser::{
-    ONE_PASS_BYTES, fault_and_index, parse_in_one_pass, parse_to, parse_to_inlined,
+    ONE_PASS_BYTES, fault_and_index, parse_in_one_pass, parse, parse_inlined,
 };
 use std::result;
 
@@ -27,7 +27,7 @@ pub fn bytes_len_from_ascii(text: &[u8], limit: usize) -> Result<usize>
     ensures len { result ≡ size_answer (text_answer root_rule text.now limit) }
     ensures enough { length text.now ≤ limit → result ≢ Err Error.Length }
 {
-    parse_to(text, &mut [], limit)
+    parse(text, &mut [], limit)
 }
 
 /// Parses dotted text in ASCII, of any length, and writes its contents octets to the start of `out`. Returns how many
@@ -49,8 +49,8 @@ pub fn bytes_from_ascii(text: &[u8], out: &mut [u8]) -> Result<usize>
     }
     let capacity = out.len();
     // The octets are counted first, so that on an error none is written.
-    parse_to(text, &mut [], capacity)?;
-    parse_to(text, out, capacity)
+    parse(text, &mut [], capacity)?;
+    parse(text, out, capacity)
 }
 
 /// Counts the contents octets of arcs, any number of them. They are at most five for each arc.
@@ -63,7 +63,7 @@ pub fn bytes_len_from_arcs(arcs: &[Arc], limit: usize) -> Result<usize>
     ensures len { result ≡ size_answer (item_answer root_rule arcs.now limit) }
     ensures enough { 5 * length arcs.now ≤ limit → result ≢ Err Error.Length }
 {
-    encode_slice(arcs, &mut [], limit)
+    encode(arcs, &mut [], limit)
 }
 
 /// Encodes arcs, any number of them, and writes the contents octets to the start of `out`. Returns how many there
@@ -84,8 +84,8 @@ pub fn bytes_from_arcs(arcs: &[Arc], out: &mut [u8]) -> Result<usize>
         return encode_in_one_pass(arcs, out);
     }
     let capacity = out.len();
-    encode_slice(arcs, &mut [], capacity)?;
-    encode_slice(arcs, out, capacity)
+    encode(arcs, &mut [], capacity)?;
+    encode(arcs, out, capacity)
 }
 
 /// Parses dotted text in ASCII into 39 octets, the default capacity, in one pass, and borrows those of its
@@ -103,10 +103,10 @@ pub fn from_ascii_in_39<'a>(
 ) -> result::Result<ObjectIdentifierRef<'a>, (Error, usize)>
     ensures answer { let answer = text_answer root_rule text.now default_capacity in
         MatchResult result (λ oid. answer ≡ Ok (ref_arcs oid)) (λ fault. answer ≡ Err fault.0) }
-    ensures index { IfErr result (λ fault. fault.0 ≢ Error.Length → fault.1 ≡ wrong_index [] (pieces_of text.now)) }
+    ensures index { IfErr result (λ fault. fault.0 ≢ Error.Length → fault.1 ≡ wrong_index [] (components_of text.now)) }
     ensures start { IfOk result (λ oid. (ref_slice oid).ref_ptr ≡ out.entry.ref_ptr) }
 {
-    match parse_to_inlined(text, out, 39) {
+    match parse_inlined(text, out, 39) {
         Ok(len) => Ok(ObjectIdentifierRef::from_checked(&out[..len])),
         Err(wrong) => Err(fault_and_index(text, wrong)),
     }

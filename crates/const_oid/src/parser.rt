@@ -1,11 +1,11 @@
 //! Dotted text to octets.
 //!
-//! A text is read component by component; in names, one is a `piece`. If one is wrong, only an index is returned, and a
-//! function that is rarely called makes the error of it. So a valid text costs fewer instructions.
+//! A text is read component by component. If one is wrong, only an index is returned, and a function that is rarely
+//! called makes the error of it. So a valid text costs fewer instructions.
 
 ghost use Rattle.std.specs.Prelude.{◌≡◌, ◌≢◌, ◌≤◌, ℕ, drop, length, Err, IfErr, MatchResult};
 ghost use Rattle.const_oid.specs.Private.Octets.{IsEncodedIn};
-ghost use Rattle.const_oid.specs.Private.Parser.{component_at, error_of, or_trailing, place_of, stop_fault, HasFault, IsFaultAt, IsFoundAt, IsPiece, IsRoot};
+ghost use Rattle.const_oid.specs.Private.Parser.{component_at, error_of, or_trailing, place_of, stop_fault, HasFault, IsComponent, IsFaultAt, IsFoundAt, IsRoot};
 ghost use Rattle.const_oid.specs.Identifier.{root_rule};
 ghost use Rattle.const_oid.specs.Text.{text_answer};
 
@@ -20,7 +20,7 @@ use std::result;
 /// What is wrong with a text.
 pub(crate) enum Wrong {
     /// The component that starts at an index goes wrong at another one.
-    Piece { start: usize, index: usize },
+    Component { start: usize, index: usize },
     /// An arc, whose component ends at an index.
     Value { fault: Error, end: usize },
 }
@@ -33,7 +33,7 @@ pub(crate) const fn fault_of(text: &[u8], wrong: Wrong) -> (Error, usize)
     ensures place { result.1 ≡ place_of wrong }
 {
     match wrong {
-        Wrong::Piece { start, index } => (piece_fault(text, start, index), index),
+        Wrong::Component { start, index } => (component_fault(text, start, index), index),
         Wrong::Value { fault, end } => (or_trailing_dot(fault, text, end), end),
     }
 }
@@ -63,13 +63,13 @@ pub(crate) fn fault_and_index(text: &[u8], wrong: Wrong) -> (Error, usize)
     (fault, index)
 }
 
-/// `parse_to_inlined`, but not inlined: it is compiled once for all calls. An error has no place.
+/// `parse_inlined`, but not inlined: it is compiled once for all calls. An error has no place.
 #[inline(never)]
-pub(crate) fn parse_to(text: &[u8], out: &mut [u8], capacity: usize) -> Result<usize>
+pub(crate) fn parse(text: &[u8], out: &mut [u8], capacity: usize) -> Result<usize>
     ensures { let answer = text_answer root_rule text.now capacity in
         MatchResult result (λ len. IsEncodedIn capacity answer out.old out.new len) (λ fault. answer ≡ Err fault) }
 {
-    match parse_to_inlined(text, out, capacity) {
+    match parse_inlined(text, out, capacity) {
         Ok(len) => Ok(len),
         Err(wrong) => Err(fault_of(text, wrong).0),
     }
@@ -78,26 +78,26 @@ pub(crate) fn parse_to(text: &[u8], out: &mut [u8], capacity: usize) -> Result<u
 /// The most bytes of a text that is parsed on the stack, and the most octets that it takes.
 pub(crate) const ONE_PASS_BYTES: usize = 64;
 
-/// Writes the encoding of the identifier that a text of at most 64 bytes denotes to the start of a slice, if it fits, and
-/// returns its length. On an error the slice is unchanged.
+/// Writes the encoding of the identifier that a text of at most `ONE_PASS_BYTES` denotes to the start of a slice, if it
+/// fits, and returns its length. On an error the slice is unchanged.
 // One pass in place of two: the octets are made on the stack.
 pub(crate) fn parse_in_one_pass(text: &[u8], out: &mut [u8]) -> Result<usize>
-    requires { length text.now ≤ 64 }
+    requires { length text.now ≤ ONE_PASS_BYTES }
     ensures answer { let capacity = length out.old in let answer = text_answer root_rule text.now capacity in
         MatchResult result (λ len. IsEncodedIn capacity answer out.old out.new len) (λ fault. answer ≡ Err fault) }
     ensures kept { IfErr result (λ _. out.new ≡ out.old) }
 {
     let mut octets = [0; ONE_PASS_BYTES];
-    let len = parse_to(text, &mut octets, out.len().min(ONE_PASS_BYTES))?;
+    let len = parse(text, &mut octets, out.len().min(ONE_PASS_BYTES))?;
     copy_to(&octets[..len], out);
     Ok(len)
 }
 
-/// Writes the encoding of the identifier that a text denotes to the start of a slice, if it fits a capacity, and returns
-/// its length. Into a slice that is shorter than the capacity nothing is written: the octets are counted alone.
+/// Writes the encoding of the identifier that a text denotes to the start of a slice, if it fits a capacity, and
+/// returns its length.
 // erase: const
 #[inline(always)]
-pub(crate) fn parse_to_inlined(
+pub(crate) fn parse_inlined(
     text: &[u8],
     out: &mut [u8],
     capacity: usize,
@@ -115,9 +115,9 @@ pub(crate) fn parse_to_inlined(
     };
     while end + 1 < text.len() {
         let start = end + 1;
-        let (arc, after) = match read_piece(text, start) {
-            Ok(piece) => piece,
-            Err(index) => return Err(Wrong::Piece { start, index }),
+        let (arc, after) = match read_component(text, start) {
+            Ok(component) => component,
+            Err(index) => return Err(Wrong::Component { start, index }),
         };
         used = match append_group(out, used, arc as u64, capacity) {
             Ok(used) => used,
@@ -140,9 +140,9 @@ fn read_root(text: &[u8]) -> result::Result<(u64, usize), Wrong>
     ensures { MatchResult result (λ root. IsRoot text.now root.0 root.1)
         (λ wrong. (capacity : ℕ) → IsFoundAt capacity text.now (error_of text.now wrong) (place_of wrong)) }
 {
-    let (first, end) = match read_piece(text, 0) {
-        Ok(piece) => piece,
-        Err(index) => return Err(Wrong::Piece { start: 0, index }),
+    let (first, end) = match read_component(text, 0) {
+        Ok(component) => component,
+        Err(index) => return Err(Wrong::Component { start: 0, index }),
     };
     if let Err(fault) = check_first(first) {
         return Err(Wrong::Value { fault, end });
@@ -153,9 +153,9 @@ fn read_root(text: &[u8]) -> result::Result<(u64, usize), Wrong>
         let fault = Error::Empty;
         return Err(Wrong::Value { fault, end });
     }
-    let (second, end) = match read_piece(text, start) {
-        Ok(piece) => piece,
-        Err(index) => return Err(Wrong::Piece { start, index }),
+    let (second, end) = match read_component(text, start) {
+        Ok(component) => component,
+        Err(index) => return Err(Wrong::Component { start, index }),
     };
     match join_root(first, second) {
         Ok(number) => Ok((number, end)),
@@ -166,11 +166,11 @@ fn read_root(text: &[u8]) -> result::Result<(u64, usize), Wrong>
 /// The number of the component that starts at an index, and where it ends: at a dot or at the end of the text. `Err` is
 /// where it goes wrong.
 // erase: const
-#[tactic(auto, using(crate::proofs::Pieces::digits_read))]
+#[tactic(auto, using(crate::proofs::Components::digits_read))]
 #[inline(always)]
-fn read_piece(text: &[u8], start: usize) -> result::Result<(Arc, usize), usize>
+fn read_component(text: &[u8], start: usize) -> result::Result<(Arc, usize), usize>
     requires { start ≤ length text.now }
-    ensures { MatchResult result (λ piece. IsPiece text.now start piece.0 piece.1)
+    ensures { MatchResult result (λ component. IsComponent text.now start component.0 component.1)
         (λ index. HasFault text.now start (stop_fault text.now start index) index) }
 {
     if start >= text.len() {
@@ -208,7 +208,7 @@ fn read_piece(text: &[u8], start: usize) -> result::Result<(Arc, usize), usize>
 /// The error of the component that starts at an index and goes wrong at another one.
 #[cold]
 #[inline(never)]
-const fn piece_fault(text: &[u8], start: usize, index: usize) -> Error
+const fn component_fault(text: &[u8], start: usize, index: usize) -> Error
     ensures { result ≡ stop_fault text.now start index }
 {
     if index >= text.len() {

@@ -48,7 +48,7 @@ pub(crate) fn write_text(octets: &[u8], out: &mut [u8]) -> usize
     let mut at = 1;
     // An arc is written at one place, which takes the most code.
     loop {
-        at = write_arc(arc, false, out, at);
+        at = write_arc(arc, out, at);
         if rest.is_empty() {
             return at;
         }
@@ -63,7 +63,7 @@ pub(crate) fn write_text(octets: &[u8], out: &mut [u8]) -> usize
 #[tactic(auto, using(crate::proofs::Printed::printed_pass, crate::proofs::Decimals::drop_more))]
 #[inline(always)]
 pub(crate) fn write_checked(octets: &[u8], out: &mut [u8]) -> Result<usize>
-    requires { 4 * length octets.now + 11 ≤ length out.old }
+    requires { 4 * length octets.now + MAX_ARC_LEN ≤ length out.old }
     ensures fault { result_err result ≡ parts_fault root_rule (cut octets.now) }
     ensures within { IfOk result (λ len. len ≤ length out.new) }
     ensures text { IfOk result (λ len. take len out.new ≡ text_of (arcs_of_octets octets.now)) }
@@ -93,12 +93,12 @@ pub(crate) fn write_checked(octets: &[u8], out: &mut [u8]) -> Result<usize>
 /// Writes an arc and the dot before it at an index, after which there is room for any arc, and returns the index after it.
 #[inline(always)]
 fn write_later(arc: Arc, out: &mut [u8], at: usize) -> usize
-    requires { at + 11 ≤ length out.old }
+    requires { at + MAX_ARC_LEN ≤ length out.old }
     ensures end { result ≡ at + length (arc_text false arc) }
     ensures prefix { take result out.new ≡ take at out.old ++ arc_text false arc }
     ensures after { drop result out.new ≡ drop result out.old }
     ensures within { result ≤ length out.new }
 {
     // The length of this part is a literal, so rustc checks no index in it.
-    at + write_arc(arc, false, &mut out[at..at + MAX_ARC_LEN], 0)
+    at + write_arc(arc, &mut out[at..at + MAX_ARC_LEN], 0)
 }

@@ -6,7 +6,7 @@ use Rattle.const_oid.specs.declared.error.Error.{Error}
 use Rattle.const_oid.specs.declared.error.Error.TheVariants.{Length}
 use Rattle.const_oid.specs.Identifier.{root_rule, default_capacity, IsEncoding}
 use Rattle.const_oid.specs.Items.{arc_fault, items_fault, item_answer}
-use Rattle.const_oid.specs.Text.{piece_fault, pieces_fault, pieces_of, number_of, text_answer}
+use Rattle.const_oid.specs.Text.{component_fault, components_fault, components_of, number_of, text_answer}
 use Rattle.const_oid.proofs.Ascii.{answer_utf8}
 use Rattle.const_oid.proofs.Encodings.{encoding_of-encoded}
 use Rattle.const_oid_c.specs.Results.{octets_of_text}
@@ -27,17 +27,17 @@ module _ (low high : ℕ) (less : low ≤ high) where
   same_items before (item ∷ items) other =
       grind (arith, same_arc before item, same_items (before ++ item ∷ []) items)
 
-  -- a piece of a text, between others
-  same_piece : (before piece : List ℕ) (after : List (List ℕ))
-      → IsSame (λ capacity. piece_fault root_rule capacity before piece after)
-  same_piece before piece after other = grind (arith, same_arc before (number_of piece))
+  -- a component of a text, between others
+  same_component : (before component : List ℕ) (after : List (List ℕ))
+      → IsSame (λ capacity. component_fault root_rule capacity before component after)
+  same_component before component after other = grind (arith, same_arc before (number_of component))
 
-  -- pieces of a text, after others
-  same_pieces : (before : List ℕ) (pieces : List (List ℕ))
-      → IsSame (λ capacity. pieces_fault root_rule capacity before pieces)
-  same_pieces before [] other = refl
-  same_pieces before (piece ∷ after) other =
-      grind (arith, same_piece before piece after, same_pieces (before ++ number_of piece ∷ []) after)
+  -- components of a text, after others
+  same_components : (before : List ℕ) (components : List (List ℕ))
+      → IsSame (λ capacity. components_fault root_rule capacity before components)
+  same_components before [] other = refl
+  same_components before (component ∷ after) other =
+      grind (arith, same_component before component after, same_components (before ++ number_of component ∷ []) after)
 
   -- the result at the low capacity is that at the high one, or the fault `Length`
   abbrev IsSameAnswer : (ℕ → Result (List ℕ) Error) → Type 0
@@ -45,7 +45,7 @@ module _ (low high : ℕ) (less : low ≤ high) where
 
   -- the result of a text
   pub same_text : (text : List ℕ) → IsSameAnswer (text_answer root_rule text)
-  same_text text other = grind (arith, same_pieces [] (pieces_of text))
+  same_text text other = grind (arith, same_components [] (components_of text))
 
   -- the result of arcs
   pub same_arcs : (arcs : List ℕ) → IsSameAnswer (item_answer root_rule arcs)

@@ -5,7 +5,7 @@ use Rattle.std.specs.Prelude.{Option, Some, None}
 use Rattle.std.proofs.lemmas.Bool.{cases_lt}
 use Rattle.const_oid.specs.{declared.error.Error.Error, Error.answer}
 use Rattle.const_oid.specs.Identifier.{root_rule, size, encoding_of, IsIdentifier}
-use Rattle.const_oid.specs.{Contents.size_answer, Items.{item_answer, item_fault}, Text.{number_of, pieces_of, text_answer, text_fault}}
+use Rattle.const_oid.specs.{Contents.size_answer, Items.{item_answer, item_fault}, Text.{number_of, components_of, text_answer, text_fault}}
 use Rattle.const_oid.proofs.{Encodings.encoding_is, Lengths.length_is_size, Texts.{denoted_from_none, text_fault-none}}
 use Rattle.const_oid.proofs.{Enough.all_small, Items.{identifier_from_none, item_fault-none}}
 use Rattle.const_oid_c.specs.{declared.status.Status.Status}
@@ -26,7 +26,7 @@ none_from_answer (Some fault) xs ys same = cc
 pub longer_text : (few : ℕ) {fault : Error} (text arcs : List ℕ) → text_answer root_rule text few ≡ Err fault
     → text_answer root_rule text max_len ≡ Ok arcs → IsLonger few arcs
 longer_text few {fault} text arcs refused read =
-    let numbers = map number_of (pieces_of text) in
+    let numbers = map number_of (components_of text) in
     let (none, same) = none_from_answer (text_fault root_rule text max_len) numbers arcs read in
     let (denoted, fits) = denoted_from_none root_rule max_len text none in
     let more : few < size numbers = ⊎_elim (λ less. less)

@@ -5,7 +5,7 @@ use Rattle.std.specs.Str.{is_utf8}
 use Rattle.const_oid.specs.{declared.error.Error.Error, Error.code_of}
 use Rattle.const_oid.specs.declared.error.Error.TheVariants.{ArcInvalid, ArcTooBig, Base128, DigitExpected, Empty, Length, Overflow, RepeatedDot, TrailingDot}
 use Rattle.const_oid.specs.Identifier.{root_rule, encoding_of}
-use Rattle.const_oid.specs.{Items.{item_answer, item_fault}, Text.{number_of, pieces_of, text_answer, text_fault, wrong_index}}
+use Rattle.const_oid.specs.{Items.{item_answer, item_fault}, Text.{number_of, components_of, text_answer, text_fault, wrong_index}}
 use Rattle.const_oid.proofs.{Encodings.encoding_is, Lengths.length_is_size, Texts.denoted_from_none}
 use Rattle.const_oid.proofs.{Enough.{all_small, bytes_enough, five_enough}, Items.identifier_from_none}
 use Rattle.const_oid_c.specs.{declared.status.Status.Status}
@@ -52,7 +52,7 @@ not_long index few (Err fault) other = λ same. other (rw (six fault same) refl)
 text_fits : (few : ℕ) (text arcs : List ℕ) → few ≤ max_len → length text ≤ few
     → text_answer root_rule text max_len ≡ Ok arcs → length (encoding_of arcs) ≤ few
 text_fits few text arcs within room read =
-    let numbers = map number_of (pieces_of text) in
+    let numbers = map number_of (components_of text) in
     let same = same_text few max_len within text (bytes_enough root_rule text few room) in
     let (none, is) = none_from_answer (text_fault root_rule text few) numbers arcs (same ∙ read) in
     let (denoted, fits) = denoted_from_none root_rule few text none in
@@ -73,13 +73,13 @@ pub text_enough : {status : Status} (few : ℕ) (text : List ℕ) → few ≤ ma
     → length text ≤ few → status.code ≢ 10
 text_enough few text within is room =
     rw is (utf8_short few (octets_of_ascii text) (is_utf8 text)
-    (not_short (wrong_index [] (pieces_of text)) few (text_answer root_rule text max_len) (λ arcs read. text_fits few text arcs within room read)))
+    (not_short (wrong_index [] (components_of text)) few (text_answer root_rule text max_len) (λ arcs read. text_fits few text arcs within room read)))
 
 pub text_no_length : {status : Status} (few : ℕ) (text : List ℕ) → length text ≤ max_len
     → status ≡ output_status few (octets_of_text text) → status.code ≢ 6
 text_no_length few text short is =
     rw is (utf8_long few (octets_of_ascii text) (is_utf8 text)
-    (not_long (wrong_index [] (pieces_of text)) few (text_answer root_rule text max_len) (bytes_enough root_rule text max_len short)))
+    (not_long (wrong_index [] (components_of text)) few (text_answer root_rule text max_len) (bytes_enough root_rule text max_len short)))
 
 -- ---- arcs
 

@@ -8,7 +8,7 @@ use Rattle.const_oid.specs.declared.error.Error.TheVariants.{ArcInvalid, ArcTooB
 use Rattle.const_oid.specs.Contents.{octet_answer, borrowed_capacity}
 use Rattle.const_oid.specs.Error.{message_of}
 use Rattle.const_oid.specs.Identifier.{root_rule, encoding_of}
-use Rattle.const_oid.specs.Text.{pieces_of, text_answer, wrong_index}
+use Rattle.const_oid.specs.Text.{components_of, text_answer, wrong_index}
 use Rattle.const_oid.specs.Tree.{child_of, parent_of}
 use Rattle.const_oid_c.specs.declared.status.Status.{Status}
 use Rattle.const_oid_c.specs.Status.{error_status, fault_at, max_len, not_utf8_status, none_status, number_status}
@@ -58,7 +58,7 @@ octets_or_fault index answer = result_map_both encoding_of (fault_at index) answ
 
 -- the contents octets of the arcs that a text in ASCII denotes, of any length
 abbrev pub octets_of_ascii : List ℕ → Result (List ℕ) Status
-octets_of_ascii text = octets_or_fault (wrong_index [] (pieces_of text)) (text_answer root_rule text max_len)
+octets_of_ascii text = octets_or_fault (wrong_index [] (components_of text)) (text_answer root_rule text max_len)
 
 -- the contents octets of the arcs that a text denotes, of any length
 abbrev pub octets_of_text : List ℕ → Result (List ℕ) Status

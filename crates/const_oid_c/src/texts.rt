@@ -1,6 +1,6 @@
 //! Dotted text.
 ghost use Rattle.std.specs.Prelude.{◌≡◌, ◌≢◌, ◌≤◌, [], length, Err};
-ghost use Rattle.const_oid.specs.Text.{pieces_of, text_of, text_answer, wrong_index};
+ghost use Rattle.const_oid.specs.Text.{components_of, text_of, text_answer, wrong_index};
 ghost use Rattle.const_oid.specs.Identifier.{root_rule, default_capacity};
 ghost use Rattle.const_oid_c.specs.Status.{fault_at, max_len, output_status, output_after};
 ghost use Rattle.const_oid_c.specs.Results.{octets_of_ascii, octets_of_text, output_of, borrowed_answer};
@@ -37,7 +37,7 @@ pub extern "C" fn const_oid_from_text(text: &[u8], out: &mut [u8]) -> Status
 #[inline(never)]
 fn write_after_fault(text: &[u8], out: &mut [u8], fault: Error, index: usize) -> Status
     requires fault { text_answer root_rule text.now default_capacity ≡ Err fault }
-    requires index { fault ≢ Error.Length → index ≡ wrong_index [] (pieces_of text.now) }
+    requires index { fault ≢ Error.Length → index ≡ wrong_index [] (components_of text.now) }
     ensures status { result ≡ output_status (length out.old) (octets_of_text text.now) }
     ensures written { out.new ≡ output_after out.old (octets_of_text text.now) }
 {
@@ -77,7 +77,7 @@ fn write_long_text(text: &[u8], out: &mut [u8]) -> Status
 #[inline(never)]
 fn component_status(fault: Error, text: &[u8]) -> Status
     requires { text_answer root_rule text.now max_len ≡ Err fault }
-    ensures { result ≡ fault_at (wrong_index [] (pieces_of text.now)) fault }
+    ensures { result ≡ fault_at (wrong_index [] (components_of text.now)) fault }
 {
     let index = ObjectIdentifierRef::wrong_component(text).unwrap_or(0);
     fault_at(index, fault)

@@ -15,10 +15,10 @@ pub fn text_from_bytes(ber: &[u8], out: &mut [u8]) -> Option<Result<usize>> {
 
 /// Writes the octets of a text in one pass. On an error, `out` may be changed.
 pub fn parse(text: &[u8], out: &mut [u8], capacity: usize) -> Result<usize> {
-    parser::parse_to(text, out, capacity)
+    parser::parse(text, out, capacity)
 }
 
 /// Writes the octets of arcs in one pass. On an error, `out` may be changed.
 pub fn encode(arcs: &[Arc], out: &mut [u8], capacity: usize) -> Result<usize> {
-    encoder::encode_slice(arcs, out, capacity)
+    encoder::encode(arcs, out, capacity)
 }

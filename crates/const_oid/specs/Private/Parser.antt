@@ -1,45 +1,45 @@
--- What a parser finds of one component of a text, a piece, and of the first two.
+-- What a parser finds of one component of a text, and of the first two.
 use Rattle.std.specs.Prelude.{◌≡◌, ◌≢◌, ℕ, ◌-◌, ◌*◌, ◌+◌, ◌<◌, ◌≤◌, ◌==◌, ◌&&◌, not, List, [], ◌∷◌, ◌++◌, length, count_by, drop, get_or, take}
 use Rattle.std.specs.Prelude.{nat_lt, if◌then◌else◌, Option, Some, None, Result, Ok, Err}
 use Rattle.std.specs.Char.{is_ascii_digit}
 use Rattle.const_oid.specs.declared.error.Error.{Error}
 use Rattle.const_oid.specs.declared.error.Error.TheVariants.{ArcTooBig, DigitExpected, Empty, Length, RepeatedDot, TrailingDot}
 use Rattle.const_oid.specs.declared.parser.Wrong.{Wrong}
-use Rattle.const_oid.specs.declared.parser.Wrong.TheVariants.{Piece, Value}
+use Rattle.const_oid.specs.declared.parser.Wrong.TheVariants.{Component, Value}
 use Rattle.const_oid.specs.{Identifier.{root_rule, max_arc, max_second}, Items.{arc_fault, too_few_fault}}
-use Rattle.const_oid.specs.Text.{dot, is_empty, number_of, piece_fault, pieces_of, text_answer, wrong_index, IsNumber}
+use Rattle.const_oid.specs.Text.{dot, is_empty, number_of, component_fault, components_of, text_answer, wrong_index, IsNumber}
 
--- a fault and the index of its piece, or else what comes later
+-- a fault and the index of its component, or else what comes later
 abbrev pub or_later : Option Error → ℕ → Result (List ℕ) (Error × ℕ) → Result (List ℕ) (Error × ℕ)
 or_later None index later = later
 or_later (Some fault) index later = Err (fault, index)
 
--- the arcs of pieces after some arcs, or the first fault at a capacity
-abbrev pub pieces_found : ℕ → List ℕ → List (List ℕ) → Result (List ℕ) (Error × ℕ)
-pieces_found capacity before [] = or_later (too_few_fault before) (length before - 1) (Ok before)
-pieces_found capacity before (piece ∷ after) =
-    or_later (piece_fault root_rule capacity before piece after) (length before) (pieces_found capacity (before ++ number_of piece ∷ []) after)
+-- the arcs of components after some arcs, or the first fault at a capacity
+abbrev pub components_found : ℕ → List ℕ → List (List ℕ) → Result (List ℕ) (Error × ℕ)
+components_found capacity before [] = or_later (too_few_fault before) (length before - 1) (Ok before)
+components_found capacity before (component ∷ after) =
+    or_later (component_fault root_rule capacity before component after) (length before) (components_found capacity (before ++ number_of component ∷ []) after)
 
 -- those of a text
 abbrev pub text_found : ℕ → List ℕ → Result (List ℕ) (Error × ℕ)
-text_found capacity text = pieces_found capacity [] (pieces_of text)
+text_found capacity text = components_found capacity [] (components_of text)
 
--- those of the pieces that come after one, by the bytes after it: a dot and theirs, or nothing
+-- those of the components that come after one, by the bytes after it: a dot and theirs, or nothing
 abbrev pub found_after : ℕ → List ℕ → List ℕ → Result (List ℕ) (Error × ℕ)
-found_after capacity before [] = pieces_found capacity before []
+found_after capacity before [] = components_found capacity before []
 found_after capacity before (_ ∷ []) = Err (TrailingDot, length before - 1)
-found_after capacity before (_ ∷ byte ∷ bytes) = pieces_found capacity before (pieces_of (byte ∷ bytes))
+found_after capacity before (_ ∷ byte ∷ bytes) = components_found capacity before (components_of (byte ∷ bytes))
 
--- the fault of an arc, by the bytes after its piece: `TrailingDot` if an empty last one follows
+-- the fault of an arc, by the bytes after its component: `TrailingDot` if an empty last one follows
 abbrev pub or_trailing : Error → List ℕ → Error
 or_trailing fault bytes = if length bytes == 1 then TrailingDot else fault
 
--- those of an arc and of what follows it, by the bytes after its piece and the fault of the arc
+-- those of an arc and of what follows it, by the bytes after its component and the fault of the arc
 abbrev pub arc_found : ℕ → List ℕ → ℕ → List ℕ → Option Error → Result (List ℕ) (Error × ℕ)
 arc_found capacity before arc bytes None = found_after capacity (before ++ arc ∷ []) bytes
 arc_found capacity before arc bytes (Some fault) = Err (or_trailing fault bytes, length before)
 
--- the fault of a piece that starts at an index and goes wrong at another one
+-- the fault of a component that starts at an index and goes wrong at another one
 abbrev pub stop_fault : List ℕ → ℕ → ℕ → Error
 stop_fault text start index =
     let b = get_or text index 0 in
@@ -49,12 +49,12 @@ stop_fault text start index =
 
 -- the error of what is wrong with a text
 abbrev pub error_of : List ℕ → Wrong → Error
-error_of text (Piece start index) = stop_fault text start index
+error_of text (Component start index) = stop_fault text start index
 error_of text (Value fault end) = or_trailing fault (drop end text)
 
 -- where it is wrong
 abbrev pub place_of : Wrong → ℕ
-place_of (Piece start index) = index
+place_of (Component start index) = index
 place_of (Value fault end) = end
 
 -- the index of the component at a place that follows digits and dots: of these, only dots are below the digits
@@ -65,7 +65,7 @@ component_at text place = count_by (λ b. nat_lt b 48) (take place text)
 pub record IsFaultAt (capacity : ℕ) (text : List ℕ) (fault : Error) (place : ℕ) : Type 0 where
   pub answer : text_answer root_rule text capacity ≡ Err fault
   pub within : place ≤ length text
-  pub component : fault ≢ Length → component_at text place ≡ wrong_index [] (pieces_of text)
+  pub component : fault ≢ Length → component_at text place ≡ wrong_index [] (components_of text)
 
 -- the first fault of a text at a capacity is that of the component at a place
 pub record IsFoundAt (capacity : ℕ) (text : List ℕ) (fault : Error) (place : ℕ) : Type 0 where
@@ -77,10 +77,10 @@ pub record IsWithin (text : List ℕ) (start place : ℕ) : Type 0 where
   pub same : component_at text place ≡ component_at text start
   pub within : place ≤ length text
 
--- the piece that starts at an index has a fault, whatever arcs are before it: none before the first piece alone
+-- the component that starts at an index has a fault, whatever arcs are before it: none before the first component alone
 pub record HasFault (text : List ℕ) (start : ℕ) (fault : Error) (place : ℕ) : Type 0 where
   pub is : (capacity : ℕ) (before : List ℕ) → is_empty before ≡ (start == 0)
-      → pieces_found capacity before (pieces_of (drop start text)) ≡ Err (fault, length before)
+      → components_found capacity before (components_of (drop start text)) ≡ Err (fault, length before)
   pub at : IsWithin text start place
 
 -- the bytes from an index up to another one are the digits of a number
@@ -91,16 +91,16 @@ pub record AreDigits (text : List ℕ) (start number end : ℕ) : Type 0 where
   pub bytes : drop start text ≡ digits ++ drop end text
   pub at : IsWithin text start end
 
--- the piece that starts at an index is the number of an arc, and ends at another one, with the text or at a dot
-pub record IsPiece (text : List ℕ) (start number end : ℕ) : Type 0 where
-  pub same : (capacity : ℕ) (before : List ℕ) → pieces_found capacity before (pieces_of (drop start text))
+-- the component that starts at an index is the number of an arc, and ends at another one, with the text or at a dot
+pub record IsComponent (text : List ℕ) (start number end : ℕ) : Type 0 where
+  pub same : (capacity : ℕ) (before : List ℕ) → components_found capacity before (components_of (drop start text))
       ≡ arc_found capacity before number (drop end text) (arc_fault root_rule capacity before number)
   pub small : number ≤ max_arc
   pub further : start < end
   pub at : IsWithin text start end
   pub dotted : end < length text → get_or text end 0 ≡ dot
 
--- the first two pieces are arcs with a subidentifier, and end at an index, with the text or at a dot
+-- the first two components are arcs with a subidentifier, and end at an index, with the text or at a dot
 pub record IsRoot (text : List ℕ) (root end : ℕ) : Type 0 where
   pub first : ℕ
   pub second : ℕ

@@ -3,11 +3,8 @@ use Rattle.std.proofs.Math.Nat.{div-le_self}
 use Rattle.const_oid.proofs.Leading.{IsLed, digits_above, led_on, led_past, led_to, nothing_led}
 use Rattle.const_oid.proofs.base128.append_group.Goals as goal
 use Rattle.const_oid.proofs.base128.append_group.Goals.{then-number-shift-gt0+else-at-capacity, else-number-shift-gt0}
-use Rattle.const_oid.proofs.base128.append_group.Goals.{then-capacity-out, else-capacity-out}
 use Rattle.const_oid.proofs.base128.append_group.Goals.{then-number-ge16384+else-loop-shift-test, else-number-ge16384}
 use Rattle.const_oid.proofs.base128.append_group.Goals.{then-number-ge128+else-at-capacity-2, else-number-ge128}
-use Rattle.const_oid.proofs.base128.append_group.Goals.{then-capacity-out-2, else-capacity-out-2}
-use Rattle.const_oid.proofs.base128.append_group.Goals.{then-capacity-out-3, else-capacity-out-3}
 
 pub loop-shift-init : goal.loop-shift-init
 loop-shift-init c =
@@ -28,11 +25,7 @@ loop-shift-preserved c =
             | then-number-shift-gt0+else-at-capacity w ↦
                 rw w.at-is
                 (led_on c.args.capacity c.args.used c.args.out.now (c.args.number / 2 ^ shift) led above w.if-number-shift-gt0.true w.if-at-capacity.false
-                (λ room.
-                elim w.if-capacity-out.branch [
-                  | then-capacity-out w' ↦ w.out-is ∙ w'.out-is
-                  | else-capacity-out w' ↦ absurd (omega arith)
-                ]))
+                (λ room. w.out-is))
             | else-number-shift-gt0 w ↦
                 let same : c.args.number / 2 ^ (shift + 7) ≡ c.args.number / 2 ^ shift = omega arith in
                 rw (w.out-is, w.at-is) (rw same at led)
@@ -76,11 +69,7 @@ returns-then-at-capacity-3 c =
           ] in
           rw w.at-is
           (led_on c.args.capacity c.args.used c.args.out.now (c.args.number / 128) before (omega arith) (omega arith) w.if-at-capacity-2.false
-          (λ room.
-          elim w.if-capacity-out-2.branch [
-            | then-capacity-out-2 w' ↦ w.out-is ∙ w'.out-is
-            | else-capacity-out-2 w' ↦ absurd (omega arith)
-          ]))
+          (λ room. w.out-is))
       | else-number-ge128 w ↦
           let none : c.args.number / 128 ≡ 0 = omega arith in
           rw (w.out-is, w.at-is, none) (nothing_led c.args.capacity c.args.used c.args.out.now)
@@ -103,18 +92,10 @@ returns c =
           ] in
           rw w.at-is
           (led_on c.args.capacity c.args.used c.args.out.now (c.args.number / 128) before (omega arith) (omega arith) w.if-at-capacity-2.false
-          (λ room.
-          elim w.if-capacity-out-2.branch [
-            | then-capacity-out-2 w' ↦ w.out-is ∙ w'.out-is
-            | else-capacity-out-2 w' ↦ absurd (omega arith)
-          ]))
+          (λ room. w.out-is))
       | else-number-ge128 w ↦
           let none : c.args.number / 128 ≡ 0 = omega arith in
           rw (w.out-is, w.at-is, none) (nothing_led c.args.capacity c.args.used c.args.out.now)
     ] in
     led_to c.args.capacity c.args.used c.args.out.now c.args.number led refl c.if-at-capacity-3.false
-    (λ room.
-    elim c.if-capacity-out-3.branch [
-      | then-capacity-out-3 w ↦ w.out-is
-      | else-capacity-out-3 w ↦ absurd (omega arith)
-    ])
+    (λ room. refl)

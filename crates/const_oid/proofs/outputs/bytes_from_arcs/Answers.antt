@@ -4,16 +4,16 @@ use Rattle.const_oid.proofs.{Enough.five_enough, Appended.returned}
 use Rattle.const_oid.proofs.outputs.bytes_from_arcs.Goals as goal
 
 pub returns-clause-answer : goal.returns-clause-answer
-returns-clause-answer c = (returned c.encode_slice-2.result c.encode_slice-2.ensures (omega arith)).answer
+returns-clause-answer c = (returned c.encode-2.result c.encode-2.ensures (omega arith)).answer
 
 pub returns-clause-encoding : goal.returns-clause-encoding
-returns-clause-encoding c = (returned c.encode_slice-2.result c.encode_slice-2.ensures (omega arith)).encoding
+returns-clause-encoding c = (returned c.encode-2.result c.encode-2.ensures (omega arith)).encoding
 
 pub returns-clause-rest : goal.returns-clause-rest
-returns-clause-rest c = (returned c.encode_slice-2.result c.encode_slice-2.ensures (omega arith)).rest
+returns-clause-rest c = (returned c.encode-2.result c.encode-2.ensures (omega arith)).rest
 
-pub returns-in_err-encode_slice-clause-enough : goal.returns-in_err-encode_slice-clause-enough
-returns-in_err-encode_slice-clause-enough c =
+pub returns-in_err-encode-clause-enough : goal.returns-in_err-encode-clause-enough
+returns-in_err-encode-clause-enough c =
     let other = five_enough root_rule c.args.arcs.now (length c.args.out.now) (λ k. omega (arith, c.type_inv.arcs k)) in
     grind (arith, other)
 

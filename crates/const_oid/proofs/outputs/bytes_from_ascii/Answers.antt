@@ -4,16 +4,16 @@ use Rattle.const_oid.proofs.{Enough.bytes_enough, Appended.returned}
 use Rattle.const_oid.proofs.outputs.bytes_from_ascii.Goals as goal
 
 pub returns-clause-answer : goal.returns-clause-answer
-returns-clause-answer c = (returned c.parse_to-2.result c.parse_to-2.ensures (omega arith)).answer
+returns-clause-answer c = (returned c.parse-2.result c.parse-2.ensures (omega arith)).answer
 
 pub returns-clause-encoding : goal.returns-clause-encoding
-returns-clause-encoding c = (returned c.parse_to-2.result c.parse_to-2.ensures (omega arith)).encoding
+returns-clause-encoding c = (returned c.parse-2.result c.parse-2.ensures (omega arith)).encoding
 
 pub returns-clause-rest : goal.returns-clause-rest
-returns-clause-rest c = (returned c.parse_to-2.result c.parse_to-2.ensures (omega arith)).rest
+returns-clause-rest c = (returned c.parse-2.result c.parse-2.ensures (omega arith)).rest
 
-pub returns-in_err-parse_to-clause-enough : goal.returns-in_err-parse_to-clause-enough
-returns-in_err-parse_to-clause-enough c =
+pub returns-in_err-parse-clause-enough : goal.returns-in_err-parse-clause-enough
+returns-in_err-parse-clause-enough c =
     let other = bytes_enough root_rule c.args.text.now (length c.args.out.now) in
     grind (arith, other)
 

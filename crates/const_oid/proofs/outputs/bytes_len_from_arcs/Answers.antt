@@ -4,7 +4,7 @@ use Rattle.const_oid.proofs.{Enough.five_enough, Appended.counted}
 use Rattle.const_oid.proofs.outputs.bytes_len_from_arcs.Goals as goal
 
 pub returns-clause-len : goal.returns-clause-len
-returns-clause-len c = counted _ _ _ _ c.encode_slice.result c.encode_slice.ensures
+returns-clause-len c = counted _ _ _ _ c.encode.result c.encode.ensures
 
 pub returns-clause-enough : goal.returns-clause-enough
 returns-clause-enough c =

@@ -1,6 +1,6 @@
 use Rattle.std.proofs.Common.{arith}
 use Rattle.std.proofs.lemmas.{Bool.Decides.nat_tests}
-use Rattle.const_oid.proofs.{Faults.some_from_above, Pieces.{first_above, first_alone, first_done, first_wrong, piece_component, piece_found, wrong_arc, wrong_piece}}
+use Rattle.const_oid.proofs.{Faults.some_from_above, Components.{first_above, first_alone, first_done, first_wrong, this_component, component_found, wrong_arc, wrong_component}}
 use Rattle.const_oid.proofs.parser.read_root.Goals as goal
 
 pub returns-in-Err : goal.returns-in-Err
@@ -13,26 +13,26 @@ pub returns-in-Err-check_first : goal.returns-in-Err-check_first
 returns-in-Err-check_first c = λ capacity.
     rw c.in-Err-check_first.ensures.0 (first_above capacity c.in-Ok.ensures c.in-Err-check_first.ensures.1)
 
-pub returns-in-Err-read_piece : goal.returns-in-Err-read_piece
-returns-in-Err-read_piece c = λ capacity.
-    wrong_piece (first_done capacity c.in-Ok.ensures c.in_default.ensures) (omega arith) c.in-Err-read_piece.ensures
+pub returns-in-Err-read_component : goal.returns-in-Err-read_component
+returns-in-Err-read_component c = λ capacity.
+    wrong_component (first_done capacity c.in-Ok.ensures c.in_default.ensures) (omega arith) c.in-Err-read_component.ensures
 
 pub returns-in-Err-join_root : goal.returns-in-Err-join_root
 returns-in-Err-join_root c = λ capacity.
-    wrong_arc (first_done capacity c.in-Ok.ensures c.in_default.ensures) (omega arith) c.in-Ok-read_piece.ensures
+    wrong_arc (first_done capacity c.in-Ok.ensures c.in_default.ensures) (omega arith) c.in-Ok-read_component.ensures
     (grind (arith, nat_tests, some_from_above))
 
 pub returns-in-Ok-join_root : goal.returns-in-Ok-join_root
 returns-in-Ok-join_root c =
-    let piece = c.in-Ok-read_piece.ensures in
+    let component = c.in-Ok-read_component.ensures in
     record {
-      first = c.in-Ok.piece.0;
-      second = c.in-Ok-read_piece.piece.0;
+      first = c.in-Ok.component.0;
+      second = c.in-Ok-read_component.component.0;
       number = c.in-Ok-join_root.ensures.1;
       low = c.in_default.ensures;
       high = c.in-Ok-join_root.ensures.0;
-      same = λ capacity. piece_found (first_done capacity c.in-Ok.ensures c.in_default.ensures) (omega arith) piece;
-      component = piece_component (first_done 0 c.in-Ok.ensures c.in_default.ensures) (omega arith) piece;
-      within = piece.at.within;
-      dotted = piece.dotted;
+      same = λ capacity. component_found (first_done capacity c.in-Ok.ensures c.in_default.ensures) (omega arith) component;
+      component = this_component (first_done 0 c.in-Ok.ensures c.in_default.ensures) (omega arith) component;
+      within = component.at.within;
+      dotted = component.dotted;
     }

@@ -9,7 +9,7 @@ use Rattle.const_oid.proofs.buffer.Buffer.encoded.Goals as goal
 pub invariant_of-buffer : goal.invariant_of-buffer
 invariant_of-buffer g c =
     let (it, gives, (answer, takes, is)) = c.in_ok-len.ensures in
-    let end = taken {new = c.encode_to.new.out} is (omega arith) in
+    let end = taken {new = c.encode_inlined.new.out} is (omega arith) in
     let zeros = unused _ _ c.empty-buffer.ensures (omega arith) c.empty-buffer.result.zeros in
     record {
       within = omega (arith, is.within);
@@ -21,7 +21,7 @@ pub returns-clause-takes : goal.returns-clause-takes
 returns-clause-takes g c =
     let (it, gives, (answer, takes, is)) = c.in_ok-len.ensures in
     let full : c.capacity.result ≡ min g.row.SIZE 255 = omega arith in
-    let end = taken {new = c.encode_to.new.out} is (omega arith) in
+    let end = taken {new = c.encode_inlined.new.out} is (omega arith) in
     (it, gives, rw (end.answer, full) at takes)
 
 -- the error that `?` passes on

@@ -5,7 +5,7 @@ use Rattle.const_oid.proofs.buffer.Buffer.parsed.Goals as goal
 
 pub invariant_of-buffer : goal.invariant_of-buffer
 invariant_of-buffer g c =
-    let end = taken {new = c.parse_to_inlined.new.out} c.in-Ok.ensures (omega arith) in
+    let end = taken {new = c.parse_inlined.new.out} c.in-Ok.ensures (omega arith) in
     let zeros = unused _ _ c.empty-buffer.ensures (omega arith) c.empty-buffer.result.zeros in
     record {
       within = omega (arith, c.in-Ok.ensures.within);

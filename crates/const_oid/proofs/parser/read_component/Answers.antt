@@ -1,13 +1,13 @@
 use Rattle.std.proofs.Common.{arith}
-use Rattle.const_oid.proofs.Pieces.{big_fault, piece_read, byte_fault, first_fault, digits_read}
-use Rattle.const_oid.proofs.parser.read_piece.Goals as goal
+use Rattle.const_oid.proofs.Components.{big_fault, component_read, byte_fault, first_fault, digits_read}
+use Rattle.const_oid.proofs.parser.read_component.Goals as goal
 
 pub returns-then-first-gt9 : goal.returns-then-first-gt9
 returns-then-first-gt9 c = first_fault c.args.text.now c.args.start (omega arith) (grind (arith, digits_read))
 
 pub returns-then-text-index-eq46 : goal.returns-then-text-index-eq46
 returns-then-text-index-eq46 c =
-    piece_read (grind (arith, digits_read)) (omega arith) (λ less. c.if-text-index-eq46.true)
+    component_read (grind (arith, digits_read)) (omega arith) (λ less. c.if-text-index-eq46.true)
 
 pub returns-then-text-index-ne46 : goal.returns-then-text-index-ne46
 returns-then-text-index-ne46 c =
@@ -21,4 +21,4 @@ returns-then-number c =
 pub returns : goal.returns
 returns c =
     let (read, small) = c.loop-index.invariant in
-    piece_read read small (λ less. grind (arith, digits_read, c.loop-index-test.branch))
+    component_read read small (λ less. grind (arith, digits_read, c.loop-index-test.branch))

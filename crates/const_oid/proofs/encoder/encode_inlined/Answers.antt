@@ -2,7 +2,7 @@ use Rattle.std.proofs.Common.{[], ◌∷◌, Ok, Err, refl, sym, ◌∙◌, arit
 use Rattle.const_oid.specs.{Identifier.{root_rule, max_second}, declared.error.Error.TheVariants.{ArcInvalid, Empty}}
 use Rattle.const_oid.proofs.{Faults.some_from_above, Appended.{root_given, later_given, all_given}}
 use Rattle.const_oid.proofs.TakesItems.{first_taken, takes_all, takes_few, takes_prefix, stopped}
-use Rattle.const_oid.proofs.encoder.encode_to.Goals as goal
+use Rattle.const_oid.proofs.encoder.encode_inlined.Goals as goal
 
 -- no arc
 pub returns-in_default : goal.returns-in_default

@@ -1,6 +1,6 @@
 use Rattle.std.proofs.Common.{length, ◌-◌}
-use Rattle.const_oid.proofs.Pieces.{IsWrittenTo}
-use Rattle.const_oid.proofs.parser.parse_to_inlined.Given as goal
+use Rattle.const_oid.proofs.Components.{IsWrittenTo}
+use Rattle.const_oid.proofs.parser.parse_inlined.Given as goal
 
 abbrev pub invariant-loop-end : goal.invariant-loop-end
 invariant-loop-end l = IsWrittenTo l.capacity l.text l.fn.out l.out l.used l.end

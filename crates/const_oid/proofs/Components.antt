@@ -1,4 +1,4 @@
--- What the pieces of a text come to: one by the digits that it begins with, and those so far by their octets.
+-- What the components of a text come to: one by the digits that it begins with, and those so far by their octets.
 use Rattle.std.proofs.Common.{◌≡◌, ℕ, ◌+◌, ◌-◌, ◌*◌, ◌<◌, ◌≤◌, ◌==◌, true, false, List, [], ◌∷◌, ◌++◌, length, drop, get_or}
 use Rattle.std.proofs.Common.{if◌then◌else◌, Option, Some, Result, Ok, Err, MatchResult, refl, sym, ap, ◌∙◌, arith}
 use Rattle.std.proofs.Common.{append-nil, length-append, get_or-drop, nat_lt}
@@ -9,9 +9,9 @@ use Rattle.std.proofs.lemmas.List.Splits.{length-slice_split, slice_split_at, sl
 use Rattle.const_oid.specs.{Identifier.{root_rule, max_arc, IsEncoding, IsIdentifier}, Items.arc_fault, declared.error.Error.Error}
 use Rattle.const_oid.specs.declared.error.Error.TheVariants.{ArcInvalid, ArcTooBig, DigitExpected, Empty, Length, TrailingDot}
 use Rattle.const_oid.specs.{Contents.arcs_of_octets, Base128.width, Private.Octets.{AppendsTo, BeginsBy, IsAppended, IsEncodedIn}}
-use Rattle.const_oid.specs.Private.Parser.{component_at, pieces_found, text_found, found_after, or_trailing, arc_found, stop_fault}
-use Rattle.const_oid.specs.Private.Parser.{AreDigits, HasFault, IsFoundAt, IsPiece, IsRoot, IsWithin}
-use Rattle.const_oid.specs.Text.{pieces_of, number_of, is_empty, is_one_empty, text_answer, IsNumber}
+use Rattle.const_oid.specs.Private.Parser.{component_at, components_found, text_found, found_after, or_trailing, arc_found, stop_fault}
+use Rattle.const_oid.specs.Private.Parser.{AreDigits, HasFault, IsFoundAt, IsComponent, IsRoot, IsWithin}
+use Rattle.const_oid.specs.Text.{components_of, number_of, is_empty, is_one_empty, text_answer, IsNumber}
 use Rattle.const_oid.proofs.WrongIndex.{same_text}
 use Rattle.const_oid.proofs.Appended.{IsLonger, longer_by}
 use Rattle.const_oid.proofs.{Lists.append-cons, Started.{Encodes, root_encodes, later_encodes}}
@@ -19,32 +19,32 @@ use Rattle.const_oid.proofs.{Faults.{none_from_below, some_from_above}, Encoding
 use Rattle.const_oid.proofs.Numbers.{number_of_digits, find-none, take_while-digits, find-digits, undotted}
 use Rattle.const_oid.proofs.Numbers.{digits_push, number_push, number_more}
 
--- ---- the pieces of bytes
+-- ---- the components of bytes
 
--- the first piece begins with the digits that the bytes begin with
+-- the first component begins with the digits that the bytes begin with
 begins : (digits more tail : List ℕ) (after : List (List ℕ)) → all_ascii_digits digits ≡ true
-    → pieces_of more ≡ tail ∷ after → pieces_of (digits ++ more) ≡ (digits ++ tail) ∷ after
+    → components_of more ≡ tail ∷ after → components_of (digits ++ more) ≡ (digits ++ tail) ∷ after
 begins [] more tail after are e = e
 begins (d ∷ ds) more tail after are e = grind (arith, nat_tests, begins ds more tail after)
 
-some_piece : (bytes : List ℕ) → (tail : List ℕ) × (after : List (List ℕ)) × (pieces_of bytes ≡ tail ∷ after)
-some_piece [] = ([], [], refl)
-some_piece (b ∷ bytes) =
-    let (tail, after, e) = some_piece bytes in
+some_component : (bytes : List ℕ) → (tail : List ℕ) × (after : List (List ℕ)) × (components_of bytes ≡ tail ∷ after)
+some_component [] = ([], [], refl)
+some_component (b ∷ bytes) =
+    let (tail, after, e) = some_component bytes in
     elim (b == 46) as (λ dotted. (tail : List ℕ) × (after : List (List ℕ))
-    × ((if dotted then [] ∷ pieces_of bytes else onto_first b (pieces_of bytes)) ≡ tail ∷ after))
-    [ true ↦ ([], pieces_of bytes, refl) | false ↦ (b ∷ tail, after, rw e refl) ]
+    × ((if dotted then [] ∷ components_of bytes else onto_first b (components_of bytes)) ≡ tail ∷ after))
+    [ true ↦ ([], components_of bytes, refl) | false ↦ (b ∷ tail, after, rw e refl) ]
 
--- what follows a dot is one empty piece exactly where no byte follows
-one_empty-pieces : (bytes : List ℕ) → is_one_empty (pieces_of bytes) ≡ is_empty bytes
-one_empty-pieces [] = refl
-one_empty-pieces (b ∷ bytes) = grind (arith, nat_tests, length-slice_split (λ b. b == 46) bytes)
+-- what follows a dot is one empty component exactly where no byte follows
+one_empty-components : (bytes : List ℕ) → is_one_empty (components_of bytes) ≡ is_empty bytes
+one_empty-components [] = refl
+one_empty-components (b ∷ bytes) = grind (arith, nat_tests, length-slice_split (λ b. b == 46) bytes)
 
 module _ (capacity : ℕ) (before : List ℕ) where
   abbrev found : List ℕ → Result (List ℕ) (Error × ℕ)
-  found bytes = pieces_found capacity before (pieces_of bytes)
+  found bytes = components_found capacity before (components_of bytes)
 
-  -- ---- a piece without a fault of its own
+  -- ---- a component without a fault of its own
 
   number_read : (digits bytes : List ℕ) → IsNumber digits → number_of digits ≤ max_arc
       → (0 < length bytes → get_or bytes 0 0 ≡ 46) → (fault : Option Error)
@@ -55,20 +55,20 @@ module _ (capacity : ℕ) (before : List ℕ) where
   number_read digits (b ∷ []) is small dotted fault e =
       grind (arith, nat_tests, find-none, append-nil, length-append, slice_split_at (λ b. b == 46), undotted)
   number_read digits (b ∷ c ∷ bytes) is small dotted fault e =
-      grind (arith, nat_tests, find-none, one_empty-pieces (c ∷ bytes), append-cons, slice_split_at (λ b. b == 46), undotted)
+      grind (arith, nat_tests, find-none, one_empty-components (c ∷ bytes), append-cons, slice_split_at (λ b. b == 46), undotted)
 
-  -- ---- a piece with a fault
+  -- ---- a component with a fault
 
   too_big : (digits more : List ℕ) → all_ascii_digits digits ≡ true → max_arc < number_of digits
       → found (digits ++ more) ≡ Err (ArcTooBig, length before)
   too_big digits more are big =
-      let (tail, after, e) = some_piece more in
+      let (tail, after, e) = some_component more in
       rw (begins digits more tail after are e) (grind (arith, nat_tests, number_more digits tail are))
 
   no_digit : (digits more : List ℕ) (byte : ℕ) → all_ascii_digits digits ≡ true → number_of digits ≤ max_arc
       → is_ascii_digit byte ≡ false → (byte == 46) ≡ false → found (digits ++ byte ∷ more) ≡ Err (DigitExpected byte, length before)
   no_digit digits more byte are small other undotted =
-      let (tail, after, e) = some_piece more in
+      let (tail, after, e) = some_component more in
       rw (begins digits (byte ∷ more) (byte ∷ tail) after are (rw (undotted, e) refl))
       (grind (arith, nat_tests, append-nil, number_of_digits, take_while-digits, find-digits))
 
@@ -128,8 +128,8 @@ big_fault {text} end read less is big =
     }
 
 module _ {text : List ℕ} {start number end : ℕ} (read : AreDigits text start number end) (small : number ≤ max_arc) where
-  pub piece_read : (end < length text → get_or text end 0 ≡ 46) → IsPiece text start number end
-  piece_read dotted = record {
+  pub component_read : (end < length text → get_or text end 0 ≡ 46) → IsComponent text start number end
+  component_read dotted = record {
     same = λ capacity before.
         rw (read.bytes, read.value)
         (number_read capacity before read.digits (drop end text) read.are (rw read.value at small)
@@ -157,7 +157,7 @@ pub first_fault : (text : List ℕ) (start : ℕ) → start < length text → is
     → HasFault text start (stop_fault text start start) start
 first_fault text start less other = record {
   is = λ capacity before none.
-      let (tail, after, e) = some_piece (drop (start + 1) text) in
+      let (tail, after, e) = some_component (drop (start + 1) text) in
       rw (drop_more text start 0 less, e) (grind (arith, nat_tests, e));
   at = record { same = refl; within = omega arith };
 }
@@ -169,16 +169,16 @@ end_fault text start last = record {
   at = record { same = refl; within = omega arith };
 }
 
--- ---- the octets of the pieces so far
+-- ---- the octets of the components so far
 
--- the pieces that end at an index or before are arcs, without a fault
+-- the components that end at an index or before are arcs, without a fault
 pub record AreRead (capacity : ℕ) (text before : List ℕ) (end : ℕ) : Type 0 where
   pub found : text_found capacity text ≡ found_after capacity before (drop end text)
   pub component : component_at text end + 1 ≡ length before
   pub within : end ≤ length text
   pub dotted : end < length text → get_or text end 0 ≡ 46
 
--- the first piece
+-- the first component
 pub first_wrong : {text : List ℕ} (capacity : ℕ) {fault : Error} {place : ℕ} → HasFault text 0 fault place
     → IsFoundAt capacity text fault place
 first_wrong capacity {fault} has = record {
@@ -186,26 +186,26 @@ first_wrong capacity {fault} has = record {
   within = has.at.within;
 }
 
-module _ {text : List ℕ} {first end : ℕ} (capacity : ℕ) (piece : IsPiece text 0 first end) where
+module _ {text : List ℕ} {first end : ℕ} (capacity : ℕ) (component : IsComponent text 0 first end) where
   pub first_above : 2 < first → IsFoundAt capacity text (or_trailing (ArcInvalid first) (drop end text)) end
   first_above high = record {
-    found = piece.same capacity [] ∙ rw (some_from_above 2 first (ArcInvalid first) high, piece.at.same) refl;
-    within = piece.at.within;
+    found = component.same capacity [] ∙ rw (some_from_above 2 first (ArcInvalid first) high, component.at.same) refl;
+    within = component.at.within;
   }
 
   pub first_done : first ≤ 2 → AreRead capacity text (first ∷ []) end
   first_done low = record {
-    found = piece.same capacity [] ∙ rw (none_from_below 2 first (ArcInvalid first) low) refl;
-    component = rw piece.at.same refl;
-    within = piece.at.within;
-    dotted = piece.dotted;
+    found = component.same capacity [] ∙ rw (none_from_below 2 first (ArcInvalid first) low) refl;
+    component = rw component.at.same refl;
+    within = component.at.within;
+    dotted = component.dotted;
   }
 
   -- nothing is left, or a dot
   pub first_alone : first ≤ 2 → length text ≤ end + 1 → IsFoundAt capacity text (or_trailing Empty (drop end text)) end
   first_alone low last = record {
-    found = (first_done low).found ∙ rw piece.at.same (alone (drop end text) (omega (arith, length-drop end text)));
-    within = piece.at.within;
+    found = (first_done low).found ∙ rw component.at.same (alone (drop end text) (omega (arith, length-drop end text)));
+    within = component.at.within;
   } where
     alone : (bytes : List ℕ) → length bytes ≤ 1
         → found_after capacity (first ∷ []) bytes ≡ Err (or_trailing Empty bytes, 0)
@@ -214,7 +214,7 @@ module _ {text : List ℕ} {first end : ℕ} (capacity : ℕ) (piece : IsPiece t
     alone (byte ∷ next ∷ bytes) few = absurd (omega arith)
 
 module _ {capacity : ℕ} {text before : List ℕ} {end : ℕ} (read : AreRead capacity text before end) where
-  -- a dot is left, so the last piece is empty
+  -- a dot is left, so the last component is empty
   pub dot_left : end + 1 ≡ length text → IsFoundAt capacity text TrailingDot end
   dot_left last =
       let index : length before - 1 ≡ component_at text end = omega (arith, read.component) in
@@ -228,11 +228,11 @@ module _ {capacity : ℕ} {text before : List ℕ} {end : ℕ} (read : AreRead c
     next_component : component_at text (end + 1) ≡ length before
     next_component = omega (arith, component_next text end (omega arith) (read.dotted (omega arith)), read.component)
 
-    next_found : text_found capacity text ≡ pieces_found capacity before (pieces_of (drop (end + 1) text))
+    next_found : text_found capacity text ≡ components_found capacity before (components_of (drop (end + 1) text))
     next_found = read.found ∙ rw (drop_more text end 0 (omega arith), drop_more text (end + 1) 0 less) refl
 
-    pub wrong_piece : {fault : Error} {place : ℕ} → HasFault text (end + 1) fault place → IsFoundAt capacity text fault place
-    wrong_piece {fault} has = record {
+    pub wrong_component : {fault : Error} {place : ℕ} → HasFault text (end + 1) fault place → IsFoundAt capacity text fault place
+    wrong_component {fault} has = record {
       found = next_found ∙ has.is capacity before (some_arc before read.component)
           ∙ ap (λ n. Err (fault, n)) (sym (has.at.same ∙ next_component));
       within = has.at.within;
@@ -241,24 +241,24 @@ module _ {capacity : ℕ} {text before : List ℕ} {end : ℕ} (read : AreRead c
       some_arc [] none = absurd (omega arith)
       some_arc (arc ∷ arcs) some = grind (arith, nat_tests)
 
-    module _ {arc place : ℕ} (piece : IsPiece text (end + 1) arc place) where
-      pub piece_component : component_at text place ≡ length before
-      piece_component = piece.at.same ∙ next_component
+    module _ {arc place : ℕ} (component : IsComponent text (end + 1) arc place) where
+      pub this_component : component_at text place ≡ length before
+      this_component = component.at.same ∙ next_component
 
-      pub piece_found : text_found capacity text
+      pub component_found : text_found capacity text
           ≡ arc_found capacity before arc (drop place text) (arc_fault root_rule capacity before arc)
-      piece_found = next_found ∙ piece.same capacity before
+      component_found = next_found ∙ component.same capacity before
 
       pub wrong_arc : {fault : Error} → arc_fault root_rule capacity before arc ≡ Some fault
           → IsFoundAt capacity text (or_trailing fault (drop place text)) place
-      wrong_arc has = record { found = piece_found ∙ rw (has, piece_component) refl; within = piece.at.within }
+      wrong_arc has = record { found = component_found ∙ rw (has, this_component) refl; within = component.at.within }
 
--- the octets are the encoding of the arcs of the pieces that end at an index or before
+-- the octets are the encoding of the arcs of the components that end at an index or before
 pub record IsReadTo (capacity : ℕ) (text octets : List ℕ) (end : ℕ) : Type 0 where
   pub encoding : IsEncoding root_rule (arcs_of_octets octets) octets
   pub arcs : AreRead capacity text (arcs_of_octets octets) end
 
--- what becomes of them by a piece, whose group is appended or does not fit
+-- what becomes of them by a component, whose group is appended or does not fit
 abbrev pub BecomesBy : {X : Type 0} → ℕ → List ℕ → List ℕ → ℕ → Result X Error → Type 0
 BecomesBy capacity text longer end result = MatchResult result (λ _. IsReadTo capacity text longer end)
     (λ fault. IsFoundAt capacity text (or_trailing fault (drop end text)) end)
@@ -294,15 +294,15 @@ module _ {X : Type 0} (capacity : ℕ) (text longer : List ℕ) where
       root.within root.dotted result (rw root.number at appended)
 
   pub later_becomes : {octets : List ℕ} {arc place end : ℕ} → IsReadTo capacity text octets place
-      → place + 1 < length text → IsPiece text (place + 1) arc end → (result : Result X Error)
+      → place + 1 < length text → IsComponent text (place + 1) arc end → (result : Result X Error)
       → IsAppended capacity arc octets longer result → BecomesBy capacity text longer end result
-  later_becomes {octets} {arc} {end} read less piece =
-      becomes end (later_encodes root_rule octets (arcs_of_octets octets) arc read.encoding piece.small)
-      (piece_found read.arcs less piece) (piece_component read.arcs less piece) piece.at.within piece.dotted
+  later_becomes {octets} {arc} {end} read less component =
+      becomes end (later_encodes root_rule octets (arcs_of_octets octets) arc read.encoding component.small)
+      (component_found read.arcs less component) (this_component read.arcs less component) component.at.within component.dotted
 
 -- ---- octets in a slice
 
--- its first octets are the encoding of the arcs of the pieces that end at an index or before, if it has the capacity
+-- if it has the capacity, its first octets encode the arcs of the components that end at an index or before
 pub record IsWrittenTo (capacity : ℕ) (text old new : List ℕ) (used end : ℕ) : Type 0 where
   pub octets : List ℕ
   pub read : IsReadTo capacity text octets end
@@ -310,7 +310,7 @@ pub record IsWrittenTo (capacity : ℕ) (text old new : List ℕ) (used end : �
   pub fits : used ≤ capacity
   pub begins : BeginsBy capacity octets old new
 
--- what becomes of it by a piece, whose group is appended or does not fit
+-- what becomes of it by a component, whose group is appended or does not fit
 abbrev pub WrittenBy : ℕ → List ℕ → List ℕ → List ℕ → ℕ → Result ℕ Error → Type 0
 WrittenBy capacity text old new end result = MatchResult result (λ used. IsWrittenTo capacity text old new used end)
     (λ fault. IsFoundAt capacity text (or_trailing fault (drop end text)) end)
@@ -336,13 +336,13 @@ module _ (capacity : ℕ) (text old : List ℕ) where
 
   pub later_written : {new : List ℕ} {used arc place end : ℕ} (longer : List ℕ)
       → IsWrittenTo capacity text old new used place → length new ≡ length old → place + 1 < length text
-      → IsPiece text (place + 1) arc end → (result : Result ℕ Error) → AppendsTo capacity arc used new longer result
+      → IsComponent text (place + 1) arc end → (result : Result ℕ Error) → AppendsTo capacity arc used new longer result
       → WrittenBy capacity text old longer end result
-  later_written {arc} {end} longer written same less piece result appends =
+  later_written {arc} {end} longer written same less component result appends =
       let more = longer_by {number = arc} longer written.long same written.begins result appends in
-      written_by end result more (later_becomes capacity text more.more written.read less piece result more.appended)
+      written_by end result more (later_becomes capacity text more.more written.read less component result more.appended)
 
--- all pieces are read
+-- all components are read
 pub all_written : {capacity : ℕ} {text old new : List ℕ} {used end : ℕ} → IsWrittenTo capacity text old new used end
     → length text ≤ end → IsEncodedIn capacity (text_answer root_rule text capacity) old new used
 all_written {capacity} {text} {end} written last =
@@ -359,9 +359,9 @@ all_written {capacity} {text} {end} written last =
       within = written.fits;
       begins = written.begins;
     } where
-      enough : (arcs : List ℕ) → IsIdentifier root_rule arcs → pieces_found capacity arcs [] ≡ Ok arcs
+      enough : (arcs : List ℕ) → IsIdentifier root_rule arcs → components_found capacity arcs [] ≡ Ok arcs
       enough [] identifier = absurd identifier
       enough (arc ∷ []) identifier = absurd identifier
       enough (first ∷ second ∷ later) identifier = refl
 
-pub ruleset digits_read = (first_read, digit_read, big_fault, piece_read, byte_fault, first_fault, end_fault, nat_tests)
+pub ruleset digits_read = (first_read, digit_read, big_fault, component_read, byte_fault, first_fault, end_fault, nat_tests)

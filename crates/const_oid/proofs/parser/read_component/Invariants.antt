@@ -1,7 +1,7 @@
 use Rattle.std.proofs.Common.{length, ◌-◌, ◌≤◌}
 use Rattle.const_oid.specs.Identifier.{max_arc}
 use Rattle.const_oid.specs.Private.Parser.{AreDigits}
-use Rattle.const_oid.proofs.parser.read_piece.Given as goal
+use Rattle.const_oid.proofs.parser.read_component.Given as goal
 
 abbrev pub invariant-loop-index : goal.invariant-loop-index
 invariant-loop-index l = AreDigits l.text l.start l.number l.index × (l.number ≤ max_arc)
