@@ -1,17 +1,19 @@
 //! Borrowed object identifiers.
-ghost use Rattle.std.specs.Prelude.{◌≡◌, ◌≢◌, ◌*◌, ◌≤◌, ◌<◌, ◌↔◌, ◌+◌, ◌++◌, ℕ, List, drop, length, min, slice_get, take, count_by, None, Some, Err, IfErr, IfOk, IfSome, IsSome, IsTrue, MatchOption, MatchResult, Ok, []};
+ghost use Rattle.std.specs.Prelude.{◌≡◌, ◌≢◌, ◌*◌, ◌≤◌, ◌<◌, ◌↔◌, ◌+◌, ◌++◌, ℕ, List, length, min, slice_get, count_by, None, Some, Err, IfErr, IfOk, IfSome, IsSome, IsTrue, MatchOption, MatchResult, Ok, []};
 ghost use Rattle.std.specs.Option.{option_map};
+ghost use Rattle.std.specs.Result.{result_err};
 ghost use Rattle.std.specs.Fmt.{DisplaysOnOk, WritesStyledOnOk};
 ghost use Rattle.std.specs.Cmp.Lexicographic.{slice_cmp};
 ghost use Rattle.std.specs.List.Sorted.{IsSortedByKey};
 ghost use Rattle.std.specs.Ordering.{nat_cmp, is_lt};
 ghost use Rattle.std.proofs.Props.{props};
 ghost use Rattle.const_oid.specs.Base128.{AreOctets};
-ghost use Rattle.const_oid.specs.Contents.{arcs_of_octets, cut, parts_fault, octet_answer, bytes_answer, size_answer, borrowed_capacity};
+ghost use Rattle.const_oid.specs.Contents.{arcs_of_octets, cut, parts_fault, octet_answer, octet_fault, size_answer, borrowed_capacity};
 ghost use Rattle.const_oid.specs.Element.{element};
 ghost use Rattle.const_oid.specs.Identifier.{root_rule, default_capacity, IsEncoding};
 ghost use Rattle.const_oid.specs.Items.{item_answer};
-ghost use Rattle.const_oid.specs.Text.{pieces_of, text_answer, text_of, text_in, octet_text, wrong_index, Denotes, ReturnsLength, ReturnsText, WritesText};
+ghost use Rattle.const_oid.specs.Output.{Returns, Writes, WritesAll, WritesEncoding};
+ghost use Rattle.const_oid.specs.Text.{pieces_of, text_answer, text_of, wrong_index, Denotes};
 
 use crate::Arc;
 use crate::arcs::{Arcs, arc_at};
@@ -184,8 +186,7 @@ impl<'a> ObjectIdentifierRef<'a> {
     /// ```
     #[inline]
     pub fn write_element(&self, out: &mut [u8]) -> Option<usize>
-        ensures cases { ReturnsLength (element (ref_octets self.now)) out.old result }
-        ensures written { WritesText (element (ref_octets self.now)) out.old out.new result }
+        ensures written { Writes (element (ref_octets self.now)) out.old out.new result }
         ensures kept { result ≡ None → out.new ≡ out.old }
         ensures enough { length (ref_octets self.now) + 10 ≤ length out.old → IsSome result }
     {
@@ -269,8 +270,7 @@ impl<'a> ObjectIdentifierRef<'a> {
     /// ```
     #[inline]
     pub fn encode_text(&self, out: &mut [u8]) -> Option<usize>
-        ensures cases { ReturnsLength (text_of (ref_arcs self.now)) out.old result }
-        ensures written { WritesText (text_of (ref_arcs self.now)) out.old out.new result }
+        ensures written { Writes (text_of (ref_arcs self.now)) out.old out.new result }
         ensures kept { result ≡ None → out.new ≡ out.old }
         ensures enough { 4 * length (ref_octets self.now) ≤ length out.old → IsSome result }
     {
@@ -292,7 +292,7 @@ impl<'a> ObjectIdentifierRef<'a> {
     /// ```
     #[inline]
     pub fn encode_str<'o>(&self, out: &'o mut [u8]) -> Option<&'o str>
-        ensures cases { ReturnsText (text_of (ref_arcs self.now)) out.old result }
+        ensures cases { Returns (text_of (ref_arcs self.now)) out.old result }
         ensures enough { 4 * length (ref_octets self.now) ≤ length out.old → IsSome result }
     {
         let len = self.encode_text(out)?;
@@ -307,9 +307,8 @@ impl<'a> ObjectIdentifierRef<'a> {
     #[inline(always)]
     pub fn text_from_bytes(ber: &[u8], out: &mut [u8]) -> Option<Result<usize>>
         ensures room { MatchOption result (length out.old < 4 * length ber.now + 11) (λ _. 4 * length ber.now + 11 ≤ length out.old) }
-        ensures answer { IfSome result (λ written. text_in out.new written ≡ octet_text root_rule ber.now) }
-        ensures within { IfSome result (λ written. IfOk written (λ len. len ≤ length out.new)) }
-        ensures rest { IfSome result (λ written. IfOk written (λ len. drop len out.new ≡ drop len out.old)) }
+        ensures fault { IfSome result (λ written. result_err written ≡ octet_fault root_rule ber.now borrowed_capacity) }
+        ensures written { IfSome result (λ written. IfOk written (WritesAll (text_of (arcs_of_octets ber.now)) out.old out.new)) }
         ensures kept { result ≡ None → out.new ≡ out.old }
     {
         if out.len() < MAX_ARC_LEN || ber.len() > (out.len() - MAX_ARC_LEN) / 4 {
@@ -340,9 +339,7 @@ impl<'a> ObjectIdentifierRef<'a> {
     /// Those of [`new`](crate::ObjectIdentifier::new), with [`Error::Length`] if the arcs take more octets than `out`
     /// has. It is then unchanged.
     pub fn bytes_from_ascii(text: &[u8], out: &mut [u8]) -> Result<usize>
-        ensures answer { bytes_answer out.new result ≡ text_answer root_rule text.now (length out.old) }
-        ensures encoding { IfOk result (λ len. IsEncoding root_rule (arcs_of_octets (take len out.new)) (take len out.new)) }
-        ensures rest { IfOk result (λ len. (len ≤ length out.old) × (drop len out.new ≡ drop len out.old)) }
+        ensures written { let capacity = length out.old in WritesEncoding capacity (text_answer root_rule text.now capacity) out.old out.new result }
         ensures kept { IfErr result (λ _. out.new ≡ out.old) }
         ensures enough { length text.now ≤ length out.old → result ≢ Err Error.Length }
     {
@@ -376,9 +373,7 @@ impl<'a> ObjectIdentifierRef<'a> {
     /// Those of [`from_arcs`](crate::ObjectIdentifier::from_arcs), with [`Error::Length`] if the arcs take more octets
     /// than `out` has. It is then unchanged.
     pub fn bytes_from_arcs(arcs: &[Arc], out: &mut [u8]) -> Result<usize>
-        ensures answer { bytes_answer out.new result ≡ item_answer root_rule arcs.now (length out.old) }
-        ensures encoding { IfOk result (λ len. IsEncoding root_rule (arcs_of_octets (take len out.new)) (take len out.new)) }
-        ensures rest { IfOk result (λ len. (len ≤ length out.old) × (drop len out.new ≡ drop len out.old)) }
+        ensures written { let capacity = length out.old in WritesEncoding capacity (item_answer root_rule arcs.now capacity) out.old out.new result }
         ensures kept { IfErr result (λ _. out.new ≡ out.old) }
         ensures enough { 5 * length arcs.now ≤ length out.old → result ≢ Err Error.Length }
     {
@@ -408,7 +403,7 @@ impl<'a> ObjectIdentifierRef<'a> {
     /// assert_eq!(ObjectIdentifierRef::from_ascii_in(b"2.999", &mut [0]), Err(Error::Length));
     /// # Ok::<(), Error>(())
     /// ```
-    #[tactic(auto, using(crate::proofs::Encodings::none_from_encoding, crate::proofs::Texts::denoted_from_answer))]
+    #[tactic(auto, using(crate::proofs::Outputs::taken, crate::proofs::Encodings::none_from_encoding, crate::proofs::Texts::denoted_from_answer))]
     pub fn from_ascii_in(text: &[u8], out: &'a mut [u8]) -> Result<Self>
         ensures answer { ref_answer result ≡ text_answer root_rule text.now (length out.old) }
         ensures denoted { IfOk result (λ oid. Denotes root_rule text.now (ref_arcs oid)) }
@@ -483,7 +478,7 @@ impl<'a> ObjectIdentifierRef<'a> {
     /// assert_eq!((oid.len(), oid.as_bytes().len()), (128, 127));
     /// # Ok::<(), const_oid::Error>(())
     /// ```
-    #[tactic(auto, using(crate::proofs::Encodings::none_from_encoding))]
+    #[tactic(auto, using(crate::proofs::Outputs::taken, crate::proofs::Encodings::none_from_encoding))]
     pub fn from_arcs_in(arcs: &[Arc], out: &'a mut [u8]) -> Result<Self>
         ensures answer { ref_answer result ≡ item_answer root_rule arcs.now (length out.old) }
         ensures start { IfOk result (λ oid. (ref_slice oid).ref_ptr ≡ out.entry.ref_ptr) }
