@@ -3,20 +3,27 @@ use Rattle.std.proofs.Common.{◌≡◌, ℕ, ◌+◌, ◌-◌, ◌<◌, ◌≤�
 use Rattle.std.proofs.Common.{◌*◌, append_assoc, length-append, Some, MatchResult, Result, Ok, Err}
 use Rattle.std.specs.{List.{AllByRecursion, concat}, Prelude.IfOk}
 use Rattle.std.proofs.{Math.Seq.take-append_seam, lemmas.{Bool.cases_lt, Slice.drop-append-drop}}
-use Rattle.std.proofs.lemmas.List.{drop-replicate, length-take-le}
+use Rattle.std.proofs.lemmas.List.{drop-replicate, length-take-le, take-append-drop}
 use Rattle.const_oid.specs.Base128.{AreOctets, IsContinued, group_of, width}
 use Rattle.const_oid.specs.{declared.error.Error.Error, declared.error.Error.TheVariants.{Length}}
-use Rattle.const_oid.specs.{Contents.{arcs_of_octets, bytes_answer, size_answer}, Items.arc_fault}
+use Rattle.const_oid.specs.{Contents.{arcs_of_octets, size_answer}, Output.{IsEncodedIn, WritesAll, WritesEncoding, written_over}, Items.arc_fault}
 use Rattle.const_oid.specs.Identifier.{RootRule, root_rule, max_arc, max_second, subidentifiers, IsEncoding}
-use Rattle.const_oid.specs.Private.Octets.{AppendsTo, BeginsBy, IsAppended, IsEncodedIn}
+use Rattle.const_oid.specs.Private.Octets.{AppendsTo, IsAppended}
 use Rattle.const_oid.proofs.{Faults.{none_from_below, some_from_above}, Groups.{group_is, length_is}, TakesItems.{AreTaken, first_taken, taken_more}}
 use Rattle.const_oid.proofs.{Encodings.{arcs_of_encoding, encoding_back, groups_continued}, Lengths.length_is_size, Lists.all_append}
 use Rattle.const_oid.proofs.{Octets.octets_from_chain, Started.{Encodes, later_encodes, root_encodes}}
 
+-- an output that begins with items, and is as before after them
+pub written_by_parts : {items new : List ℕ} (old : List ℕ) (len : ℕ) → len ≤ length new → take len new ≡ items → drop len new ≡ drop len old
+    → WritesAll items old new len
+written_by_parts {items} {new} old len within front back =
+    let long : len ≡ length items = sym (length-take-le len new within) ∙ ap length front in
+    (long, sym (take-append-drop len new) ∙ rw (← long, front, back) refl)
+
 -- the octets that a slice begins with go on by a group
 written_more : (octets group old new longer : List ℕ) (used end : ℕ) → used ≡ length octets → end ≡ used + length group
-    → new ≡ octets ++ drop (length octets) old → longer ≡ take used new ++ (group ++ drop end new)
-    → longer ≡ (octets ++ group) ++ drop (length (octets ++ group)) old
+    → new ≡ written_over octets old → longer ≡ take used new ++ (group ++ drop end new)
+    → longer ≡ written_over (octets ++ group) old
 written_more octets group old new longer used end long ends begins written =
     let front : take used new ≡ octets = rw (long, begins) (take-append_seam octets (drop (length octets) old)) in
     let back : drop end new ≡ drop end old = rw begins (drop-append-drop (length octets) old octets end (omega arith) refl) in
@@ -28,10 +35,10 @@ pub record IsLonger (capacity number : ℕ) (octets old longer : List ℕ) (resu
   pub more : List ℕ
   pub appended : IsAppended capacity number octets more result
   pub long : IfOk result (λ end. (end ≡ length more) × (end ≤ capacity))
-  pub begins : IfOk result (λ end. BeginsBy capacity more old longer)
+  pub begins : IfOk result (λ end. capacity ≤ length old → longer ≡ written_over more old)
 
 pub longer_by : {capacity number used : ℕ} {octets old new : List ℕ} (longer : List ℕ) → used ≡ length octets
-    → length new ≡ length old → BeginsBy capacity octets old new → (result : Result ℕ Error)
+    → length new ≡ length old → (capacity ≤ length old → new ≡ written_over octets old) → (result : Result ℕ Error)
     → AppendsTo capacity number used new longer result → IsLonger capacity number octets old longer result
 longer_by {capacity} {number} {used} {octets} {old} {new} longer long same begins (Ok end) (ends, fits, written) =
     ⊎_elim
@@ -100,24 +107,10 @@ unused {used} size bytes none within zeros =
 
 pub ruleset buffered = (taken, drop-replicate)
 
--- what the length says that a function returns
-pub record IsReturned (read : Result (List ℕ) Error) (old new : List ℕ) (result : Result ℕ Error) : Type 0 where
-  pub answer : bytes_answer new result ≡ read
-  pub encoding : IfOk result (λ len. IsEncoding root_rule (arcs_of_octets (take len new)) (take len new))
-  pub rest : IfOk result (λ len. (len ≤ length old) × (drop len new ≡ drop len old))
-
-pub returned : {capacity : ℕ} {read : Result (List ℕ) Error} {old new : List ℕ} (result : Result ℕ Error)
-    → MatchResult result (λ len. IsEncodedIn capacity read old new len) (λ fault. read ≡ Err fault)
-    → capacity ≤ length old → IsReturned read old new result
-returned (Ok len) is room =
-    let end = taken is room in
-    record { answer = sym end.answer; encoding = end.encoding; rest = (omega (arith, is.within), end.rest) }
-returned (Err fault) is room = record { answer = sym is; encoding = tt; rest = tt }
-
 -- the octets of a slice that has the capacity, copied to the start of another one
 pub copied : {capacity room len : ℕ} {read answer : Result (List ℕ) Error} {old new out longer : List ℕ}
     → IsEncodedIn capacity read old new len → capacity ≤ length old → capacity ≤ room → read ≡ answer
-    → longer ≡ take len new ++ drop (length (take len new)) out → IsEncodedIn room answer out longer len
+    → longer ≡ written_over (take len new) out → IsEncodedIn room answer out longer len
 copied {len} {old} {new} {out} is within less same copy =
     let front : take len new ≡ is.octets = rw (is.long, is.begins within) (take-append_seam is.octets (drop (length is.octets) old)) in
     record {
@@ -130,7 +123,7 @@ copied {len} {old} {new} {out} is within less same copy =
     }
 
 pub counted : (capacity : ℕ) (read : Result (List ℕ) Error) (old new : List ℕ) (result : Result ℕ Error)
-    → MatchResult result (λ len. IsEncodedIn capacity read old new len) (λ fault. read ≡ Err fault)
+    → WritesEncoding capacity read old new result
     → result ≡ size_answer read
 counted capacity read old new (Ok len) is = rw is.answer (ap Ok (is.long ∙ length_is_size is.encoding))
 counted capacity read old new (Err fault) is = rw is refl
@@ -144,7 +137,7 @@ pub record IsGivenTo (capacity : ℕ) (old new : List ℕ) (used : ℕ) (given :
   pub taken : AreTaken root_rule capacity given
   pub long : used ≡ length octets
   pub fits : used ≤ capacity
-  pub begins : BeginsBy capacity octets old new
+  pub begins : capacity ≤ length old → new ≡ written_over octets old
 
 -- what becomes of it by an arc, whose group is appended or does not fit
 abbrev pub GivenBy : ℕ → List ℕ → List ℕ → List ℕ → ℕ → Result ℕ Error → Type 0

@@ -8,7 +8,7 @@ use Rattle.std.proofs.lemmas.List.Sums.{count_by_more_no, count_by_more_yes}
 use Rattle.std.proofs.lemmas.List.Splits.{length-slice_split, slice_split_at, slice_split_none}
 use Rattle.const_oid.specs.{Identifier.{root_rule, max_arc, IsEncoding, IsIdentifier}, Items.arc_fault, declared.error.Error.Error}
 use Rattle.const_oid.specs.declared.error.Error.TheVariants.{ArcInvalid, ArcTooBig, DigitExpected, Empty, Length, TrailingDot}
-use Rattle.const_oid.specs.{Contents.arcs_of_octets, Base128.width, Private.Octets.{AppendsTo, BeginsBy, IsAppended, IsEncodedIn}}
+use Rattle.const_oid.specs.{Contents.arcs_of_octets, Base128.width, Output.{IsEncodedIn, written_over}, Private.Octets.{AppendsTo, IsAppended}}
 use Rattle.const_oid.specs.Private.Parser.{component_at, components_found, text_found, found_after, or_trailing, arc_found, stop_fault}
 use Rattle.const_oid.specs.Private.Parser.{AreDigits, HasFault, IsFoundAt, IsComponent, IsRoot, IsWithin}
 use Rattle.const_oid.specs.Text.{components_of, number_of, is_empty, is_one_empty, text_answer, IsNumber}
@@ -308,7 +308,7 @@ pub record IsWrittenTo (capacity : ℕ) (text old new : List ℕ) (used end : �
   pub read : IsReadTo capacity text octets end
   pub long : used ≡ length octets
   pub fits : used ≤ capacity
-  pub begins : BeginsBy capacity octets old new
+  pub begins : capacity ≤ length old → new ≡ written_over octets old
 
 -- what becomes of it by a component, whose group is appended or does not fit
 abbrev pub WrittenBy : ℕ → List ℕ → List ℕ → List ℕ → ℕ → Result ℕ Error → Type 0

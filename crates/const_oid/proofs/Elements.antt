@@ -10,7 +10,7 @@ use borrow.Rule.Slice.PartMut.{put_mid, post_of}
 use lib.Count.{count_leading_zeros}
 use Rattle.const_oid.specs.Base128.{AreOctets}
 use Rattle.const_oid.specs.Element.{value_256, IsLength, without_zeros, base_256, length_octets, element}
-use Rattle.const_oid.specs.Text.{ReturnsLength}
+use Rattle.const_oid.specs.Output.{Writes, WritesAll}
 use Rattle.const_oid.specs.Private.Octets.{bytes_of}
 use Rattle.const_oid.proofs.Groups.{at_least}
 
@@ -239,11 +239,11 @@ two_octets n small =
     (λ (long : 128 ≤ n). rw (length_octets-long n long, base_256-byte n long small) (omega arith)) (cases_lt n 128)
 
 -- as many octets more than the contents as tag and length have are enough
-pub enough : (k : ℕ) (contents out : List ℕ) (result : Option ℕ) → length (length_octets (length contents)) ≤ k
-    → ReturnsLength (element contents) out result → length contents + suc k ≤ length out → IsSome result
-enough k contents out None few is room =
+pub enough : (k : ℕ) (contents old new : List ℕ) (result : Option ℕ) → length (length_octets (length contents)) ≤ k
+    → Writes (element contents) old new result → length contents + suc k ≤ length old → IsSome result
+enough k contents old new None few is room =
     absurd (omega (arith, is, few, length-append (length_octets (length contents)) contents))
-enough k contents out (Some len) few is room = refl
+enough k contents old new (Some len) few is room = refl
 
 -- ---- what they are
 
@@ -390,7 +390,7 @@ number_put digits copy n few small same is =
     (is ∙ ap (from_be_bytes w64) word)
 
 -- tag, length octets and contents, written one after another
-pub element_put : (first c n : ℕ) (digits contents copy out : List ℕ) → 2 + c + n ≤ length out → length digits ≡ c
+element_put : (first c n : ℕ) (digits contents copy out : List ℕ) → 2 + c + n ≤ length out → length digits ≡ c
     → n ≡ length contents → copy ≡ contents
     → put_mid (2 + c) (2 + c + n - (2 + c)) (put_mid 2 (2 + c - 2) (set (set out 0 6) 1 first) digits) copy
     ≡ 6 ∷ (((first ∷ digits) ++ contents) ++ drop (2 + c + n) out)
@@ -405,3 +405,15 @@ element_put first c n digits contents copy (x ∷ y ∷ xs) some long part same 
     let back : drop c (digits ++ drop c xs) ≡ drop c xs = rw (← long) (drop-append_seam digits (drop (length digits) xs)) in
     rw (few, many, end, two, same, front, back, drop-drop)
     (ap (λ l. 6 ∷ first ∷ l) (sym (append_assoc digits contents (drop (c + n) xs))))
+
+pub element_written : (first c n : ℕ) (digits contents copy out : List ℕ) → 2 + c + n ≤ length out → length digits ≡ c
+    → n ≡ length contents → copy ≡ contents → length_octets (length contents) ≡ first ∷ digits
+    → WritesAll (element contents) out (put_mid (2 + c) (2 + c + n - (2 + c)) (put_mid 2 (2 + c - 2) (set (set out 0 6) 1 first) digits) copy) (2 + c + n)
+element_written first c n digits contents copy out some long part same form =
+    let end : 2 + c + n ≡ length (element contents) =
+    omega (arith, long, part, ap length form, length-append (length_octets (length contents)) contents) in (
+      end,
+      element_put first c n digits contents copy out some long part same
+      ∙ ap (λ (l : List ℕ). 6 ∷ ((l ++ contents) ++ drop (2 + c + n) out)) (sym form)
+      ∙ ap (λ (k : ℕ). element contents ++ drop k out) end,
+    )

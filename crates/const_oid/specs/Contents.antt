@@ -1,5 +1,5 @@
 -- Contents octets as they come: the parts, which in valid octets are the subidentifiers, and the first fault (ITU-T X.690, 8.19.2 to 8.19.4).
-use Rattle.std.specs.Prelude.{ℕ, ◌+◌, ◌-◌, ◌*◌, ◌^◌, ◌/◌, ◌%◌, Bool, false, List, [], ◌∷◌, length, map, take, nat_lt, ◌==◌, if◌then◌else◌, Option, Some, None, Result, not}
+use Rattle.std.specs.Prelude.{ℕ, ◌+◌, ◌-◌, ◌*◌, ◌^◌, ◌/◌, ◌%◌, Bool, false, List, [], ◌∷◌, length, map, nat_lt, ◌==◌, if◌then◌else◌, Option, Some, None, Result, not}
 use Rattle.std.specs.List.{onto_first}
 use Rattle.std.specs.Option.{option_or}
 use Rattle.std.specs.Result.{result_map_both}
@@ -77,10 +77,6 @@ borrowed_capacity = 2 ^ 63 - 1
 -- what the octets are read as at a capacity: their fault, or their arcs
 abbrev pub octet_answer : RootRule → List ℕ → ℕ → Result (List ℕ) Error
 octet_answer rule octets capacity = answer (octet_fault rule octets capacity) (arcs_of_octets octets)
-
--- the arcs that a length stands for: those of that many octets of the output
-abbrev pub bytes_answer : List ℕ → Result ℕ Error → Result (List ℕ) Error
-bytes_answer out written = result_map_both (λ len. arcs_of_octets (take len out)) (λ fault. fault) written
 
 -- how many octets the arcs take
 abbrev pub size_answer : Result (List ℕ) Error → Result ℕ Error

@@ -3,6 +3,7 @@ pub mod Identifier
 pub mod Error
 pub mod Contents
 pub mod Items
+pub mod Output
 pub mod Text
 pub mod Tree
 pub mod WideRule

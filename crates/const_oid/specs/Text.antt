@@ -1,15 +1,12 @@
--- Dotted text, and a text in an output. The components of a text stand between its dots.
-use Rattle.std.specs.Prelude.{◌≡◌, ℕ, ◌-◌, ◌<◌, ◌≤◌, Bool, true, false, not, List, [], ◌∷◌, ◌++◌, length, map, take, drop, decimal, nat_lt, ◌==◌, if◌then◌else◌, Option, IfSome, MatchOption, Result, take_while, find}
-use Rattle.std.specs.Borrow.{Bor}
+-- Dotted text. The components of a text stand between its dots.
+use Rattle.std.specs.Prelude.{◌≡◌, ℕ, ◌-◌, ◌<◌, Bool, true, false, not, List, [], ◌∷◌, ◌++◌, length, map, decimal, nat_lt, ◌==◌, if◌then◌else◌, Option, Result, take_while, find}
 use Rattle.std.specs.List.{slice_split, join_with_byte, AllByRecursion}
 use Rattle.std.specs.Str.{all_ascii_digits}
 use Rattle.std.specs.Option.{option_or, option_map, option_map_or}
-use Rattle.std.specs.Result.{result_map_both}
 use Rattle.std.specs.Char.{is_ascii_digit}
 use Rattle.std.specs.Str.Parse.{digits_value}
 use Rattle.const_oid.specs.declared.error.Error.{Error}
 use Rattle.const_oid.specs.declared.error.Error.TheVariants.{ArcTooBig, DigitExpected, Empty, RepeatedDot, TrailingDot}
-use Rattle.const_oid.specs.Contents.{octet_answer, borrowed_capacity}
 use Rattle.const_oid.specs.Identifier.{RootRule, root_rule, max_arc, size, IsIdentifier}
 use Rattle.const_oid.specs.Error.{fault_if, answer}
 use Rattle.const_oid.specs.Items.{arc_fault, too_few_fault}
@@ -98,24 +95,3 @@ strip text = join_with_byte dot (map strip_component (components_of text))
 -- what the text is read as at a capacity: its fault, or the numbers of its components
 abbrev pub text_answer : RootRule → List ℕ → ℕ → Result (List ℕ) Error
 text_answer rule text capacity = answer (text_fault rule text capacity) (map number_of (components_of text))
-
--- the result is the length of a text, or of octets, or None exactly if it is longer than the output
-abbrev pub ReturnsLength : List ℕ → List ℕ → Option ℕ → Type 0
-ReturnsLength text out result = MatchOption result (length out < length text) (λ len. len ≡ length text)
-
--- the result is the text, which is no longer than the output, or None exactly if the text is longer
-abbrev pub ReturnsText : List ℕ → List ℕ → Option (Bor (List ℕ)) → Type 0
-ReturnsText text out result = MatchOption result (length out < length text)
-    (λ written. (written.now ≡ text) × (length text ≤ length out))
-
--- if a length is returned, the new output is the text, or the octets, and then the old bytes
-abbrev pub WritesText : List ℕ → List ℕ → List ℕ → Option ℕ → Type 0
-WritesText text old new result = IfSome result (λ len. new ≡ text ++ drop len old)
-
--- what octets of any length are printed as: their fault, or the text of their arcs
-abbrev pub octet_text : RootRule → List ℕ → Result (List ℕ) Error
-octet_text rule octets = result_map_both text_of (λ fault. fault) (octet_answer rule octets borrowed_capacity)
-
--- the text that a length stands for: that many bytes of the output
-abbrev pub text_in : List ℕ → Result ℕ Error → Result (List ℕ) Error
-text_in out written = result_map_both (λ len. take len out) (λ fault. fault) written

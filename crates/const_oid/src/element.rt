@@ -1,10 +1,10 @@
 //! Elements of object identifiers in DER: tag, length and contents octets (X.690, 8.1, 8.19.1 and 10.1).
 
-ghost use Rattle.std.specs.Prelude.{◌≡◌, ◌≢◌, ◌↔◌, ◌+◌, ◌-◌, ◌<◌, ◌≤◌, ◌^◌, ◌∷◌, ◌++◌, ℕ, List, length, drop, replicate, slice_index, None, IfSome, IsTrue, MatchOption};
+ghost use Rattle.std.specs.Prelude.{◌≡◌, ◌≢◌, ◌↔◌, ◌+◌, ◌-◌, ◌<◌, ◌≤◌, ◌^◌, ◌∷◌, ◌++◌, ℕ, List, length, replicate, slice_index, None, IfSome, IsTrue, MatchOption};
 ghost use Rattle.const_oid.specs.Private.Octets.{bytes_of};
 ghost use Rattle.const_oid.specs.Element.{length_octets, element};
 ghost use Rattle.const_oid.specs.Slices.{end_of};
-ghost use Rattle.const_oid.specs.Text.{ReturnsLength, WritesText};
+ghost use Rattle.const_oid.specs.Output.{Writes};
 
 /// The tag of an object identifier: class universal, primitive, number 6.
 const TAG: u8 = 6;
@@ -95,8 +95,7 @@ pub(crate) fn element_len(contents: &[u8]) -> usize
 /// Writes the element of contents octets at the start, and returns its length. `None` if it is longer than the output.
 #[inline]
 pub(crate) fn write_element(contents: &[u8], out: &mut [u8]) -> Option<usize>
-    ensures cases { ReturnsLength (element contents.now) out.old result }
-    ensures written { WritesText (element contents.now) out.old out.new result }
+    ensures written { Writes (element contents.now) out.old out.new result }
     ensures kept { result ≡ None → out.new ≡ out.old }
 {
     let len = contents.len();

@@ -1,11 +1,11 @@
 //! Arcs, one after another, to octets.
 
-ghost use Rattle.std.specs.Prelude.{◌≡◌, ◌≤◌, length, Err, IfErr, MatchResult};
+ghost use Rattle.std.specs.Prelude.{◌≡◌, ◌≤◌, length, Err, IfErr};
 ghost use Rattle.const_oid.specs.Identifier.{root_rule};
 ghost use Rattle.const_oid.specs.Items.{item_answer};
+ghost use Rattle.const_oid.specs.Output.{WritesEncoding};
 ghost use Rattle.std.specs.Iterator.{IsFiniteIterable};
 ghost use Rattle.const_oid.specs.Private.Encoder.{EncodesItems};
-ghost use Rattle.const_oid.specs.Private.Octets.{IsEncodedIn};
 
 use crate::Arc;
 use crate::base128::append_group;
@@ -17,8 +17,7 @@ use crate::root::{check_first, join_root};
 #[tactic(auto, using(crate::proofs::TakesItems::list_answer))]
 #[inline(never)]
 pub(crate) fn encode(arcs: &[Arc], out: &mut [u8], capacity: usize) -> Result<usize>
-    ensures { let answer = item_answer root_rule arcs.now capacity in
-        MatchResult result (λ len. IsEncodedIn capacity answer out.old out.new len) (λ fault. answer ≡ Err fault) }
+    ensures { WritesEncoding capacity (item_answer root_rule arcs.now capacity) out.old out.new result }
 {
     encode_inlined(arcs.iter().copied(), out, capacity)
 }
@@ -34,8 +33,7 @@ const ONE_PASS_OCTETS: usize = 5 * ONE_PASS_ARCS;
 // One pass in place of two: the octets are made on the stack.
 pub(crate) fn encode_in_one_pass(arcs: &[Arc], out: &mut [u8]) -> Result<usize>
     requires { length arcs.now ≤ ONE_PASS_ARCS }
-    ensures answer { let capacity = length out.old in let answer = item_answer root_rule arcs.now capacity in
-        MatchResult result (λ len. IsEncodedIn capacity answer out.old out.new len) (λ fault. answer ≡ Err fault) }
+    ensures written { let capacity = length out.old in WritesEncoding capacity (item_answer root_rule arcs.now capacity) out.old out.new result }
     ensures kept { IfErr result (λ _. out.new ≡ out.old) }
 {
     let mut octets = [0; ONE_PASS_OCTETS];

@@ -1,7 +1,7 @@
 //! The errors of this crate.
 ghost use Rattle.std.specs.Prelude.{◌≡◌, ◌+◌, ◌<◌, ◌≤◌, ◌++◌, length, take, drop, None, Some, IfSome, IsSome};
 ghost use Rattle.std.specs.Str.{IsUtf8};
-ghost use Rattle.const_oid.specs.Text.{ReturnsLength, ReturnsText, WritesText};
+ghost use Rattle.const_oid.specs.Output.{Returns, Writes};
 
 use crate::Arc;
 use crate::digits::{MAX_DIGITS, arc_len, utf8, write_bytes, write_last_digits};
@@ -102,8 +102,7 @@ impl Error {
     /// ```
     #[inline(always)]
     pub fn encode_text(self, out: &mut [u8]) -> Option<usize>
-        ensures cases { ReturnsLength (message_of self) out.old result }
-        ensures written { WritesText (message_of self) out.old out.new result }
+        ensures written { Writes (message_of self) out.old out.new result }
         ensures kept { result ≡ None → out.new ≡ out.old }
         ensures enough { 47 ≤ length out.old → IsSome result }
         ensures utf8 { IfSome result (λ _. IsUtf8 (message_of self)) }
@@ -129,7 +128,7 @@ impl Error {
     #[tactic(auto, using(crate::proofs::Sets::bytes_put))]
     #[inline]
     pub fn encode_str<'o>(self, out: &'o mut [u8]) -> Option<&'o str>
-        ensures cases { ReturnsText (message_of self) out.old result }
+        ensures cases { Returns (message_of self) out.old result }
         ensures enough { 47 ≤ length out.old → IsSome result }
     {
         let len = self.encode_text(out)?;

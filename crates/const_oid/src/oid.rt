@@ -9,7 +9,8 @@ ghost use Rattle.std.specs.Ordering.{nat_cmp};
 ghost use Rattle.const_oid.specs.Buffer.{buffer_octets};
 ghost use Rattle.const_oid.specs.Contents.{cut, parts_fault, octet_answer};
 ghost use Rattle.const_oid.specs.Element.{element};
-ghost use Rattle.const_oid.specs.Text.{text_of, text_fault, text_answer, Denotes, ReturnsLength, ReturnsText, WritesText};
+ghost use Rattle.const_oid.specs.Output.{Returns, Writes};
+ghost use Rattle.const_oid.specs.Text.{text_of, text_fault, text_answer, Denotes};
 ghost use Rattle.const_oid.specs.Identifier.{root_rule, default_capacity, IsEncoding, size};
 ghost use Rattle.const_oid.specs.Items.{TakesItems};
 ghost use Rattle.const_oid.specs.Tree.{BeginsWith, child_of, parent_of};
@@ -401,8 +402,7 @@ impl<const MAX_SIZE: usize> ObjectIdentifier<MAX_SIZE> {
     /// assert_eq!(out[..len], [0x06, 0x03, 0x88, 0x37, 0x03]);
     /// ```
     pub fn write_element(&self, out: &mut [u8]) -> Option<usize>
-        ensures cases { ReturnsLength (element (oid_octets self.now)) out.old result }
-        ensures written { WritesText (element (oid_octets self.now)) out.old out.new result }
+        ensures written { Writes (element (oid_octets self.now)) out.old out.new result }
         ensures kept { result ≡ None → out.new ≡ out.old }
         ensures enough { length (oid_octets self.now) + 3 ≤ length out.old → IsSome result }
     {
@@ -441,8 +441,7 @@ impl<const MAX_SIZE: usize> ObjectIdentifier<MAX_SIZE> {
     /// longer than `out`, which is then unchanged. Four bytes for each octet are always enough.
     /// [`ObjectIdentifierRef::encode_text`] has an example.
     pub fn encode_text(&self, out: &mut [u8]) -> Option<usize>
-        ensures cases { ReturnsLength (text_of (oid_arcs self.now)) out.old result }
-        ensures written { WritesText (text_of (oid_arcs self.now)) out.old out.new result }
+        ensures written { Writes (text_of (oid_arcs self.now)) out.old out.new result }
         ensures kept { result ≡ None → out.new ≡ out.old }
         ensures enough { 4 * length (oid_octets self.now) ≤ length out.old → IsSome result }
     {
@@ -452,7 +451,7 @@ impl<const MAX_SIZE: usize> ObjectIdentifier<MAX_SIZE> {
     /// Writes the text as [`encode_text`](Self::encode_text) does, and borrows it as a `str`.
     /// [`ObjectIdentifierRef::encode_str`] has an example.
     pub fn encode_str<'o>(&self, out: &'o mut [u8]) -> Option<&'o str>
-        ensures cases { ReturnsText (text_of (oid_arcs self.now)) out.old result }
+        ensures cases { Returns (text_of (oid_arcs self.now)) out.old result }
         ensures enough { 4 * length (oid_octets self.now) ≤ length out.old → IsSome result }
     {
         self.as_oid_ref().encode_str(out)

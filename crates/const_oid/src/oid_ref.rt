@@ -1,17 +1,19 @@
 //! Borrowed object identifiers.
-ghost use Rattle.std.specs.Prelude.{◌≡◌, ◌≢◌, ◌*◌, ◌≤◌, ◌<◌, ◌↔◌, ◌+◌, ◌++◌, ℕ, List, drop, length, min, slice_get, count_by, None, Some, Err, IfOk, IfSome, IsSome, IsTrue, MatchOption, Ok, []};
+ghost use Rattle.std.specs.Prelude.{◌≡◌, ◌≢◌, ◌*◌, ◌≤◌, ◌<◌, ◌↔◌, ◌+◌, ◌++◌, ℕ, List, length, min, slice_get, count_by, None, Some, Err, IfOk, IfSome, IsSome, IsTrue, MatchOption, Ok, []};
 ghost use Rattle.std.specs.Option.{option_map};
+ghost use Rattle.std.specs.Result.{result_err};
 ghost use Rattle.std.specs.Fmt.{DisplaysOnOk, WritesStyledOnOk};
 ghost use Rattle.std.specs.Cmp.Lexicographic.{slice_cmp};
 ghost use Rattle.std.specs.List.Sorted.{IsSortedByKey};
 ghost use Rattle.std.specs.Ordering.{nat_cmp, is_lt};
 ghost use Rattle.std.proofs.Props.{props};
 ghost use Rattle.const_oid.specs.Base128.{AreOctets};
-ghost use Rattle.const_oid.specs.Contents.{cut, parts_fault, octet_answer, borrowed_capacity};
+ghost use Rattle.const_oid.specs.Contents.{arcs_of_octets, cut, parts_fault, octet_answer, octet_fault, borrowed_capacity};
 ghost use Rattle.const_oid.specs.Element.{element};
 ghost use Rattle.const_oid.specs.Identifier.{root_rule, IsEncoding};
 ghost use Rattle.const_oid.specs.Items.{item_answer};
-ghost use Rattle.const_oid.specs.Text.{components_of, text_answer, text_of, text_in, octet_text, wrong_index, Denotes, ReturnsLength, ReturnsText, WritesText};
+ghost use Rattle.const_oid.specs.Output.{Returns, Writes, WritesAll};
+ghost use Rattle.const_oid.specs.Text.{components_of, text_answer, text_of, wrong_index, Denotes};
 
 use crate::arcs::{Arcs, arc_at};
 use crate::base128::read_group;
@@ -173,8 +175,7 @@ impl<'a> ObjectIdentifierRef<'a> {
     /// ```
     #[inline]
     pub fn write_element(&self, out: &mut [u8]) -> Option<usize>
-        ensures cases { ReturnsLength (element (ref_octets self.now)) out.old result }
-        ensures written { WritesText (element (ref_octets self.now)) out.old out.new result }
+        ensures written { Writes (element (ref_octets self.now)) out.old out.new result }
         ensures kept { result ≡ None → out.new ≡ out.old }
         ensures enough { length (ref_octets self.now) + 10 ≤ length out.old → IsSome result }
     {
@@ -236,8 +237,7 @@ impl<'a> ObjectIdentifierRef<'a> {
     /// ```
     #[inline]
     pub fn encode_text(&self, out: &mut [u8]) -> Option<usize>
-        ensures cases { ReturnsLength (text_of (ref_arcs self.now)) out.old result }
-        ensures written { WritesText (text_of (ref_arcs self.now)) out.old out.new result }
+        ensures written { Writes (text_of (ref_arcs self.now)) out.old out.new result }
         ensures kept { result ≡ None → out.new ≡ out.old }
         ensures enough { 4 * length (ref_octets self.now) ≤ length out.old → IsSome result }
     {
@@ -259,7 +259,7 @@ impl<'a> ObjectIdentifierRef<'a> {
     /// ```
     #[inline]
     pub fn encode_str<'o>(&self, out: &'o mut [u8]) -> Option<&'o str>
-        ensures cases { ReturnsText (text_of (ref_arcs self.now)) out.old result }
+        ensures cases { Returns (text_of (ref_arcs self.now)) out.old result }
         ensures enough { 4 * length (ref_octets self.now) ≤ length out.old → IsSome result }
     {
         let len = self.encode_text(out)?;
@@ -274,9 +274,8 @@ impl<'a> ObjectIdentifierRef<'a> {
     #[inline(always)]
     pub fn text_from_bytes(ber: &[u8], out: &mut [u8]) -> Option<Result<usize>>
         ensures room { MatchOption result (length out.old < 4 * length ber.now + 11) (λ _. 4 * length ber.now + 11 ≤ length out.old) }
-        ensures answer { IfSome result (λ written. text_in out.new written ≡ octet_text root_rule ber.now) }
-        ensures within { IfSome result (λ written. IfOk written (λ len. len ≤ length out.new)) }
-        ensures rest { IfSome result (λ written. IfOk written (λ len. drop len out.new ≡ drop len out.old)) }
+        ensures fault { IfSome result (λ written. result_err written ≡ octet_fault root_rule ber.now borrowed_capacity) }
+        ensures written { IfSome result (λ written. IfOk written (WritesAll (text_of (arcs_of_octets ber.now)) out.old out.new)) }
         ensures kept { result ≡ None → out.new ≡ out.old }
     {
         if out.len() < MAX_ARC_LEN || ber.len() > (out.len() - MAX_ARC_LEN) / 4 {
@@ -303,7 +302,7 @@ impl<'a> ObjectIdentifierRef<'a> {
     /// assert_eq!(ObjectIdentifierRef::from_ascii_in(b"2.999", &mut [0]), Err(Error::Length));
     /// # Ok::<(), Error>(())
     /// ```
-    #[tactic(auto, using(crate::proofs::Encodings::none_from_encoding, crate::proofs::Texts::denoted_from_answer))]
+    #[tactic(auto, using(crate::proofs::Appended::taken, crate::proofs::Encodings::none_from_encoding, crate::proofs::Texts::denoted_from_answer))]
     pub fn from_ascii_in(text: &[u8], out: &'a mut [u8]) -> Result<Self>
         ensures answer { ref_answer result ≡ text_answer root_rule text.now (length out.old) }
         ensures denoted { IfOk result (λ oid. Denotes root_rule text.now (ref_arcs oid)) }
@@ -354,7 +353,7 @@ impl<'a> ObjectIdentifierRef<'a> {
     /// assert_eq!((oid.len(), oid.as_bytes().len()), (128, 127));
     /// # Ok::<(), const_oid::Error>(())
     /// ```
-    #[tactic(auto, using(crate::proofs::Encodings::none_from_encoding))]
+    #[tactic(auto, using(crate::proofs::Appended::taken, crate::proofs::Encodings::none_from_encoding))]
     pub fn from_arcs_in(arcs: &[Arc], out: &'a mut [u8]) -> Result<Self>
         ensures answer { ref_answer result ≡ item_answer root_rule arcs.now (length out.old) }
         ensures start { IfOk result (λ oid. (ref_slice oid).ref_ptr ≡ out.entry.ref_ptr) }

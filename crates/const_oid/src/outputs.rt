@@ -1,10 +1,11 @@
 //! Octets and identifiers in outputs of the caller.
 
-ghost use Rattle.std.specs.Prelude.{◌≡◌, ◌≢◌, ◌*◌, ◌≤◌, [], drop, length, take, Err, IfErr, IfOk, MatchResult, Ok};
-ghost use Rattle.const_oid.specs.Contents.{arcs_of_octets, bytes_answer, size_answer};
-ghost use Rattle.const_oid.specs.Identifier.{root_rule, default_capacity, IsEncoding};
+ghost use Rattle.std.specs.Prelude.{◌≡◌, ◌≢◌, ◌*◌, ◌≤◌, [], length, Err, IfErr, IfOk, MatchResult, Ok};
+ghost use Rattle.const_oid.specs.Contents.{size_answer};
+ghost use Rattle.const_oid.specs.Identifier.{root_rule, default_capacity};
 ghost use Rattle.const_oid.specs.Items.{item_answer};
 ghost use Rattle.const_oid.specs.OidRef.{ref_arcs, ref_slice};
+ghost use Rattle.const_oid.specs.Output.{WritesEncoding};
 ghost use Rattle.const_oid.specs.Text.{components_of, text_answer, wrong_index};
 
 use crate::Arc;
@@ -38,9 +39,7 @@ pub fn bytes_len_from_ascii(text: &[u8], limit: usize) -> Result<usize>
 /// Those of [`new`](crate::ObjectIdentifier::new), with [`Error::Length`] if the arcs take more octets than `out`
 /// has. It is then unchanged.
 pub fn bytes_from_ascii(text: &[u8], out: &mut [u8]) -> Result<usize>
-    ensures answer { bytes_answer out.new result ≡ text_answer root_rule text.now (length out.old) }
-    ensures encoding { IfOk result (λ len. IsEncoding root_rule (arcs_of_octets (take len out.new)) (take len out.new)) }
-    ensures rest { IfOk result (λ len. (len ≤ length out.old) × (drop len out.new ≡ drop len out.old)) }
+    ensures written { let capacity = length out.old in WritesEncoding capacity (text_answer root_rule text.now capacity) out.old out.new result }
     ensures kept { IfErr result (λ _. out.new ≡ out.old) }
     ensures enough { length text.now ≤ length out.old → result ≢ Err Error.Length }
 {
@@ -74,9 +73,7 @@ pub fn bytes_len_from_arcs(arcs: &[Arc], limit: usize) -> Result<usize>
 /// Those of [`from_arcs`](crate::ObjectIdentifier::from_arcs), with [`Error::Length`] if the arcs take more octets
 /// than `out` has. It is then unchanged.
 pub fn bytes_from_arcs(arcs: &[Arc], out: &mut [u8]) -> Result<usize>
-    ensures answer { bytes_answer out.new result ≡ item_answer root_rule arcs.now (length out.old) }
-    ensures encoding { IfOk result (λ len. IsEncoding root_rule (arcs_of_octets (take len out.new)) (take len out.new)) }
-    ensures rest { IfOk result (λ len. (len ≤ length out.old) × (drop len out.new ≡ drop len out.old)) }
+    ensures written { let capacity = length out.old in WritesEncoding capacity (item_answer root_rule arcs.now capacity) out.old out.new result }
     ensures kept { IfErr result (λ _. out.new ≡ out.old) }
     ensures enough { 5 * length arcs.now ≤ length out.old → result ≢ Err Error.Length }
 {

@@ -4,8 +4,8 @@
 //! called makes the error of it. So a valid text costs fewer instructions.
 
 ghost use Rattle.std.specs.Prelude.{◌≡◌, ◌≢◌, ◌≤◌, ℕ, drop, length, Err, IfErr, MatchResult};
-ghost use Rattle.const_oid.specs.Private.Octets.{IsEncodedIn};
-ghost use Rattle.const_oid.specs.Private.Parser.{component_at, error_of, or_trailing, place_of, stop_fault, HasFault, IsComponent, IsFaultAt, IsFoundAt, IsRoot};
+ghost use Rattle.const_oid.specs.Output.{IsEncodedIn, WritesEncoding};
+ghost use Rattle.const_oid.specs.Private.Parser.{component_at, error_of, or_trailing, place_of, stop_fault, HasFault, IsFaultAt, IsFoundAt, IsComponent, IsRoot};
 ghost use Rattle.const_oid.specs.Identifier.{root_rule};
 ghost use Rattle.const_oid.specs.Text.{text_answer};
 
@@ -66,8 +66,7 @@ pub(crate) fn fault_and_index(text: &[u8], wrong: Wrong) -> (Error, usize)
 /// `parse_inlined`, but not inlined: it is compiled once for all calls. An error has no place.
 #[inline(never)]
 pub(crate) fn parse(text: &[u8], out: &mut [u8], capacity: usize) -> Result<usize>
-    ensures { let answer = text_answer root_rule text.now capacity in
-        MatchResult result (λ len. IsEncodedIn capacity answer out.old out.new len) (λ fault. answer ≡ Err fault) }
+    ensures { WritesEncoding capacity (text_answer root_rule text.now capacity) out.old out.new result }
 {
     match parse_inlined(text, out, capacity) {
         Ok(len) => Ok(len),
@@ -83,8 +82,7 @@ pub(crate) const ONE_PASS_BYTES: usize = 64;
 // One pass in place of two: the octets are made on the stack.
 pub(crate) fn parse_in_one_pass(text: &[u8], out: &mut [u8]) -> Result<usize>
     requires { length text.now ≤ ONE_PASS_BYTES }
-    ensures answer { let capacity = length out.old in let answer = text_answer root_rule text.now capacity in
-        MatchResult result (λ len. IsEncodedIn capacity answer out.old out.new len) (λ fault. answer ≡ Err fault) }
+    ensures written { let capacity = length out.old in WritesEncoding capacity (text_answer root_rule text.now capacity) out.old out.new result }
     ensures kept { IfErr result (λ _. out.new ≡ out.old) }
 {
     let mut octets = [0; ONE_PASS_BYTES];
@@ -102,7 +100,7 @@ pub(crate) fn parse_inlined(
     out: &mut [u8],
     capacity: usize,
 ) -> result::Result<usize, Wrong>
-    ensures { MatchResult result (λ len. IsEncodedIn capacity (text_answer root_rule text.now capacity) out.old out.new len)
+    ensures { MatchResult result (IsEncodedIn capacity (text_answer root_rule text.now capacity) out.old out.new)
         (λ wrong. IsFaultAt capacity text.now (error_of text.now wrong) (place_of wrong)) }
 {
     let (number, mut end) = match read_root(text) {

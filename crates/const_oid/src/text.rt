@@ -3,6 +3,7 @@ ghost use Rattle.std.specs.Prelude.{◌≡◌, ◌+◌, ◌*◌, ◌<◌, ◌≤
 ghost use Rattle.std.specs.Result.{result_err};
 ghost use Rattle.const_oid.specs.Contents.{cut, parts_fault, arcs_of_octets};
 ghost use Rattle.const_oid.specs.Identifier.{root_rule};
+ghost use Rattle.const_oid.specs.Output.{WritesAll};
 ghost use Rattle.const_oid.specs.Text.{text_of};
 ghost use Rattle.const_oid.specs.Private.Text.{arc_text};
 
@@ -39,8 +40,7 @@ pub(crate) fn text_len(arcs: Arcs<'_>, limit: usize) -> Option<usize>
 pub(crate) fn write_text(octets: &[u8], out: &mut [u8]) -> usize
     requires valid { parts_fault root_rule (cut octets.now) ≡ None }
     requires room { length (text_of (arcs_of_octets octets.now)) ≤ length out.old }
-    ensures len { result ≡ length (text_of (arcs_of_octets octets.now)) }
-    ensures written { out.new ≡ text_of (arcs_of_octets octets.now) ++ drop result out.old }
+    ensures { WritesAll (text_of (arcs_of_octets octets.now)) out.old out.new result }
 {
     let (root, mut rest) = read_group(octets);
     let (first, mut arc) = split_root(root);
@@ -65,9 +65,7 @@ pub(crate) fn write_text(octets: &[u8], out: &mut [u8]) -> usize
 pub(crate) fn write_checked(octets: &[u8], out: &mut [u8]) -> Result<usize>
     requires { 4 * length octets.now + MAX_ARC_LEN ≤ length out.old }
     ensures fault { result_err result ≡ parts_fault root_rule (cut octets.now) }
-    ensures within { IfOk result (λ len. len ≤ length out.new) }
-    ensures text { IfOk result (λ len. take len out.new ≡ text_of (arcs_of_octets octets.now)) }
-    ensures rest { IfOk result (λ len. drop len out.new ≡ drop len out.old) }
+    ensures written { IfOk result (WritesAll (text_of (arcs_of_octets octets.now)) out.old out.new) }
 {
     if octets.is_empty() {
         return Err(Error::Empty);

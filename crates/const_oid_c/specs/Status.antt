@@ -1,9 +1,10 @@
 -- The statuses that functions return, and the output after a call.
-use Rattle.std.specs.Prelude.{◌≡◌, ℕ, ℤ, pos, negsuc, ◌-◌, ◌^◌, Bool, true, false, List, length, drop, min, ◌++◌, ◌⊎◌, nat_lt, if◌then◌else◌, Result, Ok, Err}
+use Rattle.std.specs.Prelude.{◌≡◌, ℕ, ℤ, pos, negsuc, ◌-◌, ◌^◌, Bool, true, false, List, length, min, ◌⊎◌, nat_lt, if◌then◌else◌, Result, Ok, Err}
 use Rattle.std.specs.declared.cmp.Ordering.{Ordering}
 use Rattle.std.specs.declared.cmp.Ordering.TheVariants.{Less, Equal, Greater}
 use Rattle.const_oid.specs.declared.error.Error.{Error}
 use Rattle.const_oid.specs.Error.{code_of, detail_of}
+use Rattle.const_oid.specs.Output.{written_over}
 use Rattle.const_oid_c.specs.declared.status.Status.{Status}
 
 -- an error: its number from 1 to 9, and the arc or byte that it carries
@@ -69,5 +70,5 @@ output_status out_len (Err status) = status
 
 -- the output after that call: it begins with the items, or is unchanged if they do not fit or there are none
 abbrev pub output_after : List ℕ → Result (List ℕ) Status → List ℕ
-output_after old (Ok items) = if nat_lt (length old) (length items) then old else items ++ drop (length items) old
+output_after old (Ok items) = if nat_lt (length old) (length items) then old else written_over items old
 output_after old (Err status) = old

@@ -1,8 +1,9 @@
 //! Octets to arcs, and arcs to octets.
-ghost use Rattle.std.specs.Prelude.{◌≡◌, ◌≢◌, ◌*◌, ◌≤◌, ◌++◌, length, take, drop, min, slice_get};
+ghost use Rattle.std.specs.Prelude.{◌≡◌, ◌≢◌, ◌*◌, ◌≤◌, length, take, drop, min, slice_get};
 ghost use Rattle.const_oid.specs.Identifier.{root_rule};
 ghost use Rattle.const_oid.specs.Items.{item_answer};
 ghost use Rattle.const_oid.specs.Oid.{oid_answer};
+ghost use Rattle.const_oid.specs.Output.{WritesAll};
 ghost use Rattle.const_oid_c.specs.Status.{max_len, output_status, output_after, len_status};
 ghost use Rattle.const_oid_c.specs.Results.{octets_of_arcs, output_of, status_of, borrowed_answer, arc_status};
 
@@ -134,8 +135,7 @@ fn skip_arcs(arcs: Arcs<'_>, count: usize) -> Arcs<'_>
 
 /// Writes arcs at the start of a slice, as many as fit, and returns their number.
 fn write_arcs(arcs: Arcs<'_>, out: &mut [u32]) -> usize
-    ensures len { result ≡ length (take (length out.old) arcs.entry) }
-    ensures written { out.new ≡ take (length out.old) arcs.entry ++ drop result out.old }
+    ensures { WritesAll (take (length out.old) arcs.entry) out.old out.new result }
 {
     let mut index = 0;
     for arc in arcs {

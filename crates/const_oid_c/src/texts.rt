@@ -93,7 +93,7 @@ const ROOM_FOR_255_OCTETS: usize = 1031;
 ///
 /// The octets are checked as they are printed, so the text is made on the stack: on an error the output is unchanged.
 /// Most identifiers have few octets, and the less room there is, the sooner it is set to zero.
-#[tactic(auto, using(crate::proofs::Writes::text_again))]
+#[tactic(auto, using(const_oid::proofs::Sets::bytes_put))]
 #[unsafe(no_mangle)]
 pub extern "C" fn const_oid_to_text(octets: &[u8], out: &mut [u8]) -> Status
     ensures status { result ≡ output_status (length out.old) (output_of text_of (borrowed_answer octets.now)) }
@@ -108,7 +108,7 @@ pub extern "C" fn const_oid_to_text(octets: &[u8], out: &mut [u8]) -> Status
 }
 
 /// Writes the dotted text of contents octets of any length, made on the stack if they are 255 or fewer.
-#[tactic(auto, using(crate::proofs::Writes::text_again))]
+#[tactic(auto, using(const_oid::proofs::Sets::bytes_put))]
 #[inline(never)]
 fn print_past_16_octets(octets: &[u8], out: &mut [u8]) -> Status
     ensures status { result ≡ output_status (length out.old) (output_of text_of (borrowed_answer octets.now)) }

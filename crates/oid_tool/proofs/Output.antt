@@ -1,10 +1,11 @@
 -- Bytes that are written in parts, and bytes that are read into the rest of a buffer.
-use Rattle.std.proofs.Common.{◌≡◌, ◌≢◌, ℕ, ◌+◌, ◌≤◌, List, [], ◌++◌, length, take, drop, sym, ◌∙◌, ap, arith, subst}
+use Rattle.std.proofs.Common.{◌≡◌, ℕ, ◌+◌, ◌-◌, ◌≤◌, List, [], ◌++◌, length, take, drop, sym, ◌∙◌, ap, arith}
 use Rattle.std.proofs.Common.{append_assoc, take-append-drop}
 use Rattle.std.specs.{Prelude.Option, Io.KnownBytes.Appends}
-use Rattle.std.proofs.{KnownBytes.Appends-trans, Math.Seq.{take-append-add, take-append_seam}}
-use Rattle.std.proofs.lemmas.List.{append-nil, nil_from_length, take-append-le, length-take-le, length-append}
-use Rattle.oid_tool.specs.Output.{AppendsPrefix}
+use Rattle.std.proofs.{KnownBytes.Appends-trans, Math.Seq.{take-append-add, take-append_seam, drop-append_seam}}
+use Rattle.std.proofs.lemmas.List.{append-nil, nil_from_length, take-append-le, length-take-le, length-append, length-drop, drop-drop, drop_all, take_all}
+use Rattle.const_oid.specs.Output.{WritesAll}
+use Rattle.oid_tool.specs.Failures.{AppendsPrefix}
 use borrow.Rule.Slice.PartMut.{put_mid, post_of}
 
 -- known bytes grow by the whole, except for what is left
@@ -49,6 +50,22 @@ take_grown used room n buffer bytes within fits =
     ap (λ start. take (start + n) (put_mid used room buffer bytes)) (sym len)
     ∙ take-append-add (take used buffer) (bytes ++ post_of used room buffer) n
     ∙ ap (λ part. take used buffer ++ part) (take-append-le n bytes (post_of used room buffer) fits)
+
+-- items that are written are the first ones
+pub first_written : (items old : List ℕ) {new : List ℕ} {len : ℕ} → WritesAll items old new len → take len new ≡ items
+first_written items old (is, begins) = rw (is, begins) (take-append_seam items (drop (length items) old))
+
+-- items that are written, and others after them, in the rest of the output
+pub written_joined : (first text old : List ℕ) {mid new : List ℕ} {at len : ℕ} → WritesAll first old mid at
+    → WritesAll text (take (length mid - at) (drop at mid)) new len
+    → WritesAll (first ++ text) old (put_mid at (length mid - at) mid new) (at + len)
+written_joined first text old {mid} {at = at} {len = len} (is, begins) (long, ends) =
+    let front = first_written first old (is, begins) in
+    let all = take_all (length mid - at) (drop at mid) (omega (arith, length-drop at mid)) in
+    let back : drop len (drop at mid) ≡ drop (length (first ++ text)) old =
+    rw (is, long, begins, drop-append_seam, drop-drop) (ap (λ n. drop n old) (omega (arith, length-append first text))) in
+    let none : post_of at (length mid - at) mid ≡ [] = drop_all (length mid - at) (drop at mid) (omega (arith, length-drop at mid)) in
+    (omega (arith, is, long, length-append first text), grind (arith, front, back, none, all, ends, append_assoc, append-nil))
 
 -- what a buffer has after a read or a write at an index
 pub ruleset grown = (take_grown, append_assoc, take-append_seam)

@@ -1,4 +1,4 @@
 pub mod Names
 pub mod Results
-pub mod Output
+pub mod Failures
 pub mod ToolError

@@ -5,7 +5,7 @@ ghost use Rattle.hex.specs.Hex.{decode_of, encode_lower};
 ghost use Rattle.const_oid.specs.Error.{message_of};
 ghost use Rattle.oid_tool.specs.Results.{answer_line, error_line, text_line, hex_line, parent_line, name_line};
 ghost use Rattle.oid_tool.specs.Names.{rows_of};
-ghost use Rattle.oid_tool.specs.Output.{StandsFirst};
+ghost use Rattle.const_oid.specs.Output.{Writes};
 
 use const_oid::db::Database;
 use const_oid::{Error, ObjectIdentifierRef, Oid};
@@ -19,7 +19,7 @@ pub const MAX_INPUT: usize = 4096;
 #[tactic(auto, unfolding(crate::specs::Results::answer_line))]
 pub fn answer(line: &[u8], table: Database<'_>, out: &mut [u8]) -> Option<usize>
     requires { length line.now ≤ MAX_INPUT }
-    ensures { StandsFirst result out.new (answer_line (rows_of table.entry) line.now) }
+    ensures { Writes (answer_line (rows_of table.entry) line.now) out.old out.new result }
 {
     let (command, argument) = cut(b' ', line);
     if command == b"text".as_slice() {
@@ -39,7 +39,7 @@ pub fn answer(line: &[u8], table: Database<'_>, out: &mut [u8]) -> Option<usize>
 #[tactic(auto, unfolding(crate::specs::Results::text_line))]
 fn text(digits: &[u8], out: &mut [u8]) -> Option<usize>
     requires { length digits.now ≤ MAX_INPUT }
-    ensures { StandsFirst result out.new (text_line digits.now) }
+    ensures { Writes (text_line digits.now) out.old out.new result }
 {
     let mut octets = [0; MAX_INPUT / 2];
     let Some(count) = decode(digits, &mut octets) else {
@@ -54,7 +54,7 @@ fn text(digits: &[u8], out: &mut [u8]) -> Option<usize>
 /// `hex T`: the contents octets of the identifier that the text T denotes, as hexadecimal digits.
 #[tactic(auto, using(crate::proofs::Lines::lines_read), unfolding(crate::specs::Results::hex_line))]
 fn hex(text: &[u8], out: &mut [u8]) -> Option<usize>
-    ensures { StandsFirst result out.new (hex_line text.now) }
+    ensures { Writes (hex_line text.now) out.old out.new result }
 {
     let Ok(text) = str::from_utf8(text) else {
         return put(b"error: not UTF-8", out);
@@ -68,7 +68,7 @@ fn hex(text: &[u8], out: &mut [u8]) -> Option<usize>
 /// `parent T`: the parent of the identifier that the text T denotes, or `none`.
 #[tactic(auto, using(crate::proofs::Lines::lines_read), unfolding(crate::specs::Results::parent_line))]
 fn parent(text: &[u8], out: &mut [u8]) -> Option<usize>
-    ensures { StandsFirst result out.new (parent_line text.now) }
+    ensures { Writes (parent_line text.now) out.old out.new result }
 {
     let Ok(text) = str::from_utf8(text) else {
         return put(b"error: not UTF-8", out);
@@ -85,7 +85,7 @@ fn parent(text: &[u8], out: &mut [u8]) -> Option<usize>
 /// `name T`: the name of the identifier that the text T denotes, or T itself if it has no name.
 #[tactic(auto, using(crate::proofs::Lines::lines_read), unfolding(crate::specs::Results::name_line))]
 fn name(text: &[u8], table: Database<'_>, out: &mut [u8]) -> Option<usize>
-    ensures { StandsFirst result out.new (name_line (rows_of table.entry) text.now) }
+    ensures { Writes (name_line (rows_of table.entry) text.now) out.old out.new result }
 {
     let Ok(text) = str::from_utf8(text) else {
         return put(b"error: not UTF-8", out);
@@ -98,7 +98,7 @@ fn name(text: &[u8], table: Database<'_>, out: &mut [u8]) -> Option<usize>
 
 /// Writes an error line at the start of `out`. Returns its length, or `None` if it does not fit.
 fn put_error(error: Error, out: &mut [u8]) -> Option<usize>
-    ensures { StandsFirst result out.new (error_line (message_of error)) }
+    ensures { Writes (error_line (message_of error)) out.old out.new result }
 {
     let at = put(b"error: ", out)?;
     let len = error.encode_text(&mut out[at..])?;
@@ -107,7 +107,7 @@ fn put_error(error: Error, out: &mut [u8]) -> Option<usize>
 
 /// Writes bytes at the start of `out`. Returns their number, or `None` if they do not fit.
 pub fn put(bytes: &[u8], out: &mut [u8]) -> Option<usize>
-    ensures { StandsFirst result out.new bytes.now }
+    ensures { Writes bytes.now out.old out.new result }
 {
     let len = bytes.len();
     if len > out.len() {
@@ -121,7 +121,7 @@ pub fn put(bytes: &[u8], out: &mut [u8]) -> Option<usize>
 /// `None` if they do not fit.
 fn encode(octets: &[u8], out: &mut [u8]) -> Option<usize>
     requires { length octets.now ≤ 39 }
-    ensures { StandsFirst result out.new (encode_lower octets.now) }
+    ensures { Writes (encode_lower octets.now) out.old out.new result }
 {
     let count = 2 * octets.len();
     if count > out.len() {

@@ -3,7 +3,8 @@ ghost use Rattle.std.specs.Prelude.{◌≡◌, ◌+◌, ◌≤◌, ◌⊎◌, le
 ghost use Rattle.std.specs.Io.KnownBytes.{Appends, Consumes, IsAtEnd};
 ghost use Rattle.oid_tool.specs.Results.{answers, output_line};
 ghost use Rattle.oid_tool.specs.Names.{known_names, rows_of};
-ghost use Rattle.oid_tool.specs.Output.{AppendsPrefix, ConsumesAtMost, ConsumesNumber, StandsFirst};
+ghost use Rattle.oid_tool.specs.Failures.{AppendsPrefix, ConsumesAtMost, ConsumesNumber};
+ghost use Rattle.const_oid.specs.Output.{Writes};
 
 use crate::command::{MAX_INPUT, answer, cut, put};
 use const_oid::Oid;
@@ -134,10 +135,9 @@ fn write_answers<W: Write>(
 
 /// Writes the result of a line and a newline at the start of `out`. Returns their length, or `None` if
 /// they do not fit.
-#[tactic(auto, using(crate::proofs::Output::grown))]
 fn put_line(line: &[u8], table: Database<'_>, out: &mut [u8]) -> Option<usize>
     requires { length line.now ≤ MAX_INPUT }
-    ensures { StandsFirst result out.new (output_line (rows_of table.entry) line.now) }
+    ensures { Writes (output_line (rows_of table.entry) line.now) out.old out.new result }
 {
     let at = answer(line, table, out)?;
     let len = put(b"\n", &mut out[at..])?;

@@ -1,5 +1,5 @@
 -- What an encoder returns, and its buffer.
-use Rattle.std.specs.Prelude.{◌≡◌, ℕ, List, Option, Result, Err, IfOk, MatchResult}
+use Rattle.std.specs.Prelude.{ℕ, List, Option, Result, IfOk}
 use Rattle.std.specs.Result.{result_map_both}
 use Rattle.const_oid.specs.declared.buffer.Buffer.{Buffer}
 use Rattle.const_oid.specs.declared.error.Error.{Error}
@@ -7,7 +7,7 @@ use Rattle.const_oid.specs.Buffer.{buffer_octets}
 use Rattle.const_oid.specs.Identifier.{root_rule, IsEncoding}
 use Rattle.const_oid.specs.Items.{TakesItems}
 use Rattle.const_oid.specs.Contents.{arcs_of_octets}
-use Rattle.const_oid.specs.Private.Octets.{IsEncodedIn}
+use Rattle.const_oid.specs.Output.{WritesEncoding}
 
 -- the result of a function, by the arcs of the octets
 abbrev pub buffer_answer : {SIZE : ℕ} → Result (Buffer SIZE) Error → Result (List ℕ) Error
@@ -21,4 +21,4 @@ HasEncoding result = IfOk result (λ buffer. IsEncoding root_rule (arcs_of_octet
 abbrev pub EncodesItems : {S : Type 0} → ℕ → (S → Option ℕ → S → Type 0) → S → List ℕ → List ℕ → Result ℕ Error → Type 0
 EncodesItems capacity steps iterator old new result = (answer : Result (List ℕ) Error)
     × TakesItems root_rule capacity steps iterator answer
-    × MatchResult result (λ len. IsEncodedIn capacity answer old new len) (λ fault. answer ≡ Err fault)
+    × WritesEncoding capacity answer old new result

@@ -1,6 +1,6 @@
 -- Octets as they are read and written, one subidentifier after another.
 use Rattle.std.specs.Prelude.{◌≡◌, ℕ, ◌+◌, ◌<◌, ◌≤◌, List, [], ◌∷◌, ◌++◌, length, map, take, drop, Option, None}
-use Rattle.std.specs.Prelude.{Result, Ok, MatchResult, ◌==◌, if◌then◌else◌, Some, ◌^◌}
+use Rattle.std.specs.Prelude.{Result, MatchResult, ◌==◌, if◌then◌else◌, Some, ◌^◌}
 use Rattle.std.specs.declared.cmp.Ordering.{Ordering}
 use Rattle.std.specs.Option.{option_or}
 use Rattle.std.specs.Ordering.{nat_cmp}
@@ -9,7 +9,7 @@ use Rattle.const_oid.specs.declared.error.Error.TheVariants.{Length}
 use Rattle.const_oid.specs.declared.arcs.Next.{Next}
 use Rattle.const_oid.specs.declared.arcs.Next.TheVariants.{First, Second, Later}
 use Rattle.const_oid.specs.Base128.{IsGroup, value_of, width}
-use Rattle.const_oid.specs.Identifier.{root_rule, IsEncoding, max_arc}
+use Rattle.const_oid.specs.Identifier.{root_rule, max_arc}
 use Rattle.const_oid.specs.Contents.{cut, part_fault, later_fault, parts_fault, arcs_of_octets, max_first}
 use Rattle.std.specs.Int.{w64, to_be_bytes}
 
@@ -60,20 +60,6 @@ AppendsTo capacity number used out longer result = MatchResult result
     (λ end. (end ≡ used + width number) × (end ≤ capacity)
     × (capacity ≤ length out → (group : List ℕ) × IsGroup number group × (longer ≡ take used out ++ (group ++ drop end out))))
     (λ fault. (fault ≡ Length) × (capacity < used + width number))
-
--- a slice that has the capacity begins with the octets, and is as before after them
-abbrev pub BeginsBy : ℕ → List ℕ → List ℕ → List ℕ → Type 0
-BeginsBy capacity octets old new = capacity ≤ length old → new ≡ octets ++ drop (length octets) old
-
--- a length is that of the encoding of the arcs of an answer, which fits a capacity, and with which a slice of that
--- capacity begins
-pub record IsEncodedIn (capacity : ℕ) (read : Result (List ℕ) Error) (old new : List ℕ) (len : ℕ) : Type 0 where
-  pub octets : List ℕ
-  pub encoding : IsEncoding root_rule (arcs_of_octets octets) octets
-  pub answer : read ≡ Ok (arcs_of_octets octets)
-  pub long : len ≡ length octets
-  pub within : len ≤ capacity
-  pub begins : BeginsBy capacity octets old new
 
 -- the greatest number of a subidentifier that starts at an index
 abbrev pub limit_at : ℕ → ℕ

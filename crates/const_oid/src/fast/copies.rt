@@ -1,12 +1,13 @@
 //! Octets copied by two copies of constant length, which may overlap.
 
-ghost use Rattle.std.specs.Prelude.{◌≡◌, ◌++◌, ◌*◌, ◌≤◌, length, drop};
+ghost use Rattle.std.specs.Prelude.{◌≡◌, ◌*◌, ◌≤◌, length};
+ghost use Rattle.const_oid.specs.Output.{written_over};
 
 /// Copies octets to the start of as many or more, as `parts::copy_to` does by a loop.
 #[inline(always)]
 pub(crate) fn copy_to(octets: &[u8], out: &mut [u8])
     requires { length octets.now ≤ length out.old }
-    ensures { out.new ≡ octets.now ++ drop (length octets.now) out.old }
+    ensures { out.new ≡ written_over octets.now out.old }
 {
     // Up to 64 octets take two loads and stores, and no call of `memcpy`.
     match octets.len() {
@@ -25,7 +26,7 @@ fn copy_ends<const SIZE: usize>(octets: &[u8], out: &mut [u8])
     requires enough { SIZE ≤ length octets.now }
     requires few { length octets.now ≤ 2 * SIZE }
     requires room { length octets.now ≤ length out.old }
-    ensures { out.new ≡ octets.now ++ drop (length octets.now) out.old }
+    ensures { out.new ≡ written_over octets.now out.old }
 {
     // The length of each copy is a constant, so the compiler copies it without a loop or a call.
     let last = octets.len() - SIZE;

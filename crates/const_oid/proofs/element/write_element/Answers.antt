@@ -1,6 +1,6 @@
 use Rattle.std.proofs.Common.{arith, length, ◌≡◌, ◌+◌, ◌<◌, refl}
 use Rattle.std.proofs.lemmas.Grind.{common_steps}
-use Rattle.const_oid.proofs.Elements.{length_written, element_put}
+use Rattle.const_oid.proofs.Elements.{length_written, element_written}
 use Rattle.const_oid.proofs.element.write_element.Goals.{then-count-gt0, else-count-gt0}
 use Rattle.const_oid.proofs.element.write_element.Goals as goal
 
@@ -14,6 +14,5 @@ returns-clause-written c =
     let form = length_written (grind (arith, common_steps)) count.ensures.len count.ensures.short long short c.to_be_bytes.ensures
     c.copy_from_slice.ensures.after in
     let many : length c.copy_from_slice.new.self ≡ count.result = grind (arith, common_steps) in
-    rw form
-    (element_put c.if-count-gt0.out count.result _ c.copy_from_slice.new.self c.args.contents.now _ c.args.out.now (omega arith) many refl
-    c.copy_from_slice-2.ensures.after)
+    element_written c.if-count-gt0.out count.result _ c.copy_from_slice.new.self c.args.contents.now _ c.args.out.now (omega arith) many refl
+    c.copy_from_slice-2.ensures.after form

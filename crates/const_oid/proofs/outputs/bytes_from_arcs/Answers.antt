@@ -1,16 +1,7 @@
 use Rattle.std.proofs.Common.{length, arith}
 use Rattle.const_oid.specs.Identifier.{root_rule}
-use Rattle.const_oid.proofs.{Enough.five_enough, Appended.returned}
+use Rattle.const_oid.proofs.Enough.{five_enough}
 use Rattle.const_oid.proofs.outputs.bytes_from_arcs.Goals as goal
-
-pub returns-clause-answer : goal.returns-clause-answer
-returns-clause-answer c = (returned c.encode-2.result c.encode-2.ensures (omega arith)).answer
-
-pub returns-clause-encoding : goal.returns-clause-encoding
-returns-clause-encoding c = (returned c.encode-2.result c.encode-2.ensures (omega arith)).encoding
-
-pub returns-clause-rest : goal.returns-clause-rest
-returns-clause-rest c = (returned c.encode-2.result c.encode-2.ensures (omega arith)).rest
 
 pub returns-in_err-encode-clause-enough : goal.returns-in_err-encode-clause-enough
 returns-in_err-encode-clause-enough c =

@@ -1,16 +1,7 @@
 use Rattle.std.proofs.Common.{length, arith}
 use Rattle.const_oid.specs.Identifier.{root_rule}
-use Rattle.const_oid.proofs.{Enough.bytes_enough, Appended.returned}
+use Rattle.const_oid.proofs.Enough.{bytes_enough}
 use Rattle.const_oid.proofs.outputs.bytes_from_ascii.Goals as goal
-
-pub returns-clause-answer : goal.returns-clause-answer
-returns-clause-answer c = (returned c.parse-2.result c.parse-2.ensures (omega arith)).answer
-
-pub returns-clause-encoding : goal.returns-clause-encoding
-returns-clause-encoding c = (returned c.parse-2.result c.parse-2.ensures (omega arith)).encoding
-
-pub returns-clause-rest : goal.returns-clause-rest
-returns-clause-rest c = (returned c.parse-2.result c.parse-2.ensures (omega arith)).rest
 
 pub returns-in_err-parse-clause-enough : goal.returns-in_err-parse-clause-enough
 returns-in_err-parse-clause-enough c =

@@ -1,10 +1,10 @@
 use Rattle.std.proofs.Common.{◌≡◌, ◌+◌, ◌<◌, ◌++◌, [], ◌∷◌, false, length, map, take, slice_set}
 use Rattle.std.proofs.Common.{append-nil, sym, ap, ◌∙◌, arith, rules}
-use Rattle.std.proofs.lemmas.List.{nil_from_length, take_more_set, drop-set-lt, take-append-drop}
+use Rattle.std.proofs.lemmas.List.{nil_from_length, take_more_set, drop-set-lt}
 use Rattle.std.proofs.lemmas.{Bool.Decides.nat_tests, Grind.common_steps}
 use Rattle.const_oid.specs.{Base128.value_of, Contents.{cut, arcs_from}, Identifier.root_rule}
 use Rattle.const_oid.specs.{Text.text_of, Private.Text.text_left}
-use Rattle.const_oid.proofs.{Decimals.drop_more, Texts.{second_small, text_left-cons}}
+use Rattle.const_oid.proofs.{Decimals.drop_more, Outputs.written_by_parts, Texts.{second_small, text_left-cons}}
 use Rattle.const_oid.proofs.{PartsFault.{parts_from_later, later_small}, Printed.{two_texts, arc_written}}
 use Rattle.const_oid.proofs.text.write_text.Goals as goal
 
@@ -25,16 +25,15 @@ loop-rest-init c =
       after = drop-set-lt 1 c.args.out.now 0 (48 + arcs.0) (omega arith);
     }
 
-pub returns-then-is_empty-clause-written : goal.returns-then-is_empty-clause-written
-returns-then-is_empty-clause-written c =
+pub returns-then-is_empty : goal.returns-then-is_empty
+returns-then-is_empty c =
     let l = c.loop-rest in
     let w = c.write_arc-at.ensures in
     let piece = take c.write_arc-at.result c.write_arc-at.new.out in
     let none = nil_from_length l.rest.now (grind (arith, nat_tests)) in
     let text = rw append-nil at (arc_written [] _ piece l.arc [] w.prefix ∙ rw none at l.invariant.text) in
     let after = w.after ∙ drop_more l.at c.write_arc-at.result _ _ (omega arith) l.invariant.after in
-    let whole = take-append-drop c.write_arc-at.result c.write_arc-at.new.out in
-    rw (text, after) at (sym whole)
+    written_by_parts _ c.write_arc-at.result (grind (arith, common_steps)) text after
 
 pub read_group-number-requires : goal.read_group-number-requires
 read_group-number-requires c = parts_from_later c.loop-rest.rest.now (λ e. search rules) c.loop-rest.invariant.valid

@@ -1,4 +1,4 @@
-use Rattle.std.proofs.Common.{◌≢◌, ◌≤◌, length, Err, sym, ◌∙◌, arith}
+use Rattle.std.proofs.Common.{◌≢◌, ◌≤◌, length, Err, ◌∙◌, arith}
 use Rattle.const_oid.specs.{declared.error.Error.TheVariants.Length, Identifier.root_rule, Items.item_answer}
 use Rattle.const_oid_c.specs.Status.{len_status, max_len}
 use Rattle.const_oid_c.proofs.{Writes.{IsWritten, bytes_written}, Capacities.same_arcs, Counted.{longer_arcs, not_written}}
@@ -7,18 +7,18 @@ use Rattle.const_oid_c.proofs.arcs.write_long_arcs.Goals as goal
 written : (c : goal.After-len_status)
     → IsWritten 0 (item_answer root_rule c.args.arcs.now max_len) c.args.out.now c.bytes_from_arcs.new.out (len_status c.in-Ok.len)
 written c =
-    let is = c.in-Ok.ensures in
+    let is = c.in-Ok.ensures.written in
     let few = length c.args.out.now in
     let fits : few ≤ max_len = omega arith in
     let other : item_answer root_rule c.args.arcs.now few ≢ Err Length = λ same. cc in
-    let answer = is.answer ∙ same_arcs few max_len fits c.args.arcs.now other in
-    bytes_written 0 c.in-Ok.len answer c.bytes_from_arcs.auto.out is.encoding is.rest
+    let answer = same_arcs few max_len fits c.args.arcs.now other in
+    bytes_written 0 is answer
 
 counted : (c : goal.After-unwritten_status)
     → IsWritten 0 (item_answer root_rule c.args.arcs.now max_len) c.args.out.now c.args.out.now c.unwritten_status.result
 counted c =
     not_written 0 (item_answer root_rule c.args.arcs.now max_len)
-    (λ arcs read. longer_arcs (length c.args.out.now) c.args.arcs.now arcs (λ k. omega (arith, c.type_inv.arcs k)) (sym c.in-Err.ensures.answer) read)
+    (λ arcs read. longer_arcs (length c.args.out.now) c.args.arcs.now arcs (λ k. omega (arith, c.type_inv.arcs k)) c.in-Err.ensures.written read)
     (rw c.bytes_len_from_arcs.ensures.len at c.unwritten_status.ensures)
 
 pub returns-in-Ok-clause-status : goal.returns-in-Ok-clause-status

@@ -1,11 +1,12 @@
 use Rattle.std.proofs.Common.{arith, append_assoc}
 use Rattle.std.specs.Str.{IsUtf8}
-use Rattle.std.proofs.lemmas.{List.take-append-drop, Str.IsUtf8-append}
-use Rattle.const_oid.proofs.Decimals.{drop_more}
+use Rattle.std.proofs.lemmas.{Grind.common_steps, Str.IsUtf8-append}
+use Rattle.const_oid.proofs.{Decimals.drop_more, Outputs.written_by_parts}
 use Rattle.const_oid.proofs.error.Error.encode_text.Goals as goal
 
 pub returns-clause-written : goal.returns-clause-written
-returns-clause-written c = grind (arith, append_assoc, take-append-drop, drop_more)
+returns-clause-written c =
+    written_by_parts _ _ (grind (arith, common_steps)) (grind (arith, append_assoc)) (grind (arith, drop_more))
 
 pub returns-clause-utf8 : goal.returns-clause-utf8
 returns-clause-utf8 c =

@@ -6,5 +6,5 @@ use Rattle.const_oid.proofs.oid_ref.ObjectIdentifierRef.encode_str.Goals as goal
 
 pub utf8-requires-clause-utf8 : goal.utf8-requires-clause-utf8
 utf8-requires-clause-utf8 c =
-    rw (c.in_ok-len.ensures.written, c.in_ok-len.ensures.cases, take-append_seam)
+    rw (c.in_ok-len.ensures.written.1, c.in_ok-len.ensures.written.0, take-append_seam)
     (IsUtf8-from_ascii _ (text_ascii root_rule _ (ref_encoding c.args.self.now).identifier))

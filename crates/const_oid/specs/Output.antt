@@ -1,0 +1,37 @@
+-- What a function writes at the start of an output: the bytes of a text or an element, contents octets, or arcs.
+use Rattle.std.specs.Prelude.{◌≡◌, ℕ, ◌<◌, ◌≤◌, List, ◌++◌, length, drop, Option, MatchOption, Result, Ok, Err, MatchResult}
+use Rattle.std.specs.Borrow.{Bor}
+use Rattle.const_oid.specs.declared.error.Error.{Error}
+use Rattle.const_oid.specs.Contents.{arcs_of_octets}
+use Rattle.const_oid.specs.Identifier.{root_rule, IsEncoding}
+
+-- the output with the items at its start, and as before after them
+abbrev pub written_over : {X : Type 0} → List X → List X → List X
+written_over items old = items ++ drop (length items) old
+
+-- all the items are written, and the result is how many they are
+abbrev pub WritesAll : {X : Type 0} → List X → List X → List X → ℕ → Type 0
+WritesAll items old new len = (len ≡ length items) × (new ≡ written_over items old)
+
+-- so are they if they fit, and the result is None exactly if they are more than the output has
+abbrev pub Writes : {X : Type 0} → List X → List X → List X → Option ℕ → Type 0
+Writes items old new result = MatchOption result (length old < length items) (WritesAll items old new)
+
+-- the result is the items, which fit, or None exactly if they are more than the output has
+abbrev pub Returns : List ℕ → List ℕ → Option (Bor (List ℕ)) → Type 0
+Returns items old result = MatchOption result (length old < length items)
+    (λ written. (written.now ≡ items) × (length items ≤ length old))
+
+-- a length is that of the encoding of an answer's arcs, which fits a capacity, and is written if the output has that
+pub record IsEncodedIn (capacity : ℕ) (read : Result (List ℕ) Error) (old new : List ℕ) (len : ℕ) : Type 0 where
+  pub octets : List ℕ
+  pub encoding : IsEncoding root_rule (arcs_of_octets octets) octets
+  pub answer : read ≡ Ok (arcs_of_octets octets)
+  pub long : len ≡ length octets
+  pub within : len ≤ capacity
+  pub begins : capacity ≤ length old → new ≡ written_over octets old
+
+-- the result is such a length, or the answer's fault
+abbrev pub WritesEncoding : ℕ → Result (List ℕ) Error → List ℕ → List ℕ → Result ℕ Error → Type 0
+WritesEncoding capacity answer old new result =
+    MatchResult result (IsEncodedIn capacity answer old new) (λ fault. answer ≡ Err fault)
