@@ -9,12 +9,10 @@ ghost use Rattle.const_oid.specs.Output.{WritesEncoding};
 ghost use Rattle.const_oid.specs.Text.{components_of, text_answer, wrong_index};
 
 use crate::Arc;
-use crate::encoder::{ONE_PASS_ARCS, encode_in_one_pass, encode};
+use crate::encoder::{ONE_PASS_ARCS, encode, encode_in_one_pass};
 use crate::error::{Error, Result};
 use crate::oid_ref::ObjectIdentifierRef;
-use crate::parser::{
-    ONE_PASS_BYTES, fault_and_index, parse_in_one_pass, parse, parse_inlined,
-};
+use crate::parser::{ONE_PASS_BYTES, fault_and_index, parse, parse_in_one_pass, parse_inlined};
 use std::result;
 
 /// Counts the contents octets of the identifier that dotted text in ASCII denotes, of any length. They are no more
