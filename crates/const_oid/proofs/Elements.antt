@@ -358,7 +358,7 @@ same_element a b x y small small' same =
     let (long, rest) = same_length (length a) (length b) (a ++ x) (b ++ y) small small' e in
     append_cancel a b x y long rest
 
-contents_fit : (der octets rest : List ℕ) → der ≡ element octets ++ rest → length octets ≤ length der
+pub contents_fit : (der octets rest : List ℕ) → der ≡ element octets ++ rest → length octets ≤ length der
 contents_fit der octets rest is =
     omega (arith, ap length is, length-append (element octets) rest, length-append (length_octets (length octets)) octets)
 

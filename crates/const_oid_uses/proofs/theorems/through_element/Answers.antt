@@ -5,7 +5,7 @@ use Rattle.const_oid.specs.declared.error.Error.{Error}
 use Rattle.const_oid.specs.declared.oid_ref.ObjectIdentifierRef.{ObjectIdentifierRef}
 use Rattle.const_oid.specs.Contents.{octet_answer, arcs_of_octets, borrowed_capacity}
 use Rattle.const_oid.specs.{Element.element, Error.answer, Identifier.root_rule, OidRef.{ref_octets, ReadsElement}}
-use Rattle.const_oid.proofs.{Elements.only_element, Encodings.{octet_fault-fits, ref_encoding}}
+use Rattle.const_oid.proofs.{Elements.{contents_fit, only_element}, Encodings.{octet_fault-fits, ref_encoding}}
 use Rattle.const_oid_uses.proofs.theorems.through_element.Goals as goal
 
 -- an identifier's octets are read without an error
@@ -28,7 +28,8 @@ again oid rest der (Some (Ok read, after)) fits written reads =
 again oid rest der (Some (Err fault, after)) fits written reads =
     let (same, left) = only_element der.now reads.contents (ref_octets oid) after.now rest (omega arith) reads.joined written in
     let wrong : Err fault ≡ Ok (arcs_of_octets (ref_octets oid)) =
-    reads.answer ∙ ap (λ octets. octet_answer root_rule octets borrowed_capacity) same ∙ accepted oid (omega arith) in
+    reads.answer ∙ ap (λ octets. octet_answer root_rule octets borrowed_capacity) same
+    ∙ accepted oid (omega (arith, contents_fit der.now (ref_octets oid) rest written)) in
     cc
 
 pub returns-clause-again : goal.returns-clause-again
