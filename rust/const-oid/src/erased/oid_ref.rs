@@ -8,12 +8,12 @@ use crate::erased::base128::read_group;
 use crate::erased::compare::{begins_with, order_by_parts};
 use crate::erased::digits::{MAX_ARC_LEN, utf8, write_arc};
 use crate::erased::element::{element_len, split_element, write_element};
-use crate::erased::encoder::{ONE_PASS_ARCS, encode_in_one_pass, encode_slice};
+use crate::erased::encoder::{ONE_PASS_ARCS, encode, encode_in_one_pass};
 use crate::erased::error::{Error, Result};
 use crate::erased::fast::comparison::{are_equal, order};
 use crate::erased::fast::lanes::count_below;
 use crate::erased::fast::steps::run_of;
-use crate::erased::parser::{ONE_PASS_BYTES, fault_and_index, parse_in_one_pass, parse_to, parse_to_inlined};
+use crate::erased::parser::{ONE_PASS_BYTES, fault_and_index, parse, parse_in_one_pass, parse_inlined};
 use crate::erased::parts::without_last_part;
 use crate::erased::root::split_root;
 use crate::erased::text::{text_len, write_checked, write_text};
@@ -277,7 +277,7 @@ impl ObjectIdentifierRef {
     /// Those of [`new`](crate::ObjectIdentifier::new), with [`Error::Length`] if the arcs take more octets than
     /// `limit`.
     pub(crate) fn bytes_len_from_ascii(text: &[u8], limit: usize) -> Result<usize> {
-        parse_to(text, &mut [], limit)
+        parse(text, &mut [], limit)
     }
 
     /// Parses dotted text in ASCII, of any length, and writes its contents octets to the start of `out`. Returns how many
@@ -293,8 +293,8 @@ impl ObjectIdentifierRef {
         }
         let capacity = out.len();
         // The octets are counted first, so that on an error none is written.
-        parse_to(text, &mut [], capacity)?;
-        parse_to(text, out, capacity)
+        parse(text, &mut [], capacity)?;
+        parse(text, out, capacity)
     }
 
     /// Counts the contents octets of arcs, any number of them. They are at most five for each arc.
@@ -304,7 +304,7 @@ impl ObjectIdentifierRef {
     /// Those of [`from_arcs`](crate::ObjectIdentifier::from_arcs), with [`Error::Length`] if the arcs take more octets
     /// than `limit`.
     pub(crate) fn bytes_len_from_arcs(arcs: &[Arc], limit: usize) -> Result<usize> {
-        encode_slice(arcs, &mut [], limit)
+        encode(arcs, &mut [], limit)
     }
 
     /// Encodes arcs, any number of them, and writes the contents octets to the start of `out`. Returns how many there
@@ -319,8 +319,8 @@ impl ObjectIdentifierRef {
             return encode_in_one_pass(arcs, out);
         }
         let capacity = out.len();
-        encode_slice(arcs, &mut [], capacity)?;
-        encode_slice(arcs, out, capacity)
+        encode(arcs, &mut [], capacity)?;
+        encode(arcs, out, capacity)
     }
 
     /// Parses dotted text in ASCII, of any length, and borrows the octets that it writes at the start of `out`. They are
@@ -355,7 +355,7 @@ impl ObjectIdentifierRef {
     /// [`Error::Length`], whose index says nothing.
     #[inline(always)]
     pub(crate) fn from_ascii_in_39<'a>(text: &[u8], out: &'a mut [u8; 39]) -> result::Result<&'a Self, (Error, usize)> {
-        match parse_to_inlined(text, out, 39) {
+        match parse_inlined(text, out, 39) {
             Ok(len) => Ok(ObjectIdentifierRef::from_checked(&out[..len])),
             Err(wrong) => Err(fault_and_index(text, wrong)),
         }
@@ -375,7 +375,7 @@ impl ObjectIdentifierRef {
     /// ```
     #[must_use]
     pub fn wrong_component(text: &[u8]) -> Option<usize> {
-        match parse_to_inlined(text, &mut [], usize::MAX) {
+        match parse_inlined(text, &mut [], usize::MAX) {
             Ok(_) => None,
             Err(wrong) => Some(fault_and_index(text, wrong).1),
         }
@@ -510,7 +510,7 @@ impl ObjectIdentifierRef {
         let mut at = 1;
         // An arc is written at one place, which takes the most code.
         loop {
-            at = write_arc(arc, false, &mut text, at);
+            at = write_arc(arc, &mut text, at);
             if rest.is_empty() {
                 return f.write_str(utf8(&text, at));
             }
@@ -525,7 +525,7 @@ impl ObjectIdentifierRef {
     }
 }
 
-/// The text of this many octets, or fewer, is written at once.
+/// The most octets whose text is written at once.
 const CHUNK_OCTETS: usize = 40;
 
 /// The most bytes of that text, four for each octet, and room for one more arc.
