@@ -62,10 +62,7 @@ pub(crate) fn group_fault(octets: &[u8], limit: u64) -> Error {
     if octets[0] == 128 || octets.len() < 5 {
         return Error::Base128;
     }
-    if number_of_five(octets) > limit {
-        return Error::ArcTooBig;
-    }
-    if octets.len() > 5 {
+    if number_of_five(octets) > limit || octets.len() > 5 {
         return Error::ArcTooBig;
     }
     Error::Base128
@@ -84,10 +81,13 @@ fn add_digit(high: u64, octet: u8) -> u64 {
     high * 128 + (octet % 128) as u64
 }
 
-/// Appends the subidentifier of a number to the first octets of a slice, if they then fit a capacity, and returns how
-/// many there are. Into a slice that is shorter than the capacity nothing is written: the octets are counted alone.
+/// Appends the subidentifier of a number to the first `used` octets of a slice, if they then fit a capacity, and
+/// returns how many there are. A slice that is shorter than the capacity is not written to: octets are counted alone.
 #[inline(always)]
 pub(crate) const fn append_group(out: &mut [u8], used: usize, number: u64, capacity: usize) -> Result<usize> {
+    if out.len() < capacity {
+        return count_group(used, number, capacity);
+    }
     let mut at = used;
     if number >= 0x80 {
         if number >= 0x4000 {
@@ -98,9 +98,7 @@ pub(crate) const fn append_group(out: &mut [u8], used: usize, number: u64, capac
                     if at >= capacity {
                         return Err(Error::Length);
                     }
-                    if capacity <= out.len() {
-                        out[at] = 128 + ((number >> shift) % 128) as u8;
-                    }
+                    out[at] = 128 + ((number >> shift) % 128) as u8;
                     at += 1;
                 }
                 shift -= 7;
@@ -109,16 +107,29 @@ pub(crate) const fn append_group(out: &mut [u8], used: usize, number: u64, capac
         if at >= capacity {
             return Err(Error::Length);
         }
-        if capacity <= out.len() {
-            out[at] = 128 + ((number >> 7) % 128) as u8;
-        }
+        out[at] = 128 + ((number >> 7) % 128) as u8;
         at += 1;
     }
     if at >= capacity {
         return Err(Error::Length);
     }
-    if capacity <= out.len() {
-        out[at] = (number % 128) as u8;
-    }
+    out[at] = (number % 128) as u8;
     Ok(at + 1)
+}
+
+/// How many octets `used` ones and the subidentifier of a number are, if they fit a capacity.
+#[inline]
+const fn count_group(used: usize, number: u64, capacity: usize) -> Result<usize> {
+    let mut end = used;
+    let mut rest = number;
+    loop {
+        if end >= capacity {
+            return Err(Error::Length);
+        }
+        end += 1;
+        rest >>= 7;
+        if rest == 0 {
+            return Ok(end);
+        }
+    }
 }

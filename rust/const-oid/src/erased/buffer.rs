@@ -4,10 +4,10 @@
 
 use crate::erased::Arc;
 use crate::erased::base128::append_group;
-use crate::erased::encoder::encode_to;
+use crate::erased::encoder::encode_inlined;
 use crate::erased::error::{Error, Result};
 use crate::erased::fast::comparison::{are_arrays_equal, order};
-use crate::erased::parser::{fault_of, parse_to_inlined};
+use crate::erased::parser::{fault_of, parse_inlined};
 use crate::erased::parts::copy_to;
 use core::cmp::Ordering;
 use core::hash::{Hash, Hasher};
@@ -53,7 +53,7 @@ impl<const SIZE: usize> Buffer<SIZE> {
     #[inline(always)]
     pub(crate) const fn parsed(text: &[u8]) -> Result<Self> {
         let mut buffer = Buffer::empty();
-        match parse_to_inlined(text, &mut buffer.bytes, Self::capacity()) {
+        match parse_inlined(text, &mut buffer.bytes, Self::capacity()) {
             Ok(len) => {
                 buffer.used = len as u8;
                 Ok(buffer)
@@ -65,7 +65,7 @@ impl<const SIZE: usize> Buffer<SIZE> {
     /// The encoding of the arcs that an iterator gives.
     pub(crate) fn encoded<I: IntoIterator<Item = Arc>>(arcs: I) -> Result<Self> {
         let mut buffer = Buffer::empty();
-        let len = encode_to(arcs, &mut buffer.bytes, Self::capacity())?;
+        let len = encode_inlined(arcs, &mut buffer.bytes, Self::capacity())?;
         buffer.used = len as u8;
         Ok(buffer)
     }

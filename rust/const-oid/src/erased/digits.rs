@@ -18,10 +18,10 @@ pub(crate) fn arc_len(arc: Arc, is_first: bool) -> usize {
     if is_first { digits } else { digits + 1 }
 }
 
-/// Writes an arc at an index, after a dot unless it is the first, and returns the index after it.
+/// Writes a dot and an arc at an index, and returns the index after them.
 #[inline(always)]
-pub(crate) fn write_arc(arc: Arc, is_first: bool, out: &mut [u8], at: usize) -> usize {
-    let start = if is_first { at } else { write_byte(b'.', out, at) };
+pub(crate) fn write_arc(arc: Arc, out: &mut [u8], at: usize) -> usize {
+    let start = write_byte(b'.', out, at);
     write_digits(arc, out, start)
 }
 

@@ -8,10 +8,10 @@ use crate::erased::error::{Error, Result};
 use crate::erased::parts::copy_to;
 use crate::erased::root::{check_first, join_root};
 
-/// `encode_to` of a slice of arcs, but not inlined: it is compiled once for all calls.
+/// `encode_inlined` of a slice of arcs, but not inlined: it is compiled once for all calls.
 #[inline(never)]
-pub(crate) fn encode_slice(arcs: &[Arc], out: &mut [u8], capacity: usize) -> Result<usize> {
-    encode_to(arcs.iter().copied(), out, capacity)
+pub(crate) fn encode(arcs: &[Arc], out: &mut [u8], capacity: usize) -> Result<usize> {
+    encode_inlined(arcs.iter().copied(), out, capacity)
 }
 
 /// The most arcs that are encoded on the stack.
@@ -20,20 +20,20 @@ pub(crate) const ONE_PASS_ARCS: usize = 12;
 /// The most octets that they take, five for each.
 const ONE_PASS_OCTETS: usize = 5 * ONE_PASS_ARCS;
 
-/// Writes the encoding of at most 12 arcs to the start of a slice, if it fits, and returns its length. On an error the
-/// slice is unchanged.
+/// Writes the encoding of at most `ONE_PASS_ARCS` arcs to the start of a slice, if it fits, and returns its length. On
+/// an error the slice is unchanged.
 // One pass in place of two: the octets are made on the stack.
 pub(crate) fn encode_in_one_pass(arcs: &[Arc], out: &mut [u8]) -> Result<usize> {
     let mut octets = [0; ONE_PASS_OCTETS];
-    let len = encode_slice(arcs, &mut octets, out.len().min(ONE_PASS_OCTETS))?;
+    let len = encode(arcs, &mut octets, out.len().min(ONE_PASS_OCTETS))?;
     copy_to(&octets[..len], out);
     Ok(len)
 }
 
-/// Writes the encoding of the arcs that an iterator gives to the start of a slice, if it fits a capacity, and returns its
-/// length. Into a slice that is shorter than the capacity nothing is written: the octets are counted alone.
+/// Writes the encoding of the arcs that an iterator gives to the start of a slice, if it fits a capacity, and returns
+/// its length.
 #[inline(always)]
-pub(crate) fn encode_to<I: IntoIterator<Item = Arc>>(arcs: I, out: &mut [u8], capacity: usize) -> Result<usize> {
+pub(crate) fn encode_inlined<I: IntoIterator<Item = Arc>>(arcs: I, out: &mut [u8], capacity: usize) -> Result<usize> {
     let mut arcs = arcs.into_iter();
     let Some(first) = arcs.next() else {
         return Err(Error::Empty);

@@ -2,8 +2,8 @@
 
 //! Dotted text to octets.
 //!
-//! A text is read component by component; in names, one is a `piece`. If one is wrong, only an index is returned, and a
-//! function that is rarely called makes the error of it. So a valid text costs fewer instructions.
+//! A text is read component by component. If one is wrong, only an index is returned, and a function that is rarely
+//! called makes the error of it. So a valid text costs fewer instructions.
 
 use crate::erased::Arc;
 use crate::erased::base128::append_group;
@@ -16,7 +16,7 @@ use core::result;
 /// What is wrong with a text.
 pub(crate) enum Wrong {
     /// The component that starts at an index goes wrong at another one.
-    Piece { start: usize, index: usize },
+    Component { start: usize, index: usize },
     /// An arc, whose component ends at an index.
     Value { fault: Error, end: usize },
 }
@@ -25,7 +25,7 @@ pub(crate) enum Wrong {
 #[inline(always)]
 pub(crate) const fn fault_of(text: &[u8], wrong: Wrong) -> (Error, usize) {
     match wrong {
-        Wrong::Piece { start, index } => (piece_fault(text, start, index), index),
+        Wrong::Component { start, index } => (component_fault(text, start, index), index),
         Wrong::Value { fault, end } => (or_trailing_dot(fault, text, end), end),
     }
 }
@@ -48,10 +48,10 @@ pub(crate) fn fault_and_index(text: &[u8], wrong: Wrong) -> (Error, usize) {
     (fault, index)
 }
 
-/// `parse_to_inlined`, but not inlined: it is compiled once for all calls. An error has no place.
+/// `parse_inlined`, but not inlined: it is compiled once for all calls. An error has no place.
 #[inline(never)]
-pub(crate) fn parse_to(text: &[u8], out: &mut [u8], capacity: usize) -> Result<usize> {
-    match parse_to_inlined(text, out, capacity) {
+pub(crate) fn parse(text: &[u8], out: &mut [u8], capacity: usize) -> Result<usize> {
+    match parse_inlined(text, out, capacity) {
         Ok(len) => Ok(len),
         Err(wrong) => Err(fault_of(text, wrong).0),
     }
@@ -60,20 +60,20 @@ pub(crate) fn parse_to(text: &[u8], out: &mut [u8], capacity: usize) -> Result<u
 /// The most bytes of a text that is parsed on the stack, and the most octets that it takes.
 pub(crate) const ONE_PASS_BYTES: usize = 64;
 
-/// Writes the encoding of the identifier that a text of at most 64 bytes denotes to the start of a slice, if it fits, and
-/// returns its length. On an error the slice is unchanged.
+/// Writes the encoding of the identifier that a text of at most `ONE_PASS_BYTES` denotes to the start of a slice, if it
+/// fits, and returns its length. On an error the slice is unchanged.
 // One pass in place of two: the octets are made on the stack.
 pub(crate) fn parse_in_one_pass(text: &[u8], out: &mut [u8]) -> Result<usize> {
     let mut octets = [0; ONE_PASS_BYTES];
-    let len = parse_to(text, &mut octets, out.len().min(ONE_PASS_BYTES))?;
+    let len = parse(text, &mut octets, out.len().min(ONE_PASS_BYTES))?;
     copy_to(&octets[..len], out);
     Ok(len)
 }
 
-/// Writes the encoding of the identifier that a text denotes to the start of a slice, if it fits a capacity, and returns
-/// its length. Into a slice that is shorter than the capacity nothing is written: the octets are counted alone.
+/// Writes the encoding of the identifier that a text denotes to the start of a slice, if it fits a capacity, and
+/// returns its length.
 #[inline(always)]
-pub(crate) const fn parse_to_inlined(text: &[u8], out: &mut [u8], capacity: usize) -> result::Result<usize, Wrong> {
+pub(crate) const fn parse_inlined(text: &[u8], out: &mut [u8], capacity: usize) -> result::Result<usize, Wrong> {
     let (number, mut end) = match read_root(text) {
         Ok(root) => root,
         Err(wrong) => return Err(wrong),
@@ -84,9 +84,9 @@ pub(crate) const fn parse_to_inlined(text: &[u8], out: &mut [u8], capacity: usiz
     };
     while end + 1 < text.len() {
         let start = end + 1;
-        let (arc, after) = match read_piece(text, start) {
-            Ok(piece) => piece,
-            Err(index) => return Err(Wrong::Piece { start, index }),
+        let (arc, after) = match read_component(text, start) {
+            Ok(component) => component,
+            Err(index) => return Err(Wrong::Component { start, index }),
         };
         used = match append_group(out, used, arc as u64, capacity) {
             Ok(used) => used,
@@ -105,9 +105,9 @@ pub(crate) const fn parse_to_inlined(text: &[u8], out: &mut [u8], capacity: usiz
 /// The subidentifier of the first two arcs, and where the second component ends.
 #[inline(always)]
 const fn read_root(text: &[u8]) -> result::Result<(u64, usize), Wrong> {
-    let (first, end) = match read_piece(text, 0) {
-        Ok(piece) => piece,
-        Err(index) => return Err(Wrong::Piece { start: 0, index }),
+    let (first, end) = match read_component(text, 0) {
+        Ok(component) => component,
+        Err(index) => return Err(Wrong::Component { start: 0, index }),
     };
     if let Err(fault) = check_first(first) {
         return Err(Wrong::Value { fault, end });
@@ -118,9 +118,9 @@ const fn read_root(text: &[u8]) -> result::Result<(u64, usize), Wrong> {
         let fault = Error::Empty;
         return Err(Wrong::Value { fault, end });
     }
-    let (second, end) = match read_piece(text, start) {
-        Ok(piece) => piece,
-        Err(index) => return Err(Wrong::Piece { start, index }),
+    let (second, end) = match read_component(text, start) {
+        Ok(component) => component,
+        Err(index) => return Err(Wrong::Component { start, index }),
     };
     match join_root(first, second) {
         Ok(number) => Ok((number, end)),
@@ -131,7 +131,7 @@ const fn read_root(text: &[u8]) -> result::Result<(u64, usize), Wrong> {
 /// The number of the component that starts at an index, and where it ends: at a dot or at the end of the text. `Err` is
 /// where it goes wrong.
 #[inline(always)]
-const fn read_piece(text: &[u8], start: usize) -> result::Result<(Arc, usize), usize> {
+const fn read_component(text: &[u8], start: usize) -> result::Result<(Arc, usize), usize> {
     if start >= text.len() {
         return Err(start);
     }
@@ -167,7 +167,7 @@ const fn read_piece(text: &[u8], start: usize) -> result::Result<(Arc, usize), u
 /// The error of the component that starts at an index and goes wrong at another one.
 #[cold]
 #[inline(never)]
-const fn piece_fault(text: &[u8], start: usize, index: usize) -> Error {
+const fn component_fault(text: &[u8], start: usize, index: usize) -> Error {
     if index >= text.len() {
         return if start == 0 { Error::Empty } else { Error::TrailingDot };
     }

@@ -35,7 +35,7 @@ pub(crate) fn write_text(octets: &[u8], out: &mut [u8]) -> usize {
     let mut at = 1;
     // An arc is written at one place, which takes the most code.
     loop {
-        at = write_arc(arc, false, out, at);
+        at = write_arc(arc, out, at);
         if rest.is_empty() {
             return at;
         }
@@ -74,5 +74,5 @@ pub(crate) fn write_checked(octets: &[u8], out: &mut [u8]) -> Result<usize> {
 #[inline(always)]
 fn write_later(arc: Arc, out: &mut [u8], at: usize) -> usize {
     // The length of this part is a literal, so rustc checks no index in it.
-    at + write_arc(arc, false, &mut out[at..][..MAX_ARC_LEN], 0)
+    at + write_arc(arc, &mut out[at..][..MAX_ARC_LEN], 0)
 }
