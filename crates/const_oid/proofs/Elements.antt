@@ -403,6 +403,6 @@ element_written first c n digits contents copy out some long part same form =
     omega (arith, long, part, ap length form, length-append (length_octets (length contents)) contents) in (
       end,
       element_put first c n digits contents copy out some long part same
-      ∙ ap (λ (l : List ℕ). 6 ∷ ((l ++ contents) ++ drop (2 + c + n) out)) (sym form)
-      ∙ ap (λ (k : ℕ). element contents ++ drop k out) end,
+          ∙ ap (λ (l : List ℕ). 6 ∷ ((l ++ contents) ++ drop (2 + c + n) out)) (sym form)
+          ∙ ap (λ (k : ℕ). element contents ++ drop k out) end,
     )
