@@ -8,7 +8,8 @@ abbrev pub value_256 : List ℕ → ℕ
 value_256 [] = 0
 value_256 (x ∷ xs) = x * 256 ^ length xs + value_256 xs
 
--- the octets are the length octets of a number: the short form below 128, and else the long form, whose first octet is 128 plus how many follow, and not 255; the next octet is not 0, so they are the fewest
+-- the octets are the length octets of n: below 128, the one octet n; else the first one is 128 plus the number of those
+-- that follow, and not 255, and these are n in base 256, and do not begin with 0, so they are the fewest
 abbrev pub IsLength : ℕ → List ℕ → Type 0
 IsLength n [] = ⊥
 IsLength n (x ∷ []) = (n < 128) × (x ≡ n)

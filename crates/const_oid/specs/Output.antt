@@ -13,16 +13,16 @@ written_over items old = items ++ drop (length items) old
 abbrev pub WritesAll : {X : Type 0} → List X → List X → List X → ℕ → Type 0
 WritesAll items old new len = (len ≡ length items) × (new ≡ written_over items old)
 
--- so are they if they fit, and the result is None exactly if they are more than the output has
+-- the same if the output has room for them, and the result is None exactly if it has not
 abbrev pub Writes : {X : Type 0} → List X → List X → List X → Option ℕ → Type 0
 Writes items old new result = MatchOption result (length old < length items) (WritesAll items old new)
 
--- the result is the items, which fit, or None exactly if they are more than the output has
+-- the result is the items, for which the output has room, or None exactly if it has not
 abbrev pub Returns : List ℕ → List ℕ → Option (Bor (List ℕ)) → Type 0
 Returns items old result = MatchOption result (length old < length items)
     (λ written. (written.now ≡ items) × (length items ≤ length old))
 
--- a length is that of the encoding of an answer's arcs, which fits a capacity, and is written if the output has that
+-- the encoding of the arcs that are read has this length and fits a capacity, and is written if the output has that
 pub record IsEncodedIn (capacity : ℕ) (read : Result (List ℕ) Error) (old new : List ℕ) (len : ℕ) : Type 0 where
   pub octets : List ℕ
   pub encoding : IsEncoding root_rule (arcs_of_octets octets) octets
@@ -31,7 +31,7 @@ pub record IsEncodedIn (capacity : ℕ) (read : Result (List ℕ) Error) (old ne
   pub within : len ≤ capacity
   pub begins : capacity ≤ length old → new ≡ written_over octets old
 
--- the result is such a length, or the answer's fault
+-- the result is such a length, or the fault of what is read
 abbrev pub WritesEncoding : ℕ → Result (List ℕ) Error → List ℕ → List ℕ → Result ℕ Error → Type 0
-WritesEncoding capacity answer old new result =
-    MatchResult result (IsEncodedIn capacity answer old new) (λ fault. answer ≡ Err fault)
+WritesEncoding capacity read old new result =
+    MatchResult result (IsEncodedIn capacity read old new) (λ fault. read ≡ Err fault)

@@ -44,14 +44,14 @@ pub record IsFirstUnsorted (items : List Octets) (index : ℕ) : Type 0 where
   pub sorted : IsSortedList octets_at (take index items)
   pub unsorted : IsSortedList octets_at (take (index + 1) items) → ⊥
 
--- none of so many items
+-- none of `count` items
 abbrev pub none_of : ℕ → Status
 none_of count = record none_status { len = count }
 
--- the status of an index, if there is one, or that none of so many items is found
+-- the status of an index, if there is one, or that none of `count` items is found
 abbrev pub index_status : ℕ → Option ℕ → Status
 index_status count index = option_map_or len_status index (none_of count)
 
--- the status is that of an index of so many items, or that none of them is found
+-- the status is that of an index of `count` items, or that none of them is found
 abbrev pub IsIndexOrNone : ℕ → Status → Type 0
 IsIndexOrNone count status = ((status ≡ len_status status.len) × (status.len < count)) ⊎ (status ≡ none_of count)

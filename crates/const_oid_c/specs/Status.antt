@@ -27,11 +27,11 @@ not_utf8_status = code_status 11
 abbrev pub none_status : Status
 none_status = code_status 12
 
--- the output is too short for so many items
+-- the output is too short for `len` items
 abbrev pub too_short_status : ℕ → Status
 too_short_status len = record { code = 10; detail = 0; len = len }
 
--- so many items were written or counted
+-- `len` items were written or counted
 abbrev pub len_status : ℕ → Status
 len_status len = record { code = 0; detail = 0; len = len }
 

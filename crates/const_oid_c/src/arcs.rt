@@ -122,7 +122,7 @@ pub extern "C" fn const_oid_arcs_from(octets: &[u8], first: usize, out: &mut [u3
     }
 }
 
-/// The arcs after so many.
+/// The arcs after the first `count`.
 fn skip_arcs(arcs: Arcs<'_>, count: usize) -> Arcs<'_>
     ensures { result ≡ drop count arcs.entry }
 {

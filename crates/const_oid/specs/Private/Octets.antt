@@ -53,8 +53,8 @@ IsAppended capacity number octets longer result = MatchResult result
     (λ _. (length octets + width number ≤ capacity) × GoesOn number octets longer)
     (λ fault. (fault ≡ Length) × (capacity < length octets + width number) × (longer ≡ octets))
 
--- the first octets of a slice, `used` ones, go on by the subidentifier of a number if it fits a capacity that the slice
--- has; the result is how many there are then, or `Length` if it does not fit
+-- the first `used` octets of a slice go on by the subidentifier of a number if it fits a capacity that the slice has;
+-- the result is how many there are then, or `Length` if it does not fit
 abbrev pub AppendsTo : ℕ → ℕ → ℕ → List ℕ → List ℕ → Result ℕ Error → Type 0
 AppendsTo capacity number used out longer result = MatchResult result
     (λ end. (end ≡ used + width number) × (end ≤ capacity)

@@ -86,7 +86,7 @@ pub fn const_oid_arcs_from(octets: &[u8], first: usize, out: &mut crate::edge::O
     }
 }
 
-/// The arcs after so many.
+/// The arcs after the first `count`.
 fn skip_arcs(arcs: Arcs<'_>, count: usize) -> Arcs<'_> {
     let mut left = arcs;
     if count > 0 {

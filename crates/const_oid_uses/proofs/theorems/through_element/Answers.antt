@@ -1,4 +1,4 @@
-use Rattle.std.proofs.Common.{◌≡◌, ◌≢◌, ℕ, ◌≤◌, List, ◌++◌, length, drop, ap, ◌∙◌, arith, subst}
+use Rattle.std.proofs.Common.{◌≡◌, ◌≢◌, ℕ, ◌≤◌, List, ◌++◌, length, drop, ap, ◌∙◌, sym, arith, subst, length-append}
 use Rattle.std.specs.Borrow.{Bor}
 use Rattle.std.specs.Prelude.{Option, None, Some, Result, Ok, Err, MatchOption, IsSomeAnd, IsOkAnd}
 use Rattle.const_oid.specs.declared.error.Error.{Error}
@@ -34,7 +34,5 @@ again oid rest der (Some (Err fault, after)) fits written reads =
 
 pub returns-clause-again : goal.returns-clause-again
 returns-clause-again c =
-    let written = c.in_ok-write_element.ensures in
-    let rest = drop c.in_ok-write_element.field-0 c.args.out.now in
-    subst (λ (len : ℕ). IsSomeAnd c.read_element.result (IsAgain c.args.oid (drop len c.args.out.now))) written.cases
-    (again c.args.oid rest _ c.read_element.result (omega arith) written.written c.read_element.ensures)
+    let rest = drop (length (element (ref_octets c.args.oid))) c.args.out.now in
+    again c.args.oid rest _ c.read_element.result (omega arith) c.in_ok-write_element.ensures.written.1 c.read_element.ensures
