@@ -120,7 +120,7 @@ impl<const SIZE: usize> Buffer<SIZE> {
     {
         // Zeros are stored in the copy itself: a second copy would wait for that store.
         let mut buffer = *self;
-        clear(&mut buffer.bytes, len, self.used as usize);
+        zero_range(&mut buffer.bytes, len, self.used as usize);
         buffer.used = len as u8;
         buffer
     }
@@ -221,7 +221,7 @@ impl<const SIZE: usize> Buffer<SIZE> {
 
 /// Sets the octets from one index to another to zero. Those after them are zero.
 #[inline(always)]
-fn clear(octets: &mut [u8], start: usize, end: usize)
+fn zero_range(octets: &mut [u8], start: usize, end: usize)
     requires order { start ≤ end }
     requires within { end ≤ length octets.old }
     requires zeros { drop end octets.old ≡ replicate (length octets.old - end) 0 }

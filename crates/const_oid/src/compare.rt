@@ -8,7 +8,7 @@ ghost use Rattle.const_oid.specs.Orders.{parts_cmp};
 ghost use Rattle.const_oid.specs.Private.Octets.{lens_cmp, length_at};
 ghost use Rattle.const_oid.specs.Private.Prefixes.{IsCommonPrefix};
 
-use crate::fast::comparison::{are_equal, lesser, order_of_numbers, same_start, same_until};
+use crate::fast::comparison::{are_equal, lesser, order_of_numbers, same_start, first_difference};
 use crate::fast::words::WORD_OCTETS;
 use crate::parts::{first_octets, without_last_part};
 use std::cmp::Ordering;
@@ -26,7 +26,7 @@ pub(crate) fn begins_with(octets: &[u8], prefix: &[u8]) -> bool
     let (start, _) = octets.split_at(prefix.len());
     if prefix.len() < WORD_OCTETS {
         // The first octet first, since most identifiers begin with a prefix or differ at its start.
-        return same_until(prefix, start, 0, prefix.len()) == prefix.len();
+        return first_difference(prefix, start, 0, prefix.len()) == prefix.len();
     }
     are_equal(prefix, start)
 }
@@ -43,7 +43,7 @@ pub fn order_by_parts(a: &[u8], b: &[u8]) -> Ordering
     ensures { result ≡ parts_cmp a.now b.now }
 {
     let near = lesser(a.len(), b.len());
-    let i = same_until(a, b, same_start(a, b), near);
+    let i = first_difference(a, b, same_start(a, b), near);
     if i == near {
         return order_of_numbers(a.len(), b.len());
     }
@@ -103,7 +103,7 @@ pub(crate) fn common_parts<'a>(octets: &'a [u8], others: &[u8]) -> &'a [u8]
     ensures { IsCommonPrefix octets.now others.now result.now }
 {
     let near = octets.len().min(others.len());
-    let same = same_until(octets, others, same_start(octets, others), near);
+    let same = first_difference(octets, others, same_start(octets, others), near);
     if same == octets.len() {
         return octets;
     }

@@ -23,7 +23,7 @@ use crate::encoder::{ONE_PASS_ARCS, encode_in_one_pass, encode_slice};
 use crate::error::{Error, Result};
 use crate::fast::comparison::{are_equal, order};
 use crate::fast::lanes::count_below;
-use crate::fast::steps::run_of;
+use crate::fast::steps::gallop;
 use crate::parser::{
     ONE_PASS_BYTES, fault_and_index, parse_in_one_pass, parse_to, parse_to_inlined,
 };
@@ -598,7 +598,7 @@ impl<'a> ObjectIdentifierRef<'a> {
             BeginsWith (ref_arcs oid) (ref_arcs self.now) ↔ ((result.0 ≤ k) × (k < result.1))) }
     {
         let from = sorted.partition_point(|oid| order(oid.as_bytes(), self.ber).is_lt());
-        let inside = run_of(&sorted[from..], |oid| oid.as_bytes().starts_with(self.ber));
+        let inside = gallop(&sorted[from..], |oid| oid.as_bytes().starts_with(self.ber));
         (from, from + inside)
     }
 

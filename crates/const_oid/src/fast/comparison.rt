@@ -118,7 +118,7 @@ fn order_by_octet(a: &[u8], b: &[u8]) -> Ordering
     ensures { result ≡ slice_cmp nat_cmp a.now b.now }
 {
     let near = a.len().min(b.len());
-    let i = same_until(a, b, 0, near);
+    let i = first_difference(a, b, 0, near);
     if i < near {
         return a[i].cmp(&b[i]);
     }
@@ -146,7 +146,7 @@ pub(crate) fn same_start(a: &[u8], b: &[u8]) -> usize
 /// all octets.
 #[tactic(auto, using(crate::proofs::Shortlex::after_same, crate::proofs::ByParts::same_up_to))]
 #[inline(always)]
-pub(crate) const fn same_until(a: &[u8], b: &[u8], start: usize, end: usize) -> usize
+pub(crate) const fn first_difference(a: &[u8], b: &[u8], start: usize, end: usize) -> usize
     requires ends { end ≤ min (length a.now) (length b.now) }
     requires starts { (start ≤ end) × (take start a.now ≡ take start b.now) }
     ensures within { result ≤ end }
