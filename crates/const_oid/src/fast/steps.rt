@@ -1,4 +1,4 @@
-//! How many of the first items of a list pass a test, by steps that grow.
+//! How many of the first items of a list pass a test, by galloping search: steps that grow, and then halves.
 
 ghost use Rattle.std.specs.Prelude.{◌≡◌, ◌≤◌, Bool, length, true, false};
 ghost use Rattle.std.specs.Fn.{ComputesKey};

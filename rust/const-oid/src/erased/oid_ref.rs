@@ -12,7 +12,7 @@ use crate::erased::encoder::{ONE_PASS_ARCS, encode_in_one_pass, encode_slice};
 use crate::erased::error::{Error, Result};
 use crate::erased::fast::comparison::{are_equal, order};
 use crate::erased::fast::lanes::count_below;
-use crate::erased::fast::steps::run_of;
+use crate::erased::fast::steps::gallop;
 use crate::erased::parser::{ONE_PASS_BYTES, fault_and_index, parse_in_one_pass, parse_to, parse_to_inlined};
 use crate::erased::parts::without_last_part;
 use crate::erased::root::split_root;
@@ -495,7 +495,7 @@ impl ObjectIdentifierRef {
     #[must_use]
     pub fn subtree(&self, sorted: &[&ObjectIdentifierRef]) -> (usize, usize) {
         let from = sorted.partition_point(|oid| order(oid.as_bytes(), self.as_bytes()).is_lt());
-        let inside = run_of(&sorted[from..], |oid| oid.as_bytes().starts_with(self.as_bytes()));
+        let inside = gallop(&sorted[from..], |oid| oid.as_bytes().starts_with(self.as_bytes()));
         (from, from + inside)
     }
 

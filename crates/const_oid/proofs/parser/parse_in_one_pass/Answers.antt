@@ -11,4 +11,4 @@ returns-in_err-len-clause-answer c =
 pub returns-clause-answer : goal.returns-clause-answer
 returns-clause-answer c =
     let same = text_bounded root_rule c.args.text.now c.min.result (length c.args.out.now) 64 (omega arith) (omega arith) in
-    copied c.in_ok-len.ensures (omega arith) (omega arith) same c.copy_to.ensures
+    copied c.in_ok-len.ensures (omega arith) (omega arith) same c.copy_from_slice.ensures.after
