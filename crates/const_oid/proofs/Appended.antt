@@ -108,9 +108,9 @@ unused {used} size bytes none within zeros =
 pub ruleset buffered = (taken, drop-replicate)
 
 -- the octets of a slice that has the capacity, copied to the start of another one
-pub copied : {capacity room len : ℕ} {read answer : Result (List ℕ) Error} {old new out longer : List ℕ}
+pub copied : {capacity room len : ℕ} {read answer : Result (List ℕ) Error} {old new out part : List ℕ}
     → IsEncodedIn capacity read old new len → capacity ≤ length old → capacity ≤ room → read ≡ answer
-    → longer ≡ written_over (take len new) out → IsEncodedIn room answer out longer len
+    → part ≡ take len new → IsEncodedIn room answer out (part ++ drop len out) len
 copied {len} {old} {new} {out} is within less same copy =
     let front : take len new ≡ is.octets = rw (is.long, is.begins within) (take-append_seam is.octets (drop (length is.octets) old)) in
     record {
@@ -119,7 +119,7 @@ copied {len} {old} {new} {out} is within less same copy =
       answer = sym same ∙ is.answer;
       long = is.long;
       within = omega (arith, is.within);
-      begins = λ room. rw front at copy;
+      begins = λ room. rw (copy, front, is.long) refl;
     }
 
 pub counted : (capacity : ℕ) (read : Result (List ℕ) Error) (old new : List ℕ) (result : Result ℕ Error)

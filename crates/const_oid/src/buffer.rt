@@ -15,6 +15,7 @@ use crate::base128::append_group;
 use crate::encoder::encode_inlined;
 use crate::error::{Error, Result};
 use crate::fast::comparison::{are_arrays_equal, order};
+// erase: omit
 use crate::fast::copies::copy_to;
 use crate::parser::{fault_of, parse_inlined};
 use std::cmp::Ordering;
@@ -126,7 +127,7 @@ impl<const SIZE: usize> Buffer<SIZE> {
     {
         // Zeros are stored in the copy itself: a second copy would wait for that store.
         let mut buffer = *self;
-        clear(&mut buffer.bytes, len, self.used as usize);
+        zero_range(&mut buffer.bytes, len, self.used as usize);
         buffer.used = len as u8;
         buffer
     }
@@ -201,19 +202,18 @@ impl<const SIZE: usize> Buffer<SIZE> {
     }
 }
 
-/// Sets the octets from one index to another to zero. Those after them are zero.
+/// Sets the octets from `start` to `end` to zero. Those from `end` on must be zero: zeros may be stored there again.
 #[inline(always)]
-fn clear(octets: &mut [u8], start: usize, end: usize)
+fn zero_range(octets: &mut [u8], start: usize, end: usize)
     requires order { start ≤ end }
     requires within { end ≤ length octets.old }
     requires zeros { drop end octets.old ≡ replicate (length octets.old - end) 0 }
     ensures { octets.new ≡ take start octets.old ++ replicate (length octets.old - start) 0 }
 {
-    // This always holds. rustc does not know it, and would make panics.
+    // This always holds, but rustc does not know it: without the test it would make a panic.
     if start <= octets.len() {
         let (_, rest) = octets.split_at_mut(start);
-        // The length of this part is a literal: zeros are stored at once, and zeros after them again. It takes no call
-        // of `memset`.
+        // Eight octets, a literal, take one store. Any other number takes a call of `memset`.
         if end - start <= 8 && rest.len() >= 8 {
             rest[..8].fill(0);
         } else {

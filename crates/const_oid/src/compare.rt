@@ -1,6 +1,8 @@
 //! How slices of octets and names compare.
 
-ghost use Rattle.std.specs.Prelude.{◌≡◌, ◌↔◌, ℕ, ◌<◌, ◌≤◌, List, ◌++◌, length, min, None, IsFalse, IsTrue};
+ghost use Rattle.std.specs.Prelude.{◌≡◌, ◌≢◌, ◌↔◌, ℕ, ◌<◌, ◌≤◌, List, ◌++◌, length, slice_index, take, drop, min, None, IsFalse, IsTrue};
+ghost use Rattle.std.specs.Cmp.Lexicographic.{slice_cmp};
+ghost use Rattle.std.specs.Ordering.{nat_cmp};
 ghost use Rattle.std.specs.Str.{str_eq_ignore_ascii_case};
 ghost use Rattle.const_oid.specs.Contents.{cut, parts_fault};
 ghost use Rattle.const_oid.specs.Identifier.{root_rule};
@@ -8,7 +10,7 @@ ghost use Rattle.const_oid.specs.Orders.{parts_cmp};
 ghost use Rattle.const_oid.specs.Private.Octets.{lens_cmp, length_at};
 ghost use Rattle.const_oid.specs.Private.Prefixes.{IsCommonPrefix};
 
-use crate::fast::comparison::{are_equal, lesser, order_of_numbers, same_start, same_until};
+use crate::fast::comparison::{are_equal, same_start};
 use crate::fast::words::WORD_OCTETS;
 use crate::parts::{first_octets, without_last_part};
 use std::cmp::Ordering;
@@ -26,7 +28,7 @@ pub(crate) fn begins_with(octets: &[u8], prefix: &[u8]) -> bool
     let (start, _) = octets.split_at(prefix.len());
     if prefix.len() < WORD_OCTETS {
         // The first octet first, since most identifiers begin with a prefix or differ at its start.
-        return same_until(prefix, start, 0, prefix.len()) == prefix.len();
+        return first_difference(prefix, start, 0, prefix.len()) == prefix.len();
     }
     are_equal(prefix, start)
 }
@@ -43,7 +45,7 @@ pub fn order_by_parts(a: &[u8], b: &[u8]) -> Ordering
     ensures { result ≡ parts_cmp a.now b.now }
 {
     let near = lesser(a.len(), b.len());
-    let i = same_until(a, b, same_start(a, b), near);
+    let i = first_difference(a, b, same_start(a, b, near), near);
     if i == near {
         return order_of_numbers(a.len(), b.len());
     }
@@ -56,7 +58,7 @@ pub fn order_by_parts(a: &[u8], b: &[u8]) -> Ordering
     }
 }
 
-/// The order of the lengths of the subidentifiers that begin at an index. They are read in turn.
+/// The order of the lengths of the subidentifiers that begin at `start`. They are read in turn.
 // erase: const
 #[inline(always)]
 fn order_of_lens(a: &[u8], b: &[u8], start: usize) -> Ordering
@@ -85,7 +87,7 @@ fn order_of_lens(a: &[u8], b: &[u8], start: usize) -> Ordering
     order_of_numbers(a.len(), b.len())
 }
 
-/// Whether a subidentifier ends at an index: its octet is below 128, or the last one.
+/// Whether a subidentifier ends at `index`: its octet is below 128, or the last one.
 // erase: const
 #[tactic(auto, using(crate::proofs::ByParts::part_ends))]
 #[inline(always)]
@@ -103,7 +105,7 @@ pub(crate) fn common_parts<'a>(octets: &'a [u8], others: &[u8]) -> &'a [u8]
     ensures { IsCommonPrefix octets.now others.now result.now }
 {
     let near = octets.len().min(others.len());
-    let same = same_until(octets, others, same_start(octets, others), near);
+    let same = first_difference(octets, others, same_start(octets, others, near), near);
     if same == octets.len() {
         return octets;
     }
@@ -126,4 +128,48 @@ pub(crate) const fn is_same_name(a: &str, b: &str) -> bool
         index += 1;
     }
     true
+}
+
+/// The first index from `start` up to `end` at which the octets differ, or `end` if there is none. Before `start` they
+/// must be the same. So both orders of all octets are those of the octets from the result on.
+#[tactic(auto, using(crate::proofs::Shortlex::after_same, crate::proofs::ByParts::same_up_to))]
+#[inline(always)]
+const fn first_difference(a: &[u8], b: &[u8], start: usize, end: usize) -> usize
+    requires ends { end ≤ min (length a.now) (length b.now) }
+    requires starts { (start ≤ end) × (take start a.now ≡ take start b.now) }
+    ensures within { result ≤ end }
+    ensures same { take result a.now ≡ take result b.now }
+    ensures unequal { result < end → slice_index a.now result ≢ slice_index b.now result }
+    ensures order { slice_cmp nat_cmp a.now b.now ≡ slice_cmp nat_cmp (drop result a.now) (drop result b.now) }
+    ensures by_parts { parts_cmp a.now b.now ≡ parts_cmp (drop result a.now) (drop result b.now) }
+{
+    let mut index = start;
+    while index < end {
+        if a[index] != b[index] {
+            return index;
+        }
+        index += 1;
+    }
+    end
+}
+
+/// The lesser of two numbers: constants cannot call `usize::min`.
+#[inline(always)]
+const fn lesser(a: usize, b: usize) -> usize
+    ensures { result ≡ min a b }
+{
+    if a < b { a } else { b }
+}
+
+/// The order of two numbers: constants cannot call `usize::cmp`.
+#[inline(always)]
+const fn order_of_numbers(a: usize, b: usize) -> Ordering
+    ensures { result ≡ nat_cmp a b }
+{
+    // Two branches in its place take more instructions: SPEED's table of searches.
+    match (a > b) as i8 - (a < b) as i8 {
+        -1 => Ordering::Less,
+        0 => Ordering::Equal,
+        _ => Ordering::Greater,
+    }
 }

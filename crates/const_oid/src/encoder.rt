@@ -10,7 +10,6 @@ ghost use Rattle.const_oid.specs.Private.Encoder.{EncodesItems};
 use crate::Arc;
 use crate::base128::append_group;
 use crate::error::{Error, Result};
-use crate::parts::copy_to;
 use crate::root::{check_first, join_root};
 
 /// `encode_inlined` of a slice of arcs, but not inlined: it is compiled once for all calls.
@@ -38,7 +37,7 @@ pub(crate) fn encode_in_one_pass(arcs: &[Arc], out: &mut [u8]) -> Result<usize>
 {
     let mut octets = [0; ONE_PASS_OCTETS];
     let len = encode(arcs, &mut octets, out.len().min(ONE_PASS_OCTETS))?;
-    copy_to(&octets[..len], out);
+    out[..len].copy_from_slice(&octets[..len]);
     Ok(len)
 }
 

@@ -23,7 +23,7 @@ use crate::element::{element_len, split_element, write_element};
 use crate::error::{Error, Result};
 use crate::fast::comparison::{are_equal, order};
 use crate::fast::lanes::count_below;
-use crate::fast::steps::run_of;
+use crate::fast::steps::gallop;
 use crate::parser::{fault_and_index, parse_inlined};
 use crate::parts::without_last_part;
 use crate::root::split_root;
@@ -468,7 +468,7 @@ impl<'a> ObjectIdentifierRef<'a> {
             BeginsWith (ref_arcs oid) (ref_arcs self.now) ↔ ((result.0 ≤ k) × (k < result.1))) }
     {
         let from = sorted.partition_point(|oid| order(oid.as_bytes(), self.ber).is_lt());
-        let inside = run_of(&sorted[from..], |oid| oid.as_bytes().starts_with(self.ber));
+        let inside = gallop(&sorted[from..], |oid| oid.as_bytes().starts_with(self.ber));
         (from, from + inside)
     }
 

@@ -13,7 +13,6 @@ use crate::Arc;
 use crate::base128::append_group;
 use crate::error::{Error, Result};
 use crate::fast::lanes::count_below;
-use crate::parts::copy_to;
 use crate::root::{check_first, join_root};
 use std::result;
 
@@ -87,7 +86,7 @@ pub(crate) fn parse_in_one_pass(text: &[u8], out: &mut [u8]) -> Result<usize>
 {
     let mut octets = [0; ONE_PASS_BYTES];
     let len = parse(text, &mut octets, out.len().min(ONE_PASS_BYTES))?;
-    copy_to(&octets[..len], out);
+    out[..len].copy_from_slice(&octets[..len]);
     Ok(len)
 }
 

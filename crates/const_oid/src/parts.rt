@@ -1,9 +1,8 @@
 //! Subidentifiers in octets: where they begin, and where they end. In names, they are `parts`. What is left after the last
-//! octet below 128 is a part, too. Also the first octets of a slice, and a copy by a loop.
+//! octet below 128 is a part, too. Also the first octets of a slice.
 
 ghost use Rattle.std.specs.Prelude.{◌≡◌, ◌-◌, ◌≤◌, length, take, drop};
 ghost use Rattle.const_oid.specs.Contents.{cut};
-ghost use Rattle.const_oid.specs.Output.{written_over};
 ghost use Rattle.const_oid.specs.Private.Prefixes.{IsFinishedPrefix};
 
 /// The octets after the first `parts` subidentifiers.
@@ -22,7 +21,7 @@ pub(crate) fn skip_parts(octets: &[u8], parts: usize) -> &[u8]
     &octets[octets.len()..]
 }
 
-/// The octets before the last subidentifier: up to the last octet below 128 that others follow.
+/// The octets before the last subidentifier. They end with the last octet below 128 that is not the final octet.
 #[inline]
 pub(crate) fn without_last_part(octets: &[u8]) -> &[u8]
     ensures parts { let parts = cut octets.now in cut result.now ≡ take (length parts - 1) parts }
@@ -46,17 +45,4 @@ pub(crate) fn first_octets(octets: &[u8], len: usize) -> &[u8]
 {
     // Unlike an index, `get` compiles to no panic.
     octets.get(..len).unwrap_or(&[])
-}
-
-/// Copies octets to the start of as many or more, by a loop, which takes little code.
-#[inline(always)]
-pub(crate) fn copy_to(octets: &[u8], out: &mut [u8])
-    requires { length octets.now ≤ length out.old }
-    ensures { out.new ≡ written_over octets.now out.old }
-{
-    let mut index = 0;
-    while index < octets.len() && index < out.len() {
-        out[index] = octets[index];
-        index += 1;
-    }
 }

@@ -17,7 +17,7 @@ ghost use Rattle.const_oid.specs.Tree.{BeginsWith};
 pub use crate::compare::order_by_parts;
 use crate::compare::{begins_with, common_parts};
 use crate::fast::comparison::are_equal;
-use crate::fast::steps::run_of;
+use crate::fast::steps::gallop;
 use crate::oid_ref::ObjectIdentifierRef;
 use std::result;
 
@@ -92,7 +92,7 @@ pub fn subtree_of<T: Contents>(items: &[T], oid: &ObjectIdentifierRef<'_>) -> (u
         BeginsWith (item_arcs T.octets_of item) (ref_arcs oid.now) ↔ ((result.0 ≤ k) × (k < result.1))) }
 {
     let from = start_of(items, oid);
-    let inside = run_of(
+    let inside = gallop(
         &items[from..],
         |item| begins_with(item.contents(), oid.as_bytes()),
     );

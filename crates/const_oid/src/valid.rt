@@ -37,7 +37,7 @@ pub(crate) fn check(octets: &[u8]) -> Result<()>
     Ok(())
 }
 
-/// The index after the subidentifier of two octets or more that starts at an index, or its error.
+/// The index after the subidentifier of two octets or more that begins at `start`, or its error.
 #[tactic(auto, using(crate::proofs::PartEnds::more_at))]
 #[inline(always)]
 fn two_or_more_end(octets: &[u8], start: usize) -> Result<usize>
@@ -45,7 +45,7 @@ fn two_or_more_end(octets: &[u8], start: usize) -> Result<usize>
     requires more { 128 ≤ slice_index octets.now start }
     ensures { EndsAt octets.now start result }
 {
-    // The octet is 128. Its remainder compiles to fewer instructions.
+    // The octet is 128 or more, so this is whether it is 128. Compared with 128, it takes more instructions.
     if octets[start] % 128 == 0 {
         return Err(Error::Base128);
     }
@@ -60,7 +60,7 @@ fn two_or_more_end(octets: &[u8], start: usize) -> Result<usize>
     five_end(octets, start)
 }
 
-/// The index after the subidentifier that starts at an index, and does not end within four octets, or its error.
+/// The index after the subidentifier that begins at `start`, and does not end within four octets, or its error.
 #[tactic(auto, using(crate::proofs::PartEnds::five_ends))]
 #[inline(always)]
 fn five_end(octets: &[u8], start: usize) -> Result<usize>
@@ -84,7 +84,7 @@ fn five_end(octets: &[u8], start: usize) -> Result<usize>
     Err(Error::ArcTooBig)
 }
 
-/// Whether five octets, of the subidentifier that starts at an index, are a number in its range. Numbers below 2^32 have
+/// Whether five octets, of the subidentifier that begins at `start`, are a number in its range. Numbers below 2^32 have
 /// a first digit below 16. Those from there to the greatest first subidentifier have the digits 16, 0, 0, 0 and one below
 /// 80.
 // The number is not made, for less code: the row `from_bytes` of SPEED's sizes.

@@ -35,7 +35,6 @@ const FOR_C: &str = "the library for C calls what the API has no function for";
 const BY_CORE: &str = "`core` compares slices by `memcmp`, which takes less time, and callers inline the call";
 const BOUNDS: &str = "a bound at no cost, where Rattle keeps the default of the trait";
 const LISTED: &str = "a caller by hand lists the entries";
-const SMALL: &str = "a loop takes two hundred octets of flash less";
 const UNWRITTEN: &str = "in Rust no reference is to memory that C may not have written";
 
 pub const CRATES: &[Crate] = &[
@@ -116,7 +115,9 @@ pub const CRATES: &[Crate] = &[
             "fast/lanes": "let lanes = Simd::<u8, COUNT>::from_slice(octets).simd_lt(Simd::splat(limit));
                         lanes.to_bitmask().count_ones() as usize"
                 => "octets.iter().filter(|octet| **octet < limit).count()", LANES;
-            "buffer": "fast::copies::copy_to" => "parts::copy_to", SMALL;
+            "buffer": "copy_to(octets, &mut buffer.bytes);"
+                => "for index in 0..octets.len().min(SIZE) {\n buffer.bytes[index] = octets[index];\n }",
+                "a loop takes two hundred octets of flash less";
             "buffer": "#[derive(Copy, Clone)] pub struct Buffer"
                 => "#[derive(Copy, Clone, PartialEq, Eq)]\npub struct Buffer", EQUALITY;
             "buffer": "impl<const SIZE: usize> PartialEq for Buffer<SIZE> {

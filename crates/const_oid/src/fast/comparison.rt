@@ -1,9 +1,8 @@
 //! Equality and order of octets, by words, and below a word by octets.
 
-ghost use Rattle.std.specs.Prelude.{◌≡◌, ◌≢◌, ◌+◌, ◌<◌, ◌≤◌, length, slice_index, take, drop, min, nat_eq, MatchOption};
+ghost use Rattle.std.specs.Prelude.{◌≡◌, ◌≢◌, ◌+◌, ◌≤◌, length, take, min, nat_eq, MatchOption};
 ghost use Rattle.std.specs.Cmp.Lexicographic.{pointwise, slice_cmp};
 ghost use Rattle.std.specs.Ordering.{nat_cmp};
-ghost use Rattle.const_oid.specs.Orders.{parts_cmp};
 
 use crate::fast::words::{HALF_OCTETS, WORD_OCTETS, half_word, word};
 use std::cmp::Ordering;
@@ -117,71 +116,27 @@ pub(crate) fn order(a: &[u8], b: &[u8]) -> Ordering
 fn order_by_octet(a: &[u8], b: &[u8]) -> Ordering
     ensures { result ≡ slice_cmp nat_cmp a.now b.now }
 {
-    let near = a.len().min(b.len());
-    let i = same_until(a, b, 0, near);
-    if i < near {
-        return a[i].cmp(&b[i]);
+    for index in 0..a.len().min(b.len()) {
+        if a[index] != b[index] {
+            return a[index].cmp(&b[index]);
+        }
     }
     a.len().cmp(&b.len())
 }
 
-/// How many of the first octets are known to be the same: a word, half a word or none.
+/// How many of the first `near` octets are found to be the same: a word, half a word or none.
 // erase: const
 #[inline(always)]
-pub(crate) fn same_start(a: &[u8], b: &[u8]) -> usize
-    ensures within { result ≤ min (length a.now) (length b.now) }
+pub(crate) fn same_start(a: &[u8], b: &[u8], near: usize) -> usize
+    requires { near ≤ min (length a.now) (length b.now) }
+    ensures within { result ≤ near }
     ensures same { take result a.now ≡ take result b.now }
 {
-    let near = lesser(a.len(), b.len());
     if near >= WORD_OCTETS && word(a, 0) == word(b, 0) {
         WORD_OCTETS
     } else if near >= HALF_OCTETS && half_word(a) == half_word(b) {
         HALF_OCTETS
     } else {
         0
-    }
-}
-
-/// The first index from `start` on at which the octets differ, or `end`. The octets from there on have the orders of
-/// all octets.
-#[tactic(auto, using(crate::proofs::Shortlex::after_same, crate::proofs::ByParts::same_up_to))]
-#[inline(always)]
-pub(crate) const fn same_until(a: &[u8], b: &[u8], start: usize, end: usize) -> usize
-    requires ends { end ≤ min (length a.now) (length b.now) }
-    requires starts { (start ≤ end) × (take start a.now ≡ take start b.now) }
-    ensures within { result ≤ end }
-    ensures same { take result a.now ≡ take result b.now }
-    ensures unequal { result < end → slice_index a.now result ≢ slice_index b.now result }
-    ensures order { slice_cmp nat_cmp a.now b.now ≡ slice_cmp nat_cmp (drop result a.now) (drop result b.now) }
-    ensures by_parts { parts_cmp a.now b.now ≡ parts_cmp (drop result a.now) (drop result b.now) }
-{
-    let mut index = start;
-    while index < end {
-        if a[index] != b[index] {
-            return index;
-        }
-        index += 1;
-    }
-    end
-}
-
-/// The lesser of two numbers: `usize::min` is not for constants.
-#[inline(always)]
-pub(crate) const fn lesser(a: usize, b: usize) -> usize
-    ensures { result ≡ min a b }
-{
-    if a < b { a } else { b }
-}
-
-/// The order of two numbers: `usize::cmp` is not for constants.
-#[inline(always)]
-pub(crate) const fn order_of_numbers(a: usize, b: usize) -> Ordering
-    ensures { result ≡ nat_cmp a b }
-{
-    // Two branches in its place take more instructions: SPEED's table of searches.
-    match (a > b) as i8 - (a < b) as i8 {
-        -1 => Ordering::Less,
-        0 => Ordering::Equal,
-        _ => Ordering::Greater,
     }
 }

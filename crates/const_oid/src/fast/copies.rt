@@ -3,7 +3,7 @@
 ghost use Rattle.std.specs.Prelude.{◌≡◌, ◌*◌, ◌≤◌, length};
 ghost use Rattle.const_oid.specs.Output.{written_over};
 
-/// Copies octets to the start of as many or more, as `parts::copy_to` does by a loop.
+/// Copies octets to the start of `out`, which has room for them.
 #[inline(always)]
 pub(crate) fn copy_to(octets: &[u8], out: &mut [u8])
     requires { length octets.now ≤ length out.old }

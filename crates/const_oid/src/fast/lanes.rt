@@ -12,7 +12,7 @@ pub(crate) fn count_below(octets: &[u8], limit: u8) -> usize
     ensures fits { result ≤ length octets.now }
 {
     let (count, rest) = count_by_32(octets, limit);
-    // Of 32 octets none is left: one test in place of five.
+    // If 32 divides the length, none is left: one test in place of the five that follow.
     if rest.is_empty() {
         return count;
     }

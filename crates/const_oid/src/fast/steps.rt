@@ -1,4 +1,4 @@
-//! How many of the first items of a list pass a test, by steps that grow.
+//! How many of the first items of a list pass a test, by galloping search: steps that grow, and then halves.
 
 ghost use Rattle.std.specs.Prelude.{◌≡◌, ◌≤◌, Bool, length, true, false};
 ghost use Rattle.std.specs.Fn.{ComputesKey};
@@ -7,7 +7,7 @@ ghost use Rattle.std.specs.List.Sorted.{IsPartitionPoint, IsPartitionedBy};
 /// How many of the first items pass a test that no item passes after one that fails it.
 ///
 /// A run of n items, one or more, takes at most 4/3 log2(n) + 7 tests, however many items follow.
-pub(crate) fn run_of<T, P: FnMut(&T) -> bool>(items: &[T], mut test: P) -> usize
+pub(crate) fn gallop<T, P: FnMut(&T) -> bool>(items: &[T], mut test: P) -> usize
     requires { P.IsAlwaysCallable test }
     ensures within { result ≤ length items.now }
     ensures cut { (p : T → Bool) → ComputesKey P.FnMut p test → IsPartitionedBy p items.now

@@ -10,7 +10,7 @@ pub(crate) const WORD_OCTETS: usize = 8;
 /// How many octets half a word has.
 pub(crate) const HALF_OCTETS: usize = 4;
 
-/// The eight octets from an index on as a big-endian number: so words have the lexicographic order of their octets.
+/// The eight octets from `at` on as a big-endian number: so words have the lexicographic order of their octets.
 // erase: const
 #[inline(always)]
 pub(crate) fn word(octets: &[u8], at: usize) -> u64

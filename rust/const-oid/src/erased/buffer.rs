@@ -8,7 +8,6 @@ use crate::erased::encoder::encode_inlined;
 use crate::erased::error::{Error, Result};
 use crate::erased::fast::comparison::{are_arrays_equal, order};
 use crate::erased::parser::{fault_of, parse_inlined};
-use crate::erased::parts::copy_to;
 use core::cmp::Ordering;
 use core::hash::{Hash, Hasher};
 
@@ -74,7 +73,9 @@ impl<const SIZE: usize> Buffer<SIZE> {
     #[inline(always)]
     pub(crate) fn copied(octets: &[u8]) -> Self {
         let mut buffer = Buffer::empty();
-        copy_to(octets, &mut buffer.bytes);
+        for index in 0..octets.len().min(SIZE) {
+            buffer.bytes[index] = octets[index];
+        }
         buffer.used = octets.len() as u8;
         buffer
     }
@@ -84,7 +85,7 @@ impl<const SIZE: usize> Buffer<SIZE> {
     pub(crate) fn truncated(&self, len: usize) -> Self {
         // Zeros are stored in the copy itself: a second copy would wait for that store.
         let mut buffer = *self;
-        clear(&mut buffer.bytes, len, self.used as usize);
+        zero_range(&mut buffer.bytes, len, self.used as usize);
         buffer.used = len as u8;
         buffer
     }
@@ -144,14 +145,13 @@ impl<const SIZE: usize> Buffer<SIZE> {
     }
 }
 
-/// Sets the octets from one index to another to zero. Those after them are zero.
+/// Sets the octets from `start` to `end` to zero. Those from `end` on must be zero: zeros may be stored there again.
 #[inline(always)]
-fn clear(octets: &mut [u8], start: usize, end: usize) {
-    // This always holds. rustc does not know it, and would make panics.
+fn zero_range(octets: &mut [u8], start: usize, end: usize) {
+    // This always holds, but rustc does not know it: without the test it would make a panic.
     if start <= octets.len() {
         let (_, rest) = octets.split_at_mut(start);
-        // The length of this part is a literal: zeros are stored at once, and zeros after them again. It takes no call
-        // of `memset`.
+        // Eight octets, a literal, take one store. Any other number takes a call of `memset`.
         if end - start <= 8 && rest.len() >= 8 {
             rest[..8].fill(0);
         } else {

@@ -2,7 +2,7 @@
 
 //! How slices of octets and names compare.
 
-use crate::erased::fast::comparison::{are_equal, lesser, order_of_numbers, same_start, same_until};
+use crate::erased::fast::comparison::{are_equal, same_start};
 use crate::erased::fast::words::WORD_OCTETS;
 use crate::erased::parts::{first_octets, without_last_part};
 use core::cmp::Ordering;
@@ -16,7 +16,7 @@ pub(crate) const fn begins_with(octets: &[u8], prefix: &[u8]) -> bool {
     let (start, _) = octets.split_at(prefix.len());
     if prefix.len() < WORD_OCTETS {
         // The first octet first, since most identifiers begin with a prefix or differ at its start.
-        return same_until(prefix, start, 0, prefix.len()) == prefix.len();
+        return first_difference(prefix, start, 0, prefix.len()) == prefix.len();
     }
     are_equal(prefix, start)
 }
@@ -30,7 +30,7 @@ pub(crate) const fn begins_with(octets: &[u8], prefix: &[u8]) -> bool {
 #[must_use]
 pub const fn order_by_parts(a: &[u8], b: &[u8]) -> Ordering {
     let near = lesser(a.len(), b.len());
-    let i = same_until(a, b, same_start(a, b), near);
+    let i = first_difference(a, b, same_start(a, b, near), near);
     if i == near {
         return order_of_numbers(a.len(), b.len());
     }
@@ -43,7 +43,7 @@ pub const fn order_by_parts(a: &[u8], b: &[u8]) -> Ordering {
     }
 }
 
-/// The order of the lengths of the subidentifiers that begin at an index. They are read in turn.
+/// The order of the lengths of the subidentifiers that begin at `start`. They are read in turn.
 #[inline(always)]
 const fn order_of_lens(a: &[u8], b: &[u8], start: usize) -> Ordering {
     let near = lesser(a.len(), b.len());
@@ -60,7 +60,7 @@ const fn order_of_lens(a: &[u8], b: &[u8], start: usize) -> Ordering {
     order_of_numbers(a.len(), b.len())
 }
 
-/// Whether a subidentifier ends at an index: its octet is below 128, or the last one.
+/// Whether a subidentifier ends at `index`: its octet is below 128, or the last one.
 #[inline(always)]
 const fn ends_at(octets: &[u8], index: usize) -> bool {
     octets[index] < 128 || index + 1 == octets.len()
@@ -69,7 +69,7 @@ const fn ends_at(octets: &[u8], index: usize) -> bool {
 /// The subidentifiers that valid octets and others begin with, up to the first that differs.
 pub(crate) fn common_parts<'a>(octets: &'a [u8], others: &[u8]) -> &'a [u8] {
     let near = octets.len().min(others.len());
-    let same = same_until(octets, others, same_start(octets, others), near);
+    let same = first_difference(octets, others, same_start(octets, others, near), near);
     if same == octets.len() {
         return octets;
     }
@@ -90,4 +90,35 @@ pub(crate) const fn is_same_name(a: &str, b: &str) -> bool {
         index += 1;
     }
     true
+}
+
+/// The first index from `start` up to `end` at which the octets differ, or `end` if there is none. Before `start` they
+/// must be the same. So both orders of all octets are those of the octets from the result on.
+#[inline(always)]
+const fn first_difference(a: &[u8], b: &[u8], start: usize, end: usize) -> usize {
+    let mut index = start;
+    while index < end {
+        if a[index] != b[index] {
+            return index;
+        }
+        index += 1;
+    }
+    end
+}
+
+/// The lesser of two numbers: constants cannot call `usize::min`.
+#[inline(always)]
+const fn lesser(a: usize, b: usize) -> usize {
+    if a < b { a } else { b }
+}
+
+/// The order of two numbers: constants cannot call `usize::cmp`.
+#[inline(always)]
+const fn order_of_numbers(a: usize, b: usize) -> Ordering {
+    // Two branches in its place take more instructions: SPEED's table of searches.
+    match (a > b) as i8 - (a < b) as i8 {
+        -1 => Ordering::Less,
+        0 => Ordering::Equal,
+        _ => Ordering::Greater,
+    }
 }

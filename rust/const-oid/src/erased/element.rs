@@ -31,8 +31,8 @@ fn read_length(octets: &[u8]) -> Option<(u64, &[u8])> {
     }
 }
 
-/// The length in the first `count` octets, and the octets after it. `None` if fewer octets would do, if there are more
-/// than eight or if they are not all there.
+/// The length in `count` octets, and the octets after it. `None` if fewer would do, if `count` is above eight or if
+/// they are not all there.
 fn read_long_length(count: usize, octets: &[u8]) -> Option<(u64, &[u8])> {
     if count > 8 || count > octets.len() {
         return None;

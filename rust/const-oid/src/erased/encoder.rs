@@ -5,7 +5,6 @@
 use crate::erased::Arc;
 use crate::erased::base128::append_group;
 use crate::erased::error::{Error, Result};
-use crate::erased::parts::copy_to;
 use crate::erased::root::{check_first, join_root};
 
 /// `encode_inlined` of a slice of arcs, but not inlined: it is compiled once for all calls.
@@ -26,7 +25,7 @@ const ONE_PASS_OCTETS: usize = 5 * ONE_PASS_ARCS;
 pub(crate) fn encode_in_one_pass(arcs: &[Arc], out: &mut [u8]) -> Result<usize> {
     let mut octets = [0; ONE_PASS_OCTETS];
     let len = encode(arcs, &mut octets, out.len().min(ONE_PASS_OCTETS))?;
-    copy_to(&octets[..len], out);
+    out[..len].copy_from_slice(&octets[..len]);
     Ok(len)
 }
 

@@ -2,24 +2,23 @@
 
 //! Borrowed object identifiers.
 
-use crate::erased::Arc;
 use crate::erased::arcs::{Arcs, arc_at};
 use crate::erased::base128::read_group;
 use crate::erased::compare::{begins_with, order_by_parts};
 use crate::erased::digits::{MAX_ARC_LEN, utf8, write_arc};
 use crate::erased::element::{element_len, split_element, write_element};
-use crate::erased::encoder::{ONE_PASS_ARCS, encode, encode_in_one_pass};
 use crate::erased::error::{Error, Result};
 use crate::erased::fast::comparison::{are_equal, order};
 use crate::erased::fast::lanes::count_below;
-use crate::erased::fast::steps::run_of;
-use crate::erased::parser::{ONE_PASS_BYTES, fault_and_index, parse, parse_in_one_pass, parse_inlined};
+use crate::erased::fast::steps::gallop;
+use crate::erased::parser::{fault_and_index, parse_inlined};
 use crate::erased::parts::without_last_part;
 use crate::erased::root::split_root;
 use crate::erased::text::{text_len, write_checked, write_text};
 use crate::erased::valid::check;
+use crate::erased::{Arc, outputs};
 use core::cmp::Ordering;
-use core::{fmt, result};
+use core::fmt;
 
 /// An object identifier over the caller's contents octets, without tag and length.
 ///
@@ -124,15 +123,7 @@ impl ObjectIdentifierRef {
         &self.ber
     }
 
-    /// The length in octets of the element that [`write_element`](Self::write_element) writes.
-    ///
-    /// # Examples
-    ///
-    /// ```
-    /// let oid = const_oid::ObjectIdentifierRef::from_bytes(&[0x88, 0x37, 0x03])?;
-    /// assert_eq!(oid.element_len(), 5);
-    /// # Ok::<(), const_oid::Error>(())
-    /// ```
+    /// The length in octets of the element that [`write_element`](Self::write_element) writes, which has an example.
     #[inline]
     #[must_use]
     pub const fn element_len(&self) -> usize {
@@ -148,7 +139,7 @@ impl ObjectIdentifierRef {
     /// ```
     /// let oid = const_oid::ObjectIdentifierRef::from_bytes(&[0x88, 0x37, 0x03])?;
     /// let mut out = [0; 6];
-    /// assert_eq!(oid.write_element(&mut out), Some(5));
+    /// assert_eq!((oid.element_len(), oid.write_element(&mut out)), (5, Some(5)));
     /// assert_eq!(out, [0x06, 0x03, 0x88, 0x37, 0x03, 0x00]);
     /// # Ok::<(), const_oid::Error>(())
     /// ```
@@ -158,15 +149,7 @@ impl ObjectIdentifierRef {
         write_element(self.as_bytes(), out)
     }
 
-    /// The arc at an index, counted from 0, or `None` past the last one.
-    ///
-    /// # Examples
-    ///
-    /// ```
-    /// let oid = const_oid::ObjectIdentifierRef::from_bytes(&[0x88, 0x37, 0x03])?;
-    /// assert_eq!((oid.arc(2), oid.arc(3)), (Some(3), None));
-    /// # Ok::<(), const_oid::Error>(())
-    /// ```
+    /// The arc at an index, counted from 0, or `None` past the last one. [`arcs`](Self::arcs) has an example.
     #[inline]
     #[must_use]
     pub fn arc(&self, index: usize) -> Option<Arc> {
@@ -180,6 +163,7 @@ impl ObjectIdentifierRef {
     /// ```
     /// let oid = const_oid::ObjectIdentifierRef::from_bytes(&[0x88, 0x37, 0x03])?;
     /// assert!(oid.arcs().eq([2, 999, 3]));
+    /// assert_eq!((oid.len(), oid.arc(2), oid.arc(3)), (3, Some(3), None));
     /// # Ok::<(), const_oid::Error>(())
     /// ```
     #[must_use]
@@ -187,15 +171,7 @@ impl ObjectIdentifierRef {
         Arcs::new(self.as_bytes())
     }
 
-    /// The number of arcs, two or more.
-    ///
-    /// # Examples
-    ///
-    /// ```
-    /// let oid = const_oid::ObjectIdentifierRef::from_bytes(&[0x88, 0x37, 0x03])?;
-    /// assert_eq!(oid.len(), 3);
-    /// # Ok::<(), const_oid::Error>(())
-    /// ```
+    /// The number of arcs, two or more. [`arcs`](Self::arcs) has an example.
     #[inline]
     #[must_use]
     pub fn len(&self) -> usize {
@@ -203,14 +179,7 @@ impl ObjectIdentifierRef {
     }
 
     /// The length in bytes of the text that `{}` writes, or `usize::MAX` if it is greater than that.
-    ///
-    /// # Examples
-    ///
-    /// ```
-    /// let oid = const_oid::ObjectIdentifierRef::from_bytes(&[0x88, 0x37, 0x03])?;
-    /// assert_eq!(oid.text_len(), 7);
-    /// # Ok::<(), const_oid::Error>(())
-    /// ```
+    /// [`encode_text`](Self::encode_text) has an example.
     #[inline]
     #[must_use]
     pub fn text_len(&self) -> usize {
@@ -225,7 +194,7 @@ impl ObjectIdentifierRef {
     /// ```
     /// let oid = const_oid::ObjectIdentifierRef::from_bytes(&[0x88, 0x37, 0x03])?;
     /// let mut out = [0; 8];
-    /// assert_eq!(oid.encode_text(&mut out), Some(7));
+    /// assert_eq!((oid.text_len(), oid.encode_text(&mut out)), (7, Some(7)));
     /// assert_eq!(&out, b"2.999.3\0");
     /// # Ok::<(), const_oid::Error>(())
     /// ```
@@ -269,60 +238,6 @@ impl ObjectIdentifierRef {
         Some(write_checked(ber, out))
     }
 
-    /// Counts the contents octets of the identifier that dotted text in ASCII denotes, of any length. They are no more
-    /// than the bytes of the text.
-    ///
-    /// # Errors
-    ///
-    /// Those of [`new`](crate::ObjectIdentifier::new), with [`Error::Length`] if the arcs take more octets than
-    /// `limit`.
-    pub(crate) fn bytes_len_from_ascii(text: &[u8], limit: usize) -> Result<usize> {
-        parse(text, &mut [], limit)
-    }
-
-    /// Parses dotted text in ASCII, of any length, and writes its contents octets to the start of `out`. Returns how many
-    /// there are, which are no more than the bytes of the text.
-    ///
-    /// # Errors
-    ///
-    /// Those of [`new`](crate::ObjectIdentifier::new), with [`Error::Length`] if the arcs take more octets than `out`
-    /// has. It is then unchanged.
-    pub(crate) fn bytes_from_ascii(text: &[u8], out: &mut [u8]) -> Result<usize> {
-        if text.len() <= ONE_PASS_BYTES {
-            return parse_in_one_pass(text, out);
-        }
-        let capacity = out.len();
-        // The octets are counted first, so that on an error none is written.
-        parse(text, &mut [], capacity)?;
-        parse(text, out, capacity)
-    }
-
-    /// Counts the contents octets of arcs, any number of them. They are at most five for each arc.
-    ///
-    /// # Errors
-    ///
-    /// Those of [`from_arcs`](crate::ObjectIdentifier::from_arcs), with [`Error::Length`] if the arcs take more octets
-    /// than `limit`.
-    pub(crate) fn bytes_len_from_arcs(arcs: &[Arc], limit: usize) -> Result<usize> {
-        encode(arcs, &mut [], limit)
-    }
-
-    /// Encodes arcs, any number of them, and writes the contents octets to the start of `out`. Returns how many there
-    /// are, which are at most five for each arc.
-    ///
-    /// # Errors
-    ///
-    /// Those of [`from_arcs`](crate::ObjectIdentifier::from_arcs), with [`Error::Length`] if the arcs take more octets
-    /// than `out` has. It is then unchanged.
-    pub(crate) fn bytes_from_arcs(arcs: &[Arc], out: &mut [u8]) -> Result<usize> {
-        if arcs.len() <= ONE_PASS_ARCS {
-            return encode_in_one_pass(arcs, out);
-        }
-        let capacity = out.len();
-        encode(arcs, &mut [], capacity)?;
-        encode(arcs, out, capacity)
-    }
-
     /// Parses dotted text in ASCII, of any length, and borrows the octets that it writes at the start of `out`. They are
     /// no more than the bytes of the text, which need not be UTF-8.
     ///
@@ -342,23 +257,8 @@ impl ObjectIdentifierRef {
     /// # Ok::<(), Error>(())
     /// ```
     pub fn from_ascii_in<'a>(text: &[u8], out: &'a mut [u8]) -> Result<&'a Self> {
-        let len = Self::bytes_from_ascii(text, out)?;
+        let len = outputs::bytes_from_ascii(text, out)?;
         Ok(ObjectIdentifierRef::from_checked(&out[..len]))
-    }
-
-    /// Parses dotted text in ASCII into 39 octets, the default capacity, in one pass, and borrows those of its
-    /// identifier. On `Err`, `out` may be changed.
-    ///
-    /// # Errors
-    ///
-    /// Those of [`new`](crate::ObjectIdentifier::new), each with the index of the first wrong component, but
-    /// [`Error::Length`], whose index says nothing.
-    #[inline(always)]
-    pub(crate) fn from_ascii_in_39<'a>(text: &[u8], out: &'a mut [u8; 39]) -> result::Result<&'a Self, (Error, usize)> {
-        match parse_inlined(text, out, 39) {
-            Ok(len) => Ok(ObjectIdentifierRef::from_checked(&out[..len])),
-            Err(wrong) => Err(fault_and_index(text, wrong)),
-        }
     }
 
     /// The index of the first wrong component of dotted text, counted from 0, by the rules of
@@ -400,7 +300,7 @@ impl ObjectIdentifierRef {
     /// # Ok::<(), const_oid::Error>(())
     /// ```
     pub fn from_arcs_in<'a>(arcs: &[Arc], out: &'a mut [u8]) -> Result<&'a Self> {
-        let len = Self::bytes_from_arcs(arcs, out)?;
+        let len = outputs::bytes_from_arcs(arcs, out)?;
         Ok(ObjectIdentifierRef::from_checked(&out[..len]))
     }
 
@@ -495,7 +395,7 @@ impl ObjectIdentifierRef {
     #[must_use]
     pub fn subtree(&self, sorted: &[&ObjectIdentifierRef]) -> (usize, usize) {
         let from = sorted.partition_point(|oid| order(oid.as_bytes(), self.as_bytes()).is_lt());
-        let inside = run_of(&sorted[from..], |oid| oid.as_bytes().starts_with(self.as_bytes()));
+        let inside = gallop(&sorted[from..], |oid| oid.as_bytes().starts_with(self.as_bytes()));
         (from, from + inside)
     }
 

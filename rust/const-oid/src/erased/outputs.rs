@@ -3,10 +3,10 @@
 //! Octets and identifiers in outputs of the caller.
 
 use crate::erased::Arc;
-use crate::erased::encoder::{ONE_PASS_ARCS, encode_in_one_pass, encode_slice};
+use crate::erased::encoder::{ONE_PASS_ARCS, encode, encode_in_one_pass};
 use crate::erased::error::{Error, Result};
 use crate::erased::oid_ref::ObjectIdentifierRef;
-use crate::erased::parser::{ONE_PASS_BYTES, fault_and_index, parse_in_one_pass, parse_to, parse_to_inlined};
+use crate::erased::parser::{ONE_PASS_BYTES, fault_and_index, parse, parse_in_one_pass, parse_inlined};
 use core::result;
 
 /// Counts the contents octets of the identifier that dotted text in ASCII denotes, of any length. They are no more
@@ -17,7 +17,7 @@ use core::result;
 /// Those of [`new`](crate::ObjectIdentifier::new), with [`Error::Length`] if the arcs take more octets than
 /// `limit`.
 pub fn bytes_len_from_ascii(text: &[u8], limit: usize) -> Result<usize> {
-    parse_to(text, &mut [], limit)
+    parse(text, &mut [], limit)
 }
 
 /// Parses dotted text in ASCII, of any length, and writes its contents octets to the start of `out`. Returns how many
@@ -33,8 +33,8 @@ pub fn bytes_from_ascii(text: &[u8], out: &mut [u8]) -> Result<usize> {
     }
     let capacity = out.len();
     // The octets are counted first, so that on an error none is written.
-    parse_to(text, &mut [], capacity)?;
-    parse_to(text, out, capacity)
+    parse(text, &mut [], capacity)?;
+    parse(text, out, capacity)
 }
 
 /// Counts the contents octets of arcs, any number of them. They are at most five for each arc.
@@ -44,7 +44,7 @@ pub fn bytes_from_ascii(text: &[u8], out: &mut [u8]) -> Result<usize> {
 /// Those of [`from_arcs`](crate::ObjectIdentifier::from_arcs), with [`Error::Length`] if the arcs take more octets
 /// than `limit`.
 pub fn bytes_len_from_arcs(arcs: &[Arc], limit: usize) -> Result<usize> {
-    encode_slice(arcs, &mut [], limit)
+    encode(arcs, &mut [], limit)
 }
 
 /// Encodes arcs, any number of them, and writes the contents octets to the start of `out`. Returns how many there
@@ -59,8 +59,8 @@ pub fn bytes_from_arcs(arcs: &[Arc], out: &mut [u8]) -> Result<usize> {
         return encode_in_one_pass(arcs, out);
     }
     let capacity = out.len();
-    encode_slice(arcs, &mut [], capacity)?;
-    encode_slice(arcs, out, capacity)
+    encode(arcs, &mut [], capacity)?;
+    encode(arcs, out, capacity)
 }
 
 /// Parses dotted text in ASCII into 39 octets, the default capacity, in one pass, and borrows those of its
@@ -75,7 +75,7 @@ pub fn from_ascii_in_39<'a>(
     text: &[u8],
     out: &'a mut [u8; 39],
 ) -> result::Result<&'a ObjectIdentifierRef, (Error, usize)> {
-    match parse_to_inlined(text, out, 39) {
+    match parse_inlined(text, out, 39) {
         Ok(len) => Ok(ObjectIdentifierRef::from_checked(&out[..len])),
         Err(wrong) => Err(fault_and_index(text, wrong)),
     }

@@ -9,7 +9,6 @@ use crate::erased::Arc;
 use crate::erased::base128::append_group;
 use crate::erased::error::{Error, Result};
 use crate::erased::fast::lanes::count_below;
-use crate::erased::parts::copy_to;
 use crate::erased::root::{check_first, join_root};
 use core::result;
 
@@ -66,7 +65,7 @@ pub(crate) const ONE_PASS_BYTES: usize = 64;
 pub(crate) fn parse_in_one_pass(text: &[u8], out: &mut [u8]) -> Result<usize> {
     let mut octets = [0; ONE_PASS_BYTES];
     let len = parse(text, &mut octets, out.len().min(ONE_PASS_BYTES))?;
-    copy_to(&octets[..len], out);
+    out[..len].copy_from_slice(&octets[..len]);
     Ok(len)
 }
 

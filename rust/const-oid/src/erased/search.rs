@@ -8,7 +8,7 @@
 pub use crate::erased::compare::order_by_parts;
 use crate::erased::compare::{begins_with, common_parts};
 use crate::erased::fast::comparison::are_equal;
-use crate::erased::fast::steps::run_of;
+use crate::erased::fast::steps::gallop;
 use crate::erased::oid_ref::ObjectIdentifierRef;
 use core::result;
 
@@ -53,7 +53,7 @@ fn has_octets<T: Contents>(item: &T, oid: &ObjectIdentifierRef) -> bool {
 #[must_use]
 pub fn subtree_of<T: Contents>(items: &[T], oid: &ObjectIdentifierRef) -> (usize, usize) {
     let from = start_of(items, oid);
-    let inside = run_of(&items[from..], |item| begins_with(item.contents(), oid.as_bytes()));
+    let inside = gallop(&items[from..], |item| begins_with(item.contents(), oid.as_bytes()));
     (from, from + inside)
 }
 

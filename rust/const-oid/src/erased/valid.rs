@@ -28,10 +28,10 @@ pub(crate) fn check(octets: &[u8]) -> Result<()> {
     Ok(())
 }
 
-/// The index after the subidentifier of two octets or more that starts at an index, or its error.
+/// The index after the subidentifier of two octets or more that begins at `start`, or its error.
 #[inline(always)]
 fn two_or_more_end(octets: &[u8], start: usize) -> Result<usize> {
-    // The octet is 128. Its remainder compiles to fewer instructions.
+    // The octet is 128 or more, so this is whether it is 128. Compared with 128, it takes more instructions.
     if octets[start] % 128 == 0 {
         return Err(Error::Base128);
     }
@@ -46,7 +46,7 @@ fn two_or_more_end(octets: &[u8], start: usize) -> Result<usize> {
     five_end(octets, start)
 }
 
-/// The index after the subidentifier that starts at an index, and does not end within four octets, or its error.
+/// The index after the subidentifier that begins at `start`, and does not end within four octets, or its error.
 #[inline(always)]
 fn five_end(octets: &[u8], start: usize) -> Result<usize> {
     let last = start + 4;
@@ -65,7 +65,7 @@ fn five_end(octets: &[u8], start: usize) -> Result<usize> {
     Err(Error::ArcTooBig)
 }
 
-/// Whether five octets, of the subidentifier that starts at an index, are a number in its range. Numbers below 2^32 have
+/// Whether five octets, of the subidentifier that begins at `start`, are a number in its range. Numbers below 2^32 have
 /// a first digit below 16. Those from there to the greatest first subidentifier have the digits 16, 0, 0, 0 and one below
 /// 80.
 // The number is not made, for less code: the row `from_bytes` of SPEED's sizes.

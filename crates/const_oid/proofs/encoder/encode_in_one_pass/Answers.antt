@@ -11,4 +11,4 @@ returns-in_err-len-clause-written c =
 pub returns-clause-written : goal.returns-clause-written
 returns-clause-written c =
     let same = items_bounded root_rule c.args.arcs.now c.min.result (length c.args.out.now) 60 (omega arith) (λ k. omega (arith, c.type_inv.arcs k)) (omega arith) in
-    copied c.in_ok-len.ensures (omega arith) (omega arith) same c.copy_to.ensures
+    copied c.in_ok-len.ensures (omega arith) (omega arith) same c.copy_from_slice.ensures.after

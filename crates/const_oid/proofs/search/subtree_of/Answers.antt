@@ -22,8 +22,8 @@ returns-clause-inside g c = λ list.
     let by_octets = is_inside octets_of oid items list in
     let same = inside_same octets_of oid items list from in
     let parted = parted_as by_arcs by_octets (drop from items) same (cut_after (item_arcs octets_of) items list.sorted (ref_arcs oid) from first) in
-    let bound = rw (take_rest items from) at c.run_of-inside.ensures.within in
-    let rest = rw (take_rest items from) at c.run_of-inside.ensures.cut in
+    let bound = rw (take_rest items from) at c.gallop-inside.ensures.within in
+    let rest = rw (take_rest items from) at c.gallop-inside.ensures.cut in
     let second = cut_as by_arcs by_octets (drop from items) same _ bound
     (IsPartitionPoint-from_clause by_octets (drop from items) _ rest parted
     (λ args result after called. (tells_under (ref_octets oid) (octets_of args.0.now) result (search rules), search rules))) in

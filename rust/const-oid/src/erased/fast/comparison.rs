@@ -91,54 +91,22 @@ pub(crate) fn order(a: &[u8], b: &[u8]) -> Ordering {
 /// The lexicographic order of octets, one by one.
 #[inline(always)]
 fn order_by_octet(a: &[u8], b: &[u8]) -> Ordering {
-    let near = a.len().min(b.len());
-    let i = same_until(a, b, 0, near);
-    if i < near {
-        return a[i].cmp(&b[i]);
+    for index in 0..a.len().min(b.len()) {
+        if a[index] != b[index] {
+            return a[index].cmp(&b[index]);
+        }
     }
     a.len().cmp(&b.len())
 }
 
-/// How many of the first octets are known to be the same: a word, half a word or none.
+/// How many of the first `near` octets are found to be the same: a word, half a word or none.
 #[inline(always)]
-pub(crate) const fn same_start(a: &[u8], b: &[u8]) -> usize {
-    let near = lesser(a.len(), b.len());
+pub(crate) const fn same_start(a: &[u8], b: &[u8], near: usize) -> usize {
     if near >= WORD_OCTETS && word(a, 0) == word(b, 0) {
         WORD_OCTETS
     } else if near >= HALF_OCTETS && half_word(a) == half_word(b) {
         HALF_OCTETS
     } else {
         0
-    }
-}
-
-/// The first index from `start` on at which the octets differ, or `end`. The octets from there on have the orders of
-/// all octets.
-#[inline(always)]
-pub(crate) const fn same_until(a: &[u8], b: &[u8], start: usize, end: usize) -> usize {
-    let mut index = start;
-    while index < end {
-        if a[index] != b[index] {
-            return index;
-        }
-        index += 1;
-    }
-    end
-}
-
-/// The lesser of two numbers: `usize::min` is not for constants.
-#[inline(always)]
-pub(crate) const fn lesser(a: usize, b: usize) -> usize {
-    if a < b { a } else { b }
-}
-
-/// The order of two numbers: `usize::cmp` is not for constants.
-#[inline(always)]
-pub(crate) const fn order_of_numbers(a: usize, b: usize) -> Ordering {
-    // Two branches in its place take more instructions: SPEED's table of searches.
-    match (a > b) as i8 - (a < b) as i8 {
-        -1 => Ordering::Less,
-        0 => Ordering::Equal,
-        _ => Ordering::Greater,
     }
 }

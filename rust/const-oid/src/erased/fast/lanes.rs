@@ -6,7 +6,7 @@
 #[inline]
 pub(crate) fn count_below(octets: &[u8], limit: u8) -> usize {
     let (count, rest) = count_by_32(octets, limit);
-    // Of 32 octets none is left: one test in place of five.
+    // If 32 divides the length, none is left: one test in place of the five that follow.
     if rest.is_empty() {
         return count;
     }

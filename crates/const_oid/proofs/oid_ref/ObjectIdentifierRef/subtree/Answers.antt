@@ -12,7 +12,7 @@ returns c =
     let cut = cut_before ref_octets sorted c.requires prefix in
     let first = IsPartitionPoint-from_clause (key_before ref_octets prefix) sorted _ point.ensures.partitioned cut
     (λ args result after called. search rules) in
-    let rest = rw (take_rest sorted point.result) at c.run_of-inside.ensures.cut in
+    let rest = rw (take_rest sorted point.result) at c.gallop-inside.ensures.cut in
     let cut = cut_after ref_octets sorted c.requires prefix point.result first in
     let second = IsPartitionPoint-from_clause (key_under ref_octets prefix) (drop point.result sorted) _ rest cut
     (λ args result after called. search rules) in

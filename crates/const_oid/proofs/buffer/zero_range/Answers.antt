@@ -1,7 +1,7 @@
 use Rattle.std.proofs.Common.{◌≡◌, arith, replicate}
 use Rattle.std.proofs.lemmas.{Grind.common_steps}
 use Rattle.const_oid.proofs.Ends.{zeros_whole}
-use Rattle.const_oid.proofs.buffer.clear.Goals as goal
+use Rattle.const_oid.proofs.buffer.zero_range.Goals as goal
 
 pub returns-then-rest-ge8 : goal.returns-then-rest-ge8
 returns-then-rest-ge8 c =

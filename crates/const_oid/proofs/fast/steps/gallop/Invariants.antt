@@ -1,7 +1,7 @@
 use Rattle.std.proofs.Common.{length, ◌-◌, ◌≡◌, ◌≤◌, Bool, true}
 use denote.Param.Always.{always_mut}
 use Rattle.std.specs.{Fn.ComputesKey, List.AllWithin, List.Sorted.IsPartitionedBy}
-use Rattle.const_oid.proofs.fast.steps.run_of.Given as goal
+use Rattle.const_oid.proofs.fast.steps.gallop.Given as goal
 
 abbrev pub invariant-loop-place : goal.invariant-loop-place
 invariant-loop-place g l = record {

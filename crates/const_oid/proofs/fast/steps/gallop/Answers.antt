@@ -2,8 +2,8 @@ use Rattle.std.proofs.Common.{◌≡◌, false, arith, of_calls, refl, length}
 use Rattle.std.specs.{Fn.ComputesKey, List.AllWithin}
 use Rattle.std.proofs.lemmas.Fn.{called}
 use Rattle.const_oid.proofs.Runs.{computed, passed_upto, failed_from, parted_between, cut_between}
-use Rattle.const_oid.proofs.fast.steps.run_of.Goals as goal
-use Rattle.const_oid.proofs.fast.steps.run_of.Goals.{then-loop-place-test+else-test, else-loop-place-test}
+use Rattle.const_oid.proofs.fast.steps.gallop.Goals as goal
+use Rattle.const_oid.proofs.fast.steps.gallop.Goals.{then-loop-place-test+else-test, else-loop-place-test}
 
 pub loop-place-preserved : goal.loop-place-preserved
 loop-place-preserved g c = record {
