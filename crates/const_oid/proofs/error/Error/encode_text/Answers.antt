@@ -1,7 +1,7 @@
 use Rattle.std.proofs.Common.{arith, append_assoc}
 use Rattle.std.specs.Str.{IsUtf8}
 use Rattle.std.proofs.lemmas.{Grind.common_steps, Str.IsUtf8-append}
-use Rattle.const_oid.proofs.{Decimals.drop_more, Outputs.written_by_parts}
+use Rattle.const_oid.proofs.{Decimals.drop_more, Appended.written_by_parts}
 use Rattle.const_oid.proofs.error.Error.encode_text.Goals as goal
 
 pub returns-clause-written : goal.returns-clause-written
