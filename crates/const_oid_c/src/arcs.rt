@@ -7,7 +7,7 @@ ghost use Rattle.const_oid.specs.Output.{WritesAll};
 ghost use Rattle.const_oid_c.specs.Status.{max_len, output_status, output_after, len_status};
 ghost use Rattle.const_oid_c.specs.Results.{octets_of_arcs, output_of, status_of, borrowed_answer, arc_status};
 
-use crate::output::{unwritten_status, write_octets};
+use crate::output::write_octets;
 use crate::owned::MAX_OCTETS;
 use crate::status::{
     LENGTH, NONE, OUTPUT_TOO_SHORT, Status, code_status, error_status, len_status, number_status,
@@ -79,7 +79,10 @@ fn write_long_arcs(arcs: &[u32], out: &mut [u8]) -> Status
         Err(Error::Length) => match outputs::bytes_from_arcs(arcs, out) {
             Ok(len) => len_status(len),
             // At the greatest limit, the error of any other kind is the same.
-            Err(_) => unwritten_status(outputs::bytes_len_from_arcs(arcs, usize::MAX)),
+            Err(_) => match outputs::bytes_len_from_arcs(arcs, usize::MAX) {
+                Ok(len) => too_short_status(len),
+                Err(fault) => error_status(fault),
+            },
         },
         oid => write_octets(oid, out),
     }

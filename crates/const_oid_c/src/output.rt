@@ -1,7 +1,7 @@
 //! Results that are written to the caller's slice.
-ghost use Rattle.std.specs.Prelude.{◌≡◌, ◌++◌, length, Ok, MatchResult};
+ghost use Rattle.std.specs.Prelude.{◌≡◌, ◌++◌, length, Ok};
 ghost use Rattle.const_oid.specs.Oid.{oid_answer};
-ghost use Rattle.const_oid_c.specs.Status.{error_status, output_status, output_after, too_short_status};
+ghost use Rattle.const_oid_c.specs.Status.{output_status, output_after};
 ghost use Rattle.const_oid_c.specs.Results.{octets_of_arcs};
 
 use crate::status::{Status, error_status, len_status, too_short_status};
@@ -45,16 +45,6 @@ pub(crate) fn write_octets<const N: usize>(
 {
     match oid {
         Ok(oid) => write_bytes(oid.as_bytes(), out),
-        Err(fault) => error_status(fault),
-    }
-}
-
-/// The status of octets that do not fit the output, by how many there are.
-pub(crate) fn unwritten_status(counted: Result<usize>) -> Status
-    ensures { MatchResult counted (λ len. result ≡ too_short_status len) (λ fault. result ≡ error_status fault) }
-{
-    match counted {
-        Ok(len) => too_short_status(len),
         Err(fault) => error_status(fault),
     }
 }

@@ -2,7 +2,7 @@
 
 //! Octets to arcs, and arcs to octets.
 
-use crate::erased::output::{unwritten_status, write_octets};
+use crate::erased::output::write_octets;
 use crate::erased::owned::MAX_OCTETS;
 use crate::erased::status::{
     LENGTH, NONE, OUTPUT_TOO_SHORT, Status, code_status, error_status, len_status, number_status, too_short_status,
@@ -53,7 +53,10 @@ fn write_long_arcs(arcs: &[u32], out: &mut crate::edge::Output<u8>) -> Status {
         Err(Error::Length) => match crate::outputs::bytes_from_arcs(arcs, out) {
             Ok(len) => len_status(len),
             // At the greatest limit, the error of any other kind is the same.
-            Err(_) => unwritten_status(outputs::bytes_len_from_arcs(arcs, usize::MAX)),
+            Err(_) => match outputs::bytes_len_from_arcs(arcs, usize::MAX) {
+                Ok(len) => too_short_status(len),
+                Err(fault) => error_status(fault),
+            },
         },
         oid => write_octets(oid, out),
     }

@@ -36,11 +36,3 @@ pub(crate) fn write_octets<const N: usize>(
         Err(fault) => error_status(fault),
     }
 }
-
-/// The status of octets that do not fit the output, by how many there are.
-pub(crate) fn unwritten_status(counted: Result<usize>) -> Status {
-    match counted {
-        Ok(len) => too_short_status(len),
-        Err(fault) => error_status(fault),
-    }
-}

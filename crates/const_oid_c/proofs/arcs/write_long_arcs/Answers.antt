@@ -14,12 +14,12 @@ written c =
     let answer = same_arcs few max_len fits c.args.arcs.now other in
     bytes_written 0 is answer
 
-counted : (c : goal.After-unwritten_status)
-    → IsWritten 0 (item_answer root_rule c.args.arcs.now max_len) c.args.out.now c.args.out.now c.unwritten_status.result
+counted : (c : goal.After-too_short_status)
+    → IsWritten 0 (item_answer root_rule c.args.arcs.now max_len) c.args.out.now c.args.out.now c.too_short_status.result
 counted c =
     not_written 0 (item_answer root_rule c.args.arcs.now max_len)
     (λ arcs read. longer_arcs (length c.args.out.now) c.args.arcs.now arcs (λ k. omega (arith, c.type_inv.arcs k)) c.in-Err.ensures.written read)
-    (rw c.bytes_len_from_arcs.ensures.len at c.unwritten_status.ensures)
+    (rw (← c.bytes_len_from_arcs.ensures.len, c.in-Ok-bytes_len_from_arcs.is) c.too_short_status.ensures)
 
 pub returns-in-Ok-clause-status : goal.returns-in-Ok-clause-status
 returns-in-Ok-clause-status c = c.len_status.ensures ∙ (written c).status
@@ -27,8 +27,8 @@ returns-in-Ok-clause-status c = c.len_status.ensures ∙ (written c).status
 pub returns-in-Ok-clause-written : goal.returns-in-Ok-clause-written
 returns-in-Ok-clause-written c = (written c).after
 
-pub returns-in-Err-clause-status : goal.returns-in-Err-clause-status
-returns-in-Err-clause-status c = (counted c).status
+pub returns-in-Ok-bytes_len_from_arcs-clause-status : goal.returns-in-Ok-bytes_len_from_arcs-clause-status
+returns-in-Ok-bytes_len_from_arcs-clause-status c = (counted c).status
 
-pub returns-in-Err-clause-written : goal.returns-in-Err-clause-written
-returns-in-Err-clause-written c = c.in-Err.ensures.kept ∙ (counted c).after
+pub returns-in-Ok-bytes_len_from_arcs-clause-written : goal.returns-in-Ok-bytes_len_from_arcs-clause-written
+returns-in-Ok-bytes_len_from_arcs-clause-written c = c.in-Err.ensures.kept ∙ (counted c).after
