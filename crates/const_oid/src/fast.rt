@@ -2,7 +2,7 @@
 //! other modules call has the contract of a plain loop, but for `same_start`, `word` and `half_word`.
 
 pub(crate) mod comparison;
-// Not in Rust, for less code: there, buffers copy by a loop.
+// Not in Rust, for less code: there, buffers copy by `parts::copy_by_octet`.
 // erase: omit
 pub(crate) mod copies;
 pub(crate) mod lanes;

@@ -1,8 +1,9 @@
 //! Subidentifiers in octets: where they begin, and where they end. In names, they are `parts`. What is left after the last
-//! octet below 128 is a part, too. Also the first octets of a slice.
+//! octet below 128 is a part, too. Also the first octets of a slice, and a copy by a loop.
 
 ghost use Rattle.std.specs.Prelude.{◌≡◌, ◌-◌, ◌≤◌, length, take, drop};
 ghost use Rattle.const_oid.specs.Contents.{cut};
+ghost use Rattle.const_oid.specs.Output.{written_over};
 ghost use Rattle.const_oid.specs.Private.Prefixes.{IsFinishedPrefix};
 
 /// The octets after the first `parts` subidentifiers.
@@ -45,4 +46,18 @@ pub(crate) fn first_octets(octets: &[u8], len: usize) -> &[u8]
 {
     // Unlike an index, `get` compiles to no panic.
     octets.get(..len).unwrap_or(&[])
+}
+
+/// Copies octets to the start of as many or more, as `fast::copies::copy_to` does. Only the cargo crate calls this, for
+/// less code.
+#[inline(always)]
+pub(crate) fn copy_by_octet(octets: &[u8], out: &mut [u8])
+    requires { length octets.now ≤ length out.old }
+    ensures { out.new ≡ written_over octets.now out.old }
+{
+    let mut index = 0;
+    while index < octets.len() && index < out.len() {
+        out[index] = octets[index];
+        index += 1;
+    }
 }

@@ -116,8 +116,8 @@ pub const CRATES: &[Crate] = &[
                         lanes.to_bitmask().count_ones() as usize"
                 => "octets.iter().filter(|octet| **octet < limit).count()", LANES;
             "buffer": "copy_to(octets, &mut buffer.bytes);"
-                => "for index in 0..octets.len().min(SIZE) {\n buffer.bytes[index] = octets[index];\n }",
-                "a loop takes two hundred octets of flash less";
+                => "crate::erased::parts::copy_by_octet(octets, &mut buffer.bytes);",
+                "it takes two hundred octets of flash less";
             "buffer": "#[derive(Copy, Clone)] pub struct Buffer"
                 => "#[derive(Copy, Clone, PartialEq, Eq)]\npub struct Buffer", EQUALITY;
             "buffer": "impl<const SIZE: usize> PartialEq for Buffer<SIZE> {

@@ -73,9 +73,7 @@ impl<const SIZE: usize> Buffer<SIZE> {
     #[inline(always)]
     pub(crate) fn copied(octets: &[u8]) -> Self {
         let mut buffer = Buffer::empty();
-        for index in 0..octets.len().min(SIZE) {
-            buffer.bytes[index] = octets[index];
-        }
+        crate::erased::parts::copy_by_octet(octets, &mut buffer.bytes);
         buffer.used = octets.len() as u8;
         buffer
     }
