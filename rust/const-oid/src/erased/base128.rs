@@ -122,14 +122,15 @@ pub(crate) const fn append_group(out: &mut [u8], used: usize, number: u64, capac
 const fn count_group(used: usize, number: u64, capacity: usize) -> Result<usize> {
     let mut end = used;
     let mut rest = number;
-    loop {
+    while rest >= 0x80 {
         if end >= capacity {
             return Err(Error::Length);
         }
         end += 1;
         rest >>= 7;
-        if rest == 0 {
-            return Ok(end);
-        }
     }
+    if end >= capacity {
+        return Err(Error::Length);
+    }
+    Ok(end + 1)
 }

@@ -1,9 +1,9 @@
-use Rattle.std.proofs.Common.{◌≡◌, ◌+◌, ◌-◌}
+use Rattle.std.proofs.Common.{◌≡◌, ◌+◌}
 use Rattle.const_oid.specs.Base128.{width}
 use Rattle.const_oid.proofs.base128.count_group.Given as goal
 
-abbrev pub invariant-loop-end : goal.invariant-loop-end
-invariant-loop-end l = l.end + width l.rest ≡ l.used + width l.number
+abbrev pub invariant-loop-rest : goal.invariant-loop-rest
+invariant-loop-rest l = l.end + width l.rest ≡ l.used + width l.number
 
-abbrev pub decreases-loop-end : goal.decreases-loop-end
-decreases-loop-end l = l.capacity - l.end
+abbrev pub decreases-loop-rest : goal.decreases-loop-rest
+decreases-loop-rest l = l.rest
