@@ -41,8 +41,7 @@ pub(crate) fn encode_in_one_pass(arcs: &[Arc], out: &mut [u8]) -> Result<usize>
     Ok(len)
 }
 
-/// Writes the encoding of the arcs that an iterator gives to the start of a slice, if it fits a capacity, and returns
-/// its length.
+/// Writes the encoding of an iterator's arcs to the start of a slice, if it fits a capacity, and returns its length.
 #[inline(always)]
 pub(crate) fn encode_inlined<I: IntoIterator<Item = Arc>>(
     arcs: I,

@@ -90,8 +90,7 @@ pub(crate) fn parse_in_one_pass(text: &[u8], out: &mut [u8]) -> Result<usize>
     Ok(len)
 }
 
-/// Writes the encoding of the identifier that a text denotes to the start of a slice, if it fits a capacity, and
-/// returns its length.
+/// Writes the encoding that a text denotes to the start of a slice, if it fits a capacity, and returns its length.
 // erase: const
 #[inline(always)]
 pub(crate) fn parse_inlined(

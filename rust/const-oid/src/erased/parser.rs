@@ -69,8 +69,7 @@ pub(crate) fn parse_in_one_pass(text: &[u8], out: &mut [u8]) -> Result<usize> {
     Ok(len)
 }
 
-/// Writes the encoding of the identifier that a text denotes to the start of a slice, if it fits a capacity, and
-/// returns its length.
+/// Writes the encoding that a text denotes to the start of a slice, if it fits a capacity, and returns its length.
 #[inline(always)]
 pub(crate) const fn parse_inlined(text: &[u8], out: &mut [u8], capacity: usize) -> result::Result<usize, Wrong> {
     let (number, mut end) = match read_root(text) {
