@@ -1,11 +1,17 @@
 """The rows of the library for C, whose results this package has too: ObjectIdentifier, OidError and SortedMap."""
 import pathlib
+import re
 import unittest
 
 from const_oid import ObjectIdentifier, OidError, SortedMap
 from const_oid._native import error_text
 
-ROWS = pathlib.Path(__file__).resolve().parents[2] / "crates/const_oid_c/tests/rows.txt"
+ROWS = pathlib.Path(__file__).resolve().parents[2] / "crates/oid_rows/stdin"
+
+
+def expanded(row):
+    """A row with so many units for each {UNIT*COUNT}."""
+    return re.sub(r"\{([^*]*)\*(\d+)\}", lambda repeated: repeated[1] * int(repeated[2]), row)
 
 
 def oid_of(digits):
@@ -77,8 +83,8 @@ CALLS = {
     "error": lambda words: error_text(*map(int, words.split(" "))) or "none",
 }
 
-# What this package has no call for: the other orders, and whether a list is sorted.
-LEFT_OUT = {"items_order", "owned", "owned_order", "borrowed", "borrowed_order", "sorted"}
+# What this package has no call for: the other orders, whether a list is sorted, and outputs of a length.
+LEFT_OUT = {"items_order", "owned", "owned_order", "borrowed", "borrowed_order", "sorted", "text_in", "arcs_in", "component"}
 
 
 def answer(call, words):
@@ -86,19 +92,20 @@ def answer(call, words):
         return CALLS[call](words)
     except OidError as error:
         said = {11: "no text", 14: "no element"}.get(error.code)
-        return said or f"error {error.code} {error.detail}: {error_text(*error.args)}"
+        return said or f"error: {error_text(*error.args)}"
 
 
 class Rows(unittest.TestCase):
     def test_rows_have_their_results(self):
         found = set()
-        for row in ROWS.read_text(encoding="utf-8").split("\n"):
+        for line, row in enumerate(ROWS.read_text(encoding="utf-8").split("\n"), 1):
             if row.startswith("#") or " = " not in row:
                 continue
-            given, _, wanted = row.partition(" = ")
+            given, _, wanted = expanded(row).partition(" = ")
             call, _, words = given.partition(" ")
             found.add(call)
             if call not in LEFT_OUT:
-                with self.subTest(row[:200]):
-                    self.assertEqual(wanted, answer(call, words))
+                with self.subTest(f"line {line}: {row}"):
+                    # How long an element of wrong octets is, the package does not say.
+                    self.assertEqual(re.sub(r"^\d+ bytes, error", "error", wanted), answer(call, words))
         self.assertEqual(found | LEFT_OUT, {*CALLS, *LEFT_OUT})

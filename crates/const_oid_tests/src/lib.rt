@@ -1,16 +1,8 @@
-//! Tests of `const_oid` over its public functions, and of `const_oid_uses`: rows from outside, and what no clause says.
+//! Tests of `const_oid` over its public functions, and of `const_oid_uses`: what no clause says and no row of `oid_rows`.
 #![tactic(auto)]
 
 #[cfg(test)]
-mod any_length;
-#[cfg(test)]
-mod arcs;
-#[cfg(test)]
 mod callers;
-#[cfg(test)]
-mod capacity;
-#[cfg(test)]
-mod elements;
 #[cfg(test)]
 mod encode_text;
 #[cfg(test)]
@@ -36,11 +28,7 @@ mod short_slices;
 #[cfg(test)]
 mod sorted_database;
 #[cfg(test)]
-mod texts;
-#[cfg(test)]
 mod traits;
-#[cfg(test)]
-mod tree;
 #[cfg(test)]
 mod vectors;
 #[cfg(test)]

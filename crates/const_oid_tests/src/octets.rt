@@ -1,19 +1,12 @@
 //! Identifiers from contents octets: `from_bytes` of both forms, and `text_from_bytes`.
 
-use crate::vectors::{accepted_rows, refused_octets};
+use crate::vectors::accepted_rows;
 use const_oid::{Error, ObjectIdentifierRef, Oid};
 use std::alloc::{AllocError, Global};
 
 /// Whether both forms return this error, or none.
 fn both_answer(octets: &[u8], error: Option<Error>) -> bool {
     ObjectIdentifierRef::from_bytes(octets).err() == error && Oid::from_bytes(octets).err() == error
-}
-
-#[test]
-fn rejects_each_row(rt: HostRuntime) {
-    for (octets, error) in refused_octets() {
-        assert!(rt; both_answer(octets, Some(*error)), "{octets:?}");
-    }
 }
 
 /// Octets with room for their text are printed as they are checked, and one byte less is no room.
@@ -26,19 +19,6 @@ fn prints_octets_as_it_checks_them(rt: HostRuntime) {
     assert!(rt; out.starts_with(b"2.999.3"));
     let fault = ObjectIdentifierRef::text_from_bytes(&octets[..1], &mut out);
     assert!(rt; fault == Some(Err(Error::Base128)));
-}
-
-/// The borrowed form has no capacity: it accepts 41 arcs, which are too long for an owned one. Both reject a truncated
-/// subidentifier after them.
-#[test]
-fn borrows_more_octets_than_an_owned_one_has(rt: HostRuntime) {
-    let mut octets = [1; 41];
-    octets[0] = 0x2A;
-    let count = ObjectIdentifierRef::from_bytes(&octets[..40]).map(|oid| oid.len());
-    assert!(rt; count == Ok(41));
-    assert!(rt; Oid::from_bytes(&octets[..40]) == Err(Error::Length));
-    octets[40] = 0x81;
-    assert!(rt; both_answer(&octets, Some(Error::Base128)));
 }
 
 /// How many of accepted octets are accepted or rejected otherwise than by the last of them, which says whether its

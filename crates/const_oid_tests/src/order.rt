@@ -1,4 +1,4 @@
-//! Equality, copies and the orders of both forms: `==`, `eq_oid`, `clone`, `cmp`, `cmp_arcs` and `subtree`; `ByArcs`.
+//! Equality, copies and the orders of both forms: `==`, `clone`, `cmp` and `subtree`; `ByArcs`.
 
 ghost use Rattle.std.specs.Prelude.{◌≡◌, ◌↔◌, IsTrue, IsOk, IfOk, Some};
 ghost use Rattle.std.specs.Ordering.{nat_cmp};
@@ -9,7 +9,7 @@ ghost use Rattle.const_oid.specs.OidRef.{key_arcs, ref_octets, ref_arcs};
 ghost use Rattle.const_oid.specs.Orders.{shortlex_cmp};
 
 use crate::vectors::{read_borrowed, read_owned};
-use const_oid::{Buffer, ByArcs, ObjectIdentifier, ObjectIdentifierRef, Oid};
+use const_oid::{Buffer, ByArcs, ObjectIdentifier, ObjectIdentifierRef};
 use std::alloc::{AllocError, Global};
 use std::cmp::Ordering;
 use std::collections::BTreeSet;
@@ -77,24 +77,6 @@ fn buffer_clone_of<const N: usize>(buffer: &Buffer<N>) -> Result<Buffer<N>, Allo
     buffer.clone()
 }
 
-/// Identifiers in the owned order.
-const SHORT_FIRST: &[&[u8]] = &[
-    &[0x00],
-    &[0x2A],
-    &[0x55],
-    &[0x77],
-    &[0x78],
-    &[0x7F],
-    &[0x2A, 0x03],
-    &[0x2A, 0x7F],
-    &[0x81, 0x00],
-    &[0x88, 0x37],
-    &[0x2A, 0x03, 0x04],
-    &[0x2A, 0x81, 0x00],
-    &[0x2A, 0xFF, 0x7F],
-    &[0x2A, 0x81, 0x80, 0x00],
-];
-
 /// Whether owned identifiers compare so, and are equal where they tie.
 fn compare(a: &[u8], b: &[u8], order: Ordering) -> Result<bool, Fail> {
     let a = read_owned(a)?;
@@ -106,16 +88,6 @@ fn compare(a: &[u8], b: &[u8], order: Ordering) -> Result<bool, Fail> {
             && (a < b) == (order == Ordering::Less)
             && is_equal == (order == Ordering::Equal),
     )
-}
-
-#[test]
-fn owned_ones_are_ordered_by_length_first(rt: HostRuntime) -> Result<(), Fail> {
-    for (i, a) in SHORT_FIRST.iter().enumerate() {
-        for (j, b) in SHORT_FIRST.iter().enumerate() {
-            assert!(rt; compare(a, b, i.cmp(&j))?, "{a:?} and {b:?}");
-        }
-    }
-    Ok(())
 }
 
 /// Identifiers in the borrowed order. Those at the indices 1 to 7 begin with 1.2.
@@ -148,61 +120,15 @@ fn compare_refs(a: &[u8], b: &[u8], order: Ordering) -> Result<bool, Fail> {
     )
 }
 
+/// What both orders return is proved, and here it runs.
 #[test]
-fn borrowed_ones_are_ordered_by_octets(rt: HostRuntime) -> Result<(), Fail> {
-    for (i, a) in ASCENDING.iter().enumerate() {
-        for (j, b) in ASCENDING.iter().enumerate() {
-            assert!(rt; compare_refs(a, b, i.cmp(&j))?, "{a:?} and {b:?}");
-        }
-    }
-    Ok(())
-}
-
-/// Two texts, and how the arcs of the first compare to those of the second. A longer subidentifier is the greater
-/// number, whatever its first octet.
-const BY_ARCS: &[(&str, &str, Ordering)] = &[
-    ("0.0", "0.39", Ordering::Less),
-    ("0.39", "1.0", Ordering::Less),
-    ("1.39", "2.0", Ordering::Less),
-    ("2.39", "2.40.0", Ordering::Less),
-    ("2.47", "2.48", Ordering::Less),
-    ("1.2.300", "1.2.16384", Ordering::Less),
-    ("1.2.16384.1", "1.2.300.2", Ordering::Greater),
-    ("1.2.840", "1.2.840.0", Ordering::Less),
-    (
-        "1.2.840.4294967295",
-        "1.2.840.4294967294",
-        Ordering::Greater,
-    ),
-    ("1.2.840", "1.2.840", Ordering::Equal),
-    ("1.2.16383", "1.2.16384", Ordering::Less),
-    ("1.2.1", "1.2.128", Ordering::Less),
-];
-
-/// Whether the arcs of two texts compare so: in both forms, either way, owned ones of two capacities, and as keys; and
-/// whether they are equal where they tie.
-fn compare_arcs(left: &str, right: &str, order: Ordering) -> Result<bool, Fail> {
-    let left = Oid::new(left)?;
-    let right = ObjectIdentifier::<255>::new_sized(right)?;
-    let (a, b) = (left.as_oid_ref(), right.as_oid_ref());
-    let key = key_clone_of(&ByArcs(b))?;
-    Ok(
-        left.cmp_arcs(&right) == order
-            && right.cmp_arcs(&left) == order.reverse()
-            && a.cmp_arcs(&b) == order
-            && b.cmp_arcs(&a) == order.reverse()
-            && ByArcs(a).cmp(&key) == order
-            && (ByArcs(a) == key) == order.is_eq()
-            && a.eq_oid(&right) == order.is_eq()
-            && b.eq_oid(&left) == order.is_eq(),
-    )
-}
-
-#[test]
-fn compares_arcs_as_numbers(rt: HostRuntime) -> Result<(), Fail> {
-    for (left, right, order) in BY_ARCS {
-        assert!(rt; compare_arcs(left, right, *order)?, "{left} {right}");
-    }
+fn compares_and_copies(rt: HostRuntime) -> Result<(), Fail> {
+    let (short, long): (&[u8], &[u8]) = (&[0x2A, 0x7F], &[0x2A, 0x03, 0x04]);
+    assert!(rt; compare(short, long, Ordering::Less)? && compare(long, long, Ordering::Equal)?);
+    assert!(rt; compare_refs(short, long, Ordering::Greater)?);
+    assert!(rt; compare_refs(long, long, Ordering::Equal)?);
+    let key = ByArcs(read_borrowed(short)?);
+    assert!(rt; key_clone_of(&key)? == key);
     Ok(())
 }
 

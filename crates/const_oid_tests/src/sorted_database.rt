@@ -1,5 +1,5 @@
 //! Tables sorted by arcs, as `sorted` of `const_oid_uses::label` makes them: `try_new`, `clone` and `by_name` of
-//! `SortedDatabase`, and the labels of SNMP that `label` prints. The tests of `search` find identifiers in tables.
+//! `SortedDatabase`, and the labels of SNMP that `label` prints.
 
 ghost use Rattle.std.specs.Prelude.{◌≡◌, IsOk, IfOk};
 ghost use Rattle.const_oid.specs.Names.{sorted_entries_of};
@@ -19,10 +19,10 @@ fn clone_of<'a>(names: &SortedDatabase<'a>) -> Result<SortedDatabase<'a>, AllocE
 }
 
 /// An identifier and its name.
-pub type Entry = (ObjectIdentifierRef<'static>, &'static str);
+type Entry = (ObjectIdentifierRef<'static>, &'static str);
 
 /// The entries of rows.
-pub fn entries(alloc: Global, rows: &[(&'static [u8], &'static str)]) -> Result<Vec<Entry>, Fail> {
+fn entries(alloc: Global, rows: &[(&'static [u8], &'static str)]) -> Result<Vec<Entry>, Fail> {
     let mut entries = Vec::new(alloc);
     for (octets, name) in rows {
         entries.push((read_borrowed(octets)?, *name))?;

@@ -1,4 +1,4 @@
-//! Rows that several tests share, and the tests that each accepted row is one identifier.
+//! Rows that several tests share, and the tests that each is one identifier, without an allocation.
 
 use crate::formatter::prints_as;
 use const_oid::{Arc, Error, ObjectIdentifier, ObjectIdentifierRef, Oid};
@@ -11,11 +11,6 @@ pub type Row = (&'static str, &'static [u8], &'static [Arc]);
 /// Identifiers that are accepted. The rows are in a function, so that they are checked once and not with each caller.
 pub fn accepted_rows() -> &'static [Row] {
     ACCEPTED
-}
-
-/// Octets that are rejected, and the error.
-pub fn refused_octets() -> &'static [(&'static [u8], Error)] {
-    REFUSED_OCTETS
 }
 
 const ACCEPTED: &[Row] = &[
@@ -131,53 +126,6 @@ const ACCEPTED: &[Row] = &[
         &[0x90, 0x80, 0x80, 0x80, 0x4F, 0x8F, 0xFF, 0xFF, 0xFF, 0x7F],
         &[2, 4294967295, 4294967295],
     ),
-];
-
-const REFUSED_OCTETS: &[(&[u8], Error)] = &[
-    (&[], Error::Empty),
-    (&[0x80], Error::Base128),
-    (&[0x80, 0x01], Error::Base128),
-    (&[0x9F], Error::Base128),
-    (&[0xA0], Error::Base128),
-    (&[0xC7], Error::Base128),
-    (&[0xC8], Error::Base128),
-    (&[0xEF], Error::Base128),
-    (&[0xF0], Error::Base128),
-    (&[0xFF], Error::Base128),
-    (&[0x78, 0x80, 0x01], Error::Base128),
-    (&[0x90, 0x80, 0x80, 0x80, 0x50], Error::ArcTooBig),
-    (&[0x90, 0x80, 0x80, 0x80, 0x80], Error::Base128),
-    (&[0x90, 0x80, 0x80, 0x80, 0xD0], Error::ArcTooBig),
-    (&[0x2A, 0x80], Error::Base128),
-    (&[0x2A, 0x81], Error::Base128),
-    (&[0x2A, 0x81, 0x80], Error::Base128),
-    (&[0x2A, 0x80, 0x01], Error::Base128),
-    (&[0x2A, 0x01, 0x80, 0x01], Error::Base128),
-    (&[0x2A, 0x80, 0x80, 0x80, 0x80, 0x80, 0x10], Error::Base128),
-    (&[0x2A, 0x8F, 0xFF, 0xFF, 0xFF, 0xFF], Error::Base128),
-    (
-        &[0x2A, 0x8F, 0xFF, 0xFF, 0xFF, 0xFF, 0x00],
-        Error::ArcTooBig,
-    ),
-    (&[0x2A, 0x90, 0x80, 0x80, 0x80, 0x00], Error::ArcTooBig),
-    (&[0x2A, 0x90, 0x80, 0x80, 0x80, 0x80], Error::ArcTooBig),
-    (&[0x2A, 0xFF, 0xFF, 0xFF, 0xFF, 0x7F], Error::ArcTooBig),
-    (
-        &[0x2A, 0x81, 0x80, 0x80, 0x80, 0x80, 0x00],
-        Error::ArcTooBig,
-    ),
-    // Subidentifiers with two faults: the error of the first in the order of the rules is returned.
-    (&[0x2A, 0x80, 0x90, 0x80, 0x80, 0x80, 0x00], Error::Base128),
-    (&[0x2A, 0x80, 0x90, 0x80, 0x80, 0x80], Error::Base128),
-    (
-        &[0x2A, 0x80, 0xFF, 0xFF, 0xFF, 0xFF, 0xFF, 0x7F],
-        Error::Base128,
-    ),
-    // Octets that `const-oid` accepts, or rejects with another error.
-    (&[0x00, 0x80, 0x00], Error::Base128),
-    (&[0x2A, 0x80, 0x80, 0x80, 0x80, 0x80, 0x0F], Error::Base128),
-    (&[0x00, 0x80, 0x80, 0x81, 0xB5, 0xC6, 0xBA], Error::Base128),
-    (&[0x00, 0x90, 0x80, 0x80, 0x80, 0x80], Error::ArcTooBig),
 ];
 
 /// The owned identifier of octets, or a failure that names them.

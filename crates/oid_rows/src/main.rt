@@ -1,0 +1,120 @@
+//! Answers the rows of standard input, `call input = result`, by the calls of `const_oid`. It prints each row that has
+//! another result, by its line, and then how many rows there are.
+#![tactic(auto)]
+
+mod identifiers;
+mod relations;
+
+use anyhow::{Context, Result};
+use const_oid::{Arc, ObjectIdentifierRef};
+use std::alloc::Global;
+use std::io::{BufRead, BufReader};
+use std::str;
+
+/// A row with so many units for each `{UNIT*COUNT}`.
+fn expanded(alloc: Global, row: &str) -> Result<String> {
+    let mut whole = String::new(alloc);
+    for part in row.split('{') {
+        match part.split_once('}') {
+            Some((repeated, after)) => {
+                push_repeated(&mut whole, repeated)?;
+                whole.push_str(after)?;
+            }
+            None => whole.push_str(part)?,
+        }
+    }
+    Ok(whole)
+}
+
+fn push_repeated(whole: &mut String, repeated: &str) -> Result<()> {
+    let (unit, count) = repeated.split_once('*').context("no count")?;
+    for _ in 0..count.parse::<usize>()? {
+        whole.push_str(unit)?;
+    }
+    Ok(())
+}
+
+/// The words of a row.
+fn words(alloc: Global, input: &str) -> Result<Vec<&str>> {
+    let mut words = Vec::new(alloc);
+    for word in input.split(' ') {
+        if !word.is_empty() {
+            words.push(word)?;
+        }
+    }
+    Ok(words)
+}
+
+/// The arcs of a row.
+fn arcs(alloc: Global, input: &str) -> Result<Vec<Arc>> {
+    let mut arcs = Vec::new(alloc);
+    for word in words(alloc, input)? {
+        arcs.push(word.parse::<Arc>()?)?;
+    }
+    Ok(arcs)
+}
+
+/// The result of a row. What the library for C alone has is left to it, as `None`.
+fn answer(alloc: Global, call: &str, input: &str) -> Result<Option<String>> {
+    let (first, rest) = input.split_once(' ').unwrap_or((input, ""));
+    let words = words(alloc, input)?;
+    Ok(Some(match call {
+        "text" => identifiers::text(alloc, input)?,
+        "text_in" => identifiers::text_in(alloc, rest, first.parse::<usize>()?)?.digits(alloc)?,
+        "component" => match ObjectIdentifierRef::wrong_component(input.as_bytes()) {
+            Some(index) => format!(in alloc; "{index}")?,
+            None => String::from_str(alloc, "none")?,
+        },
+        "bytes" => match str::from_utf8(&hex::decode(alloc, input.as_bytes())?) {
+            Ok(text) => identifiers::text(alloc, text)?,
+            Err(_) => String::from_str(alloc, "no text")?,
+        },
+        "octets" => identifiers::octets(alloc, input)?,
+        "element" => identifiers::element(alloc, input)?,
+        "arcs" => identifiers::arcs(alloc, &arcs(alloc, input)?)?,
+        "arcs_in" => {
+            identifiers::arcs_in(alloc, &arcs(alloc, rest)?, first.parse::<usize>()?)?.digits(
+                alloc,
+            )?
+        }
+        "arcs_from" => identifiers::arcs_from(alloc, first, &arcs(alloc, rest)?)?,
+        "parent" => relations::parent(alloc, input)?,
+        "child" => relations::child(alloc, first, rest.parse::<Arc>()?)?,
+        "sorted" => relations::sorted(alloc, &words)?,
+        "list" => relations::list(alloc, first, words.get(1..).unwrap_or(&[]))?,
+        "items_order" | "error" => return Ok(None),
+        _ => match call.strip_suffix("_order") {
+            Some(call) => relations::in_order(alloc, call, &words)?,
+            None => relations::pair(alloc, call, first, rest)?,
+        },
+    }))
+}
+
+/// What a row has in place of its result, if that is another one.
+fn wrong(alloc: Global, row: &str) -> Result<Option<String>> {
+    let row = expanded(alloc, row)?;
+    let (question, expected) = row.as_str().split_once(" = ").context("no result")?;
+    let (call, input) = question.split_once(' ').unwrap_or((question, ""));
+    let said = match answer(alloc, call, input) {
+        Ok(said) => said,
+        Err(error) => Some(format!(in alloc; "error: {error}")?),
+    };
+    Ok(said.filter(|said| said.as_str() != expected))
+}
+
+fn main(rt: HostRuntime) -> Result<()> {
+    let (mut line, mut rows) = (0usize, 0usize);
+    for row in BufReader::new(rt.alloc(), rt.reader())?.lines(rt.alloc()) {
+        let row = row?;
+        line = line.saturating_add(1);
+        if row.as_str().starts_with('#') {
+            continue;
+        }
+        rows = rows.saturating_add(1);
+        if let Some(said) = wrong(rt.alloc(), row.as_str())? {
+            println!(rt; "line {line}: {row}, and not {said}")?;
+        }
+    }
+    println!(rt; "{rows} rows")?;
+    Ok(())
+}
