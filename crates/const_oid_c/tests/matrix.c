@@ -1,19 +1,25 @@
 #define _GNU_SOURCE
-/* Each function of const_oid.h, by the rules of reference.h: each of its arguments in turn has each length and each
- * number at which code for pointers could cut, and so has each item of a list. Inputs and outputs end at pages that no
- * one may touch. Pages that are mapped and never written take no memory, so lengths pass 2^32 where pointers have 64
- * bits. A null pointer with a length ends the process.
+/* Each function of const_oid.h: each of its arguments in turn has each length and each number at which code for pointers
+ * could cut, and so has each item of a list. Inputs and outputs end at pages that no one may touch. Pages that are mapped
+ * and never written take no memory, so lengths pass 2^32 where pointers have 64 bits. A null pointer with a length ends
+ * the process.
+ *
+ * With -DBESIDE the library is linked to the one that rt proved, too, whose functions have the prefix `proved_`: for each
+ * call both return and write the same, bit for bit. For each function two digests of what it returns and writes are
+ * printed: of the calls that 32 bits allow, and of the others.
  *
  * With -DFUZZED -fsanitize=fuzzer, what libFuzzer gives takes the place of the lengths and numbers. */
-#include "reference.h"
+#include "see.h"
 
 #include <const_oid_names.h>
+#include <inttypes.h>
+#include <string.h>
 #include <sys/mman.h>
 #include <sys/resource.h>
 #include <sys/wait.h>
 #include <unistd.h>
 
-enum { ARGUMENTS = 4, SLOT = 1 << 21, AROUND = 64, UNWRITTEN = 0xEE };
+enum { ARGUMENTS = 4, MOST = 201000, SLOT = 1 << 21, AROUND = 64, UNWRITTEN = 0xEE };
 
 enum kind { NOTHING, OCTETS, DER, TEXT, ARCS, LIST, ITEM, INDEX, NUMBER, OCTETS_OUT, TEXT_OUT, ARCS_OUT, RANGE_OUT,
     ITEM_OUT };
@@ -22,11 +28,19 @@ enum kind { NOTHING, OCTETS, DER, TEXT, ARCS, LIST, ITEM, INDEX, NUMBER, OCTETS_
 static const size_t sizes[] = {0, 1, 1, 1, sizeof(uint32_t), sizeof(const_oid_octets), 1, 0, 0, 1, 1, sizeof(uint32_t),
     sizeof(const_oid_range), sizeof(const_oid_octets)};
 
+/* An argument: items and how many there are, or a number. */
+typedef struct {
+    const void *items;
+    size_t len;
+} argument;
+
+typedef const_oid_status caller(const argument *);
+
 typedef struct {
     const char *name;
-    const_oid_status (*call)(const argument *);
-    answer (*rule)(const argument *);
+    caller *call, *proved;
     enum kind kinds[ARGUMENTS];
+    uint64_t digests[2];
 } function;
 
 static const_oid_status status_of(uint32_t number) { return (const_oid_status){CONST_OID_OK, number, 0}; }
@@ -50,43 +64,71 @@ static const_oid_status status_of(uint32_t number) { return (const_oid_status){C
 #define STATUS_uint32_t(number) status_of(number)
 #define STATUS_int(number) status_of((uint32_t)(number))
 
-/* The inline functions, which calls.h does not have. */
-#define INLINE_CALLS \
-    CALL(int, const_oid_is_under, ARGUMENT(OCTETS, 0), ARGUMENT(OCTETS, 1)) \
-    CALL(int, const_oid_is_equal, ARGUMENT(OCTETS, 0), ARGUMENT(OCTETS, 1))
-
-#define ARGUMENT(kind, i) GIVEN_##kind(i)
+/* The functions that rt proved, if they are here. */
+#ifdef BESIDE
+#define PROVED(name) proved_##name
+#define ARGUMENT(kind, i)
 #define NOTHING
-#define CALL(result, name, ...) \
-    static const_oid_status name##_call(const argument *a) { \
-        (void)a; \
-        return STATUS_##result(name(__VA_ARGS__)); \
-    }
+#define CALL(result, name, ...) extern __typeof__(name) proved_##name;
 #include "calls.h"
-INLINE_CALLS
 #undef ARGUMENT
 #undef NOTHING
 #undef CALL
+#else
+#define PROVED(name) name
+#endif
 
-static const function functions[] = {
-#define ARGUMENT(kind, i) kind
-#define CALL(result, name, ...) {#name, name##_call, name##_rule, {__VA_ARGS__}},
+#define ARGUMENT(kind, i) GIVEN_##kind(i)
+#define NOTHING
+#define CALLER(result, name, called, ...) \
+    static const_oid_status name(const argument *a) { \
+        (void)a; \
+        return STATUS_##result(called(__VA_ARGS__)); \
+    }
+#define CALL(result, name, ...) \
+    CALLER(result, name##_call, name, __VA_ARGS__) \
+    CALLER(result, name##_proved, PROVED(name), __VA_ARGS__)
 #include "calls.h"
-INLINE_CALLS
+#undef CALL
+
+/* The inline functions, which calls.h does not have, are 1 where a status has the detail 1: that of an error is 0 then. */
+#define INLINE(name, of) \
+    CALLER(int, name##_call, name, ARGUMENT(OCTETS, 0), ARGUMENT(OCTETS, 1)) \
+    static const_oid_status name##_proved(const argument *a) { return status_of(of##_proved(a).detail); }
+INLINE(const_oid_is_under, const_oid_starts_with)
+INLINE(const_oid_is_equal, const_oid_eq)
+#undef ARGUMENT
+#undef NOTHING
+
+static function functions[] = {
+#define ARGUMENT(kind, i) kind
+#define CALL(result, name, ...) {#name, name##_call, name##_proved, {__VA_ARGS__}, {1, 1}},
+#include "calls.h"
+    CALL(int, const_oid_is_under, OCTETS, OCTETS)
+    CALL(int, const_oid_is_equal, OCTETS, OCTETS)
 };
 enum { FUNCTIONS = sizeof functions / sizeof *functions };
 
-/* The function that is called, its arguments, and the ends of the memory of each. */
-static const function *f;
+/* The function that is called, its arguments, and the ends of the memory of each and of the output of the proved one. */
+static function *f;
 static argument a[ARGUMENTS];
-static uint8_t *ends[ARGUMENTS];
+static uint8_t *ends[ARGUMENTS + 1];
+
+/* Memory that is mapped and not written: for octets, text and arcs, for lists, and for outputs. */
+typedef struct {
+    uint8_t *start;
+    uint64_t len;
+} pages;
+static pages input_pages, list_pages, output_pages, proved_pages;
+static const_oid_octets *equal_items;
+
+/* Whether an item of a list is longer than 32 bits allow. */
+static int is_wide;
 
 static void must(int fact, const char *words) {
     if (fact) return;
     fprintf(stderr, "tests: %s: %s:", f->name, words);
     for (int at = 0; at < ARGUMENTS && f->kinds[at] != NOTHING; at++) fprintf(stderr, " %zu", a[at].len);
-    for (size_t i = 0; i < run_count; i++)
-        fprintf(stderr, "%s %zu of %zu", i == 0 ? "; items:" : ",", runs[i].times, runs[i].item.len);
     fprintf(stderr, "\n");
     exit(1);
 }
@@ -122,48 +164,58 @@ static int is_unwritten(const uint8_t *from, size_t len) {
     return 1;
 }
 
-/* What was written is what the rule says, and the bytes around it are unchanged. */
-static void check_output(argument out, size_t size, const void *wanted, size_t count) {
+/* The bytes around what was written are unchanged. */
+static void check_output(argument out, size_t size, size_t count) {
     const uint8_t *start = out.items;
     size_t written = count * size, room = out.len * size;
     if (start == NULL) return;
-    must(written == 0 || memcmp(start, wanted, written) == 0, "it wrote something else");
+    must(count <= out.len, "it says that it wrote more than the output has");
     must(is_unwritten(start + written, room < SLOT ? room - written : AROUND), "it wrote more");
     must(room >= SLOT || is_unwritten(start - AROUND, AROUND), "it wrote before the output");
 }
 
-/* What a search may find in a list that is not sorted. */
-static void check_any(const_oid_status got, const argument *given) {
-    size_t count = a[1].len;
-    if (f->kinds[2] == RANGE_OUT) {
-        const const_oid_range *range = given[2].items;
-        must(got.code == CONST_OID_OK && range->start <= range->end && range->end <= count, "the range is elsewhere");
-        return;
-    }
-    must(got.code == (got.len < count ? CONST_OID_OK : CONST_OID_NONE) && got.len <= count, "it is elsewhere");
+/* The proved function returns and writes the same. */
+static void check_proved(const argument *given, const_oid_status got, size_t written) {
+    int out = output_at();
+    argument beside[ARGUMENTS];
+    memcpy(beside, given, sizeof beside);
+    if (is_output(out) && given[out].items != NULL) beside[out].items = ends[ARGUMENTS] - (bytes_of(out) < SLOT ? bytes_of(out) : 0);
+    if (bytes_of(out) >= SLOT) beside[out].items = proved_pages.start;
+    const_oid_status wanted = f->proved(beside);
+    must(got.code == wanted.code, "another code");
+    must(got.detail == wanted.detail, "another detail");
+    must(got.len == wanted.len, "another len");
+    must(written == 0 || memcmp(given[out].items, beside[out].items, written) == 0, "it wrote something else");
 }
 
-/* Calls the function, and compares all that it returns and writes with its rule. */
+/* Adds bytes to a digest (FNV-1a). */
+static void digest(uint64_t *to, const void *bytes, size_t len) {
+    for (size_t i = 0; i < len; i++) *to = (*to ^ ((const uint8_t *)bytes)[i]) * UINT64_C(0x100000001B3);
+}
+
+/* Adds a call to the digests of its function. What lies in an input is told by its offset there. */
+static void digest_call(const argument *given, const_oid_status got, size_t written) {
+    int out = output_at(), wide = is_wide;
+    for (int at = 0; at < ARGUMENTS; at++) wide |= f->kinds[at] != NUMBER && a[at].len > UINT32_C(1) << 25;
+    uint64_t numbers[] = {got.code, got.detail, got.len, 0, 0}, *to = &f->digests[wide];
+    const const_oid_octets *item = given[out].items;
+    const const_oid_range *range = given[out].items;
+    if (f->kinds[out] == RANGE_OUT && written > 0) numbers[3] = range->start, numbers[4] = range->end;
+    if (f->kinds[out] == ITEM_OUT && written > 0)
+        numbers[3] = (uint64_t)(item->octets - (const uint8_t *)given[0].items), numbers[4] = item->len;
+    digest(to, numbers, sizeof numbers);
+    if (f->kinds[out] < RANGE_OUT) digest(to, given[out].items, written);
+}
+
+/* Calls the function, and compares all that it returns and writes with the proved one. */
 static void check_given(const argument *given) {
-    answer wanted = f->rule(given);
     int out = output_at();
-    size_t count = 0, size = sizes[f->kinds[out]];
-    if (wanted.status.code == CONST_OID_OK && is_output(out)) {
-        count = is_one(out) ? 1 : wanted.status.len;
-        if (!is_one(out) && count > a[out].len) {
-            wanted.status.code = CONST_OID_OUTPUT_TOO_SHORT;
-            count = 0;
-        }
-    }
     const_oid_status got = f->call(given);
-    if (wanted.is_any) {
-        check_any(got, given);
-        return;
-    }
-    must(got.code == wanted.status.code, "another code");
-    must(got.detail == wanted.status.detail, "another detail");
-    must(got.len == wanted.status.len, "another len");
-    if (is_output(out)) check_output(given[out], size, wanted.items, count);
+    size_t count = got.code != CONST_OID_OK || !is_output(out) ? 0 : is_one(out) ? 1 : got.len;
+    size_t written = count * sizes[f->kinds[out]];
+    if (is_output(out)) check_output(given[out], sizes[f->kinds[out]], count);
+    check_proved(given, got, written);
+    digest_call(given, got, written);
     for (int at = 0; at < out; at++) {
         if (given[at].items == a[at].items) continue;
         must(memcmp(given[at].items, a[at].items, bytes_of(at)) == 0, "it wrote an input");
@@ -183,14 +235,6 @@ static void check(void) {
 /* Lengths past which a length of fewer bits would be one of three or of one. */
 static const uint64_t cuts[] = {1u << 8, 1u << 16, 1u << 20, 1u << 24, 1u << 31, UINT64_C(1) << 32};
 enum { CUTS = sizeof cuts / sizeof *cuts };
-
-/* Memory that is mapped and not written: for octets, text and arcs, for lists, and for outputs. */
-typedef struct {
-    uint8_t *start;
-    uint64_t len;
-} pages;
-static pages input_pages, list_pages, output_pages;
-static const_oid_octets *equal_items;
 
 /* Whether so many items, and a few, are there. */
 static int has(uint64_t len, uint64_t count, size_t size) { return count + 4 <= len / size; }
@@ -216,9 +260,9 @@ static void with_outputs(void) {
         check();
         return;
     }
-    a[out] = (argument){none, SLOT / 8};
-    answer all = f->rule(a);
-    size_t len = all.status.code == CONST_OID_OK ? all.status.len : 0;
+    a[out] = (argument){output_pages.start, SLOT};
+    const_oid_status all = f->call(a);
+    size_t len = all.code == CONST_OID_OK ? all.len : 0;
     int is_long = len > 1100;
     const argument rooms[] = {{none, len}, {none, len - 1}, {NULL, 0}, {none, 0}, {none, len + 1}, {none, len + 20}};
     for (size_t i = 0; i < (is_long ? 2 : sizeof rooms / sizeof *rooms); i++) {
@@ -317,6 +361,16 @@ static void fill_octets(void *out, size_t len, int form) {
     if (form == 8) memset(to, 0xFF, len < 6 ? len : 6);
 }
 
+/* Writes the tag and, in DER's one form, the length of so many contents octets. */
+static size_t write_head(uint64_t len, uint8_t *to) {
+    size_t count = 0;
+    while (len >= 128 && count < 8 && len >> 8 * count != 0) count++;
+    to[0] = 6;
+    to[1] = (uint8_t)(len < 128 ? len : 128 + count);
+    for (size_t i = 0; i < count; i++) to[2 + i] = (uint8_t)(len >> 8 * (count - 1 - i));
+    return 2 + count;
+}
+
 /* The greatest element of such octets that is not longer, and zeros after it. */
 static void fill_der(void *out, size_t len, int form) {
     uint8_t head[10], *to = out;
@@ -357,14 +411,15 @@ static const struct {
 
 /* Each identifier with a name, since a function could know it. Bytes follow an element. */
 static void vary_names(int lead, enum kind kind) {
-    static uint32_t items[128];
+    static uint32_t arcs[128];
+    static char text[512];
+    static uint8_t der[128];
     for (size_t i = 0; i < CONST_OID_NAMES_COUNT; i++) {
-        const argument octets = {const_oid_name_octets[i].octets, const_oid_name_octets[i].len};
-        answer form = kind == DER ? const_oid_to_der_rule(&octets) : const_oid_arcs_rule(&octets);
-        if (kind == TEXT) form = printed(&first);
-        if (kind == OCTETS) form = encoded(&first);
-        memcpy(items, form.items, form.status.len * sizes[kind]);
-        with(lead, items, form.status.len + (kind == DER ? 3 : 0));
+        const const_oid_octets of = const_oid_name_octets[i];
+        if (kind == OCTETS) with(lead, of.octets, of.len);
+        if (kind == ARCS) with(lead, arcs, const_oid_arcs(of.octets, of.len, arcs, 128).len);
+        if (kind == TEXT) with(lead, text, const_oid_to_text(of.octets, of.len, text, sizeof text).len);
+        if (kind == DER) with(lead, der, const_oid_to_der(of.octets, of.len, der, sizeof der - 3).len + 3);
     }
 }
 
@@ -413,21 +468,6 @@ static void vary_numbers(int lead) {
     with(lead, NULL, f->kinds[lead] == NUMBER ? UINT32_MAX : SIZE_MAX);
 }
 
-static void run_of(const uint8_t *octets, size_t len, size_t times) {
-    if (times == 0) return;
-    runs[run_count].item = (argument){octets, len};
-    runs[run_count++].times = times;
-}
-
-/* The runs: so many of an item, the item that varies, and so many of another. */
-static size_t set_runs(const uint8_t *before, size_t lower, argument item, const uint8_t *after, size_t upper) {
-    run_count = 0;
-    run_of(before, 1, lower);
-    run_of(item.items, item.len, 1);
-    run_of(after, 1, upper);
-    return lower + 1 + upper;
-}
-
 /* The identifiers beside an item of a few octets or of many. */
 static void search_beside(argument item) {
     static uint8_t longer[MOST], other[MOST];
@@ -442,21 +482,21 @@ static void search_beside(argument item) {
     memcpy(searched, all, sizeof all);
 }
 
-/* The list of the runs, copied out. */
-static void with_runs(int lead, argument item, size_t count) {
+/* A list: so many of an item, the item that varies, and so many of another. */
+static void with_list(int lead, const uint8_t *before, size_t lower, argument item, const uint8_t *after, size_t upper) {
     static const_oid_octets items[MOST];
-    size_t at = 0;
-    for (size_t i = 0; i < run_count; i++) {
-        const const_oid_octets octets = {runs[i].item.items, runs[i].item.len};
-        for (size_t k = 0; k < runs[i].times; k++) items[at++] = octets;
-    }
+    for (size_t i = 0; i < lower; i++) items[i] = (const_oid_octets){before, 1};
+    items[lower] = (const_oid_octets){item.items, item.len};
+    for (size_t i = 0; i < upper; i++) items[lower + 1 + i] = (const_oid_octets){after, 1};
     search_beside(item);
-    with(lead, items, count);
+    with(lead, items, lower + 1 + upper);
 }
 
 /* An item of each length, the first one, in the middle and the last one. */
 static void vary_items(int lead, argument item) {
-    for (size_t lower = 0; lower <= 2; lower++) with_runs(lead, item, set_runs(one, lower, item, two, 2 - lower));
+    is_wide = item.len > UINT32_C(1) << 25;
+    for (size_t lower = 0; lower <= 2; lower++) with_list(lead, one, lower, item, two, 2 - lower);
+    is_wide = 0;
 }
 
 static void vary_item_lengths(int lead) {
@@ -472,10 +512,8 @@ static void vary_item_lengths(int lead) {
     int reads_all = lead == 0;
     memset(input_pages.start, 0, 16);
     memcpy(input_pages.start, (const uint8_t[]){0x2A, 3, 4, reads_all ? 0x80 : 0}, 4);
-    is_sorted = !reads_all;
     for (int i = 2; i < CUTS; i++)
         if (has(input_pages.len, cuts[i], 1)) vary_items(lead, (argument){input_pages.start, (size_t)cuts[i] + 3});
-    is_sorted = 0;
 }
 
 /* An item in lists of each number of items; and lists that are not sorted. */
@@ -483,15 +521,14 @@ static void vary_counts(int lead) {
     static const uint8_t middle[] = {0x2A, 3};
     const argument item = {middle, 2};
     search_beside(item);
-    run_count = 0;
     with(lead, NULL, 0);
     with(lead, usual_list, 0);
     for (int i = 0; i < LENS; i++) {
         size_t others = len_at(i);
-        with_runs(lead, item, set_runs(one, others, item, two, 0));
-        with_runs(lead, item, set_runs(one, others / 2, item, two, others - others / 2));
-        with_runs(lead, item, set_runs(one, 0, item, two, others));
-        with_runs(lead, item, set_runs(three, others, item, NULL, 0));
+        with_list(lead, one, others, item, two, 0);
+        with_list(lead, one, others / 2, item, two, others - others / 2);
+        with_list(lead, one, 0, item, two, others);
+        with_list(lead, three, others, item, NULL, 0);
     }
 }
 
@@ -503,16 +540,11 @@ static void vary_huge_lists(int lead) {
     if (reads_all) {
         items[0] = (const_oid_octets){one, 1};
         items[2].len = 3;
-        set_runs(one, 1, (argument){NULL, 0}, NULL, 0);
         for (int i = 0; i < CUTS; i++)
             if (has(list_pages.len, cuts[i], sizeof *items)) with(lead, items, (size_t)cuts[i] + 1);
     } else if (equal_items != NULL) {
-        const argument item = {three, 1};
-        set_runs(one, (size_t)cuts[CUTS - 1], item, NULL, 0);
-        is_sorted = 1;
-        search_beside(item);
+        search_beside((argument){three, 1});
         with(lead, equal_items, (size_t)cuts[CUTS - 1] + 1);
-        is_sorted = 0;
     }
 }
 
@@ -522,17 +554,7 @@ static void vary_list(int lead) {
     vary_huge_lists(lead);
 }
 
-/* The list of usual_list. */
-static void list_usual(void) {
-    run_count = 4;
-    for (size_t i = 0; i < run_count; i++) {
-        runs[i].item = (argument){usual_list[i].octets, usual_list[i].len};
-        runs[i].times = 1;
-    }
-}
-
 static void vary(int lead) {
-    list_usual();
     switch (f->kinds[lead]) {
         case OCTETS:
         case ITEM: vary_array(lead, OCTETS); break;
@@ -547,7 +569,6 @@ static void vary(int lead) {
 /* Arguments with a result that is written. */
 static void set_usual(void) {
     argument values[SEARCHED] = {{NULL, 0}};
-    list_usual();
     for (int at = 0; at < ARGUMENTS; at++) {
         values_beside(f->kinds[at], NOTHING, a[at], values);
         a[at] = sizes[f->kinds[at]] == 0 ? (argument){NULL, 1} : is_output(at) ? (argument){usual, 64} : values[0];
@@ -598,12 +619,16 @@ static uint32_t drawn(uint32_t end) {
 static size_t draw_text(const uint32_t *arcs, size_t count, char *text) {
     static const char bytes[] = {'.', 'x', '9', '\xFF'};
     size_t len = 0;
-    for (size_t i = 0; i < count; i++) {
-        if (i > 0) text[len++] = '.';
-        len += write_decimal(arcs[i], text + len);
-    }
+    for (size_t i = 0; i < count; i++) len += (size_t)sprintf(text + len, i > 0 ? ".%" PRIu32 : "%" PRIu32, arcs[i]);
     if (drawn(2)) text[drawn((uint32_t)len)] = bytes[drawn(4)];
     return len + (drawn(16) == 0 ? (text[len] = '.', 1) : 0);
+}
+
+/* How many octets the subidentifier of an arc has. */
+static size_t octets_of(uint32_t arc) {
+    size_t len = 1;
+    while ((arc >>= 7) != 0) len++;
+    return len;
 }
 
 /* Drawn texts or arcs whose octets are around 255 and 256, some wrong, and outputs around their length. */
@@ -615,7 +640,7 @@ static void check_drawn(void) {
         size_t count = 2, octets = 1, aim = 230 + drawn(50);
         arcs[0] = drawn(3);
         arcs[1] = drawn(16) == 0 ? drawn(UINT32_MAX) : drawn(40);
-        for (; octets < aim; octets += write_number(arcs[count++], (uint8_t *)text)) {
+        for (; octets < aim; octets += octets_of(arcs[count++])) {
             arcs[count] = drawn(UINT32_MAX) >> 7 * drawn(5);
         }
         if (f->kinds[0] == ARCS && drawn(16) == 0) arcs[drawn((uint32_t)count)] = drawn(8);
@@ -656,7 +681,7 @@ static void map_equal_items(void) {
 /* The memory of an argument, between pages that no one may touch. */
 static void map_arguments(void) {
     size_t page = (size_t)sysconf(_SC_PAGESIZE);
-    for (int at = 0; at < ARGUMENTS; at++) {
+    for (int at = 0; at <= ARGUMENTS; at++) {
         uint8_t *start = mmap(NULL, SLOT + 2 * page, PROT_NONE, MAP_PRIVATE | MAP_ANONYMOUS, -1, 0);
         SEE(start != MAP_FAILED && mprotect(start + page, SLOT, PROT_READ | PROT_WRITE) == 0, (size_t)at);
         ends[at] = start + page + SLOT;
@@ -671,12 +696,12 @@ int LLVMFuzzerTestOneInput(const uint8_t *data, size_t len) {
     if (len > MOST) return -1;
     if (output_pages.start == NULL) map_arguments();
     map(&output_pages, 34);
+    map(&proved_pages, 34);
     memcpy(items, data, len);
     for (size_t i = 0; i < len; i++) text[i] = data[i] < 0x80 ? data[i] : 0xFF;
     for (int i = 0; i < FUNCTIONS; i++) {
         f = &functions[i];
-        list_usual();
-        for (int at = 0; at < output_at(); at++) {
+            for (int at = 0; at < output_at(); at++) {
             enum kind kind = f->kinds[at];
             if (sizes[kind] == 0 || kind == LIST) continue;
             with(at, kind == TEXT ? (void *)text : items, len / sizes[kind]);
@@ -689,6 +714,7 @@ int main(void) {
     map_arguments();
     map(&input_pages, 34);
     map(&output_pages, 34);
+    map(&proved_pages, 34);
     map(&list_pages, 36);
     map_equal_items();
     for (int i = 0; i < FUNCTIONS; i++) {
@@ -700,6 +726,7 @@ int main(void) {
         set_usual();
         if (is_output(output_at()) && !is_one(output_at())) with_huge_outputs();
         for (int at = 0; at < output_at(); at++) vary(at);
+        printf("%s %016" PRIX64 " %016" PRIX64 "\n", f->name, f->digests[0], f->digests[1]);
     }
     if (equal_items == NULL) fprintf(stderr, "tests: no length past 2^32, since no more is mapped\n");
     return 0;
