@@ -1,12 +1,12 @@
 #define _GNU_SOURCE
-/* Each function of const_oid.h: each of its arguments in turn has each length and each number at which code for pointers
- * could cut, and so has each item of a list. Inputs and outputs end at pages that no one may touch. Pages that are mapped
- * and never written take no memory, so lengths pass 2^32 where pointers have 64 bits. A null pointer with a length ends
- * the process.
+/* Each function of const_oid.h: each of its arguments in turn has each length and each number at which code for
+ * pointers could cut, and so has each item of a list. Inputs and outputs end at pages that no one may touch. Pages that
+ * are mapped and never written take no memory, so lengths pass 2^32 where pointers have 64 bits. A null pointer with a
+ * length ends the process.
  *
- * With -DBESIDE the library is linked to the one that rt proved, too, whose functions have the prefix `proved_`: for each
- * call both return and write the same, bit for bit. For each function two digests of what it returns and writes are
- * printed: of the calls that 32 bits allow, and of the others.
+ * With -DBESIDE the library that rt proved is linked, too, its functions with the prefix `proved_`: for each call both
+ * return and write the same, bit for bit. For each function digests of what it returns and writes are printed: one of
+ * the calls that 32 bits allow, and one of the others, if they are made.
  *
  * With -DFUZZED -fsanitize=fuzzer, what libFuzzer gives takes the place of the lengths and numbers. */
 #include "see.h"
@@ -91,7 +91,7 @@ static const_oid_status status_of(uint32_t number) { return (const_oid_status){C
 #include "calls.h"
 #undef CALL
 
-/* The inline functions, which calls.h does not have, are 1 where a status has the detail 1: that of an error is 0 then. */
+/* The inline functions, which calls.h does not have, return the detail of a status, which is 0 for an error. */
 #define INLINE(name, of) \
     CALLER(int, name##_call, name, ARGUMENT(OCTETS, 0), ARGUMENT(OCTETS, 1)) \
     static const_oid_status name##_proved(const argument *a) { return status_of(of##_proved(a).detail); }
@@ -109,7 +109,7 @@ static function functions[] = {
 };
 enum { FUNCTIONS = sizeof functions / sizeof *functions };
 
-/* The function that is called, its arguments, and the ends of the memory of each and of the output of the proved one. */
+/* The function that is called, its arguments, and the ends of their memory and of that of the proved one's output. */
 static function *f;
 static argument a[ARGUMENTS];
 static uint8_t *ends[ARGUMENTS + 1];
@@ -179,8 +179,8 @@ static void check_proved(const argument *given, const_oid_status got, size_t wri
     int out = output_at();
     argument beside[ARGUMENTS];
     memcpy(beside, given, sizeof beside);
-    if (is_output(out) && given[out].items != NULL) beside[out].items = ends[ARGUMENTS] - (bytes_of(out) < SLOT ? bytes_of(out) : 0);
     if (bytes_of(out) >= SLOT) beside[out].items = proved_pages.start;
+    else if (is_output(out) && given[out].items != NULL) beside[out].items = ends[ARGUMENTS] - bytes_of(out);
     const_oid_status wanted = f->proved(beside);
     must(got.code == wanted.code, "another code");
     must(got.detail == wanted.detail, "another detail");
@@ -726,7 +726,9 @@ int main(void) {
         set_usual();
         if (is_output(output_at()) && !is_one(output_at())) with_huge_outputs();
         for (int at = 0; at < output_at(); at++) vary(at);
-        printf("%s %016" PRIX64 " %016" PRIX64 "\n", f->name, f->digests[0], f->digests[1]);
+        printf("%s %016" PRIX64, f->name, f->digests[0]);
+        if (equal_items != NULL) printf(" %016" PRIX64, f->digests[1]);
+        printf("\n");
     }
     if (equal_items == NULL) fprintf(stderr, "tests: no length past 2^32, since no more is mapped\n");
     return 0;
