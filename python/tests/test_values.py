@@ -20,7 +20,7 @@ OCTETS = bytes.fromhex("2A8648CE3D0201")
 LONG = ObjectIdentifier.from_bytes(bytes([42] + [3] * 299))
 GREATEST = b"\x8f\xff\xff\xff\x7f"
 
-# Errors: the call, the code and what it says; for each input the detail, and the wrong piece of a text.
+# Errors: the call, the code and what it says; for each input the detail, and the index of the wrong component.
 WRONG = [
     (ObjectIdentifier, 5, "OID value is empty", {"": (0, 0)}),
     (ObjectIdentifier, 5, "an identifier has two arcs or more", {"1": (0, 0)}),

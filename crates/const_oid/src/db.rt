@@ -87,8 +87,8 @@ impl<'a> Database<'a> {
     pub fn indexed(self, memory: &'a mut [u16]) -> Self
         ensures { entries_of result ≡ entries_of self.entry }
     {
-        // An index with a slot for every two entries is fast. If half of the memory is too short for one, all is for the index
-        // by identifier, which has more slots then.
+        // An index with a slot for every two entries is fast. If half of the memory is too short for one, all is for the
+        // index by identifier, which has more slots then.
         let len = if memory.len() / 3 > self.entries.len() {
             memory.len() / 2
         } else {

@@ -20,8 +20,7 @@ use std::result;
 ///
 /// # Errors
 ///
-/// Those of [`new`](crate::ObjectIdentifier::new), with [`Error::Length`] if the arcs take more octets than
-/// `limit`.
+/// Those of [`new`](crate::ObjectIdentifier::new), with [`Error::Length`] if the arcs take more octets than `limit`.
 pub fn bytes_len_from_ascii(text: &[u8], limit: usize) -> Result<usize>
     ensures len { result ≡ size_answer (text_answer root_rule text.now limit) }
     ensures enough { length text.now ≤ limit → result ≢ Err Error.Length }

@@ -48,8 +48,7 @@ pub(crate) fn first_octets(octets: &[u8], len: usize) -> &[u8]
     octets.get(..len).unwrap_or(&[])
 }
 
-/// Copies octets to the start of as many or more, as `fast::copies::copy_to` does. Only the cargo crate calls this, for
-/// less code.
+/// Copies octets to the start of `out`, as `fast::copies::copy_to` does. Only the cargo crate calls this, for less code.
 #[inline(always)]
 pub(crate) fn copy_by_octet(octets: &[u8], out: &mut [u8])
     requires { length octets.now ≤ length out.old }

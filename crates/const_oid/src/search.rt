@@ -99,8 +99,8 @@ pub fn subtree_of<T: Contents>(items: &[T], oid: &ObjectIdentifierRef<'_>) -> (u
     (from, from + inside)
 }
 
-/// The index of the first item with the longest prefix of an identifier, which may be the identifier itself, or `None` if
-/// the list has no prefix.
+/// The index of the first item with the longest prefix of an identifier, which may be the identifier itself, or `None`
+/// if the list has no prefix.
 pub fn nearest_of<T: Contents>(items: &[T], oid: &ObjectIdentifierRef<'_>) -> Option<usize>
     ensures found { IsSortedList T.octets_of items.now → IfSome result (λ index.
         IfSome (slice_get items.now index) (IsNearestBy (item_arcs T.octets_of) items.now (ref_arcs oid.now))) }
@@ -115,8 +115,8 @@ pub fn nearest_of<T: Contents>(items: &[T], oid: &ObjectIdentifierRef<'_>) -> Op
             Ok(index) => return Some(index),
             Err(index) => index,
         };
-        // A prefix of `above` that the list has is also one of the last item before `above`, so their common prefix is looked
-        // for next. Often that is the last item itself, which saves a second search.
+        // A prefix of `above` that the list has is also one of the last item before `above`, so their common prefix is
+        // looked for next. Often that is the last item itself, which saves a second search.
         let before = items[..index].last()?.contents();
         above = common_prefix(above.parent()?, before)?;
         if is_first_at(items, &above, index - 1) {

@@ -12,7 +12,7 @@ use Rattle.const_oid_c.specs.{declared.status.Status.Status}
 use Rattle.const_oid_c.specs.Status.{fault_at, max_len, too_short_status}
 use Rattle.const_oid_c.proofs.Writes.{IsWritten}
 
--- arcs of an identifier that takes more octets than so many
+-- arcs of an identifier that takes more than `few` octets
 pub record IsLonger (few : ℕ) (arcs : List ℕ) : Type 0 where
   pub identifier : IsIdentifier root_rule arcs
   pub more : few < size arcs
@@ -22,7 +22,7 @@ pub none_from_answer : (fault : Option Error) (xs ys : List ℕ) → answer faul
 none_from_answer None xs ys same = (refl, cc)
 none_from_answer (Some fault) xs ys same = cc
 
--- a text that denotes arcs, and is refused for so many octets
+-- a text that denotes arcs, and is rejected at the capacity `few`
 pub longer_text : (few : ℕ) {fault : Error} (text arcs : List ℕ) → text_answer root_rule text few ≡ Err fault
     → text_answer root_rule text max_len ≡ Ok arcs → IsLonger few arcs
 longer_text few {fault} text arcs refused read =
@@ -49,7 +49,7 @@ longer_arcs few {fault} arcs accepted small refused read =
     (cases_lt few (size arcs)) in
     rw (← same) record { identifier = identifier; more = more; fits = fits }
 
--- nothing is written, and the status is that of so many octets, or of the fault
+-- nothing is written, and the status is that of the count, or of the fault
 pub not_written : (index : ℕ) {old : List ℕ} {status : Status} (read : Result (List ℕ) Error)
     → ((arcs : List ℕ) → read ≡ Ok arcs → IsLonger (length old) arcs)
     → MatchResult (size_answer read) (λ len. status ≡ too_short_status len) (λ fault. status ≡ fault_at index fault)

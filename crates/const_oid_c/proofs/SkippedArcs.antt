@@ -11,7 +11,7 @@ came : (arcs before left : List ℕ) → Yields Takes arcs before left → arcs 
 came arcs [] left y = y
 came arcs (arc ∷ before) left (j, e, y) = e ∙ ap (λ xs. arc ∷ xs) (came j before left y)
 
--- after so many arcs, and one more, or after all
+-- after `count` arcs, and one more, or after all
 skipped_then : (count : ℕ) (before left after : List ℕ) (arc : Option ℕ) → Takes left arc after
     → MatchOption arc (length before ≤ count) (λ _. length before ≡ count) → after ≡ drop (count + 1) (before ++ left)
 skipped_then count before left after None (none, end) few =

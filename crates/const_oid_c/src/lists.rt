@@ -155,7 +155,7 @@ fn next_of(sorted: &[Octets<'_>], oid: &ObjectIdentifierRef<'_>) -> Option<usize
     }
 }
 
-/// The status of an index, if there is one, or that none of so many items is found.
+/// The status of an index, if there is one, or that none of `count` items is found.
 fn index_status(index: Option<usize>, count: usize) -> Status
     ensures { result ≡ index_status count index }
 {

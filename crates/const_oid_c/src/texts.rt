@@ -52,8 +52,8 @@ fn write_after_fault(text: &[u8], out: &mut [u8], fault: Error, index: usize) ->
     }
 }
 
-/// Writes the contents octets of the identifier that dotted text denotes, of any length, or counts those that do not fit.
-/// An identifier of up to 255 octets is quicker to make.
+/// Writes the contents octets of the identifier that dotted text denotes, of any length, or counts those that do not
+/// fit. An identifier of up to 255 octets is quicker to make.
 #[tactic(auto, using(crate::proofs::Capacities::same_text))]
 fn write_long_text(text: &[u8], out: &mut [u8]) -> Status
     ensures status { result ≡ output_status (length out.old) (octets_of_ascii text.now) }

@@ -62,7 +62,7 @@ fn prints_each_row(rt: HostRuntime) -> Result<(), Fail> {
     Ok(())
 }
 
-/// Whether so many equal octets print as the text of the first one and then a text for each later one.
+/// Whether `count` equal octets print as the text of the first one and then a text for each later one.
 fn equal_octets_print(
     alloc: Global,
     octet: u8,

@@ -39,7 +39,7 @@ pub(crate) type Output<T> = [MaybeUninit<T>];
 ///
 /// # Safety
 ///
-/// The pointer is valid for reads of so many items, which nothing writes, for `'a`, or the length is 0.
+/// The pointer is valid for reads of `len` items, which nothing writes, for `'a`, or the length is 0.
 /// This holds for the pointers of items, too.
 pub(crate) unsafe fn input<'a, T>(items: *const T, len: usize) -> &'a [T] {
     if len == 0 {
@@ -53,7 +53,7 @@ pub(crate) unsafe fn input<'a, T>(items: *const T, len: usize) -> &'a [T] {
 ///
 /// # Safety
 ///
-/// The pointer is valid for writes of so many items, which nothing else reads or writes, for `'a`, or
+/// The pointer is valid for writes of `len` items, which nothing else reads or writes, for `'a`, or
 /// the length is 0.
 pub(crate) unsafe fn output<'a, T>(items: *mut T, len: usize) -> &'a mut Output<T> {
     if len == 0 {
@@ -79,7 +79,7 @@ pub(crate) fn copy(bytes: &[u8], out: &mut Output<u8>) {
     }
 }
 
-/// Copies so many bytes at each end.
+/// Copies `N` bytes at each end.
 #[inline(always)]
 fn copy_ends<const N: usize>(bytes: &Output<u8>, out: &mut Output<u8>) {
     let end = bytes.len() - N;

@@ -142,20 +142,20 @@ mod model {
 
     /// Stops at the index of a wrong component.
     fn of_components(text: &[u8], capacity: usize, stop: &mut usize) -> Answer {
-        let pieces: Vec<&[u8]> = text.split(|byte| *byte == b'.').collect();
+        let components: Vec<&[u8]> = text.split(|byte| *byte == b'.').collect();
         let (mut arcs, mut room) = (Vec::new(), capacity);
-        for (index, piece) in pieces.iter().enumerate() {
+        for (index, component) in components.iter().enumerate() {
             *stop = index;
-            let digits = piece.iter().take_while(|byte| byte.is_ascii_digit());
+            let digits = component.iter().take_while(|byte| byte.is_ascii_digit());
             let number = number(10, digits.map(|digit| digit - b'0'));
             if number > MAX_ARC {
                 return Err(Error::ArcTooBig);
             }
-            if let Some(actual) = piece.iter().copied().find(|byte| !byte.is_ascii_digit()) {
+            if let Some(actual) = component.iter().copied().find(|byte| !byte.is_ascii_digit()) {
                 return Err(Error::DigitExpected { actual });
             }
-            let is_last = index + 1 == pieces.len();
-            if piece.is_empty() {
+            let is_last = index + 1 == components.len();
+            if component.is_empty() {
                 return Err(match index {
                     0 if is_last => Error::Empty,
                     0 => Error::DigitExpected { actual: b'.' },
@@ -163,7 +163,7 @@ mod model {
                     _ => Error::RepeatedDot,
                 });
             }
-            if index + 2 == pieces.len() && pieces[index + 1].is_empty() {
+            if index + 2 == components.len() && components[index + 1].is_empty() {
                 return Err(Error::TrailingDot);
             }
             arcs.push(number as Arc);
@@ -259,7 +259,7 @@ fn check_octets(octets: &[u8]) {
     }
 }
 
-/// A function that writes octets of any length into an output of so many octets. The result is at its start, and the rest
+/// A function that writes octets of any length into an output of `size` octets. The result is at its start, and the rest
 /// is kept.
 fn check_written(
     row: impl Debug,
@@ -276,7 +276,7 @@ fn check_written(
     assert!(out.starts_with(&octets) && out[octets.len()..].iter().all(|byte| *byte == 0xA5), "{row:?}, {size}");
 }
 
-/// The functions that write the octets of a text into an output of so many octets.
+/// The functions that write the octets of a text into an output of `size` octets.
 fn write_text(text: &str, size: usize) {
     let answer = model::of_text(text.as_bytes(), size);
     check_written(text, size, &answer, |out| ObjectIdentifierRef::new_in(text, out));
@@ -290,7 +290,7 @@ fn write_text(text: &str, size: usize) {
     }
 }
 
-/// The function that writes the octets of arcs into an output of so many octets.
+/// The function that writes the octets of arcs into an output of `size` octets.
 fn write_arcs(arcs: &[Arc], size: usize) {
     check_written(arcs, size, &model::of_arcs(arcs, size), |out| ObjectIdentifierRef::from_arcs_in(arcs, out));
 }
@@ -805,7 +805,7 @@ impl Drawn {
         self.below(1 << bits) as Arc
     }
 
-    /// Arcs of an identifier, up to so many octets or a few more.
+    /// Arcs of an identifier that take up to `octets` octets, or a few more.
     fn arcs(&mut self, octets: usize) -> Vec<Arc> {
         let first = self.below(3) as Arc;
         let second = if first < 2 { self.below(40) as Arc } else { self.arc() };

@@ -34,7 +34,7 @@ pub fn header(table: &str) -> Result<String> {
     Ok(parts.into_iter().fold(include_str!("c_names.h").into(), filled))
 }
 
-/// Hashes and indexes as so many places for `c_names.h`: an index is in the first place that is free from its hash on.
+/// Hashes and indexes in `places` places for `c_names.h`: an index is in the first place that is free from its hash on.
 fn by_hash(hashes: impl Iterator<Item = (u32, usize)>, free: usize, places: usize) -> String {
     let mut by_hash = vec![free; places];
     for (hash, index) in hashes {

@@ -152,7 +152,7 @@ const PADDED: [(&str, &str); 5] = [
     ("name 2.5.4.", "cn\n"),
 ];
 
-/// A text of so many bytes: a prefix, zeros, `3` and a newline.
+/// A text of `len` bytes: a prefix, zeros, `3` and a newline.
 fn padded(alloc: Global, prefix: &str, len: usize) -> Result<String, Fail> {
     let zeros = "0".repeat(alloc, len.saturating_sub(prefix.len()).saturating_sub(2))?;
     Ok(format!(in alloc; "{prefix}{zeros}3\n")?)
@@ -202,7 +202,7 @@ const LONGEST: [(&str, &str, usize); 3] = [
     ("908080804F", "2.4294967295", 2040),
 ];
 
-/// Whether a first group and so many groups 7F are the longest input and print these arcs.
+/// Whether a first group and `count` groups 7F are the longest input and print these arcs.
 fn prints_longest(alloc: Global, first: &str, arcs: &str, count: usize) -> Result<bool, Fail> {
     let groups = "7F".repeat(alloc, count)?;
     let later = ".127".repeat(alloc, count)?;

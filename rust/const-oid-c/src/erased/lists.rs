@@ -75,7 +75,7 @@ fn next_of(sorted: &[Octets<'_>], oid: &ObjectIdentifierRef) -> Option<usize> {
     if index < sorted.len() { Some(index) } else { None }
 }
 
-/// The status of an index, if there is one, or that none of so many items is found.
+/// The status of an index, if there is one, or that none of `count` items is found.
 fn index_status(index: Option<usize>, count: usize) -> Status {
     match index {
         Some(index) => len_status(index),

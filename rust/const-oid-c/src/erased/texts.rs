@@ -36,8 +36,8 @@ extern "C" fn write_after_fault(text: &[u8], out: &mut crate::edge::Output<u8>, 
     }
 }
 
-/// Writes the contents octets of the identifier that dotted text denotes, of any length, or counts those that do not fit.
-/// An identifier of up to 255 octets is quicker to make.
+/// Writes the contents octets of the identifier that dotted text denotes, of any length, or counts those that do not
+/// fit. An identifier of up to 255 octets is quicker to make.
 fn write_long_text(text: &[u8], out: &mut crate::edge::Output<u8>) -> Status {
     match ObjectIdentifier::<MAX_OCTETS>::from_ascii(text) {
         Ok(oid) => write_octets(Ok(oid), out),

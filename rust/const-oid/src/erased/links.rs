@@ -75,8 +75,8 @@ fn is_spread(links: &[u16], count: usize) -> bool {
     firsts.all(|first| has_at_most(links, count, *first as usize, count / 4 + 2))
 }
 
-/// Writes links of entries by a key to `memory`, and returns them. Returns `links` if `memory` is no longer than those, or
-/// than the entries, if those are over 65,535, or if the new links are not spread over the slots.
+/// Writes links of entries by a key to `memory`, and returns them. Returns `links` if `memory` is no longer than `links`
+/// or `entries`, if there are over 65,535 entries, or if the new links are not spread over the slots.
 pub(crate) fn links_in<'a>(entries: &[Entry<'_>], key: Key, links: &'a [u16], memory: &'a mut [u16]) -> &'a [u16] {
     let count = entries.len();
     if memory.len() <= count.max(links.len()) || count > u16::MAX as usize {

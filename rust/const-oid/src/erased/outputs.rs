@@ -14,8 +14,7 @@ use core::result;
 ///
 /// # Errors
 ///
-/// Those of [`new`](crate::ObjectIdentifier::new), with [`Error::Length`] if the arcs take more octets than
-/// `limit`.
+/// Those of [`new`](crate::ObjectIdentifier::new), with [`Error::Length`] if the arcs take more octets than `limit`.
 pub fn bytes_len_from_ascii(text: &[u8], limit: usize) -> Result<usize> {
     parse(text, &mut [], limit)
 }

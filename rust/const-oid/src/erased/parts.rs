@@ -35,8 +35,7 @@ pub(crate) fn first_octets(octets: &[u8], len: usize) -> &[u8] {
     octets.get(..len).unwrap_or(&[])
 }
 
-/// Copies octets to the start of as many or more, as `fast::copies::copy_to` does. Only the cargo crate calls this, for
-/// less code.
+/// Copies octets to the start of `out`, as `fast::copies::copy_to` does. Only the cargo crate calls this, for less code.
 #[inline(always)]
 pub(crate) fn copy_by_octet(octets: &[u8], out: &mut [u8]) {
     let mut index = 0;
