@@ -1,17 +1,16 @@
 -- For callers: what follows of identifiers that are held.
-use Rattle.std.proofs.Common.{◌≡◌, ◌≢◌, ℕ, zero, suc, ◌+◌, Bool, ◌&&◌, not, true, false, ◌<◌, ◌≤◌, List, [], length, nat_lt}
-use Rattle.std.proofs.Common.{min, Some, Ok, Less, nat_cmp, sym, arith, slice_get, length-append, append-nil}
-use Rattle.std.specs.{Cmp.Lexicographic.slice_cmp, Ordering.{is_le, is_lt}, Prelude.Result, Iterator.YieldsFirst}
+use Rattle.std.proofs.Common.{◌≡◌, ℕ, zero, suc, ◌+◌, Bool, ◌&&◌, not, true, false, ◌<◌, ◌≤◌, List, [], length, nat_lt}
+use Rattle.std.proofs.Common.{min, Some, Ok, sym, arith, slice_get}
+use Rattle.std.specs.{Prelude.Result, Iterator.YieldsFirst}
 use Rattle.std.proofs.{Math.Seq.get_or-append_seam, iter.Rest.run_of_first}
-use Rattle.std.proofs.lemmas.{Bool.{and_parts, not-true}, List.{length-take, Sums.count_by-le-length}, Option.gets, Cmp.nat_list_cmp_total, Grind.common_steps}
-use Rattle.std.proofs.lemmas.Bool.Decides.{nat_tests}
+use Rattle.std.proofs.lemmas.{Bool.{and_parts, not-true}, List.{length-take, Sums.count_by-le-length}, Option.gets}
 use Rattle.const_oid.specs.{declared.oid.ObjectIdentifier.ObjectIdentifier, declared.error.Error.Error, OidRef.{ref_arcs, ref_octets}}
 use Rattle.const_oid.specs.{declared.oid_ref.ObjectIdentifierRef.ObjectIdentifierRef, Items.{item_answer, TakesItems}}
-use Rattle.const_oid.specs.{Contents.arcs_of_octets, Orders.shortlex_cmp}
+use Rattle.const_oid.specs.{Contents.arcs_of_octets}
 use Rattle.const_oid.specs.Identifier.{RootRule, root_rule, IsIdentifier, IsEncoding, size, encoding_of}
 use Rattle.const_oid.specs.{Oid.{oid_arcs, oid_octets}, Text.{text_of, text_answer}}
-use Rattle.const_oid.specs.Tree.{BeginsWith, parent_of, child_of}
-use Rattle.const_oid.proofs.{BeginsWith.{ancestor_short, ancestor_before}, Lengths.{length_is_size, length_by_count}}
+use Rattle.const_oid.specs.Tree.{parent_of, child_of}
+use Rattle.const_oid.proofs.{Lengths.{length_is_size, length_by_count}}
 use Rattle.const_oid.proofs.Encodings.{oid_encoding, ref_encoding, encoding_of-encoded}
 use Rattle.const_oid.proofs.{Texts.{text_denotes, text_fault-none}, Tree.{parent_of-child_of, child_of-parent_of}}
 
@@ -77,28 +76,6 @@ pub ref_child_of_parent : (oid : ObjectIdentifierRef) (parent : List ℕ) (arc :
     → parent_of (ref_arcs oid) ≡ Some parent → slice_get (ref_arcs oid) (length parent) ≡ Some arc
     → child_of parent arc ≡ ref_arcs oid
 ref_child_of_parent oid parent arc = child_again (ref_arcs oid) parent arc (ref_encoding oid).identifier
-
-longer_below : (xs ys : List ℕ) → BeginsWith ys xs → ys ≢ xs → length xs < length ys
-longer_below xs ys begins other = grind (arith, nat_tests, common_steps, append-nil, length-append)
-
--- it comes before others that begin with it, in both orders
-pub before_below : {N M : ℕ} (oid : ObjectIdentifier N) (below : ObjectIdentifier M)
-    → BeginsWith (oid_arcs below) (oid_arcs oid) → oid_arcs below ≢ oid_arcs oid
-    → slice_cmp nat_cmp (oid_octets oid) (oid_octets below) ≡ Less
-before_below oid below b other =
-    ancestor_before (oid_encoding oid) (oid_encoding below) b (longer_below _ (oid_arcs below) b other)
-
-pub short_before_below : {N M : ℕ} (oid : ObjectIdentifier N) (below : ObjectIdentifier M)
-    → BeginsWith (oid_arcs below) (oid_arcs oid) → oid_arcs below ≢ oid_arcs oid
-    → shortlex_cmp (oid_octets oid) (oid_octets below) ≡ Less
-short_before_below oid below b other =
-    ancestor_short (oid_encoding oid) (oid_encoding below) b (longer_below _ (oid_arcs below) b other)
-
--- ---- of borrowed ones in a list
-
--- where octets are not after others, the others are not before them: so `is_sorted` ensures what `subtree` requires
-pub not_before : (a b : List ℕ) → is_le (slice_cmp nat_cmp a b) ≡ true → is_lt (slice_cmp nat_cmp b a) ≡ false
-not_before a b level = grind (arith, nat_list_cmp_total)
 
 -- the result of the items of an iterator is exact where its list is known
 pub exact_answer : {S : Type 0} (rule : RootRule) (capacity : ℕ) (rest : S → List ℕ) (s : S)

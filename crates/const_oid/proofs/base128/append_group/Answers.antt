@@ -1,4 +1,4 @@
-use Rattle.std.proofs.Common.{◌≡◌, ◌≤◌, ◌+◌, ◌-◌, ◌/◌, ◌^◌, [], refl, ◌∙◌, arith}
+use Rattle.std.proofs.Common.{◌≡◌, ◌≤◌, ◌+◌, ◌-◌, ◌/◌, ◌^◌, [], refl, arith}
 use Rattle.std.proofs.Math.Nat.{div-le_self}
 use Rattle.const_oid.proofs.Leading.{IsLed, digits_above, led_on, led_past, led_to, nothing_led}
 use Rattle.const_oid.proofs.base128.append_group.Goals as goal
