@@ -110,8 +110,8 @@ fn is_answer(database: &Database<'_>, query: &Query) -> Result<bool, Error> {
     })
 }
 
-/// Whether a table of these identifiers and names answers so, without an index, and with one in memory of each length,
-/// also if it is indexed again.
+/// Whether a table of these identifiers and names answers so, without an index, and with memory of each length lent for
+/// one, also if it is indexed again.
 fn is_answered<'a>(named: &'a [(&'a Oid, &'a str)], query: &Query) -> Result<bool, Fail> {
     let database = clone_of(&Database::new(named))?;
     let mut same = is_answer(&database, query) == Ok(true);
