@@ -45,7 +45,7 @@ pub fn order_by_parts(a: &[u8], b: &[u8]) -> Ordering
     ensures { result ≡ parts_cmp a.now b.now }
 {
     let near = lesser(a.len(), b.len());
-    let i = first_difference(a, b, same_start(a, b, near), near);
+    let i = first_difference(a, b, same_start(a, b), near);
     if i == near {
         return order_of_numbers(a.len(), b.len());
     }
@@ -105,7 +105,7 @@ pub(crate) fn common_parts<'a>(octets: &'a [u8], others: &[u8]) -> &'a [u8]
     ensures { IsCommonPrefix octets.now others.now result.now }
 {
     let near = octets.len().min(others.len());
-    let same = first_difference(octets, others, same_start(octets, others, near), near);
+    let same = first_difference(octets, others, same_start(octets, others), near);
     if same == octets.len() {
         return octets;
     }

@@ -30,7 +30,7 @@ pub(crate) const fn begins_with(octets: &[u8], prefix: &[u8]) -> bool {
 #[must_use]
 pub const fn order_by_parts(a: &[u8], b: &[u8]) -> Ordering {
     let near = lesser(a.len(), b.len());
-    let i = first_difference(a, b, same_start(a, b, near), near);
+    let i = first_difference(a, b, same_start(a, b), near);
     if i == near {
         return order_of_numbers(a.len(), b.len());
     }
@@ -69,7 +69,7 @@ const fn ends_at(octets: &[u8], index: usize) -> bool {
 /// The subidentifiers that valid octets and others begin with, up to the first that differs.
 pub(crate) fn common_parts<'a>(octets: &'a [u8], others: &[u8]) -> &'a [u8] {
     let near = octets.len().min(others.len());
-    let same = first_difference(octets, others, same_start(octets, others, near), near);
+    let same = first_difference(octets, others, same_start(octets, others), near);
     if same == octets.len() {
         return octets;
     }

@@ -99,9 +99,10 @@ fn order_by_octet(a: &[u8], b: &[u8]) -> Ordering {
     a.len().cmp(&b.len())
 }
 
-/// How many of the first `near` octets are found to be the same: a word, half a word or none.
+/// How many of the first octets are found to be the same: a word, half a word or none.
 #[inline(always)]
-pub(crate) const fn same_start(a: &[u8], b: &[u8], near: usize) -> usize {
+pub(crate) const fn same_start(a: &[u8], b: &[u8]) -> usize {
+    let near = if a.len() < b.len() { a.len() } else { b.len() };
     if near >= WORD_OCTETS && word(a, 0) == word(b, 0) {
         WORD_OCTETS
     } else if near >= HALF_OCTETS && half_word(a) == half_word(b) {
