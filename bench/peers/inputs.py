@@ -47,7 +47,7 @@ def text(arcs):
 
 
 def der(parts, least=0):
-    """Tag, length and contents. The length is that of DER (10.1), or in the long form with so many octets at least."""
+    """Tag, length and contents. The length is that of DER (10.1), or in the long form with `least` octets or more."""
     contents = b"".join(parts)
     length = len(contents).to_bytes(max(least, 1 + (len(contents) > 255)), "big")
     return bytes([6, *([128 + len(length)] if least or len(contents) > 127 else [])]) + length + contents

@@ -1,4 +1,4 @@
-//! driver SIDE ROW SIZE TIMES: one operation of one crate, so many times. `run` counts its instructions.
+//! driver SIDE ROW SIZE TIMES: one operation of one crate, `TIMES` times. `run` counts its instructions.
 
 use std::fmt::Write;
 use std::hash::{DefaultHasher, Hash, Hasher};

@@ -10,7 +10,7 @@ ROWS = pathlib.Path(__file__).resolve().parents[2] / "crates/oid_rows/stdin"
 
 
 def expanded(row):
-    """A row with so many units for each {UNIT*COUNT}."""
+    """A row with COUNT units for each {UNIT*COUNT}."""
     return re.sub(r"\{([^*]*)\*(\d+)\}", lambda repeated: repeated[1] * int(repeated[2]), row)
 
 

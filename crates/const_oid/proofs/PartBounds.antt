@@ -9,7 +9,7 @@ use Rattle.const_oid.specs.{Base128.value_of, Identifier.{RootRule, IsEncoding}}
 use Rattle.const_oid.specs.Contents.{cut, cut_after, arcs_from, arcs_of_octets, parts_fault, later_fault}
 use Rattle.const_oid.proofs.{Faults.both_none, Encodings.arcs_of_encoding}
 
--- ---- after so many parts
+-- ---- after a number of parts
 
 drop-onto_first : (x left : ℕ) (parts : List (List ℕ)) → drop (suc left) (onto_first x parts) ≡ drop (suc left) parts
 drop-onto_first x left [] = drop-nil left

@@ -34,7 +34,7 @@ static void say(const char *format, ...) {
     result_len += (size_t)len;
 }
 
-/* Copies a row with so many units for each {UNIT*COUNT}. */
+/* Copies a row with COUNT units for each {UNIT*COUNT}. */
 static void expand(const char *row, char *out) {
     const char *end = out + LINE;
     while (*row != 0) {

@@ -236,7 +236,7 @@ static void check(void) {
 static const uint64_t cuts[] = {1u << 8, 1u << 16, 1u << 20, 1u << 24, 1u << 31, UINT64_C(1) << 32};
 enum { CUTS = sizeof cuts / sizeof *cuts };
 
-/* Whether so many items, and a few, are there. */
+/* Whether `count` items, and a few, are there. */
 static int has(uint64_t len, uint64_t count, size_t size) { return count + 4 <= len / size; }
 
 /* Calls with outputs whose lengths of fewer bits are too short. */
@@ -361,7 +361,7 @@ static void fill_octets(void *out, size_t len, int form) {
     if (form == 8) memset(to, 0xFF, len < 6 ? len : 6);
 }
 
-/* Writes the tag and, in DER's one form, the length of so many contents octets. */
+/* Writes the tag and, in DER's one form, the length of `len` contents octets. */
 static size_t write_head(uint64_t len, uint8_t *to) {
     size_t count = 0;
     while (len >= 128 && count < 8 && len >> 8 * count != 0) count++;
@@ -482,8 +482,9 @@ static void search_beside(argument item) {
     memcpy(searched, all, sizeof all);
 }
 
-/* A list: so many of an item, the item that varies, and so many of another. */
-static void with_list(int lead, const uint8_t *before, size_t lower, argument item, const uint8_t *after, size_t upper) {
+/* A list: `lower` times an item, the item that varies, and `upper` times another. */
+static void with_list(int lead, const uint8_t *before, size_t lower, argument item, const uint8_t *after,
+    size_t upper) {
     static const_oid_octets items[MOST];
     for (size_t i = 0; i < lower; i++) items[i] = (const_oid_octets){before, 1};
     items[lower] = (const_oid_octets){item.items, item.len};
@@ -650,7 +651,7 @@ static void check_drawn(void) {
     }
 }
 
-/* Memory that is mapped and not written, of so many bytes or as many as there are. */
+/* Memory that is mapped and not written, of 2^bits bytes or as many as there are. */
 static void map(pages *to, int bits) {
     for (; to->start == NULL && bits > 20; bits--) {
         uint64_t bytes = (UINT64_C(1) << bits) + 4096;

@@ -1,4 +1,4 @@
-/* reads TEXT TIMES: reads a text so many times. It is copied to an address of eight bytes: the time depends on where a
+/* reads TEXT TIMES: reads a text TIMES times. It is copied to an address of eight bytes: the time depends on where a
  * text begins, and the address of an argument on the environment. */
 #include "const_oid.h"
 

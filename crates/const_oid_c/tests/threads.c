@@ -21,7 +21,7 @@ typedef struct {
 static results alone[THREADS][COUNTS];
 static pthread_barrier_t start;
 
-/* Makes calls for an identifier of so many octets: 1.2, and then one arc again and again, of two digits. */
+/* Makes calls for an identifier of `count` octets: 1.2, and then one arc again and again, of two digits. */
 static void call(unsigned arc, size_t count, results *to) {
     uint8_t octets[MOST];
     memset(octets, (int)arc, count);

@@ -5,7 +5,7 @@ ghost use Rattle.std.specs.Prelude.{◌≤◌};
 use crate::vectors::is_written;
 use const_oid::{Error, Oid};
 
-/// Whether so many bytes begin with the text and go on as before, or, if they are fewer, are as before: the text of
+/// Whether `len` bytes begin with the text and go on as before, or, if they are fewer, are as before: the text of
 /// both forms, and that of an error.
 fn are_written(len: usize) -> bool
     requires { len ≤ 20 }

@@ -152,7 +152,7 @@ pub fn parse(text: &str) -> Result<Oid, Fail> {
     }
 }
 
-/// A text of a prefix, so many times another text, and an end.
+/// A text of a prefix, `count` times another text, and an end.
 pub fn long_text(
     alloc: Global,
     prefix: &str,
@@ -168,7 +168,7 @@ pub fn long_text(
     Ok(text)
 }
 
-/// Octets of a prefix, so many times others, and an end.
+/// Octets of a prefix, `count` times others, and an end.
 pub fn long_octets(
     alloc: Global,
     prefix: &[u8],

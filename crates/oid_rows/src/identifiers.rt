@@ -31,8 +31,8 @@ impl Made {
         Ok(hex::encode_upper(alloc, self.octets()?)?)
     }
 
-    /// Whether an output of 39 octets, after so many bytes of text, holds the same, or has no room. What is wrong past
-    /// 39 octets is not reached.
+    /// Whether an output of 39 octets, after a text of `len` bytes, holds the same, or has no room. What is wrong past 39
+    /// octets is not reached.
     fn is_usual(&self, usual: &Made, len: usize) -> bool {
         match (self.octets(), usual.octets()) {
             (Ok(octets), Err(Error::Length)) => octets.len() > 39,
@@ -53,7 +53,7 @@ pub fn is_answer<const N: usize>(
     }
 }
 
-/// The octets of a text in an output of so many. One of 39 is filled by each call for the usual capacity.
+/// The octets of a text in an output of `room`. One of 39 is filled by each call for the usual capacity.
 pub fn text_in(alloc: Global, text: &str, room: usize) -> Result<Made> {
     let mut out = vec![in alloc; 0xEE; room]?;
     let bytes = text.as_bytes();
@@ -78,7 +78,7 @@ fn are_usual(text: &str, wanted: result::Result<&[u8], Error>) -> bool {
         && is_answer(Oid::from_ascii(text.as_bytes()), wanted)
 }
 
-/// The octets of arcs in an output of so many.
+/// The octets of arcs in an output of `room`.
 pub fn arcs_in(alloc: Global, arcs: &[Arc], room: usize) -> Result<Made> {
     let mut out = vec![in alloc; 0xEE; room]?;
     let len = ObjectIdentifierRef::from_arcs_in(arcs, &mut out).map(|oid| oid.as_bytes().len());
@@ -179,7 +179,7 @@ fn made_again(alloc: Global, octets: &[u8], text: &str, arcs: &[Arc]) -> Result<
     Ok(())
 }
 
-/// So many arcs, and these.
+/// How many arcs there are, and the arcs.
 fn counted(alloc: Global, arcs: &[Arc]) -> Result<String> {
     let count = arcs.len();
     let mut text = format!(in alloc; "{count} arcs")?;

@@ -11,7 +11,7 @@ use std::alloc::Global;
 use std::io::{BufRead, BufReader};
 use std::str;
 
-/// A row with so many units for each `{UNIT*COUNT}`.
+/// A row with `COUNT` units for each `{UNIT*COUNT}`.
 fn expanded(alloc: Global, row: &str) -> Result<String> {
     let mut whole = String::new(alloc);
     for part in row.split('{') {
