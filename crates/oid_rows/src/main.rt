@@ -1,5 +1,5 @@
 //! Answers the rows of standard input, `call input = result`, by the calls of `const_oid`. It prints each row that has
-//! another result, by its line, and then how many rows there are.
+//! another result, or none, with its result, and then how many rows there are.
 #![tactic(auto)]
 
 mod identifiers;
@@ -82,6 +82,7 @@ fn answer(alloc: Global, call: &str, input: &str) -> Result<Option<String>> {
         "child" => relations::child(alloc, first, rest.parse::<Arc>()?)?,
         "sorted" => relations::sorted(alloc, &words)?,
         "list" => relations::list(alloc, first, words.get(1..).unwrap_or(&[]))?,
+        "names" => relations::names(alloc, first, words.get(1..).unwrap_or(&[]))?,
         "items_order" | "error" => return Ok(None),
         _ => match call.strip_suffix("_order") {
             Some(call) => relations::in_order(alloc, call, &words)?,
@@ -90,10 +91,11 @@ fn answer(alloc: Global, call: &str, input: &str) -> Result<Option<String>> {
     }))
 }
 
-/// What a row has in place of its result, if that is another one.
-fn wrong(alloc: Global, row: &str) -> Result<Option<String>> {
+/// A row's result, if the row has none or another one.
+fn said(alloc: Global, row: &str) -> Result<Option<String>> {
     let row = expanded(alloc, row)?;
-    let (question, expected) = row.as_str().split_once(" = ").context("no result")?;
+    let row = row.as_str();
+    let (question, expected) = row.split_once(" = ").unwrap_or((row, ""));
     let (call, input) = question.split_once(' ').unwrap_or((question, ""));
     let said = match answer(alloc, call, input) {
         Ok(said) => said,
@@ -103,16 +105,15 @@ fn wrong(alloc: Global, row: &str) -> Result<Option<String>> {
 }
 
 fn main(rt: HostRuntime) -> Result<()> {
-    let (mut line, mut rows) = (0usize, 0usize);
+    let mut rows = 0usize;
     for row in BufReader::new(rt.alloc(), rt.reader())?.lines(rt.alloc()) {
         let row = row?;
-        line = line.saturating_add(1);
         if row.as_str().starts_with('#') {
             continue;
         }
         rows = rows.saturating_add(1);
-        if let Some(said) = wrong(rt.alloc(), row.as_str())? {
-            println!(rt; "line {line}: {row}, and not {said}")?;
+        if let Some(said) = said(rt.alloc(), row.as_str())? {
+            println!(rt; "{row} = {said}")?;
         }
     }
     println!(rt; "{rows} rows")?;

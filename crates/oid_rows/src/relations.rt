@@ -1,10 +1,10 @@
-//! Parents, children, prefixes and orders, of two identifiers and of lists.
+//! Parents, children, prefixes and orders, of two identifiers and of lists, and tables.
 
 ghost use Rattle.std.specs.Prelude.{◌≤◌};
 
 use crate::identifiers::{arcs_in, arcs_of, is_answer};
-use anyhow::{Result, bail, ensure};
-use const_oid::db::SortedDatabase;
+use anyhow::{Context, Result, bail, ensure};
+use const_oid::db::{Database, SortedDatabase};
 use const_oid::search::{end_of, first_of, nearest_of, start_of, subtree_of};
 use const_oid::{Arc, ByArcs, Error, ObjectIdentifier, ObjectIdentifierRef, Oid};
 use std::alloc::Global;
@@ -245,4 +245,47 @@ pub fn list(alloc: Global, digits: &str, words: &[&str]) -> Result<String> {
         entries.push((ObjectIdentifierRef::from_bytes(octets)?, name.as_str()))?;
     }
     searched(alloc, &entries, &oid)
+}
+
+/// What a table has for a name, and for an identifier.
+fn named(alloc: Global, table: &Database<'_>, oid: &Oid, name: &str) -> Result<String> {
+    let mut said = match table.by_name(name) {
+        Some(oid) => hex::encode_upper(alloc, oid.as_bytes())?,
+        None => String::from_str(alloc, "none")?,
+    };
+    for name in table.find_names_for_oid(*oid) {
+        said.push_str(format!(in alloc; " {name}")?.as_str())?;
+    }
+    let text = format!(in alloc; "{oid}")?;
+    let first = table.by_oid(oid);
+    ensure!(first == table.find_names_for_oid(*oid).next());
+    ensure!(table.resolve(text.as_str())? == first.unwrap_or(text.as_str()));
+    Ok(said)
+}
+
+/// What a table of these entries has, and an indexed one.
+fn looked_up(alloc: Global, entries: &[(&Oid, &str)], oid: &Oid, name: &str) -> Result<String> {
+    let table = Database::new(entries);
+    let said = named(alloc, &table, oid, name)?;
+    let mut memory = vec![in alloc; 0u16; entries.len().saturating_mul(4)]?;
+    let indexed = table.indexed(&mut memory);
+    ensure!(named(alloc, &indexed, oid, name)?.as_str() == said.as_str());
+    Ok(said)
+}
+
+/// The identifier of a name, and the names of an identifier, in a table of rows `octets=name`.
+pub fn names(alloc: Global, digits: &str, words: &[&str]) -> Result<String> {
+    let oid = Oid::from_bytes(&hex::decode(alloc, digits.as_bytes())?)?;
+    let (name, rows) = words.split_first().context("no name")?;
+    let mut oids = Vec::new(alloc);
+    for row in rows {
+        let (digits, name) = row.split_once('=').context("no row")?;
+        let oid = Oid::from_bytes(&hex::decode(alloc, digits.as_bytes())?)?;
+        oids.push((oid, String::from_str(alloc, name)?))?;
+    }
+    let mut entries = Vec::new(alloc);
+    for (oid, name) in &oids {
+        entries.push((oid, name.as_str()))?;
+    }
+    looked_up(alloc, &entries, &oid, name)
 }
