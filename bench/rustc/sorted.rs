@@ -42,10 +42,15 @@ unsafe extern "C" {
     fn qsort(items: *mut Octets, count: usize, size: usize, order: Order);
 }
 
+/// The identifier at an index: 1.3.6.1.4.1 and two arcs, each of one or two octets.
+fn item(index: usize) -> ObjectIdentifier {
+    ObjectIdentifier::from_arcs([1, 3, 6, 1, 4, 1, index as u32 / 317, index as u32 % 317]).unwrap()
+}
+
 /// The key of a round: an item, or a child or the parent of one. They are scattered over the items.
 fn key(row: &str, oid: &ObjectIdentifier) -> ObjectIdentifier {
     match row {
-        "nearest" | "missed" => oid.push_arc(1).unwrap(),
+        "nearest" => oid.push_arc(1).unwrap(),
         "subtree" => oid.parent().unwrap(),
         _ => *oid,
     }
@@ -118,7 +123,7 @@ fn main() {
     if !["c", "crate"].contains(&&**side) {
         return println!("{}", names::sum(side, row, count.parse().unwrap(), times.parse().unwrap()));
     }
-    let oids: Vec<ObjectIdentifier> = (0..count.parse().unwrap()).map(|index| names::item(row, index)).collect();
+    let oids: Vec<ObjectIdentifier> = (0..count.parse().unwrap()).map(item).collect();
     let keys: Vec<ObjectIdentifier> = scattered(&oids).iter().take(1000).map(|oid| key(row, oid)).collect();
     let times = (0..times.parse().unwrap()).map(|time: usize| &keys[time % keys.len()]);
     let lent: Vec<&ObjectIdentifierRef> = oids.iter().map(|oid| oid.as_oid_ref()).collect();
