@@ -5,7 +5,7 @@
 - Links lead to files."""
 import re
 
-from pages.page import LIBRARY, PAGES, SPAN, TOP, fault, prose_of
+from pages.page import PAGES, SPAN, TOP, fault, prose_of
 
 NAME = re.compile(r"[A-Za-z_]\w*(?:::\w+)*")
 SOURCES = ["crates/*/[sp]*/**/*.rt", "crates/*/[sp]*/**/*.antt", "crates/*/include/*.h", "rust/*/[st]*/**/*.rs"]
@@ -21,7 +21,7 @@ def words_of(*paths):
 def is_in_source(name, words):
     """Whether a name is in the sources: that of a module of the library in this module."""
     *modules, last = name.split("::")
-    paths = [path for module in modules for path in LIBRARY.glob(f"src/**/{module}.rt")]
+    paths = [path for module in modules for path in TOP.glob(f"crates/const_oid/src/**/{module}.rt")]
     return last in words_of(paths[-1]) if paths else words.issuperset(name.split("::"))
 
 

@@ -4,7 +4,6 @@ import re
 import subprocess
 
 TOP = pathlib.Path(__file__).resolve().parents[2]
-LIBRARY = TOP / "crates/const_oid"
 CRATE = "rust/const-oid/README.md"
 PAGES = subprocess.check_output(["git", "ls-files", "*.md"], cwd=TOP, text=True).split()
 SPAN = re.compile(r"`([^`]*)`")
