@@ -5,16 +5,12 @@
 - antt: the same, in a file of crates/const_oid_uses/proofs.
 - c, cpp: the same, in agent.c, by_name.c or main.cpp of crates/const_oid_c/tests. README's is run.
 - c of README, sh, python, toml: a compiler, bash or Python parses it.
-- rs: cargo builds and runs it, once with each toml block of its page that has dependencies, in a package beside a link
-  `const_oid` to this checkout.
+- rs of README: run by the check `readme`.
 - text, cmake: not checked."""
 import os
-import pathlib
 import shlex
 import subprocess
 import sys
-import tempfile
-import tomllib
 
 from pages.page import CRATE, PAGES, TOP, blocks_of
 
@@ -31,7 +27,6 @@ QUOTED = {
     "c": ["crates/const_oid_c/tests/agent.c", "crates/const_oid_c/tests/by_name.c"],
     "cpp": ["crates/const_oid_c/tests/main.cpp"],
 }
-HEAD = '[package]\nname = "app"\nversion = "0.1.0"\nedition = "2024"\n\n'
 
 
 def lines_of(text):
@@ -45,26 +40,9 @@ def quote_fault(text, patterns):
         return f"not in {' or '.join(patterns)}: {text.lstrip()[:60].splitlines()[0]}"
 
 
-def run_fault(command, cwd=TOP, **options):
-    run = subprocess.run(command, cwd=cwd, text=True, capture_output=True, **options)
+def run_fault(command, text):
+    run = subprocess.run(command, cwd=TOP, input=text, text=True, capture_output=True)
     return run.stderr.strip() or f"exit status {run.returncode}" if run.returncode else None
-
-
-def cargo_fault(program, page):
-    """What cargo says of a program with the dependencies that the page shows."""
-    manifests = [text for _, language, text in blocks_of(page) if language == "toml"]
-    manifests = [text for text in manifests if "dependencies" in tomllib.loads(text)]
-    for manifest in manifests:
-        with tempfile.TemporaryDirectory() as folder:
-            app = pathlib.Path(folder) / "app"
-            (app / "src").mkdir(parents=True)
-            (app.parent / "const_oid").symlink_to(TOP)
-            (app / "src/main.rs").write_text(program, encoding="utf-8")
-            (app / "Cargo.toml").write_text(HEAD + manifest, encoding="utf-8")
-            variables = {**os.environ, "CARGO_TARGET_DIR": f"{folder}/target"}
-            if said := run_fault(["cargo", "run", "--quiet", "--offline"], app, env=variables):
-                return said
-    return None if manifests else "no block of dependencies to build it with"
 
 
 def block_fault(page, language, text):
@@ -72,10 +50,9 @@ def block_fault(page, language, text):
     if language in QUOTED and page not in (CRATE, "README.md"):
         return quote_fault(text, QUOTED[language])
     if language in PARSERS:
-        return run_fault(PARSERS[language], input=text)
-    if language == "rs":
-        return cargo_fault(text, page)
-    is_left = language in ("text", "cmake") or page == CRATE and language in ("rust", "rust,compile_fail")
+        return run_fault(PARSERS[language], text)
+    is_left = language in ("text", "cmake") or (page, language) == ("README.md", "rs")
+    is_left |= page == CRATE and language in ("rust", "rust,compile_fail")
     return None if is_left else f"a block without a check: {language}"
 
 

@@ -4,9 +4,10 @@ whose one clause has no name. What "of std" follows is std's."""
 import collections
 import re
 
-from pages.page import SPAN, TOP, defined_in, fault, prose_of
+from pages.page import SPAN, TOP, fault, prose_of
 
 PAGE = "docs/RULES.md"
+DEFINED = re.compile(r"^(?:abbrev |unfoldable )?pub (?:data |record )?([\w-]+)|^  ([A-Z]\w*) :", re.M)
 SPAN_OR_GROUP = re.compile(r"`[^`]*`|\((?:[^()`]|`[^`]*`)*\)")
 
 
@@ -28,7 +29,8 @@ def items():
 def evidence():
     """What the parentheses may name: laws, clauses as `FN: NAME`, and what stands alone."""
     laws, named, alone = set(), set(), set()
-    alone.update(*(defined_in(path) for path in TOP.glob("crates/*/specs/*.antt")))
+    for path in TOP.glob("crates/*/specs/*.antt"):
+        alone.update(found[found.lastindex] for found in DEFINED.finditer(path.read_text(encoding="utf-8")))
     for owner, heads in items().items():
         ghosts = {found[1] for head in heads if (found := re.match(r"ghost (\w+)", head))}
         alone |= ghosts if re.search(r"\btrait\b", owner) else set()

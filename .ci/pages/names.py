@@ -1,11 +1,11 @@
 """Names in backticks, outside of blocks, and links:
 
 - MODULE::NAME is in that module of const_oid. Any other name with `_`, `::` or a capital inside is a word of a source,
-  comments aside. Exempt is "What was cut" of DIFFERENCES, whose names are those of the other crate.
+  comments aside.
 - Links lead to files."""
 import re
 
-from pages.page import LIBRARY, PAGES, SPAN, TOP, fault, prose_of, section_of
+from pages.page import PAGES, SPAN, TOP, fault, prose_of
 
 NAME = re.compile(r"[A-Za-z_]\w*(?:::\w+)*")
 SOURCES = ["crates/*/[sp]*/**/*.rt", "crates/*/[sp]*/**/*.antt", "crates/*/include/*.h", "rust/*/[st]*/**/*.rs"]
@@ -21,7 +21,7 @@ def words_of(*paths):
 def is_in_source(name, words):
     """Whether a name is in the sources: that of a module of the library in this module."""
     *modules, last = name.split("::")
-    paths = [path for module in modules for path in LIBRARY.glob(f"src/**/{module}.rt")]
+    paths = [path for module in modules for path in TOP.glob(f"crates/const_oid/src/**/{module}.rt")]
     return last in words_of(paths[-1]) if paths else words.issuperset(name.split("::"))
 
 
@@ -32,8 +32,6 @@ def faults():
         for link in re.finditer(r"\]\(([^)#:]+)\)", text):
             if not ((TOP / page).parent / link[1]).exists():
                 yield fault(page, text, link.start(), f"no such file: {link[1]}")
-        exempt = section_of(page, "What was cut").strip() if page == "docs/DIFFERENCES.md" else ""
-        text = text.replace(exempt, "\n" * exempt.count("\n")) if exempt else text
         for span in SPAN.finditer(text):
             if NAME.fullmatch(span[1]) and re.search(r"_|::|[a-z][A-Z]", span[1]) and not is_in_source(span[1], words):
                 yield fault(page, text, span.start(), f"in no source: {span[1]}")

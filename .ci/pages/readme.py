@@ -1,5 +1,6 @@
-"""README's blocks are run in order, by bash in a new HOME, and print what their comments say: sh, with each c block as
-`main.c`, and python. What rt has proved in this checkout, it does not prove again."""
+"""README's blocks are run in order, by bash in a new HOME, and print what their comments say: rs, by cargo in a package
+with the toml block, beside the checkout; sh, with each c block as `main.c`; and python. What rt has proved in this
+checkout, it does not prove again."""
 import os
 import pathlib
 import re
@@ -11,6 +12,7 @@ from pages.page import TOP, blocks_of
 
 PAGE = "README.md"
 HOMES = {"CARGO_HOME": ".cargo", "RUSTUP_HOME": ".rustup"}
+PACKAGE = 'package = { name = "app", edition = "2024" }'
 OFFLINE = {"CARGO_NET_OFFLINE": "true", "PIP_NO_INDEX": "1", "PYTHONDONTWRITEBYTECODE": "1"}
 
 
@@ -18,8 +20,14 @@ def scripts():
     """The blocks that are run, as scripts of bash."""
     blocks = [(language, text) for _, language, text in blocks_of(PAGE)]
     programs = [text for language, text in blocks if language == "c"]
+    (manifest,) = (text for language, text in blocks if language == "toml")
     for language, text in blocks:
-        if language == "sh":
+        if language == "rs":
+            yield "mkdir -p ../app/src\n"
+            yield f"cat > ../app/src/main.rs << 'END'\n{text}END\n"
+            yield f"cat > ../app/Cargo.toml << 'END'\n{PACKAGE}\n{manifest}END\n"
+            yield "(cd ../app && cargo run --quiet)\n"
+        elif language == "sh":
             mains = programs if "main.c" in text else []
             yield from [f"cat > main.c << 'END'\n{main}END\n{text}" for main in mains] or [text]
         elif language == "python":
@@ -44,7 +52,7 @@ def faults():
     ended = run(script)
     if ended.returncode:
         yield f"{PAGE}: a block ends with status {ended.returncode}: {ended.stdout.strip()[-4000:]}"
-    said = re.findall(r"\S\s+(?:/\*|#) (.*?)(?: \*/)?$", script, re.M)
+    said = re.findall(r"\S\s+(?:/\*|//|#) (.*?)(?: \*/)?$", script, re.M)
     printed = iter(ended.stdout.splitlines())
     missing = [line for line in said if line not in printed]
     yield from (f"{PAGE}: a block does not print: {line}" for line in missing[:1])

@@ -88,17 +88,18 @@ def table_of(top, title, headings, rows):
 
 def matrix():
     """A table of contents octets, and below it one of texts."""
-    (octets, read), (texts, written) = table("Octets"), table("Text")
-    middle = 64 + ROW * len(read) + 14
-    bottom = middle + 64 + ROW * len(written) + 20
-    lines = [*table_of(0, "contents octets", octets, read), *table_of(middle, "dotted text", texts, written)]
+    lines, bottom = [], 0
+    for name, title in ("Octets", "contents octets"), ("Text", "dotted text"):
+        headings, rows = table(name)
+        lines += table_of(bottom, title, headings, rows)
+        bottom += 64 + ROW * len(rows) + 14
     lines += notes(
-        bottom,
+        bottom + 6,
         "red, bold: the share accepted, or read as another identifier",
         "yellow, or after +: the share of valid inputs that are rejected",
         "no colour: either is right · no row: no such function",
     )
-    return picture(bottom + 42, "What each library does with 10,000 test inputs of each kind", lines)
+    return picture(bottom + 48, "What each library does with 10,000 test inputs of each kind", lines)
 
 
 def bars(top, title, values):
@@ -127,13 +128,11 @@ def cost():
     return picture(bottom + 34, f"{example}, by library", lines)
 
 
-if __name__ == "__main__":
-    parser = argparse.ArgumentParser(description=__doc__, formatter_class=argparse.RawDescriptionHelpFormatter)
-    parser.add_argument("--check", action="store_true")
-    is_check = parser.parse_args().check
-    drawn = {"matrix.svg": matrix(), "cost.svg": cost()}
-    if is_check:
-        old = [name for name, svg in drawn.items() if (DOCS / name).read_text(encoding="utf-8") != svg]
-        sys.exit("\n".join(f"docs/{name} is not the picture of docs/PEERS.md" for name in old) or None)
-    for name, svg in drawn.items():
+parser = argparse.ArgumentParser(description=__doc__, formatter_class=argparse.RawDescriptionHelpFormatter)
+parser.add_argument("--check", action="store_true")
+is_check = parser.parse_args().check
+for name, svg in ("matrix.svg", matrix()), ("cost.svg", cost()):
+    if not is_check:
         (DOCS / name).write_text(svg, encoding="utf-8")
+    elif (DOCS / name).read_text(encoding="utf-8") != svg:
+        sys.exit(f"docs/{name} is not the picture of docs/PEERS.md")

@@ -1,7 +1,7 @@
 //! sorted SIDE ROW COUNT TIMES: a function of the library for C, or that of the cargo crate's SortedDatabase, so many
 //! times over COUNT identifiers of 8 arcs in lexicographic order. The row `sort` sorts them, in C by qsort. SIDE is c
-//! or crate, or one of those of `names`. The script `sorted` counts its instructions, the loop included. All sides of a
-//! row print the same sum of what they found.
+//! or crate, or one of those of `names`. `run` counts its instructions, the loop included. All sides of a row print the
+//! same sum of what they found.
 
 mod names;
 
