@@ -6,9 +6,7 @@
  *
  * With -DBESIDE the library that rt proved is linked, too, its functions with the prefix `proved_`: for each call both
  * return and write the same, bit for bit. For each function digests of what it returns and writes are printed: one of
- * the calls that 32 bits allow, and one of the others, if they are made.
- *
- * With -DFUZZED -fsanitize=fuzzer, what libFuzzer gives takes the place of the lengths and numbers. */
+ * the calls that 32 bits allow, and one of the others, if they are made. */
 #include "see.h"
 
 #include <const_oid_names.h>
@@ -423,10 +421,38 @@ static void vary_names(int lead, enum kind kind) {
     }
 }
 
+/* A number below another that is drawn, the same in each run. */
+static uint32_t drawn(uint32_t end) {
+    static uint32_t state = 2463534242u;
+    state ^= state << 13;
+    state ^= state >> 17;
+    state ^= state << 5;
+    return state % end;
+}
+
+/* Drawn arrays of at most 64 bytes: any octets, also in an element, arcs, or text of which few bytes are wrong. */
+static void vary_drawn(int lead, enum kind kind) {
+    static const char of_text[] = "0123456789..0123456789..0123456789..0123456789..x\xFF";
+    static uint32_t arcs[16];
+    static uint8_t bytes[64];
+    for (int round = 0; round < 3000; round++) {
+        uint32_t len = drawn((uint32_t)(sizeof bytes / sizes[kind]) + 1);
+        for (uint32_t i = 0; i < len; i++) {
+            if (kind == ARCS) arcs[i] = drawn(UINT32_MAX) >> drawn(32);
+            else bytes[i] = (uint8_t)(kind == TEXT ? of_text[drawn(sizeof of_text - 1)] : (int)drawn(256));
+        }
+        if (kind == DER && len > 2) write_head(drawn(len - 1), bytes);
+        if (kind == TEXT && len > 2 && round % 2) memcpy(bytes, "2.", 2);
+        if (round % 2) arcs[0] = 2;
+        with(lead, kind == ARCS ? (void *)arcs : bytes, len);
+    }
+}
+
 static void vary_array(int lead, enum kind kind) {
     static uint32_t items[MOST];
     with(lead, NULL, 0);
     vary_names(lead, kind);
+    vary_drawn(lead, kind);
     for (int i = 0; i < LENS; i++) {
         for (int form = 0; form < fillings[kind].forms; form += len_at(i) > 1000 ? 2 : 1) {
             fillings[kind].fill(items, len_at(i), form);
@@ -607,15 +633,6 @@ static void check_nulls(void) {
     }
 }
 
-/* A number below another that is drawn, the same in each run. */
-static uint32_t drawn(uint32_t end) {
-    static uint32_t state = 2463534242u;
-    state ^= state << 13;
-    state ^= state >> 17;
-    state ^= state << 5;
-    return state % end;
-}
-
 /* Text of arcs, in half of the draws with another byte at some place. How long it is. */
 static size_t draw_text(const uint32_t *arcs, size_t count, char *text) {
     static const char bytes[] = {'.', 'x', '9', '\xFF'};
@@ -689,28 +706,6 @@ static void map_arguments(void) {
     }
 }
 
-#ifdef FUZZED
-/* Octets, text or arcs. In a text, what is not ASCII is not UTF-8. */
-int LLVMFuzzerTestOneInput(const uint8_t *data, size_t len) {
-    static uint32_t items[MOST];
-    static uint8_t text[MOST];
-    if (len > MOST) return -1;
-    if (output_pages.start == NULL) map_arguments();
-    map(&output_pages, 34);
-    map(&proved_pages, 34);
-    memcpy(items, data, len);
-    for (size_t i = 0; i < len; i++) text[i] = data[i] < 0x80 ? data[i] : 0xFF;
-    for (int i = 0; i < FUNCTIONS; i++) {
-        f = &functions[i];
-            for (int at = 0; at < output_at(); at++) {
-            enum kind kind = f->kinds[at];
-            if (sizes[kind] == 0 || kind == LIST) continue;
-            with(at, kind == TEXT ? (void *)text : items, len / sizes[kind]);
-        }
-    }
-    return 0;
-}
-#else
 int main(void) {
     map_arguments();
     map(&input_pages, 34);
@@ -734,4 +729,3 @@ int main(void) {
     if (equal_items == NULL) fprintf(stderr, "tests: no length past 2^32, since no more is mapped\n");
     return 0;
 }
-#endif
