@@ -129,6 +129,12 @@ static void element_row(void) {
     say_octets(status, contents.octets);
 }
 
+/* Says the index of the first wrong component. */
+static void component_row(const char *rest) {
+    const_oid_status status = const_oid_from_text(rest, strlen(rest), out, MOST);
+    say(status.code == CONST_OID_OK ? "none" : "%zu", status.len);
+}
+
 static void sorted_row(void) {
     const_oid_status status = const_oid_check_sorted(items, count);
     if (is_ok(status)) say("sorted");
@@ -182,9 +188,8 @@ static void order_row(comparison *compared_by) {
 #define IS(name) (strcmp(call, name) == 0)
 
 static void answer(const char *call, const char *rest) {
-    const_oid_status read = const_oid_from_text(rest, strlen(rest), out, MOST);
-    if (IS("text")) say_octets(read, out);
-    else if (IS("component")) say(read.code == CONST_OID_OK ? "none" : "%zu", read.len);
+    if (IS("text")) say_octets(const_oid_from_text(rest, strlen(rest), out, MOST), out);
+    else if (IS("component")) component_row(rest);
     else if (IS("bytes")) say_octets(const_oid_from_text((const char *)items[0].octets, items[0].len, out, MOST), out);
     else if (IS("octets")) octets_row();
     else if (IS("element")) element_row();

@@ -262,7 +262,8 @@ static void with_outputs(void) {
     const_oid_status all = f->call(a);
     size_t len = all.code == CONST_OID_OK ? all.len : 0;
     int is_long = len > 1100;
-    const argument rooms[] = {{none, len}, {none, len - 1}, {NULL, 0}, {none, 0}, {none, len + 1}, {none, len + 20}};
+    const argument rooms[] = {{none, len}, {none, len - 1}, {NULL, 0}, {none, 0}, {none, len + 1}, {none, len + 20},
+        {none, CONST_OID_MAX_OCTETS}};
     for (size_t i = 0; i < (is_long ? 2 : sizeof rooms / sizeof *rooms); i++) {
         a[out] = rooms[i];
         if (a[out].len != SIZE_MAX) check();
@@ -407,20 +408,6 @@ static const struct {
 } fillings[] = {[OCTETS] = {fill_octets, 9, "\x2A\3\4\x80", 3}, [DER] = {fill_der, 9, "\x2A\3\4\x80", 3},
     [TEXT] = {fill_text, 7, "1.2\xFF", 3}, [ARCS] = {fill_arcs, 5, starts, 1}};
 
-/* Each identifier with a name, since a function could know it. Bytes follow an element. */
-static void vary_names(int lead, enum kind kind) {
-    static uint32_t arcs[128];
-    static char text[512];
-    static uint8_t der[128];
-    for (size_t i = 0; i < CONST_OID_NAMES_COUNT; i++) {
-        const const_oid_octets of = const_oid_name_octets[i];
-        if (kind == OCTETS) with(lead, of.octets, of.len);
-        if (kind == ARCS) with(lead, arcs, const_oid_arcs(of.octets, of.len, arcs, 128).len);
-        if (kind == TEXT) with(lead, text, const_oid_to_text(of.octets, of.len, text, sizeof text).len);
-        if (kind == DER) with(lead, der, const_oid_to_der(of.octets, of.len, der, sizeof der - 3).len + 3);
-    }
-}
-
 /* A number below another that is drawn, the same in each run. */
 static uint32_t drawn(uint32_t end) {
     static uint32_t state = 2463534242u;
@@ -430,29 +417,42 @@ static uint32_t drawn(uint32_t end) {
     return state % end;
 }
 
-/* Drawn arrays of at most 64 bytes: any octets, also in an element, arcs, or text of which few bytes are wrong. */
-static void vary_drawn(int lead, enum kind kind) {
-    static const char of_text[] = "0123456789..0123456789..0123456789..0123456789..x\xFF";
-    static uint32_t arcs[16];
-    static uint8_t bytes[64];
-    for (int round = 0; round < 3000; round++) {
-        uint32_t len = drawn((uint32_t)(sizeof bytes / sizes[kind]) + 1);
-        for (uint32_t i = 0; i < len; i++) {
-            if (kind == ARCS) arcs[i] = drawn(UINT32_MAX) >> drawn(32);
-            else bytes[i] = (uint8_t)(kind == TEXT ? of_text[drawn(sizeof of_text - 1)] : (int)drawn(256));
+/* An identifier as an array, in which an item may be wrong. Bytes follow an element. */
+static void vary_identifier(int lead, enum kind kind, const_oid_octets of, int is_wrong) {
+    static uint32_t arcs[320];
+    static uint8_t bytes[4 * 320];
+    size_t len = of.len;
+    if (kind == OCTETS) memcpy(bytes, of.octets, len);
+    if (kind == ARCS) len = const_oid_arcs(of.octets, of.len, arcs, 320).len;
+    if (kind == TEXT) len = const_oid_to_text(of.octets, of.len, (char *)bytes, sizeof bytes).len;
+    if (kind == DER) len = const_oid_to_der(of.octets, of.len, bytes, sizeof bytes - 3).len + 3;
+    uint32_t at = drawn((uint32_t)len), byte = drawn(256);
+    if (is_wrong) arcs[at % 320] = byte, bytes[at] = (uint8_t)(kind == TEXT ? ".x9\xFF"[byte % 4] : (int)byte);
+    with(lead, kind == ARCS ? (void *)arcs : bytes, len);
+}
+
+/* Each identifier with a name, since a function could know it; and drawn ones of few octets or around 255, some wrong:
+ * more of those that are encoded. */
+static void vary_identifiers(int lead, enum kind kind) {
+    static uint8_t octets[300];
+    const int rounds = kind == TEXT || kind == ARCS ? 5000 : 1000;
+    for (size_t i = 0; i < CONST_OID_NAMES_COUNT; i++) vary_identifier(lead, kind, const_oid_name_octets[i], 0);
+    for (int round = 0; round < rounds; round++) {
+        size_t len = 0, aim = round % 2 ? 230 + drawn(50) : 1 + drawn(60);
+        while (len < aim) {
+            uint32_t more = drawn(5);
+            for (uint32_t i = 0; i < more; i++)
+                octets[len++] = (uint8_t)(i > 0 ? 0x80 + drawn(128) : 0x81 + drawn(more == 4 ? 15 : 127));
+            octets[len++] = (uint8_t)drawn(128);
         }
-        if (kind == DER && len > 2) write_head(drawn(len - 1), bytes);
-        if (kind == TEXT && len > 2 && round % 2) memcpy(bytes, "2.", 2);
-        if (round % 2) arcs[0] = 2;
-        with(lead, kind == ARCS ? (void *)arcs : bytes, len);
+        vary_identifier(lead, kind, (const_oid_octets){octets, len}, round % 4 > 1);
     }
 }
 
 static void vary_array(int lead, enum kind kind) {
     static uint32_t items[MOST];
     with(lead, NULL, 0);
-    vary_names(lead, kind);
-    vary_drawn(lead, kind);
+    vary_identifiers(lead, kind);
     for (int i = 0; i < LENS; i++) {
         for (int form = 0; form < fillings[kind].forms; form += len_at(i) > 1000 ? 2 : 1) {
             fillings[kind].fill(items, len_at(i), form);
@@ -633,41 +633,6 @@ static void check_nulls(void) {
     }
 }
 
-/* Text of arcs, in half of the draws with another byte at some place. How long it is. */
-static size_t draw_text(const uint32_t *arcs, size_t count, char *text) {
-    static const char bytes[] = {'.', 'x', '9', '\xFF'};
-    size_t len = 0;
-    for (size_t i = 0; i < count; i++) len += (size_t)sprintf(text + len, i > 0 ? ".%" PRIu32 : "%" PRIu32, arcs[i]);
-    if (drawn(2)) text[drawn((uint32_t)len)] = bytes[drawn(4)];
-    return len + (drawn(16) == 0 ? (text[len] = '.', 1) : 0);
-}
-
-/* How many octets the subidentifier of an arc has. */
-static size_t octets_of(uint32_t arc) {
-    size_t len = 1;
-    while ((arc >>= 7) != 0) len++;
-    return len;
-}
-
-/* Drawn texts or arcs whose octets are around 255 and 256, some wrong, and outputs around their length. */
-static void check_drawn(void) {
-    static uint32_t arcs[320];
-    static char text[11 * 320 + 1];
-    if (f->kinds[0] != TEXT && f->kinds[0] != ARCS) return;
-    for (int round = 0; round < 50000; round++) {
-        size_t count = 2, octets = 1, aim = 230 + drawn(50);
-        arcs[0] = drawn(3);
-        arcs[1] = drawn(16) == 0 ? drawn(UINT32_MAX) : drawn(40);
-        for (; octets < aim; octets += octets_of(arcs[count++])) {
-            arcs[count] = drawn(UINT32_MAX) >> 7 * drawn(5);
-        }
-        if (f->kinds[0] == ARCS && drawn(16) == 0) arcs[drawn((uint32_t)count)] = drawn(8);
-        a[0] = f->kinds[0] == ARCS ? (argument){arcs, count} : (argument){text, draw_text(arcs, count, text)};
-        a[1] = (argument){usual, octets - 4 + drawn(9)};
-        check();
-    }
-}
-
 /* Memory that is mapped and not written, of 2^bits bytes or as many as there are. */
 static void map(pages *to, int bits) {
     for (; to->start == NULL && bits > 20; bits--) {
@@ -716,7 +681,6 @@ int main(void) {
     for (int i = 0; i < FUNCTIONS; i++) {
         f = &functions[i];
         check_nulls();
-        check_drawn();
         set_usual();
         with_outputs();
         set_usual();
