@@ -1,26 +1,35 @@
-/* The header in C: its layouts, its constants, also where the preprocessor reads them, and functions. */
+/* The header in C and C++: its layouts, its constants, also where the preprocessor reads them, and functions. */
 #include "const_oid.h"
 
+#ifdef __cplusplus
+#include <type_traits>
+#define _Static_assert static_assert
+#define _Alignof alignof
+#define EXTERN extern "C"
+#define IS_OF(expression, type) std::is_same<decltype(expression), type>::value
+#else
+#define EXTERN extern
+#define IS_OF(expression, type) _Generic(expression, type: 1, default: 0)
+#endif
+
 #define BYTES sizeof(size_t)
+#define HAS_FIELD(type, field, wanted, at) \
+    _Static_assert(offsetof(type, field) == at && IS_OF(((type *)0)->field, wanted), #field " in " #type)
+HAS_FIELD(const_oid_status, code, uint32_t, 0);
+HAS_FIELD(const_oid_status, detail, uint32_t, 4);
+HAS_FIELD(const_oid_status, len, size_t, 8);
+HAS_FIELD(const_oid_octets, octets, const uint8_t *, 0);
+HAS_FIELD(const_oid_octets, len, size_t, BYTES);
+HAS_FIELD(const_oid_range, start, size_t, 0);
+HAS_FIELD(const_oid_range, end, size_t, BYTES);
 
-_Static_assert(offsetof(const_oid_status, code) == 0 && offsetof(const_oid_status, detail) == 4
-    && offsetof(const_oid_status, len) == 8 && sizeof(const_oid_status) == 8 + BYTES, "a status");
-_Static_assert(offsetof(const_oid_octets, octets) == 0 && offsetof(const_oid_octets, len) == BYTES
-    && sizeof(const_oid_octets) == 2 * BYTES, "octets");
-_Static_assert(offsetof(const_oid_range, start) == 0 && offsetof(const_oid_range, end) == BYTES
-    && sizeof(const_oid_range) == 2 * BYTES, "a range");
-_Static_assert(_Alignof(const_oid_status) == _Alignof(size_t) && _Alignof(const_oid_octets) == _Alignof(size_t)
-    && _Alignof(const_oid_range) == _Alignof(size_t), "alignments");
-
-#define HAS_TYPE(type, field, wanted) \
-    _Static_assert(_Generic(((type *)0)->field, wanted: 1, default: 0), "the type of " #field " in " #type)
-HAS_TYPE(const_oid_status, code, uint32_t);
-HAS_TYPE(const_oid_status, detail, uint32_t);
-HAS_TYPE(const_oid_status, len, size_t);
-HAS_TYPE(const_oid_octets, octets, const uint8_t *);
-HAS_TYPE(const_oid_octets, len, size_t);
-HAS_TYPE(const_oid_range, start, size_t);
-HAS_TYPE(const_oid_range, end, size_t);
+#define HAS_SIZE(type, wanted) \
+    _Static_assert(sizeof(type) == wanted && _Alignof(type) == _Alignof(size_t), "the size and alignment of " #type)
+HAS_SIZE(const_oid_status, 8 + BYTES);
+HAS_SIZE(const_oid_octets, 2 * BYTES);
+HAS_SIZE(const_oid_range, 2 * BYTES);
+extern enum const_oid_code code;
+extern enum const_oid_order order;
 
 #if !(CONST_OID_VERSION && CONST_OID_MAX_OCTETS && CONST_OID_MAX_TEXT && CONST_OID_MAX_ARCS && CONST_OID_USUAL_OCTETS \
     && CONST_OID_MAX_ERROR_TEXT)
@@ -28,14 +37,31 @@ HAS_TYPE(const_oid_range, end, size_t);
 #endif
 
 #define HAS_VALUE(name, wanted) \
-    _Static_assert(CONST_OID_##name == wanted && _Generic(CONST_OID_##name, int: 1, default: 0), "the value of " #name)
+    _Static_assert(CONST_OID_##name == wanted && IS_OF(CONST_OID_##name, int), "the value of " #name)
 HAS_VALUE(MAX_OCTETS, 255);
 HAS_VALUE(MAX_TEXT, 1020);
 HAS_VALUE(MAX_ARCS, 256);
 HAS_VALUE(USUAL_OCTETS, 39);
 HAS_VALUE(MAX_ERROR_TEXT, 47);
 
-#include "declared.h"
+/* The functions again, by the types of the source: a compiler rejects a header that has others. */
+#define TYPES_OCTETS const uint8_t *, size_t
+#define TYPES_DER const uint8_t *, size_t
+#define TYPES_TEXT const char *, size_t
+#define TYPES_ARCS const uint32_t *, size_t
+#define TYPES_LIST const const_oid_octets *, size_t
+#define TYPES_ITEM const void *
+#define TYPES_INDEX size_t
+#define TYPES_NUMBER uint32_t
+#define TYPES_OCTETS_OUT uint8_t *, size_t
+#define TYPES_TEXT_OUT char *, size_t
+#define TYPES_ARCS_OUT uint32_t *, size_t
+#define TYPES_RANGE_OUT const_oid_range *
+#define TYPES_ITEM_OUT const_oid_octets *
+#define NOTHING void
+#define ARGUMENT(kind, i) TYPES_##kind
+#define CALL(result, name, ...) EXTERN result name(__VA_ARGS__);
+#include "calls.h"
 
 /* The version of each triple, also within an expression. */
 #undef CONST_OID_VERSION_MAJOR
@@ -45,5 +71,4 @@ HAS_VALUE(MAX_ERROR_TEXT, 47);
 #define CONST_OID_VERSION_MINOR 3
 #define CONST_OID_VERSION_PATCH 4
 HAS_VALUE(VERSION, 0x020304);
-_Static_assert(CONST_OID_VERSION == 0x020304, "65536 of the major, 256 of the minor, and the patch number");
 _Static_assert(3 * CONST_OID_VERSION == 3 * 0x020304, "the version in a product");

@@ -6,9 +6,7 @@
  *
  * With -DBESIDE the library that rt proved is linked, too, its functions with the prefix `proved_`: for each call both
  * return and write the same, bit for bit. For each function digests of what it returns and writes are printed: one of
- * the calls that 32 bits allow, and one of the others, if they are made.
- *
- * With -DFUZZED -fsanitize=fuzzer, what libFuzzer gives takes the place of the lengths and numbers. */
+ * the calls that 32 bits allow, and one of the others, if they are made. */
 #include "see.h"
 
 #include <const_oid_names.h>
@@ -264,7 +262,8 @@ static void with_outputs(void) {
     const_oid_status all = f->call(a);
     size_t len = all.code == CONST_OID_OK ? all.len : 0;
     int is_long = len > 1100;
-    const argument rooms[] = {{none, len}, {none, len - 1}, {NULL, 0}, {none, 0}, {none, len + 1}, {none, len + 20}};
+    const argument rooms[] = {{none, len}, {none, len - 1}, {NULL, 0}, {none, 0}, {none, len + 1}, {none, len + 20},
+        {none, CONST_OID_MAX_OCTETS}};
     for (size_t i = 0; i < (is_long ? 2 : sizeof rooms / sizeof *rooms); i++) {
         a[out] = rooms[i];
         if (a[out].len != SIZE_MAX) check();
@@ -409,24 +408,51 @@ static const struct {
 } fillings[] = {[OCTETS] = {fill_octets, 9, "\x2A\3\4\x80", 3}, [DER] = {fill_der, 9, "\x2A\3\4\x80", 3},
     [TEXT] = {fill_text, 7, "1.2\xFF", 3}, [ARCS] = {fill_arcs, 5, starts, 1}};
 
-/* Each identifier with a name, since a function could know it. Bytes follow an element. */
-static void vary_names(int lead, enum kind kind) {
-    static uint32_t arcs[128];
-    static char text[512];
-    static uint8_t der[128];
-    for (size_t i = 0; i < CONST_OID_NAMES_COUNT; i++) {
-        const const_oid_octets of = const_oid_name_octets[i];
-        if (kind == OCTETS) with(lead, of.octets, of.len);
-        if (kind == ARCS) with(lead, arcs, const_oid_arcs(of.octets, of.len, arcs, 128).len);
-        if (kind == TEXT) with(lead, text, const_oid_to_text(of.octets, of.len, text, sizeof text).len);
-        if (kind == DER) with(lead, der, const_oid_to_der(of.octets, of.len, der, sizeof der - 3).len + 3);
+/* A number below another that is drawn, the same in each run. */
+static uint32_t drawn(uint32_t end) {
+    static uint32_t state = 2463534242u;
+    state ^= state << 13;
+    state ^= state >> 17;
+    state ^= state << 5;
+    return state % end;
+}
+
+/* An identifier as an array, in which an item may be wrong. Bytes follow an element. */
+static void vary_identifier(int lead, enum kind kind, const_oid_octets of, int is_wrong) {
+    static uint32_t arcs[320];
+    static uint8_t bytes[4 * 320];
+    size_t len = of.len;
+    if (kind == OCTETS) memcpy(bytes, of.octets, len);
+    if (kind == ARCS) len = const_oid_arcs(of.octets, of.len, arcs, 320).len;
+    if (kind == TEXT) len = const_oid_to_text(of.octets, of.len, (char *)bytes, sizeof bytes).len;
+    if (kind == DER) len = const_oid_to_der(of.octets, of.len, bytes, sizeof bytes - 3).len + 3;
+    uint32_t at = drawn((uint32_t)len), byte = drawn(256);
+    if (is_wrong) arcs[at % 320] = byte, bytes[at] = (uint8_t)(kind == TEXT ? ".x9\xFF"[byte % 4] : (int)byte);
+    with(lead, kind == ARCS ? (void *)arcs : bytes, len);
+}
+
+/* Each identifier with a name, since a function could know it; and drawn ones of few octets or around 255, some wrong:
+ * more of those that are encoded. */
+static void vary_identifiers(int lead, enum kind kind) {
+    static uint8_t octets[300];
+    const int rounds = kind == TEXT || kind == ARCS ? 5000 : 1000;
+    for (size_t i = 0; i < CONST_OID_NAMES_COUNT; i++) vary_identifier(lead, kind, const_oid_name_octets[i], 0);
+    for (int round = 0; round < rounds; round++) {
+        size_t len = 0, aim = round % 2 ? 230 + drawn(50) : 1 + drawn(60);
+        while (len < aim) {
+            uint32_t more = drawn(5);
+            for (uint32_t i = 0; i < more; i++)
+                octets[len++] = (uint8_t)(i > 0 ? 0x80 + drawn(128) : 0x81 + drawn(more == 4 ? 15 : 127));
+            octets[len++] = (uint8_t)drawn(128);
+        }
+        vary_identifier(lead, kind, (const_oid_octets){octets, len}, round % 4 > 1);
     }
 }
 
 static void vary_array(int lead, enum kind kind) {
     static uint32_t items[MOST];
     with(lead, NULL, 0);
-    vary_names(lead, kind);
+    vary_identifiers(lead, kind);
     for (int i = 0; i < LENS; i++) {
         for (int form = 0; form < fillings[kind].forms; form += len_at(i) > 1000 ? 2 : 1) {
             fillings[kind].fill(items, len_at(i), form);
@@ -607,50 +633,6 @@ static void check_nulls(void) {
     }
 }
 
-/* A number below another that is drawn, the same in each run. */
-static uint32_t drawn(uint32_t end) {
-    static uint32_t state = 2463534242u;
-    state ^= state << 13;
-    state ^= state >> 17;
-    state ^= state << 5;
-    return state % end;
-}
-
-/* Text of arcs, in half of the draws with another byte at some place. How long it is. */
-static size_t draw_text(const uint32_t *arcs, size_t count, char *text) {
-    static const char bytes[] = {'.', 'x', '9', '\xFF'};
-    size_t len = 0;
-    for (size_t i = 0; i < count; i++) len += (size_t)sprintf(text + len, i > 0 ? ".%" PRIu32 : "%" PRIu32, arcs[i]);
-    if (drawn(2)) text[drawn((uint32_t)len)] = bytes[drawn(4)];
-    return len + (drawn(16) == 0 ? (text[len] = '.', 1) : 0);
-}
-
-/* How many octets the subidentifier of an arc has. */
-static size_t octets_of(uint32_t arc) {
-    size_t len = 1;
-    while ((arc >>= 7) != 0) len++;
-    return len;
-}
-
-/* Drawn texts or arcs whose octets are around 255 and 256, some wrong, and outputs around their length. */
-static void check_drawn(void) {
-    static uint32_t arcs[320];
-    static char text[11 * 320 + 1];
-    if (f->kinds[0] != TEXT && f->kinds[0] != ARCS) return;
-    for (int round = 0; round < 50000; round++) {
-        size_t count = 2, octets = 1, aim = 230 + drawn(50);
-        arcs[0] = drawn(3);
-        arcs[1] = drawn(16) == 0 ? drawn(UINT32_MAX) : drawn(40);
-        for (; octets < aim; octets += octets_of(arcs[count++])) {
-            arcs[count] = drawn(UINT32_MAX) >> 7 * drawn(5);
-        }
-        if (f->kinds[0] == ARCS && drawn(16) == 0) arcs[drawn((uint32_t)count)] = drawn(8);
-        a[0] = f->kinds[0] == ARCS ? (argument){arcs, count} : (argument){text, draw_text(arcs, count, text)};
-        a[1] = (argument){usual, octets - 4 + drawn(9)};
-        check();
-    }
-}
-
 /* Memory that is mapped and not written, of 2^bits bytes or as many as there are. */
 static void map(pages *to, int bits) {
     for (; to->start == NULL && bits > 20; bits--) {
@@ -689,28 +671,6 @@ static void map_arguments(void) {
     }
 }
 
-#ifdef FUZZED
-/* Octets, text or arcs. In a text, what is not ASCII is not UTF-8. */
-int LLVMFuzzerTestOneInput(const uint8_t *data, size_t len) {
-    static uint32_t items[MOST];
-    static uint8_t text[MOST];
-    if (len > MOST) return -1;
-    if (output_pages.start == NULL) map_arguments();
-    map(&output_pages, 34);
-    map(&proved_pages, 34);
-    memcpy(items, data, len);
-    for (size_t i = 0; i < len; i++) text[i] = data[i] < 0x80 ? data[i] : 0xFF;
-    for (int i = 0; i < FUNCTIONS; i++) {
-        f = &functions[i];
-            for (int at = 0; at < output_at(); at++) {
-            enum kind kind = f->kinds[at];
-            if (sizes[kind] == 0 || kind == LIST) continue;
-            with(at, kind == TEXT ? (void *)text : items, len / sizes[kind]);
-        }
-    }
-    return 0;
-}
-#else
 int main(void) {
     map_arguments();
     map(&input_pages, 34);
@@ -721,7 +681,6 @@ int main(void) {
     for (int i = 0; i < FUNCTIONS; i++) {
         f = &functions[i];
         check_nulls();
-        check_drawn();
         set_usual();
         with_outputs();
         set_usual();
@@ -734,4 +693,3 @@ int main(void) {
     if (equal_items == NULL) fprintf(stderr, "tests: no length past 2^32, since no more is mapped\n");
     return 0;
 }
-#endif

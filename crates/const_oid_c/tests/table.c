@@ -8,7 +8,7 @@
 #include <strings.h>
 
 typedef struct {
-    const_oid_octets octets;
+    const_oid_octets octets; /* comes first, so const_oid_by_arcs compares rows */
     const char *arcs, *name;
     size_t place;
 } row;
@@ -19,46 +19,16 @@ static row rows[] = {
 };
 static const size_t count = sizeof rows / sizeof *rows;
 
-/* Writes a subidentifier (X.690, section 8.19.2). Its length. */
-static size_t write_number(uint64_t number, uint8_t *to) {
-    size_t len = 1;
-    while (number >> 7 * len != 0) len++;
-    for (size_t i = 0; i < len; i++) to[i] = (uint8_t)((number >> 7 * (len - 1 - i)) % 128 + (i + 1 < len ? 128 : 0));
-    return len;
-}
-
-/* How many octets the first part has: up to its first octet below 0x80, or all of them. */
-static size_t part_len(const uint8_t *octets, size_t len) {
-    for (size_t i = 0; i < len; i++)
-        if (octets[i] < 0x80) return i + 1;
-    return len;
-}
-
-static int by_parts(const uint8_t *a, size_t a_len, const uint8_t *b, size_t b_len) {
-    while (a_len > 0 && b_len > 0) {
-        size_t of_a = part_len(a, a_len), of_b = part_len(b, b_len);
-        if (of_a != of_b) return of_a < of_b ? -1 : 1;
-        int order = memcmp(a, b, of_a);
-        if (order != 0) return order < 0 ? -1 : 1;
-        a += of_a, b += of_b, a_len -= of_a, b_len -= of_b;
-    }
-    return (a_len > 0) - (b_len > 0);
-}
-
 static int is_encoding(const_oid_octets octets, const char *arcs) {
     uint8_t out[128];
-    char *rest;
-    uint64_t root = 40 * strtoul(arcs, &rest, 10);
-    size_t len = write_number(root + strtoul(rest + 1, &rest, 10), out);
-    while (*rest != 0) len += write_number(strtoul(rest + 1, &rest, 10), out + len);
-    return octets.len == len && memcmp(octets.octets, out, len) == 0;
+    const_oid_status made = const_oid_from_text(arcs, strlen(arcs), out, sizeof out);
+    return made.code == CONST_OID_OK && octets.len == made.len && memcmp(octets.octets, out, made.len) == 0;
 }
 
 /* The order of arcs, and of the table where they are equal. */
 static int by_arcs(const void *left, const void *right) {
-    const row *a = (const row *)left, *b = (const row *)right;
-    int order = by_parts(a->octets.octets, a->octets.len, b->octets.octets, b->octets.len);
-    return order != 0 ? order : a->place < b->place ? -1 : 1;
+    int order = const_oid_by_arcs(left, right);
+    return order != 0 ? order : ((const row *)left)->place < ((const row *)right)->place ? -1 : 1;
 }
 
 /* The first row of the table with a name. */
@@ -91,8 +61,9 @@ static void find_like(size_t index) {
 
 /* Finds the first row of octets, of the rows that are sorted. */
 static void find_octets(const uint8_t *octets, size_t len) {
+    const const_oid_octets item = {octets, len};
     size_t first = 0;
-    while (first < count && by_parts(rows[first].octets.octets, rows[first].octets.len, octets, len) != 0) first++;
+    while (first < count && const_oid_by_arcs(&rows[first], &item) != 0) first++;
     SEE(const_oid_name_of(octets, len) == first, first);
 }
 
