@@ -8,19 +8,6 @@ use crate::digits::{MAX_DIGITS, arc_len, utf8, write_bytes, write_last_digits};
 use std::fmt;
 
 /// A result whose error is [`Error`].
-///
-/// # Examples
-///
-/// ```
-/// use const_oid::{ObjectIdentifier, Result};
-///
-/// fn country() -> Result<ObjectIdentifier> {
-///     "2.5.4.6".parse()
-/// }
-///
-/// assert_eq!(country()?.len(), 4);
-/// # Ok::<(), const_oid::Error>(())
-/// ```
 pub type Result<T> = std::result::Result<T, Error>;
 
 /// Why text, a list of arcs or octets were rejected.
@@ -99,6 +86,7 @@ impl Error {
     /// let len = const_oid::Error::Length.encode_text(&mut out).unwrap();
     /// assert_eq!(&out[..len], b"OID length invalid");
     /// assert_eq!(const_oid::Error::Length.text_len(), len);
+    /// assert_eq!(const_oid::Error::Length.encode_str(&mut out), Some("OID length invalid"));
     /// ```
     #[inline(always)]
     pub fn encode_text(self, out: &mut [u8]) -> Option<usize>
@@ -116,15 +104,7 @@ impl Error {
         Some(write_bytes(after.as_bytes(), out, at))
     }
 
-    /// Writes the text as [`encode_text`](Self::encode_text) does, and borrows it as a `str`.
-    ///
-    /// # Examples
-    ///
-    /// ```
-    /// let mut out = [0; 32];
-    /// let text = const_oid::Error::Length.encode_str(&mut out);
-    /// assert_eq!(text, Some("OID length invalid"));
-    /// ```
+    /// Writes the text as [`encode_text`](Self::encode_text) does, which has an example, and borrows it as a `str`.
     #[tactic(auto, using(crate::proofs::Sets::bytes_put))]
     #[inline]
     pub fn encode_str<'o>(self, out: &'o mut [u8]) -> Option<&'o str>

@@ -136,14 +136,6 @@ impl<'a> ObjectIdentifierRef<'a> {
     }
 
     /// The contents octets, which are the caller's.
-    ///
-    /// # Examples
-    ///
-    /// ```
-    /// let oid = const_oid::ObjectIdentifierRef::from_bytes(&[0x88, 0x37, 0x03])?;
-    /// assert_eq!(oid.as_bytes(), [0x88, 0x37, 0x03]);
-    /// # Ok::<(), const_oid::Error>(())
-    /// ```
     pub const fn as_bytes(&self) -> &'a [u8]
         ensures slice { result ≡ ref_slice self.now }
         ensures encoding { IsEncoding root_rule (ref_arcs self.now) result.now }
@@ -233,6 +225,7 @@ impl<'a> ObjectIdentifierRef<'a> {
     /// let mut out = [0; 8];
     /// assert_eq!((oid.text_len(), oid.encode_text(&mut out)), (7, Some(7)));
     /// assert_eq!(&out, b"2.999.3\0");
+    /// assert_eq!(oid.encode_str(&mut out), Some("2.999.3"));
     /// # Ok::<(), const_oid::Error>(())
     /// ```
     #[inline]
@@ -248,15 +241,7 @@ impl<'a> ObjectIdentifierRef<'a> {
         Some(write_text(self.ber, out))
     }
 
-    /// Writes the text as [`encode_text`](Self::encode_text) does, and borrows it as a `str`.
-    ///
-    /// # Examples
-    ///
-    /// ```
-    /// let oid = const_oid::ObjectIdentifierRef::from_bytes(&[0x88, 0x37, 0x03])?;
-    /// assert_eq!(oid.encode_str(&mut [0; 8]), Some("2.999.3"));
-    /// # Ok::<(), const_oid::Error>(())
-    /// ```
+    /// Writes the text as [`encode_text`](Self::encode_text) does, which has an example, and borrows it as a `str`.
     #[inline]
     pub fn encode_str<'o>(&self, out: &'o mut [u8]) -> Option<&'o str>
         ensures cases { Returns (text_of (ref_arcs self.now)) out.old result }
@@ -300,6 +285,7 @@ impl<'a> ObjectIdentifierRef<'a> {
     /// let mut out = [0; 5];
     /// assert_eq!(ObjectIdentifierRef::from_ascii_in(b"2.999", &mut out)?.to_string(), "2.999");
     /// assert_eq!(ObjectIdentifierRef::from_ascii_in(b"2.999", &mut [0]), Err(Error::Length));
+    /// assert_eq!(ObjectIdentifierRef::from_arcs_in(&[2, 999], &mut out)?.to_string(), "2.999");
     /// # Ok::<(), Error>(())
     /// ```
     #[tactic(auto, using(crate::proofs::Appended::taken, crate::proofs::Encodings::none_from_encoding, crate::proofs::Texts::denoted_from_answer))]
@@ -336,23 +322,12 @@ impl<'a> ObjectIdentifierRef<'a> {
     }
 
     /// Encodes arcs, any number of them, and borrows the octets that it writes at the start of `out`. They are at most
-    /// five for each arc.
+    /// five for each arc. [`from_ascii_in`](Self::from_ascii_in) has an example.
     ///
     /// # Errors
     ///
     /// Those of [`from_arcs`](crate::ObjectIdentifier::from_arcs), with [`Error::Length`] if the arcs take more octets than
     /// `out` has. It is then unchanged.
-    ///
-    /// # Examples
-    ///
-    /// ```
-    /// use const_oid::ObjectIdentifierRef;
-    ///
-    /// let mut out = [0; 640];
-    /// let oid = ObjectIdentifierRef::from_arcs_in(&[2; 128], &mut out)?;
-    /// assert_eq!((oid.len(), oid.as_bytes().len()), (128, 127));
-    /// # Ok::<(), const_oid::Error>(())
-    /// ```
     #[tactic(auto, using(crate::proofs::Appended::taken, crate::proofs::Encodings::none_from_encoding))]
     pub fn from_arcs_in(arcs: &[Arc], out: &'a mut [u8]) -> Result<Self>
         ensures answer { ref_answer result ≡ item_answer root_rule arcs.now (length out.old) }
@@ -369,7 +344,10 @@ impl<'a> ObjectIdentifierRef<'a> {
     ///
     /// ```
     /// let oid = const_oid::ObjectIdentifierRef::from_bytes(&[0x88, 0x37, 0x03])?;
-    /// assert_eq!(oid.parent().unwrap().to_string(), "2.999");
+    /// let parent = oid.parent().unwrap();
+    /// assert_eq!(parent.to_string(), "2.999");
+    /// assert!(oid.starts_with(parent) && oid.strip_prefix(parent).unwrap().eq([3]));
+    /// assert!(parent.cmp_arcs(oid).is_lt());
     /// # Ok::<(), const_oid::Error>(())
     /// ```
     #[inline]
@@ -385,15 +363,7 @@ impl<'a> ObjectIdentifierRef<'a> {
     }
 
     /// Whether the arcs begin with all those of another identifier: whether the other one is this one or an ancestor of
-    /// it.
-    ///
-    /// # Examples
-    ///
-    /// ```
-    /// let oid = const_oid::ObjectIdentifierRef::from_bytes(&[0x88, 0x37, 0x03])?;
-    /// assert!(oid.starts_with(oid.parent().unwrap()));
-    /// # Ok::<(), const_oid::Error>(())
-    /// ```
+    /// it. [`parent`](Self::parent) has an example.
     // erase: const
     #[inline(always)]
     pub fn starts_with(&self, other: &ObjectIdentifierRef<'_>) -> bool
@@ -403,14 +373,7 @@ impl<'a> ObjectIdentifierRef<'a> {
     }
 
     /// The arcs after those of another identifier, or `None` if the arcs do not begin with those. They may be none.
-    ///
-    /// # Examples
-    ///
-    /// ```
-    /// let oid = const_oid::ObjectIdentifierRef::from_bytes(&[0x88, 0x37, 0x03])?;
-    /// assert!(oid.strip_prefix(oid.parent().unwrap()).unwrap().eq([3]));
-    /// # Ok::<(), const_oid::Error>(())
-    /// ```
+    /// [`parent`](Self::parent) has an example.
     #[inline]
     pub fn strip_prefix(&self, other: &ObjectIdentifierRef<'_>) -> Option<Arcs<'a>>
         ensures { MatchOption result
@@ -424,15 +387,7 @@ impl<'a> ObjectIdentifierRef<'a> {
     }
 
     /// Compares the arcs lexicographically, a prefix before what begins with it. SNMP orders names so (RFC 3416).
-    ///
-    /// # Examples
-    ///
-    /// ```
-    /// let oid = const_oid::ObjectIdentifierRef::from_bytes(&[0x88, 0x37, 0x03])?;
-    /// let small = const_oid::ObjectIdentifierRef::from_bytes(&[0x88, 0x37, 0x81, 0x00])?;
-    /// assert!(oid.cmp_arcs(small).is_lt() && oid < small);
-    /// # Ok::<(), const_oid::Error>(())
-    /// ```
+    /// [`parent`](Self::parent) has an example.
     // erase: const
     #[inline]
     pub fn cmp_arcs(&self, other: &ObjectIdentifierRef<'_>) -> Ordering
