@@ -1,7 +1,9 @@
 //! The errors of this crate.
 ghost use Rattle.std.specs.Prelude.{◌≡◌, ◌+◌, ◌<◌, ◌≤◌, ◌++◌, length, take, drop, None, Some, IfSome, IsSome};
 ghost use Rattle.std.specs.Str.{IsUtf8};
+ghost use Rattle.const_oid.specs.Error.{message_of};
 ghost use Rattle.const_oid.specs.Output.{Returns, Writes};
+ghost use Rattle.const_oid.specs.Private.Text.{detail_text};
 
 use crate::Arc;
 use crate::digits::{MAX_DIGITS, arc_len, utf8, write_bytes, write_last_digits};
@@ -62,9 +64,6 @@ pub enum Error {
 const MAX_TEXT_LEN: usize = 47;
 
 impl Error {
-    ghost use Rattle.const_oid.specs.Error.{message_of};
-    ghost use Rattle.const_oid.specs.Private.Text.{detail_text};
-
     /// The length in bytes of the text that `{}` writes. [`encode_text`](Self::encode_text) has an example.
     #[tactic(auto, using(crate::proofs::Printed::parts_long))]
     #[inline]
@@ -174,8 +173,6 @@ impl Error {
 
 /// The error in words, whatever the options.
 impl fmt::Display for Error {
-    ghost use Rattle.const_oid.specs.Error.{message_of};
-
     ghost output = { λ error. Some (message_of error) };
 
     ghost styled_output = { λ error _. Some (message_of error) };

@@ -1,8 +1,9 @@
 //! Owned object identifiers.
 
-ghost use Rattle.std.specs.Prelude.{◌≡◌, ◌≢◌, ◌+◌, ◌*◌, ◌<◌, ◌≤◌, ◌↔◌, ℕ, List, length, min, slice_get, None, Some, IfOk, IsSome, IsTrue, MatchOption, MatchResult, ◌++◌};
+ghost use Rattle.std.specs.Prelude.{◌≡◌, ◌≢◌, ◌+◌, ◌*◌, ◌<◌, ◌≤◌, ◌↔◌, ℕ, List, length, min, slice_get, None, Some, IfOk, IsSome, IsTrue, MatchOption, MatchResult, ◌++◌, codes, nat_eq, refl};
 ghost use Rattle.std.specs.Iterator.{IsFiniteIterable};
-ghost use Rattle.std.specs.Cmp.Lexicographic.{slice_cmp};
+ghost use Rattle.std.specs.Cmp.{on_per, on_total, partial_equiv_from_equiv};
+ghost use Rattle.std.specs.Cmp.Lexicographic.{pointwise, slice_cmp, nat_list_eq_equiv};
 ghost use Rattle.std.specs.Option.{option_map};
 ghost use Rattle.std.specs.Fmt.{DisplaysOnOk, WritesStyledOnOk};
 ghost use Rattle.std.specs.Ordering.{nat_cmp};
@@ -327,7 +328,6 @@ impl<const MAX_SIZE: usize> ObjectIdentifier<MAX_SIZE> {
     }
 
     /// The length in octets of the element that [`write_element`](Self::write_element) writes.
-    /// [`ObjectIdentifierRef::write_element`] has an example.
     // erase: const
     pub fn element_len(&self) -> usize
         ensures { result ≡ length (element (oid_octets self.now)) }
@@ -335,9 +335,8 @@ impl<const MAX_SIZE: usize> ObjectIdentifier<MAX_SIZE> {
         self.as_oid_ref().element_len()
     }
 
-    /// Writes the element in DER, the tag 6, the length and the contents octets (X.690, 8.1, 8.19 and 10.1), to the start
-    /// of `out`, and returns its length in octets. Returns `None` if it is longer than `out`, which is then unchanged.
-    /// Three octets more than the contents are always enough. [`ObjectIdentifierRef::write_element`] has an example.
+    /// Writes the element in DER as [`ObjectIdentifierRef::write_element`] does, which has an example. Three octets more
+    /// than the contents are always enough.
     pub fn write_element(&self, out: &mut [u8]) -> Option<usize>
         ensures written { Writes (element (oid_octets self.now)) out.old out.new result }
         ensures kept { result ≡ None → out.new ≡ out.old }
@@ -374,9 +373,7 @@ impl<const MAX_SIZE: usize> ObjectIdentifier<MAX_SIZE> {
         self.as_oid_ref().text_len()
     }
 
-    /// Writes the text that `{}` writes to the start of `out`, and returns its length in bytes. Returns `None` if it is
-    /// longer than `out`, which is then unchanged. Four bytes for each octet are always enough.
-    /// [`ObjectIdentifierRef::encode_text`] has an example.
+    /// Writes the text that `{}` writes as [`ObjectIdentifierRef::encode_text`] does, which has an example.
     pub fn encode_text(&self, out: &mut [u8]) -> Option<usize>
         ensures written { Writes (text_of (oid_arcs self.now)) out.old out.new result }
         ensures kept { result ≡ None → out.new ≡ out.old }
@@ -386,7 +383,6 @@ impl<const MAX_SIZE: usize> ObjectIdentifier<MAX_SIZE> {
     }
 
     /// Writes the text as [`encode_text`](Self::encode_text) does, and borrows it as a `str`.
-    /// [`ObjectIdentifierRef::encode_text`] has an example.
     pub fn encode_str<'o>(&self, out: &'o mut [u8]) -> Option<&'o str>
         ensures cases { Returns (text_of (oid_arcs self.now)) out.old result }
         ensures enough { 4 * length (oid_octets self.now) ≤ length out.old → IsSome result }
@@ -501,7 +497,6 @@ impl<const MAX_SIZE: usize> fmt::Display for ObjectIdentifier<MAX_SIZE> {
 }
 
 impl<const MAX_SIZE: usize> fmt::Debug for ObjectIdentifier<MAX_SIZE> {
-    ghost use Rattle.std.specs.Prelude.{◌++◌, codes};
     ghost use Rattle.const_oid.specs.Oid.{oid_arcs};
 
     ghost debug_output = { λ oid. Some (codes "ObjectIdentifier(" ++ (text_of (oid_arcs oid) ++ codes ")")) };
@@ -517,9 +512,6 @@ impl<const MAX_SIZE: usize> fmt::Debug for ObjectIdentifier<MAX_SIZE> {
 }
 
 impl<const MAX_SIZE: usize> PartialEq for ObjectIdentifier<MAX_SIZE> {
-    ghost use Rattle.std.specs.Prelude.{◌↔◌, IsTrue, nat_eq};
-    ghost use Rattle.std.specs.Cmp.{on_per, partial_equiv_from_equiv};
-    ghost use Rattle.std.specs.Cmp.Lexicographic.{pointwise, nat_list_eq_equiv};
     ghost use Rattle.const_oid.specs.Oid.{oid_octets, oid_arcs};
 
     ghost eq = { λ a b. pointwise nat_eq (oid_octets a) (oid_octets b) };
@@ -538,8 +530,6 @@ impl<const MAX_SIZE: usize> PartialEq for ObjectIdentifier<MAX_SIZE> {
 /// By the number of octets, and then by the octets in lexicographic order (shortlex). This is not the order of arcs:
 /// see [`cmp_arcs`](Self::cmp_arcs).
 impl<const MAX_SIZE: usize> Ord for ObjectIdentifier<MAX_SIZE> {
-    ghost use Rattle.std.specs.Prelude.{refl};
-    ghost use Rattle.std.specs.Cmp.{on_total};
     ghost use Rattle.const_oid.specs.Oid.{oid_octets};
     ghost use Rattle.const_oid.specs.Orders.{shortlex_cmp, shortlex_cmp_total, shortlex_cmp_ties};
 

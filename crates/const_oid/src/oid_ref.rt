@@ -1,9 +1,10 @@
 //! Borrowed object identifiers.
-ghost use Rattle.std.specs.Prelude.{◌≡◌, ◌≢◌, ◌*◌, ◌≤◌, ◌<◌, ◌↔◌, ◌+◌, ◌++◌, ℕ, List, length, min, slice_get, count_by, None, Some, Err, IfOk, IfSome, IsSome, IsTrue, MatchOption, Ok, []};
+ghost use Rattle.std.specs.Prelude.{◌≡◌, ◌≢◌, ◌*◌, ◌≤◌, ◌<◌, ◌↔◌, ◌+◌, ◌++◌, ℕ, List, length, min, slice_get, count_by, None, Some, Err, IfOk, IfSome, IsSome, IsTrue, MatchOption, Ok, [], codes, nat_eq, refl};
 ghost use Rattle.std.specs.Option.{option_map};
 ghost use Rattle.std.specs.Result.{result_err};
 ghost use Rattle.std.specs.Fmt.{DisplaysOnOk, WritesStyledOnOk};
-ghost use Rattle.std.specs.Cmp.Lexicographic.{slice_cmp};
+ghost use Rattle.std.specs.Cmp.{on_per, on_po, on_total, partial_equiv_from_equiv};
+ghost use Rattle.std.specs.Cmp.Lexicographic.{pointwise, slice_cmp, nat_list_eq_equiv, nat_list_cmp_total, texts_po, texts_ties};
 ghost use Rattle.std.specs.List.Sorted.{IsSortedByKey};
 ghost use Rattle.std.specs.Ordering.{nat_cmp, is_lt};
 ghost use Rattle.std.proofs.Props.{props};
@@ -97,15 +98,12 @@ impl<'a> ObjectIdentifierRef<'a> {
     }
 
     /// Reads the element in DER that octets begin with: the tag 6, the length, and contents octets (X.690, 8.1, 8.19 and
-    /// 10.1). Returns the identifier, or the error of the contents octets, and the octets after the element.
+    /// 10.1). Returns what [`from_bytes`](Self::from_bytes) returns for the contents octets, and the octets after the
+    /// element.
     ///
     /// Returns `None` if the octets begin with no such element: the tag is not 6, the length is indefinite or could be
     /// in fewer octets, or not all contents octets are there. No octets are `None` too. So a loop over elements runs
     /// `while !der.is_empty()`: `while let Some(..)` takes a wrong element for the end.
-    ///
-    /// # Errors
-    ///
-    /// Those of [`from_bytes`](Self::from_bytes).
     ///
     /// # Examples
     ///
@@ -476,7 +474,6 @@ impl fmt::Display for ObjectIdentifierRef<'_> {
 }
 
 impl fmt::Debug for ObjectIdentifierRef<'_> {
-    ghost use Rattle.std.specs.Prelude.{◌++◌, codes};
     ghost use Rattle.const_oid.specs.OidRef.{ref_arcs};
 
     ghost debug_output = { λ oid. Some (codes "ObjectIdentifierRef(" ++ (text_of (ref_arcs oid) ++ codes ")")) };
@@ -492,9 +489,6 @@ impl fmt::Debug for ObjectIdentifierRef<'_> {
 }
 
 impl PartialEq for ObjectIdentifierRef<'_> {
-    ghost use Rattle.std.specs.Prelude.{◌↔◌, IsTrue, nat_eq};
-    ghost use Rattle.std.specs.Cmp.{on_per, partial_equiv_from_equiv};
-    ghost use Rattle.std.specs.Cmp.Lexicographic.{pointwise, nat_list_eq_equiv};
     ghost use Rattle.const_oid.specs.OidRef.{ref_octets, ref_arcs};
 
     ghost eq = { λ a b. pointwise nat_eq (ref_octets a) (ref_octets b) };
@@ -511,9 +505,6 @@ impl PartialEq for ObjectIdentifierRef<'_> {
 }
 
 impl PartialOrd for ObjectIdentifierRef<'_> {
-    ghost use Rattle.std.specs.Ordering.{nat_cmp};
-    ghost use Rattle.std.specs.Cmp.{on_po};
-    ghost use Rattle.std.specs.Cmp.Lexicographic.{slice_cmp, texts_po};
     ghost use Rattle.const_oid.specs.OidRef.{ref_octets};
 
     ghost partial_cmp = { λ a b. Some (slice_cmp nat_cmp (ref_octets a) (ref_octets b)) };
@@ -530,10 +521,6 @@ impl PartialOrd for ObjectIdentifierRef<'_> {
 /// In a list sorted so, a subtree is contiguous. It is not the order of SNMP (RFC 3416), which is that of arcs: see
 /// [`cmp_arcs`](ObjectIdentifierRef::cmp_arcs).
 impl Ord for ObjectIdentifierRef<'_> {
-    ghost use Rattle.std.specs.Prelude.{refl};
-    ghost use Rattle.std.specs.Ordering.{nat_cmp};
-    ghost use Rattle.std.specs.Cmp.{on_total};
-    ghost use Rattle.std.specs.Cmp.Lexicographic.{slice_cmp, nat_list_cmp_total, texts_ties};
     ghost use Rattle.const_oid.specs.OidRef.{ref_octets};
 
     ghost cmp = { λ a b. slice_cmp nat_cmp (ref_octets a) (ref_octets b) };

@@ -252,15 +252,13 @@ impl<const MAX_SIZE: usize> ObjectIdentifier<MAX_SIZE> {
     }
 
     /// The length in octets of the element that [`write_element`](Self::write_element) writes.
-    /// [`ObjectIdentifierRef::write_element`] has an example.
     #[must_use]
     pub const fn element_len(&self) -> usize {
         self.as_oid_ref().element_len()
     }
 
-    /// Writes the element in DER, the tag 6, the length and the contents octets (X.690, 8.1, 8.19 and 10.1), to the start
-    /// of `out`, and returns its length in octets. Returns `None` if it is longer than `out`, which is then unchanged.
-    /// Three octets more than the contents are always enough. [`ObjectIdentifierRef::write_element`] has an example.
+    /// Writes the element in DER as [`ObjectIdentifierRef::write_element`] does, which has an example. Three octets more
+    /// than the contents are always enough.
     #[must_use]
     pub fn write_element(&self, out: &mut [u8]) -> Option<usize> {
         self.as_oid_ref().write_element(out)
@@ -290,16 +288,13 @@ impl<const MAX_SIZE: usize> ObjectIdentifier<MAX_SIZE> {
         self.as_oid_ref().text_len()
     }
 
-    /// Writes the text that `{}` writes to the start of `out`, and returns its length in bytes. Returns `None` if it is
-    /// longer than `out`, which is then unchanged. Four bytes for each octet are always enough.
-    /// [`ObjectIdentifierRef::encode_text`] has an example.
+    /// Writes the text that `{}` writes as [`ObjectIdentifierRef::encode_text`] does, which has an example.
     #[must_use]
     pub fn encode_text(&self, out: &mut [u8]) -> Option<usize> {
         self.as_oid_ref().encode_text(out)
     }
 
     /// Writes the text as [`encode_text`](Self::encode_text) does, and borrows it as a `str`.
-    /// [`ObjectIdentifierRef::encode_text`] has an example.
     #[must_use]
     pub fn encode_str<'o>(&self, out: &'o mut [u8]) -> Option<&'o str> {
         self.as_oid_ref().encode_str(out)

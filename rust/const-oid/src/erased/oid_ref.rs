@@ -74,15 +74,12 @@ impl ObjectIdentifierRef {
     }
 
     /// Reads the element in DER that octets begin with: the tag 6, the length, and contents octets (X.690, 8.1, 8.19 and
-    /// 10.1). Returns the identifier, or the error of the contents octets, and the octets after the element.
+    /// 10.1). Returns what [`from_bytes`](Self::from_bytes) returns for the contents octets, and the octets after the
+    /// element.
     ///
     /// Returns `None` if the octets begin with no such element: the tag is not 6, the length is indefinite or could be
     /// in fewer octets, or not all contents octets are there. No octets are `None` too. So a loop over elements runs
     /// `while !der.is_empty()`: `while let Some(..)` takes a wrong element for the end.
-    ///
-    /// # Errors
-    ///
-    /// Those of [`from_bytes`](Self::from_bytes).
     ///
     /// # Examples
     ///
