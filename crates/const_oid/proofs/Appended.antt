@@ -8,7 +8,7 @@ use Rattle.const_oid.specs.Base128.{AreOctets, IsContinued, group_of, width}
 use Rattle.const_oid.specs.{declared.error.Error.Error, declared.error.Error.TheVariants.{Length}}
 use Rattle.const_oid.specs.{Contents.{arcs_of_octets, size_answer}, Output.{IsEncodedIn, WritesAll, WritesEncoding, written_over}, Items.arc_fault}
 use Rattle.const_oid.specs.Identifier.{RootRule, root_rule, max_arc, max_second, subidentifiers, IsEncoding}
-use Rattle.const_oid.specs.Private.Octets.{AppendsTo, IsAppended}
+use Rattle.const_oid.specs.Private.Octets.{AppendsTo, GoesOn}
 use Rattle.const_oid.proofs.{Faults.{none_from_below, some_from_above}, Groups.{group_is, length_is}, TakesItems.{AreTaken, first_taken, taken_more}}
 use Rattle.const_oid.proofs.{Encodings.{arcs_of_encoding, encoding_back, groups_continued}, Lengths.length_is_size, Lists.all_append}
 use Rattle.const_oid.proofs.{Octets.octets_from_chain, Started.{Encodes, later_encodes, root_encodes}}
@@ -29,6 +29,12 @@ written_more octets group old new longer used end long ends begins written =
     let back : drop end new ≡ drop end old = rw begins (drop-append-drop (length octets) old octets end (omega arith) refl) in
     let all : end ≡ length (octets ++ group) = omega (arith, length-append octets group) in
     written ∙ rw (front, back, all) (sym (append_assoc octets group _))
+
+-- octets go on by the subidentifier of a number if it fits a capacity, and stay, with `Length`, if it does not
+abbrev pub IsAppended : {X : Type 0} → ℕ → ℕ → List ℕ → List ℕ → Result X Error → Type 0
+IsAppended capacity number octets longer result = MatchResult result
+    (λ _. (length octets + width number ≤ capacity) × GoesOn number octets longer)
+    (λ fault. (fault ≡ Length) × (capacity < length octets + width number) × (longer ≡ octets))
 
 -- what the octets become
 pub record IsLonger (capacity number : ℕ) (octets old longer : List ℕ) (result : Result ℕ Error) : Type 0 where

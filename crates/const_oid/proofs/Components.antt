@@ -8,12 +8,12 @@ use Rattle.std.proofs.lemmas.List.Sums.{count_by_more_no, count_by_more_yes}
 use Rattle.std.proofs.lemmas.List.Splits.{length-slice_split, slice_split_at, slice_split_none}
 use Rattle.const_oid.specs.{Identifier.{root_rule, max_arc, IsEncoding, IsIdentifier}, Items.arc_fault, declared.error.Error.Error}
 use Rattle.const_oid.specs.declared.error.Error.TheVariants.{ArcInvalid, ArcTooBig, DigitExpected, Empty, Length, TrailingDot}
-use Rattle.const_oid.specs.{Contents.arcs_of_octets, Base128.width, Output.{IsEncodedIn, written_over}, Private.Octets.{AppendsTo, IsAppended}}
+use Rattle.const_oid.specs.{Contents.arcs_of_octets, Base128.width, Output.{IsEncodedIn, written_over}, Private.Octets.AppendsTo}
 use Rattle.const_oid.specs.Private.Parser.{component_at, components_found, text_found, found_after, or_trailing, arc_found, stop_fault}
-use Rattle.const_oid.specs.Private.Parser.{AreDigits, HasFault, IsFoundAt, IsComponent, IsRoot, IsWithin}
+use Rattle.const_oid.specs.Private.Parser.{HasFault, IsFoundAt, IsComponent, IsRoot, IsWithin}
 use Rattle.const_oid.specs.Text.{components_of, number_of, is_empty, is_one_empty, text_answer, IsNumber}
 use Rattle.const_oid.proofs.WrongIndex.{same_text}
-use Rattle.const_oid.proofs.Appended.{IsLonger, longer_by}
+use Rattle.const_oid.proofs.Appended.{IsAppended, IsLonger, longer_by}
 use Rattle.const_oid.proofs.{Lists.append-cons, Started.{Encodes, root_encodes, later_encodes}}
 use Rattle.const_oid.proofs.{Faults.{none_from_below, some_from_above}, Encodings.{arcs_of_encoding, encoding_back}}
 use Rattle.const_oid.proofs.Numbers.{number_of_digits, find-none, take_while-digits, find-digits, undotted}
@@ -86,6 +86,14 @@ within_more {text} {place} at less is = record {
   same = count_by_more_no (λ b. nat_lt b 48) text place 0 less (grind (arith, nat_tests)) ∙ at.same;
   within = omega arith;
 }
+
+-- the bytes from an index up to another one are the digits of a number
+pub record AreDigits (text : List ℕ) (start number end : ℕ) : Type 0 where
+  pub digits : List ℕ
+  pub are : IsNumber digits
+  pub value : number ≡ number_of digits
+  pub bytes : drop start text ≡ digits ++ drop end text
+  pub at : IsWithin text start end
 
 -- the first digit
 pub first_read : {digit : ℕ} (text : List ℕ) (start : ℕ) → start < length text

@@ -12,12 +12,12 @@ use borrow.Rule.Slice.PartMut.{put_mid, mid_of, post_of}
 use Rattle.const_oid.specs.Base128.{width}
 use Rattle.const_oid.specs.Identifier.{RootRule, max_arc, max_second, IsEncoding}
 use Rattle.const_oid.specs.Text.{text_of}
-use Rattle.const_oid.specs.Private.Text.{arc_text, text_left, detail_text}
+use Rattle.const_oid.specs.Private.Text.{arc_text, detail_text}
 use Rattle.const_oid.proofs.Subidentifiers.{second_low}
 use Rattle.const_oid.proofs.Groups.{width_is}
 use Rattle.const_oid.proofs.Lengths.{length_is_size}
 use Rattle.const_oid.proofs.PartsFault.{parts_at}
-use Rattle.const_oid.proofs.Texts.{second_small, text_left-cons, text_left-nil}
+use Rattle.const_oid.proofs.Texts.{second_small, text_left, text_left-cons, text_left-nil}
 use Rattle.const_oid.specs.declared.error.Error.{Error}
 use Rattle.const_oid.specs.Error.{message_of}
 

@@ -6,8 +6,8 @@ use Rattle.std.proofs.lemmas.{Str.IsAscii-append, List.Splits.{slice_split_at, s
 use Rattle.std.proofs.lemmas.Bool.Decides.{nat_tests}
 use Rattle.const_oid.specs.Identifier.{RootRule, Narrow, Wide, max_arc, max_second, IsIdentifier, size}
 use Rattle.const_oid.specs.{Items.arc_fault, Text.{Denotes, strip_component, strip, text_answer}}
-use Rattle.const_oid.specs.Text.{text_of, components_of, number_of, component_fault, components_fault, text_fault, IsNumber}
-use Rattle.const_oid.specs.Private.Text.{text_left, arc_text}
+use Rattle.const_oid.specs.Text.{dot, text_of, components_of, number_of, component_fault, components_fault, text_fault, IsNumber}
+use Rattle.const_oid.specs.Private.Text.{arc_text}
 use Rattle.const_oid.proofs.{Decimals.arc_text_ascii, Lists.{append-cons, all_at}, Faults.both_none}
 use Rattle.const_oid.proofs.Items.{IsBegun, begun_more, arc_none, few_none, whole_from_begun}
 use Rattle.const_oid.proofs.Numbers.{find-none, digits_from_find, undotted, decimal_is, number_of-decimal}
@@ -131,6 +131,12 @@ module _ (rule : RootRule) (capacity : ℕ) where
   denoted_from_answer text arcs e = grind (arith, denoted_from_none)
 
 -- ---- one arc printed after another
+
+-- what arcs add to the text, by whether they are the first
+abbrev pub text_left : Bool → List ℕ → List ℕ
+text_left true arcs = text_of arcs
+text_left false [] = []
+text_left false (arc ∷ arcs) = dot ∷ text_of (arc ∷ arcs)
 
 text_of-first : (arc : ℕ) (arcs : List ℕ) → text_of (arc ∷ arcs) ≡ decimal arc ++ text_left false arcs
 text_of-first arc arcs = search rules

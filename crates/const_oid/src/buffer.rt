@@ -1,8 +1,9 @@
 //! Octets in an array. The first ones are in use.
 
-ghost use Rattle.std.specs.Prelude.{◌≡◌, ◌++◌, ◌+◌, ◌-◌, ◌^◌, ◌<◌, ◌≤◌, ◌↔◌, [], length, take, drop, replicate, min, nat_eq, IsTrue, MatchResult};
+ghost use Rattle.std.specs.Prelude.{◌≡◌, ◌++◌, ◌+◌, ◌-◌, ◌^◌, ◌<◌, ◌≤◌, ◌↔◌, [], length, take, drop, replicate, min, nat_eq, refl, IsTrue, MatchResult, Some};
 ghost use Rattle.std.proofs.Props.{props};
-ghost use Rattle.std.specs.Cmp.Lexicographic.{pointwise};
+ghost use Rattle.std.specs.Cmp.{on_equiv, on_per, on_po, on_total, partial_equiv_from_equiv};
+ghost use Rattle.std.specs.Cmp.Lexicographic.{pointwise, nat_list_eq_equiv};
 ghost use Rattle.const_oid.specs.Base128.{AreOctets, width};
 ghost use Rattle.std.specs.Iterator.{IsFiniteIterable};
 ghost use Rattle.const_oid.specs.Identifier.{root_rule};
@@ -24,18 +25,6 @@ use std::hash::{Hash, Hasher};
 /// The octets of an owned identifier: at most `SIZE`, and never more than 255.
 ///
 /// It has no public constructor.
-///
-/// # Examples
-///
-/// ```
-/// use const_oid::Buffer;
-///
-/// assert_eq!(size_of::<Buffer<39>>(), 40);
-///
-/// const fn are_equal(a: &Buffer<39>, b: &Buffer<39>) -> bool {
-///     a.len() == b.as_bytes().len() && a.eq(b)
-/// }
-/// ```
 #[derive(Copy, Clone)]
 pub struct Buffer<const SIZE: usize> {
     // The octets that are not in use are zero, on which `eq` relies.
@@ -223,9 +212,6 @@ fn zero_range(octets: &mut [u8], start: usize, end: usize)
 }
 
 impl<const SIZE: usize> PartialEq for Buffer<SIZE> {
-    ghost use Rattle.std.specs.Prelude.{◌≡◌, ◌↔◌, IsTrue, nat_eq};
-    ghost use Rattle.std.specs.Cmp.{on_per, partial_equiv_from_equiv};
-    ghost use Rattle.std.specs.Cmp.Lexicographic.{pointwise, nat_list_eq_equiv};
     ghost use Rattle.const_oid.specs.Buffer.{buffer_octets};
 
     ghost eq = { λ a b. pointwise nat_eq (buffer_octets a) (buffer_octets b) };
@@ -241,16 +227,12 @@ impl<const SIZE: usize> PartialEq for Buffer<SIZE> {
 }
 
 impl<const SIZE: usize> Eq for Buffer<SIZE> {
-    ghost use Rattle.std.specs.Cmp.{on_equiv};
-    ghost use Rattle.std.specs.Cmp.Lexicographic.{nat_list_eq_equiv};
     ghost use Rattle.const_oid.specs.Buffer.{buffer_octets};
 
     ghost laws = { on_equiv buffer_octets nat_list_eq_equiv };
 }
 
 impl<const SIZE: usize> PartialOrd for Buffer<SIZE> {
-    ghost use Rattle.std.specs.Prelude.{Some};
-    ghost use Rattle.std.specs.Cmp.{on_po};
     ghost use Rattle.const_oid.specs.Buffer.{buffer_octets};
     ghost use Rattle.const_oid.specs.Orders.{shortlex_cmp, shortlex_cmp_po};
 
@@ -264,8 +246,6 @@ impl<const SIZE: usize> PartialOrd for Buffer<SIZE> {
 }
 
 impl<const SIZE: usize> Ord for Buffer<SIZE> {
-    ghost use Rattle.std.specs.Prelude.{◌≡◌, refl};
-    ghost use Rattle.std.specs.Cmp.{on_total};
     ghost use Rattle.const_oid.specs.Buffer.{buffer_octets};
     ghost use Rattle.const_oid.specs.Orders.{shortlex_cmp, shortlex_cmp_total, shortlex_cmp_ties};
 

@@ -1,6 +1,10 @@
 //! Identifiers as keys in the order of arcs.
 
-ghost use Rattle.std.specs.Prelude.{◌≡◌, ◌↔◌, IsTrue};
+ghost use Rattle.std.specs.Prelude.{◌≡◌, ◌↔◌, nat_eq, refl, IsTrue, Some};
+ghost use Rattle.std.specs.Cmp.{on_equiv, on_per, on_po, on_total, partial_equiv_from_equiv};
+ghost use Rattle.std.specs.Cmp.Lexicographic.{pointwise, slice_cmp, nat_list_eq_equiv, nat_list_cmp_total, texts_po, texts_ties};
+ghost use Rattle.std.specs.Ordering.{nat_cmp};
+ghost use Rattle.const_oid.specs.OidRef.{key_arcs};
 
 use crate::oid_ref::ObjectIdentifierRef;
 use std::cmp::Ordering;
@@ -12,11 +16,6 @@ use std::cmp::Ordering;
 pub struct ByArcs<'a>(pub ObjectIdentifierRef<'a>);
 
 impl PartialEq for ByArcs<'_> {
-    ghost use Rattle.std.specs.Prelude.{nat_eq};
-    ghost use Rattle.std.specs.Cmp.{on_per, partial_equiv_from_equiv};
-    ghost use Rattle.std.specs.Cmp.Lexicographic.{pointwise, nat_list_eq_equiv};
-    ghost use Rattle.const_oid.specs.OidRef.{key_arcs};
-
     ghost eq = { λ a b. pointwise nat_eq (key_arcs a) (key_arcs b) };
 
     ghost laws = { on_per key_arcs (partial_equiv_from_equiv nat_list_eq_equiv) };
@@ -31,20 +30,10 @@ impl PartialEq for ByArcs<'_> {
 }
 
 impl Eq for ByArcs<'_> {
-    ghost use Rattle.std.specs.Cmp.{on_equiv};
-    ghost use Rattle.std.specs.Cmp.Lexicographic.{nat_list_eq_equiv};
-    ghost use Rattle.const_oid.specs.OidRef.{key_arcs};
-
     ghost laws = { on_equiv key_arcs nat_list_eq_equiv };
 }
 
 impl PartialOrd for ByArcs<'_> {
-    ghost use Rattle.std.specs.Prelude.{Some};
-    ghost use Rattle.std.specs.Cmp.{on_po};
-    ghost use Rattle.std.specs.Cmp.Lexicographic.{slice_cmp, texts_po};
-    ghost use Rattle.std.specs.Ordering.{nat_cmp};
-    ghost use Rattle.const_oid.specs.OidRef.{key_arcs};
-
     ghost partial_cmp = { λ a b. Some (slice_cmp nat_cmp (key_arcs a) (key_arcs b)) };
 
     ghost laws = { on_po key_arcs texts_po };
@@ -55,12 +44,6 @@ impl PartialOrd for ByArcs<'_> {
 }
 
 impl Ord for ByArcs<'_> {
-    ghost use Rattle.std.specs.Prelude.{refl};
-    ghost use Rattle.std.specs.Cmp.{on_total};
-    ghost use Rattle.std.specs.Cmp.Lexicographic.{slice_cmp, nat_list_cmp_total, texts_ties};
-    ghost use Rattle.std.specs.Ordering.{nat_cmp};
-    ghost use Rattle.const_oid.specs.OidRef.{key_arcs};
-
     ghost cmp = { λ a b. slice_cmp nat_cmp (key_arcs a) (key_arcs b) };
 
     ghost total = { on_total key_arcs nat_list_cmp_total };

@@ -1,6 +1,6 @@
 //! Names of identifiers, by a table that the caller holds.
 
-ghost use Rattle.std.specs.Prelude.{◌≡◌, ◌≤◌, length, nat_eq, true, false};
+ghost use Rattle.std.specs.Prelude.{◌≡◌, ◌≤◌, length, nat_eq};
 ghost use Rattle.std.specs.Cmp.Lexicographic.{pointwise};
 ghost use Rattle.std.specs.Iterator.{YieldsFirst, item_count};
 ghost use Rattle.std.proofs.Props.{props};
@@ -24,10 +24,15 @@ use crate::oid::Oid;
 /// ```
 /// use const_oid::{ObjectIdentifier, db::Database};
 ///
-/// const SYSTEM: ObjectIdentifier = ObjectIdentifier::new_unwrap("1.3.6.1.2.1.1");
-/// const NAMES: Database<'static> = Database::new(&[(&SYSTEM, "system")]);
-/// const NAME: Option<&str> = NAMES.by_oid(&SYSTEM);
-/// assert_eq!(NAME, Some("system"));
+/// const CN: ObjectIdentifier = ObjectIdentifier::new_unwrap("2.5.4.3");
+/// const NAMES: Database<'static> = Database::new(&[(&CN, "cn"), (&CN, "commonName")]);
+/// const NAME: Option<&str> = NAMES.by_oid(&CN);
+/// assert_eq!((NAME, NAMES.by_name("commonname")), (Some("cn"), Some(&CN)));
+/// assert!(NAMES.find_names_for_oid(CN).eq(["cn", "commonName"]));
+/// assert_eq!((NAMES.resolve("2.5.4.3"), NAMES.resolve("2.999")), (Ok("cn"), Ok("2.999")));
+///
+/// let mut memory = [0; 9];
+/// assert_eq!(NAMES.indexed(&mut memory).by_name("commonname"), Some(&CN));
 /// ```
 #[derive(Copy, Clone)]
 pub struct Database<'a> {
@@ -73,17 +78,7 @@ impl<'a> Database<'a> {
     /// with n or fewer none at all. Over 65,535 entries have no index. One that the database has, as `DB` does, stays if it
     /// is no shorter. None is made in which some lookup would read over a quarter of the entries and two: a scan is faster.
     ///
-    /// # Examples
-    ///
-    /// ```
-    /// use const_oid::{ObjectIdentifier, db::Database};
-    ///
-    /// const CN: ObjectIdentifier = ObjectIdentifier::new_unwrap("2.5.4.3");
-    /// let entries = [(&CN, "cn"), (&CN, "commonName")];
-    /// let mut memory = [0; 9];
-    /// let names = Database::new(&entries).indexed(&mut memory);
-    /// assert_eq!(names.by_name("commonname"), Some(&CN));
-    /// ```
+    /// [`Database`] has an example.
     pub fn indexed(self, memory: &'a mut [u16]) -> Self
         ensures { entries_of result ≡ entries_of self.entry }
     {
@@ -134,14 +129,7 @@ impl<'a> Database<'a> {
     }
 
     /// The identifier in the first entry with this name, ignoring ASCII case, or `None` if there is no such entry.
-    ///
-    /// # Examples
-    ///
-    /// ```
-    /// use const_oid::db::{DB, rfc4519};
-    ///
-    /// assert_eq!(DB.by_name("CN"), Some(&rfc4519::CN));
-    /// ```
+    /// [`Database`] has an example.
     pub const fn by_name(&self, name: &str) -> Option<&'a Oid>
         ensures { result ≡ first_oid (entries_of self.now) name.now }
     {
@@ -157,17 +145,8 @@ impl<'a> Database<'a> {
         None
     }
 
-    /// The names in all entries with this identifier, in the order of the table, one for each entry.
-    ///
-    /// # Examples
-    ///
-    /// ```
-    /// use const_oid::{ObjectIdentifier, db::Database};
-    ///
-    /// const CN: ObjectIdentifier = ObjectIdentifier::new_unwrap("2.5.4.3");
-    /// let names = Database::new(&[(&CN, "cn"), (&CN, "commonName")]);
-    /// assert!(names.find_names_for_oid(CN).eq(["cn", "commonName"]));
-    /// ```
+    /// The names in all entries with this identifier, in the order of the table, one for each entry. [`Database`] has
+    /// an example.
     // erase: const
     pub fn find_names_for_oid(&self, oid: Oid) -> Names<'a>
         ensures { names_left result ≡ all_names lent_arcs (entries_of self.now) (oid_arcs oid) }
@@ -180,21 +159,11 @@ impl<'a> Database<'a> {
     }
 
     /// Parses dotted text, and returns the name of its identifier as [`by_oid`](Self::by_oid) does, or the text
-    /// itself, unchanged, if the table has no name for it.
+    /// itself, unchanged, if the table has no name for it. [`Database`] has an example.
     ///
     /// # Errors
     ///
     /// Those of `new` of an owned identifier.
-    ///
-    /// # Examples
-    ///
-    /// ```
-    /// use const_oid::{Error, db::DB};
-    ///
-    /// assert_eq!(DB.resolve("2.5.4.3"), Ok("cn"));
-    /// assert_eq!(DB.resolve("2.999"), Ok("2.999"));
-    /// assert_eq!(DB.resolve("2."), Err(Error::TrailingDot));
-    /// ```
     pub fn resolve<'b>(&self, oid: &'b str) -> Result<&'b str>
     where
         'a: 'b,
@@ -205,8 +174,7 @@ impl<'a> Database<'a> {
     }
 }
 
-/// An iterator over the names of an identifier, in the order of the table. [`Database::find_names_for_oid`] has an
-/// example.
+/// An iterator over the names of an identifier, in the order of the table. [`Database`] has an example.
 #[derive(Drop)]
 pub struct Names<'a> {
     database: Database<'a>,

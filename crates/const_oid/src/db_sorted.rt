@@ -38,9 +38,11 @@ type Entry<'a> = (ObjectIdentifierRef<'a>, &'a str);
 /// let (named, name) = NAMES.nearest(&oid).unwrap();
 /// assert_eq!(*name, "enterprises");
 /// assert!(oid.arcs().skip(named.len()).eq([8072]));
+/// assert_eq!((NAMES.by_oid(&MIB_2), NAMES.by_name("MIB-2")), (Some("mib-2"), Some(MIB_2.as_oid_ref())));
 /// assert_eq!(NAMES.subtree(&MIB_2), &NAMES.entries()[..2]);
 /// assert_eq!(NAMES.next_after(&MIB_2), Some(&NAMES.entries()[1]));
 /// assert_eq!(NAMES.next_after(&ENTERPRISES), None);
+/// assert!(SortedDatabase::try_new(&[NAMES.entries()[1], NAMES.entries()[0]]).is_none());
 /// # Ok::<(), const_oid::Error>(())
 /// ```
 #[derive(Copy, Clone)]
@@ -55,18 +57,7 @@ impl<'a> SortedDatabase<'a> {
 
     /// A database over entries in the order of arcs, that of `sort_by_key(|entry| ByArcs(entry.0))`, or `None`. In a
     /// constant, `.expect(..)` makes another order an error of the compiler. An identifier may have several entries.
-    ///
-    /// # Examples
-    ///
-    /// ```
-    /// use const_oid::{ObjectIdentifierRef, db::SortedDatabase};
-    ///
-    /// let cn = ObjectIdentifierRef::from_bytes(&[0x55, 4, 3])?;
-    /// let c = ObjectIdentifierRef::from_bytes(&[0x55, 4, 6])?;
-    /// assert!(SortedDatabase::try_new(&[(cn, "cn"), (c, "c")]).is_some());
-    /// assert!(SortedDatabase::try_new(&[(c, "c"), (cn, "cn")]).is_none());
-    /// # Ok::<(), const_oid::Error>(())
-    /// ```
+    /// [`SortedDatabase`] has an example.
     // erase: const
     pub fn try_new(entries: &'a [Entry<'a>]) -> Option<Self>
         ensures sorted { IsSome result ↔ IsSortedByKey entry_arcs (slice_cmp nat_cmp) entries.now }
@@ -86,16 +77,6 @@ impl<'a> SortedDatabase<'a> {
 
     /// A database over entries in the order of arcs, which is not checked. In another order, as that of text or of
     /// `sort`, lookups miss entries, without an error: [`try_new`](Self::try_new) checks it.
-    ///
-    /// # Examples
-    ///
-    /// ```
-    /// use const_oid::{ObjectIdentifier, db::SortedDatabase};
-    ///
-    /// const CN: ObjectIdentifier = ObjectIdentifier::new_unwrap("2.5.4.3");
-    /// const NAMES: SortedDatabase<'static> = SortedDatabase::new_unchecked(&[(CN.as_oid_ref(), "cn")]);
-    /// assert_eq!(NAMES.by_oid(&CN), Some("cn"));
-    /// ```
     // In Rattle, this is `new`: the caller proves the order.
     pub const fn new(entries: &'a [Entry<'a>]) -> Self
         requires { IsSortedByKey entry_arcs (slice_cmp nat_cmp) entries.now }
@@ -104,16 +85,8 @@ impl<'a> SortedDatabase<'a> {
         SortedDatabase { entries }
     }
 
-    /// The name in the first entry with this identifier, or `None` if there is no such entry.
-    ///
-    /// # Examples
-    ///
-    /// ```
-    /// use const_oid::db::{SORTED, rfc4519};
-    ///
-    /// assert_eq!(SORTED.by_oid(&rfc4519::CN), Some("cn"));
-    /// assert_eq!(SORTED.by_name("CN"), Some(rfc4519::CN.as_oid_ref()));
-    /// ```
+    /// The name in the first entry with this identifier, or `None` if there is no such entry. [`SortedDatabase`] has an
+    /// example.
     pub fn by_oid(&self, oid: &ObjectIdentifierRef<'_>) -> Option<&'a str>
         ensures { result ≡ first_name ref_arcs (sorted_entries_of self.now) (ref_arcs oid.now) }
     {
@@ -122,7 +95,7 @@ impl<'a> SortedDatabase<'a> {
     }
 
     /// The identifier in the first entry with this name, ignoring ASCII case, or `None` if there is no such entry. All
-    /// entries up to it are read. [`by_oid`](Self::by_oid) has an example.
+    /// entries up to it are read. [`SortedDatabase`] has an example.
     pub fn by_name(&self, name: &str) -> Option<ObjectIdentifierRef<'a>>
         ensures { result ≡ first_oid (sorted_entries_of self.now) name.now }
     {

@@ -1,26 +1,15 @@
 //! The errors of this crate.
 ghost use Rattle.std.specs.Prelude.{◌≡◌, ◌+◌, ◌<◌, ◌≤◌, ◌++◌, length, take, drop, None, Some, IfSome, IsSome};
 ghost use Rattle.std.specs.Str.{IsUtf8};
+ghost use Rattle.const_oid.specs.Error.{message_of};
 ghost use Rattle.const_oid.specs.Output.{Returns, Writes};
+ghost use Rattle.const_oid.specs.Private.Text.{detail_text};
 
 use crate::Arc;
 use crate::digits::{MAX_DIGITS, arc_len, utf8, write_bytes, write_last_digits};
 use std::fmt;
 
 /// A result whose error is [`Error`].
-///
-/// # Examples
-///
-/// ```
-/// use const_oid::{ObjectIdentifier, Result};
-///
-/// fn country() -> Result<ObjectIdentifier> {
-///     "2.5.4.6".parse()
-/// }
-///
-/// assert_eq!(country()?.len(), 4);
-/// # Ok::<(), const_oid::Error>(())
-/// ```
 pub type Result<T> = std::result::Result<T, Error>;
 
 /// Why text, a list of arcs or octets were rejected.
@@ -33,6 +22,10 @@ pub type Result<T> = std::result::Result<T, Error>;
 /// let error = ObjectIdentifier::new("1..2").unwrap_err();
 /// assert_eq!(error, Error::RepeatedDot);
 /// assert_eq!(error.to_string(), "repeated consecutive '..' characters in OID");
+///
+/// let mut out = [0; 47];
+/// assert_eq!(error.encode_text(&mut out), Some(error.text_len()));
+/// assert_eq!(error.encode_str(&mut out), Some("repeated consecutive '..' characters in OID"));
 /// ```
 #[derive(Copy, Clone, Debug, Eq, PartialEq, PartialOrd, Ord, Hash)]
 pub enum Error {
@@ -75,10 +68,7 @@ pub enum Error {
 const MAX_TEXT_LEN: usize = 47;
 
 impl Error {
-    ghost use Rattle.const_oid.specs.Error.{message_of};
-    ghost use Rattle.const_oid.specs.Private.Text.{detail_text};
-
-    /// The length in bytes of the text that `{}` writes. [`encode_text`](Self::encode_text) has an example.
+    /// The length in bytes of the text that `{}` writes. [`Error`] has an example.
     #[tactic(auto, using(crate::proofs::Printed::parts_long))]
     #[inline]
     pub fn text_len(self) -> usize
@@ -90,16 +80,7 @@ impl Error {
     }
 
     /// Writes the text that `{}` writes to the start of `out`, and returns its length in bytes. Returns `None` if it is
-    /// longer than `out`, which is then unchanged. 47 bytes are always enough.
-    ///
-    /// # Examples
-    ///
-    /// ```
-    /// let mut out = [0; 32];
-    /// let len = const_oid::Error::Length.encode_text(&mut out).unwrap();
-    /// assert_eq!(&out[..len], b"OID length invalid");
-    /// assert_eq!(const_oid::Error::Length.text_len(), len);
-    /// ```
+    /// longer than `out`, which is then unchanged. 47 bytes are always enough. [`Error`] has an example.
     #[inline(always)]
     pub fn encode_text(self, out: &mut [u8]) -> Option<usize>
         ensures written { Writes (message_of self) out.old out.new result }
@@ -117,14 +98,6 @@ impl Error {
     }
 
     /// Writes the text as [`encode_text`](Self::encode_text) does, and borrows it as a `str`.
-    ///
-    /// # Examples
-    ///
-    /// ```
-    /// let mut out = [0; 32];
-    /// let text = const_oid::Error::Length.encode_str(&mut out);
-    /// assert_eq!(text, Some("OID length invalid"));
-    /// ```
     #[tactic(auto, using(crate::proofs::Sets::bytes_put))]
     #[inline]
     pub fn encode_str<'o>(self, out: &'o mut [u8]) -> Option<&'o str>
@@ -194,8 +167,6 @@ impl Error {
 
 /// The error in words, whatever the options.
 impl fmt::Display for Error {
-    ghost use Rattle.const_oid.specs.Error.{message_of};
-
     ghost output = { λ error. Some (message_of error) };
 
     ghost styled_output = { λ error _. Some (message_of error) };

@@ -50,11 +50,4 @@ pub use oid_ref::ObjectIdentifierRef;
 pub use traits::{AssociatedOid, DynAssociatedOid};
 
 /// One arc of an object identifier, a 32-bit number.
-///
-/// # Examples
-///
-/// ```
-/// const GREATEST: const_oid::Arc = const_oid::Arc::MAX;
-/// assert_eq!(GREATEST, 4_294_967_295);
-/// ```
 pub type Arc = u32;

@@ -1,8 +1,9 @@
 //! Owned object identifiers.
 
-ghost use Rattle.std.specs.Prelude.{◌≡◌, ◌≢◌, ◌+◌, ◌*◌, ◌<◌, ◌≤◌, ◌↔◌, ℕ, List, length, min, slice_get, None, Some, IfOk, IsSome, IsTrue, MatchOption, MatchResult, ◌++◌};
+ghost use Rattle.std.specs.Prelude.{◌≡◌, ◌≢◌, ◌+◌, ◌*◌, ◌<◌, ◌≤◌, ◌↔◌, ℕ, List, length, min, slice_get, None, Some, IfOk, IsSome, IsTrue, MatchOption, MatchResult, ◌++◌, codes, nat_eq, refl};
 ghost use Rattle.std.specs.Iterator.{IsFiniteIterable};
-ghost use Rattle.std.specs.Cmp.Lexicographic.{slice_cmp};
+ghost use Rattle.std.specs.Cmp.{on_per, on_total, partial_equiv_from_equiv};
+ghost use Rattle.std.specs.Cmp.Lexicographic.{pointwise, slice_cmp, nat_list_eq_equiv};
 ghost use Rattle.std.specs.Option.{option_map};
 ghost use Rattle.std.specs.Fmt.{DisplaysOnOk, WritesStyledOnOk};
 ghost use Rattle.std.specs.Ordering.{nat_cmp};
@@ -97,20 +98,11 @@ impl ObjectIdentifier<39> {
         Self::new_sized(s)
     }
 
-    /// Parses dotted text that is known to be valid, such as a literal.
+    /// Parses dotted text that is known to be valid, such as a literal. [`ObjectIdentifier`] has an example.
     ///
     /// # Panics
     ///
     /// If the text is invalid. A constant of an invalid text does not compile.
-    ///
-    /// # Examples
-    ///
-    /// ```
-    /// use const_oid::ObjectIdentifier;
-    ///
-    /// const CN: ObjectIdentifier = ObjectIdentifier::new_unwrap("2.5.4.3");
-    /// assert_eq!(CN.to_string(), "2.5.4.3");
-    /// ```
     // In Rattle, the checker rejects an invalid text, so nothing panics.
     // erase: const
     pub fn new_unwrap(s: &str) -> Self
@@ -164,17 +156,7 @@ impl ObjectIdentifier<39> {
     ///
     /// # Errors
     ///
-    /// Those of [`ObjectIdentifierRef::from_bytes`], with [`Error::Length`] if there are more than 39 octets.
-    ///
-    /// # Examples
-    ///
-    /// ```
-    /// use const_oid::{Error, ObjectIdentifier};
-    ///
-    /// assert_eq!(ObjectIdentifier::from_bytes(&[0x88, 0x37])?.to_string(), "2.999");
-    /// assert_eq!(ObjectIdentifier::from_bytes(&[0x2A, 0x80, 0x01]), Err(Error::Base128));
-    /// # Ok::<(), Error>(())
-    /// ```
+    /// Those of [`ObjectIdentifierRef::from_bytes`], which has an example, and [`Error::Length`] past 39 octets.
     #[inline(always)]
     pub fn from_bytes(ber_bytes: &[u8]) -> Result<Self>
         ensures answer { oid_answer result ≡ octet_answer root_rule ber_bytes.now default_capacity }
@@ -217,15 +199,7 @@ impl<const MAX_SIZE: usize> ObjectIdentifier<MAX_SIZE> {
     /// # Errors
     ///
     /// Those of [`from_bytes`](Self::from_bytes), with [`Error::Length`] if there are more octets than fit.
-    ///
-    /// # Examples
-    ///
-    /// ```
-    /// use const_oid::{Error, ObjectIdentifier};
-    ///
-    /// assert!(ObjectIdentifier::<2>::from_bytes_sized(&[0x88, 0x37]).is_ok());
-    /// assert_eq!(ObjectIdentifier::<1>::from_bytes_sized(&[0x88, 0x37]), Err(Error::Length));
-    /// ```
+    /// [`new_sized`](Self::new_sized) has an example of it.
     #[inline(always)]
     pub fn from_bytes_sized(ber_bytes: &[u8]) -> Result<Self>
         ensures answer { oid_answer result ≡ octet_answer root_rule ber_bytes.now (min MAX_SIZE 255) }
@@ -237,15 +211,6 @@ impl<const MAX_SIZE: usize> ObjectIdentifier<MAX_SIZE> {
 
     /// Reads the element in DER that octets begin with, as [`ObjectIdentifierRef::read_element`] does, with the errors
     /// of [`from_bytes_sized`](Self::from_bytes_sized).
-    ///
-    /// # Examples
-    ///
-    /// ```
-    /// use const_oid::{Error, ObjectIdentifier};
-    ///
-    /// let (oid, rest) = ObjectIdentifier::<1>::read_element_sized(&[0x06, 0x02, 0x88, 0x37, 0x05, 0x00]).unwrap();
-    /// assert_eq!((oid, rest), (Err(Error::Length), &[0x05, 0x00][..]));
-    /// ```
     #[inline]
     pub fn read_element_sized(der: &[u8]) -> Option<(Result<Self>, &[u8])>
         ensures { MatchOption result ((contents rest : List ℕ) → der.now ≢ element contents ++ rest)
@@ -289,7 +254,6 @@ impl<const MAX_SIZE: usize> ObjectIdentifier<MAX_SIZE> {
     /// ```
     /// use const_oid::{Error, ObjectIdentifier};
     ///
-    /// assert_eq!(ObjectIdentifier::from_ascii(b"2.999.3"), ObjectIdentifier::new("2.999.3"));
     /// let oid: Result<ObjectIdentifier, Error> = ObjectIdentifier::from_ascii(b"2.\xff");
     /// assert_eq!(oid, Err(Error::DigitExpected { actual: 0xff }));
     /// ```
@@ -312,15 +276,7 @@ impl<const MAX_SIZE: usize> ObjectIdentifier<MAX_SIZE> {
     /// # Errors
     ///
     /// Those of [`from_arcs`](Self::from_arcs), with [`Error::Length`] if the arcs take more octets than fit.
-    ///
-    /// # Examples
-    ///
-    /// ```
-    /// use const_oid::{Error, ObjectIdentifier};
-    ///
-    /// assert!(ObjectIdentifier::<2>::from_arcs_sized([2, 999]).is_ok());
-    /// assert_eq!(ObjectIdentifier::<1>::from_arcs_sized([2, 999]), Err(Error::Length));
-    /// ```
+    /// [`new_sized`](Self::new_sized) has an example of it.
     pub fn from_arcs_sized<I: IntoIterator<Item = Arc>>(arcs: I) -> Result<Self>
     where
         I::IntoIter: Drop,
@@ -350,7 +306,7 @@ impl<const MAX_SIZE: usize> ObjectIdentifier<MAX_SIZE> {
         Ok(ObjectIdentifier { ber })
     }
 
-    /// The contents octets. [`ObjectIdentifierRef::as_bytes`] has an example.
+    /// The contents octets.
     // erase: const
     pub fn as_bytes(&self) -> &[u8]
         ensures octets { result.now ≡ oid_octets self.now }
@@ -361,16 +317,6 @@ impl<const MAX_SIZE: usize> ObjectIdentifier<MAX_SIZE> {
     }
 
     /// The borrowed identifier over the same octets.
-    ///
-    /// # Examples
-    ///
-    /// ```
-    /// use const_oid::{ObjectIdentifier, ObjectIdentifierRef};
-    ///
-    /// const CN: ObjectIdentifier = ObjectIdentifier::new_unwrap("2.5.4.3");
-    /// const BORROWED: &ObjectIdentifierRef = CN.as_oid_ref();
-    /// assert_eq!(BORROWED.as_bytes(), [0x55, 4, 3]);
-    /// ```
     // erase: const
     pub fn as_oid_ref(&self) -> ObjectIdentifierRef<'_>
         ensures octets { ref_octets result ≡ oid_octets self.now }
@@ -380,7 +326,6 @@ impl<const MAX_SIZE: usize> ObjectIdentifier<MAX_SIZE> {
     }
 
     /// The length in octets of the element that [`write_element`](Self::write_element) writes.
-    /// [`ObjectIdentifierRef::write_element`] has an example.
     // erase: const
     pub fn element_len(&self) -> usize
         ensures { result ≡ length (element (oid_octets self.now)) }
@@ -388,19 +333,8 @@ impl<const MAX_SIZE: usize> ObjectIdentifier<MAX_SIZE> {
         self.as_oid_ref().element_len()
     }
 
-    /// Writes the element in DER, the tag 6, the length and the contents octets (X.690, 8.1, 8.19 and 10.1), to the start
-    /// of `out`, and returns its length in octets. Returns `None` if it is longer than `out`, which is then unchanged.
-    /// Three octets more than the contents are always enough.
-    ///
-    /// # Examples
-    ///
-    /// ```
-    /// use const_oid::ObjectIdentifier;
-    ///
-    /// let mut out = [0; ObjectIdentifier::MAX_SIZE + 3];
-    /// let len = ObjectIdentifier::new_unwrap("2.999.3").write_element(&mut out).unwrap();
-    /// assert_eq!(out[..len], [0x06, 0x03, 0x88, 0x37, 0x03]);
-    /// ```
+    /// Writes the element in DER as [`ObjectIdentifierRef::write_element`] does, which has an example. Three octets
+    /// more than the contents are always enough.
     pub fn write_element(&self, out: &mut [u8]) -> Option<usize>
         ensures written { Writes (element (oid_octets self.now)) out.old out.new result }
         ensures kept { result ≡ None → out.new ≡ out.old }
@@ -437,9 +371,7 @@ impl<const MAX_SIZE: usize> ObjectIdentifier<MAX_SIZE> {
         self.as_oid_ref().text_len()
     }
 
-    /// Writes the text that `{}` writes to the start of `out`, and returns its length in bytes. Returns `None` if it is
-    /// longer than `out`, which is then unchanged. Four bytes for each octet are always enough.
-    /// [`ObjectIdentifierRef::encode_text`] has an example.
+    /// Writes the text that `{}` writes as [`ObjectIdentifierRef::encode_text`] does, which has an example.
     pub fn encode_text(&self, out: &mut [u8]) -> Option<usize>
         ensures written { Writes (text_of (oid_arcs self.now)) out.old out.new result }
         ensures kept { result ≡ None → out.new ≡ out.old }
@@ -449,7 +381,6 @@ impl<const MAX_SIZE: usize> ObjectIdentifier<MAX_SIZE> {
     }
 
     /// Writes the text as [`encode_text`](Self::encode_text) does, and borrows it as a `str`.
-    /// [`ObjectIdentifierRef::encode_str`] has an example.
     pub fn encode_str<'o>(&self, out: &'o mut [u8]) -> Option<&'o str>
         ensures cases { Returns (text_of (oid_arcs self.now)) out.old result }
         ensures enough { 4 * length (oid_octets self.now) ≤ length out.old → IsSome result }
@@ -503,7 +434,7 @@ impl<const MAX_SIZE: usize> ObjectIdentifier<MAX_SIZE> {
     }
 
     /// Whether the arcs begin with all those of another identifier: whether the other one is this one or an ancestor of
-    /// it. [`ObjectIdentifierRef::starts_with`] has an example.
+    /// it. [`ObjectIdentifierRef::parent`] has an example.
     // erase: const
     #[inline(always)]
     pub fn starts_with<const SIZE: usize>(&self, other: ObjectIdentifier<SIZE>) -> bool
@@ -513,7 +444,7 @@ impl<const MAX_SIZE: usize> ObjectIdentifier<MAX_SIZE> {
     }
 
     /// The arcs after those of another identifier, or `None` if the arcs do not begin with those. They may be none.
-    /// [`ObjectIdentifierRef::strip_prefix`] has an example.
+    /// [`ObjectIdentifierRef::parent`] has an example.
     pub fn strip_prefix<const SIZE: usize>(
         &self,
         other: &ObjectIdentifier<SIZE>,
@@ -526,7 +457,7 @@ impl<const MAX_SIZE: usize> ObjectIdentifier<MAX_SIZE> {
     }
 
     /// Compares the arcs lexicographically, a prefix before what begins with it. SNMP orders names so (RFC 3416).
-    /// [`ObjectIdentifierRef::cmp_arcs`] has an example.
+    /// [`ObjectIdentifierRef::parent`] has an example.
     // erase: const
     pub fn cmp_arcs<const SIZE: usize>(&self, other: &ObjectIdentifier<SIZE>) -> Ordering
         ensures { result ≡ slice_cmp nat_cmp (oid_arcs self.now) (oid_arcs other.now) }
@@ -564,7 +495,6 @@ impl<const MAX_SIZE: usize> fmt::Display for ObjectIdentifier<MAX_SIZE> {
 }
 
 impl<const MAX_SIZE: usize> fmt::Debug for ObjectIdentifier<MAX_SIZE> {
-    ghost use Rattle.std.specs.Prelude.{◌++◌, codes};
     ghost use Rattle.const_oid.specs.Oid.{oid_arcs};
 
     ghost debug_output = { λ oid. Some (codes "ObjectIdentifier(" ++ (text_of (oid_arcs oid) ++ codes ")")) };
@@ -580,9 +510,6 @@ impl<const MAX_SIZE: usize> fmt::Debug for ObjectIdentifier<MAX_SIZE> {
 }
 
 impl<const MAX_SIZE: usize> PartialEq for ObjectIdentifier<MAX_SIZE> {
-    ghost use Rattle.std.specs.Prelude.{◌↔◌, IsTrue, nat_eq};
-    ghost use Rattle.std.specs.Cmp.{on_per, partial_equiv_from_equiv};
-    ghost use Rattle.std.specs.Cmp.Lexicographic.{pointwise, nat_list_eq_equiv};
     ghost use Rattle.const_oid.specs.Oid.{oid_octets, oid_arcs};
 
     ghost eq = { λ a b. pointwise nat_eq (oid_octets a) (oid_octets b) };
@@ -601,8 +528,6 @@ impl<const MAX_SIZE: usize> PartialEq for ObjectIdentifier<MAX_SIZE> {
 /// By the number of octets, and then by the octets in lexicographic order (shortlex). This is not the order of arcs:
 /// see [`cmp_arcs`](Self::cmp_arcs).
 impl<const MAX_SIZE: usize> Ord for ObjectIdentifier<MAX_SIZE> {
-    ghost use Rattle.std.specs.Prelude.{refl};
-    ghost use Rattle.std.specs.Cmp.{on_total};
     ghost use Rattle.const_oid.specs.Oid.{oid_octets};
     ghost use Rattle.const_oid.specs.Orders.{shortlex_cmp, shortlex_cmp_total, shortlex_cmp_ties};
 

@@ -1,9 +1,10 @@
 //! Borrowed object identifiers.
-ghost use Rattle.std.specs.Prelude.{◌≡◌, ◌≢◌, ◌*◌, ◌≤◌, ◌<◌, ◌↔◌, ◌+◌, ◌++◌, ℕ, List, length, min, slice_get, count_by, None, Some, Err, IfOk, IfSome, IsSome, IsTrue, MatchOption, Ok, []};
+ghost use Rattle.std.specs.Prelude.{◌≡◌, ◌≢◌, ◌*◌, ◌≤◌, ◌<◌, ◌↔◌, ◌+◌, ◌++◌, ℕ, List, length, min, slice_get, count_by, None, Some, Err, IfOk, IfSome, IsSome, IsTrue, MatchOption, Ok, [], codes, nat_eq, refl};
 ghost use Rattle.std.specs.Option.{option_map};
 ghost use Rattle.std.specs.Result.{result_err};
 ghost use Rattle.std.specs.Fmt.{DisplaysOnOk, WritesStyledOnOk};
-ghost use Rattle.std.specs.Cmp.Lexicographic.{slice_cmp};
+ghost use Rattle.std.specs.Cmp.{on_per, on_po, on_total, partial_equiv_from_equiv};
+ghost use Rattle.std.specs.Cmp.Lexicographic.{pointwise, slice_cmp, nat_list_eq_equiv, nat_list_cmp_total, texts_po, texts_ties};
 ghost use Rattle.std.specs.List.Sorted.{IsSortedByKey};
 ghost use Rattle.std.specs.Ordering.{nat_cmp, is_lt};
 ghost use Rattle.std.proofs.Props.{props};
@@ -97,15 +98,12 @@ impl<'a> ObjectIdentifierRef<'a> {
     }
 
     /// Reads the element in DER that octets begin with: the tag 6, the length, and contents octets (X.690, 8.1, 8.19 and
-    /// 10.1). Returns the identifier, or the error of the contents octets, and the octets after the element.
+    /// 10.1). Returns what [`from_bytes`](Self::from_bytes) returns for the contents octets, and the octets after the
+    /// element.
     ///
     /// Returns `None` if the octets begin with no such element: the tag is not 6, the length is indefinite or could be
     /// in fewer octets, or not all contents octets are there. No octets are `None` too. So a loop over elements runs
     /// `while !der.is_empty()`: `while let Some(..)` takes a wrong element for the end.
-    ///
-    /// # Errors
-    ///
-    /// Those of [`from_bytes`](Self::from_bytes).
     ///
     /// # Examples
     ///
@@ -136,14 +134,6 @@ impl<'a> ObjectIdentifierRef<'a> {
     }
 
     /// The contents octets, which are the caller's.
-    ///
-    /// # Examples
-    ///
-    /// ```
-    /// let oid = const_oid::ObjectIdentifierRef::from_bytes(&[0x88, 0x37, 0x03])?;
-    /// assert_eq!(oid.as_bytes(), [0x88, 0x37, 0x03]);
-    /// # Ok::<(), const_oid::Error>(())
-    /// ```
     pub const fn as_bytes(&self) -> &'a [u8]
         ensures slice { result ≡ ref_slice self.now }
         ensures encoding { IsEncoding root_rule (ref_arcs self.now) result.now }
@@ -233,6 +223,7 @@ impl<'a> ObjectIdentifierRef<'a> {
     /// let mut out = [0; 8];
     /// assert_eq!((oid.text_len(), oid.encode_text(&mut out)), (7, Some(7)));
     /// assert_eq!(&out, b"2.999.3\0");
+    /// assert_eq!(oid.encode_str(&mut out), Some("2.999.3"));
     /// # Ok::<(), const_oid::Error>(())
     /// ```
     #[inline]
@@ -248,15 +239,7 @@ impl<'a> ObjectIdentifierRef<'a> {
         Some(write_text(self.ber, out))
     }
 
-    /// Writes the text as [`encode_text`](Self::encode_text) does, and borrows it as a `str`.
-    ///
-    /// # Examples
-    ///
-    /// ```
-    /// let oid = const_oid::ObjectIdentifierRef::from_bytes(&[0x88, 0x37, 0x03])?;
-    /// assert_eq!(oid.encode_str(&mut [0; 8]), Some("2.999.3"));
-    /// # Ok::<(), const_oid::Error>(())
-    /// ```
+    /// Writes the text as [`encode_text`](Self::encode_text) does, which has an example, and borrows it as a `str`.
     #[inline]
     pub fn encode_str<'o>(&self, out: &'o mut [u8]) -> Option<&'o str>
         ensures cases { Returns (text_of (ref_arcs self.now)) out.old result }
@@ -300,6 +283,7 @@ impl<'a> ObjectIdentifierRef<'a> {
     /// let mut out = [0; 5];
     /// assert_eq!(ObjectIdentifierRef::from_ascii_in(b"2.999", &mut out)?.to_string(), "2.999");
     /// assert_eq!(ObjectIdentifierRef::from_ascii_in(b"2.999", &mut [0]), Err(Error::Length));
+    /// assert_eq!(ObjectIdentifierRef::from_arcs_in(&[2, 999], &mut out)?.to_string(), "2.999");
     /// # Ok::<(), Error>(())
     /// ```
     #[tactic(auto, using(crate::proofs::Appended::taken, crate::proofs::Encodings::none_from_encoding, crate::proofs::Texts::denoted_from_answer))]
@@ -336,23 +320,12 @@ impl<'a> ObjectIdentifierRef<'a> {
     }
 
     /// Encodes arcs, any number of them, and borrows the octets that it writes at the start of `out`. They are at most
-    /// five for each arc.
+    /// five for each arc. [`from_ascii_in`](Self::from_ascii_in) has an example.
     ///
     /// # Errors
     ///
     /// Those of [`from_arcs`](crate::ObjectIdentifier::from_arcs), with [`Error::Length`] if the arcs take more octets than
     /// `out` has. It is then unchanged.
-    ///
-    /// # Examples
-    ///
-    /// ```
-    /// use const_oid::ObjectIdentifierRef;
-    ///
-    /// let mut out = [0; 640];
-    /// let oid = ObjectIdentifierRef::from_arcs_in(&[2; 128], &mut out)?;
-    /// assert_eq!((oid.len(), oid.as_bytes().len()), (128, 127));
-    /// # Ok::<(), const_oid::Error>(())
-    /// ```
     #[tactic(auto, using(crate::proofs::Appended::taken, crate::proofs::Encodings::none_from_encoding))]
     pub fn from_arcs_in(arcs: &[Arc], out: &'a mut [u8]) -> Result<Self>
         ensures answer { ref_answer result ≡ item_answer root_rule arcs.now (length out.old) }
@@ -369,7 +342,10 @@ impl<'a> ObjectIdentifierRef<'a> {
     ///
     /// ```
     /// let oid = const_oid::ObjectIdentifierRef::from_bytes(&[0x88, 0x37, 0x03])?;
-    /// assert_eq!(oid.parent().unwrap().to_string(), "2.999");
+    /// let parent = oid.parent().unwrap();
+    /// assert_eq!(parent.to_string(), "2.999");
+    /// assert!(oid.starts_with(parent) && oid.strip_prefix(parent).unwrap().eq([3]));
+    /// assert!(parent.cmp_arcs(oid).is_lt());
     /// # Ok::<(), const_oid::Error>(())
     /// ```
     #[inline]
@@ -385,15 +361,7 @@ impl<'a> ObjectIdentifierRef<'a> {
     }
 
     /// Whether the arcs begin with all those of another identifier: whether the other one is this one or an ancestor of
-    /// it.
-    ///
-    /// # Examples
-    ///
-    /// ```
-    /// let oid = const_oid::ObjectIdentifierRef::from_bytes(&[0x88, 0x37, 0x03])?;
-    /// assert!(oid.starts_with(oid.parent().unwrap()));
-    /// # Ok::<(), const_oid::Error>(())
-    /// ```
+    /// it. [`parent`](Self::parent) has an example.
     // erase: const
     #[inline(always)]
     pub fn starts_with(&self, other: &ObjectIdentifierRef<'_>) -> bool
@@ -403,14 +371,7 @@ impl<'a> ObjectIdentifierRef<'a> {
     }
 
     /// The arcs after those of another identifier, or `None` if the arcs do not begin with those. They may be none.
-    ///
-    /// # Examples
-    ///
-    /// ```
-    /// let oid = const_oid::ObjectIdentifierRef::from_bytes(&[0x88, 0x37, 0x03])?;
-    /// assert!(oid.strip_prefix(oid.parent().unwrap()).unwrap().eq([3]));
-    /// # Ok::<(), const_oid::Error>(())
-    /// ```
+    /// [`parent`](Self::parent) has an example.
     #[inline]
     pub fn strip_prefix(&self, other: &ObjectIdentifierRef<'_>) -> Option<Arcs<'a>>
         ensures { MatchOption result
@@ -424,15 +385,7 @@ impl<'a> ObjectIdentifierRef<'a> {
     }
 
     /// Compares the arcs lexicographically, a prefix before what begins with it. SNMP orders names so (RFC 3416).
-    ///
-    /// # Examples
-    ///
-    /// ```
-    /// let oid = const_oid::ObjectIdentifierRef::from_bytes(&[0x88, 0x37, 0x03])?;
-    /// let small = const_oid::ObjectIdentifierRef::from_bytes(&[0x88, 0x37, 0x81, 0x00])?;
-    /// assert!(oid.cmp_arcs(small).is_lt() && oid < small);
-    /// # Ok::<(), const_oid::Error>(())
-    /// ```
+    /// [`parent`](Self::parent) has an example.
     // erase: const
     #[inline]
     pub fn cmp_arcs(&self, other: &ObjectIdentifierRef<'_>) -> Ordering
@@ -521,7 +474,6 @@ impl fmt::Display for ObjectIdentifierRef<'_> {
 }
 
 impl fmt::Debug for ObjectIdentifierRef<'_> {
-    ghost use Rattle.std.specs.Prelude.{◌++◌, codes};
     ghost use Rattle.const_oid.specs.OidRef.{ref_arcs};
 
     ghost debug_output = { λ oid. Some (codes "ObjectIdentifierRef(" ++ (text_of (ref_arcs oid) ++ codes ")")) };
@@ -537,9 +489,6 @@ impl fmt::Debug for ObjectIdentifierRef<'_> {
 }
 
 impl PartialEq for ObjectIdentifierRef<'_> {
-    ghost use Rattle.std.specs.Prelude.{◌↔◌, IsTrue, nat_eq};
-    ghost use Rattle.std.specs.Cmp.{on_per, partial_equiv_from_equiv};
-    ghost use Rattle.std.specs.Cmp.Lexicographic.{pointwise, nat_list_eq_equiv};
     ghost use Rattle.const_oid.specs.OidRef.{ref_octets, ref_arcs};
 
     ghost eq = { λ a b. pointwise nat_eq (ref_octets a) (ref_octets b) };
@@ -556,9 +505,6 @@ impl PartialEq for ObjectIdentifierRef<'_> {
 }
 
 impl PartialOrd for ObjectIdentifierRef<'_> {
-    ghost use Rattle.std.specs.Ordering.{nat_cmp};
-    ghost use Rattle.std.specs.Cmp.{on_po};
-    ghost use Rattle.std.specs.Cmp.Lexicographic.{slice_cmp, texts_po};
     ghost use Rattle.const_oid.specs.OidRef.{ref_octets};
 
     ghost partial_cmp = { λ a b. Some (slice_cmp nat_cmp (ref_octets a) (ref_octets b)) };
@@ -575,10 +521,6 @@ impl PartialOrd for ObjectIdentifierRef<'_> {
 /// In a list sorted so, a subtree is contiguous. It is not the order of SNMP (RFC 3416), which is that of arcs: see
 /// [`cmp_arcs`](ObjectIdentifierRef::cmp_arcs).
 impl Ord for ObjectIdentifierRef<'_> {
-    ghost use Rattle.std.specs.Prelude.{refl};
-    ghost use Rattle.std.specs.Ordering.{nat_cmp};
-    ghost use Rattle.std.specs.Cmp.{on_total};
-    ghost use Rattle.std.specs.Cmp.Lexicographic.{slice_cmp, nat_list_cmp_total, texts_ties};
     ghost use Rattle.const_oid.specs.OidRef.{ref_octets};
 
     ghost cmp = { λ a b. slice_cmp nat_cmp (ref_octets a) (ref_octets b) };

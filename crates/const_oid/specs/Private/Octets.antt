@@ -47,12 +47,6 @@ fault_from limit (part ∷ parts) = option_or (part_fault limit part) (later_fau
 abbrev pub GoesOn : ℕ → List ℕ → List ℕ → Type 0
 GoesOn number octets longer = (group : List ℕ) × IsGroup number group × (longer ≡ octets ++ group)
 
--- octets go on by the subidentifier of a number if it fits a capacity, and stay, with `Length`, if it does not
-abbrev pub IsAppended : {X : Type 0} → ℕ → ℕ → List ℕ → List ℕ → Result X Error → Type 0
-IsAppended capacity number octets longer result = MatchResult result
-    (λ _. (length octets + width number ≤ capacity) × GoesOn number octets longer)
-    (λ fault. (fault ≡ Length) × (capacity < length octets + width number) × (longer ≡ octets))
-
 -- the first `used` octets of a slice go on by the subidentifier of a number if it fits a capacity that the slice has;
 -- the result is how many there are then, or `Length` if it does not fit
 abbrev pub AppendsTo : ℕ → ℕ → ℕ → List ℕ → List ℕ → Result ℕ Error → Type 0

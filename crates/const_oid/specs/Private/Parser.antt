@@ -7,7 +7,7 @@ use Rattle.const_oid.specs.declared.error.Error.TheVariants.{ArcTooBig, DigitExp
 use Rattle.const_oid.specs.declared.parser.Wrong.{Wrong}
 use Rattle.const_oid.specs.declared.parser.Wrong.TheVariants.{Component, Value}
 use Rattle.const_oid.specs.{Identifier.{root_rule, max_arc, max_second}, Items.{arc_fault, too_few_fault}}
-use Rattle.const_oid.specs.Text.{dot, is_empty, number_of, component_fault, components_of, text_answer, wrong_index, IsNumber}
+use Rattle.const_oid.specs.Text.{dot, is_empty, number_of, component_fault, components_of, text_answer, wrong_index}
 
 -- a fault and the index of its component, or else what comes later
 abbrev pub or_later : Option Error → ℕ → Result (List ℕ) (Error × ℕ) → Result (List ℕ) (Error × ℕ)
@@ -82,14 +82,6 @@ pub record HasFault (text : List ℕ) (start : ℕ) (fault : Error) (place : ℕ
   pub is : (capacity : ℕ) (before : List ℕ) → is_empty before ≡ (start == 0)
       → components_found capacity before (components_of (drop start text)) ≡ Err (fault, length before)
   pub at : IsWithin text start place
-
--- the bytes from an index up to another one are the digits of a number
-pub record AreDigits (text : List ℕ) (start number end : ℕ) : Type 0 where
-  pub digits : List ℕ
-  pub are : IsNumber digits
-  pub value : number ≡ number_of digits
-  pub bytes : drop start text ≡ digits ++ drop end text
-  pub at : IsWithin text start end
 
 -- the component that starts at an index is the number of an arc, and ends at another one, with the text or at a dot
 pub record IsComponent (text : List ℕ) (start number end : ℕ) : Type 0 where

@@ -2,18 +2,12 @@
 use Rattle.std.specs.Prelude.{ℕ, ◌+◌, ◌/◌, ◌%◌, Bool, true, false, List, [], ◌∷◌, ◌++◌, decimal, encode_utf8}
 use Rattle.const_oid.specs.declared.error.Error.{Error}
 use Rattle.const_oid.specs.declared.error.Error.TheVariants.{ArcInvalid, DigitExpected}
-use Rattle.const_oid.specs.Text.{dot, text_of}
+use Rattle.const_oid.specs.Text.{dot}
 
 -- what an arc adds to the text, by whether it is the first
 abbrev pub arc_text : Bool → ℕ → List ℕ
 arc_text true arc = decimal arc
 arc_text false arc = dot ∷ decimal arc
-
--- what arcs add to the text, by whether they are the first
-abbrev pub text_left : Bool → List ℕ → List ℕ
-text_left true arcs = text_of arcs
-text_left false [] = []
-text_left false (arc ∷ arcs) = dot ∷ text_of (arc ∷ arcs)
 
 -- two digits
 abbrev pub pair_text : ℕ → List ℕ

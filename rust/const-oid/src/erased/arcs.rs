@@ -7,16 +7,7 @@ use crate::erased::base128::read_group;
 use crate::erased::parts::skip_parts;
 use crate::erased::root::split_root;
 /// An iterator over the arcs of an identifier, in order. After the last arc, `next` always returns `None`.
-///
-/// # Examples
-///
-/// ```
-/// use const_oid::{Arcs, ObjectIdentifier};
-///
-/// let oid = ObjectIdentifier::new_unwrap("2.999");
-/// let mut arcs: Arcs<'_> = oid.arcs();
-/// assert_eq!((arcs.next(), arcs.next(), arcs.next()), (Some(2), Some(999), None));
-/// ```
+/// [`ObjectIdentifierRef::arcs`](crate::ObjectIdentifierRef::arcs) has an example.
 #[derive(Clone)]
 pub struct Arcs<'a> {
     next: Next,

@@ -14,18 +14,6 @@ use core::hash::{Hash, Hasher};
 /// The octets of an owned identifier: at most `SIZE`, and never more than 255.
 ///
 /// It has no public constructor.
-///
-/// # Examples
-///
-/// ```
-/// use const_oid::Buffer;
-///
-/// assert_eq!(size_of::<Buffer<39>>(), 40);
-///
-/// const fn are_equal(a: &Buffer<39>, b: &Buffer<39>) -> bool {
-///     a.len() == b.as_bytes().len() && a.eq(b)
-/// }
-/// ```
 #[derive(Copy, Clone, PartialEq, Eq)]
 pub struct Buffer<const SIZE: usize> {
     // The octets that are not in use are zero, on which `eq` relies.

@@ -18,10 +18,15 @@ use crate::erased::oid::Oid;
 /// ```
 /// use const_oid::{ObjectIdentifier, db::Database};
 ///
-/// const SYSTEM: ObjectIdentifier = ObjectIdentifier::new_unwrap("1.3.6.1.2.1.1");
-/// const NAMES: Database<'static> = Database::new(&[(&SYSTEM, "system")]);
-/// const NAME: Option<&str> = NAMES.by_oid(&SYSTEM);
-/// assert_eq!(NAME, Some("system"));
+/// const CN: ObjectIdentifier = ObjectIdentifier::new_unwrap("2.5.4.3");
+/// const NAMES: Database<'static> = Database::new(&[(&CN, "cn"), (&CN, "commonName")]);
+/// const NAME: Option<&str> = NAMES.by_oid(&CN);
+/// assert_eq!((NAME, NAMES.by_name("commonname")), (Some("cn"), Some(&CN)));
+/// assert!(NAMES.find_names_for_oid(CN).eq(["cn", "commonName"]));
+/// assert_eq!((NAMES.resolve("2.5.4.3"), NAMES.resolve("2.999")), (Ok("cn"), Ok("2.999")));
+///
+/// let mut memory = [0; 9];
+/// assert_eq!(NAMES.indexed(&mut memory).by_name("commonname"), Some(&CN));
 /// ```
 #[derive(Copy, Clone)]
 pub struct Database<'a> {
@@ -50,17 +55,7 @@ impl<'a> Database<'a> {
     /// with n or fewer none at all. Over 65,535 entries have no index. One that the database has, as `DB` does, stays if it
     /// is no shorter. None is made in which some lookup would read over a quarter of the entries and two: a scan is faster.
     ///
-    /// # Examples
-    ///
-    /// ```
-    /// use const_oid::{ObjectIdentifier, db::Database};
-    ///
-    /// const CN: ObjectIdentifier = ObjectIdentifier::new_unwrap("2.5.4.3");
-    /// let entries = [(&CN, "cn"), (&CN, "commonName")];
-    /// let mut memory = [0; 9];
-    /// let names = Database::new(&entries).indexed(&mut memory);
-    /// assert_eq!(names.by_name("commonname"), Some(&CN));
-    /// ```
+    /// [`Database`] has an example.
     #[must_use]
     pub fn indexed(self, memory: &'a mut [u16]) -> Self {
         // An index with a slot for every two entries is fast. If half of the memory is too short for one, all is for the
@@ -104,14 +99,7 @@ impl<'a> Database<'a> {
     }
 
     /// The identifier in the first entry with this name, ignoring ASCII case, or `None` if there is no such entry.
-    ///
-    /// # Examples
-    ///
-    /// ```
-    /// use const_oid::db::{DB, rfc4519};
-    ///
-    /// assert_eq!(DB.by_name("CN"), Some(&rfc4519::CN));
-    /// ```
+    /// [`Database`] has an example.
     #[must_use]
     pub const fn by_name(&self, name: &str) -> Option<&'a Oid> {
         let count = self.entries.len();
@@ -126,38 +114,19 @@ impl<'a> Database<'a> {
         None
     }
 
-    /// The names in all entries with this identifier, in the order of the table, one for each entry.
-    ///
-    /// # Examples
-    ///
-    /// ```
-    /// use const_oid::{ObjectIdentifier, db::Database};
-    ///
-    /// const CN: ObjectIdentifier = ObjectIdentifier::new_unwrap("2.5.4.3");
-    /// let names = Database::new(&[(&CN, "cn"), (&CN, "commonName")]);
-    /// assert!(names.find_names_for_oid(CN).eq(["cn", "commonName"]));
-    /// ```
+    /// The names in all entries with this identifier, in the order of the table, one for each entry. [`Database`] has
+    /// an example.
     #[must_use]
     pub const fn find_names_for_oid(&self, oid: Oid) -> Names<'a> {
         Names { database: *self, index: first_candidate(self.oid_links, self.entries.len(), oid.as_bytes()), oid }
     }
 
     /// Parses dotted text, and returns the name of its identifier as [`by_oid`](Self::by_oid) does, or the text
-    /// itself, unchanged, if the table has no name for it.
+    /// itself, unchanged, if the table has no name for it. [`Database`] has an example.
     ///
     /// # Errors
     ///
     /// Those of `new` of an owned identifier.
-    ///
-    /// # Examples
-    ///
-    /// ```
-    /// use const_oid::{Error, db::DB};
-    ///
-    /// assert_eq!(DB.resolve("2.5.4.3"), Ok("cn"));
-    /// assert_eq!(DB.resolve("2.999"), Ok("2.999"));
-    /// assert_eq!(DB.resolve("2."), Err(Error::TrailingDot));
-    /// ```
     pub fn resolve<'b>(&self, oid: &'b str) -> Result<&'b str>
     where
         'a: 'b,
@@ -167,8 +136,7 @@ impl<'a> Database<'a> {
     }
 }
 
-/// An iterator over the names of an identifier, in the order of the table. [`Database::find_names_for_oid`] has an
-/// example.
+/// An iterator over the names of an identifier, in the order of the table. [`Database`] has an example.
 #[derive(Clone)]
 pub struct Names<'a> {
     database: Database<'a>,

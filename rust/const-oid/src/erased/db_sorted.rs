@@ -31,9 +31,11 @@ type Entry<'a> = (&'a ObjectIdentifierRef, &'a str);
 /// let (named, name) = NAMES.nearest(&oid).unwrap();
 /// assert_eq!(*name, "enterprises");
 /// assert!(oid.arcs().skip(named.len()).eq([8072]));
+/// assert_eq!((NAMES.by_oid(&MIB_2), NAMES.by_name("MIB-2")), (Some("mib-2"), Some(MIB_2.as_oid_ref())));
 /// assert_eq!(NAMES.subtree(&MIB_2), &NAMES.entries()[..2]);
 /// assert_eq!(NAMES.next_after(&MIB_2), Some(&NAMES.entries()[1]));
 /// assert_eq!(NAMES.next_after(&ENTERPRISES), None);
+/// assert!(SortedDatabase::try_new(&[NAMES.entries()[1], NAMES.entries()[0]]).is_none());
 /// # Ok::<(), const_oid::Error>(())
 /// ```
 #[derive(Copy, Clone)]
@@ -44,18 +46,7 @@ pub struct SortedDatabase<'a> {
 impl<'a> SortedDatabase<'a> {
     /// A database over entries in the order of arcs, that of `sort_by_key(|entry| ByArcs(entry.0))`, or `None`. In a
     /// constant, `.expect(..)` makes another order an error of the compiler. An identifier may have several entries.
-    ///
-    /// # Examples
-    ///
-    /// ```
-    /// use const_oid::{ObjectIdentifierRef, db::SortedDatabase};
-    ///
-    /// let cn = ObjectIdentifierRef::from_bytes(&[0x55, 4, 3])?;
-    /// let c = ObjectIdentifierRef::from_bytes(&[0x55, 4, 6])?;
-    /// assert!(SortedDatabase::try_new(&[(cn, "cn"), (c, "c")]).is_some());
-    /// assert!(SortedDatabase::try_new(&[(c, "c"), (cn, "cn")]).is_none());
-    /// # Ok::<(), const_oid::Error>(())
-    /// ```
+    /// [`SortedDatabase`] has an example.
     #[must_use]
     pub const fn try_new(entries: &'a [Entry<'a>]) -> Option<Self> {
         let mut index = 1;
@@ -72,32 +63,14 @@ impl<'a> SortedDatabase<'a> {
 
     /// A database over entries in the order of arcs, which is not checked. In another order, as that of text or of
     /// `sort`, lookups miss entries, without an error: [`try_new`](Self::try_new) checks it.
-    ///
-    /// # Examples
-    ///
-    /// ```
-    /// use const_oid::{ObjectIdentifier, db::SortedDatabase};
-    ///
-    /// const CN: ObjectIdentifier = ObjectIdentifier::new_unwrap("2.5.4.3");
-    /// const NAMES: SortedDatabase<'static> = SortedDatabase::new_unchecked(&[(CN.as_oid_ref(), "cn")]);
-    /// assert_eq!(NAMES.by_oid(&CN), Some("cn"));
-    /// ```
     // In Rattle, this is `new`: the caller proves the order.
     #[must_use]
     pub const fn new_unchecked(entries: &'a [Entry<'a>]) -> Self {
         SortedDatabase { entries }
     }
 
-    /// The name in the first entry with this identifier, or `None` if there is no such entry.
-    ///
-    /// # Examples
-    ///
-    /// ```
-    /// use const_oid::db::{SORTED, rfc4519};
-    ///
-    /// assert_eq!(SORTED.by_oid(&rfc4519::CN), Some("cn"));
-    /// assert_eq!(SORTED.by_name("CN"), Some(rfc4519::CN.as_oid_ref()));
-    /// ```
+    /// The name in the first entry with this identifier, or `None` if there is no such entry. [`SortedDatabase`] has an
+    /// example.
     #[must_use]
     pub fn by_oid(&self, oid: &ObjectIdentifierRef) -> Option<&'a str> {
         let index = first_of(self.entries, oid)?;
@@ -105,7 +78,7 @@ impl<'a> SortedDatabase<'a> {
     }
 
     /// The identifier in the first entry with this name, ignoring ASCII case, or `None` if there is no such entry. All
-    /// entries up to it are read. [`by_oid`](Self::by_oid) has an example.
+    /// entries up to it are read. [`SortedDatabase`] has an example.
     #[must_use]
     pub fn by_name(&self, name: &str) -> Option<&'a ObjectIdentifierRef> {
         let mut entries = self.entries.iter();

@@ -7,19 +7,6 @@ use crate::erased::digits::{MAX_DIGITS, arc_len, utf8, write_bytes, write_last_d
 use core::fmt;
 
 /// A result whose error is [`Error`].
-///
-/// # Examples
-///
-/// ```
-/// use const_oid::{ObjectIdentifier, Result};
-///
-/// fn country() -> Result<ObjectIdentifier> {
-///     "2.5.4.6".parse()
-/// }
-///
-/// assert_eq!(country()?.len(), 4);
-/// # Ok::<(), const_oid::Error>(())
-/// ```
 pub type Result<T> = core::result::Result<T, Error>;
 
 /// Why text, a list of arcs or octets were rejected.
@@ -32,6 +19,10 @@ pub type Result<T> = core::result::Result<T, Error>;
 /// let error = ObjectIdentifier::new("1..2").unwrap_err();
 /// assert_eq!(error, Error::RepeatedDot);
 /// assert_eq!(error.to_string(), "repeated consecutive '..' characters in OID");
+///
+/// let mut out = [0; 47];
+/// assert_eq!(error.encode_text(&mut out), Some(error.text_len()));
+/// assert_eq!(error.encode_str(&mut out), Some("repeated consecutive '..' characters in OID"));
 /// ```
 #[derive(Copy, Clone, Debug, Eq, PartialEq, PartialOrd, Ord, Hash)]
 pub enum Error {
@@ -74,7 +65,7 @@ pub enum Error {
 const MAX_TEXT_LEN: usize = 47;
 
 impl Error {
-    /// The length in bytes of the text that `{}` writes. [`encode_text`](Self::encode_text) has an example.
+    /// The length in bytes of the text that `{}` writes. [`Error`] has an example.
     #[inline]
     #[must_use]
     pub fn text_len(self) -> usize {
@@ -83,16 +74,7 @@ impl Error {
     }
 
     /// Writes the text that `{}` writes to the start of `out`, and returns its length in bytes. Returns `None` if it is
-    /// longer than `out`, which is then unchanged. 47 bytes are always enough.
-    ///
-    /// # Examples
-    ///
-    /// ```
-    /// let mut out = [0; 32];
-    /// let len = const_oid::Error::Length.encode_text(&mut out).unwrap();
-    /// assert_eq!(&out[..len], b"OID length invalid");
-    /// assert_eq!(const_oid::Error::Length.text_len(), len);
-    /// ```
+    /// longer than `out`, which is then unchanged. 47 bytes are always enough. [`Error`] has an example.
     #[inline(always)]
     #[must_use]
     pub fn encode_text(self, out: &mut [u8]) -> Option<usize> {
@@ -106,14 +88,6 @@ impl Error {
     }
 
     /// Writes the text as [`encode_text`](Self::encode_text) does, and borrows it as a `str`.
-    ///
-    /// # Examples
-    ///
-    /// ```
-    /// let mut out = [0; 32];
-    /// let text = const_oid::Error::Length.encode_str(&mut out);
-    /// assert_eq!(text, Some("OID length invalid"));
-    /// ```
     #[inline]
     #[must_use]
     pub fn encode_str<'o>(self, out: &'o mut [u8]) -> Option<&'o str> {

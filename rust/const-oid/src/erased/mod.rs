@@ -37,11 +37,4 @@ pub use error::{Error, Result};
 pub use oid::{ObjectIdentifier, Oid};
 pub use oid_ref::ObjectIdentifierRef;
 /// One arc of an object identifier, a 32-bit number.
-///
-/// # Examples
-///
-/// ```
-/// const GREATEST: const_oid::Arc = const_oid::Arc::MAX;
-/// assert_eq!(GREATEST, 4_294_967_295);
-/// ```
 pub type Arc = u32;

@@ -74,15 +74,12 @@ impl ObjectIdentifierRef {
     }
 
     /// Reads the element in DER that octets begin with: the tag 6, the length, and contents octets (X.690, 8.1, 8.19 and
-    /// 10.1). Returns the identifier, or the error of the contents octets, and the octets after the element.
+    /// 10.1). Returns what [`from_bytes`](Self::from_bytes) returns for the contents octets, and the octets after the
+    /// element.
     ///
     /// Returns `None` if the octets begin with no such element: the tag is not 6, the length is indefinite or could be
     /// in fewer octets, or not all contents octets are there. No octets are `None` too. So a loop over elements runs
     /// `while !der.is_empty()`: `while let Some(..)` takes a wrong element for the end.
-    ///
-    /// # Errors
-    ///
-    /// Those of [`from_bytes`](Self::from_bytes).
     ///
     /// # Examples
     ///
@@ -110,14 +107,6 @@ impl ObjectIdentifierRef {
     }
 
     /// The contents octets, which are the caller's.
-    ///
-    /// # Examples
-    ///
-    /// ```
-    /// let oid = const_oid::ObjectIdentifierRef::from_bytes(&[0x88, 0x37, 0x03])?;
-    /// assert_eq!(oid.as_bytes(), [0x88, 0x37, 0x03]);
-    /// # Ok::<(), const_oid::Error>(())
-    /// ```
     #[must_use]
     pub const fn as_bytes(&self) -> &[u8] {
         &self.ber
@@ -196,6 +185,7 @@ impl ObjectIdentifierRef {
     /// let mut out = [0; 8];
     /// assert_eq!((oid.text_len(), oid.encode_text(&mut out)), (7, Some(7)));
     /// assert_eq!(&out, b"2.999.3\0");
+    /// assert_eq!(oid.encode_str(&mut out), Some("2.999.3"));
     /// # Ok::<(), const_oid::Error>(())
     /// ```
     #[inline]
@@ -208,15 +198,7 @@ impl ObjectIdentifierRef {
         Some(write_text(self.as_bytes(), out))
     }
 
-    /// Writes the text as [`encode_text`](Self::encode_text) does, and borrows it as a `str`.
-    ///
-    /// # Examples
-    ///
-    /// ```
-    /// let oid = const_oid::ObjectIdentifierRef::from_bytes(&[0x88, 0x37, 0x03])?;
-    /// assert_eq!(oid.encode_str(&mut [0; 8]), Some("2.999.3"));
-    /// # Ok::<(), const_oid::Error>(())
-    /// ```
+    /// Writes the text as [`encode_text`](Self::encode_text) does, which has an example, and borrows it as a `str`.
     #[inline]
     #[must_use]
     pub fn encode_str<'o>(&self, out: &'o mut [u8]) -> Option<&'o str> {
@@ -254,6 +236,7 @@ impl ObjectIdentifierRef {
     /// let mut out = [0; 5];
     /// assert_eq!(ObjectIdentifierRef::from_ascii_in(b"2.999", &mut out)?.to_string(), "2.999");
     /// assert_eq!(ObjectIdentifierRef::from_ascii_in(b"2.999", &mut [0]), Err(Error::Length));
+    /// assert_eq!(ObjectIdentifierRef::from_arcs_in(&[2, 999], &mut out)?.to_string(), "2.999");
     /// # Ok::<(), Error>(())
     /// ```
     pub fn from_ascii_in<'a>(text: &[u8], out: &'a mut [u8]) -> Result<&'a Self> {
@@ -282,23 +265,12 @@ impl ObjectIdentifierRef {
     }
 
     /// Encodes arcs, any number of them, and borrows the octets that it writes at the start of `out`. They are at most
-    /// five for each arc.
+    /// five for each arc. [`from_ascii_in`](Self::from_ascii_in) has an example.
     ///
     /// # Errors
     ///
     /// Those of [`from_arcs`](crate::ObjectIdentifier::from_arcs), with [`Error::Length`] if the arcs take more octets than
     /// `out` has. It is then unchanged.
-    ///
-    /// # Examples
-    ///
-    /// ```
-    /// use const_oid::ObjectIdentifierRef;
-    ///
-    /// let mut out = [0; 640];
-    /// let oid = ObjectIdentifierRef::from_arcs_in(&[2; 128], &mut out)?;
-    /// assert_eq!((oid.len(), oid.as_bytes().len()), (128, 127));
-    /// # Ok::<(), const_oid::Error>(())
-    /// ```
     pub fn from_arcs_in<'a>(arcs: &[Arc], out: &'a mut [u8]) -> Result<&'a Self> {
         let len = outputs::bytes_from_arcs(arcs, out)?;
         Ok(ObjectIdentifierRef::from_checked(&out[..len]))
@@ -310,7 +282,10 @@ impl ObjectIdentifierRef {
     ///
     /// ```
     /// let oid = const_oid::ObjectIdentifierRef::from_bytes(&[0x88, 0x37, 0x03])?;
-    /// assert_eq!(oid.parent().unwrap().to_string(), "2.999");
+    /// let parent = oid.parent().unwrap();
+    /// assert_eq!(parent.to_string(), "2.999");
+    /// assert!(oid.starts_with(parent) && oid.strip_prefix(parent).unwrap().eq([3]));
+    /// assert!(parent.cmp_arcs(oid).is_lt());
     /// # Ok::<(), const_oid::Error>(())
     /// ```
     #[inline]
@@ -324,15 +299,7 @@ impl ObjectIdentifierRef {
     }
 
     /// Whether the arcs begin with all those of another identifier: whether the other one is this one or an ancestor of
-    /// it.
-    ///
-    /// # Examples
-    ///
-    /// ```
-    /// let oid = const_oid::ObjectIdentifierRef::from_bytes(&[0x88, 0x37, 0x03])?;
-    /// assert!(oid.starts_with(oid.parent().unwrap()));
-    /// # Ok::<(), const_oid::Error>(())
-    /// ```
+    /// it. [`parent`](Self::parent) has an example.
     #[inline(always)]
     #[must_use]
     pub const fn starts_with(&self, other: &ObjectIdentifierRef) -> bool {
@@ -340,14 +307,7 @@ impl ObjectIdentifierRef {
     }
 
     /// The arcs after those of another identifier, or `None` if the arcs do not begin with those. They may be none.
-    ///
-    /// # Examples
-    ///
-    /// ```
-    /// let oid = const_oid::ObjectIdentifierRef::from_bytes(&[0x88, 0x37, 0x03])?;
-    /// assert!(oid.strip_prefix(oid.parent().unwrap()).unwrap().eq([3]));
-    /// # Ok::<(), const_oid::Error>(())
-    /// ```
+    /// [`parent`](Self::parent) has an example.
     #[inline]
     #[must_use]
     pub fn strip_prefix(&self, other: &ObjectIdentifierRef) -> Option<Arcs<'_>> {
@@ -358,15 +318,7 @@ impl ObjectIdentifierRef {
     }
 
     /// Compares the arcs lexicographically, a prefix before what begins with it. SNMP orders names so (RFC 3416).
-    ///
-    /// # Examples
-    ///
-    /// ```
-    /// let oid = const_oid::ObjectIdentifierRef::from_bytes(&[0x88, 0x37, 0x03])?;
-    /// let small = const_oid::ObjectIdentifierRef::from_bytes(&[0x88, 0x37, 0x81, 0x00])?;
-    /// assert!(oid.cmp_arcs(small).is_lt() && oid < small);
-    /// # Ok::<(), const_oid::Error>(())
-    /// ```
+    /// [`parent`](Self::parent) has an example.
     #[inline]
     #[must_use]
     pub const fn cmp_arcs(&self, other: &ObjectIdentifierRef) -> Ordering {

@@ -1,6 +1,6 @@
 use Rattle.std.proofs.Common.{length, ◌-◌, ◌≤◌}
 use Rattle.const_oid.specs.Identifier.{max_arc}
-use Rattle.const_oid.specs.Private.Parser.{AreDigits}
+use Rattle.const_oid.proofs.Components.{AreDigits}
 use Rattle.const_oid.proofs.parser.read_component.Given as goal
 
 abbrev pub invariant-loop-index : goal.invariant-loop-index

@@ -1,5 +1,6 @@
 use Rattle.std.proofs.Common.{◌≡◌, ◌+◌, ◌≤◌, length}
-use Rattle.const_oid.specs.{Text.text_of, Private.Text.text_left}
+use Rattle.const_oid.specs.Text.{text_of}
+use Rattle.const_oid.proofs.Texts.{text_left}
 use Rattle.const_oid.proofs.text.text_len.Given as goal
 
 -- what is taken off the limit is the length of what is passed

@@ -1,7 +1,7 @@
 use Rattle.std.proofs.Common.{◌≡◌, ℕ, ◌+◌, ◌*◌, ◌≤◌, ◌++◌, List, [], ◌∷◌, false, take, slice_set, arith, ◌∙◌}
 use Rattle.std.proofs.lemmas.List.{take_more_set, drop-set-lt}
-use Rattle.const_oid.specs.{Base128.width, Contents.arcs_from, Identifier.root_rule, Text.text_of, Private.Text.text_left}
-use Rattle.const_oid.proofs.{Decimals.length_digit, PartsFault.parts_at, Printed.{root_printed, two_texts}}
+use Rattle.const_oid.specs.{Base128.width, Contents.arcs_from, Identifier.root_rule, Text.text_of}
+use Rattle.const_oid.proofs.{Decimals.length_digit, PartsFault.parts_at, Printed.{root_printed, two_texts}, Texts.text_left}
 use Rattle.const_oid.proofs.text.write_checked.Goals as goal
 
 pub loop-rest-init : goal.loop-rest-init

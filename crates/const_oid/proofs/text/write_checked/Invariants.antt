@@ -1,6 +1,7 @@
 use Rattle.std.proofs.Common.{false, ◌≡◌, ◌+◌, ◌*◌, ◌≤◌, ◌++◌, length, map, take, drop}
 use Rattle.const_oid.specs.{Base128.value_of, Contents.{cut, later_fault, parts_fault, arcs_of_octets}}
-use Rattle.const_oid.specs.{Identifier.root_rule, Text.text_of, Private.Text.text_left}
+use Rattle.const_oid.specs.{Identifier.root_rule, Text.text_of}
+use Rattle.const_oid.proofs.Texts.{text_left}
 use Rattle.const_oid.proofs.text.write_checked.Given as goal
 
 -- the rest has the fault of the whole; what is written, and the text of the rest, are the text of all

@@ -3,8 +3,8 @@ use Rattle.std.proofs.Common.{append-nil, sym, ap, ◌∙◌, arith, rules}
 use Rattle.std.proofs.lemmas.List.{nil_from_length, take_more_set, drop-set-lt}
 use Rattle.std.proofs.lemmas.{Bool.Decides.nat_tests, Grind.common_steps}
 use Rattle.const_oid.specs.{Base128.value_of, Contents.{cut, arcs_from}, Identifier.root_rule}
-use Rattle.const_oid.specs.{Text.text_of, Private.Text.text_left}
-use Rattle.const_oid.proofs.{Decimals.drop_more, Appended.written_by_parts, Texts.{second_small, text_left-cons}}
+use Rattle.const_oid.specs.Text.{text_of}
+use Rattle.const_oid.proofs.{Decimals.drop_more, Appended.written_by_parts, Texts.{second_small, text_left, text_left-cons}}
 use Rattle.const_oid.proofs.{PartsFault.{parts_from_later, later_small}, Printed.{two_texts, arc_written}}
 use Rattle.const_oid.proofs.text.write_text.Goals as goal
 

@@ -1,6 +1,7 @@
 use Rattle.std.proofs.Common.{false, ◌≡◌, ◌≤◌, ◌++◌, ◌∷◌, length, map, take, drop, None}
 use Rattle.const_oid.specs.{Base128.value_of, Contents.{cut, later_fault, arcs_of_octets}}
-use Rattle.const_oid.specs.{Identifier.max_arc, Text.text_of, Private.Text.text_left}
+use Rattle.const_oid.specs.{Identifier.max_arc, Text.text_of}
+use Rattle.const_oid.proofs.Texts.{text_left}
 use Rattle.const_oid.proofs.text.write_text.Given as goal
 
 -- what is written, and the text of the arc and of those left, are the text of all

@@ -5,8 +5,8 @@ use Rattle.std.proofs.Output.{has_written_styled_append}
 use Rattle.std.proofs.lemmas.{Str.{IsUtf8-from_ascii, IsAscii-append, Ascii.IsAscii-nil}}
 use Rattle.std.proofs.lemmas.{Fmt.{IsAscii-decimal, decimal_digit}, List.nil_from_length, Bool.Decides.nat_tests}
 use Rattle.const_oid.specs.{Base128.value_of, Contents.{cut, arcs_from}, Identifier.root_rule}
-use Rattle.const_oid.specs.{Text.text_of, Private.Text.text_left}
-use Rattle.const_oid.proofs.{Decimals.{arc_text_ascii, arc_text_short}, Texts.{second_small, text_left-cons}}
+use Rattle.const_oid.specs.Text.{text_of}
+use Rattle.const_oid.proofs.{Decimals.{arc_text_ascii, arc_text_short}, Texts.{second_small, text_left, text_left-cons}}
 use Rattle.const_oid.proofs.{PartsFault.{parts_from_later, later_small}, Printed.{two_texts, arc_written}}
 use Rattle.const_oid.proofs.oid_ref.ObjectIdentifierRef.write_in_chunks.Goals as goal
 use Rattle.const_oid.proofs.oid_ref.ObjectIdentifierRef.write_in_chunks.Goals.{then-at+in_ok-write_str, else-at}

@@ -1,7 +1,8 @@
 use Rattle.std.proofs.Common.{◌≡◌, ◌≤◌, List, ℕ, ◌∷◌, ◌++◌, false, length, map, take, None}
 use Rattle.std.specs.{Fmt.{HasWrittenStyled, IsFlush}, Str.IsAscii}
 use Rattle.const_oid.specs.{Base128.value_of, Contents.{cut, later_fault}, Identifier.max_arc}
-use Rattle.const_oid.specs.{OidRef.ref_arcs, Text.text_of, Private.Text.text_left}
+use Rattle.const_oid.specs.{OidRef.ref_arcs, Text.text_of}
+use Rattle.const_oid.proofs.Texts.{text_left}
 use Rattle.const_oid.proofs.oid_ref.ObjectIdentifierRef.write_in_chunks.Given as goal
 
 -- what is written, the chunk, and the text of the arc and of those left, are the text of all
