@@ -87,9 +87,9 @@ def _built(temporary):
 
 def _installed():
     """The same of an installed library."""
-    folders = (_output("pkg-config", f"--variable={name}", "const_oid_c").strip() for name in ("includedir", "libdir"))
-    include, library = folders
-    return include, pathlib.Path(library) / "libconst_oid_c.a"
+    paths = (_output("pkg-config", f"--variable={name}", "const_oid_c").strip() for name in ("includedir", "libdir"))
+    include, folder = paths
+    return include, f"{folder}/libconst_oid_c.a"
 
 
 def _compile(target, config_settings):
@@ -114,17 +114,14 @@ def _names():
     return "".join(f"{arcs}\t{name}\n" for arcs, name in re.findall(r' = "(.*)", "(.*)";', table))
 
 
-def metadata(of, readme):
-    """The file METADATA of a project."""
+def _metadata():
+    """The file METADATA, of the project and its page."""
     fields = {"Name": "name", "Version": "version", "Summary": "description", "License-Expression": "license"}
     lines = ["Metadata-Version: 2.4", "Description-Content-Type: text/markdown"]
-    lines += [f"{field}: {of[name]}" for field, name in {**fields, "Requires-Python": "requires-python"}.items()]
+    lines += [f"{field}: {PROJECT[name]}" for field, name in {**fields, "Requires-Python": "requires-python"}.items()]
     lines += [f"License-File: {name}" for name in LICENCES]
-    lines += [f"Classifier: {classifier}" for classifier in of["classifiers"]]
-    return "\n".join(lines) + "\n\n" + readme
-
-
-METADATA = metadata(PROJECT, (HERE / "README.md").read_text(encoding="utf-8")).encode()
+    lines += [f"Classifier: {classifier}" for classifier in PROJECT["classifiers"]]
+    return "\n".join([*lines, "", ""]).encode() + (HERE / "README.md").read_bytes()
 
 
 def _tag():
@@ -134,29 +131,21 @@ def _tag():
     return f"cp311-abi3-{re.sub('[-.]', '_', system)}"
 
 
-def _information():
-    """The files that say what a wheel is, aside from RECORD."""
-    files = {f"licenses/{name}": (TOP / name).read_bytes() for name in LICENCES}
-    head = "Wheel-Version: 1.0\nGenerator: const_oid\nRoot-Is-Purelib: false\n"
-    files |= {"METADATA": METADATA, "WHEEL": f"{head}Tag: {_tag()}\n".encode()}
-    return {f"{STEM}.dist-info/{name}": content for name, content in files.items()}
-
-
-def _recorded(name, content):
-    digest = base64.urlsafe_b64encode(hashlib.sha256(content).digest()).rstrip(b"=").decode()
-    return f"{name},sha256={digest},{len(content)}\n"
-
-
 def _write_wheel(folder, files):
     """Writes a wheel of these files and those that say what it is, and returns its name."""
-    files, record = {**files, **_information()}, f"{STEM}.dist-info/RECORD"
-    files[record] = ("".join(_recorded(*file) for file in files.items()) + f"{record},,\n").encode()
-    wheel = f"{STEM}-{_tag()}.whl"
-    with zipfile.ZipFile(pathlib.Path(folder) / wheel, "w", zipfile.ZIP_DEFLATED) as archive:
-        for name, content in files.items():
+    information, wheel = f"{STEM}.dist-info", f"{STEM}-{_tag()}.whl"
+    head = "Wheel-Version: 1.0\nGenerator: const_oid\nRoot-Is-Purelib: false\n"
+    files |= {f"{information}/licenses/{name}": (TOP / name).read_bytes() for name in LICENCES}
+    files |= {f"{information}/METADATA": _metadata(), f"{information}/WHEEL": f"{head}Tag: {_tag()}\n".encode()}
+    record = f"{information}/RECORD,,\n"
+    for name, content in files.items():
+        digest = base64.urlsafe_b64encode(hashlib.sha256(content).digest()).rstrip(b"=").decode()
+        record += f"{name},sha256={digest},{len(content)}\n"
+    with zipfile.ZipFile(pathlib.Path(folder) / wheel, "w") as archive:
+        for name, content in (*files.items(), (f"{information}/RECORD", record)):
             entry = zipfile.ZipInfo(name)
-            entry.compress_type, entry.external_attr = zipfile.ZIP_DEFLATED, 0o100644 << 16
-            archive.writestr(entry, content)
+            entry.external_attr = 0o100644 << 16
+            archive.writestr(entry, content, zipfile.ZIP_DEFLATED)
     return wheel
 
 
@@ -183,18 +172,6 @@ def build_editable(wheel_directory, config_settings=None, metadata_directory=Non
     return _write_wheel(wheel_directory, {"const_oid.pth": f"{package.parent}\n".encode()})
 
 
-def prepare_metadata_for_build_wheel(metadata_directory, config_settings=None):
-    """Writes what a wheel would say of itself, without building it, and returns the folder's name."""
-    for name, content in _information().items():
-        path = pathlib.Path(metadata_directory) / name
-        path.parent.mkdir(parents=True, exist_ok=True)
-        path.write_bytes(content)
-    return f"{STEM}.dist-info"
-
-
-prepare_metadata_for_build_editable = prepare_metadata_for_build_wheel
-
-
 def _archived():
     """The files of the source archive: the name of each, and its content."""
     for top, patterns in ((HERE, ARCHIVED), (TOP, ARCHIVED_OF_TOP)):
@@ -206,7 +183,7 @@ def build_sdist(sdist_directory, config_settings=None):
     """Writes the source archive into a folder, and returns its name."""
     archive, file = io.BytesIO(), f"{STEM}.tar.gz"
     with tarfile.open(mode="w", fileobj=archive, format=tarfile.PAX_FORMAT) as tar:
-        for name, content in (*_archived(), ("PKG-INFO", METADATA)):
+        for name, content in (*_archived(), ("PKG-INFO", _metadata())):
             entry = tarfile.TarInfo(f"{STEM}/{name}")
             entry.size = len(content)
             tar.addfile(entry, io.BytesIO(content))

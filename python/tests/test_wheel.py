@@ -115,27 +115,15 @@ class Wheel(unittest.TestCase):
             self.assertEqual(f"cp311-abi3-macosx_{version}_{machine}", backend._tag())
 
     def test_the_metadata_is_that_of_the_project(self):
-        """The metadata is that of any project; the licence is an expression, and no classifier says it again."""
-        readme = (TOP / "python/README.md").read_text(encoding="utf-8")
-        other = {**PROJECT, "name": "another", "version": "9.8.7", "description": "Another", "classifiers": ["Typed"]}
-        texts = {self.files[f"{STEM}.dist-info/METADATA"].decode(): (PROJECT, readme)}
-        texts[backend.metadata(other, "# Another\n")] = other, "# Another\n"
+        """The licence is an expression, and no classifier says it again."""
         fields = {"Name": "name", "Version": "version", "Summary": "description", "License-Expression": "license"}
-        for text, (project, page) in texts.items():
-            wanted = [("Requires-Python", ">=3.11"), *((field, project[name]) for field, name in fields.items())]
-            wanted += [("License-File", "LICENSE-APACHE"), ("License-File", "LICENSE-MIT"), ("Metadata-Version", "2.4")]
-            wanted += [("Classifier", classifier) for classifier in project["classifiers"]]
-            said = email.message_from_string(text)
-            self.assertEqual(sorted([*wanted, ("Description-Content-Type", "text/markdown")]), sorted(said.items()))
-            self.assertEqual(page, said.get_payload())
+        wanted = [("Requires-Python", ">=3.11"), *((field, PROJECT[name]) for field, name in fields.items())]
+        wanted += [("License-File", "LICENSE-APACHE"), ("License-File", "LICENSE-MIT"), ("Metadata-Version", "2.4")]
+        wanted += [("Classifier", classifier) for classifier in PROJECT["classifiers"]]
+        said = email.message_from_bytes(self.files[f"{STEM}.dist-info/METADATA"])
+        self.assertEqual(sorted([*wanted, ("Description-Content-Type", "text/markdown")]), sorted(said.items()))
+        self.assertEqual((TOP / "python/README.md").read_text(encoding="utf-8"), said.get_payload())
         self.assertEqual([], [text for text in PROJECT["classifiers"] if text.startswith("License")])
-
-    def test_metadata_comes_without_a_build(self):
-        """What a wheel says of itself comes before it is built, without a compiler."""
-        files = {name: content for name, content in self.files.items() if "dist-info" in name and "RECORD" not in name}
-        for kind in ("wheel", "editable"):
-            status, name, found = built(f"prepare_metadata_for_build_{kind}", None, PATH="/missing")
-            self.assertEqual((0, f"{STEM}.dist-info", files), (status, name, found))
 
     def test_a_source_archive_builds_the_same_wheel(self):
         """The archive has all that the wheel is made from, and nothing else. Each has the same bytes each time."""
