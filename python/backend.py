@@ -15,7 +15,6 @@ import hashlib
 import io
 import os
 import pathlib
-import platform
 import re
 import shlex
 import shutil
@@ -48,6 +47,7 @@ if not CRATE.exists():
     raise SystemExit(f"const-oid: there is no {CRATE}: install a checkout of the repository, or a source archive")
 PROJECT = tomllib.loads((HERE / "pyproject.toml").read_text(encoding="utf-8"))["project"]
 PROJECT["version"] = ".".join(re.findall(r"define CONST_OID_VERSION_\w+ (\d+)", HEADER.read_text(encoding="utf-8")))
+TAG = f"cp311-abi3-{re.sub('[-.]', '_', sysconfig.get_platform())}"
 STEM = f"{PROJECT['name'].replace('-', '_')}-{PROJECT['version']}"
 
 
@@ -99,8 +99,6 @@ def _compile(target, config_settings):
     if missing:
         raise SystemExit(f"const-oid: to be installed first: {'; '.join(missing)}")
     link = ["-shared", "-Wl,--exclude-libs,ALL", "-s"]
-    if sys.platform == "darwin":
-        link = ["-bundle", "-undefined", "dynamic_lookup"]
     flags = ["-std=c11", "-O2", "-fPIC", "-fvisibility=hidden", *shlex.split(os.environ.get("CFLAGS", ""))]
     with tempfile.TemporaryDirectory() as temporary:
         include, library = _installed() if is_installed else _built(temporary)
@@ -124,19 +122,12 @@ def _metadata():
     return "\n".join([*lines, "", ""]).encode() + (HERE / "README.md").read_bytes()
 
 
-def _tag():
-    system, machine = sysconfig.get_platform(), platform.machine()
-    if system.endswith("universal2"):  # a Python for both machines of macOS, and a module for this one
-        system = f"macosx_{'11_0' if machine == 'arm64' else '10_12'}_{machine}"
-    return f"cp311-abi3-{re.sub('[-.]', '_', system)}"
-
-
 def _write_wheel(folder, files):
     """Writes a wheel of these files and those that say what it is, and returns its name."""
-    information, wheel = f"{STEM}.dist-info", f"{STEM}-{_tag()}.whl"
+    information, wheel = f"{STEM}.dist-info", f"{STEM}-{TAG}.whl"
     head = "Wheel-Version: 1.0\nGenerator: const_oid\nRoot-Is-Purelib: false\n"
     files |= {f"{information}/licenses/{name}": (TOP / name).read_bytes() for name in LICENCES}
-    files |= {f"{information}/METADATA": _metadata(), f"{information}/WHEEL": f"{head}Tag: {_tag()}\n".encode()}
+    files |= {f"{information}/METADATA": _metadata(), f"{information}/WHEEL": f"{head}Tag: {TAG}\n".encode()}
     record = f"{information}/RECORD,,\n"
     for name, content in files.items():
         digest = base64.urlsafe_b64encode(hashlib.sha256(content).digest()).rstrip(b"=").decode()

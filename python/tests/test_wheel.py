@@ -16,7 +16,6 @@ import tarfile
 import tempfile
 import unittest
 import zipfile
-from unittest import mock
 
 TOP = pathlib.Path(__file__).resolve().parents[2]
 sys.path.append(str(TOP / "python"))
@@ -104,15 +103,11 @@ class Wheel(unittest.TestCase):
                 self.assertEqual((f"sha256={wanted}", str(len(self.files[name]))), (digest, length))
 
     def test_the_tag_says_abi_and_machine(self):
-        """The name and WHEEL say that the module is for the stable ABI, and for this machine, also on macOS."""
+        """The name and WHEEL say that the module is for the stable ABI, and for this machine."""
         self.assertRegex(self.name, rf"^{STEM}-cp311-abi3-[a-z]+_[a-z0-9_]+\.whl$")
         said = email.message_from_bytes(self.files[f"{STEM}.dist-info/WHEEL"])
         tag = self.name.removeprefix(f"{STEM}-").removesuffix(".whl")
         self.assertEqual((tag, "false"), (said["Tag"], said["Root-Is-Purelib"]))
-        for machine, version in (("arm64", "11_0"), ("x86_64", "10_12")):
-            self.enterContext(mock.patch("sysconfig.get_platform", return_value="macosx-10.9-universal2"))
-            self.enterContext(mock.patch("platform.machine", return_value=machine))
-            self.assertEqual(f"cp311-abi3-macosx_{version}_{machine}", backend._tag())
 
     def test_the_metadata_is_that_of_the_project(self):
         """The licence is an expression, and no classifier says it again."""
