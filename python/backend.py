@@ -79,10 +79,9 @@ def _missing(is_installed):
 def _built(temporary):
     """The header's folder and the static library, which cargo builds for this machine."""
     host = re.search(r"^host: (.+)$", _output(RUSTC, "-vV"), re.M)[1]
-    folder = pathlib.Path(os.environ.get("CARGO_TARGET_DIR") or temporary)
     command = ["cargo", "build", "--quiet", "--release", "--locked", "--offline", "--target", host]
-    _output(*command, "--target-dir", folder, "--manifest-path", CRATE)
-    return HEADER.parent, folder / host / "release/libconst_oid_c.a"
+    _output(*command, "--target-dir", temporary, "--manifest-path", CRATE)
+    return HEADER.parent, f"{temporary}/{host}/release/libconst_oid_c.a"
 
 
 def _installed():
