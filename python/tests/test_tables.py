@@ -61,7 +61,7 @@ class Names(unittest.TestCase):
 def drawn(draw):
     """Arcs of a short identifier, or, with a long start, of one above 255 octets."""
     start = draw.choice([(), (), 60 * (2**32 - 1,)])
-    return (2, *start, *(draw.choice([1, 2, 3, 9, 10, 200]) for _ in range(draw.randint(1, 5))))
+    return (2, *start, *(draw.choice([1, 2, 200, 201, 16_383, 16_384]) for _ in range(draw.randint(1, 5))))
 
 
 class Attributes(SortedMap):
