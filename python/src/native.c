@@ -467,8 +467,6 @@ PyDoc_STRVAR(identifier_doc,
     "[ObjectIdentifier('1.2'), ObjectIdentifier('1.2.3'), ObjectIdentifier('1.10')]\n"
     ">>> oid == (2, 999, 3), oid == \"2.999.3\", oid.arcs == (2, 999, 3), str(oid) == \"2.999.3\"\n"
     "(False, False, True, True)\n"
-    ">>> f\"{oid:>10}\"\n"
-    "'   2.999.3'\n"
     ">>> match oid:\n"
     "...     case ObjectIdentifier((2, 999, *rest)):\n"
     "...         print(rest)\n"
