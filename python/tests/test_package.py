@@ -151,7 +151,7 @@ class Package(unittest.TestCase):
         said = pydoc.render_doc(const_oid, renderer=pydoc.plaintext)
         classes = ["Code", "ObjectIdentifier", "OidError", "SortedMap"]
         self.assertEqual(classes, re.findall(r"^    class (\w+)", said, re.M))
-        self.assertRegex(said, r" code\n .*Why.*\n[ |]*\n .* detail\n .*The arc.*\n[ |]*\n .* given\n .*The text")
+        self.assertRegex(said, r" code = .*\n .*Why.*\n[ |]*\n .* detail = .*\n .*The arc.*\n[ |]*\n .* given = .*\n .*The text")
         for text in ("\nFUNCTIONS\n", "builtins.int:", "bit_length"):
             self.assertNotIn(text, said)
         said = pydoc.render_doc(names, renderer=pydoc.plaintext)

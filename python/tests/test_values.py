@@ -1,14 +1,11 @@
-"""ObjectIdentifier and OidError as values of Python: their inputs, copies, pickles, threads and interpreters."""
+"""ObjectIdentifier and OidError as values of Python: their inputs, copies, pickles and interpreters."""
 import array
 import collections.abc
-import concurrent.futures
 import copy
 import operator
 import os
 import pickle
 import random
-import sys
-import threading
 import time
 import unittest
 import weakref
@@ -24,20 +21,14 @@ GREATEST = b"\x8f\xff\xff\xff\x7f"
 WRONG = [
     (ObjectIdentifier, 5, "OID value is empty", {"": (0, 0)}),
     (ObjectIdentifier, 5, "an identifier has two arcs or more", {"1": (0, 0)}),
-    (ObjectIdentifier, 1, "OID contains out-of-range arc: 3", {"3": (3, 0), "3.4": (3, 0)}),
     (ObjectIdentifier, 1, "OID contains out-of-range arc: 40", {"1.40.x": (40, 1)}),
     (ObjectIdentifier, 2, "OID contains arc which is larger than 32-bits", {"2.99999999999": (0, 1)}),
     (ObjectIdentifier, 9, "OID ends with invalid trailing '.'", {"1.": (0, 0), "3.": (0, 0), "1.2.": (0, 1)}),
-    (ObjectIdentifier, 9, "OID ends with invalid trailing '.'", {"1.40.": (0, 1), "1.2.3.": (0, 2)}),
     (ObjectIdentifier, 8, "repeated consecutive '..' characters in OID", {"1..2": (0, 1), "1..": (0, 1)}),
-    (ObjectIdentifier, 8, "repeated consecutive '..' characters in OID", {"1.2.3..4": (0, 3)}),
     (ObjectIdentifier, 4, "expected digit, got '.'", {".": (46, 0), "..": (46, 0)}),
     (ObjectIdentifier, 4, "expected digit, got '.' (remove the first dot)", {".1.3.6": (46, 0)}),
-    (ObjectIdentifier, 4, "expected digit, got ' '", {" 1.2": (32, 0), "1.2. ": (32, 2)}),
     (ObjectIdentifier, 4, "expected digit, got 'x'", {"x.2": (120, 0), "1.2.3x.y": (120, 2)}),
     (ObjectIdentifier, 4, r"expected digit, got '\x00'", {"1.2\0.3": (0, 1)}),
-    (ObjectIdentifier, 4, r"expected digit, got '\n'", {"1.2\n": (10, 1)}),
-    (ObjectIdentifier, 4, r"expected digit, got '\x1b'", {"1.3.\x1b[31m": (27, 2)}),
     (ObjectIdentifier, 4, r"expected digit, got '\u2028'", {"1.2.\u2028": (0xE2, 2)}),
     (ObjectIdentifier, 4, "expected digit, got 'é'", {"1.é": (0xC3, 1)}),
     (ObjectIdentifier, 4, "expected digit, got '٣'", {"1.2.٣": (0xD9, 2)}),
@@ -45,10 +36,8 @@ WRONG = [
     (ObjectIdentifier, 4, "expected digit, got '😀'", {"1.2.😀.x": (0xF0, 2)}),
     (ObjectIdentifier, 11, "the text is not UTF-8", {"1.\ud800": (0, 1), "1.2.\ud800": (0, 2)}),
     (ObjectIdentifier.from_bytes, 5, "OID value is empty", {b"": (0, None)}),
-    (ObjectIdentifier.from_bytes, 3, "OID contains arc with invalid base 128 encoding",
-        {b"\x80": (0, None), b"\x2a\x80\x01": (0, None), b"\x2a\0\x80": (0, None)}),
+    (ObjectIdentifier.from_bytes, 3, "OID contains arc with invalid base 128 encoding", {b"\x2a\x80\x01": (0, None)}),
     (ObjectIdentifier.from_der, 5, "OID value is empty", {b"\6\0": (0, None)}),
-    (ObjectIdentifier.from_der, 3, "OID contains arc with invalid base 128 encoding", {b"\6\2\x2a\x80\0": (0, None)}),
     (ObjectIdentifier.from_der, 14, "the tag is not 6", {b"": (0, None), b"\x26\1\x2a": (0, None)}),
     (ObjectIdentifier.from_der, 14, "octets come after the element", {b"\6\1\x2a\0": (0, None)}),
     (ObjectIdentifier.read_der, 14, "the length is not in the form of DER, or octets are missing",
@@ -58,7 +47,6 @@ WRONG = [
     (ObjectIdentifier.from_arcs, 2, "OID contains arc which is larger than 32-bits", {(1, 2, 2**32): (0, None)}),
     (ObjectIdentifier.from_arcs, 1, "OID contains out-of-range arc: 3", {(3, 2**32): (3, None)}),
     (OID.child, 2, "OID contains arc which is larger than 32-bits", {2**32: (0, None)}),
-    (LONG.child, 2, "OID contains arc which is larger than 32-bits", {2**32: (0, None)}),
 ]
 
 
@@ -78,8 +66,8 @@ class Under(ObjectIdentifier):
     __slots__ = ()
 
 
-class Named(ObjectIdentifier):
-    """A subclass whose __init__ sets attributes, one of them in a slot."""
+class Named(collections.abc.Sized, Under):
+    """A subclass with another base, whose __init__ sets attributes, one of them in a slot."""
 
     __slots__ = ("__dict__", "slot")
 
@@ -150,11 +138,14 @@ class Inputs(unittest.TestCase):
         self.assertEqual((2, 5, 999), ObjectIdentifier("2.5").child(Index()).arcs)
         self.assertEqual((2, 5), ObjectIdentifier.from_arcs(ObjectIdentifier("2.5")).arcs)
 
-    def test_arcs_are_those_of_a_list_before_it_changes(self):
+    def test_arcs_are_read_apart(self):
+        """Arcs are those of a list before it changes, and no other call comes between them."""
         for change in ("clear", "pop", "reverse"):
             arcs = [2]
             arcs += [Index(getattr(arcs, change)), 3, 4]
             self.assertEqual((2, 999, 3, 4), ObjectIdentifier.from_arcs(arcs).arcs, change)
+        other = Index(lambda: ObjectIdentifier.from_arcs((1, 2, 5)))
+        self.assertEqual((2, 999, 3, 4), ObjectIdentifier.from_arcs((2, other, 3, 4)).arcs)
 
     def test_errors_of_python_say_what_to_do(self):
         others = [("cryptography.x509", "dotted_string", ".dotted_string"), ("asn1crypto.core", "dotted", ".dotted")]
@@ -324,20 +315,6 @@ class Values(unittest.TestCase):
         wrong = pickle.dumps(OID, 4).replace(OCTETS, OCTETS[:-1] + b"\x80")
         self.assertEqual((3, 0), error_of(pickle.loads, wrong).args)
 
-    def test_subclasses_have_slots_attributes_and_bases(self):
-        """Subclasses have slots, attributes and other bases as those of other classes do."""
-
-        class Named(ObjectIdentifier):
-            __slots__ = ("name",)
-
-        class Attributes(collections.abc.Sized, ObjectIdentifier):
-            pass
-
-        named, attributes = Named("1.2"), Attributes("1.2.3")
-        named.name, attributes.name, Attributes.other = "n", "a", 1
-        self.assertEqual(("n", "a", 1), (named.name, attributes.name, attributes.other))
-        self.assertEqual(((1, 2, 3), True), (attributes.arcs, attributes.starts_with(named)))
-
     def test_nothing_changes_an_identifier(self):
         for name in ("arcs", "der", "parent", "_octets", "_known", "other"):
             for call in ((setattr, OID, name, 1), (delattr, OID, name)):
@@ -345,6 +322,7 @@ class Values(unittest.TestCase):
         changes = [(operator.setitem, OID, 0, 1), (operator.delitem, OID, 0), (setattr, OID, "__class__", Under)]
         for call in [*changes, (setattr, ObjectIdentifier, "other", 1), (delattr, ObjectIdentifier, "child")]:
             self.assertIs(TypeError, type(error_of(*call)), call)
+        setattr(type("Other", (ObjectIdentifier,), {}), "other", 1)
         OID.__init__("2.5")
         self.assertEqual("1.2.840.10045.2.1", str(OID))
         self.assertFalse(hasattr(OID, "__dict__"))
@@ -404,24 +382,18 @@ class Values(unittest.TestCase):
         del oid, plain
         self.assertEqual(([None, None], references), ([reference() for reference in references], seen))
 
-    def test_copies_of_an_error_have_its_fields(self):
-        error = error_of(ObjectIdentifier, "1.40")
-        for other in [error, *copies_of(error), copy.copy(error)]:
-            self.assertEqual((OidError, True), (type(other), other.code is Code.ARC_INVALID))
-            self.assertEqual((40, "OID contains out-of-range arc: 40, given '1.40'"), (other.detail, str(other)))
-            self.assertEqual(("1.40", 1, (1, 40)), (other.given, other.piece, other.args))
-        self.assertEqual("OidError(Code.DIGIT_EXPECTED, 255)", repr(OidError(4, 255)))
-        self.assertEqual("OidError(Code.ARC_INVALID, 40, '1.40')", repr(error))
-        self.assertEqual("expected digit, got 'ÿ'", str(OidError(4, 255)))
-        self.assertEqual("DIGIT_EXPECTED 256", str(OidError(4, 256)))
-        self.assertEqual((None, None), (OidError(4, 120).piece, OidError(4, 120, "1.2").piece))
-
     def test_fields_of_an_error_are_attributes(self):
         """They may change, and are in vars and copies, also of a subclass with another base, or one that sets none."""
+        given = error_of(ObjectIdentifier, "1.40")
+        self.assertEqual({"code": Code.ARC_INVALID, "detail": 40, "given": "1.40"}, vars(given))
+        self.assertEqual((Code, "OidError(Code.ARC_INVALID, 40, '1.40')"), (type(given.code), repr(given)))
+        self.assertEqual("OidError(Code.DIGIT_EXPECTED, 255)", repr(OidError(4, 255)))
+        self.assertEqual(["expected digit, got 'ÿ'", "DIGIT_EXPECTED 256"], [str(OidError(4, n)) for n in (255, 256)])
+        self.assertEqual((None, None), (OidError(4, 120).piece, OidError(4, 120, "1.2").piece))
         old = b"cconst_oid\nOidError\n(I1\nI40\ntR(dVcode\ncconst_oid\nCode\n(I3\ntRsVdetail\nI7\nsVgiven\nVx\nsb."
         fields = {"code": Code.BASE128, "detail": 7, "given": "x"}
         self.assertEqual(fields, vars(pickle.loads(old)))
-        for error, wanted in ((OidError(1, 40), fields), (OfSystem(1, 40), fields), (Bare(1, 40), {})):
+        for error, wanted in ((given, fields), (OfSystem(1, 40), fields), (Bare(1, 40), {})):
             error.__setstate__(wanted)
             for other in [weakref.ref(error)(), copy.copy(error), *copies_of(error)]:
                 self.assertEqual((type(error), (1, 40), wanted), (type(other), other.args, vars(other)))
@@ -433,24 +405,6 @@ class Values(unittest.TestCase):
         for args in ((4, 2**32 + 120), (4, -1), (2**32 + 4, 120), (-1, 0), (4, 2**64 + 120)):
             self.assertIs(OverflowError, type(error_of(OidError, *args)), args)
         self.assertIs(ValueError, type(error_of(OidError, 99)))
-
-    def test_threads_do_not_mix_identifiers(self):
-        """Eight threads, each with identifiers and errors of its own."""
-        start = threading.Barrier(8)
-
-        def work(own):
-            start.wait()
-            for arc in range(own, 12_000, 8):
-                text = f"1.{own}.{arc}.{2**32 - 1 - arc}"
-                oid = ObjectIdentifier(text)
-                found = (str(oid), oid.child(own).arcs, str(oid.parent), hash(oid), OidError(1, arc).args)
-                wanted = (text, (1, own, arc, 2**32 - 1 - arc, own), f"1.{own}.{arc}", hash(bytes(oid)), (1, arc))
-                self.assertEqual(wanted, found)
-
-        self.addCleanup(sys.setswitchinterval, sys.getswitchinterval())
-        sys.setswitchinterval(1e-6)
-        with concurrent.futures.ThreadPoolExecutor(8) as threads:
-            list(threads.map(work, range(8)))
 
     def test_interpreters_have_their_own_class(self):
         try:
