@@ -39,7 +39,6 @@ ARCHIVED_OF_TOP += ("rust/const-oid*/*.rs", "rust/const-oid/examples/*.rs", "rus
 COMPILER = shlex.split(os.environ.get("CC", "cc"))
 RUSTC = os.environ.get("RUSTC", "rustc")
 INCLUDE = pathlib.Path(sysconfig.get_path("include"))
-RUST = (1, 85)
 
 if sysconfig.get_config_var("Py_GIL_DISABLED"):
     raise SystemExit("const-oid: a free-threaded Python has no stable ABI, for which the module is written")
@@ -72,7 +71,7 @@ def _missing(is_installed):
             yield "the library const_oid_c, where pkg-config finds it (see crates/const_oid_c/README.md; set PKG_CONFIG_PATH)"
     elif not (shutil.which("cargo") and shutil.which(RUSTC)):
         yield "cargo and rustc, 1.85 or later (https://rustup.rs)"
-    elif tuple(map(int, re.findall(r"\d+", _output(RUSTC, "--version"))[:2])) < RUST:
+    elif tuple(map(int, re.findall(r"\d+", _output(RUSTC, "--version"))[:2])) < (1, 85):
         yield "rustc 1.85 or later (https://rustup.rs)"
 
 

@@ -151,7 +151,8 @@ class Package(unittest.TestCase):
         said = pydoc.render_doc(const_oid, renderer=pydoc.plaintext)
         classes = ["Code", "ObjectIdentifier", "OidError", "SortedMap"]
         self.assertEqual(classes, re.findall(r"^    class (\w+)", said, re.M))
-        self.assertRegex(said, r" code = .*\n .*Why.*\n[ |]*\n .* detail = .*\n .*The arc.*\n[ |]*\n .* given = .*\n .*The text")
+        for field, words in {"code": "Why", "detail": "The arc", "given": "The text"}.items():
+            self.assertRegex(said, rf" {field} = .*\n .*{words}")
         for text in ("\nFUNCTIONS\n", "builtins.int:", "bit_length"):
             self.assertNotIn(text, said)
         said = pydoc.render_doc(names, renderer=pydoc.plaintext)

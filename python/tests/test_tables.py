@@ -4,13 +4,12 @@ import itertools
 import operator
 import pathlib
 import random
-import time
 import unittest
 from collections.abc import MutableMapping
 from unittest import mock
 
 from const_oid import ObjectIdentifier, SortedMap, names, sorted_map
-from test_values import Under, copies_of, error_of
+from test_values import copies_of, error_of, seconds
 
 ROWS = pathlib.Path(__file__).resolve().parents[2] / "rust/const-oid/src/db/names.rs"
 SEED = 3416
@@ -66,12 +65,6 @@ def drawn(draw):
 
 class Attributes(SortedMap):
     __slots__ = ("__dict__", "slot")
-
-
-def seconds(call):
-    start = time.process_time()
-    call()
-    return time.process_time() - start
 
 
 def walked(table):
@@ -221,11 +214,11 @@ class Sorted(unittest.TestCase):
             "subtree": (3, lambda table: table.subtree(ObjectIdentifier("1.3"))),
             "walk": (9, walked),
         }
-        time_of_making = min(seconds(lambda: SortedMap(entries)) for _ in range(3))
+        time_of_making = min(seconds(SortedMap, entries) for _ in range(3))
         for name, (limit, call) in calls.items():
             tables = [SortedMap(entries) for _ in range(3)]
             with self.subTest(name):
-                self.assertLess(min(seconds(lambda: call(table)) for table in tables), limit * time_of_making)
+                self.assertLess(min(seconds(call, table) for table in tables), limit * time_of_making)
 
     def test_keys_of_other_types_are_rejected(self):
         table = SortedMap()
