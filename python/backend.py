@@ -161,18 +161,15 @@ def build_editable(wheel_directory, config_settings=None, metadata_directory=Non
     return _write_wheel(wheel_directory, {"const_oid.pth": f"{package.parent}\n".encode()})
 
 
-def _archived():
-    """The files of the source archive: the name of each, and its content."""
-    for top, patterns in ((HERE, ARCHIVED), (TOP, ARCHIVED_OF_TOP)):
-        for path in (path for pattern in patterns for path in sorted(top.glob(pattern))):
-            yield path.relative_to(top).as_posix(), path.read_bytes()
-
-
 def build_sdist(sdist_directory, config_settings=None):
     """Writes the source archive into a folder, and returns its name."""
-    archive, file = io.BytesIO(), f"{STEM}.tar.gz"
+    archive, file, files = io.BytesIO(), f"{STEM}.tar.gz", {}
+    for top, patterns in ((HERE, ARCHIVED), (TOP, ARCHIVED_OF_TOP)):
+        for path in (path for pattern in patterns for path in sorted(top.glob(pattern))):
+            files[path.relative_to(top).as_posix()] = path.read_bytes()
+    files["PKG-INFO"] = _metadata()
     with tarfile.open(mode="w", fileobj=archive, format=tarfile.PAX_FORMAT) as tar:
-        for name, content in (*_archived(), ("PKG-INFO", _metadata())):
+        for name, content in files.items():
             entry = tarfile.TarInfo(f"{STEM}/{name}")
             entry.size = len(content)
             tar.addfile(entry, io.BytesIO(content))

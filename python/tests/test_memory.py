@@ -40,13 +40,6 @@ def raised(call, *given):
     raise AssertionError("there is no error")
 
 
-def matched(oid):
-    match oid:
-        case ObjectIdentifier((1, 2, *rest)):
-            return rest
-    return None
-
-
 # Calls with an identifier that is made anew each time.
 OF_FRESH = {
     "text": lambda oid: (ObjectIdentifier(str(oid)), ObjectIdentifier(text=str(oid)), Under(str(oid))),
@@ -68,7 +61,7 @@ OF_FRESH = {
     "hash": lambda oid: ({oid: 1}, hash(Under(oid))),
     "sequence": lambda oid: (len(oid), oid[-1], oid[1:], list(oid), oid.count(1), raised(operator.getitem, oid, "")),
     "index": lambda oid: (oid.index(oid[2]), raised(oid.index, 7 * 10**9), raised(oid.index)),
-    "in": lambda oid: (oid[2] in oid, int("70000") in oid, "1" in oid, matched(oid)),
+    "in": lambda oid: (oid[2] in oid, int("70000") in oid, "1" in oid),
     "copies": lambda oid: (copy.copy(oid), copy.deepcopy(oid), copy.copy(Under(oid)), copy.deepcopy(Under(oid))),
     "pickles": lambda oid: pickle.loads(pickle.dumps((oid, Under(oid)))),
     "map": lambda oid: (SortedMap({oid: 1}).nearest(oid.child(1)), SortedMap({oid: 1}).next_after(OTHER)),

@@ -155,8 +155,6 @@ class Package(unittest.TestCase):
             self.assertRegex(said, rf" {field} = .*\n .*{words}")
         for text in ("\nFUNCTIONS\n", "builtins.int:", "bit_length"):
             self.assertNotIn(text, said)
-        said = pydoc.render_doc(names, renderer=pydoc.plaintext)
-        self.assertEqual(names.__all__, re.findall(r"^    (\w+)\(", said.split("\nFUNCTIONS\n")[1], re.M))
 
     def test_functions_have_examples(self):
         for owner in (names, ObjectIdentifier, OidError, SortedMap):

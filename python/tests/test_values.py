@@ -130,20 +130,16 @@ class Inputs(unittest.TestCase):
     def test_octets_come_from_any_buffer(self):
         for call, octets in ((ObjectIdentifier.from_bytes, OCTETS), (ObjectIdentifier.from_der, b"\6\7" + OCTETS)):
             source = bytearray(octets)
-            taken = [call(given) for given in (octets, source, memoryview(source))]
-            taken.append(call(memoryview(bytes(2 * octet for octet in octets[:1]) + octets)[1:]))
-            taken.append(call(memoryview(octets[::-1])[::-1]))
-            taken.append(call(type("Octets", (bytes,), {})(octets)))
+            given = [octets, source, memoryview(source), memoryview(b"\0" + octets)[1:], memoryview(octets[::-1])[::-1]]
+            taken = [call(octets) for octets in (*given, type("Octets", (bytes,), {})(octets))]
             source[:] = bytes(len(source))
             self.assertEqual([(bytes, OCTETS)] * 6, [(type(bytes(oid)), bytes(oid)) for oid in taken])
 
     def test_arcs_come_from_any_iterable(self):
+        """Arcs are those of a list before it changes, and no other call comes between them."""
         self.assertEqual((2, 999, 1), ObjectIdentifier.from_arcs(iter([2, Index(), True])).arcs)
         self.assertEqual((2, 5, 999), ObjectIdentifier("2.5").child(Index()).arcs)
         self.assertEqual((2, 5), ObjectIdentifier.from_arcs(ObjectIdentifier("2.5")).arcs)
-
-    def test_arcs_are_read_apart(self):
-        """Arcs are those of a list before it changes, and no other call comes between them."""
         for change in ("clear", "pop", "reverse"):
             arcs = [2]
             arcs += [Index(getattr(arcs, change)), 3, 4]

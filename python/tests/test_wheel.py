@@ -22,8 +22,7 @@ sys.path.append(str(TOP / "python"))
 backend = importlib.import_module("backend")
 PROJECT = backend.PROJECT
 STEM = f"const_oid-{PROJECT['version']}"
-PACKAGE = {"__init__.py", "_native.abi3.so", "_native.pyi", "_support.py", "names.py", "names.tsv", "py.typed"}
-PACKAGE.add("sorted_map.py")
+PACKAGE = {path.name for path in (TOP / "python/src/const_oid").glob("*.*")} | {"_native.abi3.so", "names.tsv"}
 INFORMATION = {"licenses/LICENSE-APACHE", "licenses/LICENSE-MIT", "METADATA", "RECORD", "WHEEL"}
 FILES = {f"const_oid/{name}" for name in PACKAGE} | {f"{STEM}.dist-info/{name}" for name in INFORMATION}
 INSTALLED = {"library": "installed"}
@@ -172,16 +171,14 @@ def unpacked(archive, folder):
 
 class Build(unittest.TestCase):
     def test_what_is_missing_is_named(self):
-        """What is missing is named, all of it, before anything is built, and what fails is reported."""
+        """What is missing is named, all of it, before anything is built, and what fails is reported. A Python before
+        3.11 reads the backend."""
+        ast.parse((TOP / "python/backend.py").read_text(encoding="utf-8"), feature_version=(3, 8))
         for text, call in REFUSED.items():
             with self.subTest(text):
                 status, said, files = built("build_wheel", **call)
                 self.assertEqual((1, {}), (status, files))
                 self.assertRegex(said, text)
-
-    def test_an_old_python_reads_the_backend(self):
-        """A Python before 3.11 reads the backend, which then says what it needs."""
-        ast.parse((TOP / "python/backend.py").read_text(encoding="utf-8"), feature_version=(3, 8))
 
     def test_an_editable_install_sees_a_change(self):
         """A change of a source is seen at once; the wheel has no file of the package. A checkout is needed."""

@@ -123,14 +123,9 @@ def _fault_of_element(octets: bytes) -> str:
     return "octets come after the element"
 
 
-class _Shown(reprlib.Repr):
-    """Shows a value as repr does, but cut if it is long."""
-
-    # One of more digits than Python prints is no error.
-    repr_int = reprlib.Repr.repr_instance
-
-
-SHOWN = _Shown()
+# Shows a value as repr does, but cut if it is long. An int of more digits than Python prints is no error.
+SHOWN = reprlib.Repr()
+setattr(SHOWN, "repr_int", SHOWN.repr_instance)
 SHOWN.maxstring = SHOWN.maxother = 60
 SHOWN.maxtuple = 12
 
