@@ -3,8 +3,7 @@ and cryptography, as far as they are installed (Debian: python3-pyasn1, python3-
 those of a tuple of arcs.
 
 It ends with status 1 if a row is slower here than in the fastest of these packages, aside from the text of asn1crypto,
-which it keeps. pyasn1 and asn1crypto encode and decode whole values, with tag and length. cryptography has no octets
-and no order, and identifiers of asn1crypto have no hash and no order.
+which it keeps. pyasn1 and asn1crypto encode and decode whole values, with tag and length.
 """
 import contextlib
 import sys

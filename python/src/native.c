@@ -629,8 +629,7 @@ static PyModuleDef_Slot module_slots[] = {
 };
 
 static struct PyModuleDef module = {
-    PyModuleDef_HEAD_INIT, "_native", "Identifiers over the library const_oid_c.", 0, module_methods, NULL, NULL, NULL,
-    NULL,
+    PyModuleDef_HEAD_INIT, .m_name = "_native", .m_doc = "Identifiers over const_oid_c.", .m_methods = module_methods,
 };
 
 PyMODINIT_FUNC PyInit__native(void) {

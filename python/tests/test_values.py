@@ -30,8 +30,6 @@ WRONG = [
     (ObjectIdentifier, 4, "expected digit, got 'x'", {"x.2": (120, 0), "1.2.3x.y": (120, 2)}),
     (ObjectIdentifier, 4, r"expected digit, got '\x00'", {"1.2\0.3": (0, 1)}),
     (ObjectIdentifier, 4, r"expected digit, got '\u2028'", {"1.2.\u2028": (0xE2, 2)}),
-    (ObjectIdentifier, 4, "expected digit, got 'é'", {"1.é": (0xC3, 1)}),
-    (ObjectIdentifier, 4, "expected digit, got '٣'", {"1.2.٣": (0xD9, 2)}),
     (ObjectIdentifier, 4, "expected digit, got 'ü'", {"1.2.ü٣": (0xC3, 2)}),
     (ObjectIdentifier, 4, "expected digit, got '😀'", {"1.2.😀.x": (0xF0, 2)}),
     (ObjectIdentifier, 11, "the text is not UTF-8", {"1.\ud800": (0, 1), "1.2.\ud800": (0, 2)}),

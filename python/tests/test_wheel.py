@@ -133,8 +133,7 @@ class Wheel(unittest.TestCase):
 
     @unittest.skipUnless(shutil.which("cargo"), "cargo is not installed")
     def test_cargo_builds_a_source_archive(self):
-        """For this machine whatever the configuration says, without a network, in a new home, and not in the folder of
-        the archive."""
+        """For this machine whatever the configuration says, in a new home, and not in the folder of the archive."""
         rustup = os.environ.get("RUSTUP_HOME", str(pathlib.Path.home() / ".rustup"))
         (archive,) = built("build_sdist")[2].values()
         with tempfile.TemporaryDirectory() as folder:
@@ -203,14 +202,13 @@ class Build(unittest.TestCase):
                 (place,) = archive.read("const_oid.pth").decode().splitlines()
             with (top / "python/src/const_oid/names.py").open("a", encoding="utf-8") as source:
                 source.write("\nCHANGED = name_of(ObjectIdentifier('2.5.4.3'))\n")
-            code = f"import sys; sys.path.insert(0, {place!r}); import const_oid; print(const_oid.names.CHANGED)"
-            run = subprocess.run([sys.executable, "-c", code], text=True, capture_output=True)
+            code = "import const_oid; print(const_oid.names.CHANGED)"
+            run = subprocess.run([sys.executable, "-c", code], cwd=place, text=True, capture_output=True)
             self.assertEqual(("cn\n", ""), (run.stdout, run.stderr))
             self.assertEqual(["const_oid"], os.listdir(place))
 
     def test_wrong_modules_are_not_imported(self):
-        """A module over a library of another version, and one that takes this Python for 3.12 and so has a slot for
-        interpreters, are not imported. They are compiled with other definitions, by a compiler of two words."""
+        """One over a library of another version, and one with the slot of 3.12. A compiler of two words makes them."""
         other = "static uint32_t other(void) { return 2 << 16 | 3; }\n#define const_oid_version other\n"
         wrong = {f"#include <const_oid.h>\n{other}": "ImportError: the library const_oid_c has version 2, not 1"}
         if sys.version_info < (3, 12):
@@ -224,6 +222,5 @@ class Build(unittest.TestCase):
                 self.assertEqual(0, status, name)
                 with zipfile.ZipFile(io.BytesIO(files[name])) as archive:
                     archive.extractall(folder)
-                code = f"import sys; sys.path.insert(0, {folder!r}); import const_oid"
-                run = subprocess.run([sys.executable, "-c", code], text=True, capture_output=True)
-                self.assertIn(text, run.stderr)
+                command = [sys.executable, "-c", "import const_oid"]
+                self.assertIn(text, subprocess.run(command, cwd=folder, text=True, capture_output=True).stderr)
