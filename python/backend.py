@@ -15,7 +15,6 @@ import hashlib
 import io
 import os
 import pathlib
-import platform
 import re
 import shlex
 import shutil
@@ -40,7 +39,6 @@ ARCHIVED_OF_TOP += ("rust/const-oid*/*.rs", "rust/const-oid/examples/*.rs", "rus
 COMPILER = shlex.split(os.environ.get("CC", "cc"))
 RUSTC = os.environ.get("RUSTC", "rustc")
 INCLUDE = pathlib.Path(sysconfig.get_path("include"))
-RUST = (1, 85)
 
 if sysconfig.get_config_var("Py_GIL_DISABLED"):
     raise SystemExit("const-oid: a free-threaded Python has no stable ABI, for which the module is written")
@@ -48,6 +46,7 @@ if not CRATE.exists():
     raise SystemExit(f"const-oid: there is no {CRATE}: install a checkout of the repository, or a source archive")
 PROJECT = tomllib.loads((HERE / "pyproject.toml").read_text(encoding="utf-8"))["project"]
 PROJECT["version"] = ".".join(re.findall(r"define CONST_OID_VERSION_\w+ (\d+)", HEADER.read_text(encoding="utf-8")))
+TAG = f"cp311-abi3-{re.sub('[-.]', '_', sysconfig.get_platform())}"
 STEM = f"{PROJECT['name'].replace('-', '_')}-{PROJECT['version']}"
 
 
@@ -72,24 +71,23 @@ def _missing(is_installed):
             yield "the library const_oid_c, where pkg-config finds it (see crates/const_oid_c/README.md; set PKG_CONFIG_PATH)"
     elif not (shutil.which("cargo") and shutil.which(RUSTC)):
         yield "cargo and rustc, 1.85 or later (https://rustup.rs)"
-    elif tuple(map(int, re.findall(r"\d+", _output(RUSTC, "--version"))[:2])) < RUST:
+    elif tuple(map(int, re.findall(r"\d+", _output(RUSTC, "--version"))[:2])) < (1, 85):
         yield "rustc 1.85 or later (https://rustup.rs)"
 
 
 def _built(temporary):
     """The header's folder and the static library, which cargo builds for this machine."""
     host = re.search(r"^host: (.+)$", _output(RUSTC, "-vV"), re.M)[1]
-    folder = pathlib.Path(os.environ.get("CARGO_TARGET_DIR") or temporary)
     command = ["cargo", "build", "--quiet", "--release", "--locked", "--offline", "--target", host]
-    _output(*command, "--target-dir", folder, "--manifest-path", CRATE)
-    return HEADER.parent, folder / host / "release/libconst_oid_c.a"
+    _output(*command, "--target-dir", temporary, "--manifest-path", CRATE)
+    return HEADER.parent, f"{temporary}/{host}/release/libconst_oid_c.a"
 
 
 def _installed():
     """The same of an installed library."""
-    folders = (_output("pkg-config", f"--variable={name}", "const_oid_c").strip() for name in ("includedir", "libdir"))
-    include, library = folders
-    return include, pathlib.Path(library) / "libconst_oid_c.a"
+    paths = (_output("pkg-config", f"--variable={name}", "const_oid_c").strip() for name in ("includedir", "libdir"))
+    include, folder = paths
+    return include, f"{folder}/libconst_oid_c.a"
 
 
 def _compile(target, config_settings):
@@ -99,8 +97,6 @@ def _compile(target, config_settings):
     if missing:
         raise SystemExit(f"const-oid: to be installed first: {'; '.join(missing)}")
     link = ["-shared", "-Wl,--exclude-libs,ALL", "-s"]
-    if sys.platform == "darwin":
-        link = ["-bundle", "-undefined", "dynamic_lookup"]
     flags = ["-std=c11", "-O2", "-fPIC", "-fvisibility=hidden", *shlex.split(os.environ.get("CFLAGS", ""))]
     with tempfile.TemporaryDirectory() as temporary:
         include, library = _installed() if is_installed else _built(temporary)
@@ -114,49 +110,31 @@ def _names():
     return "".join(f"{arcs}\t{name}\n" for arcs, name in re.findall(r' = "(.*)", "(.*)";', table))
 
 
-def metadata(of, readme):
-    """The file METADATA of a project."""
+def _metadata():
+    """The file METADATA, of the project and its page."""
     fields = {"Name": "name", "Version": "version", "Summary": "description", "License-Expression": "license"}
     lines = ["Metadata-Version: 2.4", "Description-Content-Type: text/markdown"]
-    lines += [f"{field}: {of[name]}" for field, name in {**fields, "Requires-Python": "requires-python"}.items()]
+    lines += [f"{field}: {PROJECT[name]}" for field, name in {**fields, "Requires-Python": "requires-python"}.items()]
     lines += [f"License-File: {name}" for name in LICENCES]
-    lines += [f"Classifier: {classifier}" for classifier in of["classifiers"]]
-    return "\n".join(lines) + "\n\n" + readme
-
-
-METADATA = metadata(PROJECT, (HERE / "README.md").read_text(encoding="utf-8")).encode()
-
-
-def _tag():
-    system, machine = sysconfig.get_platform(), platform.machine()
-    if system.endswith("universal2"):  # a Python for both machines of macOS, and a module for this one
-        system = f"macosx_{'11_0' if machine == 'arm64' else '10_12'}_{machine}"
-    return f"cp311-abi3-{re.sub('[-.]', '_', system)}"
-
-
-def _information():
-    """The files that say what a wheel is, aside from RECORD."""
-    files = {f"licenses/{name}": (TOP / name).read_bytes() for name in LICENCES}
-    head = "Wheel-Version: 1.0\nGenerator: const_oid\nRoot-Is-Purelib: false\n"
-    files |= {"METADATA": METADATA, "WHEEL": f"{head}Tag: {_tag()}\n".encode()}
-    return {f"{STEM}.dist-info/{name}": content for name, content in files.items()}
-
-
-def _recorded(name, content):
-    digest = base64.urlsafe_b64encode(hashlib.sha256(content).digest()).rstrip(b"=").decode()
-    return f"{name},sha256={digest},{len(content)}\n"
+    lines += [f"Classifier: {classifier}" for classifier in PROJECT["classifiers"]]
+    return "\n".join([*lines, "", ""]).encode() + (HERE / "README.md").read_bytes()
 
 
 def _write_wheel(folder, files):
     """Writes a wheel of these files and those that say what it is, and returns its name."""
-    files, record = {**files, **_information()}, f"{STEM}.dist-info/RECORD"
-    files[record] = ("".join(_recorded(*file) for file in files.items()) + f"{record},,\n").encode()
-    wheel = f"{STEM}-{_tag()}.whl"
-    with zipfile.ZipFile(pathlib.Path(folder) / wheel, "w", zipfile.ZIP_DEFLATED) as archive:
-        for name, content in files.items():
+    information, wheel = f"{STEM}.dist-info", f"{STEM}-{TAG}.whl"
+    head = "Wheel-Version: 1.0\nGenerator: const_oid\nRoot-Is-Purelib: false\n"
+    files |= {f"{information}/licenses/{name}": (TOP / name).read_bytes() for name in LICENCES}
+    files |= {f"{information}/METADATA": _metadata(), f"{information}/WHEEL": f"{head}Tag: {TAG}\n".encode()}
+    record = f"{information}/RECORD,,\n"
+    for name, content in files.items():
+        digest = base64.urlsafe_b64encode(hashlib.sha256(content).digest()).rstrip(b"=").decode()
+        record += f"{name},sha256={digest},{len(content)}\n"
+    with zipfile.ZipFile(pathlib.Path(folder) / wheel, "w") as archive:
+        for name, content in (*files.items(), (f"{information}/RECORD", record)):
             entry = zipfile.ZipInfo(name)
-            entry.compress_type, entry.external_attr = zipfile.ZIP_DEFLATED, 0o100644 << 16
-            archive.writestr(entry, content)
+            entry.external_attr = 0o100644 << 16
+            archive.writestr(entry, content, zipfile.ZIP_DEFLATED)
     return wheel
 
 
@@ -183,30 +161,15 @@ def build_editable(wheel_directory, config_settings=None, metadata_directory=Non
     return _write_wheel(wheel_directory, {"const_oid.pth": f"{package.parent}\n".encode()})
 
 
-def prepare_metadata_for_build_wheel(metadata_directory, config_settings=None):
-    """Writes what a wheel would say of itself, without building it, and returns the folder's name."""
-    for name, content in _information().items():
-        path = pathlib.Path(metadata_directory) / name
-        path.parent.mkdir(parents=True, exist_ok=True)
-        path.write_bytes(content)
-    return f"{STEM}.dist-info"
-
-
-prepare_metadata_for_build_editable = prepare_metadata_for_build_wheel
-
-
-def _archived():
-    """The files of the source archive: the name of each, and its content."""
-    for top, patterns in ((HERE, ARCHIVED), (TOP, ARCHIVED_OF_TOP)):
-        for path in (path for pattern in patterns for path in sorted(top.glob(pattern))):
-            yield path.relative_to(top).as_posix(), path.read_bytes()
-
-
 def build_sdist(sdist_directory, config_settings=None):
     """Writes the source archive into a folder, and returns its name."""
-    archive, file = io.BytesIO(), f"{STEM}.tar.gz"
+    archive, file, files = io.BytesIO(), f"{STEM}.tar.gz", {}
+    for top, patterns in ((HERE, ARCHIVED), (TOP, ARCHIVED_OF_TOP)):
+        for path in (path for pattern in patterns for path in sorted(top.glob(pattern))):
+            files[path.relative_to(top).as_posix()] = path.read_bytes()
+    files["PKG-INFO"] = _metadata()
     with tarfile.open(mode="w", fileobj=archive, format=tarfile.PAX_FORMAT) as tar:
-        for name, content in (*_archived(), ("PKG-INFO", METADATA)):
+        for name, content in files.items():
             entry = tarfile.TarInfo(f"{STEM}/{name}")
             entry.size = len(content)
             tar.addfile(entry, io.BytesIO(content))

@@ -287,14 +287,12 @@ static PyObject *arcs_of(PyObject *self) {
     return identifier->arcs;
 }
 
-static PyObject *identifier_arcs(PyObject *self, void *closure) {
-    (void)closure;
+static PyObject *identifier_arcs(PyObject *self, void *Py_UNUSED(closure)) {
     return Py_XNewRef(arcs_of(self));
 }
 
 /* A tag, and a length of a size_t in at most one octet more, come before the octets. */
-static PyObject *identifier_der(PyObject *self, void *closure) {
-    (void)closure;
+static PyObject *identifier_der(PyObject *self, void *Py_UNUSED(closure)) {
     Output out;
     const_oid_octets octets = octets_of(self);
     if (!has_room(&out, octets.len + 2 + sizeof octets.len, 1)) return NULL;
@@ -302,8 +300,7 @@ static PyObject *identifier_der(PyObject *self, void *closure) {
 }
 
 /* The octets of a parent are a prefix, of the length that a call without output needs. */
-static PyObject *identifier_parent(PyObject *self, void *closure) {
-    (void)closure;
+static PyObject *identifier_parent(PyObject *self, void *Py_UNUSED(closure)) {
     const_oid_octets octets = octets_of(self);
     const_oid_status status = const_oid_parent(octets.octets, octets.len, NULL, 0);
     if (status.code == CONST_OID_NONE) Py_RETURN_NONE;
@@ -351,8 +348,7 @@ static PyObject *identifier_format(PyObject *self, PyObject *specification) {
     return result;
 }
 
-static PyObject *identifier_bytes(PyObject *self, PyObject *none) {
-    (void)none;
+static PyObject *identifier_bytes(PyObject *self, PyObject *Py_UNUSED(none)) {
     return Py_NewRef(((Identifier *)self)->octets);
 }
 
@@ -425,27 +421,23 @@ BY_FUNCTION(pydantic_schema)
 BY_FUNCTION(pydantic_validators)
 
 /* numpy takes an identifier as one value, and not as a sequence. */
-static PyObject *identifier_array(PyObject *self, PyObject *arguments, PyObject *keywords) {
-    (void)arguments, (void)keywords;
+static PyObject *identifier_array(PyObject *self, PyObject *Py_UNUSED(arguments), PyObject *Py_UNUSED(keywords)) {
     return supported("as_array", Py_BuildValue("(O)", self));
 }
 
-static PyObject *identifier_reduce(PyObject *self, PyObject *none) {
-    (void)none;
+static PyObject *identifier_reduce(PyObject *self, PyObject *Py_UNUSED(none)) {
     if (!is_plain(Py_TYPE(self))) return supported("reduced", Py_BuildValue("(O)", self));
     PyObject *restored = attribute(PyType_GetModule(Py_TYPE(self)), "restored");
     return restored ? Py_BuildValue("N(O)", restored, ((Identifier *)self)->octets) : NULL;
 }
 
 /* The text of a code and its detail, or None. */
-static PyObject *error_text(PyObject *module, PyObject *arguments) {
-    (void)module;
+static PyObject *error_text(PyObject *Py_UNUSED(module), PyObject *arguments) {
     char text[CONST_OID_MAX_ERROR_TEXT];
     long long code, detail;
     if (!PyArg_ParseTuple(arguments, "LL", &code, &detail)) return NULL;
     if (code != (uint32_t)code || detail != (uint32_t)detail) {
-        PyErr_SetString(PyExc_OverflowError, "a number has 32 bits");
-        return NULL;
+        return PyErr_Format(PyExc_OverflowError, "a number has 32 bits");
     }
     const_oid_status status = const_oid_error_text((uint32_t)code, (uint32_t)detail, text, sizeof text);
     if (status.code) Py_RETURN_NONE;
@@ -453,8 +445,7 @@ static PyObject *error_text(PyObject *module, PyObject *arguments) {
 }
 
 /* The index of the first wrong component of a text in UTF-8, or None if it is valid. */
-static PyObject *wrong_component(PyObject *module, PyObject *text) {
-    (void)module;
+static PyObject *wrong_component(PyObject *Py_UNUSED(module), PyObject *text) {
     char *bytes;
     Py_ssize_t len;
     if (PyBytes_AsStringAndSize(text, &bytes, &len)) return NULL;
@@ -463,124 +454,75 @@ static PyObject *wrong_component(PyObject *module, PyObject *text) {
     return PyLong_FromSize_t(status.len);
 }
 
-PyDoc_STRVAR(identifier_doc, "ObjectIdentifier(text)\n--\n\n\
-An object identifier: at least two arcs of 32 bits.\n\
-\n\
-The constructor parses dotted text, or returns an identifier that it is given. There may be any number of arcs.\n\
-\n\
->>> oid = ObjectIdentifier(\"2.999.3\")\n\
->>> oid\n\
-ObjectIdentifier('2.999.3')\n\
-\n\
-It is an immutable sequence of its arcs (collections.abc.Sequence).\n\
-\n\
->>> len(oid), oid[1], oid[-2:], list(oid), 999 in oid\n\
-(3, 999, (999, 3), [2, 999, 3], True)\n\
-\n\
-It is hashable, and ordered by its arcs, as in SNMP. No tuple or text equals it.\n\
-\n\
->>> sorted(map(ObjectIdentifier, [\"1.10\", \"1.2.3\", \"1.2\"]))\n\
-[ObjectIdentifier('1.2'), ObjectIdentifier('1.2.3'), ObjectIdentifier('1.10')]\n\
->>> oid == (2, 999, 3), oid == \"2.999.3\", oid.arcs == (2, 999, 3), str(oid) == \"2.999.3\"\n\
-(False, False, True, True)\n\
->>> f\"{oid:>10}\"\n\
-'   2.999.3'\n\
->>> match oid:\n\
-...     case ObjectIdentifier((2, 999, *rest)):\n\
-...         print(rest)\n\
-[3]\n\
-\n\
-numpy takes it as one value: numpy.array makes an array of objects from a list of identifiers.\n\
-\n\
-What makes an identifier of a subclass (from_bytes, parent, a copy ..) calls it with an ObjectIdentifier, so its\n\
-__init__ runs. Copies and pickles then also get the attributes.\n\
-\n\
->>> class Named(ObjectIdentifier):\n\
-...     def __init__(self, text):\n\
-...         self.name = names.name_of(ObjectIdentifier(text))\n\
->>> Named(\"2.5.4\").child(3).name\n\
-'cn'");
-
-PyDoc_STRVAR(from_bytes_doc, "from_bytes($type, octets, /)\n--\n\n\
-Decodes contents octets: those after the tag and the length. An element, or the bytes of a text, is read without\n\
-an error as another identifier: from_der takes an element, and ObjectIdentifier a text.\n\
-\n\
->>> ObjectIdentifier.from_bytes(b\"\\x2a\\x86\\x48\"), ObjectIdentifier.from_bytes(b\"1.2\")\n\
-(ObjectIdentifier('1.2.840'), ObjectIdentifier('1.9.46.50'))");
-
-PyDoc_STRVAR(from_der_doc, "from_der($type, octets, /)\n--\n\n\
-Decodes a whole element of DER: the tag 6, the length and the contents octets, with nothing after them.\n\
-\n\
->>> ObjectIdentifier.from_der(b\"\\x06\\x03\\x2a\\x86\\x48\")\n\
-ObjectIdentifier('1.2.840')");
-
-PyDoc_STRVAR(read_der_doc, "read_der($type, octets, /)\n--\n\n\
-Decodes the element that octets begin with, and returns the identifier and the octets after it.\n\
-\n\
->>> ObjectIdentifier.read_der(b\"\\x06\\x03\\x2a\\x86\\x48\\x05\\x00\")\n\
-(ObjectIdentifier('1.2.840'), b'\\x05\\x00')");
-
-PyDoc_STRVAR(der_doc, "The element of DER: the tag 6, the length and the contents octets.\n\
-\n\
->>> ObjectIdentifier(\"1.2.840\").der\n\
-b'\\x06\\x03*\\x86H'");
-
-PyDoc_STRVAR(from_arcs_doc, "from_arcs($type, arcs, /)\n--\n\n\
-Encodes arcs. One past 32 bits has the same error as in text, and a negative one is a ValueError. All arcs are\n\
-read first, so it does not return if they have no end.\n\
-\n\
->>> ObjectIdentifier.from_arcs([1, 2, 840])\n\
-ObjectIdentifier('1.2.840')\n\
->>> ObjectIdentifier.from_arcs([1, -2])\n\
-Traceback (most recent call last):\n\
-ValueError: an arc is negative: -2");
-
-PyDoc_STRVAR(arcs_doc, "All arcs, as a tuple.\n\
-\n\
->>> ObjectIdentifier(\"2.999\").arcs\n\
-(2, 999)");
-
-PyDoc_STRVAR(parent_doc, "The parent: all arcs except the last. None if there are only two.\n\
-\n\
->>> ObjectIdentifier(\"1.2.840\").parent\n\
-ObjectIdentifier('1.2')\n\
->>> ObjectIdentifier(\"1.2\").parent is None\n\
-True");
-
-PyDoc_STRVAR(child_doc, "child($self, arc, /)\n--\n\n\
-The child with one more arc, which is its last.\n\
-\n\
->>> ObjectIdentifier(\"1.2\").child(840)\n\
-ObjectIdentifier('1.2.840')");
-
-PyDoc_STRVAR(starts_with_doc, "starts_with($self, prefix, /)\n--\n\n\
-Whether the arcs begin with those of a prefix: whether it is this identifier or an ancestor.\n\
-\n\
->>> oid = ObjectIdentifier(\"1.2.840\")\n\
->>> oid.starts_with(ObjectIdentifier(\"1.2\")), oid.starts_with(oid), oid.starts_with(ObjectIdentifier(\"1.28\"))\n\
-(True, True, False)");
-
-PyDoc_STRVAR(index_doc, "index($self, arc, start=0, stop=sys.maxsize, /)\n--\n\n\
-The first index of an arc, or a ValueError.\n\
-\n\
->>> ObjectIdentifier(\"1.2.840.2\").index(2)\n\
-1");
-
-PyDoc_STRVAR(count_doc, "count($self, arc, /)\n--\n\n\
-How often an arc occurs.\n\
-\n\
->>> ObjectIdentifier(\"1.2.840.2\").count(2)\n\
-2");
+PyDoc_STRVAR(identifier_doc,
+    "ObjectIdentifier(text)\n--\n\n"
+    "An object identifier: at least two arcs of 32 bits.\n\n"
+    "The constructor parses dotted text of any length, or returns an identifier that it is given.\n\n"
+    ">>> oid = ObjectIdentifier(\"2.999.3\")\n\n"
+    "It is an immutable sequence of its arcs (collections.abc.Sequence).\n\n"
+    ">>> len(oid), oid[1], oid[-2:], list(oid), 999 in oid\n"
+    "(3, 999, (999, 3), [2, 999, 3], True)\n\n"
+    "It is hashable, and ordered by its arcs, as in SNMP. No tuple or text equals it.\n\n"
+    ">>> sorted(map(ObjectIdentifier, [\"1.10\", \"1.2.3\", \"1.2\"]))\n"
+    "[ObjectIdentifier('1.2'), ObjectIdentifier('1.2.3'), ObjectIdentifier('1.10')]\n"
+    ">>> oid == (2, 999, 3), oid == \"2.999.3\", oid.arcs == (2, 999, 3), str(oid) == \"2.999.3\"\n"
+    "(False, False, True, True)\n"
+    ">>> match oid:\n"
+    "...     case ObjectIdentifier((2, 999, *rest)):\n"
+    "...         print(rest)\n"
+    "[3]\n\n"
+    "What makes an identifier of a subclass (from_bytes, parent, a copy ..) calls it with an ObjectIdentifier, so its\n"
+    "__init__ runs. Copies and pickles then also get the attributes.\n\n"
+    ">>> class Named(ObjectIdentifier):\n"
+    "...     def __init__(self, text):\n"
+    "...         self.name = names.name_of(ObjectIdentifier(text))\n"
+    ">>> Named(\"2.5.4\").child(3).name\n"
+    "'cn'");
 
 static PyMethodDef identifier_methods[] = {
-    {"from_bytes", identifier_from_bytes, METH_O | METH_CLASS, from_bytes_doc},
-    {"from_der", identifier_from_der, METH_O | METH_CLASS, from_der_doc},
-    {"read_der", identifier_read_der, METH_O | METH_CLASS, read_der_doc},
-    {"from_arcs", identifier_from_arcs, METH_O | METH_CLASS, from_arcs_doc},
-    {"child", identifier_child, METH_O, child_doc},
-    {"starts_with", identifier_starts_with, METH_O, starts_with_doc},
-    {"index", identifier_index, METH_VARARGS, index_doc},
-    {"count", identifier_count, METH_O, count_doc},
+    {"from_bytes", identifier_from_bytes, METH_O | METH_CLASS,
+        "from_bytes($type, octets, /)\n--\n\n"
+        "Decodes contents octets: those after the tag and the length. An element, or the bytes of a text, is read\n"
+        "without an error as another identifier: from_der takes an element, and ObjectIdentifier a text.\n\n"
+        ">>> ObjectIdentifier.from_bytes(b\"\\x2a\\x86\\x48\"), ObjectIdentifier.from_bytes(b\"1.2\")\n"
+        "(ObjectIdentifier('1.2.840'), ObjectIdentifier('1.9.46.50'))"},
+    {"from_der", identifier_from_der, METH_O | METH_CLASS,
+        "from_der($type, octets, /)\n--\n\n"
+        "Decodes a whole element of DER: the tag 6, the length and the contents octets, with nothing after them.\n\n"
+        ">>> ObjectIdentifier.from_der(b\"\\x06\\x03\\x2a\\x86\\x48\")\n"
+        "ObjectIdentifier('1.2.840')"},
+    {"read_der", identifier_read_der, METH_O | METH_CLASS,
+        "read_der($type, octets, /)\n--\n\n"
+        "Decodes the element that octets begin with, and returns the identifier and the octets after it.\n\n"
+        ">>> ObjectIdentifier.read_der(b\"\\x06\\x03\\x2a\\x86\\x48\\x05\\x00\")\n"
+        "(ObjectIdentifier('1.2.840'), b'\\x05\\x00')"},
+    {"from_arcs", identifier_from_arcs, METH_O | METH_CLASS,
+        "from_arcs($type, arcs, /)\n--\n\n"
+        "Encodes arcs. One past 32 bits has the same error as in text, and a negative one is a ValueError. All arcs\n"
+        "are read first, so it does not return if they have no end.\n\n"
+        ">>> ObjectIdentifier.from_arcs([1, 2, 840])\n"
+        "ObjectIdentifier('1.2.840')"},
+    {"child", identifier_child, METH_O,
+        "child($self, arc, /)\n--\n\n"
+        "The child with one more arc, which is its last.\n\n"
+        ">>> ObjectIdentifier(\"1.2\").child(840)\n"
+        "ObjectIdentifier('1.2.840')"},
+    {"starts_with", identifier_starts_with, METH_O,
+        "starts_with($self, prefix, /)\n--\n\n"
+        "Whether the arcs begin with those of a prefix: whether it is this identifier or an ancestor.\n\n"
+        ">>> oid = ObjectIdentifier(\"1.2.840\")\n"
+        ">>> [oid.starts_with(ObjectIdentifier(text)) for text in (\"1.2\", \"1.2.840\", \"1.28\")]\n"
+        "[True, True, False]"},
+    {"index", identifier_index, METH_VARARGS,
+        "index($self, arc, start=0, stop=sys.maxsize, /)\n--\n\n"
+        "The first index of an arc, or a ValueError.\n\n"
+        ">>> ObjectIdentifier(\"1.2.840.2\").index(2)\n"
+        "1"},
+    {"count", identifier_count, METH_O,
+        "count($self, arc, /)\n--\n\n"
+        "How often an arc occurs.\n\n"
+        ">>> ObjectIdentifier(\"1.2.840.2\").count(2)\n"
+        "2"},
     {"__bytes__", identifier_bytes, METH_NOARGS, "__bytes__($self, /)\n--\n\nThe contents octets."},
     {"__format__", identifier_format, METH_O, "__format__($self, specification, /)\n--\n\nFormats str(self)."},
     {"__copy__", identifier_copied, METH_VARARGS, "__copy__($self, /)\n--\n\nItself, unless of a subclass."},
@@ -595,9 +537,18 @@ static PyMethodDef identifier_methods[] = {
 };
 
 static PyGetSetDef identifier_properties[] = {
-    {"arcs", identifier_arcs, NULL, arcs_doc, NULL},
-    {"der", identifier_der, NULL, der_doc, NULL},
-    {"parent", identifier_parent, NULL, parent_doc, NULL},
+    {"arcs", identifier_arcs, NULL,
+        "All arcs, as a tuple.\n\n"
+        ">>> ObjectIdentifier(\"2.999\").arcs\n"
+        "(2, 999)", NULL},
+    {"der", identifier_der, NULL,
+        "The element of DER: the tag 6, the length and the contents octets.\n\n"
+        ">>> ObjectIdentifier(\"1.2.840\").der\n"
+        "b'\\x06\\x03*\\x86H'", NULL},
+    {"parent", identifier_parent, NULL,
+        "The parent: all arcs except the last. None if there are only two.\n\n"
+        ">>> ObjectIdentifier(\"1.2.840\").parent\n"
+        "ObjectIdentifier('1.2')", NULL},
     {0},
 };
 
@@ -678,8 +629,7 @@ static PyModuleDef_Slot module_slots[] = {
 };
 
 static struct PyModuleDef module = {
-    PyModuleDef_HEAD_INIT, "_native", "Identifiers over the library const_oid_c.", 0, module_methods, NULL, NULL, NULL,
-    NULL,
+    PyModuleDef_HEAD_INIT, .m_name = "_native", .m_doc = "Identifiers over const_oid_c.", .m_methods = module_methods,
 };
 
 PyMODINIT_FUNC PyInit__native(void) {

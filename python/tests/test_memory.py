@@ -40,24 +40,17 @@ def raised(call, *given):
     raise AssertionError("there is no error")
 
 
-def matched(oid):
-    match oid:
-        case ObjectIdentifier((1, 2, *rest)):
-            return rest
-    return None
-
-
 # Calls with an identifier that is made anew each time.
 OF_FRESH = {
     "text": lambda oid: (ObjectIdentifier(str(oid)), ObjectIdentifier(text=str(oid)), Under(str(oid))),
-    "wrong text": lambda oid: (raised(ObjectIdentifier, f"{oid}.x"), raised(ObjectIdentifier, f"{oid}.\ud800")),
+    "wrong text": lambda oid: [raised(ObjectIdentifier, given) for given in (f"{oid}.x", f"{oid}.\ud800", 1)],
     "identifier": lambda oid: (ObjectIdentifier(oid), Under(oid), Under(Under(oid))),
     "octets": lambda oid: [Under.from_bytes(kind(bytes(oid))) for kind in (bytes, bytearray, memoryview)],
     "wrong octets": lambda oid: raised(ObjectIdentifier.from_bytes, bytes(oid) + WRONG),
     "der": lambda oid: (Under.from_der(oid.der), Under.read_der(bytearray(oid.der + WRONG))),
     "wrong der": lambda oid: [raised(ObjectIdentifier.from_der, der) for der in (oid.der + WRONG, bytes(oid), "2")],
     "arcs": lambda oid: (ObjectIdentifier.from_arcs(oid.arcs), Under.from_arcs(list(oid)), Under.from_arcs(oid)),
-    "wrong arcs": lambda oid: raised(ObjectIdentifier.from_arcs, [3, *oid]),
+    "wrong arcs": lambda oid: (raised(ObjectIdentifier.from_arcs, [3, *oid]), raised(oid.from_arcs, bytes(oid))),
     "wrong arc": lambda oid: [raised(ObjectIdentifier.from_arcs, [*oid, arc]) for arc in (2**70, -2, "2")],
     "parent": lambda oid: (oid.parent, Under(oid).parent, OTHER.parent),
     "child": lambda oid: (oid.child(2**32 - 1), Under(oid).child(4)),
@@ -68,7 +61,7 @@ OF_FRESH = {
     "hash": lambda oid: ({oid: 1}, hash(Under(oid))),
     "sequence": lambda oid: (len(oid), oid[-1], oid[1:], list(oid), oid.count(1), raised(operator.getitem, oid, "")),
     "index": lambda oid: (oid.index(oid[2]), raised(oid.index, 7 * 10**9), raised(oid.index)),
-    "in": lambda oid: (oid[2] in oid, int("70000") in oid, "1" in oid, matched(oid)),
+    "in": lambda oid: (oid[2] in oid, int("70000") in oid, "1" in oid),
     "copies": lambda oid: (copy.copy(oid), copy.deepcopy(oid), copy.copy(Under(oid)), copy.deepcopy(Under(oid))),
     "pickles": lambda oid: pickle.loads(pickle.dumps((oid, Under(oid)))),
     "map": lambda oid: (SortedMap({oid: 1}).nearest(oid.child(1)), SortedMap({oid: 1}).next_after(OTHER)),
@@ -79,8 +72,6 @@ CALLS = {
     for kind, octets in OCTETS.items()
 }
 CALLS |= {
-    "short text": lambda: (ObjectIdentifier("2.999.3"), raised(ObjectIdentifier, 1), raised(ObjectIdentifier, "3.2")),
-    "short arcs": lambda: (ObjectIdentifier.from_arcs([2, 999, 2**32 - 1]), raised(ObjectIdentifier.from_arcs, b"")),
     "error": lambda: [str(OidError(code, detail)) for code in Code for detail in (0, 255, 256, 2**32 - 1)],
     "wrong error": lambda: (raised(OidError, 4, 2**32), raised(OidError, 2**70, 0), raised(OidError, "4", 0)),
 }

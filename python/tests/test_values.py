@@ -1,14 +1,11 @@
-"""ObjectIdentifier and OidError as values of Python: their inputs, copies, pickles, threads and interpreters."""
+"""ObjectIdentifier and OidError as values of Python: their inputs, copies, pickles and interpreters."""
 import array
 import collections.abc
-import concurrent.futures
 import copy
 import operator
 import os
 import pickle
 import random
-import sys
-import threading
 import time
 import unittest
 import weakref
@@ -24,31 +21,21 @@ GREATEST = b"\x8f\xff\xff\xff\x7f"
 WRONG = [
     (ObjectIdentifier, 5, "OID value is empty", {"": (0, 0)}),
     (ObjectIdentifier, 5, "an identifier has two arcs or more", {"1": (0, 0)}),
-    (ObjectIdentifier, 1, "OID contains out-of-range arc: 3", {"3": (3, 0), "3.4": (3, 0)}),
     (ObjectIdentifier, 1, "OID contains out-of-range arc: 40", {"1.40.x": (40, 1)}),
     (ObjectIdentifier, 2, "OID contains arc which is larger than 32-bits", {"2.99999999999": (0, 1)}),
     (ObjectIdentifier, 9, "OID ends with invalid trailing '.'", {"1.": (0, 0), "3.": (0, 0), "1.2.": (0, 1)}),
-    (ObjectIdentifier, 9, "OID ends with invalid trailing '.'", {"1.40.": (0, 1), "1.2.3.": (0, 2)}),
     (ObjectIdentifier, 8, "repeated consecutive '..' characters in OID", {"1..2": (0, 1), "1..": (0, 1)}),
-    (ObjectIdentifier, 8, "repeated consecutive '..' characters in OID", {"1.2.3..4": (0, 3)}),
     (ObjectIdentifier, 4, "expected digit, got '.'", {".": (46, 0), "..": (46, 0)}),
     (ObjectIdentifier, 4, "expected digit, got '.' (remove the first dot)", {".1.3.6": (46, 0)}),
-    (ObjectIdentifier, 4, "expected digit, got ' '", {" 1.2": (32, 0), "1.2. ": (32, 2)}),
     (ObjectIdentifier, 4, "expected digit, got 'x'", {"x.2": (120, 0), "1.2.3x.y": (120, 2)}),
     (ObjectIdentifier, 4, r"expected digit, got '\x00'", {"1.2\0.3": (0, 1)}),
-    (ObjectIdentifier, 4, r"expected digit, got '\n'", {"1.2\n": (10, 1)}),
-    (ObjectIdentifier, 4, r"expected digit, got '\x1b'", {"1.3.\x1b[31m": (27, 2)}),
     (ObjectIdentifier, 4, r"expected digit, got '\u2028'", {"1.2.\u2028": (0xE2, 2)}),
-    (ObjectIdentifier, 4, "expected digit, got 'é'", {"1.é": (0xC3, 1)}),
-    (ObjectIdentifier, 4, "expected digit, got '٣'", {"1.2.٣": (0xD9, 2)}),
     (ObjectIdentifier, 4, "expected digit, got 'ü'", {"1.2.ü٣": (0xC3, 2)}),
     (ObjectIdentifier, 4, "expected digit, got '😀'", {"1.2.😀.x": (0xF0, 2)}),
     (ObjectIdentifier, 11, "the text is not UTF-8", {"1.\ud800": (0, 1), "1.2.\ud800": (0, 2)}),
     (ObjectIdentifier.from_bytes, 5, "OID value is empty", {b"": (0, None)}),
-    (ObjectIdentifier.from_bytes, 3, "OID contains arc with invalid base 128 encoding",
-        {b"\x80": (0, None), b"\x2a\x80\x01": (0, None), b"\x2a\0\x80": (0, None)}),
+    (ObjectIdentifier.from_bytes, 3, "OID contains arc with invalid base 128 encoding", {b"\x2a\x80\x01": (0, None)}),
     (ObjectIdentifier.from_der, 5, "OID value is empty", {b"\6\0": (0, None)}),
-    (ObjectIdentifier.from_der, 3, "OID contains arc with invalid base 128 encoding", {b"\6\2\x2a\x80\0": (0, None)}),
     (ObjectIdentifier.from_der, 14, "the tag is not 6", {b"": (0, None), b"\x26\1\x2a": (0, None)}),
     (ObjectIdentifier.from_der, 14, "octets come after the element", {b"\6\1\x2a\0": (0, None)}),
     (ObjectIdentifier.read_der, 14, "the length is not in the form of DER, or octets are missing",
@@ -58,19 +45,16 @@ WRONG = [
     (ObjectIdentifier.from_arcs, 2, "OID contains arc which is larger than 32-bits", {(1, 2, 2**32): (0, None)}),
     (ObjectIdentifier.from_arcs, 1, "OID contains out-of-range arc: 3", {(3, 2**32): (3, None)}),
     (OID.child, 2, "OID contains arc which is larger than 32-bits", {2**32: (0, None)}),
-    (LONG.child, 2, "OID contains arc which is larger than 32-bits", {2**32: (0, None)}),
 ]
 
 
 INTERPRETED = """
 import os, const_oid
-from const_oid import ObjectIdentifier
-oid = ObjectIdentifier("2.999.3")
 try:
-    ObjectIdentifier("1.40")
+    const_oid.ObjectIdentifier("1.40")
 except const_oid.OidError as error:
-    said = f"{{oid.parent}} {{len({{oid, ObjectIdentifier(oid)}})}} {{error.detail}} {{id(ObjectIdentifier)}}\\n"
-    os.write({}, said.encode())
+    parent = const_oid.ObjectIdentifier("2.999.3").parent
+    os.write({}, f"{{parent}} {{error.detail}} {{id(type(parent))}}\\n".encode())
 """
 
 
@@ -78,8 +62,8 @@ class Under(ObjectIdentifier):
     __slots__ = ()
 
 
-class Named(ObjectIdentifier):
-    """A subclass whose __init__ sets attributes, one of them in a slot."""
+class Named(collections.abc.Sized, Under):
+    """A subclass with another base, whose __init__ sets attributes, one of them in a slot."""
 
     __slots__ = ("__dict__", "slot")
 
@@ -111,6 +95,12 @@ def error_of(call, *given):
     return None
 
 
+def seconds(call, *given):
+    start = time.process_time()
+    call(*given)
+    return time.process_time() - start
+
+
 def copies_of(value, protocols=range(pickle.HIGHEST_PROTOCOL + 1)):
     """Pickles, and deep copies."""
     pickles = [pickle.loads(pickle.dumps(value, protocol)) for protocol in protocols]
@@ -138,23 +128,22 @@ class Inputs(unittest.TestCase):
     def test_octets_come_from_any_buffer(self):
         for call, octets in ((ObjectIdentifier.from_bytes, OCTETS), (ObjectIdentifier.from_der, b"\6\7" + OCTETS)):
             source = bytearray(octets)
-            taken = [call(given) for given in (octets, source, memoryview(source))]
-            taken.append(call(memoryview(bytes(2 * octet for octet in octets[:1]) + octets)[1:]))
-            taken.append(call(memoryview(octets[::-1])[::-1]))
-            taken.append(call(type("Octets", (bytes,), {})(octets)))
+            given = [octets, source, memoryview(source), memoryview(b"\0" + octets)[1:], memoryview(octets[::-1])[::-1]]
+            taken = [call(octets) for octets in (*given, type("Octets", (bytes,), {})(octets))]
             source[:] = bytes(len(source))
             self.assertEqual([(bytes, OCTETS)] * 6, [(type(bytes(oid)), bytes(oid)) for oid in taken])
 
     def test_arcs_come_from_any_iterable(self):
+        """Arcs are those of a list before it changes, and no other call comes between them."""
         self.assertEqual((2, 999, 1), ObjectIdentifier.from_arcs(iter([2, Index(), True])).arcs)
         self.assertEqual((2, 5, 999), ObjectIdentifier("2.5").child(Index()).arcs)
         self.assertEqual((2, 5), ObjectIdentifier.from_arcs(ObjectIdentifier("2.5")).arcs)
-
-    def test_arcs_are_those_of_a_list_before_it_changes(self):
         for change in ("clear", "pop", "reverse"):
             arcs = [2]
             arcs += [Index(getattr(arcs, change)), 3, 4]
             self.assertEqual((2, 999, 3, 4), ObjectIdentifier.from_arcs(arcs).arcs, change)
+        other = Index(lambda: ObjectIdentifier.from_arcs((1, 2, 5)))
+        self.assertEqual((2, 999, 3, 4), ObjectIdentifier.from_arcs((2, other, 3, 4)).arcs)
 
     def test_errors_of_python_say_what_to_do(self):
         others = [("cryptography.x509", "dotted_string", ".dotted_string"), ("asn1crypto.core", "dotted", ".dotted")]
@@ -227,8 +216,7 @@ class Inputs(unittest.TestCase):
                 self.assertTrue(before + start in text and len(text) < 130, text)
 
     def test_identifiers_have_any_length(self):
-        """Identifiers of up to 350,000 octets, of the greatest arcs in one octet and of the greatest of all, work as
-        short ones, as do errors. The text has up to four bytes for each octet."""
+        """Up to 350,000 octets, of the greatest arcs in one octet, whose text has four bytes for each, and of all."""
         greatest = (b"\x7f", b"\x7f", 47, 127), (b"\x90\x80\x80\x80\x4f", GREATEST, *[2**32 - 1] * 2)
         for count in (126, 127, 128, 253, 254, 255, 256, 257, 1000, 65_534, 65_535, 70_000):
             for first, later, second, arc in greatest:
@@ -236,43 +224,30 @@ class Inputs(unittest.TestCase):
                     self.check_length((2, second, *[arc] * count), first + later * count)
 
     def check_length(self, arcs, octets):
-        """All calls with an identifier, one that differs in the last arc, and errors at the end. A difference of long
-        values would take minutes to print."""
+        """Calls that have an output, and errors at the end. A difference of long values would take minutes to print."""
         *before, last = arcs
         text = ".".join(map(str, arcs))
         oid, same = ObjectIdentifier(text), ObjectIdentifier.from_bytes(octets)
-        other, child = ObjectIdentifier.from_arcs((*before, last - 1)), oid.child(2**32 - 1)
+        child = oid.child(2**32 - 1)
         self.assertTrue((octets, octets) == (bytes(oid), bytes(ObjectIdentifier.from_arcs(arcs))))
         self.assertTrue((len(arcs), arcs, text) == (len(oid), oid.arcs, str(oid)))
         self.assertTrue((arcs[1:], arcs[::-1], arcs.count(last)) == (oid[1:], oid[::-1], oid.count(last)))
         self.assertTrue((f"ObjectIdentifier('{text}')", same, hash(same)) == (repr(oid), oid, hash(oid)))
         self.assertTrue((octets + GREATEST, octets) == (bytes(child), bytes(child.parent)))
         self.assertTrue((oid, tuple(before)) == (oid.parent.child(last), oid.parent.arcs))
-        size = len(octets).to_bytes((len(octets).bit_length() + 7) // 8, "big")
-        der = b"\6" + (size if len(octets) < 128 else bytes([128 + len(size)]) + size) + octets
-        self.assertTrue((der, oid, (oid, b"\0")) == (oid.der, oid.from_der(der), oid.read_der(der + b"\0")))
-        self.assertEqual((False, True, True), (oid == other, oid != other, hash(oid) != hash(other)))
-        self.assertEqual((False, True), (oid < other, other < oid))
-        self.assertEqual((False, True, True), tuple(map(oid.starts_with, (other, same, oid.parent))))
-        for end, args in {".x": (4, 120), ".": (9, 0), "..1": (8, 0), ".4294967296": (2, 0)}.items():
-            self.assertEqual(args, error_of(ObjectIdentifier, text + end).args)
+        self.assertTrue((oid, (oid, b"\0")) == (oid.from_der(oid.der), oid.read_der(oid.der + b"\0")))
+        self.assertEqual((4, 120), error_of(ObjectIdentifier, text + ".x").args)
         self.assertEqual((3, 0), error_of(ObjectIdentifier.from_bytes, octets + b"\x80").args)
         self.assertEqual((2, 0), error_of(ObjectIdentifier.from_arcs, (*arcs, 2**32)).args)
 
     def test_long_texts_take_linear_time(self):
         """Eight times as long a text takes less than 24 times as long, as an identifier and as an error."""
-
-        def seconds(text):
-            start = time.process_time()
-            try:
-                str(ObjectIdentifier(text))
-            except OidError as error:
-                self.assertEqual(text.count("."), error.piece)
-            return time.process_time() - start
-
-        for end in ("", ".x"):
+        printed, piece = lambda text: str(ObjectIdentifier(text)), lambda text: error_of(ObjectIdentifier, text).piece
+        for end, call in {"": printed, ".x": piece}.items():
             short, long = ("1.2" + ".4294967295.7" * count + end for count in (10_000, 80_000))
-            self.assertLess(min(seconds(long) for _ in range(3)), 24 * min(seconds(short) for _ in range(5)))
+            self.assertEqual(160_002 if end else long, call(long))
+            limit = 24 * min(seconds(call, short) for _ in range(5))
+            self.assertLess(min(seconds(call, long) for _ in range(3)), limit)
 
 
 class Values(unittest.TestCase):
@@ -292,13 +267,6 @@ class Values(unittest.TestCase):
         for oid, text in zip(made, [*["2.999"] * 6, "1.2"]):
             self.assertEqual((Named, text, text, 1), (type(oid), str(oid), oid.text, oid.calls))
         self.assertEqual("2.999.7", source.child(7).text)
-
-        class Two(ObjectIdentifier):
-            def __new__(cls, text, other):
-                return super().__new__(cls, text)
-
-        for call, given in ((Two.from_arcs, (1, 2)), (Two("1.2", 0).child, 3)):
-            self.assertIs(TypeError, type(error_of(call, given)))
 
     def test_copies_of_a_subclass_have_its_attributes(self):
         """Copies and pickles have all attributes: deep copies have copies of them, and may be cyclic."""
@@ -324,20 +292,6 @@ class Values(unittest.TestCase):
         wrong = pickle.dumps(OID, 4).replace(OCTETS, OCTETS[:-1] + b"\x80")
         self.assertEqual((3, 0), error_of(pickle.loads, wrong).args)
 
-    def test_subclasses_have_slots_attributes_and_bases(self):
-        """Subclasses have slots, attributes and other bases as those of other classes do."""
-
-        class Named(ObjectIdentifier):
-            __slots__ = ("name",)
-
-        class Attributes(collections.abc.Sized, ObjectIdentifier):
-            pass
-
-        named, attributes = Named("1.2"), Attributes("1.2.3")
-        named.name, attributes.name, Attributes.other = "n", "a", 1
-        self.assertEqual(("n", "a", 1), (named.name, attributes.name, attributes.other))
-        self.assertEqual(((1, 2, 3), True), (attributes.arcs, attributes.starts_with(named)))
-
     def test_nothing_changes_an_identifier(self):
         for name in ("arcs", "der", "parent", "_octets", "_known", "other"):
             for call in ((setattr, OID, name, 1), (delattr, OID, name)):
@@ -345,14 +299,12 @@ class Values(unittest.TestCase):
         changes = [(operator.setitem, OID, 0, 1), (operator.delitem, OID, 0), (setattr, OID, "__class__", Under)]
         for call in [*changes, (setattr, ObjectIdentifier, "other", 1), (delattr, ObjectIdentifier, "child")]:
             self.assertIs(TypeError, type(error_of(*call)), call)
+        setattr(type("Other", (ObjectIdentifier,), {}), "other", 1)
         OID.__init__("2.5")
         self.assertEqual("1.2.840.10045.2.1", str(OID))
         self.assertFalse(hasattr(OID, "__dict__"))
 
-    def test_equal_identifiers_are_one_key(self):
-        same = ObjectIdentifier.from_bytes(OCTETS)
-        self.assertEqual({OID: 1}, {same: 1})
-        self.assertEqual(1, len({OID, same, ObjectIdentifier("01.2.840.10045.2.1")}))
+    def test_no_other_value_is_equal_or_ordered(self):
         for other in (str(OID), OCTETS, OID.arcs, None):
             self.assertEqual((False, True), (OID == other, OID != other))
             for order in (operator.lt, operator.le, operator.gt, operator.ge):
@@ -375,8 +327,6 @@ class Values(unittest.TestCase):
     def test_an_identifier_is_a_sequence(self):
         self.assertEqual([1, 2, 840, 10045, 2, 1], list(OID))
         self.assertEqual((6, 1, 1, (10045, 1)), (len(OID), OID[0], OID[-1], OID[3::2]))
-        several = ObjectIdentifier.from_arcs([2, *range(3, 300, 3)])
-        self.assertEqual([arc for arc in range(310) if arc in several], list(several))
         self.assertEqual((True, False, True, False), (840 in OID, 841 in OID, True in OID, 10**5000 in OID))
         self.assertEqual([False, False, False, True], [item in OID for item in ("1", None, OID, 1.0)])
         self.assertEqual((1, 4, 2), (OID.index(2), OID.index(2, 2), OID.count(1)))
@@ -404,24 +354,18 @@ class Values(unittest.TestCase):
         del oid, plain
         self.assertEqual(([None, None], references), ([reference() for reference in references], seen))
 
-    def test_copies_of_an_error_have_its_fields(self):
-        error = error_of(ObjectIdentifier, "1.40")
-        for other in [error, *copies_of(error), copy.copy(error)]:
-            self.assertEqual((OidError, True), (type(other), other.code is Code.ARC_INVALID))
-            self.assertEqual((40, "OID contains out-of-range arc: 40, given '1.40'"), (other.detail, str(other)))
-            self.assertEqual(("1.40", 1, (1, 40)), (other.given, other.piece, other.args))
-        self.assertEqual("OidError(Code.DIGIT_EXPECTED, 255)", repr(OidError(4, 255)))
-        self.assertEqual("OidError(Code.ARC_INVALID, 40, '1.40')", repr(error))
-        self.assertEqual("expected digit, got 'ÿ'", str(OidError(4, 255)))
-        self.assertEqual("DIGIT_EXPECTED 256", str(OidError(4, 256)))
-        self.assertEqual((None, None), (OidError(4, 120).piece, OidError(4, 120, "1.2").piece))
-
     def test_fields_of_an_error_are_attributes(self):
         """They may change, and are in vars and copies, also of a subclass with another base, or one that sets none."""
+        given = error_of(ObjectIdentifier, "1.40")
+        self.assertEqual({"code": Code.ARC_INVALID, "detail": 40, "given": "1.40"}, vars(given))
+        self.assertEqual((Code, "OidError(Code.ARC_INVALID, 40, '1.40')"), (type(given.code), repr(given)))
+        self.assertEqual("OidError(Code.DIGIT_EXPECTED, 255)", repr(OidError(4, 255)))
+        self.assertEqual(["expected digit, got 'ÿ'", "DIGIT_EXPECTED 256"], [str(OidError(4, n)) for n in (255, 256)])
+        self.assertEqual((None, None), (OidError(4, 120).piece, OidError(4, 120, "1.2").piece))
         old = b"cconst_oid\nOidError\n(I1\nI40\ntR(dVcode\ncconst_oid\nCode\n(I3\ntRsVdetail\nI7\nsVgiven\nVx\nsb."
         fields = {"code": Code.BASE128, "detail": 7, "given": "x"}
         self.assertEqual(fields, vars(pickle.loads(old)))
-        for error, wanted in ((OidError(1, 40), fields), (OfSystem(1, 40), fields), (Bare(1, 40), {})):
+        for error, wanted in ((given, fields), (OfSystem(1, 40), fields), (Bare(1, 40), {})):
             error.__setstate__(wanted)
             for other in [weakref.ref(error)(), copy.copy(error), *copies_of(error)]:
                 self.assertEqual((type(error), (1, 40), wanted), (type(other), other.args, vars(other)))
@@ -433,24 +377,6 @@ class Values(unittest.TestCase):
         for args in ((4, 2**32 + 120), (4, -1), (2**32 + 4, 120), (-1, 0), (4, 2**64 + 120)):
             self.assertIs(OverflowError, type(error_of(OidError, *args)), args)
         self.assertIs(ValueError, type(error_of(OidError, 99)))
-
-    def test_threads_do_not_mix_identifiers(self):
-        """Eight threads, each with identifiers and errors of its own."""
-        start = threading.Barrier(8)
-
-        def work(own):
-            start.wait()
-            for arc in range(own, 12_000, 8):
-                text = f"1.{own}.{arc}.{2**32 - 1 - arc}"
-                oid = ObjectIdentifier(text)
-                found = (str(oid), oid.child(own).arcs, str(oid.parent), hash(oid), OidError(1, arc).args)
-                wanted = (text, (1, own, arc, 2**32 - 1 - arc, own), f"1.{own}.{arc}", hash(bytes(oid)), (1, arc))
-                self.assertEqual(wanted, found)
-
-        self.addCleanup(sys.setswitchinterval, sys.getswitchinterval())
-        sys.setswitchinterval(1e-6)
-        with concurrent.futures.ThreadPoolExecutor(8) as threads:
-            list(threads.map(work, range(8)))
 
     def test_interpreters_have_their_own_class(self):
         try:
@@ -465,5 +391,5 @@ class Values(unittest.TestCase):
         os.close(write)
         with open(read, encoding="utf-8") as lines:
             said = [line.split() for line in lines]
-        self.assertEqual([["2.999", "1", "40"]] * 3, [words[:-1] for words in said])
+        self.assertEqual([["2.999", "40"]] * 3, [words[:-1] for words in said])
         self.assertNotIn(str(id(ObjectIdentifier)), [words[-1] for words in said])

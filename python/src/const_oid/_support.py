@@ -93,21 +93,15 @@ class OidError(ValueError):
 
 
 class _Field:
-    """Shows a field of an error in help and dir. The field is in vars(error), where it would be without this."""
+    """Shows a field of an error in help and dir. The field itself is in vars(error), which comes first."""
 
     def __init__(self, name: str, words: str) -> None:
         self.name, self.__doc__ = name, words
 
     def __get__(self, error: object, kind: type) -> Any:
-        if error is not None and self.name not in vars(error):
-            raise AttributeError(f"{kind.__name__!r} object has no attribute {self.name!r}")
-        return self if error is None else vars(error)[self.name]
-
-    def __set__(self, error: object, value: object) -> None:
-        vars(error)[self.name] = value
-
-    def __delete__(self, error: object) -> None:
-        del vars(error)[self.name]
+        if error is None:
+            return self
+        raise AttributeError(f"{kind.__name__!r} object has no attribute {self.name!r}")
 
 
 for _field in (
@@ -129,14 +123,9 @@ def _fault_of_element(octets: bytes) -> str:
     return "octets come after the element"
 
 
-class _Shown(reprlib.Repr):
-    """Shows a value as repr does, but cut if it is long."""
-
-    # One of more digits than Python prints is no error.
-    repr_int = reprlib.Repr.repr_instance
-
-
-SHOWN = _Shown()
+# Shows a value as repr does, but cut if it is long. An int of more digits than Python prints is no error.
+SHOWN = reprlib.Repr()
+setattr(SHOWN, "repr_int", SHOWN.repr_instance)
 SHOWN.maxstring = SHOWN.maxother = 60
 SHOWN.maxtuple = 12
 

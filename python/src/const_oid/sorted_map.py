@@ -168,10 +168,7 @@ class SortedMap(MutableMapping[ObjectIdentifier, Value]):
         self._keys.remove(key)
 
     def __contains__(self, key: object) -> bool:
-        if key in self._values:
-            return True
-        required(key, "key")
-        return False
+        return key in self._values or required(key, "key") in self._values
 
     def __iter__(self) -> Iterator[ObjectIdentifier]:
         return self._walk(iter)
