@@ -2,8 +2,17 @@
 
 ghost use Rattle.std.specs.Prelude.{◌≤◌};
 
-use crate::vectors::is_written;
 use const_oid::{Error, Oid};
+
+/// Whether an output, which held nothing but 0xEE, begins with these bytes, whose number was returned, and goes on as
+/// before. Without room for them it is as before.
+fn is_written(out: &[u8], bytes: &[u8], written: Option<usize>) -> bool {
+    let fits = bytes.len() <= out.len();
+    let start = if fits { bytes } else { &[] };
+    written == fits.then_some(bytes.len())
+        && out.starts_with(start)
+        && out.iter().skip(start.len()).all(|byte| *byte == 0xEE)
+}
 
 /// Whether `len` bytes begin with the text and go on as before, or, if they are fewer, are as before: the text of
 /// both forms, and that of an error.

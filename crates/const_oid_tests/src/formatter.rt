@@ -1,14 +1,12 @@
 //! What several tests share to print values: a formatter's target that takes one text alone and may fail a write.
 
-use crate::vectors::long_text;
 use std::alloc::{AllocError, Global};
 use std::fmt;
 use std::fmt::{Debug, Display, Write};
 
 /// Whether a value prints as this text, plain and under each option, alone and together.
 pub fn prints<T: Display>(alloc: Global, value: &T, text: &str) -> Result<bool, AllocError> {
-    let column = long_text(alloc, text, 1, "|", "")?;
-    let texts = long_text(alloc, "", 11, column.as_str(), "")?;
+    let texts = format!(in alloc; "{text}|")?.repeat(alloc, 11)?;
     let mut target = OneText::of(texts.as_str());
     let written = write!(
         target,

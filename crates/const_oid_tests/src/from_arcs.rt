@@ -5,9 +5,10 @@ ghost use Rattle.const_oid.specs.Identifier.{root_rule};
 ghost use Rattle.const_oid.specs.Items.{item_answer};
 ghost use Rattle.const_oid.specs.Oid.{oid_arcs, oid_answer};
 
-use crate::vectors::{accepted_rows, is_answer};
+use crate::vectors::{accepted_rows, read_borrowed};
 use const_oid::{Arc, Arcs, Error, ObjectIdentifier, Oid};
-use std::alloc::{AllocError, Global};
+use std::alloc::Global;
+use std::test::Fail;
 
 fn from_array(arcs: [Arc; 3]) -> Result<Oid, Error>
     ensures { oid_answer result ≡ item_answer root_rule arcs 39 }
@@ -40,25 +41,20 @@ fn again(oid: &Oid) -> Result<Oid, Error>
     from_rest(oid.arcs())
 }
 
-/// Whether a slice, a list and an identifier of these arcs are accepted with these octets.
-fn are_accepted(alloc: Global, arcs: &[Arc], octets: &[u8]) -> Result<bool, AllocError> {
-    let Ok(oid) = from_slice(arcs) else {
-        return Ok(false);
-    };
-    let listed = from_vec(arcs.to_vec(alloc)?);
-    Ok(
-        oid.as_bytes() == octets
-            && is_answer(again(&oid), Ok(octets))
-            && is_answer(listed, Ok(octets)),
-    )
+/// Whether a slice, a list and an identifier of the arcs that octets have are accepted as the identifier of the octets.
+fn are_accepted(alloc: Global, octets: &[u8]) -> Result<bool, Fail> {
+    let oid = Oid::try_from_ref(read_borrowed(octets)?)?;
+    let arcs: Vec<Arc> = oid.arcs().collect(alloc)?;
+    Ok(from_slice(&arcs) == Ok(oid) && from_vec(arcs) == Ok(oid) && again(&oid) == Ok(oid))
 }
 
 #[test]
-fn encodes_accepted_rows(rt: HostRuntime) -> Result<(), AllocError> {
-    for (text, octets, arcs) in accepted_rows() {
-        assert!(rt; are_accepted(rt.alloc(), arcs, octets)?, "{text}");
+fn encodes_accepted_rows(rt: HostRuntime) -> Result<(), Fail> {
+    for (text, octets) in accepted_rows() {
+        assert!(rt; are_accepted(rt.alloc(), octets)?, "{text}");
     }
-    assert!(rt; is_answer(from_array([2, 999, 3]), Ok(&[0x88, 0x37, 0x03])));
+    let oid = from_array([2, 999, 3])?;
+    assert!(rt; oid.as_bytes() == [0x88, 0x37, 0x03].as_slice());
     Ok(())
 }
 
@@ -70,9 +66,10 @@ fn max_size() -> usize
 
 /// Subidentifiers of more than one octet, in just enough octets.
 #[test]
-fn arcs_of_seven_octets_fit(rt: HostRuntime) {
+fn arcs_of_seven_octets_fit(rt: HostRuntime) -> Result<(), Error> {
     assert!(rt; max_size() == 39);
     let arcs: &[Arc] = &[1, 2, 840, 10045, 2, 1];
-    let oid = ObjectIdentifier::<7>::from_arcs_sized(arcs.iter().copied());
-    assert!(rt; is_answer(oid, Ok(&[0x2A, 0x86, 0x48, 0xCE, 0x3D, 0x02, 0x01])));
+    let oid = ObjectIdentifier::<7>::from_arcs_sized(arcs.iter().copied())?;
+    assert!(rt; oid.as_bytes() == [0x2A, 0x86, 0x48, 0xCE, 0x3D, 0x02, 0x01].as_slice());
+    Ok(())
 }

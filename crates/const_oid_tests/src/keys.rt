@@ -6,10 +6,9 @@ ghost use Rattle.std.specs.Hash.DefaultHasher as sip;
 ghost use Rattle.const_oid.specs.Oid.{oid_octets};
 ghost use Rattle.const_oid.specs.OidRef.{ref_octets};
 
-use crate::vectors::{accepted_rows, parse, read_borrowed, read_owned};
-use const_oid::{Arc, ObjectIdentifier, ObjectIdentifierRef, Oid};
+use crate::vectors::{accepted_rows, parse, read_borrowed};
+use const_oid::{ObjectIdentifier, ObjectIdentifierRef, Oid};
 use const_oid_uses::theorems::parent_of_child;
-use std::alloc::Global;
 use std::collections::{BTreeMap, HashMap};
 use std::hash::{DefaultHasher, Hash, Hasher};
 use std::test::Fail;
@@ -31,63 +30,37 @@ fn ref_hash_of(oid: &ObjectIdentifierRef<'_>) -> u64
     state.finish()
 }
 
-/// The numbers of arcs of the shared rows, by the identifiers of their octets.
-fn maps(alloc: Global) -> Result<(HashMap<Oid, usize>, BTreeMap<Oid, usize>), Fail> {
-    let mut hashed = HashMap::new(alloc);
-    let mut sorted = BTreeMap::new(alloc);
-    for (_, octets, arcs) in accepted_rows() {
-        let oid = read_owned(octets)?;
-        hashed.insert(oid, arcs.len())?;
-        sorted.insert(oid, arcs.len())?;
-    }
-    Ok((hashed, sorted))
-}
-
-/// Whether the parent hashes as the identifier of all arcs but the last one, and finds it.
-fn parent_is_key(alloc: Global, oid: &Oid, arcs: &[Arc]) -> Result<bool, Fail> {
-    let (Some(parent), Some((_, shorter))) = (oid.parent(), arcs.split_last()) else {
-        return Ok(arcs.len() == 2);
-    };
-    let shorter = Oid::from_arcs(shorter.iter().copied())?;
-    let mut keys = HashMap::new(alloc);
-    keys.insert(shorter, true)?;
-    Ok(hash_of(&parent) == hash_of(&shorter) && keys.get(&parent).is_some())
-}
-
-/// The identifiers of the texts are those keys. They hash as the parents of their children and as their borrowed forms
-/// do, and so do their parents.
+/// The identifiers of the texts are the keys of their octets, and the borrowed ones those of octets elsewhere. They hash
+/// as the parents of their children and as their borrowed forms do.
 #[test]
 fn finds_keys_by_text(rt: HostRuntime) -> Result<(), Fail> {
-    let (hashed, sorted) = maps(rt.alloc())?;
-    for (text, _, arcs) in accepted_rows() {
+    let (mut hashed, mut sorted) = (HashMap::new(rt.alloc()), BTreeMap::new(rt.alloc()));
+    let mut borrowed = HashMap::new(rt.alloc());
+    for (text, octets) in accepted_rows() {
+        let oid = read_borrowed(octets)?;
+        hashed.insert(Oid::try_from_ref(oid)?, *text)?;
+        sorted.insert(Oid::try_from_ref(oid)?, *text)?;
+        borrowed.insert(oid, *text)?;
+    }
+    for (text, _) in accepted_rows() {
         let oid = parse(text)?;
-        assert!(rt; hashed.get(&oid).copied() == Some(arcs.len()), "{text}");
-        assert!(rt; sorted.get(&oid).copied() == Some(arcs.len()), "{text}");
+        let found = [
+            hashed.get(&oid),
+            sorted.get(&oid),
+            borrowed.get(&oid.as_oid_ref()),
+            parent_of_child(oid, 128)?.and_then(|parent| hashed.get(&parent)),
+        ];
+        assert!(rt; found == [Some(text); 4], "{text}");
         let parent = parent_of_child(oid, 128)?;
+        let hash = hash_of(&oid);
         assert!(rt;
-            parent.map(|parent| hash_of(&parent)) == Some(hash_of(&oid)),
+            parent.map(|parent| hash_of(&parent)) == Some(hash),
             "{text}"
         );
-        assert!(rt; ref_hash_of(&oid.as_oid_ref()) == hash_of(&oid), "{text}");
-        assert!(rt; parent_is_key(rt.alloc(), &oid, arcs)?, "{text}");
+        assert!(rt; ref_hash_of(&oid.as_oid_ref()) == hash, "{text}");
     }
-    assert!(rt; hashed.len() == accepted_rows().len() && sorted.len() == accepted_rows().len());
-    Ok(())
-}
-
-/// Whether a borrowed identifier is found in a map with another one.
-fn is_found(alloc: Global, key: &[u8], octets: &[u8]) -> Result<bool, Fail> {
-    let mut names = HashMap::new(alloc);
-    names.insert(read_borrowed(key)?, "1.2.3")?;
-    Ok(names.get(&read_borrowed(octets)?).is_some())
-}
-
-/// Octets of two identifiers that stand at other addresses.
-const TWICE: [u8; 4] = [0x2A, 0x03, 0x2A, 0x03];
-
-#[test]
-fn finds_borrowed_keys(rt: HostRuntime) -> Result<(), Fail> {
-    assert!(rt; is_found(rt.alloc(), &TWICE[..2], &TWICE[2..])?);
-    assert!(rt; !is_found(rt.alloc(), &TWICE[..2], &TWICE[..1])?);
+    let absent = Oid::new_unwrap("1.2.5");
+    assert!(rt; hashed.get(&absent).is_none() && sorted.get(&absent).is_none());
+    assert!(rt; borrowed.get(&absent.as_oid_ref()).is_none());
     Ok(())
 }

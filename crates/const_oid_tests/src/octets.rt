@@ -2,7 +2,7 @@
 
 use crate::vectors::accepted_rows;
 use const_oid::{Error, ObjectIdentifierRef, Oid};
-use std::alloc::{AllocError, Global};
+use std::alloc::AllocError;
 
 /// Whether both forms return this error, or none.
 fn both_answer(octets: &[u8], error: Option<Error>) -> bool {
@@ -21,52 +21,29 @@ fn prints_octets_as_it_checks_them(rt: HostRuntime) {
     assert!(rt; fault == Some(Err(Error::Base128)));
 }
 
-/// How many of accepted octets are accepted or rejected otherwise than by the last of them, which says whether its
-/// subidentifier is complete.
-fn wrong_prefix(octets: &[u8]) -> Option<usize> {
-    for end in 0..=octets.len() {
-        let prefix = &octets[..end];
-        let error = match prefix.last() {
-            None => Some(Error::Empty),
-            Some(0..0x80) => None,
-            Some(_) => Some(Error::Base128),
-        };
-        if !both_answer(prefix, error) {
-            return Some(end);
-        }
-    }
-    None
-}
-
+/// The last octet of a prefix of accepted octets says whether its subidentifier is complete. None begins with 0x80: the
+/// first one, the second, and so on.
 #[test]
-fn accepts_prefixes_that_end_with_a_subidentifier(rt: HostRuntime) {
-    for (text, octets, _) in accepted_rows() {
-        let len = wrong_prefix(octets);
-        assert!(rt; len.is_none(), "{len:?} octets of {text}");
-    }
-}
-
-/// The index of the first subidentifier of accepted octets, or their end, before which 0x80 is not `Base128`.
-fn wrong_subidentifier(alloc: Global, octets: &[u8]) -> Result<Option<usize>, AllocError> {
-    for index in 0..=octets.len() {
-        let (before, after) = octets.split_at(index);
-        if let Some(0x80..) = before.last() {
-            continue;
+fn reads_prefixes_and_rejects_0x80_before_subidentifiers(
+    rt: HostRuntime,
+) -> Result<(), AllocError> {
+    for (text, octets) in accepted_rows() {
+        for len in 0..=octets.len() {
+            let (prefix, after) = octets.split_at(len);
+            let error = match prefix.last() {
+                None => Some(Error::Empty),
+                Some(0..0x80) => None,
+                Some(_) => Some(Error::Base128),
+            };
+            assert!(rt; both_answer(prefix, error), "{len} octets of {text}");
+            if error != Some(Error::Base128) {
+                let longer = [prefix, &[0x80], after].concat(rt.alloc())?;
+                assert!(rt;
+                    both_answer(&longer, Some(Error::Base128)),
+                    "0x80 at {len} of {text}"
+                );
+            }
         }
-        let longer = [before, &[0x80], after].concat(alloc)?;
-        if !both_answer(longer.as_slice(), Some(Error::Base128)) {
-            return Ok(Some(index));
-        }
-    }
-    Ok(None)
-}
-
-/// No subidentifier begins with 0x80: the first one, the second, and so on.
-#[test]
-fn rejects_0x80_before_each_subidentifier(rt: HostRuntime) -> Result<(), AllocError> {
-    for (text, octets, _) in accepted_rows() {
-        let index = wrong_subidentifier(rt.alloc(), octets)?;
-        assert!(rt; index.is_none(), "{index:?} of {text}");
     }
     Ok(())
 }

@@ -8,8 +8,8 @@ ghost use Rattle.const_oid.specs.Oid.{oid_octets, oid_arcs};
 ghost use Rattle.const_oid.specs.OidRef.{key_arcs, ref_octets, ref_arcs};
 ghost use Rattle.const_oid.specs.Orders.{shortlex_cmp};
 
-use crate::vectors::{read_borrowed, read_owned};
-use const_oid::{Buffer, ByArcs, ObjectIdentifier, ObjectIdentifierRef};
+use crate::vectors::read_borrowed;
+use const_oid::{Buffer, ByArcs, ObjectIdentifier, ObjectIdentifierRef, Oid};
 use std::alloc::{AllocError, Global};
 use std::cmp::Ordering;
 use std::collections::BTreeSet;
@@ -77,17 +77,18 @@ fn buffer_clone_of<const N: usize>(buffer: &Buffer<N>) -> Result<Buffer<N>, Allo
     buffer.clone()
 }
 
-/// Whether owned identifiers compare so, and are equal where they tie.
-fn compare(a: &[u8], b: &[u8], order: Ordering) -> Result<bool, Fail> {
-    let a = read_owned(a)?;
-    let b = read_owned(b)?;
-    let is_equal = has_same_arcs(&a, &clone_of(&b)?);
-    Ok(
-        order_of(&a, &b) == order
-            && partial_order_of(&a, &b) == Some(order)
-            && (a < b) == (order == Ordering::Less)
-            && is_equal == (order == Ordering::Equal),
-    )
+/// What both orders and copies return is proved, and here it runs.
+#[test]
+fn compares_and_copies(rt: HostRuntime) -> Result<(), Fail> {
+    let (a, b) = (Oid::new_unwrap("1.2.127"), Oid::new_unwrap("1.2.3.4"));
+    assert!(rt; order_of(&a, &b) == Ordering::Less && !has_same_arcs(&a, &b));
+    assert!(rt; partial_order_of(&a, &b) == Some(Ordering::Less));
+    assert!(rt; has_same_arcs(&a, &clone_of(&a)?));
+    let (a, b) = (a.as_oid_ref(), b.as_oid_ref());
+    assert!(rt; ref_order_of(&a, &b) == Ordering::Greater && !ref_has_same_arcs(&a, &b));
+    assert!(rt; ref_has_same_arcs(&a, &ref_clone_of(&a)?));
+    assert!(rt; key_clone_of(&ByArcs(a))? == ByArcs(a));
+    Ok(())
 }
 
 /// Identifiers in the borrowed order. Those at the indices 1 to 7 begin with 1.2.
@@ -102,35 +103,7 @@ const ASCENDING: &[&[u8]] = &[
     &[0x2A, 0xFF, 0x7F],
     &[0x55],
     &[0x77],
-    &[0x78],
-    &[0x81, 0x00],
-    &[0x88, 0x37],
-    &[0x88, 0x37, 0x03],
 ];
-
-/// Whether borrowed identifiers compare so, and are equal where they tie.
-fn compare_refs(a: &[u8], b: &[u8], order: Ordering) -> Result<bool, Fail> {
-    let a = read_borrowed(a)?;
-    let b = read_borrowed(b)?;
-    let is_equal = ref_has_same_arcs(&a, &ref_clone_of(&b)?);
-    Ok(
-        ref_order_of(&a, &b) == order
-            && (a < b) == (order == Ordering::Less)
-            && is_equal == (order == Ordering::Equal),
-    )
-}
-
-/// What both orders return is proved, and here it runs.
-#[test]
-fn compares_and_copies(rt: HostRuntime) -> Result<(), Fail> {
-    let (short, long): (&[u8], &[u8]) = (&[0x2A, 0x7F], &[0x2A, 0x03, 0x04]);
-    assert!(rt; compare(short, long, Ordering::Less)? && compare(long, long, Ordering::Equal)?);
-    assert!(rt; compare_refs(short, long, Ordering::Greater)?);
-    assert!(rt; compare_refs(long, long, Ordering::Equal)?);
-    let key = ByArcs(read_borrowed(short)?);
-    assert!(rt; key_clone_of(&key)? == key);
-    Ok(())
-}
 
 /// Lists, a prefix, and the range of those that begin with it.
 const RANGES: &[(&[&[u8]], &[u8], (usize, usize))] = &[
@@ -138,9 +111,13 @@ const RANGES: &[(&[&[u8]], &[u8], (usize, usize))] = &[
     (ASCENDING, &[0x2A, 0x03], (2, 4)),
     (ASCENDING, &[0x2A, 0x04], (4, 4)),
     (ASCENDING, &[0x77], (9, 10)),
-    (ASCENDING, &[0x88, 0x37], (12, 14)),
-    (ASCENDING, &[0x89, 0x00], (14, 14)),
+    (ASCENDING, &[0x88, 0x37], (10, 10)),
     (&[&[0x2A], &[0x2A]], &[0x2A], (0, 2)),
+    (
+        &[&[0x78], &[0x88, 0x37], &[0x88, 0x37, 0x03]],
+        &[0x88, 0x37],
+        (1, 3),
+    ),
     (&[], &[0x2A], (0, 0)),
 ];
 
@@ -154,7 +131,6 @@ fn range_of(alloc: Global, list: &[&[u8]], prefix: &[u8]) -> Result<(usize, usiz
     Ok(read_borrowed(prefix)?.subtree(&oids))
 }
 
-/// The ranges of the first four rows are the same in the first ten identifiers alone.
 #[test]
 fn finds_ranges(rt: HostRuntime) -> Result<(), Fail> {
     for (list, prefix, range) in RANGES {
@@ -163,33 +139,19 @@ fn finds_ranges(rt: HostRuntime) -> Result<(), Fail> {
             "{prefix:?}: {range:?}"
         );
     }
-    for (_, prefix, range) in &RANGES[..4] {
-        let found = range_of(rt.alloc(), &ASCENDING[..10], prefix)?;
-        assert!(rt; found == *range, "{prefix:?}: {range:?}");
-    }
     Ok(())
 }
 
-/// Whether the identifiers that begin with 1.2 are at the indices 1 to 7.
-fn are_adjacent(oids: &BTreeSet<ObjectIdentifierRef<'_>>) -> bool {
-    for (index, oid) in oids.iter().enumerate() {
-        let is_under = oid.arc(0) == Some(1) && oid.arc(1) == Some(2);
-        if is_under != (1..8).contains(&index) {
-            return false;
-        }
-    }
-    true
-}
-
-/// Sorted sets, filled in reverse order.
+/// A sorted set, filled in reverse order, keeps subtrees together.
 #[test]
-fn a_set_keeps_subtrees_together(rt: HostRuntime) -> Result<(), Fail> {
-    for count in [10, ASCENDING.len()] {
-        let mut oids = BTreeSet::new(rt.alloc());
-        for octets in ASCENDING[..count].iter().rev() {
-            oids.insert(read_borrowed(octets)?)?;
-        }
-        assert!(rt; oids.len() == count && are_adjacent(&oids), "{count}");
+fn a_set_has_the_borrowed_order(rt: HostRuntime) -> Result<(), Fail> {
+    let mut oids = BTreeSet::new(rt.alloc());
+    for octets in ASCENDING.iter().rev() {
+        oids.insert(read_borrowed(octets)?)?;
+    }
+    assert!(rt; oids.len() == ASCENDING.len());
+    for (oid, octets) in oids.iter().zip(ASCENDING) {
+        assert!(rt; oid.as_bytes() == *octets, "{oid}");
     }
     Ok(())
 }

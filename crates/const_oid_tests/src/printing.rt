@@ -1,7 +1,7 @@
 //! Identifiers of both forms, printed under options and to a target that fails: Display and Debug.
 
 use crate::formatter::{DebugTexts, count_writes, prints, prints_as};
-use crate::vectors::{long_octets, long_text, read_borrowed};
+use crate::vectors::read_borrowed;
 use const_oid::{ObjectIdentifier, Oid};
 use std::alloc::{AllocError, Global};
 use std::fmt::{Debug, Display};
@@ -70,8 +70,8 @@ fn equal_octets_print(
     later: &str,
     count: usize,
 ) -> Result<bool, Fail> {
-    let octets = long_octets(alloc, &[], count, &[octet], &[])?;
-    let text = long_text(alloc, first, count.saturating_sub(1), later, "")?;
+    let octets = vec![in alloc; octet; count]?;
+    let text = format!(in alloc; "{first}{}", later.repeat(alloc, count.saturating_sub(1))?)?;
     both_print(alloc, octets.as_slice(), text.as_str())
 }
 

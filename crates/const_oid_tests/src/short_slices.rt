@@ -6,7 +6,7 @@ ghost use Rattle.std.specs.Prelude.{◌≤◌};
 use const_oid::{Error, ObjectIdentifier, ObjectIdentifierRef, Oid};
 
 /// A function that reads octets, at a capacity.
-#[derive(Clone, Copy)]
+#[derive(Clone, Copy, Debug)]
 enum Form {
     Borrowed,
     /// The borrowed form, where a second arc above 39 is wanted.
@@ -15,19 +15,15 @@ enum Form {
     Owned1,
     Owned2,
     Owned39,
-    /// The borrowed form copied into a capacity.
-    Copied0,
-    Copied1,
-    Copied2,
 }
 
-/// What a form returns. [`Error::Overflow`], which no function returns, marks other arcs than those that
-/// are wanted.
+/// What a form returns. [`Error::Overflow`], which no function returns, marks another identifier than the wanted one.
 fn answer(form: Form, octets: &[u8]) -> Option<Error> {
-    match (form, ObjectIdentifierRef::from_bytes(octets)) {
-        (Form::Owned0, _) => ObjectIdentifier::<0>::from_bytes_sized(octets).err(),
-        (Form::Owned1, _) => ObjectIdentifier::<1>::from_bytes_sized(octets).err(),
-        (Form::Owned2, _) => ObjectIdentifier::<2>::from_bytes_sized(octets).err(),
+    let borrowed = ObjectIdentifierRef::from_bytes(octets);
+    match (form, borrowed) {
+        (Form::Owned0, _) => owned::<0>(borrowed, octets),
+        (Form::Owned1, _) => owned::<1>(borrowed, octets),
+        (Form::Owned2, _) => owned::<2>(borrowed, octets),
         (Form::Owned39, _) => Oid::from_bytes(octets).err(),
         (_, Err(error)) => Some(error),
         (Form::Borrowed, Ok(_)) => None,
@@ -35,21 +31,21 @@ fn answer(form: Form, octets: &[u8]) -> Option<Error> {
             (Some(2), Some(40..)) => None,
             _ => Some(Error::Overflow),
         },
-        (Form::Copied0, Ok(oid)) => copied::<0>(oid),
-        (Form::Copied1, Ok(oid)) => copied::<1>(oid),
-        (Form::Copied2, Ok(oid)) => copied::<2>(oid),
     }
 }
 
-/// The error of a copy at a capacity, with [`Error::Overflow`] for a wrong copy, or an error where one fits.
-fn copied<const N: usize>(oid: ObjectIdentifierRef<'_>) -> Option<Error>
+/// What a capacity returns for octets, and for their borrowed form.
+fn owned<const N: usize>(
+    borrowed: Result<ObjectIdentifierRef<'_>, Error>,
+    octets: &[u8],
+) -> Option<Error>
     requires { N ≤ 2 }
 {
-    let octets = oid.as_bytes();
-    match ObjectIdentifier::<N>::try_from_ref(oid) {
-        Ok(copy) => (copy.as_bytes() != octets).then_some(Error::Overflow),
-        Err(_) if octets.len() <= N => Some(Error::Overflow),
-        Err(error) => Some(error),
+    let copied = borrowed.and_then(|oid| ObjectIdentifier::<N>::try_from_ref(oid));
+    match (ObjectIdentifier::<N>::from_bytes_sized(octets), copied) {
+        (Ok(oid), Ok(copy)) if oid == copy && oid.as_bytes() == octets => None,
+        (Err(error), Err(other)) if error == other => Some(error),
+        _ => Some(Error::Overflow),
     }
 }
 
@@ -82,50 +78,36 @@ fn how_many(form: Form, from: u16, below: u16, wanted: Option<Error>) -> usize {
     count
 }
 
-/// Forms, the least first octet and the one past the greatest, a result, and how many slices have it.
-const COUNTS: &[(Form, u16, u16, Option<Error>, usize)] = &[
-    (Form::Borrowed, 0, 256, None, 32_768),
-    (Form::Borrowed, 0, 256, Some(Error::Empty), 1),
-    (Form::Borrowed, 0, 256, Some(Error::Base128), 33_024),
-    (Form::Owned2, 0, 256, None, 32_768),
-    (Form::Owned2, 0, 256, Some(Error::Empty), 1),
-    (Form::Owned2, 0, 256, Some(Error::Base128), 33_024),
-    (Form::Owned39, 0, 256, None, 32_768),
-    (Form::Owned39, 0, 256, Some(Error::Empty), 1),
-    (Form::Owned39, 0, 256, Some(Error::Base128), 33_024),
-    (Form::Owned1, 0, 256, None, 128),
-    (Form::Owned1, 0, 256, Some(Error::Empty), 1),
-    (Form::Owned1, 0, 256, Some(Error::Base128), 33_024),
-    (Form::Owned1, 0, 256, Some(Error::Length), 32_640),
-    (Form::Owned0, 0, 256, None, 0),
-    (Form::Owned0, 0, 256, Some(Error::Empty), 1),
-    (Form::Owned0, 0, 256, Some(Error::Base128), 33_024),
-    (Form::Owned0, 0, 256, Some(Error::Length), 32_768),
+/// The results that are counted: an identifier and three errors.
+const RESULTS: [Option<Error>; 4] = [
+    None,
+    Some(Error::Empty),
+    Some(Error::Base128),
+    Some(Error::Length),
+];
+
+/// Forms, the least first octet and the one past the greatest, and how many slices have each result.
+const COUNTS: &[(Form, u16, u16, [usize; 4])] = &[
+    (Form::Borrowed, 0, 256, [32_768, 1, 33_024, 0]),
+    (Form::Owned2, 0, 256, [32_768, 1, 33_024, 0]),
+    (Form::Owned39, 0, 256, [32_768, 1, 33_024, 0]),
+    (Form::Owned1, 0, 256, [128, 1, 33_024, 32_640]),
+    (Form::Owned0, 0, 256, [0, 1, 33_024, 32_768]),
     // Accepted slices have a second arc past 39 exactly where the first octet is 120 or more.
-    (Form::Borrowed, 0, 120, None, 15_480),
-    (Form::Borrowed, 0, 120, Some(Error::Base128), 15_360),
-    (Form::PastTheNarrowRoot, 0, 120, None, 0),
-    (Form::Borrowed, 120, 256, None, 17_288),
-    (Form::Borrowed, 120, 256, Some(Error::Base128), 17_664),
-    (Form::PastTheNarrowRoot, 120, 256, None, 17_288),
-    // Accepted slices, copied.
-    (Form::Copied2, 0, 256, None, 32_768),
-    (Form::Copied2, 0, 256, Some(Error::Length), 0),
-    (Form::Copied1, 0, 256, None, 128),
-    (Form::Copied1, 0, 256, Some(Error::Length), 32_640),
-    (Form::Copied0, 0, 256, None, 0),
-    (Form::Copied0, 0, 256, Some(Error::Length), 32_768),
-    (Form::Copied0, 0, 256, Some(Error::Empty), 1),
-    (Form::Copied1, 0, 256, Some(Error::Base128), 33_024),
-    (Form::Copied2, 0, 256, Some(Error::Base128), 33_024),
+    (Form::Borrowed, 0, 120, [15_480, 1, 15_360, 0]),
+    (Form::PastTheNarrowRoot, 0, 120, [0, 1, 15_360, 0]),
+    (Form::Borrowed, 120, 256, [17_288, 0, 17_664, 0]),
+    (Form::PastTheNarrowRoot, 120, 256, [17_288, 0, 17_664, 0]),
 ];
 
 #[test]
 fn reads_every_short_slice(rt: HostRuntime) {
-    for (row, (form, from, below, wanted, count)) in COUNTS.iter().enumerate() {
-        assert!(rt;
-            how_many(*form, *from, *below, *wanted) == *count,
-            "row {row}"
-        );
+    for (form, from, below, counts) in COUNTS {
+        for (wanted, count) in RESULTS.iter().zip(counts) {
+            assert!(rt;
+                how_many(*form, *from, *below, *wanted) == *count,
+                "{form:?} from {from} and below {below}: {wanted:?}"
+            );
+        }
     }
 }

@@ -6,7 +6,7 @@ ghost use Rattle.const_oid.specs.Oid.{oid_arcs};
 use crate::vectors::parse;
 use const_oid::traits::position_of;
 use const_oid::{AssociatedOid, DynAssociatedOid, Oid};
-use std::alloc::{AllocError, Global};
+use std::alloc::Global;
 use std::test::Fail;
 
 /// A type with the identifier 1.2.3.
@@ -48,12 +48,16 @@ fn a_value_has_the_identifier_of_its_type(rt: HostRuntime) {
     assert!(rt; oid.as_bytes() == [0x2A, 0x03].as_slice() && oid_of(&Unit) == oid);
 }
 
-/// The index of a text's identifier among values that hold those of texts.
+/// The index of a text's identifier among values that hold those of texts, or, for no text, have that of their type.
 fn index_among(alloc: Global, held: &[&str], text: &str) -> Result<Option<usize>, Fail> {
     let mut values: Vec<Box<dyn DynAssociatedOid + Drop>> = Vec::new(alloc);
     for text in held {
-        let oid = parse(text)?;
-        values.push(Box::new(alloc, Held { oid })?)?;
+        if text.is_empty() {
+            values.push(Box::new(alloc, Unit)?)?;
+        } else {
+            let oid = parse(text)?;
+            values.push(Box::new(alloc, Held { oid })?)?;
+        }
     }
     Ok(position_of(&values, &parse(text)?))
 }
@@ -64,6 +68,9 @@ const INDICES: &[(&[&str], &str, Option<usize>)] = &[
     (&["1.2.3", "2.5.4.3", "1.2.3"], "2.5.4.3", Some(1)),
     (&["1.2.3", "2.5.4.3", "1.2.3"], "1.2", None),
     (&[], "1.2.3", None),
+    (&["", "1.2.3"], "1.2.3", Some(0)),
+    (&["1.2.3", ""], "1.2.3", Some(0)),
+    (&["1.2.4", ""], "1.2.3", Some(1)),
 ];
 
 #[test]
@@ -74,23 +81,5 @@ fn finds_the_first_index(rt: HostRuntime) -> Result<(), Fail> {
             "{text} in {held:?}"
         );
     }
-    Ok(())
-}
-
-/// The index of 1.2.3 among a value of a type with it and one that holds it, in this order and the other.
-fn indices(alloc: Global) -> Result<(Option<usize>, Option<usize>), AllocError> {
-    let oid = Oid::new_unwrap("1.2.3");
-    let mut values: Vec<Box<dyn DynAssociatedOid + Drop>> = Vec::new(alloc);
-    values.push(Box::new(alloc, Unit)?)?;
-    values.push(Box::new(alloc, Held { oid })?)?;
-    let first = position_of(&values, &oid);
-    values.reverse();
-    Ok((first, position_of(&values, &oid)))
-}
-
-/// Both are first in both orders.
-#[test]
-fn finds_values_of_both_kinds(rt: HostRuntime) -> Result<(), AllocError> {
-    assert_eq!(rt; indices(rt.alloc())?, (Some(0), Some(0)));
     Ok(())
 }

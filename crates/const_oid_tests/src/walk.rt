@@ -6,9 +6,9 @@ ghost use Rattle.std.specs.List.Sorted.{IsSortedByKey};
 ghost use Rattle.std.specs.Ordering.{nat_cmp};
 ghost use Rattle.const_oid.specs.OidRef.{key_arcs};
 
-use const_oid::{ByArcs, Error, ObjectIdentifier, ObjectIdentifierRef, Oid};
+use crate::vectors::parse;
+use const_oid::{ByArcs, Error, ObjectIdentifier, ObjectIdentifierRef};
 use const_oid_uses::walk::{MAX_NAME, name, next_under};
-use std::alloc::Global;
 use std::collections::BTreeMap;
 use std::test::Fail;
 
@@ -39,27 +39,12 @@ const ROWS: &[&str] = &[
     "1.3.6.1.4.1.4294967295",
 ];
 
+/// Roots, and how many rows are under them.
+const COUNTS: &[(&str, usize)] = &[("1.3.6.1.2.1.2.2.1.10", 9), ("1.3.6.1.4.1.256", 0)];
+
 /// The row at an index of a list that is in no order.
 fn shuffled(index: usize) -> &'static str {
     ROWS[index % ROWS.len() * 5 % ROWS.len()]
-}
-
-/// The identifiers of the rows, in no order.
-fn oids(alloc: Global) -> Result<Vec<ObjectIdentifier<255>>, Fail> {
-    let mut oids = Vec::new(alloc);
-    for index in 0..ROWS.len() {
-        oids.push(ObjectIdentifier::new_sized(shuffled(index))?)?;
-    }
-    Ok(oids)
-}
-
-/// The keys of identifiers.
-fn keys(alloc: Global, oids: &[ObjectIdentifier<255>]) -> Result<Vec<ByArcs<'_>>, Fail> {
-    let mut keys = Vec::new(alloc);
-    for oid in oids {
-        keys.push(ByArcs(oid.as_oid_ref()))?;
-    }
-    Ok(keys)
 }
 
 /// How many keys a walk meets under a root.
@@ -77,37 +62,26 @@ fn count_under(sorted: &[ByArcs<'_>], root: &ObjectIdentifierRef<'_>) -> usize
     sorted.len()
 }
 
+/// A map and a list of keys have the rows, which came in no order, in order.
 #[test]
-fn walks_as_many_rows_as_a_root_has(rt: HostRuntime) -> Result<(), Fail> {
-    let oids = oids(rt.alloc())?;
-    let mut keys = keys(rt.alloc(), &oids)?;
-    keys.sort()?;
-    let octets_in = Oid::new_unwrap("1.3.6.1.2.1.2.2.1.10");
-    assert!(rt; count_under(&keys, &octets_in.as_oid_ref()) == 9);
-    let interface = Oid::new_unwrap("1.3.6.1.4.1.256");
-    assert!(rt; count_under(&keys, &interface.as_oid_ref()) == 0);
-    Ok(())
-}
-
-/// The rows by their keys, inserted in no order.
-fn map(
-    alloc: Global,
-    oids: &[ObjectIdentifier<255>],
-) -> Result<BTreeMap<ByArcs<'_>, &'static str>, Fail> {
-    let mut rows = BTreeMap::new(alloc);
+fn walks_the_rows_in_order(rt: HostRuntime) -> Result<(), Fail> {
+    let mut oids: Vec<ObjectIdentifier<255>> = Vec::new(rt.alloc());
+    for index in 0..ROWS.len() {
+        oids.push(ObjectIdentifier::new_sized(shuffled(index))?)?;
+    }
+    let (mut rows, mut keys) = (BTreeMap::new(rt.alloc()), Vec::new(rt.alloc()));
     for (index, oid) in oids.iter().enumerate() {
         rows.insert(ByArcs(oid.as_oid_ref()), shuffled(index))?;
+        keys.push(ByArcs(oid.as_oid_ref()))?;
     }
-    Ok(rows)
-}
-
-#[test]
-fn a_map_keeps_the_rows_in_order(rt: HostRuntime) -> Result<(), Fail> {
-    let oids = oids(rt.alloc())?;
-    let rows = map(rt.alloc(), &oids)?;
     assert!(rt; rows.len() == ROWS.len());
     for (row, wanted) in rows.values().zip(ROWS) {
         assert!(rt; row == wanted, "{wanted}");
+    }
+    keys.sort()?;
+    for (root, count) in COUNTS {
+        let root = parse(root)?;
+        assert!(rt; count_under(&keys, &root.as_oid_ref()) == *count, "{root}");
     }
     Ok(())
 }

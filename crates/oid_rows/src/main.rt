@@ -15,41 +15,28 @@ use std::str;
 fn expanded(alloc: Global, row: &str) -> Result<String> {
     let mut whole = String::new(alloc);
     for part in row.split('{') {
-        match part.split_once('}') {
-            Some((repeated, after)) => {
-                push_repeated(&mut whole, repeated)?;
-                whole.push_str(after)?;
-            }
-            None => whole.push_str(part)?,
+        let mut rest = part;
+        if let Some((repeated, after)) = part.split_once('}') {
+            let (unit, count) = repeated.split_once('*').context("no count")?;
+            whole.push_str(&unit.repeat(alloc, count.parse()?)?)?;
+            rest = after;
         }
+        whole.push_str(rest)?;
     }
     Ok(whole)
 }
 
-fn push_repeated(whole: &mut String, repeated: &str) -> Result<()> {
-    let (unit, count) = repeated.split_once('*').context("no count")?;
-    for _ in 0..count.parse::<usize>()? {
-        whole.push_str(unit)?;
-    }
-    Ok(())
-}
-
 /// The words of a row.
 fn words(alloc: Global, input: &str) -> Result<Vec<&str>> {
-    let mut words = Vec::new(alloc);
-    for word in input.split(' ') {
-        if !word.is_empty() {
-            words.push(word)?;
-        }
-    }
-    Ok(words)
+    let words = input.split(' ').filter(|word| !word.is_empty());
+    Ok(words.collect(alloc)?)
 }
 
 /// The arcs of a row.
 fn arcs(alloc: Global, input: &str) -> Result<Vec<Arc>> {
     let mut arcs = Vec::new(alloc);
     for word in words(alloc, input)? {
-        arcs.push(word.parse::<Arc>()?)?;
+        arcs.push(word.parse()?)?;
     }
     Ok(arcs)
 }
@@ -60,7 +47,10 @@ fn answer(alloc: Global, call: &str, input: &str) -> Result<Option<String>> {
     let words = words(alloc, input)?;
     Ok(Some(match call {
         "text" => identifiers::text(alloc, input)?,
-        "text_in" => identifiers::text_in(alloc, rest, first.parse::<usize>()?)?.digits(alloc)?,
+        "text_in" => {
+            let mut out = identifiers::output(alloc, first.parse()?)?;
+            identifiers::digits(alloc, identifiers::of_text(rest, &mut out)?)?
+        }
         "component" => match ObjectIdentifierRef::wrong_component(input.as_bytes()) {
             Some(index) => format!(in alloc; "{index}")?,
             None => String::from_str(alloc, "none")?,
@@ -73,13 +63,12 @@ fn answer(alloc: Global, call: &str, input: &str) -> Result<Option<String>> {
         "element" => identifiers::element(alloc, input)?,
         "arcs" => identifiers::arcs(alloc, &arcs(alloc, input)?)?,
         "arcs_in" => {
-            identifiers::arcs_in(alloc, &arcs(alloc, rest)?, first.parse::<usize>()?)?.digits(
-                alloc,
-            )?
+            let mut out = identifiers::output(alloc, first.parse()?)?;
+            identifiers::digits(alloc, identifiers::of_arcs(&arcs(alloc, rest)?, &mut out)?)?
         }
         "arcs_from" => identifiers::arcs_from(alloc, first, &arcs(alloc, rest)?)?,
         "parent" => relations::parent(alloc, input)?,
-        "child" => relations::child(alloc, first, rest.parse::<Arc>()?)?,
+        "child" => relations::child(alloc, first, rest.parse()?)?,
         "sorted" => relations::sorted(alloc, &words)?,
         "list" => relations::list(alloc, first, words.get(1..).unwrap_or(&[]))?,
         "names" => relations::names(alloc, first, words.get(1..).unwrap_or(&[]))?,

@@ -2,17 +2,13 @@
 
 ghost use Rattle.std.specs.Prelude.{◌≤◌};
 
-use crate::identifiers::{arcs_in, arcs_of, is_answer};
+use crate::identifiers::{Long, Made, digits, is_answer, of_arcs, output, within};
 use anyhow::{Context, Result, bail, ensure};
 use const_oid::db::{Database, SortedDatabase};
 use const_oid::search::{end_of, first_of, nearest_of, start_of, subtree_of};
-use const_oid::{Arc, ByArcs, Error, ObjectIdentifier, ObjectIdentifierRef, Oid};
+use const_oid::{Arc, ByArcs, ObjectIdentifier, ObjectIdentifierRef, Oid};
 use std::alloc::Global;
 use std::cmp::Ordering;
-use std::result;
-
-/// Identifiers of as many octets as owned ones may have.
-type Long = ObjectIdentifier<255>;
 
 /// The octets of the parent, or `none`.
 pub fn parent(alloc: Global, digits: &str) -> Result<String> {
@@ -20,10 +16,7 @@ pub fn parent(alloc: Global, digits: &str) -> Result<String> {
     let oid = ObjectIdentifierRef::from_bytes(&octets)?;
     let parent = oid.parent();
     if let Ok(owned) = Oid::from_bytes(&octets) {
-        ensure!(match (owned.parent(), parent) {
-            (Some(owned), Some(parent)) => parent.eq_oid(&owned),
-            (owned, parent) => owned.is_none() && parent.is_none(),
-        });
+        ensure!(owned.parent() == parent.and_then(|parent| Oid::try_from_ref(parent).ok()));
     }
     let Some(parent) = parent else {
         return Ok(String::from_str(alloc, "none")?);
@@ -33,103 +26,84 @@ pub fn parent(alloc: Global, digits: &str) -> Result<String> {
 }
 
 /// Whether a capacity takes one more arc, where the child fits it and has at most 255 octets, and keeps the old value.
-fn pushes<const N: usize>(
-    octets: &[u8],
-    arc: Arc,
-    child: result::Result<&[u8], Error>,
-) -> Result<()>
+fn pushes<const N: usize>(octets: &[u8], arc: Arc, child: Made<'_>) -> bool
     requires { N ≤ 300 }
 {
-    let Ok(oid) = ObjectIdentifier::<N>::from_bytes_sized(octets) else {
-        return Ok(());
-    };
-    let wanted = match child {
-        Ok(child) if child.len() > N.min(255) => Err(Error::Length),
-        child => child,
-    };
-    ensure!(is_answer(oid.push_arc(arc), wanted) && oid.as_bytes() == octets);
-    Ok(())
-}
-
-/// The octets with one more arc.
-pub fn child(alloc: Global, digits: &str, arc: Arc) -> Result<String> {
-    let octets = hex::decode(alloc, digits.as_bytes())?;
-    let mut arcs = arcs_of(alloc, &ObjectIdentifierRef::from_bytes(&octets)?)?;
-    arcs.push(arc)?;
-    let made = arcs_in(alloc, &arcs, octets.len().saturating_add(5))?;
-    pushes::<1>(&octets, arc, made.octets())?;
-    pushes::<3>(&octets, arc, made.octets())?;
-    pushes::<39>(&octets, arc, made.octets())?;
-    pushes::<255>(&octets, arc, made.octets())?;
-    pushes::<300>(&octets, arc, made.octets())?;
-    made.digits(alloc)
-}
-
-/// Whether an owned identifier begins so with a prefix of three octets at most, another capacity, if both fit.
-fn begins_with_short(octets: &[u8], prefix: &[u8], wanted: bool) -> bool {
-    match (
-        Oid::from_bytes(octets),
-        ObjectIdentifier::<3>::from_bytes_sized(prefix),
-    ) {
-        (Ok(oid), Ok(prefix)) => oid.starts_with(prefix) == wanted,
-        _ => octets.len() > 39 || prefix.len() > 3,
+    match ObjectIdentifier::<N>::from_bytes_sized(octets) {
+        Ok(oid) => is_answer(oid.push_arc(arc), within::<N>(child)) && oid.as_bytes() == octets,
+        Err(_) => true,
     }
 }
 
-/// Whether an identifier begins with another one. Then as many arcs follow as it has more.
+/// The octets with one more arc.
+pub fn child(alloc: Global, octets: &str, arc: Arc) -> Result<String> {
+    let octets = hex::decode(alloc, octets.as_bytes())?;
+    let oid = ObjectIdentifierRef::from_bytes(&octets)?;
+    let mut arcs: Vec<Arc> = oid.arcs().collect(alloc)?;
+    arcs.push(arc)?;
+    let mut out = output(alloc, octets.len().saturating_add(5))?;
+    let made = of_arcs(&arcs, &mut out)?;
+    ensure!(pushes::<1>(&octets, arc, made) && pushes::<3>(&octets, arc, made));
+    ensure!(pushes::<39>(&octets, arc, made) && pushes::<255>(&octets, arc, made));
+    ensure!(pushes::<300>(&octets, arc, made));
+    digits(alloc, made)
+}
+
+/// Whether an identifier begins with another one. Then as many arcs follow as it has more. Owned forms that fit, one
+/// of them of another capacity, begin so too.
 fn begins(oid: &ObjectIdentifierRef<'_>, prefix: &ObjectIdentifierRef<'_>) -> Result<bool> {
     let begins = oid.starts_with(prefix);
     let left = begins.then_some(oid.len().saturating_sub(prefix.len()));
     ensure!(oid.strip_prefix(prefix).map(|arcs| arcs.count()) == left);
     let (octets, start) = (oid.as_bytes(), prefix.as_bytes());
-    ensure!(begins_with_short(octets, start, begins));
-    if let (Ok(oid), Ok(prefix)) = (Oid::from_bytes(octets), Oid::from_bytes(start)) {
+    if octets.len() <= 39 && start.len() <= 3 {
+        let prefix = ObjectIdentifier::<3>::from_bytes_sized(start)?;
+        ensure!(Oid::from_bytes(octets)?.starts_with(prefix) == begins);
+    }
+    if octets.len() <= 39 && start.len() <= 39 {
+        let (oid, prefix) = (Oid::from_bytes(octets)?, Oid::from_bytes(start)?);
         ensure!(oid.starts_with(prefix) == begins);
         ensure!(oid.strip_prefix(&prefix).map(|arcs| arcs.count()) == left);
     }
     Ok(begins)
 }
 
-/// The order of owned identifiers, with equality.
-fn owned(left: &[u8], right: &[u8]) -> Result<Ordering> {
-    let (a, b) = (
-        Long::from_bytes_sized(left)?,
-        Long::from_bytes_sized(right)?,
-    );
-    let order = a.cmp(&b);
-    ensure!(a.partial_cmp(&b) == Some(order) && (a < b) == order.is_lt());
-    ensure!((a == b) == order.is_eq());
-    if let (Ok(a), Ok(b)) = (Oid::from_bytes(left), Oid::from_bytes(right)) {
-        ensure!(a.cmp(&b) == order && a.partial_cmp(&b) == Some(order));
-        ensure!((a < b) == order.is_lt() && (a == b) == order.is_eq());
-    }
+/// The order of two values, with equality.
+fn order<T: Ord>(a: &T, b: &T) -> Result<Ordering> {
+    let order = a.cmp(b);
+    ensure!(a.partial_cmp(b) == Some(order));
+    ensure!((a < b) == order.is_lt() && (a == b) == order.is_eq());
     Ok(order)
 }
 
-/// The order of octets, or that of arcs: either way, of both forms, and as keys. Each with equality.
-fn borrowed(left: &[u8], right: &[u8], is_by_arcs: bool) -> Result<Ordering> {
+/// The order of arcs: either way, of both forms, and as keys.
+fn by_arcs(a: ObjectIdentifierRef<'_>, b: ObjectIdentifierRef<'_>) -> Result<Ordering> {
+    let by_arcs = a.cmp_arcs(&b);
+    ensure!(b.cmp_arcs(&a) == by_arcs.reverse() && order(&ByArcs(a), &ByArcs(b))? == by_arcs);
+    if let (Ok(usual), Ok(long)) = (Oid::try_from_ref(a), Long::try_from_ref(b)) {
+        ensure!(usual.cmp_arcs(&long) == by_arcs && long.cmp_arcs(&usual) == by_arcs.reverse());
+        ensure!(a.eq_oid(&long) == by_arcs.is_eq() && b.eq_oid(&usual) == by_arcs.is_eq());
+    }
+    Ok(by_arcs)
+}
+
+/// The order of octets as owned or as borrowed identifiers, or that of arcs.
+fn order_of(call: &str, left: &[u8], right: &[u8]) -> Result<Ordering> {
+    if call == "owned" {
+        let long = order(
+            &Long::from_bytes_sized(left)?,
+            &Long::from_bytes_sized(right)?,
+        )?;
+        if let (Ok(a), Ok(b)) = (Oid::from_bytes(left), Oid::from_bytes(right)) {
+            ensure!(order(&a, &b)? == long);
+        }
+        return Ok(long);
+    }
     let a = ObjectIdentifierRef::from_bytes(left)?;
     let b = ObjectIdentifierRef::from_bytes(right)?;
-    if !is_by_arcs {
-        let order = a.cmp(&b);
-        ensure!((a < b) == order.is_lt() && (a == b) == order.is_eq());
-        return Ok(order);
-    }
-    let order = a.cmp_arcs(&b);
-    ensure!(b.cmp_arcs(&a) == order.reverse() && ByArcs(a).cmp(&ByArcs(b)) == order);
-    ensure!((ByArcs(a) == ByArcs(b)) == order.is_eq());
-    if let (Ok(usual), Ok(long)) = (Oid::from_bytes(left), Long::from_bytes_sized(right)) {
-        ensure!(usual.cmp_arcs(&long) == order && long.cmp_arcs(&usual) == order.reverse());
-        ensure!(a.eq_oid(&long) == order.is_eq() && b.eq_oid(&usual) == order.is_eq());
-    }
-    Ok(order)
-}
-
-fn order_of(call: &str, left: &[u8], right: &[u8]) -> Result<Ordering> {
     match call {
-        "owned" => owned(left, right),
-        "borrowed" => borrowed(left, right, false),
-        "by_arcs" => borrowed(left, right, true),
+        "borrowed" => order(&a, &b),
+        "by_arcs" => by_arcs(a, b),
         _ => bail!("no call {call}"),
     }
 }
@@ -157,22 +131,16 @@ pub fn pair(alloc: Global, call: &str, left: &str, right: &str) -> Result<String
     Ok(String::from_str(alloc, word)?)
 }
 
-/// Whether an item is equal to itself, less than those after it and greater than those before.
-fn is_at(call: &str, items: &[(Vec<u8>, String)], place: usize, octets: &[u8]) -> Result<()> {
-    for (other, item) in items.iter().enumerate() {
-        ensure!(
-            order_of(call, octets, &item.0)? == place.cmp(&other),
-            "{other} and {place}"
-        );
-    }
-    Ok(())
-}
-
-/// Whether each item has its place.
+/// Whether each item is equal to itself, less than those after it and greater than those before.
 pub fn in_order(alloc: Global, call: &str, words: &[&str]) -> Result<String> {
     let items = items(alloc, words)?;
     for (place, item) in items.iter().enumerate() {
-        is_at(call, &items, place, &item.0)?;
+        for (other, another) in items.iter().enumerate() {
+            ensure!(
+                order_of(call, &item.0, &another.0)? == place.cmp(&other),
+                "{place} and {other}"
+            );
+        }
     }
     Ok(String::from_str(alloc, "in order")?)
 }
@@ -210,28 +178,21 @@ pub fn sorted(alloc: Global, words: &[&str]) -> Result<String> {
 
 /// What each search in entries finds, which the table of them finds too.
 fn searched(alloc: Global, entries: &[Entry<'_>], oid: &ObjectIdentifierRef<'_>) -> Result<String> {
-    let (end, first) = (end_of(entries, oid), first_of(entries, oid));
-    let nearest = nearest_of(entries, oid);
+    let table = SortedDatabase::try_new(entries).context("the list is not sorted")?;
+    let name_at = |index: usize| entries.get(index).map(|entry| entry.1);
+    let find = first_of(entries, oid).and_then(name_at);
+    let next = name_at(end_of(entries, oid));
+    let nearest = nearest_of(entries, oid).and_then(name_at);
     let (from, to) = subtree_of(entries, oid);
     ensure!(start_of(entries, oid) == from);
-    let Some(table) = SortedDatabase::try_new(entries) else {
-        bail!("the list is not sorted");
-    };
-    let name_at = |index: usize| entries.get(index).map(|entry| entry.1);
-    let (find, next, nearest) = (
-        first.and_then(name_at),
-        name_at(end),
-        nearest.and_then(name_at),
-    );
     ensure!(table.by_oid(oid) == find);
     ensure!(table.next_after(oid).map(|entry| entry.1) == next);
     ensure!(table.nearest(*oid).map(|entry| entry.1) == nearest);
     ensure!(table.subtree(oid).len() == to.saturating_sub(from));
-    let count = entries.len();
-    let none = format!(in alloc; "none of {count}")?;
-    let find = find.unwrap_or(none.as_str());
-    let next = next.unwrap_or(none.as_str());
-    let nearest = nearest.unwrap_or(none.as_str());
+    let none = format!(in alloc; "none of {}", entries.len())?;
+    let find = find.unwrap_or(&none);
+    let next = next.unwrap_or(&none);
+    let nearest = nearest.unwrap_or(&none);
     Ok(format!(in alloc; "find {find}, next {next}, nearest {nearest}, range {from} {to}")?)
 }
 

@@ -1,4 +1,5 @@
 //! Readers and writers that fail, for the tests.
+use std::alloc::Global;
 use std::io;
 use std::io::{ErrorKind, Read, Write};
 
@@ -9,33 +10,26 @@ pub struct Failure {
     pub kind: ErrorKind,
 }
 
-impl Failure {
-    /// A device that does not fail.
-    pub fn none() -> Self {
-        Failure::at(0)
-    }
+/// That of a device that does not fail.
+pub const NONE: Failure = Failure {
+    at: 0,
+    kind: ErrorKind::Other,
+};
 
-    /// A device that fails as a pipe without a reader does.
-    pub fn at(at: usize) -> Self {
-        Failure {
-            at,
-            kind: ErrorKind::BrokenPipe,
-        }
-    }
-}
-
-/// Reads a text byte by byte, and fails at one read.
+/// Reads a text byte by byte, and after it another one without an end, unless that is empty. Fails at one read.
 #[derive(Drop)]
 pub struct OneByteReader<'a> {
     text: &'a [u8],
+    again: &'a [u8],
     pub reads: usize,
     failure: Failure,
 }
 
 impl<'a> OneByteReader<'a> {
-    pub fn new(text: &'a [u8], failure: Failure) -> Self {
+    pub fn new(text: &'a [u8], again: &'a [u8], failure: Failure) -> Self {
         OneByteReader {
             text,
+            again,
             reads: 0,
             failure,
         }
@@ -51,7 +45,7 @@ impl Read for OneByteReader<'_> {
         match (self.text, buf.first_mut()) {
             ([byte, rest @ ..], Some(slot)) => {
                 *slot = *byte;
-                self.text = rest;
+                self.text = if rest.is_empty() { self.again } else { rest };
                 Ok(1)
             }
             _ => Ok(0),
@@ -59,30 +53,10 @@ impl Read for OneByteReader<'_> {
     }
 }
 
-/// Reads one byte again and again, without an end.
-#[derive(Drop)]
-pub struct EndlessReader {
-    pub reads: usize,
-}
-
-impl Read for EndlessReader {
-    fn read(&mut self, buf: &mut [u8]) -> io::Result<usize> {
-        self.reads = self.reads.saturating_add(1);
-        match buf.first_mut() {
-            Some(slot) => {
-                *slot = b'\n';
-                Ok(1)
-            }
-            None => Ok(0),
-        }
-    }
-}
-
 /// Writes a few bytes at a time, and fails at one write.
 #[derive(Drop)]
 pub struct SlowWriter {
-    bytes: [u8; 64],
-    used: usize,
+    pub written: Vec<u8>,
     most: usize,
     pub writes: usize,
     pub flushes: usize,
@@ -90,19 +64,14 @@ pub struct SlowWriter {
 }
 
 impl SlowWriter {
-    pub fn new(most: usize, failure: Failure) -> Self {
+    pub fn new(alloc: Global, most: usize, failure: Failure) -> Self {
         SlowWriter {
-            bytes: [0; 64],
-            used: 0,
+            written: Vec::new(alloc),
             most,
             writes: 0,
             flushes: 0,
             failure,
         }
-    }
-
-    pub fn written(&self) -> &[u8] {
-        self.bytes.get(..self.used).unwrap_or(&[])
     }
 }
 
@@ -113,13 +82,7 @@ impl Write for SlowWriter {
             return Err(io::Error::from(self.failure.kind));
         }
         let count = buf.len().min(self.most);
-        for i in 0..count {
-            match (self.bytes.get_mut(self.used), buf.get(i)) {
-                (Some(slot), Some(byte)) => *slot = *byte,
-                _ => return Ok(i),
-            }
-            self.used = self.used.saturating_add(1);
-        }
+        self.written.extend_from_slice(&buf[..count])?;
         Ok(count)
     }
 
@@ -129,48 +92,14 @@ impl Write for SlowWriter {
     }
 }
 
-/// The kinds of error that std has.
-pub const KINDS: [ErrorKind; 42] = [
-    ErrorKind::NotFound,
-    ErrorKind::PermissionDenied,
-    ErrorKind::ConnectionRefused,
-    ErrorKind::ConnectionReset,
-    ErrorKind::HostUnreachable,
-    ErrorKind::NetworkUnreachable,
-    ErrorKind::ConnectionAborted,
-    ErrorKind::NotConnected,
-    ErrorKind::AddrInUse,
-    ErrorKind::AddrNotAvailable,
-    ErrorKind::NetworkDown,
-    ErrorKind::BrokenPipe,
-    ErrorKind::AlreadyExists,
-    ErrorKind::WouldBlock,
-    ErrorKind::NotADirectory,
-    ErrorKind::IsADirectory,
-    ErrorKind::DirectoryNotEmpty,
-    ErrorKind::ReadOnlyFilesystem,
-    ErrorKind::FilesystemLoop,
-    ErrorKind::StaleNetworkFileHandle,
-    ErrorKind::InvalidInput,
-    ErrorKind::InvalidData,
-    ErrorKind::TimedOut,
-    ErrorKind::WriteZero,
-    ErrorKind::StorageFull,
-    ErrorKind::NotSeekable,
-    ErrorKind::QuotaExceeded,
-    ErrorKind::FileTooLarge,
-    ErrorKind::ResourceBusy,
-    ErrorKind::ExecutableFileBusy,
-    ErrorKind::Deadlock,
-    ErrorKind::CrossesDevices,
-    ErrorKind::TooManyLinks,
-    ErrorKind::InvalidFilename,
-    ErrorKind::ArgumentListTooLong,
-    ErrorKind::Interrupted,
-    ErrorKind::Unsupported,
-    ErrorKind::UnexpectedEof,
-    ErrorKind::OutOfMemory,
-    ErrorKind::InProgress,
-    ErrorKind::Other,
-    ErrorKind::Uncategorized,
-];
+/// A kind of error by a number: that of the system's error, or one of the four that no such error has. So -4 to 122 have
+/// all kinds.
+pub fn kind_of(number: i32) -> ErrorKind {
+    match number {
+        -1 => ErrorKind::InvalidData,
+        -2 => ErrorKind::WriteZero,
+        -3 => ErrorKind::UnexpectedEof,
+        -4 => ErrorKind::Other,
+        number => io::Error::from_raw_os_error(number).kind(),
+    }
+}

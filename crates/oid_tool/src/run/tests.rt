@@ -3,10 +3,9 @@ ghost use Rattle.std.specs.Prelude.{◌≡◌, ◌≤◌, ◌++◌, length, OnOk
 ghost use Rattle.oid_tool.specs.Results.{answers};
 ghost use Rattle.oid_tool.specs.Names.{known_names};
 
-use super::devices::{EndlessReader, Failure, KINDS, OneByteReader, SlowWriter};
+use super::devices::{Failure, NONE, OneByteReader, SlowWriter, kind_of};
 use super::*;
 use std::alloc::Global;
-use std::io::ErrorKind;
 use std::test::Fail;
 
 /// [`run`] over a slice and a vector, whose bytes are known.
@@ -174,12 +173,7 @@ fn answers_the_longest_input_and_rejects_one_byte_more(rt: HostRuntime) -> Resul
     for (prefix, wanted) in &PADDED {
         assert!(rt; answers_padded(rt.alloc(), prefix, wanted)?, "{prefix}");
     }
-    Ok(())
-}
-
-/// The result of a text without a name is that text, however long it is.
-#[test]
-fn prints_the_longest_unknown_name(rt: HostRuntime) -> Result<(), Fail> {
+    // The result of a text without a name is that text, however long it is.
     let text = padded(rt.alloc(), "1.2.", 4091)?;
     assert!(rt; answers_padded(rt.alloc(), "name 1.2.", text.as_str())?);
     Ok(())
@@ -221,9 +215,9 @@ fn prints_the_longest_line(rt: HostRuntime) -> Result<(), Fail> {
 }
 
 /// Whether a read fails, is the last one, and nothing is written.
-fn read_fails(failure: Failure) -> bool {
-    let mut input = OneByteReader::new(b"parent 1.2.3\n", failure);
-    let mut output = SlowWriter::new(64, Failure::none());
+fn read_fails(alloc: Global, failure: Failure) -> bool {
+    let mut input = OneByteReader::new(b"parent 1.2.3\n", b"", failure);
+    let mut output = SlowWriter::new(alloc, 64, NONE);
     run(&mut input, &mut output) == Err(ToolError::Read)
         && input.reads == failure.at
         && output.writes == 0
@@ -233,24 +227,27 @@ fn read_fails(failure: Failure) -> bool {
 /// Each of 14 reads fails with each kind of error, `Interrupted` among them, and 14 are enough.
 #[test]
 fn reports_each_failed_read(rt: HostRuntime) {
-    for kind in KINDS {
+    for number in -4..123 {
         for at in 1..15 {
-            assert!(rt; read_fails(Failure { at, kind }), "read {at}, {kind:?}");
+            let kind = kind_of(number);
+            assert!(rt;
+                read_fails(rt.alloc(), Failure { at, kind }),
+                "read {at}, {kind:?}"
+            );
         }
     }
-    let mut input = OneByteReader::new(b"parent 1.2.3\n", Failure::at(15));
-    let mut output = SlowWriter::new(64, Failure::none());
+    let mut input = OneByteReader::new(b"parent 1.2.3\n", b"", NONE);
+    let mut output = SlowWriter::new(rt.alloc(), 64, NONE);
     assert!(rt; run(&mut input, &mut output) == Ok(()));
-    assert!(rt; input.reads == 14 && output.written() == b"1.2\n".as_slice());
+    assert!(rt; input.reads == 14 && output.written.as_slice() == b"1.2\n".as_slice());
 }
 
 #[test]
 fn stops_reading_an_endless_input(rt: HostRuntime) {
-    let mut input = EndlessReader { reads: 0 };
-    let mut output = SlowWriter::new(64, Failure::none());
+    let mut input = OneByteReader::new(b"\n", b"\n", NONE);
+    let mut output = SlowWriter::new(rt.alloc(), 64, NONE);
     assert!(rt; run(&mut input, &mut output) == Err(ToolError::TooLong));
-    assert!(rt; input.reads == 4097);
-    assert!(rt; output.writes == 0);
+    assert!(rt; input.reads == 4097 && output.writes == 0);
 }
 
 /// Three lines and their results, which take nine writes of at most three bytes.
@@ -260,54 +257,50 @@ const THREE: (&[u8], &[u8]) = (
 );
 
 /// Whether a write fails and is the last one, after a prefix of the output but not all of it.
-fn write_fails(failure: Failure) -> bool {
+fn write_fails(alloc: Global, failure: Failure) -> bool {
     let mut rest = THREE.0;
-    let mut output = SlowWriter::new(3, failure);
-    let result = run(&mut rest, &mut output);
-    let written = output.written();
-    result == Err(ToolError::Write)
+    let mut output = SlowWriter::new(alloc, 3, failure);
+    run(&mut rest, &mut output) == Err(ToolError::Write)
         && output.writes == failure.at
         && output.flushes == 0
-        && THREE.1.starts_with(written)
-        && written.len() < THREE.1.len()
+        && THREE.1.starts_with(&output.written)
+        && output.written.len() < THREE.1.len()
 }
 
 /// Each of nine writes fails with each kind of error, and nine and no flush are enough.
 #[test]
 fn reports_each_failed_write(rt: HostRuntime) {
-    for kind in KINDS {
+    for number in -4..123 {
         for at in 1..10 {
-            assert!(rt; write_fails(Failure { at, kind }), "write {at}, {kind:?}");
+            let kind = kind_of(number);
+            assert!(rt;
+                write_fails(rt.alloc(), Failure { at, kind }),
+                "write {at}, {kind:?}"
+            );
         }
     }
     let mut rest = THREE.0;
-    let mut output = SlowWriter::new(3, Failure::at(10));
+    let mut output = SlowWriter::new(rt.alloc(), 3, NONE);
     assert!(rt; run(&mut rest, &mut output) == Ok(()));
-    assert!(rt; output.writes == 9 && output.flushes == 0 && output.written() == THREE.1);
+    assert!(rt; output.writes == 9 && output.flushes == 0 && output.written.as_slice() == THREE.1);
 }
 
 #[test]
 fn reports_a_write_that_takes_no_byte(rt: HostRuntime) {
     let mut input = b"text 2A".as_slice();
-    let mut output = SlowWriter::new(0, Failure::none());
-    assert!(rt; run(&mut input, &mut output) == Err(ToolError::Write));
-    assert!(rt; output.writes == 1);
+    let mut output = SlowWriter::new(rt.alloc(), 0, NONE);
+    assert!(rt; run(&mut input, &mut output) == Err(ToolError::Write) && output.writes == 1);
 }
-
-/// Errors and their texts.
-const REASONS: [(ToolError, &str); 3] = [
-    (ToolError::Read, "read failed"),
-    (ToolError::Write, "write failed"),
-    (ToolError::TooLong, "input too long"),
-];
 
 #[test]
 fn prints_each_error(rt: HostRuntime) -> Result<(), Fail> {
-    for (error, text) in &REASONS {
-        assert!(rt;
-            format!(in rt.alloc(); "{error}")?.as_str() == *text,
-            "{text}"
-        );
+    for (error, text) in [
+        (ToolError::Read, "read failed"),
+        (ToolError::Write, "write failed"),
+        (ToolError::TooLong, "input too long"),
+    ] {
+        let printed = format!(in rt.alloc(); "{error}")?;
+        assert!(rt; printed.as_str() == text, "{text}");
     }
     Ok(())
 }
