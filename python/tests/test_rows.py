@@ -4,7 +4,7 @@ import re
 import unittest
 
 from const_oid import ObjectIdentifier, OidError
-from const_oid._native import error_text
+from const_oid._native import error_text, wrong_component
 
 ROWS = pathlib.Path(__file__).resolve().parents[2] / "crates/oid_rows/stdin"
 
@@ -55,6 +55,7 @@ CALLS = {
     "octets": printed,
     "element": element,
     "arcs": lambda arcs: digits_of(ObjectIdentifier.from_arcs(map(int, arcs.split()))),
+    "component": lambda text: str(wrong_component(text.encode())).lower(),
     "parent": lambda digits: digits_of(oid_of(digits).parent),
     "child": lambda words: digits_of(oid_of(words.split(" ")[0]).child(int(words.split(" ")[1]))),
     "begins": pair(lambda oid, prefix: "yes" if oid.starts_with(prefix) else "no"),
@@ -65,7 +66,7 @@ CALLS = {
 }
 
 # What this package has no call for: the other orders, lists, and outputs of a length.
-LEFT_OUT = {"items_order", "owned", "owned_order", "borrowed", "borrowed_order", "list", "sorted", "component"}
+LEFT_OUT = {"items_order", "owned", "owned_order", "borrowed", "borrowed_order", "list", "sorted"}
 LEFT_OUT |= {"text_in", "arcs_in", "arcs_from"}
 
 

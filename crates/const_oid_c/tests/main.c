@@ -129,6 +129,13 @@ static void element_row(void) {
     say_octets(status, contents.octets);
 }
 
+/* Says the octets of a text in an output of a length. */
+static void text_in_row(const char *rest) {
+    const char *given = rest + strcspn(rest, " ");
+    if (*given == ' ') given++;
+    say_octets(const_oid_from_text(given, strlen(given), out, numbers[0]), out);
+}
+
 /* Says the index of the first wrong component. */
 static void component_row(const char *rest) {
     const_oid_status status = const_oid_from_text(rest, strlen(rest), out, MOST);
@@ -189,6 +196,7 @@ static void order_row(comparison *compared_by) {
 
 static void answer(const char *call, const char *rest) {
     if (IS("text")) say_octets(const_oid_from_text(rest, strlen(rest), out, MOST), out);
+    else if (IS("text_in")) text_in_row(rest);
     else if (IS("component")) component_row(rest);
     else if (IS("bytes")) say_octets(const_oid_from_text((const char *)items[0].octets, items[0].len, out, MOST), out);
     else if (IS("octets")) octets_row();
@@ -225,8 +233,6 @@ int main(void) {
         char *wanted = strstr(row, " = ");
         if (row[0] == '#' || wanted == NULL) continue;
         rows++;
-        /* In a short output too, the library looks for an error in the whole text. */
-        if (strncmp(row, "text_in ", 8) == 0) continue;
         *wanted = 0;
         wanted += 3;
         /* The library does not say how long an element of wrong octets is. */
@@ -237,6 +243,8 @@ int main(void) {
         read_words(rest);
         answer(row, rest);
         if (said_len == strlen(wanted) && memcmp(said, wanted, said_len) == 0) continue;
+        /* In a short output too, the library looks for an error in the whole text. */
+        if (strcmp(row, "text_in") == 0 && strstr(wanted, "length") && strncmp(said, "error", 5) == 0) continue;
         wrong++;
         printf("line %zu: %s, and not %.*s\n", line, read, (int)said_len, said);
     }

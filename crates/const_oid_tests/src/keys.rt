@@ -7,8 +7,9 @@ ghost use Rattle.const_oid.specs.Oid.{oid_octets};
 ghost use Rattle.const_oid.specs.OidRef.{ref_octets};
 
 use crate::vectors::{accepted_rows, parse, read_borrowed};
-use const_oid::{ObjectIdentifier, ObjectIdentifierRef, Oid};
+use const_oid::{Arc, ObjectIdentifier, ObjectIdentifierRef, Oid};
 use const_oid_uses::theorems::parent_of_child;
+use std::alloc::Global;
 use std::collections::{BTreeMap, HashMap};
 use std::hash::{DefaultHasher, Hash, Hasher};
 use std::test::Fail;
@@ -30,8 +31,20 @@ fn ref_hash_of(oid: &ObjectIdentifierRef<'_>) -> u64
     state.finish()
 }
 
+/// Whether the parent hashes as the identifier of all arcs but the last one, and finds it.
+fn parent_is_key(alloc: Global, oid: &Oid) -> Result<bool, Fail> {
+    let arcs: Vec<Arc> = oid.arcs().collect(alloc)?;
+    let (Some(parent), Some((_, shorter))) = (oid.parent(), arcs.split_last()) else {
+        return Ok(arcs.len() == 2);
+    };
+    let shorter = Oid::from_arcs(shorter.iter().copied())?;
+    let mut keys = HashMap::new(alloc);
+    keys.insert(shorter, true)?;
+    Ok(hash_of(&parent) == hash_of(&shorter) && keys.get(&parent).is_some())
+}
+
 /// The identifiers of the texts are the keys of their octets, and the borrowed ones those of octets elsewhere. They hash
-/// as the parents of their children and as their borrowed forms do.
+/// as the parents of their children and as their borrowed forms do, and so do their parents.
 #[test]
 fn finds_keys_by_text(rt: HostRuntime) -> Result<(), Fail> {
     let (mut hashed, mut sorted) = (HashMap::new(rt.alloc()), BTreeMap::new(rt.alloc()));
@@ -58,6 +71,7 @@ fn finds_keys_by_text(rt: HostRuntime) -> Result<(), Fail> {
             "{text}"
         );
         assert!(rt; ref_hash_of(&oid.as_oid_ref()) == hash, "{text}");
+        assert!(rt; parent_is_key(rt.alloc(), &oid)?, "{text}");
     }
     let absent = Oid::new_unwrap("1.2.5");
     assert!(rt; hashed.get(&absent).is_none() && sorted.get(&absent).is_none());

@@ -142,6 +142,23 @@ fn finds_ranges(rt: HostRuntime) -> Result<(), Fail> {
     Ok(())
 }
 
+/// Ten columns of a hundred rows, as a table of interfaces has them (RFC 2863), are sorted. One has its range.
+#[test]
+fn finds_a_column_of_a_thousand_cells(rt: HostRuntime) -> Result<(), Fail> {
+    let (mut cells, mut oids) = (Vec::new(rt.alloc()), Vec::new(rt.alloc()));
+    for index in 0..1000u32 {
+        let (column, row) = (index * 37 % 1000 / 100 + 1, index * 37 % 100 + 1);
+        cells.push(Oid::from_arcs([1, 3, 6, 1, 2, 1, 2, 2, 1, column, row])?)?;
+    }
+    for cell in &cells {
+        oids.push(cell.as_oid_ref())?;
+    }
+    oids.sort()?;
+    let column = Oid::new_unwrap("1.3.6.1.2.1.2.2.1.3");
+    assert!(rt; column.as_oid_ref().subtree(&oids) == (200, 300));
+    Ok(())
+}
+
 /// A sorted set, filled in reverse order, keeps subtrees together.
 #[test]
 fn a_set_has_the_borrowed_order(rt: HostRuntime) -> Result<(), Fail> {

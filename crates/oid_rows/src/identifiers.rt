@@ -248,3 +248,23 @@ pub fn element(alloc: Global, digits: &str) -> Result<String> {
         Err(error) => Ok(format!(in alloc; "{len} bytes, error: {error}")?),
     }
 }
+
+/// The text of the error that the library for C numbers so, with its arc or byte, or `None` if the number is of another
+/// result.
+pub fn error(alloc: Global, code: &str, number: Arc) -> Result<Option<String>> {
+    let error = match (code, number) {
+        ("1", arc) => Error::ArcInvalid { arc },
+        ("2", _) => Error::ArcTooBig,
+        ("3", _) => Error::Base128,
+        ("4", 0..256) => Error::DigitExpected {
+            actual: number as u8,
+        },
+        ("5", _) => Error::Empty,
+        ("6", _) => Error::Length,
+        ("7", _) => Error::Overflow,
+        ("8", _) => Error::RepeatedDot,
+        ("9", _) => Error::TrailingDot,
+        _ => return Ok(None),
+    };
+    Ok(Some(format!(in alloc; "{error}")?))
+}

@@ -72,7 +72,8 @@ fn answer(alloc: Global, call: &str, input: &str) -> Result<Option<String>> {
         "sorted" => relations::sorted(alloc, &words)?,
         "list" => relations::list(alloc, first, words.get(1..).unwrap_or(&[]))?,
         "names" => relations::names(alloc, first, words.get(1..).unwrap_or(&[]))?,
-        "items_order" | "error" => return Ok(None),
+        "error" => return identifiers::error(alloc, first, rest.parse()?),
+        "items_order" => return Ok(None),
         _ => match call.strip_suffix("_order") {
             Some(call) => relations::in_order(alloc, call, &words)?,
             None => relations::pair(alloc, call, first, rest)?,
