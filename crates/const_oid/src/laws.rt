@@ -3,7 +3,7 @@
 //! A `rule` is either of the two rules of the root: `Wide`, which the crate keeps, or `Narrow`. An input is accepted if
 //! it has no fault. A group is the octets of one subidentifier.
 
-ghost use Rattle.std.specs.Prelude.{◌≡◌, ◌≢◌, ◌↔◌, ℕ, ◌+◌, ◌*◌, ◌^◌, ◌<◌, ◌≤◌, List, [], ◌∷◌, ◌++◌, length, map, nat_lt, sum_by, count_by, Some, None, Ok, codes, ◌-◌, take, slice_get};
+ghost use Rattle.std.specs.Prelude.{◌≡◌, ◌≢◌, ◌↔◌, ℕ, ◌+◌, ◌*◌, ◌^◌, ◌<◌, ◌≤◌, List, [], ◌∷◌, ◌++◌, length, map, drop, nat_lt, sum_by, count_by, Some, None, Ok, codes, ◌-◌, take, slice_get};
 ghost use Rattle.std.specs.Cmp.{IsTotalOrder};
 ghost use Rattle.std.specs.Cmp.Lexicographic.{slice_cmp};
 ghost use Rattle.std.specs.List.{AllByRecursion, AllZip, concat};
@@ -274,6 +274,8 @@ pub fn parts()
         → length arcs ≡ 1 + count_by (λ x. nat_lt x 128) octets }
     ensures parts { (rule : RootRule) (arcs octets : List ℕ) → IsEncoding rule arcs octets
         → length arcs ≡ 1 + length (cut octets) }
+    ensures later { (rule : RootRule) (arcs octets : List ℕ) → IsEncoding rule arcs octets
+        → drop 2 arcs ≡ map value_of (drop 1 (cut octets)) }
     ensures root { (rule : RootRule) (arcs octets : List ℕ) → IsEncoding rule arcs octets
         → take 2 arcs ≡ arcs_from (map value_of (take 1 (cut octets))) }
     ensures arc { (rule : RootRule) (arcs octets : List ℕ) (i : ℕ) → IsEncoding rule arcs octets
@@ -287,6 +289,9 @@ pub fn tree()
     ensures child { (rule : RootRule) (arcs octets : List ℕ) (arc : ℕ) (group : List ℕ)
         → IsEncoding rule arcs octets → arc ≤ max_arc → IsGroup arc group
         → IsEncoding rule (arcs ++ arc ∷ []) (octets ++ group) }
+    ensures parent { (rule : RootRule) (arcs octets : List ℕ) (arc : ℕ) → IsIdentifier rule arcs
+        → IsEncoding rule (arcs ++ arc ∷ []) octets
+        → (parts : List (List ℕ)) × (last : List ℕ) × (cut octets ≡ parts ++ last ∷ []) × IsEncoding rule arcs (concat parts) }
     ensures undone { (rule : RootRule) (arcs : List ℕ) (arc : ℕ) → IsIdentifier rule arcs
         → parent_of (child_of arcs arc) ≡ Some arcs }
     ensures again { (rule : RootRule) (arcs parent : List ℕ) → IsIdentifier rule arcs
