@@ -18,7 +18,7 @@ fn item(row: &str, index: u32) -> ObjectIdentifier {
     .unwrap()
 }
 
-/// The sum of what a side finds by a row, so many times in a table of so many rows, or of how many rows it makes.
+/// The sum of what a side finds by a row, `times` times in a table of `count` rows, or of how many rows it makes.
 pub fn sum(side: &str, row: &str, count: u32, times: usize) -> usize {
     let rows: Vec<_> = (0..count).map(|index| (item(row, index), format!("name-{index}"))).collect();
     let entries: Vec<_> = rows.iter().map(|(oid, name)| (oid, &**name)).collect();

@@ -1,4 +1,4 @@
-//! sorted SIDE ROW COUNT TIMES: a function of the library for C, or that of the cargo crate's SortedDatabase, so many
+//! sorted SIDE ROW COUNT TIMES: a function of the library for C, or that of the cargo crate's SortedDatabase, TIMES
 //! times over COUNT identifiers of 8 arcs in lexicographic order. The row `sort` sorts them, in C by qsort. SIDE is c
 //! or crate, or one of those of `names`. `run` counts its instructions, the loop included. All sides of a row print the
 //! same sum of what they found.

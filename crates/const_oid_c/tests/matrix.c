@@ -6,7 +6,9 @@
  *
  * With -DBESIDE the library that rt proved is linked, too, its functions with the prefix `proved_`: for each call both
  * return and write the same, bit for bit. For each function digests of what it returns and writes are printed: one of
- * the calls that 32 bits allow, and one of the others, if they are made. */
+ * the calls that 32 bits allow, and one of the others, if they are made.
+ *
+ * With -DFUZZED -fsanitize=fuzzer, what libFuzzer gives takes the place of the lengths and numbers. */
 #include "see.h"
 
 #include <const_oid_names.h>
@@ -671,6 +673,28 @@ static void map_arguments(void) {
     }
 }
 
+#ifdef FUZZED
+/* Octets, text or arcs. In a text, what is not ASCII is not UTF-8. */
+int LLVMFuzzerTestOneInput(const uint8_t *data, size_t len) {
+    static uint32_t items[MOST];
+    static uint8_t text[MOST];
+    if (len > MOST) return -1;
+    if (output_pages.start == NULL) map_arguments();
+    map(&output_pages, 34);
+    map(&proved_pages, 34);
+    memcpy(items, data, len);
+    for (size_t i = 0; i < len; i++) text[i] = data[i] < 0x80 ? data[i] : 0xFF;
+    for (int i = 0; i < FUNCTIONS; i++) {
+        f = &functions[i];
+        for (int at = 0; at < output_at(); at++) {
+            enum kind kind = f->kinds[at];
+            if (sizes[kind] == 0 || kind == LIST) continue;
+            with(at, kind == TEXT ? (void *)text : items, len / sizes[kind]);
+        }
+    }
+    return 0;
+}
+#else
 int main(void) {
     map_arguments();
     map(&input_pages, 34);
@@ -693,3 +717,4 @@ int main(void) {
     if (equal_items == NULL) fprintf(stderr, "tests: no length past 2^32, since no more is mapped\n");
     return 0;
 }
+#endif
