@@ -67,13 +67,6 @@ static const_oid_status status_of(uint32_t number) { return (const_oid_status){C
 /* The functions that rt proved, if they are here. */
 #ifdef BESIDE
 #define PROVED(name) proved_##name
-#define ARGUMENT(kind, i)
-#define NOTHING
-#define CALL(result, name, ...) extern __typeof__(name) proved_##name;
-#include "calls.h"
-#undef ARGUMENT
-#undef NOTHING
-#undef CALL
 #else
 #define PROVED(name) name
 #endif
@@ -86,6 +79,7 @@ static const_oid_status status_of(uint32_t number) { return (const_oid_status){C
         return STATUS_##result(called(__VA_ARGS__)); \
     }
 #define CALL(result, name, ...) \
+    extern __typeof__(name) PROVED(name); \
     CALLER(result, name##_call, name, __VA_ARGS__) \
     CALLER(result, name##_proved, PROVED(name), __VA_ARGS__)
 #include "calls.h"
