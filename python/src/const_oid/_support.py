@@ -1,7 +1,5 @@
 """Errors, and what else the extension module calls in Python."""
 
-from __future__ import annotations
-
 import copy
 import enum
 import importlib
