@@ -93,8 +93,7 @@ def _installed():
 def _compile(target, config_settings):
     """Compiles the extension module."""
     is_installed = (config_settings or {}).get("library") == "installed"
-    missing = list(_missing(is_installed))
-    if missing:
+    if missing := list(_missing(is_installed)):
         raise SystemExit(f"const-oid: to be installed first: {'; '.join(missing)}")
     link = ["-shared", "-Wl,--exclude-libs,ALL", "-s"]
     flags = ["-std=c11", "-O2", "-fPIC", "-fvisibility=hidden", *shlex.split(os.environ.get("CFLAGS", ""))]

@@ -5,7 +5,6 @@
 #include <Python.h>
 #include <const_oid.h>
 #include <stddef.h>
-#include <stdio.h>
 #include <string.h>
 #include <structmember.h>
 
@@ -465,8 +464,6 @@ PyDoc_STRVAR(identifier_doc,
     "It is hashable, and ordered by its arcs, as in SNMP. No tuple or text equals it.\n\n"
     ">>> sorted(map(ObjectIdentifier, [\"1.10\", \"1.2.3\", \"1.2\"]))\n"
     "[ObjectIdentifier('1.2'), ObjectIdentifier('1.2.3'), ObjectIdentifier('1.10')]\n"
-    ">>> oid == (2, 999, 3), oid == \"2.999.3\", oid.arcs == (2, 999, 3), str(oid) == \"2.999.3\"\n"
-    "(False, False, True, True)\n"
     ">>> match oid:\n"
     "...     case ObjectIdentifier((2, 999, *rest)):\n"
     "...         print(rest)\n"

@@ -31,7 +31,7 @@ def load_tests(loader, tests, pattern):
     for module in (const_oid, names, sorted_map):
         tests.addTests(doctest.DocTestSuite(module))
     # doctest does not look for properties of a class in C.
-    for name in ("arcs", "parent"):
+    for name in ("arcs", "der", "parent"):
         text = vars(ObjectIdentifier)[name].__doc__
         examples = doctest.DocTestParser().get_doctest(text, vars(const_oid), name, None, 0)
         tests.addTest(doctest.DocTestCase(examples))

@@ -30,15 +30,14 @@ class Names(unittest.TestCase):
     def test_each_entry_is_found(self):
         """All names of each identifier, and the first entry with a name, whatever the case of its ASCII letters."""
         names_of, first = {}, {}
-        for arcs, name in rows():
-            names_of.setdefault(arcs, {})[name] = None
-            first.setdefault(name.lower(), arcs)
-        for arcs, wanted in names_of.items():
-            oid = ObjectIdentifier.from_arcs(arcs)
+        for oid, name in names.entries():
+            names_of.setdefault(oid, {})[name] = None
+            first.setdefault(name.lower(), oid)
+        for oid, wanted in names_of.items():
             self.assertEqual((tuple(wanted), next(iter(wanted))), (names.names_of(oid), names.name_of(oid)))
-        for name, arcs in first.items():
+        for name, oid in first.items():
             for given in (name, name.upper(), name.title()):
-                self.assertEqual(arcs, names.by_name(given).arcs, given)
+                self.assertEqual(oid, names.by_name(given), given)
 
     def test_others_are_not_found(self):
         oid = ObjectIdentifier("2.999")

@@ -46,8 +46,7 @@ REFUSED = {
         {"PKG_CONFIG_PATH": "/missing", "PKG_CONFIG_LIBDIR": "/missing"},
     FIRST + r"rustc 1\.85 or later \(https://rustup\.rs\)$": {"settings": None, "before": RUST.replace("?", "1.84.1")},
     "'NoneType' object is not subscriptable$": {"settings": None, "before": RUST.replace("?", "1.100.0")},
-    "^const-oid: false .* ends with status 1$": {"CC": "false"},
-    " --no-such-option -shared .* ends with status 1$": {"CFLAGS": "--no-such-option"},
+    "\nconst-oid: .* --no-such-option -shared .* ends with status 1$": {"CFLAGS": "--no-such-option"},
     " -o .* --no-such-option ends with status 1$": {"LDFLAGS": "--no-such-option"},
 }
 

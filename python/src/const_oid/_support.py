@@ -1,7 +1,5 @@
 """Errors, and what else the extension module calls in Python."""
 
-from __future__ import annotations
-
 import copy
 import enum
 import importlib
@@ -12,8 +10,6 @@ from collections.abc import Sequence
 from typing import Any
 
 from ._native import ObjectIdentifier, error_text, wrong_component
-
-PUBLIC = "const_oid"
 
 Sequence.register(ObjectIdentifier)
 
@@ -28,7 +24,7 @@ class _Listed(enum.EnumType):
 class Code(enum.IntEnum, metaclass=_Listed):
     """Why there is no result: `code` of an `OidError`."""
 
-    __module__ = PUBLIC
+    __module__ = "const_oid"
 
     ARC_INVALID = 1
     ARC_TOO_BIG = 2
@@ -56,7 +52,7 @@ class OidError(ValueError):
     expected digit, got 'x', given '1.2.x'; DIGIT_EXPECTED; 120; 1.2.x; 2
     """
 
-    __module__ = PUBLIC
+    __module__ = "const_oid"
 
     def __init__(self, code: int, detail: int = 0, given: object = None) -> None:
         super().__init__(code, detail)

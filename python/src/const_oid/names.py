@@ -1,7 +1,5 @@
 """Names of identifiers, from RFCs and other documents: 1,492 entries."""
 
-from __future__ import annotations
-
 import pathlib
 from functools import cache
 

@@ -1,7 +1,5 @@
 """A mapping that is sorted by arcs."""
 
-from __future__ import annotations
-
 import copy
 from bisect import bisect, bisect_left, insort
 from collections.abc import Callable, Iterable, Iterator, Mapping, MutableMapping
