@@ -183,8 +183,7 @@ pub(crate) fn order_number(ordering: Ordering) -> i32
     }
 }
 
-/// 65536 times the major number, 256 times the minor one and the patch number, as
-/// `CONST_OID_VERSION`.
+/// 65536 times the major number, 256 times the minor one and the patch number, as `CONST_OID_VERSION`.
 #[unsafe(no_mangle)]
 pub extern "C" fn const_oid_version() -> u32
     ensures { result ≡ 65536 * 1 + 256 * 3 }
