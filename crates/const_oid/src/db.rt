@@ -145,8 +145,8 @@ impl<'a> Database<'a> {
         None
     }
 
-    /// The names in all entries with this identifier, in the order of the table, one for each entry. [`Database`] has an
-    /// example.
+    /// The names in all entries with this identifier, in the order of the table, one for each entry. [`Database`] has
+    /// an example.
     // erase: const
     pub fn find_names_for_oid(&self, oid: Oid) -> Names<'a>
         ensures { names_left result ≡ all_names lent_arcs (entries_of self.now) (oid_arcs oid) }

@@ -156,8 +156,7 @@ impl ObjectIdentifier<39> {
     ///
     /// # Errors
     ///
-    /// Those of [`ObjectIdentifierRef::from_bytes`], which has an example, with [`Error::Length`] if there are more than
-    /// 39 octets.
+    /// Those of [`ObjectIdentifierRef::from_bytes`], which has an example, and [`Error::Length`] past 39 octets.
     #[inline(always)]
     pub fn from_bytes(ber_bytes: &[u8]) -> Result<Self>
         ensures answer { oid_answer result ≡ octet_answer root_rule ber_bytes.now default_capacity }
@@ -335,8 +334,8 @@ impl<const MAX_SIZE: usize> ObjectIdentifier<MAX_SIZE> {
         self.as_oid_ref().element_len()
     }
 
-    /// Writes the element in DER as [`ObjectIdentifierRef::write_element`] does, which has an example. Three octets more
-    /// than the contents are always enough.
+    /// Writes the element in DER as [`ObjectIdentifierRef::write_element`] does, which has an example. Three octets
+    /// more than the contents are always enough.
     pub fn write_element(&self, out: &mut [u8]) -> Option<usize>
         ensures written { Writes (element (oid_octets self.now)) out.old out.new result }
         ensures kept { result ≡ None → out.new ≡ out.old }

@@ -140,8 +140,7 @@ pub(crate) fn order_number(ordering: Ordering) -> i32 {
     }
 }
 
-/// 65536 times the major number, 256 times the minor one and the patch number, as
-/// `CONST_OID_VERSION`.
+/// 65536 times the major number, 256 times the minor one and the patch number, as `CONST_OID_VERSION`.
 pub fn const_oid_version() -> u32 {
     (1 << 16) + (3 << 8)
 }

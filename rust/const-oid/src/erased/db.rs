@@ -114,8 +114,8 @@ impl<'a> Database<'a> {
         None
     }
 
-    /// The names in all entries with this identifier, in the order of the table, one for each entry. [`Database`] has an
-    /// example.
+    /// The names in all entries with this identifier, in the order of the table, one for each entry. [`Database`] has
+    /// an example.
     #[must_use]
     pub const fn find_names_for_oid(&self, oid: Oid) -> Names<'a> {
         Names { database: *self, index: first_candidate(self.oid_links, self.entries.len(), oid.as_bytes()), oid }

@@ -123,8 +123,7 @@ impl ObjectIdentifier<39> {
     ///
     /// # Errors
     ///
-    /// Those of [`ObjectIdentifierRef::from_bytes`], which has an example, with [`Error::Length`] if there are more than
-    /// 39 octets.
+    /// Those of [`ObjectIdentifierRef::from_bytes`], which has an example, and [`Error::Length`] past 39 octets.
     #[inline(always)]
     pub fn from_bytes(ber_bytes: &[u8]) -> Result<Self> {
         Self::from_bytes_sized(ber_bytes)
@@ -257,8 +256,8 @@ impl<const MAX_SIZE: usize> ObjectIdentifier<MAX_SIZE> {
         self.as_oid_ref().element_len()
     }
 
-    /// Writes the element in DER as [`ObjectIdentifierRef::write_element`] does, which has an example. Three octets more
-    /// than the contents are always enough.
+    /// Writes the element in DER as [`ObjectIdentifierRef::write_element`] does, which has an example. Three octets
+    /// more than the contents are always enough.
     #[must_use]
     pub fn write_element(&self, out: &mut [u8]) -> Option<usize> {
         self.as_oid_ref().write_element(out)
