@@ -19,6 +19,10 @@ pub type Result<T> = core::result::Result<T, Error>;
 /// let error = ObjectIdentifier::new("1..2").unwrap_err();
 /// assert_eq!(error, Error::RepeatedDot);
 /// assert_eq!(error.to_string(), "repeated consecutive '..' characters in OID");
+///
+/// let mut out = [0; 47];
+/// assert_eq!(error.encode_text(&mut out), Some(error.text_len()));
+/// assert_eq!(error.encode_str(&mut out), Some("repeated consecutive '..' characters in OID"));
 /// ```
 #[derive(Copy, Clone, Debug, Eq, PartialEq, PartialOrd, Ord, Hash)]
 pub enum Error {
@@ -61,7 +65,7 @@ pub enum Error {
 const MAX_TEXT_LEN: usize = 47;
 
 impl Error {
-    /// The length in bytes of the text that `{}` writes. [`encode_text`](Self::encode_text) has an example.
+    /// The length in bytes of the text that `{}` writes. [`Error`] has an example.
     #[inline]
     #[must_use]
     pub fn text_len(self) -> usize {
@@ -70,17 +74,7 @@ impl Error {
     }
 
     /// Writes the text that `{}` writes to the start of `out`, and returns its length in bytes. Returns `None` if it is
-    /// longer than `out`, which is then unchanged. 47 bytes are always enough.
-    ///
-    /// # Examples
-    ///
-    /// ```
-    /// let mut out = [0; 32];
-    /// let len = const_oid::Error::Length.encode_text(&mut out).unwrap();
-    /// assert_eq!(&out[..len], b"OID length invalid");
-    /// assert_eq!(const_oid::Error::Length.text_len(), len);
-    /// assert_eq!(const_oid::Error::Length.encode_str(&mut out), Some("OID length invalid"));
-    /// ```
+    /// longer than `out`, which is then unchanged. 47 bytes are always enough. [`Error`] has an example.
     #[inline(always)]
     #[must_use]
     pub fn encode_text(self, out: &mut [u8]) -> Option<usize> {
@@ -93,7 +87,7 @@ impl Error {
         Some(write_bytes(after.as_bytes(), out, at))
     }
 
-    /// Writes the text as [`encode_text`](Self::encode_text) does, which has an example, and borrows it as a `str`.
+    /// Writes the text as [`encode_text`](Self::encode_text) does, and borrows it as a `str`.
     #[inline]
     #[must_use]
     pub fn encode_str<'o>(self, out: &'o mut [u8]) -> Option<&'o str> {

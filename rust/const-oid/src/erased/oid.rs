@@ -198,7 +198,6 @@ impl<const MAX_SIZE: usize> ObjectIdentifier<MAX_SIZE> {
     /// ```
     /// use const_oid::{Error, ObjectIdentifier};
     ///
-    /// assert_eq!(ObjectIdentifier::from_ascii(b"2.999.3"), ObjectIdentifier::new("2.999.3"));
     /// let oid: Result<ObjectIdentifier, Error> = ObjectIdentifier::from_ascii(b"2.\xff");
     /// assert_eq!(oid, Err(Error::DigitExpected { actual: 0xff }));
     /// ```
