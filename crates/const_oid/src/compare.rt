@@ -1,7 +1,6 @@
 //! How slices of octets and names compare.
 
 ghost use Rattle.std.specs.Prelude.{◌≡◌, ◌≢◌, ◌↔◌, ℕ, ◌<◌, ◌≤◌, List, ◌++◌, length, slice_index, take, drop, min, None, IsFalse, IsTrue};
-ghost use Rattle.std.specs.Cmp.Lexicographic.{slice_cmp};
 ghost use Rattle.std.specs.Ordering.{nat_cmp};
 ghost use Rattle.std.specs.Str.{str_eq_ignore_ascii_case};
 ghost use Rattle.const_oid.specs.Contents.{cut, parts_fault};
@@ -131,8 +130,8 @@ pub(crate) const fn is_same_name(a: &str, b: &str) -> bool
 }
 
 /// The first index from `start` up to `end` at which the octets differ, or `end` if there is none. Before `start` they
-/// must be the same. So both orders of all octets are those of the octets from the result on.
-#[tactic(auto, using(crate::proofs::Shortlex::after_same, crate::proofs::ByParts::same_up_to))]
+/// must be the same. So the order by parts of all octets is that of the octets from the result on.
+#[tactic(auto, using(crate::proofs::ByParts::same_up_to))]
 #[inline(always)]
 const fn first_difference(a: &[u8], b: &[u8], start: usize, end: usize) -> usize
     requires ends { end ≤ min (length a.now) (length b.now) }
@@ -140,7 +139,6 @@ const fn first_difference(a: &[u8], b: &[u8], start: usize, end: usize) -> usize
     ensures within { result ≤ end }
     ensures same { take result a.now ≡ take result b.now }
     ensures unequal { result < end → slice_index a.now result ≢ slice_index b.now result }
-    ensures order { slice_cmp nat_cmp a.now b.now ≡ slice_cmp nat_cmp (drop result a.now) (drop result b.now) }
     ensures by_parts { parts_cmp a.now b.now ≡ parts_cmp (drop result a.now) (drop result b.now) }
 {
     let mut index = start;

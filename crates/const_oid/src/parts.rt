@@ -26,7 +26,6 @@ pub(crate) fn skip_parts(octets: &[u8], parts: usize) -> &[u8]
 #[inline]
 pub(crate) fn without_last_part(octets: &[u8]) -> &[u8]
     ensures parts { let parts = cut octets.now in cut result.now ≡ take (length parts - 1) parts }
-    ensures short { length result.now ≤ length octets.now }
     ensures finished { IsFinishedPrefix (take (length octets.now - 1) octets.now) result.now }
 {
     let Some((_, prefix)) = octets.split_last() else {

@@ -93,7 +93,7 @@ pub(crate) const fn is_same_name(a: &str, b: &str) -> bool {
 }
 
 /// The first index from `start` up to `end` at which the octets differ, or `end` if there is none. Before `start` they
-/// must be the same. So both orders of all octets are those of the octets from the result on.
+/// must be the same. So the order by parts of all octets is that of the octets from the result on.
 #[inline(always)]
 const fn first_difference(a: &[u8], b: &[u8], start: usize, end: usize) -> usize {
     let mut index = start;
