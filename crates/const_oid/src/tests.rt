@@ -33,11 +33,6 @@ fn buffers(rt: HostRuntime) {
     }
 }
 
-/// The encoding of arcs in seven octets.
-fn encode_in_seven(arcs: &[Arc]) -> Result<Buffer<7>> {
-    Buffer::encoded(arcs.iter().copied())
-}
-
 /// Arcs, and their octets in seven, or the error.
 const ENCODINGS: &[(&[Arc], Result<&[u8]>)] = &[
     (
@@ -47,9 +42,9 @@ const ENCODINGS: &[(&[Arc], Result<&[u8]>)] = &[
     (&[1, 2, 840, 10045, 2, 1, 0], Err(Error::Length)),
 ];
 
-/// Whether arcs have these octets, or this error.
+/// Whether arcs have these octets in a buffer of seven, or this error.
 fn is_encoded(arcs: &[Arc], wanted: Result<&[u8]>) -> bool {
-    match (encode_in_seven(arcs), wanted) {
+    match (Buffer::<7>::encoded(arcs.iter().copied()), wanted) {
         (Ok(buffer), Ok(octets)) => buffer.as_bytes() == octets,
         (made, wanted) => made.err() == wanted.err(),
     }
