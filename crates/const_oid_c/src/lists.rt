@@ -2,7 +2,7 @@
 //!
 //! No search checks the list: over a list that `const_oid_check_sorted` does not accept, what it finds is
 //! unspecified, but is within the list.
-ghost use Rattle.std.specs.Prelude.{◌≡◌, ◌≢◌, ◌+◌, ◌<◌, ◌≤◌, ◌↔◌, ℕ, [], All, None, Some, length, true, false, count_by, slice_get, IfErr, IfOk, IfSome, IfNone};
+ghost use Rattle.std.specs.Prelude.{◌≡◌, ◌≢◌, ◌<◌, ◌≤◌, ◌↔◌, ℕ, [], All, None, Some, length, true, false, count_by, slice_get, IfErr, IfOk, IfSome, IfNone};
 ghost use Rattle.std.specs.Cmp.Lexicographic.{slice_cmp};
 ghost use Rattle.std.specs.List.{position};
 ghost use Rattle.std.specs.List.Sorted.{IsSortedByKey};
