@@ -36,6 +36,7 @@ pub use buffer::Buffer;
 pub use error::{Error, Result};
 pub use oid::{ObjectIdentifier, Oid};
 pub use oid_ref::ObjectIdentifierRef;
+
 /// One arc of an object identifier, a 32-bit number.
 ///
 /// # Examples
