@@ -45,24 +45,18 @@ impl Call {
         })
     }
 
-    /// The head over pointers, and what the function over slices is given.
-    fn over_pointers(&self) -> (String, String) {
+    fn export(&self) -> String {
+        let Call { module, name, result, .. } = self;
         let arguments = self.arguments.iter().map(|(name, of)| over_pointers(name, of));
         let (parameters, given): (Vec<String>, Vec<String>) = arguments.unzip();
-        let (name, result) = (&self.name, &self.result);
-        let head = format!("fn {name}({}) -> {result}", parameters.join(", "));
-        (head, given.join(", "))
-    }
-
-    fn export(&self) -> String {
-        let (head, given) = self.over_pointers();
-        let call = format!("crate::erased::{}::{}({given})", self.module, self.name);
+        let head = format!("extern \"C\" fn {name}({}) -> {result}", parameters.join(", "));
+        let call = format!("crate::erased::{module}::{name}({})", given.join(", "));
         if given.is_empty() {
-            return format!("\n#[unsafe(no_mangle)]\npub extern \"C\" {head} {{ {call} }}\n");
+            return format!("\n#[unsafe(no_mangle)]\npub {head} {{ {call} }}\n");
         }
         format!(
             "\n/// # Safety\n///\n/// The header says what a caller guarantees.\n#[unsafe(no_mangle)]\n\
-             pub unsafe extern \"C\" {head} {{\n// SAFETY: the caller guarantees it.\nunsafe {{ {call} }}\n}}\n"
+             pub unsafe {head} {{\n// SAFETY: the caller guarantees it.\nunsafe {{ {call} }}\n}}\n"
         )
     }
 

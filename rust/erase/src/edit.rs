@@ -1,7 +1,7 @@
 //! Applies edits: tokens that other tokens replace.
 
 use crate::table::{Crate, Edit};
-use crate::token::{is_blank, is_space, tokens};
+use crate::token::{is_blank, tokens};
 
 /// The tokens with `new` in place of `old`, and the number of places. Neither space nor comments are compared.
 pub fn replaced<'a>(source: &[&'a str], old: &str, new: &'a str) -> (Vec<&'a str>, usize) {
@@ -10,7 +10,7 @@ pub fn replaced<'a>(source: &[&'a str], old: &str, new: &'a str) -> (Vec<&'a str
     while at < source.len() {
         if let Some(len) = len_of(&source[at..], &old) {
             out.extend(tokens(new));
-            let is_gap = new.is_empty() && source.get(at + len).is_some_and(|token| is_space(token));
+            let is_gap = new.is_empty() && source.get(at + len).is_some_and(|token| token.trim().is_empty());
             at += len + usize::from(is_gap);
             places += 1;
         } else {

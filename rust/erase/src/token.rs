@@ -46,13 +46,9 @@ fn is_word(c: char) -> bool {
     c.is_alphanumeric() || c == '_'
 }
 
-pub fn is_space(token: &str) -> bool {
-    token.trim().is_empty()
-}
-
 /// Whether a token is space or a comment.
 pub fn is_blank(token: &str) -> bool {
-    is_space(token) || token.starts_with("//")
+    token.trim().is_empty() || token.starts_with("//")
 }
 
 /// The index after what begins at an index: after the bracket that closes the one there, or the next token.
