@@ -15,17 +15,15 @@ pub enum Error {
 }
 
 /// Octets to draw from.
-pub struct Unstructured<'a> {
-    data: &'a [u8],
-}
+pub struct Unstructured<'a>(&'a [u8]);
 
 impl<'a> Unstructured<'a> {
     pub fn new(data: &'a [u8]) -> Self {
-        Unstructured { data }
+        Unstructured(data)
     }
 
     pub fn is_empty(&self) -> bool {
-        self.data.is_empty()
+        self.0.is_empty()
     }
 
     pub fn arbitrary<T: Arbitrary<'a>>(&mut self) -> Result<T> {
@@ -36,6 +34,12 @@ impl<'a> Unstructured<'a> {
         let drawn: u32 = self.arbitrary()?;
         let count = u64::from(range.end() - range.start()) + 1;
         Ok(range.start() + (u64::from(drawn) % count) as u32)
+    }
+
+    fn octets<const N: usize>(&mut self) -> Result<[u8; N]> {
+        let (first, rest) = self.0.split_first_chunk().ok_or(Error::NotEnoughData)?;
+        self.0 = rest;
+        Ok(*first)
     }
 }
 
@@ -50,16 +54,12 @@ pub trait Arbitrary<'a>: Sized {
 
 impl<'a> Arbitrary<'a> for bool {
     fn arbitrary(u: &mut Unstructured<'a>) -> Result<Self> {
-        let (first, rest) = u.data.split_first().ok_or(Error::NotEnoughData)?;
-        u.data = rest;
-        Ok(first % 2 == 1)
+        Ok(u.octets::<1>()?[0] % 2 == 1)
     }
 }
 
 impl<'a> Arbitrary<'a> for u32 {
     fn arbitrary(u: &mut Unstructured<'a>) -> Result<Self> {
-        let (first, rest) = u.data.split_first_chunk().ok_or(Error::NotEnoughData)?;
-        u.data = rest;
-        Ok(u32::from_le_bytes(*first))
+        u.octets().map(u32::from_le_bytes)
     }
 }

@@ -34,26 +34,18 @@ impl<const MAX_SIZE: usize> Deref for ObjectIdentifier<MAX_SIZE> {
     }
 }
 
-/// The borrowed form by the traits that return it.
-macro_rules! borrowed {
-    ($($(#[$doc:meta])* $trait:ident::$name:ident)*) => {
-        $(
-            $(#[$doc])*
-            impl<const MAX_SIZE: usize> $trait<ObjectIdentifierRef> for ObjectIdentifier<MAX_SIZE> {
-                fn $name(&self) -> &ObjectIdentifierRef {
-                    self.as_oid_ref()
-                }
-            }
-        )*
-    };
+impl<const MAX_SIZE: usize> AsRef<ObjectIdentifierRef> for ObjectIdentifier<MAX_SIZE> {
+    fn as_ref(&self) -> &ObjectIdentifierRef {
+        self.as_oid_ref()
+    }
 }
 
-borrowed! {
-    AsRef::as_ref
-
-    /// For a `HashMap`. In a `BTreeMap`, use [`ByArcs`](crate::ByArcs): the orders of the two forms differ, against the
-    /// rule of [`Borrow`].
-    Borrow::borrow
+/// For a `HashMap`. In a `BTreeMap`, use [`ByArcs`](crate::ByArcs): the orders of the two forms differ, against the
+/// rule of [`Borrow`].
+impl<const MAX_SIZE: usize> Borrow<ObjectIdentifierRef> for ObjectIdentifier<MAX_SIZE> {
+    fn borrow(&self) -> &ObjectIdentifierRef {
+        self.as_oid_ref()
+    }
 }
 
 /// The octets, as a slice.

@@ -4,11 +4,9 @@
 //! A [`Database`] is a table in any order, for lookups in constants and by name. A [`SortedDatabase`] is in the order of
 //! arcs: a lookup is a binary search, and it also finds the nearest name, subtrees, and what GetNext of SNMP returns.
 
-pub use crate::erased::db::Database;
-pub use crate::erased::db::Names;
-pub use crate::erased::db::SortedDatabase;
+pub use crate::erased::db::{Database, Names, SortedDatabase};
 
-use crate::arcs::write_items;
+use crate::arcs::List;
 use crate::erased::links::{Key, links_of};
 use crate::{ObjectIdentifier, ObjectIdentifierRef};
 use core::fmt;
@@ -19,7 +17,7 @@ impl FusedIterator for Names<'_> {}
 /// `Names(["cn", "commonName"])`: the names that are left.
 impl fmt::Debug for Names<'_> {
     fn fmt(&self, f: &mut fmt::Formatter<'_>) -> fmt::Result {
-        write_items("Names", self.clone(), f)
+        f.debug_tuple("Names").field(&List(self.clone())).finish()
     }
 }
 

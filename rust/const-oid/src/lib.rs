@@ -41,12 +41,5 @@ pub mod internal_for_const_oid_c;
 mod traits;
 
 pub use by_arcs::ByArcs;
-pub use erased::Arc;
-pub use erased::Arcs;
-pub use erased::Buffer;
-pub use erased::Error;
-pub use erased::ObjectIdentifier;
-pub use erased::ObjectIdentifierRef;
-pub use erased::Oid;
-pub use erased::Result;
+pub use erased::{Arc, Arcs, Buffer, Error, ObjectIdentifier, ObjectIdentifierRef, Oid, Result};
 pub use traits::{AssociatedOid, DynAssociatedOid};

@@ -100,6 +100,10 @@ fn constants_have_their_values() {
     assert!(is_cn("2.5.4.3".parse().unwrap()) && is_cn(CHILD.unwrap().parent().unwrap()) && !is_cn(CHILD.unwrap()));
     // `parse` has one capacity, so that of an argument is known.
     assert!(CN == "2.5.4.3".parse().unwrap() && CN.starts_with("2.5.4".parse().unwrap()));
+    let _: fn(&[u8]) -> Result<const_oid::Oid> = ObjectIdentifier::from_bytes;
+    // Not those of the borrowed form.
+    let _: fn(&ObjectIdentifier<7>) -> Option<ObjectIdentifier<7>> = ObjectIdentifier::parent;
+    let _: fn(&ObjectIdentifier<7>) -> Arcs<'_> = ObjectIdentifier::arcs;
 }
 
 #[test]
@@ -120,58 +124,28 @@ fn a_wrong_text_panics_with_the_text_of_its_error() {
     }
 }
 
-/// The functions that no constant may call, each with its type.
-#[test]
-fn functions_have_their_types() {
-    let _: fn(&str) -> Result<ObjectIdentifier> = ObjectIdentifier::new;
-    let _: fn([Arc; 3]) -> Result<ObjectIdentifier> = ObjectIdentifier::from_arcs;
-    let _: fn([Arc; 3]) -> Result<ObjectIdentifier<7>> = ObjectIdentifier::from_arcs_sized;
-    let _: fn(&[u8]) -> Result<const_oid::Oid> = ObjectIdentifier::from_bytes;
-    let _: fn(&[u8]) -> Result<ObjectIdentifier<7>> = ObjectIdentifier::from_bytes_sized;
-    let _: for<'o> fn(&str, &'o mut [u8]) -> Result<&'o ObjectIdentifierRef> = ObjectIdentifierRef::new_in;
-    let _: for<'o> fn(&[u8], &'o mut [u8]) -> Result<&'o ObjectIdentifierRef> = ObjectIdentifierRef::from_ascii_in;
-    let _: for<'o> fn(&[Arc], &'o mut [u8]) -> Result<&'o ObjectIdentifierRef> = ObjectIdentifierRef::from_arcs_in;
-    let _: fn(&ObjectIdentifier<7>) -> Option<ObjectIdentifier<7>> = ObjectIdentifier::parent;
-    let _: fn(&ObjectIdentifier<7>) -> Arcs<'_> = ObjectIdentifier::arcs;
-    let _: fn(&ObjectIdentifierRef) -> Arcs<'_> = ObjectIdentifierRef::arcs;
-    let _: fn(&ObjectIdentifierRef) -> Option<&ObjectIdentifierRef> = ObjectIdentifierRef::parent;
-    let _: fn(&[u8]) -> Option<usize> = ObjectIdentifierRef::wrong_component;
-    let _: fn(Error) -> usize = Error::text_len;
-}
-
-/// A type with an identifier, as a bound and as `dyn`: one that borrows, and one without a size.
+/// Types with an identifier: one that borrows, as `dyn`, and two without a size.
 #[test]
 fn types_have_identifiers() {
-    #[allow(dead_code)]
-    struct Name<'a>(&'a str);
-    impl AssociatedOid for Name<'_> {
+    struct Of<T: ?Sized>(#[allow(dead_code)] T);
+    impl AssociatedOid for Of<&str> {
         const OID: ObjectIdentifier = CN;
     }
-    struct Values<T: ?Sized>(T);
-    impl AssociatedOid for Values<str> {
+    impl AssociatedOid for Of<str> {
         const OID: ObjectIdentifier = CN;
     }
-    impl DynAssociatedOid for Values<[Arc]> {
+    impl DynAssociatedOid for Of<[Arc]> {
         fn oid(&self) -> ObjectIdentifier {
             ObjectIdentifier::from_arcs(self.0.iter().copied()).unwrap()
         }
     }
-    fn of_value<'a>(value: &'a (dyn DynAssociatedOid + 'a)) -> ObjectIdentifier {
-        value.oid()
-    }
-    fn of_type<T: AssociatedOid + ?Sized>() -> ObjectIdentifier {
-        T::OID
-    }
     let text = String::from("cn");
-    assert_eq!(of_value(&Name(&text)), CN);
-    assert_eq!(of_type::<Values<str>>(), CN);
-    let values: &Values<[Arc]> = &Values([2, 5, 4, 3]);
-    assert_eq!(values.oid(), CN);
+    let (borrows, values): (&dyn DynAssociatedOid, &Of<[Arc]>) = (&Of(&*text), &Of([2, 5, 4, 3]));
+    assert_eq!([borrows.oid(), values.oid(), Of::<str>::OID], [CN; 3]);
 }
 
 #[cfg(feature = "db")]
 mod db {
-    use const_oid::ObjectIdentifier;
     use const_oid::db::{Database, Names, SortedDatabase, rfc4519::CN};
     use std::fmt::Debug;
     use std::iter::FusedIterator;
@@ -193,16 +167,6 @@ mod db {
         SortedDatabase::try_new(&[(CN.as_oid_ref(), "cn")]);
         SortedDatabase::entries(&sorted);
         SortedDatabase::len(&sorted);
-    }
-
-    /// What a lookup finds lives as long as the entries.
-    #[test]
-    fn lookups_live_as_long_as_the_entries() {
-        fn name<'a>(entries: &'a [(&'a ObjectIdentifier, &'a str)]) -> Option<&'a str> {
-            let oid = *entries[0].0;
-            Database::new(entries).by_oid(&oid)
-        }
-        assert_eq!(name(&[(&CN, "cn")]), Some("cn"));
     }
 }
 

@@ -1,11 +1,10 @@
 //! The table of names as a header of data for C.
 
 use crate::names::{Row, encoding, lines, octets, rows};
-use crate::token::Result;
 
 /// The rows of a table in `c_names.h`. Those of an identifier or of a name stay in the order of the table.
-pub fn header(table: &str) -> Result<String> {
-    let rows = rows(table)?;
+pub fn header(table: &str) -> String {
+    let rows = rows(table);
     let mut sorted: Vec<(usize, &Row)> = rows.iter().enumerate().collect();
     sorted.sort_by(|a, b| a.1.arcs.cmp(&b.1.arcs));
     let entries = sorted.iter().enumerate();
@@ -31,7 +30,7 @@ pub fn header(table: &str) -> Result<String> {
         ("@BY_OCTETS@", by_hash(by_octets, rows.len(), places)),
     ];
     let filled = |header: String, (mark, text): (&str, String)| header.replace(mark, &text);
-    Ok(parts.into_iter().fold(include_str!("c_names.h").into(), filled))
+    parts.into_iter().fold(include_str!("c_names.h").into(), filled)
 }
 
 /// Hashes and indexes in `places` places for `c_names.h`: an index is in the first place that is free from its hash on.

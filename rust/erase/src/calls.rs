@@ -45,46 +45,38 @@ impl Call {
         })
     }
 
-    /// The head over pointers, and what the function over slices is given.
-    fn over_pointers(&self) -> (String, String) {
+    fn export(&self) -> String {
+        let Call { module, name, result, .. } = self;
         let arguments = self.arguments.iter().map(|(name, of)| over_pointers(name, of));
         let (parameters, given): (Vec<String>, Vec<String>) = arguments.unzip();
-        let (name, result) = (&self.name, &self.result);
-        let head = format!("fn {name}({}) -> {result}", parameters.join(", "));
-        (head, given.join(", "))
-    }
-
-    fn export(&self) -> String {
-        let (head, given) = self.over_pointers();
-        let call = format!("crate::erased::{}::{}({given})", self.module, self.name);
+        let head = format!("extern \"C\" fn {name}({}) -> {result}", parameters.join(", "));
+        let call = format!("crate::erased::{module}::{name}({})", given.join(", "));
         if given.is_empty() {
-            return format!("\n#[unsafe(no_mangle)]\npub extern \"C\" {head} {{ {call} }}\n");
+            return format!("\n#[unsafe(no_mangle)]\npub {head} {{ {call} }}\n");
         }
         format!(
             "\n/// # Safety\n///\n/// The header says what a caller guarantees.\n#[unsafe(no_mangle)]\n\
-             pub unsafe extern \"C\" {head} {{\n// SAFETY: the caller guarantees it.\nunsafe {{ {call} }}\n}}\n"
+             pub unsafe {head} {{\n// SAFETY: the caller guarantees it.\nunsafe {{ {call} }}\n}}\n"
         )
     }
 
     /// The row of the list for C.
-    fn row(&self) -> Result<String, String> {
-        let mut out = format!("CALL({}, {}", known(&RESULTS, &self.result)?, self.name);
+    fn row(&self) -> String {
+        let mut out = format!("CALL({}, {}", in_c(&RESULTS, &self.result), self.name);
         for (index, (name, of)) in self.arguments.iter().enumerate() {
-            let kind = known(&KINDS, of)?;
             let is_text =
                 name == "text" || name == "out" && ["const_oid_to_text", "const_oid_error_text"].contains(&&*self.name);
+            let kind = if name == "der" { "DER" } else { in_c(&KINDS, of) };
             let kind = if is_text { kind.replace("OCTETS", "TEXT") } else { kind.into() };
-            let kind = if name == "der" { "DER".into() } else { kind };
             out += &format!(", ARGUMENT({kind}, {index})");
         }
-        Ok(out + if self.arguments.is_empty() { ", NOTHING)\n" } else { ")\n" })
+        out + if self.arguments.is_empty() { ", NOTHING)\n" } else { ")\n" }
     }
 }
 
-/// What a table has for a type.
-fn known(table: &[(&str, &'static str)], of: &str) -> Result<&'static str, String> {
-    let row = table.iter().find(|row| row.0 == of);
-    row.map(|row| row.1).ok_or(format!("no function for C has the type {of}"))
+/// What a table has for a type. One that it lacks stays, and no compiler of C takes it.
+fn in_c<'a>(table: &[(&str, &'a str)], of: &'a str) -> &'a str {
+    table.iter().find(|row| row.0 == of).map_or(of, |row| row.1)
 }
 
 /// The parameters of an argument over pointers, and what is made of them. A slice is a pointer and a length.
@@ -111,10 +103,9 @@ pub fn exports(calls: &[Call]) -> String {
 }
 
 /// The list for C.
-pub fn list(calls: &[Call]) -> Result<String, String> {
-    let rows: Result<String, String> = calls.iter().map(Call::row).collect();
-    Ok(format!(
-        "/* The functions of const_oid.h: the type of each result, the name, and the kinds of the arguments, counted from 0. */\n{}",
-        rows?
-    ))
+pub fn list(calls: &[Call]) -> String {
+    let rows: String = calls.iter().map(Call::row).collect();
+    format!(
+        "/* The functions of const_oid.h: the type of each result, the name, and the kinds of the arguments, counted from 0. */\n{rows}"
+    )
 }

@@ -1,40 +1,34 @@
 //! Applies edits: tokens that other tokens replace.
 
 use crate::table::{Crate, Edit};
-use crate::token::{Result, Token, tokens};
+use crate::token::{is_blank, tokens};
 
-/// The tokens with `new` in place of `old`, and the line of each place. Neither space nor comments are compared.
-pub fn replaced<'a>(source: &[Token<'a>], old: &'a str, new: &'a str) -> Result<(Vec<Token<'a>>, Vec<usize>)> {
-    let (old, new) = (tokens(old)?, tokens(new)?);
-    let old: Vec<&str> = old.iter().filter(|token| !token.is_blank()).map(|token| token.text).collect();
-    let (mut out, mut lines) = (Vec::new(), Vec::new());
-    let mut at = 0;
+/// The tokens with `new` in place of `old`, and the number of places. Neither space nor comments are compared.
+pub fn replaced<'a>(source: &[&'a str], old: &str, new: &'a str) -> (Vec<&'a str>, usize) {
+    let old: Vec<&str> = tokens(old).into_iter().filter(|token| !is_blank(token)).collect();
+    let (mut out, mut places, mut at) = (Vec::new(), 0, 0);
     while at < source.len() {
-        match end_of(&source[at..], &old) {
-            Some(len) => {
-                let line = source[at].line;
-                lines.push(line);
-                out.extend(new.iter().map(|token| Token { line, ..*token }));
-                let is_gap = new.is_empty() && source.get(at + len).is_some_and(Token::is_space);
-                at += len + usize::from(is_gap);
-            }
-            None => {
-                out.push(source[at]);
-                at += 1;
-            }
+        if let Some(len) = len_of(&source[at..], &old) {
+            out.extend(tokens(new));
+            let is_gap = new.is_empty() && source.get(at + len).is_some_and(|token| token.trim().is_empty());
+            at += len + usize::from(is_gap);
+            places += 1;
+        } else {
+            out.push(source[at]);
+            at += 1;
         }
     }
-    Ok((out, lines))
+    (out, places)
 }
 
 /// The length of the tokens that a source begins with, if they are these.
-fn end_of(source: &[Token<'_>], texts: &[&str]) -> Option<usize> {
-    let mut left = texts.iter();
+fn len_of(source: &[&str], old: &[&str]) -> Option<usize> {
+    let mut left = old.iter();
     for (at, token) in source.iter().enumerate() {
-        if token.is_blank() && at > 0 {
+        if is_blank(token) && at > 0 {
             continue;
         }
-        if left.next() != Some(&token.text) {
+        if left.next() != Some(token) {
             return None;
         }
         if left.len() == 0 {
@@ -44,39 +38,23 @@ fn end_of(source: &[Token<'_>], texts: &[&str]) -> Option<usize> {
     None
 }
 
-/// The lines where each edit of a table is made.
-pub type Places = Vec<Vec<usize>>;
-
 /// The tokens of a module after the edits of the table. Each edit adds to its places.
-pub fn edited<'a>(source: Vec<Token<'a>>, table: &Crate, module: &str, places: &mut Places) -> Result<Vec<Token<'a>>> {
-    let mut out = replaced(&source, "crate::", table.root)?.0;
-    for (edit, all) in table.edits.iter().zip(places) {
+pub fn edited<'a>(source: &[&'a str], table: &Crate, module: &str, places: &mut [usize]) -> Vec<&'a str> {
+    let mut out = source.to_vec();
+    for (edit, places) in table.edits.iter().zip(places) {
         if edit.module.is_empty() || edit.module.trim_end_matches('*') == module {
-            let lines;
-            (out, lines) = replaced(&out, edit.old, edit.new)?;
-            all.extend(lines);
+            let (tokens, more) = replaced(&out, edit.old, edit.new);
+            (out, *places) = (tokens, *places + more);
         }
     }
-    Ok(out)
+    out
 }
 
-/// Rejects edits that were not made, or that were made twice where `old` occurs once.
-pub fn all_made(table: &Crate, places: &Places) -> std::result::Result<(), String> {
-    let edits = table.edits.iter().zip(places);
-    let faults: Vec<String> = edits.filter_map(|(edit, lines)| fault_of(edit, lines, table.from)).collect();
-    if faults.is_empty() { Ok(()) } else { Err(faults.join("\n")) }
-}
-
-/// What is wrong with the places of an edit.
-fn fault_of(edit: &Edit, lines: &[usize], folder: &str) -> Option<String> {
-    let module = edit.module.trim_end_matches('*');
-    let is_once = !module.is_empty() && module == edit.module;
-    let file = if module.is_empty() { folder.into() } else { format!("{folder}/{module}.rt") };
-    let found = match lines {
-        [] => "is nowhere in it".into(),
-        [_, _, ..] if is_once => format!("is in its lines {lines:?}, and must be there once"),
-        _ => return None,
-    };
-    let old = edit.old.split_whitespace().collect::<Vec<_>>().join(" ");
-    Some(format!("rust/erase/src/table.rs: an edit of {file} replaces `{old}` ({}), which {found}", edit.why))
+/// What is wrong with an edit that was made in so many places: it is made nowhere, or twice where `old` occurs once.
+pub fn fault_of(edit: &Edit, places: usize, folder: &str) -> Option<String> {
+    let is_once = !edit.module.is_empty() && !edit.module.ends_with('*');
+    let is_right = places == 1 || places > 1 && !is_once;
+    let Edit { module, old, why, .. } = edit;
+    let fault = || format!("rust/erase/src/table.rs: {folder} has `{old}` of `{module}` ({why}) in {places} places");
+    (!is_right).then(fault)
 }

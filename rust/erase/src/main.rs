@@ -14,13 +14,11 @@ mod table;
 mod token;
 
 use calls::Call;
-use edit::Places;
 use std::io::Write;
-use std::path::{Path, PathBuf};
+use std::path::Path;
 use std::process::{Command, ExitCode, Stdio};
 use std::{env, fs, io};
 use table::Crate;
-use token::{Fault, Result};
 
 const NAMES: &str = "rust/const-oid/src/db/names.rs";
 const SORTED: &str = "rust/const-oid/src/db/sorted.rs";
@@ -29,19 +27,17 @@ const FOR_C: &str = "crates/const_oid_c/src";
 const EXPORTS: &str = "rust/const-oid-c/src/exports.rs";
 const C_CALLS: &str = "crates/const_oid_c/tests/calls.h";
 
-/// A path from the top of the repository, and the text of its file.
-type File = (String, String);
+/// A path from the top of the repository, and the text of its file, or `None` of one that is to go.
+type File = (String, Option<String>);
 
-/// Faults in words, a line each.
-type Checked<T> = std::result::Result<T, String>;
+/// A fault in words, or a line for each of several.
+type Result<T> = std::result::Result<T, String>;
 
 fn main() -> ExitCode {
     let arguments: Vec<String> = env::args().skip(1).collect();
     let said = match &arguments[..] {
-        [] => generated().and_then(|files| summary(files.len(), "are written", &written(&files))),
-        [flag] if flag == "--check" => {
-            generated().and_then(|files| summary(files.len(), "are as generated", &differing(&files)))
-        }
+        [] => generated().and_then(|files| summary(&files, "are written", write)),
+        [flag] if flag == "--check" => generated().and_then(|files| summary(&files, "are as generated", compare)),
         _ => Err("erase [--check]".into()),
     };
     match &said {
@@ -51,63 +47,69 @@ fn main() -> ExitCode {
     ExitCode::from(u8::from(said.is_err()))
 }
 
-/// What files are, or a line for each fault.
-fn summary(count: usize, are: &str, faults: &[String]) -> Checked<String> {
+/// What files are after a step for each, or a line for each failure.
+fn summary(files: &[File], are: &str, step: fn(&File) -> io::Result<()>) -> Result<String> {
+    let faults = files.iter().filter_map(|file| Some(format!("{}: {}", file.0, step(file).err()?)));
+    let faults: Vec<String> = faults.collect();
+    let count = files.iter().filter(|file| file.1.is_some()).count();
     if faults.is_empty() { Ok(format!("erase: {count} files {are}")) } else { Err(faults.join("\n")) }
 }
 
-/// The files to write, or the first fault of a source, or those of all edits.
-fn generated() -> Checked<Vec<File>> {
-    let mut files = Vec::new();
-    for table in table::CRATES {
-        files.extend(modules(table)?);
-    }
-    let table = read(NAMES)?;
-    let sorted = names::sorted(&table).map_err(|fault| at(NAMES, &fault))?;
-    files.push((SORTED.into(), headed(NAMES, &sorted)));
-    let names = c_names::header(&table).map_err(|fault| at(NAMES, &fault))?;
-    files.push((C_NAMES.into(), format!("/* {} */\n{names}", generated_from(NAMES))));
-    files.extend(for_c()?);
-    Ok(files)
+/// Writes a file, in a folder that may be missing, or removes it.
+fn write((path, text): &File) -> io::Result<()> {
+    let Some(text) = text else { return fs::remove_file(from_top(path)) };
+    from_top(path).parent().map_or(Ok(()), fs::create_dir_all)?;
+    fs::write(from_top(path), text)
 }
 
-/// What is made from the heads of the functions for C.
-fn for_c() -> Checked<Vec<File>> {
+fn compare((path, text): &File) -> io::Result<()> {
+    let is_same = fs::read_to_string(from_top(path)).ok() == *text;
+    if is_same { Ok(()) } else { Err(io::Error::other("not what erase generates")) }
+}
+
+/// The files to write and to remove, or the first fault of a source, or those of all edits.
+fn generated() -> Result<Vec<File>> {
+    let mut files = Vec::new();
+    for table in table::CRATES {
+        let first = files.len();
+        files.extend(modules(table)?);
+        let others = listed(table.to).into_iter().filter(|path| files[first..].iter().all(|file| file.0 != *path));
+        files.extend(others.map(|path| (path, None)).collect::<Vec<_>>());
+    }
+    let table = read(NAMES)?;
+    files.push((SORTED.into(), Some(headed(NAMES, &names::sorted(&table)))));
+    files.push((C_NAMES.into(), Some(format!("/* {} */\n{}", generated_from(NAMES), c_names::header(&table)))));
     let mut calls = Vec::new();
     for path in listed(FOR_C) {
         let module = path[FOR_C.len() + 1..].trim_end_matches(".rt").replace('/', "::");
         calls.extend(Call::all(&module, &read(&path)?));
     }
-    let rust = |text: String| laid_out(&headed(FOR_C, &text));
-    let list = calls::list(&calls)?;
-    Ok(vec![
-        (EXPORTS.into(), rust(calls::exports(&calls))?),
-        (C_CALLS.into(), format!("/* {} */\n{list}", generated_from(FOR_C))),
-    ])
+    files.push((EXPORTS.into(), Some(laid_out(&headed(FOR_C, &calls::exports(&calls)))?)));
+    files.push((C_CALLS.into(), Some(format!("/* {} */\n{}", generated_from(FOR_C), calls::list(&calls)))));
+    Ok(files)
 }
 
 /// The files of the modules of a crate. A module of `fast` is `fast/NAME`, here and in the table.
-fn modules(table: &Crate) -> Checked<Vec<File>> {
+fn modules(table: &Crate) -> Result<Vec<File>> {
     let mut files = Vec::new();
-    let mut places = vec![Vec::new(); table.edits.len()];
+    let mut places = vec![0; table.edits.len()];
     let mut left = vec![String::from("lib")];
     while let Some(module) = left.pop() {
         let path = format!("{}/{module}.rt", table.from);
-        let (rust, declared) =
-            module_of(&read(&path)?, table, &module, &mut places).map_err(|fault| at(&path, &fault))?;
+        let source = read(&path)?;
+        let tokens = edit::edited(&erase::erase(&source), table, &module, &mut places);
+        let is_command = |token: &&&str| token.starts_with("//") && token.to_lowercase().contains("erase:");
+        if let Some(command) = tokens.iter().find(is_command) {
+            return Err(format!("{path}: `{command}` is no command"));
+        }
         let (name, folder) = if module == "lib" { ("mod", String::new()) } else { (&*module, format!("{module}/")) };
-        files.push((format!("{}/{name}.rs", table.to), headed(&path, &rust)));
-        left.extend(declared.iter().map(|name| format!("{folder}{name}")));
+        let rust = laid_out(&headed(&path, &tokens.concat()))?;
+        files.push((format!("{}/{name}.rs", table.to), Some(rust)));
+        left.extend(erase::modules(&tokens).iter().map(|name| format!("{folder}{name}")));
     }
-    edit::all_made(table, &places)?;
-    files.into_iter().map(|(path, rust)| Ok((path, laid_out(&rust)?))).collect()
-}
-
-/// The Rust of a source, and the modules that it declares.
-fn module_of(source: &str, table: &Crate, module: &str, places: &mut Places) -> Result<(String, Vec<String>)> {
-    let tokens = erase::erase(&token::tokens(source)?)?;
-    let tokens = edit::edited(tokens, table, module, places)?;
-    Ok((tokens.iter().map(|token| token.text).collect(), erase::modules(&tokens)))
+    let edits = table.edits.iter().zip(places);
+    let faults: Vec<String> = edits.filter_map(|(edit, places)| edit::fault_of(edit, places, table.from)).collect();
+    if faults.is_empty() { Ok(files) } else { Err(faults.join("\n")) }
 }
 
 fn headed(from: &str, rust: &str) -> String {
@@ -119,37 +121,24 @@ fn generated_from(from: &str) -> String {
 }
 
 /// The layout of rustfmt.
-fn laid_out(rust: &str) -> Checked<String> {
+fn laid_out(rust: &str) -> Result<String> {
     let run = || -> io::Result<Option<String>> {
         let mut rustfmt = Command::new("rustfmt");
-        let mut rustfmt = rustfmt
-            .args(["--edition", "2024", "--config-path"])
-            .arg(from_top("rust"))
-            .stdin(Stdio::piped())
-            .stdout(Stdio::piped())
-            .spawn()?;
-        if let Some(mut input) = rustfmt.stdin.take() {
-            input.write_all(rust.as_bytes())?;
-        }
+        rustfmt.args(["--edition", "2024", "--config-path"]).arg(from_top("rust"));
+        let mut rustfmt = rustfmt.stdin(Stdio::piped()).stdout(Stdio::piped()).spawn()?;
+        rustfmt.stdin.take().map_or(Ok(()), |mut input| input.write_all(rust.as_bytes()))?;
         let output = rustfmt.wait_with_output()?;
         Ok(String::from_utf8(output.stdout).ok().filter(|_| output.status.success()))
     };
     run().map_err(|error| format!("rustfmt: {error}"))?.ok_or_else(|| format!("rustfmt fails on:\n{rust}"))
 }
 
-fn at(path: &str, fault: &Fault) -> String {
-    format!("{path}:{}: {}", fault.line, fault.words)
+/// The place of a path from the top of the repository that cargo runs this in.
+fn from_top(path: &str) -> std::path::PathBuf {
+    Path::new(&env::var_os("CARGO_MANIFEST_DIR").unwrap_or_default()).join("../..").join(path)
 }
 
-/// The place of a path from the top of the repository: of the one that cargo runs this in, which may be a copy of the
-/// one that it was built in.
-fn from_top(path: &str) -> PathBuf {
-    let built = env!("CARGO_MANIFEST_DIR").into();
-    let here = env::var_os("CARGO_MANIFEST_DIR").unwrap_or(built);
-    Path::new(&here).join("../..").join(path)
-}
-
-fn read(path: &str) -> Checked<String> {
+fn read(path: &str) -> Result<String> {
     fs::read_to_string(from_top(path)).map_err(|error| format!("{path}: {error}"))
 }
 
@@ -161,33 +150,4 @@ fn listed(folder: &str) -> Vec<String> {
     let mut out: Vec<String> = paths.flat_map(files).collect();
     out.sort();
     out
-}
-
-/// The files that differ from the files to write, and other files in their folders.
-fn differing(files: &[File]) -> Vec<String> {
-    let differ = files.iter().filter(|(path, rust)| read(path).as_ref() != Ok(rust));
-    let differ = differ.map(|(path, _)| format!("{path}: not what erase generates"));
-    let others = others(files).into_iter();
-    differ.chain(others.map(|path| format!("{path}: erase generates no such file"))).collect()
-}
-
-/// The other files in the folders to write.
-fn others(files: &[File]) -> Vec<String> {
-    let mut out: Vec<String> = table::CRATES.iter().flat_map(|table| listed(table.to)).collect();
-    out.retain(|path| files.iter().all(|file| file.0 != *path));
-    out
-}
-
-/// Writes the files, and removes others beside them. Returns the failures.
-fn written(files: &[File]) -> Vec<String> {
-    let written = files.iter().map(|(path, rust)| (path.clone(), write(&from_top(path), rust)));
-    let removed = others(files).into_iter().map(|path| (path.clone(), fs::remove_file(from_top(&path))));
-    let faults = written.chain(removed).filter_map(|(path, result)| Some((path, result.err()?)));
-    faults.map(|(path, error)| format!("{path}: {error}")).collect()
-}
-
-/// Writes a file, in a folder that may be missing.
-fn write(path: &Path, text: &str) -> io::Result<()> {
-    path.parent().map_or(Ok(()), fs::create_dir_all)?;
-    fs::write(path, text)
 }

@@ -6,8 +6,6 @@ pub struct Crate {
     pub from: &'static str,
     /// The folder of the generated files.
     pub to: &'static str,
-    /// The root module of the generated files.
-    pub root: &'static str,
     pub edits: &'static [Edit],
 }
 
@@ -41,7 +39,6 @@ pub const CRATES: &[Crate] = &[
     Crate {
         from: "crates/const_oid/src",
         to: "rust/const-oid/src/erased",
-        root: "crate::erased::",
         edits: edits! {
             "lib": "pub mod db; mod db_sorted;"
                 => "#[cfg(feature = \"db\")] pub mod db; #[cfg(feature = \"db\")] mod db_sorted;",
@@ -66,8 +63,7 @@ pub const CRATES: &[Crate] = &[
             "oid_ref": "fn from_ascii_in" => "fn from_ascii_in<'a>", UNSIZED;
             "oid_ref": "fn from_arcs_in" => "fn from_arcs_in<'a>", UNSIZED;
             "oid_ref*": "Result<Self>" => "Result<&'a Self>", UNSIZED;
-            "oid_ref*": "self.ber" => "self.as_bytes()", UNSIZED;
-            "oid_ref*": "other.ber" => "other.as_bytes()", UNSIZED;
+            "oid_ref*": ".ber" => ".as_bytes()", UNSIZED;
             "oid_ref": "-> &'a [u8] { self.as_bytes() }" => "-> &[u8] {\n &self.ber\n }", UNSIZED;
             "oid_ref*": "Arcs<'a>" => "Arcs<'_>", UNSIZED;
             "oid_ref": "Option<ObjectIdentifierRef<'a>>" => "Option<&Self>", UNSIZED;
@@ -151,7 +147,6 @@ pub const CRATES: &[Crate] = &[
     Crate {
         from: "crates/const_oid_c/src",
         to: "rust/const-oid-c/src/erased",
-        root: "crate::erased::",
         edits: edits! {
             "": "const_oid::"
                 => "const_oid::internal_for_const_oid_c::", "the cargo crate has the generated types under this name";

@@ -36,5 +36,6 @@ pub use buffer::Buffer;
 pub use error::{Error, Result};
 pub use oid::{ObjectIdentifier, Oid};
 pub use oid_ref::ObjectIdentifierRef;
+
 /// One arc of an object identifier, a 32-bit number.
 pub type Arc = u32;
