@@ -1,7 +1,8 @@
 -- Octets without a fault are the encoding of their arcs, and encodings have no fault but their length; each identifier has just one encoding.
 use Rattle.std.proofs.Common.{◌≡◌, ◌≢◌, ℕ, ◌+◌, ◌*◌, ◌/◌, ◌<◌, ◌≤◌, false, List, [], ◌∷◌, length, map, rules}
-use Rattle.std.proofs.Common.{slice_index, Some, None, refl, sym, ◌∙◌, arith, lt-ltb, le-ltb, ◌++◌, ap}
+use Rattle.std.proofs.Common.{slice_index, Some, None, refl, sym, ◌∙◌, arith, lt-ltb, le-ltb, ◌++◌, drop, ap}
 use Rattle.std.specs.{List.{AllByRecursion, AllZip, concat}, Prelude.◌↔◌}
+use Rattle.std.proofs.lemmas.List.{drop-map}
 use Rattle.const_oid.specs.{declared.error.Error.TheVariants.{ArcInvalid, Length}, Identifier.{encoding_of, root_rule}}
 use Rattle.const_oid.specs.{declared.oid_ref.ObjectIdentifierRef.ObjectIdentifierRef, OidRef.{ref_octets, ref_arcs}}
 use Rattle.const_oid.specs.{declared.oid.ObjectIdentifier.ObjectIdentifier, Oid.{oid_octets, oid_arcs}}
@@ -93,6 +94,16 @@ arcs_of_encoding {rule} {arcs} {octets} e =
 -- an encoding is that of the arcs that are read from it
 pub encoding_back : {rule : RootRule} {arcs octets : List ℕ} → IsEncoding rule arcs octets → IsEncoding rule (arcs_of_octets octets) octets
 encoding_back e = rw (arcs_of_encoding e) e
+
+-- the later arcs are the values of the later parts
+pub later_arcs : (rule : RootRule) (arcs octets : List ℕ) → IsEncoding rule arcs octets
+    → drop 2 arcs ≡ map value_of (drop 1 (cut octets))
+later_arcs rule (first ∷ second ∷ later) octets encoding =
+    let numbers = subidentifiers (first ∷ second ∷ later) in
+    ap (drop 1) (sym (groups_valued numbers encoding.groups encoding.each))
+    ∙ drop-map value_of 1 encoding.groups
+    ∙ ap (λ groups. map value_of (drop 1 groups)) (sym (cut_encoding rule (first ∷ second ∷ later) octets encoding))
+later_arcs rule _ octets encoding = absurd encoding.identifier
 
 -- no two lists of arcs have one encoding
 pub same_arcs : {rule : RootRule} {a b octets : List ℕ} → IsEncoding rule a octets → IsEncoding rule b octets → a ≡ b
