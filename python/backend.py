@@ -1,9 +1,5 @@
 """The build backend of this folder (PEP 517 and 660): a wheel with the extension module and the table of names, and a
-source archive of all that the wheel is made from.
-
-It needs a C compiler, the headers of Python, and cargo, and nothing from a network. With the setting
-`library=installed`, an installed library that pkg-config finds takes the place of cargo.
-"""
+source archive of all that the wheel is made from. README.md says what it needs."""
 import sys
 
 if sys.version_info < (3, 11):

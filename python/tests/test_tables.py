@@ -23,7 +23,6 @@ def rows():
 
 class Names(unittest.TestCase):
     def test_entries_are_the_rows(self):
-        self.assertEqual(1492, len(rows()))
         self.assertEqual(rows(), [(oid.arcs, name) for oid, name in names.entries()])
         self.assertEqual({tuple}, set(map(type, [names.entries(), *names.entries()])))
 
@@ -66,10 +65,6 @@ class Attributes(SortedMap):
     __slots__ = ("__dict__", "slot")
 
 
-def entry(arcs, table):
-    return None if arcs is None else (ObjectIdentifier.from_arcs(arcs), table[arcs])
-
-
 class Sorted(unittest.TestCase):
     def check(self, found, table, arcs):
         """What a mapping says of an identifier is what a table of tuples says, with the mapping's own keys."""
@@ -79,7 +74,7 @@ class Sorted(unittest.TestCase):
         below = sorted(key for key in table if key[: len(arcs)] == arcs)
         wanted = [max(prefixes, key=len, default=None), min(after, default=None), *below]
         entries = [found.nearest(oid), found.next_after(oid), *found.subtree(oid)]
-        self.assertEqual([entry(key, table) for key in wanted], entries)
+        self.assertEqual([key and (ObjectIdentifier.from_arcs(key), table[key]) for key in wanted], entries)
         self.assertLessEqual({id(entry[0]) for entry in entries if entry}, set(map(id, found)))
         self.assertEqual((arcs in table, table.get(arcs)), (oid in found, found.get(oid)))
 
