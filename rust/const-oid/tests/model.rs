@@ -5,7 +5,7 @@ use const_oid::{Arc, Arcs, ByArcs, Error, ObjectIdentifier, ObjectIdentifierRef}
 use std::borrow::Borrow;
 use std::cmp::Ordering;
 use std::collections::{BTreeMap, HashMap};
-use std::fmt::{Debug, Write};
+use std::fmt::{Debug, Display, Write};
 use std::hash::{Hash, Hasher};
 use std::iter::{FusedIterator, repeat};
 use std::ops::Bound::{Excluded, Unbounded};
@@ -179,12 +179,12 @@ mod model {
     }
 }
 
-/// What a hasher is fed.
-struct Fed(Vec<u8>);
+/// What a hasher is fed, or a formatter writes, of each call.
+struct Calls(Vec<Vec<u8>>);
 
-impl Hasher for Fed {
+impl Hasher for Calls {
     fn write(&mut self, bytes: &[u8]) {
-        self.0.extend_from_slice(bytes);
+        self.0.push(bytes.into());
     }
 
     fn finish(&self) -> u64 {
@@ -192,20 +192,17 @@ impl Hasher for Fed {
     }
 }
 
-fn fed(value: &(impl Hash + ?Sized)) -> Vec<u8> {
-    let mut fed = Fed(Vec::new());
-    value.hash(&mut fed);
-    fed.0
-}
-
-/// Counts writes.
-struct Writes(usize);
-
-impl Write for Writes {
-    fn write_str(&mut self, _: &str) -> std::fmt::Result {
-        self.0 += 1;
+impl Write for Calls {
+    fn write_str(&mut self, text: &str) -> std::fmt::Result {
+        self.0.push(text.into());
         Ok(())
     }
+}
+
+fn fed(value: &(impl Hash + ?Sized)) -> Vec<u8> {
+    let mut calls = Calls(Vec::new());
+    value.hash(&mut calls);
+    calls.0.concat()
 }
 
 /// The functions that read octets, at a capacity.
@@ -333,17 +330,6 @@ fn read_arcs<const N: usize>(arcs: &[Arc]) {
     assert_eq!(Rc::strong_count(&held), 1, "an iterator of {arcs:?} is not dropped");
 }
 
-/// What an owned identifier lends: each form is over its octets.
-fn check_forms<const N: usize>(oid: &ObjectIdentifier<N>, borrowed: &ObjectIdentifierRef) {
-    let deref: &ObjectIdentifierRef = oid;
-    let (borrow, as_ref, from): (&ObjectIdentifierRef, &ObjectIdentifierRef, &ObjectIdentifierRef) =
-        (oid.borrow(), oid.as_ref(), oid.into());
-    for form in [deref, borrow, as_ref, from, oid.as_oid_ref()] {
-        assert_eq!(form.as_bytes().as_ptr_range(), oid.as_bytes().as_ptr_range());
-        assert!(*form == *oid && form == borrowed);
-    }
-}
-
 /// The functions that both forms of a valid identifier have.
 macro_rules! check_values {
     ($oid:expr, $octets:ident, $arcs:ident, $name:literal) => {
@@ -354,9 +340,9 @@ macro_rules! check_values {
             assert_eq!($oid.arc(index), $arcs.get(index).copied());
         }
         let text = model::text($arcs);
-        let mut writes = Writes(0);
+        let mut writes = Calls(Vec::new());
         let is_printed = write!(writes, "{:.0}", $oid).is_ok();
-        assert!(is_printed && (writes.0 == 1 || $octets.len() > 40), "{text}: {} writes", writes.0);
+        assert!(is_printed && (writes.0.len() == 1 || $octets.len() > 40), "{text}: {:?}", writes.0);
         check_text_of($oid, &text, $name);
         check_encoded_text(&text, $oid.text_len(), |out| $oid.encode_text(out), |out| $oid.encode_str(out));
         let element = [&model::head($octets.len()), $octets].concat();
@@ -374,7 +360,11 @@ fn check_owned<const N: usize>(octets: &[u8], arcs: &[Arc]) {
     let copied = ObjectIdentifier::<N>::try_from(borrowed);
     assert_eq!(copied, ObjectIdentifier::from_bytes_sized(octets));
     let Ok(oid) = copied else { return };
-    check_forms(&oid, borrowed);
+    let forms: [&ObjectIdentifierRef; 5] = [&oid, oid.borrow(), oid.as_ref(), (&oid).into(), oid.as_oid_ref()];
+    for form in forms {
+        assert_eq!(form.as_bytes().as_ptr_range(), oid.as_bytes().as_ptr_range());
+        assert!(*form == oid && form == borrowed);
+    }
     check_values!(&oid, octets, arcs, "ObjectIdentifier");
     for arc in [0, 127, 128, 16_384, Arc::MAX] {
         let child = model::encoding(&[arcs, &[arc]].concat());
@@ -424,7 +414,7 @@ fn check_methods<T: Copy + Debug + Ord>(given: &(impl Iterator<Item = T> + Clone
         it.min_by_key(|item| *item); it.is_sorted(); it.is_sorted_by(T::le); it.is_sorted_by_key(|item| item);
         it.reduce(|first, _| first); it.reduce(|_, last| last); it.cmp(other()); it.partial_cmp(other());
         it.partition::<Vec<_>, _>(|item| Some(item) < rest.get(count)); it.eq(other()); it.ne(other());
-        it.lt(other()); it.le(other()); it.gt(other()); it.ge(other());
+        it.eq(other().chain(other())); it.lt(other()); it.le(other()); it.gt(other()); it.ge(other());
         it.fold((0, None), |(sum, _), item| (sum + 1, Some(item)));
         { let mut items = Vec::new(); it.for_each(|item| items.push(item)); items };
         (it.nth(count), it.collect::<Vec<_>>()); (it.by_ref().take(count).count(), it.collect::<Vec<_>>());
@@ -457,25 +447,11 @@ fn indices(len: usize) -> impl Iterator<Item = usize> {
 }
 
 /// Display and Debug, whatever the options.
-fn check_text_of(oid: &(impl std::fmt::Display + std::fmt::Debug + ?Sized), text: &str, name: &str) {
-    let wide = text.len() + 9;
-    for printed in
-        [oid.to_string(), format!("{oid:>wide$}"), format!("{oid:#}"), format!("{oid:.0}"), format!("{oid:+09}")]
-    {
-        assert_eq!(printed, text);
-    }
-    let debug = format!("{name}({text})");
-    for printed in [
-        format!("{oid:?}"),
-        format!("{oid:#?}"),
-        format!("{oid:+?}"),
-        format!("{oid:.3?}"),
-        format!("{oid:x?}"),
-        format!("{oid:30?}"),
-        format!("{oid:>wide$?}"),
-    ] {
-        assert_eq!(printed, debug);
-    }
+fn check_text_of(oid: &(impl Display + Debug + ?Sized), text: &str, name: &str) {
+    let (wide, debug) = (text.len() + 30, format!("{name}({text})"));
+    assert_eq!([oid.to_string(), format!("{oid:>wide$}"), format!("{oid:*>+#0wide$.0}")], [text; 3]);
+    let printed = [format!("{oid:?}"), format!("{oid:#?}"), format!("{oid:>wide$?}"), format!("{oid:*>+#0wide$.3x?}")];
+    assert_eq!(printed, [&*debug; 4]);
 }
 
 /// What is written into outputs near its length: the result is at the start, and the rest is kept.
@@ -532,14 +508,20 @@ fn debug_has_the_options_of_its_numbers() {
     assert_eq!((sum, product, arcs.clone().sum(), arcs.clone().product()), (1_001, 1_998, 999, 999));
     for (error, arcs, number) in [
         (format!("{error:?}"), format!("{arcs:?}"), "999"),
-        (format!("{error:+?}"), format!("{arcs:+?}"), "+999"),
-        (format!("{error:.3?}"), format!("{arcs:.3?}"), "999"),
+        (format!("{error:+30.3?}"), format!("{arcs:+30.3?}"), "                          +999"),
         (format!("{error:x?}"), format!("{arcs:x?}"), "3e7"),
-        (format!("{error:30?}"), format!("{arcs:30?}"), "                           999"),
     ] {
         assert_eq!((error, arcs), (format!("ArcInvalid {{ arc: {number} }}"), format!("Arcs([{number}])")));
     }
     assert_eq!(format!("{error:#?} {arcs:#?}"), "ArcInvalid {\n    arc: 999,\n} Arcs(\n    [\n        999,\n    ],\n)");
+}
+
+/// The comparisons of two values, and what is fed to a hasher, which are those of this order.
+fn check_order<T: Ord + Hash + Debug + ?Sized>(a: &T, b: &T, order: Ordering) {
+    assert_eq!((a.cmp(b), a.partial_cmp(b)), (order, Some(order)), "{a:?}, {b:?}");
+    assert_eq!([a == b, a != b, fed(a) == fed(b)], [order.is_eq(), order.is_ne(), order.is_eq()], "{a:?}, {b:?}");
+    let of_order = [order.is_lt(), order.is_le(), order.is_gt(), order.is_ge()];
+    assert_eq!([a < b, a <= b, a > b, a >= b], of_order, "{a:?}, {b:?}");
 }
 
 /// The functions of two identifiers, in each pair of forms.
@@ -547,28 +529,18 @@ fn check_pair(a: &[u8], b: &[u8]) {
     let (x, y) = (ObjectIdentifierRef::from_bytes(a).unwrap(), ObjectIdentifierRef::from_bytes(b).unwrap());
     let (p, q) = (model::of_octets(a).unwrap(), model::of_octets(b).unwrap());
     let (is_equal, starts, by_arcs) = (a == b, p.starts_with(&q), p.cmp(&q));
-    assert_eq!((x == y, x != y, x.cmp(y)), (is_equal, !is_equal, a.cmp(b)), "{a:02X?}, {b:02X?}");
-    assert_eq!(
-        (x.partial_cmp(y), x.starts_with(y), x.cmp_arcs(y)),
-        (Some(a.cmp(b)), starts, by_arcs),
-        "{a:02X?}, {b:02X?}"
-    );
     let rest = p.strip_prefix(q.as_slice()).map(Vec::from);
+    check_order(x, y, a.cmp(b));
+    check_order(ByArcs::of(x), ByArcs::of(y), by_arcs);
+    assert_eq!((x.starts_with(y), x.cmp_arcs(y)), (starts, by_arcs), "{a:02X?}, {b:02X?}");
     assert_eq!(x.strip_prefix(y).map(Vec::from_iter), rest, "{a:02X?}, {b:02X?}");
-    assert_eq!([x < y, x <= y, x > y, x >= y], [a < b, a <= b, a > b, a >= b]);
-    let (s, t) = (ByArcs::of(x), ByArcs::of(y));
-    assert_eq!((s == t, s.cmp(t), s.partial_cmp(t)), (is_equal, by_arcs, Some(by_arcs)));
-    assert_eq!((fed(x) == fed(y), fed(s) == fed(t)), (is_equal, is_equal));
     let (Ok(i), Ok(j)) = (ObjectIdentifier::<255>::try_from(x), ObjectIdentifier::<255>::try_from(y)) else {
         return;
     };
-    let order: Ordering = a.len().cmp(&b.len()).then(a.cmp(b));
-    assert_eq!((i == j, i != j, i.cmp(&j), i.partial_cmp(&j)), (is_equal, !is_equal, order, Some(order)));
-    assert_eq!([i < j, i <= j, i > j, i >= j], [order.is_lt(), order.is_le(), order.is_gt(), order.is_ge()]);
+    check_order(&i, &j, a.len().cmp(&b.len()).then(a.cmp(b)));
+    check_order(&ByArcs(i), &ByArcs(j), by_arcs);
     assert_eq!((i.starts_with(j), i.cmp_arcs(&j), *x == j), (starts, by_arcs, is_equal));
     assert_eq!(i.strip_prefix(&j).map(Vec::from_iter), rest);
-    assert_eq!((ByArcs(i) == ByArcs(j), ByArcs(i).cmp(&ByArcs(j))), (is_equal, by_arcs));
-    assert_eq!((fed(&i), fed(&ByArcs(i))), (fed(x), fed(s)));
     let Ok(small) = ObjectIdentifier::<39>::try_from(y) else {
         return;
     };
@@ -719,7 +691,7 @@ fn reads_and_writes_known_identifiers() {
 fn iterates_over_names() {
     use const_oid::db::{DB, Database};
     let rows: Vec<_> = (0..60).map(|row| (DB.entries()[row % 7].0, DB.entries()[row].1)).collect();
-    for table in [DB, Database::new(&rows), Database::new(&rows).indexed(&mut [0; 240])] {
+    for table in [DB, Database::new(&rows[..1]), Database::new(&rows), Database::new(&rows).indexed(&mut [0; 240])] {
         for (oid, _) in DB.entries() {
             let names = table.entries().iter().filter(|row| row.0 == *oid).map(|row| row.1);
             check_iterator(table.find_names_for_oid(**oid), &Vec::from_iter(names));
@@ -788,58 +760,27 @@ fn encodes_arcs() {
     }
 }
 
-/// Numbers that are drawn, the same each time (xorshift).
-struct Drawn(u64);
-
-impl Drawn {
-    fn below(&mut self, end: u64) -> usize {
-        self.0 ^= self.0 << 13;
-        self.0 ^= self.0 >> 7;
-        self.0 ^= self.0 << 17;
-        (self.0 % end) as usize
-    }
-
-    /// An arc of one to five octets.
-    fn arc(&mut self) -> Arc {
-        let bits = [1, 7, 8, 14, 21, 28, 32][self.below(7)];
-        self.below(1 << bits) as Arc
-    }
-
-    /// Arcs of an identifier that take up to `octets` octets, or a few more.
-    fn arcs(&mut self, octets: usize) -> Vec<Arc> {
-        let first = self.below(3) as Arc;
-        let second = if first < 2 { self.below(40) as Arc } else { self.arc() };
-        let mut arcs = vec![first, second];
-        let mut len = model::encoding(&arcs).len();
-        while len < octets {
-            let arc = self.arc();
-            len += model::encoding(&[1, 2, arc]).len() - 1;
-            arcs.push(arc);
-        }
-        arcs
-    }
-}
-
-/// Texts and arcs of some 255 octets, with an error anywhere in every other one, into outputs of about as many octets.
+/// Texts and arcs, whose arcs have all lengths in all orders, with an error anywhere and without one, into outputs of about
+/// as many octets.
 #[test]
 fn writes_octets_at_the_end_of_the_output() {
-    let mut drawn = Drawn(88172645463325252);
-    for count in 0..100_000 {
-        let octets = [1, 39, 254, 255, 256, 300][drawn.below(6)];
-        let mut arcs = drawn.arcs(octets);
-        let len = model::encoding(&arcs).len();
-        let size = [(len + drawn.below(12)).saturating_sub(6), 0, 255, 256][drawn.below(8).min(3)];
-        let mut parts: Vec<String> = arcs.iter().map(Arc::to_string).collect();
-        if count % 2 == 0 {
-            let wrong = ["", "x", "4294967296", "1x", "\u{e9}", "0001"][drawn.below(6)];
-            let at = drawn.below(parts.len() as u64 + 1);
-            parts.insert(at, wrong.to_string());
-            let at = drawn.below(2);
-            arcs[at] = drawn.arc();
+    all(&[0, 128, 16_384, 1 << 21, u32::MAX], 4, |group| {
+        for count in [8, 13, 20, 90] {
+            let arcs: Vec<Arc> = [2, 999].into_iter().chain(group.iter().copied().cycle().take(count)).collect();
+            let components: Vec<String> = arcs.iter().map(Arc::to_string).collect();
+            let len = model::encoding(&arcs).len();
+            for size in (len.saturating_sub(6)..len + 6).chain([0, 255, 256]) {
+                write_arcs(&arcs, size);
+                write_arcs(&[&[size as Arc % 4], &arcs[1..]].concat(), size);
+                write_text(&components.join("."), size);
+                for (index, component) in ["", "x", "4294967296", "1x", "\u{e9}", "0001"].into_iter().enumerate() {
+                    let mut components = components.clone();
+                    components.insert((size + index * components.len() / 6) % (components.len() + 1), component.into());
+                    write_text(&components.join("."), size);
+                }
+            }
         }
-        write_text(&parts.join("."), size);
-        write_arcs(&arcs, size);
-    }
+    });
 }
 
 /// Maps of owned keys by arcs, searched by borrowed ones.
