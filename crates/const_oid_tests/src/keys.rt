@@ -43,38 +43,43 @@ fn parent_is_key(alloc: Global, oid: &Oid) -> Result<bool, Fail> {
     Ok(hash_of(&parent) == hash_of(&shorter) && keys.get(&parent).is_some())
 }
 
-/// The identifiers of the texts are the keys of their octets, and the borrowed ones those of octets elsewhere. They hash
-/// as the parents of their children and as their borrowed forms do, and so do their parents.
+/// The identifiers of the texts are the keys of their octets. They hash as the parents of their children and as their
+/// borrowed forms do, and so do their parents.
 #[test]
 fn finds_keys_by_text(rt: HostRuntime) -> Result<(), Fail> {
     let (mut hashed, mut sorted) = (HashMap::new(rt.alloc()), BTreeMap::new(rt.alloc()));
-    let mut borrowed = HashMap::new(rt.alloc());
-    for (text, octets) in accepted_rows() {
-        let oid = read_borrowed(octets)?;
-        hashed.insert(Oid::try_from_ref(oid)?, *text)?;
-        sorted.insert(Oid::try_from_ref(oid)?, *text)?;
-        borrowed.insert(oid, *text)?;
+    for (index, (_, octets)) in accepted_rows().iter().enumerate() {
+        let oid = Oid::try_from_ref(read_borrowed(octets)?)?;
+        hashed.insert(oid, index)?;
+        sorted.insert(oid, index)?;
     }
-    for (text, _) in accepted_rows() {
+    for (index, (text, _)) in accepted_rows().iter().enumerate() {
         let oid = parse(text)?;
-        let found = [
-            hashed.get(&oid),
-            sorted.get(&oid),
-            borrowed.get(&oid.as_oid_ref()),
-            parent_of_child(oid, 128)?.and_then(|parent| hashed.get(&parent)),
-        ];
-        assert!(rt; found == [Some(text); 4], "{text}");
-        let parent = parent_of_child(oid, 128)?;
-        let hash = hash_of(&oid);
-        assert!(rt;
-            parent.map(|parent| hash_of(&parent)) == Some(hash),
-            "{text}"
-        );
-        assert!(rt; ref_hash_of(&oid.as_oid_ref()) == hash, "{text}");
+        assert!(rt; hashed.get(&oid).copied() == Some(index), "{text}");
+        assert!(rt; sorted.get(&oid).copied() == Some(index), "{text}");
+        let parent = parent_of_child(oid, 128)?.ok_or("no parent")?;
+        assert!(rt; hash_of(&parent) == hash_of(&oid), "{text}");
+        assert!(rt; ref_hash_of(&oid.as_oid_ref()) == hash_of(&oid), "{text}");
         assert!(rt; parent_is_key(rt.alloc(), &oid)?, "{text}");
     }
     let absent = Oid::new_unwrap("1.2.5");
     assert!(rt; hashed.get(&absent).is_none() && sorted.get(&absent).is_none());
-    assert!(rt; borrowed.get(&absent.as_oid_ref()).is_none());
+    Ok(())
+}
+
+/// Whether a borrowed identifier is found in a map with another one.
+fn is_found(alloc: Global, key: &[u8], octets: &[u8]) -> Result<bool, Fail> {
+    let mut names = HashMap::new(alloc);
+    names.insert(read_borrowed(key)?, "1.2.3")?;
+    Ok(names.get(&read_borrowed(octets)?).is_some())
+}
+
+/// Octets of two identifiers that stand at other addresses.
+const TWICE: [u8; 4] = [0x2A, 0x03, 0x2A, 0x03];
+
+#[test]
+fn finds_borrowed_keys(rt: HostRuntime) -> Result<(), Fail> {
+    assert!(rt; is_found(rt.alloc(), &TWICE[..2], &TWICE[2..])?);
+    assert!(rt; !is_found(rt.alloc(), &TWICE[..2], &TWICE[..1])?);
     Ok(())
 }

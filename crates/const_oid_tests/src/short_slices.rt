@@ -41,11 +41,16 @@ fn owned<const N: usize>(
 ) -> Option<Error>
     requires { N ≤ 2 }
 {
-    let copied = borrowed.and_then(|oid| ObjectIdentifier::<N>::try_from_ref(oid));
-    match (ObjectIdentifier::<N>::from_bytes_sized(octets), copied) {
-        (Ok(oid), Ok(copy)) if oid == copy && oid.as_bytes() == octets => None,
-        (Err(error), Err(other)) if error == other => Some(error),
-        _ => Some(Error::Overflow),
+    let copied = match borrowed {
+        Ok(oid) => ObjectIdentifier::<N>::try_from_ref(oid),
+        Err(error) => Err(error),
+    };
+    let read = ObjectIdentifier::<N>::from_bytes_sized(octets);
+    let is_held = read.is_err() || read.is_ok_and(|oid| oid.as_bytes() == octets);
+    if is_held && read == copied {
+        read.err()
+    } else {
+        Some(Error::Overflow)
     }
 }
 

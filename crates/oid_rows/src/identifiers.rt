@@ -119,14 +119,15 @@ fn fits<const N: usize>(octets: &[u8]) -> bool
 {
     let read = ObjectIdentifierRef::from_bytes(octets);
     let wanted = within::<N>(read.map(|_| octets));
-    let copy = read.and_then(|oid| ObjectIdentifier::<N>::try_from_ref(oid));
-    let is_equal = match (read, copy) {
-        (Ok(oid), Ok(copy)) => oid.eq_oid(&copy),
-        _ => true,
+    let is_copied = match read {
+        Ok(oid) => {
+            let copy = ObjectIdentifier::<N>::try_from_ref(oid);
+            let is_equal = copy.is_err() || copy.is_ok_and(|copy| oid.eq_oid(&copy));
+            is_equal && is_answer(copy, wanted)
+        }
+        Err(_) => true,
     };
-    is_equal
-        && is_answer(copy, wanted)
-        && is_answer(ObjectIdentifier::<N>::from_bytes_sized(octets), wanted)
+    is_copied && is_answer(ObjectIdentifier::<N>::from_bytes_sized(octets), wanted)
 }
 
 /// Whether an identifier of either form has each of these arcs at its index, and no other.
