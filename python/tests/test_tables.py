@@ -196,11 +196,10 @@ class Sorted(unittest.TestCase):
             "subtree": (3, lambda table: table.subtree(ObjectIdentifier("1.3"))),
             "next_after": (9, lambda table: [table.next_after(key) for key in entries]),
         }
-        time_of_making = min(seconds(SortedMap, entries) for _ in range(3))
         for name, (limit, call) in calls.items():
-            tables = [SortedMap(entries) for _ in range(3)]
+            rounds = (seconds(call, SortedMap(entries)) / seconds(SortedMap, entries) for _ in range(5))
             with self.subTest(name):
-                self.assertLess(min(seconds(call, table) for table in tables), limit * time_of_making)
+                self.assertLess(min(rounds), limit)
 
     def test_keys_of_other_types_are_rejected(self):
         table = SortedMap()
