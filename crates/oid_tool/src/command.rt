@@ -1,5 +1,5 @@
 //! The result of one line, which is a command and its argument.
-ghost use Rattle.std.specs.Prelude.{◌≡◌, ◌*◌, ◌≤◌, ◌==◌, length, take, IfSome, IsErr, MatchOption, Ok};
+ghost use Rattle.std.specs.Prelude.{◌≡◌, ◌*◌, ◌≤◌, ◌==◌, length, take, position, IfSome, IsErr, MatchOption, Ok};
 ghost use Rattle.std.specs.List.{before_first, after_first};
 ghost use Rattle.hex.specs.Hex.{decode_of, encode_lower};
 ghost use Rattle.const_oid.specs.Error.{message_of};
@@ -150,8 +150,15 @@ pub fn cut(byte: u8, text: &[u8]) -> (&[u8], &[u8])
     ensures prefix { result.0.now ≡ before_first (λ b. b == byte) text.now }
     ensures rest { result.1.now ≡ after_first (λ b. b == byte) text.now }
 {
-    match text.iter().position(|b| *b == byte) {
+    match position(byte, text) {
         Some(end) => (&text[..end], &text[end + 1..]),
         None => (text, &[]),
     }
+}
+
+/// Returns the index of the first `byte` of a text, or `None` if the text lacks it.
+fn position(byte: u8, text: &[u8]) -> Option<usize>
+    ensures { result ≡ position (λ b. b == byte) text.now }
+{
+    text.iter().position(|b| *b == byte)
 }
