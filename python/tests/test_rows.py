@@ -1,9 +1,9 @@
-"""The rows of the library for C, whose results this package has too."""
+"""The rows of the library for C, whose results this package has too: ObjectIdentifier, OidError and SortedMap."""
 import pathlib
 import re
 import unittest
 
-from const_oid import ObjectIdentifier, OidError
+from const_oid import ObjectIdentifier, OidError, SortedMap
 from const_oid._native import error_text, wrong_component
 
 ROWS = pathlib.Path(__file__).resolve().parents[2] / "crates/oid_rows/stdin"
@@ -35,6 +35,12 @@ def element(digits):
     return f"{len(oid.der)} bytes, {digits_of(oid)}" if oid.der + rest == octets else "another element"
 
 
+def arcs_from(words):
+    digits, first, room = words.split(" ")
+    arcs = oid_of(digits)[int(first) : int(first) + int(room)]
+    return " ".join([str(len(arcs)), "arcs", *map(str, arcs)])
+
+
 def order_of(left, right):
     return "less" if left < right else "greater" if left > right else "equal"
 
@@ -49,12 +55,24 @@ def pair(call):
     return lambda words: call(*map(oid_of, words.split(" ")))
 
 
+def searched(words):
+    """What a map of the items of a list to their first indices finds for an identifier."""
+    oid, *items = map(oid_of, words.split(" "))
+    table = SortedMap({item: index for index, item in reversed(list(enumerate(items)))})
+    found = (oid, table[oid]) if oid in table else None, table.next_after(oid), table.nearest(oid)
+    find, after, nearest = (f"none of {len(items)}" if entry is None else entry[1] for entry in found)
+    start, below = sum(item < oid for item in items), {entry[0] for entry in table.subtree(oid)}
+    end = start + sum(item in below for item in items)
+    return f"find {find}, next {after}, nearest {nearest}, range {start} {end}"
+
+
 CALLS = {
     "text": lambda text: digits_of(ObjectIdentifier(text)),
     "bytes": lambda digits: digits_of(ObjectIdentifier(bytes.fromhex(digits).decode("utf-8", "surrogateescape"))),
     "octets": printed,
     "element": element,
     "arcs": lambda arcs: digits_of(ObjectIdentifier.from_arcs(map(int, arcs.split()))),
+    "arcs_from": arcs_from,
     "component": lambda text: str(wrong_component(text.encode())).lower(),
     "parent": lambda digits: digits_of(oid_of(digits).parent),
     "child": lambda words: digits_of(oid_of(words.split(" ")[0]).child(int(words.split(" ")[1]))),
@@ -62,12 +80,12 @@ CALLS = {
     "equal": pair(lambda left, right: "yes" if left == right else "no"),
     "by_arcs": pair(order_of),
     "by_arcs_order": in_order,
+    "list": searched,
     "error": lambda words: error_text(*map(int, words.split(" "))) or "none",
 }
 
-# What this package has no call for: the other orders, lists, and outputs of a length.
-LEFT_OUT = {"items_order", "owned", "owned_order", "borrowed", "borrowed_order", "list", "sorted"}
-LEFT_OUT |= {"text_in", "arcs_in", "arcs_from"}
+# What this package has no call for: the other orders, whether a list is sorted, and outputs of a length.
+LEFT_OUT = {"items_order", "owned", "owned_order", "borrowed", "borrowed_order", "sorted", "text_in", "arcs_in"}
 
 
 def answer(call, words):
