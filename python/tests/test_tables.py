@@ -4,6 +4,9 @@ import itertools
 import operator
 import pathlib
 import random
+import subprocess
+import sys
+import tempfile
 import unittest
 from collections.abc import MutableMapping
 from unittest import mock
@@ -41,6 +44,14 @@ class Names(unittest.TestCase):
         for name in ("", "no name", "sha256 ", "ba\u212ae", "\ud800"):
             self.assertIsNone(names.by_name(name), name)
         self.assertEqual((1, 2, 112, 0, 2, 0, 34, 101, 66), names.by_name("BaKe").arcs)
+
+    def test_a_file_of_the_user_is_not_read(self):
+        """The table is that of the package, also where the current folder has one."""
+        code = "from const_oid import names; print(names.by_name('cn'))"
+        with tempfile.TemporaryDirectory() as folder:
+            (pathlib.Path(folder) / "names.tsv").write_text("1.2\tcn\n", encoding="utf-8")
+            run = subprocess.run([sys.executable, "-c", code], cwd=folder, text=True, capture_output=True)
+        self.assertEqual(("2.5.4.3\n", ""), (run.stdout, run.stderr))
 
     def test_other_types_are_rejected(self):
         text = r"must be an ObjectIdentifier, not (str|tuple|NoneType)\b"

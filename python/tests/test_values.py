@@ -1,11 +1,14 @@
 """ObjectIdentifier and OidError as values of Python: their inputs, copies, pickles and interpreters."""
 import array
 import collections.abc
+import concurrent.futures
 import copy
 import operator
 import os
 import pickle
 import random
+import sys
+import threading
 import time
 import unittest
 import weakref
@@ -375,6 +378,24 @@ class Values(unittest.TestCase):
         for args in ((4, 2**32 + 120), (4, -1), (2**32 + 4, 120), (-1, 0), (4, 2**64 + 120)):
             self.assertIs(OverflowError, type(error_of(OidError, *args)), args)
         self.assertIs(ValueError, type(error_of(OidError, 99)))
+
+    def test_threads_do_not_mix_identifiers(self):
+        """Eight threads, each with identifiers and errors of its own."""
+        start = threading.Barrier(8)
+
+        def work(own):
+            start.wait()
+            for arc in range(own, 12_000, 8):
+                text = f"1.{own}.{arc}.{2**32 - 1 - arc}"
+                oid = ObjectIdentifier(text)
+                found = (str(oid), oid.child(own).arcs, str(oid.parent), hash(oid), OidError(1, arc).args)
+                wanted = (text, (1, own, arc, 2**32 - 1 - arc, own), f"1.{own}.{arc}", hash(bytes(oid)), (1, arc))
+                self.assertEqual(wanted, found)
+
+        self.addCleanup(sys.setswitchinterval, sys.getswitchinterval())
+        sys.setswitchinterval(1e-6)
+        with concurrent.futures.ThreadPoolExecutor(8) as threads:
+            list(threads.map(work, range(8)))
 
     def test_interpreters_have_their_own_class(self):
         try:

@@ -81,6 +81,15 @@ static void get_bulk(const uint8_t *octets, size_t len, size_t most) {
     for (size_t i = next.len; i < count && i - next.len < most; i++) print_object(i);
 }
 
+static void get(const uint8_t *octets, size_t len) {
+    const_oid_status found = const_oid_find(octets, len, names, count);
+    if (found.code == CONST_OID_OK) {
+        print_object(found.len);
+    } else {
+        print_error(found);
+    }
+}
+
 int main(void) {
     static const uint8_t sys_name[] = {0x2B, 6, 1, 2, 1, 1, 5, 0}, up_time[] = {0x2B, 6, 1, 2, 1, 1, 3, 0};
     static const uint8_t invalid[] = {0x2B, 0x80, 1}, group[] = {0x2B, 6, 1, 2, 1, 1}, long_name[MAX_NAME + 1] = {0};
@@ -90,12 +99,17 @@ int main(void) {
     append(long_name, sizeof long_name, "nothing");
     sort_names();
     /* OID contains arc with invalid base 128 encoding */
+    get(up_time, sizeof up_time);
+    /* 1.3.6.1.2.1.1.3.0 = 4711 */
+    get(group, sizeof group);
+    /* there is no such arc, parent, item or text */
     get_bulk(long_name, 1, 1);
     /* 1.3.6.1.2.1.1.3.0 = 4711 */
     insert("1.3.6.1.2.1.1.1.0", "a router");
-    insert("1.3.6.1.2.1.1.1.0", "another");
     insert("1.3.6.1.2.1.1.\x1B", "nothing");
     /* expected digit, got '?' */
+    get_bulk(group, sizeof group, 1);
+    /* 1.3.6.1.2.1.1.1.0 = a router */
     get_bulk(group, sizeof group, 2);
     /* 1.3.6.1.2.1.1.1.0 = a router */
     /* 1.3.6.1.2.1.1.3.0 = 4711 */

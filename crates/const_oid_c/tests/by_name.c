@@ -80,9 +80,25 @@ static int decides(void) {
         && !is_allowed(client, 8) && !is_allowed(client, 9) && !is_allowed(NULL, 0);
 }
 
+/* Whether the table is a list, in which the first entry of each identifier is found, also from below it. */
+static int finds_each(void) {
+    size_t first = 0;
+    int right = const_oid_check_sorted(const_oid_name_octets, CONST_OID_NAMES_COUNT).code == CONST_OID_OK;
+    for (size_t i = 0; i < CONST_OID_NAMES_COUNT; i++) {
+        const const_oid_octets *names = const_oid_name_octets, entry = names[i];
+        uint8_t below[64];
+        size_t len = const_oid_push_arc(entry.octets, entry.len, UINT32_MAX, below, sizeof below).len;
+        if (const_oid_by_arcs(&names[first], &entry) != 0) first = i;
+        right = right && const_oid_find(entry.octets, entry.len, names, CONST_OID_NAMES_COUNT).len == first
+            && const_oid_nearest(below, len, names, CONST_OID_NAMES_COUNT).len == first;
+    }
+    return right;
+}
+
 int main(void) {
     const_oid_octets rsa = octets_of("RSAEncryption");
     print_name(rsa.octets, rsa.len);
     /* rsaEncryption */
-    return is_rsa(rsa.octets, rsa.len) && octets_of("no name").len == 0 && decides() && reads_purposes() ? 0 : 1;
+    return is_rsa(rsa.octets, rsa.len) && octets_of("no name").len == 0 && finds_each() && decides()
+        && reads_purposes() ? 0 : 1;
 }

@@ -119,7 +119,7 @@ static void octets_row(void) {
 
 /* Says the length of the element that bytes begin with, and its octets. */
 static void element_row(void) {
-    const_oid_octets contents;
+    const_oid_octets contents = {NULL, 0};
     const_oid_status status = const_oid_from_der(OCTETS(0), &contents);
     if (status.code == CONST_OID_OK) {
         check_again(const_oid_to_der(contents.octets, contents.len, out, MOST), status.len);

@@ -245,6 +245,9 @@ static void with_huge_outputs(void) {
     }
 }
 
+/* How long the octets would be of an identifier in which an item may be wrong. */
+static size_t wrong_len;
+
 /* Calls with an output of each length near that of the result, null ones included; of a long result, with huge ones. */
 static void with_outputs(void) {
     int out = output_at();
@@ -256,7 +259,7 @@ static void with_outputs(void) {
     }
     a[out] = (argument){output_pages.start, SLOT};
     const_oid_status all = f->call(a);
-    size_t len = all.code == CONST_OID_OK ? all.len : 0;
+    size_t len = all.code == CONST_OID_OK ? all.len : wrong_len;
     int is_long = len > 1100;
     const argument rooms[] = {{none, len}, {none, len - 1}, {NULL, 0}, {none, 0}, {none, len + 1}, {none, len + 20},
         {none, CONST_OID_MAX_OCTETS}};
@@ -424,7 +427,9 @@ static void vary_identifier(int lead, enum kind kind, const_oid_octets of, int i
     if (kind == DER) len = const_oid_to_der(of.octets, of.len, bytes, sizeof bytes - 3).len + 3;
     uint32_t at = drawn((uint32_t)len), byte = drawn(256);
     if (is_wrong) arcs[at % 320] = byte, bytes[at] = (uint8_t)(kind == TEXT ? ".x9\xFF"[byte % 4] : (int)byte);
+    wrong_len = of.len;
     with(lead, kind == ARCS ? (void *)arcs : bytes, len);
+    wrong_len = 0;
 }
 
 /* Each identifier with a name, since a function could know it; and drawn ones of few octets or around 255, some wrong:

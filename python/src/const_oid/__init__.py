@@ -8,7 +8,8 @@ Contents octets have no tag and no length. In DER, such as that of a certificate
 identifier is 6. `from_der` and `read_der` take them. A walk over all values gives the place of each element with this
 tag, and its identifier or its error. It takes the contents of an OCTET STRING, such as an extension's, for DER if they
 can be read so. It finds no identifier in a BIT STRING, nor one whose own tag is implicit, as a registeredID's. A value
-that goes on past what it is in, or a tag of several octets, is a ValueError, and too deep a nesting a RecursionError.
+that goes on past what it is in, or a tag of several octets, ends it with a ValueError, and values nested past Python's
+recursion limit with a RecursionError. An OCTET STRING with such contents is passed over.
 
 >>> import contextlib
 >>> def identifiers(der, place=0):

@@ -127,7 +127,7 @@ macro_rules! names {
 macro_rules! sorted {
     ($($octets:literal, $name:literal;)*) => {
         /// The entries of [`DB`] in the order of arcs, those of an identifier in the order of [`DB`].
-        /// [`by_oid`](SortedDatabase::by_oid) has an example.
+        /// [`SortedDatabase`] has an example.
         pub const SORTED: SortedDatabase<'static> = SortedDatabase::new_unchecked(&IN_ORDER);
 
         /// The entries of [`SORTED`], as a `static`, as above. Their octets are compared with [`DB`] by a test.

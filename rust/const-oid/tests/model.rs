@@ -760,8 +760,8 @@ fn encodes_arcs() {
     }
 }
 
-/// Texts and arcs, whose arcs have all lengths in all orders, with an error anywhere and without one, into outputs of about
-/// as many octets.
+/// Texts and arcs, whose arcs have all lengths in all orders, with an error anywhere and without one, into outputs of
+/// about as many octets.
 #[test]
 fn writes_octets_at_the_end_of_the_output() {
     all(&[0, 128, 16_384, 1 << 21, u32::MAX], 4, |group| {
