@@ -30,9 +30,6 @@ mod parser;
 mod parts;
 mod root;
 pub mod search;
-// erase: omit
-#[cfg(test)]
-mod tests;
 mod text;
 // Rust's traits have a constant.
 // erase: omit

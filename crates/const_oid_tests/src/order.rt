@@ -77,6 +77,30 @@ fn buffer_clone_of<const N: usize>(buffer: &Buffer<N>) -> Result<Buffer<N>, Allo
     buffer.clone()
 }
 
+/// Octets of two identifiers of at most three, and the order of the first to the second. Their buffers compare so.
+const PAIRS: &[(&[u8], &[u8], Ordering)] = &[
+    (&[0x2A, 0x03], &[0x2A, 0x03], Ordering::Equal),
+    (&[0x2A, 0x03], &[0x2A, 0x04], Ordering::Less),
+    (&[0x2A, 0x03], &[0x2A], Ordering::Greater),
+    (&[0x55], &[0x2A, 0x03], Ordering::Less),
+];
+
+#[test]
+fn compares_few_octets(rt: HostRuntime) -> Result<(), Fail> {
+    for (first, second, order) in PAIRS {
+        let a = ObjectIdentifier::<3>::try_from_ref(read_borrowed(first)?);
+        let b = ObjectIdentifier::<3>::try_from_ref(read_borrowed(second)?);
+        let (Ok(a), Ok(b)) = (a, b) else {
+            return Err(Fail::new(format_args!("{first:?} {second:?}")));
+        };
+        assert!(rt;
+            a.as_bytes() == *first && order_of(&a, &b) == *order && has_same_arcs(&a, &b) == order.is_eq(),
+            "{first:?} {second:?}"
+        );
+    }
+    Ok(())
+}
+
 /// What both orders and copies return is proved, and here it runs.
 #[test]
 fn compares_and_copies(rt: HostRuntime) -> Result<(), Fail> {
