@@ -59,10 +59,7 @@ pub fn of_text<'o>(text: &str, out: &'o mut [u8]) -> Result<Made<'o>> {
     let len = ObjectIdentifierRef::from_ascii_in(bytes, out).map(|oid| oid.as_bytes().len());
     ensure!(outputs::bytes_len_from_ascii(bytes, room) == len);
     let made = written(out, len)?;
-    ensure!(
-        room != 39 || are_usual(text, made),
-        "calls at the usual capacity"
-    );
+    ensure!(room != 39 || are_usual(text, made), "usual capacity");
     Ok(made)
 }
 
@@ -97,20 +94,23 @@ fn with_usual(alloc: Global, any: Made<'_>, usual: Made<'_>, len: usize) -> Resu
 }
 
 pub fn text(alloc: Global, text: &str) -> Result<String> {
-    let (mut any, mut usual) = (output(alloc, text.len())?, output(alloc, 39)?);
+    let (mut any, mut usual) = (output(alloc, text.len())?, [0xEE; 39]);
     let (any, usual) = (of_text(text, &mut any)?, of_text(text, &mut usual)?);
     with_usual(alloc, any, usual, text.len())
 }
 
 pub fn arcs(alloc: Global, arcs: &[Arc]) -> Result<String> {
-    let mut any = output(alloc, arcs.len().saturating_mul(5))?;
-    let mut usual = output(alloc, 39)?;
-    with_usual(
-        alloc,
-        of_arcs(arcs, &mut any)?,
-        of_arcs(arcs, &mut usual)?,
-        0,
-    )
+    let (mut any, mut usual) = (output(alloc, arcs.len().saturating_mul(5))?, [0xEE; 39]);
+    let (any, usual) = (of_arcs(arcs, &mut any)?, of_arcs(arcs, &mut usual)?);
+    with_usual(alloc, any, usual, 0)
+}
+
+pub fn text_in(alloc: Global, room: usize, text: &str) -> Result<String> {
+    digits(alloc, of_text(text, &mut output(alloc, room)?)?)
+}
+
+pub fn arcs_in(alloc: Global, room: usize, arcs: &[Arc]) -> Result<String> {
+    digits(alloc, of_arcs(arcs, &mut output(alloc, room)?)?)
 }
 
 /// Whether a capacity reads and copies octets as the borrowed form does, where they fit it and are at most 255.
@@ -130,10 +130,11 @@ fn fits<const N: usize>(octets: &[u8]) -> bool
     is_copied && is_answer(ObjectIdentifier::<N>::from_bytes_sized(octets), wanted)
 }
 
-/// Whether an identifier of either form has each of these arcs at its index, and no other.
-macro_rules! has_arcs {
-    ($oid:expr, $arcs:expr) => {
-        $oid.arcs().eq($arcs.iter().copied())
+/// Whether an identifier of either form has these octets, and each of these arcs at its index, and no other.
+macro_rules! has {
+    ($oid:expr, $octets:expr, $arcs:expr) => {
+        $oid.as_bytes() == $octets
+            && $oid.arcs().eq($arcs.iter().copied())
             && $arcs.iter().enumerate().all(|(index, arc)| $oid.arc(index) == Some(*arc))
             && $oid.len() == $arcs.len()
             && $oid.arc($arcs.len()).is_none()
@@ -141,15 +142,31 @@ macro_rules! has_arcs {
     };
 }
 
-/// Whether text and arcs have these octets in each output where they fit, and no room in the others.
-fn made_again(alloc: Global, octets: &[u8], text: &str, arcs: &[Arc]) -> Result<()> {
-    let len = octets.len();
-    for room in [0, len.saturating_sub(1), len, 39, 63, 64, 65, 300, 640] {
-        let wanted = (len <= room).then_some(octets).ok_or(Error::Length);
-        ensure!(of_text(text, &mut output(alloc, room)?)? == wanted);
-        ensure!(of_arcs(arcs, &mut output(alloc, room)?)? == wanted);
+/// The arcs of octets, which the borrowed form has.
+fn arcs_of(alloc: Global, octets: &[u8]) -> Result<Vec<Arc>> {
+    let oid = ObjectIdentifierRef::from_bytes(octets)?;
+    let arcs: Vec<Arc> = oid.arcs().collect(alloc)?;
+    ensure!(has!(oid, octets, arcs));
+    Ok(arcs)
+}
+
+/// The text of octets, which the owned form prints too, with the same arcs, if they fit.
+fn text_of(alloc: Global, octets: &[u8], arcs: &[Arc]) -> Result<String> {
+    let text = format!(in alloc; "{}", ObjectIdentifierRef::from_bytes(octets)?)?;
+    if let Ok(oid) = Oid::from_bytes(octets) {
+        ensure!(has!(oid, octets, arcs) && format!(in alloc; "{oid}")? == text);
+    } else {
+        ensure!(octets.len() > 39);
     }
-    Ok(())
+    Ok(text)
+}
+
+/// Whether text and arcs have these octets in outputs with this room where they fit, and no room in others.
+fn made_again(alloc: Global, octets: &[u8], text: &str, arcs: &[Arc], room: usize) -> Result<bool> {
+    let fits = octets.len() <= room;
+    let wanted = fits.then_some(octets).ok_or(Error::Length);
+    let (mut out, mut other) = (output(alloc, room)?, output(alloc, room)?);
+    Ok(of_text(text, &mut out)? == wanted && of_arcs(arcs, &mut other)? == wanted)
 }
 
 /// How many arcs there are, and the arcs.
@@ -162,30 +179,23 @@ fn counted(alloc: Global, arcs: &[Arc]) -> Result<String> {
 }
 
 /// The text of octets, and their arcs.
-pub fn octets(alloc: Global, digits: &str) -> Result<String> {
-    let octets = hex::decode(alloc, digits.as_bytes())?;
-    ensure!(fits::<0>(&octets) && fits::<1>(&octets) && fits::<2>(&octets) && fits::<3>(&octets));
-    ensure!(fits::<39>(&octets) && fits::<255>(&octets));
-    ensure!(fits::<256>(&octets) && fits::<300>(&octets));
-    let oid = ObjectIdentifierRef::from_bytes(&octets)?;
-    let text = format!(in alloc; "{oid}")?;
-    let arcs: Vec<Arc> = oid.arcs().collect(alloc)?;
-    ensure!(oid.as_bytes() == octets.as_slice() && has_arcs!(oid, arcs));
-    if let Ok(oid) = Oid::from_bytes(&octets) {
-        ensure!(oid.as_bytes() == octets.as_slice() && has_arcs!(oid, arcs));
-        ensure!(format!(in alloc; "{oid}")? == text);
-    } else {
-        ensure!(octets.len() > 39);
+pub fn octets(alloc: Global, octets: &[u8]) -> Result<String> {
+    ensure!(fits::<0>(octets) && fits::<1>(octets) && fits::<2>(octets) && fits::<3>(octets));
+    ensure!(fits::<39>(octets) && fits::<255>(octets));
+    ensure!(fits::<256>(octets) && fits::<300>(octets));
+    let arcs = arcs_of(alloc, octets)?;
+    let text = text_of(alloc, octets, &arcs)?;
+    let len = octets.len();
+    for room in [0, len.saturating_sub(1), len, 39, 63, 64, 65, 300, 640] {
+        ensure!(made_again(alloc, octets, &text, &arcs, room)?);
     }
-    made_again(alloc, &octets, &text, &arcs)?;
     let arcs = counted(alloc, &arcs)?;
     Ok(format!(in alloc; "{text}, {arcs}")?)
 }
 
 /// The arcs of octets from the first of two numbers on, at most as many as the second.
-pub fn arcs_from(alloc: Global, digits: &str, numbers: &[Arc]) -> Result<String> {
-    let octets = hex::decode(alloc, digits.as_bytes())?;
-    let oid = ObjectIdentifierRef::from_bytes(&octets)?;
+pub fn arcs_from(alloc: Global, octets: &[u8], numbers: &[Arc]) -> Result<String> {
+    let oid = ObjectIdentifierRef::from_bytes(octets)?;
     let [first, room] = numbers else {
         return Ok(String::from_str(alloc, "no two numbers")?);
     };
@@ -213,25 +223,27 @@ fn is_whole(bytes: &[u8]) -> bool {
     true
 }
 
+/// Whether an owned identifier writes this element to an output that is longer, if its octets fit.
+fn owned_writes(oid: ObjectIdentifierRef<'_>, element: &[u8]) -> bool {
+    let (len, mut out) = (element.len(), [0xEE; 300]);
+    let Ok(owned) = Long::try_from_ref(oid) else {
+        return true;
+    };
+    let is_len = owned.write_element(&mut out) == Some(len) && owned.element_len() == len;
+    is_len && out.starts_with(element) && out.iter().skip(len).all(|byte| *byte == 0xEE)
+}
+
 /// Whether both forms write this element, to outputs of its length and longer, and to none that is shorter.
-fn is_written(alloc: Global, oid: ObjectIdentifierRef<'_>, element: &[u8]) -> Result<()> {
+fn is_written(alloc: Global, oid: ObjectIdentifierRef<'_>, element: &[u8]) -> Result<bool> {
     let len = element.len();
     let (mut out, mut short) = (output(alloc, len)?, output(alloc, len.saturating_sub(1))?);
-    ensure!(oid.write_element(&mut short).is_none() && short.iter().all(|byte| *byte == 0xEE));
-    ensure!(oid.write_element(&mut out) == Some(len) && out.as_slice() == element);
-    ensure!(oid.element_len() == len);
-    if let Ok(owned) = Long::try_from_ref(oid) {
-        let mut out = [0xEE; 300];
-        ensure!(owned.write_element(&mut out) == Some(len) && owned.element_len() == len);
-        ensure!(written(&out, Ok(len))? == Ok(element));
-    }
-    Ok(())
+    let is_none = oid.write_element(&mut short).is_none() && short.iter().all(|byte| *byte == 0xEE);
+    let is_some = oid.write_element(&mut out) == Some(len) && out.as_slice() == element;
+    Ok(is_none && is_some && oid.element_len() == len && owned_writes(oid, element))
 }
 
 /// How many bytes the element has that bytes begin with, and its octets or their error.
-pub fn element(alloc: Global, digits: &str) -> Result<String> {
-    let der = hex::decode(alloc, digits.as_bytes())?;
-    let der = der.as_slice();
+pub fn element(alloc: Global, der: &[u8]) -> Result<String> {
     ensure!(owned_reads(der));
     let Some((read, rest)) = ObjectIdentifierRef::read_element(der) else {
         ensure!(is_whole(der));
@@ -242,7 +254,7 @@ pub fn element(alloc: Global, digits: &str) -> Result<String> {
     ensure!(after == rest && is_whole(element));
     match read {
         Ok(oid) => {
-            is_written(alloc, oid, element)?;
+            ensure!(is_written(alloc, oid, element)?);
             let octets = hex::encode_upper(alloc, oid.as_bytes())?;
             Ok(format!(in alloc; "{len} bytes, {octets}")?)
         }

@@ -41,44 +41,53 @@ fn arcs(alloc: Global, input: &str) -> Result<Vec<Arc>> {
     Ok(arcs)
 }
 
+/// The result of a row that begins with octets.
+fn of_octets(alloc: Global, call: &str, octets: &[u8], rest: &str) -> Result<String> {
+    match call {
+        "octets" => identifiers::octets(alloc, octets),
+        "element" => identifiers::element(alloc, octets),
+        "bytes" => match str::from_utf8(octets) {
+            Ok(text) => identifiers::text(alloc, text),
+            Err(_) => Ok(String::from_str(alloc, "no text")?),
+        },
+        "arcs_from" => identifiers::arcs_from(alloc, octets, &arcs(alloc, rest)?),
+        "parent" => relations::parent(alloc, octets),
+        "child" => relations::child(alloc, octets, rest.parse()?),
+        "list" => relations::list(alloc, octets, &words(alloc, rest)?),
+        _ => relations::pair(alloc, call, octets, &hex::decode(alloc, rest.as_bytes())?),
+    }
+}
+
+/// The result of a row of one identifier, of entries or of a table.
+fn of_one(alloc: Global, call: &str, input: &str) -> Result<String> {
+    let (first, rest) = input.split_once(' ').unwrap_or((input, ""));
+    match call {
+        "text" => identifiers::text(alloc, input),
+        "text_in" => identifiers::text_in(alloc, first.parse()?, rest),
+        "component" => match ObjectIdentifierRef::wrong_component(input.as_bytes()) {
+            Some(index) => Ok(format!(in alloc; "{index}")?),
+            None => Ok(String::from_str(alloc, "none")?),
+        },
+        "arcs" => identifiers::arcs(alloc, &arcs(alloc, input)?),
+        "arcs_in" => identifiers::arcs_in(alloc, first.parse()?, &arcs(alloc, rest)?),
+        "sorted" => relations::sorted(alloc, &words(alloc, input)?),
+        "names" => relations::names(alloc, first, &words(alloc, rest)?),
+        _ => of_octets(alloc, call, &hex::decode(alloc, first.as_bytes())?, rest),
+    }
+}
+
 /// The result of a row. What the library for C alone has is left to it, as `None`.
 fn answer(alloc: Global, call: &str, input: &str) -> Result<Option<String>> {
     let (first, rest) = input.split_once(' ').unwrap_or((input, ""));
-    let words = words(alloc, input)?;
-    Ok(Some(match call {
-        "text" => identifiers::text(alloc, input)?,
-        "text_in" => {
-            let mut out = identifiers::output(alloc, first.parse()?)?;
-            identifiers::digits(alloc, identifiers::of_text(rest, &mut out)?)?
+    match (call, call.strip_suffix("_order")) {
+        ("error", _) => identifiers::error(alloc, first, rest.parse()?),
+        ("items_order", _) => Ok(None),
+        (_, Some(call)) => {
+            let words = words(alloc, input)?;
+            Ok(Some(relations::in_order(alloc, call, &words)?))
         }
-        "component" => match ObjectIdentifierRef::wrong_component(input.as_bytes()) {
-            Some(index) => format!(in alloc; "{index}")?,
-            None => String::from_str(alloc, "none")?,
-        },
-        "bytes" => match str::from_utf8(&hex::decode(alloc, input.as_bytes())?) {
-            Ok(text) => identifiers::text(alloc, text)?,
-            Err(_) => String::from_str(alloc, "no text")?,
-        },
-        "octets" => identifiers::octets(alloc, input)?,
-        "element" => identifiers::element(alloc, input)?,
-        "arcs" => identifiers::arcs(alloc, &arcs(alloc, input)?)?,
-        "arcs_in" => {
-            let mut out = identifiers::output(alloc, first.parse()?)?;
-            identifiers::digits(alloc, identifiers::of_arcs(&arcs(alloc, rest)?, &mut out)?)?
-        }
-        "arcs_from" => identifiers::arcs_from(alloc, first, &arcs(alloc, rest)?)?,
-        "parent" => relations::parent(alloc, input)?,
-        "child" => relations::child(alloc, first, rest.parse()?)?,
-        "sorted" => relations::sorted(alloc, &words)?,
-        "list" => relations::list(alloc, first, words.get(1..).unwrap_or(&[]))?,
-        "names" => relations::names(alloc, first, words.get(1..).unwrap_or(&[]))?,
-        "error" => return identifiers::error(alloc, first, rest.parse()?),
-        "items_order" => return Ok(None),
-        _ => match call.strip_suffix("_order") {
-            Some(call) => relations::in_order(alloc, call, &words)?,
-            None => relations::pair(alloc, call, first, rest)?,
-        },
-    }))
+        _ => Ok(Some(of_one(alloc, call, input)?)),
+    }
 }
 
 /// A row's result, if the row has none or another one.

@@ -9,13 +9,13 @@ use const_oid::search::{end_of, first_of, nearest_of, start_of, subtree_of};
 use const_oid::{Arc, ByArcs, ObjectIdentifier, ObjectIdentifierRef, Oid};
 use std::alloc::Global;
 use std::cmp::Ordering;
+use std::fmt::Write;
 
 /// The octets of the parent, or `none`.
-pub fn parent(alloc: Global, digits: &str) -> Result<String> {
-    let octets = hex::decode(alloc, digits.as_bytes())?;
-    let oid = ObjectIdentifierRef::from_bytes(&octets)?;
+pub fn parent(alloc: Global, octets: &[u8]) -> Result<String> {
+    let oid = ObjectIdentifierRef::from_bytes(octets)?;
     let parent = oid.parent();
-    if let Ok(owned) = Oid::from_bytes(&octets) {
+    if let Ok(owned) = Oid::from_bytes(octets) {
         ensure!(owned.parent() == parent.and_then(|parent| Oid::try_from_ref(parent).ok()));
     }
     let Some(parent) = parent else {
@@ -36,16 +36,15 @@ fn pushes<const N: usize>(octets: &[u8], arc: Arc, child: Made<'_>) -> bool
 }
 
 /// The octets with one more arc.
-pub fn child(alloc: Global, octets: &str, arc: Arc) -> Result<String> {
-    let octets = hex::decode(alloc, octets.as_bytes())?;
-    let oid = ObjectIdentifierRef::from_bytes(&octets)?;
+pub fn child(alloc: Global, octets: &[u8], arc: Arc) -> Result<String> {
+    let oid = ObjectIdentifierRef::from_bytes(octets)?;
     let mut arcs: Vec<Arc> = oid.arcs().collect(alloc)?;
     arcs.push(arc)?;
     let mut out = output(alloc, octets.len().saturating_add(5))?;
     let made = of_arcs(&arcs, &mut out)?;
-    ensure!(pushes::<1>(&octets, arc, made) && pushes::<3>(&octets, arc, made));
-    ensure!(pushes::<39>(&octets, arc, made) && pushes::<255>(&octets, arc, made));
-    ensure!(pushes::<300>(&octets, arc, made));
+    let few = pushes::<1>(octets, arc, made) && pushes::<3>(octets, arc, made);
+    let more = pushes::<39>(octets, arc, made) && pushes::<255>(octets, arc, made);
+    ensure!(few && more && pushes::<300>(octets, arc, made));
     digits(alloc, made)
 }
 
@@ -56,14 +55,14 @@ fn begins(oid: &ObjectIdentifierRef<'_>, prefix: &ObjectIdentifierRef<'_>) -> Re
     let left = begins.then_some(oid.len().saturating_sub(prefix.len()));
     ensure!(oid.strip_prefix(prefix).map(|arcs| arcs.count()) == left);
     let (octets, start) = (oid.as_bytes(), prefix.as_bytes());
-    if octets.len() <= 39 && start.len() <= 3 {
-        let prefix = ObjectIdentifier::<3>::from_bytes_sized(start)?;
-        ensure!(Oid::from_bytes(octets)?.starts_with(prefix) == begins);
-    }
     if octets.len() <= 39 && start.len() <= 39 {
         let (oid, prefix) = (Oid::from_bytes(octets)?, Oid::from_bytes(start)?);
         ensure!(oid.starts_with(prefix) == begins);
         ensure!(oid.strip_prefix(&prefix).map(|arcs| arcs.count()) == left);
+        if start.len() <= 3 {
+            let prefix = ObjectIdentifier::<3>::from_bytes_sized(start)?;
+            ensure!(oid.starts_with(prefix) == begins);
+        }
     }
     Ok(begins)
 }
@@ -90,10 +89,11 @@ fn by_arcs(a: ObjectIdentifierRef<'_>, b: ObjectIdentifierRef<'_>) -> Result<Ord
 /// The order of octets as owned or as borrowed identifiers, or that of arcs.
 fn order_of(call: &str, left: &[u8], right: &[u8]) -> Result<Ordering> {
     if call == "owned" {
-        let long = order(
-            &Long::from_bytes_sized(left)?,
-            &Long::from_bytes_sized(right)?,
-        )?;
+        let (a, b) = (
+            Long::from_bytes_sized(left)?,
+            Long::from_bytes_sized(right)?,
+        );
+        let long = order(&a, &b)?;
         if let (Ok(a), Ok(b)) = (Oid::from_bytes(left), Oid::from_bytes(right)) {
             ensure!(order(&a, &b)? == long);
         }
@@ -109,20 +109,14 @@ fn order_of(call: &str, left: &[u8], right: &[u8]) -> Result<Ordering> {
 }
 
 /// How two identifiers compare, in a word.
-pub fn pair(alloc: Global, call: &str, left: &str, right: &str) -> Result<String> {
-    let left = hex::decode(alloc, left.as_bytes())?;
-    let right = hex::decode(alloc, right.as_bytes())?;
+pub fn pair(alloc: Global, call: &str, left: &[u8], right: &[u8]) -> Result<String> {
     let word = if call == "equal" || call == "begins" {
-        let a = ObjectIdentifierRef::from_bytes(&left)?;
-        let b = ObjectIdentifierRef::from_bytes(&right)?;
-        let is = if call == "equal" {
-            a == b
-        } else {
-            begins(&a, &b)?
-        };
+        let a = ObjectIdentifierRef::from_bytes(left)?;
+        let b = ObjectIdentifierRef::from_bytes(right)?;
+        let is = (call == "equal" && a == b) || (call == "begins" && begins(&a, &b)?);
         if is { "yes" } else { "no" }
     } else {
-        match order_of(call, &left, &right)? {
+        match order_of(call, left, right)? {
             Ordering::Less => "less",
             Ordering::Equal => "equal",
             Ordering::Greater => "greater",
@@ -136,10 +130,8 @@ pub fn in_order(alloc: Global, call: &str, words: &[&str]) -> Result<String> {
     let items = items(alloc, words)?;
     for (place, item) in items.iter().enumerate() {
         for (other, another) in items.iter().enumerate() {
-            ensure!(
-                order_of(call, &item.0, &another.0)? == place.cmp(&other),
-                "{place} and {other}"
-            );
+            let order = order_of(call, &item.0, &another.0)?;
+            ensure!(order == place.cmp(&other), "{place} and {other}");
         }
     }
     Ok(String::from_str(alloc, "in order")?)
@@ -152,10 +144,8 @@ type Entry<'a> = (ObjectIdentifierRef<'a>, &'a str);
 fn items(alloc: Global, words: &[&str]) -> Result<Vec<(Vec<u8>, String)>> {
     let mut items = Vec::new(alloc);
     for (index, word) in words.iter().enumerate() {
-        items.push((
-            hex::decode(alloc, word.as_bytes())?,
-            format!(in alloc; "{index}")?,
-        ))?;
+        let octets = hex::decode(alloc, word.as_bytes())?;
+        items.push((octets, format!(in alloc; "{index}")?))?;
     }
     Ok(items)
 }
@@ -184,11 +174,13 @@ fn searched(alloc: Global, entries: &[Entry<'_>], oid: &ObjectIdentifierRef<'_>)
     let next = name_at(end_of(entries, oid));
     let nearest = nearest_of(entries, oid).and_then(name_at);
     let (from, to) = subtree_of(entries, oid);
-    ensure!(start_of(entries, oid) == from);
-    ensure!(table.by_oid(oid) == find);
-    ensure!(table.next_after(oid).map(|entry| entry.1) == next);
-    ensure!(table.nearest(*oid).map(|entry| entry.1) == nearest);
-    ensure!(table.subtree(oid).len() == to.saturating_sub(from));
+    ensure!(
+        start_of(entries, oid) == from
+            && table.by_oid(oid) == find
+            && table.next_after(oid).map(|entry| entry.1) == next
+            && table.nearest(*oid).map(|entry| entry.1) == nearest
+            && table.subtree(oid).len() == to.saturating_sub(from)
+    );
     let none = format!(in alloc; "none of {}", entries.len())?;
     let find = find.unwrap_or(&none);
     let next = next.unwrap_or(&none);
@@ -197,9 +189,8 @@ fn searched(alloc: Global, entries: &[Entry<'_>], oid: &ObjectIdentifierRef<'_>)
 }
 
 /// What each search finds for an identifier.
-pub fn list(alloc: Global, digits: &str, words: &[&str]) -> Result<String> {
-    let octets = hex::decode(alloc, digits.as_bytes())?;
-    let oid = ObjectIdentifierRef::from_bytes(&octets)?;
+pub fn list(alloc: Global, octets: &[u8], words: &[&str]) -> Result<String> {
+    let oid = ObjectIdentifierRef::from_bytes(octets)?;
     let items = items(alloc, words)?;
     let mut entries: Vec<Entry<'_>> = Vec::new(alloc);
     for (octets, name) in &items {
@@ -215,7 +206,7 @@ fn named(alloc: Global, table: &Database<'_>, oid: &Oid, name: &str) -> Result<S
         None => String::from_str(alloc, "none")?,
     };
     for name in table.find_names_for_oid(*oid) {
-        said.push_str(format!(in alloc; " {name}")?.as_str())?;
+        write!(said, " {name}")?;
     }
     let text = format!(in alloc; "{oid}")?;
     let first = table.by_oid(oid);
@@ -234,18 +225,24 @@ fn looked_up(alloc: Global, entries: &[(&Oid, &str)], oid: &Oid, name: &str) -> 
     Ok(said)
 }
 
-/// The identifier of a name, and the names of an identifier, in a table of rows `octets=name`.
-pub fn names(alloc: Global, digits: &str, words: &[&str]) -> Result<String> {
-    let oid = Oid::from_bytes(&hex::decode(alloc, digits.as_bytes())?)?;
-    let (name, rows) = words.split_first().context("no name")?;
-    let mut oids = Vec::new(alloc);
+/// The identifiers and names of rows `octets=name`.
+fn table(alloc: Global, rows: &[&str]) -> Result<Vec<(Oid, String)>> {
+    let mut table = Vec::new(alloc);
     for row in rows {
         let (digits, name) = row.split_once('=').context("no row")?;
         let oid = Oid::from_bytes(&hex::decode(alloc, digits.as_bytes())?)?;
-        oids.push((oid, String::from_str(alloc, name)?))?;
+        table.push((oid, String::from_str(alloc, name)?))?;
     }
+    Ok(table)
+}
+
+/// The identifier of a name, and the names of an identifier, in a table of rows.
+pub fn names(alloc: Global, digits: &str, words: &[&str]) -> Result<String> {
+    let (name, rows) = words.split_first().context("no name")?;
+    let oid = Oid::from_bytes(&hex::decode(alloc, digits.as_bytes())?)?;
+    let table = table(alloc, rows)?;
     let mut entries = Vec::new(alloc);
-    for (oid, name) in &oids {
+    for (oid, name) in &table {
         entries.push((oid, name.as_str()))?;
     }
     looked_up(alloc, &entries, &oid, name)
