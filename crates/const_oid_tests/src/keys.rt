@@ -43,8 +43,14 @@ fn parent_is_key(alloc: Global, oid: &Oid) -> Result<bool, Fail> {
     Ok(hash_of(&parent) == hash_of(&shorter) && keys.get(&parent).is_some())
 }
 
-/// The identifiers of the texts are the keys of their octets. They hash as the parents of their children and as their
-/// borrowed forms do, and so do their parents.
+/// Whether an identifier hashes as the parent of its child and as its borrowed form, and its parent finds it so.
+fn hashes(alloc: Global, oid: Oid) -> Result<bool, Fail> {
+    let parent = parent_of_child(oid, 128)?.ok_or("no parent")?;
+    let (hash, borrowed) = (hash_of(&oid), ref_hash_of(&oid.as_oid_ref()));
+    Ok(hash_of(&parent) == hash && borrowed == hash && parent_is_key(alloc, &oid)?)
+}
+
+/// The identifiers of the texts are the keys of their octets.
 #[test]
 fn finds_keys_by_text(rt: HostRuntime) -> Result<(), Fail> {
     let (mut hashed, mut sorted) = (HashMap::new(rt.alloc()), BTreeMap::new(rt.alloc()));
@@ -55,12 +61,9 @@ fn finds_keys_by_text(rt: HostRuntime) -> Result<(), Fail> {
     }
     for (index, (text, _)) in accepted_rows().iter().enumerate() {
         let oid = parse(text)?;
-        assert!(rt; hashed.get(&oid).copied() == Some(index), "{text}");
-        assert!(rt; sorted.get(&oid).copied() == Some(index), "{text}");
-        let parent = parent_of_child(oid, 128)?.ok_or("no parent")?;
-        assert!(rt; hash_of(&parent) == hash_of(&oid), "{text}");
-        assert!(rt; ref_hash_of(&oid.as_oid_ref()) == hash_of(&oid), "{text}");
-        assert!(rt; parent_is_key(rt.alloc(), &oid)?, "{text}");
+        let found = (hashed.get(&oid).copied(), sorted.get(&oid).copied());
+        assert!(rt; found == (Some(index), Some(index)), "{text}");
+        assert!(rt; hashes(rt.alloc(), oid)?, "{text}");
     }
     let absent = Oid::new_unwrap("1.2.5");
     assert!(rt; hashed.get(&absent).is_none() && sorted.get(&absent).is_none());

@@ -9,6 +9,7 @@ ghost use Rattle.const_oid.specs.OidRef.{key_arcs};
 use crate::vectors::parse;
 use const_oid::{ByArcs, Error, ObjectIdentifier, ObjectIdentifierRef};
 use const_oid_uses::walk::{MAX_NAME, name, next_under};
+use std::alloc::Global;
 use std::collections::BTreeMap;
 use std::test::Fail;
 
@@ -62,21 +63,33 @@ fn count_under(sorted: &[ByArcs<'_>], root: &ObjectIdentifierRef<'_>) -> usize
     sorted.len()
 }
 
-/// A map and a list of keys have the rows, which came in no order, in order.
-#[test]
-fn walks_the_rows_in_order(rt: HostRuntime) -> Result<(), Fail> {
-    let mut oids: Vec<ObjectIdentifier<255>> = Vec::new(rt.alloc());
+/// The identifiers of the rows, in no order.
+fn oids(alloc: Global) -> Result<Vec<ObjectIdentifier<255>>, Fail> {
+    let mut oids = Vec::new(alloc);
     for index in 0..ROWS.len() {
         oids.push(ObjectIdentifier::new_sized(shuffled(index))?)?;
     }
-    let (mut rows, mut keys) = (BTreeMap::new(rt.alloc()), Vec::new(rt.alloc()));
+    Ok(oids)
+}
+
+#[test]
+fn a_map_has_the_rows_in_order(rt: HostRuntime) -> Result<(), Fail> {
+    let (oids, mut rows) = (oids(rt.alloc())?, BTreeMap::new(rt.alloc()));
     for (index, oid) in oids.iter().enumerate() {
         rows.insert(ByArcs(oid.as_oid_ref()), shuffled(index))?;
-        keys.push(ByArcs(oid.as_oid_ref()))?;
     }
     assert!(rt; rows.len() == ROWS.len());
     for (row, wanted) in rows.values().zip(ROWS) {
         assert!(rt; row == wanted, "{wanted}");
+    }
+    Ok(())
+}
+
+#[test]
+fn walks_the_rows_in_order(rt: HostRuntime) -> Result<(), Fail> {
+    let (oids, mut keys) = (oids(rt.alloc())?, Vec::new(rt.alloc()));
+    for oid in &oids {
+        keys.push(ByArcs(oid.as_oid_ref()))?;
     }
     keys.sort()?;
     for (root, count) in COUNTS {
