@@ -73,8 +73,8 @@ fn the_table_has_each_row_and_no_other(rt: HostRuntime) -> Result<(), Fail> {
     let table = SortedDatabase::try_new(&ATTRIBUTE_TYPES).ok_or("not sorted")?;
     for (name, text) in ATTRIBUTE_ROWS {
         let oid = parse(text)?;
-        assert!(rt; table.by_oid(&oid.as_oid_ref()) == Some(*name), "{name}");
-        assert!(rt; is_attribute_type(&oid.as_oid_ref()), "{name}");
+        let is_found = table.by_oid(&oid.as_oid_ref()) == Some(*name);
+        assert!(rt; is_found && is_attribute_type(&oid.as_oid_ref()), "{name}");
     }
     assert!(rt; !is_attribute_type(&theorems::rsa_encryption().as_oid_ref()));
     Ok(())

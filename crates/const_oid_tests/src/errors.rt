@@ -88,17 +88,13 @@ fn is_text(alloc: Global, error: Error, text: &str) -> Result<bool, AllocError> 
 fn has_each_text(rt: HostRuntime) -> Result<(), AllocError> {
     for arc in ARCS {
         let text = format!(in rt.alloc(); "OID contains out-of-range arc: {arc}")?;
-        assert!(rt;
-            is_text(rt.alloc(), Error::ArcInvalid { arc }, &text)?,
-            "{text}"
-        );
+        let is = is_text(rt.alloc(), Error::ArcInvalid { arc }, &text)?;
+        assert!(rt; is, "{text}");
     }
     for actual in 0..=0xFF {
         let text = format!(in rt.alloc(); "expected digit, got '{}'", actual as char)?;
-        assert!(rt;
-            is_text(rt.alloc(), Error::DigitExpected { actual }, &text)?,
-            "{text}"
-        );
+        let is = is_text(rt.alloc(), Error::DigitExpected { actual }, &text)?;
+        assert!(rt; is, "{text}");
     }
     for (error, text) in OTHERS {
         assert!(rt; is_text(rt.alloc(), *error, text)?, "{text}");

@@ -141,10 +141,8 @@ fn answers(alloc: Global, entries: &[Entry], query: &Query) -> Result<bool, Fail
 #[test]
 fn answers_each_row(rt: HostRuntime) -> Result<(), Fail> {
     for (entries, query) in ROWS {
-        assert!(rt;
-            answers(rt.alloc(), entries, query)?,
-            "{query:?} in {entries:?}"
-        );
+        let is = answers(rt.alloc(), entries, query)?;
+        assert!(rt; is, "{query:?} in {entries:?}");
     }
     Ok(())
 }

@@ -158,10 +158,8 @@ fn range_of(alloc: Global, list: &[&[u8]], prefix: &[u8]) -> Result<(usize, usiz
 #[test]
 fn finds_ranges(rt: HostRuntime) -> Result<(), Fail> {
     for (list, prefix, range) in RANGES {
-        assert!(rt;
-            range_of(rt.alloc(), list, prefix)? == *range,
-            "{prefix:?}: {range:?}"
-        );
+        let found = range_of(rt.alloc(), list, prefix)?;
+        assert!(rt; found == *range, "{prefix:?}: {range:?}");
     }
     Ok(())
 }

@@ -87,10 +87,8 @@ fn sorted_rows_have_names_and_labels(rt: HostRuntime) -> Result<(), Fail> {
     assert!(rt; SortedDatabase::try_new(&entries).is_none());
     let names = clone_of(&sorted(&mut entries)?)?;
     for (name, octets) in NAMED {
-        assert!(rt;
-            names.by_name(name).map(|oid| oid.as_bytes()) == *octets,
-            "{name}"
-        );
+        let found = names.by_name(name).map(|oid| oid.as_bytes());
+        assert!(rt; found == *octets, "{name}");
     }
     for (text, wanted) in LABELS {
         assert!(rt; is_label(rt.alloc(), &names, text, *wanted)?, "{text}");
