@@ -94,7 +94,9 @@ fn compares_few_octets(rt: HostRuntime) -> Result<(), Fail> {
             return Err(Fail::new(format_args!("{first:?} {second:?}")));
         };
         assert!(rt;
-            a.as_bytes() == *first && order_of(&a, &b) == *order && has_same_arcs(&a, &b) == order.is_eq(),
+            a.as_bytes() == *first
+                && order_of(&a, &b) == *order
+                && has_same_arcs(&a, &b) == order.is_eq(),
             "{first:?} {second:?}"
         );
     }
