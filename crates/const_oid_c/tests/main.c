@@ -243,8 +243,9 @@ int main(void) {
         read_words(rest);
         answer(row, rest);
         if (said_len == strlen(wanted) && memcmp(said, wanted, said_len) == 0) continue;
-        /* In a short output too, the library looks for an error in the whole text. */
-        if (strcmp(row, "text_in") == 0 && strstr(wanted, "length") && strncmp(said, "error", 5) == 0) continue;
+        /* In a short output too, the library looks for an error in the whole text: these end with one. */
+        int ends_wrong = strcmp(row, "text_in") == 0 && strchr(".x", rest[strlen(rest) - 1]) != NULL;
+        if (ends_wrong && strstr(wanted, "length") && strncmp(said, "error", 5) == 0) continue;
         wrong++;
         printf("line %zu: %s, and not %.*s\n", line, read, (int)said_len, said);
     }
