@@ -22,7 +22,7 @@ const MISSES: u64 = 500;
 const NAMED: usize = 250;
 
 /// Words that names begin with.
-pub static WORDS: [&str; 8] = [
+static WORDS: [&str; 8] = [
     "sha256WithRSAEncryption",
     "id-ce-keyUsage",
     "cn",
@@ -126,6 +126,6 @@ fn name(alloc: Global, first: u64, key: u64, digest: &mut Digest) -> Result<(), 
     Ok(())
 }
 
-pub fn add_name(name: Option<&str>, digest: &mut Digest) {
+fn add_name(name: Option<&str>, digest: &mut Digest) {
     digest.add_bytes(name.unwrap_or("").as_bytes());
 }

@@ -10,7 +10,6 @@ mod digest;
 mod fail;
 mod inputs;
 mod mib;
-mod names;
 mod random;
 mod schema;
 mod trace;
@@ -34,7 +33,6 @@ fn run(
         "awkward" => awkward::run(alloc, random, turns, digest),
         "certificates" => certificates::run(alloc, random, turns, digest),
         "mib" => mib::run(alloc, random, turns, digest),
-        "names" => names::run(alloc, random, turns, digest),
         "trace" => trace::run(random, turns, digest),
         "schema" => {
             schema::run(random, turns, digest);
@@ -53,15 +51,7 @@ fn digest_of(alloc: Global, job: &str, seed: u64, turns: u32) -> Result<u64, Fai
     let mut random = Random::new(seed);
     let mut digest = Digest::new();
     if job == "all" {
-        for job in [
-            "awkward",
-            "certificates",
-            "mib",
-            "names",
-            "schema",
-            "trace",
-            "tree",
-        ] {
+        for job in ["awkward", "certificates", "mib", "schema", "trace", "tree"] {
             run(alloc, job, &mut random, turns, &mut digest)?;
         }
     } else {
