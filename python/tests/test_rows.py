@@ -84,8 +84,9 @@ CALLS = {
     "error": lambda words: error_text(*map(int, words.split(" "))) or "none",
 }
 
-# What this package has no call for: the other orders, whether a list is sorted, and outputs of a length.
-LEFT_OUT = {"items_order", "owned", "owned_order", "borrowed", "borrowed_order", "sorted", "text_in", "arcs_in"}
+# What this package has no call for: the other orders, whether a list is sorted, names, and outputs of a length.
+ORDERS = {"items_order", "owned", "owned_order", "borrowed", "borrowed_order"}
+LEFT_OUT = ORDERS | {"sorted", "names", "text_in", "arcs_in"}
 
 
 def answer(call, words):

@@ -282,3 +282,7 @@ impl<const SIZE: usize> Hash for Buffer<SIZE> {
         self.as_bytes().hash(state);
     }
 }
+
+// erase: omit
+#[cfg(test)]
+mod tests;

@@ -524,6 +524,12 @@ fn check_order<T: Ord + Hash + Debug + ?Sized>(a: &T, b: &T, order: Ordering) {
     assert_eq!([a < b, a <= b, a > b, a >= b], of_order, "{a:?}, {b:?}");
 }
 
+/// The lesser and the greater of two values, which are those of their order.
+fn check_ends<T: Ord + Copy + Debug>(a: T, b: T) {
+    let (least, most) = if a < b { (a, b) } else { (b, a) };
+    assert_eq!([a.min(b), a.max(b), a.clamp(least, most)], [least, most, a]);
+}
+
 /// The functions of two identifiers, in each pair of forms.
 fn check_pair(a: &[u8], b: &[u8]) {
     let (x, y) = (ObjectIdentifierRef::from_bytes(a).unwrap(), ObjectIdentifierRef::from_bytes(b).unwrap());
@@ -539,6 +545,8 @@ fn check_pair(a: &[u8], b: &[u8]) {
     };
     check_order(&i, &j, a.len().cmp(&b.len()).then(a.cmp(b)));
     check_order(&ByArcs(i), &ByArcs(j), by_arcs);
+    check_ends(i, j);
+    check_ends(ByArcs(i), ByArcs(j));
     assert_eq!((i.starts_with(j), i.cmp_arcs(&j), *x == j), (starts, by_arcs, is_equal));
     assert_eq!(i.strip_prefix(&j).map(Vec::from_iter), rest);
     let Ok(small) = ObjectIdentifier::<39>::try_from(y) else {

@@ -185,6 +185,7 @@ fn packages_have_their_versions() {
     for package in ["arbitrary", "const-oid", "const-oid-c", "erase"] {
         assert_eq!(setting(&format!("rust/{package}/Cargo.toml"), "rust-version"), "1.85", "{package}");
     }
+    assert!(!include_str!("../Cargo.toml").contains("\ndefault"), "no feature is on by itself");
     let part = |part| setting("crates/const_oid_c/include/const_oid.h", &format!("#define CONST_OID_VERSION_{part} "));
     let version = format!(" C and Python {}\n", ["MAJOR", "MINOR", "PATCH"].map(part).join("."));
     assert!(include_str!("../CHANGELOG.md").contains(&version), "{version}");

@@ -1,4 +1,4 @@
-use Rattle.std.proofs.Common.{length, arith, rules}
+use Rattle.std.proofs.Common.{length, arith}
 use Rattle.const_oid.specs.Identifier.{root_rule}
 use Rattle.const_oid.proofs.Enough.{bytes_enough}
 use Rattle.const_oid.proofs.outputs.bytes_from_ascii.Goals as goal
@@ -12,9 +12,3 @@ pub returns-then-text-le-ONE_PASS_BYTES-clause-enough : goal.returns-then-text-l
 returns-then-text-le-ONE_PASS_BYTES-clause-enough c =
     let other = bytes_enough root_rule c.args.text.now (length c.args.out.now) in
     grind (arith, other)
-
-pub returns-in_err-parse-clause-kept : goal.returns-in_err-parse-clause-kept
-returns-in_err-parse-clause-kept c = search rules
-
-pub returns-clause-written : goal.returns-clause-written
-returns-clause-written c = search rules

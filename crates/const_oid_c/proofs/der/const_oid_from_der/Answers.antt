@@ -18,6 +18,3 @@ pub returns-in-Some-Err-default-clause-status : goal.returns-in-Some-Err-default
 returns-in-Some-Err-default-clause-status c = λ octets rest is.
     let read = c.in-Some-Err-default in
     c.error_status.ensures.status ∙ err_status c.args.der octets rest read.field-0-1 read.fault (omega arith) (rw read.field-0-0-is at read.ensures) is
-
-pub returns-in-Some-Ok-default-clause-input : goal.returns-in-Some-Ok-default-clause-input
-returns-in-Some-Ok-default-clause-input c = grind (arith, common_steps)

@@ -1,4 +1,4 @@
-use Rattle.std.proofs.Common.{◌≡◌, drop, arith, rules}
+use Rattle.std.proofs.Common.{◌≡◌, drop, arith}
 use Rattle.std.proofs.lemmas.{Grind.common_steps, List.take_rest}
 use Rattle.const_oid.specs.Base128.{group_of}
 use Rattle.const_oid_c.proofs.Children.{child_octets}
@@ -17,6 +17,3 @@ returns-in-Ok-zero_child-clause-written c =
     let rest : drop 1 c.as_bytes.result.now ≡ group_of c.args.arc =
     grind (arith, common_steps, c.as_bytes.ensures.octets, c.in-Ok-zero_child.ensures.octets) in
     rw child (rw (take_rest c.as_bytes.result.now 1, rest) at c.write_joined.ensures.written)
-
-pub returns-in-Err-zero_child-clause-status : goal.returns-in-Err-zero_child-clause-status
-returns-in-Err-zero_child-clause-status c = search rules

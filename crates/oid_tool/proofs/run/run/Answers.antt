@@ -14,6 +14,3 @@ unfolding known_names
 returns-clause-write g c =
     let known : rows_of c.new.result ≡ known_names = search rules in
     grind (arith, common_steps)
-
-pub returns-in_err-len-clause-too_long : goal.returns-in_err-len-clause-too_long
-returns-in_err-len-clause-too_long g c = search rules

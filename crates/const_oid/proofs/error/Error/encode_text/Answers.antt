@@ -1,4 +1,4 @@
-use Rattle.std.proofs.Common.{arith, append_assoc, rules}
+use Rattle.std.proofs.Common.{arith, append_assoc}
 use Rattle.std.specs.Str.{IsUtf8}
 use Rattle.std.proofs.lemmas.{Grind.common_steps, Str.IsUtf8-append}
 use Rattle.const_oid.proofs.{Decimals.drop_more, Appended.written_by_parts}
@@ -13,9 +13,3 @@ returns-clause-utf8 c =
     let before : IsUtf8 c.words.result.0.now = rw c.as_bytes.ensures.value at c.as_bytes.ensures.utf8 in
     let after : IsUtf8 c.words.result.1.now = rw c.as_bytes-2.ensures.value at c.as_bytes-2.ensures.utf8 in
     rw c.words.ensures (IsUtf8-append _ _ before (IsUtf8-append _ _ c.write_detail-at.ensures.utf8 after))
-
-pub returns-then-out-text_len-clause-written : goal.returns-then-out-text_len-clause-written
-returns-then-out-text_len-clause-written c = search rules
-
-pub returns-then-out-text_len-clause-enough : goal.returns-then-out-text_len-clause-enough
-returns-then-out-text_len-clause-enough c = search rules

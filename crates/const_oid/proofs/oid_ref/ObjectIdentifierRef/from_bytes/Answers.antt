@@ -1,4 +1,4 @@
-use Rattle.std.proofs.Common.{arith, rules}
+use Rattle.std.proofs.Common.{arith}
 use Rattle.const_oid.proofs.{Octets.are_octets, Encodings.encoding_from_none}
 use Rattle.const_oid.proofs.oid_ref.ObjectIdentifierRef.from_bytes.Goals as goal
 
@@ -7,6 +7,3 @@ invariant_of-result-clause-octets c = search (arith, are_octets)
 
 pub returns-clause-encoding : goal.returns-clause-encoding
 returns-clause-encoding c = search (arith, encoding_from_none, are_octets)
-
-pub invariant_of-result-clause-valid : goal.invariant_of-result-clause-valid
-invariant_of-result-clause-valid c = search rules

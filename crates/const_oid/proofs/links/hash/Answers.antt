@@ -1,6 +1,0 @@
-use Rattle.std.proofs.Common.{arith}
-use Rattle.std.proofs.lemmas.Grind.{common_steps}
-use Rattle.const_oid.proofs.links.hash.Goals as goal
-
-pub loop-left-preserved : goal.loop-left-preserved
-loop-left-preserved c = grind (arith, common_steps)

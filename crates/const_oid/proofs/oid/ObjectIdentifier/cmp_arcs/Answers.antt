@@ -1,5 +1,0 @@
-use Rattle.std.proofs.Common.{rules}
-use Rattle.const_oid.proofs.oid.ObjectIdentifier.cmp_arcs.Goals as goal
-
-pub returns : goal.returns
-returns g c = search rules

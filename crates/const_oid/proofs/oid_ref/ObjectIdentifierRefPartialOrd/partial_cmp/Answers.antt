@@ -1,5 +1,0 @@
-use Rattle.std.proofs.Common.{rules}
-use Rattle.const_oid.proofs.oid_ref.ObjectIdentifierRefPartialOrd.partial_cmp.Goals as goal
-
-pub returns : goal.returns
-returns c = search rules

@@ -1,5 +1,0 @@
-use Rattle.std.proofs.Common.{rules}
-use Rattle.const_oid_uses.proofs.theorems.is_enterprise.Goals as goal
-
-pub returns : goal.returns
-returns c = search rules
