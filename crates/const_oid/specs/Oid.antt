@@ -8,7 +8,7 @@ use Rattle.const_oid.specs.Buffer.{buffer_octets}
 use Rattle.const_oid.specs.Contents.{arcs_of_octets, octet_answer}
 use Rattle.const_oid.specs.Element.{element}
 use Rattle.const_oid.specs.Identifier.{root_rule}
-use Rattle.const_oid.specs.Slices.{end_of}
+use Rattle.const_oid.specs.Slices.{end_address}
 
 -- the octets that it holds
 abbrev pub oid_octets : {N : ℕ} → ObjectIdentifier N → List ℕ
@@ -28,4 +28,4 @@ pub record ReadsOwned {N : ℕ} (der : Bor (List ℕ)) (result : Result (ObjectI
   pub joined : der.now ≡ element contents ++ rest.now
   pub answer : oid_answer result ≡ octet_answer root_rule contents (min N 255)
   pub octets : IfOk result (λ oid. oid_octets oid ≡ contents)
-  pub end : end_of rest ≡ end_of der
+  pub end : end_address rest ≡ end_address der

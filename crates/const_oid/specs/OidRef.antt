@@ -8,7 +8,7 @@ use Rattle.const_oid.specs.declared.oid_ref.ObjectIdentifierRef.{ObjectIdentifie
 use Rattle.const_oid.specs.Contents.{arcs_of_octets, octet_answer, borrowed_capacity}
 use Rattle.const_oid.specs.Element.{element}
 use Rattle.const_oid.specs.Identifier.{root_rule}
-use Rattle.const_oid.specs.Slices.{end_of}
+use Rattle.const_oid.specs.Slices.{end_address}
 
 -- the slice that it holds
 abbrev pub ref_slice : ObjectIdentifierRef → Bor (List ℕ)
@@ -36,5 +36,5 @@ pub record ReadsElement (der : Bor (List ℕ)) (result : Result ObjectIdentifier
   pub joined : der.now ≡ element contents ++ rest.now
   pub answer : ref_answer result ≡ octet_answer root_rule contents borrowed_capacity
   pub octets : IfOk result (λ oid. ref_octets oid ≡ contents)
-  pub before : IfOk result (λ oid. end_of (ref_slice oid) ≡ rest.ref_ptr)
-  pub end : end_of rest ≡ end_of der
+  pub before : IfOk result (λ oid. end_address (ref_slice oid) ≡ rest.ref_ptr)
+  pub end : end_address rest ≡ end_address der

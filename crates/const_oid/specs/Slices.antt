@@ -7,5 +7,5 @@ abbrev pub address_at : Bor (List ℕ) → ℕ → ℕ × ℕ
 address_at slice index = (slice.ref_ptr.0, slice.ref_ptr.1 + index)
 
 -- the address after the last octet of a slice
-abbrev pub end_of : Bor (List ℕ) → ℕ × ℕ
-end_of slice = address_at slice (length slice.now)
+abbrev pub end_address : Bor (List ℕ) → ℕ × ℕ
+end_address slice = address_at slice (length slice.now)

@@ -3,7 +3,7 @@
 ghost use Rattle.std.specs.Prelude.{◌≡◌, ◌≢◌, ◌↔◌, ◌+◌, ◌-◌, ◌<◌, ◌≤◌, ◌^◌, ◌∷◌, ◌++◌, ℕ, List, length, replicate, slice_index, None, IfSome, IsTrue, MatchOption};
 ghost use Rattle.const_oid.specs.Private.Octets.{bytes_of};
 ghost use Rattle.const_oid.specs.Element.{length_octets, element};
-ghost use Rattle.const_oid.specs.Slices.{end_of};
+ghost use Rattle.const_oid.specs.Slices.{end_address};
 ghost use Rattle.const_oid.specs.Output.{Writes};
 
 /// The tag of an object identifier: class universal, primitive, number 6.
@@ -14,8 +14,8 @@ const TAG: u8 = 6;
 pub(crate) fn split_element(der: &[u8]) -> Option<(&[u8], &[u8])>
     ensures octets { MatchOption result ((contents rest : List ℕ) → der.now ≢ element contents ++ rest)
         (λ split. der.now ≡ element split.0.now ++ split.1.now) }
-    ensures rest { IfSome result (λ split. end_of split.1 ≡ end_of der.entry) }
-    ensures contents { IfSome result (λ split. end_of split.0 ≡ split.1.ref_ptr) }
+    ensures rest { IfSome result (λ split. end_address split.1 ≡ end_address der.entry) }
+    ensures contents { IfSome result (λ split. end_address split.0 ≡ split.1.ref_ptr) }
 {
     let [TAG, after @ ..] = der else {
         return None;
@@ -35,7 +35,7 @@ pub(crate) fn split_element(der: &[u8]) -> Option<(&[u8], &[u8])>
 fn read_length(octets: &[u8]) -> Option<(u64, &[u8])>
     ensures octets { MatchOption result ((len : ℕ) (rest : List ℕ) → len < 2 ^ 64 → octets.now ≢ length_octets len ++ rest)
         (λ read. (read.0 < 2 ^ 64) × (octets.now ≡ length_octets read.0 ++ read.1.now)) }
-    ensures rest { IfSome result (λ read. end_of read.1 ≡ end_of octets.entry) }
+    ensures rest { IfSome result (λ read. end_address read.1 ≡ end_address octets.entry) }
 {
     match octets {
         [first, rest @ ..] if *first < 128 => Some((*first as u64, rest)),
@@ -49,7 +49,7 @@ fn read_length(octets: &[u8]) -> Option<(u64, &[u8])>
 fn read_long_length(count: usize, octets: &[u8]) -> Option<(u64, &[u8])>
     ensures octets { MatchOption result ((len : ℕ) (rest : List ℕ) → len < 2 ^ 64 → (128 + count) ∷ octets.now ≢ length_octets len ++ rest)
         (λ read. (128 + count) ∷ octets.now ≡ length_octets read.0 ++ read.1.now) }
-    ensures rest { IfSome result (λ read. end_of read.1 ≡ end_of octets.entry) }
+    ensures rest { IfSome result (λ read. end_address read.1 ≡ end_address octets.entry) }
 {
     if count > 8 || count > octets.len() {
         return None;

@@ -48,7 +48,7 @@ extern "C" {
 
 /* The version of these declarations. const_oid_version() returns the version of the library. */
 #define CONST_OID_VERSION_MAJOR 1
-#define CONST_OID_VERSION_MINOR 3
+#define CONST_OID_VERSION_MINOR 4
 #define CONST_OID_VERSION_PATCH 0
 #define CONST_OID_VERSION \
     (65536 * CONST_OID_VERSION_MAJOR + 256 * CONST_OID_VERSION_MINOR + CONST_OID_VERSION_PATCH)
@@ -72,6 +72,16 @@ extern "C" {
 #define CONST_OID_NODISCARD __attribute__((__warn_unused_result__))
 #else
 #define CONST_OID_NODISCARD
+#endif
+
+/* The arguments, counted from 1, that are an array that the function reads, or writes, and how many items it has. gcc,
+ * from 10 on, warns of a number that is more than the array has, and of a null pointer unless the number is 0. */
+#if defined(__GNUC__) && !defined(__clang__) && __GNUC__ >= 10
+#define CONST_OID_READS(items, len) __attribute__((__access__(__read_only__, items, len)))
+#define CONST_OID_WRITES(items, len) __attribute__((__access__(__write_only__, items, len)))
+#else
+#define CONST_OID_READS(items, len)
+#define CONST_OID_WRITES(items, len)
 #endif
 
 /* The most octets that const_oid_cmp_owned reads. The other functions read and write octets of any length. */
@@ -124,8 +134,8 @@ enum const_oid_order {
  *   byte. Otherwise it is 0.
  * - `len` is, on success, how many items the function wrote, read or counted, or the index that it found. With
  *   OUTPUT_TOO_SHORT it is how many items the result has. If const_oid_check_sorted finds a wrong item, or
- *   const_oid_from_text a wrong component, it is the index of the first one. With NONE from a search in a list, it is
- *   how many items the list has, and so the index of none of them. Otherwise it is 0, and no index. */
+ *   const_oid_from_text a wrong component, it is the index of the first one. With any code but OK from a search in a
+ *   list, it is how many items the list has, and so the index of none of them. Otherwise it is 0, and no index. */
 typedef struct const_oid_status {
     uint32_t code;
     uint32_t detail;
@@ -152,17 +162,18 @@ CONST_OID_NODISCARD uint32_t const_oid_version(void);
 
 /* Reads the element of DER that bytes begin with (X.690, 8.1 and 10.1): the tag 6, the length, and contents octets.
  * Stores in `contents`, which must not be null, where these are in the input, and returns in `len` how many bytes the
- * element has. Others may follow. The code is NO_ELEMENT if the tag is not 6, or the length is indefinite or could be
- * in fewer bytes, or not all contents octets are there; or else that of the octets if they are invalid.
+ * element has. Others may follow: there is one whole element, and no more, if `element.code == CONST_OID_OK &&
+ * element.len == len`. The code is NO_ELEMENT if the tag is not 6, or the length is indefinite or could be in fewer
+ * bytes, or not all contents octets are there; or else that of the octets if they are invalid.
  *
  * No bytes are NO_ELEMENT too. So a loop over elements runs `while (len > 0)`, and any code but OK is an error: a loop
  * that runs while the code is OK takes a malformed element for the end. */
-CONST_OID_NODISCARD const_oid_status const_oid_from_der(
+CONST_OID_NODISCARD CONST_OID_READS(1, 2) const_oid_status const_oid_from_der(
     const uint8_t *der, size_t len, const_oid_octets *CONST_OID_RESTRICT contents);
 
 /* Writes the element of DER for octets of any length: the tag 6, the length and the octets. An output that is ten
  * bytes longer than the octets is long enough. */
-CONST_OID_NODISCARD const_oid_status const_oid_to_der(
+CONST_OID_NODISCARD CONST_OID_READS(1, 2) CONST_OID_WRITES(3, 4) const_oid_status const_oid_to_der(
     const uint8_t *octets, size_t len, uint8_t *CONST_OID_RESTRICT out, size_t out_len);
 
 /* Writes the contents octets of the identifier that dotted text denotes, such as "1.2.840". Arcs may have leading
@@ -177,90 +188,104 @@ CONST_OID_NODISCARD const_oid_status const_oid_to_der(
  * - EMPTY: it is the only one.
  *
  * There are no more octets than the text has bytes, so an output of as many is long enough. */
-CONST_OID_NODISCARD const_oid_status const_oid_from_text(
+CONST_OID_NODISCARD CONST_OID_READS(1, 2) CONST_OID_WRITES(3, 4) const_oid_status const_oid_from_text(
     const char *text, size_t text_len, uint8_t *CONST_OID_RESTRICT out, size_t out_len);
 
 /* Writes dotted text for octets of any length: the arcs in decimal, joined by dots. */
-CONST_OID_NODISCARD const_oid_status const_oid_to_text(
+CONST_OID_NODISCARD CONST_OID_READS(1, 2) CONST_OID_WRITES(3, 4) const_oid_status const_oid_to_text(
     const uint8_t *octets, size_t len, char *CONST_OID_RESTRICT out, size_t out_len);
 
 /* Checks octets of any length. The code is 0 exactly if they encode an identifier. */
-CONST_OID_NODISCARD const_oid_status const_oid_check(const uint8_t *octets, size_t len);
+CONST_OID_NODISCARD CONST_OID_READS(1, 2) const_oid_status const_oid_check(const uint8_t *octets, size_t len);
 
 /* Counts the arcs in octets of any length. */
-CONST_OID_NODISCARD const_oid_status const_oid_len(const uint8_t *octets, size_t len);
+CONST_OID_NODISCARD CONST_OID_READS(1, 2) const_oid_status const_oid_len(const uint8_t *octets, size_t len);
 
 /* Finds the arc at an index, counted from 0, in octets of any length. The code is NONE if there is no such arc. */
-CONST_OID_NODISCARD const_oid_status const_oid_arc(const uint8_t *octets, size_t len, size_t index);
+CONST_OID_NODISCARD CONST_OID_READS(1, 2) const_oid_status const_oid_arc(
+    const uint8_t *octets, size_t len, size_t index);
 
 /* Writes all arcs in octets of any length, in order. `out_len` counts arcs. */
-CONST_OID_NODISCARD const_oid_status const_oid_arcs(
+CONST_OID_NODISCARD CONST_OID_READS(1, 2) CONST_OID_WRITES(3, 4) const_oid_status const_oid_arcs(
     const uint8_t *octets, size_t len, uint32_t *CONST_OID_RESTRICT out, size_t out_len);
 
 /* Writes as many arcs as fit, in order, from the index `first` on. The octets may have any length. `out_len` counts
  * arcs. `len` is 0 past the last arc, and the code is never OUTPUT_TOO_SHORT. A loop over all arcs with a short output
  * adds `len` to `first` until `len` is 0. */
-CONST_OID_NODISCARD const_oid_status const_oid_arcs_from(
+CONST_OID_NODISCARD CONST_OID_READS(1, 2) CONST_OID_WRITES(4, 5) const_oid_status const_oid_arcs_from(
     const uint8_t *octets, size_t len, size_t first, uint32_t *CONST_OID_RESTRICT out, size_t out_len);
 
 /* Writes the contents octets for any number of arcs, at most five for each, so an output of as many is long enough. If
  * the arcs are invalid, returns ARC_INVALID with the first wrong one, or else EMPTY if there are fewer than two. */
-CONST_OID_NODISCARD const_oid_status const_oid_from_arcs(
+CONST_OID_NODISCARD CONST_OID_READS(1, 2) CONST_OID_WRITES(3, 4) const_oid_status const_oid_from_arcs(
     const uint32_t *arcs, size_t len, uint8_t *CONST_OID_RESTRICT out, size_t out_len);
 
 /* Writes the contents octets of the parent: all arcs except the last. They are a prefix of the octets, which may have
  * any length. The code is NONE if there are only two arcs. */
-CONST_OID_NODISCARD const_oid_status const_oid_parent(
+CONST_OID_NODISCARD CONST_OID_READS(1, 2) CONST_OID_WRITES(3, 4) const_oid_status const_oid_parent(
     const uint8_t *octets, size_t len, uint8_t *CONST_OID_RESTRICT out, size_t out_len);
 
 /* Writes the contents octets of a child: all arcs, and one more. They are the octets, which may have any length, and
  * then at most five for the arc. */
-CONST_OID_NODISCARD const_oid_status const_oid_push_arc(
-    const uint8_t *octets, size_t len, uint32_t arc, uint8_t *CONST_OID_RESTRICT out,
-    size_t out_len);
+CONST_OID_NODISCARD CONST_OID_READS(1, 2) CONST_OID_WRITES(4, 5) const_oid_status const_oid_push_arc(
+    const uint8_t *octets, size_t len, uint32_t arc, uint8_t *CONST_OID_RESTRICT out, size_t out_len);
+
+/* Whether octets differ, for the inline functions: by the compiler's own memcmp, or a loop. Most differ at the end. */
+#if defined(__GNUC__) || defined(__clang__)
+#define CONST_OID_DIFFER __builtin_memcmp
+#else
+static __inline int CONST_OID_DIFFER(const uint8_t *left, const uint8_t *right, size_t len) {
+    while (len > 0 && left[len - 1] == right[len - 1]) len--;
+    return len > 0;
+}
+#endif
 
 /* Whether an identifier begins with all arcs of a prefix. Both may have any length. Returns the code of the octets if
  * they are invalid, or else that of the prefix. Code 0 says only that both are valid: the answer is in `detail`. */
-CONST_OID_NODISCARD const_oid_status const_oid_starts_with(
+CONST_OID_NODISCARD CONST_OID_READS(1, 2) CONST_OID_READS(3, 4) const_oid_status const_oid_starts_with(
     const uint8_t *octets, size_t len, const uint8_t *prefix, size_t prefix_len);
 
-/* 1 if both are valid and the identifier begins with all arcs of the prefix, which may be all that it has, and
- * otherwise 0, also for invalid octets. */
-CONST_OID_NODISCARD static __inline int const_oid_is_under(
+/* Returns 1 if both are valid and the identifier begins with all arcs of the prefix, which may be all that it has, and
+ * otherwise 0, also for invalid octets. It is no code: CONST_OID_OK is 0. */
+CONST_OID_NODISCARD CONST_OID_READS(1, 2) CONST_OID_READS(3, 4) static __inline int const_oid_is_under(
     const uint8_t *octets, size_t len, const uint8_t *prefix, size_t prefix_len) {
-    return const_oid_starts_with(octets, len, prefix, prefix_len).detail == 1; /* invalid octets leave 0 */
+    /* The first octets of valid ones are valid if a subidentifier ends there. */
+    return prefix_len > 0 && prefix_len <= len && octets[prefix_len - 1] == prefix[prefix_len - 1]
+        && prefix[prefix_len - 1] < 0x80 && !CONST_OID_DIFFER(octets, prefix, prefix_len)
+        && const_oid_check(octets, len).code == CONST_OID_OK;
 }
 
 /* Whether two identifiers of any length are equal. Returns the code for the first invalid one, if any. Code 0 says
  * only that both are valid: the answer is in `detail`. */
-CONST_OID_NODISCARD const_oid_status const_oid_eq(
+CONST_OID_NODISCARD CONST_OID_READS(1, 2) CONST_OID_READS(3, 4) const_oid_status const_oid_eq(
     const uint8_t *left, size_t left_len, const uint8_t *right, size_t right_len);
 
-/* 1 if both are valid and equal, and otherwise 0, also for invalid octets. */
-CONST_OID_NODISCARD static __inline int const_oid_is_equal(
+/* Returns 1 if both are valid and equal, and otherwise 0, also for invalid octets. It is no code: CONST_OID_OK is 0. */
+CONST_OID_NODISCARD CONST_OID_READS(1, 2) CONST_OID_READS(3, 4) static __inline int const_oid_is_equal(
     const uint8_t *left, size_t left_len, const uint8_t *right, size_t right_len) {
-    return const_oid_eq(left, left_len, right, right_len).detail == 1;
+    return left_len > 0 && left_len == right_len && left[left_len - 1] == right[left_len - 1]
+        && !CONST_OID_DIFFER(left, right, left_len) && const_oid_check(left, left_len).code == CONST_OID_OK;
 }
 
 /* Compares two identifiers of any length by their octets, as memcmp does. A prefix comes first. An identifier's
  * descendants follow it without a gap. This is not the order in SNMP. Returns the code for the first invalid one, if
  * any. */
-CONST_OID_NODISCARD const_oid_status const_oid_cmp(
+CONST_OID_NODISCARD CONST_OID_READS(1, 2) CONST_OID_READS(3, 4) const_oid_status const_oid_cmp(
     const uint8_t *left, size_t left_len, const uint8_t *right, size_t right_len);
 
 /* Compares two identifiers of any length by their arcs, in lexicographic order. A prefix comes first. This is the order
  * in SNMP (RFC 3416) and in the sorted lists below. Returns the code for the first invalid one, if any. */
-CONST_OID_NODISCARD const_oid_status const_oid_cmp_arcs(
+CONST_OID_NODISCARD CONST_OID_READS(1, 2) CONST_OID_READS(3, 4) const_oid_status const_oid_cmp_arcs(
     const uint8_t *left, size_t left_len, const uint8_t *right, size_t right_len);
 
 /* Compares two identifiers of at most 255 octets by length, and then by their octets. This is the order in the Rust
  * crate const-oid, and not in SNMP. Returns the code for the first invalid one, if any. */
-CONST_OID_NODISCARD const_oid_status const_oid_cmp_owned(
+CONST_OID_NODISCARD CONST_OID_READS(1, 2) CONST_OID_READS(3, 4) const_oid_status const_oid_cmp_owned(
     const uint8_t *left, size_t left_len, const uint8_t *right, size_t right_len);
 
 /* Compares two items of a list, for qsort and bsearch. Each pointer is to a const_oid_octets. Returns -1 if the first
- * comes before the second, 0 if they are equal, and 1 if it comes after. For std::sort, compare by
- * `const_oid_by_arcs(&left, &right) < 0`.
+ * comes before the second, 0 if they are equal, and 1 if it comes after. For std::sort and std::map, compare by
+ * `const_oid_by_arcs(&left, &right) < 0`: by itself, a std::map of octets has the order of const_oid_cmp.
  *
  * The order of valid items is that of const_oid_cmp_arcs. Items are not checked, and the order is total for any items:
  * octets are cut after each octet below 0x80, and the parts are compared in lexicographic order. A longer part is
@@ -272,32 +297,33 @@ CONST_OID_NODISCARD int const_oid_by_arcs(const void *left, const void *right);
  * none may come before the previous one, in the order of const_oid_cmp_arcs. Items may be repeated. The code is 0
  * exactly if this holds. Otherwise it is that of the first wrong item, or UNSORTED if that comes before the previous
  * one, and `len` is its index: the items before it are such a list. The list is read up to that item. */
-CONST_OID_NODISCARD const_oid_status const_oid_check_sorted(const const_oid_octets *items, size_t count);
+CONST_OID_NODISCARD CONST_OID_READS(1, 2) const_oid_status const_oid_check_sorted(
+    const const_oid_octets *items, size_t count);
 
 /* The functions below do a binary search in a list that const_oid_check_sorted accepts. They check the identifier,
  * which may have any length, and return its code if it is invalid. They do not check the list. In another list, what
  * they find is unspecified, but it is within the list, and they read nothing else: indices are below `count`, and the
- * ends of a range at most `count`. `len` is the index of the item found. If there is none, it is `count`, with NONE.
- * With any other code `len` is 0, which is the index of an item: look at `code` first. */
+ * ends of a range at most `count`. `len` is the index of the item found, or with any code but OK `count`, which is the
+ * index of no item. The code is NONE if there is no such item. */
 
 /* Finds the first item that is equal to an identifier. */
-CONST_OID_NODISCARD const_oid_status const_oid_find(
+CONST_OID_NODISCARD CONST_OID_READS(1, 2) CONST_OID_READS(3, 4) const_oid_status const_oid_find(
     const uint8_t *octets, size_t len, const const_oid_octets *sorted, size_t count);
 
 /* Finds the first item that comes after an identifier, which need not be an item: what SNMP's GetNext returns. */
-CONST_OID_NODISCARD const_oid_status const_oid_next(
+CONST_OID_NODISCARD CONST_OID_READS(1, 2) CONST_OID_READS(3, 4) const_oid_status const_oid_next(
     const uint8_t *octets, size_t len, const const_oid_octets *sorted, size_t count);
 
 /* Finds the nearest item to an identifier: the first item that is equal to it, or else to its longest prefix in the
  * list. If the item has `k` arcs, as const_oid_len says, const_oid_arcs_from(octets, len, k, ..) writes the arcs after
  * them. */
-CONST_OID_NODISCARD const_oid_status const_oid_nearest(
+CONST_OID_NODISCARD CONST_OID_READS(1, 2) CONST_OID_READS(3, 4) const_oid_status const_oid_nearest(
     const uint8_t *octets, size_t len, const const_oid_octets *sorted, size_t count);
 
 /* Finds the items that begin with all arcs of an identifier, itself included, and stores where they are in `range`,
  * which must not be null. `start` is where the identifier would be inserted, whether there are such items or not. If
- * there are none, `end` is the same. `len` is 0. If the identifier is invalid, `range` is unchanged. */
-CONST_OID_NODISCARD const_oid_status const_oid_subtree_range(
+ * there are none, `end` is the same. With OK, `len` is 0. If the identifier is invalid, `range` is unchanged. */
+CONST_OID_NODISCARD CONST_OID_READS(1, 2) CONST_OID_READS(3, 4) const_oid_status const_oid_subtree_range(
     const uint8_t *octets, size_t len, const const_oid_octets *sorted, size_t count,
     const_oid_range *CONST_OID_RESTRICT range);
 
@@ -305,7 +331,7 @@ CONST_OID_NODISCARD const_oid_status const_oid_subtree_range(
  * that number, even if this is a zero byte, a newline or another control character. All other characters are printable
  * ASCII. The text for EMPTY, "OID value is empty", is also that for one arc alone. The code is NONE if there is no such
  * text: for OK, for an unknown code, and for DIGIT_EXPECTED with a detail above 255. */
-CONST_OID_NODISCARD const_oid_status const_oid_error_text(
+CONST_OID_NODISCARD CONST_OID_WRITES(3, 4) const_oid_status const_oid_error_text(
     uint32_t code, uint32_t detail, char *CONST_OID_RESTRICT out, size_t out_len);
 
 #ifdef __cplusplus

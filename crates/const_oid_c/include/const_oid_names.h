@@ -5,7 +5,8 @@
  *   rfc5912::ID_EC_PUBLIC_KEY: a macro with its contents octets as a string literal. It costs nothing where it
  *   is not used. CONST_OID_OCTETS gives its pointer and its length: two arguments of a call, or the initializer
  *   of a const_oid_octets. It takes a string literal alone: for an array of your own, use CONST_OID_ARRAY.
- *   A constant is no text: in 227 of the 1492, strlen and std::string stop at an octet that is zero.
+ *   A constant is no text: in 227 of the 1492, strlen and std::string stop at an octet that is zero. And
+ *   sizeof counts one octet too many, the zero that ends the literal, which is another identifier.
  * - The entries in the order of arcs: const_oid_name_octets is a list that const_oid_check_sorted accepts, and
  *   const_oid_names has the null-terminated name of each of its items, at the same index. An identifier may
  *   have several names. They are adjacent, in the order of the table, and const_oid_find and const_oid_nearest
@@ -19,7 +20,9 @@
 
 #include "const_oid.h"
 
-/* CONST_OID_ARRAY: an array of uint8_t and its length. C++, gcc and clang reject a pointer, and any other array. */
+/* CONST_OID_ARRAY: an array of uint8_t and its length. C++, gcc and clang reject a pointer, and any other array. It takes
+ * all octets. So initialize the array by numbers, since a string literal adds a zero at its end. Of a buffer that is
+ * filled in part, give the pointer, and the `len` of the status. */
 #ifdef __cplusplus
 #define CONST_OID_OCTETS(constant) reinterpret_cast<const uint8_t *>("" constant ""), sizeof("" constant "") - 1
 #define CONST_OID_ARRAY(array) (array), sizeof(const_oid_array(array))

@@ -1,7 +1,7 @@
 -- What a function writes, by the functions of `const_oid` and `std`.
 use Rattle.std.proofs.Common.{◌≡◌, ◌≤◌, List, ℕ, length, refl, sym, ◌∙◌, arith, le-ltb, Ok}
 use Rattle.std.specs.Prelude.{Result}
-use Rattle.std.proofs.lemmas.{Str.is_utf8-from_IsUtf8}
+use Rattle.std.proofs.lemmas.Str.{IsUtf8-from_ascii, is_utf8-from_IsUtf8}
 use Rattle.const_oid.specs.{declared.error.Error.Error, Contents.{arcs_of_octets, borrowed_capacity}, Identifier.{root_rule, IsEncoding}, Output.IsEncodedIn}
 use Rattle.const_oid_c.specs.{declared.status.Status.Status}
 use Rattle.const_oid_c.specs.Results.{borrowed_answer, octets_or_fault}
@@ -14,7 +14,7 @@ pub valid_answer : (octets : List ℕ) → IsEncoding root_rule (arcs_of_octets 
 valid_answer octets encoding fits = rw (octet_fault-fits borrowed_capacity encoding fits)
 
 -- bytes, UTF-8 or not
-pub ruleset texts = (is_utf8-from_IsUtf8, is_not_utf8)
+pub ruleset texts = (IsUtf8-from_ascii, is_utf8-from_IsUtf8, is_not_utf8)
 
 -- the status and the output after a call that writes octets of arcs, or has their fault at an index
 pub record IsWritten (index : ℕ) (read : Result (List ℕ) Error) (old new : List ℕ) (result : Status) : Type 0 where

@@ -7,8 +7,8 @@ ghost use Rattle.const_oid.specs.Output.{WritesAll};
 ghost use Rattle.const_oid_c.specs.Status.{max_len, output_status, output_after, len_status};
 ghost use Rattle.const_oid_c.specs.Results.{octets_of_arcs, output_of, status_of, borrowed_answer, arc_status};
 
+use crate::order::MAX_OCTETS;
 use crate::output::write_octets;
-use crate::owned::MAX_OCTETS;
 use crate::status::{
     LENGTH, NONE, OUTPUT_TOO_SHORT, Status, code_status, error_status, len_status, number_status,
     too_short_status,

@@ -1,7 +1,7 @@
 //! Elements of identifiers in DER: tag, length and contents octets.
 ghost use Rattle.std.specs.Prelude.{◌≡◌, ◌≢◌, ◌+◌, ◌≤◌, ◌++◌, ℕ, List, length};
 ghost use Rattle.const_oid.specs.Element.{element};
-ghost use Rattle.const_oid.specs.Slices.{address_at, end_of};
+ghost use Rattle.const_oid.specs.Slices.{address_at, end_address};
 ghost use Rattle.const_oid_c.specs.Lists.{octets_at};
 ghost use Rattle.const_oid_c.specs.Status.{code_status, len_status, output_status, output_after};
 ghost use Rattle.const_oid_c.specs.Results.{borrowed_answer, output_of, status_of};
@@ -20,7 +20,7 @@ pub extern "C" fn const_oid_from_der<'a>(der: &'a [u8], contents: &mut Octets<'a
         → result ≡ status_of (λ _. len_status (length (element octets))) (borrowed_answer octets) }
     ensures contents { (octets rest : List ℕ) → der.now ≡ element octets ++ rest → result.code ≡ 0
         → octets_at contents.new ≡ octets }
-    ensures input { result.code ≡ 0 → end_of contents.new.octets ≡ address_at der.entry result.len }
+    ensures input { result.code ≡ 0 → end_address contents.new.octets ≡ address_at der.entry result.len }
     ensures unchanged { result.code ≢ 0 → contents.new ≡ contents.old }
 {
     match ObjectIdentifierRef::read_element(der) {

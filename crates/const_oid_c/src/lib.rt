@@ -10,7 +10,6 @@ pub mod errors;
 pub mod lists;
 pub mod order;
 pub mod output;
-pub mod owned;
 pub mod status;
 pub mod texts;
 pub mod tree;

@@ -14,11 +14,11 @@ ghost use Rattle.const_oid.specs.OidRef.{ref_arcs, ref_octets};
 ghost use Rattle.const_oid.specs.Orders.{parts_cmp};
 ghost use Rattle.const_oid.specs.SortedList.{IsSortedList, has_item_arcs, item_arcs};
 ghost use Rattle.const_oid.specs.Tree.{BeginsWith};
-ghost use Rattle.const_oid_c.specs.Results.{borrowed_answer, status_of};
+ghost use Rattle.const_oid_c.specs.Results.{borrowed_answer};
 ghost use Rattle.const_oid_c.specs.Lists.{IsIndexOrNone, arcs_before, index_status, fault_after, list_fault, list_status, none_of, octets_at, IsFirstUnsorted};
-ghost use Rattle.const_oid_c.specs.Status.{error_status, fault_at, len_status};
+ghost use Rattle.const_oid_c.specs.Status.{fault_at, len_status};
 
-use crate::status::{NONE, Status, UNSORTED, code_status, error_status, fault_at, len_status};
+use crate::status::{NONE, Status, UNSORTED, code_status, fault_at, len_status};
 use const_oid::ObjectIdentifierRef;
 use const_oid::search::{Contents, end_of, first_of, nearest_of, subtree_of};
 
@@ -27,14 +27,6 @@ use const_oid::search::{Contents, end_of, first_of, nearest_of, subtree_of};
 #[derive(Clone, Copy)]
 pub struct Octets<'a> {
     pub octets: &'a [u8],
-}
-
-impl<'a> Octets<'a> {
-    fn get(&self) -> &'a [u8]
-        ensures { result ≡ self.now.octets }
-    {
-        self.octets
-    }
 }
 
 impl Contents for Octets<'_> {
@@ -73,13 +65,13 @@ pub extern "C" fn const_oid_check_sorted(items: &[Octets<'_>]) -> Status
 #[unsafe(no_mangle)]
 pub extern "C" fn const_oid_find(octets: &[u8], sorted: &[Octets<'_>]) -> Status
     ensures found { IsSortedList octets_at sorted.now
-        → result ≡ status_of (λ arcs. index_status (length sorted.now) (position (has_item_arcs octets_at arcs) sorted.now)) (borrowed_answer octets.now) }
+        → IfOk (borrowed_answer octets.now) (λ arcs. result ≡ index_status (length sorted.now) (position (has_item_arcs octets_at arcs) sorted.now)) }
     ensures within { IfOk (borrowed_answer octets.now) (λ _. IsIndexOrNone (length sorted.now) result) }
-    ensures fault { IfErr (borrowed_answer octets.now) (λ fault. result ≡ error_status fault) }
+    ensures fault { IfErr (borrowed_answer octets.now) (λ fault. result ≡ fault_at (length sorted.now) fault) }
 {
     match ObjectIdentifierRef::from_bytes(octets) {
         Ok(oid) => index_status(first_of(sorted, &oid), sorted.len()),
-        Err(fault) => error_status(fault),
+        Err(fault) => fault_at(sorted.len(), fault),
     }
 }
 
@@ -87,14 +79,14 @@ pub extern "C" fn const_oid_find(octets: &[u8], sorted: &[Octets<'_>]) -> Status
 #[unsafe(no_mangle)]
 pub extern "C" fn const_oid_next(octets: &[u8], sorted: &[Octets<'_>]) -> Status
     ensures found { IsSortedList octets_at sorted.now
-        → result ≡ status_of (λ arcs. index_status (length sorted.now) (position (λ item. is_lt (slice_cmp nat_cmp arcs (item_arcs octets_at item))) sorted.now))
-        (borrowed_answer octets.now) }
+        → IfOk (borrowed_answer octets.now) (λ arcs.
+        result ≡ index_status (length sorted.now) (position (λ item. is_lt (slice_cmp nat_cmp arcs (item_arcs octets_at item))) sorted.now)) }
     ensures within { IfOk (borrowed_answer octets.now) (λ _. IsIndexOrNone (length sorted.now) result) }
-    ensures fault { IfErr (borrowed_answer octets.now) (λ fault. result ≡ error_status fault) }
+    ensures fault { IfErr (borrowed_answer octets.now) (λ fault. result ≡ fault_at (length sorted.now) fault) }
 {
     match ObjectIdentifierRef::from_bytes(octets) {
         Ok(oid) => index_status(next_of(sorted, &oid), sorted.len()),
-        Err(fault) => error_status(fault),
+        Err(fault) => fault_at(sorted.len(), fault),
     }
 }
 
@@ -108,11 +100,11 @@ pub extern "C" fn const_oid_nearest(octets: &[u8], sorted: &[Octets<'_>]) -> Sta
     ensures none { IsSortedList octets_at sorted.now → result ≡ none_of (length sorted.now)
         → All (λ item. BeginsWith (arcs_of_octets octets.now) (item_arcs octets_at item) → ⊥) sorted.now }
     ensures within { IfOk (borrowed_answer octets.now) (λ _. IsIndexOrNone (length sorted.now) result) }
-    ensures fault { IfErr (borrowed_answer octets.now) (λ fault. result ≡ error_status fault) }
+    ensures fault { IfErr (borrowed_answer octets.now) (λ fault. result ≡ fault_at (length sorted.now) fault) }
 {
     match ObjectIdentifierRef::from_bytes(octets) {
         Ok(oid) => index_status(nearest_of(sorted, &oid), sorted.len()),
-        Err(fault) => error_status(fault),
+        Err(fault) => fault_at(sorted.len(), fault),
     }
 }
 
@@ -123,7 +115,8 @@ pub extern "C" fn const_oid_subtree_range(
     sorted: &[Octets<'_>],
     range: &mut Range,
 ) -> Status
-    ensures status { result ≡ status_of (λ _. len_status 0) (borrowed_answer octets.now) }
+    ensures status { IfOk (borrowed_answer octets.now) (λ _. result ≡ len_status 0) }
+    ensures fault { IfErr (borrowed_answer octets.now) (λ fault. result ≡ fault_at (length sorted.now) fault) }
     ensures within { result.code ≡ 0 → (range.new.start ≤ range.new.end) × (range.new.end ≤ length sorted.now) }
     ensures start { IsSortedList octets_at sorted.now → result.code ≡ 0 → range.new.start
         ≡ count_by (λ item. is_lt (slice_cmp nat_cmp (item_arcs octets_at item) (arcs_of_octets octets.now))) sorted.now }
@@ -137,7 +130,7 @@ pub extern "C" fn const_oid_subtree_range(
             *range = Range { start, end };
             len_status(0)
         }
-        Err(fault) => error_status(fault),
+        Err(fault) => fault_at(sorted.len(), fault),
     }
 }
 
@@ -178,7 +171,7 @@ fn list_fault(items: &[Octets<'_>]) -> Option<Status>
 {
     let mut before: Option<ObjectIdentifierRef<'_>> = None;
     for (index, item) in items.iter().enumerate() {
-        match read_after(index, before, item.get()) {
+        match read_after(index, before, item.contents()) {
             Ok(oid) => before = Some(oid),
             Err(status) => return Some(status),
         }

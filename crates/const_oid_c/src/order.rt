@@ -3,7 +3,7 @@ ghost use Rattle.std.specs.Prelude.{◌≡◌, ℕ, List, IfErr, IfOk};
 ghost use Rattle.std.specs.Cmp.Lexicographic.{slice_cmp};
 ghost use Rattle.std.specs.Ordering.{nat_cmp};
 ghost use Rattle.const_oid.specs.Identifier.{root_rule, IsEncoding};
-ghost use Rattle.const_oid.specs.OidRef.{ref_arcs, ref_octets};
+ghost use Rattle.const_oid.specs.OidRef.{ref_answer, ref_arcs, ref_octets};
 ghost use Rattle.const_oid.specs.Orders.{parts_cmp, shortlex_cmp};
 ghost use Rattle.const_oid.specs.Tree.{BeginsWith};
 ghost use Rattle.const_oid_c.specs.Lists.{octets_at};
@@ -11,11 +11,13 @@ ghost use Rattle.const_oid_c.specs.Status.{IsFlagOf, error_status, order_number,
 ghost use Rattle.const_oid_c.specs.Results.{IsStatusOfBoth, borrowed_answer, owned_answer};
 
 use crate::lists::Octets;
-use crate::owned::read_owned;
 use crate::status::{Status, error_status, flag_status, order_number, order_status};
 use const_oid::search::{Contents, order_by_parts};
-use const_oid::{ObjectIdentifierRef, Result};
+use const_oid::{Error, ObjectIdentifierRef, Result};
 use std::cmp::Ordering;
+
+/// The most octets that an owned identifier can have.
+pub(crate) const MAX_OCTETS: usize = 255;
 
 /// Whether two identifiers of any length are equal.
 #[unsafe(no_mangle)]
@@ -108,6 +110,18 @@ fn read_both<'a>(
     let left = ObjectIdentifierRef::from_bytes(left)?;
     let right = ObjectIdentifierRef::from_bytes(right)?;
     Ok((left, right))
+}
+
+/// Reads at most `MAX_OCTETS` contents octets, without copying them.
+fn read_owned<'a>(octets: &'a [u8]) -> Result<ObjectIdentifierRef<'a>>
+    ensures answer { ref_answer result ≡ owned_answer octets.now }
+    ensures octets { IfOk result (λ oid. ref_octets oid ≡ octets.now) }
+{
+    let oid = ObjectIdentifierRef::from_bytes(octets)?;
+    if octets.len() > MAX_OCTETS {
+        return Err(Error::Length);
+    }
+    Ok(oid)
 }
 
 /// Compares two identifiers by length, and then by their octets.

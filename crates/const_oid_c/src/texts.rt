@@ -1,12 +1,13 @@
 //! Dotted text.
 ghost use Rattle.std.specs.Prelude.{◌≡◌, ◌≢◌, ◌≤◌, [], length, Err};
+ghost use Rattle.std.specs.Str.{is_utf8};
 ghost use Rattle.const_oid.specs.Text.{components_of, text_of, text_answer, wrong_index};
 ghost use Rattle.const_oid.specs.Identifier.{root_rule, default_capacity};
 ghost use Rattle.const_oid_c.specs.Status.{fault_at, max_len, output_status, output_after};
 ghost use Rattle.const_oid_c.specs.Results.{octets_of_ascii, octets_of_text, output_of, borrowed_answer};
 
+use crate::order::MAX_OCTETS;
 use crate::output::{write_bytes, write_octets};
-use crate::owned::MAX_OCTETS;
 use crate::status::{
     LENGTH, NOT_UTF8, OUTPUT_TOO_SHORT, Status, code_status, error_status, fault_at, len_status,
     too_short_status,
@@ -32,7 +33,7 @@ pub extern "C" fn const_oid_from_text(text: &[u8], out: &mut [u8]) -> Status
 
 /// Writes the contents octets of the identifier that dotted text denotes, or reports why there is none, by the fault at
 /// the default capacity and the index of its component.
-#[tactic(auto, using(crate::proofs::Writes::texts, crate::proofs::Capacities::same_text))]
+#[tactic(auto, using(crate::proofs::Capacities::same_text))]
 #[cold]
 #[inline(never)]
 fn write_after_fault(text: &[u8], out: &mut [u8], fault: Error, index: usize) -> Status
@@ -42,7 +43,7 @@ fn write_after_fault(text: &[u8], out: &mut [u8], fault: Error, index: usize) ->
     ensures written { out.new ≡ output_after out.old (octets_of_text text.now) }
 {
     // Only a wrong text can fail to be UTF-8: a valid one has ASCII digits and dots alone.
-    if str::from_utf8(text).is_err() {
+    if !is_utf8(text) {
         return code_status(NOT_UTF8);
     }
     // At a greater capacity, only `Length` can become another result.
@@ -50,6 +51,14 @@ fn write_after_fault(text: &[u8], out: &mut [u8], fault: Error, index: usize) ->
         Error::Length => write_long_text(text, out),
         other => fault_at(index, other),
     }
+}
+
+/// Whether a text is UTF-8: most wrong ones are ASCII, which is seen in fewer steps.
+#[tactic(auto, using(crate::proofs::Writes::texts))]
+fn is_utf8(text: &[u8]) -> bool
+    ensures { result ≡ is_utf8 text.now }
+{
+    text.is_ascii() || str::from_utf8(text).is_ok()
 }
 
 /// Writes the contents octets of the identifier that dotted text denotes, of any length, or counts those that do not

@@ -155,7 +155,9 @@ static void list_row(void) {
     const const_oid_status found[] = {const_oid_find(OCTETS(0), items + 1, count - 1),
         const_oid_next(OCTETS(0), items + 1, count - 1), const_oid_nearest(OCTETS(0), items + 1, count - 1)};
     const_oid_status last = const_oid_subtree_range(OCTETS(0), items + 1, count - 1, &range);
+    SEE(last.len == (last.code == CONST_OID_OK ? 0 : count - 1), line);
     for (size_t i = 0; i < 3; i++) {
+        SEE(found[i].code == CONST_OID_OK || found[i].len == count - 1, line);
         if (last.code != CONST_OID_OK && found[i].code == last.code && found[i].detail == last.detail) continue;
         say("%s ", names[i]);
         if (!is_ok(found[i])) say(" of ");

@@ -19,16 +19,12 @@ impl<'a> Octets<'a> {
     pub(crate) fn of(octets: &'a [u8]) -> Self {
         Octets { octets: octets.as_ptr(), len: octets.len(), borrowed: PhantomData }
     }
-
-    pub(crate) fn get(&self) -> &'a [u8] {
-        // SAFETY: these fields are those of a slice, or what C guaranteed, since nothing changes them.
-        unsafe { input(self.octets, self.len) }
-    }
 }
 
 impl Contents for Octets<'_> {
     fn contents(&self) -> &[u8] {
-        self.get()
+        // SAFETY: these fields are those of a slice, or what C guaranteed, since nothing changes them.
+        unsafe { input(self.octets, self.len) }
     }
 }
 

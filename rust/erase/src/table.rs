@@ -156,7 +156,6 @@ pub const CRATES: &[Crate] = &[
             "texts*": "ObjectIdentifierRef::text_from_bytes"
                 => "const_oid::internal_for_const_oid_c::text_from_bytes", FOR_C;
             "lists": "#[repr(C)] #[derive(Clone, Copy)] pub struct Octets<'a> { pub octets: &'a [u8], }
-                        impl<'a> Octets<'a> { fn get(&self) -> &'a [u8] { self.octets } }
                         impl Contents for Octets<'_> { fn contents(&self) -> &[u8] { self.octets } }"
                 => "pub use crate::edge::Octets;",
                 "C gives a pointer, which may be null, and a length: `edge.rs` has such a type";

@@ -2,8 +2,8 @@
 
 //! Octets to arcs, and arcs to octets.
 
+use crate::erased::order::MAX_OCTETS;
 use crate::erased::output::write_octets;
-use crate::erased::owned::MAX_OCTETS;
 use crate::erased::status::{
     LENGTH, NONE, OUTPUT_TOO_SHORT, Status, code_status, error_status, len_status, number_status, too_short_status,
 };

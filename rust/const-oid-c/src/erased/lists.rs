@@ -5,7 +5,7 @@
 //! No search checks the list: over a list that `const_oid_check_sorted` does not accept, what it finds is
 //! unspecified, but is within the list.
 
-use crate::erased::status::{NONE, Status, UNSORTED, code_status, error_status, fault_at, len_status};
+use crate::erased::status::{NONE, Status, UNSORTED, code_status, fault_at, len_status};
 use const_oid::internal_for_const_oid_c::ObjectIdentifierRef;
 use const_oid::internal_for_const_oid_c::search::{Contents, end_of, first_of, nearest_of, subtree_of};
 
@@ -33,7 +33,7 @@ pub fn const_oid_check_sorted(items: &[Octets<'_>]) -> Status {
 pub fn const_oid_find(octets: &[u8], sorted: &[Octets<'_>]) -> Status {
     match ObjectIdentifierRef::from_bytes(octets) {
         Ok(oid) => index_status(first_of(sorted, &oid), sorted.len()),
-        Err(fault) => error_status(fault),
+        Err(fault) => fault_at(sorted.len(), fault),
     }
 }
 
@@ -41,7 +41,7 @@ pub fn const_oid_find(octets: &[u8], sorted: &[Octets<'_>]) -> Status {
 pub fn const_oid_next(octets: &[u8], sorted: &[Octets<'_>]) -> Status {
     match ObjectIdentifierRef::from_bytes(octets) {
         Ok(oid) => index_status(next_of(sorted, &oid), sorted.len()),
-        Err(fault) => error_status(fault),
+        Err(fault) => fault_at(sorted.len(), fault),
     }
 }
 
@@ -49,7 +49,7 @@ pub fn const_oid_next(octets: &[u8], sorted: &[Octets<'_>]) -> Status {
 pub fn const_oid_nearest(octets: &[u8], sorted: &[Octets<'_>]) -> Status {
     match ObjectIdentifierRef::from_bytes(octets) {
         Ok(oid) => index_status(nearest_of(sorted, &oid), sorted.len()),
-        Err(fault) => error_status(fault),
+        Err(fault) => fault_at(sorted.len(), fault),
     }
 }
 
@@ -65,7 +65,7 @@ pub fn const_oid_subtree_range(
             range.write(Range { start, end });
             len_status(0)
         }
-        Err(fault) => error_status(fault),
+        Err(fault) => fault_at(sorted.len(), fault),
     }
 }
 
@@ -87,7 +87,7 @@ fn index_status(index: Option<usize>, count: usize) -> Status {
 fn list_fault(items: &[Octets<'_>]) -> Option<Status> {
     let mut before: Option<&ObjectIdentifierRef> = None;
     for (index, item) in items.iter().enumerate() {
-        match read_after(index, before, item.get()) {
+        match read_after(index, before, item.contents()) {
             Ok(oid) => before = Some(oid),
             Err(status) => return Some(status),
         }

@@ -3,11 +3,13 @@
 //! Comparisons of two identifiers.
 
 use crate::erased::lists::Octets;
-use crate::erased::owned::read_owned;
 use crate::erased::status::{Status, error_status, flag_status, order_number, order_status};
 use const_oid::internal_for_const_oid_c::search::{Contents, order_by_parts};
-use const_oid::internal_for_const_oid_c::{ObjectIdentifierRef, Result};
+use const_oid::internal_for_const_oid_c::{Error, ObjectIdentifierRef, Result};
 use core::cmp::Ordering;
+
+/// The most octets that an owned identifier can have.
+pub(crate) const MAX_OCTETS: usize = 255;
 
 /// Whether two identifiers of any length are equal.
 pub fn const_oid_eq(left: &[u8], right: &[u8]) -> Status {
@@ -65,6 +67,15 @@ fn read_both<'a>(left: &'a [u8], right: &'a [u8]) -> Result<(&'a ObjectIdentifie
     let left = ObjectIdentifierRef::from_bytes(left)?;
     let right = ObjectIdentifierRef::from_bytes(right)?;
     Ok((left, right))
+}
+
+/// Reads at most `MAX_OCTETS` contents octets, without copying them.
+fn read_owned<'a>(octets: &'a [u8]) -> Result<&'a ObjectIdentifierRef> {
+    let oid = ObjectIdentifierRef::from_bytes(octets)?;
+    if octets.len() > MAX_OCTETS {
+        return Err(Error::Length);
+    }
+    Ok(oid)
 }
 
 /// Compares two identifiers by length, and then by their octets.

@@ -70,7 +70,7 @@ pub struct Status {
     pub detail: u32,
     /// With `OK` the number of items that were written or counted, or the index that was found. With
     /// `OUTPUT_TOO_SHORT` the number of items of the result. For a wrong item of a list, or component of a text, its
-    /// index. With `NONE` from a search of a list, the number of its items. Otherwise 0.
+    /// index. With any other code than `OK` from a search in a list, the number of its items. Otherwise 0.
     pub len: usize,
 }
 
@@ -142,5 +142,5 @@ pub(crate) fn order_number(ordering: Ordering) -> i32 {
 
 /// 65536 times the major number, 256 times the minor one and the patch number, as `CONST_OID_VERSION`.
 pub fn const_oid_version() -> u32 {
-    (1 << 16) + (3 << 8)
+    (1 << 16) + (4 << 8)
 }

@@ -2,8 +2,8 @@
 
 //! Dotted text.
 
+use crate::erased::order::MAX_OCTETS;
 use crate::erased::output::{write_bytes, write_octets};
-use crate::erased::owned::MAX_OCTETS;
 use crate::erased::status::{
     LENGTH, NOT_UTF8, OUTPUT_TOO_SHORT, Status, code_status, error_status, fault_at, len_status, too_short_status,
 };
@@ -26,7 +26,7 @@ pub fn const_oid_from_text(text: &[u8], out: &mut crate::edge::Output<u8>) -> St
 #[inline(never)]
 extern "C" fn write_after_fault(text: &[u8], out: &mut crate::edge::Output<u8>, fault: Error, index: usize) -> Status {
     // Only a wrong text can fail to be UTF-8: a valid one has ASCII digits and dots alone.
-    if str::from_utf8(text).is_err() {
+    if !text.is_ascii() && str::from_utf8(text).is_err() {
         return code_status(NOT_UTF8);
     }
     // At a greater capacity, only `Length` can become another result.

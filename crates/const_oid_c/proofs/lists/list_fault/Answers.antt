@@ -13,9 +13,9 @@ loop-index-preserved c =
     let before = c.loop-index.invariant in
     let read = c.in-Ok.ensures in
     let at : (item : Octets) → octets_at (get_or items index item) ≡ ref_octets c.in-Ok.oid =
-    λ item. grind (arith, common_steps, c.get.ensures, read.octets) in
+    λ item. grind (arith, common_steps, c.contents.ensures, read.octets) in
     record {
-      status = grind (arith, common_steps, before.status, read.none, c.get.ensures, read.octets);
+      status = grind (arith, common_steps, before.status, read.none, c.contents.ensures, read.octets);
       valid = λ place item from within. ⊎_elim
           (λ (early : place < index). before.valid place item from early)
           (λ (late : index ≤ place).
@@ -33,8 +33,8 @@ returns-in-Err-clause-unsorted c = λ list.
     let items = c.args.items.now in
     let index = c.loop-index.index in
     let before = c.loop-index.invariant in
-    let item : Octets = record { octets = c.get.result } in
-    let here : octets_at (get_or items index item) ≡ c.get.result.now = grind (arith, common_steps, c.get.ensures) in
+    let item : Octets = record { octets = c.contents.result } in
+    let here : octets_at (get_or items index item) ≡ c.contents.result.now = grind (arith, common_steps, c.contents.ensures) in
     let less = c.in-Err.ensures.invalid (rw here at (list.valid index item (omega arith))) in
     unsorted octets_at items index item _ (omega arith) before.first (before.last item) (rw here less) list
 
@@ -43,11 +43,11 @@ returns-in-Err-clause-first c =
     let items = c.args.items.now in
     let index = c.loop-index.index in
     let before = c.loop-index.invariant in
-    let item : Octets = record { octets = c.get.result } in
-    let here : octets_at (get_or items index item) ≡ c.get.result.now = grind (arith, common_steps, c.get.ensures) in
+    let item : Octets = record { octets = c.contents.result } in
+    let here : octets_at (get_or items index item) ≡ c.contents.result.now = grind (arith, common_steps, c.contents.ensures) in
     let inside : index < length items = omega arith in
     let cut = get_or-take (index + 1) items index item (omega arith) in
-    let same : octets_at (get_or (take (index + 1) items) index item) ≡ c.get.result.now = ap octets_at cut ∙ here in
+    let same : octets_at (get_or (take (index + 1) items) index item) ≡ c.contents.result.now = ap octets_at cut ∙ here in
     let len = length-take-le (index + 1) items (omega arith) in
     rw c.in-Err.ensures.index record {
       within = inside;
