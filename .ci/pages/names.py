@@ -2,7 +2,7 @@
 
 - MODULE::NAME is in that module of const_oid. Any other name with `_`, `::` or a capital inside is a word of a source,
   comments aside.
-- Links lead to files."""
+- Links lead to files, and those with an anchor to a heading."""
 import re
 
 from pages.page import PAGES, SPAN, TOP, fault, prose_of
@@ -25,13 +25,20 @@ def is_in_source(name, words):
     return last in words_of(paths[-1]) if paths else words.issuperset(name.split("::"))
 
 
+def anchors_of(page):
+    """The anchors of a page's headings."""
+    heads = re.findall(r"^#+ (.*)", prose_of(page), re.M)
+    return {re.sub(r"[^\w -]", "", head.lower()).replace(" ", "-") for head in heads}
+
+
 def faults():
     words = words_of(*(path for pattern in SOURCES for path in TOP.glob(pattern)))
     for page in PAGES:
         text = prose_of(page)
-        for link in re.finditer(r"\]\(([^)#:]+)\)", text):
-            if not ((TOP / page).parent / link[1]).exists():
-                yield fault(page, text, link.start(), f"no such file: {link[1]}")
+        for link in re.finditer(r"\]\(([^)#:]*)(?:#([^)]*))?\)", text):
+            path = (TOP / page).parent / link[1] if link[1] else TOP / page
+            if not path.exists() or link[2] and link[2] not in anchors_of(path):
+                yield fault(page, text, link.start(), f"no such file or heading: {link[0][2:-1]}")
         for span in SPAN.finditer(text):
             if NAME.fullmatch(span[1]) and re.search(r"_|::|[a-z][A-Z]", span[1]) and not is_in_source(span[1], words):
                 yield fault(page, text, span.start(), f"in no source: {span[1]}")

@@ -1,5 +1,5 @@
 """README's blocks are run in order, by bash in a new HOME, and print what their comments say: rs, by cargo in a package
-with the toml block, beside the checkout; sh, with each c block as `main.c`; and python. What rt has proved in this
+with each toml block, beside the checkout; sh, with each c block as `main.c`; and python. What rt has proved in this
 checkout, it does not prove again."""
 import os
 import pathlib
@@ -20,13 +20,14 @@ def scripts():
     """The blocks that are run, as scripts of bash."""
     blocks = [(language, text) for _, language, text in blocks_of(PAGE)]
     programs = [text for language, text in blocks if language == "c"]
-    (manifest,) = (text for language, text in blocks if language == "toml")
+    manifests = [text for language, text in blocks if language == "toml"]
     for language, text in blocks:
         if language == "rs":
             yield "mkdir -p ../app/src\n"
             yield f"cat > ../app/src/main.rs << 'END'\n{text}END\n"
-            yield f"cat > ../app/Cargo.toml << 'END'\n{PACKAGE}\n{manifest}END\n"
-            yield "(cd ../app && cargo run --quiet)\n"
+            for manifest in manifests:
+                yield f"cat > ../app/Cargo.toml << 'END'\n{PACKAGE}\n{manifest}END\n"
+                yield "(cd ../app && cargo run --quiet)\n"
         elif language == "sh":
             mains = programs if "main.c" in text else []
             yield from [f"cat > main.c << 'END'\n{main}END\n{text}" for main in mains] or [text]

@@ -1,9 +1,8 @@
 /* Object identifiers (ITU-T X.660) for C99 and C++: dotted-decimal text, arcs, elements of DER, and the contents octets
  * of BER and DER (ITU-T X.690 section 8.19), without tag and length. The source is in Rattle, where each function is
- * proved to return what its comment says. Only tested are null pointers, threads, how far const_oid_check_sorted reads,
- * the layouts and constants below, the inline functions const_oid_is_under and const_oid_is_equal, and that the library
- * has exactly the others. The Rattle toolchain builds it from this source. cargo builds it from Rust that is generated
- * from the source, and from code for pointers that is written by hand. That build is tested, not proved.
+ * proved to return what its comment says, but for what section 14 of the repository's docs/RULES.md lists as only
+ * tested. The Rattle toolchain builds it from this source. cargo builds it from Rust that is generated from the source,
+ * and from code for pointers that is written by hand. That build is tested, not proved.
  *
  * What the caller must guarantee, for all functions:
  *
@@ -19,9 +18,10 @@
  *   have a length and no zero byte at the end: print one with `%.*s`.
  * - Threads. Every function is thread-safe. While a call runs, no other thread may write its inputs or touch its
  *   output.
- * - Machines. The tests run on Linux, with glibc on x86-64 and i686, and with musl on x86-64. The proofs are for 64
- *   bits. The library that Rattle builds needs x86-64-v2 (POPCNT, SSE4.1). The library needs no system: of the C
- *   library it calls memory functions, and cargo's build also abort.
+ * - Machines. The tests run on Linux with glibc on x86-64. At commit a59122b3, on 28 November 2026, they passed with
+ *   musl, too, and on i686, and the rows on s390x. The proofs are for 64 bits. The library that Rattle builds needs
+ *   x86-64-v2 (POPCNT, SSE4.1). The library needs no system: of the C library it calls memory functions, and cargo's
+ *   build also abort.
  * - Octets. These are contents octets alone. A complete element 06 09 2A 86 .. and the bytes of the text "1.2" are no
  *   errors, but 0.6.9.42... and 1.9.46.50. Give an element to const_oid_from_der, and a text to const_oid_from_text.
  *

@@ -57,7 +57,7 @@ impl ObjectIdentifier<39> {
     ///
     /// - [`Error::ArcTooBig`]: its leading digits are a number above 4294967295;
     /// - [`Error::DigitExpected`]: it has another byte than a digit, or it is empty and the first of several;
-    /// - [`Error::RepeatedDot`] or [`Error::TrailingDot`]: it is empty, and not the first one;
+    /// - [`Error::RepeatedDot`]: it is empty, and not the first one;
     /// - [`Error::TrailingDot`]: an empty last component follows it;
     /// - [`Error::ArcInvalid`]: it is the first one and above 2, or the second, above 39 and after 0 or 1 (X.660);
     /// - [`Error::Length`]: the arcs up to it take more than 39 octets (X.690, 8.19);
