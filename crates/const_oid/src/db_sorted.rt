@@ -119,8 +119,8 @@ impl<'a> SortedDatabase<'a> {
     pub fn subtree(&self, oid: &ObjectIdentifierRef<'_>) -> &'a [Entry<'a>]
         ensures { IsSubtree (sorted_entries_of self.now) (ref_arcs oid.now) result.now }
     {
-        let (from, end) = subtree_of(self.entries, oid);
-        &self.entries[from..end]
+        let (start, end) = subtree_of(self.entries, oid);
+        &self.entries[start..end]
     }
 
     /// The first entry after the identifier, which need not be in the table, as GetNext of SNMP returns it (RFC 3416).

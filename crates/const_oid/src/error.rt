@@ -73,7 +73,7 @@ impl Error {
     #[inline]
     pub fn text_len(self) -> usize
         ensures len { result ≡ length (message_of self) }
-        ensures short { result ≤ 47 }
+        ensures short { result ≤ MAX_TEXT_LEN }
     {
         let (before, after) = self.words();
         before.len() + self.detail_len() + after.len()
@@ -85,7 +85,7 @@ impl Error {
     pub fn encode_text(self, out: &mut [u8]) -> Option<usize>
         ensures written { Writes (message_of self) out.old out.new result }
         ensures kept { result ≡ None → out.new ≡ out.old }
-        ensures enough { 47 ≤ length out.old → IsSome result }
+        ensures enough { MAX_TEXT_LEN ≤ length out.old → IsSome result }
         ensures utf8 { IfSome result (λ _. IsUtf8 (message_of self)) }
     {
         if out.len() < self.text_len() {
@@ -102,7 +102,7 @@ impl Error {
     #[inline]
     pub fn encode_str<'o>(self, out: &'o mut [u8]) -> Option<&'o str>
         ensures cases { Returns (message_of self) out.old result }
-        ensures enough { 47 ≤ length out.old → IsSome result }
+        ensures enough { MAX_TEXT_LEN ≤ length out.old → IsSome result }
     {
         let len = self.encode_text(out)?;
         Some(utf8(out, len))

@@ -416,13 +416,13 @@ impl<'a> ObjectIdentifierRef<'a> {
     pub fn subtree(&self, sorted: &[ObjectIdentifierRef<'_>]) -> (usize, usize)
         requires { IsSortedByKey ref_octets (slice_cmp nat_cmp) sorted.now }
         ensures bounds { (result.0 ≤ result.1) × (result.1 ≤ length sorted.now) }
-        ensures from { result.0 ≡ count_by (λ oid. is_lt (slice_cmp nat_cmp (ref_octets oid) (ref_octets self.now))) sorted.now }
+        ensures start { result.0 ≡ count_by (λ oid. is_lt (slice_cmp nat_cmp (ref_octets oid) (ref_octets self.now))) sorted.now }
         ensures inside { (k : ℕ) → IfSome (slice_get sorted.now k) (λ oid.
             BeginsWith (ref_arcs oid) (ref_arcs self.now) ↔ ((result.0 ≤ k) × (k < result.1))) }
     {
-        let from = sorted.partition_point(|oid| order(oid.as_bytes(), self.ber).is_lt());
-        let inside = gallop(&sorted[from..], |oid| oid.as_bytes().starts_with(self.ber));
-        (from, from + inside)
+        let start = sorted.partition_point(|oid| order(oid.as_bytes(), self.ber).is_lt());
+        let len = gallop(&sorted[start..], |oid| oid.as_bytes().starts_with(self.ber));
+        (start, start + len)
     }
 
     /// Writes the text, in chunks: that of 40 octets or fewer is one.

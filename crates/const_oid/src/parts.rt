@@ -1,5 +1,5 @@
-//! Subidentifiers in octets: where they begin, and where they end. In names, they are `parts`. What is left after the last
-//! octet below 128 is a part, too. Also the first octets of a slice, and a copy by a loop.
+//! Subidentifiers in octets: where they begin, and where they end. In names, they are `parts`. What is left after the
+//! last octet below 128 is a part, too. Also the first octets of a slice, and a copy by a loop.
 
 ghost use Rattle.std.specs.Prelude.{◌≡◌, ◌-◌, ◌≤◌, length, take, drop};
 ghost use Rattle.const_oid.specs.Contents.{cut};
@@ -47,7 +47,7 @@ pub(crate) fn first_octets(octets: &[u8], len: usize) -> &[u8]
     octets.get(..len).unwrap_or(&[])
 }
 
-/// Copies octets to the start of `out`, as `fast::copies::copy_to` does. Only the cargo crate calls this, for less code.
+/// Copies octets to the start of `out`, as `fast::copies::copy_to` does. The cargo crate alone calls it, for less code.
 #[inline(always)]
 pub(crate) fn copy_by_octet(octets: &[u8], out: &mut [u8])
     requires { length octets.now ≤ length out.old }

@@ -86,17 +86,17 @@ fn has_octets<T: Contents>(item: &T, oid: &ObjectIdentifierRef<'_>) -> bool
 /// the second. If there are none, both are the index at which the identifier would be inserted.
 pub fn subtree_of<T: Contents>(items: &[T], oid: &ObjectIdentifierRef<'_>) -> (usize, usize)
     ensures bounds { (result.0 ≤ result.1) × (result.1 ≤ length items.now) }
-    ensures from { IsSortedList T.octets_of items.now → result.0
+    ensures start { IsSortedList T.octets_of items.now → result.0
         ≡ count_by (λ item. is_lt (slice_cmp nat_cmp (item_arcs T.octets_of item) (ref_arcs oid.now))) items.now }
     ensures inside { IsSortedList T.octets_of items.now → (k : ℕ) → IfSome (slice_get items.now k) (λ item.
         BeginsWith (item_arcs T.octets_of item) (ref_arcs oid.now) ↔ ((result.0 ≤ k) × (k < result.1))) }
 {
-    let from = start_of(items, oid);
-    let inside = gallop(
-        &items[from..],
+    let start = start_of(items, oid);
+    let len = gallop(
+        &items[start..],
         |item| begins_with(item.contents(), oid.as_bytes()),
     );
-    (from, from + inside)
+    (start, start + len)
 }
 
 /// The index of the first item with the longest prefix of an identifier, which may be the identifier itself, or `None`

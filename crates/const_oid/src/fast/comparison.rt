@@ -72,8 +72,8 @@ const fn are_equal_by_octet(a: &[u8], b: &[u8]) -> bool
 #[tactic(auto, using(crate::proofs::ByWords::word_by_word))]
 #[inline(always)]
 fn unequal_words(a: &[u8], b: &[u8], end: usize) -> Option<(u64, u64)>
-    requires in_a { end + 8 ≤ length a.now }
-    requires in_b { end + 8 ≤ length b.now }
+    requires in_a { end + WORD_OCTETS ≤ length a.now }
+    requires in_b { end + WORD_OCTETS ≤ length b.now }
     ensures { MatchOption result (take end a.now ≡ take end b.now)
         (λ words. (a.now ≢ b.now) × (nat_cmp words.0 words.1 ≡ slice_cmp nat_cmp a.now b.now)) }
 {

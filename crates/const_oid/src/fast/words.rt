@@ -14,7 +14,7 @@ pub(crate) const HALF_OCTETS: usize = 4;
 // erase: const
 #[inline(always)]
 pub(crate) fn word(octets: &[u8], at: usize) -> u64
-    requires { at + 8 ≤ length octets.now }
+    requires { at + WORD_OCTETS ≤ length octets.now }
     ensures { IsWord octets.now at result }
 {
     // The compiler knows the length of this slice, so it leaves the test out.
@@ -29,8 +29,8 @@ pub(crate) fn word(octets: &[u8], at: usize) -> u64
 // erase: const
 #[inline(always)]
 pub(crate) fn half_word(octets: &[u8]) -> u32
-    requires { 4 ≤ length octets.now }
-    ensures { to_be_bytes w32 result ≡ take 4 octets.now }
+    requires { HALF_OCTETS ≤ length octets.now }
+    ensures { to_be_bytes w32 result ≡ take HALF_OCTETS octets.now }
 {
     match octets.first_chunk::<HALF_OCTETS>() {
         Some(half) => u32::from_be_bytes(*half),

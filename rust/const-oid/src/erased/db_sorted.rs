@@ -98,8 +98,8 @@ impl<'a> SortedDatabase<'a> {
     /// [`SortedDatabase`] has an example.
     #[must_use]
     pub fn subtree(&self, oid: &ObjectIdentifierRef) -> &'a [Entry<'a>] {
-        let (from, end) = subtree_of(self.entries, oid);
-        &self.entries[from..end]
+        let (start, end) = subtree_of(self.entries, oid);
+        &self.entries[start..end]
     }
 
     /// The first entry after the identifier, which need not be in the table, as GetNext of SNMP returns it (RFC 3416).

@@ -346,9 +346,9 @@ impl ObjectIdentifierRef {
     #[inline]
     #[must_use]
     pub fn subtree(&self, sorted: &[&ObjectIdentifierRef]) -> (usize, usize) {
-        let from = sorted.partition_point(|oid| order(oid.as_bytes(), self.as_bytes()).is_lt());
-        let inside = gallop(&sorted[from..], |oid| oid.as_bytes().starts_with(self.as_bytes()));
-        (from, from + inside)
+        let start = sorted.partition_point(|oid| order(oid.as_bytes(), self.as_bytes()).is_lt());
+        let len = gallop(&sorted[start..], |oid| oid.as_bytes().starts_with(self.as_bytes()));
+        (start, start + len)
     }
 
     /// Writes the text, in chunks: that of 40 octets or fewer is one.

@@ -52,9 +52,9 @@ fn has_octets<T: Contents>(item: &T, oid: &ObjectIdentifierRef) -> bool {
 /// the second. If there are none, both are the index at which the identifier would be inserted.
 #[must_use]
 pub fn subtree_of<T: Contents>(items: &[T], oid: &ObjectIdentifierRef) -> (usize, usize) {
-    let from = start_of(items, oid);
-    let inside = gallop(&items[from..], |item| begins_with(item.contents(), oid.as_bytes()));
-    (from, from + inside)
+    let start = start_of(items, oid);
+    let len = gallop(&items[start..], |item| begins_with(item.contents(), oid.as_bytes()));
+    (start, start + len)
 }
 
 /// The index of the first item with the longest prefix of an identifier, which may be the identifier itself, or `None`

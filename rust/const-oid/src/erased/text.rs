@@ -70,7 +70,7 @@ pub(crate) fn write_checked(octets: &[u8], out: &mut [u8]) -> Result<usize> {
     Ok(at)
 }
 
-/// Writes an arc and the dot before it at an index, after which there is room for any arc, and returns the index after it.
+/// Writes an arc and the dot before it at an index, after which any arc has room, and returns the index after it.
 #[inline(always)]
 fn write_later(arc: Arc, out: &mut [u8], at: usize) -> usize {
     // The length of this part is a literal, so rustc checks no index in it.
