@@ -93,10 +93,10 @@ fn component_status(fault: Error, text: &[u8]) -> Status
 }
 
 /// The room for the text of 16 octets: four bytes for each octet, and eleven for one arc more.
-const ROOM_FOR_16_OCTETS: usize = 75;
+const ROOM_FOR_16_OCTETS: usize = 4 * 16 + 11;
 
 /// The room for the text of 255 octets.
-const ROOM_FOR_255_OCTETS: usize = 1031;
+const ROOM_FOR_255_OCTETS: usize = 4 * MAX_OCTETS + 11;
 
 /// Writes the dotted text of contents octets of any length. No zero byte follows it.
 ///

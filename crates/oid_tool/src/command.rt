@@ -3,6 +3,7 @@ ghost use Rattle.std.specs.Prelude.{◌≡◌, ◌*◌, ◌≤◌, ◌==◌, len
 ghost use Rattle.std.specs.List.{before_first, after_first};
 ghost use Rattle.hex.specs.Hex.{decode_of, encode_lower};
 ghost use Rattle.const_oid.specs.Error.{message_of};
+ghost use Rattle.const_oid.specs.Identifier.{default_capacity};
 ghost use Rattle.oid_tool.specs.Results.{answer_line, error_line, text_line, hex_line, parent_line, name_line};
 ghost use Rattle.oid_tool.specs.Names.{rows_of};
 ghost use Rattle.const_oid.specs.Output.{Writes};
@@ -120,7 +121,7 @@ pub fn put(bytes: &[u8], out: &mut [u8]) -> Option<usize>
 /// Writes octets as lower-case hexadecimal digits at the start of `out`. Returns the number of digits, or
 /// `None` if they do not fit.
 fn encode(octets: &[u8], out: &mut [u8]) -> Option<usize>
-    requires { length octets.now ≤ 39 }
+    requires { length octets.now ≤ default_capacity }
     ensures { Writes (encode_lower octets.now) out.old out.new result }
 {
     let count = 2 * octets.len();

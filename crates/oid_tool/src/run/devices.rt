@@ -92,8 +92,8 @@ impl Write for SlowWriter {
     }
 }
 
-/// A kind of error by a number: that of the system's error, or one of the four that no such error has. So -4 to 122 have
-/// all kinds.
+/// A kind of error by a number: that of the system's error, or one of the four that no such error has. So -4 to 122
+/// have all kinds.
 pub fn kind_of(number: i32) -> ErrorKind {
     match number {
         -1 => ErrorKind::InvalidData,

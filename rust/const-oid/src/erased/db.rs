@@ -52,8 +52,9 @@ impl<'a> Database<'a> {
     /// long as the memory is lent.
     ///
     /// For n entries, from three on, 4n numbers are a good length. With fewer than 3n + 3 there is no index by name, and
-    /// with n or fewer none at all. Over 65,535 entries have no index. One that the database has, as `DB` does, stays if it
-    /// is no shorter. None is made in which some lookup would read over a quarter of the entries and two: a scan is faster.
+    /// with n or fewer none at all. Over 65,535 entries have no index. An index that the database has, as `DB` does,
+    /// stays if it is no shorter. None is made in which some lookup would read over a quarter of the entries and two: a
+    /// scan is faster.
     ///
     /// [`Database`] has an example.
     #[must_use]
