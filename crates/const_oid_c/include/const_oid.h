@@ -263,7 +263,8 @@ CONST_OID_NODISCARD CONST_OID_READS(1, 2) CONST_OID_READS(3, 4) const_oid_status
 /* Returns 1 if both are valid and equal, and otherwise 0, also for invalid octets. It is no code: CONST_OID_OK is 0. */
 CONST_OID_NODISCARD CONST_OID_READS(1, 2) CONST_OID_READS(3, 4) static __inline int const_oid_is_equal(
     const uint8_t *left, size_t left_len, const uint8_t *right, size_t right_len) {
-    return left_len == right_len && const_oid_is_under(left, left_len, right, right_len);
+    return left_len > 0 && left_len == right_len && left[left_len - 1] == right[left_len - 1]
+        && !CONST_OID_DIFFER(left, right, left_len) && const_oid_check(left, left_len).code == CONST_OID_OK;
 }
 
 /* Compares two identifiers of any length by their octets, as memcmp does. A prefix comes first. An identifier's
