@@ -6,6 +6,7 @@ if sys.version_info < (3, 11):
     raise SystemExit(f"const-oid: needs Python 3.11 or later, and this is {sys.version.split()[0]}")
 
 import base64
+import fcntl
 import gzip
 import hashlib
 import io
@@ -32,8 +33,8 @@ LICENCES = ("LICENSE-APACHE", "LICENSE-MIT")
 ARCHIVED = ("backend.py", "pyproject.toml", "README.md", "src/native.c", *(f"src/const_oid/{name}" for name in SOURCES))
 ARCHIVED_OF_TOP = (*LICENCES, "crates/const_oid_c/include/*.h", "rust/const-oid/README.md", "rust/const-oid*/Cargo.*")
 ARCHIVED_OF_TOP += ("rust/const-oid*/*.rs", "rust/const-oid/examples/*.rs", "rust/const-oid*/src/**/*.rs")
-COMPILER = shlex.split(os.environ.get("CC", "cc"))
-RUSTC = os.environ.get("RUSTC", "rustc")
+COMPILER = shlex.split(os.environ.get("CC", "")) or ["cc"]
+RUSTC = os.environ.get("RUSTC") or "rustc"
 INCLUDE = pathlib.Path(sysconfig.get_path("include"))
 
 if sysconfig.get_config_var("Py_GIL_DISABLED"):
@@ -81,18 +82,21 @@ def _built(temporary):
 
 def _installed():
     """The same of an installed library."""
-    paths = (_output("pkg-config", f"--variable={name}", "const_oid_c").strip() for name in ("includedir", "libdir"))
-    include, folder = paths
+    paths = (_output("pkg-config", f"--variable={name}", "const_oid_c") for name in ("includedir", "libdir"))
+    include, folder = (" ".join(shlex.split(path)) for path in paths)  # a space has a backslash
     return include, f"{folder}/libconst_oid_c.a"
 
 
 def _compile(target, config_settings):
     """Compiles the extension module."""
-    is_installed = (config_settings or {}).get("library") == "installed"
+    settings = config_settings or {}
+    is_installed = settings == {"library": "installed"}
+    if settings and not is_installed:
+        raise SystemExit(f"const-oid: the one setting that there is is library=installed, and these are {settings}")
     if missing := list(_missing(is_installed)):
         raise SystemExit(f"const-oid: to be installed first: {'; '.join(missing)}")
     link = ["-shared", "-Wl,--exclude-libs,ALL", "-s"]
-    flags = ["-std=c11", "-O2", "-fPIC", "-fvisibility=hidden", *shlex.split(os.environ.get("CFLAGS", ""))]
+    flags = ["-std=c11", "-O2", "-fPIC", "-fno-plt", "-fvisibility=hidden", *shlex.split(os.environ.get("CFLAGS", ""))]
     with tempfile.TemporaryDirectory() as temporary:
         include, library = _installed() if is_installed else _built(temporary)
         files = [f"-I{INCLUDE}", f"-I{include}", HERE / "src/native.c", library, "-o", target]
@@ -147,12 +151,14 @@ def build_wheel(wheel_directory, config_settings=None, metadata_directory=None):
 def build_editable(wheel_directory, config_settings=None, metadata_directory=None):
     """Writes a wheel that leads to out/, where there are links to the sources, the extension module and the names."""
     package = HERE / "out/const_oid"
-    shutil.rmtree(package, ignore_errors=True)
-    package.mkdir(parents=True)
-    for name in SOURCES:
-        (package / name).symlink_to(HERE / "src/const_oid" / name)
-    (package / "names.tsv").write_text(_names(), encoding="utf-8")
-    _compile(package / EXTENSION, config_settings)
+    with open(__file__, "rb") as lock:
+        fcntl.flock(lock, fcntl.LOCK_EX)  # one build at a time
+        shutil.rmtree(package, ignore_errors=True)
+        package.mkdir(parents=True)
+        for name in SOURCES:
+            (package / name).symlink_to(HERE / "src/const_oid" / name)
+        (package / "names.tsv").write_text(_names(), encoding="utf-8")
+        _compile(package / EXTENSION, config_settings)
     return _write_wheel(wheel_directory, {"const_oid.pth": f"{package.parent}\n".encode()})
 
 

@@ -1,12 +1,16 @@
 /* The extension module const_oid._native, for the stable ABI of Python 3.11. An identifier holds its contents octets,
  * and const_oid.h computes each result. There is no state here, so each interpreter has its own module and type. */
 #define Py_LIMITED_API 0x030B0000
-#define PY_SSIZE_T_CLEAN
 #include <Python.h>
 #include <const_oid.h>
 #include <stddef.h>
 #include <string.h>
 #include <structmember.h>
+
+/* The Python that runs counts references, by functions: macros of a header are for its own Python, and so is a # in a
+ * format. */
+#undef Py_NewRef
+#undef Py_XNewRef
 
 typedef struct {
     PyObject_HEAD
@@ -28,10 +32,10 @@ static void identifier_dealloc(PyObject *self) {
     Identifier *identifier = (Identifier *)self;
     PyTypeObject *type = Py_TYPE(self);
     if (identifier->weak_references) PyObject_ClearWeakRefs(self);
-    Py_XDECREF(identifier->octets);
-    Py_XDECREF(identifier->arcs);
+    Py_DecRef(identifier->octets);
+    if (identifier->arcs) Py_DecRef(identifier->arcs);
     ((freefunc)PyType_GetSlot(type, Py_tp_free))(self);
-    Py_DECREF(type);
+    Py_DecRef((PyObject *)type);
 }
 
 /* Whether a type is ObjectIdentifier itself, and no subclass. */
@@ -51,36 +55,38 @@ static int is_identifier(PyObject *object) { return base_of(Py_TYPE(object)) != 
 static PyObject *attribute(PyObject *object, const char *name) {
     PyObject *interned = object ? PyUnicode_InternFromString(name) : NULL;
     PyObject *result = interned ? PyObject_GetAttr(object, interned) : NULL;
-    Py_XDECREF(interned);
+    Py_DecRef(interned);
     return result;
 }
 
-/* What a function of const_oid._support returns. The arguments are a tuple, which it takes. */
-static PyObject *supported(const char *name, PyObject *arguments) {
-    PyObject *module = arguments ? PyImport_ImportModule("const_oid._support") : NULL;
-    PyObject *function = attribute(module, name);
+/* What a function of const_oid._support returns, which the module of a class, or of an identifier's, holds: an import
+ * would take the caller's __import__. The arguments are a tuple, which it takes. */
+static PyObject *supported(PyObject *self, const char *name, PyObject *arguments) {
+    PyTypeObject *type = base_of(PyType_Check(self) ? (PyTypeObject *)self : Py_TYPE(self));
+    PyObject *support = arguments ? attribute(PyType_GetModule(type), "support") : NULL;
+    PyObject *function = attribute(support, name);
     PyObject *result = function ? PyObject_CallObject(function, arguments) : NULL;
-    Py_XDECREF(module);
-    Py_XDECREF(function);
-    Py_XDECREF(arguments);
+    Py_DecRef(support);
+    Py_DecRef(function);
+    Py_DecRef(arguments);
     return result;
 }
 
 /* Raises the exception that such a function returns. */
-static PyObject *raised(const char *name, PyObject *arguments) {
-    PyObject *error = supported(name, arguments);
+static PyObject *raised(PyObject *self, const char *name, PyObject *arguments) {
+    PyObject *error = supported(self, name, arguments);
     if (error) PyErr_SetObject((PyObject *)Py_TYPE(error), error);
-    Py_XDECREF(error);
+    Py_DecRef(error);
     return NULL;
 }
 
 /* Raises the OidError of a status, with what was given. */
-static PyObject *failed(const_oid_status status, PyObject *given) {
-    return raised("OidError", Py_BuildValue("IIO", status.code, status.detail, given));
+static PyObject *failed(PyObject *self, const_oid_status status, PyObject *given) {
+    return raised(self, "OidError", Py_BuildValue("IIO", status.code, status.detail, given));
 }
 
-static PyObject *wrong_type(const char *wanted, PyObject *given) {
-    return raised("wrong_type", Py_BuildValue("sO", wanted, given));
+static PyObject *wrong_type(PyObject *self, const char *wanted, PyObject *given) {
+    return raised(self, "wrong_type", Py_BuildValue("sO", wanted, given));
 }
 
 /* An object of a type, with valid octets, which it takes. */
@@ -91,7 +97,7 @@ static PyObject *allocated(PyTypeObject *type, PyObject *octets) {
         self->octets = octets;
         self->items = items_of(octets);
     } else {
-        Py_DECREF(octets);
+        Py_DecRef(octets);
     }
     return (PyObject *)self;
 }
@@ -101,7 +107,7 @@ static PyObject *made(PyTypeObject *type, PyObject *octets) {
     if (is_plain(type)) return allocated(type, octets);
     PyObject *plain = allocated(base_of(type), octets);
     PyObject *result = plain ? PyObject_CallFunctionObjArgs((PyObject *)type, plain, NULL) : NULL;
-    Py_XDECREF(plain);
+    Py_DecRef(plain);
     return result;
 }
 
@@ -128,25 +134,25 @@ static void release(Output *out) {
 }
 
 /* The octets that a call wrote, or its error. Frees the output. */
-static PyObject *written(Output *out, const_oid_status status, PyObject *given) {
+static PyObject *written(Output *out, PyObject *self, const_oid_status status, PyObject *given) {
     Py_ssize_t len = (Py_ssize_t)status.len;
-    PyObject *octets = status.code ? failed(status, given) : PyBytes_FromStringAndSize(out->start, len);
+    PyObject *octets = status.code ? failed(self, status, given) : PyBytes_FromStringAndSize(out->start, len);
     release(out);
     return octets;
 }
 
 /* The octets of a text, which has at least as many bytes. Python makes no UTF-8 of a surrogate. */
-static PyObject *octets_of_text(PyObject *text) {
+static PyObject *octets_of_text(PyObject *type, PyObject *text) {
     Output out;
     Py_ssize_t len;
     const char *data = PyUnicode_AsUTF8AndSize(text, &len);
     if (!data && PyErr_ExceptionMatches(PyExc_UnicodeEncodeError)) {
         const_oid_status status = {CONST_OID_NOT_UTF8, 0, 0};
         PyErr_Clear();
-        return failed(status, text);
+        return failed(type, status, text);
     }
     if (!data || !has_room(&out, (size_t)len, 1)) return NULL;
-    return written(&out, const_oid_from_text(data, (size_t)len, out.start, out.len), text);
+    return written(&out, type, const_oid_from_text(data, (size_t)len, out.start, out.len), text);
 }
 
 static PyObject *identifier_new(PyTypeObject *type, PyObject *arguments, PyObject *keywords) {
@@ -156,8 +162,8 @@ static PyObject *identifier_new(PyTypeObject *type, PyObject *arguments, PyObjec
                  : !PyArg_UnpackTuple(arguments, "ObjectIdentifier", 1, 1, &given)) {
         return NULL;
     }
-    if (PyUnicode_Check(given)) return allocated(type, octets_of_text(given));
-    if (!is_identifier(given)) return wrong_type("text must be a str", given);
+    if (PyUnicode_Check(given)) return allocated(type, octets_of_text((PyObject *)type, given));
+    if (!is_identifier(given)) return wrong_type((PyObject *)type, "text must be a str", given);
     if (Py_TYPE(given) == type && is_plain(type)) return Py_NewRef(given);
     return allocated(type, Py_NewRef(((Identifier *)given)->octets));
 }
@@ -167,9 +173,9 @@ static int is_octets(PyObject *given) {
 }
 
 /* A copy of octets. The items of a memoryview may be wider, and are then none. */
-static PyObject *octets_from(PyObject *given) {
+static PyObject *octets_from(PyObject *type, PyObject *given) {
     Py_buffer view = {.itemsize = 1};
-    if (!is_octets(given)) return wrong_type("octets must be bytes, bytearray or memoryview", given);
+    if (!is_octets(given)) return wrong_type(type, "octets must be bytes, bytearray or memoryview", given);
     if (PyMemoryView_Check(given)) {
         if (PyObject_GetBuffer(given, &view, PyBUF_FULL_RO)) return NULL;
         PyBuffer_Release(&view);
@@ -179,38 +185,58 @@ static PyObject *octets_from(PyObject *given) {
 }
 
 static PyObject *identifier_from_bytes(PyObject *type, PyObject *given) {
-    PyObject *octets = octets_from(given);
+    PyObject *octets = octets_from(type, given);
     if (!octets) return NULL;
     const_oid_octets items = items_of(octets);
     const_oid_status status = const_oid_check(items.octets, items.len);
     if (!status.code) return made((PyTypeObject *)type, octets);
-    failed(status, octets);
-    Py_DECREF(octets);
+    failed(type, status, octets);
+    Py_DecRef(octets);
     return NULL;
 }
 
 /* The identifier of the element that octets begin with. The octets after it come too, or else are an error. */
 static PyObject *from_element(PyObject *type, PyObject *given, int is_whole) {
-    PyObject *octets = octets_from(given), *result = NULL;
+    PyObject *octets = octets_from(type, given), *result = NULL;
     if (!octets) return NULL;
     const_oid_octets items = items_of(octets), contents = {NULL, 0};
     const_oid_status status = const_oid_from_der(items.octets, items.len, &contents);
     Py_ssize_t left = (Py_ssize_t)(items.len - status.len);
     if (is_whole && !status.code && left) status.code = CONST_OID_NO_ELEMENT;
     if (status.code) {
-        failed(status, octets);
+        failed(type, status, octets);
     } else {
         result = PyBytes_FromStringAndSize((const char *)contents.octets, (Py_ssize_t)contents.len);
         result = made((PyTypeObject *)type, result);
     }
-    if (result && !is_whole) result = Py_BuildValue("Ny#", result, items.octets + status.len, left);
-    Py_DECREF(octets);
+    if (result && !is_whole) {
+        const char *rest = (const char *)items.octets + status.len;
+        result = Py_BuildValue("NN", result, PyBytes_FromStringAndSize(rest, left));
+    }
+    Py_DecRef(octets);
     return result;
 }
 
 static PyObject *identifier_from_der(PyObject *type, PyObject *given) { return from_element(type, given, 1); }
 
-static PyObject *identifier_read_der(PyObject *type, PyObject *given) { return from_element(type, given, 0); }
+/* The rest of a memoryview is one, so that a loop over elements copies each of them once. */
+static PyObject *identifier_read_der(PyObject *type, PyObject *given) {
+    Py_buffer view;
+    if (!PyMemoryView_Check(given)) return from_element(type, given, 0);
+    PyObject *row = PyMemoryView_GetContiguous(given, PyBUF_READ, 'C'), *element = NULL, *oid = NULL;
+    if (!row || PyObject_GetBuffer(row, &view, PyBUF_FULL_RO)) return Py_DecRef(row), NULL;
+    const_oid_octets contents;
+    const_oid_status status = const_oid_from_der(view.buf, (size_t)view.len, &contents);
+    Py_ssize_t end = status.code ? view.len : (Py_ssize_t)status.len;
+    int is_row = view.ndim == 1 && view.itemsize == 1;
+    PyBuffer_Release(&view);
+    element = is_row ? PySequence_GetSlice(row, 0, end) : Py_NewRef(given);
+    oid = element ? from_element(type, element, is_row) : NULL;
+    if (oid && is_row) oid = Py_BuildValue("NN", oid, PySequence_GetSlice(row, end, view.len));
+    Py_DecRef(row);
+    Py_DecRef(element);
+    return oid;
+}
 
 /* An integer, or 2^32 in place of all that are greater. Returns whether there is one. */
 static int read_arc(PyObject *item, uint64_t *arc) {
@@ -218,7 +244,7 @@ static int read_arc(PyObject *item, uint64_t *arc) {
     if (!number) return 0;
     int overflow;
     long long value = PyLong_AsLongLongAndOverflow(number, &overflow);
-    Py_DECREF(number);
+    Py_DecRef(number);
     if (overflow < 0 || (!overflow && value < 0)) {
         PyErr_Format(PyExc_ValueError, overflow ? "an arc is negative" : "an arc is negative: %lld", value);
         return 0;
@@ -246,22 +272,22 @@ static const_oid_status past_32_bits(const_oid_status before) {
 }
 
 static PyObject *identifier_from_arcs(PyObject *type, PyObject *given) {
-    if (PyUnicode_Check(given) || is_octets(given) || PyAnySet_Check(given)) {
-        return wrong_type("arcs must be an iterable of int", given);
+    if (PyUnicode_Check(given) || is_octets(given) || PyAnySet_Check(given) || PyDict_Check(given)) {
+        return wrong_type(type, "arcs must be an iterable of int", given);
     }
     PyObject *items = PySequence_Tuple(given), *octets = NULL;
     Output arcs, out;
     if (!items || !has_room(&arcs, (size_t)PyTuple_Size(items), sizeof(uint32_t))) {
-        Py_XDECREF(items);
+        Py_DecRef(items);
         return NULL;
     }
     Py_ssize_t count = (Py_ssize_t)arcs.len, fitting = read_arcs(items, count, arcs.start);
     if (fitting >= 0 && has_room(&out, ARC_OCTETS * (size_t)fitting, 1)) {
         const_oid_status status = const_oid_from_arcs(arcs.start, (size_t)fitting, out.start, out.len);
-        octets = written(&out, fitting < count ? past_32_bits(status) : status, items);
+        octets = written(&out, type, fitting < count ? past_32_bits(status) : status, items);
     }
     release(&arcs);
-    Py_DECREF(items);
+    Py_DecRef(items);
     return made((PyTypeObject *)type, octets);
 }
 
@@ -273,17 +299,20 @@ static PyObject *decoded(const_oid_octets octets) {
     PyObject *tuple = PyTuple_New((Py_ssize_t)status.len);
     for (size_t index = 0; tuple && index < status.len; index++) {
         PyObject *arc = PyLong_FromUnsignedLong(((uint32_t *)out.start)[index]);
-        if (!arc || PyTuple_SetItem(tuple, (Py_ssize_t)index, arc)) Py_CLEAR(tuple);
+        if (!arc || PyTuple_SetItem(tuple, (Py_ssize_t)index, arc)) tuple = (Py_DecRef(tuple), (PyObject *)NULL);
     }
     release(&out);
     return tuple;
 }
 
-/* The tuple that the identifier keeps; the reference is borrowed. */
+/* The tuple that the identifier keeps; the reference is borrowed. A finalizer may ask for it while it is made. */
 static PyObject *arcs_of(PyObject *self) {
     Identifier *identifier = (Identifier *)self;
-    if (!identifier->arcs) identifier->arcs = decoded(octets_of(self));
-    return identifier->arcs;
+    if (identifier->arcs) return identifier->arcs;
+    PyObject *arcs = decoded(octets_of(self));
+    if (!identifier->arcs) return identifier->arcs = arcs;
+    Py_DecRef(arcs);
+    return arcs ? identifier->arcs : NULL;
 }
 
 static PyObject *identifier_arcs(PyObject *self, void *Py_UNUSED(closure)) {
@@ -295,14 +324,14 @@ static PyObject *identifier_der(PyObject *self, void *Py_UNUSED(closure)) {
     Output out;
     const_oid_octets octets = octets_of(self);
     if (!has_room(&out, octets.len + 2 + sizeof octets.len, 1)) return NULL;
-    return written(&out, const_oid_to_der(octets.octets, octets.len, out.start, out.len), self);
+    return written(&out, self, const_oid_to_der(octets.octets, octets.len, out.start, out.len), self);
 }
 
 /* The octets of a parent are a prefix, of the length that a call without output needs. */
 static PyObject *identifier_parent(PyObject *self, void *Py_UNUSED(closure)) {
     const_oid_octets octets = octets_of(self);
     const_oid_status status = const_oid_parent(octets.octets, octets.len, NULL, 0);
-    if (status.code == CONST_OID_NONE) Py_RETURN_NONE;
+    if (status.code == CONST_OID_NONE) return Py_NewRef(Py_None);
     return made(Py_TYPE(self), PyBytes_FromStringAndSize((const char *)octets.octets, (Py_ssize_t)status.len));
 }
 
@@ -312,13 +341,14 @@ static PyObject *identifier_child(PyObject *self, PyObject *item) {
     const_oid_octets octets = octets_of(self);
     if (!read_arc(item, &arc) || !has_room(&out, octets.len + ARC_OCTETS, 1)) return NULL;
     const_oid_status status = const_oid_push_arc(octets.octets, octets.len, (uint32_t)arc, out.start, out.len);
-    return made(Py_TYPE(self), written(&out, arc > UINT32_MAX ? past_32_bits(status) : status, item));
+    return made(Py_TYPE(self), written(&out, self, arc > UINT32_MAX ? past_32_bits(status) : status, item));
 }
 
+/* A prefix of the octets of an identifier that is valid itself has a prefix of its arcs. */
 static PyObject *identifier_starts_with(PyObject *self, PyObject *prefix) {
-    if (!is_identifier(prefix)) return wrong_type("prefix must be an ObjectIdentifier", prefix);
+    if (!is_identifier(prefix)) return wrong_type(self, "prefix must be an ObjectIdentifier", prefix);
     const_oid_octets octets = octets_of(self), start = octets_of(prefix);
-    return PyBool_FromLong(const_oid_is_under(octets.octets, octets.len, start.octets, start.len));
+    return PyBool_FromLong(start.len <= octets.len && !memcmp(octets.octets, start.octets, start.len));
 }
 
 /* Text has at most four bytes for each octet. */
@@ -335,15 +365,16 @@ static PyObject *identifier_str(PyObject *self) {
 static PyObject *identifier_repr(PyObject *self) {
     PyObject *name = PyType_GetName(Py_TYPE(self)), *text = identifier_str(self), *result = NULL;
     if (name && text) result = PyUnicode_FromFormat("%U('%U')", name, text);
-    Py_XDECREF(name);
-    Py_XDECREF(text);
+    Py_DecRef(name);
+    Py_DecRef(text);
     return result;
 }
 
 static PyObject *identifier_format(PyObject *self, PyObject *specification) {
+    if (!PyUnicode_Check(specification)) return PyErr_Format(PyExc_TypeError, "not a str: %R", specification);
     PyObject *text = PyObject_Str(self);
     PyObject *result = text ? PyObject_Format(text, specification) : NULL;
-    Py_XDECREF(text);
+    Py_DecRef(text);
     return result;
 }
 
@@ -355,13 +386,15 @@ static Py_hash_t identifier_hash(PyObject *self) { return PyObject_Hash(((Identi
 
 /* Equal identifiers have equal octets. */
 static PyObject *identifier_compare(PyObject *self, PyObject *other, int operation) {
-    if (Py_TYPE(self) != Py_TYPE(other) && !is_identifier(other)) Py_RETURN_NOTIMPLEMENTED;
-    const_oid_octets left = octets_of(self), right = octets_of(other);
+    if (Py_TYPE(self) != Py_TYPE(other) && !is_identifier(other)) return Py_NewRef(Py_NotImplemented);
+    const const_oid_octets *left = &((Identifier *)self)->items, *right = &((Identifier *)other)->items;
     if (operation == Py_EQ || operation == Py_NE) {
-        int is_equal = left.len == right.len && !memcmp(left.octets, right.octets, left.len);
+        int is_equal = left->len == right->len && !memcmp(left->octets, right->octets, left->len);
         return PyBool_FromLong(is_equal == (operation == Py_EQ));
     }
-    Py_RETURN_RICHCOMPARE(const_oid_by_arcs(&left, &right), 0, operation);
+    int order = const_oid_by_arcs(left, right), is_less = operation == Py_LT || operation == Py_LE;
+    int or_equal = operation == Py_LE || operation == Py_GE;
+    return PyBool_FromLong(order ? (order < 0) == is_less : or_equal);
 }
 
 static Py_ssize_t identifier_len(PyObject *self) {
@@ -379,13 +412,16 @@ static int identifier_contains(PyObject *self, PyObject *item) {
 /* An item of the tuple of arcs; its own error would speak of a tuple. */
 static PyObject *identifier_subscript(PyObject *self, PyObject *key) {
     PyObject *arcs = arcs_of(self), *result = arcs ? PyObject_GetItem(arcs, key) : NULL;
-    if (!result && PyErr_ExceptionMatches(PyExc_IndexError)) PyErr_SetString(PyExc_IndexError, "index out of range");
+    int is_own = !result && PyLong_Check(key) && PyErr_ExceptionMatches(PyExc_IndexError);
+    if (is_own) PyErr_SetString(PyExc_IndexError, "index out of range");
     return result;
 }
 
+/* PySequence_GetItem has added the length to a negative index. */
 static PyObject *identifier_item(PyObject *self, Py_ssize_t index) {
-    PyObject *key = PyLong_FromSsize_t(index), *result = key ? identifier_subscript(self, key) : NULL;
-    Py_XDECREF(key);
+    PyObject *key = PyLong_FromSsize_t(index < 0 ? identifier_len(self) : index);
+    PyObject *result = key ? identifier_subscript(self, key) : NULL;
+    Py_DecRef(key);
     return result;
 }
 
@@ -394,13 +430,16 @@ static PyObject *identifier_iter(PyObject *self) {
     return arcs ? PyObject_GetIter(arcs) : NULL;
 }
 
+/* A ValueError may be that of a comparison, which is then raised again. */
 static PyObject *identifier_index(PyObject *self, PyObject *arguments) {
-    PyObject *method = attribute(arcs_of(self), "index");
+    PyObject *arcs = arcs_of(self), *method = attribute(arcs, "index"), *arc;
     PyObject *index = method ? PyObject_CallObject(method, arguments) : NULL;
     if (!index && PyErr_ExceptionMatches(PyExc_ValueError)) {
-        PyErr_Format(PyExc_ValueError, "%R is not among the arcs", PyTuple_GetItem(arguments, 0));
+        PyErr_Clear();
+        arc = PyTuple_GetItem(arguments, 0);
+        if (PySequence_Contains(arcs, arc) >= 0) PyErr_Format(PyExc_ValueError, "%R is not among the arcs", arc);
     }
-    Py_XDECREF(method);
+    Py_DecRef(method);
     return index;
 }
 
@@ -413,7 +452,7 @@ static PyObject *identifier_count(PyObject *self, PyObject *arc) {
 /* Methods by a function of const_oid._support of the object, or its class, and the arguments. */
 #define BY_FUNCTION(name) \
     static PyObject *identifier_##name(PyObject *self, PyObject *arguments) { \
-        return supported(#name, Py_BuildValue("OO", self, arguments)); \
+        return supported(self, #name, Py_BuildValue("OO", self, arguments)); \
     }
 BY_FUNCTION(copied)
 BY_FUNCTION(pydantic_schema)
@@ -421,11 +460,11 @@ BY_FUNCTION(pydantic_validators)
 
 /* numpy takes an identifier as one value, and not as a sequence. */
 static PyObject *identifier_array(PyObject *self, PyObject *Py_UNUSED(arguments), PyObject *Py_UNUSED(keywords)) {
-    return supported("as_array", Py_BuildValue("(O)", self));
+    return supported(self, "as_array", Py_BuildValue("(O)", self));
 }
 
 static PyObject *identifier_reduce(PyObject *self, PyObject *Py_UNUSED(none)) {
-    if (!is_plain(Py_TYPE(self))) return supported("reduced", Py_BuildValue("(O)", self));
+    if (!is_plain(Py_TYPE(self))) return supported(self, "reduced", Py_BuildValue("(O)", self));
     PyObject *restored = attribute(PyType_GetModule(Py_TYPE(self)), "restored");
     return restored ? Py_BuildValue("N(O)", restored, ((Identifier *)self)->octets) : NULL;
 }
@@ -439,7 +478,7 @@ static PyObject *error_text(PyObject *Py_UNUSED(module), PyObject *arguments) {
         return PyErr_Format(PyExc_OverflowError, "a number has 32 bits");
     }
     const_oid_status status = const_oid_error_text((uint32_t)code, (uint32_t)detail, text, sizeof text);
-    if (status.code) Py_RETURN_NONE;
+    if (status.code) return Py_NewRef(Py_None);
     return PyUnicode_FromStringAndSize(text, (Py_ssize_t)status.len);
 }
 
@@ -449,7 +488,7 @@ static PyObject *wrong_component(PyObject *Py_UNUSED(module), PyObject *text) {
     Py_ssize_t len;
     if (PyBytes_AsStringAndSize(text, &bytes, &len)) return NULL;
     const_oid_status status = const_oid_from_text(bytes, (size_t)len, NULL, 0);
-    if (status.code == CONST_OID_OK || status.code == CONST_OID_OUTPUT_TOO_SHORT) Py_RETURN_NONE;
+    if (status.code == CONST_OID_OK || status.code == CONST_OID_OUTPUT_TOO_SHORT) return Py_NewRef(Py_None);
     return PyLong_FromSize_t(status.len);
 }
 
@@ -596,18 +635,22 @@ static int module_exec(PyObject *module) {
     int status = text && attributes && arcs ? PyDict_SetItemString(attributes, "__match_args__", arcs) : -1;
     if (!status) status = PyModule_AddObjectRef(module, "__version__", text);
     if (!status) status = PyModule_AddType(module, (PyTypeObject *)type);
-    Py_XDECREF(text);
-    Py_XDECREF(type);
-    Py_XDECREF(arcs);
-    Py_XDECREF(attributes);
+    Py_DecRef(text);
+    Py_DecRef((PyObject *)type);
+    Py_DecRef(arcs);
+    Py_DecRef(attributes);
     return status;
 }
 
 /* The identifier of a pickle. */
 static PyObject *restored(PyObject *module, PyObject *octets) {
-    PyObject *type = PyObject_GetAttrString(module, "ObjectIdentifier");
-    PyObject *result = type ? identifier_from_bytes(type, octets) : NULL;
-    Py_XDECREF(type);
+    PyObject *type = PyObject_GetAttrString(module, "ObjectIdentifier"), *result = NULL;
+    if (type && PyType_Check(type) && base_of((PyTypeObject *)type)) {
+        result = identifier_from_bytes(type, octets);
+    } else if (type) {
+        PyErr_Format(PyExc_TypeError, "%R is no class of identifiers", type);
+    }
+    Py_DecRef((PyObject *)type);
     return result;
 }
 

@@ -7,6 +7,7 @@ import pickle
 import sys
 import tracemalloc
 import unittest
+from unittest import mock
 
 import const_oid
 from const_oid import Code, ObjectIdentifier, OidError, SortedMap, _support
@@ -29,6 +30,7 @@ WRONG = b"\x80\x01"
 
 # Python 3.12 counts no references to a literal.
 Under = type("".join(("Un", "der")), (ObjectIdentifier,), {})
+UNDER, GIVEN = Under("1.2.3"), (OTHER,)
 
 
 def raised(call, *given):
@@ -40,6 +42,27 @@ def raised(call, *given):
     raise AssertionError("there is no error")
 
 
+Asking = type("Asking", (list,), {"__del__": lambda asking: asking[0].arcs})
+Other = type("Other", (dict,), {"__getattr__": lambda other, name: Other(), "__call__": lambda other, *_, **__: other})
+
+
+def asked(oid):
+    """Asks for arcs, and so does garbage in a cycle, which Python 3.11 finds while they are made."""
+    asking, before = Asking([oid]), gc.get_threshold()
+    asking.append(asking)
+    del asking
+    gc.set_threshold(1, 10_000, 10_000)
+    oid.arcs
+    gc.set_threshold(*before)
+
+
+def hooked(oid):
+    """Calls what other packages call."""
+    with mock.patch.dict(sys.modules, numpy=Other(), pydantic_core=Other()):
+        calls = OTHER.__array__, Under.__get_pydantic_core_schema__, Under.__get_validators__
+        return [call(*GIVEN) for call in calls], oid.__array__()
+
+
 # Calls with an identifier that is made anew each time.
 OF_FRESH = {
     "text": lambda oid: (ObjectIdentifier(str(oid)), ObjectIdentifier(text=str(oid)), Under(str(oid))),
@@ -48,11 +71,13 @@ OF_FRESH = {
     "octets": lambda oid: [Under.from_bytes(kind(bytes(oid))) for kind in (bytes, bytearray, memoryview)],
     "wrong octets": lambda oid: raised(ObjectIdentifier.from_bytes, bytes(oid) + WRONG),
     "der": lambda oid: (Under.from_der(oid.der), Under.read_der(bytearray(oid.der + WRONG))),
+    "views": lambda oid: (Under.read_der(memoryview(oid.der)), Under.read_der(memoryview(oid.der[::-1])[::-1])),
+    "wrong view": lambda oid: raised(ObjectIdentifier.read_der, memoryview(oid.der[:-1])),
     "wrong der": lambda oid: [raised(ObjectIdentifier.from_der, der) for der in (oid.der + WRONG, bytes(oid), "2")],
     "arcs": lambda oid: (ObjectIdentifier.from_arcs(oid.arcs), Under.from_arcs(list(oid)), Under.from_arcs(oid)),
     "wrong arcs": lambda oid: (raised(ObjectIdentifier.from_arcs, [3, *oid]), raised(oid.from_arcs, bytes(oid))),
     "wrong arc": lambda oid: [raised(ObjectIdentifier.from_arcs, [*oid, arc]) for arc in (2**70, -2, "2")],
-    "parent": lambda oid: (oid.parent, Under(oid).parent, OTHER.parent),
+    "parent": lambda oid: (oid.parent, Under(oid).parent, OTHER.parent, ObjectIdentifier("1.2")),
     "child": lambda oid: (oid.child(2**32 - 1), Under(oid).child(4)),
     "wrong child": lambda oid: (raised(oid.child, 2**32), raised(oid.child, -1), raised(oid.child, "1")),
     "starts_with": lambda oid: (oid.starts_with(OTHER), oid.starts_with(oid), raised(oid.starts_with, "1.2")),
@@ -62,8 +87,11 @@ OF_FRESH = {
     "sequence": lambda oid: (len(oid), oid[-1], oid[1:], list(oid), oid.count(1), raised(operator.getitem, oid, "")),
     "index": lambda oid: (oid.index(oid[2]), raised(oid.index, 7 * 10**9), raised(oid.index)),
     "in": lambda oid: (oid[2] in oid, int("70000") in oid, "1" in oid),
-    "copies": lambda oid: (copy.copy(oid), copy.deepcopy(oid), copy.copy(Under(oid)), copy.deepcopy(Under(oid))),
-    "pickles": lambda oid: pickle.loads(pickle.dumps((oid, Under(oid)))),
+    "copies": lambda oid: (copy.copy(oid), copy.deepcopy(oid)),
+    "copies of a subclass": lambda oid: (copy.copy(UNDER), copy.deepcopy(UNDER), copy.deepcopy(Under(oid))),
+    "finalizer": asked,
+    "hooks": hooked,
+    "pickles": lambda oid: pickle.loads(pickle.dumps((oid, UNDER, Under(oid)))),
     "map": lambda oid: (SortedMap({oid: 1}).nearest(oid.child(1)), SortedMap({oid: 1}).next_after(OTHER)),
 }
 CALLS = {
@@ -77,9 +105,9 @@ CALLS |= {
 }
 
 # What raises an exception in a function of Python, which may be lost where there is no memory.
-IN_PYTHON = ("pickles", "error", "wrong error")
-KEPT = [ObjectIdentifier, Under, OidError, OTHER, bytes(OTHER), WRONG, str, tuple, const_oid, _support]
-KEPT += [*OCTETS.values(), ObjectIdentifier.__name__, Under.__name__]
+IN_PYTHON = ("copies of", "finalizer", "hooks", "pickles", "error", "wrong error")
+KEPT = [ObjectIdentifier, Under, OidError, UNDER, GIVEN, OTHER, bytes(OTHER), WRONG, str, tuple, const_oid, _support]
+KEPT += [*OCTETS.values(), ObjectIdentifier.__name__, Under.__name__, None, True, False, NotImplemented, b"*", b"", 1]
 
 
 def measured():

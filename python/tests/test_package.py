@@ -20,7 +20,7 @@ from unittest import mock
 import const_oid
 import typed
 from const_oid import Code, ObjectIdentifier, OidError, SortedMap, names, sorted_map
-from test_values import Under, error_of
+from test_values import Under, error_of, is_linear
 
 HERE = pathlib.Path(__file__).resolve().parent
 TOP = HERE.parents[1]
@@ -95,6 +95,7 @@ class Package(unittest.TestCase):
             deep = b"\x30\x82" + len(deep).to_bytes(2) + deep
         self.assertIs(RecursionError, type(error_of(found, deep)))
         self.assertEqual([(len(deep) + 4, "1.2")], found(b"\4\x82" + len(deep).to_bytes(2) + deep + b"\6\1\x2a"))
+        self.assertTrue(is_linear(found, lambda count: (b"\6\x0d\x2a" + bytes(12)) * count))
 
     def test_numpy_takes_an_identifier_as_one_value(self):
         oids = [ObjectIdentifier("2.5.4"), ObjectIdentifier("2.5.6")]
@@ -125,6 +126,10 @@ class Package(unittest.TestCase):
             self.assertEqual(made, model.parse_raw(made.json()))
         for wrong in ("1.40", 3, None, [2, 5]):
             self.assertIsInstance(error_of(lambda: model(oid=wrong, key="2.5.4.3")), ValueError)
+        error = error_of(lambda: model(oid="1.40", key="2.5.4.3"))
+        for text in (str(error), error.json(), repr(error.errors())):
+            self.assertIn("OID contains out-of-range arc: 40, given '1.40'", text)
+        self.assertIn(error.errors()[0]["type"], ("value_error", "value_error.oid"))
         if hasattr(model, "model_json_schema"):
             self.assertEqual("string", model.model_json_schema()["properties"]["oid"]["type"])
 
@@ -151,14 +156,14 @@ class Package(unittest.TestCase):
         classes = ["Code", "ObjectIdentifier", "OidError", "SortedMap"]
         self.assertEqual(classes, re.findall(r"^    class (\w+)", said, re.M))
         for field, words in {"code": "Why", "detail": "The arc", "given": "The text"}.items():
-            self.assertRegex(said, rf" {field} = .*\n .*{words}")
+            self.assertRegex(said, rf" {field}\n .*{words}")
         for text in ("\nFUNCTIONS\n", "builtins.int:", "bit_length"):
             self.assertNotIn(text, said)
 
     def test_functions_have_examples(self):
         for owner in (names, ObjectIdentifier, OidError, SortedMap):
             for name in getattr(owner, "__all__", [name for name in vars(owner) if not name.startswith("_")]):
-                value = getattr(owner, name)
+                value = getattr(owner, name, None)
                 if callable(value) or isinstance(value, (property, types.GetSetDescriptorType)):
                     self.assertIn(">>> ", inspect.getdoc(value), name)
 
@@ -175,8 +180,25 @@ class Types(unittest.TestCase):
             arguments = [argument.arg for argument in functions[name].args.posonlyargs][1:]
             text = inspect.getattr_static(ObjectIdentifier, name).__text_signature__
             self.assertEqual(arguments, re.findall(r", (\w+)", text), name)
-        returns = {name: ast.unparse(node.returns) for name, node in functions.items()}
-        self.assertEqual(["parent"], [name for name, text in returns.items() if "None" in text])
+
+    def test_the_stub_has_the_results(self):
+        """What calls return has the type that is declared for it, in the order of the stub."""
+        stub = (TOP / "python/src/const_oid/_native.pyi").read_text(encoding="utf-8")
+        oid = Under("1.2.840")
+        calls = "read_der(memoryview(oid.der)) read_der(oid.der) __getitem__(0) __getitem__(slice(9)) "
+        calls += "arcs der child(1) from_bytes(bytes(oid)) from_der(oid.der) from_arcs(oid) starts_with(oid) index(2)"
+        calls += " count(2) __len__() __bytes__() __format__('') __hash__() __lt__(oid) __gt__(oid) __deepcopy__({})"
+
+        def described(value):
+            kind = {Under: "Self"}.get(type(value), type(value).__name__)
+            items = "int, ..." if value == oid.arcs else ", ".join(map(described, value)) if kind == "tuple" else ""
+            return f"{kind}[{items}]" if items else kind
+
+        made = {}
+        for call in calls.split():
+            made.setdefault(call.partition("(")[0], []).append(described(eval(f"oid.{call}")))
+        self.assertEqual({name: re.findall(rf"def {name}\(.*\) -> (.*): ", stub) for name in made}, made)
+        self.assertEqual(["parent"], re.findall(r"def (\w+)\(self.*None:", stub))
 
     def test_declared_uses_run(self):
         typed.uses()

@@ -72,6 +72,26 @@ class Attributes(SortedMap):
     __slots__ = ("__dict__", "slot")
 
 
+def is_interrupted(number, call, table):
+    """Whether a call is interrupted, as by Ctrl-C or for want of memory, before this instruction of sorted_map.py."""
+    left = itertools.count(-number)
+
+    def trace(frame, event, _):
+        frame.f_trace_opcodes = frame.f_code.co_filename == sorted_map.__file__
+        if frame.f_trace_opcodes and event == "opcode" and next(left) == 0:
+            raise KeyboardInterrupt
+        return trace
+
+    sys.settrace(trace)
+    try:
+        call(table)
+    except KeyboardInterrupt:
+        return True
+    finally:
+        sys.settrace(None)
+    return False
+
+
 class Sorted(unittest.TestCase):
     def check(self, found, table, arcs):
         """What a mapping says of an identifier is what a table of tuples says, with the mapping's own keys."""
@@ -124,6 +144,12 @@ class Sorted(unittest.TestCase):
         self.assertEqual([(oid, None), (oid.child(0), None)], list(SortedMap.fromkeys([oid.child(0), oid]).items()))
         made = Attributes.fromkeys(iter([oid]), [1])
         self.assertEqual((Attributes, {oid: [1]}), (type(made), made))
+        # A value that is false is there, too.
+        self.assertEqual([0, None, 5], [SortedMap({oid: value}).get(oid, 5) for value in (0, None, 5)])
+        self.assertEqual([0, 0], [call(oid, 5) for call in (SortedMap({oid: 0}).setdefault, SortedMap({oid: 0}).pop)])
+        table[oid.child(1)] = table
+        self.assertEqual(f"SortedMap({{{oid!r}: 1, {oid.child(1)!r}: {{...}}}})", repr(table))
+        del table[oid.child(1)]
         self.assertEqual((oid, 1), table.popitem())
         self.assertIs(KeyError, type(error_of(table.popitem)))
 
@@ -157,10 +183,11 @@ class Sorted(unittest.TestCase):
             "update and pop": lambda table, key: table.update({key.child(0): table.pop(key)}),
         }
         orders = (iter, reversed, lambda table: iter(table.items()), lambda table: iter(table.values()))
-        for (name, change), order, count in itertools.product(changes.items(), orders, (1, 6)):
-            table = SortedMap({ObjectIdentifier(f"2.{arc}"): arc for arc in range(count)})
+        for (name, change), order, count in itertools.product(changes.items(), orders, (1, 6, 0)):
+            table = SortedMap({ObjectIdentifier(f"2.{arc}"): arc for arc in range(count or 1)})
             keys = order(table)
-            next(keys)
+            if count or order not in orders[:2]:
+                next(keys)
             with self.subTest(name, count=count), self.assertRaisesRegex(RuntimeError, "^SortedMap changed"):
                 change(table, max(table))
                 next(keys)
@@ -169,6 +196,23 @@ class Sorted(unittest.TestCase):
             table[key] = 2
             table.update({key: 3})
         self.assertEqual([3, 3], list(table.values()))
+
+    def test_a_change_is_done_or_not(self):
+        """A change that is interrupted at any place leaves a map as before, or has all."""
+        keys = [ObjectIdentifier(f"2.{arc}") for arc in range(40)]
+        start, few = dict.fromkeys(keys[::2], 0), dict.fromkeys(keys[1:5], 1)
+        changes = [SortedMap.clear, SortedMap.popitem, lambda table: table.setdefault(keys[1], 1)]
+        changes += [lambda table: table.update(few), lambda table: operator.ior(table, dict.fromkeys(keys[:9], 1))]
+        changes += [lambda table: table.__init__(few), lambda table: table.pop(keys[2])]
+        for change, part in itertools.product(changes, (3, 1000)):
+            self.enterContext(mock.patch.object(sorted_map, "PART", part))
+            change(after := SortedMap(start))
+            for number in itertools.count():
+                is_whole = not is_interrupted(number, change, table := SortedMap(start))
+                wanted = after if is_whole or len(table) != len(start) or table != start else start
+                self.assertEqual((len(wanted), sorted(wanted.items())), (len(table), list(table.items())))
+                if is_whole:
+                    break
 
     def test_maps_join(self):
         one, other = {ObjectIdentifier("2.5"): 1}, {ObjectIdentifier("2.4"): 2, ObjectIdentifier("2.5"): 3}
@@ -187,6 +231,12 @@ class Sorted(unittest.TestCase):
         text = "key must be an ObjectIdentifier, not str (ObjectIdentifier takes text)"
         self.assertEqual(text, str(error_of(table.update, {ObjectIdentifier("2.7"): 1, "2.8": 2})))
         self.assertEqual(both, table)
+
+    def test_the_octets_of_a_subclass_are_those_of_the_identifier(self):
+        octets = type("Octets", (ObjectIdentifier,), {"__bytes__": lambda oid: oid.der})
+        for text in ("2.5.4.2.1", "2.5.4.3.0"):
+            found = SortedMap({octets("2.5.4"): 1, octets(text): 2}).nearest(octets("2.5.4.3.1"))
+            self.assertEqual((octets("2.5.4"), 1), found)
 
     def test_a_long_identifier_is_found_in_linear_time(self):
         """The search for a prefix makes not all prefixes of what it is given, nor of what that shares with a key."""

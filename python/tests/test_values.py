@@ -3,6 +3,10 @@ import array
 import collections.abc
 import concurrent.futures
 import copy
+import copyreg
+import ctypes
+import importlib
+import itertools
 import operator
 import os
 import pickle
@@ -12,8 +16,10 @@ import threading
 import time
 import unittest
 import weakref
+from unittest import mock
 
-from const_oid import Code, ObjectIdentifier, OidError
+import const_oid
+from const_oid import Code, ObjectIdentifier, OidError, _native
 
 OID = ObjectIdentifier("1.2.840.10045.2.1")
 OCTETS = bytes.fromhex("2A8648CE3D0201")
@@ -38,7 +44,8 @@ WRONG = [
     (ObjectIdentifier.from_bytes, 3, "OID contains arc with invalid base 128 encoding", {b"\x2a\x80\x01": (0, None)}),
     (ObjectIdentifier.from_der, 5, "OID value is empty", {b"\6\0": (0, None)}),
     (ObjectIdentifier.from_der, 14, "the tag is not 6", {b"": (0, None), b"\x26\1\x2a": (0, None)}),
-    (ObjectIdentifier.from_der, 14, "octets come after the element", {b"\6\1\x2a\0": (0, None)}),
+    (ObjectIdentifier.from_der, 14, "octets come after the element",
+        {b"\6\1\x2a" + bytes(count): (0, None) for count in (1, 2, 3)}),
     (ObjectIdentifier.read_der, 14, "the length is not in the form of DER, or octets are missing",
         {b"\6": (0, None), b"\6\2\x2a": (0, None), b"\6\x81\1\x2a": (0, None), b"\6\x80\x2a\0\0": (0, None)}),
     (ObjectIdentifier.from_arcs, 5, "OID value is empty", {(): (0, None)}),
@@ -51,6 +58,8 @@ WRONG = [
 
 INTERPRETED = """
 import os, const_oid
+for _ in range(100_000):
+    bytes(const_oid.ObjectIdentifier("1.2"))
 try:
     const_oid.ObjectIdentifier("1.40")
 except const_oid.OidError as error:
@@ -83,6 +92,17 @@ class Index:
         return 999
 
 
+# What raises an IndexError where it is read, and a ValueError where it is compared.
+OWN = {"__index__": lambda _: ()[0], "__eq__": lambda *_: int("x"), "__hash__": object.__hash__}
+RAISING = type("Raising", (), OWN)()
+
+# Subclasses with a state that is a tuple and without setattr; with a way of their own to be copied; and by copyreg.
+OWN = {"__setattr__": None, "__getstate__": lambda oid: ("state", "kept")}
+Kept = type("Kept", (Under,), OWN | {"__setstate__": lambda oid, state: vars(oid).update(text=state[1])})
+Reduced = type("Reduced", (Kept,), {"__reduce__": lambda oid: (Reduced, ("2.5",), ("", "reduced"))})
+Listed = type("Listed", (Under,), {})
+copyreg.pickle(Listed, lambda oid: (Listed, ("2.5",), {"text": "listed"}))
+
 OfSystem = type("OfSystem", (OidError, OSError), {})
 Bare = type("Bare", (OidError,), {"__init__": lambda error, *args: None})
 
@@ -102,6 +122,12 @@ def seconds(call, *given):
     return time.process_time() - start
 
 
+def is_linear(call, of):
+    """Whether an input that is eight times as long takes less than 24 times as long."""
+    short, long = of(10_000), of(80_000)
+    return min(seconds(call, long) for _ in range(3)) < 24 * min(seconds(call, short) for _ in range(5))
+
+
 def copies_of(value, protocols=range(pickle.HIGHEST_PROTOCOL + 1)):
     """Pickles, and deep copies."""
     pickles = [pickle.loads(pickle.dumps(value, protocol)) for protocol in protocols]
@@ -114,7 +140,8 @@ class Inputs(unittest.TestCase):
             ObjectIdentifier: [b"1.2", None, 1, 1.2, ("1", "2")],
             ObjectIdentifier.from_bytes: ["2.999", None, 42, [42, 3], OID, array.array("B", [42])],
             ObjectIdentifier.from_der: ["2.999", None, 42, [6, 1, 42], OID, array.array("B", [6, 1, 42])],
-            ObjectIdentifier.from_arcs: ["12", "", b"\x01\x02", bytearray(b"\x01"), None, 1, [1, "2"], [1.0, 2]],
+            ObjectIdentifier.from_arcs: ["12", b"\1\2", bytearray(b"\1"), None, 1, [1, "2"], [1.0, 2], {1: 2, 2: 3}],
+            OID.__format__: [5, b"", None],
             (lambda arcs: ObjectIdentifier.from_arcs((1, 2**32, *arcs))): ["3", [2.0], None],
             OID.child: ["1", 1.0, None, OID],
             OID.starts_with: ["1.2", b"\x2a", None, (1, 2)],
@@ -133,6 +160,19 @@ class Inputs(unittest.TestCase):
             taken = [call(octets) for octets in (*given, type("Octets", (bytes,), {})(octets))]
             source[:] = bytes(len(source))
             self.assertEqual([(bytes, OCTETS)] * 6, [(type(bytes(oid)), bytes(oid)) for oid in taken])
+
+    def test_the_rest_after_an_element(self):
+        """It has any length. That of a memoryview in a row is one, of the same memory."""
+        for rest in (b"", bytes(3), bytes(range(256)) * 300):
+            octets = b"\6\7" + OCTETS + rest
+            view, wide = memoryview(bytearray(octets)), memoryview(octets).cast("B", [3, len(octets) // 3])
+            kinds = [(octets, bytes), (view.obj, bytes), (view, memoryview), (wide, bytes)]
+            for given, kind in [*kinds, (memoryview(octets[::-1])[::-1], memoryview)]:
+                oid, found = ObjectIdentifier.read_der(given)
+                self.assertEqual((OID, rest, kind), (oid, bytes(found), type(found)))
+            self.assertIs(view.obj, ObjectIdentifier.read_der(view)[1].obj)
+        self.assertIs(bytes, type(error_of(ObjectIdentifier.read_der, memoryview(b"\6\2\x2a")).given))
+        self.assertIs(TypeError, type(error_of(ObjectIdentifier.read_der, memoryview(array.array("H", [0x106, 42])))))
 
     def test_arcs_come_from_any_iterable(self):
         """Arcs are those of a list before it changes, and no other call comes between them."""
@@ -172,11 +212,25 @@ class Inputs(unittest.TestCase):
             (OID.index, 2, 0, 1): "2 is not among the arcs",
             **{(operator.getitem, OID, index): "index out of range" for index in (6, -7, 10**50)},
         }
-        kinds = {"an arc is": ValueError, "3 is not ": ValueError, "2 is not ": ValueError, "index out": IndexError}
+        said |= {(call, RAISING): "tuple index out of range" for call in (OID.__getitem__, OID.child)}
+        said |= {(call, RAISING): "invalid literal for int() with base 10: 'x'" for call in (OID.index, OID.count)}
+        kinds = {"an arc is": ValueError, "3 is not ": ValueError, "2 is not ": ValueError, "invalid l": ValueError}
+        kinds |= {"index out": IndexError, "tuple ind": IndexError}
         for (call, *given), text in said.items():
             with self.subTest(text):
                 error = error_of(call, *given)
                 self.assertEqual((kinds.get(text[:9], TypeError), text), (type(error), str(error)))
+
+    def test_the_callers_modules_do_not_matter(self):
+        """Errors, of one class, and copies need nothing of the caller's builtins or of sys.modules."""
+        calls = {"kind('1.40')": OidError, "kind(1)": TypeError, "oid.__copy__()": type(None), "copy(oid)": type(None)}
+        scope = {"__builtins__": {}, "kind": ObjectIdentifier, "oid": Named("2.999"), "copy": copy.deepcopy}
+        with mock.patch.dict(sys.modules), mock.patch.dict(vars(const_oid)):
+            for missing in ([], ["_support"], ["_support", "_native", "sorted_map", "names"]):
+                for name in missing:
+                    del sys.modules[f"const_oid.{name}"]
+                self.assertEqual(calls, {call: type(error_of(eval, call, {**scope})) for call in calls})
+                importlib.import_module("const_oid._support")
 
     def test_an_identifier_in_place_of_a_text(self):
         """An identifier in place of a text: itself, or one of another class with its octets."""
@@ -241,14 +295,17 @@ class Inputs(unittest.TestCase):
         self.assertEqual((3, 0), error_of(ObjectIdentifier.from_bytes, octets + b"\x80").args)
         self.assertEqual((2, 0), error_of(ObjectIdentifier.from_arcs, (*arcs, 2**32)).args)
 
-    def test_long_texts_take_linear_time(self):
-        """Eight times as long a text takes less than 24 times as long, as an identifier and as an error."""
+    def test_long_inputs_take_linear_time(self):
+        """Of a text, a text with an error, and elements in a row."""
+        def read(rest):
+            while rest:
+                _, rest = ObjectIdentifier.read_der(rest)
+
         printed, piece = lambda text: str(ObjectIdentifier(text)), lambda text: error_of(ObjectIdentifier, text).piece
-        for end, call in {"": printed, ".x": piece}.items():
-            short, long = ("1.2" + ".4294967295.7" * count + end for count in (10_000, 80_000))
-            self.assertEqual(160_002 if end else long, call(long))
-            limit = 24 * min(seconds(call, short) for _ in range(5))
-            self.assertLess(min(seconds(call, long) for _ in range(3)), limit)
+        text, wrong = lambda count: "1.2" + ".4294967295.7" * count, lambda count: text(count) + ".x"
+        self.assertEqual((text(80_000), 160_002), (printed(text(80_000)), piece(wrong(80_000))))
+        for call, of in ((printed, text), (piece, wrong), (read, lambda count: memoryview(b"\6\1\x2a" * count))):
+            self.assertTrue(is_linear(call, of))
 
 
 class Values(unittest.TestCase):
@@ -285,6 +342,11 @@ class Values(unittest.TestCase):
         self.assertEqual("changed", oid.text)
         self.assertTrue(copy.copy(OID) is OID and copy.deepcopy(OID) is OID)
 
+    def test_copies_are_made_as_pickles_are(self):
+        for kind, text in {Kept: "kept", Reduced: "reduced", Listed: "listed"}.items():
+            for made in (copy.copy(kind("2.999")), *copies_of(kind("2.999"))):
+                self.assertEqual((kind, text), (type(made), made.text))
+
     def test_pickles_are_short_and_checked(self):
         """A pickle has little more than the octets, which are checked as it is read."""
         oids = [ObjectIdentifier(f"1.3.6.1.2.1.{arc}.4.7") for arc in range(2, 102)]
@@ -292,6 +354,16 @@ class Values(unittest.TestCase):
         self.assertLess(len(pickle.dumps(oids)) - alone, 99 * (8 + 10))
         wrong = pickle.dumps(OID, 4).replace(OCTETS, OCTETS[:-1] + b"\x80")
         self.assertEqual((3, 0), error_of(pickle.loads, wrong).args)
+        # Made by version 1.2.0.
+        old = b"\x80\4\x95\x90\0\0\0\0\0\0\0\x8c\x11const_oid._native\x94\x8c\x08restored\x94\x93\x94C\3U\4\3\x94\x85"
+        old += b"\x94R\x94\x8c\x14const_oid.sorted_map\x94\x8c\tSortedMap\x94\x93\x94)\x81\x94N}\x94(\x8c\5_keys\x94N"
+        old += b"\x8c\7_values\x94}\x94(h\2C\2U\4\x94\x85\x94R\x94K\0h\2C\3U\4\3\x94\x85\x94R\x94K\1uu\x86\x94b\x86"
+        old += b"\x94."
+        oid, table = pickle.loads(old)
+        self.assertEqual(("2.5.4.3", [(oid.parent, 0), (oid, 1)]), (str(oid), list(table.items())))
+        for other in (int, None, OID):
+            with mock.patch.object(_native, "ObjectIdentifier", other):
+                self.assertIs(TypeError, type(error_of(pickle.loads, old)))
 
     def test_nothing_changes_an_identifier(self):
         for name in ("arcs", "der", "parent", "_octets", "_known", "other"):
@@ -322,15 +394,25 @@ class Values(unittest.TestCase):
             a, b = ObjectIdentifier.from_arcs(left), ObjectIdentifier.from_arcs(right)
             wanted = (left == right, left != right, left < right, left <= right, left > right, left >= right)
             self.assertEqual(wanted, (a == b, a != b, a < b, a <= b, a > b, a >= b), (left, right))
-            found = (hash(a) == hash(b), a.starts_with(b))
+            found = (hash(a) == hash(b), draw.choice([a, Under(a)]).starts_with(draw.choice([b, Under(b)])))
             self.assertEqual((left == right, left[: len(right)] == right), found, (left, right))
 
     def test_an_identifier_is_a_sequence(self):
         self.assertEqual([1, 2, 840, 10045, 2, 1], list(OID))
         self.assertEqual((6, 1, 1, (10045, 1)), (len(OID), OID[0], OID[-1], OID[3::2]))
         self.assertEqual((True, False, True, False), (840 in OID, 841 in OID, True in OID, 10**5000 in OID))
+        self.assertFalse(any(octet in OID for octet in OCTETS[1:5]))
         self.assertEqual([False, False, False, True], [item in OID for item in ("1", None, OID, 1.0)])
         self.assertEqual((1, 4, 2), (OID.index(2), OID.index(2, 2), OID.count(1)))
+        item = ctypes.pythonapi.PySequence_GetItem
+        item.argtypes, item.restype = (ctypes.py_object, ctypes.c_ssize_t), ctypes.py_object
+        bounds = (-(10**50), *range(-8, 9), 10**50)
+        calls = [(call, start) for call in (operator.getitem, item) for start in range(-13, 9)]
+        calls += [(tuple.index, 1, *given) for given in [*zip(bounds), *itertools.product(bounds, bounds)]]
+        for call, *given in calls:
+            own, error = ObjectIdentifier.index if call is tuple.index else call, error_of(call, OID.arcs, *given)
+            self.assertIs(type(error), type(error_of(own, OID, *given)), given)
+            self.assertTrue(error or call(OID.arcs, *given) == own(OID, *given), given)
         self.assertEqual([1, 2, 10045, 840, 2, 1], list(reversed(OID)))
         self.assertIsInstance(OID, collections.abc.Sequence)
         self.assertEqual([b"\x2a\x03", b"\1\2\3"], [kind(ObjectIdentifier("1.2.3")) for kind in (bytes, bytearray)])
@@ -398,17 +480,18 @@ class Values(unittest.TestCase):
             list(threads.map(work, range(8)))
 
     def test_interpreters_have_their_own_class(self):
+        """Four at once, which have locks of their own since Python 3.12."""
         try:
             import _interpreters as interpreters
         except ImportError:
             import _xxsubinterpreters as interpreters
         read, write = os.pipe()
-        for _ in range(3):
-            own = interpreters.create()
-            interpreters.run_string(own, INTERPRETED.format(write))
-            interpreters.destroy(own)
+        own = [interpreters.create() for _ in range(4)]
+        with concurrent.futures.ThreadPoolExecutor(4) as threads:
+            list(threads.map(lambda one: interpreters.run_string(one, INTERPRETED.format(write)), own))
+        list(map(interpreters.destroy, own))
         os.close(write)
         with open(read, encoding="utf-8") as lines:
             said = [line.split() for line in lines]
-        self.assertEqual([["2.999", "40"]] * 3, [words[:-1] for words in said])
+        self.assertEqual([["2.999", "40"]] * 4, [words[:-1] for words in said])
         self.assertNotIn(str(id(ObjectIdentifier)), [words[-1] for words in said])

@@ -1,7 +1,9 @@
 """backend.py: the wheel, what is installed of it, and how it is built."""
 import ast
 import base64
+import concurrent.futures
 import email
+import functools
 import hashlib
 import importlib.metadata
 import importlib.util
@@ -16,6 +18,7 @@ import tarfile
 import tempfile
 import unittest
 import zipfile
+from unittest import mock
 
 TOP = pathlib.Path(__file__).resolve().parents[2]
 sys.path.append(str(TOP / "python"))
@@ -38,6 +41,9 @@ REFUSED = {
     r"^const-oid: needs Python 3\.11 or later, and this is 3\.8\.18$": {"before": OLD},
     "^const-oid: a free-threaded Python has no stable ABI, for which the module is written$":
         {"before": "import sysconfig; sysconfig.get_config_var = {'Py_GIL_DISABLED': 1}.get"},
+    r"^const-oid: the one setting that there is is library=installed, and these are \{'library': 'instaled'\}$":
+        {"settings": {"library": "instaled"}},
+    r"^const-oid: the one setting .* \{'libary': 'installed'\}$": {"settings": {"libary": "installed"}},
     FIRST + r"/missing/Python\.h \(Debian: python3-dev\)$":
         {"before": "import sysconfig; sysconfig.get_path = lambda name: '/missing'"},
     FIRST + r"a C compiler, \S+ \(Debian: gcc\); cargo and rustc, 1": {"settings": None, "PATH": "/missing"},
@@ -156,7 +162,35 @@ class Wheel(unittest.TestCase):
         folders = [f"-I{backend.INCLUDE}", f"-I{TOP / 'crates/const_oid_c/include'}"]
         command = [*backend.COMPILER, "-std=c11", *folders, TOP / "python/src/native.c"]
         self.assertIn("#define Py_LIMITED_API 0x030B0000\n", said_by(*command, "-E", "-dM"))
+        # Macros of a header are for its own Python, and so is a # in a format.
+        source = (TOP / "python/src/native.c").read_text(encoding="utf-8")
+        self.assertNotRegex(source, r'Py_(X?(INC|DEC|SET)REF|CLEAR|RETURN_\w+)[(;]|"\w+#')
         said_by(*command, "-Wall", "-Wextra", "-Werror", "-fsyntax-only")
+
+
+    def test_the_flags(self):
+        """Any other would make another module."""
+        said, files = [], [f"-I{backend.INCLUDE}", f"-I{backend.HEADER.parent}", f"{TOP}/python/src/native.c"]
+        output = {"_output": lambda *call: said.append([*map(str, call)]) or "host: this\n", "_missing": lambda _: ()}
+        with mock.patch.multiple(backend, **output), mock.patch.dict(os.environ, CFLAGS="-g", LDFLAGS="-L."):
+            backend._compile("module", None)
+        folder = said[1][said[1].index("--target-dir") + 1]
+        cargo = f"cargo build --quiet --release --locked --offline --target this --target-dir {folder} --manifest-path"
+        flags = "-std=c11 -O2 -fPIC -fno-plt -fvisibility=hidden -g -shared -Wl,--exclude-libs,ALL -s".split()
+        files += [f"{folder}/this/release/libconst_oid_c.a", "-o", "module", "-L."]
+        wanted = [[backend.RUSTC, "-vV"], [*cargo.split(), str(backend.CRATE)], [*backend.COMPILER, *flags, *files]]
+        self.assertEqual(wanted, said)
+
+    def test_a_library_below_a_space(self):
+        """The library may lie below a folder with a space, and CC be empty."""
+        include, library = backend._installed()
+        with tempfile.TemporaryDirectory(prefix="a b") as folder:
+            paths = "libdir=${pcfiledir}\nincludedir=${pcfiledir}\nName: a\nDescription: a\nVersion: 1\n"
+            pathlib.Path(folder, "const_oid_c.pc").write_text(paths, encoding="utf-8")
+            list(map(shutil.copy, (library, f"{include}/const_oid.h"), 2 * [folder]))
+            for compiler in ("", " "):
+                status, name, _ = built("build_wheel", PKG_CONFIG_PATH=folder, CC=compiler)
+                self.assertEqual((0, self.name), (status, name))
 
 
 def unpacked(archive, folder):
@@ -192,8 +226,12 @@ class Build(unittest.TestCase):
             # What an earlier build left goes.
             (top / "python/out/const_oid").mkdir(parents=True)
             (top / "python/out/const_oid/stale.py").touch()
-            status, name, files = built("build_editable", python=top / "python")
-            self.assertEqual(0, status, name)
+            # Of two at once each waits for the other, however slow.
+            slow = "import shutil, time; rm = shutil.rmtree; shutil.rmtree = lambda *_, **__: rm(*_) or time.sleep(1)"
+            with concurrent.futures.ThreadPoolExecutor(2) as builds:
+                build = functools.partial(built, "build_editable", python=top / "python", before=slow)
+                (status, name, files), other = builds.map(lambda _: build(), range(2))
+            self.assertEqual((0, 0), (status, other[0]), (name, other[1]))
             self.assertEqual(PACKAGE, set(os.listdir(top / "python/out/const_oid")))
             with zipfile.ZipFile(io.BytesIO(files[name])) as archive:
                 information = {name for name in FILES if "dist-info" in name}

@@ -17,7 +17,8 @@ def uses() -> None:
     assert_type(ObjectIdentifier(under), ObjectIdentifier)
     for octets in (b"\6\1\x2a", bytearray(b"\6\1\x2a"), memoryview(b"\6\1\x2a")):
         assert_type((Under.from_bytes(octets), Under.from_der(octets)), tuple[Under, Under])
-        assert_type(Under.read_der(octets), tuple[Under, bytes])
+    assert_type(Under.read_der(b"\6\1\x2a"), tuple[Under, bytes])
+    assert_type(Under.read_der(memoryview(b"\6\1\x2a")), tuple[Under, memoryview])
     assert_type((Under.from_arcs([2, 999]), Under.from_arcs(oid), under.child(3)), tuple[Under, Under, Under])
     assert_type((under.parent, oid.arcs, oid[1:]), tuple[Under | None, tuple[int, ...], tuple[int, ...]])
     assert_type((oid.starts_with(under), 840 in oid), tuple[bool, bool])

@@ -13,6 +13,7 @@ recursion limit with a RecursionError. An OCTET STRING with such contents is pas
 
 >>> import contextlib
 >>> def identifiers(der, place=0):
+...     der = memoryview(der)  # of which a slice is no copy
 ...     while der:
 ...         start, length = 2, int.from_bytes(der[1:2])
 ...         if length >= 128:  # then it is how many octets the length has

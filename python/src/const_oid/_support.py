@@ -1,17 +1,22 @@
 """Errors, and what else the extension module calls in Python."""
 
 import copy
+import copyreg
 import enum
 import importlib
 import re
 import reprlib
 import sys
 from collections.abc import Sequence
+from types import SimpleNamespace
 from typing import Any
 
+from . import _native
 from ._native import ObjectIdentifier, error_text, wrong_component
 
 Sequence.register(ObjectIdentifier)
+# The extension module holds the first one, so that it raises one class of errors, whatever happens to sys.modules.
+vars(_native).setdefault("support", sys.modules[__name__])
 
 
 class _Listed(enum.EnumType):
@@ -95,8 +100,7 @@ class _Field:
         self.name, self.__doc__ = name, words
 
     def __get__(self, error: object, kind: type) -> Any:
-        if error is None:
-            return self
+        # Nor has the class, whose `code` pydantic 1 would take for a text.
         raise AttributeError(f"{kind.__name__!r} object has no attribute {self.name!r}")
 
 
@@ -149,16 +153,22 @@ def required(oid: object, name: str) -> ObjectIdentifier:
     return oid
 
 
-def copied(oid: ObjectIdentifier, memos: tuple[dict[int, object], ...]) -> ObjectIdentifier:
-    """An identifier; if of a subclass, a copy with its attributes, which are copied too if there is a memo."""
-    made, state = type(oid)(ObjectIdentifier(oid)), oid.__getstate__()
-    for memo in memos:
-        memo[id(oid)] = made
-        state = copy.deepcopy(state, memo)
-    for attributes in state if isinstance(state, tuple) else (state,):
-        for name, value in (attributes or {}).items():
-            setattr(made, name, value)
-    return made
+def copied(oid: ObjectIdentifier, memos: tuple[dict[int, object], ...]) -> object:
+    """An identifier; if of a subclass, a copy by the protocol of pickle, and a deep one if there is a memo."""
+    reductor = copyreg.dispatch_table.get(type(oid))
+    parts: Any = oid if type(oid) is ObjectIdentifier else reductor(oid) if reductor else oid.__reduce_ex__(4)
+    if not isinstance(parts, tuple):
+        return oid
+
+    def made(*given: object) -> object:
+        result = parts[0](*given)
+        for memo in memos:  # where attributes refer to the identifier
+            memo[id(oid)] = result
+        return result
+
+    # The module copy would call __copy__ of the identifier again.
+    source: Any = SimpleNamespace(__reduce_ex__=lambda _: (made, *parts[1:]))
+    return copy.deepcopy(source, *memos) if memos else copy.copy(source)
 
 
 def reduced(oid: ObjectIdentifier) -> tuple[object, ...]:

@@ -2,9 +2,10 @@
 
 import copy
 from bisect import bisect, bisect_left, insort
-from collections.abc import Callable, Iterable, Iterator, Mapping, MutableMapping
+from collections.abc import Iterable, Iterator, Mapping, MutableMapping
 from itertools import chain
 from operator import itemgetter
+from reprlib import recursive_repr
 from typing import Any, Self, TypeVar
 
 from ._native import ObjectIdentifier
@@ -34,8 +35,14 @@ class SortedMap(MutableMapping[ObjectIdentifier, Value]):
     __slots__ = ("_keys", "_values")
 
     def __init__(self, entries: Mapping[Key, Value] | Iterable[tuple[ObjectIdentifier, Value]] = ()) -> None:
+        self._keys: _Keys | None = None  # during a change, and until the next call if it was interrupted
         self._values = _checked(entries)
         self._keys = _Keys(self._values)
+
+    def _in_order(self) -> "_Keys":
+        """The keys, sorted again after a change that was interrupted."""
+        self._keys = keys = _Keys(self._values)
+        return keys
 
     def nearest(self, oid: ObjectIdentifier) -> tuple[ObjectIdentifier, Value] | None:
         """The entry whose key is the longest prefix of an identifier, or None. A slice gives the arcs after the key.
@@ -48,7 +55,8 @@ class SortedMap(MutableMapping[ObjectIdentifier, Value]):
         """
         # A key that is a prefix of the identifier is also one of the last key that is not after it.
         above: ObjectIdentifier | None = required(oid, "key")
-        while above is not None and (last := self._keys.last_until(above)) is not None:
+        keys = self._keys or self._in_order()
+        while above is not None and (last := keys.last_until(above)) is not None:
             if above.starts_with(last):
                 return last, self._values[last]
             above = _common_prefix(above, last)
@@ -61,7 +69,7 @@ class SortedMap(MutableMapping[ObjectIdentifier, Value]):
         >>> names.next_after(ObjectIdentifier("2.5.4"))
         (ObjectIdentifier('2.5.10'), 2)
         """
-        key = self._keys.first_after(required(oid, "key"))
+        key = (self._keys or self._in_order()).first_after(required(oid, "key"))
         return None if key is None else (key, self._values[key])
 
     def subtree(self, oid: ObjectIdentifier) -> list[tuple[ObjectIdentifier, Value]]:
@@ -72,7 +80,7 @@ class SortedMap(MutableMapping[ObjectIdentifier, Value]):
         >>> names.subtree(ObjectIdentifier("2.5"))
         [(ObjectIdentifier('2.5.4'), 1), (ObjectIdentifier('2.5.4.3'), 2)]
         """
-        return [(key, self._values[key]) for key in self._keys.subtree(required(oid, "key"))]
+        return [(key, self._values[key]) for key in (self._keys or self._in_order()).subtree(required(oid, "key"))]
 
     def copy(self) -> Self:
         """A map with the same keys and values, which are not copied.
@@ -109,6 +117,7 @@ class SortedMap(MutableMapping[ObjectIdentifier, Value]):
         >>> table.clear(), table
         (None, SortedMap({}))
         """
+        self._keys = None
         self._values.clear()
         self._keys = _Keys(())
 
@@ -122,14 +131,15 @@ class SortedMap(MutableMapping[ObjectIdentifier, Value]):
         >>> table
         SortedMap({ObjectIdentifier('2.4'): 3, ObjectIdentifier('2.5'): 2})
         """
-        values = _checked(entries)
-        added = values.keys() - self._values.keys()
-        self._values.update(values)
-        if 8 * len(added) > len(self._values):
-            self._keys = _Keys([*self._keys, *added])
-        else:
-            for key in added:
-                self._keys.add(key)
+        others, keys = _checked(entries), self._keys or self._in_order()
+        values, added = self._values | others, [key for key in others if key not in self._values]
+        if 8 * len(added) > len(values):
+            keys, added = _Keys([*keys, *added]), []
+        self._keys = None
+        for key in added:
+            keys.add(key)
+        self._values = values
+        self._keys = keys
 
     def __or__(self, other: Mapping[Key, Value]) -> Self:
         if not isinstance(other, Mapping):
@@ -157,42 +167,53 @@ class SortedMap(MutableMapping[ObjectIdentifier, Value]):
             raise
 
     def __setitem__(self, key: ObjectIdentifier, value: Value) -> None:
+        keys = self._keys or self._in_order()
         if required(key, "key") not in self._values:
-            self._keys.add(key)
+            self._keys = None
+            keys.add(key)
         self._values[key] = value
+        self._keys = keys
 
     def __delitem__(self, key: ObjectIdentifier) -> None:
-        del self._values[required(key, "key")]
-        self._keys.remove(key)
+        keys = self._keys or self._in_order()
+        if required(key, "key") not in self._values:
+            raise KeyError(key)
+        self._keys = None
+        keys.remove(key)
+        del self._values[key]
+        self._keys = keys
 
     def __contains__(self, key: object) -> bool:
         return key in self._values or required(key, "key") in self._values
 
     def __iter__(self) -> Iterator[ObjectIdentifier]:
-        return self._walk(iter)
+        keys = self._keys or self._in_order()
+        return self._walk(keys, keys.changes, iter(keys))
 
     def __reversed__(self) -> Iterator[ObjectIdentifier]:
-        return self._walk(reversed)
+        keys = self._keys or self._in_order()
+        return self._walk(keys, keys.changes, reversed(keys))
 
-    def _walk(self, order: Callable[[Any], Iterator[ObjectIdentifier]]) -> Iterator[ObjectIdentifier]:
-        """Yields the keys, and fails if others have been added or removed."""
-        keys = self._keys
-        changes = keys.changes
-        for key in order(keys):
-            yield key
+    def _walk(self, keys: "_Keys", changes: int, order: Iterator[ObjectIdentifier]) -> Iterator[ObjectIdentifier]:
+        """Yields the keys, and fails if others have been added or removed since the call."""
+        for key in chain((None,), order):
+            if key is not None:
+                yield key
             if self._keys is not keys or keys.changes != changes:
                 raise RuntimeError(f"{type(self).__name__} changed during iteration")
 
     def __len__(self) -> int:
         return len(self._values)
 
+    @recursive_repr("{...}")
     def __repr__(self) -> str:
         return f"{type(self).__name__}({dict(self.items())!r})"
 
     def __getstate__(self) -> tuple[dict[str, Any] | None, dict[str, Any]]:
         """For copies and pickles: the entries in order, and the attributes of a subclass."""
         attributes, slots = super().__getstate__()  # type: ignore[misc]
-        return attributes, {**slots, "_values": {key: self._values[key] for key in self._keys}, "_keys": None}
+        values = {key: self._values[key] for key in self._keys or self._in_order()}
+        return attributes, {**slots, "_values": values, "_keys": None}
 
     def __setstate__(self, state: tuple[dict[str, Any] | None, dict[str, Any]]) -> None:
         attributes, slots = state
@@ -211,7 +232,7 @@ def _checked(entries: Mapping[Key, Value] | Iterable[tuple[ObjectIdentifier, Val
 
 def _common_prefix(oid: ObjectIdentifier, other: ObjectIdentifier) -> ObjectIdentifier | None:
     """The longest identifier that begins both, or None."""
-    left, right = bytes(oid), bytes(other)
+    left, right = ObjectIdentifier.__bytes__(oid), ObjectIdentifier.__bytes__(other)
     count = min(len(left), len(right))
     differing = int.from_bytes(left[:count], "big") ^ int.from_bytes(right[:count], "big")
     # A subidentifier ends with an octet below 128.
