@@ -191,8 +191,9 @@ fn a_set_has_the_borrowed_order(rt: HostRuntime) -> Result<(), Fail> {
         oids.insert(read_borrowed(octets)?)?;
     }
     assert!(rt; oids.len() == ASCENDING.len());
-    for (oid, octets) in oids.iter().zip(ASCENDING) {
-        assert!(rt; oid.as_bytes() == *octets, "{oid}");
+    for (index, (oid, octets)) in oids.iter().zip(ASCENDING).enumerate() {
+        let is_under = oid.arc(0) == Some(1) && oid.arc(1) == Some(2);
+        assert!(rt; oid.as_bytes() == *octets && is_under == (1..8).contains(&index), "{oid}");
     }
     Ok(())
 }
