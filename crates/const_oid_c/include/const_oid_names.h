@@ -20,8 +20,8 @@
 
 #include "const_oid.h"
 
-/* CONST_OID_ARRAY: an array of uint8_t and its length. C++, gcc and clang reject a pointer, and any other array. It takes
- * all octets. So initialize the array by numbers, since a string literal adds a zero at its end. Of a buffer that is
+/* CONST_OID_ARRAY: an array of uint8_t and its length. C++, gcc and clang reject a pointer, and any other array. All
+ * octets count. So initialize the array by numbers, since a string literal adds a zero at its end. Of a buffer that is
  * filled in part, give the pointer, and the `len` of the status. */
 #ifdef __cplusplus
 #define CONST_OID_OCTETS(constant) reinterpret_cast<const uint8_t *>("" constant ""), sizeof("" constant "") - 1

@@ -26,7 +26,7 @@ pub fn const_oid_from_text(text: &[u8], out: &mut crate::edge::Output<u8>) -> St
 #[inline(never)]
 extern "C" fn write_after_fault(text: &[u8], out: &mut crate::edge::Output<u8>, fault: Error, index: usize) -> Status {
     // Only a wrong text can fail to be UTF-8: a valid one has ASCII digits and dots alone.
-    if !text.is_ascii() && str::from_utf8(text).is_err() {
+    if !is_utf8(text) {
         return code_status(NOT_UTF8);
     }
     // At a greater capacity, only `Length` can become another result.
@@ -34,6 +34,11 @@ extern "C" fn write_after_fault(text: &[u8], out: &mut crate::edge::Output<u8>, 
         Error::Length => write_long_text(text, out),
         other => fault_at(index, other),
     }
+}
+
+/// Whether a text is UTF-8: most wrong ones are ASCII, which is seen in fewer steps.
+fn is_utf8(text: &[u8]) -> bool {
+    text.is_ascii() || str::from_utf8(text).is_ok()
 }
 
 /// Writes the contents octets of the identifier that dotted text denotes, of any length, or counts those that do not
