@@ -529,7 +529,8 @@ static PyMethodDef identifier_methods[] = {
         "ObjectIdentifier('1.2.840')"},
     {"read_der", identifier_read_der, METH_O | METH_CLASS,
         "read_der($type, octets, /)\n--\n\n"
-        "Decodes the element that octets begin with, and returns the identifier and the octets after it.\n\n"
+        "Decodes the element that octets begin with, and returns the identifier and the octets after it. Those of a\n"
+        "memoryview are another one and no copy, so that a loop takes linear time.\n\n"
         ">>> ObjectIdentifier.read_der(b\"\\x06\\x03\\x2a\\x86\\x48\\x05\\x00\")\n"
         "(ObjectIdentifier('1.2.840'), b'\\x05\\x00')"},
     {"from_arcs", identifier_from_arcs, METH_O | METH_CLASS,

@@ -2,7 +2,7 @@
 
 import copy
 from bisect import bisect, bisect_left, insort
-from collections.abc import Iterable, Iterator, Mapping, MutableMapping
+from collections.abc import Callable, Iterable, Iterator, Mapping, MutableMapping
 from itertools import chain
 from operator import itemgetter
 from reprlib import recursive_repr
@@ -187,18 +187,23 @@ class SortedMap(MutableMapping[ObjectIdentifier, Value]):
         return key in self._values or required(key, "key") in self._values
 
     def __iter__(self) -> Iterator[ObjectIdentifier]:
-        keys = self._keys or self._in_order()
-        return self._walk(keys, keys.changes, iter(keys))
+        return self._walk(iter)
 
     def __reversed__(self) -> Iterator[ObjectIdentifier]:
-        keys = self._keys or self._in_order()
-        return self._walk(keys, keys.changes, reversed(keys))
+        return self._walk(reversed)
 
-    def _walk(self, keys: "_Keys", changes: int, order: Iterator[ObjectIdentifier]) -> Iterator[ObjectIdentifier]:
-        """Yields the keys, and fails if others have been added or removed since the call."""
-        for key in chain((None,), order):
-            if key is not None:
-                yield key
+    def _walk(self, order: Callable[[Any], Iterator[ObjectIdentifier]]) -> Iterator[ObjectIdentifier]:
+        """The keys. The first step, to None, is taken, so that a change from now on is noticed."""
+        steps = self._steps(order)
+        next(steps)
+        return steps
+
+    def _steps(self, order: Callable[[Any], Iterator[ObjectIdentifier]]) -> Iterator[Any]:
+        """Yields None and the keys, and fails if others have been added or removed."""
+        keys = self._keys or self._in_order()
+        changes = keys.changes
+        for key in chain((None,), order(keys)):
+            yield key
             if self._keys is not keys or keys.changes != changes:
                 raise RuntimeError(f"{type(self).__name__} changed during iteration")
 
