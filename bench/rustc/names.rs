@@ -7,20 +7,27 @@ use std::hash::{BuildHasherDefault, DefaultHasher};
 
 type Map<K, V> = HashMap<K, V, BuildHasherDefault<DefaultHasher>>;
 
-/// The identifier at an index, in the order of arcs: one of 317 neighbours; one of the 20 of an enterprise; or one of
-/// those with the same hash, which ignores the bit in which their octets differ.
+/// The identifier at an index, in the order of arcs: one of 317 neighbours, or one of the 20 of an enterprise.
 fn item(row: &str, index: u32) -> ObjectIdentifier {
     match row {
         "enterprises" => ObjectIdentifier::from_arcs([1, 3, 6, 1, 4, 1, index / 20 * 61, 1, index % 20]),
-        "one_slot" => ObjectIdentifier::from_arcs((0..17).rev().map(|bit| 1 + (index >> bit) % 2 * 32)),
         _ => ObjectIdentifier::from_arcs([1, 3, 6, 1, 4, 1, index / 317, index % 317]),
     }
     .unwrap()
 }
 
+/// The name at an index. Those of one slot have the same hash, which ignores the bit in which their bytes differ.
+fn name(row: &str, index: u32) -> String {
+    match row {
+        "long" => format!("id-a-name-of-28-bytes-{index:06}"),
+        "one_slot" => (0..17).map(|bit| if index >> bit & 1 == 0 { '[' } else { '{' }).collect(),
+        _ => format!("name-{index}"),
+    }
+}
+
 /// The sum of what a side finds by a row, `times` times in a table of `count` rows, or of how many rows it makes.
 pub fn sum(side: &str, row: &str, count: u32, times: usize) -> usize {
-    let rows: Vec<_> = (0..count).map(|index| (item(row, index), format!("name-{index}"))).collect();
+    let rows: Vec<_> = (0..count).map(|index| (item(row, index), name(row, index))).collect();
     let entries: Vec<_> = rows.iter().map(|(oid, name)| (oid, &**name)).collect();
     let lent: Vec<_> = entries.iter().map(|(oid, name)| (oid.as_oid_ref(), *name)).collect();
     let (scanned, mut memory) = (Database::new(&entries), vec![0; 4 * entries.len()]);
@@ -30,9 +37,9 @@ pub fn sum(side: &str, row: &str, count: u32, times: usize) -> usize {
 
     let last = |oid: &ObjectIdentifier| usize::from(*oid.as_bytes().last().unwrap());
     let call: &dyn Fn(&ObjectIdentifier, &str) -> Option<usize> = match (side, row) {
-        ("scanned", "by_name") => &|_, name| scanned.by_name(name).map(last),
-        ("indexed", "by_name") => &|_, name| indexed.by_name(name).map(last),
-        ("map", "by_name") => &|_, name| names.get(name).map(|oid| last(oid)),
+        ("scanned", "by_name" | "long" | "one_slot") => &|_, name| scanned.by_name(name).map(last),
+        ("indexed", "by_name" | "long" | "one_slot") => &|_, name| indexed.by_name(name).map(last),
+        ("map", "by_name" | "long" | "one_slot") => &|_, name| names.get(name).map(|oid| last(oid)),
         ("indexed", "made") => &|_, _| Some(scanned.indexed(&mut vec![0; 4 * entries.len()]).len()),
         ("map", "made") => &|_, _| Some(map().len()),
         ("scanned", _) => &|oid, _| scanned.by_oid(oid).map(str::len),

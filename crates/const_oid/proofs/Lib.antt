@@ -1,6 +1,7 @@
 pub mod Lists
 pub mod Faults
 pub mod Groups
+mod Hashes
 pub mod Subidentifiers
 pub mod Cutting
 pub mod Encodings

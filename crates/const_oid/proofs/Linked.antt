@@ -1,14 +1,15 @@
 -- Links between the entries of a table, by a hash: what they are at each step, and what a lookup along them finds.
-use Rattle.std.proofs.Common.{◌≡◌, ◌≢◌, ℕ, ◌+◌, ◌-◌, ◌%◌, ◌<◌, ◌≤◌, Bool, true, false, List, [], ◌∷◌, Bor, drop, length, get_or, set, nat_eq}
+use Rattle.std.proofs.Common.{◌≡◌, ◌≢◌, ℕ, ◌+◌, ◌-◌, ◌*◌, ◌/◌, ◌^◌, ◌<◌, ◌≤◌, Bool, true, false, List, [], ◌∷◌, Bor, drop, length, get_or, set}
 use Rattle.std.proofs.Common.{arith, refl, sym, ap, ◌∙◌, Some, None, ⊎_elim, suc, add-one, drop-cons}
-use Rattle.std.specs.{Char.to_ascii_lowercase, Cmp.Lexicographic.pointwise, Int.Bits.{bit_or, or_add_and}, List.{fold, filter, find, position_or_len, slice_get, HoldsAt}, Str.str_to_ascii_lowercase}
-use Rattle.std.proofs.lemmas.{Slice.Eq.bytes_eq-Decides, Bool.{cases_Bool, cases_eq, cases_lt, eqb-true, eq-eqb, ne_eqb}, Grind.common_steps, Nat.Bits.and_pow, Str.Ascii.lowercase_is}
+use Rattle.std.specs.{List.{filter, find, position_or_len, slice_get, HoldsAt}}
+use Rattle.std.proofs.lemmas.{Bool.{cases_Bool, cases_eq, cases_lt, eqb-true, eq-eqb, ne_eqb}, Grind.common_steps, Nat.{div_below}}
+use Rattle.std.proofs.Math.Nat.{mul-lt-mul_of_pos_left}
 use Rattle.std.proofs.lemmas.List.{drop-drop, get_or-drop, get_or_default, length-drop, Sums.{passes_at_first, prefix_len-le-length}}
-use Rattle.const_oid.specs.Private.Links.{AreLinks, AreLinksFrom, IsInSlot, first_by, hash_of, hash_step, in_slot, key_of}
+use Rattle.const_oid.specs.Private.Links.{AreLinks, AreLinksFrom, IsInSlot, first_by, hash_of, in_slot, key_of, slot_of, with_bits}
 use Rattle.const_oid.specs.declared.{db.Names.Names, links.Key.TheVariants.{Oid, Name}}
 use Rattle.const_oid.specs.declared.oid.ObjectIdentifier.{ObjectIdentifier}
 use Rattle.const_oid.specs.{Names.{Entry, has_arcs, has_name, lent_arcs}, Oid.{oid_arcs, oid_octets}}
-use Rattle.const_oid.proofs.Encodings.{oid_encoding, same_octets}
+use Rattle.const_oid.proofs.{Encodings.{oid_encoding, same_octets}, Hashes.{same_bytes, same_cased}}
 
 module _ {Row : Type 0} (test : Row → Bool) where
   -- what passes is left from the first row on that passes a wider test
@@ -54,6 +55,12 @@ module _ {Row : Type 0} (test : Row → Bool) (rows : List Row) where
       → filter test (drop index rows) ≡ filter test (drop (index + 1) rows)
   leaves index row below here fails = rw (drop-cons rows index row, ← here, fails, add-one) refl
 
+pub slot_within : (slots : ℕ) (bytes : List ℕ) → 0 < slots → slot_of slots bytes < slots
+unfolding hash_of
+slot_within slots bytes some =
+    let fits : hash_of bytes < 2 ^ 64 = omega arith in
+    div_below (slots * hash_of bytes) (2 ^ 64) slots (omega arith) (mul-lt-mul_of_pos_left fits some)
+
 module _ {Row : Type 0} (key : Row → List ℕ) (slots : ℕ) (rows : List Row) where
   -- at the end there are none
   pub no_links : (links : List ℕ) → ((slot : ℕ) → slot < slots → get_or links (length rows + slot) 0 ≡ length rows)
@@ -65,7 +72,7 @@ module _ {Row : Type 0} (key : Row → List ℕ) (slots : ℕ) (rows : List Row)
 
   -- one more row
   pub one_more : (index slot : ℕ) (row : Row) (links : List ℕ) → index < length rows → slot < slots → length rows + slots ≤ length links
-      → row ≡ get_or rows index row → slot ≡ hash_of (key row) % slots
+      → row ≡ get_or rows index row → slot ≡ slot_of slots (key row)
       → AreLinksFrom key slots rows (index + 1) links
       → AreLinksFrom key slots rows index (set (set links index (get_or links (length rows + slot) 0)) (length rows + slot) index)
   one_more index slot row links below small fit here hashed old =
@@ -104,7 +111,7 @@ module _ {Row : Type 0} (key : Row → List ℕ) (test : Row → Bool) (rows : L
   slots = length links - length rows
 
   abbrev of_slot : Row → Bool
-  of_slot = in_slot key slots (hash_of bytes % slots)
+  of_slot = in_slot key slots (slot_of slots bytes)
 
   -- to the first entry of the slot, or without links to the next entry
   leads : (from to : ℕ) → from ≤ length rows → (length rows < length links → to ≡ first_by of_slot rows from)
@@ -114,7 +121,7 @@ module _ {Row : Type 0} (key : Row → List ℕ) (test : Row → Bool) (rows : L
         after = omega arith;
         within = omega (arith, prefix_len-le-length {X = Row}, length-drop {A = Row});
         same = rw (← drop-drop (position_or_len of_slot (drop from rows)) from rows)
-            (passes_on test of_slot (λ row passes. eq-eqb _ _ (ap (λ hash. hash % slots) (same row passes))) (drop from rows));
+            (passes_on test of_slot (λ row passes. eq-eqb _ _ (ap (λ hash. slots * hash / 2 ^ 64) (same row passes))) (drop from rows));
         there = λ _ below. stops of_slot rows from below;
       }))
       (λ (none : length links ≤ length rows). rw (scanned none) (record {
@@ -125,14 +132,14 @@ module _ {Row : Type 0} (key : Row → List ℕ) (test : Row → Bool) (rows : L
       }))
       (cases_lt (length rows) (length links))
 
-  pub starts : (to : ℕ) → (length rows < length links → to ≡ get_or links (length rows + hash_of bytes % slots) 0)
+  pub starts : (to : ℕ) → (length rows < length links → to ≡ get_or links (length rows + slot_of slots bytes) 0)
       → (length links ≤ length rows → to ≡ 0) → Leads key test rows links bytes 0 to
-  starts to linked scanned = leads 0 to (omega arith) (λ more. linked more ∙ (right more).first (hash_of bytes % slots) (omega arith)) scanned
+  starts to linked scanned = leads 0 to (omega arith) (λ more. linked more ∙ (right more).first (slot_of slots bytes) (slot_within slots bytes (omega arith))) scanned
 
   pub goes_on : (index to : ℕ) → index < length rows → (length rows < length links → to ≡ get_or links index 0)
       → (length links ≤ length rows → to ≡ index + 1) → IsInSlot key rows links bytes index → Leads key test rows links bytes (index + 1) to
   goes_on index to below linked scanned there = leads (index + 1) to (omega arith)
-      (λ more. linked more ∙ (right more).next index (hash_of bytes % slots) (omega arith) below (there more below)) scanned
+      (λ more. linked more ∙ (right more).next index (slot_of slots bytes) (omega arith) below (there more below)) scanned
 
   -- past an entry that does not pass
   pub goes_past : (from index to : ℕ) (row : Row) → index < length rows → test (get_or rows index row) ≡ false
@@ -156,31 +163,15 @@ module _ {Row : Type 0} (key : Row → List ℕ) (test : Row → Bool) (rows : L
 
 -- ---- what is the same has the same hash
 
-same_bytes : (a b : List ℕ) → pointwise nat_eq a b ≡ true → a ≡ b
-same_bytes a b same = grind (arith, bytes_eq-Decides a b)
-
 pub same_oids : (oid : ObjectIdentifier 39) (entry : Entry (Bor (ObjectIdentifier 39)))
     → has_arcs lent_arcs (oid_arcs oid) entry ≡ true → hash_of (key_of Oid entry) ≡ hash_of (oid_octets oid)
 same_oids oid entry same =
     let arcs = same_bytes (lent_arcs entry.0) (oid_arcs oid) same in
     ap hash_of (same_octets (rw arcs at (oid_encoding entry.0.now)) (oid_encoding oid))
 
--- the bit of case is set in both
-with_bit : (byte : ℕ) → bit_or byte 32 ≡ bit_or (to_ascii_lowercase byte) 32
-with_bit byte =
-    let lower = to_ascii_lowercase byte in
-    grind (arith, cases_lt byte 65, cases_lt 90 byte, lowercase_is byte, or_add_and byte 32, and_pow byte 5, or_add_and lower 32, and_pow lower 5)
-
-same_hash : (bytes : List ℕ) (hash : ℕ) → fold hash_step hash bytes ≡ fold hash_step hash (str_to_ascii_lowercase bytes)
-same_hash [] hash = refl
-same_hash (byte ∷ bytes) hash = rw (with_bit byte) (same_hash bytes (hash_step hash (to_ascii_lowercase byte)))
-
 pub same_names : (name : List ℕ) (entry : Entry (Bor (ObjectIdentifier 39)))
-    → has_name name entry ≡ true → hash_of (key_of Name entry) ≡ hash_of name
-unfolding hash_of
-same_names name entry same =
-    same_hash entry.1.now 0 ∙ ap (fold hash_step 0) (same_bytes (str_to_ascii_lowercase entry.1.now) (str_to_ascii_lowercase name) same)
-    ∙ sym (same_hash name 0)
+    → has_name name entry ≡ true → hash_of (key_of Name entry) ≡ hash_of (with_bits 32 name)
+same_names name entry same = ap hash_of (same_cased entry.1.now name same)
 
 -- to the next entry of the slot of the identifier whose names are left
 pub next_name : (names : Names) (next : ℕ)

@@ -1,5 +1,5 @@
 -- Tables of identifiers and names.
-use Rattle.std.specs.Prelude.{◌≡◌, ◌++◌, ℕ, Bool, List, map, drop, filter, find, nat_eq, Option, Some, unwrap_or, Result}
+use Rattle.std.specs.Prelude.{◌≡◌, ◌<◌, ◌++◌, ℕ, Bool, List, length, map, drop, filter, find, nat_eq, Option, Some, unwrap_or, Result}
 use Rattle.std.specs.Borrow.{Bor}
 use Rattle.std.specs.Cmp.Lexicographic.{pointwise}
 use Rattle.std.specs.List.{All}
@@ -57,6 +57,12 @@ lent_arcs oid = oid_arcs oid.now
 -- the entries of a database, in table order
 abbrev pub entries_of : Database → List (Entry (Bor (ObjectIdentifier 39)))
 entries_of database = database.entries.now
+
+-- it has an index by identifier, and one by name: links, more than entries
+abbrev pub IsIndexed : Database → Type 0
+IsIndexed database =
+    let count = length (entries_of database) in
+    (count < length database.oid_links.now) × (count < length database.name_links.now)
 
 -- the names that an iterator has left
 abbrev pub names_left : Names → List (Bor (List ℕ))

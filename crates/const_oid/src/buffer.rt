@@ -157,26 +157,18 @@ impl<const SIZE: usize> Buffer<SIZE> {
         self.used as usize
     }
 
-    /// Whether the octets in use are equal, one by one: this is for constants, in which a slice costs the compiler.
-    pub(crate) const fn eq_by_octet(&self, other: &Self) -> bool
+    /// Whether the octets in use are equal: the last one first, in which most entries of a table differ.
+    // erase: const
+    #[inline(always)]
+    pub(crate) fn eq_last_first(&self, other: &Self) -> bool
         ensures { IsTrue result ↔ (buffer_octets self.now ≡ buffer_octets other.now) }
     {
         let len = other.used as usize;
-        // Most entries of a table differ in this octet, while a branch by the length would be mispredicted for many.
+        // A branch by the length would be mispredicted for many.
         if len > 0 && self.bytes[len - 1] != other.bytes[len - 1] {
             return false;
         }
-        if self.used != other.used {
-            return false;
-        }
-        let mut left = len;
-        while left > 0 {
-            left -= 1;
-            if self.bytes[left] != other.bytes[left] {
-                return false;
-            }
-        }
-        true
+        self.eq(other)
     }
 
     /// Whether the octets in use are equal.

@@ -10,7 +10,7 @@ ghost use Rattle.const_oid.specs.Private.Octets.{lens_cmp, length_at};
 ghost use Rattle.const_oid.specs.Private.Prefixes.{IsCommonPrefix};
 
 use crate::fast::comparison::{are_equal, same_start};
-use crate::fast::words::WORD_OCTETS;
+use crate::fast::words::{CASE, WORD_OCTETS, last_word};
 use crate::parts::{first_octets, without_last_part};
 use std::cmp::Ordering;
 
@@ -111,13 +111,21 @@ pub(crate) fn common_parts<'a>(octets: &'a [u8], others: &[u8]) -> &'a [u8]
     without_last_part(first_octets(octets, same + 1))
 }
 
-/// Whether names are the same. Lengths are compared first, and bytes before their case.
-pub(crate) const fn is_same_name(a: &str, b: &str) -> bool
+/// Whether names are the same. Most of one length that differ do so in their last word, ignoring ASCII case. Then words
+/// are compared, and then bytes, ignoring it.
+// erase: const
+pub(crate) fn is_same_name(a: &str, b: &str) -> bool
     ensures { result ≡ str_eq_ignore_ascii_case a.now b.now }
 {
     let (a, b) = (a.as_bytes(), b.as_bytes());
     if a.len() != b.len() {
         return false;
+    }
+    if last_word::<CASE>(a) != last_word::<CASE>(b) {
+        return false;
+    }
+    if are_equal(a, b) {
+        return true;
     }
     let mut index = 0;
     while index < a.len() {

@@ -1,6 +1,6 @@
 //! Names of identifiers, by a table that the caller holds.
 
-ghost use Rattle.std.specs.Prelude.{◌≡◌, ◌≤◌, length, nat_eq};
+ghost use Rattle.std.specs.Prelude.{◌≡◌, ◌↔◌, ◌^◌, ◌≤◌, IsTrue, length, nat_eq};
 ghost use Rattle.std.specs.Cmp.Lexicographic.{pointwise};
 ghost use Rattle.std.specs.Iterator.{YieldsFirst, item_count};
 ghost use Rattle.std.proofs.Props.{props};
@@ -11,6 +11,7 @@ ghost use Rattle.const_oid.specs.Private.Links.{AreLinks, IsInSlot, key_of};
 use crate::compare::is_same_name;
 pub use crate::db_sorted::SortedDatabase;
 use crate::error::Result;
+use crate::fast::words::CASE;
 use crate::links::{Entry, Key, first_candidate, links_in, next_candidate};
 use crate::oid::Oid;
 
@@ -32,7 +33,8 @@ use crate::oid::Oid;
 /// assert_eq!((NAMES.resolve("2.5.4.3"), NAMES.resolve("2.999")), (Ok("cn"), Ok("2.999")));
 ///
 /// let mut memory = [0; 9];
-/// assert_eq!(NAMES.indexed(&mut memory).by_name("commonname"), Some(&CN));
+/// let indexed = NAMES.indexed(&mut memory);
+/// assert_eq!((indexed.is_indexed(), indexed.by_name("commonname")), (true, Some(&CN)));
 /// ```
 #[derive(Copy, Clone)]
 pub struct Database<'a> {
@@ -45,11 +47,12 @@ pub struct Database<'a> {
 }
 
 impl<'a> Database<'a> {
-    ghost use Rattle.const_oid.specs.Names.{lent_arcs, entries_of, first_name, resolve_answer, all_names, first_oid, names_left};
+    ghost use Rattle.const_oid.specs.Names.{lent_arcs, entries_of, first_name, resolve_answer, all_names, first_oid, names_left, IsIndexed};
 
     /// A database over these entries. [`Database`] has an example.
     pub const fn new(entries: &'a [Entry<'a>]) -> Self
-        ensures { entries_of result ≡ entries.now }
+        ensures entries { entries_of result ≡ entries.now }
+        ensures scanned { ¬ (IsIndexed result) }
     {
         Database {
             entries,
@@ -75,13 +78,15 @@ impl<'a> Database<'a> {
     /// long as the memory is lent.
     ///
     /// For n entries, from three on, 4n numbers are a good length. With fewer than 3n + 3 there is no index by name, and
-    /// with n or fewer none at all. Over 65,535 entries have no index. An index that the database has, as `DB` does,
-    /// stays if it is no shorter. None is made in which some lookup would read over a quarter of the entries and two: a
-    /// scan is faster.
+    /// with n or fewer none at all. Over 65,535 entries have no index: sort them, and take [`SortedDatabase`]. An index
+    /// that the database has, as `DB` does, stays if it is no shorter. None is made in which some lookup would read over a
+    /// quarter of the entries and two: a scan is faster. [`is_indexed`](Self::is_indexed) tells.
     ///
     /// [`Database`] has an example.
     pub fn indexed(self, memory: &'a mut [u16]) -> Self
-        ensures { entries_of result ≡ entries_of self.entry }
+        ensures entries { entries_of result ≡ entries_of self.entry }
+        ensures kept { IsIndexed self.entry → IsIndexed result }
+        ensures limit { 2 ^ 16 ≤ length (entries_of self.entry) → IsIndexed result → IsIndexed self.entry }
     {
         // An index with a slot for every two entries is fast. If half of the memory is too short for one, all is for the
         // index by identifier, which has more slots then.
@@ -96,6 +101,14 @@ impl<'a> Database<'a> {
             oid_links: links_in(self.entries, Key::Oid, self.oid_links, by_oid),
             name_links: links_in(self.entries, Key::Name, self.name_links, by_name),
         }
+    }
+
+    /// Whether lookups by identifier and by name both use an index, as those of `DB` do. [`Database`] has an example.
+    pub const fn is_indexed(&self) -> bool
+        ensures { IsTrue result ↔ IsIndexed self.now }
+    {
+        let count = self.entries.len();
+        count < self.oid_links.len() && count < self.name_links.len()
     }
 
     /// The name in the first entry with this identifier, or `None`. If `oid` is borrowed: `by_oid(&oid.try_into()?)`.
@@ -118,7 +131,7 @@ impl<'a> Database<'a> {
         ensures { result ≡ first_name lent_arcs (entries_of self.now) (oid_arcs oid.now) }
     {
         let count = self.entries.len();
-        let mut index = first_candidate(self.oid_links, count, oid.as_bytes());
+        let mut index = first_candidate::<0>(self.oid_links, count, oid.as_bytes());
         while index < count {
             let entry = &self.entries[index];
             if has_oid(entry, oid) {
@@ -131,11 +144,12 @@ impl<'a> Database<'a> {
 
     /// The identifier in the first entry with this name, ignoring ASCII case, or `None` if there is no such entry.
     /// [`Database`] has an example.
-    pub const fn by_name(&self, name: &str) -> Option<&'a Oid>
+    // erase: const
+    pub fn by_name(&self, name: &str) -> Option<&'a Oid>
         ensures { result ≡ first_oid (entries_of self.now) name.now }
     {
         let count = self.entries.len();
-        let mut index = first_candidate(self.name_links, count, name.as_bytes());
+        let mut index = first_candidate::<CASE>(self.name_links, count, name.as_bytes());
         while index < count {
             let entry = &self.entries[index];
             if is_same_name(entry.1, name) {
@@ -154,7 +168,7 @@ impl<'a> Database<'a> {
     {
         Names {
             database: *self,
-            index: first_candidate(self.oid_links, self.entries.len(), oid.as_bytes()),
+            index: first_candidate::<0>(self.oid_links, self.entries.len(), oid.as_bytes()),
             oid,
         }
     }
@@ -214,8 +228,9 @@ impl<'a> Iterator for Names<'a> {
 }
 
 /// Whether an entry has this identifier.
-const fn has_oid(entry: &Entry<'_>, oid: &Oid) -> bool
+// erase: const
+fn has_oid(entry: &Entry<'_>, oid: &Oid) -> bool
     ensures { result ≡ pointwise nat_eq (oid_arcs entry.now.0.now) (oid_arcs oid.now) }
 {
-    entry.0.eq_by_octet(oid)
+    entry.0.eq_last_first(oid)
 }

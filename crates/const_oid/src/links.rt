@@ -3,9 +3,10 @@
 //! There is a link for each entry, to the next one of its slot, and then one for each slot, to its first entry. If there
 //! is none, the link is the number of entries. In a table without links, a lookup reads all entries.
 
-ghost use Rattle.std.specs.Prelude.{◌≡◌, ◌+◌, ◌-◌, ◌%◌, ◌^◌, ◌<◌, ◌≤◌, length, replicate, slice_index};
-ghost use Rattle.const_oid.specs.Private.Links.{AreLinks, hash_of, key_of};
+ghost use Rattle.std.specs.Prelude.{◌≡◌, ◌+◌, ◌-◌, ◌^◌, ◌<◌, ◌≤◌, length, replicate, slice_index};
+ghost use Rattle.const_oid.specs.Private.Links.{AreLinks, hash_of, hash_step, key_of, slot_of, with_bits};
 
+use crate::fast::words::{CASE, WORD_OCTETS, last_word};
 use crate::oid::Oid;
 
 /// An identifier and its name.
@@ -18,30 +19,51 @@ pub(crate) enum Key {
     Name,
 }
 
-/// A hash of bytes, ignoring ASCII case.
-#[tactic(auto, unfolding(crate::specs::Private::Links::hash_of))]
-pub(crate) const fn hash(bytes: &[u8]) -> u32
-    ensures { result ≡ hash_of bytes.now }
+/// A hash of bytes: of words of eight bytes while more follow, and of the last word. In all bytes these bits are set.
+// erase: const
+pub(crate) fn hash<const BITS: u8>(bytes: &[u8]) -> u64
+    ensures { result ≡ hash_of (with_bits BITS bytes.now) }
 {
-    let mut hash: u32 = 0;
+    let bits = u64::from_be_bytes([BITS; 8]);
+    let mut hash = bytes.len() as u64;
     let mut left = bytes;
-    while let [first, after @ ..] = left {
-        hash = hash
-            .wrapping_mul(16_777_619)
-            .wrapping_add((*first | 32) as u32);
-        left = after;
+    while let [a, b, c, d, e, f, g, h, _, ..] = left {
+        let word = u64::from_be_bytes([*a, *b, *c, *d, *e, *f, *g, *h]);
+        hash = hash_with(hash, word | bits);
+        left = left.split_at(WORD_OCTETS).1;
     }
-    hash
+    hash_with(hash, last_word::<BITS>(bytes))
 }
 
-/// The bytes of an entry's key: the octets of its identifier, or its name.
+/// A hash and a word more.
+#[inline(always)]
+const fn hash_with(hash: u64, word: u64) -> u64
+    ensures { result ≡ hash_step hash word }
+{
+    (hash.rotate_left(23) ^ word).wrapping_mul(0x9E37_79B9_7F4A_7C15)
+}
+
+/// The slot of bytes among slots, by the high bits of their hash, on which all bits of the bytes bear.
 // erase: const
-fn key_of<'a>(entry: &Entry<'a>, key: Key) -> &'a [u8]
-    ensures { result.now ≡ key_of key entry.now }
+#[inline(always)]
+fn slot_of<const BITS: u8>(bytes: &[u8], slots: usize) -> usize
+    requires { 0 < slots }
+    ensures slot { result ≡ slot_of slots (with_bits BITS bytes.now) }
+    ensures within { result < slots }
+{
+    (slots as u128 * hash::<BITS>(bytes) as u128 >> 64) as usize
+}
+
+/// The slot of an entry by a key: the octets of its identifier, or its name, ignoring ASCII case.
+// erase: const
+fn slot_of_entry(entry: &Entry<'_>, key: Key, slots: usize) -> usize
+    requires { 0 < slots }
+    ensures slot { result ≡ slot_of slots (key_of key entry.now) }
+    ensures within { result < slots }
 {
     match key {
-        Key::Oid => entry.0.as_bytes(),
-        Key::Name => entry.1.as_bytes(),
+        Key::Oid => slot_of::<0>(entry.0.as_bytes(), slots),
+        Key::Name => slot_of::<CASE>(entry.1.as_bytes(), slots),
     }
 }
 
@@ -57,7 +79,7 @@ fn write_links(entries: &[Entry<'_>], key: Key, links: &mut [u16])
     let mut index = count;
     while index > 0 {
         index -= 1;
-        let slot = count + hash(key_of(&entries[index], key)) as usize % slots;
+        let slot = count + slot_of_entry(&entries[index], key, slots);
         links[index] = links[slot];
         links[slot] = index as u16;
     }
@@ -102,7 +124,9 @@ pub(crate) fn links_in<'a>(
     memory: &'a mut [u16],
 ) -> &'a [u16]
     requires { AreLinks (key_of key) entries.now links.now }
-    ensures { AreLinks (key_of key) entries.now result.now }
+    ensures links { AreLinks (key_of key) entries.now result.now }
+    ensures kept { length links.now ≤ length result.now }
+    ensures limit { 2 ^ 16 ≤ length entries.now → result.now ≡ links.now }
 {
     let count = entries.len();
     if memory.len() <= count.max(links.len()) || count > u16::MAX as usize {
@@ -119,12 +143,13 @@ pub(crate) fn links_in<'a>(
 
 /// The index of the first entry whose key may be these bytes, or the number of entries: the first of their slot, or
 /// without links the first of all.
-pub(crate) const fn first_candidate(links: &[u16], count: usize, bytes: &[u8]) -> usize
-    ensures linked { count < length links.now → result ≡ slice_index links.now (count + hash_of bytes.now % (length links.now - count)) }
+// erase: const
+pub(crate) fn first_candidate<const BITS: u8>(links: &[u16], count: usize, bytes: &[u8]) -> usize
+    ensures linked { count < length links.now → result ≡ slice_index links.now (count + slot_of (length links.now - count) (with_bits BITS bytes.now)) }
     ensures scanned { length links.now ≤ count → result ≡ 0 }
 {
     if count < links.len() {
-        links[count + hash(bytes) as usize % (links.len() - count)] as usize
+        links[count + slot_of::<BITS>(bytes, links.len() - count)] as usize
     } else {
         0
     }

@@ -1,4 +1,5 @@
-//! Tables of names, with what they find: `by_oid`, `by_name`, `find_names_for_oid` and `resolve`, and `indexed`.
+//! Tables of names, with what they find: `by_oid`, `by_name`, `find_names_for_oid` and `resolve`, and `indexed`
+//! and `is_indexed`.
 
 ghost use Rattle.std.specs.Prelude.{◌≡◌, IsOk, IfOk};
 ghost use Rattle.std.specs.Iterator.{IsFinite};
@@ -144,5 +145,18 @@ fn answers_each_row(rt: HostRuntime) -> Result<(), Fail> {
         let is = answers(rt.alloc(), entries, query)?;
         assert!(rt; is, "{query:?} in {entries:?}");
     }
+    Ok(())
+}
+
+/// A table is indexed from 3n + 3 numbers of memory on, and stays so.
+#[test]
+fn tells_whether_it_is_indexed(rt: HostRuntime) -> Result<(), Fail> {
+    let (cn, c) = (parse("2.5.4.3")?, parse("2.5.4.6")?);
+    let named = [(&cn, "cn"), (&c, "c"), (&cn, "commonName"), (&c, "countryName")];
+    let (mut short, mut memory) = ([0; 14], [0; 15]);
+    assert!(rt; !Database::new(&named).is_indexed());
+    assert!(rt; !Database::new(&named).indexed(&mut short).is_indexed());
+    let indexed = Database::new(&named).indexed(&mut memory);
+    assert!(rt; indexed.is_indexed() && indexed.indexed(&mut []).is_indexed());
     Ok(())
 }

@@ -1,23 +1,50 @@
 -- Links between the entries of a table, by a hash.
-use Rattle.std.specs.Prelude.{◌≡◌, ℕ, ◌+◌, ◌-◌, ◌*◌, ◌%◌, ◌^◌, ◌<◌, ◌≤◌, Bool, true, List, drop, length, nat_eq, slice_index}
+use Rattle.std.specs.Prelude.{◌≡◌, ℕ, ◌+◌, ◌-◌, ◌*◌, ◌/◌, ◌%◌, ◌^◌, ◌<◌, ◌≤◌, Bool, true, List, [], ◌∷◌, ◌++◌, if◌then◌else◌}
+use Rattle.std.specs.Prelude.{drop, length, map, nat_eq, nat_lt, slice_index, take}
 use Rattle.std.specs.Borrow.{Bor}
 use Rattle.std.specs.List.{fold, position_or_len, HoldsAt}
-use Rattle.std.specs.Int.Bits.{bit_or}
+use Rattle.std.specs.Int.{w64, rotate_left}
+use Rattle.std.specs.Int.RustNames.{bit_or, bit_xor}
 use Rattle.const_oid.specs.declared.{links.Key.{Key, TheVariants.{Oid, Name}}, oid.ObjectIdentifier.ObjectIdentifier}
 use Rattle.const_oid.specs.Oid.{oid_octets}
 
--- a hash and one byte more, in which the bit of ASCII case is set
+-- bytes in which bits are set
+abbrev pub with_bits : ℕ → List ℕ → List ℕ
+with_bits bits bytes = map (λ byte. bit_or byte bits) bytes
+
+-- the number of bytes, the first the most significant
+abbrev pub number_of : List ℕ → ℕ
+number_of bytes = fold (λ number byte. number * 256 + byte) 0 bytes
+
+-- a hash and a word more
 abbrev pub hash_step : ℕ → ℕ → ℕ
-hash_step hash byte = ((hash * 16777619) % 2 ^ 32 + bit_or byte 32) % 2 ^ 32
+hash_step hash word = (bit_xor (rotate_left w64 hash 23) word * 11400714819323198485) % 2 ^ 64
 
--- a hash of bytes, ignoring ASCII case
+-- the last word: the last eight bytes, of fewer the first four and the last four, or all of fewer than four
+abbrev pub last_of : List ℕ → List ℕ
+last_of bytes =
+    if nat_lt (length bytes) 4 then bytes
+    else if nat_lt (length bytes) 8 then take 4 bytes ++ drop (length bytes - 4) bytes
+    else drop (length bytes - 8) bytes
+
+-- a hash and words of eight bytes more, while more bytes follow
+unfoldable pub hash_words : ℕ → List ℕ → ℕ
+hash_words hash (a ∷ b ∷ c ∷ d ∷ e ∷ f ∷ g ∷ h ∷ i ∷ bytes) =
+    hash_words (hash_step hash (number_of (a ∷ b ∷ c ∷ d ∷ e ∷ f ∷ g ∷ h ∷ []))) (i ∷ bytes)
+hash_words hash _ = hash
+
+-- a hash of bytes
 unfoldable pub hash_of : List ℕ → ℕ
-hash_of bytes = fold hash_step 0 bytes
+hash_of bytes = hash_step (hash_words (length bytes) bytes) (number_of (last_of bytes))
 
--- the bytes of an entry's key: the octets of its identifier, or its name
+-- the slot of bytes, of so many
+abbrev pub slot_of : ℕ → List ℕ → ℕ
+slot_of slots bytes = slots * hash_of bytes / 2 ^ 64
+
+-- the bytes of an entry's key: the octets of its identifier, or its name with the bit of ASCII case in each byte
 abbrev pub key_of : Key → Bor (ObjectIdentifier 39) × Bor (List ℕ) → List ℕ
 key_of Oid entry = oid_octets entry.0.now
-key_of Name entry = entry.1.now
+key_of Name entry = with_bits 32 entry.1.now
 
 -- the index of the first entry that passes a test, from an index on, or the number of entries if there is none
 abbrev pub first_by : {Entry : Type 0} → (Entry → Bool) → List Entry → ℕ → ℕ
@@ -25,7 +52,7 @@ first_by test entries from = from + position_or_len test (drop from entries)
 
 -- an entry is of a slot, by its key
 abbrev pub in_slot : {Entry : Type 0} → (Entry → List ℕ) → ℕ → ℕ → Entry → Bool
-in_slot key slots slot entry = nat_eq (hash_of (key entry) % slots) slot
+in_slot key slots slot entry = nat_eq (slot_of slots (key entry)) slot
 
 -- links of the entries from an index on: from each to the next one of its slot, and from each slot to its first one
 pub record AreLinksFrom {Entry : Type 0} (key : Entry → List ℕ) (slots : ℕ) (entries : List Entry) (index : ℕ) (links : List ℕ) : Type 0 where
@@ -42,4 +69,4 @@ abbrev pub IsInSlot : {Entry : Type 0} → (Entry → List ℕ) → List Entry �
 IsInSlot key entries links bytes index =
     let slots = length links - length entries in
     length entries < length links → index < length entries
-    → HoldsAt (λ entry. in_slot key slots (hash_of bytes % slots) entry ≡ true) entries index
+    → HoldsAt (λ entry. in_slot key slots (slot_of slots bytes) entry ≡ true) entries index

@@ -1,7 +1,8 @@
 //! Octets as numbers of eight or four octets, the first octet the most significant.
 
-ghost use Rattle.std.specs.Prelude.{◌≡◌, ◌+◌, ◌≤◌, length, take};
+ghost use Rattle.std.specs.Prelude.{◌≡◌, ◌+◌, ◌<◌, ◌≤◌, length, take};
 ghost use Rattle.std.specs.Int.{to_be_bytes, w32};
+ghost use Rattle.const_oid.specs.Private.Links.{last_of, number_of, with_bits};
 ghost use Rattle.const_oid.specs.Private.Octets.{IsWord};
 
 /// How many octets a word has.
@@ -9,6 +10,9 @@ pub(crate) const WORD_OCTETS: usize = 8;
 
 /// How many octets half a word has.
 pub(crate) const HALF_OCTETS: usize = 4;
+
+/// The bit of ASCII case.
+pub(crate) const CASE: u8 = 32;
 
 /// The eight octets from `at` on as a big-endian number: so words have the lexicographic order of their octets.
 // erase: const
@@ -35,5 +39,33 @@ pub(crate) fn half_word(octets: &[u8]) -> u32
     match octets.first_chunk::<HALF_OCTETS>() {
         Some(half) => u32::from_be_bytes(*half),
         None => unreachable!(),
+    }
+}
+
+/// The last eight octets, of fewer the first four and the last four, or all of fewer than four. In each the bits are set.
+#[inline(always)]
+pub(crate) const fn last_word<const BITS: u8>(octets: &[u8]) -> u64
+    ensures { result ≡ number_of (last_of (with_bits BITS octets.now)) }
+{
+    let bits = u64::from_be_bytes([BITS; 8]);
+    if let [.., a, b, c, d, e, f, g, h] = octets {
+        return u64::from_be_bytes([*a, *b, *c, *d, *e, *f, *g, *h]) | bits;
+    }
+    if let ([a, b, c, d, ..], [.., e, f, g, h]) = (octets, octets) {
+        return u64::from_be_bytes([*a, *b, *c, *d, *e, *f, *g, *h]) | bits;
+    }
+    few_octets::<BITS>(octets)
+}
+
+/// The number of fewer than four octets.
+const fn few_octets<const BITS: u8>(octets: &[u8]) -> u64
+    requires { length octets.now < 4 }
+    ensures { result ≡ number_of (with_bits BITS octets.now) }
+{
+    match octets {
+        [a, b, c] => u64::from_be_bytes([0, 0, 0, 0, 0, *a | BITS, *b | BITS, *c | BITS]),
+        [a, b] => u64::from_be_bytes([0, 0, 0, 0, 0, 0, *a | BITS, *b | BITS]),
+        [a] => u64::from_be_bytes([0, 0, 0, 0, 0, 0, 0, *a | BITS]),
+        _ => 0,
     }
 }

@@ -3,7 +3,7 @@
 //! How slices of octets and names compare.
 
 use crate::erased::fast::comparison::{are_equal, same_start};
-use crate::erased::fast::words::WORD_OCTETS;
+use crate::erased::fast::words::{CASE, WORD_OCTETS, last_word};
 use crate::erased::parts::{first_octets, without_last_part};
 use core::cmp::Ordering;
 
@@ -76,11 +76,18 @@ pub(crate) fn common_parts<'a>(octets: &'a [u8], others: &[u8]) -> &'a [u8] {
     without_last_part(first_octets(octets, same + 1))
 }
 
-/// Whether names are the same. Lengths are compared first, and bytes before their case.
+/// Whether names are the same. Most of one length that differ do so in their last word, ignoring ASCII case. Then words
+/// are compared, and then bytes, ignoring it.
 pub(crate) const fn is_same_name(a: &str, b: &str) -> bool {
     let (a, b) = (a.as_bytes(), b.as_bytes());
     if a.len() != b.len() {
         return false;
+    }
+    if last_word::<CASE>(a) != last_word::<CASE>(b) {
+        return false;
+    }
+    if are_equal(a, b) {
+        return true;
     }
     let mut index = 0;
     while index < a.len() {

@@ -5,6 +5,7 @@
 use crate::erased::compare::is_same_name;
 pub use crate::erased::db_sorted::SortedDatabase;
 use crate::erased::error::Result;
+use crate::erased::fast::words::CASE;
 use crate::erased::links::{Entry, Key, first_candidate, links_in, next_candidate};
 use crate::erased::oid::Oid;
 
@@ -26,7 +27,8 @@ use crate::erased::oid::Oid;
 /// assert_eq!((NAMES.resolve("2.5.4.3"), NAMES.resolve("2.999")), (Ok("cn"), Ok("2.999")));
 ///
 /// let mut memory = [0; 9];
-/// assert_eq!(NAMES.indexed(&mut memory).by_name("commonname"), Some(&CN));
+/// let indexed = NAMES.indexed(&mut memory);
+/// assert_eq!((indexed.is_indexed(), indexed.by_name("commonname")), (true, Some(&CN)));
 /// ```
 #[derive(Copy, Clone)]
 pub struct Database<'a> {
@@ -52,9 +54,9 @@ impl<'a> Database<'a> {
     /// long as the memory is lent.
     ///
     /// For n entries, from three on, 4n numbers are a good length. With fewer than 3n + 3 there is no index by name, and
-    /// with n or fewer none at all. Over 65,535 entries have no index. An index that the database has, as `DB` does,
-    /// stays if it is no shorter. None is made in which some lookup would read over a quarter of the entries and two: a
-    /// scan is faster.
+    /// with n or fewer none at all. Over 65,535 entries have no index: sort them, and take [`SortedDatabase`]. An index
+    /// that the database has, as `DB` does, stays if it is no shorter. None is made in which some lookup would read over a
+    /// quarter of the entries and two: a scan is faster. [`is_indexed`](Self::is_indexed) tells.
     ///
     /// [`Database`] has an example.
     #[must_use]
@@ -68,6 +70,13 @@ impl<'a> Database<'a> {
             oid_links: links_in(self.entries, Key::Oid, self.oid_links, by_oid),
             name_links: links_in(self.entries, Key::Name, self.name_links, by_name),
         }
+    }
+
+    /// Whether lookups by identifier and by name both use an index, as those of `DB` do. [`Database`] has an example.
+    #[must_use]
+    pub const fn is_indexed(&self) -> bool {
+        let count = self.entries.len();
+        count < self.oid_links.len() && count < self.name_links.len()
     }
 
     /// The name in the first entry with this identifier, or `None`. If `oid` is borrowed: `by_oid(&oid.try_into()?)`.
@@ -88,7 +97,7 @@ impl<'a> Database<'a> {
     #[must_use]
     pub const fn by_oid(&self, oid: &Oid) -> Option<&'a str> {
         let count = self.entries.len();
-        let mut index = first_candidate(self.oid_links, count, oid.as_bytes());
+        let mut index = first_candidate::<0>(self.oid_links, count, oid.as_bytes());
         while index < count {
             let entry = &self.entries[index];
             if has_oid(entry, oid) {
@@ -104,7 +113,7 @@ impl<'a> Database<'a> {
     #[must_use]
     pub const fn by_name(&self, name: &str) -> Option<&'a Oid> {
         let count = self.entries.len();
-        let mut index = first_candidate(self.name_links, count, name.as_bytes());
+        let mut index = first_candidate::<CASE>(self.name_links, count, name.as_bytes());
         while index < count {
             let entry = &self.entries[index];
             if is_same_name(entry.1, name) {
@@ -119,7 +128,7 @@ impl<'a> Database<'a> {
     /// an example.
     #[must_use]
     pub const fn find_names_for_oid(&self, oid: Oid) -> Names<'a> {
-        Names { database: *self, index: first_candidate(self.oid_links, self.entries.len(), oid.as_bytes()), oid }
+        Names { database: *self, index: first_candidate::<0>(self.oid_links, self.entries.len(), oid.as_bytes()), oid }
     }
 
     /// Parses dotted text, and returns the name of its identifier as [`by_oid`](Self::by_oid) does, or the text
@@ -169,5 +178,5 @@ impl<'a> Iterator for Names<'a> {
 
 /// Whether an entry has this identifier.
 const fn has_oid(entry: &Entry<'_>, oid: &Oid) -> bool {
-    entry.0.eq_by_octet(oid)
+    entry.0.eq_last_first(oid)
 }

@@ -5,6 +5,7 @@
 //! There is a link for each entry, to the next one of its slot, and then one for each slot, to its first entry. If there
 //! is none, the link is the number of entries. In a table without links, a lookup reads all entries.
 
+use crate::erased::fast::words::{CASE, WORD_OCTETS, last_word};
 use crate::erased::oid::Oid;
 
 /// An identifier and its name.
@@ -17,22 +18,36 @@ pub(crate) enum Key {
     Name,
 }
 
-/// A hash of bytes, ignoring ASCII case.
-pub(crate) const fn hash(bytes: &[u8]) -> u32 {
-    let mut hash: u32 = 0;
+/// A hash of bytes: of words of eight bytes while more follow, and of the last word. In all bytes these bits are set.
+pub(crate) const fn hash<const BITS: u8>(bytes: &[u8]) -> u64 {
+    let bits = u64::from_be_bytes([BITS; 8]);
+    let mut hash = bytes.len() as u64;
     let mut left = bytes;
-    while let [first, after @ ..] = left {
-        hash = hash.wrapping_mul(16_777_619).wrapping_add((*first | 32) as u32);
-        left = after;
+    while let [a, b, c, d, e, f, g, h, _, ..] = left {
+        let word = u64::from_be_bytes([*a, *b, *c, *d, *e, *f, *g, *h]);
+        hash = hash_with(hash, word | bits);
+        left = left.split_at(WORD_OCTETS).1;
     }
-    hash
+    hash_with(hash, last_word::<BITS>(bytes))
 }
 
-/// The bytes of an entry's key: the octets of its identifier, or its name.
-const fn key_of<'a>(entry: &Entry<'a>, key: Key) -> &'a [u8] {
+/// A hash and a word more.
+#[inline(always)]
+const fn hash_with(hash: u64, word: u64) -> u64 {
+    (hash.rotate_left(23) ^ word).wrapping_mul(0x9E37_79B9_7F4A_7C15)
+}
+
+/// The slot of bytes among slots, by the high bits of their hash, on which all bits of the bytes bear.
+#[inline(always)]
+const fn slot_of<const BITS: u8>(bytes: &[u8], slots: usize) -> usize {
+    (slots as u128 * hash::<BITS>(bytes) as u128 >> 64) as usize
+}
+
+/// The slot of an entry by a key: the octets of its identifier, or its name, ignoring ASCII case.
+const fn slot_of_entry(entry: &Entry<'_>, key: Key, slots: usize) -> usize {
     match key {
-        Key::Oid => entry.0.as_bytes(),
-        Key::Name => entry.1.as_bytes(),
+        Key::Oid => slot_of::<0>(entry.0.as_bytes(), slots),
+        Key::Name => slot_of::<CASE>(entry.1.as_bytes(), slots),
     }
 }
 
@@ -43,7 +58,7 @@ const fn write_links(entries: &[Entry<'_>], key: Key, links: &mut [u16]) {
     let mut index = count;
     while index > 0 {
         index -= 1;
-        let slot = count + hash(key_of(&entries[index], key)) as usize % slots;
+        let slot = count + slot_of_entry(&entries[index], key, slots);
         links[index] = links[slot];
         links[slot] = index as u16;
     }
@@ -89,8 +104,8 @@ pub(crate) fn links_in<'a>(entries: &[Entry<'_>], key: Key, links: &'a [u16], me
 
 /// The index of the first entry whose key may be these bytes, or the number of entries: the first of their slot, or
 /// without links the first of all.
-pub(crate) const fn first_candidate(links: &[u16], count: usize, bytes: &[u8]) -> usize {
-    if count < links.len() { links[count + hash(bytes) as usize % (links.len() - count)] as usize } else { 0 }
+pub(crate) const fn first_candidate<const BITS: u8>(links: &[u16], count: usize, bytes: &[u8]) -> usize {
+    if count < links.len() { links[count + slot_of::<BITS>(bytes, links.len() - count)] as usize } else { 0 }
 }
 
 /// The index of the next such entry after one, or the number of entries: the next of its slot, or without links of all.

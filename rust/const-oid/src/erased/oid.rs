@@ -329,9 +329,9 @@ impl<const MAX_SIZE: usize> ObjectIdentifier<MAX_SIZE> {
         }
     }
 
-    /// Whether the arcs are the same. Constants call this in place of `==`, which takes the compiler longer.
-    pub(crate) const fn eq_by_octet(&self, other: &Self) -> bool {
-        self.ber.eq_by_octet(&other.ber)
+    /// Whether the arcs are the same, where most differ in the last octet.
+    pub(crate) const fn eq_last_first(&self, other: &Self) -> bool {
+        self.ber.eq_last_first(&other.ber)
     }
 
     /// Whether the arcs begin with all those of another identifier: whether the other one is this one or an ancestor of

@@ -1,11 +1,10 @@
 use Rattle.std.proofs.Common.{◌≡◌, length}
-use Rattle.std.specs.List.{fold}
-use Rattle.const_oid.specs.Private.Links.{hash_of, hash_step}
+use Rattle.const_oid.specs.Private.Links.{hash_words, with_bits}
 use Rattle.const_oid.proofs.links.hash.Given as goal
 
 abbrev pub invariant-loop-left : goal.invariant-loop-left
-invariant-loop-left l =
-    fold hash_step l.hash l.left ≡ hash_of l.fn.bytes
+invariant-loop-left g l =
+    hash_words l.hash (with_bits g.row.BITS l.left) ≡ hash_words (length l.fn.bytes) (with_bits g.row.BITS l.fn.bytes)
 
 abbrev pub decreases-loop-left : goal.decreases-loop-left
-decreases-loop-left l = length l.left
+decreases-loop-left g l = length l.left

@@ -8,6 +8,9 @@ pub(crate) const WORD_OCTETS: usize = 8;
 /// How many octets half a word has.
 pub(crate) const HALF_OCTETS: usize = 4;
 
+/// The bit of ASCII case.
+pub(crate) const CASE: u8 = 32;
+
 /// The eight octets from `at` on as a big-endian number: so words have the lexicographic order of their octets.
 #[inline(always)]
 pub(crate) const fn word(octets: &[u8], at: usize) -> u64 {
@@ -25,5 +28,28 @@ pub(crate) const fn half_word(octets: &[u8]) -> u32 {
     match octets.first_chunk::<HALF_OCTETS>() {
         Some(half) => u32::from_be_bytes(*half),
         None => unreachable!(),
+    }
+}
+
+/// The last eight octets, of fewer the first four and the last four, or all of fewer than four. In each the bits are set.
+#[inline(always)]
+pub(crate) const fn last_word<const BITS: u8>(octets: &[u8]) -> u64 {
+    let bits = u64::from_be_bytes([BITS; 8]);
+    if let [.., a, b, c, d, e, f, g, h] = octets {
+        return u64::from_be_bytes([*a, *b, *c, *d, *e, *f, *g, *h]) | bits;
+    }
+    if let ([a, b, c, d, ..], [.., e, f, g, h]) = (octets, octets) {
+        return u64::from_be_bytes([*a, *b, *c, *d, *e, *f, *g, *h]) | bits;
+    }
+    few_octets::<BITS>(octets)
+}
+
+/// The number of fewer than four octets.
+const fn few_octets<const BITS: u8>(octets: &[u8]) -> u64 {
+    match octets {
+        [a, b, c] => u64::from_be_bytes([0, 0, 0, 0, 0, *a | BITS, *b | BITS, *c | BITS]),
+        [a, b] => u64::from_be_bytes([0, 0, 0, 0, 0, 0, *a | BITS, *b | BITS]),
+        [a] => u64::from_be_bytes([0, 0, 0, 0, 0, 0, 0, *a | BITS]),
+        _ => 0,
     }
 }

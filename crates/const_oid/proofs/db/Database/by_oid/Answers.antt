@@ -1,13 +1,15 @@
 use Rattle.std.proofs.Common.{arith, ap, sym}
 use Rattle.std.specs.Option.{option_map}
 use Rattle.const_oid.specs.{Names.name_of}
+use Rattle.const_oid.specs.Oid.{oid_octets}
+use Rattle.const_oid.proofs.Hashes.{no_bits}
 use Rattle.const_oid.proofs.Linked.{finds, finds_none, goes_on, goes_past, same_oids, starts}
 use Rattle.const_oid.proofs.db.Database.by_oid.Goals as goal
 
 pub loop-index-init : goal.loop-index-init
 loop-index-init c =
     let first = c.first_candidate-index.ensures in
-    starts _ _ _ _ _ (same_oids c.args.oid.now) c.args.self.now.by_oid c.first_candidate-index.result (rw c.as_bytes.ensures.octets at first.linked) first.scanned
+    starts _ _ _ _ _ (same_oids c.args.oid.now) c.args.self.now.by_oid c.first_candidate-index.result (rw (c.as_bytes.ensures.octets, no_bits (oid_octets c.args.oid.now)) at first.linked) first.scanned
 
 pub loop-index-preserved : goal.loop-index-preserved
 loop-index-preserved c =
