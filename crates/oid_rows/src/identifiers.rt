@@ -266,8 +266,8 @@ pub fn element(alloc: Global, der: &[u8]) -> Result<String> {
     }
 }
 
-/// The text of the error that the library for C numbers so, with its arc or byte, or `None` if the number is of another
-/// result.
+/// The text of the error that the library for C numbers so, with its arc or byte, or `None` if the number is of a code
+/// that it alone has.
 pub fn error(alloc: Global, code: &str, number: Arc) -> Result<Option<String>> {
     let error = match (code, number) {
         ("1", arc) => Error::ArcInvalid { arc },
@@ -281,7 +281,8 @@ pub fn error(alloc: Global, code: &str, number: Arc) -> Result<Option<String>> {
         ("7", _) => Error::Overflow,
         ("8", _) => Error::RepeatedDot,
         ("9", _) => Error::TrailingDot,
-        _ => return Ok(None),
+        ("10" | "11" | "12" | "13" | "14", _) => return Ok(None),
+        _ => return Ok(Some(String::from_str(alloc, "none")?)),
     };
     Ok(Some(format!(in alloc; "{error}")?))
 }

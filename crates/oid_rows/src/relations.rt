@@ -173,19 +173,19 @@ fn searched(alloc: Global, entries: &[Entry<'_>], oid: &ObjectIdentifierRef<'_>)
     let find = first_of(entries, oid).and_then(name_at);
     let next = name_at(end_of(entries, oid));
     let nearest = nearest_of(entries, oid).and_then(name_at);
-    let (from, to) = subtree_of(entries, oid);
+    let (start, end) = subtree_of(entries, oid);
     ensure!(
-        start_of(entries, oid) == from
+        start_of(entries, oid) == start
             && table.by_oid(oid) == find
             && table.next_after(oid).map(|entry| entry.1) == next
             && table.nearest(*oid).map(|entry| entry.1) == nearest
-            && table.subtree(oid).len() == to.saturating_sub(from)
+            && table.subtree(oid).len() == end.saturating_sub(start)
     );
     let none = format!(in alloc; "none of {}", entries.len())?;
     let find = find.unwrap_or(&none);
     let next = next.unwrap_or(&none);
     let nearest = nearest.unwrap_or(&none);
-    Ok(format!(in alloc; "find {find}, next {next}, nearest {nearest}, range {from} {to}")?)
+    Ok(format!(in alloc; "find {find}, next {next}, nearest {nearest}, range {start} {end}")?)
 }
 
 /// What each search finds for an identifier.
