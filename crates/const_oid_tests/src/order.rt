@@ -193,7 +193,10 @@ fn a_set_has_the_borrowed_order(rt: HostRuntime) -> Result<(), Fail> {
     assert!(rt; oids.len() == ASCENDING.len());
     for (index, (oid, octets)) in oids.iter().zip(ASCENDING).enumerate() {
         let is_under = oid.arc(0) == Some(1) && oid.arc(1) == Some(2);
-        assert!(rt; oid.as_bytes() == *octets && is_under == (1..8).contains(&index), "{oid}");
+        assert!(rt;
+            oid.as_bytes() == *octets && is_under == (1..8).contains(&index),
+            "{oid}"
+        );
     }
     Ok(())
 }
