@@ -76,18 +76,18 @@ pub(crate) fn common_parts<'a>(octets: &'a [u8], others: &[u8]) -> &'a [u8] {
     without_last_part(first_octets(octets, same + 1))
 }
 
-/// Whether names are the same. Most of one length that differ do so in their last word, ignoring ASCII case. Then words
-/// are compared, and then bytes, ignoring it.
+/// Whether names are the same. Words are compared first. Most that differ do so in the last one, also ignoring ASCII case,
+/// and else their bytes are compared.
 pub(crate) const fn is_same_name(a: &str, b: &str) -> bool {
     let (a, b) = (a.as_bytes(), b.as_bytes());
     if a.len() != b.len() {
         return false;
     }
-    if last_word::<CASE>(a) != last_word::<CASE>(b) {
-        return false;
-    }
     if are_equal(a, b) {
         return true;
+    }
+    if last_word::<CASE>(a) != last_word::<CASE>(b) {
+        return false;
     }
     let mut index = 0;
     while index < a.len() {
