@@ -152,7 +152,12 @@ fn answers_each_row(rt: HostRuntime) -> Result<(), Fail> {
 #[test]
 fn tells_whether_it_is_indexed(rt: HostRuntime) -> Result<(), Fail> {
     let (cn, c) = (parse("2.5.4.3")?, parse("2.5.4.6")?);
-    let named = [(&cn, "cn"), (&c, "c"), (&cn, "commonName"), (&c, "countryName")];
+    let named = [
+        (&cn, "cn"),
+        (&c, "c"),
+        (&cn, "commonName"),
+        (&c, "countryName"),
+    ];
     let (mut short, mut memory) = ([0; 14], [0; 15]);
     assert!(rt; !Database::new(&named).is_indexed());
     assert!(rt; !Database::new(&named).indexed(&mut short).is_indexed());
