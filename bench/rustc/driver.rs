@@ -81,6 +81,7 @@ macro_rules! side {
                     "len" => repeat(times, || black_box(oid).len()),
                     "arc(3)" => repeat(times, || black_box(oid).arc(black_box(3))),
                     "arcs, all" => repeat(times, || black_box(oid).arcs().fold(0, |all, arc| all ^ arc)),
+                    "arcs, collected" => repeat(times, || black_box(oid).arcs().collect::<Vec<_>>()),
                     "parent" => repeat(times, || black_box(oid).parent()),
                     "push_arc(300)" => repeat(times, || black_box(*parent).push_arc(black_box(300))),
                     "starts_with, the parent" => repeat(times, || black_box(oid).starts_with(*black_box(parent))),
