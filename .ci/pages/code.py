@@ -4,7 +4,7 @@
   aside. On the page of the cargo crate, cargo tests them.
 - antt: the same, in a file of crates/const_oid_uses/proofs.
 - c, cpp of the library for C: its tests build and run them.
-- c of README, sh, python, toml: a compiler, bash or Python parses it.
+- c with its headers, sh, python, toml: a compiler, bash or Python parses it.
 - rs of README: run by the check `readme`, as is its c.
 - text, cmake: not checked."""
 import os
@@ -14,9 +14,9 @@ import sys
 
 from pages.page import CRATE, PAGES, TOP, blocks_of
 
-C = shlex.split(os.environ.get("CC", "cc")) + ["-std=c99", "-Wall", "-Werror", "-Icrates/const_oid_c/include"]
+C = shlex.split(os.environ.get("CC", "cc")) + ["-std=c99", "-Wall", "-Wno-unused-function", "-Werror"]
 PARSERS = {
-    "c": [*C, "-fsyntax-only", "-xc", "-"],
+    "c": [*C, "-Icrates/const_oid_c/include", "-fsyntax-only", "-xc", "-"],
     "sh": ["bash", "-n"],
     "python": [sys.executable, "-c", "import sys; compile(sys.stdin.read(), 'block', 'exec')"],
     "toml": [sys.executable, "-c", "import sys, tomllib; tomllib.loads(sys.stdin.read())"],
@@ -29,7 +29,7 @@ QUOTED = {
 RUN = {
     "README.md": ["rs"],
     CRATE: ["rust", "rust,compile_fail"],
-    "crates/const_oid_c/README.md": ["c", "cpp"],
+    "crates/const_oid_c/README.md": ["cpp"],
 }
 
 
@@ -51,7 +51,8 @@ def run_fault(command, text):
 
 def block_fault(page, language, text):
     """What of a block is in no source, or is not accepted."""
-    if language in ("text", "cmake", *RUN.get(page, [])):
+    goes_on = language == "c" and page in RUN and "#include" not in text
+    if goes_on or language in ("text", "cmake", *RUN.get(page, [])):
         return None
     if language in QUOTED:
         return quote_fault(text, QUOTED[language])
