@@ -3,9 +3,9 @@
 - rust: the lines are in a file of crates/const_oid_uses/src or const_oid_tests/src, in order, indentation and blank lines
   aside. On the page of the cargo crate, cargo tests them.
 - antt: the same, in a file of crates/const_oid_uses/proofs.
-- c, cpp: the same, in agent.c, by_name.c or main.cpp of crates/const_oid_c/tests. README's is run.
-- c of README, sh, python, toml: a compiler, bash or Python parses it.
-- rs of README: run by the check `readme`.
+- c, cpp of the library for C: its tests build and run them.
+- c with its headers, sh, python, toml: a compiler, bash or Python parses it.
+- rs of README: run by the check `readme`, as is its c.
 - text, cmake: not checked."""
 import os
 import shlex
@@ -14,9 +14,9 @@ import sys
 
 from pages.page import CRATE, PAGES, TOP, blocks_of
 
-C = shlex.split(os.environ.get("CC", "cc")) + ["-std=c99", "-Wall", "-Werror", "-Icrates/const_oid_c/include"]
+C = shlex.split(os.environ.get("CC", "cc")) + ["-std=c99", "-Wall", "-Wno-unused-function", "-Werror"]
 PARSERS = {
-    "c": [*C, "-fsyntax-only", "-xc", "-"],
+    "c": [*C, "-Icrates/const_oid_c/include", "-fsyntax-only", "-xc", "-"],
     "sh": ["bash", "-n"],
     "python": [sys.executable, "-c", "import sys; compile(sys.stdin.read(), 'block', 'exec')"],
     "toml": [sys.executable, "-c", "import sys, tomllib; tomllib.loads(sys.stdin.read())"],
@@ -24,8 +24,12 @@ PARSERS = {
 QUOTED = {
     "rust": ["crates/const_oid_uses/src/**/*.rt", "crates/const_oid_tests/src/**/*.rt"],
     "antt": ["crates/const_oid_uses/proofs/**/*.antt"],
-    "c": ["crates/const_oid_c/tests/agent.c", "crates/const_oid_c/tests/by_name.c"],
-    "cpp": ["crates/const_oid_c/tests/main.cpp"],
+}
+# What the tests of a page run.
+RUN = {
+    "README.md": ["rs"],
+    CRATE: ["rust", "rust,compile_fail"],
+    "crates/const_oid_c/README.md": ["cpp"],
 }
 
 
@@ -47,13 +51,14 @@ def run_fault(command, text):
 
 def block_fault(page, language, text):
     """What of a block is in no source, or is not accepted."""
-    if language in QUOTED and page not in (CRATE, "README.md"):
+    goes_on = language == "c" and page in RUN and "#include" not in text
+    if goes_on or language in ("text", "cmake", *RUN.get(page, [])):
+        return None
+    if language in QUOTED:
         return quote_fault(text, QUOTED[language])
     if language in PARSERS:
         return run_fault(PARSERS[language], text)
-    is_left = language in ("text", "cmake") or (page, language) == ("README.md", "rs")
-    is_left |= page == CRATE and language in ("rust", "rust,compile_fail")
-    return None if is_left else f"a block without a check: {language}"
+    return f"a block without a check: {language}"
 
 
 def faults():

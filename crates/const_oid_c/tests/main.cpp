@@ -6,24 +6,10 @@
 #include <type_traits>
 #include <vector>
 
-// The octets of a constant, from C++14 on. They last as long as the object does, so a temporary one is refused.
-template <size_t N> struct known_octets {
-    uint8_t octets[N - 1];
-    constexpr known_octets(const char (&constant)[N]) : octets() {
-        for (size_t i = 0; i < N - 1; i++) octets[i] = static_cast<uint8_t>(constant[i]);
-    }
-    constexpr operator const_oid_octets() const & { return {octets, N - 1}; }
-    operator const_oid_octets() const && = delete;
-};
+#include "page.cpp.inc" // the blocks of the page, ../README.md
 
-static constexpr known_octets<sizeof CONST_OID_BAKE_BAKE> bake{CONST_OID_BAKE_BAKE};
 static_assert(const_oid_octets(bake).len == 8 && const_oid_octets(bake).octets[7] == 0x42, "1.2.112.0.2.0.34.101.66");
 static_assert(!std::is_convertible<known_octets<9>, const_oid_octets>::value, "the octets of a temporary do not last");
-
-// std::sort asks whether an item comes before another.
-static bool comes_before(const const_oid_octets &left, const const_oid_octets &right) {
-    return const_oid_by_arcs(&left, &right) < 0;
-}
 
 // Each item of a list is found where it is, also from below it, and after it the next one.
 static void find_each(const std::vector<const_oid_octets> &items) {

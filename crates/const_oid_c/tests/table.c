@@ -59,26 +59,32 @@ static void find_like(size_t index) {
     find(text, index);
 }
 
-/* Finds the first row of octets, of the rows that are sorted. */
+/* Finds the first row of octets, of the rows that are sorted, by name_of and by a search. */
 static void find_octets(const uint8_t *octets, size_t len) {
     const const_oid_octets item = {octets, len};
     size_t first = 0;
     while (first < count && const_oid_by_arcs(&rows[first], &item) != 0) first++;
     SEE(const_oid_name_of(octets, len) == first, first);
+    SEE(const_oid_find(octets, len, const_oid_name_octets, count).len == first, first);
 }
 
-/* Finds octets: each prefix of them, with the zero that ends their constant, and with another octet at each place. */
+/* Finds octets: each prefix of them, with the zero that ends their constant, with another octet at each place, and from
+ * below. */
 static void find_octets_like(const_oid_octets of) {
-    uint8_t octets[16];
+    uint8_t octets[32];
     memcpy(octets, of.octets, of.len + 1);
     for (size_t i = 0; i <= of.len; i++) {
         find_octets(of.octets, i + 1);
         octets[i] ^= 1, find_octets(octets, of.len), octets[i] ^= 1;
     }
+    size_t len = const_oid_push_arc(of.octets, of.len, UINT32_MAX, octets, sizeof octets).len;
+    size_t nearest = const_oid_nearest(octets, len, const_oid_name_octets, count).len;
+    SEE(nearest == const_oid_name_of(of.octets, of.len), nearest);
 }
 
 int main(void) {
     SEE(count == CONST_OID_NAMES_COUNT, count);
+    SEE(const_oid_check_sorted(const_oid_name_octets, count).code == CONST_OID_OK, count);
     for (size_t i = 0; i < count; i++) {
         rows[i].place = i;
         SEE(is_encoding(rows[i].octets, rows[i].arcs), i);

@@ -77,14 +77,6 @@ CONST_OID_NODISCARD static __inline size_t const_oid_by_name(const char *name) {
     }
 }
 
-/* Whether octets are those of an entry. Most that differ do so at the end. */
-static __inline int const_oid_is_entry(size_t index, const uint8_t *octets, size_t len) {
-    const uint8_t *entry = const_oid_name_octets[index].octets;
-    if (const_oid_name_octets[index].len != len) return 0;
-    while (len > 0 && entry[len - 1] == octets[len - 1]) len--;
-    return len == 0;
-}
-
 /* The index of the first entry of an identifier, of its contents octets. CONST_OID_NAMES_COUNT if there is none, as for
  * invalid octets. */
 CONST_OID_NODISCARD static __inline size_t const_oid_name_of(const uint8_t *octets, size_t len) {
@@ -93,7 +85,8 @@ CONST_OID_NODISCARD static __inline size_t const_oid_name_of(const uint8_t *octe
     for (i = 0; i < len; i++) hash = (hash ^ octets[i]) * 16777619u;
     for (;; hash++) {
         index = const_oid_octets_by_hash[hash % @PLACES@];
-        if (index == CONST_OID_NAMES_COUNT || const_oid_is_entry(index, octets, len)) return index;
+        if (index == CONST_OID_NAMES_COUNT || (const_oid_name_octets[index].len == len
+            && !CONST_OID_DIFFER(const_oid_name_octets[index].octets, octets, len))) return index;
     }
 }
 

@@ -1,0 +1,60 @@
+/* The programs of the page, ../README.md, whose blocks of C are page.c.inc: an SNMP agent, rules, and names. */
+#include "page.c.inc"
+
+static void get(const uint8_t *octets, size_t len) {
+    const_oid_status found = const_oid_find(octets, len, names, count);
+    if (found.code == CONST_OID_OK) {
+        print_object(found.len);
+    } else {
+        print_error(found);
+    }
+}
+
+/* Whether purposes are read, but not if one is cut, is none, or has its length in a longer form (X.690, 8.1.3.5). They
+ * are in an extension of a certificate: SEQUENCE, 2.5.29.37, OCTET STRING, SEQUENCE of them (RFC 5280, 4.2.1.12). */
+static int reads_purposes(void) {
+    static const uint8_t der[] = {0x30, 29, 6, 3, 0x55, 29, 37, 4, 22, 0x30, 20,
+        6, 8, 0x2B, 6, 1, 5, 5, 7, 3, 2, 6, 8, 0x2B, 6, 1, 5, 5, 7, 3, 1};
+    static const uint8_t ber[] = {0x30, 30, 6, 3, 0x55, 29, 37, 4, 23, 0x30, 21,
+        6, 8, 0x2B, 6, 1, 5, 5, 7, 3, 2, 6, 0x81, 8, 0x2B, 6, 1, 5, 5, 7, 3, 1};
+    return are_key_purposes(der + 11, der[10]) && are_key_purposes(NULL, 0) && !are_key_purposes(der + 11, 19)
+        && !are_key_purposes(der + 2, 5) && !are_key_purposes(ber + 11, ber[10]);
+}
+
+/* Whether rules for more arcs decide first, and nothing else is allowed. */
+static int decides(void) {
+    static const uint8_t server[] = {0x2B, 6, 1, 5, 5, 7, 3, 1}, client[] = {0x2B, 6, 1, 5, 5, 7, 3, 2, 5};
+    return sort_rules() && is_allowed(server, 8) && is_allowed(server, 7) && !is_allowed(server, 6)
+        && !is_allowed(client, 8) && !is_allowed(client, 9) && !is_allowed(NULL, 0);
+}
+
+int main(void) {
+    static const uint8_t sys_name[] = {0x2B, 6, 1, 2, 1, 1, 5, 0}, up_time[] = {0x2B, 6, 1, 2, 1, 1, 3, 0};
+    static const uint8_t invalid[] = {0x2B, 0x80, 1}, group[] = {0x2B, 6, 1, 2, 1, 1}, long_name[MAX_NAME + 1] = {0};
+    append(sys_name, sizeof sys_name, "router");
+    append(invalid, sizeof invalid, "nothing");
+    append(up_time, sizeof up_time, "4711");
+    append(long_name, sizeof long_name, "nothing");
+    sort_names();
+    /* OID contains arc with invalid base 128 encoding */
+    get(up_time, sizeof up_time);
+    /* 1.3.6.1.2.1.1.3.0 = 4711 */
+    get(group, sizeof group);
+    /* there is no such arc, parent, item or text */
+    get_bulk(long_name, 1, 1);
+    /* 1.3.6.1.2.1.1.3.0 = 4711 */
+    insert("1.3.6.1.2.1.1.1.0", "a router");
+    insert("1.3.6.1.2.1.1.\x1B", "nothing");
+    /* expected digit, got '?' */
+    get_bulk(group, sizeof group, 1);
+    /* 1.3.6.1.2.1.1.1.0 = a router */
+    get_bulk(group, sizeof group, 2);
+    /* 1.3.6.1.2.1.1.1.0 = a router */
+    /* 1.3.6.1.2.1.1.3.0 = 4711 */
+    get_bulk(sys_name, sizeof sys_name, 10);
+    /* there is no such arc, parent, item or text */
+    const_oid_octets rsa = octets_of("RSAEncryption");
+    print_name(rsa.octets, rsa.len);
+    /* rsaEncryption */
+    return is_rsa(rsa.octets, rsa.len) && octets_of("no name").len == 0 && decides() && reads_purposes() ? 0 : 1;
+}
