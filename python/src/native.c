@@ -447,7 +447,6 @@ static PyObject *identifier_reduce(PyObject *self, PyObject *Py_UNUSED(none)) {
     return restored ? Py_BuildValue("N(O)", restored, ((Identifier *)self)->octets) : NULL;
 }
 
-/* The text of a code and its detail, or None. */
 static PyObject *error_text(PyObject *Py_UNUSED(module), PyObject *arguments) {
     char text[CONST_OID_MAX_ERROR_TEXT];
     long long code, detail;
@@ -460,7 +459,6 @@ static PyObject *error_text(PyObject *Py_UNUSED(module), PyObject *arguments) {
     return PyUnicode_FromStringAndSize(text, (Py_ssize_t)status.len);
 }
 
-/* The index of the first wrong component of a text in UTF-8, or None if it is valid. */
 static PyObject *wrong_component(PyObject *Py_UNUSED(module), PyObject *text) {
     char *bytes;
     Py_ssize_t len;
@@ -615,7 +613,6 @@ static int module_exec(PyObject *module) {
     return PyModule_AddObjectRef(module, "__version__", text) ? -1 : PyModule_AddType(module, (PyTypeObject *)type);
 }
 
-/* The identifier of a pickle. */
 static PyObject *restored(PyObject *module, PyObject *octets) {
     OWNED *type = PyObject_GetAttrString(module, "ObjectIdentifier");
     if (!type) return NULL;

@@ -34,7 +34,6 @@ UNDER, GIVEN = Under("1.2.3"), (OTHER,)
 
 
 def raised(call, *given):
-    """Calls what raises an error."""
     try:
         call(*given)
     except (OidError, ValueError, TypeError, OverflowError):
@@ -132,7 +131,6 @@ class Memory(unittest.TestCase):
         self.assertEqual(5 * len(CALLS), len(results))
 
     def test_functions_keep_no_memory(self):
-        """No call keeps memory, or a reference to what it was given or made from."""
         tracemalloc.start()
         self.addCleanup(tracemalloc.stop)
         for name, call in CALLS.items():

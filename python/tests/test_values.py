@@ -108,7 +108,6 @@ Bare = type("Bare", (OidError,), {"__init__": lambda error, *args: None})
 
 
 def error_of(call, *given):
-    """The error of a call, or None."""
     try:
         call(*given)
     except Exception as error:
@@ -129,7 +128,6 @@ def is_linear(call, of):
 
 
 def copies_of(value, protocols=range(pickle.HIGHEST_PROTOCOL + 1)):
-    """Pickles, and deep copies."""
     pickles = [pickle.loads(pickle.dumps(value, protocol)) for protocol in protocols]
     return [*pickles, copy.deepcopy(value), copy.deepcopy([value])[0]]
 
@@ -140,12 +138,11 @@ class Inputs(unittest.TestCase):
             ObjectIdentifier: [b"1.2", None, 1, 1.2, ("1", "2")],
             ObjectIdentifier.from_bytes: ["2.999", None, 42, [42, 3], OID, array.array("B", [42])],
             ObjectIdentifier.from_der: ["2.999", None, 42, [6, 1, 42], OID, array.array("B", [6, 1, 42])],
-            ObjectIdentifier.from_arcs: ["12", b"\1\2", bytearray(b"\1"), None, 1, [1, "2"], [1.0, 2], {1: 2, 2: 3}],
+            ObjectIdentifier.from_arcs: ["12", b"\1\2", bytearray(b"\1"), None, 1, [1, "2"], [1.0, 2], {1: 2, 2: 3},
+                memoryview(b"\1\2"), *((1, 2**32, arc) for arc in ("3", 2.0, None))],
             OID.__format__: [5, b"", None],
-            (lambda arcs: ObjectIdentifier.from_arcs((1, 2**32, *arcs))): ["3", [2.0], None],
             OID.child: ["1", 1.0, None, OID],
             OID.starts_with: ["1.2", b"\x2a", None, (1, 2)],
-            (lambda octets: ObjectIdentifier.from_arcs(memoryview(octets))): [b"\x01\x02"],
             OID.__getitem__: ["1", None, 1.0],
         }
         for call, inputs in wrong.items():
@@ -211,11 +208,16 @@ class Inputs(unittest.TestCase):
             (OID.index, 3): "3 is not among the arcs",
             (OID.index, 2, 0, 1): "2 is not among the arcs",
             **{(operator.getitem, OID, index): "index out of range" for index in (6, -7, 10**50)},
+            **{(call, RAISING): "tuple index out of range" for call in (OID.__getitem__, OID.child)},
+            **{(call, RAISING): "invalid literal for int() with base 10: 'x'" for call in (OID.index, OID.count)},
+            **{(OidError, *wrong): "a number has 32 bits"
+                for wrong in ((4, 2**32 + 120), (4, -1), (2**32 + 4, 120), (-1, 0))},
+            (OidError, 4, 2**64 + 120): "int too big to convert",
+            (OidError, 99): "99 is not a valid Code",
         }
-        said |= {(call, RAISING): "tuple index out of range" for call in (OID.__getitem__, OID.child)}
-        said |= {(call, RAISING): "invalid literal for int() with base 10: 'x'" for call in (OID.index, OID.count)}
         kinds = {"an arc is": ValueError, "3 is not ": ValueError, "2 is not ": ValueError, "invalid l": ValueError}
-        kinds |= {"index out": IndexError, "tuple ind": IndexError}
+        kinds |= {"index out": IndexError, "tuple ind": IndexError, "99 is not": ValueError}
+        kinds |= {"a number ": OverflowError, "int too b": OverflowError}
         for (call, *given), text in said.items():
             with self.subTest(text):
                 error = error_of(call, *given)
@@ -233,7 +235,6 @@ class Inputs(unittest.TestCase):
                 importlib.import_module("const_oid._support")
 
     def test_an_identifier_in_place_of_a_text(self):
-        """An identifier in place of a text: itself, or one of another class with its octets."""
         under, named = Under(OID), Named("2.999")
         self.assertIs(OID, ObjectIdentifier(OID))
         # As with tuple, another object: else its __init__ would run again.
@@ -296,7 +297,6 @@ class Inputs(unittest.TestCase):
         self.assertEqual((2, 0), error_of(ObjectIdentifier.from_arcs, (*arcs, 2**32)).args)
 
     def test_long_inputs_take_linear_time(self):
-        """Of a text, a text with an error, and elements in a row."""
         def read(rest):
             while rest:
                 _, rest = ObjectIdentifier.read_der(rest)
@@ -318,7 +318,6 @@ class Values(unittest.TestCase):
         self.assertEqual({OID: 1}, {Under(OID): 1})
 
     def test_a_subclass_is_called_with_an_identifier(self):
-        """What makes an object of a subclass calls it once, with a plain identifier."""
         source = Named("2.999")
         made = [Named.from_bytes(b"\x88\x37"), Named.from_arcs((2, 999)), Named("2.999.1").parent, Named("2.999")]
         made += [Named.read_der(source.der)[0], Named(source), Named(OID).parent.parent.parent.parent.child(3).parent]
@@ -327,7 +326,6 @@ class Values(unittest.TestCase):
         self.assertEqual("2.999.7", source.child(7).text)
 
     def test_copies_of_a_subclass_have_its_attributes(self):
-        """Copies and pickles have all attributes: deep copies have copies of them, and may be cyclic."""
         oid = Named("2.999")
         oid.text, oid.slot, oid.other = "changed", [1], [oid]
         for other in copies_of(oid, range(2, 6)):
@@ -456,13 +454,7 @@ class Values(unittest.TestCase):
             del error.given
             self.assertFalse(hasattr(error, "given"))
 
-    def test_numbers_of_an_error_have_32_bits(self):
-        for args in ((4, 2**32 + 120), (4, -1), (2**32 + 4, 120), (-1, 0), (4, 2**64 + 120)):
-            self.assertIs(OverflowError, type(error_of(OidError, *args)), args)
-        self.assertIs(ValueError, type(error_of(OidError, 99)))
-
     def test_threads_do_not_mix_identifiers(self):
-        """Eight threads, each with identifiers and errors of its own."""
         start = threading.Barrier(8)
 
         def work(own):
@@ -481,10 +473,7 @@ class Values(unittest.TestCase):
 
     def test_interpreters_have_their_own_class(self):
         """Four at once, which have locks of their own since Python 3.12."""
-        try:
-            import _interpreters as interpreters
-        except ImportError:
-            import _xxsubinterpreters as interpreters
+        interpreters = importlib.import_module("_xxsubinterpreters" if sys.version_info < (3, 13) else "_interpreters")
         read, write = os.pipe()
         own = [interpreters.create() for _ in range(4)]
         with concurrent.futures.ThreadPoolExecutor(4) as threads:

@@ -3,7 +3,6 @@ import ast
 import base64
 import concurrent.futures
 import email
-import functools
 import hashlib
 import importlib.metadata
 import importlib.util
@@ -58,7 +57,6 @@ REFUSED = {
 
 
 def said_by(*command):
-    """What a program prints."""
     return subprocess.run(command, text=True, stdout=subprocess.PIPE, check=True).stdout
 
 
@@ -86,11 +84,10 @@ class Wheel(unittest.TestCase):
         """Nothing but the package and what says what it is, which is installed; all may read it, none may run it."""
         self.assertEqual((FILES, len(FILES)), (set(self.files), len(self.entries)))
         self.assertEqual({0o100644}, {entry.external_attr >> 16 for entry in self.entries})
-        sources = {name: f"python/src/{name}" for name in self.files if name.startswith("const_oid/")}
-        del sources["const_oid/_native.abi3.so"], sources["const_oid/names.tsv"]
-        sources |= {f"{STEM}.dist-info/licenses/{name}": name for name in ("LICENSE-APACHE", "LICENSE-MIT")}
-        for name, source in sources.items():
-            self.assertEqual((TOP / source).read_bytes(), self.files[name])
+        sources = [*(TOP / "python/src/const_oid").glob("*.*"), TOP / "LICENSE-APACHE", TOP / "LICENSE-MIT"]
+        contents = {name.split("/")[-1]: content for name, content in self.files.items()}
+        for source in sources:
+            self.assertEqual(source.read_bytes(), contents[source.name])
         installed = {str(path) for path in importlib.metadata.files("const-oid") if path.suffix != ".pyc"}
         of_pip = {f"{STEM}.dist-info/{name}" for name in ("INSTALLER", "REQUESTED", "direct_url.json")}
         self.assertEqual(FILES | of_pip, installed)
@@ -104,7 +101,6 @@ class Wheel(unittest.TestCase):
                 self.assertEqual((f"sha256={wanted}", str(len(self.files[name]))), (digest, length))
 
     def test_the_tag_says_abi_and_machine(self):
-        """The name and WHEEL say that the module is for the stable ABI, and for this machine."""
         self.assertRegex(self.name, rf"^{STEM}-cp311-abi3-[a-z]+_[a-z0-9_]+\.whl$")
         said = email.message_from_bytes(self.files[f"{STEM}.dist-info/WHEEL"])
         tag = self.name.removeprefix(f"{STEM}-").removesuffix(".whl")
@@ -167,19 +163,18 @@ class Wheel(unittest.TestCase):
         self.assertNotRegex(source, r'Py_(X?(INC|DEC|SET)REF|CLEAR|RETURN_\w+)[(;]|"\w+#')
         said_by(*command, "-Wall", "-Wextra", "-Werror", "-fsyntax-only")
 
-
     def test_the_flags(self):
         """Any other would make another module."""
-        said, files = [], [f"-I{backend.INCLUDE}", f"-I{backend.HEADER.parent}", f"{TOP}/python/src/native.c"]
-        output = {"_output": lambda *call: said.append([*map(str, call)]) or "host: this\n", "_missing": lambda _: ()}
+        said = []
+        output = {"_output": lambda *call: said.append(call) or "host: this\n", "_missing": lambda _: ()}
         with mock.patch.multiple(backend, **output), mock.patch.dict(os.environ, CFLAGS="-g", LDFLAGS="-L."):
-            backend._compile("module", None)
+            backend._compile("made", None)
+        wanted = f"""{backend.RUSTC} -vV
+cargo build --quiet --release --locked --offline --target this --target-dir OUT --manifest-path {backend.CRATE}
+{" ".join(backend.COMPILER)} -std=c11 -O2 -fPIC -fno-plt -fvisibility=hidden -g -shared -Wl,--exclude-libs,ALL -s \
+-I{backend.INCLUDE} -I{backend.HEADER.parent} {TOP}/python/src/native.c OUT/this/release/libconst_oid_c.a -o made -L."""
         folder = said[1][said[1].index("--target-dir") + 1]
-        cargo = f"cargo build --quiet --release --locked --offline --target this --target-dir {folder} --manifest-path"
-        flags = "-std=c11 -O2 -fPIC -fno-plt -fvisibility=hidden -g -shared -Wl,--exclude-libs,ALL -s".split()
-        files += [f"{folder}/this/release/libconst_oid_c.a", "-o", "module", "-L."]
-        wanted = [[backend.RUSTC, "-vV"], [*cargo.split(), str(backend.CRATE)], [*backend.COMPILER, *flags, *files]]
-        self.assertEqual(wanted, said)
+        self.assertEqual(wanted.replace("OUT", folder).split("\n"), [" ".join(map(str, call)) for call in said])
 
     def test_a_library_below_a_space(self):
         """The library may lie below a folder with a space, and CC be empty."""
@@ -194,7 +189,6 @@ class Wheel(unittest.TestCase):
 
 
 def unpacked(archive, folder):
-    """The folder of a source archive."""
     with tarfile.open(fileobj=io.BytesIO(archive)) as tar:
         assert {STEM} == {member.name.split("/")[0] for member in tar}
         tar.extractall(folder)
@@ -228,9 +222,9 @@ class Build(unittest.TestCase):
             (top / "python/out/const_oid/stale.py").touch()
             # Of two at once each waits for the other, however slow.
             slow = "import shutil, time; rm = shutil.rmtree; shutil.rmtree = lambda *_, **__: rm(*_) or time.sleep(1)"
-            with concurrent.futures.ThreadPoolExecutor(2) as builds:
-                build = functools.partial(built, "build_editable", python=top / "python", before=slow)
-                (status, name, files), other = builds.map(lambda _: build(), range(2))
+            with concurrent.futures.ThreadPoolExecutor() as builds:
+                both = [builds.submit(built, "build_editable", python=top / "python", before=slow) for _ in range(2)]
+            (status, name, files), other = (one.result() for one in both)
             self.assertEqual((0, 0), (status, other[0]), (name, other[1]))
             self.assertEqual(PACKAGE, set(os.listdir(top / "python/out/const_oid")))
             with zipfile.ZipFile(io.BytesIO(files[name])) as archive:

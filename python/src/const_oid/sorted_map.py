@@ -280,22 +280,17 @@ class _Keys:
 
     def last_until(self, oid: ObjectIdentifier) -> ObjectIdentifier | None:
         """The last key that is not after an identifier, or None."""
-        index = bisect(self._parts, oid, key=_LAST)
-        before = bisect(self._parts[index], oid) if index < len(self._parts) else 0
-        if before:
-            return self._parts[index][before - 1]
-        return self._parts[index - 1][-1] if index else None
+        index = bisect(self._parts, oid, key=itemgetter(0)) - 1
+        return None if index < 0 else self._parts[index][bisect(self._parts[index], oid) - 1]
 
-    def subtree(self, oid: ObjectIdentifier) -> list[ObjectIdentifier]:
+    def subtree(self, oid: ObjectIdentifier) -> Iterator[ObjectIdentifier]:
         """The keys that begin with an identifier."""
-        found: list[ObjectIdentifier] = []
         for part in self._parts[bisect_left(self._parts, oid, key=_LAST) :]:
             start = bisect_left(part, oid)
             end = bisect_left(part, True, start, key=lambda key: not key.starts_with(oid))
-            found += part[start:end]
+            yield from part[start:end]
             if end < len(part):
                 break
-        return found
 
     def __iter__(self) -> Iterator[ObjectIdentifier]:
         return chain.from_iterable(self._parts)
