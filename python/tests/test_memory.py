@@ -1,7 +1,9 @@
 """What the functions of the extension module keep of memory, and what they do without it. Under the sanitizers of a C
 compiler, also what they read and write."""
 import copy
+import functools
 import gc
+import importlib.util
 import operator
 import pickle
 import sys
@@ -12,11 +14,7 @@ from unittest import mock
 import const_oid
 from const_oid import Code, ObjectIdentifier, OidError, SortedMap, _support
 
-try:
-    import _testcapi
-except ImportError:
-    _testcapi = None
-
+_testcapi = importlib.util.find_spec("_testcapi") and importlib.import_module("_testcapi")
 # Short and long octets, of arcs that differ and are no small integers: the last have ten digits.
 OCTETS = {
     "short": bytes.fromhex("2A8648CE3D0201"),
@@ -31,16 +29,8 @@ WRONG = b"\x80\x01"
 # Python 3.12 counts no references to a literal.
 Under = type("".join(("Un", "der")), (ObjectIdentifier,), {})
 UNDER, GIVEN = Under("1.2.3"), (OTHER,)
-
-
-def raised(call, *given):
-    try:
-        call(*given)
-    except (OidError, ValueError, TypeError, OverflowError):
-        return
-    raise AssertionError("there is no error")
-
-
+# Calls what raises an error.
+raised = functools.partial(unittest.TestCase().assertRaises, (ValueError, TypeError, OverflowError))
 Asking = type("Asking", (list,), {"__del__": lambda asking: asking[0].arcs})
 Other = type("Other", (dict,), {"__getattr__": lambda other, name: Other(), "__call__": lambda other, *_, **__: other})
 

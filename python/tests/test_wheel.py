@@ -5,7 +5,6 @@ import concurrent.futures
 import email
 import hashlib
 import importlib.metadata
-import importlib.util
 import io
 import os
 import pathlib
@@ -148,7 +147,7 @@ class Wheel(unittest.TestCase):
 
     def test_the_module_shows_its_start_alone(self):
         """The module shows its start alone, and needs the library of C alone: that of object identifiers is in it."""
-        module = importlib.util.find_spec("const_oid._native").origin
+        module = importlib.import_module("const_oid._native").__file__
         self.assertRegex(said_by("nm", "-D", "--defined-only", module), r"^[0-9a-f]+ T PyInit__native$")
         needed = re.findall(r"\(NEEDED\).*\[(.*)\]", said_by("readelf", "-dW", module))
         self.assertEqual(["libc.so.6"], needed)

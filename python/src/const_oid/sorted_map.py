@@ -16,7 +16,7 @@ Value = TypeVar("Value")
 
 PART = 1000
 _CONTINUED = bytes(range(128, 256))
-_LAST = itemgetter(-1)
+_FIRST, _LAST = itemgetter(0), itemgetter(-1)
 
 
 class SortedMap(MutableMapping[ObjectIdentifier, Value]):
@@ -280,17 +280,19 @@ class _Keys:
 
     def last_until(self, oid: ObjectIdentifier) -> ObjectIdentifier | None:
         """The last key that is not after an identifier, or None."""
-        index = bisect(self._parts, oid, key=itemgetter(0)) - 1
+        index = bisect(self._parts, oid, key=_FIRST) - 1
         return None if index < 0 else self._parts[index][bisect(self._parts[index], oid) - 1]
 
-    def subtree(self, oid: ObjectIdentifier) -> Iterator[ObjectIdentifier]:
+    def subtree(self, oid: ObjectIdentifier) -> list[ObjectIdentifier]:
         """The keys that begin with an identifier."""
+        found: list[ObjectIdentifier] = []
         for part in self._parts[bisect_left(self._parts, oid, key=_LAST) :]:
             start = bisect_left(part, oid)
             end = bisect_left(part, True, start, key=lambda key: not key.starts_with(oid))
-            yield from part[start:end]
+            found += part[start:end]
             if end < len(part):
                 break
+        return found
 
     def __iter__(self) -> Iterator[ObjectIdentifier]:
         return chain.from_iterable(self._parts)
