@@ -96,6 +96,49 @@ class Index:
 OWN = {"__index__": lambda _: ()[0], "__eq__": lambda *_: int("x"), "__hash__": object.__hash__}
 RAISING = type("Raising", (), OWN)()
 
+# Errors of Python: their type, what they say if it is of this package, the call and its inputs.
+from_bytes, from_der, from_arcs = ObjectIdentifier.from_bytes, ObjectIdentifier.from_der, ObjectIdentifier.from_arcs
+OF_OTHERS = [("cryptography.x509", "dotted_string", "its .dotted_string"), ("asn1crypto.core", "dotted", "its .dotted")]
+REJECTED = [
+    (TypeError, "", ObjectIdentifier, [b"1.2", None, 1, 1.2, ("1", "2")]),
+    (TypeError, "", from_bytes, ["2.999", None, 42, [42, 3], OID, array.array("B", [42])]),
+    (TypeError, "", from_der, ["2.999", None, 42, [6, 1, 42], OID, array.array("B", [6, 1, 42])]),
+    (TypeError, "", from_arcs, ["12", b"\1\2", bytearray(b"\1"), memoryview(b"\1\2"), None, 1, [1, "2"], [1.0, 2]]),
+    (TypeError, "", from_arcs, [{1: 2, 2: 3}, *((1, 2**32, arc) for arc in ("3", 2.0, None))]),
+    (TypeError, "", OID.__format__, [5, b"", None]),
+    (TypeError, "", OID.child, ["1", 1.0, None, OID]),
+    (TypeError, "", OID.starts_with, ["1.2", b"\x2a", None, (1, 2)]),
+    (TypeError, "", OID.__getitem__, ["1", None, 1.0]),
+    *((TypeError, f"text must be a str, not {module}.Other (ObjectIdentifier takes {hint})", ObjectIdentifier,
+        [type("Other", (), {"__module__": module, field: None})()])
+        for module, field, hint in [*OF_OTHERS, ("pyasn1.type.univ", "isPrefixOf", "its str()")]),
+    (TypeError, "octets must be bytes, bytearray or memoryview, not str (ObjectIdentifier takes dotted text, and "
+        "bytes.fromhex hexadecimal text)", from_bytes, ["2A03"]),
+    (TypeError, "octets must be bytes, bytearray or memoryview, not list (bytes takes octets as numbers)", from_bytes,
+        [[1]]),
+    (TypeError, "octets must be items of 1 byte, not 2: see memoryview.cast", from_bytes,
+        [memoryview(array.array("H", [42]))]),
+    (TypeError, "text must be a str, not bytes (from_bytes takes octets)", ObjectIdentifier, [b"1"]),
+    (TypeError, "text must be a str, not tuple (from_arcs takes arcs)", ObjectIdentifier, [(1, 2)]),
+    (TypeError, "text must be a str, not int", ObjectIdentifier, [1]),
+    (TypeError, "prefix must be an ObjectIdentifier, not bytes (from_bytes takes octets)", OID.starts_with, [OCTETS]),
+    (TypeError, "prefix must be an ObjectIdentifier, not str (ObjectIdentifier takes text)", OID.starts_with, ["1"]),
+    (TypeError, "arcs must be an iterable of int, not set (a set has no order)", from_arcs, [{1, 2}]),
+    (TypeError, "arcs must be an iterable of int, not frozenset (a set has no order)", from_arcs, [frozenset()]),
+    (ValueError, "an arc is negative: -2", from_arcs, [(1, -2)]),
+    (ValueError, "an arc is negative: -2", OID.child, [-2]),
+    (ValueError, "an arc is negative", OID.child, [-(10**5000)]),
+    (ValueError, "3 is not among the arcs", OID.index, [3]),
+    (ValueError, "2 is not among the arcs", lambda stop: OID.index(2, 0, stop), [1]),
+    (IndexError, "index out of range", lambda index: OID[index], [6, -7, 10**50]),
+    *((IndexError, "tuple index out of range", call, [RAISING]) for call in (OID.__getitem__, OID.child)),
+    *((ValueError, "invalid literal for int() with base 10: 'x'", call, [RAISING]) for call in (OID.index, OID.count)),
+    (OverflowError, "a number has 32 bits", lambda args: OidError(*args), [(4, 2**32 + 120), (4, -1), (-1, 0)]),
+    (OverflowError, "a number has 32 bits", lambda code: OidError(code, 120), [2**32 + 4]),
+    (OverflowError, "", lambda detail: OidError(4, detail), [2**64 + 120]),
+    (ValueError, "", OidError, [99]),
+]
+
 # Subclasses with a state that is a tuple and without setattr; with a way of their own to be copied; and by copyreg.
 OWN = {"__setattr__": None, "__getstate__": lambda oid: ("state", "kept")}
 Kept = type("Kept", (Under,), OWN | {"__setstate__": lambda oid, state: vars(oid).update(text=state[1])})
@@ -133,23 +176,6 @@ def copies_of(value, protocols=range(pickle.HIGHEST_PROTOCOL + 1)):
 
 
 class Inputs(unittest.TestCase):
-    def test_other_types_are_rejected(self):
-        wrong = {
-            ObjectIdentifier: [b"1.2", None, 1, 1.2, ("1", "2")],
-            ObjectIdentifier.from_bytes: ["2.999", None, 42, [42, 3], OID, array.array("B", [42])],
-            ObjectIdentifier.from_der: ["2.999", None, 42, [6, 1, 42], OID, array.array("B", [6, 1, 42])],
-            ObjectIdentifier.from_arcs: ["12", b"\1\2", bytearray(b"\1"), None, 1, [1, "2"], [1.0, 2], {1: 2, 2: 3},
-                memoryview(b"\1\2"), *((1, 2**32, arc) for arc in ("3", 2.0, None))],
-            OID.__format__: [5, b"", None],
-            OID.child: ["1", 1.0, None, OID],
-            OID.starts_with: ["1.2", b"\x2a", None, (1, 2)],
-            OID.__getitem__: ["1", None, 1.0],
-        }
-        for call, inputs in wrong.items():
-            for given in inputs:
-                with self.subTest(call=call, given=given):
-                    self.assertIs(TypeError, type(error_of(call, given)))
-
     def test_octets_come_from_any_buffer(self):
         for call, octets in ((ObjectIdentifier.from_bytes, OCTETS), (ObjectIdentifier.from_der, b"\6\7" + OCTETS)):
             source = bytearray(octets)
@@ -184,44 +210,11 @@ class Inputs(unittest.TestCase):
         self.assertEqual((2, 999, 3, 4), ObjectIdentifier.from_arcs((2, other, 3, 4)).arcs)
 
     def test_errors_of_python_say_what_to_do(self):
-        others = [("cryptography.x509", "dotted_string", ".dotted_string"), ("asn1crypto.core", "dotted", ".dotted")]
-        octets, wanted = "octets must be bytes, bytearray or memoryview, not", "arcs must be an iterable of int"
-        said = {
-            **{(ObjectIdentifier, type("Other", (), {"__module__": module, field: None})()):
-                f"text must be a str, not {module}.Other (ObjectIdentifier takes its {text})"
-                for module, field, text in [*others, ("pyasn1.type.univ", "isPrefixOf", "str()")]},
-            (ObjectIdentifier.from_bytes, "2A03"):
-                f"{octets} str (ObjectIdentifier takes dotted text, and bytes.fromhex hexadecimal text)",
-            (lambda *arcs: ObjectIdentifier.from_bytes([*arcs]), 1): f"{octets} list (bytes takes octets as numbers)",
-            (lambda kind: ObjectIdentifier.from_bytes(memoryview(array.array(kind, [42]))), "H"):
-                "octets must be items of 1 byte, not 2: see memoryview.cast",
-            (ObjectIdentifier, b"1"): "text must be a str, not bytes (from_bytes takes octets)",
-            (ObjectIdentifier, (1, 2)): "text must be a str, not tuple (from_arcs takes arcs)",
-            (ObjectIdentifier, 1): "text must be a str, not int",
-            (OID.starts_with, OCTETS): "prefix must be an ObjectIdentifier, not bytes (from_bytes takes octets)",
-            (OID.starts_with, "1"): "prefix must be an ObjectIdentifier, not str (ObjectIdentifier takes text)",
-            (lambda arcs: ObjectIdentifier.from_arcs({*arcs}), (1, 2)): f"{wanted}, not set (a set has no order)",
-            (ObjectIdentifier.from_arcs, frozenset()): f"{wanted}, not frozenset (a set has no order)",
-            (ObjectIdentifier.from_arcs, (1, -2)): "an arc is negative: -2",
-            (OID.child, -2): "an arc is negative: -2",
-            (OID.child, -(10**5000)): "an arc is negative",
-            (OID.index, 3): "3 is not among the arcs",
-            (OID.index, 2, 0, 1): "2 is not among the arcs",
-            **{(operator.getitem, OID, index): "index out of range" for index in (6, -7, 10**50)},
-            **{(call, RAISING): "tuple index out of range" for call in (OID.__getitem__, OID.child)},
-            **{(call, RAISING): "invalid literal for int() with base 10: 'x'" for call in (OID.index, OID.count)},
-            **{(OidError, *wrong): "a number has 32 bits"
-                for wrong in ((4, 2**32 + 120), (4, -1), (2**32 + 4, 120), (-1, 0))},
-            (OidError, 4, 2**64 + 120): "int too big to convert",
-            (OidError, 99): "99 is not a valid Code",
-        }
-        kinds = {"an arc is": ValueError, "3 is not ": ValueError, "2 is not ": ValueError, "invalid l": ValueError}
-        kinds |= {"index out": IndexError, "tuple ind": IndexError, "99 is not": ValueError}
-        kinds |= {"a number ": OverflowError, "int too b": OverflowError}
-        for (call, *given), text in said.items():
-            with self.subTest(text):
-                error = error_of(call, *given)
-                self.assertEqual((kinds.get(text[:9], TypeError), text), (type(error), str(error)))
+        for kind, text, call, inputs in REJECTED:
+            for given in inputs:
+                with self.subTest(call=call, given=given):
+                    error = error_of(call, given)
+                    self.assertEqual((kind, text or str(error)), (type(error), str(error)))
 
     def test_the_callers_modules_do_not_matter(self):
         """Errors, of one class, and copies need nothing of the caller's builtins or of sys.modules."""
