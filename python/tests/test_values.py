@@ -21,6 +21,7 @@ from unittest import mock
 import const_oid
 from const_oid import Code, ObjectIdentifier, OidError, _native
 
+from_bytes, from_der, from_arcs = ObjectIdentifier.from_bytes, ObjectIdentifier.from_der, ObjectIdentifier.from_arcs
 OID = ObjectIdentifier("1.2.840.10045.2.1")
 OCTETS = bytes.fromhex("2A8648CE3D0201")
 LONG = ObjectIdentifier.from_bytes(bytes([42] + [3] * 299))
@@ -40,18 +41,17 @@ WRONG = [
     (ObjectIdentifier, 4, "expected digit, got 'ü'", {"1.2.ü٣": (0xC3, 2)}),
     (ObjectIdentifier, 4, "expected digit, got '😀'", {"1.2.😀.x": (0xF0, 2)}),
     (ObjectIdentifier, 11, "the text is not UTF-8", {"1.\ud800": (0, 1), "1.2.\ud800": (0, 2)}),
-    (ObjectIdentifier.from_bytes, 5, "OID value is empty", {b"": (0, None)}),
-    (ObjectIdentifier.from_bytes, 3, "OID contains arc with invalid base 128 encoding", {b"\x2a\x80\x01": (0, None)}),
-    (ObjectIdentifier.from_der, 5, "OID value is empty", {b"\6\0": (0, None)}),
-    (ObjectIdentifier.from_der, 14, "the tag is not 6", {b"": (0, None), b"\x26\1\x2a": (0, None)}),
-    (ObjectIdentifier.from_der, 14, "octets come after the element",
-        {b"\6\1\x2a" + bytes(count): (0, None) for count in (1, 2, 3)}),
+    (from_bytes, 5, "OID value is empty", {b"": (0, None)}),
+    (from_bytes, 3, "OID contains arc with invalid base 128 encoding", {b"\x2a\x80\x01": (0, None)}),
+    (from_der, 5, "OID value is empty", {b"\6\0": (0, None)}),
+    (from_der, 14, "the tag is not 6", {b"": (0, None), b"\x26\1\x2a": (0, None)}),
+    (from_der, 14, "octets come after the element", {b"\6\1\x2a" + bytes(count): (0, None) for count in (1, 2, 3)}),
     (ObjectIdentifier.read_der, 14, "the length is not in the form of DER, or octets are missing",
         {b"\6": (0, None), b"\6\2\x2a": (0, None), b"\6\x81\1\x2a": (0, None), b"\6\x80\x2a\0\0": (0, None)}),
-    (ObjectIdentifier.from_arcs, 5, "OID value is empty", {(): (0, None)}),
-    (ObjectIdentifier.from_arcs, 5, "an identifier has two arcs or more", {(1,): (0, None)}),
-    (ObjectIdentifier.from_arcs, 2, "OID contains arc which is larger than 32-bits", {(1, 2, 2**32): (0, None)}),
-    (ObjectIdentifier.from_arcs, 1, "OID contains out-of-range arc: 3", {(3, 2**32): (3, None)}),
+    (from_arcs, 5, "OID value is empty", {(): (0, None)}),
+    (from_arcs, 5, "an identifier has two arcs or more", {(1,): (0, None)}),
+    (from_arcs, 2, "OID contains arc which is larger than 32-bits", {(1, 2, 2**32): (0, None)}),
+    (from_arcs, 1, "OID contains out-of-range arc: 3", {(3, 2**32): (3, None)}),
     (OID.child, 2, "OID contains arc which is larger than 32-bits", {2**32: (0, None)}),
 ]
 
@@ -81,15 +81,9 @@ class Named(collections.abc.Sized, Under):
         self.text, self.slot, self.calls = str(text), [], getattr(self, "calls", 0) + 1
 
 
-class Index:
+def index(call=int):
     """The arc 999, which calls a function where it is read."""
-
-    def __init__(self, call=int):
-        self.call = call
-
-    def __index__(self):
-        self.call()
-        return 999
+    return type("Index", (), {"__index__": lambda _: (call(), 999)[1]})()
 
 
 # What raises an IndexError where it is read, and a ValueError where it is compared.
@@ -97,7 +91,6 @@ OWN = {"__index__": lambda _: ()[0], "__eq__": lambda *_: int("x"), "__hash__": 
 RAISING = type("Raising", (), OWN)()
 
 # Errors of Python: their type, what they say if it is of this package, the call and its inputs.
-from_bytes, from_der, from_arcs = ObjectIdentifier.from_bytes, ObjectIdentifier.from_der, ObjectIdentifier.from_arcs
 OF_OTHERS = [("cryptography.x509", "dotted_string", "its .dotted_string"), ("asn1crypto.core", "dotted", "its .dotted")]
 REJECTED = [
     (TypeError, "", ObjectIdentifier, [b"1.2", None, 1, 1.2, ("1", "2")]),
@@ -199,14 +192,14 @@ class Inputs(unittest.TestCase):
 
     def test_arcs_come_from_any_iterable(self):
         """Arcs are those of a list before it changes, and no other call comes between them."""
-        self.assertEqual((2, 999, 1), ObjectIdentifier.from_arcs(iter([2, Index(), True])).arcs)
-        self.assertEqual((2, 5, 999), ObjectIdentifier("2.5").child(Index()).arcs)
+        self.assertEqual((2, 999, 1), ObjectIdentifier.from_arcs(iter([2, index(), True])).arcs)
+        self.assertEqual((2, 5, 999), ObjectIdentifier("2.5").child(index()).arcs)
         self.assertEqual((2, 5), ObjectIdentifier.from_arcs(ObjectIdentifier("2.5")).arcs)
         for change in ("clear", "pop", "reverse"):
             arcs = [2]
-            arcs += [Index(getattr(arcs, change)), 3, 4]
+            arcs += [index(getattr(arcs, change)), 3, 4]
             self.assertEqual((2, 999, 3, 4), ObjectIdentifier.from_arcs(arcs).arcs, change)
-        other = Index(lambda: ObjectIdentifier.from_arcs((1, 2, 5)))
+        other = index(lambda: ObjectIdentifier.from_arcs((1, 2, 5)))
         self.assertEqual((2, 999, 3, 4), ObjectIdentifier.from_arcs((2, other, 3, 4)).arcs)
 
     def test_errors_of_python_say_what_to_do(self):

@@ -59,12 +59,15 @@ def said_by(*command):
     return subprocess.run(command, text=True, stdout=subprocess.PIPE, check=True).stdout
 
 
+def ran(program, folder, **variables):
+    options = {"cwd": folder, "env": os.environ | variables, "text": True, "capture_output": True}
+    return subprocess.run([sys.executable, "-c", program], **options)
+
+
 def built(call, settings=INSTALLED, python=TOP / "python", before="", **variables):
     """What a hook of the backend writes into a new folder in a new process: its files, and what the process says."""
     with tempfile.TemporaryDirectory() as folder:
-        program = f"{before}\nimport backend; print(backend.{call}({folder!r}, {settings!r}))"
-        options = {"cwd": python, "env": os.environ | variables, "text": True, "capture_output": True}
-        run = subprocess.run([sys.executable, "-c", program], **options)
+        run = ran(f"{before}\nimport backend; print(backend.{call}({folder!r}, {settings!r}))", python, **variables)
         files = {path.name: path.read_bytes() for path in pathlib.Path(folder).iterdir()}
     return run.returncode, run.stdout.strip() or run.stderr.strip(), files
 
@@ -99,14 +102,11 @@ class Wheel(unittest.TestCase):
                 wanted = base64.urlsafe_b64encode(hashlib.sha256(self.files[name]).digest()).decode().rstrip("=")
                 self.assertEqual((f"sha256={wanted}", str(len(self.files[name]))), (digest, length))
 
-    def test_the_tag_says_abi_and_machine(self):
+    def test_the_metadata_is_that_of_the_project(self):
+        """The licence is an expression, and no classifier says it again. The tag says the ABI and the machine."""
         self.assertRegex(self.name, rf"^{STEM}-cp311-abi3-[a-z]+_[a-z0-9_]+\.whl$")
         said = email.message_from_bytes(self.files[f"{STEM}.dist-info/WHEEL"])
-        tag = self.name.removeprefix(f"{STEM}-").removesuffix(".whl")
-        self.assertEqual((tag, "false"), (said["Tag"], said["Root-Is-Purelib"]))
-
-    def test_the_metadata_is_that_of_the_project(self):
-        """The licence is an expression, and no classifier says it again."""
+        self.assertEqual((self.name, "false"), (f"{STEM}-{said['Tag']}.whl", said["Root-Is-Purelib"]))
         fields = {"Name": "name", "Version": "version", "Summary": "description", "License-Expression": "license"}
         wanted = [("Requires-Python", ">=3.11"), *((field, PROJECT[name]) for field, name in fields.items())]
         wanted += [("License-File", "LICENSE-APACHE"), ("License-File", "LICENSE-MIT"), ("Metadata-Version", "2.4")]
@@ -213,9 +213,8 @@ class Build(unittest.TestCase):
             missing = f"const-oid: there is no {top}/rust/const-oid-c/Cargo.toml"
             wanted = (1, f"{missing}: install a checkout of the repository, or a source archive", {})
             self.assertEqual(wanted, built("build_editable", python=top / "python"))
-            for path in TOP.iterdir():
-                if path.name != "python":
-                    (top / path.name).symlink_to(path)
+            for name in ("LICENSE-APACHE", "LICENSE-MIT", "crates", "rust"):
+                (top / name).symlink_to(TOP / name)
             # What an earlier build left goes.
             (top / "python/out/const_oid").mkdir(parents=True)
             (top / "python/out/const_oid/stale.py").touch()
@@ -232,8 +231,7 @@ class Build(unittest.TestCase):
                 (place,) = archive.read("const_oid.pth").decode().splitlines()
             with (top / "python/src/const_oid/names.py").open("a", encoding="utf-8") as source:
                 source.write("\nCHANGED = name_of(ObjectIdentifier('2.5.4.3'))\n")
-            code = "import const_oid; print(const_oid.names.CHANGED)"
-            run = subprocess.run([sys.executable, "-c", code], cwd=place, text=True, capture_output=True)
+            run = ran("import const_oid; print(const_oid.names.CHANGED)", place)
             self.assertEqual(("cn\n", ""), (run.stdout, run.stderr))
             self.assertEqual(["const_oid"], os.listdir(place))
 
@@ -252,5 +250,4 @@ class Build(unittest.TestCase):
                 self.assertEqual(0, status, name)
                 with zipfile.ZipFile(io.BytesIO(files[name])) as archive:
                     archive.extractall(folder)
-                command = [sys.executable, "-c", "import const_oid"]
-                self.assertIn(text, subprocess.run(command, cwd=folder, text=True, capture_output=True).stderr)
+                self.assertIn(text, ran("import const_oid", folder).stderr)

@@ -144,9 +144,7 @@ class SortedMap(MutableMapping[ObjectIdentifier, Value]):
     def __or__(self, other: Mapping[Key, Value]) -> Self:
         if not isinstance(other, Mapping):
             return NotImplemented
-        result = self.copy()
-        result.update(other)
-        return result
+        return self.copy().__ior__(other)
 
     def __ror__(self, other: Mapping[Key, Value]) -> Self:
         if not isinstance(other, Mapping):
