@@ -189,7 +189,7 @@ static PyObject *identifier_from_bytes(PyObject *type, PyObject *given) {
 
 /* A pair of an identifier, which it takes, and of what comes after its element. */
 static PyObject *with_rest(PyObject *oid, PyObject *octets, Py_ssize_t end) {
-    return Py_BuildValue("NN", oid, PySequence_GetSlice(octets, end, PY_SSIZE_T_MAX));
+    return Py_BuildValue("NN", oid, PySequence_GetSlice(octets, end, PTRDIFF_MAX));
 }
 
 /* The identifier of the element that octets begin with. The octets after it come too, or else are an error. */

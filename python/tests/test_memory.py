@@ -1,7 +1,6 @@
 """What the functions of the extension module keep of memory, and what they do without it. Under the sanitizers of a C
 compiler, also what they read and write."""
 import copy
-import functools
 import gc
 import importlib.util
 import operator
@@ -29,8 +28,15 @@ WRONG = b"\x80\x01"
 # Python 3.12 counts no references to a literal.
 Under = type("".join(("Un", "der")), (ObjectIdentifier,), {})
 UNDER, GIVEN = Under("1.2.3"), (OTHER,)
-# Calls what raises an error.
-raised = functools.partial(unittest.TestCase().assertRaises, (ValueError, TypeError, OverflowError))
+
+def raised(call, *given):  # assertRaises ends Python 3.12 where there is no memory
+    try:
+        call(*given)
+    except (OidError, ValueError, TypeError, OverflowError):
+        return
+    raise AssertionError("there is no error")
+
+
 Asking = type("Asking", (list,), {"__del__": lambda asking: asking[0].arcs})
 Other = type("Other", (dict,), {"__getattr__": lambda other, name: Other(), "__call__": lambda other, *_, **__: other})
 
