@@ -205,7 +205,7 @@ class Inputs(unittest.TestCase):
     def test_errors_of_python_say_what_to_do(self):
         for kind, text, call, inputs in REJECTED:
             for given in inputs:
-                with self.subTest(call=call, given=given):
+                with self.subTest(text or repr(given), call=call):
                     error = error_of(call, given)
                     self.assertEqual((kind, text or str(error)), (type(error), str(error)))
 
