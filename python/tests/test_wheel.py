@@ -123,27 +123,28 @@ class Wheel(unittest.TestCase):
         # Two archives that differ would take minutes to print.
         self.assertTrue(archive == built("build_sdist")[2])
         with tempfile.TemporaryDirectory() as folder:
-            source = unpacked(archive[name], folder)
+            with tarfile.open(fileobj=io.BytesIO(archive[name])) as tar:
+                self.assertEqual({STEM}, {member.name.split("/")[0] for member in tar})
+                tar.extractall(folder)
+            source = pathlib.Path(folder) / STEM
             self.assertEqual(self.files[f"{STEM}.dist-info/METADATA"], (source / "PKG-INFO").read_bytes())
             self.assertTrue((0, self.name, {self.name: self.wheel}) == built("build_wheel", python=source))
             for stray in ("rust/const-oid-c/target/x.rs", "rust/const-oid/src/x.rs~", "src/const_oid/x.py", "x"):
                 (source / stray).parent.mkdir(exist_ok=True)
                 (source / stray).touch()
             self.assertTrue(archive == built("build_sdist", python=source)[2])
+            if shutil.which("cargo"):
+                self.check_cargo(source, folder)
 
-    @unittest.skipUnless(shutil.which("cargo"), "cargo is not installed")
-    def test_cargo_builds_a_source_archive(self):
+    def check_cargo(self, source, folder):
         """For this machine whatever the configuration says, in a new home, and not in the folder of the archive."""
         rustup = os.environ.get("RUSTUP_HOME", str(pathlib.Path.home() / ".rustup"))
-        (archive,) = built("build_sdist")[2].values()
-        with tempfile.TemporaryDirectory() as folder:
-            source = unpacked(archive, folder)
-            before = set(source.rglob("*"))
-            variables = {"HOME": folder, "CARGO_HOME": f"{folder}/cargo", "RUSTUP_HOME": rustup}
-            variables |= {"CARGO_TARGET_DIR": "made", "CARGO_BUILD_TARGET": "another", "PYTHONDONTWRITEBYTECODE": "1"}
-            status, said, files = built("build_wheel", None, python=source, **variables)
-            self.assertEqual((0, [self.name]), (status, list(files)), said)
-            self.assertEqual(before, set(source.rglob("*")))
+        before = set(source.rglob("*"))
+        variables = {"HOME": folder, "CARGO_HOME": f"{folder}/cargo", "RUSTUP_HOME": rustup}
+        variables |= {"CARGO_TARGET_DIR": "made", "CARGO_BUILD_TARGET": "another", "PYTHONDONTWRITEBYTECODE": "1"}
+        status, said, files = built("build_wheel", None, python=source, **variables)
+        self.assertEqual((0, [self.name]), (status, list(files)), said)
+        self.assertEqual(before, set(source.rglob("*")))
 
     def test_the_module_shows_its_start_alone(self):
         """The module shows its start alone, and needs the library of C alone: that of object identifiers is in it."""
@@ -185,13 +186,6 @@ cargo build --quiet --release --locked --offline --target this --target-dir OUT 
             for compiler in ("", " "):
                 status, name, _ = built("build_wheel", PKG_CONFIG_PATH=folder, CC=compiler)
                 self.assertEqual((0, self.name), (status, name))
-
-
-def unpacked(archive, folder):
-    with tarfile.open(fileobj=io.BytesIO(archive)) as tar:
-        assert {STEM} == {member.name.split("/")[0] for member in tar}
-        tar.extractall(folder)
-    return pathlib.Path(folder) / STEM
 
 
 class Build(unittest.TestCase):
