@@ -271,23 +271,18 @@ static PyObject *identifier_from_arcs(PyObject *type, PyObject *given) {
     return made((PyTypeObject *)type, octets);
 }
 
-/* Octets have at most one arc more than there are octets. */
-static PyObject *decoded(const_oid_octets octets) {
+/* Octets have at most one arc more than there are octets. A finalizer may ask for the arcs while they are made. */
+static PyObject *first_arcs(Identifier *identifier) {
     Output out;
+    const_oid_octets octets = identifier->items;
     if (!has_room(&out, octets.len + 1, sizeof(uint32_t))) return NULL;
     const_oid_status status = const_oid_arcs(octets.octets, octets.len, out.start, out.len);
-    PyObject *tuple = PyTuple_New((Py_ssize_t)status.len);
-    for (size_t index = 0; tuple && index < status.len; index++) {
+    PyObject *arcs = PyTuple_New((Py_ssize_t)status.len);
+    for (size_t index = 0; arcs && index < status.len; index++) {
         PyObject *arc = PyLong_FromUnsignedLong(((uint32_t *)out.start)[index]);
-        if (!arc || PyTuple_SetItem(tuple, (Py_ssize_t)index, arc)) tuple = (Py_DecRef(tuple), (PyObject *)NULL);
+        if (!arc || PyTuple_SetItem(arcs, (Py_ssize_t)index, arc)) arcs = (Py_DecRef(arcs), (PyObject *)NULL);
     }
     release(&out);
-    return tuple;
-}
-
-/* Apart, since most calls find the arcs. A finalizer may ask for them while they are made. */
-__attribute__((noinline)) static PyObject *first_arcs(Identifier *identifier) {
-    PyObject *arcs = decoded(identifier->items);
     if (!identifier->arcs) return identifier->arcs = arcs;
     Py_DecRef(arcs);
     return arcs ? identifier->arcs : NULL;

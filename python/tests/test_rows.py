@@ -85,8 +85,7 @@ CALLS = {
 }
 
 # What this package has no call for: the other orders, whether a list is sorted, names, and outputs of a length.
-ORDERS = {"items_order", "owned", "owned_order", "borrowed", "borrowed_order"}
-LEFT_OUT = ORDERS | {"sorted", "names", "text_in", "arcs_in"}
+LEFT_OUT = set("items_order owned owned_order borrowed borrowed_order sorted names text_in arcs_in".split())
 
 
 def answer(call, words):

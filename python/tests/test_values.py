@@ -14,6 +14,7 @@ import random
 import sys
 import threading
 import time
+import timeit
 import unittest
 import weakref
 from unittest import mock
@@ -68,8 +69,7 @@ except const_oid.OidError as error:
 """
 
 
-class Under(ObjectIdentifier):
-    __slots__ = ()
+Under = type("Under", (ObjectIdentifier,), {"__slots__": ()})
 
 
 class Named(collections.abc.Sized, Under):
@@ -152,9 +152,7 @@ def error_of(call, *given):
 
 
 def seconds(call, *given):
-    start = time.process_time()
-    call(*given)
-    return time.process_time() - start
+    return timeit.timeit(lambda: call(*given), timer=time.process_time, number=1)
 
 
 def is_linear(call, of):
