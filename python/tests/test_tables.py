@@ -70,8 +70,7 @@ class Attributes(SortedMap):
 
 
 def is_interrupted(number, call, table):
-    """Whether a call is interrupted, as by Ctrl-C or for want of memory, before this instruction of sorted_map.py. That
-    ends the trace."""
+    """Whether a call is interrupted, as by Ctrl-C, before this instruction of sorted_map.py, which ends the trace."""
     left = itertools.count(-number)
 
     def trace(frame, event, _):
@@ -111,8 +110,7 @@ class Sorted(unittest.TestCase):
                 self.changed(found, table, drawn(draw), number)
 
     def changed(self, found, table, arcs, number):
-        """Sets a value or several, or removes it or the last, and looks at all entries. No list of keys gets long, in
-        which one more would move all others."""
+        """Sets a value or several, or removes it or the last, and looks at all entries. No list of keys gets long."""
         oid = Octets.from_arcs(arcs)
         if arcs in table and number % 2:
             self.assertEqual(table.pop(arcs), found.pop(oid))

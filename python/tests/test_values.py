@@ -126,8 +126,8 @@ REJECTED = [
     (IndexError, "index out of range", lambda index: OID[index], [6, -7, 10**50]),
     *((IndexError, "tuple index out of range", call, [RAISING]) for call in (OID.__getitem__, OID.child)),
     *((ValueError, "invalid literal for int() with base 10: 'x'", call, [RAISING]) for call in (OID.index, OID.count)),
-    (OverflowError, "a number has 32 bits", lambda args: OidError(*args), [(4, 2**32 + 120), (4, -1), (-1, 0)]),
-    (OverflowError, "a number has 32 bits", lambda code: OidError(code, 120), [2**32 + 4]),
+    (OverflowError, "a number has 32 bits", lambda numbers: OidError(*numbers),
+        [(4, 2**32 + 120), (4, -1), (2**32 + 4, 120), (-1, 0)]),
     (OverflowError, "", lambda detail: OidError(4, detail), [2**64 + 120]),
     (ValueError, "", OidError, [99]),
 ]
@@ -463,8 +463,7 @@ class Values(unittest.TestCase):
         with concurrent.futures.ThreadPoolExecutor(4) as threads:
             list(threads.map(lambda one: interpreters.run_string(one, INTERPRETED.format(write)), own))
         list(map(interpreters.destroy, own))
-        os.close(write)
-        with open(read, encoding="utf-8") as lines:
-            said = [line.split() for line in lines]
+        said = [line.split() for line in os.read(read, 4096).decode().splitlines()]
+        list(map(os.close, (read, write)))
         self.assertEqual([["2.999", "40"]] * 4, [words[:-1] for words in said])
         self.assertNotIn(str(id(ObjectIdentifier)), [words[-1] for words in said])

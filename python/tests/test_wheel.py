@@ -190,8 +190,7 @@ cargo build --quiet --release --locked --offline --target this --target-dir OUT 
 
 class Build(unittest.TestCase):
     def test_what_is_missing_is_named(self):
-        """What is missing is named, all of it, before anything is built, and what fails is reported. A Python before
-        3.11 reads the backend."""
+        """All that is missing is named before anything is built, and what fails is reported. Python 3.8 reads all."""
         ast.parse((TOP / "python/backend.py").read_text(encoding="utf-8"), feature_version=(3, 8))
         for text, call in REFUSED.items():
             with self.subTest(text):
