@@ -7,8 +7,7 @@
 #include <string.h>
 #include <structmember.h>
 
-/* The Python that runs counts references, by functions: macros of a header are for its own Python, and so is a # in a
- * format. */
+/* References are counted by functions of the Python that runs: macros, as # in formats, are for a header's own Python. */
 #undef Py_NewRef
 
 /* A reference that is given up at the end of its block, as GCC and clang do it. */

@@ -52,7 +52,6 @@ def asked(oid):
 
 
 def hooked(oid):
-    """Calls what other packages call."""
     with mock.patch.dict(sys.modules, numpy=Other(), pydantic_core=Other()):
         calls = OTHER.__array__, Under.__get_pydantic_core_schema__, Under.__get_validators__
         return [call(*GIVEN) for call in calls], oid.__array__()
@@ -106,7 +105,6 @@ KEPT += [*OCTETS.values(), ObjectIdentifier.__name__, Under.__name__, None, True
 
 
 def measured():
-    """The memory that is in use, and the references to each value of KEPT."""
     gc.collect()
     return tracemalloc.get_traced_memory()[0], [sys.getrefcount(value) for value in KEPT]
 

@@ -73,8 +73,6 @@ Under = type("Under", (ObjectIdentifier,), {"__slots__": ()})
 
 
 class Named(collections.abc.Sized, Under):
-    """A subclass with another base, whose __init__ sets attributes, one of them in a slot."""
-
     __slots__ = ("__dict__", "slot")
 
     def __init__(self, text):
@@ -156,7 +154,6 @@ def seconds(call, *given):
 
 
 def is_linear(call, of):
-    """Whether an input that is eight times as long takes less than 24 times as long."""
     short, long = of(10_000), of(80_000)
     return min(seconds(call, long) for _ in range(3)) < 24 * min(seconds(call, short) for _ in range(5))
 

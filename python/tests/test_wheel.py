@@ -164,7 +164,6 @@ class Wheel(unittest.TestCase):
         said_by(*command, "-Wall", "-Wextra", "-Werror", "-fsyntax-only")
 
     def test_the_flags(self):
-        """Any other would make another module."""
         said = []
         output = {"_output": lambda *call: said.append(call) or "host: this\n", "_missing": lambda _: ()}
         with mock.patch.multiple(backend, **output), mock.patch.dict(os.environ, CFLAGS="-g", LDFLAGS="-L."):
