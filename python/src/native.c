@@ -7,7 +7,7 @@
 #include <string.h>
 #include <structmember.h>
 
-/* References are counted by functions of the Python that runs: macros, as # in formats, are for a header's own Python. */
+/* Functions of the Python that runs count references: macros, as # in formats, are for the Python of their header. */
 #undef Py_NewRef
 
 /* A reference that is given up at the end of its block, as GCC and clang do it. */
