@@ -150,8 +150,7 @@ class Wheel(unittest.TestCase):
         """The module shows its start alone, and needs the library of C alone: that of object identifiers is in it."""
         module = importlib.import_module("const_oid._native").__file__
         self.assertRegex(said_by("nm", "-D", "--defined-only", module), r"^[0-9a-f]+ T PyInit__native$")
-        needed = re.findall(r"\(NEEDED\).*\[(.*)\]", said_by("readelf", "-dW", module))
-        self.assertEqual(["libc.so.6"], needed)
+        self.assertEqual(["libc.so.6"], re.findall(r"\(NEEDED\).*\[(.*)\]", said_by("readelf", "-dW", module)))
 
     def test_the_source_asks_for_the_limited_api(self):
         """Python's headers declare what the stable ABI of 3.11 has, as the tag says; the source uses nothing else."""
