@@ -121,8 +121,7 @@ def keeps_nothing(call):
 class Memory(unittest.TestCase):
     def test_functions_run_in_turn(self):
         """Each call in turn with the others, also where its objects are freed in another order."""
-        results = [call() for _ in range(5) for call in CALLS.values()]
-        self.assertEqual(5 * len(CALLS), len(results))
+        self.assertEqual(5 * len(CALLS), len([call() for _ in range(5) for call in CALLS.values()]))
 
     def test_functions_keep_no_memory(self):
         tracemalloc.start()
