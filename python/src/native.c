@@ -610,7 +610,7 @@ static int module_exec(PyObject *module) {
 static PyObject *restored(PyObject *module, PyObject *octets) {
     OWNED *type = PyObject_GetAttrString(module, "ObjectIdentifier");
     if (!type) return NULL;
-    if (PyType_CheckExact(type) && is_plain((PyTypeObject *)type)) return identifier_from_bytes(type, octets);
+    if (PyType_Check(type) && base_of((PyTypeObject *)type)) return identifier_from_bytes(type, octets);
     return PyErr_Format(PyExc_TypeError, "%R is no class of identifiers", type);
 }
 
