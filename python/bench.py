@@ -85,10 +85,8 @@ def main():
         kept = "asn1crypto" if row == "identifier to text" else "tuple"
         ours, *others = [time for name, time in zip(found, times) if time and not name.startswith(("tuple", kept))]
         if others and ours > min(others):
-            slower.append(row)
-    for row in slower:
-        print(f"slower: {row}", file=sys.stderr)
-    return bool(slower)
+            slower.append(f"slower: {row}")
+    return "\n".join(slower) or None
 
 
 sys.exit(main())

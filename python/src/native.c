@@ -7,10 +7,12 @@
 #include <string.h>
 #include <structmember.h>
 
-/* The Python that runs counts references, by functions: macros of a header are for its own Python, and so is a # in a
- * format. */
+/* Functions of the Python that runs count references: macros, as # in formats, are for the Python of their header. */
 #undef Py_NewRef
-#undef Py_XNewRef
+
+/* A reference that is given up at the end of its block, as GCC and clang do it. */
+static void give_up(PyObject **reference) { Py_DecRef(*reference); }
+#define OWNED __attribute__((cleanup(give_up))) PyObject
 
 typedef struct {
     PyObject_HEAD
@@ -22,7 +24,7 @@ typedef struct {
 } Identifier;
 
 static const_oid_octets items_of(PyObject *bytes) {
-    const_oid_octets items = {(const uint8_t *)PyBytes_AsString(bytes), (size_t)PyBytes_Size(bytes)};
+    const_oid_octets items = {(const uint8_t *)PyBytes_AsString(bytes), (size_t)((PyVarObject *)bytes)->ob_size};
     return items;
 }
 
@@ -53,30 +55,23 @@ static int is_identifier(PyObject *object) { return base_of(Py_TYPE(object)) != 
 
 /* An attribute. Python's cache of methods would keep each name that is not interned. */
 static PyObject *attribute(PyObject *object, const char *name) {
-    PyObject *interned = object ? PyUnicode_InternFromString(name) : NULL;
-    PyObject *result = interned ? PyObject_GetAttr(object, interned) : NULL;
-    Py_DecRef(interned);
-    return result;
+    OWNED *interned = object ? PyUnicode_InternFromString(name) : NULL;
+    return interned ? PyObject_GetAttr(object, interned) : NULL;
 }
 
 /* What a function of const_oid._support returns, which the module of a class, or of an identifier's, holds: an import
  * would take the caller's __import__. The arguments are a tuple, which it takes. */
 static PyObject *supported(PyObject *self, const char *name, PyObject *arguments) {
     PyTypeObject *type = base_of(PyType_Check(self) ? (PyTypeObject *)self : Py_TYPE(self));
-    PyObject *support = arguments ? attribute(PyType_GetModule(type), "support") : NULL;
-    PyObject *function = attribute(support, name);
-    PyObject *result = function ? PyObject_CallObject(function, arguments) : NULL;
-    Py_DecRef(support);
-    Py_DecRef(function);
-    Py_DecRef(arguments);
-    return result;
+    OWNED *taken = arguments, *support = taken ? attribute(PyType_GetModule(type), "support") : NULL;
+    OWNED *function = attribute(support, name);
+    return function ? PyObject_CallObject(function, taken) : NULL;
 }
 
 /* Raises the exception that such a function returns. */
 static PyObject *raised(PyObject *self, const char *name, PyObject *arguments) {
-    PyObject *error = supported(self, name, arguments);
+    OWNED *error = supported(self, name, arguments);
     if (error) PyErr_SetObject((PyObject *)Py_TYPE(error), error);
-    Py_DecRef(error);
     return NULL;
 }
 
@@ -105,10 +100,8 @@ static PyObject *allocated(PyTypeObject *type, PyObject *octets) {
 /* The same by a call of a subclass with a plain identifier, so that its __init__ runs. */
 static PyObject *made(PyTypeObject *type, PyObject *octets) {
     if (is_plain(type)) return allocated(type, octets);
-    PyObject *plain = allocated(base_of(type), octets);
-    PyObject *result = plain ? PyObject_CallFunctionObjArgs((PyObject *)type, plain, NULL) : NULL;
-    Py_DecRef(plain);
-    return result;
+    OWNED *plain = allocated(base_of(type), octets);
+    return plain ? PyObject_CallFunctionObjArgs((PyObject *)type, plain, NULL) : NULL;
 }
 
 /* The most octets of an arc. */
@@ -175,6 +168,7 @@ static int is_octets(PyObject *given) {
 /* A copy of octets. The items of a memoryview may be wider, and are then none. */
 static PyObject *octets_from(PyObject *type, PyObject *given) {
     Py_buffer view = {.itemsize = 1};
+    if (PyBytes_CheckExact(given)) return Py_NewRef(given);
     if (!is_octets(given)) return wrong_type(type, "octets must be bytes, bytearray or memoryview", given);
     if (PyMemoryView_Check(given)) {
         if (PyObject_GetBuffer(given, &view, PyBUF_FULL_RO)) return NULL;
@@ -185,36 +179,29 @@ static PyObject *octets_from(PyObject *type, PyObject *given) {
 }
 
 static PyObject *identifier_from_bytes(PyObject *type, PyObject *given) {
-    PyObject *octets = octets_from(type, given);
+    OWNED *octets = octets_from(type, given);
     if (!octets) return NULL;
     const_oid_octets items = items_of(octets);
     const_oid_status status = const_oid_check(items.octets, items.len);
-    if (!status.code) return made((PyTypeObject *)type, octets);
-    failed(type, status, octets);
-    Py_DecRef(octets);
-    return NULL;
+    return status.code ? failed(type, status, octets) : made((PyTypeObject *)type, Py_NewRef(octets));
+}
+
+/* A pair of an identifier, which it takes, and of what comes after its element. */
+static PyObject *with_rest(PyObject *oid, PyObject *octets, Py_ssize_t end) {
+    return Py_BuildValue("NN", oid, PySequence_GetSlice(octets, end, PTRDIFF_MAX));
 }
 
 /* The identifier of the element that octets begin with. The octets after it come too, or else are an error. */
 static PyObject *from_element(PyObject *type, PyObject *given, int is_whole) {
-    PyObject *octets = octets_from(type, given), *result = NULL;
+    OWNED *octets = octets_from(type, given);
     if (!octets) return NULL;
     const_oid_octets items = items_of(octets), contents = {NULL, 0};
     const_oid_status status = const_oid_from_der(items.octets, items.len, &contents);
-    Py_ssize_t left = (Py_ssize_t)(items.len - status.len);
-    if (is_whole && !status.code && left) status.code = CONST_OID_NO_ELEMENT;
-    if (status.code) {
-        failed(type, status, octets);
-    } else {
-        result = PyBytes_FromStringAndSize((const char *)contents.octets, (Py_ssize_t)contents.len);
-        result = made((PyTypeObject *)type, result);
-    }
-    if (result && !is_whole) {
-        const char *rest = (const char *)items.octets + status.len;
-        result = Py_BuildValue("NN", result, PyBytes_FromStringAndSize(rest, left));
-    }
-    Py_DecRef(octets);
-    return result;
+    if (is_whole && !status.code && status.len < items.len) status.code = CONST_OID_NO_ELEMENT;
+    if (status.code) return failed(type, status, octets);
+    PyObject *oid = PyBytes_FromStringAndSize((const char *)contents.octets, (Py_ssize_t)contents.len);
+    oid = made((PyTypeObject *)type, oid);
+    return oid && !is_whole ? with_rest(oid, octets, (Py_ssize_t)status.len) : oid;
 }
 
 static PyObject *identifier_from_der(PyObject *type, PyObject *given) { return from_element(type, given, 1); }
@@ -223,29 +210,24 @@ static PyObject *identifier_from_der(PyObject *type, PyObject *given) { return f
 static PyObject *identifier_read_der(PyObject *type, PyObject *given) {
     Py_buffer view;
     if (!PyMemoryView_Check(given)) return from_element(type, given, 0);
-    PyObject *row = PyMemoryView_GetContiguous(given, PyBUF_READ, 'C'), *element = NULL, *oid = NULL;
-    if (!row || PyObject_GetBuffer(row, &view, PyBUF_FULL_RO)) return Py_DecRef(row), NULL;
+    OWNED *row = PyMemoryView_GetContiguous(given, PyBUF_READ, 'C');
+    if (!row || PyObject_GetBuffer(row, &view, PyBUF_FULL_RO)) return NULL;
     const_oid_octets contents;
     const_oid_status status = const_oid_from_der(view.buf, (size_t)view.len, &contents);
-    Py_ssize_t end = status.code ? view.len : (Py_ssize_t)status.len;
-    int is_row = view.ndim == 1 && view.itemsize == 1;
     PyBuffer_Release(&view);
-    element = is_row ? PySequence_GetSlice(row, 0, end) : Py_NewRef(given);
-    oid = element ? from_element(type, element, is_row) : NULL;
-    if (oid && is_row) oid = Py_BuildValue("NN", oid, PySequence_GetSlice(row, end, view.len));
-    Py_DecRef(row);
-    Py_DecRef(element);
-    return oid;
+    if (status.code || view.ndim != 1 || view.itemsize != 1) return from_element(type, given, 0);
+    OWNED *element = PySequence_GetSlice(row, 0, (Py_ssize_t)status.len);
+    PyObject *oid = element ? from_element(type, element, 1) : NULL;
+    return oid ? with_rest(oid, row, (Py_ssize_t)status.len) : NULL;
 }
 
 /* An integer, or 2^32 in place of all that are greater. Returns whether there is one. */
 static int read_arc(PyObject *item, uint64_t *arc) {
-    PyObject *number = PyNumber_Index(item);
+    OWNED *number = PyNumber_Index(item);
     if (!number) return 0;
     int overflow;
     long long value = PyLong_AsLongLongAndOverflow(number, &overflow);
-    Py_DecRef(number);
-    if (overflow < 0 || (!overflow && value < 0)) {
+    if (overflow <= 0 && value < 0) {
         PyErr_Format(PyExc_ValueError, overflow ? "an arc is negative" : "an arc is negative: %lld", value);
         return 0;
     }
@@ -275,48 +257,45 @@ static PyObject *identifier_from_arcs(PyObject *type, PyObject *given) {
     if (PyUnicode_Check(given) || is_octets(given) || PyAnySet_Check(given) || PyDict_Check(given)) {
         return wrong_type(type, "arcs must be an iterable of int", given);
     }
-    PyObject *items = PySequence_Tuple(given), *octets = NULL;
+    OWNED *items = PySequence_Tuple(given);
+    PyObject *octets = NULL;
     Output arcs, out;
-    if (!items || !has_room(&arcs, (size_t)PyTuple_Size(items), sizeof(uint32_t))) {
-        Py_DecRef(items);
-        return NULL;
-    }
+    if (!items || !has_room(&arcs, (size_t)PyTuple_Size(items), sizeof(uint32_t))) return NULL;
     Py_ssize_t count = (Py_ssize_t)arcs.len, fitting = read_arcs(items, count, arcs.start);
     if (fitting >= 0 && has_room(&out, ARC_OCTETS * (size_t)fitting, 1)) {
         const_oid_status status = const_oid_from_arcs(arcs.start, (size_t)fitting, out.start, out.len);
         octets = written(&out, type, fitting < count ? past_32_bits(status) : status, items);
     }
     release(&arcs);
-    Py_DecRef(items);
     return made((PyTypeObject *)type, octets);
 }
 
-/* Octets have at most one arc more than there are octets. */
-static PyObject *decoded(const_oid_octets octets) {
+/* Octets have at most one arc more than there are octets. A finalizer may ask for the arcs while they are made. */
+static PyObject *first_arcs(Identifier *identifier) {
     Output out;
+    const_oid_octets octets = identifier->items;
     if (!has_room(&out, octets.len + 1, sizeof(uint32_t))) return NULL;
     const_oid_status status = const_oid_arcs(octets.octets, octets.len, out.start, out.len);
-    PyObject *tuple = PyTuple_New((Py_ssize_t)status.len);
-    for (size_t index = 0; tuple && index < status.len; index++) {
+    PyObject *arcs = PyTuple_New((Py_ssize_t)status.len);
+    for (size_t index = 0; arcs && index < status.len; index++) {
         PyObject *arc = PyLong_FromUnsignedLong(((uint32_t *)out.start)[index]);
-        if (!arc || PyTuple_SetItem(tuple, (Py_ssize_t)index, arc)) tuple = (Py_DecRef(tuple), (PyObject *)NULL);
+        if (!arc || PyTuple_SetItem(arcs, (Py_ssize_t)index, arc)) arcs = (Py_DecRef(arcs), (PyObject *)NULL);
     }
     release(&out);
-    return tuple;
-}
-
-/* The tuple that the identifier keeps; the reference is borrowed. A finalizer may ask for it while it is made. */
-static PyObject *arcs_of(PyObject *self) {
-    Identifier *identifier = (Identifier *)self;
-    if (identifier->arcs) return identifier->arcs;
-    PyObject *arcs = decoded(octets_of(self));
     if (!identifier->arcs) return identifier->arcs = arcs;
     Py_DecRef(arcs);
     return arcs ? identifier->arcs : NULL;
 }
 
+/* The tuple that the identifier keeps; the reference is borrowed. */
+static PyObject *arcs_of(PyObject *self) {
+    PyObject *arcs = ((Identifier *)self)->arcs;
+    return arcs ? arcs : first_arcs((Identifier *)self);
+}
+
 static PyObject *identifier_arcs(PyObject *self, void *Py_UNUSED(closure)) {
-    return Py_XNewRef(arcs_of(self));
+    PyObject *arcs = arcs_of(self);
+    return arcs ? Py_NewRef(arcs) : NULL;
 }
 
 /* A tag, and a length of a size_t in at most one octet more, come before the octets. */
@@ -363,19 +342,14 @@ static PyObject *identifier_str(PyObject *self) {
 }
 
 static PyObject *identifier_repr(PyObject *self) {
-    PyObject *name = PyType_GetName(Py_TYPE(self)), *text = identifier_str(self), *result = NULL;
-    if (name && text) result = PyUnicode_FromFormat("%U('%U')", name, text);
-    Py_DecRef(name);
-    Py_DecRef(text);
-    return result;
+    OWNED *name = PyType_GetName(Py_TYPE(self)), *text = identifier_str(self);
+    return name && text ? PyUnicode_FromFormat("%U('%U')", name, text) : NULL;
 }
 
 static PyObject *identifier_format(PyObject *self, PyObject *specification) {
     if (!PyUnicode_Check(specification)) return PyErr_Format(PyExc_TypeError, "not a str: %R", specification);
-    PyObject *text = PyObject_Str(self);
-    PyObject *result = text ? PyObject_Format(text, specification) : NULL;
-    Py_DecRef(text);
-    return result;
+    OWNED *text = PyObject_Str(self);
+    return text ? PyObject_Format(text, specification) : NULL;
 }
 
 static PyObject *identifier_bytes(PyObject *self, PyObject *Py_UNUSED(none)) {
@@ -419,10 +393,8 @@ static PyObject *identifier_subscript(PyObject *self, PyObject *key) {
 
 /* PySequence_GetItem has added the length to a negative index. */
 static PyObject *identifier_item(PyObject *self, Py_ssize_t index) {
-    PyObject *key = PyLong_FromSsize_t(index < 0 ? identifier_len(self) : index);
-    PyObject *result = key ? identifier_subscript(self, key) : NULL;
-    Py_DecRef(key);
-    return result;
+    OWNED *key = PyLong_FromSsize_t(index < 0 ? identifier_len(self) : index);
+    return key ? identifier_subscript(self, key) : NULL;
 }
 
 static PyObject *identifier_iter(PyObject *self) {
@@ -432,14 +404,14 @@ static PyObject *identifier_iter(PyObject *self) {
 
 /* A ValueError may be that of a comparison, which is then raised again. */
 static PyObject *identifier_index(PyObject *self, PyObject *arguments) {
-    PyObject *arcs = arcs_of(self), *method = attribute(arcs, "index"), *arc;
+    PyObject *arcs = arcs_of(self), *arc;
+    OWNED *method = attribute(arcs, "index");
     PyObject *index = method ? PyObject_CallObject(method, arguments) : NULL;
     if (!index && PyErr_ExceptionMatches(PyExc_ValueError)) {
         PyErr_Clear();
         arc = PyTuple_GetItem(arguments, 0);
         if (PySequence_Contains(arcs, arc) >= 0) PyErr_Format(PyExc_ValueError, "%R is not among the arcs", arc);
     }
-    Py_DecRef(method);
     return index;
 }
 
@@ -469,7 +441,6 @@ static PyObject *identifier_reduce(PyObject *self, PyObject *Py_UNUSED(none)) {
     return restored ? Py_BuildValue("N(O)", restored, ((Identifier *)self)->octets) : NULL;
 }
 
-/* The text of a code and its detail, or None. */
 static PyObject *error_text(PyObject *Py_UNUSED(module), PyObject *arguments) {
     char text[CONST_OID_MAX_ERROR_TEXT];
     long long code, detail;
@@ -482,7 +453,6 @@ static PyObject *error_text(PyObject *Py_UNUSED(module), PyObject *arguments) {
     return PyUnicode_FromStringAndSize(text, (Py_ssize_t)status.len);
 }
 
-/* The index of the first wrong component of a text in UTF-8, or None if it is valid. */
 static PyObject *wrong_component(PyObject *Py_UNUSED(module), PyObject *text) {
     char *bytes;
     Py_ssize_t len;
@@ -629,30 +599,19 @@ static int module_exec(PyObject *module) {
             CONST_OID_VERSION_MAJOR);
         return -1;
     }
-    PyObject *text = PyUnicode_FromFormat("%lu.%lu.%lu", version / 65536, version / 256 % 256, version % 256);
-    PyObject *type = PyType_FromModuleAndSpec(module, &identifier_spec, NULL), *arcs = Py_BuildValue("(s)", "arcs");
+    OWNED *text = PyUnicode_FromFormat("%lu.%lu.%lu", version / 65536, version / 256 % 256, version % 256);
+    OWNED *type = PyType_FromModuleAndSpec(module, &identifier_spec, NULL), *arcs = Py_BuildValue("(s)", "arcs");
     /* Nobody can set an attribute of the class, which has its last one here. */
-    PyObject *attributes = type ? PyObject_GenericGetDict(type, NULL) : NULL;
-    int status = text && attributes && arcs ? PyDict_SetItemString(attributes, "__match_args__", arcs) : -1;
-    if (!status) status = PyModule_AddObjectRef(module, "__version__", text);
-    if (!status) status = PyModule_AddType(module, (PyTypeObject *)type);
-    Py_DecRef(text);
-    Py_DecRef((PyObject *)type);
-    Py_DecRef(arcs);
-    Py_DecRef(attributes);
-    return status;
+    OWNED *attributes = type ? PyObject_GenericGetDict(type, NULL) : NULL;
+    if (!text || !attributes || !arcs || PyDict_SetItemString(attributes, "__match_args__", arcs)) return -1;
+    return PyModule_AddObjectRef(module, "__version__", text) ? -1 : PyModule_AddType(module, (PyTypeObject *)type);
 }
 
-/* The identifier of a pickle. */
 static PyObject *restored(PyObject *module, PyObject *octets) {
-    PyObject *type = PyObject_GetAttrString(module, "ObjectIdentifier"), *result = NULL;
-    if (type && PyType_Check(type) && base_of((PyTypeObject *)type)) {
-        result = identifier_from_bytes(type, octets);
-    } else if (type) {
-        PyErr_Format(PyExc_TypeError, "%R is no class of identifiers", type);
-    }
-    Py_DecRef((PyObject *)type);
-    return result;
+    OWNED *type = PyObject_GetAttrString(module, "ObjectIdentifier");
+    if (!type) return NULL;
+    if (PyType_Check(type) && base_of((PyTypeObject *)type)) return identifier_from_bytes(type, octets);
+    return PyErr_Format(PyExc_TypeError, "%R is no class of identifiers", type);
 }
 
 static PyMethodDef module_methods[] = {
@@ -669,8 +628,9 @@ static PyModuleDef_Slot module_slots[] = {
     {0},
 };
 
+/* PyModuleDef_Init fills its head: that of a header is for its own Python, so each would make another module. */
 static struct PyModuleDef module = {
-    PyModuleDef_HEAD_INIT, .m_name = "_native", .m_doc = "Identifiers over const_oid_c.", .m_methods = module_methods,
+    .m_name = "_native", .m_doc = "Identifiers over const_oid_c.", .m_methods = module_methods,
 };
 
 PyMODINIT_FUNC PyInit__native(void) {

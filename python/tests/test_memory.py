@@ -2,6 +2,7 @@
 compiler, also what they read and write."""
 import copy
 import gc
+import importlib.util
 import operator
 import pickle
 import sys
@@ -12,11 +13,7 @@ from unittest import mock
 import const_oid
 from const_oid import Code, ObjectIdentifier, OidError, SortedMap, _support
 
-try:
-    import _testcapi
-except ImportError:
-    _testcapi = None
-
+_testcapi = importlib.util.find_spec("_testcapi") and importlib.import_module("_testcapi")
 # Short and long octets, of arcs that differ and are no small integers: the last have ten digits.
 OCTETS = {
     "short": bytes.fromhex("2A8648CE3D0201"),
@@ -32,9 +29,7 @@ WRONG = b"\x80\x01"
 Under = type("".join(("Un", "der")), (ObjectIdentifier,), {})
 UNDER, GIVEN = Under("1.2.3"), (OTHER,)
 
-
-def raised(call, *given):
-    """Calls what raises an error."""
+def raised(call, *given):  # assertRaises ends Python 3.12 where there is no memory
     try:
         call(*given)
     except (OidError, ValueError, TypeError, OverflowError):
@@ -57,7 +52,6 @@ def asked(oid):
 
 
 def hooked(oid):
-    """Calls what other packages call."""
     with mock.patch.dict(sys.modules, numpy=Other(), pydantic_core=Other()):
         calls = OTHER.__array__, Under.__get_pydantic_core_schema__, Under.__get_validators__
         return [call(*GIVEN) for call in calls], oid.__array__()
@@ -111,7 +105,6 @@ KEPT += [*OCTETS.values(), ObjectIdentifier.__name__, Under.__name__, None, True
 
 
 def measured():
-    """The memory that is in use, and the references to each value of KEPT."""
     gc.collect()
     return tracemalloc.get_traced_memory()[0], [sys.getrefcount(value) for value in KEPT]
 
@@ -128,11 +121,9 @@ def keeps_nothing(call):
 class Memory(unittest.TestCase):
     def test_functions_run_in_turn(self):
         """Each call in turn with the others, also where its objects are freed in another order."""
-        results = [call() for _ in range(5) for call in CALLS.values()]
-        self.assertEqual(5 * len(CALLS), len(results))
+        self.assertEqual(5 * len(CALLS), len([call() for _ in range(5) for call in CALLS.values()]))
 
     def test_functions_keep_no_memory(self):
-        """No call keeps memory, or a reference to what it was given or made from."""
         tracemalloc.start()
         self.addCleanup(tracemalloc.stop)
         for name, call in CALLS.items():

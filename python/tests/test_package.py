@@ -1,5 +1,4 @@
 """The package const_oid: its examples, its page, the codes and version of the header, its names and its types."""
-import ast
 import contextlib
 import doctest
 import importlib
@@ -24,25 +23,20 @@ from test_values import Under, error_of, is_linear
 
 HERE = pathlib.Path(__file__).resolve().parent
 TOP = HERE.parents[1]
+STUB = (TOP / "python/src/const_oid/_native.pyi").read_text(encoding="utf-8")
 HEADER = (TOP / "crates/const_oid_c/include/const_oid.h").read_text(encoding="utf-8")
 
 
 def load_tests(loader, tests, pattern):
-    for module in (const_oid, names, sorted_map):
-        tests.addTests(doctest.DocTestSuite(module))
     # doctest does not look for properties of a class in C.
-    for name in ("arcs", "der", "parent"):
-        text = vars(ObjectIdentifier)[name].__doc__
-        examples = doctest.DocTestParser().get_doctest(text, vars(const_oid), name, None, 0)
-        tests.addTest(doctest.DocTestCase(examples))
-    return tests
+    const_oid.__test__ = {name: vars(ObjectIdentifier)[name].__doc__ for name in ("arcs", "der", "parent")}
+    return unittest.TestSuite([tests, *map(doctest.DocTestSuite, (const_oid, names, sorted_map))])
 
 
 @contextlib.contextmanager
 def installed(*names):
     """Those of other packages that are installed, without their warnings."""
-    with warnings.catch_warnings():
-        warnings.simplefilter("ignore")
+    with warnings.catch_warnings(action="ignore"):
         found = []
         for name in names:
             with contextlib.suppress(ImportError):
@@ -69,8 +63,7 @@ class Package(unittest.TestCase):
             with contextlib.redirect_stdout(out), installed():
                 exec(block, variables)
         except ModuleNotFoundError as error:
-            others = {"asn1crypto", "cryptography", "numpy", "pandas", "pyasn1", "pydantic"}
-            self.assertIn(error.name.split(".")[0], others)
+            self.assertIn(error.name.split(".")[0], ("asn1crypto", "cryptography", "numpy", "pandas", "pyasn1"))
             self.skipTest(str(error))
         self.assertEqual(wanted, out.getvalue().splitlines())
 
@@ -140,7 +133,6 @@ class Package(unittest.TestCase):
         self.assertEqual(version, const_oid.__version__)
 
     def test_public_names(self):
-        """What the package and each class has, aside from what Python gives it."""
         public = {"Code", "ObjectIdentifier", "OidError", "SortedMap", "__version__", "names"}
         self.assertEqual((public, public), (set(const_oid.__all__), set(dir(const_oid))))
         self.assertEqual({"by_name", "entries", "name_of", "names_of"}, set(names.__all__))
@@ -170,20 +162,15 @@ class Package(unittest.TestCase):
 
 class Types(unittest.TestCase):
     def test_the_stub_has_the_arguments(self):
-        """The types of the class in C are for the arguments that it has."""
-        stub = ast.parse((TOP / "python/src/const_oid/_native.pyi").read_text(encoding="utf-8"))
-        declared = {node.name: node for node in stub.body if isinstance(node, ast.ClassDef)}["ObjectIdentifier"]
-        functions = {node.name: node for node in declared.body if isinstance(node, ast.FunctionDef)}
+        functions = dict(re.findall(r"^    def (\w+)\((.*)\) ->", STUB, re.M))
         self.assertEqual({name for name in vars(ObjectIdentifier) if not name.startswith("_")} - set(functions), set())
         methods = "from_bytes from_der read_der from_arcs child starts_with index count __format__ __deepcopy__"
         for name in methods.split():
-            arguments = [argument.arg for argument in functions[name].args.posonlyargs][1:]
             text = inspect.getattr_static(ObjectIdentifier, name).__text_signature__
-            self.assertEqual(arguments, re.findall(r", (\w+)", text), name)
+            self.assertEqual(re.findall(r", (\w+):.*?(?=, )", functions[name]), re.findall(r", (\w+)", text), name)
+            self.assertTrue(functions[name].endswith(", /") and text.endswith(", /)"), name)
 
     def test_the_stub_has_the_results(self):
-        """What calls return has the type that is declared for it, in the order of the stub."""
-        stub = (TOP / "python/src/const_oid/_native.pyi").read_text(encoding="utf-8")
         oid = Under("1.2.840")
         calls = "read_der(memoryview(oid.der)) read_der(oid.der) __getitem__(0) __getitem__(slice(9)) "
         calls += "arcs der child(1) from_bytes(bytes(oid)) from_der(oid.der) from_arcs(oid) starts_with(oid) index(2)"
@@ -197,8 +184,8 @@ class Types(unittest.TestCase):
         made = {}
         for call in calls.split():
             made.setdefault(call.partition("(")[0], []).append(described(eval(f"oid.{call}")))
-        self.assertEqual({name: re.findall(rf"def {name}\(.*\) -> (.*): ", stub) for name in made}, made)
-        self.assertEqual(["parent"], re.findall(r"def (\w+)\(self.*None:", stub))
+        self.assertEqual({name: re.findall(rf"def {name}\(.*\) -> (.*): ", STUB) for name in made}, made)
+        self.assertEqual(["parent"], re.findall(r"def (\w+)\(self.*None:", STUB))
 
     def test_declared_uses_run(self):
         typed.uses()

@@ -62,8 +62,7 @@ def searched(words):
     found = (oid, table[oid]) if oid in table else None, table.next_after(oid), table.nearest(oid)
     find, after, nearest = (f"none of {len(items)}" if entry is None else entry[1] for entry in found)
     start, below = sum(item < oid for item in items), {entry[0] for entry in table.subtree(oid)}
-    end = start + sum(item in below for item in items)
-    return f"find {find}, next {after}, nearest {nearest}, range {start} {end}"
+    return f"find {find}, next {after}, nearest {nearest}, range {start} {start + sum(item in below for item in items)}"
 
 
 CALLS = {
@@ -85,16 +84,14 @@ CALLS = {
 }
 
 # What this package has no call for: the other orders, whether a list is sorted, names, and outputs of a length.
-ORDERS = {"items_order", "owned", "owned_order", "borrowed", "borrowed_order"}
-LEFT_OUT = ORDERS | {"sorted", "names", "text_in", "arcs_in"}
+LEFT_OUT = set("items_order owned owned_order borrowed borrowed_order sorted names text_in arcs_in".split())
 
 
 def answer(call, words):
     try:
         return CALLS[call](words)
     except OidError as error:
-        said = {11: "no text", 14: "no element"}.get(error.code)
-        return said or f"error: {error_text(*error.args)}"
+        return {11: "no text", 14: "no element"}.get(error.code) or f"error: {error_text(*error.args)}"
 
 
 class Rows(unittest.TestCase):

@@ -1,4 +1,5 @@
 """const_oid.names and SortedMap, beside tables of tuples."""
+import contextlib
 import copy
 import itertools
 import operator
@@ -26,7 +27,6 @@ class Names(unittest.TestCase):
         self.assertEqual({tuple}, set(map(type, [names.entries(), *names.entries()])))
 
     def test_each_entry_is_found(self):
-        """All names of each identifier, and the first entry with a name, whatever the case of its ASCII letters."""
         names_of, first = {}, {}
         for oid, name in names.entries():
             names_of.setdefault(oid, {})[name] = None
@@ -52,12 +52,6 @@ class Names(unittest.TestCase):
             (pathlib.Path(folder) / "names.tsv").write_text("1.2\tcn\n", encoding="utf-8")
             run = subprocess.run([sys.executable, "-c", code], cwd=folder, text=True, capture_output=True)
         self.assertEqual(("2.5.4.3\n", ""), (run.stdout, run.stderr))
-
-    def test_other_types_are_rejected(self):
-        text = r"must be an ObjectIdentifier, not (str|tuple|NoneType)\b"
-        for call in (names.name_of, names.names_of):
-            for given in ("2.5.4.3", (2, 5, 4, 3), None):
-                self.assertRegex(repr(error_of(call, given)), f"^TypeError..oid {text}")
         for given in (3, b"cn", None, ObjectIdentifier("2.5.4.3")):
             self.assertRegex(repr(error_of(names.by_name, given)), "^TypeError..name must be a str, not ")
 
@@ -68,12 +62,15 @@ def drawn(draw):
     return (2, *start, *(draw.choice([1, 2, 200, 201, 16_383, 16_384]) for _ in range(draw.randint(1, 5))))
 
 
+Octets = type("Octets", (ObjectIdentifier,), {"__bytes__": lambda oid: oid.der})
+
+
 class Attributes(SortedMap):
     __slots__ = ("__dict__", "slot")
 
 
 def is_interrupted(number, call, table):
-    """Whether a call is interrupted, as by Ctrl-C or for want of memory, before this instruction of sorted_map.py."""
+    """Whether a call is interrupted, as by Ctrl-C, before this instruction of sorted_map.py, which ends the trace."""
     left = itertools.count(-number)
 
     def trace(frame, event, _):
@@ -82,20 +79,17 @@ def is_interrupted(number, call, table):
             raise KeyboardInterrupt
         return trace
 
-    sys.settrace(trace)
-    try:
+    with contextlib.suppress(KeyboardInterrupt):
+        sys.settrace(trace)
         call(table)
-    except KeyboardInterrupt:
-        return True
-    finally:
-        sys.settrace(None)
-    return False
+    sys.settrace(None)
+    return next(left) > 0
 
 
 class Sorted(unittest.TestCase):
     def check(self, found, table, arcs):
         """What a mapping says of an identifier is what a table of tuples says, with the mapping's own keys."""
-        oid = ObjectIdentifier.from_arcs(arcs)
+        oid = Octets.from_arcs(arcs)
         prefixes = [key for key in table if arcs[: len(key)] == key]
         after = [key for key in table if key > arcs]
         below = sorted(key for key in table if key[: len(arcs)] == arcs)
@@ -116,9 +110,8 @@ class Sorted(unittest.TestCase):
                 self.changed(found, table, drawn(draw), number)
 
     def changed(self, found, table, arcs, number):
-        """Sets a value or several, or removes it or the last, and looks at all entries. No list of keys gets long, in
-        which one more would move all others."""
-        oid = ObjectIdentifier.from_arcs(arcs)
+        """Sets a value or several, or removes it or the last, and looks at all entries. No list of keys gets long."""
+        oid = Octets.from_arcs(arcs)
         if arcs in table and number % 2:
             self.assertEqual(table.pop(arcs), found.pop(oid))
         elif table and number == 8:
@@ -232,12 +225,6 @@ class Sorted(unittest.TestCase):
         self.assertEqual(text, str(error_of(table.update, {ObjectIdentifier("2.7"): 1, "2.8": 2})))
         self.assertEqual(both, table)
 
-    def test_the_octets_of_a_subclass_are_those_of_the_identifier(self):
-        octets = type("Octets", (ObjectIdentifier,), {"__bytes__": lambda oid: oid.der})
-        for text in ("2.5.4.2.1", "2.5.4.3.0"):
-            found = SortedMap({octets("2.5.4"): 1, octets(text): 2}).nearest(octets("2.5.4.3.1"))
-            self.assertEqual((octets("2.5.4"), 1), found)
-
     def test_a_long_identifier_is_found_in_linear_time(self):
         """The search for a prefix makes not all prefixes of what it is given, nor of what that shares with a key."""
         oid, long = ObjectIdentifier.from_bytes(bytes(500_000)), ObjectIdentifier.from_bytes(bytes(499_999))
@@ -247,7 +234,6 @@ class Sorted(unittest.TestCase):
         self.assertLess(seconds(lambda: self.assertEqual(1, table.nearest(long.child(1))[1])), 1)
 
     def test_all_entries_take_about_the_time_of_making_the_map(self):
-        """On 50,000 entries, a call takes no more than a few times as long as making the map of them."""
         draw = random.Random(SEED)
         entries = {ObjectIdentifier(f"1.3.6.1.2.1.{draw.getrandbits(32)}.{arc}"): arc for arc in range(50_000)}
         calls = {
@@ -266,8 +252,9 @@ class Sorted(unittest.TestCase):
         table = SortedMap()
         calls = [table.nearest, table.next_after, table.subtree, table.get, table.__getitem__, table.__delitem__]
         calls += [lambda key: SortedMap({key: 1}), lambda key: table.update({key: 1}), lambda key: key in table]
-        for call in [*calls, lambda key: table.setdefault(key, 1), lambda key: table.pop(key, None)]:
-            for key in ("2.5", (2, 5), None):
-                text = r"^TypeError..key must be an ObjectIdentifier, not (str|tuple|NoneType)\b"
-                self.assertRegex(repr(error_of(call, key)), text)
+        calls += [lambda key: table.setdefault(key, 1), lambda key: table.pop(key, None), names.name_of, names.names_of]
+        for call, key in itertools.product(calls, ("2.5", (2, 5), None)):
+            name = "oid" if call in (names.name_of, names.names_of) else "key"
+            text = rf"^TypeError..{name} must be an ObjectIdentifier, not (str|tuple|NoneType)\b"
+            self.assertRegex(repr(error_of(call, key)), text)
         self.assertEqual(0, len(table))

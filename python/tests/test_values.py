@@ -14,6 +14,7 @@ import random
 import sys
 import threading
 import time
+import timeit
 import unittest
 import weakref
 from unittest import mock
@@ -21,6 +22,7 @@ from unittest import mock
 import const_oid
 from const_oid import Code, ObjectIdentifier, OidError, _native
 
+from_bytes, from_der, from_arcs = ObjectIdentifier.from_bytes, ObjectIdentifier.from_der, ObjectIdentifier.from_arcs
 OID = ObjectIdentifier("1.2.840.10045.2.1")
 OCTETS = bytes.fromhex("2A8648CE3D0201")
 LONG = ObjectIdentifier.from_bytes(bytes([42] + [3] * 299))
@@ -40,18 +42,17 @@ WRONG = [
     (ObjectIdentifier, 4, "expected digit, got 'ü'", {"1.2.ü٣": (0xC3, 2)}),
     (ObjectIdentifier, 4, "expected digit, got '😀'", {"1.2.😀.x": (0xF0, 2)}),
     (ObjectIdentifier, 11, "the text is not UTF-8", {"1.\ud800": (0, 1), "1.2.\ud800": (0, 2)}),
-    (ObjectIdentifier.from_bytes, 5, "OID value is empty", {b"": (0, None)}),
-    (ObjectIdentifier.from_bytes, 3, "OID contains arc with invalid base 128 encoding", {b"\x2a\x80\x01": (0, None)}),
-    (ObjectIdentifier.from_der, 5, "OID value is empty", {b"\6\0": (0, None)}),
-    (ObjectIdentifier.from_der, 14, "the tag is not 6", {b"": (0, None), b"\x26\1\x2a": (0, None)}),
-    (ObjectIdentifier.from_der, 14, "octets come after the element",
-        {b"\6\1\x2a" + bytes(count): (0, None) for count in (1, 2, 3)}),
+    (from_bytes, 5, "OID value is empty", {b"": (0, None)}),
+    (from_bytes, 3, "OID contains arc with invalid base 128 encoding", {b"\x2a\x80\x01": (0, None)}),
+    (from_der, 5, "OID value is empty", {b"\6\0": (0, None)}),
+    (from_der, 14, "the tag is not 6", {b"": (0, None), b"\x26\1\x2a": (0, None)}),
+    (from_der, 14, "octets come after the element", {b"\6\1\x2a" + bytes(count): (0, None) for count in (1, 2, 3)}),
     (ObjectIdentifier.read_der, 14, "the length is not in the form of DER, or octets are missing",
         {b"\6": (0, None), b"\6\2\x2a": (0, None), b"\6\x81\1\x2a": (0, None), b"\6\x80\x2a\0\0": (0, None)}),
-    (ObjectIdentifier.from_arcs, 5, "OID value is empty", {(): (0, None)}),
-    (ObjectIdentifier.from_arcs, 5, "an identifier has two arcs or more", {(1,): (0, None)}),
-    (ObjectIdentifier.from_arcs, 2, "OID contains arc which is larger than 32-bits", {(1, 2, 2**32): (0, None)}),
-    (ObjectIdentifier.from_arcs, 1, "OID contains out-of-range arc: 3", {(3, 2**32): (3, None)}),
+    (from_arcs, 5, "OID value is empty", {(): (0, None)}),
+    (from_arcs, 5, "an identifier has two arcs or more", {(1,): (0, None)}),
+    (from_arcs, 2, "OID contains arc which is larger than 32-bits", {(1, 2, 2**32): (0, None)}),
+    (from_arcs, 1, "OID contains out-of-range arc: 3", {(3, 2**32): (3, None)}),
     (OID.child, 2, "OID contains arc which is larger than 32-bits", {2**32: (0, None)}),
 ]
 
@@ -68,33 +69,66 @@ except const_oid.OidError as error:
 """
 
 
-class Under(ObjectIdentifier):
-    __slots__ = ()
+Under = type("Under", (ObjectIdentifier,), {"__slots__": ()})
 
 
 class Named(collections.abc.Sized, Under):
-    """A subclass with another base, whose __init__ sets attributes, one of them in a slot."""
-
     __slots__ = ("__dict__", "slot")
 
     def __init__(self, text):
         self.text, self.slot, self.calls = str(text), [], getattr(self, "calls", 0) + 1
 
 
-class Index:
+def index(call=int):
     """The arc 999, which calls a function where it is read."""
-
-    def __init__(self, call=int):
-        self.call = call
-
-    def __index__(self):
-        self.call()
-        return 999
+    return type("Index", (), {"__index__": lambda _: (call(), 999)[1]})()
 
 
 # What raises an IndexError where it is read, and a ValueError where it is compared.
 OWN = {"__index__": lambda _: ()[0], "__eq__": lambda *_: int("x"), "__hash__": object.__hash__}
 RAISING = type("Raising", (), OWN)()
+
+# Errors of Python: their type, what they say if it is of this package, the call and its inputs.
+OF_OTHERS = [("cryptography.x509", "dotted_string", "its .dotted_string"), ("asn1crypto.core", "dotted", "its .dotted")]
+REJECTED = [
+    (TypeError, "", ObjectIdentifier, [b"1.2", None, 1, 1.2, ("1", "2")]),
+    (TypeError, "", from_bytes, ["2.999", None, 42, [42, 3], OID, array.array("B", [42])]),
+    (TypeError, "", from_der, ["2.999", None, 42, [6, 1, 42], OID, array.array("B", [6, 1, 42])]),
+    (TypeError, "", from_arcs, ["12", b"\1\2", bytearray(b"\1"), memoryview(b"\1\2"), None, 1, [1, "2"], [1.0, 2]]),
+    (TypeError, "", from_arcs, [{1: 2, 2: 3}, *((1, 2**32, arc) for arc in ("3", 2.0, None))]),
+    (TypeError, "", OID.__format__, [5, b"", None]),
+    (TypeError, "", OID.child, ["1", 1.0, None, OID]),
+    (TypeError, "", OID.starts_with, ["1.2", b"\x2a", None, (1, 2)]),
+    (TypeError, "", OID.__getitem__, ["1", None, 1.0]),
+    *((TypeError, f"text must be a str, not {module}.Other (ObjectIdentifier takes {hint})", ObjectIdentifier,
+        [type("Other", (), {"__module__": module, field: None})()])
+        for module, field, hint in [*OF_OTHERS, ("pyasn1.type.univ", "isPrefixOf", "its str()")]),
+    (TypeError, "octets must be bytes, bytearray or memoryview, not str (ObjectIdentifier takes dotted text, and "
+        "bytes.fromhex hexadecimal text)", from_bytes, ["2A03"]),
+    (TypeError, "octets must be bytes, bytearray or memoryview, not list (bytes takes octets as numbers)", from_bytes,
+        [[1]]),
+    (TypeError, "octets must be items of 1 byte, not 2: see memoryview.cast", from_bytes,
+        [memoryview(array.array("H", [42]))]),
+    (TypeError, "text must be a str, not bytes (from_bytes takes octets)", ObjectIdentifier, [b"1"]),
+    (TypeError, "text must be a str, not tuple (from_arcs takes arcs)", ObjectIdentifier, [(1, 2)]),
+    (TypeError, "text must be a str, not int", ObjectIdentifier, [1]),
+    (TypeError, "prefix must be an ObjectIdentifier, not bytes (from_bytes takes octets)", OID.starts_with, [OCTETS]),
+    (TypeError, "prefix must be an ObjectIdentifier, not str (ObjectIdentifier takes text)", OID.starts_with, ["1"]),
+    (TypeError, "arcs must be an iterable of int, not set (a set has no order)", from_arcs, [{1, 2}]),
+    (TypeError, "arcs must be an iterable of int, not frozenset (a set has no order)", from_arcs, [frozenset()]),
+    (ValueError, "an arc is negative: -2", from_arcs, [(1, -2)]),
+    (ValueError, "an arc is negative: -2", OID.child, [-2]),
+    (ValueError, "an arc is negative", OID.child, [-(10**5000)]),
+    (ValueError, "3 is not among the arcs", OID.index, [3]),
+    (ValueError, "2 is not among the arcs", lambda stop: OID.index(2, 0, stop), [1]),
+    (IndexError, "index out of range", lambda index: OID[index], [6, -7, 10**50]),
+    *((IndexError, "tuple index out of range", call, [RAISING]) for call in (OID.__getitem__, OID.child)),
+    *((ValueError, "invalid literal for int() with base 10: 'x'", call, [RAISING]) for call in (OID.index, OID.count)),
+    (OverflowError, "a number has 32 bits", lambda numbers: OidError(*numbers),
+        [(4, 2**32 + 120), (4, -1), (2**32 + 4, 120), (-1, 0)]),
+    (OverflowError, "", lambda detail: OidError(4, detail), [2**64 + 120]),
+    (ValueError, "", OidError, [99]),
+]
 
 # Subclasses with a state that is a tuple and without setattr; with a way of their own to be copied; and by copyreg.
 OWN = {"__setattr__": None, "__getstate__": lambda oid: ("state", "kept")}
@@ -108,7 +142,6 @@ Bare = type("Bare", (OidError,), {"__init__": lambda error, *args: None})
 
 
 def error_of(call, *given):
-    """The error of a call, or None."""
     try:
         call(*given)
     except Exception as error:
@@ -117,42 +150,20 @@ def error_of(call, *given):
 
 
 def seconds(call, *given):
-    start = time.process_time()
-    call(*given)
-    return time.process_time() - start
+    return timeit.timeit(lambda: call(*given), timer=time.process_time, number=1)
 
 
 def is_linear(call, of):
-    """Whether an input that is eight times as long takes less than 24 times as long."""
     short, long = of(10_000), of(80_000)
     return min(seconds(call, long) for _ in range(3)) < 24 * min(seconds(call, short) for _ in range(5))
 
 
 def copies_of(value, protocols=range(pickle.HIGHEST_PROTOCOL + 1)):
-    """Pickles, and deep copies."""
     pickles = [pickle.loads(pickle.dumps(value, protocol)) for protocol in protocols]
     return [*pickles, copy.deepcopy(value), copy.deepcopy([value])[0]]
 
 
 class Inputs(unittest.TestCase):
-    def test_other_types_are_rejected(self):
-        wrong = {
-            ObjectIdentifier: [b"1.2", None, 1, 1.2, ("1", "2")],
-            ObjectIdentifier.from_bytes: ["2.999", None, 42, [42, 3], OID, array.array("B", [42])],
-            ObjectIdentifier.from_der: ["2.999", None, 42, [6, 1, 42], OID, array.array("B", [6, 1, 42])],
-            ObjectIdentifier.from_arcs: ["12", b"\1\2", bytearray(b"\1"), None, 1, [1, "2"], [1.0, 2], {1: 2, 2: 3}],
-            OID.__format__: [5, b"", None],
-            (lambda arcs: ObjectIdentifier.from_arcs((1, 2**32, *arcs))): ["3", [2.0], None],
-            OID.child: ["1", 1.0, None, OID],
-            OID.starts_with: ["1.2", b"\x2a", None, (1, 2)],
-            (lambda octets: ObjectIdentifier.from_arcs(memoryview(octets))): [b"\x01\x02"],
-            OID.__getitem__: ["1", None, 1.0],
-        }
-        for call, inputs in wrong.items():
-            for given in inputs:
-                with self.subTest(call=call, given=given):
-                    self.assertIs(TypeError, type(error_of(call, given)))
-
     def test_octets_come_from_any_buffer(self):
         for call, octets in ((ObjectIdentifier.from_bytes, OCTETS), (ObjectIdentifier.from_der, b"\6\7" + OCTETS)):
             source = bytearray(octets)
@@ -176,50 +187,22 @@ class Inputs(unittest.TestCase):
 
     def test_arcs_come_from_any_iterable(self):
         """Arcs are those of a list before it changes, and no other call comes between them."""
-        self.assertEqual((2, 999, 1), ObjectIdentifier.from_arcs(iter([2, Index(), True])).arcs)
-        self.assertEqual((2, 5, 999), ObjectIdentifier("2.5").child(Index()).arcs)
+        self.assertEqual((2, 999, 1), ObjectIdentifier.from_arcs(iter([2, index(), True])).arcs)
+        self.assertEqual((2, 5, 999), ObjectIdentifier("2.5").child(index()).arcs)
         self.assertEqual((2, 5), ObjectIdentifier.from_arcs(ObjectIdentifier("2.5")).arcs)
         for change in ("clear", "pop", "reverse"):
             arcs = [2]
-            arcs += [Index(getattr(arcs, change)), 3, 4]
+            arcs += [index(getattr(arcs, change)), 3, 4]
             self.assertEqual((2, 999, 3, 4), ObjectIdentifier.from_arcs(arcs).arcs, change)
-        other = Index(lambda: ObjectIdentifier.from_arcs((1, 2, 5)))
+        other = index(lambda: ObjectIdentifier.from_arcs((1, 2, 5)))
         self.assertEqual((2, 999, 3, 4), ObjectIdentifier.from_arcs((2, other, 3, 4)).arcs)
 
     def test_errors_of_python_say_what_to_do(self):
-        others = [("cryptography.x509", "dotted_string", ".dotted_string"), ("asn1crypto.core", "dotted", ".dotted")]
-        octets, wanted = "octets must be bytes, bytearray or memoryview, not", "arcs must be an iterable of int"
-        said = {
-            **{(ObjectIdentifier, type("Other", (), {"__module__": module, field: None})()):
-                f"text must be a str, not {module}.Other (ObjectIdentifier takes its {text})"
-                for module, field, text in [*others, ("pyasn1.type.univ", "isPrefixOf", "str()")]},
-            (ObjectIdentifier.from_bytes, "2A03"):
-                f"{octets} str (ObjectIdentifier takes dotted text, and bytes.fromhex hexadecimal text)",
-            (lambda *arcs: ObjectIdentifier.from_bytes([*arcs]), 1): f"{octets} list (bytes takes octets as numbers)",
-            (lambda kind: ObjectIdentifier.from_bytes(memoryview(array.array(kind, [42]))), "H"):
-                "octets must be items of 1 byte, not 2: see memoryview.cast",
-            (ObjectIdentifier, b"1"): "text must be a str, not bytes (from_bytes takes octets)",
-            (ObjectIdentifier, (1, 2)): "text must be a str, not tuple (from_arcs takes arcs)",
-            (ObjectIdentifier, 1): "text must be a str, not int",
-            (OID.starts_with, OCTETS): "prefix must be an ObjectIdentifier, not bytes (from_bytes takes octets)",
-            (OID.starts_with, "1"): "prefix must be an ObjectIdentifier, not str (ObjectIdentifier takes text)",
-            (lambda arcs: ObjectIdentifier.from_arcs({*arcs}), (1, 2)): f"{wanted}, not set (a set has no order)",
-            (ObjectIdentifier.from_arcs, frozenset()): f"{wanted}, not frozenset (a set has no order)",
-            (ObjectIdentifier.from_arcs, (1, -2)): "an arc is negative: -2",
-            (OID.child, -2): "an arc is negative: -2",
-            (OID.child, -(10**5000)): "an arc is negative",
-            (OID.index, 3): "3 is not among the arcs",
-            (OID.index, 2, 0, 1): "2 is not among the arcs",
-            **{(operator.getitem, OID, index): "index out of range" for index in (6, -7, 10**50)},
-        }
-        said |= {(call, RAISING): "tuple index out of range" for call in (OID.__getitem__, OID.child)}
-        said |= {(call, RAISING): "invalid literal for int() with base 10: 'x'" for call in (OID.index, OID.count)}
-        kinds = {"an arc is": ValueError, "3 is not ": ValueError, "2 is not ": ValueError, "invalid l": ValueError}
-        kinds |= {"index out": IndexError, "tuple ind": IndexError}
-        for (call, *given), text in said.items():
-            with self.subTest(text):
-                error = error_of(call, *given)
-                self.assertEqual((kinds.get(text[:9], TypeError), text), (type(error), str(error)))
+        for kind, text, call, inputs in REJECTED:
+            for given in inputs:
+                with self.subTest(text or repr(given), call=call):
+                    error = error_of(call, given)
+                    self.assertEqual((kind, text or str(error)), (type(error), str(error)))
 
     def test_the_callers_modules_do_not_matter(self):
         """Errors, of one class, and copies need nothing of the caller's builtins or of sys.modules."""
@@ -233,7 +216,6 @@ class Inputs(unittest.TestCase):
                 importlib.import_module("const_oid._support")
 
     def test_an_identifier_in_place_of_a_text(self):
-        """An identifier in place of a text: itself, or one of another class with its octets."""
         under, named = Under(OID), Named("2.999")
         self.assertIs(OID, ObjectIdentifier(OID))
         # As with tuple, another object: else its __init__ would run again.
@@ -296,7 +278,6 @@ class Inputs(unittest.TestCase):
         self.assertEqual((2, 0), error_of(ObjectIdentifier.from_arcs, (*arcs, 2**32)).args)
 
     def test_long_inputs_take_linear_time(self):
-        """Of a text, a text with an error, and elements in a row."""
         def read(rest):
             while rest:
                 _, rest = ObjectIdentifier.read_der(rest)
@@ -318,7 +299,6 @@ class Values(unittest.TestCase):
         self.assertEqual({OID: 1}, {Under(OID): 1})
 
     def test_a_subclass_is_called_with_an_identifier(self):
-        """What makes an object of a subclass calls it once, with a plain identifier."""
         source = Named("2.999")
         made = [Named.from_bytes(b"\x88\x37"), Named.from_arcs((2, 999)), Named("2.999.1").parent, Named("2.999")]
         made += [Named.read_der(source.der)[0], Named(source), Named(OID).parent.parent.parent.parent.child(3).parent]
@@ -327,7 +307,6 @@ class Values(unittest.TestCase):
         self.assertEqual("2.999.7", source.child(7).text)
 
     def test_copies_of_a_subclass_have_its_attributes(self):
-        """Copies and pickles have all attributes: deep copies have copies of them, and may be cyclic."""
         oid = Named("2.999")
         oid.text, oid.slot, oid.other = "changed", [1], [oid]
         for other in copies_of(oid, range(2, 6)):
@@ -350,8 +329,7 @@ class Values(unittest.TestCase):
     def test_pickles_are_short_and_checked(self):
         """A pickle has little more than the octets, which are checked as it is read."""
         oids = [ObjectIdentifier(f"1.3.6.1.2.1.{arc}.4.7") for arc in range(2, 102)]
-        alone = len(pickle.dumps(oids[:1]))
-        self.assertLess(len(pickle.dumps(oids)) - alone, 99 * (8 + 10))
+        self.assertLess(len(pickle.dumps(oids)) - len(pickle.dumps(oids[:1])), 99 * (8 + 10))
         wrong = pickle.dumps(OID, 4).replace(OCTETS, OCTETS[:-1] + b"\x80")
         self.assertEqual((3, 0), error_of(pickle.loads, wrong).args)
         # Made by version 1.2.0.
@@ -456,13 +434,7 @@ class Values(unittest.TestCase):
             del error.given
             self.assertFalse(hasattr(error, "given"))
 
-    def test_numbers_of_an_error_have_32_bits(self):
-        for args in ((4, 2**32 + 120), (4, -1), (2**32 + 4, 120), (-1, 0), (4, 2**64 + 120)):
-            self.assertIs(OverflowError, type(error_of(OidError, *args)), args)
-        self.assertIs(ValueError, type(error_of(OidError, 99)))
-
     def test_threads_do_not_mix_identifiers(self):
-        """Eight threads, each with identifiers and errors of its own."""
         start = threading.Barrier(8)
 
         def work(own):
@@ -481,17 +453,13 @@ class Values(unittest.TestCase):
 
     def test_interpreters_have_their_own_class(self):
         """Four at once, which have locks of their own since Python 3.12."""
-        try:
-            import _interpreters as interpreters
-        except ImportError:
-            import _xxsubinterpreters as interpreters
+        interpreters = importlib.import_module("_xxsubinterpreters" if sys.version_info < (3, 13) else "_interpreters")
         read, write = os.pipe()
         own = [interpreters.create() for _ in range(4)]
         with concurrent.futures.ThreadPoolExecutor(4) as threads:
             list(threads.map(lambda one: interpreters.run_string(one, INTERPRETED.format(write)), own))
         list(map(interpreters.destroy, own))
-        os.close(write)
-        with open(read, encoding="utf-8") as lines:
-            said = [line.split() for line in lines]
+        said = [line.split() for line in os.read(read, 4096).decode().splitlines()]
+        list(map(os.close, (read, write)))
         self.assertEqual([["2.999", "40"]] * 4, [words[:-1] for words in said])
         self.assertNotIn(str(id(ObjectIdentifier)), [words[-1] for words in said])

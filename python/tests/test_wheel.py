@@ -3,10 +3,8 @@ import ast
 import base64
 import concurrent.futures
 import email
-import functools
 import hashlib
 import importlib.metadata
-import importlib.util
 import io
 import os
 import pathlib
@@ -58,16 +56,18 @@ REFUSED = {
 
 
 def said_by(*command):
-    """What a program prints."""
     return subprocess.run(command, text=True, stdout=subprocess.PIPE, check=True).stdout
+
+
+def ran(program, folder, **variables):
+    options = {"cwd": folder, "env": os.environ | variables, "text": True, "capture_output": True}
+    return subprocess.run([sys.executable, "-c", program], **options)
 
 
 def built(call, settings=INSTALLED, python=TOP / "python", before="", **variables):
     """What a hook of the backend writes into a new folder in a new process: its files, and what the process says."""
     with tempfile.TemporaryDirectory() as folder:
-        program = f"{before}\nimport backend; print(backend.{call}({folder!r}, {settings!r}))"
-        options = {"cwd": python, "env": os.environ | variables, "text": True, "capture_output": True}
-        run = subprocess.run([sys.executable, "-c", program], **options)
+        run = ran(f"{before}\nimport backend; print(backend.{call}({folder!r}, {settings!r}))", python, **variables)
         files = {path.name: path.read_bytes() for path in pathlib.Path(folder).iterdir()}
     return run.returncode, run.stdout.strip() or run.stderr.strip(), files
 
@@ -86,11 +86,10 @@ class Wheel(unittest.TestCase):
         """Nothing but the package and what says what it is, which is installed; all may read it, none may run it."""
         self.assertEqual((FILES, len(FILES)), (set(self.files), len(self.entries)))
         self.assertEqual({0o100644}, {entry.external_attr >> 16 for entry in self.entries})
-        sources = {name: f"python/src/{name}" for name in self.files if name.startswith("const_oid/")}
-        del sources["const_oid/_native.abi3.so"], sources["const_oid/names.tsv"]
-        sources |= {f"{STEM}.dist-info/licenses/{name}": name for name in ("LICENSE-APACHE", "LICENSE-MIT")}
-        for name, source in sources.items():
-            self.assertEqual((TOP / source).read_bytes(), self.files[name])
+        sources = [*(TOP / "python/src/const_oid").glob("*.*"), TOP / "LICENSE-APACHE", TOP / "LICENSE-MIT"]
+        contents = {name.split("/")[-1]: content for name, content in self.files.items()}
+        for source in sources:
+            self.assertEqual(source.read_bytes(), contents[source.name])
         installed = {str(path) for path in importlib.metadata.files("const-oid") if path.suffix != ".pyc"}
         of_pip = {f"{STEM}.dist-info/{name}" for name in ("INSTALLER", "REQUESTED", "direct_url.json")}
         self.assertEqual(FILES | of_pip, installed)
@@ -103,15 +102,11 @@ class Wheel(unittest.TestCase):
                 wanted = base64.urlsafe_b64encode(hashlib.sha256(self.files[name]).digest()).decode().rstrip("=")
                 self.assertEqual((f"sha256={wanted}", str(len(self.files[name]))), (digest, length))
 
-    def test_the_tag_says_abi_and_machine(self):
-        """The name and WHEEL say that the module is for the stable ABI, and for this machine."""
+    def test_the_metadata_is_that_of_the_project(self):
+        """The licence is an expression, and no classifier says it again. The tag says the ABI and the machine."""
         self.assertRegex(self.name, rf"^{STEM}-cp311-abi3-[a-z]+_[a-z0-9_]+\.whl$")
         said = email.message_from_bytes(self.files[f"{STEM}.dist-info/WHEEL"])
-        tag = self.name.removeprefix(f"{STEM}-").removesuffix(".whl")
-        self.assertEqual((tag, "false"), (said["Tag"], said["Root-Is-Purelib"]))
-
-    def test_the_metadata_is_that_of_the_project(self):
-        """The licence is an expression, and no classifier says it again."""
+        self.assertEqual((self.name, "false"), (f"{STEM}-{said['Tag']}.whl", said["Root-Is-Purelib"]))
         fields = {"Name": "name", "Version": "version", "Summary": "description", "License-Expression": "license"}
         wanted = [("Requires-Python", ">=3.11"), *((field, PROJECT[name]) for field, name in fields.items())]
         wanted += [("License-File", "LICENSE-APACHE"), ("License-File", "LICENSE-MIT"), ("Metadata-Version", "2.4")]
@@ -128,34 +123,34 @@ class Wheel(unittest.TestCase):
         # Two archives that differ would take minutes to print.
         self.assertTrue(archive == built("build_sdist")[2])
         with tempfile.TemporaryDirectory() as folder:
-            source = unpacked(archive[name], folder)
+            with tarfile.open(fileobj=io.BytesIO(archive[name])) as tar:
+                self.assertEqual({STEM}, {member.name.split("/")[0] for member in tar})
+                tar.extractall(folder)
+            source = pathlib.Path(folder) / STEM
             self.assertEqual(self.files[f"{STEM}.dist-info/METADATA"], (source / "PKG-INFO").read_bytes())
             self.assertTrue((0, self.name, {self.name: self.wheel}) == built("build_wheel", python=source))
             for stray in ("rust/const-oid-c/target/x.rs", "rust/const-oid/src/x.rs~", "src/const_oid/x.py", "x"):
                 (source / stray).parent.mkdir(exist_ok=True)
                 (source / stray).touch()
             self.assertTrue(archive == built("build_sdist", python=source)[2])
+            if shutil.which("cargo"):
+                self.check_cargo(source, folder)
 
-    @unittest.skipUnless(shutil.which("cargo"), "cargo is not installed")
-    def test_cargo_builds_a_source_archive(self):
+    def check_cargo(self, source, folder):
         """For this machine whatever the configuration says, in a new home, and not in the folder of the archive."""
         rustup = os.environ.get("RUSTUP_HOME", str(pathlib.Path.home() / ".rustup"))
-        (archive,) = built("build_sdist")[2].values()
-        with tempfile.TemporaryDirectory() as folder:
-            source = unpacked(archive, folder)
-            before = set(source.rglob("*"))
-            variables = {"HOME": folder, "CARGO_HOME": f"{folder}/cargo", "RUSTUP_HOME": rustup}
-            variables |= {"CARGO_TARGET_DIR": "made", "CARGO_BUILD_TARGET": "another", "PYTHONDONTWRITEBYTECODE": "1"}
-            status, said, files = built("build_wheel", None, python=source, **variables)
-            self.assertEqual((0, [self.name]), (status, list(files)), said)
-            self.assertEqual(before, set(source.rglob("*")))
+        before = set(source.rglob("*"))
+        variables = {"HOME": folder, "CARGO_HOME": f"{folder}/cargo", "RUSTUP_HOME": rustup}
+        variables |= {"CARGO_TARGET_DIR": "made", "CARGO_BUILD_TARGET": "another", "PYTHONDONTWRITEBYTECODE": "1"}
+        status, said, files = built("build_wheel", None, python=source, **variables)
+        self.assertEqual((0, [self.name]), (status, list(files)), said)
+        self.assertEqual(before, set(source.rglob("*")))
 
     def test_the_module_shows_its_start_alone(self):
         """The module shows its start alone, and needs the library of C alone: that of object identifiers is in it."""
-        module = importlib.util.find_spec("const_oid._native").origin
+        module = importlib.import_module("const_oid._native").__file__
         self.assertRegex(said_by("nm", "-D", "--defined-only", module), r"^[0-9a-f]+ T PyInit__native$")
-        needed = re.findall(r"\(NEEDED\).*\[(.*)\]", said_by("readelf", "-dW", module))
-        self.assertEqual(["libc.so.6"], needed)
+        self.assertEqual(["libc.so.6"], re.findall(r"\(NEEDED\).*\[(.*)\]", said_by("readelf", "-dW", module)))
 
     def test_the_source_asks_for_the_limited_api(self):
         """Python's headers declare what the stable ABI of 3.11 has, as the tag says; the source uses nothing else."""
@@ -167,19 +162,17 @@ class Wheel(unittest.TestCase):
         self.assertNotRegex(source, r'Py_(X?(INC|DEC|SET)REF|CLEAR|RETURN_\w+)[(;]|"\w+#')
         said_by(*command, "-Wall", "-Wextra", "-Werror", "-fsyntax-only")
 
-
     def test_the_flags(self):
-        """Any other would make another module."""
-        said, files = [], [f"-I{backend.INCLUDE}", f"-I{backend.HEADER.parent}", f"{TOP}/python/src/native.c"]
-        output = {"_output": lambda *call: said.append([*map(str, call)]) or "host: this\n", "_missing": lambda _: ()}
+        said = []
+        output = {"_output": lambda *call: said.append(call) or "host: this\n", "_missing": lambda _: ()}
         with mock.patch.multiple(backend, **output), mock.patch.dict(os.environ, CFLAGS="-g", LDFLAGS="-L."):
-            backend._compile("module", None)
+            backend._compile("made", None)
+        wanted = f"""{backend.RUSTC} -vV
+cargo build --quiet --release --locked --offline --target this --target-dir OUT --manifest-path {backend.CRATE}
+{" ".join(backend.COMPILER)} -std=c11 -O2 -fPIC -fno-plt -fvisibility=hidden -g -shared -Wl,--exclude-libs,ALL -s \
+-I{backend.INCLUDE} -I{backend.HEADER.parent} {TOP}/python/src/native.c OUT/this/release/libconst_oid_c.a -o made -L."""
         folder = said[1][said[1].index("--target-dir") + 1]
-        cargo = f"cargo build --quiet --release --locked --offline --target this --target-dir {folder} --manifest-path"
-        flags = "-std=c11 -O2 -fPIC -fno-plt -fvisibility=hidden -g -shared -Wl,--exclude-libs,ALL -s".split()
-        files += [f"{folder}/this/release/libconst_oid_c.a", "-o", "module", "-L."]
-        wanted = [[backend.RUSTC, "-vV"], [*cargo.split(), str(backend.CRATE)], [*backend.COMPILER, *flags, *files]]
-        self.assertEqual(wanted, said)
+        self.assertEqual(wanted.replace("OUT", folder).split("\n"), [" ".join(map(str, call)) for call in said])
 
     def test_a_library_below_a_space(self):
         """The library may lie below a folder with a space, and CC be empty."""
@@ -193,18 +186,9 @@ class Wheel(unittest.TestCase):
                 self.assertEqual((0, self.name), (status, name))
 
 
-def unpacked(archive, folder):
-    """The folder of a source archive."""
-    with tarfile.open(fileobj=io.BytesIO(archive)) as tar:
-        assert {STEM} == {member.name.split("/")[0] for member in tar}
-        tar.extractall(folder)
-    return pathlib.Path(folder) / STEM
-
-
 class Build(unittest.TestCase):
     def test_what_is_missing_is_named(self):
-        """What is missing is named, all of it, before anything is built, and what fails is reported. A Python before
-        3.11 reads the backend."""
+        """All that is missing is named before anything is built, and what fails is reported. Python 3.8 reads all."""
         ast.parse((TOP / "python/backend.py").read_text(encoding="utf-8"), feature_version=(3, 8))
         for text, call in REFUSED.items():
             with self.subTest(text):
@@ -220,17 +204,16 @@ class Build(unittest.TestCase):
             missing = f"const-oid: there is no {top}/rust/const-oid-c/Cargo.toml"
             wanted = (1, f"{missing}: install a checkout of the repository, or a source archive", {})
             self.assertEqual(wanted, built("build_editable", python=top / "python"))
-            for path in TOP.iterdir():
-                if path.name != "python":
-                    (top / path.name).symlink_to(path)
+            for name in ("LICENSE-APACHE", "LICENSE-MIT", "crates", "rust"):
+                (top / name).symlink_to(TOP / name)
             # What an earlier build left goes.
             (top / "python/out/const_oid").mkdir(parents=True)
             (top / "python/out/const_oid/stale.py").touch()
             # Of two at once each waits for the other, however slow.
             slow = "import shutil, time; rm = shutil.rmtree; shutil.rmtree = lambda *_, **__: rm(*_) or time.sleep(1)"
-            with concurrent.futures.ThreadPoolExecutor(2) as builds:
-                build = functools.partial(built, "build_editable", python=top / "python", before=slow)
-                (status, name, files), other = builds.map(lambda _: build(), range(2))
+            with concurrent.futures.ThreadPoolExecutor() as builds:
+                both = [builds.submit(built, "build_editable", python=top / "python", before=slow) for _ in range(2)]
+            (status, name, files), other = (one.result() for one in both)
             self.assertEqual((0, 0), (status, other[0]), (name, other[1]))
             self.assertEqual(PACKAGE, set(os.listdir(top / "python/out/const_oid")))
             with zipfile.ZipFile(io.BytesIO(files[name])) as archive:
@@ -239,8 +222,7 @@ class Build(unittest.TestCase):
                 (place,) = archive.read("const_oid.pth").decode().splitlines()
             with (top / "python/src/const_oid/names.py").open("a", encoding="utf-8") as source:
                 source.write("\nCHANGED = name_of(ObjectIdentifier('2.5.4.3'))\n")
-            code = "import const_oid; print(const_oid.names.CHANGED)"
-            run = subprocess.run([sys.executable, "-c", code], cwd=place, text=True, capture_output=True)
+            run = ran("import const_oid; print(const_oid.names.CHANGED)", place)
             self.assertEqual(("cn\n", ""), (run.stdout, run.stderr))
             self.assertEqual(["const_oid"], os.listdir(place))
 
@@ -259,5 +241,4 @@ class Build(unittest.TestCase):
                 self.assertEqual(0, status, name)
                 with zipfile.ZipFile(io.BytesIO(files[name])) as archive:
                     archive.extractall(folder)
-                command = [sys.executable, "-c", "import const_oid"]
-                self.assertIn(text, subprocess.run(command, cwd=folder, text=True, capture_output=True).stderr)
+                self.assertIn(text, ran("import const_oid", folder).stderr)

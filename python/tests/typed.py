@@ -34,7 +34,10 @@ def uses() -> None:
     assert_type(iter(arcs), Iterator[int])
     key: dict[ObjectIdentifier, str] = {oid: "name", under: "another"}
     tables(key)
-    errors(OidError(Code.DIGIT_EXPECTED, 120))
+    error: ValueError = (wrong := OidError(Code.DIGIT_EXPECTED, 120))
+    assert error.args == (4, 120)
+    assert_type((wrong.code, wrong.detail, wrong.piece), tuple[Code, int, int | None])
+    assert_type((wrong.given, __version__, repr(wrong)), tuple[object, str, str])
 
 
 def tables(key: dict[ObjectIdentifier, str]) -> None:
@@ -63,10 +66,3 @@ def rejected(oid: ObjectIdentifier, table: SortedMap[str]) -> list[bool]:
         "2.5.4.3" in table,  # type: ignore[comparison-overlap]
         oid in ["2.5.4.3"],  # type: ignore[comparison-overlap]
     ]
-
-
-def errors(error: OidError) -> None:
-    assert_type((error.code, error.detail, error.piece), tuple[Code, int, int | None])
-    assert_type((error.given, __version__, repr(error)), tuple[object, str, str])
-    fault: ValueError = error
-    assert fault.args == (4, 120)

@@ -9,7 +9,7 @@ import reprlib
 import sys
 from collections.abc import Sequence
 from types import SimpleNamespace
-from typing import Any
+from typing import Any, cast
 
 from . import _native
 from ._native import ObjectIdentifier, error_text, wrong_component
@@ -47,6 +47,17 @@ class Code(enum.IntEnum, metaclass=_Listed):
     NO_ELEMENT = 14
 
 
+class _Field:
+    """Shows a field of an error in help and dir. The field itself is in vars(error), which comes first."""
+
+    def __init__(self, name: str, words: str) -> None:
+        self.name, self.__doc__ = name, words
+
+    def __get__(self, error: object, kind: type) -> Any:
+        # Nor has the class, whose `code` pydantic 1 would take for a text.
+        raise AttributeError(f"{kind.__name__!r} object has no attribute {self.name!r}")
+
+
 class OidError(ValueError):
     """A text, arcs or octets that denote no identifier.
 
@@ -58,6 +69,9 @@ class OidError(ValueError):
     """
 
     __module__ = "const_oid"
+    code = cast(Code, _Field("code", "Why: one of `const_oid.Code`, which are numbers."))
+    detail = cast(int, _Field("detail", "The arc with `ARC_INVALID`, the byte with `DIGIT_EXPECTED`, and else 0."))
+    given = cast(object, _Field("given", "The text, octets, arcs or arc that was passed, or None."))
 
     def __init__(self, code: int, detail: int = 0, given: object = None) -> None:
         super().__init__(code, detail)
@@ -91,25 +105,6 @@ class OidError(ValueError):
     def __repr__(self) -> str:
         given = "" if self.given is None else f", {SHOWN.repr(self.given)}"
         return f"{type(self).__name__}(Code.{self.code.name}, {self.detail}{given})"
-
-
-class _Field:
-    """Shows a field of an error in help and dir. The field itself is in vars(error), which comes first."""
-
-    def __init__(self, name: str, words: str) -> None:
-        self.name, self.__doc__ = name, words
-
-    def __get__(self, error: object, kind: type) -> Any:
-        # Nor has the class, whose `code` pydantic 1 would take for a text.
-        raise AttributeError(f"{kind.__name__!r} object has no attribute {self.name!r}")
-
-
-for _field in (
-    _Field("code", "Why: one of `const_oid.Code`, which are numbers."),
-    _Field("detail", "The arc with `ARC_INVALID`, the byte with `DIGIT_EXPECTED`, and otherwise 0."),
-    _Field("given", "The text, octets, arcs or arc that was passed, or None."),
-):
-    setattr(OidError, _field.name, _field)
 
 
 def _fault_of_element(octets: bytes) -> str:

@@ -36,12 +36,7 @@ def _by_oid() -> dict[ObjectIdentifier, dict[str, None]]:
 
 @cache
 def _by_name() -> dict[bytes, ObjectIdentifier]:
-    return {_fold_case(name): oid for oid, name in reversed(entries())}
-
-
-def _fold_case(name: str) -> bytes:
-    """A name without the case of its ASCII letters."""
-    return name.encode("utf-8", "surrogatepass").lower()
+    return {name.encode().lower(): oid for oid, name in reversed(entries())}
 
 
 def name_of(oid: ObjectIdentifier) -> str | None:
@@ -70,4 +65,4 @@ def by_name(name: str) -> ObjectIdentifier | None:
     """
     if not isinstance(name, str):
         raise wrong_type("name must be a str", name)
-    return _by_name().get(_fold_case(name))
+    return _by_name().get(name.encode(errors="surrogatepass").lower())  # bytes have no case but that of ASCII letters

@@ -13,10 +13,11 @@ from ._support import required
 
 Key = TypeVar("Key", bound=ObjectIdentifier)
 Value = TypeVar("Value")
+Entries = Mapping[Key, Value] | Iterable[tuple[ObjectIdentifier, Value]]
 
 PART = 1000
 _CONTINUED = bytes(range(128, 256))
-_LAST = itemgetter(-1)
+_FIRST, _LAST = itemgetter(0), itemgetter(-1)
 
 
 class SortedMap(MutableMapping[ObjectIdentifier, Value]):
@@ -34,7 +35,7 @@ class SortedMap(MutableMapping[ObjectIdentifier, Value]):
 
     __slots__ = ("_keys", "_values")
 
-    def __init__(self, entries: Mapping[Key, Value] | Iterable[tuple[ObjectIdentifier, Value]] = ()) -> None:
+    def __init__(self, entries: Entries[Key, Value] = ()) -> None:
         self._keys: _Keys | None = None  # during a change, and until the next call if it was interrupted
         self._values = _checked(entries)
         self._keys = _Keys(self._values)
@@ -121,9 +122,7 @@ class SortedMap(MutableMapping[ObjectIdentifier, Value]):
         self._values.clear()
         self._keys = _Keys(())
 
-    def update(  # type: ignore[override]
-        self, entries: Mapping[Key, Value] | Iterable[tuple[ObjectIdentifier, Value]] = (), /
-    ) -> None:
+    def update(self, entries: Entries[Key, Value] = (), /) -> None:  # type: ignore[override]
         """Sets all entries of a mapping or an iterable, or none if a key is no identifier.
 
         >>> table = SortedMap({ObjectIdentifier("2.5"): 1})
@@ -144,9 +143,7 @@ class SortedMap(MutableMapping[ObjectIdentifier, Value]):
     def __or__(self, other: Mapping[Key, Value]) -> Self:
         if not isinstance(other, Mapping):
             return NotImplemented
-        result = self.copy()
-        result.update(other)
-        return result
+        return self.copy().__ior__(other)
 
     def __ror__(self, other: Mapping[Key, Value]) -> Self:
         if not isinstance(other, Mapping):
@@ -155,7 +152,7 @@ class SortedMap(MutableMapping[ObjectIdentifier, Value]):
         result.clear()
         return result | other | self
 
-    def __ior__(self, other: Mapping[Key, Value] | Iterable[tuple[ObjectIdentifier, Value]]) -> Self:
+    def __ior__(self, other: Entries[Key, Value]) -> Self:
         self.update(other)
         return self
 
@@ -227,7 +224,7 @@ class SortedMap(MutableMapping[ObjectIdentifier, Value]):
         self._keys = _Keys(self._values)
 
 
-def _checked(entries: Mapping[Key, Value] | Iterable[tuple[ObjectIdentifier, Value]]) -> dict[ObjectIdentifier, Value]:
+def _checked(entries: Entries[Key, Value]) -> dict[ObjectIdentifier, Value]:
     """A new dict of entries, whose keys are identifiers."""
     values: dict[ObjectIdentifier, Value] = dict(entries)  # type: ignore[arg-type]
     for key in values:
@@ -280,11 +277,8 @@ class _Keys:
 
     def last_until(self, oid: ObjectIdentifier) -> ObjectIdentifier | None:
         """The last key that is not after an identifier, or None."""
-        index = bisect(self._parts, oid, key=_LAST)
-        before = bisect(self._parts[index], oid) if index < len(self._parts) else 0
-        if before:
-            return self._parts[index][before - 1]
-        return self._parts[index - 1][-1] if index else None
+        index = bisect(self._parts, oid, key=_FIRST) - 1
+        return None if index < 0 else self._parts[index][bisect(self._parts[index], oid) - 1]
 
     def subtree(self, oid: ObjectIdentifier) -> list[ObjectIdentifier]:
         """The keys that begin with an identifier."""
