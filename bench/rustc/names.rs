@@ -10,10 +10,9 @@ type Map<K, V> = HashMap<K, V, BuildHasherDefault<DefaultHasher>>;
 /// The identifier at an index, in the order of arcs: one of 317 neighbours, or one of the 20 of an enterprise.
 fn item(row: &str, index: u32) -> ObjectIdentifier {
     match row {
-        "enterprises" => ObjectIdentifier::from_arcs([1, 3, 6, 1, 4, 1, index / 20 * 61, 1, index % 20]),
-        _ => ObjectIdentifier::from_arcs([1, 3, 6, 1, 4, 1, index / 317, index % 317]),
+        "enterprises" => ObjectIdentifier::from_arcs([1, 3, 6, 1, 4, 1, index / 20 * 61, 1, index % 20]).unwrap(),
+        _ => crate::item(index as usize),
     }
-    .unwrap()
 }
 
 /// The name at an index. Those of one slot have the same hash, which ignores the bit in which their bytes differ.

@@ -110,14 +110,10 @@ fn main(rt: HostRuntime) -> Result<()> {
     let mut digest = FoldHasher::default();
     for turn in 0..turns as u64 {
         let first = turn.wrapping_mul(43_000);
-        look_up(rt.alloc(), first, 1_500, key, &mut digest)?;
-        look_up(
-            rt.alloc(),
-            first.wrapping_add(3_000),
-            20_000,
-            key,
-            &mut digest,
-        )?;
+        for (skipped, rows) in [(0, 1_500), (3_000, 20_000)] {
+            let first = first.wrapping_add(skipped);
+            look_up(rt.alloc(), first, rows, key, &mut digest)?;
+        }
     }
     println!(rt; "names {:016x}", digest.finish())?;
     Ok(())

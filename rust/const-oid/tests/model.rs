@@ -426,13 +426,17 @@ fn check_methods<T: Copy + Debug + Ord>(given: &(impl Iterator<Item = T> + Clone
     );
 }
 
-/// How many arcs are left, at each of them: no fewer than a fifth of the octets that are left, and no more than these,
-/// besides the second arc, which the first octets hold, too.
+/// How many arcs are left, at each of them: no fewer than a fifth of the octets that are left, or of those before the last
+/// eight and what ends in these, and no more than the octets, besides the second arc, which the first octets hold, too.
 fn check_left(mut arcs: Arcs<'_>, octets: &[u8]) {
     let ends = octets.iter().enumerate().filter(|(_, octet)| **octet < 0x80).map(|(index, _)| index + 1);
     let firsts = [(octets.len(), 1), (octets.len() - ends.clone().next().unwrap(), 1)];
     for (left, held) in firsts.into_iter().chain(ends.map(|end| (octets.len() - end, 0))) {
-        assert_eq!(arcs.size_hint(), (left.div_ceil(5) + held, Some(left + held)), "{octets:02X?}");
+        let last = octets[octets.len() - left..].last_chunk::<8>();
+        let ended = last.map(|last| (left - 8) / 5 + last.iter().filter(|octet| **octet < 0x80).count());
+        let least = ended.unwrap_or(left.div_ceil(5)) + held;
+        assert_eq!(arcs.size_hint(), (least, Some(left + held)), "{octets:02X?}");
+        assert!(least <= arcs.clone().count(), "{octets:02X?}");
         arcs.next();
     }
     assert_eq!((arcs.next(), arcs.size_hint()), (None, (0, Some(0))));

@@ -85,11 +85,19 @@ pub const CRATES: &[Crate] = &[
             "arcs": "type Item = Arc;"
                 => "type Item = Arc;
 
-                        // A subidentifier has one to five octets, and the first holds two arcs.
+                        // A subidentifier has one to five octets, and the first holds two arcs. In the last eight
+                        // octets, each below 0x80 ends one, to which up to four octets before them belong.
+                        #[inline]
                         fn size_hint(&self) -> (usize, Option<usize>) {
                             let held = usize::from(!matches!(self.next, Next::Later));
                             let octets = self.octets.len();
-                            (octets.div_ceil(5) + held, Some(octets + held))
+                            let least = if let Some(last) = self.octets.last_chunk() {
+                                let ends = !u64::from_be_bytes(*last) >> 7 & 0x0101_0101_0101_0101;
+                                (octets - 8) / 5 + (ends.wrapping_mul(0x0101_0101_0101_0101) >> 56) as usize
+                            } else {
+                                octets.div_ceil(5)
+                            };
+                            (least + held, Some(octets + held))
                         }",
                 BOUNDS;
             "db": "pub struct Names<'a>" => "#[derive(Clone)]\npub struct Names<'a>", "as above";
