@@ -5,7 +5,7 @@ use Rattle.std.specs.{Prelude.◌↔◌, List.{onto_first, concat}}
 use Rattle.std.proofs.Math.Seq.{take-append_seam}
 use Rattle.std.proofs.lemmas.{List.{length-map, length-take-le, take-map, take-append-drop}, List.Folds.concat-append}
 use Rattle.std.proofs.lemmas.{Bool.Decides.nat_tests, Grind.common_steps}
-use Rattle.const_oid.specs.{Base128.value_of, Identifier.{RootRule, IsIdentifier, IsEncoding}}
+use Rattle.const_oid.specs.{Base128.value_of, Identifier.{RootRule, IsEncoding}}
 use Rattle.const_oid.specs.Contents.{cut, later_fault, parts_fault, arcs_from, arcs_of_octets}
 use Rattle.const_oid.specs.{Tree.{BeginsWith, parent_of}, Private.Prefixes.IsFinishedPrefix}
 use Rattle.const_oid.proofs.{Tree.{child_of-parent_of, encoding_parent}, Encodings.none_from_encoding, Lengths.length_by_parts}
@@ -109,12 +109,6 @@ pub parent_octets : {rule : RootRule} {arcs : List ℕ} (parent : List ℕ) {oct
     → IsEncoding rule arcs octets → parent_of arcs ≡ Some parent
     → let parts = cut octets in IsEncoding rule parent (concat (take (length parts - 1) parts))
 parent_octets {rule} {arcs} parent {octets} e p = grind (arith, child_of-parent_of, encoding_parent, but_last)
-
-pub none_of_two : (arcs : List ℕ) → 2 ≤ length arcs → (parent_of arcs ≡ None) ↔ (length arcs ≡ 2)
-none_of_two arcs two = search rules
-
-pub two_arcs : (rule : RootRule) (arcs : List ℕ) → IsIdentifier rule arcs → 2 ≤ length arcs
-two_arcs rule arcs i = search rules
 
 -- and of one part there are none
 pub parent_of_one : {rule : RootRule} {arcs octets : List ℕ} → IsEncoding rule arcs octets

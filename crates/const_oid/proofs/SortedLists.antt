@@ -1,24 +1,23 @@
 -- Lists in the order of arcs: where tests by octets cut them, and what is there.
 use Rattle.std.proofs.Common.{◌≡◌, ◌≢◌, ℕ, ◌+◌, ◌-◌, ◌<◌, ◌≤◌, Bool, true, false, List, [], ◌∷◌, ◌++◌, length, take, drop, get_or}
-use Rattle.std.proofs.Common.{Option, Some, None, Less, nat_cmp, nat_eq, refl, sym, ap, ◌∙◌, arith, ⊎_elim, rules, slice_get}
+use Rattle.std.proofs.Common.{Some, None, Less, nat_cmp, nat_eq, not, refl, sym, ap, ◌∙◌, arith, ⊎_elim, rules, slice_get}
 use Rattle.std.proofs.Common.{length-append, append-nil, append_assoc}
-use Rattle.std.specs.{Prelude.{◌↔◌, IfSome}, Cmp.Lexicographic.{pointwise, slice_cmp, same_text, texts_ties}}
+use Rattle.std.specs.{Prelude.{◌↔◌, IfSome, IsFalse}, Cmp.Lexicographic.{pointwise, slice_cmp, same_text, texts_ties}}
 use Rattle.std.specs.Ordering.{is_lt, is_ge}
 use Rattle.std.specs.List.{All, AllWithin, HoldsAt, find, position, position_or_len}
 use Rattle.std.specs.List.Sorted.{IsPartitionedBy, IsSortedByKey}
-use Rattle.std.proofs.lemmas.{Cmp.{nat_list_cmp_total, nat_list_eq_equiv}, List.{get_or-drop, length-drop}, List.Folds.find_at}
+use Rattle.std.proofs.lemmas.{Cmp.{nat_list_cmp_total, nat_list_eq_equiv}, List.{get_or-drop, get_or-take, get_or_read, length-drop, length-take}, List.Folds.find_at}
 use Rattle.std.proofs.lemmas.List.Sorted.{sorted_far, ranks_by}
 use Rattle.std.proofs.lemmas.List.Sums.{passes_at_first, fails_before_first}
-use Rattle.std.proofs.lemmas.{Option.{gets, slice_get_cases}, Bool.{cases_lt, Decides.nat_tests}, Grind.common_steps}
+use Rattle.std.proofs.lemmas.{Option.{slice_get_cases}, Bool.{cases_lt, or_right, Decides.nat_tests}, Grind.common_steps}
 use Rattle.const_oid.specs.{declared.oid_ref.ObjectIdentifierRef.ObjectIdentifierRef, OidRef.{ref_arcs, ref_octets}}
 use Rattle.const_oid.specs.{Identifier.{root_rule, IsEncoding}, Names.IsNearestBy, Orders.parts_cmp}
-use Rattle.const_oid.specs.{SortedList.{IsSortedList, item_arcs, has_item_arcs}, Tree.{BeginsWith, parent_of}}
+use Rattle.const_oid.specs.{SortedList.{IsSortedList, item_arcs, has_item_arcs}, Tree.{BeginsWith}}
 use Rattle.const_oid.specs.Private.Prefixes.{IsCommonPrefix}
-use Rattle.const_oid.proofs.BeginsWith.{is_before, is_under, under_iff, tells_under, iff_begins}
+use Rattle.const_oid.proofs.BeginsWith.{is_before, is_under, under_iff, tells_under, iff_begins, under_apart, within_down}
 use Rattle.const_oid.proofs.BeginsWith.{arcs_prefix, encoding_prefix, before_more}
 use Rattle.const_oid.proofs.{ByParts.{arcs_cmp, run_between}, Encodings.{ref_encoding, iff_arcs}}
-use Rattle.const_oid.proofs.{Parents.{none_of_two, two_arcs}, Tree.child_of-parent_of}
-use Rattle.const_oid.proofs.Subtree.{IsCut, key_before, key_under, cut_by, under_between}
+use Rattle.const_oid.proofs.Subtree.{IsCut, key_before, key_under, cut_before, cut_by, under_between}
 
 -- ---- a test by octets in place of one by arcs
 
@@ -93,6 +92,17 @@ has_same a b x y e f =
     let arcs = iff_arcs (pointwise nat_eq a b ≡ true) e f (search rules) in
     search rules
 
+-- what begins with the prefix is the prefix exactly if it is no longer
+begins_same : (list prefix : List ℕ) → BeginsWith list prefix
+    → pointwise nat_eq list prefix ≡ nat_eq (length list) (length prefix)
+begins_same list prefix ([], split) = grind (arith, nat_tests, append-nil, nat_list_eq_equiv)
+begins_same list prefix (x ∷ xs, split) = grind (arith, nat_tests, common_steps, length-append, same_text list prefix)
+
+-- a test that fails for what begins with the prefix
+pub tells_outside : (prefix list : List ℕ) (test : Bool) → IsFalse test ↔ BeginsWith list prefix
+    → test ≡ not (is_under prefix list)
+tells_outside prefix list test tells = grind (arith, nat_tests, under_iff)
+
 -- ---- a sorted list
 
 module _ {Item : Type 0} (octets_of : Item → List ℕ) (oid : ObjectIdentifierRef) (items : List Item)
@@ -105,6 +115,9 @@ module _ {Item : Type 0} (octets_of : Item → List ℕ) (oid : ObjectIdentifier
 
   abbrev pub is_inside : Item → Bool
   is_inside item = is_under (ref_octets oid) (octets_of item)
+
+  abbrev pub is_outside : Item → Bool
+  is_outside item = not (is_inside item)
 
   abbrev pub upto_arcs : Item → Bool
   upto_arcs item = is_ge (slice_cmp nat_cmp (ref_arcs oid) (item_arcs octets_of item))
@@ -136,7 +149,7 @@ module _ {Item : Type 0} (octets_of : Item → List ℕ) (oid : ObjectIdentifier
       (under_iff (ref_octets oid) (octets_of item))) in
       rw (get_or-drop from items k default) (sym same)
 
-  module _ (i : ℕ) (within : i ≤ length items) (cut : IsCut (key_before (item_arcs octets_of) (ref_arcs oid)) items i) where
+  module _ (i : ℕ) (cut : IsCut (key_before (item_arcs octets_of) (ref_arcs oid)) items i) where
     early_other : AllWithin (λ item. has_item_arcs octets_of (ref_arcs oid) item ≡ false) items 0 i
     early_other k d z l = none_before (ref_arcs oid) _ (cut.0 k d z l)
 
@@ -156,18 +169,73 @@ module _ {Item : Type 0} (octets_of : Item → List ℕ) (oid : ObjectIdentifier
         none_after (ref_arcs oid) _ _ past (far i k default late inside) (other (omega arith) default))
         (cases_lt k i))
 
-  -- an item with the arcs is the first one if the item before it is another one
-  pub first_at : (i : ℕ) → i < length items → HoldsAt (λ item. has_item_arcs octets_of (ref_arcs oid) item ≡ true) items i
-      → (0 < i → (default : Item) → has_item_arcs octets_of (ref_arcs oid) (get_or items (i - 1) default) ≡ false)
-      → Some i ≡ position (has_item_arcs octets_of (ref_arcs oid)) items
-  first_at i l at other =
-      let far = sorted_far _ (ranks_by nat_list_cmp_total (item_arcs octets_of)) items list.sorted in
-      position_is _ items i l
-      (λ k default zero early.
-      let is : item_arcs octets_of (get_or items i default) ≡ ref_arcs oid = same_text _ _ (sym (at default)) in
-      let late = rw is at (far (i - 1) i default (omega arith) l) in
-      none_earlier (ref_arcs oid) _ _ late (far k (i - 1) default (omega arith) (omega arith)) (other (omega arith) default))
-      at
+  -- where an item begins with the identifier, those before it come before the identifier exactly if they do not
+  module _ (last : ℕ) (inside : last < length items)
+      (under : HoldsAt (λ item. BeginsWith (octets_of item) (ref_octets oid)) items last) where
+    abbrev before_it : Item → Bool
+    before_it = key_before (item_arcs octets_of) (ref_arcs oid)
+
+    parted : IsPartitionedBy before_it items
+    parted = cut_before (item_arcs octets_of) items list.sorted (ref_arcs oid)
+
+    last_under : (d : Item) → key_under (item_arcs octets_of) (ref_arcs oid) (get_or items last d) ≡ true
+    last_under d = (under_iff _ _).1 (arcs_prefix root_rule _ _ _ _ (ref_encoding oid) (list.valid last d inside) (under d))
+
+    late : AllWithin (λ item. before_it item ≡ false) items last (length items)
+    late k d from l = grind (arith, nat_tests, parted last k d from l, under_apart (ref_arcs oid) _ (last_under d))
+
+    outside_same : (k : ℕ) (d : Item) → k < last → before_it (get_or items k d) ≡ is_outside (get_or items k d)
+    outside_same k d l =
+        let far = sorted_far _ (ranks_by nat_list_cmp_total (item_arcs octets_of)) items list.sorted k last d (omega arith) inside in
+        let item = item_arcs octets_of (get_or items k d) in
+        let end = item_arcs octets_of (get_or items last d) in
+        let within = within_down (ref_arcs oid) item end far (or_right (is_before (ref_arcs oid) end) _ (last_under d)) in
+        let apart = under_apart (ref_arcs oid) item in
+        grind (arith, nat_tests, within, apart, inside_same 0 k d (omega arith))
+
+    pub parted_outside : IsPartitionedBy is_outside (take last items)
+    parted_outside i j d le l t =
+        let long = length-take last items in
+        grind (arith, long, get_or-take last items i d, get_or-take last items j d, outside_same i d, outside_same j d, parted i j d)
+
+    pub start_outside : (i : ℕ) → i ≤ last → IsCut is_outside (take last items) i → IsCut before_it items i
+    start_outside i le (early, past) =
+        let long = length-take last items in (
+          λ k d z l. grind (arith, long, get_or-take last items k d, outside_same k d, early k d),
+          λ k d m l. ⊎_elim
+              (λ (low : k < last). grind (arith, long, get_or-take last items k d, outside_same k d, past k d))
+              (λ (high : last ≤ k). late k d high l)
+              (cases_lt k last),
+        )
+
+    -- and the first one that does not begins with it, so it is the identifier exactly if it is no longer
+    module _ (i : ℕ) (le : i ≤ last) (cut : IsCut before_it items i) where
+      start_under : (d : Item) → BeginsWith (octets_of (get_or items i d)) (ref_octets oid)
+      start_under d = ⊎_elim
+          (λ (low : i < last). (under_iff (ref_octets oid) (octets_of (get_or items i d))).0
+          (grind (arith, nat_tests, outside_same i d low, cut.1 i d)))
+          (λ (high : last ≤ i).
+          let is : i ≡ last = omega (arith, le, high) in
+          rw is (under d))
+          (cases_lt i last)
+
+      start_same : (d : Item) → has_item_arcs octets_of (ref_arcs oid) (get_or items i d)
+          ≡ nat_eq (length (octets_of (get_or items i d))) (length (ref_octets oid))
+      start_same d = sym (item_same i d (omega arith)) ∙ begins_same _ _ (start_under d)
+
+      pub first_if_short : HoldsAt (λ item. length (octets_of item) ≡ length (ref_octets oid)) items i
+          → Some i ≡ position (has_item_arcs octets_of (ref_arcs oid)) items
+      first_if_short short = first_is i cut (omega arith) (λ d. grind (arith, nat_tests, start_same d, short d))
+
+      pub none_if_long : HoldsAt (λ item. length (octets_of item) ≢ length (ref_octets oid)) items i
+          → None ≡ position (has_item_arcs octets_of (ref_arcs oid)) items
+      none_if_long long = first_none i cut (λ l d. grind (arith, nat_tests, start_same d, long d))
+
+    pub start_at_last : (0 < last → (d : Item) → is_outside (get_or items (last - 1) d) ≡ true) → IsCut before_it items last
+    start_at_last other = (
+      λ k d z l. parted k (last - 1) d (omega arith) (omega arith) (outside_same (last - 1) d (omega arith) ∙ other (omega arith) d),
+      late,
+    )
 
   pub range_is : (from count : ℕ) → IsCut (key_before (item_arcs octets_of) (ref_arcs oid)) items from
       → IsCut (key_under (item_arcs octets_of) (ref_arcs oid)) (drop from items) count → (k : ℕ)
@@ -192,25 +260,6 @@ begins_nil : (prefix rest : List ℕ) → [] ≡ prefix ++ rest → prefix ≡ [
 begins_nil [] rest e = refl
 begins_nil (x ∷ xs) rest e = cc
 
-above_child : (parent : List ℕ) (last : ℕ) (prefix rest : List ℕ) → parent ++ last ∷ [] ≡ prefix ++ rest → rest ≢ []
-    → BeginsWith parent prefix
-above_child parent last [] rest e some = (parent, refl)
-above_child [] last (y ∷ ys) rest e some = grind (arith, common_steps, some, ap length e)
-above_child (x ∷ xs) last (y ∷ ys) rest e some = grind (arith, above_child xs last ys rest (cc) some)
-
-above_root : (arcs prefix : List ℕ) → length arcs ≡ 2 → 2 ≤ length prefix → BeginsWith arcs prefix → prefix ≢ arcs → ⊥
-above_root arcs prefix two more begins other = grind (arith, nat_tests, common_steps, append-nil, length-append)
-
--- what begins the parent is shorter
-pub shorter : (above parent prefix : ObjectIdentifierRef) → parent_of (ref_arcs above) ≡ Some (ref_arcs parent)
-    → BeginsWith (ref_octets parent) (ref_octets prefix) → length (ref_arcs prefix) < length (ref_arcs above)
-shorter above parent prefix found begun =
-    let (_, arc, _, joined) = child_of-parent_of root_rule _ (ref_arcs parent) (ref_encoding above).identifier found in
-    let (rest, split) = arcs_prefix root_rule _ _ _ _ (ref_encoding prefix) (ref_encoding parent) begun in
-    let long = length-append (ref_arcs prefix) rest in
-    let longer = length-append (ref_arcs parent) (arc ∷ []) in
-    omega (arith, long, longer, ap length split, ap length joined)
-
 module _ {Item : Type 0} (octets_of : Item → List ℕ) (items : List Item) (arcs : List ℕ) where
   -- a list comprises what arcs begin with in a list of items: it begins with each item's arcs that they begin with
   abbrev pub Comprises : List ℕ → Type 0
@@ -224,6 +273,9 @@ module _ {Item : Type 0} (octets_of : Item → List ℕ) (items : List Item) (ar
   pub record IsReached (above : List ℕ) : Type 0 where
     pub begins : BeginsWith arcs above
     pub others : Comprises above
+
+  pub reached_itself : IsReached arcs
+  reached_itself = record { begins = ([], sym (append-nil arcs)); others = λ k d l begun. begun }
 
   module _ (list : IsSortedList octets_of items) where
     far : (i j : ℕ) (d : Item) → i ≤ j → j < length items
@@ -264,25 +316,6 @@ module _ {Item : Type 0} (octets_of : Item → List ℕ) (items : List Item) (ar
             let none = find_none is_item items absent in
             grind (arith, find_at, slice_get_cases, passes_at_first, fails_before_first, nat_list_eq_equiv)
 
-        pub reached_parent : (parent : List ℕ) → parent_of (ref_arcs oid) ≡ Some parent → IsReached parent
-        reached_parent parent found =
-            let valid = (ref_encoding oid).identifier in
-            let (_, arc, _, joined) = child_of-parent_of root_rule (ref_arcs oid) parent valid found in
-            let (rest, split) = reached.begins in
-            record {
-              begins = (arc ∷ rest, grind (arith, append_assoc));
-              others = λ k default inside begun.
-                  let (more, split_item) = reached.others k default inside begun in
-                  above_child parent arc _ more (joined ∙ split_item)
-                  (λ nil. other k default inside (grind (arith, append-nil)));
-            }
-
-        pub reached_root : parent_of (ref_arcs oid) ≡ None → IsNoneAbove
-        reached_root e k d l b =
-            let two = (none_of_two (ref_arcs oid) (two_arcs root_rule (ref_arcs oid) (ref_encoding oid).identifier)).0 e in
-            let many = two_arcs root_rule _ (list.valid k d l).identifier in
-            above_root (ref_arcs oid) _ two many (reached.others k d l b) (other k d l)
-
         -- the items before it
         module _ (index : ℕ) (within : index ≤ length items) (cut : IsCut (key_before (item_arcs octets_of) (ref_arcs oid)) items index) where
           -- what they begin with is there
@@ -293,56 +326,47 @@ module _ {Item : Type 0} (octets_of : Item → List ℕ) (items : List Item) (ar
               absurd (cc (cut.1 k d late l, ap is_lt (prefix_less _ (ref_arcs oid) (reached.others k d l b) (other k d l)))))
               (cases_lt k index)
 
-          abbrev last_before : Option Item
-          last_before = slice_get (take index items) (length (take index items) - 1)
+          -- without one, they begin with none
+          pub none_above : index ≡ 0 → IsNoneAbove
+          none_above none k d l b = let early = before k d l b in absurd (omega (arith, early, none))
 
           -- the last one begins with all that they begin with
-          last_begins : (last : Item) → Some last ≡ last_before → Comprises (item_arcs octets_of last)
-          last_begins last is_last k default inside begun =
-              let prefix = item_arcs octets_of (get_or items k default) in
-              let early = before k default inside begun in
-              let is : get_or items (index - 1) default ≡ last = grind (arith, common_steps, gets) in
-              let level = rw is at (far k (index - 1) default (omega arith) (omega arith)) in
-              let least = rw is at (cut.0 (index - 1) default (omega arith) (omega arith)) in
-              run_between prefix prefix (item_arcs octets_of last) (ref_arcs oid) ([], sym (append-nil prefix))
-              (reached.others k default inside begun)
-              (λ less. cc (level, less))
-              (λ greater. cc (least, greater))
+          module _ (last : Item) (some : 0 < index) (is_last : last ≡ get_or items (index - 1) last) where
+            last_is : (default : Item) → get_or items (index - 1) default ≡ last
+            last_is default = sym (get_or_read items (index - 1) last (omega arith) is_last default)
 
-          -- it is valid
-          last_valid : (last : Item) → Some last ≡ last_before → IsEncoding root_rule (item_arcs octets_of last) (octets_of last)
-          last_valid last e =
-              let is : get_or items (index - 1) last ≡ last = grind (arith, common_steps, gets) in
-              rw is at (list.valid (index - 1) last (grind (arith, common_steps, gets)))
+            last_begins : Comprises (item_arcs octets_of last)
+            last_begins k default inside begun =
+                let prefix = item_arcs octets_of (get_or items k default) in
+                let early = before k default inside begun in
+                let is = last_is default in
+                let level = rw is at (far k (index - 1) default (omega arith) (omega arith)) in
+                let least = rw is at (cut.0 (index - 1) default (omega arith) (omega arith)) in
+                run_between prefix prefix (item_arcs octets_of last) (ref_arcs oid) ([], sym (append-nil prefix))
+                (reached.others k default inside begun)
+                (λ less. cc (level, less))
+                (λ greater. cc (least, greater))
 
-          -- without one, they begin with none
-          pub none_above : None ≡ last_before → IsNoneAbove
-          none_above e k d l b = let early = before k d l b in grind (arith, common_steps, gets)
+            -- so what the identifier has in common with it is reached
+            module _ (prefix : List ℕ) (common : IsCommonPrefix (ref_octets oid) (octets_of last) prefix) where
+              comprises : (k : ℕ) (d : Item) → k < length items → BeginsWith arcs (item_arcs octets_of (get_or items k d))
+                  → BeginsWith prefix (octets_of (get_or items k d))
+              comprises k d l b =
+                  let item = list.valid k d l in
+                  let valid = rw (last_is d) at (list.valid (index - 1) d (omega arith)) in
+                  common.longest _ item (encoding_prefix root_rule _ _ _ _ item (ref_encoding oid) (reached.others k d l b))
+                  (encoding_prefix root_rule _ _ _ _ item valid (last_begins k d l b))
 
-          -- and what the parent has in common with it is reached
-          module _ (last : Item) (is_last : Some last ≡ last_before) (parent : ObjectIdentifierRef)
-              (found : parent_of (ref_arcs oid) ≡ Some (ref_arcs parent)) (prefix : List ℕ)
-              (common : IsCommonPrefix (ref_octets parent) (octets_of last) prefix) where
-            up : IsReached (ref_arcs parent)
-            up = reached_parent (ref_arcs parent) found
+              pub reached_common : (shared : ObjectIdentifierRef) → ref_octets shared ≡ prefix → IsReached (ref_arcs shared)
+              reached_common shared is =
+                  let begun = arcs_prefix root_rule _ _ _ _ (ref_encoding shared) (ref_encoding oid) (rw is common.begins) in
+                  record {
+                    begins = begins_again _ _ _ reached.begins begun;
+                    others = λ k d l b.
+                        arcs_prefix root_rule _ _ _ _ (list.valid k d l) (ref_encoding shared) (rw is (comprises k d l b));
+                  }
 
-            comprises : (k : ℕ) (d : Item) → k < length items → BeginsWith arcs (item_arcs octets_of (get_or items k d))
-                → BeginsWith prefix (octets_of (get_or items k d))
-            comprises k d l b =
-                let item = list.valid k d l in
-                common.longest _ item (encoding_prefix root_rule _ _ _ _ item (ref_encoding parent) (up.others k d l b))
-                (encoding_prefix root_rule _ _ _ _ item (last_valid last is_last) (last_begins last is_last k d l b))
-
-            pub reached_common : (shared : ObjectIdentifierRef) → ref_octets shared ≡ prefix → IsReached (ref_arcs shared)
-            reached_common shared is =
-                let begun = arcs_prefix root_rule _ _ _ _ (ref_encoding shared) (ref_encoding parent) (rw is common.begins) in
-                record {
-                  begins = begins_again _ _ _ up.begins begun;
-                  others = λ k d l b.
-                      arcs_prefix root_rule _ _ _ _ (list.valid k d l) (ref_encoding shared) (rw is (comprises k d l b));
-                }
-
-            pub none_common : prefix ≡ [] → IsNoneAbove
-            none_common is k d l b =
-                let (rest, split) = comprises k d l b in
-                absurd (rw (begins_nil _ rest (sym is ∙ split)) at (list.valid k d l).identifier)
+              pub none_common : prefix ≡ [] → IsNoneAbove
+              none_common is k d l b =
+                  let (rest, split) = comprises k d l b in
+                  absurd (rw (begins_nil _ rest (sym is ∙ split)) at (list.valid k d l).identifier)

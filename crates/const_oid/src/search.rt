@@ -3,9 +3,9 @@
 //! No search checks the list. Over a list that is not sorted, or with an item that is not valid, the result is
 //! unspecified, but within the list.
 
-ghost use Rattle.std.specs.Prelude.{◌≡◌, ◌<◌, ◌≤◌, ◌↔◌, ℕ, List, [], length, nat_eq, true, false, count_by, slice_get, All, IfErr, IfNone, IfOk, IfSome, IsTrue, MatchResult, None, Some};
-ghost use Rattle.std.specs.Cmp.Lexicographic.{pointwise, slice_cmp};
-ghost use Rattle.std.specs.List.{position};
+ghost use Rattle.std.specs.Prelude.{◌≡◌, ◌<◌, ◌≤◌, ◌↔◌, ℕ, List, [], length, true, false, count_by, slice_get, All, IfNone, IfSome, IsFalse, IsTrue, Some};
+ghost use Rattle.std.specs.Cmp.Lexicographic.{slice_cmp};
+ghost use Rattle.std.specs.List.{HoldsAt, position};
 ghost use Rattle.std.specs.List.Sorted.{IsPartitionPoint};
 ghost use Rattle.std.specs.Ordering.{nat_cmp, is_lt};
 ghost use Rattle.const_oid.specs.Names.{IsNearestBy};
@@ -19,7 +19,6 @@ use crate::compare::{begins_with, common_parts};
 use crate::fast::comparison::are_equal;
 use crate::fast::steps::gallop;
 use crate::oid_ref::ObjectIdentifierRef;
-use std::result;
 
 /// An item that has contents octets, which need not be valid.
 pub trait Contents {
@@ -54,32 +53,20 @@ pub fn first_of<T: Contents>(items: &[T], oid: &ObjectIdentifierRef<'_>) -> Opti
     ensures found { IsSortedList T.octets_of items.now → result ≡ position (has_item_arcs T.octets_of (ref_arcs oid.now)) items.now }
     ensures within { IfSome result (λ index. index < length items.now) }
 {
-    find(items, oid).ok()
+    found_at(items, start_of(items, oid), oid)
 }
 
-/// The index of the first item with the arcs of an identifier, or `Err` with the index at which the identifier would be
-/// inserted.
-fn find<T: Contents>(items: &[T], oid: &ObjectIdentifierRef<'_>) -> result::Result<usize, usize>
-    ensures found { IsSortedList T.octets_of items.now
-        → IfOk result (λ index. Some index ≡ position (has_item_arcs T.octets_of (ref_arcs oid.now)) items.now) }
-    ensures absent { IsSortedList T.octets_of items.now
-        → IfErr result (λ index. (None ≡ position (has_item_arcs T.octets_of (ref_arcs oid.now)) items.now)
-        × IsStart T.octets_of items.now (ref_arcs oid.now) index) }
-    ensures within { MatchResult result (λ index. index < length items.now) (λ index. index ≤ length items.now) }
+/// The index at which an identifier would be inserted, if an item there has its octets.
+fn found_at<T: Contents>(items: &[T], start: usize, oid: &ObjectIdentifierRef<'_>) -> Option<usize>
+    ensures found { IsSortedList T.octets_of items.now → IsStart T.octets_of items.now (ref_arcs oid.now) start
+        → result ≡ position (has_item_arcs T.octets_of (ref_arcs oid.now)) items.now }
+    ensures within { IfSome result (λ index. index < length items.now) }
 {
-    let index = start_of(items, oid);
-    if index < items.len() && has_octets(&items[index], oid) {
-        Ok(index)
+    if start < items.len() && are_equal(items[start].contents(), oid.as_bytes()) {
+        Some(start)
     } else {
-        Err(index)
+        None
     }
-}
-
-/// Whether an item has the octets of an identifier.
-fn has_octets<T: Contents>(item: &T, oid: &ObjectIdentifierRef<'_>) -> bool
-    ensures { result ≡ pointwise nat_eq (T.octets_of item.now) (ref_octets oid.now) }
-{
-    are_equal(item.contents(), oid.as_bytes())
 }
 
 /// The range of the items whose arcs begin with those of an identifier: from the first index up to, but not including,
@@ -109,32 +96,52 @@ pub fn nearest_of<T: Contents>(items: &[T], oid: &ObjectIdentifierRef<'_>) -> Op
     ensures none { IsSortedList T.octets_of items.now → IfNone result (All (λ item. BeginsWith (ref_arcs oid.now) (item_arcs T.octets_of item) → ⊥) items.now) }
     ensures within { IfSome result (λ index. index < length items.now) }
 {
+    let mut start = start_of(items, oid);
+    if let Some(index) = found_at(items, start, oid) {
+        return Some(index);
+    }
     let mut above = *oid;
     loop {
-        let index = match find(items, &above) {
-            Ok(index) => return Some(index),
-            Err(index) => index,
-        };
-        // A prefix of `above` that the list has is also one of the last item before `above`, so their common prefix is
-        // looked for next. Often that is the last item itself, which saves a second search.
-        let before = items[..index].last()?.contents();
-        above = common_prefix(above.parent()?, before)?;
-        if is_first_at(items, &above, index - 1) {
-            return Some(index - 1);
+        // A prefix of `above` that the list has is also one of the last item before it, so their common prefix is next.
+        let last = start.checked_sub(1)?;
+        above = common_prefix(above, items[last].contents())?;
+        start = first_under(items, last, &above);
+        // The item there begins with `above`.
+        if items[start].contents().len() == above.as_bytes().len() {
+            return Some(start);
         }
     }
 }
 
-/// Whether the item at an index has the octets of an identifier, and the one before it has not.
-fn is_first_at<T: Contents>(items: &[T], oid: &ObjectIdentifierRef<'_>, index: usize) -> bool
-    requires { index < length items.now }
-    ensures { IsSortedList T.octets_of items.now → IsTrue result
-        → Some index ≡ position (has_item_arcs T.octets_of (ref_arcs oid.now)) items.now }
+/// The index of the first item that does not come before an identifier, if the item at `last` begins with it.
+fn first_under<T: Contents>(items: &[T], last: usize, oid: &ObjectIdentifierRef<'_>) -> usize
+    requires { last < length items.now }
+    ensures within { result ≤ last }
+    ensures cut { IsSortedList T.octets_of items.now
+        → HoldsAt (λ item. BeginsWith (T.octets_of item) (ref_octets oid.now)) items.now last
+        → IsStart T.octets_of items.now (ref_arcs oid.now) result }
 {
-    if !has_octets(&items[index], oid) {
-        return false;
+    // Often it is the item at `last` itself, which saves a search.
+    if last == 0 || !is_under(&items[last - 1], oid) {
+        return last;
     }
-    index == 0 || !has_octets(&items[index - 1], oid)
+    items[..last].partition_point(|item| is_outside(item, oid))
+}
+
+/// Whether an item does not begin with an identifier. The first octet of a short one is compared first.
+fn is_outside<T: Contents>(item: &T, oid: &ObjectIdentifierRef<'_>) -> bool
+    ensures { IsFalse result ↔ BeginsWith (T.octets_of item.now) (ref_octets oid.now) }
+{
+    !begins_with(item.contents(), oid.as_bytes())
+}
+
+/// Whether an item begins with an identifier. The last octet is compared first, since neighbours mostly differ there.
+#[tactic(auto, using(crate::proofs::BeginsWith::begins_iff))]
+fn is_under<T: Contents>(item: &T, oid: &ObjectIdentifierRef<'_>) -> bool
+    ensures { IsTrue result ↔ BeginsWith (T.octets_of item.now) (ref_octets oid.now) }
+{
+    let (octets, prefix) = (item.contents(), oid.as_bytes());
+    octets.len() >= prefix.len() && are_equal(prefix, &octets[..prefix.len()])
 }
 
 /// The longest identifier that begins an identifier and other octets, or `None` if there is none.

@@ -10,7 +10,6 @@ use crate::erased::compare::{begins_with, common_parts};
 use crate::erased::fast::comparison::are_equal;
 use crate::erased::fast::steps::gallop;
 use crate::erased::oid_ref::ObjectIdentifierRef;
-use core::result;
 
 /// An item that has contents octets, which need not be valid.
 pub trait Contents {
@@ -33,19 +32,12 @@ pub fn end_of<T: Contents>(items: &[T], oid: &ObjectIdentifierRef) -> usize {
 /// The index of the first item with the arcs of an identifier, or `None` if no item has them.
 #[must_use]
 pub fn first_of<T: Contents>(items: &[T], oid: &ObjectIdentifierRef) -> Option<usize> {
-    find(items, oid).ok()
+    found_at(items, start_of(items, oid), oid)
 }
 
-/// The index of the first item with the arcs of an identifier, or `Err` with the index at which the identifier would be
-/// inserted.
-fn find<T: Contents>(items: &[T], oid: &ObjectIdentifierRef) -> result::Result<usize, usize> {
-    let index = start_of(items, oid);
-    if index < items.len() && has_octets(&items[index], oid) { Ok(index) } else { Err(index) }
-}
-
-/// Whether an item has the octets of an identifier.
-fn has_octets<T: Contents>(item: &T, oid: &ObjectIdentifierRef) -> bool {
-    are_equal(item.contents(), oid.as_bytes())
+/// The index at which an identifier would be inserted, if an item there has its octets.
+fn found_at<T: Contents>(items: &[T], start: usize, oid: &ObjectIdentifierRef) -> Option<usize> {
+    if start < items.len() && are_equal(items[start].contents(), oid.as_bytes()) { Some(start) } else { None }
 }
 
 /// The range of the items whose arcs begin with those of an identifier: from the first index up to, but not including,
@@ -61,28 +53,41 @@ pub fn subtree_of<T: Contents>(items: &[T], oid: &ObjectIdentifierRef) -> (usize
 /// if the list has no prefix.
 #[must_use]
 pub fn nearest_of<T: Contents>(items: &[T], oid: &ObjectIdentifierRef) -> Option<usize> {
+    let mut start = start_of(items, oid);
+    if let Some(index) = found_at(items, start, oid) {
+        return Some(index);
+    }
     let mut above = oid;
     loop {
-        let index = match find(items, &above) {
-            Ok(index) => return Some(index),
-            Err(index) => index,
-        };
-        // A prefix of `above` that the list has is also one of the last item before `above`, so their common prefix is
-        // looked for next. Often that is the last item itself, which saves a second search.
-        let before = items[..index].last()?.contents();
-        above = common_prefix(above.parent()?, before)?;
-        if is_first_at(items, &above, index - 1) {
-            return Some(index - 1);
+        // A prefix of `above` that the list has is also one of the last item before it, so their common prefix is next.
+        let last = start.checked_sub(1)?;
+        above = common_prefix(above, items[last].contents())?;
+        start = first_under(items, last, &above);
+        // The item there begins with `above`.
+        if items[start].contents().len() == above.as_bytes().len() {
+            return Some(start);
         }
     }
 }
 
-/// Whether the item at an index has the octets of an identifier, and the one before it has not.
-fn is_first_at<T: Contents>(items: &[T], oid: &ObjectIdentifierRef, index: usize) -> bool {
-    if !has_octets(&items[index], oid) {
-        return false;
+/// The index of the first item that does not come before an identifier, if the item at `last` begins with it.
+fn first_under<T: Contents>(items: &[T], last: usize, oid: &ObjectIdentifierRef) -> usize {
+    // Often it is the item at `last` itself, which saves a search.
+    if last == 0 || !is_under(&items[last - 1], oid) {
+        return last;
     }
-    index == 0 || !has_octets(&items[index - 1], oid)
+    items[..last].partition_point(|item| is_outside(item, oid))
+}
+
+/// Whether an item does not begin with an identifier. The first octet of a short one is compared first.
+fn is_outside<T: Contents>(item: &T, oid: &ObjectIdentifierRef) -> bool {
+    !begins_with(item.contents(), oid.as_bytes())
+}
+
+/// Whether an item begins with an identifier. The last octet is compared first, since neighbours mostly differ there.
+fn is_under<T: Contents>(item: &T, oid: &ObjectIdentifierRef) -> bool {
+    let (octets, prefix) = (item.contents(), oid.as_bytes());
+    octets.len() >= prefix.len() && are_equal(prefix, &octets[..prefix.len()])
 }
 
 /// The longest identifier that begins an identifier and other octets, or `None` if there is none.
