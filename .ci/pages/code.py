@@ -1,7 +1,7 @@
 """Blocks of code, by their language:
 
-- rust: the lines are in a file of crates/const_oid_uses/src or const_oid_tests/src, in order, indentation and blank lines
-  aside. On the page of the cargo crate, cargo tests them.
+- rust: the lines are in a file of crates/const_oid_uses/src or const_oid_tests/src, in order, but for indentation and
+  blank lines. On the page of the cargo crate, cargo tests them.
 - antt: the same, in a file of crates/const_oid_uses/proofs.
 - c, cpp: the same, in agent.c, by_name.c or main.cpp of crates/const_oid_c/tests. README's is run.
 - c of README, sh, python, toml: a compiler, bash or Python parses it.
