@@ -1,7 +1,7 @@
 """Blocks of code, by their language:
 
-- rust: the lines are in a file of crates/const_oid_uses/src or const_oid_tests/src, in order, indentation and blank lines
-  aside. On the page of the cargo crate, cargo tests them.
+- rust: the lines are in a file of crates/const_oid_uses/src or const_oid_tests/src, in order, but for indentation and
+  blank lines. On the page of the cargo crate, cargo tests them.
 - antt: the same, in a file of crates/const_oid_uses/proofs.
 - c, cpp of the library for C: its tests build and run them.
 - c with its headers, sh, python, toml: a compiler, bash or Python parses it.

@@ -12,14 +12,14 @@ SPAN_OR_GROUP = re.compile(r"`[^`]*`|\((?:[^()`]|`[^`]*`)*\)")
 
 
 def items():
-    """The functions and ghost members of each owner in Rattle, as rt fmt lays them out, and the names of their clauses."""
+    """The functions and ghost members of each owner in Rattle, as rt fmt lays them out, and their clauses' names."""
     owners = collections.defaultdict(lambda: collections.defaultdict(set))
     for path in TOP.glob("crates/*/src/**/*.rt"):
         owner = outside = f"mod {path.stem}"
         for line in path.read_text(encoding="utf-8").splitlines():
             if found := re.match(r"(?:pub )?(?:impl|trait)\b.*(?=\{$)|\}$", line):
                 owner = outside if line == "}" else f"{path} {found[0]}"
-            elif found := re.match(r"\s*(?:pub\S* )?(?:const )?(?:extern \"C\" )?(fn \w+)|\s+(ghost (?!use )\w+)", line):
+            elif found := re.match(r'\s*(?:pub\S* )?(?:const )?(?:extern "C" )?(fn \w+)|\s+(ghost (?!use )\w+)', line):
                 clauses = owners[owner][found[1] or found[2]]
             elif found := re.match(r"\s*((?:ensures|requires)(?: \w+)?) \{", line):
                 clauses.add(found[1].strip())
@@ -52,7 +52,7 @@ def faults():
                 continue
             function, colon, names = " ".join(span[1].split()).partition(": ")
             spans = [f"{function}: {name}" for name in names.split(", ")] if colon else [span[1]]
-            kind, known = ("clause of ", named) if colon else ("definition, and no call with one unnamed clause: ", alone)
+            kind, known = ("clause of ", named) if colon else ("definition or call with one unnamed clause: ", alone)
             kind, known = ("law of laws.rt: ", laws) if is_law else (kind, known)
             for wrong in (name for name in spans if name not in known):
                 yield fault(PAGE, text, group.start() + part.start() + span.start(), f"no {kind}{wrong}")

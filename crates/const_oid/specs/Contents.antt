@@ -1,4 +1,4 @@
--- Contents octets as they come: the parts, which in valid octets are the subidentifiers, and the first fault (ITU-T X.690, 8.19.2 to 8.19.4).
+-- Contents octets: the parts, which in valid octets are the subidentifiers, and the first fault (ITU-T X.690, 8.19).
 use Rattle.std.specs.Prelude.{ℕ, ◌+◌, ◌-◌, ◌*◌, ◌^◌, ◌/◌, ◌%◌, Bool, false, List, [], ◌∷◌, length, map, nat_lt, ◌==◌, if◌then◌else◌, Option, Some, None, Result, not}
 use Rattle.std.specs.List.{onto_first}
 use Rattle.std.specs.Option.{option_or}
@@ -13,7 +13,7 @@ use Rattle.const_oid.specs.Identifier.{RootRule, Narrow, Wide, max_arc, max_seco
 abbrev pub cut_after : ℕ → List (List ℕ) → List (List ℕ)
 cut_after x parts = if nat_lt x 128 then (x ∷ []) ∷ parts else onto_first x parts
 
--- the parts of octets: each ends with its first octet below 128, and what is left after the last such octet is a part too
+-- the parts of octets: each ends with its first octet below 128, and what is left after the last such one is a part
 abbrev pub cut : List ℕ → List (List ℕ)
 cut [] = []
 cut (x ∷ xs) = cut_after x (cut xs)

@@ -1,4 +1,4 @@
--- Elements of object identifiers in DER: identifier octet, length octets, contents octets (ITU-T X.690, 8.1, 8.19.1 and 10.1).
+-- Elements of object identifiers in DER: identifier octet, length and contents (ITU-T X.690, 8.1, 8.19.1 and 10.1).
 use Rattle.std.specs.Prelude.{◌≡◌, ◌≢◌, ℕ, ◌+◌, ◌*◌, ◌^◌, ◌<◌, ◌≤◌, List, [], ◌∷◌, ◌++◌, length, nat_lt, ◌==◌, if◌then◌else◌}
 use Rattle.std.specs.Int.{w64, to_be_bytes}
 use Rattle.const_oid.specs.Base128.{AreOctets}

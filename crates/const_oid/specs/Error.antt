@@ -26,6 +26,10 @@ message_of Overflow = codes "arithmetic calculation overflowed"
 message_of RepeatedDot = codes "repeated consecutive '..' characters in OID"
 message_of TrailingDot = codes "OID ends with invalid trailing '.'"
 
+-- the most bytes of an error's text
+abbrev pub max_message : ℕ
+max_message = 47
+
 -- the number of the variant, from 1 on
 abbrev pub code_of : Error → ℕ
 code_of (ArcInvalid arc) = 1

@@ -7,7 +7,7 @@ use Rattle.const_oid.specs.declared.error.Error.TheVariants.{ArcInvalid, Empty, 
 use Rattle.const_oid.specs.Error.{fault_if, answer}
 use Rattle.const_oid.specs.Identifier.{RootRule, max_second, size}
 
--- what is wrong with an arc that follows others, at a capacity in octets: its range, or the length of the encoding so far
+-- what is wrong with an arc that follows others, at a capacity in octets: its range, or the length of the encoding
 abbrev pub arc_fault : RootRule → ℕ → List ℕ → ℕ → Option Error
 arc_fault rule capacity [] arc = fault_if (nat_lt 2 arc) (ArcInvalid arc)
 arc_fault rule capacity (first ∷ []) arc =
@@ -34,7 +34,8 @@ item_fault rule items capacity = items_fault rule capacity [] items
 abbrev pub item_answer : RootRule → List ℕ → ℕ → Result (List ℕ) Error
 item_answer rule items capacity = answer (item_fault rule items capacity) items
 
--- what the iterator gave explains the result: `Ok` if it gave all its items and they are the arcs, without a fault; `Err` if every list that begins with the items given has this fault, or, where it ended, the list of exactly these
+-- what the iterator gave explains the result: `Ok` if it gave all its items and they are the arcs, without a fault;
+-- `Err` if every list that begins with the items given has this fault, or, where it ended, the list of exactly these
 abbrev pub TakesItems : {S : Type 0} → RootRule → ℕ → (S → Option ℕ → S → Type 0) → S → Result (List ℕ) Error → Type 0
 TakesItems rule capacity steps iterator result = MatchResult result
     (λ arcs. WholeRun steps iterator (λ run. (run.items ≡ arcs) × (item_fault rule arcs capacity ≡ None)))

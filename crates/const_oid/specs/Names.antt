@@ -85,7 +85,8 @@ entry_arcs entry = ref_arcs (oid_of entry)
 abbrev pub sorted_entries_of : SortedDatabase → List (Entry ObjectIdentifierRef)
 sorted_entries_of database = database.entries.now
 
--- the item has the longest prefix of the arcs: its own arcs are a prefix of them, it is the first item with its arcs, and each item whose arcs are a prefix of them has a prefix of its own
+-- the item has the longest prefix of the arcs: its own arcs are a prefix of them, it is the first item with its arcs,
+-- and each item whose arcs are a prefix of them has a prefix of its own
 pub record IsNearestBy {Item : Type 0} (arcs_of : Item → List ℕ) (items : List Item) (arcs : List ℕ) (item : Item) : Type 0 where
   pub begins : BeginsWith arcs (arcs_of item)
   pub first : find (λ other. pointwise nat_eq (arcs_of other) (arcs_of item)) items ≡ Some item

@@ -22,7 +22,8 @@ oid_arcs oid = arcs_of_octets (oid_octets oid)
 abbrev pub oid_answer : {N : ℕ} → Result (ObjectIdentifier N) Error → Result (List ℕ) Error
 oid_answer result = result_map_both oid_arcs (λ fault. fault) result
 
--- the octets are the element of contents octets and then the rest, and the result is what these contents octets are read as; the rest is the end of the slice
+-- the octets are the element of contents octets and then the rest, which is the end of the slice, and the result is
+-- what these contents octets are read as
 pub record ReadsOwned {N : ℕ} (der : Bor (List ℕ)) (result : Result (ObjectIdentifier N) Error) (rest : Bor (List ℕ)) : Type 0 where
   pub contents : List ℕ
   pub joined : der.now ≡ element contents ++ rest.now

@@ -30,7 +30,8 @@ key_arcs key = ref_arcs key.0
 abbrev pub ref_answer : Result ObjectIdentifierRef Error → Result (List ℕ) Error
 ref_answer result = result_map_both ref_arcs (λ fault. fault) result
 
--- the octets are the element of contents octets and then the rest, and the result is what these contents octets are read as; it holds the very contents octets, just before the rest, which is the end of the slice
+-- the octets are the element of contents octets and then the rest, which is the end of the slice, and the result is
+-- what these contents octets are read as; it holds the very contents octets, just before the rest
 pub record ReadsElement (der : Bor (List ℕ)) (result : Result ObjectIdentifierRef Error) (rest : Bor (List ℕ)) : Type 0 where
   pub contents : List ℕ
   pub joined : der.now ≡ element contents ++ rest.now

@@ -32,8 +32,8 @@ pub(crate) fn begins_with(octets: &[u8], prefix: &[u8]) -> bool
     are_equal(prefix, start)
 }
 
-/// The lexicographic order of subidentifiers, a shorter one before a longer one: of valid octets, that of their arcs. If
-/// they are not valid, a subidentifier ends with its first octet below 0x80, or with the last octet.
+/// The lexicographic order of subidentifiers, a shorter one before a longer one: of valid octets, that of their arcs.
+/// In others, a subidentifier ends with its first octet below 0x80, or with the last octet.
 ///
 /// At the first octet that differs, both subidentifiers began at the same index. So the one with more octets left is
 /// the longer one, and an octet that ends its subidentifier decides.
@@ -111,8 +111,8 @@ pub(crate) fn common_parts<'a>(octets: &'a [u8], others: &[u8]) -> &'a [u8]
     without_last_part(first_octets(octets, same + 1))
 }
 
-/// Whether names are the same. Words are compared first. Most that differ do so in the last one, also ignoring ASCII case,
-/// and else their bytes are compared.
+/// Whether names are the same. Words are compared first. Most that differ do so in the last one, also ignoring ASCII
+/// case, and else their bytes are compared.
 // erase: const
 pub(crate) fn is_same_name(a: &str, b: &str) -> bool
     ensures { result ≡ str_eq_ignore_ascii_case a.now b.now }

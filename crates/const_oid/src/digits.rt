@@ -71,7 +71,7 @@ fn write_digits(arc: Arc, out: &mut [u8], at: usize) -> usize
 {
     // One digit is the most frequent number of them.
     if arc < 10 {
-        return write_one(arc, out, at);
+        return write_byte(b'0' + arc as u8, out, at);
     }
     if arc < 10_000 {
         return write_up_to_four(arc, out, at);
@@ -97,13 +97,13 @@ fn write_up_to_four(number: u32, out: &mut [u8], at: usize) -> usize
     ensures after { drop result out.new ≡ drop result out.old }
 {
     if number < 10 {
-        return write_one(number, out, at);
+        return write_byte(b'0' + number as u8, out, at);
     }
     if number < 100 {
         return write_two(number, out, at);
     }
     if number < 1_000 {
-        let at = write_one(number / 100, out, at);
+        let at = write_byte(b'0' + (number / 100) as u8, out, at);
         return write_two(number % 100, out, at);
     }
     write_four(number, out, at)
@@ -145,18 +145,6 @@ fn write_two(number: u32, out: &mut [u8], at: usize) -> usize
     end
 }
 
-/// Writes a digit.
-#[inline(always)]
-fn write_one(number: u32, out: &mut [u8], at: usize) -> usize
-    requires few { number < 10 }
-    requires room { at < length out.old }
-    ensures end { result ≡ at + 1 }
-    ensures prefix { take result out.new ≡ take at out.old ++ (48 + number) ∷ [] }
-    ensures after { drop result out.new ≡ drop result out.old }
-{
-    write_byte(b'0' + number as u8, out, at)
-}
-
 /// Writes a byte at an index, and returns the index after it.
 #[tactic(auto, using(crate::proofs::Decimals::digit_put))]
 #[inline(always)]
@@ -189,8 +177,8 @@ pub(crate) fn write_bytes(bytes: &[u8], out: &mut [u8], at: usize) -> usize
     end
 }
 
-/// Writes the digits of an arc at the end of an array, and returns the index of the first. Slower than [`write_arc`], and
-/// less code: the row `all` of SPEED's sizes.
+/// Writes the digits of an arc at the end of an array, and returns the index of the first. Slower than [`write_arc`],
+/// and less code: the row `all` of SPEED's sizes.
 #[inline]
 pub(crate) fn write_last_digits(arc: Arc, out: &mut [u8; MAX_DIGITS]) -> usize
     ensures within { result ≤ length out.new }

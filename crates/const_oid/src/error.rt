@@ -1,7 +1,7 @@
 //! The errors of this crate.
 ghost use Rattle.std.specs.Prelude.{◌≡◌, ◌+◌, ◌<◌, ◌≤◌, ◌++◌, length, take, drop, None, Some, IfSome, IsSome};
 ghost use Rattle.std.specs.Str.{IsUtf8};
-ghost use Rattle.const_oid.specs.Error.{message_of};
+ghost use Rattle.const_oid.specs.Error.{message_of, max_message};
 ghost use Rattle.const_oid.specs.Output.{Returns, Writes};
 ghost use Rattle.const_oid.specs.Private.Text.{detail_text};
 
@@ -73,7 +73,7 @@ impl Error {
     #[inline]
     pub fn text_len(self) -> usize
         ensures len { result ≡ length (message_of self) }
-        ensures short { result ≤ MAX_TEXT_LEN }
+        ensures short { result ≤ max_message }
     {
         let (before, after) = self.words();
         before.len() + self.detail_len() + after.len()
@@ -85,7 +85,7 @@ impl Error {
     pub fn encode_text(self, out: &mut [u8]) -> Option<usize>
         ensures written { Writes (message_of self) out.old out.new result }
         ensures kept { result ≡ None → out.new ≡ out.old }
-        ensures enough { MAX_TEXT_LEN ≤ length out.old → IsSome result }
+        ensures enough { max_message ≤ length out.old → IsSome result }
         ensures utf8 { IfSome result (λ _. IsUtf8 (message_of self)) }
     {
         if out.len() < self.text_len() {
@@ -102,7 +102,7 @@ impl Error {
     #[inline]
     pub fn encode_str<'o>(self, out: &'o mut [u8]) -> Option<&'o str>
         ensures cases { Returns (message_of self) out.old result }
-        ensures enough { MAX_TEXT_LEN ≤ length out.old → IsSome result }
+        ensures enough { max_message ≤ length out.old → IsSome result }
     {
         let len = self.encode_text(out)?;
         Some(utf8(out, len))

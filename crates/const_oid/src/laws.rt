@@ -10,7 +10,7 @@ ghost use Rattle.std.specs.List.{AllByRecursion, AllZip, concat};
 ghost use Rattle.std.specs.Option.{option_map};
 ghost use Rattle.std.specs.Ordering.{nat_cmp};
 ghost use Rattle.std.specs.declared.cmp.Ordering.TheVariants.{Less, Equal, Greater};
-ghost use Rattle.const_oid.specs.Error.{fault_if};
+ghost use Rattle.const_oid.specs.Error.{fault_if, message_of, max_message};
 ghost use Rattle.const_oid.specs.Items.{arc_fault, item_fault, item_answer};
 ghost use Rattle.const_oid.specs.declared.error.Error.TheVariants.{ArcInvalid, ArcTooBig, Base128, DigitExpected, Empty, Length, Overflow, TrailingDot};
 ghost use Rattle.const_oid.specs.Base128.{AreOctets, value_of, IsGroup, IsWidth, group_of, width};
@@ -56,6 +56,7 @@ pub fn examples()
     ensures short_length { length_octets 38 ≡ 0x26 ∷ [] }
     ensures long_length { length_octets 201 ≡ 0x81 ∷ 0xC9 ∷ [] }
     ensures whole_element { element (0x88 ∷ 0x37 ∷ []) ≡ 0x06 ∷ 0x02 ∷ 0x88 ∷ 0x37 ∷ [] }
+    ensures longest_message { length (message_of Base128) ≡ max_message }
     ensures narrow { octet_fault Narrow (0xFF ∷ []) 39 ≡ Some (ArcInvalid 6) }
     ensures narrow_before_digit { text_fault Narrow (codes "2.40.X") 39 ≡ Some (ArcInvalid 40) }
     ensures narrow_before_size { text_fault Narrow (codes "2.40.4294967296") 39 ≡ Some (ArcInvalid 40) }

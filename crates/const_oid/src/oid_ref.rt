@@ -97,9 +97,9 @@ impl<'a> ObjectIdentifierRef<'a> {
         Ok(ObjectIdentifierRef { ber })
     }
 
-    /// Reads the element in DER that octets begin with: the tag 6, the length, and contents octets (X.690, 8.1, 8.19 and
-    /// 10.1). Returns what [`from_bytes`](Self::from_bytes) returns for the contents octets, and the octets after the
-    /// element.
+    /// Reads the element in DER that octets begin with: the tag 6, the length, and contents octets (X.690, 8.1, 8.19
+    /// and 10.1). Returns what [`from_bytes`](Self::from_bytes) returns for the contents octets, and the octets after
+    /// the element.
     ///
     /// Returns `None` if the octets begin with no such element: the tag is not 6, the length is indefinite or could be
     /// in fewer octets, or not all contents octets are there. No octets are `None` too. So a loop over elements runs
@@ -150,8 +150,8 @@ impl<'a> ObjectIdentifierRef<'a> {
         element_len(self.ber)
     }
 
-    /// Writes the element in DER, the tag 6, the length and the contents octets (X.690, 8.1, 8.19 and 10.1), to the start
-    /// of `out`, and returns its length in octets. Returns `None` if it is longer than `out`, which is then unchanged.
+    /// Writes the element in DER, the tag 6, the length and the contents octets (X.690, 8.1, 8.19 and 10.1), to the
+    /// start of `out`, and returns its length in octets. Returns `None` if it is longer than `out`, which is then kept.
     /// Ten octets more than the contents are always enough.
     ///
     /// # Examples
@@ -254,8 +254,8 @@ impl<'a> ObjectIdentifierRef<'a> {
     /// Decodes contents octets as [`from_bytes`](Self::from_bytes) does, writes their text to the start of `out` in the
     /// same pass, as `{}` writes it, and returns its length in bytes.
     ///
-    /// Returns `None` if `out` has fewer bytes than four for each octet and eleven more; it is then unchanged. What lies
-    /// after the text is unchanged on `Ok`. On `Err`, `out` may be changed.
+    /// Returns `None` if `out` has fewer bytes than four for each octet and eleven more; it is then unchanged. On `Ok`,
+    /// what lies after the text is unchanged. On `Err`, `out` may be changed.
     #[inline(always)]
     pub fn text_from_bytes(ber: &[u8], out: &mut [u8]) -> Option<Result<usize>>
         ensures room { MatchOption result (length out.old < 4 * length ber.now + 11) (λ _. 4 * length ber.now + 11 ≤ length out.old) }
@@ -269,13 +269,13 @@ impl<'a> ObjectIdentifierRef<'a> {
         Some(write_checked(ber, out))
     }
 
-    /// Parses dotted text in ASCII, of any length, and borrows the octets that it writes at the start of `out`. They are
-    /// no more than the bytes of the text, which need not be UTF-8.
+    /// Parses dotted text in ASCII, of any length, and borrows the octets that it writes at the start of `out`. They
+    /// are no more than the bytes of the text, which need not be UTF-8.
     ///
     /// # Errors
     ///
-    /// Those of [`new`](crate::ObjectIdentifier::new), with [`Error::Length`] if the arcs take more octets than `out` has. It is
-    /// then unchanged.
+    /// Those of [`new`](crate::ObjectIdentifier::new), with [`Error::Length`] if the arcs take more octets than `out`
+    /// has. It is then unchanged.
     ///
     /// # Examples
     ///
@@ -317,7 +317,7 @@ impl<'a> ObjectIdentifierRef<'a> {
     {
         match parse_inlined(text, &mut [], usize::MAX) {
             Ok(_) => None,
-            Err(wrong) => Some(fault_and_index(text, wrong).1),
+            Err(wrong) => fault_and_index(text, wrong).1,
         }
     }
 
@@ -326,8 +326,8 @@ impl<'a> ObjectIdentifierRef<'a> {
     ///
     /// # Errors
     ///
-    /// Those of [`from_arcs`](crate::ObjectIdentifier::from_arcs), with [`Error::Length`] if the arcs take more octets than
-    /// `out` has. It is then unchanged.
+    /// Those of [`from_arcs`](crate::ObjectIdentifier::from_arcs), with [`Error::Length`] if the arcs take more octets
+    /// than `out` has. It is then unchanged.
     #[tactic(auto, using(crate::proofs::Appended::taken, crate::proofs::Encodings::none_from_encoding))]
     pub fn from_arcs_in(arcs: &[Arc], out: &'a mut [u8]) -> Result<Self>
         ensures answer { ref_answer result ≡ item_answer root_rule arcs.now (length out.old) }
@@ -400,8 +400,8 @@ impl<'a> ObjectIdentifierRef<'a> {
     /// from the first index up to, but not including, the second. If there are none, both are the index at which this
     /// one would be inserted.
     ///
-    /// The list is sorted by `cmp`, so by octets, and may hold an identifier more than once. On another list, such as one
-    /// sorted by `cmp_arcs`, the range is within the list, and which one is unspecified.
+    /// The list is sorted by `cmp`, so by octets, and may hold an identifier more than once. On another list, such as
+    /// one sorted by `cmp_arcs`, the range is within the list, and which one is unspecified.
     ///
     /// # Examples
     ///

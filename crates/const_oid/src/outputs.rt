@@ -1,6 +1,6 @@
 //! Octets and identifiers in outputs of the caller.
 
-ghost use Rattle.std.specs.Prelude.{◌≡◌, ◌≢◌, ◌*◌, ◌≤◌, [], length, Err, IfErr, IfOk, MatchResult, Ok};
+ghost use Rattle.std.specs.Prelude.{◌≡◌, ◌≢◌, ◌*◌, ◌≤◌, [], length, Err, IfErr, IfOk, MatchOption, MatchResult, Ok};
 ghost use Rattle.const_oid.specs.Contents.{size_answer};
 ghost use Rattle.const_oid.specs.Identifier.{root_rule, default_capacity};
 ghost use Rattle.const_oid.specs.Items.{item_answer};
@@ -87,17 +87,18 @@ pub fn bytes_from_arcs(arcs: &[Arc], out: &mut [u8]) -> Result<usize>
 ///
 /// # Errors
 ///
-/// Those of [`new`](crate::ObjectIdentifier::new), each with the index of the first wrong component, but
-/// [`Error::Length`], whose index says nothing.
+/// Those of [`new`](crate::ObjectIdentifier::new), each but [`Error::Length`] with the index of the first wrong
+/// component.
 #[tactic(auto, using(crate::proofs::Appended::taken, crate::proofs::Encodings::none_from_encoding))]
 #[inline(always)]
 pub fn from_ascii_in_39<'a>(
     text: &[u8],
     out: &'a mut [u8; 39],
-) -> result::Result<ObjectIdentifierRef<'a>, (Error, usize)>
+) -> result::Result<ObjectIdentifierRef<'a>, (Error, Option<usize>)>
     ensures answer { let answer = text_answer root_rule text.now default_capacity in
         MatchResult result (λ oid. answer ≡ Ok (ref_arcs oid)) (λ fault. answer ≡ Err fault.0) }
-    ensures index { IfErr result (λ fault. fault.0 ≢ Error.Length → fault.1 ≡ wrong_index [] (components_of text.now)) }
+    ensures index { IfErr result (λ fault. MatchOption fault.1 (fault.0 ≡ Error.Length)
+        (λ index. (fault.0 ≢ Error.Length) × (index ≡ wrong_index [] (components_of text.now)))) }
     ensures start { IfOk result (λ oid. (ref_slice oid).ref_ptr ≡ out.entry.ref_ptr) }
 {
     match parse_inlined(text, out, 39) {

@@ -3,7 +3,7 @@
 //! A text is read component by component. If one is wrong, only an index is returned, and a function that is rarely
 //! called makes the error of it. So a valid text costs fewer instructions.
 
-ghost use Rattle.std.specs.Prelude.{◌≡◌, ◌≢◌, ◌≤◌, ℕ, drop, length, Err, IfErr, MatchResult};
+ghost use Rattle.std.specs.Prelude.{◌≡◌, ◌≢◌, ◌≤◌, ℕ, drop, length, Err, IfErr, MatchOption, MatchResult};
 ghost use Rattle.const_oid.specs.Output.{IsEncodedIn, WritesEncoding};
 ghost use Rattle.const_oid.specs.Private.Parser.{component_at, error_of, or_trailing, place_of, stop_fault, HasFault, IsFaultAt, IsFoundAt, IsComponent, IsRoot};
 ghost use Rattle.const_oid.specs.Identifier.{root_rule};
@@ -47,17 +47,18 @@ fn component_at(text: &[u8], place: usize) -> usize
     count_below(&text[..place], b'0')
 }
 
-/// The error of a text, and the index of its component, which says nothing for `Length`.
+/// The error of a text, and the index of its component, which `Length` has not.
 #[inline(always)]
-pub(crate) fn fault_and_index(text: &[u8], wrong: Wrong) -> (Error, usize)
+pub(crate) fn fault_and_index(text: &[u8], wrong: Wrong) -> (Error, Option<usize>)
     requires { place_of wrong ≤ length text.now }
     ensures fault { result.0 ≡ error_of text.now wrong }
-    ensures index { result.0 ≢ Error.Length → result.1 ≡ component_at text.now (place_of wrong) }
+    ensures index { MatchOption result.1 (result.0 ≡ Error.Length)
+        (λ index. (result.0 ≢ Error.Length) × (index ≡ component_at text.now (place_of wrong))) }
 {
     let (fault, place) = fault_of(text, wrong);
     let index = match fault {
-        Error::Length => 0,
-        _ => component_at(text, place),
+        Error::Length => None,
+        _ => Some(component_at(text, place)),
     };
     (fault, index)
 }
@@ -172,8 +173,8 @@ fn read_component(text: &[u8], start: usize) -> result::Result<(Arc, usize), usi
     if start >= text.len() {
         return Err(start);
     }
-    // One subtraction and one comparison, of words of the machine. There are no calls here, since each costs the compiler
-    // in a constant.
+    // One subtraction and one comparison, of words of the machine. There are no calls here, since each costs the
+    // compiler in a constant.
     let first = (text[start] as usize).wrapping_sub(b'0' as usize);
     if first > 9 {
         return Err(start);

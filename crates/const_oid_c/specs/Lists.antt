@@ -20,7 +20,7 @@ octets_at item = item.octets.now
 abbrev pub arcs_before : Option ObjectIdentifierRef → List ℕ
 arcs_before before = option_map_or ref_arcs before []
 
--- the status at an index, by what the octets there are read as: their fault, or that their arcs come before those of the previous index
+-- the status at an index, by what its octets are read as: their fault, or that their arcs come before the previous ones
 abbrev pub read_fault : ℕ → List ℕ → Result (List ℕ) Error → Option Status
 read_fault index before (Ok arcs) = if is_lt (slice_cmp nat_cmp arcs before) then Some (record { code = 13; detail = 0; len = index }) else None
 read_fault index before (Err fault) = Some (fault_at index fault)

@@ -1,5 +1,5 @@
 //! What a function returns besides its output, and the version of the library.
-ghost use Rattle.std.specs.Prelude.{◌≡◌, ◌<◌, ◌+◌, ◌*◌};
+ghost use Rattle.std.specs.Prelude.{◌≡◌, ◌<◌};
 ghost use Rattle.const_oid_c.specs.Status.{error_status, fault_at, code_status, len_status, number_status, too_short_status, flag_status, order_number, order_status};
 
 use const_oid::Error;
@@ -184,9 +184,12 @@ pub(crate) fn order_number(ordering: Ordering) -> i32
 }
 
 /// 65536 times the major number, 256 times the minor one and the patch number, as `CONST_OID_VERSION`.
+const VERSION: u32 = (1 << 16) + (4 << 8);
+
+/// The version of the library.
 #[unsafe(no_mangle)]
 pub extern "C" fn const_oid_version() -> u32
-    ensures { result ≡ 65536 * 1 + 256 * 4 }
+    ensures { result ≡ VERSION }
 {
-    (1 << 16) + (4 << 8)
+    VERSION
 }

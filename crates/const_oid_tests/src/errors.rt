@@ -5,6 +5,7 @@ ghost use Rattle.std.specs.Prelude.{◌≡◌, ◌↔◌, IsTrue, IsOk, IfOk, So
 ghost use Rattle.const_oid.specs.Error.{error_cmp};
 
 use crate::formatter::{count_writes, prints};
+use const_oid::Error::{ArcTooBig, Base128, Empty, Length, Overflow, RepeatedDot, TrailingDot};
 use const_oid::{Arc, Error};
 use std::alloc::{AllocError, Global};
 use std::cmp::Ordering;
@@ -53,22 +54,13 @@ const ARCS: [Arc; 7] = [3, 40, 10000, 65535, 65536, 1000000000, 4294967295];
 
 /// The other errors, and their texts.
 const OTHERS: &[(Error, &str)] = &[
-    (
-        Error::ArcTooBig,
-        "OID contains arc which is larger than 32-bits",
-    ),
-    (
-        Error::Base128,
-        "OID contains arc with invalid base 128 encoding",
-    ),
-    (Error::Empty, "OID value is empty"),
-    (Error::Length, "OID length invalid"),
-    (Error::Overflow, "arithmetic calculation overflowed"),
-    (
-        Error::RepeatedDot,
-        "repeated consecutive '..' characters in OID",
-    ),
-    (Error::TrailingDot, "OID ends with invalid trailing '.'"),
+    (ArcTooBig, "OID contains arc which is larger than 32-bits"),
+    (Base128, "OID contains arc with invalid base 128 encoding"),
+    (Empty, "OID value is empty"),
+    (Length, "OID length invalid"),
+    (Overflow, "arithmetic calculation overflowed"),
+    (RepeatedDot, "repeated consecutive '..' characters in OID"),
+    (TrailingDot, "OID ends with invalid trailing '.'"),
 ];
 
 /// Whether an error prints a text in one write, whatever the options, reports a failed write, and writes the text to a

@@ -77,32 +77,6 @@ fn buffer_clone_of<const N: usize>(buffer: &Buffer<N>) -> Result<Buffer<N>, Allo
     buffer.clone()
 }
 
-/// Octets of two identifiers of at most three, and the order of the first to the second. Their buffers compare so.
-const PAIRS: &[(&[u8], &[u8], Ordering)] = &[
-    (&[0x2A, 0x03], &[0x2A, 0x03], Ordering::Equal),
-    (&[0x2A, 0x03], &[0x2A, 0x04], Ordering::Less),
-    (&[0x2A, 0x03], &[0x2A], Ordering::Greater),
-    (&[0x55], &[0x2A, 0x03], Ordering::Less),
-];
-
-#[test]
-fn compares_few_octets(rt: HostRuntime) -> Result<(), Fail> {
-    for (first, second, order) in PAIRS {
-        let a = ObjectIdentifier::<3>::try_from_ref(read_borrowed(first)?);
-        let b = ObjectIdentifier::<3>::try_from_ref(read_borrowed(second)?);
-        let (Ok(a), Ok(b)) = (a, b) else {
-            return Err(Fail::new(format_args!("{first:?} {second:?}")));
-        };
-        assert!(rt;
-            a.as_bytes() == *first
-                && order_of(&a, &b) == *order
-                && has_same_arcs(&a, &b) == order.is_eq(),
-            "{first:?} {second:?}"
-        );
-    }
-    Ok(())
-}
-
 /// What both orders and copies return is proved, and here it runs.
 #[test]
 fn compares_and_copies(rt: HostRuntime) -> Result<(), Fail> {
@@ -119,13 +93,13 @@ fn compares_and_copies(rt: HostRuntime) -> Result<(), Fail> {
 
 /// Identifiers in the borrowed order. Those at the indices 1 to 7 begin with 1.2.
 const ASCENDING: &[&[u8]] = &[
-    &[0x00],
+    &[0],
     &[0x2A],
-    &[0x2A, 0x03],
-    &[0x2A, 0x03, 0x04],
+    &[0x2A, 3],
+    &[0x2A, 3, 4],
     &[0x2A, 0x7F],
-    &[0x2A, 0x81, 0x00],
-    &[0x2A, 0x81, 0x80, 0x00],
+    &[0x2A, 0x81, 0],
+    &[0x2A, 0x81, 0x80, 0],
     &[0x2A, 0xFF, 0x7F],
     &[0x55],
     &[0x77],
@@ -134,13 +108,13 @@ const ASCENDING: &[&[u8]] = &[
 /// Lists, a prefix, and the range of those that begin with it.
 const RANGES: &[(&[&[u8]], &[u8], (usize, usize))] = &[
     (ASCENDING, &[0x2A], (1, 8)),
-    (ASCENDING, &[0x2A, 0x03], (2, 4)),
-    (ASCENDING, &[0x2A, 0x04], (4, 4)),
+    (ASCENDING, &[0x2A, 3], (2, 4)),
+    (ASCENDING, &[0x2A, 4], (4, 4)),
     (ASCENDING, &[0x77], (9, 10)),
     (ASCENDING, &[0x88, 0x37], (10, 10)),
     (&[&[0x2A], &[0x2A]], &[0x2A], (0, 2)),
     (
-        &[&[0x78], &[0x88, 0x37], &[0x88, 0x37, 0x03]],
+        &[&[0x78], &[0x88, 0x37], &[0x88, 0x37, 3]],
         &[0x88, 0x37],
         (1, 3),
     ),

@@ -130,12 +130,6 @@ fn fits<const N: usize>(octets: &[u8]) -> bool
     is_copied && is_answer(ObjectIdentifier::<N>::from_bytes_sized(octets), wanted)
 }
 
-/// Whether the usual capacity reads octets as another capacity does.
-fn is_usual(octets: &[u8]) -> bool {
-    let wanted = ObjectIdentifierRef::from_bytes(octets).map(|_| octets);
-    is_answer(Oid::from_bytes(octets), within::<39>(wanted))
-}
-
 /// Whether an identifier of either form has these octets, and each of these arcs at its index, and no other.
 macro_rules! has {
     ($oid:expr, $octets:expr, $arcs:expr) => {
@@ -186,7 +180,8 @@ fn counted(alloc: Global, arcs: &[Arc]) -> Result<String> {
 pub fn octets(alloc: Global, octets: &[u8]) -> Result<String> {
     ensure!(fits::<0>(octets) && fits::<1>(octets) && fits::<2>(octets) && fits::<3>(octets));
     ensure!(fits::<39>(octets) && fits::<255>(octets));
-    ensure!(fits::<256>(octets) && fits::<300>(octets) && is_usual(octets));
+    ensure!(fits::<256>(octets) && fits::<300>(octets));
+    ensure!(Oid::from_bytes(octets) == Oid::from_bytes_sized(octets));
     let arcs = arcs_of(alloc, octets)?;
     let text = text_of(alloc, octets, &arcs)?;
     let len = octets.len();

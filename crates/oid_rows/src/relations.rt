@@ -97,6 +97,10 @@ fn order_of(call: &str, left: &[u8], right: &[u8]) -> Result<Ordering> {
         if let (Ok(a), Ok(b)) = (Oid::from_bytes(left), Oid::from_bytes(right)) {
             ensure!(order(&a, &b)? == long);
         }
+        let few = [left, right].map(|octets| ObjectIdentifier::<3>::from_bytes_sized(octets));
+        if let [Ok(a), Ok(b)] = few {
+            ensure!(order(&a, &b)? == long);
+        }
         return Ok(long);
     }
     let a = ObjectIdentifierRef::from_bytes(left)?;

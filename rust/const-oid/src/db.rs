@@ -1,7 +1,7 @@
 //! Some 1,500 names of identifiers: a module of constants for each document that defines some, and the tables [`DB`]
 //! and [`SORTED`] of all. Requires the feature `db`.
 //!
-//! A [`Database`] is a table in any order, for lookups in constants and by name. A [`SortedDatabase`] is in the order of
+//! A [`Database`] is a table in any order, for lookups in constants and by name. A [`SortedDatabase`] has the order of
 //! arcs: a lookup is a binary search, and it also finds the nearest name, subtrees, and what GetNext of SNMP returns.
 
 pub use crate::erased::db::{Database, Names, SortedDatabase};

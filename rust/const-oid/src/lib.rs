@@ -2,8 +2,8 @@
 //!
 //! # Which type, and which order
 //!
-//! - [`ObjectIdentifier`] holds its octets: 39 at most, or up to 255 as `ObjectIdentifier<N>`. It is `Copy`, and may be a
-//!   constant. A shorter encoding comes first; equally long ones are compared by octets.
+//! - [`ObjectIdentifier`] holds its octets: 39 at most, or up to 255 as `ObjectIdentifier<N>`. It is `Copy`, and may be
+//!   a constant. A shorter encoding comes first; equally long ones are compared by octets.
 //! - [`ObjectIdentifierRef`] borrows octets of any length. In its order the descendants of an identifier are adjacent:
 //!   [`subtree`](ObjectIdentifierRef::subtree) finds them in a sorted list.
 //! - [`ByArcs`] is a key over either, in the order of arcs, as is [`cmp_arcs`](ObjectIdentifier::cmp_arcs). There, too,

@@ -100,7 +100,7 @@ mod model {
         (1..).find(|width| number < 128_u64.pow(*width)).unwrap()
     }
 
-    /// The fault of the last of these arcs, if the ones before have none (cases 5 and 6 of section 5 of RULES). Its octets
+    /// The fault of the last of these arcs, if those before have none (cases 5 and 6 of section 5 of RULES). Its octets
     /// are taken of the room that those before leave.
     fn arc_fault(arcs: &[Arc], room: &mut usize) -> Option<Error> {
         let (arc, number) = match arcs {
@@ -256,8 +256,8 @@ fn check_octets(octets: &[u8]) {
     }
 }
 
-/// A function that writes octets of any length into an output of `size` octets. The result is at its start, and the rest
-/// is kept.
+/// A function that writes octets of any length into an output of `size` octets. The result is at its start, and the
+/// rest is kept.
 fn check_written(
     row: impl Debug,
     size: usize,

@@ -32,7 +32,7 @@ macro_rules! traits {
 
 traits! {
     [const N: usize] ObjectIdentifier<N>: Copy, Clone, Eq, PartialEq, Ord, PartialOrd, Hash, Debug, Display, Send, Sync,
-        Unpin, AsRef<[u8]>, AsRef<ObjectIdentifierRef>, Borrow<ObjectIdentifierRef>, Deref<Target = ObjectIdentifierRef>;
+        Unpin, AsRef<[u8]>, AsRef<ObjectIdentifierRef>, Borrow<ObjectIdentifierRef>, Deref<Target=ObjectIdentifierRef>;
     ['a, const N: usize] ObjectIdentifier<N>: TryFrom<&'a ObjectIdentifierRef, Error = Error>;
     [] ObjectIdentifier: FromStr<Err = Error>;
     ['a] ObjectIdentifier: TryFrom<&'a [u8], Error = Error>;
@@ -42,7 +42,7 @@ traits! {
     [const N: usize] Buffer<N>: Copy, Clone, Eq, PartialEq, Ord, PartialOrd, Hash, Send, Sync, Unpin, AsRef<[u8]>;
     [] Error: Copy, Clone, Debug, Display, Eq, PartialEq, Ord, PartialOrd, Hash, Send, Sync, std::error::Error;
     [T: Borrow<ObjectIdentifierRef>] ByArcs<T>: Borrow<ByArcs<ObjectIdentifierRef>>;
-    [T: Borrow<ObjectIdentifierRef> + ?Sized] ByArcs<T>: Eq, PartialEq, Ord, PartialOrd, Hash, Display, Deref<Target = T>;
+    [T: Borrow<ObjectIdentifierRef> + ?Sized] ByArcs<T>: Eq, PartialEq, Ord, PartialOrd, Hash, Display, Deref<Target=T>;
     [T: Copy + Debug + Send + Sync] ByArcs<T>: Copy, Clone, Debug, Send, Sync, From<T>;
     ['a] Arcs<'a>: Iterator<Item = Arc>, FusedIterator, Clone, Debug, Send, Sync;
     [T: AssociatedOid] T: DynAssociatedOid;

@@ -105,7 +105,5 @@ pub fn exports(calls: &[Call]) -> String {
 /// The list for C.
 pub fn list(calls: &[Call]) -> String {
     let rows: String = calls.iter().map(Call::row).collect();
-    format!(
-        "/* The functions of const_oid.h: the type of each result, the name, and the kinds of the arguments, counted from 0. */\n{rows}"
-    )
+    format!("/* The functions of const_oid.h: type of the result, name, and kinds of the arguments from 0. */\n{rows}")
 }

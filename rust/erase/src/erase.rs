@@ -5,8 +5,8 @@
 use crate::edit::replaced;
 use crate::token::{after, is_blank, tokens};
 
-/// A command to the eraser: the function after it is `const` in Rust, since a constant calls it there. In Rattle it calls
-/// a function of `std` that is not `const`.
+/// A command to the eraser: the function after it is `const` in Rust, since a constant calls it there. In Rattle it
+/// calls a function of `std` that is not `const`.
 const CONST: &str = "// erase: const";
 
 /// A command to the eraser: Rust lacks the `mod` or `use` after it.

@@ -1,9 +1,9 @@
 //! Generates Rust from Rattle: `erase [--check]`.
 //!
-//! For each crate of the table, the program reads `lib.rt` and its modules, and writes them as Rust, laid out by rustfmt.
-//! It writes the sorted table of names, and a header of names for C, from the table of names, and the exports of the
-//! library for C, with what its tests need of them. With `--check` it writes nothing, and ends with 1 if a file differs
-//! from what it would write.
+//! For each crate of the table, the program reads `lib.rt` and its modules, and writes them as Rust, which rustfmt lays
+//! out. It writes the sorted table of names, and a header of names for C, from the table of names, and the exports of
+//! the library for C, with what its tests need of them. With `--check` it writes nothing, and ends with 1 if a file
+//! differs from what it would write.
 
 mod c_names;
 mod calls;

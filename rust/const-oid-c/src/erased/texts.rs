@@ -16,7 +16,7 @@ pub fn const_oid_from_text(text: &[u8], out: &mut crate::edge::Output<u8>) -> St
     let mut octets = [0; 39];
     match outputs::from_ascii_in_39(text, &mut octets) {
         Ok(oid) => write_bytes(oid.as_bytes(), out),
-        Err((fault, index)) => write_after_fault(text, out, fault, index),
+        Err((fault, index)) => write_after_fault(text, out, fault, index.unwrap_or(0)),
     }
 }
 

@@ -51,7 +51,7 @@ fn count_digits(arc: Arc) -> usize {
 fn write_digits(arc: Arc, out: &mut [u8], at: usize) -> usize {
     // One digit is the most frequent number of them.
     if arc < 10 {
-        return write_one(arc, out, at);
+        return write_byte(b'0' + arc as u8, out, at);
     }
     if arc < 10_000 {
         return write_up_to_four(arc, out, at);
@@ -70,13 +70,13 @@ fn write_digits(arc: Arc, out: &mut [u8], at: usize) -> usize {
 #[inline]
 fn write_up_to_four(number: u32, out: &mut [u8], at: usize) -> usize {
     if number < 10 {
-        return write_one(number, out, at);
+        return write_byte(b'0' + number as u8, out, at);
     }
     if number < 100 {
         return write_two(number, out, at);
     }
     if number < 1_000 {
-        let at = write_one(number / 100, out, at);
+        let at = write_byte(b'0' + (number / 100) as u8, out, at);
         return write_two(number % 100, out, at);
     }
     write_four(number, out, at)
@@ -104,12 +104,6 @@ fn write_two(number: u32, out: &mut [u8], at: usize) -> usize {
     end
 }
 
-/// Writes a digit.
-#[inline(always)]
-fn write_one(number: u32, out: &mut [u8], at: usize) -> usize {
-    write_byte(b'0' + number as u8, out, at)
-}
-
 /// Writes a byte at an index, and returns the index after it.
 #[inline(always)]
 fn write_byte(byte: u8, out: &mut [u8], at: usize) -> usize {
@@ -130,8 +124,8 @@ pub(crate) fn write_bytes(bytes: &[u8], out: &mut [u8], at: usize) -> usize {
     end
 }
 
-/// Writes the digits of an arc at the end of an array, and returns the index of the first. Slower than [`write_arc`], and
-/// less code: the row `all` of SPEED's sizes.
+/// Writes the digits of an arc at the end of an array, and returns the index of the first. Slower than [`write_arc`],
+/// and less code: the row `all` of SPEED's sizes.
 #[inline]
 pub(crate) fn write_last_digits(arc: Arc, out: &mut [u8; MAX_DIGITS]) -> usize {
     let mut at = MAX_DIGITS;

@@ -2,8 +2,8 @@
 
 //! Object identifiers (ITU-T X.660) as text, arcs and contents octets (ITU-T X.690, 8.19).
 
-// The examples in doc comments are Rust's: the cargo crate runs them. In Rattle no constant calls a function, a borrowed
-// identifier has a size, `assert!` takes the host, and `to_string` an allocator. CALLING.md has examples in Rattle.
+// The examples in doc comments are Rust's: the cargo crate runs them. In Rattle no constant calls a function, borrowed
+// identifiers have a size, `assert!` takes the host, and `to_string` an allocator. CALLING.md has examples in Rattle.
 
 pub mod arcs;
 mod base128;

@@ -73,9 +73,9 @@ impl ObjectIdentifierRef {
         Ok(Self::from_checked(ber))
     }
 
-    /// Reads the element in DER that octets begin with: the tag 6, the length, and contents octets (X.690, 8.1, 8.19 and
-    /// 10.1). Returns what [`from_bytes`](Self::from_bytes) returns for the contents octets, and the octets after the
-    /// element.
+    /// Reads the element in DER that octets begin with: the tag 6, the length, and contents octets (X.690, 8.1, 8.19
+    /// and 10.1). Returns what [`from_bytes`](Self::from_bytes) returns for the contents octets, and the octets after
+    /// the element.
     ///
     /// Returns `None` if the octets begin with no such element: the tag is not 6, the length is indefinite or could be
     /// in fewer octets, or not all contents octets are there. No octets are `None` too. So a loop over elements runs
@@ -119,8 +119,8 @@ impl ObjectIdentifierRef {
         element_len(self.as_bytes())
     }
 
-    /// Writes the element in DER, the tag 6, the length and the contents octets (X.690, 8.1, 8.19 and 10.1), to the start
-    /// of `out`, and returns its length in octets. Returns `None` if it is longer than `out`, which is then unchanged.
+    /// Writes the element in DER, the tag 6, the length and the contents octets (X.690, 8.1, 8.19 and 10.1), to the
+    /// start of `out`, and returns its length in octets. Returns `None` if it is longer than `out`, which is then kept.
     /// Ten octets more than the contents are always enough.
     ///
     /// # Examples
@@ -211,8 +211,8 @@ impl ObjectIdentifierRef {
     /// Decodes contents octets as [`from_bytes`](Self::from_bytes) does, writes their text to the start of `out` in the
     /// same pass, as `{}` writes it, and returns its length in bytes.
     ///
-    /// Returns `None` if `out` has fewer bytes than four for each octet and eleven more; it is then unchanged. What lies
-    /// after the text is unchanged on `Ok`. On `Err`, `out` may be changed.
+    /// Returns `None` if `out` has fewer bytes than four for each octet and eleven more; it is then unchanged. On `Ok`,
+    /// what lies after the text is unchanged. On `Err`, `out` may be changed.
     #[inline(always)]
     #[must_use]
     pub(crate) fn text_from_bytes(ber: &[u8], out: &mut [u8]) -> Option<Result<usize>> {
@@ -222,13 +222,13 @@ impl ObjectIdentifierRef {
         Some(write_checked(ber, out))
     }
 
-    /// Parses dotted text in ASCII, of any length, and borrows the octets that it writes at the start of `out`. They are
-    /// no more than the bytes of the text, which need not be UTF-8.
+    /// Parses dotted text in ASCII, of any length, and borrows the octets that it writes at the start of `out`. They
+    /// are no more than the bytes of the text, which need not be UTF-8.
     ///
     /// # Errors
     ///
-    /// Those of [`new`](crate::ObjectIdentifier::new), with [`Error::Length`] if the arcs take more octets than `out` has. It is
-    /// then unchanged.
+    /// Those of [`new`](crate::ObjectIdentifier::new), with [`Error::Length`] if the arcs take more octets than `out`
+    /// has. It is then unchanged.
     ///
     /// # Examples
     ///
@@ -262,7 +262,7 @@ impl ObjectIdentifierRef {
     pub fn wrong_component(text: &[u8]) -> Option<usize> {
         match parse_inlined(text, &mut [], usize::MAX) {
             Ok(_) => None,
-            Err(wrong) => Some(fault_and_index(text, wrong).1),
+            Err(wrong) => fault_and_index(text, wrong).1,
         }
     }
 
@@ -271,8 +271,8 @@ impl ObjectIdentifierRef {
     ///
     /// # Errors
     ///
-    /// Those of [`from_arcs`](crate::ObjectIdentifier::from_arcs), with [`Error::Length`] if the arcs take more octets than
-    /// `out` has. It is then unchanged.
+    /// Those of [`from_arcs`](crate::ObjectIdentifier::from_arcs), with [`Error::Length`] if the arcs take more octets
+    /// than `out` has. It is then unchanged.
     pub fn from_arcs_in<'a>(arcs: &[Arc], out: &'a mut [u8]) -> Result<&'a Self> {
         let len = outputs::bytes_from_arcs(arcs, out)?;
         Ok(ObjectIdentifierRef::from_checked(&out[..len]))
@@ -331,8 +331,8 @@ impl ObjectIdentifierRef {
     /// from the first index up to, but not including, the second. If there are none, both are the index at which this
     /// one would be inserted.
     ///
-    /// The list is sorted by `cmp`, so by octets, and may hold an identifier more than once. On another list, such as one
-    /// sorted by `cmp_arcs`, the range is within the list, and which one is unspecified.
+    /// The list is sorted by `cmp`, so by octets, and may hold an identifier more than once. On another list, such as
+    /// one sorted by `cmp_arcs`, the range is within the list, and which one is unspecified.
     ///
     /// # Examples
     ///

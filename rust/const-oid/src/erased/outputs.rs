@@ -67,13 +67,13 @@ pub fn bytes_from_arcs(arcs: &[Arc], out: &mut [u8]) -> Result<usize> {
 ///
 /// # Errors
 ///
-/// Those of [`new`](crate::ObjectIdentifier::new), each with the index of the first wrong component, but
-/// [`Error::Length`], whose index says nothing.
+/// Those of [`new`](crate::ObjectIdentifier::new), each but [`Error::Length`] with the index of the first wrong
+/// component.
 #[inline(always)]
 pub fn from_ascii_in_39<'a>(
     text: &[u8],
     out: &'a mut [u8; 39],
-) -> result::Result<&'a ObjectIdentifierRef, (Error, usize)> {
+) -> result::Result<&'a ObjectIdentifierRef, (Error, Option<usize>)> {
     match parse_inlined(text, out, 39) {
         Ok(len) => Ok(ObjectIdentifierRef::from_checked(&out[..len])),
         Err(wrong) => Err(fault_and_index(text, wrong)),

@@ -36,13 +36,13 @@ fn component_at(text: &[u8], place: usize) -> usize {
     count_below(&text[..place], b'0')
 }
 
-/// The error of a text, and the index of its component, which says nothing for `Length`.
+/// The error of a text, and the index of its component, which `Length` has not.
 #[inline(always)]
-pub(crate) fn fault_and_index(text: &[u8], wrong: Wrong) -> (Error, usize) {
+pub(crate) fn fault_and_index(text: &[u8], wrong: Wrong) -> (Error, Option<usize>) {
     let (fault, place) = fault_of(text, wrong);
     let index = match fault {
-        Error::Length => 0,
-        _ => component_at(text, place),
+        Error::Length => None,
+        _ => Some(component_at(text, place)),
     };
     (fault, index)
 }
@@ -133,8 +133,8 @@ const fn read_component(text: &[u8], start: usize) -> result::Result<(Arc, usize
     if start >= text.len() {
         return Err(start);
     }
-    // One subtraction and one comparison, of words of the machine. There are no calls here, since each costs the compiler
-    // in a constant.
+    // One subtraction and one comparison, of words of the machine. There are no calls here, since each costs the
+    // compiler in a constant.
     let first = (text[start] as usize).wrapping_sub(b'0' as usize);
     if first > 9 {
         return Err(start);

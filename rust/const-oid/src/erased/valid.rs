@@ -66,8 +66,8 @@ fn five_end(octets: &[u8], start: usize) -> Result<usize> {
 }
 
 /// Whether five octets, of the subidentifier that begins at `start`, are a number in its range. Numbers below 2^32 have
-/// a first digit below 16. Those from there to the greatest first subidentifier have the digits 16, 0, 0, 0 and one below
-/// 80.
+/// a first digit below 16. Those from there to the greatest first subidentifier have the digits 16, 0, 0, 0 and one
+/// below 80.
 // The number is not made, for less code: the row `from_bytes` of SPEED's sizes.
 #[inline(always)]
 fn is_in_range(octets: &[u8], start: usize) -> bool {

@@ -9,10 +9,14 @@ returns-in-Ok-clause-none c =
 
 pub returns-in-Err-clause-none : goal.returns-in-Err-clause-none
 returns-in-Err-clause-none c =
-    (λ none. absurd (cc), λ denoted. absurd (not_denoted (omega arith) c.in-Err.ensures.answer denoted.0 denoted.1))
+    let found = c.fault_and_index.ensures in
+    let other = not_length (omega arith) c.in-Err.ensures in (
+      λ none. absurd (other (sym found.fault ∙ rw none at found.index)),
+      λ denoted. absurd (not_denoted (omega arith) c.in-Err.ensures.answer denoted.0 denoted.1),
+    )
 
 pub returns-in-Err-clause-index : goal.returns-in-Err-clause-index
 returns-in-Err-clause-index c =
-    let is = c.in-Err.ensures in
     let found = c.fault_and_index.ensures in
-    found.index (λ same. not_length (omega arith) is (sym found.fault ∙ same)) ∙ wrong_at (omega arith) is
+    let at = wrong_at (omega arith) c.in-Err.ensures in
+    grind (arith, at)
