@@ -29,7 +29,7 @@ pub fn sum(side: &str, row: &str, count: u32, times: usize) -> usize {
     let rows: Vec<_> = (0..count).map(|index| (item(row, index), name(row, index))).collect();
     let entries: Vec<_> = rows.iter().map(|(oid, name)| (oid, &**name)).collect();
     let lent: Vec<_> = entries.iter().map(|(oid, name)| (oid.as_oid_ref(), *name)).collect();
-    let (scanned, mut memory) = (Database::new(&entries), vec![0; 8 * entries.len()]);
+    let (scanned, mut memory) = (Database::new(&entries), vec![0; 6 * entries.len()]);
     let (indexed, sorted) = (scanned.indexed(&mut memory), SortedDatabase::try_new(&lent).unwrap());
     let map = || entries.iter().copied().collect::<Map<_, _>>();
     let (oids, names) = (map(), entries.iter().map(|(oid, name)| (*name, *oid)).collect::<Map<_, _>>());
@@ -39,7 +39,7 @@ pub fn sum(side: &str, row: &str, count: u32, times: usize) -> usize {
         ("scanned", "by_name" | "long" | "one_slot") => &|_, name| scanned.by_name(name).map(last),
         ("indexed", "by_name" | "long" | "one_slot") => &|_, name| indexed.by_name(name).map(last),
         ("map", "by_name" | "long" | "one_slot") => &|_, name| names.get(name).map(|oid| last(oid)),
-        ("indexed", "made") => &|_, _| Some(scanned.indexed(&mut vec![0; 8 * entries.len()]).len()),
+        ("indexed", "made") => &|_, _| Some(scanned.indexed(&mut vec![0; 6 * entries.len()]).len()),
         ("map", "made") => &|_, _| Some(map().len()),
         ("scanned", _) => &|oid, _| scanned.by_oid(oid).map(str::len),
         ("indexed", _) => &|oid, _| indexed.by_oid(oid).map(str::len),

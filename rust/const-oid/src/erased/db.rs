@@ -53,7 +53,7 @@ impl<'a> Database<'a> {
     /// The database with an index in lent memory: a lookup reads a few entries, and not all, and returns the same, for as
     /// long as the memory is lent.
     ///
-    /// For n entries, from three on, 4n numbers are a good length, and 8n find names in a large table faster. With fewer
+    /// For n entries, from three on, 4n numbers are a good length, and 6n find names in a large table faster. With fewer
     /// than 3n + 3 there is no index by name, and with n or fewer none at all. Over 65,535 entries have no index: sort
     /// them, and take [`SortedDatabase`]. An index that the database has, as `DB` does, stays if it is no shorter. None
     /// is made in which some lookup would read over a quarter of the entries and two: a scan is faster.
