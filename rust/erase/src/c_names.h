@@ -23,11 +23,11 @@
  * octets count. So initialize the array by numbers, since a string literal adds a zero at its end. Of a buffer that is
  * filled in part, give the pointer, and the `len` of the status. */
 #ifdef __cplusplus
-#define CONST_OID_OCTETS(constant) reinterpret_cast<const uint8_t *>("" constant ""), sizeof("" constant "") - 1
+#define CONST_OID_BYTES(text) reinterpret_cast<const uint8_t *>(text)
 #define CONST_OID_ARRAY(array) (array), sizeof(const_oid_array(array))
 extern "C++" template <size_t N> char (&const_oid_array(const uint8_t (&array)[N]))[N];
 #else
-#define CONST_OID_OCTETS(constant) (const uint8_t *)("" constant ""), sizeof("" constant "") - 1
+#define CONST_OID_BYTES(text) (const uint8_t *)(text)
 #ifdef __GNUC__
 #define CONST_OID_ARRAY(array) (array), sizeof(char[__builtin_types_compatible_p( \
     __typeof__(array), uint8_t[]) ? (ptrdiff_t)sizeof(array) : -1])
@@ -35,6 +35,7 @@ extern "C++" template <size_t N> char (&const_oid_array(const uint8_t (&array)[N
 #define CONST_OID_ARRAY(array) (array), sizeof(array)
 #endif
 #endif
+#define CONST_OID_OCTETS(constant) CONST_OID_BYTES("" constant ""), sizeof("" constant "") - 1
 
 @CONSTANTS@
 #define CONST_OID_NAMES_COUNT @COUNT@
@@ -49,6 +50,22 @@ static const uint16_t const_oid_names_by_hash[@PLACES@] = {@BY_NAME@};
 
 /* The same by a hash of their octets. */
 static const uint16_t const_oid_octets_by_hash[@PLACES@] = {@BY_OCTETS@};
+
+/* Four bytes as a number. */
+static __inline uint32_t const_oid_word(const uint8_t *bytes) {
+    const uint32_t last = bytes[3];
+    return ((last << 8 | bytes[2]) << 8 | bytes[1]) << 8 | bytes[0];
+}
+
+/* A place by a hash of words, of which the last four bytes are one, or all of fewer. In all bytes these bits are set. */
+static __inline size_t const_oid_place(const uint8_t *bytes, size_t len, uint32_t bits) {
+    uint32_t hash = 0, word = 0;
+    size_t i;
+    for (i = 0; i + 4 < len; i += 4) hash = (hash ^ (const_oid_word(bytes + i) | bits)) * 2654435769u;
+    if (len >= 4) word = const_oid_word(bytes + len - 4);
+    else for (i = len; i > 0; i--) word = word << 8 | bytes[i - 1];
+    return (hash ^ (word | bits)) * 2654435769u >> @SHIFT@;
+}
 
 static __inline int const_oid_lower_case(char letter) {
     return letter >= 'A' && letter <= 'Z' ? letter + ('a' - 'A') : letter;
@@ -67,12 +84,10 @@ static __inline int const_oid_is_same_name(const char *left, const char *right) 
 /* The index of the first entry of the table that has a name, which is null-terminated, whatever the case of its
  * ASCII letters. CONST_OID_NAMES_COUNT if there is none. */
 CONST_OID_NODISCARD static __inline size_t const_oid_by_name(const char *name) {
-    const char *letter;
-    uint32_t hash = 2166136261u;
-    size_t index;
-    for (letter = name; *letter != 0; letter++) hash = (hash ^ (*letter & 31)) * 16777619u;
-    for (;; hash++) {
-        index = const_oid_names_by_hash[hash % @PLACES@];
+    size_t len = 0, place, index;
+    while (name[len] != 0) len++;
+    for (place = const_oid_place(CONST_OID_BYTES(name), len, 0x20202020u);; place++) {
+        index = const_oid_names_by_hash[place % @PLACES@];
         if (index == CONST_OID_NAMES_COUNT || const_oid_is_same_name(const_oid_names[index], name)) return index;
     }
 }
@@ -80,11 +95,9 @@ CONST_OID_NODISCARD static __inline size_t const_oid_by_name(const char *name) {
 /* The index of the first entry of an identifier, of its contents octets. CONST_OID_NAMES_COUNT if there is none, as for
  * invalid octets. */
 CONST_OID_NODISCARD static __inline size_t const_oid_name_of(const uint8_t *octets, size_t len) {
-    uint32_t hash = 2166136261u;
-    size_t i, index;
-    for (i = 0; i < len; i++) hash = (hash ^ octets[i]) * 16777619u;
-    for (;; hash++) {
-        index = const_oid_octets_by_hash[hash % @PLACES@];
+    size_t place, index;
+    for (place = const_oid_place(octets, len, 0);; place++) {
+        index = const_oid_octets_by_hash[place % @PLACES@];
         if (index == CONST_OID_NAMES_COUNT || (const_oid_name_octets[index].len == len
             && !CONST_OID_DIFFER(const_oid_name_octets[index].octets, octets, len))) return index;
     }

@@ -12,20 +12,21 @@ pub fn header(table: &str) -> String {
     by_place.sort();
     // At least one place is free.
     let places = (rows.len() + 1).next_power_of_two();
-    // The last five bits of a letter are those of both cases.
-    let by_name = by_place.iter().map(|(place, index)| (hash(rows[*place].name.bytes().map(|byte| byte & 31)), *index));
-    let by_octets = sorted.iter().enumerate().map(|(index, (_, row))| (hash(encoding(&row.arcs).into_iter()), index));
+    let shift = 32 - places.ilog2();
+    let by_name = by_place.iter().map(|(place, index)| (hash(rows[*place].name.as_bytes(), 32) >> shift, *index));
+    let by_octets = sorted.iter().enumerate().map(|(index, (_, row))| (hash(&encoding(&row.arcs), 0) >> shift, index));
     let constant = |row: &Row| format!("CONST_OID_{}_{}", row.module.to_uppercase(), row.constant);
     let define = |row: &Row| format!("#define {} \"{}\"\n", constant(row), octets(&row.arcs));
     let item = |row: &Row| format!("{{CONST_OID_OCTETS({})}},", constant(row));
     let name = |row: &Row| format!("{:?},", row.name);
-    let parts: [(&str, String); 8] = [
+    let parts: [(&str, String); 9] = [
         ("@COUNT@", rows.len().to_string()),
         ("@ZEROS@", rows.iter().filter(|row| encoding(&row.arcs).contains(&0)).count().to_string()),
         ("@CONSTANTS@", rows.iter().map(define).collect()),
         ("@OCTETS@", lines(sorted.iter().map(|entry| item(entry.1)))),
         ("@NAMES@", lines(sorted.iter().map(|entry| name(entry.1)))),
         ("@PLACES@", places.to_string()),
+        ("@SHIFT@", shift.to_string()),
         ("@BY_NAME@", by_hash(by_name, rows.len(), places)),
         ("@BY_OCTETS@", by_hash(by_octets, rows.len(), places)),
     ];
@@ -43,7 +44,12 @@ fn by_hash(hashes: impl Iterator<Item = (u32, usize)>, free: usize, places: usiz
     lines(by_hash.iter().map(|index| format!("{index},")))
 }
 
-/// The hash that `c_names.h` has: FNV-1a of 32 bits.
-fn hash(bytes: impl Iterator<Item = u8>) -> u32 {
-    bytes.fold(2_166_136_261, |hash, byte| (hash ^ u32::from(byte)).wrapping_mul(16_777_619))
+/// The hash that `c_names.h` has: of words of four bytes, of which the last may overlap. In all bytes these bits are set.
+fn hash(bytes: &[u8], bits: u8) -> u32 {
+    let last = bytes.len().saturating_sub(4);
+    let starts = (0..last).step_by(4).chain([last]);
+    starts.fold(0_u32, |hash, start| {
+        let octets = std::array::from_fn(|index| bytes.get(start + index).copied().unwrap_or(0) | bits);
+        (hash ^ u32::from_le_bytes(octets)).wrapping_mul(2_654_435_769)
+    })
 }
