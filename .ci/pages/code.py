@@ -51,7 +51,7 @@ def run_fault(command, text):
 
 def block_fault(page, language, text):
     """What of a block is in no source, or is not accepted."""
-    goes_on = language == "c" and page in RUN and "#include" not in text
+    goes_on = language == "c" and "cpp" in RUN.get(page, []) and "#include" not in text
     if goes_on or language in ("text", "cmake", *RUN.get(page, [])):
         return None
     if language in QUOTED:
