@@ -7,7 +7,8 @@ use Rattle.std.specs.Str.{str_eq_ignore_ascii_case, str_to_ascii_lowercase}
 use Rattle.std.proofs.lemmas.{Bool.{cases_Bool, cases_lt, Decides.nat_tests}, Grind.common_steps, Nat.{or_block, Bits.and_pow}}
 use Rattle.std.proofs.lemmas.{Slice.Eq.bytes_eq-Decides, Str.Ascii.lowercase_is}
 use Rattle.std.proofs.lemmas.List.{drop-map, length-map, map-append, take-map}
-use Rattle.const_oid.specs.Private.Links.{hash_step, hash_words, last_of, number_of, with_bits}
+use Rattle.const_oid.specs.Private.Links.{hash_step, hash_words}
+use Rattle.const_oid.specs.Private.Octets.{last_of, number_of, with_bits}
 
 abbrev more : ℕ → ℕ → ℕ
 more number byte = number * 256 + byte

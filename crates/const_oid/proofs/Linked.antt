@@ -5,7 +5,8 @@ use Rattle.std.specs.{List.{filter, find, position_or_len, slice_get, HoldsAt}}
 use Rattle.std.proofs.lemmas.{Bool.{cases_Bool, cases_eq, cases_lt, eqb-true, eq-eqb, ne_eqb}, Grind.common_steps, Nat.{div_below}}
 use Rattle.std.proofs.Math.Nat.{mul-lt-mul_of_pos_left}
 use Rattle.std.proofs.lemmas.List.{drop-drop, get_or-drop, get_or_default, length-drop, Sums.{passes_at_first, prefix_len-le-length}}
-use Rattle.const_oid.specs.Private.Links.{AreLinks, AreLinksFrom, IsInSlot, first_by, hash_of, in_slot, key_of, slot_of, with_bits}
+use Rattle.const_oid.specs.Private.Links.{AreLinks, AreLinksFrom, IsInSlot, first_by, hash_of, in_slot, key_of, slot_of}
+use Rattle.const_oid.specs.Private.Octets.{with_bits}
 use Rattle.const_oid.specs.declared.{db.Names.Names, links.Key.TheVariants.{Oid, Name}}
 use Rattle.const_oid.specs.declared.oid.ObjectIdentifier.{ObjectIdentifier}
 use Rattle.const_oid.specs.{Names.{Entry, has_arcs, has_name, lent_arcs}, Oid.{oid_arcs, oid_octets}}

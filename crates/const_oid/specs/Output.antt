@@ -22,7 +22,7 @@ abbrev pub Returns : List ℕ → List ℕ → Option (Bor (List ℕ)) → Type 
 Returns items old result = MatchOption result (length old < length items)
     (λ written. (written.now ≡ items) × (length items ≤ length old))
 
--- the encoding of the arcs that are read has this length and fits a capacity, and an output of it begins so
+-- the encoding of the arcs that are read has this length and fits a capacity; an output with that room begins with it
 pub record IsEncodedIn (capacity : ℕ) (read : Result (List ℕ) Error) (old new : List ℕ) (len : ℕ) : Type 0 where
   pub octets : List ℕ
   pub encoding : IsEncoding root_rule (arcs_of_octets octets) octets

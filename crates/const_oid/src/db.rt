@@ -74,13 +74,13 @@ impl<'a> Database<'a> {
         }
     }
 
-    /// The database with an index in lent memory: a lookup reads a few entries, and not all, and returns the same, for as
-    /// long as the memory is lent.
+    /// The database with an index in lent memory: a lookup reads a few entries, and not all, and returns the same, for
+    /// as long as the memory is lent.
     ///
-    /// For n entries, from three on, 4n numbers are a good length, and 6n find names in a large table faster. With fewer
-    /// than 3n + 3 there is no index by name, and with n or fewer none at all. Over 65,535 entries have no index: sort
-    /// them, and take [`SortedDatabase`]. An index that the database has, as `DB` does, stays if it is no shorter. None
-    /// is made in which some lookup would read over a quarter of the entries and two: a scan is faster.
+    /// For n entries, from three on, 4n numbers are a good length, and 6n find names in a large table faster. With
+    /// fewer than 3n + 3 there is no index by name, and with n or fewer none at all. Over 65,535 entries have no index:
+    /// take [`SortedDatabase`] for identifiers. An index that the database has, as `DB` does, stays if it is no
+    /// shorter. None is made in which some lookup would read over a quarter of the entries and two: a scan is faster.
     /// [`is_indexed`](Self::is_indexed) tells.
     ///
     /// [`Database`] has an example.
@@ -89,8 +89,8 @@ impl<'a> Database<'a> {
         ensures kept { IsIndexed self.entry → IsIndexed result }
         ensures limit { 2 ^ 16 ≤ length (entries_of self.entry) → IsIndexed result → IsIndexed self.entry }
     {
-        // An index with a slot for every two entries is fast. If half of the memory is too short for one, all is for the
-        // index by identifier, which has more slots then.
+        // An index with a slot for every two entries is fast. If half of the memory is too short for one, all is for
+        // the index by identifier, which has more slots then.
         let len = if memory.len() / 3 > self.entries.len() {
             memory.len() / 2
         } else {

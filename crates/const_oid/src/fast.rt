@@ -1,5 +1,5 @@
 //! The fast forms: octets are counted, copied and compared many at once, and lists are searched by steps that grow.
-//! What other modules call has the contract of a plain loop, but for `same_start`, `word` and `half_word`.
+//! What other modules call has the contract of a plain loop, but for `same_start` and those of `words`.
 
 pub(crate) mod comparison;
 // Not in Rust, for less code: there, buffers copy by `parts::copy_by_octet`.

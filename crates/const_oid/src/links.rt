@@ -1,10 +1,11 @@
 //! Links between the entries of a table, so that a lookup reads only those of one slot, by a hash of what it looks for.
 //!
-//! There is a link for each entry, to the next one of its slot, and then one for each slot, to its first entry. If there
-//! is none, the link is the number of entries. In a table without links, a lookup reads all entries.
+//! There is a link for each entry, to the next one of its slot, and then one for each slot, to its first entry. If
+//! there is none, the link is the number of entries. In a table without links, a lookup reads all entries.
 
 ghost use Rattle.std.specs.Prelude.{◌≡◌, ◌+◌, ◌-◌, ◌^◌, ◌<◌, ◌≤◌, length, replicate, slice_index};
-ghost use Rattle.const_oid.specs.Private.Links.{AreLinks, hash_of, hash_step, key_of, slot_of, with_bits};
+ghost use Rattle.const_oid.specs.Private.Links.{AreLinks, hash_of, hash_step, key_of, slot_of};
+ghost use Rattle.const_oid.specs.Private.Octets.{with_bits};
 
 use crate::fast::words::{CASE, WORD_OCTETS, last_word};
 use crate::oid::Oid;
@@ -115,8 +116,8 @@ fn is_spread(links: &[u16], count: usize) -> bool {
     firsts.all(|first| has_at_most(links, count, *first as usize, count / 4 + 2))
 }
 
-/// Writes links of entries by a key to `memory`, and returns them. Returns `links` if `memory` is no longer than `links`
-/// or `entries`, if there are over 65,535 entries, or if the new links are not spread over the slots.
+/// Writes links of entries by a key to `memory`, and returns them. Returns `links` if `memory` is no longer than
+/// `links` or `entries`, if there are over 65,535 entries, or if the new links are not spread over the slots.
 pub(crate) fn links_in<'a>(
     entries: &[Entry<'_>],
     key: Key,

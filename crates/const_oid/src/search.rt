@@ -129,6 +129,7 @@ fn first_under<T: Contents>(items: &[T], last: usize, oid: &ObjectIdentifierRef<
 }
 
 /// Whether an item does not begin with an identifier. The first octet of a short one is compared first.
+#[inline(never)]
 fn is_outside<T: Contents>(item: &T, oid: &ObjectIdentifierRef<'_>) -> bool
     ensures { IsFalse result ↔ BeginsWith (T.octets_of item.now) (ref_octets oid.now) }
 {
@@ -137,6 +138,7 @@ fn is_outside<T: Contents>(item: &T, oid: &ObjectIdentifierRef<'_>) -> bool
 
 /// Whether an item begins with an identifier. The last octet is compared first, since neighbours mostly differ there.
 #[tactic(auto, using(crate::proofs::BeginsWith::begins_iff))]
+#[inline(never)]
 fn is_under<T: Contents>(item: &T, oid: &ObjectIdentifierRef<'_>) -> bool
     ensures { IsTrue result ↔ BeginsWith (T.octets_of item.now) (ref_octets oid.now) }
 {

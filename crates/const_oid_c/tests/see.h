@@ -1,4 +1,4 @@
-/* What the programs of this folder share: SEE(fact, number) ends the process where a fact is not true, and names both. */
+/* What the programs of this folder share: SEE(fact, number) ends the process where a fact is not true, and names it. */
 #include "const_oid.h"
 
 #include <stdio.h>

@@ -147,7 +147,7 @@ fn links_are_made_where_they_help() {
     let (had, mut memory) = ([8; 41], [0; 6_000]);
     for (names, before, len, made) in [
         ("aAaAefgh", 0, 80, 40),
-        ("aaaaafgh", 0, 80, 0),
+        ("[{[{[fgh", 0, 80, 0),
         ("abcdefgh", 0, 26, 0),
         ("abcdefgh", 39, 80, 40),
         ("abcdefgh", 40, 80, 40),

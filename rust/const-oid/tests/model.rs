@@ -426,8 +426,9 @@ fn check_methods<T: Copy + Debug + Ord>(given: &(impl Iterator<Item = T> + Clone
     );
 }
 
-/// How many arcs are left, at each of them: no fewer than a fifth of the octets that are left, or of those before the last
-/// eight and what ends in these, and no more than the octets, besides the second arc, which the first octets hold, too.
+/// How many arcs are left, at each of them: no fewer than a fifth of the octets that are left, or of those before the
+/// last eight and what ends in these, and no more than the octets, besides the second arc, which the first octets hold,
+/// too.
 fn check_left(mut arcs: Arcs<'_>, octets: &[u8]) {
     let ends = octets.iter().enumerate().filter(|(_, octet)| **octet < 0x80).map(|(index, _)| index + 1);
     let firsts = [(octets.len(), 1), (octets.len() - ends.clone().next().unwrap(), 1)];

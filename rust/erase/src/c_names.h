@@ -57,7 +57,7 @@ static __inline uint32_t const_oid_word(const uint8_t *bytes) {
     return ((last << 8 | bytes[2]) << 8 | bytes[1]) << 8 | bytes[0];
 }
 
-/* A place by a hash of words, of which the last four bytes are one, or all of fewer. In all bytes these bits are set. */
+/* A place by a hash of words, of which the last four bytes are one, or all of fewer. In each byte `bits` are set. */
 static __inline size_t const_oid_place(const uint8_t *bytes, size_t len, uint32_t bits) {
     uint32_t hash = 0, word = 0;
     size_t i;
@@ -94,7 +94,7 @@ CONST_OID_NODISCARD static __inline size_t const_oid_by_name(const char *name) {
 
 /* The index of the first entry of an identifier, of its contents octets. CONST_OID_NAMES_COUNT if there is none, as for
  * invalid octets. */
-CONST_OID_NODISCARD static __inline size_t const_oid_name_of(const uint8_t *octets, size_t len) {
+CONST_OID_NODISCARD CONST_OID_READS(1, 2) static __inline size_t const_oid_name_of(const uint8_t *octets, size_t len) {
     size_t place, index;
     for (place = const_oid_place(octets, len, 0);; place++) {
         index = const_oid_octets_by_hash[place % @PLACES@];

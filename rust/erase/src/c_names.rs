@@ -44,7 +44,7 @@ fn by_hash(hashes: impl Iterator<Item = (u32, usize)>, free: usize, places: usiz
     lines(by_hash.iter().map(|index| format!("{index},")))
 }
 
-/// The hash that `c_names.h` has: of words of four bytes, of which the last may overlap. In all bytes these bits are set.
+/// The hash that `c_names.h` has: of words of four bytes, of which the last may overlap. In each byte `bits` are set.
 fn hash(bytes: &[u8], bits: u8) -> u32 {
     let last = bytes.len().saturating_sub(4);
     let starts = (0..last).step_by(4).chain([last]);

@@ -72,6 +72,7 @@ pub const CRATES: &[Crate] = &[
             "oid_ref": "fn cmp(&self, other: &Self) -> Ordering { order(self.as_bytes(), other.as_bytes()) }"
                 => "#[inline]\nfn cmp(&self, other: &Self) -> Ordering {\n self.ber.cmp(&other.ber)\n }", BY_CORE;
             "oid_ref": "fn partial_cmp" => "#[inline]\nfn partial_cmp", "as above, where a caller is compiled without LTO";
+            "search*": "#[inline(never)] fn" => "fn", "a search takes fewer instructions, and more octets of code";
             "oid": "impl ObjectIdentifierRef<'_>" => "impl ObjectIdentifierRef", UNSIZED;
             "oid": "pub const fn eq_oid" => "pub(crate) const fn eq_oid", "public as `==`";
             "oid_ref": "pub fn text_from_bytes" => "pub(crate) fn text_from_bytes", FOR_C;

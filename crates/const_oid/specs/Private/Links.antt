@@ -1,31 +1,17 @@
 -- Links between the entries of a table, by a hash.
-use Rattle.std.specs.Prelude.{◌≡◌, ℕ, ◌+◌, ◌-◌, ◌*◌, ◌/◌, ◌%◌, ◌^◌, ◌<◌, ◌≤◌, Bool, true, List, [], ◌∷◌, ◌++◌, if◌then◌else◌}
-use Rattle.std.specs.Prelude.{drop, length, map, nat_eq, nat_lt, slice_index, take}
+use Rattle.std.specs.Prelude.{◌≡◌, ℕ, ◌+◌, ◌-◌, ◌*◌, ◌/◌, ◌%◌, ◌^◌, ◌<◌, ◌≤◌, Bool, true, List, [], ◌∷◌}
+use Rattle.std.specs.Prelude.{drop, length, nat_eq, slice_index}
 use Rattle.std.specs.Borrow.{Bor}
-use Rattle.std.specs.List.{fold, position_or_len, HoldsAt}
+use Rattle.std.specs.List.{position_or_len, HoldsAt}
 use Rattle.std.specs.Int.{w64, rotate_left}
-use Rattle.std.specs.Int.RustNames.{bit_or, bit_xor}
+use Rattle.std.specs.Int.RustNames.{bit_xor}
 use Rattle.const_oid.specs.declared.{links.Key.{Key, TheVariants.{Oid, Name}}, oid.ObjectIdentifier.ObjectIdentifier}
 use Rattle.const_oid.specs.Oid.{oid_octets}
-
--- bytes in which bits are set
-abbrev pub with_bits : ℕ → List ℕ → List ℕ
-with_bits bits bytes = map (λ byte. bit_or byte bits) bytes
-
--- the number of bytes, the first the most significant
-abbrev pub number_of : List ℕ → ℕ
-number_of bytes = fold (λ number byte. number * 256 + byte) 0 bytes
+use Rattle.const_oid.specs.Private.Octets.{last_of, number_of, with_bits}
 
 -- a hash and a word more
 abbrev pub hash_step : ℕ → ℕ → ℕ
 hash_step hash word = (bit_xor (rotate_left w64 hash 23) word * 11400714819323198485) % 2 ^ 64
-
--- the last word: the last eight bytes, of fewer the first four and the last four, or all of fewer than four
-abbrev pub last_of : List ℕ → List ℕ
-last_of bytes =
-    if nat_lt (length bytes) 4 then bytes
-    else if nat_lt (length bytes) 8 then take 4 bytes ++ drop (length bytes - 4) bytes
-    else drop (length bytes - 8) bytes
 
 -- a hash and words of eight bytes more, while more bytes follow
 unfoldable pub hash_words : ℕ → List ℕ → ℕ

@@ -1,6 +1,6 @@
 -- Octets as they are read and written, one subidentifier after another.
 use Rattle.std.specs.Prelude.{◌≡◌, ℕ, ◌+◌, ◌<◌, ◌≤◌, List, [], ◌∷◌, ◌++◌, length, map, take, drop, Option, None}
-use Rattle.std.specs.Prelude.{Result, MatchResult, ◌==◌, if◌then◌else◌, Some, ◌^◌}
+use Rattle.std.specs.Prelude.{Result, MatchResult, ◌==◌, if◌then◌else◌, Some, ◌^◌, ◌-◌, ◌*◌, nat_lt}
 use Rattle.std.specs.declared.cmp.Ordering.{Ordering}
 use Rattle.std.specs.Option.{option_or}
 use Rattle.std.specs.Ordering.{nat_cmp}
@@ -12,6 +12,8 @@ use Rattle.const_oid.specs.Base128.{IsGroup, value_of, width}
 use Rattle.const_oid.specs.Identifier.{root_rule, max_arc}
 use Rattle.const_oid.specs.Contents.{cut, part_fault, later_fault, parts_fault, arcs_of_octets, max_first}
 use Rattle.std.specs.Int.{w64, to_be_bytes}
+use Rattle.std.specs.Int.RustNames.{bit_or}
+use Rattle.std.specs.List.{fold}
 
 -- the arcs that an iterator has left, by what comes next of the octets
 abbrev pub arcs_left : Next → List ℕ → List ℕ
@@ -77,3 +79,18 @@ bytes_of number = to_be_bytes w64 number
 pub record IsWord (octets : List ℕ) (at number : ℕ) : Type 0 where
   pub fits : number < 2 ^ 64
   pub value : bytes_of number ≡ take 8 (drop at octets)
+
+-- bytes in which bits are set
+abbrev pub with_bits : ℕ → List ℕ → List ℕ
+with_bits bits bytes = map (λ byte. bit_or byte bits) bytes
+
+-- the number of bytes, the first the most significant
+abbrev pub number_of : List ℕ → ℕ
+number_of bytes = fold (λ number byte. number * 256 + byte) 0 bytes
+
+-- the last word: the last eight bytes, of fewer the first four and the last four, or all of fewer than four
+abbrev pub last_of : List ℕ → List ℕ
+last_of bytes =
+    if nat_lt (length bytes) 4 then bytes
+    else if nat_lt (length bytes) 8 then take 4 bytes ++ drop (length bytes - 4) bytes
+    else drop (length bytes - 8) bytes

@@ -2,8 +2,7 @@
 
 ghost use Rattle.std.specs.Prelude.{◌≡◌, ◌+◌, ◌<◌, ◌≤◌, length, take};
 ghost use Rattle.std.specs.Int.{to_be_bytes, w32};
-ghost use Rattle.const_oid.specs.Private.Links.{last_of, number_of, with_bits};
-ghost use Rattle.const_oid.specs.Private.Octets.{IsWord};
+ghost use Rattle.const_oid.specs.Private.Octets.{IsWord, last_of, number_of, with_bits};
 
 /// How many octets a word has.
 pub(crate) const WORD_OCTETS: usize = 8;
@@ -42,7 +41,7 @@ pub(crate) fn half_word(octets: &[u8]) -> u32
     }
 }
 
-/// The last eight octets, of fewer the first four and the last four, or all of fewer than four. In each the bits are set.
+/// The last eight octets, of fewer the first four and the last four, or all of fewer than four. In each, bits are set.
 #[inline(always)]
 pub(crate) const fn last_word<const BITS: u8>(octets: &[u8]) -> u64
     ensures { result ≡ number_of (last_of (with_bits BITS octets.now)) }
@@ -59,7 +58,7 @@ pub(crate) const fn last_word<const BITS: u8>(octets: &[u8]) -> u64
 
 /// The number of fewer than four octets.
 const fn few_octets<const BITS: u8>(octets: &[u8]) -> u64
-    requires { length octets.now < 4 }
+    requires { length octets.now < HALF_OCTETS }
     ensures { result ≡ number_of (with_bits BITS octets.now) }
 {
     match octets {

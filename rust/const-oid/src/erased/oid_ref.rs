@@ -153,8 +153,6 @@ impl ObjectIdentifierRef {
     /// let oid = const_oid::ObjectIdentifierRef::from_bytes(&[0x88, 0x37, 0x03])?;
     /// assert!(oid.arcs().eq([2, 999, 3]));
     /// assert_eq!((oid.len(), oid.arc(2), oid.arc(3)), (3, Some(3), None));
-    /// let mut arcs = Vec::with_capacity(oid.len()); // `collect` would not know how many there are
-    /// arcs.extend(oid.arcs());
     /// # Ok::<(), const_oid::Error>(())
     /// ```
     #[must_use]

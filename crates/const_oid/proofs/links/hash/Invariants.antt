@@ -1,5 +1,6 @@
 use Rattle.std.proofs.Common.{◌≡◌, length}
-use Rattle.const_oid.specs.Private.Links.{hash_words, with_bits}
+use Rattle.const_oid.specs.Private.Links.{hash_words}
+use Rattle.const_oid.specs.Private.Octets.{with_bits}
 use Rattle.const_oid.proofs.links.hash.Given as goal
 
 abbrev pub invariant-loop-left : goal.invariant-loop-left

@@ -31,7 +31,7 @@ pub(crate) const fn half_word(octets: &[u8]) -> u32 {
     }
 }
 
-/// The last eight octets, of fewer the first four and the last four, or all of fewer than four. In each the bits are set.
+/// The last eight octets, of fewer the first four and the last four, or all of fewer than four. In each, bits are set.
 #[inline(always)]
 pub(crate) const fn last_word<const BITS: u8>(octets: &[u8]) -> u64 {
     let bits = u64::from_be_bytes([BITS; 8]);

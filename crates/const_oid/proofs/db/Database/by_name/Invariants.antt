@@ -1,7 +1,8 @@
 use Rattle.std.proofs.Common.{◌-◌, length}
 use Rattle.const_oid.specs.Names.{has_name}
 use Rattle.const_oid.specs.declared.links.Key.TheVariants.{Name}
-use Rattle.const_oid.specs.Private.Links.{key_of, with_bits}
+use Rattle.const_oid.specs.Private.Links.{key_of}
+use Rattle.const_oid.specs.Private.Octets.{with_bits}
 use Rattle.const_oid.proofs.Linked.{Leads}
 use Rattle.const_oid.proofs.db.Database.by_name.Given as goal
 
