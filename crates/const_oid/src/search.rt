@@ -138,7 +138,6 @@ fn is_outside<T: Contents>(item: &T, oid: &ObjectIdentifierRef<'_>) -> bool
 
 /// Whether an item begins with an identifier. The last octet is compared first, since neighbours mostly differ there.
 #[tactic(auto, using(crate::proofs::BeginsWith::begins_iff))]
-#[inline(never)]
 fn is_under<T: Contents>(item: &T, oid: &ObjectIdentifierRef<'_>) -> bool
     ensures { IsTrue result ↔ BeginsWith (T.octets_of item.now) (ref_octets oid.now) }
 {
