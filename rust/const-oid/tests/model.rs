@@ -428,9 +428,8 @@ fn check_methods<T: Copy + Debug + Ord>(given: &(impl Iterator<Item = T> + Clone
     );
 }
 
-/// How many arcs are left, at each of them: no fewer than a fifth of the octets that are left, or of those before the
-/// last eight and what ends in these, and no more than the octets, besides the second arc, which the first octets hold,
-/// too.
+/// How many arcs are left, at each of them: at least a fifth of the octets that are left, or of those before the last
+/// eight and what ends in these, and at most the octets, besides the second arc, which the first octets hold, too.
 fn check_left(mut arcs: Arcs<'_>, octets: &[u8]) {
     let ends = octets.iter().enumerate().filter(|(_, octet)| **octet < 0x80).map(|(index, _)| index + 1);
     let firsts = [(octets.len(), 1), (octets.len() - ends.clone().next().unwrap(), 1)];
@@ -550,7 +549,10 @@ fn check_pair(a: &[u8], b: &[u8]) {
     let (Ok(i), Ok(j)) = (ObjectIdentifier::<255>::try_from(x), ObjectIdentifier::<255>::try_from(y)) else {
         return;
     };
-    check_order(&i, &j, a.len().cmp(&b.len()).then(a.cmp(b)));
+    let order = a.len().cmp(&b.len()).then(a.cmp(b));
+    check_order(&i, &j, order);
+    let few = [x, y].map(|oid| ObjectIdentifier::<3>::try_from(oid).ok());
+    assert!(few.contains(&None) || few[0].cmp(&few[1]) == order, "{a:02X?}, {b:02X?}");
     check_order(&ByArcs(i), &ByArcs(j), by_arcs);
     check_ends(i, j);
     check_ends(ByArcs(i), ByArcs(j));
