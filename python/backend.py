@@ -83,12 +83,12 @@ def _built(temporary):
 def _installed():
     """The same of an installed library."""
     paths = (_output("pkg-config", f"--variable={name}", "const_oid_c") for name in ("includedir", "libdir"))
-    include, folder = (" ".join(shlex.split(path)) for path in paths)  # a space has a backslash
+    include, folder = (path.rstrip("\n").replace("\\ ", " ") for path in paths)  # a space has a backslash
     return include, f"{folder}/libconst_oid_c.a"
 
 
-def _compile(target, config_settings):
-    """Compiles the extension module."""
+def _compiled(config_settings):
+    """The extension module."""
     settings = config_settings or {}
     is_installed = settings == {"library": "installed"}
     if settings and not is_installed:
@@ -99,8 +99,10 @@ def _compile(target, config_settings):
     flags = ["-std=c11", "-O2", "-fPIC", "-fno-plt", "-fvisibility=hidden", *shlex.split(os.environ.get("CFLAGS", ""))]
     with tempfile.TemporaryDirectory() as temporary:
         include, library = _installed() if is_installed else _built(temporary)
-        files = [f"-I{INCLUDE}", f"-I{include}", HERE / "src/native.c", library, "-o", target]
+        made = pathlib.Path(temporary, "made")
+        files = [f"-I{INCLUDE}", f"-I{include}", HERE / "src/native.c", library, "-o", made]
         _output(*COMPILER, *flags, *link, *files, *shlex.split(os.environ.get("LDFLAGS", "")))
+        return made.read_bytes()
 
 
 def _names():
@@ -140,25 +142,22 @@ def _write_wheel(folder, files):
 def build_wheel(wheel_directory, config_settings=None, metadata_directory=None):
     """Writes the wheel into a folder, and returns its name."""
     files = {f"const_oid/{name}": (HERE / "src/const_oid" / name).read_bytes() for name in SOURCES}
-    files["const_oid/names.tsv"] = _names().encode()
-    with tempfile.TemporaryDirectory() as folder:
-        extension = pathlib.Path(folder) / EXTENSION
-        _compile(extension, config_settings)
-        files[f"const_oid/{EXTENSION}"] = extension.read_bytes()
+    files |= {"const_oid/names.tsv": _names().encode(), f"const_oid/{EXTENSION}": _compiled(config_settings)}
     return _write_wheel(wheel_directory, files)
 
 
 def build_editable(wheel_directory, config_settings=None, metadata_directory=None):
     """Writes a wheel that leads to out/, where there are links to the sources, the extension module and the names."""
-    package = HERE / "out/const_oid"
-    with open(__file__, "rb") as lock:
-        fcntl.flock(lock, fcntl.LOCK_EX)  # one build at a time
+    package, extension = HERE / "out/const_oid", _compiled(config_settings)
+    package.parent.mkdir(exist_ok=True)
+    with open(package.parent / "lock", "wb") as lock:
+        fcntl.lockf(lock, fcntl.LOCK_EX)  # one build at a time
         shutil.rmtree(package, ignore_errors=True)
-        package.mkdir(parents=True)
+        package.mkdir()
         for name in SOURCES:
             (package / name).symlink_to(HERE / "src/const_oid" / name)
         (package / "names.tsv").write_text(_names(), encoding="utf-8")
-        _compile(package / EXTENSION, config_settings)
+        (package / EXTENSION).write_bytes(extension)
     return _write_wheel(wheel_directory, {"const_oid.pth": f"{package.parent}\n".encode()})
 
 

@@ -1,5 +1,5 @@
 /* The extension module const_oid._native, for the stable ABI of Python 3.11. An identifier holds its contents octets,
- * and const_oid.h computes each result. There is no state here, so each interpreter has its own module and type. */
+ * and const_oid.h computes all but equality and prefixes. No state is here: each interpreter has its own module. */
 #define Py_LIMITED_API 0x030B0000
 #include <Python.h>
 #include <const_oid.h>
@@ -206,7 +206,7 @@ static PyObject *from_element(PyObject *type, PyObject *given, int is_whole) {
 
 static PyObject *identifier_from_der(PyObject *type, PyObject *given) { return from_element(type, given, 1); }
 
-/* The rest of a memoryview is one, so that a loop over elements copies each of them once. */
+/* The rest of a memoryview of bytes in a row is one, so that a loop over elements copies each of them once. */
 static PyObject *identifier_read_der(PyObject *type, PyObject *given) {
     Py_buffer view;
     if (!PyMemoryView_Check(given)) return from_element(type, given, 0);
@@ -347,7 +347,7 @@ static PyObject *identifier_repr(PyObject *self) {
 }
 
 static PyObject *identifier_format(PyObject *self, PyObject *specification) {
-    if (!PyUnicode_Check(specification)) return PyErr_Format(PyExc_TypeError, "not a str: %R", specification);
+    if (!PyUnicode_Check(specification)) return wrong_type(self, "specification must be a str", specification);
     OWNED *text = PyObject_Str(self);
     return text ? PyObject_Format(text, specification) : NULL;
 }
@@ -383,12 +383,13 @@ static int identifier_contains(PyObject *self, PyObject *item) {
     return arcs ? PySequence_Contains(arcs, item) : -1;
 }
 
-/* An item of the tuple of arcs; its own error would speak of a tuple. */
+/* An item of the tuple of arcs; its own error would speak of a tuple. That of an index is raised again. */
 static PyObject *identifier_subscript(PyObject *self, PyObject *key) {
     PyObject *arcs = arcs_of(self), *result = arcs ? PyObject_GetItem(arcs, key) : NULL;
-    int is_own = !result && PyLong_Check(key) && PyErr_ExceptionMatches(PyExc_IndexError);
-    if (is_own) PyErr_SetString(PyExc_IndexError, "index out of range");
-    return result;
+    if (result || !PyIndex_Check(key) || !PyErr_ExceptionMatches(PyExc_IndexError)) return result;
+    PyErr_Clear();
+    OWNED *index = PyNumber_Index(key);
+    return index ? PyErr_Format(PyExc_IndexError, "index out of range") : NULL;
 }
 
 /* PySequence_GetItem has added the length to a negative index. */
@@ -402,17 +403,17 @@ static PyObject *identifier_iter(PyObject *self) {
     return arcs ? PyObject_GetIter(arcs) : NULL;
 }
 
-/* A ValueError may be that of a comparison, which is then raised again. */
+/* A ValueError may be that of a comparison or of a bound, which is then raised again. */
 static PyObject *identifier_index(PyObject *self, PyObject *arguments) {
-    PyObject *arcs = arcs_of(self), *arc;
+    PyObject *arcs = arcs_of(self), *arc = NULL, *start = NULL, *stop = NULL;
     OWNED *method = attribute(arcs, "index");
     PyObject *index = method ? PyObject_CallObject(method, arguments) : NULL;
-    if (!index && PyErr_ExceptionMatches(PyExc_ValueError)) {
-        PyErr_Clear();
-        arc = PyTuple_GetItem(arguments, 0);
-        if (PySequence_Contains(arcs, arc) >= 0) PyErr_Format(PyExc_ValueError, "%R is not among the arcs", arc);
-    }
-    return index;
+    if (index || !PyErr_ExceptionMatches(PyExc_ValueError)) return index;
+    PyErr_Clear();
+    if (!PyArg_UnpackTuple(arguments, "index", 1, 3, &arc, &start, &stop)) return NULL;
+    OWNED *bounds = PySlice_New(start, stop, NULL), *part = bounds ? PyObject_GetItem(arcs, bounds) : NULL;
+    int is_own = part && PySequence_Contains(part, arc) >= 0;
+    return is_own ? PyErr_Format(PyExc_ValueError, "%R is not among the arcs", arc) : NULL;
 }
 
 static PyObject *identifier_count(PyObject *self, PyObject *arc) {
@@ -500,7 +501,7 @@ static PyMethodDef identifier_methods[] = {
     {"read_der", identifier_read_der, METH_O | METH_CLASS,
         "read_der($type, octets, /)\n--\n\n"
         "Decodes the element that octets begin with, and returns the identifier and the octets after it. Those of a\n"
-        "memoryview are another one and no copy, so that a loop takes linear time.\n\n"
+        "contiguous memoryview of bytes are another one and no copy, so that a loop takes linear time.\n\n"
         ">>> ObjectIdentifier.read_der(b\"\\x06\\x03\\x2a\\x86\\x48\\x05\\x00\")\n"
         "(ObjectIdentifier('1.2.840'), b'\\x05\\x00')"},
     {"from_arcs", identifier_from_arcs, METH_O | METH_CLASS,

@@ -1,5 +1,4 @@
 """const_oid.names and SortedMap, beside tables of tuples."""
-import contextlib
 import copy
 import itertools
 import operator
@@ -13,6 +12,7 @@ from collections.abc import MutableMapping
 from unittest import mock
 
 from const_oid import ObjectIdentifier, SortedMap, names, sorted_map
+from test_memory import _testcapi
 from test_values import copies_of, error_of, seconds
 
 ROWS = pathlib.Path(__file__).resolve().parents[2] / "rust/const-oid/src/db/names.rs"
@@ -38,8 +38,7 @@ class Names(unittest.TestCase):
                 self.assertEqual(oid, names.by_name(given), given)
 
     def test_others_are_not_found(self):
-        oid = ObjectIdentifier("2.999")
-        self.assertEqual((None, ()), (names.name_of(oid), names.names_of(oid)))
+        self.assertEqual((None, ()), (names.name_of(oid := ObjectIdentifier("2.999")), names.names_of(oid)))
         # The Kelvin sign is a k in lower case, but no ASCII letter.
         for name in ("", "no name", "sha256 ", "ba\u212ae", "\ud800"):
             self.assertIsNone(names.by_name(name), name)
@@ -69,20 +68,23 @@ class Attributes(SortedMap):
     __slots__ = ("__dict__", "slot")
 
 
-def is_interrupted(number, call, table):
-    """Whether a call is interrupted, as by Ctrl-C, before this instruction of sorted_map.py, which ends the trace."""
+def is_interrupted(number, is_memory, call, table):
+    """Whether a call is ended, as by Ctrl-C, at this instruction of sorted_map.py, or lacks memory from there, once."""
     left = itertools.count(-number)
 
     def trace(frame, event, _):
         frame.f_trace_opcodes = frame.f_code.co_filename == sorted_map.__file__
         if frame.f_trace_opcodes and event == "opcode" and next(left) == 0:
-            raise KeyboardInterrupt
+            sys.settrace(None)
+            _testcapi.set_nomemory(0, 1) if is_memory else sys.exit()
         return trace
 
-    with contextlib.suppress(KeyboardInterrupt):
+    try:
         sys.settrace(trace)
         call(table)
-    sys.settrace(None)
+    except (SystemExit, MemoryError, SystemError):  # Python 3.13 may lose a MemoryError
+        pass
+    sys.settrace(_testcapi and _testcapi.remove_mem_hooks())
     return next(left) > 0
 
 
@@ -128,8 +130,7 @@ class Sorted(unittest.TestCase):
         self.assertLessEqual(max(map(len, found._keys._parts), default=0), 2 * sorted_map.PART)
 
     def test_a_map_is_a_mutable_mapping(self):
-        oid = ObjectIdentifier("2.5")
-        table = SortedMap({oid: 1})
+        table = SortedMap({(oid := ObjectIdentifier("2.5")): 1})
         self.assertIsInstance(table, MutableMapping)
         self.assertEqual(({oid: 1}, table), (table, SortedMap([(oid, 1)])))
         for call in (table.__getitem__, table.__delitem__):
@@ -143,8 +144,7 @@ class Sorted(unittest.TestCase):
         table[oid.child(1)] = table
         self.assertEqual(f"SortedMap({{{oid!r}: 1, {oid.child(1)!r}: {{...}}}})", repr(table))
         del table[oid.child(1)]
-        self.assertEqual((oid, 1), table.popitem())
-        self.assertIs(KeyError, type(error_of(table.popitem)))
+        self.assertEqual(((oid, 1), KeyError), (table.popitem(), type(error_of(table.popitem))))
 
     def test_copies_are_apart(self):
         """A map is no part of what it was made from, nor of its copies, which have the attributes of a subclass."""
@@ -163,8 +163,7 @@ class Sorted(unittest.TestCase):
         table.name = table
         self.assertIs((again := copy.deepcopy(table)), again.name)
         table[other] = 4
-        self.assertEqual({one: [1]}, source)
-        self.assertEqual([one, other], list(table))
+        self.assertEqual(({one: [1]}, [one, other]), (source, list(table)))
 
     def test_a_change_ends_an_iteration(self):
         """Keys that come or go while a map is iterated are an error, as with dict, after its last key, too."""
@@ -191,17 +190,17 @@ class Sorted(unittest.TestCase):
         self.assertEqual([3, 3], list(table.values()))
 
     def test_a_change_is_done_or_not(self):
-        """A change that is interrupted at any place leaves a map as before, or has all."""
+        """A change that is interrupted, or lacks memory, at any place leaves a map as before, or has all."""
         keys = [ObjectIdentifier(f"2.{arc}") for arc in range(40)]
         start, few = dict.fromkeys(keys[::2], 0), dict.fromkeys(keys[1:5], 1)
         changes = [SortedMap.clear, SortedMap.popitem, lambda table: table.setdefault(keys[1], 1)]
         changes += [lambda table: table.update(few), lambda table: operator.ior(table, dict.fromkeys(keys[:9], 1))]
         changes += [lambda table: table.__init__(few), lambda table: table.pop(keys[2])]
-        for change, part in itertools.product(changes, (3, 1000)):
+        for change, part, is_memory in itertools.product(changes, (3, 1000), {False, bool(_testcapi)}):
             self.enterContext(mock.patch.object(sorted_map, "PART", part))
             change(after := SortedMap(start))
             for number in itertools.count():
-                is_whole = not is_interrupted(number, change, table := SortedMap(start))
+                is_whole = not is_interrupted(number, is_memory, change, table := SortedMap(start))
                 wanted = after if is_whole or len(table) != len(start) or table != start else start
                 self.assertEqual((len(wanted), sorted(wanted.items())), (len(table), list(table.items())))
                 if is_whole:
@@ -209,8 +208,7 @@ class Sorted(unittest.TestCase):
 
     def test_maps_join(self):
         one, other = {ObjectIdentifier("2.5"): 1}, {ObjectIdentifier("2.4"): 2, ObjectIdentifier("2.5"): 3}
-        table = SortedMap(one)
-        both = {**one, **other}
+        table, both = SortedMap(one), {**one, **other}
         for joined, wanted in ((table | other, both), (other | table, other | one), (table | SortedMap(other), both)):
             self.assertIs(SortedMap, type(joined))
             self.assertEqual(wanted, joined)
@@ -238,6 +236,7 @@ class Sorted(unittest.TestCase):
         entries = {ObjectIdentifier(f"1.3.6.1.2.1.{draw.getrandbits(32)}.{arc}"): arc for arc in range(50_000)}
         calls = {
             "update": (3, lambda table: SortedMap().update(entries)),
+            "small updates": (1, lambda table: [table.update({key.child(0): 1}) for key in list(entries)[:1000]]),
             "clear": (1, lambda table: table.clear()),
             "|": (3, lambda table: table | {ObjectIdentifier("2.5"): 1}),
             "subtree": (3, lambda table: table.subtree(ObjectIdentifier("1.3"))),

@@ -4,6 +4,7 @@ import collections.abc
 import concurrent.futures
 import copy
 import copyreg
+import csv
 import ctypes
 import importlib
 import itertools
@@ -85,8 +86,7 @@ def index(call=int):
 
 
 # What raises an IndexError where it is read, and a ValueError where it is compared.
-OWN = {"__index__": lambda _: ()[0], "__eq__": lambda *_: int("x"), "__hash__": object.__hash__}
-RAISING = type("Raising", (), OWN)()
+RAISING = type("Raising", (), {"__index__": lambda _: ()[0], "__eq__": lambda *_: int("x")})()
 
 # Errors of Python: their type, what they say if it is of this package, the call and its inputs.
 OF_OTHERS = [("cryptography.x509", "dotted_string", "its .dotted_string"), ("asn1crypto.core", "dotted", "its .dotted")]
@@ -94,9 +94,10 @@ REJECTED = [
     (TypeError, "", ObjectIdentifier, [b"1.2", None, 1, 1.2, ("1", "2")]),
     (TypeError, "", from_bytes, ["2.999", None, 42, [42, 3], OID, array.array("B", [42])]),
     (TypeError, "", from_der, ["2.999", None, 42, [6, 1, 42], OID, array.array("B", [6, 1, 42])]),
-    (TypeError, "", from_arcs, ["12", b"\1\2", bytearray(b"\1"), memoryview(b"\1\2"), None, 1, [1, "2"], [1.0, 2]]),
-    (TypeError, "", from_arcs, [{1: 2, 2: 3}, *((1, 2**32, arc) for arc in ("3", 2.0, None))]),
-    (TypeError, "", OID.__format__, [5, b"", None]),
+    (TypeError, "", from_arcs, ["", "12", b"\1\2", bytearray(b"\1"), memoryview(b"\1\2"), None, 1, [1, "2"]]),
+    (TypeError, "", from_arcs, [{1: 2, 2: 3}, [1.0, 2], *((1, 2**32, arc) for arc in ("3", 2.0, None))]),
+    (TypeError, "", OID.__format__, [b"", None]),
+    (TypeError, "specification must be a str, not int", OID.__format__, [5]),
     (TypeError, "", OID.child, ["1", 1.0, None, OID]),
     (TypeError, "", OID.starts_with, ["1.2", b"\x2a", None, (1, 2)]),
     (TypeError, "", OID.__getitem__, ["1", None, 1.0]),
@@ -121,9 +122,10 @@ REJECTED = [
     (ValueError, "an arc is negative", OID.child, [-(10**5000)]),
     (ValueError, "3 is not among the arcs", OID.index, [3]),
     (ValueError, "2 is not among the arcs", lambda stop: OID.index(2, 0, stop), [1]),
-    (IndexError, "index out of range", lambda index: OID[index], [6, -7, 10**50]),
+    (IndexError, "index out of range", lambda index: OID[index], [6, -7, 10**50, index()]),
     *((IndexError, "tuple index out of range", call, [RAISING]) for call in (OID.__getitem__, OID.child)),
     *((ValueError, "invalid literal for int() with base 10: 'x'", call, [RAISING]) for call in (OID.index, OID.count)),
+    (ValueError, "0 is not in list", lambda start: OID.index(3, start), [index(lambda: [].index(0))]),
     (OverflowError, "a number has 32 bits", lambda numbers: OidError(*numbers),
         [(4, 2**32 + 120), (4, -1), (2**32 + 4, 120), (-1, 0)]),
     (OverflowError, "", lambda detail: OidError(4, detail), [2**64 + 120]),
@@ -357,7 +359,7 @@ class Values(unittest.TestCase):
 
     def test_no_other_value_is_equal_or_ordered(self):
         for other in (str(OID), OCTETS, OID.arcs, None):
-            self.assertEqual((False, True), (OID == other, OID != other))
+            self.assertEqual((False, True, {OID}), (OID == other, OID != other, {OID} - {other}))
             for order in (operator.lt, operator.le, operator.gt, operator.ge):
                 self.assertIs(TypeError, type(error_of(order, OID, other)))
 
@@ -393,7 +395,8 @@ class Values(unittest.TestCase):
             self.assertTrue(error or call(OID.arcs, *given) == own(OID, *given), given)
         self.assertEqual([1, 2, 10045, 840, 2, 1], list(reversed(OID)))
         self.assertIsInstance(OID, collections.abc.Sequence)
-        self.assertEqual([b"\x2a\x03", b"\1\2\3"], [kind(ObjectIdentifier("1.2.3")) for kind in (bytes, bytearray)])
+        oid, row = ObjectIdentifier("1.2.3"), csv.writer(mock.Mock(write=str.strip)).writerow
+        self.assertEqual((b"*\3", b"\1\2\3", "1,2,3", "1.2.3"), (bytes(oid), bytearray(oid), row(oid), row([oid])))
         for oid in (OID, Under(OID)):
             match oid, oid:
                 case [1, 2, 840, *rest], ObjectIdentifier((1, 2, *others)):
@@ -408,8 +411,7 @@ class Values(unittest.TestCase):
         self.assertEqual("said, said|  said", f"{said}, {said!s}|{said:>6}")
 
     def test_weak_references_end(self):
-        oid, seen = Under("2.999"), []
-        plain = ObjectIdentifier("2.5")
+        oid, plain, seen = Under("2.999"), ObjectIdentifier("2.5"), []
         references = [weakref.ref(oid, seen.append), weakref.ref(plain, seen.append)]
         self.assertEqual([oid, plain], [reference() for reference in references])
         del oid, plain

@@ -49,7 +49,7 @@ REFUSED = {
     FIRST + "the library const_oid_c, .* PKG_CONFIG_PATH":
         {"PKG_CONFIG_PATH": "/missing", "PKG_CONFIG_LIBDIR": "/missing"},
     FIRST + r"rustc 1\.85 or later \(https://rustup\.rs\)$": {"settings": None, "before": RUST.replace("?", "1.84.1")},
-    "'NoneType' object is not subscriptable$": {"settings": None, "before": RUST.replace("?", "1.100.0")},
+    "'NoneType' object is not subscriptable$": {"settings": None, "RUSTC": "", "before": RUST.replace("?", "1.100.0")},
     "\nconst-oid: .* --no-such-option -shared .* ends with status 1$": {"CFLAGS": "--no-such-option"},
     " -o .* --no-such-option ends with status 1$": {"LDFLAGS": "--no-such-option"},
 }
@@ -133,9 +133,9 @@ class Wheel(unittest.TestCase):
                 (source / stray).parent.mkdir(exist_ok=True)
                 (source / stray).touch()
             self.assertTrue(archive == built("build_sdist", python=source)[2])
-            if shutil.which("cargo"):
-                self.check_cargo(source, folder)
+            self.check_cargo(source, folder)
 
+    @unittest.skipUnless(shutil.which("cargo"), "cargo is not installed")
     def check_cargo(self, source, folder):
         """For this machine whatever the configuration says, in a new home, and not in the folder of the archive."""
         rustup = os.environ.get("RUSTUP_HOME", str(pathlib.Path.home() / ".rustup"))
@@ -159,25 +159,25 @@ class Wheel(unittest.TestCase):
         self.assertIn("#define Py_LIMITED_API 0x030B0000\n", said_by(*command, "-E", "-dM"))
         # Macros of a header are for its own Python, and so is a # in a format.
         source = (TOP / "python/src/native.c").read_text(encoding="utf-8")
-        self.assertNotRegex(source, r'Py_(X?(INC|DEC|SET)REF|CLEAR|RETURN_\w+)[(;]|"\w+#')
+        self.assertNotRegex(source, r'Py_(X?(INC|DEC|SET)REF|XNewRef|CLEAR|RETURN_\w+)[(;]|"[^"\n]*\w#')
         said_by(*command, "-Wall", "-Wextra", "-Werror", "-fsyntax-only")
 
     def test_the_flags(self):
         said = []
         output = {"_output": lambda *call: said.append(call) or "host: this\n", "_missing": lambda _: ()}
         with mock.patch.multiple(backend, **output), mock.patch.dict(os.environ, CFLAGS="-g", LDFLAGS="-L."):
-            backend._compile("made", None)
+            self.assertRaises(FileNotFoundError, backend._compiled, None)
         wanted = f"""{backend.RUSTC} -vV
-cargo build --quiet --release --locked --offline --target this --target-dir OUT --manifest-path {backend.CRATE}
+cargo build --quiet --release --locked --offline --target this --target-dir @ --manifest-path {backend.CRATE}
 {" ".join(backend.COMPILER)} -std=c11 -O2 -fPIC -fno-plt -fvisibility=hidden -g -shared -Wl,--exclude-libs,ALL -s \
--I{backend.INCLUDE} -I{backend.HEADER.parent} {TOP}/python/src/native.c OUT/this/release/libconst_oid_c.a -o made -L."""
+-I{backend.INCLUDE} -I{backend.HEADER.parent} {TOP}/python/src/native.c @/this/release/libconst_oid_c.a -o @/made -L."""
         folder = said[1][said[1].index("--target-dir") + 1]
-        self.assertEqual(wanted.replace("OUT", folder).split("\n"), [" ".join(map(str, call)) for call in said])
+        self.assertEqual(wanted.replace("@", folder).split("\n"), [" ".join(map(str, call)) for call in said])
 
     def test_a_library_below_a_space(self):
-        """The library may lie below a folder with a space, and CC be empty."""
+        """The library may lie below a folder with a space and an apostrophe, and CC be empty."""
         include, library = backend._installed()
-        with tempfile.TemporaryDirectory(prefix="a b") as folder:
+        with tempfile.TemporaryDirectory(prefix="a' b") as folder:
             paths = "libdir=${pcfiledir}\nincludedir=${pcfiledir}\nName: a\nDescription: a\nVersion: 1\n"
             pathlib.Path(folder, "const_oid_c.pc").write_text(paths, encoding="utf-8")
             list(map(shutil.copy, (library, f"{include}/const_oid.h"), 2 * [folder]))
@@ -197,7 +197,7 @@ class Build(unittest.TestCase):
                 self.assertRegex(said, text)
 
     def test_an_editable_install_sees_a_change(self):
-        """A change of a source is seen at once; the wheel has no file of the package. A checkout is needed."""
+        """A change of a source is seen at once, and a wrong setting removes nothing. The wheel leads to a checkout."""
         with tempfile.TemporaryDirectory() as folder:
             top = pathlib.Path(folder).resolve()
             shutil.copytree(TOP / "python", top / "python", ignore=shutil.ignore_patterns("out", "tests"))
@@ -215,6 +215,7 @@ class Build(unittest.TestCase):
                 both = [builds.submit(built, "build_editable", python=top / "python", before=slow) for _ in range(2)]
             (status, name, files), other = (one.result() for one in both)
             self.assertEqual((0, 0), (status, other[0]), (name, other[1]))
+            self.assertEqual(1, built("build_editable", {"library": "instaled"}, top / "python")[0])
             self.assertEqual(PACKAGE, set(os.listdir(top / "python/out/const_oid")))
             with zipfile.ZipFile(io.BytesIO(files[name])) as archive:
                 information = {name for name in FILES if "dist-info" in name}
@@ -224,14 +225,14 @@ class Build(unittest.TestCase):
                 source.write("\nCHANGED = name_of(ObjectIdentifier('2.5.4.3'))\n")
             run = ran("import const_oid; print(const_oid.names.CHANGED)", place)
             self.assertEqual(("cn\n", ""), (run.stdout, run.stderr))
-            self.assertEqual(["const_oid"], os.listdir(place))
+            self.assertEqual({"const_oid", "lock"}, set(os.listdir(place)))
 
     def test_wrong_modules_are_not_imported(self):
         """One over a library of another version, and one with the slot of 3.12. A compiler of two words makes them."""
         other = "static uint32_t other(void) { return 2 << 16 | 3; }\n#define const_oid_version other\n"
         wrong = {f"#include <const_oid.h>\n{other}": "ImportError: the library const_oid_c has version 2, not 1"}
         if sys.version_info < (3, 12):
-            python = "#define Py_LIMITED_API 0x030B0000\n#define PY_SSIZE_T_CLEAN\n#include <Python.h>\n"
+            python = "#define Py_LIMITED_API 0x030B0000\n#include <Python.h>\n"
             wrong[f"{python}#define Py_Version 0x030C0000\n"] = "module const_oid._native uses unknown slot ID 3"
         for header, text in wrong.items():
             with self.subTest(text), tempfile.TemporaryDirectory() as folder:

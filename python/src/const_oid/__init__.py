@@ -39,7 +39,7 @@ recursion limit with a RecursionError. An OCTET STRING with such contents is pas
 10 2.5.29.37
 19 1.3.6.1.5.5.7.3.1
 
-The library const_oid_c computes each result. Identifiers and functions are thread-safe.
+The library const_oid_c computes each result but equality and prefixes. Identifiers and functions are thread-safe.
 """
 
 from . import names

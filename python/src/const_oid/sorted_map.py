@@ -118,9 +118,7 @@ class SortedMap(MutableMapping[ObjectIdentifier, Value]):
         >>> table.clear(), table
         (None, SortedMap({}))
         """
-        self._keys = None
-        self._values.clear()
-        self._keys = _Keys(())
+        SortedMap.__init__(self)
 
     def update(self, entries: Entries[Key, Value] = (), /) -> None:  # type: ignore[override]
         """Sets all entries of a mapping or an iterable, or none if a key is no identifier.
@@ -130,14 +128,21 @@ class SortedMap(MutableMapping[ObjectIdentifier, Value]):
         >>> table
         SortedMap({ObjectIdentifier('2.4'): 3, ObjectIdentifier('2.5'): 2})
         """
-        others, keys = _checked(entries), self._keys or self._in_order()
-        values, added = self._values | others, [key for key in others if key not in self._values]
+        others, keys, values = _checked(entries), self._keys or self._in_order(), self._values
+        before = {key: values[key] for key in others if key in values}
+        new = iter(added := [key for key in others if key not in before])
         if 8 * len(added) > len(values):
             keys, added = _Keys([*keys, *added]), []
         self._keys = None
         for key in added:
             keys.add(key)
-        self._values = values
+        try:
+            values |= others
+        except BaseException:  # the dict may find no memory to grow, and undoing that takes none
+            values |= before
+            for key in new:
+                values.pop(key, None)
+            raise
         self._keys = keys
 
     def __or__(self, other: Mapping[Key, Value]) -> Self:
@@ -148,8 +153,7 @@ class SortedMap(MutableMapping[ObjectIdentifier, Value]):
     def __ror__(self, other: Mapping[Key, Value]) -> Self:
         if not isinstance(other, Mapping):
             return NotImplemented
-        result = self.copy()
-        result.clear()
+        (result := self.copy()).clear()
         return result | other | self
 
     def __ior__(self, other: Entries[Key, Value]) -> Self:
