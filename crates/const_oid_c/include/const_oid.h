@@ -18,7 +18,7 @@
  *   have a length and no zero byte at the end: print one with `%.*s`.
  * - Threads. Every function is thread-safe. While a call runs, no other thread may write its inputs or touch its
  *   output.
- * - Machines. The tests run on Linux with glibc on x86-64. At commit 71b07b9f, on 28 November 2026, they passed with
+ * - Machines. The tests run on Linux with glibc on x86-64. At commit 417bcdce, on 28 November 2026, they passed with
  *   musl, too, and on i686, and the rows on s390x. The proofs are for 64 bits. The library that Rattle builds needs
  *   x86-64-v2 (POPCNT, SSE4.1). The library needs no system: of the C library it calls memory functions, and cargo's
  *   build also abort.
