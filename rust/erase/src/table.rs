@@ -179,7 +179,7 @@ pub const CRATES: &[Crate] = &[
             "output": "out[..first.len()].copy_from_slice(first); out[first.len()..len].copy_from_slice(rest);"
                 => "crate::edge::copy(first, out); crate::edge::copy(rest, &mut out[first.len()..]);", UNWRITTEN;
             "arcs": "out[index] = arc;" => "out[index].write(arc);", UNWRITTEN;
-            "texts*": "#[inline(never)] fn" => "#[inline(never)]\nextern \"C\" fn",
+            "": "#[inline(never)] fn" => "#[inline(never)]\nextern \"C\" fn",
                 "so a rare path returns in registers, as exports do, and the usual one needs no memory for a `Status`";
             "texts": "oid.encode_text(out)" => "crate::outputs::encode(oid, out)", UNWRITTEN;
             "texts": "outputs::bytes_from_ascii(text, out)" => "crate::outputs::bytes_from_ascii(text, out)", UNWRITTEN;

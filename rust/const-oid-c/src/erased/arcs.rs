@@ -48,7 +48,7 @@ pub fn const_oid_from_arcs(arcs: &[u32], out: &mut crate::edge::Output<u8>) -> S
 /// Writes the contents octets of arcs, any number of them, or counts those that do not fit. An identifier of up to 255
 /// octets is quicker to make.
 #[inline(never)]
-fn write_long_arcs(arcs: &[u32], out: &mut crate::edge::Output<u8>) -> Status {
+extern "C" fn write_long_arcs(arcs: &[u32], out: &mut crate::edge::Output<u8>) -> Status {
     match encoded::<MAX_OCTETS>(arcs) {
         Err(Error::Length) => match crate::outputs::bytes_from_arcs(arcs, out) {
             Ok(len) => len_status(len),

@@ -7,55 +7,39 @@ use core::cmp::Ordering;
 
 /// The code of success.
 pub(crate) const OK: u32 = 0;
-
 /// The code of a first or second arc that is out of range.
 pub(crate) const ARC_INVALID: u32 = 1;
-
 /// The code of an arc above `u32::MAX`.
 pub(crate) const ARC_TOO_BIG: u32 = 2;
-
 /// The code of a subidentifier that begins with 0x80 or is truncated.
 pub(crate) const BASE128: u32 = 3;
-
 /// The code of a byte that is not a digit.
 pub(crate) const DIGIT_EXPECTED: u32 = 4;
-
 /// The code of an input that is empty or has only one arc.
 pub(crate) const EMPTY: u32 = 5;
-
 /// The code of more than 255 octets, in `const_oid_cmp_owned` alone.
 pub(crate) const LENGTH: u32 = 6;
-
 /// The code of an arithmetic overflow. No function returns it.
 pub(crate) const OVERFLOW: u32 = 7;
-
 /// The code of a dot after another dot.
 pub(crate) const REPEATED_DOT: u32 = 8;
-
 /// The code of a text that ends with a dot.
 pub(crate) const TRAILING_DOT: u32 = 9;
-
 /// The code of an output that is too short for the result.
 pub(crate) const OUTPUT_TOO_SHORT: u32 = 10;
-
 /// The code of a text that is not UTF-8.
 pub(crate) const NOT_UTF8: u32 = 11;
-
 /// The code of an arc, parent, item or text that does not exist.
 pub(crate) const NONE: u32 = 12;
-
 /// The code of a list that is not sorted.
 pub(crate) const UNSORTED: u32 = 13;
-
 /// The code of bytes that do not begin with an element of DER with tag 6.
 pub(crate) const NO_ELEMENT: u32 = 14;
 
 /// The order of an identifier that comes before the other. No order is 0, which an error leaves in `detail`.
 const LESS: u32 = 1;
-
 /// The order of equal identifiers.
 const EQUAL: u32 = 2;
-
 /// The order of an identifier that comes after the other.
 const GREATER: u32 = 3;
 
@@ -87,7 +71,7 @@ pub(crate) fn error_status(error: Error) -> Status {
         Error::RepeatedDot => (REPEATED_DOT, 0),
         Error::TrailingDot => (TRAILING_DOT, 0),
     };
-    Status { code, detail, len: 0 }
+    Status { detail, ..code_status(code) }
 }
 
 /// The status of an error of what is at an index.
@@ -104,17 +88,17 @@ pub(crate) fn code_status(code: u32) -> Status {
 
 /// The output is too short for `len` items.
 pub(crate) fn too_short_status(len: usize) -> Status {
-    Status { code: OUTPUT_TOO_SHORT, detail: 0, len }
+    Status { len, ..code_status(OUTPUT_TOO_SHORT) }
 }
 
 /// The function wrote or counted `len` items.
 pub(crate) fn len_status(len: usize) -> Status {
-    Status { code: OK, detail: 0, len }
+    Status { len, ..code_status(OK) }
 }
 
 /// The result is a number.
 pub(crate) fn number_status(detail: u32) -> Status {
-    Status { code: OK, detail, len: 0 }
+    Status { detail, ..code_status(OK) }
 }
 
 /// The result is true or false.

@@ -1,13 +1,18 @@
-use Rattle.std.proofs.Common.{arith}
+use Rattle.std.proofs.Common.{◌≡◌, ◌<◌, ◌≤◌, ◌∙◌, ⊎_elim, arith, length, None, Some}
+use Rattle.std.proofs.lemmas.{Bool.cases_lt, Grind.common_steps}
 use Rattle.const_oid.proofs.SortedLists.{position_is, position_none}
 use Rattle.const_oid_c.proofs.lists.next_of.Goals as goal
 
-pub returns-then-index-sorted-clause-found : goal.returns-then-index-sorted-clause-found
-returns-then-index-sorted-clause-found c = λ list.
+pub returns-clause-found : goal.returns-clause-found
+returns-clause-found c = λ list.
     let cut = c.end_of-index.ensures.cut list in
-    position_is _ c.args.sorted.now _ (omega arith) cut.0 (λ d. cut.1 _ d (omega arith) (omega arith))
-
-pub returns-else-index-sorted-clause-found : goal.returns-else-index-sorted-clause-found
-returns-else-index-sorted-clause-found c = λ list.
-    let cut = c.end_of-index.ensures.cut list in
-    position_none _ c.args.sorted.now (λ k d l. cut.0 k d (omega arith) (omega arith))
+    let items = c.args.sorted.now in
+    let index = c.end_of-index.result in
+    ⊎_elim
+        (λ (inside : index < length items).
+        let some : c.then_some.result ≡ Some index = grind (arith, common_steps, c.then_some.ensures) in
+        some ∙ position_is _ items index inside cut.0 (λ d. cut.1 _ d (omega arith) inside))
+        (λ (past : length items ≤ index).
+        let none : c.then_some.result ≡ None = grind (arith, common_steps, c.then_some.ensures) in
+        none ∙ position_none _ items (λ k d l. cut.0 k d (omega arith) (omega arith)))
+        (cases_lt index (length items))
