@@ -261,9 +261,8 @@ pub fn element(alloc: Global, der: &[u8]) -> Result<String> {
     }
 }
 
-/// The text of the error that the library for C numbers so, with its arc or byte, or `None` if the number is of a code
-/// that it alone has.
-pub fn error(alloc: Global, code: &str, number: Arc) -> Result<Option<String>> {
+/// The text of the error that the library for C numbers so, with its arc or byte.
+pub fn error(alloc: Global, code: &str, number: Arc) -> Result<String> {
     let error = match (code, number) {
         ("1", arc) => Error::ArcInvalid { arc },
         ("2", _) => Error::ArcTooBig,
@@ -276,8 +275,19 @@ pub fn error(alloc: Global, code: &str, number: Arc) -> Result<Option<String>> {
         ("7", _) => Error::Overflow,
         ("8", _) => Error::RepeatedDot,
         ("9", _) => Error::TrailingDot,
-        ("10" | "11" | "12" | "13" | "14", _) => return Ok(None),
-        _ => return Ok(Some(String::from_str(alloc, "none")?)),
+        _ => return Ok(String::from_str(alloc, of_c(code))?),
     };
-    Ok(Some(format!(in alloc; "{error}")?))
+    Ok(format!(in alloc; "{error}")?)
+}
+
+/// The text of an error that the library for C alone has.
+fn of_c(code: &str) -> &'static str {
+    match code {
+        "10" => "the output is too short for the result",
+        "11" => "the text is not UTF-8",
+        "12" => "there is no such arc, parent, item or text",
+        "13" => "the list is not sorted",
+        "14" => "the bytes do not begin with an OID in DER",
+        _ => "none",
+    }
 }
