@@ -6,7 +6,7 @@ use Rattle.std.proofs.Math.Seq.{take-append_seam}
 use Rattle.std.proofs.lemmas.{List.{length-map, length-take-le, take-map, take-append-drop}, List.Folds.concat-append}
 use Rattle.std.proofs.lemmas.{Bool.Decides.nat_tests, Grind.common_steps}
 use Rattle.const_oid.specs.{Base128.value_of, Identifier.{RootRule, IsEncoding}}
-use Rattle.const_oid.specs.Contents.{cut, later_fault, parts_fault, arcs_from, arcs_of_octets}
+use Rattle.const_oid.specs.Contents.{cut, cut_after, later_fault, parts_fault, arcs_from, arcs_of_octets}
 use Rattle.const_oid.specs.{Tree.{BeginsWith, parent_of}, Private.Prefixes.IsFinishedPrefix}
 use Rattle.const_oid.proofs.{Tree.{child_of-parent_of, encoding_parent}, Encodings.none_from_encoding, Lengths.length_by_parts}
 use Rattle.const_oid.proofs.Cutting.{cut_after-append, cut_after-last, cut_after-more, cut-some, concat-cut}
@@ -34,7 +34,8 @@ cut_push (x ∷ xs) octet (suc zero) inside final high =
 cut_push (x ∷ y ∷ ys) octet (suc (suc k)) inside final high =
     let rest = cut_push (y ∷ ys) octet (suc k) (omega arith) (λ i next. final (suc i) (omega arith))
     (λ i low below. high (suc i) (omega arith) (omega arith)) in
-    grind (arith, cut_after-append, rest)
+    let some = cut-some (take (suc k) (y ∷ ys)) (λ e. cc) in
+    (rest.0, ap (cut_after x) rest.1 ∙ cut_after-append x (cut (take (suc k) (y ∷ ys))) (rest.0 ∷ []) some)
 cut_push _ octet _ inside final high = absurd (omega arith)
 
 -- the octets before the last part
