@@ -134,7 +134,7 @@ pub extern "C" fn const_oid_subtree_range(
     }
 }
 
-/// The status of a search among `count` items for octets that are not an identifier.
+/// The status of a search among `count` items for octets that are not an identifier. By cargo it returns in registers.
 #[cold]
 #[inline(never)]
 fn search_fault(count: usize, fault: Error) -> Status

@@ -261,7 +261,7 @@ pub fn element(alloc: Global, der: &[u8]) -> Result<String> {
     }
 }
 
-/// The text of the error that the library for C numbers so, with its arc or byte.
+/// The text of the error that the library for C numbers so, with its arc or byte, or `none`.
 pub fn error(alloc: Global, code: &str, number: Arc) -> Result<String> {
     let error = match (code, number) {
         ("1", arc) => Error::ArcInvalid { arc },
@@ -280,7 +280,7 @@ pub fn error(alloc: Global, code: &str, number: Arc) -> Result<String> {
     Ok(format!(in alloc; "{error}")?)
 }
 
-/// The text of an error that the library for C alone has.
+/// The text of an error that the library for C alone has: a copy of its own, since no library can call it. Or `none`.
 fn of_c(code: &str) -> &'static str {
     match code {
         "10" => "the output is too short for the result",

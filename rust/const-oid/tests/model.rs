@@ -556,6 +556,7 @@ fn check_pair(a: &[u8], b: &[u8]) {
     check_order(&ByArcs(i), &ByArcs(j), by_arcs);
     check_ends(i, j);
     check_ends(ByArcs(i), ByArcs(j));
+    assert_eq!(ByArcs(i).max(ByArcs(j)).0, if by_arcs.is_gt() { i } else { j });
     assert_eq!((i.starts_with(j), i.cmp_arcs(&j), *x == j), (starts, by_arcs, is_equal));
     assert_eq!(i.strip_prefix(&j).map(Vec::from_iter), rest);
     let Ok(small) = ObjectIdentifier::<39>::try_from(y) else {

@@ -69,7 +69,7 @@ pub fn const_oid_subtree_range(
     }
 }
 
-/// The status of a search among `count` items for octets that are not an identifier.
+/// The status of a search among `count` items for octets that are not an identifier. By cargo it returns in registers.
 #[cold]
 #[inline(never)]
 extern "C" fn search_fault(count: usize, fault: Error) -> Status {
