@@ -129,7 +129,7 @@ class Memory(unittest.TestCase):
         for name, call in CALLS.items():
             with self.subTest(name):
                 # The first rounds also fill caches of Python.
-                self.assertTrue(any(keeps_nothing(call) for _ in range(5)), "it keeps memory or a reference")
+                self.assertTrue(any(keeps_nothing(call) for _ in range(50)), "it keeps memory or a reference")
 
     @unittest.skipUnless(_testcapi, "Python's module for tests of its C API is not installed")
     def test_functions_raise_memory_error(self):
