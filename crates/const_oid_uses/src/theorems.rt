@@ -1,7 +1,7 @@
 //! What callers want to know of identifiers, as contracts of small functions.
 
 ghost use Rattle.std.specs.Prelude.{◌≡◌, ◌<◌, ◌≤◌, ◌↔◌, ◌++◌, ℕ, List, [], ◌∷◌, drop, length, Some, IsTrue, IsSome};
-ghost use Rattle.std.specs.Prelude.{IfOk, IfSome, IsOk, IsOkAnd, IsSomeAnd};
+ghost use Rattle.std.specs.Prelude.{IfErr, IfOk, IfSome, IsOk, IsOkAnd, IsSomeAnd};
 ghost use Rattle.const_oid.specs.Element.{element};
 ghost use Rattle.const_oid.specs.Identifier.{size};
 ghost use Rattle.const_oid.specs.Oid.{oid_arcs};
@@ -48,6 +48,7 @@ pub fn is_enterprise_number(oid: &ObjectIdentifierRef<'_>) -> bool
 /// The parent of a child is the identifier that it was made of.
 pub fn parent_of_child(oid: Oid, arc: Arc) -> Result<Option<Oid>, Error>
     ensures fits { IsOk result ↔ (size (child_of (oid_arcs oid) arc) ≤ 39) }
+    ensures error { IfErr result (λ error. error ≡ Error.Length) }
     ensures same { IfOk result (λ parent. IsSomeAnd parent (λ parent. oid_arcs parent ≡ oid_arcs oid)) }
 {
     Ok(oid.push_arc(arc)?.parent())
@@ -56,8 +57,7 @@ pub fn parent_of_child(oid: Oid, arc: Arc) -> Result<Option<Oid>, Error>
 /// The parent's child with the last arc of an identifier fits, and is that identifier.
 pub fn child_of_parent(oid: Oid) -> Option<Result<Oid, Error>>
     ensures found { IsSome result ↔ (2 < length (oid_arcs oid)) }
-    ensures again { IfSome result (λ child.
-        IsOkAnd child (λ again. oid_arcs again ≡ oid_arcs oid)) }
+    ensures again { IfSome result (λ child. IsOkAnd child (λ again. oid_arcs again ≡ oid_arcs oid)) }
 {
     let parent = oid.parent()?;
     let last = oid.arc(parent.len())?;
