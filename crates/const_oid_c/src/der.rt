@@ -8,7 +8,8 @@ ghost use Rattle.const_oid_c.specs.Results.{borrowed_answer, output_of, status_o
 
 use crate::lists::Octets;
 use crate::status::{
-    NO_ELEMENT, OUTPUT_TOO_SHORT, Status, code_status, error_status, len_status, too_short_status,
+    NO_ELEMENT, OK, OUTPUT_TOO_SHORT, Status, code_status, error_status, len_status,
+    too_short_status,
 };
 use const_oid::ObjectIdentifierRef;
 
@@ -18,10 +19,10 @@ pub extern "C" fn const_oid_from_der<'a>(der: &'a [u8], contents: &mut Octets<'a
     ensures none { ((octets rest : List ℕ) → der.now ≢ element octets ++ rest) → result ≡ code_status NO_ELEMENT }
     ensures status { (octets rest : List ℕ) → der.now ≡ element octets ++ rest
         → result ≡ status_of (λ _. len_status (length (element octets))) (borrowed_answer octets) }
-    ensures contents { (octets rest : List ℕ) → der.now ≡ element octets ++ rest → result.code ≡ 0
+    ensures contents { (octets rest : List ℕ) → der.now ≡ element octets ++ rest → result.code ≡ OK
         → octets_at contents.new ≡ octets }
-    ensures input { result.code ≡ 0 → end_address contents.new.octets ≡ address_at der.entry result.len }
-    ensures unchanged { result.code ≢ 0 → contents.new ≡ contents.old }
+    ensures input { result.code ≡ OK → end_address contents.new.octets ≡ address_at der.entry result.len }
+    ensures unchanged { result.code ≢ OK → contents.new ≡ contents.old }
 {
     match ObjectIdentifierRef::read_element(der) {
         Some((Ok(oid), rest)) => {

@@ -18,7 +18,7 @@ ghost use Rattle.const_oid_c.specs.Results.{borrowed_answer};
 ghost use Rattle.const_oid_c.specs.Lists.{IsIndexOrNone, arcs_before, index_status, fault_after, list_fault, list_status, none_of, octets_at, IsFirstUnsorted};
 ghost use Rattle.const_oid_c.specs.Status.{fault_at, len_status};
 
-use crate::status::{NONE, Status, UNSORTED, code_status, fault_at, len_status};
+use crate::status::{NONE, OK, Status, UNSORTED, code_status, fault_at, len_status};
 use const_oid::search::{Contents, end_of, first_of, nearest_of, subtree_of};
 use const_oid::{Error, ObjectIdentifierRef};
 
@@ -50,10 +50,10 @@ pub struct Range {
 #[unsafe(no_mangle)]
 pub extern "C" fn const_oid_check_sorted(items: &[Octets<'_>]) -> Status
     ensures status { result ≡ list_status items.now }
-    ensures sorted { result.code ≡ 0 ↔ IsSortedList octets_at items.now }
-    ensures first { 0 < result.code → IsFirstUnsorted items.now result.len }
+    ensures sorted { result.code ≡ OK ↔ IsSortedList octets_at items.now }
+    ensures first { result.code ≢ OK → IsFirstUnsorted items.now result.len }
     ensures by_arcs { All (λ item. IsEncoding root_rule (item_arcs octets_at item) (octets_at item)) items.now
-        → IsSortedByKey octets_at parts_cmp items.now → result.code ≡ 0 }
+        → IsSortedByKey octets_at parts_cmp items.now → result.code ≡ OK }
 {
     match list_fault(items) {
         Some(status) => status,
@@ -64,8 +64,8 @@ pub extern "C" fn const_oid_check_sorted(items: &[Octets<'_>]) -> Status
 /// Finds the first item that is equal to an identifier.
 #[unsafe(no_mangle)]
 pub extern "C" fn const_oid_find(octets: &[u8], sorted: &[Octets<'_>]) -> Status
-    ensures found { IsSortedList octets_at sorted.now
-        → IfOk (borrowed_answer octets.now) (λ arcs. result ≡ index_status (length sorted.now) (position (has_item_arcs octets_at arcs) sorted.now)) }
+    ensures found { IsSortedList octets_at sorted.now → IfOk (borrowed_answer octets.now) (λ arcs.
+        result ≡ index_status (length sorted.now) (position (has_item_arcs octets_at arcs) sorted.now)) }
     ensures within { IfOk (borrowed_answer octets.now) (λ _. IsIndexOrNone (length sorted.now) result) }
     ensures fault { IfErr (borrowed_answer octets.now) (λ fault. result ≡ fault_at (length sorted.now) fault) }
 {
@@ -78,8 +78,7 @@ pub extern "C" fn const_oid_find(octets: &[u8], sorted: &[Octets<'_>]) -> Status
 /// Finds the first item that comes after an identifier, which need not be an item.
 #[unsafe(no_mangle)]
 pub extern "C" fn const_oid_next(octets: &[u8], sorted: &[Octets<'_>]) -> Status
-    ensures found { IsSortedList octets_at sorted.now
-        → IfOk (borrowed_answer octets.now) (λ arcs.
+    ensures found { IsSortedList octets_at sorted.now → IfOk (borrowed_answer octets.now) (λ arcs.
         result ≡ index_status (length sorted.now) (position (λ item. is_lt (slice_cmp nat_cmp arcs (item_arcs octets_at item))) sorted.now)) }
     ensures within { IfOk (borrowed_answer octets.now) (λ _. IsIndexOrNone (length sorted.now) result) }
     ensures fault { IfErr (borrowed_answer octets.now) (λ fault. result ≡ fault_at (length sorted.now) fault) }
@@ -93,9 +92,9 @@ pub extern "C" fn const_oid_next(octets: &[u8], sorted: &[Octets<'_>]) -> Status
 /// Finds the item with the longest prefix of an identifier, which may be all of it; of several, the first.
 #[unsafe(no_mangle)]
 pub extern "C" fn const_oid_nearest(octets: &[u8], sorted: &[Octets<'_>]) -> Status
-    ensures found { IsSortedList octets_at sorted.now → result.code ≡ 0 → IfSome (slice_get sorted.now result.len)
+    ensures found { IsSortedList octets_at sorted.now → result.code ≡ OK → IfSome (slice_get sorted.now result.len)
         (IsNearestBy (item_arcs octets_at) sorted.now (arcs_of_octets octets.now)) }
-    ensures first { IsSortedList octets_at sorted.now → result.code ≡ 0 → IfSome (slice_get sorted.now result.len) (λ item.
+    ensures first { IsSortedList octets_at sorted.now → result.code ≡ OK → IfSome (slice_get sorted.now result.len) (λ item.
         position (has_item_arcs octets_at (item_arcs octets_at item)) sorted.now ≡ Some result.len) }
     ensures none { IsSortedList octets_at sorted.now → result ≡ none_of (length sorted.now)
         → All (λ item. BeginsWith (arcs_of_octets octets.now) (item_arcs octets_at item) → ⊥) sorted.now }
@@ -117,12 +116,12 @@ pub extern "C" fn const_oid_subtree_range(
 ) -> Status
     ensures status { IfOk (borrowed_answer octets.now) (λ _. result ≡ len_status 0) }
     ensures fault { IfErr (borrowed_answer octets.now) (λ fault. result ≡ fault_at (length sorted.now) fault) }
-    ensures within { result.code ≡ 0 → (range.new.start ≤ range.new.end) × (range.new.end ≤ length sorted.now) }
-    ensures start { IsSortedList octets_at sorted.now → result.code ≡ 0 → range.new.start
+    ensures within { result.code ≡ OK → (range.new.start ≤ range.new.end) × (range.new.end ≤ length sorted.now) }
+    ensures start { IsSortedList octets_at sorted.now → result.code ≡ OK → range.new.start
         ≡ count_by (λ item. is_lt (slice_cmp nat_cmp (item_arcs octets_at item) (arcs_of_octets octets.now))) sorted.now }
-    ensures inside { IsSortedList octets_at sorted.now → result.code ≡ 0 → (k : ℕ) → IfSome (slice_get sorted.now k) (λ item.
+    ensures inside { IsSortedList octets_at sorted.now → result.code ≡ OK → (k : ℕ) → IfSome (slice_get sorted.now k) (λ item.
         BeginsWith (item_arcs octets_at item) (arcs_of_octets octets.now) ↔ ((range.new.start ≤ k) × (k < range.new.end))) }
-    ensures unchanged { result.code ≢ 0 → range.new ≡ range.old }
+    ensures unchanged { result.code ≢ OK → range.new ≡ range.old }
 {
     match ObjectIdentifierRef::from_bytes(octets) {
         Ok(oid) => {

@@ -1,7 +1,7 @@
 //! Identifiers from arrays, slices, vectors and iterators of arcs: `from_arcs` and `from_arcs_sized`.
 
 ghost use Rattle.std.specs.Prelude.{◌≡◌};
-ghost use Rattle.const_oid.specs.Identifier.{root_rule};
+ghost use Rattle.const_oid.specs.Identifier.{root_rule, default_capacity};
 ghost use Rattle.const_oid.specs.Items.{item_answer};
 ghost use Rattle.const_oid.specs.Oid.{oid_arcs, oid_answer};
 
@@ -11,25 +11,25 @@ use std::alloc::Global;
 use std::test::Fail;
 
 fn from_array(arcs: [Arc; 3]) -> Result<Oid, Error>
-    ensures { oid_answer result ≡ item_answer root_rule arcs 39 }
+    ensures { oid_answer result ≡ item_answer root_rule arcs default_capacity }
 {
     Oid::from_arcs(arcs)
 }
 
 fn from_slice(arcs: &[Arc]) -> Result<Oid, Error>
-    ensures { oid_answer result ≡ item_answer root_rule arcs.now 39 }
+    ensures { oid_answer result ≡ item_answer root_rule arcs.now default_capacity }
 {
     Oid::from_arcs(arcs.iter().copied())
 }
 
 fn from_vec(arcs: Vec<Arc>) -> Result<Oid, Error>
-    ensures { oid_answer result ≡ item_answer root_rule arcs.items 39 }
+    ensures { oid_answer result ≡ item_answer root_rule arcs.items default_capacity }
 {
     Oid::from_arcs(arcs)
 }
 
 fn from_rest(arcs: Arcs<'_>) -> Result<Oid, Error>
-    ensures { oid_answer result ≡ item_answer root_rule arcs.entry 39 }
+    ensures { oid_answer result ≡ item_answer root_rule arcs.entry default_capacity }
 {
     Oid::from_arcs(arcs)
 }

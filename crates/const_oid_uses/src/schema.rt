@@ -1,7 +1,7 @@
 //! Attribute types of a directory (RFC 4519), by their names or their identifiers.
 
 ghost use Rattle.std.specs.Prelude.{◌≡◌, ◌↔◌, [], ◌∷◌, IsTrue, IfSome, IfNone, Ok};
-ghost use Rattle.const_oid.specs.Identifier.{root_rule};
+ghost use Rattle.const_oid.specs.Identifier.{root_rule, default_capacity};
 ghost use Rattle.const_oid.specs.Names.{entries_of, first_oid};
 ghost use Rattle.const_oid.specs.Oid.{oid_arcs, oid_answer};
 ghost use Rattle.const_oid.specs.Text.{text_answer};
@@ -54,10 +54,9 @@ pub fn has_type<T: AssociatedOid>(attribute: &Attribute) -> bool
 
 /// The identifier that a user means: by a name, ignoring ASCII case, or else by its dotted text.
 pub fn find(database: &Database<'_>, input: &str) -> Result<Oid, Error>
-    ensures named { IfSome (first_oid (entries_of database.now) input.now)
-        (λ oid. result ≡ Ok oid.now) }
+    ensures named { IfSome (first_oid (entries_of database.now) input.now) (λ oid. result ≡ Ok oid.now) }
     ensures dotted { IfNone (first_oid (entries_of database.now) input.now)
-        (oid_answer result ≡ text_answer root_rule input.now 39) }
+        (oid_answer result ≡ text_answer root_rule input.now default_capacity) }
 {
     match database.by_name(input) {
         Some(oid) => Ok(*oid),

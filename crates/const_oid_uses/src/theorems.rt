@@ -3,7 +3,7 @@
 ghost use Rattle.std.specs.Prelude.{◌≡◌, ◌<◌, ◌≤◌, ◌↔◌, ◌++◌, ℕ, List, [], ◌∷◌, drop, length, Some, IsTrue, IsSome};
 ghost use Rattle.std.specs.Prelude.{IfErr, IfOk, IfSome, IsOk, IsOkAnd, IsSomeAnd};
 ghost use Rattle.const_oid.specs.Element.{element};
-ghost use Rattle.const_oid.specs.Identifier.{size};
+ghost use Rattle.const_oid.specs.Identifier.{size, default_capacity};
 ghost use Rattle.const_oid.specs.Oid.{oid_arcs};
 ghost use Rattle.const_oid.specs.OidRef.{ref_arcs, ref_octets};
 ghost use Rattle.const_oid.specs.Tree.{BeginsWith, child_of, parent_of};
@@ -47,7 +47,7 @@ pub fn is_enterprise_number(oid: &ObjectIdentifierRef<'_>) -> bool
 
 /// The parent of a child is the identifier that it was made of.
 pub fn parent_of_child(oid: Oid, arc: Arc) -> Result<Option<Oid>, Error>
-    ensures fits { IsOk result ↔ (size (child_of (oid_arcs oid) arc) ≤ 39) }
+    ensures fits { IsOk result ↔ (size (child_of (oid_arcs oid) arc) ≤ default_capacity) }
     ensures error { IfErr result (λ error. error ≡ Error.Length) }
     ensures same { IfOk result (λ parent. IsSomeAnd parent (λ parent. oid_arcs parent ≡ oid_arcs oid)) }
 {

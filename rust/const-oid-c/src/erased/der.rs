@@ -4,7 +4,7 @@
 
 use crate::erased::lists::Octets;
 use crate::erased::status::{
-    NO_ELEMENT, OUTPUT_TOO_SHORT, Status, code_status, error_status, len_status, too_short_status,
+    NO_ELEMENT, OK, OUTPUT_TOO_SHORT, Status, code_status, error_status, len_status, too_short_status,
 };
 use const_oid::internal_for_const_oid_c::ObjectIdentifierRef;
 

@@ -5,7 +5,7 @@
 //! No search checks the list: over a list that `const_oid_check_sorted` does not accept, what it finds is
 //! unspecified, but is within the list.
 
-use crate::erased::status::{NONE, Status, UNSORTED, code_status, fault_at, len_status};
+use crate::erased::status::{NONE, OK, Status, UNSORTED, code_status, fault_at, len_status};
 use const_oid::internal_for_const_oid_c::search::{Contents, end_of, first_of, nearest_of, subtree_of};
 use const_oid::internal_for_const_oid_c::{Error, ObjectIdentifierRef};
 
