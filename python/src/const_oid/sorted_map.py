@@ -141,7 +141,8 @@ class SortedMap(MutableMapping[ObjectIdentifier, Value]):
         except BaseException:  # the dict may find no memory to grow, and undoing that takes none
             values |= before
             for key in new:
-                values.pop(key, None)
+                if key in values:
+                    del values[key]
             raise
         self._keys = keys
 
