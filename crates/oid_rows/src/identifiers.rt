@@ -261,8 +261,9 @@ pub fn element(alloc: Global, der: &[u8]) -> Result<String> {
     }
 }
 
-/// The text of the error that the library for C numbers so, with its arc or byte, or `none`.
-pub fn error(alloc: Global, code: &str, number: Arc) -> Result<String> {
+/// The text of the error that the library for C numbers so, with its arc or byte, or `none`. An error that the library
+/// alone has is left to it, as `None`.
+pub fn error(alloc: Global, code: &str, number: Arc) -> Result<Option<String>> {
     let error = match (code, number) {
         ("1", arc) => Error::ArcInvalid { arc },
         ("2", _) => Error::ArcTooBig,
@@ -275,19 +276,8 @@ pub fn error(alloc: Global, code: &str, number: Arc) -> Result<String> {
         ("7", _) => Error::Overflow,
         ("8", _) => Error::RepeatedDot,
         ("9", _) => Error::TrailingDot,
-        _ => return Ok(String::from_str(alloc, of_c(code))?),
+        ("10" | "11" | "12" | "13" | "14", _) => return Ok(None),
+        _ => return Ok(Some(String::from_str(alloc, "none")?)),
     };
-    Ok(format!(in alloc; "{error}")?)
-}
-
-/// The text of an error that the library for C alone has: a copy of its own, since no library can call it. Or `none`.
-fn of_c(code: &str) -> &'static str {
-    match code {
-        "10" => "the output is too short for the result",
-        "11" => "the text is not UTF-8",
-        "12" => "there is no such arc, parent, item or text",
-        "13" => "the list is not sorted",
-        "14" => "the bytes do not begin with an OID in DER",
-        _ => "none",
-    }
+    Ok(Some(format!(in alloc; "{error}")?))
 }

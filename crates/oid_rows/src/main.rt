@@ -72,15 +72,18 @@ fn of_one(alloc: Global, call: &str, input: &str) -> Result<String> {
         "arcs_in" => identifiers::arcs_in(alloc, first.parse()?, &arcs(alloc, rest)?),
         "sorted" => relations::sorted(alloc, &words(alloc, input)?),
         "names" => relations::names(alloc, first, &words(alloc, rest)?),
-        "error" => identifiers::error(alloc, first, rest.parse()?),
         _ => of_octets(alloc, call, &hex::decode(alloc, first.as_bytes())?, rest),
     }
 }
 
-/// The result of a row. An order of the library for C alone is left to it, as `None`.
+/// The result of a row. What the library for C alone has, an order or an error, is left to it, as `None`.
 fn answer(alloc: Global, call: &str, input: &str) -> Result<Option<String>> {
     match (call, call.strip_suffix("_order")) {
         ("items_order", _) => Ok(None),
+        ("error", _) => {
+            let (code, number) = input.split_once(' ').context("no number")?;
+            identifiers::error(alloc, code, number.parse()?)
+        }
         (_, Some(call)) => {
             let words = words(alloc, input)?;
             Ok(Some(relations::in_order(alloc, call, &words)?))
