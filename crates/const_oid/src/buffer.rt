@@ -22,6 +22,9 @@ use crate::parser::{fault_of, parse_inlined};
 use std::cmp::Ordering;
 use std::hash::{Hash, Hasher};
 
+/// How many octets fit an identifier of the default capacity.
+pub(crate) const DEFAULT_CAPACITY: usize = 39;
+
 /// The octets of an owned identifier: at most `SIZE`, and never more than 255.
 ///
 /// It has no public constructor.

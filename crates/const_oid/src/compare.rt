@@ -11,7 +11,7 @@ ghost use Rattle.const_oid.specs.Private.Prefixes.{IsCommonPrefix};
 
 use crate::fast::comparison::{are_equal, same_start};
 use crate::fast::words::{CASE, WORD_OCTETS, last_word};
-use crate::parts::{first_octets, without_last_part};
+use crate::parts::{CONTINUED, first_octets, without_last_part};
 use std::cmp::Ordering;
 
 /// Whether octets begin with others.
@@ -43,12 +43,12 @@ pub(crate) fn begins_with(octets: &[u8], prefix: &[u8]) -> bool
 pub fn order_by_parts(a: &[u8], b: &[u8]) -> Ordering
     ensures { result ≡ parts_cmp a.now b.now }
 {
-    let near = lesser(a.len(), b.len());
-    let i = first_difference(a, b, same_start(a, b), near);
-    if i == near {
+    let min_len = lesser(a.len(), b.len());
+    let i = first_difference(a, b, same_start(a, b), min_len);
+    if i == min_len {
         return order_of_numbers(a.len(), b.len());
     }
-    if a[i] < 128 || b[i] < 128 {
+    if a[i] < CONTINUED || b[i] < CONTINUED {
         return order_of_numbers(a[i] as usize, b[i] as usize);
     }
     match order_of_lens(a, b, i) {
@@ -64,17 +64,17 @@ fn order_of_lens(a: &[u8], b: &[u8], start: usize) -> Ordering
     requires { start ≤ min (length a.now) (length b.now) }
     ensures { result ≡ lens_cmp start a.now b.now }
 {
-    let near = lesser(a.len(), b.len());
+    let min_len = lesser(a.len(), b.len());
     let mut index = start;
-    while index < near {
-        if a[index] < 128 {
+    while index < min_len {
+        if a[index] < CONTINUED {
             return if ends_at(b, index) {
                 Ordering::Equal
             } else {
                 Ordering::Less
             };
         }
-        if b[index] < 128 {
+        if b[index] < CONTINUED {
             return if ends_at(a, index) {
                 Ordering::Equal
             } else {
@@ -95,7 +95,7 @@ fn ends_at(octets: &[u8], index: usize) -> bool
     ensures ends { IsTrue result → length_at octets.now index ≡ 1 }
     ensures more { IsFalse result → 1 < length_at octets.now index }
 {
-    octets[index] < 128 || index + 1 == octets.len()
+    octets[index] < CONTINUED || index + 1 == octets.len()
 }
 
 /// The subidentifiers that valid octets and others begin with, up to the first that differs.
@@ -103,8 +103,8 @@ pub(crate) fn common_parts<'a>(octets: &'a [u8], others: &[u8]) -> &'a [u8]
     requires { parts_fault root_rule (cut octets.now) ≡ None }
     ensures { IsCommonPrefix octets.now others.now result.now }
 {
-    let near = octets.len().min(others.len());
-    let same = first_difference(octets, others, same_start(octets, others), near);
+    let min_len = octets.len().min(others.len());
+    let same = first_difference(octets, others, same_start(octets, others), min_len);
     if same == octets.len() {
         return octets;
     }

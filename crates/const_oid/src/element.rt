@@ -9,6 +9,9 @@ ghost use Rattle.const_oid.specs.Output.{Writes};
 /// The tag of an object identifier: class universal, primitive, number 6.
 const TAG: u8 = 6;
 
+/// Bit 8 of the first length octet, which is set in the long form, for lengths from 128 on (X.690, 8.1.3 and 10.1).
+const LONG_FORM: u8 = 128;
+
 /// The contents octets of the element that octets begin with, and the octets after it. `None` if they begin with none.
 #[inline]
 pub(crate) fn split_element(der: &[u8]) -> Option<(&[u8], &[u8])>
@@ -38,8 +41,8 @@ fn read_length(octets: &[u8]) -> Option<(u64, &[u8])>
     ensures rest { IfSome result (λ read. end_address read.1 ≡ end_address octets.entry) }
 {
     match octets {
-        [first, rest @ ..] if *first < 128 => Some((*first as u64, rest)),
-        [first, rest @ ..] => read_long_length(*first as usize - 128, rest),
+        [first, rest @ ..] if *first < LONG_FORM => Some((*first as u64, rest)),
+        [first, rest @ ..] => read_long_length((*first - LONG_FORM) as usize, rest),
         _ => None,
     }
 }
@@ -68,7 +71,7 @@ fn is_shortest(len: u64, digits: &[u8]) -> bool
     ensures { IsTrue result ↔ ((128 ≤ len) × (slice_index digits.now 0 ≢ 0)) }
 {
     match digits {
-        [first, ..] => *first > 0 && len >= 128,
+        [first, ..] => *first > 0 && len >= LONG_FORM as u64,
         [] => false,
     }
 }
@@ -106,9 +109,9 @@ pub(crate) fn write_element(contents: &[u8], out: &mut [u8]) -> Option<usize>
         return None;
     }
     out[0] = TAG;
-    // With `len < 128` for the test, rustc keeps checks of indices.
+    // With the length for the test, rustc keeps checks of indices.
     out[1] = if count > 0 {
-        128 + count as u8
+        LONG_FORM + count as u8
     } else {
         len as u8
     };
@@ -125,7 +128,7 @@ fn subsequent_count(len: usize) -> usize
     ensures few { result ≤ 8 }
     ensures short { (result ≡ 0) ↔ (len < 128) }
 {
-    if len < 128 {
+    if len < LONG_FORM as usize {
         return 0;
     }
     8 - (len as u64).leading_zeros() as usize / 8

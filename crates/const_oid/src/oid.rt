@@ -18,7 +18,7 @@ ghost use Rattle.const_oid.specs.Tree.{BeginsWith, child_of, parent_of};
 
 use crate::Arc;
 use crate::arcs::Arcs;
-use crate::buffer::Buffer;
+use crate::buffer::{Buffer, DEFAULT_CAPACITY};
 use crate::element::split_element;
 use crate::error::{Error, Result};
 use crate::fast::comparison::are_equal;
@@ -58,13 +58,13 @@ pub struct ObjectIdentifier<const MAX_SIZE: usize> {
 }
 
 /// An identifier of the default capacity, 39 octets.
-pub type Oid = ObjectIdentifier<39>;
+pub type Oid = ObjectIdentifier<DEFAULT_CAPACITY>;
 
-impl ObjectIdentifier<39> {
+impl ObjectIdentifier<DEFAULT_CAPACITY> {
     ghost use Rattle.const_oid.specs.Oid.{oid_octets, oid_arcs, oid_answer, ReadsOwned};
 
     /// The default capacity, 39 octets.
-    pub const MAX_SIZE: usize = 39;
+    pub const MAX_SIZE: usize = DEFAULT_CAPACITY;
 
     /// Parses dotted text, such as `1.2.840.10045.2.1`, with any number of leading zeros in an arc.
     ///
@@ -177,7 +177,7 @@ impl ObjectIdentifier<39> {
     }
 }
 
-impl FromStr for ObjectIdentifier<39> {
+impl FromStr for ObjectIdentifier<DEFAULT_CAPACITY> {
     ghost use Rattle.const_oid.specs.Oid.{oid_answer};
 
     type Err = Error;

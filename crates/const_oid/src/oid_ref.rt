@@ -26,7 +26,7 @@ use crate::fast::comparison::{are_equal, order};
 use crate::fast::lanes::count_below;
 use crate::fast::steps::gallop;
 use crate::parser::{fault_and_index, parse_inlined};
-use crate::parts::without_last_part;
+use crate::parts::{CONTINUED, without_last_part};
 use crate::root::split_root;
 use crate::text::{text_len, write_checked, write_text};
 use crate::valid::check;
@@ -201,7 +201,7 @@ impl<'a> ObjectIdentifierRef<'a> {
     pub fn len(&self) -> usize
         ensures { result ≡ length (ref_arcs self.now) }
     {
-        count_below(self.ber, 128) + 1
+        count_below(self.ber, CONTINUED) + 1
     }
 
     /// The length in bytes of the text that `{}` writes, or `usize::MAX` if it is greater than that.

@@ -9,6 +9,7 @@ ghost use Rattle.const_oid.specs.Output.{WritesEncoding};
 ghost use Rattle.const_oid.specs.Text.{components_of, text_answer, wrong_index};
 
 use crate::Arc;
+use crate::buffer::DEFAULT_CAPACITY;
 use crate::encoder::{ONE_PASS_ARCS, encode, encode_in_one_pass};
 use crate::error::{Error, Result};
 use crate::oid_ref::ObjectIdentifierRef;
@@ -93,7 +94,7 @@ pub fn bytes_from_arcs(arcs: &[Arc], out: &mut [u8]) -> Result<usize>
 #[inline(always)]
 pub fn from_ascii_in_39<'a>(
     text: &[u8],
-    out: &'a mut [u8; 39],
+    out: &'a mut [u8; DEFAULT_CAPACITY],
 ) -> result::Result<ObjectIdentifierRef<'a>, (Error, Option<usize>)>
     ensures answer { let answer = text_answer root_rule text.now default_capacity in
         MatchResult result (λ oid. answer ≡ Ok (ref_arcs oid)) (λ fault. answer ≡ Err fault.0) }
@@ -101,7 +102,7 @@ pub fn from_ascii_in_39<'a>(
         (λ index. (fault.0 ≢ Error.Length) × (index ≡ wrong_index [] (components_of text.now)))) }
     ensures start { IfOk result (λ oid. (ref_slice oid).ref_ptr ≡ out.entry.ref_ptr) }
 {
-    match parse_inlined(text, out, 39) {
+    match parse_inlined(text, out, DEFAULT_CAPACITY) {
         Ok(len) => Ok(ObjectIdentifierRef::from_checked(&out[..len])),
         Err(wrong) => Err(fault_and_index(text, wrong)),
     }

@@ -6,6 +6,9 @@ ghost use Rattle.const_oid.specs.Contents.{cut};
 ghost use Rattle.const_oid.specs.Output.{written_over};
 ghost use Rattle.const_oid.specs.Private.Prefixes.{IsFinishedPrefix};
 
+/// Bit 8. It is set in all octets of a subidentifier but the last (X.690, 8.19.2).
+pub(crate) const CONTINUED: u8 = 128;
+
 /// The octets after the first `parts` subidentifiers.
 #[tactic(auto, using(crate::proofs::PartBounds::after_more, std::proofs::lemmas::List::take_rest))]
 #[inline(always)]
@@ -17,7 +20,7 @@ pub(crate) fn skip_parts(octets: &[u8], parts: usize) -> &[u8]
         if left == 0 {
             return &octets[i..];
         }
-        left -= usize::from(*octet < 128);
+        left -= usize::from(*octet < CONTINUED);
     }
     &octets[octets.len()..]
 }
@@ -31,7 +34,7 @@ pub(crate) fn without_last_part(octets: &[u8]) -> &[u8]
     let Some((_, prefix)) = octets.split_last() else {
         return octets;
     };
-    match prefix.iter().rposition(|octet| *octet < 128) {
+    match prefix.iter().rposition(|octet| *octet < CONTINUED) {
         Some(index) => first_octets(prefix, index + 1),
         None => &[],
     }

@@ -7,6 +7,9 @@ ghost use Rattle.const_oid.specs.Identifier.{root_rule, max_second};
 use crate::Arc;
 use crate::error::{Error, Result};
 
+/// The greatest second arc under 0 and 1.
+pub(crate) const MAX_NARROW: Arc = 39;
+
 /// The greatest first subidentifier: of the first arc 2 and the greatest second arc.
 pub(crate) const MAX_FIRST: u64 = 2 * 40 + Arc::MAX as u64;
 
@@ -28,7 +31,7 @@ pub(crate) const fn join_root(first: Arc, second: Arc) -> Result<u64>
         (λ number. (second ≤ max_second root_rule first) × (number ≡ 40 * first + second))
         (λ fault. (fault ≡ Error.ArcInvalid second) × (max_second root_rule first < second)) }
 {
-    if first < 2 && second > 39 {
+    if first < 2 && second > MAX_NARROW {
         return Err(Error::ArcInvalid { arc: second });
     }
     Ok(40 * first as u64 + second as u64)

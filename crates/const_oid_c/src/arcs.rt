@@ -13,7 +13,7 @@ use crate::status::{
     LENGTH, NONE, OUTPUT_TOO_SHORT, Status, code_status, error_status, len_status, number_status,
     too_short_status,
 };
-use const_oid::{Arcs, Error, ObjectIdentifier, ObjectIdentifierRef, Result, outputs};
+use const_oid::{Arcs, Error, ObjectIdentifier, ObjectIdentifierRef, Oid, Result, outputs};
 
 /// Checks contents octets of any length.
 #[unsafe(no_mangle)]
@@ -61,7 +61,7 @@ pub extern "C" fn const_oid_from_arcs(arcs: &[u32], out: &mut [u8]) -> Status
     ensures no_length { result.code ≢ LENGTH }
 {
     // An identifier of the default capacity is quicker to make.
-    match encoded::<39>(arcs) {
+    match encoded::<{ Oid::MAX_SIZE }>(arcs) {
         Err(Error::Length) => write_long_arcs(arcs, out),
         oid => write_octets(oid, out),
     }

@@ -12,7 +12,7 @@ use crate::status::{
     LENGTH, NOT_UTF8, OUTPUT_TOO_SHORT, Status, code_status, error_status, fault_at, len_status,
     too_short_status,
 };
-use const_oid::{Error, ObjectIdentifier, ObjectIdentifierRef, outputs};
+use const_oid::{Error, ObjectIdentifier, ObjectIdentifierRef, Oid, outputs};
 use std::str;
 
 /// Writes the contents octets of the identifier that dotted text denotes.
@@ -24,7 +24,7 @@ pub extern "C" fn const_oid_from_text(text: &[u8], out: &mut [u8]) -> Status
     ensures no_length { result.code ≢ LENGTH }
 {
     // An identifier of the default capacity is quicker to make.
-    let mut octets = [0; 39];
+    let mut octets = [0; Oid::MAX_SIZE];
     match outputs::from_ascii_in_39(text, &mut octets) {
         Ok(oid) => write_bytes(oid.as_bytes(), out),
         Err((fault, index)) => write_after_fault(text, out, fault, index.unwrap_or(0)),

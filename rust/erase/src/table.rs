@@ -133,7 +133,7 @@ pub const CRATES: &[Crate] = &[
             "oid": "#[derive(Copy, Clone, Eq, PartialOrd, Hash)]
                         pub struct ObjectIdentifier<const MAX_SIZE: usize>"
                 => "#[derive(Copy, Clone, PartialEq, Eq, PartialOrd, Hash)]
-                        pub struct ObjectIdentifier<const MAX_SIZE: usize = 39>",
+                        pub struct ObjectIdentifier<const MAX_SIZE: usize = DEFAULT_CAPACITY>",
                 "as above; and a capacity has a default, where a type names none";
             "oid": "impl<const MAX_SIZE: usize> PartialEq for ObjectIdentifier<MAX_SIZE> {
                             fn eq(&self, other: &Self) -> bool { self.ber.eq(&other.ber) }

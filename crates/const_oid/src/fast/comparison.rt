@@ -95,11 +95,11 @@ fn unequal_words(a: &[u8], b: &[u8], end: usize) -> Option<(u64, u64)>
 pub(crate) fn order(a: &[u8], b: &[u8]) -> Ordering
     ensures { result ≡ slice_cmp nat_cmp a.now b.now }
 {
-    let near = a.len().min(b.len());
-    if near < WORD_OCTETS {
+    let min_len = a.len().min(b.len());
+    if min_len < WORD_OCTETS {
         return order_by_octet(a, b);
     }
-    let last = near - WORD_OCTETS;
+    let last = min_len - WORD_OCTETS;
     if let Some((x, y)) = unequal_words(a, b, last) {
         return x.cmp(&y);
     }
@@ -131,10 +131,10 @@ pub(crate) fn same_start(a: &[u8], b: &[u8]) -> usize
     ensures within { result ≤ min (length a.now) (length b.now) }
     ensures same { take result a.now ≡ take result b.now }
 {
-    let near = if a.len() < b.len() { a.len() } else { b.len() };
-    if near >= WORD_OCTETS && word(a, 0) == word(b, 0) {
+    let min_len = if a.len() < b.len() { a.len() } else { b.len() };
+    if min_len >= WORD_OCTETS && word(a, 0) == word(b, 0) {
         WORD_OCTETS
-    } else if near >= HALF_OCTETS && half_word(a) == half_word(b) {
+    } else if min_len >= HALF_OCTETS && half_word(a) == half_word(b) {
         HALF_OCTETS
     } else {
         0

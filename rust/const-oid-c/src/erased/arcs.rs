@@ -7,7 +7,7 @@ use crate::erased::output::write_octets;
 use crate::erased::status::{
     LENGTH, NONE, OUTPUT_TOO_SHORT, Status, code_status, error_status, len_status, number_status, too_short_status,
 };
-use const_oid::internal_for_const_oid_c::{Arcs, Error, ObjectIdentifier, ObjectIdentifierRef, Result, outputs};
+use const_oid::internal_for_const_oid_c::{Arcs, Error, ObjectIdentifier, ObjectIdentifierRef, Oid, Result, outputs};
 
 /// Checks contents octets of any length.
 pub fn const_oid_check(octets: &[u8]) -> Status {
@@ -39,7 +39,7 @@ pub fn const_oid_arc(octets: &[u8], index: usize) -> Status {
 /// Writes the contents octets of arcs.
 pub fn const_oid_from_arcs(arcs: &[u32], out: &mut crate::edge::Output<u8>) -> Status {
     // An identifier of the default capacity is quicker to make.
-    match encoded::<39>(arcs) {
+    match encoded::<{ Oid::MAX_SIZE }>(arcs) {
         Err(Error::Length) => write_long_arcs(arcs, out),
         oid => write_octets(oid, out),
     }

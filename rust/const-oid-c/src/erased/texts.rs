@@ -7,13 +7,13 @@ use crate::erased::output::{write_bytes, write_octets};
 use crate::erased::status::{
     LENGTH, NOT_UTF8, OUTPUT_TOO_SHORT, Status, code_status, error_status, fault_at, len_status, too_short_status,
 };
-use const_oid::internal_for_const_oid_c::{Error, ObjectIdentifier, ObjectIdentifierRef, outputs};
+use const_oid::internal_for_const_oid_c::{Error, ObjectIdentifier, ObjectIdentifierRef, Oid, outputs};
 use core::str;
 
 /// Writes the contents octets of the identifier that dotted text denotes.
 pub fn const_oid_from_text(text: &[u8], out: &mut crate::edge::Output<u8>) -> Status {
     // An identifier of the default capacity is quicker to make.
-    let mut octets = [0; 39];
+    let mut octets = [0; Oid::MAX_SIZE];
     match outputs::from_ascii_in_39(text, &mut octets) {
         Ok(oid) => write_bytes(oid.as_bytes(), out),
         Err((fault, index)) => write_after_fault(text, out, fault, index.unwrap_or(0)),

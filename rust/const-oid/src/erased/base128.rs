@@ -4,6 +4,7 @@
 
 use crate::erased::Arc;
 use crate::erased::error::{Error, Result};
+use crate::erased::parts::CONTINUED;
 
 /// The number of the first subidentifier, and the octets after it.
 // Apart from `checked_group`, which tests what is known here: the row "arcs, all" of SPEED.
@@ -11,7 +12,7 @@ use crate::erased::error::{Error, Result};
 pub(crate) fn read_group(octets: &[u8]) -> (u64, &[u8]) {
     match octets {
         // A subidentifier of one octet is the most frequent one.
-        [octet, after @ ..] if *octet < 128 => (*octet as u64, after),
+        [octet, after @ ..] if *octet < CONTINUED => (*octet as u64, after),
         octets => read_two_to_five(octets),
     }
 }
@@ -21,14 +22,14 @@ pub(crate) fn read_group(octets: &[u8]) -> (u64, &[u8]) {
 fn read_two_to_five(octets: &[u8]) -> (u64, &[u8]) {
     // The arms that return 0 are not reached, since a subidentifier of valid octets ends, within five octets.
     match octets {
-        [a, b, after @ ..] if *b < 128 => (add_digit(add_digit(0, *a), *b), after),
+        [a, b, after @ ..] if *b < CONTINUED => (add_digit(add_digit(0, *a), *b), after),
         [a, b, c, after @ ..] => {
             let number = add_digit(add_digit(add_digit(0, *a), *b), *c);
-            if *c < 128 {
+            if *c < CONTINUED {
                 return (number, after);
             }
             match after {
-                [d, after @ ..] if *d < 128 => (add_digit(number, *d), after),
+                [d, after @ ..] if *d < CONTINUED => (add_digit(number, *d), after),
                 [d, e, after @ ..] => (add_digit(add_digit(number, *d), *e), after),
                 _ => (0, &[]),
             }
@@ -41,14 +42,14 @@ fn read_two_to_five(octets: &[u8]) -> (u64, &[u8]) {
 #[inline(always)]
 pub(crate) fn checked_group(octets: &[u8], limit: u64) -> Option<(u64, &[u8])> {
     match octets {
-        [a, after @ ..] if *a < 128 => Some((*a as u64, after)),
-        [a, ..] if *a == 128 => None,
-        [a, b, after @ ..] if *b < 128 => Some((add_digit(add_digit(0, *a), *b), after)),
-        [a, b, c, after @ ..] if *c < 128 => Some((add_digit(add_digit(add_digit(0, *a), *b), *c), after)),
-        [a, b, c, d, after @ ..] if *d < 128 => {
+        [a, after @ ..] if *a < CONTINUED => Some((*a as u64, after)),
+        [a, ..] if *a == CONTINUED => None,
+        [a, b, after @ ..] if *b < CONTINUED => Some((add_digit(add_digit(0, *a), *b), after)),
+        [a, b, c, after @ ..] if *c < CONTINUED => Some((add_digit(add_digit(add_digit(0, *a), *b), *c), after)),
+        [a, b, c, d, after @ ..] if *d < CONTINUED => {
             Some((add_digit(add_digit(add_digit(add_digit(0, *a), *b), *c), *d), after))
         }
-        [_, _, _, _, e, after @ ..] if *e < 128 && number_of_five(octets) <= limit => {
+        [_, _, _, _, e, after @ ..] if *e < CONTINUED && number_of_five(octets) <= limit => {
             Some((number_of_five(octets), after))
         }
         _ => None,
@@ -59,7 +60,7 @@ pub(crate) fn checked_group(octets: &[u8], limit: u64) -> Option<(u64, &[u8])> {
 #[cold]
 #[inline]
 pub(crate) fn group_fault(octets: &[u8], limit: u64) -> Error {
-    if octets[0] == 128 || octets.len() < 5 {
+    if octets[0] == CONTINUED || octets.len() < 5 {
         return Error::Base128;
     }
     if number_of_five(octets) > limit || octets.len() > 5 {
@@ -98,7 +99,7 @@ pub(crate) const fn append_group(out: &mut [u8], used: usize, number: u64, capac
                     if at >= capacity {
                         return Err(Error::Length);
                     }
-                    out[at] = 128 + ((number >> shift) % 128) as u8;
+                    out[at] = CONTINUED + ((number >> shift) % 128) as u8;
                     at += 1;
                 }
                 shift -= 7;
@@ -107,7 +108,7 @@ pub(crate) const fn append_group(out: &mut [u8], used: usize, number: u64, capac
         if at >= capacity {
             return Err(Error::Length);
         }
-        out[at] = 128 + ((number >> 7) % 128) as u8;
+        out[at] = CONTINUED + ((number >> 7) % 128) as u8;
         at += 1;
     }
     if at >= capacity {

@@ -11,6 +11,9 @@ use crate::erased::parser::{fault_of, parse_inlined};
 use core::cmp::Ordering;
 use core::hash::{Hash, Hasher};
 
+/// How many octets fit an identifier of the default capacity.
+pub(crate) const DEFAULT_CAPACITY: usize = 39;
+
 /// The octets of an owned identifier: at most `SIZE`, and never more than 255.
 ///
 /// It has no public constructor.

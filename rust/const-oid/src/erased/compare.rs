@@ -4,7 +4,7 @@
 
 use crate::erased::fast::comparison::{are_equal, same_start};
 use crate::erased::fast::words::{CASE, WORD_OCTETS, last_word};
-use crate::erased::parts::{first_octets, without_last_part};
+use crate::erased::parts::{CONTINUED, first_octets, without_last_part};
 use core::cmp::Ordering;
 
 /// Whether octets begin with others.
@@ -29,12 +29,12 @@ pub(crate) const fn begins_with(octets: &[u8], prefix: &[u8]) -> bool {
 #[inline]
 #[must_use]
 pub const fn order_by_parts(a: &[u8], b: &[u8]) -> Ordering {
-    let near = lesser(a.len(), b.len());
-    let i = first_difference(a, b, same_start(a, b), near);
-    if i == near {
+    let min_len = lesser(a.len(), b.len());
+    let i = first_difference(a, b, same_start(a, b), min_len);
+    if i == min_len {
         return order_of_numbers(a.len(), b.len());
     }
-    if a[i] < 128 || b[i] < 128 {
+    if a[i] < CONTINUED || b[i] < CONTINUED {
         return order_of_numbers(a[i] as usize, b[i] as usize);
     }
     match order_of_lens(a, b, i) {
@@ -46,13 +46,13 @@ pub const fn order_by_parts(a: &[u8], b: &[u8]) -> Ordering {
 /// The order of the lengths of the subidentifiers that begin at `start`. They are read in turn.
 #[inline(always)]
 const fn order_of_lens(a: &[u8], b: &[u8], start: usize) -> Ordering {
-    let near = lesser(a.len(), b.len());
+    let min_len = lesser(a.len(), b.len());
     let mut index = start;
-    while index < near {
-        if a[index] < 128 {
+    while index < min_len {
+        if a[index] < CONTINUED {
             return if ends_at(b, index) { Ordering::Equal } else { Ordering::Less };
         }
-        if b[index] < 128 {
+        if b[index] < CONTINUED {
             return if ends_at(a, index) { Ordering::Equal } else { Ordering::Greater };
         }
         index += 1;
@@ -63,13 +63,13 @@ const fn order_of_lens(a: &[u8], b: &[u8], start: usize) -> Ordering {
 /// Whether a subidentifier ends at `index`: its octet is below 128, or the last one.
 #[inline(always)]
 const fn ends_at(octets: &[u8], index: usize) -> bool {
-    octets[index] < 128 || index + 1 == octets.len()
+    octets[index] < CONTINUED || index + 1 == octets.len()
 }
 
 /// The subidentifiers that valid octets and others begin with, up to the first that differs.
 pub(crate) fn common_parts<'a>(octets: &'a [u8], others: &[u8]) -> &'a [u8] {
-    let near = octets.len().min(others.len());
-    let same = first_difference(octets, others, same_start(octets, others), near);
+    let min_len = octets.len().min(others.len());
+    let same = first_difference(octets, others, same_start(octets, others), min_len);
     if same == octets.len() {
         return octets;
     }

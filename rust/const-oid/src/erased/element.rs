@@ -5,6 +5,9 @@
 /// The tag of an object identifier: class universal, primitive, number 6.
 const TAG: u8 = 6;
 
+/// Bit 8 of the first length octet, which is set in the long form, for lengths from 128 on (X.690, 8.1.3 and 10.1).
+const LONG_FORM: u8 = 128;
+
 /// The contents octets of the element that octets begin with, and the octets after it. `None` if they begin with none.
 #[inline]
 pub(crate) fn split_element(der: &[u8]) -> Option<(&[u8], &[u8])> {
@@ -25,8 +28,8 @@ pub(crate) fn split_element(der: &[u8]) -> Option<(&[u8], &[u8])> {
 #[inline]
 fn read_length(octets: &[u8]) -> Option<(u64, &[u8])> {
     match octets {
-        [first, rest @ ..] if *first < 128 => Some((*first as u64, rest)),
-        [first, rest @ ..] => read_long_length(*first as usize - 128, rest),
+        [first, rest @ ..] if *first < LONG_FORM => Some((*first as u64, rest)),
+        [first, rest @ ..] => read_long_length((*first - LONG_FORM) as usize, rest),
         _ => None,
     }
 }
@@ -49,7 +52,7 @@ fn read_long_length(count: usize, octets: &[u8]) -> Option<(u64, &[u8])> {
 #[inline]
 fn is_shortest(len: u64, digits: &[u8]) -> bool {
     match digits {
-        [first, ..] => *first > 0 && len >= 128,
+        [first, ..] => *first > 0 && len >= LONG_FORM as u64,
         [] => false,
     }
 }
@@ -78,8 +81,8 @@ pub(crate) fn write_element(contents: &[u8], out: &mut [u8]) -> Option<usize> {
         return None;
     }
     out[0] = TAG;
-    // With `len < 128` for the test, rustc keeps checks of indices.
-    out[1] = if count > 0 { 128 + count as u8 } else { len as u8 };
+    // With the length for the test, rustc keeps checks of indices.
+    out[1] = if count > 0 { LONG_FORM + count as u8 } else { len as u8 };
     out[2..start].copy_from_slice(&(len as u64).to_be_bytes()[8 - count..]);
     out[start..end].copy_from_slice(contents);
     Some(end)
@@ -88,7 +91,7 @@ pub(crate) fn write_element(contents: &[u8], out: &mut [u8]) -> Option<usize> {
 /// How many of a length's octets follow the first: none below 128.
 #[inline]
 const fn subsequent_count(len: usize) -> usize {
-    if len < 128 {
+    if len < LONG_FORM as usize {
         return 0;
     }
     8 - (len as u64).leading_zeros() as usize / 8

@@ -4,7 +4,7 @@
 
 use crate::erased::Arc;
 use crate::erased::arcs::Arcs;
-use crate::erased::buffer::Buffer;
+use crate::erased::buffer::{Buffer, DEFAULT_CAPACITY};
 use crate::erased::element::split_element;
 use crate::erased::error::{Error, Result};
 use crate::erased::fast::comparison::are_equal;
@@ -38,16 +38,16 @@ use core::str::FromStr;
 /// assert!(a < b && ByArcs(a) > ByArcs(b));
 /// ```
 #[derive(Copy, Clone, PartialEq, Eq, PartialOrd, Hash)]
-pub struct ObjectIdentifier<const MAX_SIZE: usize = 39> {
+pub struct ObjectIdentifier<const MAX_SIZE: usize = DEFAULT_CAPACITY> {
     ber: Buffer<MAX_SIZE>,
 }
 
 /// An identifier of the default capacity, 39 octets.
-pub type Oid = ObjectIdentifier<39>;
+pub type Oid = ObjectIdentifier<DEFAULT_CAPACITY>;
 
-impl ObjectIdentifier<39> {
+impl ObjectIdentifier<DEFAULT_CAPACITY> {
     /// The default capacity, 39 octets.
-    pub const MAX_SIZE: usize = 39;
+    pub const MAX_SIZE: usize = DEFAULT_CAPACITY;
 
     /// Parses dotted text, such as `1.2.840.10045.2.1`, with any number of leading zeros in an arc.
     ///
@@ -138,7 +138,7 @@ impl ObjectIdentifier<39> {
     }
 }
 
-impl FromStr for ObjectIdentifier<39> {
+impl FromStr for ObjectIdentifier<DEFAULT_CAPACITY> {
     type Err = Error;
 
     /// Parses dotted text, as [`new`](Self::new) does.

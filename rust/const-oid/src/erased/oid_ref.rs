@@ -12,7 +12,7 @@ use crate::erased::fast::comparison::{are_equal, order};
 use crate::erased::fast::lanes::count_below;
 use crate::erased::fast::steps::gallop;
 use crate::erased::parser::{fault_and_index, parse_inlined};
-use crate::erased::parts::without_last_part;
+use crate::erased::parts::{CONTINUED, without_last_part};
 use crate::erased::root::split_root;
 use crate::erased::text::{text_len, write_checked, write_text};
 use crate::erased::valid::check;
@@ -164,7 +164,7 @@ impl ObjectIdentifierRef {
     #[inline]
     #[must_use]
     pub fn len(&self) -> usize {
-        count_below(self.as_bytes(), 128) + 1
+        count_below(self.as_bytes(), CONTINUED) + 1
     }
 
     /// The length in bytes of the text that `{}` writes, or `usize::MAX` if it is greater than that.

@@ -3,6 +3,7 @@
 //! Octets and identifiers in outputs of the caller.
 
 use crate::erased::Arc;
+use crate::erased::buffer::DEFAULT_CAPACITY;
 use crate::erased::encoder::{ONE_PASS_ARCS, encode, encode_in_one_pass};
 use crate::erased::error::{Error, Result};
 use crate::erased::oid_ref::ObjectIdentifierRef;
@@ -72,9 +73,9 @@ pub fn bytes_from_arcs(arcs: &[Arc], out: &mut [u8]) -> Result<usize> {
 #[inline(always)]
 pub fn from_ascii_in_39<'a>(
     text: &[u8],
-    out: &'a mut [u8; 39],
+    out: &'a mut [u8; DEFAULT_CAPACITY],
 ) -> result::Result<&'a ObjectIdentifierRef, (Error, Option<usize>)> {
-    match parse_inlined(text, out, 39) {
+    match parse_inlined(text, out, DEFAULT_CAPACITY) {
         Ok(len) => Ok(ObjectIdentifierRef::from_checked(&out[..len])),
         Err(wrong) => Err(fault_and_index(text, wrong)),
     }

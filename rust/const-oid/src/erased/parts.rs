@@ -3,6 +3,9 @@
 //! Subidentifiers in octets: where they begin, and where they end. In names, they are `parts`. What is left after the
 //! last octet below 128 is a part, too. Also the first octets of a slice, and a copy by a loop.
 
+/// Bit 8. It is set in all octets of a subidentifier but the last (X.690, 8.19.2).
+pub(crate) const CONTINUED: u8 = 128;
+
 /// The octets after the first `parts` subidentifiers.
 #[inline(always)]
 pub(crate) fn skip_parts(octets: &[u8], parts: usize) -> &[u8] {
@@ -11,7 +14,7 @@ pub(crate) fn skip_parts(octets: &[u8], parts: usize) -> &[u8] {
         if left == 0 {
             return &octets[i..];
         }
-        left -= usize::from(*octet < 128);
+        left -= usize::from(*octet < CONTINUED);
     }
     &octets[octets.len()..]
 }
@@ -22,7 +25,7 @@ pub(crate) fn without_last_part(octets: &[u8]) -> &[u8] {
     let Some((_, prefix)) = octets.split_last() else {
         return octets;
     };
-    match prefix.iter().rposition(|octet| *octet < 128) {
+    match prefix.iter().rposition(|octet| *octet < CONTINUED) {
         Some(index) => first_octets(prefix, index + 1),
         None => &[],
     }

@@ -5,6 +5,9 @@
 use crate::erased::Arc;
 use crate::erased::error::{Error, Result};
 
+/// The greatest second arc under 0 and 1.
+pub(crate) const MAX_NARROW: Arc = 39;
+
 /// The greatest first subidentifier: of the first arc 2 and the greatest second arc.
 pub(crate) const MAX_FIRST: u64 = 2 * 40 + Arc::MAX as u64;
 
@@ -20,7 +23,7 @@ pub(crate) const fn check_first(first: Arc) -> Result<()> {
 /// The number that holds both arcs. Refuses a second arc past 39 under 0 and 1. Under 2, any of 32 bits is allowed.
 #[inline(always)]
 pub(crate) const fn join_root(first: Arc, second: Arc) -> Result<u64> {
-    if first < 2 && second > 39 {
+    if first < 2 && second > MAX_NARROW {
         return Err(Error::ArcInvalid { arc: second });
     }
     Ok(40 * first as u64 + second as u64)

@@ -5,7 +5,8 @@ use Rattle.const_oid.proofs.compare.order_of_lens.Goals as goal
 pub loop-index-preserved : goal.loop-index-preserved
 loop-index-preserved c = record {
   same = c.loop-index.invariant.same
-      ∙ lens_on c.args.a.now c.args.b.now c.loop-index.index (omega arith) c.if-a-index-lt128.false c.if-b-index-lt128.false;
+      ∙ lens_on c.args.a.now c.args.b.now c.loop-index.index (omega arith)
+      c.if-a-index-lt-CONTINUED.false c.if-b-index-lt-CONTINUED.false;
   within = omega arith;
 }
 

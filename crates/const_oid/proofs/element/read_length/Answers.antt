@@ -8,5 +8,5 @@ returns-in_default-clause-octets c n rest small same = grind (arith, common_step
 
 pub returns-in-len1-up-clause-octets : goal.returns-in-len1-up-clause-octets
 returns-in-len1-up-clause-octets c =
-    let form = length_octets-short _ c.if-first-lt128.true in
+    let form = length_octets-short _ c.if-first-lt-LONG_FORM.true in
     grind (arith, common_steps, form)

@@ -73,11 +73,11 @@ const fn unequal_words(a: &[u8], b: &[u8], end: usize) -> Option<(u64, u64)> {
 /// are fewer than a word has.
 #[inline(always)]
 pub(crate) fn order(a: &[u8], b: &[u8]) -> Ordering {
-    let near = a.len().min(b.len());
-    if near < WORD_OCTETS {
+    let min_len = a.len().min(b.len());
+    if min_len < WORD_OCTETS {
         return order_by_octet(a, b);
     }
-    let last = near - WORD_OCTETS;
+    let last = min_len - WORD_OCTETS;
     if let Some((x, y)) = unequal_words(a, b, last) {
         return x.cmp(&y);
     }
@@ -102,10 +102,10 @@ fn order_by_octet(a: &[u8], b: &[u8]) -> Ordering {
 /// How many of the first octets are found to be the same: a word, half a word or none.
 #[inline(always)]
 pub(crate) const fn same_start(a: &[u8], b: &[u8]) -> usize {
-    let near = if a.len() < b.len() { a.len() } else { b.len() };
-    if near >= WORD_OCTETS && word(a, 0) == word(b, 0) {
+    let min_len = if a.len() < b.len() { a.len() } else { b.len() };
+    if min_len >= WORD_OCTETS && word(a, 0) == word(b, 0) {
         WORD_OCTETS
-    } else if near >= HALF_OCTETS && half_word(a) == half_word(b) {
+    } else if min_len >= HALF_OCTETS && half_word(a) == half_word(b) {
         HALF_OCTETS
     } else {
         0
