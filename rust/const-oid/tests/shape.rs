@@ -4,11 +4,12 @@ use const_oid::{
     Arc, Arcs, AssociatedOid, Buffer, ByArcs, DynAssociatedOid, Error, ObjectIdentifier, ObjectIdentifierRef, Result,
 };
 use std::borrow::Borrow;
+use std::cell::Cell;
 use std::fmt::{Debug, Display};
 use std::hash::Hash;
 use std::iter::FusedIterator;
 use std::ops::Deref;
-use std::panic::catch_unwind;
+use std::panic::{catch_unwind, set_hook, take_hook};
 use std::str::FromStr;
 
 /// A function for all types with these parameters, which compiles if they have a trait.
@@ -108,6 +109,12 @@ fn constants_have_their_values() {
 
 #[test]
 fn a_wrong_text_panics_with_the_text_of_its_error() {
+    thread_local!(static LINE: Cell<u32> = const { Cell::new(0) });
+    let usual = take_hook();
+    set_hook(Box::new(move |panic| {
+        LINE.set(panic.location().unwrap().line());
+        usual(panic);
+    }));
     for (text, expected) in [
         ("3.1", "OID contains invalid arc"),
         ("1.40", "OID contains invalid arc"),
@@ -118,7 +125,8 @@ fn a_wrong_text_panics_with_the_text_of_its_error() {
         ("1.2..3", "repeated consecutive '..' characters in OID"),
         ("1.2.", "OID ends with invalid trailing '.'"),
     ] {
-        let panic = catch_unwind(|| ObjectIdentifier::new_unwrap(text)).expect_err(text);
+        let (line, panic) = (line!(), catch_unwind(|| ObjectIdentifier::new_unwrap(text)).expect_err(text));
+        assert_eq!(LINE.get(), line, "the line of the panic: {text}");
         let message = panic.downcast_ref::<String>().map(String::as_str);
         assert_eq!(message.or(panic.downcast_ref::<&str>().copied()), Some(expected), "{text}");
     }

@@ -151,6 +151,7 @@ pub const CRATES: &[Crate] = &[
             "oid": "Err(_) => unreachable!(\"not the text of an object identifier\")"
                 => "Err(error) => panic!(\"{}\", crate::conversions::panic_text(error))",
                 "outside of constants, Rust does not check the text before the program runs";
+            "oid": "pub const fn new_unwrap" => "#[track_caller]\npub const fn new_unwrap", "it panics at its caller's line";
         },
     },
     Crate {

@@ -84,6 +84,7 @@ impl ObjectIdentifier<DEFAULT_CAPACITY> {
     /// If the text is invalid. A constant of an invalid text does not compile.
     // In Rattle, the checker rejects an invalid text, so nothing panics.
     #[must_use]
+    #[track_caller]
     pub const fn new_unwrap(s: &str) -> Self {
         match Self::new(s) {
             Ok(oid) => oid,
