@@ -8,12 +8,12 @@ pub fn header(table: &str) -> String {
     let mut sorted: Vec<(usize, &Row)> = rows.iter().enumerate().collect();
     sorted.sort_by(|a, b| a.1.arcs.cmp(&b.1.arcs));
     let entries = sorted.iter().enumerate();
-    let mut by_place: Vec<(usize, usize)> = entries.map(|(index, (place, _))| (*place, index)).collect();
-    by_place.sort();
-    // At least one place is free.
-    let places = (rows.len() + 1).next_power_of_two();
-    let shift = 32 - places.ilog2();
-    let by_name = by_place.iter().map(|(place, index)| (hash(rows[*place].name.as_bytes(), 32) >> shift, *index));
+    let mut by_row: Vec<(usize, usize)> = entries.map(|(index, (row, _))| (*row, index)).collect();
+    by_row.sort();
+    // At least one slot is free.
+    let slots = (rows.len() + 1).next_power_of_two();
+    let shift = 32 - slots.ilog2();
+    let by_name = by_row.iter().map(|(row, index)| (hash(rows[*row].name.as_bytes(), 32) >> shift, *index));
     let by_octets = sorted.iter().enumerate().map(|(index, (_, row))| (hash(&encoding(&row.arcs), 0) >> shift, index));
     let constant = |row: &Row| format!("CONST_OID_{}_{}", row.module.to_uppercase(), row.constant);
     let define = |row: &Row| format!("#define {} \"{}\"\n", constant(row), octets(&row.arcs));
@@ -25,21 +25,21 @@ pub fn header(table: &str) -> String {
         ("@CONSTANTS@", rows.iter().map(define).collect()),
         ("@OCTETS@", lines(sorted.iter().map(|entry| item(entry.1)))),
         ("@NAMES@", lines(sorted.iter().map(|entry| name(entry.1)))),
-        ("@PLACES@", places.to_string()),
+        ("@SLOTS@", slots.to_string()),
         ("@SHIFT@", shift.to_string()),
-        ("@BY_NAME@", by_hash(by_name, rows.len(), places)),
-        ("@BY_OCTETS@", by_hash(by_octets, rows.len(), places)),
+        ("@BY_NAME@", by_hash(by_name, rows.len(), slots)),
+        ("@BY_OCTETS@", by_hash(by_octets, rows.len(), slots)),
     ];
     let filled = |header: String, (mark, text): (&str, String)| header.replace(mark, &text);
     parts.into_iter().fold(include_str!("c_names.h").into(), filled)
 }
 
-/// Hashes and indexes in `places` places for `c_names.h`: an index is in the first place that is free from its hash on.
-fn by_hash(hashes: impl Iterator<Item = (u32, usize)>, free: usize, places: usize) -> String {
-    let mut by_hash = vec![free; places];
+/// Hashes and indexes in `slots` slots for `c_names.h`: an index is in the first slot that is free from its hash on.
+fn by_hash(hashes: impl Iterator<Item = (u32, usize)>, free: usize, slots: usize) -> String {
+    let mut by_hash = vec![free; slots];
     for (hash, index) in hashes {
-        let place = (hash as usize..).find(|place| by_hash[place % places] == free);
-        by_hash[place.unwrap() % places] = index;
+        let slot = (hash as usize..).find(|slot| by_hash[slot % slots] == free);
+        by_hash[slot.unwrap() % slots] = index;
     }
     lines(by_hash.iter().map(|index| format!("{index},")))
 }
