@@ -63,11 +63,11 @@ pub fn run(arguments: &[String], out: &mut impl Write, errors: &mut impl Write) 
         write!(errors, "{HELP}")?;
         return Ok(1);
     }
-    if inputs[0] == "--help" {
+    if ["-h", "--help"].contains(&&*inputs[0]) {
         write!(out, "{HELP}")?;
         return Ok(0);
     }
-    let mut status = 0;
+    let (mut status, mut has_other) = (0, false);
     for input in inputs {
         match read(input, is_hex) {
             Ok(oid) => writeln!(out, "{}", describe(&oid))?,
@@ -76,13 +76,25 @@ pub fn run(arguments: &[String], out: &mut impl Write, errors: &mut impl Write) 
                 let line = format!("{input}: {error}").escape_debug().to_string();
                 writeln!(errors, "{}", line.replace("\\'", "'"))?;
                 status = 1;
+                has_other |= !input.contains('.') && octets_of(input).is_none();
             }
         }
+    }
+    if has_other {
+        writeln!(errors, "--help says what an input may be")?;
     }
     Ok(status)
 }
 
-fn main() -> io::Result<ExitCode> {
+fn main() -> ExitCode {
     let arguments: Vec<String> = std::env::args_os().skip(1).map(|text| text.to_string_lossy().into()).collect();
-    Ok(ExitCode::from(run(&arguments, &mut io::stdout(), &mut io::stderr())?))
+    run(&arguments, &mut io::stdout(), &mut io::stderr()).map_or_else(failed, ExitCode::from)
+}
+
+/// Where output fails. The reader of a closed pipe wants no more, and no word of it.
+fn failed(error: io::Error) -> ExitCode {
+    if error.kind() != io::ErrorKind::BrokenPipe {
+        let _ = writeln!(io::stderr(), "oid: cannot write: {error}");
+    }
+    ExitCode::FAILURE
 }

@@ -24,7 +24,8 @@ const ROWS: &[(&str, &str, &str)] = &[
     ("2..5", "", "2..5: repeated consecutive '..' characters in OID\n"),
     ("2.\x1B[31m5", "", "2.\\u{1b}[31m5: expected digit, got '\\u{1b}'\n"),
     ("2A8001", "", "2A8001: OID contains arc with invalid base 128 encoding\n"),
-    ("2A8", "", "2A8: not octets in hexadecimal\n"),
+    ("2A8", "", "2A8: not octets in hexadecimal\n--help says what an input may be\n"),
+    ("2.5.4.3 --", CN, "--: not octets in hexadecimal\n--help says what an input may be\n"),
     ("--hex 2.5.4.3", "", "2.5.4.3: not octets in hexadecimal\n"),
     ("3.1 2.5.4.3", CN, "3.1: OID contains out-of-range arc: 3\n"),
 ];
@@ -49,6 +50,7 @@ fn prints_each_row() {
 fn without_inputs_the_help_is_an_error() {
     let (help, errors, status) = run("--help");
     assert!(help.contains("oid [--hex] INPUT..") && errors.is_empty() && status == 0);
+    assert_eq!(run("-h"), (help.clone(), errors, status));
     assert_eq!(run("--hex"), (String::new(), help, 1));
 }
 
