@@ -130,7 +130,8 @@ fn laid_out(rust: &str) -> Result<String> {
         let output = rustfmt.wait_with_output()?;
         Ok(String::from_utf8(output.stdout).ok().filter(|_| output.status.success()))
     };
-    run().map_err(|error| format!("rustfmt: {error}"))?.ok_or_else(|| format!("rustfmt fails on:\n{rust}"))
+    let missing = "`rustup component add rustfmt` installs it, or Debian's `rustfmt` or `rustfmt-web`";
+    run().map_err(|error| format!("rustfmt: {error}. {missing}"))?.ok_or_else(|| format!("rustfmt fails on:\n{rust}"))
 }
 
 /// The place of a path from the top of the repository that cargo runs this in.
