@@ -42,7 +42,7 @@ fn read_length(octets: &[u8]) -> Option<(u64, &[u8])>
 {
     match octets {
         [first, rest @ ..] if *first < LONG_FORM => Some((*first as u64, rest)),
-        [first, rest @ ..] => read_long_length((*first - LONG_FORM) as usize, rest),
+        [first, rest @ ..] => read_long_length(*first as usize - LONG_FORM as usize, rest),
         _ => None,
     }
 }
