@@ -45,21 +45,20 @@ HAS_VALUE(USUAL_OCTETS, 39);
 HAS_VALUE(MAX_ERROR_TEXT, 47);
 
 /* The functions again, by the types of the source: a compiler rejects a header that has others. */
-#define TYPES_OCTETS const uint8_t *, size_t
-#define TYPES_DER const uint8_t *, size_t
-#define TYPES_TEXT const char *, size_t
-#define TYPES_ARCS const uint32_t *, size_t
-#define TYPES_LIST const const_oid_octets *, size_t
-#define TYPES_ITEM const void *
-#define TYPES_INDEX size_t
-#define TYPES_NUMBER uint32_t
-#define TYPES_OCTETS_OUT uint8_t *, size_t
-#define TYPES_TEXT_OUT char *, size_t
-#define TYPES_ARCS_OUT uint32_t *, size_t
-#define TYPES_RANGE_OUT const_oid_range *
-#define TYPES_ITEM_OUT const_oid_octets *
+#define TYPE_OCTETS uint8_t
+#define TYPE_DER uint8_t
+#define TYPE_TEXT char
+#define TYPE_ARCS uint32_t
+#define TYPE_LIST const_oid_octets
+#define TYPE_ITEM const void *
+#define TYPE_INDEX size_t
+#define TYPE_NUMBER uint32_t
+#define TYPE_RANGE_OUT const_oid_range *
+#define TYPE_ITEM_OUT const_oid_octets *
 #define NOTHING void
-#define ARGUMENT(kind, i) TYPES_##kind
+#define IN(kind, i) const TYPE_##kind *, size_t
+#define OUT(kind, i) TYPE_##kind *, size_t
+#define VALUE(kind, i) TYPE_##kind
 #define CALL(result, name, ...) EXTERN result name(__VA_ARGS__);
 #include "calls.h"
 

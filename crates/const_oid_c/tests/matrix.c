@@ -46,17 +46,12 @@ typedef struct {
 static const_oid_status status_of(uint32_t number) { return (const_oid_status){CONST_OID_OK, number, 0}; }
 
 /* An argument as a function is given it. */
-#define GIVEN_OCTETS(i) a[i].items, a[i].len
-#define GIVEN_DER(i) a[i].items, a[i].len
-#define GIVEN_TEXT(i) a[i].items, a[i].len
-#define GIVEN_ARCS(i) a[i].items, a[i].len
-#define GIVEN_LIST(i) a[i].items, a[i].len
+#define IN(kind, i) a[i].items, a[i].len
+#define OUT(kind, i) (void *)a[i].items, a[i].len
+#define VALUE(kind, i) GIVEN_##kind(i)
 #define GIVEN_ITEM(i) a[i].items == NULL && a[i].len > 0 ? NULL : &(const_oid_octets){a[i].items, a[i].len}
 #define GIVEN_INDEX(i) a[i].len
 #define GIVEN_NUMBER(i) (uint32_t)a[i].len
-#define GIVEN_OCTETS_OUT(i) (void *)a[i].items, a[i].len
-#define GIVEN_TEXT_OUT(i) (void *)a[i].items, a[i].len
-#define GIVEN_ARCS_OUT(i) (void *)a[i].items, a[i].len
 #define GIVEN_RANGE_OUT(i) (void *)a[i].items
 #define GIVEN_ITEM_OUT(i) (void *)a[i].items
 
@@ -71,7 +66,6 @@ static const_oid_status status_of(uint32_t number) { return (const_oid_status){C
 #define PROVED(name) name
 #endif
 
-#define ARGUMENT(kind, i) GIVEN_##kind(i)
 #define NOTHING
 #define CALLER(result, name, called, ...) \
     static const_oid_status name(const argument *a) { \
@@ -87,15 +81,19 @@ static const_oid_status status_of(uint32_t number) { return (const_oid_status){C
 
 /* The inline functions, which calls.h does not have, return the detail of a status, which is 0 for an error. */
 #define INLINE(name, of) \
-    CALLER(int, name##_call, name, ARGUMENT(OCTETS, 0), ARGUMENT(OCTETS, 1)) \
+    CALLER(int, name##_call, name, IN(OCTETS, 0), IN(OCTETS, 1)) \
     static const_oid_status name##_proved(const argument *a) { return status_of(of##_proved(a).detail); }
 INLINE(const_oid_is_under, const_oid_starts_with)
 INLINE(const_oid_is_equal, const_oid_eq)
-#undef ARGUMENT
+#undef IN
+#undef OUT
+#undef VALUE
 #undef NOTHING
 
 static function functions[] = {
-#define ARGUMENT(kind, i) kind
+#define IN(kind, i) kind
+#define OUT(kind, i) kind##_OUT
+#define VALUE(kind, i) kind
 #define CALL(result, name, ...) {#name, name##_call, name##_proved, {__VA_ARGS__}, {1, 1}},
 #include "calls.h"
     CALL(int, const_oid_is_under, OCTETS, OCTETS)

@@ -1,17 +1,17 @@
 //! The functions for C, from their heads in Rattle: their exports over pointers, and a list for the tests in C.
 
-/// Types of arguments, and what the list for C calls them.
+/// Types of arguments, and what the list for C has for them: an array that is read or written, or a value.
 const KINDS: [(&str, &str); 10] = [
-    ("&[u8]", "OCTETS"),
-    ("&[u32]", "ARCS"),
-    ("&[Octets<'_>]", "LIST"),
-    ("&Octets<'_>", "ITEM"),
-    ("&mut [u8]", "OCTETS_OUT"),
-    ("&mut [u32]", "ARCS_OUT"),
-    ("&mut Range", "RANGE_OUT"),
-    ("&mut Octets<'_>", "ITEM_OUT"),
-    ("usize", "INDEX"),
-    ("u32", "NUMBER"),
+    ("&[u8]", "IN(OCTETS"),
+    ("&[u32]", "IN(ARCS"),
+    ("&[Octets<'_>]", "IN(LIST"),
+    ("&Octets<'_>", "VALUE(ITEM"),
+    ("&mut [u8]", "OUT(OCTETS"),
+    ("&mut [u32]", "OUT(ARCS"),
+    ("&mut Range", "VALUE(RANGE_OUT"),
+    ("&mut Octets<'_>", "VALUE(ITEM_OUT"),
+    ("usize", "VALUE(INDEX"),
+    ("u32", "VALUE(NUMBER"),
 ];
 
 /// Types of results, and those of C.
@@ -66,9 +66,9 @@ impl Call {
         for (index, (name, of)) in self.arguments.iter().enumerate() {
             let is_text =
                 name == "text" || name == "out" && ["const_oid_to_text", "const_oid_error_text"].contains(&&*self.name);
-            let kind = if name == "der" { "DER" } else { in_c(&KINDS, of) };
+            let kind = if name == "der" { "IN(DER" } else { in_c(&KINDS, of) };
             let kind = if is_text { kind.replace("OCTETS", "TEXT") } else { kind.into() };
-            out += &format!(", ARGUMENT({kind}, {index})");
+            out += &format!(", {kind}, {index})");
         }
         out + if self.arguments.is_empty() { ", NOTHING)\n" } else { ")\n" }
     }
