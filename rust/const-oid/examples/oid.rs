@@ -67,34 +67,28 @@ pub fn run(arguments: &[String], out: &mut impl Write, errors: &mut impl Write) 
         write!(out, "{HELP}")?;
         return Ok(0);
     }
-    let (mut status, mut has_other) = (0, false);
+    let mut status = 0;
     for input in inputs {
         match read(input, is_hex) {
             Ok(oid) => writeln!(out, "{}", describe(&oid))?,
             Err(error) => {
+                let advice = if input.contains('.') || octets_of(input).is_some() { "" } else { ". --help says more" };
                 // The error, too, may have a control character of the input.
-                let line = format!("{input}: {error}").escape_debug().to_string();
+                let line = format!("{input}: {error}{advice}").escape_debug().to_string();
                 writeln!(errors, "{}", line.replace("\\'", "'"))?;
                 status = 1;
-                has_other |= !input.contains('.') && octets_of(input).is_none();
             }
         }
-    }
-    if has_other {
-        writeln!(errors, "--help says what an input may be")?;
     }
     Ok(status)
 }
 
 fn main() -> ExitCode {
     let arguments: Vec<String> = std::env::args_os().skip(1).map(|text| text.to_string_lossy().into()).collect();
-    run(&arguments, &mut io::stdout(), &mut io::stderr()).map_or_else(failed, ExitCode::from)
-}
-
-/// Where output fails. The reader of a closed pipe wants no more, and no word of it.
-fn failed(error: io::Error) -> ExitCode {
-    if error.kind() != io::ErrorKind::BrokenPipe {
+    let ended = run(&arguments, &mut io::stdout(), &mut io::stderr());
+    // The reader of a closed pipe wants no more.
+    if let Some(error) = ended.as_ref().err().filter(|error| error.kind() != io::ErrorKind::BrokenPipe) {
         let _ = writeln!(io::stderr(), "oid: cannot write: {error}");
     }
-    ExitCode::FAILURE
+    ended.unwrap_or(1).into()
 }

@@ -24,8 +24,8 @@ const ROWS: &[(&str, &str, &str)] = &[
     ("2..5", "", "2..5: repeated consecutive '..' characters in OID\n"),
     ("2.\x1B[31m5", "", "2.\\u{1b}[31m5: expected digit, got '\\u{1b}'\n"),
     ("2A8001", "", "2A8001: OID contains arc with invalid base 128 encoding\n"),
-    ("2A8", "", "2A8: not octets in hexadecimal\n--help says what an input may be\n"),
-    ("2.5.4.3 --", CN, "--: not octets in hexadecimal\n--help says what an input may be\n"),
+    ("2A8", "", "2A8: not octets in hexadecimal. --help says more\n"),
+    ("2.5.4.3 --", CN, "--: not octets in hexadecimal. --help says more\n"),
     ("--hex 2.5.4.3", "", "2.5.4.3: not octets in hexadecimal\n"),
     ("3.1 2.5.4.3", CN, "3.1: OID contains out-of-range arc: 3\n"),
 ];
