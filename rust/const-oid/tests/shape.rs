@@ -4,7 +4,6 @@ use const_oid::{
     Arc, Arcs, AssociatedOid, Buffer, ByArcs, DynAssociatedOid, Error, ObjectIdentifier, ObjectIdentifierRef, Result,
 };
 use std::borrow::Borrow;
-use std::cell::Cell;
 use std::fmt::{Debug, Display};
 use std::hash::Hash;
 use std::iter::FusedIterator;
@@ -109,7 +108,7 @@ fn constants_have_their_values() {
 
 #[test]
 fn a_wrong_text_panics_with_the_text_of_its_error() {
-    thread_local!(static LINE: Cell<u32> = const { Cell::new(0) });
+    thread_local!(static LINE: std::cell::Cell<u32> = 0.into());
     let usual = take_hook();
     set_hook(Box::new(move |panic| {
         LINE.set(panic.location().unwrap().line());
