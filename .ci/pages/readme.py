@@ -1,6 +1,6 @@
 """README's blocks are run in order, by bash in a new HOME, and print what their comments say: rs, by cargo in a package
-with each toml block, beside the checkout; sh, with each c block as `main.c`; and python. What rt has proved in this
-checkout, it does not prove again."""
+with each toml block of the crate's page, beside the checkout; sh, with each c block as `main.c` there; and python. What
+rt has proved in this checkout, it does not prove again."""
 import os
 import pathlib
 import re
@@ -8,7 +8,7 @@ import subprocess
 import sys
 import tempfile
 
-from pages.page import TOP, blocks_of
+from pages.page import CRATE, TOP, blocks_of
 
 PAGE = "README.md"
 HOMES = {"CARGO_HOME": ".cargo", "RUSTUP_HOME": ".rustup"}
@@ -20,7 +20,7 @@ def scripts():
     """The blocks that are run, as scripts of bash."""
     blocks = [(language, text) for _, language, text in blocks_of(PAGE)]
     programs = [text for language, text in blocks if language == "c"]
-    manifests = [text for language, text in blocks if language == "toml"]
+    manifests = [text for _, language, text in blocks_of(CRATE) if language == "toml"]
     for language, text in blocks:
         if language == "rs":
             yield "mkdir -p ../app/src\n"
@@ -30,7 +30,7 @@ def scripts():
                 yield "(cd ../app && cargo run --quiet)\n"
         elif language == "sh":
             mains = programs if "main.c" in text else []
-            yield from [f"cat > main.c << 'END'\n{main}END\n{text}" for main in mains] or [text]
+            yield from [f"cat > ../main.c << 'END'\n{main}END\n{text}" for main in mains] or [text]
         elif language == "python":
             yield f"python - << 'END'\n{text}END\n"
 
