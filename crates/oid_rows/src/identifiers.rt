@@ -263,20 +263,18 @@ pub fn element(alloc: Global, der: &[u8]) -> Result<String> {
 
 /// The text of the error that the library for C numbers so, with its arc or byte, or `none`. An error that the library
 /// alone has is left to it, as `None`.
-pub fn error(alloc: Global, code: &str, number: Arc) -> Result<Option<String>> {
-    let error = match (code, number) {
-        ("1", arc) => Error::ArcInvalid { arc },
-        ("2", _) => Error::ArcTooBig,
-        ("3", _) => Error::Base128,
-        ("4", 0..256) => Error::DigitExpected {
-            actual: number as u8,
-        },
-        ("5", _) => Error::Empty,
-        ("6", _) => Error::Length,
-        ("7", _) => Error::Overflow,
-        ("8", _) => Error::RepeatedDot,
-        ("9", _) => Error::TrailingDot,
-        ("10" | "11" | "12" | "13" | "14", _) => return Ok(None),
+pub fn error(alloc: Global, numbers: &[Arc]) -> Result<Option<String>> {
+    let error = match *numbers {
+        [1, arc] => Error::ArcInvalid { arc },
+        [2, _] => Error::ArcTooBig,
+        [3, _] => Error::Base128,
+        [4, byte @ 0..256] => Error::DigitExpected { actual: byte as u8 },
+        [5, _] => Error::Empty,
+        [6, _] => Error::Length,
+        [7, _] => Error::Overflow,
+        [8, _] => Error::RepeatedDot,
+        [9, _] => Error::TrailingDot,
+        [10..15, _] => return Ok(None),
         _ => return Ok(Some(String::from_str(alloc, "none")?)),
     };
     Ok(Some(format!(in alloc; "{error}")?))

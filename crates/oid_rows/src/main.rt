@@ -80,10 +80,7 @@ fn of_one(alloc: Global, call: &str, input: &str) -> Result<String> {
 fn answer(alloc: Global, call: &str, input: &str) -> Result<Option<String>> {
     match (call, call.strip_suffix("_order")) {
         ("items_order", _) => Ok(None),
-        ("error", _) => {
-            let (code, number) = input.split_once(' ').context("no number")?;
-            identifiers::error(alloc, code, number.parse()?)
-        }
+        ("error", _) => identifiers::error(alloc, &arcs(alloc, input)?),
         (_, Some(call)) => {
             let words = words(alloc, input)?;
             Ok(Some(relations::in_order(alloc, call, &words)?))
