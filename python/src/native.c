@@ -60,32 +60,32 @@ static PyObject *attribute(PyObject *object, const char *name) {
 }
 
 /* What a function of const_oid._support returns, which the module of a class, or of an identifier's, holds: an import
- * would take the caller's __import__. The arguments are a tuple, which it takes. */
-static PyObject *supported(PyObject *self, const char *name, PyObject *arguments) {
+ * would take the caller's __import__. It steals the arguments, a tuple. */
+static PyObject *call_support(PyObject *self, const char *name, PyObject *arguments) {
     PyTypeObject *type = base_of(PyType_Check(self) ? (PyTypeObject *)self : Py_TYPE(self));
-    OWNED *taken = arguments, *support = taken ? attribute(PyType_GetModule(type), "support") : NULL;
+    OWNED *stolen = arguments, *support = stolen ? attribute(PyType_GetModule(type), "support") : NULL;
     OWNED *function = attribute(support, name);
-    return function ? PyObject_CallObject(function, taken) : NULL;
+    return function ? PyObject_CallObject(function, stolen) : NULL;
 }
 
-/* Raises the exception that such a function returns. */
-static PyObject *raised(PyObject *self, const char *name, PyObject *arguments) {
-    OWNED *error = supported(self, name, arguments);
+/* Raises the exception that such a function returns. It steals the arguments. */
+static PyObject *raise_by_support(PyObject *self, const char *name, PyObject *arguments) {
+    OWNED *error = call_support(self, name, arguments);
     if (error) PyErr_SetObject((PyObject *)Py_TYPE(error), error);
     return NULL;
 }
 
 /* Raises the OidError of a status, with what was given. */
-static PyObject *failed(PyObject *self, const_oid_status status, PyObject *given) {
-    return raised(self, "OidError", Py_BuildValue("IIO", status.code, status.detail, given));
+static PyObject *raise_status(PyObject *self, const_oid_status status, PyObject *given) {
+    return raise_by_support(self, "OidError", Py_BuildValue("IIO", status.code, status.detail, given));
 }
 
-static PyObject *wrong_type(PyObject *self, const char *wanted, PyObject *given) {
-    return raised(self, "wrong_type", Py_BuildValue("sO", wanted, given));
+static PyObject *raise_wrong_type(PyObject *self, const char *wanted, PyObject *given) {
+    return raise_by_support(self, "wrong_type", Py_BuildValue("sO", wanted, given));
 }
 
-/* An object of a type, with valid octets, which it takes. */
-static PyObject *allocated(PyTypeObject *type, PyObject *octets) {
+/* A new object of a type, with valid octets, to which it steals a reference. */
+static PyObject *allocate(PyTypeObject *type, PyObject *octets) {
     if (!octets) return NULL;
     Identifier *self = (Identifier *)PyType_GenericAlloc(type, 0);
     if (self) {
@@ -97,10 +97,10 @@ static PyObject *allocated(PyTypeObject *type, PyObject *octets) {
     return (PyObject *)self;
 }
 
-/* The same by a call of a subclass with a plain identifier, so that its __init__ runs. */
-static PyObject *made(PyTypeObject *type, PyObject *octets) {
-    if (is_plain(type)) return allocated(type, octets);
-    OWNED *plain = allocated(base_of(type), octets);
+/* The same by a call of a subclass with a plain identifier, so that its __init__ runs. It steals the octets, too. */
+static PyObject *make(PyTypeObject *type, PyObject *octets) {
+    if (is_plain(type)) return allocate(type, octets);
+    OWNED *plain = allocate(base_of(type), octets);
     return plain ? PyObject_CallFunctionObjArgs((PyObject *)type, plain, NULL) : NULL;
 }
 
@@ -114,8 +114,8 @@ typedef struct {
     size_t len;
 } Output;
 
-/* Makes room for items of a size. */
-static int has_room(Output *out, size_t len, size_t size) {
+/* Reserves memory for items of a size, or raises MemoryError. `release` frees it. */
+static int reserve(Output *out, size_t len, size_t size) {
     out->len = len;
     out->start = len <= sizeof out->room / size ? out->room : PyMem_Calloc(len, size);
     if (!out->start) PyErr_NoMemory();
@@ -126,10 +126,10 @@ static void release(Output *out) {
     if (out->start != out->room) PyMem_Free(out->start);
 }
 
-/* The octets that a call wrote, or its error. Frees the output. */
-static PyObject *written(Output *out, PyObject *self, const_oid_status status, PyObject *given) {
+/* The octets that a call wrote, or its error. It releases the output. */
+static PyObject *finish(Output *out, PyObject *self, const_oid_status status, PyObject *given) {
     Py_ssize_t len = (Py_ssize_t)status.len;
-    PyObject *octets = status.code ? failed(self, status, given) : PyBytes_FromStringAndSize(out->start, len);
+    PyObject *octets = status.code ? raise_status(self, status, given) : PyBytes_FromStringAndSize(out->start, len);
     release(out);
     return octets;
 }
@@ -142,10 +142,10 @@ static PyObject *octets_of_text(PyObject *type, PyObject *text) {
     if (!data && PyErr_ExceptionMatches(PyExc_UnicodeEncodeError)) {
         const_oid_status status = {CONST_OID_NOT_UTF8, 0, 0};
         PyErr_Clear();
-        return failed(type, status, text);
+        return raise_status(type, status, text);
     }
-    if (!data || !has_room(&out, (size_t)len, 1)) return NULL;
-    return written(&out, type, const_oid_from_text(data, (size_t)len, out.start, out.len), text);
+    if (!data || !reserve(&out, (size_t)len, 1)) return NULL;
+    return finish(&out, type, const_oid_from_text(data, (size_t)len, out.start, out.len), text);
 }
 
 static PyObject *identifier_new(PyTypeObject *type, PyObject *arguments, PyObject *keywords) {
@@ -155,10 +155,10 @@ static PyObject *identifier_new(PyTypeObject *type, PyObject *arguments, PyObjec
                  : !PyArg_UnpackTuple(arguments, "ObjectIdentifier", 1, 1, &given)) {
         return NULL;
     }
-    if (PyUnicode_Check(given)) return allocated(type, octets_of_text((PyObject *)type, given));
-    if (!is_identifier(given)) return wrong_type((PyObject *)type, "text must be a str", given);
+    if (PyUnicode_Check(given)) return allocate(type, octets_of_text((PyObject *)type, given));
+    if (!is_identifier(given)) return raise_wrong_type((PyObject *)type, "text must be a str", given);
     if (Py_TYPE(given) == type && is_plain(type)) return Py_NewRef(given);
-    return allocated(type, Py_NewRef(((Identifier *)given)->octets));
+    return allocate(type, Py_NewRef(((Identifier *)given)->octets));
 }
 
 static int is_octets(PyObject *given) {
@@ -169,7 +169,7 @@ static int is_octets(PyObject *given) {
 static PyObject *octets_from(PyObject *type, PyObject *given) {
     Py_buffer view = {.itemsize = 1};
     if (PyBytes_CheckExact(given)) return Py_NewRef(given);
-    if (!is_octets(given)) return wrong_type(type, "octets must be bytes, bytearray or memoryview", given);
+    if (!is_octets(given)) return raise_wrong_type(type, "octets must be bytes, bytearray or memoryview", given);
     if (PyMemoryView_Check(given)) {
         if (PyObject_GetBuffer(given, &view, PyBUF_FULL_RO)) return NULL;
         PyBuffer_Release(&view);
@@ -183,10 +183,10 @@ static PyObject *identifier_from_bytes(PyObject *type, PyObject *given) {
     if (!octets) return NULL;
     const_oid_octets items = items_of(octets);
     const_oid_status status = const_oid_check(items.octets, items.len);
-    return status.code ? failed(type, status, octets) : made((PyTypeObject *)type, Py_NewRef(octets));
+    return status.code ? raise_status(type, status, octets) : make((PyTypeObject *)type, Py_NewRef(octets));
 }
 
-/* A pair of an identifier, which it takes, and of what comes after its element. */
+/* A pair of an identifier, to which it steals a reference, and of what comes after its element. */
 static PyObject *with_rest(PyObject *oid, PyObject *octets, Py_ssize_t end) {
     return Py_BuildValue("NN", oid, PySequence_GetSlice(octets, end, PTRDIFF_MAX));
 }
@@ -198,9 +198,9 @@ static PyObject *from_element(PyObject *type, PyObject *given, int is_whole) {
     const_oid_octets items = items_of(octets), contents = {NULL, 0};
     const_oid_status status = const_oid_from_der(items.octets, items.len, &contents);
     if (is_whole && !status.code && status.len < items.len) status.code = CONST_OID_NO_ELEMENT;
-    if (status.code) return failed(type, status, octets);
+    if (status.code) return raise_status(type, status, octets);
     PyObject *oid = PyBytes_FromStringAndSize((const char *)contents.octets, (Py_ssize_t)contents.len);
-    oid = made((PyTypeObject *)type, oid);
+    oid = make((PyTypeObject *)type, oid);
     return oid && !is_whole ? with_rest(oid, octets, (Py_ssize_t)status.len) : oid;
 }
 
@@ -255,26 +255,26 @@ static const_oid_status past_32_bits(const_oid_status before) {
 
 static PyObject *identifier_from_arcs(PyObject *type, PyObject *given) {
     if (PyUnicode_Check(given) || is_octets(given) || PyAnySet_Check(given) || PyDict_Check(given)) {
-        return wrong_type(type, "arcs must be an iterable of int", given);
+        return raise_wrong_type(type, "arcs must be an iterable of int", given);
     }
     OWNED *items = PySequence_Tuple(given);
     PyObject *octets = NULL;
     Output arcs, out;
-    if (!items || !has_room(&arcs, (size_t)PyTuple_Size(items), sizeof(uint32_t))) return NULL;
+    if (!items || !reserve(&arcs, (size_t)PyTuple_Size(items), sizeof(uint32_t))) return NULL;
     Py_ssize_t count = (Py_ssize_t)arcs.len, fitting = read_arcs(items, count, arcs.start);
-    if (fitting >= 0 && has_room(&out, ARC_OCTETS * (size_t)fitting, 1)) {
+    if (fitting >= 0 && reserve(&out, ARC_OCTETS * (size_t)fitting, 1)) {
         const_oid_status status = const_oid_from_arcs(arcs.start, (size_t)fitting, out.start, out.len);
-        octets = written(&out, type, fitting < count ? past_32_bits(status) : status, items);
+        octets = finish(&out, type, fitting < count ? past_32_bits(status) : status, items);
     }
     release(&arcs);
-    return made((PyTypeObject *)type, octets);
+    return make((PyTypeObject *)type, octets);
 }
 
 /* Octets have at most one arc more than there are octets. A finalizer may ask for the arcs while they are made. */
 static PyObject *first_arcs(Identifier *identifier) {
     Output out;
     const_oid_octets octets = identifier->items;
-    if (!has_room(&out, octets.len + 1, sizeof(uint32_t))) return NULL;
+    if (!reserve(&out, octets.len + 1, sizeof(uint32_t))) return NULL;
     const_oid_status status = const_oid_arcs(octets.octets, octets.len, out.start, out.len);
     PyObject *arcs = PyTuple_New((Py_ssize_t)status.len);
     for (size_t index = 0; arcs && index < status.len; index++) {
@@ -302,8 +302,8 @@ static PyObject *identifier_arcs(PyObject *self, void *Py_UNUSED(closure)) {
 static PyObject *identifier_der(PyObject *self, void *Py_UNUSED(closure)) {
     Output out;
     const_oid_octets octets = octets_of(self);
-    if (!has_room(&out, octets.len + 2 + sizeof octets.len, 1)) return NULL;
-    return written(&out, self, const_oid_to_der(octets.octets, octets.len, out.start, out.len), self);
+    if (!reserve(&out, octets.len + 2 + sizeof octets.len, 1)) return NULL;
+    return finish(&out, self, const_oid_to_der(octets.octets, octets.len, out.start, out.len), self);
 }
 
 /* The octets of a parent are a prefix, of the length that a call without output needs. */
@@ -311,21 +311,21 @@ static PyObject *identifier_parent(PyObject *self, void *Py_UNUSED(closure)) {
     const_oid_octets octets = octets_of(self);
     const_oid_status status = const_oid_parent(octets.octets, octets.len, NULL, 0);
     if (status.code == CONST_OID_NONE) return Py_NewRef(Py_None);
-    return made(Py_TYPE(self), PyBytes_FromStringAndSize((const char *)octets.octets, (Py_ssize_t)status.len));
+    return make(Py_TYPE(self), PyBytes_FromStringAndSize((const char *)octets.octets, (Py_ssize_t)status.len));
 }
 
 static PyObject *identifier_child(PyObject *self, PyObject *item) {
     Output out;
     uint64_t arc;
     const_oid_octets octets = octets_of(self);
-    if (!read_arc(item, &arc) || !has_room(&out, octets.len + ARC_OCTETS, 1)) return NULL;
+    if (!read_arc(item, &arc) || !reserve(&out, octets.len + ARC_OCTETS, 1)) return NULL;
     const_oid_status status = const_oid_push_arc(octets.octets, octets.len, (uint32_t)arc, out.start, out.len);
-    return made(Py_TYPE(self), written(&out, self, arc > UINT32_MAX ? past_32_bits(status) : status, item));
+    return make(Py_TYPE(self), finish(&out, self, arc > UINT32_MAX ? past_32_bits(status) : status, item));
 }
 
 /* A prefix of the octets of an identifier that is valid itself has a prefix of its arcs. */
 static PyObject *identifier_starts_with(PyObject *self, PyObject *prefix) {
-    if (!is_identifier(prefix)) return wrong_type(self, "prefix must be an ObjectIdentifier", prefix);
+    if (!is_identifier(prefix)) return raise_wrong_type(self, "prefix must be an ObjectIdentifier", prefix);
     const_oid_octets octets = octets_of(self), start = octets_of(prefix);
     return PyBool_FromLong(start.len <= octets.len && !memcmp(octets.octets, start.octets, start.len));
 }
@@ -334,7 +334,7 @@ static PyObject *identifier_starts_with(PyObject *self, PyObject *prefix) {
 static PyObject *identifier_str(PyObject *self) {
     Output out;
     const_oid_octets octets = octets_of(self);
-    if (!has_room(&out, octets.len, 4)) return NULL;
+    if (!reserve(&out, octets.len, 4)) return NULL;
     const_oid_status status = const_oid_to_text(octets.octets, octets.len, out.start, 4 * out.len);
     PyObject *result = PyUnicode_FromStringAndSize(out.start, (Py_ssize_t)status.len);
     release(&out);
@@ -347,7 +347,7 @@ static PyObject *identifier_repr(PyObject *self) {
 }
 
 static PyObject *identifier_format(PyObject *self, PyObject *specification) {
-    if (!PyUnicode_Check(specification)) return wrong_type(self, "specification must be a str", specification);
+    if (!PyUnicode_Check(specification)) return raise_wrong_type(self, "specification must be a str", specification);
     OWNED *text = PyObject_Str(self);
     return text ? PyObject_Format(text, specification) : NULL;
 }
@@ -425,7 +425,7 @@ static PyObject *identifier_count(PyObject *self, PyObject *arc) {
 /* Methods by a function of const_oid._support of the object, or its class, and the arguments. */
 #define BY_FUNCTION(name) \
     static PyObject *identifier_##name(PyObject *self, PyObject *arguments) { \
-        return supported(self, #name, Py_BuildValue("OO", self, arguments)); \
+        return call_support(self, #name, Py_BuildValue("OO", self, arguments)); \
     }
 BY_FUNCTION(copied)
 BY_FUNCTION(pydantic_schema)
@@ -433,11 +433,11 @@ BY_FUNCTION(pydantic_validators)
 
 /* numpy takes an identifier as one value, and not as a sequence. */
 static PyObject *identifier_array(PyObject *self, PyObject *Py_UNUSED(arguments), PyObject *Py_UNUSED(keywords)) {
-    return supported(self, "as_array", Py_BuildValue("(O)", self));
+    return call_support(self, "as_array", Py_BuildValue("(O)", self));
 }
 
 static PyObject *identifier_reduce(PyObject *self, PyObject *Py_UNUSED(none)) {
-    if (!is_plain(Py_TYPE(self))) return supported(self, "reduced", Py_BuildValue("(O)", self));
+    if (!is_plain(Py_TYPE(self))) return call_support(self, "reduced", Py_BuildValue("(O)", self));
     PyObject *restored = attribute(PyType_GetModule(Py_TYPE(self)), "restored");
     return restored ? Py_BuildValue("N(O)", restored, ((Identifier *)self)->octets) : NULL;
 }
