@@ -601,10 +601,12 @@ static int module_exec(PyObject *module) {
         return -1;
     }
     OWNED *text = PyUnicode_FromFormat("%lu.%lu.%lu", version / 65536, version / 256 % 256, version % 256);
-    OWNED *type = PyType_FromModuleAndSpec(module, &identifier_spec, NULL), *arcs = Py_BuildValue("(s)", "arcs");
-    /* Nobody can set an attribute of the class, which has its last one here. */
+    OWNED *type = PyType_FromModuleAndSpec(module, &identifier_spec, NULL);
+    /* Nobody can set an attribute of the class, which has its last ones here. With no dimension, pandas takes an
+     * identifier as one value. */
+    OWNED *last = Py_BuildValue("{s(s)si}", "__match_args__", "arcs", "ndim", 0);
     OWNED *attributes = type ? PyObject_GenericGetDict(type, NULL) : NULL;
-    if (!text || !attributes || !arcs || PyDict_SetItemString(attributes, "__match_args__", arcs)) return -1;
+    if (!text || !last || !attributes || PyDict_Update(attributes, last)) return -1;
     return PyModule_AddObjectRef(module, "__version__", text) ? -1 : PyModule_AddType(module, (PyTypeObject *)type);
 }
 

@@ -101,6 +101,20 @@ class Package(unittest.TestCase):
                 self.assertEqual(((2,), "O", oids), (array.shape, array.dtype.char, array.tolist()))
                 self.assertEqual(((), oids[0]), (numpy.asarray(oids[0]).shape, numpy.asarray(oids[0])[()]))
 
+    def test_pandas_takes_an_identifier_as_one_value(self):
+        oid = ObjectIdentifier("2.5.4")
+        with installed("pandas") as found:
+            for pandas in found:
+                frame, column = pandas.DataFrame({"oid": [oid, oid.child(3)], "one": [oid, oid]}), pandas.Series
+                frame["set"], frame.loc[1, "oid"] = oid, oid
+                frame.iloc[0, 0] = frame.at[1, "one"] = oid
+                made = [frame.assign(x=oid)["x"], pandas.DataFrame({"x": oid}, index=[1, 2])["x"], frame["oid"]]
+                made += [frame["one"], frame["set"], column(oid, index=[1, 2]), column({oid: oid, 1: oid}).loc[[oid, 1]]]
+                made += [column([None, oid], dtype=object).fillna(oid), pandas.DataFrame([oid, oid])[0]]
+                self.assertEqual([[oid, oid]] * len(made), list(map(list, made)))
+                self.assertIs(oid, frame.set_index("oid")[:1].loc[oid, "one"])
+                self.assertIs(oid, column({oid: oid}).loc[oid])
+
     def test_pydantic_takes_and_gives_text(self):
         """pydantic, and the version 1 that is in version 2, take text or an identifier, and give text in JSON."""
         with installed("pydantic", "pydantic.v1") as found:
@@ -136,7 +150,7 @@ class Package(unittest.TestCase):
         public = {"Code", "ObjectIdentifier", "OidError", "SortedMap", "__version__", "names"}
         self.assertEqual((public, public), (set(const_oid.__all__), set(dir(const_oid))))
         self.assertEqual({"by_name", "entries", "name_of", "names_of"}, set(names.__all__))
-        methods = "arcs child count der from_arcs from_bytes from_der index parent read_der starts_with"
+        methods = "arcs child count der from_arcs from_bytes from_der index ndim parent read_der starts_with"
         self.assertEqual(methods.split(), [name for name in dir(ObjectIdentifier) if not name.startswith("_")])
         self.assertEqual({"const_oid"}, {value.__module__ for value in (ObjectIdentifier, OidError, Code)})
         self.assertEqual((Code.EMPTY, 5, set(Code.__members__)), (Code(5), Code.EMPTY, set(dir(Code))))
@@ -163,7 +177,8 @@ class Package(unittest.TestCase):
 class Types(unittest.TestCase):
     def test_the_stub_has_the_arguments(self):
         functions = dict(re.findall(r"^    def (\w+)\((.*)\) ->", STUB, re.M))
-        self.assertEqual({name for name in vars(ObjectIdentifier) if not name.startswith("_")} - set(functions), set())
+        public = {name for name in vars(ObjectIdentifier) if not name.startswith("_")}
+        self.assertEqual({"ndim"}, public - set(functions))
         methods = "from_bytes from_der read_der from_arcs child starts_with index count __format__ __deepcopy__"
         for name in methods.split():
             text = inspect.getattr_static(ObjectIdentifier, name).__text_signature__

@@ -1,5 +1,5 @@
 from collections.abc import Iterable, Sequence
-from typing import Any, Self, SupportsIndex, overload
+from typing import Any, Final, Self, SupportsIndex, overload
 
 __version__: str
 
@@ -8,6 +8,7 @@ def wrong_component(text: bytes, /) -> int | None: ...
 
 class ObjectIdentifier(Sequence[int]):
     __match_args__ = ("arcs",)
+    ndim: Final = 0
     def __new__(cls, text: str | ObjectIdentifier) -> Self: ...
     @classmethod
     def from_bytes(cls, octets: bytes | bytearray | memoryview, /) -> Self: ...
