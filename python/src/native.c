@@ -383,19 +383,15 @@ static int identifier_contains(PyObject *self, PyObject *item) {
     return arcs ? PySequence_Contains(arcs, item) : -1;
 }
 
-/* An item of the tuple of arcs; its own error would speak of a tuple. That of an index is raised again. */
 static PyObject *identifier_subscript(PyObject *self, PyObject *key) {
-    PyObject *arcs = arcs_of(self), *result = arcs ? PyObject_GetItem(arcs, key) : NULL;
-    if (result || !PyIndex_Check(key) || !PyErr_ExceptionMatches(PyExc_IndexError)) return result;
-    PyErr_Clear();
-    OWNED *index = PyNumber_Index(key);
-    return index ? PyErr_Format(PyExc_IndexError, "index out of range") : NULL;
+    PyObject *arcs = arcs_of(self);
+    return arcs ? PyObject_GetItem(arcs, key) : NULL;
 }
 
 /* PySequence_GetItem has added the length to a negative index. */
 static PyObject *identifier_item(PyObject *self, Py_ssize_t index) {
-    OWNED *key = PyLong_FromSsize_t(index < 0 ? identifier_len(self) : index);
-    return key ? identifier_subscript(self, key) : NULL;
+    PyObject *arcs = arcs_of(self), *arc = arcs ? PyTuple_GetItem(arcs, index) : NULL;
+    return arc ? Py_NewRef(arc) : NULL;
 }
 
 static PyObject *identifier_iter(PyObject *self) {
@@ -403,17 +399,9 @@ static PyObject *identifier_iter(PyObject *self) {
     return arcs ? PyObject_GetIter(arcs) : NULL;
 }
 
-/* A ValueError may be that of a comparison or of a bound, which is then raised again. */
 static PyObject *identifier_index(PyObject *self, PyObject *arguments) {
-    PyObject *arcs = arcs_of(self), *arc = NULL, *start = NULL, *stop = NULL;
-    OWNED *method = attribute(arcs, "index");
-    PyObject *index = method ? PyObject_CallObject(method, arguments) : NULL;
-    if (index || !PyErr_ExceptionMatches(PyExc_ValueError)) return index;
-    PyErr_Clear();
-    if (!PyArg_UnpackTuple(arguments, "index", 1, 3, &arc, &start, &stop)) return NULL;
-    OWNED *bounds = PySlice_New(start, stop, NULL), *part = bounds ? PyObject_GetItem(arcs, bounds) : NULL;
-    int is_own = part && PySequence_Contains(part, arc) >= 0;
-    return is_own ? PyErr_Format(PyExc_ValueError, "%R is not among the arcs", arc) : NULL;
+    OWNED *method = attribute(arcs_of(self), "index");
+    return method ? PyObject_CallObject(method, arguments) : NULL;
 }
 
 static PyObject *identifier_count(PyObject *self, PyObject *arc) {

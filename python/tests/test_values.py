@@ -85,8 +85,12 @@ def index(call=int):
     return type("Index", (), {"__index__": lambda _: (call(), 999)[1]})()
 
 
+def fail(kind):
+    raise kind("own")
+
+
 # What raises an IndexError where it is read, and a ValueError where it is compared.
-RAISING = type("Raising", (), {"__index__": lambda _: ()[0], "__eq__": lambda *_: int("x")})()
+RAISING = type("Raising", (), {"__index__": lambda _: fail(IndexError), "__eq__": lambda *_: fail(ValueError)})()
 
 # Errors of Python: their type, what they say if it is of this package, the call and its inputs.
 OF_OTHERS = [("cryptography.x509", "dotted_string", "its .dotted_string"), ("asn1crypto.core", "dotted", "its .dotted")]
@@ -120,12 +124,12 @@ REJECTED = [
     (ValueError, "an arc is negative: -2", from_arcs, [(1, -2)]),
     (ValueError, "an arc is negative: -2", OID.child, [-2]),
     (ValueError, "an arc is negative", OID.child, [-(10**5000)]),
-    (ValueError, "3 is not among the arcs", OID.index, [3]),
-    (ValueError, "2 is not among the arcs", lambda stop: OID.index(2, 0, stop), [1]),
-    (IndexError, "index out of range", lambda index: OID[index], [6, -7, 10**50, index()]),
-    *((IndexError, "tuple index out of range", call, [RAISING]) for call in (OID.__getitem__, OID.child)),
-    *((ValueError, "invalid literal for int() with base 10: 'x'", call, [RAISING]) for call in (OID.index, OID.count)),
-    (ValueError, "0 is not in list", lambda start: OID.index(3, start), [index(lambda: [].index(0))]),
+    (ValueError, "", OID.index, [3]),
+    (ValueError, "", lambda stop: OID.index(2, 0, stop), [1]),
+    (IndexError, "", lambda index: OID[index], [6, -7, 10**50, index()]),
+    *((IndexError, "own", call, [RAISING]) for call in (OID.__getitem__, OID.child)),
+    *((ValueError, "own", call, [RAISING]) for call in (OID.index, OID.count)),
+    (ValueError, "own", lambda start: OID.index(3, start), [index(lambda: fail(ValueError))]),
     (OverflowError, "a number has 32 bits", lambda numbers: OidError(*numbers),
         [(4, 2**32 + 120), (4, -1), (2**32 + 4, 120), (-1, 0)]),
     (OverflowError, "", lambda detail: OidError(4, detail), [2**64 + 120]),
@@ -384,6 +388,9 @@ class Values(unittest.TestCase):
         self.assertFalse(any(octet in OID for octet in OCTETS[1:5]))
         self.assertEqual([False, False, False, True], [item in OID for item in ("1", None, OID, 1.0)])
         self.assertEqual((1, 4, 2), (OID.index(2), OID.index(2, 2), OID.count(1)))
+        calls = []
+        self.assertIs(IndexError, type(error_of(OID.__getitem__, index(lambda: calls.append(1)))))
+        self.assertEqual([1], calls)
         item = ctypes.pythonapi.PySequence_GetItem
         item.argtypes, item.restype = (ctypes.py_object, ctypes.c_ssize_t), ctypes.py_object
         bounds = (-(10**50), *range(-8, 9), 10**50)
