@@ -410,17 +410,24 @@ static PyObject *identifier_count(PyObject *self, PyObject *arc) {
     return count < 0 ? NULL : PyLong_FromSsize_t(count);
 }
 
-/* Methods by a function of const_oid._support of the object, or its class, and the arguments. */
+/* A copy has no memo. */
+static PyObject *identifier_copied(PyObject *self, PyObject *memo) {
+    return call_support(self, "copied", memo ? Py_BuildValue("O(O)", self, memo) : Py_BuildValue("O()", self));
+}
+
+/* Methods of the class by a function of const_oid._support of it and the arguments. */
 #define BY_FUNCTION(name) \
-    static PyObject *identifier_##name(PyObject *self, PyObject *arguments) { \
-        return call_support(self, #name, Py_BuildValue("OO", self, arguments)); \
+    static PyObject *identifier_##name(PyObject *type, PyObject *arguments) { \
+        return call_support(type, #name, Py_BuildValue("OO", type, arguments)); \
     }
-BY_FUNCTION(copied)
 BY_FUNCTION(pydantic_schema)
 BY_FUNCTION(pydantic_validators)
 
 /* numpy takes an identifier as one value, and not as a sequence. */
-static PyObject *identifier_array(PyObject *self, PyObject *Py_UNUSED(arguments), PyObject *Py_UNUSED(keywords)) {
+static PyObject *identifier_array(PyObject *self, PyObject *arguments, PyObject *keywords) {
+    static char *names[] = {"dtype", "copy", NULL};
+    PyObject *dtype, *copy;
+    if (!PyArg_ParseTupleAndKeywords(arguments, keywords, "|OO:__array__", names, &dtype, &copy)) return NULL;
     return call_support(self, "as_array", Py_BuildValue("(O)", self));
 }
 
@@ -466,6 +473,7 @@ PyDoc_STRVAR(identifier_doc,
     "...     case ObjectIdentifier((2, 999, *rest)):\n"
     "...         print(rest)\n"
     "[3]\n\n"
+    "Patterns have arcs, and `in` seeks one: `case ObjectIdentifier(\"2.999.3\")` never matches.\n\n"
     "What makes an identifier of a subclass (from_bytes, parent, a copy ..) calls it with an ObjectIdentifier, so its\n"
     "__init__ runs. Copies and pickles then also get the attributes.\n\n"
     ">>> class Named(ObjectIdentifier):\n"
@@ -495,7 +503,7 @@ static PyMethodDef identifier_methods[] = {
     {"from_arcs", identifier_from_arcs, METH_O | METH_CLASS,
         "from_arcs($type, arcs, /)\n--\n\n"
         "Encodes arcs. One past 32 bits has the same error as in text, and a negative one is a ValueError. All arcs\n"
-        "are read first, so it does not return if they have no end.\n\n"
+        "are read first, so those without an end take all memory.\n\n"
         ">>> ObjectIdentifier.from_arcs([1, 2, 840])\n"
         "ObjectIdentifier('1.2.840')"},
     {"child", identifier_child, METH_O,
@@ -521,9 +529,8 @@ static PyMethodDef identifier_methods[] = {
         "2"},
     {"__bytes__", identifier_bytes, METH_NOARGS, "__bytes__($self, /)\n--\n\nThe contents octets."},
     {"__format__", identifier_format, METH_O, "__format__($self, specification, /)\n--\n\nFormats str(self)."},
-    {"__copy__", identifier_copied, METH_VARARGS, "__copy__($self, /)\n--\n\nItself, unless of a subclass."},
-    {"__deepcopy__", identifier_copied, METH_VARARGS,
-        "__deepcopy__($self, memo, /)\n--\n\nItself, unless of a subclass."},
+    {"__copy__", identifier_copied, METH_NOARGS, "__copy__($self, /)\n--\n\nItself, unless of a subclass."},
+    {"__deepcopy__", identifier_copied, METH_O, "__deepcopy__($self, memo, /)\n--\n\nItself, unless of a subclass."},
     {"__reduce__", identifier_reduce, METH_NOARGS, "__reduce__($self, /)\n--\n\nFor pickle, which checks the octets."},
     {"__array__", (PyCFunction)(void (*)(void))identifier_array, METH_VARARGS | METH_KEYWORDS,
         "__array__($self, dtype=None, copy=None)\n--\n\nAn array of numpy, without dimensions, of this object."},

@@ -127,11 +127,13 @@ class Package(unittest.TestCase):
     def check_model(self, model):
         oid = ObjectIdentifier("2.5.4")
         texts = {"oid": "2.5.4", "key": "2.5.4.3"}
-        for made in (model(**texts), model(oid=oid, key=oid.child(3)), model(oid=oid, key=Under("2.5.4.3"))):
+        texts_of = {name: type("Text", (str,), {})(text) for name, text in texts.items()}
+        made = [model(**given) for given in (texts, texts_of, {"oid": oid, "key": oid.child(3)})]
+        for made in (*made, model(oid=oid, key=Under("2.5.4.3"))):
             self.assertEqual((oid, oid.child(3), Under), (made.oid, made.key, type(made.key)))
             self.assertEqual(texts, json.loads(made.json()))
             self.assertEqual(made, model.parse_raw(made.json()))
-        for wrong in ("1.40", 3, None, [2, 5]):
+        for wrong in ("1.40", 3, None, [2, 5], b"2.5.4", bytearray(b"2.5.4")):
             self.assertIsInstance(error_of(lambda: model(oid=wrong, key="2.5.4.3")), ValueError)
         error = error_of(lambda: model(oid="1.40", key="2.5.4.3"))
         for text in (str(error), error.json(), repr(error.errors())):
@@ -179,6 +181,8 @@ class Types(unittest.TestCase):
         functions = dict(re.findall(r"^    def (\w+)\((.*)\) ->", STUB, re.M))
         public = {name for name in vars(ObjectIdentifier) if not name.startswith("_")}
         self.assertEqual({"ndim"}, public - set(functions))
+        self.assertIn("@disjoint_base\nclass ObjectIdentifier(", STUB)
+        self.assertIs(TypeError, type(error_of(type, "Both", (ObjectIdentifier, int), {})))
         methods = "from_bytes from_der read_der from_arcs child starts_with index count __format__ __deepcopy__"
         for name in methods.split():
             text = inspect.getattr_static(ObjectIdentifier, name).__text_signature__

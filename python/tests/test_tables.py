@@ -52,7 +52,7 @@ class Names(unittest.TestCase):
             run = subprocess.run([sys.executable, "-c", code], cwd=folder, text=True, capture_output=True)
         self.assertEqual(("2.5.4.3\n", ""), (run.stdout, run.stderr))
         for given in (3, b"cn", None, ObjectIdentifier("2.5.4.3")):
-            self.assertRegex(repr(error_of(names.by_name, given)), "^TypeError..name must be a str, not ")
+            self.assertRegex(repr(error_of(names.by_name, given)), r"^TypeError..name must be a str, not \w+'\)$")
 
 
 def drawn(draw):

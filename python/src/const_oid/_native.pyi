@@ -1,11 +1,15 @@
+# mypy: no-warn-unused-ignores
 from collections.abc import Iterable, Sequence
 from typing import Any, Final, Self, SupportsIndex, overload
+
+from typing_extensions import disjoint_base  # type: ignore[attr-defined]  # older mypy does not know it
 
 __version__: str
 
 def error_text(code: int, detail: int, /) -> str | None: ...
 def wrong_component(text: bytes, /) -> int | None: ...
 
+@disjoint_base
 class ObjectIdentifier(Sequence[int]):
     __match_args__ = ("arcs",)
     ndim: Final = 0

@@ -181,7 +181,7 @@ def as_array(oid: ObjectIdentifier) -> Any:
 def pydantic_schema(kind: type[ObjectIdentifier], _: object) -> Any:
     """For a field of pydantic 2: text and identifiers are taken, and text is given in JSON."""
     schemas: Any = importlib.import_module("pydantic_core").core_schema
-    text = schemas.str_schema()
+    text = schemas.str_schema(strict=True)
     either = schemas.union_schema([schemas.is_instance_schema(ObjectIdentifier), text])
     taken, given = schemas.json_or_python_schema(text, either), schemas.to_string_ser_schema()
     return schemas.no_info_after_validator_function(kind, taken, serialization=given)

@@ -4,7 +4,7 @@ import pathlib
 from functools import cache
 
 from ._native import ObjectIdentifier
-from ._support import required, wrong_type
+from ._support import required
 
 __all__ = ["by_name", "entries", "name_of", "names_of"]
 
@@ -64,5 +64,5 @@ def by_name(name: str) -> ObjectIdentifier | None:
     ObjectIdentifier('1.2.840.10045.2.1')
     """
     if not isinstance(name, str):
-        raise wrong_type("name must be a str", name)
+        raise TypeError(f"name must be a str, not {type(name).__name__}")
     return _by_name().get(name.encode(errors="surrogatepass").lower())  # bytes have no case but that of ASCII letters
