@@ -157,6 +157,16 @@ class Package(unittest.TestCase):
         self.assertEqual({"const_oid"}, {value.__module__ for value in (ObjectIdentifier, OidError, Code)})
         self.assertEqual((Code.EMPTY, 5, set(Code.__members__)), (Code(5), Code.EMPTY, set(dir(Code))))
         self.assertLess({"code", "detail", "given", "piece"}, set(dir(OidError)))
+        for kind in (Code, OidError):
+            self.assertEqual(f"class {kind.__name__}(", inspect.getsource(kind)[: len(kind.__name__) + 7])
+
+    @unittest.skipIf(sys.version_info < (3, 15), "this Python has no lazy imports")
+    def test_imports_may_be_lazy(self):
+        code = "from collections.abc import Sequence; from const_oid import ObjectIdentifier as kind; oid = kind('2.5')"
+        for call in ("kind('1.x')", "kind(1)", "type('Under', (kind,), {})(oid).__copy__()", "isinstance(oid, Sequence)"):
+            run = [sys.executable, "-X", "lazy_imports=all", "-c", f"{code}; print({call})"]
+            said = subprocess.run(run, text=True, capture_output=True)
+            self.assertRegex(said.stdout + said.stderr, r"^2\.5$|^True$|\n(const_oid\.Oid|Type)Error: ", call)
 
     def test_help_has_what_is_public(self):
         """Help has each class and the fields of OidError, but no method of int, and nothing that is internal."""
