@@ -206,18 +206,22 @@ static PyObject *from_element(PyObject *type, PyObject *given, int is_whole) {
 
 static PyObject *identifier_from_der(PyObject *type, PyObject *given) { return from_element(type, given, 1); }
 
-/* The rest of a memoryview of bytes in a row is one, so that a loop over elements copies each of them once. */
+/* The rest of a memoryview of bytes in a row is one, and an error has one, so that a loop over elements copies their
+ * octets alone. */
 static PyObject *identifier_read_der(PyObject *type, PyObject *given) {
     Py_buffer view;
     if (!PyMemoryView_Check(given)) return from_element(type, given, 0);
     OWNED *row = PyMemoryView_GetContiguous(given, PyBUF_READ, 'C');
     if (!row || PyObject_GetBuffer(row, &view, PyBUF_FULL_RO)) return NULL;
-    const_oid_octets contents;
-    const_oid_status status = const_oid_from_der(view.buf, (size_t)view.len, &contents);
+    int is_row = view.ndim == 1 && view.itemsize == 1;
+    PyObject *octets = NULL;
+    const_oid_octets items = {NULL, 0};
+    const_oid_status status = const_oid_from_der(view.buf, (size_t)view.len, &items);
+    if (is_row && !status.code) octets = PyBytes_FromStringAndSize((const char *)items.octets, (Py_ssize_t)items.len);
     PyBuffer_Release(&view);
-    if (status.code || view.ndim != 1 || view.itemsize != 1) return from_element(type, given, 0);
-    OWNED *element = PySequence_GetSlice(row, 0, (Py_ssize_t)status.len);
-    PyObject *oid = element ? from_element(type, element, 1) : NULL;
+    if (!is_row) return from_element(type, given, 0);
+    if (status.code) return raise_status(type, status, row);
+    PyObject *oid = make((PyTypeObject *)type, octets);
     return oid ? with_rest(oid, row, (Py_ssize_t)status.len) : NULL;
 }
 
@@ -497,7 +501,8 @@ static PyMethodDef identifier_methods[] = {
     {"read_der", identifier_read_der, METH_O | METH_CLASS,
         "read_der($type, octets, /)\n--\n\n"
         "Decodes the element that octets begin with, and returns the identifier and the octets after it. Those of a\n"
-        "contiguous memoryview of bytes are another one and no copy, so that a loop takes linear time.\n\n"
+        "contiguous memoryview of bytes are another one and no copy, and an error keeps one, so that a loop takes\n"
+        "linear time.\n\n"
         ">>> ObjectIdentifier.read_der(b\"\\x06\\x03\\x2a\\x86\\x48\\x05\\x00\")\n"
         "(ObjectIdentifier('1.2.840'), b'\\x05\\x00')"},
     {"from_arcs", identifier_from_arcs, METH_O | METH_CLASS,

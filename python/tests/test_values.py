@@ -192,8 +192,18 @@ class Inputs(unittest.TestCase):
                 oid, found = ObjectIdentifier.read_der(given)
                 self.assertEqual((OID, rest, kind), (oid, bytes(found), type(found)))
             self.assertIs(view.obj, ObjectIdentifier.read_der(view)[1].obj)
-        self.assertIs(bytes, type(error_of(ObjectIdentifier.read_der, memoryview(b"\6\2\x2a")).given))
         self.assertIs(TypeError, type(error_of(ObjectIdentifier.read_der, memoryview(array.array("H", [0x106, 42])))))
+
+    def test_an_error_keeps_the_view(self):
+        """An error has the view, also if the caller's is released. It says what that of bytes does, as its copies do."""
+        for octets in (b"\6\2\x2a", b"\6\0" + bytes(59), b"\6\1\x80" + bytes(range(200)), b"\7" + bytes(117), b"\6"):
+            wanted, (shown, _, given) = error_of(ObjectIdentifier.read_der, octets), 3 * [memoryview(bytearray(octets))]
+            error = error_of(ObjectIdentifier.read_der, given)
+            self.assertIs(shown.obj, error.given.obj)
+            shown.release()
+            for made in (error, *copies_of(error)):
+                found = [(str(one), repr(one), one.args, bytes(one.given)) for one in (wanted, made)]
+                self.assertEqual((found[0], OidError), (found[1], type(made)))
 
     def test_arcs_come_from_any_iterable(self):
         """Arcs are those of a list before it changes, and no other call comes between them."""
@@ -290,12 +300,16 @@ class Inputs(unittest.TestCase):
     def test_long_inputs_take_linear_time(self):
         def read(rest):
             while rest:
-                _, rest = ObjectIdentifier.read_der(rest)
+                try:
+                    _, rest = ObjectIdentifier.read_der(rest)
+                except OidError as error:
+                    rest = rest[len(str(error)) and 256 :]
 
         printed, piece = lambda text: str(ObjectIdentifier(text)), lambda text: error_of(ObjectIdentifier, text).piece
         text, wrong = lambda count: "1.2" + ".4294967295.7" * count, lambda count: text(count) + ".x"
         self.assertEqual((text(80_000), 160_002), (printed(text(80_000)), piece(wrong(80_000))))
-        for call, of in ((printed, text), (piece, wrong), (read, lambda count: memoryview(b"\6\1\x2a" * count))):
+        views = [lambda count: memoryview(b"\6\1\x2a" * count), lambda count: memoryview(bytes(count * 32))]
+        for call, of in ((printed, text), (piece, wrong), *zip((read, read), views)):
             self.assertTrue(is_linear(call, of))
 
 

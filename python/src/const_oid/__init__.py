@@ -127,9 +127,9 @@ class OidError(ValueError):
     def __str__(self) -> str:
         text = error_text(self.code, self.detail) or f"{self.code.name} {self.detail}"
         given = self.given if isinstance(self.given, str) else ""
-        if self.code is Code.EMPTY and self.given and not isinstance(self.given, bytes):
+        if self.code is Code.EMPTY and self.given and not isinstance(self.given, bytes | memoryview):
             text = "an identifier has two arcs or more"
-        elif self.code is Code.NO_ELEMENT and isinstance(self.given, bytes):
+        elif self.code is Code.NO_ELEMENT and isinstance(self.given, bytes | memoryview):
             text = _fault_of_element(self.given)
         elif self.code is Code.DIGIT_EXPECTED and self.detail < 256:
             character = re.search("[^\0-\x7f]", given) if self.detail > 127 else None
@@ -142,10 +142,17 @@ class OidError(ValueError):
         given = "" if self.given is None else f", {_SHOWN.repr(self.given)}"
         return f"{type(self).__name__}(Code.{self.code.name}, {self.detail}{given})"
 
+    def __reduce__(self) -> Any:
+        """For copies and pickles, which have the octets of a view."""
+        parts: Any = super().__reduce__()
+        if isinstance(view := vars(self).get("given"), memoryview):
+            parts = (*parts[:2], {**vars(self), "given": bytes(view)})
+        return parts
 
-def _fault_of_element(octets: bytes) -> str:
+
+def _fault_of_element(octets: bytes | memoryview) -> str:
     """Why octets are not one whole element of DER."""
-    if octets[:1] != b"\6":
+    if bytes(octets[:1]) != b"\6":
         return "the tag is not 6"
     try:
         ObjectIdentifier.read_der(octets)
@@ -159,6 +166,7 @@ _SHOWN = reprlib.Repr()
 setattr(_SHOWN, "repr_int", _SHOWN.repr_instance)
 _SHOWN.maxstring = _SHOWN.maxother = 60
 _SHOWN.maxtuple = 12
+setattr(_SHOWN, "repr_memoryview", lambda view, _: _SHOWN.repr(bytes(view[:60]) + bytes(view[60:][-60:])))
 
 # The extension module holds the first ones, whatever happens to sys.modules. No lazy import outlives this use.
 vars(_support).setdefault("OidError", OidError)
