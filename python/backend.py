@@ -4,6 +4,8 @@ import sys
 
 if sys.version_info < (3, 11):
     raise SystemExit(f"const-oid: needs Python 3.11 or later, and this is {sys.version.split()[0]}")
+if sys.platform != "linux":
+    raise SystemExit(f"const-oid: needs Linux with glibc, and this is {sys.platform}")
 
 import base64
 import fcntl
@@ -38,12 +40,16 @@ RUSTC = os.environ.get("RUSTC") or "rustc"
 INCLUDE = pathlib.Path(sysconfig.get_path("include"))
 
 if sysconfig.get_config_var("Py_GIL_DISABLED"):
-    raise SystemExit("const-oid: a free-threaded Python has no stable ABI, for which the module is written")
+    raise SystemExit("const-oid: a free-threaded Python does not have abi3, the stable ABI that the module is for")
 if not CRATE.exists():
     raise SystemExit(f"const-oid: there is no {CRATE}: install a checkout of the repository, or a source archive")
 PROJECT = tomllib.loads((HERE / "pyproject.toml").read_text(encoding="utf-8"))["project"]
 PROJECT["version"] = ".".join(re.findall(r"define CONST_OID_VERSION_\w+ (\d+)", HEADER.read_text(encoding="utf-8")))
-TAG = f"cp311-abi3-{re.sub('[-.]', '_', sysconfig.get_platform())}"
+# A 32-bit Python may run on a 64-bit kernel, whose name it then says.
+PLATFORM = re.sub("[-.]", "_", sysconfig.get_platform())
+if sys.maxsize < 2**32:
+    PLATFORM = {"linux_x86_64": "linux_i686", "linux_aarch64": "linux_armv7l"}.get(PLATFORM, PLATFORM)
+TAG = f"cp311-abi3-{PLATFORM}"
 STEM = f"{PROJECT['name'].replace('-', '_')}-{PROJECT['version']}"
 
 
@@ -53,6 +59,11 @@ def _output(*command):
     if run.returncode:
         raise SystemExit(f"const-oid: {shlex.join(map(str, command))} ends with status {run.returncode}")
     return run.stdout
+
+
+def _is_recent(said):
+    """Whether a rustc that says this of its version is one of those from 1.85 on."""
+    return tuple(map(int, re.findall(r"\d+", said)[:2])) >= (1, 85)
 
 
 def _missing(is_installed):
@@ -68,7 +79,7 @@ def _missing(is_installed):
             yield "the library const_oid_c, where pkg-config finds it (see crates/const_oid_c/README.md; set PKG_CONFIG_PATH)"
     elif not (shutil.which("cargo") and shutil.which(RUSTC)):
         yield "cargo and rustc, 1.85 or later (https://rustup.rs)"
-    elif tuple(map(int, re.findall(r"\d+", _output(RUSTC, "--version"))[:2])) < (1, 85):
+    elif not _is_recent(_output(RUSTC, "--version")):
         yield "rustc 1.85 or later (https://rustup.rs)"
 
 

@@ -32,24 +32,31 @@ CC = os.environ.get("CC", "cc")
 # What a build says that is refused, and how it is called.
 FIRST = "^const-oid: to be installed first: "
 OLD = "import sys; sys.version_info, sys.version, sys.modules['tomllib'] = (3, 8, 18), '3.8.18 (of a day)', None"
-# rustc of a version says this alone, and so does not say its machine, which a build asks next.
 RUST = """import shutil, subprocess
-shutil.which, subprocess.run = str, lambda *_, **__: subprocess.CompletedProcess(_, 0, 'rustc ?')"""
+shutil.which, subprocess.run = str, lambda *_, **__: subprocess.CompletedProcess(_, 0, 'rustc 1.84.1')"""
+# Platforms of a Python whose greatest size is this, and how pip names them.
+TAGS = {(platform, 2**63 - 1): re.sub("[-.]", "_", platform) for platform in ("linux-x86_64", "linux-aarch64", "a-b.c")}
+TAGS |= {("linux-x86_64", 2**31 - 1): "linux_i686", ("linux-aarch64", 2**31 - 1): "linux_armv7l"}
+TAGS |= {("linux-i686", 2**31 - 1): "linux_i686"}
+RECENT = {"rustc 1.84.1 (e71f9a9a9 2025-01-27)": False, "rustc 1.9.0": False, "rustc 0.99.0": False}
+RECENT |= dict.fromkeys(["rustc 1.85.0 (4d91de4e4 2025-02-17)", "rustc 1.100.0-nightly", "rustc 2.0.0"], True)
 REFUSED = {
     r"^const-oid: needs Python 3\.11 or later, and this is 3\.8\.18$": {"before": OLD},
-    "^const-oid: a free-threaded Python has no stable ABI, for which the module is written$":
+    "^const-oid: needs Linux with glibc, and this is win32$":
+        {"before": "import sys; sys.platform, sys.modules['fcntl'] = 'win32', None"},
+    "^const-oid: a free-threaded Python does not have abi3, the stable ABI that the module is for$":
         {"before": "import sysconfig; sysconfig.get_config_var = {'Py_GIL_DISABLED': 1}.get"},
     r"^const-oid: the one setting that there is is library=installed, and these are \{'library': 'instaled'\}$":
         {"settings": {"library": "instaled"}},
     r"^const-oid: the one setting .* \{'libary': 'installed'\}$": {"settings": {"libary": "installed"}},
+    "^const-oid: the one setting .* 'libary': 'instaled'": {"settings": INSTALLED | {"libary": "instaled"}},
     FIRST + r"/missing/Python\.h \(Debian: python3-dev\)$":
         {"before": "import sysconfig; sysconfig.get_path = lambda name: '/missing'"},
     FIRST + r"a C compiler, \S+ \(Debian: gcc\); cargo and rustc, 1": {"settings": None, "PATH": "/missing"},
     FIRST + r"a C compiler, .*; pkg-config \(Debian: pkg-config\)$": {"PATH": "/missing"},
     FIRST + "the library const_oid_c, .* PKG_CONFIG_PATH":
         {"PKG_CONFIG_PATH": "/missing", "PKG_CONFIG_LIBDIR": "/missing"},
-    FIRST + r"rustc 1\.85 or later \(https://rustup\.rs\)$": {"settings": None, "before": RUST.replace("?", "1.84.1")},
-    "'NoneType' object is not subscriptable$": {"settings": None, "RUSTC": "", "before": RUST.replace("?", "1.100.0")},
+    FIRST + r"rustc 1\.85 or later \(https://rustup\.rs\)$": {"settings": None, "before": RUST},
     "\nconst-oid: .* --no-such-option -shared .* ends with status 1$": {"CFLAGS": "--no-such-option"},
     " -o .* --no-such-option ends with status 1$": {"LDFLAGS": "--no-such-option"},
 }
@@ -125,6 +132,7 @@ class Wheel(unittest.TestCase):
         with tempfile.TemporaryDirectory() as folder:
             with tarfile.open(fileobj=io.BytesIO(archive[name])) as tar:
                 self.assertEqual({STEM}, {member.name.split("/")[0] for member in tar})
+                tar.extraction_filter = getattr(tarfile, "data_filter", None)
                 tar.extractall(folder)
             source = pathlib.Path(folder) / STEM
             self.assertEqual(self.files[f"{STEM}.dist-info/METADATA"], (source / "PKG-INFO").read_bytes())
@@ -196,6 +204,14 @@ class Build(unittest.TestCase):
                 self.assertEqual((1, {}), (status, files))
                 self.assertRegex(said, text)
 
+    def test_versions_and_platforms(self):
+        self.assertEqual(RECENT, {said: backend._is_recent(said) for said in RECENT})
+        for (platform, size), wanted in TAGS.items():
+            said = ran(f"""import sys, sysconfig
+sys.maxsize, sysconfig.get_platform = {size}, lambda: {platform!r}
+import backend; print(backend.TAG)""", TOP / "python").stdout
+            self.assertEqual(f"cp311-abi3-{wanted}\n", said, (platform, size))
+
     def test_an_editable_install_sees_a_change(self):
         """A change of a source is seen at once, and a wrong setting removes nothing. The wheel leads to a checkout."""
         with tempfile.TemporaryDirectory() as folder:
@@ -233,7 +249,7 @@ class Build(unittest.TestCase):
         wrong = {f"#include <const_oid.h>\n{other}": "ImportError: the library const_oid_c has version 2, not 1"}
         if sys.version_info < (3, 12):
             python = "#define Py_LIMITED_API 0x030B0000\n#include <Python.h>\n"
-            wrong[f"{python}#define Py_Version 0x030C0000\n"] = "module const_oid._native uses unknown slot ID 3"
+            wrong[f"{python}#define Py_Version 0x030C0000\n"] = "SystemError: "
         for header, text in wrong.items():
             with self.subTest(text), tempfile.TemporaryDirectory() as folder:
                 path = pathlib.Path(folder) / "before.h"
