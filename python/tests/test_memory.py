@@ -32,7 +32,8 @@ UNDER, GIVEN = Under("1.2.3"), (OTHER,)
 def raised(call, *given):  # assertRaises ends Python 3.12 where there is no memory
     try:
         call(*given)
-    except (OidError, ValueError, TypeError, OverflowError):
+    except (OidError, ValueError, TypeError, OverflowError) as error:
+        assert getattr(error, "code", None) != Code.NOT_UTF8 or "\ud800" in error.given, "the text is UTF-8"
         return
     raise AssertionError("there is no error")
 
@@ -60,7 +61,8 @@ def hooked(oid):
 # Calls with an identifier that is made anew each time.
 OF_FRESH = {
     "text": lambda oid: (ObjectIdentifier(str(oid)), ObjectIdentifier(text=str(oid)), Under(str(oid))),
-    "wrong text": lambda oid: [raised(ObjectIdentifier, given) for given in (f"{oid}.x", f"{oid}.\ud800", 1)],
+    "wrong text": lambda oid: [raised(ObjectIdentifier, f"{oid}.{arc}") for arc in ("x", "ü", "\ud800")],
+    "no text": lambda oid: raised(ObjectIdentifier, 1),
     "identifier": lambda oid: (ObjectIdentifier(oid), Under(oid), Under(Under(oid))),
     "octets": lambda oid: [Under.from_bytes(kind(bytes(oid))) for kind in (bytes, bytearray, memoryview)],
     "wrong octets": lambda oid: raised(ObjectIdentifier.from_bytes, bytes(oid) + WRONG),
@@ -136,15 +138,16 @@ class Memory(unittest.TestCase):
         """A call whose n-th allocation fails raises MemoryError, for each n, or has its result without it."""
         for name, call in CALLS.items():
             with self.subTest(name):
-                call()
+                wanted, is_same = call(), True
                 number = last = 0
                 # The last allocation is before ten numbers without an error.
                 while number < last + 10 and not name.startswith(IN_PYTHON):
                     _testcapi.set_nomemory(number, number + 1)
                     try:
-                        call()
+                        is_same = call() == wanted
                     except MemoryError:
                         last = number
                     finally:
                         _testcapi.remove_mem_hooks()
+                    self.assertTrue(is_same, number)
                     number += 1

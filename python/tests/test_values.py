@@ -52,7 +52,8 @@ WRONG = [
         {b"\6": (0, None), b"\6\2\x2a": (0, None), b"\6\x81\1\x2a": (0, None), b"\6\x80\x2a\0\0": (0, None)}),
     (from_arcs, 5, "OID value is empty", {(): (0, None)}),
     (from_arcs, 5, "an identifier has two arcs or more", {(1,): (0, None)}),
-    (from_arcs, 2, "OID contains arc which is larger than 32-bits", {(1, 2, 2**32): (0, None)}),
+    (from_arcs, 2, "OID contains arc which is larger than 32-bits",
+        {given: (0, None) for given in ((1, 2, 2**32), (2**32,), (2**32, 40, 2**32))}),
     (from_arcs, 1, "OID contains out-of-range arc: 3", {(3, 2**32): (3, None)}),
     (OID.child, 2, "OID contains arc which is larger than 32-bits", {2**32: (0, None)}),
 ]
@@ -181,6 +182,8 @@ class Inputs(unittest.TestCase):
             taken = [call(octets) for octets in (*given, type("Octets", (bytes,), {})(octets))]
             source[:] = bytes(len(source))
             self.assertEqual([(bytes, OCTETS)] * 6, [(type(bytes(oid)), bytes(oid)) for oid in taken])
+            for kind in (bytearray, memoryview):
+                self.assertIs(bytes, type(error_of(call, kind(b"\x80")).given))
 
     def test_the_rest_after_an_element(self):
         """It has any length. That of a memoryview in a row is one, of the same memory."""
@@ -195,7 +198,7 @@ class Inputs(unittest.TestCase):
         self.assertIs(TypeError, type(error_of(ObjectIdentifier.read_der, memoryview(array.array("H", [0x106, 42])))))
 
     def test_an_error_keeps_the_view(self):
-        """An error has the view, also if the caller's is released. It says what that of bytes does, as its copies do."""
+        """An error has a view, also if the caller's is released, and says what that of bytes does, as its copies do."""
         for octets in (b"\6\2\x2a", b"\6\0" + bytes(59), b"\6\1\x80" + bytes(range(200)), b"\7" + bytes(117), b"\6"):
             wanted, (shown, _, given) = error_of(ObjectIdentifier.read_der, octets), 3 * [memoryview(bytearray(octets))]
             error = error_of(ObjectIdentifier.read_der, given)
@@ -291,6 +294,8 @@ class Inputs(unittest.TestCase):
         self.assertTrue((arcs[1:], arcs[::-1], arcs.count(last)) == (oid[1:], oid[::-1], oid.count(last)))
         self.assertTrue((f"ObjectIdentifier('{text}')", same, hash(same)) == (repr(oid), oid, hash(oid)))
         self.assertTrue((octets + GREATEST, octets) == (bytes(child), bytes(child.parent)))
+        longer = ObjectIdentifier.from_bytes(octets + bytes(256))
+        self.assertEqual((False, False, True), (oid == longer, longer == oid, longer != oid))
         self.assertTrue((oid, tuple(before)) == (oid.parent.child(last), oid.parent.arcs))
         self.assertTrue((oid, (oid, b"\0")) == (oid.from_der(oid.der), oid.read_der(oid.der + b"\0")))
         self.assertEqual((4, 120), error_of(ObjectIdentifier, text + ".x").args)
