@@ -2,10 +2,8 @@
 source archive of all that the wheel is made from. README.md says what it needs."""
 import sys
 
-if sys.version_info < (3, 11):
-    raise SystemExit(f"const-oid: needs Python 3.11 or later, and this is {sys.version.split()[0]}")
-if sys.platform != "linux":
-    raise SystemExit(f"const-oid: needs Linux with glibc, and this is {sys.platform}")
+if sys.version_info < (3, 11) or sys.platform != "linux":
+    raise SystemExit(f"const-oid: needs Python 3.11 or later on Linux, not {sys.version.split()[0]} on {sys.platform}")
 
 import base64
 import fcntl
@@ -45,11 +43,10 @@ if not CRATE.exists():
     raise SystemExit(f"const-oid: there is no {CRATE}: install a checkout of the repository, or a source archive")
 PROJECT = tomllib.loads((HERE / "pyproject.toml").read_text(encoding="utf-8"))["project"]
 PROJECT["version"] = ".".join(re.findall(r"define CONST_OID_VERSION_\w+ (\d+)", HEADER.read_text(encoding="utf-8")))
-# A 32-bit Python may run on a 64-bit kernel, whose name it then says.
-PLATFORM = re.sub("[-.]", "_", sysconfig.get_platform())
-if sys.maxsize < 2**32:
-    PLATFORM = {"linux_x86_64": "linux_i686", "linux_aarch64": "linux_armv7l"}.get(PLATFORM, PLATFORM)
-TAG = f"cp311-abi3-{PLATFORM}"
+# A 32-bit Python may run on a 64-bit kernel, whose name it then has.
+OF_32_BITS = {"linux-x86_64": "linux-i686", "linux-aarch64": "linux-armv7l"} if sys.maxsize < 2**32 else {}
+PLATFORM = OF_32_BITS.get(sysconfig.get_platform(), sysconfig.get_platform())
+TAG = f"cp311-abi3-{re.sub('[-.]', '_', PLATFORM)}"
 STEM = f"{PROJECT['name'].replace('-', '_')}-{PROJECT['version']}"
 
 
@@ -61,8 +58,7 @@ def _output(*command):
     return run.stdout
 
 
-def _is_recent(said):
-    """Whether a rustc that says this of its version is one of those from 1.85 on."""
+def _is_recent(said):  # whether a rustc that says this of its version is one of those from 1.85 on
     return tuple(map(int, re.findall(r"\d+", said)[:2])) >= (1, 85)
 
 

@@ -167,13 +167,11 @@ static int is_octets(PyObject *given) {
 
 /* A copy of octets. The items of a memoryview may be wider, and are then none. */
 static PyObject *octets_from(PyObject *type, PyObject *given) {
-    Py_buffer view = {.itemsize = 1};
+    Py_buffer view;
     if (PyBytes_CheckExact(given)) return Py_NewRef(given);
     if (!is_octets(given)) return raise_wrong_type(type, "octets must be bytes, bytearray or memoryview", given);
-    if (PyMemoryView_Check(given)) {
-        if (PyObject_GetBuffer(given, &view, PyBUF_FULL_RO)) return NULL;
-        PyBuffer_Release(&view);
-    }
+    if (PyObject_GetBuffer(given, &view, PyBUF_FULL_RO)) return NULL;
+    PyBuffer_Release(&view);
     if (view.itemsize == 1) return PyBytes_FromObject(given);
     return PyErr_Format(PyExc_TypeError, "octets must be items of 1 byte, not %zd: see memoryview.cast", view.itemsize);
 }
@@ -602,8 +600,7 @@ static int module_exec(PyObject *module) {
     }
     OWNED *text = PyUnicode_FromFormat("%lu.%lu.%lu", version / 65536, version / 256 % 256, version % 256);
     OWNED *type = PyType_FromModuleAndSpec(module, &identifier_spec, NULL);
-    /* Nobody can set an attribute of the class, which has its last ones here. With no dimension, pandas takes an
-     * identifier as one value. */
+    /* Nobody can set an attribute of the class, which has its last ones here. By ndim, pandas takes it as one value. */
     OWNED *last = Py_BuildValue("{s(s)si}", "__match_args__", "arcs", "ndim", 0);
     OWNED *attributes = type ? PyObject_GenericGetDict(type, NULL) : NULL;
     if (!text || !last || !attributes || PyDict_Update(attributes, last)) return -1;

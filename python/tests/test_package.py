@@ -62,8 +62,8 @@ class Package(unittest.TestCase):
         try:
             with contextlib.redirect_stdout(out), installed():
                 exec(block, variables)
-        except ModuleNotFoundError as error:
-            self.assertIn(error.name.split(".")[0], ("asn1crypto", "cryptography", "numpy", "pandas", "pyasn1"))
+        except ImportError as error:
+            self.assertRegex(block, "^(import|from) (asn1crypto|cryptography|numpy|pandas|pyasn1)")
             self.skipTest(str(error))
         self.assertEqual(wanted, out.getvalue().splitlines())
 
@@ -103,17 +103,13 @@ class Package(unittest.TestCase):
 
     def test_pandas_takes_an_identifier_as_one_value(self):
         oid = ObjectIdentifier("2.5.4")
-        with installed("pandas") as found:
-            for pandas in found:
-                frame, column = pandas.DataFrame({"oid": [oid, oid.child(3)], "one": oid}), pandas.Series
-                frame["set"], frame.loc[1, "oid"] = oid, oid
-                frame.iloc[0, 0] = frame.at[1, "one"] = oid
-                made = [frame.assign(x=oid)["x"], pandas.DataFrame({"x": oid}, index=[1, 2])["x"], frame["oid"]]
-                made += [frame["one"], frame["set"], column(oid, index=[1, 2]), pandas.DataFrame([oid, oid])[0]]
-                made += [column([None, oid], dtype=object).fillna(oid)]
-                self.assertEqual([[oid, oid]] * len(made), list(map(list, made)))
-                self.assertIs(oid, frame.set_index("oid")[:1].loc[oid, "one"])
-                self.assertIs(oid, column({oid: oid}).loc[oid])
+        for pandas in self.enterContext(installed("pandas")):
+            frame = pandas.DataFrame({"oid": [oid, oid.child(3)], "one": oid})
+            frame["set"] = frame.loc[1, "oid"] = frame.iloc[0, 0] = frame.at[1, "one"] = oid
+            made = [frame["oid"], frame["one"], frame["set"], frame.assign(x=oid)["x"], pandas.DataFrame([oid, oid])[0]]
+            made += [pandas.Series(oid, index=[1, 2]), pandas.Series([None, oid], dtype=object).fillna(oid)]
+            self.assertEqual([[oid, oid]] * len(made), list(map(list, made)))
+            self.assertEqual([oid, 1], [frame.set_index("oid")[:1].loc[oid, "one"], pandas.Series({oid: 1}).loc[oid]])
 
     def test_pydantic_takes_and_gives_text(self):
         """pydantic, and the version 1 that is in version 2, take text or an identifier, and give text in JSON."""
@@ -126,10 +122,8 @@ class Package(unittest.TestCase):
 
     def check_model(self, model):
         oid = ObjectIdentifier("2.5.4")
-        texts = {"oid": "2.5.4", "key": "2.5.4.3"}
-        texts_of = {name: type("Text", (str,), {})(text) for name, text in texts.items()}
-        made = [model(**given) for given in (texts, texts_of, {"oid": oid, "key": oid.child(3)})]
-        for made in (*made, model(oid=oid, key=Under("2.5.4.3"))):
+        texts = {"oid": "2.5.4", "key": type("Text", (str,), {})("2.5.4.3")}
+        for made in (model(**texts), model(oid=oid, key=oid.child(3)), model(oid=oid, key=Under("2.5.4.3"))):
             self.assertEqual((oid, oid.child(3), Under), (made.oid, made.key, type(made.key)))
             self.assertEqual(texts, json.loads(made.json()))
             self.assertEqual(made, model.parse_raw(made.json()))
@@ -157,16 +151,15 @@ class Package(unittest.TestCase):
         self.assertEqual({"const_oid"}, {value.__module__ for value in (ObjectIdentifier, OidError, Code)})
         self.assertEqual((Code.EMPTY, 5, set(Code.__members__)), (Code(5), Code.EMPTY, set(dir(Code))))
         self.assertLess({"code", "detail", "given", "piece"}, set(dir(OidError)))
-        for kind in (Code, OidError):
-            self.assertEqual(f"class {kind.__name__}(", inspect.getsource(kind)[: len(kind.__name__) + 7])
+        self.assertEqual(["class Code(", "class OidEr"], [inspect.getsource(kind)[:11] for kind in (Code, OidError)])
 
     @unittest.skipIf(sys.version_info < (3, 15), "this Python has no lazy imports")
     def test_imports_may_be_lazy(self):
-        code = "from collections.abc import Sequence; from const_oid import ObjectIdentifier as kind; oid = kind('2.5')"
-        for call in ("kind('1.x')", "kind(1)", "type('A', (kind,), {})(oid).__copy__()", "isinstance(oid, Sequence)"):
-            run = [sys.executable, "-X", "lazy_imports=all", "-c", f"{code}; print({call})"]
-            said = subprocess.run(run, text=True, capture_output=True)
-            self.assertRegex(said.stdout + said.stderr, r"^2\.5$|^True$|\n(const_oid\.Oid|Type)Error: ", call)
+        code = "from collections.abc import Sequence; from const_oid import ObjectIdentifier as kind; print({})"
+        for call in ("kind('1.x')", "kind(1)", "type('', (kind,), {})('2.5').__copy__()", "issubclass(kind, Sequence)"):
+            command = [sys.executable, "-X", "lazy_imports=all", "-c", code.format(call)]
+            run = subprocess.run(command, text=True, capture_output=True)
+            self.assertRegex(run.stdout + run.stderr, r"^2\.5$|^True$|\n(const_oid\.Oid|Type)Error: ", call)
 
     def test_help_has_what_is_public(self):
         """Help has each class and the fields of OidError, but no method of int, and nothing that is internal."""
@@ -189,8 +182,7 @@ class Package(unittest.TestCase):
 class Types(unittest.TestCase):
     def test_the_stub_has_the_arguments(self):
         functions = dict(re.findall(r"^    def (\w+)\((.*)\) ->", STUB, re.M))
-        public = {name for name in vars(ObjectIdentifier) if not name.startswith("_")}
-        self.assertEqual({"ndim"}, public - set(functions))
+        self.assertEqual({"ndim"}, {name for name in vars(ObjectIdentifier) if name[0] != "_"} - set(functions))
         self.assertIn("@disjoint_base\nclass ObjectIdentifier(", STUB)
         self.assertIs(TypeError, type(error_of(type, "Both", (ObjectIdentifier, int), {})))
         methods = "from_bytes from_der read_der from_arcs child starts_with index count __format__ __deepcopy__"

@@ -6,6 +6,7 @@ import email
 import hashlib
 import importlib.metadata
 import io
+import itertools
 import os
 import pathlib
 import re
@@ -34,16 +35,12 @@ FIRST = "^const-oid: to be installed first: "
 OLD = "import sys; sys.version_info, sys.version, sys.modules['tomllib'] = (3, 8, 18), '3.8.18 (of a day)', None"
 RUST = """import shutil, subprocess
 shutil.which, subprocess.run = str, lambda *_, **__: subprocess.CompletedProcess(_, 0, 'rustc 1.84.1')"""
-# Platforms of a Python whose greatest size is this, and how pip names them.
-TAGS = {(platform, 2**63 - 1): re.sub("[-.]", "_", platform) for platform in ("linux-x86_64", "linux-aarch64", "a-b.c")}
-TAGS |= {("linux-x86_64", 2**31 - 1): "linux_i686", ("linux-aarch64", 2**31 - 1): "linux_armv7l"}
-TAGS |= {("linux-i686", 2**31 - 1): "linux_i686"}
-RECENT = {"rustc 1.84.1 (e71f9a9a9 2025-01-27)": False, "rustc 1.9.0": False, "rustc 0.99.0": False}
-RECENT |= dict.fromkeys(["rustc 1.85.0 (4d91de4e4 2025-02-17)", "rustc 1.100.0-nightly", "rustc 2.0.0"], True)
+# How pip names the platforms of a Python whose sizes have 64 or 32 bits.
+TAGS = {64: {name: re.sub("[-.]", "_", name) for name in ("linux-x86_64", "linux-aarch64", "linux-armv7l", "a-b.c")}}
+TAGS[32] = TAGS[64] | {"linux-x86_64": "linux_i686", "linux-aarch64": "linux_armv7l"}
 REFUSED = {
-    r"^const-oid: needs Python 3\.11 or later, and this is 3\.8\.18$": {"before": OLD},
-    "^const-oid: needs Linux with glibc, and this is win32$":
-        {"before": "import sys; sys.platform, sys.modules['fcntl'] = 'win32', None"},
+    r"^const-oid: needs Python 3\.11 or later on Linux, not 3\.8\.18 on linux$": {"before": OLD},
+    "^const-oid: needs .* on win32$": {"before": "import sys; sys.platform, sys.modules['fcntl'] = 'win32', None"},
     "^const-oid: a free-threaded Python does not have abi3, the stable ABI that the module is for$":
         {"before": "import sysconfig; sysconfig.get_config_var = {'Py_GIL_DISABLED': 1}.get"},
     r"^const-oid: the one setting that there is is library=installed, and these are \{'library': 'instaled'\}$":
@@ -205,12 +202,12 @@ class Build(unittest.TestCase):
                 self.assertRegex(said, text)
 
     def test_versions_and_platforms(self):
-        self.assertEqual(RECENT, {said: backend._is_recent(said) for said in RECENT})
-        for (platform, size), wanted in TAGS.items():
-            said = ran(f"""import sys, sysconfig
-sys.maxsize, sysconfig.get_platform = {size}, lambda: {platform!r}
-import backend; print(backend.TAG)""", TOP / "python").stdout
-            self.assertEqual(f"cp311-abi3-{wanted}\n", said, (platform, size))
+        for said in ("1.9.0", "1.84.1 (e 2025-01-27)", "1.85.0", "1.100.0-nightly", "2.0.0"):
+            self.assertEqual(said[:4] not in ("1.9.", "1.84"), backend._is_recent(f"rustc {said}"), said)
+        for bits, name in itertools.product(TAGS, TAGS[64]):
+            before = f"import sys, sysconfig; sys.maxsize, sysconfig.get_platform = 2**{bits - 1}, lambda: {name!r}"
+            said = ran(f"{before}; import backend; print(backend.TAG)", TOP / "python").stdout
+            self.assertEqual(f"cp311-abi3-{TAGS[bits][name]}\n", said, (bits, name))
 
     def test_an_editable_install_sees_a_change(self):
         """A change of a source is seen at once, and a wrong setting removes nothing. The wheel leads to a checkout."""

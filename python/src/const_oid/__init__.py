@@ -144,10 +144,8 @@ class OidError(ValueError):
 
     def __reduce__(self) -> Any:
         """For copies and pickles, which have the octets of a view."""
-        parts: Any = super().__reduce__()
-        if isinstance(view := vars(self).get("given"), memoryview):
-            parts = (*parts[:2], {**vars(self), "given": bytes(view)})
-        return parts
+        view, parts = vars(self).get("given"), super().__reduce__()
+        return (*parts[:2], {**vars(self), "given": bytes(view)}) if isinstance(view, memoryview) else parts
 
 
 def _fault_of_element(octets: bytes | memoryview) -> str:

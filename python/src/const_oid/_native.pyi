@@ -1,8 +1,7 @@
 # mypy: no-warn-unused-ignores
 from collections.abc import Iterable, Sequence
 from typing import Any, Final, Self, SupportsIndex, overload
-
-from typing_extensions import disjoint_base  # type: ignore[attr-defined]  # older mypy does not know it
+from typing_extensions import disjoint_base  # type: ignore[attr-defined] # unknown to older ones
 
 __version__: str
 
