@@ -27,12 +27,13 @@ HERE = pathlib.Path(__file__).resolve().parent
 TOP = HERE if (HERE / "PKG-INFO").exists() else HERE.parent
 CRATE = TOP / "rust/const-oid-c/Cargo.toml"
 HEADER = TOP / "crates/const_oid_c/include/const_oid.h"
+NAMES = TOP / "rust/names.tsv"
 EXTENSION = "_native.abi3.so"
 SOURCES = ("__init__.py", "_native.pyi", "_support.py", "names.py", "py.typed", "sorted_map.py")
 LICENCES = ("LICENSE-APACHE", "LICENSE-MIT")
 ARCHIVED = ("backend.py", "pyproject.toml", "README.md", "src/native.c", *(f"src/const_oid/{name}" for name in SOURCES))
 ARCHIVED_OF_TOP = (*LICENCES, "crates/const_oid_c/include/*.h", "rust/const-oid/README.md", "rust/const-oid*/Cargo.*")
-ARCHIVED_OF_TOP += ("rust/const-oid*/*.rs", "rust/const-oid/examples/*.rs", "rust/const-oid*/src/**/*.rs")
+ARCHIVED_OF_TOP += ("rust/names.tsv", "rust/const-oid*/*.rs", "rust/const-oid/examples/*.rs", "rust/const-oid*/src/**/*.rs")
 COMPILER = shlex.split(os.environ.get("CC", "")) or ["cc"]
 RUSTC = os.environ.get("RUSTC") or "rustc"
 INCLUDE = pathlib.Path(sysconfig.get_path("include"))
@@ -112,12 +113,6 @@ def _compiled(config_settings):
         return made.read_bytes()
 
 
-def _names():
-    """The table of names: for each entry the arcs and the name."""
-    table = (TOP / "rust/const-oid/src/db/names.rs").read_text(encoding="utf-8")
-    return "".join(f"{arcs}\t{name}\n" for arcs, name in re.findall(r' = "(.*)", "(.*)";', table))
-
-
 def _metadata():
     """The file METADATA, of the project and its page."""
     fields = {"Name": "name", "Version": "version", "Summary": "description", "License-Expression": "license"}
@@ -149,7 +144,7 @@ def _write_wheel(folder, files):
 def build_wheel(wheel_directory, config_settings=None, metadata_directory=None):
     """Writes the wheel into a folder, and returns its name."""
     files = {f"const_oid/{name}": (HERE / "src/const_oid" / name).read_bytes() for name in SOURCES}
-    files |= {"const_oid/names.tsv": _names().encode(), f"const_oid/{EXTENSION}": _compiled(config_settings)}
+    files |= {"const_oid/names.tsv": NAMES.read_bytes(), f"const_oid/{EXTENSION}": _compiled(config_settings)}
     return _write_wheel(wheel_directory, files)
 
 
@@ -163,7 +158,7 @@ def build_editable(wheel_directory, config_settings=None, metadata_directory=Non
         package.mkdir()
         for name in SOURCES:
             (package / name).symlink_to(HERE / "src/const_oid" / name)
-        (package / "names.tsv").write_text(_names(), encoding="utf-8")
+        (package / "names.tsv").symlink_to(NAMES)
         (package / EXTENSION).write_bytes(extension)
     return _write_wheel(wheel_directory, {"const_oid.pth": f"{package.parent}\n".encode()})
 

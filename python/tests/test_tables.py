@@ -15,14 +15,13 @@ from const_oid import ObjectIdentifier, SortedMap, names, sorted_map
 from test_memory import _testcapi
 from test_values import copies_of, error_of, seconds
 
-ROWS = pathlib.Path(__file__).resolve().parents[2] / "rust/const-oid/src/db/names.rs"
+ROWS = pathlib.Path(__file__).resolve().parents[2] / "rust/names.tsv"
 SEED = 3416
 
 
 class Names(unittest.TestCase):
     def test_entries_are_the_rows(self):
-        lines = (line.split('"') for line in ROWS.read_text(encoding="utf-8").splitlines() if line.endswith('";'))
-        rows = [(text, name) for _, text, _, name, _ in lines]
+        rows = [tuple(line.split("\t")[2:]) for line in ROWS.read_text(encoding="utf-8").splitlines()]
         self.assertEqual(rows, [(str(oid), name) for oid, name in names.entries()])
         self.assertEqual({tuple}, set(map(type, [names.entries(), *names.entries()])))
 
@@ -48,7 +47,7 @@ class Names(unittest.TestCase):
         """The table is that of the package, also where the current folder has one."""
         code = "from const_oid import names; print(names.by_name('cn'))"
         with tempfile.TemporaryDirectory() as folder:
-            (pathlib.Path(folder) / "names.tsv").write_text("1.2\tcn\n", encoding="utf-8")
+            (pathlib.Path(folder) / "names.tsv").write_text("x\tX\t1.2\tcn\n", encoding="utf-8")
             run = subprocess.run([sys.executable, "-c", code], cwd=folder, text=True, capture_output=True)
         self.assertEqual(("2.5.4.3\n", ""), (run.stdout, run.stderr))
         for given in (3, b"cn", None, ObjectIdentifier("2.5.4.3")):

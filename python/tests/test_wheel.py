@@ -91,6 +91,7 @@ class Wheel(unittest.TestCase):
         self.assertEqual((FILES, len(FILES)), (set(self.files), len(self.entries)))
         self.assertEqual({0o100644}, {entry.external_attr >> 16 for entry in self.entries})
         sources = [*(TOP / "python/src/const_oid").glob("*.*"), TOP / "LICENSE-APACHE", TOP / "LICENSE-MIT"]
+        sources.append(TOP / "rust/names.tsv")
         contents = {name.split("/")[-1]: content for name, content in self.files.items()}
         for source in sources:
             self.assertEqual(source.read_bytes(), contents[source.name])

@@ -1,5 +1,5 @@
-/* Compares const_oid_names.h with rust/const-oid/src/db/names.rs, of which rows.inc has a ROW(constant, arcs, name) for
- * each row: the octets of each constant, the arrays row by row, and what is found by name and by octets. */
+/* Compares const_oid_names.h with rust/names.tsv, of which rows.inc has a ROW(constant, arcs, name) for each row: the
+ * octets of each constant, the arrays row by row, and what is found by name and by octets. */
 #include "const_oid_names.h"
 #include "see.h"
 

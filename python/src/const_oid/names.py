@@ -23,7 +23,7 @@ def entries() -> tuple[tuple[ObjectIdentifier, str], ...]:
     ('commonName', 'cn', 'cn')
     """
     lines = pathlib.Path(__file__).with_name("names.tsv").read_text(encoding="utf-8").splitlines()
-    return tuple((ObjectIdentifier(text), name) for text, name in (line.split("\t") for line in lines))
+    return tuple((ObjectIdentifier(text), name) for _, _, text, name in (line.split("\t") for line in lines))
 
 
 @cache

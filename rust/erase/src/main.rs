@@ -1,9 +1,8 @@
 //! Generates Rust from Rattle: `erase [--check]`.
 //!
 //! For each crate of the table, the program reads `lib.rt` and its modules, and writes them as Rust, which rustfmt lays
-//! out. It writes the sorted table of names, and a header of names for C, from the table of names, and the exports of
-//! the library for C, with what its tests need of them. With `--check` it writes nothing, and ends with 1 if a file
-//! differs from what it would write.
+//! out. It writes the names for Rust and for C from their table, and the exports of the library for C, with what its
+//! tests need of them. With `--check` it writes nothing, and ends with 1 if a file differs from what it would write.
 
 mod c_names;
 mod calls;
@@ -20,6 +19,7 @@ use std::process::{Command, ExitCode, Stdio};
 use std::{env, fs, io};
 use table::Crate;
 
+const TABLE: &str = "rust/names.tsv";
 const NAMES: &str = "rust/const-oid/src/db/names.rs";
 const SORTED: &str = "rust/const-oid/src/db/sorted.rs";
 const C_NAMES: &str = "crates/const_oid_c/include/const_oid_names.h";
@@ -76,9 +76,10 @@ fn generated() -> Result<Vec<File>> {
         let others = listed(table.to).into_iter().filter(|path| files[first..].iter().all(|file| file.0 != *path));
         files.extend(others.map(|path| (path, None)).collect::<Vec<_>>());
     }
-    let table = read(NAMES)?;
-    files.push((SORTED.into(), Some(headed(NAMES, &names::sorted(&table)))));
-    files.push((C_NAMES.into(), Some(format!("/* {} */\n{}", generated_from(NAMES), c_names::header(&table)))));
+    let table = read(TABLE)?;
+    files.push((NAMES.into(), Some(headed(TABLE, &names::modules(&table)))));
+    files.push((SORTED.into(), Some(headed(TABLE, &names::sorted(&table)))));
+    files.push((C_NAMES.into(), Some(format!("/* {} */\n{}", generated_from(TABLE), c_names::header(&table)))));
     let mut calls = Vec::new();
     for path in listed(FOR_C) {
         let module = path[FOR_C.len() + 1..].trim_end_matches(".rt").replace('/', "::");
