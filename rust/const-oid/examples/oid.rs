@@ -1,7 +1,7 @@
 //! Prints object identifiers, each by its text, octets, arcs and names.
 //!
-//! `cargo run --features db --example oid 2.5.4.3`
-use const_oid::db::SORTED;
+//! `cargo run --features db --example oid 2.5.4.3 sha256`
+use const_oid::db::{COMMON, SORTED, by_name};
 use const_oid::{ObjectIdentifier, ObjectIdentifierRef};
 use std::io::{self, Write};
 use std::process::ExitCode;
@@ -13,6 +13,7 @@ Usage: oid [--hex] INPUT..
 
 An input with a dot is text, such as 2.5.4.3. Without one, it is contents octets in hexadecimal, such as 2A03.
 A number alone, such as 550403, and what could be DER with tag and length, are octets only after --hex.
+What is neither may be a name, such as sha256.
 ";
 
 /// An identifier of the greatest capacity.
@@ -30,12 +31,22 @@ fn octets_of(digits: &str) -> Option<Vec<u8>> {
     digits.as_bytes().chunks(2).map(octet).collect()
 }
 
-/// The identifier that an input denotes.
+/// The identifier that an input denotes or names.
 fn read(input: &str, is_hex: bool) -> Result<Oid> {
+    match (parse(input, is_hex), by_name(input)) {
+        (Err(_), Some(oid)) if !is_hex => Ok(Oid::from_bytes_sized(oid.as_bytes())?),
+        (parsed, _) => parsed,
+    }
+}
+
+/// The identifier that an input denotes.
+fn parse(input: &str, is_hex: bool) -> Result<Oid> {
     if !is_hex && (input.is_empty() || input.contains('.')) {
         return Ok(Oid::new_sized(input)?);
     }
-    let octets = octets_of(input).ok_or("not octets in hexadecimal")?;
+    let is_name = !is_hex && input.bytes().any(|byte| !byte.is_ascii_hexdigit());
+    let wrong = if is_name { "neither a name nor octets in hexadecimal" } else { "not octets in hexadecimal" };
+    let octets = octets_of(input).ok_or(wrong)?;
     if !is_hex && matches!(ObjectIdentifierRef::read_element(&octets), Some((_, []))) {
         return Err("a whole element? Leave out tag and length, or give --hex first".into());
     }
@@ -52,7 +63,10 @@ fn describe(oid: &ObjectIdentifierRef) -> String {
     let entries = SORTED.subtree(oid).iter().take_while(|entry| entry.0 == oid);
     let mut names: Vec<&str> = entries.map(|entry| entry.1).collect();
     names.dedup();
-    format!("{oid}\n  octets: {}\n  arcs: {arcs:?}\n  names: {}", octets.join(" "), names.join(", "))
+    let common = ObjectIdentifier::try_from(oid).into_iter().flat_map(|oid| COMMON.find_names_for_oid(oid));
+    let common: Vec<&str> = common.collect();
+    let also = if common.is_empty() { String::new() } else { format!("\n  common names: {}", common.join(", ")) };
+    format!("{oid}\n  octets: {}\n  arcs: {arcs:?}\n  names: {}{also}", octets.join(" "), names.join(", "))
 }
 
 /// Prints identifiers to `out` and errors to `errors`, and returns the exit status.

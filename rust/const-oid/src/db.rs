@@ -1,5 +1,6 @@
 //! Some 1,500 names of identifiers: a module of constants for each document that defines some, and the tables [`DB`]
-//! and [`SORTED`] of all. Requires the feature `db`.
+//! and [`SORTED`] of all. [`COMMON`] has 2,400 others, and [`by_name`] and [`by_oid`] ask [`DB`] and then it. Requires
+//! the feature `db`.
 //!
 //! A [`Database`] is a table in any order, for lookups in constants and by name. A [`SortedDatabase`] has the order of
 //! arcs: a lookup is a binary search, and it also finds the nearest name, subtrees, and what GetNext of SNMP returns.
@@ -74,16 +75,9 @@ entries! {
 macro_rules! example {
     ($module:ident $constant:ident = $arcs:literal; $($rest:tt)*) => {
         concat!(
-            "# Examples\n\n```\nuse const_oid::db::",
-            stringify!($module),
-            ";\n\n",
-            "assert_eq!(",
-            stringify!($module),
-            "::",
-            stringify!($constant),
-            ".to_string(), ",
-            stringify!($arcs),
-            ");\n```",
+            "# Examples\n\n```\n",
+            stringify!(assert_eq!(const_oid::db::$module::$constant.to_string(), $arcs);),
+            "\n```",
         )
     };
 }
@@ -103,7 +97,7 @@ macro_rules! names {
             }
         )*
 
-        /// The identifiers of all modules, each with its name.
+        /// The identifiers of all modules, each with its name. `hashAlgs` names two: this finds 2.16.840.1.101.3.4.2.
         ///
         /// # Examples
         ///
@@ -126,8 +120,8 @@ macro_rules! names {
 /// The table of all entries in the order of arcs.
 macro_rules! sorted {
     ($($octets:literal, $name:literal;)*) => {
-        /// The entries of [`DB`] in the order of arcs, those of an identifier in the order of [`DB`].
-        /// [`SortedDatabase`] has an example.
+        /// The entries of [`DB`] in the order of arcs, those of an identifier in the order of [`DB`]. So it finds
+        /// another `hashAlgs`, 1.3.6.1.4.1.1722.12.2. [`SortedDatabase`] has an example.
         pub const SORTED: SortedDatabase<'static> = SortedDatabase::new_unchecked(&IN_ORDER);
 
         /// The entries of [`SORTED`], as a `static`, as above. Their octets are compared with [`DB`] by a test.
@@ -136,7 +130,62 @@ macro_rules! sorted {
     };
 }
 
+/// The table of common names.
+macro_rules! common {
+    ($($arcs:literal, $name:literal;)*) => {
+        /// The names that people type and [`DB`] lacks: those of OpenSSL, of MIBs, of FIPS and RFC 8410, of the
+        /// CA/Browser Forum and of Microsoft. A name stands once, or in several cases. Some that [`DB`] has name another
+        /// identifier here, such as `DSA`.
+        ///
+        /// # Examples
+        ///
+        /// ```
+        /// use const_oid::db::{COMMON, DB};
+        ///
+        /// let oid = COMMON.by_name("SHA256").unwrap();
+        /// let names = DB.find_names_for_oid(*oid).chain(COMMON.find_names_for_oid(*oid));
+        /// assert!(names.eq(["id-sha256", "SHA-256", "SHA256", "sha256"]));
+        /// ```
+        pub const COMMON: Database<'static> =
+            Database::new(&COMMON_ENTRIES).linked(&COMMON_OID_LINKS, &COMMON_NAME_LINKS);
+
+        static COMMON_ENTRIES: [(&ObjectIdentifier, &str); [$($name,)*].len()] =
+            [$((const { &ObjectIdentifier::new_unwrap($arcs) }, $name),)*];
+        static COMMON_OID_LINKS: [u16; COMMON_ENTRIES.len() * 4 / 3] = links_of(&COMMON_ENTRIES, Key::Oid);
+        static COMMON_NAME_LINKS: [u16; COMMON_ENTRIES.len() * 4 / 3] = links_of(&COMMON_ENTRIES, Key::Name);
+    };
+}
+
+/// The identifier with a name, ignoring ASCII case, in [`DB`], or else in [`COMMON`], or `None`.
+///
+/// # Examples
+///
+/// ```
+/// use const_oid::db::{by_name, by_oid};
+///
+/// let oid = by_name("sysUpTime").unwrap();
+/// assert_eq!((oid.to_string().as_str(), by_oid(oid)), ("1.3.6.1.2.1.1.3", Some("sysUpTime")));
+/// ```
+#[must_use]
+pub const fn by_name(name: &str) -> Option<&'static ObjectIdentifier> {
+    match DB.by_name(name) {
+        None => COMMON.by_name(name),
+        found => found,
+    }
+}
+
+/// The first name of an identifier in [`DB`], or else in [`COMMON`], or `None`. [`by_name`] has an example.
+#[must_use]
+pub const fn by_oid(oid: &ObjectIdentifier) -> Option<&'static str> {
+    match DB.by_oid(oid) {
+        None => COMMON.by_oid(oid),
+        found => found,
+    }
+}
+
 include!("db/names.rs");
+
+include!("db/common.rs");
 
 include!("db/sorted.rs");
 

@@ -20,7 +20,9 @@ use std::{env, fs, io};
 use table::Crate;
 
 const TABLE: &str = "rust/names.tsv";
+const COMMON_TABLE: &str = "rust/common_names.tsv";
 const NAMES: &str = "rust/const-oid/src/db/names.rs";
+const COMMON: &str = "rust/const-oid/src/db/common.rs";
 const SORTED: &str = "rust/const-oid/src/db/sorted.rs";
 const C_NAMES: &str = "crates/const_oid_c/include/const_oid_names.h";
 const FOR_C: &str = "crates/const_oid_c/src";
@@ -79,6 +81,8 @@ fn generated() -> Result<Vec<File>> {
     let table = read(TABLE)?;
     files.push((NAMES.into(), Some(headed(TABLE, &names::modules(&table)))));
     files.push((SORTED.into(), Some(headed(TABLE, &names::sorted(&table)))));
+    let common = read(COMMON_TABLE)?;
+    files.push((COMMON.into(), Some(headed(COMMON_TABLE, &names::common(&common)))));
     files.push((C_NAMES.into(), Some(format!("/* {} */\n{}", generated_from(TABLE), c_names::header(&table)))));
     let mut calls = Vec::new();
     for path in listed(FOR_C) {

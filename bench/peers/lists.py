@@ -1,0 +1,92 @@
+#!/usr/bin/python3
+"""bench/peers/lists.py LIST: the names of an installed library, each with its arcs: of openssl, cryptography, asn1crypto
+or pyasn1_modules, of net_snmp, the MIB files of libsnmp-base, or of mibs, seven that python3-pysnmp4-mibs has.
+
+bench/peers/lists.py --add: adds to rust/common_names.tsv what neither table has of mibs, openssl and net_snmp."""
+import collections, contextlib, importlib, pathlib, pkgutil, re, subprocess, sys, tempfile  # noqa: E401
+
+TABLES = [pathlib.Path(__file__).resolve().parents[2] / f"rust/{name}.tsv" for name in ("names", "common_names")]
+# What those of net-snmp take from SNMPv2-SMI, which no Debian package has.
+NODES = "enterprises OBJECT IDENTIFIER ::= { iso 3 6 1 4 1 } snmpModules OBJECT IDENTIFIER ::= { iso 3 6 1 6 3 }"
+
+
+def openssl():
+    """The short and the long name of each number, as libcrypto has them for Python."""
+    from _ssl import nid2obj
+    for nid in range(1, 10_000):
+        with contextlib.suppress(ValueError):
+            _, short, long, arcs = nid2obj(nid)
+            yield from ((name, arcs) for name in dict.fromkeys((short, long)) if arcs)
+
+
+def cryptography():
+    from cryptography.hazmat._oid import _OID_NAMES
+    return [(name, oid.dotted_string) for oid, name in _OID_NAMES.items()]
+
+
+def modules(package):
+    found = pkgutil.iter_modules(importlib.import_module(package).__path__, f"{package}.")
+    return [importlib.import_module(module.name) for module in found if "._" not in module.name]
+
+
+def asn1crypto():
+    modules("asn1crypto")
+    from asn1crypto.core import ObjectIdentifier
+    return [(name, arcs) for kind in ObjectIdentifier.__subclasses__() for arcs, name in (kind._map or {}).items()]
+
+
+def pyasn1_modules():
+    """Names of Python, in which an underscore stands for a hyphen."""
+    from pyasn1.type.univ import ObjectIdentifier
+    rows = [row for module in modules("pyasn1_modules") for row in vars(module).items()]
+    rows = [row for row in rows if type(row[1]) is ObjectIdentifier and row[1].isValue]
+    return [(name.replace("_", "-"), str(value)) for name, value in rows]
+
+
+def net_snmp():
+    """The names that are there once."""
+    with tempfile.TemporaryDirectory() as folder:
+        (pathlib.Path(folder) / "SMI.txt").write_text(f"SNMPv2-SMI DEFINITIONS ::= BEGIN {NODES} END\n")
+        command = ["snmptranslate", "-M", f"{folder}:/usr/share/snmp/mibs", "-m", "ALL", "-Tz"]
+        said = subprocess.run(command, text=True, capture_output=True, check=True).stdout
+    rows = re.findall(r'"(.+)"\s+"(1\.3\.6\.1\.4.+)"', said)
+    times = collections.Counter(name for name, _ in rows)
+    return [row for row in rows if times[row[0]] == 1]
+
+
+def mibs():
+    """The nodes of each MIB, in the order of arcs."""
+    from pysnmp.smi import builder
+    files = builder.MibBuilder()
+    files.addMibSources(builder.DirMibSource(importlib.import_module("pysnmp_mibs").__path__[0]))
+    for mib in ("SNMPv2-SMI", *(f"{name}-MIB" for name in ("SNMPv2", "IF", "IP", "TCP", "UDP", "HOST-RESOURCES"))):
+        files.loadModules(mib)
+        nodes = [(getattr(node, "name", ()), name) for name, node in files.mibSymbols[mib].items() if name[0].islower()]
+        yield from ((name, ".".join(map(str, arcs)), mib) for arcs, name in sorted(nodes) if len(arcs) > 1)
+
+
+def tables():
+    """The rows of both tables, each a document, a constant, arcs and a name."""
+    return [[line.split("\t") for line in table.read_text(encoding="utf-8").splitlines()] for table in TABLES]
+
+
+def add():
+    """Adds rows. A name stands once, and only where names.tsv does not have it, in any case, for the identifier."""
+    of_crate, common = tables()
+    known, names = {(arcs, name.lower()) for _, _, arcs, name in of_crate}, {name for *_, name in common}
+    others = [(*row, document) for document, rows in (("OpenSSL", openssl()), ("net-snmp", net_snmp())) for row in rows]
+    with TABLES[1].open("a", encoding="utf-8") as table:
+        for name, arcs, document in [*mibs(), *others]:
+            if name not in names and (arcs, name.lower()) not in known and max(map(int, arcs.split("."))) < 2**32:
+                names.add(name)
+                table.write(f"{document}\t\t{arcs}\t{name}\n")
+
+
+if __name__ == "__main__":
+    calls = {call.__name__: call for call in (openssl, cryptography, asn1crypto, pyasn1_modules, net_snmp, mibs)}
+    if sys.argv[1:] == ["--add"]:
+        add()
+    elif len(sys.argv) == 2 and sys.argv[1] in calls:
+        print(*("\t".join(row[:2]) for row in calls[sys.argv[1]]()), sep="\n")
+    else:
+        print(__doc__)
