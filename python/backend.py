@@ -1,4 +1,4 @@
-"""The build backend of this folder (PEP 517 and 660): a wheel with the extension module and the table of names, and a
+"""The build backend of this folder (PEP 517 and 660): a wheel with the extension module and the tables of names, and a
 source archive of all that the wheel is made from. README.md says what it needs."""
 import sys
 
@@ -27,13 +27,13 @@ HERE = pathlib.Path(__file__).resolve().parent
 TOP = HERE if (HERE / "PKG-INFO").exists() else HERE.parent
 CRATE = TOP / "rust/const-oid-c/Cargo.toml"
 HEADER = TOP / "crates/const_oid_c/include/const_oid.h"
-NAMES = TOP / "rust/names.tsv"
+TABLES = ("names.tsv", "common_names.tsv")
 EXTENSION = "_native.abi3.so"
 SOURCES = ("__init__.py", "_native.pyi", "_support.py", "names.py", "py.typed", "sorted_map.py")
 LICENCES = ("LICENSE-APACHE", "LICENSE-MIT")
 ARCHIVED = ("backend.py", "pyproject.toml", "README.md", "src/native.c", *(f"src/const_oid/{name}" for name in SOURCES))
 ARCHIVED_OF_TOP = (*LICENCES, "crates/const_oid_c/include/*.h", "rust/const-oid/README.md", "rust/const-oid*/Cargo.*")
-ARCHIVED_OF_TOP += ("rust/names.tsv", "rust/const-oid*/*.rs", "rust/const-oid/examples/*.rs", "rust/const-oid*/src/**/*.rs")
+ARCHIVED_OF_TOP += ("rust/*names.tsv", "rust/const-oid*/*.rs", "rust/const-oid/examples/*.rs", "rust/const-oid*/src/**/*.rs")
 COMPILER = shlex.split(os.environ.get("CC", "")) or ["cc"]
 RUSTC = os.environ.get("RUSTC") or "rustc"
 INCLUDE = pathlib.Path(sysconfig.get_path("include"))
@@ -144,7 +144,8 @@ def _write_wheel(folder, files):
 def build_wheel(wheel_directory, config_settings=None, metadata_directory=None):
     """Writes the wheel into a folder, and returns its name."""
     files = {f"const_oid/{name}": (HERE / "src/const_oid" / name).read_bytes() for name in SOURCES}
-    files |= {"const_oid/names.tsv": NAMES.read_bytes(), f"const_oid/{EXTENSION}": _compiled(config_settings)}
+    files |= {f"const_oid/{name}": (TOP / "rust" / name).read_bytes() for name in TABLES}
+    files[f"const_oid/{EXTENSION}"] = _compiled(config_settings)
     return _write_wheel(wheel_directory, files)
 
 
@@ -158,7 +159,8 @@ def build_editable(wheel_directory, config_settings=None, metadata_directory=Non
         package.mkdir()
         for name in SOURCES:
             (package / name).symlink_to(HERE / "src/const_oid" / name)
-        (package / "names.tsv").symlink_to(NAMES)
+        for name in TABLES:
+            (package / name).symlink_to(TOP / "rust" / name)
         (package / EXTENSION).write_bytes(extension)
     return _write_wheel(wheel_directory, {"const_oid.pth": f"{package.parent}\n".encode()})
 

@@ -1,5 +1,7 @@
 """const_oid.names and SortedMap, beside tables of tuples."""
+import contextlib
 import copy
+import importlib
 import itertools
 import operator
 import pathlib
@@ -15,19 +17,24 @@ from const_oid import ObjectIdentifier, SortedMap, names, sorted_map
 from test_memory import _testcapi
 from test_values import copies_of, error_of, seconds
 
-ROWS = pathlib.Path(__file__).resolve().parents[2] / "rust/names.tsv"
+TOP = pathlib.Path(__file__).resolve().parents[2]
+sys.path.append(str(TOP / "bench/peers"))
+lists = importlib.import_module("lists")
+# What leads elsewhere in each. asn1crypto names an HMAC as its hash.
+OTHERS = {lists.openssl: "DSA Mail deltaCRL documentSeries id-alg uid", lists.mibs: "host", lists.net_snmp: "",
+          lists.cryptography: "", lists.asn1crypto: "clearance data dsa rsa sha1 sha224 sha256 sha384 sha512 x509"}
 SEED = 3416
 
 
 class Names(unittest.TestCase):
     def test_entries_are_the_rows(self):
-        rows = [tuple(line.split("\t")[2:]) for line in ROWS.read_text(encoding="utf-8").splitlines()]
-        self.assertEqual(rows, [(str(oid), name) for oid, name in names.entries()])
-        self.assertEqual({tuple}, set(map(type, [names.entries(), *names.entries()])))
+        for rows, entries in zip(lists.tables(), (names.entries(), names.common_entries())):
+            self.assertEqual([(text, name) for _, _, text, name in rows], [(str(oid), name) for oid, name in entries])
+            self.assertEqual({tuple}, set(map(type, [entries, *entries])))
 
     def test_each_entry_is_found(self):
         names_of, first = {}, {}
-        for oid, name in names.entries():
+        for oid, name in names.entries() + names.common_entries():
             names_of.setdefault(oid, {})[name] = None
             first.setdefault(name.lower(), oid)
         for oid, wanted in names_of.items():
@@ -35,6 +42,17 @@ class Names(unittest.TestCase):
         for name, oid in first.items():
             for given in (name, name.upper(), name.title()):
                 self.assertEqual(oid, names.by_name(given), given)
+
+    def test_names_of_other_libraries(self):
+        """A name leads where another library leads it, but for those that lead elsewhere here. Of OpenSSL and of MIBs all
+        names are found, and each identifier has one."""
+        for read, elsewhere in OTHERS.items():
+            with self.subTest(read.__name__), contextlib.suppress(ImportError, FileNotFoundError):
+                rows = [(name, ObjectIdentifier(row[0])) for name, *row in read()]
+                found = {name for name, oid in rows if names.by_name(name) not in (None, oid)}
+                self.assertEqual(set(elsewhere.split()), found)
+                if read not in (lists.cryptography, lists.asn1crypto):
+                    self.assertEqual([], [row for row in rows if None in (names.by_name(row[0]), names.name_of(row[1]))])
 
     def test_others_are_not_found(self):
         self.assertEqual((None, ()), (names.name_of(oid := ObjectIdentifier("2.999")), names.names_of(oid)))

@@ -24,7 +24,7 @@ sys.path.append(str(TOP / "python"))
 backend = importlib.import_module("backend")
 PROJECT = backend.PROJECT
 STEM = f"const_oid-{PROJECT['version']}"
-PACKAGE = {path.name for path in (TOP / "python/src/const_oid").glob("*.*")} | {"_native.abi3.so", "names.tsv"}
+PACKAGE = {path.name for path in (TOP / "python/src/const_oid").glob("*.*")} | {"_native.abi3.so", *backend.TABLES}
 INFORMATION = {"licenses/LICENSE-APACHE", "licenses/LICENSE-MIT", "METADATA", "RECORD", "WHEEL"}
 FILES = {f"const_oid/{name}" for name in PACKAGE} | {f"{STEM}.dist-info/{name}" for name in INFORMATION}
 INSTALLED = {"library": "installed"}
@@ -91,7 +91,7 @@ class Wheel(unittest.TestCase):
         self.assertEqual((FILES, len(FILES)), (set(self.files), len(self.entries)))
         self.assertEqual({0o100644}, {entry.external_attr >> 16 for entry in self.entries})
         sources = [*(TOP / "python/src/const_oid").glob("*.*"), TOP / "LICENSE-APACHE", TOP / "LICENSE-MIT"]
-        sources.append(TOP / "rust/names.tsv")
+        sources += [TOP / "rust" / name for name in backend.TABLES]
         contents = {name.split("/")[-1]: content for name, content in self.files.items()}
         for source in sources:
             self.assertEqual(source.read_bytes(), contents[source.name])

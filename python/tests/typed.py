@@ -54,7 +54,7 @@ def tables(key: dict[ObjectIdentifier, str]) -> None:
     assert_type(list(sorted_key), list[ObjectIdentifier])
     assert_type((names.name_of(oid), names.by_name("cn")), tuple[str | None, ObjectIdentifier | None])
     assert_type((names.names_of(oid), sorted_key.popitem()), tuple[tuple[str, ...], tuple[ObjectIdentifier, str]])
-    entries: Iterable[tuple[ObjectIdentifier, str]] = names.entries()
+    entries: Iterable[tuple[ObjectIdentifier, str]] = names.entries() + names.common_entries()
     assert_type(SortedMap(entries), SortedMap[str])
 
 

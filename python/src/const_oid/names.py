@@ -1,4 +1,4 @@
-"""Names of identifiers, from RFCs and other documents: 1,492 entries."""
+"""Names of identifiers: 1,492 entries from RFCs and other documents, which lead, and 2,404 others that people type."""
 
 import pathlib
 from functools import cache
@@ -6,12 +6,17 @@ from functools import cache
 from ._native import ObjectIdentifier
 from ._support import required
 
-__all__ = ["by_name", "entries", "name_of", "names_of"]
+__all__ = ["by_name", "common_entries", "entries", "name_of", "names_of"]
+
+
+def _read(file: str) -> tuple[tuple[ObjectIdentifier, str], ...]:
+    lines = pathlib.Path(__file__).with_name(file).read_text(encoding="utf-8").splitlines()
+    return tuple((ObjectIdentifier(text), name) for _, _, text, name in (line.split("\t") for line in lines))
 
 
 @cache
 def entries() -> tuple[tuple[ObjectIdentifier, str], ...]:
-    """All entries, each an identifier and a name, in the order of the table.
+    """All entries from documents, each an identifier and a name, in the order of the table.
 
     >>> len(entries()), entries()[0]
     (1492, (ObjectIdentifier('1.2.112.0.2.0.34.101.66'), 'bake'))
@@ -22,21 +27,30 @@ def entries() -> tuple[tuple[ObjectIdentifier, str], ...]:
     >>> dict(entries())[oid], dict(reversed(entries()))[oid], name_of(oid)
     ('commonName', 'cn', 'cn')
     """
-    lines = pathlib.Path(__file__).with_name("names.tsv").read_text(encoding="utf-8").splitlines()
-    return tuple((ObjectIdentifier(text), name) for _, _, text, name in (line.split("\t") for line in lines))
+    return _read("names.tsv")
+
+
+@cache
+def common_entries() -> tuple[tuple[ObjectIdentifier, str], ...]:
+    """All others, of OpenSSL, MIBs and more, in the same form. A few names of `entries` have another identifier here.
+
+    >>> len(common_entries()), common_entries()[2]
+    (2404, (ObjectIdentifier('1.2.840.10045.3.1.7'), 'P-256'))
+    """
+    return _read("common_names.tsv")
 
 
 @cache
 def _by_oid() -> dict[ObjectIdentifier, dict[str, None]]:
     names: dict[ObjectIdentifier, dict[str, None]] = {}
-    for oid, name in entries():
+    for oid, name in entries() + common_entries():
         names.setdefault(oid, {})[name] = None
     return names
 
 
 @cache
 def _by_name() -> dict[bytes, ObjectIdentifier]:
-    return {name.encode().lower(): oid for oid, name in reversed(entries())}
+    return {name.encode().lower(): oid for oid, name in reversed(entries() + common_entries())}
 
 
 def name_of(oid: ObjectIdentifier) -> str | None:
@@ -49,7 +63,7 @@ def name_of(oid: ObjectIdentifier) -> str | None:
 
 
 def names_of(oid: ObjectIdentifier) -> tuple[str, ...]:
-    """All names of an identifier, each once, in the order of the table.
+    """All names of an identifier, each once, in the order of the tables.
 
     >>> names_of(ObjectIdentifier("2.5.4.3"))
     ('cn', 'commonName')
@@ -60,8 +74,8 @@ def names_of(oid: ObjectIdentifier) -> tuple[str, ...]:
 def by_name(name: str) -> ObjectIdentifier | None:
     """The first identifier with a name, whatever the case of its ASCII letters, or None.
 
-    >>> by_name("ID-ECPUBLICKEY")
-    ObjectIdentifier('1.2.840.10045.2.1')
+    >>> by_name("ID-ECPUBLICKEY"), by_name("sha256")
+    (ObjectIdentifier('1.2.840.10045.2.1'), ObjectIdentifier('2.16.840.1.101.3.4.2.1'))
     """
     if not isinstance(name, str):
         raise TypeError(f"name must be a str, not {type(name).__name__}")
