@@ -1,11 +1,27 @@
 /* Compares const_oid_names.h with rust/names.tsv, of which rows.inc has a ROW(constant, arcs, name) for each row: the
- * octets of each constant, the arrays row by row, and what is found by name and by octets. */
-#include "const_oid_names.h"
+ * octets of each constant, the arrays row by row, and what is found by name and by octets. tests/run writes other names
+ * from `typedef` on: that program compares const_oid_common_names.h with rust/common_names.tsv. */
+#include "const_oid_common_names.h"
 #include "see.h"
 
 #include <ctype.h>
 #include <string.h>
 #include <strings.h>
+
+/* Both tables together find what the first has, or else the second. */
+static void find_in_both(const char *text) {
+    const_oid_octets found = const_oid_from_name(text), wanted = {NULL, 0};
+    size_t first = const_oid_by_name(text), second = const_oid_common_by_name(text);
+    if (second < CONST_OID_COMMON_NAMES_COUNT) wanted = const_oid_common_name_octets[second];
+    if (first < CONST_OID_NAMES_COUNT) wanted = const_oid_name_octets[first];
+    SEE(found.octets == wanted.octets && found.len == wanted.len, first);
+}
+
+static void find_octets_in_both(const uint8_t *octets, size_t len) {
+    size_t first = const_oid_name_of(octets, len), second = const_oid_common_name_of(octets, len);
+    const char *wanted = second < CONST_OID_COMMON_NAMES_COUNT ? const_oid_common_names[second] : NULL;
+    SEE(const_oid_to_name(octets, len) == (first < CONST_OID_NAMES_COUNT ? const_oid_names[first] : wanted), first);
+}
 
 typedef struct {
     const_oid_octets octets; /* comes first, so const_oid_by_arcs compares rows */
@@ -18,6 +34,7 @@ static row rows[] = {
 #include "rows.inc"
 };
 static const size_t count = sizeof rows / sizeof *rows;
+static uint8_t made[sizeof rows / sizeof *rows][128]; /* of rows without a constant */
 
 static int is_encoding(const_oid_octets octets, const char *arcs) {
     uint8_t out[128];
@@ -40,7 +57,10 @@ static size_t named(const char *name) {
     return first;
 }
 
-static void find(const char *text, size_t index) { SEE(const_oid_by_name(text) == named(text), index); }
+static void find(const char *text, size_t index) {
+    SEE(const_oid_by_name(text) == named(text), index);
+    find_in_both(text);
+}
 
 /* Finds a name: as it is, with other characters that are no letters, with letters of the other case, with a letter more
  * and with one less. */
@@ -66,6 +86,7 @@ static void find_octets(const uint8_t *octets, size_t len) {
     while (first < count && const_oid_by_arcs(&rows[first], &item) != 0) first++;
     SEE(const_oid_name_of(octets, len) == first, first);
     SEE(const_oid_find(octets, len, const_oid_name_octets, count).len == first, first);
+    find_octets_in_both(octets, len);
 }
 
 /* Finds octets: each prefix of them, with the zero that ends their constant, with another octet at each place, and from
@@ -87,6 +108,10 @@ int main(void) {
     SEE(const_oid_check_sorted(const_oid_name_octets, count).code == CONST_OID_OK, count);
     for (size_t i = 0; i < count; i++) {
         rows[i].place = i;
+        if (rows[i].octets.len == 0) {
+            rows[i].octets.len = const_oid_from_text(rows[i].arcs, strlen(rows[i].arcs), made[i], sizeof made[i]).len;
+            rows[i].octets.octets = made[i];
+        }
         SEE(is_encoding(rows[i].octets, rows[i].arcs), i);
     }
     qsort(rows, count, sizeof *rows, by_arcs);

@@ -1,6 +1,16 @@
-//! The table of names as a header of data for C.
+//! The tables of names as headers of data for C.
 
 use crate::names::{Row, encoding, lines, octets, rows};
+
+/// The rows of a table without constants in `c_common_names.h`: the part of `c_names.h` below the constants, in which
+/// what is defined has names of its own.
+pub fn common_header(table: &str) -> String {
+    let header = header(table);
+    let part = &header[header.find("#define CONST_OID_NAMES_COUNT").unwrap()..header.rfind("#endif").unwrap()];
+    let part = part.replace("const_oid_", "const_oid_common_").replace("_common_octets ", "_octets ");
+    let part = part.replace("CONST_OID_NAMES_COUNT", "CONST_OID_COMMON_NAMES_COUNT");
+    include_str!("c_common_names.h").replace("@TABLE@\n", &part)
+}
 
 /// The rows of a table in `c_names.h`. Those of an identifier or of a name stay in the order of the table.
 pub fn header(table: &str) -> String {
@@ -16,8 +26,10 @@ pub fn header(table: &str) -> String {
     let by_name = by_row.iter().map(|(row, index)| (hash(rows[*row].name.as_bytes(), 32) >> shift, *index));
     let by_octets = sorted.iter().enumerate().map(|(index, (_, row))| (hash(&encoding(&row.arcs), 0) >> shift, index));
     let constant = |row: &Row| format!("CONST_OID_{}_{}", row.module.to_uppercase(), row.constant);
-    let define = |row: &Row| format!("#define {} \"{}\"\n", constant(row), octets(&row.arcs));
-    let item = |row: &Row| format!("{{CONST_OID_OCTETS({})}},", constant(row));
+    let literal = |row: &Row| format!("\"{}\"", octets(&row.arcs));
+    let define = |row: &Row| format!("#define {} {}\n", constant(row), literal(row));
+    let value = |row: &Row| if row.constant.is_empty() { literal(row) } else { constant(row) };
+    let item = |row: &Row| format!("{{CONST_OID_OCTETS({})}},", value(row));
     let name = |row: &Row| format!("{:?},", row.name);
     let parts: [(&str, String); 9] = [
         ("@COUNT@", rows.len().to_string()),

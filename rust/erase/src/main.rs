@@ -25,6 +25,7 @@ const NAMES: &str = "rust/const-oid/src/db/names.rs";
 const COMMON: &str = "rust/const-oid/src/db/common.rs";
 const SORTED: &str = "rust/const-oid/src/db/sorted.rs";
 const C_NAMES: &str = "crates/const_oid_c/include/const_oid_names.h";
+const C_COMMON_NAMES: &str = "crates/const_oid_c/include/const_oid_common_names.h";
 const FOR_C: &str = "crates/const_oid_c/src";
 const EXPORTS: &str = "rust/const-oid-c/src/exports.rs";
 const C_CALLS: &str = "crates/const_oid_c/tests/calls.h";
@@ -81,9 +82,10 @@ fn generated() -> Result<Vec<File>> {
     let table = read(TABLE)?;
     files.push((NAMES.into(), Some(headed(TABLE, &names::modules(&table)))));
     files.push((SORTED.into(), Some(headed(TABLE, &names::sorted(&table)))));
-    let common = read(COMMON_TABLE)?;
-    files.push((COMMON.into(), Some(headed(COMMON_TABLE, &names::common(&common)))));
     files.push((C_NAMES.into(), Some(format!("/* {} */\n{}", generated_from(TABLE), c_names::header(&table)))));
+    let (table, from) = (read(COMMON_TABLE)?, generated_from(COMMON_TABLE));
+    files.push((COMMON.into(), Some(headed(COMMON_TABLE, &names::common(&table)))));
+    files.push((C_COMMON_NAMES.into(), Some(format!("/* {from} */\n{}", c_names::common_header(&table)))));
     let mut calls = Vec::new();
     for path in listed(FOR_C) {
         let module = path[FOR_C.len() + 1..].trim_end_matches(".rt").replace('/', "::");
