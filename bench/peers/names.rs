@@ -1,17 +1,17 @@
-//! The names of this library's crate.
-use const_oid::{ObjectIdentifier, db::DB};
+//! The names of this library's crate: of one table, or with the feature `both` of both.
+use const_oid::{ObjectIdentifier, db, db::DB};
 use std::slice;
 
 #[unsafe(no_mangle)]
 #[inline(never)]
 fn lookup_name(name: &str) -> Option<&'static ObjectIdentifier> {
-    DB.by_name(name)
+    if cfg!(feature = "both") { db::by_name(name) } else { DB.by_name(name) }
 }
 
 #[unsafe(no_mangle)]
 #[inline(never)]
 fn lookup_octets(oid: &ObjectIdentifier) -> Option<&'static str> {
-    DB.by_oid(oid)
+    if cfg!(feature = "both") { db::by_oid(oid) } else { DB.by_oid(oid) }
 }
 
 #[unsafe(no_mangle)]

@@ -43,12 +43,6 @@ pub fn call_db(oid: &Oid) -> Option<&'static str> {
     oid::db::DB.by_oid(oid)
 }
 
-#[cfg(row = "db::by_oid")]
-#[unsafe(no_mangle)]
-pub fn call_both(oid: &Oid) -> Option<&'static str> {
-    oid::db::by_oid(oid)
-}
-
 #[cfg(row = "SORTED.by_oid")]
 #[unsafe(no_mangle)]
 pub fn call_sorted(oid: &Oid) -> Option<&'static str> {

@@ -133,19 +133,8 @@ macro_rules! sorted {
 /// The table of common names.
 macro_rules! common {
     ($($arcs:literal, $name:literal;)*) => {
-        /// The names that people type and [`DB`] lacks: those of OpenSSL, of MIBs, of FIPS and RFC 8410, of the
-        /// CA/Browser Forum and of Microsoft. A name stands once, or in several cases. Some that [`DB`] has name another
-        /// identifier here, such as `DSA`.
-        ///
-        /// # Examples
-        ///
-        /// ```
-        /// use const_oid::db::{COMMON, DB};
-        ///
-        /// let oid = COMMON.by_name("SHA256").unwrap();
-        /// let names = DB.find_names_for_oid(*oid).chain(COMMON.find_names_for_oid(*oid));
-        /// assert!(names.eq(["id-sha256", "SHA-256", "SHA256", "sha256"]));
-        /// ```
+        /// The names that people type and [`DB`] lacks, of OpenSSL, MIBs, FIPS, the CA/Browser Forum and Microsoft. A few
+        /// that [`DB`] has are here for another identifier, such as `DSA`. [`by_name`] has an example.
         pub const COMMON: Database<'static> =
             Database::new(&COMMON_ENTRIES).linked(&COMMON_OID_LINKS, &COMMON_NAME_LINKS);
 
@@ -161,26 +150,23 @@ macro_rules! common {
 /// # Examples
 ///
 /// ```
-/// use const_oid::db::{by_name, by_oid};
+/// use const_oid::db::{COMMON, by_name, by_oid};
 ///
-/// let oid = by_name("sysUpTime").unwrap();
-/// assert_eq!((oid.to_string().as_str(), by_oid(oid)), ("1.3.6.1.2.1.1.3", Some("sysUpTime")));
+/// let oid = by_name("sha256").unwrap();
+/// assert_eq!((oid.to_string().as_str(), by_oid(oid)), ("2.16.840.1.101.3.4.2.1", Some("id-sha256")));
+/// assert!(COMMON.find_names_for_oid(*oid).eq(["SHA-256", "SHA256", "sha256"]));
 /// ```
 #[must_use]
 pub const fn by_name(name: &str) -> Option<&'static ObjectIdentifier> {
-    match DB.by_name(name) {
-        None => COMMON.by_name(name),
-        found => found,
-    }
+    let found = DB.by_name(name);
+    if found.is_some() { found } else { COMMON.by_name(name) }
 }
 
 /// The first name of an identifier in [`DB`], or else in [`COMMON`], or `None`. [`by_name`] has an example.
 #[must_use]
 pub const fn by_oid(oid: &ObjectIdentifier) -> Option<&'static str> {
-    match DB.by_oid(oid) {
-        None => COMMON.by_oid(oid),
-        found => found,
-    }
+    let found = DB.by_oid(oid);
+    if found.is_some() { found } else { COMMON.by_oid(oid) }
 }
 
 include!("db/names.rs");
