@@ -1,8 +1,9 @@
 #!/usr/bin/python3
-"""bench/peers/lists.py LIST: the names of an installed library, each with its arcs: of openssl, cryptography, asn1crypto
-or pyasn1_modules, of net_snmp, the MIB files of libsnmp-base, or of mibs, seven that python3-pysnmp4-mibs has.
+"""bench/peers/lists.py LIST: the names of an installed library, in lines, each with its arcs: of openssl, cryptography,
+asn1crypto, pyasn1_modules, net_snmp (the MIB files of libsnmp-base), or mibs (seven of python3-pysnmp4-mibs).
 
-bench/peers/lists.py --add: adds to rust/common_names.tsv what neither table has of mibs, openssl and net_snmp."""
+bench/peers/lists.py missing: rows of mibs, openssl and net_snmp that neither table has, to be appended to
+rust/common_names.tsv."""
 import collections, contextlib, importlib, pathlib, pkgutil, re, subprocess, sys, tempfile  # noqa: E401
 
 TABLES = [pathlib.Path(__file__).resolve().parents[2] / f"rust/{name}.tsv" for name in ("names", "common_names")]
@@ -70,23 +71,19 @@ def tables():
     return [[line.split("\t") for line in table.read_text(encoding="utf-8").splitlines()] for table in TABLES]
 
 
-def add():
-    """Adds rows. A name stands once, and only where names.tsv does not have it, in any case, for the identifier."""
+def missing():
+    """A name stands once, and only where names.tsv does not have it, in any case, for the identifier."""
     of_crate, common = tables()
     known, names = {(arcs, name.lower()) for _, _, arcs, name in of_crate}, {name for *_, name in common}
     others = [(*row, document) for document, rows in (("OpenSSL", openssl()), ("net-snmp", net_snmp())) for row in rows]
-    with TABLES[1].open("a", encoding="utf-8") as table:
-        for name, arcs, document in [*mibs(), *others]:
-            if name not in names and (arcs, name.lower()) not in known and max(map(int, arcs.split("."))) < 2**32:
-                names.add(name)
-                table.write(f"{document}\t\t{arcs}\t{name}\n")
+    for name, arcs, document in [*mibs(), *others]:
+        if name not in names and (arcs, name.lower()) not in known and max(map(int, arcs.split("."))) < 2**32:
+            names.add(name)
+            yield document, "", arcs, name
 
 
 if __name__ == "__main__":
-    calls = {call.__name__: call for call in (openssl, cryptography, asn1crypto, pyasn1_modules, net_snmp, mibs)}
-    if sys.argv[1:] == ["--add"]:
-        add()
-    elif len(sys.argv) == 2 and sys.argv[1] in calls:
-        print(*("\t".join(row[:2]) for row in calls[sys.argv[1]]()), sep="\n")
-    else:
-        print(__doc__)
+    lists = (openssl, cryptography, asn1crypto, pyasn1_modules, net_snmp, mibs, missing)
+    calls = [call for call in lists if [call.__name__] == sys.argv[1:]] or [lambda: [[__doc__]]]
+    for row in calls[0]():
+        print(*row, sep="\t")

@@ -139,7 +139,7 @@ macro_rules! common {
             Database::new(&COMMON_ENTRIES).linked(&COMMON_OID_LINKS, &COMMON_NAME_LINKS);
 
         static COMMON_ENTRIES: [(&ObjectIdentifier, &str); [$($name,)*].len()] =
-            [$((const { &ObjectIdentifier::new_unwrap($arcs) }, $name),)*];
+            [$((&ObjectIdentifier::new_unwrap($arcs), $name),)*];
         static COMMON_OID_LINKS: [u16; COMMON_ENTRIES.len() * 4 / 3] = links_of(&COMMON_ENTRIES, Key::Oid);
         static COMMON_NAME_LINKS: [u16; COMMON_ENTRIES.len() * 4 / 3] = links_of(&COMMON_ENTRIES, Key::Name);
     };
