@@ -2277,8 +2277,8 @@ static const char *const const_oid_common_names[CONST_OID_COMMON_NAMES_COUNT] = 
     "code-signing", "smime-baseline", "mailbox-validated", "sponsor-validated",
 };
 
-/* The indexes of the entries by a hash of their names, each in the first place that is free from its own on. Those with
- * one name are in the order of the table, and CONST_OID_COMMON_NAMES_COUNT is in the places that are free. */
+/* The indexes of the entries by a hash of their names, each in the first slot that is free from its own on. Those with
+ * one name are in the order of the table, and CONST_OID_COMMON_NAMES_COUNT is in the slots that are free. */
 static const uint16_t const_oid_common_names_by_hash[4096] = {
     2404, 2404, 2404, 2404, 897, 2404, 2287, 2404, 2404, 2404, 1608, 935, 2404, 1945, 981, 2387, 88, 89, 2404, 2404,
     2404, 1975, 281, 1976, 1448, 2340, 1584, 2404, 2404, 2404, 2341, 183, 2404, 2218, 1344, 2310, 2404, 2404, 2404,
@@ -2702,8 +2702,8 @@ static __inline uint32_t const_oid_common_word(const uint8_t *bytes) {
     return ((last << 8 | bytes[2]) << 8 | bytes[1]) << 8 | bytes[0];
 }
 
-/* A place by a hash of words, of which the last four bytes are one, or all of fewer. In each byte `bits` are set. */
-static __inline size_t const_oid_common_place(const uint8_t *bytes, size_t len, uint32_t bits) {
+/* A slot by a hash of words, of which the last four bytes are one, or all of fewer. In each byte `bits` are set. */
+static __inline size_t const_oid_common_slot(const uint8_t *bytes, size_t len, uint32_t bits) {
     uint32_t hash = 0, word = 0;
     size_t i;
     for (i = 0; i + 4 < len; i += 4) hash = (hash ^ (const_oid_common_word(bytes + i) | bits)) * 2654435769u;
@@ -2729,10 +2729,10 @@ static __inline int const_oid_common_is_same_name(const char *left, const char *
 /* The index of the first entry of the table that has a name, which is null-terminated, whatever the case of its
  * ASCII letters. CONST_OID_COMMON_NAMES_COUNT if there is none. */
 CONST_OID_NODISCARD static __inline size_t const_oid_common_by_name(const char *name) {
-    size_t len = 0, place, index;
+    size_t len = 0, slot, index;
     while (name[len] != 0) len++;
-    for (place = const_oid_common_place(CONST_OID_BYTES(name), len, 0x20202020u);; place++) {
-        index = const_oid_common_names_by_hash[place % 4096];
+    for (slot = const_oid_common_slot(CONST_OID_BYTES(name), len, 0x20202020u);; slot++) {
+        index = const_oid_common_names_by_hash[slot % 4096];
         if (index == CONST_OID_COMMON_NAMES_COUNT || const_oid_common_is_same_name(const_oid_common_names[index], name)) return index;
     }
 }
@@ -2740,9 +2740,9 @@ CONST_OID_NODISCARD static __inline size_t const_oid_common_by_name(const char *
 /* The index of the first entry of an identifier, of its contents octets. CONST_OID_COMMON_NAMES_COUNT if there is none, as for
  * invalid octets. */
 CONST_OID_NODISCARD CONST_OID_READS(1, 2) static __inline size_t const_oid_common_name_of(const uint8_t *octets, size_t len) {
-    size_t place, index;
-    for (place = const_oid_common_place(octets, len, 0);; place++) {
-        index = const_oid_common_octets_by_hash[place % 4096];
+    size_t slot, index;
+    for (slot = const_oid_common_slot(octets, len, 0);; slot++) {
+        index = const_oid_common_octets_by_hash[slot % 4096];
         if (index == CONST_OID_COMMON_NAMES_COUNT || (const_oid_common_name_octets[index].len == len
             && !CONST_OID_DIFFER(const_oid_common_name_octets[index].octets, octets, len))) return index;
     }
