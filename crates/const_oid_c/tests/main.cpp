@@ -1,4 +1,4 @@
-// The calls from C++: a constant in an object, and a list in a vector.
+// The calls from C++: constants, also in an object, and a list in a vector.
 #include "const_oid_names.h"
 #include "see.h"
 
@@ -30,6 +30,31 @@ static void find_each(const std::vector<const_oid_octets> &items) {
     }
 }
 
+// The lengths of those of 50 constants, with 0 to 49 octets, that octets are.
+#define IS(constant) if (CONST_OID_IS(octets.data(), octets.size(), constant)) lens.push_back(sizeof(constant) - 1);
+#define TEN(first) IS(first) IS(first "\x2A") IS(first "\x2A\0") IS(first "\x2A\0\3") IS(first "\x2A\0\3\x7F") \
+    IS(first "\x2A\0\3\x7F\5") IS(first "\x2A\0\3\x7F\5\1") IS(first "\x2A\0\3\x7F\5\1\0") \
+    IS(first "\x2A\0\3\x7F\5\1\0\2") IS(first "\x2A\0\3\x7F\5\1\0\2\6")
+#define ALL "\x2A\0\3\x7F\5\1\0\2\6\7"
+static std::vector<size_t> constants_of(const std::vector<uint8_t> &octets) {
+    std::vector<size_t> lens;
+    TEN("") TEN(ALL) TEN(ALL ALL) TEN(ALL ALL ALL) TEN(ALL ALL ALL ALL)
+    return lens;
+}
+
+// Octets are one constant, unless there are none or one of them is another.
+static void compare_with_constants(size_t len) {
+    static const char all[] = ALL ALL ALL ALL ALL;
+    const std::vector<uint8_t> octets(all, all + len);
+    SEE(constants_of(octets) == std::vector<size_t>(len > 0, len), len);
+    for (size_t i = 0; i < len; i++)
+        for (uint8_t other : {0x00, 0x80, 0x7F, 0xFF}) {
+            std::vector<uint8_t> changed = octets;
+            changed[i] = other;
+            SEE(constants_of(changed) == std::vector<size_t>(changed == octets, len), len);
+        }
+}
+
 // Sorts 3,000 items, a third of them invalid. Then the invalid ones are removed, and the others are a list.
 int main() {
     std::vector<std::vector<uint8_t>> all;
@@ -48,4 +73,5 @@ int main() {
     SEE(items.size() == 2000, items.size());
     SEE(const_oid_check_sorted(items.data(), items.size()).code == CONST_OID_OK, 0);
     find_each(items);
+    for (size_t len = 0; len < 50; len++) compare_with_constants(len);
 }

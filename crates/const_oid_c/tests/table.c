@@ -1,6 +1,6 @@
 /* Compares const_oid_names.h with rust/names.tsv, of which rows.inc has a ROW(constant, arcs, name) for each row: the
  * octets of each constant, the arrays row by row, and what is found by name and by octets. tests/run writes other names
- * from `typedef` on: that program compares const_oid_common_names.h with rust/common_names.tsv. */
+ * writes other names from `typedef` on: that program compares const_oid_common_names.h with rust/common_names.tsv. */
 #include "const_oid_common_names.h"
 #include "see.h"
 
@@ -35,6 +35,15 @@ static row rows[] = {
 };
 static const size_t count = sizeof rows / sizeof *rows;
 static uint8_t made[sizeof rows / sizeof *rows][128]; /* of rows without a constant */
+
+/* How many constants are these octets. */
+#undef ROW
+#define ROW(constant, arcs, name) found += CONST_OID_IS(octets, len, constant) == 1;
+static size_t constants_of(const uint8_t *octets, size_t len) {
+    size_t found = 0;
+#include "rows.inc"
+    return found;
+}
 
 static int is_encoding(const_oid_octets octets, const char *arcs) {
     uint8_t out[128];
@@ -79,11 +88,13 @@ static void find_like(size_t index) {
     find(text, index);
 }
 
-/* Finds the first row of octets, of the rows that are sorted, by name_of and by a search. */
+/* Finds the first row of octets, of the rows that are sorted, by name_of and by a search, and counts all rows of them. */
 static void find_octets(const uint8_t *octets, size_t len) {
     const const_oid_octets item = {octets, len};
-    size_t first = 0;
+    size_t first = 0, end;
     while (first < count && const_oid_by_arcs(&rows[first], &item) != 0) first++;
+    for (end = first; end < count && const_oid_by_arcs(&rows[end], &item) == 0; end++) continue;
+    SEE(constants_of(octets, len) == (made[0][0] ? 0 : end - first), first);
     SEE(const_oid_name_of(octets, len) == first, first);
     SEE(const_oid_find(octets, len, const_oid_name_octets, count).len == first, first);
     find_octets_in_both(octets, len);

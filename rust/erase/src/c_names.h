@@ -37,6 +37,16 @@ extern "C++" template <size_t N> char (&const_oid_array(const uint8_t (&array)[N
 #endif
 #define CONST_OID_OCTETS(constant) CONST_OID_BYTES("" constant ""), sizeof("" constant "") - 1
 
+/* CONST_OID_IS(octets, len, constant): 1 if the octets of an identifier are those of a constant, and otherwise 0, as for
+ * invalid octets. It takes a string literal alone, and checks nothing: what equals valid octets is valid. Of two inputs,
+ * or where a literal may be invalid, const_oid_is_equal is right. Each argument is evaluated once. */
+#define CONST_OID_IS(octets, len, constant) const_oid_is_constant(octets, len, CONST_OID_OCTETS(constant))
+CONST_OID_NODISCARD CONST_OID_READS(1, 2) CONST_OID_READS(3, 4) static __inline int const_oid_is_constant(
+    const uint8_t *octets, size_t len, const uint8_t *constant, size_t constant_len) {
+    return len > 0 && len == constant_len && octets[len - 1] == constant[len - 1]
+        && !CONST_OID_DIFFER(octets, constant, len);
+}
+
 @CONSTANTS@
 #define CONST_OID_NAMES_COUNT @COUNT@
 
