@@ -1,5 +1,5 @@
 /* Compares const_oid_names.h with rust/names.tsv, of which rows.inc has a ROW(constant, arcs, name) for each row: the
- * octets of each constant, the arrays row by row, and what is found by name and by octets. tests/run writes other names
+ * octets of each constant, the arrays row by row, what is found by name and by octets, and what they are. tests/run
  * writes other names from `typedef` on: that program compares const_oid_common_names.h with rust/common_names.tsv. */
 #include "const_oid_common_names.h"
 #include "see.h"
