@@ -54,6 +54,9 @@ static const const_oid_octets const_oid_name_octets[CONST_OID_NAMES_COUNT] = {@O
 
 static const char *const const_oid_names[CONST_OID_NAMES_COUNT] = {@NAMES@};
 
+/* The lengths of the names. */
+static const uint8_t const_oid_name_lens[CONST_OID_NAMES_COUNT] = {@NAME_LENS@};
+
 /* The indexes of the entries by a hash of their names, each in the first slot that is free from its own on. Those with
  * one name are in the order of the table, and CONST_OID_NAMES_COUNT is in the slots that are free. */
 static const uint16_t const_oid_names_by_hash[@SLOTS@] = {@BY_NAME@};
@@ -77,28 +80,33 @@ static __inline size_t const_oid_slot(const uint8_t *bytes, size_t len, uint32_t
     return (hash ^ (word | bits)) * 2654435769u >> @SHIFT@;
 }
 
-static __inline int const_oid_lower_case(char letter) {
-    return letter >= 'A' && letter <= 'Z' ? letter + ('a' - 'A') : letter;
+/* Whether two characters are one letter in both cases. */
+static __inline int const_oid_are_cases(char left, char right) {
+    return (left ^ right) == ('a' ^ 'A') && (left | right) >= 'a' && (left | right) <= 'z';
 }
 
-/* Whether two names are the same, without the case of their letters. */
-static __inline int const_oid_is_same_name(const char *left, const char *right) {
-    while (*left == *right || const_oid_lower_case(*left) == const_oid_lower_case(*right)) {
-        if (*left == 0) return 1;
-        left++;
-        right++;
-    }
-    return 0;
+/* Whether two names of this length are the same, without the case of their letters. */
+static __inline int const_oid_is_same_name(const char *left, const char *right, size_t len) {
+    const uint8_t *a = CONST_OID_BYTES(left), *b = CONST_OID_BYTES(right);
+    size_t i = 0;
+    while (i + 4 <= len && const_oid_word(a + i) == const_oid_word(b + i)) i += 4;
+    while (i < len && (left[i] == right[i] || const_oid_are_cases(left[i], right[i]))) i++;
+    return i == len;
 }
 
 /* The index of the first entry of the table that has a name, which is null-terminated, whatever the case of its
  * ASCII letters. CONST_OID_NAMES_COUNT if there is none. */
 CONST_OID_NODISCARD static __inline size_t const_oid_by_name(const char *name) {
     size_t len = 0, slot, index;
-    while (name[len] != 0) len++;
+#ifdef __GNUC__ /* Of a literal the compiler knows it. */
+    if (__builtin_constant_p(__builtin_strlen(name))) len = __builtin_strlen(name);
+#endif
+    while (name[len] != 0 && name[len + 1] != 0) len += 2;
+    len += name[len] != 0;
     for (slot = const_oid_slot(CONST_OID_BYTES(name), len, 0x20202020u);; slot++) {
         index = const_oid_names_by_hash[slot % @SLOTS@];
-        if (index == CONST_OID_NAMES_COUNT || const_oid_is_same_name(const_oid_names[index], name)) return index;
+        if (index == CONST_OID_NAMES_COUNT || (const_oid_name_lens[index] == len
+            && const_oid_is_same_name(const_oid_names[index], name, len))) return index;
     }
 }
 

@@ -31,12 +31,13 @@ pub fn header(table: &str) -> String {
     let value = |row: &Row| if row.constant.is_empty() { literal(row) } else { constant(row) };
     let item = |row: &Row| format!("{{CONST_OID_OCTETS({})}},", value(row));
     let name = |row: &Row| format!("{:?},", row.name);
-    let parts: [(&str, String); 9] = [
+    let parts: [(&str, String); 10] = [
         ("@COUNT@", rows.len().to_string()),
         ("@ZEROS@", rows.iter().filter(|row| encoding(&row.arcs).contains(&0)).count().to_string()),
         ("@CONSTANTS@", rows.iter().map(define).collect()),
         ("@OCTETS@", lines(sorted.iter().map(|entry| item(entry.1)))),
         ("@NAMES@", lines(sorted.iter().map(|entry| name(entry.1)))),
+        ("@NAME_LENS@", lines(sorted.iter().map(|entry| format!("{},", entry.1.name.len())))),
         ("@SLOTS@", slots.to_string()),
         ("@SHIFT@", shift.to_string()),
         ("@BY_NAME@", by_hash(by_name, rows.len(), slots)),
