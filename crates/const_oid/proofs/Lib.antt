@@ -32,6 +32,7 @@ pub mod Components
 pub mod PartBounds
 pub mod Parents
 pub mod Prefixes
+pub mod Plain
 pub mod Printed
 pub mod Subtree
 pub mod Runs
@@ -41,6 +42,7 @@ pub mod SortedNames
 pub mod Overflow
 pub mod Tree
 pub mod WideRule
+pub mod WordBytes
 pub mod WrongIndex
 pub mod Identifiers
 pub mod Sets

@@ -7,7 +7,7 @@ use Rattle.std.proofs.lemmas.{Bool.Decides.nat_tests, List.{length-drop, drop-dr
 use Rattle.const_oid.specs.{declared.error.Error.TheVariants.{ArcTooBig, Base128}, Base128.value_of}
 use Rattle.const_oid.specs.{Identifier.{root_rule, max_arc}, Contents.{cut, later_fault, max_first}}
 use Rattle.const_oid.specs.Private.{Octets.{fault_from, limit_at, fault_at}, Groups.IsPastFour}
-use Rattle.const_oid.proofs.PartsFault.{parts_at, four_open, five_big, five_last, five_open, six_big}
+use Rattle.const_oid.proofs.PartsFault.{four_open, five_big, five_last, five_open, six_big}
 
 limit_wide : (start : ℕ) → max_arc ≤ limit_at start
 limit_wide start = grind (arith, nat_tests)
@@ -110,5 +110,3 @@ module _ (octets : List ℕ) (start : ℕ) (inside : start < length octets) (lon
       (limit_small start)
 
 pub ruleset five_ends = (open_four, big_at, end_five, open_five, big_six)
-
-pub ruleset ends = (parts_at, end_one)

@@ -1,5 +1,6 @@
-//! The fast forms: octets are counted, copied and compared many at once, and lists are searched by steps that grow.
-//! What other modules call has the contract of a plain loop, but for `same_start` and those of `words`.
+//! The fast forms: octets are counted, copied, compared and checked many at once, and lists are searched by steps that
+//! grow. What other modules call has the contract of a plain loop, but for `same_start`, and those of `windows` and
+//! `words`.
 
 pub(crate) mod comparison;
 // Not in Rust, for less code: there, buffers copy by `parts::copy_by_octet`.
@@ -7,4 +8,5 @@ pub(crate) mod comparison;
 pub(crate) mod copies;
 pub(crate) mod lanes;
 pub(crate) mod steps;
+pub(crate) mod windows;
 pub(crate) mod words;

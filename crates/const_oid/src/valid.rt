@@ -6,14 +6,15 @@ ghost use Rattle.const_oid.specs.Base128.{value_of};
 ghost use Rattle.const_oid.specs.Contents.{cut, parts_fault};
 ghost use Rattle.const_oid.specs.Identifier.{root_rule};
 ghost use Rattle.const_oid.specs.Private.Groups.{IsPastFour};
-ghost use Rattle.const_oid.specs.Private.Octets.{EndsAt, limit_at};
+ghost use Rattle.const_oid.specs.Private.Octets.{EndsAt, fault_at, limit_at};
 
 use crate::error::{Error, Result};
+use crate::fast::windows::first_doubtful;
 use crate::fast::words::half_word;
 
 /// Checks contents octets of any length, or returns their error.
-// By index, and not by `checked_group`, for fewer instructions: the row "from_bytes, borrowed" of SPEED.
-#[tactic(auto, using(crate::proofs::PartEnds::ends))]
+// By windows, for fewer instructions: the row "from_bytes, borrowed" of SPEED.
+#[tactic(auto, using(crate::proofs::PartsFault::parts_at))]
 #[inline(never)]
 pub(crate) fn check(octets: &[u8]) -> Result<()>
     ensures { result_err result ≡ parts_fault root_rule (cut octets.now) }
@@ -21,7 +22,21 @@ pub(crate) fn check(octets: &[u8]) -> Result<()>
     if octets.is_empty() {
         return Err(Error::Empty);
     }
-    let mut at = 0;
+    match first_doubtful(octets) {
+        Some(start) => check_from(octets, start),
+        None => Ok(()),
+    }
+}
+
+/// Checks the subidentifiers from the one on that begins at `start`, octet by octet.
+// By index, and not by `checked_group`, for fewer instructions. Out of line, for less code.
+#[tactic(auto, using(crate::proofs::PartEnds::end_one))]
+#[inline(never)]
+fn check_from(octets: &[u8], start: usize) -> Result<()>
+    requires { start ≤ length octets.now }
+    ensures { result_err result ≡ fault_at octets.now start }
+{
+    let mut at = start;
     while at < octets.len() {
         let start = at;
         at += 1;

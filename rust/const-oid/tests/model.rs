@@ -670,6 +670,25 @@ fn reads_octets_at_edges() {
     });
 }
 
+/// Lengths up to 40, of which one octet in turn is another, and drawn ones.
+#[test]
+fn reads_octets_by_windows() {
+    let cases = (0..=40).flat_map(|len| (0..len).map(move |index| (len, index)));
+    for ((len, index), group) in cases.flat_map(|case| [[1, 1], [0x81, 1], [1, 0x81]].map(|group| (case, group))) {
+        let mut octets: Vec<u8> = group.into_iter().cycle().take(len).collect();
+        for other in [0x7F, 0x80, 0x81, 0xFF] {
+            octets[index] = other;
+            check_octets(&octets);
+        }
+    }
+    let mut state = 1_u64;
+    for _ in 0..100_000 {
+        state = state.wrapping_mul(6_364_136_223_846_793_005).wrapping_add(1);
+        let octet = |place| [1, 2, 0, 0x7F, 0x80, 0x81, 0x81, 0xFF][state.rotate_left(3 * place) as usize % 8];
+        check_octets(&Vec::from_iter((0..(state >> 58) as u32).map(octet)));
+    }
+}
+
 #[test]
 fn reads_long_octets() {
     for octets in valid() {

@@ -1,6 +1,6 @@
 -- Octets as they are read and written, one subidentifier after another.
 use Rattle.std.specs.Prelude.{◌≡◌, ℕ, ◌+◌, ◌<◌, ◌≤◌, List, [], ◌∷◌, ◌++◌, length, map, take, drop, Option, None}
-use Rattle.std.specs.Prelude.{Result, MatchResult, ◌==◌, if◌then◌else◌, Some, ◌^◌, ◌-◌, ◌*◌, nat_lt}
+use Rattle.std.specs.Prelude.{slice_index, Result, MatchResult, ◌==◌, if◌then◌else◌, Some, ◌^◌, ◌-◌, ◌*◌, nat_lt}
 use Rattle.std.specs.declared.cmp.Ordering.{Ordering}
 use Rattle.std.specs.Option.{option_or}
 use Rattle.std.specs.Ordering.{nat_cmp}
@@ -11,7 +11,7 @@ use Rattle.const_oid.specs.declared.arcs.Next.TheVariants.{First, Second, Later}
 use Rattle.const_oid.specs.Base128.{IsGroup, value_of, width}
 use Rattle.const_oid.specs.Identifier.{root_rule, max_arc}
 use Rattle.const_oid.specs.Contents.{cut, part_fault, later_fault, parts_fault, arcs_of_octets, max_first}
-use Rattle.std.specs.Int.{w64, to_be_bytes}
+use Rattle.std.specs.Int.{w64, to_be_bytes, to_le_bytes}
 use Rattle.std.specs.Int.RustNames.{bit_or}
 use Rattle.std.specs.List.{fold}
 
@@ -79,6 +79,15 @@ bytes_of number = to_be_bytes w64 number
 pub record IsWord (octets : List ℕ) (at number : ℕ) : Type 0 where
   pub fits : number < 2 ^ 64
   pub value : bytes_of number ≡ take 8 (drop at octets)
+
+-- the bytes of a number, the least significant first
+unfoldable pub window_of : ℕ → List ℕ
+window_of number = to_le_bytes w64 number
+
+-- from an index on and below another, no octet begins a part with 128, or is the fourth in a row of 128 or more
+abbrev pub ArePlain : List ℕ → ℕ → ℕ → Type 0
+ArePlain octets start end = (at : ℕ) → start ≤ at → at < end → (slice_index octets at ≡ 128 → (0 < at) × (128 ≤ slice_index octets (at - 1)))
+    × (3 ≤ at → 128 ≤ slice_index octets at → 128 ≤ slice_index octets (at - 1) → 128 ≤ slice_index octets (at - 2) → slice_index octets (at - 3) < 128)
 
 -- bytes in which bits are set
 abbrev pub with_bits : ℕ → List ℕ → List ℕ
