@@ -30,6 +30,8 @@ child, parent, arcs, from_arcs = lambda oid: (*oid, 7), lambda oid: oid[:-1], la
 SETUP = """text = "1.2.840.113549.1.1.11"
 oid, same, other = parse(text), parse(text), parse(text + ".1")
 oids = [parse(f"1.3.6.1.2.1.{index * 7919 % 1000}.{index % 7}") for index in range(1000)]"""
+MAP = """from const_oid import SortedMap
+table, new, one = SortedMap.fromkeys([*oids, oid], 1), oid.child(7), {oid: 1}"""
 # For each row, what it needs first, and its call.
 ROWS = {
     "text to identifier": ("", "parse(text)"),
@@ -45,6 +47,9 @@ ROWS = {
     "sorting 1,000": ("", "sorted(oids)"),
     "sorting 100,000": ('oids = [parse(f"1.3.{n * 7919 % 100_003}.{n % 7}") for n in range(100_000)]', "sorted(oids)"),
     "pickling 1,000": ("import pickle", "pickle.dumps(oids)"),
+    "a map: set, del": (MAP, "table[new] = 1; del table[new]"),
+    **{f"a map: {call}": (MAP, f"table{call}") for call in ("[oid] = 1", "[oid]", ".get(new)", ".nearest(new)")},
+    **{f"a map: {call}": (MAP, f"table{call}") for call in (".next_after(oid)", ".subtree(oid)", ".update(one)")},
     "unpickling 1,000": ("import pickle; pickled = pickle.dumps(oids)", "pickle.loads(pickled)"),
 }
 

@@ -6,6 +6,7 @@ import itertools
 import operator
 import pathlib
 import random
+import signal
 import subprocess
 import sys
 import tempfile
@@ -84,25 +85,82 @@ Octets = type("Octets", (ObjectIdentifier,), {"__bytes__": lambda oid: oid.der})
 class Attributes(SortedMap):
     __slots__ = ("__dict__", "slot")
 
+    def __init__(self, *entries):
+        super().__init__(*entries)
+        self.name = "made"
 
-def is_interrupted(number, is_memory, call, table):
-    """Whether a call is ended, as by Ctrl-C, at this instruction of sorted_map.py, or lacks memory from there, once."""
+
+class Steps:
+    """What is called at each step of a call: an instruction of sorted_map.py, or what a key or a value calls."""
+    step = staticmethod(lambda: None)
+
+
+def stepping(name):
+    return lambda *given: (Steps.step(), getattr(ObjectIdentifier, name)(*given))[1]
+
+
+Calling = type("Calling", (ObjectIdentifier,), {name: stepping(name) for name in ("__lt__", "__eq__", "__hash__")})
+Ending = type("Ending", (), {"__del__": lambda _: Steps.step()})
+KEYS = [(Calling if arc % 4 else ObjectIdentifier)(f"2.{arc}") for arc in range(8)]
+CHANGES = {
+    "set": lambda table: operator.setitem(table, KEYS[3], Ending()),
+    "replace": lambda table: operator.setitem(table, KEYS[4], 2),
+    "del": lambda table: operator.delitem(table, KEYS[4]),
+    "pop": lambda table: table.pop(KEYS[6]),
+    "popitem": lambda table: table.popitem() if isinstance(table, SortedMap) else table.pop(max(table, default=None)),
+    "clear": lambda table: table.clear(),
+    "update of few": lambda table: table.update({KEYS[1]: 3, KEYS[4]: 3}),
+    "update of many": lambda table: table.update(dict.fromkeys(KEYS, 4)),
+    "|=": lambda table: operator.ior(table, {KEYS[5]: 5}),
+    "setdefault": lambda table: table.setdefault(KEYS[7], 6),
+}
+# What comes at a step of a change, and at one that follows.
+ACTS = {name: {0: change} for name, change in CHANGES.items()} | {"exit": {0: lambda _: sys.exit()}}
+ACTS |= {f"read, and exit after {later}": {0: list, later: ACTS["exit"][0]} for later in (1, 3)}
+LACKS_MEMORY = {0: lambda _: _testcapi.set_nomemory(0, 1)}
+
+
+def is_interrupted(number, acts, call, table):
+    """Whether acts come after this number of steps of a call."""
     left = itertools.count(-number)
+
+    def step():
+        with contextlib.suppress(KeyError):
+            acts.get(next(left), id)(table)
 
     def trace(frame, event, _):
         frame.f_trace_opcodes = frame.f_code.co_filename == sorted_map.__file__
-        if frame.f_trace_opcodes and event == "opcode" and next(left) == 0:
-            sys.settrace(None)
-            _testcapi.set_nomemory(0, 1) if is_memory else sys.exit()
+        if frame.f_trace_opcodes and event == "opcode":
+            Steps.step()
         return trace
 
     try:
+        Steps.step = step
         sys.settrace(trace)
         call(table)
-    except (SystemExit, MemoryError, SystemError):  # Python 3.13 may lose a MemoryError
+    except (SystemExit, MemoryError, SystemError, KeyError):  # Python 3.13 may lose a MemoryError
         pass
     sys.settrace(_testcapi and _testcapi.remove_mem_hooks())
+    Steps.step = lambda: None
     return next(left) > 0
+
+
+def walked(table):
+    entries = [table.next_after(ObjectIdentifier("0.0"))]
+    while entries[-1]:
+        entries.append(table.next_after(entries[-1][0]))
+    return [entry[0] for entry in entries[:-1]]
+
+
+LOOKS = [list, lambda table: list(table.copy()), walked]
+
+
+def keys_after(*changes):
+    table = dict.fromkeys(KEYS[::2])
+    for change in changes:
+        with contextlib.suppress(KeyError):
+            change(table)
+    return sorted(table)
 
 
 class Sorted(unittest.TestCase):
@@ -144,7 +202,7 @@ class Sorted(unittest.TestCase):
         self.assertEqual(sorted(table.items()), [(key.arcs, value) for key, value in found.items()])
         self.assertEqual(sorted(table, reverse=True), [key.arcs for key in reversed(found)])
         self.assertEqual((len(table), bool(table)), (len(found), bool(found)))
-        self.assertLessEqual(max(map(len, found._keys._parts), default=0), 2 * sorted_map.PART)
+        self.assertLessEqual(max(map(len, found._order[0]._parts), default=0), 2 * sorted_map.PART)
 
     def test_a_map_is_a_mutable_mapping(self):
         table = SortedMap({(oid := ObjectIdentifier("2.5")): 1})
@@ -155,6 +213,11 @@ class Sorted(unittest.TestCase):
         self.assertEqual([(oid, None), (oid.child(0), None)], list(SortedMap.fromkeys([oid.child(0), oid]).items()))
         made = Attributes.fromkeys(iter([oid]), [1])
         self.assertEqual((Attributes, {oid: [1]}), (type(made), made))
+        views = (table.keys(), table.values(), table.items())
+        self.assertEqual([[oid], [1], [(oid, 1)]], [list(reversed(view)) for view in views])
+        self.assertIsInstance(error_of(lambda: [table.pop(oid.child(9)) for _ in table]), KeyError)
+        self.assertIsInstance(error_of(table.__setstate__, (None, {"_values": {"2.5": 1}})), TypeError)
+        self.assertEqual([(oid, 1)], list(table.items()))
         # A value that is false is there, too.
         self.assertEqual([0, None, 5], [SortedMap({oid: value}).get(oid, 5) for value in (0, None, 5)])
         self.assertEqual([0, 0], [call(oid, 5) for call in (SortedMap({oid: 0}).setdefault, SortedMap({oid: 0}).pop)])
@@ -169,7 +232,7 @@ class Sorted(unittest.TestCase):
         source = {one: values}
         table = Attributes(source)
         table.name, table.slot = "name", [2]
-        shared, apart = [table.copy(), copy.copy(table), table | {}], copies_of(table, range(2, 6))
+        shared, apart = [table.copy(), copy.copy(table), table | {}, {} | table], copies_of(table, range(2, 6))
         for made in shared + apart:
             self.assertEqual((Attributes, "name", [2]), (type(made), made.name, made.slot))
         for made in [*shared, SortedMap(table), *apart]:
@@ -181,6 +244,8 @@ class Sorted(unittest.TestCase):
         self.assertIs((again := copy.deepcopy(table)), again.name)
         table[other] = 4
         self.assertEqual(({one: [1]}, [one, other]), (source, list(table)))
+        table.clear()
+        self.assertEqual((table, {}), (table.name, table))
 
     def test_a_change_ends_an_iteration(self):
         """Keys that come or go while a map is iterated are an error, as with dict, after its last key, too."""
@@ -213,15 +278,55 @@ class Sorted(unittest.TestCase):
         changes = [SortedMap.clear, SortedMap.popitem, lambda table: table.setdefault(keys[1], 1)]
         changes += [lambda table: table.update(few), lambda table: operator.ior(table, dict.fromkeys(keys[:9], 1))]
         changes += [lambda table: table.__init__(few), lambda table: table.pop(keys[2])]
-        for change, part, is_memory in itertools.product(changes, (3, 1000), {False, bool(_testcapi)}):
+        acts = [ACTS["exit"], LACKS_MEMORY] if _testcapi else [ACTS["exit"]]
+        for change, part, act in itertools.product(changes, (3, 1000), acts):
             self.enterContext(mock.patch.object(sorted_map, "PART", part))
             change(after := SortedMap(start))
             for number in itertools.count():
-                is_whole = not is_interrupted(number, is_memory, change, table := SortedMap(start))
+                is_whole = not is_interrupted(number, act, change, table := SortedMap(start))
                 wanted = after if is_whole or len(table) != len(start) or table != start else start
                 self.assertEqual((len(wanted), sorted(wanted.items())), (len(table), list(table.items())))
                 if is_whole:
                     break
+
+    def test_changes_meet_each_other(self):
+        """Whatever comes at whichever step of a change, the keys are those after both, in either order, and sorted."""
+        self.enterContext(mock.patch.object(sys, "unraisablehook", id))
+        for (name, change), (other, acts) in itertools.product(CHANGES.items(), ACTS.items()):
+            wanted = [keys_after(change), keys_after()]
+            if other in CHANGES:
+                wanted = [keys_after(change, acts[0]), keys_after(acts[0], change)]
+                if name == "popitem":  # the key that was last when it looked
+                    wanted.append([key for key in keys_after(acts[0]) if key != KEYS[6]])
+            for number in itertools.count():
+                with self.subTest(name, met_by=other, step=number):
+                    table = SortedMap({key: Ending() for key in KEYS[::2]})
+                    is_met = is_interrupted(number, acts, change, table)
+                    self.assertIn(LOOKS[number % 3](table), wanted if is_met else [keys_after(change)])
+                    self.assertEqual((sorted(table._values), len(table)), (list(table), len(list(table.items()))))
+                    self.assertEqual([key in table for key in KEYS], [table.nearest(key) is not None for key in KEYS])
+                if not is_met:
+                    break
+
+    def test_a_signal_changes_a_map(self):
+        """A handler sets and removes entries of its own, while others are set, found and removed."""
+        table, own, signals = SortedMap(), ObjectIdentifier("2.5"), itertools.count()
+
+        def handle(*_):
+            table[own.child(next(signals) % 3)] = 2
+            table.pop(own.child(next(signals) % 3), None)
+
+        self.addCleanup(signal.signal, signal.SIGALRM, signal.signal(signal.SIGALRM, handle))
+        self.addCleanup(signal.setitimer, signal.ITIMER_REAL, 0)
+        signal.setitimer(signal.ITIMER_REAL, 1e-4, 1e-4)
+        keys = [ObjectIdentifier(f"2.{arc}") for arc in (3, 7)]
+        while next(signals) < 2000:
+            for key in keys:
+                table[key] = 1
+                found = [table.nearest(key), table.next_after(key.parent or key), table.copy().get(key), table.pop(key)]
+                self.assertEqual([(key, 1), 1, 1], [found[0], *found[2:]])
+        signal.setitimer(signal.ITIMER_REAL, 0)
+        self.assertEqual(sorted(table._values), list(table))
 
     def test_maps_join(self):
         one, other = {ObjectIdentifier("2.5"): 1}, {ObjectIdentifier("2.4"): 2, ObjectIdentifier("2.5"): 3}
@@ -257,6 +362,7 @@ class Sorted(unittest.TestCase):
             "clear": (1, lambda table: table.clear()),
             "|": (3, lambda table: table | {ObjectIdentifier("2.5"): 1}),
             "subtree": (3, lambda table: table.subtree(ObjectIdentifier("1.3"))),
+            "popitem": (1, lambda table: [table.popitem() for _ in range(1000)]),
             "next_after": (9, lambda table: [table.next_after(key) for key in entries]),
         }
         for name, (limit, call) in calls.items():

@@ -52,6 +52,9 @@ def tables(key: dict[ObjectIdentifier, str]) -> None:
     assert_type(found, tuple[tuple[ObjectIdentifier, str] | None, tuple[ObjectIdentifier, str] | None])
     assert_type(sorted_key.subtree(oid), list[tuple[ObjectIdentifier, str]])
     assert_type(list(sorted_key), list[ObjectIdentifier])
+    assert_type((SortedMap.fromkeys([oid], 0), sorted_key.get(oid)), tuple[SortedMap[int], str | None])
+    assert_type([*reversed(sorted_key.values()), *reversed(sorted_key.values())], list[str])
+    assert_type([*reversed(sorted_key.items())], list[tuple[ObjectIdentifier, str]])
     assert_type((names.name_of(oid), names.by_name("cn")), tuple[str | None, ObjectIdentifier | None])
     assert_type((names.names_of(oid), sorted_key.popitem()), tuple[tuple[str, ...], tuple[ObjectIdentifier, str]])
     entries: Iterable[tuple[ObjectIdentifier, str]] = names.entries() + names.common_entries()
@@ -59,7 +62,9 @@ def tables(key: dict[ObjectIdentifier, str]) -> None:
 
 
 def rejected(oid: ObjectIdentifier, table: SortedMap[str]) -> list[bool]:
-    """Comparisons that are never true, for mypy alone, which also rejects a comment that is not needed."""
+    """Values of another type, and comparisons that are never true, for mypy alone, which also rejects a comment that is
+    not needed."""
+    table = SortedMap.fromkeys([oid], 0)  # type: ignore[arg-type]
     return [
         oid == "2.5.4.3",  # type: ignore[comparison-overlap]
         oid != (2, 5, 4, 3),  # type: ignore[comparison-overlap]
