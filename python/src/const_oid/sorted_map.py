@@ -7,7 +7,7 @@ from contextlib import suppress
 from itertools import chain, count
 from operator import itemgetter
 from reprlib import recursive_repr
-from typing import TYPE_CHECKING, Any, Generic, Self, TypeVar, cast, overload
+from typing import TYPE_CHECKING, Any, Generic, Self, TypeVar, cast
 
 from ._native import ObjectIdentifier
 from ._support import required
@@ -30,7 +30,7 @@ class SortedMap(MutableMapping[ObjectIdentifier, Value]):
     """A mapping from identifiers to values, with keys in the lexicographic order of arcs, as in SNMP (RFC 3416).
 
     Like dict, it has copy() and |, and is not to be changed while it is iterated. While one thread changes it, no other
-    may use it. A key that is no identifier is a TypeError, also for get(), pop() and `in`.
+    may use it; what runs in the same thread may, such as a signal handler or the end of a value. A key that is no identifier is a TypeError, also for get(), pop() and `in`.
 
     >>> up_time, system = ObjectIdentifier("1.3.6.1.2.1.1.3"), ObjectIdentifier("1.3.6.1.2.1.1")
     >>> table = SortedMap({up_time: "sysUpTime", system: "system"})
@@ -126,21 +126,13 @@ class SortedMap(MutableMapping[ObjectIdentifier, Value]):
         return copy.copy(self)
 
     @classmethod
-    @overload
-    def fromkeys(cls, keys: Iterable[ObjectIdentifier]) -> "SortedMap[Any]": ...
-
-    @classmethod
-    @overload
-    def fromkeys(cls, keys: Iterable[ObjectIdentifier], value: Other) -> "SortedMap[Other]": ...
-
-    @classmethod
-    def fromkeys(cls, keys: Iterable[ObjectIdentifier], value: Any = None) -> "SortedMap[Any]":
+    def fromkeys(cls, keys: Iterable[ObjectIdentifier], value: Other = None) -> "SortedMap[Other]":  # type: ignore
         """A map of keys that all have one value.
 
         >>> SortedMap.fromkeys([ObjectIdentifier("2.5")], 1)
         SortedMap({ObjectIdentifier('2.5'): 1})
         """
-        return cls((key, value) for key in keys)
+        return cls((key, value) for key in keys)  # type: ignore
 
     def popitem(self) -> tuple[ObjectIdentifier, Value]:
         """Removes the last entry and returns it, or raises a KeyError if there is none.
@@ -409,10 +401,7 @@ class _Keys:
         return None
 
     def last(self, values: Values, _: None) -> EntryOrNone:
-        if not self._parts:
-            return None
-        key = self._parts[-1][-1]
-        return key, values[key]
+        return None if not self._parts else (self._parts[-1][-1], values[self._parts[-1][-1]])
 
     def entries(self, values: Values, _: None) -> Iterable[tuple[ObjectIdentifier, Any]]:
         return list(zip(self, map(values.__getitem__, self)))
@@ -422,8 +411,7 @@ class _Keys:
         index = bisect(self._parts, oid, key=_LAST)
         if index == len(self._parts):
             return None
-        part = self._parts[index]
-        key = part[bisect(part, oid)]
+        key = self._parts[index][bisect(self._parts[index], oid)]
         return key, values[key]
 
     def last_until(self, oid: ObjectIdentifier) -> ObjectIdentifier | None:
