@@ -106,6 +106,7 @@ impl<const SIZE: usize> Buffer<SIZE> {
         ensures { buffer_octets result ≡ octets.now }
     {
         let mut buffer = Buffer::empty();
+        // erase: another body
         copy_to(octets, &mut buffer.bytes);
         buffer.used = octets.len() as u8;
         buffer
@@ -213,6 +214,7 @@ impl<const SIZE: usize> PartialEq for Buffer<SIZE> {
 
     ghost laws = { on_per buffer_octets (partial_equiv_from_equiv nat_list_eq_equiv) };
 
+    // erase: another body
     fn eq(&self, other: &Self) -> bool
         ensures value { result ≡ pointwise nat_eq (buffer_octets self.now) (buffer_octets other.now) }
         ensures meaning { IsTrue result ↔ (buffer_octets self.now ≡ buffer_octets other.now) }

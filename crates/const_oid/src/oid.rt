@@ -111,6 +111,7 @@ impl ObjectIdentifier<DEFAULT_CAPACITY> {
     {
         match Self::new(s) {
             Ok(oid) => oid,
+            // erase: another body
             Err(_) => unreachable!("not the text of an object identifier"),
         }
     }
@@ -322,6 +323,7 @@ impl<const MAX_SIZE: usize> ObjectIdentifier<MAX_SIZE> {
         ensures octets { ref_octets result ≡ oid_octets self.now }
         ensures arcs { ref_arcs result ≡ oid_arcs self.now }
     {
+        // erase: another body
         ObjectIdentifierRef::from_checked(self.as_bytes())
     }
 
@@ -393,6 +395,7 @@ impl<const MAX_SIZE: usize> ObjectIdentifier<MAX_SIZE> {
     pub fn parent(&self) -> Option<Self>
         ensures { option_map oid_arcs result ≡ parent_of (oid_arcs self.now) }
     {
+        // erase: another body
         let parent = self.as_oid_ref().parent()?;
         let ber = self.ber.truncated(parent.as_bytes().len());
         Some(ObjectIdentifier { ber })
@@ -517,6 +520,7 @@ impl<const MAX_SIZE: usize> PartialEq for ObjectIdentifier<MAX_SIZE> {
 
     ghost laws = { on_per oid_octets (partial_equiv_from_equiv nat_list_eq_equiv) };
 
+    // erase: another body
     fn eq(&self, other: &Self) -> bool
         ensures value { result ≡ pointwise nat_eq (oid_octets self.now) (oid_octets other.now) }
         ensures octets { IsTrue result ↔ (oid_octets self.now ≡ oid_octets other.now) }

@@ -126,6 +126,7 @@ impl<'a> ObjectIdentifierRef<'a> {
     }
 
     /// The identifier over valid octets.
+    // erase: another body
     pub(crate) const fn from_checked(ber: &'a [u8]) -> Self
         requires { parts_fault root_rule (cut ber.now) ≡ None }
         ensures { ref_slice result ≡ ber.entry }
@@ -495,6 +496,7 @@ impl PartialEq for ObjectIdentifierRef<'_> {
 
     ghost laws = { on_per ref_octets (partial_equiv_from_equiv nat_list_eq_equiv) };
 
+    // erase: another body
     fn eq(&self, other: &Self) -> bool
         ensures value { result ≡ pointwise nat_eq (ref_octets self.now) (ref_octets other.now) }
         ensures octets { IsTrue result ↔ (ref_octets self.now ≡ ref_octets other.now) }
@@ -531,6 +533,7 @@ impl Ord for ObjectIdentifierRef<'_> {
 
     ghost matches_eq = { λ a b. texts_ties (ref_octets a) (ref_octets b) };
 
+    // erase: another body
     fn cmp(&self, other: &Self) -> Ordering
         ensures { result ≡ slice_cmp nat_cmp (ref_octets self.now) (ref_octets other.now) }
     {

@@ -98,5 +98,6 @@ fn write_later(arc: Arc, out: &mut [u8], at: usize) -> usize
     ensures within { result ≤ length out.new }
 {
     // The length of this part is a literal, so rustc checks no index in it.
+    // erase: another body
     at + write_arc(arc, &mut out[at..at + MAX_ARC_LEN], 0)
 }

@@ -69,6 +69,7 @@ pub extern "C" fn const_oid_from_arcs(arcs: &[u32], out: &mut [u8]) -> Status
 
 /// Writes the contents octets of arcs, any number of them, or counts those that do not fit. An identifier of up to 255
 /// octets is quicker to make.
+// erase: extern "C"
 #[tactic(auto, using(crate::proofs::Capacities::same_arcs))]
 #[inline(never)]
 fn write_long_arcs(arcs: &[u32], out: &mut [u8]) -> Status

@@ -19,8 +19,8 @@ ghost use Rattle.const_oid_c.specs.Lists.{IsIndexOrNone, arcs_before, index_stat
 ghost use Rattle.const_oid_c.specs.Status.{fault_at, len_status};
 
 use crate::status::{NONE, OK, Status, UNSORTED, code_status, fault_at, len_status};
+use const_oid::ObjectIdentifierRef;
 use const_oid::search::{Contents, end_of, first_of, nearest_of, subtree_of};
-use const_oid::{Error, ObjectIdentifierRef};
 
 /// The contents octets of one identifier of a list.
 #[repr(C)]
@@ -71,7 +71,7 @@ pub extern "C" fn const_oid_find(octets: &[u8], sorted: &[Octets<'_>]) -> Status
 {
     match ObjectIdentifierRef::from_bytes(octets) {
         Ok(oid) => index_status(first_of(sorted, &oid), sorted.len()),
-        Err(fault) => search_fault(sorted.len(), fault),
+        Err(fault) => fault_at(sorted.len(), fault),
     }
 }
 
@@ -85,7 +85,7 @@ pub extern "C" fn const_oid_next(octets: &[u8], sorted: &[Octets<'_>]) -> Status
 {
     match ObjectIdentifierRef::from_bytes(octets) {
         Ok(oid) => index_status(next_of(sorted, &oid), sorted.len()),
-        Err(fault) => search_fault(sorted.len(), fault),
+        Err(fault) => fault_at(sorted.len(), fault),
     }
 }
 
@@ -103,7 +103,7 @@ pub extern "C" fn const_oid_nearest(octets: &[u8], sorted: &[Octets<'_>]) -> Sta
 {
     match ObjectIdentifierRef::from_bytes(octets) {
         Ok(oid) => index_status(nearest_of(sorted, &oid), sorted.len()),
-        Err(fault) => search_fault(sorted.len(), fault),
+        Err(fault) => fault_at(sorted.len(), fault),
     }
 }
 
@@ -129,17 +129,8 @@ pub extern "C" fn const_oid_subtree_range(
             *range = Range { start, end };
             len_status(0)
         }
-        Err(fault) => search_fault(sorted.len(), fault),
+        Err(fault) => fault_at(sorted.len(), fault),
     }
-}
-
-/// The status of a search among `count` items for octets that are not an identifier. By cargo it returns in registers.
-#[cold]
-#[inline(never)]
-fn search_fault(count: usize, fault: Error) -> Status
-    ensures { result ≡ fault_at count fault }
-{
-    fault_at(count, fault)
 }
 
 /// The index of the first item that comes after an identifier.

@@ -81,6 +81,7 @@ pub(crate) fn error_status(error: Error) -> Status
 }
 
 /// The status of an error of what is at an index.
+// erase: extern "C"
 #[cold]
 #[inline(never)]
 pub(crate) fn fault_at(index: usize, fault: Error) -> Status

@@ -33,6 +33,7 @@ pub extern "C" fn const_oid_from_text(text: &[u8], out: &mut [u8]) -> Status
 
 /// Writes the contents octets of the identifier that dotted text denotes, or reports why there is none, by the fault at
 /// the default capacity and the index of its component.
+// erase: extern "C"
 #[tactic(auto, using(crate::proofs::Capacities::same_text))]
 #[cold]
 #[inline(never)]
@@ -83,6 +84,7 @@ fn write_long_text(text: &[u8], out: &mut [u8]) -> Status
 }
 
 /// The status of an error of a text, at its first wrong component.
+// erase: extern "C"
 #[inline(never)]
 fn component_status(fault: Error, text: &[u8]) -> Status
     requires { text_answer root_rule text.now max_len ≡ Err fault }
@@ -117,6 +119,7 @@ pub extern "C" fn const_oid_to_text(octets: &[u8], out: &mut [u8]) -> Status
 }
 
 /// Writes the dotted text of contents octets of any length, made on the stack if they are 255 or fewer.
+// erase: extern "C"
 #[tactic(auto, using(const_oid::proofs::Sets::bytes_put))]
 #[inline(never)]
 fn print_past_16_octets(octets: &[u8], out: &mut [u8]) -> Status
@@ -132,6 +135,7 @@ fn print_past_16_octets(octets: &[u8], out: &mut [u8]) -> Status
 }
 
 /// Writes the dotted text of contents octets of any length, and reads them twice.
+// erase: extern "C"
 #[inline(never)]
 fn print_past_255_octets(octets: &[u8], out: &mut [u8]) -> Status
     ensures status { result ≡ output_status (length out.old) (output_of text_of (borrowed_answer octets.now)) }

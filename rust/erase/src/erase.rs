@@ -5,9 +5,10 @@
 use crate::edit::replaced;
 use crate::token::{after, is_blank, tokens};
 
-/// A command to the eraser: the function after it is `const` in Rust, since a constant calls it there. In Rattle it
-/// calls a function of `std` that is not `const`.
-const CONST: &str = "// erase: const";
+/// Commands to the eraser: the function after one has this qualifier in Rust. A constant calls it there, and in Rattle
+/// it calls a function of `std` that is not `const`. Or the function is a rare path for C, which so returns in
+/// registers, as exports do: the usual one needs no memory for a `Status`.
+const QUALIFIED: [(&str, &str); 2] = [("// erase: const", "const"), ("// erase: extern \"C\"", "extern \"C\"")];
 
 /// A command to the eraser: Rust lacks the `mod` or `use` after it.
 const OMIT: &str = "// erase: omit";
@@ -38,7 +39,7 @@ pub fn erase(source: &str) -> Vec<&str> {
 
 /// Without ghosts, contracts, tactics and impls of `Model`, with `#[must_use]` and with what the commands say.
 fn without_ghosts<'a>(tokens: &[&'a str]) -> Vec<&'a str> {
-    let (mut out, mut at, mut is_const) = (Vec::new(), 0, false);
+    let (mut out, mut at, mut qualifier) = (Vec::new(), 0, None);
     while at < tokens.len() {
         let (token, rest) = (tokens[at], &tokens[at..]);
         let left_out = match token {
@@ -58,13 +59,14 @@ fn without_ghosts<'a>(tokens: &[&'a str]) -> Vec<&'a str> {
             at += len;
             continue;
         }
+        let command = QUALIFIED.iter().find(|row| row.0 == token);
         match token {
             "pub" if is_to_be_used(rest) => out.extend(["#[must_use]", "\n", token]),
-            "fn" if is_const => out.extend(["const", " ", token]),
-            CONST => at += 1,
+            "fn" if qualifier.is_some() => out.extend([qualifier.take().unwrap_or_default(), " ", token]),
+            _ if command.is_some() => at += 1,
             _ => out.push(token),
         }
-        is_const = token == CONST || is_const && token != "fn";
+        qualifier = command.map(|row| row.1).or(qualifier);
         at += 1;
     }
     out

@@ -105,8 +105,7 @@ fn modules(table: &Crate) -> Result<Vec<File>> {
         let path = format!("{}/{module}.rt", table.from);
         let source = read(&path)?;
         let tokens = edit::edited(&erase::erase(&source), table, &module, &mut places);
-        let is_command = |token: &&&str| token.starts_with("//") && token.to_lowercase().contains("erase:");
-        if let Some(command) = tokens.iter().find(is_command) {
+        if let Some(command) = tokens.iter().find(|token| token::is_command(token)) {
             return Err(format!("{path}: `{command}` is no command"));
         }
         let (name, folder) = if module == "lib" { ("mod", String::new()) } else { (&*module, format!("{module}/")) };

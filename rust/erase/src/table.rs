@@ -48,7 +48,8 @@ pub const CRATES: &[Crate] = &[
             "lib": "mod parser;" => "pub(crate) mod parser;", FOR_C;
             "oid_ref": "#[derive(Copy, Clone, Eq, Hash)] pub struct ObjectIdentifierRef<'a> { pub ber: &'a [u8], }"
                 => "#[derive(Eq, Hash)]\n#[repr(transparent)]\npub struct ObjectIdentifierRef {\n ber: [u8],\n}", UNSIZED;
-            "oid_ref": "pub(crate) const fn from_checked(ber: &'a [u8]) -> Self { ObjectIdentifierRef { ber } }"
+            "oid_ref": "// erase: another body
+                        pub(crate) const fn from_checked(ber: &'a [u8]) -> Self { ObjectIdentifierRef { ber } }"
                 => "#[allow(unsafe_code)]
                         pub(crate) const fn from_checked(ber: &[u8]) -> &Self {
                             // SAFETY: the type is laid out as its only field, and the reference lives as long.
@@ -67,9 +68,11 @@ pub const CRATES: &[Crate] = &[
             "oid_ref": "-> &'a [u8] { self.as_bytes() }" => "-> &[u8] {\n &self.ber\n }", UNSIZED;
             "oid_ref*": "Arcs<'a>" => "Arcs<'_>", UNSIZED;
             "oid_ref": "Option<ObjectIdentifierRef<'a>>" => "Option<&Self>", UNSIZED;
-            "oid_ref": "fn eq(&self, other: &Self) -> bool { are_equal(self.as_bytes(), other.as_bytes()) }"
+            "oid_ref": "// erase: another body
+                        fn eq(&self, other: &Self) -> bool { are_equal(self.as_bytes(), other.as_bytes()) }"
                 => "#[inline]\nfn eq(&self, other: &Self) -> bool {\n self.ber == other.ber\n }", BY_CORE;
-            "oid_ref": "fn cmp(&self, other: &Self) -> Ordering { order(self.as_bytes(), other.as_bytes()) }"
+            "oid_ref": "// erase: another body
+                        fn cmp(&self, other: &Self) -> Ordering { order(self.as_bytes(), other.as_bytes()) }"
                 => "#[inline]\nfn cmp(&self, other: &Self) -> Ordering {\n self.ber.cmp(&other.ber)\n }", BY_CORE;
             "oid_ref": "fn partial_cmp" => "#[inline]\nfn partial_cmp", "as above, where a caller is compiled without LTO";
             "search*": "#[inline(never)] fn" => "fn", "a search takes fewer instructions, and more octets of code";
@@ -86,19 +89,9 @@ pub const CRATES: &[Crate] = &[
             "arcs": "type Item = Arc;"
                 => "type Item = Arc;
 
-                        // A subidentifier has one to five octets, and the first holds two arcs. In the last eight
-                        // octets, each below 0x80 ends one, to which up to four octets before them belong.
                         #[inline]
                         fn size_hint(&self) -> (usize, Option<usize>) {
-                            let held = usize::from(!matches!(self.next, Next::Later));
-                            let octets = self.octets.len();
-                            let least = if let Some(last) = self.octets.last_chunk() {
-                                let ends = !u64::from_be_bytes(*last) >> 7 & 0x0101_0101_0101_0101;
-                                (octets - 8) / 5 + (ends.wrapping_mul(0x0101_0101_0101_0101) >> 56) as usize
-                            } else {
-                                octets.div_ceil(5)
-                            };
-                            (least + held, Some(octets + held))
+                            crate::arcs::bounds(self.octets, !matches!(self.next, Next::Later))
                         }",
                 BOUNDS;
             "db": "pub struct Names<'a>" => "#[derive(Clone)]\npub struct Names<'a>", "as above";
@@ -115,17 +108,22 @@ pub const CRATES: &[Crate] = &[
             "": "entries: &'a [Entry<'a>]," => "pub(crate) entries: &'a [Entry<'a>],", LISTED;
             "digits": "pub(crate) fn utf8" => "#[allow(unsafe_code)]\npub(crate) fn utf8",
                 "bytes that are UTF-8 become a text without a check: the crate denies other unsafe code";
-            "text": "out[at..at + MAX_ARC_LEN]" => "out[at..][..MAX_ARC_LEN]", "the same part in fewer instructions";
+            "text": "// erase: another body
+                        at + write_arc(arc, &mut out[at..at + MAX_ARC_LEN], 0)"
+                => "at + write_arc(arc, &mut out[at..][..MAX_ARC_LEN], 0)", "the same part in fewer instructions";
             "fast/lanes": "use core::simd::Simd; use core::simd::prelude::*;" => "", LANES;
-            "fast/lanes": "let lanes = Simd::<u8, COUNT>::from_slice(octets).simd_lt(Simd::splat(limit));
+            "fast/lanes": "// erase: another body
+                        let lanes = Simd::<u8, COUNT>::from_slice(octets).simd_lt(Simd::splat(limit));
                         lanes.to_bitmask().count_ones() as usize"
                 => "octets.iter().filter(|octet| **octet < limit).count()", LANES;
-            "buffer": "copy_to(octets, &mut buffer.bytes);"
+            "buffer": "// erase: another body
+                        copy_to(octets, &mut buffer.bytes);"
                 => "crate::erased::parts::copy_by_octet(octets, &mut buffer.bytes);",
                 "it takes two hundred octets of flash less";
             "buffer": "#[derive(Copy, Clone)] pub struct Buffer"
                 => "#[derive(Copy, Clone, PartialEq, Eq)]\npub struct Buffer", EQUALITY;
             "buffer": "impl<const SIZE: usize> PartialEq for Buffer<SIZE> {
+                            // erase: another body
                             fn eq(&self, other: &Self) -> bool { Self::eq(self, other) }
                         }
                         impl<const SIZE: usize> Eq for Buffer<SIZE> {}"
@@ -136,19 +134,24 @@ pub const CRATES: &[Crate] = &[
                         pub struct ObjectIdentifier<const MAX_SIZE: usize = DEFAULT_CAPACITY>",
                 "as above; and a capacity has a default, where a type names none";
             "oid": "impl<const MAX_SIZE: usize> PartialEq for ObjectIdentifier<MAX_SIZE> {
+                            // erase: another body
                             fn eq(&self, other: &Self) -> bool { self.ber.eq(&other.ber) }
                         }"
                 => "", EQUALITY;
             "oid": "pub fn try_from_ref" => "pub(crate) fn try_from_ref", "public as `TryFrom`";
-            "oid": "ObjectIdentifierRef::from_checked(self.as_bytes())"
+            "oid": "// erase: another body
+                        ObjectIdentifierRef::from_checked(self.as_bytes())"
                 => "// SAFETY: the checker proves it of each buffer.
                     #[allow(unsafe_code)]
                     unsafe { core::hint::assert_unchecked(self.ber.len() <= MAX_SIZE) };
                     ObjectIdentifierRef::from_checked(self.as_bytes())",
                 "so a caller that compares or prints does not test the length";
-            "oid": "self.as_oid_ref().parent()?" => "ObjectIdentifierRef::from_checked(self.as_bytes()).parent()?",
+            "oid": "// erase: another body
+                        let parent = self.as_oid_ref().parent()?;"
+                => "let parent = ObjectIdentifierRef::from_checked(self.as_bytes()).parent()?;",
                 "here the test takes fewer instructions than a length that is in range";
-            "oid": "Err(_) => unreachable!(\"not the text of an object identifier\")"
+            "oid": "// erase: another body
+                        Err(_) => unreachable!(\"not the text of an object identifier\")"
                 => "Err(error) => panic!(\"{}\", crate::conversions::panic_text(error))",
                 "outside of constants, Rust does not check the text before the program runs";
             "oid": "pub const fn new_unwrap" => "#[track_caller]\npub const fn new_unwrap", "it panics at its caller's line";
@@ -180,8 +183,6 @@ pub const CRATES: &[Crate] = &[
             "output": "out[..first.len()].copy_from_slice(first); out[first.len()..len].copy_from_slice(rest);"
                 => "crate::edge::copy(first, out); crate::edge::copy(rest, &mut out[first.len()..]);", UNWRITTEN;
             "arcs": "out[index] = arc;" => "out[index].write(arc);", UNWRITTEN;
-            "": "#[inline(never)] fn" => "#[inline(never)]\nextern \"C\" fn",
-                "so a rare path returns in registers, as exports do, and the usual one needs no memory for a `Status`";
             "texts": "oid.encode_text(out)" => "crate::outputs::encode(oid, out)", UNWRITTEN;
             "texts": "outputs::bytes_from_ascii(text, out)" => "crate::outputs::bytes_from_ascii(text, out)", UNWRITTEN;
             "arcs": "outputs::bytes_from_arcs(arcs, out)" => "crate::outputs::bytes_from_arcs(arcs, out)", UNWRITTEN;

@@ -46,9 +46,14 @@ fn is_word(c: char) -> bool {
     c.is_alphanumeric() || c == '_'
 }
 
-/// Whether a token is space or a comment.
+/// Whether a token is a command to the eraser.
+pub fn is_command(token: &str) -> bool {
+    token.starts_with("//") && token.to_lowercase().contains("erase:")
+}
+
+/// Whether a token is space or a comment, and no command.
 pub fn is_blank(token: &str) -> bool {
-    token.trim().is_empty() || token.starts_with("//")
+    token.trim().is_empty() || token.starts_with("//") && !is_command(token)
 }
 
 /// The index after what begins at an index: after the bracket that closes the one there, or the next token.

@@ -66,6 +66,7 @@ fn count_all<const COUNT: usize>(octets: &[u8], limit: u8) -> usize
     ensures value { result ≡ count_by (λ x. nat_lt x limit) octets.now }
     ensures fits { result ≤ length octets.now }
 {
+    // erase: another body
     let lanes = Simd::<u8, COUNT>::from_slice(octets).simd_lt(Simd::splat(limit));
     lanes.to_bitmask().count_ones() as usize
 }

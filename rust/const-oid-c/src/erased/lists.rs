@@ -6,8 +6,8 @@
 //! unspecified, but is within the list.
 
 use crate::erased::status::{NONE, OK, Status, UNSORTED, code_status, fault_at, len_status};
+use const_oid::internal_for_const_oid_c::ObjectIdentifierRef;
 use const_oid::internal_for_const_oid_c::search::{Contents, end_of, first_of, nearest_of, subtree_of};
-use const_oid::internal_for_const_oid_c::{Error, ObjectIdentifierRef};
 
 /// The contents octets of one identifier of a list.
 pub use crate::edge::Octets;
@@ -33,7 +33,7 @@ pub fn const_oid_check_sorted(items: &[Octets<'_>]) -> Status {
 pub fn const_oid_find(octets: &[u8], sorted: &[Octets<'_>]) -> Status {
     match ObjectIdentifierRef::from_bytes(octets) {
         Ok(oid) => index_status(first_of(sorted, &oid), sorted.len()),
-        Err(fault) => search_fault(sorted.len(), fault),
+        Err(fault) => fault_at(sorted.len(), fault),
     }
 }
 
@@ -41,7 +41,7 @@ pub fn const_oid_find(octets: &[u8], sorted: &[Octets<'_>]) -> Status {
 pub fn const_oid_next(octets: &[u8], sorted: &[Octets<'_>]) -> Status {
     match ObjectIdentifierRef::from_bytes(octets) {
         Ok(oid) => index_status(next_of(sorted, &oid), sorted.len()),
-        Err(fault) => search_fault(sorted.len(), fault),
+        Err(fault) => fault_at(sorted.len(), fault),
     }
 }
 
@@ -49,7 +49,7 @@ pub fn const_oid_next(octets: &[u8], sorted: &[Octets<'_>]) -> Status {
 pub fn const_oid_nearest(octets: &[u8], sorted: &[Octets<'_>]) -> Status {
     match ObjectIdentifierRef::from_bytes(octets) {
         Ok(oid) => index_status(nearest_of(sorted, &oid), sorted.len()),
-        Err(fault) => search_fault(sorted.len(), fault),
+        Err(fault) => fault_at(sorted.len(), fault),
     }
 }
 
@@ -65,15 +65,8 @@ pub fn const_oid_subtree_range(
             range.write(Range { start, end });
             len_status(0)
         }
-        Err(fault) => search_fault(sorted.len(), fault),
+        Err(fault) => fault_at(sorted.len(), fault),
     }
-}
-
-/// The status of a search among `count` items for octets that are not an identifier. By cargo it returns in registers.
-#[cold]
-#[inline(never)]
-extern "C" fn search_fault(count: usize, fault: Error) -> Status {
-    fault_at(count, fault)
 }
 
 /// The index of the first item that comes after an identifier.

@@ -77,7 +77,7 @@ pub(crate) fn error_status(error: Error) -> Status {
 /// The status of an error of what is at an index.
 #[cold]
 #[inline(never)]
-pub(crate) fn fault_at(index: usize, fault: Error) -> Status {
+pub(crate) extern "C" fn fault_at(index: usize, fault: Error) -> Status {
     Status { len: index, ..error_status(fault) }
 }
 

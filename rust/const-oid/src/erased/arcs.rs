@@ -40,19 +40,9 @@ impl<'a> Arcs<'a> {
 impl Iterator for Arcs<'_> {
     type Item = Arc;
 
-    // A subidentifier has one to five octets, and the first holds two arcs. In the last eight
-    // octets, each below 0x80 ends one, to which up to four octets before them belong.
     #[inline]
     fn size_hint(&self) -> (usize, Option<usize>) {
-        let held = usize::from(!matches!(self.next, Next::Later));
-        let octets = self.octets.len();
-        let least = if let Some(last) = self.octets.last_chunk() {
-            let ends = !u64::from_be_bytes(*last) >> 7 & 0x0101_0101_0101_0101;
-            (octets - 8) / 5 + (ends.wrapping_mul(0x0101_0101_0101_0101) >> 56) as usize
-        } else {
-            octets.div_ceil(5)
-        };
-        (least + held, Some(octets + held))
+        crate::arcs::bounds(self.octets, !matches!(self.next, Next::Later))
     }
 
     #[inline]
