@@ -16,6 +16,9 @@
  *   that break this.
  * - Lengths. A length is that of its array, which has at most 2^63 - 1 bytes, or 2^30 - 1 if size_t has 32 bits. Texts
  *   have a length and no zero byte at the end: print one with `%.*s`.
+ * - Arcs. C cuts a wider number to the 32 bits of an arc, without an error: 4294967299 is given as 3, and -1 as
+ *   4294967295. gcc and clang warn of it by -Wconversion, and not by -Wall -Wextra. So of an unsigned long, as in
+ *   net-snmp, test `arc <= UINT32_MAX` first, or give its text to const_oid_from_text.
  * - Threads. Every function is thread-safe. While a call runs, no other thread may write its inputs or touch its
  *   output.
  * - Machines. The tests run on Linux with glibc on x86-64. At commit 417bcdce, on 28 November 2026, they passed with
@@ -74,14 +77,32 @@ extern "C" {
 #define CONST_OID_NODISCARD
 #endif
 
+/* A function and an array of the headers. From C++17 on they are inline, so a module can export them. */
+#ifdef __cpp_inline_variables
+#define CONST_OID_INLINE inline
+#define CONST_OID_TABLE inline const
+#else
+#define CONST_OID_INLINE static __inline
+#define CONST_OID_TABLE static const
+#endif
+
 /* The arguments, counted from 1, that are an array that the function reads, or writes, and how many items it has. gcc,
- * from 10 on, warns of a number that is more than the array has, and of a null pointer unless the number is 0. */
+ * from 10 on, warns of a number that is more than the array has, and not of one that is less, and of a null pointer
+ * unless the number is 0. It also warns of two right calls: at -O0 of a list with nothing in it, on the stack, and with
+ * -fanalyzer, from 14 on, of an output that begins at the end of an array and has length 0. Give null for these. */
 #if defined(__GNUC__) && !defined(__clang__) && __GNUC__ >= 10
 #define CONST_OID_READS(items, len) __attribute__((__access__(__read_only__, items, len)))
 #define CONST_OID_WRITES(items, len) __attribute__((__access__(__write_only__, items, len)))
 #else
 #define CONST_OID_READS(items, len)
 #define CONST_OID_WRITES(items, len)
+#endif
+
+/* An argument that must not be null: compilers warn. */
+#if defined(__GNUC__) || defined(__clang__)
+#define CONST_OID_NONNULL(argument) __attribute__((__nonnull__(argument)))
+#else
+#define CONST_OID_NONNULL(argument)
 #endif
 
 /* The most octets that const_oid_cmp_owned reads. The other functions read and write octets of any length. */
@@ -168,7 +189,7 @@ CONST_OID_NODISCARD uint32_t const_oid_version(void);
  *
  * No bytes are NO_ELEMENT too. So a loop over elements runs `while (len > 0)`, and any code but OK is an error: a loop
  * that runs while the code is OK takes a malformed element for the end. */
-CONST_OID_NODISCARD CONST_OID_READS(1, 2) const_oid_status const_oid_from_der(
+CONST_OID_NODISCARD CONST_OID_READS(1, 2) CONST_OID_NONNULL(3) const_oid_status const_oid_from_der(
     const uint8_t *der, size_t len, const_oid_octets *CONST_OID_RESTRICT contents);
 
 /* Writes the element of DER for octets of any length: the tag 6, the length and the octets. An output that is ten
@@ -234,7 +255,7 @@ CONST_OID_NODISCARD CONST_OID_READS(1, 2) CONST_OID_WRITES(4, 5) const_oid_statu
 #if defined(__GNUC__) || defined(__clang__)
 #define CONST_OID_DIFFER __builtin_memcmp
 #else
-static __inline int CONST_OID_DIFFER(const uint8_t *left, const uint8_t *right, size_t len) {
+CONST_OID_INLINE int CONST_OID_DIFFER(const uint8_t *left, const uint8_t *right, size_t len) {
     while (len > 0 && left[len - 1] == right[len - 1]) len--;
     return len > 0;
 }
@@ -247,10 +268,10 @@ CONST_OID_NODISCARD CONST_OID_READS(1, 2) CONST_OID_READS(3, 4) const_oid_status
 
 /* Returns 1 if both are valid and the identifier begins with all arcs of the prefix, which may be all that it has, and
  * otherwise 0, also for invalid octets. It is no code: CONST_OID_OK is 0. */
-CONST_OID_NODISCARD CONST_OID_READS(1, 2) CONST_OID_READS(3, 4) static __inline int const_oid_is_under(
+CONST_OID_NODISCARD CONST_OID_READS(1, 2) CONST_OID_READS(3, 4) CONST_OID_INLINE int const_oid_is_under(
     const uint8_t *octets, size_t len, const uint8_t *prefix, size_t prefix_len) {
     /* The first octets of valid ones are valid if a subidentifier ends there. */
-    return prefix_len > 0 && prefix_len <= len && octets[prefix_len - 1] == prefix[prefix_len - 1]
+    return len > 0 && prefix_len > 0 && prefix_len <= len && octets[prefix_len - 1] == prefix[prefix_len - 1]
         && prefix[prefix_len - 1] < 0x80 && !CONST_OID_DIFFER(octets, prefix, prefix_len)
         && const_oid_check(octets, len).code == CONST_OID_OK;
 }
@@ -261,7 +282,7 @@ CONST_OID_NODISCARD CONST_OID_READS(1, 2) CONST_OID_READS(3, 4) const_oid_status
     const uint8_t *left, size_t left_len, const uint8_t *right, size_t right_len);
 
 /* Returns 1 if both are valid and equal, and otherwise 0, also for invalid octets. It is no code: CONST_OID_OK is 0. */
-CONST_OID_NODISCARD CONST_OID_READS(1, 2) CONST_OID_READS(3, 4) static __inline int const_oid_is_equal(
+CONST_OID_NODISCARD CONST_OID_READS(1, 2) CONST_OID_READS(3, 4) CONST_OID_INLINE int const_oid_is_equal(
     const uint8_t *left, size_t left_len, const uint8_t *right, size_t right_len) {
     return left_len > 0 && left_len == right_len && left[left_len - 1] == right[left_len - 1]
         && !CONST_OID_DIFFER(left, right, left_len) && const_oid_check(left, left_len).code == CONST_OID_OK;
@@ -291,7 +312,8 @@ CONST_OID_NODISCARD CONST_OID_READS(1, 2) CONST_OID_READS(3, 4) const_oid_status
  * octets are cut after each octet below 0x80, and the parts are compared in lexicographic order. A longer part is
  * greater. Parts of one length are compared by their octets. Only equal octets are equal. After sorting by this order,
  * const_oid_check_sorted accepts the list exactly if all items are valid. */
-CONST_OID_NODISCARD int const_oid_by_arcs(const void *left, const void *right);
+CONST_OID_NODISCARD CONST_OID_NONNULL(1) CONST_OID_NONNULL(2) int const_oid_by_arcs(
+    const void *left, const void *right);
 
 /* Checks a list, which is an array of identifiers, for the functions below. Each item must be valid, of any length, and
  * none may come before the previous one, in the order of const_oid_cmp_arcs. Items may be repeated. The code is 0
@@ -323,7 +345,7 @@ CONST_OID_NODISCARD CONST_OID_READS(1, 2) CONST_OID_READS(3, 4) const_oid_status
 /* Finds the items that begin with all arcs of an identifier, itself included, and stores where they are in `range`,
  * which must not be null. `start` is where the identifier would be inserted, whether there are such items or not. If
  * there are none, `end` is the same. With OK, `len` is 0. If the identifier is invalid, `range` is unchanged. */
-CONST_OID_NODISCARD CONST_OID_READS(1, 2) CONST_OID_READS(3, 4) const_oid_status const_oid_subtree_range(
+CONST_OID_NODISCARD CONST_OID_READS(1, 2) CONST_OID_READS(3, 4) CONST_OID_NONNULL(5) const_oid_status const_oid_subtree_range(
     const uint8_t *octets, size_t len, const const_oid_octets *sorted, size_t count,
     const_oid_range *CONST_OID_RESTRICT range);
 

@@ -13,7 +13,7 @@
 
 #define CONST_OID_COMMON_NAMES_COUNT 2404
 
-static const const_oid_octets const_oid_common_name_octets[CONST_OID_COMMON_NAMES_COUNT] = {
+CONST_OID_TABLE const_oid_octets const_oid_common_name_octets[CONST_OID_COMMON_NAMES_COUNT] = {
     {CONST_OID_OCTETS("\x00")}, {CONST_OID_OCTETS("\x03\xA2\x31\x05\x03\x01\x09\x01")},
     {CONST_OID_OCTETS("\x03\xA2\x31\x05\x03\x01\x09\x01")}, {CONST_OID_OCTETS("\x03\xA2\x31\x05\x03\x01\x09\x03")},
     {CONST_OID_OCTETS("\x03\xA2\x31\x05\x03\x01\x09\x03")}, {CONST_OID_OCTETS("\x03\xA2\x31\x05\x03\x01\x09\x04")},
@@ -1812,7 +1812,7 @@ static const const_oid_octets const_oid_common_name_octets[CONST_OID_COMMON_NAME
     {CONST_OID_OCTETS("\x67\x81\x0C\x01\x05\x03")},
 };
 
-static const char *const const_oid_common_names[CONST_OID_COMMON_NAMES_COUNT] = {
+CONST_OID_TABLE char *const const_oid_common_names[CONST_OID_COMMON_NAMES_COUNT] = {
     "zeroDotZero", "CAMELLIA-128-ECB", "camellia-128-ecb", "CAMELLIA-128-OFB", "camellia-128-ofb", "CAMELLIA-128-CFB",
     "camellia-128-cfb", "CAMELLIA-128-GCM", "camellia-128-gcm", "CAMELLIA-128-CCM", "camellia-128-ccm",
     "CAMELLIA-128-CTR", "camellia-128-ctr", "CAMELLIA-128-CMAC", "camellia-128-cmac", "CAMELLIA-192-ECB",
@@ -2278,7 +2278,7 @@ static const char *const const_oid_common_names[CONST_OID_COMMON_NAMES_COUNT] = 
 };
 
 /* The lengths of the names. */
-static const uint8_t const_oid_common_name_lens[CONST_OID_COMMON_NAMES_COUNT] = {
+CONST_OID_TABLE uint8_t const_oid_common_name_lens[CONST_OID_COMMON_NAMES_COUNT] = {
     11, 16, 16, 16, 16, 16, 16, 16, 16, 16, 16, 16, 16, 17, 17, 16, 16, 16, 16, 16, 16, 16, 16, 16, 16, 16, 16, 17, 17,
     16, 16, 16, 16, 16, 16, 16, 16, 16, 16, 16, 16, 17, 17, 4, 3, 3, 5, 18, 19, 20, 3, 20, 15, 25, 16, 14, 11, 4, 4, 9,
     11, 15, 6, 18, 5, 9, 7, 7, 7, 7, 7, 7, 7, 7, 8, 8, 8, 8, 7, 7, 3, 3, 3, 3, 7, 12, 7, 20, 16, 16, 16, 16, 16, 16, 19,
@@ -2363,7 +2363,7 @@ static const uint8_t const_oid_common_name_lens[CONST_OID_COMMON_NAMES_COUNT] = 
 
 /* The indexes of the entries by a hash of their names, each in the first slot that is free from its own on. Those with
  * one name are in the order of the table, and CONST_OID_COMMON_NAMES_COUNT is in the slots that are free. */
-static const uint16_t const_oid_common_names_by_hash[4096] = {
+CONST_OID_TABLE uint16_t const_oid_common_names_by_hash[4096] = {
     2404, 2404, 2404, 2404, 897, 2404, 2287, 2404, 2404, 2404, 1608, 935, 2404, 1945, 981, 2387, 88, 89, 2404, 2404,
     2404, 1975, 281, 1976, 1448, 2340, 1584, 2404, 2404, 2404, 2341, 183, 2404, 2218, 1344, 2310, 2404, 2404, 2404,
     2203, 2404, 2404, 2404, 2404, 968, 1199, 2208, 770, 794, 509, 1146, 823, 2348, 1003, 1986, 1723, 2123, 2124, 321,
@@ -2572,7 +2572,7 @@ static const uint16_t const_oid_common_names_by_hash[4096] = {
 };
 
 /* The same by a hash of their octets. */
-static const uint16_t const_oid_common_octets_by_hash[4096] = {
+CONST_OID_TABLE uint16_t const_oid_common_octets_by_hash[4096] = {
     0, 937, 1118, 532, 2015, 2281, 2404, 2404, 2404, 2404, 2404, 2404, 1227, 1228, 2404, 773, 2404, 2404, 1807, 1808,
     2404, 1572, 2404, 2404, 2404, 1671, 2404, 572, 573, 1096, 2404, 2404, 2404, 2404, 2404, 2404, 2299, 2404, 960, 1528,
     2404, 1513, 2404, 2404, 2404, 2404, 377, 760, 2404, 2404, 2404, 2404, 2404, 2404, 2404, 1899, 2404, 123, 124, 2404,
@@ -2781,13 +2781,13 @@ static const uint16_t const_oid_common_octets_by_hash[4096] = {
 };
 
 /* Four bytes as a number. */
-static __inline uint32_t const_oid_common_word(const uint8_t *bytes) {
+CONST_OID_INLINE uint32_t const_oid_common_word(const uint8_t *bytes) {
     const uint32_t last = bytes[3];
     return ((last << 8 | bytes[2]) << 8 | bytes[1]) << 8 | bytes[0];
 }
 
 /* A slot by a hash of words, of which the last four bytes are one, or all of fewer. In each byte `bits` are set. */
-static __inline size_t const_oid_common_slot(const uint8_t *bytes, size_t len, uint32_t bits) {
+CONST_OID_INLINE size_t const_oid_common_slot(const uint8_t *bytes, size_t len, uint32_t bits) {
     uint32_t hash = 0, word = 0;
     size_t i;
     for (i = 0; i + 4 < len; i += 4) hash = (hash ^ (const_oid_common_word(bytes + i) | bits)) * 2654435769u;
@@ -2797,12 +2797,12 @@ static __inline size_t const_oid_common_slot(const uint8_t *bytes, size_t len, u
 }
 
 /* Whether two characters are one letter in both cases. */
-static __inline int const_oid_common_are_cases(char left, char right) {
+CONST_OID_INLINE int const_oid_common_are_cases(char left, char right) {
     return (left ^ right) == ('a' ^ 'A') && (left | right) >= 'a' && (left | right) <= 'z';
 }
 
 /* Whether two names of this length are the same, without the case of their letters. */
-static __inline int const_oid_common_is_same_name(const char *left, const char *right, size_t len) {
+CONST_OID_INLINE int const_oid_common_is_same_name(const char *left, const char *right, size_t len) {
     const uint8_t *a = CONST_OID_BYTES(left), *b = CONST_OID_BYTES(right);
     size_t i = 0;
     while (i + 4 <= len && const_oid_common_word(a + i) == const_oid_common_word(b + i)) i += 4;
@@ -2812,7 +2812,7 @@ static __inline int const_oid_common_is_same_name(const char *left, const char *
 
 /* The index of the first entry of the table that has a name, which is null-terminated, whatever the case of its
  * ASCII letters. CONST_OID_COMMON_NAMES_COUNT if there is none. */
-CONST_OID_NODISCARD static __inline size_t const_oid_common_by_name(const char *name) {
+CONST_OID_NODISCARD CONST_OID_INLINE size_t const_oid_common_by_name(const char *name) {
     size_t len = 0, slot, index;
 #ifdef __GNUC__ /* Of a literal the compiler knows it. */
     if (__builtin_constant_p(__builtin_strlen(name))) len = __builtin_strlen(name);
@@ -2828,18 +2828,18 @@ CONST_OID_NODISCARD static __inline size_t const_oid_common_by_name(const char *
 
 /* The index of the first entry of an identifier, of its contents octets. CONST_OID_COMMON_NAMES_COUNT if there is none, as for
  * invalid octets. */
-CONST_OID_NODISCARD CONST_OID_READS(1, 2) static __inline size_t const_oid_common_name_of(const uint8_t *octets, size_t len) {
+CONST_OID_NODISCARD CONST_OID_READS(1, 2) CONST_OID_INLINE size_t const_oid_common_name_of(const uint8_t *octets, size_t len) {
     size_t slot, index;
     for (slot = const_oid_common_slot(octets, len, 0);; slot++) {
         index = const_oid_common_octets_by_hash[slot % 4096];
-        if (index == CONST_OID_COMMON_NAMES_COUNT || (const_oid_common_name_octets[index].len == len
+        if (index == CONST_OID_COMMON_NAMES_COUNT || (len > 0 && const_oid_common_name_octets[index].len == len
             && !CONST_OID_DIFFER(const_oid_common_name_octets[index].octets, octets, len))) return index;
     }
 }
 
 /* The contents octets of the first entry with a name, which is null-terminated, whatever the case of its ASCII letters,
  * in const_oid_names.h, or else here. Null with length 0 if there is none. */
-CONST_OID_NODISCARD static __inline const_oid_octets const_oid_from_name(const char *name) {
+CONST_OID_NODISCARD CONST_OID_INLINE const_oid_octets const_oid_from_name(const char *name) {
     static const_oid_octets none; /* null, in each C and C++ without a warning */
     size_t index = const_oid_by_name(name);
     if (index < CONST_OID_NAMES_COUNT) return const_oid_name_octets[index];
@@ -2849,7 +2849,7 @@ CONST_OID_NODISCARD static __inline const_oid_octets const_oid_from_name(const c
 
 /* The first name of an identifier, of its contents octets, in const_oid_names.h, or else here. Null if there is none,
  * as for invalid octets. */
-CONST_OID_NODISCARD CONST_OID_READS(1, 2) static __inline const char *const_oid_to_name(
+CONST_OID_NODISCARD CONST_OID_READS(1, 2) CONST_OID_INLINE const char *const_oid_to_name(
     const uint8_t *octets, size_t len) {
     static const char *none;
     size_t index = const_oid_name_of(octets, len);

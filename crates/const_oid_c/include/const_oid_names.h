@@ -13,8 +13,8 @@
  *   return the first.
  * - const_oid_by_name and const_oid_name_of, which return the index of the entry with a name or with octets.
  *
- * The arrays are static: each file that uses them has a copy of some 80 KB, or 150 if its code is position-independent,
- * so let one file use them. What is here is tested, not proved. */
+ * The arrays are static, but inline from C++17 on: each file in C that uses them has a copy of some 80 KB, or 150 if its
+ * code is position-independent, so let one file use them. What is here is tested, not proved. */
 #ifndef CONST_OID_NAMES_H
 #define CONST_OID_NAMES_H
 
@@ -42,7 +42,7 @@ extern "C++" template <size_t N> char (&const_oid_array(const uint8_t (&array)[N
  * invalid octets. It takes a string literal alone, and checks nothing: what equals valid octets is valid. Of two inputs,
  * or where a literal may be invalid, const_oid_is_equal is right. Each argument is evaluated once. */
 #define CONST_OID_IS(octets, len, constant) const_oid_is_constant(octets, len, CONST_OID_OCTETS(constant))
-CONST_OID_NODISCARD CONST_OID_READS(1, 2) CONST_OID_READS(3, 4) static __inline int const_oid_is_constant(
+CONST_OID_NODISCARD CONST_OID_READS(1, 2) CONST_OID_READS(3, 4) CONST_OID_INLINE int const_oid_is_constant(
     const uint8_t *octets, size_t len, const uint8_t *constant, size_t constant_len) {
     return len > 0 && len == constant_len && octets[len - 1] == constant[len - 1]
         && !CONST_OID_DIFFER(octets, constant, len);
@@ -1543,7 +1543,7 @@ CONST_OID_NODISCARD CONST_OID_READS(1, 2) CONST_OID_READS(3, 4) static __inline 
 
 #define CONST_OID_NAMES_COUNT 1492
 
-static const const_oid_octets const_oid_name_octets[CONST_OID_NAMES_COUNT] = {
+CONST_OID_TABLE const_oid_octets const_oid_name_octets[CONST_OID_NAMES_COUNT] = {
     {CONST_OID_OCTETS(CONST_OID_RFC4519_UID)}, {CONST_OID_OCTETS(CONST_OID_RFC4519_USER_ID)},
     {CONST_OID_OCTETS(CONST_OID_RFC1274_TEXT_ENCODED_OR_ADDRESS)}, {CONST_OID_OCTETS(CONST_OID_RFC4524_MAIL)},
     {CONST_OID_OCTETS(CONST_OID_RFC4524_RFC_822_MAILBOX)}, {CONST_OID_OCTETS(CONST_OID_RFC4524_INFO)},
@@ -2600,7 +2600,7 @@ static const const_oid_octets const_oid_name_octets[CONST_OID_NAMES_COUNT] = {
     {CONST_OID_OCTETS(CONST_OID_TCGTPM_TCG_KP_AIK_CERTIFICATE)},
 };
 
-static const char *const const_oid_names[CONST_OID_NAMES_COUNT] = {
+CONST_OID_TABLE char *const const_oid_names[CONST_OID_NAMES_COUNT] = {
     "uid", "userId", "textEncodedORAddress", "mail", "RFC822Mailbox", "info", "drink", "favouriteDrink", "roomNumber",
     "photo", "userClass", "host", "manager", "documentIdentifier", "documentTitle", "documentVersion", "documentAuthor",
     "documentLocation", "homePhone", "homeTelephone", "secretary", "otherMailbox", "lastModifiedTime", "lastModifiedBy",
@@ -2900,7 +2900,7 @@ static const char *const const_oid_names[CONST_OID_NAMES_COUNT] = {
 };
 
 /* The lengths of the names. */
-static const uint8_t const_oid_name_lens[CONST_OID_NAMES_COUNT] = {
+CONST_OID_TABLE uint8_t const_oid_name_lens[CONST_OID_NAMES_COUNT] = {
     3, 6, 20, 4, 13, 4, 5, 14, 10, 5, 9, 4, 7, 18, 13, 15, 14, 16, 9, 13, 9, 12, 16, 14, 2, 15, 7, 8, 8, 8, 9, 11, 16,
     14, 17, 13, 6, 21, 5, 20, 2, 19, 16, 20, 12, 20, 12, 10, 18, 21, 21, 17, 11, 5, 17, 9, 11, 11, 7, 8, 4, 14, 6, 15,
     9, 19, 15, 20, 17, 8, 19, 20, 8, 12, 18, 24, 4, 13, 13, 13, 14, 14, 14, 13, 11, 11, 11, 11, 11, 11, 11, 11, 11, 11,
@@ -2955,7 +2955,7 @@ static const uint8_t const_oid_name_lens[CONST_OID_NAMES_COUNT] = {
 
 /* The indexes of the entries by a hash of their names, each in the first slot that is free from its own on. Those with
  * one name are in the order of the table, and CONST_OID_NAMES_COUNT is in the slots that are free. */
-static const uint16_t const_oid_names_by_hash[2048] = {
+CONST_OID_TABLE uint16_t const_oid_names_by_hash[2048] = {
     1492, 1492, 1492, 1492, 177, 728, 459, 465, 1492, 393, 1492, 1492, 1492, 1163, 643, 139, 934, 935, 802, 1473, 1169,
     823, 824, 216, 1411, 910, 9, 113, 550, 669, 1108, 581, 977, 101, 432, 825, 1484, 81, 31, 1277, 539, 585, 742, 1366,
     782, 1139, 178, 952, 1079, 1492, 641, 1492, 1491, 99, 138, 720, 1492, 1492, 1492, 1492, 894, 1492, 1492, 868, 1492,
@@ -3057,7 +3057,7 @@ static const uint16_t const_oid_names_by_hash[2048] = {
 };
 
 /* The same by a hash of their octets. */
-static const uint16_t const_oid_octets_by_hash[2048] = {
+CONST_OID_TABLE uint16_t const_oid_octets_by_hash[2048] = {
     366, 514, 1095, 94, 1107, 1492, 1492, 1492, 1492, 1492, 840, 719, 720, 417, 841, 842, 636, 504, 1050, 78, 1158,
     1175, 1247, 1492, 861, 1454, 1492, 341, 1492, 1221, 1492, 1492, 480, 222, 550, 626, 811, 317, 1357, 198, 139, 759,
     1420, 38, 39, 1485, 1492, 1492, 462, 540, 1086, 932, 1492, 1492, 686, 965, 1026, 1492, 1492, 50, 327, 393, 1492,
@@ -3159,13 +3159,13 @@ static const uint16_t const_oid_octets_by_hash[2048] = {
 };
 
 /* Four bytes as a number. */
-static __inline uint32_t const_oid_word(const uint8_t *bytes) {
+CONST_OID_INLINE uint32_t const_oid_word(const uint8_t *bytes) {
     const uint32_t last = bytes[3];
     return ((last << 8 | bytes[2]) << 8 | bytes[1]) << 8 | bytes[0];
 }
 
 /* A slot by a hash of words, of which the last four bytes are one, or all of fewer. In each byte `bits` are set. */
-static __inline size_t const_oid_slot(const uint8_t *bytes, size_t len, uint32_t bits) {
+CONST_OID_INLINE size_t const_oid_slot(const uint8_t *bytes, size_t len, uint32_t bits) {
     uint32_t hash = 0, word = 0;
     size_t i;
     for (i = 0; i + 4 < len; i += 4) hash = (hash ^ (const_oid_word(bytes + i) | bits)) * 2654435769u;
@@ -3175,12 +3175,12 @@ static __inline size_t const_oid_slot(const uint8_t *bytes, size_t len, uint32_t
 }
 
 /* Whether two characters are one letter in both cases. */
-static __inline int const_oid_are_cases(char left, char right) {
+CONST_OID_INLINE int const_oid_are_cases(char left, char right) {
     return (left ^ right) == ('a' ^ 'A') && (left | right) >= 'a' && (left | right) <= 'z';
 }
 
 /* Whether two names of this length are the same, without the case of their letters. */
-static __inline int const_oid_is_same_name(const char *left, const char *right, size_t len) {
+CONST_OID_INLINE int const_oid_is_same_name(const char *left, const char *right, size_t len) {
     const uint8_t *a = CONST_OID_BYTES(left), *b = CONST_OID_BYTES(right);
     size_t i = 0;
     while (i + 4 <= len && const_oid_word(a + i) == const_oid_word(b + i)) i += 4;
@@ -3190,7 +3190,7 @@ static __inline int const_oid_is_same_name(const char *left, const char *right, 
 
 /* The index of the first entry of the table that has a name, which is null-terminated, whatever the case of its
  * ASCII letters. CONST_OID_NAMES_COUNT if there is none. */
-CONST_OID_NODISCARD static __inline size_t const_oid_by_name(const char *name) {
+CONST_OID_NODISCARD CONST_OID_INLINE size_t const_oid_by_name(const char *name) {
     size_t len = 0, slot, index;
 #ifdef __GNUC__ /* Of a literal the compiler knows it. */
     if (__builtin_constant_p(__builtin_strlen(name))) len = __builtin_strlen(name);
@@ -3206,11 +3206,11 @@ CONST_OID_NODISCARD static __inline size_t const_oid_by_name(const char *name) {
 
 /* The index of the first entry of an identifier, of its contents octets. CONST_OID_NAMES_COUNT if there is none, as for
  * invalid octets. */
-CONST_OID_NODISCARD CONST_OID_READS(1, 2) static __inline size_t const_oid_name_of(const uint8_t *octets, size_t len) {
+CONST_OID_NODISCARD CONST_OID_READS(1, 2) CONST_OID_INLINE size_t const_oid_name_of(const uint8_t *octets, size_t len) {
     size_t slot, index;
     for (slot = const_oid_slot(octets, len, 0);; slot++) {
         index = const_oid_octets_by_hash[slot % 2048];
-        if (index == CONST_OID_NAMES_COUNT || (const_oid_name_octets[index].len == len
+        if (index == CONST_OID_NAMES_COUNT || (len > 0 && const_oid_name_octets[index].len == len
             && !CONST_OID_DIFFER(const_oid_name_octets[index].octets, octets, len))) return index;
     }
 }

@@ -45,11 +45,14 @@ typedef struct {
 
 static const_oid_status status_of(uint32_t number) { return (const_oid_status){CONST_OID_OK, number, 0}; }
 
+/* Null, which a compiler warns of where it sees it. */
+static const void *volatile null;
+
 /* An argument as a function is given it. */
 #define IN(kind, i) a[i].items, a[i].len
 #define OUT(kind, i) (void *)a[i].items, a[i].len
 #define VALUE(kind, i) GIVEN_##kind(i)
-#define GIVEN_ITEM(i) a[i].items == NULL && a[i].len > 0 ? NULL : &(const_oid_octets){a[i].items, a[i].len}
+#define GIVEN_ITEM(i) a[i].items == NULL && a[i].len > 0 ? null : &(const_oid_octets){a[i].items, a[i].len}
 #define GIVEN_INDEX(i) a[i].len
 #define GIVEN_NUMBER(i) (uint32_t)a[i].len
 #define GIVEN_RANGE_OUT(i) (void *)a[i].items

@@ -1,6 +1,8 @@
 /* The programs of the page, ../README.md, whose blocks of C are page.c.inc: an SNMP agent, rules, and names. */
 #include "page.c.inc"
 
+#include <limits.h>
+
 static void get(const uint8_t *octets, size_t len) {
     const_oid_status found = const_oid_find(octets, len, names, count);
     if (found.code == CONST_OID_OK) {
@@ -26,6 +28,14 @@ static int decides(void) {
     static const uint8_t server[] = {0x2B, 6, 1, 5, 5, 7, 3, 1}, client[] = {0x2B, 6, 1, 5, 5, 7, 3, 2, 5};
     return sort_rules() && is_allowed(server, 8) && is_allowed(server, 7) && !is_allowed(server, 6)
         && !is_allowed(client, 8) && !is_allowed(client, 9) && !is_allowed(NULL, 0);
+}
+
+/* Whether an arc of 32 bits is appended, and a larger one is not, which C would cut to 3. */
+static int pushes(void) {
+    uint8_t out[7];
+    const uint32_t wanted = ULONG_MAX > UINT32_MAX ? CONST_OID_ARC_TOO_BIG : CONST_OID_OK;
+    return push_long((const uint8_t *)"*", 1, ULONG_MAX - 4, out, 7).code == wanted
+        && push_long((const uint8_t *)"*", 1, 3, out, 7).len == 2 && out[1] == 3;
 }
 
 int main(void) {
@@ -56,5 +66,6 @@ int main(void) {
     const_oid_octets rsa = octets_of("RSAEncryption");
     print_name(rsa.octets, rsa.len);
     /* rsaEncryption */
-    return is_rsa(rsa.octets, rsa.len) && octets_of("no name").len == 0 && decides() && reads_purposes() ? 0 : 1;
+    return is_rsa(rsa.octets, rsa.len) && octets_of("no name").len == 0 && decides() && reads_purposes() && pushes()
+        ? 0 : 1;
 }

@@ -13,7 +13,7 @@
 @TABLE@
 /* The contents octets of the first entry with a name, which is null-terminated, whatever the case of its ASCII letters,
  * in const_oid_names.h, or else here. Null with length 0 if there is none. */
-CONST_OID_NODISCARD static __inline const_oid_octets const_oid_from_name(const char *name) {
+CONST_OID_NODISCARD CONST_OID_INLINE const_oid_octets const_oid_from_name(const char *name) {
     static const_oid_octets none; /* null, in each C and C++ without a warning */
     size_t index = const_oid_by_name(name);
     if (index < CONST_OID_NAMES_COUNT) return const_oid_name_octets[index];
@@ -23,7 +23,7 @@ CONST_OID_NODISCARD static __inline const_oid_octets const_oid_from_name(const c
 
 /* The first name of an identifier, of its contents octets, in const_oid_names.h, or else here. Null if there is none,
  * as for invalid octets. */
-CONST_OID_NODISCARD CONST_OID_READS(1, 2) static __inline const char *const_oid_to_name(
+CONST_OID_NODISCARD CONST_OID_READS(1, 2) CONST_OID_INLINE const char *const_oid_to_name(
     const uint8_t *octets, size_t len) {
     static const char *none;
     size_t index = const_oid_name_of(octets, len);

@@ -12,8 +12,8 @@
  *   return the first.
  * - const_oid_by_name and const_oid_name_of, which return the index of the entry with a name or with octets.
  *
- * The arrays are static: each file that uses them has a copy of some 80 KB, or 150 if its code is position-independent,
- * so let one file use them. What is here is tested, not proved. */
+ * The arrays are static, but inline from C++17 on: each file in C that uses them has a copy of some 80 KB, or 150 if its
+ * code is position-independent, so let one file use them. What is here is tested, not proved. */
 #ifndef CONST_OID_NAMES_H
 #define CONST_OID_NAMES_H
 
@@ -41,7 +41,7 @@ extern "C++" template <size_t N> char (&const_oid_array(const uint8_t (&array)[N
  * invalid octets. It takes a string literal alone, and checks nothing: what equals valid octets is valid. Of two inputs,
  * or where a literal may be invalid, const_oid_is_equal is right. Each argument is evaluated once. */
 #define CONST_OID_IS(octets, len, constant) const_oid_is_constant(octets, len, CONST_OID_OCTETS(constant))
-CONST_OID_NODISCARD CONST_OID_READS(1, 2) CONST_OID_READS(3, 4) static __inline int const_oid_is_constant(
+CONST_OID_NODISCARD CONST_OID_READS(1, 2) CONST_OID_READS(3, 4) CONST_OID_INLINE int const_oid_is_constant(
     const uint8_t *octets, size_t len, const uint8_t *constant, size_t constant_len) {
     return len > 0 && len == constant_len && octets[len - 1] == constant[len - 1]
         && !CONST_OID_DIFFER(octets, constant, len);
@@ -50,28 +50,28 @@ CONST_OID_NODISCARD CONST_OID_READS(1, 2) CONST_OID_READS(3, 4) static __inline 
 @CONSTANTS@
 #define CONST_OID_NAMES_COUNT @COUNT@
 
-static const const_oid_octets const_oid_name_octets[CONST_OID_NAMES_COUNT] = {@OCTETS@};
+CONST_OID_TABLE const_oid_octets const_oid_name_octets[CONST_OID_NAMES_COUNT] = {@OCTETS@};
 
-static const char *const const_oid_names[CONST_OID_NAMES_COUNT] = {@NAMES@};
+CONST_OID_TABLE char *const const_oid_names[CONST_OID_NAMES_COUNT] = {@NAMES@};
 
 /* The lengths of the names. */
-static const uint8_t const_oid_name_lens[CONST_OID_NAMES_COUNT] = {@NAME_LENS@};
+CONST_OID_TABLE uint8_t const_oid_name_lens[CONST_OID_NAMES_COUNT] = {@NAME_LENS@};
 
 /* The indexes of the entries by a hash of their names, each in the first slot that is free from its own on. Those with
  * one name are in the order of the table, and CONST_OID_NAMES_COUNT is in the slots that are free. */
-static const uint16_t const_oid_names_by_hash[@SLOTS@] = {@BY_NAME@};
+CONST_OID_TABLE uint16_t const_oid_names_by_hash[@SLOTS@] = {@BY_NAME@};
 
 /* The same by a hash of their octets. */
-static const uint16_t const_oid_octets_by_hash[@SLOTS@] = {@BY_OCTETS@};
+CONST_OID_TABLE uint16_t const_oid_octets_by_hash[@SLOTS@] = {@BY_OCTETS@};
 
 /* Four bytes as a number. */
-static __inline uint32_t const_oid_word(const uint8_t *bytes) {
+CONST_OID_INLINE uint32_t const_oid_word(const uint8_t *bytes) {
     const uint32_t last = bytes[3];
     return ((last << 8 | bytes[2]) << 8 | bytes[1]) << 8 | bytes[0];
 }
 
 /* A slot by a hash of words, of which the last four bytes are one, or all of fewer. In each byte `bits` are set. */
-static __inline size_t const_oid_slot(const uint8_t *bytes, size_t len, uint32_t bits) {
+CONST_OID_INLINE size_t const_oid_slot(const uint8_t *bytes, size_t len, uint32_t bits) {
     uint32_t hash = 0, word = 0;
     size_t i;
     for (i = 0; i + 4 < len; i += 4) hash = (hash ^ (const_oid_word(bytes + i) | bits)) * 2654435769u;
@@ -81,12 +81,12 @@ static __inline size_t const_oid_slot(const uint8_t *bytes, size_t len, uint32_t
 }
 
 /* Whether two characters are one letter in both cases. */
-static __inline int const_oid_are_cases(char left, char right) {
+CONST_OID_INLINE int const_oid_are_cases(char left, char right) {
     return (left ^ right) == ('a' ^ 'A') && (left | right) >= 'a' && (left | right) <= 'z';
 }
 
 /* Whether two names of this length are the same, without the case of their letters. */
-static __inline int const_oid_is_same_name(const char *left, const char *right, size_t len) {
+CONST_OID_INLINE int const_oid_is_same_name(const char *left, const char *right, size_t len) {
     const uint8_t *a = CONST_OID_BYTES(left), *b = CONST_OID_BYTES(right);
     size_t i = 0;
     while (i + 4 <= len && const_oid_word(a + i) == const_oid_word(b + i)) i += 4;
@@ -96,7 +96,7 @@ static __inline int const_oid_is_same_name(const char *left, const char *right, 
 
 /* The index of the first entry of the table that has a name, which is null-terminated, whatever the case of its
  * ASCII letters. CONST_OID_NAMES_COUNT if there is none. */
-CONST_OID_NODISCARD static __inline size_t const_oid_by_name(const char *name) {
+CONST_OID_NODISCARD CONST_OID_INLINE size_t const_oid_by_name(const char *name) {
     size_t len = 0, slot, index;
 #ifdef __GNUC__ /* Of a literal the compiler knows it. */
     if (__builtin_constant_p(__builtin_strlen(name))) len = __builtin_strlen(name);
@@ -112,11 +112,11 @@ CONST_OID_NODISCARD static __inline size_t const_oid_by_name(const char *name) {
 
 /* The index of the first entry of an identifier, of its contents octets. CONST_OID_NAMES_COUNT if there is none, as for
  * invalid octets. */
-CONST_OID_NODISCARD CONST_OID_READS(1, 2) static __inline size_t const_oid_name_of(const uint8_t *octets, size_t len) {
+CONST_OID_NODISCARD CONST_OID_READS(1, 2) CONST_OID_INLINE size_t const_oid_name_of(const uint8_t *octets, size_t len) {
     size_t slot, index;
     for (slot = const_oid_slot(octets, len, 0);; slot++) {
         index = const_oid_octets_by_hash[slot % @SLOTS@];
-        if (index == CONST_OID_NAMES_COUNT || (const_oid_name_octets[index].len == len
+        if (index == CONST_OID_NAMES_COUNT || (len > 0 && const_oid_name_octets[index].len == len
             && !CONST_OID_DIFFER(const_oid_name_octets[index].octets, octets, len))) return index;
     }
 }
