@@ -1,6 +1,6 @@
 //! Names of identifiers, by a table that the caller holds.
 
-ghost use Rattle.std.specs.Prelude.{◌≡◌, ◌↔◌, ◌^◌, ◌≤◌, IsTrue, length, nat_eq};
+ghost use Rattle.std.specs.Prelude.{◌≡◌, ◌↔◌, ◌^◌, ◌<◌, ◌≤◌, IsTrue, length, nat_eq};
 ghost use Rattle.std.specs.Cmp.Lexicographic.{pointwise};
 ghost use Rattle.std.specs.Iterator.{YieldsFirst, item_count};
 ghost use Rattle.std.proofs.Props.{props};
@@ -65,7 +65,9 @@ impl<'a> Database<'a> {
     pub(crate) const fn linked(self, oid_links: &'a [u16], name_links: &'a [u16]) -> Self
         requires by_oid { AreLinks (key_of Key.Oid) (entries_of self) oid_links.now }
         requires by_name { AreLinks (key_of Key.Name) (entries_of self) name_links.now }
-        ensures { entries_of result ≡ entries_of self.entry }
+        ensures entries { entries_of result ≡ entries_of self.entry }
+        ensures indexed { let count = length (entries_of self.entry) in
+            count < length oid_links.now → count < length name_links.now → IsIndexed result }
     {
         Database {
             entries: self.entries,

@@ -1,5 +1,5 @@
 //! What a function returns besides its output, and the version of the library.
-ghost use Rattle.std.specs.Prelude.{◌≡◌, ◌<◌};
+ghost use Rattle.std.specs.Prelude.{◌≡◌, ◌+◌, ◌*◌, ◌<◌};
 ghost use Rattle.const_oid_c.specs.Status.{error_status, fault_at, code_status, len_status, number_status, too_short_status, flag_status, order_number, order_status};
 
 use const_oid::Error;
@@ -170,7 +170,7 @@ const VERSION: u32 = (1 << 16) + (5 << 8);
 /// The version of the library.
 #[unsafe(no_mangle)]
 pub extern "C" fn const_oid_version() -> u32
-    ensures { result ≡ VERSION }
+    ensures { result ≡ 65536 * 1 + 256 * 4 }
 {
     VERSION
 }
