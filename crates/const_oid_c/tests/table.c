@@ -114,6 +114,18 @@ static void find_octets_like(const_oid_octets of) {
     SEE(nearest == const_oid_name_of(of.octets, of.len), nearest);
 }
 
+/* Octets that are longer than a name's by so many, and begin with them, are none, even in the name's place. */
+static void find_longer(const_oid_octets of, size_t more) {
+    static uint8_t octets[32 + 65536];
+    const size_t len = of.len + more, place = const_oid_place(of.octets, of.len, 0);
+    memset(octets, 1, len);
+    memcpy(octets, of.octets, of.len);
+    for (unsigned end = 0; const_oid_place(octets, len, 0) != place; end++) {
+        octets[len - 2] = end >> 7 & 0x7F, octets[len - 1] = end & 0x7F;
+    }
+    SEE(const_oid_name_of(octets, len) == count, more);
+}
+
 int main(void) {
     SEE(count == CONST_OID_NAMES_COUNT, count);
     SEE(const_oid_check_sorted(const_oid_name_octets, count).code == CONST_OID_OK, count);
@@ -131,6 +143,7 @@ int main(void) {
         SEE(strcmp(const_oid_names[i], rows[i].name) == 0, i);
         find_like(i);
         find_octets_like(rows[i].octets);
+        if (i % 99 == 0) find_longer(rows[i].octets, 256), find_longer(rows[i].octets, 65536);
     }
     SEE(const_oid_name_of(NULL, 0) == count && const_oid_name_of((const uint8_t *)"\x80", 1) == count, 0);
     SEE(const_oid_by_name("") == count && const_oid_by_name("zz") == count && const_oid_by_name("\xC3") == count, 0);

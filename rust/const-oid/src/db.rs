@@ -193,6 +193,9 @@ fn links_are_made_where_they_help() {
         assert_eq!((table.oid_links.len(), table.name_links.len()), (0, made), "{names} {len}");
         assert_eq!(table.name_links.as_ptr() == had.as_ptr(), made == before, "{names} {len}");
     }
+    for links in [DB.oid_links, DB.name_links] {
+        assert!((500..600).contains(&(links.len() - DB.len())), "some 500 slots");
+    }
     for count in [100, 101, 255, 256, 257, 1_000, 1_500] {
         for (alike, made) in [(0, 2 * count), (count / 5, 2 * count), (count / 4 + 3, 0)] {
             let entry = |index| if index < alike { ENTRIES[0] } else { ENTRIES[index % ENTRIES.len()] };

@@ -569,6 +569,11 @@ fn check_pair(a: &[u8], b: &[u8]) {
 /// late. And those of which one begins with the other.
 #[test]
 fn compares_long_pairs() {
+    let long = [&[0x2A][..], &[1; 65_540]].concat();
+    for more in [256, 65_536] {
+        check_pair(&long[..5], &long[..5 + more]);
+        check_pair(&long[..5 + more], &long[..5]);
+    }
     for len in (2..=130).chain([255, 256, 1_001, 4_097, 70_000]) {
         for group in [&[1][..], &[0x81, 1], &[0x8F, 0xFF, 0xFF, 0xFF, 0x7F]] {
             let octets: Vec<u8> = [0x2A].into_iter().chain(group.iter().copied().cycle()).take(len).collect();
@@ -770,6 +775,16 @@ fn parses_texts() {
             each_capacity!(read_text(&text));
         },
     );
+}
+
+/// What callers forget to remove is part of a text, wherever it is.
+#[test]
+fn rejects_more_around_a_text() {
+    for more in ["\n", "\t", "\0", " ", "urn:oid:"] {
+        for text in [format!("{more}1.2.3"), format!("1.{more}2"), format!("1.2.3{more}")] {
+            check_text(&text);
+        }
+    }
 }
 
 #[test]

@@ -80,6 +80,7 @@ constants! { (buffer: &Buffer<7>)
     ObjectIdentifierRef::as_bytes(CN.as_oid_ref());
     ObjectIdentifierRef::starts_with(CN.as_oid_ref(), CN.as_oid_ref());
     ObjectIdentifierRef::cmp_arcs(CN.as_oid_ref(), CN.as_oid_ref());
+    ByArcs::of(CN.as_oid_ref());
     Buffer::as_bytes(buffer);
     Buffer::len(buffer);
     Buffer::eq(buffer, buffer);

@@ -70,6 +70,15 @@ fn compare((path, text): &File) -> io::Result<()> {
     if is_same { Ok(()) } else { Err(io::Error::other("not what erase generates")) }
 }
 
+/// A file that is to go is told as one that differs is, until it is gone.
+#[test]
+fn tells_of_files_that_are_to_go() {
+    let files = ["rust/Cargo.toml", "rust/none"].map(|path| (path.into(), None));
+    let said = "rust/Cargo.toml: not what erase generates";
+    assert_eq!(summary(&files, "are as generated", compare), Err(said.into()));
+    assert_eq!(summary(&files[1..], "are as generated", compare), Ok("erase: 0 files are as generated".into()));
+}
+
 /// The files to write and to remove, or the first fault of a source, or those of all edits.
 fn generated() -> Result<Vec<File>> {
     let mut files = Vec::new();
