@@ -1,19 +1,22 @@
 //! Octets and identifiers in outputs of the caller.
 
-ghost use Rattle.std.specs.Prelude.{◌≡◌, ◌≢◌, ◌*◌, ◌≤◌, [], length, Err, IfErr, IfOk, MatchOption, MatchResult, Ok};
-ghost use Rattle.const_oid.specs.Contents.{size_answer};
+ghost use Rattle.std.specs.Prelude.{◌≡◌, ◌≢◌, ◌*◌, ◌<◌, ◌≤◌, [], length, Err, IfErr, IfOk, MatchOption, MatchResult, Ok};
+ghost use Rattle.std.specs.Result.{result_err};
+ghost use Rattle.const_oid.specs.Contents.{arcs_of_octets, borrowed_capacity, octet_fault, size_answer};
 ghost use Rattle.const_oid.specs.Identifier.{root_rule, default_capacity};
 ghost use Rattle.const_oid.specs.Items.{item_answer};
 ghost use Rattle.const_oid.specs.OidRef.{ref_arcs, ref_slice};
-ghost use Rattle.const_oid.specs.Output.{WritesEncoding};
+ghost use Rattle.const_oid.specs.Output.{IsEncodedIn, WritesAll, WritesEncoding};
 ghost use Rattle.const_oid.specs.Text.{components_of, text_answer, wrong_index};
 
 use crate::Arc;
+use crate::base128::{checked_group, group_fault};
 use crate::buffer::DEFAULT_CAPACITY;
 use crate::encoder::{ONE_PASS_ARCS, encode, encode_in_one_pass};
 use crate::error::{Error, Result};
 use crate::oid_ref::ObjectIdentifierRef;
 use crate::parser::{ONE_PASS_BYTES, fault_and_index, parse, parse_in_one_pass, parse_inlined};
+use crate::root::{MAX_FIRST, split_root};
 use std::result;
 
 /// Counts the contents octets of the identifier that dotted text in ASCII denotes, of any length. They are no more
@@ -106,4 +109,54 @@ pub fn from_ascii_in_39<'a>(
         Ok(len) => Ok(ObjectIdentifierRef::from_checked(&out[..len])),
         Err(wrong) => Err(fault_and_index(text, wrong)),
     }
+}
+
+/// Parses dotted text in ASCII, and counts the contents octets of its identifier. If `out` has room for a capacity, they
+/// are written to its start. On `Err`, such an `out` may be changed.
+///
+/// # Errors
+///
+/// Those of [`from_ascii_in_39`], with [`Error::Length`] if there are more octets than the capacity.
+#[inline(never)]
+pub fn parse_or_index(
+    text: &[u8],
+    out: &mut [u8],
+    capacity: usize,
+) -> result::Result<usize, (Error, Option<usize>)>
+    ensures written { let answer = text_answer root_rule text.now capacity in
+        MatchResult result (IsEncodedIn capacity answer out.old out.new) (λ fault. answer ≡ Err fault.0) }
+    ensures index { IfErr result (λ fault. MatchOption fault.1 (fault.0 ≡ Error.Length)
+        (λ index. (fault.0 ≢ Error.Length) × (index ≡ wrong_index [] (components_of text.now)))) }
+{
+    parse_inlined(text, out, capacity).map_err(|wrong| fault_and_index(text, wrong))
+}
+
+/// Decodes contents octets as [`from_bytes`](crate::ObjectIdentifierRef::from_bytes) does, and writes their arcs to the
+/// start of `out` in the same pass. Returns how many there are, at most one more than the octets. On `Err`, `out` may be
+/// changed.
+#[inline(always)]
+pub fn arcs_from_bytes(ber: &[u8], out: &mut [Arc]) -> Result<usize>
+    requires { length ber.now < length out.old }
+    ensures fault { result_err result ≡ octet_fault root_rule ber.now borrowed_capacity }
+    ensures written { IfOk result (WritesAll (arcs_of_octets ber.now) out.old out.new) }
+{
+    if ber.is_empty() {
+        return Err(Error::Empty);
+    }
+    let Some((root, mut rest)) = checked_group(ber, MAX_FIRST) else {
+        return Err(group_fault(ber, MAX_FIRST));
+    };
+    let (first, second) = split_root(root);
+    out[0] = first;
+    out[1] = second;
+    let mut len = 2;
+    while !rest.is_empty() {
+        let Some((arc, after)) = checked_group(rest, Arc::MAX as u64) else {
+            return Err(group_fault(rest, Arc::MAX as u64));
+        };
+        out[len] = arc as Arc;
+        len += 1;
+        rest = after;
+    }
+    Ok(len)
 }

@@ -1,10 +1,10 @@
--- A result at the default capacity is the result at 255 octets, unless it is the fault `Length`.
+-- A result at a capacity is the result at a greater one, unless it is the fault `Length`.
 use Rattle.std.proofs.Common.{◌≡◌, ◌≢◌, ℕ, ◌≤◌, List, [], ◌∷◌, ◌++◌, refl, arith, Ok, Err, ap, sym, ◌∙◌}
 use Rattle.std.specs.Prelude.{Option, Some, Result}
 use Rattle.std.proofs.lemmas.Bool.Decides.{nat_tests}
 use Rattle.const_oid.specs.declared.error.Error.{Error}
 use Rattle.const_oid.specs.declared.error.Error.TheVariants.{Length}
-use Rattle.const_oid.specs.Identifier.{root_rule, default_capacity, IsEncoding}
+use Rattle.const_oid.specs.Identifier.{root_rule, IsEncoding}
 use Rattle.const_oid.specs.Items.{arc_fault, items_fault, item_answer}
 use Rattle.const_oid.specs.Text.{component_fault, components_fault, components_of, number_of, text_answer}
 use Rattle.const_oid.proofs.Ascii.{answer_utf8}
@@ -51,9 +51,18 @@ module _ (low high : ℕ) (less : low ≤ high) where
   pub same_arcs : (arcs : List ℕ) → IsSameAnswer (item_answer root_rule arcs)
   same_arcs arcs other = grind (arith, same_items [] arcs)
 
-pub small_text : (text arcs octets : List ℕ) → IsEncoding root_rule arcs octets
-    → Ok arcs ≡ text_answer root_rule text default_capacity → Ok octets ≡ octets_of_text text
-small_text text arcs octets encoding answer =
-    let other : text_answer root_rule text default_capacity ≢ Err Length = λ same. cc in
-    let large = sym (same_text default_capacity max_len (omega arith) text other) ∙ sym answer in
-    rw (answer_utf8 root_rule default_capacity text arcs (sym answer), large) (ap Ok (sym (encoding_of-encoded encoding)))
+module _ (capacity : ℕ) (less : capacity ≤ max_len) (text : List ℕ) where
+  -- the octets of a text that fit a capacity
+  pub fitting_text : (arcs octets : List ℕ) → IsEncoding root_rule arcs octets → text_answer root_rule text capacity ≡ Ok arcs
+      → Ok octets ≡ octets_of_text text
+  fitting_text arcs octets encoding answer =
+      let other : text_answer root_rule text capacity ≢ Err Length = λ same. cc in
+      let large = sym (same_text capacity max_len less text other) ∙ answer in
+      rw (answer_utf8 root_rule capacity text arcs answer, large) (ap Ok (sym (encoding_of-encoded encoding)))
+
+  -- a fault but `Length`
+  pub wrong_text : {fault : Error} → fault ≢ Length → text_answer root_rule text capacity ≡ Err fault
+      → text_answer root_rule text max_len ≡ Err fault
+  wrong_text other answer =
+      let not_long : text_answer root_rule text capacity ≢ Err Length = λ same. other cc in
+      sym (same_text capacity max_len less text not_long) ∙ answer

@@ -241,7 +241,7 @@ static void with_huge_outputs(void) {
     for (int i = 0; i < CUTS; i++) {
         if (!has(output_pages.len, cuts[i], size)) continue;
         a[out] = (argument){output_pages.start, (size_t)cuts[i] + 1};
-        memset(output_pages.start, UNWRITTEN, 4096);
+        memset(output_pages.start, UNWRITTEN, 8192);
         check();
     }
 }
@@ -339,7 +339,8 @@ static void with(int lead, const void *items, size_t len) {
 }
 
 /* Each length up to 66, those around the sizes of the library and the ends of 8 and 16 bits, and a huge one. */
-static const size_t lens[] = {127, 128, 129, 254, 255, 256, 257, 258, 300, 515, 65535, 65536, 65539, 65540, 200003};
+static const size_t lens[] = {127, 128, 129, 156, 157, 254, 255, 256, 257, 258, 300, 515, 1020, 1021, 65535, 65536, 65539,
+    65540, 200003};
 enum { SHORT = 67, LENS = SHORT + sizeof lens / sizeof *lens };
 
 static size_t len_at(int i) { return i < SHORT ? (size_t)i : lens[i - SHORT]; }
@@ -451,10 +452,24 @@ static void vary_identifiers(int lead, enum kind kind) {
     }
 }
 
+/* Octets of each length up to 40, in which each in turn is 0x80, 0x7F or 0xFF. */
+static void vary_each(int lead) {
+    static const uint8_t edges[] = {0x80, 0x7F, 0xFF};
+    uint8_t octets[40];
+    for (size_t len = 0; len <= sizeof octets; len++) {
+        for (size_t i = 0; i < 3 * 4 * len; i++) {
+            fill_octets(octets, len, i % 4);
+            octets[i / 12] = edges[i / 4 % 3];
+            with(lead, octets, len);
+        }
+    }
+}
+
 static void vary_array(int lead, enum kind kind) {
     static uint32_t items[MOST];
     with(lead, NULL, 0);
     vary_identifiers(lead, kind);
+    if (kind == OCTETS) vary_each(lead);
     for (int i = 0; i < LENS; i++) {
         for (int form = 0; form < fillings[kind].forms; form += len_at(i) > 1000 ? 2 : 1) {
             fillings[kind].fill(items, len_at(i), form);

@@ -59,10 +59,15 @@ pub(crate) unsafe fn output<'a, T>(items: *mut T, len: usize) -> &'a mut Output<
     unsafe { slice::from_raw_parts_mut(items.cast(), len) }
 }
 
+/// Items as those of an output.
+pub(crate) fn written<T>(items: &[T]) -> &Output<T> {
+    // SAFETY: a written item is an item that may be written, and the slice is as long.
+    unsafe { slice::from_raw_parts(items.as_ptr().cast(), items.len()) }
+}
+
 /// Copies bytes to the start of an output, which is long enough.
 pub(crate) fn copy(bytes: &[u8], out: &mut Output<u8>) {
-    // SAFETY: a written byte is a byte that may be written, and the slice is as long.
-    let bytes = unsafe { slice::from_raw_parts(bytes.as_ptr().cast(), bytes.len()) };
+    let bytes = written(bytes);
     let out = &mut out[..bytes.len()];
     // Two copies, which may overlap, are fewer instructions than a call.
     match bytes.len() {

@@ -10,7 +10,7 @@ const MAX_ERROR_TEXT: usize = 47;
 /// longer than the output, which is then unchanged.
 pub(crate) fn encode(oid: &ObjectIdentifierRef, out: &mut Output<u8>) -> Option<usize> {
     let out = out.get_mut(..oid.text_len())?;
-    oid.encode_text(zeroed(out))
+    Some(internal_for_const_oid_c::write_text(oid, zeroed(out)))
 }
 
 /// Writes the element of an identifier as `encode` writes its text.
@@ -19,10 +19,9 @@ pub(crate) fn write_element(oid: &ObjectIdentifierRef, out: &mut Output<u8>) -> 
     oid.write_element(zeroed(out))
 }
 
-/// Writes the octets of a text at the start of an output, and returns how many. On an error it is unchanged.
-pub(crate) fn bytes_from_ascii(text: &[u8], out: &mut Output<u8>) -> Result<usize> {
-    let len = outputs::bytes_len_from_ascii(text, out.len())?;
-    internal_for_const_oid_c::parse(text, zeroed(&mut out[..len]), len)
+/// Writes the octets of a text, which are so many, at the start of an output.
+pub(crate) fn write_parsed(text: &[u8], out: &mut Output<u8>, len: usize) {
+    let _ = outputs::parse_or_index(text, zeroed(&mut out[..len]), len);
 }
 
 /// Writes the octets of arcs at the start of an output, and returns how many. On an error it is unchanged.

@@ -5,7 +5,7 @@ pub use crate::erased::{Arcs, Error, ObjectIdentifier, ObjectIdentifierRef, Oid,
 pub use crate::erased::{outputs, search};
 
 use crate::Arc;
-use crate::erased::{encoder, parser};
+use crate::erased::{encoder, text};
 
 /// Prints octets as it checks them.
 #[inline(always)]
@@ -13,9 +13,10 @@ pub fn text_from_bytes(ber: &[u8], out: &mut [u8]) -> Option<Result<usize>> {
     ObjectIdentifierRef::text_from_bytes(ber, out)
 }
 
-/// Writes the octets of a text in one pass. On an error, `out` may be changed.
-pub fn parse(text: &[u8], out: &mut [u8], capacity: usize) -> Result<usize> {
-    parser::parse(text, out, capacity)
+/// Writes the text of an identifier, for which there is room.
+#[inline(always)]
+pub fn write_text(oid: &ObjectIdentifierRef, out: &mut [u8]) -> usize {
+    text::write_text(oid.as_bytes(), out)
 }
 
 /// Writes the octets of arcs in one pass. On an error, `out` may be changed.

@@ -45,7 +45,7 @@ pub const CRATES: &[Crate] = &[
                 "they are of a feature";
             "lib": "pub(crate) mod links;" => "#[cfg(feature = \"db\")] pub(crate) mod links;", "as above";
             "lib": "mod encoder;" => "pub(crate) mod encoder;", FOR_C;
-            "lib": "mod parser;" => "pub(crate) mod parser;", FOR_C;
+            "lib": "mod text;" => "pub(crate) mod text;", FOR_C;
             "oid_ref": "#[derive(Copy, Clone, Eq, Hash)] pub struct ObjectIdentifierRef<'a> { pub ber: &'a [u8], }"
                 => "#[derive(Eq, Hash)]\n#[repr(transparent)]\npub struct ObjectIdentifierRef {\n ber: [u8],\n}", UNSIZED;
             "oid_ref": "// erase: another body
@@ -183,8 +183,9 @@ pub const CRATES: &[Crate] = &[
             "output": "out[..first.len()].copy_from_slice(first); out[first.len()..len].copy_from_slice(rest);"
                 => "crate::edge::copy(first, out); crate::edge::copy(rest, &mut out[first.len()..]);", UNWRITTEN;
             "arcs": "out[index] = arc;" => "out[index].write(arc);", UNWRITTEN;
+            "arcs": "out[..len].copy_from_slice(&arcs[..len]);" => "out[..len].copy_from_slice(crate::edge::written(&arcs[..len]));", UNWRITTEN;
             "texts": "oid.encode_text(out)" => "crate::outputs::encode(oid, out)", UNWRITTEN;
-            "texts": "outputs::bytes_from_ascii(text, out)" => "crate::outputs::bytes_from_ascii(text, out)", UNWRITTEN;
+            "texts": "let _ = outputs::parse_or_index(text, out, len);" => "crate::outputs::write_parsed(text, out, len);", UNWRITTEN;
             "arcs": "outputs::bytes_from_arcs(arcs, out)" => "crate::outputs::bytes_from_arcs(arcs, out)", UNWRITTEN;
             "errors": "error.encode_text(out)" => "crate::outputs::encode_error(error, out)", UNWRITTEN;
         },

@@ -68,7 +68,21 @@ pub(crate) fn encoded<const N: usize>(arcs: &[u32]) -> Result<ObjectIdentifier<N
 }
 
 /// Writes all arcs of contents octets of any length.
+///
+/// The octets are checked as they are read, so the arcs are made on the stack: on an error the output is unchanged.
 pub fn const_oid_arcs(octets: &[u8], out: &mut crate::edge::Output<u32>) -> Status {
+    if octets.len() <= Oid::MAX_SIZE {
+        return write_arcs_by(octets, &mut [0; Oid::MAX_SIZE + 1], out);
+    }
+    arcs_past_39_octets(octets, out)
+}
+
+/// Writes all arcs of contents octets of any length. More than 255 octets are read twice.
+#[inline(never)]
+extern "C" fn arcs_past_39_octets(octets: &[u8], out: &mut crate::edge::Output<u32>) -> Status {
+    if octets.len() <= MAX_OCTETS {
+        return write_arcs_by(octets, &mut [0; MAX_OCTETS + 1], out);
+    }
     let oid = match ObjectIdentifierRef::from_bytes(octets) {
         Ok(oid) => oid,
         Err(fault) => return error_status(fault),
@@ -78,6 +92,20 @@ pub fn const_oid_arcs(octets: &[u8], out: &mut crate::edge::Output<u32>) -> Stat
         return too_short_status(len);
     }
     write_arcs(oid.arcs(), out);
+    len_status(len)
+}
+
+/// Writes all arcs of contents octets, made in a part of the stack that has more items than there are octets.
+#[inline(never)]
+extern "C" fn write_arcs_by(octets: &[u8], arcs: &mut [u32], out: &mut crate::edge::Output<u32>) -> Status {
+    let len = match outputs::arcs_from_bytes(octets, arcs) {
+        Ok(len) => len,
+        Err(fault) => return error_status(fault),
+    };
+    if len > out.len() {
+        return too_short_status(len);
+    }
+    out[..len].copy_from_slice(crate::edge::written(&arcs[..len]));
     len_status(len)
 }
 
@@ -99,7 +127,8 @@ fn skip_arcs(arcs: Arcs<'_>, count: usize) -> Arcs<'_> {
 }
 
 /// Writes arcs at the start of a slice, as many as fit, and returns their number.
-fn write_arcs(arcs: Arcs<'_>, out: &mut crate::edge::Output<u32>) -> usize {
+#[inline(never)]
+extern "C" fn write_arcs(arcs: Arcs<'_>, out: &mut crate::edge::Output<u32>) -> usize {
     let mut index = 0;
     for arc in arcs {
         if index == out.len() {

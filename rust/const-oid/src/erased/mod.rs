@@ -24,11 +24,11 @@ pub mod oid;
 pub mod oid_ref;
 // Its functions are for the other crates, and so are those of `search`: Rust hides them.
 pub mod outputs;
-pub(crate) mod parser;
+mod parser;
 mod parts;
 mod root;
 pub mod search;
-mod text;
+pub(crate) mod text;
 mod valid;
 
 pub use arcs::Arcs;

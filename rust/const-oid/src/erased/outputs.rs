@@ -3,11 +3,13 @@
 //! Octets and identifiers in outputs of the caller.
 
 use crate::erased::Arc;
+use crate::erased::base128::{checked_group, group_fault};
 use crate::erased::buffer::DEFAULT_CAPACITY;
 use crate::erased::encoder::{ONE_PASS_ARCS, encode, encode_in_one_pass};
 use crate::erased::error::{Error, Result};
 use crate::erased::oid_ref::ObjectIdentifierRef;
 use crate::erased::parser::{ONE_PASS_BYTES, fault_and_index, parse, parse_in_one_pass, parse_inlined};
+use crate::erased::root::{MAX_FIRST, split_root};
 use core::result;
 
 /// Counts the contents octets of the identifier that dotted text in ASCII denotes, of any length. They are no more
@@ -79,4 +81,42 @@ pub fn from_ascii_in_39<'a>(
         Ok(len) => Ok(ObjectIdentifierRef::from_checked(&out[..len])),
         Err(wrong) => Err(fault_and_index(text, wrong)),
     }
+}
+
+/// Parses dotted text in ASCII, and counts the contents octets of its identifier. If `out` has room for a capacity, they
+/// are written to its start. On `Err`, such an `out` may be changed.
+///
+/// # Errors
+///
+/// Those of [`from_ascii_in_39`], with [`Error::Length`] if there are more octets than the capacity.
+#[inline(never)]
+#[must_use]
+pub fn parse_or_index(text: &[u8], out: &mut [u8], capacity: usize) -> result::Result<usize, (Error, Option<usize>)> {
+    parse_inlined(text, out, capacity).map_err(|wrong| fault_and_index(text, wrong))
+}
+
+/// Decodes contents octets as [`from_bytes`](crate::ObjectIdentifierRef::from_bytes) does, and writes their arcs to the
+/// start of `out` in the same pass. Returns how many there are, at most one more than the octets. On `Err`, `out` may be
+/// changed.
+#[inline(always)]
+pub fn arcs_from_bytes(ber: &[u8], out: &mut [Arc]) -> Result<usize> {
+    if ber.is_empty() {
+        return Err(Error::Empty);
+    }
+    let Some((root, mut rest)) = checked_group(ber, MAX_FIRST) else {
+        return Err(group_fault(ber, MAX_FIRST));
+    };
+    let (first, second) = split_root(root);
+    out[0] = first;
+    out[1] = second;
+    let mut len = 2;
+    while !rest.is_empty() {
+        let Some((arc, after)) = checked_group(rest, Arc::MAX as u64) else {
+            return Err(group_fault(rest, Arc::MAX as u64));
+        };
+        out[len] = arc as Arc;
+        len += 1;
+        rest = after;
+    }
+    Ok(len)
 }

@@ -1,30 +1,53 @@
 use Rattle.std.proofs.Common.{ap, arith, length, sym, ◌∙◌}
 use Rattle.const_oid_c.specs.Status.{output_status, output_after}
-use Rattle.const_oid_c.proofs.{Rooms.{text_enough, text_no_length}, Capacities.small_text}
+use Rattle.const_oid_c.proofs.{Rooms.{text_enough, text_no_length}, Capacities.{fitting_text, wrong_text}}
 use Rattle.const_oid_c.proofs.texts.const_oid_from_text.Goals as goal
 
+pub returns-then-text-clause-enough : goal.returns-then-text-clause-enough
+returns-then-text-clause-enough c =
+    text_enough (length c.args.out.now) c.args.text.now (omega arith) c.read_long_text.ensures.status
+
+pub returns-then-text-clause-no_length : goal.returns-then-text-clause-no_length
+returns-then-text-clause-no_length c =
+    text_no_length (length c.args.out.now) c.args.text.now (omega arith) c.read_long_text.ensures.status
+
 pub returns-in-Ok-clause-status : goal.returns-in-Ok-clause-status
-returns-in-Ok-clause-status c = c.write_bytes.ensures.status ∙ ap (output_status (length c.args.out.now))
-    (small_text c.args.text.now _ c.as_bytes.result.now c.as_bytes.ensures.encoding (sym c.in-Ok.ensures.answer))
+returns-in-Ok-clause-status c =
+    let made = fitting_text 39 (omega arith) c.args.text.now _ _ c.as_bytes.ensures.encoding c.in-Ok.ensures.answer in
+    c.write_bytes.ensures.status ∙ ap (output_status (length c.args.out.now)) made
 
 pub returns-in-Ok-clause-written : goal.returns-in-Ok-clause-written
-returns-in-Ok-clause-written c = c.write_bytes.ensures.written ∙ ap (output_after c.args.out.now)
-    (small_text c.args.text.now _ c.as_bytes.result.now c.as_bytes.ensures.encoding (sym c.in-Ok.ensures.answer))
+returns-in-Ok-clause-written c =
+    let made = fitting_text 39 (omega arith) c.args.text.now _ _ c.as_bytes.ensures.encoding c.in-Ok.ensures.answer in
+    c.write_bytes.ensures.written ∙ ap (output_after c.args.out.now) made
 
 pub returns-in-Ok-clause-enough : goal.returns-in-Ok-clause-enough
-returns-in-Ok-clause-enough c = text_enough (length c.args.out.now) c.args.text.now (omega arith)
-    (c.write_bytes.ensures.status ∙ ap (output_status (length c.args.out.now))
-    (small_text c.args.text.now _ c.as_bytes.result.now c.as_bytes.ensures.encoding (sym c.in-Ok.ensures.answer)))
+returns-in-Ok-clause-enough c =
+    let made = fitting_text 39 (omega arith) c.args.text.now _ _ c.as_bytes.ensures.encoding c.in-Ok.ensures.answer in
+    text_enough (length c.args.out.now) c.args.text.now (omega arith)
+    (c.write_bytes.ensures.status ∙ ap (output_status (length c.args.out.now)) made)
 
 pub returns-in-Ok-clause-no_length : goal.returns-in-Ok-clause-no_length
-returns-in-Ok-clause-no_length c = text_no_length (length c.args.out.now) c.args.text.now (omega arith)
-    (c.write_bytes.ensures.status ∙ ap (output_status (length c.args.out.now))
-    (small_text c.args.text.now _ c.as_bytes.result.now c.as_bytes.ensures.encoding (sym c.in-Ok.ensures.answer)))
+returns-in-Ok-clause-no_length c =
+    let made = fitting_text 39 (omega arith) c.args.text.now _ _ c.as_bytes.ensures.encoding c.in-Ok.ensures.answer in
+    text_no_length (length c.args.out.now) c.args.text.now (omega arith)
+    (c.write_bytes.ensures.status ∙ ap (output_status (length c.args.out.now)) made)
 
-pub returns-in-Err-clause-enough : goal.returns-in-Err-clause-enough
-returns-in-Err-clause-enough c =
-    text_enough (length c.args.out.now) c.args.text.now (omega arith) c.write_after_fault.ensures.status
+pub wrong_text_status-requires-clause-fault : goal.wrong_text_status-requires-clause-fault
+wrong_text_status-requires-clause-fault c =
+    let wrong = c.in-Err-default-Some.ensures in
+    let other = rw c.in-Err-default-Some.field-0-1-is at wrong.index in
+    wrong_text 39 (omega arith) c.args.text.now other.0 wrong.answer
 
-pub returns-in-Err-clause-no_length : goal.returns-in-Err-clause-no_length
-returns-in-Err-clause-no_length c =
-    text_no_length (length c.args.out.now) c.args.text.now (omega arith) c.write_after_fault.ensures.status
+pub returns-in-Err-default-Some-clause-no_length : goal.returns-in-Err-default-Some-clause-no_length
+returns-in-Err-default-Some-clause-no_length c =
+    text_no_length (length c.args.out.now) c.args.text.now (omega arith)
+    (sym (ap (output_status (length c.args.out.now)) c.wrong_text_status.ensures))
+
+pub returns-in-Err-default-None-clause-enough : goal.returns-in-Err-default-None-clause-enough
+returns-in-Err-default-None-clause-enough c =
+    text_enough (length c.args.out.now) c.args.text.now (omega arith) c.read_long_text-in-Err-default-None.ensures.status
+
+pub returns-in-Err-default-None-clause-no_length : goal.returns-in-Err-default-None-clause-no_length
+returns-in-Err-default-None-clause-no_length c =
+    text_no_length (length c.args.out.now) c.args.text.now (omega arith) c.read_long_text-in-Err-default-None.ensures.status
