@@ -170,7 +170,7 @@ const VERSION: u32 = (1 << 16) + (5 << 8);
 /// The version of the library.
 #[unsafe(no_mangle)]
 pub extern "C" fn const_oid_version() -> u32
-    ensures { result ≡ 65536 * 1 + 256 * 4 }
+    ensures { result ≡ 65536 * 1 + 256 * 5 }
 {
     VERSION
 }

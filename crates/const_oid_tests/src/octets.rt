@@ -1,7 +1,7 @@
-//! Identifiers from contents octets: `from_bytes` of both forms, and `text_from_bytes`.
+//! Identifiers from contents octets: `from_bytes` of both forms, `text_from_bytes` and `arcs_from_bytes`.
 
 use crate::vectors::accepted_rows;
-use const_oid::{Error, ObjectIdentifierRef, Oid};
+use const_oid::{Error, ObjectIdentifierRef, Oid, outputs};
 use std::alloc::AllocError;
 
 /// Whether both forms return this error, or none.
@@ -9,7 +9,7 @@ fn both_answer(octets: &[u8], error: Option<Error>) -> bool {
     ObjectIdentifierRef::from_bytes(octets).err() == error && Oid::from_bytes(octets).err() == error
 }
 
-/// Octets with room for their text are printed as they are checked, and one byte less is no room.
+/// Octets with room for their text are printed as they are checked, and one byte less is no room. Arcs are read so, too.
 #[test]
 fn prints_octets_as_it_checks_them(rt: HostRuntime) {
     let mut out = [0; 23];
@@ -19,6 +19,9 @@ fn prints_octets_as_it_checks_them(rt: HostRuntime) {
     assert!(rt; out.starts_with(b"2.999.3"));
     let fault = ObjectIdentifierRef::text_from_bytes(&octets[..1], &mut out);
     assert!(rt; fault == Some(Err(Error::Base128)));
+    let mut arcs = [0; 4];
+    assert!(rt; outputs::arcs_from_bytes(&octets, &mut arcs) == Ok(3));
+    assert!(rt; arcs == [2, 999, 3, 0]);
 }
 
 /// The last octet of a prefix of accepted octets says whether its subidentifier is complete. None begins with 0x80: the

@@ -58,6 +58,7 @@ pub fn of_text<'o>(text: &str, out: &'o mut [u8]) -> Result<Made<'o>> {
     let (bytes, room) = (text.as_bytes(), out.len());
     let len = ObjectIdentifierRef::from_ascii_in(bytes, out).map(|oid| oid.as_bytes().len());
     ensure!(outputs::bytes_len_from_ascii(bytes, room) == len);
+    ensure!(outputs::parse_or_index(bytes, &mut [], room).map_err(|fault| fault.0) == len);
     let made = written(out, len)?;
     ensure!(room != 39 || are_usual(text, made), "usual capacity");
     Ok(made)

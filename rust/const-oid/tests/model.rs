@@ -250,6 +250,12 @@ fn check_octets(octets: &[u8]) {
     assert_eq!(ObjectIdentifier::from_bytes(octets), usual);
     assert_eq!(ObjectIdentifier::try_from(octets), usual);
     each_capacity!(read_octets(octets, &answer));
+    #[cfg(feature = "internal-for-const-oid-c")]
+    {
+        let mut out = vec![0xA5; octets.len() + 1];
+        let len = const_oid::internal_for_const_oid_c::outputs::arcs_from_bytes(octets, &mut out);
+        assert_eq!(len.map(|len| out[..len].to_vec()), answer, "{octets:02X?}");
+    }
     if let (Ok(arcs), Ok(oid)) = (answer, borrowed) {
         assert!(oid.arcs().eq(arcs.iter().copied()), "{octets:02X?}");
         assert_eq!(model::encoding(&arcs), octets);
@@ -313,6 +319,11 @@ fn check_text(text: &str) {
     assert_eq!(text.parse(), usual, "{text}");
     let wrong = ObjectIdentifierRef::wrong_component(text.as_bytes());
     assert_eq!(wrong, model::wrong_component(text.as_bytes()), "{text}");
+    #[cfg(feature = "internal-for-const-oid-c")]
+    {
+        let parse = const_oid::internal_for_const_oid_c::outputs::parse_or_index;
+        assert_eq!(parse(text.as_bytes(), &mut [], usize::MAX).err().map(|fault| fault.1), wrong.map(Some), "{text}");
+    }
     read_text::<39>(text);
 }
 
