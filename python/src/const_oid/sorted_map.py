@@ -30,7 +30,8 @@ class SortedMap(MutableMapping[ObjectIdentifier, Value]):
     """A mapping from identifiers to values, with keys in the lexicographic order of arcs, as in SNMP (RFC 3416).
 
     Like dict, it has copy() and |, and is not to be changed while it is iterated. While one thread changes it, no other
-    may use it; what runs in the same thread may, such as a signal handler or the end of a value. A key that is no identifier is a TypeError, also for get(), pop() and `in`.
+    may use it; what runs in the same thread may, such as a signal handler or the end of a value. A key that is no
+    identifier is a TypeError, also for get(), pop() and `in`.
 
     >>> up_time, system = ObjectIdentifier("1.3.6.1.2.1.1.3"), ObjectIdentifier("1.3.6.1.2.1.1")
     >>> table = SortedMap({up_time: "sysUpTime", system: "system"})
