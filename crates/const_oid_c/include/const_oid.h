@@ -21,10 +21,10 @@
  *   net-snmp, test `arc <= UINT32_MAX` first, or give its text to const_oid_from_text.
  * - Threads. Every function is thread-safe. While a call runs, no other thread may write its inputs or touch its
  *   output.
- * - Machines. The tests run on Linux with glibc on x86-64. At commit 417bcdce, on 28 November 2026, they passed with
- *   musl, too, and on i686, and the rows on s390x. The proofs are for 64 bits. The library that Rattle builds needs
- *   x86-64-v2 (POPCNT, SSE4.1). The library needs no system: of the C library it calls memory functions, and cargo's
- *   build also abort.
+ * - Machines. The tests run on Linux with glibc on x86-64. At commit 966d6e6e, on 29 November 2026, some passed on
+ *   aarch64, armv7, riscv64, powerpc64le, s390x, i686, with musl, and on Windows (mingw): the repository's
+ *   rust/README.md says which. The proofs are for 64 bits. The library that Rattle builds needs x86-64-v2 (POPCNT,
+ *   SSE4.1). The library needs no system: of the C library it calls memory functions, and cargo's build also abort.
  * - Octets. These are contents octets alone. A complete element 06 09 2A 86 .. and the bytes of the text "1.2" are no
  *   errors, but 0.6.9.42... and 1.9.46.50. Give an element to const_oid_from_der, and a text to const_oid_from_text.
  *
@@ -345,8 +345,8 @@ CONST_OID_NODISCARD CONST_OID_READS(1, 2) CONST_OID_READS(3, 4) const_oid_status
 /* Finds the items that begin with all arcs of an identifier, itself included, and stores where they are in `range`,
  * which must not be null. `start` is where the identifier would be inserted, whether there are such items or not. If
  * there are none, `end` is the same. With OK, `len` is 0. If the identifier is invalid, `range` is unchanged. */
-CONST_OID_NODISCARD CONST_OID_READS(1, 2) CONST_OID_READS(3, 4) CONST_OID_NONNULL(5) const_oid_status const_oid_subtree_range(
-    const uint8_t *octets, size_t len, const const_oid_octets *sorted, size_t count,
+CONST_OID_NODISCARD CONST_OID_READS(1, 2) CONST_OID_READS(3, 4) CONST_OID_NONNULL(5)
+const_oid_status const_oid_subtree_range(const uint8_t *octets, size_t len, const const_oid_octets *sorted, size_t count,
     const_oid_range *CONST_OID_RESTRICT range);
 
 /* Writes the text for a code and its detail, in UTF-8. With DIGIT_EXPECTED, the byte stands in it as the character with
