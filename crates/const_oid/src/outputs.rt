@@ -1,6 +1,6 @@
 //! Octets and identifiers in outputs of the caller.
 
-ghost use Rattle.std.specs.Prelude.{◌≡◌, ◌≢◌, ◌*◌, ◌<◌, ◌≤◌, [], length, Err, IfErr, IfOk, MatchOption, MatchResult, Ok};
+ghost use Rattle.std.specs.Prelude.{◌≡◌, ◌≢◌, ◌*◌, ◌<◌, ◌≤◌, [], length, Err, IfErr, IfOk, IfSome, MatchOption, MatchResult, None, Ok};
 ghost use Rattle.std.specs.Result.{result_err};
 ghost use Rattle.const_oid.specs.Contents.{arcs_of_octets, borrowed_capacity, octet_fault, size_answer};
 ghost use Rattle.const_oid.specs.Identifier.{root_rule, default_capacity};
@@ -131,11 +131,27 @@ pub fn parse_or_index(
     parse_inlined(text, out, capacity).map_err(|wrong| fault_and_index(text, wrong))
 }
 
-/// Decodes contents octets as [`from_bytes`](crate::ObjectIdentifierRef::from_bytes) does, and writes their arcs to the
-/// start of `out` in the same pass. Returns how many there are, at most one more than the octets. On `Err`, `out` may be
-/// changed.
+/// Decodes contents octets as [`from_bytes`](crate::ObjectIdentifierRef::from_bytes) does, writes their arcs to the start
+/// of `out` in the same pass, and returns how many there are.
+///
+/// Returns `None` if `out` has no more arcs than there are octets; it is then unchanged. On `Ok`, what lies after the
+/// arcs is unchanged. On `Err`, `out` may be changed.
 #[inline(always)]
-pub fn arcs_from_bytes(ber: &[u8], out: &mut [Arc]) -> Result<usize>
+pub fn arcs_from_bytes(ber: &[u8], out: &mut [Arc]) -> Option<Result<usize>>
+    ensures room { MatchOption result (length out.old ≤ length ber.now) (λ _. length ber.now < length out.old) }
+    ensures fault { IfSome result (λ written. result_err written ≡ octet_fault root_rule ber.now borrowed_capacity) }
+    ensures written { IfSome result (λ written. IfOk written (WritesAll (arcs_of_octets ber.now) out.old out.new)) }
+    ensures kept { result ≡ None → out.new ≡ out.old }
+{
+    if out.len() <= ber.len() {
+        return None;
+    }
+    Some(write_arcs(ber, out))
+}
+
+/// Decodes contents octets, and writes their arcs to the start of `out`.
+#[inline(always)]
+fn write_arcs(ber: &[u8], out: &mut [Arc]) -> Result<usize>
     requires { length ber.now < length out.old }
     ensures fault { result_err result ≡ octet_fault root_rule ber.now borrowed_capacity }
     ensures written { IfOk result (WritesAll (arcs_of_octets ber.now) out.old out.new) }

@@ -1,5 +1,5 @@
 //! Octets to arcs, and arcs to octets.
-ghost use Rattle.std.specs.Prelude.{◌≡◌, ◌≢◌, ◌*◌, ◌<◌, ◌≤◌, length, take, drop, min, slice_get};
+ghost use Rattle.std.specs.Prelude.{◌≡◌, ◌≢◌, ◌*◌, ◌≤◌, length, take, drop, min, slice_get};
 ghost use Rattle.const_oid.specs.Identifier.{root_rule};
 ghost use Rattle.const_oid.specs.Items.{item_answer};
 ghost use Rattle.const_oid.specs.Oid.{oid_answer};
@@ -104,22 +104,48 @@ pub extern "C" fn const_oid_arcs(octets: &[u8], out: &mut [u32]) -> Status
     ensures status { result ≡ output_status (length out.old) (output_of (λ arcs. arcs) (borrowed_answer octets.now)) }
     ensures written { out.new ≡ output_after out.old (output_of (λ arcs. arcs) (borrowed_answer octets.now)) }
 {
-    if octets.len() <= Oid::MAX_SIZE {
-        return write_arcs_by(octets, &mut [0; Oid::MAX_SIZE + 1], out);
+    if octets.len() > Oid::MAX_SIZE {
+        return arcs_past_39_octets(octets, out);
     }
-    arcs_past_39_octets(octets, out)
+    write_arcs_by(octets, &mut [0; Oid::MAX_SIZE + 1], out)
 }
 
-/// Writes all arcs of contents octets of any length. More than 255 octets are read twice.
+/// Writes all arcs of contents octets of any length, made on the stack if the octets are 255 or fewer.
 // erase: extern "C"
 #[inline(never)]
 fn arcs_past_39_octets(octets: &[u8], out: &mut [u32]) -> Status
     ensures status { result ≡ output_status (length out.old) (output_of (λ arcs. arcs) (borrowed_answer octets.now)) }
     ensures written { out.new ≡ output_after out.old (output_of (λ arcs. arcs) (borrowed_answer octets.now)) }
 {
-    if octets.len() <= MAX_OCTETS {
-        return write_arcs_by(octets, &mut [0; MAX_OCTETS + 1], out);
+    write_arcs_by(octets, &mut [0; MAX_OCTETS + 1], out)
+}
+
+/// Writes all arcs of contents octets, made in a part of the stack if it has more items than there are octets.
+// erase: extern "C"
+#[tactic(auto, using(const_oid::proofs::Sets::bytes_put))]
+#[inline(never)]
+fn write_arcs_by(octets: &[u8], arcs: &mut [u32], out: &mut [u32]) -> Status
+    ensures status { result ≡ output_status (length out.old) (output_of (λ arcs. arcs) (borrowed_answer octets.now)) }
+    ensures written { out.new ≡ output_after out.old (output_of (λ arcs. arcs) (borrowed_answer octets.now)) }
+{
+    match outputs::arcs_from_bytes(octets, arcs) {
+        Some(Ok(len)) if len > out.len() => too_short_status(len),
+        Some(Ok(len)) => {
+            out[..len].copy_from_slice(&arcs[..len]);
+            len_status(len)
+        }
+        Some(Err(fault)) => error_status(fault),
+        None => arcs_past_255_octets(octets, out),
     }
+}
+
+/// Writes all arcs of contents octets of any length, and reads them twice.
+// erase: extern "C"
+#[inline(never)]
+fn arcs_past_255_octets(octets: &[u8], out: &mut [u32]) -> Status
+    ensures status { result ≡ output_status (length out.old) (output_of (λ arcs. arcs) (borrowed_answer octets.now)) }
+    ensures written { out.new ≡ output_after out.old (output_of (λ arcs. arcs) (borrowed_answer octets.now)) }
+{
     let oid = match ObjectIdentifierRef::from_bytes(octets) {
         Ok(oid) => oid,
         Err(fault) => return error_status(fault),
@@ -129,26 +155,6 @@ fn arcs_past_39_octets(octets: &[u8], out: &mut [u32]) -> Status
         return too_short_status(len);
     }
     write_arcs(oid.arcs(), out);
-    len_status(len)
-}
-
-/// Writes all arcs of contents octets, made in a part of the stack that has more items than there are octets.
-// erase: extern "C"
-#[tactic(auto, using(const_oid::proofs::Sets::bytes_put))]
-#[inline(never)]
-fn write_arcs_by(octets: &[u8], arcs: &mut [u32], out: &mut [u32]) -> Status
-    requires { length octets.now < length arcs.old }
-    ensures status { result ≡ output_status (length out.old) (output_of (λ arcs. arcs) (borrowed_answer octets.now)) }
-    ensures written { out.new ≡ output_after out.old (output_of (λ arcs. arcs) (borrowed_answer octets.now)) }
-{
-    let len = match outputs::arcs_from_bytes(octets, arcs) {
-        Ok(len) => len,
-        Err(fault) => return error_status(fault),
-    };
-    if len > out.len() {
-        return too_short_status(len);
-    }
-    out[..len].copy_from_slice(&arcs[..len]);
     len_status(len)
 }
 

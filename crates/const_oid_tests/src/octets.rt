@@ -20,7 +20,8 @@ fn prints_octets_as_it_checks_them(rt: HostRuntime) {
     let fault = ObjectIdentifierRef::text_from_bytes(&octets[..1], &mut out);
     assert!(rt; fault == Some(Err(Error::Base128)));
     let mut arcs = [0; 4];
-    assert!(rt; outputs::arcs_from_bytes(&octets, &mut arcs) == Ok(3));
+    assert!(rt; outputs::arcs_from_bytes(&octets, &mut arcs[..3]) == None);
+    assert!(rt; outputs::arcs_from_bytes(&octets, &mut arcs) == Some(Ok(3)));
     assert!(rt; arcs == [2, 999, 3, 0]);
 }
 

@@ -252,8 +252,11 @@ fn check_octets(octets: &[u8]) {
     each_capacity!(read_octets(octets, &answer));
     #[cfg(feature = "internal-for-const-oid-c")]
     {
+        use const_oid::internal_for_const_oid_c::outputs::arcs_from_bytes;
         let mut out = vec![0xA5; octets.len() + 1];
-        let len = const_oid::internal_for_const_oid_c::outputs::arcs_from_bytes(octets, &mut out);
+        let mut read = |start: usize| arcs_from_bytes(octets, &mut out[start..]);
+        assert_eq!(read(1), None, "{octets:02X?}");
+        let len = read(0).unwrap();
         assert_eq!(len.map(|len| out[..len].to_vec()), answer, "{octets:02X?}");
     }
     if let (Ok(arcs), Ok(oid)) = (answer, borrowed) {

@@ -71,18 +71,35 @@ pub(crate) fn encoded<const N: usize>(arcs: &[u32]) -> Result<ObjectIdentifier<N
 ///
 /// The octets are checked as they are read, so the arcs are made on the stack: on an error the output is unchanged.
 pub fn const_oid_arcs(octets: &[u8], out: &mut crate::edge::Output<u32>) -> Status {
-    if octets.len() <= Oid::MAX_SIZE {
-        return write_arcs_by(octets, &mut [0; Oid::MAX_SIZE + 1], out);
+    if octets.len() > Oid::MAX_SIZE {
+        return arcs_past_39_octets(octets, out);
     }
-    arcs_past_39_octets(octets, out)
+    write_arcs_by(octets, &mut [0; Oid::MAX_SIZE + 1], out)
 }
 
-/// Writes all arcs of contents octets of any length. More than 255 octets are read twice.
+/// Writes all arcs of contents octets of any length, made on the stack if the octets are 255 or fewer.
 #[inline(never)]
 extern "C" fn arcs_past_39_octets(octets: &[u8], out: &mut crate::edge::Output<u32>) -> Status {
-    if octets.len() <= MAX_OCTETS {
-        return write_arcs_by(octets, &mut [0; MAX_OCTETS + 1], out);
+    write_arcs_by(octets, &mut [0; MAX_OCTETS + 1], out)
+}
+
+/// Writes all arcs of contents octets, made in a part of the stack if it has more items than there are octets.
+#[inline(never)]
+extern "C" fn write_arcs_by(octets: &[u8], arcs: &mut [u32], out: &mut crate::edge::Output<u32>) -> Status {
+    match outputs::arcs_from_bytes(octets, arcs) {
+        Some(Ok(len)) if len > out.len() => too_short_status(len),
+        Some(Ok(len)) => {
+            out[..len].copy_from_slice(crate::edge::written(&arcs[..len]));
+            len_status(len)
+        }
+        Some(Err(fault)) => error_status(fault),
+        None => arcs_past_255_octets(octets, out),
     }
+}
+
+/// Writes all arcs of contents octets of any length, and reads them twice.
+#[inline(never)]
+extern "C" fn arcs_past_255_octets(octets: &[u8], out: &mut crate::edge::Output<u32>) -> Status {
     let oid = match ObjectIdentifierRef::from_bytes(octets) {
         Ok(oid) => oid,
         Err(fault) => return error_status(fault),
@@ -92,20 +109,6 @@ extern "C" fn arcs_past_39_octets(octets: &[u8], out: &mut crate::edge::Output<u
         return too_short_status(len);
     }
     write_arcs(oid.arcs(), out);
-    len_status(len)
-}
-
-/// Writes all arcs of contents octets, made in a part of the stack that has more items than there are octets.
-#[inline(never)]
-extern "C" fn write_arcs_by(octets: &[u8], arcs: &mut [u32], out: &mut crate::edge::Output<u32>) -> Status {
-    let len = match outputs::arcs_from_bytes(octets, arcs) {
-        Ok(len) => len,
-        Err(fault) => return error_status(fault),
-    };
-    if len > out.len() {
-        return too_short_status(len);
-    }
-    out[..len].copy_from_slice(crate::edge::written(&arcs[..len]));
     len_status(len)
 }
 

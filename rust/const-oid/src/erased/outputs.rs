@@ -95,11 +95,23 @@ pub fn parse_or_index(text: &[u8], out: &mut [u8], capacity: usize) -> result::R
     parse_inlined(text, out, capacity).map_err(|wrong| fault_and_index(text, wrong))
 }
 
-/// Decodes contents octets as [`from_bytes`](crate::ObjectIdentifierRef::from_bytes) does, and writes their arcs to the
-/// start of `out` in the same pass. Returns how many there are, at most one more than the octets. On `Err`, `out` may be
-/// changed.
+/// Decodes contents octets as [`from_bytes`](crate::ObjectIdentifierRef::from_bytes) does, writes their arcs to the start
+/// of `out` in the same pass, and returns how many there are.
+///
+/// Returns `None` if `out` has no more arcs than there are octets; it is then unchanged. On `Ok`, what lies after the
+/// arcs is unchanged. On `Err`, `out` may be changed.
 #[inline(always)]
-pub fn arcs_from_bytes(ber: &[u8], out: &mut [Arc]) -> Result<usize> {
+#[must_use]
+pub fn arcs_from_bytes(ber: &[u8], out: &mut [Arc]) -> Option<Result<usize>> {
+    if out.len() <= ber.len() {
+        return None;
+    }
+    Some(write_arcs(ber, out))
+}
+
+/// Decodes contents octets, and writes their arcs to the start of `out`.
+#[inline(always)]
+fn write_arcs(ber: &[u8], out: &mut [Arc]) -> Result<usize> {
     if ber.is_empty() {
         return Err(Error::Empty);
     }

@@ -1,7 +1,7 @@
 use Rattle.std.proofs.Common.{◌≡◌, ◌+◌, ◌≤◌, ◌++◌, length, map, take, drop}
 use Rattle.const_oid.specs.{Base128.value_of, Contents.{cut, later_fault, parts_fault, arcs_of_octets}}
 use Rattle.const_oid.specs.{Identifier.{root_rule}}
-use Rattle.const_oid.proofs.outputs.arcs_from_bytes.Given as goal
+use Rattle.const_oid.proofs.outputs.write_arcs.Given as goal
 
 -- the rest has the fault of the whole; what is written, and the arcs of the rest, are all arcs
 abbrev pub invariant-loop-rest : goal.invariant-loop-rest

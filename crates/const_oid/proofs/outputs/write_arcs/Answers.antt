@@ -2,7 +2,7 @@ use Rattle.std.proofs.Common.{◌≡◌, ℕ, ◌<◌, ◌++◌, List, [], ◌�
 use Rattle.std.proofs.lemmas.List.{drop-set-lt}
 use Rattle.const_oid.specs.{Base128.value_of, Contents.{cut, arcs_from}}
 use Rattle.const_oid.proofs.PartsFault.{parts_at}
-use Rattle.const_oid.proofs.outputs.arcs_from_bytes.Goals as goal
+use Rattle.const_oid.proofs.outputs.write_arcs.Goals as goal
 
 two_begin : (first second : ℕ) (out : List ℕ) → 1 < length out
     → take 2 (slice_set (slice_set out 0 first) 1 second) ≡ first ∷ second ∷ []
