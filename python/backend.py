@@ -30,6 +30,7 @@ HEADER = TOP / "crates/const_oid_c/include/const_oid.h"
 TABLES = ("names.tsv", "common_names.tsv")
 EXTENSION = "_native.abi3.so"
 SOURCES = ("__init__.py", "_native.pyi", "_support.py", "names.py", "py.typed", "sorted_map.py")
+PACKAGE = [*(HERE / "src/const_oid" / name for name in SOURCES), *(TOP / "rust" / name for name in TABLES)]
 LICENCES = ("LICENSE-APACHE", "LICENSE-MIT")
 ARCHIVED = ("backend.py", "pyproject.toml", "README.md", "src/native.c", *(f"src/const_oid/{name}" for name in SOURCES))
 ARCHIVED_OF_TOP = (*LICENCES, "crates/const_oid_c/include/*.h", "rust/const-oid/README.md", "rust/const-oid*/Cargo.*")
@@ -143,8 +144,7 @@ def _write_wheel(folder, files):
 
 def build_wheel(wheel_directory, config_settings=None, metadata_directory=None):
     """Writes the wheel into a folder, and returns its name."""
-    files = {f"const_oid/{name}": (HERE / "src/const_oid" / name).read_bytes() for name in SOURCES}
-    files |= {f"const_oid/{name}": (TOP / "rust" / name).read_bytes() for name in TABLES}
+    files = {f"const_oid/{path.name}": path.read_bytes() for path in PACKAGE}
     files[f"const_oid/{EXTENSION}"] = _compiled(config_settings)
     return _write_wheel(wheel_directory, files)
 
@@ -157,10 +157,8 @@ def build_editable(wheel_directory, config_settings=None, metadata_directory=Non
         fcntl.lockf(lock, fcntl.LOCK_EX)  # one build at a time
         shutil.rmtree(package, ignore_errors=True)
         package.mkdir()
-        for name in SOURCES:
-            (package / name).symlink_to(HERE / "src/const_oid" / name)
-        for name in TABLES:
-            (package / name).symlink_to(TOP / "rust" / name)
+        for path in PACKAGE:
+            (package / path.name).symlink_to(path)
         (package / EXTENSION).write_bytes(extension)
     return _write_wheel(wheel_directory, {"const_oid.pth": f"{package.parent}\n".encode()})
 

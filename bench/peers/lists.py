@@ -1,14 +1,15 @@
 #!/usr/bin/python3
 """bench/peers/lists.py LIST: the names of an installed library, in lines, each with its arcs: of openssl, cryptography,
-asn1crypto, pyasn1_modules, net_snmp (the MIB files of libsnmp-base), or mibs (seven of python3-pysnmp4-mibs).
-
-bench/peers/lists.py missing: rows of mibs, openssl and net_snmp that neither table has, to be appended to
-rust/common_names.tsv."""
+asn1crypto, pyasn1_modules, net_snmp (the MIB files of libsnmp-base), or mibs (seven of python3-pysnmp4-mibs). Of missing:
+rows of mibs, openssl and net_snmp that neither table has, to be appended to rust/common_names.tsv."""
 import collections, contextlib, importlib, pathlib, pkgutil, re, subprocess, sys, tempfile  # noqa: E401
 
-TABLES = [pathlib.Path(__file__).resolve().parents[2] / f"rust/{name}.tsv" for name in ("names", "common_names")]
-# What those of net-snmp take from SNMPv2-SMI, which no Debian package has.
-NODES = "enterprises OBJECT IDENTIFIER ::= { iso 3 6 1 4 1 } snmpModules OBJECT IDENTIFIER ::= { iso 3 6 1 6 3 }"
+FILES = [pathlib.Path(__file__).parents[2] / f"rust/{name}.tsv" for name in ("names", "common_names")]
+# The rows of both tables, each a document, a constant, arcs and a name.
+TABLES = [[line.split("\t") for line in file.read_text(encoding="utf-8").splitlines()] for file in FILES]
+# What MIB files of net-snmp take from SNMPv2-SMI, which no Debian package has.
+SMI = """SNMPv2-SMI DEFINITIONS ::= BEGIN enterprises OBJECT IDENTIFIER ::= { iso 3 6 1 4 1 }
+    snmpModules OBJECT IDENTIFIER ::= { iso 3 6 1 6 3 } END"""
 
 
 def openssl():
@@ -46,9 +47,9 @@ def pyasn1_modules():
 
 def net_snmp():
     """The names that are there once."""
-    with tempfile.TemporaryDirectory() as folder:
-        (pathlib.Path(folder) / "SMI.txt").write_text(f"SNMPv2-SMI DEFINITIONS ::= BEGIN {NODES} END\n")
-        command = ["snmptranslate", "-M", f"{folder}:/usr/share/snmp/mibs", "-m", "ALL", "-Tz"]
+    with tempfile.NamedTemporaryFile("w") as file:
+        print(SMI, file=file, flush=True)
+        command = ["snmptranslate", "-M", "/usr/share/snmp/mibs", "-m", f"{file.name}:ALL", "-Tz"]
         said = subprocess.run(command, text=True, capture_output=True, check=True).stdout
     rows = re.findall(r'"(.+)"\s+"(1\.3\.6\.1\.4.+)"', said)
     times = collections.Counter(name for name, _ in rows)
@@ -66,15 +67,9 @@ def mibs():
         yield from ((name, ".".join(map(str, arcs)), mib) for arcs, name in sorted(nodes) if len(arcs) > 1)
 
 
-def tables():
-    """The rows of both tables, each a document, a constant, arcs and a name."""
-    return [[line.split("\t") for line in table.read_text(encoding="utf-8").splitlines()] for table in TABLES]
-
-
 def missing():
     """A name stands once, and only where names.tsv does not have it, in any case, for the identifier."""
-    of_crate, common = tables()
-    known, names = {(arcs, name.lower()) for _, _, arcs, name in of_crate}, {name for *_, name in common}
+    known, names = {(arcs, name.lower()) for *_, arcs, name in TABLES[0]}, {name for *_, name in TABLES[1]}
     others = [(*row, document) for document, rows in (("OpenSSL", openssl()), ("net-snmp", net_snmp())) for row in rows]
     for name, arcs, document in [*mibs(), *others]:
         if name not in names and (arcs, name.lower()) not in known and max(map(int, arcs.split("."))) < 2**32:

@@ -29,7 +29,7 @@ SEED = 3416
 
 class Names(unittest.TestCase):
     def test_entries_are_the_rows(self):
-        for rows, entries in zip(lists.tables(), (names.entries(), names.common_entries())):
+        for rows, entries in zip(lists.TABLES, (names.entries(), names.common_entries())):
             self.assertEqual([(text, name) for _, _, text, name in rows], [(str(oid), name) for oid, name in entries])
             self.assertEqual({tuple}, set(map(type, [entries, *entries])))
 

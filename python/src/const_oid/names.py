@@ -41,16 +41,11 @@ def common_entries() -> tuple[tuple[ObjectIdentifier, str], ...]:
 
 
 @cache
-def _by_oid() -> dict[ObjectIdentifier, dict[str, None]]:
-    names: dict[ObjectIdentifier, dict[str, None]] = {}
+def _maps() -> tuple[dict[ObjectIdentifier, dict[str, None]], dict[bytes, ObjectIdentifier]]:
+    by_oid: dict[ObjectIdentifier, dict[str, None]] = {}
     for oid, name in entries() + common_entries():
-        names.setdefault(oid, {})[name] = None
-    return names
-
-
-@cache
-def _by_name() -> dict[bytes, ObjectIdentifier]:
-    return {name.encode().lower(): oid for oid, name in reversed(entries() + common_entries())}
+        by_oid.setdefault(oid, {})[name] = None
+    return by_oid, {name.encode().lower(): oid for oid, name in reversed(entries() + common_entries())}
 
 
 def name_of(oid: ObjectIdentifier) -> str | None:
@@ -59,7 +54,7 @@ def name_of(oid: ObjectIdentifier) -> str | None:
     >>> name_of(ObjectIdentifier("1.2.840.10045.2.1"))
     'id-ecPublicKey'
     """
-    return next(iter(_by_oid().get(required(oid, "oid"), ())), None)
+    return next(iter(names_of(oid)), None)
 
 
 def names_of(oid: ObjectIdentifier) -> tuple[str, ...]:
@@ -68,7 +63,7 @@ def names_of(oid: ObjectIdentifier) -> tuple[str, ...]:
     >>> names_of(ObjectIdentifier("2.5.4.3"))
     ('cn', 'commonName')
     """
-    return tuple(_by_oid().get(required(oid, "oid"), ()))
+    return tuple(_maps()[0].get(required(oid, "oid"), ()))
 
 
 def by_name(name: str) -> ObjectIdentifier | None:
@@ -79,4 +74,4 @@ def by_name(name: str) -> ObjectIdentifier | None:
     """
     if not isinstance(name, str):
         raise TypeError(f"name must be a str, not {type(name).__name__}")
-    return _by_name().get(name.encode(errors="surrogatepass").lower())  # bytes have no case but that of ASCII letters
+    return _maps()[1].get(name.encode(errors="surrogatepass").lower())  # bytes have no case but that of ASCII letters

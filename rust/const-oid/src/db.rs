@@ -71,79 +71,34 @@ entries! {
     SortedDatabase of ObjectIdentifierRef, such as SORTED;
 }
 
-/// An assert of the first constant of a module, as an example.
-macro_rules! example {
-    ($module:ident $constant:ident = $arcs:literal; $($rest:tt)*) => {
-        concat!(
-            "# Examples\n\n```\n",
-            stringify!(assert_eq!(const_oid::db::$module::$constant.to_string(), $arcs);),
-            "\n```",
-        )
-    };
-}
+include!("db/names.rs");
+include!("db/sorted.rs");
+include!("db/common.rs");
 
-/// The modules, and [`DB`] over all of their entries, in order.
-macro_rules! names {
-    ($($module:ident $document:literal { $($constant:ident = $arcs:literal, $name:literal;)* })*) => {
-        $(
-            #[doc = concat!("Identifiers of ", $document, ".\n\n", example!($module $($constant = $arcs;)*))]
-            pub mod $module {
-                use crate::ObjectIdentifier;
+/// The identifiers of all modules, each with its name. `hashAlgs` names two: this finds 2.16.840.1.101.3.4.2.
+///
+/// # Examples
+///
+/// ```
+/// assert_eq!(const_oid::db::DB.resolve("1.2.840.10045.2.1"), Ok("id-ecPublicKey"));
+/// ```
+pub const DB: Database<'static> = Database::new(&ENTRIES).linked(&OID_LINKS, &NAME_LINKS);
 
-                $(
-                    #[doc = concat!("`", $name, "`: ", $arcs)]
-                    pub const $constant: ObjectIdentifier = ObjectIdentifier::new_unwrap($arcs);
-                )*
-            }
-        )*
+/// A link for each entry of [`DB`], and some 500 slots. Entries and links are a `static`, so that a crate with a lookup
+/// in a constant reads their value, and does not parse all texts again.
+static OID_LINKS: [u16; 2000] = links_of(&ENTRIES, Key::Oid);
+static NAME_LINKS: [u16; 2000] = links_of(&ENTRIES, Key::Name);
 
-        /// The identifiers of all modules, each with its name. `hashAlgs` names two: this finds 2.16.840.1.101.3.4.2.
-        ///
-        /// # Examples
-        ///
-        /// ```
-        /// assert_eq!(const_oid::db::DB.resolve("1.2.840.10045.2.1"), Ok("id-ecPublicKey"));
-        /// ```
-        pub const DB: Database<'static> = Database::new(&ENTRIES).linked(&OID_LINKS, &NAME_LINKS);
+/// The entries of [`DB`] in the order of arcs, those of an identifier in the order of [`DB`]. So it finds another
+/// `hashAlgs`, 1.3.6.1.4.1.1722.12.2. [`SortedDatabase`] has an example.
+pub const SORTED: SortedDatabase<'static> = SortedDatabase::new_unchecked(&IN_ORDER);
 
-        /// The entries of [`DB`]. They are a `static`, so that a crate with a lookup in a constant reads their value,
-        /// and does not parse all texts again.
-        static ENTRIES: [(&ObjectIdentifier, &str); [$($($name,)*)*].len()] =
-            [$($((&$module::$constant, $name),)*)*];
+/// The names that people type and [`DB`] lacks, of OpenSSL, MIBs, FIPS, the CA/Browser Forum and Microsoft. A few that
+/// [`DB`] has are here for another identifier, such as `DSA`. [`by_name`] has an example.
+pub const COMMON: Database<'static> = Database::new(&COMMON_ENTRIES).linked(&COMMON_OID_LINKS, &COMMON_NAME_LINKS);
 
-        /// A link for each entry of [`DB`], and some 500 slots.
-        static OID_LINKS: [u16; 2000] = links_of(&ENTRIES, Key::Oid);
-        static NAME_LINKS: [u16; 2000] = links_of(&ENTRIES, Key::Name);
-    };
-}
-
-/// The table of all entries in the order of arcs.
-macro_rules! sorted {
-    ($($octets:literal, $name:literal;)*) => {
-        /// The entries of [`DB`] in the order of arcs, those of an identifier in the order of [`DB`]. So it finds
-        /// another `hashAlgs`, 1.3.6.1.4.1.1722.12.2. [`SortedDatabase`] has an example.
-        pub const SORTED: SortedDatabase<'static> = SortedDatabase::new_unchecked(&IN_ORDER);
-
-        /// The entries of [`SORTED`], as a `static`, as above. Their octets are compared with [`DB`] by a test.
-        static IN_ORDER: [(&ObjectIdentifierRef, &str); [$($name,)*].len()] =
-            [$((ObjectIdentifierRef::from_checked($octets), $name),)*];
-    };
-}
-
-/// The table of common names.
-macro_rules! common {
-    ($($arcs:literal, $name:literal;)*) => {
-        /// The names that people type and [`DB`] lacks, of OpenSSL, MIBs, FIPS, the CA/Browser Forum and Microsoft. A few
-        /// that [`DB`] has are here for another identifier, such as `DSA`. [`by_name`] has an example.
-        pub const COMMON: Database<'static> =
-            Database::new(&COMMON_ENTRIES).linked(&COMMON_OID_LINKS, &COMMON_NAME_LINKS);
-
-        static COMMON_ENTRIES: [(&ObjectIdentifier, &str); [$($name,)*].len()] =
-            [$((&ObjectIdentifier::new_unwrap($arcs), $name),)*];
-        static COMMON_OID_LINKS: [u16; COMMON_ENTRIES.len() * 4 / 3] = links_of(&COMMON_ENTRIES, Key::Oid);
-        static COMMON_NAME_LINKS: [u16; COMMON_ENTRIES.len() * 4 / 3] = links_of(&COMMON_ENTRIES, Key::Name);
-    };
-}
+static COMMON_OID_LINKS: [u16; COMMON_ENTRIES.len() * 4 / 3] = links_of(&COMMON_ENTRIES, Key::Oid);
+static COMMON_NAME_LINKS: [u16; COMMON_ENTRIES.len() * 4 / 3] = links_of(&COMMON_ENTRIES, Key::Name);
 
 /// The identifier with a name, ignoring ASCII case, in [`DB`], or else in [`COMMON`], or `None`.
 ///
@@ -158,22 +113,14 @@ macro_rules! common {
 /// ```
 #[must_use]
 pub const fn by_name(name: &str) -> Option<&'static ObjectIdentifier> {
-    let found = DB.by_name(name);
-    if found.is_some() { found } else { COMMON.by_name(name) }
+    if let Some(oid) = DB.by_name(name) { Some(oid) } else { COMMON.by_name(name) }
 }
 
 /// The first name of an identifier in [`DB`], or else in [`COMMON`], or `None`. [`by_name`] has an example.
 #[must_use]
 pub const fn by_oid(oid: &ObjectIdentifier) -> Option<&'static str> {
-    let found = DB.by_oid(oid);
-    if found.is_some() { found } else { COMMON.by_oid(oid) }
+    if let Some(name) = DB.by_oid(oid) { Some(name) } else { COMMON.by_oid(oid) }
 }
-
-include!("db/names.rs");
-
-include!("db/common.rs");
-
-include!("db/sorted.rs");
 
 /// A table has links in lent memory that is longer than those before, and where no slot has over a quarter of the
 /// entries and two.

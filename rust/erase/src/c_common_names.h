@@ -1,9 +1,5 @@
-/* Names of object identifiers that people type and const_oid_names.h lacks, from OpenSSL, MIBs and others.
- *
- * - const_oid_from_name and const_oid_to_name ask that header and then this one.
- * - const_oid_common_name_octets, const_oid_common_names and what finds their indexes are as there. There are no
- *   constants.
- *
+/* Names of object identifiers that people type and const_oid_names.h lacks, from OpenSSL, MIBs and others. What
+ * begins with const_oid_common_ is as there. const_oid_from_name and const_oid_to_name ask that header and then this.
  * The arrays are static, some 120 KB more, or 240. What is here is tested, not proved. */
 #ifndef CONST_OID_COMMON_NAMES_H
 #define CONST_OID_COMMON_NAMES_H

@@ -17,13 +17,11 @@ pub fn header(table: &str) -> String {
     let rows = rows(table);
     let mut sorted: Vec<(usize, &Row)> = rows.iter().enumerate().collect();
     sorted.sort_by(|a, b| a.1.arcs.cmp(&b.1.arcs));
-    let entries = sorted.iter().enumerate();
-    let mut by_row: Vec<(usize, usize)> = entries.map(|(index, (row, _))| (*row, index)).collect();
-    by_row.sort();
+    let place = |row| sorted.iter().position(|entry| entry.0 == row).unwrap();
     // At least one slot is free.
     let slots = (rows.len() + 1).next_power_of_two();
     let shift = 32 - slots.ilog2();
-    let by_name = by_row.iter().map(|(row, index)| (hash(rows[*row].name.as_bytes(), 32) >> shift, *index));
+    let by_name = rows.iter().enumerate().map(|(row, of)| (hash(of.name.as_bytes(), 32) >> shift, place(row)));
     let by_octets = sorted.iter().enumerate().map(|(index, (_, row))| (hash(&encoding(&row.arcs), 0) >> shift, index));
     let constant = |row: &Row| format!("CONST_OID_{}_{}", row.module.to_uppercase(), row.constant);
     let literal = |row: &Row| format!("\"{}\"", octets(&row.arcs));
