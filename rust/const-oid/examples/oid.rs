@@ -31,16 +31,8 @@ fn octets_of(digits: &str) -> Option<Vec<u8>> {
     digits.as_bytes().chunks(2).map(octet).collect()
 }
 
-/// The identifier that an input denotes or names.
-fn read(input: &str, is_hex: bool) -> Result<Oid> {
-    match (parse(input, is_hex), by_name(input)) {
-        (Err(_), Some(oid)) if !is_hex => Ok(Oid::from_bytes_sized(oid.as_bytes())?),
-        (parsed, _) => parsed,
-    }
-}
-
 /// The identifier that an input denotes.
-fn parse(input: &str, is_hex: bool) -> Result<Oid> {
+fn read(input: &str, is_hex: bool) -> Result<Oid> {
     if !is_hex && (input.is_empty() || input.contains('.')) {
         return Ok(Oid::new_sized(input)?);
     }
@@ -81,9 +73,10 @@ pub fn run(arguments: &[String], out: &mut impl Write, errors: &mut impl Write) 
         write!(out, "{HELP}")?;
         return Ok(0);
     }
+    let named = |name: &str| by_name(name).filter(|_| !is_hex).and_then(|oid| Oid::try_from(oid.as_oid_ref()).ok());
     let mut status = 0;
     for input in inputs {
-        match read(input, is_hex) {
+        match read(input, is_hex).or_else(|error| named(input).ok_or(error)) {
             Ok(oid) => writeln!(out, "{}", describe(&oid))?,
             Err(error) => {
                 let advice = if input.contains('.') || octets_of(input).is_some() { "" } else { ". --help says more" };

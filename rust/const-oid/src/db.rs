@@ -24,52 +24,40 @@ impl fmt::Debug for Names<'_> {
 
 /// The entries of a table.
 macro_rules! entries {
-    ($($table:ident of $oid:ident, such as $all:ident;)*) => {
-        $(
-            impl<'a> $table<'a> {
-                /// All entries, in the order of the table.
-                ///
-                /// # Examples
-                ///
-                /// ```
-                #[doc = concat!("use const_oid::db::", stringify!($all), ";")]
-                ///
-                #[doc = concat!("for (oid, name) in ", stringify!($all), ".entries() {")]
-                ///     println!("{oid} {name}");
-                /// }
-                /// ```
-                #[must_use]
-                pub const fn entries(&self) -> &'a [(&'a $oid, &'a str)] {
-                    self.entries
-                }
-
-                /// The number of entries.
-                ///
-                /// # Examples
-                ///
-                /// ```
-                #[doc = concat!("assert_eq!(const_oid::db::", stringify!($all), ".len(), 1492);")]
-                /// ```
-                #[must_use]
-                pub const fn len(&self) -> usize {
-                    self.entries.len()
-                }
+    ($table:ident, $oid:ident, $all:ident) => {
+        impl<'a> $table<'a> {
+            /// All entries, in the order of the table.
+            ///
+            /// # Examples
+            ///
+            /// ```
+            #[doc = concat!("for (oid, name) in const_oid::db::", stringify!($all), ".entries() {")]
+            ///     println!("{oid} {name}");
+            /// }
+            /// ```
+            #[must_use]
+            pub const fn entries(&self) -> &'a [(&'a $oid, &'a str)] {
+                self.entries
             }
 
-            /// Lists the entries.
-            impl fmt::Debug for $table<'_> {
-                fn fmt(&self, f: &mut fmt::Formatter<'_>) -> fmt::Result {
-                    f.debug_tuple(stringify!($table)).field(&self.entries).finish()
-                }
+            #[doc = concat!("The number of entries, 1,492 for [`", stringify!($all), "`].")]
+            #[must_use]
+            pub const fn len(&self) -> usize {
+                self.entries.len()
             }
-        )*
+        }
+
+        /// Lists the entries.
+        impl fmt::Debug for $table<'_> {
+            fn fmt(&self, f: &mut fmt::Formatter<'_>) -> fmt::Result {
+                f.debug_tuple(stringify!($table)).field(&self.entries).finish()
+            }
+        }
     };
 }
 
-entries! {
-    Database of ObjectIdentifier, such as DB;
-    SortedDatabase of ObjectIdentifierRef, such as SORTED;
-}
+entries!(Database, ObjectIdentifier, DB);
+entries!(SortedDatabase, ObjectIdentifierRef, SORTED);
 
 include!("db/names.rs");
 include!("db/sorted.rs");

@@ -8,13 +8,10 @@ mod oid;
 const CN: &str = "2.5.4.3\n  octets: 55 04 03\n  arcs: [2, 5, 4, 3]\n  names: cn, commonName\n";
 const KEY: &str = "1.2.840.10045.2.1\n  octets: 2A 86 48 CE 3D 02 01
   arcs: [1, 2, 840, 10045, 2, 1]\n  names: id-ecPublicKey\n";
-
 const HASH: &str = "2.16.840.1.101.3.4.2.1\n  octets: 60 86 48 01 65 03 04 02 01
   arcs: [2, 16, 840, 1, 101, 3, 4, 2, 1]\n  names: id-sha256\n  common names: SHA-256, SHA256, sha256\n";
 const UP_TIME: &str = "1.3.6.1.2.1.1.3\n  octets: 2B 06 01 02 01 01 03\n  arcs: [1, 3, 6, 1, 2, 1, 1, 3]
   names: \n  common names: sysUpTime\n";
-const CODE: &str = "2.5.4.98\n  octets: 55 04 62\n  arcs: [2, 5, 4, 98]
-  names: \n  common names: c3, countryCode3c\n";
 
 /// Arguments with spaces between them, what is printed, and the errors.
 const ROWS: &[(&str, &str, &str)] = &[
@@ -39,7 +36,7 @@ const ROWS: &[(&str, &str, &str)] = &[
     ("sha256", HASH, ""),
     ("2.16.840.1.101.3.4.2.1", HASH, ""),
     ("SYSUPTIME", UP_TIME, ""),
-    ("c3", CODE, ""),
+    ("c3", "2.5.4.98\n  octets: 55 04 62\n  arcs: [2, 5, 4, 98]\n  names: \n  common names: c3, countryCode3c\n", ""),
     ("CN", CN, ""),
     ("3.1 2.5.4.3", CN, "3.1: OID contains out-of-range arc: 3\n"),
 ];
