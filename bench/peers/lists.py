@@ -78,7 +78,5 @@ def missing():
 
 
 if __name__ == "__main__":
-    lists = (openssl, cryptography, asn1crypto, pyasn1_modules, net_snmp, mibs, missing)
-    calls = [call for call in lists if [call.__name__] == sys.argv[1:]] or [lambda: [[__doc__]]]
-    for row in calls[0]():
+    for row in globals().get(sys.argv[-1], lambda: [[__doc__]])():
         print(*row, sep="\t")

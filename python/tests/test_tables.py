@@ -28,16 +28,14 @@ SEED = 3416
 
 
 class Names(unittest.TestCase):
-    def test_entries_are_the_rows(self):
-        for rows, entries in zip(lists.TABLES, (names.entries(), names.common_entries())):
-            self.assertEqual([(text, name) for _, _, text, name in rows], [(str(oid), name) for oid, name in entries])
-            self.assertEqual({tuple}, set(map(type, [entries, *entries])))
-
-    def test_each_entry_is_found(self):
+    def test_each_row_is_an_entry_that_is_found(self):
         names_of, first = {}, {}
-        for oid, name in names.entries() + names.common_entries():
-            names_of.setdefault(oid, {})[name] = None
-            first.setdefault(name.lower(), oid)
+        for rows, entries in zip(lists.TABLES, (names.entries(), names.common_entries())):
+            self.assertEqual({tuple}, set(map(type, [entries, *entries])))
+            for (_, _, text, name), (oid, entry) in zip(rows, entries, strict=True):
+                self.assertEqual((text, name), (str(oid), entry))
+                names_of.setdefault(oid, {})[name] = None
+                first.setdefault(name.lower(), oid)
         for oid, wanted in names_of.items():
             self.assertEqual((tuple(wanted), next(iter(wanted))), (names.names_of(oid), names.name_of(oid)))
         for name, oid in first.items():

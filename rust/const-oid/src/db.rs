@@ -1,6 +1,5 @@
 //! Some 1,500 names of identifiers: a module of constants for each document that defines some, and the tables [`DB`]
-//! and [`SORTED`] of all. [`COMMON`] has 2,400 others, and [`by_name`] and [`by_oid`] ask [`DB`] and then it. Requires
-//! the feature `db`.
+//! and [`SORTED`] of all. [`by_name`] and [`by_oid`] ask [`DB`] and then [`COMMON`]. Requires the feature `db`.
 //!
 //! A [`Database`] is a table in any order, for lookups in constants and by name. A [`SortedDatabase`] has the order of
 //! arcs: a lookup is a binary search, and it also finds the nearest name, subtrees, and what GetNext of SNMP returns.
