@@ -40,9 +40,8 @@ def asn1crypto():
 def pyasn1_modules():
     """Names of Python, in which an underscore stands for a hyphen."""
     from pyasn1.type.univ import ObjectIdentifier
-    rows = [row for module in modules("pyasn1_modules") for row in vars(module).items()]
-    rows = [row for row in rows if type(row[1]) is ObjectIdentifier and row[1].isValue]
-    return [(name.replace("_", "-"), str(value)) for name, value in rows]
+    rows = (row for module in modules("pyasn1_modules") for row in vars(module).items())
+    return [(name.replace("_", "-"), str(oid)) for name, oid in rows if type(oid) is ObjectIdentifier and oid.isValue]
 
 
 def net_snmp():

@@ -90,8 +90,7 @@ class Wheel(unittest.TestCase):
         """Nothing but the package and what says what it is, which is installed; all may read it, none may run it."""
         self.assertEqual((FILES, len(FILES)), (set(self.files), len(self.entries)))
         self.assertEqual({0o100644}, {entry.external_attr >> 16 for entry in self.entries})
-        sources = [*(TOP / "python/src/const_oid").glob("*.*"), TOP / "LICENSE-APACHE", TOP / "LICENSE-MIT"]
-        sources += [TOP / "rust" / name for name in backend.TABLES]
+        sources = [*(TOP / "python/src/const_oid").glob("*.*"), *(TOP / "rust").glob("*.tsv"), *TOP.glob("LICENSE-*")]
         contents = {name.split("/")[-1]: content for name, content in self.files.items()}
         for source in sources:
             self.assertEqual(source.read_bytes(), contents[source.name])

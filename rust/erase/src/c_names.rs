@@ -25,16 +25,13 @@ pub fn header(table: &str) -> String {
     let by_octets = sorted.iter().enumerate().map(|(index, (_, row))| (hash(&encoding(&row.arcs), 0) >> shift, index));
     let constant = |row: &Row| format!("CONST_OID_{}_{}", row.module.to_uppercase(), row.constant);
     let literal = |row: &Row| format!("\"{}\"", octets(&row.arcs));
-    let define = |row: &Row| format!("#define {} {}\n", constant(row), literal(row));
     let value = |row: &Row| if row.constant.is_empty() { literal(row) } else { constant(row) };
-    let item = |row: &Row| format!("{{CONST_OID_OCTETS({})}},", value(row));
-    let name = |row: &Row| format!("{:?},", row.name);
     let parts: [(&str, String); 10] = [
         ("@COUNT@", rows.len().to_string()),
         ("@ZEROS@", rows.iter().filter(|row| encoding(&row.arcs).contains(&0)).count().to_string()),
-        ("@CONSTANTS@", rows.iter().map(define).collect()),
-        ("@OCTETS@", lines(sorted.iter().map(|entry| item(entry.1)))),
-        ("@NAMES@", lines(sorted.iter().map(|entry| name(entry.1)))),
+        ("@CONSTANTS@", rows.iter().map(|row| format!("#define {} {}\n", constant(row), literal(row))).collect()),
+        ("@OCTETS@", lines(sorted.iter().map(|entry| format!("{{CONST_OID_OCTETS({})}},", value(entry.1))))),
+        ("@NAMES@", lines(sorted.iter().map(|entry| format!("{:?},", entry.1.name)))),
         ("@NAME_LENS@", lines(sorted.iter().map(|entry| format!("{},", entry.1.name.len())))),
         ("@SLOTS@", slots.to_string()),
         ("@SHIFT@", shift.to_string()),
