@@ -2833,8 +2833,7 @@ CONST_OID_NODISCARD CONST_OID_READS(1, 2) CONST_OID_INLINE size_t const_oid_comm
     }
 }
 
-/* The contents octets of the first entry with a name, which is null-terminated, whatever the case of its ASCII letters,
- * in const_oid_names.h, or else here. Null with length 0 if there is none. */
+/* The octets of the first entry with a name, by const_oid_by_name or else here. Null with length 0 if none. */
 CONST_OID_NODISCARD CONST_OID_INLINE const_oid_octets const_oid_from_name(const char *name) {
     static const_oid_octets none; /* null, in each C and C++ without a warning */
     size_t index = const_oid_by_name(name);
@@ -2843,8 +2842,7 @@ CONST_OID_NODISCARD CONST_OID_INLINE const_oid_octets const_oid_from_name(const 
     return index < CONST_OID_COMMON_NAMES_COUNT ? const_oid_common_name_octets[index] : none;
 }
 
-/* The first name of an identifier, of its contents octets, in const_oid_names.h, or else here. Null if there is none,
- * as for invalid octets. */
+/* The first name of contents octets, by const_oid_name_of or else here. Null if none, as for invalid octets. */
 CONST_OID_NODISCARD CONST_OID_READS(1, 2) CONST_OID_INLINE const char *const_oid_to_name(
     const uint8_t *octets, size_t len) {
     static const char *none;
