@@ -3,6 +3,7 @@
 
 #ifdef __cplusplus
 #include <type_traits>
+#pragma GCC diagnostic ignored "-Wold-style-cast"
 #define _Static_assert static_assert
 #define _Alignof alignof
 #define EXTERN extern "C"
