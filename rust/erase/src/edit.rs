@@ -23,19 +23,9 @@ pub fn replaced<'a>(source: &[&'a str], old: &str, new: &'a str) -> (Vec<&'a str
 
 /// The length of the tokens that a source begins with, if they are these.
 fn len_of(source: &[&str], old: &[&str]) -> Option<usize> {
-    let mut left = old.iter();
-    for (at, token) in source.iter().enumerate() {
-        if is_blank(token) && at > 0 {
-            continue;
-        }
-        if left.next() != Some(token) {
-            return None;
-        }
-        if left.len() == 0 {
-            return Some(at + 1);
-        }
-    }
-    None
+    let solid = source.iter().enumerate().filter(|(at, token)| *at == 0 || !is_blank(token));
+    let mut same = solid.zip(old).take_while(|((_, token), old)| token == old);
+    same.nth(old.len().checked_sub(1)?).map(|((at, _), _)| at + 1)
 }
 
 /// The tokens of a module after the edits of the table. Each edit adds to its places.

@@ -83,8 +83,7 @@ pub const CRATES: &[Crate] = &[
             "": "ObjectIdentifierRef<'_>" => "&ObjectIdentifierRef", UNSIZED;
             "": "ObjectIdentifierRef<'a>" => "&'a ObjectIdentifierRef", UNSIZED;
             "search": "let mut above = *oid;" => "let mut above = oid;", UNSIZED;
-            "arcs": "pub struct Arcs<'a>"
-                => "#[derive(Clone)]\npub struct Arcs<'a>",
+            "arcs": "pub struct Arcs<'a>" => "#[derive(Clone)]\npub struct Arcs<'a>",
                 "in Rattle a copy may fail, so a caller asks for the arcs again";
             "arcs": "type Item = Arc;"
                 => "type Item = Arc;
@@ -120,8 +119,7 @@ pub const CRATES: &[Crate] = &[
                         copy_to(octets, &mut buffer.bytes);"
                 => "crate::erased::parts::copy_by_octet(octets, &mut buffer.bytes);",
                 "it takes two hundred octets of flash less";
-            "buffer": "#[derive(Copy, Clone)] pub struct Buffer"
-                => "#[derive(Copy, Clone, PartialEq, Eq)]\npub struct Buffer", EQUALITY;
+            "buffer": "#[derive(Copy, Clone)]" => "#[derive(Copy, Clone, PartialEq, Eq)]", EQUALITY;
             "buffer": "impl<const SIZE: usize> PartialEq for Buffer<SIZE> {
                             // erase: another body
                             fn eq(&self, other: &Self) -> bool { Self::eq(self, other) }

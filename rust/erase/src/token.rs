@@ -31,15 +31,12 @@ fn next_len(source: &str) -> usize {
 /// The length of a string or a character, up to another mark such as its first.
 fn quoted_len(source: &str) -> usize {
     let mut escaped = false;
-    for (index, c) in source.char_indices().skip(1) {
-        match c {
-            _ if escaped => escaped = false,
-            '\\' => escaped = true,
-            _ if source.starts_with(c) => return index + 1,
-            _ => {}
-        }
-    }
-    source.len()
+    let mut ends = |c: char| {
+        let ends = !escaped && source.starts_with(c);
+        escaped = !escaped && c == '\\';
+        ends
+    };
+    source.char_indices().skip(1).find(|(_, c)| ends(*c)).map_or(source.len(), |(index, _)| index + 1)
 }
 
 fn is_word(c: char) -> bool {
@@ -59,15 +56,9 @@ pub fn is_blank(token: &str) -> bool {
 /// The index after what begins at an index: after the bracket that closes the one there, or the next token.
 pub fn after(tokens: &[&str], at: usize) -> usize {
     let mut depth = 0;
-    for (index, token) in tokens.iter().enumerate().skip(at) {
-        match *token {
-            "(" | "[" | "{" => depth += 1,
-            ")" | "]" | "}" => depth -= 1,
-            _ => {}
-        }
-        if depth == 0 {
-            return index + 1;
-        }
-    }
-    tokens.len()
+    let is_last = |token: &&str| {
+        depth += i32::from(["(", "[", "{"].contains(token)) - i32::from([")", "]", "}"].contains(token));
+        depth == 0
+    };
+    tokens[at..].iter().position(is_last).map_or(tokens.len(), |index| at + index + 1)
 }
