@@ -114,13 +114,13 @@ static void find_octets_like(const_oid_octets of) {
     SEE(nearest == const_oid_name_of(of.octets, of.len), nearest);
 }
 
-/* Octets that are longer than a name's by so many, and begin with them, are none, even in the name's place. */
+/* Octets that are longer than a name's by so many, and begin with them, are none, even in the name's slot. */
 static void find_longer(const_oid_octets of, size_t more) {
     static uint8_t octets[32 + 65536];
-    const size_t len = of.len + more, place = const_oid_slot(of.octets, of.len, 0);
+    const size_t len = of.len + more, slot = const_oid_slot(of.octets, of.len, 0);
     memset(octets, 1, len);
     memcpy(octets, of.octets, of.len);
-    for (unsigned end = 0; const_oid_slot(octets, len, 0) != place; end++) {
+    for (unsigned end = 0; const_oid_slot(octets, len, 0) != slot; end++) {
         octets[len - 2] = end >> 7 & 0x7F, octets[len - 1] = end & 0x7F;
     }
     SEE(const_oid_name_of(octets, len) == count, more);
