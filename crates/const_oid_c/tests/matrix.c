@@ -154,9 +154,7 @@ static void place(argument *given) {
 }
 
 static int is_unwritten(const uint8_t *from, size_t len) {
-    for (size_t i = 0; i < len; i++)
-        if (from[i] != UNWRITTEN) return 0;
-    return 1;
+    return len == 0 || (from[0] == UNWRITTEN && memcmp(from, from + 1, len - 1) == 0);
 }
 
 /* The bytes around what was written are unchanged. */
@@ -277,7 +275,10 @@ static const uint8_t usual_der[] = {6, 5, 0x2A, 0x86, 0x48, 0xCE, 0x3D, 1};
 static const uint32_t usual_arcs[] = {1, 2, 840, 10045};
 static const char usual_text[] = "1.2.840.10045";
 static const const_oid_octets usual_list[] = {{root, 1}, {usual, 5}, {usual, 6}, {last, 1}};
-enum { USUAL_LEN = 5, SEARCHED = 10 };
+static const argument usual_inputs[ITEM_OUT + 1] = {[OCTETS] = {usual, 5}, [ITEM] = {usual, 5},
+    [DER] = {usual_der, sizeof usual_der}, [TEXT] = {usual_text, sizeof usual_text - 1}, [ARCS] = {usual_arcs, 4},
+    [LIST] = {usual_list, 4}};
+enum { SEARCHED = 10 };
 
 /* Which identifiers are searched for in a list: the item that varies, its neighbours, the other items, and those around
  * the list. */
@@ -287,34 +288,20 @@ static const uint8_t one[] = {1}, two[] = {0x2B}, three[] = {0x2C};
 /* The values of an argument beside one that varies. How many. */
 static size_t values_beside(enum kind kind, enum kind lead, argument varied, argument *values) {
     static uint8_t changed[2][MOST];
-    size_t count = 0;
     const size_t numbers[] = {0, 1, 4, varied.len, varied.len + 1, 128, 4294967295u};
-    switch (kind) {
-        case DER: values[count++] = (argument){usual_der, sizeof usual_der}; break;
-        case TEXT: values[count++] = (argument){usual_text, sizeof usual_text - 1}; break;
-        case ARCS: values[count++] = (argument){usual_arcs, 4}; break;
-        case LIST: values[count++] = (argument){usual_list, 4}; break;
-        case INDEX:
-        case NUMBER:
-            for (size_t i = 0; i < sizeof numbers / sizeof *numbers; i++) values[count++].len = numbers[i];
-            break;
-        default:
-            if (lead == LIST) {
-                memcpy(values, searched, sizeof searched);
-                return SEARCHED;
-            }
-            values[count++] = (argument){usual, USUAL_LEN};
-            if (lead != OCTETS && lead != ITEM) break;
-            values[count++] = (argument){varied.items, varied.len > MOST ? 3 : varied.len};
-            if (varied.len < 2 || varied.len > MOST) break;
-            values[count++] = (argument){varied.items, varied.len - 1};
-            for (size_t i = 0; i < 2; i++) {
-                memcpy(changed[i], varied.items, varied.len);
-                changed[i][varied.len - 1 - i * (varied.len / 4)] ^= 1;
-                values[count++] = (argument){changed[i], varied.len};
-            }
+    const argument inputs[] = {usual_inputs[kind], {varied.items, varied.len > MOST ? 3 : varied.len},
+        {varied.items, varied.len - 1}, {changed[0], varied.len}, {changed[1], varied.len}};
+    size_t count = kind != lead ? 1 : varied.len < 2 || varied.len > MOST ? 2 : 5;
+    if (sizes[kind] == 0) {
+        for (count = 0; count < sizeof numbers / sizeof *numbers; count++) values[count].len = numbers[count];
+        return count;
     }
-    return count;
+    for (size_t i = 0; i < 2 && count == 5; i++) {
+        memcpy(changed[i], varied.items, varied.len);
+        changed[i][varied.len - 1 - i * (varied.len / 4)] ^= 1;
+    }
+    memcpy(values, lead == LIST ? searched : inputs, lead == LIST ? sizeof searched : sizeof inputs);
+    return lead == LIST ? SEARCHED : count;
 }
 
 /* Sets each input beside the one that varies, and calls. */
@@ -465,8 +452,24 @@ static void vary_each(int lead) {
     }
 }
 
+/* Elements whose lengths have one to three octets: cut at each byte, and with each value of each of the first bytes. */
+static void vary_elements(int lead) {
+    static const size_t contents[] = {3, 127, 128, 255, 256};
+    static uint8_t der[260];
+    for (size_t i = 0; i < sizeof contents / sizeof *contents; i++) {
+        size_t len = write_head(contents[i], der) + contents[i];
+        for (size_t at = 0; at < 256 * 5; at++) {
+            fill_der(der, len, 0);
+            if (at < len) with(lead, der, at);
+            der[at / 256] = (uint8_t)at;
+            with(lead, der, len);
+        }
+    }
+}
+
 static void vary_array(int lead, enum kind kind) {
     static uint32_t items[MOST];
+    if (kind == DER) vary_elements(lead);
     with(lead, NULL, 0);
     vary_identifiers(lead, kind);
     if (kind == OCTETS) vary_each(lead);
@@ -485,22 +488,6 @@ static void vary_array(int lead, enum kind kind) {
     }
 }
 
-/* Elements whose lengths have one to three octets: cut at each byte, and with each value of each of the first bytes. */
-static void vary_der(int lead) {
-    static const size_t contents[] = {3, 127, 128, 255, 256};
-    static uint8_t der[260];
-    for (size_t i = 0; i < sizeof contents / sizeof *contents; i++) {
-        size_t len = write_head(contents[i], der) + contents[i];
-        for (size_t at = 0; at < 256 * 5; at++) {
-            fill_der(der, len, 0);
-            if (at < len) with(lead, der, at);
-            der[at / 256] = (uint8_t)at;
-            with(lead, der, len);
-        }
-    }
-    vary_array(lead, DER);
-}
-
 static void vary_numbers(int lead) {
     for (size_t number = 0; number < 300; number++) with(lead, NULL, number);
     for (size_t bit = 9; bit < 8 * sizeof(size_t); bit++) {
@@ -516,10 +503,8 @@ static void search_beside(argument item) {
     static uint8_t longer[MOST], other[MOST];
     static const uint8_t low[] = {0}, above[] = {0x2A}, below[] = {0x2B, 1};
     size_t len = item.len < MOST - 1 ? item.len : 3;
-    if (len > 0) memcpy(longer, item.items, len);
-    if (len > 0) memcpy(other, item.items, len);
+    if (len > 0) memcpy(longer, item.items, len), memcpy(other, item.items, len), other[len - 1] ^= 1;
     longer[len] = 1;
-    if (len > 0) other[len - 1] ^= 1;
     const argument all[SEARCHED] = {{longer, len}, {longer, len > 0 ? len - 1 : 0}, {longer, len + 1}, {other, len},
         {low, 1}, {one, 1}, {above, 1}, {two, 1}, {below, 2}, {three, 1}};
     memcpy(searched, all, sizeof all);
@@ -592,22 +577,11 @@ static void vary_huge_lists(int lead) {
     }
 }
 
-static void vary_list(int lead) {
-    vary_item_lengths(lead);
-    vary_counts(lead);
-    vary_huge_lists(lead);
-}
-
 static void vary(int lead) {
-    switch (f->kinds[lead]) {
-        case OCTETS:
-        case ITEM: vary_array(lead, OCTETS); break;
-        case TEXT:
-        case ARCS: vary_array(lead, f->kinds[lead]); break;
-        case LIST: vary_list(lead); break;
-        case DER: vary_der(lead); break;
-        default: vary_numbers(lead);
-    }
+    enum kind kind = f->kinds[lead] == ITEM ? OCTETS : f->kinds[lead];
+    if (kind == LIST) vary_item_lengths(lead), vary_counts(lead), vary_huge_lists(lead);
+    else if (sizes[kind] == 0) vary_numbers(lead);
+    else vary_array(lead, kind);
 }
 
 /* Arguments with a result that is written. */
