@@ -21,10 +21,10 @@
  *   net-snmp, test `arc <= UINT32_MAX` first, or give its text to const_oid_from_text.
  * - Threads. Every function is thread-safe. While a call runs, no other thread may write its inputs or touch its
  *   output.
- * - Machines. The tests run on Linux with glibc on x86-64. At commit 966d6e6e, on 29 November 2026, some passed on
- *   aarch64, armv7, riscv64, powerpc64le, s390x, i686, with musl, and on Windows (mingw): the repository's
- *   rust/README.md says which. The proofs are for 64 bits. The library that Rattle builds needs x86-64-v2 (POPCNT,
- *   SSE4.1). The library needs no system: of the C library it calls memory functions, and cargo's build also abort.
+ * - Machines. The tests run on Linux with glibc on x86-64. At commit 966d6e6e some passed on aarch64, armv7, riscv64,
+ *   powerpc64le, s390x, i686, with musl, and on Windows (mingw): the repository's rust/README.md says which, and when.
+ *   The proofs are for 64 bits. What Rattle builds needs x86-64-v2 (POPCNT, SSE4.1). The library needs no system: of
+ *   the C library it calls memory functions, and cargo's build also abort.
  * - Octets. These are contents octets alone. A complete element 06 09 2A 86 .. and the bytes of the text "1.2" are no
  *   errors, but 0.6.9.42... and 1.9.46.50. Give an element to const_oid_from_der, and a text to const_oid_from_text.
  *
@@ -32,7 +32,8 @@
  * status, by value. Code 0 is success. With any other code the function wrote nothing, and the output is unchanged, bit
  * for bit. Items of the output after the first `len` are always unchanged.
  *
- * A function that is given invalid octets returns the first of these codes that applies:
+ * A function that is given invalid octets returns the first of these codes that applies, and of two identifiers the code
+ * of the first invalid one:
  *
  * - EMPTY: there is no octet.
  * - The code for the first wrong subidentifier, which ends with its first octet below 0x80: BASE128 if it begins with
@@ -182,13 +183,11 @@ typedef char const_oid_size_t_has_64_or_32_bits[sizeof(size_t) == 8 ? 1 : sizeof
 CONST_OID_NODISCARD uint32_t const_oid_version(void);
 
 /* Reads the element of DER that bytes begin with (X.690, 8.1 and 10.1): the tag 6, the length, and contents octets.
- * Stores in `contents`, which must not be null, where these are in the input, and returns in `len` how many bytes the
- * element has. Others may follow: there is one whole element, and no more, if `element.code == CONST_OID_OK &&
- * element.len == len`. The code is NO_ELEMENT if the tag is not 6, or the length is indefinite or could be in fewer
- * bytes, or not all contents octets are there; or else that of the octets if they are invalid.
- *
- * No bytes are NO_ELEMENT too. So a loop over elements runs `while (len > 0)`, and any code but OK is an error: a loop
- * that runs while the code is OK takes a malformed element for the end. */
+ * Stores in `contents` where these are in the input, and returns in `len` how many bytes the element has. Others may
+ * follow: there is one whole element, and no more, if `element.code == CONST_OID_OK && element.len == len`. The code is
+ * NO_ELEMENT if there are no bytes, the tag is not 6, or the length is indefinite or could be in fewer bytes, or not all
+ * contents octets are there; or else that of the octets if they are invalid. So a loop over elements runs `while (len >
+ * 0)`, and any code but OK is an error: one that runs while the code is OK takes a malformed element for the end. */
 CONST_OID_NODISCARD CONST_OID_READS(1, 2) CONST_OID_NONNULL(3) const_oid_status const_oid_from_der(
     const uint8_t *der, size_t len, const_oid_octets *CONST_OID_RESTRICT contents);
 
@@ -230,9 +229,8 @@ CONST_OID_NODISCARD CONST_OID_READS(1, 2) const_oid_status const_oid_arc(
 CONST_OID_NODISCARD CONST_OID_READS(1, 2) CONST_OID_WRITES(3, 4) const_oid_status const_oid_arcs(
     const uint8_t *octets, size_t len, uint32_t *CONST_OID_RESTRICT out, size_t out_len);
 
-/* Writes as many arcs as fit, in order, from the index `first` on. The octets may have any length. `out_len` counts
- * arcs. `len` is 0 past the last arc, and the code is never OUTPUT_TOO_SHORT. A loop over all arcs with a short output
- * adds `len` to `first` until `len` is 0. */
+/* Writes as many arcs as fit, in order, from the index `first` on. The octets may have any length. `len` is 0 past the
+ * last arc; OUTPUT_TOO_SHORT is never the code. A loop over all arcs adds `len` to `first` until `len` is 0. */
 CONST_OID_NODISCARD CONST_OID_READS(1, 2) CONST_OID_WRITES(4, 5) const_oid_status const_oid_arcs_from(
     const uint8_t *octets, size_t len, size_t first, uint32_t *CONST_OID_RESTRICT out, size_t out_len);
 
@@ -261,8 +259,8 @@ CONST_OID_INLINE int CONST_OID_DIFFER(const uint8_t *left, const uint8_t *right,
 }
 #endif
 
-/* Whether an identifier begins with all arcs of a prefix. Both may have any length. Returns the code of the octets if
- * they are invalid, or else that of the prefix. Code 0 says only that both are valid: the answer is in `detail`. */
+/* Whether an identifier begins with all arcs of a prefix. Both may have any length. Code 0 says only that both are
+ * valid: the answer is in `detail`. */
 CONST_OID_NODISCARD CONST_OID_READS(1, 2) CONST_OID_READS(3, 4) const_oid_status const_oid_starts_with(
     const uint8_t *octets, size_t len, const uint8_t *prefix, size_t prefix_len);
 
@@ -276,8 +274,7 @@ CONST_OID_NODISCARD CONST_OID_READS(1, 2) CONST_OID_READS(3, 4) CONST_OID_INLINE
         && const_oid_check(octets, len).code == CONST_OID_OK;
 }
 
-/* Whether two identifiers of any length are equal. Returns the code for the first invalid one, if any. Code 0 says
- * only that both are valid: the answer is in `detail`. */
+/* Whether two identifiers of any length are equal. Code 0 says only that both are valid: the answer is in `detail`. */
 CONST_OID_NODISCARD CONST_OID_READS(1, 2) CONST_OID_READS(3, 4) const_oid_status const_oid_eq(
     const uint8_t *left, size_t left_len, const uint8_t *right, size_t right_len);
 
@@ -289,18 +286,17 @@ CONST_OID_NODISCARD CONST_OID_READS(1, 2) CONST_OID_READS(3, 4) CONST_OID_INLINE
 }
 
 /* Compares two identifiers of any length by their octets, as memcmp does. A prefix comes first. An identifier's
- * descendants follow it without a gap. This is not the order in SNMP. Returns the code for the first invalid one, if
- * any. */
+ * descendants follow it without a gap. This is not the order in SNMP. */
 CONST_OID_NODISCARD CONST_OID_READS(1, 2) CONST_OID_READS(3, 4) const_oid_status const_oid_cmp(
     const uint8_t *left, size_t left_len, const uint8_t *right, size_t right_len);
 
 /* Compares two identifiers of any length by their arcs, in lexicographic order. A prefix comes first. This is the order
- * in SNMP (RFC 3416) and in the sorted lists below. Returns the code for the first invalid one, if any. */
+ * in SNMP (RFC 3416) and in the sorted lists below. */
 CONST_OID_NODISCARD CONST_OID_READS(1, 2) CONST_OID_READS(3, 4) const_oid_status const_oid_cmp_arcs(
     const uint8_t *left, size_t left_len, const uint8_t *right, size_t right_len);
 
 /* Compares two identifiers of at most 255 octets by length, and then by their octets. This is the order in the Rust
- * crate const-oid, and not in SNMP. Returns the code for the first invalid one, if any. */
+ * crate const-oid, and not in SNMP. */
 CONST_OID_NODISCARD CONST_OID_READS(1, 2) CONST_OID_READS(3, 4) const_oid_status const_oid_cmp_owned(
     const uint8_t *left, size_t left_len, const uint8_t *right, size_t right_len);
 
@@ -342,9 +338,8 @@ CONST_OID_NODISCARD CONST_OID_READS(1, 2) CONST_OID_READS(3, 4) const_oid_status
 CONST_OID_NODISCARD CONST_OID_READS(1, 2) CONST_OID_READS(3, 4) const_oid_status const_oid_nearest(
     const uint8_t *octets, size_t len, const const_oid_octets *sorted, size_t count);
 
-/* Finds the items that begin with all arcs of an identifier, itself included, and stores where they are in `range`,
- * which must not be null. `start` is where the identifier would be inserted, whether there are such items or not. If
- * there are none, `end` is the same. With OK, `len` is 0. If the identifier is invalid, `range` is unchanged. */
+/* Finds the items that begin with all arcs of an identifier, itself included, and stores where they are in `range`.
+ * `start` is where it would be inserted, also if there are none: then `end` is the same. With OK, `len` is 0. */
 CONST_OID_NODISCARD CONST_OID_READS(1, 2) CONST_OID_READS(3, 4) CONST_OID_NONNULL(5)
 const_oid_status const_oid_subtree_range(const uint8_t *octets, size_t len, const const_oid_octets *sorted, size_t count,
     const_oid_range *CONST_OID_RESTRICT range);
