@@ -26,11 +26,7 @@ QUOTED = {
     "antt": ["crates/const_oid_uses/proofs/**/*.antt"],
 }
 # What the tests of a page run.
-RUN = {
-    "README.md": ["rs"],
-    CRATE: ["rust", "rust,compile_fail"],
-    "crates/const_oid_c/README.md": ["cpp"],
-}
+RUN = {"README.md": ["rs"], CRATE: ["rust", "rust,compile_fail"], "crates/const_oid_c/README.md": ["cpp"]}
 
 
 def lines_of(text):

@@ -129,13 +129,6 @@ static void element_row(void) {
     say_octets(status, contents.octets);
 }
 
-/* Says the octets of a text in an output of a length. */
-static void text_in_row(const char *rest) {
-    const char *given = rest + strcspn(rest, " ");
-    if (*given == ' ') given++;
-    say_octets(const_oid_from_text(given, strlen(given), out, numbers[0]), out);
-}
-
 /* Says the index of the first wrong component. */
 static void component_row(const char *rest) {
     const_oid_status status = const_oid_from_text(rest, strlen(rest), out, MOST);
@@ -197,8 +190,10 @@ static void order_row(comparison *compared_by) {
 #define IS(name) (strcmp(call, name) == 0)
 
 static void answer(const char *call, const char *rest) {
+    const char *second = rest + strcspn(rest, " ");
+    second += *second == ' ';
     if (IS("text")) say_octets(const_oid_from_text(rest, strlen(rest), out, MOST), out);
-    else if (IS("text_in")) text_in_row(rest);
+    else if (IS("text_in")) say_octets(const_oid_from_text(second, strlen(second), out, numbers[0]), out);
     else if (IS("component")) component_row(rest);
     else if (IS("bytes")) say_octets(const_oid_from_text((const char *)items[0].octets, items[0].len, out, MOST), out);
     else if (IS("octets")) octets_row();
