@@ -240,11 +240,8 @@ fn check_element(der: &[u8]) {
 fn check_octets(octets: &[u8]) {
     let answer = model::of_octets(octets);
     let borrowed = ObjectIdentifierRef::from_bytes(octets);
-    assert_eq!(
-        borrowed.map(|oid| oid.as_bytes().as_ptr_range()),
-        answer.as_ref().map(|_| octets.as_ptr_range()).map_err(|fault| *fault),
-        "{octets:02X?}"
-    );
+    let place = answer.as_ref().map(|_| octets.as_ptr_range()).map_err(|fault| *fault);
+    assert_eq!(borrowed.map(|oid| oid.as_bytes().as_ptr_range()), place, "{octets:02X?}");
     assert_eq!(borrowed, octets.try_into());
     let usual = ObjectIdentifier::from_bytes_sized(octets);
     assert_eq!(ObjectIdentifier::from_bytes(octets), usual);
@@ -390,8 +387,9 @@ fn check_owned<const N: usize>(octets: &[u8], arcs: &[Arc]) {
     }
 }
 
-/// The functions of a valid identifier, borrowed.
-fn check_borrowed(octets: &[u8], arcs: &[Arc]) {
+/// The functions of an identifier, borrowed, if octets are valid.
+fn check_borrowed(octets: &[u8]) {
+    let Ok(arcs) = &model::of_octets(octets) else { return };
     let oid = ObjectIdentifierRef::from_bytes(octets).unwrap();
     check_values!(oid, octets, arcs, "ObjectIdentifierRef");
     check_left(oid.arcs(), octets);
@@ -560,9 +558,7 @@ fn check_pair(a: &[u8], b: &[u8]) {
     check_order(ByArcs::of(x), ByArcs::of(y), by_arcs);
     assert_eq!((x.starts_with(y), x.cmp_arcs(y)), (starts, by_arcs), "{a:02X?}, {b:02X?}");
     assert_eq!(x.strip_prefix(y).map(Vec::from_iter), rest, "{a:02X?}, {b:02X?}");
-    let (Ok(i), Ok(j)) = (ObjectIdentifier::<255>::try_from(x), ObjectIdentifier::<255>::try_from(y)) else {
-        return;
-    };
+    let (Ok(i), Ok(j)) = (ObjectIdentifier::<255>::try_from(x), ObjectIdentifier::<255>::try_from(y)) else { return };
     let order = a.len().cmp(&b.len()).then(a.cmp(b));
     check_order(&i, &j, order);
     let few = [x, y].map(|oid| ObjectIdentifier::<3>::try_from(oid).ok());
@@ -573,9 +569,7 @@ fn check_pair(a: &[u8], b: &[u8]) {
     assert_eq!(ByArcs(i).max(ByArcs(j)).0, if by_arcs.is_gt() { i } else { j });
     assert_eq!((i.starts_with(j), i.cmp_arcs(&j), *x == j), (starts, by_arcs, is_equal));
     assert_eq!(i.strip_prefix(&j).map(Vec::from_iter), rest);
-    let Ok(small) = ObjectIdentifier::<39>::try_from(y) else {
-        return;
-    };
+    let Ok(small) = ObjectIdentifier::<39>::try_from(y) else { return };
     assert_eq!((i.starts_with(small), i.cmp_arcs(&small), *x == small), (starts, by_arcs, is_equal));
 }
 
@@ -682,11 +676,7 @@ fn reads_elements() {
 #[test]
 fn reads_octets_at_edges() {
     all(&EDGES, 8, check_octets);
-    all(&EDGES, 4, |octets| {
-        if let Ok(arcs) = model::of_octets(octets) {
-            check_borrowed(octets, &arcs);
-        }
-    });
+    all(&EDGES, 4, check_borrowed);
 }
 
 /// Lengths up to 40, of which one octet in turn is another, and drawn ones.
@@ -711,7 +701,8 @@ fn reads_octets_by_windows() {
 #[test]
 fn reads_long_octets() {
     for octets in valid() {
-        check_borrowed(&octets, &model::of_octets(&octets).unwrap());
+        assert!(model::of_octets(&octets).is_ok());
+        check_borrowed(&octets);
         for end in [&[][..], &[0x80], &[0x81], &[0xFF], &[0x90, 0x80, 0x80, 0x80, 0]] {
             let contents = [&octets, end].concat();
             check_octets(&contents);
@@ -735,7 +726,7 @@ fn reads_and_writes_known_identifiers() {
         let octets = model::encoding(&arcs);
         check_octets(&octets);
         check_element(&[&model::head(octets.len()), &octets[..], &[6, 1, 5]].concat());
-        check_borrowed(&octets, &arcs);
+        check_borrowed(&octets);
         each_capacity!(read_text(&text));
         each_capacity!(read_arcs(&arcs));
     }
