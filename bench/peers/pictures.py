@@ -2,10 +2,7 @@
 """bench/peers/pictures.py [--check]: draws docs/matrix.svg and docs/cost.svg from the tables of docs/PEERS.md.
 
 With --check it writes nothing, and the exit status is 1 if a picture is not the one of its table."""
-import argparse
-import pathlib
-import re
-import sys
+import argparse, pathlib, re, sys  # noqa: E401
 from html import escape
 
 DOCS = pathlib.Path(__file__).resolve().parent.parent.parent / "docs"
