@@ -4,32 +4,19 @@
 #include <net-snmp/net-snmp-config.h>
 #include <net-snmp/net-snmp-includes.h>
 #include <openssl/objects.h>
-#define text_to_octets read_by_hand
 #define octets_to_text print_by_hand
 #include "limit.c"
-#undef text_to_octets
 #undef octets_to_text
 
-/* How many arcs octets have, which are written if there is an output. */
-static inline size_t arcs_by_hand(const uint8_t *octets, size_t size, uint32_t *out) {
-    const uint8_t *end = octets + size;
-    if (size == 0 || end[-1] >= 0x80) return 0;
-    size_t len = 2;
-    uint64_t number = read_groups(&octets), root = number < 40 ? 0 : number < 80 ? 1 : 2;
-    if ((number -= root * 40) > UINT32_MAX) return 0;
-    if (out) out[0] = (uint32_t)root, out[1] = (uint32_t)number;
-    for (; octets < end; len++) {
-        if ((number = read_groups(&octets)) > UINT32_MAX) return 0;
-        if (out) out[len] = (uint32_t)number;
-    }
-    return len;
-}
+static inline void *put_number(void *to, uint64_t number) { return *(uint32_t *)to = (uint32_t)number, to + 4; }
 
-static inline size_t read_element(const uint8_t *der, size_t len) {
+static inline void *put_nothing(void *to, uint64_t number) { return to; }
+
+static inline int read_element(const uint8_t *der, size_t len) {
     size_t head = len < 3 || der[0] != 6 ? 0 : der[1] < 0x80 ? 2 : der[1] == 0x81 ? 3 : der[1] == 0x82 ? 4 : 0;
     size_t size = head == 2 ? der[1] : head == 3 ? der[2] : head == 4 ? (size_t)(der[2] << 8 | der[3]) : 0;
     if (head == 0 || len < head + size || (head == 3 && size < 0x80) || (head == 4 && size < 0x100)) return 0;
-    return arcs_by_hand(der + head, size, NULL);
+    return put_arcs((void *)der, der + head, size, put_nothing) != NULL;
 }
 
 static inline size_t write_element(const uint8_t *octets, size_t len, uint8_t *out) {
@@ -55,21 +42,18 @@ static inline int by_octets(const uint8_t *a, size_t a_len, const uint8_t *b, si
     return order ? order : a_len < b_len ? -1 : a_len > b_len;
 }
 
-/* An identifier as its octets, its arcs and an object. */
-typedef struct {
+/* Identifiers as their octets, arcs and objects. */
+static struct known {
+    uint8_t der[ROOM];
     const_oid_octets octets;
     oid arcs[MAX_OID_LEN];
     size_t count;
     ASN1_OBJECT *object;
-} known;
-
-static known one, same, other, freed;
+} one, same, other, freed;
 static const uint8_t *der, *at;
-static uint8_t out[ROOM], *to;
+static uint8_t *to, out[ROOM];
 static size_t der_len, left;
 static uint32_t arcs[ROOM];
-static const_oid_octets found;
-static u_char tag;
 
 #define O(known) known.octets.octets, known.octets.len
 #define KNOWN CONST_OID_OCTETS(CONSTANT)
@@ -77,12 +61,12 @@ static u_char tag;
 #define IS_KNOWN(known) (known.octets.len == sizeof CONSTANT - 1 && !memcmp(CONSTANT, O(known)))
 #define IS_SAME(known) (one.octets.len == known.octets.len && !memcmp(one.octets.octets, O(known)))
 #define A(known) known.arcs, known.count
-#define OBJECT(known) (at = der, known.object = d2i_ASN1_OBJECT(NULL, &at, (long)der_len))
+#define OBJECT(known) (at = der, (known).object = d2i_ASN1_OBJECT(NULL, &at, (long)der_len))
 #define PARSED(known) \
-    (left = der_len, known.count = MAX_OID_LEN, asn_parse_objid((void *)der, &left, &tag, known.arcs, &known.count))
+    (left = der_len, (known).count = MAX_OID_LEN, asn_parse_objid((void *)der, &left, out, (known).arcs, &(known).count))
 /* A name, a call that is true, and then what it does, by whom, and what it checks. */
 #define CALLS(CALL) \
-    CALL(from_der, !const_oid_from_der(der, der_len, &found).code) /* read DER, `const_oid_from_der`: element */ \
+    CALL(from_der, !const_oid_from_der(der, der_len, &freed.octets).code) /* read DER, `const_oid_from_der`: element */ \
     CALL(d2i, OBJECT(freed) && (ASN1_OBJECT_free(freed.object), 1)) /* read DER, OpenSSL: form */ \
     CALL(read, read_element(der, der_len)) /* read DER, by hand: element */ \
     CALL(to_der, !const_oid_to_der(O(one), out, ROOM).code) /* write DER, `const_oid_to_der`: octets */ \
@@ -104,7 +88,7 @@ static u_char tag;
     CALL(not_known, !IS_KNOWN(other)) /* a constant's sibling, by hand: – */ \
     CALL(arcs, !const_oid_arcs(O(one), arcs, ROOM).code) /* arcs, `const_oid_arcs`: octets */ \
     CALL(objid, PARSED(one) != NULL) /* arcs, net-snmp, of DER: end */ \
-    CALL(read_arcs, arcs_by_hand(O(one), arcs)) /* arcs, by hand: octets */ \
+    CALL(read_arcs, put_arcs(arcs, O(one), put_number)) /* arcs, by hand: octets */ \
     CALL(cmp, const_oid_cmp(O(one), O(other)).detail) /* order of octets, `const_oid_cmp`: octets */ \
     CALL(by_octets, by_octets(O(one), O(other))) /* order of octets, by hand: – */ \
     CALL(cmp_arcs, const_oid_cmp_arcs(O(one), O(other)).detail) /* order of arcs, `const_oid_cmp_arcs`: octets */ \
@@ -115,20 +99,13 @@ static u_char tag;
 #define DEFINE(name, call) __attribute__((noinline)) static int call_##name(void) { return (call) != 0; }
 CALLS(DEFINE)
 
-int text_to_octets(const char *text, size_t len, uint8_t *out_text) { return NO_CALL; }
-
 /* Whether all calls are true. The sibling differs in its last octet. */
 int octets_to_text(const uint8_t *element, size_t len, char *text) {
-    static uint8_t copies[2][ROOM];
-    der_len = len;
-    memcpy(copies[0], element, len), memcpy(copies[1], element, len);
-    copies[1][len - 1] ^= 1;
-    known *all[] = {&other, &same, &one};
-    const uint8_t *elements[] = {copies[1], copies[0], element};
+    struct known *all[] = {&other, &same, &one};
     for (int i = 0; i < 3; i++) {
-        known *made = all[i];
-        der = elements[i];
-        if (const_oid_from_der(der, len, &made->octets).code || !OBJECT((*made)) || !PARSED((*made))) return REJECTED;
+        der = memcpy(all[i]->der, element, der_len = len);
+        all[i]->der[len - 1] ^= i == 0;
+        if (const_oid_from_der(der, len, &all[i]->octets).code || !OBJECT(*all[i]) || !PARSED(*all[i])) return REJECTED;
     }
 #define AND(name, call) && call_##name()
     return 1 CALLS(AND) ? 1 : REJECTED;

@@ -44,8 +44,8 @@ static const char PAIRS[] = /* the digits of 0 to 99 */
     "0001020304050607080910111213141516171819202122232425262728293031323334353637383940414243444546474849"
     "5051525354555657585960616263646566676869707172737475767778798081828384858687888990919293949596979899";
 
-static inline char *put_arc(char *to, uint64_t number) {
-    char room[2 * DIGITS], *at = room + DIGITS;
+static inline void *put_arc(void *text, uint64_t number) {
+    char room[2 * DIGITS], *at = room + DIGITS, *to = text;
     *to++ = '.';
     if (number < 10) return *to = (char)('0' + number), to + 1;
     if (number < 100) return memcpy(to, PAIRS + number * 2, 2), to + 2;
@@ -54,16 +54,21 @@ static inline char *put_arc(char *to, uint64_t number) {
     return memcpy(to, at, DIGITS), to + (room + DIGITS - at);
 }
 
-int octets_to_text(const uint8_t *der, size_t len, char *out) {
-    const uint8_t *at = der + 2, *end = der + len;
-    if (len < 3 || len > ROOM / 4 - DIGITS || end[-1] >= 0x80) return REJECTED;
+/* Puts each arc of octets at the place after those before it, and returns the last one's, or NULL. */
+static inline __attribute__((always_inline)) void *put_arcs(
+    void *to, const uint8_t *at, size_t size, void *(*put)(void *to, uint64_t number)) {
+    const uint8_t *end = at + size;
+    if (size == 0 || end[-1] >= 0x80) return NULL;
     uint64_t number = read_groups(&at), root = number < 40 ? 0 : number < 80 ? 1 : 2;
-    if ((number -= root * 40) > UINT32_MAX) return REJECTED;
-    *out = (char)('0' + root);
-    char *to = put_arc(out + 1, number);
-    while (at < end) {
-        if ((number = read_groups(&at)) > UINT32_MAX) return REJECTED;
-        to = put_arc(to, number);
+    to = put(to, root);
+    for (number -= root * 40; number <= UINT32_MAX; number = read_groups(&at)) {
+        to = put(to, number);
+        if (at == end) return to;
     }
-    return (int)(to - out);
+    return NULL;
+}
+
+int octets_to_text(const uint8_t *der, size_t len, char *out) { /* The text has a dot before the first arc. */
+    char *end = len < 3 || len > ROOM / 4 - DIGITS ? NULL : put_arcs(out - 1, der + 2, len - 2, put_arc);
+    return end ? (int)(end - out) : REJECTED;
 }
