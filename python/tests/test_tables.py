@@ -200,7 +200,7 @@ class Sorted(unittest.TestCase):
         self.assertEqual(sorted(table.items()), [(key.arcs, value) for key, value in found.items()])
         self.assertEqual(sorted(table, reverse=True), [key.arcs for key in reversed(found)])
         self.assertEqual((len(table), bool(table)), (len(found), bool(found)))
-        self.assertLessEqual(max(map(len, found._order[0]._parts), default=0), 2 * sorted_map.PART)
+        self.assertLessEqual(max(map(len, found._order[-1]), default=0), 2 * sorted_map.PART)
 
     def test_a_map_is_a_mutable_mapping(self):
         table = SortedMap({(oid := ObjectIdentifier("2.5")): 1})
@@ -304,6 +304,23 @@ class Sorted(unittest.TestCase):
                     self.assertIn(LOOKS[number % 3](table), wanted if is_met else [keys_after(change)])
                     self.assertEqual((sorted(table._values), len(table)), (list(table), len(list(table.items()))))
                     self.assertEqual([key in table for key in KEYS], [table.nearest(key) is not None for key in KEYS])
+                if not is_met:
+                    break
+
+    def test_a_lookup_looks_again(self):
+        """A lookup that a change meets at any step finds what there is before or after, and pop has its default."""
+        lookups = [lambda table: table.nearest(KEYS[5]), lambda table: table.next_after(KEYS[3])]
+        lookups += [lambda table: table.subtree(KEYS[4]), lambda table: list(table.copy())]
+        lookups += [lambda table: table.pop(KEYS[4], None), lambda table: table.setdefault(KEYS[4], 0)]
+        for lookup, name in itertools.product(lookups, ("set", "del", "clear", "update of many")):
+            change = (lambda table: table.update({KEYS[3]: 0})) if name == "set" else CHANGES[name]
+            change(after := SortedMap(dict.fromkeys(KEYS[::2], 0)))
+            wanted = [lookup(SortedMap(dict.fromkeys(KEYS[::2], 0))), lookup(after)]
+            for number in itertools.count():
+                found, table = [], SortedMap(dict.fromkeys(KEYS[::2], 0))
+                is_met = is_interrupted(number, {0: change}, lambda table: found.append(lookup(table)), table)
+                with self.subTest(name, step=number):
+                    self.assertIn(found, [wanted[:1], wanted[1:]])
                 if not is_met:
                     break
 

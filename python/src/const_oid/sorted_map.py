@@ -4,26 +4,52 @@ import copy
 from bisect import bisect, bisect_left, insort
 from collections.abc import Callable, ItemsView, Iterable, Iterator, KeysView, Mapping, MutableMapping, ValuesView
 from contextlib import suppress
+from functools import wraps
 from itertools import chain, count
 from operator import itemgetter
 from reprlib import recursive_repr
-from typing import TYPE_CHECKING, Any, Generic, Self, TypeVar, cast
+from typing import TYPE_CHECKING, Any, Self, TypeVar, cast
 
 from ._native import ObjectIdentifier
 from ._support import required
 
 Key = TypeVar("Key", bound=ObjectIdentifier)
 Value = TypeVar("Value")
-Entry = TypeVar("Entry")
 Other = TypeVar("Other")
-Values = Mapping[ObjectIdentifier, Any]
-EntryOrNone = tuple[ObjectIdentifier, Any] | None
+Parts = list[list[ObjectIdentifier]]
+Order = tuple[bool, int, dict[ObjectIdentifier, Any], int, Parts]
 Entries = Mapping[Key, Value] | Iterable[tuple[ObjectIdentifier, Value]]
 
 PART = 1000
 _CONTINUED = bytes(range(128, 256))
 _FIRST, _LAST = itemgetter(0), itemgetter(-1)
 _MISSING: Any = object()
+_NO_ORDER: Order = False, 0, {}, -1, []
+_ANY = ObjectIdentifier("0.0")
+
+
+def _lookup(find: Callable[[Any, Parts, ObjectIdentifier], Other]) -> Callable[[Any, ObjectIdentifier], Other]:
+    """A method for a function of a map, its keys in order and an identifier, which looks again after a change."""
+
+    @wraps(find)
+    def found(self: Any, oid: ObjectIdentifier) -> Other:
+        if not isinstance(oid, ObjectIdentifier):
+            required(oid, "key")
+        while True:
+            is_sure, stamp, _, _, keys = self._order
+            if stamp is not self._stamp or not is_sure:
+                stamp, keys = self._in_order()
+            try:
+                result = find(self, keys, oid)
+            except LookupError:  # of keys that have changed
+                if stamp is self._stamp:
+                    raise
+            else:
+                if stamp is self._stamp:
+                    return result
+
+    del found.__wrapped__  # type: ignore[attr-defined]
+    return found
 
 
 class SortedMap(MutableMapping[ObjectIdentifier, Value]):
@@ -40,54 +66,49 @@ class SortedMap(MutableMapping[ObjectIdentifier, Value]):
     ['system', 'sysUpTime', 'the last']
     """
 
-    # The dict is the truth, and the order of its keys a cache, which is right for one stamp and one number of keys. A
-    # change takes a stamp of its own, changes the dict in one instruction, and puts an order or none: so no order is
-    # used with other keys, whatever comes between two instructions, another change, a lookup or an error.
+    # The dict is the truth, and the order of its keys a cache, right while its stamp is the map's. A change takes a
+    # stamp, changes the parts, which nobody uses then, and the dict in one instruction, and puts the order if no other
+    # change has begun. A reader may be within a change: its order is right only while the dict has as many keys, too.
     __slots__ = ("_order", "_stamp", "_stamps", "_values")
 
     def __init__(self, entries: Entries[Key, Value] = ()) -> None:
         values = _checked(entries)
         self._stamps: count[int] = getattr(self, "_stamps", count(1))
         self._stamp = stamp = next(self._stamps)
-        self._order: _Order = (_Keys(values), values, len(values), stamp)
         self._values = values
+        order: Order = True, stamp, values, len(values), _parts(values)
+        self._order: Order = order if next(self._stamps) == stamp + 1 else _NO_ORDER
 
-    def _find(self, find: Callable[..., Other], oid: ObjectIdentifier | None = None) -> Other:
-        """What a function finds in the keys in order and the values. If a change comes in between, it looks again."""
-        while True:
-            keys, values, size, stamp = order = self._order
-            if stamp is not self._stamp or size != len(values) or values is not self._values:
-                values, stamp = self._values, self._stamp
-                size = len(values)
-                self._order = order = (keys := _Keys(values)), values, size, stamp
-            try:
-                found = find(keys, values, oid)
-            except LookupError:  # of keys that have changed
-                if order is self._order and stamp is self._stamp:
-                    raise
-            else:
-                if order is self._order:
-                    return found
+    def _in_order(self) -> tuple[int, Parts]:
+        """The stamp and the keys in order, sorted anew if no order is right."""
+        stamp, values = self._stamp, self._values
+        is_sure, last, others, size, keys = self._order
+        if last is not stamp or not (is_sure or others is values and size == len(values)):
+            size, keys = len(values), _parts(values)
+            self._order = False, stamp, values, size, keys
+        return stamp, keys
 
-    def _follow(self, order: "_Order", stamp: int, added: int, change: Callable[..., None], given: object) -> None:
-        """Changes the order as the dict was changed, if no other change came since it was right."""
-        keys, values, size, last = order
-        is_alone = order is self._order and stamp == last + 1
-        self._order = _NONE
-        if is_alone:
-            change(keys, given)
-            self._order = keys, values, size + added, stamp
+    def _changed(self, order: Order, change: Callable[[Parts, Any], None], given: object, added: int) -> Order:
+        """Takes a stamp, and returns the order after a change of keys, to be put after that of the dict."""
+        is_sure, last, values, size, keys = order
+        self._stamp = stamp = next(self._stamps)
+        if stamp != last + 2 or not is_sure and (size != len(values) or values is not self._values):
+            return _NO_ORDER
+        change(keys, given)
+        return is_sure, stamp, values, size + added, keys
 
     def _remove(self, key: ObjectIdentifier) -> Any:
         """Removes a key, and returns its value, which is held until all is done."""
         order, values = self._order, self._values
-        value = values[required(key, "key")]
-        self._stamp = stamp = next(self._stamps)
-        del values[key]
-        self._follow(order, stamp, -1, _Keys.remove, key)
+        if key not in values:
+            raise KeyError(required(key, "key"))
+        after = self._changed(order, _remove, key, -1)
+        value = values.pop(key)
+        self._order = after if next(self._stamps) == after[1] + 1 else _NO_ORDER
         return value
 
-    def nearest(self, oid: ObjectIdentifier) -> tuple[ObjectIdentifier, Value] | None:
+    @_lookup
+    def nearest(self, keys: Parts, oid: ObjectIdentifier) -> tuple[ObjectIdentifier, Value] | None:
         """The entry whose key is the longest prefix of an identifier, or None. A slice gives the arcs after the key.
 
         >>> names = SortedMap({ObjectIdentifier("2.5"): "directory", ObjectIdentifier("2.5.4"): "attributes"})
@@ -96,18 +117,30 @@ class SortedMap(MutableMapping[ObjectIdentifier, Value]):
         >>> oid[len(names.nearest(oid)[0]) :]
         (3,)
         """
-        return self._find(_Keys.nearest, required(oid, "key"))
+        # A key that is a prefix of the identifier is also one of the last key that is not after it.
+        above: ObjectIdentifier | None = oid
+        while above is not None and (last := _last_until(keys, above)) is not None:
+            if above.starts_with(last):
+                return last, self._values[last]
+            above = _common_prefix(above, last)
+        return None
 
-    def next_after(self, oid: ObjectIdentifier) -> tuple[ObjectIdentifier, Value] | None:
+    @_lookup
+    def next_after(self, keys: Parts, oid: ObjectIdentifier) -> tuple[ObjectIdentifier, Value] | None:
         """The first entry after an identifier, as GetNext of SNMP returns it, or None.
 
         >>> names = SortedMap({ObjectIdentifier("2.5.4"): 1, ObjectIdentifier("2.5.10"): 2})
         >>> names.next_after(ObjectIdentifier("2.5.4"))
         (ObjectIdentifier('2.5.10'), 2)
         """
-        return self._find(_Keys.first_after, required(oid, "key"))
+        index = bisect(keys, oid, key=_LAST)
+        if index == len(keys):
+            return None
+        key = keys[index][bisect(keys[index], oid)]
+        return key, self._values[key]
 
-    def subtree(self, oid: ObjectIdentifier) -> list[tuple[ObjectIdentifier, Value]]:
+    @_lookup
+    def subtree(self, keys: Parts, oid: ObjectIdentifier) -> list[tuple[ObjectIdentifier, Value]]:
         """All entries whose keys begin with an identifier, which may be a key itself.
 
         >>> arcs = [(2, 5, 4), (2, 5, 4, 3), (2, 6)]
@@ -115,7 +148,19 @@ class SortedMap(MutableMapping[ObjectIdentifier, Value]):
         >>> names.subtree(ObjectIdentifier("2.5"))
         [(ObjectIdentifier('2.5.4'), 1), (ObjectIdentifier('2.5.4.3'), 2)]
         """
-        return self._find(_Keys.subtree, required(oid, "key"))
+        found: list[ObjectIdentifier] = []
+        for part in keys[bisect_left(keys, oid, key=_LAST) :]:
+            start = bisect_left(part, oid)
+            end = bisect_left(part, True, start, key=lambda key: not key.starts_with(oid))
+            found += part[start:end]
+            if end < len(part):
+                break
+        return [(key, self._values[key]) for key in found]
+
+    @_lookup
+    def _sorted(self, keys: Parts, _: ObjectIdentifier) -> dict[ObjectIdentifier, Value]:
+        """The entries in order."""
+        return {key: self._values[key] for key in chain.from_iterable(keys)}
 
     def copy(self) -> Self:
         """A map with the same keys and values, which are not copied.
@@ -141,9 +186,10 @@ class SortedMap(MutableMapping[ObjectIdentifier, Value]):
         >>> SortedMap({ObjectIdentifier("2.6"): 2, ObjectIdentifier("2.5"): 1}).popitem()
         (ObjectIdentifier('2.6'), 2)
         """
-        while entry := self._find(_Keys.last):
-            with suppress(KeyError):  # of a key that has been removed in between
-                return entry[0], self._remove(entry[0])
+        while self._values:
+            with suppress(LookupError):  # of a key that is removed in between
+                key = self._in_order()[1][-1][-1]
+                return key, self._remove(key)
         raise KeyError("popitem(): the map is empty")
 
     def clear(self) -> None:
@@ -153,8 +199,7 @@ class SortedMap(MutableMapping[ObjectIdentifier, Value]):
         >>> table.clear(), table
         (None, SortedMap({}))
         """
-        self._values = {}
-        self._order = _NONE
+        SortedMap.__init__(self)
 
     def update(self, entries: Entries[Key, Value] = (), /) -> None:  # type: ignore[override]
         """Sets all entries of a mapping or an iterable, or none if a key is no identifier.
@@ -164,26 +209,40 @@ class SortedMap(MutableMapping[ObjectIdentifier, Value]):
         >>> table
         SortedMap({ObjectIdentifier('2.4'): 3, ObjectIdentifier('2.5'): 2})
         """
-        others, values, order = _checked(entries), self._values, self._order
+        others = _checked(entries)
+        order, values = self._order, self._values
         before = {key: value for key in others if (value := values.get(key, _MISSING)) is not _MISSING}
         added = [key for key in others if key not in before]
-        if added:
-            self._stamp = next(self._stamps)
-        undoing = -(stamp := self._stamp)
+        after = self._changed(order, _add_all, added, len(added)) if added else order
+        self._order = _NO_ORDER
         try:
             values |= others
         except BaseException:  # the dict may find no memory to grow, and undoing that takes none
-            self._stamp = undoing
             values |= before
             for key in added:
                 if key in values:
                     del values[key]
-            self._stamp = next(self._stamps)
+            self._order = _NO_ORDER
             raise
-        if added:
-            self._follow(order, stamp, len(added), _Keys.add_all, added)
+        self._order = after if not added or next(self._stamps) == after[1] + 1 else _NO_ORDER
 
     if not TYPE_CHECKING:  # the types are those of MutableMapping
+
+        def keys(self):
+            """The keys in order, in a view that can be reversed, as those of values() and items() can.
+
+            >>> list(reversed(SortedMap.fromkeys([ObjectIdentifier("2.5")]).keys()))
+            [ObjectIdentifier('2.5')]
+            """
+            return _KeysView(self)
+
+        def values(self):
+            """The values in the order of keys: >>> table.values()"""
+            return _ValuesView(self)
+
+        def items(self):
+            """The entries in the order of keys: >>> table.items()"""
+            return _ItemsView(self)
 
         def get(self, key, default=None):
             """The value of a key, or else a default.
@@ -191,7 +250,11 @@ class SortedMap(MutableMapping[ObjectIdentifier, Value]):
             >>> SortedMap().get(ObjectIdentifier("2.5"), 0)
             0
             """
-            return self._values.get(required(key, "key"), default)
+            value = self._values.get(key, _MISSING)
+            if value is _MISSING:
+                required(key, "key")
+                return default
+            return value
 
         def pop(self, key, default=_MISSING):
             """Removes a key and returns its value, or else a default, or raises a KeyError.
@@ -199,8 +262,6 @@ class SortedMap(MutableMapping[ObjectIdentifier, Value]):
             >>> SortedMap().pop(ObjectIdentifier("2.5"), 0)
             0
             """
-            if default is not _MISSING and required(key, "key") not in self._values:
-                return default
             try:
                 return self._remove(key)
             except KeyError:
@@ -215,36 +276,12 @@ class SortedMap(MutableMapping[ObjectIdentifier, Value]):
             0
             """
             order, values = self._order, self._values
-            if required(key, "key") in values:
-                return values.setdefault(key, default)
-            self._stamp = stamp = next(self._stamps)
-            value = values.setdefault(key, default)
-            self._follow(order, stamp, 1, _Keys.add, key)
+            value = values.get(required(key, "key"), _MISSING)
+            if value is _MISSING:
+                after = self._changed(order, _add, key, 1)
+                value = values.setdefault(key, default)
+                self._order = after if next(self._stamps) == after[1] + 1 else _NO_ORDER
             return value
-
-    def keys(self) -> "_KeysView":
-        """The keys in order. As views of dict, those of a map can be reversed.
-
-        >>> list(reversed(SortedMap({ObjectIdentifier("2.5"): 1}).keys()))
-        [ObjectIdentifier('2.5')]
-        """
-        return _KeysView(self)
-
-    def values(self) -> "_ValuesView[Value]":
-        """The values in the order of keys.
-
-        >>> list(SortedMap({ObjectIdentifier("2.5"): 1}).values())
-        [1]
-        """
-        return _ValuesView(self)
-
-    def items(self) -> "_ItemsView[Value]":
-        """The entries in the order of keys.
-
-        >>> list(SortedMap({ObjectIdentifier("2.5"): 1}).items())
-        [(ObjectIdentifier('2.5'), 1)]
-        """
-        return _ItemsView(self)
 
     def __or__(self, other: Mapping[Key, Value]) -> Self:
         if not isinstance(other, Mapping):
@@ -270,37 +307,40 @@ class SortedMap(MutableMapping[ObjectIdentifier, Value]):
 
     def __setitem__(self, key: ObjectIdentifier, value: Value) -> None:
         order, values = self._order, self._values
-        if required(key, "key") in values:
+        if key in values:
+            self._order = _NO_ORDER  # for a key that is removed in between
             values[key] = value
+            self._order = order
         else:
-            self._stamp = stamp = next(self._stamps)
+            after = self._changed(order, _add, required(key, "key"), 1)
             values[key] = value
-            self._follow(order, stamp, 1, _Keys.add, key)
+            self._order = after if next(self._stamps) == after[1] + 1 else _NO_ORDER
 
     def __delitem__(self, key: ObjectIdentifier) -> None:
         self._remove(key)
 
     def __contains__(self, key: object) -> bool:
-        return required(key, "key") in self._values
+        return key in self._values or required(key, "key") in self._values
 
     def __iter__(self) -> Iterator[ObjectIdentifier]:
-        return self._walk(iter, _KeysView)
+        return self._walk(_forth)
 
     def __reversed__(self) -> Iterator[ObjectIdentifier]:
-        return self._walk(reversed, _KeysView)
+        return self._walk(_back)
 
-    def _walk(self, order: Callable[[Any], Iterator[Any]], view: "type[_View[Entry]]") -> "Iterator[Entry]":
-        """The entries of a view. A change from now on is noticed."""
-        keys, values, size, stamp = self._find(lambda *_: self._order)
-        return self._steps(view.entries(values, order(keys)), values, size, stamp)
+    def _walk(self, way: Callable[[Parts], Iterator[Any]], entries: Any = lambda _, keys: keys) -> Iterator[Any]:
+        """What there is for each key of the dict, in order or back. A change from now on is noticed."""
+        stamp, keys = self._in_order()
+        return self._steps(entries(self._values, way(keys)), stamp, len(self._values))
 
-    def _steps(self, entries: Iterator[Entry], values: Values, size: int, stamp: int) -> Iterator[Entry]:
+    def _steps(self, entries: Iterator[Any], stamp: int, size: int) -> Iterator[Any]:
         """Yields entries, and fails if keys have been added or removed."""
-        for entry in chain(entries, (_MISSING,)):
-            if self._stamp is not stamp or len(values) != size or self._values is not values:
-                raise RuntimeError(f"{type(self).__name__} changed during iteration")
-            if entry is not _MISSING:
-                yield entry
+        for entry in entries:
+            if self._stamp is not stamp:
+                break
+            yield entry
+        if self._stamp is not stamp or len(self._values) != size:
+            raise RuntimeError(f"{type(self).__name__} changed during iteration")
 
     def __len__(self) -> int:
         return len(self._values)
@@ -313,7 +353,7 @@ class SortedMap(MutableMapping[ObjectIdentifier, Value]):
         """For copies and pickles: the entries in order, and the attributes of a subclass."""
         attributes, slots = cast(Any, super()).__getstate__()
         others = {name: value for name, value in slots.items() if name not in SortedMap.__slots__}
-        return attributes, {**others, "_values": dict(self._find(_Keys.entries))}
+        return attributes, {**others, "_values": self._sorted(_ANY)}
 
     def __setstate__(self, state: tuple[dict[str, Any] | None, dict[str, Any]]) -> None:
         attributes, slots = state
@@ -341,122 +381,57 @@ def _common_prefix(oid: ObjectIdentifier, other: ObjectIdentifier) -> ObjectIden
     return ObjectIdentifier.from_bytes(prefix) if prefix else None
 
 
-class _View(Generic[Entry]):
-    """A view of a map, in its order, or reversed."""
-
-    __slots__ = ()
-    _mapping: SortedMap[Any]
-
-    @staticmethod
-    def entries(values: Values, keys: Iterator[ObjectIdentifier]) -> Iterator[Any]:
-        """What the view has for the keys of a dict."""
-        return keys
-
-    def __iter__(self) -> Iterator[Entry]:
-        return self._mapping._walk(iter, type(self))
-
-    def __reversed__(self) -> Iterator[Entry]:
-        return self._mapping._walk(reversed, type(self))
-
-
-class _Keys:
+def _parts(keys: Iterable[ObjectIdentifier]) -> Parts:
     """Keys in order, in parts of at most 2 * PART, so that one more moves few of them."""
-
-    __slots__ = ("_parts",)
-
-    def __init__(self, keys: Iterable[ObjectIdentifier]) -> None:
-        keys = sorted(keys)
-        self._parts = [keys[start : start + PART] for start in range(0, len(keys), PART)]
-
-    def add(self, key: ObjectIdentifier) -> None:
-        parts = self._parts
-        if not parts:
-            parts.append([])
-        index = bisect_left(parts, key, 0, len(parts) - 1, key=_LAST)
-        insort(part := parts[index], key)
-        if len(part) > 2 * PART:
-            parts[index : index + 1] = part[:PART], part[PART:]
-
-    def remove(self, key: ObjectIdentifier) -> None:
-        index = bisect_left(self._parts, key, key=_LAST)
-        for part in self._parts[index : index + 1]:
-            del part[bisect_left(part, key)]
-            if not part:
-                del self._parts[index]
-
-    def add_all(self, keys: list[ObjectIdentifier]) -> None:
-        if 8 * len(keys) > sum(map(len, self._parts)):
-            _Keys.__init__(self, [*self, *keys])
-        else:
-            for key in keys:
-                self.add(key)
-
-    def nearest(self, values: Values, oid: ObjectIdentifier) -> EntryOrNone:
-        """The entry of the longest key that begins an identifier, or None."""
-        # A key that is a prefix of the identifier is also one of the last key that is not after it.
-        above: ObjectIdentifier | None = oid
-        while above is not None and (last := self.last_until(above)) is not None:
-            if above.starts_with(last):
-                return last, values[last]
-            above = _common_prefix(above, last)
-        return None
-
-    def last(self, values: Values, _: None) -> EntryOrNone:
-        return None if not self._parts else (self._parts[-1][-1], values[self._parts[-1][-1]])
-
-    def entries(self, values: Values, _: None) -> Iterable[tuple[ObjectIdentifier, Any]]:
-        return list(zip(self, map(values.__getitem__, self)))
-
-    def first_after(self, values: Values, oid: ObjectIdentifier) -> EntryOrNone:
-        """The entry of the first key after an identifier, or None."""
-        index = bisect(self._parts, oid, key=_LAST)
-        if index == len(self._parts):
-            return None
-        key = self._parts[index][bisect(self._parts[index], oid)]
-        return key, values[key]
-
-    def last_until(self, oid: ObjectIdentifier) -> ObjectIdentifier | None:
-        """The last key that is not after an identifier, or None."""
-        index = bisect(self._parts, oid, key=_FIRST) - 1
-        return None if index < 0 else self._parts[index][bisect(self._parts[index], oid) - 1]
-
-    def subtree(self, values: Values, oid: ObjectIdentifier) -> list[tuple[ObjectIdentifier, Any]]:
-        """The entries of the keys that begin with an identifier."""
-        found: list[ObjectIdentifier] = []
-        for part in self._parts[bisect_left(self._parts, oid, key=_LAST) :]:
-            start = bisect_left(part, oid)
-            end = bisect_left(part, True, start, key=lambda key: not key.starts_with(oid))
-            found += part[start:end]
-            if end < len(part):
-                break
-        return list(zip(found, map(values.__getitem__, found)))
-
-    def __iter__(self) -> Iterator[ObjectIdentifier]:
-        return chain.from_iterable(self._parts)
-
-    def __reversed__(self) -> Iterator[ObjectIdentifier]:
-        return chain.from_iterable(map(reversed, reversed(self._parts)))
+    keys = sorted(keys)
+    return [keys[start : start + PART] for start in range(0, len(keys), PART)]
 
 
-class _KeysView(_View[ObjectIdentifier], KeysView[ObjectIdentifier]):
-    __slots__ = ()
+def _add(parts: Parts, key: ObjectIdentifier) -> None:
+    if not parts:
+        parts.append([])
+    index = bisect_left(parts, key, 0, len(parts) - 1, key=_LAST)
+    insort(part := parts[index], key)
+    if len(part) > 2 * PART:
+        parts[index : index + 1] = part[:PART], part[PART:]
 
 
-class _ValuesView(_View[Value], ValuesView[Value]):
-    __slots__ = ()
-
-    @staticmethod
-    def entries(values: Values, keys: Iterator[ObjectIdentifier]) -> Iterator[Any]:
-        return map(values.get, keys)
-
-
-class _ItemsView(_View[tuple[ObjectIdentifier, Value]], ItemsView[ObjectIdentifier, Value]):
-    __slots__ = ()
-
-    @staticmethod
-    def entries(values: Values, keys: Iterator[ObjectIdentifier]) -> Iterator[Any]:
-        return ((key, values.get(key)) for key in keys)
+def _add_all(parts: Parts, keys: list[ObjectIdentifier]) -> None:
+    if 8 * len(keys) > sum(map(len, parts)):
+        parts[:] = _parts(chain(*parts, keys))
+    else:
+        for key in keys:
+            _add(parts, key)
 
 
-_Order = tuple[_Keys, dict[ObjectIdentifier, Any], int, int]
-_NONE: _Order = _Keys(()), {}, -1, -2
+def _remove(parts: Parts, key: ObjectIdentifier) -> None:
+    index = bisect_left(parts, key, key=_LAST)
+    part = parts[index]
+    del part[bisect_left(part, key)]
+    if not part:
+        del parts[index]
+
+
+def _last_until(parts: Parts, oid: ObjectIdentifier) -> ObjectIdentifier | None:
+    """The last key that is not after an identifier, or None."""
+    index = bisect(parts, oid, key=_FIRST) - 1
+    return None if index < 0 else parts[index][bisect(parts[index], oid) - 1]
+
+
+_forth = chain.from_iterable
+
+
+def _back(parts: Parts) -> Iterator[ObjectIdentifier]:
+    return chain.from_iterable(map(reversed, reversed(parts)))
+
+
+def _view(kind: Any, entries: Callable[[dict[Any, Any], Iterator[Any]], Iterator[Any]]) -> Any:
+    """A kind of view of a map, which can be reversed, and gives what is made of a dict and of its keys in order."""
+    walks: Any = {name: lambda self, way=way: self._mapping._walk(way, entries) for name, way in _WAYS.items()}
+    return type(kind.__name__, (kind,), {"__slots__": (), **walks})
+
+
+_WAYS = {"__iter__": _forth, "__reversed__": _back}
+_KeysView = _view(KeysView, lambda _, keys: keys)
+_ValuesView = _view(ValuesView, lambda values, keys: map(values.get, keys))
+_ItemsView = _view(ItemsView, lambda values, keys: ((key, values.get(key)) for key in keys))
