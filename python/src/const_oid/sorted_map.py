@@ -237,11 +237,19 @@ class SortedMap(MutableMapping[ObjectIdentifier, Value]):
             return _KeysView(self)
 
         def values(self):
-            """The values in the order of keys: >>> table.values()"""
+            """The values in the order of keys.
+
+            >>> list(SortedMap.fromkeys([ObjectIdentifier("2.5")], 1).values())
+            [1]
+            """
             return _ValuesView(self)
 
         def items(self):
-            """The entries in the order of keys: >>> table.items()"""
+            """The entries in the order of keys.
+
+            >>> list(SortedMap.fromkeys([ObjectIdentifier("2.5")], 1).items())
+            [(ObjectIdentifier('2.5'), 1)]
+            """
             return _ItemsView(self)
 
         def get(self, key, default=None):
