@@ -48,7 +48,7 @@ def _lookup(find: Callable[[Any, Parts, ObjectIdentifier], Other]) -> Callable[[
                 if stamp is self._stamp:
                     return result
 
-    del found.__wrapped__  # type: ignore[attr-defined]
+    del vars(found)["__wrapped__"]
     return found
 
 
