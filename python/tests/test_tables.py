@@ -49,6 +49,7 @@ class Names(unittest.TestCase):
             with self.subTest(read.__name__), contextlib.suppress(ImportError, FileNotFoundError):
                 rows = [(name, ObjectIdentifier(row[0])) for name, *row in read()]
                 found = {name for name, oid in rows if names.by_name(name) not in (None, oid)}
+                found -= {"tcg-at-platformModel", "tcg-at-platformVersion"}  # which newer OpenSSL has
                 self.assertEqual(set(elsewhere.split()), found)
                 if read not in (lists.cryptography, lists.asn1crypto):
                     self.assertEqual([], [row for row in rows if None in (names.by_name(row[0]), names.name_of(row[1]))])

@@ -1,4 +1,4 @@
-"""Names of identifiers: 1,492 entries from RFCs and other documents, which lead, and 2,404 others that people type."""
+"""Names of identifiers: 1,492 entries from RFCs and other documents, which lead, and 2,764 others that people type."""
 
 import pathlib
 from functools import cache

@@ -13,6 +13,9 @@ from typing import TYPE_CHECKING, Any, Self, TypeVar, cast
 from ._native import ObjectIdentifier
 from ._support import required
 
+if TYPE_CHECKING:
+    from _collections_abc import dict_items, dict_keys, dict_values
+
 Key = TypeVar("Key", bound=ObjectIdentifier)
 Value = TypeVar("Value")
 Other = TypeVar("Other")
@@ -226,7 +229,13 @@ class SortedMap(MutableMapping[ObjectIdentifier, Value]):
             raise
         self._order = after if not added or next(self._stamps) == after[1] + 1 else _NO_ORDER
 
-    if not TYPE_CHECKING:  # the types are those of MutableMapping
+    if TYPE_CHECKING:  # the other types are those of MutableMapping
+
+        def keys(self) -> dict_keys[ObjectIdentifier, Value]: ...
+        def values(self) -> dict_values[ObjectIdentifier, Value]: ...
+        def items(self) -> dict_items[ObjectIdentifier, Value]: ...
+
+    else:
 
         def keys(self):
             """The keys in order, in a view that can be reversed, as those of values() and items() can.
