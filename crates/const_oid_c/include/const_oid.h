@@ -21,9 +21,8 @@
  *   net-snmp, test `arc <= UINT32_MAX` first, or give its text to const_oid_from_text.
  * - Threads. Every function is thread-safe. While a call runs, no other thread may write its inputs or touch its
  *   output.
- * - Machines. The tests run on Linux with glibc on x86-64. At commit 966d6e6e some passed on aarch64, armv7, riscv64,
- *   powerpc64le, s390x, i686, with musl, and on Windows (mingw): the repository's rust/README.md says which, and when.
- *   The proofs are for 64 bits. What Rattle builds needs x86-64-v2 (POPCNT, SSE4.1). The library needs no system: of
+ * - Machines. The tests run on Linux with glibc on x86-64. The repository's rust/README.md says what passed on other
+ *   machines, by qemu and wine, and when. The proofs are for 64 bits. What Rattle builds needs x86-64-v2 (POPCNT, SSE4.1). The library needs no system: of
  *   the C library it calls memory functions, and cargo's build also abort.
  * - Octets. These are contents octets alone. A complete element 06 09 2A 86 .. and the bytes of the text "1.2" are no
  *   errors, but 0.6.9.42... and 1.9.46.50. Give an element to const_oid_from_der, and a text to const_oid_from_text.

@@ -35,7 +35,7 @@ def common_entries() -> tuple[tuple[ObjectIdentifier, str], ...]:
     """All others, of OpenSSL, MIBs and more, in the same form. A few names of `entries` have another identifier here.
 
     >>> len(common_entries()), common_entries()[2]
-    (2404, (ObjectIdentifier('1.2.840.10045.3.1.7'), 'P-256'))
+    (2764, (ObjectIdentifier('1.2.840.10045.3.1.7'), 'P-256'))
     """
     return _read("common_names.tsv")
 
