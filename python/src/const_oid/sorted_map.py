@@ -337,7 +337,7 @@ class SortedMap(MutableMapping[ObjectIdentifier, Value]):
         self._remove(key)
 
     def __contains__(self, key: object) -> bool:
-        return key in self._values or required(key, "key") in self._values
+        return key in self._values or required(key, "key") is None
 
     def __iter__(self) -> Iterator[ObjectIdentifier]:
         return self._walk(_forth)
