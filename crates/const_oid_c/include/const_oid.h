@@ -87,9 +87,9 @@ extern "C" {
 #endif
 
 /* The arguments, counted from 1, that are an array that the function reads, or writes, and how many items it has. gcc,
- * from 10 on, warns of a number that is more than the array has, and not of one that is less, and of a null pointer
- * unless the number is 0. It also warns of two right calls: at -O0 of a list with nothing in it, on the stack, and with
- * -fanalyzer, from 14 on, of an output that begins at the end of an array and has length 0. Give null for these. */
+ * from 10 on, warns of a number that is greater than the array has, and of a null pointer with a number other than 0. It
+ * does not warn of a smaller number. It also warns of two calls that are right: at -O0, of an array on the stack with no
+ * items; with -fanalyzer, from 14 on, of an output of length 0 at the end of an array. Give null in both. */
 #if defined(__GNUC__) && !defined(__clang__) && __GNUC__ >= 10
 #define CONST_OID_READS(items, len) __attribute__((__access__(__read_only__, items, len)))
 #define CONST_OID_WRITES(items, len) __attribute__((__access__(__write_only__, items, len)))
