@@ -22,10 +22,10 @@ pub(crate) fn check(octets: &[u8]) -> Result<()>
     if octets.is_empty() {
         return Err(Error::Empty);
     }
-    match first_doubtful(octets) {
-        Some(start) => check_from(octets, start),
-        None => Ok(()),
+    if let Some(start) = first_doubtful(octets) {
+        return check_from(octets, start);
     }
+    Ok(())
 }
 
 /// Checks the subidentifiers from the one on that begins at `start`, octet by octet.

@@ -85,8 +85,10 @@ pub(crate) fn first_doubtful(octets: &[u8]) -> Option<usize> {
     if usize::BITS < u64::BITS || octets[octets.len() - 1] >= 128 {
         return Some(0);
     }
-    let mut start = first_odd(octets)?;
-    while start > 0 && octets[start - 1] >= 128 {
+    // Apart, so that the compiler leaves out the test of the index.
+    let (before, _) = octets.split_at(first_odd(octets)?);
+    let mut start = before.len();
+    while start > 0 && before[start - 1] >= 128 {
         start -= 1;
     }
     Some(start)
