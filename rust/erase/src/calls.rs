@@ -1,21 +1,22 @@
 //! The functions for C, from their heads in Rattle: their exports over pointers, and a list for the tests in C.
 
-/// Types of arguments, and what the list for C has for them: an array that is read or written, or a value.
-const KINDS: [(&str, &str); 10] = [
-    ("&[u8]", "IN(OCTETS"),
-    ("&[u32]", "IN(ARCS"),
-    ("&[Octets<'_>]", "IN(LIST"),
-    ("&Octets<'_>", "VALUE(ITEM"),
-    ("&mut [u8]", "OUT(OCTETS"),
-    ("&mut [u32]", "OUT(ARCS"),
-    ("&mut Range", "VALUE(RANGE_OUT"),
-    ("&mut Octets<'_>", "VALUE(ITEM_OUT"),
-    ("usize", "VALUE(INDEX"),
-    ("u32", "VALUE(NUMBER"),
+/// Types of arguments; what the list for C has for them, an array that is read or written, or a value; and of `@`, the
+/// parameters over pointers, and what is made of them.
+const KINDS: [[&str; 4]; 10] = [
+    ["&[u8]", "IN(OCTETS", "@: *const u8, @_len: usize", "input(@, @_len)"],
+    ["&[u32]", "IN(ARCS", "@: *const u32, @_len: usize", "input(@, @_len)"],
+    ["&[Octets<'_>]", "IN(LIST", "@: *const Octets<'_>, @_len: usize", "input(@, @_len)"],
+    ["&Octets<'_>", "VALUE(ITEM", "@: *const Octets<'_>", "&input(@, 1)[0]"],
+    ["&mut [u8]", "OUT(OCTETS", "@: *mut u8, @_len: usize", "output(@, @_len)"],
+    ["&mut [u32]", "OUT(ARCS", "@: *mut u32, @_len: usize", "output(@, @_len)"],
+    ["&mut Range", "VALUE(RANGE_OUT", "@: *mut Range", "&mut output(@, 1)[0]"],
+    ["&mut Octets<'_>", "VALUE(ITEM_OUT", "@: *mut Octets<'_>", "&mut output(@, 1)[0]"],
+    ["usize", "VALUE(INDEX", "@: usize", "@"],
+    ["u32", "VALUE(NUMBER", "@: u32", "@"],
 ];
 
 /// Types of results, and those of C.
-const RESULTS: [(&str, &str); 3] = [("Status", "const_oid_status"), ("u32", "uint32_t"), ("i32", "int")];
+const RESULTS: [[&str; 2]; 3] = [["Status", "const_oid_status"], ["u32", "uint32_t"], ["i32", "int"]];
 
 /// A function for C: its module, its name, its arguments with their types, and the type of its result.
 pub struct Call {
@@ -47,8 +48,8 @@ impl Call {
 
     fn export(&self) -> String {
         let Call { module, name, result, .. } = self;
-        let arguments = self.arguments.iter().map(|(name, of)| over_pointers(name, of));
-        let (parameters, given): (Vec<String>, Vec<String>) = arguments.unzip();
+        let arguments = self.arguments.iter().map(|(name, of)| row(&KINDS, of).map(|part| part.replace('@', name)));
+        let (parameters, given): (Vec<_>, Vec<_>) = arguments.map(|[_, _, over, made]| (over, made)).unzip();
         let head = format!("extern \"C\" fn {name}({}) -> {result}", parameters.join(", "));
         let call = format!("crate::erased::{module}::{name}({})", given.join(", "));
         if given.is_empty() {
@@ -62,11 +63,11 @@ impl Call {
 
     /// The row of the list for C.
     fn row(&self) -> String {
-        let mut out = format!("CALL({}, {}", in_c(&RESULTS, &self.result), self.name);
+        let mut out = format!("CALL({}, {}", row(&RESULTS, &self.result)[1], self.name);
         for (index, (name, of)) in self.arguments.iter().enumerate() {
             let is_text =
                 name == "text" || name == "out" && ["const_oid_to_text", "const_oid_error_text"].contains(&&*self.name);
-            let kind = if name == "der" { "IN(DER" } else { in_c(&KINDS, of) };
+            let kind = if name == "der" { "IN(DER" } else { row(&KINDS, of)[1] };
             let kind = if is_text { kind.replace("OCTETS", "TEXT") } else { kind.into() };
             out += &format!(", {kind}, {index})");
         }
@@ -74,22 +75,9 @@ impl Call {
     }
 }
 
-/// What a table has for a type. One that it lacks stays, and no compiler of C takes it.
-fn in_c<'a>(table: &[(&str, &'a str)], of: &'a str) -> &'a str {
-    table.iter().find(|row| row.0 == of).map_or(of, |row| row.1)
-}
-
-/// The parameters of an argument over pointers, and what is made of them. A slice is a pointer and a length.
-fn over_pointers(name: &str, of: &str) -> (String, String) {
-    let (pointer, rest, slice, one) = match (of.strip_prefix("&mut "), of.strip_prefix('&')) {
-        (Some(rest), _) => ("*mut", rest, "output", "&mut "),
-        (None, Some(rest)) => ("*const", rest, "input", "&"),
-        (None, None) => return (format!("{name}: {of}"), name.into()),
-    };
-    match rest.strip_prefix('[').and_then(|rest| rest.strip_suffix(']')) {
-        Some(item) => (format!("{name}: {pointer} {item}, {name}_len: usize"), format!("{slice}({name}, {name}_len)")),
-        None => (format!("{name}: {pointer} {rest}"), format!("{one}{slice}({name}, 1)[0]")),
-    }
+/// The row of a type. One that a table lacks stands for all of it, and no compiler of C takes it.
+fn row<'a, const LEN: usize>(table: &[[&'a str; LEN]], of: &'a str) -> [&'a str; LEN] {
+    table.iter().find(|row| row[0] == of).copied().unwrap_or([of; LEN])
 }
 
 /// The exported functions of the library.
