@@ -19,11 +19,13 @@ pub struct Edit {
     pub why: &'static str,
 }
 
-/// Edits: `MODULE: OLD => NEW, WHY;` each.
+/// Edits: `MODULE: OLD => NEW, WHY;` each, or `MODULE body: ..` where the source says that Rust has another body.
 macro_rules! edits {
-    ($($module:literal: $old:literal => $new:literal, $why:expr;)*) => {
-        &[$(Edit { module: $module, old: $old, new: $new, why: $why }),*]
+    ($($module:literal $($body:ident)?: $old:literal => $new:literal, $why:expr;)*) => {
+        &[$(Edit { module: $module, old: edits!(@old $($body)? $old), new: $new, why: $why }),*]
     };
+    (@old body $old:literal) => { concat!("// erase: another body\n", $old) };
+    (@old $old:literal) => { $old };
 }
 
 const LANES: &str = "lanes are unstable in Rust";
@@ -48,8 +50,7 @@ pub const CRATES: &[Crate] = &[
             "lib": "mod text;" => "pub(crate) mod text;", FOR_C;
             "oid_ref": "#[derive(Copy, Clone, Eq, Hash)] pub struct ObjectIdentifierRef<'a> { pub ber: &'a [u8], }"
                 => "#[derive(Eq, Hash)]\n#[repr(transparent)]\npub struct ObjectIdentifierRef {\n ber: [u8],\n}", UNSIZED;
-            "oid_ref": "// erase: another body
-                        pub(crate) const fn from_checked(ber: &'a [u8]) -> Self { ObjectIdentifierRef { ber } }"
+            "oid_ref" body: "pub(crate) const fn from_checked(ber: &'a [u8]) -> Self { ObjectIdentifierRef { ber } }"
                 => "#[allow(unsafe_code)]
                         pub(crate) const fn from_checked(ber: &[u8]) -> &Self {
                             // SAFETY: the type is laid out as its only field, and the reference lives as long.
@@ -68,11 +69,9 @@ pub const CRATES: &[Crate] = &[
             "oid_ref": "-> &'a [u8] { self.as_bytes() }" => "-> &[u8] {\n &self.ber\n }", UNSIZED;
             "oid_ref*": "Arcs<'a>" => "Arcs<'_>", UNSIZED;
             "oid_ref": "Option<ObjectIdentifierRef<'a>>" => "Option<&Self>", UNSIZED;
-            "oid_ref": "// erase: another body
-                        fn eq(&self, other: &Self) -> bool { are_equal(self.as_bytes(), other.as_bytes()) }"
+            "oid_ref" body: "fn eq(&self, other: &Self) -> bool { are_equal(self.as_bytes(), other.as_bytes()) }"
                 => "#[inline]\nfn eq(&self, other: &Self) -> bool {\n self.ber == other.ber\n }", BY_CORE;
-            "oid_ref": "// erase: another body
-                        fn cmp(&self, other: &Self) -> Ordering { order(self.as_bytes(), other.as_bytes()) }"
+            "oid_ref" body: "fn cmp(&self, other: &Self) -> Ordering { order(self.as_bytes(), other.as_bytes()) }"
                 => "#[inline]\nfn cmp(&self, other: &Self) -> Ordering {\n self.ber.cmp(&other.ber)\n }", BY_CORE;
             "oid_ref": "fn partial_cmp" => "#[inline]\nfn partial_cmp", "as above, where a caller is compiled without LTO";
             "search*": "#[inline(never)] fn" => "fn", "a search takes fewer instructions, and more octets of code";
@@ -107,16 +106,13 @@ pub const CRATES: &[Crate] = &[
             "": "entries: &'a [Entry<'a>]," => "pub(crate) entries: &'a [Entry<'a>],", LISTED;
             "digits": "pub(crate) fn utf8" => "#[allow(unsafe_code)]\npub(crate) fn utf8",
                 "bytes that are UTF-8 become a text without a check: the crate denies other unsafe code";
-            "text": "// erase: another body
-                        at + write_arc(arc, &mut out[at..at + MAX_ARC_LEN], 0)"
+            "text" body: "at + write_arc(arc, &mut out[at..at + MAX_ARC_LEN], 0)"
                 => "at + write_arc(arc, &mut out[at..][..MAX_ARC_LEN], 0)", "the same part in fewer instructions";
             "fast/lanes": "use core::simd::Simd; use core::simd::prelude::*;" => "", LANES;
-            "fast/lanes": "// erase: another body
-                        let lanes = Simd::<u8, COUNT>::from_slice(octets).simd_lt(Simd::splat(limit));
+            "fast/lanes" body: "let lanes = Simd::<u8, COUNT>::from_slice(octets).simd_lt(Simd::splat(limit));
                         lanes.to_bitmask().count_ones() as usize"
                 => "octets.iter().filter(|octet| **octet < limit).count()", LANES;
-            "buffer": "// erase: another body
-                        copy_to(octets, &mut buffer.bytes);"
+            "buffer" body: "copy_to(octets, &mut buffer.bytes);"
                 => "crate::erased::parts::copy_by_octet(octets, &mut buffer.bytes);",
                 "it takes two hundred octets of flash less";
             "buffer": "#[derive(Copy, Clone)]" => "#[derive(Copy, Clone, PartialEq, Eq)]", EQUALITY;
@@ -137,19 +133,16 @@ pub const CRATES: &[Crate] = &[
                         }"
                 => "", EQUALITY;
             "oid": "pub fn try_from_ref" => "pub(crate) fn try_from_ref", "public as `TryFrom`";
-            "oid": "// erase: another body
-                        ObjectIdentifierRef::from_checked(self.as_bytes())"
+            "oid" body: "ObjectIdentifierRef::from_checked(self.as_bytes())"
                 => "// SAFETY: the checker proves it of each buffer.
                     #[allow(unsafe_code)]
                     unsafe { core::hint::assert_unchecked(self.ber.len() <= MAX_SIZE) };
                     ObjectIdentifierRef::from_checked(self.as_bytes())",
                 "so a caller that compares or prints does not test the length";
-            "oid": "// erase: another body
-                        let parent = self.as_oid_ref().parent()?;"
+            "oid" body: "let parent = self.as_oid_ref().parent()?;"
                 => "let parent = ObjectIdentifierRef::from_checked(self.as_bytes()).parent()?;",
                 "here the test takes fewer instructions than a length that is in range";
-            "oid": "// erase: another body
-                        Err(_) => unreachable!(\"not the text of an object identifier\")"
+            "oid" body: "Err(_) => unreachable!(\"not the text of an object identifier\")"
                 => "Err(error) => panic!(\"{}\", crate::conversions::panic_text(error))",
                 "outside of constants, Rust does not check the text before the program runs";
             "oid": "pub const fn new_unwrap" => "#[track_caller]\npub const fn new_unwrap", "it panics at its caller's line";
