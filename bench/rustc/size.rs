@@ -9,11 +9,11 @@ fn panic(_: &core::panic::PanicInfo<'_>) -> ! {
     loop {}
 }
 
-/// Functions that are there in their row, and in `all`.
+/// Functions that are there in their row, and in that of all.
 macro_rules! rows {
-    ($($row:literal $name:ident($($argument:ident: $type:ty),*) -> $result:ty { $call:expr })*) => {
+    ($all:literal: $($row:literal $name:ident($($argument:ident: $type:ty),*) -> $result:ty { $call:expr })*) => {
         $(
-            #[cfg(any(row = $row, row = "all"))]
+            #[cfg(any(row = $row, row = $all))]
             #[unsafe(no_mangle)]
             pub fn $name($($argument: $type),*) -> $result {
                 $call
@@ -22,7 +22,7 @@ macro_rules! rows {
     };
 }
 
-rows! {
+rows! { "all":
     "from_bytes" call_from_bytes(octets: &[u8]) -> Result<Oid> { Oid::from_bytes(octets) }
     "new" call_new(text: &str) -> Result<Oid> { Oid::new(text) }
     "Display" call_display(oid: &Oid, out: &mut dyn Write) -> fmt::Result { write!(out, "{oid}") }
@@ -37,14 +37,7 @@ rows! {
     "error" call_error(error: &Error, out: &mut dyn Write) -> fmt::Result { write!(out, "{error}") }
 }
 
-#[cfg(row = "DB.by_oid")]
-#[unsafe(no_mangle)]
-pub fn call_db(oid: &Oid) -> Option<&'static str> {
-    oid::db::DB.by_oid(oid)
-}
-
-#[cfg(row = "SORTED.by_oid")]
-#[unsafe(no_mangle)]
-pub fn call_sorted(oid: &Oid) -> Option<&'static str> {
-    oid::db::SORTED.by_oid(oid.as_oid_ref())
+rows! { "both tables":
+    "DB.by_oid" call_db(oid: &Oid) -> Option<&'static str> { oid::db::DB.by_oid(oid) }
+    "SORTED.by_oid" call_sorted(oid: &Oid) -> Option<&'static str> { oid::db::SORTED.by_oid(oid.as_oid_ref()) }
 }

@@ -269,15 +269,17 @@ static void with_outputs(void) {
     if (len > CONST_OID_MAX_OCTETS && !is_long) with_huge_outputs();
 }
 
-/* The octets of 1.2.840.10045, their element, text and arcs, and a list of 0.1, them, 1.2.840.10045.1 and 2.5. */
+/* Arguments with a result that is written: the octets of 1.2.840.10045, their element, text and arcs, a list of 0.1,
+ * them, 1.2.840.10045.1 and 2.5, a number, and outputs. */
 static const uint8_t usual[] = {0x2A, 0x86, 0x48, 0xCE, 0x3D, 1}, root[] = {1}, last[] = {0x55};
 static const uint8_t usual_der[] = {6, 5, 0x2A, 0x86, 0x48, 0xCE, 0x3D, 1};
 static const uint32_t usual_arcs[] = {1, 2, 840, 10045};
 static const char usual_text[] = "1.2.840.10045";
 static const const_oid_octets usual_list[] = {{root, 1}, {usual, 5}, {usual, 6}, {last, 1}};
-static const argument usual_inputs[ITEM_OUT + 1] = {[OCTETS] = {usual, 5}, [ITEM] = {usual, 5},
+static const argument usual_arguments[] = {[OCTETS] = {usual, 5}, [ITEM] = {usual, 5},
     [DER] = {usual_der, sizeof usual_der}, [TEXT] = {usual_text, sizeof usual_text - 1}, [ARCS] = {usual_arcs, 4},
-    [LIST] = {usual_list, 4}};
+    [LIST] = {usual_list, 4}, [INDEX] = {NULL, 1}, [NUMBER] = {NULL, 1}, [OCTETS_OUT] = {usual, 64},
+    [TEXT_OUT] = {usual, 64}, [ARCS_OUT] = {usual, 64}, [RANGE_OUT] = {usual, 64}, [ITEM_OUT] = {usual, 64}};
 enum { SEARCHED = 10 };
 
 /* Which identifiers are searched for in a list: the item that varies, its neighbours, the other items, and those around
@@ -289,7 +291,7 @@ static const uint8_t one[] = {1}, two[] = {0x2B}, three[] = {0x2C};
 static size_t values_beside(enum kind kind, enum kind lead, argument varied, argument *values) {
     static uint8_t changed[2][MOST];
     const size_t numbers[] = {0, 1, 4, varied.len, varied.len + 1, 128, 4294967295u};
-    const argument inputs[] = {usual_inputs[kind], {varied.items, varied.len > MOST ? 3 : varied.len},
+    const argument inputs[] = {usual_arguments[kind], {varied.items, varied.len > MOST ? 3 : varied.len},
         {varied.items, varied.len - 1}, {changed[0], varied.len}, {changed[1], varied.len}};
     size_t count = kind != lead ? 1 : varied.len < 2 || varied.len > MOST ? 2 : 5;
     if (sizes[kind] == 0) {
@@ -584,13 +586,8 @@ static void vary(int lead) {
     else vary_array(lead, kind);
 }
 
-/* Arguments with a result that is written. */
 static void set_usual(void) {
-    argument values[SEARCHED] = {{NULL, 0}};
-    for (int at = 0; at < ARGUMENTS; at++) {
-        values_beside(f->kinds[at], NOTHING, a[at], values);
-        a[at] = sizes[f->kinds[at]] == 0 ? (argument){NULL, 1} : is_output(at) ? (argument){usual, 64} : values[0];
-    }
+    for (int at = 0; at < ARGUMENTS; at++) a[at] = usual_arguments[f->kinds[at]];
 }
 
 /* The call ends the process. */
@@ -652,7 +649,7 @@ static void map_equal_items(void) {
     equal_items[cuts[CUTS - 1]] = (const_oid_octets){three, 1};
 }
 
-/* The memory of an argument, between pages that no one may touch. */
+/* The memory of each argument, between pages that no one may touch, and that of huge outputs. */
 static void map_arguments(void) {
     size_t page = (size_t)sysconf(_SC_PAGESIZE);
     for (int at = 0; at <= ARGUMENTS; at++) {
@@ -660,6 +657,8 @@ static void map_arguments(void) {
         SEE(start != MAP_FAILED && mprotect(start + page, SLOT, PROT_READ | PROT_WRITE) == 0, (size_t)at);
         ends[at] = start + page + SLOT;
     }
+    map(&output_pages, 34);
+    map(&proved_pages, 34);
 }
 
 #ifdef FUZZED
@@ -669,8 +668,6 @@ int LLVMFuzzerTestOneInput(const uint8_t *data, size_t len) {
     static uint8_t text[MOST];
     if (len > MOST) return -1;
     if (output_pages.start == NULL) map_arguments();
-    map(&output_pages, 34);
-    map(&proved_pages, 34);
     memcpy(items, data, len);
     for (size_t i = 0; i < len; i++) text[i] = data[i] < 0x80 ? data[i] : 0xFF;
     for (int i = 0; i < FUNCTIONS; i++) {
@@ -687,8 +684,6 @@ int LLVMFuzzerTestOneInput(const uint8_t *data, size_t len) {
 int main(void) {
     map_arguments();
     map(&input_pages, 34);
-    map(&output_pages, 34);
-    map(&proved_pages, 34);
     map(&list_pages, 36);
     map_equal_items();
     for (int i = 0; i < FUNCTIONS; i++) {

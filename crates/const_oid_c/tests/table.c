@@ -34,7 +34,7 @@ static row rows[] = {
 #include "rows.inc"
 };
 static const size_t count = sizeof rows / sizeof *rows;
-static uint8_t made[sizeof rows / sizeof *rows][128]; /* of rows without a constant */
+static int has_constants;
 
 /* How many constants are these octets. */
 #undef ROW
@@ -43,12 +43,6 @@ static size_t constants_of(const uint8_t *octets, size_t len) {
     size_t found = 0;
 #include "rows.inc"
     return found;
-}
-
-static int is_encoding(const_oid_octets octets, const char *arcs) {
-    uint8_t out[128];
-    const_oid_status made = const_oid_from_text(arcs, strlen(arcs), out, sizeof out);
-    return made.code == CONST_OID_OK && octets.len == made.len && memcmp(octets.octets, out, made.len) == 0;
 }
 
 /* The order of arcs, and of the table where they are equal. */
@@ -94,7 +88,7 @@ static void find_octets(const uint8_t *octets, size_t len) {
     size_t first = 0, end;
     while (first < count && const_oid_by_arcs(&rows[first], &item) != 0) first++;
     for (end = first; end < count && const_oid_by_arcs(&rows[end], &item) == 0; end++) continue;
-    SEE(constants_of(octets, len) == (made[0][0] ? 0 : end - first), first);
+    SEE(constants_of(octets, len) == (has_constants ? end - first : 0), first);
     SEE(const_oid_name_of(octets, len) == first, first);
     SEE(const_oid_find(octets, len, const_oid_name_octets, count).len == first, first);
     find_octets_in_both(octets, len);
@@ -127,19 +121,20 @@ static void find_longer(const_oid_octets of, size_t more) {
 }
 
 int main(void) {
+    static uint8_t made[sizeof rows / sizeof *rows][128];
+    has_constants = rows[0].octets.len > 0;
     SEE(count == CONST_OID_NAMES_COUNT, count);
     SEE(const_oid_check_sorted(const_oid_name_octets, count).code == CONST_OID_OK, count);
     for (size_t i = 0; i < count; i++) {
+        const const_oid_octets constant = rows[i].octets;
+        rows[i].octets.len = const_oid_from_text(rows[i].arcs, strlen(rows[i].arcs), made[i], sizeof made[i]).len;
+        rows[i].octets.octets = made[i];
         rows[i].place = i;
-        if (rows[i].octets.len == 0) {
-            rows[i].octets.len = const_oid_from_text(rows[i].arcs, strlen(rows[i].arcs), made[i], sizeof made[i]).len;
-            rows[i].octets.octets = made[i];
-        }
-        SEE(is_encoding(rows[i].octets, rows[i].arcs), i);
+        SEE(!has_constants || const_oid_is_equal(constant.octets, constant.len, made[i], rows[i].octets.len), i);
     }
     qsort(rows, count, sizeof *rows, by_arcs);
     for (size_t i = 0; i < count; i++) {
-        SEE(is_encoding(const_oid_name_octets[i], rows[i].arcs), i);
+        SEE(const_oid_by_arcs(&const_oid_name_octets[i], &rows[i]) == 0, i);
         SEE(strcmp(const_oid_names[i], rows[i].name) == 0, i);
         find_like(i);
         find_octets_like(rows[i].octets);
