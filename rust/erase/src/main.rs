@@ -12,7 +12,6 @@ mod names;
 mod table;
 mod token;
 
-use calls::Call;
 use std::collections::{BTreeMap, BTreeSet};
 use std::io::Write;
 use std::path::Path;
@@ -86,7 +85,7 @@ fn generated() -> Result<Vec<File>> {
     let mut calls = Vec::new();
     for path in listed(FOR_C) {
         let module = path[FOR_C.len() + 1..].trim_end_matches(".rt").replace('/', "::");
-        calls.extend(Call::all(&module, &read(&path)?));
+        calls.extend(calls::calls(&module, &read(&path)?));
     }
     let (table, common) = (read(TABLE)?, read(COMMON_TABLE)?);
     files.extend([
