@@ -2,12 +2,14 @@
 """bench/peers/pictures.py [--check]: draws docs/matrix.svg and docs/cost.svg from the tables of docs/PEERS.md.
 
 With --check it writes nothing, and the exit status is 1 if a picture is not the one of its table."""
-import argparse, pathlib, re, sys  # noqa: E401
+import argparse, collections, pathlib, re, sys  # noqa: E401
 from html import escape
 
 DOCS = pathlib.Path(__file__).resolve().parent.parent.parent / "docs"
 WIDTH, LEFT, ROW = 480, 136, 20  # a picture's width, for a phone; where columns and bars begin; a row's height
 BAR, MOST = 260, 10_500  # of the bars: the width of the longest, and its instructions
+# What is right for a kind of input.
+RIGHT = collections.defaultdict(lambda: "rejected", {"valid": "read", "arc ≥ 2^32": "either", "1.02": "either"})
 STYLE = """<style>
 text { fill: #222 } .note { fill: #666 } .small { font-size: 11px } .ours, .strong { font-weight: bold }
 .other { fill: #8a94b8 } .bar { fill: #0a6 }
@@ -40,11 +42,6 @@ def notes(top, *lines):
     return [text(8, top + 16 * index, line, "note", "start") for index, line in enumerate(lines)]
 
 
-def expected(heading):
-    """What is right for a kind of input."""
-    return {"valid": "read", "arc ≥ 2^32": "either", "1.02": "either"}.get(heading, "rejected")
-
-
 def verdict(heading, cell):
     """The words and the kind of a cell of the matrix. Where inputs are misread, their share comes first."""
     if cell == "0":
@@ -53,7 +50,7 @@ def verdict(heading, cell):
     if what == ["misread"]:
         rejected, also, _ = cell.partition(" % rejected, ")
         return f"{share} + {rejected}%" if also else share, "wrong"
-    if expected(heading) == "either":
+    if RIGHT[heading] == "either":
         return " ".join([share, *what]), "either"
     return share, "rejected" if what else "wrong"
 
@@ -78,7 +75,7 @@ def table_of(top, title, headings, rows):
         x = LEFT + (index + 0.5) * column
         lines = heading.split(" ", 1) if column < 60 else [heading]
         yield from (text(x, top + y, words) for y, words in zip((43, 30), reversed(lines)))
-        yield text(x, top + 58, expected(heading), "note small")
+        yield text(x, top + 58, RIGHT[heading], "note small")
     for y, (name, *cells) in zip(range(top + 64, 10_000, ROW), rows):
         yield from row_of(y, column, name, headings, cells)
 

@@ -34,7 +34,6 @@ const UNSIZED: &str = "the crate's borrowed form is unsized, as in the crate of 
 const FOR_C: &str = "the library for C calls what the API has no function for";
 const BY_CORE: &str = "`core` compares slices by `memcmp`, which takes less time, and callers inline the call";
 const BOUNDS: &str = "a bound at no cost, where Rattle keeps the default of the trait";
-const LISTED: &str = "a caller by hand lists the entries";
 const UNWRITTEN: &str = "in Rust no reference is to memory that C may not have written";
 
 pub const CRATES: &[Crate] = &[
@@ -103,7 +102,7 @@ pub const CRATES: &[Crate] = &[
             "db": "oid_links: &'a [u16], name_links: &'a [u16],"
                 => "pub(crate) oid_links: &'a [u16],\npub(crate) name_links: &'a [u16],", "a unit test sees them";
             "db_sorted": "pub const fn new" => "pub const fn new_unchecked", "no checker rejects a wrong order";
-            "": "entries: &'a [Entry<'a>]," => "pub(crate) entries: &'a [Entry<'a>],", LISTED;
+            "": "entries: &'a [Entry<'a>]," => "pub(crate) entries: &'a [Entry<'a>],", "a caller by hand lists the entries";
             "digits": "pub(crate) fn utf8" => "#[allow(unsafe_code)]\npub(crate) fn utf8",
                 "bytes that are UTF-8 become a text without a check: the crate denies other unsafe code";
             "text" body: "at + write_arc(arc, &mut out[at..at + MAX_ARC_LEN], 0)"
