@@ -1,6 +1,7 @@
-/* Compares const_oid_names.h with rust/names.tsv, of which rows.inc has a ROW(constant, arcs, name) for each row: the
- * octets of each constant, the arrays row by row, what is found by name and by octets, and what they are. tests/run
- * writes other names from `typedef` on: that program compares const_oid_common_names.h with rust/common_names.tsv. */
+/* Compares const_oid_names.h with rust/names.tsv, of which rows.inc has a ROW(constant, arcs, name, place) for each row,
+ * by arcs: the octets of each constant, the arrays row by row, what is found by name and by octets, and what they are.
+ * tests/run writes other names from `typedef` on: that program compares const_oid_common_names.h with
+ * rust/common_names.tsv. */
 #include "const_oid_common_names.h"
 #include "see.h"
 
@@ -29,7 +30,7 @@ typedef struct {
     size_t place;
 } row;
 
-#define ROW(constant, arcs, name) {{CONST_OID_OCTETS(constant)}, arcs, name, 0},
+#define ROW(constant, arcs, name, place) {{CONST_OID_OCTETS(constant)}, arcs, name, place},
 static row rows[] = {
 #include "rows.inc"
 };
@@ -38,17 +39,11 @@ static int has_constants;
 
 /* How many constants are these octets. */
 #undef ROW
-#define ROW(constant, arcs, name) found += CONST_OID_IS(octets, len, constant) == 1;
+#define ROW(constant, arcs, name, place) found += CONST_OID_IS(octets, len, constant) == 1;
 static size_t constants_of(const uint8_t *octets, size_t len) {
     size_t found = 0;
 #include "rows.inc"
     return found;
-}
-
-/* The order of arcs, and of the table where they are equal. */
-static int by_arcs(const void *left, const void *right) {
-    int order = const_oid_by_arcs(left, right);
-    return order != 0 ? order : ((const row *)left)->place < ((const row *)right)->place ? -1 : 1;
 }
 
 /* The first row of the table with a name. */
@@ -82,7 +77,7 @@ static void find_like(size_t index) {
     find(text, index);
 }
 
-/* Finds the first row of octets, of the rows that are sorted, by name_of and by a search, and counts all rows of them. */
+/* Finds the first row of octets by name_of and by a search, and counts all rows of them. */
 static void find_octets(const uint8_t *octets, size_t len) {
     const const_oid_octets item = {octets, len};
     size_t first = 0, end;
@@ -129,10 +124,8 @@ int main(void) {
         const const_oid_octets constant = rows[i].octets;
         rows[i].octets.len = const_oid_from_text(rows[i].arcs, strlen(rows[i].arcs), made[i], sizeof made[i]).len;
         rows[i].octets.octets = made[i];
-        rows[i].place = i;
         SEE(!has_constants || const_oid_is_equal(constant.octets, constant.len, made[i], rows[i].octets.len), i);
     }
-    qsort(rows, count, sizeof *rows, by_arcs);
     for (size_t i = 0; i < count; i++) {
         SEE(const_oid_by_arcs(&const_oid_name_octets[i], &rows[i]) == 0, i);
         SEE(strcmp(const_oid_names[i], rows[i].name) == 0, i);

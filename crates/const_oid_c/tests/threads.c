@@ -1,6 +1,5 @@
 #define _POSIX_C_SOURCE 200809L
 /* Threads that make calls at once, each with an identifier and an error of its own, get what one thread alone got. */
-#include "const_oid.h"
 #include "see.h"
 
 #include <pthread.h>
