@@ -556,6 +556,7 @@ fn check_pair(a: &[u8], b: &[u8]) {
     let rest = p.strip_prefix(q.as_slice()).map(Vec::from);
     check_order(x, y, a.cmp(b));
     check_order(ByArcs::of(x), ByArcs::of(y), by_arcs);
+    check_order(&ByArcs(x), &ByArcs(y), by_arcs);
     assert_eq!((x.starts_with(y), x.cmp_arcs(y)), (starts, by_arcs), "{a:02X?}, {b:02X?}");
     assert_eq!(x.strip_prefix(y).map(Vec::from_iter), rest, "{a:02X?}, {b:02X?}");
     let (Ok(i), Ok(j)) = (ObjectIdentifier::<255>::try_from(x), ObjectIdentifier::<255>::try_from(y)) else { return };
@@ -567,7 +568,8 @@ fn check_pair(a: &[u8], b: &[u8]) {
     check_ends(i, j);
     check_ends(ByArcs(i), ByArcs(j));
     assert_eq!(ByArcs(i).max(ByArcs(j)).0, if by_arcs.is_gt() { i } else { j });
-    assert_eq!((i.starts_with(j), i.cmp_arcs(&j), *x == j), (starts, by_arcs, is_equal));
+    assert_eq!((i.starts_with(j), i.cmp_arcs(&j)), (starts, by_arcs));
+    assert_eq!([*x == j, fed(&i) == fed(y), <&ObjectIdentifierRef>::from(&i) == y], [is_equal; 3]);
     assert_eq!(i.strip_prefix(&j).map(Vec::from_iter), rest);
     let Ok(small) = ObjectIdentifier::<39>::try_from(y) else { return };
     assert_eq!((i.starts_with(small), i.cmp_arcs(&small), *x == small), (starts, by_arcs, is_equal));
@@ -931,3 +933,7 @@ mod searches {
         }
     }
 }
+
+#[cfg(feature = "db")]
+#[path = "model/rows.rs"]
+mod rows;
