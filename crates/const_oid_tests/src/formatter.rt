@@ -25,11 +25,8 @@ pub fn prints_as<T: Display>(value: &T, text: &str) -> bool {
 /// one of the writes fails and is not reported at once.
 pub fn count_writes<T: Display>(value: &T, text: &str) -> Option<usize> {
     for writes in 0..1000 {
-        let mut target = OneText {
-            rest: text.as_bytes(),
-            writes: 0,
-            refused: writes + 1,
-        };
+        let mut target = OneText::of(text);
+        target.refused = writes + 1;
         if write!(target, "{value}").is_ok() {
             return (target.writes == writes && target.rest.is_empty()).then_some(writes);
         }
@@ -75,10 +72,8 @@ impl Write for OneText<'_> {
         if self.writes == self.refused {
             return Err(fmt::Error);
         }
-        let Some(rest) = self.rest.strip_prefix(text.as_bytes()) else {
-            return Err(fmt::Error);
-        };
-        self.rest = rest;
+        let rest = self.rest.strip_prefix(text.as_bytes());
+        self.rest = rest.ok_or(fmt::Error)?;
         Ok(())
     }
 }

@@ -4,15 +4,11 @@
 #[cfg(test)]
 mod callers;
 #[cfg(test)]
-mod encode_text;
-#[cfg(test)]
 mod errors;
 #[cfg(test)]
 mod formatter;
 #[cfg(test)]
 mod from_arcs;
-#[cfg(test)]
-mod keys;
 #[cfg(test)]
 mod names;
 #[cfg(test)]
@@ -21,10 +17,6 @@ mod octets;
 mod order;
 #[cfg(test)]
 mod printing;
-#[cfg(test)]
-mod search;
-#[cfg(test)]
-mod short_slices;
 #[cfg(test)]
 mod sorted_database;
 #[cfg(test)]

@@ -2,7 +2,6 @@
 //! and `is_indexed`.
 
 ghost use Rattle.std.specs.Prelude.{◌≡◌, IsOk, IfOk};
-ghost use Rattle.std.specs.Iterator.{IsFinite};
 ghost use Rattle.const_oid.specs.Names.{entries_of};
 
 use crate::vectors::parse;
@@ -16,19 +15,6 @@ fn clone_of<'a>(database: &Database<'a>) -> Result<Database<'a>, AllocError>
     ensures same { IfOk result (λ copy. entries_of copy ≡ entries_of database.now) }
 {
     database.clone()
-}
-
-/// Whether an iterator gives these names, and then none, each time.
-fn gives<'a, I: Iterator<Item = &'a str> + Drop>(mut names: I, wanted: &[&str]) -> bool
-    requires can { (left : I) → I.can_next left }
-    requires ends { IsFinite (I.remaining names) }
-{
-    for name in wanted {
-        if names.next() != Some(name) {
-            return false;
-        }
-    }
-    names.next().is_none() && names.next().is_none()
 }
 
 /// What a table is asked, and its answer.
@@ -85,20 +71,20 @@ const ROWS: &[(&[Entry], Query)] = &[
     (UNNAMED, Query::Name("", Some("1.2.3"))),
 ];
 
-/// Whether a table answers so, and resolves no wrong text.
+/// Whether a table answers so, its iterator stays at its end, and it resolves no wrong text.
 fn is_answer(database: &Database<'_>, query: &Query) -> Result<bool, Error> {
     let is = match query {
         Query::Names(text, names) => {
             let (oid, first) = (Oid::new(text)?, names.first().copied());
+            let mut left = database.find_names_for_oid(oid);
             database.by_oid(&oid) == first
                 && database.resolve(text) == Ok(first.unwrap_or(text))
-                && gives(database.find_names_for_oid(oid), names)
+                && left.by_ref().eq(names.iter().copied())
+                && left.next().is_none()
         }
-        Query::Name(name, wanted) => match (database.by_name(name), wanted) {
-            (Some(oid), Some(text)) => *oid == Oid::new(text)?,
-            (None, None) => true,
-            _ => false,
-        },
+        Query::Name(name, wanted) => {
+            database.by_name(name).copied() == wanted.map(|text| Oid::new(text)).transpose()?
+        }
     };
     Ok(is && database.resolve("1.") == Err(Error::TrailingDot))
 }

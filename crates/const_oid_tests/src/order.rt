@@ -1,6 +1,9 @@
-//! Equality, copies and the orders of both forms: `==`, `clone`, `cmp` and `subtree`; `ByArcs`.
+//! Equality, copies, hashes and the orders of both forms: `==`, `clone`, `hash`, `cmp` and `subtree`; `ByArcs`; and both
+//! forms as keys of `HashMap`, `BTreeMap` and `BTreeSet`.
 
-ghost use Rattle.std.specs.Prelude.{◌≡◌, ◌↔◌, IsTrue, IsOk, IfOk, Some};
+ghost use Rattle.std.specs.Prelude.{◌≡◌, ◌↔◌, IsTrue, IsOk, IfOk, Some, fold};
+ghost use Rattle.std.specs.Hash as fed;
+ghost use Rattle.std.specs.Hash.DefaultHasher as sip;
 ghost use Rattle.std.specs.Ordering.{nat_cmp};
 ghost use Rattle.std.specs.Cmp.Lexicographic.{slice_cmp};
 ghost use Rattle.const_oid.specs.Buffer.{buffer_octets};
@@ -8,11 +11,13 @@ ghost use Rattle.const_oid.specs.Oid.{oid_octets, oid_arcs};
 ghost use Rattle.const_oid.specs.OidRef.{key_arcs, ref_octets, ref_arcs};
 ghost use Rattle.const_oid.specs.Orders.{shortlex_cmp};
 
-use crate::vectors::read_borrowed;
-use const_oid::{Buffer, ByArcs, ObjectIdentifier, ObjectIdentifierRef, Oid};
+use crate::vectors::{accepted_rows, parse, read_borrowed};
+use const_oid::{Arc, Buffer, ByArcs, ObjectIdentifier, ObjectIdentifierRef, Oid};
+use const_oid_uses::theorems::parent_of_child;
 use std::alloc::{AllocError, Global};
 use std::cmp::Ordering;
-use std::collections::BTreeSet;
+use std::collections::{BTreeMap, BTreeSet, HashMap};
+use std::hash::{DefaultHasher, Hash, Hasher};
 use std::test::Fail;
 
 fn has_same_arcs<const N: usize>(a: &ObjectIdentifier<N>, b: &ObjectIdentifier<N>) -> bool
@@ -167,10 +172,76 @@ fn a_set_has_the_borrowed_order(rt: HostRuntime) -> Result<(), Fail> {
     assert!(rt; oids.len() == ASCENDING.len());
     for (index, (oid, octets)) in oids.iter().zip(ASCENDING).enumerate() {
         let is_under = oid.arc(0) == Some(1) && oid.arc(1) == Some(2);
-        assert!(rt;
-            oid.as_bytes() == *octets && is_under == (1..8).contains(&index),
-            "{oid}"
-        );
+        let is_placed = is_under == (1..8).contains(&index);
+        assert!(rt; is_placed && oid.as_bytes() == *octets, "{oid}");
     }
+    Ok(())
+}
+
+/// A hasher is fed the octets as a slice.
+fn hash_of<const N: usize>(oid: &ObjectIdentifier<N>) -> u64
+    ensures { result ≡ sip.finish (fold sip.write sip.initial (fed.slice fed.u8 (oid_octets oid.now))) }
+{
+    let mut state = DefaultHasher::new();
+    oid.hash(&mut state);
+    state.finish()
+}
+
+fn ref_hash_of(oid: &ObjectIdentifierRef<'_>) -> u64
+    ensures { result ≡ sip.finish (fold sip.write sip.initial (fed.slice fed.u8 (ref_octets oid.now))) }
+{
+    let mut state = DefaultHasher::new();
+    oid.hash(&mut state);
+    state.finish()
+}
+
+/// Whether the parent hashes as the identifier of all arcs but the last one, and finds it.
+fn parent_is_key(alloc: Global, oid: &Oid) -> Result<bool, Fail> {
+    let arcs: Vec<Arc> = oid.arcs().collect(alloc)?;
+    let (Some(parent), Some((_, shorter))) = (oid.parent(), arcs.split_last()) else {
+        return Ok(arcs.len() == 2);
+    };
+    let shorter = Oid::from_arcs(shorter.iter().copied())?;
+    let mut keys = HashMap::new(alloc);
+    keys.insert(shorter, true)?;
+    Ok(hash_of(&parent) == hash_of(&shorter) && keys.get(&parent).is_some())
+}
+
+/// Whether an identifier hashes as the parent of its child and as its borrowed form, and its parent finds it so.
+fn hashes(alloc: Global, oid: Oid) -> Result<bool, Fail> {
+    let parent = parent_of_child(oid, 128)?.ok_or("no parent")?;
+    let (hash, borrowed) = (hash_of(&oid), ref_hash_of(&oid.as_oid_ref()));
+    Ok(hash_of(&parent) == hash && borrowed == hash && parent_is_key(alloc, &oid)?)
+}
+
+/// The identifiers of the texts are the keys of their octets.
+#[test]
+fn finds_keys_by_text(rt: HostRuntime) -> Result<(), Fail> {
+    let (mut hashed, mut sorted) = (HashMap::new(rt.alloc()), BTreeMap::new(rt.alloc()));
+    for (index, (_, octets)) in accepted_rows().iter().enumerate() {
+        let oid = Oid::try_from_ref(read_borrowed(octets)?)?;
+        hashed.insert(oid, index)?;
+        sorted.insert(oid, index)?;
+    }
+    for (index, (text, _)) in accepted_rows().iter().enumerate() {
+        let oid = parse(text)?;
+        let found = (hashed.get(&oid).copied(), sorted.get(&oid).copied());
+        assert!(rt; found == (Some(index), Some(index)), "{text}");
+        assert!(rt; hashes(rt.alloc(), oid)?, "{text}");
+    }
+    let absent = Oid::new_unwrap("1.2.5");
+    assert!(rt; hashed.get(&absent).is_none() && sorted.get(&absent).is_none());
+    Ok(())
+}
+
+/// Octets of two identifiers that stand at other addresses.
+const TWICE: [u8; 4] = [0x2A, 0x03, 0x2A, 0x03];
+
+#[test]
+fn finds_borrowed_keys(rt: HostRuntime) -> Result<(), Fail> {
+    let mut names = HashMap::new(rt.alloc());
+    names.insert(read_borrowed(&TWICE[..2])?, "1.2.3")?;
+    assert!(rt; names.get(&read_borrowed(&TWICE[2..])?).is_some());
+    assert!(rt; names.get(&read_borrowed(&TWICE[..1])?).is_none());
     Ok(())
 }

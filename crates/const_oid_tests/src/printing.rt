@@ -1,23 +1,14 @@
-//! Identifiers of both forms, printed under options and to a target that fails: Display and Debug.
+//! Identifiers of both forms, printed under options and to a target that fails: Display and Debug. Their texts in slices:
+//! `encode_text`, `encode_str` and `text_len`, and `encode_str` of errors.
+
+ghost use Rattle.std.specs.Prelude.{◌≤◌};
 
 use crate::formatter::{DebugTexts, count_writes, prints, prints_as};
-use crate::vectors::read_borrowed;
-use const_oid::{ObjectIdentifier, Oid};
+use crate::vectors::{accepted_rows, read_borrowed};
+use const_oid::{Error, ObjectIdentifier, Oid};
 use std::alloc::{AllocError, Global};
 use std::fmt::{Debug, Display};
 use std::test::Fail;
-
-/// Octets, and what they print.
-const ROWS: &[(&[u8], &str)] = &[
-    (&[0x77], "2.39"),
-    (&[0x2A, 3], "1.2.3"),
-    (&[0x88, 0x37], "2.999"),
-    (&[0x2A, 0x8F, 0xFF, 0xFF, 0xFF, 0x7F], "1.2.4294967295"),
-    (
-        &[0x2A, 0x86, 0x48, 0x86, 0xF7, 0x0D, 1, 1, 1],
-        "1.2.840.113549.1.1.1",
-    ),
-];
 
 /// Whether a value prints as this text, its Debug texts have this name, and each failed write is reported, of Debug up
 /// to 300 bytes. A text of at most 160 bytes takes one write, and is printed under each option. One past 171 takes
@@ -54,7 +45,7 @@ fn both_print(alloc: Global, octets: &[u8], text: &str) -> Result<bool, Fail> {
 
 #[test]
 fn prints_each_row(rt: HostRuntime) -> Result<(), Fail> {
-    for (octets, text) in ROWS {
+    for (text, octets) in accepted_rows() {
         assert!(rt; both_print(rt.alloc(), octets, text)?, "{text}");
     }
     let usual = Oid::new("1.2.3")?;
@@ -84,4 +75,48 @@ fn prints_each_length(rt: HostRuntime) -> Result<(), Fail> {
         assert!(rt; first && other, "{count}");
     }
     Ok(())
+}
+
+/// Whether an output, which held nothing but 0xEE, begins with these bytes, whose number was returned, and goes on as
+/// before. Without room for them it is as before.
+fn is_written(out: &[u8], bytes: &[u8], written: Option<usize>) -> bool {
+    let fits = bytes.len() <= out.len();
+    let start = if fits { bytes } else { &[] };
+    written == fits.then_some(bytes.len())
+        && out.starts_with(start)
+        && out.iter().skip(start.len()).all(|byte| *byte == 0xEE)
+}
+
+/// Whether `len` bytes begin with the text and go on as before, or, if they are fewer, are as before: the text of
+/// both forms, and that of an error.
+fn are_written(len: usize) -> bool
+    requires { len ≤ 20 }
+{
+    let oid = Oid::new_unwrap("1.2.3");
+    let lent = oid.as_oid_ref();
+    let (mut owned, mut borrowed, mut error) = ([0xEE; 20], [0xEE; 20], [0xEE; 20]);
+    let of_owned = oid.encode_str(&mut owned[..len]).map(str::len);
+    let of_borrowed = lent.encode_str(&mut borrowed[..len]).map(str::len);
+    let of_error = Error::Length.encode_str(&mut error[..len]).map(str::len);
+    is_written(&owned[..len], b"1.2.3", of_owned)
+        && is_written(&borrowed[..len], b"1.2.3", of_borrowed)
+        && is_written(&error[..len], b"OID length invalid", of_error)
+}
+
+/// Clauses say so of `encode_text`.
+#[test]
+fn outputs_begin_with_the_text_or_are_as_they_were(rt: HostRuntime) {
+    for len in 0..=20 {
+        assert!(rt; are_written(len), "{len}");
+    }
+}
+
+/// What is returned is proved, and here it runs.
+#[test]
+fn returns_the_length_of_a_text(rt: HostRuntime) {
+    let oid = Oid::new_unwrap("1.2.3");
+    assert!(rt; oid.text_len() == 5 && oid.as_oid_ref().text_len() == 5);
+    assert!(rt; oid.encode_text(&mut [0; 5]) == Some(5));
+    assert!(rt; oid.as_oid_ref().encode_text(&mut [0; 5]) == Some(5));
+    assert!(rt; Error::Length.encode_text(&mut [0; 18]) == Some(18));
 }

@@ -1,5 +1,5 @@
-//! Tables sorted by arcs, as `sorted` of `const_oid_uses::label` makes them: `try_new`, `clone` and `by_name` of
-//! `SortedDatabase`, and the labels of SNMP that `label` prints.
+//! Tables sorted by arcs, as `sorted` of `const_oid_uses::label` makes them: `try_new`, `clone`, `by_name` and `nearest`
+//! of `SortedDatabase`, `nearest_of`, and the labels of SNMP that `label` prints.
 
 ghost use Rattle.std.specs.Prelude.{◌≡◌, IsOk, IfOk};
 ghost use Rattle.const_oid.specs.Names.{sorted_entries_of};
@@ -7,6 +7,7 @@ ghost use Rattle.const_oid.specs.Names.{sorted_entries_of};
 use crate::vectors::{parse, read_borrowed};
 use const_oid::ObjectIdentifierRef;
 use const_oid::db::SortedDatabase;
+use const_oid::search::nearest_of;
 use const_oid_uses::label::{label, sorted};
 use std::alloc::{AllocError, Global};
 use std::test::Fail;
@@ -66,21 +67,6 @@ const LABELS: &[(&str, Option<&str>)] = &[
     ("1.3.6.1.4", None),
 ];
 
-/// Whether an identifier is printed as this label, or not at all.
-fn is_label(
-    alloc: Global,
-    names: &SortedDatabase<'_>,
-    text: &str,
-    wanted: Option<&str>,
-) -> Result<bool, Fail> {
-    let printed = label(alloc, names, parse(text)?.as_oid_ref())?;
-    Ok(match (&printed, wanted) {
-        (Some(printed), Some(wanted)) => printed.as_str() == wanted,
-        (None, None) => true,
-        _ => false,
-    })
-}
-
 #[test]
 fn sorted_rows_have_names_and_labels(rt: HostRuntime) -> Result<(), Fail> {
     let mut entries = entries(rt.alloc(), TABLE)?;
@@ -91,7 +77,26 @@ fn sorted_rows_have_names_and_labels(rt: HostRuntime) -> Result<(), Fail> {
         assert!(rt; found == *octets, "{name}");
     }
     for (text, wanted) in LABELS {
-        assert!(rt; is_label(rt.alloc(), &names, text, *wanted)?, "{text}");
+        let printed = label(rt.alloc(), &names, parse(text)?.as_oid_ref())?;
+        assert!(rt; printed.as_deref() == *wanted, "{text}");
     }
+    Ok(())
+}
+
+/// The entry before 0.1.1.1.. is the same but for its last arc. A search that tried each prefix in turn would take
+/// longer than a test may.
+#[test]
+fn finds_the_nearest_of_a_long_identifier(rt: HostRuntime) -> Result<(), Fail> {
+    let octets = vec![in rt.alloc(); 1; 4_000_000]?;
+    let mut before = octets.clone()?;
+    before.pop();
+    before.push(0)?;
+    let oid = read_borrowed(&octets)?;
+    let first = [1, 1];
+    let last = (read_borrowed(&before)?, "last");
+    let entries = [(read_borrowed(&first)?, "first"), last];
+    assert!(rt; nearest_of(&[last], &oid).is_none() && nearest_of(&entries, &oid) == Some(0));
+    let found = SortedDatabase::try_new(&entries).and_then(|names| names.nearest(oid));
+    assert!(rt; found.map(|entry| entry.1) == Some("first"));
     Ok(())
 }

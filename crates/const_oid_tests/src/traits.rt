@@ -76,10 +76,8 @@ const INDICES: &[(&[&str], &str, Option<usize>)] = &[
 #[test]
 fn finds_the_first_index(rt: HostRuntime) -> Result<(), Fail> {
     for (held, text, index) in INDICES {
-        assert!(rt;
-            index_among(rt.alloc(), held, text)? == *index,
-            "{text} in {held:?}"
-        );
+        let found = index_among(rt.alloc(), held, text)?;
+        assert!(rt; found == *index, "{text} in {held:?}");
     }
     Ok(())
 }

@@ -21,6 +21,7 @@ const ACCEPTED: &[Row] = &[
     ("2.0", &[0x50]),
     ("2.39", &[0x77]),
     ("1.2.0", &[0x2A, 0]),
+    ("1.2.3", &[0x2A, 3]),
     ("1.2.127", &[0x2A, 0x7F]),
     ("1.2.128", &[0x2A, 0x81, 0]),
     ("1.2.16383", &[0x2A, 0xFF, 0x7F]),
@@ -51,6 +52,7 @@ const ACCEPTED: &[Row] = &[
     ("0.1.2.3.4.5.6.7.8.9", &[1, 2, 3, 4, 5, 6, 7, 8, 9]),
     // Second arcs above 39 under 2: first subidentifiers of one to five octets.
     ("2.40", &[0x78]),
+    ("2.999", &[0x88, 0x37]),
     ("2.999.3", &[0x88, 0x37, 3]),
     ("2.16304.127", &[0x81, 0x80, 0, 0x7F]),
     ("2.2097072.128", &[0x81, 0x80, 0x80, 0, 0x81, 0]),
@@ -62,18 +64,13 @@ const ACCEPTED: &[Row] = &[
 
 /// The borrowed identifier of octets, or a failure that names them.
 pub fn read_borrowed(octets: &[u8]) -> Result<ObjectIdentifierRef<'_>, Fail> {
-    match ObjectIdentifierRef::from_bytes(octets) {
-        Ok(oid) => Ok(oid),
-        Err(error) => Err(Fail::new(format_args!("{octets:?}: {error}"))),
-    }
+    let read = ObjectIdentifierRef::from_bytes(octets);
+    read.map_err(|error| Fail::new(format_args!("{octets:?}: {error}")))
 }
 
 /// The identifier of a text, or a failure that names it.
 pub fn parse(text: &str) -> Result<Oid, Fail> {
-    match Oid::new(text) {
-        Ok(oid) => Ok(oid),
-        Err(error) => Err(Fail::new(format_args!("{text}: {error}"))),
-    }
+    Oid::new(text).map_err(|error| Fail::new(format_args!("{text}: {error}")))
 }
 
 /// Whether arcs are the numbers of a text.
