@@ -65,12 +65,11 @@ pub fn run<R: Read, W: Write>(input: &mut R, output: &mut W) -> Result<(), ToolE
     let len = read_all(input, &mut buffer)?;
     let cn = Oid::new_unwrap("2.5.4.3");
     let country = Oid::new_unwrap("2.5.4.6");
-    let common_name = Oid::new_unwrap("2.5.4.3");
     let rsa_encryption = Oid::new_unwrap("1.2.840.113549.1.1.1");
     let entries = [
         (&cn, "cn"),
         (&country, "c"),
-        (&common_name, "commonName"),
+        (&cn, "commonName"),
         (&rsa_encryption, "rsaEncryption"),
     ];
     write_answers(&buffer[..len], Database::new(&entries), output)

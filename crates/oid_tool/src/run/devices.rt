@@ -4,17 +4,10 @@ use std::io;
 use std::io::{ErrorKind, Read, Write};
 
 /// The read or write at which a device fails, counted from 1, and the kind of its error.
-#[derive(Clone, Copy)]
-pub struct Failure {
-    pub at: usize,
-    pub kind: ErrorKind,
-}
+pub type Failure = (usize, ErrorKind);
 
 /// That of a device that does not fail.
-pub const NONE: Failure = Failure {
-    at: 0,
-    kind: ErrorKind::Other,
-};
+pub const NONE: Failure = (0, ErrorKind::Other);
 
 /// Reads a text byte by byte, and after it another one without an end, unless that is empty. Fails at one read.
 #[derive(Drop)]
@@ -39,8 +32,8 @@ impl<'a> OneByteReader<'a> {
 impl Read for OneByteReader<'_> {
     fn read(&mut self, buf: &mut [u8]) -> io::Result<usize> {
         self.reads = self.reads.saturating_add(1);
-        if self.reads == self.failure.at {
-            return Err(io::Error::from(self.failure.kind));
+        if self.reads == self.failure.0 {
+            return Err(io::Error::from(self.failure.1));
         }
         match (self.text, buf.first_mut()) {
             ([byte, rest @ ..], Some(slot)) => {
@@ -78,8 +71,8 @@ impl SlowWriter {
 impl Write for SlowWriter {
     fn write(&mut self, buf: &[u8]) -> io::Result<usize> {
         self.writes = self.writes.saturating_add(1);
-        if self.writes == self.failure.at {
-            return Err(io::Error::from(self.failure.kind));
+        if self.writes == self.failure.0 {
+            return Err(io::Error::from(self.failure.1));
         }
         let count = buf.len().min(self.most);
         self.written.extend_from_slice(&buf[..count])?;

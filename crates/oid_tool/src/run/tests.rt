@@ -112,10 +112,8 @@ fn answers_by(alloc: Global, input: &[u8], wanted: &[u8]) -> bool {
 #[test]
 fn answers_each_row(rt: HostRuntime) {
     for (input, wanted) in &ROWS {
-        assert!(rt;
-            answers_by(rt.alloc(), input.as_bytes(), wanted.as_bytes()),
-            "{input:?}"
-        );
+        let is = answers_by(rt.alloc(), input.as_bytes(), wanted.as_bytes());
+        assert!(rt; is, "{input:?}");
     }
 }
 
@@ -128,10 +126,8 @@ fn rejects_bytes_that_are_not_utf8(rt: HostRuntime) {
         b"name cn\xFF\n".as_slice(),
         b"hex 1.2\x80\n".as_slice(),
     ] {
-        assert!(rt;
-            answers_by(rt.alloc(), input, b"error: not UTF-8\n"),
-            "{input:?}"
-        );
+        let is = answers_by(rt.alloc(), input, b"error: not UTF-8\n");
+        assert!(rt; is, "{input:?}");
     }
 }
 
@@ -219,7 +215,7 @@ fn read_fails(alloc: Global, failure: Failure) -> bool {
     let mut input = OneByteReader::new(b"parent 1.2.3\n", b"", failure);
     let mut output = SlowWriter::new(alloc, 64, NONE);
     run(&mut input, &mut output) == Err(ToolError::Read)
-        && input.reads == failure.at
+        && input.reads == failure.0
         && output.writes == 0
         && output.flushes == 0
 }
@@ -230,10 +226,7 @@ fn reports_each_failed_read(rt: HostRuntime) {
     for number in -4..123 {
         for at in 1..15 {
             let kind = kind_of(number);
-            assert!(rt;
-                read_fails(rt.alloc(), Failure { at, kind }),
-                "read {at}, {kind:?}"
-            );
+            assert!(rt; read_fails(rt.alloc(), (at, kind)), "read {at}, {kind:?}");
         }
     }
     let mut input = OneByteReader::new(b"parent 1.2.3\n", b"", NONE);
@@ -261,7 +254,7 @@ fn write_fails(alloc: Global, failure: Failure) -> bool {
     let mut rest = THREE.0;
     let mut output = SlowWriter::new(alloc, 3, failure);
     run(&mut rest, &mut output) == Err(ToolError::Write)
-        && output.writes == failure.at
+        && output.writes == failure.0
         && output.flushes == 0
         && THREE.1.starts_with(&output.written)
         && output.written.len() < THREE.1.len()
@@ -273,10 +266,7 @@ fn reports_each_failed_write(rt: HostRuntime) {
     for number in -4..123 {
         for at in 1..10 {
             let kind = kind_of(number);
-            assert!(rt;
-                write_fails(rt.alloc(), Failure { at, kind }),
-                "write {at}, {kind:?}"
-            );
+            assert!(rt; write_fails(rt.alloc(), (at, kind)), "write {at}, {kind:?}");
         }
     }
     let mut rest = THREE.0;
