@@ -124,7 +124,7 @@ def is_interrupted(number, acts, call, table):
     left = itertools.count(-number)
 
     def step():
-        with contextlib.suppress(KeyError):
+        with contextlib.suppress(KeyError, RuntimeError):
             acts.get(next(left), id)(table)
 
     def trace(frame, event, _):
@@ -201,7 +201,7 @@ class Sorted(unittest.TestCase):
         self.assertEqual(sorted(table.items()), [(key.arcs, value) for key, value in found.items()])
         self.assertEqual(sorted(table, reverse=True), [key.arcs for key in reversed(found)])
         self.assertEqual((len(table), bool(table)), (len(found), bool(found)))
-        self.assertLessEqual(max(map(len, found._order[-1]), default=0), 2 * sorted_map.PART)
+        self.assertLessEqual(max(map(len, found._orders[0][0]), default=0), 2 * sorted_map.PART)
 
     def test_a_map_is_a_mutable_mapping(self):
         table = SortedMap({(oid := ObjectIdentifier("2.5")): 1})
@@ -272,13 +272,14 @@ class Sorted(unittest.TestCase):
         self.assertEqual([3, 3], list(table.values()))
 
     def test_a_change_is_done_or_not(self):
-        """A change that is interrupted, or lacks memory, at any place leaves a map as before, or has all."""
+        """A change that is interrupted, or lacks memory, at any place leaves a map as before, or has all. At few places, of
+        `finally`, it stays open, so that lookups sort."""
         keys = [ObjectIdentifier(f"2.{arc}") for arc in range(40)]
         start, few = dict.fromkeys(keys[::2], 0), dict.fromkeys(keys[1:5], 1)
         changes = [SortedMap.clear, SortedMap.popitem, lambda table: table.setdefault(keys[1], 1)]
         changes += [lambda table: table.update(few), lambda table: operator.ior(table, dict.fromkeys(keys[:9], 1))]
         changes += [lambda table: table.__init__(few), lambda table: table.pop(keys[2])]
-        acts = [ACTS["exit"], LACKS_MEMORY] if _testcapi else [ACTS["exit"]]
+        acts, open_ones = [ACTS["exit"], LACKS_MEMORY] if _testcapi else [ACTS["exit"]], []
         for change, part, act in itertools.product(changes, (3, 1000), acts):
             self.enterContext(mock.patch.object(sorted_map, "PART", part))
             change(after := SortedMap(start))
@@ -286,8 +287,10 @@ class Sorted(unittest.TestCase):
                 is_whole = not is_interrupted(number, act, change, table := SortedMap(start))
                 wanted = after if is_whole or len(table) != len(start) or table != start else start
                 self.assertEqual((len(wanted), sorted(wanted.items())), (len(table), list(table.items())))
+                open_ones.append(table._is_open)
                 if is_whole:
                     break
+        self.assertLess(sum(open_ones), len(open_ones) / 10)
 
     def test_changes_meet_each_other(self):
         """Whatever comes at whichever step of a change, the keys are those after both, in either order, and sorted."""
@@ -307,6 +310,19 @@ class Sorted(unittest.TestCase):
                     self.assertEqual([key in table for key in KEYS], [table.nearest(key) is not None for key in KEYS])
                 if not is_met:
                     break
+
+    def test_drawn_changes_meet_each_other(self):
+        """Changes, lookups and exits come at drawn steps of a change and of each other, and of changes that follow."""
+        draw, changes = random.Random(SEED), [*CHANGES.values()]
+        self.enterContext(mock.patch.object(sys, "unraisablehook", id))
+        for number in range(4000):
+            table = SortedMap({key: Ending() for key in draw.sample(KEYS, 5)})
+            for _ in range(2):
+                acts = {draw.randrange(40): draw.choice([*changes, *LOOKS, ACTS["exit"][0]]) for _ in range(draw.randrange(5))}
+                is_interrupted(draw.randrange(80), acts, draw.choice(changes), table)
+            with self.subTest(number):
+                keys = sorted(table._values)
+                self.assertEqual([keys, keys], [list(table), [key for key in KEYS if table.nearest(key)]])
 
     def test_a_lookup_looks_again(self):
         """A lookup that a change meets at any step finds what there is before or after, and pop has its default."""

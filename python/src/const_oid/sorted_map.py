@@ -5,8 +5,9 @@ from bisect import bisect, bisect_left, insort
 from collections.abc import Callable, ItemsView, Iterable, Iterator, KeysView, Mapping, MutableMapping, ValuesView
 from contextlib import suppress
 from functools import wraps
-from itertools import chain, count
-from operator import itemgetter
+from heapq import heapreplace
+from itertools import chain
+from operator import itemgetter, setitem
 from reprlib import recursive_repr
 from typing import TYPE_CHECKING, Any, Self, TypeVar, cast
 
@@ -20,14 +21,14 @@ Key = TypeVar("Key", bound=ObjectIdentifier)
 Value = TypeVar("Value")
 Other = TypeVar("Other")
 Parts = list[list[ObjectIdentifier]]
-Order = tuple[bool, int, dict[ObjectIdentifier, Any], int, Parts]
+Order = list[Parts | None]
 Entries = Mapping[Key, Value] | Iterable[tuple[ObjectIdentifier, Value]]
 
 PART = 1000
 _CONTINUED = bytes(range(128, 256))
 _FIRST, _LAST = itemgetter(0), itemgetter(-1)
+_pop, _setdefault = dict.pop, dict.setdefault
 _MISSING: Any = object()
-_NO_ORDER: Order = False, 0, {}, -1, []
 _ANY = ObjectIdentifier("0.0")
 
 
@@ -39,16 +40,17 @@ def _lookup(find: Callable[[Any, Parts, ObjectIdentifier], Other]) -> Callable[[
         if not isinstance(oid, ObjectIdentifier):
             required(oid, "key")
         while True:
-            is_sure, stamp, _, _, keys = self._order
-            if stamp is not self._stamp or not is_sure:
-                stamp, keys = self._in_order()
+            order = self._orders[0]
+            keys = order[0]
+            if keys is None:
+                order, keys = self._in_order()
             try:
                 result = find(self, keys, oid)
             except LookupError:  # of keys that have changed
-                if stamp is self._stamp:
+                if order is self._orders[0]:
                     raise
             else:
-                if stamp is self._stamp:
+                if order is self._orders[0]:
                     return result
 
     del vars(found)["__wrapped__"]
@@ -69,45 +71,57 @@ class SortedMap(MutableMapping[ObjectIdentifier, Value]):
     ['system', 'sysUpTime', 'the last']
     """
 
-    # The dict is the truth, and the order of its keys a cache, right while its stamp is the map's. A change takes a
-    # stamp, changes the parts, which nobody uses then, and the dict in one instruction, and puts the order if no other
-    # change has begun. A reader may be within a change: its order is right only while the dict has as many keys, too.
-    __slots__ = ("_order", "_stamp", "_stamps", "_values")
+    # The dict is the truth, and the order of its keys a cache: the item of a list, or None if it is not known. A change
+    # puts a list of its own in place of the map's, by heapreplace, which nothing interrupts, so no other change has those
+    # keys. It changes the dict by one call, and puts the keys into its list, which is the map's if no other change has
+    # begun in between. While a change is open, the keys that a lookup sorts are not kept, since that call may be still to
+    # come. A list becomes the version if keys are added or removed.
+    __slots__ = ("_is_open", "_orders", "_values", "_version")
 
     def __init__(self, entries: Entries[Key, Value] = ()) -> None:
         values = _checked(entries)
-        self._stamps: count[int] = getattr(self, "_stamps", count(1))
-        self._stamp = stamp = next(self._stamps)
+        keys = _parts(values)
+        is_open = getattr(self, "_is_open", False)
+        self._is_open = True
+        order: Order = [None]
+        self._version, self._orders = order, [order]
         self._values = values
-        order: Order = True, stamp, values, len(values), _parts(values)
-        self._order: Order = order if next(self._stamps) == stamp + 1 else _NO_ORDER
+        order[0] = None if is_open else keys
+        self._is_open = is_open
 
-    def _in_order(self) -> tuple[int, Parts]:
-        """The stamp and the keys in order, sorted anew if no order is right."""
-        stamp, values = self._stamp, self._values
-        is_sure, last, others, size, keys = self._order
-        if last is not stamp or not (is_sure or others is values and size == len(values)):
-            size, keys = len(values), _parts(values)
-            self._order = False, stamp, values, size, keys
-        return stamp, keys
+    def _in_order(self) -> tuple[Order, Parts]:
+        """The list of the order, and the keys in order, sorted anew if they are not known."""
+        order = self._orders[0]
+        keys = order[0]
+        if keys is None:
+            keys = _parts(self._values)
+            if not self._is_open:
+                order[0] = keys
+        return order, keys
 
-    def _changed(self, order: Order, change: Callable[[Parts, Any], None], given: object, added: int) -> Order:
-        """Takes a stamp, and returns the order after a change of keys, to be put after that of the dict."""
-        is_sure, last, values, size, keys = order
-        self._stamp = stamp = next(self._stamps)
-        if stamp != last + 2 or not is_sure and (size != len(values) or values is not self._values):
-            return _NO_ORDER
-        change(keys, given)
-        return is_sure, stamp, values, size + added, keys
+    def _change(self, change: Callable[[Parts, Any], None], call: Callable[..., Any], key: Any, value: Any) -> Any:
+        """Changes the dict by a call, and if that adds or removes keys, their order by a function."""
+        is_open = self._is_open
+        try:
+            self._is_open = True
+            order: Order = [None]
+            keys = heapreplace(self._orders, order)[0]
+            values = self._values
+            size = len(values)
+            result = call(values, key, value)
+            if len(values) != size:
+                self._version = order
+                if keys is not None and self._orders[0] is order:
+                    change(keys, key)
+            order[0] = keys
+        finally:
+            self._is_open = is_open
+        return result
 
     def _remove(self, key: ObjectIdentifier) -> Any:
-        """Removes a key, and returns its value, which is held until all is done."""
-        order, values = self._order, self._values
-        if key not in values:
+        """Removes a key, and returns its value."""
+        if key not in self._values or (value := self._change(_remove, _pop, key, _MISSING)) is _MISSING:
             raise KeyError(required(key, "key"))
-        after = self._changed(order, _remove, key, -1)
-        value = values.pop(key)
-        self._order = after if next(self._stamps) == after[1] + 1 else _NO_ORDER
         return value
 
     @_lookup
@@ -122,7 +136,9 @@ class SortedMap(MutableMapping[ObjectIdentifier, Value]):
         """
         # A key that is a prefix of the identifier is also one of the last key that is not after it.
         above: ObjectIdentifier | None = oid
-        while above is not None and (last := _last_until(keys, above)) is not None:
+        while above is not None and (index := bisect(keys, above, key=_FIRST)):
+            part = keys[index - 1]
+            last = part[bisect(part, above) - 1]
             if above.starts_with(last):
                 return last, self._values[last]
             above = _common_prefix(above, last)
@@ -212,22 +228,7 @@ class SortedMap(MutableMapping[ObjectIdentifier, Value]):
         >>> table
         SortedMap({ObjectIdentifier('2.4'): 3, ObjectIdentifier('2.5'): 2})
         """
-        others = _checked(entries)
-        order, values = self._order, self._values
-        before = {key: value for key in others if (value := values.get(key, _MISSING)) is not _MISSING}
-        added = [key for key in others if key not in before]
-        after = self._changed(order, _add_all, added, len(added)) if added else order
-        self._order = _NO_ORDER
-        try:
-            values |= others
-        except BaseException:  # the dict may find no memory to grow, and undoing that takes none
-            values |= before
-            for key in added:
-                if key in values:
-                    del values[key]
-            self._order = _NO_ORDER
-            raise
-        self._order = after if not added or next(self._stamps) == after[1] + 1 else _NO_ORDER
+        self._change(_add_all, _set_all, [], _checked(entries))
 
     if TYPE_CHECKING:  # the other types are those of MutableMapping
 
@@ -292,13 +293,8 @@ class SortedMap(MutableMapping[ObjectIdentifier, Value]):
             >>> SortedMap().setdefault(ObjectIdentifier("2.5"), 0)
             0
             """
-            order, values = self._order, self._values
-            value = values.get(required(key, "key"), _MISSING)
-            if value is _MISSING:
-                after = self._changed(order, _add, key, 1)
-                value = values.setdefault(key, default)
-                self._order = after if next(self._stamps) == after[1] + 1 else _NO_ORDER
-            return value
+            value = self._values.get(required(key, "key"), _MISSING)
+            return self._change(_add, _setdefault, key, default) if value is _MISSING else value
 
     def __or__(self, other: Mapping[Key, Value]) -> Self:
         if not isinstance(other, Mapping):
@@ -323,18 +319,23 @@ class SortedMap(MutableMapping[ObjectIdentifier, Value]):
             raise
 
     def __setitem__(self, key: ObjectIdentifier, value: Value) -> None:
-        order, values = self._order, self._values
+        order, values = self._orders[0], self._values
         if key in values:
-            self._order = _NO_ORDER  # for a key that is removed in between
-            values[key] = value
-            self._order = order
-        else:
-            after = self._changed(order, _add, required(key, "key"), 1)
-            values[key] = value
-            self._order = after if next(self._stamps) == after[1] + 1 else _NO_ORDER
+            is_open = self._is_open
+            try:
+                self._is_open = True
+                keys, order[0] = order[0], None  # so that another change finds no keys from now on
+                if self._orders[0] is order:
+                    values[key] = value
+                    order[0] = keys
+                    return
+            finally:
+                self._is_open = is_open
+        if not isinstance(key, ObjectIdentifier):
+            required(key, "key")
+        self._change(_add, setitem, key, value)
 
-    def __delitem__(self, key: ObjectIdentifier) -> None:
-        self._remove(key)
+    __delitem__ = _remove
 
     def __contains__(self, key: object) -> bool:
         return key in self._values or required(key, "key") is None
@@ -347,16 +348,16 @@ class SortedMap(MutableMapping[ObjectIdentifier, Value]):
 
     def _walk(self, way: Callable[[Parts], Iterator[Any]], entries: Any = lambda _, keys: keys) -> Iterator[Any]:
         """What there is for each key of the dict, in order or back. A change from now on is noticed."""
-        stamp, keys = self._in_order()
-        return self._steps(entries(self._values, way(keys)), stamp, len(self._values))
+        version = self._version
+        return self._steps(entries(self._values, way(self._in_order()[1])), version, len(self._values))
 
-    def _steps(self, entries: Iterator[Any], stamp: int, size: int) -> Iterator[Any]:
+    def _steps(self, entries: Iterator[Any], version: Order, size: int) -> Iterator[Any]:
         """Yields entries, and fails if keys have been added or removed."""
         for entry in entries:
-            if self._stamp is not stamp:
+            if self._version is not version:
                 break
             yield entry
-        if self._stamp is not stamp or len(self._values) != size:
+        if self._version is not version or len(self._values) != size:
             raise RuntimeError(f"{type(self).__name__} changed during iteration")
 
     def __len__(self) -> int:
@@ -384,7 +385,8 @@ def _checked(entries: Entries[Key, Value]) -> dict[ObjectIdentifier, Value]:
     """A new dict of entries, whose keys are identifiers."""
     values: dict[ObjectIdentifier, Value] = dict(entries)  # type: ignore[arg-type]
     for key in values:
-        required(key, "key")
+        if not isinstance(key, ObjectIdentifier):
+            required(key, "key")
     return values
 
 
@@ -413,8 +415,26 @@ def _add(parts: Parts, key: ObjectIdentifier) -> None:
         parts[index : index + 1] = part[:PART], part[PART:]
 
 
+def _set_all(values: dict[ObjectIdentifier, Any], added: list[ObjectIdentifier], others: Any) -> None:
+    """Sets all entries in a dict, or none, and lists keys that are new."""
+    before = {}
+    for key in others:
+        if (value := values.get(key, _MISSING)) is _MISSING:
+            added.append(key)
+        else:
+            before[key] = value
+    try:
+        values |= others
+    except BaseException:  # the dict may find no memory to grow, and undoing that takes none
+        values |= before
+        for key in added:
+            if key in values:
+                del values[key]
+        raise
+
+
 def _add_all(parts: Parts, keys: list[ObjectIdentifier]) -> None:
-    if 8 * len(keys) > sum(map(len, parts)):
+    if 8 * len(keys) > PART * len(parts):
         parts[:] = _parts(chain(*parts, keys))
     else:
         for key in keys:
@@ -427,12 +447,6 @@ def _remove(parts: Parts, key: ObjectIdentifier) -> None:
     del part[bisect_left(part, key)]
     if not part:
         del parts[index]
-
-
-def _last_until(parts: Parts, oid: ObjectIdentifier) -> ObjectIdentifier | None:
-    """The last key that is not after an identifier, or None."""
-    index = bisect(parts, oid, key=_FIRST) - 1
-    return None if index < 0 else parts[index][bisect(parts[index], oid) - 1]
 
 
 _forth = chain.from_iterable
