@@ -272,8 +272,8 @@ class Sorted(unittest.TestCase):
         self.assertEqual([3, 3], list(table.values()))
 
     def test_a_change_is_done_or_not(self):
-        """A change that is interrupted, or lacks memory, at any place leaves a map as before, or has all. At few places, of
-        `finally`, it stays open, so that lookups sort."""
+        """A change that is interrupted, or lacks memory, at any place leaves a map as before, or has all. If that is
+        within `finally`, the map stays open, so that lookups sort."""
         keys = [ObjectIdentifier(f"2.{arc}") for arc in range(40)]
         start, few = dict.fromkeys(keys[::2], 0), dict.fromkeys(keys[1:5], 1)
         changes = [SortedMap.clear, SortedMap.popitem, lambda table: table.setdefault(keys[1], 1)]
@@ -318,7 +318,8 @@ class Sorted(unittest.TestCase):
         for number in range(4000):
             table = SortedMap({key: Ending() for key in draw.sample(KEYS, 5)})
             for _ in range(2):
-                acts = {draw.randrange(40): draw.choice([*changes, *LOOKS, ACTS["exit"][0]]) for _ in range(draw.randrange(5))}
+                calls = draw.choices([*changes, *LOOKS, ACTS["exit"][0]], k=draw.randrange(5))
+                acts = {draw.randrange(40): call for call in calls}
                 is_interrupted(draw.randrange(80), acts, draw.choice(changes), table)
             with self.subTest(number):
                 keys = sorted(table._values)

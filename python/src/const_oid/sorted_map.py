@@ -72,10 +72,10 @@ class SortedMap(MutableMapping[ObjectIdentifier, Value]):
     """
 
     # The dict is the truth, and the order of its keys a cache: the item of a list, or None if it is not known. A change
-    # puts a list of its own in place of the map's, by heapreplace, which nothing interrupts, so no other change has those
-    # keys. It changes the dict by one call, and puts the keys into its list, which is the map's if no other change has
-    # begun in between. While a change is open, the keys that a lookup sorts are not kept, since that call may be still to
-    # come. A list becomes the version if keys are added or removed.
+    # puts a list of its own in place of the map's, by heapreplace, which nothing interrupts, so that no other change
+    # has these keys. It changes the dict by one call, and puts the keys into its list, which is the map's if no other
+    # change has begun. While a change is open, keys that a lookup sorts are not kept, since that call may still come. A
+    # list becomes the version if keys are added or removed.
     __slots__ = ("_is_open", "_orders", "_values", "_version")
 
     def __init__(self, entries: Entries[Key, Value] = ()) -> None:
