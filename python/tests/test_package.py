@@ -95,11 +95,10 @@ class Package(unittest.TestCase):
         other = types.SimpleNamespace(empty=lambda shape, kind: {"made": (shape, kind)})
         with mock.patch.dict(sys.modules, numpy=other):
             self.assertEqual({"made": ((), "O"), (): oids[0]}, oids[0].__array__())
-        with installed("numpy") as found:
-            for numpy in found:
-                array = numpy.array(oids)
-                self.assertEqual(((2,), "O", oids), (array.shape, array.dtype.char, array.tolist()))
-                self.assertEqual(((), oids[0]), (numpy.asarray(oids[0]).shape, numpy.asarray(oids[0])[()]))
+        for numpy in self.enterContext(installed("numpy")):
+            array = numpy.array(oids)
+            self.assertEqual(((2,), "O", oids), (array.shape, array.dtype.char, array.tolist()))
+            self.assertEqual(((), oids[0]), (numpy.asarray(oids[0]).shape, numpy.asarray(oids[0])[()]))
 
     def test_pandas_takes_an_identifier_as_one_value(self):
         oid = ObjectIdentifier("2.5.4")

@@ -9,11 +9,6 @@ from const_oid._native import error_text, wrong_component
 ROWS = pathlib.Path(__file__).resolve().parents[2] / "crates/oid_rows/stdin"
 
 
-def expanded(row):
-    """A row with COUNT units for each {UNIT*COUNT}."""
-    return re.sub(r"\{([^*]*)\*(\d+)\}", lambda repeated: repeated[1] * int(repeated[2]), row)
-
-
 def oid_of(digits):
     return ObjectIdentifier.from_bytes(bytes.fromhex(digits))
 
@@ -45,19 +40,17 @@ def order_of(left, right):
     return "less" if left < right else "greater" if left > right else "equal"
 
 
-def in_order(words):
-    oids = list(map(oid_of, words.split(" ")))
+def in_order(*oids):
     pairs = ((a, b) for a in range(len(oids)) for b in range(len(oids)))
     return "in order" if all(order_of(oids[a], oids[b]) == order_of(a, b) for a, b in pairs) else "not in order"
 
 
-def pair(call):
+def of_oids(call):
     return lambda words: call(*map(oid_of, words.split(" ")))
 
 
-def searched(words):
+def searched(oid, *items):
     """What a map of the items of a list to their first indices finds for an identifier."""
-    oid, *items = map(oid_of, words.split(" "))
     table = SortedMap({item: index for index, item in reversed(list(enumerate(items)))})
     found = (oid, table[oid]) if oid in table else None, table.next_after(oid), table.nearest(oid)
     find, after, nearest = (f"none of {len(items)}" if entry is None else entry[1] for entry in found)
@@ -75,11 +68,11 @@ CALLS = {
     "component": lambda text: str(wrong_component(text.encode())).lower(),
     "parent": lambda digits: digits_of(oid_of(digits).parent),
     "child": lambda words: digits_of(oid_of(words.split(" ")[0]).child(int(words.split(" ")[1]))),
-    "begins": pair(lambda oid, prefix: "yes" if oid.starts_with(prefix) else "no"),
-    "equal": pair(lambda left, right: "yes" if left == right else "no"),
-    "by_arcs": pair(order_of),
-    "by_arcs_order": in_order,
-    "list": searched,
+    "begins": of_oids(lambda oid, prefix: "yes" if oid.starts_with(prefix) else "no"),
+    "equal": of_oids(lambda left, right: "yes" if left == right else "no"),
+    "by_arcs": of_oids(order_of),
+    "by_arcs_order": of_oids(in_order),
+    "list": of_oids(searched),
     "error": lambda words: error_text(*map(int, words.split(" "))) or "none",
 }
 
@@ -100,7 +93,9 @@ class Rows(unittest.TestCase):
         for line, row in enumerate(ROWS.read_text(encoding="utf-8").split("\n"), 1):
             if row.startswith("#") or " = " not in row:
                 continue
-            given, _, wanted = expanded(row).partition(" = ")
+            # {UNIT*COUNT} stands for COUNT units.
+            whole = re.sub(r"\{([^*]*)\*(\d+)\}", lambda repeated: repeated[1] * int(repeated[2]), row)
+            given, _, wanted = whole.partition(" = ")
             call, _, words = given.partition(" ")
             found.add(call)
             if call not in LEFT_OUT:

@@ -233,15 +233,14 @@ class Inputs(unittest.TestCase):
                 importlib.import_module("const_oid._support")
 
     def test_an_identifier_in_place_of_a_text(self):
-        under, named = Under(OID), Named("2.999")
+        named, text = Named("2.999"), type("Text", (str,), {})(OID)
         self.assertIs(OID, ObjectIdentifier(OID))
         # As with tuple, another object: else its __init__ would run again.
         self.assertIsNot(named, Named(named))
         self.assertEqual(1, named.calls)
-        self.assertEqual(OID, ObjectIdentifier(type("Text", (str,), {})(OID)))
-        self.assertEqual((Under, OCTETS), (type(under), bytes(under)))
-        self.assertEqual((ObjectIdentifier, OCTETS), (type(ObjectIdentifier(under)), bytes(ObjectIdentifier(under))))
-        self.assertEqual(OID, ObjectIdentifier(text="1.2.840.10045.2.1"))
+        made = [Under(OID), ObjectIdentifier(Under(OID)), ObjectIdentifier(text), ObjectIdentifier(text=str(OID))]
+        self.assertEqual([Under, *[ObjectIdentifier] * 3], list(map(type, made)))
+        self.assertEqual([OCTETS] * 4, list(map(bytes, made)))
         self.assertEqual([TypeError] * 2, [type(error_of(ObjectIdentifier, *given)) for given in ((), ("1.2", "1.3"))])
 
     def test_errors_say_what_is_wrong(self):
@@ -400,9 +399,8 @@ class Values(unittest.TestCase):
     def test_an_identifier_is_a_sequence(self):
         self.assertEqual([1, 2, 840, 10045, 2, 1], list(OID))
         self.assertEqual((6, 1, 1, (10045, 1)), (len(OID), OID[0], OID[-1], OID[3::2]))
-        self.assertEqual((True, False, True, False), (840 in OID, 841 in OID, True in OID, 10**5000 in OID))
-        self.assertFalse(any(octet in OID for octet in OCTETS[1:5]))
-        self.assertEqual([False, False, False, True], [item in OID for item in ("1", None, OID, 1.0)])
+        items = [840, 841, True, 10**5000, *OCTETS[1:5], "1", None, OID, 1.0]
+        self.assertEqual([0, 2, 11], [place for place, item in enumerate(items) if item in OID])
         self.assertEqual((1, 4, 2), (OID.index(2), OID.index(2, 2), OID.count(1)))
         self.assertEqual((IndexError, 1), (type(error_of(OID.__getitem__, index(own := mock.Mock()))), own.call_count))
         item = ctypes.pythonapi.PySequence_GetItem

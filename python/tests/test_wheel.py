@@ -59,10 +59,6 @@ REFUSED = {
 }
 
 
-def said_by(*command):
-    return subprocess.run(command, text=True, stdout=subprocess.PIPE, check=True).stdout
-
-
 def ran(program, folder, **variables):
     options = {"cwd": folder, "env": os.environ | variables, "text": True, "capture_output": True}
     return subprocess.run([sys.executable, "-c", program], **options)
@@ -82,9 +78,9 @@ class Wheel(unittest.TestCase):
         status, cls.name, wheels = built("build_wheel")
         assert status == 0, cls.name
         cls.wheel = wheels[cls.name]
-        with zipfile.ZipFile(io.BytesIO(cls.wheel)) as archive:
-            cls.entries = archive.infolist()
-            cls.files = {entry.filename: archive.read(entry) for entry in cls.entries}
+        archive = zipfile.ZipFile(io.BytesIO(cls.wheel))
+        cls.entries = archive.infolist()
+        cls.files = {entry.filename: archive.read(entry) for entry in cls.entries}
 
     def test_the_wheel_has_the_package_alone(self):
         """Nothing but the package and what says what it is, which is installed; all may read it, none may run it."""
@@ -127,10 +123,10 @@ class Wheel(unittest.TestCase):
         # Two archives that differ would take minutes to print.
         self.assertTrue(archive == built("build_sdist")[2])
         with tempfile.TemporaryDirectory() as folder:
-            with tarfile.open(fileobj=io.BytesIO(archive[name])) as tar:
-                self.assertEqual({STEM}, {member.name.split("/")[0] for member in tar})
-                tar.extraction_filter = getattr(tarfile, "data_filter", None)
-                tar.extractall(folder)
+            tar = tarfile.open(fileobj=io.BytesIO(archive[name]))
+            self.assertEqual({STEM}, {member.name.split("/")[0] for member in tar})
+            tar.extraction_filter = getattr(tarfile, "data_filter", None)
+            tar.extractall(folder)
             source = pathlib.Path(folder) / STEM
             self.assertEqual(self.files[f"{STEM}.dist-info/METADATA"], (source / "PKG-INFO").read_bytes())
             self.assertTrue((0, self.name, {self.name: self.wheel}) == built("build_wheel", python=source))
@@ -154,18 +150,18 @@ class Wheel(unittest.TestCase):
     def test_the_module_shows_its_start_alone(self):
         """The module shows its start alone, and needs the library of C alone: that of object identifiers is in it."""
         module = importlib.import_module("const_oid._native").__file__
-        self.assertRegex(said_by("nm", "-D", "--defined-only", module), r"^[0-9a-f]+ T PyInit__native$")
-        self.assertEqual(["libc.so.6"], re.findall(r"\(NEEDED\).*\[(.*)\]", said_by("readelf", "-dW", module)))
+        self.assertRegex(backend._output("nm", "-D", "--defined-only", module), r"^[0-9a-f]+ T PyInit__native$")
+        self.assertEqual(["libc.so.6"], re.findall(r"\(NEEDED\).*\[(.*)\]", backend._output("readelf", "-dW", module)))
 
     def test_the_source_asks_for_the_limited_api(self):
         """Python's headers declare what the stable ABI of 3.11 has, as the tag says; the source uses nothing else."""
         folders = [f"-I{backend.INCLUDE}", f"-I{TOP / 'crates/const_oid_c/include'}"]
         command = [*backend.COMPILER, "-std=c11", *folders, TOP / "python/src/native.c"]
-        self.assertIn("#define Py_LIMITED_API 0x030B0000\n", said_by(*command, "-E", "-dM"))
+        self.assertIn("#define Py_LIMITED_API 0x030B0000\n", backend._output(*command, "-E", "-dM"))
         # Macros of a header are for its own Python, and so is a # in a format.
         source = (TOP / "python/src/native.c").read_text(encoding="utf-8")
         self.assertNotRegex(source, r'Py_(X?(INC|DEC|SET)REF|XNewRef|CLEAR|RETURN_\w+)[(;]|"[^"\n]*\w#')
-        said_by(*command, "-Wall", "-Wextra", "-Werror", "-fsyntax-only")
+        backend._output(*command, "-Wall", "-Wextra", "-Werror", "-fsyntax-only")
 
     def test_the_flags(self):
         said = []
@@ -230,10 +226,10 @@ class Build(unittest.TestCase):
             self.assertEqual((0, 0), (status, other[0]), (name, other[1]))
             self.assertEqual(1, built("build_editable", {"library": "instaled"}, top / "python")[0])
             self.assertEqual(PACKAGE, set(os.listdir(top / "python/out/const_oid")))
-            with zipfile.ZipFile(io.BytesIO(files[name])) as archive:
-                information = {name for name in FILES if "dist-info" in name}
-                self.assertEqual({"const_oid.pth"} | information, set(archive.namelist()))
-                (place,) = archive.read("const_oid.pth").decode().splitlines()
+            archive = zipfile.ZipFile(io.BytesIO(files[name]))
+            information = {name for name in FILES if "dist-info" in name}
+            self.assertEqual({"const_oid.pth"} | information, set(archive.namelist()))
+            (place,) = archive.read("const_oid.pth").decode().splitlines()
             with (top / "python/src/const_oid/names.py").open("a", encoding="utf-8") as source:
                 source.write("\nCHANGED = name_of(ObjectIdentifier('2.5.4.3'))\n")
             run = ran("import const_oid; print(const_oid.names.CHANGED)", place)
@@ -253,6 +249,5 @@ class Build(unittest.TestCase):
                 path.write_text(header, encoding="utf-8")
                 status, name, files = built("build_wheel", CFLAGS=f"-include {path}", CC=f"env {CC}")
                 self.assertEqual(0, status, name)
-                with zipfile.ZipFile(io.BytesIO(files[name])) as archive:
-                    archive.extractall(folder)
+                zipfile.ZipFile(io.BytesIO(files[name])).extractall(folder)
                 self.assertIn(text, ran("import const_oid", folder).stderr)
