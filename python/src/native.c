@@ -184,65 +184,56 @@ static PyObject *identifier_from_bytes(PyObject *type, PyObject *given) {
     return status.code ? raise_status(type, status, octets) : make((PyTypeObject *)type, Py_NewRef(octets));
 }
 
-/* A pair of an identifier, to which it steals a reference, and of what comes after its element. */
-static PyObject *with_rest(PyObject *oid, PyObject *octets, Py_ssize_t end) {
-    return Py_BuildValue("NN", oid, PySequence_GetSlice(octets, end, PTRDIFF_MAX));
-}
-
-/* The identifier of the element that octets begin with. The octets after it come too, or else are an error. */
-static PyObject *from_element(PyObject *type, PyObject *given, int is_whole) {
-    OWNED *octets = octets_from(type, given);
-    if (!octets) return NULL;
-    const_oid_octets items = items_of(octets), contents = {NULL, 0};
+/* The identifier of the element that octets, with these items, begin with. What follows comes too, or is an error. */
+static inline PyObject *from_element(PyObject *type, PyObject *octets, const_oid_octets items, int is_whole) {
+    const_oid_octets contents = {NULL, 0};
     const_oid_status status = const_oid_from_der(items.octets, items.len, &contents);
     if (is_whole && !status.code && status.len < items.len) status.code = CONST_OID_NO_ELEMENT;
     if (status.code) return raise_status(type, status, octets);
     PyObject *oid = PyBytes_FromStringAndSize((const char *)contents.octets, (Py_ssize_t)contents.len);
     oid = make((PyTypeObject *)type, oid);
-    return oid && !is_whole ? with_rest(oid, octets, (Py_ssize_t)status.len) : oid;
+    if (is_whole || !oid) return oid;
+    return Py_BuildValue("NN", oid, PySequence_GetSlice(octets, (Py_ssize_t)status.len, PTRDIFF_MAX));
 }
 
-static PyObject *identifier_from_der(PyObject *type, PyObject *given) { return from_element(type, given, 1); }
+static inline PyObject *from_copy(PyObject *type, PyObject *given, int is_whole) {
+    OWNED *octets = octets_from(type, given);
+    return octets ? from_element(type, octets, items_of(octets), is_whole) : NULL;
+}
+
+static PyObject *identifier_from_der(PyObject *type, PyObject *given) { return from_copy(type, given, 1); }
 
 /* The rest of a memoryview of bytes in a row is one, and an error has one, so that a loop over elements copies their
  * octets alone. */
 static PyObject *identifier_read_der(PyObject *type, PyObject *given) {
     Py_buffer view;
-    if (!PyMemoryView_Check(given)) return from_element(type, given, 0);
+    if (!PyMemoryView_Check(given)) return from_copy(type, given, 0);
     OWNED *row = PyMemoryView_GetContiguous(given, PyBUF_READ, 'C');
     if (!row || PyObject_GetBuffer(row, &view, PyBUF_FULL_RO)) return NULL;
+    const_oid_octets items = {view.buf, (size_t)view.len};
     int is_row = view.ndim == 1 && view.itemsize == 1;
-    PyObject *octets = NULL;
-    const_oid_octets items = {NULL, 0};
-    const_oid_status status = const_oid_from_der(view.buf, (size_t)view.len, &items);
-    if (is_row && !status.code) octets = PyBytes_FromStringAndSize((const char *)items.octets, (Py_ssize_t)items.len);
+    PyObject *pair = is_row ? from_element(type, row, items, 0) : NULL;
     PyBuffer_Release(&view);
-    if (!is_row) return from_element(type, given, 0);
-    if (status.code) return raise_status(type, status, row);
-    PyObject *oid = make((PyTypeObject *)type, octets);
-    return oid ? with_rest(oid, row, (Py_ssize_t)status.len) : NULL;
+    return is_row ? pair : from_copy(type, given, 0);
 }
 
-/* An integer, or 2^32 in place of all that are greater. Returns whether there is one. */
-static int read_arc(PyObject *item, uint64_t *arc) {
+/* An integer, or the greatest of 64 bits in place of all that are greater. It is negative with an exception. */
+static long long read_arc(PyObject *item) {
     OWNED *number = PyNumber_Index(item);
-    if (!number) return 0;
+    if (!number) return -1;
     int overflow;
-    long long value = PyLong_AsLongLongAndOverflow(number, &overflow);
-    if (overflow <= 0 && value < 0) {
-        PyErr_Format(PyExc_ValueError, overflow ? "an arc is negative" : "an arc is negative: %lld", value);
-        return 0;
-    }
-    *arc = overflow || value > UINT32_MAX ? (uint64_t)UINT32_MAX + 1 : (uint64_t)value;
-    return 1;
+    long long arc = PyLong_AsLongLongAndOverflow(number, &overflow);
+    if (overflow > 0) return INT64_MAX;
+    if (arc < 0) PyErr_Format(PyExc_ValueError, overflow ? "an arc is negative" : "an arc is negative: %lld", arc);
+    return arc;
 }
 
 /* Reads all items of a tuple. Returns how many come before the first that is past 32 bits, or -1 with an exception. */
 static Py_ssize_t read_arcs(PyObject *items, Py_ssize_t count, uint32_t *arcs) {
     Py_ssize_t fitting = count;
     for (Py_ssize_t index = 0; index < count; index++) {
-        uint64_t arc;
-        if (!read_arc(PyTuple_GetItem(items, index), &arc)) return -1;
+        long long arc = read_arc(PyTuple_GetItem(items, index));
+        if (arc < 0) return -1;
         if (arc > UINT32_MAX && fitting == count) fitting = index;
         arcs[index] = (uint32_t)arc;
     }
@@ -318,9 +309,9 @@ static PyObject *identifier_parent(PyObject *self, void *Py_UNUSED(closure)) {
 
 static PyObject *identifier_child(PyObject *self, PyObject *item) {
     Output out;
-    uint64_t arc;
+    long long arc = read_arc(item);
     const_oid_octets octets = octets_of(self);
-    if (!read_arc(item, &arc) || !reserve(&out, octets.len + ARC_OCTETS, 1)) return NULL;
+    if (arc < 0 || !reserve(&out, octets.len + ARC_OCTETS, 1)) return NULL;
     const_oid_status status = const_oid_push_arc(octets.octets, octets.len, (uint32_t)arc, out.start, out.len);
     return make(Py_TYPE(self), finish(&out, self, arc > UINT32_MAX ? past_32_bits(status) : status, item));
 }
