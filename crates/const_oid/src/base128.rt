@@ -139,6 +139,7 @@ pub(crate) fn append_group(
         return count_group(used, number, capacity);
     }
     let mut at = used;
+    let mut last = number;
     if number >= 0x80 {
         if number >= 0x4000 {
             // A literal number of turns is unrolled at opt-level 3.
@@ -159,11 +160,12 @@ pub(crate) fn append_group(
         }
         out[at] = CONTINUED + ((number >> 7) % 128) as u8;
         at += 1;
+        last = number % 128;
     }
     if at >= capacity {
         return Err(Error::Length);
     }
-    out[at] = (number % 128) as u8;
+    out[at] = last as u8;
     Ok(at + 1)
 }
 

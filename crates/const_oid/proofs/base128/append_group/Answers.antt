@@ -1,5 +1,5 @@
-use Rattle.std.proofs.Common.{◌≡◌, ◌≤◌, ◌+◌, ◌-◌, ◌/◌, ◌^◌, [], refl, arith}
-use Rattle.std.proofs.Math.Nat.{div-le_self}
+use Rattle.std.proofs.Common.{◌≡◌, ◌≤◌, ◌+◌, ◌-◌, ◌/◌, ◌%◌, ◌^◌, [], refl, sym, ◌∙◌, arith}
+use Rattle.std.proofs.Math.Nat.{div-le_self, mod-eq_of_lt}
 use Rattle.const_oid.proofs.Leading.{IsLed, digits_above, led_on, led_past, led_to, nothing_led}
 use Rattle.const_oid.proofs.base128.append_group.Goals as goal
 use Rattle.const_oid.proofs.base128.append_group.Goals.{then-number-shift-gt0+else-at-capacity, else-number-shift-gt0}
@@ -97,5 +97,10 @@ returns c =
           let none : c.args.number / 128 ≡ 0 = omega arith in
           rw (w.out-is, w.at-is, none) (nothing_led c.args.capacity c.args.used c.args.out.now)
     ] in
+    let last : c.if-number-ge128.last ≡ c.args.number % 128 =
+    elim c.if-number-ge128.branch [
+      | then-number-ge128+else-at-capacity-2 w ↦ w.last-is
+      | else-number-ge128 w ↦ w.last-is ∙ sym (mod-eq_of_lt (omega arith))
+    ] in
     led_to c.args.capacity c.args.used c.args.out.now c.args.number led refl c.if-at-capacity-3.false
-    (λ room. refl)
+    (λ room. rw last refl)
