@@ -9,7 +9,8 @@ use Rattle.std.proofs.lemmas.List.Splits.{length-slice_split, slice_split_at, sl
 use Rattle.const_oid.specs.{Identifier.{root_rule, max_arc, IsEncoding, IsIdentifier}, Items.arc_fault, declared.error.Error.Error}
 use Rattle.const_oid.specs.declared.error.Error.TheVariants.{ArcInvalid, ArcTooBig, DigitExpected, Empty, Length, TrailingDot}
 use Rattle.const_oid.specs.{Contents.arcs_of_octets, Base128.width, Output.{IsEncodedIn, written_over}, Private.Octets.AppendsTo}
-use Rattle.const_oid.specs.Private.Parser.{component_at, components_found, text_found, found_after, or_trailing, arc_found, stop_fault}
+use Rattle.const_oid.specs.Stop.{component_at, or_trailing, stop_fault}
+use Rattle.const_oid.specs.Private.Parser.{components_found, text_found, found_after, arc_found}
 use Rattle.const_oid.specs.Private.Parser.{HasFault, IsFoundAt, IsComponent, IsRoot, IsWithin}
 use Rattle.const_oid.specs.Text.{components_of, number_of, is_empty, is_one_empty, text_answer, IsNumber}
 use Rattle.const_oid.proofs.WrongIndex.{same_text}
@@ -133,6 +134,7 @@ big_fault {text} end read less is big =
           let more = drop (end + 1) text in
           rw longer.bytes (too_big capacity before longer.digits more longer.are.1 (rw longer.value at big) ∙ grind (arith, nat_tests));
       at = read.at;
+      alike = grind (arith, nat_tests);
     }
 
 module _ {text : List ℕ} {start number end : ℕ} (read : AreDigits text start number end) (small : number ≤ max_arc) where
@@ -158,6 +160,7 @@ module _ {text : List ℕ} {start number end : ℕ} (read : AreDigits text start
         (no_digit capacity before read.digits more (get_or text end 0) read.are.1 (rw read.value at small) other undotted
         ∙ grind (arith, nat_tests));
     at = read.at;
+    alike = grind (arith, nat_tests);
   }
 
 -- the first byte is no digit
@@ -168,6 +171,7 @@ first_fault text start less other = record {
       let (tail, after, e) = some_component (drop (start + 1) text) in
       rw (drop_more text start 0 less, e) (grind (arith, nat_tests, e));
   at = record { same = refl; within = omega arith };
+  alike = refl;
 }
 
 -- there is no byte
@@ -175,6 +179,7 @@ pub end_fault : (text : List ℕ) (start : ℕ) → length text ≡ start → Ha
 end_fault text start last = record {
   is = λ capacity before none. rw (drop_all start text (omega arith)) (grind (arith, nat_tests));
   at = record { same = refl; within = omega arith };
+  alike = refl;
 }
 
 -- ---- the octets of the components so far

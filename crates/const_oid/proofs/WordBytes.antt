@@ -1,10 +1,10 @@
 -- The bytes of words: their high bits, and sums that carry into no other byte.
 use Rattle.std.proofs.Common.{◌≡◌, ℕ, zero, suc, ◌+◌, ◌-◌, ◌*◌, ◌/◌, ◌%◌, ◌^◌, ◌<◌, ◌≤◌, refl, ap, sym, ◌∙◌, arith, bit_or, w64, min, max, slice_index}
-use Rattle.std.proofs.Common.{List, [], ◌∷◌, ◌++◌, length, take, drop, get_or, ⊎_elim, w32}
+use Rattle.std.proofs.Common.{List, [], ◌∷◌, ◌++◌, length, take, drop, get_or, subst, ⊎_elim, w32}
 use Rattle.std.proofs.Math.ListN.{get_or-append}
 use Rattle.std.specs.Int.{from_le_bytes}
 use Rattle.std.proofs.lemmas.{Bool.cases_lt, Nat.le_bytes_8, List.{length-take-le, length-drop, get_or-take, get_or-drop, get_or_past, get_or-append_right}}
-use Rattle.std.specs.Int.{bit_at, bit_not, Bits.bit_and}
+use Rattle.std.specs.{Int.{bit_at, bit_not, Bits.bit_and}, Str.IsAscii}
 use Rattle.const_oid.specs.Private.Octets.{window_of, ArePlain}
 use Rattle.std.proofs.lemmas.Nat.{shr-shr, and_block, and_mask, and_le_r, or_lt, or_comm, or_shifted, Bits.{bit_at_and, bit_at_or, bit_at_not, bit_at-zero, bit_at-lt}}
 
@@ -244,3 +244,36 @@ module _ (xs : List ℕ) (word one two three : ℕ) (word_is : window_of word �
             let none = given.1 (rw here high) (rw before next) in
             ⊎_elim (λ low. low) (λ last. absurd (omega (arith, none, both_bytes two three k fits (rw second more) (rw third last)))) (cases_lt (slice_index xs (at - 3)) 128),
       )
+
+-- ---- no byte of a word has the high bit
+
+abbrev pub IsLow : ℕ → Type 0
+IsLow word = (j : ℕ) → j < 8 → bit_at word (8 * j + 7) ≡ 0
+
+pub low_from_none : (word : ℕ) → bit_and word 0x8080_8080_8080_8080 ≡ 0 → IsLow word
+low_from_none word none j inside =
+    by (bit_at_and word 0x8080_8080_8080_8080 (8 * j + 7)) (high_set j inside) (ap (λ n. bit_at n (8 * j + 7)) none ∙ bit_at-zero (8 * j + 7))
+  where
+    by : {x y z : ℕ} → z ≡ min x y → y ≡ 1 → z ≡ 0 → x ≡ 0
+    by a b c = omega arith
+
+pub low_of_both : (a b : ℕ) → IsLow (bit_or a b) → IsLow a × IsLow b
+low_of_both a b none =
+    (λ j inside. omega (arith, bit_at_or a b (8 * j + 7), none j inside), λ j inside. omega (arith, bit_at_or a b (8 * j + 7), none j inside))
+
+window_length : (word : ℕ) → length (window_of word) ≡ 8
+unfolding window_of
+window_length word = refl
+
+pub low_bytes : (word : ℕ) → IsLow word → IsAscii (window_of word)
+low_bytes word none i = ⊎_elim
+    (λ inside. rw (byte_is word i inside) (omega (arith, high_bit word (8 * i), none i inside)))
+    (λ past. rw (get_or_past (window_of word) i 0 (omega (arith, window_length word))) (omega arith))
+    (cases_lt i 8)
+
+-- eight bytes whose word has none are ASCII
+pub low_word : (bytes rest : List ℕ) (word : ℕ) → bytes ≡ take 8 rest → 8 ≤ length rest → ((i : ℕ) → get_or rest i 0 < 256)
+    → word ≡ from_le_bytes w64 bytes → IsLow word → IsAscii bytes
+low_word bytes rest word first enough small is none =
+    let same = window_is rest 0 word (omega arith) small (rw first at is) in
+    rw first (subst (λ xs. IsAscii xs) same (low_bytes word none))

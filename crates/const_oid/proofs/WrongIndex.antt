@@ -6,7 +6,8 @@ use Rattle.std.proofs.lemmas.Bool.Decides.{nat_tests}
 use Rattle.const_oid.specs.declared.error.Error.{Error}
 use Rattle.const_oid.specs.declared.error.Error.TheVariants.{Length}
 use Rattle.const_oid.specs.{Error.answer, Identifier.{root_rule, size}, Items.{arc_fault}}
-use Rattle.const_oid.specs.Private.Parser.{component_at, or_later, components_found, text_found, IsFaultAt, IsFoundAt}
+use Rattle.const_oid.specs.Stop.{component_at}
+use Rattle.const_oid.specs.Private.Parser.{or_later, components_found, text_found, IsFaultAt, IsFoundAt}
 use Rattle.const_oid.specs.Text.{number_of, component_fault, components_fault, components_of, text_answer, wrong_index, Denotes}
 use Rattle.const_oid.proofs.{Enough.{bytes_enough, size_text}, Lists.append-cons, Texts.text_fault-none}
 

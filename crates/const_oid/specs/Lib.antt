@@ -5,6 +5,7 @@ pub mod Contents
 pub mod Items
 pub mod Output
 pub mod Text
+pub mod Stop
 pub mod Tree
 pub mod WideRule
 pub mod Orders

@@ -1,13 +1,15 @@
 //! Octets and identifiers in outputs of the caller.
 
-ghost use Rattle.std.specs.Prelude.{◌≡◌, ◌≢◌, ◌*◌, ◌<◌, ◌≤◌, [], length, Err, IfErr, IfOk, IfSome, MatchOption, MatchResult, None, Ok};
+ghost use Rattle.std.specs.Prelude.{◌≡◌, ◌≢◌, ◌*◌, ◌<◌, ◌≤◌, ℕ, List, length, Err, IfErr, IfOk, IfSome, MatchOption, MatchResult, None, Ok};
 ghost use Rattle.std.specs.Result.{result_err};
 ghost use Rattle.const_oid.specs.Contents.{arcs_of_octets, borrowed_capacity, octet_fault, size_answer};
 ghost use Rattle.const_oid.specs.Identifier.{root_rule, default_capacity};
 ghost use Rattle.const_oid.specs.Items.{item_answer};
 ghost use Rattle.const_oid.specs.OidRef.{ref_arcs, ref_slice};
 ghost use Rattle.const_oid.specs.Output.{IsEncodedIn, WritesAll, WritesEncoding};
-ghost use Rattle.const_oid.specs.Text.{components_of, text_answer, wrong_index};
+ghost use Rattle.const_oid.specs.Private.Parser.{error_of, place_of, NeedsNoStart};
+ghost use Rattle.const_oid.specs.Stop.{component_at, error_at, IsWrongAt};
+ghost use Rattle.const_oid.specs.Text.{text_answer};
 
 use crate::Arc;
 use crate::base128::{checked_group, group_fault};
@@ -15,7 +17,9 @@ use crate::buffer::DEFAULT_CAPACITY;
 use crate::encoder::{ONE_PASS_ARCS, encode, encode_in_one_pass};
 use crate::error::{Error, Result};
 use crate::oid_ref::ObjectIdentifierRef;
-use crate::parser::{ONE_PASS_BYTES, fault_and_index, parse, parse_in_one_pass, parse_inlined};
+use crate::parser::{
+    ONE_PASS_BYTES, Wrong, component_at, fault_of, parse, parse_in_one_pass, parse_inlined,
+};
 use crate::root::{MAX_FIRST, split_root};
 use std::result;
 
@@ -86,28 +90,60 @@ pub fn bytes_from_arcs(arcs: &[Arc], out: &mut [u8]) -> Result<usize>
     encode(arcs, out, capacity)
 }
 
+/// Where the reading of a wrong text stops: at the end of a component whose arc has a fault, or, without one, within a
+/// component.
+#[derive(Copy, Clone)]
+pub struct Stop(pub Option<Error>, pub usize);
+
+/// Where the reading stops, by what is wrong.
+#[inline(always)]
+const fn stop_of(wrong: Wrong) -> Stop
+    ensures place { result.1 ≡ place_of wrong }
+    ensures fault { (text : List ℕ) → place_of wrong ≤ length text → NeedsNoStart text wrong → error_at text result ≡ error_of text wrong }
+{
+    match wrong {
+        Wrong::Component { index, .. } => Stop(None, index),
+        Wrong::Value { fault, end } => Stop(Some(fault), end),
+    }
+}
+
+/// The error of a wrong text, and the index of the component where its reading stops.
+#[inline(always)]
+pub fn fault_at_stop(text: &[u8], stop: Stop) -> (Error, usize)
+    ensures fault { result.0 ≡ error_at text.now stop }
+    ensures index { result.1 ≡ component_at text.now stop.1 }
+{
+    let end = stop.1.min(text.len());
+    let wrong = match stop.0 {
+        Some(fault) => Wrong::Value { fault, end },
+        None => Wrong::Component {
+            start: end,
+            index: end,
+        },
+    };
+    (fault_of(text, wrong).0, component_at(text, end))
+}
+
 /// Parses dotted text in ASCII into 39 octets, the default capacity, in one pass, and borrows those of its
 /// identifier. On `Err`, `out` may be changed.
 ///
 /// # Errors
 ///
-/// Those of [`new`](crate::ObjectIdentifier::new), each but [`Error::Length`] with the index of the first wrong
+/// Those of [`new`](crate::ObjectIdentifier::new), which [`fault_at_stop`] tells, with the index of the first wrong
 /// component.
 #[tactic(auto, using(crate::proofs::Appended::taken, crate::proofs::Encodings::none_from_encoding))]
 #[inline(always)]
 pub fn from_ascii_in_39<'a>(
     text: &[u8],
     out: &'a mut [u8; DEFAULT_CAPACITY],
-) -> result::Result<ObjectIdentifierRef<'a>, (Error, Option<usize>)>
-    ensures answer { let answer = text_answer root_rule text.now default_capacity in
-        MatchResult result (λ oid. answer ≡ Ok (ref_arcs oid)) (λ fault. answer ≡ Err fault.0) }
-    ensures index { IfErr result (λ fault. MatchOption fault.1 (fault.0 ≡ Error.Length)
-        (λ index. (fault.0 ≢ Error.Length) × (index ≡ wrong_index [] (components_of text.now)))) }
+) -> result::Result<ObjectIdentifierRef<'a>, Stop>
+    ensures answer { MatchResult result (λ oid. text_answer root_rule text.now default_capacity ≡ Ok (ref_arcs oid))
+        (IsWrongAt default_capacity text.now) }
     ensures start { IfOk result (λ oid. (ref_slice oid).ref_ptr ≡ out.entry.ref_ptr) }
 {
     match parse_inlined(text, out, DEFAULT_CAPACITY) {
         Ok(len) => Ok(ObjectIdentifierRef::from_checked(&out[..len])),
-        Err(wrong) => Err(fault_and_index(text, wrong)),
+        Err(wrong) => Err(stop_of(wrong)),
     }
 }
 
@@ -118,17 +154,14 @@ pub fn from_ascii_in_39<'a>(
 ///
 /// Those of [`from_ascii_in_39`], with [`Error::Length`] if there are more octets than the capacity.
 #[inline(never)]
-pub fn parse_or_index(
-    text: &[u8],
-    out: &mut [u8],
-    capacity: usize,
-) -> result::Result<usize, (Error, Option<usize>)>
-    ensures written { let answer = text_answer root_rule text.now capacity in
-        MatchResult result (IsEncodedIn capacity answer out.old out.new) (λ fault. answer ≡ Err fault.0) }
-    ensures index { IfErr result (λ fault. MatchOption fault.1 (fault.0 ≡ Error.Length)
-        (λ index. (fault.0 ≢ Error.Length) × (index ≡ wrong_index [] (components_of text.now)))) }
+pub fn parse_or_stop(text: &[u8], out: &mut [u8], capacity: usize) -> result::Result<usize, Stop>
+    ensures { MatchResult result (IsEncodedIn capacity (text_answer root_rule text.now capacity) out.old out.new)
+        (IsWrongAt capacity text.now) }
 {
-    parse_inlined(text, out, capacity).map_err(|wrong| fault_and_index(text, wrong))
+    match parse_inlined(text, out, capacity) {
+        Ok(len) => Ok(len),
+        Err(wrong) => Err(stop_of(wrong)),
+    }
 }
 
 /// Decodes contents octets as [`from_bytes`](crate::ObjectIdentifierRef::from_bytes) does, writes their arcs to the start

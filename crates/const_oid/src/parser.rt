@@ -5,8 +5,9 @@
 
 ghost use Rattle.std.specs.Prelude.{◌≡◌, ◌≢◌, ◌≤◌, ℕ, drop, length, Err, IfErr, MatchOption, MatchResult};
 ghost use Rattle.const_oid.specs.Output.{IsEncodedIn, WritesEncoding};
-ghost use Rattle.const_oid.specs.Private.Parser.{component_at, error_of, or_trailing, place_of, stop_fault, HasFault, IsFaultAt, IsFoundAt, IsComponent, IsRoot};
+ghost use Rattle.const_oid.specs.Private.Parser.{error_of, place_of, HasFault, IsFaultAt, IsFoundAt, IsComponent, IsRoot, NeedsNoStart};
 ghost use Rattle.const_oid.specs.Identifier.{root_rule};
+ghost use Rattle.const_oid.specs.Stop.{component_at, or_trailing, stop_fault};
 ghost use Rattle.const_oid.specs.Text.{text_answer};
 
 use crate::Arc;
@@ -17,6 +18,7 @@ use crate::root::{check_first, join_root};
 use std::result;
 
 /// What is wrong with a text.
+#[derive(Copy, Clone)]
 pub(crate) enum Wrong {
     /// The component that starts at an index goes wrong at another one.
     Component { start: usize, index: usize },
@@ -40,7 +42,7 @@ pub(crate) const fn fault_of(text: &[u8], wrong: Wrong) -> (Error, usize)
 /// The index of the component at a place, before which are digits and dots alone: only dots are below the digits.
 #[cold]
 #[inline(never)]
-fn component_at(text: &[u8], place: usize) -> usize
+pub(crate) fn component_at(text: &[u8], place: usize) -> usize
     requires { place ≤ length text.now }
     ensures { result ≡ component_at text.now place }
 {
@@ -100,7 +102,7 @@ pub(crate) fn parse_inlined(
     capacity: usize,
 ) -> result::Result<usize, Wrong>
     ensures { MatchResult result (IsEncodedIn capacity (text_answer root_rule text.now capacity) out.old out.new)
-        (λ wrong. IsFaultAt capacity text.now (error_of text.now wrong) (place_of wrong)) }
+        (λ wrong. IsFaultAt capacity text.now (error_of text.now wrong) (place_of wrong) × NeedsNoStart text.now wrong) }
 {
     let (number, mut end) = match read_root(text) {
         Ok(root) => root,
@@ -135,7 +137,7 @@ pub(crate) fn parse_inlined(
 #[inline(always)]
 fn read_root(text: &[u8]) -> result::Result<(u64, usize), Wrong>
     ensures { MatchResult result (λ root. IsRoot text.now root.0 root.1)
-        (λ wrong. (capacity : ℕ) → IsFoundAt capacity text.now (error_of text.now wrong) (place_of wrong)) }
+        (λ wrong. ((capacity : ℕ) → IsFoundAt capacity text.now (error_of text.now wrong) (place_of wrong)) × NeedsNoStart text.now wrong) }
 {
     let (first, end) = match read_component(text, 0) {
         Ok(component) => component,

@@ -1,16 +1,18 @@
 -- A result at a capacity is the result at a greater one, unless it is the fault `Length`.
-use Rattle.std.proofs.Common.{◌≡◌, ◌≢◌, ℕ, ◌≤◌, List, [], ◌∷◌, ◌++◌, refl, arith, Ok, Err, ap, sym, ◌∙◌}
-use Rattle.std.specs.Prelude.{Option, Some, Result}
+use Rattle.std.proofs.Common.{◌≡◌, ◌≢◌, ℕ, ◌≤◌, List, [], ◌∷◌, ◌++◌, length, true, refl, arith, Ok, Err, ap, sym, ◌∙◌}
+use Rattle.std.specs.Prelude.{Option, None, Some, Result}
+use Rattle.std.specs.Str.{is_utf8}
 use Rattle.std.proofs.lemmas.Bool.Decides.{nat_tests}
 use Rattle.const_oid.specs.declared.error.Error.{Error}
 use Rattle.const_oid.specs.declared.error.Error.TheVariants.{Length}
 use Rattle.const_oid.specs.Identifier.{root_rule, IsEncoding}
 use Rattle.const_oid.specs.Items.{arc_fault, items_fault, item_answer}
+use Rattle.const_oid.specs.{declared.outputs.Stop.Stop, Stop.{component_at, error_at, IsWrongAt}}
 use Rattle.const_oid.specs.Text.{component_fault, components_fault, components_of, number_of, text_answer}
 use Rattle.const_oid.proofs.Ascii.{answer_utf8}
-use Rattle.const_oid.proofs.Encodings.{encoding_of-encoded}
+use Rattle.const_oid.proofs.{Encodings.encoding_of-encoded, Enough.bytes_enough}
 use Rattle.const_oid_c.specs.Results.{octets_of_text}
-use Rattle.const_oid_c.specs.Status.{max_len}
+use Rattle.const_oid_c.specs.Status.{fault_at, max_len}
 
 module _ (low high : ℕ) (less : low ≤ high) where
   -- the fault at the low capacity is that at the high one, or `Length`
@@ -51,6 +53,11 @@ module _ (low high : ℕ) (less : low ≤ high) where
   pub same_arcs : (arcs : List ℕ) → IsSameAnswer (item_answer root_rule arcs)
   same_arcs arcs other = grind (arith, same_items [] arcs)
 
+-- the error is `Length` only if that is the fault where the reading stops
+pub not_length : (text : List ℕ) (fault : Option Error) (place : ℕ) → fault ≢ Some Length → error_at text (record { 0 = fault; 1 = place }) ≢ Length
+not_length text None place other same = grind (arith, nat_tests, same)
+not_length text (Some fault) place other same = grind (arith, nat_tests, same, other)
+
 module _ (capacity : ℕ) (less : capacity ≤ max_len) (text : List ℕ) where
   -- the octets of a text that fit a capacity
   pub fitting_text : (arcs octets : List ℕ) → IsEncoding root_rule arcs octets → text_answer root_rule text capacity ≡ Ok arcs
@@ -66,3 +73,16 @@ module _ (capacity : ℕ) (less : capacity ≤ max_len) (text : List ℕ) where
   wrong_text other answer =
       let not_long : text_answer root_rule text capacity ≢ Err Length = λ same. other cc in
       sym (same_text capacity max_len less text not_long) ∙ answer
+
+  -- where the reading stops, but by `Length`
+  pub wrong_stop : (stop : Stop) → stop.0 ≢ Some Length → IsWrongAt capacity text stop → IsWrongAt max_len text stop
+  wrong_stop stop other is =
+      let rest = not_length text stop.0 stop.1 other in
+      (wrong_text rest is.0, λ same. is.1 rest)
+
+-- where the reading stops, the status has the error
+pub stop_status : (text : List ℕ) (stop : Stop) → length text ≤ max_len → is_utf8 text ≡ true → IsWrongAt max_len text stop
+    → octets_of_text text ≡ Err (fault_at (component_at text stop.1) (error_at text stop))
+stop_status text stop within utf8 is =
+    let index = is.1 (λ same. bytes_enough root_rule text max_len within (is.0 ∙ ap Err same)) in
+    rw (utf8, is.0, index) refl

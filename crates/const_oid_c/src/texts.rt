@@ -1,8 +1,9 @@
 //! Dotted text.
-ghost use Rattle.std.specs.Prelude.{◌≡◌, ◌≢◌, ◌≤◌, [], length, Err};
-ghost use Rattle.std.specs.Str.{is_utf8};
+ghost use Rattle.std.specs.Prelude.{◌≡◌, ◌≢◌, ◌≤◌, [], false, true, length, Err, MatchResult, Some};
+ghost use Rattle.std.specs.Str.{is_utf8, IsAscii};
 ghost use Rattle.const_oid.specs.Text.{components_of, text_of, text_answer, wrong_index};
-ghost use Rattle.const_oid.specs.Identifier.{root_rule};
+ghost use Rattle.const_oid.specs.Identifier.{root_rule, default_capacity};
+ghost use Rattle.const_oid.specs.Stop.{component_at, error_at, IsWrongAt};
 ghost use Rattle.const_oid_c.specs.Status.{fault_at, max_len, output_status, output_after};
 ghost use Rattle.const_oid_c.specs.Results.{octets_of_text, output_of, borrowed_answer};
 
@@ -12,6 +13,7 @@ use crate::status::{
     LENGTH, NOT_UTF8, OUTPUT_TOO_SHORT, Status, code_status, error_status, fault_at, len_status,
     too_short_status,
 };
+use const_oid::outputs::Stop;
 use const_oid::{Error, ObjectIdentifierRef, Oid, outputs};
 use std::str;
 
@@ -23,60 +25,76 @@ pub extern "C" fn const_oid_from_text(text: &[u8], out: &mut [u8]) -> Status
     ensures enough { length text.now ≤ length out.old → result.code ≢ OUTPUT_TOO_SHORT }
     ensures no_length { result.code ≢ LENGTH }
 {
-    // An octet takes four bytes of text at most, but for leading zeros.
-    if text.len() > 4 * Oid::MAX_SIZE {
-        return read_long_text(text, out);
-    }
     // An identifier of the default capacity is quicker to make.
     let mut octets = [0; Oid::MAX_SIZE];
-    match outputs::from_ascii_in_39(text, &mut octets) {
-        Ok(oid) => write_bytes(oid.as_bytes(), out),
-        Err((fault, Some(index))) => wrong_text_status(text, fault, index),
-        Err((_, None)) => read_long_text(text, out),
-    }
+    // An octet takes four bytes of text at most, but for leading zeros.
+    let stop = if text.len() > 4 * Oid::MAX_SIZE {
+        Stop(Some(Error::Length), 0)
+    } else {
+        match outputs::from_ascii_in_39(text, &mut octets) {
+            Ok(oid) => return write_bytes(oid.as_bytes(), out),
+            Err(stop) => stop,
+        }
+    };
+    read_again(text, out, stop)
 }
 
-/// Writes the contents octets of the identifier that dotted text denotes, of any length, or counts those that do not
-/// fit. Up to 255 octets are made on the stack.
+/// Writes the contents octets of the identifier that dotted text denotes, or reports its error, by where the reading
+/// stops at the default capacity. Where that is `Length`, the octets may fit a greater one.
+// All that is left is in one call, so that a short text takes fewer instructions.
 // erase: extern "C"
 #[cold]
 #[inline(never)]
-fn read_long_text(text: &[u8], out: &mut [u8]) -> Status
+fn read_again(text: &[u8], out: &mut [u8], stop: Stop) -> Status
+    requires { stop.0 ≢ Some Error.Length → IsWrongAt default_capacity text.now stop }
     ensures status { result ≡ output_status (length out.old) (octets_of_text text.now) }
     ensures written { out.new ≡ output_after out.old (octets_of_text text.now) }
 {
-    if text.len() <= 4 * MAX_OCTETS {
-        let mut octets = [0; MAX_OCTETS];
-        match outputs::parse_or_index(text, &mut octets, MAX_OCTETS) {
-            Ok(len) => return write_bytes(&octets[..len], out),
-            Err((fault, Some(index))) => return wrong_text_status(text, fault, index),
-            Err((_, None)) => (),
+    let mut stop = stop;
+    if is_length(stop) {
+        match read_long_text(text, out) {
+            Ok(status) => return status,
+            Err(other) => stop = other,
         }
     }
-    match outputs::parse_or_index(text, &mut [], usize::MAX) {
-        Ok(len) if len > out.len() => too_short_status(len),
-        Ok(len) => {
-            let _ = outputs::parse_or_index(text, out, len);
-            len_status(len)
-        }
-        Err((fault, index)) => wrong_text_status(text, fault, index.unwrap_or(0)),
-    }
-}
-
-/// The status of a text that denotes no identifier, by its error and the index of the wrong component.
-// erase: extern "C"
-#[cold]
-#[inline(never)]
-fn wrong_text_status(text: &[u8], fault: Error, index: usize) -> Status
-    requires fault { text_answer root_rule text.now max_len ≡ Err fault }
-    requires index { index ≡ wrong_index [] (components_of text.now) }
-    ensures { octets_of_text text.now ≡ Err result }
-{
     // Only a wrong text can fail to be UTF-8: a valid one has ASCII digits and dots alone.
     if !is_utf8(text) {
         return code_status(NOT_UTF8);
     }
+    let (fault, index) = outputs::fault_at_stop(text, stop);
     fault_at(index, fault)
+}
+
+/// Whether the reading stops at octets that do not fit.
+#[inline(always)]
+fn is_length(stop: Stop) -> bool
+    ensures { result ≡ false → stop.0 ≢ Some Error.Length }
+{
+    matches!(stop.0, Some(Error::Length))
+}
+
+/// Writes the contents octets of the identifier that dotted text denotes, of any length, or counts those that do not
+/// fit. Up to 255 octets are made on the stack.
+#[inline(never)]
+fn read_long_text(text: &[u8], out: &mut [u8]) -> Result<Status, Stop>
+    ensures { MatchResult result
+        (λ status. (status ≡ output_status (length out.old) (octets_of_text text.now)) × (out.new ≡ output_after out.old (octets_of_text text.now)))
+        (λ stop. IsWrongAt max_len text.now stop × (out.new ≡ out.old)) }
+{
+    if text.len() <= 4 * MAX_OCTETS {
+        let mut octets = [0; MAX_OCTETS];
+        match outputs::parse_or_stop(text, &mut octets, MAX_OCTETS) {
+            Ok(len) => return Ok(write_bytes(&octets[..len], out)),
+            Err(stop) if is_length(stop) => (),
+            Err(stop) => return Err(stop),
+        }
+    }
+    let len = outputs::parse_or_stop(text, &mut [], usize::MAX)?;
+    if len > out.len() {
+        return Ok(too_short_status(len));
+    }
+    let _ = outputs::parse_or_stop(text, out, len);
+    Ok(len_status(len))
 }
 
 /// Whether a text is UTF-8: most wrong ones are ASCII, which is seen in fewer steps.
@@ -84,7 +102,26 @@ fn wrong_text_status(text: &[u8], fault: Error, index: usize) -> Status
 fn is_utf8(text: &[u8]) -> bool
     ensures { result ≡ is_utf8 text.now }
 {
-    text.is_ascii() || str::from_utf8(text).is_ok()
+    has_no_high_bit(text) || str::from_utf8(text).is_ok()
+}
+
+/// The high bit of each byte of a word.
+const HIGH: u64 = 0x8080_8080_8080_8080;
+
+/// Whether a text is ASCII, by words of eight bytes. The last one may overlap the one before it.
+fn has_no_high_bit(text: &[u8]) -> bool
+    ensures { result ≡ true → IsAscii text.now }
+{
+    let Some(last) = text.last_chunk::<8>() else {
+        return text.is_ascii();
+    };
+    let mut bits = u64::from_le_bytes(*last);
+    let mut rest = text;
+    while let Some((word, after)) = rest.split_first_chunk::<8>() {
+        bits |= u64::from_le_bytes(*word);
+        rest = after;
+    }
+    bits & HIGH == 0
 }
 
 /// The room for the text of 16 octets: four bytes for each octet, and eleven for one arc more.

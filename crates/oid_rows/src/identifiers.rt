@@ -58,16 +58,25 @@ pub fn of_text<'o>(text: &str, out: &'o mut [u8]) -> Result<Made<'o>> {
     let (bytes, room) = (text.as_bytes(), out.len());
     let len = ObjectIdentifierRef::from_ascii_in(bytes, out).map(|oid| oid.as_bytes().len());
     ensure!(outputs::bytes_len_from_ascii(bytes, room) == len);
-    ensure!(outputs::parse_or_index(bytes, &mut [], room).map_err(|fault| fault.0) == len);
+    ensure!(
+        outputs::parse_or_stop(bytes, &mut [], room).map_err(|stop| fault_of(bytes, stop)) == len
+    );
     let made = written(out, len)?;
     ensure!(room != 39 || are_usual(text, made), "usual capacity");
     Ok(made)
 }
 
+/// The error where the reading of a text stops.
+fn fault_of(text: &[u8], stop: outputs::Stop) -> Error {
+    outputs::fault_at_stop(text, stop).0
+}
+
 fn are_usual(text: &str, wanted: Made<'_>) -> bool {
     let mut out = [0xEE; 39];
     let read = outputs::from_ascii_in_39(text.as_bytes(), &mut out);
-    read.map(|oid| oid.as_bytes()).map_err(|fault| fault.0) == wanted
+    read.map(|oid| oid.as_bytes())
+        .map_err(|stop| fault_of(text.as_bytes(), stop))
+        == wanted
         && is_answer(Oid::new(text), wanted)
         && is_answer(text.parse(), wanted)
         && is_answer(Oid::from_ascii(text.as_bytes()), wanted)

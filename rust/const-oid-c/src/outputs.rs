@@ -21,7 +21,7 @@ pub(crate) fn write_element(oid: &ObjectIdentifierRef, out: &mut Output<u8>) -> 
 
 /// Writes the octets of a text, which are so many, at the start of an output.
 pub(crate) fn write_parsed(text: &[u8], out: &mut Output<u8>, len: usize) {
-    let _ = outputs::parse_or_index(text, zeroed(&mut out[..len]), len);
+    let _ = outputs::parse_or_stop(text, zeroed(&mut out[..len]), len);
 }
 
 /// Writes the octets of arcs at the start of an output, and returns how many. On an error it is unchanged.

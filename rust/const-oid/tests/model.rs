@@ -287,9 +287,9 @@ fn write_text(text: &str, size: usize) -> model::Answer {
     check_written(text, size, &answer, |out| ObjectIdentifierRef::from_ascii_in(text.as_bytes(), out));
     #[cfg(feature = "internal-for-const-oid-c")]
     if let (39, Ok(_)) = (size, &answer) {
-        let parse = const_oid::internal_for_const_oid_c::outputs::from_ascii_in_39;
+        use const_oid::internal_for_const_oid_c::outputs::{fault_at_stop, from_ascii_in_39 as parse};
         check_written(text, size, &answer, |out| {
-            parse(text.as_bytes(), out.try_into().unwrap()).map_err(|fault| fault.0)
+            parse(text.as_bytes(), out.try_into().unwrap()).map_err(|stop| fault_at_stop(text.as_bytes(), stop).0)
         });
     }
     answer
@@ -319,8 +319,9 @@ fn check_text(text: &str) {
     assert_eq!(wrong, model::wrong_component(text.as_bytes()), "{text}");
     #[cfg(feature = "internal-for-const-oid-c")]
     {
-        let parse = const_oid::internal_for_const_oid_c::outputs::parse_or_index;
-        assert_eq!(parse(text.as_bytes(), &mut [], usize::MAX).err().map(|fault| fault.1), wrong.map(Some), "{text}");
+        use const_oid::internal_for_const_oid_c::outputs::{fault_at_stop, parse_or_stop};
+        let stop = parse_or_stop(text.as_bytes(), &mut [], usize::MAX).err();
+        assert_eq!(stop.map(|stop| fault_at_stop(text.as_bytes(), stop).1), wrong, "{text}");
     }
     read_text::<39>(text);
 }

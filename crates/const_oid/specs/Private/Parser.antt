@@ -1,12 +1,12 @@
 -- What a parser finds of one component of a text, and of the first two.
-use Rattle.std.specs.Prelude.{◌≡◌, ◌≢◌, ℕ, ◌-◌, ◌*◌, ◌+◌, ◌<◌, ◌≤◌, ◌==◌, ◌&&◌, not, List, [], ◌∷◌, ◌++◌, length, count_by, drop, get_or, take}
-use Rattle.std.specs.Prelude.{nat_lt, if◌then◌else◌, Option, Some, None, Result, Ok, Err}
-use Rattle.std.specs.Char.{is_ascii_digit}
+use Rattle.std.specs.Prelude.{◌≡◌, ◌≢◌, ℕ, ◌-◌, ◌*◌, ◌+◌, ◌<◌, ◌≤◌, ◌==◌, List, [], ◌∷◌, ◌++◌, length, drop, get_or}
+use Rattle.std.specs.Prelude.{Option, Some, None, Result, Ok, Err, ⊤}
 use Rattle.const_oid.specs.declared.error.Error.{Error}
-use Rattle.const_oid.specs.declared.error.Error.TheVariants.{ArcTooBig, DigitExpected, Empty, Length, RepeatedDot, TrailingDot}
+use Rattle.const_oid.specs.declared.error.Error.TheVariants.{Length, TrailingDot}
 use Rattle.const_oid.specs.declared.parser.Wrong.{Wrong}
 use Rattle.const_oid.specs.declared.parser.Wrong.TheVariants.{Component, Value}
 use Rattle.const_oid.specs.{Identifier.{root_rule, max_arc, max_second}, Items.{arc_fault, too_few_fault}}
+use Rattle.const_oid.specs.Stop.{component_at, or_trailing, stop_fault}
 use Rattle.const_oid.specs.Text.{dot, is_empty, number_of, component_fault, components_of, text_answer, wrong_index}
 
 -- a fault and the index of its component, or else what comes later
@@ -30,22 +30,10 @@ found_after capacity before [] = components_found capacity before []
 found_after capacity before (_ ∷ []) = Err (TrailingDot, length before - 1)
 found_after capacity before (_ ∷ byte ∷ bytes) = components_found capacity before (components_of (byte ∷ bytes))
 
--- the fault of an arc, by the bytes after its component: `TrailingDot` if an empty last one follows
-abbrev pub or_trailing : Error → List ℕ → Error
-or_trailing fault bytes = if length bytes == 1 then TrailingDot else fault
-
 -- those of an arc and of what follows it, by the bytes after its component and the fault of the arc
 abbrev pub arc_found : ℕ → List ℕ → ℕ → List ℕ → Option Error → Result (List ℕ) (Error × ℕ)
 arc_found capacity before arc bytes None = found_after capacity (before ++ arc ∷ []) bytes
 arc_found capacity before arc bytes (Some fault) = Err (or_trailing fault bytes, length before)
-
--- the fault of a component that starts at an index and goes wrong at another one
-abbrev pub stop_fault : List ℕ → ℕ → ℕ → Error
-stop_fault text start index =
-    let b = get_or text index 0 in
-    if nat_lt index (length text)
-    then (if is_ascii_digit b then ArcTooBig else if b == dot && not (start == 0) then RepeatedDot else DigitExpected b)
-    else (if start == 0 then Empty else TrailingDot)
 
 -- the error of what is wrong with a text
 abbrev pub error_of : List ℕ → Wrong → Error
@@ -57,9 +45,10 @@ abbrev pub place_of : Wrong → ℕ
 place_of (Component start index) = index
 place_of (Value fault end) = end
 
--- the index of the component at a place that follows digits and dots: of these, only dots are below the digits
-abbrev pub component_at : List ℕ → ℕ → ℕ
-component_at text place = count_by (λ b. nat_lt b 48) (take place text)
+-- a component that goes wrong at a dot, or where the text ends, is empty, so its fault needs no start
+abbrev pub NeedsNoStart : List ℕ → Wrong → Type 0
+NeedsNoStart text (Component start index) = stop_fault text start index ≡ stop_fault text index index
+NeedsNoStart text (Value fault end) = ⊤
 
 -- the text has the fault at a capacity, and the wrong component is at the place, unless its octets do not fit
 pub record IsFaultAt (capacity : ℕ) (text : List ℕ) (fault : Error) (place : ℕ) : Type 0 where
@@ -82,6 +71,7 @@ pub record HasFault (text : List ℕ) (start : ℕ) (fault : Error) (place : ℕ
   pub is : (capacity : ℕ) (before : List ℕ) → is_empty before ≡ (start == 0)
       → components_found capacity before (components_of (drop start text)) ≡ Err (fault, length before)
   pub at : IsWithin text start place
+  pub alike : fault ≡ stop_fault text place place
 
 -- the component that starts at an index is the number of an arc, and ends at another one, with the text or at a dot
 pub record IsComponent (text : List ℕ) (start number end : ℕ) : Type 0 where

@@ -7,61 +7,93 @@ use crate::erased::output::write_bytes;
 use crate::erased::status::{
     LENGTH, NOT_UTF8, OUTPUT_TOO_SHORT, Status, code_status, error_status, fault_at, len_status, too_short_status,
 };
+use const_oid::internal_for_const_oid_c::outputs::Stop;
 use const_oid::internal_for_const_oid_c::{Error, ObjectIdentifierRef, Oid, outputs};
 use core::str;
 
 /// Writes the contents octets of the identifier that dotted text denotes.
 pub fn const_oid_from_text(text: &[u8], out: &mut crate::edge::Output<u8>) -> Status {
-    // An octet takes four bytes of text at most, but for leading zeros.
-    if text.len() > 4 * Oid::MAX_SIZE {
-        return read_long_text(text, out);
-    }
     // An identifier of the default capacity is quicker to make.
     let mut octets = [0; Oid::MAX_SIZE];
-    match outputs::from_ascii_in_39(text, &mut octets) {
-        Ok(oid) => write_bytes(oid.as_bytes(), out),
-        Err((fault, Some(index))) => wrong_text_status(text, fault, index),
-        Err((_, None)) => read_long_text(text, out),
-    }
+    // An octet takes four bytes of text at most, but for leading zeros.
+    let stop = if text.len() > 4 * Oid::MAX_SIZE {
+        Stop(Some(Error::Length), 0)
+    } else {
+        match outputs::from_ascii_in_39(text, &mut octets) {
+            Ok(oid) => return write_bytes(oid.as_bytes(), out),
+            Err(stop) => stop,
+        }
+    };
+    read_again(text, out, stop)
 }
 
-/// Writes the contents octets of the identifier that dotted text denotes, of any length, or counts those that do not
-/// fit. Up to 255 octets are made on the stack.
+/// Writes the contents octets of the identifier that dotted text denotes, or reports its error, by where the reading
+/// stops at the default capacity. Where that is `Length`, the octets may fit a greater one.
+// All that is left is in one call, so that a short text takes fewer instructions.
 #[cold]
 #[inline(never)]
-extern "C" fn read_long_text(text: &[u8], out: &mut crate::edge::Output<u8>) -> Status {
-    if text.len() <= 4 * MAX_OCTETS {
-        let mut octets = [0; MAX_OCTETS];
-        match outputs::parse_or_index(text, &mut octets, MAX_OCTETS) {
-            Ok(len) => return write_bytes(&octets[..len], out),
-            Err((fault, Some(index))) => return wrong_text_status(text, fault, index),
-            Err((_, None)) => (),
+extern "C" fn read_again(text: &[u8], out: &mut crate::edge::Output<u8>, stop: Stop) -> Status {
+    let mut stop = stop;
+    if is_length(stop) {
+        match read_long_text(text, out) {
+            Ok(status) => return status,
+            Err(other) => stop = other,
         }
     }
-    match outputs::parse_or_index(text, &mut [], usize::MAX) {
-        Ok(len) if len > out.len() => too_short_status(len),
-        Ok(len) => {
-            crate::outputs::write_parsed(text, out, len);
-            len_status(len)
-        }
-        Err((fault, index)) => wrong_text_status(text, fault, index.unwrap_or(0)),
-    }
-}
-
-/// The status of a text that denotes no identifier, by its error and the index of the wrong component.
-#[cold]
-#[inline(never)]
-extern "C" fn wrong_text_status(text: &[u8], fault: Error, index: usize) -> Status {
     // Only a wrong text can fail to be UTF-8: a valid one has ASCII digits and dots alone.
     if !is_utf8(text) {
         return code_status(NOT_UTF8);
     }
+    let (fault, index) = outputs::fault_at_stop(text, stop);
     fault_at(index, fault)
+}
+
+/// Whether the reading stops at octets that do not fit.
+#[inline(always)]
+fn is_length(stop: Stop) -> bool {
+    matches!(stop.0, Some(Error::Length))
+}
+
+/// Writes the contents octets of the identifier that dotted text denotes, of any length, or counts those that do not
+/// fit. Up to 255 octets are made on the stack.
+#[inline(never)]
+fn read_long_text(text: &[u8], out: &mut crate::edge::Output<u8>) -> Result<Status, Stop> {
+    if text.len() <= 4 * MAX_OCTETS {
+        let mut octets = [0; MAX_OCTETS];
+        match outputs::parse_or_stop(text, &mut octets, MAX_OCTETS) {
+            Ok(len) => return Ok(write_bytes(&octets[..len], out)),
+            Err(stop) if is_length(stop) => (),
+            Err(stop) => return Err(stop),
+        }
+    }
+    let len = outputs::parse_or_stop(text, &mut [], usize::MAX)?;
+    if len > out.len() {
+        return Ok(too_short_status(len));
+    }
+    crate::outputs::write_parsed(text, out, len);
+    Ok(len_status(len))
 }
 
 /// Whether a text is UTF-8: most wrong ones are ASCII, which is seen in fewer steps.
 fn is_utf8(text: &[u8]) -> bool {
-    text.is_ascii() || str::from_utf8(text).is_ok()
+    has_no_high_bit(text) || str::from_utf8(text).is_ok()
+}
+
+/// The high bit of each byte of a word.
+const HIGH: u64 = 0x8080_8080_8080_8080;
+
+/// Whether a text is ASCII, by words of eight bytes. The last one may overlap the one before it.
+fn has_no_high_bit(text: &[u8]) -> bool {
+    let Some(last) = text.last_chunk::<8>() else {
+        return text.is_ascii();
+    };
+    let mut bits = u64::from_le_bytes(*last);
+    let mut rest = text;
+    while let Some((word, after)) = rest.split_first_chunk::<8>() {
+        bits |= u64::from_le_bytes(*word);
+        rest = after;
+    }
+    bits & HIGH == 0
 }
 
 /// The room for the text of 16 octets: four bytes for each octet, and eleven for one arc more.

@@ -8,7 +8,7 @@ use crate::erased::buffer::DEFAULT_CAPACITY;
 use crate::erased::encoder::{ONE_PASS_ARCS, encode, encode_in_one_pass};
 use crate::erased::error::{Error, Result};
 use crate::erased::oid_ref::ObjectIdentifierRef;
-use crate::erased::parser::{ONE_PASS_BYTES, fault_and_index, parse, parse_in_one_pass, parse_inlined};
+use crate::erased::parser::{ONE_PASS_BYTES, Wrong, component_at, fault_of, parse, parse_in_one_pass, parse_inlined};
 use crate::erased::root::{MAX_FIRST, split_root};
 use core::result;
 
@@ -65,21 +65,47 @@ pub fn bytes_from_arcs(arcs: &[Arc], out: &mut [u8]) -> Result<usize> {
     encode(arcs, out, capacity)
 }
 
+/// Where the reading of a wrong text stops: at the end of a component whose arc has a fault, or, without one, within a
+/// component.
+#[derive(Copy, Clone)]
+pub struct Stop(pub Option<Error>, pub usize);
+
+/// Where the reading stops, by what is wrong.
+#[inline(always)]
+const fn stop_of(wrong: Wrong) -> Stop {
+    match wrong {
+        Wrong::Component { index, .. } => Stop(None, index),
+        Wrong::Value { fault, end } => Stop(Some(fault), end),
+    }
+}
+
+/// The error of a wrong text, and the index of the component where its reading stops.
+#[inline(always)]
+#[must_use]
+pub fn fault_at_stop(text: &[u8], stop: Stop) -> (Error, usize) {
+    let end = stop.1.min(text.len());
+    let wrong = match stop.0 {
+        Some(fault) => Wrong::Value { fault, end },
+        None => Wrong::Component { start: end, index: end },
+    };
+    (fault_of(text, wrong).0, component_at(text, end))
+}
+
 /// Parses dotted text in ASCII into 39 octets, the default capacity, in one pass, and borrows those of its
 /// identifier. On `Err`, `out` may be changed.
 ///
 /// # Errors
 ///
-/// Those of [`new`](crate::ObjectIdentifier::new), each but [`Error::Length`] with the index of the first wrong
+/// Those of [`new`](crate::ObjectIdentifier::new), which [`fault_at_stop`] tells, with the index of the first wrong
 /// component.
 #[inline(always)]
 pub fn from_ascii_in_39<'a>(
     text: &[u8],
     out: &'a mut [u8; DEFAULT_CAPACITY],
-) -> result::Result<&'a ObjectIdentifierRef, (Error, Option<usize>)> {
+) -> result::Result<&'a ObjectIdentifierRef, Stop> {
     match parse_inlined(text, out, DEFAULT_CAPACITY) {
         Ok(len) => Ok(ObjectIdentifierRef::from_checked(&out[..len])),
-        Err(wrong) => Err(fault_and_index(text, wrong)),
+        Err(wrong) => Err(stop_of(wrong)),
     }
 }
 
@@ -91,8 +117,11 @@ pub fn from_ascii_in_39<'a>(
 /// Those of [`from_ascii_in_39`], with [`Error::Length`] if there are more octets than the capacity.
 #[inline(never)]
 #[must_use]
-pub fn parse_or_index(text: &[u8], out: &mut [u8], capacity: usize) -> result::Result<usize, (Error, Option<usize>)> {
-    parse_inlined(text, out, capacity).map_err(|wrong| fault_and_index(text, wrong))
+pub fn parse_or_stop(text: &[u8], out: &mut [u8], capacity: usize) -> result::Result<usize, Stop> {
+    match parse_inlined(text, out, capacity) {
+        Ok(len) => Ok(len),
+        Err(wrong) => Err(stop_of(wrong)),
+    }
 }
 
 /// Decodes contents octets as [`from_bytes`](crate::ObjectIdentifierRef::from_bytes) does, writes their arcs to the start

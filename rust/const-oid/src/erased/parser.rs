@@ -13,6 +13,7 @@ use crate::erased::root::{check_first, join_root};
 use core::result;
 
 /// What is wrong with a text.
+#[derive(Copy, Clone)]
 pub(crate) enum Wrong {
     /// The component that starts at an index goes wrong at another one.
     Component { start: usize, index: usize },
@@ -32,7 +33,7 @@ pub(crate) const fn fault_of(text: &[u8], wrong: Wrong) -> (Error, usize) {
 /// The index of the component at a place, before which are digits and dots alone: only dots are below the digits.
 #[cold]
 #[inline(never)]
-fn component_at(text: &[u8], place: usize) -> usize {
+pub(crate) fn component_at(text: &[u8], place: usize) -> usize {
     count_below(&text[..place], b'0')
 }
 

@@ -1,15 +1,15 @@
-use Rattle.std.proofs.Common.{ap, arith, length, sym, ◌∙◌}
+use Rattle.std.proofs.Common.{ap, arith, length, ◌∙◌}
 use Rattle.const_oid_c.specs.Status.{output_status, output_after}
-use Rattle.const_oid_c.proofs.{Rooms.{text_enough, text_no_length}, Capacities.{fitting_text, wrong_text}}
+use Rattle.const_oid_c.proofs.{Rooms.{text_enough, text_no_length}, Capacities.{fitting_text}}
 use Rattle.const_oid_c.proofs.texts.const_oid_from_text.Goals as goal
 
-pub returns-then-text-clause-enough : goal.returns-then-text-clause-enough
-returns-then-text-clause-enough c =
-    text_enough (length c.args.out.now) c.args.text.now (omega arith) c.read_long_text.ensures.status
+pub returns-clause-enough : goal.returns-clause-enough
+returns-clause-enough c =
+    text_enough (length c.args.out.now) c.args.text.now (omega arith) c.read_again.ensures.status
 
-pub returns-then-text-clause-no_length : goal.returns-then-text-clause-no_length
-returns-then-text-clause-no_length c =
-    text_no_length (length c.args.out.now) c.args.text.now (omega arith) c.read_long_text.ensures.status
+pub returns-clause-no_length : goal.returns-clause-no_length
+returns-clause-no_length c =
+    text_no_length (length c.args.out.now) c.args.text.now (omega arith) c.read_again.ensures.status
 
 pub returns-in-Ok-clause-status : goal.returns-in-Ok-clause-status
 returns-in-Ok-clause-status c =
@@ -32,22 +32,3 @@ returns-in-Ok-clause-no_length c =
     let made = fitting_text 39 (omega arith) c.args.text.now _ _ c.as_bytes.ensures.encoding c.in-Ok.ensures.answer in
     text_no_length (length c.args.out.now) c.args.text.now (omega arith)
     (c.write_bytes.ensures.status ∙ ap (output_status (length c.args.out.now)) made)
-
-pub wrong_text_status-requires-clause-fault : goal.wrong_text_status-requires-clause-fault
-wrong_text_status-requires-clause-fault c =
-    let wrong = c.in-Err-default-Some.ensures in
-    let other = rw c.in-Err-default-Some.field-0-1-is at wrong.index in
-    wrong_text 39 (omega arith) c.args.text.now other.0 wrong.answer
-
-pub returns-in-Err-default-Some-clause-no_length : goal.returns-in-Err-default-Some-clause-no_length
-returns-in-Err-default-Some-clause-no_length c =
-    text_no_length (length c.args.out.now) c.args.text.now (omega arith)
-    (sym (ap (output_status (length c.args.out.now)) c.wrong_text_status.ensures))
-
-pub returns-in-Err-default-None-clause-enough : goal.returns-in-Err-default-None-clause-enough
-returns-in-Err-default-None-clause-enough c =
-    text_enough (length c.args.out.now) c.args.text.now (omega arith) c.read_long_text-in-Err-default-None.ensures.status
-
-pub returns-in-Err-default-None-clause-no_length : goal.returns-in-Err-default-None-clause-no_length
-returns-in-Err-default-None-clause-no_length c =
-    text_no_length (length c.args.out.now) c.args.text.now (omega arith) c.read_long_text-in-Err-default-None.ensures.status

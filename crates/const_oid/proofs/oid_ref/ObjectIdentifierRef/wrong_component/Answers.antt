@@ -10,13 +10,13 @@ returns-in-Ok-clause-none c =
 pub returns-in-Err-clause-none : goal.returns-in-Err-clause-none
 returns-in-Err-clause-none c =
     let found = c.fault_and_index.ensures in
-    let other = not_length (omega arith) c.in-Err.ensures in (
+    let other = not_length (omega arith) c.in-Err.ensures.0 in (
       λ none. absurd (other (sym found.fault ∙ rw none at found.index)),
-      λ denoted. absurd (not_denoted (omega arith) c.in-Err.ensures.answer denoted.0 denoted.1),
+      λ denoted. absurd (not_denoted (omega arith) c.in-Err.ensures.0.answer denoted.0 denoted.1),
     )
 
 pub returns-in-Err-clause-index : goal.returns-in-Err-clause-index
 returns-in-Err-clause-index c =
     let found = c.fault_and_index.ensures in
-    let at = wrong_at (omega arith) c.in-Err.ensures in
+    let at = wrong_at (omega arith) c.in-Err.ensures.0 in
     grind (arith, at)
