@@ -133,7 +133,8 @@ pub(crate) fn append_group(
     capacity: usize,
 ) -> Result<usize>
     requires { number < 2 ^ 35 }
-    ensures { AppendsTo capacity number used out.old out.new result }
+    ensures appends { AppendsTo capacity number used out.old out.new result }
+    ensures kept { length out.old < capacity → out.new ≡ out.old }
 {
     if out.len() < capacity {
         return count_group(used, number, capacity);

@@ -23,19 +23,6 @@ use crate::parser::{
 use crate::root::{MAX_FIRST, split_root};
 use std::result;
 
-/// Counts the contents octets of the identifier that dotted text in ASCII denotes, of any length. They are no more
-/// than the bytes of the text.
-///
-/// # Errors
-///
-/// Those of [`new`](crate::ObjectIdentifier::new), with [`Error::Length`] if the arcs take more octets than `limit`.
-pub fn bytes_len_from_ascii(text: &[u8], limit: usize) -> Result<usize>
-    ensures len { result ≡ size_answer (text_answer root_rule text.now limit) }
-    ensures enough { length text.now ≤ limit → result ≢ Err Error.Length }
-{
-    parse(text, &mut [], limit)
-}
-
 /// Parses dotted text in ASCII, of any length, and writes its contents octets to the start of `out`. Returns how many
 /// there are, which are no more than the bytes of the text.
 ///
@@ -147,16 +134,17 @@ pub fn from_ascii_in_39<'a>(
     }
 }
 
-/// Parses dotted text in ASCII, and counts the contents octets of its identifier. If `out` has room for a capacity, they
-/// are written to its start. On `Err`, such an `out` may be changed.
+/// Parses dotted text in ASCII, and counts the contents octets of its identifier. If `out` has room for a capacity,
+/// they are written to its start; on `Err`, such an `out` may be changed. A shorter one is unchanged.
 ///
 /// # Errors
 ///
 /// Those of [`from_ascii_in_39`], with [`Error::Length`] if there are more octets than the capacity.
 #[inline(never)]
 pub fn parse_or_stop(text: &[u8], out: &mut [u8], capacity: usize) -> result::Result<usize, Stop>
-    ensures { MatchResult result (IsEncodedIn capacity (text_answer root_rule text.now capacity) out.old out.new)
+    ensures answer { MatchResult result (IsEncodedIn capacity (text_answer root_rule text.now capacity) out.old out.new)
         (IsWrongAt capacity text.now) }
+    ensures kept { length out.old < capacity → out.new ≡ out.old }
 {
     match parse_inlined(text, out, capacity) {
         Ok(len) => Ok(len),

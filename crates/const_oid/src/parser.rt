@@ -3,7 +3,7 @@
 //! A text is read component by component. If one is wrong, only an index is returned, and a function that is rarely
 //! called makes the error of it. So a valid text costs fewer instructions.
 
-ghost use Rattle.std.specs.Prelude.{◌≡◌, ◌≢◌, ◌≤◌, ℕ, drop, length, Err, IfErr, MatchOption, MatchResult};
+ghost use Rattle.std.specs.Prelude.{◌≡◌, ◌≢◌, ◌<◌, ◌≤◌, ℕ, drop, length, Err, IfErr, MatchOption, MatchResult};
 ghost use Rattle.const_oid.specs.Output.{IsEncodedIn, WritesEncoding};
 ghost use Rattle.const_oid.specs.Private.Parser.{error_of, place_of, HasFault, IsFaultAt, IsFoundAt, IsComponent, IsRoot, NeedsNoStart};
 ghost use Rattle.const_oid.specs.Identifier.{root_rule};
@@ -101,8 +101,9 @@ pub(crate) fn parse_inlined(
     out: &mut [u8],
     capacity: usize,
 ) -> result::Result<usize, Wrong>
-    ensures { MatchResult result (IsEncodedIn capacity (text_answer root_rule text.now capacity) out.old out.new)
+    ensures answer { MatchResult result (IsEncodedIn capacity (text_answer root_rule text.now capacity) out.old out.new)
         (λ wrong. IsFaultAt capacity text.now (error_of text.now wrong) (place_of wrong) × NeedsNoStart text.now wrong) }
+    ensures kept { length out.old < capacity → out.new ≡ out.old }
 {
     let (number, mut end) = match read_root(text) {
         Ok(root) => root,

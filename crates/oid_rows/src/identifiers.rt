@@ -57,7 +57,6 @@ pub fn within<const N: usize>(made: Made<'_>) -> Made<'_>
 pub fn of_text<'o>(text: &str, out: &'o mut [u8]) -> Result<Made<'o>> {
     let (bytes, room) = (text.as_bytes(), out.len());
     let len = ObjectIdentifierRef::from_ascii_in(bytes, out).map(|oid| oid.as_bytes().len());
-    ensure!(outputs::bytes_len_from_ascii(bytes, room) == len);
     ensure!(
         outputs::parse_or_stop(bytes, &mut [], room).map_err(|stop| fault_of(bytes, stop)) == len
     );

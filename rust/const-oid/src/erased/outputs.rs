@@ -12,16 +12,6 @@ use crate::erased::parser::{ONE_PASS_BYTES, Wrong, component_at, fault_of, parse
 use crate::erased::root::{MAX_FIRST, split_root};
 use core::result;
 
-/// Counts the contents octets of the identifier that dotted text in ASCII denotes, of any length. They are no more
-/// than the bytes of the text.
-///
-/// # Errors
-///
-/// Those of [`new`](crate::ObjectIdentifier::new), with [`Error::Length`] if the arcs take more octets than `limit`.
-pub fn bytes_len_from_ascii(text: &[u8], limit: usize) -> Result<usize> {
-    parse(text, &mut [], limit)
-}
-
 /// Parses dotted text in ASCII, of any length, and writes its contents octets to the start of `out`. Returns how many
 /// there are, which are no more than the bytes of the text.
 ///
@@ -109,8 +99,8 @@ pub fn from_ascii_in_39<'a>(
     }
 }
 
-/// Parses dotted text in ASCII, and counts the contents octets of its identifier. If `out` has room for a capacity, they
-/// are written to its start. On `Err`, such an `out` may be changed.
+/// Parses dotted text in ASCII, and counts the contents octets of its identifier. If `out` has room for a capacity,
+/// they are written to its start; on `Err`, such an `out` may be changed. A shorter one is unchanged.
 ///
 /// # Errors
 ///

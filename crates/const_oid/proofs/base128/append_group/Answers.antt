@@ -32,15 +32,15 @@ loop-shift-preserved c =
           ]),
     )
 
-pub returns-then-at-capacity : goal.returns-then-at-capacity
-returns-then-at-capacity c =
+pub returns-then-at-capacity-clause-appends : goal.returns-then-at-capacity-clause-appends
+returns-then-at-capacity-clause-appends c =
     let n = c.args.number / 2 ^ c.loop-shift.shift in
     let fewer : n ≤ c.args.number = div-le_self c.args.number (2 ^ c.loop-shift.shift) in
     led_past c.args.capacity c.args.used c.args.out.now [] n c.args.number c.loop-shift.invariant.3
     (digits_above c.args.number c.loop-shift.shift) fewer c.if-at-capacity.true
 
-pub returns-then-at-capacity-2 : goal.returns-then-at-capacity-2
-returns-then-at-capacity-2 c =
+pub returns-then-at-capacity-2-clause-appends : goal.returns-then-at-capacity-2-clause-appends
+returns-then-at-capacity-2-clause-appends c =
     let before : IsLed c.args.capacity c.args.used (c.args.number / 16384) c.args.out.now c.if-number-ge16384.out c.if-number-ge16384.at =
     elim c.if-number-ge16384.branch [
       | then-number-ge16384+else-loop-shift-test v ↦
@@ -53,8 +53,8 @@ returns-then-at-capacity-2 c =
     led_past c.args.capacity c.args.used c.args.out.now [] (c.args.number / 128) c.args.number before (omega arith) (omega arith)
     c.if-at-capacity-2.true
 
-pub returns-then-at-capacity-3 : goal.returns-then-at-capacity-3
-returns-then-at-capacity-3 c =
+pub returns-then-at-capacity-3-clause-appends : goal.returns-then-at-capacity-3-clause-appends
+returns-then-at-capacity-3-clause-appends c =
     let led : IsLed c.args.capacity c.args.used (c.args.number / 128) c.args.out.now c.if-number-ge128.out c.if-number-ge128.at =
     elim c.if-number-ge128.branch [
       | then-number-ge128+else-at-capacity-2 w ↦
@@ -76,8 +76,8 @@ returns-then-at-capacity-3 c =
     ] in
     led_past c.args.capacity c.args.used c.args.out.now [] c.args.number c.args.number led refl (omega arith) c.if-at-capacity-3.true
 
-pub returns : goal.returns
-returns c =
+pub returns-clause-appends : goal.returns-clause-appends
+returns-clause-appends c =
     let led : IsLed c.args.capacity c.args.used (c.args.number / 128) c.args.out.now c.if-number-ge128.out c.if-number-ge128.at =
     elim c.if-number-ge128.branch [
       | then-number-ge128+else-at-capacity-2 w ↦

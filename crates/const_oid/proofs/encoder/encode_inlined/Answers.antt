@@ -48,19 +48,19 @@ returns-in_err-used g c =
     let root = c.in_ok-number.ensures in
     let taken = first_taken c.args.capacity c.in_ok-check_first.ensures in
     let fault = c.in_err-used.field-0.0 in
-    let refused = root_given c.args.capacity c.args.out.now c.append_group.new.out c.in_ok-check_first.ensures root.0 root.1 (Err fault) c.in_err-used.ensures in
+    let refused = root_given c.args.capacity c.args.out.now c.append_group.new.out c.in_ok-check_first.ensures root.0 root.1 (Err fault) c.in_err-used.ensures.appends in
     let prefix = takes_prefix root_rule c.args.capacity g.I.IntoIter.Iterator.next_gives it.result (c.in-Some.first ∷ []) c.next.new.self c.next-2.new.self (c.next.new.self, c.in-Some.ensures.steps, refl) taken c.in-Some-next.second fault c.in-Some-next.ensures.steps refused in
     (it.result, it.ensures.into_iter_gives, stopped c.args.capacity c.args.out.now c.append_group.new.out c.from_residual-in_err-used.result fault c.from_residual-in_err-used.ensures.1 prefix)
 
 pub loop-arc-init : goal.loop-arc-init
 loop-arc-init g c =
     let root = c.in_ok-number.ensures in
-    root_given c.args.capacity c.args.out.now c.append_group.new.out c.in_ok-check_first.ensures root.0 root.1 (Ok c.in_ok-used.used) c.in_ok-used.ensures
+    root_given c.args.capacity c.args.out.now c.append_group.new.out c.in_ok-check_first.ensures root.0 root.1 (Ok c.in_ok-used.used) c.in_ok-used.ensures.appends
 
 pub loop-arc-preserved : goal.loop-arc-preserved
 loop-arc-preserved g c =
     later_given c.args.capacity c.args.out.now c.append_group-in-loop-arc.new.out c.loop-arc.invariant
-    (c.loop-arc.auto.out ∙ c.append_group.auto.out) (omega arith) (Ok c.in_ok-used-2.used) c.in_ok-used-2.ensures
+    (c.loop-arc.auto.out ∙ c.append_group.auto.out) (omega arith) (Ok c.in_ok-used-2.used) c.in_ok-used-2.ensures.appends
 
 -- a later subidentifier does not fit
 pub returns-in_err-used-2 : goal.returns-in_err-used-2
@@ -69,7 +69,7 @@ returns-in_err-used-2 g c =
     let l = c.loop-arc in
     let later = rw c.into_iter-arc-iterator.ensures.into_iter_gives at l.yielded_by in
     let fault = c.in_err-used-2.field-0.0 in
-    let refused = later_given c.args.capacity c.args.out.now c.append_group-in-loop-arc.new.out l.invariant (l.auto.out ∙ c.append_group.auto.out) (omega arith) (Err fault) c.in_err-used-2.ensures in
+    let refused = later_given c.args.capacity c.args.out.now c.append_group-in-loop-arc.new.out l.invariant (l.auto.out ∙ c.append_group.auto.out) (omega arith) (Err fault) c.in_err-used-2.ensures.appends in
     let prefix = takes_prefix root_rule c.args.capacity g.I.IntoIter.Iterator.next_gives it.result (c.in-Some.first ∷ c.in-Some-next.second ∷ l.yielded) l.arc-iterator c.next-in-loop-arc.new.self (c.next.new.self, c.in-Some.ensures.steps, (c.next-2.new.self, c.in-Some-next.ensures.steps, later)) l.invariant.taken c.in-Some-arc.arc fault c.in-Some-arc.ensures.steps refused in
     (it.result, it.ensures.into_iter_gives, stopped c.args.capacity c.args.out.now c.append_group-in-loop-arc.new.out c.from_residual-in_err-used-2.result fault c.from_residual-in_err-used-2.ensures.1 prefix)
 

@@ -18,14 +18,14 @@ made text old new {len} is room =
 
 pub returns-in-Ok : goal.returns-in-Ok
 returns-in-Ok c =
-    let same = made c.args.text.now _ _ c.in-Ok.ensures (omega arith) in (
+    let same = made c.args.text.now _ _ c.in-Ok.ensures.answer (omega arith) in (
       c.write_bytes.ensures.status ∙ ap (output_status (length c.args.out.now)) same,
       c.write_bytes.ensures.written ∙ ap (output_after c.args.out.now) same,
     )
 
 pub returns-in-Err-2 : goal.returns-in-Err-2
 returns-in-Err-2 c =
-    (wrong_stop 255 (omega arith) c.args.text.now c.in-Err.stop (c.is_length.ensures c.if-is_length.false) c.in-Err.ensures, refl)
+    (wrong_stop 255 (omega arith) c.args.text.now c.in-Err.stop (c.is_length.ensures c.if-is_length.false) c.in-Err.ensures.answer, refl)
 
 -- ---- any number of octets
 
@@ -35,7 +35,7 @@ all_made text none nothing is = fitting_text max_len (omega arith) text (arcs_of
 
 pub returns-then-len-out : goal.returns-then-len-out
 returns-then-len-out c =
-    let is = c.in_ok-len.ensures in
+    let is = c.in_ok-len.ensures.answer in
     let same = all_made c.args.text.now _ _ is in (
       c.too_short_status.ensures
           ∙ short_status c.in_ok-len.len c.args.out.now is.octets is.long (omega arith) is.within
@@ -63,9 +63,9 @@ counted_written len text none nothing old new (Err stop) room less is again =
 
 pub returns : goal.returns
 returns c =
-    let is = c.in_ok-len.ensures in (
+    let is = c.in_ok-len.ensures.answer in (
       c.len_status.ensures ∙ room_status c.in_ok-len.len c.args.out.now is.octets is.long (omega arith)
           ∙ ap (output_status (length c.args.out.now)) (all_made c.args.text.now _ _ is),
       counted_written c.in_ok-len.len c.args.text.now _ _ c.args.out.now _ c.parse_or_stop-3.result (omega arith) is.within is
-          c.parse_or_stop-3.ensures,
+          c.parse_or_stop-3.ensures.answer,
     )

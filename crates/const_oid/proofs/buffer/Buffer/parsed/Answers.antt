@@ -5,10 +5,10 @@ use Rattle.const_oid.proofs.buffer.Buffer.parsed.Goals as goal
 
 pub invariant_of-buffer : goal.invariant_of-buffer
 invariant_of-buffer g c =
-    let end = taken {new = c.parse_inlined.new.out} c.in-Ok.ensures (omega arith) in
+    let end = taken {new = c.parse_inlined.new.out} c.in-Ok.ensures.answer (omega arith) in
     let zeros = unused _ _ c.empty-buffer.ensures (omega arith) c.empty-buffer.result.zeros in
     record {
-      within = omega (arith, c.in-Ok.ensures.within);
+      within = omega (arith, c.in-Ok.ensures.answer.within);
       octets = end.octets;
       zeros = grind (arith, end.rest, zeros, drop-replicate);
     }
