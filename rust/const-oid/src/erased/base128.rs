@@ -13,8 +13,15 @@ pub(crate) fn read_group(octets: &[u8]) -> (u64, &[u8]) {
     match octets {
         // A subidentifier of one octet is the most frequent one.
         [octet, after @ ..] if *octet < CONTINUED => (*octet as u64, after),
-        octets => read_two_to_five(octets),
+        octets => read_longer(octets),
     }
+}
+
+/// What `read_two_to_five` returns. Its place in memory is set to zero first: here, and not before each octet is read.
+#[inline(always)]
+fn read_longer(octets: &[u8]) -> (u64, &[u8]) {
+    let (number, after) = read_two_to_five(octets);
+    (number, after)
 }
 
 /// The number of the first subidentifier, of two to five octets, and the octets after it.
