@@ -28,11 +28,20 @@ pub(crate) fn check(octets: &[u8]) -> Result<()>
     Ok(())
 }
 
+/// What `check_by_octet` returns. Its place in memory is set to zero first: here, and not where windows are enough.
+#[inline(always)]
+fn check_from(octets: &[u8], start: usize) -> Result<()>
+    requires { start ≤ length octets.now }
+    ensures { result_err result ≡ fault_at octets.now start }
+{
+    check_by_octet(octets, start)
+}
+
 /// Checks the subidentifiers from the one on that begins at `start`, octet by octet.
 // By index, and not by `checked_group`, for fewer instructions. Out of line, for less code.
 #[tactic(auto, using(crate::proofs::PartEnds::end_one))]
 #[inline(never)]
-fn check_from(octets: &[u8], start: usize) -> Result<()>
+fn check_by_octet(octets: &[u8], start: usize) -> Result<()>
     requires { start ≤ length octets.now }
     ensures { result_err result ≡ fault_at octets.now start }
 {

@@ -19,10 +19,16 @@ pub(crate) fn check(octets: &[u8]) -> Result<()> {
     Ok(())
 }
 
+/// What `check_by_octet` returns. Its place in memory is set to zero first: here, and not where windows are enough.
+#[inline(always)]
+fn check_from(octets: &[u8], start: usize) -> Result<()> {
+    check_by_octet(octets, start)
+}
+
 /// Checks the subidentifiers from the one on that begins at `start`, octet by octet.
 // By index, and not by `checked_group`, for fewer instructions. Out of line, for less code.
 #[inline(never)]
-fn check_from(octets: &[u8], start: usize) -> Result<()> {
+fn check_by_octet(octets: &[u8], start: usize) -> Result<()> {
     let mut at = start;
     while at < octets.len() {
         let start = at;

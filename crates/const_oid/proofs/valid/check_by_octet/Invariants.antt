@@ -1,6 +1,6 @@
 use Rattle.std.proofs.Common.{◌≡◌, ◌-◌, ◌≤◌, length}
 use Rattle.const_oid.specs.Private.Octets.{fault_at}
-use Rattle.const_oid.proofs.valid.check_from.Given as goal
+use Rattle.const_oid.proofs.valid.check_by_octet.Given as goal
 
 -- the parts that are left have the fault of all from the start
 abbrev pub invariant-loop-at : goal.invariant-loop-at
