@@ -136,12 +136,10 @@ fn write_two(number: u32, out: &mut [u8], at: usize) -> usize
     let pair = 2 * number as usize;
     let (tens, ones) = (PAIRS[pair], PAIRS[pair + 1]);
     let end = at + 2;
-    // This always holds. rustc does not know it, and would make a panic. It stores both digits at once.
-    if at <= end && end <= out.len() {
-        let digits = &mut out[at..end];
-        digits[0] = tens;
-        digits[1] = ones;
-    }
+    // erase: another body
+    let digits = &mut out[at..end];
+    digits[0] = tens;
+    digits[1] = ones;
     end
 }
 
@@ -154,9 +152,8 @@ fn write_byte(byte: u8, out: &mut [u8], at: usize) -> usize
     ensures prefix { take result out.new ≡ take at out.old ++ byte ∷ [] }
     ensures after { drop result out.new ≡ drop result out.old }
 {
-    if at < out.len() {
-        out[at] = byte;
-    }
+    // erase: another body
+    out[at] = byte;
     at + 1
 }
 

@@ -105,6 +105,14 @@ pub const CRATES: &[Crate] = &[
             "": "entries: &'a [Entry<'a>]," => "pub(crate) entries: &'a [Entry<'a>],", "a caller by hand lists the entries";
             "digits": "pub(crate) fn utf8" => "#[allow(unsafe_code)]\npub(crate) fn utf8",
                 "bytes that are UTF-8 become a text without a check: the crate denies other unsafe code";
+            "digits" body: "out[at] = byte;"
+                => "if at < out.len() { out[at] = byte; }", "it always holds, and rustc would make a panic";
+            "digits" body: "let digits = &mut out[at..end]; digits[0] = tens; digits[1] = ones;"
+                => "// This always holds. rustc does not know it, and would make a panic. It stores both digits at once.
+                    if at <= end && end <= out.len() {
+                        let digits = &mut out[at..end]; digits[0] = tens; digits[1] = ones;
+                    }",
+                "as above";
             "text" body: "at + write_arc(arc, &mut out[at..at + MAX_ARC_LEN], 0)"
                 => "at + write_arc(arc, &mut out[at..][..MAX_ARC_LEN], 0)", "the same part in fewer instructions";
             "fast/lanes": "use core::simd::Simd; use core::simd::prelude::*;" => "", LANES;
