@@ -244,9 +244,6 @@ static void with_huge_outputs(void) {
     }
 }
 
-/* How long the octets would be of an identifier in which an item may be wrong. */
-static size_t wrong_len;
-
 /* Calls with an output of each length near that of the result, null ones included; of a long result, with huge ones. */
 static void with_outputs(void) {
     int out = output_at();
@@ -258,7 +255,7 @@ static void with_outputs(void) {
     }
     a[out] = (argument){output_pages.start, SLOT};
     const_oid_status all = f->call(a);
-    size_t len = all.code == CONST_OID_OK ? all.len : wrong_len;
+    size_t len = all.code == CONST_OID_OK ? all.len : 0;
     int is_long = len > 1100;
     const argument rooms[] = {{none, len}, {none, len - 1}, {NULL, 0}, {none, 0}, {none, len + 1}, {none, len + 20},
         {none, CONST_OID_MAX_OCTETS}};
@@ -398,83 +395,9 @@ static const struct {
 } fillings[] = {[OCTETS] = {fill_octets, 9, "\x2A\3\4\x80", 3}, [DER] = {fill_der, 9, "\x2A\3\4\x80", 3},
     [TEXT] = {fill_text, 7, "1.2\xFF", 3}, [ARCS] = {fill_arcs, 5, starts, 1}};
 
-/* A number below another that is drawn, the same in each run. */
-static uint32_t drawn(uint32_t end) {
-    static uint32_t state = 2463534242u;
-    state ^= state << 13;
-    state ^= state >> 17;
-    state ^= state << 5;
-    return state % end;
-}
-
-/* An identifier as an array, in which an item may be wrong. Bytes follow an element. */
-static void vary_identifier(int lead, enum kind kind, const_oid_octets of, int is_wrong) {
-    static uint32_t arcs[320];
-    static uint8_t bytes[4 * 320];
-    size_t len = of.len;
-    if (kind == OCTETS) memcpy(bytes, of.octets, len);
-    if (kind == ARCS) len = const_oid_arcs(of.octets, of.len, arcs, 320).len;
-    if (kind == TEXT) len = const_oid_to_text(of.octets, of.len, (char *)bytes, sizeof bytes).len;
-    if (kind == DER) len = const_oid_to_der(of.octets, of.len, bytes, sizeof bytes - 3).len + 3;
-    uint32_t at = drawn((uint32_t)len), byte = drawn(256);
-    if (is_wrong) arcs[at % 320] = byte, bytes[at] = (uint8_t)(kind == TEXT ? ".x9\xFF"[byte % 4] : (int)byte);
-    wrong_len = of.len;
-    with(lead, kind == ARCS ? (void *)arcs : bytes, len);
-    wrong_len = 0;
-}
-
-/* Each identifier with a name, since a function could know it; and drawn ones of few octets or around 255, some wrong:
- * more of those that are encoded. */
-static void vary_identifiers(int lead, enum kind kind) {
-    static uint8_t octets[300];
-    const int rounds = kind == TEXT || kind == ARCS ? 5000 : 1000;
-    for (size_t i = 0; i < CONST_OID_NAMES_COUNT; i++) vary_identifier(lead, kind, const_oid_name_octets[i], 0);
-    for (int round = 0; round < rounds; round++) {
-        size_t len = 0, aim = round % 2 ? 230 + drawn(50) : 1 + drawn(60);
-        while (len < aim) {
-            uint32_t more = drawn(5);
-            for (uint32_t i = 0; i < more; i++)
-                octets[len++] = (uint8_t)(i > 0 ? 0x80 + drawn(128) : 0x81 + drawn(more == 4 ? 15 : 127));
-            octets[len++] = (uint8_t)drawn(128);
-        }
-        vary_identifier(lead, kind, (const_oid_octets){octets, len}, round % 4 > 1);
-    }
-}
-
-/* Octets of each length up to 40, in which each in turn is 0x80, 0x7F or 0xFF. */
-static void vary_each(int lead) {
-    static const uint8_t edges[] = {0x80, 0x7F, 0xFF};
-    uint8_t octets[40];
-    for (size_t len = 0; len <= sizeof octets; len++) {
-        for (size_t i = 0; i < 3 * 4 * len; i++) {
-            fill_octets(octets, len, i % 4);
-            octets[i / 12] = edges[i / 4 % 3];
-            with(lead, octets, len);
-        }
-    }
-}
-
-/* Elements whose lengths have one to three octets: cut at each byte, and with each value of each of the first bytes. */
-static void vary_elements(int lead) {
-    static const size_t contents[] = {3, 127, 128, 255, 256};
-    static uint8_t der[260];
-    for (size_t i = 0; i < sizeof contents / sizeof *contents; i++) {
-        size_t len = write_head(contents[i], der) + contents[i];
-        for (size_t at = 0; at < 256 * 5; at++) {
-            fill_der(der, len, 0);
-            if (at < len) with(lead, der, at);
-            der[at / 256] = (uint8_t)at;
-            with(lead, der, len);
-        }
-    }
-}
-
 static void vary_array(int lead, enum kind kind) {
     static uint32_t items[MOST];
-    if (kind == DER) vary_elements(lead);
     with(lead, NULL, 0);
-    vary_identifiers(lead, kind);
-    if (kind == OCTETS) vary_each(lead);
     for (int i = 0; i < LENS; i++) {
         for (int form = 0; form < fillings[kind].forms; form += len_at(i) > 1000 ? 2 : 1) {
             fillings[kind].fill(items, len_at(i), form);
