@@ -1,7 +1,8 @@
 #!/usr/bin/python3
-"""bench/peers/lists.py LIST: the names of an installed library, in lines, each with its arcs: of openssl, cryptography,
-asn1crypto, pyasn1_modules, net_snmp (the MIB files of libsnmp-base), or mibs (seven of python3-pysnmp4-mibs). Of missing:
-rows of mibs, openssl and net_snmp that neither table has, to be appended to rust/common_names.tsv."""
+"""bench/peers/lists.py LIST: the names of an installed library or program, in lines, each with its arcs: of openssl,
+openssl_list, cryptography, asn1crypto, pyasn1_modules, jdk (keytool's), slapd, net_snmp (files of libsnmp-base) or mibs
+(of python3-pysnmp4-mibs). Of missing: rows of all but Python's that neither table has, for rust/common_names.tsv, and
+how many."""
 import collections, contextlib, importlib, pathlib, pkgutil, re, subprocess, sys, tempfile  # noqa: E401
 
 FILES = [pathlib.Path(__file__).parents[2] / f"rust/{name}.tsv" for name in ("names", "common_names")]
@@ -10,6 +11,15 @@ TABLES = [[line.split("\t") for line in file.read_text(encoding="utf-8").splitli
 # What MIB files of net-snmp take from SNMPv2-SMI, which no Debian package has.
 SMI = """SNMPv2-SMI DEFINITIONS ::= BEGIN enterprises OBJECT IDENTIFIER ::= { iso 3 6 1 4 1 }
     snmpModules OBJECT IDENTIFIER ::= { iso 3 6 1 6 3 } END"""
+# The first six whole, others without groups.
+MIBS = """SNMPv2 IF IP TCP UDP HOST-RESOURCES ENTITY ENTITY-SENSOR BRIDGE Q-BRIDGE IF-INVERTED-STACK EtherLike
+    IP-FORWARD RFC1213 SNMP-FRAMEWORK SNMP-USER-BASED-SM SNMP-VIEW-BASED-ACM""".split()
+JAVA = """class Names { public static void main(String[] of) { for (var oid : sun.security.util.KnownOIDs.values())
+    System.out.println(oid.value() + "\\t" + oid.stdName() + "\\t" + String.join("\\t", oid.aliases())); } }"""
+
+
+def said(*command):
+    return subprocess.run(command, text=True, capture_output=True, check=True).stdout
 
 
 def openssl():
@@ -19,6 +29,33 @@ def openssl():
         with contextlib.suppress(ValueError):
             _, short, long, arcs = nid2obj(nid)
             yield from ((name, arcs) for name in dict.fromkeys((short, long)) if arcs)
+
+
+def openssl_list():
+    """Names of algorithms beside arcs, those of openssl() or else the first, some with 1.2 in place of 2.16."""
+    kinds = "digest cipher kdf mac signature asymcipher key-exchange kem".split()
+    text, known = said("openssl", "list", *(f"-{kind}-algorithms" for kind in kinds), "-key-managers"), set(openssl())
+    for group in dict.fromkeys(re.findall(r"{ (\d[^}]*) }", re.sub(r"\b1\.2(?=\.840\.1\.101\.)", "2.16", text))):
+        arcs = [item for item in group.split(", ") if item[0].isdigit()]
+        for name in group.split(", ")[len(arcs):]:
+            yield name, next((one for one in arcs if (name, one) in known), arcs[0])
+
+
+def jdk():
+    with tempfile.NamedTemporaryFile("w", suffix=".java") as file:
+        print(JAVA, file=file, flush=True)
+        lines = said("java", "--add-exports", "java.base/sun.security.util=ALL-UNNAMED", file.name).splitlines()
+    return [(name, arcs) for arcs, *names in map(lambda line: line.split("\t"), lines) for name in filter(None, names)]
+
+
+def slapd():
+    """Names with arcs in schemas, but for Active Directory's, and in programs, but for experiments."""
+    root = pathlib.Path("/")
+    for file in [root / "usr/sbin/slapd", *root.glob("etc/ldap/schema/*.schema"), *root.glob("usr/lib/ldap/*.so")]:
+        text = "" if file.name == "msuser.schema" else re.sub("(?m)^#.*", "", file.read_text(encoding="latin-1"))
+        for arcs, names in re.findall(r"\(\s*([\d.]+)\s+NAME\s+(\([^)]*\)|'[^']*')", text):
+            if not arcs.startswith("1.3.6.1.4.1.4203.666."):
+                yield from ((name, arcs) for name in re.findall("'([^']+)'", names))
 
 
 def cryptography():
@@ -49,31 +86,42 @@ def net_snmp():
     with tempfile.NamedTemporaryFile("w") as file:
         print(SMI, file=file, flush=True)
         command = ["snmptranslate", "-M", "/usr/share/snmp/mibs", "-m", f"{file.name}:ALL", "-Tz"]
-        said = subprocess.run(command, text=True, capture_output=True, check=True).stdout
-    rows = re.findall(r'"(.+)"\s+"(1\.3\.6\.1\.4.+)"', said)
+        rows = re.findall(r'"(.+)"\s+"(1\.3\.6\.1\.4.+)"', said(*command))
     times = collections.Counter(name for name, _ in rows)
     return [row for row in rows if times[row[0]] == 1]
 
 
 def mibs():
-    """The nodes of each MIB, in the order of arcs."""
+    """The nodes of each MIB, of which the files are read as text, since pysnmp rejects some."""
     from pysnmp.smi import builder
-    files = builder.MibBuilder()
-    files.addMibSources(builder.DirMibSource(importlib.import_module("pysnmp_mibs").__path__[0]))
-    for mib in ("SNMPv2-SMI", *(f"{name}-MIB" for name in ("SNMPv2", "IF", "IP", "TCP", "UDP", "HOST-RESOURCES"))):
-        files.loadModules(mib)
-        nodes = [(getattr(node, "name", ()), name) for name, node in files.mibSymbols[mib].items() if name[0].islower()]
-        yield from ((name, ".".join(map(str, arcs)), mib) for arcs, name in sorted(nodes) if len(arcs) > 1)
+    symbols = builder.MibBuilder().loadModules("SNMPv2-SMI").mibSymbols["SNMPv2-SMI"]
+    nodes = [(getattr(node, "name", ()), name) for name, node in symbols.items() if name[0].islower()]
+    yield from ((name, ".".join(map(str, arcs)), "SNMPv2-SMI") for arcs, name in sorted(nodes) if len(arcs) > 1)
+    folders = [pathlib.Path(importlib.import_module(name).__path__[0]) for name in ("pysnmp_mibs", "pysnmp.smi.mibs")]
+    for index, mib in enumerate(MIBS):
+        text = next(file.read_text(encoding="utf-8") for folder in folders for file in folder.glob(f"{mib}-MIB.py"))
+        for name, arcs in re.findall(r"^(\w+) = \w+\(\(([\d, ]+)\)", text, re.M):
+            if index < 6 or not re.search(r"Conformance$|Compliances?\d*$|Groups?\d*$", name):
+                yield name, arcs.replace(", ", "."), f"{mib}-MIB"
 
 
 def missing():
-    """A name stands once, and only where names.tsv does not have it, in any case, for the identifier."""
-    known, names = {(arcs, name.lower()) for *_, arcs, name in TABLES[0]}, {name for *_, name in TABLES[1]}
-    others = [(*row, document) for document, rows in (("OpenSSL", openssl()), ("net-snmp", net_snmp())) for row in rows]
-    for name, arcs, document in [*mibs(), *others]:
-        if name not in names and (arcs, name.lower()) not in known and max(map(int, arcs.split("."))) < 2**32:
-            names.add(name)
+    """A name stands once."""
+    names, counts = {name.lower() for *_, name in sum(TABLES, [])}, collections.Counter()
+    others = {"MIBs": mibs, "OpenSSL": openssl, "openssl list": openssl_list, "slapd": slapd, "net-snmp": net_snmp}
+    for document, read in {**others, "JDK": jdk}.items():
+        rows = []
+        try:
+            rows = [(*row, document)[:3] for row in read()]
+        except (ImportError, FileNotFoundError) as error:
+            print(f"lists.py: not read: {document} ({error})", file=sys.stderr)
+        for name, arcs, document in rows:
+            if name.lower() in names or max(map(int, arcs.split("."))) >= 2**32:
+                continue
+            names.add(name.lower())
+            counts[document] += 1
             yield document, "", arcs, name
+    print(f"lists.py: rows that neither table has: {dict(counts) or 'none'}", file=sys.stderr)
 
 
 if __name__ == "__main__":

@@ -144,7 +144,7 @@ class Package(unittest.TestCase):
     def test_public_names(self):
         public = {"Code", "ObjectIdentifier", "OidError", "SortedMap", "__version__", "names"}
         self.assertEqual((public, public), (set(const_oid.__all__), set(dir(const_oid))))
-        self.assertEqual({"by_name", "common_entries", "entries", "name_of", "names_of"}, set(names.__all__))
+        self.assertEqual("by_name common_entries display entries name_of names_of parse", " ".join(names.__all__))
         methods = "arcs child count der from_arcs from_bytes from_der index ndim parent read_der starts_with"
         self.assertEqual(methods.split(), [name for name in dir(ObjectIdentifier) if not name.startswith("_")])
         self.assertEqual({"const_oid"}, {value.__module__ for value in (ObjectIdentifier, OidError, Code)})

@@ -14,7 +14,8 @@ import unittest
 from collections.abc import MutableMapping
 from unittest import mock
 
-from const_oid import ObjectIdentifier, SortedMap, names, sorted_map
+from const_oid import Code, ObjectIdentifier, OidError, SortedMap, names, sorted_map
+from const_oid._native import error_text
 from test_memory import _testcapi
 from test_values import copies_of, error_of, seconds
 
@@ -23,7 +24,12 @@ sys.path.append(str(TOP / "bench/peers"))
 lists = importlib.import_module("lists")
 # What leads elsewhere in each. asn1crypto names an HMAC as its hash.
 OTHERS = {lists.openssl: "DSA Mail deltaCRL documentSeries id-alg uid", lists.mibs: "host", lists.net_snmp: "",
-          lists.cryptography: "", lists.asn1crypto: "clearance data dsa rsa sha1 sha224 sha256 sha384 sha512 x509"}
+          lists.cryptography: "signedCertificateTimestampList", lists.openssl_list: "DSA", lists.slapd: "documentSeries",
+          lists.jdk: "DSA Data DiffieHellman MD5withRSA PSS RSA SHA SHA1withDSA SHA1withRSA timeStamping",
+          lists.asn1crypto: "clearance data dh dsa ecdsa group rsa sha1 sha224 sha256 sha384 sha512 x509"}
+# What also does in newer releases of OpenSSL and cryptography.
+NEWER = {"tcg-at-platformModel", "tcg-at-platformVersion", "DSA-SHA", "dsaWithSHA"}
+NEWER |= {"sha3_224", "sha3_256", "sha3_384", "sha3_512"}
 SEED = 3416
 
 
@@ -49,10 +55,27 @@ class Names(unittest.TestCase):
             with self.subTest(read.__name__), contextlib.suppress(ImportError, FileNotFoundError):
                 rows = [(name, ObjectIdentifier(row[0])) for name, *row in read()]
                 found = {name for name, oid in rows if names.by_name(name) not in (None, oid)}
-                found -= {"tcg-at-platformModel", "tcg-at-platformVersion"}  # which newer OpenSSL has
-                self.assertEqual(set(elsewhere.split()), found)
-                if read not in (lists.cryptography, lists.asn1crypto):
+                self.assertEqual(set(elsewhere.split()), found - NEWER)
+                if read not in (lists.cryptography, lists.asn1crypto, lists.jdk):
                     self.assertEqual([], [row for row in rows if None in (names.by_name(row[0]), names.name_of(row[1]))])
+
+    def test_what_people_type_is_parsed_and_displayed(self):
+        for row in (TOP / "rust/const-oid/tests/typed_names.tsv").read_text(encoding="utf-8").splitlines():
+            typed, wanted, shown = row.split("\t")
+            for given in (typed, f"\t\r\n\f {typed} \n"):
+                try:
+                    oid = names.parse(given)
+                except OidError as error:
+                    said = error_text(error.code, error.detail), str(error.piece)
+                else:
+                    said = str(oid), names.display(oid)
+                self.assertEqual((wanted, shown), said, given)
+        draw = random.Random(SEED)
+        for oid, name in names.entries() + names.common_entries():
+            self.assertEqual(names.by_name(name), names.parse(name))
+            for below in (oid, oid.child(0), ObjectIdentifier.from_arcs([*oid, *draw.choices(range(2**32), k=3)])):
+                self.assertEqual(below, names.parse(names.display(below)))
+        self.assertEqual(Code.NOT_UTF8, error_of(names.parse, "cn.\udcff").code)
 
     def test_others_are_not_found(self):
         self.assertEqual((None, ()), (names.name_of(oid := ObjectIdentifier("2.999")), names.names_of(oid)))
@@ -69,7 +92,8 @@ class Names(unittest.TestCase):
             run = subprocess.run([sys.executable, "-c", code], cwd=folder, text=True, capture_output=True)
         self.assertEqual(("2.5.4.3\n", ""), (run.stdout, run.stderr))
         for given in (3, b"cn", None, ObjectIdentifier("2.5.4.3")):
-            self.assertRegex(repr(error_of(names.by_name, given)), r"^TypeError..name must be a str, not \w+'\)$")
+            for call, name in (names.by_name, "name"), (names.parse, "text"):
+                self.assertRegex(repr(error_of(call, given)), rf"^TypeError..{name} must be a str, not \w+'\)$")
 
 
 def drawn(draw):
@@ -409,8 +433,9 @@ class Sorted(unittest.TestCase):
         calls = [table.nearest, table.next_after, table.subtree, table.get, table.__getitem__, table.__delitem__]
         calls += [lambda key: SortedMap({key: 1}), lambda key: table.update({key: 1}), lambda key: key in table]
         calls += [lambda key: table.setdefault(key, 1), lambda key: table.pop(key, None), names.name_of, names.names_of]
+        calls.append(names.display)
         for call, key in itertools.product(calls, ("2.5", (2, 5), None)):
-            name = "oid" if call in (names.name_of, names.names_of) else "key"
+            name = "oid" if call in (names.name_of, names.names_of, names.display) else "key"
             text = rf"^TypeError..{name} must be an ObjectIdentifier, not (str|tuple|NoneType)\b"
             self.assertRegex(repr(error_of(call, key)), text)
         self.assertEqual(0, len(table))

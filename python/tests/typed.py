@@ -56,6 +56,7 @@ def tables(key: dict[ObjectIdentifier, str]) -> None:
     assert_type([*reversed(sorted_key.values()), *reversed(sorted_key.values())], list[str])
     assert_type([*reversed(sorted_key.items())], list[tuple[ObjectIdentifier, str]])
     assert_type((names.name_of(oid), names.by_name("cn")), tuple[str | None, ObjectIdentifier | None])
+    assert_type((names.parse("cn"), names.display(oid)), tuple[ObjectIdentifier, str])
     assert_type((names.names_of(oid), sorted_key.popitem()), tuple[tuple[str, ...], tuple[ObjectIdentifier, str]])
     entries: Iterable[tuple[ObjectIdentifier, str]] = names.entries() + names.common_entries()
     assert_type(SortedMap(entries), SortedMap[str])

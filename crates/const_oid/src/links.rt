@@ -86,7 +86,7 @@ fn write_links(entries: &[Entry<'_>], key: Key, links: &mut [u16])
     }
 }
 
-/// The links of entries by a key. Only the cargo crate calls this: for the statics of `DB`.
+/// The links of entries by a key. Only a test of the cargo crate calls this, for both tables of names.
 // erase: const
 pub(crate) fn links_of<const SIZE: usize>(entries: &[Entry<'_>], key: Key) -> [u16; SIZE]
     requires { (length entries.now < 2 ^ 16) × (length entries.now < SIZE) }

@@ -9,9 +9,9 @@
  * - Arrays. An input is a pointer and a number of items. An output is a pointer and the number of items that fit there.
  *   Both arrays belong to the caller. A function reads the input and writes within the output. It keeps no pointer,
  *   does not allocate and has no state.
- * - Null. A pointer may be null if its length is 0. So may the octets of an item in a list. `range`, `contents` and the
- *   arguments of const_oid_by_arcs must not be null. To learn how long a result is, pass a null output with length 0:
- *   the code is OUTPUT_TOO_SHORT, and `len` is the length.
+ * - Null. A pointer may be null if its length is 0. So may the octets of an item in a list. `range`, `contents`, a name
+ *   and the arguments of const_oid_by_arcs must not be null. To learn how long a result is, pass a null output with
+ *   length 0: the code is OUTPUT_TOO_SHORT, and `len` is the length.
  * - Overlap. An output must not overlap an input, whatever the lengths. gcc -Wall (-Wrestrict) warns about some calls
  *   that break this.
  * - Lengths. A length is that of its array, which has at most 2^63 - 1 bytes, or 2^30 - 1 if size_t has 32 bits. Texts
@@ -22,8 +22,8 @@
  * - Threads. Every function is thread-safe. While a call runs, no other thread may write its inputs or touch its
  *   output.
  * - Machines. The tests run on Linux with glibc on x86-64. The repository's rust/README.md says what passed on other
- *   machines, by qemu and wine, and when. The proofs are for 64 bits. What Rattle builds needs x86-64-v2 (POPCNT, SSE4.1). The library needs no system: of
- *   the C library it calls memory functions, and cargo's build also abort.
+ *   machines, by qemu and wine, and when. The proofs are for 64 bits. What Rattle builds needs x86-64-v2 (POPCNT,
+ *   SSE4.1). The library needs no system: of the C library it calls memory functions, and cargo's build also abort.
  * - Octets. These are contents octets alone. A complete element 06 09 2A 86 .. and the bytes of the text "1.2" are no
  *   errors, but 0.6.9.42... and 1.9.46.50. Give an element to const_oid_from_der, and a text to const_oid_from_text.
  *
@@ -31,8 +31,8 @@
  * status, by value. Code 0 is success. With any other code the function wrote nothing, and the output is unchanged, bit
  * for bit. Items of the output after the first `len` are always unchanged.
  *
- * A function that is given invalid octets returns the first of these codes that applies, and of two identifiers the code
- * of the first invalid one:
+ * A function that is given invalid octets returns the first of these codes that applies, and of two identifiers the
+ * code of the first invalid one:
  *
  * - EMPTY: there is no octet.
  * - The code for the first wrong subidentifier, which ends with its first octet below 0x80: BASE128 if it begins with
@@ -51,7 +51,7 @@ extern "C" {
 
 /* The version of these declarations. const_oid_version() returns the version of the library. */
 #define CONST_OID_VERSION_MAJOR 1
-#define CONST_OID_VERSION_MINOR 5
+#define CONST_OID_VERSION_MINOR 6
 #define CONST_OID_VERSION_PATCH 0
 #define CONST_OID_VERSION \
     (65536 * CONST_OID_VERSION_MAJOR + 256 * CONST_OID_VERSION_MINOR + CONST_OID_VERSION_PATCH)
@@ -77,19 +77,20 @@ extern "C" {
 #define CONST_OID_NODISCARD
 #endif
 
-/* A function and an array of the headers. From C++17 on they are inline, so a module can export them. */
+/* A function and an array of the headers. From C++17 on they are inline, so a module can export them. Arrays are
+ * constexpr, since g++ 14 exports others as zeros. */
 #ifdef __cpp_inline_variables
 #define CONST_OID_INLINE inline
-#define CONST_OID_TABLE inline const
+#define CONST_OID_TABLE inline constexpr
 #else
 #define CONST_OID_INLINE static __inline
-#define CONST_OID_TABLE static const
+#define CONST_OID_TABLE static
 #endif
 
 /* The arguments, counted from 1, that are an array that the function reads, or writes, and how many items it has. gcc,
- * from 10 on, warns of a number that is greater than the array has, and of a null pointer with a number other than 0. It
- * does not warn of a smaller number. It also warns of two calls that are right: at -O0, of an array on the stack with no
- * items; with -fanalyzer, from 14 on, of an output of length 0 at the end of an array. Give null in both. */
+ * from 10 on, warns of a number that is greater than the array has, and of a null pointer with a number other than 0.
+ * It does not warn of a smaller number. It also warns of two calls that are right: at -O0, of an array on the stack
+ * with no items; with -fanalyzer, from 14 on, of an output of length 0 at the end of an array. Give null in both. */
 #if defined(__GNUC__) && !defined(__clang__) && __GNUC__ >= 10
 #define CONST_OID_READS(items, len) __attribute__((__access__(__read_only__, items, len)))
 #define CONST_OID_WRITES(items, len) __attribute__((__access__(__write_only__, items, len)))
@@ -184,7 +185,7 @@ CONST_OID_NODISCARD uint32_t const_oid_version(void);
 /* Reads the element of DER that bytes begin with (X.690, 8.1 and 10.1): the tag 6, the length, and contents octets.
  * Stores in `contents` where these are in the input, and returns in `len` how many bytes the element has. Others may
  * follow: there is one whole element, and no more, if `element.code == CONST_OID_OK && element.len == len`. The code is
- * NO_ELEMENT if there are no bytes, the tag is not 6, or the length is indefinite or could be in fewer bytes, or not all
+ * NO_ELEMENT if there are no bytes, the tag is not 6, the length is indefinite or could be in fewer bytes, or not all
  * contents octets are there; or else that of the octets if they are invalid. So a loop over elements runs `while (len >
  * 0)`, and any code but OK is an error: one that runs while the code is OK takes a malformed element for the end. */
 CONST_OID_NODISCARD CONST_OID_READS(1, 2) CONST_OID_NONNULL(3) const_oid_status const_oid_from_der(
@@ -340,8 +341,8 @@ CONST_OID_NODISCARD CONST_OID_READS(1, 2) CONST_OID_READS(3, 4) const_oid_status
 /* Finds the items that begin with all arcs of an identifier, itself included, and stores where they are in `range`.
  * `start` is where it would be inserted, also if there are none: then `end` is the same. With OK, `len` is 0. */
 CONST_OID_NODISCARD CONST_OID_READS(1, 2) CONST_OID_READS(3, 4) CONST_OID_NONNULL(5)
-const_oid_status const_oid_subtree_range(const uint8_t *octets, size_t len, const const_oid_octets *sorted, size_t count,
-    const_oid_range *CONST_OID_RESTRICT range);
+const_oid_status const_oid_subtree_range(const uint8_t *octets, size_t len, const const_oid_octets *sorted,
+    size_t count, const_oid_range *CONST_OID_RESTRICT range);
 
 /* Writes the text for a code and its detail, in UTF-8. With DIGIT_EXPECTED, the byte stands in it as the character with
  * that number, even if this is a zero byte, a newline or another control character. All other characters are printable

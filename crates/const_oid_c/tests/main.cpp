@@ -30,11 +30,11 @@ static void find_each(const std::vector<const_oid_octets> &items) {
     }
 }
 
-// The lengths of those of 50 constants, with 0 to 49 octets, that octets are.
+// The lengths of those of 50 constants, with 1 to 50 octets, that octets are.
 #define IS(constant) if (CONST_OID_IS(octets.data(), octets.size(), constant)) lens.push_back(sizeof(constant) - 1);
-#define TEN(first) IS(first) IS(first "\x2A") IS(first "\x2A\0") IS(first "\x2A\0\3") IS(first "\x2A\0\3\x7F") \
+#define TEN(first) IS(first "\x2A") IS(first "\x2A\0") IS(first "\x2A\0\3") IS(first "\x2A\0\3\x7F") \
     IS(first "\x2A\0\3\x7F\5") IS(first "\x2A\0\3\x7F\5\1") IS(first "\x2A\0\3\x7F\5\1\0") \
-    IS(first "\x2A\0\3\x7F\5\1\0\2") IS(first "\x2A\0\3\x7F\5\1\0\2\6")
+    IS(first "\x2A\0\3\x7F\5\1\0\2") IS(first "\x2A\0\3\x7F\5\1\0\2\6") IS(first ALL)
 #define ALL "\x2A\0\3\x7F\5\1\0\2\6\7"
 static std::vector<size_t> constants_of(const std::vector<uint8_t> &octets) {
     std::vector<size_t> lens;
@@ -73,5 +73,5 @@ int main() {
     SEE(items.size() == 2000, items.size());
     SEE(const_oid_check_sorted(items.data(), items.size()).code == CONST_OID_OK, 0);
     find_each(items);
-    for (size_t len = 0; len < 50; len++) compare_with_constants(len);
+    for (size_t len = 0; len <= 50; len++) compare_with_constants(len);
 }

@@ -63,9 +63,13 @@ int main(void) {
     /* 1.3.6.1.2.1.1.3.0 = 4711 */
     get_bulk(sys_name, sizeof sys_name, 10);
     /* there is no such arc, parent, item or text */
-    const_oid_octets rsa = octets_of("RSAEncryption");
+    print_error(print_typed(" SNMPv2-MIB::sysUpTime.0"));
+    /* sysUpTime.0 */
+    print_error(print_typed("sysUpTime.x"));
+    /* expected digit, got 'x' */
+    const_oid_octets rsa = const_oid_from_name("RSAEncryption");
     print_name(rsa.octets, rsa.len);
     /* rsaEncryption */
-    return is_rsa(rsa.octets, rsa.len) && octets_of("no name").len == 0 && decides() && reads_purposes() && pushes()
-        ? 0 : 1;
+    const int has_none = const_oid_from_name("no name").len == 0;
+    return has_none && is_rsa(rsa.octets, rsa.len) && decides() && reads_purposes() && pushes() ? 0 : 1;
 }

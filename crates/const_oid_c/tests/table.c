@@ -1,7 +1,6 @@
 /* Compares const_oid_names.h with rust/names.tsv, of which rows.inc has a ROW(constant, arcs, name, place) for each row,
- * by arcs: the octets of each constant, the arrays row by row, what is found by name and by octets, and what they are.
- * tests/run writes other names from `typedef` on: that program compares const_oid_common_names.h with
- * rust/common_names.tsv. */
+ * by arcs: the octets of each constant, the entries row by row, what is found by name and by octets, and what they are.
+ * With COMMON, const_oid_common_names.h with rust/common_names.tsv. */
 #include "const_oid_common_names.h"
 #include "see.h"
 
@@ -9,18 +8,36 @@
 #include <string.h>
 #include <strings.h>
 
+#ifdef COMMON
+#define ROWS "common.inc" /* Its constants are invalid octets, which nothing equals. */
+#define HAS_CONSTANTS 0
+#define COUNT CONST_OID_COMMON_NAMES_COUNT
+#define BY_NAME const_oid_common_by_name
+#define NAME_OF const_oid_common_name_of
+#define NAME const_oid_common_name
+#define OCTETS const_oid_common_octets
+#else
+#define ROWS "rows.inc"
+#define HAS_CONSTANTS 1
+#define COUNT CONST_OID_NAMES_COUNT
+#define BY_NAME const_oid_by_name
+#define NAME_OF const_oid_name_of
+#define NAME(index) const_oid_names[index]
+#define OCTETS(index) const_oid_name_octets[index]
+#endif
+
 /* Both tables together find what the first has, or else the second. */
 static void find_in_both(const char *text) {
     const_oid_octets found = const_oid_from_name(text), wanted = {NULL, 0};
     size_t first = const_oid_by_name(text), second = const_oid_common_by_name(text);
-    if (second < CONST_OID_COMMON_NAMES_COUNT) wanted = const_oid_common_name_octets[second];
+    if (second < CONST_OID_COMMON_NAMES_COUNT) wanted = const_oid_common_octets(second);
     if (first < CONST_OID_NAMES_COUNT) wanted = const_oid_name_octets[first];
     SEE(found.octets == wanted.octets && found.len == wanted.len, first);
 }
 
 static void find_octets_in_both(const uint8_t *octets, size_t len) {
     size_t first = const_oid_name_of(octets, len), second = const_oid_common_name_of(octets, len);
-    const char *wanted = second < CONST_OID_COMMON_NAMES_COUNT ? const_oid_common_names[second] : NULL;
+    const char *wanted = second < CONST_OID_COMMON_NAMES_COUNT ? const_oid_common_name(second) : NULL;
     SEE(const_oid_to_name(octets, len) == (first < CONST_OID_NAMES_COUNT ? const_oid_names[first] : wanted), first);
 }
 
@@ -32,17 +49,17 @@ typedef struct {
 
 #define ROW(constant, arcs, name, place) {{CONST_OID_OCTETS(constant)}, arcs, name, place},
 static row rows[] = {
-#include "rows.inc"
+#include ROWS
 };
 static const size_t count = sizeof rows / sizeof *rows;
-static int has_constants;
+static const_oid_octets items[COUNT];
 
 /* How many constants are these octets. */
 #undef ROW
 #define ROW(constant, arcs, name, place) found += CONST_OID_IS(octets, len, constant) == 1;
 static size_t constants_of(const uint8_t *octets, size_t len) {
     size_t found = 0;
-#include "rows.inc"
+#include ROWS
     return found;
 }
 
@@ -56,7 +73,7 @@ static size_t named(const char *name) {
 }
 
 static void find(const char *text, size_t index) {
-    SEE(const_oid_by_name(text) == named(text), index);
+    SEE(BY_NAME(text) == named(text), index);
     find_in_both(text);
 }
 
@@ -83,9 +100,9 @@ static void find_octets(const uint8_t *octets, size_t len) {
     size_t first = 0, end;
     while (first < count && const_oid_by_arcs(&rows[first], &item) != 0) first++;
     for (end = first; end < count && const_oid_by_arcs(&rows[end], &item) == 0; end++) continue;
-    SEE(constants_of(octets, len) == (has_constants ? end - first : 0), first);
-    SEE(const_oid_name_of(octets, len) == first, first);
-    SEE(const_oid_find(octets, len, const_oid_name_octets, count).len == first, first);
+    SEE(constants_of(octets, len) == (HAS_CONSTANTS ? end - first : 0), first);
+    SEE(NAME_OF(octets, len) == first, first);
+    SEE(const_oid_find(octets, len, items, count).len == first, first);
     find_octets_in_both(octets, len);
 }
 
@@ -99,41 +116,45 @@ static void find_octets_like(const_oid_octets of) {
         octets[i] ^= 1, find_octets(octets, of.len), octets[i] ^= 1;
     }
     size_t len = const_oid_push_arc(of.octets, of.len, UINT32_MAX, octets, sizeof octets).len;
-    size_t nearest = const_oid_nearest(octets, len, const_oid_name_octets, count).len;
-    SEE(nearest == const_oid_name_of(of.octets, of.len), nearest);
+    size_t nearest = const_oid_nearest(octets, len, items, count).len;
+    SEE(nearest == NAME_OF(of.octets, of.len), nearest);
+}
+
+static size_t slot_of(const uint8_t *octets, size_t len) {
+    return const_oid_slot(const_oid_hash(octets, len, 0), COUNT * 11 / 8);
 }
 
 /* Octets that are longer than a name's by so many, and begin with them, are none, even in the name's slot. */
 static void find_longer(const_oid_octets of, size_t more) {
     static uint8_t octets[32 + 65536];
-    const size_t len = of.len + more, slot = const_oid_slot(of.octets, of.len, 0);
+    const size_t len = of.len + more, slot = slot_of(of.octets, of.len);
     memset(octets, 1, len);
     memcpy(octets, of.octets, of.len);
-    for (unsigned end = 0; const_oid_slot(octets, len, 0) != slot; end++) {
-        octets[len - 2] = end >> 7 & 0x7F, octets[len - 1] = end & 0x7F;
+    for (unsigned end = 0; slot_of(octets, len) != slot; end++) {
+        for (size_t i = 1; i < 4; i++) octets[len - i] = end >> 7 * (i - 1) & 0x7F;
     }
-    SEE(const_oid_name_of(octets, len) == count, more);
+    SEE(NAME_OF(octets, len) == count, more);
 }
 
 int main(void) {
     static uint8_t made[sizeof rows / sizeof *rows][128];
-    has_constants = rows[0].octets.len > 0;
-    SEE(count == CONST_OID_NAMES_COUNT, count);
-    SEE(const_oid_check_sorted(const_oid_name_octets, count).code == CONST_OID_OK, count);
+    SEE(count == COUNT, count);
+    for (size_t i = 0; i < count; i++) items[i] = OCTETS(i);
+    SEE(const_oid_check_sorted(items, count).code == CONST_OID_OK, count);
     for (size_t i = 0; i < count; i++) {
         const const_oid_octets constant = rows[i].octets;
         rows[i].octets.len = const_oid_from_text(rows[i].arcs, strlen(rows[i].arcs), made[i], sizeof made[i]).len;
         rows[i].octets.octets = made[i];
-        SEE(!has_constants || const_oid_is_equal(constant.octets, constant.len, made[i], rows[i].octets.len), i);
+        SEE(!HAS_CONSTANTS || const_oid_is_equal(constant.octets, constant.len, made[i], rows[i].octets.len), i);
     }
     for (size_t i = 0; i < count; i++) {
-        SEE(const_oid_by_arcs(&const_oid_name_octets[i], &rows[i]) == 0, i);
-        SEE(strcmp(const_oid_names[i], rows[i].name) == 0, i);
+        SEE(const_oid_by_arcs(&items[i], &rows[i]) == 0, i);
+        SEE(strcmp(NAME(i), rows[i].name) == 0, i);
         find_like(i);
         find_octets_like(rows[i].octets);
         if (i % 99 == 0) find_longer(rows[i].octets, 256), find_longer(rows[i].octets, 65536);
     }
-    SEE(const_oid_name_of(NULL, 0) == count && const_oid_name_of((const uint8_t *)"\x80", 1) == count, 0);
-    SEE(const_oid_by_name("") == count && const_oid_by_name("zz") == count && const_oid_by_name("\xC3") == count, 0);
+    SEE(NAME_OF(NULL, 0) == count && NAME_OF((const uint8_t *)"\x80", 1) == count, 0);
+    SEE(BY_NAME("") == count && BY_NAME("zz") == count && BY_NAME("\xC3") == count, 0);
     return 0;
 }

@@ -65,7 +65,7 @@ pub(crate) fn written<T>(items: &[T]) -> &Output<T> {
     unsafe { slice::from_raw_parts(items.as_ptr().cast(), items.len()) }
 }
 
-/// Copies bytes to the start of an output, which is long enough.
+/// Copies bytes to the start of an output, which is long enough. The crate's `copies` writes to bytes that have values.
 pub(crate) fn copy(bytes: &[u8], out: &mut Output<u8>) {
     let bytes = written(bytes);
     let out = &mut out[..bytes.len()];

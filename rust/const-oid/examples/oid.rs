@@ -1,19 +1,20 @@
 //! Prints object identifiers, each by its text, octets, arcs and names.
 //!
 //! `cargo run --features db --example oid 2.5.4.3 sha256`
-use const_oid::db::{COMMON, SORTED, by_name};
+use const_oid::db::{self, COMMON, DB, SORTED};
 use const_oid::{ObjectIdentifier, ObjectIdentifierRef};
 use std::io::{self, Write};
-use std::process::ExitCode;
+use std::path::Path;
+use std::process::{ExitCode, exit};
 
 const HELP: &str = "\
-Prints object identifiers: text, contents octets, arcs and names.
+Prints object identifiers: text, the same by name, contents octets, arcs and names.
 
 Usage: oid [--hex] INPUT..
 
-An input with a dot is text, such as 2.5.4.3. Without one, it is contents octets in hexadecimal, such as 2A03.
+An input is text, such as 2.5.4.3, or a name, such as sha256, or a name and arcs, such as IF-MIB::ifDescr.3.
+Digits in hexadecimal alone, such as 2A03, are contents octets.
 A number alone, such as 550403, and what could be DER with tag and length, are octets only after --hex.
-What is neither may be a name, such as sha256.
 ";
 
 /// An identifier of the greatest capacity.
@@ -33,12 +34,10 @@ fn octets_of(digits: &str) -> Option<Vec<u8>> {
 
 /// The identifier that an input denotes.
 fn read(input: &str, is_hex: bool) -> Result<Oid> {
-    if !is_hex && (input.is_empty() || input.contains('.')) {
-        return Ok(Oid::new_sized(input)?);
+    if !is_hex && (input.is_empty() || input.bytes().any(|byte| !byte.is_ascii_hexdigit())) {
+        return Ok(db::parse(input)?);
     }
-    let is_name = !is_hex && input.bytes().any(|byte| !byte.is_ascii_hexdigit());
-    let wrong = if is_name { "neither a name nor octets in hexadecimal" } else { "not octets in hexadecimal" };
-    let octets = octets_of(input).ok_or(wrong)?;
+    let octets = octets_of(input).ok_or("not octets in hexadecimal")?;
     if !is_hex && matches!(ObjectIdentifierRef::read_element(&octets), Some((_, []))) {
         return Err("a whole element? Leave out tag and length, or give --hex first".into());
     }
@@ -46,6 +45,13 @@ fn read(input: &str, is_hex: bool) -> Result<Oid> {
         return Err("text, or octets? For octets, give --hex first".into());
     }
     Ok(Oid::from_bytes_sized(&octets)?)
+}
+
+/// What is printed of other identifiers with a name, as in OpenSSL or in a document that is asked later.
+fn others(name: &str, oid: &ObjectIdentifierRef) -> String {
+    let entries = DB.entries().iter().chain(COMMON.entries());
+    let others = entries.filter(|entry| entry.1.eq_ignore_ascii_case(name.trim_ascii()) && oid != entry.0);
+    others.map(|(other, name)| format!("\n  elsewhere, {name}: {other}")).collect()
 }
 
 /// What is printed of an identifier. A name that the table has twice is printed once.
@@ -58,7 +64,8 @@ fn describe(oid: &ObjectIdentifierRef) -> String {
     let common = ObjectIdentifier::try_from(oid).into_iter().flat_map(|oid| COMMON.find_names_for_oid(oid));
     let common: Vec<&str> = common.collect();
     let also = if common.is_empty() { String::new() } else { format!("\n  common names: {}", common.join(", ")) };
-    format!("{oid}\n  octets: {}\n  arcs: {arcs:?}\n  names: {}{also}", octets.join(" "), names.join(", "))
+    let (by_name, octets, names) = (db::display(oid), octets.join(" "), names.join(", "));
+    format!("{oid}\n  by name: {by_name}\n  octets: {octets}\n  arcs: {arcs:?}\n  names: {names}{also}")
 }
 
 /// Prints identifiers to `out` and errors to `errors`, and returns the exit status.
@@ -73,22 +80,33 @@ pub fn run(arguments: &[String], out: &mut impl Write, errors: &mut impl Write) 
         write!(out, "{HELP}")?;
         return Ok(0);
     }
-    let named = |name: &str| by_name(name).filter(|_| !is_hex).and_then(|oid| Oid::try_from(oid.as_oid_ref()).ok());
-    let mut status = 0;
+    let (mut status, mut told) = (0, Ok(()));
     for input in inputs {
-        match read(input, is_hex).or_else(|error| named(input).ok_or(error)) {
-            Ok(oid) => writeln!(out, "{}", describe(&oid))?,
+        match read(input, is_hex).or_else(|error| if is_hex { Err(error) } else { db::parse(input).or(Err(error)) }) {
+            Ok(oid) => writeln!(out, "{}{}", describe(&oid), others(input, &oid))?,
             Err(error) => {
                 let advice = if input.contains('.') || octets_of(input).is_some() { "" } else { ". --help says more" };
                 // The error, too, may have a control character of the input.
                 let line = format!("{input}: {error}{advice}").escape_debug().to_string();
-                writeln!(errors, "{}", line.replace("\\'", "'"))?;
+                told = told.and(writeln!(errors, "{}", line.replace("\\'", "'")));
                 status = 1;
             }
         }
     }
-    Ok(status)
+    told.map(|()| status)
 }
+
+/// Ends the program if standard output is closed. Before `main`, Rust opens /dev/null in its place.
+extern "C" fn look() {
+    if Path::new("/proc/self/fd/").exists() && Path::new("/proc/self/fd/1").symlink_metadata().is_err() {
+        eprintln!("oid: cannot write: the output is closed");
+        exit(1);
+    }
+}
+
+#[used]
+#[cfg_attr(target_os = "linux", unsafe(link_section = ".init_array"))]
+static AT_START: extern "C" fn() = look;
 
 fn main() -> ExitCode {
     let arguments: Vec<String> = std::env::args_os().skip(1).map(|text| text.to_string_lossy().into()).collect();

@@ -1,14 +1,15 @@
 //! Some 1,500 names of identifiers: a module of constants for each document that defines some, and the tables [`DB`]
-//! and [`SORTED`] of all. [`by_name`] and [`by_oid`] ask [`DB`] and then [`COMMON`]. Requires the feature `db`.
+//! and [`SORTED`] of all. [`parse`] reads what people type, and [`display`] writes it. They, [`by_name`], [`by_oid`]
+//! and [`nearest`] ask [`DB`] and then [`COMMON`]. Requires the feature `db`.
 //!
 //! A [`Database`] is a table in any order, for lookups in constants and by name. A [`SortedDatabase`] has the order of
 //! arcs: a lookup is a binary search, and it also finds the nearest name, subtrees, and what GetNext of SNMP returns.
 
 pub use crate::erased::db::{Database, Names, SortedDatabase};
+pub use crate::named::{Display, display, nearest, parse};
 
 use crate::arcs::List;
-use crate::erased::links::{Key, links_of};
-use crate::{ObjectIdentifier, ObjectIdentifierRef};
+use crate::{Buffer, ObjectIdentifier, ObjectIdentifierRef};
 use core::fmt;
 use core::iter::FusedIterator;
 
@@ -59,10 +60,10 @@ entries!(Database, ObjectIdentifier, DB);
 entries!(SortedDatabase, ObjectIdentifierRef, SORTED);
 
 include!("db/names.rs");
-include!("db/sorted.rs");
 include!("db/common.rs");
 
-/// The identifiers of all modules, each with its name. `hashAlgs` names two: this finds 2.16.840.1.101.3.4.2.
+/// The identifiers of all modules, each with its name. [`by_name`] and [`parse`] find more names. `id-mod`, `id-alg`
+/// and `hashAlgs` have two identifiers: this finds 1.2.840.113549.1.9.16.0 and .3, and 2.16.840.1.101.3.4.2.
 ///
 /// # Examples
 ///
@@ -71,21 +72,53 @@ include!("db/common.rs");
 /// ```
 pub const DB: Database<'static> = Database::new(&ENTRIES).linked(&OID_LINKS, &NAME_LINKS);
 
-/// A link for each entry of [`DB`], and some 500 slots. Entries and links are a `static`, so that a crate with a lookup
-/// in a constant reads their value, and does not parse all texts again.
-static OID_LINKS: [u16; 2000] = links_of(&ENTRIES, Key::Oid);
-static NAME_LINKS: [u16; 2000] = links_of(&ENTRIES, Key::Name);
-
 /// The entries of [`DB`] in the order of arcs, those of an identifier in the order of [`DB`]. So it finds another
 /// `hashAlgs`, 1.3.6.1.4.1.1722.12.2. [`SortedDatabase`] has an example.
 pub const SORTED: SortedDatabase<'static> = SortedDatabase::new_unchecked(&IN_ORDER);
+
+static IN_ORDER: [(&ObjectIdentifierRef, &str); DB.len()] = in_order(&ENTRIES, &ORDER);
 
 /// The names that people type and [`DB`] lacks, of OpenSSL, MIBs, FIPS, the CA/Browser Forum and Microsoft. A few that
 /// [`DB`] has are here for another identifier, such as `DSA`. [`by_name`] has an example.
 pub const COMMON: Database<'static> = Database::new(&COMMON_ENTRIES).linked(&COMMON_OID_LINKS, &COMMON_NAME_LINKS);
 
-static COMMON_OID_LINKS: [u16; COMMON_ENTRIES.len() * 4 / 3] = links_of(&COMMON_ENTRIES, Key::Oid);
-static COMMON_NAME_LINKS: [u16; COMMON_ENTRIES.len() * 4 / 3] = links_of(&COMMON_ENTRIES, Key::Name);
+/// The entries of [`COMMON`] in the order of arcs. [`SortedDatabase`] has an example.
+pub const COMMON_SORTED: SortedDatabase<'static> = SortedDatabase::new_unchecked(&COMMON_IN_ORDER);
+
+const COMMON_LEN: usize = COMMON_NAMES.len();
+
+/// An array with an item for each index. In a constant, slices and calls would take rustc longer.
+macro_rules! items {
+    ($len:expr, $first:expr, $index:ident => $item:expr) => {{
+        let (mut items, mut $index) = ([$first; $len], 0);
+        while $index < items.len() {
+            items[$index] = $item;
+            $index += 1;
+        }
+        items
+    }};
+}
+
+static COMMON_OIDS: [ObjectIdentifier; COMMON_LEN] = items!(COMMON_LEN, rfc4519::CN, index => {
+    let [used, bytes @ ..] = *COMMON_OCTETS[index];
+    ObjectIdentifier { ber: Buffer { bytes, used, aligned: [] } }
+});
+
+static COMMON_ENTRIES: [(&ObjectIdentifier, &str); COMMON_LEN] =
+    items!(COMMON_LEN, (&COMMON_OIDS[0], ""), index => (&COMMON_OIDS[index], COMMON_NAMES[index]));
+
+static COMMON_IN_ORDER: [(&ObjectIdentifierRef, &str); COMMON_LEN] = in_order(&COMMON_ENTRIES, &COMMON_ORDER);
+
+/// Entries in an order.
+const fn in_order<const LEN: usize>(
+    entries: &[(&'static ObjectIdentifier, &'static str); LEN],
+    order: &[u16; LEN],
+) -> [(&'static ObjectIdentifierRef, &'static str); LEN] {
+    items!(LEN, (rfc4519::CN.as_oid_ref(), ""), index => {
+        let (oid, name) = entries[order[index] as usize];
+        (oid.as_oid_ref(), name)
+    })
+}
 
 /// The identifier with a name, ignoring ASCII case, in [`DB`], or else in [`COMMON`], or `None`.
 ///
@@ -96,7 +129,7 @@ static COMMON_NAME_LINKS: [u16; COMMON_ENTRIES.len() * 4 / 3] = links_of(&COMMON
 ///
 /// let oid = by_name("sha256").unwrap();
 /// assert_eq!((oid.to_string().as_str(), by_oid(oid)), ("2.16.840.1.101.3.4.2.1", Some("id-sha256")));
-/// assert!(COMMON.find_names_for_oid(*oid).eq(["SHA-256", "SHA256", "sha256"]));
+/// assert!(COMMON.find_names_for_oid(*oid).eq(["SHA-256", "SHA256", "sha256", "SHA2-256", "sha_256"]));
 /// ```
 #[must_use]
 pub const fn by_name(name: &str) -> Option<&'static ObjectIdentifier> {
@@ -107,6 +140,15 @@ pub const fn by_name(name: &str) -> Option<&'static ObjectIdentifier> {
 #[must_use]
 pub const fn by_oid(oid: &ObjectIdentifier) -> Option<&'static str> {
     if let Some(name) = DB.by_oid(oid) { Some(name) } else { COMMON.by_oid(oid) }
+}
+
+/// The links of both tables are what [`links_of`] makes.
+#[test]
+fn links_are_those_of_the_entries() {
+    use crate::erased::links::{Key, links_of};
+    assert_eq!((OID_LINKS, NAME_LINKS), (links_of(&ENTRIES, Key::Oid), links_of(&ENTRIES, Key::Name)));
+    assert_eq!(COMMON_OID_LINKS, links_of(&COMMON_ENTRIES, Key::Oid));
+    assert_eq!(COMMON_NAME_LINKS, links_of(&COMMON_ENTRIES, Key::Name));
 }
 
 /// A table has links in lent memory that is longer than those before, and where no slot has over a quarter of the

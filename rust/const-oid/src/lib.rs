@@ -38,6 +38,8 @@ mod conversions;
 #[cfg(feature = "internal-for-const-oid-c")]
 #[doc(hidden)]
 pub mod internal_for_const_oid_c;
+#[cfg(feature = "db")]
+mod named;
 mod traits;
 
 pub use by_arcs::ByArcs;

@@ -154,14 +154,15 @@ fn types_have_identifiers() {
 
 #[cfg(feature = "db")]
 mod db {
-    use const_oid::db::{Database, Names, SortedDatabase, rfc4519::CN};
-    use std::fmt::Debug;
+    use const_oid::db::{Database, Display, Names, SortedDatabase, rfc4519::CN};
+    use std::fmt::{self, Debug};
     use std::iter::FusedIterator;
 
     traits! {
         ['a] Database<'a>: Copy, Clone, Debug, Send, Sync;
         ['a] SortedDatabase<'a>: Copy, Clone, Debug, Send, Sync;
         ['a] Names<'a>: Iterator<Item = &'a str>, FusedIterator, Clone, Debug;
+        ['a] Display<'a>: fmt::Display, Copy, Clone, Debug, Send, Sync;
     }
 
     constants! { (table: Database<'static>, sorted: SortedDatabase<'static>)

@@ -10,10 +10,11 @@
  *   const_oid_names has the null-terminated name of each of its items, at the same index. An identifier may
  *   have several names. They are adjacent, in the order of the table, and const_oid_find and const_oid_nearest
  *   return the first.
- * - const_oid_by_name and const_oid_name_of, which return the index of the entry with a name or with octets.
+ * - const_oid_by_name and const_oid_name_of, which return the index of the entry with a name or with octets. id-mod,
+ *   id-alg and hashAlgs have two identifiers, of which const_oid_by_name returns the first in const-oid's order.
  *
- * The arrays are static, but inline from C++17 on: each file in C that uses them has a copy of some 80 KB, or 150 if its
- * code is position-independent, so let one file use them. What is here is tested, not proved. */
+ * The arrays are static, but inline from C++17 on: each file in C that uses them has a copy of some 80 KB, or 150 if
+ * its code is position-independent, so let one file use them. What is here is tested, not proved. */
 #ifndef CONST_OID_NAMES_H
 #define CONST_OID_NAMES_H
 
@@ -35,11 +36,13 @@ extern "C++" template <size_t N> char (&const_oid_array(const uint8_t (&array)[N
 #define CONST_OID_ARRAY(array) (array), sizeof(array)
 #endif
 #endif
-#define CONST_OID_OCTETS(constant) CONST_OID_BYTES("" constant ""), sizeof("" constant "") - 1
+#define CONST_OID_OCTETS(constant) CONST_OID_BYTES("" constant ""), (sizeof("" constant "") - 1) * sizeof( \
+    char[sizeof *("" constant "") == 1 && sizeof("" constant "") > 1 ? 1 : -1]) /* neither wide nor empty */
 
-/* CONST_OID_IS(octets, len, constant): 1 if the octets of an identifier are those of a constant, and otherwise 0, as for
- * invalid octets. It takes a string literal alone, and checks nothing: what equals valid octets is valid. Of two inputs,
- * or where a literal may be invalid, const_oid_is_equal is right. Each argument is evaluated once. */
+/* CONST_OID_IS(octets, len, constant): 1 if the octets of an identifier are those of a constant, and otherwise 0, as
+ * for invalid octets. It takes three arguments, so no CONST_OID_ARRAY. The last is a string literal of octets, which is
+ * not checked: what equals valid octets is valid, and a text such as "2.5.4.3" gives 0. Of two inputs, or where a
+ * literal may be invalid, const_oid_is_equal is right. Each argument is evaluated once. */
 #define CONST_OID_IS(octets, len, constant) const_oid_is_constant(octets, len, CONST_OID_OCTETS(constant))
 CONST_OID_NODISCARD CONST_OID_READS(1, 2) CONST_OID_READS(3, 4) CONST_OID_INLINE int const_oid_is_constant(
     const uint8_t *octets, size_t len, const uint8_t *constant, size_t constant_len) {
@@ -50,19 +53,15 @@ CONST_OID_NODISCARD CONST_OID_READS(1, 2) CONST_OID_READS(3, 4) CONST_OID_INLINE
 @CONSTANTS@
 #define CONST_OID_NAMES_COUNT @COUNT@
 
-CONST_OID_TABLE const_oid_octets const_oid_name_octets[CONST_OID_NAMES_COUNT] = {@OCTETS@};
+/* The octets of the entries, in parts of at most 509. */
+CONST_OID_TABLE const uint8_t const_oid_name_bytes[][512] = {@BYTES@};
 
-CONST_OID_TABLE char *const const_oid_names[CONST_OID_NAMES_COUNT] = {@NAMES@};
+CONST_OID_TABLE const const_oid_octets const_oid_name_octets[CONST_OID_NAMES_COUNT] = {@OCTETS@};
+
+CONST_OID_TABLE const char *const const_oid_names[CONST_OID_NAMES_COUNT] = {@NAMES@};
 
 /* The lengths of the names. */
-CONST_OID_TABLE uint8_t const_oid_name_lens[CONST_OID_NAMES_COUNT] = {@NAME_LENS@};
-
-/* The indexes of the entries by a hash of their names, each in the first slot that is free from its own on. Those with
- * one name are in the order of the table, and CONST_OID_NAMES_COUNT is in the slots that are free. */
-CONST_OID_TABLE uint16_t const_oid_names_by_hash[@SLOTS@] = {@BY_NAME@};
-
-/* The same by a hash of their octets. */
-CONST_OID_TABLE uint16_t const_oid_octets_by_hash[@SLOTS@] = {@BY_OCTETS@};
+CONST_OID_TABLE const uint8_t const_oid_name_lens[CONST_OID_NAMES_COUNT] = {@NAME_LENS@};
 
 /* Four bytes as a number. */
 CONST_OID_INLINE uint32_t const_oid_word(const uint8_t *bytes) {
@@ -70,14 +69,33 @@ CONST_OID_INLINE uint32_t const_oid_word(const uint8_t *bytes) {
     return ((last << 8 | bytes[2]) << 8 | bytes[1]) << 8 | bytes[0];
 }
 
-/* A slot by a hash of words, of which the last four bytes are one, or all of fewer. In each byte `bits` are set. */
-CONST_OID_INLINE size_t const_oid_slot(const uint8_t *bytes, size_t len, uint32_t bits) {
+/* A hash by words, of which the last four bytes are one, or all of fewer. In each byte `bits` are set. */
+CONST_OID_INLINE uint32_t const_oid_hash(const uint8_t *bytes, size_t len, uint32_t bits) {
     uint32_t hash = 0, word = 0;
     size_t i;
     for (i = 0; i + 4 < len; i += 4) hash = (hash ^ (const_oid_word(bytes + i) | bits)) * 2654435769u;
     if (len >= 4) word = const_oid_word(bytes + len - 4);
     else for (i = len; i > 0; i--) word = word << 8 | bytes[i - 1];
-    return (hash ^ (word | bits)) * 2654435769u >> @SHIFT@;
+    return (hash ^ (word | bits)) * 2654435769u;
+}
+
+/* The slot of a hash among so many. */
+CONST_OID_INLINE size_t const_oid_slot(uint32_t hash, uint32_t slots) {
+    return (hash >> 16) * slots >> 16;
+}
+
+/* The length of a name, and its hash in any case of its letters. */
+CONST_OID_INLINE size_t const_oid_name_len(const char *name) {
+    size_t len = 0;
+#ifdef __GNUC__ /* Of a literal the compiler knows it. */
+    if (__builtin_constant_p(__builtin_strlen(name))) return __builtin_strlen(name);
+#endif
+    while (name[len] != 0 && name[len + 1] != 0) len += 2;
+    return len + (name[len] != 0);
+}
+
+CONST_OID_INLINE uint32_t const_oid_name_hash(const char *name, size_t len) {
+    return const_oid_hash(CONST_OID_BYTES(name), len, 0x20202020u);
 }
 
 /* Whether two characters are one letter in both cases. */
@@ -94,31 +112,5 @@ CONST_OID_INLINE int const_oid_is_same_name(const char *left, const char *right,
     return i == len;
 }
 
-/* The index of the first entry of the table that has a name, which is null-terminated, whatever the case of its
- * ASCII letters. CONST_OID_NAMES_COUNT if there is none. */
-CONST_OID_NODISCARD CONST_OID_INLINE size_t const_oid_by_name(const char *name) {
-    size_t len = 0, slot, index;
-#ifdef __GNUC__ /* Of a literal the compiler knows it. */
-    if (__builtin_constant_p(__builtin_strlen(name))) len = __builtin_strlen(name);
-#endif
-    while (name[len] != 0 && name[len + 1] != 0) len += 2;
-    len += name[len] != 0;
-    for (slot = const_oid_slot(CONST_OID_BYTES(name), len, 0x20202020u);; slot++) {
-        index = const_oid_names_by_hash[slot % @SLOTS@];
-        if (index == CONST_OID_NAMES_COUNT || (const_oid_name_lens[index] == len
-            && const_oid_is_same_name(const_oid_names[index], name, len))) return index;
-    }
-}
-
-/* The index of the first entry of an identifier, of its contents octets. CONST_OID_NAMES_COUNT if there is none, as for
- * invalid octets. */
-CONST_OID_NODISCARD CONST_OID_READS(1, 2) CONST_OID_INLINE size_t const_oid_name_of(const uint8_t *octets, size_t len) {
-    size_t slot, index;
-    for (slot = const_oid_slot(octets, len, 0);; slot++) {
-        index = const_oid_octets_by_hash[slot % @SLOTS@];
-        if (index == CONST_OID_NAMES_COUNT || (len > 0 && const_oid_name_octets[index].len == len
-            && !CONST_OID_DIFFER(const_oid_name_octets[index].octets, octets, len))) return index;
-    }
-}
-
+@SEARCHES@
 #endif

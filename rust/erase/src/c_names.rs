@@ -1,53 +1,96 @@
 //! The tables of names as headers of data for C.
 
-use crate::names::{Row, encoding, lines, octets, rows};
+use crate::names::{Row, encoding, escaped, lines, rows};
 
-/// The rows of a table without constants in `c_common_names.h`: the part of `c_names.h` below the constants, in which
-/// what is defined has names of its own.
-pub fn common_header(table: &str) -> String {
-    let header = header(table);
-    let part = &header[header.find("#define CONST_OID_NAMES_COUNT").unwrap()..header.rfind("#endif").unwrap()];
-    let part = part.replace("const_oid_", "const_oid_common_").replace("_common_octets ", "_octets ");
-    let part = part.replace("CONST_OID_NAMES_COUNT", "CONST_OID_COMMON_NAMES_COUNT");
-    include_str!("c_common_names.h").replace("@TABLE@\n", &part)
-}
+/// What finds entries in a table, here of `c_names.h`, and what it has in `c_common_names.h`.
+const SEARCHES: &str = include_str!("c_searches.h");
+const FOR_COMMON: [(&str, &str); 6] = [
+    ("@OF@", "common_"),
+    ("NAMES_COUNT", "COMMON_NAMES_COUNT"),
+    ("const_oid_names[index]", "const_oid_common_name(index)"),
+    ("const_oid_name_lens[index]", "const_oid_common_entries[index].name_len"),
+    ("const_oid_name_octets[index].len", "const_oid_common_entries[index].len"),
+    ("const_oid_name_octets[index]", "const_oid_common_octets(index)"),
+];
 
-/// The rows of a table in `c_names.h`. Those of an identifier or of a name stay in the order of the table.
-pub fn header(table: &str) -> String {
+/// A header with marks, filled with the rows of a table. Those of an identifier or of a name stay in the order of the
+/// table.
+pub fn header(marked: &str, table: &str) -> String {
     let rows = rows(table);
     let mut sorted: Vec<(usize, &Row)> = rows.iter().enumerate().collect();
     sorted.sort_by(|a, b| a.1.arcs.cmp(&b.1.arcs));
     let place = |row| sorted.iter().position(|entry| entry.0 == row).unwrap();
-    // At least one slot is free.
-    let slots = (rows.len() + 1).next_power_of_two();
-    let shift = 32 - slots.ilog2();
-    let by_name = rows.iter().enumerate().map(|(row, of)| (hash(of.name.as_bytes(), 32) >> shift, place(row)));
-    let by_octets = sorted.iter().enumerate().map(|(index, (_, row))| (hash(&encoding(&row.arcs), 0) >> shift, index));
-    let constant = |row: &Row| format!("CONST_OID_{}_{}", row.module.to_uppercase(), row.constant);
-    let literal = |row: &Row| format!("\"{}\"", octets(&row.arcs));
-    let value = |row: &Row| if row.constant.is_empty() { literal(row) } else { constant(row) };
-    let parts: [(&str, String); 10] = [
+    let encoded = Vec::from_iter(sorted.iter().map(|entry| encoding(&entry.1.arcs)));
+    let (bytes, octets_at) = parts(encoded.iter().map(|octets| (escaped(octets), octets.len())));
+    let names = sorted.iter().map(|entry| entry.1.name);
+    let (texts, names_at) =
+        parts(names.clone().map(|name| (name.escape_default().to_string() + "\\0", name.len() + 1)));
+    let by_name = rows.iter().enumerate().map(|(row, of)| (hash(of.name.as_bytes(), 32), place(row)));
+    let by_octets = encoded.iter().enumerate().map(|(index, octets)| (hash(octets, 0), index));
+    let constant = |row: &Row| {
+        let name = format!("CONST_OID_{}_{}", row.module.to_uppercase(), row.constant);
+        format!("#define {name} \"{}\"\n", escaped(&encoding(&row.arcs)))
+    };
+    let item = |(at, octets): (&usize, &Vec<u8>)| {
+        format!("{{const_oid_name_bytes[{}] + {}, {}}},", at / PART, at % PART, octets.len())
+    };
+    let entry = |index: usize| {
+        let lens = (sorted[index].1.name.len(), encoded[index].len());
+        format!("{{{}, {}, {}, {}}},", names_at[index], octets_at[index], lens.0, lens.1)
+    };
+    let common = |text: String, (of, by): (&str, &str)| text.replace(of, by);
+    let marks: [(&str, String); 14] = [
+        ("@SEARCHES@\n", SEARCHES.replace("@OF@", "")),
+        ("@COMMON_SEARCHES@\n", FOR_COMMON.into_iter().fold(SEARCHES.into(), common)),
         ("@COUNT@", rows.len().to_string()),
-        ("@ZEROS@", rows.iter().filter(|row| encoding(&row.arcs).contains(&0)).count().to_string()),
-        ("@CONSTANTS@", rows.iter().map(|row| format!("#define {} {}\n", constant(row), literal(row))).collect()),
-        ("@OCTETS@", lines(sorted.iter().map(|entry| format!("{{CONST_OID_OCTETS({})}},", value(entry.1))))),
-        ("@NAMES@", lines(sorted.iter().map(|entry| format!("{:?},", entry.1.name)))),
-        ("@NAME_LENS@", lines(sorted.iter().map(|entry| format!("{},", entry.1.name.len())))),
-        ("@SLOTS@", slots.to_string()),
-        ("@SHIFT@", shift.to_string()),
-        ("@BY_NAME@", by_hash(by_name, rows.len(), slots)),
-        ("@BY_OCTETS@", by_hash(by_octets, rows.len(), slots)),
+        ("@ZEROS@", encoded.iter().filter(|octets| octets.contains(&0)).count().to_string()),
+        ("@CONSTANTS@", rows.iter().map(constant).collect()),
+        ("@BYTES@", bytes),
+        ("@TEXTS@", texts),
+        ("@OCTETS@", lines(octets_at.iter().zip(&encoded).map(item))),
+        ("@NAMES@", lines(names.clone().map(|name| format!("{name:?},")))),
+        ("@NAME_LENS@", lines(names.map(|name| format!("{},", name.len())))),
+        ("@ENTRIES@", lines((0..rows.len()).map(entry))),
+        ("@SLOTS@", slots(rows.len()).to_string()),
+        ("@BY_NAME@", by_hash(by_name, rows.len())),
+        ("@BY_OCTETS@", by_hash(by_octets, rows.len())),
     ];
-    let filled = |header: String, (mark, text): (&str, String)| header.replace(mark, &text);
-    parts.into_iter().fold(include_str!("c_names.h").into(), filled)
+    marks.into_iter().fold(marked.into(), |header: String, (mark, text)| header.replace(mark, &text))
 }
 
-/// Hashes and indexes in `slots` slots for `c_names.h`: an index is in the first slot that is free from its hash on.
-fn by_hash(hashes: impl Iterator<Item = (u32, usize)>, free: usize, slots: usize) -> String {
-    let mut by_hash = vec![free; slots];
+/// The distance from one part to the next. Each has fewer bytes than a literal of C may have, and a zero.
+const PART: usize = 512;
+
+/// Literals of bytes, each with its length, in parts of at most 509 bytes, and once where they repeat. Also where each is.
+fn parts(items: impl Iterator<Item = (String, usize)>) -> (String, Vec<usize>) {
+    let (mut literals, mut places, mut end) = (Vec::<String>::new(), Vec::new(), 0);
+    for (literal, len) in items.map(|(literal, len)| (format!("\"{literal}\""), len)) {
+        if literals.last().is_none_or(|last| last.trim_end_matches(',') != literal) {
+            if end % PART + len > 509 {
+                end = end.next_multiple_of(PART);
+                literals.last_mut().unwrap().push(',');
+            }
+            literals.push(literal);
+            end += len;
+        }
+        places.push(end - len);
+    }
+    (lines(literals.into_iter()), places)
+}
+
+/// How many slots a table has for so many entries.
+fn slots(count: usize) -> usize {
+    count * 11 / 8
+}
+
+/// The indexes of entries by their hashes: each in the first slot that is free from its own on. The last one is free.
+fn by_hash(hashes: impl Iterator<Item = (u32, usize)>, count: usize) -> String {
+    let mut by_hash = vec![count; slots(count) + 1];
     for (hash, index) in hashes {
-        let slot = (hash as usize..).find(|slot| by_hash[slot % slots] == free);
-        by_hash[slot.unwrap() % slots] = index;
+        let own = ((hash >> 16) as usize * slots(count)) >> 16;
+        let slot = (own..).find(|slot| by_hash[*slot] == count).unwrap();
+        by_hash[slot] = index;
+        by_hash.resize(by_hash.len().max(slot + 2), count);
     }
     lines(by_hash.iter().map(|index| format!("{index},")))
 }

@@ -22,6 +22,8 @@ use table::Crate;
 const TABLE: &str = "rust/names.tsv";
 const COMMON_TABLE: &str = "rust/common_names.tsv";
 const FOR_C: &str = "crates/const_oid_c/src";
+const C_NAMES: &str = include_str!("c_names.h");
+const C_COMMON_NAMES: &str = include_str!("c_common_names.h");
 
 /// A path from the top of the repository, and the text of its file, or `None` of one that is to go.
 type File = (String, Option<String>);
@@ -90,10 +92,13 @@ fn generated() -> Result<Vec<File>> {
     let (table, common) = (read(TABLE)?, read(COMMON_TABLE)?);
     files.extend([
         file("rust/const-oid/src/db/names.rs", TABLE, &names::modules(&table)),
-        file("rust/const-oid/src/db/sorted.rs", TABLE, &names::sorted(&table)),
         file("rust/const-oid/src/db/common.rs", COMMON_TABLE, &names::common(&common)),
-        file("crates/const_oid_c/include/const_oid_names.h", TABLE, &c_names::header(&table)),
-        file("crates/const_oid_c/include/const_oid_common_names.h", COMMON_TABLE, &c_names::common_header(&common)),
+        file("crates/const_oid_c/include/const_oid_names.h", TABLE, &c_names::header(C_NAMES, &table)),
+        file(
+            "crates/const_oid_c/include/const_oid_common_names.h",
+            COMMON_TABLE,
+            &c_names::header(C_COMMON_NAMES, &common),
+        ),
         file("rust/const-oid-c/src/exports.rs", FOR_C, &laid_out(&calls::exports(&calls))?),
         file("crates/const_oid_c/tests/calls.h", FOR_C, &calls::list(&calls)),
     ]);

@@ -34,6 +34,7 @@ const UNSIZED: &str = "the crate's borrowed form is unsized, as in the crate of 
 const FOR_C: &str = "the library for C calls what the API has no function for";
 const BY_CORE: &str = "`core` compares slices by `memcmp`, which takes less time, and callers inline the call";
 const BOUNDS: &str = "a bound at no cost, where Rattle keeps the default of the trait";
+const TABLES: &str = "an identifier of a table is made of octets that are valid";
 const UNWRITTEN: &str = "in Rust no reference is to memory that C may not have written";
 
 pub const CRATES: &[Crate] = &[
@@ -122,6 +123,9 @@ pub const CRATES: &[Crate] = &[
             "buffer" body: "copy_to(octets, &mut buffer.bytes);"
                 => "crate::erased::parts::copy_by_octet(octets, &mut buffer.bytes);",
                 "it takes two hundred octets of flash less";
+            "buffer": "bytes: [u8; SIZE]," => "pub(crate) bytes: [u8; SIZE],", TABLES;
+            "buffer": "used: u8," => "pub(crate) used: u8,", TABLES;
+            "buffer": "aligned: [u32; 0]," => "pub(crate) aligned: [u32; 0],", TABLES;
             "buffer": "#[derive(Copy, Clone)]" => "#[derive(Copy, Clone, PartialEq, Eq)]", EQUALITY;
             "buffer": "impl<const SIZE: usize> PartialEq for Buffer<SIZE> {
                             // erase: another body
@@ -139,6 +143,7 @@ pub const CRATES: &[Crate] = &[
                             fn eq(&self, other: &Self) -> bool { self.ber.eq(&other.ber) }
                         }"
                 => "", EQUALITY;
+            "oid": "{ ber: Buffer<MAX_SIZE>, }" => "{\n pub(crate) ber: Buffer<MAX_SIZE>,\n }", TABLES;
             "oid": "pub fn try_from_ref" => "pub(crate) fn try_from_ref", "public as `TryFrom`";
             "oid" body: "ObjectIdentifierRef::from_checked(self.as_bytes())"
                 => "// SAFETY: the checker proves it of each buffer.

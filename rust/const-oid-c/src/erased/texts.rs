@@ -79,7 +79,7 @@ fn is_utf8(text: &[u8]) -> bool {
     has_no_high_bit(text) || str::from_utf8(text).is_ok()
 }
 
-/// The high bit of each byte of a word.
+/// The high bit of each byte of a word. That of `const_oid`, in windows, is not public.
 const HIGH: u64 = 0x8080_8080_8080_8080;
 
 /// Whether a text is ASCII, by words of eight bytes. The last one may overlap the one before it.

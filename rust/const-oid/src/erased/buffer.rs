@@ -20,11 +20,11 @@ pub(crate) const DEFAULT_CAPACITY: usize = 39;
 #[derive(Copy, Clone, PartialEq, Eq)]
 pub struct Buffer<const SIZE: usize> {
     // The octets that are not in use are zero, on which `eq` relies.
-    bytes: [u8; SIZE],
-    used: u8,
+    pub(crate) bytes: [u8; SIZE],
+    pub(crate) used: u8,
     // Empty: it sets the alignment alone. A buffer then has the alignment of an `Error`, so in a `Result` both begin at
     // the same offset. Without it, the compiler copies a `Result` in pieces that overlap, which takes more time.
-    aligned: [u32; 0],
+    pub(crate) aligned: [u32; 0],
 }
 
 impl<const SIZE: usize> Buffer<SIZE> {

@@ -64,7 +64,7 @@ const fn write_links(entries: &[Entry<'_>], key: Key, links: &mut [u16]) {
     }
 }
 
-/// The links of entries by a key. Only the cargo crate calls this: for the statics of `DB`.
+/// The links of entries by a key. Only a test of the cargo crate calls this, for both tables of names.
 pub(crate) const fn links_of<const SIZE: usize>(entries: &[Entry<'_>], key: Key) -> [u16; SIZE] {
     let mut links = [entries.len() as u16; SIZE];
     write_links(entries, key, &mut links);

@@ -39,7 +39,7 @@ use core::str::FromStr;
 /// ```
 #[derive(Copy, Clone, PartialEq, Eq, PartialOrd, Hash)]
 pub struct ObjectIdentifier<const MAX_SIZE: usize = DEFAULT_CAPACITY> {
-    ber: Buffer<MAX_SIZE>,
+    pub(crate) ber: Buffer<MAX_SIZE>,
 }
 
 /// An identifier of the default capacity, 39 octets.
