@@ -32,7 +32,7 @@ EXTENSION = "_native.abi3.so"
 SOURCES = ("__init__.py", "_native.pyi", "_support.py", "names.py", "py.typed", "sorted_map.py")
 PACKAGE = [*(HERE / "src/const_oid" / name for name in SOURCES), *(TOP / "rust" / name for name in TABLES)]
 LICENCES = ("LICENSE-APACHE", "LICENSE-MIT")
-ARCHIVED = ("backend.py", "pyproject.toml", "README.md", "src/native.c", *(f"src/const_oid/{name}" for name in SOURCES))
+ARCHIVED = ("backend.py", "pyproject.toml", "README.md", "src/*.[ch]", *(f"src/const_oid/{name}" for name in SOURCES))
 ARCHIVED_OF_TOP = (*LICENCES, "crates/const_oid_c/include/*.h", "rust/const-oid/README.md", "rust/const-oid*/Cargo.*")
 ARCHIVED_OF_TOP += ("rust/*names.tsv", "rust/const-oid*/*.rs", "rust/const-oid/examples/*.rs", "rust/const-oid*/src/**/*.rs")
 COMPILER = shlex.split(os.environ.get("CC", "")) or ["cc"]
@@ -109,7 +109,7 @@ def _compiled(config_settings):
     with tempfile.TemporaryDirectory() as temporary:
         include, library = _installed() if is_installed else _built(temporary)
         made = pathlib.Path(temporary, "made")
-        files = [f"-I{INCLUDE}", f"-I{include}", HERE / "src/native.c", library, "-o", made]
+        files = [f"-I{INCLUDE}", f"-I{include}", *sorted(HERE.glob("src/*.c")), library, "-o", made]
         _output(*COMPILER, *flags, *link, *files, *shlex.split(os.environ.get("LDFLAGS", "")))
         return made.read_bytes()
 

@@ -1,14 +1,16 @@
 """Prints times in nanoseconds, for one identifier of 9 octets and for 1,000 of them, beside those of pyasn1, asn1crypto
 and cryptography, as far as they are installed (Debian: python3-pyasn1, python3-asn1crypto, python3-cryptography), and
-those of a tuple of arcs.
+those of a tuple of arcs. Then those of a SortedMap of 1,000 and of 100,000 keys, beside a SortedDict of
+sortedcontainers and a dict, a key where a call takes all; and the octets that a key takes.
 
-It ends with status 1 if a row is slower here than in the fastest of these packages, aside from the text of asn1crypto,
-which it keeps. pyasn1 and asn1crypto encode and decode whole values, with tag and length.
+It ends with status 1 if a row is slower here than in the fastest of these packages, or than with a SortedDict, aside
+from the text of asn1crypto, which it keeps. pyasn1 and asn1crypto encode and decode whole values, with tag and length.
 """
 import contextlib
 import sys
 import time
 import timeit
+import tracemalloc
 
 # What each side has. If it has no name that a call needs, the cell is empty.
 SIDES = {
@@ -30,8 +32,6 @@ child, parent, arcs, from_arcs = lambda oid: (*oid, 7), lambda oid: oid[:-1], la
 SETUP = """text = "1.2.840.113549.1.1.11"
 oid, same, other = parse(text), parse(text), parse(text + ".1")
 oids = [parse(f"1.3.6.1.2.1.{index * 7919 % 1000}.{index % 7}") for index in range(1000)]"""
-MAP = """from const_oid import SortedMap
-table, new, one = SortedMap.fromkeys([*oids, oid], 1), oid.child(7), {oid: 1}"""
 # For each row, what it needs first, and its call.
 ROWS = {
     "text to identifier": ("", "parse(text)"),
@@ -47,22 +47,50 @@ ROWS = {
     "sorting 1,000": ("", "sorted(oids)"),
     "sorting 100,000": ('oids = [parse(f"1.3.{n * 7919 % 100_003}.{n % 7}") for n in range(100_000)]', "sorted(oids)"),
     "pickling 1,000": ("import pickle", "pickle.dumps(oids)"),
-    "a map: set, del": (MAP, "table[new] = 1; del table[new]"),
-    **{f"a map: {call}": (MAP, f"table{call}") for call in ("[oid] = 1", "[oid]", ".get(new)", ".nearest(new)")},
-    **{f"a map: {call}": (MAP, f"table{call}") for call in (".next_after(oid)", ".subtree(oid)", ".update(one)")},
     "unpickling 1,000": ("import pickle; pickled = pickle.dumps(oids)", "pickle.loads(pickled)"),
 }
 
+MAPS = {
+    "SortedMap": """from const_oid import SortedMap as kind
+after, near = lambda oid: table.next_after(oid), lambda oid: table.nearest(oid)""",
+    "SortedDict": """from sortedcontainers import SortedDict as kind
+after = lambda oid: table.peekitem(table.bisect_right(oid))""",
+    "dict": "kind = dict",
+}
+OF_MAP = """import collections, pickle
+from const_oid import ObjectIdentifier
+drain = collections.deque(maxlen=0).extend
+oids = [ObjectIdentifier(f"1.3.6.1.2.1.{index * 7919 % count}.{index % 7}") for index in range(count)]
+entries, others = dict.fromkeys(oids, 1), {key.child(8): 1 for key in oids}
+oid, last = oids[count // 2], ObjectIdentifier("2.999")
+new, one, ten, table = oid.child(7), {oid: 1}, dict.fromkeys(oids[:10], 1), kind(entries)
+pickled = pickle.dumps(table)"""
+CALLS = ["table[new] = 1; del table[new]", "table[new] = 1; table.pop(new)", "table[last] = 1; table.popitem()"]
+CALLS += ["table[oid] = 1", "table[oid]", "table.get(oid)", "table.get(new)", "oid in table", "new in table"]
+CALLS += ["table.setdefault(oid)", "table.pop(new, 0)", "table.update(one)", "table.update(ten)", "near(new)"]
+CALLS += ["after(oid)", "table.subtree(oid)"]
+OF_ALL = ["kind(entries)", "table.update(entries)", "kind(entries).update(others)"]
+OF_ALL += ["table.copy()", "pickle.dumps(table)", "pickle.loads(pickled)"]
+OF_ALL += [f"drain({way}(table{view}))" for view in ("", ".values()", ".items()") for way in ("iter", "reversed")]
 
-def timer_of(side, setup, call):
-    """What times a call, and None if the side has none."""
-    names = {}
+
+def timer_of(names, setup, call):
+    """What times a call with names, after what it needs, and None if the names lack some."""
     with contextlib.suppress(NameError, AttributeError, TypeError):
-        exec(f"{side}\n{SETUP}\n{setup}", names)
+        exec(setup, names)
         timer = timeit.Timer(call, timer=time.process_time, globals=names)
         timer.timeit(1)
         return timer
     return None
+
+
+def octets_of(names):
+    """How much memory a map takes for each key."""
+    tracemalloc.start()
+    made = names["kind"](names["entries"])
+    size = tracemalloc.get_traced_memory()[0]
+    tracemalloc.stop()
+    return size / len(made)
 
 
 def times_of(timers):
@@ -74,23 +102,44 @@ def times_of(timers):
 
 
 def print_row(row, cells):
-    print(f"{row:32}" + "".join(f"{cell:>20}" for cell in cells), flush=True)
+    print(f"{row:34}" + "".join(f"{cell:>20}" for cell in cells), flush=True)
+
+
+def found(sides):
+    """Those that are installed, with the names of each."""
+    for name, side in sides.items():
+        with contextlib.suppress(ImportError):
+            exec(side, {})
+            yield f"{name} {getattr(sys.modules.get(name.lower()), '__version__', '')}", side
+
+
+def slower_maps(count):
+    """Prints the rows of maps, and yields those in which a SortedDict is faster."""
+    sides = dict(found(MAPS))
+    spaces = [{"count": count} for _ in sides]
+    for side, names in zip(sides.values(), spaces):
+        exec(f"{side}\n{OF_MAP}", names)
+    print_row(f"\n{count:,} keys", sides)
+    for call in CALLS + OF_ALL:
+        times = times_of([timer_of(names, "", call) for names in spaces])
+        times = [time and time / (count if call in OF_ALL else 1) for time in times]
+        print_row(call, ["" if time is None else format(time, ",.0f") for time in times])
+        if len(times) == 3 and times[1] and times[0] > times[1]:
+            yield f"slower: {call}, {count:,} keys"
+    print_row("octets a key", [format(octets_of(names), ".1f") for names in spaces])
 
 
 def main():
-    found, slower = {}, []
-    for name, side in SIDES.items():
-        with contextlib.suppress(ImportError):
-            exec(side, {})
-            found[f"{name} {getattr(sys.modules.get(name), '__version__', '')}"] = side
-    print_row("", found)
+    sides, slower = dict(found(SIDES)), []
+    print_row("", sides)
     for row, (setup, call) in ROWS.items():
-        times = times_of([timer_of(side, setup, call) for side in found.values()])
+        times = times_of([timer_of({}, f"{side}\n{SETUP}\n{setup}", call) for side in sides.values()])
         print_row(row, ["" if time is None else format(time, ",.0f") for time in times])
         kept = "asn1crypto" if row == "identifier to text" else "tuple"
-        ours, *others = [time for name, time in zip(found, times) if time and not name.startswith(("tuple", kept))]
+        ours, *others = [time for name, time in zip(sides, times) if time and not name.startswith(("tuple", kept))]
         if others and ours > min(others):
             slower.append(f"slower: {row}")
+    slower += [row for count in (1000, 100_000) for row in slower_maps(count)]
     return "\n".join(slower) or None
 
 

@@ -1,27 +1,6 @@
 /* The extension module const_oid._native, for the stable ABI of Python 3.11. An identifier holds its contents octets,
  * and const_oid.h computes all but equality and prefixes. No state is here: each interpreter has its own module. */
-#define Py_LIMITED_API 0x030B0000
-#include <Python.h>
-#include <const_oid.h>
-#include <stddef.h>
-#include <string.h>
-#include <structmember.h>
-
-/* Functions of the Python that runs count references: macros, as # in formats, are for the Python of their header. */
-#undef Py_NewRef
-
-/* A reference that is given up at the end of its block, as GCC and clang do it. */
-static void give_up(PyObject **reference) { Py_DecRef(*reference); }
-#define OWNED __attribute__((cleanup(give_up))) PyObject
-
-typedef struct {
-    PyObject_HEAD
-    const_oid_octets items; /* those of `octets` */
-    PyObject *octets;       /* bytes that const_oid_check accepts */
-    PyObject *arcs;         /* a tuple, or NULL before its first use */
-    Py_ssize_t count;       /* how many arcs there are, or 0 before its first use */
-    PyObject *weak_references;
-} Identifier;
+#include "native.h"
 
 static const_oid_octets items_of(PyObject *bytes) {
     const_oid_octets items = {(const uint8_t *)PyBytes_AsString(bytes), (size_t)((PyVarObject *)bytes)->ob_size};
@@ -30,7 +9,7 @@ static const_oid_octets items_of(PyObject *bytes) {
 
 static const_oid_octets octets_of(PyObject *self) { return ((Identifier *)self)->items; }
 
-static void identifier_dealloc(PyObject *self) {
+void identifier_dealloc(PyObject *self) {
     Identifier *identifier = (Identifier *)self;
     PyTypeObject *type = Py_TYPE(self);
     if (identifier->weak_references) PyObject_ClearWeakRefs(self);
@@ -46,23 +25,19 @@ static int is_plain(PyTypeObject *type) {
 }
 
 /* ObjectIdentifier, of which a type is a subclass, or which it is. NULL if it is another type. */
-static PyTypeObject *base_of(PyTypeObject *type) {
-    while (type && !is_plain(type)) type = (PyTypeObject *)PyType_GetSlot(type, Py_tp_base);
-    return type;
-}
-
-static int is_identifier(PyObject *object) { return base_of(Py_TYPE(object)) != NULL; }
+static PyTypeObject *base_of(PyTypeObject *type) { return base_by(type, identifier_dealloc); }
 
 /* An attribute. Python's cache of methods would keep each name that is not interned. */
-static PyObject *attribute(PyObject *object, const char *name) {
+PyObject *attribute(PyObject *object, const char *name) {
     OWNED *interned = object ? PyUnicode_InternFromString(name) : NULL;
     return interned ? PyObject_GetAttr(object, interned) : NULL;
 }
 
-/* What a function of const_oid._support returns, which the module of a class, or of an identifier's, holds: an import
+/* What a function of const_oid._support returns, which the module of a class, or of an object's, holds: an import
  * would take the caller's __import__. It steals the arguments, a tuple. */
 static PyObject *call_support(PyObject *self, const char *name, PyObject *arguments) {
     PyTypeObject *type = base_of(PyType_Check(self) ? (PyTypeObject *)self : Py_TYPE(self));
+    if (!type) type = base_by(Py_TYPE(self), table_dealloc);
     OWNED *stolen = arguments, *support = stolen ? attribute(PyType_GetModule(type), "support") : NULL;
     OWNED *function = attribute(support, name);
     return function ? PyObject_CallObject(function, stolen) : NULL;
@@ -80,7 +55,7 @@ static PyObject *raise_status(PyObject *self, const_oid_status status, PyObject 
     return raise_by_support(self, "OidError", Py_BuildValue("IIO", status.code, status.detail, given));
 }
 
-static PyObject *raise_wrong_type(PyObject *self, const char *wanted, PyObject *given) {
+PyObject *raise_wrong_type(PyObject *self, const char *wanted, PyObject *given) {
     return raise_by_support(self, "wrong_type", Py_BuildValue("sO", wanted, given));
 }
 
@@ -184,12 +159,23 @@ static PyObject *identifier_from_bytes(PyObject *type, PyObject *given) {
     return status.code ? raise_status(type, status, octets) : make((PyTypeObject *)type, Py_NewRef(octets));
 }
 
+/* The most octets of an element that its error keeps, so that a loop over errors takes linear time. */
+#define KEPT_OCTETS 128
+
+/* Raises the error of the element that octets begin with. It keeps no view, which its caller may want to close. */
+static PyObject *raise_element(PyObject *type, const_oid_octets items, const_oid_status status) {
+    size_t len = items.len < KEPT_OCTETS ? items.len : KEPT_OCTETS;
+    if (len > 2 && items.octets[1] < len - 2) len = 2 + items.octets[1]; /* a length of one octet */
+    OWNED *kept = PyBytes_FromStringAndSize((const char *)items.octets, (Py_ssize_t)len);
+    return kept ? raise_status(type, status, kept) : NULL;
+}
+
 /* The identifier of the element that octets, with these items, begin with. What follows comes too, or is an error. */
 static inline PyObject *from_element(PyObject *type, PyObject *octets, const_oid_octets items, int is_whole) {
     const_oid_octets contents = {NULL, 0};
     const_oid_status status = const_oid_from_der(items.octets, items.len, &contents);
     if (is_whole && !status.code && status.len < items.len) status.code = CONST_OID_NO_ELEMENT;
-    if (status.code) return raise_status(type, status, octets);
+    if (status.code) return is_whole ? raise_status(type, status, octets) : raise_element(type, items, status);
     PyObject *oid = PyBytes_FromStringAndSize((const char *)contents.octets, (Py_ssize_t)contents.len);
     oid = make((PyTypeObject *)type, oid);
     if (is_whole || !oid) return oid;
@@ -203,8 +189,7 @@ static inline PyObject *from_copy(PyObject *type, PyObject *given, int is_whole)
 
 static PyObject *identifier_from_der(PyObject *type, PyObject *given) { return from_copy(type, given, 1); }
 
-/* The rest of a memoryview of bytes in a row is one, and an error has one, so that a loop over elements copies their
- * octets alone. */
+/* The rest of a memoryview of bytes in a row is one, so that a loop over elements copies their octets alone. */
 static PyObject *identifier_read_der(PyObject *type, PyObject *given) {
     Py_buffer view;
     if (!PyMemoryView_Check(given)) return from_copy(type, given, 0);
@@ -392,9 +377,22 @@ static PyObject *identifier_iter(PyObject *self) {
     return arcs ? PyObject_GetIter(arcs) : NULL;
 }
 
+/* A bound, as tuple.index takes it. */
+static int read_bound(PyObject *item, void *bound) {
+    *(Py_ssize_t *)bound = PyNumber_AsSsize_t(item, NULL);
+    return !PyErr_Occurred();
+}
+
+/* The call of a tuple would speak of a tuple, and its ValueError may be that of a comparison. */
 static PyObject *identifier_index(PyObject *self, PyObject *arguments) {
-    OWNED *method = attribute(arcs_of(self), "index");
-    return method ? PyObject_CallObject(method, arguments) : NULL;
+    PyObject *arcs = arcs_of(self), *arc;
+    Py_ssize_t index = 0, end = PTRDIFF_MAX;
+    if (!arcs || !PyArg_ParseTuple(arguments, "O|O&O&:index", &arc, read_bound, &index, read_bound, &end)) return NULL;
+    for (PySlice_AdjustIndices(PyTuple_Size(arcs), &index, &end, 1); index < end; index++) {
+        int is_equal = PyObject_RichCompareBool(PyTuple_GetItem(arcs, index), arc, Py_EQ);
+        if (is_equal) return is_equal < 0 ? NULL : PyLong_FromSsize_t(index);
+    }
+    return raise_by_support(self, "not_among", Py_BuildValue("(O)", arc));
 }
 
 static PyObject *identifier_count(PyObject *self, PyObject *arc) {
@@ -490,8 +488,8 @@ static PyMethodDef identifier_methods[] = {
     {"read_der", identifier_read_der, METH_O | METH_CLASS,
         "read_der($type, octets, /)\n--\n\n"
         "Decodes the element that octets begin with, and returns the identifier and the octets after it. Those of a\n"
-        "contiguous memoryview of bytes are another one and no copy, and an error keeps one, so that a loop takes\n"
-        "linear time.\n\n"
+        "contiguous memoryview of bytes are another one and no copy. An error has the octets of the element, at most\n"
+        "128, so that a loop takes linear time.\n\n"
         ">>> ObjectIdentifier.read_der(b\"\\x06\\x03\\x2a\\x86\\x48\\x05\\x00\")\n"
         "(ObjectIdentifier('1.2.840'), b'\\x05\\x00')"},
     {"from_arcs", identifier_from_arcs, METH_O | METH_CLASS,
@@ -594,7 +592,7 @@ static int module_exec(PyObject *module) {
     /* Nobody can set an attribute of the class, which has its last ones here. By ndim, pandas takes it as one value. */
     OWNED *last = Py_BuildValue("{s(s)si}", "__match_args__", "arcs", "ndim", 0);
     OWNED *attributes = type ? PyObject_GenericGetDict(type, NULL) : NULL;
-    if (!text || !last || !attributes || PyDict_Update(attributes, last)) return -1;
+    if (!text || !last || !attributes || PyDict_Update(attributes, last) || add_tables(module)) return -1;
     return PyModule_AddObjectRef(module, "__version__", text) ? -1 : PyModule_AddType(module, (PyTypeObject *)type);
 }
 

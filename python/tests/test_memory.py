@@ -2,7 +2,7 @@
 compiler, also what they read and write."""
 import copy
 import gc
-import importlib.util
+import itertools
 import operator
 import pickle
 import sys
@@ -11,9 +11,10 @@ import unittest
 from unittest import mock
 
 import const_oid
+import test_tables
 from const_oid import Code, ObjectIdentifier, OidError, SortedMap, _support
+from test_tables import KEYS, _testcapi, readings, without_memory
 
-_testcapi = importlib.util.find_spec("_testcapi") and importlib.import_module("_testcapi")
 # Short and long octets, of arcs that differ and are no small integers: the last have ten digits.
 OCTETS = {
     "short": bytes.fromhex("2A8648CE3D0201"),
@@ -23,16 +24,15 @@ OCTETS = {
 }
 OTHER = ObjectIdentifier("1.2")
 WRONG = b"\x80\x01"
-
-
 # Python 3.12 counts no references to a literal.
 Under = type("".join(("Un", "der")), (ObjectIdentifier,), {})
 UNDER, GIVEN = Under("1.2.3"), (OTHER,)
 
+
 def raised(call, *given):  # assertRaises ends Python 3.12 where there is no memory
     try:
         call(*given)
-    except (OidError, ValueError, TypeError, OverflowError) as error:
+    except (OidError, ValueError, TypeError, OverflowError, RuntimeError) as error:
         assert getattr(error, "code", None) != Code.NOT_UTF8 or "\ud800" in error.given, "the text is UTF-8"
         return
     raise AssertionError("there is no error")
@@ -80,14 +80,14 @@ OF_FRESH = {
     "order": lambda oid: (oid < OTHER, oid == OTHER, oid != "1.2", Under(oid) >= OTHER, raised(operator.lt, oid, 1)),
     "hash": lambda oid: ({oid: 1}, hash(Under(oid))),
     "sequence": lambda oid: (len(oid), oid[-1], oid[1:], list(oid), oid.count(1), raised(operator.getitem, oid, "")),
-    "index": lambda oid: (oid.index(oid[2]), raised(oid.index, 7 * 10**9), raised(oid.index)),
+    "index": lambda oid: (oid.index(oid[2], -len(oid)), raised(oid.index, 7 * 10**9), raised(oid.index)),
     "in": lambda oid: (oid[2] in oid, int("70000") in oid, "1" in oid),
     "copies": lambda oid: (copy.copy(oid), copy.deepcopy(oid)),
     "copies of a subclass": lambda oid: (copy.copy(UNDER), copy.deepcopy(UNDER), copy.deepcopy(Under(oid))),
     "finalizer": asked,
     "hooks": hooked,
     "pickles": lambda oid: pickle.loads(pickle.dumps((oid, UNDER, Under(oid)))),
-    "map": lambda oid: (SortedMap({oid: 1}).nearest(oid.child(1)), SortedMap({oid: 1}).next_after(OTHER)),
+    "map": lambda oid: (SortedMap({oid: 1, OTHER: 2}).nearest(oid.child(1)), SortedMap({oid: 1}).next_after(OTHER)),
 }
 CALLS = {
     f"{name}, {kind}": lambda call=call, octets=octets: call(ObjectIdentifier.from_bytes(octets))
@@ -99,24 +99,46 @@ CALLS |= {
     "wrong error": lambda: (raised(OidError, 4, 2**32), raised(OidError, 2**70, 0), raised(OidError, "4", 0)),
 }
 
+
+# Calls of a map. Without memory, Python 3.12 ends where it makes a function.
+NEW = itertools.repeat(GIVEN).__next__
+MAPS = {"readings": lambda table, *_: readings(table), **test_tables.CALLS}
+MAPS["in a cycle"] = lambda table, *_: table.update([*zip(KEYS, (table, iter(table), table.items(), reversed(table)))])
+MAPS["many"] = lambda table, *_: table.update([(KEYS[7].child(arc), GIVEN) for arc in range(600)])
+MAPS["many"] = lambda table, *_, set_many=MAPS["many"]: (set_many(table), [table.popitem() for _ in range(600)])
+MAPS |= {"wrong keys": lambda table, *_: [raised(call, "2.5") for call in (table.get, table.pop, table.nearest)]}
+MAPS |= {"wrong entries": lambda table, *_: [raised(table.update, [(OTHER, 1), it]) for it in ((1, 2), (1,), 1)]}
+MAPS["value"] = lambda table, key, _: table.setdefault(key(0))
+MAPS |= {"missing": lambda table, key, _: (table.get(key(1)), table.get(key(1), GIVEN), table.pop(key(1), GIVEN))}
+MAPS |= {"none": lambda table, key, _: (table.nearest(OTHER), table.next_after(key(7)), table.subtree(OTHER))}
+MAPS |= {"over": lambda table, *_: raised(next, iter(table.items()), table.clear())}
+CALLS |= {
+    f"{name}, map": lambda call=call: call(SortedMap(zip(KEYS[::2], 4 * [GIVEN])), KEYS.__getitem__, NEW)
+    for name, call in MAPS.items()
+}
+
 # What raises an exception in a function of Python, which may be lost where there is no memory.
 IN_PYTHON = ("copies of", "finalizer", "hooks", "pickles", "error", "wrong error")
 KEPT = [ObjectIdentifier, Under, OidError, UNDER, GIVEN, OTHER, bytes(OTHER), WRONG, str, tuple, const_oid, _support]
-KEPT += [*OCTETS.values(), ObjectIdentifier.__name__, Under.__name__, None, True, False, NotImplemented, b"*", b"", 1]
+KEPT += [SortedMap, type(iter(SortedMap())), *KEYS, *OCTETS.values()]
+KEPT += [ObjectIdentifier.__name__, Under.__name__, None, True, False, NotImplemented, b"*", b"", 1]
+HELD = 6000 * KEPT  # so that a reference given up too often frees none
 
 
 def measured():
+    """Octets in use, references of all objects, which a debug build counts, and those of each that is kept."""
     gc.collect()
-    return tracemalloc.get_traced_memory()[0], [sys.getrefcount(value) for value in KEPT]
+    counts = [sys.getrefcount(value) for value in KEPT]
+    return tracemalloc.get_traced_memory()[0], getattr(sys, "gettotalrefcount", int)(), counts
 
 
 def keeps_nothing(call):
-    """Whether 200 calls keep less than 16 bytes each, and no reference."""
-    before, counts = measured()
-    for _ in range(200):
+    """Whether 100 calls keep less than 16 bytes each, and no reference."""
+    before, references, counts = measured()
+    for _ in range(100):
         call()
-    after, others = measured()
-    return after - before < 200 * 16 and counts == others
+    after, others, counts_after = measured()
+    return after - before < 100 * 16 and abs(others - references) < 100 and counts == counts_after
 
 
 class Memory(unittest.TestCase):
@@ -127,6 +149,8 @@ class Memory(unittest.TestCase):
     def test_functions_keep_no_memory(self):
         tracemalloc.start()
         self.addCleanup(tracemalloc.stop)
+        gc.freeze()  # what is there takes no time in a collection
+        self.addCleanup(gc.unfreeze)
         for name, call in CALLS.items():
             with self.subTest(name):
                 # The first rounds also fill caches of Python.
@@ -137,16 +161,6 @@ class Memory(unittest.TestCase):
         """A call whose n-th allocation fails raises MemoryError, for each n, or has its result without it."""
         for name, call in CALLS.items():
             with self.subTest(name):
-                wanted, others = call(), []
-                number = last = 0
-                # The last allocation is before ten numbers without an error.
-                while number < last + 10 and not name.startswith(IN_PYTHON):
-                    _testcapi.set_nomemory(number, number + 1)
-                    try:
-                        others += [number] * (call() != wanted)
-                    except MemoryError:
-                        last = number
-                    finally:
-                        _testcapi.remove_mem_hooks()
-                    number += 1
-                self.assertEqual([], others)
+                wanted = call(), MemoryError
+                for _, found in () if name.startswith(IN_PYTHON) else without_memory(lambda _: call(), int, tuples=0):
+                    self.assertIn(found, wanted)

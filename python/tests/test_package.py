@@ -23,7 +23,7 @@ from test_values import Under, error_of, is_linear
 
 HERE = pathlib.Path(__file__).resolve().parent
 TOP = HERE.parents[1]
-STUB = (TOP / "python/src/const_oid/_native.pyi").read_text(encoding="utf-8")
+STUB = (TOP / "python/src/const_oid/_native.pyi").read_text(encoding="utf-8").split("class Table(")[0]
 HEADER = (TOP / "crates/const_oid_c/include/const_oid.h").read_text(encoding="utf-8")
 
 
@@ -147,6 +147,9 @@ class Package(unittest.TestCase):
         self.assertEqual("by_name common_entries display entries name_of names_of parse", " ".join(names.__all__))
         methods = "arcs child count der from_arcs from_bytes from_der index ndim parent read_der starts_with"
         self.assertEqual(methods.split(), [name for name in dir(ObjectIdentifier) if not name.startswith("_")])
+        self.assertEqual(0, ObjectIdentifier("2.5").ndim)
+        for call in (names.entries, names.common_entries):
+            self.assertIs(call(), call())
         self.assertEqual({"const_oid"}, {value.__module__ for value in (ObjectIdentifier, OidError, Code)})
         self.assertEqual((Code.EMPTY, 5, set(Code.__members__)), (Code(5), Code.EMPTY, set(dir(Code))))
         self.assertLess({"code", "detail", "given", "piece"}, set(dir(OidError)))
@@ -171,7 +174,7 @@ class Package(unittest.TestCase):
             self.assertNotIn(text, said)
 
     def test_functions_have_examples(self):
-        for owner in (names, ObjectIdentifier, OidError, SortedMap):
+        for owner in (names, ObjectIdentifier, OidError, SortedMap, SortedMap.__base__):
             for name in getattr(owner, "__all__", [name for name in vars(owner) if not name.startswith("_")]):
                 value = getattr(owner, name, None)
                 if callable(value) or isinstance(value, (property, types.GetSetDescriptorType)):

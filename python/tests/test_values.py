@@ -1,6 +1,6 @@
 """ObjectIdentifier and OidError as values of Python: their inputs, copies, pickles and interpreters."""
 import array
-import collections.abc
+import collections
 import concurrent.futures
 import copy
 import copyreg
@@ -21,7 +21,7 @@ import weakref
 from unittest import mock
 
 import const_oid
-from const_oid import Code, ObjectIdentifier, OidError, _native
+from const_oid import Code, ObjectIdentifier, OidError, SortedMap, _native
 
 from_bytes, from_der, from_arcs = ObjectIdentifier.from_bytes, ObjectIdentifier.from_der, ObjectIdentifier.from_arcs
 OID = ObjectIdentifier("1.2.840.10045.2.1")
@@ -98,6 +98,8 @@ REJECTED = [
     (TypeError, "", from_der, ["2.999", None, 42, [6, 1, 42], OID, array.array("B", [6, 1, 42])]),
     (TypeError, "", from_arcs, ["", "12", b"\1\2", bytearray(b"\1"), memoryview(b"\1\2"), None, 1, [1, "2"]]),
     (TypeError, "", from_arcs, [{1: 2, 2: 3}, [1.0, 2], *((1, 2**32, arc) for arc in ("3", 2.0, None))]),
+    (TypeError, "arcs must be an iterable of int, not collections.OrderedDict", from_arcs,
+        [collections.OrderedDict({1: 2, 2: 3})]),
     (TypeError, "", OID.__format__, [b"", None]),
     (TypeError, "specification must be a str, not int", OID.__format__, [5]),
     (TypeError, "", OID.child, ["1", 1.0, None, OID]),
@@ -122,8 +124,13 @@ REJECTED = [
     (ValueError, "an arc is negative: -2", from_arcs, [(1, -2)]),
     (ValueError, "an arc is negative: -2", OID.child, [-2]),
     (ValueError, "an arc is negative", OID.child, [-(10**5000)]),
-    (ValueError, "", OID.index, [3]),
-    (ValueError, "", lambda stop: OID.index(2, 0, stop), [1]),
+    *((ValueError, f"{text} is not among the arcs", OID.index, [arc]) for text, arc in [("9", 9), ("'1'", "1")]),
+    (ValueError, "2 is not among the arcs", lambda stop: OID.index(2, 0, stop), [1]),
+    (TypeError, "", lambda start: OID.index(2, start), [None, "0", 1.0]),
+    *((KeyError, repr(OID), getattr(SortedMap(), name), [OID]) for name in ("__delitem__", "__getitem__", "pop")),
+    (TypeError, "", lambda pairs: SortedMap() | pairs, [[], [(OID, 1)], iter([(OID, 1)])]),
+    (TypeError, "oid must be an ObjectIdentifier, not test_values.Arcs", const_oid.names.name_of,
+        [type("Arcs", (), {"arcs": OID.arcs})()]),
     (IndexError, "", lambda index: OID[index], [6, -7, 10**50, index()]),
     *((IndexError, "own", call, [RAISING]) for call in (OID.__getitem__, OID.child)),
     *((ValueError, "own", call, [RAISING]) for call in (OID.index, OID.count)),
@@ -192,20 +199,27 @@ class Inputs(unittest.TestCase):
             self.assertIs(view.obj, ObjectIdentifier.read_der(view)[1].obj)
         self.assertIs(TypeError, type(error_of(ObjectIdentifier.read_der, memoryview(array.array("H", [0x106, 42])))))
 
-    def test_an_error_keeps_the_view(self):
-        """An error has a view, also if the caller's is released, and says what that of bytes does, as its copies do."""
-        for octets in (b"\6\2\x2a", b"\6\0" + bytes(59), b"\6\1\x80" + bytes(range(200)), b"\7" + bytes(117), b"\6"):
-            view = memoryview(bytearray(octets))
-            error, wanted = error_of(ObjectIdentifier.read_der, view), error_of(ObjectIdentifier.read_der, octets)
-            self.assertIs(view.obj, error.given.obj)
-            view.release()
-            found = [(str(one), repr(one), one.args, bytes(one.given)) for one in (wanted, error, *copies_of(error))]
-            self.assertEqual({found[0]}, set(found))
+    def test_an_error_keeps_octets_of_the_element(self):
+        """It has at most 128, and no buffer of the caller, and says the same of a view and of bytes."""
+        found = {b"\6\2\x2a": 3, b"\6\0" + bytes(59): 2, b"\6\1\x80" + bytes(range(200)): 3, b"\7" + bytes(117): 2,
+                 b"\6": 1, b"\6\0": 2, b"\6\x7d\x80" + bytes(126): 127, b"\6\x7e\x80" + bytes(126): 128,
+                 b"\6\x7f\x80" + bytes(126): 128, b"\6\x80\x2a": 3, b"\6\x81\xc8\x80" + bytes(250): 128}
+        for octets, count in found.items():
+            views = memoryview(buffer := bytearray(octets)), memoryview(octets[::-1])[::-1]
+            views = [*views, memoryview(octets).cast("B", [1, len(octets)])]
+            for error in [error_of(ObjectIdentifier.read_der, given) for given in (octets, buffer, *views)]:
+                self.assertEqual((bytes, octets[:count]), (type(error.given), error.given))
+                self.assertEqual({str(error)}, {str(other) for other in copies_of(error)})
+            views[0].release()
+            del buffer[:]
+            self.assertTrue(str(error).endswith(", given " + const_oid.shown(octets[:count])), error)
 
     def test_arcs_come_from_any_iterable(self):
         """Arcs are those of a list before it changes, and no other call comes between them."""
         self.assertEqual((2, 999, 1), ObjectIdentifier.from_arcs(iter([2, index(), True])).arcs)
-        self.assertEqual((2, 5, 999), ObjectIdentifier("2.5").child(index()).arcs)
+        self.assertEqual((2, 5, 999), ObjectIdentifier("2.5").child(index(own := mock.Mock())).arcs)
+        self.assertEqual((2, 999), ObjectIdentifier.from_arcs([2, index(own)]).arcs)
+        self.assertEqual(2, own.call_count)
         self.assertEqual((2, 5), ObjectIdentifier.from_arcs(ObjectIdentifier("2.5")).arcs)
         for change in ("clear", "pop", "reverse"):
             arcs = [2]
@@ -314,7 +328,7 @@ class Values(unittest.TestCase):
     def test_copies_are_equal_and_of_one_class(self):
         for oid in (OID, LONG, Under("2.999")):
             for other in [*copies_of(oid), copy.copy(oid)]:
-                self.assertEqual((oid, oid.arcs, hash(oid)), (other, other.arcs, hash(other)))
+                self.assertEqual((oid, oid.arcs, hash(bytes(oid))), (other, other.arcs, hash(other)))
                 self.assertIs(type(oid), type(other))
         self.assertEqual(("Under('2.999')", True, False), (repr(Under("2.999")), Under(OID) == OID, Under(OID) < OID))
         self.assertEqual({OID: 1}, {Under(OID): 1})

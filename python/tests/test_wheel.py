@@ -156,10 +156,10 @@ class Wheel(unittest.TestCase):
     def test_the_source_asks_for_the_limited_api(self):
         """Python's headers declare what the stable ABI of 3.11 has, as the tag says; the source uses nothing else."""
         folders = [f"-I{backend.INCLUDE}", f"-I{TOP / 'crates/const_oid_c/include'}"]
-        command = [*backend.COMPILER, "-std=c11", *folders, TOP / "python/src/native.c"]
+        command = [*backend.COMPILER, "-std=c11", *folders, *(TOP / "python/src").glob("*.c")]
         self.assertIn("#define Py_LIMITED_API 0x030B0000\n", backend._output(*command, "-E", "-dM"))
         # Macros of a header are for its own Python, and so is a # in a format.
-        source = (TOP / "python/src/native.c").read_text(encoding="utf-8")
+        source = "".join(path.read_text(encoding="utf-8") for path in (TOP / "python/src").glob("*.[ch]"))
         self.assertNotRegex(source, r'Py_(X?(INC|DEC|SET)REF|XNewRef|CLEAR|RETURN_\w+)[(;]|"[^"\n]*\w#')
         backend._output(*command, "-Wall", "-Wextra", "-Werror", "-fsyntax-only")
 
@@ -171,7 +171,8 @@ class Wheel(unittest.TestCase):
         wanted = f"""{backend.RUSTC} -vV
 cargo build --quiet --release --locked --offline --target this --target-dir @ --manifest-path {backend.CRATE}
 {" ".join(backend.COMPILER)} -std=c11 -O2 -fPIC -fno-plt -fvisibility=hidden -g -shared -Wl,--exclude-libs,ALL -s \
--I{backend.INCLUDE} -I{backend.HEADER.parent} {TOP}/python/src/native.c @/this/release/libconst_oid_c.a -o @/made -L."""
+-I{backend.INCLUDE} -I{backend.HEADER.parent} {TOP}/python/src/native.c {TOP}/python/src/table.c \
+@/this/release/libconst_oid_c.a -o @/made -L."""
         folder = said[1][said[1].index("--target-dir") + 1]
         self.assertEqual(wanted.replace("@", folder).split("\n"), [" ".join(map(str, call)) for call in said])
 

@@ -44,11 +44,11 @@ The library const_oid_c computes each result but equality and prefixes. Identifi
 
 import enum
 import re
-import reprlib
 from typing import Any, cast
 
 from . import _native, _support, names
 from ._native import ObjectIdentifier, __version__, error_text, wrong_component
+from ._support import shown
 from .sorted_map import SortedMap
 
 __all__ = ["Code", "ObjectIdentifier", "OidError", "SortedMap", "__version__", "names"]
@@ -107,7 +107,7 @@ class OidError(ValueError):
 
     code = cast(Code, _Field("code", "Why: one of `const_oid.Code`, which are numbers."))
     detail = cast(int, _Field("detail", "The arc with `ARC_INVALID`, the byte with `DIGIT_EXPECTED`, and else 0."))
-    given = cast(object, _Field("given", "The text, octets, arcs or arc that was passed, or None."))
+    given = cast(object, _Field("given", "The text, octets (of read_der 128 of the element), arcs or arc, or None."))
 
     def __init__(self, code: int, detail: int = 0, given: object = None) -> None:
         super().__init__(code, detail)
@@ -127,30 +127,25 @@ class OidError(ValueError):
     def __str__(self) -> str:
         text = error_text(self.code, self.detail) or f"{self.code.name} {self.detail}"
         given = self.given if isinstance(self.given, str) else ""
-        if self.code is Code.EMPTY and self.given and not isinstance(self.given, bytes | memoryview):
+        if self.code is Code.EMPTY and self.given and not isinstance(self.given, bytes):
             text = "an identifier has two arcs or more"
-        elif self.code is Code.NO_ELEMENT and isinstance(self.given, bytes | memoryview):
+        elif self.code is Code.NO_ELEMENT and isinstance(self.given, bytes):
             text = _fault_of_element(self.given)
         elif self.code is Code.DIGIT_EXPECTED and self.detail < 256:
             character = re.search("[^\0-\x7f]", given) if self.detail > 127 else None
             text = text.replace(chr(self.detail), repr(character[0] if character else chr(self.detail))[1:-1])
             if re.match(r"\.[0-9]", given):
                 text += " (remove the first dot)"
-        return text if self.given is None else f"{text}, given {_SHOWN.repr(self.given)}"
+        return text if self.given is None else f"{text}, given {shown(self.given)}"
 
     def __repr__(self) -> str:
-        given = "" if self.given is None else f", {_SHOWN.repr(self.given)}"
+        given = "" if self.given is None else f", {shown(self.given)}"
         return f"{type(self).__name__}(Code.{self.code.name}, {self.detail}{given})"
 
-    def __reduce__(self) -> Any:
-        """For copies and pickles, which have the octets of a view."""
-        view, parts = vars(self).get("given"), super().__reduce__()
-        return (*parts[:2], {**vars(self), "given": bytes(view)}) if isinstance(view, memoryview) else parts
 
-
-def _fault_of_element(octets: bytes | memoryview) -> str:
+def _fault_of_element(octets: bytes) -> str:
     """Why octets are not one whole element of DER."""
-    if bytes(octets[:1]) != b"\6":
+    if octets[:1] != b"\6":
         return "the tag is not 6"
     try:
         ObjectIdentifier.read_der(octets)
@@ -158,13 +153,6 @@ def _fault_of_element(octets: bytes | memoryview) -> str:
         return "the length is not in the form of DER, or octets are missing"
     return "octets come after the element"
 
-
-# Shows a value as repr does, but cut if it is long. An int of more digits than Python prints is no error.
-_SHOWN = reprlib.Repr()
-setattr(_SHOWN, "repr_int", _SHOWN.repr_instance)
-_SHOWN.maxstring = _SHOWN.maxother = 60
-_SHOWN.maxtuple = 12
-setattr(_SHOWN, "repr_memoryview", lambda view, _: _SHOWN.repr(bytes(view[:60]) + bytes(view[60:][-60:])))
 
 # The extension module holds the first ones, whatever happens to sys.modules. No lazy import outlives this use.
 vars(_support).setdefault("OidError", OidError)

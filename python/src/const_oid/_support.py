@@ -3,6 +3,7 @@
 import copy
 import copyreg
 import importlib
+import reprlib
 import sys
 from collections.abc import Sequence
 from types import SimpleNamespace
@@ -20,6 +21,13 @@ OF_OCTETS.update((kind, "bytes takes octets as numbers") for kind in (tuple, lis
 # By an attribute that identifiers of cryptography, asn1crypto or pyasn1 have.
 OF_OTHERS = {"dotted_string": "its .dotted_string", "dotted": "its .dotted", "isPrefixOf": "its str()"}
 
+# Shows a value as repr does, but cut if it is long. An int of more digits than Python prints is no error.
+_SHOWN = reprlib.Repr()
+setattr(_SHOWN, "repr_int", _SHOWN.repr_instance)
+_SHOWN.maxstring = _SHOWN.maxother = 60
+_SHOWN.maxtuple = 12
+shown = _SHOWN.repr
+
 
 def wrong_type(wanted: str, given: object) -> TypeError:
     """The error for a value of another type, which says what makes an identifier of it, if that is known."""
@@ -28,6 +36,11 @@ def wrong_type(wanted: str, given: object) -> TypeError:
     hints = [f"ObjectIdentifier takes {text}" for field, text in OF_OTHERS.items() if hasattr(kind, field)]
     hint = next(iter(hints), (OF_OCTETS if wanted.startswith("octets") else HINTS).get(kind))
     return TypeError(f"{wanted}, not {name}" + (f" ({hint})" if hint else ""))
+
+
+def not_among(arc: object) -> ValueError:
+    """The error of an index."""
+    return ValueError(f"{shown(arc)} is not among the arcs")
 
 
 def required(oid: object, name: str) -> ObjectIdentifier:

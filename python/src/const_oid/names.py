@@ -1,16 +1,15 @@
 """Names of identifiers: 1,492 entries from RFCs and other documents, which lead, and 4,502 others that people type.
 
 The others are of OpenSSL, MIBs, Microsoft and others. The case of ASCII letters does not matter, and blanks in a name
-do. Since documents lead, `DSA`, `deltaCRL`, `documentSeries`, `id-alg`, `Mail`, `uid`, `tcg-at-platformModel` and
-`tcg-at-platformVersion` are other identifiers than in OpenSSL, and `host` another than in HOST-RESOURCES-MIB:
-`common_entries` has theirs. And of two identifiers that documents call `id-mod`, `id-alg` or `hashAlgs`, the first is
-found.
+do. Since documents lead, some names, such as `DSA` and `host`, are other identifiers than in OpenSSL or a MIB:
+`common_entries` has theirs, and rust/README.md lists them. And of two identifiers that documents call `id-mod`,
+`id-alg` or `hashAlgs`, the first is found.
 
 >>> parse("SNMPv2-MIB::sysUpTime.0"), display(parse(".1.3.6.1.2.1.1.3.0"))
 (ObjectIdentifier('1.3.6.1.2.1.1.3.0'), 'sysUpTime.0')
 """
 
-import pathlib
+import os
 import re
 from functools import cache
 
@@ -21,11 +20,22 @@ from .sorted_map import SortedMap
 __all__ = ["by_name", "common_entries", "display", "entries", "name_of", "names_of", "parse"]
 
 _PREFIX = re.compile(r"(?ai)OID\.|urn:oid:|\.|[A-Z][A-Z0-9-]*::|")
+TABLES = ("names.tsv", "common_names.tsv")
 
 
-def _read(file: str) -> tuple[tuple[ObjectIdentifier, str], ...]:
-    lines = pathlib.Path(__file__).with_name(file).read_text(encoding="utf-8").splitlines()
-    return tuple((ObjectIdentifier(text), name) for _, _, text, name in (line.split("\t") for line in lines))
+def _columns(*tables: str) -> tuple[list[bytes], list[bytes]]:
+    """The arcs and the names of all rows."""
+    rows = b""
+    for table in tables:
+        with open(os.path.join(os.path.dirname(__file__), table), "rb") as file:
+            rows += file.read()
+    fields = rows.replace(b"\n", b"\t").split(b"\t")
+    return fields[2::4], fields[3::4]
+
+
+def _read(*tables: str) -> tuple[tuple[ObjectIdentifier, str], ...]:
+    arcs, names = (map(bytes.decode, column) for column in _columns(*tables))
+    return tuple(zip(map(ObjectIdentifier, arcs), names))
 
 
 @cache
@@ -41,7 +51,7 @@ def entries() -> tuple[tuple[ObjectIdentifier, str], ...]:
     >>> dict(entries())[oid], dict(reversed(entries()))[oid], name_of(oid)
     ('commonName', 'cn', 'cn')
     """
-    return _read("names.tsv")
+    return _read(TABLES[0])
 
 
 @cache
@@ -51,15 +61,22 @@ def common_entries() -> tuple[tuple[ObjectIdentifier, str], ...]:
     >>> len(common_entries()), common_entries()[2]
     (4502, (ObjectIdentifier('1.2.840.10045.3.1.7'), 'P-256'))
     """
-    return _read("common_names.tsv")
+    return _read(TABLES[1])
 
 
 @cache
-def _maps() -> tuple[dict[ObjectIdentifier, dict[str, None]], dict[bytes, ObjectIdentifier]]:
+def _by_oid() -> dict[ObjectIdentifier, dict[str, None]]:
     by_oid: dict[ObjectIdentifier, dict[str, None]] = {}
-    for oid, name in entries() + common_entries():
+    for oid, name in _read(*TABLES):
         by_oid.setdefault(oid, {})[name] = None
-    return by_oid, {name.encode().lower(): oid for oid, name in reversed(entries() + common_entries())}
+    return by_oid
+
+
+@cache
+def _by_name() -> dict[bytes, ObjectIdentifier | bytes]:
+    """The identifiers of names in lower case, or their arcs before the first question: most are never asked for."""
+    arcs, names = _columns(*TABLES)
+    return dict(zip(map(bytes.lower, reversed(names)), reversed(arcs)))
 
 
 def name_of(oid: ObjectIdentifier) -> str | None:
@@ -77,7 +94,7 @@ def names_of(oid: ObjectIdentifier) -> tuple[str, ...]:
     >>> names_of(ObjectIdentifier("2.5.4.3"))
     ('cn', 'commonName', 'id-at-commonName', 'Common Name', 'X520 Common Name')
     """
-    return tuple(_maps()[0].get(required(oid, "oid"), ()))
+    return tuple(_by_oid().get(required(oid, "oid"), ()))
 
 
 def by_name(name: str) -> ObjectIdentifier | None:
@@ -86,7 +103,11 @@ def by_name(name: str) -> ObjectIdentifier | None:
     >>> by_name("ID-ECPUBLICKEY"), by_name("sha256")
     (ObjectIdentifier('1.2.840.10045.2.1'), ObjectIdentifier('2.16.840.1.101.3.4.2.1'))
     """
-    return _maps()[1].get(_text(name, "name").encode(errors="surrogatepass").lower())  # bytes have ASCII's case alone
+    key = _text(name, "name").encode(errors="surrogatepass").lower()  # bytes have no case but that of ASCII letters
+    found = _by_name().get(key)
+    if isinstance(found, bytes):
+        found = _by_name()[key] = ObjectIdentifier(found.decode())
+    return found
 
 
 def _text(value: str, name: str) -> str:
@@ -115,7 +136,7 @@ def parse(text: str) -> ObjectIdentifier:
 @cache
 def _shown() -> SortedMap[ObjectIdentifier, str]:
     """The first names that lead back."""
-    firsts = ((oid, next(iter(all_of))) for oid, all_of in _maps()[0].items())
+    firsts = ((oid, next(iter(all_of))) for oid, all_of in _by_oid().items())
     return SortedMap((oid, name) for oid, name in firsts if by_name(name) == oid)
 
 

@@ -1,0 +1,46 @@
+/* What native.c and table.c have in common: identifiers, references and errors. */
+#ifndef NATIVE_H
+#define NATIVE_H
+#define Py_LIMITED_API 0x030B0000
+#include <Python.h>
+#include <const_oid.h>
+#include <stddef.h>
+#include <string.h>
+#include <structmember.h>
+
+/* Functions of the Python that runs count references: macros, as # in formats, are for the Python of their header. */
+#undef Py_NewRef
+
+/* A reference that is given up at the end of its block, as GCC and clang do it. */
+static inline void give_up(PyObject **reference) { Py_DecRef(*reference); }
+#define OWNED __attribute__((cleanup(give_up))) PyObject
+
+typedef struct {
+    PyObject_HEAD
+    const_oid_octets items; /* those of `octets` */
+    PyObject *octets;       /* bytes that const_oid_check accepts */
+    PyObject *arcs;         /* a tuple, or NULL before its first use */
+    Py_ssize_t count;       /* how many arcs there are, or 0 before its first use */
+    PyObject *weak_references;
+} Identifier;
+
+/* The class with a finalizer, of which a type is a subclass, or which it is. NULL if it is another type. */
+static inline PyTypeObject *base_by(PyTypeObject *type, destructor dealloc) {
+    while (type && (destructor)PyType_GetSlot(type, Py_tp_dealloc) != dealloc) {
+        type = (PyTypeObject *)PyType_GetSlot(type, Py_tp_base);
+    }
+    return type;
+}
+
+void identifier_dealloc(PyObject *self);
+
+static inline int is_identifier(PyObject *object) { return base_by(Py_TYPE(object), identifier_dealloc) != NULL; }
+
+PyObject *attribute(PyObject *object, const char *name);
+PyObject *raise_wrong_type(PyObject *self, const char *wanted, PyObject *given);
+
+/* Adds the classes of maps and their iterators to the module. */
+int add_tables(PyObject *module);
+void table_dealloc(PyObject *self);
+
+#endif

@@ -1,0 +1,1036 @@
+/* SortedMap's base class: entries in the order of arcs, which are also found by a hash of their keys' octets. Keys are
+ * compared by their octets alone. No code of Python runs between two steps of a change: what it needs is allocated
+ * before it, and what it no longer needs is given up after it, since the end of a value may change the table again. */
+#include "native.h"
+
+/* The most keys of a part, two or more, so that one more moves few of them. */
+#ifndef PART
+#define PART 512
+#endif
+
+/* The most entries of a table: their indices have less than 32 bits. */
+#define MOST (UINT32_C(1) << 30)
+
+typedef struct {
+    PyObject *key; /* an identifier, or NULL where no entry is */
+    union {
+        PyObject *value;
+        size_t vacant; /* of no entry: one more than the index of another one, or 0 */
+    };
+} Entry;
+
+/* Entries with references of their own. */
+typedef struct {
+    Entry *entries;
+    size_t count, room;
+} Run;
+
+typedef struct {
+    uint32_t *indices;
+    uint32_t count, room;
+} Part;
+
+/* Indices in the order of their keys, in parts that have some, but for an only one. All others have room for PART. A
+ * spare part may follow them. */
+typedef struct {
+    Part *parts;
+    uint32_t count, with_spare, room;
+} Order;
+
+typedef struct {
+    Entry *entries;
+    uint32_t *slots;            /* indices of entries by a hash of their keys: see slot_of */
+    Order order;                /* the same indices by the keys themselves */
+    uint32_t mask;              /* one less than how many slots there are, a power of two */
+    uint32_t size, used, room;  /* how many entries are there, were there at a time, and have room */
+    uint32_t vacant;            /* one more than the index of the first that was there, or 0 */
+    unsigned long long version; /* how often keys came or went */
+} Tree;
+
+/* Where a key is in the order, or would be. */
+typedef struct {
+    uint32_t part, index;
+    int is_there;
+} Place;
+
+typedef struct {
+    PyObject_HEAD
+    Tree tree;
+} Table;
+
+/* ---- Entries and runs ---- */
+
+static const const_oid_octets *items_of(PyObject *key) { return &((Identifier *)key)->items; }
+
+static int is_same(PyObject *left, PyObject *right) {
+    const const_oid_octets *one = items_of(left), *other = items_of(right);
+    return left == right || (one->len == other->len && !memcmp(one->octets, other->octets, one->len));
+}
+
+static int compare(const Entry *left, const Entry *right) {
+    return const_oid_by_arcs(items_of(left->key), items_of(right->key));
+}
+
+static void swap(Entry *left, Entry *right) {
+    Entry entry = *left;
+    *left = *right;
+    *right = entry;
+}
+
+static Entry held(PyObject *key, PyObject *value) { return (Entry){Py_NewRef(key), {Py_NewRef(value)}}; }
+
+/* Room at the end of a run, or NULL and MemoryError. */
+static Entry *one_more(Run *run) {
+    if (run->count == run->room) {
+        size_t room = run->room + run->room / 2 + 4;
+        Entry *entries = PyMem_Realloc(run->entries, room * sizeof *entries);
+        if (!entries) return PyErr_NoMemory(), (Entry *)NULL;
+        run->entries = entries;
+        run->room = room;
+    }
+    return &run->entries[run->count++];
+}
+
+static int append(Run *run, PyObject *key, PyObject *value) {
+    Entry *entry = one_more(run);
+    if (!entry) return -1;
+    *entry = held(key, value);
+    return 0;
+}
+
+/* Gives up the references of a run, and its memory. This may run code that changes a table, but none has the run. */
+static void drop(Run *run) {
+    for (size_t index = 0; index < run->count; index++) {
+        Entry entry = run->entries[index];
+        if (!entry.key) continue;
+        Py_DecRef(entry.value);
+        Py_DecRef(entry.key);
+    }
+    PyMem_Free(run->entries);
+}
+
+/* Sorts entries, of which equal ones stay in turn, with room for half of them. */
+static void sort(Entry *entries, size_t count, Entry *room) {
+    size_t half = count / 2, left = 0, right = half;
+    if (count < 2) return;
+    sort(entries, half, room);
+    sort(&entries[half], count - half, room);
+    if (compare(&entries[half - 1], &entries[half]) <= 0) return;
+    memcpy(room, entries, half * sizeof *entries);
+    for (Entry *out = entries; left < half; out++) {
+        int is_right = right < count && compare(&entries[right], &room[left]) < 0;
+        *out = is_right ? entries[right++] : room[left++];
+    }
+}
+
+/* Moves the first of equal keys, which are neighbours, to the front, with the last of their values. How many these are:
+ * the other keys and values come after them. */
+static uint32_t unite(Run *run) {
+    size_t last = 0;
+    for (size_t index = 1; index < run->count; index++) {
+        Entry *entry = &run->entries[index];
+        if (is_same(run->entries[last].key, entry->key)) {
+            PyObject *value = entry->value;
+            entry->value = run->entries[last].value;
+            run->entries[last].value = value;
+        } else if (++last < index) {
+            swap(&run->entries[last], entry);
+        }
+    }
+    return (uint32_t)(run->count ? last + 1 : 0);
+}
+
+/* Sorts a run, and unites equal keys. */
+static int put_in_order(Run *run, uint32_t *count) {
+    size_t sorted = 1;
+    while (sorted < run->count && compare(&run->entries[sorted - 1], &run->entries[sorted]) < 0) sorted++;
+    if (sorted >= run->count) return *count = (uint32_t)run->count, 0;
+    Entry *room = PyMem_Malloc((run->count / 2) * sizeof *room);
+    if (!room) return PyErr_NoMemory(), -1;
+    sort(run->entries, run->count, room);
+    PyMem_Free(room);
+    *count = unite(run);
+    return 0;
+}
+
+/* ---- The hash table: open addressing, with linear probing ---- */
+
+/* No entry has it as its slot: the low bits of a slot are an index, of which there are fewer. */
+#define FREE UINT32_MAX
+
+/* Python keeps the hash of bytes, which has its seed. */
+static uint32_t hash_of(PyObject *key) { return (uint32_t)PyObject_Hash(((Identifier *)key)->octets); }
+
+/* The slot of a key, or the free one where it would be. A key's slot is found from that of the low bits of its hash on,
+ * before a free one. It has these bits of an index, and the others of the hash. */
+static uint32_t slot_of(const Tree *tree, PyObject *key) {
+    uint32_t mask = tree->mask, hash = hash_of(key), at = hash & mask;
+    for (; tree->slots[at] != FREE; at = (at + 1) & mask) {
+        uint32_t index = tree->slots[at] ^ (hash & ~mask);
+        if (index <= mask && is_same(tree->entries[index].key, key)) break;
+    }
+    return at;
+}
+
+/* The entry of a key, or NULL. */
+static Entry *lookup(const Tree *tree, PyObject *key) {
+    if (!tree->size) return NULL;
+    uint32_t slot = tree->slots[slot_of(tree, key)];
+    return slot == FREE ? NULL : &tree->entries[slot & tree->mask];
+}
+
+/* Gives an entry, whose key has no slot, one. */
+static void fill_slot(Tree *tree, uint32_t index) {
+    uint32_t hash = hash_of(tree->entries[index].key), at = hash & tree->mask;
+    while (tree->slots[at] != FREE) at = (at + 1) & tree->mask;
+    tree->slots[at] = (hash & ~tree->mask) | index;
+}
+
+/* Frees a slot. Each after it, up to a free one, whose key would not be found past that, takes its place in turn. */
+static void free_slot(Tree *tree, uint32_t hole) {
+    uint32_t mask = tree->mask, slot;
+    for (uint32_t at = (hole + 1) & mask; (slot = tree->slots[at]) != FREE; at = (at + 1) & mask) {
+        uint32_t first = hash_of(tree->entries[slot & mask].key) & mask;
+        if (((at - first) & mask) < ((at - hole) & mask)) continue;
+        tree->slots[hole] = slot;
+        hole = at;
+    }
+    tree->slots[hole] = FREE;
+}
+
+/* Makes slots for a number of entries, so that a third of them is free. */
+static int reserve_slots(Tree *tree, uint32_t size) {
+    uint32_t count = tree->slots ? tree->mask + 1 : 8;
+    while (count - count / 3 < size) count *= 2;
+    if (tree->slots && count == tree->mask + 1) return 0;
+    uint32_t *slots = PyMem_Malloc(count * sizeof *slots);
+    if (!slots) return -1;
+    memset(slots, 0xFF, count * sizeof *slots);
+    PyMem_Free(tree->slots);
+    tree->slots = slots;
+    tree->mask = count - 1;
+    for (uint32_t index = 0; index < tree->used; index++) {
+        if (tree->entries[index].key) fill_slot(tree, index);
+    }
+    return 0;
+}
+
+/* Makes room for more entries, which changes none, or raises MemoryError. */
+static int reserve(Tree *tree, uint32_t more) {
+    size_t size = (size_t)tree->size + more, room = size + size / 8 + 3;
+    if (size > MOST) return PyErr_NoMemory(), -1;
+    if (size > tree->room) {
+        Entry *entries = PyMem_Realloc(tree->entries, room * sizeof *entries);
+        if (!entries) return PyErr_NoMemory(), -1;
+        tree->entries = entries;
+        tree->room = (uint32_t)room;
+    }
+    return reserve_slots(tree, (uint32_t)size) ? (PyErr_NoMemory(), -1) : 0;
+}
+
+/* Takes the index of the next entry that comes: one that was there, or else a new one. */
+static uint32_t take_index(Tree *tree) {
+    uint32_t index = tree->vacant ? tree->vacant - 1 : tree->used++;
+    if (tree->vacant) tree->vacant = (uint32_t)tree->entries[index].vacant;
+    return index;
+}
+
+/* Puts an entry at the next index, for which there is room, but not into the order. */
+static void put(Tree *tree, Entry entry) {
+    uint32_t index = take_index(tree);
+    tree->entries[index] = entry;
+    fill_slot(tree, index);
+    tree->size++;
+    tree->version++;
+}
+
+/* ---- The order ---- */
+
+static uint32_t index_at(const Tree *tree, Place place) { return tree->order.parts[place.part].indices[place.index]; }
+
+static Entry *entry_at(const Tree *tree, Place place) { return &tree->entries[index_at(tree, place)]; }
+
+/* Compares the last key of a part with some items. */
+static int compare_last(const Tree *tree, uint32_t part, const const_oid_octets *items) {
+    Place last = {part, tree->order.parts[part].count - 1, 1};
+    return const_oid_by_arcs(items_of(entry_at(tree, last)->key), items);
+}
+
+/* The place of the first key that is not before some items, or past all. */
+static Place find(const Tree *tree, const const_oid_octets *items) {
+    Place place = {tree->order.count, 0, 0};
+    if (!tree->size || compare_last(tree, place.part - 1, items) < 0) return place;
+    place.part = 0;
+    for (uint32_t end = tree->order.count - 1; place.part < end;) {
+        uint32_t middle = place.part + (end - place.part) / 2;
+        if (compare_last(tree, middle, items) < 0) place.part = middle + 1;
+        else end = middle;
+    }
+    for (uint32_t end = tree->order.parts[place.part].count; place.index < end;) {
+        Place middle = {place.part, place.index + (end - place.index) / 2, 1};
+        int order = const_oid_by_arcs(items_of(entry_at(tree, middle)->key), items);
+        if (!order) return middle;
+        if (order < 0) place.index = middle.index + 1;
+        else end = middle.index;
+    }
+    return place;
+}
+
+/* Moves a place to the next entry. Whether there is one. */
+static int step(const Tree *tree, Place *place) {
+    if (++place->index == tree->order.parts[place->part].count) *place = (Place){place->part + 1, 0, 0};
+    return place->part < tree->order.count;
+}
+
+/* Moves a place back. Whether there is an entry. */
+static int step_back(const Tree *tree, Place *place) {
+    if (!tree->size || (!place->part && !place->index)) return 0;
+    if (!place->index) place->index = tree->order.parts[--place->part].count;
+    place->index--;
+    return 1;
+}
+
+/* Frees the parts from one on. */
+static void free_parts(Order *order, uint32_t from) {
+    while (order->with_spare > from) PyMem_Free(order->parts[--order->with_spare].indices);
+}
+
+/* Makes a spare part. */
+static int add_part(Order *order, uint32_t room) {
+    uint32_t wanted = order->room + order->room / 4 + 1;
+    Part *parts = order->parts;
+    if (order->with_spare == order->room) {
+        if (!(parts = PyMem_Realloc(parts, wanted * sizeof *parts))) return -1;
+        order->parts = parts;
+        order->room = wanted;
+    }
+    uint32_t *indices = PyMem_Malloc(room * sizeof *indices);
+    if (!indices) return -1;
+    parts[order->with_spare++] = (Part){indices, 0, room};
+    return 0;
+}
+
+/* Makes room for another index in a part: more in an only one, and else a spare part, by which it is cut. */
+static int make_room(Order *order, uint32_t at) {
+    Part *part = &order->parts[at];
+    if (!order->count) return add_part(order, PART < 4 ? PART : 4) ? -1 : (order->count++, 0);
+    if (part->count < part->room) return 0;
+    if (part->room == PART) return order->with_spare > order->count ? 0 : add_part(order, PART);
+    uint32_t room = 2 * part->room < PART ? 2 * part->room : PART;
+    uint32_t *indices = PyMem_Realloc(part->indices, room * sizeof *indices);
+    if (!indices) return -1;
+    *part = (Part){indices, part->count, room};
+    return 0;
+}
+
+/* Cuts a part in two, the second of which is a spare one. Keys that come in order fill parts. */
+static void cut_part(Order *order, uint32_t at, uint32_t kept) {
+    Part second = order->parts[order->count], *first = &order->parts[at];
+    memmove(first + 2, first + 1, (order->count++ - at - 1) * sizeof second);
+    second.count = first->count - kept;
+    first->count = kept;
+    memcpy(second.indices, &first->indices[kept], second.count * sizeof *second.indices);
+    first[1] = second;
+}
+
+/* Puts an index at a place, where there is room. */
+static void put_index(Order *order, Place place, uint32_t index) {
+    if (order->parts[place.part].count == PART) {
+        int is_last = place.part == order->count - 1 && place.index == PART;
+        uint32_t kept = is_last ? PART : PART / 2;
+        cut_part(order, place.part, kept);
+        if (place.index >= kept) place = (Place){place.part + 1, place.index - kept, 0};
+    }
+    Part *part = &order->parts[place.part];
+    uint32_t *at = &part->indices[place.index];
+    memmove(at + 1, at, (part->count++ - place.index) * sizeof *at);
+    *at = index;
+}
+
+/* Takes out the index at a place. A part that has none then is a spare one, unless it is the only one. */
+static void take_out(Order *order, Place place) {
+    Part *part = &order->parts[place.part], empty;
+    uint32_t *at = &part->indices[place.index];
+    memmove(at, at + 1, (--part->count - place.index) * sizeof *at);
+    if (part->count || order->count == 1) return;
+    empty = *part;
+    memmove(part, part + 1, (--order->count - place.part) * sizeof *part);
+    order->parts[order->count] = empty;
+    free_parts(order, order->count + 1);
+}
+
+/* ---- Changes ---- */
+
+/* Puts an entry in, whose key is not there. It takes over its references, or raises MemoryError. */
+static int add(Tree *tree, Entry entry) {
+    Place place = find(tree, items_of(entry.key));
+    if (place.part == tree->order.count && place.part) {
+        place.part--;
+        place.index = tree->order.parts[place.part].count;
+    }
+    if (reserve(tree, 1)) return -1;
+    if (make_room(&tree->order, place.part)) return PyErr_NoMemory(), -1;
+    put_index(&tree->order, place, tree->vacant ? tree->vacant - 1 : tree->used);
+    put(tree, entry);
+    return 0;
+}
+
+/* Takes out the entry at a place, with its references. */
+static Entry take(Tree *tree, Place place) {
+    uint32_t index = index_at(tree, place);
+    Entry entry = tree->entries[index];
+    free_slot(tree, slot_of(tree, entry.key));
+    take_out(&tree->order, place);
+    tree->entries[index] = (Entry){.vacant = tree->vacant};
+    tree->vacant = index + 1;
+    tree->size--;
+    tree->version++;
+    return entry;
+}
+
+/* Cuts indices into parts of about the same length. */
+static int cut(Order *order, const uint32_t *indices, uint32_t count) {
+    uint32_t parts = (count + PART - 1) / PART, each = (count + parts - 1) / parts;
+    for (uint32_t done = 0; done < count; done += each) {
+        uint32_t here = each < count - done ? each : count - done;
+        if (add_part(order, parts == 1 ? count : PART)) return -1;
+        memcpy(order->parts[order->count].indices, &indices[done], here * sizeof *indices);
+        order->parts[order->count++].count = here;
+    }
+    return 0;
+}
+
+/* Merges the order of a tree with indices that entries in order are to have. */
+static void merge(const Tree *tree, const Entry *added, uint32_t count, uint32_t *merged) {
+    Tree after = *tree;
+    Place place = {0, 0, 0};
+    uint32_t next = 0;
+    for (uint32_t left = tree->size + count, done = 0; left; left--) {
+        int is_old = done == count || (next < tree->size && compare(entry_at(tree, place), &added[done]) < 0);
+        *merged++ = is_old ? index_at(tree, place) : take_index(&after);
+        if (is_old) next++, step(tree, &place);
+        else done++;
+    }
+}
+
+/* Adds many entries in order, whose keys are not there: it makes another order. */
+static int add_many(Tree *tree, const Entry *added, uint32_t count) {
+    Order order = {0}, before = tree->order;
+    uint32_t size = tree->size + count, *merged = PyMem_Malloc(size * sizeof *merged);
+    if (!merged) return PyErr_NoMemory(), -1;
+    merge(tree, added, count, merged);
+    int error = cut(&order, merged, size);
+    PyMem_Free(merged);
+    if (error) before = order;
+    else tree->order = order;
+    for (uint32_t done = 0; !error && done < count; done++) put(tree, added[done]);
+    free_parts(&before, 0);
+    PyMem_Free(before.parts);
+    return error ? (PyErr_NoMemory(), -1) : 0;
+}
+
+/* Adds few of them, each into its part. */
+static int add_few(Tree *tree, const Entry *added, uint32_t count) {
+    uint32_t done = 0;
+    while (done < count && !add(tree, added[done])) done++;
+    if (done == count) return 0;
+    while (done--) take(tree, find(tree, items_of(added[done].key)));
+    return -1;
+}
+
+/* Moves the entries of a run whose keys a tree does not have to another one. */
+static int move_new(const Tree *tree, Run *run, Run *added) {
+    if (!tree->size) return *added = *run, *run = (Run){0}, 0;
+    for (size_t index = 0; index < run->count; index++) {
+        if (lookup(tree, run->entries[index].key)) continue;
+        Entry *entry = one_more(added);
+        if (!entry) return -1;
+        *entry = run->entries[index];
+        run->entries[index].key = NULL;
+    }
+    return 0;
+}
+
+/* Gives the keys of a run, which a tree has, their values, and the run those of before. */
+static void replace_values(const Tree *tree, Run *run) {
+    for (size_t index = 0; index < run->count; index++) {
+        Entry *entry = &run->entries[index], *there = entry->key ? lookup(tree, entry->key) : NULL;
+        if (!there) continue;
+        PyObject *value = there->value;
+        there->value = entry->value;
+        entry->value = value;
+    }
+}
+
+/* Sets all entries of a run, or none, with MemoryError. The run then has what is no longer needed. */
+static int update(Tree *tree, Run *run) {
+    Run added = {0};
+    uint32_t count = 0;
+    int error = move_new(tree, run, &added) || put_in_order(&added, &count) || (count && reserve(tree, count));
+    if (!error && count) {
+        int is_many = count > 1 && count > tree->size / 16;
+        error = (is_many ? add_many : add_few)(tree, added.entries, count);
+        for (uint32_t done = 0; !error && done < count; done++) added.entries[done].key = NULL;
+    }
+    if (!error) replace_values(tree, run);
+    drop(&added);
+    return error ? -1 : 0;
+}
+
+/* Gives up a tree that no table has any more. */
+static void drop_tree(Tree tree) {
+    Run run = {tree.entries, tree.used, tree.room};
+    PyMem_Free(tree.slots);
+    free_parts(&tree.order, 0);
+    PyMem_Free(tree.order.parts);
+    drop(&run);
+}
+
+/* Puts another tree in the place of a table's, which it gives up. */
+static void replace(PyObject *self, Tree with) {
+    Tree before = ((Table *)self)->tree;
+    with.version = before.version + 1;
+    ((Table *)self)->tree = with;
+    drop_tree(before);
+}
+
+/* ---- The class ---- */
+
+void table_dealloc(PyObject *self) {
+    PyTypeObject *type = Py_TYPE(self);
+    PyObject_GC_UnTrack(self);
+    replace(self, (Tree){0});
+    ((freefunc)PyType_GetSlot(type, Py_tp_free))(self);
+    Py_DecRef((PyObject *)type);
+}
+
+static int table_traverse(PyObject *self, visitproc visit, void *arg) {
+    const Tree *tree = &((Table *)self)->tree;
+    for (uint32_t index = 0; index < tree->used; index++) {
+        if (!tree->entries[index].key) continue;
+        Py_VISIT(tree->entries[index].key);
+        Py_VISIT(tree->entries[index].value);
+    }
+    Py_VISIT(Py_TYPE(self));
+    return 0;
+}
+
+static int table_clear_all(PyObject *self) { return replace(self, (Tree){0}), 0; }
+
+static int is_key(PyObject *self, PyObject *key) {
+    if (is_identifier(key)) return 1;
+    raise_wrong_type(self, "key must be an ObjectIdentifier", key);
+    return 0;
+}
+
+/* Whether an object is a key, and its entry, or NULL. */
+static int find_key(PyObject *self, PyObject *key, Entry **entry) {
+    if (!is_key(self, key)) return 0;
+    *entry = lookup(&((Table *)self)->tree, key);
+    return 1;
+}
+
+static PyObject *raise_missing(PyObject *key) { return PyErr_SetObject(PyExc_KeyError, key), (PyObject *)NULL; }
+
+static Py_ssize_t table_len(PyObject *self) { return ((Table *)self)->tree.size; }
+
+static int table_contains(PyObject *self, PyObject *key) {
+    Entry *entry;
+    return find_key(self, key, &entry) ? entry != NULL : -1;
+}
+
+static PyObject *table_subscript(PyObject *self, PyObject *key) {
+    Entry *entry;
+    if (!find_key(self, key, &entry)) return NULL;
+    return entry ? Py_NewRef(entry->value) : raise_missing(key);
+}
+
+/* Takes out the entry of a key that is there. */
+static Entry take_key(PyObject *self, PyObject *key) {
+    Tree *tree = &((Table *)self)->tree;
+    return take(tree, find(tree, items_of(key)));
+}
+
+/* Puts an entry in, whose key is not there. */
+static int add_new(PyObject *self, PyObject *key, PyObject *value) {
+    if (!add(&((Table *)self)->tree, held(key, value))) return 0;
+    Py_DecRef(value);
+    Py_DecRef(key);
+    return -1;
+}
+
+static int table_set(PyObject *self, PyObject *key, PyObject *value) {
+    Entry *there, entry;
+    if (!find_key(self, key, &there)) return -1;
+    if (!there && !value) return raise_missing(key), -1;
+    if (!there) return add_new(self, key, value);
+    if (value) {
+        entry.value = there->value;
+        there->value = Py_NewRef(value);
+    } else {
+        entry = take_key(self, key);
+        Py_DecRef(entry.key);
+    }
+    Py_DecRef(entry.value);
+    return 0;
+}
+
+/* Reads the arguments of a call, one or two, by place or name. */
+static int read_named(PyObject *const *given, Py_ssize_t count, PyObject *names, const char *format, char **wanted,
+    PyObject **values) {
+    Py_ssize_t named = names ? PyTuple_Size(names) : 0;
+    OWNED *places = PyTuple_New(count), *keywords = PyDict_New();
+    int error = !places || !keywords;
+    for (Py_ssize_t index = 0; !error && index < count; index++) {
+        error = PyTuple_SetItem(places, index, Py_NewRef(given[index]));
+    }
+    for (Py_ssize_t index = 0; !error && index < named; index++) {
+        error = PyDict_SetItem(keywords, PyTuple_GetItem(names, index), given[count + index]);
+    }
+    return !error && PyArg_ParseTupleAndKeywords(places, keywords, format, wanted, &values[0], &values[1]);
+}
+
+/* A method with arguments by place or name: a key, and maybe another value. */
+#define WITH_KEY(name) static PyObject *name(PyObject *self, PyObject *const *given, Py_ssize_t count, PyObject *names)
+#define READ(format, most, ...) \
+    static char *wanted[] = {__VA_ARGS__, NULL}; \
+    PyObject *values[2] = {NULL, NULL}; \
+    if (names || (size_t)count - 1 >= most) { \
+        if (!read_named(given, count, names, format, wanted, values)) return NULL; \
+        given = values; \
+        count = most; \
+    } \
+    PyObject *key = given[0]
+
+WITH_KEY(table_get) {
+    Entry *entry;
+    READ("O|O:get", 2, "key", "default");
+    if (!find_key(self, key, &entry)) return NULL;
+    return Py_NewRef(entry ? entry->value : count > 1 && given[1] ? given[1] : Py_None);
+}
+
+WITH_KEY(table_pop) {
+    Entry *there;
+    READ("O|O:pop", 2, "key", "default");
+    if (!find_key(self, key, &there)) return NULL;
+    if (!there) return count > 1 && given[1] ? Py_NewRef(given[1]) : raise_missing(key);
+    Entry entry = take_key(self, key);
+    Py_DecRef(entry.key);
+    return entry.value;
+}
+
+WITH_KEY(table_setdefault) {
+    Entry *entry;
+    READ("O|O:setdefault", 2, "key", "default");
+    if (!find_key(self, key, &entry)) return NULL;
+    if (entry) return Py_NewRef(entry->value);
+    PyObject *value = count > 1 && given[1] ? given[1] : Py_None;
+    return add_new(self, key, value) ? NULL : Py_NewRef(value);
+}
+
+/* A tuple of an entry, whose references it takes over. */
+static PyObject *pair_of(Entry entry) {
+    PyObject *pair = PyTuple_New(2);
+    if (!pair) return Py_DecRef(entry.value), Py_DecRef(entry.key), (PyObject *)NULL;
+    PyTuple_SetItem(pair, 0, entry.key);
+    PyTuple_SetItem(pair, 1, entry.value);
+    return pair;
+}
+
+/* The tuple of an entry that is there, which may go while the tuple is made. */
+static __attribute__((noinline)) PyObject *pair_of_entry(const Entry *entry) {
+    return pair_of(held(entry->key, entry->value));
+}
+
+/* The tuple is made first, which may run code that changes the table. */
+static PyObject *table_popitem(PyObject *self, PyObject *Py_UNUSED(none)) {
+    Tree *tree = &((Table *)self)->tree;
+    OWNED *pair = PyTuple_New(2);
+    if (!pair) return NULL;
+    if (!tree->size) return PyErr_SetString(PyExc_KeyError, "popitem(): the map is empty"), NULL;
+    Place last = {tree->order.count, 0, 1};
+    step_back(tree, &last);
+    Entry entry = take(tree, last);
+    PyTuple_SetItem(pair, 0, entry.key);
+    PyTuple_SetItem(pair, 1, entry.value);
+    return Py_NewRef(pair);
+}
+
+static PyObject *table_clear(PyObject *self, PyObject *Py_UNUSED(none)) {
+    replace(self, (Tree){0});
+    return Py_NewRef(Py_None);
+}
+
+/* A key that is a prefix of some octets is also one of the last key that is not after them. Octets that end within an
+ * arc have their place in the order, too. */
+WITH_KEY(table_nearest) {
+    READ("O:nearest", 1, "oid");
+    const Tree *tree = &((Table *)self)->tree;
+    if (!is_key(self, key)) return NULL;
+    for (const_oid_octets above = *items_of(key); above.len;) {
+        Place place = find(tree, &above);
+        if (!place.is_there && !step_back(tree, &place)) break;
+        const Entry *entry = entry_at(tree, place);
+        const const_oid_octets *last = items_of(entry->key);
+        size_t common = 0;
+        while (common < above.len && common < last->len && above.octets[common] == last->octets[common]) common++;
+        if (common == last->len) return pair_of_entry(entry);
+        above.len = common;
+    }
+    return Py_NewRef(Py_None);
+}
+
+WITH_KEY(table_next_after) {
+    READ("O:next_after", 1, "oid");
+    const Tree *tree = &((Table *)self)->tree;
+    if (!is_key(self, key)) return NULL;
+    Place place = find(tree, items_of(key));
+    if (place.is_there) step(tree, &place);
+    return tree->size && place.part < tree->order.count ? pair_of_entry(entry_at(tree, place)) : Py_NewRef(Py_None);
+}
+
+/* Appends entries from a place on, whose keys begin with some octets. */
+static int append_all(const Tree *tree, Place place, const_oid_octets start, Run *run) {
+    int error = 0, is_there = tree->size && place.part < tree->order.count;
+    for (; !error && is_there; is_there = step(tree, &place)) {
+        const Entry *entry = entry_at(tree, place);
+        const const_oid_octets *items = items_of(entry->key);
+        if (start.len && (start.len > items->len || memcmp(start.octets, items->octets, start.len))) break;
+        error = append(run, entry->key, entry->value);
+    }
+    return error;
+}
+
+/* A list of the tuples of a run, which it gives up. It is made last, when nothing else runs any more. */
+static PyObject *list_of(Run *run, int error) {
+    for (size_t index = 0; !error && index < run->count; index++) {
+        Entry *entry = &run->entries[index], taken = *entry;
+        *entry = (Entry){0};
+        error = !(entry->key = pair_of(taken));
+    }
+    PyObject *list = error ? NULL : PyList_New((Py_ssize_t)run->count);
+    for (size_t index = 0; list && index < run->count; index++) {
+        PyList_SetItem(list, (Py_ssize_t)index, run->entries[index].key);
+        run->entries[index].key = NULL;
+    }
+    drop(run);
+    return list;
+}
+
+WITH_KEY(table_subtree) {
+    READ("O:subtree", 1, "oid");
+    Run run = {0};
+    const Tree *tree = &((Table *)self)->tree;
+    if (!is_key(self, key)) return NULL;
+    const_oid_octets items = *items_of(key);
+    return list_of(&run, append_all(tree, find(tree, &items), items, &run));
+}
+
+static const const_oid_octets NO_OCTETS = {NULL, 0};
+
+/* A list of keys and values in turn. */
+static PyObject *table_flat(PyObject *self, PyObject *Py_UNUSED(none)) {
+    Run run = {0};
+    int error = append_all(&((Table *)self)->tree, (Place){0, 0, 0}, NO_OCTETS, &run);
+    PyObject *list = error ? NULL : PyList_New(2 * (Py_ssize_t)run.count);
+    for (size_t index = 0; list && index < run.count; index++) {
+        PyList_SetItem(list, 2 * (Py_ssize_t)index, run.entries[index].key);
+        PyList_SetItem(list, 2 * (Py_ssize_t)index + 1, run.entries[index].value);
+        run.entries[index].key = NULL;
+    }
+    drop(&run);
+    return list;
+}
+
+static PyObject *table_sizeof(PyObject *self, PyObject *Py_UNUSED(none)) {
+    const Tree *tree = &((Table *)self)->tree;
+    OWNED *own = PyObject_CallMethod((PyObject *)&PyBaseObject_Type, "__sizeof__", "O", self);
+    size_t size = own ? PyLong_AsSize_t(own) : 0, slots = tree->slots ? (size_t)tree->mask + 1 : 0;
+    size += tree->room * sizeof(Entry) + (size_t)tree->order.room * sizeof(Part) + slots * sizeof *tree->slots;
+    for (uint32_t part = 0; part < tree->order.with_spare; part++) {
+        size += tree->order.parts[part].room * sizeof(uint32_t);
+    }
+    return own ? PyLong_FromSize_t(size) : NULL;
+}
+
+/* ---- Entries of others ---- */
+
+static PyObject *table_iter(PyObject *self);
+
+/* That of a pair, which is a tuple or another iterable. */
+static int collect_pair(PyObject *self, PyObject *item, Run *run) {
+    static const char *wanted = "an entry must be a pair of a key and a value";
+    int is_iterable = PyType_GetSlot(Py_TYPE(item), Py_tp_iter) || PySequence_Check(item);
+    OWNED *pair = is_iterable ? PySequence_Tuple(item) : raise_wrong_type(self, wanted, item);
+    Py_ssize_t size = pair ? PyTuple_Size(pair) : -1;
+    if (size == 2) {
+        PyObject *key = PyTuple_GetItem(pair, 0);
+        return is_key(self, key) ? append(run, key, PyTuple_GetItem(pair, 1)) : -1;
+    }
+    if (pair) PyErr_Format(PyExc_ValueError, "%s, not %zd items: %R", wanted, size, item);
+    return -1;
+}
+
+/* Those of an iterable of pairs, or of a mapping, by an iterable of its keys. */
+static int collect_items(PyObject *self, PyObject *items, PyObject *mapping, Run *run) {
+    OWNED *walk = items ? PyObject_GetIter(items) : NULL;
+    int error = !walk;
+    while (!error) {
+        OWNED *item = PyIter_Next(walk), *value = item && mapping ? PyObject_GetItem(mapping, item) : NULL;
+        if (!item) return PyErr_Occurred() ? -1 : 0;
+        if (!mapping) error = collect_pair(self, item, run);
+        else error = !value || !is_key(self, item) || append(run, item, value);
+    }
+    return -1;
+}
+
+/* Those of a dict, while no code of Python runs. */
+static int collect_dict(PyObject *self, PyObject *given, Run *run) {
+    PyObject *key, *value;
+    int error = 0;
+    for (Py_ssize_t at = 0; !error && PyDict_Next(given, &at, &key, &value);) {
+        error = !is_key(self, key) || append(run, key, value);
+    }
+    return error ? -1 : 0;
+}
+
+/* Appends the entries of a mapping or an iterable. As dict does, it takes those of a table or a dict, or of a subclass
+ * with the iterator of these, as they are. */
+static int collect(PyObject *self, PyObject *given, Run *run) {
+    void *iter = PyType_GetSlot(Py_TYPE(given), Py_tp_iter);
+    if (iter == (void *)table_iter) return append_all(&((Table *)given)->tree, (Place){0, 0, 0}, NO_OCTETS, run);
+    if (PyDict_Check(given) && iter == PyType_GetSlot(&PyDict_Type, Py_tp_iter)) return collect_dict(self, given, run);
+    OWNED *method = attribute(given, "keys");
+    if (!method && !PyErr_ExceptionMatches(PyExc_AttributeError)) return -1;
+    PyErr_Clear();
+    OWNED *keys = method ? PyObject_CallNoArgs(method) : Py_NewRef(given);
+    return collect_items(self, keys, method ? given : NULL, run);
+}
+
+static int table_init(PyObject *self, PyObject *arguments, PyObject *keywords) {
+    static char *names[] = {"entries", NULL};
+    PyObject *entries = NULL;
+    Run run = {0};
+    Tree tree = {0};
+    if (!PyArg_ParseTupleAndKeywords(arguments, keywords, "|O:SortedMap", names, &entries)) return -1;
+    int error = entries && (collect(self, entries, &run) || update(&tree, &run));
+    if (error) drop_tree(tree);
+    else replace(self, tree);
+    drop(&run);
+    return error ? -1 : 0;
+}
+
+static PyObject *table_update(PyObject *self, PyObject *arguments) {
+    PyObject *entries = NULL;
+    Run run = {0};
+    if (!PyArg_UnpackTuple(arguments, "update", 0, 1, &entries)) return NULL;
+    int error = entries && (collect(self, entries, &run) || update(&((Table *)self)->tree, &run));
+    drop(&run);
+    return error ? NULL : Py_NewRef(Py_None);
+}
+
+/* ---- Iterators ---- */
+
+/* An iterator over the keys, values or entries of a table, forth or back. */
+typedef struct {
+    PyObject_HEAD
+    PyObject *table; /* NULL after its end */
+    unsigned long long version;
+    const uint32_t *indices;   /* those of a part */
+    uint32_t at, here, left;   /* the next one, how many are left in the part, and in others */
+    uint32_t part, step;       /* the part's number, and 1 for forth, or UINT32_MAX, by which sums are one less */
+    int kind;
+} Walk;
+
+enum { KEYS, VALUES, ENTRIES, BACK };
+
+static void walk_dealloc(PyObject *self) {
+    PyTypeObject *type = Py_TYPE(self);
+    PyObject_GC_UnTrack(self);
+    Py_DecRef(((Walk *)self)->table);
+    ((freefunc)PyType_GetSlot(type, Py_tp_free))(self);
+    Py_DecRef((PyObject *)type);
+}
+
+static int walk_traverse(PyObject *self, visitproc visit, void *arg) {
+    Py_VISIT(((Walk *)self)->table);
+    Py_VISIT(Py_TYPE(self));
+    return 0;
+}
+
+static PyObject *walk_next(PyObject *self);
+
+/* Raises an error if keys have come or gone, which stays so; goes on to the next part; or ends. */
+static __attribute__((noinline)) PyObject *walk_on(Walk *walk) {
+    OWNED *table = walk->table ? Py_NewRef(walk->table) : NULL;
+    const Tree *tree = table ? &((Table *)table)->tree : NULL;
+    if (tree && tree->version != walk->version) {
+        OWNED *name = PyType_GetName(Py_TYPE(table));
+        return name ? PyErr_Format(PyExc_RuntimeError, "%U changed during iteration", name) : NULL;
+    }
+    if (!walk->left) {
+        walk->table = NULL;
+        Py_DecRef(table);
+        return NULL;
+    }
+    const Part *part = &tree->order.parts[walk->part += walk->step];
+    walk->indices = part->indices;
+    walk->at = walk->step == 1 ? 0 : part->count - 1;
+    walk->here = part->count;
+    walk->left -= part->count;
+    return walk_next((PyObject *)walk);
+}
+
+static PyObject *walk_next(PyObject *self) {
+    Walk *walk = (Walk *)self;
+    if (!walk->here) return walk_on(walk);
+    const Tree *tree = &((Table *)walk->table)->tree;
+    if (tree->version != walk->version) return walk_on(walk);
+    const Entry *entry = &tree->entries[walk->indices[walk->at]];
+    walk->at += walk->step;
+    walk->here--;
+    if (walk->kind == ENTRIES) return pair_of_entry(entry);
+    return Py_NewRef(walk->kind == VALUES ? entry->value : entry->key);
+}
+
+static PyObject *walk_hint(PyObject *self, PyObject *Py_UNUSED(none)) {
+    const Walk *walk = (Walk *)self;
+    return PyLong_FromUnsignedLong((unsigned long)walk->here + walk->left);
+}
+
+static PyMethodDef walk_methods[] = {{"__length_hint__", walk_hint, METH_NOARGS, NULL}, {0}};
+
+static PyType_Slot walk_slots[] = {
+    {Py_tp_dealloc, (void *)walk_dealloc},
+    {Py_tp_traverse, (void *)walk_traverse},
+    {Py_tp_iter, (void *)PyObject_SelfIter},
+    {Py_tp_iternext, (void *)walk_next},
+    {Py_tp_methods, walk_methods},
+    {0},
+};
+
+static PyType_Spec walk_spec = {
+    "const_oid.sorted_map.Walk", sizeof(Walk), 0,
+    Py_TPFLAGS_DEFAULT | Py_TPFLAGS_HAVE_GC | Py_TPFLAGS_IMMUTABLETYPE | Py_TPFLAGS_DISALLOW_INSTANTIATION, walk_slots,
+};
+
+/* The class of iterators is in that of tables, where nobody can set it. */
+static PyObject *walk_over(PyObject *self, long way) {
+    OWNED *type = attribute((PyObject *)base_by(Py_TYPE(self), table_dealloc), "_Walk");
+    Walk *walk = type ? (Walk *)PyType_GenericAlloc((PyTypeObject *)type, 0) : NULL;
+    if (!walk) return NULL;
+    const Tree *tree = &((Table *)self)->tree; /* after the allocation, which may run code that changes the table */
+    walk->table = Py_NewRef(self);
+    walk->version = tree->version;
+    walk->left = tree->size;
+    walk->kind = (int)(way % BACK);
+    walk->step = way < BACK ? 1 : UINT32_MAX;
+    walk->part = way < BACK ? UINT32_MAX : tree->order.count;
+    return (PyObject *)walk;
+}
+
+static PyObject *table_iter(PyObject *self) { return walk_over(self, KEYS); }
+
+static PyObject *table_reversed(PyObject *self, PyObject *Py_UNUSED(none)) { return walk_over(self, BACK); }
+
+static PyObject *table_walk(PyObject *self, PyObject *way) {
+    long number = PyLong_AsLong(way);
+    return number == -1 && PyErr_Occurred() ? NULL : walk_over(self, number);
+}
+
+/* ---- The module ---- */
+
+#define NAMED(function) (PyCFunction)(void (*)(void))function, METH_FASTCALL | METH_KEYWORDS
+
+static PyMethodDef table_methods[] = {
+    {"get", NAMED(table_get),
+        "get($self, /, key, default=None)\n--\n\n"
+        "The value of a key, or else a default.\n\n"
+        ">>> SortedMap().get(ObjectIdentifier(\"2.5\"), 0)\n"
+        "0"},
+    {"pop", NAMED(table_pop),
+        "pop($self, /, key, default=...)\n--\n\n"
+        "Removes a key and returns its value, or else a default, or raises a KeyError.\n\n"
+        ">>> SortedMap().pop(ObjectIdentifier(\"2.5\"), 0)\n"
+        "0"},
+    {"setdefault", NAMED(table_setdefault),
+        "setdefault($self, /, key, default=None)\n--\n\n"
+        "The value of a key, which is set to a default if it has none.\n\n"
+        ">>> SortedMap().setdefault(ObjectIdentifier(\"2.5\"), 0)\n"
+        "0"},
+    {"popitem", table_popitem, METH_NOARGS,
+        "popitem($self, /)\n--\n\n"
+        "Removes the last entry and returns it, or raises a KeyError if there is none.\n\n"
+        ">>> SortedMap({ObjectIdentifier(\"2.6\"): 2, ObjectIdentifier(\"2.5\"): 1}).popitem()\n"
+        "(ObjectIdentifier('2.6'), 2)"},
+    {"clear", table_clear, METH_NOARGS,
+        "clear($self, /)\n--\n\n"
+        "Removes all entries.\n\n"
+        ">>> table = SortedMap({ObjectIdentifier(\"2.5\"): \"directory\"})\n"
+        ">>> table.clear(), table\n"
+        "(None, SortedMap({}))"},
+    {"update", table_update, METH_VARARGS,
+        "update($self, entries=(), /)\n--\n\n"
+        "Sets all entries of a mapping or an iterable, or none if a key is no identifier.\n\n"
+        ">>> table = SortedMap({ObjectIdentifier(\"2.5\"): 1})\n"
+        ">>> table.update({ObjectIdentifier(\"2.5\"): 2, ObjectIdentifier(\"2.4\"): 3})\n"
+        ">>> table\n"
+        "SortedMap({ObjectIdentifier('2.4'): 3, ObjectIdentifier('2.5'): 2})"},
+    {"nearest", NAMED(table_nearest),
+        "nearest($self, /, oid)\n--\n\n"
+        "The entry whose key is the longest prefix of an identifier, or None. A slice gives the arcs after the key.\n\n"
+        ">>> keys = ObjectIdentifier(\"2.5\"), ObjectIdentifier(\"2.5.4\")\n"
+        ">>> names = SortedMap(zip(keys, [\"directory\", \"attributes\"]))\n"
+        ">>> names.nearest(oid := ObjectIdentifier(\"2.5.4.3\"))\n"
+        "(ObjectIdentifier('2.5.4'), 'attributes')\n"
+        ">>> oid[len(names.nearest(oid)[0]) :]\n"
+        "(3,)"},
+    {"next_after", NAMED(table_next_after),
+        "next_after($self, /, oid)\n--\n\n"
+        "The first entry after an identifier, as GetNext of SNMP returns it, or None.\n\n"
+        ">>> names = SortedMap({ObjectIdentifier(\"2.5.4\"): 1, ObjectIdentifier(\"2.5.10\"): 2})\n"
+        ">>> names.next_after(ObjectIdentifier(\"2.5.4\"))\n"
+        "(ObjectIdentifier('2.5.10'), 2)"},
+    {"subtree", NAMED(table_subtree),
+        "subtree($self, /, oid)\n--\n\n"
+        "All entries whose keys begin with an identifier, which may be a key itself.\n\n"
+        ">>> arcs = [(2, 5, 4), (2, 5, 4, 3), (2, 6)]\n"
+        ">>> names = SortedMap(zip(map(ObjectIdentifier.from_arcs, arcs), [1, 2, 3]))\n"
+        ">>> names.subtree(ObjectIdentifier(\"2.5\"))\n"
+        "[(ObjectIdentifier('2.5.4'), 1), (ObjectIdentifier('2.5.4.3'), 2)]"},
+    {"_flat", table_flat, METH_NOARGS, "_flat($self, /)\n--\n\nAll keys and values in turn, as of one moment."},
+    {"_walk", table_walk, METH_O, "_walk($self, way, /)\n--\n\nKeys, values or entries: 0, 1, 2, or back: 3, 4, 5."},
+    {"__class_getitem__", Py_GenericAlias, METH_O | METH_CLASS, "For types."},
+    {"__reversed__", table_reversed, METH_NOARGS, "__reversed__($self, /)\n--\n\nAn iterator of keys, back."},
+    {"__sizeof__", table_sizeof, METH_NOARGS, "__sizeof__($self, /)\n--\n\nThe octets of the map and its parts."},
+    {0},
+};
+
+static PyType_Slot table_slots[] = {
+    {Py_tp_doc, "Table(entries=())\n--\n\nEntries in the order of arcs: see SortedMap."},
+    {Py_tp_init, (void *)table_init},
+    {Py_tp_dealloc, (void *)table_dealloc},
+    {Py_tp_traverse, (void *)table_traverse},
+    {Py_tp_clear, (void *)table_clear_all},
+    {Py_tp_iter, (void *)table_iter},
+    {Py_sq_contains, (void *)table_contains},
+    {Py_mp_length, (void *)table_len},
+    {Py_mp_subscript, (void *)table_subscript},
+    {Py_mp_ass_subscript, (void *)table_set},
+    {Py_tp_methods, table_methods},
+    {0},
+};
+
+/* Its module is the one that doctest looks for examples in. */
+static PyType_Spec table_spec = {
+    "const_oid.sorted_map.Table", sizeof(Table), 0,
+    Py_TPFLAGS_DEFAULT | Py_TPFLAGS_BASETYPE | Py_TPFLAGS_HAVE_GC | Py_TPFLAGS_IMMUTABLETYPE, table_slots,
+};
+
+int add_tables(PyObject *module) {
+    OWNED *table = PyType_FromModuleAndSpec(module, &table_spec, NULL);
+    OWNED *walk = PyType_FromModuleAndSpec(module, &walk_spec, NULL);
+    OWNED *attributes = table ? PyObject_GenericGetDict(table, NULL) : NULL;
+    if (!walk || !attributes || PyDict_SetItemString(attributes, "_Walk", walk)) return -1;
+    return PyModule_AddType(module, (PyTypeObject *)table);
+}
