@@ -468,7 +468,7 @@ class Sorted(unittest.TestCase):
             for key in order[left:]:
                 del table[key]
             size = tracemalloc.get_traced_memory()[0] - before
-            self.assertAlmostEqual(size, sys.getsizeof(table), delta=100)
+            self.assertAlmostEqual(size, sys.getsizeof(table), delta=200)
             self.assertLess(size, 3000 * 64)
             self.assertEqual(sorted(order[:left]), [*table])
             del table

@@ -129,12 +129,13 @@ def parse(text: str) -> ObjectIdentifier:
     """
     text = _PREFIX.sub("", _text(text, "text").strip(" \t\n\f\r"), count=1)
     ends = [len(text), *(end for end in range(255, 0, -1) if text[end : end + 1] == ".")]
-    oid, end = next(((oid, end) for end in ends if (oid := by_name(text[:end]))), ("", 0))
+    named = ((by_name(text[:end]), end) for end in ends)
+    oid, end = next((each for each in named if each[0]), ("", 0))
     return ObjectIdentifier(f"{oid}{text[end:]}")
 
 
 @cache
-def _shown() -> SortedMap[ObjectIdentifier, str]:
+def _shown() -> SortedMap[str]:
     """The first names that lead back."""
     firsts = ((oid, next(iter(all_of))) for oid, all_of in _by_oid().items())
     return SortedMap((oid, name) for oid, name in firsts if by_name(name) == oid)

@@ -124,6 +124,7 @@ class SortedMap(Table[Value], MutableMapping[ObjectIdentifier, Value]):
 
 class _Keys(KeysView[ObjectIdentifier]):
     __slots__ = ()
+    _mapping: SortedMap[Any]
 
     def __iter__(self) -> Iterator[ObjectIdentifier]:
         return self._mapping._walk(0)
@@ -134,6 +135,7 @@ class _Keys(KeysView[ObjectIdentifier]):
 
 class _Values(ValuesView[Value]):
     __slots__ = ()
+    _mapping: SortedMap[Any]
 
     def __iter__(self) -> Iterator[Value]:
         return self._mapping._walk(1)
@@ -144,6 +146,7 @@ class _Values(ValuesView[Value]):
 
 class _Items(ItemsView[ObjectIdentifier, Value]):
     __slots__ = ()
+    _mapping: SortedMap[Any]
 
     def __iter__(self) -> Iterator[tuple[ObjectIdentifier, Value]]:
         return self._mapping._walk(2)
