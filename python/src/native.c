@@ -73,7 +73,7 @@ static PyObject *allocate(PyTypeObject *type, PyObject *octets) {
 }
 
 /* The same by a call of a subclass with a plain identifier, so that its __init__ runs. It steals the octets, too. */
-static PyObject *make(PyTypeObject *type, PyObject *octets) {
+PyObject *make(PyTypeObject *type, PyObject *octets) {
     if (is_plain(type)) return allocate(type, octets);
     OWNED *plain = allocate(base_of(type), octets);
     return plain ? PyObject_CallFunctionObjArgs((PyObject *)type, plain, NULL) : NULL;
@@ -110,7 +110,7 @@ static PyObject *finish(Output *out, PyObject *self, const_oid_status status, Py
 }
 
 /* The octets of a text, which has at least as many bytes. Python makes no UTF-8 of a surrogate. */
-static PyObject *octets_of_text(PyObject *type, PyObject *text) {
+PyObject *octets_of_text(PyObject *type, PyObject *text) {
     Output out;
     Py_ssize_t len;
     const char *data = PyUnicode_AsUTF8AndSize(text, &len);
@@ -593,7 +593,8 @@ static int module_exec(PyObject *module) {
     OWNED *last = Py_BuildValue("{s(s)si}", "__match_args__", "arcs", "ndim", 0);
     OWNED *attributes = type ? PyObject_GenericGetDict(type, NULL) : NULL;
     if (!text || !last || !attributes || PyDict_Update(attributes, last) || add_tables(module)) return -1;
-    return PyModule_AddObjectRef(module, "__version__", text) ? -1 : PyModule_AddType(module, (PyTypeObject *)type);
+    if (add_names(module, type) || PyModule_AddObjectRef(module, "__version__", text)) return -1;
+    return PyModule_AddType(module, (PyTypeObject *)type);
 }
 
 static PyObject *restored(PyObject *module, PyObject *octets) {

@@ -1,4 +1,4 @@
-/* What native.c and table.c have in common: identifiers, references and errors. */
+/* What the files have in common: identifiers, references and errors. */
 #ifndef NATIVE_H
 #define NATIVE_H
 #define Py_LIMITED_API 0x030B0000
@@ -37,10 +37,13 @@ void identifier_dealloc(PyObject *self);
 static inline int is_identifier(PyObject *object) { return base_by(Py_TYPE(object), identifier_dealloc) != NULL; }
 
 PyObject *attribute(PyObject *object, const char *name);
+PyObject *make(PyTypeObject *type, PyObject *octets);
+PyObject *octets_of_text(PyObject *type, PyObject *text);
 PyObject *raise_wrong_type(PyObject *self, const char *wanted, PyObject *given);
 
-/* Adds the classes of maps and their iterators to the module. */
+/* Add the classes of maps and their iterators, and the functions of names, to the module. */
 int add_tables(PyObject *module);
+int add_names(PyObject *module, PyObject *type);
 void table_dealloc(PyObject *self);
 
 #endif

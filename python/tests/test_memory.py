@@ -12,7 +12,7 @@ from unittest import mock
 
 import const_oid
 import test_tables
-from const_oid import Code, ObjectIdentifier, OidError, SortedMap, _support
+from const_oid import Code, ObjectIdentifier, OidError, SortedMap, _native, _support
 from test_tables import KEYS, _testcapi, readings, without_memory
 
 # Short and long octets, of arcs that differ and are no small integers: the last have ten digits.
@@ -87,6 +87,8 @@ OF_FRESH = {
     "finalizer": asked,
     "hooks": hooked,
     "pickles": lambda oid: pickle.loads(pickle.dumps((oid, UNDER, Under(oid)))),
+    "names": lambda oid: [call(oid) for call in OF_OID],
+    "wrong name": lambda oid: [raised(_native.parse, f"c.{oid}.{end}") for end in ("x", "\ud800")],
     "map": lambda oid: (SortedMap({oid: 1, OTHER: 2}).nearest(oid.child(1)), SortedMap({oid: 1}).next_after(OTHER)),
 }
 CALLS = {
@@ -98,7 +100,10 @@ CALLS |= {
     "error": lambda: [str(OidError(code, detail)) for code in Code for detail in (0, 255, 256, 2**32 - 1)],
     "wrong error": lambda: (raised(OidError, 4, 2**32), raised(OidError, 2**70, 0), raised(OidError, "4", 0)),
 }
-
+OF_OID, OF_TEXT = (_native.name_of, _native.names_of, _native.display), (_native.by_name, _native.parse)
+CALLS["names"] = lambda: [call(oid) for call in OF_OID for oid in map(_native.parse, ("2.5.4.3", "sysUpTime.0"))]
+CALLS["by name"] = lambda: [call(text) for call in OF_TEXT for text in ("SHA256", "sysUpTime")]
+CALLS["wrong types"] = lambda: [raised(call, 1) for call in OF_OID + OF_TEXT]
 
 # Calls of a map. Without memory, Python 3.12 ends where it makes a function.
 NEW = itertools.repeat(GIVEN).__next__

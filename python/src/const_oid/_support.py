@@ -43,13 +43,6 @@ def not_among(arc: object) -> ValueError:
     return ValueError(f"{shown(arc)} is not among the arcs")
 
 
-def required(oid: object, name: str) -> ObjectIdentifier:
-    """The argument with this name, which has to be an identifier."""
-    if not isinstance(oid, ObjectIdentifier):
-        raise wrong_type(f"{name} must be an ObjectIdentifier", oid)
-    return oid
-
-
 def copied(oid: ObjectIdentifier, memos: tuple[dict[int, object], ...]) -> object:
     """An identifier; if of a subclass, a copy by the protocol of pickle, and a deep one if there is a memo."""
     reductor = copyreg.dispatch_table.get(type(oid))

@@ -10,32 +10,18 @@ do. Since documents lead, some names, such as `DSA` and `host`, are other identi
 """
 
 import os
-import re
 from functools import cache
 
+from . import _native
 from ._native import ObjectIdentifier
-from ._support import required
-from .sorted_map import SortedMap
 
 __all__ = ["by_name", "common_entries", "display", "entries", "name_of", "names_of", "parse"]
 
-_PREFIX = re.compile(r"(?ai)OID\.|urn:oid:|\.|[A-Z][A-Z0-9-]*::|")
-TABLES = ("names.tsv", "common_names.tsv")
 
-
-def _columns(*tables: str) -> tuple[list[bytes], list[bytes]]:
-    """The arcs and the names of all rows."""
-    rows = b""
-    for table in tables:
-        with open(os.path.join(os.path.dirname(__file__), table), "rb") as file:
-            rows += file.read()
-    fields = rows.replace(b"\n", b"\t").split(b"\t")
-    return fields[2::4], fields[3::4]
-
-
-def _read(*tables: str) -> tuple[tuple[ObjectIdentifier, str], ...]:
-    arcs, names = (map(bytes.decode, column) for column in _columns(*tables))
-    return tuple(zip(map(ObjectIdentifier, arcs), names))
+def _read(table: str) -> tuple[tuple[ObjectIdentifier, str], ...]:
+    with open(os.path.join(os.path.dirname(__file__), table), encoding="utf-8") as file:
+        fields = file.read().replace("\n", "\t").split("\t")
+    return tuple(zip(map(ObjectIdentifier, fields[2::4]), fields[3::4]))
 
 
 @cache
@@ -51,7 +37,7 @@ def entries() -> tuple[tuple[ObjectIdentifier, str], ...]:
     >>> dict(entries())[oid], dict(reversed(entries()))[oid], name_of(oid)
     ('commonName', 'cn', 'cn')
     """
-    return _read(TABLES[0])
+    return _read("names.tsv")
 
 
 @cache
@@ -61,22 +47,7 @@ def common_entries() -> tuple[tuple[ObjectIdentifier, str], ...]:
     >>> len(common_entries()), common_entries()[2]
     (4502, (ObjectIdentifier('1.2.840.10045.3.1.7'), 'P-256'))
     """
-    return _read(TABLES[1])
-
-
-@cache
-def _by_oid() -> dict[ObjectIdentifier, dict[str, None]]:
-    by_oid: dict[ObjectIdentifier, dict[str, None]] = {}
-    for oid, name in _read(*TABLES):
-        by_oid.setdefault(oid, {})[name] = None
-    return by_oid
-
-
-@cache
-def _by_name() -> dict[bytes, ObjectIdentifier | bytes]:
-    """The identifiers of names in lower case, or their arcs before the first question: most are never asked for."""
-    arcs, names = _columns(*TABLES)
-    return dict(zip(map(bytes.lower, reversed(names)), reversed(arcs)))
+    return _read("common_names.tsv")
 
 
 def name_of(oid: ObjectIdentifier) -> str | None:
@@ -85,7 +56,7 @@ def name_of(oid: ObjectIdentifier) -> str | None:
     >>> name_of(ObjectIdentifier("1.2.840.10045.2.1"))
     'id-ecPublicKey'
     """
-    return next(iter(names_of(oid)), None)
+    return _native.name_of(oid)
 
 
 def names_of(oid: ObjectIdentifier) -> tuple[str, ...]:
@@ -94,7 +65,7 @@ def names_of(oid: ObjectIdentifier) -> tuple[str, ...]:
     >>> names_of(ObjectIdentifier("2.5.4.3"))
     ('cn', 'commonName', 'id-at-commonName', 'Common Name', 'X520 Common Name')
     """
-    return tuple(_by_oid().get(required(oid, "oid"), ()))
+    return _native.names_of(oid)
 
 
 def by_name(name: str) -> ObjectIdentifier | None:
@@ -103,17 +74,7 @@ def by_name(name: str) -> ObjectIdentifier | None:
     >>> by_name("ID-ECPUBLICKEY"), by_name("sha256")
     (ObjectIdentifier('1.2.840.10045.2.1'), ObjectIdentifier('2.16.840.1.101.3.4.2.1'))
     """
-    key = _text(name, "name").encode(errors="surrogatepass").lower()  # bytes have no case but that of ASCII letters
-    found = _by_name().get(key)
-    if isinstance(found, bytes):
-        found = _by_name()[key] = ObjectIdentifier(found.decode())
-    return found
-
-
-def _text(value: str, name: str) -> str:
-    if not isinstance(value, str):
-        raise TypeError(f"{name} must be a str, not {type(value).__name__}")
-    return value
+    return _native.by_name(name)
 
 
 def parse(text: str) -> ObjectIdentifier:
@@ -127,18 +88,7 @@ def parse(text: str) -> ObjectIdentifier:
     >>> parse(" IF-MIB::ifDescr.3"), parse("urn:oid:CN")
     (ObjectIdentifier('1.3.6.1.2.1.2.2.1.2.3'), ObjectIdentifier('2.5.4.3'))
     """
-    text = _PREFIX.sub("", _text(text, "text").strip(" \t\n\f\r"), count=1)
-    ends = [len(text), *(end for end in range(255, 0, -1) if text[end : end + 1] == ".")]
-    named = ((by_name(text[:end]), end) for end in ends)
-    oid, end = next((each for each in named if each[0]), ("", 0))
-    return ObjectIdentifier(f"{oid}{text[end:]}")
-
-
-@cache
-def _shown() -> SortedMap[str]:
-    """The first names that lead back."""
-    firsts = ((oid, next(iter(all_of))) for oid, all_of in _by_oid().items())
-    return SortedMap((oid, name) for oid, name in firsts if by_name(name) == oid)
+    return _native.parse(text)
 
 
 def display(oid: ObjectIdentifier) -> str:
@@ -149,5 +99,4 @@ def display(oid: ObjectIdentifier) -> str:
     >>> display(parse("2.5.4.3")), display(parse("1.3.6.1.2.1.1.3.0")), display(parse("2.999"))
     ('cn', 'sysUpTime.0', '2.999')
     """
-    prefix, name = _shown().nearest(required(oid, "oid")) or (oid, str(oid))
-    return ".".join([name, *map(str, oid[len(prefix) :])])
+    return _native.display(oid)

@@ -1,0 +1,96 @@
+/* What const_oid.names calls, bound to ObjectIdentifier. The tables of this header are static: no other file has it. */
+#include "native.h"
+#include <const_oid_common_names.h>
+
+/* The bytes of a text, also of a surrogate, which no name has. */
+static PyObject *bytes_of(PyObject *text, const char *argument) {
+    if (PyUnicode_Check(text)) return PyUnicode_AsEncodedString(text, "utf-8", "surrogatepass");
+    OWNED *type = PyType_GetName(Py_TYPE(text));
+    return type ? PyErr_Format(PyExc_TypeError, "%s must be a str, not %U", argument, type) : NULL;
+}
+
+/* The octets of an identifier, or none with an exception. */
+static const_oid_octets octets_of(PyObject *type, PyObject *oid) {
+    const_oid_octets none = {NULL, 0};
+    if (is_identifier(oid)) return ((Identifier *)oid)->items;
+    return raise_wrong_type(type, "oid must be an ObjectIdentifier", oid), none;
+}
+
+static PyObject *made(PyObject *type, const_oid_octets octets) {
+    return make((PyTypeObject *)type, PyBytes_FromStringAndSize((const char *)octets.octets, (Py_ssize_t)octets.len));
+}
+
+static PyObject *by_name(PyObject *type, PyObject *name) {
+    OWNED *bytes = bytes_of(name, "name");
+    if (!bytes) return NULL;
+    const_oid_octets found = const_oid_from_part(PyBytes_AsString(bytes), (size_t)PyBytes_Size(bytes));
+    return found.len ? made(type, found) : Py_NewRef(Py_None);
+}
+
+static PyObject *name_of(PyObject *type, PyObject *oid) {
+    const_oid_octets octets = octets_of(type, oid);
+    return octets.len ? Py_BuildValue("s", const_oid_to_name(octets.octets, octets.len)) : NULL;
+}
+
+/* Adds the name of an entry, if it is of the octets and not there. Returns whether there may be more. */
+static int add_name(PyObject *names, const_oid_octets octets, const_oid_octets found, const char *text) {
+    if (found.len != octets.len || memcmp(found.octets, octets.octets, octets.len)) return 0;
+    OWNED *name = PyUnicode_FromString(text);
+    int is_there = name ? PySequence_Contains(names, name) : -1;
+    return is_there > 0 || (is_there == 0 && !PyList_Append(names, name));
+}
+
+/* Entries of one identifier are neighbours in each table. */
+static PyObject *names_of(PyObject *type, PyObject *oid) {
+    const_oid_octets octets = octets_of(type, oid);
+    OWNED *names = octets.len ? PyList_New(0) : NULL;
+    if (!names) return NULL;
+    size_t at = const_oid_name_of(octets.octets, octets.len);
+    while (at < CONST_OID_NAMES_COUNT && add_name(names, octets, const_oid_name_octets[at], const_oid_names[at])) at++;
+    at = const_oid_common_name_of(octets.octets, octets.len);
+    while (at < CONST_OID_COMMON_NAMES_COUNT
+        && add_name(names, octets, const_oid_common_octets(at), const_oid_common_name(at))) at++;
+    return PyErr_Occurred() ? NULL : PyList_AsTuple(names);
+}
+
+/* As const_oid_parse, but an error has the text after the prefix, with arcs in place of a name. */
+static PyObject *parse(PyObject *type, PyObject *text) {
+    OWNED *bytes = bytes_of(text, "text");
+    if (!bytes) return NULL;
+    const_oid_octets name = {NULL, 0};
+    const char *start = PyBytes_AsString(bytes), *end = start + PyBytes_Size(bytes);
+    while (start < end && const_oid_is_blank(end[-1])) end--;
+    while (start < end && const_oid_is_blank(*start)) start++;
+    start += const_oid_prefix_len(start, (size_t)(end - start));
+    const char *rest = (end - start < UINT8_MAX ? end : start + UINT8_MAX) + 1;
+    while (!name.len && --rest > start) {
+        if (rest == end || *rest == '.') name = const_oid_from_part(start, (size_t)(rest - start));
+    }
+    OWNED *oid = name.len ? made(type, name) : PyUnicode_FromString("");
+    OWNED *more = oid ? PyUnicode_DecodeUTF8(rest, end - rest, "surrogatepass") : NULL;
+    OWNED *given = more ? PyUnicode_FromFormat("%S%U", oid, more) : NULL;
+    return given ? make((PyTypeObject *)type, octets_of_text(type, given)) : NULL;
+}
+
+/* A name has at most 255 bytes, and the text of arcs four for each octet. A zero follows. */
+static PyObject *display(PyObject *type, PyObject *oid) {
+    const_oid_octets octets = octets_of(type, oid);
+    OWNED *room = octets.len ? PyBytes_FromStringAndSize(NULL, (Py_ssize_t)(4 * octets.len + 256)) : NULL;
+    if (!room) return NULL;
+    char *text = PyBytes_AsString(room);
+    const_oid_status status = const_oid_display(octets.octets, octets.len, text, (size_t)PyBytes_Size(room));
+    return status.code ? PyErr_NoMemory() : PyUnicode_FromStringAndSize(text, (Py_ssize_t)status.len);
+}
+
+static PyMethodDef functions[] = {
+    {"by_name", by_name, METH_O, NULL}, {"display", display, METH_O, NULL}, {"name_of", name_of, METH_O, NULL},
+    {"names_of", names_of, METH_O, NULL}, {"parse", parse, METH_O, NULL}, {0},
+};
+
+int add_names(PyObject *module, PyObject *type) {
+    for (PyMethodDef *function = functions; function->ml_name; function++) {
+        OWNED *bound = PyCFunction_NewEx(function, type, NULL);
+        if (!bound || PyModule_AddObjectRef(module, function->ml_name, bound)) return -1;
+    }
+    return 0;
+}
