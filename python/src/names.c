@@ -10,31 +10,27 @@ static PyObject *bytes_of(PyObject *text, const char *argument) {
 }
 
 /* The octets of an identifier, or none with an exception. */
-static const_oid_octets octets_of(PyObject *type, PyObject *oid) {
-    const_oid_octets none = {NULL, 0};
+static const_oid_octets items_of(PyObject *type, PyObject *oid) {
     if (is_identifier(oid)) return ((Identifier *)oid)->items;
-    return raise_wrong_type(type, "oid must be an ObjectIdentifier", oid), none;
-}
-
-static PyObject *made(PyObject *type, const_oid_octets octets) {
-    return make((PyTypeObject *)type, PyBytes_FromStringAndSize((const char *)octets.octets, (Py_ssize_t)octets.len));
+    raise_wrong_type(type, "oid must be an ObjectIdentifier", oid);
+    return (const_oid_octets){NULL, 0};
 }
 
 static PyObject *by_name(PyObject *type, PyObject *name) {
     OWNED *bytes = bytes_of(name, "name");
     if (!bytes) return NULL;
     const_oid_octets found = const_oid_from_part(PyBytes_AsString(bytes), (size_t)PyBytes_Size(bytes));
-    return found.len ? made(type, found) : Py_NewRef(Py_None);
+    return found.len ? identifier_from_items(type, found) : Py_NewRef(Py_None);
 }
 
 static PyObject *name_of(PyObject *type, PyObject *oid) {
-    const_oid_octets octets = octets_of(type, oid);
+    const_oid_octets octets = items_of(type, oid);
     return octets.len ? Py_BuildValue("s", const_oid_to_name(octets.octets, octets.len)) : NULL;
 }
 
-/* Adds the name of an entry, if it is of the octets and not there. Returns whether there may be more. */
+/* Adds the name of an entry of the octets, if it is not there. Returns whether there may be more, and no error. */
 static int add_name(PyObject *names, const_oid_octets octets, const_oid_octets found, const char *text) {
-    if (found.len != octets.len || memcmp(found.octets, octets.octets, octets.len)) return 0;
+    if (PyErr_Occurred() || found.len != octets.len || memcmp(found.octets, octets.octets, octets.len)) return 0;
     OWNED *name = PyUnicode_FromString(text);
     int is_there = name ? PySequence_Contains(names, name) : -1;
     return is_there > 0 || (is_there == 0 && !PyList_Append(names, name));
@@ -42,9 +38,8 @@ static int add_name(PyObject *names, const_oid_octets octets, const_oid_octets f
 
 /* Entries of one identifier are neighbours in each table. */
 static PyObject *names_of(PyObject *type, PyObject *oid) {
-    const_oid_octets octets = octets_of(type, oid);
-    OWNED *names = octets.len ? PyList_New(0) : NULL;
-    if (!names) return NULL;
+    const_oid_octets octets = items_of(type, oid);
+    OWNED *names = octets.len ? PyList_New(0) : NULL; /* or an error, after which nothing is added */
     size_t at = const_oid_name_of(octets.octets, octets.len);
     while (at < CONST_OID_NAMES_COUNT && add_name(names, octets, const_oid_name_octets[at], const_oid_names[at])) at++;
     at = const_oid_common_name_of(octets.octets, octets.len);
@@ -53,7 +48,8 @@ static PyObject *names_of(PyObject *type, PyObject *oid) {
     return PyErr_Occurred() ? NULL : PyList_AsTuple(names);
 }
 
-/* As const_oid_parse, but an error has the text after the prefix, with arcs in place of a name. */
+/* As const_oid_parse, but an error has the text after the prefix, with arcs in place of a name. Before arcs, a name has
+ * at most UINT8_MAX bytes. */
 static PyObject *parse(PyObject *type, PyObject *text) {
     OWNED *bytes = bytes_of(text, "text");
     if (!bytes) return NULL;
@@ -66,16 +62,16 @@ static PyObject *parse(PyObject *type, PyObject *text) {
     while (!name.len && --rest > start) {
         if (rest == end || *rest == '.') name = const_oid_from_part(start, (size_t)(rest - start));
     }
-    OWNED *oid = name.len ? made(type, name) : PyUnicode_FromString("");
+    OWNED *oid = name.len ? identifier_from_items(type, name) : PyUnicode_FromString("");
     OWNED *more = oid ? PyUnicode_DecodeUTF8(rest, end - rest, "surrogatepass") : NULL;
     OWNED *given = more ? PyUnicode_FromFormat("%S%U", oid, more) : NULL;
-    return given ? make((PyTypeObject *)type, octets_of_text(type, given)) : NULL;
+    return given ? identifier_from_text(type, given) : NULL;
 }
 
-/* A name has at most 255 bytes, and the text of arcs four for each octet. A zero follows. */
+/* A name has at most UINT8_MAX bytes, and the text of arcs four for each octet. A zero follows. */
 static PyObject *display(PyObject *type, PyObject *oid) {
-    const_oid_octets octets = octets_of(type, oid);
-    OWNED *room = octets.len ? PyBytes_FromStringAndSize(NULL, (Py_ssize_t)(4 * octets.len + 256)) : NULL;
+    const_oid_octets octets = items_of(type, oid);
+    OWNED *room = octets.len ? PyBytes_FromStringAndSize(NULL, (Py_ssize_t)(4 * octets.len + UINT8_MAX + 1)) : NULL;
     if (!room) return NULL;
     char *text = PyBytes_AsString(room);
     const_oid_status status = const_oid_display(octets.octets, octets.len, text, (size_t)PyBytes_Size(room));

@@ -73,10 +73,14 @@ static PyObject *allocate(PyTypeObject *type, PyObject *octets) {
 }
 
 /* The same by a call of a subclass with a plain identifier, so that its __init__ runs. It steals the octets, too. */
-PyObject *make(PyTypeObject *type, PyObject *octets) {
+static PyObject *make(PyTypeObject *type, PyObject *octets) {
     if (is_plain(type)) return allocate(type, octets);
     OWNED *plain = allocate(base_of(type), octets);
     return plain ? PyObject_CallFunctionObjArgs((PyObject *)type, plain, NULL) : NULL;
+}
+
+PyObject *identifier_from_items(PyObject *type, const_oid_octets items) {
+    return make((PyTypeObject *)type, PyBytes_FromStringAndSize((const char *)items.octets, (Py_ssize_t)items.len));
 }
 
 /* The most octets of an arc. */
@@ -109,8 +113,8 @@ static PyObject *finish(Output *out, PyObject *self, const_oid_status status, Py
     return octets;
 }
 
-/* The octets of a text, which has at least as many bytes. Python makes no UTF-8 of a surrogate. */
-PyObject *octets_of_text(PyObject *type, PyObject *text) {
+/* Octets of a text are at most as many as its bytes. Python makes no UTF-8 of a surrogate. */
+PyObject *identifier_from_text(PyObject *type, PyObject *text) {
     Output out;
     Py_ssize_t len;
     const char *data = PyUnicode_AsUTF8AndSize(text, &len);
@@ -120,7 +124,8 @@ PyObject *octets_of_text(PyObject *type, PyObject *text) {
         return raise_status(type, status, text);
     }
     if (!data || !reserve(&out, (size_t)len, 1)) return NULL;
-    return finish(&out, type, const_oid_from_text(data, (size_t)len, out.start, out.len), text);
+    PyObject *octets = finish(&out, type, const_oid_from_text(data, (size_t)len, out.start, out.len), text);
+    return allocate((PyTypeObject *)type, octets);
 }
 
 static PyObject *identifier_new(PyTypeObject *type, PyObject *arguments, PyObject *keywords) {
@@ -130,7 +135,7 @@ static PyObject *identifier_new(PyTypeObject *type, PyObject *arguments, PyObjec
                  : !PyArg_UnpackTuple(arguments, "ObjectIdentifier", 1, 1, &given)) {
         return NULL;
     }
-    if (PyUnicode_Check(given)) return allocate(type, octets_of_text((PyObject *)type, given));
+    if (PyUnicode_Check(given)) return identifier_from_text((PyObject *)type, given);
     if (!is_identifier(given)) return raise_wrong_type((PyObject *)type, "text must be a str", given);
     if (Py_TYPE(given) == type && is_plain(type)) return Py_NewRef(given);
     return allocate(type, Py_NewRef(((Identifier *)given)->octets));
@@ -176,8 +181,7 @@ static inline PyObject *from_element(PyObject *type, PyObject *octets, const_oid
     const_oid_status status = const_oid_from_der(items.octets, items.len, &contents);
     if (is_whole && !status.code && status.len < items.len) status.code = CONST_OID_NO_ELEMENT;
     if (status.code) return is_whole ? raise_status(type, status, octets) : raise_element(type, items, status);
-    PyObject *oid = PyBytes_FromStringAndSize((const char *)contents.octets, (Py_ssize_t)contents.len);
-    oid = make((PyTypeObject *)type, oid);
+    PyObject *oid = identifier_from_items(type, contents);
     if (is_whole || !oid) return oid;
     return Py_BuildValue("NN", oid, PySequence_GetSlice(octets, (Py_ssize_t)status.len, PTRDIFF_MAX));
 }

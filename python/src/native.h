@@ -33,12 +33,12 @@ static inline PyTypeObject *base_by(PyTypeObject *type, destructor dealloc) {
 }
 
 void identifier_dealloc(PyObject *self);
+PyObject *identifier_from_items(PyObject *type, const_oid_octets items);
+PyObject *identifier_from_text(PyObject *type, PyObject *text);
 
 static inline int is_identifier(PyObject *object) { return base_by(Py_TYPE(object), identifier_dealloc) != NULL; }
 
 PyObject *attribute(PyObject *object, const char *name);
-PyObject *make(PyTypeObject *type, PyObject *octets);
-PyObject *octets_of_text(PyObject *type, PyObject *text);
 PyObject *raise_wrong_type(PyObject *self, const char *wanted, PyObject *given);
 
 /* Add the classes of maps and their iterators, and the functions of names, to the module. */

@@ -101,8 +101,8 @@ CALLS |= {
     "wrong error": lambda: (raised(OidError, 4, 2**32), raised(OidError, 2**70, 0), raised(OidError, "4", 0)),
 }
 OF_OID, OF_TEXT = (_native.name_of, _native.names_of, _native.display), (_native.by_name, _native.parse)
-CALLS["names"] = lambda: [call(oid) for call in OF_OID for oid in map(_native.parse, ("2.5.4.3", "sysUpTime.0"))]
-CALLS["by name"] = lambda: [call(text) for call in OF_TEXT for text in ("SHA256", "sysUpTime")]
+CALLS["names"] = lambda: [call(_native.parse(text)) for call in OF_OID for text in ("2.5.4.3", "sysUpTime.0")]
+CALLS["by name"] = lambda: [call(text) for call, text in zip(2 * OF_TEXT, ("SHA256", "sysUpTime", "\ud800", "2.5"))]
 CALLS["wrong types"] = lambda: [raised(call, 1) for call in OF_OID + OF_TEXT]
 
 # Calls of a map. Without memory, Python 3.12 ends where it makes a function.

@@ -91,17 +91,17 @@ class Names(unittest.TestCase):
     def test_others_are_not_found(self):
         self.assertEqual((None, ()), (names.name_of(oid := ObjectIdentifier("2.999")), names.names_of(oid)))
         # The Kelvin sign is a k in lower case, but no ASCII letter.
-        for name in ("", "no name", "sha256 ", "ba\u212ae", "\ud800"):
+        for name in ("", "no name", "sha256 ", "ba\u212ae", "\ud800", "cn\0", 1000 * "cn"):
             self.assertIsNone(names.by_name(name), name)
         self.assertEqual((1, 2, 112, 0, 2, 0, 34, 101, 66), names.by_name("BaKe").arcs)
 
     def test_a_file_of_the_user_is_not_read(self):
         """The table is that of the package, also where the current folder has one."""
-        code = "from const_oid import names; print(names.by_name('cn'))"
+        code = "from const_oid import names; print(names.by_name('cn'), *names.entries()[0])"
         with tempfile.TemporaryDirectory() as folder:
             (pathlib.Path(folder) / "names.tsv").write_text("x\tX\t1.2\tcn\n", encoding="utf-8")
             run = subprocess.run([sys.executable, "-c", code], cwd=folder, text=True, capture_output=True)
-        self.assertEqual(("2.5.4.3\n", ""), (run.stdout, run.stderr))
+        self.assertEqual(("2.5.4.3 1.2.112.0.2.0.34.101.66 bake\n", ""), (run.stdout, run.stderr))
         for given in (3, b"cn", None, ObjectIdentifier("2.5.4.3")):
             for call, name in (names.by_name, "name"), (names.parse, "text"):
                 self.assertRegex(repr(error_of(call, given)), rf"^TypeError..{name} must be a str, not \w+'\)$")

@@ -171,8 +171,8 @@ class Wheel(unittest.TestCase):
         wanted = f"""{backend.RUSTC} -vV
 cargo build --quiet --release --locked --offline --target this --target-dir @ --manifest-path {backend.CRATE}
 {" ".join(backend.COMPILER)} -std=c11 -O2 -fPIC -fno-plt -fvisibility=hidden -g -shared -Wl,--exclude-libs,ALL -s \
--I{backend.INCLUDE} -I{backend.HEADER.parent} {TOP}/python/src/names.c {TOP}/python/src/native.c {TOP}/python/src/table.c \
-@/this/release/libconst_oid_c.a -o @/made -L."""
+-I{backend.INCLUDE} -I{backend.HEADER.parent} {TOP}/python/src/names.c {TOP}/python/src/native.c \
+{TOP}/python/src/table.c @/this/release/libconst_oid_c.a -o @/made -L."""
         folder = said[1][said[1].index("--target-dir") + 1]
         self.assertEqual(wanted.replace("@", folder).split("\n"), [" ".join(map(str, call)) for call in said])
 
@@ -182,8 +182,7 @@ cargo build --quiet --release --locked --offline --target this --target-dir @ --
         with tempfile.TemporaryDirectory(prefix="a' b") as folder:
             paths = "libdir=${pcfiledir}\nincludedir=${pcfiledir}\nName: a\nDescription: a\nVersion: 1\n"
             pathlib.Path(folder, "const_oid_c.pc").write_text(paths, encoding="utf-8")
-            for path in (library, *pathlib.Path(include).glob("*.h")):
-                shutil.copy(path, folder)
+            list(map(shutil.copy, (library, *pathlib.Path(include).glob("*.h")), 4 * [folder]))
             for compiler in ("", " "):
                 status, name, _ = built("build_wheel", PKG_CONFIG_PATH=folder, CC=compiler)
                 self.assertEqual((0, self.name), (status, name))
