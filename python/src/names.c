@@ -68,7 +68,7 @@ static PyObject *parse(PyObject *type, PyObject *text) {
     return given ? identifier_from_text(type, given) : NULL;
 }
 
-/* A name has at most UINT8_MAX bytes, and the text of arcs four for each octet. A zero follows. */
+/* Arcs have at most four bytes of text for each octet. With a name and a zero, this may be past 32 bits. */
 static PyObject *display(PyObject *type, PyObject *oid) {
     const_oid_octets octets = items_of(type, oid);
     OWNED *room = octets.len ? PyBytes_FromStringAndSize(NULL, (Py_ssize_t)(4 * octets.len + UINT8_MAX + 1)) : NULL;
