@@ -87,21 +87,28 @@ pub const COMMON_SORTED: SortedDatabase<'static> = SortedDatabase::new_unchecked
 
 const COMMON_LEN: usize = COMMON_NAMES.len();
 
-/// An array with an item for each index. In a constant, slices and calls would take rustc longer.
+/// An array with an item for each index. In a constant, rustc moves all pointers after an item that is written, so parts
+/// are made apart.
 macro_rules! items {
     ($len:expr, $first:expr, $index:ident => $item:expr) => {{
         let (mut items, mut $index) = ([$first; $len], 0);
         while $index < items.len() {
-            items[$index] = $item;
-            $index += 1;
+            if $index + 64 > items.len() {
+                $index = items.len() - 64;
+            }
+            let (mut part, mut place) = ([$first; 64], 0);
+            while place < part.len() {
+                part[place] = $item;
+                (place, $index) = (place + 1, $index + 1);
+            }
+            *items.split_at_mut($index - 64).1.first_chunk_mut().unwrap() = part;
         }
         items
     }};
 }
 
 static COMMON_OIDS: [ObjectIdentifier; COMMON_LEN] = items!(COMMON_LEN, rfc4519::CN, index => {
-    let [used, bytes @ ..] = *COMMON_OCTETS[index];
-    ObjectIdentifier { ber: Buffer { bytes, used, aligned: [] } }
+    padded(*COMMON_OCTETS.split_at(40 * index).1.first_chunk().unwrap())
 });
 
 static COMMON_ENTRIES: [(&ObjectIdentifier, &str); COMMON_LEN] =
@@ -118,6 +125,11 @@ const fn in_order<const LEN: usize>(
         let (oid, name) = entries[order[index] as usize];
         (oid.as_oid_ref(), name)
     })
+}
+
+/// The identifier of octets, which come after their length and before zeros.
+const fn padded([used, bytes @ ..]: [u8; 40]) -> ObjectIdentifier {
+    ObjectIdentifier { ber: Buffer { bytes, used, aligned: [] } }
 }
 
 /// The identifier with a name, ignoring ASCII case, in [`DB`], or else in [`COMMON`], or `None`.

@@ -8,26 +8,27 @@
 /// assert_eq!(const_oid::db::bake::BAKE.to_string(), "1.2.112.0.2.0.34.101.66");
 /// ```
 pub mod bake {
+use super::padded;
 use crate::ObjectIdentifier;
 
 /// `bake`: 1.2.112.0.2.0.34.101.66
-pub const BAKE: ObjectIdentifier = ObjectIdentifier::new_unwrap("1.2.112.0.2.0.34.101.66");
+pub const BAKE: ObjectIdentifier = padded(*b"\x08\x2A\x70\x00\x02\x00\x22\x65\x42\0\0\0\0\0\0\0\0\0\0\0\0\0\0\0\0\0\0\0\0\0\0\0\0\0\0\0\0\0\0\0");
 /// `bake-kdf`: 1.2.112.0.2.0.34.101.66.101
-pub const BAKE_KDF: ObjectIdentifier = ObjectIdentifier::new_unwrap("1.2.112.0.2.0.34.101.66.101");
+pub const BAKE_KDF: ObjectIdentifier = padded(*b"\x09\x2A\x70\x00\x02\x00\x22\x65\x42\x65\0\0\0\0\0\0\0\0\0\0\0\0\0\0\0\0\0\0\0\0\0\0\0\0\0\0\0\0\0\0");
 /// `bake-bmqv`: 1.2.112.0.2.0.34.101.66.11
-pub const BAKE_BMQV: ObjectIdentifier = ObjectIdentifier::new_unwrap("1.2.112.0.2.0.34.101.66.11");
+pub const BAKE_BMQV: ObjectIdentifier = padded(*b"\x09\x2A\x70\x00\x02\x00\x22\x65\x42\x0B\0\0\0\0\0\0\0\0\0\0\0\0\0\0\0\0\0\0\0\0\0\0\0\0\0\0\0\0\0\0");
 /// `bake-bsts`: 1.2.112.0.2.0.34.101.66.12
-pub const BAKE_BSTS: ObjectIdentifier = ObjectIdentifier::new_unwrap("1.2.112.0.2.0.34.101.66.12");
+pub const BAKE_BSTS: ObjectIdentifier = padded(*b"\x09\x2A\x70\x00\x02\x00\x22\x65\x42\x0C\0\0\0\0\0\0\0\0\0\0\0\0\0\0\0\0\0\0\0\0\0\0\0\0\0\0\0\0\0\0");
 /// `bake-keys`: 1.2.112.0.2.0.34.101.66.2
-pub const BAKE_KEYS: ObjectIdentifier = ObjectIdentifier::new_unwrap("1.2.112.0.2.0.34.101.66.2");
+pub const BAKE_KEYS: ObjectIdentifier = padded(*b"\x09\x2A\x70\x00\x02\x00\x22\x65\x42\x02\0\0\0\0\0\0\0\0\0\0\0\0\0\0\0\0\0\0\0\0\0\0\0\0\0\0\0\0\0\0");
 /// `bake-pubkey`: 1.2.112.0.2.0.34.101.66.2.1
-pub const BAKE_PUBKEY: ObjectIdentifier = ObjectIdentifier::new_unwrap("1.2.112.0.2.0.34.101.66.2.1");
+pub const BAKE_PUBKEY: ObjectIdentifier = padded(*b"\x0A\x2A\x70\x00\x02\x00\x22\x65\x42\x02\x01\0\0\0\0\0\0\0\0\0\0\0\0\0\0\0\0\0\0\0\0\0\0\0\0\0\0\0\0\0");
 /// `bake-swu`: 1.2.112.0.2.0.34.101.66.201
-pub const BAKE_SWU: ObjectIdentifier = ObjectIdentifier::new_unwrap("1.2.112.0.2.0.34.101.66.201");
+pub const BAKE_SWU: ObjectIdentifier = padded(*b"\x0A\x2A\x70\x00\x02\x00\x22\x65\x42\x81\x49\0\0\0\0\0\0\0\0\0\0\0\0\0\0\0\0\0\0\0\0\0\0\0\0\0\0\0\0\0");
 /// `bake-bpace`: 1.2.112.0.2.0.34.101.66.21
-pub const BAKE_BPACE: ObjectIdentifier = ObjectIdentifier::new_unwrap("1.2.112.0.2.0.34.101.66.21");
+pub const BAKE_BPACE: ObjectIdentifier = padded(*b"\x09\x2A\x70\x00\x02\x00\x22\x65\x42\x15\0\0\0\0\0\0\0\0\0\0\0\0\0\0\0\0\0\0\0\0\0\0\0\0\0\0\0\0\0\0");
 /// `bake-dh`: 1.2.112.0.2.0.34.101.66.31
-pub const BAKE_DH: ObjectIdentifier = ObjectIdentifier::new_unwrap("1.2.112.0.2.0.34.101.66.31");
+pub const BAKE_DH: ObjectIdentifier = padded(*b"\x09\x2A\x70\x00\x02\x00\x22\x65\x42\x1F\0\0\0\0\0\0\0\0\0\0\0\0\0\0\0\0\0\0\0\0\0\0\0\0\0\0\0\0\0\0");
 }
 
 /// Identifiers of STB 34.101.77 (bash).
@@ -38,42 +39,43 @@ pub const BAKE_DH: ObjectIdentifier = ObjectIdentifier::new_unwrap("1.2.112.0.2.
 /// assert_eq!(const_oid::db::bash::BASH.to_string(), "1.2.112.0.2.0.34.101.77");
 /// ```
 pub mod bash {
+use super::padded;
 use crate::ObjectIdentifier;
 
 /// `bash`: 1.2.112.0.2.0.34.101.77
-pub const BASH: ObjectIdentifier = ObjectIdentifier::new_unwrap("1.2.112.0.2.0.34.101.77");
+pub const BASH: ObjectIdentifier = padded(*b"\x08\x2A\x70\x00\x02\x00\x22\x65\x4D\0\0\0\0\0\0\0\0\0\0\0\0\0\0\0\0\0\0\0\0\0\0\0\0\0\0\0\0\0\0\0");
 /// `bash-f`: 1.2.112.0.2.0.34.101.77.101
-pub const BASH_F: ObjectIdentifier = ObjectIdentifier::new_unwrap("1.2.112.0.2.0.34.101.77.101");
+pub const BASH_F: ObjectIdentifier = padded(*b"\x09\x2A\x70\x00\x02\x00\x22\x65\x4D\x65\0\0\0\0\0\0\0\0\0\0\0\0\0\0\0\0\0\0\0\0\0\0\0\0\0\0\0\0\0\0");
 /// `bash256`: 1.2.112.0.2.0.34.101.77.11
-pub const BASH_256: ObjectIdentifier = ObjectIdentifier::new_unwrap("1.2.112.0.2.0.34.101.77.11");
+pub const BASH_256: ObjectIdentifier = padded(*b"\x09\x2A\x70\x00\x02\x00\x22\x65\x4D\x0B\0\0\0\0\0\0\0\0\0\0\0\0\0\0\0\0\0\0\0\0\0\0\0\0\0\0\0\0\0\0");
 /// `bash384`: 1.2.112.0.2.0.34.101.77.12
-pub const BASH_384: ObjectIdentifier = ObjectIdentifier::new_unwrap("1.2.112.0.2.0.34.101.77.12");
+pub const BASH_384: ObjectIdentifier = padded(*b"\x09\x2A\x70\x00\x02\x00\x22\x65\x4D\x0C\0\0\0\0\0\0\0\0\0\0\0\0\0\0\0\0\0\0\0\0\0\0\0\0\0\0\0\0\0\0");
 /// `bash512`: 1.2.112.0.2.0.34.101.77.13
-pub const BASH_512: ObjectIdentifier = ObjectIdentifier::new_unwrap("1.2.112.0.2.0.34.101.77.13");
+pub const BASH_512: ObjectIdentifier = padded(*b"\x09\x2A\x70\x00\x02\x00\x22\x65\x4D\x0D\0\0\0\0\0\0\0\0\0\0\0\0\0\0\0\0\0\0\0\0\0\0\0\0\0\0\0\0\0\0");
 /// `bash-prg-hash2561`: 1.2.112.0.2.0.34.101.77.21
-pub const BASH_PRG_HASH_2561: ObjectIdentifier = ObjectIdentifier::new_unwrap("1.2.112.0.2.0.34.101.77.21");
+pub const BASH_PRG_HASH_2561: ObjectIdentifier = padded(*b"\x09\x2A\x70\x00\x02\x00\x22\x65\x4D\x15\0\0\0\0\0\0\0\0\0\0\0\0\0\0\0\0\0\0\0\0\0\0\0\0\0\0\0\0\0\0");
 /// `bash-prg-hash2562`: 1.2.112.0.2.0.34.101.77.22
-pub const BASH_PRG_HASH_2562: ObjectIdentifier = ObjectIdentifier::new_unwrap("1.2.112.0.2.0.34.101.77.22");
+pub const BASH_PRG_HASH_2562: ObjectIdentifier = padded(*b"\x09\x2A\x70\x00\x02\x00\x22\x65\x4D\x16\0\0\0\0\0\0\0\0\0\0\0\0\0\0\0\0\0\0\0\0\0\0\0\0\0\0\0\0\0\0");
 /// `bash-prg-hash3841`: 1.2.112.0.2.0.34.101.77.23
-pub const BASH_PRG_HASH_3841: ObjectIdentifier = ObjectIdentifier::new_unwrap("1.2.112.0.2.0.34.101.77.23");
+pub const BASH_PRG_HASH_3841: ObjectIdentifier = padded(*b"\x09\x2A\x70\x00\x02\x00\x22\x65\x4D\x17\0\0\0\0\0\0\0\0\0\0\0\0\0\0\0\0\0\0\0\0\0\0\0\0\0\0\0\0\0\0");
 /// `bash-prg-hash3842`: 1.2.112.0.2.0.34.101.77.24
-pub const BASH_PRG_HASH_3842: ObjectIdentifier = ObjectIdentifier::new_unwrap("1.2.112.0.2.0.34.101.77.24");
+pub const BASH_PRG_HASH_3842: ObjectIdentifier = padded(*b"\x09\x2A\x70\x00\x02\x00\x22\x65\x4D\x18\0\0\0\0\0\0\0\0\0\0\0\0\0\0\0\0\0\0\0\0\0\0\0\0\0\0\0\0\0\0");
 /// `bash-prg-hash5121`: 1.2.112.0.2.0.34.101.77.25
-pub const BASH_PRG_HASH_5121: ObjectIdentifier = ObjectIdentifier::new_unwrap("1.2.112.0.2.0.34.101.77.25");
+pub const BASH_PRG_HASH_5121: ObjectIdentifier = padded(*b"\x09\x2A\x70\x00\x02\x00\x22\x65\x4D\x19\0\0\0\0\0\0\0\0\0\0\0\0\0\0\0\0\0\0\0\0\0\0\0\0\0\0\0\0\0\0");
 /// `bash-prg-hash5122`: 1.2.112.0.2.0.34.101.77.26
-pub const BASH_PRG_HASH_5122: ObjectIdentifier = ObjectIdentifier::new_unwrap("1.2.112.0.2.0.34.101.77.26");
+pub const BASH_PRG_HASH_5122: ObjectIdentifier = padded(*b"\x09\x2A\x70\x00\x02\x00\x22\x65\x4D\x1A\0\0\0\0\0\0\0\0\0\0\0\0\0\0\0\0\0\0\0\0\0\0\0\0\0\0\0\0\0\0");
 /// `bash-prg-ae1281`: 1.2.112.0.2.0.34.101.77.31
-pub const BASH_PRG_AE_1281: ObjectIdentifier = ObjectIdentifier::new_unwrap("1.2.112.0.2.0.34.101.77.31");
+pub const BASH_PRG_AE_1281: ObjectIdentifier = padded(*b"\x09\x2A\x70\x00\x02\x00\x22\x65\x4D\x1F\0\0\0\0\0\0\0\0\0\0\0\0\0\0\0\0\0\0\0\0\0\0\0\0\0\0\0\0\0\0");
 /// `bash-prg-ae1282`: 1.2.112.0.2.0.34.101.77.32
-pub const BASH_PRG_AE_1282: ObjectIdentifier = ObjectIdentifier::new_unwrap("1.2.112.0.2.0.34.101.77.32");
+pub const BASH_PRG_AE_1282: ObjectIdentifier = padded(*b"\x09\x2A\x70\x00\x02\x00\x22\x65\x4D\x20\0\0\0\0\0\0\0\0\0\0\0\0\0\0\0\0\0\0\0\0\0\0\0\0\0\0\0\0\0\0");
 /// `bash-prg-ae1921`: 1.2.112.0.2.0.34.101.77.33
-pub const BASH_PRG_AE_1921: ObjectIdentifier = ObjectIdentifier::new_unwrap("1.2.112.0.2.0.34.101.77.33");
+pub const BASH_PRG_AE_1921: ObjectIdentifier = padded(*b"\x09\x2A\x70\x00\x02\x00\x22\x65\x4D\x21\0\0\0\0\0\0\0\0\0\0\0\0\0\0\0\0\0\0\0\0\0\0\0\0\0\0\0\0\0\0");
 /// `bash-prg-ae1922`: 1.2.112.0.2.0.34.101.77.34
-pub const BASH_PRG_AE_1922: ObjectIdentifier = ObjectIdentifier::new_unwrap("1.2.112.0.2.0.34.101.77.34");
+pub const BASH_PRG_AE_1922: ObjectIdentifier = padded(*b"\x09\x2A\x70\x00\x02\x00\x22\x65\x4D\x22\0\0\0\0\0\0\0\0\0\0\0\0\0\0\0\0\0\0\0\0\0\0\0\0\0\0\0\0\0\0");
 /// `bash-prg-ae2561`: 1.2.112.0.2.0.34.101.77.35
-pub const BASH_PRG_AE_2561: ObjectIdentifier = ObjectIdentifier::new_unwrap("1.2.112.0.2.0.34.101.77.35");
+pub const BASH_PRG_AE_2561: ObjectIdentifier = padded(*b"\x09\x2A\x70\x00\x02\x00\x22\x65\x4D\x23\0\0\0\0\0\0\0\0\0\0\0\0\0\0\0\0\0\0\0\0\0\0\0\0\0\0\0\0\0\0");
 /// `bash-prg-ae2562`: 1.2.112.0.2.0.34.101.77.36
-pub const BASH_PRG_AE_2562: ObjectIdentifier = ObjectIdentifier::new_unwrap("1.2.112.0.2.0.34.101.77.36");
+pub const BASH_PRG_AE_2562: ObjectIdentifier = padded(*b"\x09\x2A\x70\x00\x02\x00\x22\x65\x4D\x24\0\0\0\0\0\0\0\0\0\0\0\0\0\0\0\0\0\0\0\0\0\0\0\0\0\0\0\0\0\0");
 }
 
 /// Identifiers of STB 34.101.31 (belt).
@@ -84,96 +86,97 @@ pub const BASH_PRG_AE_2562: ObjectIdentifier = ObjectIdentifier::new_unwrap("1.2
 /// assert_eq!(const_oid::db::belt::BELT.to_string(), "1.2.112.0.2.0.34.101.31");
 /// ```
 pub mod belt {
+use super::padded;
 use crate::ObjectIdentifier;
 
 /// `belt`: 1.2.112.0.2.0.34.101.31
-pub const BELT: ObjectIdentifier = ObjectIdentifier::new_unwrap("1.2.112.0.2.0.34.101.31");
+pub const BELT: ObjectIdentifier = padded(*b"\x08\x2A\x70\x00\x02\x00\x22\x65\x1F\0\0\0\0\0\0\0\0\0\0\0\0\0\0\0\0\0\0\0\0\0\0\0\0\0\0\0\0\0\0\0");
 /// `belt-keyrep`: 1.2.112.0.2.0.34.101.31.101
-pub const BELT_KEYREP: ObjectIdentifier = ObjectIdentifier::new_unwrap("1.2.112.0.2.0.34.101.31.101");
+pub const BELT_KEYREP: ObjectIdentifier = padded(*b"\x09\x2A\x70\x00\x02\x00\x22\x65\x1F\x65\0\0\0\0\0\0\0\0\0\0\0\0\0\0\0\0\0\0\0\0\0\0\0\0\0\0\0\0\0\0");
 /// `belt-ecb128`: 1.2.112.0.2.0.34.101.31.11
-pub const BELT_ECB_128: ObjectIdentifier = ObjectIdentifier::new_unwrap("1.2.112.0.2.0.34.101.31.11");
+pub const BELT_ECB_128: ObjectIdentifier = padded(*b"\x09\x2A\x70\x00\x02\x00\x22\x65\x1F\x0B\0\0\0\0\0\0\0\0\0\0\0\0\0\0\0\0\0\0\0\0\0\0\0\0\0\0\0\0\0\0");
 /// `belt-bde128`: 1.2.112.0.2.0.34.101.31.111
-pub const BELT_BDE_128: ObjectIdentifier = ObjectIdentifier::new_unwrap("1.2.112.0.2.0.34.101.31.111");
+pub const BELT_BDE_128: ObjectIdentifier = padded(*b"\x09\x2A\x70\x00\x02\x00\x22\x65\x1F\x6F\0\0\0\0\0\0\0\0\0\0\0\0\0\0\0\0\0\0\0\0\0\0\0\0\0\0\0\0\0\0");
 /// `belt-bde192`: 1.2.112.0.2.0.34.101.31.112
-pub const BELT_BDE_192: ObjectIdentifier = ObjectIdentifier::new_unwrap("1.2.112.0.2.0.34.101.31.112");
+pub const BELT_BDE_192: ObjectIdentifier = padded(*b"\x09\x2A\x70\x00\x02\x00\x22\x65\x1F\x70\0\0\0\0\0\0\0\0\0\0\0\0\0\0\0\0\0\0\0\0\0\0\0\0\0\0\0\0\0\0");
 /// `belt-bde256`: 1.2.112.0.2.0.34.101.31.113
-pub const BELT_BDE_256: ObjectIdentifier = ObjectIdentifier::new_unwrap("1.2.112.0.2.0.34.101.31.113");
+pub const BELT_BDE_256: ObjectIdentifier = padded(*b"\x09\x2A\x70\x00\x02\x00\x22\x65\x1F\x71\0\0\0\0\0\0\0\0\0\0\0\0\0\0\0\0\0\0\0\0\0\0\0\0\0\0\0\0\0\0");
 /// `belt-ecb192`: 1.2.112.0.2.0.34.101.31.12
-pub const BELT_ECB_192: ObjectIdentifier = ObjectIdentifier::new_unwrap("1.2.112.0.2.0.34.101.31.12");
+pub const BELT_ECB_192: ObjectIdentifier = padded(*b"\x09\x2A\x70\x00\x02\x00\x22\x65\x1F\x0C\0\0\0\0\0\0\0\0\0\0\0\0\0\0\0\0\0\0\0\0\0\0\0\0\0\0\0\0\0\0");
 /// `belt-sde128`: 1.2.112.0.2.0.34.101.31.121
-pub const BELT_SDE_128: ObjectIdentifier = ObjectIdentifier::new_unwrap("1.2.112.0.2.0.34.101.31.121");
+pub const BELT_SDE_128: ObjectIdentifier = padded(*b"\x09\x2A\x70\x00\x02\x00\x22\x65\x1F\x79\0\0\0\0\0\0\0\0\0\0\0\0\0\0\0\0\0\0\0\0\0\0\0\0\0\0\0\0\0\0");
 /// `belt-sde192`: 1.2.112.0.2.0.34.101.31.122
-pub const BELT_SDE_192: ObjectIdentifier = ObjectIdentifier::new_unwrap("1.2.112.0.2.0.34.101.31.122");
+pub const BELT_SDE_192: ObjectIdentifier = padded(*b"\x09\x2A\x70\x00\x02\x00\x22\x65\x1F\x7A\0\0\0\0\0\0\0\0\0\0\0\0\0\0\0\0\0\0\0\0\0\0\0\0\0\0\0\0\0\0");
 /// `belt-sde256`: 1.2.112.0.2.0.34.101.31.123
-pub const BELT_SDE_256: ObjectIdentifier = ObjectIdentifier::new_unwrap("1.2.112.0.2.0.34.101.31.123");
+pub const BELT_SDE_256: ObjectIdentifier = padded(*b"\x09\x2A\x70\x00\x02\x00\x22\x65\x1F\x7B\0\0\0\0\0\0\0\0\0\0\0\0\0\0\0\0\0\0\0\0\0\0\0\0\0\0\0\0\0\0");
 /// `belt-ecb256`: 1.2.112.0.2.0.34.101.31.13
-pub const BELT_ECB_256: ObjectIdentifier = ObjectIdentifier::new_unwrap("1.2.112.0.2.0.34.101.31.13");
+pub const BELT_ECB_256: ObjectIdentifier = padded(*b"\x09\x2A\x70\x00\x02\x00\x22\x65\x1F\x0D\0\0\0\0\0\0\0\0\0\0\0\0\0\0\0\0\0\0\0\0\0\0\0\0\0\0\0\0\0\0");
 /// `belt-fmt128`: 1.2.112.0.2.0.34.101.31.131
-pub const BELT_FMT_128: ObjectIdentifier = ObjectIdentifier::new_unwrap("1.2.112.0.2.0.34.101.31.131");
+pub const BELT_FMT_128: ObjectIdentifier = padded(*b"\x0A\x2A\x70\x00\x02\x00\x22\x65\x1F\x81\x03\0\0\0\0\0\0\0\0\0\0\0\0\0\0\0\0\0\0\0\0\0\0\0\0\0\0\0\0\0");
 /// `belt-fmt192`: 1.2.112.0.2.0.34.101.31.132
-pub const BELT_FMT_192: ObjectIdentifier = ObjectIdentifier::new_unwrap("1.2.112.0.2.0.34.101.31.132");
+pub const BELT_FMT_192: ObjectIdentifier = padded(*b"\x0A\x2A\x70\x00\x02\x00\x22\x65\x1F\x81\x04\0\0\0\0\0\0\0\0\0\0\0\0\0\0\0\0\0\0\0\0\0\0\0\0\0\0\0\0\0");
 /// `belt-fmt256`: 1.2.112.0.2.0.34.101.31.133
-pub const BELT_FMT_256: ObjectIdentifier = ObjectIdentifier::new_unwrap("1.2.112.0.2.0.34.101.31.133");
+pub const BELT_FMT_256: ObjectIdentifier = padded(*b"\x0A\x2A\x70\x00\x02\x00\x22\x65\x1F\x81\x05\0\0\0\0\0\0\0\0\0\0\0\0\0\0\0\0\0\0\0\0\0\0\0\0\0\0\0\0\0");
 /// `belt-cbc128`: 1.2.112.0.2.0.34.101.31.21
-pub const BELT_CBC_128: ObjectIdentifier = ObjectIdentifier::new_unwrap("1.2.112.0.2.0.34.101.31.21");
+pub const BELT_CBC_128: ObjectIdentifier = padded(*b"\x09\x2A\x70\x00\x02\x00\x22\x65\x1F\x15\0\0\0\0\0\0\0\0\0\0\0\0\0\0\0\0\0\0\0\0\0\0\0\0\0\0\0\0\0\0");
 /// `belt-cbc192`: 1.2.112.0.2.0.34.101.31.22
-pub const BELT_CBC_192: ObjectIdentifier = ObjectIdentifier::new_unwrap("1.2.112.0.2.0.34.101.31.22");
+pub const BELT_CBC_192: ObjectIdentifier = padded(*b"\x09\x2A\x70\x00\x02\x00\x22\x65\x1F\x16\0\0\0\0\0\0\0\0\0\0\0\0\0\0\0\0\0\0\0\0\0\0\0\0\0\0\0\0\0\0");
 /// `belt-cbc256`: 1.2.112.0.2.0.34.101.31.23
-pub const BELT_CBC_256: ObjectIdentifier = ObjectIdentifier::new_unwrap("1.2.112.0.2.0.34.101.31.23");
+pub const BELT_CBC_256: ObjectIdentifier = padded(*b"\x09\x2A\x70\x00\x02\x00\x22\x65\x1F\x17\0\0\0\0\0\0\0\0\0\0\0\0\0\0\0\0\0\0\0\0\0\0\0\0\0\0\0\0\0\0");
 /// `belt-block128`: 1.2.112.0.2.0.34.101.31.3
-pub const BELT_BLOCK_128: ObjectIdentifier = ObjectIdentifier::new_unwrap("1.2.112.0.2.0.34.101.31.3");
+pub const BELT_BLOCK_128: ObjectIdentifier = padded(*b"\x09\x2A\x70\x00\x02\x00\x22\x65\x1F\x03\0\0\0\0\0\0\0\0\0\0\0\0\0\0\0\0\0\0\0\0\0\0\0\0\0\0\0\0\0\0");
 /// `belt-cfb128`: 1.2.112.0.2.0.34.101.31.31
-pub const BELT_CFB_128: ObjectIdentifier = ObjectIdentifier::new_unwrap("1.2.112.0.2.0.34.101.31.31");
+pub const BELT_CFB_128: ObjectIdentifier = padded(*b"\x09\x2A\x70\x00\x02\x00\x22\x65\x1F\x1F\0\0\0\0\0\0\0\0\0\0\0\0\0\0\0\0\0\0\0\0\0\0\0\0\0\0\0\0\0\0");
 /// `belt-cfb192`: 1.2.112.0.2.0.34.101.31.32
-pub const BELT_CFB_192: ObjectIdentifier = ObjectIdentifier::new_unwrap("1.2.112.0.2.0.34.101.31.32");
+pub const BELT_CFB_192: ObjectIdentifier = padded(*b"\x09\x2A\x70\x00\x02\x00\x22\x65\x1F\x20\0\0\0\0\0\0\0\0\0\0\0\0\0\0\0\0\0\0\0\0\0\0\0\0\0\0\0\0\0\0");
 /// `belt-cfb256`: 1.2.112.0.2.0.34.101.31.33
-pub const BELT_CFB_256: ObjectIdentifier = ObjectIdentifier::new_unwrap("1.2.112.0.2.0.34.101.31.33");
+pub const BELT_CFB_256: ObjectIdentifier = padded(*b"\x09\x2A\x70\x00\x02\x00\x22\x65\x1F\x21\0\0\0\0\0\0\0\0\0\0\0\0\0\0\0\0\0\0\0\0\0\0\0\0\0\0\0\0\0\0");
 /// `belt-block192`: 1.2.112.0.2.0.34.101.31.4
-pub const BELT_BLOCK_192: ObjectIdentifier = ObjectIdentifier::new_unwrap("1.2.112.0.2.0.34.101.31.4");
+pub const BELT_BLOCK_192: ObjectIdentifier = padded(*b"\x09\x2A\x70\x00\x02\x00\x22\x65\x1F\x04\0\0\0\0\0\0\0\0\0\0\0\0\0\0\0\0\0\0\0\0\0\0\0\0\0\0\0\0\0\0");
 /// `belt-ctr128`: 1.2.112.0.2.0.34.101.31.41
-pub const BELT_CTR_128: ObjectIdentifier = ObjectIdentifier::new_unwrap("1.2.112.0.2.0.34.101.31.41");
+pub const BELT_CTR_128: ObjectIdentifier = padded(*b"\x09\x2A\x70\x00\x02\x00\x22\x65\x1F\x29\0\0\0\0\0\0\0\0\0\0\0\0\0\0\0\0\0\0\0\0\0\0\0\0\0\0\0\0\0\0");
 /// `belt-ctr192`: 1.2.112.0.2.0.34.101.31.42
-pub const BELT_CTR_192: ObjectIdentifier = ObjectIdentifier::new_unwrap("1.2.112.0.2.0.34.101.31.42");
+pub const BELT_CTR_192: ObjectIdentifier = padded(*b"\x09\x2A\x70\x00\x02\x00\x22\x65\x1F\x2A\0\0\0\0\0\0\0\0\0\0\0\0\0\0\0\0\0\0\0\0\0\0\0\0\0\0\0\0\0\0");
 /// `belt-ctr256`: 1.2.112.0.2.0.34.101.31.43
-pub const BELT_CTR_256: ObjectIdentifier = ObjectIdentifier::new_unwrap("1.2.112.0.2.0.34.101.31.43");
+pub const BELT_CTR_256: ObjectIdentifier = padded(*b"\x09\x2A\x70\x00\x02\x00\x22\x65\x1F\x2B\0\0\0\0\0\0\0\0\0\0\0\0\0\0\0\0\0\0\0\0\0\0\0\0\0\0\0\0\0\0");
 /// `belt-block256`: 1.2.112.0.2.0.34.101.31.5
-pub const BELT_BLOCK_256: ObjectIdentifier = ObjectIdentifier::new_unwrap("1.2.112.0.2.0.34.101.31.5");
+pub const BELT_BLOCK_256: ObjectIdentifier = padded(*b"\x09\x2A\x70\x00\x02\x00\x22\x65\x1F\x05\0\0\0\0\0\0\0\0\0\0\0\0\0\0\0\0\0\0\0\0\0\0\0\0\0\0\0\0\0\0");
 /// `belt-mac128`: 1.2.112.0.2.0.34.101.31.51
-pub const BELT_MAC_128: ObjectIdentifier = ObjectIdentifier::new_unwrap("1.2.112.0.2.0.34.101.31.51");
+pub const BELT_MAC_128: ObjectIdentifier = padded(*b"\x09\x2A\x70\x00\x02\x00\x22\x65\x1F\x33\0\0\0\0\0\0\0\0\0\0\0\0\0\0\0\0\0\0\0\0\0\0\0\0\0\0\0\0\0\0");
 /// `belt-mac192`: 1.2.112.0.2.0.34.101.31.52
-pub const BELT_MAC_192: ObjectIdentifier = ObjectIdentifier::new_unwrap("1.2.112.0.2.0.34.101.31.52");
+pub const BELT_MAC_192: ObjectIdentifier = padded(*b"\x09\x2A\x70\x00\x02\x00\x22\x65\x1F\x34\0\0\0\0\0\0\0\0\0\0\0\0\0\0\0\0\0\0\0\0\0\0\0\0\0\0\0\0\0\0");
 /// `belt-mac256`: 1.2.112.0.2.0.34.101.31.53
-pub const BELT_MAC_256: ObjectIdentifier = ObjectIdentifier::new_unwrap("1.2.112.0.2.0.34.101.31.53");
+pub const BELT_MAC_256: ObjectIdentifier = padded(*b"\x09\x2A\x70\x00\x02\x00\x22\x65\x1F\x35\0\0\0\0\0\0\0\0\0\0\0\0\0\0\0\0\0\0\0\0\0\0\0\0\0\0\0\0\0\0");
 /// `belt-wblock128`: 1.2.112.0.2.0.34.101.31.6
-pub const BELT_WBLOCK_128: ObjectIdentifier = ObjectIdentifier::new_unwrap("1.2.112.0.2.0.34.101.31.6");
+pub const BELT_WBLOCK_128: ObjectIdentifier = padded(*b"\x09\x2A\x70\x00\x02\x00\x22\x65\x1F\x06\0\0\0\0\0\0\0\0\0\0\0\0\0\0\0\0\0\0\0\0\0\0\0\0\0\0\0\0\0\0");
 /// `belt-dwp128`: 1.2.112.0.2.0.34.101.31.61
-pub const BELT_DWP_128: ObjectIdentifier = ObjectIdentifier::new_unwrap("1.2.112.0.2.0.34.101.31.61");
+pub const BELT_DWP_128: ObjectIdentifier = padded(*b"\x09\x2A\x70\x00\x02\x00\x22\x65\x1F\x3D\0\0\0\0\0\0\0\0\0\0\0\0\0\0\0\0\0\0\0\0\0\0\0\0\0\0\0\0\0\0");
 /// `belt-dwp192`: 1.2.112.0.2.0.34.101.31.62
-pub const BELT_DWP_192: ObjectIdentifier = ObjectIdentifier::new_unwrap("1.2.112.0.2.0.34.101.31.62");
+pub const BELT_DWP_192: ObjectIdentifier = padded(*b"\x09\x2A\x70\x00\x02\x00\x22\x65\x1F\x3E\0\0\0\0\0\0\0\0\0\0\0\0\0\0\0\0\0\0\0\0\0\0\0\0\0\0\0\0\0\0");
 /// `belt-dwp256`: 1.2.112.0.2.0.34.101.31.63
-pub const BELT_DWP_256: ObjectIdentifier = ObjectIdentifier::new_unwrap("1.2.112.0.2.0.34.101.31.63");
+pub const BELT_DWP_256: ObjectIdentifier = padded(*b"\x09\x2A\x70\x00\x02\x00\x22\x65\x1F\x3F\0\0\0\0\0\0\0\0\0\0\0\0\0\0\0\0\0\0\0\0\0\0\0\0\0\0\0\0\0\0");
 /// `belt-che128`: 1.2.112.0.2.0.34.101.31.64
-pub const BELT_CHE_128: ObjectIdentifier = ObjectIdentifier::new_unwrap("1.2.112.0.2.0.34.101.31.64");
+pub const BELT_CHE_128: ObjectIdentifier = padded(*b"\x09\x2A\x70\x00\x02\x00\x22\x65\x1F\x40\0\0\0\0\0\0\0\0\0\0\0\0\0\0\0\0\0\0\0\0\0\0\0\0\0\0\0\0\0\0");
 /// `belt-che192`: 1.2.112.0.2.0.34.101.31.65
-pub const BELT_CHE_192: ObjectIdentifier = ObjectIdentifier::new_unwrap("1.2.112.0.2.0.34.101.31.65");
+pub const BELT_CHE_192: ObjectIdentifier = padded(*b"\x09\x2A\x70\x00\x02\x00\x22\x65\x1F\x41\0\0\0\0\0\0\0\0\0\0\0\0\0\0\0\0\0\0\0\0\0\0\0\0\0\0\0\0\0\0");
 /// `belt-che256`: 1.2.112.0.2.0.34.101.31.66
-pub const BELT_CHE_256: ObjectIdentifier = ObjectIdentifier::new_unwrap("1.2.112.0.2.0.34.101.31.66");
+pub const BELT_CHE_256: ObjectIdentifier = padded(*b"\x09\x2A\x70\x00\x02\x00\x22\x65\x1F\x42\0\0\0\0\0\0\0\0\0\0\0\0\0\0\0\0\0\0\0\0\0\0\0\0\0\0\0\0\0\0");
 /// `belt-wblock192`: 1.2.112.0.2.0.34.101.31.7
-pub const BELT_WBLOCK_192: ObjectIdentifier = ObjectIdentifier::new_unwrap("1.2.112.0.2.0.34.101.31.7");
+pub const BELT_WBLOCK_192: ObjectIdentifier = padded(*b"\x09\x2A\x70\x00\x02\x00\x22\x65\x1F\x07\0\0\0\0\0\0\0\0\0\0\0\0\0\0\0\0\0\0\0\0\0\0\0\0\0\0\0\0\0\0");
 /// `belt-kwp128`: 1.2.112.0.2.0.34.101.31.71
-pub const BELT_KWP_128: ObjectIdentifier = ObjectIdentifier::new_unwrap("1.2.112.0.2.0.34.101.31.71");
+pub const BELT_KWP_128: ObjectIdentifier = padded(*b"\x09\x2A\x70\x00\x02\x00\x22\x65\x1F\x47\0\0\0\0\0\0\0\0\0\0\0\0\0\0\0\0\0\0\0\0\0\0\0\0\0\0\0\0\0\0");
 /// `belt-kwp192`: 1.2.112.0.2.0.34.101.31.72
-pub const BELT_KWP_192: ObjectIdentifier = ObjectIdentifier::new_unwrap("1.2.112.0.2.0.34.101.31.72");
+pub const BELT_KWP_192: ObjectIdentifier = padded(*b"\x09\x2A\x70\x00\x02\x00\x22\x65\x1F\x48\0\0\0\0\0\0\0\0\0\0\0\0\0\0\0\0\0\0\0\0\0\0\0\0\0\0\0\0\0\0");
 /// `belt-kwp256`: 1.2.112.0.2.0.34.101.31.73
-pub const BELT_KWP_256: ObjectIdentifier = ObjectIdentifier::new_unwrap("1.2.112.0.2.0.34.101.31.73");
+pub const BELT_KWP_256: ObjectIdentifier = padded(*b"\x09\x2A\x70\x00\x02\x00\x22\x65\x1F\x49\0\0\0\0\0\0\0\0\0\0\0\0\0\0\0\0\0\0\0\0\0\0\0\0\0\0\0\0\0\0");
 /// `belt-wblock256`: 1.2.112.0.2.0.34.101.31.8
-pub const BELT_WBLOCK_256: ObjectIdentifier = ObjectIdentifier::new_unwrap("1.2.112.0.2.0.34.101.31.8");
+pub const BELT_WBLOCK_256: ObjectIdentifier = padded(*b"\x09\x2A\x70\x00\x02\x00\x22\x65\x1F\x08\0\0\0\0\0\0\0\0\0\0\0\0\0\0\0\0\0\0\0\0\0\0\0\0\0\0\0\0\0\0");
 /// `belt-hash`: 1.2.112.0.2.0.34.101.31.81
-pub const BELT_HASH: ObjectIdentifier = ObjectIdentifier::new_unwrap("1.2.112.0.2.0.34.101.31.81");
+pub const BELT_HASH: ObjectIdentifier = padded(*b"\x09\x2A\x70\x00\x02\x00\x22\x65\x1F\x51\0\0\0\0\0\0\0\0\0\0\0\0\0\0\0\0\0\0\0\0\0\0\0\0\0\0\0\0\0\0");
 /// `belt-compress`: 1.2.112.0.2.0.34.101.31.9
-pub const BELT_COMPRESS: ObjectIdentifier = ObjectIdentifier::new_unwrap("1.2.112.0.2.0.34.101.31.9");
+pub const BELT_COMPRESS: ObjectIdentifier = padded(*b"\x09\x2A\x70\x00\x02\x00\x22\x65\x1F\x09\0\0\0\0\0\0\0\0\0\0\0\0\0\0\0\0\0\0\0\0\0\0\0\0\0\0\0\0\0\0");
 /// `belt-keyexpand`: 1.2.112.0.2.0.34.101.31.91
-pub const BELT_KEYEXPAND: ObjectIdentifier = ObjectIdentifier::new_unwrap("1.2.112.0.2.0.34.101.31.91");
+pub const BELT_KEYEXPAND: ObjectIdentifier = padded(*b"\x09\x2A\x70\x00\x02\x00\x22\x65\x1F\x5B\0\0\0\0\0\0\0\0\0\0\0\0\0\0\0\0\0\0\0\0\0\0\0\0\0\0\0\0\0\0");
 }
 
 /// Identifiers of STB 34.101.45 (bign).
@@ -184,46 +187,47 @@ pub const BELT_KEYEXPAND: ObjectIdentifier = ObjectIdentifier::new_unwrap("1.2.1
 /// assert_eq!(const_oid::db::bign::BIGN.to_string(), "1.2.112.0.2.0.34.101.45");
 /// ```
 pub mod bign {
+use super::padded;
 use crate::ObjectIdentifier;
 
 /// `bign`: 1.2.112.0.2.0.34.101.45
-pub const BIGN: ObjectIdentifier = ObjectIdentifier::new_unwrap("1.2.112.0.2.0.34.101.45");
+pub const BIGN: ObjectIdentifier = padded(*b"\x08\x2A\x70\x00\x02\x00\x22\x65\x2D\0\0\0\0\0\0\0\0\0\0\0\0\0\0\0\0\0\0\0\0\0\0\0\0\0\0\0\0\0\0\0");
 /// `bign-with-hspec`: 1.2.112.0.2.0.34.101.45.11
-pub const BIGN_WITH_HSPEC: ObjectIdentifier = ObjectIdentifier::new_unwrap("1.2.112.0.2.0.34.101.45.11");
+pub const BIGN_WITH_HSPEC: ObjectIdentifier = padded(*b"\x09\x2A\x70\x00\x02\x00\x22\x65\x2D\x0B\0\0\0\0\0\0\0\0\0\0\0\0\0\0\0\0\0\0\0\0\0\0\0\0\0\0\0\0\0\0");
 /// `bign-with-hbelt`: 1.2.112.0.2.0.34.101.45.12
-pub const BIGN_WITH_HBELT: ObjectIdentifier = ObjectIdentifier::new_unwrap("1.2.112.0.2.0.34.101.45.12");
+pub const BIGN_WITH_HBELT: ObjectIdentifier = padded(*b"\x09\x2A\x70\x00\x02\x00\x22\x65\x2D\x0C\0\0\0\0\0\0\0\0\0\0\0\0\0\0\0\0\0\0\0\0\0\0\0\0\0\0\0\0\0\0");
 /// `bign-keys`: 1.2.112.0.2.0.34.101.45.2
-pub const BIGN_KEYS: ObjectIdentifier = ObjectIdentifier::new_unwrap("1.2.112.0.2.0.34.101.45.2");
+pub const BIGN_KEYS: ObjectIdentifier = padded(*b"\x09\x2A\x70\x00\x02\x00\x22\x65\x2D\x02\0\0\0\0\0\0\0\0\0\0\0\0\0\0\0\0\0\0\0\0\0\0\0\0\0\0\0\0\0\0");
 /// `bign-pubkey`: 1.2.112.0.2.0.34.101.45.2.1
-pub const BIGN_PUBKEY: ObjectIdentifier = ObjectIdentifier::new_unwrap("1.2.112.0.2.0.34.101.45.2.1");
+pub const BIGN_PUBKEY: ObjectIdentifier = padded(*b"\x0A\x2A\x70\x00\x02\x00\x22\x65\x2D\x02\x01\0\0\0\0\0\0\0\0\0\0\0\0\0\0\0\0\0\0\0\0\0\0\0\0\0\0\0\0\0");
 /// `bign-genec`: 1.2.112.0.2.0.34.101.45.21
-pub const BIGN_GENEC: ObjectIdentifier = ObjectIdentifier::new_unwrap("1.2.112.0.2.0.34.101.45.21");
+pub const BIGN_GENEC: ObjectIdentifier = padded(*b"\x09\x2A\x70\x00\x02\x00\x22\x65\x2D\x15\0\0\0\0\0\0\0\0\0\0\0\0\0\0\0\0\0\0\0\0\0\0\0\0\0\0\0\0\0\0");
 /// `bign-valec`: 1.2.112.0.2.0.34.101.45.22
-pub const BIGN_VALEC: ObjectIdentifier = ObjectIdentifier::new_unwrap("1.2.112.0.2.0.34.101.45.22");
+pub const BIGN_VALEC: ObjectIdentifier = padded(*b"\x09\x2A\x70\x00\x02\x00\x22\x65\x2D\x16\0\0\0\0\0\0\0\0\0\0\0\0\0\0\0\0\0\0\0\0\0\0\0\0\0\0\0\0\0\0");
 /// `bign-curves`: 1.2.112.0.2.0.34.101.45.3
-pub const BIGN_CURVES: ObjectIdentifier = ObjectIdentifier::new_unwrap("1.2.112.0.2.0.34.101.45.3");
+pub const BIGN_CURVES: ObjectIdentifier = padded(*b"\x09\x2A\x70\x00\x02\x00\x22\x65\x2D\x03\0\0\0\0\0\0\0\0\0\0\0\0\0\0\0\0\0\0\0\0\0\0\0\0\0\0\0\0\0\0");
 /// `bign-curve256v1`: 1.2.112.0.2.0.34.101.45.3.1
-pub const BIGN_CURVE_256_V_1: ObjectIdentifier = ObjectIdentifier::new_unwrap("1.2.112.0.2.0.34.101.45.3.1");
+pub const BIGN_CURVE_256_V_1: ObjectIdentifier = padded(*b"\x0A\x2A\x70\x00\x02\x00\x22\x65\x2D\x03\x01\0\0\0\0\0\0\0\0\0\0\0\0\0\0\0\0\0\0\0\0\0\0\0\0\0\0\0\0\0");
 /// `bign-curve384v1`: 1.2.112.0.2.0.34.101.45.3.2
-pub const BIGN_CURVE_384_V_1: ObjectIdentifier = ObjectIdentifier::new_unwrap("1.2.112.0.2.0.34.101.45.3.2");
+pub const BIGN_CURVE_384_V_1: ObjectIdentifier = padded(*b"\x0A\x2A\x70\x00\x02\x00\x22\x65\x2D\x03\x02\0\0\0\0\0\0\0\0\0\0\0\0\0\0\0\0\0\0\0\0\0\0\0\0\0\0\0\0\0");
 /// `bign-curve512v1`: 1.2.112.0.2.0.34.101.45.3.3
-pub const BIGN_CURVE_512_V_1: ObjectIdentifier = ObjectIdentifier::new_unwrap("1.2.112.0.2.0.34.101.45.3.3");
+pub const BIGN_CURVE_512_V_1: ObjectIdentifier = padded(*b"\x0A\x2A\x70\x00\x02\x00\x22\x65\x2D\x03\x03\0\0\0\0\0\0\0\0\0\0\0\0\0\0\0\0\0\0\0\0\0\0\0\0\0\0\0\0\0");
 /// `bign-genkeypair`: 1.2.112.0.2.0.34.101.45.31
-pub const BIGN_GENKEYPAIR: ObjectIdentifier = ObjectIdentifier::new_unwrap("1.2.112.0.2.0.34.101.45.31");
+pub const BIGN_GENKEYPAIR: ObjectIdentifier = padded(*b"\x09\x2A\x70\x00\x02\x00\x22\x65\x2D\x1F\0\0\0\0\0\0\0\0\0\0\0\0\0\0\0\0\0\0\0\0\0\0\0\0\0\0\0\0\0\0");
 /// `bign-valpubkey`: 1.2.112.0.2.0.34.101.45.32
-pub const BIGN_VALPUBKEY: ObjectIdentifier = ObjectIdentifier::new_unwrap("1.2.112.0.2.0.34.101.45.32");
+pub const BIGN_VALPUBKEY: ObjectIdentifier = padded(*b"\x09\x2A\x70\x00\x02\x00\x22\x65\x2D\x20\0\0\0\0\0\0\0\0\0\0\0\0\0\0\0\0\0\0\0\0\0\0\0\0\0\0\0\0\0\0");
 /// `bign-fields`: 1.2.112.0.2.0.34.101.45.4
-pub const BIGN_FIELDS: ObjectIdentifier = ObjectIdentifier::new_unwrap("1.2.112.0.2.0.34.101.45.4");
+pub const BIGN_FIELDS: ObjectIdentifier = padded(*b"\x09\x2A\x70\x00\x02\x00\x22\x65\x2D\x04\0\0\0\0\0\0\0\0\0\0\0\0\0\0\0\0\0\0\0\0\0\0\0\0\0\0\0\0\0\0");
 /// `bign-primefield`: 1.2.112.0.2.0.34.101.45.4.1
-pub const BIGN_PRIMEFIELD: ObjectIdentifier = ObjectIdentifier::new_unwrap("1.2.112.0.2.0.34.101.45.4.1");
+pub const BIGN_PRIMEFIELD: ObjectIdentifier = padded(*b"\x0A\x2A\x70\x00\x02\x00\x22\x65\x2D\x04\x01\0\0\0\0\0\0\0\0\0\0\0\0\0\0\0\0\0\0\0\0\0\0\0\0\0\0\0\0\0");
 /// `bign-keytransport`: 1.2.112.0.2.0.34.101.45.41
-pub const BIGN_KEYTRANSPORT: ObjectIdentifier = ObjectIdentifier::new_unwrap("1.2.112.0.2.0.34.101.45.41");
+pub const BIGN_KEYTRANSPORT: ObjectIdentifier = padded(*b"\x09\x2A\x70\x00\x02\x00\x22\x65\x2D\x29\0\0\0\0\0\0\0\0\0\0\0\0\0\0\0\0\0\0\0\0\0\0\0\0\0\0\0\0\0\0");
 /// `bign-genk`: 1.2.112.0.2.0.34.101.45.61
-pub const BIGN_GENK: ObjectIdentifier = ObjectIdentifier::new_unwrap("1.2.112.0.2.0.34.101.45.61");
+pub const BIGN_GENK: ObjectIdentifier = padded(*b"\x09\x2A\x70\x00\x02\x00\x22\x65\x2D\x3D\0\0\0\0\0\0\0\0\0\0\0\0\0\0\0\0\0\0\0\0\0\0\0\0\0\0\0\0\0\0");
 /// `bign-ibs-with-hspec`: 1.2.112.0.2.0.34.101.45.71
-pub const BIGN_IBS_WITH_HSPEC: ObjectIdentifier = ObjectIdentifier::new_unwrap("1.2.112.0.2.0.34.101.45.71");
+pub const BIGN_IBS_WITH_HSPEC: ObjectIdentifier = padded(*b"\x09\x2A\x70\x00\x02\x00\x22\x65\x2D\x47\0\0\0\0\0\0\0\0\0\0\0\0\0\0\0\0\0\0\0\0\0\0\0\0\0\0\0\0\0\0");
 /// `bign-ibs-with-hbelt`: 1.2.112.0.2.0.34.101.45.72
-pub const BIGN_IBS_WITH_HBELT: ObjectIdentifier = ObjectIdentifier::new_unwrap("1.2.112.0.2.0.34.101.45.72");
+pub const BIGN_IBS_WITH_HBELT: ObjectIdentifier = padded(*b"\x09\x2A\x70\x00\x02\x00\x22\x65\x2D\x48\0\0\0\0\0\0\0\0\0\0\0\0\0\0\0\0\0\0\0\0\0\0\0\0\0\0\0\0\0\0");
 }
 
 /// Identifiers of STB 34.101.78 (bpki).
@@ -234,66 +238,67 @@ pub const BIGN_IBS_WITH_HBELT: ObjectIdentifier = ObjectIdentifier::new_unwrap("
 /// assert_eq!(const_oid::db::bpki::BPKI.to_string(), "1.2.112.0.2.0.34.101.78");
 /// ```
 pub mod bpki {
+use super::padded;
 use crate::ObjectIdentifier;
 
 /// `bpki`: 1.2.112.0.2.0.34.101.78
-pub const BPKI: ObjectIdentifier = ObjectIdentifier::new_unwrap("1.2.112.0.2.0.34.101.78");
+pub const BPKI: ObjectIdentifier = padded(*b"\x08\x2A\x70\x00\x02\x00\x22\x65\x4E\0\0\0\0\0\0\0\0\0\0\0\0\0\0\0\0\0\0\0\0\0\0\0\0\0\0\0\0\0\0\0");
 /// `bpki-role`: 1.2.112.0.2.0.34.101.78.2
-pub const BPKI_ROLE: ObjectIdentifier = ObjectIdentifier::new_unwrap("1.2.112.0.2.0.34.101.78.2");
+pub const BPKI_ROLE: ObjectIdentifier = padded(*b"\x09\x2A\x70\x00\x02\x00\x22\x65\x4E\x02\0\0\0\0\0\0\0\0\0\0\0\0\0\0\0\0\0\0\0\0\0\0\0\0\0\0\0\0\0\0");
 /// `bpki-role-ca0`: 1.2.112.0.2.0.34.101.78.2.0
-pub const BPKI_ROLE_CA_0: ObjectIdentifier = ObjectIdentifier::new_unwrap("1.2.112.0.2.0.34.101.78.2.0");
+pub const BPKI_ROLE_CA_0: ObjectIdentifier = padded(*b"\x0A\x2A\x70\x00\x02\x00\x22\x65\x4E\x02\x00\0\0\0\0\0\0\0\0\0\0\0\0\0\0\0\0\0\0\0\0\0\0\0\0\0\0\0\0\0");
 /// `bpki-role-ca1`: 1.2.112.0.2.0.34.101.78.2.1
-pub const BPKI_ROLE_CA_1: ObjectIdentifier = ObjectIdentifier::new_unwrap("1.2.112.0.2.0.34.101.78.2.1");
+pub const BPKI_ROLE_CA_1: ObjectIdentifier = padded(*b"\x0A\x2A\x70\x00\x02\x00\x22\x65\x4E\x02\x01\0\0\0\0\0\0\0\0\0\0\0\0\0\0\0\0\0\0\0\0\0\0\0\0\0\0\0\0\0");
 /// `bpki-role-aa`: 1.2.112.0.2.0.34.101.78.2.10
-pub const BPKI_ROLE_AA: ObjectIdentifier = ObjectIdentifier::new_unwrap("1.2.112.0.2.0.34.101.78.2.10");
+pub const BPKI_ROLE_AA: ObjectIdentifier = padded(*b"\x0A\x2A\x70\x00\x02\x00\x22\x65\x4E\x02\x0A\0\0\0\0\0\0\0\0\0\0\0\0\0\0\0\0\0\0\0\0\0\0\0\0\0\0\0\0\0");
 /// `bpki-role-ca2`: 1.2.112.0.2.0.34.101.78.2.2
-pub const BPKI_ROLE_CA_2: ObjectIdentifier = ObjectIdentifier::new_unwrap("1.2.112.0.2.0.34.101.78.2.2");
+pub const BPKI_ROLE_CA_2: ObjectIdentifier = padded(*b"\x0A\x2A\x70\x00\x02\x00\x22\x65\x4E\x02\x02\0\0\0\0\0\0\0\0\0\0\0\0\0\0\0\0\0\0\0\0\0\0\0\0\0\0\0\0\0");
 /// `bpki-role-ra`: 1.2.112.0.2.0.34.101.78.2.20
-pub const BPKI_ROLE_RA: ObjectIdentifier = ObjectIdentifier::new_unwrap("1.2.112.0.2.0.34.101.78.2.20");
+pub const BPKI_ROLE_RA: ObjectIdentifier = padded(*b"\x0A\x2A\x70\x00\x02\x00\x22\x65\x4E\x02\x14\0\0\0\0\0\0\0\0\0\0\0\0\0\0\0\0\0\0\0\0\0\0\0\0\0\0\0\0\0");
 /// `bpki-role-ocsp`: 1.2.112.0.2.0.34.101.78.2.30
-pub const BPKI_ROLE_OCSP: ObjectIdentifier = ObjectIdentifier::new_unwrap("1.2.112.0.2.0.34.101.78.2.30");
+pub const BPKI_ROLE_OCSP: ObjectIdentifier = padded(*b"\x0A\x2A\x70\x00\x02\x00\x22\x65\x4E\x02\x1E\0\0\0\0\0\0\0\0\0\0\0\0\0\0\0\0\0\0\0\0\0\0\0\0\0\0\0\0\0");
 /// `bpki-role-tsa`: 1.2.112.0.2.0.34.101.78.2.31
-pub const BPKI_ROLE_TSA: ObjectIdentifier = ObjectIdentifier::new_unwrap("1.2.112.0.2.0.34.101.78.2.31");
+pub const BPKI_ROLE_TSA: ObjectIdentifier = padded(*b"\x0A\x2A\x70\x00\x02\x00\x22\x65\x4E\x02\x1F\0\0\0\0\0\0\0\0\0\0\0\0\0\0\0\0\0\0\0\0\0\0\0\0\0\0\0\0\0");
 /// `bpki-role-dvcs`: 1.2.112.0.2.0.34.101.78.2.32
-pub const BPKI_ROLE_DVCS: ObjectIdentifier = ObjectIdentifier::new_unwrap("1.2.112.0.2.0.34.101.78.2.32");
+pub const BPKI_ROLE_DVCS: ObjectIdentifier = padded(*b"\x0A\x2A\x70\x00\x02\x00\x22\x65\x4E\x02\x20\0\0\0\0\0\0\0\0\0\0\0\0\0\0\0\0\0\0\0\0\0\0\0\0\0\0\0\0\0");
 /// `bpki-role-ids`: 1.2.112.0.2.0.34.101.78.2.33
-pub const BPKI_ROLE_IDS: ObjectIdentifier = ObjectIdentifier::new_unwrap("1.2.112.0.2.0.34.101.78.2.33");
+pub const BPKI_ROLE_IDS: ObjectIdentifier = padded(*b"\x0A\x2A\x70\x00\x02\x00\x22\x65\x4E\x02\x21\0\0\0\0\0\0\0\0\0\0\0\0\0\0\0\0\0\0\0\0\0\0\0\0\0\0\0\0\0");
 /// `bpki-role-tls`: 1.2.112.0.2.0.34.101.78.2.50
-pub const BPKI_ROLE_TLS: ObjectIdentifier = ObjectIdentifier::new_unwrap("1.2.112.0.2.0.34.101.78.2.50");
+pub const BPKI_ROLE_TLS: ObjectIdentifier = padded(*b"\x0A\x2A\x70\x00\x02\x00\x22\x65\x4E\x02\x32\0\0\0\0\0\0\0\0\0\0\0\0\0\0\0\0\0\0\0\0\0\0\0\0\0\0\0\0\0");
 /// `bpki-role-np`: 1.2.112.0.2.0.34.101.78.2.60
-pub const BPKI_ROLE_NP: ObjectIdentifier = ObjectIdentifier::new_unwrap("1.2.112.0.2.0.34.101.78.2.60");
+pub const BPKI_ROLE_NP: ObjectIdentifier = padded(*b"\x0A\x2A\x70\x00\x02\x00\x22\x65\x4E\x02\x3C\0\0\0\0\0\0\0\0\0\0\0\0\0\0\0\0\0\0\0\0\0\0\0\0\0\0\0\0\0");
 /// `bpki-role-fnp`: 1.2.112.0.2.0.34.101.78.2.61
-pub const BPKI_ROLE_FNP: ObjectIdentifier = ObjectIdentifier::new_unwrap("1.2.112.0.2.0.34.101.78.2.61");
+pub const BPKI_ROLE_FNP: ObjectIdentifier = padded(*b"\x0A\x2A\x70\x00\x02\x00\x22\x65\x4E\x02\x3D\0\0\0\0\0\0\0\0\0\0\0\0\0\0\0\0\0\0\0\0\0\0\0\0\0\0\0\0\0");
 /// `bpki-role-lr`: 1.2.112.0.2.0.34.101.78.2.62
-pub const BPKI_ROLE_LR: ObjectIdentifier = ObjectIdentifier::new_unwrap("1.2.112.0.2.0.34.101.78.2.62");
+pub const BPKI_ROLE_LR: ObjectIdentifier = padded(*b"\x0A\x2A\x70\x00\x02\x00\x22\x65\x4E\x02\x3E\0\0\0\0\0\0\0\0\0\0\0\0\0\0\0\0\0\0\0\0\0\0\0\0\0\0\0\0\0");
 /// `bpki-role-acd`: 1.2.112.0.2.0.34.101.78.2.70
-pub const BPKI_ROLE_ACD: ObjectIdentifier = ObjectIdentifier::new_unwrap("1.2.112.0.2.0.34.101.78.2.70");
+pub const BPKI_ROLE_ACD: ObjectIdentifier = padded(*b"\x0A\x2A\x70\x00\x02\x00\x22\x65\x4E\x02\x46\0\0\0\0\0\0\0\0\0\0\0\0\0\0\0\0\0\0\0\0\0\0\0\0\0\0\0\0\0");
 /// `bpki-eku`: 1.2.112.0.2.0.34.101.78.3
-pub const BPKI_EKU: ObjectIdentifier = ObjectIdentifier::new_unwrap("1.2.112.0.2.0.34.101.78.3");
+pub const BPKI_EKU: ObjectIdentifier = padded(*b"\x09\x2A\x70\x00\x02\x00\x22\x65\x4E\x03\0\0\0\0\0\0\0\0\0\0\0\0\0\0\0\0\0\0\0\0\0\0\0\0\0\0\0\0\0\0");
 /// `bpki-eku-serverTM`: 1.2.112.0.2.0.34.101.78.3.1
-pub const BPKI_EKU_SERVER_TM: ObjectIdentifier = ObjectIdentifier::new_unwrap("1.2.112.0.2.0.34.101.78.3.1");
+pub const BPKI_EKU_SERVER_TM: ObjectIdentifier = padded(*b"\x0A\x2A\x70\x00\x02\x00\x22\x65\x4E\x03\x01\0\0\0\0\0\0\0\0\0\0\0\0\0\0\0\0\0\0\0\0\0\0\0\0\0\0\0\0\0");
 /// `bpki-eku-clientTM`: 1.2.112.0.2.0.34.101.78.3.2
-pub const BPKI_EKU_CLIENT_TM: ObjectIdentifier = ObjectIdentifier::new_unwrap("1.2.112.0.2.0.34.101.78.3.2");
+pub const BPKI_EKU_CLIENT_TM: ObjectIdentifier = padded(*b"\x0A\x2A\x70\x00\x02\x00\x22\x65\x4E\x03\x02\0\0\0\0\0\0\0\0\0\0\0\0\0\0\0\0\0\0\0\0\0\0\0\0\0\0\0\0\0");
 /// `bpki-at`: 1.2.112.0.2.0.34.101.78.4
-pub const BPKI_AT: ObjectIdentifier = ObjectIdentifier::new_unwrap("1.2.112.0.2.0.34.101.78.4");
+pub const BPKI_AT: ObjectIdentifier = padded(*b"\x09\x2A\x70\x00\x02\x00\x22\x65\x4E\x04\0\0\0\0\0\0\0\0\0\0\0\0\0\0\0\0\0\0\0\0\0\0\0\0\0\0\0\0\0\0");
 /// `bpki-at-certificateValidity`: 1.2.112.0.2.0.34.101.78.4.1
-pub const BPKI_AT_CERTIFICATE_VALIDITY: ObjectIdentifier = ObjectIdentifier::new_unwrap("1.2.112.0.2.0.34.101.78.4.1");
+pub const BPKI_AT_CERTIFICATE_VALIDITY: ObjectIdentifier = padded(*b"\x0A\x2A\x70\x00\x02\x00\x22\x65\x4E\x04\x01\0\0\0\0\0\0\0\0\0\0\0\0\0\0\0\0\0\0\0\0\0\0\0\0\0\0\0\0\0");
 /// `bpki-ct`: 1.2.112.0.2.0.34.101.78.5
-pub const BPKI_CT: ObjectIdentifier = ObjectIdentifier::new_unwrap("1.2.112.0.2.0.34.101.78.5");
+pub const BPKI_CT: ObjectIdentifier = padded(*b"\x09\x2A\x70\x00\x02\x00\x22\x65\x4E\x05\0\0\0\0\0\0\0\0\0\0\0\0\0\0\0\0\0\0\0\0\0\0\0\0\0\0\0\0\0\0");
 /// `bpki-ct-enroll1-req`: 1.2.112.0.2.0.34.101.78.5.1
-pub const BPKI_CT_ENROLL_1_REQ: ObjectIdentifier = ObjectIdentifier::new_unwrap("1.2.112.0.2.0.34.101.78.5.1");
+pub const BPKI_CT_ENROLL_1_REQ: ObjectIdentifier = padded(*b"\x0A\x2A\x70\x00\x02\x00\x22\x65\x4E\x05\x01\0\0\0\0\0\0\0\0\0\0\0\0\0\0\0\0\0\0\0\0\0\0\0\0\0\0\0\0\0");
 /// `bpki-ct-enroll2-req`: 1.2.112.0.2.0.34.101.78.5.2
-pub const BPKI_CT_ENROLL_2_REQ: ObjectIdentifier = ObjectIdentifier::new_unwrap("1.2.112.0.2.0.34.101.78.5.2");
+pub const BPKI_CT_ENROLL_2_REQ: ObjectIdentifier = padded(*b"\x0A\x2A\x70\x00\x02\x00\x22\x65\x4E\x05\x02\0\0\0\0\0\0\0\0\0\0\0\0\0\0\0\0\0\0\0\0\0\0\0\0\0\0\0\0\0");
 /// `bpki-ct-reenroll-req`: 1.2.112.0.2.0.34.101.78.5.3
-pub const BPKI_CT_REENROLL_REQ: ObjectIdentifier = ObjectIdentifier::new_unwrap("1.2.112.0.2.0.34.101.78.5.3");
+pub const BPKI_CT_REENROLL_REQ: ObjectIdentifier = padded(*b"\x0A\x2A\x70\x00\x02\x00\x22\x65\x4E\x05\x03\0\0\0\0\0\0\0\0\0\0\0\0\0\0\0\0\0\0\0\0\0\0\0\0\0\0\0\0\0");
 /// `bpki-ct-spawn-req`: 1.2.112.0.2.0.34.101.78.5.4
-pub const BPKI_CT_SPAWN_REQ: ObjectIdentifier = ObjectIdentifier::new_unwrap("1.2.112.0.2.0.34.101.78.5.4");
+pub const BPKI_CT_SPAWN_REQ: ObjectIdentifier = padded(*b"\x0A\x2A\x70\x00\x02\x00\x22\x65\x4E\x05\x04\0\0\0\0\0\0\0\0\0\0\0\0\0\0\0\0\0\0\0\0\0\0\0\0\0\0\0\0\0");
 /// `bpki-ct-setpwd-req`: 1.2.112.0.2.0.34.101.78.5.5
-pub const BPKI_CT_SETPWD_REQ: ObjectIdentifier = ObjectIdentifier::new_unwrap("1.2.112.0.2.0.34.101.78.5.5");
+pub const BPKI_CT_SETPWD_REQ: ObjectIdentifier = padded(*b"\x0A\x2A\x70\x00\x02\x00\x22\x65\x4E\x05\x05\0\0\0\0\0\0\0\0\0\0\0\0\0\0\0\0\0\0\0\0\0\0\0\0\0\0\0\0\0");
 /// `bpki-ct-revoke-req`: 1.2.112.0.2.0.34.101.78.5.6
-pub const BPKI_CT_REVOKE_REQ: ObjectIdentifier = ObjectIdentifier::new_unwrap("1.2.112.0.2.0.34.101.78.5.6");
+pub const BPKI_CT_REVOKE_REQ: ObjectIdentifier = padded(*b"\x0A\x2A\x70\x00\x02\x00\x22\x65\x4E\x05\x06\0\0\0\0\0\0\0\0\0\0\0\0\0\0\0\0\0\0\0\0\0\0\0\0\0\0\0\0\0");
 /// `bpki-ct-resp`: 1.2.112.0.2.0.34.101.78.5.7
-pub const BPKI_CT_RESP: ObjectIdentifier = ObjectIdentifier::new_unwrap("1.2.112.0.2.0.34.101.78.5.7");
+pub const BPKI_CT_RESP: ObjectIdentifier = padded(*b"\x0A\x2A\x70\x00\x02\x00\x22\x65\x4E\x05\x07\0\0\0\0\0\0\0\0\0\0\0\0\0\0\0\0\0\0\0\0\0\0\0\0\0\0\0\0\0");
 }
 
 /// Identifiers of STB 34.101.47 (brng).
@@ -304,36 +309,37 @@ pub const BPKI_CT_RESP: ObjectIdentifier = ObjectIdentifier::new_unwrap("1.2.112
 /// assert_eq!(const_oid::db::brng::BRNG.to_string(), "1.2.112.0.2.0.34.101.47");
 /// ```
 pub mod brng {
+use super::padded;
 use crate::ObjectIdentifier;
 
 /// `brng`: 1.2.112.0.2.0.34.101.47
-pub const BRNG: ObjectIdentifier = ObjectIdentifier::new_unwrap("1.2.112.0.2.0.34.101.47");
+pub const BRNG: ObjectIdentifier = padded(*b"\x08\x2A\x70\x00\x02\x00\x22\x65\x2F\0\0\0\0\0\0\0\0\0\0\0\0\0\0\0\0\0\0\0\0\0\0\0\0\0\0\0\0\0\0\0");
 /// `hmac-hspec`: 1.2.112.0.2.0.34.101.47.11
-pub const HMAC_HSPEC: ObjectIdentifier = ObjectIdentifier::new_unwrap("1.2.112.0.2.0.34.101.47.11");
+pub const HMAC_HSPEC: ObjectIdentifier = padded(*b"\x09\x2A\x70\x00\x02\x00\x22\x65\x2F\x0B\0\0\0\0\0\0\0\0\0\0\0\0\0\0\0\0\0\0\0\0\0\0\0\0\0\0\0\0\0\0");
 /// `hotp-hspec`: 1.2.112.0.2.0.34.101.47.111
-pub const HOTP_HSPEC: ObjectIdentifier = ObjectIdentifier::new_unwrap("1.2.112.0.2.0.34.101.47.111");
+pub const HOTP_HSPEC: ObjectIdentifier = padded(*b"\x09\x2A\x70\x00\x02\x00\x22\x65\x2F\x6F\0\0\0\0\0\0\0\0\0\0\0\0\0\0\0\0\0\0\0\0\0\0\0\0\0\0\0\0\0\0");
 /// `hotp-hbelt`: 1.2.112.0.2.0.34.101.47.112
-pub const HOTP_HBELT: ObjectIdentifier = ObjectIdentifier::new_unwrap("1.2.112.0.2.0.34.101.47.112");
+pub const HOTP_HBELT: ObjectIdentifier = padded(*b"\x09\x2A\x70\x00\x02\x00\x22\x65\x2F\x70\0\0\0\0\0\0\0\0\0\0\0\0\0\0\0\0\0\0\0\0\0\0\0\0\0\0\0\0\0\0");
 /// `hmac-hbelt`: 1.2.112.0.2.0.34.101.47.12
-pub const HMAC_HBELT: ObjectIdentifier = ObjectIdentifier::new_unwrap("1.2.112.0.2.0.34.101.47.12");
+pub const HMAC_HBELT: ObjectIdentifier = padded(*b"\x09\x2A\x70\x00\x02\x00\x22\x65\x2F\x0C\0\0\0\0\0\0\0\0\0\0\0\0\0\0\0\0\0\0\0\0\0\0\0\0\0\0\0\0\0\0");
 /// `totp-hspec`: 1.2.112.0.2.0.34.101.47.121
-pub const TOTP_HSPEC: ObjectIdentifier = ObjectIdentifier::new_unwrap("1.2.112.0.2.0.34.101.47.121");
+pub const TOTP_HSPEC: ObjectIdentifier = padded(*b"\x09\x2A\x70\x00\x02\x00\x22\x65\x2F\x79\0\0\0\0\0\0\0\0\0\0\0\0\0\0\0\0\0\0\0\0\0\0\0\0\0\0\0\0\0\0");
 /// `totp-hbelt`: 1.2.112.0.2.0.34.101.47.122
-pub const TOTP_HBELT: ObjectIdentifier = ObjectIdentifier::new_unwrap("1.2.112.0.2.0.34.101.47.122");
+pub const TOTP_HBELT: ObjectIdentifier = padded(*b"\x09\x2A\x70\x00\x02\x00\x22\x65\x2F\x7A\0\0\0\0\0\0\0\0\0\0\0\0\0\0\0\0\0\0\0\0\0\0\0\0\0\0\0\0\0\0");
 /// `ocra-hspec`: 1.2.112.0.2.0.34.101.47.131
-pub const OCRA_HSPEC: ObjectIdentifier = ObjectIdentifier::new_unwrap("1.2.112.0.2.0.34.101.47.131");
+pub const OCRA_HSPEC: ObjectIdentifier = padded(*b"\x0A\x2A\x70\x00\x02\x00\x22\x65\x2F\x81\x03\0\0\0\0\0\0\0\0\0\0\0\0\0\0\0\0\0\0\0\0\0\0\0\0\0\0\0\0\0");
 /// `ocra-hbelt`: 1.2.112.0.2.0.34.101.47.132
-pub const OCRA_HBELT: ObjectIdentifier = ObjectIdentifier::new_unwrap("1.2.112.0.2.0.34.101.47.132");
+pub const OCRA_HBELT: ObjectIdentifier = padded(*b"\x0A\x2A\x70\x00\x02\x00\x22\x65\x2F\x81\x04\0\0\0\0\0\0\0\0\0\0\0\0\0\0\0\0\0\0\0\0\0\0\0\0\0\0\0\0\0");
 /// `brng-ctr-hspec`: 1.2.112.0.2.0.34.101.47.21
-pub const BRNG_CTR_HSPEC: ObjectIdentifier = ObjectIdentifier::new_unwrap("1.2.112.0.2.0.34.101.47.21");
+pub const BRNG_CTR_HSPEC: ObjectIdentifier = padded(*b"\x09\x2A\x70\x00\x02\x00\x22\x65\x2F\x15\0\0\0\0\0\0\0\0\0\0\0\0\0\0\0\0\0\0\0\0\0\0\0\0\0\0\0\0\0\0");
 /// `brng-ctr-hbelt`: 1.2.112.0.2.0.34.101.47.22
-pub const BRNG_CTR_HBELT: ObjectIdentifier = ObjectIdentifier::new_unwrap("1.2.112.0.2.0.34.101.47.22");
+pub const BRNG_CTR_HBELT: ObjectIdentifier = padded(*b"\x09\x2A\x70\x00\x02\x00\x22\x65\x2F\x16\0\0\0\0\0\0\0\0\0\0\0\0\0\0\0\0\0\0\0\0\0\0\0\0\0\0\0\0\0\0");
 /// `brng-ctr-stb11761`: 1.2.112.0.2.0.34.101.47.23
-pub const BRNG_CTR_STB_11761: ObjectIdentifier = ObjectIdentifier::new_unwrap("1.2.112.0.2.0.34.101.47.23");
+pub const BRNG_CTR_STB_11761: ObjectIdentifier = padded(*b"\x09\x2A\x70\x00\x02\x00\x22\x65\x2F\x17\0\0\0\0\0\0\0\0\0\0\0\0\0\0\0\0\0\0\0\0\0\0\0\0\0\0\0\0\0\0");
 /// `brng-hmac-hspec`: 1.2.112.0.2.0.34.101.47.31
-pub const BRNG_HMAC_HSPEC: ObjectIdentifier = ObjectIdentifier::new_unwrap("1.2.112.0.2.0.34.101.47.31");
+pub const BRNG_HMAC_HSPEC: ObjectIdentifier = padded(*b"\x09\x2A\x70\x00\x02\x00\x22\x65\x2F\x1F\0\0\0\0\0\0\0\0\0\0\0\0\0\0\0\0\0\0\0\0\0\0\0\0\0\0\0\0\0\0");
 /// `brng-hmac-hbelt`: 1.2.112.0.2.0.34.101.47.32
-pub const BRNG_HMAC_HBELT: ObjectIdentifier = ObjectIdentifier::new_unwrap("1.2.112.0.2.0.34.101.47.32");
+pub const BRNG_HMAC_HBELT: ObjectIdentifier = padded(*b"\x09\x2A\x70\x00\x02\x00\x22\x65\x2F\x20\0\0\0\0\0\0\0\0\0\0\0\0\0\0\0\0\0\0\0\0\0\0\0\0\0\0\0\0\0\0");
 }
 
 /// Identifiers of STB 34.101.79 (btok).
@@ -344,38 +350,39 @@ pub const BRNG_HMAC_HBELT: ObjectIdentifier = ObjectIdentifier::new_unwrap("1.2.
 /// assert_eq!(const_oid::db::btok::BTOK.to_string(), "1.2.112.0.2.0.34.101.79");
 /// ```
 pub mod btok {
+use super::padded;
 use crate::ObjectIdentifier;
 
 /// `btok`: 1.2.112.0.2.0.34.101.79
-pub const BTOK: ObjectIdentifier = ObjectIdentifier::new_unwrap("1.2.112.0.2.0.34.101.79");
+pub const BTOK: ObjectIdentifier = padded(*b"\x08\x2A\x70\x00\x02\x00\x22\x65\x4F\0\0\0\0\0\0\0\0\0\0\0\0\0\0\0\0\0\0\0\0\0\0\0\0\0\0\0\0\0\0\0");
 /// `btok-bauth`: 1.2.112.0.2.0.34.101.79.11
-pub const BTOK_BAUTH: ObjectIdentifier = ObjectIdentifier::new_unwrap("1.2.112.0.2.0.34.101.79.11");
+pub const BTOK_BAUTH: ObjectIdentifier = padded(*b"\x09\x2A\x70\x00\x02\x00\x22\x65\x4F\x0B\0\0\0\0\0\0\0\0\0\0\0\0\0\0\0\0\0\0\0\0\0\0\0\0\0\0\0\0\0\0");
 /// `btok-bauth1`: 1.2.112.0.2.0.34.101.79.12
-pub const BTOK_BAUTH_1: ObjectIdentifier = ObjectIdentifier::new_unwrap("1.2.112.0.2.0.34.101.79.12");
+pub const BTOK_BAUTH_1: ObjectIdentifier = padded(*b"\x09\x2A\x70\x00\x02\x00\x22\x65\x4F\x0C\0\0\0\0\0\0\0\0\0\0\0\0\0\0\0\0\0\0\0\0\0\0\0\0\0\0\0\0\0\0");
 /// `btok-attrs`: 1.2.112.0.2.0.34.101.79.5
-pub const BTOK_ATTRS: ObjectIdentifier = ObjectIdentifier::new_unwrap("1.2.112.0.2.0.34.101.79.5");
+pub const BTOK_ATTRS: ObjectIdentifier = padded(*b"\x09\x2A\x70\x00\x02\x00\x22\x65\x4F\x05\0\0\0\0\0\0\0\0\0\0\0\0\0\0\0\0\0\0\0\0\0\0\0\0\0\0\0\0\0\0");
 /// `id-DocumentValidity`: 1.2.112.0.2.0.34.101.79.5.1
-pub const ID_DOCUMENT_VALIDITY: ObjectIdentifier = ObjectIdentifier::new_unwrap("1.2.112.0.2.0.34.101.79.5.1");
+pub const ID_DOCUMENT_VALIDITY: ObjectIdentifier = padded(*b"\x0A\x2A\x70\x00\x02\x00\x22\x65\x4F\x05\x01\0\0\0\0\0\0\0\0\0\0\0\0\0\0\0\0\0\0\0\0\0\0\0\0\0\0\0\0\0");
 /// `id-AgeVerification`: 1.2.112.0.2.0.34.101.79.5.2
-pub const ID_AGE_VERIFICATION: ObjectIdentifier = ObjectIdentifier::new_unwrap("1.2.112.0.2.0.34.101.79.5.2");
+pub const ID_AGE_VERIFICATION: ObjectIdentifier = padded(*b"\x0A\x2A\x70\x00\x02\x00\x22\x65\x4F\x05\x02\0\0\0\0\0\0\0\0\0\0\0\0\0\0\0\0\0\0\0\0\0\0\0\0\0\0\0\0\0");
 /// `id-PlaceVerification`: 1.2.112.0.2.0.34.101.79.5.3
-pub const ID_PLACE_VERIFICATION: ObjectIdentifier = ObjectIdentifier::new_unwrap("1.2.112.0.2.0.34.101.79.5.3");
+pub const ID_PLACE_VERIFICATION: ObjectIdentifier = padded(*b"\x0A\x2A\x70\x00\x02\x00\x22\x65\x4F\x05\x03\0\0\0\0\0\0\0\0\0\0\0\0\0\0\0\0\0\0\0\0\0\0\0\0\0\0\0\0\0");
 /// `btok-access`: 1.2.112.0.2.0.34.101.79.6
-pub const BTOK_ACCESS: ObjectIdentifier = ObjectIdentifier::new_unwrap("1.2.112.0.2.0.34.101.79.6");
+pub const BTOK_ACCESS: ObjectIdentifier = padded(*b"\x09\x2A\x70\x00\x02\x00\x22\x65\x4F\x06\0\0\0\0\0\0\0\0\0\0\0\0\0\0\0\0\0\0\0\0\0\0\0\0\0\0\0\0\0\0");
 /// `id-eIdAccess`: 1.2.112.0.2.0.34.101.79.6.1
-pub const ID_E_ID_ACCESS: ObjectIdentifier = ObjectIdentifier::new_unwrap("1.2.112.0.2.0.34.101.79.6.1");
+pub const ID_E_ID_ACCESS: ObjectIdentifier = padded(*b"\x0A\x2A\x70\x00\x02\x00\x22\x65\x4F\x06\x01\0\0\0\0\0\0\0\0\0\0\0\0\0\0\0\0\0\0\0\0\0\0\0\0\0\0\0\0\0");
 /// `id-eSignAccess`: 1.2.112.0.2.0.34.101.79.6.2
-pub const ID_E_SIGN_ACCESS: ObjectIdentifier = ObjectIdentifier::new_unwrap("1.2.112.0.2.0.34.101.79.6.2");
+pub const ID_E_SIGN_ACCESS: ObjectIdentifier = padded(*b"\x0A\x2A\x70\x00\x02\x00\x22\x65\x4F\x06\x02\0\0\0\0\0\0\0\0\0\0\0\0\0\0\0\0\0\0\0\0\0\0\0\0\0\0\0\0\0");
 /// `btok-apps`: 1.2.112.0.2.0.34.101.79.7
-pub const BTOK_APPS: ObjectIdentifier = ObjectIdentifier::new_unwrap("1.2.112.0.2.0.34.101.79.7");
+pub const BTOK_APPS: ObjectIdentifier = padded(*b"\x09\x2A\x70\x00\x02\x00\x22\x65\x4F\x07\0\0\0\0\0\0\0\0\0\0\0\0\0\0\0\0\0\0\0\0\0\0\0\0\0\0\0\0\0\0");
 /// `id-eID`: 1.2.112.0.2.0.34.101.79.7.1
-pub const ID_EID: ObjectIdentifier = ObjectIdentifier::new_unwrap("1.2.112.0.2.0.34.101.79.7.1");
+pub const ID_EID: ObjectIdentifier = padded(*b"\x0A\x2A\x70\x00\x02\x00\x22\x65\x4F\x07\x01\0\0\0\0\0\0\0\0\0\0\0\0\0\0\0\0\0\0\0\0\0\0\0\0\0\0\0\0\0");
 /// `id-eSign`: 1.2.112.0.2.0.34.101.79.7.2
-pub const ID_E_SIGN: ObjectIdentifier = ObjectIdentifier::new_unwrap("1.2.112.0.2.0.34.101.79.7.2");
+pub const ID_E_SIGN: ObjectIdentifier = padded(*b"\x0A\x2A\x70\x00\x02\x00\x22\x65\x4F\x07\x02\0\0\0\0\0\0\0\0\0\0\0\0\0\0\0\0\0\0\0\0\0\0\0\0\0\0\0\0\0");
 /// `btok-cvext`: 1.2.112.0.2.0.34.101.79.8
-pub const BTOK_CVEXT: ObjectIdentifier = ObjectIdentifier::new_unwrap("1.2.112.0.2.0.34.101.79.8");
+pub const BTOK_CVEXT: ObjectIdentifier = padded(*b"\x09\x2A\x70\x00\x02\x00\x22\x65\x4F\x08\0\0\0\0\0\0\0\0\0\0\0\0\0\0\0\0\0\0\0\0\0\0\0\0\0\0\0\0\0\0");
 /// `id-SignAuthExt`: 1.2.112.0.2.0.34.101.79.8.1
-pub const ID_SIGN_AUTH_EXT: ObjectIdentifier = ObjectIdentifier::new_unwrap("1.2.112.0.2.0.34.101.79.8.1");
+pub const ID_SIGN_AUTH_EXT: ObjectIdentifier = padded(*b"\x0A\x2A\x70\x00\x02\x00\x22\x65\x4F\x08\x01\0\0\0\0\0\0\0\0\0\0\0\0\0\0\0\0\0\0\0\0\0\0\0\0\0\0\0\0\0");
 }
 
 /// Identifiers of [FIPS 202](https://doi.org/10.6028/NIST.FIPS.202).
@@ -386,24 +393,25 @@ pub const ID_SIGN_AUTH_EXT: ObjectIdentifier = ObjectIdentifier::new_unwrap("1.2
 /// assert_eq!(const_oid::db::fips202::NIST_ALGORITHMS.to_string(), "2.16.840.1.101.3.4");
 /// ```
 pub mod fips202 {
+use super::padded;
 use crate::ObjectIdentifier;
 
 /// `nistAlgorithms`: 2.16.840.1.101.3.4
-pub const NIST_ALGORITHMS: ObjectIdentifier = ObjectIdentifier::new_unwrap("2.16.840.1.101.3.4");
+pub const NIST_ALGORITHMS: ObjectIdentifier = padded(*b"\x07\x60\x86\x48\x01\x65\x03\x04\0\0\0\0\0\0\0\0\0\0\0\0\0\0\0\0\0\0\0\0\0\0\0\0\0\0\0\0\0\0\0\0");
 /// `hashAlgs`: 2.16.840.1.101.3.4.2
-pub const HASH_ALGS: ObjectIdentifier = ObjectIdentifier::new_unwrap("2.16.840.1.101.3.4.2");
+pub const HASH_ALGS: ObjectIdentifier = padded(*b"\x08\x60\x86\x48\x01\x65\x03\x04\x02\0\0\0\0\0\0\0\0\0\0\0\0\0\0\0\0\0\0\0\0\0\0\0\0\0\0\0\0\0\0\0");
 /// `id-sha3-512`: 2.16.840.1.101.3.4.2.10
-pub const ID_SHA_3_512: ObjectIdentifier = ObjectIdentifier::new_unwrap("2.16.840.1.101.3.4.2.10");
+pub const ID_SHA_3_512: ObjectIdentifier = padded(*b"\x09\x60\x86\x48\x01\x65\x03\x04\x02\x0A\0\0\0\0\0\0\0\0\0\0\0\0\0\0\0\0\0\0\0\0\0\0\0\0\0\0\0\0\0\0");
 /// `id-shake128`: 2.16.840.1.101.3.4.2.11
-pub const ID_SHAKE_128: ObjectIdentifier = ObjectIdentifier::new_unwrap("2.16.840.1.101.3.4.2.11");
+pub const ID_SHAKE_128: ObjectIdentifier = padded(*b"\x09\x60\x86\x48\x01\x65\x03\x04\x02\x0B\0\0\0\0\0\0\0\0\0\0\0\0\0\0\0\0\0\0\0\0\0\0\0\0\0\0\0\0\0\0");
 /// `id-shake256`: 2.16.840.1.101.3.4.2.12
-pub const ID_SHAKE_256: ObjectIdentifier = ObjectIdentifier::new_unwrap("2.16.840.1.101.3.4.2.12");
+pub const ID_SHAKE_256: ObjectIdentifier = padded(*b"\x09\x60\x86\x48\x01\x65\x03\x04\x02\x0C\0\0\0\0\0\0\0\0\0\0\0\0\0\0\0\0\0\0\0\0\0\0\0\0\0\0\0\0\0\0");
 /// `id-sha3-224`: 2.16.840.1.101.3.4.2.7
-pub const ID_SHA_3_224: ObjectIdentifier = ObjectIdentifier::new_unwrap("2.16.840.1.101.3.4.2.7");
+pub const ID_SHA_3_224: ObjectIdentifier = padded(*b"\x09\x60\x86\x48\x01\x65\x03\x04\x02\x07\0\0\0\0\0\0\0\0\0\0\0\0\0\0\0\0\0\0\0\0\0\0\0\0\0\0\0\0\0\0");
 /// `id-sha3-256`: 2.16.840.1.101.3.4.2.8
-pub const ID_SHA_3_256: ObjectIdentifier = ObjectIdentifier::new_unwrap("2.16.840.1.101.3.4.2.8");
+pub const ID_SHA_3_256: ObjectIdentifier = padded(*b"\x09\x60\x86\x48\x01\x65\x03\x04\x02\x08\0\0\0\0\0\0\0\0\0\0\0\0\0\0\0\0\0\0\0\0\0\0\0\0\0\0\0\0\0\0");
 /// `id-sha3-384`: 2.16.840.1.101.3.4.2.9
-pub const ID_SHA_3_384: ObjectIdentifier = ObjectIdentifier::new_unwrap("2.16.840.1.101.3.4.2.9");
+pub const ID_SHA_3_384: ObjectIdentifier = padded(*b"\x09\x60\x86\x48\x01\x65\x03\x04\x02\x09\0\0\0\0\0\0\0\0\0\0\0\0\0\0\0\0\0\0\0\0\0\0\0\0\0\0\0\0\0\0");
 }
 
 /// Identifiers of [FIPS 203](https://doi.org/10.6028/NIST.FIPS.203).
@@ -414,18 +422,19 @@ pub const ID_SHA_3_384: ObjectIdentifier = ObjectIdentifier::new_unwrap("2.16.84
 /// assert_eq!(const_oid::db::fips203::NIST_ALGORITHMS.to_string(), "2.16.840.1.101.3.4");
 /// ```
 pub mod fips203 {
+use super::padded;
 use crate::ObjectIdentifier;
 
 /// `nistAlgorithms`: 2.16.840.1.101.3.4
-pub const NIST_ALGORITHMS: ObjectIdentifier = ObjectIdentifier::new_unwrap("2.16.840.1.101.3.4");
+pub const NIST_ALGORITHMS: ObjectIdentifier = padded(*b"\x07\x60\x86\x48\x01\x65\x03\x04\0\0\0\0\0\0\0\0\0\0\0\0\0\0\0\0\0\0\0\0\0\0\0\0\0\0\0\0\0\0\0\0");
 /// `kems`: 2.16.840.1.101.3.4.4
-pub const KEMS: ObjectIdentifier = ObjectIdentifier::new_unwrap("2.16.840.1.101.3.4.4");
+pub const KEMS: ObjectIdentifier = padded(*b"\x08\x60\x86\x48\x01\x65\x03\x04\x04\0\0\0\0\0\0\0\0\0\0\0\0\0\0\0\0\0\0\0\0\0\0\0\0\0\0\0\0\0\0\0");
 /// `id-alg-ml-kem-512`: 2.16.840.1.101.3.4.4.1
-pub const ID_ALG_ML_KEM_512: ObjectIdentifier = ObjectIdentifier::new_unwrap("2.16.840.1.101.3.4.4.1");
+pub const ID_ALG_ML_KEM_512: ObjectIdentifier = padded(*b"\x09\x60\x86\x48\x01\x65\x03\x04\x04\x01\0\0\0\0\0\0\0\0\0\0\0\0\0\0\0\0\0\0\0\0\0\0\0\0\0\0\0\0\0\0");
 /// `id-alg-ml-kem-768`: 2.16.840.1.101.3.4.4.2
-pub const ID_ALG_ML_KEM_768: ObjectIdentifier = ObjectIdentifier::new_unwrap("2.16.840.1.101.3.4.4.2");
+pub const ID_ALG_ML_KEM_768: ObjectIdentifier = padded(*b"\x09\x60\x86\x48\x01\x65\x03\x04\x04\x02\0\0\0\0\0\0\0\0\0\0\0\0\0\0\0\0\0\0\0\0\0\0\0\0\0\0\0\0\0\0");
 /// `id-alg-ml-kem-1024`: 2.16.840.1.101.3.4.4.3
-pub const ID_ALG_ML_KEM_1024: ObjectIdentifier = ObjectIdentifier::new_unwrap("2.16.840.1.101.3.4.4.3");
+pub const ID_ALG_ML_KEM_1024: ObjectIdentifier = padded(*b"\x09\x60\x86\x48\x01\x65\x03\x04\x04\x03\0\0\0\0\0\0\0\0\0\0\0\0\0\0\0\0\0\0\0\0\0\0\0\0\0\0\0\0\0\0");
 }
 
 /// Identifiers of [FIPS 204](https://doi.org/10.6028/NIST.FIPS.204).
@@ -436,24 +445,25 @@ pub const ID_ALG_ML_KEM_1024: ObjectIdentifier = ObjectIdentifier::new_unwrap("2
 /// assert_eq!(const_oid::db::fips204::NIST_ALGORITHMS.to_string(), "2.16.840.1.101.3.4");
 /// ```
 pub mod fips204 {
+use super::padded;
 use crate::ObjectIdentifier;
 
 /// `nistAlgorithms`: 2.16.840.1.101.3.4
-pub const NIST_ALGORITHMS: ObjectIdentifier = ObjectIdentifier::new_unwrap("2.16.840.1.101.3.4");
+pub const NIST_ALGORITHMS: ObjectIdentifier = padded(*b"\x07\x60\x86\x48\x01\x65\x03\x04\0\0\0\0\0\0\0\0\0\0\0\0\0\0\0\0\0\0\0\0\0\0\0\0\0\0\0\0\0\0\0\0");
 /// `sigAlgs`: 2.16.840.1.101.3.4.3
-pub const SIG_ALGS: ObjectIdentifier = ObjectIdentifier::new_unwrap("2.16.840.1.101.3.4.3");
+pub const SIG_ALGS: ObjectIdentifier = padded(*b"\x08\x60\x86\x48\x01\x65\x03\x04\x03\0\0\0\0\0\0\0\0\0\0\0\0\0\0\0\0\0\0\0\0\0\0\0\0\0\0\0\0\0\0\0");
 /// `id-ml-dsa-44`: 2.16.840.1.101.3.4.3.17
-pub const ID_ML_DSA_44: ObjectIdentifier = ObjectIdentifier::new_unwrap("2.16.840.1.101.3.4.3.17");
+pub const ID_ML_DSA_44: ObjectIdentifier = padded(*b"\x09\x60\x86\x48\x01\x65\x03\x04\x03\x11\0\0\0\0\0\0\0\0\0\0\0\0\0\0\0\0\0\0\0\0\0\0\0\0\0\0\0\0\0\0");
 /// `id-ml-dsa-65`: 2.16.840.1.101.3.4.3.18
-pub const ID_ML_DSA_65: ObjectIdentifier = ObjectIdentifier::new_unwrap("2.16.840.1.101.3.4.3.18");
+pub const ID_ML_DSA_65: ObjectIdentifier = padded(*b"\x09\x60\x86\x48\x01\x65\x03\x04\x03\x12\0\0\0\0\0\0\0\0\0\0\0\0\0\0\0\0\0\0\0\0\0\0\0\0\0\0\0\0\0\0");
 /// `id-ml-dsa-87`: 2.16.840.1.101.3.4.3.19
-pub const ID_ML_DSA_87: ObjectIdentifier = ObjectIdentifier::new_unwrap("2.16.840.1.101.3.4.3.19");
+pub const ID_ML_DSA_87: ObjectIdentifier = padded(*b"\x09\x60\x86\x48\x01\x65\x03\x04\x03\x13\0\0\0\0\0\0\0\0\0\0\0\0\0\0\0\0\0\0\0\0\0\0\0\0\0\0\0\0\0\0");
 /// `id-hash-ml-dsa-44-with-sha512`: 2.16.840.1.101.3.4.3.32
-pub const ID_HASH_ML_DSA_44_WITH_SHA_512: ObjectIdentifier = ObjectIdentifier::new_unwrap("2.16.840.1.101.3.4.3.32");
+pub const ID_HASH_ML_DSA_44_WITH_SHA_512: ObjectIdentifier = padded(*b"\x09\x60\x86\x48\x01\x65\x03\x04\x03\x20\0\0\0\0\0\0\0\0\0\0\0\0\0\0\0\0\0\0\0\0\0\0\0\0\0\0\0\0\0\0");
 /// `id-hash-ml-dsa-65-with-sha512`: 2.16.840.1.101.3.4.3.33
-pub const ID_HASH_ML_DSA_65_WITH_SHA_512: ObjectIdentifier = ObjectIdentifier::new_unwrap("2.16.840.1.101.3.4.3.33");
+pub const ID_HASH_ML_DSA_65_WITH_SHA_512: ObjectIdentifier = padded(*b"\x09\x60\x86\x48\x01\x65\x03\x04\x03\x21\0\0\0\0\0\0\0\0\0\0\0\0\0\0\0\0\0\0\0\0\0\0\0\0\0\0\0\0\0\0");
 /// `id-hash-ml-dsa-87-with-sha512`: 2.16.840.1.101.3.4.3.34
-pub const ID_HASH_ML_DSA_87_WITH_SHA_512: ObjectIdentifier = ObjectIdentifier::new_unwrap("2.16.840.1.101.3.4.3.34");
+pub const ID_HASH_ML_DSA_87_WITH_SHA_512: ObjectIdentifier = padded(*b"\x09\x60\x86\x48\x01\x65\x03\x04\x03\x22\0\0\0\0\0\0\0\0\0\0\0\0\0\0\0\0\0\0\0\0\0\0\0\0\0\0\0\0\0\0");
 }
 
 /// Identifiers of [FIPS 205](https://doi.org/10.6028/NIST.FIPS.205).
@@ -464,60 +474,61 @@ pub const ID_HASH_ML_DSA_87_WITH_SHA_512: ObjectIdentifier = ObjectIdentifier::n
 /// assert_eq!(const_oid::db::fips205::NIST_ALGORITHMS.to_string(), "2.16.840.1.101.3.4");
 /// ```
 pub mod fips205 {
+use super::padded;
 use crate::ObjectIdentifier;
 
 /// `nistAlgorithms`: 2.16.840.1.101.3.4
-pub const NIST_ALGORITHMS: ObjectIdentifier = ObjectIdentifier::new_unwrap("2.16.840.1.101.3.4");
+pub const NIST_ALGORITHMS: ObjectIdentifier = padded(*b"\x07\x60\x86\x48\x01\x65\x03\x04\0\0\0\0\0\0\0\0\0\0\0\0\0\0\0\0\0\0\0\0\0\0\0\0\0\0\0\0\0\0\0\0");
 /// `sigAlgs`: 2.16.840.1.101.3.4.3
-pub const SIG_ALGS: ObjectIdentifier = ObjectIdentifier::new_unwrap("2.16.840.1.101.3.4.3");
+pub const SIG_ALGS: ObjectIdentifier = padded(*b"\x08\x60\x86\x48\x01\x65\x03\x04\x03\0\0\0\0\0\0\0\0\0\0\0\0\0\0\0\0\0\0\0\0\0\0\0\0\0\0\0\0\0\0\0");
 /// `id-slh-dsa-sha2-128s`: 2.16.840.1.101.3.4.3.20
-pub const ID_SLH_DSA_SHA_2_128_S: ObjectIdentifier = ObjectIdentifier::new_unwrap("2.16.840.1.101.3.4.3.20");
+pub const ID_SLH_DSA_SHA_2_128_S: ObjectIdentifier = padded(*b"\x09\x60\x86\x48\x01\x65\x03\x04\x03\x14\0\0\0\0\0\0\0\0\0\0\0\0\0\0\0\0\0\0\0\0\0\0\0\0\0\0\0\0\0\0");
 /// `id-slh-dsa-sha2-128f`: 2.16.840.1.101.3.4.3.21
-pub const ID_SLH_DSA_SHA_2_128_F: ObjectIdentifier = ObjectIdentifier::new_unwrap("2.16.840.1.101.3.4.3.21");
+pub const ID_SLH_DSA_SHA_2_128_F: ObjectIdentifier = padded(*b"\x09\x60\x86\x48\x01\x65\x03\x04\x03\x15\0\0\0\0\0\0\0\0\0\0\0\0\0\0\0\0\0\0\0\0\0\0\0\0\0\0\0\0\0\0");
 /// `id-slh-dsa-sha2-192s`: 2.16.840.1.101.3.4.3.22
-pub const ID_SLH_DSA_SHA_2_192_S: ObjectIdentifier = ObjectIdentifier::new_unwrap("2.16.840.1.101.3.4.3.22");
+pub const ID_SLH_DSA_SHA_2_192_S: ObjectIdentifier = padded(*b"\x09\x60\x86\x48\x01\x65\x03\x04\x03\x16\0\0\0\0\0\0\0\0\0\0\0\0\0\0\0\0\0\0\0\0\0\0\0\0\0\0\0\0\0\0");
 /// `id-slh-dsa-sha2-192f`: 2.16.840.1.101.3.4.3.23
-pub const ID_SLH_DSA_SHA_2_192_F: ObjectIdentifier = ObjectIdentifier::new_unwrap("2.16.840.1.101.3.4.3.23");
+pub const ID_SLH_DSA_SHA_2_192_F: ObjectIdentifier = padded(*b"\x09\x60\x86\x48\x01\x65\x03\x04\x03\x17\0\0\0\0\0\0\0\0\0\0\0\0\0\0\0\0\0\0\0\0\0\0\0\0\0\0\0\0\0\0");
 /// `id-slh-dsa-sha2-256s`: 2.16.840.1.101.3.4.3.24
-pub const ID_SLH_DSA_SHA_2_256_S: ObjectIdentifier = ObjectIdentifier::new_unwrap("2.16.840.1.101.3.4.3.24");
+pub const ID_SLH_DSA_SHA_2_256_S: ObjectIdentifier = padded(*b"\x09\x60\x86\x48\x01\x65\x03\x04\x03\x18\0\0\0\0\0\0\0\0\0\0\0\0\0\0\0\0\0\0\0\0\0\0\0\0\0\0\0\0\0\0");
 /// `id-slh-dsa-sha2-256f`: 2.16.840.1.101.3.4.3.25
-pub const ID_SLH_DSA_SHA_2_256_F: ObjectIdentifier = ObjectIdentifier::new_unwrap("2.16.840.1.101.3.4.3.25");
+pub const ID_SLH_DSA_SHA_2_256_F: ObjectIdentifier = padded(*b"\x09\x60\x86\x48\x01\x65\x03\x04\x03\x19\0\0\0\0\0\0\0\0\0\0\0\0\0\0\0\0\0\0\0\0\0\0\0\0\0\0\0\0\0\0");
 /// `id-slh-dsa-shake-128s`: 2.16.840.1.101.3.4.3.26
-pub const ID_SLH_DSA_SHAKE_128_S: ObjectIdentifier = ObjectIdentifier::new_unwrap("2.16.840.1.101.3.4.3.26");
+pub const ID_SLH_DSA_SHAKE_128_S: ObjectIdentifier = padded(*b"\x09\x60\x86\x48\x01\x65\x03\x04\x03\x1A\0\0\0\0\0\0\0\0\0\0\0\0\0\0\0\0\0\0\0\0\0\0\0\0\0\0\0\0\0\0");
 /// `id-slh-dsa-shake-128f`: 2.16.840.1.101.3.4.3.27
-pub const ID_SLH_DSA_SHAKE_128_F: ObjectIdentifier = ObjectIdentifier::new_unwrap("2.16.840.1.101.3.4.3.27");
+pub const ID_SLH_DSA_SHAKE_128_F: ObjectIdentifier = padded(*b"\x09\x60\x86\x48\x01\x65\x03\x04\x03\x1B\0\0\0\0\0\0\0\0\0\0\0\0\0\0\0\0\0\0\0\0\0\0\0\0\0\0\0\0\0\0");
 /// `id-slh-dsa-shake-192s`: 2.16.840.1.101.3.4.3.28
-pub const ID_SLH_DSA_SHAKE_192_S: ObjectIdentifier = ObjectIdentifier::new_unwrap("2.16.840.1.101.3.4.3.28");
+pub const ID_SLH_DSA_SHAKE_192_S: ObjectIdentifier = padded(*b"\x09\x60\x86\x48\x01\x65\x03\x04\x03\x1C\0\0\0\0\0\0\0\0\0\0\0\0\0\0\0\0\0\0\0\0\0\0\0\0\0\0\0\0\0\0");
 /// `id-slh-dsa-shake-192f`: 2.16.840.1.101.3.4.3.29
-pub const ID_SLH_DSA_SHAKE_192_F: ObjectIdentifier = ObjectIdentifier::new_unwrap("2.16.840.1.101.3.4.3.29");
+pub const ID_SLH_DSA_SHAKE_192_F: ObjectIdentifier = padded(*b"\x09\x60\x86\x48\x01\x65\x03\x04\x03\x1D\0\0\0\0\0\0\0\0\0\0\0\0\0\0\0\0\0\0\0\0\0\0\0\0\0\0\0\0\0\0");
 /// `id-slh-dsa-shake-256s`: 2.16.840.1.101.3.4.3.30
-pub const ID_SLH_DSA_SHAKE_256_S: ObjectIdentifier = ObjectIdentifier::new_unwrap("2.16.840.1.101.3.4.3.30");
+pub const ID_SLH_DSA_SHAKE_256_S: ObjectIdentifier = padded(*b"\x09\x60\x86\x48\x01\x65\x03\x04\x03\x1E\0\0\0\0\0\0\0\0\0\0\0\0\0\0\0\0\0\0\0\0\0\0\0\0\0\0\0\0\0\0");
 /// `id-slh-dsa-shake-256f`: 2.16.840.1.101.3.4.3.31
-pub const ID_SLH_DSA_SHAKE_256_F: ObjectIdentifier = ObjectIdentifier::new_unwrap("2.16.840.1.101.3.4.3.31");
+pub const ID_SLH_DSA_SHAKE_256_F: ObjectIdentifier = padded(*b"\x09\x60\x86\x48\x01\x65\x03\x04\x03\x1F\0\0\0\0\0\0\0\0\0\0\0\0\0\0\0\0\0\0\0\0\0\0\0\0\0\0\0\0\0\0");
 /// `id-hash-slh-dsa-sha2-128s-with-sha256`: 2.16.840.1.101.3.4.3.35
-pub const ID_HASH_SLH_DSA_SHA_2_128_S_WITH_SHA_256: ObjectIdentifier = ObjectIdentifier::new_unwrap("2.16.840.1.101.3.4.3.35");
+pub const ID_HASH_SLH_DSA_SHA_2_128_S_WITH_SHA_256: ObjectIdentifier = padded(*b"\x09\x60\x86\x48\x01\x65\x03\x04\x03\x23\0\0\0\0\0\0\0\0\0\0\0\0\0\0\0\0\0\0\0\0\0\0\0\0\0\0\0\0\0\0");
 /// `id-hash-slh-dsa-sha2-128f-with-sha256`: 2.16.840.1.101.3.4.3.36
-pub const ID_HASH_SLH_DSA_SHA_2_128_F_WITH_SHA_256: ObjectIdentifier = ObjectIdentifier::new_unwrap("2.16.840.1.101.3.4.3.36");
+pub const ID_HASH_SLH_DSA_SHA_2_128_F_WITH_SHA_256: ObjectIdentifier = padded(*b"\x09\x60\x86\x48\x01\x65\x03\x04\x03\x24\0\0\0\0\0\0\0\0\0\0\0\0\0\0\0\0\0\0\0\0\0\0\0\0\0\0\0\0\0\0");
 /// `id-hash-slh-dsa-sha2-192s-with-sha512`: 2.16.840.1.101.3.4.3.37
-pub const ID_HASH_SLH_DSA_SHA_2_192_S_WITH_SHA_512: ObjectIdentifier = ObjectIdentifier::new_unwrap("2.16.840.1.101.3.4.3.37");
+pub const ID_HASH_SLH_DSA_SHA_2_192_S_WITH_SHA_512: ObjectIdentifier = padded(*b"\x09\x60\x86\x48\x01\x65\x03\x04\x03\x25\0\0\0\0\0\0\0\0\0\0\0\0\0\0\0\0\0\0\0\0\0\0\0\0\0\0\0\0\0\0");
 /// `id-hash-slh-dsa-sha2-192f-with-sha512`: 2.16.840.1.101.3.4.3.38
-pub const ID_HASH_SLH_DSA_SHA_2_192_F_WITH_SHA_512: ObjectIdentifier = ObjectIdentifier::new_unwrap("2.16.840.1.101.3.4.3.38");
+pub const ID_HASH_SLH_DSA_SHA_2_192_F_WITH_SHA_512: ObjectIdentifier = padded(*b"\x09\x60\x86\x48\x01\x65\x03\x04\x03\x26\0\0\0\0\0\0\0\0\0\0\0\0\0\0\0\0\0\0\0\0\0\0\0\0\0\0\0\0\0\0");
 /// `id-hash-slh-dsa-sha2-256s-with-sha512`: 2.16.840.1.101.3.4.3.39
-pub const ID_HASH_SLH_DSA_SHA_2_256_S_WITH_SHA_512: ObjectIdentifier = ObjectIdentifier::new_unwrap("2.16.840.1.101.3.4.3.39");
+pub const ID_HASH_SLH_DSA_SHA_2_256_S_WITH_SHA_512: ObjectIdentifier = padded(*b"\x09\x60\x86\x48\x01\x65\x03\x04\x03\x27\0\0\0\0\0\0\0\0\0\0\0\0\0\0\0\0\0\0\0\0\0\0\0\0\0\0\0\0\0\0");
 /// `id-hash-slh-dsa-sha2-256f-with-sha512`: 2.16.840.1.101.3.4.3.40
-pub const ID_HASH_SLH_DSA_SHA_2_256_F_WITH_SHA_512: ObjectIdentifier = ObjectIdentifier::new_unwrap("2.16.840.1.101.3.4.3.40");
+pub const ID_HASH_SLH_DSA_SHA_2_256_F_WITH_SHA_512: ObjectIdentifier = padded(*b"\x09\x60\x86\x48\x01\x65\x03\x04\x03\x28\0\0\0\0\0\0\0\0\0\0\0\0\0\0\0\0\0\0\0\0\0\0\0\0\0\0\0\0\0\0");
 /// `id-hash-slh-dsa-shake-128s-with-shake128`: 2.16.840.1.101.3.4.3.41
-pub const ID_HASH_SLH_DSA_SHAKE_128_S_WITH_SHAKE_128: ObjectIdentifier = ObjectIdentifier::new_unwrap("2.16.840.1.101.3.4.3.41");
+pub const ID_HASH_SLH_DSA_SHAKE_128_S_WITH_SHAKE_128: ObjectIdentifier = padded(*b"\x09\x60\x86\x48\x01\x65\x03\x04\x03\x29\0\0\0\0\0\0\0\0\0\0\0\0\0\0\0\0\0\0\0\0\0\0\0\0\0\0\0\0\0\0");
 /// `id-hash-slh-dsa-shake-128f-with-shake128`: 2.16.840.1.101.3.4.3.42
-pub const ID_HASH_SLH_DSA_SHAKE_128_F_WITH_SHAKE_128: ObjectIdentifier = ObjectIdentifier::new_unwrap("2.16.840.1.101.3.4.3.42");
+pub const ID_HASH_SLH_DSA_SHAKE_128_F_WITH_SHAKE_128: ObjectIdentifier = padded(*b"\x09\x60\x86\x48\x01\x65\x03\x04\x03\x2A\0\0\0\0\0\0\0\0\0\0\0\0\0\0\0\0\0\0\0\0\0\0\0\0\0\0\0\0\0\0");
 /// `id-hash-slh-dsa-shake-192s-with-shake256`: 2.16.840.1.101.3.4.3.43
-pub const ID_HASH_SLH_DSA_SHAKE_192_S_WITH_SHAKE_256: ObjectIdentifier = ObjectIdentifier::new_unwrap("2.16.840.1.101.3.4.3.43");
+pub const ID_HASH_SLH_DSA_SHAKE_192_S_WITH_SHAKE_256: ObjectIdentifier = padded(*b"\x09\x60\x86\x48\x01\x65\x03\x04\x03\x2B\0\0\0\0\0\0\0\0\0\0\0\0\0\0\0\0\0\0\0\0\0\0\0\0\0\0\0\0\0\0");
 /// `id-hash-slh-dsa-shake-192f-with-shake256`: 2.16.840.1.101.3.4.3.44
-pub const ID_HASH_SLH_DSA_SHAKE_192_F_WITH_SHAKE_256: ObjectIdentifier = ObjectIdentifier::new_unwrap("2.16.840.1.101.3.4.3.44");
+pub const ID_HASH_SLH_DSA_SHAKE_192_F_WITH_SHAKE_256: ObjectIdentifier = padded(*b"\x09\x60\x86\x48\x01\x65\x03\x04\x03\x2C\0\0\0\0\0\0\0\0\0\0\0\0\0\0\0\0\0\0\0\0\0\0\0\0\0\0\0\0\0\0");
 /// `id-hash-slh-dsa-shake-256s-with-shake256`: 2.16.840.1.101.3.4.3.45
-pub const ID_HASH_SLH_DSA_SHAKE_256_S_WITH_SHAKE_256: ObjectIdentifier = ObjectIdentifier::new_unwrap("2.16.840.1.101.3.4.3.45");
+pub const ID_HASH_SLH_DSA_SHAKE_256_S_WITH_SHAKE_256: ObjectIdentifier = padded(*b"\x09\x60\x86\x48\x01\x65\x03\x04\x03\x2D\0\0\0\0\0\0\0\0\0\0\0\0\0\0\0\0\0\0\0\0\0\0\0\0\0\0\0\0\0\0");
 /// `id-hash-slh-dsa-shake-256f-with-shake256`: 2.16.840.1.101.3.4.3.46
-pub const ID_HASH_SLH_DSA_SHAKE_256_F_WITH_SHAKE_256: ObjectIdentifier = ObjectIdentifier::new_unwrap("2.16.840.1.101.3.4.3.46");
+pub const ID_HASH_SLH_DSA_SHAKE_256_F_WITH_SHAKE_256: ObjectIdentifier = padded(*b"\x09\x60\x86\x48\x01\x65\x03\x04\x03\x2E\0\0\0\0\0\0\0\0\0\0\0\0\0\0\0\0\0\0\0\0\0\0\0\0\0\0\0\0\0\0");
 }
 
 /// Identifiers of [RFC 1274](https://www.rfc-editor.org/rfc/rfc1274).
@@ -528,58 +539,59 @@ pub const ID_HASH_SLH_DSA_SHAKE_256_F_WITH_SHAKE_256: ObjectIdentifier = ObjectI
 /// assert_eq!(const_oid::db::rfc1274::TEXT_ENCODED_OR_ADDRESS.to_string(), "0.9.2342.19200300.100.1.2");
 /// ```
 pub mod rfc1274 {
+use super::padded;
 use crate::ObjectIdentifier;
 
 /// `textEncodedORAddress`: 0.9.2342.19200300.100.1.2
-pub const TEXT_ENCODED_OR_ADDRESS: ObjectIdentifier = ObjectIdentifier::new_unwrap("0.9.2342.19200300.100.1.2");
+pub const TEXT_ENCODED_OR_ADDRESS: ObjectIdentifier = padded(*b"\x0A\x09\x92\x26\x89\x93\xF2\x2C\x64\x01\x02\0\0\0\0\0\0\0\0\0\0\0\0\0\0\0\0\0\0\0\0\0\0\0\0\0\0\0\0\0");
 /// `otherMailbox`: 0.9.2342.19200300.100.1.22
-pub const OTHER_MAILBOX: ObjectIdentifier = ObjectIdentifier::new_unwrap("0.9.2342.19200300.100.1.22");
+pub const OTHER_MAILBOX: ObjectIdentifier = padded(*b"\x0A\x09\x92\x26\x89\x93\xF2\x2C\x64\x01\x16\0\0\0\0\0\0\0\0\0\0\0\0\0\0\0\0\0\0\0\0\0\0\0\0\0\0\0\0\0");
 /// `lastModifiedTime`: 0.9.2342.19200300.100.1.23
-pub const LAST_MODIFIED_TIME: ObjectIdentifier = ObjectIdentifier::new_unwrap("0.9.2342.19200300.100.1.23");
+pub const LAST_MODIFIED_TIME: ObjectIdentifier = padded(*b"\x0A\x09\x92\x26\x89\x93\xF2\x2C\x64\x01\x17\0\0\0\0\0\0\0\0\0\0\0\0\0\0\0\0\0\0\0\0\0\0\0\0\0\0\0\0\0");
 /// `lastModifiedBy`: 0.9.2342.19200300.100.1.24
-pub const LAST_MODIFIED_BY: ObjectIdentifier = ObjectIdentifier::new_unwrap("0.9.2342.19200300.100.1.24");
+pub const LAST_MODIFIED_BY: ObjectIdentifier = padded(*b"\x0A\x09\x92\x26\x89\x93\xF2\x2C\x64\x01\x18\0\0\0\0\0\0\0\0\0\0\0\0\0\0\0\0\0\0\0\0\0\0\0\0\0\0\0\0\0");
 /// `aRecord`: 0.9.2342.19200300.100.1.26
-pub const A_RECORD: ObjectIdentifier = ObjectIdentifier::new_unwrap("0.9.2342.19200300.100.1.26");
+pub const A_RECORD: ObjectIdentifier = padded(*b"\x0A\x09\x92\x26\x89\x93\xF2\x2C\x64\x01\x1A\0\0\0\0\0\0\0\0\0\0\0\0\0\0\0\0\0\0\0\0\0\0\0\0\0\0\0\0\0");
 /// `mDRecord`: 0.9.2342.19200300.100.1.27
-pub const MD_RECORD: ObjectIdentifier = ObjectIdentifier::new_unwrap("0.9.2342.19200300.100.1.27");
+pub const MD_RECORD: ObjectIdentifier = padded(*b"\x0A\x09\x92\x26\x89\x93\xF2\x2C\x64\x01\x1B\0\0\0\0\0\0\0\0\0\0\0\0\0\0\0\0\0\0\0\0\0\0\0\0\0\0\0\0\0");
 /// `mXRecord`: 0.9.2342.19200300.100.1.28
-pub const MX_RECORD: ObjectIdentifier = ObjectIdentifier::new_unwrap("0.9.2342.19200300.100.1.28");
+pub const MX_RECORD: ObjectIdentifier = padded(*b"\x0A\x09\x92\x26\x89\x93\xF2\x2C\x64\x01\x1C\0\0\0\0\0\0\0\0\0\0\0\0\0\0\0\0\0\0\0\0\0\0\0\0\0\0\0\0\0");
 /// `nSRecord`: 0.9.2342.19200300.100.1.29
-pub const NS_RECORD: ObjectIdentifier = ObjectIdentifier::new_unwrap("0.9.2342.19200300.100.1.29");
+pub const NS_RECORD: ObjectIdentifier = padded(*b"\x0A\x09\x92\x26\x89\x93\xF2\x2C\x64\x01\x1D\0\0\0\0\0\0\0\0\0\0\0\0\0\0\0\0\0\0\0\0\0\0\0\0\0\0\0\0\0");
 /// `sOARecord`: 0.9.2342.19200300.100.1.30
-pub const SOA_RECORD: ObjectIdentifier = ObjectIdentifier::new_unwrap("0.9.2342.19200300.100.1.30");
+pub const SOA_RECORD: ObjectIdentifier = padded(*b"\x0A\x09\x92\x26\x89\x93\xF2\x2C\x64\x01\x1E\0\0\0\0\0\0\0\0\0\0\0\0\0\0\0\0\0\0\0\0\0\0\0\0\0\0\0\0\0");
 /// `cNAMERecord`: 0.9.2342.19200300.100.1.31
-pub const CNAME_RECORD: ObjectIdentifier = ObjectIdentifier::new_unwrap("0.9.2342.19200300.100.1.31");
+pub const CNAME_RECORD: ObjectIdentifier = padded(*b"\x0A\x09\x92\x26\x89\x93\xF2\x2C\x64\x01\x1F\0\0\0\0\0\0\0\0\0\0\0\0\0\0\0\0\0\0\0\0\0\0\0\0\0\0\0\0\0");
 /// `janetMailbox`: 0.9.2342.19200300.100.1.46
-pub const JANET_MAILBOX: ObjectIdentifier = ObjectIdentifier::new_unwrap("0.9.2342.19200300.100.1.46");
+pub const JANET_MAILBOX: ObjectIdentifier = padded(*b"\x0A\x09\x92\x26\x89\x93\xF2\x2C\x64\x01\x2E\0\0\0\0\0\0\0\0\0\0\0\0\0\0\0\0\0\0\0\0\0\0\0\0\0\0\0\0\0");
 /// `mailPreferenceOption`: 0.9.2342.19200300.100.1.47
-pub const MAIL_PREFERENCE_OPTION: ObjectIdentifier = ObjectIdentifier::new_unwrap("0.9.2342.19200300.100.1.47");
+pub const MAIL_PREFERENCE_OPTION: ObjectIdentifier = padded(*b"\x0A\x09\x92\x26\x89\x93\xF2\x2C\x64\x01\x2F\0\0\0\0\0\0\0\0\0\0\0\0\0\0\0\0\0\0\0\0\0\0\0\0\0\0\0\0\0");
 /// `dSAQuality`: 0.9.2342.19200300.100.1.49
-pub const DSA_QUALITY: ObjectIdentifier = ObjectIdentifier::new_unwrap("0.9.2342.19200300.100.1.49");
+pub const DSA_QUALITY: ObjectIdentifier = padded(*b"\x0A\x09\x92\x26\x89\x93\xF2\x2C\x64\x01\x31\0\0\0\0\0\0\0\0\0\0\0\0\0\0\0\0\0\0\0\0\0\0\0\0\0\0\0\0\0");
 /// `subtreeMinimumQuality`: 0.9.2342.19200300.100.1.51
-pub const SUBTREE_MINIMUM_QUALITY: ObjectIdentifier = ObjectIdentifier::new_unwrap("0.9.2342.19200300.100.1.51");
+pub const SUBTREE_MINIMUM_QUALITY: ObjectIdentifier = padded(*b"\x0A\x09\x92\x26\x89\x93\xF2\x2C\x64\x01\x33\0\0\0\0\0\0\0\0\0\0\0\0\0\0\0\0\0\0\0\0\0\0\0\0\0\0\0\0\0");
 /// `subtreeMaximumQuality`: 0.9.2342.19200300.100.1.52
-pub const SUBTREE_MAXIMUM_QUALITY: ObjectIdentifier = ObjectIdentifier::new_unwrap("0.9.2342.19200300.100.1.52");
+pub const SUBTREE_MAXIMUM_QUALITY: ObjectIdentifier = padded(*b"\x0A\x09\x92\x26\x89\x93\xF2\x2C\x64\x01\x34\0\0\0\0\0\0\0\0\0\0\0\0\0\0\0\0\0\0\0\0\0\0\0\0\0\0\0\0\0");
 /// `personalSignature`: 0.9.2342.19200300.100.1.53
-pub const PERSONAL_SIGNATURE: ObjectIdentifier = ObjectIdentifier::new_unwrap("0.9.2342.19200300.100.1.53");
+pub const PERSONAL_SIGNATURE: ObjectIdentifier = padded(*b"\x0A\x09\x92\x26\x89\x93\xF2\x2C\x64\x01\x35\0\0\0\0\0\0\0\0\0\0\0\0\0\0\0\0\0\0\0\0\0\0\0\0\0\0\0\0\0");
 /// `dITRedirect`: 0.9.2342.19200300.100.1.54
-pub const DIT_REDIRECT: ObjectIdentifier = ObjectIdentifier::new_unwrap("0.9.2342.19200300.100.1.54");
+pub const DIT_REDIRECT: ObjectIdentifier = padded(*b"\x0A\x09\x92\x26\x89\x93\xF2\x2C\x64\x01\x36\0\0\0\0\0\0\0\0\0\0\0\0\0\0\0\0\0\0\0\0\0\0\0\0\0\0\0\0\0");
 /// `audio`: 0.9.2342.19200300.100.1.55
-pub const AUDIO: ObjectIdentifier = ObjectIdentifier::new_unwrap("0.9.2342.19200300.100.1.55");
+pub const AUDIO: ObjectIdentifier = padded(*b"\x0A\x09\x92\x26\x89\x93\xF2\x2C\x64\x01\x37\0\0\0\0\0\0\0\0\0\0\0\0\0\0\0\0\0\0\0\0\0\0\0\0\0\0\0\0\0");
 /// `photo`: 0.9.2342.19200300.100.1.7
-pub const PHOTO: ObjectIdentifier = ObjectIdentifier::new_unwrap("0.9.2342.19200300.100.1.7");
+pub const PHOTO: ObjectIdentifier = padded(*b"\x0A\x09\x92\x26\x89\x93\xF2\x2C\x64\x01\x07\0\0\0\0\0\0\0\0\0\0\0\0\0\0\0\0\0\0\0\0\0\0\0\0\0\0\0\0\0");
 /// `dNSDomain`: 0.9.2342.19200300.100.4.15
-pub const DNS_DOMAIN: ObjectIdentifier = ObjectIdentifier::new_unwrap("0.9.2342.19200300.100.4.15");
+pub const DNS_DOMAIN: ObjectIdentifier = padded(*b"\x0A\x09\x92\x26\x89\x93\xF2\x2C\x64\x04\x0F\0\0\0\0\0\0\0\0\0\0\0\0\0\0\0\0\0\0\0\0\0\0\0\0\0\0\0\0\0");
 /// `pilotOrganization`: 0.9.2342.19200300.100.4.20
-pub const PILOT_ORGANIZATION: ObjectIdentifier = ObjectIdentifier::new_unwrap("0.9.2342.19200300.100.4.20");
+pub const PILOT_ORGANIZATION: ObjectIdentifier = padded(*b"\x0A\x09\x92\x26\x89\x93\xF2\x2C\x64\x04\x14\0\0\0\0\0\0\0\0\0\0\0\0\0\0\0\0\0\0\0\0\0\0\0\0\0\0\0\0\0");
 /// `pilotDSA`: 0.9.2342.19200300.100.4.21
-pub const PILOT_DSA: ObjectIdentifier = ObjectIdentifier::new_unwrap("0.9.2342.19200300.100.4.21");
+pub const PILOT_DSA: ObjectIdentifier = padded(*b"\x0A\x09\x92\x26\x89\x93\xF2\x2C\x64\x04\x15\0\0\0\0\0\0\0\0\0\0\0\0\0\0\0\0\0\0\0\0\0\0\0\0\0\0\0\0\0");
 /// `qualityLabelledData`: 0.9.2342.19200300.100.4.22
-pub const QUALITY_LABELLED_DATA: ObjectIdentifier = ObjectIdentifier::new_unwrap("0.9.2342.19200300.100.4.22");
+pub const QUALITY_LABELLED_DATA: ObjectIdentifier = padded(*b"\x0A\x09\x92\x26\x89\x93\xF2\x2C\x64\x04\x16\0\0\0\0\0\0\0\0\0\0\0\0\0\0\0\0\0\0\0\0\0\0\0\0\0\0\0\0\0");
 /// `pilotObject`: 0.9.2342.19200300.100.4.3
-pub const PILOT_OBJECT: ObjectIdentifier = ObjectIdentifier::new_unwrap("0.9.2342.19200300.100.4.3");
+pub const PILOT_OBJECT: ObjectIdentifier = padded(*b"\x0A\x09\x92\x26\x89\x93\xF2\x2C\x64\x04\x03\0\0\0\0\0\0\0\0\0\0\0\0\0\0\0\0\0\0\0\0\0\0\0\0\0\0\0\0\0");
 /// `pilotPerson`: 0.9.2342.19200300.100.4.4
-pub const PILOT_PERSON: ObjectIdentifier = ObjectIdentifier::new_unwrap("0.9.2342.19200300.100.4.4");
+pub const PILOT_PERSON: ObjectIdentifier = padded(*b"\x0A\x09\x92\x26\x89\x93\xF2\x2C\x64\x04\x04\0\0\0\0\0\0\0\0\0\0\0\0\0\0\0\0\0\0\0\0\0\0\0\0\0\0\0\0\0");
 }
 
 /// Identifiers of [RFC 2079](https://www.rfc-editor.org/rfc/rfc2079).
@@ -590,12 +602,13 @@ pub const PILOT_PERSON: ObjectIdentifier = ObjectIdentifier::new_unwrap("0.9.234
 /// assert_eq!(const_oid::db::rfc2079::LABELED_URI.to_string(), "1.3.6.1.4.1.250.1.57");
 /// ```
 pub mod rfc2079 {
+use super::padded;
 use crate::ObjectIdentifier;
 
 /// `labeledURI`: 1.3.6.1.4.1.250.1.57
-pub const LABELED_URI: ObjectIdentifier = ObjectIdentifier::new_unwrap("1.3.6.1.4.1.250.1.57");
+pub const LABELED_URI: ObjectIdentifier = padded(*b"\x09\x2B\x06\x01\x04\x01\x81\x7A\x01\x39\0\0\0\0\0\0\0\0\0\0\0\0\0\0\0\0\0\0\0\0\0\0\0\0\0\0\0\0\0\0");
 /// `labeledURIObject`: 1.3.6.1.4.1.250.3.15
-pub const LABELED_URI_OBJECT: ObjectIdentifier = ObjectIdentifier::new_unwrap("1.3.6.1.4.1.250.3.15");
+pub const LABELED_URI_OBJECT: ObjectIdentifier = padded(*b"\x09\x2B\x06\x01\x04\x01\x81\x7A\x03\x0F\0\0\0\0\0\0\0\0\0\0\0\0\0\0\0\0\0\0\0\0\0\0\0\0\0\0\0\0\0\0");
 }
 
 /// Identifiers of [RFC 2164](https://www.rfc-editor.org/rfc/rfc2164).
@@ -606,26 +619,27 @@ pub const LABELED_URI_OBJECT: ObjectIdentifier = ObjectIdentifier::new_unwrap("1
 /// assert_eq!(const_oid::db::rfc2164::RFC_822_TO_X_400_MAPPING.to_string(), "1.3.6.1.4.1.453.7.1.1");
 /// ```
 pub mod rfc2164 {
+use super::padded;
 use crate::ObjectIdentifier;
 
 /// `rFC822ToX400Mapping`: 1.3.6.1.4.1.453.7.1.1
-pub const RFC_822_TO_X_400_MAPPING: ObjectIdentifier = ObjectIdentifier::new_unwrap("1.3.6.1.4.1.453.7.1.1");
+pub const RFC_822_TO_X_400_MAPPING: ObjectIdentifier = padded(*b"\x0A\x2B\x06\x01\x04\x01\x83\x45\x07\x01\x01\0\0\0\0\0\0\0\0\0\0\0\0\0\0\0\0\0\0\0\0\0\0\0\0\0\0\0\0\0");
 /// `x400ToRFC822Mapping`: 1.3.6.1.4.1.453.7.1.2
-pub const X_400_TO_RFC_822_MAPPING: ObjectIdentifier = ObjectIdentifier::new_unwrap("1.3.6.1.4.1.453.7.1.2");
+pub const X_400_TO_RFC_822_MAPPING: ObjectIdentifier = padded(*b"\x0A\x2B\x06\x01\x04\x01\x83\x45\x07\x01\x02\0\0\0\0\0\0\0\0\0\0\0\0\0\0\0\0\0\0\0\0\0\0\0\0\0\0\0\0\0");
 /// `omittedORAddressComponent`: 1.3.6.1.4.1.453.7.1.3
-pub const OMITTED_OR_ADDRESS_COMPONENT: ObjectIdentifier = ObjectIdentifier::new_unwrap("1.3.6.1.4.1.453.7.1.3");
+pub const OMITTED_OR_ADDRESS_COMPONENT: ObjectIdentifier = padded(*b"\x0A\x2B\x06\x01\x04\x01\x83\x45\x07\x01\x03\0\0\0\0\0\0\0\0\0\0\0\0\0\0\0\0\0\0\0\0\0\0\0\0\0\0\0\0\0");
 /// `mixerGateway`: 1.3.6.1.4.1.453.7.1.4
-pub const MIXER_GATEWAY: ObjectIdentifier = ObjectIdentifier::new_unwrap("1.3.6.1.4.1.453.7.1.4");
+pub const MIXER_GATEWAY: ObjectIdentifier = padded(*b"\x0A\x2B\x06\x01\x04\x01\x83\x45\x07\x01\x04\0\0\0\0\0\0\0\0\0\0\0\0\0\0\0\0\0\0\0\0\0\0\0\0\0\0\0\0\0");
 /// `associatedX400Gateway`: 1.3.6.1.4.1.453.7.2.3
-pub const ASSOCIATED_X_400_GATEWAY: ObjectIdentifier = ObjectIdentifier::new_unwrap("1.3.6.1.4.1.453.7.2.3");
+pub const ASSOCIATED_X_400_GATEWAY: ObjectIdentifier = padded(*b"\x0A\x2B\x06\x01\x04\x01\x83\x45\x07\x02\x03\0\0\0\0\0\0\0\0\0\0\0\0\0\0\0\0\0\0\0\0\0\0\0\0\0\0\0\0\0");
 /// `associatedORAddress`: 1.3.6.1.4.1.453.7.2.6
-pub const ASSOCIATED_OR_ADDRESS: ObjectIdentifier = ObjectIdentifier::new_unwrap("1.3.6.1.4.1.453.7.2.6");
+pub const ASSOCIATED_OR_ADDRESS: ObjectIdentifier = padded(*b"\x0A\x2B\x06\x01\x04\x01\x83\x45\x07\x02\x06\0\0\0\0\0\0\0\0\0\0\0\0\0\0\0\0\0\0\0\0\0\0\0\0\0\0\0\0\0");
 /// `oRAddressComponentType`: 1.3.6.1.4.1.453.7.2.7
-pub const OR_ADDRESS_COMPONENT_TYPE: ObjectIdentifier = ObjectIdentifier::new_unwrap("1.3.6.1.4.1.453.7.2.7");
+pub const OR_ADDRESS_COMPONENT_TYPE: ObjectIdentifier = padded(*b"\x0A\x2B\x06\x01\x04\x01\x83\x45\x07\x02\x07\0\0\0\0\0\0\0\0\0\0\0\0\0\0\0\0\0\0\0\0\0\0\0\0\0\0\0\0\0");
 /// `associatedInternetGateway`: 1.3.6.1.4.1.453.7.2.8
-pub const ASSOCIATED_INTERNET_GATEWAY: ObjectIdentifier = ObjectIdentifier::new_unwrap("1.3.6.1.4.1.453.7.2.8");
+pub const ASSOCIATED_INTERNET_GATEWAY: ObjectIdentifier = padded(*b"\x0A\x2B\x06\x01\x04\x01\x83\x45\x07\x02\x08\0\0\0\0\0\0\0\0\0\0\0\0\0\0\0\0\0\0\0\0\0\0\0\0\0\0\0\0\0");
 /// `mcgamTables`: 1.3.6.1.4.1.453.7.2.9
-pub const MCGAM_TABLES: ObjectIdentifier = ObjectIdentifier::new_unwrap("1.3.6.1.4.1.453.7.2.9");
+pub const MCGAM_TABLES: ObjectIdentifier = padded(*b"\x0A\x2B\x06\x01\x04\x01\x83\x45\x07\x02\x09\0\0\0\0\0\0\0\0\0\0\0\0\0\0\0\0\0\0\0\0\0\0\0\0\0\0\0\0\0");
 }
 
 /// Identifiers of [RFC 2247](https://www.rfc-editor.org/rfc/rfc2247).
@@ -636,10 +650,11 @@ pub const MCGAM_TABLES: ObjectIdentifier = ObjectIdentifier::new_unwrap("1.3.6.1
 /// assert_eq!(const_oid::db::rfc2247::DOMAIN_NAME_FORM.to_string(), "1.3.6.1.4.1.1466.345");
 /// ```
 pub mod rfc2247 {
+use super::padded;
 use crate::ObjectIdentifier;
 
 /// `domainNameForm`: 1.3.6.1.4.1.1466.345
-pub const DOMAIN_NAME_FORM: ObjectIdentifier = ObjectIdentifier::new_unwrap("1.3.6.1.4.1.1466.345");
+pub const DOMAIN_NAME_FORM: ObjectIdentifier = padded(*b"\x09\x2B\x06\x01\x04\x01\x8B\x3A\x82\x59\0\0\0\0\0\0\0\0\0\0\0\0\0\0\0\0\0\0\0\0\0\0\0\0\0\0\0\0\0\0");
 }
 
 /// Identifiers of [RFC 2252](https://www.rfc-editor.org/rfc/rfc2252).
@@ -650,12 +665,13 @@ pub const DOMAIN_NAME_FORM: ObjectIdentifier = ObjectIdentifier::new_unwrap("1.3
 /// assert_eq!(const_oid::db::rfc2252::PRESENTATION_ADDRESS_MATCH.to_string(), "2.5.13.22");
 /// ```
 pub mod rfc2252 {
+use super::padded;
 use crate::ObjectIdentifier;
 
 /// `presentationAddressMatch`: 2.5.13.22
-pub const PRESENTATION_ADDRESS_MATCH: ObjectIdentifier = ObjectIdentifier::new_unwrap("2.5.13.22");
+pub const PRESENTATION_ADDRESS_MATCH: ObjectIdentifier = padded(*b"\x03\x55\x0D\x16\0\0\0\0\0\0\0\0\0\0\0\0\0\0\0\0\0\0\0\0\0\0\0\0\0\0\0\0\0\0\0\0\0\0\0\0");
 /// `protocolInformationMatch`: 2.5.13.24
-pub const PROTOCOL_INFORMATION_MATCH: ObjectIdentifier = ObjectIdentifier::new_unwrap("2.5.13.24");
+pub const PROTOCOL_INFORMATION_MATCH: ObjectIdentifier = padded(*b"\x03\x55\x0D\x18\0\0\0\0\0\0\0\0\0\0\0\0\0\0\0\0\0\0\0\0\0\0\0\0\0\0\0\0\0\0\0\0\0\0\0\0");
 }
 
 /// Identifiers of [RFC 2256](https://www.rfc-editor.org/rfc/rfc2256).
@@ -666,28 +682,29 @@ pub const PROTOCOL_INFORMATION_MATCH: ObjectIdentifier = ObjectIdentifier::new_u
 /// assert_eq!(const_oid::db::rfc2256::KNOWLEDGE_INFORMATION.to_string(), "2.5.4.2");
 /// ```
 pub mod rfc2256 {
+use super::padded;
 use crate::ObjectIdentifier;
 
 /// `knowledgeInformation`: 2.5.4.2
-pub const KNOWLEDGE_INFORMATION: ObjectIdentifier = ObjectIdentifier::new_unwrap("2.5.4.2");
+pub const KNOWLEDGE_INFORMATION: ObjectIdentifier = padded(*b"\x03\x55\x04\x02\0\0\0\0\0\0\0\0\0\0\0\0\0\0\0\0\0\0\0\0\0\0\0\0\0\0\0\0\0\0\0\0\0\0\0\0");
 /// `presentationAddress`: 2.5.4.29
-pub const PRESENTATION_ADDRESS: ObjectIdentifier = ObjectIdentifier::new_unwrap("2.5.4.29");
+pub const PRESENTATION_ADDRESS: ObjectIdentifier = padded(*b"\x03\x55\x04\x1D\0\0\0\0\0\0\0\0\0\0\0\0\0\0\0\0\0\0\0\0\0\0\0\0\0\0\0\0\0\0\0\0\0\0\0\0");
 /// `supportedApplicationContext`: 2.5.4.30
-pub const SUPPORTED_APPLICATION_CONTEXT: ObjectIdentifier = ObjectIdentifier::new_unwrap("2.5.4.30");
+pub const SUPPORTED_APPLICATION_CONTEXT: ObjectIdentifier = padded(*b"\x03\x55\x04\x1E\0\0\0\0\0\0\0\0\0\0\0\0\0\0\0\0\0\0\0\0\0\0\0\0\0\0\0\0\0\0\0\0\0\0\0\0");
 /// `protocolInformation`: 2.5.4.48
-pub const PROTOCOL_INFORMATION: ObjectIdentifier = ObjectIdentifier::new_unwrap("2.5.4.48");
+pub const PROTOCOL_INFORMATION: ObjectIdentifier = padded(*b"\x03\x55\x04\x30\0\0\0\0\0\0\0\0\0\0\0\0\0\0\0\0\0\0\0\0\0\0\0\0\0\0\0\0\0\0\0\0\0\0\0\0");
 /// `dmdName`: 2.5.4.54
-pub const DMD_NAME: ObjectIdentifier = ObjectIdentifier::new_unwrap("2.5.4.54");
+pub const DMD_NAME: ObjectIdentifier = padded(*b"\x03\x55\x04\x36\0\0\0\0\0\0\0\0\0\0\0\0\0\0\0\0\0\0\0\0\0\0\0\0\0\0\0\0\0\0\0\0\0\0\0\0");
 /// `stateOrProvinceName`: 2.5.4.8
-pub const STATE_OR_PROVINCE_NAME: ObjectIdentifier = ObjectIdentifier::new_unwrap("2.5.4.8");
+pub const STATE_OR_PROVINCE_NAME: ObjectIdentifier = padded(*b"\x03\x55\x04\x08\0\0\0\0\0\0\0\0\0\0\0\0\0\0\0\0\0\0\0\0\0\0\0\0\0\0\0\0\0\0\0\0\0\0\0\0");
 /// `streetAddress`: 2.5.4.9
-pub const STREET_ADDRESS: ObjectIdentifier = ObjectIdentifier::new_unwrap("2.5.4.9");
+pub const STREET_ADDRESS: ObjectIdentifier = padded(*b"\x03\x55\x04\x09\0\0\0\0\0\0\0\0\0\0\0\0\0\0\0\0\0\0\0\0\0\0\0\0\0\0\0\0\0\0\0\0\0\0\0\0");
 /// `applicationEntity`: 2.5.6.12
-pub const APPLICATION_ENTITY: ObjectIdentifier = ObjectIdentifier::new_unwrap("2.5.6.12");
+pub const APPLICATION_ENTITY: ObjectIdentifier = padded(*b"\x03\x55\x06\x0C\0\0\0\0\0\0\0\0\0\0\0\0\0\0\0\0\0\0\0\0\0\0\0\0\0\0\0\0\0\0\0\0\0\0\0\0");
 /// `dSA`: 2.5.6.13
-pub const DSA: ObjectIdentifier = ObjectIdentifier::new_unwrap("2.5.6.13");
+pub const DSA: ObjectIdentifier = padded(*b"\x03\x55\x06\x0D\0\0\0\0\0\0\0\0\0\0\0\0\0\0\0\0\0\0\0\0\0\0\0\0\0\0\0\0\0\0\0\0\0\0\0\0");
 /// `dmd`: 2.5.6.20
-pub const DMD: ObjectIdentifier = ObjectIdentifier::new_unwrap("2.5.6.20");
+pub const DMD: ObjectIdentifier = padded(*b"\x03\x55\x06\x14\0\0\0\0\0\0\0\0\0\0\0\0\0\0\0\0\0\0\0\0\0\0\0\0\0\0\0\0\0\0\0\0\0\0\0\0");
 }
 
 /// Identifiers of [RFC 2293](https://www.rfc-editor.org/rfc/rfc2293).
@@ -698,24 +715,25 @@ pub const DMD: ObjectIdentifier = ObjectIdentifier::new_unwrap("2.5.6.20");
 /// assert_eq!(const_oid::db::rfc2293::SUBTREE.to_string(), "1.3.6.1.4.1.453.7.1.1");
 /// ```
 pub mod rfc2293 {
+use super::padded;
 use crate::ObjectIdentifier;
 
 /// `subtree`: 1.3.6.1.4.1.453.7.1.1
-pub const SUBTREE: ObjectIdentifier = ObjectIdentifier::new_unwrap("1.3.6.1.4.1.453.7.1.1");
+pub const SUBTREE: ObjectIdentifier = padded(*b"\x0A\x2B\x06\x01\x04\x01\x83\x45\x07\x01\x01\0\0\0\0\0\0\0\0\0\0\0\0\0\0\0\0\0\0\0\0\0\0\0\0\0\0\0\0\0");
 /// `table`: 1.3.6.1.4.1.453.7.1.2
-pub const TABLE: ObjectIdentifier = ObjectIdentifier::new_unwrap("1.3.6.1.4.1.453.7.1.2");
+pub const TABLE: ObjectIdentifier = padded(*b"\x0A\x2B\x06\x01\x04\x01\x83\x45\x07\x01\x02\0\0\0\0\0\0\0\0\0\0\0\0\0\0\0\0\0\0\0\0\0\0\0\0\0\0\0\0\0");
 /// `tableEntry`: 1.3.6.1.4.1.453.7.1.3
-pub const TABLE_ENTRY: ObjectIdentifier = ObjectIdentifier::new_unwrap("1.3.6.1.4.1.453.7.1.3");
+pub const TABLE_ENTRY: ObjectIdentifier = padded(*b"\x0A\x2B\x06\x01\x04\x01\x83\x45\x07\x01\x03\0\0\0\0\0\0\0\0\0\0\0\0\0\0\0\0\0\0\0\0\0\0\0\0\0\0\0\0\0");
 /// `textTableEntry`: 1.3.6.1.4.1.453.7.1.4
-pub const TEXT_TABLE_ENTRY: ObjectIdentifier = ObjectIdentifier::new_unwrap("1.3.6.1.4.1.453.7.1.4");
+pub const TEXT_TABLE_ENTRY: ObjectIdentifier = padded(*b"\x0A\x2B\x06\x01\x04\x01\x83\x45\x07\x01\x04\0\0\0\0\0\0\0\0\0\0\0\0\0\0\0\0\0\0\0\0\0\0\0\0\0\0\0\0\0");
 /// `distinguishedNameTableEntry`: 1.3.6.1.4.1.453.7.1.5
-pub const DISTINGUISHED_NAME_TABLE_ENTRY: ObjectIdentifier = ObjectIdentifier::new_unwrap("1.3.6.1.4.1.453.7.1.5");
+pub const DISTINGUISHED_NAME_TABLE_ENTRY: ObjectIdentifier = padded(*b"\x0A\x2B\x06\x01\x04\x01\x83\x45\x07\x01\x05\0\0\0\0\0\0\0\0\0\0\0\0\0\0\0\0\0\0\0\0\0\0\0\0\0\0\0\0\0");
 /// `textTableKey`: 1.3.6.1.4.1.453.7.2.1
-pub const TEXT_TABLE_KEY: ObjectIdentifier = ObjectIdentifier::new_unwrap("1.3.6.1.4.1.453.7.2.1");
+pub const TEXT_TABLE_KEY: ObjectIdentifier = padded(*b"\x0A\x2B\x06\x01\x04\x01\x83\x45\x07\x02\x01\0\0\0\0\0\0\0\0\0\0\0\0\0\0\0\0\0\0\0\0\0\0\0\0\0\0\0\0\0");
 /// `textTableValue`: 1.3.6.1.4.1.453.7.2.2
-pub const TEXT_TABLE_VALUE: ObjectIdentifier = ObjectIdentifier::new_unwrap("1.3.6.1.4.1.453.7.2.2");
+pub const TEXT_TABLE_VALUE: ObjectIdentifier = padded(*b"\x0A\x2B\x06\x01\x04\x01\x83\x45\x07\x02\x02\0\0\0\0\0\0\0\0\0\0\0\0\0\0\0\0\0\0\0\0\0\0\0\0\0\0\0\0\0");
 /// `distinguishedNameTableKey`: 1.3.6.1.4.1.453.7.2.3
-pub const DISTINGUISHED_NAME_TABLE_KEY: ObjectIdentifier = ObjectIdentifier::new_unwrap("1.3.6.1.4.1.453.7.2.3");
+pub const DISTINGUISHED_NAME_TABLE_KEY: ObjectIdentifier = padded(*b"\x0A\x2B\x06\x01\x04\x01\x83\x45\x07\x02\x03\0\0\0\0\0\0\0\0\0\0\0\0\0\0\0\0\0\0\0\0\0\0\0\0\0\0\0\0\0");
 }
 
 /// Identifiers of [RFC 2589](https://www.rfc-editor.org/rfc/rfc2589).
@@ -726,14 +744,15 @@ pub const DISTINGUISHED_NAME_TABLE_KEY: ObjectIdentifier = ObjectIdentifier::new
 /// assert_eq!(const_oid::db::rfc2589::DYNAMIC_OBJECT.to_string(), "1.3.6.1.4.1.1466.101.119.2");
 /// ```
 pub mod rfc2589 {
+use super::padded;
 use crate::ObjectIdentifier;
 
 /// `dynamicObject`: 1.3.6.1.4.1.1466.101.119.2
-pub const DYNAMIC_OBJECT: ObjectIdentifier = ObjectIdentifier::new_unwrap("1.3.6.1.4.1.1466.101.119.2");
+pub const DYNAMIC_OBJECT: ObjectIdentifier = padded(*b"\x0A\x2B\x06\x01\x04\x01\x8B\x3A\x65\x77\x02\0\0\0\0\0\0\0\0\0\0\0\0\0\0\0\0\0\0\0\0\0\0\0\0\0\0\0\0\0");
 /// `entryTtl`: 1.3.6.1.4.1.1466.101.119.3
-pub const ENTRY_TTL: ObjectIdentifier = ObjectIdentifier::new_unwrap("1.3.6.1.4.1.1466.101.119.3");
+pub const ENTRY_TTL: ObjectIdentifier = padded(*b"\x0A\x2B\x06\x01\x04\x01\x8B\x3A\x65\x77\x03\0\0\0\0\0\0\0\0\0\0\0\0\0\0\0\0\0\0\0\0\0\0\0\0\0\0\0\0\0");
 /// `dynamicSubtrees`: 1.3.6.1.4.1.1466.101.119.4
-pub const DYNAMIC_SUBTREES: ObjectIdentifier = ObjectIdentifier::new_unwrap("1.3.6.1.4.1.1466.101.119.4");
+pub const DYNAMIC_SUBTREES: ObjectIdentifier = padded(*b"\x0A\x2B\x06\x01\x04\x01\x8B\x3A\x65\x77\x04\0\0\0\0\0\0\0\0\0\0\0\0\0\0\0\0\0\0\0\0\0\0\0\0\0\0\0\0\0");
 }
 
 /// Identifiers of [RFC 2739](https://www.rfc-editor.org/rfc/rfc2739).
@@ -744,26 +763,27 @@ pub const DYNAMIC_SUBTREES: ObjectIdentifier = ObjectIdentifier::new_unwrap("1.3
 /// assert_eq!(const_oid::db::rfc2739::CAL_CAL_URI.to_string(), "1.2.840.113556.1.4.478");
 /// ```
 pub mod rfc2739 {
+use super::padded;
 use crate::ObjectIdentifier;
 
 /// `calCalURI`: 1.2.840.113556.1.4.478
-pub const CAL_CAL_URI: ObjectIdentifier = ObjectIdentifier::new_unwrap("1.2.840.113556.1.4.478");
+pub const CAL_CAL_URI: ObjectIdentifier = padded(*b"\x0A\x2A\x86\x48\x86\xF7\x14\x01\x04\x83\x5E\0\0\0\0\0\0\0\0\0\0\0\0\0\0\0\0\0\0\0\0\0\0\0\0\0\0\0\0\0");
 /// `calFBURL`: 1.2.840.113556.1.4.479
-pub const CAL_FBURL: ObjectIdentifier = ObjectIdentifier::new_unwrap("1.2.840.113556.1.4.479");
+pub const CAL_FBURL: ObjectIdentifier = padded(*b"\x0A\x2A\x86\x48\x86\xF7\x14\x01\x04\x83\x5F\0\0\0\0\0\0\0\0\0\0\0\0\0\0\0\0\0\0\0\0\0\0\0\0\0\0\0\0\0");
 /// `calCAPURI`: 1.2.840.113556.1.4.480
-pub const CAL_CAPURI: ObjectIdentifier = ObjectIdentifier::new_unwrap("1.2.840.113556.1.4.480");
+pub const CAL_CAPURI: ObjectIdentifier = padded(*b"\x0A\x2A\x86\x48\x86\xF7\x14\x01\x04\x83\x60\0\0\0\0\0\0\0\0\0\0\0\0\0\0\0\0\0\0\0\0\0\0\0\0\0\0\0\0\0");
 /// `calCalAdrURI`: 1.2.840.113556.1.4.481
-pub const CAL_CAL_ADR_URI: ObjectIdentifier = ObjectIdentifier::new_unwrap("1.2.840.113556.1.4.481");
+pub const CAL_CAL_ADR_URI: ObjectIdentifier = padded(*b"\x0A\x2A\x86\x48\x86\xF7\x14\x01\x04\x83\x61\0\0\0\0\0\0\0\0\0\0\0\0\0\0\0\0\0\0\0\0\0\0\0\0\0\0\0\0\0");
 /// `calOtherCalURIs`: 1.2.840.113556.1.4.482
-pub const CAL_OTHER_CAL_UR_IS: ObjectIdentifier = ObjectIdentifier::new_unwrap("1.2.840.113556.1.4.482");
+pub const CAL_OTHER_CAL_UR_IS: ObjectIdentifier = padded(*b"\x0A\x2A\x86\x48\x86\xF7\x14\x01\x04\x83\x62\0\0\0\0\0\0\0\0\0\0\0\0\0\0\0\0\0\0\0\0\0\0\0\0\0\0\0\0\0");
 /// `calOtherFBURLs`: 1.2.840.113556.1.4.483
-pub const CAL_OTHER_FBUR_LS: ObjectIdentifier = ObjectIdentifier::new_unwrap("1.2.840.113556.1.4.483");
+pub const CAL_OTHER_FBUR_LS: ObjectIdentifier = padded(*b"\x0A\x2A\x86\x48\x86\xF7\x14\x01\x04\x83\x63\0\0\0\0\0\0\0\0\0\0\0\0\0\0\0\0\0\0\0\0\0\0\0\0\0\0\0\0\0");
 /// `calOtherCAPURIs`: 1.2.840.113556.1.4.484
-pub const CAL_OTHER_CAPUR_IS: ObjectIdentifier = ObjectIdentifier::new_unwrap("1.2.840.113556.1.4.484");
+pub const CAL_OTHER_CAPUR_IS: ObjectIdentifier = padded(*b"\x0A\x2A\x86\x48\x86\xF7\x14\x01\x04\x83\x64\0\0\0\0\0\0\0\0\0\0\0\0\0\0\0\0\0\0\0\0\0\0\0\0\0\0\0\0\0");
 /// `calOtherCalAdrURIs`: 1.2.840.113556.1.4.485
-pub const CAL_OTHER_CAL_ADR_UR_IS: ObjectIdentifier = ObjectIdentifier::new_unwrap("1.2.840.113556.1.4.485");
+pub const CAL_OTHER_CAL_ADR_UR_IS: ObjectIdentifier = padded(*b"\x0A\x2A\x86\x48\x86\xF7\x14\x01\x04\x83\x65\0\0\0\0\0\0\0\0\0\0\0\0\0\0\0\0\0\0\0\0\0\0\0\0\0\0\0\0\0");
 /// `calEntry`: 1.2.840.113556.1.5.87
-pub const CAL_ENTRY: ObjectIdentifier = ObjectIdentifier::new_unwrap("1.2.840.113556.1.5.87");
+pub const CAL_ENTRY: ObjectIdentifier = padded(*b"\x09\x2A\x86\x48\x86\xF7\x14\x01\x05\x57\0\0\0\0\0\0\0\0\0\0\0\0\0\0\0\0\0\0\0\0\0\0\0\0\0\0\0\0\0\0");
 }
 
 /// Identifiers of [RFC 2798](https://www.rfc-editor.org/rfc/rfc2798).
@@ -774,28 +794,29 @@ pub const CAL_ENTRY: ObjectIdentifier = ObjectIdentifier::new_unwrap("1.2.840.11
 /// assert_eq!(const_oid::db::rfc2798::JPEG_PHOTO.to_string(), "0.9.2342.19200300.100.1.60");
 /// ```
 pub mod rfc2798 {
+use super::padded;
 use crate::ObjectIdentifier;
 
 /// `jpegPhoto`: 0.9.2342.19200300.100.1.60
-pub const JPEG_PHOTO: ObjectIdentifier = ObjectIdentifier::new_unwrap("0.9.2342.19200300.100.1.60");
+pub const JPEG_PHOTO: ObjectIdentifier = padded(*b"\x0A\x09\x92\x26\x89\x93\xF2\x2C\x64\x01\x3C\0\0\0\0\0\0\0\0\0\0\0\0\0\0\0\0\0\0\0\0\0\0\0\0\0\0\0\0\0");
 /// `carLicense`: 2.16.840.1.113730.3.1.1
-pub const CAR_LICENSE: ObjectIdentifier = ObjectIdentifier::new_unwrap("2.16.840.1.113730.3.1.1");
+pub const CAR_LICENSE: ObjectIdentifier = padded(*b"\x0A\x60\x86\x48\x01\x86\xF8\x42\x03\x01\x01\0\0\0\0\0\0\0\0\0\0\0\0\0\0\0\0\0\0\0\0\0\0\0\0\0\0\0\0\0");
 /// `departmentNumber`: 2.16.840.1.113730.3.1.2
-pub const DEPARTMENT_NUMBER: ObjectIdentifier = ObjectIdentifier::new_unwrap("2.16.840.1.113730.3.1.2");
+pub const DEPARTMENT_NUMBER: ObjectIdentifier = padded(*b"\x0A\x60\x86\x48\x01\x86\xF8\x42\x03\x01\x02\0\0\0\0\0\0\0\0\0\0\0\0\0\0\0\0\0\0\0\0\0\0\0\0\0\0\0\0\0");
 /// `userPKCS12`: 2.16.840.1.113730.3.1.216
-pub const USER_PKCS_12: ObjectIdentifier = ObjectIdentifier::new_unwrap("2.16.840.1.113730.3.1.216");
+pub const USER_PKCS_12: ObjectIdentifier = padded(*b"\x0B\x60\x86\x48\x01\x86\xF8\x42\x03\x01\x81\x58\0\0\0\0\0\0\0\0\0\0\0\0\0\0\0\0\0\0\0\0\0\0\0\0\0\0\0\0");
 /// `displayName`: 2.16.840.1.113730.3.1.241
-pub const DISPLAY_NAME: ObjectIdentifier = ObjectIdentifier::new_unwrap("2.16.840.1.113730.3.1.241");
+pub const DISPLAY_NAME: ObjectIdentifier = padded(*b"\x0B\x60\x86\x48\x01\x86\xF8\x42\x03\x01\x81\x71\0\0\0\0\0\0\0\0\0\0\0\0\0\0\0\0\0\0\0\0\0\0\0\0\0\0\0\0");
 /// `employeeNumber`: 2.16.840.1.113730.3.1.3
-pub const EMPLOYEE_NUMBER: ObjectIdentifier = ObjectIdentifier::new_unwrap("2.16.840.1.113730.3.1.3");
+pub const EMPLOYEE_NUMBER: ObjectIdentifier = padded(*b"\x0A\x60\x86\x48\x01\x86\xF8\x42\x03\x01\x03\0\0\0\0\0\0\0\0\0\0\0\0\0\0\0\0\0\0\0\0\0\0\0\0\0\0\0\0\0");
 /// `preferredLanguage`: 2.16.840.1.113730.3.1.39
-pub const PREFERRED_LANGUAGE: ObjectIdentifier = ObjectIdentifier::new_unwrap("2.16.840.1.113730.3.1.39");
+pub const PREFERRED_LANGUAGE: ObjectIdentifier = padded(*b"\x0A\x60\x86\x48\x01\x86\xF8\x42\x03\x01\x27\0\0\0\0\0\0\0\0\0\0\0\0\0\0\0\0\0\0\0\0\0\0\0\0\0\0\0\0\0");
 /// `employeeType`: 2.16.840.1.113730.3.1.4
-pub const EMPLOYEE_TYPE: ObjectIdentifier = ObjectIdentifier::new_unwrap("2.16.840.1.113730.3.1.4");
+pub const EMPLOYEE_TYPE: ObjectIdentifier = padded(*b"\x0A\x60\x86\x48\x01\x86\xF8\x42\x03\x01\x04\0\0\0\0\0\0\0\0\0\0\0\0\0\0\0\0\0\0\0\0\0\0\0\0\0\0\0\0\0");
 /// `userSMIMECertificate`: 2.16.840.1.113730.3.1.40
-pub const USER_SMIME_CERTIFICATE: ObjectIdentifier = ObjectIdentifier::new_unwrap("2.16.840.1.113730.3.1.40");
+pub const USER_SMIME_CERTIFICATE: ObjectIdentifier = padded(*b"\x0A\x60\x86\x48\x01\x86\xF8\x42\x03\x01\x28\0\0\0\0\0\0\0\0\0\0\0\0\0\0\0\0\0\0\0\0\0\0\0\0\0\0\0\0\0");
 /// `inetOrgPerson`: 2.16.840.1.113730.3.2.2
-pub const INET_ORG_PERSON: ObjectIdentifier = ObjectIdentifier::new_unwrap("2.16.840.1.113730.3.2.2");
+pub const INET_ORG_PERSON: ObjectIdentifier = padded(*b"\x0A\x60\x86\x48\x01\x86\xF8\x42\x03\x02\x02\0\0\0\0\0\0\0\0\0\0\0\0\0\0\0\0\0\0\0\0\0\0\0\0\0\0\0\0\0");
 }
 
 /// Identifiers of [RFC 2985](https://www.rfc-editor.org/rfc/rfc2985).
@@ -806,96 +827,97 @@ pub const INET_ORG_PERSON: ObjectIdentifier = ObjectIdentifier::new_unwrap("2.16
 /// assert_eq!(const_oid::db::rfc2985::PKCS_9.to_string(), "1.2.840.113549.1.9");
 /// ```
 pub mod rfc2985 {
+use super::padded;
 use crate::ObjectIdentifier;
 
 /// `pkcs-9`: 1.2.840.113549.1.9
-pub const PKCS_9: ObjectIdentifier = ObjectIdentifier::new_unwrap("1.2.840.113549.1.9");
+pub const PKCS_9: ObjectIdentifier = padded(*b"\x08\x2A\x86\x48\x86\xF7\x0D\x01\x09\0\0\0\0\0\0\0\0\0\0\0\0\0\0\0\0\0\0\0\0\0\0\0\0\0\0\0\0\0\0\0");
 /// `pkcs-9-mo`: 1.2.840.113549.1.9.0
-pub const PKCS_9_MO: ObjectIdentifier = ObjectIdentifier::new_unwrap("1.2.840.113549.1.9.0");
+pub const PKCS_9_MO: ObjectIdentifier = padded(*b"\x09\x2A\x86\x48\x86\xF7\x0D\x01\x09\x00\0\0\0\0\0\0\0\0\0\0\0\0\0\0\0\0\0\0\0\0\0\0\0\0\0\0\0\0\0\0");
 /// `pkcs-9-at-emailAddress`: 1.2.840.113549.1.9.1
-pub const PKCS_9_AT_EMAIL_ADDRESS: ObjectIdentifier = ObjectIdentifier::new_unwrap("1.2.840.113549.1.9.1");
+pub const PKCS_9_AT_EMAIL_ADDRESS: ObjectIdentifier = padded(*b"\x09\x2A\x86\x48\x86\xF7\x0D\x01\x09\x01\0\0\0\0\0\0\0\0\0\0\0\0\0\0\0\0\0\0\0\0\0\0\0\0\0\0\0\0\0\0");
 /// `pkcs-9-at-issuerAndSerialNumber`: 1.2.840.113549.1.9.10
-pub const PKCS_9_AT_ISSUER_AND_SERIAL_NUMBER: ObjectIdentifier = ObjectIdentifier::new_unwrap("1.2.840.113549.1.9.10");
+pub const PKCS_9_AT_ISSUER_AND_SERIAL_NUMBER: ObjectIdentifier = padded(*b"\x09\x2A\x86\x48\x86\xF7\x0D\x01\x09\x0A\0\0\0\0\0\0\0\0\0\0\0\0\0\0\0\0\0\0\0\0\0\0\0\0\0\0\0\0\0\0");
 /// `pkcs-9-at-passwordCheck`: 1.2.840.113549.1.9.11
-pub const PKCS_9_AT_PASSWORD_CHECK: ObjectIdentifier = ObjectIdentifier::new_unwrap("1.2.840.113549.1.9.11");
+pub const PKCS_9_AT_PASSWORD_CHECK: ObjectIdentifier = padded(*b"\x09\x2A\x86\x48\x86\xF7\x0D\x01\x09\x0B\0\0\0\0\0\0\0\0\0\0\0\0\0\0\0\0\0\0\0\0\0\0\0\0\0\0\0\0\0\0");
 /// `pkcs-9-at-publicKey`: 1.2.840.113549.1.9.12
-pub const PKCS_9_AT_PUBLIC_KEY: ObjectIdentifier = ObjectIdentifier::new_unwrap("1.2.840.113549.1.9.12");
+pub const PKCS_9_AT_PUBLIC_KEY: ObjectIdentifier = padded(*b"\x09\x2A\x86\x48\x86\xF7\x0D\x01\x09\x0C\0\0\0\0\0\0\0\0\0\0\0\0\0\0\0\0\0\0\0\0\0\0\0\0\0\0\0\0\0\0");
 /// `pkcs-9-at-signingDescription`: 1.2.840.113549.1.9.13
-pub const PKCS_9_AT_SIGNING_DESCRIPTION: ObjectIdentifier = ObjectIdentifier::new_unwrap("1.2.840.113549.1.9.13");
+pub const PKCS_9_AT_SIGNING_DESCRIPTION: ObjectIdentifier = padded(*b"\x09\x2A\x86\x48\x86\xF7\x0D\x01\x09\x0D\0\0\0\0\0\0\0\0\0\0\0\0\0\0\0\0\0\0\0\0\0\0\0\0\0\0\0\0\0\0");
 /// `pkcs-9-at-extensionRequest`: 1.2.840.113549.1.9.14
-pub const PKCS_9_AT_EXTENSION_REQUEST: ObjectIdentifier = ObjectIdentifier::new_unwrap("1.2.840.113549.1.9.14");
+pub const PKCS_9_AT_EXTENSION_REQUEST: ObjectIdentifier = padded(*b"\x09\x2A\x86\x48\x86\xF7\x0D\x01\x09\x0E\0\0\0\0\0\0\0\0\0\0\0\0\0\0\0\0\0\0\0\0\0\0\0\0\0\0\0\0\0\0");
 /// `pkcs-9-at-smimeCapabilities`: 1.2.840.113549.1.9.15
-pub const PKCS_9_AT_SMIME_CAPABILITIES: ObjectIdentifier = ObjectIdentifier::new_unwrap("1.2.840.113549.1.9.15");
+pub const PKCS_9_AT_SMIME_CAPABILITIES: ObjectIdentifier = padded(*b"\x09\x2A\x86\x48\x86\xF7\x0D\x01\x09\x0F\0\0\0\0\0\0\0\0\0\0\0\0\0\0\0\0\0\0\0\0\0\0\0\0\0\0\0\0\0\0");
 /// `smime`: 1.2.840.113549.1.9.16
-pub const SMIME: ObjectIdentifier = ObjectIdentifier::new_unwrap("1.2.840.113549.1.9.16");
+pub const SMIME: ObjectIdentifier = padded(*b"\x09\x2A\x86\x48\x86\xF7\x0D\x01\x09\x10\0\0\0\0\0\0\0\0\0\0\0\0\0\0\0\0\0\0\0\0\0\0\0\0\0\0\0\0\0\0");
 /// `pkcs-9-at-unstructuredName`: 1.2.840.113549.1.9.2
-pub const PKCS_9_AT_UNSTRUCTURED_NAME: ObjectIdentifier = ObjectIdentifier::new_unwrap("1.2.840.113549.1.9.2");
+pub const PKCS_9_AT_UNSTRUCTURED_NAME: ObjectIdentifier = padded(*b"\x09\x2A\x86\x48\x86\xF7\x0D\x01\x09\x02\0\0\0\0\0\0\0\0\0\0\0\0\0\0\0\0\0\0\0\0\0\0\0\0\0\0\0\0\0\0");
 /// `pkcs-9-at-friendlyName`: 1.2.840.113549.1.9.20
-pub const PKCS_9_AT_FRIENDLY_NAME: ObjectIdentifier = ObjectIdentifier::new_unwrap("1.2.840.113549.1.9.20");
+pub const PKCS_9_AT_FRIENDLY_NAME: ObjectIdentifier = padded(*b"\x09\x2A\x86\x48\x86\xF7\x0D\x01\x09\x14\0\0\0\0\0\0\0\0\0\0\0\0\0\0\0\0\0\0\0\0\0\0\0\0\0\0\0\0\0\0");
 /// `pkcs-9-at-localKeyId`: 1.2.840.113549.1.9.21
-pub const PKCS_9_AT_LOCAL_KEY_ID: ObjectIdentifier = ObjectIdentifier::new_unwrap("1.2.840.113549.1.9.21");
+pub const PKCS_9_AT_LOCAL_KEY_ID: ObjectIdentifier = padded(*b"\x09\x2A\x86\x48\x86\xF7\x0D\x01\x09\x15\0\0\0\0\0\0\0\0\0\0\0\0\0\0\0\0\0\0\0\0\0\0\0\0\0\0\0\0\0\0");
 /// `certTypes`: 1.2.840.113549.1.9.22
-pub const CERT_TYPES: ObjectIdentifier = ObjectIdentifier::new_unwrap("1.2.840.113549.1.9.22");
+pub const CERT_TYPES: ObjectIdentifier = padded(*b"\x09\x2A\x86\x48\x86\xF7\x0D\x01\x09\x16\0\0\0\0\0\0\0\0\0\0\0\0\0\0\0\0\0\0\0\0\0\0\0\0\0\0\0\0\0\0");
 /// `crlTypes`: 1.2.840.113549.1.9.23
-pub const CRL_TYPES: ObjectIdentifier = ObjectIdentifier::new_unwrap("1.2.840.113549.1.9.23");
+pub const CRL_TYPES: ObjectIdentifier = padded(*b"\x09\x2A\x86\x48\x86\xF7\x0D\x01\x09\x17\0\0\0\0\0\0\0\0\0\0\0\0\0\0\0\0\0\0\0\0\0\0\0\0\0\0\0\0\0\0");
 /// `pkcs-9-oc`: 1.2.840.113549.1.9.24
-pub const PKCS_9_OC: ObjectIdentifier = ObjectIdentifier::new_unwrap("1.2.840.113549.1.9.24");
+pub const PKCS_9_OC: ObjectIdentifier = padded(*b"\x09\x2A\x86\x48\x86\xF7\x0D\x01\x09\x18\0\0\0\0\0\0\0\0\0\0\0\0\0\0\0\0\0\0\0\0\0\0\0\0\0\0\0\0\0\0");
 /// `pkcs-9-oc-pkcsEntity`: 1.2.840.113549.1.9.24.1
-pub const PKCS_9_OC_PKCS_ENTITY: ObjectIdentifier = ObjectIdentifier::new_unwrap("1.2.840.113549.1.9.24.1");
+pub const PKCS_9_OC_PKCS_ENTITY: ObjectIdentifier = padded(*b"\x0A\x2A\x86\x48\x86\xF7\x0D\x01\x09\x18\x01\0\0\0\0\0\0\0\0\0\0\0\0\0\0\0\0\0\0\0\0\0\0\0\0\0\0\0\0\0");
 /// `pkcs-9-oc-naturalPerson`: 1.2.840.113549.1.9.24.2
-pub const PKCS_9_OC_NATURAL_PERSON: ObjectIdentifier = ObjectIdentifier::new_unwrap("1.2.840.113549.1.9.24.2");
+pub const PKCS_9_OC_NATURAL_PERSON: ObjectIdentifier = padded(*b"\x0A\x2A\x86\x48\x86\xF7\x0D\x01\x09\x18\x02\0\0\0\0\0\0\0\0\0\0\0\0\0\0\0\0\0\0\0\0\0\0\0\0\0\0\0\0\0");
 /// `pkcs-9-at`: 1.2.840.113549.1.9.25
-pub const PKCS_9_AT: ObjectIdentifier = ObjectIdentifier::new_unwrap("1.2.840.113549.1.9.25");
+pub const PKCS_9_AT: ObjectIdentifier = padded(*b"\x09\x2A\x86\x48\x86\xF7\x0D\x01\x09\x19\0\0\0\0\0\0\0\0\0\0\0\0\0\0\0\0\0\0\0\0\0\0\0\0\0\0\0\0\0\0");
 /// `pkcs-9-at-pkcs15Token`: 1.2.840.113549.1.9.25.1
-pub const PKCS_9_AT_PKCS_15_TOKEN: ObjectIdentifier = ObjectIdentifier::new_unwrap("1.2.840.113549.1.9.25.1");
+pub const PKCS_9_AT_PKCS_15_TOKEN: ObjectIdentifier = padded(*b"\x0A\x2A\x86\x48\x86\xF7\x0D\x01\x09\x19\x01\0\0\0\0\0\0\0\0\0\0\0\0\0\0\0\0\0\0\0\0\0\0\0\0\0\0\0\0\0");
 /// `pkcs-9-at-encryptedPrivateKeyInfo`: 1.2.840.113549.1.9.25.2
-pub const PKCS_9_AT_ENCRYPTED_PRIVATE_KEY_INFO: ObjectIdentifier = ObjectIdentifier::new_unwrap("1.2.840.113549.1.9.25.2");
+pub const PKCS_9_AT_ENCRYPTED_PRIVATE_KEY_INFO: ObjectIdentifier = padded(*b"\x0A\x2A\x86\x48\x86\xF7\x0D\x01\x09\x19\x02\0\0\0\0\0\0\0\0\0\0\0\0\0\0\0\0\0\0\0\0\0\0\0\0\0\0\0\0\0");
 /// `pkcs-9-at-randomNonce`: 1.2.840.113549.1.9.25.3
-pub const PKCS_9_AT_RANDOM_NONCE: ObjectIdentifier = ObjectIdentifier::new_unwrap("1.2.840.113549.1.9.25.3");
+pub const PKCS_9_AT_RANDOM_NONCE: ObjectIdentifier = padded(*b"\x0A\x2A\x86\x48\x86\xF7\x0D\x01\x09\x19\x03\0\0\0\0\0\0\0\0\0\0\0\0\0\0\0\0\0\0\0\0\0\0\0\0\0\0\0\0\0");
 /// `pkcs-9-at-sequenceNumber`: 1.2.840.113549.1.9.25.4
-pub const PKCS_9_AT_SEQUENCE_NUMBER: ObjectIdentifier = ObjectIdentifier::new_unwrap("1.2.840.113549.1.9.25.4");
+pub const PKCS_9_AT_SEQUENCE_NUMBER: ObjectIdentifier = padded(*b"\x0A\x2A\x86\x48\x86\xF7\x0D\x01\x09\x19\x04\0\0\0\0\0\0\0\0\0\0\0\0\0\0\0\0\0\0\0\0\0\0\0\0\0\0\0\0\0");
 /// `pkcs-9-at-pkcs7PDU`: 1.2.840.113549.1.9.25.5
-pub const PKCS_9_AT_PKCS_7_PDU: ObjectIdentifier = ObjectIdentifier::new_unwrap("1.2.840.113549.1.9.25.5");
+pub const PKCS_9_AT_PKCS_7_PDU: ObjectIdentifier = padded(*b"\x0A\x2A\x86\x48\x86\xF7\x0D\x01\x09\x19\x05\0\0\0\0\0\0\0\0\0\0\0\0\0\0\0\0\0\0\0\0\0\0\0\0\0\0\0\0\0");
 /// `pkcs-9-sx`: 1.2.840.113549.1.9.26
-pub const PKCS_9_SX: ObjectIdentifier = ObjectIdentifier::new_unwrap("1.2.840.113549.1.9.26");
+pub const PKCS_9_SX: ObjectIdentifier = padded(*b"\x09\x2A\x86\x48\x86\xF7\x0D\x01\x09\x1A\0\0\0\0\0\0\0\0\0\0\0\0\0\0\0\0\0\0\0\0\0\0\0\0\0\0\0\0\0\0");
 /// `pkcs-9-sx-pkcs9String`: 1.2.840.113549.1.9.26.1
-pub const PKCS_9_SX_PKCS_9_STRING: ObjectIdentifier = ObjectIdentifier::new_unwrap("1.2.840.113549.1.9.26.1");
+pub const PKCS_9_SX_PKCS_9_STRING: ObjectIdentifier = padded(*b"\x0A\x2A\x86\x48\x86\xF7\x0D\x01\x09\x1A\x01\0\0\0\0\0\0\0\0\0\0\0\0\0\0\0\0\0\0\0\0\0\0\0\0\0\0\0\0\0");
 /// `pkcs-9-sx-signingTime`: 1.2.840.113549.1.9.26.2
-pub const PKCS_9_SX_SIGNING_TIME: ObjectIdentifier = ObjectIdentifier::new_unwrap("1.2.840.113549.1.9.26.2");
+pub const PKCS_9_SX_SIGNING_TIME: ObjectIdentifier = padded(*b"\x0A\x2A\x86\x48\x86\xF7\x0D\x01\x09\x1A\x02\0\0\0\0\0\0\0\0\0\0\0\0\0\0\0\0\0\0\0\0\0\0\0\0\0\0\0\0\0");
 /// `pkcs-9-mr`: 1.2.840.113549.1.9.27
-pub const PKCS_9_MR: ObjectIdentifier = ObjectIdentifier::new_unwrap("1.2.840.113549.1.9.27");
+pub const PKCS_9_MR: ObjectIdentifier = padded(*b"\x09\x2A\x86\x48\x86\xF7\x0D\x01\x09\x1B\0\0\0\0\0\0\0\0\0\0\0\0\0\0\0\0\0\0\0\0\0\0\0\0\0\0\0\0\0\0");
 /// `pkcs-9-mr-caseIgnoreMatch`: 1.2.840.113549.1.9.27.1
-pub const PKCS_9_MR_CASE_IGNORE_MATCH: ObjectIdentifier = ObjectIdentifier::new_unwrap("1.2.840.113549.1.9.27.1");
+pub const PKCS_9_MR_CASE_IGNORE_MATCH: ObjectIdentifier = padded(*b"\x0A\x2A\x86\x48\x86\xF7\x0D\x01\x09\x1B\x01\0\0\0\0\0\0\0\0\0\0\0\0\0\0\0\0\0\0\0\0\0\0\0\0\0\0\0\0\0");
 /// `pkcs-9-mr-signingTimeMatch`: 1.2.840.113549.1.9.27.2
-pub const PKCS_9_MR_SIGNING_TIME_MATCH: ObjectIdentifier = ObjectIdentifier::new_unwrap("1.2.840.113549.1.9.27.2");
+pub const PKCS_9_MR_SIGNING_TIME_MATCH: ObjectIdentifier = padded(*b"\x0A\x2A\x86\x48\x86\xF7\x0D\x01\x09\x1B\x02\0\0\0\0\0\0\0\0\0\0\0\0\0\0\0\0\0\0\0\0\0\0\0\0\0\0\0\0\0");
 /// `pkcs-9-at-contentType`: 1.2.840.113549.1.9.3
-pub const PKCS_9_AT_CONTENT_TYPE: ObjectIdentifier = ObjectIdentifier::new_unwrap("1.2.840.113549.1.9.3");
+pub const PKCS_9_AT_CONTENT_TYPE: ObjectIdentifier = padded(*b"\x09\x2A\x86\x48\x86\xF7\x0D\x01\x09\x03\0\0\0\0\0\0\0\0\0\0\0\0\0\0\0\0\0\0\0\0\0\0\0\0\0\0\0\0\0\0");
 /// `pkcs-9-at-messageDigest`: 1.2.840.113549.1.9.4
-pub const PKCS_9_AT_MESSAGE_DIGEST: ObjectIdentifier = ObjectIdentifier::new_unwrap("1.2.840.113549.1.9.4");
+pub const PKCS_9_AT_MESSAGE_DIGEST: ObjectIdentifier = padded(*b"\x09\x2A\x86\x48\x86\xF7\x0D\x01\x09\x04\0\0\0\0\0\0\0\0\0\0\0\0\0\0\0\0\0\0\0\0\0\0\0\0\0\0\0\0\0\0");
 /// `pkcs-9-at-signingTime`: 1.2.840.113549.1.9.5
-pub const PKCS_9_AT_SIGNING_TIME: ObjectIdentifier = ObjectIdentifier::new_unwrap("1.2.840.113549.1.9.5");
+pub const PKCS_9_AT_SIGNING_TIME: ObjectIdentifier = padded(*b"\x09\x2A\x86\x48\x86\xF7\x0D\x01\x09\x05\0\0\0\0\0\0\0\0\0\0\0\0\0\0\0\0\0\0\0\0\0\0\0\0\0\0\0\0\0\0");
 /// `pkcs-9-at-counterSignature`: 1.2.840.113549.1.9.6
-pub const PKCS_9_AT_COUNTER_SIGNATURE: ObjectIdentifier = ObjectIdentifier::new_unwrap("1.2.840.113549.1.9.6");
+pub const PKCS_9_AT_COUNTER_SIGNATURE: ObjectIdentifier = padded(*b"\x09\x2A\x86\x48\x86\xF7\x0D\x01\x09\x06\0\0\0\0\0\0\0\0\0\0\0\0\0\0\0\0\0\0\0\0\0\0\0\0\0\0\0\0\0\0");
 /// `pkcs-9-at-challengePassword`: 1.2.840.113549.1.9.7
-pub const PKCS_9_AT_CHALLENGE_PASSWORD: ObjectIdentifier = ObjectIdentifier::new_unwrap("1.2.840.113549.1.9.7");
+pub const PKCS_9_AT_CHALLENGE_PASSWORD: ObjectIdentifier = padded(*b"\x09\x2A\x86\x48\x86\xF7\x0D\x01\x09\x07\0\0\0\0\0\0\0\0\0\0\0\0\0\0\0\0\0\0\0\0\0\0\0\0\0\0\0\0\0\0");
 /// `pkcs-9-at-unstructuredAddress`: 1.2.840.113549.1.9.8
-pub const PKCS_9_AT_UNSTRUCTURED_ADDRESS: ObjectIdentifier = ObjectIdentifier::new_unwrap("1.2.840.113549.1.9.8");
+pub const PKCS_9_AT_UNSTRUCTURED_ADDRESS: ObjectIdentifier = padded(*b"\x09\x2A\x86\x48\x86\xF7\x0D\x01\x09\x08\0\0\0\0\0\0\0\0\0\0\0\0\0\0\0\0\0\0\0\0\0\0\0\0\0\0\0\0\0\0");
 /// `pkcs-9-at-extendedCertificateAttributes`: 1.2.840.113549.1.9.9
-pub const PKCS_9_AT_EXTENDED_CERTIFICATE_ATTRIBUTES: ObjectIdentifier = ObjectIdentifier::new_unwrap("1.2.840.113549.1.9.9");
+pub const PKCS_9_AT_EXTENDED_CERTIFICATE_ATTRIBUTES: ObjectIdentifier = padded(*b"\x09\x2A\x86\x48\x86\xF7\x0D\x01\x09\x09\0\0\0\0\0\0\0\0\0\0\0\0\0\0\0\0\0\0\0\0\0\0\0\0\0\0\0\0\0\0");
 /// `ietf-at`: 1.3.6.1.5.5.7.9
-pub const IETF_AT: ObjectIdentifier = ObjectIdentifier::new_unwrap("1.3.6.1.5.5.7.9");
+pub const IETF_AT: ObjectIdentifier = padded(*b"\x07\x2B\x06\x01\x05\x05\x07\x09\0\0\0\0\0\0\0\0\0\0\0\0\0\0\0\0\0\0\0\0\0\0\0\0\0\0\0\0\0\0\0\0");
 /// `pkcs-9-at-dateOfBirth`: 1.3.6.1.5.5.7.9.1
-pub const PKCS_9_AT_DATE_OF_BIRTH: ObjectIdentifier = ObjectIdentifier::new_unwrap("1.3.6.1.5.5.7.9.1");
+pub const PKCS_9_AT_DATE_OF_BIRTH: ObjectIdentifier = padded(*b"\x08\x2B\x06\x01\x05\x05\x07\x09\x01\0\0\0\0\0\0\0\0\0\0\0\0\0\0\0\0\0\0\0\0\0\0\0\0\0\0\0\0\0\0\0");
 /// `pkcs-9-at-placeOfBirth`: 1.3.6.1.5.5.7.9.2
-pub const PKCS_9_AT_PLACE_OF_BIRTH: ObjectIdentifier = ObjectIdentifier::new_unwrap("1.3.6.1.5.5.7.9.2");
+pub const PKCS_9_AT_PLACE_OF_BIRTH: ObjectIdentifier = padded(*b"\x08\x2B\x06\x01\x05\x05\x07\x09\x02\0\0\0\0\0\0\0\0\0\0\0\0\0\0\0\0\0\0\0\0\0\0\0\0\0\0\0\0\0\0\0");
 /// `pkcs-9-at-gender`: 1.3.6.1.5.5.7.9.3
-pub const PKCS_9_AT_GENDER: ObjectIdentifier = ObjectIdentifier::new_unwrap("1.3.6.1.5.5.7.9.3");
+pub const PKCS_9_AT_GENDER: ObjectIdentifier = padded(*b"\x08\x2B\x06\x01\x05\x05\x07\x09\x03\0\0\0\0\0\0\0\0\0\0\0\0\0\0\0\0\0\0\0\0\0\0\0\0\0\0\0\0\0\0\0");
 /// `pkcs-9-at-countryOfCitizenship`: 1.3.6.1.5.5.7.9.4
-pub const PKCS_9_AT_COUNTRY_OF_CITIZENSHIP: ObjectIdentifier = ObjectIdentifier::new_unwrap("1.3.6.1.5.5.7.9.4");
+pub const PKCS_9_AT_COUNTRY_OF_CITIZENSHIP: ObjectIdentifier = padded(*b"\x08\x2B\x06\x01\x05\x05\x07\x09\x04\0\0\0\0\0\0\0\0\0\0\0\0\0\0\0\0\0\0\0\0\0\0\0\0\0\0\0\0\0\0\0");
 /// `pkcs-9-at-countryOfResidence`: 1.3.6.1.5.5.7.9.5
-pub const PKCS_9_AT_COUNTRY_OF_RESIDENCE: ObjectIdentifier = ObjectIdentifier::new_unwrap("1.3.6.1.5.5.7.9.5");
+pub const PKCS_9_AT_COUNTRY_OF_RESIDENCE: ObjectIdentifier = padded(*b"\x08\x2B\x06\x01\x05\x05\x07\x09\x05\0\0\0\0\0\0\0\0\0\0\0\0\0\0\0\0\0\0\0\0\0\0\0\0\0\0\0\0\0\0\0");
 /// `pkcs-9-at-userPKCS12`: 2.16.840.1.113730.3.1.216
-pub const PKCS_9_AT_USER_PKCS_12: ObjectIdentifier = ObjectIdentifier::new_unwrap("2.16.840.1.113730.3.1.216");
+pub const PKCS_9_AT_USER_PKCS_12: ObjectIdentifier = padded(*b"\x0B\x60\x86\x48\x01\x86\xF8\x42\x03\x01\x81\x58\0\0\0\0\0\0\0\0\0\0\0\0\0\0\0\0\0\0\0\0\0\0\0\0\0\0\0\0");
 }
 
 /// Identifiers of [RFC 3161](https://www.rfc-editor.org/rfc/rfc3161).
@@ -906,12 +928,13 @@ pub const PKCS_9_AT_USER_PKCS_12: ObjectIdentifier = ObjectIdentifier::new_unwra
 /// assert_eq!(const_oid::db::rfc3161::ID_CT_TST_INFO.to_string(), "1.2.840.113549.1.9.16.1.4");
 /// ```
 pub mod rfc3161 {
+use super::padded;
 use crate::ObjectIdentifier;
 
 /// `id-ct-TSTInfo`: 1.2.840.113549.1.9.16.1.4
-pub const ID_CT_TST_INFO: ObjectIdentifier = ObjectIdentifier::new_unwrap("1.2.840.113549.1.9.16.1.4");
+pub const ID_CT_TST_INFO: ObjectIdentifier = padded(*b"\x0B\x2A\x86\x48\x86\xF7\x0D\x01\x09\x10\x01\x04\0\0\0\0\0\0\0\0\0\0\0\0\0\0\0\0\0\0\0\0\0\0\0\0\0\0\0\0");
 /// `id-aa-timeStampToken`: 1.2.840.113549.1.9.16.2.14
-pub const ID_AA_TIME_STAMP_TOKEN: ObjectIdentifier = ObjectIdentifier::new_unwrap("1.2.840.113549.1.9.16.2.14");
+pub const ID_AA_TIME_STAMP_TOKEN: ObjectIdentifier = padded(*b"\x0B\x2A\x86\x48\x86\xF7\x0D\x01\x09\x10\x02\x0E\0\0\0\0\0\0\0\0\0\0\0\0\0\0\0\0\0\0\0\0\0\0\0\0\0\0\0\0");
 }
 
 /// Identifiers of [RFC 3280](https://www.rfc-editor.org/rfc/rfc3280).
@@ -922,14 +945,15 @@ pub const ID_AA_TIME_STAMP_TOKEN: ObjectIdentifier = ObjectIdentifier::new_unwra
 /// assert_eq!(const_oid::db::rfc3280::EMAIL.to_string(), "1.2.840.113549.1.9.1");
 /// ```
 pub mod rfc3280 {
+use super::padded;
 use crate::ObjectIdentifier;
 
 /// `email`: 1.2.840.113549.1.9.1
-pub const EMAIL: ObjectIdentifier = ObjectIdentifier::new_unwrap("1.2.840.113549.1.9.1");
+pub const EMAIL: ObjectIdentifier = padded(*b"\x09\x2A\x86\x48\x86\xF7\x0D\x01\x09\x01\0\0\0\0\0\0\0\0\0\0\0\0\0\0\0\0\0\0\0\0\0\0\0\0\0\0\0\0\0\0");
 /// `emailAddress`: 1.2.840.113549.1.9.1
-pub const EMAIL_ADDRESS: ObjectIdentifier = ObjectIdentifier::new_unwrap("1.2.840.113549.1.9.1");
+pub const EMAIL_ADDRESS: ObjectIdentifier = padded(*b"\x09\x2A\x86\x48\x86\xF7\x0D\x01\x09\x01\0\0\0\0\0\0\0\0\0\0\0\0\0\0\0\0\0\0\0\0\0\0\0\0\0\0\0\0\0\0");
 /// `pseudonym`: 2.5.4.65
-pub const PSEUDONYM: ObjectIdentifier = ObjectIdentifier::new_unwrap("2.5.4.65");
+pub const PSEUDONYM: ObjectIdentifier = padded(*b"\x03\x55\x04\x41\0\0\0\0\0\0\0\0\0\0\0\0\0\0\0\0\0\0\0\0\0\0\0\0\0\0\0\0\0\0\0\0\0\0\0\0");
 }
 
 /// Identifiers of [RFC 3296](https://www.rfc-editor.org/rfc/rfc3296).
@@ -940,12 +964,13 @@ pub const PSEUDONYM: ObjectIdentifier = ObjectIdentifier::new_unwrap("2.5.4.65")
 /// assert_eq!(const_oid::db::rfc3296::REF.to_string(), "2.16.840.1.113730.3.1.34");
 /// ```
 pub mod rfc3296 {
+use super::padded;
 use crate::ObjectIdentifier;
 
 /// `ref`: 2.16.840.1.113730.3.1.34
-pub const REF: ObjectIdentifier = ObjectIdentifier::new_unwrap("2.16.840.1.113730.3.1.34");
+pub const REF: ObjectIdentifier = padded(*b"\x0A\x60\x86\x48\x01\x86\xF8\x42\x03\x01\x22\0\0\0\0\0\0\0\0\0\0\0\0\0\0\0\0\0\0\0\0\0\0\0\0\0\0\0\0\0");
 /// `referral`: 2.16.840.1.113730.3.2.6
-pub const REFERRAL: ObjectIdentifier = ObjectIdentifier::new_unwrap("2.16.840.1.113730.3.2.6");
+pub const REFERRAL: ObjectIdentifier = padded(*b"\x0A\x60\x86\x48\x01\x86\xF8\x42\x03\x02\x06\0\0\0\0\0\0\0\0\0\0\0\0\0\0\0\0\0\0\0\0\0\0\0\0\0\0\0\0\0");
 }
 
 /// Identifiers of [RFC 3671](https://www.rfc-editor.org/rfc/rfc3671).
@@ -956,40 +981,41 @@ pub const REFERRAL: ObjectIdentifier = ObjectIdentifier::new_unwrap("2.16.840.1.
 /// assert_eq!(const_oid::db::rfc3671::COLLECTIVE_ATTRIBUTE_SUBENTRIES.to_string(), "2.5.18.12");
 /// ```
 pub mod rfc3671 {
+use super::padded;
 use crate::ObjectIdentifier;
 
 /// `collectiveAttributeSubentries`: 2.5.18.12
-pub const COLLECTIVE_ATTRIBUTE_SUBENTRIES: ObjectIdentifier = ObjectIdentifier::new_unwrap("2.5.18.12");
+pub const COLLECTIVE_ATTRIBUTE_SUBENTRIES: ObjectIdentifier = padded(*b"\x03\x55\x12\x0C\0\0\0\0\0\0\0\0\0\0\0\0\0\0\0\0\0\0\0\0\0\0\0\0\0\0\0\0\0\0\0\0\0\0\0\0");
 /// `collectiveExclusions`: 2.5.18.7
-pub const COLLECTIVE_EXCLUSIONS: ObjectIdentifier = ObjectIdentifier::new_unwrap("2.5.18.7");
+pub const COLLECTIVE_EXCLUSIONS: ObjectIdentifier = padded(*b"\x03\x55\x12\x07\0\0\0\0\0\0\0\0\0\0\0\0\0\0\0\0\0\0\0\0\0\0\0\0\0\0\0\0\0\0\0\0\0\0\0\0");
 /// `collectiveAttributeSubentry`: 2.5.20.2
-pub const COLLECTIVE_ATTRIBUTE_SUBENTRY: ObjectIdentifier = ObjectIdentifier::new_unwrap("2.5.20.2");
+pub const COLLECTIVE_ATTRIBUTE_SUBENTRY: ObjectIdentifier = padded(*b"\x03\x55\x14\x02\0\0\0\0\0\0\0\0\0\0\0\0\0\0\0\0\0\0\0\0\0\0\0\0\0\0\0\0\0\0\0\0\0\0\0\0");
 /// `c-o`: 2.5.4.10.1
-pub const C_O: ObjectIdentifier = ObjectIdentifier::new_unwrap("2.5.4.10.1");
+pub const C_O: ObjectIdentifier = padded(*b"\x04\x55\x04\x0A\x01\0\0\0\0\0\0\0\0\0\0\0\0\0\0\0\0\0\0\0\0\0\0\0\0\0\0\0\0\0\0\0\0\0\0\0");
 /// `c-ou`: 2.5.4.11.1
-pub const C_OU: ObjectIdentifier = ObjectIdentifier::new_unwrap("2.5.4.11.1");
+pub const C_OU: ObjectIdentifier = padded(*b"\x04\x55\x04\x0B\x01\0\0\0\0\0\0\0\0\0\0\0\0\0\0\0\0\0\0\0\0\0\0\0\0\0\0\0\0\0\0\0\0\0\0\0");
 /// `c-PostalAddress`: 2.5.4.16.1
-pub const C_POSTAL_ADDRESS: ObjectIdentifier = ObjectIdentifier::new_unwrap("2.5.4.16.1");
+pub const C_POSTAL_ADDRESS: ObjectIdentifier = padded(*b"\x04\x55\x04\x10\x01\0\0\0\0\0\0\0\0\0\0\0\0\0\0\0\0\0\0\0\0\0\0\0\0\0\0\0\0\0\0\0\0\0\0\0");
 /// `c-PostalCode`: 2.5.4.17.1
-pub const C_POSTAL_CODE: ObjectIdentifier = ObjectIdentifier::new_unwrap("2.5.4.17.1");
+pub const C_POSTAL_CODE: ObjectIdentifier = padded(*b"\x04\x55\x04\x11\x01\0\0\0\0\0\0\0\0\0\0\0\0\0\0\0\0\0\0\0\0\0\0\0\0\0\0\0\0\0\0\0\0\0\0\0");
 /// `c-PostOfficeBox`: 2.5.4.18.1
-pub const C_POST_OFFICE_BOX: ObjectIdentifier = ObjectIdentifier::new_unwrap("2.5.4.18.1");
+pub const C_POST_OFFICE_BOX: ObjectIdentifier = padded(*b"\x04\x55\x04\x12\x01\0\0\0\0\0\0\0\0\0\0\0\0\0\0\0\0\0\0\0\0\0\0\0\0\0\0\0\0\0\0\0\0\0\0\0");
 /// `c-PhysicalDeliveryOffice`: 2.5.4.19.1
-pub const C_PHYSICAL_DELIVERY_OFFICE: ObjectIdentifier = ObjectIdentifier::new_unwrap("2.5.4.19.1");
+pub const C_PHYSICAL_DELIVERY_OFFICE: ObjectIdentifier = padded(*b"\x04\x55\x04\x13\x01\0\0\0\0\0\0\0\0\0\0\0\0\0\0\0\0\0\0\0\0\0\0\0\0\0\0\0\0\0\0\0\0\0\0\0");
 /// `c-TelephoneNumber`: 2.5.4.20.1
-pub const C_TELEPHONE_NUMBER: ObjectIdentifier = ObjectIdentifier::new_unwrap("2.5.4.20.1");
+pub const C_TELEPHONE_NUMBER: ObjectIdentifier = padded(*b"\x04\x55\x04\x14\x01\0\0\0\0\0\0\0\0\0\0\0\0\0\0\0\0\0\0\0\0\0\0\0\0\0\0\0\0\0\0\0\0\0\0\0");
 /// `c-TelexNumber`: 2.5.4.21.1
-pub const C_TELEX_NUMBER: ObjectIdentifier = ObjectIdentifier::new_unwrap("2.5.4.21.1");
+pub const C_TELEX_NUMBER: ObjectIdentifier = padded(*b"\x04\x55\x04\x15\x01\0\0\0\0\0\0\0\0\0\0\0\0\0\0\0\0\0\0\0\0\0\0\0\0\0\0\0\0\0\0\0\0\0\0\0");
 /// `c-FacsimileTelephoneNumber`: 2.5.4.23.1
-pub const C_FACSIMILE_TELEPHONE_NUMBER: ObjectIdentifier = ObjectIdentifier::new_unwrap("2.5.4.23.1");
+pub const C_FACSIMILE_TELEPHONE_NUMBER: ObjectIdentifier = padded(*b"\x04\x55\x04\x17\x01\0\0\0\0\0\0\0\0\0\0\0\0\0\0\0\0\0\0\0\0\0\0\0\0\0\0\0\0\0\0\0\0\0\0\0");
 /// `c-InternationalISDNNumber`: 2.5.4.25.1
-pub const C_INTERNATIONAL_ISDN_NUMBER: ObjectIdentifier = ObjectIdentifier::new_unwrap("2.5.4.25.1");
+pub const C_INTERNATIONAL_ISDN_NUMBER: ObjectIdentifier = padded(*b"\x04\x55\x04\x19\x01\0\0\0\0\0\0\0\0\0\0\0\0\0\0\0\0\0\0\0\0\0\0\0\0\0\0\0\0\0\0\0\0\0\0\0");
 /// `c-l`: 2.5.4.7.1
-pub const C_L: ObjectIdentifier = ObjectIdentifier::new_unwrap("2.5.4.7.1");
+pub const C_L: ObjectIdentifier = padded(*b"\x04\x55\x04\x07\x01\0\0\0\0\0\0\0\0\0\0\0\0\0\0\0\0\0\0\0\0\0\0\0\0\0\0\0\0\0\0\0\0\0\0\0");
 /// `c-st`: 2.5.4.8.1
-pub const C_ST: ObjectIdentifier = ObjectIdentifier::new_unwrap("2.5.4.8.1");
+pub const C_ST: ObjectIdentifier = padded(*b"\x04\x55\x04\x08\x01\0\0\0\0\0\0\0\0\0\0\0\0\0\0\0\0\0\0\0\0\0\0\0\0\0\0\0\0\0\0\0\0\0\0\0");
 /// `c-street`: 2.5.4.9.1
-pub const C_STREET: ObjectIdentifier = ObjectIdentifier::new_unwrap("2.5.4.9.1");
+pub const C_STREET: ObjectIdentifier = padded(*b"\x04\x55\x04\x09\x01\0\0\0\0\0\0\0\0\0\0\0\0\0\0\0\0\0\0\0\0\0\0\0\0\0\0\0\0\0\0\0\0\0\0\0");
 }
 
 /// Identifiers of [RFC 3672](https://www.rfc-editor.org/rfc/rfc3672).
@@ -1000,26 +1026,27 @@ pub const C_STREET: ObjectIdentifier = ObjectIdentifier::new_unwrap("2.5.4.9.1")
 /// assert_eq!(const_oid::db::rfc3672::SUBENTRY.to_string(), "2.5.17.0");
 /// ```
 pub mod rfc3672 {
+use super::padded;
 use crate::ObjectIdentifier;
 
 /// `subentry`: 2.5.17.0
-pub const SUBENTRY: ObjectIdentifier = ObjectIdentifier::new_unwrap("2.5.17.0");
+pub const SUBENTRY: ObjectIdentifier = padded(*b"\x03\x55\x11\x00\0\0\0\0\0\0\0\0\0\0\0\0\0\0\0\0\0\0\0\0\0\0\0\0\0\0\0\0\0\0\0\0\0\0\0\0");
 /// `administrativeRole`: 2.5.18.5
-pub const ADMINISTRATIVE_ROLE: ObjectIdentifier = ObjectIdentifier::new_unwrap("2.5.18.5");
+pub const ADMINISTRATIVE_ROLE: ObjectIdentifier = padded(*b"\x03\x55\x12\x05\0\0\0\0\0\0\0\0\0\0\0\0\0\0\0\0\0\0\0\0\0\0\0\0\0\0\0\0\0\0\0\0\0\0\0\0");
 /// `subtreeSpecification`: 2.5.18.6
-pub const SUBTREE_SPECIFICATION: ObjectIdentifier = ObjectIdentifier::new_unwrap("2.5.18.6");
+pub const SUBTREE_SPECIFICATION: ObjectIdentifier = padded(*b"\x03\x55\x12\x06\0\0\0\0\0\0\0\0\0\0\0\0\0\0\0\0\0\0\0\0\0\0\0\0\0\0\0\0\0\0\0\0\0\0\0\0");
 /// `autonomousArea`: 2.5.23.1
-pub const AUTONOMOUS_AREA: ObjectIdentifier = ObjectIdentifier::new_unwrap("2.5.23.1");
+pub const AUTONOMOUS_AREA: ObjectIdentifier = padded(*b"\x03\x55\x17\x01\0\0\0\0\0\0\0\0\0\0\0\0\0\0\0\0\0\0\0\0\0\0\0\0\0\0\0\0\0\0\0\0\0\0\0\0");
 /// `accessControlSpecificArea`: 2.5.23.2
-pub const ACCESS_CONTROL_SPECIFIC_AREA: ObjectIdentifier = ObjectIdentifier::new_unwrap("2.5.23.2");
+pub const ACCESS_CONTROL_SPECIFIC_AREA: ObjectIdentifier = padded(*b"\x03\x55\x17\x02\0\0\0\0\0\0\0\0\0\0\0\0\0\0\0\0\0\0\0\0\0\0\0\0\0\0\0\0\0\0\0\0\0\0\0\0");
 /// `accessControlInnerArea`: 2.5.23.3
-pub const ACCESS_CONTROL_INNER_AREA: ObjectIdentifier = ObjectIdentifier::new_unwrap("2.5.23.3");
+pub const ACCESS_CONTROL_INNER_AREA: ObjectIdentifier = padded(*b"\x03\x55\x17\x03\0\0\0\0\0\0\0\0\0\0\0\0\0\0\0\0\0\0\0\0\0\0\0\0\0\0\0\0\0\0\0\0\0\0\0\0");
 /// `subschemaAdminSpecificArea`: 2.5.23.4
-pub const SUBSCHEMA_ADMIN_SPECIFIC_AREA: ObjectIdentifier = ObjectIdentifier::new_unwrap("2.5.23.4");
+pub const SUBSCHEMA_ADMIN_SPECIFIC_AREA: ObjectIdentifier = padded(*b"\x03\x55\x17\x04\0\0\0\0\0\0\0\0\0\0\0\0\0\0\0\0\0\0\0\0\0\0\0\0\0\0\0\0\0\0\0\0\0\0\0\0");
 /// `collectiveAttributeSpecificArea`: 2.5.23.5
-pub const COLLECTIVE_ATTRIBUTE_SPECIFIC_AREA: ObjectIdentifier = ObjectIdentifier::new_unwrap("2.5.23.5");
+pub const COLLECTIVE_ATTRIBUTE_SPECIFIC_AREA: ObjectIdentifier = padded(*b"\x03\x55\x17\x05\0\0\0\0\0\0\0\0\0\0\0\0\0\0\0\0\0\0\0\0\0\0\0\0\0\0\0\0\0\0\0\0\0\0\0\0");
 /// `collectiveAttributeInnerArea`: 2.5.23.6
-pub const COLLECTIVE_ATTRIBUTE_INNER_AREA: ObjectIdentifier = ObjectIdentifier::new_unwrap("2.5.23.6");
+pub const COLLECTIVE_ATTRIBUTE_INNER_AREA: ObjectIdentifier = padded(*b"\x03\x55\x17\x06\0\0\0\0\0\0\0\0\0\0\0\0\0\0\0\0\0\0\0\0\0\0\0\0\0\0\0\0\0\0\0\0\0\0\0\0");
 }
 
 /// Identifiers of [RFC 3687](https://www.rfc-editor.org/rfc/rfc3687).
@@ -1030,18 +1057,19 @@ pub const COLLECTIVE_ATTRIBUTE_INNER_AREA: ObjectIdentifier = ObjectIdentifier::
 /// assert_eq!(const_oid::db::rfc3687::COMPONENT_FILTER_MATCH.to_string(), "1.2.36.79672281.1.13.2");
 /// ```
 pub mod rfc3687 {
+use super::padded;
 use crate::ObjectIdentifier;
 
 /// `componentFilterMatch`: 1.2.36.79672281.1.13.2
-pub const COMPONENT_FILTER_MATCH: ObjectIdentifier = ObjectIdentifier::new_unwrap("1.2.36.79672281.1.13.2");
+pub const COMPONENT_FILTER_MATCH: ObjectIdentifier = padded(*b"\x09\x2A\x24\xA5\xFE\xE7\x59\x01\x0D\x02\0\0\0\0\0\0\0\0\0\0\0\0\0\0\0\0\0\0\0\0\0\0\0\0\0\0\0\0\0\0");
 /// `rdnMatch`: 1.2.36.79672281.1.13.3
-pub const RDN_MATCH: ObjectIdentifier = ObjectIdentifier::new_unwrap("1.2.36.79672281.1.13.3");
+pub const RDN_MATCH: ObjectIdentifier = padded(*b"\x09\x2A\x24\xA5\xFE\xE7\x59\x01\x0D\x03\0\0\0\0\0\0\0\0\0\0\0\0\0\0\0\0\0\0\0\0\0\0\0\0\0\0\0\0\0\0");
 /// `presentMatch`: 1.2.36.79672281.1.13.5
-pub const PRESENT_MATCH: ObjectIdentifier = ObjectIdentifier::new_unwrap("1.2.36.79672281.1.13.5");
+pub const PRESENT_MATCH: ObjectIdentifier = padded(*b"\x09\x2A\x24\xA5\xFE\xE7\x59\x01\x0D\x05\0\0\0\0\0\0\0\0\0\0\0\0\0\0\0\0\0\0\0\0\0\0\0\0\0\0\0\0\0\0");
 /// `allComponentsMatch`: 1.2.36.79672281.1.13.6
-pub const ALL_COMPONENTS_MATCH: ObjectIdentifier = ObjectIdentifier::new_unwrap("1.2.36.79672281.1.13.6");
+pub const ALL_COMPONENTS_MATCH: ObjectIdentifier = padded(*b"\x09\x2A\x24\xA5\xFE\xE7\x59\x01\x0D\x06\0\0\0\0\0\0\0\0\0\0\0\0\0\0\0\0\0\0\0\0\0\0\0\0\0\0\0\0\0\0");
 /// `directoryComponentsMatch`: 1.2.36.79672281.1.13.7
-pub const DIRECTORY_COMPONENTS_MATCH: ObjectIdentifier = ObjectIdentifier::new_unwrap("1.2.36.79672281.1.13.7");
+pub const DIRECTORY_COMPONENTS_MATCH: ObjectIdentifier = padded(*b"\x09\x2A\x24\xA5\xFE\xE7\x59\x01\x0D\x07\0\0\0\0\0\0\0\0\0\0\0\0\0\0\0\0\0\0\0\0\0\0\0\0\0\0\0\0\0\0");
 }
 
 /// Identifiers of [RFC 3698](https://www.rfc-editor.org/rfc/rfc3698).
@@ -1052,10 +1080,11 @@ pub const DIRECTORY_COMPONENTS_MATCH: ObjectIdentifier = ObjectIdentifier::new_u
 /// assert_eq!(const_oid::db::rfc3698::STORED_PREFIX_MATCH.to_string(), "2.5.13.41");
 /// ```
 pub mod rfc3698 {
+use super::padded;
 use crate::ObjectIdentifier;
 
 /// `storedPrefixMatch`: 2.5.13.41
-pub const STORED_PREFIX_MATCH: ObjectIdentifier = ObjectIdentifier::new_unwrap("2.5.13.41");
+pub const STORED_PREFIX_MATCH: ObjectIdentifier = padded(*b"\x03\x55\x0D\x29\0\0\0\0\0\0\0\0\0\0\0\0\0\0\0\0\0\0\0\0\0\0\0\0\0\0\0\0\0\0\0\0\0\0\0\0");
 }
 
 /// Identifiers of [RFC 3703](https://www.rfc-editor.org/rfc/rfc3703).
@@ -1066,128 +1095,129 @@ pub const STORED_PREFIX_MATCH: ObjectIdentifier = ObjectIdentifier::new_unwrap("
 /// assert_eq!(const_oid::db::rfc3703::PCIM_POLICY.to_string(), "1.3.6.1.1.6.1.1");
 /// ```
 pub mod rfc3703 {
+use super::padded;
 use crate::ObjectIdentifier;
 
 /// `pcimPolicy`: 1.3.6.1.1.6.1.1
-pub const PCIM_POLICY: ObjectIdentifier = ObjectIdentifier::new_unwrap("1.3.6.1.1.6.1.1");
+pub const PCIM_POLICY: ObjectIdentifier = padded(*b"\x07\x2B\x06\x01\x01\x06\x01\x01\0\0\0\0\0\0\0\0\0\0\0\0\0\0\0\0\0\0\0\0\0\0\0\0\0\0\0\0\0\0\0\0");
 /// `pcimRuleActionAssociation`: 1.3.6.1.1.6.1.10
-pub const PCIM_RULE_ACTION_ASSOCIATION: ObjectIdentifier = ObjectIdentifier::new_unwrap("1.3.6.1.1.6.1.10");
+pub const PCIM_RULE_ACTION_ASSOCIATION: ObjectIdentifier = padded(*b"\x07\x2B\x06\x01\x01\x06\x01\x0A\0\0\0\0\0\0\0\0\0\0\0\0\0\0\0\0\0\0\0\0\0\0\0\0\0\0\0\0\0\0\0\0");
 /// `pcimConditionAuxClass`: 1.3.6.1.1.6.1.11
-pub const PCIM_CONDITION_AUX_CLASS: ObjectIdentifier = ObjectIdentifier::new_unwrap("1.3.6.1.1.6.1.11");
+pub const PCIM_CONDITION_AUX_CLASS: ObjectIdentifier = padded(*b"\x07\x2B\x06\x01\x01\x06\x01\x0B\0\0\0\0\0\0\0\0\0\0\0\0\0\0\0\0\0\0\0\0\0\0\0\0\0\0\0\0\0\0\0\0");
 /// `pcimTPCAuxClass`: 1.3.6.1.1.6.1.12
-pub const PCIM_TPC_AUX_CLASS: ObjectIdentifier = ObjectIdentifier::new_unwrap("1.3.6.1.1.6.1.12");
+pub const PCIM_TPC_AUX_CLASS: ObjectIdentifier = padded(*b"\x07\x2B\x06\x01\x01\x06\x01\x0C\0\0\0\0\0\0\0\0\0\0\0\0\0\0\0\0\0\0\0\0\0\0\0\0\0\0\0\0\0\0\0\0");
 /// `pcimConditionVendorAuxClass`: 1.3.6.1.1.6.1.13
-pub const PCIM_CONDITION_VENDOR_AUX_CLASS: ObjectIdentifier = ObjectIdentifier::new_unwrap("1.3.6.1.1.6.1.13");
+pub const PCIM_CONDITION_VENDOR_AUX_CLASS: ObjectIdentifier = padded(*b"\x07\x2B\x06\x01\x01\x06\x01\x0D\0\0\0\0\0\0\0\0\0\0\0\0\0\0\0\0\0\0\0\0\0\0\0\0\0\0\0\0\0\0\0\0");
 /// `pcimActionAuxClass`: 1.3.6.1.1.6.1.14
-pub const PCIM_ACTION_AUX_CLASS: ObjectIdentifier = ObjectIdentifier::new_unwrap("1.3.6.1.1.6.1.14");
+pub const PCIM_ACTION_AUX_CLASS: ObjectIdentifier = padded(*b"\x07\x2B\x06\x01\x01\x06\x01\x0E\0\0\0\0\0\0\0\0\0\0\0\0\0\0\0\0\0\0\0\0\0\0\0\0\0\0\0\0\0\0\0\0");
 /// `pcimActionVendorAuxClass`: 1.3.6.1.1.6.1.15
-pub const PCIM_ACTION_VENDOR_AUX_CLASS: ObjectIdentifier = ObjectIdentifier::new_unwrap("1.3.6.1.1.6.1.15");
+pub const PCIM_ACTION_VENDOR_AUX_CLASS: ObjectIdentifier = padded(*b"\x07\x2B\x06\x01\x01\x06\x01\x0F\0\0\0\0\0\0\0\0\0\0\0\0\0\0\0\0\0\0\0\0\0\0\0\0\0\0\0\0\0\0\0\0");
 /// `pcimPolicyInstance`: 1.3.6.1.1.6.1.16
-pub const PCIM_POLICY_INSTANCE: ObjectIdentifier = ObjectIdentifier::new_unwrap("1.3.6.1.1.6.1.16");
+pub const PCIM_POLICY_INSTANCE: ObjectIdentifier = padded(*b"\x07\x2B\x06\x01\x01\x06\x01\x10\0\0\0\0\0\0\0\0\0\0\0\0\0\0\0\0\0\0\0\0\0\0\0\0\0\0\0\0\0\0\0\0");
 /// `pcimElementAuxClass`: 1.3.6.1.1.6.1.17
-pub const PCIM_ELEMENT_AUX_CLASS: ObjectIdentifier = ObjectIdentifier::new_unwrap("1.3.6.1.1.6.1.17");
+pub const PCIM_ELEMENT_AUX_CLASS: ObjectIdentifier = padded(*b"\x07\x2B\x06\x01\x01\x06\x01\x11\0\0\0\0\0\0\0\0\0\0\0\0\0\0\0\0\0\0\0\0\0\0\0\0\0\0\0\0\0\0\0\0");
 /// `pcimRepository`: 1.3.6.1.1.6.1.18
-pub const PCIM_REPOSITORY: ObjectIdentifier = ObjectIdentifier::new_unwrap("1.3.6.1.1.6.1.18");
+pub const PCIM_REPOSITORY: ObjectIdentifier = padded(*b"\x07\x2B\x06\x01\x01\x06\x01\x12\0\0\0\0\0\0\0\0\0\0\0\0\0\0\0\0\0\0\0\0\0\0\0\0\0\0\0\0\0\0\0\0");
 /// `pcimRepositoryAuxClass`: 1.3.6.1.1.6.1.19
-pub const PCIM_REPOSITORY_AUX_CLASS: ObjectIdentifier = ObjectIdentifier::new_unwrap("1.3.6.1.1.6.1.19");
+pub const PCIM_REPOSITORY_AUX_CLASS: ObjectIdentifier = padded(*b"\x07\x2B\x06\x01\x01\x06\x01\x13\0\0\0\0\0\0\0\0\0\0\0\0\0\0\0\0\0\0\0\0\0\0\0\0\0\0\0\0\0\0\0\0");
 /// `pcimGroup`: 1.3.6.1.1.6.1.2
-pub const PCIM_GROUP: ObjectIdentifier = ObjectIdentifier::new_unwrap("1.3.6.1.1.6.1.2");
+pub const PCIM_GROUP: ObjectIdentifier = padded(*b"\x07\x2B\x06\x01\x01\x06\x01\x02\0\0\0\0\0\0\0\0\0\0\0\0\0\0\0\0\0\0\0\0\0\0\0\0\0\0\0\0\0\0\0\0");
 /// `pcimRepositoryInstance`: 1.3.6.1.1.6.1.20
-pub const PCIM_REPOSITORY_INSTANCE: ObjectIdentifier = ObjectIdentifier::new_unwrap("1.3.6.1.1.6.1.20");
+pub const PCIM_REPOSITORY_INSTANCE: ObjectIdentifier = padded(*b"\x07\x2B\x06\x01\x01\x06\x01\x14\0\0\0\0\0\0\0\0\0\0\0\0\0\0\0\0\0\0\0\0\0\0\0\0\0\0\0\0\0\0\0\0");
 /// `pcimSubtreesPtrAuxClass`: 1.3.6.1.1.6.1.21
-pub const PCIM_SUBTREES_PTR_AUX_CLASS: ObjectIdentifier = ObjectIdentifier::new_unwrap("1.3.6.1.1.6.1.21");
+pub const PCIM_SUBTREES_PTR_AUX_CLASS: ObjectIdentifier = padded(*b"\x07\x2B\x06\x01\x01\x06\x01\x15\0\0\0\0\0\0\0\0\0\0\0\0\0\0\0\0\0\0\0\0\0\0\0\0\0\0\0\0\0\0\0\0");
 /// `pcimGroupContainmentAuxClass`: 1.3.6.1.1.6.1.22
-pub const PCIM_GROUP_CONTAINMENT_AUX_CLASS: ObjectIdentifier = ObjectIdentifier::new_unwrap("1.3.6.1.1.6.1.22");
+pub const PCIM_GROUP_CONTAINMENT_AUX_CLASS: ObjectIdentifier = padded(*b"\x07\x2B\x06\x01\x01\x06\x01\x16\0\0\0\0\0\0\0\0\0\0\0\0\0\0\0\0\0\0\0\0\0\0\0\0\0\0\0\0\0\0\0\0");
 /// `pcimRuleContainmentAuxClass`: 1.3.6.1.1.6.1.23
-pub const PCIM_RULE_CONTAINMENT_AUX_CLASS: ObjectIdentifier = ObjectIdentifier::new_unwrap("1.3.6.1.1.6.1.23");
+pub const PCIM_RULE_CONTAINMENT_AUX_CLASS: ObjectIdentifier = padded(*b"\x07\x2B\x06\x01\x01\x06\x01\x17\0\0\0\0\0\0\0\0\0\0\0\0\0\0\0\0\0\0\0\0\0\0\0\0\0\0\0\0\0\0\0\0");
 /// `pcimGroupAuxClass`: 1.3.6.1.1.6.1.3
-pub const PCIM_GROUP_AUX_CLASS: ObjectIdentifier = ObjectIdentifier::new_unwrap("1.3.6.1.1.6.1.3");
+pub const PCIM_GROUP_AUX_CLASS: ObjectIdentifier = padded(*b"\x07\x2B\x06\x01\x01\x06\x01\x03\0\0\0\0\0\0\0\0\0\0\0\0\0\0\0\0\0\0\0\0\0\0\0\0\0\0\0\0\0\0\0\0");
 /// `pcimGroupInstance`: 1.3.6.1.1.6.1.4
-pub const PCIM_GROUP_INSTANCE: ObjectIdentifier = ObjectIdentifier::new_unwrap("1.3.6.1.1.6.1.4");
+pub const PCIM_GROUP_INSTANCE: ObjectIdentifier = padded(*b"\x07\x2B\x06\x01\x01\x06\x01\x04\0\0\0\0\0\0\0\0\0\0\0\0\0\0\0\0\0\0\0\0\0\0\0\0\0\0\0\0\0\0\0\0");
 /// `pcimRule`: 1.3.6.1.1.6.1.5
-pub const PCIM_RULE: ObjectIdentifier = ObjectIdentifier::new_unwrap("1.3.6.1.1.6.1.5");
+pub const PCIM_RULE: ObjectIdentifier = padded(*b"\x07\x2B\x06\x01\x01\x06\x01\x05\0\0\0\0\0\0\0\0\0\0\0\0\0\0\0\0\0\0\0\0\0\0\0\0\0\0\0\0\0\0\0\0");
 /// `pcimRuleAuxClass`: 1.3.6.1.1.6.1.6
-pub const PCIM_RULE_AUX_CLASS: ObjectIdentifier = ObjectIdentifier::new_unwrap("1.3.6.1.1.6.1.6");
+pub const PCIM_RULE_AUX_CLASS: ObjectIdentifier = padded(*b"\x07\x2B\x06\x01\x01\x06\x01\x06\0\0\0\0\0\0\0\0\0\0\0\0\0\0\0\0\0\0\0\0\0\0\0\0\0\0\0\0\0\0\0\0");
 /// `pcimRuleInstance`: 1.3.6.1.1.6.1.7
-pub const PCIM_RULE_INSTANCE: ObjectIdentifier = ObjectIdentifier::new_unwrap("1.3.6.1.1.6.1.7");
+pub const PCIM_RULE_INSTANCE: ObjectIdentifier = padded(*b"\x07\x2B\x06\x01\x01\x06\x01\x07\0\0\0\0\0\0\0\0\0\0\0\0\0\0\0\0\0\0\0\0\0\0\0\0\0\0\0\0\0\0\0\0");
 /// `pcimRuleConditionAssociation`: 1.3.6.1.1.6.1.8
-pub const PCIM_RULE_CONDITION_ASSOCIATION: ObjectIdentifier = ObjectIdentifier::new_unwrap("1.3.6.1.1.6.1.8");
+pub const PCIM_RULE_CONDITION_ASSOCIATION: ObjectIdentifier = padded(*b"\x07\x2B\x06\x01\x01\x06\x01\x08\0\0\0\0\0\0\0\0\0\0\0\0\0\0\0\0\0\0\0\0\0\0\0\0\0\0\0\0\0\0\0\0");
 /// `pcimRuleValidityAssociation`: 1.3.6.1.1.6.1.9
-pub const PCIM_RULE_VALIDITY_ASSOCIATION: ObjectIdentifier = ObjectIdentifier::new_unwrap("1.3.6.1.1.6.1.9");
+pub const PCIM_RULE_VALIDITY_ASSOCIATION: ObjectIdentifier = padded(*b"\x07\x2B\x06\x01\x01\x06\x01\x09\0\0\0\0\0\0\0\0\0\0\0\0\0\0\0\0\0\0\0\0\0\0\0\0\0\0\0\0\0\0\0\0");
 /// `pcimRuleValidityPeriodList`: 1.3.6.1.1.6.2.10
-pub const PCIM_RULE_VALIDITY_PERIOD_LIST: ObjectIdentifier = ObjectIdentifier::new_unwrap("1.3.6.1.1.6.2.10");
+pub const PCIM_RULE_VALIDITY_PERIOD_LIST: ObjectIdentifier = padded(*b"\x07\x2B\x06\x01\x01\x06\x02\x0A\0\0\0\0\0\0\0\0\0\0\0\0\0\0\0\0\0\0\0\0\0\0\0\0\0\0\0\0\0\0\0\0");
 /// `pcimRuleUsage`: 1.3.6.1.1.6.2.11
-pub const PCIM_RULE_USAGE: ObjectIdentifier = ObjectIdentifier::new_unwrap("1.3.6.1.1.6.2.11");
+pub const PCIM_RULE_USAGE: ObjectIdentifier = padded(*b"\x07\x2B\x06\x01\x01\x06\x02\x0B\0\0\0\0\0\0\0\0\0\0\0\0\0\0\0\0\0\0\0\0\0\0\0\0\0\0\0\0\0\0\0\0");
 /// `pcimRulePriority`: 1.3.6.1.1.6.2.12
-pub const PCIM_RULE_PRIORITY: ObjectIdentifier = ObjectIdentifier::new_unwrap("1.3.6.1.1.6.2.12");
+pub const PCIM_RULE_PRIORITY: ObjectIdentifier = padded(*b"\x07\x2B\x06\x01\x01\x06\x02\x0C\0\0\0\0\0\0\0\0\0\0\0\0\0\0\0\0\0\0\0\0\0\0\0\0\0\0\0\0\0\0\0\0");
 /// `pcimRuleMandatory`: 1.3.6.1.1.6.2.13
-pub const PCIM_RULE_MANDATORY: ObjectIdentifier = ObjectIdentifier::new_unwrap("1.3.6.1.1.6.2.13");
+pub const PCIM_RULE_MANDATORY: ObjectIdentifier = padded(*b"\x07\x2B\x06\x01\x01\x06\x02\x0D\0\0\0\0\0\0\0\0\0\0\0\0\0\0\0\0\0\0\0\0\0\0\0\0\0\0\0\0\0\0\0\0");
 /// `pcimRuleSequencedActions`: 1.3.6.1.1.6.2.14
-pub const PCIM_RULE_SEQUENCED_ACTIONS: ObjectIdentifier = ObjectIdentifier::new_unwrap("1.3.6.1.1.6.2.14");
+pub const PCIM_RULE_SEQUENCED_ACTIONS: ObjectIdentifier = padded(*b"\x07\x2B\x06\x01\x01\x06\x02\x0E\0\0\0\0\0\0\0\0\0\0\0\0\0\0\0\0\0\0\0\0\0\0\0\0\0\0\0\0\0\0\0\0");
 /// `pcimRoles`: 1.3.6.1.1.6.2.15
-pub const PCIM_ROLES: ObjectIdentifier = ObjectIdentifier::new_unwrap("1.3.6.1.1.6.2.15");
+pub const PCIM_ROLES: ObjectIdentifier = padded(*b"\x07\x2B\x06\x01\x01\x06\x02\x0F\0\0\0\0\0\0\0\0\0\0\0\0\0\0\0\0\0\0\0\0\0\0\0\0\0\0\0\0\0\0\0\0");
 /// `pcimConditionGroupNumber`: 1.3.6.1.1.6.2.16
-pub const PCIM_CONDITION_GROUP_NUMBER: ObjectIdentifier = ObjectIdentifier::new_unwrap("1.3.6.1.1.6.2.16");
+pub const PCIM_CONDITION_GROUP_NUMBER: ObjectIdentifier = padded(*b"\x07\x2B\x06\x01\x01\x06\x02\x10\0\0\0\0\0\0\0\0\0\0\0\0\0\0\0\0\0\0\0\0\0\0\0\0\0\0\0\0\0\0\0\0");
 /// `pcimConditionNegated`: 1.3.6.1.1.6.2.17
-pub const PCIM_CONDITION_NEGATED: ObjectIdentifier = ObjectIdentifier::new_unwrap("1.3.6.1.1.6.2.17");
+pub const PCIM_CONDITION_NEGATED: ObjectIdentifier = padded(*b"\x07\x2B\x06\x01\x01\x06\x02\x11\0\0\0\0\0\0\0\0\0\0\0\0\0\0\0\0\0\0\0\0\0\0\0\0\0\0\0\0\0\0\0\0");
 /// `pcimConditionName`: 1.3.6.1.1.6.2.18
-pub const PCIM_CONDITION_NAME: ObjectIdentifier = ObjectIdentifier::new_unwrap("1.3.6.1.1.6.2.18");
+pub const PCIM_CONDITION_NAME: ObjectIdentifier = padded(*b"\x07\x2B\x06\x01\x01\x06\x02\x12\0\0\0\0\0\0\0\0\0\0\0\0\0\0\0\0\0\0\0\0\0\0\0\0\0\0\0\0\0\0\0\0");
 /// `pcimConditionDN`: 1.3.6.1.1.6.2.19
-pub const PCIM_CONDITION_DN: ObjectIdentifier = ObjectIdentifier::new_unwrap("1.3.6.1.1.6.2.19");
+pub const PCIM_CONDITION_DN: ObjectIdentifier = padded(*b"\x07\x2B\x06\x01\x01\x06\x02\x13\0\0\0\0\0\0\0\0\0\0\0\0\0\0\0\0\0\0\0\0\0\0\0\0\0\0\0\0\0\0\0\0");
 /// `pcimValidityConditionName`: 1.3.6.1.1.6.2.20
-pub const PCIM_VALIDITY_CONDITION_NAME: ObjectIdentifier = ObjectIdentifier::new_unwrap("1.3.6.1.1.6.2.20");
+pub const PCIM_VALIDITY_CONDITION_NAME: ObjectIdentifier = padded(*b"\x07\x2B\x06\x01\x01\x06\x02\x14\0\0\0\0\0\0\0\0\0\0\0\0\0\0\0\0\0\0\0\0\0\0\0\0\0\0\0\0\0\0\0\0");
 /// `pcimTimePeriodConditionDN`: 1.3.6.1.1.6.2.21
-pub const PCIM_TIME_PERIOD_CONDITION_DN: ObjectIdentifier = ObjectIdentifier::new_unwrap("1.3.6.1.1.6.2.21");
+pub const PCIM_TIME_PERIOD_CONDITION_DN: ObjectIdentifier = padded(*b"\x07\x2B\x06\x01\x01\x06\x02\x15\0\0\0\0\0\0\0\0\0\0\0\0\0\0\0\0\0\0\0\0\0\0\0\0\0\0\0\0\0\0\0\0");
 /// `pcimActionName`: 1.3.6.1.1.6.2.22
-pub const PCIM_ACTION_NAME: ObjectIdentifier = ObjectIdentifier::new_unwrap("1.3.6.1.1.6.2.22");
+pub const PCIM_ACTION_NAME: ObjectIdentifier = padded(*b"\x07\x2B\x06\x01\x01\x06\x02\x16\0\0\0\0\0\0\0\0\0\0\0\0\0\0\0\0\0\0\0\0\0\0\0\0\0\0\0\0\0\0\0\0");
 /// `pcimActionOrder`: 1.3.6.1.1.6.2.23
-pub const PCIM_ACTION_ORDER: ObjectIdentifier = ObjectIdentifier::new_unwrap("1.3.6.1.1.6.2.23");
+pub const PCIM_ACTION_ORDER: ObjectIdentifier = padded(*b"\x07\x2B\x06\x01\x01\x06\x02\x17\0\0\0\0\0\0\0\0\0\0\0\0\0\0\0\0\0\0\0\0\0\0\0\0\0\0\0\0\0\0\0\0");
 /// `pcimActionDN`: 1.3.6.1.1.6.2.24
-pub const PCIM_ACTION_DN: ObjectIdentifier = ObjectIdentifier::new_unwrap("1.3.6.1.1.6.2.24");
+pub const PCIM_ACTION_DN: ObjectIdentifier = padded(*b"\x07\x2B\x06\x01\x01\x06\x02\x18\0\0\0\0\0\0\0\0\0\0\0\0\0\0\0\0\0\0\0\0\0\0\0\0\0\0\0\0\0\0\0\0");
 /// `pcimTPCTime`: 1.3.6.1.1.6.2.25
-pub const PCIM_TPC_TIME: ObjectIdentifier = ObjectIdentifier::new_unwrap("1.3.6.1.1.6.2.25");
+pub const PCIM_TPC_TIME: ObjectIdentifier = padded(*b"\x07\x2B\x06\x01\x01\x06\x02\x19\0\0\0\0\0\0\0\0\0\0\0\0\0\0\0\0\0\0\0\0\0\0\0\0\0\0\0\0\0\0\0\0");
 /// `pcimTPCMonthOfYearMask`: 1.3.6.1.1.6.2.26
-pub const PCIM_TPC_MONTH_OF_YEAR_MASK: ObjectIdentifier = ObjectIdentifier::new_unwrap("1.3.6.1.1.6.2.26");
+pub const PCIM_TPC_MONTH_OF_YEAR_MASK: ObjectIdentifier = padded(*b"\x07\x2B\x06\x01\x01\x06\x02\x1A\0\0\0\0\0\0\0\0\0\0\0\0\0\0\0\0\0\0\0\0\0\0\0\0\0\0\0\0\0\0\0\0");
 /// `pcimTPCDayOfMonthMask`: 1.3.6.1.1.6.2.27
-pub const PCIM_TPC_DAY_OF_MONTH_MASK: ObjectIdentifier = ObjectIdentifier::new_unwrap("1.3.6.1.1.6.2.27");
+pub const PCIM_TPC_DAY_OF_MONTH_MASK: ObjectIdentifier = padded(*b"\x07\x2B\x06\x01\x01\x06\x02\x1B\0\0\0\0\0\0\0\0\0\0\0\0\0\0\0\0\0\0\0\0\0\0\0\0\0\0\0\0\0\0\0\0");
 /// `pcimTPCDayOfWeekMask`: 1.3.6.1.1.6.2.28
-pub const PCIM_TPC_DAY_OF_WEEK_MASK: ObjectIdentifier = ObjectIdentifier::new_unwrap("1.3.6.1.1.6.2.28");
+pub const PCIM_TPC_DAY_OF_WEEK_MASK: ObjectIdentifier = padded(*b"\x07\x2B\x06\x01\x01\x06\x02\x1C\0\0\0\0\0\0\0\0\0\0\0\0\0\0\0\0\0\0\0\0\0\0\0\0\0\0\0\0\0\0\0\0");
 /// `pcimTPCTimeOfDayMask`: 1.3.6.1.1.6.2.29
-pub const PCIM_TPC_TIME_OF_DAY_MASK: ObjectIdentifier = ObjectIdentifier::new_unwrap("1.3.6.1.1.6.2.29");
+pub const PCIM_TPC_TIME_OF_DAY_MASK: ObjectIdentifier = padded(*b"\x07\x2B\x06\x01\x01\x06\x02\x1D\0\0\0\0\0\0\0\0\0\0\0\0\0\0\0\0\0\0\0\0\0\0\0\0\0\0\0\0\0\0\0\0");
 /// `pcimKeywords`: 1.3.6.1.1.6.2.3
-pub const PCIM_KEYWORDS: ObjectIdentifier = ObjectIdentifier::new_unwrap("1.3.6.1.1.6.2.3");
+pub const PCIM_KEYWORDS: ObjectIdentifier = padded(*b"\x07\x2B\x06\x01\x01\x06\x02\x03\0\0\0\0\0\0\0\0\0\0\0\0\0\0\0\0\0\0\0\0\0\0\0\0\0\0\0\0\0\0\0\0");
 /// `pcimTPCLocalOrUtcTime`: 1.3.6.1.1.6.2.30
-pub const PCIM_TPC_LOCAL_OR_UTC_TIME: ObjectIdentifier = ObjectIdentifier::new_unwrap("1.3.6.1.1.6.2.30");
+pub const PCIM_TPC_LOCAL_OR_UTC_TIME: ObjectIdentifier = padded(*b"\x07\x2B\x06\x01\x01\x06\x02\x1E\0\0\0\0\0\0\0\0\0\0\0\0\0\0\0\0\0\0\0\0\0\0\0\0\0\0\0\0\0\0\0\0");
 /// `pcimVendorConstraintData`: 1.3.6.1.1.6.2.31
-pub const PCIM_VENDOR_CONSTRAINT_DATA: ObjectIdentifier = ObjectIdentifier::new_unwrap("1.3.6.1.1.6.2.31");
+pub const PCIM_VENDOR_CONSTRAINT_DATA: ObjectIdentifier = padded(*b"\x07\x2B\x06\x01\x01\x06\x02\x1F\0\0\0\0\0\0\0\0\0\0\0\0\0\0\0\0\0\0\0\0\0\0\0\0\0\0\0\0\0\0\0\0");
 /// `pcimVendorConstraintEncoding`: 1.3.6.1.1.6.2.32
-pub const PCIM_VENDOR_CONSTRAINT_ENCODING: ObjectIdentifier = ObjectIdentifier::new_unwrap("1.3.6.1.1.6.2.32");
+pub const PCIM_VENDOR_CONSTRAINT_ENCODING: ObjectIdentifier = padded(*b"\x07\x2B\x06\x01\x01\x06\x02\x20\0\0\0\0\0\0\0\0\0\0\0\0\0\0\0\0\0\0\0\0\0\0\0\0\0\0\0\0\0\0\0\0");
 /// `pcimVendorActionData`: 1.3.6.1.1.6.2.33
-pub const PCIM_VENDOR_ACTION_DATA: ObjectIdentifier = ObjectIdentifier::new_unwrap("1.3.6.1.1.6.2.33");
+pub const PCIM_VENDOR_ACTION_DATA: ObjectIdentifier = padded(*b"\x07\x2B\x06\x01\x01\x06\x02\x21\0\0\0\0\0\0\0\0\0\0\0\0\0\0\0\0\0\0\0\0\0\0\0\0\0\0\0\0\0\0\0\0");
 /// `pcimVendorActionEncoding`: 1.3.6.1.1.6.2.34
-pub const PCIM_VENDOR_ACTION_ENCODING: ObjectIdentifier = ObjectIdentifier::new_unwrap("1.3.6.1.1.6.2.34");
+pub const PCIM_VENDOR_ACTION_ENCODING: ObjectIdentifier = padded(*b"\x07\x2B\x06\x01\x01\x06\x02\x22\0\0\0\0\0\0\0\0\0\0\0\0\0\0\0\0\0\0\0\0\0\0\0\0\0\0\0\0\0\0\0\0");
 /// `pcimPolicyInstanceName`: 1.3.6.1.1.6.2.35
-pub const PCIM_POLICY_INSTANCE_NAME: ObjectIdentifier = ObjectIdentifier::new_unwrap("1.3.6.1.1.6.2.35");
+pub const PCIM_POLICY_INSTANCE_NAME: ObjectIdentifier = padded(*b"\x07\x2B\x06\x01\x01\x06\x02\x23\0\0\0\0\0\0\0\0\0\0\0\0\0\0\0\0\0\0\0\0\0\0\0\0\0\0\0\0\0\0\0\0");
 /// `pcimRepositoryName`: 1.3.6.1.1.6.2.36
-pub const PCIM_REPOSITORY_NAME: ObjectIdentifier = ObjectIdentifier::new_unwrap("1.3.6.1.1.6.2.36");
+pub const PCIM_REPOSITORY_NAME: ObjectIdentifier = padded(*b"\x07\x2B\x06\x01\x01\x06\x02\x24\0\0\0\0\0\0\0\0\0\0\0\0\0\0\0\0\0\0\0\0\0\0\0\0\0\0\0\0\0\0\0\0");
 /// `pcimSubtreesAuxContainedSet`: 1.3.6.1.1.6.2.37
-pub const PCIM_SUBTREES_AUX_CONTAINED_SET: ObjectIdentifier = ObjectIdentifier::new_unwrap("1.3.6.1.1.6.2.37");
+pub const PCIM_SUBTREES_AUX_CONTAINED_SET: ObjectIdentifier = padded(*b"\x07\x2B\x06\x01\x01\x06\x02\x25\0\0\0\0\0\0\0\0\0\0\0\0\0\0\0\0\0\0\0\0\0\0\0\0\0\0\0\0\0\0\0\0");
 /// `pcimGroupsAuxContainedSet`: 1.3.6.1.1.6.2.38
-pub const PCIM_GROUPS_AUX_CONTAINED_SET: ObjectIdentifier = ObjectIdentifier::new_unwrap("1.3.6.1.1.6.2.38");
+pub const PCIM_GROUPS_AUX_CONTAINED_SET: ObjectIdentifier = padded(*b"\x07\x2B\x06\x01\x01\x06\x02\x26\0\0\0\0\0\0\0\0\0\0\0\0\0\0\0\0\0\0\0\0\0\0\0\0\0\0\0\0\0\0\0\0");
 /// `pcimRulesAuxContainedSet`: 1.3.6.1.1.6.2.39
-pub const PCIM_RULES_AUX_CONTAINED_SET: ObjectIdentifier = ObjectIdentifier::new_unwrap("1.3.6.1.1.6.2.39");
+pub const PCIM_RULES_AUX_CONTAINED_SET: ObjectIdentifier = padded(*b"\x07\x2B\x06\x01\x01\x06\x02\x27\0\0\0\0\0\0\0\0\0\0\0\0\0\0\0\0\0\0\0\0\0\0\0\0\0\0\0\0\0\0\0\0");
 /// `pcimGroupName`: 1.3.6.1.1.6.2.4
-pub const PCIM_GROUP_NAME: ObjectIdentifier = ObjectIdentifier::new_unwrap("1.3.6.1.1.6.2.4");
+pub const PCIM_GROUP_NAME: ObjectIdentifier = padded(*b"\x07\x2B\x06\x01\x01\x06\x02\x04\0\0\0\0\0\0\0\0\0\0\0\0\0\0\0\0\0\0\0\0\0\0\0\0\0\0\0\0\0\0\0\0");
 /// `pcimRuleName`: 1.3.6.1.1.6.2.5
-pub const PCIM_RULE_NAME: ObjectIdentifier = ObjectIdentifier::new_unwrap("1.3.6.1.1.6.2.5");
+pub const PCIM_RULE_NAME: ObjectIdentifier = padded(*b"\x07\x2B\x06\x01\x01\x06\x02\x05\0\0\0\0\0\0\0\0\0\0\0\0\0\0\0\0\0\0\0\0\0\0\0\0\0\0\0\0\0\0\0\0");
 /// `pcimRuleEnabled`: 1.3.6.1.1.6.2.6
-pub const PCIM_RULE_ENABLED: ObjectIdentifier = ObjectIdentifier::new_unwrap("1.3.6.1.1.6.2.6");
+pub const PCIM_RULE_ENABLED: ObjectIdentifier = padded(*b"\x07\x2B\x06\x01\x01\x06\x02\x06\0\0\0\0\0\0\0\0\0\0\0\0\0\0\0\0\0\0\0\0\0\0\0\0\0\0\0\0\0\0\0\0");
 /// `pcimRuleConditionListType`: 1.3.6.1.1.6.2.7
-pub const PCIM_RULE_CONDITION_LIST_TYPE: ObjectIdentifier = ObjectIdentifier::new_unwrap("1.3.6.1.1.6.2.7");
+pub const PCIM_RULE_CONDITION_LIST_TYPE: ObjectIdentifier = padded(*b"\x07\x2B\x06\x01\x01\x06\x02\x07\0\0\0\0\0\0\0\0\0\0\0\0\0\0\0\0\0\0\0\0\0\0\0\0\0\0\0\0\0\0\0\0");
 /// `pcimRuleConditionList`: 1.3.6.1.1.6.2.8
-pub const PCIM_RULE_CONDITION_LIST: ObjectIdentifier = ObjectIdentifier::new_unwrap("1.3.6.1.1.6.2.8");
+pub const PCIM_RULE_CONDITION_LIST: ObjectIdentifier = padded(*b"\x07\x2B\x06\x01\x01\x06\x02\x08\0\0\0\0\0\0\0\0\0\0\0\0\0\0\0\0\0\0\0\0\0\0\0\0\0\0\0\0\0\0\0\0");
 /// `pcimRuleActionList`: 1.3.6.1.1.6.2.9
-pub const PCIM_RULE_ACTION_LIST: ObjectIdentifier = ObjectIdentifier::new_unwrap("1.3.6.1.1.6.2.9");
+pub const PCIM_RULE_ACTION_LIST: ObjectIdentifier = padded(*b"\x07\x2B\x06\x01\x01\x06\x02\x09\0\0\0\0\0\0\0\0\0\0\0\0\0\0\0\0\0\0\0\0\0\0\0\0\0\0\0\0\0\0\0\0");
 }
 
 /// Identifiers of [RFC 3712](https://www.rfc-editor.org/rfc/rfc3712).
@@ -1198,88 +1228,89 @@ pub const PCIM_RULE_ACTION_LIST: ObjectIdentifier = ObjectIdentifier::new_unwrap
 /// assert_eq!(const_oid::db::rfc3712::PRINTER_XRI_SUPPORTED.to_string(), "1.3.18.0.2.4.1107");
 /// ```
 pub mod rfc3712 {
+use super::padded;
 use crate::ObjectIdentifier;
 
 /// `printer-xri-supported`: 1.3.18.0.2.4.1107
-pub const PRINTER_XRI_SUPPORTED: ObjectIdentifier = ObjectIdentifier::new_unwrap("1.3.18.0.2.4.1107");
+pub const PRINTER_XRI_SUPPORTED: ObjectIdentifier = padded(*b"\x07\x2B\x12\x00\x02\x04\x88\x53\0\0\0\0\0\0\0\0\0\0\0\0\0\0\0\0\0\0\0\0\0\0\0\0\0\0\0\0\0\0\0\0");
 /// `printer-aliases`: 1.3.18.0.2.4.1108
-pub const PRINTER_ALIASES: ObjectIdentifier = ObjectIdentifier::new_unwrap("1.3.18.0.2.4.1108");
+pub const PRINTER_ALIASES: ObjectIdentifier = padded(*b"\x07\x2B\x12\x00\x02\x04\x88\x54\0\0\0\0\0\0\0\0\0\0\0\0\0\0\0\0\0\0\0\0\0\0\0\0\0\0\0\0\0\0\0\0");
 /// `printer-charset-configured`: 1.3.18.0.2.4.1109
-pub const PRINTER_CHARSET_CONFIGURED: ObjectIdentifier = ObjectIdentifier::new_unwrap("1.3.18.0.2.4.1109");
+pub const PRINTER_CHARSET_CONFIGURED: ObjectIdentifier = padded(*b"\x07\x2B\x12\x00\x02\x04\x88\x55\0\0\0\0\0\0\0\0\0\0\0\0\0\0\0\0\0\0\0\0\0\0\0\0\0\0\0\0\0\0\0\0");
 /// `printer-job-priority-supported`: 1.3.18.0.2.4.1110
-pub const PRINTER_JOB_PRIORITY_SUPPORTED: ObjectIdentifier = ObjectIdentifier::new_unwrap("1.3.18.0.2.4.1110");
+pub const PRINTER_JOB_PRIORITY_SUPPORTED: ObjectIdentifier = padded(*b"\x07\x2B\x12\x00\x02\x04\x88\x56\0\0\0\0\0\0\0\0\0\0\0\0\0\0\0\0\0\0\0\0\0\0\0\0\0\0\0\0\0\0\0\0");
 /// `printer-job-k-octets-supported`: 1.3.18.0.2.4.1111
-pub const PRINTER_JOB_K_OCTETS_SUPPORTED: ObjectIdentifier = ObjectIdentifier::new_unwrap("1.3.18.0.2.4.1111");
+pub const PRINTER_JOB_K_OCTETS_SUPPORTED: ObjectIdentifier = padded(*b"\x07\x2B\x12\x00\x02\x04\x88\x57\0\0\0\0\0\0\0\0\0\0\0\0\0\0\0\0\0\0\0\0\0\0\0\0\0\0\0\0\0\0\0\0");
 /// `printer-current-operator`: 1.3.18.0.2.4.1112
-pub const PRINTER_CURRENT_OPERATOR: ObjectIdentifier = ObjectIdentifier::new_unwrap("1.3.18.0.2.4.1112");
+pub const PRINTER_CURRENT_OPERATOR: ObjectIdentifier = padded(*b"\x07\x2B\x12\x00\x02\x04\x88\x58\0\0\0\0\0\0\0\0\0\0\0\0\0\0\0\0\0\0\0\0\0\0\0\0\0\0\0\0\0\0\0\0");
 /// `printer-service-person`: 1.3.18.0.2.4.1113
-pub const PRINTER_SERVICE_PERSON: ObjectIdentifier = ObjectIdentifier::new_unwrap("1.3.18.0.2.4.1113");
+pub const PRINTER_SERVICE_PERSON: ObjectIdentifier = padded(*b"\x07\x2B\x12\x00\x02\x04\x88\x59\0\0\0\0\0\0\0\0\0\0\0\0\0\0\0\0\0\0\0\0\0\0\0\0\0\0\0\0\0\0\0\0");
 /// `printer-delivery-orientation-supported`: 1.3.18.0.2.4.1114
-pub const PRINTER_DELIVERY_ORIENTATION_SUPPORTED: ObjectIdentifier = ObjectIdentifier::new_unwrap("1.3.18.0.2.4.1114");
+pub const PRINTER_DELIVERY_ORIENTATION_SUPPORTED: ObjectIdentifier = padded(*b"\x07\x2B\x12\x00\x02\x04\x88\x5A\0\0\0\0\0\0\0\0\0\0\0\0\0\0\0\0\0\0\0\0\0\0\0\0\0\0\0\0\0\0\0\0");
 /// `printer-stacking-order-supported`: 1.3.18.0.2.4.1115
-pub const PRINTER_STACKING_ORDER_SUPPORTED: ObjectIdentifier = ObjectIdentifier::new_unwrap("1.3.18.0.2.4.1115");
+pub const PRINTER_STACKING_ORDER_SUPPORTED: ObjectIdentifier = padded(*b"\x07\x2B\x12\x00\x02\x04\x88\x5B\0\0\0\0\0\0\0\0\0\0\0\0\0\0\0\0\0\0\0\0\0\0\0\0\0\0\0\0\0\0\0\0");
 /// `printer-output-features-supported`: 1.3.18.0.2.4.1116
-pub const PRINTER_OUTPUT_FEATURES_SUPPORTED: ObjectIdentifier = ObjectIdentifier::new_unwrap("1.3.18.0.2.4.1116");
+pub const PRINTER_OUTPUT_FEATURES_SUPPORTED: ObjectIdentifier = padded(*b"\x07\x2B\x12\x00\x02\x04\x88\x5C\0\0\0\0\0\0\0\0\0\0\0\0\0\0\0\0\0\0\0\0\0\0\0\0\0\0\0\0\0\0\0\0");
 /// `printer-media-local-supported`: 1.3.18.0.2.4.1117
-pub const PRINTER_MEDIA_LOCAL_SUPPORTED: ObjectIdentifier = ObjectIdentifier::new_unwrap("1.3.18.0.2.4.1117");
+pub const PRINTER_MEDIA_LOCAL_SUPPORTED: ObjectIdentifier = padded(*b"\x07\x2B\x12\x00\x02\x04\x88\x5D\0\0\0\0\0\0\0\0\0\0\0\0\0\0\0\0\0\0\0\0\0\0\0\0\0\0\0\0\0\0\0\0");
 /// `printer-copies-supported`: 1.3.18.0.2.4.1118
-pub const PRINTER_COPIES_SUPPORTED: ObjectIdentifier = ObjectIdentifier::new_unwrap("1.3.18.0.2.4.1118");
+pub const PRINTER_COPIES_SUPPORTED: ObjectIdentifier = padded(*b"\x07\x2B\x12\x00\x02\x04\x88\x5E\0\0\0\0\0\0\0\0\0\0\0\0\0\0\0\0\0\0\0\0\0\0\0\0\0\0\0\0\0\0\0\0");
 /// `printer-natural-language-configured`: 1.3.18.0.2.4.1119
-pub const PRINTER_NATURAL_LANGUAGE_CONFIGURED: ObjectIdentifier = ObjectIdentifier::new_unwrap("1.3.18.0.2.4.1119");
+pub const PRINTER_NATURAL_LANGUAGE_CONFIGURED: ObjectIdentifier = padded(*b"\x07\x2B\x12\x00\x02\x04\x88\x5F\0\0\0\0\0\0\0\0\0\0\0\0\0\0\0\0\0\0\0\0\0\0\0\0\0\0\0\0\0\0\0\0");
 /// `printer-print-quality-supported`: 1.3.18.0.2.4.1120
-pub const PRINTER_PRINT_QUALITY_SUPPORTED: ObjectIdentifier = ObjectIdentifier::new_unwrap("1.3.18.0.2.4.1120");
+pub const PRINTER_PRINT_QUALITY_SUPPORTED: ObjectIdentifier = padded(*b"\x07\x2B\x12\x00\x02\x04\x88\x60\0\0\0\0\0\0\0\0\0\0\0\0\0\0\0\0\0\0\0\0\0\0\0\0\0\0\0\0\0\0\0\0");
 /// `printer-resolution-supported`: 1.3.18.0.2.4.1121
-pub const PRINTER_RESOLUTION_SUPPORTED: ObjectIdentifier = ObjectIdentifier::new_unwrap("1.3.18.0.2.4.1121");
+pub const PRINTER_RESOLUTION_SUPPORTED: ObjectIdentifier = padded(*b"\x07\x2B\x12\x00\x02\x04\x88\x61\0\0\0\0\0\0\0\0\0\0\0\0\0\0\0\0\0\0\0\0\0\0\0\0\0\0\0\0\0\0\0\0");
 /// `printer-media-supported`: 1.3.18.0.2.4.1122
-pub const PRINTER_MEDIA_SUPPORTED: ObjectIdentifier = ObjectIdentifier::new_unwrap("1.3.18.0.2.4.1122");
+pub const PRINTER_MEDIA_SUPPORTED: ObjectIdentifier = padded(*b"\x07\x2B\x12\x00\x02\x04\x88\x62\0\0\0\0\0\0\0\0\0\0\0\0\0\0\0\0\0\0\0\0\0\0\0\0\0\0\0\0\0\0\0\0");
 /// `printer-sides-supported`: 1.3.18.0.2.4.1123
-pub const PRINTER_SIDES_SUPPORTED: ObjectIdentifier = ObjectIdentifier::new_unwrap("1.3.18.0.2.4.1123");
+pub const PRINTER_SIDES_SUPPORTED: ObjectIdentifier = padded(*b"\x07\x2B\x12\x00\x02\x04\x88\x63\0\0\0\0\0\0\0\0\0\0\0\0\0\0\0\0\0\0\0\0\0\0\0\0\0\0\0\0\0\0\0\0");
 /// `printer-number-up-supported`: 1.3.18.0.2.4.1124
-pub const PRINTER_NUMBER_UP_SUPPORTED: ObjectIdentifier = ObjectIdentifier::new_unwrap("1.3.18.0.2.4.1124");
+pub const PRINTER_NUMBER_UP_SUPPORTED: ObjectIdentifier = padded(*b"\x07\x2B\x12\x00\x02\x04\x88\x64\0\0\0\0\0\0\0\0\0\0\0\0\0\0\0\0\0\0\0\0\0\0\0\0\0\0\0\0\0\0\0\0");
 /// `printer-finishings-supported`: 1.3.18.0.2.4.1125
-pub const PRINTER_FINISHINGS_SUPPORTED: ObjectIdentifier = ObjectIdentifier::new_unwrap("1.3.18.0.2.4.1125");
+pub const PRINTER_FINISHINGS_SUPPORTED: ObjectIdentifier = padded(*b"\x07\x2B\x12\x00\x02\x04\x88\x65\0\0\0\0\0\0\0\0\0\0\0\0\0\0\0\0\0\0\0\0\0\0\0\0\0\0\0\0\0\0\0\0");
 /// `printer-pages-per-minute-color`: 1.3.18.0.2.4.1126
-pub const PRINTER_PAGES_PER_MINUTE_COLOR: ObjectIdentifier = ObjectIdentifier::new_unwrap("1.3.18.0.2.4.1126");
+pub const PRINTER_PAGES_PER_MINUTE_COLOR: ObjectIdentifier = padded(*b"\x07\x2B\x12\x00\x02\x04\x88\x66\0\0\0\0\0\0\0\0\0\0\0\0\0\0\0\0\0\0\0\0\0\0\0\0\0\0\0\0\0\0\0\0");
 /// `printer-pages-per-minute`: 1.3.18.0.2.4.1127
-pub const PRINTER_PAGES_PER_MINUTE: ObjectIdentifier = ObjectIdentifier::new_unwrap("1.3.18.0.2.4.1127");
+pub const PRINTER_PAGES_PER_MINUTE: ObjectIdentifier = padded(*b"\x07\x2B\x12\x00\x02\x04\x88\x67\0\0\0\0\0\0\0\0\0\0\0\0\0\0\0\0\0\0\0\0\0\0\0\0\0\0\0\0\0\0\0\0");
 /// `printer-compression-supported`: 1.3.18.0.2.4.1128
-pub const PRINTER_COMPRESSION_SUPPORTED: ObjectIdentifier = ObjectIdentifier::new_unwrap("1.3.18.0.2.4.1128");
+pub const PRINTER_COMPRESSION_SUPPORTED: ObjectIdentifier = padded(*b"\x07\x2B\x12\x00\x02\x04\x88\x68\0\0\0\0\0\0\0\0\0\0\0\0\0\0\0\0\0\0\0\0\0\0\0\0\0\0\0\0\0\0\0\0");
 /// `printer-color-supported`: 1.3.18.0.2.4.1129
-pub const PRINTER_COLOR_SUPPORTED: ObjectIdentifier = ObjectIdentifier::new_unwrap("1.3.18.0.2.4.1129");
+pub const PRINTER_COLOR_SUPPORTED: ObjectIdentifier = padded(*b"\x07\x2B\x12\x00\x02\x04\x88\x69\0\0\0\0\0\0\0\0\0\0\0\0\0\0\0\0\0\0\0\0\0\0\0\0\0\0\0\0\0\0\0\0");
 /// `printer-document-format-supported`: 1.3.18.0.2.4.1130
-pub const PRINTER_DOCUMENT_FORMAT_SUPPORTED: ObjectIdentifier = ObjectIdentifier::new_unwrap("1.3.18.0.2.4.1130");
+pub const PRINTER_DOCUMENT_FORMAT_SUPPORTED: ObjectIdentifier = padded(*b"\x07\x2B\x12\x00\x02\x04\x88\x6A\0\0\0\0\0\0\0\0\0\0\0\0\0\0\0\0\0\0\0\0\0\0\0\0\0\0\0\0\0\0\0\0");
 /// `printer-charset-supported`: 1.3.18.0.2.4.1131
-pub const PRINTER_CHARSET_SUPPORTED: ObjectIdentifier = ObjectIdentifier::new_unwrap("1.3.18.0.2.4.1131");
+pub const PRINTER_CHARSET_SUPPORTED: ObjectIdentifier = padded(*b"\x07\x2B\x12\x00\x02\x04\x88\x6B\0\0\0\0\0\0\0\0\0\0\0\0\0\0\0\0\0\0\0\0\0\0\0\0\0\0\0\0\0\0\0\0");
 /// `printer-multiple-document-jobs-supported`: 1.3.18.0.2.4.1132
-pub const PRINTER_MULTIPLE_DOCUMENT_JOBS_SUPPORTED: ObjectIdentifier = ObjectIdentifier::new_unwrap("1.3.18.0.2.4.1132");
+pub const PRINTER_MULTIPLE_DOCUMENT_JOBS_SUPPORTED: ObjectIdentifier = padded(*b"\x07\x2B\x12\x00\x02\x04\x88\x6C\0\0\0\0\0\0\0\0\0\0\0\0\0\0\0\0\0\0\0\0\0\0\0\0\0\0\0\0\0\0\0\0");
 /// `printer-ipp-versions-supported`: 1.3.18.0.2.4.1133
-pub const PRINTER_IPP_VERSIONS_SUPPORTED: ObjectIdentifier = ObjectIdentifier::new_unwrap("1.3.18.0.2.4.1133");
+pub const PRINTER_IPP_VERSIONS_SUPPORTED: ObjectIdentifier = padded(*b"\x07\x2B\x12\x00\x02\x04\x88\x6D\0\0\0\0\0\0\0\0\0\0\0\0\0\0\0\0\0\0\0\0\0\0\0\0\0\0\0\0\0\0\0\0");
 /// `printer-more-info`: 1.3.18.0.2.4.1134
-pub const PRINTER_MORE_INFO: ObjectIdentifier = ObjectIdentifier::new_unwrap("1.3.18.0.2.4.1134");
+pub const PRINTER_MORE_INFO: ObjectIdentifier = padded(*b"\x07\x2B\x12\x00\x02\x04\x88\x6E\0\0\0\0\0\0\0\0\0\0\0\0\0\0\0\0\0\0\0\0\0\0\0\0\0\0\0\0\0\0\0\0");
 /// `printer-name`: 1.3.18.0.2.4.1135
-pub const PRINTER_NAME: ObjectIdentifier = ObjectIdentifier::new_unwrap("1.3.18.0.2.4.1135");
+pub const PRINTER_NAME: ObjectIdentifier = padded(*b"\x07\x2B\x12\x00\x02\x04\x88\x6F\0\0\0\0\0\0\0\0\0\0\0\0\0\0\0\0\0\0\0\0\0\0\0\0\0\0\0\0\0\0\0\0");
 /// `printer-location`: 1.3.18.0.2.4.1136
-pub const PRINTER_LOCATION: ObjectIdentifier = ObjectIdentifier::new_unwrap("1.3.18.0.2.4.1136");
+pub const PRINTER_LOCATION: ObjectIdentifier = padded(*b"\x07\x2B\x12\x00\x02\x04\x88\x70\0\0\0\0\0\0\0\0\0\0\0\0\0\0\0\0\0\0\0\0\0\0\0\0\0\0\0\0\0\0\0\0");
 /// `printer-generated-natural-language-supported`: 1.3.18.0.2.4.1137
-pub const PRINTER_GENERATED_NATURAL_LANGUAGE_SUPPORTED: ObjectIdentifier = ObjectIdentifier::new_unwrap("1.3.18.0.2.4.1137");
+pub const PRINTER_GENERATED_NATURAL_LANGUAGE_SUPPORTED: ObjectIdentifier = padded(*b"\x07\x2B\x12\x00\x02\x04\x88\x71\0\0\0\0\0\0\0\0\0\0\0\0\0\0\0\0\0\0\0\0\0\0\0\0\0\0\0\0\0\0\0\0");
 /// `printer-make-and-model`: 1.3.18.0.2.4.1138
-pub const PRINTER_MAKE_AND_MODEL: ObjectIdentifier = ObjectIdentifier::new_unwrap("1.3.18.0.2.4.1138");
+pub const PRINTER_MAKE_AND_MODEL: ObjectIdentifier = padded(*b"\x07\x2B\x12\x00\x02\x04\x88\x72\0\0\0\0\0\0\0\0\0\0\0\0\0\0\0\0\0\0\0\0\0\0\0\0\0\0\0\0\0\0\0\0");
 /// `printer-info`: 1.3.18.0.2.4.1139
-pub const PRINTER_INFO: ObjectIdentifier = ObjectIdentifier::new_unwrap("1.3.18.0.2.4.1139");
+pub const PRINTER_INFO: ObjectIdentifier = padded(*b"\x07\x2B\x12\x00\x02\x04\x88\x73\0\0\0\0\0\0\0\0\0\0\0\0\0\0\0\0\0\0\0\0\0\0\0\0\0\0\0\0\0\0\0\0");
 /// `printer-uri`: 1.3.18.0.2.4.1140
-pub const PRINTER_URI: ObjectIdentifier = ObjectIdentifier::new_unwrap("1.3.18.0.2.4.1140");
+pub const PRINTER_URI: ObjectIdentifier = padded(*b"\x07\x2B\x12\x00\x02\x04\x88\x74\0\0\0\0\0\0\0\0\0\0\0\0\0\0\0\0\0\0\0\0\0\0\0\0\0\0\0\0\0\0\0\0");
 /// `printerLPR`: 1.3.18.0.2.6.253
-pub const PRINTER_LPR: ObjectIdentifier = ObjectIdentifier::new_unwrap("1.3.18.0.2.6.253");
+pub const PRINTER_LPR: ObjectIdentifier = padded(*b"\x07\x2B\x12\x00\x02\x06\x81\x7D\0\0\0\0\0\0\0\0\0\0\0\0\0\0\0\0\0\0\0\0\0\0\0\0\0\0\0\0\0\0\0\0");
 /// `slpServicePrinter`: 1.3.18.0.2.6.254
-pub const SLP_SERVICE_PRINTER: ObjectIdentifier = ObjectIdentifier::new_unwrap("1.3.18.0.2.6.254");
+pub const SLP_SERVICE_PRINTER: ObjectIdentifier = padded(*b"\x07\x2B\x12\x00\x02\x06\x81\x7E\0\0\0\0\0\0\0\0\0\0\0\0\0\0\0\0\0\0\0\0\0\0\0\0\0\0\0\0\0\0\0\0");
 /// `printerService`: 1.3.18.0.2.6.255
-pub const PRINTER_SERVICE: ObjectIdentifier = ObjectIdentifier::new_unwrap("1.3.18.0.2.6.255");
+pub const PRINTER_SERVICE: ObjectIdentifier = padded(*b"\x07\x2B\x12\x00\x02\x06\x81\x7F\0\0\0\0\0\0\0\0\0\0\0\0\0\0\0\0\0\0\0\0\0\0\0\0\0\0\0\0\0\0\0\0");
 /// `printerIPP`: 1.3.18.0.2.6.256
-pub const PRINTER_IPP: ObjectIdentifier = ObjectIdentifier::new_unwrap("1.3.18.0.2.6.256");
+pub const PRINTER_IPP: ObjectIdentifier = padded(*b"\x07\x2B\x12\x00\x02\x06\x82\x00\0\0\0\0\0\0\0\0\0\0\0\0\0\0\0\0\0\0\0\0\0\0\0\0\0\0\0\0\0\0\0\0");
 /// `printerServiceAuxClass`: 1.3.18.0.2.6.257
-pub const PRINTER_SERVICE_AUX_CLASS: ObjectIdentifier = ObjectIdentifier::new_unwrap("1.3.18.0.2.6.257");
+pub const PRINTER_SERVICE_AUX_CLASS: ObjectIdentifier = padded(*b"\x07\x2B\x12\x00\x02\x06\x82\x01\0\0\0\0\0\0\0\0\0\0\0\0\0\0\0\0\0\0\0\0\0\0\0\0\0\0\0\0\0\0\0\0");
 /// `printerAbstract`: 1.3.18.0.2.6.258
-pub const PRINTER_ABSTRACT: ObjectIdentifier = ObjectIdentifier::new_unwrap("1.3.18.0.2.6.258");
+pub const PRINTER_ABSTRACT: ObjectIdentifier = padded(*b"\x07\x2B\x12\x00\x02\x06\x82\x02\0\0\0\0\0\0\0\0\0\0\0\0\0\0\0\0\0\0\0\0\0\0\0\0\0\0\0\0\0\0\0\0");
 }
 
 /// Identifiers of [RFC 4104](https://www.rfc-editor.org/rfc/rfc4104).
@@ -1290,246 +1321,247 @@ pub const PRINTER_ABSTRACT: ObjectIdentifier = ObjectIdentifier::new_unwrap("1.3
 /// assert_eq!(const_oid::db::rfc4104::PCELS_POLICY_SET.to_string(), "1.3.6.1.1.9.1.1");
 /// ```
 pub mod rfc4104 {
+use super::padded;
 use crate::ObjectIdentifier;
 
 /// `pcelsPolicySet`: 1.3.6.1.1.9.1.1
-pub const PCELS_POLICY_SET: ObjectIdentifier = ObjectIdentifier::new_unwrap("1.3.6.1.1.9.1.1");
+pub const PCELS_POLICY_SET: ObjectIdentifier = padded(*b"\x07\x2B\x06\x01\x01\x09\x01\x01\0\0\0\0\0\0\0\0\0\0\0\0\0\0\0\0\0\0\0\0\0\0\0\0\0\0\0\0\0\0\0\0");
 /// `pcelsActionAssociation`: 1.3.6.1.1.9.1.10
-pub const PCELS_ACTION_ASSOCIATION: ObjectIdentifier = ObjectIdentifier::new_unwrap("1.3.6.1.1.9.1.10");
+pub const PCELS_ACTION_ASSOCIATION: ObjectIdentifier = padded(*b"\x07\x2B\x06\x01\x01\x09\x01\x0A\0\0\0\0\0\0\0\0\0\0\0\0\0\0\0\0\0\0\0\0\0\0\0\0\0\0\0\0\0\0\0\0");
 /// `pcelsSimpleConditionAuxClass`: 1.3.6.1.1.9.1.11
-pub const PCELS_SIMPLE_CONDITION_AUX_CLASS: ObjectIdentifier = ObjectIdentifier::new_unwrap("1.3.6.1.1.9.1.11");
+pub const PCELS_SIMPLE_CONDITION_AUX_CLASS: ObjectIdentifier = padded(*b"\x07\x2B\x06\x01\x01\x09\x01\x0B\0\0\0\0\0\0\0\0\0\0\0\0\0\0\0\0\0\0\0\0\0\0\0\0\0\0\0\0\0\0\0\0");
 /// `pcelsCompoundConditionAuxClass`: 1.3.6.1.1.9.1.12
-pub const PCELS_COMPOUND_CONDITION_AUX_CLASS: ObjectIdentifier = ObjectIdentifier::new_unwrap("1.3.6.1.1.9.1.12");
+pub const PCELS_COMPOUND_CONDITION_AUX_CLASS: ObjectIdentifier = padded(*b"\x07\x2B\x06\x01\x01\x09\x01\x0C\0\0\0\0\0\0\0\0\0\0\0\0\0\0\0\0\0\0\0\0\0\0\0\0\0\0\0\0\0\0\0\0");
 /// `pcelsCompoundFilterConditionAuxClass`: 1.3.6.1.1.9.1.13
-pub const PCELS_COMPOUND_FILTER_CONDITION_AUX_CLASS: ObjectIdentifier = ObjectIdentifier::new_unwrap("1.3.6.1.1.9.1.13");
+pub const PCELS_COMPOUND_FILTER_CONDITION_AUX_CLASS: ObjectIdentifier = padded(*b"\x07\x2B\x06\x01\x01\x09\x01\x0D\0\0\0\0\0\0\0\0\0\0\0\0\0\0\0\0\0\0\0\0\0\0\0\0\0\0\0\0\0\0\0\0");
 /// `pcelsSimpleActionAuxClass`: 1.3.6.1.1.9.1.14
-pub const PCELS_SIMPLE_ACTION_AUX_CLASS: ObjectIdentifier = ObjectIdentifier::new_unwrap("1.3.6.1.1.9.1.14");
+pub const PCELS_SIMPLE_ACTION_AUX_CLASS: ObjectIdentifier = padded(*b"\x07\x2B\x06\x01\x01\x09\x01\x0E\0\0\0\0\0\0\0\0\0\0\0\0\0\0\0\0\0\0\0\0\0\0\0\0\0\0\0\0\0\0\0\0");
 /// `pcelsCompoundActionAuxClass`: 1.3.6.1.1.9.1.15
-pub const PCELS_COMPOUND_ACTION_AUX_CLASS: ObjectIdentifier = ObjectIdentifier::new_unwrap("1.3.6.1.1.9.1.15");
+pub const PCELS_COMPOUND_ACTION_AUX_CLASS: ObjectIdentifier = padded(*b"\x07\x2B\x06\x01\x01\x09\x01\x0F\0\0\0\0\0\0\0\0\0\0\0\0\0\0\0\0\0\0\0\0\0\0\0\0\0\0\0\0\0\0\0\0");
 /// `pcelsVariable`: 1.3.6.1.1.9.1.16
-pub const PCELS_VARIABLE: ObjectIdentifier = ObjectIdentifier::new_unwrap("1.3.6.1.1.9.1.16");
+pub const PCELS_VARIABLE: ObjectIdentifier = padded(*b"\x07\x2B\x06\x01\x01\x09\x01\x10\0\0\0\0\0\0\0\0\0\0\0\0\0\0\0\0\0\0\0\0\0\0\0\0\0\0\0\0\0\0\0\0");
 /// `pcelsExplicitVariableAuxClass`: 1.3.6.1.1.9.1.17
-pub const PCELS_EXPLICIT_VARIABLE_AUX_CLASS: ObjectIdentifier = ObjectIdentifier::new_unwrap("1.3.6.1.1.9.1.17");
+pub const PCELS_EXPLICIT_VARIABLE_AUX_CLASS: ObjectIdentifier = padded(*b"\x07\x2B\x06\x01\x01\x09\x01\x11\0\0\0\0\0\0\0\0\0\0\0\0\0\0\0\0\0\0\0\0\0\0\0\0\0\0\0\0\0\0\0\0");
 /// `pcelsImplicitVariableAuxClass`: 1.3.6.1.1.9.1.18
-pub const PCELS_IMPLICIT_VARIABLE_AUX_CLASS: ObjectIdentifier = ObjectIdentifier::new_unwrap("1.3.6.1.1.9.1.18");
+pub const PCELS_IMPLICIT_VARIABLE_AUX_CLASS: ObjectIdentifier = padded(*b"\x07\x2B\x06\x01\x01\x09\x01\x12\0\0\0\0\0\0\0\0\0\0\0\0\0\0\0\0\0\0\0\0\0\0\0\0\0\0\0\0\0\0\0\0");
 /// `pcelsSourceIPv4VariableAuxClass`: 1.3.6.1.1.9.1.19
-pub const PCELS_SOURCE_I_PV_4_VARIABLE_AUX_CLASS: ObjectIdentifier = ObjectIdentifier::new_unwrap("1.3.6.1.1.9.1.19");
+pub const PCELS_SOURCE_I_PV_4_VARIABLE_AUX_CLASS: ObjectIdentifier = padded(*b"\x07\x2B\x06\x01\x01\x09\x01\x13\0\0\0\0\0\0\0\0\0\0\0\0\0\0\0\0\0\0\0\0\0\0\0\0\0\0\0\0\0\0\0\0");
 /// `pcelsPolicySetAssociation`: 1.3.6.1.1.9.1.2
-pub const PCELS_POLICY_SET_ASSOCIATION: ObjectIdentifier = ObjectIdentifier::new_unwrap("1.3.6.1.1.9.1.2");
+pub const PCELS_POLICY_SET_ASSOCIATION: ObjectIdentifier = padded(*b"\x07\x2B\x06\x01\x01\x09\x01\x02\0\0\0\0\0\0\0\0\0\0\0\0\0\0\0\0\0\0\0\0\0\0\0\0\0\0\0\0\0\0\0\0");
 /// `pcelsSourceIPv6VariableAuxClass`: 1.3.6.1.1.9.1.20
-pub const PCELS_SOURCE_I_PV_6_VARIABLE_AUX_CLASS: ObjectIdentifier = ObjectIdentifier::new_unwrap("1.3.6.1.1.9.1.20");
+pub const PCELS_SOURCE_I_PV_6_VARIABLE_AUX_CLASS: ObjectIdentifier = padded(*b"\x07\x2B\x06\x01\x01\x09\x01\x14\0\0\0\0\0\0\0\0\0\0\0\0\0\0\0\0\0\0\0\0\0\0\0\0\0\0\0\0\0\0\0\0");
 /// `pcelsDestinationIPv4VariableAuxClass`: 1.3.6.1.1.9.1.21
-pub const PCELS_DESTINATION_I_PV_4_VARIABLE_AUX_CLASS: ObjectIdentifier = ObjectIdentifier::new_unwrap("1.3.6.1.1.9.1.21");
+pub const PCELS_DESTINATION_I_PV_4_VARIABLE_AUX_CLASS: ObjectIdentifier = padded(*b"\x07\x2B\x06\x01\x01\x09\x01\x15\0\0\0\0\0\0\0\0\0\0\0\0\0\0\0\0\0\0\0\0\0\0\0\0\0\0\0\0\0\0\0\0");
 /// `pcelsDestinationIPv6VariableAuxClass`: 1.3.6.1.1.9.1.22
-pub const PCELS_DESTINATION_I_PV_6_VARIABLE_AUX_CLASS: ObjectIdentifier = ObjectIdentifier::new_unwrap("1.3.6.1.1.9.1.22");
+pub const PCELS_DESTINATION_I_PV_6_VARIABLE_AUX_CLASS: ObjectIdentifier = padded(*b"\x07\x2B\x06\x01\x01\x09\x01\x16\0\0\0\0\0\0\0\0\0\0\0\0\0\0\0\0\0\0\0\0\0\0\0\0\0\0\0\0\0\0\0\0");
 /// `pcelsSourcePortVariableAuxClass`: 1.3.6.1.1.9.1.23
-pub const PCELS_SOURCE_PORT_VARIABLE_AUX_CLASS: ObjectIdentifier = ObjectIdentifier::new_unwrap("1.3.6.1.1.9.1.23");
+pub const PCELS_SOURCE_PORT_VARIABLE_AUX_CLASS: ObjectIdentifier = padded(*b"\x07\x2B\x06\x01\x01\x09\x01\x17\0\0\0\0\0\0\0\0\0\0\0\0\0\0\0\0\0\0\0\0\0\0\0\0\0\0\0\0\0\0\0\0");
 /// `pcelsDestinationPortVariableAuxClass`: 1.3.6.1.1.9.1.24
-pub const PCELS_DESTINATION_PORT_VARIABLE_AUX_CLASS: ObjectIdentifier = ObjectIdentifier::new_unwrap("1.3.6.1.1.9.1.24");
+pub const PCELS_DESTINATION_PORT_VARIABLE_AUX_CLASS: ObjectIdentifier = padded(*b"\x07\x2B\x06\x01\x01\x09\x01\x18\0\0\0\0\0\0\0\0\0\0\0\0\0\0\0\0\0\0\0\0\0\0\0\0\0\0\0\0\0\0\0\0");
 /// `pcelsIPProtocolVariableAuxClass`: 1.3.6.1.1.9.1.25
-pub const PCELS_IP_PROTOCOL_VARIABLE_AUX_CLASS: ObjectIdentifier = ObjectIdentifier::new_unwrap("1.3.6.1.1.9.1.25");
+pub const PCELS_IP_PROTOCOL_VARIABLE_AUX_CLASS: ObjectIdentifier = padded(*b"\x07\x2B\x06\x01\x01\x09\x01\x19\0\0\0\0\0\0\0\0\0\0\0\0\0\0\0\0\0\0\0\0\0\0\0\0\0\0\0\0\0\0\0\0");
 /// `pcelsIPVersionVariableAuxClass`: 1.3.6.1.1.9.1.26
-pub const PCELS_IP_VERSION_VARIABLE_AUX_CLASS: ObjectIdentifier = ObjectIdentifier::new_unwrap("1.3.6.1.1.9.1.26");
+pub const PCELS_IP_VERSION_VARIABLE_AUX_CLASS: ObjectIdentifier = padded(*b"\x07\x2B\x06\x01\x01\x09\x01\x1A\0\0\0\0\0\0\0\0\0\0\0\0\0\0\0\0\0\0\0\0\0\0\0\0\0\0\0\0\0\0\0\0");
 /// `pcelsIPToSVariableAuxClass`: 1.3.6.1.1.9.1.27
-pub const PCELS_IP_TO_S_VARIABLE_AUX_CLASS: ObjectIdentifier = ObjectIdentifier::new_unwrap("1.3.6.1.1.9.1.27");
+pub const PCELS_IP_TO_S_VARIABLE_AUX_CLASS: ObjectIdentifier = padded(*b"\x07\x2B\x06\x01\x01\x09\x01\x1B\0\0\0\0\0\0\0\0\0\0\0\0\0\0\0\0\0\0\0\0\0\0\0\0\0\0\0\0\0\0\0\0");
 /// `pcelsDSCPVariableAuxClass`: 1.3.6.1.1.9.1.28
-pub const PCELS_DSCP_VARIABLE_AUX_CLASS: ObjectIdentifier = ObjectIdentifier::new_unwrap("1.3.6.1.1.9.1.28");
+pub const PCELS_DSCP_VARIABLE_AUX_CLASS: ObjectIdentifier = padded(*b"\x07\x2B\x06\x01\x01\x09\x01\x1C\0\0\0\0\0\0\0\0\0\0\0\0\0\0\0\0\0\0\0\0\0\0\0\0\0\0\0\0\0\0\0\0");
 /// `pcelsFlowIdVariableAuxClass`: 1.3.6.1.1.9.1.29
-pub const PCELS_FLOW_ID_VARIABLE_AUX_CLASS: ObjectIdentifier = ObjectIdentifier::new_unwrap("1.3.6.1.1.9.1.29");
+pub const PCELS_FLOW_ID_VARIABLE_AUX_CLASS: ObjectIdentifier = padded(*b"\x07\x2B\x06\x01\x01\x09\x01\x1D\0\0\0\0\0\0\0\0\0\0\0\0\0\0\0\0\0\0\0\0\0\0\0\0\0\0\0\0\0\0\0\0");
 /// `pcelsGroup`: 1.3.6.1.1.9.1.3
-pub const PCELS_GROUP: ObjectIdentifier = ObjectIdentifier::new_unwrap("1.3.6.1.1.9.1.3");
+pub const PCELS_GROUP: ObjectIdentifier = padded(*b"\x07\x2B\x06\x01\x01\x09\x01\x03\0\0\0\0\0\0\0\0\0\0\0\0\0\0\0\0\0\0\0\0\0\0\0\0\0\0\0\0\0\0\0\0");
 /// `pcelsSourceMACVariableAuxClass`: 1.3.6.1.1.9.1.30
-pub const PCELS_SOURCE_MAC_VARIABLE_AUX_CLASS: ObjectIdentifier = ObjectIdentifier::new_unwrap("1.3.6.1.1.9.1.30");
+pub const PCELS_SOURCE_MAC_VARIABLE_AUX_CLASS: ObjectIdentifier = padded(*b"\x07\x2B\x06\x01\x01\x09\x01\x1E\0\0\0\0\0\0\0\0\0\0\0\0\0\0\0\0\0\0\0\0\0\0\0\0\0\0\0\0\0\0\0\0");
 /// `pcelsDestinationMACVariableAuxClass`: 1.3.6.1.1.9.1.31
-pub const PCELS_DESTINATION_MAC_VARIABLE_AUX_CLASS: ObjectIdentifier = ObjectIdentifier::new_unwrap("1.3.6.1.1.9.1.31");
+pub const PCELS_DESTINATION_MAC_VARIABLE_AUX_CLASS: ObjectIdentifier = padded(*b"\x07\x2B\x06\x01\x01\x09\x01\x1F\0\0\0\0\0\0\0\0\0\0\0\0\0\0\0\0\0\0\0\0\0\0\0\0\0\0\0\0\0\0\0\0");
 /// `pcelsVLANVariableAuxClass`: 1.3.6.1.1.9.1.32
-pub const PCELS_VLAN_VARIABLE_AUX_CLASS: ObjectIdentifier = ObjectIdentifier::new_unwrap("1.3.6.1.1.9.1.32");
+pub const PCELS_VLAN_VARIABLE_AUX_CLASS: ObjectIdentifier = padded(*b"\x07\x2B\x06\x01\x01\x09\x01\x20\0\0\0\0\0\0\0\0\0\0\0\0\0\0\0\0\0\0\0\0\0\0\0\0\0\0\0\0\0\0\0\0");
 /// `pcelsCoSVariableAuxClass`: 1.3.6.1.1.9.1.33
-pub const PCELS_CO_S_VARIABLE_AUX_CLASS: ObjectIdentifier = ObjectIdentifier::new_unwrap("1.3.6.1.1.9.1.33");
+pub const PCELS_CO_S_VARIABLE_AUX_CLASS: ObjectIdentifier = padded(*b"\x07\x2B\x06\x01\x01\x09\x01\x21\0\0\0\0\0\0\0\0\0\0\0\0\0\0\0\0\0\0\0\0\0\0\0\0\0\0\0\0\0\0\0\0");
 /// `pcelsEthertypeVariableAuxClass`: 1.3.6.1.1.9.1.34
-pub const PCELS_ETHERTYPE_VARIABLE_AUX_CLASS: ObjectIdentifier = ObjectIdentifier::new_unwrap("1.3.6.1.1.9.1.34");
+pub const PCELS_ETHERTYPE_VARIABLE_AUX_CLASS: ObjectIdentifier = padded(*b"\x07\x2B\x06\x01\x01\x09\x01\x22\0\0\0\0\0\0\0\0\0\0\0\0\0\0\0\0\0\0\0\0\0\0\0\0\0\0\0\0\0\0\0\0");
 /// `pcelsSourceSAPVariableAuxClass`: 1.3.6.1.1.9.1.35
-pub const PCELS_SOURCE_SAP_VARIABLE_AUX_CLASS: ObjectIdentifier = ObjectIdentifier::new_unwrap("1.3.6.1.1.9.1.35");
+pub const PCELS_SOURCE_SAP_VARIABLE_AUX_CLASS: ObjectIdentifier = padded(*b"\x07\x2B\x06\x01\x01\x09\x01\x23\0\0\0\0\0\0\0\0\0\0\0\0\0\0\0\0\0\0\0\0\0\0\0\0\0\0\0\0\0\0\0\0");
 /// `pcelsDestinationSAPVariableAuxClass`: 1.3.6.1.1.9.1.36
-pub const PCELS_DESTINATION_SAP_VARIABLE_AUX_CLASS: ObjectIdentifier = ObjectIdentifier::new_unwrap("1.3.6.1.1.9.1.36");
+pub const PCELS_DESTINATION_SAP_VARIABLE_AUX_CLASS: ObjectIdentifier = padded(*b"\x07\x2B\x06\x01\x01\x09\x01\x24\0\0\0\0\0\0\0\0\0\0\0\0\0\0\0\0\0\0\0\0\0\0\0\0\0\0\0\0\0\0\0\0");
 /// `pcelsSNAPOUIVariableAuxClass`: 1.3.6.1.1.9.1.37
-pub const PCELS_SNAPOUI_VARIABLE_AUX_CLASS: ObjectIdentifier = ObjectIdentifier::new_unwrap("1.3.6.1.1.9.1.37");
+pub const PCELS_SNAPOUI_VARIABLE_AUX_CLASS: ObjectIdentifier = padded(*b"\x07\x2B\x06\x01\x01\x09\x01\x25\0\0\0\0\0\0\0\0\0\0\0\0\0\0\0\0\0\0\0\0\0\0\0\0\0\0\0\0\0\0\0\0");
 /// `pcelsSNAPTypeVariableAuxClass`: 1.3.6.1.1.9.1.38
-pub const PCELS_SNAP_TYPE_VARIABLE_AUX_CLASS: ObjectIdentifier = ObjectIdentifier::new_unwrap("1.3.6.1.1.9.1.38");
+pub const PCELS_SNAP_TYPE_VARIABLE_AUX_CLASS: ObjectIdentifier = padded(*b"\x07\x2B\x06\x01\x01\x09\x01\x26\0\0\0\0\0\0\0\0\0\0\0\0\0\0\0\0\0\0\0\0\0\0\0\0\0\0\0\0\0\0\0\0");
 /// `pcelsFlowDirectionVariableAuxClass`: 1.3.6.1.1.9.1.39
-pub const PCELS_FLOW_DIRECTION_VARIABLE_AUX_CLASS: ObjectIdentifier = ObjectIdentifier::new_unwrap("1.3.6.1.1.9.1.39");
+pub const PCELS_FLOW_DIRECTION_VARIABLE_AUX_CLASS: ObjectIdentifier = padded(*b"\x07\x2B\x06\x01\x01\x09\x01\x27\0\0\0\0\0\0\0\0\0\0\0\0\0\0\0\0\0\0\0\0\0\0\0\0\0\0\0\0\0\0\0\0");
 /// `pcelsGroupAuxClass`: 1.3.6.1.1.9.1.4
-pub const PCELS_GROUP_AUX_CLASS: ObjectIdentifier = ObjectIdentifier::new_unwrap("1.3.6.1.1.9.1.4");
+pub const PCELS_GROUP_AUX_CLASS: ObjectIdentifier = padded(*b"\x07\x2B\x06\x01\x01\x09\x01\x04\0\0\0\0\0\0\0\0\0\0\0\0\0\0\0\0\0\0\0\0\0\0\0\0\0\0\0\0\0\0\0\0");
 /// `pcelsValueAuxClass`: 1.3.6.1.1.9.1.40
-pub const PCELS_VALUE_AUX_CLASS: ObjectIdentifier = ObjectIdentifier::new_unwrap("1.3.6.1.1.9.1.40");
+pub const PCELS_VALUE_AUX_CLASS: ObjectIdentifier = padded(*b"\x07\x2B\x06\x01\x01\x09\x01\x28\0\0\0\0\0\0\0\0\0\0\0\0\0\0\0\0\0\0\0\0\0\0\0\0\0\0\0\0\0\0\0\0");
 /// `pcelsIPv4AddrValueAuxClass`: 1.3.6.1.1.9.1.41
-pub const PCELS_I_PV_4_ADDR_VALUE_AUX_CLASS: ObjectIdentifier = ObjectIdentifier::new_unwrap("1.3.6.1.1.9.1.41");
+pub const PCELS_I_PV_4_ADDR_VALUE_AUX_CLASS: ObjectIdentifier = padded(*b"\x07\x2B\x06\x01\x01\x09\x01\x29\0\0\0\0\0\0\0\0\0\0\0\0\0\0\0\0\0\0\0\0\0\0\0\0\0\0\0\0\0\0\0\0");
 /// `pcelsIPv6AddrValueAuxClass`: 1.3.6.1.1.9.1.42
-pub const PCELS_I_PV_6_ADDR_VALUE_AUX_CLASS: ObjectIdentifier = ObjectIdentifier::new_unwrap("1.3.6.1.1.9.1.42");
+pub const PCELS_I_PV_6_ADDR_VALUE_AUX_CLASS: ObjectIdentifier = padded(*b"\x07\x2B\x06\x01\x01\x09\x01\x2A\0\0\0\0\0\0\0\0\0\0\0\0\0\0\0\0\0\0\0\0\0\0\0\0\0\0\0\0\0\0\0\0");
 /// `pcelsMACAddrValueAuxClass`: 1.3.6.1.1.9.1.43
-pub const PCELS_MAC_ADDR_VALUE_AUX_CLASS: ObjectIdentifier = ObjectIdentifier::new_unwrap("1.3.6.1.1.9.1.43");
+pub const PCELS_MAC_ADDR_VALUE_AUX_CLASS: ObjectIdentifier = padded(*b"\x07\x2B\x06\x01\x01\x09\x01\x2B\0\0\0\0\0\0\0\0\0\0\0\0\0\0\0\0\0\0\0\0\0\0\0\0\0\0\0\0\0\0\0\0");
 /// `pcelsStringValueAuxClass`: 1.3.6.1.1.9.1.44
-pub const PCELS_STRING_VALUE_AUX_CLASS: ObjectIdentifier = ObjectIdentifier::new_unwrap("1.3.6.1.1.9.1.44");
+pub const PCELS_STRING_VALUE_AUX_CLASS: ObjectIdentifier = padded(*b"\x07\x2B\x06\x01\x01\x09\x01\x2C\0\0\0\0\0\0\0\0\0\0\0\0\0\0\0\0\0\0\0\0\0\0\0\0\0\0\0\0\0\0\0\0");
 /// `pcelsBitStringValueAuxClass`: 1.3.6.1.1.9.1.45
-pub const PCELS_BIT_STRING_VALUE_AUX_CLASS: ObjectIdentifier = ObjectIdentifier::new_unwrap("1.3.6.1.1.9.1.45");
+pub const PCELS_BIT_STRING_VALUE_AUX_CLASS: ObjectIdentifier = padded(*b"\x07\x2B\x06\x01\x01\x09\x01\x2D\0\0\0\0\0\0\0\0\0\0\0\0\0\0\0\0\0\0\0\0\0\0\0\0\0\0\0\0\0\0\0\0");
 /// `pcelsIntegerValueAuxClass`: 1.3.6.1.1.9.1.46
-pub const PCELS_INTEGER_VALUE_AUX_CLASS: ObjectIdentifier = ObjectIdentifier::new_unwrap("1.3.6.1.1.9.1.46");
+pub const PCELS_INTEGER_VALUE_AUX_CLASS: ObjectIdentifier = padded(*b"\x07\x2B\x06\x01\x01\x09\x01\x2E\0\0\0\0\0\0\0\0\0\0\0\0\0\0\0\0\0\0\0\0\0\0\0\0\0\0\0\0\0\0\0\0");
 /// `pcelsBooleanValueAuxClass`: 1.3.6.1.1.9.1.47
-pub const PCELS_BOOLEAN_VALUE_AUX_CLASS: ObjectIdentifier = ObjectIdentifier::new_unwrap("1.3.6.1.1.9.1.47");
+pub const PCELS_BOOLEAN_VALUE_AUX_CLASS: ObjectIdentifier = padded(*b"\x07\x2B\x06\x01\x01\x09\x01\x2F\0\0\0\0\0\0\0\0\0\0\0\0\0\0\0\0\0\0\0\0\0\0\0\0\0\0\0\0\0\0\0\0");
 /// `pcelsReusableContainer`: 1.3.6.1.1.9.1.48
-pub const PCELS_REUSABLE_CONTAINER: ObjectIdentifier = ObjectIdentifier::new_unwrap("1.3.6.1.1.9.1.48");
+pub const PCELS_REUSABLE_CONTAINER: ObjectIdentifier = padded(*b"\x07\x2B\x06\x01\x01\x09\x01\x30\0\0\0\0\0\0\0\0\0\0\0\0\0\0\0\0\0\0\0\0\0\0\0\0\0\0\0\0\0\0\0\0");
 /// `pcelsReusableContainerAuxClass`: 1.3.6.1.1.9.1.49
-pub const PCELS_REUSABLE_CONTAINER_AUX_CLASS: ObjectIdentifier = ObjectIdentifier::new_unwrap("1.3.6.1.1.9.1.49");
+pub const PCELS_REUSABLE_CONTAINER_AUX_CLASS: ObjectIdentifier = padded(*b"\x07\x2B\x06\x01\x01\x09\x01\x31\0\0\0\0\0\0\0\0\0\0\0\0\0\0\0\0\0\0\0\0\0\0\0\0\0\0\0\0\0\0\0\0");
 /// `pcelsGroupInstance`: 1.3.6.1.1.9.1.5
-pub const PCELS_GROUP_INSTANCE: ObjectIdentifier = ObjectIdentifier::new_unwrap("1.3.6.1.1.9.1.5");
+pub const PCELS_GROUP_INSTANCE: ObjectIdentifier = padded(*b"\x07\x2B\x06\x01\x01\x09\x01\x05\0\0\0\0\0\0\0\0\0\0\0\0\0\0\0\0\0\0\0\0\0\0\0\0\0\0\0\0\0\0\0\0");
 /// `pcelsReusableContainerInstance`: 1.3.6.1.1.9.1.50
-pub const PCELS_REUSABLE_CONTAINER_INSTANCE: ObjectIdentifier = ObjectIdentifier::new_unwrap("1.3.6.1.1.9.1.50");
+pub const PCELS_REUSABLE_CONTAINER_INSTANCE: ObjectIdentifier = padded(*b"\x07\x2B\x06\x01\x01\x09\x01\x32\0\0\0\0\0\0\0\0\0\0\0\0\0\0\0\0\0\0\0\0\0\0\0\0\0\0\0\0\0\0\0\0");
 /// `pcelsRoleCollection`: 1.3.6.1.1.9.1.51
-pub const PCELS_ROLE_COLLECTION: ObjectIdentifier = ObjectIdentifier::new_unwrap("1.3.6.1.1.9.1.51");
+pub const PCELS_ROLE_COLLECTION: ObjectIdentifier = padded(*b"\x07\x2B\x06\x01\x01\x09\x01\x33\0\0\0\0\0\0\0\0\0\0\0\0\0\0\0\0\0\0\0\0\0\0\0\0\0\0\0\0\0\0\0\0");
 /// `pcelsFilterEntryBase`: 1.3.6.1.1.9.1.52
-pub const PCELS_FILTER_ENTRY_BASE: ObjectIdentifier = ObjectIdentifier::new_unwrap("1.3.6.1.1.9.1.52");
+pub const PCELS_FILTER_ENTRY_BASE: ObjectIdentifier = padded(*b"\x07\x2B\x06\x01\x01\x09\x01\x34\0\0\0\0\0\0\0\0\0\0\0\0\0\0\0\0\0\0\0\0\0\0\0\0\0\0\0\0\0\0\0\0");
 /// `pcelsIPHeadersFilter`: 1.3.6.1.1.9.1.53
-pub const PCELS_IP_HEADERS_FILTER: ObjectIdentifier = ObjectIdentifier::new_unwrap("1.3.6.1.1.9.1.53");
+pub const PCELS_IP_HEADERS_FILTER: ObjectIdentifier = padded(*b"\x07\x2B\x06\x01\x01\x09\x01\x35\0\0\0\0\0\0\0\0\0\0\0\0\0\0\0\0\0\0\0\0\0\0\0\0\0\0\0\0\0\0\0\0");
 /// `pcels8021Filter`: 1.3.6.1.1.9.1.54
-pub const PCELS_8021_FILTER: ObjectIdentifier = ObjectIdentifier::new_unwrap("1.3.6.1.1.9.1.54");
+pub const PCELS_8021_FILTER: ObjectIdentifier = padded(*b"\x07\x2B\x06\x01\x01\x09\x01\x36\0\0\0\0\0\0\0\0\0\0\0\0\0\0\0\0\0\0\0\0\0\0\0\0\0\0\0\0\0\0\0\0");
 /// `pcelsFilterListAuxClass`: 1.3.6.1.1.9.1.55
-pub const PCELS_FILTER_LIST_AUX_CLASS: ObjectIdentifier = ObjectIdentifier::new_unwrap("1.3.6.1.1.9.1.55");
+pub const PCELS_FILTER_LIST_AUX_CLASS: ObjectIdentifier = padded(*b"\x07\x2B\x06\x01\x01\x09\x01\x37\0\0\0\0\0\0\0\0\0\0\0\0\0\0\0\0\0\0\0\0\0\0\0\0\0\0\0\0\0\0\0\0");
 /// `pcelsVendorVariableAuxClass`: 1.3.6.1.1.9.1.56
-pub const PCELS_VENDOR_VARIABLE_AUX_CLASS: ObjectIdentifier = ObjectIdentifier::new_unwrap("1.3.6.1.1.9.1.56");
+pub const PCELS_VENDOR_VARIABLE_AUX_CLASS: ObjectIdentifier = padded(*b"\x07\x2B\x06\x01\x01\x09\x01\x38\0\0\0\0\0\0\0\0\0\0\0\0\0\0\0\0\0\0\0\0\0\0\0\0\0\0\0\0\0\0\0\0");
 /// `pcelsVendorValueAuxClass`: 1.3.6.1.1.9.1.57
-pub const PCELS_VENDOR_VALUE_AUX_CLASS: ObjectIdentifier = ObjectIdentifier::new_unwrap("1.3.6.1.1.9.1.57");
+pub const PCELS_VENDOR_VALUE_AUX_CLASS: ObjectIdentifier = padded(*b"\x07\x2B\x06\x01\x01\x09\x01\x39\0\0\0\0\0\0\0\0\0\0\0\0\0\0\0\0\0\0\0\0\0\0\0\0\0\0\0\0\0\0\0\0");
 /// `pcelsRule`: 1.3.6.1.1.9.1.6
-pub const PCELS_RULE: ObjectIdentifier = ObjectIdentifier::new_unwrap("1.3.6.1.1.9.1.6");
+pub const PCELS_RULE: ObjectIdentifier = padded(*b"\x07\x2B\x06\x01\x01\x09\x01\x06\0\0\0\0\0\0\0\0\0\0\0\0\0\0\0\0\0\0\0\0\0\0\0\0\0\0\0\0\0\0\0\0");
 /// `pcelsRuleAuxClass`: 1.3.6.1.1.9.1.7
-pub const PCELS_RULE_AUX_CLASS: ObjectIdentifier = ObjectIdentifier::new_unwrap("1.3.6.1.1.9.1.7");
+pub const PCELS_RULE_AUX_CLASS: ObjectIdentifier = padded(*b"\x07\x2B\x06\x01\x01\x09\x01\x07\0\0\0\0\0\0\0\0\0\0\0\0\0\0\0\0\0\0\0\0\0\0\0\0\0\0\0\0\0\0\0\0");
 /// `pcelsRuleInstance`: 1.3.6.1.1.9.1.8
-pub const PCELS_RULE_INSTANCE: ObjectIdentifier = ObjectIdentifier::new_unwrap("1.3.6.1.1.9.1.8");
+pub const PCELS_RULE_INSTANCE: ObjectIdentifier = padded(*b"\x07\x2B\x06\x01\x01\x09\x01\x08\0\0\0\0\0\0\0\0\0\0\0\0\0\0\0\0\0\0\0\0\0\0\0\0\0\0\0\0\0\0\0\0");
 /// `pcelsConditionAssociation`: 1.3.6.1.1.9.1.9
-pub const PCELS_CONDITION_ASSOCIATION: ObjectIdentifier = ObjectIdentifier::new_unwrap("1.3.6.1.1.9.1.9");
+pub const PCELS_CONDITION_ASSOCIATION: ObjectIdentifier = padded(*b"\x07\x2B\x06\x01\x01\x09\x01\x09\0\0\0\0\0\0\0\0\0\0\0\0\0\0\0\0\0\0\0\0\0\0\0\0\0\0\0\0\0\0\0\0");
 /// `pcelsPolicySetName`: 1.3.6.1.1.9.2.1
-pub const PCELS_POLICY_SET_NAME: ObjectIdentifier = ObjectIdentifier::new_unwrap("1.3.6.1.1.9.2.1");
+pub const PCELS_POLICY_SET_NAME: ObjectIdentifier = padded(*b"\x07\x2B\x06\x01\x01\x09\x02\x01\0\0\0\0\0\0\0\0\0\0\0\0\0\0\0\0\0\0\0\0\0\0\0\0\0\0\0\0\0\0\0\0");
 /// `pcelsExecutionStrategy`: 1.3.6.1.1.9.2.10
-pub const PCELS_EXECUTION_STRATEGY: ObjectIdentifier = ObjectIdentifier::new_unwrap("1.3.6.1.1.9.2.10");
+pub const PCELS_EXECUTION_STRATEGY: ObjectIdentifier = padded(*b"\x07\x2B\x06\x01\x01\x09\x02\x0A\0\0\0\0\0\0\0\0\0\0\0\0\0\0\0\0\0\0\0\0\0\0\0\0\0\0\0\0\0\0\0\0");
 /// `pcelsVariableDN`: 1.3.6.1.1.9.2.11
-pub const PCELS_VARIABLE_DN: ObjectIdentifier = ObjectIdentifier::new_unwrap("1.3.6.1.1.9.2.11");
+pub const PCELS_VARIABLE_DN: ObjectIdentifier = padded(*b"\x07\x2B\x06\x01\x01\x09\x02\x0B\0\0\0\0\0\0\0\0\0\0\0\0\0\0\0\0\0\0\0\0\0\0\0\0\0\0\0\0\0\0\0\0");
 /// `pcelsValueDN`: 1.3.6.1.1.9.2.12
-pub const PCELS_VALUE_DN: ObjectIdentifier = ObjectIdentifier::new_unwrap("1.3.6.1.1.9.2.12");
+pub const PCELS_VALUE_DN: ObjectIdentifier = padded(*b"\x07\x2B\x06\x01\x01\x09\x02\x0C\0\0\0\0\0\0\0\0\0\0\0\0\0\0\0\0\0\0\0\0\0\0\0\0\0\0\0\0\0\0\0\0");
 /// `pcelsIsMirrored`: 1.3.6.1.1.9.2.13
-pub const PCELS_IS_MIRRORED: ObjectIdentifier = ObjectIdentifier::new_unwrap("1.3.6.1.1.9.2.13");
+pub const PCELS_IS_MIRRORED: ObjectIdentifier = padded(*b"\x07\x2B\x06\x01\x01\x09\x02\x0D\0\0\0\0\0\0\0\0\0\0\0\0\0\0\0\0\0\0\0\0\0\0\0\0\0\0\0\0\0\0\0\0");
 /// `pcelsVariableName`: 1.3.6.1.1.9.2.14
-pub const PCELS_VARIABLE_NAME: ObjectIdentifier = ObjectIdentifier::new_unwrap("1.3.6.1.1.9.2.14");
+pub const PCELS_VARIABLE_NAME: ObjectIdentifier = padded(*b"\x07\x2B\x06\x01\x01\x09\x02\x0E\0\0\0\0\0\0\0\0\0\0\0\0\0\0\0\0\0\0\0\0\0\0\0\0\0\0\0\0\0\0\0\0");
 /// `pcelsExpectedValueList`: 1.3.6.1.1.9.2.15
-pub const PCELS_EXPECTED_VALUE_LIST: ObjectIdentifier = ObjectIdentifier::new_unwrap("1.3.6.1.1.9.2.15");
+pub const PCELS_EXPECTED_VALUE_LIST: ObjectIdentifier = padded(*b"\x07\x2B\x06\x01\x01\x09\x02\x0F\0\0\0\0\0\0\0\0\0\0\0\0\0\0\0\0\0\0\0\0\0\0\0\0\0\0\0\0\0\0\0\0");
 /// `pcelsVariableModelClass`: 1.3.6.1.1.9.2.16
-pub const PCELS_VARIABLE_MODEL_CLASS: ObjectIdentifier = ObjectIdentifier::new_unwrap("1.3.6.1.1.9.2.16");
+pub const PCELS_VARIABLE_MODEL_CLASS: ObjectIdentifier = padded(*b"\x07\x2B\x06\x01\x01\x09\x02\x10\0\0\0\0\0\0\0\0\0\0\0\0\0\0\0\0\0\0\0\0\0\0\0\0\0\0\0\0\0\0\0\0");
 /// `pcelsVariableModelProperty`: 1.3.6.1.1.9.2.17
-pub const PCELS_VARIABLE_MODEL_PROPERTY: ObjectIdentifier = ObjectIdentifier::new_unwrap("1.3.6.1.1.9.2.17");
+pub const PCELS_VARIABLE_MODEL_PROPERTY: ObjectIdentifier = padded(*b"\x07\x2B\x06\x01\x01\x09\x02\x11\0\0\0\0\0\0\0\0\0\0\0\0\0\0\0\0\0\0\0\0\0\0\0\0\0\0\0\0\0\0\0\0");
 /// `pcelsExpectedValueTypes`: 1.3.6.1.1.9.2.18
-pub const PCELS_EXPECTED_VALUE_TYPES: ObjectIdentifier = ObjectIdentifier::new_unwrap("1.3.6.1.1.9.2.18");
+pub const PCELS_EXPECTED_VALUE_TYPES: ObjectIdentifier = padded(*b"\x07\x2B\x06\x01\x01\x09\x02\x12\0\0\0\0\0\0\0\0\0\0\0\0\0\0\0\0\0\0\0\0\0\0\0\0\0\0\0\0\0\0\0\0");
 /// `pcelsValueName`: 1.3.6.1.1.9.2.19
-pub const PCELS_VALUE_NAME: ObjectIdentifier = ObjectIdentifier::new_unwrap("1.3.6.1.1.9.2.19");
+pub const PCELS_VALUE_NAME: ObjectIdentifier = padded(*b"\x07\x2B\x06\x01\x01\x09\x02\x13\0\0\0\0\0\0\0\0\0\0\0\0\0\0\0\0\0\0\0\0\0\0\0\0\0\0\0\0\0\0\0\0");
 /// `pcelsDecisionStrategy`: 1.3.6.1.1.9.2.2
-pub const PCELS_DECISION_STRATEGY: ObjectIdentifier = ObjectIdentifier::new_unwrap("1.3.6.1.1.9.2.2");
+pub const PCELS_DECISION_STRATEGY: ObjectIdentifier = padded(*b"\x07\x2B\x06\x01\x01\x09\x02\x02\0\0\0\0\0\0\0\0\0\0\0\0\0\0\0\0\0\0\0\0\0\0\0\0\0\0\0\0\0\0\0\0");
 /// `pcelsIPv4AddrList`: 1.3.6.1.1.9.2.20
-pub const PCELS_I_PV_4_ADDR_LIST: ObjectIdentifier = ObjectIdentifier::new_unwrap("1.3.6.1.1.9.2.20");
+pub const PCELS_I_PV_4_ADDR_LIST: ObjectIdentifier = padded(*b"\x07\x2B\x06\x01\x01\x09\x02\x14\0\0\0\0\0\0\0\0\0\0\0\0\0\0\0\0\0\0\0\0\0\0\0\0\0\0\0\0\0\0\0\0");
 /// `pcelsIPv6AddrList`: 1.3.6.1.1.9.2.21
-pub const PCELS_I_PV_6_ADDR_LIST: ObjectIdentifier = ObjectIdentifier::new_unwrap("1.3.6.1.1.9.2.21");
+pub const PCELS_I_PV_6_ADDR_LIST: ObjectIdentifier = padded(*b"\x07\x2B\x06\x01\x01\x09\x02\x15\0\0\0\0\0\0\0\0\0\0\0\0\0\0\0\0\0\0\0\0\0\0\0\0\0\0\0\0\0\0\0\0");
 /// `pcelsMACAddrList`: 1.3.6.1.1.9.2.22
-pub const PCELS_MAC_ADDR_LIST: ObjectIdentifier = ObjectIdentifier::new_unwrap("1.3.6.1.1.9.2.22");
+pub const PCELS_MAC_ADDR_LIST: ObjectIdentifier = padded(*b"\x07\x2B\x06\x01\x01\x09\x02\x16\0\0\0\0\0\0\0\0\0\0\0\0\0\0\0\0\0\0\0\0\0\0\0\0\0\0\0\0\0\0\0\0");
 /// `pcelsStringList`: 1.3.6.1.1.9.2.23
-pub const PCELS_STRING_LIST: ObjectIdentifier = ObjectIdentifier::new_unwrap("1.3.6.1.1.9.2.23");
+pub const PCELS_STRING_LIST: ObjectIdentifier = padded(*b"\x07\x2B\x06\x01\x01\x09\x02\x17\0\0\0\0\0\0\0\0\0\0\0\0\0\0\0\0\0\0\0\0\0\0\0\0\0\0\0\0\0\0\0\0");
 /// `pcelsBitStringList`: 1.3.6.1.1.9.2.24
-pub const PCELS_BIT_STRING_LIST: ObjectIdentifier = ObjectIdentifier::new_unwrap("1.3.6.1.1.9.2.24");
+pub const PCELS_BIT_STRING_LIST: ObjectIdentifier = padded(*b"\x07\x2B\x06\x01\x01\x09\x02\x18\0\0\0\0\0\0\0\0\0\0\0\0\0\0\0\0\0\0\0\0\0\0\0\0\0\0\0\0\0\0\0\0");
 /// `pcelsIntegerList`: 1.3.6.1.1.9.2.25
-pub const PCELS_INTEGER_LIST: ObjectIdentifier = ObjectIdentifier::new_unwrap("1.3.6.1.1.9.2.25");
+pub const PCELS_INTEGER_LIST: ObjectIdentifier = padded(*b"\x07\x2B\x06\x01\x01\x09\x02\x19\0\0\0\0\0\0\0\0\0\0\0\0\0\0\0\0\0\0\0\0\0\0\0\0\0\0\0\0\0\0\0\0");
 /// `pcelsBoolean`: 1.3.6.1.1.9.2.26
-pub const PCELS_BOOLEAN: ObjectIdentifier = ObjectIdentifier::new_unwrap("1.3.6.1.1.9.2.26");
+pub const PCELS_BOOLEAN: ObjectIdentifier = padded(*b"\x07\x2B\x06\x01\x01\x09\x02\x1A\0\0\0\0\0\0\0\0\0\0\0\0\0\0\0\0\0\0\0\0\0\0\0\0\0\0\0\0\0\0\0\0");
 /// `pcelsReusableContainerName`: 1.3.6.1.1.9.2.27
-pub const PCELS_REUSABLE_CONTAINER_NAME: ObjectIdentifier = ObjectIdentifier::new_unwrap("1.3.6.1.1.9.2.27");
+pub const PCELS_REUSABLE_CONTAINER_NAME: ObjectIdentifier = padded(*b"\x07\x2B\x06\x01\x01\x09\x02\x1B\0\0\0\0\0\0\0\0\0\0\0\0\0\0\0\0\0\0\0\0\0\0\0\0\0\0\0\0\0\0\0\0");
 /// `pcelsReusableContainerList`: 1.3.6.1.1.9.2.28
-pub const PCELS_REUSABLE_CONTAINER_LIST: ObjectIdentifier = ObjectIdentifier::new_unwrap("1.3.6.1.1.9.2.28");
+pub const PCELS_REUSABLE_CONTAINER_LIST: ObjectIdentifier = padded(*b"\x07\x2B\x06\x01\x01\x09\x02\x1C\0\0\0\0\0\0\0\0\0\0\0\0\0\0\0\0\0\0\0\0\0\0\0\0\0\0\0\0\0\0\0\0");
 /// `pcelsRole`: 1.3.6.1.1.9.2.29
-pub const PCELS_ROLE: ObjectIdentifier = ObjectIdentifier::new_unwrap("1.3.6.1.1.9.2.29");
+pub const PCELS_ROLE: ObjectIdentifier = padded(*b"\x07\x2B\x06\x01\x01\x09\x02\x1D\0\0\0\0\0\0\0\0\0\0\0\0\0\0\0\0\0\0\0\0\0\0\0\0\0\0\0\0\0\0\0\0");
 /// `pcelsPolicySetList`: 1.3.6.1.1.9.2.3
-pub const PCELS_POLICY_SET_LIST: ObjectIdentifier = ObjectIdentifier::new_unwrap("1.3.6.1.1.9.2.3");
+pub const PCELS_POLICY_SET_LIST: ObjectIdentifier = padded(*b"\x07\x2B\x06\x01\x01\x09\x02\x03\0\0\0\0\0\0\0\0\0\0\0\0\0\0\0\0\0\0\0\0\0\0\0\0\0\0\0\0\0\0\0\0");
 /// `pcelsRoleCollectionName`: 1.3.6.1.1.9.2.30
-pub const PCELS_ROLE_COLLECTION_NAME: ObjectIdentifier = ObjectIdentifier::new_unwrap("1.3.6.1.1.9.2.30");
+pub const PCELS_ROLE_COLLECTION_NAME: ObjectIdentifier = padded(*b"\x07\x2B\x06\x01\x01\x09\x02\x1E\0\0\0\0\0\0\0\0\0\0\0\0\0\0\0\0\0\0\0\0\0\0\0\0\0\0\0\0\0\0\0\0");
 /// `pcelsElementList`: 1.3.6.1.1.9.2.31
-pub const PCELS_ELEMENT_LIST: ObjectIdentifier = ObjectIdentifier::new_unwrap("1.3.6.1.1.9.2.31");
+pub const PCELS_ELEMENT_LIST: ObjectIdentifier = padded(*b"\x07\x2B\x06\x01\x01\x09\x02\x1F\0\0\0\0\0\0\0\0\0\0\0\0\0\0\0\0\0\0\0\0\0\0\0\0\0\0\0\0\0\0\0\0");
 /// `pcelsFilterName`: 1.3.6.1.1.9.2.32
-pub const PCELS_FILTER_NAME: ObjectIdentifier = ObjectIdentifier::new_unwrap("1.3.6.1.1.9.2.32");
+pub const PCELS_FILTER_NAME: ObjectIdentifier = padded(*b"\x07\x2B\x06\x01\x01\x09\x02\x20\0\0\0\0\0\0\0\0\0\0\0\0\0\0\0\0\0\0\0\0\0\0\0\0\0\0\0\0\0\0\0\0");
 /// `pcelsFilterIsNegated`: 1.3.6.1.1.9.2.33
-pub const PCELS_FILTER_IS_NEGATED: ObjectIdentifier = ObjectIdentifier::new_unwrap("1.3.6.1.1.9.2.33");
+pub const PCELS_FILTER_IS_NEGATED: ObjectIdentifier = padded(*b"\x07\x2B\x06\x01\x01\x09\x02\x21\0\0\0\0\0\0\0\0\0\0\0\0\0\0\0\0\0\0\0\0\0\0\0\0\0\0\0\0\0\0\0\0");
 /// `pcelsIPHdrVersion`: 1.3.6.1.1.9.2.34
-pub const PCELS_IP_HDR_VERSION: ObjectIdentifier = ObjectIdentifier::new_unwrap("1.3.6.1.1.9.2.34");
+pub const PCELS_IP_HDR_VERSION: ObjectIdentifier = padded(*b"\x07\x2B\x06\x01\x01\x09\x02\x22\0\0\0\0\0\0\0\0\0\0\0\0\0\0\0\0\0\0\0\0\0\0\0\0\0\0\0\0\0\0\0\0");
 /// `pcelsIPHdrSourceAddress`: 1.3.6.1.1.9.2.35
-pub const PCELS_IP_HDR_SOURCE_ADDRESS: ObjectIdentifier = ObjectIdentifier::new_unwrap("1.3.6.1.1.9.2.35");
+pub const PCELS_IP_HDR_SOURCE_ADDRESS: ObjectIdentifier = padded(*b"\x07\x2B\x06\x01\x01\x09\x02\x23\0\0\0\0\0\0\0\0\0\0\0\0\0\0\0\0\0\0\0\0\0\0\0\0\0\0\0\0\0\0\0\0");
 /// `pcelsIPHdrSourceAddressEndOfRange`: 1.3.6.1.1.9.2.36
-pub const PCELS_IP_HDR_SOURCE_ADDRESS_END_OF_RANGE: ObjectIdentifier = ObjectIdentifier::new_unwrap("1.3.6.1.1.9.2.36");
+pub const PCELS_IP_HDR_SOURCE_ADDRESS_END_OF_RANGE: ObjectIdentifier = padded(*b"\x07\x2B\x06\x01\x01\x09\x02\x24\0\0\0\0\0\0\0\0\0\0\0\0\0\0\0\0\0\0\0\0\0\0\0\0\0\0\0\0\0\0\0\0");
 /// `pcelsIPHdrSourceMask`: 1.3.6.1.1.9.2.37
-pub const PCELS_IP_HDR_SOURCE_MASK: ObjectIdentifier = ObjectIdentifier::new_unwrap("1.3.6.1.1.9.2.37");
+pub const PCELS_IP_HDR_SOURCE_MASK: ObjectIdentifier = padded(*b"\x07\x2B\x06\x01\x01\x09\x02\x25\0\0\0\0\0\0\0\0\0\0\0\0\0\0\0\0\0\0\0\0\0\0\0\0\0\0\0\0\0\0\0\0");
 /// `pcelsIPHdrDestAddress`: 1.3.6.1.1.9.2.38
-pub const PCELS_IP_HDR_DEST_ADDRESS: ObjectIdentifier = ObjectIdentifier::new_unwrap("1.3.6.1.1.9.2.38");
+pub const PCELS_IP_HDR_DEST_ADDRESS: ObjectIdentifier = padded(*b"\x07\x2B\x06\x01\x01\x09\x02\x26\0\0\0\0\0\0\0\0\0\0\0\0\0\0\0\0\0\0\0\0\0\0\0\0\0\0\0\0\0\0\0\0");
 /// `pcelsIPHdrDestAddressEndOfRange`: 1.3.6.1.1.9.2.39
-pub const PCELS_IP_HDR_DEST_ADDRESS_END_OF_RANGE: ObjectIdentifier = ObjectIdentifier::new_unwrap("1.3.6.1.1.9.2.39");
+pub const PCELS_IP_HDR_DEST_ADDRESS_END_OF_RANGE: ObjectIdentifier = padded(*b"\x07\x2B\x06\x01\x01\x09\x02\x27\0\0\0\0\0\0\0\0\0\0\0\0\0\0\0\0\0\0\0\0\0\0\0\0\0\0\0\0\0\0\0\0");
 /// `pcelsPriority`: 1.3.6.1.1.9.2.4
-pub const PCELS_PRIORITY: ObjectIdentifier = ObjectIdentifier::new_unwrap("1.3.6.1.1.9.2.4");
+pub const PCELS_PRIORITY: ObjectIdentifier = padded(*b"\x07\x2B\x06\x01\x01\x09\x02\x04\0\0\0\0\0\0\0\0\0\0\0\0\0\0\0\0\0\0\0\0\0\0\0\0\0\0\0\0\0\0\0\0");
 /// `pcelsIPHdrDestMask`: 1.3.6.1.1.9.2.40
-pub const PCELS_IP_HDR_DEST_MASK: ObjectIdentifier = ObjectIdentifier::new_unwrap("1.3.6.1.1.9.2.40");
+pub const PCELS_IP_HDR_DEST_MASK: ObjectIdentifier = padded(*b"\x07\x2B\x06\x01\x01\x09\x02\x28\0\0\0\0\0\0\0\0\0\0\0\0\0\0\0\0\0\0\0\0\0\0\0\0\0\0\0\0\0\0\0\0");
 /// `pcelsIPHdrProtocolID`: 1.3.6.1.1.9.2.41
-pub const PCELS_IP_HDR_PROTOCOL_ID: ObjectIdentifier = ObjectIdentifier::new_unwrap("1.3.6.1.1.9.2.41");
+pub const PCELS_IP_HDR_PROTOCOL_ID: ObjectIdentifier = padded(*b"\x07\x2B\x06\x01\x01\x09\x02\x29\0\0\0\0\0\0\0\0\0\0\0\0\0\0\0\0\0\0\0\0\0\0\0\0\0\0\0\0\0\0\0\0");
 /// `pcelsIPHdrSourcePortStart`: 1.3.6.1.1.9.2.42
-pub const PCELS_IP_HDR_SOURCE_PORT_START: ObjectIdentifier = ObjectIdentifier::new_unwrap("1.3.6.1.1.9.2.42");
+pub const PCELS_IP_HDR_SOURCE_PORT_START: ObjectIdentifier = padded(*b"\x07\x2B\x06\x01\x01\x09\x02\x2A\0\0\0\0\0\0\0\0\0\0\0\0\0\0\0\0\0\0\0\0\0\0\0\0\0\0\0\0\0\0\0\0");
 /// `pcelsIPHdrSourcePortEnd`: 1.3.6.1.1.9.2.43
-pub const PCELS_IP_HDR_SOURCE_PORT_END: ObjectIdentifier = ObjectIdentifier::new_unwrap("1.3.6.1.1.9.2.43");
+pub const PCELS_IP_HDR_SOURCE_PORT_END: ObjectIdentifier = padded(*b"\x07\x2B\x06\x01\x01\x09\x02\x2B\0\0\0\0\0\0\0\0\0\0\0\0\0\0\0\0\0\0\0\0\0\0\0\0\0\0\0\0\0\0\0\0");
 /// `pcelsIPHdrDestPortStart`: 1.3.6.1.1.9.2.44
-pub const PCELS_IP_HDR_DEST_PORT_START: ObjectIdentifier = ObjectIdentifier::new_unwrap("1.3.6.1.1.9.2.44");
+pub const PCELS_IP_HDR_DEST_PORT_START: ObjectIdentifier = padded(*b"\x07\x2B\x06\x01\x01\x09\x02\x2C\0\0\0\0\0\0\0\0\0\0\0\0\0\0\0\0\0\0\0\0\0\0\0\0\0\0\0\0\0\0\0\0");
 /// `pcelsIPHdrDestPortEnd`: 1.3.6.1.1.9.2.45
-pub const PCELS_IP_HDR_DEST_PORT_END: ObjectIdentifier = ObjectIdentifier::new_unwrap("1.3.6.1.1.9.2.45");
+pub const PCELS_IP_HDR_DEST_PORT_END: ObjectIdentifier = padded(*b"\x07\x2B\x06\x01\x01\x09\x02\x2D\0\0\0\0\0\0\0\0\0\0\0\0\0\0\0\0\0\0\0\0\0\0\0\0\0\0\0\0\0\0\0\0");
 /// `pcelsIPHdrDSCPList`: 1.3.6.1.1.9.2.46
-pub const PCELS_IP_HDR_DSCP_LIST: ObjectIdentifier = ObjectIdentifier::new_unwrap("1.3.6.1.1.9.2.46");
+pub const PCELS_IP_HDR_DSCP_LIST: ObjectIdentifier = padded(*b"\x07\x2B\x06\x01\x01\x09\x02\x2E\0\0\0\0\0\0\0\0\0\0\0\0\0\0\0\0\0\0\0\0\0\0\0\0\0\0\0\0\0\0\0\0");
 /// `pcelsIPHdrFlowLabel`: 1.3.6.1.1.9.2.47
-pub const PCELS_IP_HDR_FLOW_LABEL: ObjectIdentifier = ObjectIdentifier::new_unwrap("1.3.6.1.1.9.2.47");
+pub const PCELS_IP_HDR_FLOW_LABEL: ObjectIdentifier = padded(*b"\x07\x2B\x06\x01\x01\x09\x02\x2F\0\0\0\0\0\0\0\0\0\0\0\0\0\0\0\0\0\0\0\0\0\0\0\0\0\0\0\0\0\0\0\0");
 /// `pcels8021HdrSourceMACAddress`: 1.3.6.1.1.9.2.48
-pub const PCELS_8021_HDR_SOURCE_MAC_ADDRESS: ObjectIdentifier = ObjectIdentifier::new_unwrap("1.3.6.1.1.9.2.48");
+pub const PCELS_8021_HDR_SOURCE_MAC_ADDRESS: ObjectIdentifier = padded(*b"\x07\x2B\x06\x01\x01\x09\x02\x30\0\0\0\0\0\0\0\0\0\0\0\0\0\0\0\0\0\0\0\0\0\0\0\0\0\0\0\0\0\0\0\0");
 /// `pcels8021HdrSourceMACMask`: 1.3.6.1.1.9.2.49
-pub const PCELS_8021_HDR_SOURCE_MAC_MASK: ObjectIdentifier = ObjectIdentifier::new_unwrap("1.3.6.1.1.9.2.49");
+pub const PCELS_8021_HDR_SOURCE_MAC_MASK: ObjectIdentifier = padded(*b"\x07\x2B\x06\x01\x01\x09\x02\x31\0\0\0\0\0\0\0\0\0\0\0\0\0\0\0\0\0\0\0\0\0\0\0\0\0\0\0\0\0\0\0\0");
 /// `pcelsPolicySetDN`: 1.3.6.1.1.9.2.5
-pub const PCELS_POLICY_SET_DN: ObjectIdentifier = ObjectIdentifier::new_unwrap("1.3.6.1.1.9.2.5");
+pub const PCELS_POLICY_SET_DN: ObjectIdentifier = padded(*b"\x07\x2B\x06\x01\x01\x09\x02\x05\0\0\0\0\0\0\0\0\0\0\0\0\0\0\0\0\0\0\0\0\0\0\0\0\0\0\0\0\0\0\0\0");
 /// `pcels8021HdrDestMACAddress`: 1.3.6.1.1.9.2.50
-pub const PCELS_8021_HDR_DEST_MAC_ADDRESS: ObjectIdentifier = ObjectIdentifier::new_unwrap("1.3.6.1.1.9.2.50");
+pub const PCELS_8021_HDR_DEST_MAC_ADDRESS: ObjectIdentifier = padded(*b"\x07\x2B\x06\x01\x01\x09\x02\x32\0\0\0\0\0\0\0\0\0\0\0\0\0\0\0\0\0\0\0\0\0\0\0\0\0\0\0\0\0\0\0\0");
 /// `pcels8021HdrDestMACMask`: 1.3.6.1.1.9.2.51
-pub const PCELS_8021_HDR_DEST_MAC_MASK: ObjectIdentifier = ObjectIdentifier::new_unwrap("1.3.6.1.1.9.2.51");
+pub const PCELS_8021_HDR_DEST_MAC_MASK: ObjectIdentifier = padded(*b"\x07\x2B\x06\x01\x01\x09\x02\x33\0\0\0\0\0\0\0\0\0\0\0\0\0\0\0\0\0\0\0\0\0\0\0\0\0\0\0\0\0\0\0\0");
 /// `pcels8021HdrProtocolID`: 1.3.6.1.1.9.2.52
-pub const PCELS_8021_HDR_PROTOCOL_ID: ObjectIdentifier = ObjectIdentifier::new_unwrap("1.3.6.1.1.9.2.52");
+pub const PCELS_8021_HDR_PROTOCOL_ID: ObjectIdentifier = padded(*b"\x07\x2B\x06\x01\x01\x09\x02\x34\0\0\0\0\0\0\0\0\0\0\0\0\0\0\0\0\0\0\0\0\0\0\0\0\0\0\0\0\0\0\0\0");
 /// `pcels8021HdrPriority`: 1.3.6.1.1.9.2.53
-pub const PCELS_8021_HDR_PRIORITY: ObjectIdentifier = ObjectIdentifier::new_unwrap("1.3.6.1.1.9.2.53");
+pub const PCELS_8021_HDR_PRIORITY: ObjectIdentifier = padded(*b"\x07\x2B\x06\x01\x01\x09\x02\x35\0\0\0\0\0\0\0\0\0\0\0\0\0\0\0\0\0\0\0\0\0\0\0\0\0\0\0\0\0\0\0\0");
 /// `pcels8021HdrVLANID`: 1.3.6.1.1.9.2.54
-pub const PCELS_8021_HDR_VLANID: ObjectIdentifier = ObjectIdentifier::new_unwrap("1.3.6.1.1.9.2.54");
+pub const PCELS_8021_HDR_VLANID: ObjectIdentifier = padded(*b"\x07\x2B\x06\x01\x01\x09\x02\x36\0\0\0\0\0\0\0\0\0\0\0\0\0\0\0\0\0\0\0\0\0\0\0\0\0\0\0\0\0\0\0\0");
 /// `pcelsFilterListName`: 1.3.6.1.1.9.2.55
-pub const PCELS_FILTER_LIST_NAME: ObjectIdentifier = ObjectIdentifier::new_unwrap("1.3.6.1.1.9.2.55");
+pub const PCELS_FILTER_LIST_NAME: ObjectIdentifier = padded(*b"\x07\x2B\x06\x01\x01\x09\x02\x37\0\0\0\0\0\0\0\0\0\0\0\0\0\0\0\0\0\0\0\0\0\0\0\0\0\0\0\0\0\0\0\0");
 /// `pcelsFilterDirection`: 1.3.6.1.1.9.2.56
-pub const PCELS_FILTER_DIRECTION: ObjectIdentifier = ObjectIdentifier::new_unwrap("1.3.6.1.1.9.2.56");
+pub const PCELS_FILTER_DIRECTION: ObjectIdentifier = padded(*b"\x07\x2B\x06\x01\x01\x09\x02\x38\0\0\0\0\0\0\0\0\0\0\0\0\0\0\0\0\0\0\0\0\0\0\0\0\0\0\0\0\0\0\0\0");
 /// `pcelsFilterEntryList`: 1.3.6.1.1.9.2.57
-pub const PCELS_FILTER_ENTRY_LIST: ObjectIdentifier = ObjectIdentifier::new_unwrap("1.3.6.1.1.9.2.57");
+pub const PCELS_FILTER_ENTRY_LIST: ObjectIdentifier = padded(*b"\x07\x2B\x06\x01\x01\x09\x02\x39\0\0\0\0\0\0\0\0\0\0\0\0\0\0\0\0\0\0\0\0\0\0\0\0\0\0\0\0\0\0\0\0");
 /// `pcelsVendorVariableData`: 1.3.6.1.1.9.2.58
-pub const PCELS_VENDOR_VARIABLE_DATA: ObjectIdentifier = ObjectIdentifier::new_unwrap("1.3.6.1.1.9.2.58");
+pub const PCELS_VENDOR_VARIABLE_DATA: ObjectIdentifier = padded(*b"\x07\x2B\x06\x01\x01\x09\x02\x3A\0\0\0\0\0\0\0\0\0\0\0\0\0\0\0\0\0\0\0\0\0\0\0\0\0\0\0\0\0\0\0\0");
 /// `pcelsVendorVariableEncoding`: 1.3.6.1.1.9.2.59
-pub const PCELS_VENDOR_VARIABLE_ENCODING: ObjectIdentifier = ObjectIdentifier::new_unwrap("1.3.6.1.1.9.2.59");
+pub const PCELS_VENDOR_VARIABLE_ENCODING: ObjectIdentifier = padded(*b"\x07\x2B\x06\x01\x01\x09\x02\x3B\0\0\0\0\0\0\0\0\0\0\0\0\0\0\0\0\0\0\0\0\0\0\0\0\0\0\0\0\0\0\0\0");
 /// `pcelsConditionListType`: 1.3.6.1.1.9.2.6
-pub const PCELS_CONDITION_LIST_TYPE: ObjectIdentifier = ObjectIdentifier::new_unwrap("1.3.6.1.1.9.2.6");
+pub const PCELS_CONDITION_LIST_TYPE: ObjectIdentifier = padded(*b"\x07\x2B\x06\x01\x01\x09\x02\x06\0\0\0\0\0\0\0\0\0\0\0\0\0\0\0\0\0\0\0\0\0\0\0\0\0\0\0\0\0\0\0\0");
 /// `pcelsVendorValueData`: 1.3.6.1.1.9.2.60
-pub const PCELS_VENDOR_VALUE_DATA: ObjectIdentifier = ObjectIdentifier::new_unwrap("1.3.6.1.1.9.2.60");
+pub const PCELS_VENDOR_VALUE_DATA: ObjectIdentifier = padded(*b"\x07\x2B\x06\x01\x01\x09\x02\x3C\0\0\0\0\0\0\0\0\0\0\0\0\0\0\0\0\0\0\0\0\0\0\0\0\0\0\0\0\0\0\0\0");
 /// `pcelsVendorValueEncoding`: 1.3.6.1.1.9.2.61
-pub const PCELS_VENDOR_VALUE_ENCODING: ObjectIdentifier = ObjectIdentifier::new_unwrap("1.3.6.1.1.9.2.61");
+pub const PCELS_VENDOR_VALUE_ENCODING: ObjectIdentifier = padded(*b"\x07\x2B\x06\x01\x01\x09\x02\x3D\0\0\0\0\0\0\0\0\0\0\0\0\0\0\0\0\0\0\0\0\0\0\0\0\0\0\0\0\0\0\0\0");
 /// `pcelsRuleValidityPeriodList`: 1.3.6.1.1.9.2.62
-pub const PCELS_RULE_VALIDITY_PERIOD_LIST: ObjectIdentifier = ObjectIdentifier::new_unwrap("1.3.6.1.1.9.2.62");
+pub const PCELS_RULE_VALIDITY_PERIOD_LIST: ObjectIdentifier = padded(*b"\x07\x2B\x06\x01\x01\x09\x02\x3E\0\0\0\0\0\0\0\0\0\0\0\0\0\0\0\0\0\0\0\0\0\0\0\0\0\0\0\0\0\0\0\0");
 /// `pcelsConditionList`: 1.3.6.1.1.9.2.7
-pub const PCELS_CONDITION_LIST: ObjectIdentifier = ObjectIdentifier::new_unwrap("1.3.6.1.1.9.2.7");
+pub const PCELS_CONDITION_LIST: ObjectIdentifier = padded(*b"\x07\x2B\x06\x01\x01\x09\x02\x07\0\0\0\0\0\0\0\0\0\0\0\0\0\0\0\0\0\0\0\0\0\0\0\0\0\0\0\0\0\0\0\0");
 /// `pcelsActionList`: 1.3.6.1.1.9.2.8
-pub const PCELS_ACTION_LIST: ObjectIdentifier = ObjectIdentifier::new_unwrap("1.3.6.1.1.9.2.8");
+pub const PCELS_ACTION_LIST: ObjectIdentifier = padded(*b"\x07\x2B\x06\x01\x01\x09\x02\x08\0\0\0\0\0\0\0\0\0\0\0\0\0\0\0\0\0\0\0\0\0\0\0\0\0\0\0\0\0\0\0\0");
 /// `pcelsSequencedActions`: 1.3.6.1.1.9.2.9
-pub const PCELS_SEQUENCED_ACTIONS: ObjectIdentifier = ObjectIdentifier::new_unwrap("1.3.6.1.1.9.2.9");
+pub const PCELS_SEQUENCED_ACTIONS: ObjectIdentifier = padded(*b"\x07\x2B\x06\x01\x01\x09\x02\x09\0\0\0\0\0\0\0\0\0\0\0\0\0\0\0\0\0\0\0\0\0\0\0\0\0\0\0\0\0\0\0\0");
 }
 
 /// Identifiers of [RFC 4237](https://www.rfc-editor.org/rfc/rfc4237).
@@ -1540,30 +1572,31 @@ pub const PCELS_SEQUENCED_ACTIONS: ObjectIdentifier = ObjectIdentifier::new_unwr
 /// assert_eq!(const_oid::db::rfc4237::VPIM_USER.to_string(), "1.3.6.1.1.11.1.1");
 /// ```
 pub mod rfc4237 {
+use super::padded;
 use crate::ObjectIdentifier;
 
 /// `vPIMUser`: 1.3.6.1.1.11.1.1
-pub const VPIM_USER: ObjectIdentifier = ObjectIdentifier::new_unwrap("1.3.6.1.1.11.1.1");
+pub const VPIM_USER: ObjectIdentifier = padded(*b"\x07\x2B\x06\x01\x01\x0B\x01\x01\0\0\0\0\0\0\0\0\0\0\0\0\0\0\0\0\0\0\0\0\0\0\0\0\0\0\0\0\0\0\0\0");
 /// `vPIMTelephoneNumber`: 1.3.6.1.1.11.2.1
-pub const VPIM_TELEPHONE_NUMBER: ObjectIdentifier = ObjectIdentifier::new_unwrap("1.3.6.1.1.11.2.1");
+pub const VPIM_TELEPHONE_NUMBER: ObjectIdentifier = padded(*b"\x07\x2B\x06\x01\x01\x0B\x02\x01\0\0\0\0\0\0\0\0\0\0\0\0\0\0\0\0\0\0\0\0\0\0\0\0\0\0\0\0\0\0\0\0");
 /// `vPIMSubMailboxes`: 1.3.6.1.1.11.2.10
-pub const VPIM_SUB_MAILBOXES: ObjectIdentifier = ObjectIdentifier::new_unwrap("1.3.6.1.1.11.2.10");
+pub const VPIM_SUB_MAILBOXES: ObjectIdentifier = padded(*b"\x07\x2B\x06\x01\x01\x0B\x02\x0A\0\0\0\0\0\0\0\0\0\0\0\0\0\0\0\0\0\0\0\0\0\0\0\0\0\0\0\0\0\0\0\0");
 /// `vPIMRfc822Mailbox`: 1.3.6.1.1.11.2.2
-pub const VPIM_RFC_822_MAILBOX: ObjectIdentifier = ObjectIdentifier::new_unwrap("1.3.6.1.1.11.2.2");
+pub const VPIM_RFC_822_MAILBOX: ObjectIdentifier = padded(*b"\x07\x2B\x06\x01\x01\x0B\x02\x02\0\0\0\0\0\0\0\0\0\0\0\0\0\0\0\0\0\0\0\0\0\0\0\0\0\0\0\0\0\0\0\0");
 /// `vPIMSpokenName`: 1.3.6.1.1.11.2.3
-pub const VPIM_SPOKEN_NAME: ObjectIdentifier = ObjectIdentifier::new_unwrap("1.3.6.1.1.11.2.3");
+pub const VPIM_SPOKEN_NAME: ObjectIdentifier = padded(*b"\x07\x2B\x06\x01\x01\x0B\x02\x03\0\0\0\0\0\0\0\0\0\0\0\0\0\0\0\0\0\0\0\0\0\0\0\0\0\0\0\0\0\0\0\0");
 /// `vPIMSupportedUABehaviors`: 1.3.6.1.1.11.2.4
-pub const VPIM_SUPPORTED_UA_BEHAVIORS: ObjectIdentifier = ObjectIdentifier::new_unwrap("1.3.6.1.1.11.2.4");
+pub const VPIM_SUPPORTED_UA_BEHAVIORS: ObjectIdentifier = padded(*b"\x07\x2B\x06\x01\x01\x0B\x02\x04\0\0\0\0\0\0\0\0\0\0\0\0\0\0\0\0\0\0\0\0\0\0\0\0\0\0\0\0\0\0\0\0");
 /// `vPIMSupportedAudioMediaTypes`: 1.3.6.1.1.11.2.5
-pub const VPIM_SUPPORTED_AUDIO_MEDIA_TYPES: ObjectIdentifier = ObjectIdentifier::new_unwrap("1.3.6.1.1.11.2.5");
+pub const VPIM_SUPPORTED_AUDIO_MEDIA_TYPES: ObjectIdentifier = padded(*b"\x07\x2B\x06\x01\x01\x0B\x02\x05\0\0\0\0\0\0\0\0\0\0\0\0\0\0\0\0\0\0\0\0\0\0\0\0\0\0\0\0\0\0\0\0");
 /// `vPIMSupportedMessageContext`: 1.3.6.1.1.11.2.6
-pub const VPIM_SUPPORTED_MESSAGE_CONTEXT: ObjectIdentifier = ObjectIdentifier::new_unwrap("1.3.6.1.1.11.2.6");
+pub const VPIM_SUPPORTED_MESSAGE_CONTEXT: ObjectIdentifier = padded(*b"\x07\x2B\x06\x01\x01\x0B\x02\x06\0\0\0\0\0\0\0\0\0\0\0\0\0\0\0\0\0\0\0\0\0\0\0\0\0\0\0\0\0\0\0\0");
 /// `vPIMTextName`: 1.3.6.1.1.11.2.7
-pub const VPIM_TEXT_NAME: ObjectIdentifier = ObjectIdentifier::new_unwrap("1.3.6.1.1.11.2.7");
+pub const VPIM_TEXT_NAME: ObjectIdentifier = padded(*b"\x07\x2B\x06\x01\x01\x0B\x02\x07\0\0\0\0\0\0\0\0\0\0\0\0\0\0\0\0\0\0\0\0\0\0\0\0\0\0\0\0\0\0\0\0");
 /// `vPIMExtendedAbsenceStatus`: 1.3.6.1.1.11.2.8
-pub const VPIM_EXTENDED_ABSENCE_STATUS: ObjectIdentifier = ObjectIdentifier::new_unwrap("1.3.6.1.1.11.2.8");
+pub const VPIM_EXTENDED_ABSENCE_STATUS: ObjectIdentifier = padded(*b"\x07\x2B\x06\x01\x01\x0B\x02\x08\0\0\0\0\0\0\0\0\0\0\0\0\0\0\0\0\0\0\0\0\0\0\0\0\0\0\0\0\0\0\0\0");
 /// `vPIMMaxMessageSize`: 1.3.6.1.1.11.2.9
-pub const VPIM_MAX_MESSAGE_SIZE: ObjectIdentifier = ObjectIdentifier::new_unwrap("1.3.6.1.1.11.2.9");
+pub const VPIM_MAX_MESSAGE_SIZE: ObjectIdentifier = padded(*b"\x07\x2B\x06\x01\x01\x0B\x02\x09\0\0\0\0\0\0\0\0\0\0\0\0\0\0\0\0\0\0\0\0\0\0\0\0\0\0\0\0\0\0\0\0");
 }
 
 /// Identifiers of [RFC 4403](https://www.rfc-editor.org/rfc/rfc4403).
@@ -1574,140 +1607,141 @@ pub const VPIM_MAX_MESSAGE_SIZE: ObjectIdentifier = ObjectIdentifier::new_unwrap
 /// assert_eq!(const_oid::db::rfc4403::UDDI_BUSINESS_ENTITY_NAME_FORM.to_string(), "1.3.6.1.1.10.15.1");
 /// ```
 pub mod rfc4403 {
+use super::padded;
 use crate::ObjectIdentifier;
 
 /// `uddiBusinessEntityNameForm`: 1.3.6.1.1.10.15.1
-pub const UDDI_BUSINESS_ENTITY_NAME_FORM: ObjectIdentifier = ObjectIdentifier::new_unwrap("1.3.6.1.1.10.15.1");
+pub const UDDI_BUSINESS_ENTITY_NAME_FORM: ObjectIdentifier = padded(*b"\x07\x2B\x06\x01\x01\x0A\x0F\x01\0\0\0\0\0\0\0\0\0\0\0\0\0\0\0\0\0\0\0\0\0\0\0\0\0\0\0\0\0\0\0\0");
 /// `uddiv3EntityObituaryNameForm`: 1.3.6.1.1.10.15.10
-pub const UDDIV_3_ENTITY_OBITUARY_NAME_FORM: ObjectIdentifier = ObjectIdentifier::new_unwrap("1.3.6.1.1.10.15.10");
+pub const UDDIV_3_ENTITY_OBITUARY_NAME_FORM: ObjectIdentifier = padded(*b"\x07\x2B\x06\x01\x01\x0A\x0F\x0A\0\0\0\0\0\0\0\0\0\0\0\0\0\0\0\0\0\0\0\0\0\0\0\0\0\0\0\0\0\0\0\0");
 /// `uddiContactNameForm`: 1.3.6.1.1.10.15.2
-pub const UDDI_CONTACT_NAME_FORM: ObjectIdentifier = ObjectIdentifier::new_unwrap("1.3.6.1.1.10.15.2");
+pub const UDDI_CONTACT_NAME_FORM: ObjectIdentifier = padded(*b"\x07\x2B\x06\x01\x01\x0A\x0F\x02\0\0\0\0\0\0\0\0\0\0\0\0\0\0\0\0\0\0\0\0\0\0\0\0\0\0\0\0\0\0\0\0");
 /// `uddiAddressNameForm`: 1.3.6.1.1.10.15.3
-pub const UDDI_ADDRESS_NAME_FORM: ObjectIdentifier = ObjectIdentifier::new_unwrap("1.3.6.1.1.10.15.3");
+pub const UDDI_ADDRESS_NAME_FORM: ObjectIdentifier = padded(*b"\x07\x2B\x06\x01\x01\x0A\x0F\x03\0\0\0\0\0\0\0\0\0\0\0\0\0\0\0\0\0\0\0\0\0\0\0\0\0\0\0\0\0\0\0\0");
 /// `uddiBusinessServiceNameForm`: 1.3.6.1.1.10.15.4
-pub const UDDI_BUSINESS_SERVICE_NAME_FORM: ObjectIdentifier = ObjectIdentifier::new_unwrap("1.3.6.1.1.10.15.4");
+pub const UDDI_BUSINESS_SERVICE_NAME_FORM: ObjectIdentifier = padded(*b"\x07\x2B\x06\x01\x01\x0A\x0F\x04\0\0\0\0\0\0\0\0\0\0\0\0\0\0\0\0\0\0\0\0\0\0\0\0\0\0\0\0\0\0\0\0");
 /// `uddiBindingTemplateNameForm`: 1.3.6.1.1.10.15.5
-pub const UDDI_BINDING_TEMPLATE_NAME_FORM: ObjectIdentifier = ObjectIdentifier::new_unwrap("1.3.6.1.1.10.15.5");
+pub const UDDI_BINDING_TEMPLATE_NAME_FORM: ObjectIdentifier = padded(*b"\x07\x2B\x06\x01\x01\x0A\x0F\x05\0\0\0\0\0\0\0\0\0\0\0\0\0\0\0\0\0\0\0\0\0\0\0\0\0\0\0\0\0\0\0\0");
 /// `uddiTModelInstanceInfoNameForm`: 1.3.6.1.1.10.15.6
-pub const UDDI_T_MODEL_INSTANCE_INFO_NAME_FORM: ObjectIdentifier = ObjectIdentifier::new_unwrap("1.3.6.1.1.10.15.6");
+pub const UDDI_T_MODEL_INSTANCE_INFO_NAME_FORM: ObjectIdentifier = padded(*b"\x07\x2B\x06\x01\x01\x0A\x0F\x06\0\0\0\0\0\0\0\0\0\0\0\0\0\0\0\0\0\0\0\0\0\0\0\0\0\0\0\0\0\0\0\0");
 /// `uddiTModelNameForm`: 1.3.6.1.1.10.15.7
-pub const UDDI_T_MODEL_NAME_FORM: ObjectIdentifier = ObjectIdentifier::new_unwrap("1.3.6.1.1.10.15.7");
+pub const UDDI_T_MODEL_NAME_FORM: ObjectIdentifier = padded(*b"\x07\x2B\x06\x01\x01\x0A\x0F\x07\0\0\0\0\0\0\0\0\0\0\0\0\0\0\0\0\0\0\0\0\0\0\0\0\0\0\0\0\0\0\0\0");
 /// `uddiPublisherAssertionNameForm`: 1.3.6.1.1.10.15.8
-pub const UDDI_PUBLISHER_ASSERTION_NAME_FORM: ObjectIdentifier = ObjectIdentifier::new_unwrap("1.3.6.1.1.10.15.8");
+pub const UDDI_PUBLISHER_ASSERTION_NAME_FORM: ObjectIdentifier = padded(*b"\x07\x2B\x06\x01\x01\x0A\x0F\x08\0\0\0\0\0\0\0\0\0\0\0\0\0\0\0\0\0\0\0\0\0\0\0\0\0\0\0\0\0\0\0\0");
 /// `uddiv3SubscriptionNameForm`: 1.3.6.1.1.10.15.9
-pub const UDDIV_3_SUBSCRIPTION_NAME_FORM: ObjectIdentifier = ObjectIdentifier::new_unwrap("1.3.6.1.1.10.15.9");
+pub const UDDIV_3_SUBSCRIPTION_NAME_FORM: ObjectIdentifier = padded(*b"\x07\x2B\x06\x01\x01\x0A\x0F\x09\0\0\0\0\0\0\0\0\0\0\0\0\0\0\0\0\0\0\0\0\0\0\0\0\0\0\0\0\0\0\0\0");
 /// `uddiBusinessKey`: 1.3.6.1.1.10.4.1
-pub const UDDI_BUSINESS_KEY: ObjectIdentifier = ObjectIdentifier::new_unwrap("1.3.6.1.1.10.4.1");
+pub const UDDI_BUSINESS_KEY: ObjectIdentifier = padded(*b"\x07\x2B\x06\x01\x01\x0A\x04\x01\0\0\0\0\0\0\0\0\0\0\0\0\0\0\0\0\0\0\0\0\0\0\0\0\0\0\0\0\0\0\0\0");
 /// `uddiEMail`: 1.3.6.1.1.10.4.10
-pub const UDDI_E_MAIL: ObjectIdentifier = ObjectIdentifier::new_unwrap("1.3.6.1.1.10.4.10");
+pub const UDDI_E_MAIL: ObjectIdentifier = padded(*b"\x07\x2B\x06\x01\x01\x0A\x04\x0A\0\0\0\0\0\0\0\0\0\0\0\0\0\0\0\0\0\0\0\0\0\0\0\0\0\0\0\0\0\0\0\0");
 /// `uddiSortCode`: 1.3.6.1.1.10.4.11
-pub const UDDI_SORT_CODE: ObjectIdentifier = ObjectIdentifier::new_unwrap("1.3.6.1.1.10.4.11");
+pub const UDDI_SORT_CODE: ObjectIdentifier = padded(*b"\x07\x2B\x06\x01\x01\x0A\x04\x0B\0\0\0\0\0\0\0\0\0\0\0\0\0\0\0\0\0\0\0\0\0\0\0\0\0\0\0\0\0\0\0\0");
 /// `uddiTModelKey`: 1.3.6.1.1.10.4.12
-pub const UDDI_T_MODEL_KEY: ObjectIdentifier = ObjectIdentifier::new_unwrap("1.3.6.1.1.10.4.12");
+pub const UDDI_T_MODEL_KEY: ObjectIdentifier = padded(*b"\x07\x2B\x06\x01\x01\x0A\x04\x0C\0\0\0\0\0\0\0\0\0\0\0\0\0\0\0\0\0\0\0\0\0\0\0\0\0\0\0\0\0\0\0\0");
 /// `uddiAddressLine`: 1.3.6.1.1.10.4.13
-pub const UDDI_ADDRESS_LINE: ObjectIdentifier = ObjectIdentifier::new_unwrap("1.3.6.1.1.10.4.13");
+pub const UDDI_ADDRESS_LINE: ObjectIdentifier = padded(*b"\x07\x2B\x06\x01\x01\x0A\x04\x0D\0\0\0\0\0\0\0\0\0\0\0\0\0\0\0\0\0\0\0\0\0\0\0\0\0\0\0\0\0\0\0\0");
 /// `uddiIdentifierBag`: 1.3.6.1.1.10.4.14
-pub const UDDI_IDENTIFIER_BAG: ObjectIdentifier = ObjectIdentifier::new_unwrap("1.3.6.1.1.10.4.14");
+pub const UDDI_IDENTIFIER_BAG: ObjectIdentifier = padded(*b"\x07\x2B\x06\x01\x01\x0A\x04\x0E\0\0\0\0\0\0\0\0\0\0\0\0\0\0\0\0\0\0\0\0\0\0\0\0\0\0\0\0\0\0\0\0");
 /// `uddiCategoryBag`: 1.3.6.1.1.10.4.15
-pub const UDDI_CATEGORY_BAG: ObjectIdentifier = ObjectIdentifier::new_unwrap("1.3.6.1.1.10.4.15");
+pub const UDDI_CATEGORY_BAG: ObjectIdentifier = padded(*b"\x07\x2B\x06\x01\x01\x0A\x04\x0F\0\0\0\0\0\0\0\0\0\0\0\0\0\0\0\0\0\0\0\0\0\0\0\0\0\0\0\0\0\0\0\0");
 /// `uddiKeyedReference`: 1.3.6.1.1.10.4.16
-pub const UDDI_KEYED_REFERENCE: ObjectIdentifier = ObjectIdentifier::new_unwrap("1.3.6.1.1.10.4.16");
+pub const UDDI_KEYED_REFERENCE: ObjectIdentifier = padded(*b"\x07\x2B\x06\x01\x01\x0A\x04\x10\0\0\0\0\0\0\0\0\0\0\0\0\0\0\0\0\0\0\0\0\0\0\0\0\0\0\0\0\0\0\0\0");
 /// `uddiServiceKey`: 1.3.6.1.1.10.4.17
-pub const UDDI_SERVICE_KEY: ObjectIdentifier = ObjectIdentifier::new_unwrap("1.3.6.1.1.10.4.17");
+pub const UDDI_SERVICE_KEY: ObjectIdentifier = padded(*b"\x07\x2B\x06\x01\x01\x0A\x04\x11\0\0\0\0\0\0\0\0\0\0\0\0\0\0\0\0\0\0\0\0\0\0\0\0\0\0\0\0\0\0\0\0");
 /// `uddiBindingKey`: 1.3.6.1.1.10.4.18
-pub const UDDI_BINDING_KEY: ObjectIdentifier = ObjectIdentifier::new_unwrap("1.3.6.1.1.10.4.18");
+pub const UDDI_BINDING_KEY: ObjectIdentifier = padded(*b"\x07\x2B\x06\x01\x01\x0A\x04\x12\0\0\0\0\0\0\0\0\0\0\0\0\0\0\0\0\0\0\0\0\0\0\0\0\0\0\0\0\0\0\0\0");
 /// `uddiAccessPoint`: 1.3.6.1.1.10.4.19
-pub const UDDI_ACCESS_POINT: ObjectIdentifier = ObjectIdentifier::new_unwrap("1.3.6.1.1.10.4.19");
+pub const UDDI_ACCESS_POINT: ObjectIdentifier = padded(*b"\x07\x2B\x06\x01\x01\x0A\x04\x13\0\0\0\0\0\0\0\0\0\0\0\0\0\0\0\0\0\0\0\0\0\0\0\0\0\0\0\0\0\0\0\0");
 /// `uddiAuthorizedName`: 1.3.6.1.1.10.4.2
-pub const UDDI_AUTHORIZED_NAME: ObjectIdentifier = ObjectIdentifier::new_unwrap("1.3.6.1.1.10.4.2");
+pub const UDDI_AUTHORIZED_NAME: ObjectIdentifier = padded(*b"\x07\x2B\x06\x01\x01\x0A\x04\x02\0\0\0\0\0\0\0\0\0\0\0\0\0\0\0\0\0\0\0\0\0\0\0\0\0\0\0\0\0\0\0\0");
 /// `uddiHostingRedirector`: 1.3.6.1.1.10.4.20
-pub const UDDI_HOSTING_REDIRECTOR: ObjectIdentifier = ObjectIdentifier::new_unwrap("1.3.6.1.1.10.4.20");
+pub const UDDI_HOSTING_REDIRECTOR: ObjectIdentifier = padded(*b"\x07\x2B\x06\x01\x01\x0A\x04\x14\0\0\0\0\0\0\0\0\0\0\0\0\0\0\0\0\0\0\0\0\0\0\0\0\0\0\0\0\0\0\0\0");
 /// `uddiInstanceDescription`: 1.3.6.1.1.10.4.21
-pub const UDDI_INSTANCE_DESCRIPTION: ObjectIdentifier = ObjectIdentifier::new_unwrap("1.3.6.1.1.10.4.21");
+pub const UDDI_INSTANCE_DESCRIPTION: ObjectIdentifier = padded(*b"\x07\x2B\x06\x01\x01\x0A\x04\x15\0\0\0\0\0\0\0\0\0\0\0\0\0\0\0\0\0\0\0\0\0\0\0\0\0\0\0\0\0\0\0\0");
 /// `uddiInstanceParms`: 1.3.6.1.1.10.4.22
-pub const UDDI_INSTANCE_PARMS: ObjectIdentifier = ObjectIdentifier::new_unwrap("1.3.6.1.1.10.4.22");
+pub const UDDI_INSTANCE_PARMS: ObjectIdentifier = padded(*b"\x07\x2B\x06\x01\x01\x0A\x04\x16\0\0\0\0\0\0\0\0\0\0\0\0\0\0\0\0\0\0\0\0\0\0\0\0\0\0\0\0\0\0\0\0");
 /// `uddiOverviewDescription`: 1.3.6.1.1.10.4.23
-pub const UDDI_OVERVIEW_DESCRIPTION: ObjectIdentifier = ObjectIdentifier::new_unwrap("1.3.6.1.1.10.4.23");
+pub const UDDI_OVERVIEW_DESCRIPTION: ObjectIdentifier = padded(*b"\x07\x2B\x06\x01\x01\x0A\x04\x17\0\0\0\0\0\0\0\0\0\0\0\0\0\0\0\0\0\0\0\0\0\0\0\0\0\0\0\0\0\0\0\0");
 /// `uddiOverviewURL`: 1.3.6.1.1.10.4.24
-pub const UDDI_OVERVIEW_URL: ObjectIdentifier = ObjectIdentifier::new_unwrap("1.3.6.1.1.10.4.24");
+pub const UDDI_OVERVIEW_URL: ObjectIdentifier = padded(*b"\x07\x2B\x06\x01\x01\x0A\x04\x18\0\0\0\0\0\0\0\0\0\0\0\0\0\0\0\0\0\0\0\0\0\0\0\0\0\0\0\0\0\0\0\0");
 /// `uddiFromKey`: 1.3.6.1.1.10.4.25
-pub const UDDI_FROM_KEY: ObjectIdentifier = ObjectIdentifier::new_unwrap("1.3.6.1.1.10.4.25");
+pub const UDDI_FROM_KEY: ObjectIdentifier = padded(*b"\x07\x2B\x06\x01\x01\x0A\x04\x19\0\0\0\0\0\0\0\0\0\0\0\0\0\0\0\0\0\0\0\0\0\0\0\0\0\0\0\0\0\0\0\0");
 /// `uddiToKey`: 1.3.6.1.1.10.4.26
-pub const UDDI_TO_KEY: ObjectIdentifier = ObjectIdentifier::new_unwrap("1.3.6.1.1.10.4.26");
+pub const UDDI_TO_KEY: ObjectIdentifier = padded(*b"\x07\x2B\x06\x01\x01\x0A\x04\x1A\0\0\0\0\0\0\0\0\0\0\0\0\0\0\0\0\0\0\0\0\0\0\0\0\0\0\0\0\0\0\0\0");
 /// `uddiUUID`: 1.3.6.1.1.10.4.27
-pub const UDDI_UUID: ObjectIdentifier = ObjectIdentifier::new_unwrap("1.3.6.1.1.10.4.27");
+pub const UDDI_UUID: ObjectIdentifier = padded(*b"\x07\x2B\x06\x01\x01\x0A\x04\x1B\0\0\0\0\0\0\0\0\0\0\0\0\0\0\0\0\0\0\0\0\0\0\0\0\0\0\0\0\0\0\0\0");
 /// `uddiIsHidden`: 1.3.6.1.1.10.4.28
-pub const UDDI_IS_HIDDEN: ObjectIdentifier = ObjectIdentifier::new_unwrap("1.3.6.1.1.10.4.28");
+pub const UDDI_IS_HIDDEN: ObjectIdentifier = padded(*b"\x07\x2B\x06\x01\x01\x0A\x04\x1C\0\0\0\0\0\0\0\0\0\0\0\0\0\0\0\0\0\0\0\0\0\0\0\0\0\0\0\0\0\0\0\0");
 /// `uddiIsProjection`: 1.3.6.1.1.10.4.29
-pub const UDDI_IS_PROJECTION: ObjectIdentifier = ObjectIdentifier::new_unwrap("1.3.6.1.1.10.4.29");
+pub const UDDI_IS_PROJECTION: ObjectIdentifier = padded(*b"\x07\x2B\x06\x01\x01\x0A\x04\x1D\0\0\0\0\0\0\0\0\0\0\0\0\0\0\0\0\0\0\0\0\0\0\0\0\0\0\0\0\0\0\0\0");
 /// `uddiOperator`: 1.3.6.1.1.10.4.3
-pub const UDDI_OPERATOR: ObjectIdentifier = ObjectIdentifier::new_unwrap("1.3.6.1.1.10.4.3");
+pub const UDDI_OPERATOR: ObjectIdentifier = padded(*b"\x07\x2B\x06\x01\x01\x0A\x04\x03\0\0\0\0\0\0\0\0\0\0\0\0\0\0\0\0\0\0\0\0\0\0\0\0\0\0\0\0\0\0\0\0");
 /// `uddiLang`: 1.3.6.1.1.10.4.30
-pub const UDDI_LANG: ObjectIdentifier = ObjectIdentifier::new_unwrap("1.3.6.1.1.10.4.30");
+pub const UDDI_LANG: ObjectIdentifier = padded(*b"\x07\x2B\x06\x01\x01\x0A\x04\x1E\0\0\0\0\0\0\0\0\0\0\0\0\0\0\0\0\0\0\0\0\0\0\0\0\0\0\0\0\0\0\0\0");
 /// `uddiv3BusinessKey`: 1.3.6.1.1.10.4.31
-pub const UDDIV_3_BUSINESS_KEY: ObjectIdentifier = ObjectIdentifier::new_unwrap("1.3.6.1.1.10.4.31");
+pub const UDDIV_3_BUSINESS_KEY: ObjectIdentifier = padded(*b"\x07\x2B\x06\x01\x01\x0A\x04\x1F\0\0\0\0\0\0\0\0\0\0\0\0\0\0\0\0\0\0\0\0\0\0\0\0\0\0\0\0\0\0\0\0");
 /// `uddiv3ServiceKey`: 1.3.6.1.1.10.4.32
-pub const UDDIV_3_SERVICE_KEY: ObjectIdentifier = ObjectIdentifier::new_unwrap("1.3.6.1.1.10.4.32");
+pub const UDDIV_3_SERVICE_KEY: ObjectIdentifier = padded(*b"\x07\x2B\x06\x01\x01\x0A\x04\x20\0\0\0\0\0\0\0\0\0\0\0\0\0\0\0\0\0\0\0\0\0\0\0\0\0\0\0\0\0\0\0\0");
 /// `uddiv3BindingKey`: 1.3.6.1.1.10.4.33
-pub const UDDIV_3_BINDING_KEY: ObjectIdentifier = ObjectIdentifier::new_unwrap("1.3.6.1.1.10.4.33");
+pub const UDDIV_3_BINDING_KEY: ObjectIdentifier = padded(*b"\x07\x2B\x06\x01\x01\x0A\x04\x21\0\0\0\0\0\0\0\0\0\0\0\0\0\0\0\0\0\0\0\0\0\0\0\0\0\0\0\0\0\0\0\0");
 /// `uddiv3TmodelKey`: 1.3.6.1.1.10.4.34
-pub const UDDIV_3_TMODEL_KEY: ObjectIdentifier = ObjectIdentifier::new_unwrap("1.3.6.1.1.10.4.34");
+pub const UDDIV_3_TMODEL_KEY: ObjectIdentifier = padded(*b"\x07\x2B\x06\x01\x01\x0A\x04\x22\0\0\0\0\0\0\0\0\0\0\0\0\0\0\0\0\0\0\0\0\0\0\0\0\0\0\0\0\0\0\0\0");
 /// `uddiv3DigitalSignature`: 1.3.6.1.1.10.4.35
-pub const UDDIV_3_DIGITAL_SIGNATURE: ObjectIdentifier = ObjectIdentifier::new_unwrap("1.3.6.1.1.10.4.35");
+pub const UDDIV_3_DIGITAL_SIGNATURE: ObjectIdentifier = padded(*b"\x07\x2B\x06\x01\x01\x0A\x04\x23\0\0\0\0\0\0\0\0\0\0\0\0\0\0\0\0\0\0\0\0\0\0\0\0\0\0\0\0\0\0\0\0");
 /// `uddiv3NodeId`: 1.3.6.1.1.10.4.36
-pub const UDDIV_3_NODE_ID: ObjectIdentifier = ObjectIdentifier::new_unwrap("1.3.6.1.1.10.4.36");
+pub const UDDIV_3_NODE_ID: ObjectIdentifier = padded(*b"\x07\x2B\x06\x01\x01\x0A\x04\x24\0\0\0\0\0\0\0\0\0\0\0\0\0\0\0\0\0\0\0\0\0\0\0\0\0\0\0\0\0\0\0\0");
 /// `uddiv3EntityModificationTime`: 1.3.6.1.1.10.4.37
-pub const UDDIV_3_ENTITY_MODIFICATION_TIME: ObjectIdentifier = ObjectIdentifier::new_unwrap("1.3.6.1.1.10.4.37");
+pub const UDDIV_3_ENTITY_MODIFICATION_TIME: ObjectIdentifier = padded(*b"\x07\x2B\x06\x01\x01\x0A\x04\x25\0\0\0\0\0\0\0\0\0\0\0\0\0\0\0\0\0\0\0\0\0\0\0\0\0\0\0\0\0\0\0\0");
 /// `uddiv3SubscriptionKey`: 1.3.6.1.1.10.4.38
-pub const UDDIV_3_SUBSCRIPTION_KEY: ObjectIdentifier = ObjectIdentifier::new_unwrap("1.3.6.1.1.10.4.38");
+pub const UDDIV_3_SUBSCRIPTION_KEY: ObjectIdentifier = padded(*b"\x07\x2B\x06\x01\x01\x0A\x04\x26\0\0\0\0\0\0\0\0\0\0\0\0\0\0\0\0\0\0\0\0\0\0\0\0\0\0\0\0\0\0\0\0");
 /// `uddiv3SubscriptionFilter`: 1.3.6.1.1.10.4.39
-pub const UDDIV_3_SUBSCRIPTION_FILTER: ObjectIdentifier = ObjectIdentifier::new_unwrap("1.3.6.1.1.10.4.39");
+pub const UDDIV_3_SUBSCRIPTION_FILTER: ObjectIdentifier = padded(*b"\x07\x2B\x06\x01\x01\x0A\x04\x27\0\0\0\0\0\0\0\0\0\0\0\0\0\0\0\0\0\0\0\0\0\0\0\0\0\0\0\0\0\0\0\0");
 /// `uddiName`: 1.3.6.1.1.10.4.4
-pub const UDDI_NAME: ObjectIdentifier = ObjectIdentifier::new_unwrap("1.3.6.1.1.10.4.4");
+pub const UDDI_NAME: ObjectIdentifier = padded(*b"\x07\x2B\x06\x01\x01\x0A\x04\x04\0\0\0\0\0\0\0\0\0\0\0\0\0\0\0\0\0\0\0\0\0\0\0\0\0\0\0\0\0\0\0\0");
 /// `uddiv3NotificationInterval`: 1.3.6.1.1.10.4.40
-pub const UDDIV_3_NOTIFICATION_INTERVAL: ObjectIdentifier = ObjectIdentifier::new_unwrap("1.3.6.1.1.10.4.40");
+pub const UDDIV_3_NOTIFICATION_INTERVAL: ObjectIdentifier = padded(*b"\x07\x2B\x06\x01\x01\x0A\x04\x28\0\0\0\0\0\0\0\0\0\0\0\0\0\0\0\0\0\0\0\0\0\0\0\0\0\0\0\0\0\0\0\0");
 /// `uddiv3MaxEntities`: 1.3.6.1.1.10.4.41
-pub const UDDIV_3_MAX_ENTITIES: ObjectIdentifier = ObjectIdentifier::new_unwrap("1.3.6.1.1.10.4.41");
+pub const UDDIV_3_MAX_ENTITIES: ObjectIdentifier = padded(*b"\x07\x2B\x06\x01\x01\x0A\x04\x29\0\0\0\0\0\0\0\0\0\0\0\0\0\0\0\0\0\0\0\0\0\0\0\0\0\0\0\0\0\0\0\0");
 /// `uddiv3ExpiresAfter`: 1.3.6.1.1.10.4.42
-pub const UDDIV_3_EXPIRES_AFTER: ObjectIdentifier = ObjectIdentifier::new_unwrap("1.3.6.1.1.10.4.42");
+pub const UDDIV_3_EXPIRES_AFTER: ObjectIdentifier = padded(*b"\x07\x2B\x06\x01\x01\x0A\x04\x2A\0\0\0\0\0\0\0\0\0\0\0\0\0\0\0\0\0\0\0\0\0\0\0\0\0\0\0\0\0\0\0\0");
 /// `uddiv3BriefResponse`: 1.3.6.1.1.10.4.43
-pub const UDDIV_3_BRIEF_RESPONSE: ObjectIdentifier = ObjectIdentifier::new_unwrap("1.3.6.1.1.10.4.43");
+pub const UDDIV_3_BRIEF_RESPONSE: ObjectIdentifier = padded(*b"\x07\x2B\x06\x01\x01\x0A\x04\x2B\0\0\0\0\0\0\0\0\0\0\0\0\0\0\0\0\0\0\0\0\0\0\0\0\0\0\0\0\0\0\0\0");
 /// `uddiv3EntityKey`: 1.3.6.1.1.10.4.44
-pub const UDDIV_3_ENTITY_KEY: ObjectIdentifier = ObjectIdentifier::new_unwrap("1.3.6.1.1.10.4.44");
+pub const UDDIV_3_ENTITY_KEY: ObjectIdentifier = padded(*b"\x07\x2B\x06\x01\x01\x0A\x04\x2C\0\0\0\0\0\0\0\0\0\0\0\0\0\0\0\0\0\0\0\0\0\0\0\0\0\0\0\0\0\0\0\0");
 /// `uddiv3EntityCreationTime`: 1.3.6.1.1.10.4.45
-pub const UDDIV_3_ENTITY_CREATION_TIME: ObjectIdentifier = ObjectIdentifier::new_unwrap("1.3.6.1.1.10.4.45");
+pub const UDDIV_3_ENTITY_CREATION_TIME: ObjectIdentifier = padded(*b"\x07\x2B\x06\x01\x01\x0A\x04\x2D\0\0\0\0\0\0\0\0\0\0\0\0\0\0\0\0\0\0\0\0\0\0\0\0\0\0\0\0\0\0\0\0");
 /// `uddiv3EntityDeletionTime`: 1.3.6.1.1.10.4.46
-pub const UDDIV_3_ENTITY_DELETION_TIME: ObjectIdentifier = ObjectIdentifier::new_unwrap("1.3.6.1.1.10.4.46");
+pub const UDDIV_3_ENTITY_DELETION_TIME: ObjectIdentifier = padded(*b"\x07\x2B\x06\x01\x01\x0A\x04\x2E\0\0\0\0\0\0\0\0\0\0\0\0\0\0\0\0\0\0\0\0\0\0\0\0\0\0\0\0\0\0\0\0");
 /// `uddiDescription`: 1.3.6.1.1.10.4.5
-pub const UDDI_DESCRIPTION: ObjectIdentifier = ObjectIdentifier::new_unwrap("1.3.6.1.1.10.4.5");
+pub const UDDI_DESCRIPTION: ObjectIdentifier = padded(*b"\x07\x2B\x06\x01\x01\x0A\x04\x05\0\0\0\0\0\0\0\0\0\0\0\0\0\0\0\0\0\0\0\0\0\0\0\0\0\0\0\0\0\0\0\0");
 /// `uddiDiscoveryURLs`: 1.3.6.1.1.10.4.6
-pub const UDDI_DISCOVERY_UR_LS: ObjectIdentifier = ObjectIdentifier::new_unwrap("1.3.6.1.1.10.4.6");
+pub const UDDI_DISCOVERY_UR_LS: ObjectIdentifier = padded(*b"\x07\x2B\x06\x01\x01\x0A\x04\x06\0\0\0\0\0\0\0\0\0\0\0\0\0\0\0\0\0\0\0\0\0\0\0\0\0\0\0\0\0\0\0\0");
 /// `uddiUseType`: 1.3.6.1.1.10.4.7
-pub const UDDI_USE_TYPE: ObjectIdentifier = ObjectIdentifier::new_unwrap("1.3.6.1.1.10.4.7");
+pub const UDDI_USE_TYPE: ObjectIdentifier = padded(*b"\x07\x2B\x06\x01\x01\x0A\x04\x07\0\0\0\0\0\0\0\0\0\0\0\0\0\0\0\0\0\0\0\0\0\0\0\0\0\0\0\0\0\0\0\0");
 /// `uddiPersonName`: 1.3.6.1.1.10.4.8
-pub const UDDI_PERSON_NAME: ObjectIdentifier = ObjectIdentifier::new_unwrap("1.3.6.1.1.10.4.8");
+pub const UDDI_PERSON_NAME: ObjectIdentifier = padded(*b"\x07\x2B\x06\x01\x01\x0A\x04\x08\0\0\0\0\0\0\0\0\0\0\0\0\0\0\0\0\0\0\0\0\0\0\0\0\0\0\0\0\0\0\0\0");
 /// `uddiPhone`: 1.3.6.1.1.10.4.9
-pub const UDDI_PHONE: ObjectIdentifier = ObjectIdentifier::new_unwrap("1.3.6.1.1.10.4.9");
+pub const UDDI_PHONE: ObjectIdentifier = padded(*b"\x07\x2B\x06\x01\x01\x0A\x04\x09\0\0\0\0\0\0\0\0\0\0\0\0\0\0\0\0\0\0\0\0\0\0\0\0\0\0\0\0\0\0\0\0");
 /// `uddiBusinessEntity`: 1.3.6.1.1.10.6.1
-pub const UDDI_BUSINESS_ENTITY: ObjectIdentifier = ObjectIdentifier::new_unwrap("1.3.6.1.1.10.6.1");
+pub const UDDI_BUSINESS_ENTITY: ObjectIdentifier = padded(*b"\x07\x2B\x06\x01\x01\x0A\x06\x01\0\0\0\0\0\0\0\0\0\0\0\0\0\0\0\0\0\0\0\0\0\0\0\0\0\0\0\0\0\0\0\0");
 /// `uddiv3EntityObituary`: 1.3.6.1.1.10.6.10
-pub const UDDIV_3_ENTITY_OBITUARY: ObjectIdentifier = ObjectIdentifier::new_unwrap("1.3.6.1.1.10.6.10");
+pub const UDDIV_3_ENTITY_OBITUARY: ObjectIdentifier = padded(*b"\x07\x2B\x06\x01\x01\x0A\x06\x0A\0\0\0\0\0\0\0\0\0\0\0\0\0\0\0\0\0\0\0\0\0\0\0\0\0\0\0\0\0\0\0\0");
 /// `uddiContact`: 1.3.6.1.1.10.6.2
-pub const UDDI_CONTACT: ObjectIdentifier = ObjectIdentifier::new_unwrap("1.3.6.1.1.10.6.2");
+pub const UDDI_CONTACT: ObjectIdentifier = padded(*b"\x07\x2B\x06\x01\x01\x0A\x06\x02\0\0\0\0\0\0\0\0\0\0\0\0\0\0\0\0\0\0\0\0\0\0\0\0\0\0\0\0\0\0\0\0");
 /// `uddiAddress`: 1.3.6.1.1.10.6.3
-pub const UDDI_ADDRESS: ObjectIdentifier = ObjectIdentifier::new_unwrap("1.3.6.1.1.10.6.3");
+pub const UDDI_ADDRESS: ObjectIdentifier = padded(*b"\x07\x2B\x06\x01\x01\x0A\x06\x03\0\0\0\0\0\0\0\0\0\0\0\0\0\0\0\0\0\0\0\0\0\0\0\0\0\0\0\0\0\0\0\0");
 /// `uddiBusinessService`: 1.3.6.1.1.10.6.4
-pub const UDDI_BUSINESS_SERVICE: ObjectIdentifier = ObjectIdentifier::new_unwrap("1.3.6.1.1.10.6.4");
+pub const UDDI_BUSINESS_SERVICE: ObjectIdentifier = padded(*b"\x07\x2B\x06\x01\x01\x0A\x06\x04\0\0\0\0\0\0\0\0\0\0\0\0\0\0\0\0\0\0\0\0\0\0\0\0\0\0\0\0\0\0\0\0");
 /// `uddiBindingTemplate`: 1.3.6.1.1.10.6.5
-pub const UDDI_BINDING_TEMPLATE: ObjectIdentifier = ObjectIdentifier::new_unwrap("1.3.6.1.1.10.6.5");
+pub const UDDI_BINDING_TEMPLATE: ObjectIdentifier = padded(*b"\x07\x2B\x06\x01\x01\x0A\x06\x05\0\0\0\0\0\0\0\0\0\0\0\0\0\0\0\0\0\0\0\0\0\0\0\0\0\0\0\0\0\0\0\0");
 /// `uddiTModelInstanceInfo`: 1.3.6.1.1.10.6.6
-pub const UDDI_T_MODEL_INSTANCE_INFO: ObjectIdentifier = ObjectIdentifier::new_unwrap("1.3.6.1.1.10.6.6");
+pub const UDDI_T_MODEL_INSTANCE_INFO: ObjectIdentifier = padded(*b"\x07\x2B\x06\x01\x01\x0A\x06\x06\0\0\0\0\0\0\0\0\0\0\0\0\0\0\0\0\0\0\0\0\0\0\0\0\0\0\0\0\0\0\0\0");
 /// `uddiTModel`: 1.3.6.1.1.10.6.7
-pub const UDDI_T_MODEL: ObjectIdentifier = ObjectIdentifier::new_unwrap("1.3.6.1.1.10.6.7");
+pub const UDDI_T_MODEL: ObjectIdentifier = padded(*b"\x07\x2B\x06\x01\x01\x0A\x06\x07\0\0\0\0\0\0\0\0\0\0\0\0\0\0\0\0\0\0\0\0\0\0\0\0\0\0\0\0\0\0\0\0");
 /// `uddiPublisherAssertion`: 1.3.6.1.1.10.6.8
-pub const UDDI_PUBLISHER_ASSERTION: ObjectIdentifier = ObjectIdentifier::new_unwrap("1.3.6.1.1.10.6.8");
+pub const UDDI_PUBLISHER_ASSERTION: ObjectIdentifier = padded(*b"\x07\x2B\x06\x01\x01\x0A\x06\x08\0\0\0\0\0\0\0\0\0\0\0\0\0\0\0\0\0\0\0\0\0\0\0\0\0\0\0\0\0\0\0\0");
 /// `uddiv3Subscription`: 1.3.6.1.1.10.6.9
-pub const UDDIV_3_SUBSCRIPTION: ObjectIdentifier = ObjectIdentifier::new_unwrap("1.3.6.1.1.10.6.9");
+pub const UDDIV_3_SUBSCRIPTION: ObjectIdentifier = padded(*b"\x07\x2B\x06\x01\x01\x0A\x06\x09\0\0\0\0\0\0\0\0\0\0\0\0\0\0\0\0\0\0\0\0\0\0\0\0\0\0\0\0\0\0\0\0");
 }
 
 /// Identifiers of [RFC 4512](https://www.rfc-editor.org/rfc/rfc4512).
@@ -1718,64 +1752,65 @@ pub const UDDIV_3_SUBSCRIPTION: ObjectIdentifier = ObjectIdentifier::new_unwrap(
 /// assert_eq!(const_oid::db::rfc4512::EXTENSIBLE_OBJECT.to_string(), "1.3.6.1.4.1.1466.101.120.111");
 /// ```
 pub mod rfc4512 {
+use super::padded;
 use crate::ObjectIdentifier;
 
 /// `extensibleObject`: 1.3.6.1.4.1.1466.101.120.111
-pub const EXTENSIBLE_OBJECT: ObjectIdentifier = ObjectIdentifier::new_unwrap("1.3.6.1.4.1.1466.101.120.111");
+pub const EXTENSIBLE_OBJECT: ObjectIdentifier = padded(*b"\x0A\x2B\x06\x01\x04\x01\x8B\x3A\x65\x78\x6F\0\0\0\0\0\0\0\0\0\0\0\0\0\0\0\0\0\0\0\0\0\0\0\0\0\0\0\0\0");
 /// `supportedControl`: 1.3.6.1.4.1.1466.101.120.13
-pub const SUPPORTED_CONTROL: ObjectIdentifier = ObjectIdentifier::new_unwrap("1.3.6.1.4.1.1466.101.120.13");
+pub const SUPPORTED_CONTROL: ObjectIdentifier = padded(*b"\x0A\x2B\x06\x01\x04\x01\x8B\x3A\x65\x78\x0D\0\0\0\0\0\0\0\0\0\0\0\0\0\0\0\0\0\0\0\0\0\0\0\0\0\0\0\0\0");
 /// `supportedSASLMechanisms`: 1.3.6.1.4.1.1466.101.120.14
-pub const SUPPORTED_SASL_MECHANISMS: ObjectIdentifier = ObjectIdentifier::new_unwrap("1.3.6.1.4.1.1466.101.120.14");
+pub const SUPPORTED_SASL_MECHANISMS: ObjectIdentifier = padded(*b"\x0A\x2B\x06\x01\x04\x01\x8B\x3A\x65\x78\x0E\0\0\0\0\0\0\0\0\0\0\0\0\0\0\0\0\0\0\0\0\0\0\0\0\0\0\0\0\0");
 /// `supportedLDAPVersion`: 1.3.6.1.4.1.1466.101.120.15
-pub const SUPPORTED_LDAP_VERSION: ObjectIdentifier = ObjectIdentifier::new_unwrap("1.3.6.1.4.1.1466.101.120.15");
+pub const SUPPORTED_LDAP_VERSION: ObjectIdentifier = padded(*b"\x0A\x2B\x06\x01\x04\x01\x8B\x3A\x65\x78\x0F\0\0\0\0\0\0\0\0\0\0\0\0\0\0\0\0\0\0\0\0\0\0\0\0\0\0\0\0\0");
 /// `ldapSyntaxes`: 1.3.6.1.4.1.1466.101.120.16
-pub const LDAP_SYNTAXES: ObjectIdentifier = ObjectIdentifier::new_unwrap("1.3.6.1.4.1.1466.101.120.16");
+pub const LDAP_SYNTAXES: ObjectIdentifier = padded(*b"\x0A\x2B\x06\x01\x04\x01\x8B\x3A\x65\x78\x10\0\0\0\0\0\0\0\0\0\0\0\0\0\0\0\0\0\0\0\0\0\0\0\0\0\0\0\0\0");
 /// `namingContexts`: 1.3.6.1.4.1.1466.101.120.5
-pub const NAMING_CONTEXTS: ObjectIdentifier = ObjectIdentifier::new_unwrap("1.3.6.1.4.1.1466.101.120.5");
+pub const NAMING_CONTEXTS: ObjectIdentifier = padded(*b"\x0A\x2B\x06\x01\x04\x01\x8B\x3A\x65\x78\x05\0\0\0\0\0\0\0\0\0\0\0\0\0\0\0\0\0\0\0\0\0\0\0\0\0\0\0\0\0");
 /// `altServer`: 1.3.6.1.4.1.1466.101.120.6
-pub const ALT_SERVER: ObjectIdentifier = ObjectIdentifier::new_unwrap("1.3.6.1.4.1.1466.101.120.6");
+pub const ALT_SERVER: ObjectIdentifier = padded(*b"\x0A\x2B\x06\x01\x04\x01\x8B\x3A\x65\x78\x06\0\0\0\0\0\0\0\0\0\0\0\0\0\0\0\0\0\0\0\0\0\0\0\0\0\0\0\0\0");
 /// `supportedExtension`: 1.3.6.1.4.1.1466.101.120.7
-pub const SUPPORTED_EXTENSION: ObjectIdentifier = ObjectIdentifier::new_unwrap("1.3.6.1.4.1.1466.101.120.7");
+pub const SUPPORTED_EXTENSION: ObjectIdentifier = padded(*b"\x0A\x2B\x06\x01\x04\x01\x8B\x3A\x65\x78\x07\0\0\0\0\0\0\0\0\0\0\0\0\0\0\0\0\0\0\0\0\0\0\0\0\0\0\0\0\0");
 /// `supportedFeatures`: 1.3.6.1.4.1.4203.1.3.5
-pub const SUPPORTED_FEATURES: ObjectIdentifier = ObjectIdentifier::new_unwrap("1.3.6.1.4.1.4203.1.3.5");
+pub const SUPPORTED_FEATURES: ObjectIdentifier = padded(*b"\x0A\x2B\x06\x01\x04\x01\xA0\x6B\x01\x03\x05\0\0\0\0\0\0\0\0\0\0\0\0\0\0\0\0\0\0\0\0\0\0\0\0\0\0\0\0\0");
 /// `createTimestamp`: 2.5.18.1
-pub const CREATE_TIMESTAMP: ObjectIdentifier = ObjectIdentifier::new_unwrap("2.5.18.1");
+pub const CREATE_TIMESTAMP: ObjectIdentifier = padded(*b"\x03\x55\x12\x01\0\0\0\0\0\0\0\0\0\0\0\0\0\0\0\0\0\0\0\0\0\0\0\0\0\0\0\0\0\0\0\0\0\0\0\0");
 /// `subschemaSubentry`: 2.5.18.10
-pub const SUBSCHEMA_SUBENTRY: ObjectIdentifier = ObjectIdentifier::new_unwrap("2.5.18.10");
+pub const SUBSCHEMA_SUBENTRY: ObjectIdentifier = padded(*b"\x03\x55\x12\x0A\0\0\0\0\0\0\0\0\0\0\0\0\0\0\0\0\0\0\0\0\0\0\0\0\0\0\0\0\0\0\0\0\0\0\0\0");
 /// `modifyTimestamp`: 2.5.18.2
-pub const MODIFY_TIMESTAMP: ObjectIdentifier = ObjectIdentifier::new_unwrap("2.5.18.2");
+pub const MODIFY_TIMESTAMP: ObjectIdentifier = padded(*b"\x03\x55\x12\x02\0\0\0\0\0\0\0\0\0\0\0\0\0\0\0\0\0\0\0\0\0\0\0\0\0\0\0\0\0\0\0\0\0\0\0\0");
 /// `creatorsName`: 2.5.18.3
-pub const CREATORS_NAME: ObjectIdentifier = ObjectIdentifier::new_unwrap("2.5.18.3");
+pub const CREATORS_NAME: ObjectIdentifier = padded(*b"\x03\x55\x12\x03\0\0\0\0\0\0\0\0\0\0\0\0\0\0\0\0\0\0\0\0\0\0\0\0\0\0\0\0\0\0\0\0\0\0\0\0");
 /// `modifiersName`: 2.5.18.4
-pub const MODIFIERS_NAME: ObjectIdentifier = ObjectIdentifier::new_unwrap("2.5.18.4");
+pub const MODIFIERS_NAME: ObjectIdentifier = padded(*b"\x03\x55\x12\x04\0\0\0\0\0\0\0\0\0\0\0\0\0\0\0\0\0\0\0\0\0\0\0\0\0\0\0\0\0\0\0\0\0\0\0\0");
 /// `subschema`: 2.5.20.1
-pub const SUBSCHEMA: ObjectIdentifier = ObjectIdentifier::new_unwrap("2.5.20.1");
+pub const SUBSCHEMA: ObjectIdentifier = padded(*b"\x03\x55\x14\x01\0\0\0\0\0\0\0\0\0\0\0\0\0\0\0\0\0\0\0\0\0\0\0\0\0\0\0\0\0\0\0\0\0\0\0\0");
 /// `dITStructureRules`: 2.5.21.1
-pub const DIT_STRUCTURE_RULES: ObjectIdentifier = ObjectIdentifier::new_unwrap("2.5.21.1");
+pub const DIT_STRUCTURE_RULES: ObjectIdentifier = padded(*b"\x03\x55\x15\x01\0\0\0\0\0\0\0\0\0\0\0\0\0\0\0\0\0\0\0\0\0\0\0\0\0\0\0\0\0\0\0\0\0\0\0\0");
 /// `governingStructureRule`: 2.5.21.10
-pub const GOVERNING_STRUCTURE_RULE: ObjectIdentifier = ObjectIdentifier::new_unwrap("2.5.21.10");
+pub const GOVERNING_STRUCTURE_RULE: ObjectIdentifier = padded(*b"\x03\x55\x15\x0A\0\0\0\0\0\0\0\0\0\0\0\0\0\0\0\0\0\0\0\0\0\0\0\0\0\0\0\0\0\0\0\0\0\0\0\0");
 /// `dITContentRules`: 2.5.21.2
-pub const DIT_CONTENT_RULES: ObjectIdentifier = ObjectIdentifier::new_unwrap("2.5.21.2");
+pub const DIT_CONTENT_RULES: ObjectIdentifier = padded(*b"\x03\x55\x15\x02\0\0\0\0\0\0\0\0\0\0\0\0\0\0\0\0\0\0\0\0\0\0\0\0\0\0\0\0\0\0\0\0\0\0\0\0");
 /// `matchingRules`: 2.5.21.4
-pub const MATCHING_RULES: ObjectIdentifier = ObjectIdentifier::new_unwrap("2.5.21.4");
+pub const MATCHING_RULES: ObjectIdentifier = padded(*b"\x03\x55\x15\x04\0\0\0\0\0\0\0\0\0\0\0\0\0\0\0\0\0\0\0\0\0\0\0\0\0\0\0\0\0\0\0\0\0\0\0\0");
 /// `attributeTypes`: 2.5.21.5
-pub const ATTRIBUTE_TYPES: ObjectIdentifier = ObjectIdentifier::new_unwrap("2.5.21.5");
+pub const ATTRIBUTE_TYPES: ObjectIdentifier = padded(*b"\x03\x55\x15\x05\0\0\0\0\0\0\0\0\0\0\0\0\0\0\0\0\0\0\0\0\0\0\0\0\0\0\0\0\0\0\0\0\0\0\0\0");
 /// `objectClasses`: 2.5.21.6
-pub const OBJECT_CLASSES: ObjectIdentifier = ObjectIdentifier::new_unwrap("2.5.21.6");
+pub const OBJECT_CLASSES: ObjectIdentifier = padded(*b"\x03\x55\x15\x06\0\0\0\0\0\0\0\0\0\0\0\0\0\0\0\0\0\0\0\0\0\0\0\0\0\0\0\0\0\0\0\0\0\0\0\0");
 /// `nameForms`: 2.5.21.7
-pub const NAME_FORMS: ObjectIdentifier = ObjectIdentifier::new_unwrap("2.5.21.7");
+pub const NAME_FORMS: ObjectIdentifier = padded(*b"\x03\x55\x15\x07\0\0\0\0\0\0\0\0\0\0\0\0\0\0\0\0\0\0\0\0\0\0\0\0\0\0\0\0\0\0\0\0\0\0\0\0");
 /// `matchingRuleUse`: 2.5.21.8
-pub const MATCHING_RULE_USE: ObjectIdentifier = ObjectIdentifier::new_unwrap("2.5.21.8");
+pub const MATCHING_RULE_USE: ObjectIdentifier = padded(*b"\x03\x55\x15\x08\0\0\0\0\0\0\0\0\0\0\0\0\0\0\0\0\0\0\0\0\0\0\0\0\0\0\0\0\0\0\0\0\0\0\0\0");
 /// `structuralObjectClass`: 2.5.21.9
-pub const STRUCTURAL_OBJECT_CLASS: ObjectIdentifier = ObjectIdentifier::new_unwrap("2.5.21.9");
+pub const STRUCTURAL_OBJECT_CLASS: ObjectIdentifier = padded(*b"\x03\x55\x15\x09\0\0\0\0\0\0\0\0\0\0\0\0\0\0\0\0\0\0\0\0\0\0\0\0\0\0\0\0\0\0\0\0\0\0\0\0");
 /// `objectClass`: 2.5.4.0
-pub const OBJECT_CLASS: ObjectIdentifier = ObjectIdentifier::new_unwrap("2.5.4.0");
+pub const OBJECT_CLASS: ObjectIdentifier = padded(*b"\x03\x55\x04\x00\0\0\0\0\0\0\0\0\0\0\0\0\0\0\0\0\0\0\0\0\0\0\0\0\0\0\0\0\0\0\0\0\0\0\0\0");
 /// `aliasedObjectName`: 2.5.4.1
-pub const ALIASED_OBJECT_NAME: ObjectIdentifier = ObjectIdentifier::new_unwrap("2.5.4.1");
+pub const ALIASED_OBJECT_NAME: ObjectIdentifier = padded(*b"\x03\x55\x04\x01\0\0\0\0\0\0\0\0\0\0\0\0\0\0\0\0\0\0\0\0\0\0\0\0\0\0\0\0\0\0\0\0\0\0\0\0");
 /// `top`: 2.5.6.0
-pub const TOP: ObjectIdentifier = ObjectIdentifier::new_unwrap("2.5.6.0");
+pub const TOP: ObjectIdentifier = padded(*b"\x03\x55\x06\x00\0\0\0\0\0\0\0\0\0\0\0\0\0\0\0\0\0\0\0\0\0\0\0\0\0\0\0\0\0\0\0\0\0\0\0\0");
 /// `alias`: 2.5.6.1
-pub const ALIAS: ObjectIdentifier = ObjectIdentifier::new_unwrap("2.5.6.1");
+pub const ALIAS: ObjectIdentifier = padded(*b"\x03\x55\x06\x01\0\0\0\0\0\0\0\0\0\0\0\0\0\0\0\0\0\0\0\0\0\0\0\0\0\0\0\0\0\0\0\0\0\0\0\0");
 }
 
 /// Identifiers of [RFC 4517](https://www.rfc-editor.org/rfc/rfc4517).
@@ -1786,72 +1821,73 @@ pub const ALIAS: ObjectIdentifier = ObjectIdentifier::new_unwrap("2.5.6.1");
 /// assert_eq!(const_oid::db::rfc4517::CASE_EXACT_IA_5_MATCH.to_string(), "1.3.6.1.4.1.1466.109.114.1");
 /// ```
 pub mod rfc4517 {
+use super::padded;
 use crate::ObjectIdentifier;
 
 /// `caseExactIA5Match`: 1.3.6.1.4.1.1466.109.114.1
-pub const CASE_EXACT_IA_5_MATCH: ObjectIdentifier = ObjectIdentifier::new_unwrap("1.3.6.1.4.1.1466.109.114.1");
+pub const CASE_EXACT_IA_5_MATCH: ObjectIdentifier = padded(*b"\x0A\x2B\x06\x01\x04\x01\x8B\x3A\x6D\x72\x01\0\0\0\0\0\0\0\0\0\0\0\0\0\0\0\0\0\0\0\0\0\0\0\0\0\0\0\0\0");
 /// `caseIgnoreIA5Match`: 1.3.6.1.4.1.1466.109.114.2
-pub const CASE_IGNORE_IA_5_MATCH: ObjectIdentifier = ObjectIdentifier::new_unwrap("1.3.6.1.4.1.1466.109.114.2");
+pub const CASE_IGNORE_IA_5_MATCH: ObjectIdentifier = padded(*b"\x0A\x2B\x06\x01\x04\x01\x8B\x3A\x6D\x72\x02\0\0\0\0\0\0\0\0\0\0\0\0\0\0\0\0\0\0\0\0\0\0\0\0\0\0\0\0\0");
 /// `caseIgnoreIA5SubstringsMatch`: 1.3.6.1.4.1.1466.109.114.3
-pub const CASE_IGNORE_IA_5_SUBSTRINGS_MATCH: ObjectIdentifier = ObjectIdentifier::new_unwrap("1.3.6.1.4.1.1466.109.114.3");
+pub const CASE_IGNORE_IA_5_SUBSTRINGS_MATCH: ObjectIdentifier = padded(*b"\x0A\x2B\x06\x01\x04\x01\x8B\x3A\x6D\x72\x03\0\0\0\0\0\0\0\0\0\0\0\0\0\0\0\0\0\0\0\0\0\0\0\0\0\0\0\0\0");
 /// `objectIdentifierMatch`: 2.5.13.0
-pub const OBJECT_IDENTIFIER_MATCH: ObjectIdentifier = ObjectIdentifier::new_unwrap("2.5.13.0");
+pub const OBJECT_IDENTIFIER_MATCH: ObjectIdentifier = padded(*b"\x03\x55\x0D\x00\0\0\0\0\0\0\0\0\0\0\0\0\0\0\0\0\0\0\0\0\0\0\0\0\0\0\0\0\0\0\0\0\0\0\0\0");
 /// `distinguishedNameMatch`: 2.5.13.1
-pub const DISTINGUISHED_NAME_MATCH: ObjectIdentifier = ObjectIdentifier::new_unwrap("2.5.13.1");
+pub const DISTINGUISHED_NAME_MATCH: ObjectIdentifier = padded(*b"\x03\x55\x0D\x01\0\0\0\0\0\0\0\0\0\0\0\0\0\0\0\0\0\0\0\0\0\0\0\0\0\0\0\0\0\0\0\0\0\0\0\0");
 /// `numericStringSubstringsMatch`: 2.5.13.10
-pub const NUMERIC_STRING_SUBSTRINGS_MATCH: ObjectIdentifier = ObjectIdentifier::new_unwrap("2.5.13.10");
+pub const NUMERIC_STRING_SUBSTRINGS_MATCH: ObjectIdentifier = padded(*b"\x03\x55\x0D\x0A\0\0\0\0\0\0\0\0\0\0\0\0\0\0\0\0\0\0\0\0\0\0\0\0\0\0\0\0\0\0\0\0\0\0\0\0");
 /// `caseIgnoreListMatch`: 2.5.13.11
-pub const CASE_IGNORE_LIST_MATCH: ObjectIdentifier = ObjectIdentifier::new_unwrap("2.5.13.11");
+pub const CASE_IGNORE_LIST_MATCH: ObjectIdentifier = padded(*b"\x03\x55\x0D\x0B\0\0\0\0\0\0\0\0\0\0\0\0\0\0\0\0\0\0\0\0\0\0\0\0\0\0\0\0\0\0\0\0\0\0\0\0");
 /// `caseIgnoreListSubstringsMatch`: 2.5.13.12
-pub const CASE_IGNORE_LIST_SUBSTRINGS_MATCH: ObjectIdentifier = ObjectIdentifier::new_unwrap("2.5.13.12");
+pub const CASE_IGNORE_LIST_SUBSTRINGS_MATCH: ObjectIdentifier = padded(*b"\x03\x55\x0D\x0C\0\0\0\0\0\0\0\0\0\0\0\0\0\0\0\0\0\0\0\0\0\0\0\0\0\0\0\0\0\0\0\0\0\0\0\0");
 /// `booleanMatch`: 2.5.13.13
-pub const BOOLEAN_MATCH: ObjectIdentifier = ObjectIdentifier::new_unwrap("2.5.13.13");
+pub const BOOLEAN_MATCH: ObjectIdentifier = padded(*b"\x03\x55\x0D\x0D\0\0\0\0\0\0\0\0\0\0\0\0\0\0\0\0\0\0\0\0\0\0\0\0\0\0\0\0\0\0\0\0\0\0\0\0");
 /// `integerMatch`: 2.5.13.14
-pub const INTEGER_MATCH: ObjectIdentifier = ObjectIdentifier::new_unwrap("2.5.13.14");
+pub const INTEGER_MATCH: ObjectIdentifier = padded(*b"\x03\x55\x0D\x0E\0\0\0\0\0\0\0\0\0\0\0\0\0\0\0\0\0\0\0\0\0\0\0\0\0\0\0\0\0\0\0\0\0\0\0\0");
 /// `integerOrderingMatch`: 2.5.13.15
-pub const INTEGER_ORDERING_MATCH: ObjectIdentifier = ObjectIdentifier::new_unwrap("2.5.13.15");
+pub const INTEGER_ORDERING_MATCH: ObjectIdentifier = padded(*b"\x03\x55\x0D\x0F\0\0\0\0\0\0\0\0\0\0\0\0\0\0\0\0\0\0\0\0\0\0\0\0\0\0\0\0\0\0\0\0\0\0\0\0");
 /// `bitStringMatch`: 2.5.13.16
-pub const BIT_STRING_MATCH: ObjectIdentifier = ObjectIdentifier::new_unwrap("2.5.13.16");
+pub const BIT_STRING_MATCH: ObjectIdentifier = padded(*b"\x03\x55\x0D\x10\0\0\0\0\0\0\0\0\0\0\0\0\0\0\0\0\0\0\0\0\0\0\0\0\0\0\0\0\0\0\0\0\0\0\0\0");
 /// `octetStringMatch`: 2.5.13.17
-pub const OCTET_STRING_MATCH: ObjectIdentifier = ObjectIdentifier::new_unwrap("2.5.13.17");
+pub const OCTET_STRING_MATCH: ObjectIdentifier = padded(*b"\x03\x55\x0D\x11\0\0\0\0\0\0\0\0\0\0\0\0\0\0\0\0\0\0\0\0\0\0\0\0\0\0\0\0\0\0\0\0\0\0\0\0");
 /// `octetStringOrderingMatch`: 2.5.13.18
-pub const OCTET_STRING_ORDERING_MATCH: ObjectIdentifier = ObjectIdentifier::new_unwrap("2.5.13.18");
+pub const OCTET_STRING_ORDERING_MATCH: ObjectIdentifier = padded(*b"\x03\x55\x0D\x12\0\0\0\0\0\0\0\0\0\0\0\0\0\0\0\0\0\0\0\0\0\0\0\0\0\0\0\0\0\0\0\0\0\0\0\0");
 /// `caseIgnoreMatch`: 2.5.13.2
-pub const CASE_IGNORE_MATCH: ObjectIdentifier = ObjectIdentifier::new_unwrap("2.5.13.2");
+pub const CASE_IGNORE_MATCH: ObjectIdentifier = padded(*b"\x03\x55\x0D\x02\0\0\0\0\0\0\0\0\0\0\0\0\0\0\0\0\0\0\0\0\0\0\0\0\0\0\0\0\0\0\0\0\0\0\0\0");
 /// `telephoneNumberMatch`: 2.5.13.20
-pub const TELEPHONE_NUMBER_MATCH: ObjectIdentifier = ObjectIdentifier::new_unwrap("2.5.13.20");
+pub const TELEPHONE_NUMBER_MATCH: ObjectIdentifier = padded(*b"\x03\x55\x0D\x14\0\0\0\0\0\0\0\0\0\0\0\0\0\0\0\0\0\0\0\0\0\0\0\0\0\0\0\0\0\0\0\0\0\0\0\0");
 /// `telephoneNumberSubstringsMatch`: 2.5.13.21
-pub const TELEPHONE_NUMBER_SUBSTRINGS_MATCH: ObjectIdentifier = ObjectIdentifier::new_unwrap("2.5.13.21");
+pub const TELEPHONE_NUMBER_SUBSTRINGS_MATCH: ObjectIdentifier = padded(*b"\x03\x55\x0D\x15\0\0\0\0\0\0\0\0\0\0\0\0\0\0\0\0\0\0\0\0\0\0\0\0\0\0\0\0\0\0\0\0\0\0\0\0");
 /// `uniqueMemberMatch`: 2.5.13.23
-pub const UNIQUE_MEMBER_MATCH: ObjectIdentifier = ObjectIdentifier::new_unwrap("2.5.13.23");
+pub const UNIQUE_MEMBER_MATCH: ObjectIdentifier = padded(*b"\x03\x55\x0D\x17\0\0\0\0\0\0\0\0\0\0\0\0\0\0\0\0\0\0\0\0\0\0\0\0\0\0\0\0\0\0\0\0\0\0\0\0");
 /// `generalizedTimeMatch`: 2.5.13.27
-pub const GENERALIZED_TIME_MATCH: ObjectIdentifier = ObjectIdentifier::new_unwrap("2.5.13.27");
+pub const GENERALIZED_TIME_MATCH: ObjectIdentifier = padded(*b"\x03\x55\x0D\x1B\0\0\0\0\0\0\0\0\0\0\0\0\0\0\0\0\0\0\0\0\0\0\0\0\0\0\0\0\0\0\0\0\0\0\0\0");
 /// `generalizedTimeOrderingMatch`: 2.5.13.28
-pub const GENERALIZED_TIME_ORDERING_MATCH: ObjectIdentifier = ObjectIdentifier::new_unwrap("2.5.13.28");
+pub const GENERALIZED_TIME_ORDERING_MATCH: ObjectIdentifier = padded(*b"\x03\x55\x0D\x1C\0\0\0\0\0\0\0\0\0\0\0\0\0\0\0\0\0\0\0\0\0\0\0\0\0\0\0\0\0\0\0\0\0\0\0\0");
 /// `integerFirstComponentMatch`: 2.5.13.29
-pub const INTEGER_FIRST_COMPONENT_MATCH: ObjectIdentifier = ObjectIdentifier::new_unwrap("2.5.13.29");
+pub const INTEGER_FIRST_COMPONENT_MATCH: ObjectIdentifier = padded(*b"\x03\x55\x0D\x1D\0\0\0\0\0\0\0\0\0\0\0\0\0\0\0\0\0\0\0\0\0\0\0\0\0\0\0\0\0\0\0\0\0\0\0\0");
 /// `caseIgnoreOrderingMatch`: 2.5.13.3
-pub const CASE_IGNORE_ORDERING_MATCH: ObjectIdentifier = ObjectIdentifier::new_unwrap("2.5.13.3");
+pub const CASE_IGNORE_ORDERING_MATCH: ObjectIdentifier = padded(*b"\x03\x55\x0D\x03\0\0\0\0\0\0\0\0\0\0\0\0\0\0\0\0\0\0\0\0\0\0\0\0\0\0\0\0\0\0\0\0\0\0\0\0");
 /// `objectIdentifierFirstComponentMatch`: 2.5.13.30
-pub const OBJECT_IDENTIFIER_FIRST_COMPONENT_MATCH: ObjectIdentifier = ObjectIdentifier::new_unwrap("2.5.13.30");
+pub const OBJECT_IDENTIFIER_FIRST_COMPONENT_MATCH: ObjectIdentifier = padded(*b"\x03\x55\x0D\x1E\0\0\0\0\0\0\0\0\0\0\0\0\0\0\0\0\0\0\0\0\0\0\0\0\0\0\0\0\0\0\0\0\0\0\0\0");
 /// `directoryStringFirstComponentMatch`: 2.5.13.31
-pub const DIRECTORY_STRING_FIRST_COMPONENT_MATCH: ObjectIdentifier = ObjectIdentifier::new_unwrap("2.5.13.31");
+pub const DIRECTORY_STRING_FIRST_COMPONENT_MATCH: ObjectIdentifier = padded(*b"\x03\x55\x0D\x1F\0\0\0\0\0\0\0\0\0\0\0\0\0\0\0\0\0\0\0\0\0\0\0\0\0\0\0\0\0\0\0\0\0\0\0\0");
 /// `wordMatch`: 2.5.13.32
-pub const WORD_MATCH: ObjectIdentifier = ObjectIdentifier::new_unwrap("2.5.13.32");
+pub const WORD_MATCH: ObjectIdentifier = padded(*b"\x03\x55\x0D\x20\0\0\0\0\0\0\0\0\0\0\0\0\0\0\0\0\0\0\0\0\0\0\0\0\0\0\0\0\0\0\0\0\0\0\0\0");
 /// `keywordMatch`: 2.5.13.33
-pub const KEYWORD_MATCH: ObjectIdentifier = ObjectIdentifier::new_unwrap("2.5.13.33");
+pub const KEYWORD_MATCH: ObjectIdentifier = padded(*b"\x03\x55\x0D\x21\0\0\0\0\0\0\0\0\0\0\0\0\0\0\0\0\0\0\0\0\0\0\0\0\0\0\0\0\0\0\0\0\0\0\0\0");
 /// `caseIgnoreSubstringsMatch`: 2.5.13.4
-pub const CASE_IGNORE_SUBSTRINGS_MATCH: ObjectIdentifier = ObjectIdentifier::new_unwrap("2.5.13.4");
+pub const CASE_IGNORE_SUBSTRINGS_MATCH: ObjectIdentifier = padded(*b"\x03\x55\x0D\x04\0\0\0\0\0\0\0\0\0\0\0\0\0\0\0\0\0\0\0\0\0\0\0\0\0\0\0\0\0\0\0\0\0\0\0\0");
 /// `caseExactMatch`: 2.5.13.5
-pub const CASE_EXACT_MATCH: ObjectIdentifier = ObjectIdentifier::new_unwrap("2.5.13.5");
+pub const CASE_EXACT_MATCH: ObjectIdentifier = padded(*b"\x03\x55\x0D\x05\0\0\0\0\0\0\0\0\0\0\0\0\0\0\0\0\0\0\0\0\0\0\0\0\0\0\0\0\0\0\0\0\0\0\0\0");
 /// `caseExactOrderingMatch`: 2.5.13.6
-pub const CASE_EXACT_ORDERING_MATCH: ObjectIdentifier = ObjectIdentifier::new_unwrap("2.5.13.6");
+pub const CASE_EXACT_ORDERING_MATCH: ObjectIdentifier = padded(*b"\x03\x55\x0D\x06\0\0\0\0\0\0\0\0\0\0\0\0\0\0\0\0\0\0\0\0\0\0\0\0\0\0\0\0\0\0\0\0\0\0\0\0");
 /// `caseExactSubstringsMatch`: 2.5.13.7
-pub const CASE_EXACT_SUBSTRINGS_MATCH: ObjectIdentifier = ObjectIdentifier::new_unwrap("2.5.13.7");
+pub const CASE_EXACT_SUBSTRINGS_MATCH: ObjectIdentifier = padded(*b"\x03\x55\x0D\x07\0\0\0\0\0\0\0\0\0\0\0\0\0\0\0\0\0\0\0\0\0\0\0\0\0\0\0\0\0\0\0\0\0\0\0\0");
 /// `numericStringMatch`: 2.5.13.8
-pub const NUMERIC_STRING_MATCH: ObjectIdentifier = ObjectIdentifier::new_unwrap("2.5.13.8");
+pub const NUMERIC_STRING_MATCH: ObjectIdentifier = padded(*b"\x03\x55\x0D\x08\0\0\0\0\0\0\0\0\0\0\0\0\0\0\0\0\0\0\0\0\0\0\0\0\0\0\0\0\0\0\0\0\0\0\0\0");
 /// `numericStringOrderingMatch`: 2.5.13.9
-pub const NUMERIC_STRING_ORDERING_MATCH: ObjectIdentifier = ObjectIdentifier::new_unwrap("2.5.13.9");
+pub const NUMERIC_STRING_ORDERING_MATCH: ObjectIdentifier = padded(*b"\x03\x55\x0D\x09\0\0\0\0\0\0\0\0\0\0\0\0\0\0\0\0\0\0\0\0\0\0\0\0\0\0\0\0\0\0\0\0\0\0\0\0");
 }
 
 /// Identifiers of [RFC 4519](https://www.rfc-editor.org/rfc/rfc4519).
@@ -1862,140 +1898,141 @@ pub const NUMERIC_STRING_ORDERING_MATCH: ObjectIdentifier = ObjectIdentifier::ne
 /// assert_eq!(const_oid::db::rfc4519::UID.to_string(), "0.9.2342.19200300.100.1.1");
 /// ```
 pub mod rfc4519 {
+use super::padded;
 use crate::ObjectIdentifier;
 
 /// `uid`: 0.9.2342.19200300.100.1.1
-pub const UID: ObjectIdentifier = ObjectIdentifier::new_unwrap("0.9.2342.19200300.100.1.1");
+pub const UID: ObjectIdentifier = padded(*b"\x0A\x09\x92\x26\x89\x93\xF2\x2C\x64\x01\x01\0\0\0\0\0\0\0\0\0\0\0\0\0\0\0\0\0\0\0\0\0\0\0\0\0\0\0\0\0");
 /// `userId`: 0.9.2342.19200300.100.1.1
-pub const USER_ID: ObjectIdentifier = ObjectIdentifier::new_unwrap("0.9.2342.19200300.100.1.1");
+pub const USER_ID: ObjectIdentifier = padded(*b"\x0A\x09\x92\x26\x89\x93\xF2\x2C\x64\x01\x01\0\0\0\0\0\0\0\0\0\0\0\0\0\0\0\0\0\0\0\0\0\0\0\0\0\0\0\0\0");
 /// `DC`: 0.9.2342.19200300.100.1.25
-pub const DC: ObjectIdentifier = ObjectIdentifier::new_unwrap("0.9.2342.19200300.100.1.25");
+pub const DC: ObjectIdentifier = padded(*b"\x0A\x09\x92\x26\x89\x93\xF2\x2C\x64\x01\x19\0\0\0\0\0\0\0\0\0\0\0\0\0\0\0\0\0\0\0\0\0\0\0\0\0\0\0\0\0");
 /// `domainComponent`: 0.9.2342.19200300.100.1.25
-pub const DOMAIN_COMPONENT: ObjectIdentifier = ObjectIdentifier::new_unwrap("0.9.2342.19200300.100.1.25");
+pub const DOMAIN_COMPONENT: ObjectIdentifier = padded(*b"\x0A\x09\x92\x26\x89\x93\xF2\x2C\x64\x01\x19\0\0\0\0\0\0\0\0\0\0\0\0\0\0\0\0\0\0\0\0\0\0\0\0\0\0\0\0\0");
 /// `uidObject`: 1.3.6.1.1.3.1
-pub const UID_OBJECT: ObjectIdentifier = ObjectIdentifier::new_unwrap("1.3.6.1.1.3.1");
+pub const UID_OBJECT: ObjectIdentifier = padded(*b"\x06\x2B\x06\x01\x01\x03\x01\0\0\0\0\0\0\0\0\0\0\0\0\0\0\0\0\0\0\0\0\0\0\0\0\0\0\0\0\0\0\0\0\0");
 /// `dcObject`: 1.3.6.1.4.1.1466.344
-pub const DC_OBJECT: ObjectIdentifier = ObjectIdentifier::new_unwrap("1.3.6.1.4.1.1466.344");
+pub const DC_OBJECT: ObjectIdentifier = padded(*b"\x09\x2B\x06\x01\x04\x01\x8B\x3A\x82\x58\0\0\0\0\0\0\0\0\0\0\0\0\0\0\0\0\0\0\0\0\0\0\0\0\0\0\0\0\0\0");
 /// `o`: 2.5.4.10
-pub const O: ObjectIdentifier = ObjectIdentifier::new_unwrap("2.5.4.10");
+pub const O: ObjectIdentifier = padded(*b"\x03\x55\x04\x0A\0\0\0\0\0\0\0\0\0\0\0\0\0\0\0\0\0\0\0\0\0\0\0\0\0\0\0\0\0\0\0\0\0\0\0\0");
 /// `organizationName`: 2.5.4.10
-pub const ORGANIZATION_NAME: ObjectIdentifier = ObjectIdentifier::new_unwrap("2.5.4.10");
+pub const ORGANIZATION_NAME: ObjectIdentifier = padded(*b"\x03\x55\x04\x0A\0\0\0\0\0\0\0\0\0\0\0\0\0\0\0\0\0\0\0\0\0\0\0\0\0\0\0\0\0\0\0\0\0\0\0\0");
 /// `ou`: 2.5.4.11
-pub const OU: ObjectIdentifier = ObjectIdentifier::new_unwrap("2.5.4.11");
+pub const OU: ObjectIdentifier = padded(*b"\x03\x55\x04\x0B\0\0\0\0\0\0\0\0\0\0\0\0\0\0\0\0\0\0\0\0\0\0\0\0\0\0\0\0\0\0\0\0\0\0\0\0");
 /// `organizationalUnitName`: 2.5.4.11
-pub const ORGANIZATIONAL_UNIT_NAME: ObjectIdentifier = ObjectIdentifier::new_unwrap("2.5.4.11");
+pub const ORGANIZATIONAL_UNIT_NAME: ObjectIdentifier = padded(*b"\x03\x55\x04\x0B\0\0\0\0\0\0\0\0\0\0\0\0\0\0\0\0\0\0\0\0\0\0\0\0\0\0\0\0\0\0\0\0\0\0\0\0");
 /// `title`: 2.5.4.12
-pub const TITLE: ObjectIdentifier = ObjectIdentifier::new_unwrap("2.5.4.12");
+pub const TITLE: ObjectIdentifier = padded(*b"\x03\x55\x04\x0C\0\0\0\0\0\0\0\0\0\0\0\0\0\0\0\0\0\0\0\0\0\0\0\0\0\0\0\0\0\0\0\0\0\0\0\0");
 /// `description`: 2.5.4.13
-pub const DESCRIPTION: ObjectIdentifier = ObjectIdentifier::new_unwrap("2.5.4.13");
+pub const DESCRIPTION: ObjectIdentifier = padded(*b"\x03\x55\x04\x0D\0\0\0\0\0\0\0\0\0\0\0\0\0\0\0\0\0\0\0\0\0\0\0\0\0\0\0\0\0\0\0\0\0\0\0\0");
 /// `searchGuide`: 2.5.4.14
-pub const SEARCH_GUIDE: ObjectIdentifier = ObjectIdentifier::new_unwrap("2.5.4.14");
+pub const SEARCH_GUIDE: ObjectIdentifier = padded(*b"\x03\x55\x04\x0E\0\0\0\0\0\0\0\0\0\0\0\0\0\0\0\0\0\0\0\0\0\0\0\0\0\0\0\0\0\0\0\0\0\0\0\0");
 /// `businessCategory`: 2.5.4.15
-pub const BUSINESS_CATEGORY: ObjectIdentifier = ObjectIdentifier::new_unwrap("2.5.4.15");
+pub const BUSINESS_CATEGORY: ObjectIdentifier = padded(*b"\x03\x55\x04\x0F\0\0\0\0\0\0\0\0\0\0\0\0\0\0\0\0\0\0\0\0\0\0\0\0\0\0\0\0\0\0\0\0\0\0\0\0");
 /// `postalAddress`: 2.5.4.16
-pub const POSTAL_ADDRESS: ObjectIdentifier = ObjectIdentifier::new_unwrap("2.5.4.16");
+pub const POSTAL_ADDRESS: ObjectIdentifier = padded(*b"\x03\x55\x04\x10\0\0\0\0\0\0\0\0\0\0\0\0\0\0\0\0\0\0\0\0\0\0\0\0\0\0\0\0\0\0\0\0\0\0\0\0");
 /// `postalCode`: 2.5.4.17
-pub const POSTAL_CODE: ObjectIdentifier = ObjectIdentifier::new_unwrap("2.5.4.17");
+pub const POSTAL_CODE: ObjectIdentifier = padded(*b"\x03\x55\x04\x11\0\0\0\0\0\0\0\0\0\0\0\0\0\0\0\0\0\0\0\0\0\0\0\0\0\0\0\0\0\0\0\0\0\0\0\0");
 /// `postOfficeBox`: 2.5.4.18
-pub const POST_OFFICE_BOX: ObjectIdentifier = ObjectIdentifier::new_unwrap("2.5.4.18");
+pub const POST_OFFICE_BOX: ObjectIdentifier = padded(*b"\x03\x55\x04\x12\0\0\0\0\0\0\0\0\0\0\0\0\0\0\0\0\0\0\0\0\0\0\0\0\0\0\0\0\0\0\0\0\0\0\0\0");
 /// `physicalDeliveryOfficeName`: 2.5.4.19
-pub const PHYSICAL_DELIVERY_OFFICE_NAME: ObjectIdentifier = ObjectIdentifier::new_unwrap("2.5.4.19");
+pub const PHYSICAL_DELIVERY_OFFICE_NAME: ObjectIdentifier = padded(*b"\x03\x55\x04\x13\0\0\0\0\0\0\0\0\0\0\0\0\0\0\0\0\0\0\0\0\0\0\0\0\0\0\0\0\0\0\0\0\0\0\0\0");
 /// `telephoneNumber`: 2.5.4.20
-pub const TELEPHONE_NUMBER: ObjectIdentifier = ObjectIdentifier::new_unwrap("2.5.4.20");
+pub const TELEPHONE_NUMBER: ObjectIdentifier = padded(*b"\x03\x55\x04\x14\0\0\0\0\0\0\0\0\0\0\0\0\0\0\0\0\0\0\0\0\0\0\0\0\0\0\0\0\0\0\0\0\0\0\0\0");
 /// `telexNumber`: 2.5.4.21
-pub const TELEX_NUMBER: ObjectIdentifier = ObjectIdentifier::new_unwrap("2.5.4.21");
+pub const TELEX_NUMBER: ObjectIdentifier = padded(*b"\x03\x55\x04\x15\0\0\0\0\0\0\0\0\0\0\0\0\0\0\0\0\0\0\0\0\0\0\0\0\0\0\0\0\0\0\0\0\0\0\0\0");
 /// `teletexTerminalIdentifier`: 2.5.4.22
-pub const TELETEX_TERMINAL_IDENTIFIER: ObjectIdentifier = ObjectIdentifier::new_unwrap("2.5.4.22");
+pub const TELETEX_TERMINAL_IDENTIFIER: ObjectIdentifier = padded(*b"\x03\x55\x04\x16\0\0\0\0\0\0\0\0\0\0\0\0\0\0\0\0\0\0\0\0\0\0\0\0\0\0\0\0\0\0\0\0\0\0\0\0");
 /// `facsimileTelephoneNumber`: 2.5.4.23
-pub const FACSIMILE_TELEPHONE_NUMBER: ObjectIdentifier = ObjectIdentifier::new_unwrap("2.5.4.23");
+pub const FACSIMILE_TELEPHONE_NUMBER: ObjectIdentifier = padded(*b"\x03\x55\x04\x17\0\0\0\0\0\0\0\0\0\0\0\0\0\0\0\0\0\0\0\0\0\0\0\0\0\0\0\0\0\0\0\0\0\0\0\0");
 /// `x121Address`: 2.5.4.24
-pub const X_121_ADDRESS: ObjectIdentifier = ObjectIdentifier::new_unwrap("2.5.4.24");
+pub const X_121_ADDRESS: ObjectIdentifier = padded(*b"\x03\x55\x04\x18\0\0\0\0\0\0\0\0\0\0\0\0\0\0\0\0\0\0\0\0\0\0\0\0\0\0\0\0\0\0\0\0\0\0\0\0");
 /// `internationaliSDNNumber`: 2.5.4.25
-pub const INTERNATIONALI_SDN_NUMBER: ObjectIdentifier = ObjectIdentifier::new_unwrap("2.5.4.25");
+pub const INTERNATIONALI_SDN_NUMBER: ObjectIdentifier = padded(*b"\x03\x55\x04\x19\0\0\0\0\0\0\0\0\0\0\0\0\0\0\0\0\0\0\0\0\0\0\0\0\0\0\0\0\0\0\0\0\0\0\0\0");
 /// `registeredAddress`: 2.5.4.26
-pub const REGISTERED_ADDRESS: ObjectIdentifier = ObjectIdentifier::new_unwrap("2.5.4.26");
+pub const REGISTERED_ADDRESS: ObjectIdentifier = padded(*b"\x03\x55\x04\x1A\0\0\0\0\0\0\0\0\0\0\0\0\0\0\0\0\0\0\0\0\0\0\0\0\0\0\0\0\0\0\0\0\0\0\0\0");
 /// `destinationIndicator`: 2.5.4.27
-pub const DESTINATION_INDICATOR: ObjectIdentifier = ObjectIdentifier::new_unwrap("2.5.4.27");
+pub const DESTINATION_INDICATOR: ObjectIdentifier = padded(*b"\x03\x55\x04\x1B\0\0\0\0\0\0\0\0\0\0\0\0\0\0\0\0\0\0\0\0\0\0\0\0\0\0\0\0\0\0\0\0\0\0\0\0");
 /// `preferredDeliveryMethod`: 2.5.4.28
-pub const PREFERRED_DELIVERY_METHOD: ObjectIdentifier = ObjectIdentifier::new_unwrap("2.5.4.28");
+pub const PREFERRED_DELIVERY_METHOD: ObjectIdentifier = padded(*b"\x03\x55\x04\x1C\0\0\0\0\0\0\0\0\0\0\0\0\0\0\0\0\0\0\0\0\0\0\0\0\0\0\0\0\0\0\0\0\0\0\0\0");
 /// `cn`: 2.5.4.3
-pub const CN: ObjectIdentifier = ObjectIdentifier::new_unwrap("2.5.4.3");
+pub const CN: ObjectIdentifier = padded(*b"\x03\x55\x04\x03\0\0\0\0\0\0\0\0\0\0\0\0\0\0\0\0\0\0\0\0\0\0\0\0\0\0\0\0\0\0\0\0\0\0\0\0");
 /// `commonName`: 2.5.4.3
-pub const COMMON_NAME: ObjectIdentifier = ObjectIdentifier::new_unwrap("2.5.4.3");
+pub const COMMON_NAME: ObjectIdentifier = padded(*b"\x03\x55\x04\x03\0\0\0\0\0\0\0\0\0\0\0\0\0\0\0\0\0\0\0\0\0\0\0\0\0\0\0\0\0\0\0\0\0\0\0\0");
 /// `member`: 2.5.4.31
-pub const MEMBER: ObjectIdentifier = ObjectIdentifier::new_unwrap("2.5.4.31");
+pub const MEMBER: ObjectIdentifier = padded(*b"\x03\x55\x04\x1F\0\0\0\0\0\0\0\0\0\0\0\0\0\0\0\0\0\0\0\0\0\0\0\0\0\0\0\0\0\0\0\0\0\0\0\0");
 /// `owner`: 2.5.4.32
-pub const OWNER: ObjectIdentifier = ObjectIdentifier::new_unwrap("2.5.4.32");
+pub const OWNER: ObjectIdentifier = padded(*b"\x03\x55\x04\x20\0\0\0\0\0\0\0\0\0\0\0\0\0\0\0\0\0\0\0\0\0\0\0\0\0\0\0\0\0\0\0\0\0\0\0\0");
 /// `roleOccupant`: 2.5.4.33
-pub const ROLE_OCCUPANT: ObjectIdentifier = ObjectIdentifier::new_unwrap("2.5.4.33");
+pub const ROLE_OCCUPANT: ObjectIdentifier = padded(*b"\x03\x55\x04\x21\0\0\0\0\0\0\0\0\0\0\0\0\0\0\0\0\0\0\0\0\0\0\0\0\0\0\0\0\0\0\0\0\0\0\0\0");
 /// `seeAlso`: 2.5.4.34
-pub const SEE_ALSO: ObjectIdentifier = ObjectIdentifier::new_unwrap("2.5.4.34");
+pub const SEE_ALSO: ObjectIdentifier = padded(*b"\x03\x55\x04\x22\0\0\0\0\0\0\0\0\0\0\0\0\0\0\0\0\0\0\0\0\0\0\0\0\0\0\0\0\0\0\0\0\0\0\0\0");
 /// `userPassword`: 2.5.4.35
-pub const USER_PASSWORD: ObjectIdentifier = ObjectIdentifier::new_unwrap("2.5.4.35");
+pub const USER_PASSWORD: ObjectIdentifier = padded(*b"\x03\x55\x04\x23\0\0\0\0\0\0\0\0\0\0\0\0\0\0\0\0\0\0\0\0\0\0\0\0\0\0\0\0\0\0\0\0\0\0\0\0");
 /// `sn`: 2.5.4.4
-pub const SN: ObjectIdentifier = ObjectIdentifier::new_unwrap("2.5.4.4");
+pub const SN: ObjectIdentifier = padded(*b"\x03\x55\x04\x04\0\0\0\0\0\0\0\0\0\0\0\0\0\0\0\0\0\0\0\0\0\0\0\0\0\0\0\0\0\0\0\0\0\0\0\0");
 /// `surname`: 2.5.4.4
-pub const SURNAME: ObjectIdentifier = ObjectIdentifier::new_unwrap("2.5.4.4");
+pub const SURNAME: ObjectIdentifier = padded(*b"\x03\x55\x04\x04\0\0\0\0\0\0\0\0\0\0\0\0\0\0\0\0\0\0\0\0\0\0\0\0\0\0\0\0\0\0\0\0\0\0\0\0");
 /// `name`: 2.5.4.41
-pub const NAME: ObjectIdentifier = ObjectIdentifier::new_unwrap("2.5.4.41");
+pub const NAME: ObjectIdentifier = padded(*b"\x03\x55\x04\x29\0\0\0\0\0\0\0\0\0\0\0\0\0\0\0\0\0\0\0\0\0\0\0\0\0\0\0\0\0\0\0\0\0\0\0\0");
 /// `GN`: 2.5.4.42
-pub const GN: ObjectIdentifier = ObjectIdentifier::new_unwrap("2.5.4.42");
+pub const GN: ObjectIdentifier = padded(*b"\x03\x55\x04\x2A\0\0\0\0\0\0\0\0\0\0\0\0\0\0\0\0\0\0\0\0\0\0\0\0\0\0\0\0\0\0\0\0\0\0\0\0");
 /// `givenName`: 2.5.4.42
-pub const GIVEN_NAME: ObjectIdentifier = ObjectIdentifier::new_unwrap("2.5.4.42");
+pub const GIVEN_NAME: ObjectIdentifier = padded(*b"\x03\x55\x04\x2A\0\0\0\0\0\0\0\0\0\0\0\0\0\0\0\0\0\0\0\0\0\0\0\0\0\0\0\0\0\0\0\0\0\0\0\0");
 /// `initials`: 2.5.4.43
-pub const INITIALS: ObjectIdentifier = ObjectIdentifier::new_unwrap("2.5.4.43");
+pub const INITIALS: ObjectIdentifier = padded(*b"\x03\x55\x04\x2B\0\0\0\0\0\0\0\0\0\0\0\0\0\0\0\0\0\0\0\0\0\0\0\0\0\0\0\0\0\0\0\0\0\0\0\0");
 /// `generationQualifier`: 2.5.4.44
-pub const GENERATION_QUALIFIER: ObjectIdentifier = ObjectIdentifier::new_unwrap("2.5.4.44");
+pub const GENERATION_QUALIFIER: ObjectIdentifier = padded(*b"\x03\x55\x04\x2C\0\0\0\0\0\0\0\0\0\0\0\0\0\0\0\0\0\0\0\0\0\0\0\0\0\0\0\0\0\0\0\0\0\0\0\0");
 /// `x500UniqueIdentifier`: 2.5.4.45
-pub const X_500_UNIQUE_IDENTIFIER: ObjectIdentifier = ObjectIdentifier::new_unwrap("2.5.4.45");
+pub const X_500_UNIQUE_IDENTIFIER: ObjectIdentifier = padded(*b"\x03\x55\x04\x2D\0\0\0\0\0\0\0\0\0\0\0\0\0\0\0\0\0\0\0\0\0\0\0\0\0\0\0\0\0\0\0\0\0\0\0\0");
 /// `dnQualifier`: 2.5.4.46
-pub const DN_QUALIFIER: ObjectIdentifier = ObjectIdentifier::new_unwrap("2.5.4.46");
+pub const DN_QUALIFIER: ObjectIdentifier = padded(*b"\x03\x55\x04\x2E\0\0\0\0\0\0\0\0\0\0\0\0\0\0\0\0\0\0\0\0\0\0\0\0\0\0\0\0\0\0\0\0\0\0\0\0");
 /// `enhancedSearchGuide`: 2.5.4.47
-pub const ENHANCED_SEARCH_GUIDE: ObjectIdentifier = ObjectIdentifier::new_unwrap("2.5.4.47");
+pub const ENHANCED_SEARCH_GUIDE: ObjectIdentifier = padded(*b"\x03\x55\x04\x2F\0\0\0\0\0\0\0\0\0\0\0\0\0\0\0\0\0\0\0\0\0\0\0\0\0\0\0\0\0\0\0\0\0\0\0\0");
 /// `distinguishedName`: 2.5.4.49
-pub const DISTINGUISHED_NAME: ObjectIdentifier = ObjectIdentifier::new_unwrap("2.5.4.49");
+pub const DISTINGUISHED_NAME: ObjectIdentifier = padded(*b"\x03\x55\x04\x31\0\0\0\0\0\0\0\0\0\0\0\0\0\0\0\0\0\0\0\0\0\0\0\0\0\0\0\0\0\0\0\0\0\0\0\0");
 /// `serialNumber`: 2.5.4.5
-pub const SERIAL_NUMBER: ObjectIdentifier = ObjectIdentifier::new_unwrap("2.5.4.5");
+pub const SERIAL_NUMBER: ObjectIdentifier = padded(*b"\x03\x55\x04\x05\0\0\0\0\0\0\0\0\0\0\0\0\0\0\0\0\0\0\0\0\0\0\0\0\0\0\0\0\0\0\0\0\0\0\0\0");
 /// `uniqueMember`: 2.5.4.50
-pub const UNIQUE_MEMBER: ObjectIdentifier = ObjectIdentifier::new_unwrap("2.5.4.50");
+pub const UNIQUE_MEMBER: ObjectIdentifier = padded(*b"\x03\x55\x04\x32\0\0\0\0\0\0\0\0\0\0\0\0\0\0\0\0\0\0\0\0\0\0\0\0\0\0\0\0\0\0\0\0\0\0\0\0");
 /// `houseIdentifier`: 2.5.4.51
-pub const HOUSE_IDENTIFIER: ObjectIdentifier = ObjectIdentifier::new_unwrap("2.5.4.51");
+pub const HOUSE_IDENTIFIER: ObjectIdentifier = padded(*b"\x03\x55\x04\x33\0\0\0\0\0\0\0\0\0\0\0\0\0\0\0\0\0\0\0\0\0\0\0\0\0\0\0\0\0\0\0\0\0\0\0\0");
 /// `c`: 2.5.4.6
-pub const C: ObjectIdentifier = ObjectIdentifier::new_unwrap("2.5.4.6");
+pub const C: ObjectIdentifier = padded(*b"\x03\x55\x04\x06\0\0\0\0\0\0\0\0\0\0\0\0\0\0\0\0\0\0\0\0\0\0\0\0\0\0\0\0\0\0\0\0\0\0\0\0");
 /// `countryName`: 2.5.4.6
-pub const COUNTRY_NAME: ObjectIdentifier = ObjectIdentifier::new_unwrap("2.5.4.6");
+pub const COUNTRY_NAME: ObjectIdentifier = padded(*b"\x03\x55\x04\x06\0\0\0\0\0\0\0\0\0\0\0\0\0\0\0\0\0\0\0\0\0\0\0\0\0\0\0\0\0\0\0\0\0\0\0\0");
 /// `L`: 2.5.4.7
-pub const L: ObjectIdentifier = ObjectIdentifier::new_unwrap("2.5.4.7");
+pub const L: ObjectIdentifier = padded(*b"\x03\x55\x04\x07\0\0\0\0\0\0\0\0\0\0\0\0\0\0\0\0\0\0\0\0\0\0\0\0\0\0\0\0\0\0\0\0\0\0\0\0");
 /// `localityName`: 2.5.4.7
-pub const LOCALITY_NAME: ObjectIdentifier = ObjectIdentifier::new_unwrap("2.5.4.7");
+pub const LOCALITY_NAME: ObjectIdentifier = padded(*b"\x03\x55\x04\x07\0\0\0\0\0\0\0\0\0\0\0\0\0\0\0\0\0\0\0\0\0\0\0\0\0\0\0\0\0\0\0\0\0\0\0\0");
 /// `st`: 2.5.4.8
-pub const ST: ObjectIdentifier = ObjectIdentifier::new_unwrap("2.5.4.8");
+pub const ST: ObjectIdentifier = padded(*b"\x03\x55\x04\x08\0\0\0\0\0\0\0\0\0\0\0\0\0\0\0\0\0\0\0\0\0\0\0\0\0\0\0\0\0\0\0\0\0\0\0\0");
 /// `street`: 2.5.4.9
-pub const STREET: ObjectIdentifier = ObjectIdentifier::new_unwrap("2.5.4.9");
+pub const STREET: ObjectIdentifier = padded(*b"\x03\x55\x04\x09\0\0\0\0\0\0\0\0\0\0\0\0\0\0\0\0\0\0\0\0\0\0\0\0\0\0\0\0\0\0\0\0\0\0\0\0");
 /// `residentialPerson`: 2.5.6.10
-pub const RESIDENTIAL_PERSON: ObjectIdentifier = ObjectIdentifier::new_unwrap("2.5.6.10");
+pub const RESIDENTIAL_PERSON: ObjectIdentifier = padded(*b"\x03\x55\x06\x0A\0\0\0\0\0\0\0\0\0\0\0\0\0\0\0\0\0\0\0\0\0\0\0\0\0\0\0\0\0\0\0\0\0\0\0\0");
 /// `applicationProcess`: 2.5.6.11
-pub const APPLICATION_PROCESS: ObjectIdentifier = ObjectIdentifier::new_unwrap("2.5.6.11");
+pub const APPLICATION_PROCESS: ObjectIdentifier = padded(*b"\x03\x55\x06\x0B\0\0\0\0\0\0\0\0\0\0\0\0\0\0\0\0\0\0\0\0\0\0\0\0\0\0\0\0\0\0\0\0\0\0\0\0");
 /// `device`: 2.5.6.14
-pub const DEVICE: ObjectIdentifier = ObjectIdentifier::new_unwrap("2.5.6.14");
+pub const DEVICE: ObjectIdentifier = padded(*b"\x03\x55\x06\x0E\0\0\0\0\0\0\0\0\0\0\0\0\0\0\0\0\0\0\0\0\0\0\0\0\0\0\0\0\0\0\0\0\0\0\0\0");
 /// `groupOfUniqueNames`: 2.5.6.17
-pub const GROUP_OF_UNIQUE_NAMES: ObjectIdentifier = ObjectIdentifier::new_unwrap("2.5.6.17");
+pub const GROUP_OF_UNIQUE_NAMES: ObjectIdentifier = padded(*b"\x03\x55\x06\x11\0\0\0\0\0\0\0\0\0\0\0\0\0\0\0\0\0\0\0\0\0\0\0\0\0\0\0\0\0\0\0\0\0\0\0\0");
 /// `country`: 2.5.6.2
-pub const COUNTRY: ObjectIdentifier = ObjectIdentifier::new_unwrap("2.5.6.2");
+pub const COUNTRY: ObjectIdentifier = padded(*b"\x03\x55\x06\x02\0\0\0\0\0\0\0\0\0\0\0\0\0\0\0\0\0\0\0\0\0\0\0\0\0\0\0\0\0\0\0\0\0\0\0\0");
 /// `locality`: 2.5.6.3
-pub const LOCALITY: ObjectIdentifier = ObjectIdentifier::new_unwrap("2.5.6.3");
+pub const LOCALITY: ObjectIdentifier = padded(*b"\x03\x55\x06\x03\0\0\0\0\0\0\0\0\0\0\0\0\0\0\0\0\0\0\0\0\0\0\0\0\0\0\0\0\0\0\0\0\0\0\0\0");
 /// `organization`: 2.5.6.4
-pub const ORGANIZATION: ObjectIdentifier = ObjectIdentifier::new_unwrap("2.5.6.4");
+pub const ORGANIZATION: ObjectIdentifier = padded(*b"\x03\x55\x06\x04\0\0\0\0\0\0\0\0\0\0\0\0\0\0\0\0\0\0\0\0\0\0\0\0\0\0\0\0\0\0\0\0\0\0\0\0");
 /// `organizationalUnit`: 2.5.6.5
-pub const ORGANIZATIONAL_UNIT: ObjectIdentifier = ObjectIdentifier::new_unwrap("2.5.6.5");
+pub const ORGANIZATIONAL_UNIT: ObjectIdentifier = padded(*b"\x03\x55\x06\x05\0\0\0\0\0\0\0\0\0\0\0\0\0\0\0\0\0\0\0\0\0\0\0\0\0\0\0\0\0\0\0\0\0\0\0\0");
 /// `person`: 2.5.6.6
-pub const PERSON: ObjectIdentifier = ObjectIdentifier::new_unwrap("2.5.6.6");
+pub const PERSON: ObjectIdentifier = padded(*b"\x03\x55\x06\x06\0\0\0\0\0\0\0\0\0\0\0\0\0\0\0\0\0\0\0\0\0\0\0\0\0\0\0\0\0\0\0\0\0\0\0\0");
 /// `organizationalPerson`: 2.5.6.7
-pub const ORGANIZATIONAL_PERSON: ObjectIdentifier = ObjectIdentifier::new_unwrap("2.5.6.7");
+pub const ORGANIZATIONAL_PERSON: ObjectIdentifier = padded(*b"\x03\x55\x06\x07\0\0\0\0\0\0\0\0\0\0\0\0\0\0\0\0\0\0\0\0\0\0\0\0\0\0\0\0\0\0\0\0\0\0\0\0");
 /// `organizationalRole`: 2.5.6.8
-pub const ORGANIZATIONAL_ROLE: ObjectIdentifier = ObjectIdentifier::new_unwrap("2.5.6.8");
+pub const ORGANIZATIONAL_ROLE: ObjectIdentifier = padded(*b"\x03\x55\x06\x08\0\0\0\0\0\0\0\0\0\0\0\0\0\0\0\0\0\0\0\0\0\0\0\0\0\0\0\0\0\0\0\0\0\0\0\0");
 /// `groupOfNames`: 2.5.6.9
-pub const GROUP_OF_NAMES: ObjectIdentifier = ObjectIdentifier::new_unwrap("2.5.6.9");
+pub const GROUP_OF_NAMES: ObjectIdentifier = padded(*b"\x03\x55\x06\x09\0\0\0\0\0\0\0\0\0\0\0\0\0\0\0\0\0\0\0\0\0\0\0\0\0\0\0\0\0\0\0\0\0\0\0\0");
 }
 
 /// Identifiers of [RFC 4523](https://www.rfc-editor.org/rfc/rfc4523).
@@ -2006,52 +2043,53 @@ pub const GROUP_OF_NAMES: ObjectIdentifier = ObjectIdentifier::new_unwrap("2.5.6
 /// assert_eq!(const_oid::db::rfc4523::CERTIFICATE_EXACT_MATCH.to_string(), "2.5.13.34");
 /// ```
 pub mod rfc4523 {
+use super::padded;
 use crate::ObjectIdentifier;
 
 /// `certificateExactMatch`: 2.5.13.34
-pub const CERTIFICATE_EXACT_MATCH: ObjectIdentifier = ObjectIdentifier::new_unwrap("2.5.13.34");
+pub const CERTIFICATE_EXACT_MATCH: ObjectIdentifier = padded(*b"\x03\x55\x0D\x22\0\0\0\0\0\0\0\0\0\0\0\0\0\0\0\0\0\0\0\0\0\0\0\0\0\0\0\0\0\0\0\0\0\0\0\0");
 /// `certificateMatch`: 2.5.13.35
-pub const CERTIFICATE_MATCH: ObjectIdentifier = ObjectIdentifier::new_unwrap("2.5.13.35");
+pub const CERTIFICATE_MATCH: ObjectIdentifier = padded(*b"\x03\x55\x0D\x23\0\0\0\0\0\0\0\0\0\0\0\0\0\0\0\0\0\0\0\0\0\0\0\0\0\0\0\0\0\0\0\0\0\0\0\0");
 /// `certificatePairExactMatch`: 2.5.13.36
-pub const CERTIFICATE_PAIR_EXACT_MATCH: ObjectIdentifier = ObjectIdentifier::new_unwrap("2.5.13.36");
+pub const CERTIFICATE_PAIR_EXACT_MATCH: ObjectIdentifier = padded(*b"\x03\x55\x0D\x24\0\0\0\0\0\0\0\0\0\0\0\0\0\0\0\0\0\0\0\0\0\0\0\0\0\0\0\0\0\0\0\0\0\0\0\0");
 /// `certificatePairMatch`: 2.5.13.37
-pub const CERTIFICATE_PAIR_MATCH: ObjectIdentifier = ObjectIdentifier::new_unwrap("2.5.13.37");
+pub const CERTIFICATE_PAIR_MATCH: ObjectIdentifier = padded(*b"\x03\x55\x0D\x25\0\0\0\0\0\0\0\0\0\0\0\0\0\0\0\0\0\0\0\0\0\0\0\0\0\0\0\0\0\0\0\0\0\0\0\0");
 /// `certificateListExactMatch`: 2.5.13.38
-pub const CERTIFICATE_LIST_EXACT_MATCH: ObjectIdentifier = ObjectIdentifier::new_unwrap("2.5.13.38");
+pub const CERTIFICATE_LIST_EXACT_MATCH: ObjectIdentifier = padded(*b"\x03\x55\x0D\x26\0\0\0\0\0\0\0\0\0\0\0\0\0\0\0\0\0\0\0\0\0\0\0\0\0\0\0\0\0\0\0\0\0\0\0\0");
 /// `certificateListMatch`: 2.5.13.39
-pub const CERTIFICATE_LIST_MATCH: ObjectIdentifier = ObjectIdentifier::new_unwrap("2.5.13.39");
+pub const CERTIFICATE_LIST_MATCH: ObjectIdentifier = padded(*b"\x03\x55\x0D\x27\0\0\0\0\0\0\0\0\0\0\0\0\0\0\0\0\0\0\0\0\0\0\0\0\0\0\0\0\0\0\0\0\0\0\0\0");
 /// `algorithmIdentifierMatch`: 2.5.13.40
-pub const ALGORITHM_IDENTIFIER_MATCH: ObjectIdentifier = ObjectIdentifier::new_unwrap("2.5.13.40");
+pub const ALGORITHM_IDENTIFIER_MATCH: ObjectIdentifier = padded(*b"\x03\x55\x0D\x28\0\0\0\0\0\0\0\0\0\0\0\0\0\0\0\0\0\0\0\0\0\0\0\0\0\0\0\0\0\0\0\0\0\0\0\0");
 /// `userCertificate`: 2.5.4.36
-pub const USER_CERTIFICATE: ObjectIdentifier = ObjectIdentifier::new_unwrap("2.5.4.36");
+pub const USER_CERTIFICATE: ObjectIdentifier = padded(*b"\x03\x55\x04\x24\0\0\0\0\0\0\0\0\0\0\0\0\0\0\0\0\0\0\0\0\0\0\0\0\0\0\0\0\0\0\0\0\0\0\0\0");
 /// `cACertificate`: 2.5.4.37
-pub const CA_CERTIFICATE: ObjectIdentifier = ObjectIdentifier::new_unwrap("2.5.4.37");
+pub const CA_CERTIFICATE: ObjectIdentifier = padded(*b"\x03\x55\x04\x25\0\0\0\0\0\0\0\0\0\0\0\0\0\0\0\0\0\0\0\0\0\0\0\0\0\0\0\0\0\0\0\0\0\0\0\0");
 /// `authorityRevocationList`: 2.5.4.38
-pub const AUTHORITY_REVOCATION_LIST: ObjectIdentifier = ObjectIdentifier::new_unwrap("2.5.4.38");
+pub const AUTHORITY_REVOCATION_LIST: ObjectIdentifier = padded(*b"\x03\x55\x04\x26\0\0\0\0\0\0\0\0\0\0\0\0\0\0\0\0\0\0\0\0\0\0\0\0\0\0\0\0\0\0\0\0\0\0\0\0");
 /// `certificateRevocationList`: 2.5.4.39
-pub const CERTIFICATE_REVOCATION_LIST: ObjectIdentifier = ObjectIdentifier::new_unwrap("2.5.4.39");
+pub const CERTIFICATE_REVOCATION_LIST: ObjectIdentifier = padded(*b"\x03\x55\x04\x27\0\0\0\0\0\0\0\0\0\0\0\0\0\0\0\0\0\0\0\0\0\0\0\0\0\0\0\0\0\0\0\0\0\0\0\0");
 /// `crossCertificatePair`: 2.5.4.40
-pub const CROSS_CERTIFICATE_PAIR: ObjectIdentifier = ObjectIdentifier::new_unwrap("2.5.4.40");
+pub const CROSS_CERTIFICATE_PAIR: ObjectIdentifier = padded(*b"\x03\x55\x04\x28\0\0\0\0\0\0\0\0\0\0\0\0\0\0\0\0\0\0\0\0\0\0\0\0\0\0\0\0\0\0\0\0\0\0\0\0");
 /// `supportedAlgorithms`: 2.5.4.52
-pub const SUPPORTED_ALGORITHMS: ObjectIdentifier = ObjectIdentifier::new_unwrap("2.5.4.52");
+pub const SUPPORTED_ALGORITHMS: ObjectIdentifier = padded(*b"\x03\x55\x04\x34\0\0\0\0\0\0\0\0\0\0\0\0\0\0\0\0\0\0\0\0\0\0\0\0\0\0\0\0\0\0\0\0\0\0\0\0");
 /// `deltaRevocationList`: 2.5.4.53
-pub const DELTA_REVOCATION_LIST: ObjectIdentifier = ObjectIdentifier::new_unwrap("2.5.4.53");
+pub const DELTA_REVOCATION_LIST: ObjectIdentifier = padded(*b"\x03\x55\x04\x35\0\0\0\0\0\0\0\0\0\0\0\0\0\0\0\0\0\0\0\0\0\0\0\0\0\0\0\0\0\0\0\0\0\0\0\0");
 /// `strongAuthenticationUser`: 2.5.6.15
-pub const STRONG_AUTHENTICATION_USER: ObjectIdentifier = ObjectIdentifier::new_unwrap("2.5.6.15");
+pub const STRONG_AUTHENTICATION_USER: ObjectIdentifier = padded(*b"\x03\x55\x06\x0F\0\0\0\0\0\0\0\0\0\0\0\0\0\0\0\0\0\0\0\0\0\0\0\0\0\0\0\0\0\0\0\0\0\0\0\0");
 /// `certificationAuthority`: 2.5.6.16
-pub const CERTIFICATION_AUTHORITY: ObjectIdentifier = ObjectIdentifier::new_unwrap("2.5.6.16");
+pub const CERTIFICATION_AUTHORITY: ObjectIdentifier = padded(*b"\x03\x55\x06\x10\0\0\0\0\0\0\0\0\0\0\0\0\0\0\0\0\0\0\0\0\0\0\0\0\0\0\0\0\0\0\0\0\0\0\0\0");
 /// `certificationAuthority-V2`: 2.5.6.16.2
-pub const CERTIFICATION_AUTHORITY_V_2: ObjectIdentifier = ObjectIdentifier::new_unwrap("2.5.6.16.2");
+pub const CERTIFICATION_AUTHORITY_V_2: ObjectIdentifier = padded(*b"\x04\x55\x06\x10\x02\0\0\0\0\0\0\0\0\0\0\0\0\0\0\0\0\0\0\0\0\0\0\0\0\0\0\0\0\0\0\0\0\0\0\0");
 /// `userSecurityInformation`: 2.5.6.18
-pub const USER_SECURITY_INFORMATION: ObjectIdentifier = ObjectIdentifier::new_unwrap("2.5.6.18");
+pub const USER_SECURITY_INFORMATION: ObjectIdentifier = padded(*b"\x03\x55\x06\x12\0\0\0\0\0\0\0\0\0\0\0\0\0\0\0\0\0\0\0\0\0\0\0\0\0\0\0\0\0\0\0\0\0\0\0\0");
 /// `cRLDistributionPoint`: 2.5.6.19
-pub const CRL_DISTRIBUTION_POINT: ObjectIdentifier = ObjectIdentifier::new_unwrap("2.5.6.19");
+pub const CRL_DISTRIBUTION_POINT: ObjectIdentifier = padded(*b"\x03\x55\x06\x13\0\0\0\0\0\0\0\0\0\0\0\0\0\0\0\0\0\0\0\0\0\0\0\0\0\0\0\0\0\0\0\0\0\0\0\0");
 /// `pkiUser`: 2.5.6.21
-pub const PKI_USER: ObjectIdentifier = ObjectIdentifier::new_unwrap("2.5.6.21");
+pub const PKI_USER: ObjectIdentifier = padded(*b"\x03\x55\x06\x15\0\0\0\0\0\0\0\0\0\0\0\0\0\0\0\0\0\0\0\0\0\0\0\0\0\0\0\0\0\0\0\0\0\0\0\0");
 /// `pkiCA`: 2.5.6.22
-pub const PKI_CA: ObjectIdentifier = ObjectIdentifier::new_unwrap("2.5.6.22");
+pub const PKI_CA: ObjectIdentifier = padded(*b"\x03\x55\x06\x16\0\0\0\0\0\0\0\0\0\0\0\0\0\0\0\0\0\0\0\0\0\0\0\0\0\0\0\0\0\0\0\0\0\0\0\0");
 /// `deltaCRL`: 2.5.6.23
-pub const DELTA_CRL: ObjectIdentifier = ObjectIdentifier::new_unwrap("2.5.6.23");
+pub const DELTA_CRL: ObjectIdentifier = padded(*b"\x03\x55\x06\x17\0\0\0\0\0\0\0\0\0\0\0\0\0\0\0\0\0\0\0\0\0\0\0\0\0\0\0\0\0\0\0\0\0\0\0\0");
 }
 
 /// Identifiers of [RFC 4524](https://www.rfc-editor.org/rfc/rfc4524).
@@ -2062,90 +2100,91 @@ pub const DELTA_CRL: ObjectIdentifier = ObjectIdentifier::new_unwrap("2.5.6.23")
 /// assert_eq!(const_oid::db::rfc4524::MANAGER.to_string(), "0.9.2342.19200300.100.1.10");
 /// ```
 pub mod rfc4524 {
+use super::padded;
 use crate::ObjectIdentifier;
 
 /// `manager`: 0.9.2342.19200300.100.1.10
-pub const MANAGER: ObjectIdentifier = ObjectIdentifier::new_unwrap("0.9.2342.19200300.100.1.10");
+pub const MANAGER: ObjectIdentifier = padded(*b"\x0A\x09\x92\x26\x89\x93\xF2\x2C\x64\x01\x0A\0\0\0\0\0\0\0\0\0\0\0\0\0\0\0\0\0\0\0\0\0\0\0\0\0\0\0\0\0");
 /// `documentIdentifier`: 0.9.2342.19200300.100.1.11
-pub const DOCUMENT_IDENTIFIER: ObjectIdentifier = ObjectIdentifier::new_unwrap("0.9.2342.19200300.100.1.11");
+pub const DOCUMENT_IDENTIFIER: ObjectIdentifier = padded(*b"\x0A\x09\x92\x26\x89\x93\xF2\x2C\x64\x01\x0B\0\0\0\0\0\0\0\0\0\0\0\0\0\0\0\0\0\0\0\0\0\0\0\0\0\0\0\0\0");
 /// `documentTitle`: 0.9.2342.19200300.100.1.12
-pub const DOCUMENT_TITLE: ObjectIdentifier = ObjectIdentifier::new_unwrap("0.9.2342.19200300.100.1.12");
+pub const DOCUMENT_TITLE: ObjectIdentifier = padded(*b"\x0A\x09\x92\x26\x89\x93\xF2\x2C\x64\x01\x0C\0\0\0\0\0\0\0\0\0\0\0\0\0\0\0\0\0\0\0\0\0\0\0\0\0\0\0\0\0");
 /// `documentVersion`: 0.9.2342.19200300.100.1.13
-pub const DOCUMENT_VERSION: ObjectIdentifier = ObjectIdentifier::new_unwrap("0.9.2342.19200300.100.1.13");
+pub const DOCUMENT_VERSION: ObjectIdentifier = padded(*b"\x0A\x09\x92\x26\x89\x93\xF2\x2C\x64\x01\x0D\0\0\0\0\0\0\0\0\0\0\0\0\0\0\0\0\0\0\0\0\0\0\0\0\0\0\0\0\0");
 /// `documentAuthor`: 0.9.2342.19200300.100.1.14
-pub const DOCUMENT_AUTHOR: ObjectIdentifier = ObjectIdentifier::new_unwrap("0.9.2342.19200300.100.1.14");
+pub const DOCUMENT_AUTHOR: ObjectIdentifier = padded(*b"\x0A\x09\x92\x26\x89\x93\xF2\x2C\x64\x01\x0E\0\0\0\0\0\0\0\0\0\0\0\0\0\0\0\0\0\0\0\0\0\0\0\0\0\0\0\0\0");
 /// `documentLocation`: 0.9.2342.19200300.100.1.15
-pub const DOCUMENT_LOCATION: ObjectIdentifier = ObjectIdentifier::new_unwrap("0.9.2342.19200300.100.1.15");
+pub const DOCUMENT_LOCATION: ObjectIdentifier = padded(*b"\x0A\x09\x92\x26\x89\x93\xF2\x2C\x64\x01\x0F\0\0\0\0\0\0\0\0\0\0\0\0\0\0\0\0\0\0\0\0\0\0\0\0\0\0\0\0\0");
 /// `homePhone`: 0.9.2342.19200300.100.1.20
-pub const HOME_PHONE: ObjectIdentifier = ObjectIdentifier::new_unwrap("0.9.2342.19200300.100.1.20");
+pub const HOME_PHONE: ObjectIdentifier = padded(*b"\x0A\x09\x92\x26\x89\x93\xF2\x2C\x64\x01\x14\0\0\0\0\0\0\0\0\0\0\0\0\0\0\0\0\0\0\0\0\0\0\0\0\0\0\0\0\0");
 /// `homeTelephone`: 0.9.2342.19200300.100.1.20
-pub const HOME_TELEPHONE: ObjectIdentifier = ObjectIdentifier::new_unwrap("0.9.2342.19200300.100.1.20");
+pub const HOME_TELEPHONE: ObjectIdentifier = padded(*b"\x0A\x09\x92\x26\x89\x93\xF2\x2C\x64\x01\x14\0\0\0\0\0\0\0\0\0\0\0\0\0\0\0\0\0\0\0\0\0\0\0\0\0\0\0\0\0");
 /// `secretary`: 0.9.2342.19200300.100.1.21
-pub const SECRETARY: ObjectIdentifier = ObjectIdentifier::new_unwrap("0.9.2342.19200300.100.1.21");
+pub const SECRETARY: ObjectIdentifier = padded(*b"\x0A\x09\x92\x26\x89\x93\xF2\x2C\x64\x01\x15\0\0\0\0\0\0\0\0\0\0\0\0\0\0\0\0\0\0\0\0\0\0\0\0\0\0\0\0\0");
 /// `mail`: 0.9.2342.19200300.100.1.3
-pub const MAIL: ObjectIdentifier = ObjectIdentifier::new_unwrap("0.9.2342.19200300.100.1.3");
+pub const MAIL: ObjectIdentifier = padded(*b"\x0A\x09\x92\x26\x89\x93\xF2\x2C\x64\x01\x03\0\0\0\0\0\0\0\0\0\0\0\0\0\0\0\0\0\0\0\0\0\0\0\0\0\0\0\0\0");
 /// `RFC822Mailbox`: 0.9.2342.19200300.100.1.3
-pub const RFC_822_MAILBOX: ObjectIdentifier = ObjectIdentifier::new_unwrap("0.9.2342.19200300.100.1.3");
+pub const RFC_822_MAILBOX: ObjectIdentifier = padded(*b"\x0A\x09\x92\x26\x89\x93\xF2\x2C\x64\x01\x03\0\0\0\0\0\0\0\0\0\0\0\0\0\0\0\0\0\0\0\0\0\0\0\0\0\0\0\0\0");
 /// `associatedDomain`: 0.9.2342.19200300.100.1.37
-pub const ASSOCIATED_DOMAIN: ObjectIdentifier = ObjectIdentifier::new_unwrap("0.9.2342.19200300.100.1.37");
+pub const ASSOCIATED_DOMAIN: ObjectIdentifier = padded(*b"\x0A\x09\x92\x26\x89\x93\xF2\x2C\x64\x01\x25\0\0\0\0\0\0\0\0\0\0\0\0\0\0\0\0\0\0\0\0\0\0\0\0\0\0\0\0\0");
 /// `associatedName`: 0.9.2342.19200300.100.1.38
-pub const ASSOCIATED_NAME: ObjectIdentifier = ObjectIdentifier::new_unwrap("0.9.2342.19200300.100.1.38");
+pub const ASSOCIATED_NAME: ObjectIdentifier = padded(*b"\x0A\x09\x92\x26\x89\x93\xF2\x2C\x64\x01\x26\0\0\0\0\0\0\0\0\0\0\0\0\0\0\0\0\0\0\0\0\0\0\0\0\0\0\0\0\0");
 /// `homePostalAddress`: 0.9.2342.19200300.100.1.39
-pub const HOME_POSTAL_ADDRESS: ObjectIdentifier = ObjectIdentifier::new_unwrap("0.9.2342.19200300.100.1.39");
+pub const HOME_POSTAL_ADDRESS: ObjectIdentifier = padded(*b"\x0A\x09\x92\x26\x89\x93\xF2\x2C\x64\x01\x27\0\0\0\0\0\0\0\0\0\0\0\0\0\0\0\0\0\0\0\0\0\0\0\0\0\0\0\0\0");
 /// `info`: 0.9.2342.19200300.100.1.4
-pub const INFO: ObjectIdentifier = ObjectIdentifier::new_unwrap("0.9.2342.19200300.100.1.4");
+pub const INFO: ObjectIdentifier = padded(*b"\x0A\x09\x92\x26\x89\x93\xF2\x2C\x64\x01\x04\0\0\0\0\0\0\0\0\0\0\0\0\0\0\0\0\0\0\0\0\0\0\0\0\0\0\0\0\0");
 /// `personalTitle`: 0.9.2342.19200300.100.1.40
-pub const PERSONAL_TITLE: ObjectIdentifier = ObjectIdentifier::new_unwrap("0.9.2342.19200300.100.1.40");
+pub const PERSONAL_TITLE: ObjectIdentifier = padded(*b"\x0A\x09\x92\x26\x89\x93\xF2\x2C\x64\x01\x28\0\0\0\0\0\0\0\0\0\0\0\0\0\0\0\0\0\0\0\0\0\0\0\0\0\0\0\0\0");
 /// `mobile`: 0.9.2342.19200300.100.1.41
-pub const MOBILE: ObjectIdentifier = ObjectIdentifier::new_unwrap("0.9.2342.19200300.100.1.41");
+pub const MOBILE: ObjectIdentifier = padded(*b"\x0A\x09\x92\x26\x89\x93\xF2\x2C\x64\x01\x29\0\0\0\0\0\0\0\0\0\0\0\0\0\0\0\0\0\0\0\0\0\0\0\0\0\0\0\0\0");
 /// `mobileTelephoneNumber`: 0.9.2342.19200300.100.1.41
-pub const MOBILE_TELEPHONE_NUMBER: ObjectIdentifier = ObjectIdentifier::new_unwrap("0.9.2342.19200300.100.1.41");
+pub const MOBILE_TELEPHONE_NUMBER: ObjectIdentifier = padded(*b"\x0A\x09\x92\x26\x89\x93\xF2\x2C\x64\x01\x29\0\0\0\0\0\0\0\0\0\0\0\0\0\0\0\0\0\0\0\0\0\0\0\0\0\0\0\0\0");
 /// `pager`: 0.9.2342.19200300.100.1.42
-pub const PAGER: ObjectIdentifier = ObjectIdentifier::new_unwrap("0.9.2342.19200300.100.1.42");
+pub const PAGER: ObjectIdentifier = padded(*b"\x0A\x09\x92\x26\x89\x93\xF2\x2C\x64\x01\x2A\0\0\0\0\0\0\0\0\0\0\0\0\0\0\0\0\0\0\0\0\0\0\0\0\0\0\0\0\0");
 /// `pagerTelephoneNumber`: 0.9.2342.19200300.100.1.42
-pub const PAGER_TELEPHONE_NUMBER: ObjectIdentifier = ObjectIdentifier::new_unwrap("0.9.2342.19200300.100.1.42");
+pub const PAGER_TELEPHONE_NUMBER: ObjectIdentifier = padded(*b"\x0A\x09\x92\x26\x89\x93\xF2\x2C\x64\x01\x2A\0\0\0\0\0\0\0\0\0\0\0\0\0\0\0\0\0\0\0\0\0\0\0\0\0\0\0\0\0");
 /// `co`: 0.9.2342.19200300.100.1.43
-pub const CO: ObjectIdentifier = ObjectIdentifier::new_unwrap("0.9.2342.19200300.100.1.43");
+pub const CO: ObjectIdentifier = padded(*b"\x0A\x09\x92\x26\x89\x93\xF2\x2C\x64\x01\x2B\0\0\0\0\0\0\0\0\0\0\0\0\0\0\0\0\0\0\0\0\0\0\0\0\0\0\0\0\0");
 /// `friendlyCountryName`: 0.9.2342.19200300.100.1.43
-pub const FRIENDLY_COUNTRY_NAME: ObjectIdentifier = ObjectIdentifier::new_unwrap("0.9.2342.19200300.100.1.43");
+pub const FRIENDLY_COUNTRY_NAME: ObjectIdentifier = padded(*b"\x0A\x09\x92\x26\x89\x93\xF2\x2C\x64\x01\x2B\0\0\0\0\0\0\0\0\0\0\0\0\0\0\0\0\0\0\0\0\0\0\0\0\0\0\0\0\0");
 /// `uniqueIdentifier`: 0.9.2342.19200300.100.1.44
-pub const UNIQUE_IDENTIFIER: ObjectIdentifier = ObjectIdentifier::new_unwrap("0.9.2342.19200300.100.1.44");
+pub const UNIQUE_IDENTIFIER: ObjectIdentifier = padded(*b"\x0A\x09\x92\x26\x89\x93\xF2\x2C\x64\x01\x2C\0\0\0\0\0\0\0\0\0\0\0\0\0\0\0\0\0\0\0\0\0\0\0\0\0\0\0\0\0");
 /// `organizationalStatus`: 0.9.2342.19200300.100.1.45
-pub const ORGANIZATIONAL_STATUS: ObjectIdentifier = ObjectIdentifier::new_unwrap("0.9.2342.19200300.100.1.45");
+pub const ORGANIZATIONAL_STATUS: ObjectIdentifier = padded(*b"\x0A\x09\x92\x26\x89\x93\xF2\x2C\x64\x01\x2D\0\0\0\0\0\0\0\0\0\0\0\0\0\0\0\0\0\0\0\0\0\0\0\0\0\0\0\0\0");
 /// `buildingName`: 0.9.2342.19200300.100.1.48
-pub const BUILDING_NAME: ObjectIdentifier = ObjectIdentifier::new_unwrap("0.9.2342.19200300.100.1.48");
+pub const BUILDING_NAME: ObjectIdentifier = padded(*b"\x0A\x09\x92\x26\x89\x93\xF2\x2C\x64\x01\x30\0\0\0\0\0\0\0\0\0\0\0\0\0\0\0\0\0\0\0\0\0\0\0\0\0\0\0\0\0");
 /// `drink`: 0.9.2342.19200300.100.1.5
-pub const DRINK: ObjectIdentifier = ObjectIdentifier::new_unwrap("0.9.2342.19200300.100.1.5");
+pub const DRINK: ObjectIdentifier = padded(*b"\x0A\x09\x92\x26\x89\x93\xF2\x2C\x64\x01\x05\0\0\0\0\0\0\0\0\0\0\0\0\0\0\0\0\0\0\0\0\0\0\0\0\0\0\0\0\0");
 /// `favouriteDrink`: 0.9.2342.19200300.100.1.5
-pub const FAVOURITE_DRINK: ObjectIdentifier = ObjectIdentifier::new_unwrap("0.9.2342.19200300.100.1.5");
+pub const FAVOURITE_DRINK: ObjectIdentifier = padded(*b"\x0A\x09\x92\x26\x89\x93\xF2\x2C\x64\x01\x05\0\0\0\0\0\0\0\0\0\0\0\0\0\0\0\0\0\0\0\0\0\0\0\0\0\0\0\0\0");
 /// `singleLevelQuality`: 0.9.2342.19200300.100.1.50
-pub const SINGLE_LEVEL_QUALITY: ObjectIdentifier = ObjectIdentifier::new_unwrap("0.9.2342.19200300.100.1.50");
+pub const SINGLE_LEVEL_QUALITY: ObjectIdentifier = padded(*b"\x0A\x09\x92\x26\x89\x93\xF2\x2C\x64\x01\x32\0\0\0\0\0\0\0\0\0\0\0\0\0\0\0\0\0\0\0\0\0\0\0\0\0\0\0\0\0");
 /// `documentPublisher`: 0.9.2342.19200300.100.1.56
-pub const DOCUMENT_PUBLISHER: ObjectIdentifier = ObjectIdentifier::new_unwrap("0.9.2342.19200300.100.1.56");
+pub const DOCUMENT_PUBLISHER: ObjectIdentifier = padded(*b"\x0A\x09\x92\x26\x89\x93\xF2\x2C\x64\x01\x38\0\0\0\0\0\0\0\0\0\0\0\0\0\0\0\0\0\0\0\0\0\0\0\0\0\0\0\0\0");
 /// `roomNumber`: 0.9.2342.19200300.100.1.6
-pub const ROOM_NUMBER: ObjectIdentifier = ObjectIdentifier::new_unwrap("0.9.2342.19200300.100.1.6");
+pub const ROOM_NUMBER: ObjectIdentifier = padded(*b"\x0A\x09\x92\x26\x89\x93\xF2\x2C\x64\x01\x06\0\0\0\0\0\0\0\0\0\0\0\0\0\0\0\0\0\0\0\0\0\0\0\0\0\0\0\0\0");
 /// `userClass`: 0.9.2342.19200300.100.1.8
-pub const USER_CLASS: ObjectIdentifier = ObjectIdentifier::new_unwrap("0.9.2342.19200300.100.1.8");
+pub const USER_CLASS: ObjectIdentifier = padded(*b"\x0A\x09\x92\x26\x89\x93\xF2\x2C\x64\x01\x08\0\0\0\0\0\0\0\0\0\0\0\0\0\0\0\0\0\0\0\0\0\0\0\0\0\0\0\0\0");
 /// `host`: 0.9.2342.19200300.100.1.9
-pub const HOST: ObjectIdentifier = ObjectIdentifier::new_unwrap("0.9.2342.19200300.100.1.9");
+pub const HOST: ObjectIdentifier = padded(*b"\x0A\x09\x92\x26\x89\x93\xF2\x2C\x64\x01\x09\0\0\0\0\0\0\0\0\0\0\0\0\0\0\0\0\0\0\0\0\0\0\0\0\0\0\0\0\0");
 /// `domain`: 0.9.2342.19200300.100.4.13
-pub const DOMAIN: ObjectIdentifier = ObjectIdentifier::new_unwrap("0.9.2342.19200300.100.4.13");
+pub const DOMAIN: ObjectIdentifier = padded(*b"\x0A\x09\x92\x26\x89\x93\xF2\x2C\x64\x04\x0D\0\0\0\0\0\0\0\0\0\0\0\0\0\0\0\0\0\0\0\0\0\0\0\0\0\0\0\0\0");
 /// `RFC822LocalPart`: 0.9.2342.19200300.100.4.14
-pub const RFC_822_LOCAL_PART: ObjectIdentifier = ObjectIdentifier::new_unwrap("0.9.2342.19200300.100.4.14");
+pub const RFC_822_LOCAL_PART: ObjectIdentifier = padded(*b"\x0A\x09\x92\x26\x89\x93\xF2\x2C\x64\x04\x0E\0\0\0\0\0\0\0\0\0\0\0\0\0\0\0\0\0\0\0\0\0\0\0\0\0\0\0\0\0");
 /// `domainRelatedObject`: 0.9.2342.19200300.100.4.17
-pub const DOMAIN_RELATED_OBJECT: ObjectIdentifier = ObjectIdentifier::new_unwrap("0.9.2342.19200300.100.4.17");
+pub const DOMAIN_RELATED_OBJECT: ObjectIdentifier = padded(*b"\x0A\x09\x92\x26\x89\x93\xF2\x2C\x64\x04\x11\0\0\0\0\0\0\0\0\0\0\0\0\0\0\0\0\0\0\0\0\0\0\0\0\0\0\0\0\0");
 /// `friendlyCountry`: 0.9.2342.19200300.100.4.18
-pub const FRIENDLY_COUNTRY: ObjectIdentifier = ObjectIdentifier::new_unwrap("0.9.2342.19200300.100.4.18");
+pub const FRIENDLY_COUNTRY: ObjectIdentifier = padded(*b"\x0A\x09\x92\x26\x89\x93\xF2\x2C\x64\x04\x12\0\0\0\0\0\0\0\0\0\0\0\0\0\0\0\0\0\0\0\0\0\0\0\0\0\0\0\0\0");
 /// `simpleSecurityObject`: 0.9.2342.19200300.100.4.19
-pub const SIMPLE_SECURITY_OBJECT: ObjectIdentifier = ObjectIdentifier::new_unwrap("0.9.2342.19200300.100.4.19");
+pub const SIMPLE_SECURITY_OBJECT: ObjectIdentifier = padded(*b"\x0A\x09\x92\x26\x89\x93\xF2\x2C\x64\x04\x13\0\0\0\0\0\0\0\0\0\0\0\0\0\0\0\0\0\0\0\0\0\0\0\0\0\0\0\0\0");
 /// `account`: 0.9.2342.19200300.100.4.5
-pub const ACCOUNT: ObjectIdentifier = ObjectIdentifier::new_unwrap("0.9.2342.19200300.100.4.5");
+pub const ACCOUNT: ObjectIdentifier = padded(*b"\x0A\x09\x92\x26\x89\x93\xF2\x2C\x64\x04\x05\0\0\0\0\0\0\0\0\0\0\0\0\0\0\0\0\0\0\0\0\0\0\0\0\0\0\0\0\0");
 /// `document`: 0.9.2342.19200300.100.4.6
-pub const DOCUMENT: ObjectIdentifier = ObjectIdentifier::new_unwrap("0.9.2342.19200300.100.4.6");
+pub const DOCUMENT: ObjectIdentifier = padded(*b"\x0A\x09\x92\x26\x89\x93\xF2\x2C\x64\x04\x06\0\0\0\0\0\0\0\0\0\0\0\0\0\0\0\0\0\0\0\0\0\0\0\0\0\0\0\0\0");
 /// `room`: 0.9.2342.19200300.100.4.7
-pub const ROOM: ObjectIdentifier = ObjectIdentifier::new_unwrap("0.9.2342.19200300.100.4.7");
+pub const ROOM: ObjectIdentifier = padded(*b"\x0A\x09\x92\x26\x89\x93\xF2\x2C\x64\x04\x07\0\0\0\0\0\0\0\0\0\0\0\0\0\0\0\0\0\0\0\0\0\0\0\0\0\0\0\0\0");
 /// `documentSeries`: 0.9.2342.19200300.100.4.8
-pub const DOCUMENT_SERIES: ObjectIdentifier = ObjectIdentifier::new_unwrap("0.9.2342.19200300.100.4.8");
+pub const DOCUMENT_SERIES: ObjectIdentifier = padded(*b"\x0A\x09\x92\x26\x89\x93\xF2\x2C\x64\x04\x08\0\0\0\0\0\0\0\0\0\0\0\0\0\0\0\0\0\0\0\0\0\0\0\0\0\0\0\0\0");
 }
 
 /// Identifiers of [RFC 4530](https://www.rfc-editor.org/rfc/rfc4530).
@@ -2156,14 +2195,15 @@ pub const DOCUMENT_SERIES: ObjectIdentifier = ObjectIdentifier::new_unwrap("0.9.
 /// assert_eq!(const_oid::db::rfc4530::UUID_MATCH.to_string(), "1.3.6.1.1.16.2");
 /// ```
 pub mod rfc4530 {
+use super::padded;
 use crate::ObjectIdentifier;
 
 /// `uuidMatch`: 1.3.6.1.1.16.2
-pub const UUID_MATCH: ObjectIdentifier = ObjectIdentifier::new_unwrap("1.3.6.1.1.16.2");
+pub const UUID_MATCH: ObjectIdentifier = padded(*b"\x06\x2B\x06\x01\x01\x10\x02\0\0\0\0\0\0\0\0\0\0\0\0\0\0\0\0\0\0\0\0\0\0\0\0\0\0\0\0\0\0\0\0\0");
 /// `uuidOrderingMatch`: 1.3.6.1.1.16.3
-pub const UUID_ORDERING_MATCH: ObjectIdentifier = ObjectIdentifier::new_unwrap("1.3.6.1.1.16.3");
+pub const UUID_ORDERING_MATCH: ObjectIdentifier = padded(*b"\x06\x2B\x06\x01\x01\x10\x03\0\0\0\0\0\0\0\0\0\0\0\0\0\0\0\0\0\0\0\0\0\0\0\0\0\0\0\0\0\0\0\0\0");
 /// `entryUUID`: 1.3.6.1.1.16.4
-pub const ENTRY_UUID: ObjectIdentifier = ObjectIdentifier::new_unwrap("1.3.6.1.1.16.4");
+pub const ENTRY_UUID: ObjectIdentifier = padded(*b"\x06\x2B\x06\x01\x01\x10\x04\0\0\0\0\0\0\0\0\0\0\0\0\0\0\0\0\0\0\0\0\0\0\0\0\0\0\0\0\0\0\0\0\0");
 }
 
 /// Identifiers of [RFC 4876](https://www.rfc-editor.org/rfc/rfc4876).
@@ -2174,42 +2214,43 @@ pub const ENTRY_UUID: ObjectIdentifier = ObjectIdentifier::new_unwrap("1.3.6.1.1
 /// assert_eq!(const_oid::db::rfc4876::DEFAULT_SERVER_LIST.to_string(), "1.3.6.1.4.1.11.1.3.1.1.0");
 /// ```
 pub mod rfc4876 {
+use super::padded;
 use crate::ObjectIdentifier;
 
 /// `defaultServerList`: 1.3.6.1.4.1.11.1.3.1.1.0
-pub const DEFAULT_SERVER_LIST: ObjectIdentifier = ObjectIdentifier::new_unwrap("1.3.6.1.4.1.11.1.3.1.1.0");
+pub const DEFAULT_SERVER_LIST: ObjectIdentifier = padded(*b"\x0B\x2B\x06\x01\x04\x01\x0B\x01\x03\x01\x01\x00\0\0\0\0\0\0\0\0\0\0\0\0\0\0\0\0\0\0\0\0\0\0\0\0\0\0\0\0");
 /// `defaultSearchBase`: 1.3.6.1.4.1.11.1.3.1.1.1
-pub const DEFAULT_SEARCH_BASE: ObjectIdentifier = ObjectIdentifier::new_unwrap("1.3.6.1.4.1.11.1.3.1.1.1");
+pub const DEFAULT_SEARCH_BASE: ObjectIdentifier = padded(*b"\x0B\x2B\x06\x01\x04\x01\x0B\x01\x03\x01\x01\x01\0\0\0\0\0\0\0\0\0\0\0\0\0\0\0\0\0\0\0\0\0\0\0\0\0\0\0\0");
 /// `credentialLevel`: 1.3.6.1.4.1.11.1.3.1.1.10
-pub const CREDENTIAL_LEVEL: ObjectIdentifier = ObjectIdentifier::new_unwrap("1.3.6.1.4.1.11.1.3.1.1.10");
+pub const CREDENTIAL_LEVEL: ObjectIdentifier = padded(*b"\x0B\x2B\x06\x01\x04\x01\x0B\x01\x03\x01\x01\x0A\0\0\0\0\0\0\0\0\0\0\0\0\0\0\0\0\0\0\0\0\0\0\0\0\0\0\0\0");
 /// `objectclassMap`: 1.3.6.1.4.1.11.1.3.1.1.11
-pub const OBJECTCLASS_MAP: ObjectIdentifier = ObjectIdentifier::new_unwrap("1.3.6.1.4.1.11.1.3.1.1.11");
+pub const OBJECTCLASS_MAP: ObjectIdentifier = padded(*b"\x0B\x2B\x06\x01\x04\x01\x0B\x01\x03\x01\x01\x0B\0\0\0\0\0\0\0\0\0\0\0\0\0\0\0\0\0\0\0\0\0\0\0\0\0\0\0\0");
 /// `defaultSearchScope`: 1.3.6.1.4.1.11.1.3.1.1.12
-pub const DEFAULT_SEARCH_SCOPE: ObjectIdentifier = ObjectIdentifier::new_unwrap("1.3.6.1.4.1.11.1.3.1.1.12");
+pub const DEFAULT_SEARCH_SCOPE: ObjectIdentifier = padded(*b"\x0B\x2B\x06\x01\x04\x01\x0B\x01\x03\x01\x01\x0C\0\0\0\0\0\0\0\0\0\0\0\0\0\0\0\0\0\0\0\0\0\0\0\0\0\0\0\0");
 /// `serviceCredentialLevel`: 1.3.6.1.4.1.11.1.3.1.1.13
-pub const SERVICE_CREDENTIAL_LEVEL: ObjectIdentifier = ObjectIdentifier::new_unwrap("1.3.6.1.4.1.11.1.3.1.1.13");
+pub const SERVICE_CREDENTIAL_LEVEL: ObjectIdentifier = padded(*b"\x0B\x2B\x06\x01\x04\x01\x0B\x01\x03\x01\x01\x0D\0\0\0\0\0\0\0\0\0\0\0\0\0\0\0\0\0\0\0\0\0\0\0\0\0\0\0\0");
 /// `serviceSearchDescriptor`: 1.3.6.1.4.1.11.1.3.1.1.14
-pub const SERVICE_SEARCH_DESCRIPTOR: ObjectIdentifier = ObjectIdentifier::new_unwrap("1.3.6.1.4.1.11.1.3.1.1.14");
+pub const SERVICE_SEARCH_DESCRIPTOR: ObjectIdentifier = padded(*b"\x0B\x2B\x06\x01\x04\x01\x0B\x01\x03\x01\x01\x0E\0\0\0\0\0\0\0\0\0\0\0\0\0\0\0\0\0\0\0\0\0\0\0\0\0\0\0\0");
 /// `serviceAuthenticationMethod`: 1.3.6.1.4.1.11.1.3.1.1.15
-pub const SERVICE_AUTHENTICATION_METHOD: ObjectIdentifier = ObjectIdentifier::new_unwrap("1.3.6.1.4.1.11.1.3.1.1.15");
+pub const SERVICE_AUTHENTICATION_METHOD: ObjectIdentifier = padded(*b"\x0B\x2B\x06\x01\x04\x01\x0B\x01\x03\x01\x01\x0F\0\0\0\0\0\0\0\0\0\0\0\0\0\0\0\0\0\0\0\0\0\0\0\0\0\0\0\0");
 /// `dereferenceAliases`: 1.3.6.1.4.1.11.1.3.1.1.16
-pub const DEREFERENCE_ALIASES: ObjectIdentifier = ObjectIdentifier::new_unwrap("1.3.6.1.4.1.11.1.3.1.1.16");
+pub const DEREFERENCE_ALIASES: ObjectIdentifier = padded(*b"\x0B\x2B\x06\x01\x04\x01\x0B\x01\x03\x01\x01\x10\0\0\0\0\0\0\0\0\0\0\0\0\0\0\0\0\0\0\0\0\0\0\0\0\0\0\0\0");
 /// `preferredServerList`: 1.3.6.1.4.1.11.1.3.1.1.2
-pub const PREFERRED_SERVER_LIST: ObjectIdentifier = ObjectIdentifier::new_unwrap("1.3.6.1.4.1.11.1.3.1.1.2");
+pub const PREFERRED_SERVER_LIST: ObjectIdentifier = padded(*b"\x0B\x2B\x06\x01\x04\x01\x0B\x01\x03\x01\x01\x02\0\0\0\0\0\0\0\0\0\0\0\0\0\0\0\0\0\0\0\0\0\0\0\0\0\0\0\0");
 /// `searchTimeLimit`: 1.3.6.1.4.1.11.1.3.1.1.3
-pub const SEARCH_TIME_LIMIT: ObjectIdentifier = ObjectIdentifier::new_unwrap("1.3.6.1.4.1.11.1.3.1.1.3");
+pub const SEARCH_TIME_LIMIT: ObjectIdentifier = padded(*b"\x0B\x2B\x06\x01\x04\x01\x0B\x01\x03\x01\x01\x03\0\0\0\0\0\0\0\0\0\0\0\0\0\0\0\0\0\0\0\0\0\0\0\0\0\0\0\0");
 /// `bindTimeLimit`: 1.3.6.1.4.1.11.1.3.1.1.4
-pub const BIND_TIME_LIMIT: ObjectIdentifier = ObjectIdentifier::new_unwrap("1.3.6.1.4.1.11.1.3.1.1.4");
+pub const BIND_TIME_LIMIT: ObjectIdentifier = padded(*b"\x0B\x2B\x06\x01\x04\x01\x0B\x01\x03\x01\x01\x04\0\0\0\0\0\0\0\0\0\0\0\0\0\0\0\0\0\0\0\0\0\0\0\0\0\0\0\0");
 /// `followReferrals`: 1.3.6.1.4.1.11.1.3.1.1.5
-pub const FOLLOW_REFERRALS: ObjectIdentifier = ObjectIdentifier::new_unwrap("1.3.6.1.4.1.11.1.3.1.1.5");
+pub const FOLLOW_REFERRALS: ObjectIdentifier = padded(*b"\x0B\x2B\x06\x01\x04\x01\x0B\x01\x03\x01\x01\x05\0\0\0\0\0\0\0\0\0\0\0\0\0\0\0\0\0\0\0\0\0\0\0\0\0\0\0\0");
 /// `authenticationMethod`: 1.3.6.1.4.1.11.1.3.1.1.6
-pub const AUTHENTICATION_METHOD: ObjectIdentifier = ObjectIdentifier::new_unwrap("1.3.6.1.4.1.11.1.3.1.1.6");
+pub const AUTHENTICATION_METHOD: ObjectIdentifier = padded(*b"\x0B\x2B\x06\x01\x04\x01\x0B\x01\x03\x01\x01\x06\0\0\0\0\0\0\0\0\0\0\0\0\0\0\0\0\0\0\0\0\0\0\0\0\0\0\0\0");
 /// `profileTTL`: 1.3.6.1.4.1.11.1.3.1.1.7
-pub const PROFILE_TTL: ObjectIdentifier = ObjectIdentifier::new_unwrap("1.3.6.1.4.1.11.1.3.1.1.7");
+pub const PROFILE_TTL: ObjectIdentifier = padded(*b"\x0B\x2B\x06\x01\x04\x01\x0B\x01\x03\x01\x01\x07\0\0\0\0\0\0\0\0\0\0\0\0\0\0\0\0\0\0\0\0\0\0\0\0\0\0\0\0");
 /// `attributeMap`: 1.3.6.1.4.1.11.1.3.1.1.9
-pub const ATTRIBUTE_MAP: ObjectIdentifier = ObjectIdentifier::new_unwrap("1.3.6.1.4.1.11.1.3.1.1.9");
+pub const ATTRIBUTE_MAP: ObjectIdentifier = padded(*b"\x0B\x2B\x06\x01\x04\x01\x0B\x01\x03\x01\x01\x09\0\0\0\0\0\0\0\0\0\0\0\0\0\0\0\0\0\0\0\0\0\0\0\0\0\0\0\0");
 /// `DUAConfigProfile`: 1.3.6.1.4.1.11.1.3.1.2.5
-pub const DUA_CONFIG_PROFILE: ObjectIdentifier = ObjectIdentifier::new_unwrap("1.3.6.1.4.1.11.1.3.1.2.5");
+pub const DUA_CONFIG_PROFILE: ObjectIdentifier = padded(*b"\x0B\x2B\x06\x01\x04\x01\x0B\x01\x03\x01\x02\x05\0\0\0\0\0\0\0\0\0\0\0\0\0\0\0\0\0\0\0\0\0\0\0\0\0\0\0\0");
 }
 
 /// Identifiers of [RFC 5020](https://www.rfc-editor.org/rfc/rfc5020).
@@ -2220,10 +2261,11 @@ pub const DUA_CONFIG_PROFILE: ObjectIdentifier = ObjectIdentifier::new_unwrap("1
 /// assert_eq!(const_oid::db::rfc5020::ENTRY_DN.to_string(), "1.3.6.1.1.20");
 /// ```
 pub mod rfc5020 {
+use super::padded;
 use crate::ObjectIdentifier;
 
 /// `entryDN`: 1.3.6.1.1.20
-pub const ENTRY_DN: ObjectIdentifier = ObjectIdentifier::new_unwrap("1.3.6.1.1.20");
+pub const ENTRY_DN: ObjectIdentifier = padded(*b"\x05\x2B\x06\x01\x01\x14\0\0\0\0\0\0\0\0\0\0\0\0\0\0\0\0\0\0\0\0\0\0\0\0\0\0\0\0\0\0\0\0\0\0");
 }
 
 /// Identifiers of [RFC 5280](https://www.rfc-editor.org/rfc/rfc5280).
@@ -2234,110 +2276,111 @@ pub const ENTRY_DN: ObjectIdentifier = ObjectIdentifier::new_unwrap("1.3.6.1.1.2
 /// assert_eq!(const_oid::db::rfc5280::PKCS_9.to_string(), "1.2.840.113549.1.9");
 /// ```
 pub mod rfc5280 {
+use super::padded;
 use crate::ObjectIdentifier;
 
 /// `pkcs-9`: 1.2.840.113549.1.9
-pub const PKCS_9: ObjectIdentifier = ObjectIdentifier::new_unwrap("1.2.840.113549.1.9");
+pub const PKCS_9: ObjectIdentifier = padded(*b"\x08\x2A\x86\x48\x86\xF7\x0D\x01\x09\0\0\0\0\0\0\0\0\0\0\0\0\0\0\0\0\0\0\0\0\0\0\0\0\0\0\0\0\0\0\0");
 /// `id-pkix`: 1.3.6.1.5.5.7
-pub const ID_PKIX: ObjectIdentifier = ObjectIdentifier::new_unwrap("1.3.6.1.5.5.7");
+pub const ID_PKIX: ObjectIdentifier = padded(*b"\x06\x2B\x06\x01\x05\x05\x07\0\0\0\0\0\0\0\0\0\0\0\0\0\0\0\0\0\0\0\0\0\0\0\0\0\0\0\0\0\0\0\0\0");
 /// `id-pe`: 1.3.6.1.5.5.7.1
-pub const ID_PE: ObjectIdentifier = ObjectIdentifier::new_unwrap("1.3.6.1.5.5.7.1");
+pub const ID_PE: ObjectIdentifier = padded(*b"\x07\x2B\x06\x01\x05\x05\x07\x01\0\0\0\0\0\0\0\0\0\0\0\0\0\0\0\0\0\0\0\0\0\0\0\0\0\0\0\0\0\0\0\0");
 /// `id-pe-authorityInfoAccess`: 1.3.6.1.5.5.7.1.1
-pub const ID_PE_AUTHORITY_INFO_ACCESS: ObjectIdentifier = ObjectIdentifier::new_unwrap("1.3.6.1.5.5.7.1.1");
+pub const ID_PE_AUTHORITY_INFO_ACCESS: ObjectIdentifier = padded(*b"\x08\x2B\x06\x01\x05\x05\x07\x01\x01\0\0\0\0\0\0\0\0\0\0\0\0\0\0\0\0\0\0\0\0\0\0\0\0\0\0\0\0\0\0\0");
 /// `id-pe-subjectInfoAccess`: 1.3.6.1.5.5.7.1.11
-pub const ID_PE_SUBJECT_INFO_ACCESS: ObjectIdentifier = ObjectIdentifier::new_unwrap("1.3.6.1.5.5.7.1.11");
+pub const ID_PE_SUBJECT_INFO_ACCESS: ObjectIdentifier = padded(*b"\x08\x2B\x06\x01\x05\x05\x07\x01\x0B\0\0\0\0\0\0\0\0\0\0\0\0\0\0\0\0\0\0\0\0\0\0\0\0\0\0\0\0\0\0\0");
 /// `id-qt`: 1.3.6.1.5.5.7.2
-pub const ID_QT: ObjectIdentifier = ObjectIdentifier::new_unwrap("1.3.6.1.5.5.7.2");
+pub const ID_QT: ObjectIdentifier = padded(*b"\x07\x2B\x06\x01\x05\x05\x07\x02\0\0\0\0\0\0\0\0\0\0\0\0\0\0\0\0\0\0\0\0\0\0\0\0\0\0\0\0\0\0\0\0");
 /// `id-qt-cps`: 1.3.6.1.5.5.7.2.1
-pub const ID_QT_CPS: ObjectIdentifier = ObjectIdentifier::new_unwrap("1.3.6.1.5.5.7.2.1");
+pub const ID_QT_CPS: ObjectIdentifier = padded(*b"\x08\x2B\x06\x01\x05\x05\x07\x02\x01\0\0\0\0\0\0\0\0\0\0\0\0\0\0\0\0\0\0\0\0\0\0\0\0\0\0\0\0\0\0\0");
 /// `id-qt-unotice`: 1.3.6.1.5.5.7.2.2
-pub const ID_QT_UNOTICE: ObjectIdentifier = ObjectIdentifier::new_unwrap("1.3.6.1.5.5.7.2.2");
+pub const ID_QT_UNOTICE: ObjectIdentifier = padded(*b"\x08\x2B\x06\x01\x05\x05\x07\x02\x02\0\0\0\0\0\0\0\0\0\0\0\0\0\0\0\0\0\0\0\0\0\0\0\0\0\0\0\0\0\0\0");
 /// `id-kp`: 1.3.6.1.5.5.7.3
-pub const ID_KP: ObjectIdentifier = ObjectIdentifier::new_unwrap("1.3.6.1.5.5.7.3");
+pub const ID_KP: ObjectIdentifier = padded(*b"\x07\x2B\x06\x01\x05\x05\x07\x03\0\0\0\0\0\0\0\0\0\0\0\0\0\0\0\0\0\0\0\0\0\0\0\0\0\0\0\0\0\0\0\0");
 /// `id-kp-serverAuth`: 1.3.6.1.5.5.7.3.1
-pub const ID_KP_SERVER_AUTH: ObjectIdentifier = ObjectIdentifier::new_unwrap("1.3.6.1.5.5.7.3.1");
+pub const ID_KP_SERVER_AUTH: ObjectIdentifier = padded(*b"\x08\x2B\x06\x01\x05\x05\x07\x03\x01\0\0\0\0\0\0\0\0\0\0\0\0\0\0\0\0\0\0\0\0\0\0\0\0\0\0\0\0\0\0\0");
 /// `id-kp-clientAuth`: 1.3.6.1.5.5.7.3.2
-pub const ID_KP_CLIENT_AUTH: ObjectIdentifier = ObjectIdentifier::new_unwrap("1.3.6.1.5.5.7.3.2");
+pub const ID_KP_CLIENT_AUTH: ObjectIdentifier = padded(*b"\x08\x2B\x06\x01\x05\x05\x07\x03\x02\0\0\0\0\0\0\0\0\0\0\0\0\0\0\0\0\0\0\0\0\0\0\0\0\0\0\0\0\0\0\0");
 /// `id-kp-codeSigning`: 1.3.6.1.5.5.7.3.3
-pub const ID_KP_CODE_SIGNING: ObjectIdentifier = ObjectIdentifier::new_unwrap("1.3.6.1.5.5.7.3.3");
+pub const ID_KP_CODE_SIGNING: ObjectIdentifier = padded(*b"\x08\x2B\x06\x01\x05\x05\x07\x03\x03\0\0\0\0\0\0\0\0\0\0\0\0\0\0\0\0\0\0\0\0\0\0\0\0\0\0\0\0\0\0\0");
 /// `id-kp-emailProtection`: 1.3.6.1.5.5.7.3.4
-pub const ID_KP_EMAIL_PROTECTION: ObjectIdentifier = ObjectIdentifier::new_unwrap("1.3.6.1.5.5.7.3.4");
+pub const ID_KP_EMAIL_PROTECTION: ObjectIdentifier = padded(*b"\x08\x2B\x06\x01\x05\x05\x07\x03\x04\0\0\0\0\0\0\0\0\0\0\0\0\0\0\0\0\0\0\0\0\0\0\0\0\0\0\0\0\0\0\0");
 /// `id-kp-timeStamping`: 1.3.6.1.5.5.7.3.8
-pub const ID_KP_TIME_STAMPING: ObjectIdentifier = ObjectIdentifier::new_unwrap("1.3.6.1.5.5.7.3.8");
+pub const ID_KP_TIME_STAMPING: ObjectIdentifier = padded(*b"\x08\x2B\x06\x01\x05\x05\x07\x03\x08\0\0\0\0\0\0\0\0\0\0\0\0\0\0\0\0\0\0\0\0\0\0\0\0\0\0\0\0\0\0\0");
 /// `id-kp-OCSPSigning`: 1.3.6.1.5.5.7.3.9
-pub const ID_KP_OCSP_SIGNING: ObjectIdentifier = ObjectIdentifier::new_unwrap("1.3.6.1.5.5.7.3.9");
+pub const ID_KP_OCSP_SIGNING: ObjectIdentifier = padded(*b"\x08\x2B\x06\x01\x05\x05\x07\x03\x09\0\0\0\0\0\0\0\0\0\0\0\0\0\0\0\0\0\0\0\0\0\0\0\0\0\0\0\0\0\0\0");
 /// `id-ad`: 1.3.6.1.5.5.7.48
-pub const ID_AD: ObjectIdentifier = ObjectIdentifier::new_unwrap("1.3.6.1.5.5.7.48");
+pub const ID_AD: ObjectIdentifier = padded(*b"\x07\x2B\x06\x01\x05\x05\x07\x30\0\0\0\0\0\0\0\0\0\0\0\0\0\0\0\0\0\0\0\0\0\0\0\0\0\0\0\0\0\0\0\0");
 /// `id-ad-ocsp`: 1.3.6.1.5.5.7.48.1
-pub const ID_AD_OCSP: ObjectIdentifier = ObjectIdentifier::new_unwrap("1.3.6.1.5.5.7.48.1");
+pub const ID_AD_OCSP: ObjectIdentifier = padded(*b"\x08\x2B\x06\x01\x05\x05\x07\x30\x01\0\0\0\0\0\0\0\0\0\0\0\0\0\0\0\0\0\0\0\0\0\0\0\0\0\0\0\0\0\0\0");
 /// `id-ad-caIssuers`: 1.3.6.1.5.5.7.48.2
-pub const ID_AD_CA_ISSUERS: ObjectIdentifier = ObjectIdentifier::new_unwrap("1.3.6.1.5.5.7.48.2");
+pub const ID_AD_CA_ISSUERS: ObjectIdentifier = padded(*b"\x08\x2B\x06\x01\x05\x05\x07\x30\x02\0\0\0\0\0\0\0\0\0\0\0\0\0\0\0\0\0\0\0\0\0\0\0\0\0\0\0\0\0\0\0");
 /// `id-ad-timeStamping`: 1.3.6.1.5.5.7.48.3
-pub const ID_AD_TIME_STAMPING: ObjectIdentifier = ObjectIdentifier::new_unwrap("1.3.6.1.5.5.7.48.3");
+pub const ID_AD_TIME_STAMPING: ObjectIdentifier = padded(*b"\x08\x2B\x06\x01\x05\x05\x07\x30\x03\0\0\0\0\0\0\0\0\0\0\0\0\0\0\0\0\0\0\0\0\0\0\0\0\0\0\0\0\0\0\0");
 /// `id-ad-caRepository`: 1.3.6.1.5.5.7.48.5
-pub const ID_AD_CA_REPOSITORY: ObjectIdentifier = ObjectIdentifier::new_unwrap("1.3.6.1.5.5.7.48.5");
+pub const ID_AD_CA_REPOSITORY: ObjectIdentifier = padded(*b"\x08\x2B\x06\x01\x05\x05\x07\x30\x05\0\0\0\0\0\0\0\0\0\0\0\0\0\0\0\0\0\0\0\0\0\0\0\0\0\0\0\0\0\0\0");
 /// `holdInstruction`: 2.2.840.10040.2
-pub const HOLD_INSTRUCTION: ObjectIdentifier = ObjectIdentifier::new_unwrap("2.2.840.10040.2");
+pub const HOLD_INSTRUCTION: ObjectIdentifier = padded(*b"\x06\x52\x86\x48\xCE\x38\x02\0\0\0\0\0\0\0\0\0\0\0\0\0\0\0\0\0\0\0\0\0\0\0\0\0\0\0\0\0\0\0\0\0");
 /// `id-holdinstruction-none`: 2.2.840.10040.2.1
-pub const ID_HOLDINSTRUCTION_NONE: ObjectIdentifier = ObjectIdentifier::new_unwrap("2.2.840.10040.2.1");
+pub const ID_HOLDINSTRUCTION_NONE: ObjectIdentifier = padded(*b"\x07\x52\x86\x48\xCE\x38\x02\x01\0\0\0\0\0\0\0\0\0\0\0\0\0\0\0\0\0\0\0\0\0\0\0\0\0\0\0\0\0\0\0\0");
 /// `id-holdinstruction-callissuer`: 2.2.840.10040.2.2
-pub const ID_HOLDINSTRUCTION_CALLISSUER: ObjectIdentifier = ObjectIdentifier::new_unwrap("2.2.840.10040.2.2");
+pub const ID_HOLDINSTRUCTION_CALLISSUER: ObjectIdentifier = padded(*b"\x07\x52\x86\x48\xCE\x38\x02\x02\0\0\0\0\0\0\0\0\0\0\0\0\0\0\0\0\0\0\0\0\0\0\0\0\0\0\0\0\0\0\0\0");
 /// `id-holdinstruction-reject`: 2.2.840.10040.2.3
-pub const ID_HOLDINSTRUCTION_REJECT: ObjectIdentifier = ObjectIdentifier::new_unwrap("2.2.840.10040.2.3");
+pub const ID_HOLDINSTRUCTION_REJECT: ObjectIdentifier = padded(*b"\x07\x52\x86\x48\xCE\x38\x02\x03\0\0\0\0\0\0\0\0\0\0\0\0\0\0\0\0\0\0\0\0\0\0\0\0\0\0\0\0\0\0\0\0");
 /// `id-ce`: 2.5.29
-pub const ID_CE: ObjectIdentifier = ObjectIdentifier::new_unwrap("2.5.29");
+pub const ID_CE: ObjectIdentifier = padded(*b"\x02\x55\x1D\0\0\0\0\0\0\0\0\0\0\0\0\0\0\0\0\0\0\0\0\0\0\0\0\0\0\0\0\0\0\0\0\0\0\0\0\0");
 /// `id-ce-subjectKeyIdentifier`: 2.5.29.14
-pub const ID_CE_SUBJECT_KEY_IDENTIFIER: ObjectIdentifier = ObjectIdentifier::new_unwrap("2.5.29.14");
+pub const ID_CE_SUBJECT_KEY_IDENTIFIER: ObjectIdentifier = padded(*b"\x03\x55\x1D\x0E\0\0\0\0\0\0\0\0\0\0\0\0\0\0\0\0\0\0\0\0\0\0\0\0\0\0\0\0\0\0\0\0\0\0\0\0");
 /// `id-ce-keyUsage`: 2.5.29.15
-pub const ID_CE_KEY_USAGE: ObjectIdentifier = ObjectIdentifier::new_unwrap("2.5.29.15");
+pub const ID_CE_KEY_USAGE: ObjectIdentifier = padded(*b"\x03\x55\x1D\x0F\0\0\0\0\0\0\0\0\0\0\0\0\0\0\0\0\0\0\0\0\0\0\0\0\0\0\0\0\0\0\0\0\0\0\0\0");
 /// `id-ce-privateKeyUsagePeriod`: 2.5.29.16
-pub const ID_CE_PRIVATE_KEY_USAGE_PERIOD: ObjectIdentifier = ObjectIdentifier::new_unwrap("2.5.29.16");
+pub const ID_CE_PRIVATE_KEY_USAGE_PERIOD: ObjectIdentifier = padded(*b"\x03\x55\x1D\x10\0\0\0\0\0\0\0\0\0\0\0\0\0\0\0\0\0\0\0\0\0\0\0\0\0\0\0\0\0\0\0\0\0\0\0\0");
 /// `id-ce-subjectAltName`: 2.5.29.17
-pub const ID_CE_SUBJECT_ALT_NAME: ObjectIdentifier = ObjectIdentifier::new_unwrap("2.5.29.17");
+pub const ID_CE_SUBJECT_ALT_NAME: ObjectIdentifier = padded(*b"\x03\x55\x1D\x11\0\0\0\0\0\0\0\0\0\0\0\0\0\0\0\0\0\0\0\0\0\0\0\0\0\0\0\0\0\0\0\0\0\0\0\0");
 /// `id-ce-issuerAltName`: 2.5.29.18
-pub const ID_CE_ISSUER_ALT_NAME: ObjectIdentifier = ObjectIdentifier::new_unwrap("2.5.29.18");
+pub const ID_CE_ISSUER_ALT_NAME: ObjectIdentifier = padded(*b"\x03\x55\x1D\x12\0\0\0\0\0\0\0\0\0\0\0\0\0\0\0\0\0\0\0\0\0\0\0\0\0\0\0\0\0\0\0\0\0\0\0\0");
 /// `id-ce-basicConstraints`: 2.5.29.19
-pub const ID_CE_BASIC_CONSTRAINTS: ObjectIdentifier = ObjectIdentifier::new_unwrap("2.5.29.19");
+pub const ID_CE_BASIC_CONSTRAINTS: ObjectIdentifier = padded(*b"\x03\x55\x1D\x13\0\0\0\0\0\0\0\0\0\0\0\0\0\0\0\0\0\0\0\0\0\0\0\0\0\0\0\0\0\0\0\0\0\0\0\0");
 /// `id-ce-cRLNumber`: 2.5.29.20
-pub const ID_CE_CRL_NUMBER: ObjectIdentifier = ObjectIdentifier::new_unwrap("2.5.29.20");
+pub const ID_CE_CRL_NUMBER: ObjectIdentifier = padded(*b"\x03\x55\x1D\x14\0\0\0\0\0\0\0\0\0\0\0\0\0\0\0\0\0\0\0\0\0\0\0\0\0\0\0\0\0\0\0\0\0\0\0\0");
 /// `id-ce-cRLReasons`: 2.5.29.21
-pub const ID_CE_CRL_REASONS: ObjectIdentifier = ObjectIdentifier::new_unwrap("2.5.29.21");
+pub const ID_CE_CRL_REASONS: ObjectIdentifier = padded(*b"\x03\x55\x1D\x15\0\0\0\0\0\0\0\0\0\0\0\0\0\0\0\0\0\0\0\0\0\0\0\0\0\0\0\0\0\0\0\0\0\0\0\0");
 /// `id-ce-holdInstructionCode`: 2.5.29.23
-pub const ID_CE_HOLD_INSTRUCTION_CODE: ObjectIdentifier = ObjectIdentifier::new_unwrap("2.5.29.23");
+pub const ID_CE_HOLD_INSTRUCTION_CODE: ObjectIdentifier = padded(*b"\x03\x55\x1D\x17\0\0\0\0\0\0\0\0\0\0\0\0\0\0\0\0\0\0\0\0\0\0\0\0\0\0\0\0\0\0\0\0\0\0\0\0");
 /// `id-ce-invalidityDate`: 2.5.29.24
-pub const ID_CE_INVALIDITY_DATE: ObjectIdentifier = ObjectIdentifier::new_unwrap("2.5.29.24");
+pub const ID_CE_INVALIDITY_DATE: ObjectIdentifier = padded(*b"\x03\x55\x1D\x18\0\0\0\0\0\0\0\0\0\0\0\0\0\0\0\0\0\0\0\0\0\0\0\0\0\0\0\0\0\0\0\0\0\0\0\0");
 /// `id-ce-deltaCRLIndicator`: 2.5.29.27
-pub const ID_CE_DELTA_CRL_INDICATOR: ObjectIdentifier = ObjectIdentifier::new_unwrap("2.5.29.27");
+pub const ID_CE_DELTA_CRL_INDICATOR: ObjectIdentifier = padded(*b"\x03\x55\x1D\x1B\0\0\0\0\0\0\0\0\0\0\0\0\0\0\0\0\0\0\0\0\0\0\0\0\0\0\0\0\0\0\0\0\0\0\0\0");
 /// `id-ce-issuingDistributionPoint`: 2.5.29.28
-pub const ID_CE_ISSUING_DISTRIBUTION_POINT: ObjectIdentifier = ObjectIdentifier::new_unwrap("2.5.29.28");
+pub const ID_CE_ISSUING_DISTRIBUTION_POINT: ObjectIdentifier = padded(*b"\x03\x55\x1D\x1C\0\0\0\0\0\0\0\0\0\0\0\0\0\0\0\0\0\0\0\0\0\0\0\0\0\0\0\0\0\0\0\0\0\0\0\0");
 /// `id-ce-certificateIssuer`: 2.5.29.29
-pub const ID_CE_CERTIFICATE_ISSUER: ObjectIdentifier = ObjectIdentifier::new_unwrap("2.5.29.29");
+pub const ID_CE_CERTIFICATE_ISSUER: ObjectIdentifier = padded(*b"\x03\x55\x1D\x1D\0\0\0\0\0\0\0\0\0\0\0\0\0\0\0\0\0\0\0\0\0\0\0\0\0\0\0\0\0\0\0\0\0\0\0\0");
 /// `id-ce-nameConstraints`: 2.5.29.30
-pub const ID_CE_NAME_CONSTRAINTS: ObjectIdentifier = ObjectIdentifier::new_unwrap("2.5.29.30");
+pub const ID_CE_NAME_CONSTRAINTS: ObjectIdentifier = padded(*b"\x03\x55\x1D\x1E\0\0\0\0\0\0\0\0\0\0\0\0\0\0\0\0\0\0\0\0\0\0\0\0\0\0\0\0\0\0\0\0\0\0\0\0");
 /// `id-ce-cRLDistributionPoints`: 2.5.29.31
-pub const ID_CE_CRL_DISTRIBUTION_POINTS: ObjectIdentifier = ObjectIdentifier::new_unwrap("2.5.29.31");
+pub const ID_CE_CRL_DISTRIBUTION_POINTS: ObjectIdentifier = padded(*b"\x03\x55\x1D\x1F\0\0\0\0\0\0\0\0\0\0\0\0\0\0\0\0\0\0\0\0\0\0\0\0\0\0\0\0\0\0\0\0\0\0\0\0");
 /// `id-ce-certificatePolicies`: 2.5.29.32
-pub const ID_CE_CERTIFICATE_POLICIES: ObjectIdentifier = ObjectIdentifier::new_unwrap("2.5.29.32");
+pub const ID_CE_CERTIFICATE_POLICIES: ObjectIdentifier = padded(*b"\x03\x55\x1D\x20\0\0\0\0\0\0\0\0\0\0\0\0\0\0\0\0\0\0\0\0\0\0\0\0\0\0\0\0\0\0\0\0\0\0\0\0");
 /// `anyPolicy`: 2.5.29.32.0
-pub const ANY_POLICY: ObjectIdentifier = ObjectIdentifier::new_unwrap("2.5.29.32.0");
+pub const ANY_POLICY: ObjectIdentifier = padded(*b"\x04\x55\x1D\x20\x00\0\0\0\0\0\0\0\0\0\0\0\0\0\0\0\0\0\0\0\0\0\0\0\0\0\0\0\0\0\0\0\0\0\0\0");
 /// `id-ce-policyMappings`: 2.5.29.33
-pub const ID_CE_POLICY_MAPPINGS: ObjectIdentifier = ObjectIdentifier::new_unwrap("2.5.29.33");
+pub const ID_CE_POLICY_MAPPINGS: ObjectIdentifier = padded(*b"\x03\x55\x1D\x21\0\0\0\0\0\0\0\0\0\0\0\0\0\0\0\0\0\0\0\0\0\0\0\0\0\0\0\0\0\0\0\0\0\0\0\0");
 /// `id-ce-authorityKeyIdentifier`: 2.5.29.35
-pub const ID_CE_AUTHORITY_KEY_IDENTIFIER: ObjectIdentifier = ObjectIdentifier::new_unwrap("2.5.29.35");
+pub const ID_CE_AUTHORITY_KEY_IDENTIFIER: ObjectIdentifier = padded(*b"\x03\x55\x1D\x23\0\0\0\0\0\0\0\0\0\0\0\0\0\0\0\0\0\0\0\0\0\0\0\0\0\0\0\0\0\0\0\0\0\0\0\0");
 /// `id-ce-policyConstraints`: 2.5.29.36
-pub const ID_CE_POLICY_CONSTRAINTS: ObjectIdentifier = ObjectIdentifier::new_unwrap("2.5.29.36");
+pub const ID_CE_POLICY_CONSTRAINTS: ObjectIdentifier = padded(*b"\x03\x55\x1D\x24\0\0\0\0\0\0\0\0\0\0\0\0\0\0\0\0\0\0\0\0\0\0\0\0\0\0\0\0\0\0\0\0\0\0\0\0");
 /// `id-ce-extKeyUsage`: 2.5.29.37
-pub const ID_CE_EXT_KEY_USAGE: ObjectIdentifier = ObjectIdentifier::new_unwrap("2.5.29.37");
+pub const ID_CE_EXT_KEY_USAGE: ObjectIdentifier = padded(*b"\x03\x55\x1D\x25\0\0\0\0\0\0\0\0\0\0\0\0\0\0\0\0\0\0\0\0\0\0\0\0\0\0\0\0\0\0\0\0\0\0\0\0");
 /// `anyExtendedKeyUsage`: 2.5.29.37.0
-pub const ANY_EXTENDED_KEY_USAGE: ObjectIdentifier = ObjectIdentifier::new_unwrap("2.5.29.37.0");
+pub const ANY_EXTENDED_KEY_USAGE: ObjectIdentifier = padded(*b"\x04\x55\x1D\x25\x00\0\0\0\0\0\0\0\0\0\0\0\0\0\0\0\0\0\0\0\0\0\0\0\0\0\0\0\0\0\0\0\0\0\0\0");
 /// `id-ce-freshestCRL`: 2.5.29.46
-pub const ID_CE_FRESHEST_CRL: ObjectIdentifier = ObjectIdentifier::new_unwrap("2.5.29.46");
+pub const ID_CE_FRESHEST_CRL: ObjectIdentifier = padded(*b"\x03\x55\x1D\x2E\0\0\0\0\0\0\0\0\0\0\0\0\0\0\0\0\0\0\0\0\0\0\0\0\0\0\0\0\0\0\0\0\0\0\0\0");
 /// `id-ce-inhibitAnyPolicy`: 2.5.29.54
-pub const ID_CE_INHIBIT_ANY_POLICY: ObjectIdentifier = ObjectIdentifier::new_unwrap("2.5.29.54");
+pub const ID_CE_INHIBIT_ANY_POLICY: ObjectIdentifier = padded(*b"\x03\x55\x1D\x36\0\0\0\0\0\0\0\0\0\0\0\0\0\0\0\0\0\0\0\0\0\0\0\0\0\0\0\0\0\0\0\0\0\0\0\0");
 /// `id-ce-subjectDirectoryAttributes`: 2.5.29.9
-pub const ID_CE_SUBJECT_DIRECTORY_ATTRIBUTES: ObjectIdentifier = ObjectIdentifier::new_unwrap("2.5.29.9");
+pub const ID_CE_SUBJECT_DIRECTORY_ATTRIBUTES: ObjectIdentifier = padded(*b"\x03\x55\x1D\x09\0\0\0\0\0\0\0\0\0\0\0\0\0\0\0\0\0\0\0\0\0\0\0\0\0\0\0\0\0\0\0\0\0\0\0\0");
 /// `id-at`: 2.5.4
-pub const ID_AT: ObjectIdentifier = ObjectIdentifier::new_unwrap("2.5.4");
+pub const ID_AT: ObjectIdentifier = padded(*b"\x02\x55\x04\0\0\0\0\0\0\0\0\0\0\0\0\0\0\0\0\0\0\0\0\0\0\0\0\0\0\0\0\0\0\0\0\0\0\0\0\0");
 }
 
 /// Identifiers of [RFC 5639](https://www.rfc-editor.org/rfc/rfc5639).
@@ -2348,40 +2391,41 @@ pub const ID_AT: ObjectIdentifier = ObjectIdentifier::new_unwrap("2.5.4");
 /// assert_eq!(const_oid::db::rfc5639::ELLIPTIC_CURVE.to_string(), "1.3.36.3.3.2.8.1");
 /// ```
 pub mod rfc5639 {
+use super::padded;
 use crate::ObjectIdentifier;
 
 /// `ellipticCurve`: 1.3.36.3.3.2.8.1
-pub const ELLIPTIC_CURVE: ObjectIdentifier = ObjectIdentifier::new_unwrap("1.3.36.3.3.2.8.1");
+pub const ELLIPTIC_CURVE: ObjectIdentifier = padded(*b"\x07\x2B\x24\x03\x03\x02\x08\x01\0\0\0\0\0\0\0\0\0\0\0\0\0\0\0\0\0\0\0\0\0\0\0\0\0\0\0\0\0\0\0\0");
 /// `versionOne`: 1.3.36.3.3.2.8.1.1
-pub const VERSION_ONE: ObjectIdentifier = ObjectIdentifier::new_unwrap("1.3.36.3.3.2.8.1.1");
+pub const VERSION_ONE: ObjectIdentifier = padded(*b"\x08\x2B\x24\x03\x03\x02\x08\x01\x01\0\0\0\0\0\0\0\0\0\0\0\0\0\0\0\0\0\0\0\0\0\0\0\0\0\0\0\0\0\0\0");
 /// `brainpoolP160r1`: 1.3.36.3.3.2.8.1.1.1
-pub const BRAINPOOL_P_160_R_1: ObjectIdentifier = ObjectIdentifier::new_unwrap("1.3.36.3.3.2.8.1.1.1");
+pub const BRAINPOOL_P_160_R_1: ObjectIdentifier = padded(*b"\x09\x2B\x24\x03\x03\x02\x08\x01\x01\x01\0\0\0\0\0\0\0\0\0\0\0\0\0\0\0\0\0\0\0\0\0\0\0\0\0\0\0\0\0\0");
 /// `brainpoolP320t1`: 1.3.36.3.3.2.8.1.1.10
-pub const BRAINPOOL_P_320_T_1: ObjectIdentifier = ObjectIdentifier::new_unwrap("1.3.36.3.3.2.8.1.1.10");
+pub const BRAINPOOL_P_320_T_1: ObjectIdentifier = padded(*b"\x09\x2B\x24\x03\x03\x02\x08\x01\x01\x0A\0\0\0\0\0\0\0\0\0\0\0\0\0\0\0\0\0\0\0\0\0\0\0\0\0\0\0\0\0\0");
 /// `brainpoolP384r1`: 1.3.36.3.3.2.8.1.1.11
-pub const BRAINPOOL_P_384_R_1: ObjectIdentifier = ObjectIdentifier::new_unwrap("1.3.36.3.3.2.8.1.1.11");
+pub const BRAINPOOL_P_384_R_1: ObjectIdentifier = padded(*b"\x09\x2B\x24\x03\x03\x02\x08\x01\x01\x0B\0\0\0\0\0\0\0\0\0\0\0\0\0\0\0\0\0\0\0\0\0\0\0\0\0\0\0\0\0\0");
 /// `brainpoolP384t1`: 1.3.36.3.3.2.8.1.1.12
-pub const BRAINPOOL_P_384_T_1: ObjectIdentifier = ObjectIdentifier::new_unwrap("1.3.36.3.3.2.8.1.1.12");
+pub const BRAINPOOL_P_384_T_1: ObjectIdentifier = padded(*b"\x09\x2B\x24\x03\x03\x02\x08\x01\x01\x0C\0\0\0\0\0\0\0\0\0\0\0\0\0\0\0\0\0\0\0\0\0\0\0\0\0\0\0\0\0\0");
 /// `brainpoolP512r1`: 1.3.36.3.3.2.8.1.1.13
-pub const BRAINPOOL_P_512_R_1: ObjectIdentifier = ObjectIdentifier::new_unwrap("1.3.36.3.3.2.8.1.1.13");
+pub const BRAINPOOL_P_512_R_1: ObjectIdentifier = padded(*b"\x09\x2B\x24\x03\x03\x02\x08\x01\x01\x0D\0\0\0\0\0\0\0\0\0\0\0\0\0\0\0\0\0\0\0\0\0\0\0\0\0\0\0\0\0\0");
 /// `brainpoolP512t1`: 1.3.36.3.3.2.8.1.1.14
-pub const BRAINPOOL_P_512_T_1: ObjectIdentifier = ObjectIdentifier::new_unwrap("1.3.36.3.3.2.8.1.1.14");
+pub const BRAINPOOL_P_512_T_1: ObjectIdentifier = padded(*b"\x09\x2B\x24\x03\x03\x02\x08\x01\x01\x0E\0\0\0\0\0\0\0\0\0\0\0\0\0\0\0\0\0\0\0\0\0\0\0\0\0\0\0\0\0\0");
 /// `brainpoolP160t1`: 1.3.36.3.3.2.8.1.1.2
-pub const BRAINPOOL_P_160_T_1: ObjectIdentifier = ObjectIdentifier::new_unwrap("1.3.36.3.3.2.8.1.1.2");
+pub const BRAINPOOL_P_160_T_1: ObjectIdentifier = padded(*b"\x09\x2B\x24\x03\x03\x02\x08\x01\x01\x02\0\0\0\0\0\0\0\0\0\0\0\0\0\0\0\0\0\0\0\0\0\0\0\0\0\0\0\0\0\0");
 /// `brainpoolP192r1`: 1.3.36.3.3.2.8.1.1.3
-pub const BRAINPOOL_P_192_R_1: ObjectIdentifier = ObjectIdentifier::new_unwrap("1.3.36.3.3.2.8.1.1.3");
+pub const BRAINPOOL_P_192_R_1: ObjectIdentifier = padded(*b"\x09\x2B\x24\x03\x03\x02\x08\x01\x01\x03\0\0\0\0\0\0\0\0\0\0\0\0\0\0\0\0\0\0\0\0\0\0\0\0\0\0\0\0\0\0");
 /// `brainpoolP192t1`: 1.3.36.3.3.2.8.1.1.4
-pub const BRAINPOOL_P_192_T_1: ObjectIdentifier = ObjectIdentifier::new_unwrap("1.3.36.3.3.2.8.1.1.4");
+pub const BRAINPOOL_P_192_T_1: ObjectIdentifier = padded(*b"\x09\x2B\x24\x03\x03\x02\x08\x01\x01\x04\0\0\0\0\0\0\0\0\0\0\0\0\0\0\0\0\0\0\0\0\0\0\0\0\0\0\0\0\0\0");
 /// `brainpoolP224r1`: 1.3.36.3.3.2.8.1.1.5
-pub const BRAINPOOL_P_224_R_1: ObjectIdentifier = ObjectIdentifier::new_unwrap("1.3.36.3.3.2.8.1.1.5");
+pub const BRAINPOOL_P_224_R_1: ObjectIdentifier = padded(*b"\x09\x2B\x24\x03\x03\x02\x08\x01\x01\x05\0\0\0\0\0\0\0\0\0\0\0\0\0\0\0\0\0\0\0\0\0\0\0\0\0\0\0\0\0\0");
 /// `brainpoolP224t1`: 1.3.36.3.3.2.8.1.1.6
-pub const BRAINPOOL_P_224_T_1: ObjectIdentifier = ObjectIdentifier::new_unwrap("1.3.36.3.3.2.8.1.1.6");
+pub const BRAINPOOL_P_224_T_1: ObjectIdentifier = padded(*b"\x09\x2B\x24\x03\x03\x02\x08\x01\x01\x06\0\0\0\0\0\0\0\0\0\0\0\0\0\0\0\0\0\0\0\0\0\0\0\0\0\0\0\0\0\0");
 /// `brainpoolP256r1`: 1.3.36.3.3.2.8.1.1.7
-pub const BRAINPOOL_P_256_R_1: ObjectIdentifier = ObjectIdentifier::new_unwrap("1.3.36.3.3.2.8.1.1.7");
+pub const BRAINPOOL_P_256_R_1: ObjectIdentifier = padded(*b"\x09\x2B\x24\x03\x03\x02\x08\x01\x01\x07\0\0\0\0\0\0\0\0\0\0\0\0\0\0\0\0\0\0\0\0\0\0\0\0\0\0\0\0\0\0");
 /// `brainpoolP256t1`: 1.3.36.3.3.2.8.1.1.8
-pub const BRAINPOOL_P_256_T_1: ObjectIdentifier = ObjectIdentifier::new_unwrap("1.3.36.3.3.2.8.1.1.8");
+pub const BRAINPOOL_P_256_T_1: ObjectIdentifier = padded(*b"\x09\x2B\x24\x03\x03\x02\x08\x01\x01\x08\0\0\0\0\0\0\0\0\0\0\0\0\0\0\0\0\0\0\0\0\0\0\0\0\0\0\0\0\0\0");
 /// `brainpoolP320r1`: 1.3.36.3.3.2.8.1.1.9
-pub const BRAINPOOL_P_320_R_1: ObjectIdentifier = ObjectIdentifier::new_unwrap("1.3.36.3.3.2.8.1.1.9");
+pub const BRAINPOOL_P_320_R_1: ObjectIdentifier = padded(*b"\x09\x2B\x24\x03\x03\x02\x08\x01\x01\x09\0\0\0\0\0\0\0\0\0\0\0\0\0\0\0\0\0\0\0\0\0\0\0\0\0\0\0\0\0\0");
 }
 
 /// Identifiers of [RFC 5753](https://www.rfc-editor.org/rfc/rfc5753).
@@ -2392,54 +2436,55 @@ pub const BRAINPOOL_P_320_R_1: ObjectIdentifier = ObjectIdentifier::new_unwrap("
 /// assert_eq!(const_oid::db::rfc5753::ANSI_X_9_62.to_string(), "1.2.840.10045");
 /// ```
 pub mod rfc5753 {
+use super::padded;
 use crate::ObjectIdentifier;
 
 /// `ansi-x9-62`: 1.2.840.10045
-pub const ANSI_X_9_62: ObjectIdentifier = ObjectIdentifier::new_unwrap("1.2.840.10045");
+pub const ANSI_X_9_62: ObjectIdentifier = padded(*b"\x05\x2A\x86\x48\xCE\x3D\0\0\0\0\0\0\0\0\0\0\0\0\0\0\0\0\0\0\0\0\0\0\0\0\0\0\0\0\0\0\0\0\0\0");
 /// `id-ecPublicKey`: 1.2.840.10045.2.1
-pub const ID_EC_PUBLIC_KEY: ObjectIdentifier = ObjectIdentifier::new_unwrap("1.2.840.10045.2.1");
+pub const ID_EC_PUBLIC_KEY: ObjectIdentifier = padded(*b"\x07\x2A\x86\x48\xCE\x3D\x02\x01\0\0\0\0\0\0\0\0\0\0\0\0\0\0\0\0\0\0\0\0\0\0\0\0\0\0\0\0\0\0\0\0");
 /// `id-hmacWithSHA384`: 1.2.840.113549.2.10
-pub const ID_HMAC_WITH_SHA_384: ObjectIdentifier = ObjectIdentifier::new_unwrap("1.2.840.113549.2.10");
+pub const ID_HMAC_WITH_SHA_384: ObjectIdentifier = padded(*b"\x08\x2A\x86\x48\x86\xF7\x0D\x02\x0A\0\0\0\0\0\0\0\0\0\0\0\0\0\0\0\0\0\0\0\0\0\0\0\0\0\0\0\0\0\0\0");
 /// `id-hmacWithSHA512`: 1.2.840.113549.2.11
-pub const ID_HMAC_WITH_SHA_512: ObjectIdentifier = ObjectIdentifier::new_unwrap("1.2.840.113549.2.11");
+pub const ID_HMAC_WITH_SHA_512: ObjectIdentifier = padded(*b"\x08\x2A\x86\x48\x86\xF7\x0D\x02\x0B\0\0\0\0\0\0\0\0\0\0\0\0\0\0\0\0\0\0\0\0\0\0\0\0\0\0\0\0\0\0\0");
 /// `id-hmacWithSHA224`: 1.2.840.113549.2.8
-pub const ID_HMAC_WITH_SHA_224: ObjectIdentifier = ObjectIdentifier::new_unwrap("1.2.840.113549.2.8");
+pub const ID_HMAC_WITH_SHA_224: ObjectIdentifier = padded(*b"\x08\x2A\x86\x48\x86\xF7\x0D\x02\x08\0\0\0\0\0\0\0\0\0\0\0\0\0\0\0\0\0\0\0\0\0\0\0\0\0\0\0\0\0\0\0");
 /// `id-hmacWithSHA256`: 1.2.840.113549.2.9
-pub const ID_HMAC_WITH_SHA_256: ObjectIdentifier = ObjectIdentifier::new_unwrap("1.2.840.113549.2.9");
+pub const ID_HMAC_WITH_SHA_256: ObjectIdentifier = padded(*b"\x08\x2A\x86\x48\x86\xF7\x0D\x02\x09\0\0\0\0\0\0\0\0\0\0\0\0\0\0\0\0\0\0\0\0\0\0\0\0\0\0\0\0\0\0\0");
 /// `secg-scheme`: 1.3.132.1
-pub const SECG_SCHEME: ObjectIdentifier = ObjectIdentifier::new_unwrap("1.3.132.1");
+pub const SECG_SCHEME: ObjectIdentifier = padded(*b"\x04\x2B\x81\x04\x01\0\0\0\0\0\0\0\0\0\0\0\0\0\0\0\0\0\0\0\0\0\0\0\0\0\0\0\0\0\0\0\0\0\0\0");
 /// `dhSinglePass-stdDH-sha224kdf-scheme`: 1.3.132.1.11.0
-pub const DH_SINGLE_PASS_STD_DH_SHA_224_KDF_SCHEME: ObjectIdentifier = ObjectIdentifier::new_unwrap("1.3.132.1.11.0");
+pub const DH_SINGLE_PASS_STD_DH_SHA_224_KDF_SCHEME: ObjectIdentifier = padded(*b"\x06\x2B\x81\x04\x01\x0B\x00\0\0\0\0\0\0\0\0\0\0\0\0\0\0\0\0\0\0\0\0\0\0\0\0\0\0\0\0\0\0\0\0\0");
 /// `dhSinglePass-stdDH-sha256kdf-scheme`: 1.3.132.1.11.1
-pub const DH_SINGLE_PASS_STD_DH_SHA_256_KDF_SCHEME: ObjectIdentifier = ObjectIdentifier::new_unwrap("1.3.132.1.11.1");
+pub const DH_SINGLE_PASS_STD_DH_SHA_256_KDF_SCHEME: ObjectIdentifier = padded(*b"\x06\x2B\x81\x04\x01\x0B\x01\0\0\0\0\0\0\0\0\0\0\0\0\0\0\0\0\0\0\0\0\0\0\0\0\0\0\0\0\0\0\0\0\0");
 /// `dhSinglePass-stdDH-sha384kdf-scheme`: 1.3.132.1.11.2
-pub const DH_SINGLE_PASS_STD_DH_SHA_384_KDF_SCHEME: ObjectIdentifier = ObjectIdentifier::new_unwrap("1.3.132.1.11.2");
+pub const DH_SINGLE_PASS_STD_DH_SHA_384_KDF_SCHEME: ObjectIdentifier = padded(*b"\x06\x2B\x81\x04\x01\x0B\x02\0\0\0\0\0\0\0\0\0\0\0\0\0\0\0\0\0\0\0\0\0\0\0\0\0\0\0\0\0\0\0\0\0");
 /// `dhSinglePass-stdDH-sha512kdf-scheme`: 1.3.132.1.11.3
-pub const DH_SINGLE_PASS_STD_DH_SHA_512_KDF_SCHEME: ObjectIdentifier = ObjectIdentifier::new_unwrap("1.3.132.1.11.3");
+pub const DH_SINGLE_PASS_STD_DH_SHA_512_KDF_SCHEME: ObjectIdentifier = padded(*b"\x06\x2B\x81\x04\x01\x0B\x03\0\0\0\0\0\0\0\0\0\0\0\0\0\0\0\0\0\0\0\0\0\0\0\0\0\0\0\0\0\0\0\0\0");
 /// `dhSinglePass-cofactorDH-sha224kdf-scheme`: 1.3.132.1.14.0
-pub const DH_SINGLE_PASS_COFACTOR_DH_SHA_224_KDF_SCHEME: ObjectIdentifier = ObjectIdentifier::new_unwrap("1.3.132.1.14.0");
+pub const DH_SINGLE_PASS_COFACTOR_DH_SHA_224_KDF_SCHEME: ObjectIdentifier = padded(*b"\x06\x2B\x81\x04\x01\x0E\x00\0\0\0\0\0\0\0\0\0\0\0\0\0\0\0\0\0\0\0\0\0\0\0\0\0\0\0\0\0\0\0\0\0");
 /// `dhSinglePass-cofactorDH-sha256kdf-scheme`: 1.3.132.1.14.1
-pub const DH_SINGLE_PASS_COFACTOR_DH_SHA_256_KDF_SCHEME: ObjectIdentifier = ObjectIdentifier::new_unwrap("1.3.132.1.14.1");
+pub const DH_SINGLE_PASS_COFACTOR_DH_SHA_256_KDF_SCHEME: ObjectIdentifier = padded(*b"\x06\x2B\x81\x04\x01\x0E\x01\0\0\0\0\0\0\0\0\0\0\0\0\0\0\0\0\0\0\0\0\0\0\0\0\0\0\0\0\0\0\0\0\0");
 /// `dhSinglePass-cofactorDH-sha384kdf-scheme`: 1.3.132.1.14.2
-pub const DH_SINGLE_PASS_COFACTOR_DH_SHA_384_KDF_SCHEME: ObjectIdentifier = ObjectIdentifier::new_unwrap("1.3.132.1.14.2");
+pub const DH_SINGLE_PASS_COFACTOR_DH_SHA_384_KDF_SCHEME: ObjectIdentifier = padded(*b"\x06\x2B\x81\x04\x01\x0E\x02\0\0\0\0\0\0\0\0\0\0\0\0\0\0\0\0\0\0\0\0\0\0\0\0\0\0\0\0\0\0\0\0\0");
 /// `dhSinglePass-cofactorDH-sha512kdf-scheme`: 1.3.132.1.14.3
-pub const DH_SINGLE_PASS_COFACTOR_DH_SHA_512_KDF_SCHEME: ObjectIdentifier = ObjectIdentifier::new_unwrap("1.3.132.1.14.3");
+pub const DH_SINGLE_PASS_COFACTOR_DH_SHA_512_KDF_SCHEME: ObjectIdentifier = padded(*b"\x06\x2B\x81\x04\x01\x0E\x03\0\0\0\0\0\0\0\0\0\0\0\0\0\0\0\0\0\0\0\0\0\0\0\0\0\0\0\0\0\0\0\0\0");
 /// `mqvSinglePass-sha224kdf-scheme`: 1.3.132.1.15.0
-pub const MQV_SINGLE_PASS_SHA_224_KDF_SCHEME: ObjectIdentifier = ObjectIdentifier::new_unwrap("1.3.132.1.15.0");
+pub const MQV_SINGLE_PASS_SHA_224_KDF_SCHEME: ObjectIdentifier = padded(*b"\x06\x2B\x81\x04\x01\x0F\x00\0\0\0\0\0\0\0\0\0\0\0\0\0\0\0\0\0\0\0\0\0\0\0\0\0\0\0\0\0\0\0\0\0");
 /// `mqvSinglePass-sha256kdf-scheme`: 1.3.132.1.15.1
-pub const MQV_SINGLE_PASS_SHA_256_KDF_SCHEME: ObjectIdentifier = ObjectIdentifier::new_unwrap("1.3.132.1.15.1");
+pub const MQV_SINGLE_PASS_SHA_256_KDF_SCHEME: ObjectIdentifier = padded(*b"\x06\x2B\x81\x04\x01\x0F\x01\0\0\0\0\0\0\0\0\0\0\0\0\0\0\0\0\0\0\0\0\0\0\0\0\0\0\0\0\0\0\0\0\0");
 /// `mqvSinglePass-sha384kdf-scheme`: 1.3.132.1.15.2
-pub const MQV_SINGLE_PASS_SHA_384_KDF_SCHEME: ObjectIdentifier = ObjectIdentifier::new_unwrap("1.3.132.1.15.2");
+pub const MQV_SINGLE_PASS_SHA_384_KDF_SCHEME: ObjectIdentifier = padded(*b"\x06\x2B\x81\x04\x01\x0F\x02\0\0\0\0\0\0\0\0\0\0\0\0\0\0\0\0\0\0\0\0\0\0\0\0\0\0\0\0\0\0\0\0\0");
 /// `mqvSinglePass-sha512kdf-scheme`: 1.3.132.1.15.3
-pub const MQV_SINGLE_PASS_SHA_512_KDF_SCHEME: ObjectIdentifier = ObjectIdentifier::new_unwrap("1.3.132.1.15.3");
+pub const MQV_SINGLE_PASS_SHA_512_KDF_SCHEME: ObjectIdentifier = padded(*b"\x06\x2B\x81\x04\x01\x0F\x03\0\0\0\0\0\0\0\0\0\0\0\0\0\0\0\0\0\0\0\0\0\0\0\0\0\0\0\0\0\0\0\0\0");
 /// `x9-63-scheme`: 1.3.133.16.840.63.0
-pub const X_9_63_SCHEME: ObjectIdentifier = ObjectIdentifier::new_unwrap("1.3.133.16.840.63.0");
+pub const X_9_63_SCHEME: ObjectIdentifier = padded(*b"\x08\x2B\x81\x05\x10\x86\x48\x3F\x00\0\0\0\0\0\0\0\0\0\0\0\0\0\0\0\0\0\0\0\0\0\0\0\0\0\0\0\0\0\0\0");
 /// `mqvSinglePass-sha1kdf-scheme`: 1.3.133.16.840.63.0.16
-pub const MQV_SINGLE_PASS_SHA_1_KDF_SCHEME: ObjectIdentifier = ObjectIdentifier::new_unwrap("1.3.133.16.840.63.0.16");
+pub const MQV_SINGLE_PASS_SHA_1_KDF_SCHEME: ObjectIdentifier = padded(*b"\x09\x2B\x81\x05\x10\x86\x48\x3F\x00\x10\0\0\0\0\0\0\0\0\0\0\0\0\0\0\0\0\0\0\0\0\0\0\0\0\0\0\0\0\0\0");
 /// `dhSinglePass-stdDH-sha1kdf-scheme`: 1.3.133.16.840.63.0.2
-pub const DH_SINGLE_PASS_STD_DH_SHA_1_KDF_SCHEME: ObjectIdentifier = ObjectIdentifier::new_unwrap("1.3.133.16.840.63.0.2");
+pub const DH_SINGLE_PASS_STD_DH_SHA_1_KDF_SCHEME: ObjectIdentifier = padded(*b"\x09\x2B\x81\x05\x10\x86\x48\x3F\x00\x02\0\0\0\0\0\0\0\0\0\0\0\0\0\0\0\0\0\0\0\0\0\0\0\0\0\0\0\0\0\0");
 /// `dhSinglePass-cofactorDH-sha1kdf-scheme`: 1.3.133.16.840.63.0.3
-pub const DH_SINGLE_PASS_COFACTOR_DH_SHA_1_KDF_SCHEME: ObjectIdentifier = ObjectIdentifier::new_unwrap("1.3.133.16.840.63.0.3");
+pub const DH_SINGLE_PASS_COFACTOR_DH_SHA_1_KDF_SCHEME: ObjectIdentifier = padded(*b"\x09\x2B\x81\x05\x10\x86\x48\x3F\x00\x03\0\0\0\0\0\0\0\0\0\0\0\0\0\0\0\0\0\0\0\0\0\0\0\0\0\0\0\0\0\0");
 }
 
 /// Identifiers of [RFC 5911](https://www.rfc-editor.org/rfc/rfc5911).
@@ -2450,176 +2495,177 @@ pub const DH_SINGLE_PASS_COFACTOR_DH_SHA_1_KDF_SCHEME: ObjectIdentifier = Object
 /// assert_eq!(const_oid::db::rfc5911::ID_PBKDF_2.to_string(), "1.2.840.113549.1.5.12");
 /// ```
 pub mod rfc5911 {
+use super::padded;
 use crate::ObjectIdentifier;
 
 /// `id-PBKDF2`: 1.2.840.113549.1.5.12
-pub const ID_PBKDF_2: ObjectIdentifier = ObjectIdentifier::new_unwrap("1.2.840.113549.1.5.12");
+pub const ID_PBKDF_2: ObjectIdentifier = padded(*b"\x09\x2A\x86\x48\x86\xF7\x0D\x01\x05\x0C\0\0\0\0\0\0\0\0\0\0\0\0\0\0\0\0\0\0\0\0\0\0\0\0\0\0\0\0\0\0");
 /// `id-data`: 1.2.840.113549.1.7.1
-pub const ID_DATA: ObjectIdentifier = ObjectIdentifier::new_unwrap("1.2.840.113549.1.7.1");
+pub const ID_DATA: ObjectIdentifier = padded(*b"\x09\x2A\x86\x48\x86\xF7\x0D\x01\x07\x01\0\0\0\0\0\0\0\0\0\0\0\0\0\0\0\0\0\0\0\0\0\0\0\0\0\0\0\0\0\0");
 /// `id-signedData`: 1.2.840.113549.1.7.2
-pub const ID_SIGNED_DATA: ObjectIdentifier = ObjectIdentifier::new_unwrap("1.2.840.113549.1.7.2");
+pub const ID_SIGNED_DATA: ObjectIdentifier = padded(*b"\x09\x2A\x86\x48\x86\xF7\x0D\x01\x07\x02\0\0\0\0\0\0\0\0\0\0\0\0\0\0\0\0\0\0\0\0\0\0\0\0\0\0\0\0\0\0");
 /// `id-envelopedData`: 1.2.840.113549.1.7.3
-pub const ID_ENVELOPED_DATA: ObjectIdentifier = ObjectIdentifier::new_unwrap("1.2.840.113549.1.7.3");
+pub const ID_ENVELOPED_DATA: ObjectIdentifier = padded(*b"\x09\x2A\x86\x48\x86\xF7\x0D\x01\x07\x03\0\0\0\0\0\0\0\0\0\0\0\0\0\0\0\0\0\0\0\0\0\0\0\0\0\0\0\0\0\0");
 /// `id-digestedData`: 1.2.840.113549.1.7.5
-pub const ID_DIGESTED_DATA: ObjectIdentifier = ObjectIdentifier::new_unwrap("1.2.840.113549.1.7.5");
+pub const ID_DIGESTED_DATA: ObjectIdentifier = padded(*b"\x09\x2A\x86\x48\x86\xF7\x0D\x01\x07\x05\0\0\0\0\0\0\0\0\0\0\0\0\0\0\0\0\0\0\0\0\0\0\0\0\0\0\0\0\0\0");
 /// `id-encryptedData`: 1.2.840.113549.1.7.6
-pub const ID_ENCRYPTED_DATA: ObjectIdentifier = ObjectIdentifier::new_unwrap("1.2.840.113549.1.7.6");
+pub const ID_ENCRYPTED_DATA: ObjectIdentifier = padded(*b"\x09\x2A\x86\x48\x86\xF7\x0D\x01\x07\x06\0\0\0\0\0\0\0\0\0\0\0\0\0\0\0\0\0\0\0\0\0\0\0\0\0\0\0\0\0\0");
 /// `smimeCapabilities`: 1.2.840.113549.1.9.15
-pub const SMIME_CAPABILITIES: ObjectIdentifier = ObjectIdentifier::new_unwrap("1.2.840.113549.1.9.15");
+pub const SMIME_CAPABILITIES: ObjectIdentifier = padded(*b"\x09\x2A\x86\x48\x86\xF7\x0D\x01\x09\x0F\0\0\0\0\0\0\0\0\0\0\0\0\0\0\0\0\0\0\0\0\0\0\0\0\0\0\0\0\0\0");
 /// `id-smime`: 1.2.840.113549.1.9.16
-pub const ID_SMIME: ObjectIdentifier = ObjectIdentifier::new_unwrap("1.2.840.113549.1.9.16");
+pub const ID_SMIME: ObjectIdentifier = padded(*b"\x09\x2A\x86\x48\x86\xF7\x0D\x01\x09\x10\0\0\0\0\0\0\0\0\0\0\0\0\0\0\0\0\0\0\0\0\0\0\0\0\0\0\0\0\0\0");
 /// `id-ct-receipt`: 1.2.840.113549.1.9.16.1.1
-pub const ID_CT_RECEIPT: ObjectIdentifier = ObjectIdentifier::new_unwrap("1.2.840.113549.1.9.16.1.1");
+pub const ID_CT_RECEIPT: ObjectIdentifier = padded(*b"\x0B\x2A\x86\x48\x86\xF7\x0D\x01\x09\x10\x01\x01\0\0\0\0\0\0\0\0\0\0\0\0\0\0\0\0\0\0\0\0\0\0\0\0\0\0\0\0");
 /// `id-ct-firmwarePackage`: 1.2.840.113549.1.9.16.1.16
-pub const ID_CT_FIRMWARE_PACKAGE: ObjectIdentifier = ObjectIdentifier::new_unwrap("1.2.840.113549.1.9.16.1.16");
+pub const ID_CT_FIRMWARE_PACKAGE: ObjectIdentifier = padded(*b"\x0B\x2A\x86\x48\x86\xF7\x0D\x01\x09\x10\x01\x10\0\0\0\0\0\0\0\0\0\0\0\0\0\0\0\0\0\0\0\0\0\0\0\0\0\0\0\0");
 /// `id-ct-firmwareLoadReceipt`: 1.2.840.113549.1.9.16.1.17
-pub const ID_CT_FIRMWARE_LOAD_RECEIPT: ObjectIdentifier = ObjectIdentifier::new_unwrap("1.2.840.113549.1.9.16.1.17");
+pub const ID_CT_FIRMWARE_LOAD_RECEIPT: ObjectIdentifier = padded(*b"\x0B\x2A\x86\x48\x86\xF7\x0D\x01\x09\x10\x01\x11\0\0\0\0\0\0\0\0\0\0\0\0\0\0\0\0\0\0\0\0\0\0\0\0\0\0\0\0");
 /// `id-ct-firmwareLoadError`: 1.2.840.113549.1.9.16.1.18
-pub const ID_CT_FIRMWARE_LOAD_ERROR: ObjectIdentifier = ObjectIdentifier::new_unwrap("1.2.840.113549.1.9.16.1.18");
+pub const ID_CT_FIRMWARE_LOAD_ERROR: ObjectIdentifier = padded(*b"\x0B\x2A\x86\x48\x86\xF7\x0D\x01\x09\x10\x01\x12\0\0\0\0\0\0\0\0\0\0\0\0\0\0\0\0\0\0\0\0\0\0\0\0\0\0\0\0");
 /// `id-ct-authData`: 1.2.840.113549.1.9.16.1.2
-pub const ID_CT_AUTH_DATA: ObjectIdentifier = ObjectIdentifier::new_unwrap("1.2.840.113549.1.9.16.1.2");
+pub const ID_CT_AUTH_DATA: ObjectIdentifier = padded(*b"\x0B\x2A\x86\x48\x86\xF7\x0D\x01\x09\x10\x01\x02\0\0\0\0\0\0\0\0\0\0\0\0\0\0\0\0\0\0\0\0\0\0\0\0\0\0\0\0");
 /// `id-ct-authEnvelopedData`: 1.2.840.113549.1.9.16.1.23
-pub const ID_CT_AUTH_ENVELOPED_DATA: ObjectIdentifier = ObjectIdentifier::new_unwrap("1.2.840.113549.1.9.16.1.23");
+pub const ID_CT_AUTH_ENVELOPED_DATA: ObjectIdentifier = padded(*b"\x0B\x2A\x86\x48\x86\xF7\x0D\x01\x09\x10\x01\x17\0\0\0\0\0\0\0\0\0\0\0\0\0\0\0\0\0\0\0\0\0\0\0\0\0\0\0\0");
 /// `id-ct-contentInfo`: 1.2.840.113549.1.9.16.1.6
-pub const ID_CT_CONTENT_INFO: ObjectIdentifier = ObjectIdentifier::new_unwrap("1.2.840.113549.1.9.16.1.6");
+pub const ID_CT_CONTENT_INFO: ObjectIdentifier = padded(*b"\x0B\x2A\x86\x48\x86\xF7\x0D\x01\x09\x10\x01\x06\0\0\0\0\0\0\0\0\0\0\0\0\0\0\0\0\0\0\0\0\0\0\0\0\0\0\0\0");
 /// `id-cap`: 1.2.840.113549.1.9.16.11
-pub const ID_CAP: ObjectIdentifier = ObjectIdentifier::new_unwrap("1.2.840.113549.1.9.16.11");
+pub const ID_CAP: ObjectIdentifier = padded(*b"\x0A\x2A\x86\x48\x86\xF7\x0D\x01\x09\x10\x0B\0\0\0\0\0\0\0\0\0\0\0\0\0\0\0\0\0\0\0\0\0\0\0\0\0\0\0\0\0");
 /// `id-cap-preferBinaryInside`: 1.2.840.113549.1.9.16.11.1
-pub const ID_CAP_PREFER_BINARY_INSIDE: ObjectIdentifier = ObjectIdentifier::new_unwrap("1.2.840.113549.1.9.16.11.1");
+pub const ID_CAP_PREFER_BINARY_INSIDE: ObjectIdentifier = padded(*b"\x0B\x2A\x86\x48\x86\xF7\x0D\x01\x09\x10\x0B\x01\0\0\0\0\0\0\0\0\0\0\0\0\0\0\0\0\0\0\0\0\0\0\0\0\0\0\0\0");
 /// `id-aa`: 1.2.840.113549.1.9.16.2
-pub const ID_AA: ObjectIdentifier = ObjectIdentifier::new_unwrap("1.2.840.113549.1.9.16.2");
+pub const ID_AA: ObjectIdentifier = padded(*b"\x0A\x2A\x86\x48\x86\xF7\x0D\x01\x09\x10\x02\0\0\0\0\0\0\0\0\0\0\0\0\0\0\0\0\0\0\0\0\0\0\0\0\0\0\0\0\0");
 /// `id-aa-receiptRequest`: 1.2.840.113549.1.9.16.2.1
-pub const ID_AA_RECEIPT_REQUEST: ObjectIdentifier = ObjectIdentifier::new_unwrap("1.2.840.113549.1.9.16.2.1");
+pub const ID_AA_RECEIPT_REQUEST: ObjectIdentifier = padded(*b"\x0B\x2A\x86\x48\x86\xF7\x0D\x01\x09\x10\x02\x01\0\0\0\0\0\0\0\0\0\0\0\0\0\0\0\0\0\0\0\0\0\0\0\0\0\0\0\0");
 /// `id-aa-contentReference`: 1.2.840.113549.1.9.16.2.10
-pub const ID_AA_CONTENT_REFERENCE: ObjectIdentifier = ObjectIdentifier::new_unwrap("1.2.840.113549.1.9.16.2.10");
+pub const ID_AA_CONTENT_REFERENCE: ObjectIdentifier = padded(*b"\x0B\x2A\x86\x48\x86\xF7\x0D\x01\x09\x10\x02\x0A\0\0\0\0\0\0\0\0\0\0\0\0\0\0\0\0\0\0\0\0\0\0\0\0\0\0\0\0");
 /// `id-aa-encrypKeyPref`: 1.2.840.113549.1.9.16.2.11
-pub const ID_AA_ENCRYP_KEY_PREF: ObjectIdentifier = ObjectIdentifier::new_unwrap("1.2.840.113549.1.9.16.2.11");
+pub const ID_AA_ENCRYP_KEY_PREF: ObjectIdentifier = padded(*b"\x0B\x2A\x86\x48\x86\xF7\x0D\x01\x09\x10\x02\x0B\0\0\0\0\0\0\0\0\0\0\0\0\0\0\0\0\0\0\0\0\0\0\0\0\0\0\0\0");
 /// `id-aa-signingCertificate`: 1.2.840.113549.1.9.16.2.12
-pub const ID_AA_SIGNING_CERTIFICATE: ObjectIdentifier = ObjectIdentifier::new_unwrap("1.2.840.113549.1.9.16.2.12");
+pub const ID_AA_SIGNING_CERTIFICATE: ObjectIdentifier = padded(*b"\x0B\x2A\x86\x48\x86\xF7\x0D\x01\x09\x10\x02\x0C\0\0\0\0\0\0\0\0\0\0\0\0\0\0\0\0\0\0\0\0\0\0\0\0\0\0\0\0");
 /// `id-aa-securityLabel`: 1.2.840.113549.1.9.16.2.2
-pub const ID_AA_SECURITY_LABEL: ObjectIdentifier = ObjectIdentifier::new_unwrap("1.2.840.113549.1.9.16.2.2");
+pub const ID_AA_SECURITY_LABEL: ObjectIdentifier = padded(*b"\x0B\x2A\x86\x48\x86\xF7\x0D\x01\x09\x10\x02\x02\0\0\0\0\0\0\0\0\0\0\0\0\0\0\0\0\0\0\0\0\0\0\0\0\0\0\0\0");
 /// `id-aa-mlExpandHistory`: 1.2.840.113549.1.9.16.2.3
-pub const ID_AA_ML_EXPAND_HISTORY: ObjectIdentifier = ObjectIdentifier::new_unwrap("1.2.840.113549.1.9.16.2.3");
+pub const ID_AA_ML_EXPAND_HISTORY: ObjectIdentifier = padded(*b"\x0B\x2A\x86\x48\x86\xF7\x0D\x01\x09\x10\x02\x03\0\0\0\0\0\0\0\0\0\0\0\0\0\0\0\0\0\0\0\0\0\0\0\0\0\0\0\0");
 /// `id-aa-firmwarePackageID`: 1.2.840.113549.1.9.16.2.35
-pub const ID_AA_FIRMWARE_PACKAGE_ID: ObjectIdentifier = ObjectIdentifier::new_unwrap("1.2.840.113549.1.9.16.2.35");
+pub const ID_AA_FIRMWARE_PACKAGE_ID: ObjectIdentifier = padded(*b"\x0B\x2A\x86\x48\x86\xF7\x0D\x01\x09\x10\x02\x23\0\0\0\0\0\0\0\0\0\0\0\0\0\0\0\0\0\0\0\0\0\0\0\0\0\0\0\0");
 /// `id-aa-targetHardwareIDs`: 1.2.840.113549.1.9.16.2.36
-pub const ID_AA_TARGET_HARDWARE_I_DS: ObjectIdentifier = ObjectIdentifier::new_unwrap("1.2.840.113549.1.9.16.2.36");
+pub const ID_AA_TARGET_HARDWARE_I_DS: ObjectIdentifier = padded(*b"\x0B\x2A\x86\x48\x86\xF7\x0D\x01\x09\x10\x02\x24\0\0\0\0\0\0\0\0\0\0\0\0\0\0\0\0\0\0\0\0\0\0\0\0\0\0\0\0");
 /// `id-aa-decryptKeyID`: 1.2.840.113549.1.9.16.2.37
-pub const ID_AA_DECRYPT_KEY_ID: ObjectIdentifier = ObjectIdentifier::new_unwrap("1.2.840.113549.1.9.16.2.37");
+pub const ID_AA_DECRYPT_KEY_ID: ObjectIdentifier = padded(*b"\x0B\x2A\x86\x48\x86\xF7\x0D\x01\x09\x10\x02\x25\0\0\0\0\0\0\0\0\0\0\0\0\0\0\0\0\0\0\0\0\0\0\0\0\0\0\0\0");
 /// `id-aa-implCryptoAlgs`: 1.2.840.113549.1.9.16.2.38
-pub const ID_AA_IMPL_CRYPTO_ALGS: ObjectIdentifier = ObjectIdentifier::new_unwrap("1.2.840.113549.1.9.16.2.38");
+pub const ID_AA_IMPL_CRYPTO_ALGS: ObjectIdentifier = padded(*b"\x0B\x2A\x86\x48\x86\xF7\x0D\x01\x09\x10\x02\x26\0\0\0\0\0\0\0\0\0\0\0\0\0\0\0\0\0\0\0\0\0\0\0\0\0\0\0\0");
 /// `id-aa-wrappedFirmwareKey`: 1.2.840.113549.1.9.16.2.39
-pub const ID_AA_WRAPPED_FIRMWARE_KEY: ObjectIdentifier = ObjectIdentifier::new_unwrap("1.2.840.113549.1.9.16.2.39");
+pub const ID_AA_WRAPPED_FIRMWARE_KEY: ObjectIdentifier = padded(*b"\x0B\x2A\x86\x48\x86\xF7\x0D\x01\x09\x10\x02\x27\0\0\0\0\0\0\0\0\0\0\0\0\0\0\0\0\0\0\0\0\0\0\0\0\0\0\0\0");
 /// `id-aa-contentHint`: 1.2.840.113549.1.9.16.2.4
-pub const ID_AA_CONTENT_HINT: ObjectIdentifier = ObjectIdentifier::new_unwrap("1.2.840.113549.1.9.16.2.4");
+pub const ID_AA_CONTENT_HINT: ObjectIdentifier = padded(*b"\x0B\x2A\x86\x48\x86\xF7\x0D\x01\x09\x10\x02\x04\0\0\0\0\0\0\0\0\0\0\0\0\0\0\0\0\0\0\0\0\0\0\0\0\0\0\0\0");
 /// `id-aa-communityIdentifiers`: 1.2.840.113549.1.9.16.2.40
-pub const ID_AA_COMMUNITY_IDENTIFIERS: ObjectIdentifier = ObjectIdentifier::new_unwrap("1.2.840.113549.1.9.16.2.40");
+pub const ID_AA_COMMUNITY_IDENTIFIERS: ObjectIdentifier = padded(*b"\x0B\x2A\x86\x48\x86\xF7\x0D\x01\x09\x10\x02\x28\0\0\0\0\0\0\0\0\0\0\0\0\0\0\0\0\0\0\0\0\0\0\0\0\0\0\0\0");
 /// `id-aa-firmwarePackageInfo`: 1.2.840.113549.1.9.16.2.42
-pub const ID_AA_FIRMWARE_PACKAGE_INFO: ObjectIdentifier = ObjectIdentifier::new_unwrap("1.2.840.113549.1.9.16.2.42");
+pub const ID_AA_FIRMWARE_PACKAGE_INFO: ObjectIdentifier = padded(*b"\x0B\x2A\x86\x48\x86\xF7\x0D\x01\x09\x10\x02\x2A\0\0\0\0\0\0\0\0\0\0\0\0\0\0\0\0\0\0\0\0\0\0\0\0\0\0\0\0");
 /// `id-aa-implCompressAlgs`: 1.2.840.113549.1.9.16.2.43
-pub const ID_AA_IMPL_COMPRESS_ALGS: ObjectIdentifier = ObjectIdentifier::new_unwrap("1.2.840.113549.1.9.16.2.43");
+pub const ID_AA_IMPL_COMPRESS_ALGS: ObjectIdentifier = padded(*b"\x0B\x2A\x86\x48\x86\xF7\x0D\x01\x09\x10\x02\x2B\0\0\0\0\0\0\0\0\0\0\0\0\0\0\0\0\0\0\0\0\0\0\0\0\0\0\0\0");
 /// `id-aa-signingCertificateV2`: 1.2.840.113549.1.9.16.2.47
-pub const ID_AA_SIGNING_CERTIFICATE_V_2: ObjectIdentifier = ObjectIdentifier::new_unwrap("1.2.840.113549.1.9.16.2.47");
+pub const ID_AA_SIGNING_CERTIFICATE_V_2: ObjectIdentifier = padded(*b"\x0B\x2A\x86\x48\x86\xF7\x0D\x01\x09\x10\x02\x2F\0\0\0\0\0\0\0\0\0\0\0\0\0\0\0\0\0\0\0\0\0\0\0\0\0\0\0\0");
 /// `id-aa-er-internal`: 1.2.840.113549.1.9.16.2.49
-pub const ID_AA_ER_INTERNAL: ObjectIdentifier = ObjectIdentifier::new_unwrap("1.2.840.113549.1.9.16.2.49");
+pub const ID_AA_ER_INTERNAL: ObjectIdentifier = padded(*b"\x0B\x2A\x86\x48\x86\xF7\x0D\x01\x09\x10\x02\x31\0\0\0\0\0\0\0\0\0\0\0\0\0\0\0\0\0\0\0\0\0\0\0\0\0\0\0\0");
 /// `id-aa-msgSigDigest`: 1.2.840.113549.1.9.16.2.5
-pub const ID_AA_MSG_SIG_DIGEST: ObjectIdentifier = ObjectIdentifier::new_unwrap("1.2.840.113549.1.9.16.2.5");
+pub const ID_AA_MSG_SIG_DIGEST: ObjectIdentifier = padded(*b"\x0B\x2A\x86\x48\x86\xF7\x0D\x01\x09\x10\x02\x05\0\0\0\0\0\0\0\0\0\0\0\0\0\0\0\0\0\0\0\0\0\0\0\0\0\0\0\0");
 /// `id-aa-er-external`: 1.2.840.113549.1.9.16.2.50
-pub const ID_AA_ER_EXTERNAL: ObjectIdentifier = ObjectIdentifier::new_unwrap("1.2.840.113549.1.9.16.2.50");
+pub const ID_AA_ER_EXTERNAL: ObjectIdentifier = padded(*b"\x0B\x2A\x86\x48\x86\xF7\x0D\x01\x09\x10\x02\x32\0\0\0\0\0\0\0\0\0\0\0\0\0\0\0\0\0\0\0\0\0\0\0\0\0\0\0\0");
 /// `id-aa-contentIdentifier`: 1.2.840.113549.1.9.16.2.7
-pub const ID_AA_CONTENT_IDENTIFIER: ObjectIdentifier = ObjectIdentifier::new_unwrap("1.2.840.113549.1.9.16.2.7");
+pub const ID_AA_CONTENT_IDENTIFIER: ObjectIdentifier = padded(*b"\x0B\x2A\x86\x48\x86\xF7\x0D\x01\x09\x10\x02\x07\0\0\0\0\0\0\0\0\0\0\0\0\0\0\0\0\0\0\0\0\0\0\0\0\0\0\0\0");
 /// `id-aa-equivalentLabels`: 1.2.840.113549.1.9.16.2.9
-pub const ID_AA_EQUIVALENT_LABELS: ObjectIdentifier = ObjectIdentifier::new_unwrap("1.2.840.113549.1.9.16.2.9");
+pub const ID_AA_EQUIVALENT_LABELS: ObjectIdentifier = padded(*b"\x0B\x2A\x86\x48\x86\xF7\x0D\x01\x09\x10\x02\x09\0\0\0\0\0\0\0\0\0\0\0\0\0\0\0\0\0\0\0\0\0\0\0\0\0\0\0\0");
 /// `id-alg-SSDH`: 1.2.840.113549.1.9.16.3.10
-pub const ID_ALG_SSDH: ObjectIdentifier = ObjectIdentifier::new_unwrap("1.2.840.113549.1.9.16.3.10");
+pub const ID_ALG_SSDH: ObjectIdentifier = padded(*b"\x0B\x2A\x86\x48\x86\xF7\x0D\x01\x09\x10\x03\x0A\0\0\0\0\0\0\0\0\0\0\0\0\0\0\0\0\0\0\0\0\0\0\0\0\0\0\0\0");
 /// `id-alg-ESDH`: 1.2.840.113549.1.9.16.3.5
-pub const ID_ALG_ESDH: ObjectIdentifier = ObjectIdentifier::new_unwrap("1.2.840.113549.1.9.16.3.5");
+pub const ID_ALG_ESDH: ObjectIdentifier = padded(*b"\x0B\x2A\x86\x48\x86\xF7\x0D\x01\x09\x10\x03\x05\0\0\0\0\0\0\0\0\0\0\0\0\0\0\0\0\0\0\0\0\0\0\0\0\0\0\0\0");
 /// `id-alg-CMS3DESwrap`: 1.2.840.113549.1.9.16.3.6
-pub const ID_ALG_CMS_3_DE_SWRAP: ObjectIdentifier = ObjectIdentifier::new_unwrap("1.2.840.113549.1.9.16.3.6");
+pub const ID_ALG_CMS_3_DE_SWRAP: ObjectIdentifier = padded(*b"\x0B\x2A\x86\x48\x86\xF7\x0D\x01\x09\x10\x03\x06\0\0\0\0\0\0\0\0\0\0\0\0\0\0\0\0\0\0\0\0\0\0\0\0\0\0\0\0");
 /// `id-alg-CMSRC2wrap`: 1.2.840.113549.1.9.16.3.7
-pub const ID_ALG_CMSRC_2_WRAP: ObjectIdentifier = ObjectIdentifier::new_unwrap("1.2.840.113549.1.9.16.3.7");
+pub const ID_ALG_CMSRC_2_WRAP: ObjectIdentifier = padded(*b"\x0B\x2A\x86\x48\x86\xF7\x0D\x01\x09\x10\x03\x07\0\0\0\0\0\0\0\0\0\0\0\0\0\0\0\0\0\0\0\0\0\0\0\0\0\0\0\0");
 /// `id-skd`: 1.2.840.113549.1.9.16.8
-pub const ID_SKD: ObjectIdentifier = ObjectIdentifier::new_unwrap("1.2.840.113549.1.9.16.8");
+pub const ID_SKD: ObjectIdentifier = padded(*b"\x0A\x2A\x86\x48\x86\xF7\x0D\x01\x09\x10\x08\0\0\0\0\0\0\0\0\0\0\0\0\0\0\0\0\0\0\0\0\0\0\0\0\0\0\0\0\0");
 /// `id-skd-glUseKEK`: 1.2.840.113549.1.9.16.8.1
-pub const ID_SKD_GL_USE_KEK: ObjectIdentifier = ObjectIdentifier::new_unwrap("1.2.840.113549.1.9.16.8.1");
+pub const ID_SKD_GL_USE_KEK: ObjectIdentifier = padded(*b"\x0B\x2A\x86\x48\x86\xF7\x0D\x01\x09\x10\x08\x01\0\0\0\0\0\0\0\0\0\0\0\0\0\0\0\0\0\0\0\0\0\0\0\0\0\0\0\0");
 /// `id-skd-glaQueryRequest`: 1.2.840.113549.1.9.16.8.11
-pub const ID_SKD_GLA_QUERY_REQUEST: ObjectIdentifier = ObjectIdentifier::new_unwrap("1.2.840.113549.1.9.16.8.11");
+pub const ID_SKD_GLA_QUERY_REQUEST: ObjectIdentifier = padded(*b"\x0B\x2A\x86\x48\x86\xF7\x0D\x01\x09\x10\x08\x0B\0\0\0\0\0\0\0\0\0\0\0\0\0\0\0\0\0\0\0\0\0\0\0\0\0\0\0\0");
 /// `id-skd-glaQueryResponse`: 1.2.840.113549.1.9.16.8.12
-pub const ID_SKD_GLA_QUERY_RESPONSE: ObjectIdentifier = ObjectIdentifier::new_unwrap("1.2.840.113549.1.9.16.8.12");
+pub const ID_SKD_GLA_QUERY_RESPONSE: ObjectIdentifier = padded(*b"\x0B\x2A\x86\x48\x86\xF7\x0D\x01\x09\x10\x08\x0C\0\0\0\0\0\0\0\0\0\0\0\0\0\0\0\0\0\0\0\0\0\0\0\0\0\0\0\0");
 /// `id-skd-glProvideCert`: 1.2.840.113549.1.9.16.8.13
-pub const ID_SKD_GL_PROVIDE_CERT: ObjectIdentifier = ObjectIdentifier::new_unwrap("1.2.840.113549.1.9.16.8.13");
+pub const ID_SKD_GL_PROVIDE_CERT: ObjectIdentifier = padded(*b"\x0B\x2A\x86\x48\x86\xF7\x0D\x01\x09\x10\x08\x0D\0\0\0\0\0\0\0\0\0\0\0\0\0\0\0\0\0\0\0\0\0\0\0\0\0\0\0\0");
 /// `id-skd-glManageCert`: 1.2.840.113549.1.9.16.8.14
-pub const ID_SKD_GL_MANAGE_CERT: ObjectIdentifier = ObjectIdentifier::new_unwrap("1.2.840.113549.1.9.16.8.14");
+pub const ID_SKD_GL_MANAGE_CERT: ObjectIdentifier = padded(*b"\x0B\x2A\x86\x48\x86\xF7\x0D\x01\x09\x10\x08\x0E\0\0\0\0\0\0\0\0\0\0\0\0\0\0\0\0\0\0\0\0\0\0\0\0\0\0\0\0");
 /// `id-skd-glKey`: 1.2.840.113549.1.9.16.8.15
-pub const ID_SKD_GL_KEY: ObjectIdentifier = ObjectIdentifier::new_unwrap("1.2.840.113549.1.9.16.8.15");
+pub const ID_SKD_GL_KEY: ObjectIdentifier = padded(*b"\x0B\x2A\x86\x48\x86\xF7\x0D\x01\x09\x10\x08\x0F\0\0\0\0\0\0\0\0\0\0\0\0\0\0\0\0\0\0\0\0\0\0\0\0\0\0\0\0");
 /// `id-skd-glDelete`: 1.2.840.113549.1.9.16.8.2
-pub const ID_SKD_GL_DELETE: ObjectIdentifier = ObjectIdentifier::new_unwrap("1.2.840.113549.1.9.16.8.2");
+pub const ID_SKD_GL_DELETE: ObjectIdentifier = padded(*b"\x0B\x2A\x86\x48\x86\xF7\x0D\x01\x09\x10\x08\x02\0\0\0\0\0\0\0\0\0\0\0\0\0\0\0\0\0\0\0\0\0\0\0\0\0\0\0\0");
 /// `id-skd-glAddMember`: 1.2.840.113549.1.9.16.8.3
-pub const ID_SKD_GL_ADD_MEMBER: ObjectIdentifier = ObjectIdentifier::new_unwrap("1.2.840.113549.1.9.16.8.3");
+pub const ID_SKD_GL_ADD_MEMBER: ObjectIdentifier = padded(*b"\x0B\x2A\x86\x48\x86\xF7\x0D\x01\x09\x10\x08\x03\0\0\0\0\0\0\0\0\0\0\0\0\0\0\0\0\0\0\0\0\0\0\0\0\0\0\0\0");
 /// `id-skd-glDeleteMember`: 1.2.840.113549.1.9.16.8.4
-pub const ID_SKD_GL_DELETE_MEMBER: ObjectIdentifier = ObjectIdentifier::new_unwrap("1.2.840.113549.1.9.16.8.4");
+pub const ID_SKD_GL_DELETE_MEMBER: ObjectIdentifier = padded(*b"\x0B\x2A\x86\x48\x86\xF7\x0D\x01\x09\x10\x08\x04\0\0\0\0\0\0\0\0\0\0\0\0\0\0\0\0\0\0\0\0\0\0\0\0\0\0\0\0");
 /// `id-skd-glRekey`: 1.2.840.113549.1.9.16.8.5
-pub const ID_SKD_GL_REKEY: ObjectIdentifier = ObjectIdentifier::new_unwrap("1.2.840.113549.1.9.16.8.5");
+pub const ID_SKD_GL_REKEY: ObjectIdentifier = padded(*b"\x0B\x2A\x86\x48\x86\xF7\x0D\x01\x09\x10\x08\x05\0\0\0\0\0\0\0\0\0\0\0\0\0\0\0\0\0\0\0\0\0\0\0\0\0\0\0\0");
 /// `id-skd-glAddOwner`: 1.2.840.113549.1.9.16.8.6
-pub const ID_SKD_GL_ADD_OWNER: ObjectIdentifier = ObjectIdentifier::new_unwrap("1.2.840.113549.1.9.16.8.6");
+pub const ID_SKD_GL_ADD_OWNER: ObjectIdentifier = padded(*b"\x0B\x2A\x86\x48\x86\xF7\x0D\x01\x09\x10\x08\x06\0\0\0\0\0\0\0\0\0\0\0\0\0\0\0\0\0\0\0\0\0\0\0\0\0\0\0\0");
 /// `id-skd-glRemoveOwner`: 1.2.840.113549.1.9.16.8.7
-pub const ID_SKD_GL_REMOVE_OWNER: ObjectIdentifier = ObjectIdentifier::new_unwrap("1.2.840.113549.1.9.16.8.7");
+pub const ID_SKD_GL_REMOVE_OWNER: ObjectIdentifier = padded(*b"\x0B\x2A\x86\x48\x86\xF7\x0D\x01\x09\x10\x08\x07\0\0\0\0\0\0\0\0\0\0\0\0\0\0\0\0\0\0\0\0\0\0\0\0\0\0\0\0");
 /// `id-skd-glKeyCompromise`: 1.2.840.113549.1.9.16.8.8
-pub const ID_SKD_GL_KEY_COMPROMISE: ObjectIdentifier = ObjectIdentifier::new_unwrap("1.2.840.113549.1.9.16.8.8");
+pub const ID_SKD_GL_KEY_COMPROMISE: ObjectIdentifier = padded(*b"\x0B\x2A\x86\x48\x86\xF7\x0D\x01\x09\x10\x08\x08\0\0\0\0\0\0\0\0\0\0\0\0\0\0\0\0\0\0\0\0\0\0\0\0\0\0\0\0");
 /// `id-skd-glkRefresh`: 1.2.840.113549.1.9.16.8.9
-pub const ID_SKD_GLK_REFRESH: ObjectIdentifier = ObjectIdentifier::new_unwrap("1.2.840.113549.1.9.16.8.9");
+pub const ID_SKD_GLK_REFRESH: ObjectIdentifier = padded(*b"\x0B\x2A\x86\x48\x86\xF7\x0D\x01\x09\x10\x08\x09\0\0\0\0\0\0\0\0\0\0\0\0\0\0\0\0\0\0\0\0\0\0\0\0\0\0\0\0");
 /// `id-contentType`: 1.2.840.113549.1.9.3
-pub const ID_CONTENT_TYPE: ObjectIdentifier = ObjectIdentifier::new_unwrap("1.2.840.113549.1.9.3");
+pub const ID_CONTENT_TYPE: ObjectIdentifier = padded(*b"\x09\x2A\x86\x48\x86\xF7\x0D\x01\x09\x03\0\0\0\0\0\0\0\0\0\0\0\0\0\0\0\0\0\0\0\0\0\0\0\0\0\0\0\0\0\0");
 /// `id-messageDigest`: 1.2.840.113549.1.9.4
-pub const ID_MESSAGE_DIGEST: ObjectIdentifier = ObjectIdentifier::new_unwrap("1.2.840.113549.1.9.4");
+pub const ID_MESSAGE_DIGEST: ObjectIdentifier = padded(*b"\x09\x2A\x86\x48\x86\xF7\x0D\x01\x09\x04\0\0\0\0\0\0\0\0\0\0\0\0\0\0\0\0\0\0\0\0\0\0\0\0\0\0\0\0\0\0");
 /// `id-signingTime`: 1.2.840.113549.1.9.5
-pub const ID_SIGNING_TIME: ObjectIdentifier = ObjectIdentifier::new_unwrap("1.2.840.113549.1.9.5");
+pub const ID_SIGNING_TIME: ObjectIdentifier = padded(*b"\x09\x2A\x86\x48\x86\xF7\x0D\x01\x09\x05\0\0\0\0\0\0\0\0\0\0\0\0\0\0\0\0\0\0\0\0\0\0\0\0\0\0\0\0\0\0");
 /// `id-countersignature`: 1.2.840.113549.1.9.6
-pub const ID_COUNTERSIGNATURE: ObjectIdentifier = ObjectIdentifier::new_unwrap("1.2.840.113549.1.9.6");
+pub const ID_COUNTERSIGNATURE: ObjectIdentifier = padded(*b"\x09\x2A\x86\x48\x86\xF7\x0D\x01\x09\x06\0\0\0\0\0\0\0\0\0\0\0\0\0\0\0\0\0\0\0\0\0\0\0\0\0\0\0\0\0\0");
 /// `rc2-cbc`: 1.2.840.113549.3.2
-pub const RC_2_CBC: ObjectIdentifier = ObjectIdentifier::new_unwrap("1.2.840.113549.3.2");
+pub const RC_2_CBC: ObjectIdentifier = padded(*b"\x08\x2A\x86\x48\x86\xF7\x0D\x03\x02\0\0\0\0\0\0\0\0\0\0\0\0\0\0\0\0\0\0\0\0\0\0\0\0\0\0\0\0\0\0\0");
 /// `des-ede3-cbc`: 1.2.840.113549.3.7
-pub const DES_EDE_3_CBC: ObjectIdentifier = ObjectIdentifier::new_unwrap("1.2.840.113549.3.7");
+pub const DES_EDE_3_CBC: ObjectIdentifier = padded(*b"\x08\x2A\x86\x48\x86\xF7\x0D\x03\x07\0\0\0\0\0\0\0\0\0\0\0\0\0\0\0\0\0\0\0\0\0\0\0\0\0\0\0\0\0\0\0");
 /// `ltans`: 1.3.6.1.5.5.11
-pub const LTANS: ObjectIdentifier = ObjectIdentifier::new_unwrap("1.3.6.1.5.5.11");
+pub const LTANS: ObjectIdentifier = padded(*b"\x06\x2B\x06\x01\x05\x05\x0B\0\0\0\0\0\0\0\0\0\0\0\0\0\0\0\0\0\0\0\0\0\0\0\0\0\0\0\0\0\0\0\0\0");
 /// `id-cet-skdFailInfo`: 1.3.6.1.5.5.7.15.1
-pub const ID_CET_SKD_FAIL_INFO: ObjectIdentifier = ObjectIdentifier::new_unwrap("1.3.6.1.5.5.7.15.1");
+pub const ID_CET_SKD_FAIL_INFO: ObjectIdentifier = padded(*b"\x08\x2B\x06\x01\x05\x05\x07\x0F\x01\0\0\0\0\0\0\0\0\0\0\0\0\0\0\0\0\0\0\0\0\0\0\0\0\0\0\0\0\0\0\0");
 /// `id-cmc-glaRR`: 1.3.6.1.5.5.7.7.99
-pub const ID_CMC_GLA_RR: ObjectIdentifier = ObjectIdentifier::new_unwrap("1.3.6.1.5.5.7.7.99");
+pub const ID_CMC_GLA_RR: ObjectIdentifier = padded(*b"\x08\x2B\x06\x01\x05\x05\x07\x07\x63\0\0\0\0\0\0\0\0\0\0\0\0\0\0\0\0\0\0\0\0\0\0\0\0\0\0\0\0\0\0\0");
 /// `id-cmc-gla-skdAlgRequest`: 1.3.6.1.5.5.7.7.99.1
-pub const ID_CMC_GLA_SKD_ALG_REQUEST: ObjectIdentifier = ObjectIdentifier::new_unwrap("1.3.6.1.5.5.7.7.99.1");
+pub const ID_CMC_GLA_SKD_ALG_REQUEST: ObjectIdentifier = padded(*b"\x09\x2B\x06\x01\x05\x05\x07\x07\x63\x01\0\0\0\0\0\0\0\0\0\0\0\0\0\0\0\0\0\0\0\0\0\0\0\0\0\0\0\0\0\0");
 /// `id-cmc-gla-skdAlgResponse`: 1.3.6.1.5.5.7.7.99.2
-pub const ID_CMC_GLA_SKD_ALG_RESPONSE: ObjectIdentifier = ObjectIdentifier::new_unwrap("1.3.6.1.5.5.7.7.99.2");
+pub const ID_CMC_GLA_SKD_ALG_RESPONSE: ObjectIdentifier = padded(*b"\x09\x2B\x06\x01\x05\x05\x07\x07\x63\x02\0\0\0\0\0\0\0\0\0\0\0\0\0\0\0\0\0\0\0\0\0\0\0\0\0\0\0\0\0\0");
 /// `id-on-hardwareModuleName`: 1.3.6.1.5.5.7.8.4
-pub const ID_ON_HARDWARE_MODULE_NAME: ObjectIdentifier = ObjectIdentifier::new_unwrap("1.3.6.1.5.5.7.8.4");
+pub const ID_ON_HARDWARE_MODULE_NAME: ObjectIdentifier = padded(*b"\x08\x2B\x06\x01\x05\x05\x07\x08\x04\0\0\0\0\0\0\0\0\0\0\0\0\0\0\0\0\0\0\0\0\0\0\0\0\0\0\0\0\0\0\0");
 /// `hMAC-SHA1`: 1.3.6.1.5.5.8.1.2
-pub const HMAC_SHA_1: ObjectIdentifier = ObjectIdentifier::new_unwrap("1.3.6.1.5.5.8.1.2");
+pub const HMAC_SHA_1: ObjectIdentifier = padded(*b"\x08\x2B\x06\x01\x05\x05\x08\x01\x02\0\0\0\0\0\0\0\0\0\0\0\0\0\0\0\0\0\0\0\0\0\0\0\0\0\0\0\0\0\0\0");
 /// `aes`: 2.16.840.1.101.3.4.1
-pub const AES: ObjectIdentifier = ObjectIdentifier::new_unwrap("2.16.840.1.101.3.4.1");
+pub const AES: ObjectIdentifier = padded(*b"\x08\x60\x86\x48\x01\x65\x03\x04\x01\0\0\0\0\0\0\0\0\0\0\0\0\0\0\0\0\0\0\0\0\0\0\0\0\0\0\0\0\0\0\0");
 /// `id-aes128-CBC`: 2.16.840.1.101.3.4.1.2
-pub const ID_AES_128_CBC: ObjectIdentifier = ObjectIdentifier::new_unwrap("2.16.840.1.101.3.4.1.2");
+pub const ID_AES_128_CBC: ObjectIdentifier = padded(*b"\x09\x60\x86\x48\x01\x65\x03\x04\x01\x02\0\0\0\0\0\0\0\0\0\0\0\0\0\0\0\0\0\0\0\0\0\0\0\0\0\0\0\0\0\0");
 /// `id-aes192-CBC`: 2.16.840.1.101.3.4.1.22
-pub const ID_AES_192_CBC: ObjectIdentifier = ObjectIdentifier::new_unwrap("2.16.840.1.101.3.4.1.22");
+pub const ID_AES_192_CBC: ObjectIdentifier = padded(*b"\x09\x60\x86\x48\x01\x65\x03\x04\x01\x16\0\0\0\0\0\0\0\0\0\0\0\0\0\0\0\0\0\0\0\0\0\0\0\0\0\0\0\0\0\0");
 /// `id-aes192-wrap`: 2.16.840.1.101.3.4.1.25
-pub const ID_AES_192_WRAP: ObjectIdentifier = ObjectIdentifier::new_unwrap("2.16.840.1.101.3.4.1.25");
+pub const ID_AES_192_WRAP: ObjectIdentifier = padded(*b"\x09\x60\x86\x48\x01\x65\x03\x04\x01\x19\0\0\0\0\0\0\0\0\0\0\0\0\0\0\0\0\0\0\0\0\0\0\0\0\0\0\0\0\0\0");
 /// `id-aes192-GCM`: 2.16.840.1.101.3.4.1.26
-pub const ID_AES_192_GCM: ObjectIdentifier = ObjectIdentifier::new_unwrap("2.16.840.1.101.3.4.1.26");
+pub const ID_AES_192_GCM: ObjectIdentifier = padded(*b"\x09\x60\x86\x48\x01\x65\x03\x04\x01\x1A\0\0\0\0\0\0\0\0\0\0\0\0\0\0\0\0\0\0\0\0\0\0\0\0\0\0\0\0\0\0");
 /// `id-aes192-CCM`: 2.16.840.1.101.3.4.1.27
-pub const ID_AES_192_CCM: ObjectIdentifier = ObjectIdentifier::new_unwrap("2.16.840.1.101.3.4.1.27");
+pub const ID_AES_192_CCM: ObjectIdentifier = padded(*b"\x09\x60\x86\x48\x01\x65\x03\x04\x01\x1B\0\0\0\0\0\0\0\0\0\0\0\0\0\0\0\0\0\0\0\0\0\0\0\0\0\0\0\0\0\0");
 /// `id-aes256-CBC`: 2.16.840.1.101.3.4.1.42
-pub const ID_AES_256_CBC: ObjectIdentifier = ObjectIdentifier::new_unwrap("2.16.840.1.101.3.4.1.42");
+pub const ID_AES_256_CBC: ObjectIdentifier = padded(*b"\x09\x60\x86\x48\x01\x65\x03\x04\x01\x2A\0\0\0\0\0\0\0\0\0\0\0\0\0\0\0\0\0\0\0\0\0\0\0\0\0\0\0\0\0\0");
 /// `id-aes256-wrap`: 2.16.840.1.101.3.4.1.45
-pub const ID_AES_256_WRAP: ObjectIdentifier = ObjectIdentifier::new_unwrap("2.16.840.1.101.3.4.1.45");
+pub const ID_AES_256_WRAP: ObjectIdentifier = padded(*b"\x09\x60\x86\x48\x01\x65\x03\x04\x01\x2D\0\0\0\0\0\0\0\0\0\0\0\0\0\0\0\0\0\0\0\0\0\0\0\0\0\0\0\0\0\0");
 /// `id-aes256-GCM`: 2.16.840.1.101.3.4.1.46
-pub const ID_AES_256_GCM: ObjectIdentifier = ObjectIdentifier::new_unwrap("2.16.840.1.101.3.4.1.46");
+pub const ID_AES_256_GCM: ObjectIdentifier = padded(*b"\x09\x60\x86\x48\x01\x65\x03\x04\x01\x2E\0\0\0\0\0\0\0\0\0\0\0\0\0\0\0\0\0\0\0\0\0\0\0\0\0\0\0\0\0\0");
 /// `id-aes256-CCM`: 2.16.840.1.101.3.4.1.47
-pub const ID_AES_256_CCM: ObjectIdentifier = ObjectIdentifier::new_unwrap("2.16.840.1.101.3.4.1.47");
+pub const ID_AES_256_CCM: ObjectIdentifier = padded(*b"\x09\x60\x86\x48\x01\x65\x03\x04\x01\x2F\0\0\0\0\0\0\0\0\0\0\0\0\0\0\0\0\0\0\0\0\0\0\0\0\0\0\0\0\0\0");
 /// `id-aes128-wrap`: 2.16.840.1.101.3.4.1.5
-pub const ID_AES_128_WRAP: ObjectIdentifier = ObjectIdentifier::new_unwrap("2.16.840.1.101.3.4.1.5");
+pub const ID_AES_128_WRAP: ObjectIdentifier = padded(*b"\x09\x60\x86\x48\x01\x65\x03\x04\x01\x05\0\0\0\0\0\0\0\0\0\0\0\0\0\0\0\0\0\0\0\0\0\0\0\0\0\0\0\0\0\0");
 /// `id-aes128-GCM`: 2.16.840.1.101.3.4.1.6
-pub const ID_AES_128_GCM: ObjectIdentifier = ObjectIdentifier::new_unwrap("2.16.840.1.101.3.4.1.6");
+pub const ID_AES_128_GCM: ObjectIdentifier = padded(*b"\x09\x60\x86\x48\x01\x65\x03\x04\x01\x06\0\0\0\0\0\0\0\0\0\0\0\0\0\0\0\0\0\0\0\0\0\0\0\0\0\0\0\0\0\0");
 /// `id-aes128-CCM`: 2.16.840.1.101.3.4.1.7
-pub const ID_AES_128_CCM: ObjectIdentifier = ObjectIdentifier::new_unwrap("2.16.840.1.101.3.4.1.7");
+pub const ID_AES_128_CCM: ObjectIdentifier = padded(*b"\x09\x60\x86\x48\x01\x65\x03\x04\x01\x07\0\0\0\0\0\0\0\0\0\0\0\0\0\0\0\0\0\0\0\0\0\0\0\0\0\0\0\0\0\0");
 }
 
 /// Identifiers of [RFC 5912](https://www.rfc-editor.org/rfc/rfc5912).
@@ -2630,430 +2676,431 @@ pub const ID_AES_128_CCM: ObjectIdentifier = ObjectIdentifier::new_unwrap("2.16.
 /// assert_eq!(const_oid::db::rfc5912::ID_DSA.to_string(), "1.2.840.10040.4.1");
 /// ```
 pub mod rfc5912 {
+use super::padded;
 use crate::ObjectIdentifier;
 
 /// `id-dsa`: 1.2.840.10040.4.1
-pub const ID_DSA: ObjectIdentifier = ObjectIdentifier::new_unwrap("1.2.840.10040.4.1");
+pub const ID_DSA: ObjectIdentifier = padded(*b"\x07\x2A\x86\x48\xCE\x38\x04\x01\0\0\0\0\0\0\0\0\0\0\0\0\0\0\0\0\0\0\0\0\0\0\0\0\0\0\0\0\0\0\0\0");
 /// `dsa-with-sha1`: 1.2.840.10040.4.3
-pub const DSA_WITH_SHA_1: ObjectIdentifier = ObjectIdentifier::new_unwrap("1.2.840.10040.4.3");
+pub const DSA_WITH_SHA_1: ObjectIdentifier = padded(*b"\x07\x2A\x86\x48\xCE\x38\x04\x03\0\0\0\0\0\0\0\0\0\0\0\0\0\0\0\0\0\0\0\0\0\0\0\0\0\0\0\0\0\0\0\0");
 /// `id-ecPublicKey`: 1.2.840.10045.2.1
-pub const ID_EC_PUBLIC_KEY: ObjectIdentifier = ObjectIdentifier::new_unwrap("1.2.840.10045.2.1");
+pub const ID_EC_PUBLIC_KEY: ObjectIdentifier = padded(*b"\x07\x2A\x86\x48\xCE\x3D\x02\x01\0\0\0\0\0\0\0\0\0\0\0\0\0\0\0\0\0\0\0\0\0\0\0\0\0\0\0\0\0\0\0\0");
 /// `secp256r1`: 1.2.840.10045.3.1.7
-pub const SECP_256_R_1: ObjectIdentifier = ObjectIdentifier::new_unwrap("1.2.840.10045.3.1.7");
+pub const SECP_256_R_1: ObjectIdentifier = padded(*b"\x08\x2A\x86\x48\xCE\x3D\x03\x01\x07\0\0\0\0\0\0\0\0\0\0\0\0\0\0\0\0\0\0\0\0\0\0\0\0\0\0\0\0\0\0\0");
 /// `ecdsa-with-SHA224`: 1.2.840.10045.4.3.1
-pub const ECDSA_WITH_SHA_224: ObjectIdentifier = ObjectIdentifier::new_unwrap("1.2.840.10045.4.3.1");
+pub const ECDSA_WITH_SHA_224: ObjectIdentifier = padded(*b"\x08\x2A\x86\x48\xCE\x3D\x04\x03\x01\0\0\0\0\0\0\0\0\0\0\0\0\0\0\0\0\0\0\0\0\0\0\0\0\0\0\0\0\0\0\0");
 /// `ecdsa-with-SHA256`: 1.2.840.10045.4.3.2
-pub const ECDSA_WITH_SHA_256: ObjectIdentifier = ObjectIdentifier::new_unwrap("1.2.840.10045.4.3.2");
+pub const ECDSA_WITH_SHA_256: ObjectIdentifier = padded(*b"\x08\x2A\x86\x48\xCE\x3D\x04\x03\x02\0\0\0\0\0\0\0\0\0\0\0\0\0\0\0\0\0\0\0\0\0\0\0\0\0\0\0\0\0\0\0");
 /// `ecdsa-with-SHA384`: 1.2.840.10045.4.3.3
-pub const ECDSA_WITH_SHA_384: ObjectIdentifier = ObjectIdentifier::new_unwrap("1.2.840.10045.4.3.3");
+pub const ECDSA_WITH_SHA_384: ObjectIdentifier = padded(*b"\x08\x2A\x86\x48\xCE\x3D\x04\x03\x03\0\0\0\0\0\0\0\0\0\0\0\0\0\0\0\0\0\0\0\0\0\0\0\0\0\0\0\0\0\0\0");
 /// `ecdsa-with-SHA512`: 1.2.840.10045.4.3.4
-pub const ECDSA_WITH_SHA_512: ObjectIdentifier = ObjectIdentifier::new_unwrap("1.2.840.10045.4.3.4");
+pub const ECDSA_WITH_SHA_512: ObjectIdentifier = padded(*b"\x08\x2A\x86\x48\xCE\x3D\x04\x03\x04\0\0\0\0\0\0\0\0\0\0\0\0\0\0\0\0\0\0\0\0\0\0\0\0\0\0\0\0\0\0\0");
 /// `dhpublicnumber`: 1.2.840.10046.2.1
-pub const DHPUBLICNUMBER: ObjectIdentifier = ObjectIdentifier::new_unwrap("1.2.840.10046.2.1");
+pub const DHPUBLICNUMBER: ObjectIdentifier = padded(*b"\x07\x2A\x86\x48\xCE\x3E\x02\x01\0\0\0\0\0\0\0\0\0\0\0\0\0\0\0\0\0\0\0\0\0\0\0\0\0\0\0\0\0\0\0\0");
 /// `id-PasswordBasedMac`: 1.2.840.113533.7.66.13
-pub const ID_PASSWORD_BASED_MAC: ObjectIdentifier = ObjectIdentifier::new_unwrap("1.2.840.113533.7.66.13");
+pub const ID_PASSWORD_BASED_MAC: ObjectIdentifier = padded(*b"\x09\x2A\x86\x48\x86\xF6\x7D\x07\x42\x0D\0\0\0\0\0\0\0\0\0\0\0\0\0\0\0\0\0\0\0\0\0\0\0\0\0\0\0\0\0\0");
 /// `id-DHBasedMac`: 1.2.840.113533.7.66.30
-pub const ID_DH_BASED_MAC: ObjectIdentifier = ObjectIdentifier::new_unwrap("1.2.840.113533.7.66.30");
+pub const ID_DH_BASED_MAC: ObjectIdentifier = padded(*b"\x09\x2A\x86\x48\x86\xF6\x7D\x07\x42\x1E\0\0\0\0\0\0\0\0\0\0\0\0\0\0\0\0\0\0\0\0\0\0\0\0\0\0\0\0\0\0");
 /// `pkcs-1`: 1.2.840.113549.1.1
-pub const PKCS_1: ObjectIdentifier = ObjectIdentifier::new_unwrap("1.2.840.113549.1.1");
+pub const PKCS_1: ObjectIdentifier = padded(*b"\x08\x2A\x86\x48\x86\xF7\x0D\x01\x01\0\0\0\0\0\0\0\0\0\0\0\0\0\0\0\0\0\0\0\0\0\0\0\0\0\0\0\0\0\0\0");
 /// `rsaEncryption`: 1.2.840.113549.1.1.1
-pub const RSA_ENCRYPTION: ObjectIdentifier = ObjectIdentifier::new_unwrap("1.2.840.113549.1.1.1");
+pub const RSA_ENCRYPTION: ObjectIdentifier = padded(*b"\x09\x2A\x86\x48\x86\xF7\x0D\x01\x01\x01\0\0\0\0\0\0\0\0\0\0\0\0\0\0\0\0\0\0\0\0\0\0\0\0\0\0\0\0\0\0");
 /// `id-RSASSA-PSS`: 1.2.840.113549.1.1.10
-pub const ID_RSASSA_PSS: ObjectIdentifier = ObjectIdentifier::new_unwrap("1.2.840.113549.1.1.10");
+pub const ID_RSASSA_PSS: ObjectIdentifier = padded(*b"\x09\x2A\x86\x48\x86\xF7\x0D\x01\x01\x0A\0\0\0\0\0\0\0\0\0\0\0\0\0\0\0\0\0\0\0\0\0\0\0\0\0\0\0\0\0\0");
 /// `sha256WithRSAEncryption`: 1.2.840.113549.1.1.11
-pub const SHA_256_WITH_RSA_ENCRYPTION: ObjectIdentifier = ObjectIdentifier::new_unwrap("1.2.840.113549.1.1.11");
+pub const SHA_256_WITH_RSA_ENCRYPTION: ObjectIdentifier = padded(*b"\x09\x2A\x86\x48\x86\xF7\x0D\x01\x01\x0B\0\0\0\0\0\0\0\0\0\0\0\0\0\0\0\0\0\0\0\0\0\0\0\0\0\0\0\0\0\0");
 /// `sha384WithRSAEncryption`: 1.2.840.113549.1.1.12
-pub const SHA_384_WITH_RSA_ENCRYPTION: ObjectIdentifier = ObjectIdentifier::new_unwrap("1.2.840.113549.1.1.12");
+pub const SHA_384_WITH_RSA_ENCRYPTION: ObjectIdentifier = padded(*b"\x09\x2A\x86\x48\x86\xF7\x0D\x01\x01\x0C\0\0\0\0\0\0\0\0\0\0\0\0\0\0\0\0\0\0\0\0\0\0\0\0\0\0\0\0\0\0");
 /// `sha512WithRSAEncryption`: 1.2.840.113549.1.1.13
-pub const SHA_512_WITH_RSA_ENCRYPTION: ObjectIdentifier = ObjectIdentifier::new_unwrap("1.2.840.113549.1.1.13");
+pub const SHA_512_WITH_RSA_ENCRYPTION: ObjectIdentifier = padded(*b"\x09\x2A\x86\x48\x86\xF7\x0D\x01\x01\x0D\0\0\0\0\0\0\0\0\0\0\0\0\0\0\0\0\0\0\0\0\0\0\0\0\0\0\0\0\0\0");
 /// `sha224WithRSAEncryption`: 1.2.840.113549.1.1.14
-pub const SHA_224_WITH_RSA_ENCRYPTION: ObjectIdentifier = ObjectIdentifier::new_unwrap("1.2.840.113549.1.1.14");
+pub const SHA_224_WITH_RSA_ENCRYPTION: ObjectIdentifier = padded(*b"\x09\x2A\x86\x48\x86\xF7\x0D\x01\x01\x0E\0\0\0\0\0\0\0\0\0\0\0\0\0\0\0\0\0\0\0\0\0\0\0\0\0\0\0\0\0\0");
 /// `md2WithRSAEncryption`: 1.2.840.113549.1.1.2
-pub const MD_2_WITH_RSA_ENCRYPTION: ObjectIdentifier = ObjectIdentifier::new_unwrap("1.2.840.113549.1.1.2");
+pub const MD_2_WITH_RSA_ENCRYPTION: ObjectIdentifier = padded(*b"\x09\x2A\x86\x48\x86\xF7\x0D\x01\x01\x02\0\0\0\0\0\0\0\0\0\0\0\0\0\0\0\0\0\0\0\0\0\0\0\0\0\0\0\0\0\0");
 /// `md5WithRSAEncryption`: 1.2.840.113549.1.1.4
-pub const MD_5_WITH_RSA_ENCRYPTION: ObjectIdentifier = ObjectIdentifier::new_unwrap("1.2.840.113549.1.1.4");
+pub const MD_5_WITH_RSA_ENCRYPTION: ObjectIdentifier = padded(*b"\x09\x2A\x86\x48\x86\xF7\x0D\x01\x01\x04\0\0\0\0\0\0\0\0\0\0\0\0\0\0\0\0\0\0\0\0\0\0\0\0\0\0\0\0\0\0");
 /// `sha1WithRSAEncryption`: 1.2.840.113549.1.1.5
-pub const SHA_1_WITH_RSA_ENCRYPTION: ObjectIdentifier = ObjectIdentifier::new_unwrap("1.2.840.113549.1.1.5");
+pub const SHA_1_WITH_RSA_ENCRYPTION: ObjectIdentifier = padded(*b"\x09\x2A\x86\x48\x86\xF7\x0D\x01\x01\x05\0\0\0\0\0\0\0\0\0\0\0\0\0\0\0\0\0\0\0\0\0\0\0\0\0\0\0\0\0\0");
 /// `id-RSAES-OAEP`: 1.2.840.113549.1.1.7
-pub const ID_RSAES_OAEP: ObjectIdentifier = ObjectIdentifier::new_unwrap("1.2.840.113549.1.1.7");
+pub const ID_RSAES_OAEP: ObjectIdentifier = padded(*b"\x09\x2A\x86\x48\x86\xF7\x0D\x01\x01\x07\0\0\0\0\0\0\0\0\0\0\0\0\0\0\0\0\0\0\0\0\0\0\0\0\0\0\0\0\0\0");
 /// `id-mgf1`: 1.2.840.113549.1.1.8
-pub const ID_MGF_1: ObjectIdentifier = ObjectIdentifier::new_unwrap("1.2.840.113549.1.1.8");
+pub const ID_MGF_1: ObjectIdentifier = padded(*b"\x09\x2A\x86\x48\x86\xF7\x0D\x01\x01\x08\0\0\0\0\0\0\0\0\0\0\0\0\0\0\0\0\0\0\0\0\0\0\0\0\0\0\0\0\0\0");
 /// `id-pSpecified`: 1.2.840.113549.1.1.9
-pub const ID_P_SPECIFIED: ObjectIdentifier = ObjectIdentifier::new_unwrap("1.2.840.113549.1.1.9");
+pub const ID_P_SPECIFIED: ObjectIdentifier = padded(*b"\x09\x2A\x86\x48\x86\xF7\x0D\x01\x01\x09\0\0\0\0\0\0\0\0\0\0\0\0\0\0\0\0\0\0\0\0\0\0\0\0\0\0\0\0\0\0");
 /// `pkcs-9`: 1.2.840.113549.1.9
-pub const PKCS_9: ObjectIdentifier = ObjectIdentifier::new_unwrap("1.2.840.113549.1.9");
+pub const PKCS_9: ObjectIdentifier = padded(*b"\x08\x2A\x86\x48\x86\xF7\x0D\x01\x09\0\0\0\0\0\0\0\0\0\0\0\0\0\0\0\0\0\0\0\0\0\0\0\0\0\0\0\0\0\0\0");
 /// `id-ExtensionReq`: 1.2.840.113549.1.9.14
-pub const ID_EXTENSION_REQ: ObjectIdentifier = ObjectIdentifier::new_unwrap("1.2.840.113549.1.9.14");
+pub const ID_EXTENSION_REQ: ObjectIdentifier = padded(*b"\x09\x2A\x86\x48\x86\xF7\x0D\x01\x09\x0E\0\0\0\0\0\0\0\0\0\0\0\0\0\0\0\0\0\0\0\0\0\0\0\0\0\0\0\0\0\0");
 /// `id-smime`: 1.2.840.113549.1.9.16
-pub const ID_SMIME: ObjectIdentifier = ObjectIdentifier::new_unwrap("1.2.840.113549.1.9.16");
+pub const ID_SMIME: ObjectIdentifier = padded(*b"\x09\x2A\x86\x48\x86\xF7\x0D\x01\x09\x10\0\0\0\0\0\0\0\0\0\0\0\0\0\0\0\0\0\0\0\0\0\0\0\0\0\0\0\0\0\0");
 /// `id-ct`: 1.2.840.113549.1.9.16.1
-pub const ID_CT: ObjectIdentifier = ObjectIdentifier::new_unwrap("1.2.840.113549.1.9.16.1");
+pub const ID_CT: ObjectIdentifier = padded(*b"\x0A\x2A\x86\x48\x86\xF7\x0D\x01\x09\x10\x01\0\0\0\0\0\0\0\0\0\0\0\0\0\0\0\0\0\0\0\0\0\0\0\0\0\0\0\0\0");
 /// `id-ct-scvp-certValRequest`: 1.2.840.113549.1.9.16.1.10
-pub const ID_CT_SCVP_CERT_VAL_REQUEST: ObjectIdentifier = ObjectIdentifier::new_unwrap("1.2.840.113549.1.9.16.1.10");
+pub const ID_CT_SCVP_CERT_VAL_REQUEST: ObjectIdentifier = padded(*b"\x0B\x2A\x86\x48\x86\xF7\x0D\x01\x09\x10\x01\x0A\0\0\0\0\0\0\0\0\0\0\0\0\0\0\0\0\0\0\0\0\0\0\0\0\0\0\0\0");
 /// `id-ct-scvp-certValResponse`: 1.2.840.113549.1.9.16.1.11
-pub const ID_CT_SCVP_CERT_VAL_RESPONSE: ObjectIdentifier = ObjectIdentifier::new_unwrap("1.2.840.113549.1.9.16.1.11");
+pub const ID_CT_SCVP_CERT_VAL_RESPONSE: ObjectIdentifier = padded(*b"\x0B\x2A\x86\x48\x86\xF7\x0D\x01\x09\x10\x01\x0B\0\0\0\0\0\0\0\0\0\0\0\0\0\0\0\0\0\0\0\0\0\0\0\0\0\0\0\0");
 /// `id-ct-scvp-valPolRequest`: 1.2.840.113549.1.9.16.1.12
-pub const ID_CT_SCVP_VAL_POL_REQUEST: ObjectIdentifier = ObjectIdentifier::new_unwrap("1.2.840.113549.1.9.16.1.12");
+pub const ID_CT_SCVP_VAL_POL_REQUEST: ObjectIdentifier = padded(*b"\x0B\x2A\x86\x48\x86\xF7\x0D\x01\x09\x10\x01\x0C\0\0\0\0\0\0\0\0\0\0\0\0\0\0\0\0\0\0\0\0\0\0\0\0\0\0\0\0");
 /// `id-ct-scvp-valPolResponse`: 1.2.840.113549.1.9.16.1.13
-pub const ID_CT_SCVP_VAL_POL_RESPONSE: ObjectIdentifier = ObjectIdentifier::new_unwrap("1.2.840.113549.1.9.16.1.13");
+pub const ID_CT_SCVP_VAL_POL_RESPONSE: ObjectIdentifier = padded(*b"\x0B\x2A\x86\x48\x86\xF7\x0D\x01\x09\x10\x01\x0D\0\0\0\0\0\0\0\0\0\0\0\0\0\0\0\0\0\0\0\0\0\0\0\0\0\0\0\0");
 /// `id-ct-encKeyWithID`: 1.2.840.113549.1.9.16.1.21
-pub const ID_CT_ENC_KEY_WITH_ID: ObjectIdentifier = ObjectIdentifier::new_unwrap("1.2.840.113549.1.9.16.1.21");
+pub const ID_CT_ENC_KEY_WITH_ID: ObjectIdentifier = padded(*b"\x0B\x2A\x86\x48\x86\xF7\x0D\x01\x09\x10\x01\x15\0\0\0\0\0\0\0\0\0\0\0\0\0\0\0\0\0\0\0\0\0\0\0\0\0\0\0\0");
 /// `id-aa`: 1.2.840.113549.1.9.16.2
-pub const ID_AA: ObjectIdentifier = ObjectIdentifier::new_unwrap("1.2.840.113549.1.9.16.2");
+pub const ID_AA: ObjectIdentifier = padded(*b"\x0A\x2A\x86\x48\x86\xF7\x0D\x01\x09\x10\x02\0\0\0\0\0\0\0\0\0\0\0\0\0\0\0\0\0\0\0\0\0\0\0\0\0\0\0\0\0");
 /// `id-aa-cmc-unsignedData`: 1.2.840.113549.1.9.16.2.34
-pub const ID_AA_CMC_UNSIGNED_DATA: ObjectIdentifier = ObjectIdentifier::new_unwrap("1.2.840.113549.1.9.16.2.34");
+pub const ID_AA_CMC_UNSIGNED_DATA: ObjectIdentifier = padded(*b"\x0B\x2A\x86\x48\x86\xF7\x0D\x01\x09\x10\x02\x22\0\0\0\0\0\0\0\0\0\0\0\0\0\0\0\0\0\0\0\0\0\0\0\0\0\0\0\0");
 /// `id-md2`: 1.2.840.113549.2.2
-pub const ID_MD_2: ObjectIdentifier = ObjectIdentifier::new_unwrap("1.2.840.113549.2.2");
+pub const ID_MD_2: ObjectIdentifier = padded(*b"\x08\x2A\x86\x48\x86\xF7\x0D\x02\x02\0\0\0\0\0\0\0\0\0\0\0\0\0\0\0\0\0\0\0\0\0\0\0\0\0\0\0\0\0\0\0");
 /// `id-md5`: 1.2.840.113549.2.5
-pub const ID_MD_5: ObjectIdentifier = ObjectIdentifier::new_unwrap("1.2.840.113549.2.5");
+pub const ID_MD_5: ObjectIdentifier = padded(*b"\x08\x2A\x86\x48\x86\xF7\x0D\x02\x05\0\0\0\0\0\0\0\0\0\0\0\0\0\0\0\0\0\0\0\0\0\0\0\0\0\0\0\0\0\0\0");
 /// `sect163k1`: 1.3.132.0.1
-pub const SECT_163_K_1: ObjectIdentifier = ObjectIdentifier::new_unwrap("1.3.132.0.1");
+pub const SECT_163_K_1: ObjectIdentifier = padded(*b"\x05\x2B\x81\x04\x00\x01\0\0\0\0\0\0\0\0\0\0\0\0\0\0\0\0\0\0\0\0\0\0\0\0\0\0\0\0\0\0\0\0\0\0");
 /// `sect163r2`: 1.3.132.0.15
-pub const SECT_163_R_2: ObjectIdentifier = ObjectIdentifier::new_unwrap("1.3.132.0.15");
+pub const SECT_163_R_2: ObjectIdentifier = padded(*b"\x05\x2B\x81\x04\x00\x0F\0\0\0\0\0\0\0\0\0\0\0\0\0\0\0\0\0\0\0\0\0\0\0\0\0\0\0\0\0\0\0\0\0\0");
 /// `sect283k1`: 1.3.132.0.16
-pub const SECT_283_K_1: ObjectIdentifier = ObjectIdentifier::new_unwrap("1.3.132.0.16");
+pub const SECT_283_K_1: ObjectIdentifier = padded(*b"\x05\x2B\x81\x04\x00\x10\0\0\0\0\0\0\0\0\0\0\0\0\0\0\0\0\0\0\0\0\0\0\0\0\0\0\0\0\0\0\0\0\0\0");
 /// `sect283r1`: 1.3.132.0.17
-pub const SECT_283_R_1: ObjectIdentifier = ObjectIdentifier::new_unwrap("1.3.132.0.17");
+pub const SECT_283_R_1: ObjectIdentifier = padded(*b"\x05\x2B\x81\x04\x00\x11\0\0\0\0\0\0\0\0\0\0\0\0\0\0\0\0\0\0\0\0\0\0\0\0\0\0\0\0\0\0\0\0\0\0");
 /// `sect233k1`: 1.3.132.0.26
-pub const SECT_233_K_1: ObjectIdentifier = ObjectIdentifier::new_unwrap("1.3.132.0.26");
+pub const SECT_233_K_1: ObjectIdentifier = padded(*b"\x05\x2B\x81\x04\x00\x1A\0\0\0\0\0\0\0\0\0\0\0\0\0\0\0\0\0\0\0\0\0\0\0\0\0\0\0\0\0\0\0\0\0\0");
 /// `sect233r1`: 1.3.132.0.27
-pub const SECT_233_R_1: ObjectIdentifier = ObjectIdentifier::new_unwrap("1.3.132.0.27");
+pub const SECT_233_R_1: ObjectIdentifier = padded(*b"\x05\x2B\x81\x04\x00\x1B\0\0\0\0\0\0\0\0\0\0\0\0\0\0\0\0\0\0\0\0\0\0\0\0\0\0\0\0\0\0\0\0\0\0");
 /// `secp224r1`: 1.3.132.0.33
-pub const SECP_224_R_1: ObjectIdentifier = ObjectIdentifier::new_unwrap("1.3.132.0.33");
+pub const SECP_224_R_1: ObjectIdentifier = padded(*b"\x05\x2B\x81\x04\x00\x21\0\0\0\0\0\0\0\0\0\0\0\0\0\0\0\0\0\0\0\0\0\0\0\0\0\0\0\0\0\0\0\0\0\0");
 /// `secp384r1`: 1.3.132.0.34
-pub const SECP_384_R_1: ObjectIdentifier = ObjectIdentifier::new_unwrap("1.3.132.0.34");
+pub const SECP_384_R_1: ObjectIdentifier = padded(*b"\x05\x2B\x81\x04\x00\x22\0\0\0\0\0\0\0\0\0\0\0\0\0\0\0\0\0\0\0\0\0\0\0\0\0\0\0\0\0\0\0\0\0\0");
 /// `secp521r1`: 1.3.132.0.35
-pub const SECP_521_R_1: ObjectIdentifier = ObjectIdentifier::new_unwrap("1.3.132.0.35");
+pub const SECP_521_R_1: ObjectIdentifier = padded(*b"\x05\x2B\x81\x04\x00\x23\0\0\0\0\0\0\0\0\0\0\0\0\0\0\0\0\0\0\0\0\0\0\0\0\0\0\0\0\0\0\0\0\0\0");
 /// `sect409k1`: 1.3.132.0.36
-pub const SECT_409_K_1: ObjectIdentifier = ObjectIdentifier::new_unwrap("1.3.132.0.36");
+pub const SECT_409_K_1: ObjectIdentifier = padded(*b"\x05\x2B\x81\x04\x00\x24\0\0\0\0\0\0\0\0\0\0\0\0\0\0\0\0\0\0\0\0\0\0\0\0\0\0\0\0\0\0\0\0\0\0");
 /// `sect409r1`: 1.3.132.0.37
-pub const SECT_409_R_1: ObjectIdentifier = ObjectIdentifier::new_unwrap("1.3.132.0.37");
+pub const SECT_409_R_1: ObjectIdentifier = padded(*b"\x05\x2B\x81\x04\x00\x25\0\0\0\0\0\0\0\0\0\0\0\0\0\0\0\0\0\0\0\0\0\0\0\0\0\0\0\0\0\0\0\0\0\0");
 /// `sect571k1`: 1.3.132.0.38
-pub const SECT_571_K_1: ObjectIdentifier = ObjectIdentifier::new_unwrap("1.3.132.0.38");
+pub const SECT_571_K_1: ObjectIdentifier = padded(*b"\x05\x2B\x81\x04\x00\x26\0\0\0\0\0\0\0\0\0\0\0\0\0\0\0\0\0\0\0\0\0\0\0\0\0\0\0\0\0\0\0\0\0\0");
 /// `sect571r1`: 1.3.132.0.39
-pub const SECT_571_R_1: ObjectIdentifier = ObjectIdentifier::new_unwrap("1.3.132.0.39");
+pub const SECT_571_R_1: ObjectIdentifier = padded(*b"\x05\x2B\x81\x04\x00\x27\0\0\0\0\0\0\0\0\0\0\0\0\0\0\0\0\0\0\0\0\0\0\0\0\0\0\0\0\0\0\0\0\0\0");
 /// `id-ecDH`: 1.3.132.1.12
-pub const ID_EC_DH: ObjectIdentifier = ObjectIdentifier::new_unwrap("1.3.132.1.12");
+pub const ID_EC_DH: ObjectIdentifier = padded(*b"\x05\x2B\x81\x04\x01\x0C\0\0\0\0\0\0\0\0\0\0\0\0\0\0\0\0\0\0\0\0\0\0\0\0\0\0\0\0\0\0\0\0\0\0");
 /// `id-ecMQV`: 1.3.132.1.13
-pub const ID_EC_MQV: ObjectIdentifier = ObjectIdentifier::new_unwrap("1.3.132.1.13");
+pub const ID_EC_MQV: ObjectIdentifier = padded(*b"\x05\x2B\x81\x04\x01\x0D\0\0\0\0\0\0\0\0\0\0\0\0\0\0\0\0\0\0\0\0\0\0\0\0\0\0\0\0\0\0\0\0\0\0");
 /// `id-sha1`: 1.3.14.3.2.26
-pub const ID_SHA_1: ObjectIdentifier = ObjectIdentifier::new_unwrap("1.3.14.3.2.26");
+pub const ID_SHA_1: ObjectIdentifier = padded(*b"\x05\x2B\x0E\x03\x02\x1A\0\0\0\0\0\0\0\0\0\0\0\0\0\0\0\0\0\0\0\0\0\0\0\0\0\0\0\0\0\0\0\0\0\0");
 /// `id-pkix`: 1.3.6.1.5.5.7
-pub const ID_PKIX: ObjectIdentifier = ObjectIdentifier::new_unwrap("1.3.6.1.5.5.7");
+pub const ID_PKIX: ObjectIdentifier = padded(*b"\x06\x2B\x06\x01\x05\x05\x07\0\0\0\0\0\0\0\0\0\0\0\0\0\0\0\0\0\0\0\0\0\0\0\0\0\0\0\0\0\0\0\0\0");
 /// `id-pe`: 1.3.6.1.5.5.7.1
-pub const ID_PE: ObjectIdentifier = ObjectIdentifier::new_unwrap("1.3.6.1.5.5.7.1");
+pub const ID_PE: ObjectIdentifier = padded(*b"\x07\x2B\x06\x01\x05\x05\x07\x01\0\0\0\0\0\0\0\0\0\0\0\0\0\0\0\0\0\0\0\0\0\0\0\0\0\0\0\0\0\0\0\0");
 /// `id-pe-authorityInfoAccess`: 1.3.6.1.5.5.7.1.1
-pub const ID_PE_AUTHORITY_INFO_ACCESS: ObjectIdentifier = ObjectIdentifier::new_unwrap("1.3.6.1.5.5.7.1.1");
+pub const ID_PE_AUTHORITY_INFO_ACCESS: ObjectIdentifier = padded(*b"\x08\x2B\x06\x01\x05\x05\x07\x01\x01\0\0\0\0\0\0\0\0\0\0\0\0\0\0\0\0\0\0\0\0\0\0\0\0\0\0\0\0\0\0\0");
 /// `id-pe-ac-proxying`: 1.3.6.1.5.5.7.1.10
-pub const ID_PE_AC_PROXYING: ObjectIdentifier = ObjectIdentifier::new_unwrap("1.3.6.1.5.5.7.1.10");
+pub const ID_PE_AC_PROXYING: ObjectIdentifier = padded(*b"\x08\x2B\x06\x01\x05\x05\x07\x01\x0A\0\0\0\0\0\0\0\0\0\0\0\0\0\0\0\0\0\0\0\0\0\0\0\0\0\0\0\0\0\0\0");
 /// `id-pe-subjectInfoAccess`: 1.3.6.1.5.5.7.1.11
-pub const ID_PE_SUBJECT_INFO_ACCESS: ObjectIdentifier = ObjectIdentifier::new_unwrap("1.3.6.1.5.5.7.1.11");
+pub const ID_PE_SUBJECT_INFO_ACCESS: ObjectIdentifier = padded(*b"\x08\x2B\x06\x01\x05\x05\x07\x01\x0B\0\0\0\0\0\0\0\0\0\0\0\0\0\0\0\0\0\0\0\0\0\0\0\0\0\0\0\0\0\0\0");
 /// `id-pe-ac-auditIdentity`: 1.3.6.1.5.5.7.1.4
-pub const ID_PE_AC_AUDIT_IDENTITY: ObjectIdentifier = ObjectIdentifier::new_unwrap("1.3.6.1.5.5.7.1.4");
+pub const ID_PE_AC_AUDIT_IDENTITY: ObjectIdentifier = padded(*b"\x08\x2B\x06\x01\x05\x05\x07\x01\x04\0\0\0\0\0\0\0\0\0\0\0\0\0\0\0\0\0\0\0\0\0\0\0\0\0\0\0\0\0\0\0");
 /// `id-pe-aaControls`: 1.3.6.1.5.5.7.1.6
-pub const ID_PE_AA_CONTROLS: ObjectIdentifier = ObjectIdentifier::new_unwrap("1.3.6.1.5.5.7.1.6");
+pub const ID_PE_AA_CONTROLS: ObjectIdentifier = padded(*b"\x08\x2B\x06\x01\x05\x05\x07\x01\x06\0\0\0\0\0\0\0\0\0\0\0\0\0\0\0\0\0\0\0\0\0\0\0\0\0\0\0\0\0\0\0");
 /// `id-aca`: 1.3.6.1.5.5.7.10
-pub const ID_ACA: ObjectIdentifier = ObjectIdentifier::new_unwrap("1.3.6.1.5.5.7.10");
+pub const ID_ACA: ObjectIdentifier = padded(*b"\x07\x2B\x06\x01\x05\x05\x07\x0A\0\0\0\0\0\0\0\0\0\0\0\0\0\0\0\0\0\0\0\0\0\0\0\0\0\0\0\0\0\0\0\0");
 /// `id-aca-authenticationInfo`: 1.3.6.1.5.5.7.10.1
-pub const ID_ACA_AUTHENTICATION_INFO: ObjectIdentifier = ObjectIdentifier::new_unwrap("1.3.6.1.5.5.7.10.1");
+pub const ID_ACA_AUTHENTICATION_INFO: ObjectIdentifier = padded(*b"\x08\x2B\x06\x01\x05\x05\x07\x0A\x01\0\0\0\0\0\0\0\0\0\0\0\0\0\0\0\0\0\0\0\0\0\0\0\0\0\0\0\0\0\0\0");
 /// `id-aca-accessIdentity`: 1.3.6.1.5.5.7.10.2
-pub const ID_ACA_ACCESS_IDENTITY: ObjectIdentifier = ObjectIdentifier::new_unwrap("1.3.6.1.5.5.7.10.2");
+pub const ID_ACA_ACCESS_IDENTITY: ObjectIdentifier = padded(*b"\x08\x2B\x06\x01\x05\x05\x07\x0A\x02\0\0\0\0\0\0\0\0\0\0\0\0\0\0\0\0\0\0\0\0\0\0\0\0\0\0\0\0\0\0\0");
 /// `id-aca-chargingIdentity`: 1.3.6.1.5.5.7.10.3
-pub const ID_ACA_CHARGING_IDENTITY: ObjectIdentifier = ObjectIdentifier::new_unwrap("1.3.6.1.5.5.7.10.3");
+pub const ID_ACA_CHARGING_IDENTITY: ObjectIdentifier = padded(*b"\x08\x2B\x06\x01\x05\x05\x07\x0A\x03\0\0\0\0\0\0\0\0\0\0\0\0\0\0\0\0\0\0\0\0\0\0\0\0\0\0\0\0\0\0\0");
 /// `id-aca-group`: 1.3.6.1.5.5.7.10.4
-pub const ID_ACA_GROUP: ObjectIdentifier = ObjectIdentifier::new_unwrap("1.3.6.1.5.5.7.10.4");
+pub const ID_ACA_GROUP: ObjectIdentifier = padded(*b"\x08\x2B\x06\x01\x05\x05\x07\x0A\x04\0\0\0\0\0\0\0\0\0\0\0\0\0\0\0\0\0\0\0\0\0\0\0\0\0\0\0\0\0\0\0");
 /// `id-aca-encAttrs`: 1.3.6.1.5.5.7.10.6
-pub const ID_ACA_ENC_ATTRS: ObjectIdentifier = ObjectIdentifier::new_unwrap("1.3.6.1.5.5.7.10.6");
+pub const ID_ACA_ENC_ATTRS: ObjectIdentifier = padded(*b"\x08\x2B\x06\x01\x05\x05\x07\x0A\x06\0\0\0\0\0\0\0\0\0\0\0\0\0\0\0\0\0\0\0\0\0\0\0\0\0\0\0\0\0\0\0");
 /// `id-cct`: 1.3.6.1.5.5.7.12
-pub const ID_CCT: ObjectIdentifier = ObjectIdentifier::new_unwrap("1.3.6.1.5.5.7.12");
+pub const ID_CCT: ObjectIdentifier = padded(*b"\x07\x2B\x06\x01\x05\x05\x07\x0C\0\0\0\0\0\0\0\0\0\0\0\0\0\0\0\0\0\0\0\0\0\0\0\0\0\0\0\0\0\0\0\0");
 /// `id-cct-PKIData`: 1.3.6.1.5.5.7.12.2
-pub const ID_CCT_PKI_DATA: ObjectIdentifier = ObjectIdentifier::new_unwrap("1.3.6.1.5.5.7.12.2");
+pub const ID_CCT_PKI_DATA: ObjectIdentifier = padded(*b"\x08\x2B\x06\x01\x05\x05\x07\x0C\x02\0\0\0\0\0\0\0\0\0\0\0\0\0\0\0\0\0\0\0\0\0\0\0\0\0\0\0\0\0\0\0");
 /// `id-cct-PKIResponse`: 1.3.6.1.5.5.7.12.3
-pub const ID_CCT_PKI_RESPONSE: ObjectIdentifier = ObjectIdentifier::new_unwrap("1.3.6.1.5.5.7.12.3");
+pub const ID_CCT_PKI_RESPONSE: ObjectIdentifier = padded(*b"\x08\x2B\x06\x01\x05\x05\x07\x0C\x03\0\0\0\0\0\0\0\0\0\0\0\0\0\0\0\0\0\0\0\0\0\0\0\0\0\0\0\0\0\0\0");
 /// `id-stc`: 1.3.6.1.5.5.7.17
-pub const ID_STC: ObjectIdentifier = ObjectIdentifier::new_unwrap("1.3.6.1.5.5.7.17");
+pub const ID_STC: ObjectIdentifier = padded(*b"\x07\x2B\x06\x01\x05\x05\x07\x11\0\0\0\0\0\0\0\0\0\0\0\0\0\0\0\0\0\0\0\0\0\0\0\0\0\0\0\0\0\0\0\0");
 /// `id-stc-build-pkc-path`: 1.3.6.1.5.5.7.17.1
-pub const ID_STC_BUILD_PKC_PATH: ObjectIdentifier = ObjectIdentifier::new_unwrap("1.3.6.1.5.5.7.17.1");
+pub const ID_STC_BUILD_PKC_PATH: ObjectIdentifier = padded(*b"\x08\x2B\x06\x01\x05\x05\x07\x11\x01\0\0\0\0\0\0\0\0\0\0\0\0\0\0\0\0\0\0\0\0\0\0\0\0\0\0\0\0\0\0\0");
 /// `id-stc-build-valid-pkc-path`: 1.3.6.1.5.5.7.17.2
-pub const ID_STC_BUILD_VALID_PKC_PATH: ObjectIdentifier = ObjectIdentifier::new_unwrap("1.3.6.1.5.5.7.17.2");
+pub const ID_STC_BUILD_VALID_PKC_PATH: ObjectIdentifier = padded(*b"\x08\x2B\x06\x01\x05\x05\x07\x11\x02\0\0\0\0\0\0\0\0\0\0\0\0\0\0\0\0\0\0\0\0\0\0\0\0\0\0\0\0\0\0\0");
 /// `id-stc-build-status-checked-pkc-path`: 1.3.6.1.5.5.7.17.3
-pub const ID_STC_BUILD_STATUS_CHECKED_PKC_PATH: ObjectIdentifier = ObjectIdentifier::new_unwrap("1.3.6.1.5.5.7.17.3");
+pub const ID_STC_BUILD_STATUS_CHECKED_PKC_PATH: ObjectIdentifier = padded(*b"\x08\x2B\x06\x01\x05\x05\x07\x11\x03\0\0\0\0\0\0\0\0\0\0\0\0\0\0\0\0\0\0\0\0\0\0\0\0\0\0\0\0\0\0\0");
 /// `id-stc-build-aa-path`: 1.3.6.1.5.5.7.17.4
-pub const ID_STC_BUILD_AA_PATH: ObjectIdentifier = ObjectIdentifier::new_unwrap("1.3.6.1.5.5.7.17.4");
+pub const ID_STC_BUILD_AA_PATH: ObjectIdentifier = padded(*b"\x08\x2B\x06\x01\x05\x05\x07\x11\x04\0\0\0\0\0\0\0\0\0\0\0\0\0\0\0\0\0\0\0\0\0\0\0\0\0\0\0\0\0\0\0");
 /// `id-stc-build-valid-aa-path`: 1.3.6.1.5.5.7.17.5
-pub const ID_STC_BUILD_VALID_AA_PATH: ObjectIdentifier = ObjectIdentifier::new_unwrap("1.3.6.1.5.5.7.17.5");
+pub const ID_STC_BUILD_VALID_AA_PATH: ObjectIdentifier = padded(*b"\x08\x2B\x06\x01\x05\x05\x07\x11\x05\0\0\0\0\0\0\0\0\0\0\0\0\0\0\0\0\0\0\0\0\0\0\0\0\0\0\0\0\0\0\0");
 /// `id-stc-build-status-checked-aa-path`: 1.3.6.1.5.5.7.17.6
-pub const ID_STC_BUILD_STATUS_CHECKED_AA_PATH: ObjectIdentifier = ObjectIdentifier::new_unwrap("1.3.6.1.5.5.7.17.6");
+pub const ID_STC_BUILD_STATUS_CHECKED_AA_PATH: ObjectIdentifier = padded(*b"\x08\x2B\x06\x01\x05\x05\x07\x11\x06\0\0\0\0\0\0\0\0\0\0\0\0\0\0\0\0\0\0\0\0\0\0\0\0\0\0\0\0\0\0\0");
 /// `id-stc-status-check-ac-and-build-status-checked-aa-path`: 1.3.6.1.5.5.7.17.7
-pub const ID_STC_STATUS_CHECK_AC_AND_BUILD_STATUS_CHECKED_AA_PATH: ObjectIdentifier = ObjectIdentifier::new_unwrap("1.3.6.1.5.5.7.17.7");
+pub const ID_STC_STATUS_CHECK_AC_AND_BUILD_STATUS_CHECKED_AA_PATH: ObjectIdentifier = padded(*b"\x08\x2B\x06\x01\x05\x05\x07\x11\x07\0\0\0\0\0\0\0\0\0\0\0\0\0\0\0\0\0\0\0\0\0\0\0\0\0\0\0\0\0\0\0");
 /// `id-swb`: 1.3.6.1.5.5.7.18
-pub const ID_SWB: ObjectIdentifier = ObjectIdentifier::new_unwrap("1.3.6.1.5.5.7.18");
+pub const ID_SWB: ObjectIdentifier = padded(*b"\x07\x2B\x06\x01\x05\x05\x07\x12\0\0\0\0\0\0\0\0\0\0\0\0\0\0\0\0\0\0\0\0\0\0\0\0\0\0\0\0\0\0\0\0");
 /// `id-swb-pkc-best-cert-path`: 1.3.6.1.5.5.7.18.1
-pub const ID_SWB_PKC_BEST_CERT_PATH: ObjectIdentifier = ObjectIdentifier::new_unwrap("1.3.6.1.5.5.7.18.1");
+pub const ID_SWB_PKC_BEST_CERT_PATH: ObjectIdentifier = padded(*b"\x08\x2B\x06\x01\x05\x05\x07\x12\x01\0\0\0\0\0\0\0\0\0\0\0\0\0\0\0\0\0\0\0\0\0\0\0\0\0\0\0\0\0\0\0");
 /// `id-swb-pkc-cert`: 1.3.6.1.5.5.7.18.10
-pub const ID_SWB_PKC_CERT: ObjectIdentifier = ObjectIdentifier::new_unwrap("1.3.6.1.5.5.7.18.10");
+pub const ID_SWB_PKC_CERT: ObjectIdentifier = padded(*b"\x08\x2B\x06\x01\x05\x05\x07\x12\x0A\0\0\0\0\0\0\0\0\0\0\0\0\0\0\0\0\0\0\0\0\0\0\0\0\0\0\0\0\0\0\0");
 /// `id-swb-ac-cert`: 1.3.6.1.5.5.7.18.11
-pub const ID_SWB_AC_CERT: ObjectIdentifier = ObjectIdentifier::new_unwrap("1.3.6.1.5.5.7.18.11");
+pub const ID_SWB_AC_CERT: ObjectIdentifier = padded(*b"\x08\x2B\x06\x01\x05\x05\x07\x12\x0B\0\0\0\0\0\0\0\0\0\0\0\0\0\0\0\0\0\0\0\0\0\0\0\0\0\0\0\0\0\0\0");
 /// `id-swb-pkc-all-cert-paths`: 1.3.6.1.5.5.7.18.12
-pub const ID_SWB_PKC_ALL_CERT_PATHS: ObjectIdentifier = ObjectIdentifier::new_unwrap("1.3.6.1.5.5.7.18.12");
+pub const ID_SWB_PKC_ALL_CERT_PATHS: ObjectIdentifier = padded(*b"\x08\x2B\x06\x01\x05\x05\x07\x12\x0C\0\0\0\0\0\0\0\0\0\0\0\0\0\0\0\0\0\0\0\0\0\0\0\0\0\0\0\0\0\0\0");
 /// `id-swb-pkc-ee-revocation-info`: 1.3.6.1.5.5.7.18.13
-pub const ID_SWB_PKC_EE_REVOCATION_INFO: ObjectIdentifier = ObjectIdentifier::new_unwrap("1.3.6.1.5.5.7.18.13");
+pub const ID_SWB_PKC_EE_REVOCATION_INFO: ObjectIdentifier = padded(*b"\x08\x2B\x06\x01\x05\x05\x07\x12\x0D\0\0\0\0\0\0\0\0\0\0\0\0\0\0\0\0\0\0\0\0\0\0\0\0\0\0\0\0\0\0\0");
 /// `id-swb-pkc-CAs-revocation-info`: 1.3.6.1.5.5.7.18.14
-pub const ID_SWB_PKC_C_AS_REVOCATION_INFO: ObjectIdentifier = ObjectIdentifier::new_unwrap("1.3.6.1.5.5.7.18.14");
+pub const ID_SWB_PKC_C_AS_REVOCATION_INFO: ObjectIdentifier = padded(*b"\x08\x2B\x06\x01\x05\x05\x07\x12\x0E\0\0\0\0\0\0\0\0\0\0\0\0\0\0\0\0\0\0\0\0\0\0\0\0\0\0\0\0\0\0\0");
 /// `id-swb-pkc-revocation-info`: 1.3.6.1.5.5.7.18.2
-pub const ID_SWB_PKC_REVOCATION_INFO: ObjectIdentifier = ObjectIdentifier::new_unwrap("1.3.6.1.5.5.7.18.2");
+pub const ID_SWB_PKC_REVOCATION_INFO: ObjectIdentifier = padded(*b"\x08\x2B\x06\x01\x05\x05\x07\x12\x02\0\0\0\0\0\0\0\0\0\0\0\0\0\0\0\0\0\0\0\0\0\0\0\0\0\0\0\0\0\0\0");
 /// `id-swb-pkc-public-key-info`: 1.3.6.1.5.5.7.18.4
-pub const ID_SWB_PKC_PUBLIC_KEY_INFO: ObjectIdentifier = ObjectIdentifier::new_unwrap("1.3.6.1.5.5.7.18.4");
+pub const ID_SWB_PKC_PUBLIC_KEY_INFO: ObjectIdentifier = padded(*b"\x08\x2B\x06\x01\x05\x05\x07\x12\x04\0\0\0\0\0\0\0\0\0\0\0\0\0\0\0\0\0\0\0\0\0\0\0\0\0\0\0\0\0\0\0");
 /// `id-swb-aa-cert-path`: 1.3.6.1.5.5.7.18.5
-pub const ID_SWB_AA_CERT_PATH: ObjectIdentifier = ObjectIdentifier::new_unwrap("1.3.6.1.5.5.7.18.5");
+pub const ID_SWB_AA_CERT_PATH: ObjectIdentifier = padded(*b"\x08\x2B\x06\x01\x05\x05\x07\x12\x05\0\0\0\0\0\0\0\0\0\0\0\0\0\0\0\0\0\0\0\0\0\0\0\0\0\0\0\0\0\0\0");
 /// `id-swb-aa-revocation-info`: 1.3.6.1.5.5.7.18.6
-pub const ID_SWB_AA_REVOCATION_INFO: ObjectIdentifier = ObjectIdentifier::new_unwrap("1.3.6.1.5.5.7.18.6");
+pub const ID_SWB_AA_REVOCATION_INFO: ObjectIdentifier = padded(*b"\x08\x2B\x06\x01\x05\x05\x07\x12\x06\0\0\0\0\0\0\0\0\0\0\0\0\0\0\0\0\0\0\0\0\0\0\0\0\0\0\0\0\0\0\0");
 /// `id-swb-ac-revocation-info`: 1.3.6.1.5.5.7.18.7
-pub const ID_SWB_AC_REVOCATION_INFO: ObjectIdentifier = ObjectIdentifier::new_unwrap("1.3.6.1.5.5.7.18.7");
+pub const ID_SWB_AC_REVOCATION_INFO: ObjectIdentifier = padded(*b"\x08\x2B\x06\x01\x05\x05\x07\x12\x07\0\0\0\0\0\0\0\0\0\0\0\0\0\0\0\0\0\0\0\0\0\0\0\0\0\0\0\0\0\0\0");
 /// `id-swb-relayed-responses`: 1.3.6.1.5.5.7.18.9
-pub const ID_SWB_RELAYED_RESPONSES: ObjectIdentifier = ObjectIdentifier::new_unwrap("1.3.6.1.5.5.7.18.9");
+pub const ID_SWB_RELAYED_RESPONSES: ObjectIdentifier = padded(*b"\x08\x2B\x06\x01\x05\x05\x07\x12\x09\0\0\0\0\0\0\0\0\0\0\0\0\0\0\0\0\0\0\0\0\0\0\0\0\0\0\0\0\0\0\0");
 /// `id-svp`: 1.3.6.1.5.5.7.19
-pub const ID_SVP: ObjectIdentifier = ObjectIdentifier::new_unwrap("1.3.6.1.5.5.7.19");
+pub const ID_SVP: ObjectIdentifier = padded(*b"\x07\x2B\x06\x01\x05\x05\x07\x13\0\0\0\0\0\0\0\0\0\0\0\0\0\0\0\0\0\0\0\0\0\0\0\0\0\0\0\0\0\0\0\0");
 /// `id-svp-defaultValPolicy`: 1.3.6.1.5.5.7.19.1
-pub const ID_SVP_DEFAULT_VAL_POLICY: ObjectIdentifier = ObjectIdentifier::new_unwrap("1.3.6.1.5.5.7.19.1");
+pub const ID_SVP_DEFAULT_VAL_POLICY: ObjectIdentifier = padded(*b"\x08\x2B\x06\x01\x05\x05\x07\x13\x01\0\0\0\0\0\0\0\0\0\0\0\0\0\0\0\0\0\0\0\0\0\0\0\0\0\0\0\0\0\0\0");
 /// `id-svp-nameValAlg`: 1.3.6.1.5.5.7.19.2
-pub const ID_SVP_NAME_VAL_ALG: ObjectIdentifier = ObjectIdentifier::new_unwrap("1.3.6.1.5.5.7.19.2");
+pub const ID_SVP_NAME_VAL_ALG: ObjectIdentifier = padded(*b"\x08\x2B\x06\x01\x05\x05\x07\x13\x02\0\0\0\0\0\0\0\0\0\0\0\0\0\0\0\0\0\0\0\0\0\0\0\0\0\0\0\0\0\0\0");
 /// `id-svp-basicValAlg`: 1.3.6.1.5.5.7.19.3
-pub const ID_SVP_BASIC_VAL_ALG: ObjectIdentifier = ObjectIdentifier::new_unwrap("1.3.6.1.5.5.7.19.3");
+pub const ID_SVP_BASIC_VAL_ALG: ObjectIdentifier = padded(*b"\x08\x2B\x06\x01\x05\x05\x07\x13\x03\0\0\0\0\0\0\0\0\0\0\0\0\0\0\0\0\0\0\0\0\0\0\0\0\0\0\0\0\0\0\0");
 /// `NameCompAlgSet`: 1.3.6.1.5.5.7.19.4
-pub const NAME_COMP_ALG_SET: ObjectIdentifier = ObjectIdentifier::new_unwrap("1.3.6.1.5.5.7.19.4");
+pub const NAME_COMP_ALG_SET: ObjectIdentifier = padded(*b"\x08\x2B\x06\x01\x05\x05\x07\x13\x04\0\0\0\0\0\0\0\0\0\0\0\0\0\0\0\0\0\0\0\0\0\0\0\0\0\0\0\0\0\0\0");
 /// `id-nva-dnCompAlg`: 1.3.6.1.5.5.7.19.4
-pub const ID_NVA_DN_COMP_ALG: ObjectIdentifier = ObjectIdentifier::new_unwrap("1.3.6.1.5.5.7.19.4");
+pub const ID_NVA_DN_COMP_ALG: ObjectIdentifier = padded(*b"\x08\x2B\x06\x01\x05\x05\x07\x13\x04\0\0\0\0\0\0\0\0\0\0\0\0\0\0\0\0\0\0\0\0\0\0\0\0\0\0\0\0\0\0\0");
 /// `id-qt`: 1.3.6.1.5.5.7.2
-pub const ID_QT: ObjectIdentifier = ObjectIdentifier::new_unwrap("1.3.6.1.5.5.7.2");
+pub const ID_QT: ObjectIdentifier = padded(*b"\x07\x2B\x06\x01\x05\x05\x07\x02\0\0\0\0\0\0\0\0\0\0\0\0\0\0\0\0\0\0\0\0\0\0\0\0\0\0\0\0\0\0\0\0");
 /// `id-qt-cps`: 1.3.6.1.5.5.7.2.1
-pub const ID_QT_CPS: ObjectIdentifier = ObjectIdentifier::new_unwrap("1.3.6.1.5.5.7.2.1");
+pub const ID_QT_CPS: ObjectIdentifier = padded(*b"\x08\x2B\x06\x01\x05\x05\x07\x02\x01\0\0\0\0\0\0\0\0\0\0\0\0\0\0\0\0\0\0\0\0\0\0\0\0\0\0\0\0\0\0\0");
 /// `id-qt-unotice`: 1.3.6.1.5.5.7.2.2
-pub const ID_QT_UNOTICE: ObjectIdentifier = ObjectIdentifier::new_unwrap("1.3.6.1.5.5.7.2.2");
+pub const ID_QT_UNOTICE: ObjectIdentifier = padded(*b"\x08\x2B\x06\x01\x05\x05\x07\x02\x02\0\0\0\0\0\0\0\0\0\0\0\0\0\0\0\0\0\0\0\0\0\0\0\0\0\0\0\0\0\0\0");
 /// `id-kp`: 1.3.6.1.5.5.7.3
-pub const ID_KP: ObjectIdentifier = ObjectIdentifier::new_unwrap("1.3.6.1.5.5.7.3");
+pub const ID_KP: ObjectIdentifier = padded(*b"\x07\x2B\x06\x01\x05\x05\x07\x03\0\0\0\0\0\0\0\0\0\0\0\0\0\0\0\0\0\0\0\0\0\0\0\0\0\0\0\0\0\0\0\0");
 /// `id-kp-serverAuth`: 1.3.6.1.5.5.7.3.1
-pub const ID_KP_SERVER_AUTH: ObjectIdentifier = ObjectIdentifier::new_unwrap("1.3.6.1.5.5.7.3.1");
+pub const ID_KP_SERVER_AUTH: ObjectIdentifier = padded(*b"\x08\x2B\x06\x01\x05\x05\x07\x03\x01\0\0\0\0\0\0\0\0\0\0\0\0\0\0\0\0\0\0\0\0\0\0\0\0\0\0\0\0\0\0\0");
 /// `id-kp-scvpServer`: 1.3.6.1.5.5.7.3.15
-pub const ID_KP_SCVP_SERVER: ObjectIdentifier = ObjectIdentifier::new_unwrap("1.3.6.1.5.5.7.3.15");
+pub const ID_KP_SCVP_SERVER: ObjectIdentifier = padded(*b"\x08\x2B\x06\x01\x05\x05\x07\x03\x0F\0\0\0\0\0\0\0\0\0\0\0\0\0\0\0\0\0\0\0\0\0\0\0\0\0\0\0\0\0\0\0");
 /// `id-kp-scvpClient`: 1.3.6.1.5.5.7.3.16
-pub const ID_KP_SCVP_CLIENT: ObjectIdentifier = ObjectIdentifier::new_unwrap("1.3.6.1.5.5.7.3.16");
+pub const ID_KP_SCVP_CLIENT: ObjectIdentifier = padded(*b"\x08\x2B\x06\x01\x05\x05\x07\x03\x10\0\0\0\0\0\0\0\0\0\0\0\0\0\0\0\0\0\0\0\0\0\0\0\0\0\0\0\0\0\0\0");
 /// `id-kp-clientAuth`: 1.3.6.1.5.5.7.3.2
-pub const ID_KP_CLIENT_AUTH: ObjectIdentifier = ObjectIdentifier::new_unwrap("1.3.6.1.5.5.7.3.2");
+pub const ID_KP_CLIENT_AUTH: ObjectIdentifier = padded(*b"\x08\x2B\x06\x01\x05\x05\x07\x03\x02\0\0\0\0\0\0\0\0\0\0\0\0\0\0\0\0\0\0\0\0\0\0\0\0\0\0\0\0\0\0\0");
 /// `id-kp-codeSigning`: 1.3.6.1.5.5.7.3.3
-pub const ID_KP_CODE_SIGNING: ObjectIdentifier = ObjectIdentifier::new_unwrap("1.3.6.1.5.5.7.3.3");
+pub const ID_KP_CODE_SIGNING: ObjectIdentifier = padded(*b"\x08\x2B\x06\x01\x05\x05\x07\x03\x03\0\0\0\0\0\0\0\0\0\0\0\0\0\0\0\0\0\0\0\0\0\0\0\0\0\0\0\0\0\0\0");
 /// `id-kp-emailProtection`: 1.3.6.1.5.5.7.3.4
-pub const ID_KP_EMAIL_PROTECTION: ObjectIdentifier = ObjectIdentifier::new_unwrap("1.3.6.1.5.5.7.3.4");
+pub const ID_KP_EMAIL_PROTECTION: ObjectIdentifier = padded(*b"\x08\x2B\x06\x01\x05\x05\x07\x03\x04\0\0\0\0\0\0\0\0\0\0\0\0\0\0\0\0\0\0\0\0\0\0\0\0\0\0\0\0\0\0\0");
 /// `id-kp-timeStamping`: 1.3.6.1.5.5.7.3.8
-pub const ID_KP_TIME_STAMPING: ObjectIdentifier = ObjectIdentifier::new_unwrap("1.3.6.1.5.5.7.3.8");
+pub const ID_KP_TIME_STAMPING: ObjectIdentifier = padded(*b"\x08\x2B\x06\x01\x05\x05\x07\x03\x08\0\0\0\0\0\0\0\0\0\0\0\0\0\0\0\0\0\0\0\0\0\0\0\0\0\0\0\0\0\0\0");
 /// `id-kp-OCSPSigning`: 1.3.6.1.5.5.7.3.9
-pub const ID_KP_OCSP_SIGNING: ObjectIdentifier = ObjectIdentifier::new_unwrap("1.3.6.1.5.5.7.3.9");
+pub const ID_KP_OCSP_SIGNING: ObjectIdentifier = padded(*b"\x08\x2B\x06\x01\x05\x05\x07\x03\x09\0\0\0\0\0\0\0\0\0\0\0\0\0\0\0\0\0\0\0\0\0\0\0\0\0\0\0\0\0\0\0");
 /// `id-it`: 1.3.6.1.5.5.7.4
-pub const ID_IT: ObjectIdentifier = ObjectIdentifier::new_unwrap("1.3.6.1.5.5.7.4");
+pub const ID_IT: ObjectIdentifier = padded(*b"\x07\x2B\x06\x01\x05\x05\x07\x04\0\0\0\0\0\0\0\0\0\0\0\0\0\0\0\0\0\0\0\0\0\0\0\0\0\0\0\0\0\0\0\0");
 /// `id-it-caProtEncCert`: 1.3.6.1.5.5.7.4.1
-pub const ID_IT_CA_PROT_ENC_CERT: ObjectIdentifier = ObjectIdentifier::new_unwrap("1.3.6.1.5.5.7.4.1");
+pub const ID_IT_CA_PROT_ENC_CERT: ObjectIdentifier = padded(*b"\x08\x2B\x06\x01\x05\x05\x07\x04\x01\0\0\0\0\0\0\0\0\0\0\0\0\0\0\0\0\0\0\0\0\0\0\0\0\0\0\0\0\0\0\0");
 /// `id-it-keyPairParamReq`: 1.3.6.1.5.5.7.4.10
-pub const ID_IT_KEY_PAIR_PARAM_REQ: ObjectIdentifier = ObjectIdentifier::new_unwrap("1.3.6.1.5.5.7.4.10");
+pub const ID_IT_KEY_PAIR_PARAM_REQ: ObjectIdentifier = padded(*b"\x08\x2B\x06\x01\x05\x05\x07\x04\x0A\0\0\0\0\0\0\0\0\0\0\0\0\0\0\0\0\0\0\0\0\0\0\0\0\0\0\0\0\0\0\0");
 /// `id-it-keyPairParamRep`: 1.3.6.1.5.5.7.4.11
-pub const ID_IT_KEY_PAIR_PARAM_REP: ObjectIdentifier = ObjectIdentifier::new_unwrap("1.3.6.1.5.5.7.4.11");
+pub const ID_IT_KEY_PAIR_PARAM_REP: ObjectIdentifier = padded(*b"\x08\x2B\x06\x01\x05\x05\x07\x04\x0B\0\0\0\0\0\0\0\0\0\0\0\0\0\0\0\0\0\0\0\0\0\0\0\0\0\0\0\0\0\0\0");
 /// `id-it-revPassphrase`: 1.3.6.1.5.5.7.4.12
-pub const ID_IT_REV_PASSPHRASE: ObjectIdentifier = ObjectIdentifier::new_unwrap("1.3.6.1.5.5.7.4.12");
+pub const ID_IT_REV_PASSPHRASE: ObjectIdentifier = padded(*b"\x08\x2B\x06\x01\x05\x05\x07\x04\x0C\0\0\0\0\0\0\0\0\0\0\0\0\0\0\0\0\0\0\0\0\0\0\0\0\0\0\0\0\0\0\0");
 /// `id-it-implicitConfirm`: 1.3.6.1.5.5.7.4.13
-pub const ID_IT_IMPLICIT_CONFIRM: ObjectIdentifier = ObjectIdentifier::new_unwrap("1.3.6.1.5.5.7.4.13");
+pub const ID_IT_IMPLICIT_CONFIRM: ObjectIdentifier = padded(*b"\x08\x2B\x06\x01\x05\x05\x07\x04\x0D\0\0\0\0\0\0\0\0\0\0\0\0\0\0\0\0\0\0\0\0\0\0\0\0\0\0\0\0\0\0\0");
 /// `id-it-confirmWaitTime`: 1.3.6.1.5.5.7.4.14
-pub const ID_IT_CONFIRM_WAIT_TIME: ObjectIdentifier = ObjectIdentifier::new_unwrap("1.3.6.1.5.5.7.4.14");
+pub const ID_IT_CONFIRM_WAIT_TIME: ObjectIdentifier = padded(*b"\x08\x2B\x06\x01\x05\x05\x07\x04\x0E\0\0\0\0\0\0\0\0\0\0\0\0\0\0\0\0\0\0\0\0\0\0\0\0\0\0\0\0\0\0\0");
 /// `id-it-origPKIMessage`: 1.3.6.1.5.5.7.4.15
-pub const ID_IT_ORIG_PKI_MESSAGE: ObjectIdentifier = ObjectIdentifier::new_unwrap("1.3.6.1.5.5.7.4.15");
+pub const ID_IT_ORIG_PKI_MESSAGE: ObjectIdentifier = padded(*b"\x08\x2B\x06\x01\x05\x05\x07\x04\x0F\0\0\0\0\0\0\0\0\0\0\0\0\0\0\0\0\0\0\0\0\0\0\0\0\0\0\0\0\0\0\0");
 /// `id-it-suppLangTags`: 1.3.6.1.5.5.7.4.16
-pub const ID_IT_SUPP_LANG_TAGS: ObjectIdentifier = ObjectIdentifier::new_unwrap("1.3.6.1.5.5.7.4.16");
+pub const ID_IT_SUPP_LANG_TAGS: ObjectIdentifier = padded(*b"\x08\x2B\x06\x01\x05\x05\x07\x04\x10\0\0\0\0\0\0\0\0\0\0\0\0\0\0\0\0\0\0\0\0\0\0\0\0\0\0\0\0\0\0\0");
 /// `id-it-signKeyPairTypes`: 1.3.6.1.5.5.7.4.2
-pub const ID_IT_SIGN_KEY_PAIR_TYPES: ObjectIdentifier = ObjectIdentifier::new_unwrap("1.3.6.1.5.5.7.4.2");
+pub const ID_IT_SIGN_KEY_PAIR_TYPES: ObjectIdentifier = padded(*b"\x08\x2B\x06\x01\x05\x05\x07\x04\x02\0\0\0\0\0\0\0\0\0\0\0\0\0\0\0\0\0\0\0\0\0\0\0\0\0\0\0\0\0\0\0");
 /// `id-it-encKeyPairTypes`: 1.3.6.1.5.5.7.4.3
-pub const ID_IT_ENC_KEY_PAIR_TYPES: ObjectIdentifier = ObjectIdentifier::new_unwrap("1.3.6.1.5.5.7.4.3");
+pub const ID_IT_ENC_KEY_PAIR_TYPES: ObjectIdentifier = padded(*b"\x08\x2B\x06\x01\x05\x05\x07\x04\x03\0\0\0\0\0\0\0\0\0\0\0\0\0\0\0\0\0\0\0\0\0\0\0\0\0\0\0\0\0\0\0");
 /// `id-it-preferredSymmAlg`: 1.3.6.1.5.5.7.4.4
-pub const ID_IT_PREFERRED_SYMM_ALG: ObjectIdentifier = ObjectIdentifier::new_unwrap("1.3.6.1.5.5.7.4.4");
+pub const ID_IT_PREFERRED_SYMM_ALG: ObjectIdentifier = padded(*b"\x08\x2B\x06\x01\x05\x05\x07\x04\x04\0\0\0\0\0\0\0\0\0\0\0\0\0\0\0\0\0\0\0\0\0\0\0\0\0\0\0\0\0\0\0");
 /// `id-it-caKeyUpdateInfo`: 1.3.6.1.5.5.7.4.5
-pub const ID_IT_CA_KEY_UPDATE_INFO: ObjectIdentifier = ObjectIdentifier::new_unwrap("1.3.6.1.5.5.7.4.5");
+pub const ID_IT_CA_KEY_UPDATE_INFO: ObjectIdentifier = padded(*b"\x08\x2B\x06\x01\x05\x05\x07\x04\x05\0\0\0\0\0\0\0\0\0\0\0\0\0\0\0\0\0\0\0\0\0\0\0\0\0\0\0\0\0\0\0");
 /// `id-it-currentCRL`: 1.3.6.1.5.5.7.4.6
-pub const ID_IT_CURRENT_CRL: ObjectIdentifier = ObjectIdentifier::new_unwrap("1.3.6.1.5.5.7.4.6");
+pub const ID_IT_CURRENT_CRL: ObjectIdentifier = padded(*b"\x08\x2B\x06\x01\x05\x05\x07\x04\x06\0\0\0\0\0\0\0\0\0\0\0\0\0\0\0\0\0\0\0\0\0\0\0\0\0\0\0\0\0\0\0");
 /// `id-it-unsupportedOIDs`: 1.3.6.1.5.5.7.4.7
-pub const ID_IT_UNSUPPORTED_OI_DS: ObjectIdentifier = ObjectIdentifier::new_unwrap("1.3.6.1.5.5.7.4.7");
+pub const ID_IT_UNSUPPORTED_OI_DS: ObjectIdentifier = padded(*b"\x08\x2B\x06\x01\x05\x05\x07\x04\x07\0\0\0\0\0\0\0\0\0\0\0\0\0\0\0\0\0\0\0\0\0\0\0\0\0\0\0\0\0\0\0");
 /// `id-ad`: 1.3.6.1.5.5.7.48
-pub const ID_AD: ObjectIdentifier = ObjectIdentifier::new_unwrap("1.3.6.1.5.5.7.48");
+pub const ID_AD: ObjectIdentifier = padded(*b"\x07\x2B\x06\x01\x05\x05\x07\x30\0\0\0\0\0\0\0\0\0\0\0\0\0\0\0\0\0\0\0\0\0\0\0\0\0\0\0\0\0\0\0\0");
 /// `id-ad-ocsp`: 1.3.6.1.5.5.7.48.1
-pub const ID_AD_OCSP: ObjectIdentifier = ObjectIdentifier::new_unwrap("1.3.6.1.5.5.7.48.1");
+pub const ID_AD_OCSP: ObjectIdentifier = padded(*b"\x08\x2B\x06\x01\x05\x05\x07\x30\x01\0\0\0\0\0\0\0\0\0\0\0\0\0\0\0\0\0\0\0\0\0\0\0\0\0\0\0\0\0\0\0");
 /// `id-ad-caIssuers`: 1.3.6.1.5.5.7.48.2
-pub const ID_AD_CA_ISSUERS: ObjectIdentifier = ObjectIdentifier::new_unwrap("1.3.6.1.5.5.7.48.2");
+pub const ID_AD_CA_ISSUERS: ObjectIdentifier = padded(*b"\x08\x2B\x06\x01\x05\x05\x07\x30\x02\0\0\0\0\0\0\0\0\0\0\0\0\0\0\0\0\0\0\0\0\0\0\0\0\0\0\0\0\0\0\0");
 /// `id-ad-timeStamping`: 1.3.6.1.5.5.7.48.3
-pub const ID_AD_TIME_STAMPING: ObjectIdentifier = ObjectIdentifier::new_unwrap("1.3.6.1.5.5.7.48.3");
+pub const ID_AD_TIME_STAMPING: ObjectIdentifier = padded(*b"\x08\x2B\x06\x01\x05\x05\x07\x30\x03\0\0\0\0\0\0\0\0\0\0\0\0\0\0\0\0\0\0\0\0\0\0\0\0\0\0\0\0\0\0\0");
 /// `id-ad-caRepository`: 1.3.6.1.5.5.7.48.5
-pub const ID_AD_CA_REPOSITORY: ObjectIdentifier = ObjectIdentifier::new_unwrap("1.3.6.1.5.5.7.48.5");
+pub const ID_AD_CA_REPOSITORY: ObjectIdentifier = padded(*b"\x08\x2B\x06\x01\x05\x05\x07\x30\x05\0\0\0\0\0\0\0\0\0\0\0\0\0\0\0\0\0\0\0\0\0\0\0\0\0\0\0\0\0\0\0");
 /// `id-pkip`: 1.3.6.1.5.5.7.5
-pub const ID_PKIP: ObjectIdentifier = ObjectIdentifier::new_unwrap("1.3.6.1.5.5.7.5");
+pub const ID_PKIP: ObjectIdentifier = padded(*b"\x07\x2B\x06\x01\x05\x05\x07\x05\0\0\0\0\0\0\0\0\0\0\0\0\0\0\0\0\0\0\0\0\0\0\0\0\0\0\0\0\0\0\0\0");
 /// `id-regCtrl`: 1.3.6.1.5.5.7.5.1
-pub const ID_REG_CTRL: ObjectIdentifier = ObjectIdentifier::new_unwrap("1.3.6.1.5.5.7.5.1");
+pub const ID_REG_CTRL: ObjectIdentifier = padded(*b"\x08\x2B\x06\x01\x05\x05\x07\x05\x01\0\0\0\0\0\0\0\0\0\0\0\0\0\0\0\0\0\0\0\0\0\0\0\0\0\0\0\0\0\0\0");
 /// `id-regCtrl-regToken`: 1.3.6.1.5.5.7.5.1.1
-pub const ID_REG_CTRL_REG_TOKEN: ObjectIdentifier = ObjectIdentifier::new_unwrap("1.3.6.1.5.5.7.5.1.1");
+pub const ID_REG_CTRL_REG_TOKEN: ObjectIdentifier = padded(*b"\x09\x2B\x06\x01\x05\x05\x07\x05\x01\x01\0\0\0\0\0\0\0\0\0\0\0\0\0\0\0\0\0\0\0\0\0\0\0\0\0\0\0\0\0\0");
 /// `id-regCtrl-authenticator`: 1.3.6.1.5.5.7.5.1.2
-pub const ID_REG_CTRL_AUTHENTICATOR: ObjectIdentifier = ObjectIdentifier::new_unwrap("1.3.6.1.5.5.7.5.1.2");
+pub const ID_REG_CTRL_AUTHENTICATOR: ObjectIdentifier = padded(*b"\x09\x2B\x06\x01\x05\x05\x07\x05\x01\x02\0\0\0\0\0\0\0\0\0\0\0\0\0\0\0\0\0\0\0\0\0\0\0\0\0\0\0\0\0\0");
 /// `id-regCtrl-pkiPublicationInfo`: 1.3.6.1.5.5.7.5.1.3
-pub const ID_REG_CTRL_PKI_PUBLICATION_INFO: ObjectIdentifier = ObjectIdentifier::new_unwrap("1.3.6.1.5.5.7.5.1.3");
+pub const ID_REG_CTRL_PKI_PUBLICATION_INFO: ObjectIdentifier = padded(*b"\x09\x2B\x06\x01\x05\x05\x07\x05\x01\x03\0\0\0\0\0\0\0\0\0\0\0\0\0\0\0\0\0\0\0\0\0\0\0\0\0\0\0\0\0\0");
 /// `id-regCtrl-pkiArchiveOptions`: 1.3.6.1.5.5.7.5.1.4
-pub const ID_REG_CTRL_PKI_ARCHIVE_OPTIONS: ObjectIdentifier = ObjectIdentifier::new_unwrap("1.3.6.1.5.5.7.5.1.4");
+pub const ID_REG_CTRL_PKI_ARCHIVE_OPTIONS: ObjectIdentifier = padded(*b"\x09\x2B\x06\x01\x05\x05\x07\x05\x01\x04\0\0\0\0\0\0\0\0\0\0\0\0\0\0\0\0\0\0\0\0\0\0\0\0\0\0\0\0\0\0");
 /// `id-regCtrl-oldCertID`: 1.3.6.1.5.5.7.5.1.5
-pub const ID_REG_CTRL_OLD_CERT_ID: ObjectIdentifier = ObjectIdentifier::new_unwrap("1.3.6.1.5.5.7.5.1.5");
+pub const ID_REG_CTRL_OLD_CERT_ID: ObjectIdentifier = padded(*b"\x09\x2B\x06\x01\x05\x05\x07\x05\x01\x05\0\0\0\0\0\0\0\0\0\0\0\0\0\0\0\0\0\0\0\0\0\0\0\0\0\0\0\0\0\0");
 /// `id-regCtrl-protocolEncrKey`: 1.3.6.1.5.5.7.5.1.6
-pub const ID_REG_CTRL_PROTOCOL_ENCR_KEY: ObjectIdentifier = ObjectIdentifier::new_unwrap("1.3.6.1.5.5.7.5.1.6");
+pub const ID_REG_CTRL_PROTOCOL_ENCR_KEY: ObjectIdentifier = padded(*b"\x09\x2B\x06\x01\x05\x05\x07\x05\x01\x06\0\0\0\0\0\0\0\0\0\0\0\0\0\0\0\0\0\0\0\0\0\0\0\0\0\0\0\0\0\0");
 /// `id-regInfo`: 1.3.6.1.5.5.7.5.2
-pub const ID_REG_INFO: ObjectIdentifier = ObjectIdentifier::new_unwrap("1.3.6.1.5.5.7.5.2");
+pub const ID_REG_INFO: ObjectIdentifier = padded(*b"\x08\x2B\x06\x01\x05\x05\x07\x05\x02\0\0\0\0\0\0\0\0\0\0\0\0\0\0\0\0\0\0\0\0\0\0\0\0\0\0\0\0\0\0\0");
 /// `id-regInfo-utf8Pairs`: 1.3.6.1.5.5.7.5.2.1
-pub const ID_REG_INFO_UTF_8_PAIRS: ObjectIdentifier = ObjectIdentifier::new_unwrap("1.3.6.1.5.5.7.5.2.1");
+pub const ID_REG_INFO_UTF_8_PAIRS: ObjectIdentifier = padded(*b"\x09\x2B\x06\x01\x05\x05\x07\x05\x02\x01\0\0\0\0\0\0\0\0\0\0\0\0\0\0\0\0\0\0\0\0\0\0\0\0\0\0\0\0\0\0");
 /// `id-regInfo-certReq`: 1.3.6.1.5.5.7.5.2.2
-pub const ID_REG_INFO_CERT_REQ: ObjectIdentifier = ObjectIdentifier::new_unwrap("1.3.6.1.5.5.7.5.2.2");
+pub const ID_REG_INFO_CERT_REQ: ObjectIdentifier = padded(*b"\x09\x2B\x06\x01\x05\x05\x07\x05\x02\x02\0\0\0\0\0\0\0\0\0\0\0\0\0\0\0\0\0\0\0\0\0\0\0\0\0\0\0\0\0\0");
 /// `id-alg-noSignature`: 1.3.6.1.5.5.7.6.2
-pub const ID_ALG_NO_SIGNATURE: ObjectIdentifier = ObjectIdentifier::new_unwrap("1.3.6.1.5.5.7.6.2");
+pub const ID_ALG_NO_SIGNATURE: ObjectIdentifier = padded(*b"\x08\x2B\x06\x01\x05\x05\x07\x06\x02\0\0\0\0\0\0\0\0\0\0\0\0\0\0\0\0\0\0\0\0\0\0\0\0\0\0\0\0\0\0\0");
 /// `id-cmc`: 1.3.6.1.5.5.7.7
-pub const ID_CMC: ObjectIdentifier = ObjectIdentifier::new_unwrap("1.3.6.1.5.5.7.7");
+pub const ID_CMC: ObjectIdentifier = padded(*b"\x07\x2B\x06\x01\x05\x05\x07\x07\0\0\0\0\0\0\0\0\0\0\0\0\0\0\0\0\0\0\0\0\0\0\0\0\0\0\0\0\0\0\0\0");
 /// `id-cmc-statusInfo`: 1.3.6.1.5.5.7.7.1
-pub const ID_CMC_STATUS_INFO: ObjectIdentifier = ObjectIdentifier::new_unwrap("1.3.6.1.5.5.7.7.1");
+pub const ID_CMC_STATUS_INFO: ObjectIdentifier = padded(*b"\x08\x2B\x06\x01\x05\x05\x07\x07\x01\0\0\0\0\0\0\0\0\0\0\0\0\0\0\0\0\0\0\0\0\0\0\0\0\0\0\0\0\0\0\0");
 /// `id-cmc-decryptedPOP`: 1.3.6.1.5.5.7.7.10
-pub const ID_CMC_DECRYPTED_POP: ObjectIdentifier = ObjectIdentifier::new_unwrap("1.3.6.1.5.5.7.7.10");
+pub const ID_CMC_DECRYPTED_POP: ObjectIdentifier = padded(*b"\x08\x2B\x06\x01\x05\x05\x07\x07\x0A\0\0\0\0\0\0\0\0\0\0\0\0\0\0\0\0\0\0\0\0\0\0\0\0\0\0\0\0\0\0\0");
 /// `id-cmc-lraPOPWitness`: 1.3.6.1.5.5.7.7.11
-pub const ID_CMC_LRA_POP_WITNESS: ObjectIdentifier = ObjectIdentifier::new_unwrap("1.3.6.1.5.5.7.7.11");
+pub const ID_CMC_LRA_POP_WITNESS: ObjectIdentifier = padded(*b"\x08\x2B\x06\x01\x05\x05\x07\x07\x0B\0\0\0\0\0\0\0\0\0\0\0\0\0\0\0\0\0\0\0\0\0\0\0\0\0\0\0\0\0\0\0");
 /// `id-cmc-getCert`: 1.3.6.1.5.5.7.7.15
-pub const ID_CMC_GET_CERT: ObjectIdentifier = ObjectIdentifier::new_unwrap("1.3.6.1.5.5.7.7.15");
+pub const ID_CMC_GET_CERT: ObjectIdentifier = padded(*b"\x08\x2B\x06\x01\x05\x05\x07\x07\x0F\0\0\0\0\0\0\0\0\0\0\0\0\0\0\0\0\0\0\0\0\0\0\0\0\0\0\0\0\0\0\0");
 /// `id-cmc-getCRL`: 1.3.6.1.5.5.7.7.16
-pub const ID_CMC_GET_CRL: ObjectIdentifier = ObjectIdentifier::new_unwrap("1.3.6.1.5.5.7.7.16");
+pub const ID_CMC_GET_CRL: ObjectIdentifier = padded(*b"\x08\x2B\x06\x01\x05\x05\x07\x07\x10\0\0\0\0\0\0\0\0\0\0\0\0\0\0\0\0\0\0\0\0\0\0\0\0\0\0\0\0\0\0\0");
 /// `id-cmc-revokeRequest`: 1.3.6.1.5.5.7.7.17
-pub const ID_CMC_REVOKE_REQUEST: ObjectIdentifier = ObjectIdentifier::new_unwrap("1.3.6.1.5.5.7.7.17");
+pub const ID_CMC_REVOKE_REQUEST: ObjectIdentifier = padded(*b"\x08\x2B\x06\x01\x05\x05\x07\x07\x11\0\0\0\0\0\0\0\0\0\0\0\0\0\0\0\0\0\0\0\0\0\0\0\0\0\0\0\0\0\0\0");
 /// `id-cmc-regInfo`: 1.3.6.1.5.5.7.7.18
-pub const ID_CMC_REG_INFO: ObjectIdentifier = ObjectIdentifier::new_unwrap("1.3.6.1.5.5.7.7.18");
+pub const ID_CMC_REG_INFO: ObjectIdentifier = padded(*b"\x08\x2B\x06\x01\x05\x05\x07\x07\x12\0\0\0\0\0\0\0\0\0\0\0\0\0\0\0\0\0\0\0\0\0\0\0\0\0\0\0\0\0\0\0");
 /// `id-cmc-responseInfo`: 1.3.6.1.5.5.7.7.19
-pub const ID_CMC_RESPONSE_INFO: ObjectIdentifier = ObjectIdentifier::new_unwrap("1.3.6.1.5.5.7.7.19");
+pub const ID_CMC_RESPONSE_INFO: ObjectIdentifier = padded(*b"\x08\x2B\x06\x01\x05\x05\x07\x07\x13\0\0\0\0\0\0\0\0\0\0\0\0\0\0\0\0\0\0\0\0\0\0\0\0\0\0\0\0\0\0\0");
 /// `id-cmc-identification`: 1.3.6.1.5.5.7.7.2
-pub const ID_CMC_IDENTIFICATION: ObjectIdentifier = ObjectIdentifier::new_unwrap("1.3.6.1.5.5.7.7.2");
+pub const ID_CMC_IDENTIFICATION: ObjectIdentifier = padded(*b"\x08\x2B\x06\x01\x05\x05\x07\x07\x02\0\0\0\0\0\0\0\0\0\0\0\0\0\0\0\0\0\0\0\0\0\0\0\0\0\0\0\0\0\0\0");
 /// `id-cmc-queryPending`: 1.3.6.1.5.5.7.7.21
-pub const ID_CMC_QUERY_PENDING: ObjectIdentifier = ObjectIdentifier::new_unwrap("1.3.6.1.5.5.7.7.21");
+pub const ID_CMC_QUERY_PENDING: ObjectIdentifier = padded(*b"\x08\x2B\x06\x01\x05\x05\x07\x07\x15\0\0\0\0\0\0\0\0\0\0\0\0\0\0\0\0\0\0\0\0\0\0\0\0\0\0\0\0\0\0\0");
 /// `id-cmc-popLinkRandom`: 1.3.6.1.5.5.7.7.22
-pub const ID_CMC_POP_LINK_RANDOM: ObjectIdentifier = ObjectIdentifier::new_unwrap("1.3.6.1.5.5.7.7.22");
+pub const ID_CMC_POP_LINK_RANDOM: ObjectIdentifier = padded(*b"\x08\x2B\x06\x01\x05\x05\x07\x07\x16\0\0\0\0\0\0\0\0\0\0\0\0\0\0\0\0\0\0\0\0\0\0\0\0\0\0\0\0\0\0\0");
 /// `id-cmc-popLinkWitness`: 1.3.6.1.5.5.7.7.23
-pub const ID_CMC_POP_LINK_WITNESS: ObjectIdentifier = ObjectIdentifier::new_unwrap("1.3.6.1.5.5.7.7.23");
+pub const ID_CMC_POP_LINK_WITNESS: ObjectIdentifier = padded(*b"\x08\x2B\x06\x01\x05\x05\x07\x07\x17\0\0\0\0\0\0\0\0\0\0\0\0\0\0\0\0\0\0\0\0\0\0\0\0\0\0\0\0\0\0\0");
 /// `id-cmc-confirmCertAcceptance`: 1.3.6.1.5.5.7.7.24
-pub const ID_CMC_CONFIRM_CERT_ACCEPTANCE: ObjectIdentifier = ObjectIdentifier::new_unwrap("1.3.6.1.5.5.7.7.24");
+pub const ID_CMC_CONFIRM_CERT_ACCEPTANCE: ObjectIdentifier = padded(*b"\x08\x2B\x06\x01\x05\x05\x07\x07\x18\0\0\0\0\0\0\0\0\0\0\0\0\0\0\0\0\0\0\0\0\0\0\0\0\0\0\0\0\0\0\0");
 /// `id-cmc-statusInfoV2`: 1.3.6.1.5.5.7.7.25
-pub const ID_CMC_STATUS_INFO_V_2: ObjectIdentifier = ObjectIdentifier::new_unwrap("1.3.6.1.5.5.7.7.25");
+pub const ID_CMC_STATUS_INFO_V_2: ObjectIdentifier = padded(*b"\x08\x2B\x06\x01\x05\x05\x07\x07\x19\0\0\0\0\0\0\0\0\0\0\0\0\0\0\0\0\0\0\0\0\0\0\0\0\0\0\0\0\0\0\0");
 /// `id-cmc-trustedAnchors`: 1.3.6.1.5.5.7.7.26
-pub const ID_CMC_TRUSTED_ANCHORS: ObjectIdentifier = ObjectIdentifier::new_unwrap("1.3.6.1.5.5.7.7.26");
+pub const ID_CMC_TRUSTED_ANCHORS: ObjectIdentifier = padded(*b"\x08\x2B\x06\x01\x05\x05\x07\x07\x1A\0\0\0\0\0\0\0\0\0\0\0\0\0\0\0\0\0\0\0\0\0\0\0\0\0\0\0\0\0\0\0");
 /// `id-cmc-authData`: 1.3.6.1.5.5.7.7.27
-pub const ID_CMC_AUTH_DATA: ObjectIdentifier = ObjectIdentifier::new_unwrap("1.3.6.1.5.5.7.7.27");
+pub const ID_CMC_AUTH_DATA: ObjectIdentifier = padded(*b"\x08\x2B\x06\x01\x05\x05\x07\x07\x1B\0\0\0\0\0\0\0\0\0\0\0\0\0\0\0\0\0\0\0\0\0\0\0\0\0\0\0\0\0\0\0");
 /// `id-cmc-batchRequests`: 1.3.6.1.5.5.7.7.28
-pub const ID_CMC_BATCH_REQUESTS: ObjectIdentifier = ObjectIdentifier::new_unwrap("1.3.6.1.5.5.7.7.28");
+pub const ID_CMC_BATCH_REQUESTS: ObjectIdentifier = padded(*b"\x08\x2B\x06\x01\x05\x05\x07\x07\x1C\0\0\0\0\0\0\0\0\0\0\0\0\0\0\0\0\0\0\0\0\0\0\0\0\0\0\0\0\0\0\0");
 /// `id-cmc-batchResponses`: 1.3.6.1.5.5.7.7.29
-pub const ID_CMC_BATCH_RESPONSES: ObjectIdentifier = ObjectIdentifier::new_unwrap("1.3.6.1.5.5.7.7.29");
+pub const ID_CMC_BATCH_RESPONSES: ObjectIdentifier = padded(*b"\x08\x2B\x06\x01\x05\x05\x07\x07\x1D\0\0\0\0\0\0\0\0\0\0\0\0\0\0\0\0\0\0\0\0\0\0\0\0\0\0\0\0\0\0\0");
 /// `id-cmc-identityProof`: 1.3.6.1.5.5.7.7.3
-pub const ID_CMC_IDENTITY_PROOF: ObjectIdentifier = ObjectIdentifier::new_unwrap("1.3.6.1.5.5.7.7.3");
+pub const ID_CMC_IDENTITY_PROOF: ObjectIdentifier = padded(*b"\x08\x2B\x06\x01\x05\x05\x07\x07\x03\0\0\0\0\0\0\0\0\0\0\0\0\0\0\0\0\0\0\0\0\0\0\0\0\0\0\0\0\0\0\0");
 /// `id-cmc-publishCert`: 1.3.6.1.5.5.7.7.30
-pub const ID_CMC_PUBLISH_CERT: ObjectIdentifier = ObjectIdentifier::new_unwrap("1.3.6.1.5.5.7.7.30");
+pub const ID_CMC_PUBLISH_CERT: ObjectIdentifier = padded(*b"\x08\x2B\x06\x01\x05\x05\x07\x07\x1E\0\0\0\0\0\0\0\0\0\0\0\0\0\0\0\0\0\0\0\0\0\0\0\0\0\0\0\0\0\0\0");
 /// `id-cmc-modCertTemplate`: 1.3.6.1.5.5.7.7.31
-pub const ID_CMC_MOD_CERT_TEMPLATE: ObjectIdentifier = ObjectIdentifier::new_unwrap("1.3.6.1.5.5.7.7.31");
+pub const ID_CMC_MOD_CERT_TEMPLATE: ObjectIdentifier = padded(*b"\x08\x2B\x06\x01\x05\x05\x07\x07\x1F\0\0\0\0\0\0\0\0\0\0\0\0\0\0\0\0\0\0\0\0\0\0\0\0\0\0\0\0\0\0\0");
 /// `id-cmc-controlProcessed`: 1.3.6.1.5.5.7.7.32
-pub const ID_CMC_CONTROL_PROCESSED: ObjectIdentifier = ObjectIdentifier::new_unwrap("1.3.6.1.5.5.7.7.32");
+pub const ID_CMC_CONTROL_PROCESSED: ObjectIdentifier = padded(*b"\x08\x2B\x06\x01\x05\x05\x07\x07\x20\0\0\0\0\0\0\0\0\0\0\0\0\0\0\0\0\0\0\0\0\0\0\0\0\0\0\0\0\0\0\0");
 /// `id-cmc-identityProofV2`: 1.3.6.1.5.5.7.7.33
-pub const ID_CMC_IDENTITY_PROOF_V_2: ObjectIdentifier = ObjectIdentifier::new_unwrap("1.3.6.1.5.5.7.7.33");
+pub const ID_CMC_IDENTITY_PROOF_V_2: ObjectIdentifier = padded(*b"\x08\x2B\x06\x01\x05\x05\x07\x07\x21\0\0\0\0\0\0\0\0\0\0\0\0\0\0\0\0\0\0\0\0\0\0\0\0\0\0\0\0\0\0\0");
 /// `id-cmc-popLinkWitnessV2`: 1.3.6.1.5.5.7.7.34
-pub const ID_CMC_POP_LINK_WITNESS_V_2: ObjectIdentifier = ObjectIdentifier::new_unwrap("1.3.6.1.5.5.7.7.34");
+pub const ID_CMC_POP_LINK_WITNESS_V_2: ObjectIdentifier = padded(*b"\x08\x2B\x06\x01\x05\x05\x07\x07\x22\0\0\0\0\0\0\0\0\0\0\0\0\0\0\0\0\0\0\0\0\0\0\0\0\0\0\0\0\0\0\0");
 /// `id-cmc-dataReturn`: 1.3.6.1.5.5.7.7.4
-pub const ID_CMC_DATA_RETURN: ObjectIdentifier = ObjectIdentifier::new_unwrap("1.3.6.1.5.5.7.7.4");
+pub const ID_CMC_DATA_RETURN: ObjectIdentifier = padded(*b"\x08\x2B\x06\x01\x05\x05\x07\x07\x04\0\0\0\0\0\0\0\0\0\0\0\0\0\0\0\0\0\0\0\0\0\0\0\0\0\0\0\0\0\0\0");
 /// `id-cmc-transactionId`: 1.3.6.1.5.5.7.7.5
-pub const ID_CMC_TRANSACTION_ID: ObjectIdentifier = ObjectIdentifier::new_unwrap("1.3.6.1.5.5.7.7.5");
+pub const ID_CMC_TRANSACTION_ID: ObjectIdentifier = padded(*b"\x08\x2B\x06\x01\x05\x05\x07\x07\x05\0\0\0\0\0\0\0\0\0\0\0\0\0\0\0\0\0\0\0\0\0\0\0\0\0\0\0\0\0\0\0");
 /// `id-cmc-senderNonce`: 1.3.6.1.5.5.7.7.6
-pub const ID_CMC_SENDER_NONCE: ObjectIdentifier = ObjectIdentifier::new_unwrap("1.3.6.1.5.5.7.7.6");
+pub const ID_CMC_SENDER_NONCE: ObjectIdentifier = padded(*b"\x08\x2B\x06\x01\x05\x05\x07\x07\x06\0\0\0\0\0\0\0\0\0\0\0\0\0\0\0\0\0\0\0\0\0\0\0\0\0\0\0\0\0\0\0");
 /// `id-cmc-recipientNonce`: 1.3.6.1.5.5.7.7.7
-pub const ID_CMC_RECIPIENT_NONCE: ObjectIdentifier = ObjectIdentifier::new_unwrap("1.3.6.1.5.5.7.7.7");
+pub const ID_CMC_RECIPIENT_NONCE: ObjectIdentifier = padded(*b"\x08\x2B\x06\x01\x05\x05\x07\x07\x07\0\0\0\0\0\0\0\0\0\0\0\0\0\0\0\0\0\0\0\0\0\0\0\0\0\0\0\0\0\0\0");
 /// `id-cmc-addExtensions`: 1.3.6.1.5.5.7.7.8
-pub const ID_CMC_ADD_EXTENSIONS: ObjectIdentifier = ObjectIdentifier::new_unwrap("1.3.6.1.5.5.7.7.8");
+pub const ID_CMC_ADD_EXTENSIONS: ObjectIdentifier = padded(*b"\x08\x2B\x06\x01\x05\x05\x07\x07\x08\0\0\0\0\0\0\0\0\0\0\0\0\0\0\0\0\0\0\0\0\0\0\0\0\0\0\0\0\0\0\0");
 /// `id-cmc-encryptedPOP`: 1.3.6.1.5.5.7.7.9
-pub const ID_CMC_ENCRYPTED_POP: ObjectIdentifier = ObjectIdentifier::new_unwrap("1.3.6.1.5.5.7.7.9");
+pub const ID_CMC_ENCRYPTED_POP: ObjectIdentifier = padded(*b"\x08\x2B\x06\x01\x05\x05\x07\x07\x09\0\0\0\0\0\0\0\0\0\0\0\0\0\0\0\0\0\0\0\0\0\0\0\0\0\0\0\0\0\0\0");
 /// `id-keyExchangeAlgorithm`: 2.16.840.1.101.2.1.1.22
-pub const ID_KEY_EXCHANGE_ALGORITHM: ObjectIdentifier = ObjectIdentifier::new_unwrap("2.16.840.1.101.2.1.1.22");
+pub const ID_KEY_EXCHANGE_ALGORITHM: ObjectIdentifier = padded(*b"\x09\x60\x86\x48\x01\x65\x02\x01\x01\x16\0\0\0\0\0\0\0\0\0\0\0\0\0\0\0\0\0\0\0\0\0\0\0\0\0\0\0\0\0\0");
 /// `id-sha256`: 2.16.840.1.101.3.4.2.1
-pub const ID_SHA_256: ObjectIdentifier = ObjectIdentifier::new_unwrap("2.16.840.1.101.3.4.2.1");
+pub const ID_SHA_256: ObjectIdentifier = padded(*b"\x09\x60\x86\x48\x01\x65\x03\x04\x02\x01\0\0\0\0\0\0\0\0\0\0\0\0\0\0\0\0\0\0\0\0\0\0\0\0\0\0\0\0\0\0");
 /// `id-sha384`: 2.16.840.1.101.3.4.2.2
-pub const ID_SHA_384: ObjectIdentifier = ObjectIdentifier::new_unwrap("2.16.840.1.101.3.4.2.2");
+pub const ID_SHA_384: ObjectIdentifier = padded(*b"\x09\x60\x86\x48\x01\x65\x03\x04\x02\x02\0\0\0\0\0\0\0\0\0\0\0\0\0\0\0\0\0\0\0\0\0\0\0\0\0\0\0\0\0\0");
 /// `id-sha512`: 2.16.840.1.101.3.4.2.3
-pub const ID_SHA_512: ObjectIdentifier = ObjectIdentifier::new_unwrap("2.16.840.1.101.3.4.2.3");
+pub const ID_SHA_512: ObjectIdentifier = padded(*b"\x09\x60\x86\x48\x01\x65\x03\x04\x02\x03\0\0\0\0\0\0\0\0\0\0\0\0\0\0\0\0\0\0\0\0\0\0\0\0\0\0\0\0\0\0");
 /// `id-sha224`: 2.16.840.1.101.3.4.2.4
-pub const ID_SHA_224: ObjectIdentifier = ObjectIdentifier::new_unwrap("2.16.840.1.101.3.4.2.4");
+pub const ID_SHA_224: ObjectIdentifier = padded(*b"\x09\x60\x86\x48\x01\x65\x03\x04\x02\x04\0\0\0\0\0\0\0\0\0\0\0\0\0\0\0\0\0\0\0\0\0\0\0\0\0\0\0\0\0\0");
 /// `dsa-with-sha224`: 2.16.840.1.101.3.4.3.1
-pub const DSA_WITH_SHA_224: ObjectIdentifier = ObjectIdentifier::new_unwrap("2.16.840.1.101.3.4.3.1");
+pub const DSA_WITH_SHA_224: ObjectIdentifier = padded(*b"\x09\x60\x86\x48\x01\x65\x03\x04\x03\x01\0\0\0\0\0\0\0\0\0\0\0\0\0\0\0\0\0\0\0\0\0\0\0\0\0\0\0\0\0\0");
 /// `dsa-with-sha256`: 2.16.840.1.101.3.4.3.2
-pub const DSA_WITH_SHA_256: ObjectIdentifier = ObjectIdentifier::new_unwrap("2.16.840.1.101.3.4.3.2");
+pub const DSA_WITH_SHA_256: ObjectIdentifier = padded(*b"\x09\x60\x86\x48\x01\x65\x03\x04\x03\x02\0\0\0\0\0\0\0\0\0\0\0\0\0\0\0\0\0\0\0\0\0\0\0\0\0\0\0\0\0\0");
 /// `holdInstruction`: 2.2.840.10040.2
-pub const HOLD_INSTRUCTION: ObjectIdentifier = ObjectIdentifier::new_unwrap("2.2.840.10040.2");
+pub const HOLD_INSTRUCTION: ObjectIdentifier = padded(*b"\x06\x52\x86\x48\xCE\x38\x02\0\0\0\0\0\0\0\0\0\0\0\0\0\0\0\0\0\0\0\0\0\0\0\0\0\0\0\0\0\0\0\0\0");
 /// `id-holdinstruction-none`: 2.2.840.10040.2.1
-pub const ID_HOLDINSTRUCTION_NONE: ObjectIdentifier = ObjectIdentifier::new_unwrap("2.2.840.10040.2.1");
+pub const ID_HOLDINSTRUCTION_NONE: ObjectIdentifier = padded(*b"\x07\x52\x86\x48\xCE\x38\x02\x01\0\0\0\0\0\0\0\0\0\0\0\0\0\0\0\0\0\0\0\0\0\0\0\0\0\0\0\0\0\0\0\0");
 /// `id-holdinstruction-callissuer`: 2.2.840.10040.2.2
-pub const ID_HOLDINSTRUCTION_CALLISSUER: ObjectIdentifier = ObjectIdentifier::new_unwrap("2.2.840.10040.2.2");
+pub const ID_HOLDINSTRUCTION_CALLISSUER: ObjectIdentifier = padded(*b"\x07\x52\x86\x48\xCE\x38\x02\x02\0\0\0\0\0\0\0\0\0\0\0\0\0\0\0\0\0\0\0\0\0\0\0\0\0\0\0\0\0\0\0\0");
 /// `id-holdinstruction-reject`: 2.2.840.10040.2.3
-pub const ID_HOLDINSTRUCTION_REJECT: ObjectIdentifier = ObjectIdentifier::new_unwrap("2.2.840.10040.2.3");
+pub const ID_HOLDINSTRUCTION_REJECT: ObjectIdentifier = padded(*b"\x07\x52\x86\x48\xCE\x38\x02\x03\0\0\0\0\0\0\0\0\0\0\0\0\0\0\0\0\0\0\0\0\0\0\0\0\0\0\0\0\0\0\0\0");
 /// `id-ce`: 2.5.29
-pub const ID_CE: ObjectIdentifier = ObjectIdentifier::new_unwrap("2.5.29");
+pub const ID_CE: ObjectIdentifier = padded(*b"\x02\x55\x1D\0\0\0\0\0\0\0\0\0\0\0\0\0\0\0\0\0\0\0\0\0\0\0\0\0\0\0\0\0\0\0\0\0\0\0\0\0");
 /// `id-ce-subjectKeyIdentifier`: 2.5.29.14
-pub const ID_CE_SUBJECT_KEY_IDENTIFIER: ObjectIdentifier = ObjectIdentifier::new_unwrap("2.5.29.14");
+pub const ID_CE_SUBJECT_KEY_IDENTIFIER: ObjectIdentifier = padded(*b"\x03\x55\x1D\x0E\0\0\0\0\0\0\0\0\0\0\0\0\0\0\0\0\0\0\0\0\0\0\0\0\0\0\0\0\0\0\0\0\0\0\0\0");
 /// `id-ce-keyUsage`: 2.5.29.15
-pub const ID_CE_KEY_USAGE: ObjectIdentifier = ObjectIdentifier::new_unwrap("2.5.29.15");
+pub const ID_CE_KEY_USAGE: ObjectIdentifier = padded(*b"\x03\x55\x1D\x0F\0\0\0\0\0\0\0\0\0\0\0\0\0\0\0\0\0\0\0\0\0\0\0\0\0\0\0\0\0\0\0\0\0\0\0\0");
 /// `id-ce-privateKeyUsagePeriod`: 2.5.29.16
-pub const ID_CE_PRIVATE_KEY_USAGE_PERIOD: ObjectIdentifier = ObjectIdentifier::new_unwrap("2.5.29.16");
+pub const ID_CE_PRIVATE_KEY_USAGE_PERIOD: ObjectIdentifier = padded(*b"\x03\x55\x1D\x10\0\0\0\0\0\0\0\0\0\0\0\0\0\0\0\0\0\0\0\0\0\0\0\0\0\0\0\0\0\0\0\0\0\0\0\0");
 /// `id-ce-subjectAltName`: 2.5.29.17
-pub const ID_CE_SUBJECT_ALT_NAME: ObjectIdentifier = ObjectIdentifier::new_unwrap("2.5.29.17");
+pub const ID_CE_SUBJECT_ALT_NAME: ObjectIdentifier = padded(*b"\x03\x55\x1D\x11\0\0\0\0\0\0\0\0\0\0\0\0\0\0\0\0\0\0\0\0\0\0\0\0\0\0\0\0\0\0\0\0\0\0\0\0");
 /// `id-ce-issuerAltName`: 2.5.29.18
-pub const ID_CE_ISSUER_ALT_NAME: ObjectIdentifier = ObjectIdentifier::new_unwrap("2.5.29.18");
+pub const ID_CE_ISSUER_ALT_NAME: ObjectIdentifier = padded(*b"\x03\x55\x1D\x12\0\0\0\0\0\0\0\0\0\0\0\0\0\0\0\0\0\0\0\0\0\0\0\0\0\0\0\0\0\0\0\0\0\0\0\0");
 /// `id-ce-basicConstraints`: 2.5.29.19
-pub const ID_CE_BASIC_CONSTRAINTS: ObjectIdentifier = ObjectIdentifier::new_unwrap("2.5.29.19");
+pub const ID_CE_BASIC_CONSTRAINTS: ObjectIdentifier = padded(*b"\x03\x55\x1D\x13\0\0\0\0\0\0\0\0\0\0\0\0\0\0\0\0\0\0\0\0\0\0\0\0\0\0\0\0\0\0\0\0\0\0\0\0");
 /// `id-ce-cRLNumber`: 2.5.29.20
-pub const ID_CE_CRL_NUMBER: ObjectIdentifier = ObjectIdentifier::new_unwrap("2.5.29.20");
+pub const ID_CE_CRL_NUMBER: ObjectIdentifier = padded(*b"\x03\x55\x1D\x14\0\0\0\0\0\0\0\0\0\0\0\0\0\0\0\0\0\0\0\0\0\0\0\0\0\0\0\0\0\0\0\0\0\0\0\0");
 /// `id-ce-cRLReasons`: 2.5.29.21
-pub const ID_CE_CRL_REASONS: ObjectIdentifier = ObjectIdentifier::new_unwrap("2.5.29.21");
+pub const ID_CE_CRL_REASONS: ObjectIdentifier = padded(*b"\x03\x55\x1D\x15\0\0\0\0\0\0\0\0\0\0\0\0\0\0\0\0\0\0\0\0\0\0\0\0\0\0\0\0\0\0\0\0\0\0\0\0");
 /// `id-ce-holdInstructionCode`: 2.5.29.23
-pub const ID_CE_HOLD_INSTRUCTION_CODE: ObjectIdentifier = ObjectIdentifier::new_unwrap("2.5.29.23");
+pub const ID_CE_HOLD_INSTRUCTION_CODE: ObjectIdentifier = padded(*b"\x03\x55\x1D\x17\0\0\0\0\0\0\0\0\0\0\0\0\0\0\0\0\0\0\0\0\0\0\0\0\0\0\0\0\0\0\0\0\0\0\0\0");
 /// `id-ce-invalidityDate`: 2.5.29.24
-pub const ID_CE_INVALIDITY_DATE: ObjectIdentifier = ObjectIdentifier::new_unwrap("2.5.29.24");
+pub const ID_CE_INVALIDITY_DATE: ObjectIdentifier = padded(*b"\x03\x55\x1D\x18\0\0\0\0\0\0\0\0\0\0\0\0\0\0\0\0\0\0\0\0\0\0\0\0\0\0\0\0\0\0\0\0\0\0\0\0");
 /// `id-ce-deltaCRLIndicator`: 2.5.29.27
-pub const ID_CE_DELTA_CRL_INDICATOR: ObjectIdentifier = ObjectIdentifier::new_unwrap("2.5.29.27");
+pub const ID_CE_DELTA_CRL_INDICATOR: ObjectIdentifier = padded(*b"\x03\x55\x1D\x1B\0\0\0\0\0\0\0\0\0\0\0\0\0\0\0\0\0\0\0\0\0\0\0\0\0\0\0\0\0\0\0\0\0\0\0\0");
 /// `id-ce-issuingDistributionPoint`: 2.5.29.28
-pub const ID_CE_ISSUING_DISTRIBUTION_POINT: ObjectIdentifier = ObjectIdentifier::new_unwrap("2.5.29.28");
+pub const ID_CE_ISSUING_DISTRIBUTION_POINT: ObjectIdentifier = padded(*b"\x03\x55\x1D\x1C\0\0\0\0\0\0\0\0\0\0\0\0\0\0\0\0\0\0\0\0\0\0\0\0\0\0\0\0\0\0\0\0\0\0\0\0");
 /// `id-ce-certificateIssuer`: 2.5.29.29
-pub const ID_CE_CERTIFICATE_ISSUER: ObjectIdentifier = ObjectIdentifier::new_unwrap("2.5.29.29");
+pub const ID_CE_CERTIFICATE_ISSUER: ObjectIdentifier = padded(*b"\x03\x55\x1D\x1D\0\0\0\0\0\0\0\0\0\0\0\0\0\0\0\0\0\0\0\0\0\0\0\0\0\0\0\0\0\0\0\0\0\0\0\0");
 /// `id-ce-nameConstraints`: 2.5.29.30
-pub const ID_CE_NAME_CONSTRAINTS: ObjectIdentifier = ObjectIdentifier::new_unwrap("2.5.29.30");
+pub const ID_CE_NAME_CONSTRAINTS: ObjectIdentifier = padded(*b"\x03\x55\x1D\x1E\0\0\0\0\0\0\0\0\0\0\0\0\0\0\0\0\0\0\0\0\0\0\0\0\0\0\0\0\0\0\0\0\0\0\0\0");
 /// `id-ce-cRLDistributionPoints`: 2.5.29.31
-pub const ID_CE_CRL_DISTRIBUTION_POINTS: ObjectIdentifier = ObjectIdentifier::new_unwrap("2.5.29.31");
+pub const ID_CE_CRL_DISTRIBUTION_POINTS: ObjectIdentifier = padded(*b"\x03\x55\x1D\x1F\0\0\0\0\0\0\0\0\0\0\0\0\0\0\0\0\0\0\0\0\0\0\0\0\0\0\0\0\0\0\0\0\0\0\0\0");
 /// `id-ce-certificatePolicies`: 2.5.29.32
-pub const ID_CE_CERTIFICATE_POLICIES: ObjectIdentifier = ObjectIdentifier::new_unwrap("2.5.29.32");
+pub const ID_CE_CERTIFICATE_POLICIES: ObjectIdentifier = padded(*b"\x03\x55\x1D\x20\0\0\0\0\0\0\0\0\0\0\0\0\0\0\0\0\0\0\0\0\0\0\0\0\0\0\0\0\0\0\0\0\0\0\0\0");
 /// `id-ce-policyMappings`: 2.5.29.33
-pub const ID_CE_POLICY_MAPPINGS: ObjectIdentifier = ObjectIdentifier::new_unwrap("2.5.29.33");
+pub const ID_CE_POLICY_MAPPINGS: ObjectIdentifier = padded(*b"\x03\x55\x1D\x21\0\0\0\0\0\0\0\0\0\0\0\0\0\0\0\0\0\0\0\0\0\0\0\0\0\0\0\0\0\0\0\0\0\0\0\0");
 /// `id-ce-authorityKeyIdentifier`: 2.5.29.35
-pub const ID_CE_AUTHORITY_KEY_IDENTIFIER: ObjectIdentifier = ObjectIdentifier::new_unwrap("2.5.29.35");
+pub const ID_CE_AUTHORITY_KEY_IDENTIFIER: ObjectIdentifier = padded(*b"\x03\x55\x1D\x23\0\0\0\0\0\0\0\0\0\0\0\0\0\0\0\0\0\0\0\0\0\0\0\0\0\0\0\0\0\0\0\0\0\0\0\0");
 /// `id-ce-policyConstraints`: 2.5.29.36
-pub const ID_CE_POLICY_CONSTRAINTS: ObjectIdentifier = ObjectIdentifier::new_unwrap("2.5.29.36");
+pub const ID_CE_POLICY_CONSTRAINTS: ObjectIdentifier = padded(*b"\x03\x55\x1D\x24\0\0\0\0\0\0\0\0\0\0\0\0\0\0\0\0\0\0\0\0\0\0\0\0\0\0\0\0\0\0\0\0\0\0\0\0");
 /// `id-ce-extKeyUsage`: 2.5.29.37
-pub const ID_CE_EXT_KEY_USAGE: ObjectIdentifier = ObjectIdentifier::new_unwrap("2.5.29.37");
+pub const ID_CE_EXT_KEY_USAGE: ObjectIdentifier = padded(*b"\x03\x55\x1D\x25\0\0\0\0\0\0\0\0\0\0\0\0\0\0\0\0\0\0\0\0\0\0\0\0\0\0\0\0\0\0\0\0\0\0\0\0");
 /// `anyExtendedKeyUsage`: 2.5.29.37.0
-pub const ANY_EXTENDED_KEY_USAGE: ObjectIdentifier = ObjectIdentifier::new_unwrap("2.5.29.37.0");
+pub const ANY_EXTENDED_KEY_USAGE: ObjectIdentifier = padded(*b"\x04\x55\x1D\x25\x00\0\0\0\0\0\0\0\0\0\0\0\0\0\0\0\0\0\0\0\0\0\0\0\0\0\0\0\0\0\0\0\0\0\0\0");
 /// `id-ce-freshestCRL`: 2.5.29.46
-pub const ID_CE_FRESHEST_CRL: ObjectIdentifier = ObjectIdentifier::new_unwrap("2.5.29.46");
+pub const ID_CE_FRESHEST_CRL: ObjectIdentifier = padded(*b"\x03\x55\x1D\x2E\0\0\0\0\0\0\0\0\0\0\0\0\0\0\0\0\0\0\0\0\0\0\0\0\0\0\0\0\0\0\0\0\0\0\0\0");
 /// `id-ce-inhibitAnyPolicy`: 2.5.29.54
-pub const ID_CE_INHIBIT_ANY_POLICY: ObjectIdentifier = ObjectIdentifier::new_unwrap("2.5.29.54");
+pub const ID_CE_INHIBIT_ANY_POLICY: ObjectIdentifier = padded(*b"\x03\x55\x1D\x36\0\0\0\0\0\0\0\0\0\0\0\0\0\0\0\0\0\0\0\0\0\0\0\0\0\0\0\0\0\0\0\0\0\0\0\0");
 /// `id-ce-targetInformation`: 2.5.29.55
-pub const ID_CE_TARGET_INFORMATION: ObjectIdentifier = ObjectIdentifier::new_unwrap("2.5.29.55");
+pub const ID_CE_TARGET_INFORMATION: ObjectIdentifier = padded(*b"\x03\x55\x1D\x37\0\0\0\0\0\0\0\0\0\0\0\0\0\0\0\0\0\0\0\0\0\0\0\0\0\0\0\0\0\0\0\0\0\0\0\0");
 /// `id-ce-noRevAvail`: 2.5.29.56
-pub const ID_CE_NO_REV_AVAIL: ObjectIdentifier = ObjectIdentifier::new_unwrap("2.5.29.56");
+pub const ID_CE_NO_REV_AVAIL: ObjectIdentifier = padded(*b"\x03\x55\x1D\x38\0\0\0\0\0\0\0\0\0\0\0\0\0\0\0\0\0\0\0\0\0\0\0\0\0\0\0\0\0\0\0\0\0\0\0\0");
 /// `id-ce-subjectDirectoryAttributes`: 2.5.29.9
-pub const ID_CE_SUBJECT_DIRECTORY_ATTRIBUTES: ObjectIdentifier = ObjectIdentifier::new_unwrap("2.5.29.9");
+pub const ID_CE_SUBJECT_DIRECTORY_ATTRIBUTES: ObjectIdentifier = padded(*b"\x03\x55\x1D\x09\0\0\0\0\0\0\0\0\0\0\0\0\0\0\0\0\0\0\0\0\0\0\0\0\0\0\0\0\0\0\0\0\0\0\0\0");
 /// `id-at`: 2.5.4
-pub const ID_AT: ObjectIdentifier = ObjectIdentifier::new_unwrap("2.5.4");
+pub const ID_AT: ObjectIdentifier = padded(*b"\x02\x55\x04\0\0\0\0\0\0\0\0\0\0\0\0\0\0\0\0\0\0\0\0\0\0\0\0\0\0\0\0\0\0\0\0\0\0\0\0\0");
 /// `id-at-role`: 2.5.4.72
-pub const ID_AT_ROLE: ObjectIdentifier = ObjectIdentifier::new_unwrap("2.5.4.72");
+pub const ID_AT_ROLE: ObjectIdentifier = padded(*b"\x03\x55\x04\x48\0\0\0\0\0\0\0\0\0\0\0\0\0\0\0\0\0\0\0\0\0\0\0\0\0\0\0\0\0\0\0\0\0\0\0\0");
 }
 
 /// Identifiers of [RFC 6109](https://www.rfc-editor.org/rfc/rfc6109).
@@ -3064,26 +3111,27 @@ pub const ID_AT_ROLE: ObjectIdentifier = ObjectIdentifier::new_unwrap("2.5.4.72"
 /// assert_eq!(const_oid::db::rfc6109::LDIF_LOCATION_URL_OBJECT.to_string(), "1.3.6.1.4.1.16572.2.1.1");
 /// ```
 pub mod rfc6109 {
+use super::padded;
 use crate::ObjectIdentifier;
 
 /// `LDIFLocationURLObject`: 1.3.6.1.4.1.16572.2.1.1
-pub const LDIF_LOCATION_URL_OBJECT: ObjectIdentifier = ObjectIdentifier::new_unwrap("1.3.6.1.4.1.16572.2.1.1");
+pub const LDIF_LOCATION_URL_OBJECT: ObjectIdentifier = padded(*b"\x0B\x2B\x06\x01\x04\x01\x81\x81\x3C\x02\x01\x01\0\0\0\0\0\0\0\0\0\0\0\0\0\0\0\0\0\0\0\0\0\0\0\0\0\0\0\0");
 /// `provider`: 1.3.6.1.4.1.16572.2.1.2
-pub const PROVIDER: ObjectIdentifier = ObjectIdentifier::new_unwrap("1.3.6.1.4.1.16572.2.1.2");
+pub const PROVIDER: ObjectIdentifier = padded(*b"\x0B\x2B\x06\x01\x04\x01\x81\x81\x3C\x02\x01\x02\0\0\0\0\0\0\0\0\0\0\0\0\0\0\0\0\0\0\0\0\0\0\0\0\0\0\0\0");
 /// `providerCertificateHash`: 1.3.6.1.4.1.16572.2.2.1
-pub const PROVIDER_CERTIFICATE_HASH: ObjectIdentifier = ObjectIdentifier::new_unwrap("1.3.6.1.4.1.16572.2.2.1");
+pub const PROVIDER_CERTIFICATE_HASH: ObjectIdentifier = padded(*b"\x0B\x2B\x06\x01\x04\x01\x81\x81\x3C\x02\x02\x01\0\0\0\0\0\0\0\0\0\0\0\0\0\0\0\0\0\0\0\0\0\0\0\0\0\0\0\0");
 /// `providerCertificate`: 1.3.6.1.4.1.16572.2.2.2
-pub const PROVIDER_CERTIFICATE: ObjectIdentifier = ObjectIdentifier::new_unwrap("1.3.6.1.4.1.16572.2.2.2");
+pub const PROVIDER_CERTIFICATE: ObjectIdentifier = padded(*b"\x0B\x2B\x06\x01\x04\x01\x81\x81\x3C\x02\x02\x02\0\0\0\0\0\0\0\0\0\0\0\0\0\0\0\0\0\0\0\0\0\0\0\0\0\0\0\0");
 /// `providerName`: 1.3.6.1.4.1.16572.2.2.3
-pub const PROVIDER_NAME: ObjectIdentifier = ObjectIdentifier::new_unwrap("1.3.6.1.4.1.16572.2.2.3");
+pub const PROVIDER_NAME: ObjectIdentifier = padded(*b"\x0B\x2B\x06\x01\x04\x01\x81\x81\x3C\x02\x02\x03\0\0\0\0\0\0\0\0\0\0\0\0\0\0\0\0\0\0\0\0\0\0\0\0\0\0\0\0");
 /// `mailReceipt`: 1.3.6.1.4.1.16572.2.2.4
-pub const MAIL_RECEIPT: ObjectIdentifier = ObjectIdentifier::new_unwrap("1.3.6.1.4.1.16572.2.2.4");
+pub const MAIL_RECEIPT: ObjectIdentifier = padded(*b"\x0B\x2B\x06\x01\x04\x01\x81\x81\x3C\x02\x02\x04\0\0\0\0\0\0\0\0\0\0\0\0\0\0\0\0\0\0\0\0\0\0\0\0\0\0\0\0");
 /// `managedDomains`: 1.3.6.1.4.1.16572.2.2.5
-pub const MANAGED_DOMAINS: ObjectIdentifier = ObjectIdentifier::new_unwrap("1.3.6.1.4.1.16572.2.2.5");
+pub const MANAGED_DOMAINS: ObjectIdentifier = padded(*b"\x0B\x2B\x06\x01\x04\x01\x81\x81\x3C\x02\x02\x05\0\0\0\0\0\0\0\0\0\0\0\0\0\0\0\0\0\0\0\0\0\0\0\0\0\0\0\0");
 /// `LDIFLocationURL`: 1.3.6.1.4.1.16572.2.2.6
-pub const LDIF_LOCATION_URL: ObjectIdentifier = ObjectIdentifier::new_unwrap("1.3.6.1.4.1.16572.2.2.6");
+pub const LDIF_LOCATION_URL: ObjectIdentifier = padded(*b"\x0B\x2B\x06\x01\x04\x01\x81\x81\x3C\x02\x02\x06\0\0\0\0\0\0\0\0\0\0\0\0\0\0\0\0\0\0\0\0\0\0\0\0\0\0\0\0");
 /// `providerUnit`: 1.3.6.1.4.1.16572.2.2.7
-pub const PROVIDER_UNIT: ObjectIdentifier = ObjectIdentifier::new_unwrap("1.3.6.1.4.1.16572.2.2.7");
+pub const PROVIDER_UNIT: ObjectIdentifier = padded(*b"\x0B\x2B\x06\x01\x04\x01\x81\x81\x3C\x02\x02\x07\0\0\0\0\0\0\0\0\0\0\0\0\0\0\0\0\0\0\0\0\0\0\0\0\0\0\0\0");
 }
 
 /// Identifiers of [RFC 6268](https://www.rfc-editor.org/rfc/rfc6268).
@@ -3094,56 +3142,57 @@ pub const PROVIDER_UNIT: ObjectIdentifier = ObjectIdentifier::new_unwrap("1.3.6.
 /// assert_eq!(const_oid::db::rfc6268::RSADSI.to_string(), "1.2.840.113549");
 /// ```
 pub mod rfc6268 {
+use super::padded;
 use crate::ObjectIdentifier;
 
 /// `rsadsi`: 1.2.840.113549
-pub const RSADSI: ObjectIdentifier = ObjectIdentifier::new_unwrap("1.2.840.113549");
+pub const RSADSI: ObjectIdentifier = padded(*b"\x06\x2A\x86\x48\x86\xF7\x0D\0\0\0\0\0\0\0\0\0\0\0\0\0\0\0\0\0\0\0\0\0\0\0\0\0\0\0\0\0\0\0\0\0");
 /// `id-data`: 1.2.840.113549.1.7.1
-pub const ID_DATA: ObjectIdentifier = ObjectIdentifier::new_unwrap("1.2.840.113549.1.7.1");
+pub const ID_DATA: ObjectIdentifier = padded(*b"\x09\x2A\x86\x48\x86\xF7\x0D\x01\x07\x01\0\0\0\0\0\0\0\0\0\0\0\0\0\0\0\0\0\0\0\0\0\0\0\0\0\0\0\0\0\0");
 /// `id-signedData`: 1.2.840.113549.1.7.2
-pub const ID_SIGNED_DATA: ObjectIdentifier = ObjectIdentifier::new_unwrap("1.2.840.113549.1.7.2");
+pub const ID_SIGNED_DATA: ObjectIdentifier = padded(*b"\x09\x2A\x86\x48\x86\xF7\x0D\x01\x07\x02\0\0\0\0\0\0\0\0\0\0\0\0\0\0\0\0\0\0\0\0\0\0\0\0\0\0\0\0\0\0");
 /// `id-envelopedData`: 1.2.840.113549.1.7.3
-pub const ID_ENVELOPED_DATA: ObjectIdentifier = ObjectIdentifier::new_unwrap("1.2.840.113549.1.7.3");
+pub const ID_ENVELOPED_DATA: ObjectIdentifier = padded(*b"\x09\x2A\x86\x48\x86\xF7\x0D\x01\x07\x03\0\0\0\0\0\0\0\0\0\0\0\0\0\0\0\0\0\0\0\0\0\0\0\0\0\0\0\0\0\0");
 /// `id-digestedData`: 1.2.840.113549.1.7.5
-pub const ID_DIGESTED_DATA: ObjectIdentifier = ObjectIdentifier::new_unwrap("1.2.840.113549.1.7.5");
+pub const ID_DIGESTED_DATA: ObjectIdentifier = padded(*b"\x09\x2A\x86\x48\x86\xF7\x0D\x01\x07\x05\0\0\0\0\0\0\0\0\0\0\0\0\0\0\0\0\0\0\0\0\0\0\0\0\0\0\0\0\0\0");
 /// `id-encryptedData`: 1.2.840.113549.1.7.6
-pub const ID_ENCRYPTED_DATA: ObjectIdentifier = ObjectIdentifier::new_unwrap("1.2.840.113549.1.7.6");
+pub const ID_ENCRYPTED_DATA: ObjectIdentifier = padded(*b"\x09\x2A\x86\x48\x86\xF7\x0D\x01\x07\x06\0\0\0\0\0\0\0\0\0\0\0\0\0\0\0\0\0\0\0\0\0\0\0\0\0\0\0\0\0\0");
 /// `id-ct-contentCollection`: 1.2.840.113549.1.9.16.1.19
-pub const ID_CT_CONTENT_COLLECTION: ObjectIdentifier = ObjectIdentifier::new_unwrap("1.2.840.113549.1.9.16.1.19");
+pub const ID_CT_CONTENT_COLLECTION: ObjectIdentifier = padded(*b"\x0B\x2A\x86\x48\x86\xF7\x0D\x01\x09\x10\x01\x13\0\0\0\0\0\0\0\0\0\0\0\0\0\0\0\0\0\0\0\0\0\0\0\0\0\0\0\0");
 /// `id-ct-authData`: 1.2.840.113549.1.9.16.1.2
-pub const ID_CT_AUTH_DATA: ObjectIdentifier = ObjectIdentifier::new_unwrap("1.2.840.113549.1.9.16.1.2");
+pub const ID_CT_AUTH_DATA: ObjectIdentifier = padded(*b"\x0B\x2A\x86\x48\x86\xF7\x0D\x01\x09\x10\x01\x02\0\0\0\0\0\0\0\0\0\0\0\0\0\0\0\0\0\0\0\0\0\0\0\0\0\0\0\0");
 /// `id-ct-contentWithAttrs`: 1.2.840.113549.1.9.16.1.20
-pub const ID_CT_CONTENT_WITH_ATTRS: ObjectIdentifier = ObjectIdentifier::new_unwrap("1.2.840.113549.1.9.16.1.20");
+pub const ID_CT_CONTENT_WITH_ATTRS: ObjectIdentifier = padded(*b"\x0B\x2A\x86\x48\x86\xF7\x0D\x01\x09\x10\x01\x14\0\0\0\0\0\0\0\0\0\0\0\0\0\0\0\0\0\0\0\0\0\0\0\0\0\0\0\0");
 /// `id-ct-authEnvelopedData`: 1.2.840.113549.1.9.16.1.23
-pub const ID_CT_AUTH_ENVELOPED_DATA: ObjectIdentifier = ObjectIdentifier::new_unwrap("1.2.840.113549.1.9.16.1.23");
+pub const ID_CT_AUTH_ENVELOPED_DATA: ObjectIdentifier = padded(*b"\x0B\x2A\x86\x48\x86\xF7\x0D\x01\x09\x10\x01\x17\0\0\0\0\0\0\0\0\0\0\0\0\0\0\0\0\0\0\0\0\0\0\0\0\0\0\0\0");
 /// `id-ct-contentInfo`: 1.2.840.113549.1.9.16.1.6
-pub const ID_CT_CONTENT_INFO: ObjectIdentifier = ObjectIdentifier::new_unwrap("1.2.840.113549.1.9.16.1.6");
+pub const ID_CT_CONTENT_INFO: ObjectIdentifier = padded(*b"\x0B\x2A\x86\x48\x86\xF7\x0D\x01\x09\x10\x01\x06\0\0\0\0\0\0\0\0\0\0\0\0\0\0\0\0\0\0\0\0\0\0\0\0\0\0\0\0");
 /// `id-ct-compressedData`: 1.2.840.113549.1.9.16.1.9
-pub const ID_CT_COMPRESSED_DATA: ObjectIdentifier = ObjectIdentifier::new_unwrap("1.2.840.113549.1.9.16.1.9");
+pub const ID_CT_COMPRESSED_DATA: ObjectIdentifier = padded(*b"\x0B\x2A\x86\x48\x86\xF7\x0D\x01\x09\x10\x01\x09\0\0\0\0\0\0\0\0\0\0\0\0\0\0\0\0\0\0\0\0\0\0\0\0\0\0\0\0");
 /// `id-aa-binarySigningTime`: 1.2.840.113549.1.9.16.2.46
-pub const ID_AA_BINARY_SIGNING_TIME: ObjectIdentifier = ObjectIdentifier::new_unwrap("1.2.840.113549.1.9.16.2.46");
+pub const ID_AA_BINARY_SIGNING_TIME: ObjectIdentifier = padded(*b"\x0B\x2A\x86\x48\x86\xF7\x0D\x01\x09\x10\x02\x2E\0\0\0\0\0\0\0\0\0\0\0\0\0\0\0\0\0\0\0\0\0\0\0\0\0\0\0\0");
 /// `id-alg-zlibCompress`: 1.2.840.113549.1.9.16.3.8
-pub const ID_ALG_ZLIB_COMPRESS: ObjectIdentifier = ObjectIdentifier::new_unwrap("1.2.840.113549.1.9.16.3.8");
+pub const ID_ALG_ZLIB_COMPRESS: ObjectIdentifier = padded(*b"\x0B\x2A\x86\x48\x86\xF7\x0D\x01\x09\x10\x03\x08\0\0\0\0\0\0\0\0\0\0\0\0\0\0\0\0\0\0\0\0\0\0\0\0\0\0\0\0");
 /// `id-aa-multipleSignatures`: 1.2.840.113549.1.9.2.51
-pub const ID_AA_MULTIPLE_SIGNATURES: ObjectIdentifier = ObjectIdentifier::new_unwrap("1.2.840.113549.1.9.2.51");
+pub const ID_AA_MULTIPLE_SIGNATURES: ObjectIdentifier = padded(*b"\x0A\x2A\x86\x48\x86\xF7\x0D\x01\x09\x02\x33\0\0\0\0\0\0\0\0\0\0\0\0\0\0\0\0\0\0\0\0\0\0\0\0\0\0\0\0\0");
 /// `id-contentType`: 1.2.840.113549.1.9.3
-pub const ID_CONTENT_TYPE: ObjectIdentifier = ObjectIdentifier::new_unwrap("1.2.840.113549.1.9.3");
+pub const ID_CONTENT_TYPE: ObjectIdentifier = padded(*b"\x09\x2A\x86\x48\x86\xF7\x0D\x01\x09\x03\0\0\0\0\0\0\0\0\0\0\0\0\0\0\0\0\0\0\0\0\0\0\0\0\0\0\0\0\0\0");
 /// `id-messageDigest`: 1.2.840.113549.1.9.4
-pub const ID_MESSAGE_DIGEST: ObjectIdentifier = ObjectIdentifier::new_unwrap("1.2.840.113549.1.9.4");
+pub const ID_MESSAGE_DIGEST: ObjectIdentifier = padded(*b"\x09\x2A\x86\x48\x86\xF7\x0D\x01\x09\x04\0\0\0\0\0\0\0\0\0\0\0\0\0\0\0\0\0\0\0\0\0\0\0\0\0\0\0\0\0\0");
 /// `id-signingTime`: 1.2.840.113549.1.9.5
-pub const ID_SIGNING_TIME: ObjectIdentifier = ObjectIdentifier::new_unwrap("1.2.840.113549.1.9.5");
+pub const ID_SIGNING_TIME: ObjectIdentifier = padded(*b"\x09\x2A\x86\x48\x86\xF7\x0D\x01\x09\x05\0\0\0\0\0\0\0\0\0\0\0\0\0\0\0\0\0\0\0\0\0\0\0\0\0\0\0\0\0\0");
 /// `id-countersignature`: 1.2.840.113549.1.9.6
-pub const ID_COUNTERSIGNATURE: ObjectIdentifier = ObjectIdentifier::new_unwrap("1.2.840.113549.1.9.6");
+pub const ID_COUNTERSIGNATURE: ObjectIdentifier = padded(*b"\x09\x2A\x86\x48\x86\xF7\x0D\x01\x09\x06\0\0\0\0\0\0\0\0\0\0\0\0\0\0\0\0\0\0\0\0\0\0\0\0\0\0\0\0\0\0");
 /// `digestAlgorithm`: 1.2.840.113549.2
-pub const DIGEST_ALGORITHM: ObjectIdentifier = ObjectIdentifier::new_unwrap("1.2.840.113549.2");
+pub const DIGEST_ALGORITHM: ObjectIdentifier = padded(*b"\x07\x2A\x86\x48\x86\xF7\x0D\x02\0\0\0\0\0\0\0\0\0\0\0\0\0\0\0\0\0\0\0\0\0\0\0\0\0\0\0\0\0\0\0\0");
 /// `id-hmacWithSHA384`: 1.2.840.113549.2.10
-pub const ID_HMAC_WITH_SHA_384: ObjectIdentifier = ObjectIdentifier::new_unwrap("1.2.840.113549.2.10");
+pub const ID_HMAC_WITH_SHA_384: ObjectIdentifier = padded(*b"\x08\x2A\x86\x48\x86\xF7\x0D\x02\x0A\0\0\0\0\0\0\0\0\0\0\0\0\0\0\0\0\0\0\0\0\0\0\0\0\0\0\0\0\0\0\0");
 /// `id-hmacWithSHA512`: 1.2.840.113549.2.11
-pub const ID_HMAC_WITH_SHA_512: ObjectIdentifier = ObjectIdentifier::new_unwrap("1.2.840.113549.2.11");
+pub const ID_HMAC_WITH_SHA_512: ObjectIdentifier = padded(*b"\x08\x2A\x86\x48\x86\xF7\x0D\x02\x0B\0\0\0\0\0\0\0\0\0\0\0\0\0\0\0\0\0\0\0\0\0\0\0\0\0\0\0\0\0\0\0");
 /// `id-hmacWithSHA224`: 1.2.840.113549.2.8
-pub const ID_HMAC_WITH_SHA_224: ObjectIdentifier = ObjectIdentifier::new_unwrap("1.2.840.113549.2.8");
+pub const ID_HMAC_WITH_SHA_224: ObjectIdentifier = padded(*b"\x08\x2A\x86\x48\x86\xF7\x0D\x02\x08\0\0\0\0\0\0\0\0\0\0\0\0\0\0\0\0\0\0\0\0\0\0\0\0\0\0\0\0\0\0\0");
 /// `id-hmacWithSHA256`: 1.2.840.113549.2.9
-pub const ID_HMAC_WITH_SHA_256: ObjectIdentifier = ObjectIdentifier::new_unwrap("1.2.840.113549.2.9");
+pub const ID_HMAC_WITH_SHA_256: ObjectIdentifier = padded(*b"\x08\x2A\x86\x48\x86\xF7\x0D\x02\x09\0\0\0\0\0\0\0\0\0\0\0\0\0\0\0\0\0\0\0\0\0\0\0\0\0\0\0\0\0\0\0");
 }
 
 /// Identifiers of [RFC 6960](https://www.rfc-editor.org/rfc/rfc6960).
@@ -3154,28 +3203,29 @@ pub const ID_HMAC_WITH_SHA_256: ObjectIdentifier = ObjectIdentifier::new_unwrap(
 /// assert_eq!(const_oid::db::rfc6960::ID_PKIX_OCSP.to_string(), "1.3.6.1.5.5.7.48.1");
 /// ```
 pub mod rfc6960 {
+use super::padded;
 use crate::ObjectIdentifier;
 
 /// `id-pkix-ocsp`: 1.3.6.1.5.5.7.48.1
-pub const ID_PKIX_OCSP: ObjectIdentifier = ObjectIdentifier::new_unwrap("1.3.6.1.5.5.7.48.1");
+pub const ID_PKIX_OCSP: ObjectIdentifier = padded(*b"\x08\x2B\x06\x01\x05\x05\x07\x30\x01\0\0\0\0\0\0\0\0\0\0\0\0\0\0\0\0\0\0\0\0\0\0\0\0\0\0\0\0\0\0\0");
 /// `id-pkix-ocsp-basic`: 1.3.6.1.5.5.7.48.1.1
-pub const ID_PKIX_OCSP_BASIC: ObjectIdentifier = ObjectIdentifier::new_unwrap("1.3.6.1.5.5.7.48.1.1");
+pub const ID_PKIX_OCSP_BASIC: ObjectIdentifier = padded(*b"\x09\x2B\x06\x01\x05\x05\x07\x30\x01\x01\0\0\0\0\0\0\0\0\0\0\0\0\0\0\0\0\0\0\0\0\0\0\0\0\0\0\0\0\0\0");
 /// `id-pkix-ocsp-nonce`: 1.3.6.1.5.5.7.48.1.2
-pub const ID_PKIX_OCSP_NONCE: ObjectIdentifier = ObjectIdentifier::new_unwrap("1.3.6.1.5.5.7.48.1.2");
+pub const ID_PKIX_OCSP_NONCE: ObjectIdentifier = padded(*b"\x09\x2B\x06\x01\x05\x05\x07\x30\x01\x02\0\0\0\0\0\0\0\0\0\0\0\0\0\0\0\0\0\0\0\0\0\0\0\0\0\0\0\0\0\0");
 /// `id-pkix-ocsp-crl`: 1.3.6.1.5.5.7.48.1.3
-pub const ID_PKIX_OCSP_CRL: ObjectIdentifier = ObjectIdentifier::new_unwrap("1.3.6.1.5.5.7.48.1.3");
+pub const ID_PKIX_OCSP_CRL: ObjectIdentifier = padded(*b"\x09\x2B\x06\x01\x05\x05\x07\x30\x01\x03\0\0\0\0\0\0\0\0\0\0\0\0\0\0\0\0\0\0\0\0\0\0\0\0\0\0\0\0\0\0");
 /// `id-pkix-ocsp-response`: 1.3.6.1.5.5.7.48.1.4
-pub const ID_PKIX_OCSP_RESPONSE: ObjectIdentifier = ObjectIdentifier::new_unwrap("1.3.6.1.5.5.7.48.1.4");
+pub const ID_PKIX_OCSP_RESPONSE: ObjectIdentifier = padded(*b"\x09\x2B\x06\x01\x05\x05\x07\x30\x01\x04\0\0\0\0\0\0\0\0\0\0\0\0\0\0\0\0\0\0\0\0\0\0\0\0\0\0\0\0\0\0");
 /// `id-pkix-ocsp-nocheck`: 1.3.6.1.5.5.7.48.1.5
-pub const ID_PKIX_OCSP_NOCHECK: ObjectIdentifier = ObjectIdentifier::new_unwrap("1.3.6.1.5.5.7.48.1.5");
+pub const ID_PKIX_OCSP_NOCHECK: ObjectIdentifier = padded(*b"\x09\x2B\x06\x01\x05\x05\x07\x30\x01\x05\0\0\0\0\0\0\0\0\0\0\0\0\0\0\0\0\0\0\0\0\0\0\0\0\0\0\0\0\0\0");
 /// `id-pkix-ocsp-archive-cutoff`: 1.3.6.1.5.5.7.48.1.6
-pub const ID_PKIX_OCSP_ARCHIVE_CUTOFF: ObjectIdentifier = ObjectIdentifier::new_unwrap("1.3.6.1.5.5.7.48.1.6");
+pub const ID_PKIX_OCSP_ARCHIVE_CUTOFF: ObjectIdentifier = padded(*b"\x09\x2B\x06\x01\x05\x05\x07\x30\x01\x06\0\0\0\0\0\0\0\0\0\0\0\0\0\0\0\0\0\0\0\0\0\0\0\0\0\0\0\0\0\0");
 /// `id-pkix-ocsp-service-locator`: 1.3.6.1.5.5.7.48.1.7
-pub const ID_PKIX_OCSP_SERVICE_LOCATOR: ObjectIdentifier = ObjectIdentifier::new_unwrap("1.3.6.1.5.5.7.48.1.7");
+pub const ID_PKIX_OCSP_SERVICE_LOCATOR: ObjectIdentifier = padded(*b"\x09\x2B\x06\x01\x05\x05\x07\x30\x01\x07\0\0\0\0\0\0\0\0\0\0\0\0\0\0\0\0\0\0\0\0\0\0\0\0\0\0\0\0\0\0");
 /// `id-pkix-ocsp-pref-sig-algs`: 1.3.6.1.5.5.7.48.1.8
-pub const ID_PKIX_OCSP_PREF_SIG_ALGS: ObjectIdentifier = ObjectIdentifier::new_unwrap("1.3.6.1.5.5.7.48.1.8");
+pub const ID_PKIX_OCSP_PREF_SIG_ALGS: ObjectIdentifier = padded(*b"\x09\x2B\x06\x01\x05\x05\x07\x30\x01\x08\0\0\0\0\0\0\0\0\0\0\0\0\0\0\0\0\0\0\0\0\0\0\0\0\0\0\0\0\0\0");
 /// `id-pkix-ocsp-extended-revoke`: 1.3.6.1.5.5.7.48.1.9
-pub const ID_PKIX_OCSP_EXTENDED_REVOKE: ObjectIdentifier = ObjectIdentifier::new_unwrap("1.3.6.1.5.5.7.48.1.9");
+pub const ID_PKIX_OCSP_EXTENDED_REVOKE: ObjectIdentifier = padded(*b"\x09\x2B\x06\x01\x05\x05\x07\x30\x01\x09\0\0\0\0\0\0\0\0\0\0\0\0\0\0\0\0\0\0\0\0\0\0\0\0\0\0\0\0\0\0");
 }
 
 /// Identifiers of [RFC 6962](https://www.rfc-editor.org/rfc/rfc6962).
@@ -3186,16 +3236,17 @@ pub const ID_PKIX_OCSP_EXTENDED_REVOKE: ObjectIdentifier = ObjectIdentifier::new
 /// assert_eq!(const_oid::db::rfc6962::GOOGLE.to_string(), "1.3.6.1.4.1.11129");
 /// ```
 pub mod rfc6962 {
+use super::padded;
 use crate::ObjectIdentifier;
 
 /// `google`: 1.3.6.1.4.1.11129
-pub const GOOGLE: ObjectIdentifier = ObjectIdentifier::new_unwrap("1.3.6.1.4.1.11129");
+pub const GOOGLE: ObjectIdentifier = padded(*b"\x07\x2B\x06\x01\x04\x01\xD6\x79\0\0\0\0\0\0\0\0\0\0\0\0\0\0\0\0\0\0\0\0\0\0\0\0\0\0\0\0\0\0\0\0");
 /// `ct-precert-scts`: 1.3.6.1.4.1.11129.2.4.2
-pub const CT_PRECERT_SCTS: ObjectIdentifier = ObjectIdentifier::new_unwrap("1.3.6.1.4.1.11129.2.4.2");
+pub const CT_PRECERT_SCTS: ObjectIdentifier = padded(*b"\x0A\x2B\x06\x01\x04\x01\xD6\x79\x02\x04\x02\0\0\0\0\0\0\0\0\0\0\0\0\0\0\0\0\0\0\0\0\0\0\0\0\0\0\0\0\0");
 /// `ct-precert-poison`: 1.3.6.1.4.1.11129.2.4.3
-pub const CT_PRECERT_POISON: ObjectIdentifier = ObjectIdentifier::new_unwrap("1.3.6.1.4.1.11129.2.4.3");
+pub const CT_PRECERT_POISON: ObjectIdentifier = padded(*b"\x0A\x2B\x06\x01\x04\x01\xD6\x79\x02\x04\x03\0\0\0\0\0\0\0\0\0\0\0\0\0\0\0\0\0\0\0\0\0\0\0\0\0\0\0\0\0");
 /// `ct-precert-signing-cert`: 1.3.6.1.4.1.11129.2.4.4
-pub const CT_PRECERT_SIGNING_CERT: ObjectIdentifier = ObjectIdentifier::new_unwrap("1.3.6.1.4.1.11129.2.4.4");
+pub const CT_PRECERT_SIGNING_CERT: ObjectIdentifier = padded(*b"\x0A\x2B\x06\x01\x04\x01\xD6\x79\x02\x04\x04\0\0\0\0\0\0\0\0\0\0\0\0\0\0\0\0\0\0\0\0\0\0\0\0\0\0\0\0\0");
 }
 
 /// Identifiers of [RFC 7107](https://www.rfc-editor.org/rfc/rfc7107).
@@ -3206,36 +3257,37 @@ pub const CT_PRECERT_SIGNING_CERT: ObjectIdentifier = ObjectIdentifier::new_unwr
 /// assert_eq!(const_oid::db::rfc7107::ID_SMIME.to_string(), "1.2.840.113549.1.9.16");
 /// ```
 pub mod rfc7107 {
+use super::padded;
 use crate::ObjectIdentifier;
 
 /// `id-smime`: 1.2.840.113549.1.9.16
-pub const ID_SMIME: ObjectIdentifier = ObjectIdentifier::new_unwrap("1.2.840.113549.1.9.16");
+pub const ID_SMIME: ObjectIdentifier = padded(*b"\x09\x2A\x86\x48\x86\xF7\x0D\x01\x09\x10\0\0\0\0\0\0\0\0\0\0\0\0\0\0\0\0\0\0\0\0\0\0\0\0\0\0\0\0\0\0");
 /// `id-mod`: 1.2.840.113549.1.9.16.0
-pub const ID_MOD: ObjectIdentifier = ObjectIdentifier::new_unwrap("1.2.840.113549.1.9.16.0");
+pub const ID_MOD: ObjectIdentifier = padded(*b"\x0A\x2A\x86\x48\x86\xF7\x0D\x01\x09\x10\x00\0\0\0\0\0\0\0\0\0\0\0\0\0\0\0\0\0\0\0\0\0\0\0\0\0\0\0\0\0");
 /// `id-ct`: 1.2.840.113549.1.9.16.1
-pub const ID_CT: ObjectIdentifier = ObjectIdentifier::new_unwrap("1.2.840.113549.1.9.16.1");
+pub const ID_CT: ObjectIdentifier = padded(*b"\x0A\x2A\x86\x48\x86\xF7\x0D\x01\x09\x10\x01\0\0\0\0\0\0\0\0\0\0\0\0\0\0\0\0\0\0\0\0\0\0\0\0\0\0\0\0\0");
 /// `id-eit`: 1.2.840.113549.1.9.16.10
-pub const ID_EIT: ObjectIdentifier = ObjectIdentifier::new_unwrap("1.2.840.113549.1.9.16.10");
+pub const ID_EIT: ObjectIdentifier = padded(*b"\x0A\x2A\x86\x48\x86\xF7\x0D\x01\x09\x10\x0A\0\0\0\0\0\0\0\0\0\0\0\0\0\0\0\0\0\0\0\0\0\0\0\0\0\0\0\0\0");
 /// `id-cap`: 1.2.840.113549.1.9.16.11
-pub const ID_CAP: ObjectIdentifier = ObjectIdentifier::new_unwrap("1.2.840.113549.1.9.16.11");
+pub const ID_CAP: ObjectIdentifier = padded(*b"\x0A\x2A\x86\x48\x86\xF7\x0D\x01\x09\x10\x0B\0\0\0\0\0\0\0\0\0\0\0\0\0\0\0\0\0\0\0\0\0\0\0\0\0\0\0\0\0");
 /// `id-pskc`: 1.2.840.113549.1.9.16.12
-pub const ID_PSKC: ObjectIdentifier = ObjectIdentifier::new_unwrap("1.2.840.113549.1.9.16.12");
+pub const ID_PSKC: ObjectIdentifier = padded(*b"\x0A\x2A\x86\x48\x86\xF7\x0D\x01\x09\x10\x0C\0\0\0\0\0\0\0\0\0\0\0\0\0\0\0\0\0\0\0\0\0\0\0\0\0\0\0\0\0");
 /// `id-aa`: 1.2.840.113549.1.9.16.2
-pub const ID_AA: ObjectIdentifier = ObjectIdentifier::new_unwrap("1.2.840.113549.1.9.16.2");
+pub const ID_AA: ObjectIdentifier = padded(*b"\x0A\x2A\x86\x48\x86\xF7\x0D\x01\x09\x10\x02\0\0\0\0\0\0\0\0\0\0\0\0\0\0\0\0\0\0\0\0\0\0\0\0\0\0\0\0\0");
 /// `id-alg`: 1.2.840.113549.1.9.16.3
-pub const ID_ALG: ObjectIdentifier = ObjectIdentifier::new_unwrap("1.2.840.113549.1.9.16.3");
+pub const ID_ALG: ObjectIdentifier = padded(*b"\x0A\x2A\x86\x48\x86\xF7\x0D\x01\x09\x10\x03\0\0\0\0\0\0\0\0\0\0\0\0\0\0\0\0\0\0\0\0\0\0\0\0\0\0\0\0\0");
 /// `id-cd`: 1.2.840.113549.1.9.16.4
-pub const ID_CD: ObjectIdentifier = ObjectIdentifier::new_unwrap("1.2.840.113549.1.9.16.4");
+pub const ID_CD: ObjectIdentifier = padded(*b"\x0A\x2A\x86\x48\x86\xF7\x0D\x01\x09\x10\x04\0\0\0\0\0\0\0\0\0\0\0\0\0\0\0\0\0\0\0\0\0\0\0\0\0\0\0\0\0");
 /// `id-spq`: 1.2.840.113549.1.9.16.5
-pub const ID_SPQ: ObjectIdentifier = ObjectIdentifier::new_unwrap("1.2.840.113549.1.9.16.5");
+pub const ID_SPQ: ObjectIdentifier = padded(*b"\x0A\x2A\x86\x48\x86\xF7\x0D\x01\x09\x10\x05\0\0\0\0\0\0\0\0\0\0\0\0\0\0\0\0\0\0\0\0\0\0\0\0\0\0\0\0\0");
 /// `id-cti`: 1.2.840.113549.1.9.16.6
-pub const ID_CTI: ObjectIdentifier = ObjectIdentifier::new_unwrap("1.2.840.113549.1.9.16.6");
+pub const ID_CTI: ObjectIdentifier = padded(*b"\x0A\x2A\x86\x48\x86\xF7\x0D\x01\x09\x10\x06\0\0\0\0\0\0\0\0\0\0\0\0\0\0\0\0\0\0\0\0\0\0\0\0\0\0\0\0\0");
 /// `id-tsp`: 1.2.840.113549.1.9.16.7
-pub const ID_TSP: ObjectIdentifier = ObjectIdentifier::new_unwrap("1.2.840.113549.1.9.16.7");
+pub const ID_TSP: ObjectIdentifier = padded(*b"\x0A\x2A\x86\x48\x86\xF7\x0D\x01\x09\x10\x07\0\0\0\0\0\0\0\0\0\0\0\0\0\0\0\0\0\0\0\0\0\0\0\0\0\0\0\0\0");
 /// `id-skd`: 1.2.840.113549.1.9.16.8
-pub const ID_SKD: ObjectIdentifier = ObjectIdentifier::new_unwrap("1.2.840.113549.1.9.16.8");
+pub const ID_SKD: ObjectIdentifier = padded(*b"\x0A\x2A\x86\x48\x86\xF7\x0D\x01\x09\x10\x08\0\0\0\0\0\0\0\0\0\0\0\0\0\0\0\0\0\0\0\0\0\0\0\0\0\0\0\0\0");
 /// `id-sti`: 1.2.840.113549.1.9.16.9
-pub const ID_STI: ObjectIdentifier = ObjectIdentifier::new_unwrap("1.2.840.113549.1.9.16.9");
+pub const ID_STI: ObjectIdentifier = padded(*b"\x0A\x2A\x86\x48\x86\xF7\x0D\x01\x09\x10\x09\0\0\0\0\0\0\0\0\0\0\0\0\0\0\0\0\0\0\0\0\0\0\0\0\0\0\0\0\0");
 }
 
 /// Identifiers of [RFC 7292](https://www.rfc-editor.org/rfc/rfc7292).
@@ -3246,30 +3298,31 @@ pub const ID_STI: ObjectIdentifier = ObjectIdentifier::new_unwrap("1.2.840.11354
 /// assert_eq!(const_oid::db::rfc7292::RSADSI.to_string(), "1.2.840.113549");
 /// ```
 pub mod rfc7292 {
+use super::padded;
 use crate::ObjectIdentifier;
 
 /// `rsadsi`: 1.2.840.113549
-pub const RSADSI: ObjectIdentifier = ObjectIdentifier::new_unwrap("1.2.840.113549");
+pub const RSADSI: ObjectIdentifier = padded(*b"\x06\x2A\x86\x48\x86\xF7\x0D\0\0\0\0\0\0\0\0\0\0\0\0\0\0\0\0\0\0\0\0\0\0\0\0\0\0\0\0\0\0\0\0\0");
 /// `pkcs`: 1.2.840.113549.1
-pub const PKCS: ObjectIdentifier = ObjectIdentifier::new_unwrap("1.2.840.113549.1");
+pub const PKCS: ObjectIdentifier = padded(*b"\x07\x2A\x86\x48\x86\xF7\x0D\x01\0\0\0\0\0\0\0\0\0\0\0\0\0\0\0\0\0\0\0\0\0\0\0\0\0\0\0\0\0\0\0\0");
 /// `pkcs-12`: 1.2.840.113549.1.12
-pub const PKCS_12: ObjectIdentifier = ObjectIdentifier::new_unwrap("1.2.840.113549.1.12");
+pub const PKCS_12: ObjectIdentifier = padded(*b"\x08\x2A\x86\x48\x86\xF7\x0D\x01\x0C\0\0\0\0\0\0\0\0\0\0\0\0\0\0\0\0\0\0\0\0\0\0\0\0\0\0\0\0\0\0\0");
 /// `pkcs-12PbeIds`: 1.2.840.113549.1.12.1
-pub const PKCS_12_PBE_IDS: ObjectIdentifier = ObjectIdentifier::new_unwrap("1.2.840.113549.1.12.1");
+pub const PKCS_12_PBE_IDS: ObjectIdentifier = padded(*b"\x09\x2A\x86\x48\x86\xF7\x0D\x01\x0C\x01\0\0\0\0\0\0\0\0\0\0\0\0\0\0\0\0\0\0\0\0\0\0\0\0\0\0\0\0\0\0");
 /// `pbeWithSHAAnd128BitRC4`: 1.2.840.113549.1.12.1.1
-pub const PBE_WITH_SHA_AND_128_BIT_RC_4: ObjectIdentifier = ObjectIdentifier::new_unwrap("1.2.840.113549.1.12.1.1");
+pub const PBE_WITH_SHA_AND_128_BIT_RC_4: ObjectIdentifier = padded(*b"\x0A\x2A\x86\x48\x86\xF7\x0D\x01\x0C\x01\x01\0\0\0\0\0\0\0\0\0\0\0\0\0\0\0\0\0\0\0\0\0\0\0\0\0\0\0\0\0");
 /// `pbeWithSHAAnd40BitRC4`: 1.2.840.113549.1.12.1.2
-pub const PBE_WITH_SHA_AND_40_BIT_RC_4: ObjectIdentifier = ObjectIdentifier::new_unwrap("1.2.840.113549.1.12.1.2");
+pub const PBE_WITH_SHA_AND_40_BIT_RC_4: ObjectIdentifier = padded(*b"\x0A\x2A\x86\x48\x86\xF7\x0D\x01\x0C\x01\x02\0\0\0\0\0\0\0\0\0\0\0\0\0\0\0\0\0\0\0\0\0\0\0\0\0\0\0\0\0");
 /// `pbeWithSHAAnd3-KeyTripleDES-CBC`: 1.2.840.113549.1.12.1.3
-pub const PBE_WITH_SHA_AND_3_KEY_TRIPLE_DES_CBC: ObjectIdentifier = ObjectIdentifier::new_unwrap("1.2.840.113549.1.12.1.3");
+pub const PBE_WITH_SHA_AND_3_KEY_TRIPLE_DES_CBC: ObjectIdentifier = padded(*b"\x0A\x2A\x86\x48\x86\xF7\x0D\x01\x0C\x01\x03\0\0\0\0\0\0\0\0\0\0\0\0\0\0\0\0\0\0\0\0\0\0\0\0\0\0\0\0\0");
 /// `pbeWithSHAAnd2-KeyTripleDES-CBC`: 1.2.840.113549.1.12.1.4
-pub const PBE_WITH_SHA_AND_2_KEY_TRIPLE_DES_CBC: ObjectIdentifier = ObjectIdentifier::new_unwrap("1.2.840.113549.1.12.1.4");
+pub const PBE_WITH_SHA_AND_2_KEY_TRIPLE_DES_CBC: ObjectIdentifier = padded(*b"\x0A\x2A\x86\x48\x86\xF7\x0D\x01\x0C\x01\x04\0\0\0\0\0\0\0\0\0\0\0\0\0\0\0\0\0\0\0\0\0\0\0\0\0\0\0\0\0");
 /// `pbeWithSHAAnd128BitRC2-CBC`: 1.2.840.113549.1.12.1.5
-pub const PBE_WITH_SHA_AND_128_BIT_RC_2_CBC: ObjectIdentifier = ObjectIdentifier::new_unwrap("1.2.840.113549.1.12.1.5");
+pub const PBE_WITH_SHA_AND_128_BIT_RC_2_CBC: ObjectIdentifier = padded(*b"\x0A\x2A\x86\x48\x86\xF7\x0D\x01\x0C\x01\x05\0\0\0\0\0\0\0\0\0\0\0\0\0\0\0\0\0\0\0\0\0\0\0\0\0\0\0\0\0");
 /// `pbewithSHAAnd40BitRC2-CBC`: 1.2.840.113549.1.12.1.6
-pub const PBEWITH_SHA_AND_40_BIT_RC_2_CBC: ObjectIdentifier = ObjectIdentifier::new_unwrap("1.2.840.113549.1.12.1.6");
+pub const PBEWITH_SHA_AND_40_BIT_RC_2_CBC: ObjectIdentifier = padded(*b"\x0A\x2A\x86\x48\x86\xF7\x0D\x01\x0C\x01\x06\0\0\0\0\0\0\0\0\0\0\0\0\0\0\0\0\0\0\0\0\0\0\0\0\0\0\0\0\0");
 /// `bagtypes`: 1.2.840.113549.1.12.10.1
-pub const BAGTYPES: ObjectIdentifier = ObjectIdentifier::new_unwrap("1.2.840.113549.1.12.10.1");
+pub const BAGTYPES: ObjectIdentifier = padded(*b"\x0A\x2A\x86\x48\x86\xF7\x0D\x01\x0C\x0A\x01\0\0\0\0\0\0\0\0\0\0\0\0\0\0\0\0\0\0\0\0\0\0\0\0\0\0\0\0\0");
 }
 
 /// Identifiers of [RFC 7299](https://www.rfc-editor.org/rfc/rfc7299).
@@ -3280,74 +3333,75 @@ pub const BAGTYPES: ObjectIdentifier = ObjectIdentifier::new_unwrap("1.2.840.113
 /// assert_eq!(const_oid::db::rfc7299::ID_PKIX.to_string(), "1.3.6.1.5.5.7");
 /// ```
 pub mod rfc7299 {
+use super::padded;
 use crate::ObjectIdentifier;
 
 /// `id-pkix`: 1.3.6.1.5.5.7
-pub const ID_PKIX: ObjectIdentifier = ObjectIdentifier::new_unwrap("1.3.6.1.5.5.7");
+pub const ID_PKIX: ObjectIdentifier = padded(*b"\x06\x2B\x06\x01\x05\x05\x07\0\0\0\0\0\0\0\0\0\0\0\0\0\0\0\0\0\0\0\0\0\0\0\0\0\0\0\0\0\0\0\0\0");
 /// `id-mod`: 1.3.6.1.5.5.7.0
-pub const ID_MOD: ObjectIdentifier = ObjectIdentifier::new_unwrap("1.3.6.1.5.5.7.0");
+pub const ID_MOD: ObjectIdentifier = padded(*b"\x07\x2B\x06\x01\x05\x05\x07\x00\0\0\0\0\0\0\0\0\0\0\0\0\0\0\0\0\0\0\0\0\0\0\0\0\0\0\0\0\0\0\0\0");
 /// `id-pe`: 1.3.6.1.5.5.7.1
-pub const ID_PE: ObjectIdentifier = ObjectIdentifier::new_unwrap("1.3.6.1.5.5.7.1");
+pub const ID_PE: ObjectIdentifier = padded(*b"\x07\x2B\x06\x01\x05\x05\x07\x01\0\0\0\0\0\0\0\0\0\0\0\0\0\0\0\0\0\0\0\0\0\0\0\0\0\0\0\0\0\0\0\0");
 /// `id-aca`: 1.3.6.1.5.5.7.10
-pub const ID_ACA: ObjectIdentifier = ObjectIdentifier::new_unwrap("1.3.6.1.5.5.7.10");
+pub const ID_ACA: ObjectIdentifier = padded(*b"\x07\x2B\x06\x01\x05\x05\x07\x0A\0\0\0\0\0\0\0\0\0\0\0\0\0\0\0\0\0\0\0\0\0\0\0\0\0\0\0\0\0\0\0\0");
 /// `id-qcs`: 1.3.6.1.5.5.7.11
-pub const ID_QCS: ObjectIdentifier = ObjectIdentifier::new_unwrap("1.3.6.1.5.5.7.11");
+pub const ID_QCS: ObjectIdentifier = padded(*b"\x07\x2B\x06\x01\x05\x05\x07\x0B\0\0\0\0\0\0\0\0\0\0\0\0\0\0\0\0\0\0\0\0\0\0\0\0\0\0\0\0\0\0\0\0");
 /// `id-cct`: 1.3.6.1.5.5.7.12
-pub const ID_CCT: ObjectIdentifier = ObjectIdentifier::new_unwrap("1.3.6.1.5.5.7.12");
+pub const ID_CCT: ObjectIdentifier = padded(*b"\x07\x2B\x06\x01\x05\x05\x07\x0C\0\0\0\0\0\0\0\0\0\0\0\0\0\0\0\0\0\0\0\0\0\0\0\0\0\0\0\0\0\0\0\0");
 /// `id-TEST`: 1.3.6.1.5.5.7.13
-pub const ID_TEST: ObjectIdentifier = ObjectIdentifier::new_unwrap("1.3.6.1.5.5.7.13");
+pub const ID_TEST: ObjectIdentifier = padded(*b"\x07\x2B\x06\x01\x05\x05\x07\x0D\0\0\0\0\0\0\0\0\0\0\0\0\0\0\0\0\0\0\0\0\0\0\0\0\0\0\0\0\0\0\0\0");
 /// `id-cp`: 1.3.6.1.5.5.7.14
-pub const ID_CP: ObjectIdentifier = ObjectIdentifier::new_unwrap("1.3.6.1.5.5.7.14");
+pub const ID_CP: ObjectIdentifier = padded(*b"\x07\x2B\x06\x01\x05\x05\x07\x0E\0\0\0\0\0\0\0\0\0\0\0\0\0\0\0\0\0\0\0\0\0\0\0\0\0\0\0\0\0\0\0\0");
 /// `id-cet`: 1.3.6.1.5.5.7.15
-pub const ID_CET: ObjectIdentifier = ObjectIdentifier::new_unwrap("1.3.6.1.5.5.7.15");
+pub const ID_CET: ObjectIdentifier = padded(*b"\x07\x2B\x06\x01\x05\x05\x07\x0F\0\0\0\0\0\0\0\0\0\0\0\0\0\0\0\0\0\0\0\0\0\0\0\0\0\0\0\0\0\0\0\0");
 /// `id-ri`: 1.3.6.1.5.5.7.16
-pub const ID_RI: ObjectIdentifier = ObjectIdentifier::new_unwrap("1.3.6.1.5.5.7.16");
+pub const ID_RI: ObjectIdentifier = padded(*b"\x07\x2B\x06\x01\x05\x05\x07\x10\0\0\0\0\0\0\0\0\0\0\0\0\0\0\0\0\0\0\0\0\0\0\0\0\0\0\0\0\0\0\0\0");
 /// `id-sct`: 1.3.6.1.5.5.7.17
-pub const ID_SCT: ObjectIdentifier = ObjectIdentifier::new_unwrap("1.3.6.1.5.5.7.17");
+pub const ID_SCT: ObjectIdentifier = padded(*b"\x07\x2B\x06\x01\x05\x05\x07\x11\0\0\0\0\0\0\0\0\0\0\0\0\0\0\0\0\0\0\0\0\0\0\0\0\0\0\0\0\0\0\0\0");
 /// `id-swb`: 1.3.6.1.5.5.7.18
-pub const ID_SWB: ObjectIdentifier = ObjectIdentifier::new_unwrap("1.3.6.1.5.5.7.18");
+pub const ID_SWB: ObjectIdentifier = padded(*b"\x07\x2B\x06\x01\x05\x05\x07\x12\0\0\0\0\0\0\0\0\0\0\0\0\0\0\0\0\0\0\0\0\0\0\0\0\0\0\0\0\0\0\0\0");
 /// `id-svp`: 1.3.6.1.5.5.7.19
-pub const ID_SVP: ObjectIdentifier = ObjectIdentifier::new_unwrap("1.3.6.1.5.5.7.19");
+pub const ID_SVP: ObjectIdentifier = padded(*b"\x07\x2B\x06\x01\x05\x05\x07\x13\0\0\0\0\0\0\0\0\0\0\0\0\0\0\0\0\0\0\0\0\0\0\0\0\0\0\0\0\0\0\0\0");
 /// `id-nvae`: 1.3.6.1.5.5.7.19.2
-pub const ID_NVAE: ObjectIdentifier = ObjectIdentifier::new_unwrap("1.3.6.1.5.5.7.19.2");
+pub const ID_NVAE: ObjectIdentifier = padded(*b"\x08\x2B\x06\x01\x05\x05\x07\x13\x02\0\0\0\0\0\0\0\0\0\0\0\0\0\0\0\0\0\0\0\0\0\0\0\0\0\0\0\0\0\0\0");
 /// `id-bvae`: 1.3.6.1.5.5.7.19.3
-pub const ID_BVAE: ObjectIdentifier = ObjectIdentifier::new_unwrap("1.3.6.1.5.5.7.19.3");
+pub const ID_BVAE: ObjectIdentifier = padded(*b"\x08\x2B\x06\x01\x05\x05\x07\x13\x03\0\0\0\0\0\0\0\0\0\0\0\0\0\0\0\0\0\0\0\0\0\0\0\0\0\0\0\0\0\0\0");
 /// `id-dnvae`: 1.3.6.1.5.5.7.19.4
-pub const ID_DNVAE: ObjectIdentifier = ObjectIdentifier::new_unwrap("1.3.6.1.5.5.7.19.4");
+pub const ID_DNVAE: ObjectIdentifier = padded(*b"\x08\x2B\x06\x01\x05\x05\x07\x13\x04\0\0\0\0\0\0\0\0\0\0\0\0\0\0\0\0\0\0\0\0\0\0\0\0\0\0\0\0\0\0\0");
 /// `id-qt`: 1.3.6.1.5.5.7.2
-pub const ID_QT: ObjectIdentifier = ObjectIdentifier::new_unwrap("1.3.6.1.5.5.7.2");
+pub const ID_QT: ObjectIdentifier = padded(*b"\x07\x2B\x06\x01\x05\x05\x07\x02\0\0\0\0\0\0\0\0\0\0\0\0\0\0\0\0\0\0\0\0\0\0\0\0\0\0\0\0\0\0\0\0");
 /// `id-logo`: 1.3.6.1.5.5.7.20
-pub const ID_LOGO: ObjectIdentifier = ObjectIdentifier::new_unwrap("1.3.6.1.5.5.7.20");
+pub const ID_LOGO: ObjectIdentifier = padded(*b"\x07\x2B\x06\x01\x05\x05\x07\x14\0\0\0\0\0\0\0\0\0\0\0\0\0\0\0\0\0\0\0\0\0\0\0\0\0\0\0\0\0\0\0\0");
 /// `id-ppl`: 1.3.6.1.5.5.7.21
-pub const ID_PPL: ObjectIdentifier = ObjectIdentifier::new_unwrap("1.3.6.1.5.5.7.21");
+pub const ID_PPL: ObjectIdentifier = padded(*b"\x07\x2B\x06\x01\x05\x05\x07\x15\0\0\0\0\0\0\0\0\0\0\0\0\0\0\0\0\0\0\0\0\0\0\0\0\0\0\0\0\0\0\0\0");
 /// `id-mr`: 1.3.6.1.5.5.7.22
-pub const ID_MR: ObjectIdentifier = ObjectIdentifier::new_unwrap("1.3.6.1.5.5.7.22");
+pub const ID_MR: ObjectIdentifier = padded(*b"\x07\x2B\x06\x01\x05\x05\x07\x16\0\0\0\0\0\0\0\0\0\0\0\0\0\0\0\0\0\0\0\0\0\0\0\0\0\0\0\0\0\0\0\0");
 /// `id-skis`: 1.3.6.1.5.5.7.23
-pub const ID_SKIS: ObjectIdentifier = ObjectIdentifier::new_unwrap("1.3.6.1.5.5.7.23");
+pub const ID_SKIS: ObjectIdentifier = padded(*b"\x07\x2B\x06\x01\x05\x05\x07\x17\0\0\0\0\0\0\0\0\0\0\0\0\0\0\0\0\0\0\0\0\0\0\0\0\0\0\0\0\0\0\0\0");
 /// `id-kp`: 1.3.6.1.5.5.7.3
-pub const ID_KP: ObjectIdentifier = ObjectIdentifier::new_unwrap("1.3.6.1.5.5.7.3");
+pub const ID_KP: ObjectIdentifier = padded(*b"\x07\x2B\x06\x01\x05\x05\x07\x03\0\0\0\0\0\0\0\0\0\0\0\0\0\0\0\0\0\0\0\0\0\0\0\0\0\0\0\0\0\0\0\0");
 /// `id-it`: 1.3.6.1.5.5.7.4
-pub const ID_IT: ObjectIdentifier = ObjectIdentifier::new_unwrap("1.3.6.1.5.5.7.4");
+pub const ID_IT: ObjectIdentifier = padded(*b"\x07\x2B\x06\x01\x05\x05\x07\x04\0\0\0\0\0\0\0\0\0\0\0\0\0\0\0\0\0\0\0\0\0\0\0\0\0\0\0\0\0\0\0\0");
 /// `id-ad`: 1.3.6.1.5.5.7.48
-pub const ID_AD: ObjectIdentifier = ObjectIdentifier::new_unwrap("1.3.6.1.5.5.7.48");
+pub const ID_AD: ObjectIdentifier = padded(*b"\x07\x2B\x06\x01\x05\x05\x07\x30\0\0\0\0\0\0\0\0\0\0\0\0\0\0\0\0\0\0\0\0\0\0\0\0\0\0\0\0\0\0\0\0");
 /// `id-pkix-ocsp`: 1.3.6.1.5.5.7.48.1
-pub const ID_PKIX_OCSP: ObjectIdentifier = ObjectIdentifier::new_unwrap("1.3.6.1.5.5.7.48.1");
+pub const ID_PKIX_OCSP: ObjectIdentifier = padded(*b"\x08\x2B\x06\x01\x05\x05\x07\x30\x01\0\0\0\0\0\0\0\0\0\0\0\0\0\0\0\0\0\0\0\0\0\0\0\0\0\0\0\0\0\0\0");
 /// `id-pkip`: 1.3.6.1.5.5.7.5
-pub const ID_PKIP: ObjectIdentifier = ObjectIdentifier::new_unwrap("1.3.6.1.5.5.7.5");
+pub const ID_PKIP: ObjectIdentifier = padded(*b"\x07\x2B\x06\x01\x05\x05\x07\x05\0\0\0\0\0\0\0\0\0\0\0\0\0\0\0\0\0\0\0\0\0\0\0\0\0\0\0\0\0\0\0\0");
 /// `id-regCtrl`: 1.3.6.1.5.5.7.5.1
-pub const ID_REG_CTRL: ObjectIdentifier = ObjectIdentifier::new_unwrap("1.3.6.1.5.5.7.5.1");
+pub const ID_REG_CTRL: ObjectIdentifier = padded(*b"\x08\x2B\x06\x01\x05\x05\x07\x05\x01\0\0\0\0\0\0\0\0\0\0\0\0\0\0\0\0\0\0\0\0\0\0\0\0\0\0\0\0\0\0\0");
 /// `id-regInfo`: 1.3.6.1.5.5.7.5.2
-pub const ID_REG_INFO: ObjectIdentifier = ObjectIdentifier::new_unwrap("1.3.6.1.5.5.7.5.2");
+pub const ID_REG_INFO: ObjectIdentifier = padded(*b"\x08\x2B\x06\x01\x05\x05\x07\x05\x02\0\0\0\0\0\0\0\0\0\0\0\0\0\0\0\0\0\0\0\0\0\0\0\0\0\0\0\0\0\0\0");
 /// `id-alg`: 1.3.6.1.5.5.7.6
-pub const ID_ALG: ObjectIdentifier = ObjectIdentifier::new_unwrap("1.3.6.1.5.5.7.6");
+pub const ID_ALG: ObjectIdentifier = padded(*b"\x07\x2B\x06\x01\x05\x05\x07\x06\0\0\0\0\0\0\0\0\0\0\0\0\0\0\0\0\0\0\0\0\0\0\0\0\0\0\0\0\0\0\0\0");
 /// `id-cmc`: 1.3.6.1.5.5.7.7
-pub const ID_CMC: ObjectIdentifier = ObjectIdentifier::new_unwrap("1.3.6.1.5.5.7.7");
+pub const ID_CMC: ObjectIdentifier = padded(*b"\x07\x2B\x06\x01\x05\x05\x07\x07\0\0\0\0\0\0\0\0\0\0\0\0\0\0\0\0\0\0\0\0\0\0\0\0\0\0\0\0\0\0\0\0");
 /// `id-cmc-glaRR`: 1.3.6.1.5.5.7.7.99
-pub const ID_CMC_GLA_RR: ObjectIdentifier = ObjectIdentifier::new_unwrap("1.3.6.1.5.5.7.7.99");
+pub const ID_CMC_GLA_RR: ObjectIdentifier = padded(*b"\x08\x2B\x06\x01\x05\x05\x07\x07\x63\0\0\0\0\0\0\0\0\0\0\0\0\0\0\0\0\0\0\0\0\0\0\0\0\0\0\0\0\0\0\0");
 /// `id-on`: 1.3.6.1.5.5.7.8
-pub const ID_ON: ObjectIdentifier = ObjectIdentifier::new_unwrap("1.3.6.1.5.5.7.8");
+pub const ID_ON: ObjectIdentifier = padded(*b"\x07\x2B\x06\x01\x05\x05\x07\x08\0\0\0\0\0\0\0\0\0\0\0\0\0\0\0\0\0\0\0\0\0\0\0\0\0\0\0\0\0\0\0\0");
 /// `id-pda`: 1.3.6.1.5.5.7.9
-pub const ID_PDA: ObjectIdentifier = ObjectIdentifier::new_unwrap("1.3.6.1.5.5.7.9");
+pub const ID_PDA: ObjectIdentifier = padded(*b"\x07\x2B\x06\x01\x05\x05\x07\x09\0\0\0\0\0\0\0\0\0\0\0\0\0\0\0\0\0\0\0\0\0\0\0\0\0\0\0\0\0\0\0\0");
 }
 
 /// Identifiers of [RFC 7532](https://www.rfc-editor.org/rfc/rfc7532).
@@ -3358,88 +3412,89 @@ pub const ID_PDA: ObjectIdentifier = ObjectIdentifier::new_unwrap("1.3.6.1.5.5.7
 /// assert_eq!(const_oid::db::rfc7532::FEDFS_UUID.to_string(), "1.3.6.1.4.1.31103.1.1");
 /// ```
 pub mod rfc7532 {
+use super::padded;
 use crate::ObjectIdentifier;
 
 /// `fedfsUuid`: 1.3.6.1.4.1.31103.1.1
-pub const FEDFS_UUID: ObjectIdentifier = ObjectIdentifier::new_unwrap("1.3.6.1.4.1.31103.1.1");
+pub const FEDFS_UUID: ObjectIdentifier = padded(*b"\x0A\x2B\x06\x01\x04\x01\x81\xF2\x7F\x01\x01\0\0\0\0\0\0\0\0\0\0\0\0\0\0\0\0\0\0\0\0\0\0\0\0\0\0\0\0\0");
 /// `fedfsFslPort`: 1.3.6.1.4.1.31103.1.10
-pub const FEDFS_FSL_PORT: ObjectIdentifier = ObjectIdentifier::new_unwrap("1.3.6.1.4.1.31103.1.10");
+pub const FEDFS_FSL_PORT: ObjectIdentifier = padded(*b"\x0A\x2B\x06\x01\x04\x01\x81\xF2\x7F\x01\x0A\0\0\0\0\0\0\0\0\0\0\0\0\0\0\0\0\0\0\0\0\0\0\0\0\0\0\0\0\0");
 /// `fedfsNfsPath`: 1.3.6.1.4.1.31103.1.100
-pub const FEDFS_NFS_PATH: ObjectIdentifier = ObjectIdentifier::new_unwrap("1.3.6.1.4.1.31103.1.100");
+pub const FEDFS_NFS_PATH: ObjectIdentifier = padded(*b"\x0A\x2B\x06\x01\x04\x01\x81\xF2\x7F\x01\x64\0\0\0\0\0\0\0\0\0\0\0\0\0\0\0\0\0\0\0\0\0\0\0\0\0\0\0\0\0");
 /// `fedfsNsdbContainerInfo`: 1.3.6.1.4.1.31103.1.1001
-pub const FEDFS_NSDB_CONTAINER_INFO: ObjectIdentifier = ObjectIdentifier::new_unwrap("1.3.6.1.4.1.31103.1.1001");
+pub const FEDFS_NSDB_CONTAINER_INFO: ObjectIdentifier = padded(*b"\x0B\x2B\x06\x01\x04\x01\x81\xF2\x7F\x01\x87\x69\0\0\0\0\0\0\0\0\0\0\0\0\0\0\0\0\0\0\0\0\0\0\0\0\0\0\0\0");
 /// `fedfsFsn`: 1.3.6.1.4.1.31103.1.1002
-pub const FEDFS_FSN: ObjectIdentifier = ObjectIdentifier::new_unwrap("1.3.6.1.4.1.31103.1.1002");
+pub const FEDFS_FSN: ObjectIdentifier = padded(*b"\x0B\x2B\x06\x01\x04\x01\x81\xF2\x7F\x01\x87\x6A\0\0\0\0\0\0\0\0\0\0\0\0\0\0\0\0\0\0\0\0\0\0\0\0\0\0\0\0");
 /// `fedfsFsl`: 1.3.6.1.4.1.31103.1.1003
-pub const FEDFS_FSL: ObjectIdentifier = ObjectIdentifier::new_unwrap("1.3.6.1.4.1.31103.1.1003");
+pub const FEDFS_FSL: ObjectIdentifier = padded(*b"\x0B\x2B\x06\x01\x04\x01\x81\xF2\x7F\x01\x87\x6B\0\0\0\0\0\0\0\0\0\0\0\0\0\0\0\0\0\0\0\0\0\0\0\0\0\0\0\0");
 /// `fedfsNfsFsl`: 1.3.6.1.4.1.31103.1.1004
-pub const FEDFS_NFS_FSL: ObjectIdentifier = ObjectIdentifier::new_unwrap("1.3.6.1.4.1.31103.1.1004");
+pub const FEDFS_NFS_FSL: ObjectIdentifier = padded(*b"\x0B\x2B\x06\x01\x04\x01\x81\xF2\x7F\x01\x87\x6C\0\0\0\0\0\0\0\0\0\0\0\0\0\0\0\0\0\0\0\0\0\0\0\0\0\0\0\0");
 /// `fedfsNfsMajorVer`: 1.3.6.1.4.1.31103.1.101
-pub const FEDFS_NFS_MAJOR_VER: ObjectIdentifier = ObjectIdentifier::new_unwrap("1.3.6.1.4.1.31103.1.101");
+pub const FEDFS_NFS_MAJOR_VER: ObjectIdentifier = padded(*b"\x0A\x2B\x06\x01\x04\x01\x81\xF2\x7F\x01\x65\0\0\0\0\0\0\0\0\0\0\0\0\0\0\0\0\0\0\0\0\0\0\0\0\0\0\0\0\0");
 /// `fedfsNfsMinorVer`: 1.3.6.1.4.1.31103.1.102
-pub const FEDFS_NFS_MINOR_VER: ObjectIdentifier = ObjectIdentifier::new_unwrap("1.3.6.1.4.1.31103.1.102");
+pub const FEDFS_NFS_MINOR_VER: ObjectIdentifier = padded(*b"\x0A\x2B\x06\x01\x04\x01\x81\xF2\x7F\x01\x66\0\0\0\0\0\0\0\0\0\0\0\0\0\0\0\0\0\0\0\0\0\0\0\0\0\0\0\0\0");
 /// `fedfsNfsCurrency`: 1.3.6.1.4.1.31103.1.103
-pub const FEDFS_NFS_CURRENCY: ObjectIdentifier = ObjectIdentifier::new_unwrap("1.3.6.1.4.1.31103.1.103");
+pub const FEDFS_NFS_CURRENCY: ObjectIdentifier = padded(*b"\x0A\x2B\x06\x01\x04\x01\x81\xF2\x7F\x01\x67\0\0\0\0\0\0\0\0\0\0\0\0\0\0\0\0\0\0\0\0\0\0\0\0\0\0\0\0\0");
 /// `fedfsNfsGenFlagWritable`: 1.3.6.1.4.1.31103.1.104
-pub const FEDFS_NFS_GEN_FLAG_WRITABLE: ObjectIdentifier = ObjectIdentifier::new_unwrap("1.3.6.1.4.1.31103.1.104");
+pub const FEDFS_NFS_GEN_FLAG_WRITABLE: ObjectIdentifier = padded(*b"\x0A\x2B\x06\x01\x04\x01\x81\xF2\x7F\x01\x68\0\0\0\0\0\0\0\0\0\0\0\0\0\0\0\0\0\0\0\0\0\0\0\0\0\0\0\0\0");
 /// `fedfsNfsGenFlagGoing`: 1.3.6.1.4.1.31103.1.105
-pub const FEDFS_NFS_GEN_FLAG_GOING: ObjectIdentifier = ObjectIdentifier::new_unwrap("1.3.6.1.4.1.31103.1.105");
+pub const FEDFS_NFS_GEN_FLAG_GOING: ObjectIdentifier = padded(*b"\x0A\x2B\x06\x01\x04\x01\x81\xF2\x7F\x01\x69\0\0\0\0\0\0\0\0\0\0\0\0\0\0\0\0\0\0\0\0\0\0\0\0\0\0\0\0\0");
 /// `fedfsNfsGenFlagSplit`: 1.3.6.1.4.1.31103.1.106
-pub const FEDFS_NFS_GEN_FLAG_SPLIT: ObjectIdentifier = ObjectIdentifier::new_unwrap("1.3.6.1.4.1.31103.1.106");
+pub const FEDFS_NFS_GEN_FLAG_SPLIT: ObjectIdentifier = padded(*b"\x0A\x2B\x06\x01\x04\x01\x81\xF2\x7F\x01\x6A\0\0\0\0\0\0\0\0\0\0\0\0\0\0\0\0\0\0\0\0\0\0\0\0\0\0\0\0\0");
 /// `fedfsNfsTransFlagRdma`: 1.3.6.1.4.1.31103.1.107
-pub const FEDFS_NFS_TRANS_FLAG_RDMA: ObjectIdentifier = ObjectIdentifier::new_unwrap("1.3.6.1.4.1.31103.1.107");
+pub const FEDFS_NFS_TRANS_FLAG_RDMA: ObjectIdentifier = padded(*b"\x0A\x2B\x06\x01\x04\x01\x81\xF2\x7F\x01\x6B\0\0\0\0\0\0\0\0\0\0\0\0\0\0\0\0\0\0\0\0\0\0\0\0\0\0\0\0\0");
 /// `fedfsNfsClassSimul`: 1.3.6.1.4.1.31103.1.108
-pub const FEDFS_NFS_CLASS_SIMUL: ObjectIdentifier = ObjectIdentifier::new_unwrap("1.3.6.1.4.1.31103.1.108");
+pub const FEDFS_NFS_CLASS_SIMUL: ObjectIdentifier = padded(*b"\x0A\x2B\x06\x01\x04\x01\x81\xF2\x7F\x01\x6C\0\0\0\0\0\0\0\0\0\0\0\0\0\0\0\0\0\0\0\0\0\0\0\0\0\0\0\0\0");
 /// `fedfsNfsClassHandle`: 1.3.6.1.4.1.31103.1.109
-pub const FEDFS_NFS_CLASS_HANDLE: ObjectIdentifier = ObjectIdentifier::new_unwrap("1.3.6.1.4.1.31103.1.109");
+pub const FEDFS_NFS_CLASS_HANDLE: ObjectIdentifier = padded(*b"\x0A\x2B\x06\x01\x04\x01\x81\xF2\x7F\x01\x6D\0\0\0\0\0\0\0\0\0\0\0\0\0\0\0\0\0\0\0\0\0\0\0\0\0\0\0\0\0");
 /// `fedfsFslTTL`: 1.3.6.1.4.1.31103.1.11
-pub const FEDFS_FSL_TTL: ObjectIdentifier = ObjectIdentifier::new_unwrap("1.3.6.1.4.1.31103.1.11");
+pub const FEDFS_FSL_TTL: ObjectIdentifier = padded(*b"\x0A\x2B\x06\x01\x04\x01\x81\xF2\x7F\x01\x0B\0\0\0\0\0\0\0\0\0\0\0\0\0\0\0\0\0\0\0\0\0\0\0\0\0\0\0\0\0");
 /// `fedfsNfsClassFileid`: 1.3.6.1.4.1.31103.1.110
-pub const FEDFS_NFS_CLASS_FILEID: ObjectIdentifier = ObjectIdentifier::new_unwrap("1.3.6.1.4.1.31103.1.110");
+pub const FEDFS_NFS_CLASS_FILEID: ObjectIdentifier = padded(*b"\x0A\x2B\x06\x01\x04\x01\x81\xF2\x7F\x01\x6E\0\0\0\0\0\0\0\0\0\0\0\0\0\0\0\0\0\0\0\0\0\0\0\0\0\0\0\0\0");
 /// `fedfsNfsClassWritever`: 1.3.6.1.4.1.31103.1.111
-pub const FEDFS_NFS_CLASS_WRITEVER: ObjectIdentifier = ObjectIdentifier::new_unwrap("1.3.6.1.4.1.31103.1.111");
+pub const FEDFS_NFS_CLASS_WRITEVER: ObjectIdentifier = padded(*b"\x0A\x2B\x06\x01\x04\x01\x81\xF2\x7F\x01\x6F\0\0\0\0\0\0\0\0\0\0\0\0\0\0\0\0\0\0\0\0\0\0\0\0\0\0\0\0\0");
 /// `fedfsNfsClassChange`: 1.3.6.1.4.1.31103.1.112
-pub const FEDFS_NFS_CLASS_CHANGE: ObjectIdentifier = ObjectIdentifier::new_unwrap("1.3.6.1.4.1.31103.1.112");
+pub const FEDFS_NFS_CLASS_CHANGE: ObjectIdentifier = padded(*b"\x0A\x2B\x06\x01\x04\x01\x81\xF2\x7F\x01\x70\0\0\0\0\0\0\0\0\0\0\0\0\0\0\0\0\0\0\0\0\0\0\0\0\0\0\0\0\0");
 /// `fedfsNfsClassReaddir`: 1.3.6.1.4.1.31103.1.113
-pub const FEDFS_NFS_CLASS_READDIR: ObjectIdentifier = ObjectIdentifier::new_unwrap("1.3.6.1.4.1.31103.1.113");
+pub const FEDFS_NFS_CLASS_READDIR: ObjectIdentifier = padded(*b"\x0A\x2B\x06\x01\x04\x01\x81\xF2\x7F\x01\x71\0\0\0\0\0\0\0\0\0\0\0\0\0\0\0\0\0\0\0\0\0\0\0\0\0\0\0\0\0");
 /// `fedfsNfsReadRank`: 1.3.6.1.4.1.31103.1.114
-pub const FEDFS_NFS_READ_RANK: ObjectIdentifier = ObjectIdentifier::new_unwrap("1.3.6.1.4.1.31103.1.114");
+pub const FEDFS_NFS_READ_RANK: ObjectIdentifier = padded(*b"\x0A\x2B\x06\x01\x04\x01\x81\xF2\x7F\x01\x72\0\0\0\0\0\0\0\0\0\0\0\0\0\0\0\0\0\0\0\0\0\0\0\0\0\0\0\0\0");
 /// `fedfsNfsReadOrder`: 1.3.6.1.4.1.31103.1.115
-pub const FEDFS_NFS_READ_ORDER: ObjectIdentifier = ObjectIdentifier::new_unwrap("1.3.6.1.4.1.31103.1.115");
+pub const FEDFS_NFS_READ_ORDER: ObjectIdentifier = padded(*b"\x0A\x2B\x06\x01\x04\x01\x81\xF2\x7F\x01\x73\0\0\0\0\0\0\0\0\0\0\0\0\0\0\0\0\0\0\0\0\0\0\0\0\0\0\0\0\0");
 /// `fedfsNfsWriteRank`: 1.3.6.1.4.1.31103.1.116
-pub const FEDFS_NFS_WRITE_RANK: ObjectIdentifier = ObjectIdentifier::new_unwrap("1.3.6.1.4.1.31103.1.116");
+pub const FEDFS_NFS_WRITE_RANK: ObjectIdentifier = padded(*b"\x0A\x2B\x06\x01\x04\x01\x81\xF2\x7F\x01\x74\0\0\0\0\0\0\0\0\0\0\0\0\0\0\0\0\0\0\0\0\0\0\0\0\0\0\0\0\0");
 /// `fedfsNfsWriteOrder`: 1.3.6.1.4.1.31103.1.117
-pub const FEDFS_NFS_WRITE_ORDER: ObjectIdentifier = ObjectIdentifier::new_unwrap("1.3.6.1.4.1.31103.1.117");
+pub const FEDFS_NFS_WRITE_ORDER: ObjectIdentifier = padded(*b"\x0A\x2B\x06\x01\x04\x01\x81\xF2\x7F\x01\x75\0\0\0\0\0\0\0\0\0\0\0\0\0\0\0\0\0\0\0\0\0\0\0\0\0\0\0\0\0");
 /// `fedfsNfsVarSub`: 1.3.6.1.4.1.31103.1.118
-pub const FEDFS_NFS_VAR_SUB: ObjectIdentifier = ObjectIdentifier::new_unwrap("1.3.6.1.4.1.31103.1.118");
+pub const FEDFS_NFS_VAR_SUB: ObjectIdentifier = padded(*b"\x0A\x2B\x06\x01\x04\x01\x81\xF2\x7F\x01\x76\0\0\0\0\0\0\0\0\0\0\0\0\0\0\0\0\0\0\0\0\0\0\0\0\0\0\0\0\0");
 /// `fedfsNfsValidFor`: 1.3.6.1.4.1.31103.1.119
-pub const FEDFS_NFS_VALID_FOR: ObjectIdentifier = ObjectIdentifier::new_unwrap("1.3.6.1.4.1.31103.1.119");
+pub const FEDFS_NFS_VALID_FOR: ObjectIdentifier = padded(*b"\x0A\x2B\x06\x01\x04\x01\x81\xF2\x7F\x01\x77\0\0\0\0\0\0\0\0\0\0\0\0\0\0\0\0\0\0\0\0\0\0\0\0\0\0\0\0\0");
 /// `fedfsAnnotation`: 1.3.6.1.4.1.31103.1.12
-pub const FEDFS_ANNOTATION: ObjectIdentifier = ObjectIdentifier::new_unwrap("1.3.6.1.4.1.31103.1.12");
+pub const FEDFS_ANNOTATION: ObjectIdentifier = padded(*b"\x0A\x2B\x06\x01\x04\x01\x81\xF2\x7F\x01\x0C\0\0\0\0\0\0\0\0\0\0\0\0\0\0\0\0\0\0\0\0\0\0\0\0\0\0\0\0\0");
 /// `fedfsNfsURI`: 1.3.6.1.4.1.31103.1.120
-pub const FEDFS_NFS_URI: ObjectIdentifier = ObjectIdentifier::new_unwrap("1.3.6.1.4.1.31103.1.120");
+pub const FEDFS_NFS_URI: ObjectIdentifier = padded(*b"\x0A\x2B\x06\x01\x04\x01\x81\xF2\x7F\x01\x78\0\0\0\0\0\0\0\0\0\0\0\0\0\0\0\0\0\0\0\0\0\0\0\0\0\0\0\0\0");
 /// `fedfsDescr`: 1.3.6.1.4.1.31103.1.13
-pub const FEDFS_DESCR: ObjectIdentifier = ObjectIdentifier::new_unwrap("1.3.6.1.4.1.31103.1.13");
+pub const FEDFS_DESCR: ObjectIdentifier = padded(*b"\x0A\x2B\x06\x01\x04\x01\x81\xF2\x7F\x01\x0D\0\0\0\0\0\0\0\0\0\0\0\0\0\0\0\0\0\0\0\0\0\0\0\0\0\0\0\0\0");
 /// `fedfsNceDN`: 1.3.6.1.4.1.31103.1.14
-pub const FEDFS_NCE_DN: ObjectIdentifier = ObjectIdentifier::new_unwrap("1.3.6.1.4.1.31103.1.14");
+pub const FEDFS_NCE_DN: ObjectIdentifier = padded(*b"\x0A\x2B\x06\x01\x04\x01\x81\xF2\x7F\x01\x0E\0\0\0\0\0\0\0\0\0\0\0\0\0\0\0\0\0\0\0\0\0\0\0\0\0\0\0\0\0");
 /// `fedfsFsnTTL`: 1.3.6.1.4.1.31103.1.15
-pub const FEDFS_FSN_TTL: ObjectIdentifier = ObjectIdentifier::new_unwrap("1.3.6.1.4.1.31103.1.15");
+pub const FEDFS_FSN_TTL: ObjectIdentifier = padded(*b"\x0A\x2B\x06\x01\x04\x01\x81\xF2\x7F\x01\x0F\0\0\0\0\0\0\0\0\0\0\0\0\0\0\0\0\0\0\0\0\0\0\0\0\0\0\0\0\0");
 /// `fedfsNetAddr`: 1.3.6.1.4.1.31103.1.2
-pub const FEDFS_NET_ADDR: ObjectIdentifier = ObjectIdentifier::new_unwrap("1.3.6.1.4.1.31103.1.2");
+pub const FEDFS_NET_ADDR: ObjectIdentifier = padded(*b"\x0A\x2B\x06\x01\x04\x01\x81\xF2\x7F\x01\x02\0\0\0\0\0\0\0\0\0\0\0\0\0\0\0\0\0\0\0\0\0\0\0\0\0\0\0\0\0");
 /// `fedfsNetPort`: 1.3.6.1.4.1.31103.1.3
-pub const FEDFS_NET_PORT: ObjectIdentifier = ObjectIdentifier::new_unwrap("1.3.6.1.4.1.31103.1.3");
+pub const FEDFS_NET_PORT: ObjectIdentifier = padded(*b"\x0A\x2B\x06\x01\x04\x01\x81\xF2\x7F\x01\x03\0\0\0\0\0\0\0\0\0\0\0\0\0\0\0\0\0\0\0\0\0\0\0\0\0\0\0\0\0");
 /// `fedfsFsnUuid`: 1.3.6.1.4.1.31103.1.4
-pub const FEDFS_FSN_UUID: ObjectIdentifier = ObjectIdentifier::new_unwrap("1.3.6.1.4.1.31103.1.4");
+pub const FEDFS_FSN_UUID: ObjectIdentifier = padded(*b"\x0A\x2B\x06\x01\x04\x01\x81\xF2\x7F\x01\x04\0\0\0\0\0\0\0\0\0\0\0\0\0\0\0\0\0\0\0\0\0\0\0\0\0\0\0\0\0");
 /// `fedfsNsdbName`: 1.3.6.1.4.1.31103.1.5
-pub const FEDFS_NSDB_NAME: ObjectIdentifier = ObjectIdentifier::new_unwrap("1.3.6.1.4.1.31103.1.5");
+pub const FEDFS_NSDB_NAME: ObjectIdentifier = padded(*b"\x0A\x2B\x06\x01\x04\x01\x81\xF2\x7F\x01\x05\0\0\0\0\0\0\0\0\0\0\0\0\0\0\0\0\0\0\0\0\0\0\0\0\0\0\0\0\0");
 /// `fedfsNsdbPort`: 1.3.6.1.4.1.31103.1.6
-pub const FEDFS_NSDB_PORT: ObjectIdentifier = ObjectIdentifier::new_unwrap("1.3.6.1.4.1.31103.1.6");
+pub const FEDFS_NSDB_PORT: ObjectIdentifier = padded(*b"\x0A\x2B\x06\x01\x04\x01\x81\xF2\x7F\x01\x06\0\0\0\0\0\0\0\0\0\0\0\0\0\0\0\0\0\0\0\0\0\0\0\0\0\0\0\0\0");
 /// `fedfsNcePrefix`: 1.3.6.1.4.1.31103.1.7
-pub const FEDFS_NCE_PREFIX: ObjectIdentifier = ObjectIdentifier::new_unwrap("1.3.6.1.4.1.31103.1.7");
+pub const FEDFS_NCE_PREFIX: ObjectIdentifier = padded(*b"\x0A\x2B\x06\x01\x04\x01\x81\xF2\x7F\x01\x07\0\0\0\0\0\0\0\0\0\0\0\0\0\0\0\0\0\0\0\0\0\0\0\0\0\0\0\0\0");
 /// `fedfsFslUuid`: 1.3.6.1.4.1.31103.1.8
-pub const FEDFS_FSL_UUID: ObjectIdentifier = ObjectIdentifier::new_unwrap("1.3.6.1.4.1.31103.1.8");
+pub const FEDFS_FSL_UUID: ObjectIdentifier = padded(*b"\x0A\x2B\x06\x01\x04\x01\x81\xF2\x7F\x01\x08\0\0\0\0\0\0\0\0\0\0\0\0\0\0\0\0\0\0\0\0\0\0\0\0\0\0\0\0\0");
 /// `fedfsFslHost`: 1.3.6.1.4.1.31103.1.9
-pub const FEDFS_FSL_HOST: ObjectIdentifier = ObjectIdentifier::new_unwrap("1.3.6.1.4.1.31103.1.9");
+pub const FEDFS_FSL_HOST: ObjectIdentifier = padded(*b"\x0A\x2B\x06\x01\x04\x01\x81\xF2\x7F\x01\x09\0\0\0\0\0\0\0\0\0\0\0\0\0\0\0\0\0\0\0\0\0\0\0\0\0\0\0\0\0");
 }
 
 /// Identifiers of [RFC 7612](https://www.rfc-editor.org/rfc/rfc7612).
@@ -3450,22 +3505,23 @@ pub const FEDFS_FSL_HOST: ObjectIdentifier = ObjectIdentifier::new_unwrap("1.3.6
 /// assert_eq!(const_oid::db::rfc7612::PRINTER_DEVICE_ID.to_string(), "1.3.18.0.2.24.46.1.101");
 /// ```
 pub mod rfc7612 {
+use super::padded;
 use crate::ObjectIdentifier;
 
 /// `printer-device-id`: 1.3.18.0.2.24.46.1.101
-pub const PRINTER_DEVICE_ID: ObjectIdentifier = ObjectIdentifier::new_unwrap("1.3.18.0.2.24.46.1.101");
+pub const PRINTER_DEVICE_ID: ObjectIdentifier = padded(*b"\x08\x2B\x12\x00\x02\x18\x2E\x01\x65\0\0\0\0\0\0\0\0\0\0\0\0\0\0\0\0\0\0\0\0\0\0\0\0\0\0\0\0\0\0\0");
 /// `printer-device-service-count`: 1.3.18.0.2.24.46.1.102
-pub const PRINTER_DEVICE_SERVICE_COUNT: ObjectIdentifier = ObjectIdentifier::new_unwrap("1.3.18.0.2.24.46.1.102");
+pub const PRINTER_DEVICE_SERVICE_COUNT: ObjectIdentifier = padded(*b"\x08\x2B\x12\x00\x02\x18\x2E\x01\x66\0\0\0\0\0\0\0\0\0\0\0\0\0\0\0\0\0\0\0\0\0\0\0\0\0\0\0\0\0\0\0");
 /// `printer-uuid`: 1.3.18.0.2.24.46.1.104
-pub const PRINTER_UUID: ObjectIdentifier = ObjectIdentifier::new_unwrap("1.3.18.0.2.24.46.1.104");
+pub const PRINTER_UUID: ObjectIdentifier = padded(*b"\x08\x2B\x12\x00\x02\x18\x2E\x01\x68\0\0\0\0\0\0\0\0\0\0\0\0\0\0\0\0\0\0\0\0\0\0\0\0\0\0\0\0\0\0\0");
 /// `printer-charge-info`: 1.3.18.0.2.24.46.1.105
-pub const PRINTER_CHARGE_INFO: ObjectIdentifier = ObjectIdentifier::new_unwrap("1.3.18.0.2.24.46.1.105");
+pub const PRINTER_CHARGE_INFO: ObjectIdentifier = padded(*b"\x08\x2B\x12\x00\x02\x18\x2E\x01\x69\0\0\0\0\0\0\0\0\0\0\0\0\0\0\0\0\0\0\0\0\0\0\0\0\0\0\0\0\0\0\0");
 /// `printer-charge-info-uri`: 1.3.18.0.2.24.46.1.106
-pub const PRINTER_CHARGE_INFO_URI: ObjectIdentifier = ObjectIdentifier::new_unwrap("1.3.18.0.2.24.46.1.106");
+pub const PRINTER_CHARGE_INFO_URI: ObjectIdentifier = padded(*b"\x08\x2B\x12\x00\x02\x18\x2E\x01\x6A\0\0\0\0\0\0\0\0\0\0\0\0\0\0\0\0\0\0\0\0\0\0\0\0\0\0\0\0\0\0\0");
 /// `printer-geo-location`: 1.3.18.0.2.24.46.1.107
-pub const PRINTER_GEO_LOCATION: ObjectIdentifier = ObjectIdentifier::new_unwrap("1.3.18.0.2.24.46.1.107");
+pub const PRINTER_GEO_LOCATION: ObjectIdentifier = padded(*b"\x08\x2B\x12\x00\x02\x18\x2E\x01\x6B\0\0\0\0\0\0\0\0\0\0\0\0\0\0\0\0\0\0\0\0\0\0\0\0\0\0\0\0\0\0\0");
 /// `printer-ipp-features-supported`: 1.3.18.0.2.24.46.1.108
-pub const PRINTER_IPP_FEATURES_SUPPORTED: ObjectIdentifier = ObjectIdentifier::new_unwrap("1.3.18.0.2.24.46.1.108");
+pub const PRINTER_IPP_FEATURES_SUPPORTED: ObjectIdentifier = padded(*b"\x08\x2B\x12\x00\x02\x18\x2E\x01\x6C\0\0\0\0\0\0\0\0\0\0\0\0\0\0\0\0\0\0\0\0\0\0\0\0\0\0\0\0\0\0\0");
 }
 
 /// Identifiers of [RFC 7693](https://www.rfc-editor.org/rfc/rfc7693).
@@ -3476,32 +3532,33 @@ pub const PRINTER_IPP_FEATURES_SUPPORTED: ObjectIdentifier = ObjectIdentifier::n
 /// assert_eq!(const_oid::db::rfc7693::HASH_ALGS.to_string(), "1.3.6.1.4.1.1722.12.2");
 /// ```
 pub mod rfc7693 {
+use super::padded;
 use crate::ObjectIdentifier;
 
 /// `hashAlgs`: 1.3.6.1.4.1.1722.12.2
-pub const HASH_ALGS: ObjectIdentifier = ObjectIdentifier::new_unwrap("1.3.6.1.4.1.1722.12.2");
+pub const HASH_ALGS: ObjectIdentifier = padded(*b"\x09\x2B\x06\x01\x04\x01\x8D\x3A\x0C\x02\0\0\0\0\0\0\0\0\0\0\0\0\0\0\0\0\0\0\0\0\0\0\0\0\0\0\0\0\0\0");
 /// `blake2b`: 1.3.6.1.4.1.1722.12.2.1
-pub const BLAKE_2_B: ObjectIdentifier = ObjectIdentifier::new_unwrap("1.3.6.1.4.1.1722.12.2.1");
+pub const BLAKE_2_B: ObjectIdentifier = padded(*b"\x0A\x2B\x06\x01\x04\x01\x8D\x3A\x0C\x02\x01\0\0\0\0\0\0\0\0\0\0\0\0\0\0\0\0\0\0\0\0\0\0\0\0\0\0\0\0\0");
 /// `id-blake2b384`: 1.3.6.1.4.1.1722.12.2.1.12
-pub const ID_BLAKE_2_B_384: ObjectIdentifier = ObjectIdentifier::new_unwrap("1.3.6.1.4.1.1722.12.2.1.12");
+pub const ID_BLAKE_2_B_384: ObjectIdentifier = padded(*b"\x0B\x2B\x06\x01\x04\x01\x8D\x3A\x0C\x02\x01\x0C\0\0\0\0\0\0\0\0\0\0\0\0\0\0\0\0\0\0\0\0\0\0\0\0\0\0\0\0");
 /// `id-blake2b512`: 1.3.6.1.4.1.1722.12.2.1.16
-pub const ID_BLAKE_2_B_512: ObjectIdentifier = ObjectIdentifier::new_unwrap("1.3.6.1.4.1.1722.12.2.1.16");
+pub const ID_BLAKE_2_B_512: ObjectIdentifier = padded(*b"\x0B\x2B\x06\x01\x04\x01\x8D\x3A\x0C\x02\x01\x10\0\0\0\0\0\0\0\0\0\0\0\0\0\0\0\0\0\0\0\0\0\0\0\0\0\0\0\0");
 /// `id-blake2b160`: 1.3.6.1.4.1.1722.12.2.1.5
-pub const ID_BLAKE_2_B_160: ObjectIdentifier = ObjectIdentifier::new_unwrap("1.3.6.1.4.1.1722.12.2.1.5");
+pub const ID_BLAKE_2_B_160: ObjectIdentifier = padded(*b"\x0B\x2B\x06\x01\x04\x01\x8D\x3A\x0C\x02\x01\x05\0\0\0\0\0\0\0\0\0\0\0\0\0\0\0\0\0\0\0\0\0\0\0\0\0\0\0\0");
 /// `id-blake2b256`: 1.3.6.1.4.1.1722.12.2.1.8
-pub const ID_BLAKE_2_B_256: ObjectIdentifier = ObjectIdentifier::new_unwrap("1.3.6.1.4.1.1722.12.2.1.8");
+pub const ID_BLAKE_2_B_256: ObjectIdentifier = padded(*b"\x0B\x2B\x06\x01\x04\x01\x8D\x3A\x0C\x02\x01\x08\0\0\0\0\0\0\0\0\0\0\0\0\0\0\0\0\0\0\0\0\0\0\0\0\0\0\0\0");
 /// `blake2s`: 1.3.6.1.4.1.1722.12.2.2
-pub const BLAKE_2_S: ObjectIdentifier = ObjectIdentifier::new_unwrap("1.3.6.1.4.1.1722.12.2.2");
+pub const BLAKE_2_S: ObjectIdentifier = padded(*b"\x0A\x2B\x06\x01\x04\x01\x8D\x3A\x0C\x02\x02\0\0\0\0\0\0\0\0\0\0\0\0\0\0\0\0\0\0\0\0\0\0\0\0\0\0\0\0\0");
 /// `id-blake2s128`: 1.3.6.1.4.1.1722.12.2.2.4
-pub const ID_BLAKE_2_S_128: ObjectIdentifier = ObjectIdentifier::new_unwrap("1.3.6.1.4.1.1722.12.2.2.4");
+pub const ID_BLAKE_2_S_128: ObjectIdentifier = padded(*b"\x0B\x2B\x06\x01\x04\x01\x8D\x3A\x0C\x02\x02\x04\0\0\0\0\0\0\0\0\0\0\0\0\0\0\0\0\0\0\0\0\0\0\0\0\0\0\0\0");
 /// `id-blake2s160`: 1.3.6.1.4.1.1722.12.2.2.5
-pub const ID_BLAKE_2_S_160: ObjectIdentifier = ObjectIdentifier::new_unwrap("1.3.6.1.4.1.1722.12.2.2.5");
+pub const ID_BLAKE_2_S_160: ObjectIdentifier = padded(*b"\x0B\x2B\x06\x01\x04\x01\x8D\x3A\x0C\x02\x02\x05\0\0\0\0\0\0\0\0\0\0\0\0\0\0\0\0\0\0\0\0\0\0\0\0\0\0\0\0");
 /// `id-blake2s224`: 1.3.6.1.4.1.1722.12.2.2.7
-pub const ID_BLAKE_2_S_224: ObjectIdentifier = ObjectIdentifier::new_unwrap("1.3.6.1.4.1.1722.12.2.2.7");
+pub const ID_BLAKE_2_S_224: ObjectIdentifier = padded(*b"\x0B\x2B\x06\x01\x04\x01\x8D\x3A\x0C\x02\x02\x07\0\0\0\0\0\0\0\0\0\0\0\0\0\0\0\0\0\0\0\0\0\0\0\0\0\0\0\0");
 /// `id-blake2s256`: 1.3.6.1.4.1.1722.12.2.2.8
-pub const ID_BLAKE_2_S_256: ObjectIdentifier = ObjectIdentifier::new_unwrap("1.3.6.1.4.1.1722.12.2.2.8");
+pub const ID_BLAKE_2_S_256: ObjectIdentifier = padded(*b"\x0B\x2B\x06\x01\x04\x01\x8D\x3A\x0C\x02\x02\x08\0\0\0\0\0\0\0\0\0\0\0\0\0\0\0\0\0\0\0\0\0\0\0\0\0\0\0\0");
 /// `macAlgs`: 1.3.6.1.4.1.1722.12.3
-pub const MAC_ALGS: ObjectIdentifier = ObjectIdentifier::new_unwrap("1.3.6.1.4.1.1722.12.3");
+pub const MAC_ALGS: ObjectIdentifier = padded(*b"\x09\x2B\x06\x01\x04\x01\x8D\x3A\x0C\x03\0\0\0\0\0\0\0\0\0\0\0\0\0\0\0\0\0\0\0\0\0\0\0\0\0\0\0\0\0\0");
 }
 
 /// Identifiers of [RFC 8284](https://www.rfc-editor.org/rfc/rfc8284).
@@ -3512,12 +3569,13 @@ pub const MAC_ALGS: ObjectIdentifier = ObjectIdentifier::new_unwrap("1.3.6.1.4.1
 /// assert_eq!(const_oid::db::rfc8284::JID_OBJECT.to_string(), "1.3.6.1.1.23.1");
 /// ```
 pub mod rfc8284 {
+use super::padded;
 use crate::ObjectIdentifier;
 
 /// `JIDObject`: 1.3.6.1.1.23.1
-pub const JID_OBJECT: ObjectIdentifier = ObjectIdentifier::new_unwrap("1.3.6.1.1.23.1");
+pub const JID_OBJECT: ObjectIdentifier = padded(*b"\x06\x2B\x06\x01\x01\x17\x01\0\0\0\0\0\0\0\0\0\0\0\0\0\0\0\0\0\0\0\0\0\0\0\0\0\0\0\0\0\0\0\0\0");
 /// `jid`: 1.3.6.1.1.23.2
-pub const JID: ObjectIdentifier = ObjectIdentifier::new_unwrap("1.3.6.1.1.23.2");
+pub const JID: ObjectIdentifier = padded(*b"\x06\x2B\x06\x01\x01\x17\x02\0\0\0\0\0\0\0\0\0\0\0\0\0\0\0\0\0\0\0\0\0\0\0\0\0\0\0\0\0\0\0\0\0");
 }
 
 /// Identifiers of [RFC 8410](https://www.rfc-editor.org/rfc/rfc8410).
@@ -3528,18 +3586,19 @@ pub const JID: ObjectIdentifier = ObjectIdentifier::new_unwrap("1.3.6.1.1.23.2")
 /// assert_eq!(const_oid::db::rfc8410::ID_EDWARDS_CURVE_ALGS.to_string(), "1.3.101");
 /// ```
 pub mod rfc8410 {
+use super::padded;
 use crate::ObjectIdentifier;
 
 /// `id-edwards-curve-algs`: 1.3.101
-pub const ID_EDWARDS_CURVE_ALGS: ObjectIdentifier = ObjectIdentifier::new_unwrap("1.3.101");
+pub const ID_EDWARDS_CURVE_ALGS: ObjectIdentifier = padded(*b"\x02\x2B\x65\0\0\0\0\0\0\0\0\0\0\0\0\0\0\0\0\0\0\0\0\0\0\0\0\0\0\0\0\0\0\0\0\0\0\0\0\0");
 /// `id-X25519`: 1.3.101.110
-pub const ID_X_25519: ObjectIdentifier = ObjectIdentifier::new_unwrap("1.3.101.110");
+pub const ID_X_25519: ObjectIdentifier = padded(*b"\x03\x2B\x65\x6E\0\0\0\0\0\0\0\0\0\0\0\0\0\0\0\0\0\0\0\0\0\0\0\0\0\0\0\0\0\0\0\0\0\0\0\0");
 /// `id-X448`: 1.3.101.111
-pub const ID_X_448: ObjectIdentifier = ObjectIdentifier::new_unwrap("1.3.101.111");
+pub const ID_X_448: ObjectIdentifier = padded(*b"\x03\x2B\x65\x6F\0\0\0\0\0\0\0\0\0\0\0\0\0\0\0\0\0\0\0\0\0\0\0\0\0\0\0\0\0\0\0\0\0\0\0\0");
 /// `id-Ed25519`: 1.3.101.112
-pub const ID_ED_25519: ObjectIdentifier = ObjectIdentifier::new_unwrap("1.3.101.112");
+pub const ID_ED_25519: ObjectIdentifier = padded(*b"\x03\x2B\x65\x70\0\0\0\0\0\0\0\0\0\0\0\0\0\0\0\0\0\0\0\0\0\0\0\0\0\0\0\0\0\0\0\0\0\0\0\0");
 /// `id-Ed448`: 1.3.101.113
-pub const ID_ED_448: ObjectIdentifier = ObjectIdentifier::new_unwrap("1.3.101.113");
+pub const ID_ED_448: ObjectIdentifier = padded(*b"\x03\x2B\x65\x71\0\0\0\0\0\0\0\0\0\0\0\0\0\0\0\0\0\0\0\0\0\0\0\0\0\0\0\0\0\0\0\0\0\0\0\0");
 }
 
 /// Identifiers of [RFC 8894](https://www.rfc-editor.org/rfc/rfc8894).
@@ -3550,32 +3609,33 @@ pub const ID_ED_448: ObjectIdentifier = ObjectIdentifier::new_unwrap("1.3.101.11
 /// assert_eq!(const_oid::db::rfc8894::ID_PKIX.to_string(), "1.3.6.1.5.5.7");
 /// ```
 pub mod rfc8894 {
+use super::padded;
 use crate::ObjectIdentifier;
 
 /// `id-pkix`: 1.3.6.1.5.5.7
-pub const ID_PKIX: ObjectIdentifier = ObjectIdentifier::new_unwrap("1.3.6.1.5.5.7");
+pub const ID_PKIX: ObjectIdentifier = padded(*b"\x06\x2B\x06\x01\x05\x05\x07\0\0\0\0\0\0\0\0\0\0\0\0\0\0\0\0\0\0\0\0\0\0\0\0\0\0\0\0\0\0\0\0\0");
 /// `id-scep`: 1.3.6.1.5.5.7.24
-pub const ID_SCEP: ObjectIdentifier = ObjectIdentifier::new_unwrap("1.3.6.1.5.5.7.24");
+pub const ID_SCEP: ObjectIdentifier = padded(*b"\x07\x2B\x06\x01\x05\x05\x07\x18\0\0\0\0\0\0\0\0\0\0\0\0\0\0\0\0\0\0\0\0\0\0\0\0\0\0\0\0\0\0\0\0");
 /// `id-scep-failInfoText`: 1.3.6.1.5.5.7.24.1
-pub const ID_SCEP_FAIL_INFO_TEXT: ObjectIdentifier = ObjectIdentifier::new_unwrap("1.3.6.1.5.5.7.24.1");
+pub const ID_SCEP_FAIL_INFO_TEXT: ObjectIdentifier = padded(*b"\x08\x2B\x06\x01\x05\x05\x07\x18\x01\0\0\0\0\0\0\0\0\0\0\0\0\0\0\0\0\0\0\0\0\0\0\0\0\0\0\0\0\0\0\0");
 /// `id-VeriSign`: 2.16.840.1.113733
-pub const ID_VERI_SIGN: ObjectIdentifier = ObjectIdentifier::new_unwrap("2.16.840.1.113733");
+pub const ID_VERI_SIGN: ObjectIdentifier = padded(*b"\x07\x60\x86\x48\x01\x86\xF8\x45\0\0\0\0\0\0\0\0\0\0\0\0\0\0\0\0\0\0\0\0\0\0\0\0\0\0\0\0\0\0\0\0");
 /// `id-pki`: 2.16.840.1.113733.1
-pub const ID_PKI: ObjectIdentifier = ObjectIdentifier::new_unwrap("2.16.840.1.113733.1");
+pub const ID_PKI: ObjectIdentifier = padded(*b"\x08\x60\x86\x48\x01\x86\xF8\x45\x01\0\0\0\0\0\0\0\0\0\0\0\0\0\0\0\0\0\0\0\0\0\0\0\0\0\0\0\0\0\0\0");
 /// `id-attributes`: 2.16.840.1.113733.1.9
-pub const ID_ATTRIBUTES: ObjectIdentifier = ObjectIdentifier::new_unwrap("2.16.840.1.113733.1.9");
+pub const ID_ATTRIBUTES: ObjectIdentifier = padded(*b"\x09\x60\x86\x48\x01\x86\xF8\x45\x01\x09\0\0\0\0\0\0\0\0\0\0\0\0\0\0\0\0\0\0\0\0\0\0\0\0\0\0\0\0\0\0");
 /// `id-messageType`: 2.16.840.1.113733.1.9.2
-pub const ID_MESSAGE_TYPE: ObjectIdentifier = ObjectIdentifier::new_unwrap("2.16.840.1.113733.1.9.2");
+pub const ID_MESSAGE_TYPE: ObjectIdentifier = padded(*b"\x0A\x60\x86\x48\x01\x86\xF8\x45\x01\x09\x02\0\0\0\0\0\0\0\0\0\0\0\0\0\0\0\0\0\0\0\0\0\0\0\0\0\0\0\0\0");
 /// `id-pkiStatus`: 2.16.840.1.113733.1.9.3
-pub const ID_PKI_STATUS: ObjectIdentifier = ObjectIdentifier::new_unwrap("2.16.840.1.113733.1.9.3");
+pub const ID_PKI_STATUS: ObjectIdentifier = padded(*b"\x0A\x60\x86\x48\x01\x86\xF8\x45\x01\x09\x03\0\0\0\0\0\0\0\0\0\0\0\0\0\0\0\0\0\0\0\0\0\0\0\0\0\0\0\0\0");
 /// `id-failInfo`: 2.16.840.1.113733.1.9.4
-pub const ID_FAIL_INFO: ObjectIdentifier = ObjectIdentifier::new_unwrap("2.16.840.1.113733.1.9.4");
+pub const ID_FAIL_INFO: ObjectIdentifier = padded(*b"\x0A\x60\x86\x48\x01\x86\xF8\x45\x01\x09\x04\0\0\0\0\0\0\0\0\0\0\0\0\0\0\0\0\0\0\0\0\0\0\0\0\0\0\0\0\0");
 /// `id-senderNonce`: 2.16.840.1.113733.1.9.5
-pub const ID_SENDER_NONCE: ObjectIdentifier = ObjectIdentifier::new_unwrap("2.16.840.1.113733.1.9.5");
+pub const ID_SENDER_NONCE: ObjectIdentifier = padded(*b"\x0A\x60\x86\x48\x01\x86\xF8\x45\x01\x09\x05\0\0\0\0\0\0\0\0\0\0\0\0\0\0\0\0\0\0\0\0\0\0\0\0\0\0\0\0\0");
 /// `id-recipientNonce`: 2.16.840.1.113733.1.9.6
-pub const ID_RECIPIENT_NONCE: ObjectIdentifier = ObjectIdentifier::new_unwrap("2.16.840.1.113733.1.9.6");
+pub const ID_RECIPIENT_NONCE: ObjectIdentifier = padded(*b"\x0A\x60\x86\x48\x01\x86\xF8\x45\x01\x09\x06\0\0\0\0\0\0\0\0\0\0\0\0\0\0\0\0\0\0\0\0\0\0\0\0\0\0\0\0\0");
 /// `id-transactionID`: 2.16.840.1.113733.1.9.7
-pub const ID_TRANSACTION_ID: ObjectIdentifier = ObjectIdentifier::new_unwrap("2.16.840.1.113733.1.9.7");
+pub const ID_TRANSACTION_ID: ObjectIdentifier = padded(*b"\x0A\x60\x86\x48\x01\x86\xF8\x45\x01\x09\x07\0\0\0\0\0\0\0\0\0\0\0\0\0\0\0\0\0\0\0\0\0\0\0\0\0\0\0\0\0");
 }
 
 /// Identifiers of [RFC 9688](https://www.rfc-editor.org/rfc/rfc9688).
@@ -3586,62 +3646,63 @@ pub const ID_TRANSACTION_ID: ObjectIdentifier = ObjectIdentifier::new_unwrap("2.
 /// assert_eq!(const_oid::db::rfc9688::RSA_ENCRYPTION.to_string(), "1.2.840.113549.1.1.1");
 /// ```
 pub mod rfc9688 {
+use super::padded;
 use crate::ObjectIdentifier;
 
 /// `rsaEncryption`: 1.2.840.113549.1.1.1
-pub const RSA_ENCRYPTION: ObjectIdentifier = ObjectIdentifier::new_unwrap("1.2.840.113549.1.1.1");
+pub const RSA_ENCRYPTION: ObjectIdentifier = padded(*b"\x09\x2A\x86\x48\x86\xF7\x0D\x01\x01\x01\0\0\0\0\0\0\0\0\0\0\0\0\0\0\0\0\0\0\0\0\0\0\0\0\0\0\0\0\0\0");
 /// `id-mod-sha3-oids-2023`: 1.2.840.113549.1.9.16.0.78
-pub const ID_MOD_SHA_3_OIDS_2023: ObjectIdentifier = ObjectIdentifier::new_unwrap("1.2.840.113549.1.9.16.0.78");
+pub const ID_MOD_SHA_3_OIDS_2023: ObjectIdentifier = padded(*b"\x0B\x2A\x86\x48\x86\xF7\x0D\x01\x09\x10\x00\x4E\0\0\0\0\0\0\0\0\0\0\0\0\0\0\0\0\0\0\0\0\0\0\0\0\0\0\0\0");
 /// `id-alg`: 1.2.840.113549.1.9.16.3
-pub const ID_ALG: ObjectIdentifier = ObjectIdentifier::new_unwrap("1.2.840.113549.1.9.16.3");
+pub const ID_ALG: ObjectIdentifier = padded(*b"\x0A\x2A\x86\x48\x86\xF7\x0D\x01\x09\x10\x03\0\0\0\0\0\0\0\0\0\0\0\0\0\0\0\0\0\0\0\0\0\0\0\0\0\0\0\0\0");
 /// `id-alg-hkdf-with-sha3-224`: 1.2.840.113549.1.9.16.3.32
-pub const ID_ALG_HKDF_WITH_SHA_3_224: ObjectIdentifier = ObjectIdentifier::new_unwrap("1.2.840.113549.1.9.16.3.32");
+pub const ID_ALG_HKDF_WITH_SHA_3_224: ObjectIdentifier = padded(*b"\x0B\x2A\x86\x48\x86\xF7\x0D\x01\x09\x10\x03\x20\0\0\0\0\0\0\0\0\0\0\0\0\0\0\0\0\0\0\0\0\0\0\0\0\0\0\0\0");
 /// `id-alg-hkdf-with-sha3-256`: 1.2.840.113549.1.9.16.3.33
-pub const ID_ALG_HKDF_WITH_SHA_3_256: ObjectIdentifier = ObjectIdentifier::new_unwrap("1.2.840.113549.1.9.16.3.33");
+pub const ID_ALG_HKDF_WITH_SHA_3_256: ObjectIdentifier = padded(*b"\x0B\x2A\x86\x48\x86\xF7\x0D\x01\x09\x10\x03\x21\0\0\0\0\0\0\0\0\0\0\0\0\0\0\0\0\0\0\0\0\0\0\0\0\0\0\0\0");
 /// `id-alg-hkdf-with-sha3-384`: 1.2.840.113549.1.9.16.3.34
-pub const ID_ALG_HKDF_WITH_SHA_3_384: ObjectIdentifier = ObjectIdentifier::new_unwrap("1.2.840.113549.1.9.16.3.34");
+pub const ID_ALG_HKDF_WITH_SHA_3_384: ObjectIdentifier = padded(*b"\x0B\x2A\x86\x48\x86\xF7\x0D\x01\x09\x10\x03\x22\0\0\0\0\0\0\0\0\0\0\0\0\0\0\0\0\0\0\0\0\0\0\0\0\0\0\0\0");
 /// `id-alg-hkdf-with-sha3-512`: 1.2.840.113549.1.9.16.3.35
-pub const ID_ALG_HKDF_WITH_SHA_3_512: ObjectIdentifier = ObjectIdentifier::new_unwrap("1.2.840.113549.1.9.16.3.35");
+pub const ID_ALG_HKDF_WITH_SHA_3_512: ObjectIdentifier = padded(*b"\x0B\x2A\x86\x48\x86\xF7\x0D\x01\x09\x10\x03\x23\0\0\0\0\0\0\0\0\0\0\0\0\0\0\0\0\0\0\0\0\0\0\0\0\0\0\0\0");
 /// `x9-44`: 1.3.133.16.840.9.44
-pub const X_9_44: ObjectIdentifier = ObjectIdentifier::new_unwrap("1.3.133.16.840.9.44");
+pub const X_9_44: ObjectIdentifier = padded(*b"\x08\x2B\x81\x05\x10\x86\x48\x09\x2C\0\0\0\0\0\0\0\0\0\0\0\0\0\0\0\0\0\0\0\0\0\0\0\0\0\0\0\0\0\0\0");
 /// `x9-44-components`: 1.3.133.16.840.9.44.1
-pub const X_9_44_COMPONENTS: ObjectIdentifier = ObjectIdentifier::new_unwrap("1.3.133.16.840.9.44.1");
+pub const X_9_44_COMPONENTS: ObjectIdentifier = padded(*b"\x09\x2B\x81\x05\x10\x86\x48\x09\x2C\x01\0\0\0\0\0\0\0\0\0\0\0\0\0\0\0\0\0\0\0\0\0\0\0\0\0\0\0\0\0\0");
 /// `id-kdf-kdf2`: 1.3.133.16.840.9.44.1.1
-pub const ID_KDF_KDF_2: ObjectIdentifier = ObjectIdentifier::new_unwrap("1.3.133.16.840.9.44.1.1");
+pub const ID_KDF_KDF_2: ObjectIdentifier = padded(*b"\x0A\x2B\x81\x05\x10\x86\x48\x09\x2C\x01\x01\0\0\0\0\0\0\0\0\0\0\0\0\0\0\0\0\0\0\0\0\0\0\0\0\0\0\0\0\0");
 /// `id-kdf-kdf3`: 1.3.133.16.840.9.44.1.2
-pub const ID_KDF_KDF_3: ObjectIdentifier = ObjectIdentifier::new_unwrap("1.3.133.16.840.9.44.1.2");
+pub const ID_KDF_KDF_3: ObjectIdentifier = padded(*b"\x0A\x2B\x81\x05\x10\x86\x48\x09\x2C\x01\x02\0\0\0\0\0\0\0\0\0\0\0\0\0\0\0\0\0\0\0\0\0\0\0\0\0\0\0\0\0");
 /// `hashAlgs`: 2.16.840.1.101.3.4.2
-pub const HASH_ALGS: ObjectIdentifier = ObjectIdentifier::new_unwrap("2.16.840.1.101.3.4.2");
+pub const HASH_ALGS: ObjectIdentifier = padded(*b"\x08\x60\x86\x48\x01\x65\x03\x04\x02\0\0\0\0\0\0\0\0\0\0\0\0\0\0\0\0\0\0\0\0\0\0\0\0\0\0\0\0\0\0\0");
 /// `id-sha3-512`: 2.16.840.1.101.3.4.2.10
-pub const ID_SHA_3_512: ObjectIdentifier = ObjectIdentifier::new_unwrap("2.16.840.1.101.3.4.2.10");
+pub const ID_SHA_3_512: ObjectIdentifier = padded(*b"\x09\x60\x86\x48\x01\x65\x03\x04\x02\x0A\0\0\0\0\0\0\0\0\0\0\0\0\0\0\0\0\0\0\0\0\0\0\0\0\0\0\0\0\0\0");
 /// `id-hmacWithSHA3-224`: 2.16.840.1.101.3.4.2.13
-pub const ID_HMAC_WITH_SHA_3_224: ObjectIdentifier = ObjectIdentifier::new_unwrap("2.16.840.1.101.3.4.2.13");
+pub const ID_HMAC_WITH_SHA_3_224: ObjectIdentifier = padded(*b"\x09\x60\x86\x48\x01\x65\x03\x04\x02\x0D\0\0\0\0\0\0\0\0\0\0\0\0\0\0\0\0\0\0\0\0\0\0\0\0\0\0\0\0\0\0");
 /// `id-hmacWithSHA3-256`: 2.16.840.1.101.3.4.2.14
-pub const ID_HMAC_WITH_SHA_3_256: ObjectIdentifier = ObjectIdentifier::new_unwrap("2.16.840.1.101.3.4.2.14");
+pub const ID_HMAC_WITH_SHA_3_256: ObjectIdentifier = padded(*b"\x09\x60\x86\x48\x01\x65\x03\x04\x02\x0E\0\0\0\0\0\0\0\0\0\0\0\0\0\0\0\0\0\0\0\0\0\0\0\0\0\0\0\0\0\0");
 /// `id-hmacWithSHA3-384`: 2.16.840.1.101.3.4.2.15
-pub const ID_HMAC_WITH_SHA_3_384: ObjectIdentifier = ObjectIdentifier::new_unwrap("2.16.840.1.101.3.4.2.15");
+pub const ID_HMAC_WITH_SHA_3_384: ObjectIdentifier = padded(*b"\x09\x60\x86\x48\x01\x65\x03\x04\x02\x0F\0\0\0\0\0\0\0\0\0\0\0\0\0\0\0\0\0\0\0\0\0\0\0\0\0\0\0\0\0\0");
 /// `id-hmacWithSHA3-512`: 2.16.840.1.101.3.4.2.16
-pub const ID_HMAC_WITH_SHA_3_512: ObjectIdentifier = ObjectIdentifier::new_unwrap("2.16.840.1.101.3.4.2.16");
+pub const ID_HMAC_WITH_SHA_3_512: ObjectIdentifier = padded(*b"\x09\x60\x86\x48\x01\x65\x03\x04\x02\x10\0\0\0\0\0\0\0\0\0\0\0\0\0\0\0\0\0\0\0\0\0\0\0\0\0\0\0\0\0\0");
 /// `id-kmac128`: 2.16.840.1.101.3.4.2.21
-pub const ID_KMAC_128: ObjectIdentifier = ObjectIdentifier::new_unwrap("2.16.840.1.101.3.4.2.21");
+pub const ID_KMAC_128: ObjectIdentifier = padded(*b"\x09\x60\x86\x48\x01\x65\x03\x04\x02\x15\0\0\0\0\0\0\0\0\0\0\0\0\0\0\0\0\0\0\0\0\0\0\0\0\0\0\0\0\0\0");
 /// `id-kmac256`: 2.16.840.1.101.3.4.2.22
-pub const ID_KMAC_256: ObjectIdentifier = ObjectIdentifier::new_unwrap("2.16.840.1.101.3.4.2.22");
+pub const ID_KMAC_256: ObjectIdentifier = padded(*b"\x09\x60\x86\x48\x01\x65\x03\x04\x02\x16\0\0\0\0\0\0\0\0\0\0\0\0\0\0\0\0\0\0\0\0\0\0\0\0\0\0\0\0\0\0");
 /// `id-sha3-224`: 2.16.840.1.101.3.4.2.7
-pub const ID_SHA_3_224: ObjectIdentifier = ObjectIdentifier::new_unwrap("2.16.840.1.101.3.4.2.7");
+pub const ID_SHA_3_224: ObjectIdentifier = padded(*b"\x09\x60\x86\x48\x01\x65\x03\x04\x02\x07\0\0\0\0\0\0\0\0\0\0\0\0\0\0\0\0\0\0\0\0\0\0\0\0\0\0\0\0\0\0");
 /// `id-sha3-256`: 2.16.840.1.101.3.4.2.8
-pub const ID_SHA_3_256: ObjectIdentifier = ObjectIdentifier::new_unwrap("2.16.840.1.101.3.4.2.8");
+pub const ID_SHA_3_256: ObjectIdentifier = padded(*b"\x09\x60\x86\x48\x01\x65\x03\x04\x02\x08\0\0\0\0\0\0\0\0\0\0\0\0\0\0\0\0\0\0\0\0\0\0\0\0\0\0\0\0\0\0");
 /// `id-sha3-384`: 2.16.840.1.101.3.4.2.9
-pub const ID_SHA_3_384: ObjectIdentifier = ObjectIdentifier::new_unwrap("2.16.840.1.101.3.4.2.9");
+pub const ID_SHA_3_384: ObjectIdentifier = padded(*b"\x09\x60\x86\x48\x01\x65\x03\x04\x02\x09\0\0\0\0\0\0\0\0\0\0\0\0\0\0\0\0\0\0\0\0\0\0\0\0\0\0\0\0\0\0");
 /// `sigAlgs`: 2.16.840.1.101.3.4.3
-pub const SIG_ALGS: ObjectIdentifier = ObjectIdentifier::new_unwrap("2.16.840.1.101.3.4.3");
+pub const SIG_ALGS: ObjectIdentifier = padded(*b"\x08\x60\x86\x48\x01\x65\x03\x04\x03\0\0\0\0\0\0\0\0\0\0\0\0\0\0\0\0\0\0\0\0\0\0\0\0\0\0\0\0\0\0\0");
 /// `id-ecdsa-with-sha3-256`: 2.16.840.1.101.3.4.3.10
-pub const ID_ECDSA_WITH_SHA_3_256: ObjectIdentifier = ObjectIdentifier::new_unwrap("2.16.840.1.101.3.4.3.10");
+pub const ID_ECDSA_WITH_SHA_3_256: ObjectIdentifier = padded(*b"\x09\x60\x86\x48\x01\x65\x03\x04\x03\x0A\0\0\0\0\0\0\0\0\0\0\0\0\0\0\0\0\0\0\0\0\0\0\0\0\0\0\0\0\0\0");
 /// `id-ecdsa-with-sha3-384`: 2.16.840.1.101.3.4.3.11
-pub const ID_ECDSA_WITH_SHA_3_384: ObjectIdentifier = ObjectIdentifier::new_unwrap("2.16.840.1.101.3.4.3.11");
+pub const ID_ECDSA_WITH_SHA_3_384: ObjectIdentifier = padded(*b"\x09\x60\x86\x48\x01\x65\x03\x04\x03\x0B\0\0\0\0\0\0\0\0\0\0\0\0\0\0\0\0\0\0\0\0\0\0\0\0\0\0\0\0\0\0");
 /// `id-ecdsa-with-sha3-512`: 2.16.840.1.101.3.4.3.12
-pub const ID_ECDSA_WITH_SHA_3_512: ObjectIdentifier = ObjectIdentifier::new_unwrap("2.16.840.1.101.3.4.3.12");
+pub const ID_ECDSA_WITH_SHA_3_512: ObjectIdentifier = padded(*b"\x09\x60\x86\x48\x01\x65\x03\x04\x03\x0C\0\0\0\0\0\0\0\0\0\0\0\0\0\0\0\0\0\0\0\0\0\0\0\0\0\0\0\0\0\0");
 /// `id-ecdsa-with-sha3-224`: 2.16.840.1.101.3.4.3.9
-pub const ID_ECDSA_WITH_SHA_3_224: ObjectIdentifier = ObjectIdentifier::new_unwrap("2.16.840.1.101.3.4.3.9");
+pub const ID_ECDSA_WITH_SHA_3_224: ObjectIdentifier = padded(*b"\x09\x60\x86\x48\x01\x65\x03\x04\x03\x09\0\0\0\0\0\0\0\0\0\0\0\0\0\0\0\0\0\0\0\0\0\0\0\0\0\0\0\0\0\0");
 }
 
 /// Identifiers of the TPM specifications of the Trusted Computing Group.
@@ -3652,80 +3713,81 @@ pub const ID_ECDSA_WITH_SHA_3_224: ObjectIdentifier = ObjectIdentifier::new_unwr
 /// assert_eq!(const_oid::db::tcgtpm::TCG_ORGANIZATION.to_string(), "2.23.133");
 /// ```
 pub mod tcgtpm {
+use super::padded;
 use crate::ObjectIdentifier;
 
 /// `tcgOrganization`: 2.23.133
-pub const TCG_ORGANIZATION: ObjectIdentifier = ObjectIdentifier::new_unwrap("2.23.133");
+pub const TCG_ORGANIZATION: ObjectIdentifier = padded(*b"\x03\x67\x81\x05\0\0\0\0\0\0\0\0\0\0\0\0\0\0\0\0\0\0\0\0\0\0\0\0\0\0\0\0\0\0\0\0\0\0\0\0");
 /// `tcg-tcpaSpecVersion`: 2.23.133.1
-pub const TCG_TCPA_SPEC_VERSION: ObjectIdentifier = ObjectIdentifier::new_unwrap("2.23.133.1");
+pub const TCG_TCPA_SPEC_VERSION: ObjectIdentifier = padded(*b"\x04\x67\x81\x05\x01\0\0\0\0\0\0\0\0\0\0\0\0\0\0\0\0\0\0\0\0\0\0\0\0\0\0\0\0\0\0\0\0\0\0\0");
 /// `tcg-sv-tpm12`: 2.23.133.1.0
-pub const TCG_SV_TPM_12: ObjectIdentifier = ObjectIdentifier::new_unwrap("2.23.133.1.0");
+pub const TCG_SV_TPM_12: ObjectIdentifier = padded(*b"\x05\x67\x81\x05\x01\x00\0\0\0\0\0\0\0\0\0\0\0\0\0\0\0\0\0\0\0\0\0\0\0\0\0\0\0\0\0\0\0\0\0\0");
 /// `tcg-sv-tpm20`: 2.23.133.1.2
-pub const TCG_SV_TPM_20: ObjectIdentifier = ObjectIdentifier::new_unwrap("2.23.133.1.2");
+pub const TCG_SV_TPM_20: ObjectIdentifier = padded(*b"\x05\x67\x81\x05\x01\x02\0\0\0\0\0\0\0\0\0\0\0\0\0\0\0\0\0\0\0\0\0\0\0\0\0\0\0\0\0\0\0\0\0\0");
 /// `tcg-attribute`: 2.23.133.2
-pub const TCG_ATTRIBUTE: ObjectIdentifier = ObjectIdentifier::new_unwrap("2.23.133.2");
+pub const TCG_ATTRIBUTE: ObjectIdentifier = padded(*b"\x04\x67\x81\x05\x02\0\0\0\0\0\0\0\0\0\0\0\0\0\0\0\0\0\0\0\0\0\0\0\0\0\0\0\0\0\0\0\0\0\0\0");
 /// `tcg-at-tpmManufacturer`: 2.23.133.2.1
-pub const TCG_AT_TPM_MANUFACTURER: ObjectIdentifier = ObjectIdentifier::new_unwrap("2.23.133.2.1");
+pub const TCG_AT_TPM_MANUFACTURER: ObjectIdentifier = padded(*b"\x05\x67\x81\x05\x02\x01\0\0\0\0\0\0\0\0\0\0\0\0\0\0\0\0\0\0\0\0\0\0\0\0\0\0\0\0\0\0\0\0\0\0");
 /// `tcg-at-securityQualities`: 2.23.133.2.10
-pub const TCG_AT_SECURITY_QUALITIES: ObjectIdentifier = ObjectIdentifier::new_unwrap("2.23.133.2.10");
+pub const TCG_AT_SECURITY_QUALITIES: ObjectIdentifier = padded(*b"\x05\x67\x81\x05\x02\x0A\0\0\0\0\0\0\0\0\0\0\0\0\0\0\0\0\0\0\0\0\0\0\0\0\0\0\0\0\0\0\0\0\0\0");
 /// `tcg-at-tpmProtectionProfile`: 2.23.133.2.11
-pub const TCG_AT_TPM_PROTECTION_PROFILE: ObjectIdentifier = ObjectIdentifier::new_unwrap("2.23.133.2.11");
+pub const TCG_AT_TPM_PROTECTION_PROFILE: ObjectIdentifier = padded(*b"\x05\x67\x81\x05\x02\x0B\0\0\0\0\0\0\0\0\0\0\0\0\0\0\0\0\0\0\0\0\0\0\0\0\0\0\0\0\0\0\0\0\0\0");
 /// `tcg-at-tpmSecurityTarget`: 2.23.133.2.12
-pub const TCG_AT_TPM_SECURITY_TARGET: ObjectIdentifier = ObjectIdentifier::new_unwrap("2.23.133.2.12");
+pub const TCG_AT_TPM_SECURITY_TARGET: ObjectIdentifier = padded(*b"\x05\x67\x81\x05\x02\x0C\0\0\0\0\0\0\0\0\0\0\0\0\0\0\0\0\0\0\0\0\0\0\0\0\0\0\0\0\0\0\0\0\0\0");
 /// `tcg-at-tbbProtectionProfile`: 2.23.133.2.13
-pub const TCG_AT_TBB_PROTECTION_PROFILE: ObjectIdentifier = ObjectIdentifier::new_unwrap("2.23.133.2.13");
+pub const TCG_AT_TBB_PROTECTION_PROFILE: ObjectIdentifier = padded(*b"\x05\x67\x81\x05\x02\x0D\0\0\0\0\0\0\0\0\0\0\0\0\0\0\0\0\0\0\0\0\0\0\0\0\0\0\0\0\0\0\0\0\0\0");
 /// `tcg-at-tbbSecurityTarget`: 2.23.133.2.14
-pub const TCG_AT_TBB_SECURITY_TARGET: ObjectIdentifier = ObjectIdentifier::new_unwrap("2.23.133.2.14");
+pub const TCG_AT_TBB_SECURITY_TARGET: ObjectIdentifier = padded(*b"\x05\x67\x81\x05\x02\x0E\0\0\0\0\0\0\0\0\0\0\0\0\0\0\0\0\0\0\0\0\0\0\0\0\0\0\0\0\0\0\0\0\0\0");
 /// `tcg-at-tpmIdLabel`: 2.23.133.2.15
-pub const TCG_AT_TPM_ID_LABEL: ObjectIdentifier = ObjectIdentifier::new_unwrap("2.23.133.2.15");
+pub const TCG_AT_TPM_ID_LABEL: ObjectIdentifier = padded(*b"\x05\x67\x81\x05\x02\x0F\0\0\0\0\0\0\0\0\0\0\0\0\0\0\0\0\0\0\0\0\0\0\0\0\0\0\0\0\0\0\0\0\0\0");
 /// `tcg-at-tpmSpecification`: 2.23.133.2.16
-pub const TCG_AT_TPM_SPECIFICATION: ObjectIdentifier = ObjectIdentifier::new_unwrap("2.23.133.2.16");
+pub const TCG_AT_TPM_SPECIFICATION: ObjectIdentifier = padded(*b"\x05\x67\x81\x05\x02\x10\0\0\0\0\0\0\0\0\0\0\0\0\0\0\0\0\0\0\0\0\0\0\0\0\0\0\0\0\0\0\0\0\0\0");
 /// `tcg-at-tcgPlatformSpecification`: 2.23.133.2.17
-pub const TCG_AT_TCG_PLATFORM_SPECIFICATION: ObjectIdentifier = ObjectIdentifier::new_unwrap("2.23.133.2.17");
+pub const TCG_AT_TCG_PLATFORM_SPECIFICATION: ObjectIdentifier = padded(*b"\x05\x67\x81\x05\x02\x11\0\0\0\0\0\0\0\0\0\0\0\0\0\0\0\0\0\0\0\0\0\0\0\0\0\0\0\0\0\0\0\0\0\0");
 /// `tcg-at-tpmSecurityAssertions`: 2.23.133.2.18
-pub const TCG_AT_TPM_SECURITY_ASSERTIONS: ObjectIdentifier = ObjectIdentifier::new_unwrap("2.23.133.2.18");
+pub const TCG_AT_TPM_SECURITY_ASSERTIONS: ObjectIdentifier = padded(*b"\x05\x67\x81\x05\x02\x12\0\0\0\0\0\0\0\0\0\0\0\0\0\0\0\0\0\0\0\0\0\0\0\0\0\0\0\0\0\0\0\0\0\0");
 /// `tcg-at-tbbSecurityAssertions`: 2.23.133.2.19
-pub const TCG_AT_TBB_SECURITY_ASSERTIONS: ObjectIdentifier = ObjectIdentifier::new_unwrap("2.23.133.2.19");
+pub const TCG_AT_TBB_SECURITY_ASSERTIONS: ObjectIdentifier = padded(*b"\x05\x67\x81\x05\x02\x13\0\0\0\0\0\0\0\0\0\0\0\0\0\0\0\0\0\0\0\0\0\0\0\0\0\0\0\0\0\0\0\0\0\0");
 /// `tcg-at-tpmModel`: 2.23.133.2.2
-pub const TCG_AT_TPM_MODEL: ObjectIdentifier = ObjectIdentifier::new_unwrap("2.23.133.2.2");
+pub const TCG_AT_TPM_MODEL: ObjectIdentifier = padded(*b"\x05\x67\x81\x05\x02\x02\0\0\0\0\0\0\0\0\0\0\0\0\0\0\0\0\0\0\0\0\0\0\0\0\0\0\0\0\0\0\0\0\0\0");
 /// `tcg-at-tpmVersion`: 2.23.133.2.3
-pub const TCG_AT_TPM_VERSION: ObjectIdentifier = ObjectIdentifier::new_unwrap("2.23.133.2.3");
+pub const TCG_AT_TPM_VERSION: ObjectIdentifier = padded(*b"\x05\x67\x81\x05\x02\x03\0\0\0\0\0\0\0\0\0\0\0\0\0\0\0\0\0\0\0\0\0\0\0\0\0\0\0\0\0\0\0\0\0\0");
 /// `tcg-at-platformManufacturer`: 2.23.133.2.4
-pub const TCG_AT_PLATFORM_MANUFACTURER: ObjectIdentifier = ObjectIdentifier::new_unwrap("2.23.133.2.4");
+pub const TCG_AT_PLATFORM_MANUFACTURER: ObjectIdentifier = padded(*b"\x05\x67\x81\x05\x02\x04\0\0\0\0\0\0\0\0\0\0\0\0\0\0\0\0\0\0\0\0\0\0\0\0\0\0\0\0\0\0\0\0\0\0");
 /// `tcg-at-platformModel`: 2.23.133.2.5
-pub const TCG_AT_PLATFORM_MODEL: ObjectIdentifier = ObjectIdentifier::new_unwrap("2.23.133.2.5");
+pub const TCG_AT_PLATFORM_MODEL: ObjectIdentifier = padded(*b"\x05\x67\x81\x05\x02\x05\0\0\0\0\0\0\0\0\0\0\0\0\0\0\0\0\0\0\0\0\0\0\0\0\0\0\0\0\0\0\0\0\0\0");
 /// `tcg-at-platformVersion`: 2.23.133.2.6
-pub const TCG_AT_PLATFORM_VERSION: ObjectIdentifier = ObjectIdentifier::new_unwrap("2.23.133.2.6");
+pub const TCG_AT_PLATFORM_VERSION: ObjectIdentifier = padded(*b"\x05\x67\x81\x05\x02\x06\0\0\0\0\0\0\0\0\0\0\0\0\0\0\0\0\0\0\0\0\0\0\0\0\0\0\0\0\0\0\0\0\0\0");
 /// `tcg-protocol`: 2.23.133.3
-pub const TCG_PROTOCOL: ObjectIdentifier = ObjectIdentifier::new_unwrap("2.23.133.3");
+pub const TCG_PROTOCOL: ObjectIdentifier = padded(*b"\x04\x67\x81\x05\x03\0\0\0\0\0\0\0\0\0\0\0\0\0\0\0\0\0\0\0\0\0\0\0\0\0\0\0\0\0\0\0\0\0\0\0");
 /// `tcg-prt-tpmIdProtocol`: 2.23.133.3.1
-pub const TCG_PRT_TPM_ID_PROTOCOL: ObjectIdentifier = ObjectIdentifier::new_unwrap("2.23.133.3.1");
+pub const TCG_PRT_TPM_ID_PROTOCOL: ObjectIdentifier = padded(*b"\x05\x67\x81\x05\x03\x01\0\0\0\0\0\0\0\0\0\0\0\0\0\0\0\0\0\0\0\0\0\0\0\0\0\0\0\0\0\0\0\0\0\0");
 /// `tcg-algorithm`: 2.23.133.4
-pub const TCG_ALGORITHM: ObjectIdentifier = ObjectIdentifier::new_unwrap("2.23.133.4");
+pub const TCG_ALGORITHM: ObjectIdentifier = padded(*b"\x04\x67\x81\x05\x04\0\0\0\0\0\0\0\0\0\0\0\0\0\0\0\0\0\0\0\0\0\0\0\0\0\0\0\0\0\0\0\0\0\0\0");
 /// `tcg-algorithm-null`: 2.23.133.4.1
-pub const TCG_ALGORITHM_NULL: ObjectIdentifier = ObjectIdentifier::new_unwrap("2.23.133.4.1");
+pub const TCG_ALGORITHM_NULL: ObjectIdentifier = padded(*b"\x05\x67\x81\x05\x04\x01\0\0\0\0\0\0\0\0\0\0\0\0\0\0\0\0\0\0\0\0\0\0\0\0\0\0\0\0\0\0\0\0\0\0");
 /// `tcg-ce`: 2.23.133.6
-pub const TCG_CE: ObjectIdentifier = ObjectIdentifier::new_unwrap("2.23.133.6");
+pub const TCG_CE: ObjectIdentifier = padded(*b"\x04\x67\x81\x05\x06\0\0\0\0\0\0\0\0\0\0\0\0\0\0\0\0\0\0\0\0\0\0\0\0\0\0\0\0\0\0\0\0\0\0\0");
 /// `tcg-ce-relevantCredentials`: 2.23.133.6.2
-pub const TCG_CE_RELEVANT_CREDENTIALS: ObjectIdentifier = ObjectIdentifier::new_unwrap("2.23.133.6.2");
+pub const TCG_CE_RELEVANT_CREDENTIALS: ObjectIdentifier = padded(*b"\x05\x67\x81\x05\x06\x02\0\0\0\0\0\0\0\0\0\0\0\0\0\0\0\0\0\0\0\0\0\0\0\0\0\0\0\0\0\0\0\0\0\0");
 /// `tcg-ce-relevantManifests`: 2.23.133.6.3
-pub const TCG_CE_RELEVANT_MANIFESTS: ObjectIdentifier = ObjectIdentifier::new_unwrap("2.23.133.6.3");
+pub const TCG_CE_RELEVANT_MANIFESTS: ObjectIdentifier = padded(*b"\x05\x67\x81\x05\x06\x03\0\0\0\0\0\0\0\0\0\0\0\0\0\0\0\0\0\0\0\0\0\0\0\0\0\0\0\0\0\0\0\0\0\0");
 /// `tcg-ce-virtualPlatformAttestationService`: 2.23.133.6.4
-pub const TCG_CE_VIRTUAL_PLATFORM_ATTESTATION_SERVICE: ObjectIdentifier = ObjectIdentifier::new_unwrap("2.23.133.6.4");
+pub const TCG_CE_VIRTUAL_PLATFORM_ATTESTATION_SERVICE: ObjectIdentifier = padded(*b"\x05\x67\x81\x05\x06\x04\0\0\0\0\0\0\0\0\0\0\0\0\0\0\0\0\0\0\0\0\0\0\0\0\0\0\0\0\0\0\0\0\0\0");
 /// `tcg-ce-migrationControllerAttestationService`: 2.23.133.6.5
-pub const TCG_CE_MIGRATION_CONTROLLER_ATTESTATION_SERVICE: ObjectIdentifier = ObjectIdentifier::new_unwrap("2.23.133.6.5");
+pub const TCG_CE_MIGRATION_CONTROLLER_ATTESTATION_SERVICE: ObjectIdentifier = padded(*b"\x05\x67\x81\x05\x06\x05\0\0\0\0\0\0\0\0\0\0\0\0\0\0\0\0\0\0\0\0\0\0\0\0\0\0\0\0\0\0\0\0\0\0");
 /// `tcg-ce-migrationControllerRegistrationService`: 2.23.133.6.6
-pub const TCG_CE_MIGRATION_CONTROLLER_REGISTRATION_SERVICE: ObjectIdentifier = ObjectIdentifier::new_unwrap("2.23.133.6.6");
+pub const TCG_CE_MIGRATION_CONTROLLER_REGISTRATION_SERVICE: ObjectIdentifier = padded(*b"\x05\x67\x81\x05\x06\x06\0\0\0\0\0\0\0\0\0\0\0\0\0\0\0\0\0\0\0\0\0\0\0\0\0\0\0\0\0\0\0\0\0\0");
 /// `tcg-ce-virtualPlatformBackupService`: 2.23.133.6.7
-pub const TCG_CE_VIRTUAL_PLATFORM_BACKUP_SERVICE: ObjectIdentifier = ObjectIdentifier::new_unwrap("2.23.133.6.7");
+pub const TCG_CE_VIRTUAL_PLATFORM_BACKUP_SERVICE: ObjectIdentifier = padded(*b"\x05\x67\x81\x05\x06\x07\0\0\0\0\0\0\0\0\0\0\0\0\0\0\0\0\0\0\0\0\0\0\0\0\0\0\0\0\0\0\0\0\0\0");
 /// `tcg-kp`: 2.23.133.8
-pub const TCG_KP: ObjectIdentifier = ObjectIdentifier::new_unwrap("2.23.133.8");
+pub const TCG_KP: ObjectIdentifier = padded(*b"\x04\x67\x81\x05\x08\0\0\0\0\0\0\0\0\0\0\0\0\0\0\0\0\0\0\0\0\0\0\0\0\0\0\0\0\0\0\0\0\0\0\0");
 /// `tcg-kp-EKCertificate`: 2.23.133.8.1
-pub const TCG_KP_EK_CERTIFICATE: ObjectIdentifier = ObjectIdentifier::new_unwrap("2.23.133.8.1");
+pub const TCG_KP_EK_CERTIFICATE: ObjectIdentifier = padded(*b"\x05\x67\x81\x05\x08\x01\0\0\0\0\0\0\0\0\0\0\0\0\0\0\0\0\0\0\0\0\0\0\0\0\0\0\0\0\0\0\0\0\0\0");
 /// `tcg-kp-PlatformCertificate`: 2.23.133.8.2
-pub const TCG_KP_PLATFORM_CERTIFICATE: ObjectIdentifier = ObjectIdentifier::new_unwrap("2.23.133.8.2");
+pub const TCG_KP_PLATFORM_CERTIFICATE: ObjectIdentifier = padded(*b"\x05\x67\x81\x05\x08\x02\0\0\0\0\0\0\0\0\0\0\0\0\0\0\0\0\0\0\0\0\0\0\0\0\0\0\0\0\0\0\0\0\0\0");
 /// `tcg-kp-AIKCertificate`: 2.23.133.8.3
-pub const TCG_KP_AIK_CERTIFICATE: ObjectIdentifier = ObjectIdentifier::new_unwrap("2.23.133.8.3");
+pub const TCG_KP_AIK_CERTIFICATE: ObjectIdentifier = padded(*b"\x05\x67\x81\x05\x08\x03\0\0\0\0\0\0\0\0\0\0\0\0\0\0\0\0\0\0\0\0\0\0\0\0\0\0\0\0\0\0\0\0\0\0");
 }
 
 static ENTRIES: [(&ObjectIdentifier, &str); 1492] = [
