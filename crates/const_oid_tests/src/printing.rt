@@ -77,30 +77,36 @@ fn prints_each_length(rt: HostRuntime) -> Result<(), Fail> {
     Ok(())
 }
 
-/// Whether an output, which held nothing but 0xEE, begins with these bytes, whose number was returned, and goes on as
-/// before. Without room for them it is as before.
-fn is_written(out: &[u8], bytes: &[u8], written: Option<usize>) -> bool {
-    let fits = bytes.len() <= out.len();
-    let start = if fits { bytes } else { &[] };
-    written == fits.then_some(bytes.len())
-        && out.starts_with(start)
-        && out.iter().skip(start.len()).all(|byte| *byte == 0xEE)
+/// Whether an output, which held nothing but 0xEE, begins with these bytes and goes on as before.
+pub fn is_alone(out: &[u8], bytes: &[u8]) -> bool {
+    out.starts_with(bytes) && out.iter().skip(bytes.len()).all(|byte| *byte == 0xEE)
 }
 
-/// Whether `len` bytes begin with the text and go on as before, or, if they are fewer, are as before: the text of
-/// both forms, and that of an error.
+/// Whether an output of `len` bytes begins with what a call writes, whose length it returns, and goes on as before.
+/// Without room for that it is as before.
+macro_rules! writes {
+    ($len:expr, $bytes:expr, |$out:ident| $written:expr) => {{
+        let (mut room, fits) = ([0xEE; 20], $bytes.len() <= $len);
+        let $out = &mut room[..$len];
+        $written == fits.then_some($bytes.len()) && is_alone(&room[..$len], if fits { $bytes } else { &[] })
+    }};
+}
+
+/// Whether `len` bytes have the text of both forms, their element, and the text of an error, if there is room for it.
 fn are_written(len: usize) -> bool
     requires { len ≤ 20 }
 {
     let oid = Oid::new_unwrap("1.2.3");
     let lent = oid.as_oid_ref();
-    let (mut owned, mut borrowed, mut error) = ([0xEE; 20], [0xEE; 20], [0xEE; 20]);
-    let of_owned = oid.encode_str(&mut owned[..len]).map(str::len);
-    let of_borrowed = lent.encode_str(&mut borrowed[..len]).map(str::len);
-    let of_error = Error::Length.encode_str(&mut error[..len]).map(str::len);
-    is_written(&owned[..len], b"1.2.3", of_owned)
-        && is_written(&borrowed[..len], b"1.2.3", of_borrowed)
-        && is_written(&error[..len], b"OID length invalid", of_error)
+    writes!(len, b"1.2.3", |out| oid.encode_str(out).map(str::len))
+        && writes!(len, b"1.2.3", |out| lent.encode_str(out).map(str::len))
+        && writes!(len, &[6, 2, 0x2A, 3], |out| oid.write_element(out))
+        && writes!(len, &[6, 2, 0x2A, 3], |out| lent.write_element(out))
+        && writes!(
+            len,
+            b"OID length invalid",
+            |out| Error::Length.encode_str(out).map(str::len)
+        )
 }
 
 /// Clauses say so of `encode_text`.

@@ -1,5 +1,5 @@
-//! Tables sorted by arcs, as `sorted` of `const_oid_uses::label` makes them: `try_new`, `clone`, `by_name` and `nearest`
-//! of `SortedDatabase`, `nearest_of`, and the labels of SNMP that `label` prints.
+//! Tables sorted by arcs, as `sorted` of `const_oid_uses::label` makes them: the functions of `SortedDatabase`, searches,
+//! and the labels of SNMP that `label` prints.
 
 ghost use Rattle.std.specs.Prelude.{◌≡◌, IsOk, IfOk};
 ghost use Rattle.const_oid.specs.Names.{sorted_entries_of};
@@ -7,7 +7,7 @@ ghost use Rattle.const_oid.specs.Names.{sorted_entries_of};
 use crate::vectors::{parse, read_borrowed};
 use const_oid::ObjectIdentifierRef;
 use const_oid::db::SortedDatabase;
-use const_oid::search::nearest_of;
+use const_oid::search::{end_of, first_of, nearest_of, start_of, subtree_of};
 use const_oid_uses::label::{label, sorted};
 use std::alloc::{AllocError, Global};
 use std::test::Fail;
@@ -67,6 +67,17 @@ const LABELS: &[(&str, Option<&str>)] = &[
     ("1.3.6.1.4", None),
 ];
 
+/// Whether a table finds what searches of its entries find.
+fn is_found(names: &SortedDatabase<'_>, entries: &[Entry], oid: ObjectIdentifierRef<'_>) -> bool {
+    let name_at = |index: usize| entries.get(index).map(|entry| entry.1);
+    let (start, end) = subtree_of(entries, &oid);
+    names.by_oid(&oid) == first_of(entries, &oid).and_then(name_at)
+        && names.next_after(&oid).map(|entry| entry.1) == name_at(end_of(entries, &oid))
+        && names.nearest(oid).map(|entry| entry.1) == nearest_of(entries, &oid).and_then(name_at)
+        && names.subtree(&oid).len() == end.saturating_sub(start)
+        && start_of(entries, &oid) == start
+}
+
 #[test]
 fn sorted_rows_have_names_and_labels(rt: HostRuntime) -> Result<(), Fail> {
     let mut entries = entries(rt.alloc(), TABLE)?;
@@ -79,6 +90,13 @@ fn sorted_rows_have_names_and_labels(rt: HostRuntime) -> Result<(), Fail> {
     for (text, wanted) in LABELS {
         let printed = label(rt.alloc(), &names, parse(text)?.as_oid_ref())?;
         assert!(rt; printed.as_deref() == *wanted, "{text}");
+    }
+    let names = SortedDatabase::try_new(&entries).ok_or("not sorted")?;
+    for (text, _) in LABELS {
+        assert!(rt;
+            is_found(&names, &entries, parse(text)?.as_oid_ref()),
+            "{text}"
+        );
     }
     Ok(())
 }

@@ -79,18 +79,23 @@ fn are_arcs_of(arcs: Arcs<'_>, text: &str) -> bool {
     arcs.map(Some).eq(numbers)
 }
 
-/// Whether the text and the octets of a row are one owned identifier, with the arcs and the text of the row.
+/// Whether an identifier of either form has the octets, the arcs and the text of a row.
+macro_rules! is_row {
+    ($oid:expr, $text:expr, $octets:expr) => {
+        $oid.as_bytes() == $octets
+            && are_arcs_of($oid.arcs(), $text)
+            && $oid.len() == $text.split('.').count()
+            && $oid.arcs().enumerate().all(|(index, arc)| $oid.arc(index) == Some(arc))
+            && $oid.arc($oid.len()).is_none()
+            && $oid.arc(usize::MAX).is_none()
+            && prints_as(&$oid, $text)
+    };
+}
+
+/// Whether the text and the octets of a row are one owned identifier.
 fn is_owned(text: &str, octets: &[u8]) -> Result<bool, Error> {
     let oid = Oid::from_bytes(octets)?;
-    Ok(
-        oid.as_bytes() == octets
-            && oid == Oid::new(text)?
-            && oid == text.parse()?
-            && are_arcs_of(oid.arcs(), text)
-            && oid.len() == text.split('.').count()
-            && oid.arc(oid.len()).is_none()
-            && prints_as(&oid, text),
-    )
+    Ok(is_row!(oid, text, octets) && oid == Oid::new(text)? && oid == text.parse()?)
 }
 
 #[test]
@@ -100,21 +105,11 @@ fn owned_ones_have_the_rows(rt: HostRuntime) {
     }
 }
 
-/// Whether the octets of a row are a borrowed identifier with the arcs and the text of the row.
-fn is_borrowed(text: &str, octets: &[u8]) -> Result<bool, Error> {
-    let oid = ObjectIdentifierRef::from_bytes(octets)?;
-    Ok(
-        oid.as_bytes() == octets
-            && are_arcs_of(oid.arcs(), text)
-            && oid.len() == text.split('.').count()
-            && oid.arc(oid.len()).is_none()
-            && prints_as(&oid, text),
-    )
-}
-
 #[test]
-fn borrowed_ones_have_the_rows(rt: HostRuntime) {
+fn borrowed_ones_have_the_rows(rt: HostRuntime) -> Result<(), Error> {
     for (text, octets) in accepted_rows() {
-        assert!(rt; is_borrowed(text, octets) == Ok(true), "{text}");
+        let oid = ObjectIdentifierRef::from_bytes(octets)?;
+        assert!(rt; is_row!(oid, text, *octets), "{text}");
     }
+    Ok(())
 }

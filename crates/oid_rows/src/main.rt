@@ -41,6 +41,15 @@ fn arcs(alloc: Global, input: &str) -> Result<Vec<Arc>> {
     Ok(arcs)
 }
 
+/// The octets of each word of a row.
+fn items(alloc: Global, input: &str) -> Result<Vec<Vec<u8>>> {
+    let mut items = Vec::new(alloc);
+    for word in words(alloc, input)? {
+        items.push(hex::decode(alloc, word.as_bytes())?)?;
+    }
+    Ok(items)
+}
+
 /// The result of a row that begins with octets.
 fn of_octets(alloc: Global, call: &str, octets: &[u8], rest: &str) -> Result<String> {
     match call {
@@ -53,12 +62,16 @@ fn of_octets(alloc: Global, call: &str, octets: &[u8], rest: &str) -> Result<Str
         "arcs_from" => identifiers::arcs_from(alloc, octets, &arcs(alloc, rest)?),
         "parent" => relations::parent(alloc, octets),
         "child" => relations::child(alloc, octets, rest.parse()?),
-        "list" => relations::list(alloc, octets, &words(alloc, rest)?),
-        _ => relations::pair(alloc, call, octets, &hex::decode(alloc, rest.as_bytes())?),
+        "list" => relations::list(alloc, octets, &items(alloc, rest)?),
+        "names" => relations::names(alloc, octets, &words(alloc, rest)?),
+        _ => {
+            let word = relations::pair(call, octets, &hex::decode(alloc, rest.as_bytes())?)?;
+            Ok(String::from_str(alloc, word)?)
+        }
     }
 }
 
-/// The result of a row of one identifier, of entries or of a table.
+/// The result of a row of one identifier or of a list.
 fn of_one(alloc: Global, call: &str, input: &str) -> Result<String> {
     let (first, rest) = input.split_once(' ').unwrap_or((input, ""));
     match call {
@@ -70,8 +83,7 @@ fn of_one(alloc: Global, call: &str, input: &str) -> Result<String> {
         },
         "arcs" => identifiers::arcs(alloc, &arcs(alloc, input)?),
         "arcs_in" => identifiers::arcs_in(alloc, first.parse()?, &arcs(alloc, rest)?),
-        "sorted" => relations::sorted(alloc, &words(alloc, input)?),
-        "names" => relations::names(alloc, first, &words(alloc, rest)?),
+        "sorted" => relations::sorted(alloc, &items(alloc, input)?),
         _ => of_octets(alloc, call, &hex::decode(alloc, first.as_bytes())?, rest),
     }
 }
@@ -82,8 +94,8 @@ fn answer(alloc: Global, call: &str, input: &str) -> Result<Option<String>> {
         ("items_order", _) => Ok(None),
         ("error", _) => identifiers::error(alloc, &arcs(alloc, input)?),
         (_, Some(call)) => {
-            let words = words(alloc, input)?;
-            Ok(Some(relations::in_order(alloc, call, &words)?))
+            let word = relations::in_order(call, &items(alloc, input)?)?;
+            Ok(Some(String::from_str(alloc, word)?))
         }
         _ => Ok(Some(of_one(alloc, call, input)?)),
     }
