@@ -76,23 +76,6 @@ fn reads_prefixes_and_rejects_0x80_before_subidentifiers(
     Ok(())
 }
 
-/// Octets of 1 of each length up to 40, of which one in turn is another: 0x80 begins a subidentifier, and 0xFF goes on.
-#[test]
-fn reads_each_octet_of_each_length(rt: HostRuntime) {
-    let mut octets = [1; 40];
-    for len in 1..41 {
-        for index in 0..len {
-            let open = (index + 1 == len).then_some(Error::Base128);
-            for (other, error) in [(0x7F, None), (0x80, Some(Error::Base128)), (0xFF, open)] {
-                octets[index] = other;
-                let fault = ObjectIdentifierRef::from_bytes(&octets[..len]).err();
-                assert!(rt; fault == error, "{other} at {index} of {len}");
-            }
-            octets[index] = 1;
-        }
-    }
-}
-
 /// Whether octets have this error, or none, and a second arc past 39 exactly where the first octet is 120 or more.
 fn is_short(octets: &[u8], error: Option<Error>) -> bool {
     let oid = ObjectIdentifierRef::from_bytes(octets);
