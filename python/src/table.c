@@ -5,7 +5,7 @@
 
 /* The most keys of a part, two or more, so that one more moves few of them. */
 #ifndef PART
-#define PART 512
+#define PART 64
 #endif
 
 /* The most entries of a table: their indices have less than 32 bits. */
@@ -25,16 +25,23 @@ typedef struct {
     size_t count, room;
 } Run;
 
+/* The start of a key, in octets whose order is that of arcs: see encode. */
 typedef struct {
-    uint32_t *indices;
-    uint32_t count, room;
+    uint8_t octets[16];
+} Code;
+
+/* The code of none of its keys is above the bound, and that of no key in a later part is below. So most searches for a
+ * part read no other key. The last part needs no bound. */
+typedef struct {
+    Code bound;
+    uint32_t *indices; /* with room for PART */
+    uint32_t count;
 } Part;
 
-/* Indices in the order of their keys, in parts that have some, but for an only one. All others have room for PART. A
- * spare part may follow them. */
+/* Indices in the order of their keys, in parts that all have some. */
 typedef struct {
     Part *parts;
-    uint32_t count, with_spare, room;
+    uint32_t count, room;
 } Order;
 
 typedef struct {
@@ -47,7 +54,7 @@ typedef struct {
     unsigned long long version; /* how often keys came or went */
 } Tree;
 
-/* Where a key is in the order, or would be. */
+/* Where a key is in the order, or would be, which may be at the end of any part. */
 typedef struct {
     uint32_t part, index;
     int is_there;
@@ -71,10 +78,10 @@ static int compare(const Entry *left, const Entry *right) {
     return const_oid_by_arcs(items_of(left->key), items_of(right->key));
 }
 
-static void swap(Entry *left, Entry *right) {
-    Entry entry = *left;
-    *left = *right;
-    *right = entry;
+static void swap_values(Entry *left, Entry *right) {
+    PyObject *value = left->value;
+    left->value = right->value;
+    right->value = value;
 }
 
 static Entry held(PyObject *key, PyObject *value) { return (Entry){Py_NewRef(key), {Py_NewRef(value)}}; }
@@ -130,11 +137,11 @@ static uint32_t unite(Run *run) {
     for (size_t index = 1; index < run->count; index++) {
         Entry *entry = &run->entries[index];
         if (is_same(run->entries[last].key, entry->key)) {
-            PyObject *value = entry->value;
-            entry->value = run->entries[last].value;
-            run->entries[last].value = value;
+            swap_values(&run->entries[last], entry);
         } else if (++last < index) {
-            swap(&run->entries[last], entry);
+            Entry next = *entry;
+            *entry = run->entries[last];
+            run->entries[last] = next;
         }
     }
     return (uint32_t)(run->count ? last + 1 : 0);
@@ -146,7 +153,7 @@ static int put_in_order(Run *run, uint32_t *count) {
     while (sorted < run->count && compare(&run->entries[sorted - 1], &run->entries[sorted]) < 0) sorted++;
     if (sorted >= run->count) return *count = (uint32_t)run->count, 0;
     Entry *room = PyMem_Malloc((run->count / 2) * sizeof *room);
-    if (!room) return PyErr_NoMemory(), -1;
+    if (!room) return -1;
     sort(run->entries, run->count, room);
     PyMem_Free(room);
     *count = unite(run);
@@ -215,163 +222,180 @@ static int reserve_slots(Tree *tree, uint32_t size) {
     return 0;
 }
 
-/* Makes room for more entries, which changes none, or raises MemoryError. */
+/* Makes room for more entries, which changes none. */
 static int reserve(Tree *tree, uint32_t more) {
     size_t size = (size_t)tree->size + more, room = size + size / 8 + 3;
-    if (size > MOST) return PyErr_NoMemory(), -1;
+    if (size > MOST) return -1;
     if (size > tree->room) {
         Entry *entries = PyMem_Realloc(tree->entries, room * sizeof *entries);
-        if (!entries) return PyErr_NoMemory(), -1;
+        if (!entries) return -1;
         tree->entries = entries;
         tree->room = (uint32_t)room;
     }
-    return reserve_slots(tree, (uint32_t)size) ? (PyErr_NoMemory(), -1) : 0;
+    return reserve_slots(tree, (uint32_t)size);
 }
 
-/* Takes the index of the next entry that comes: one that was there, or else a new one. */
-static uint32_t take_index(Tree *tree) {
+/* Puts an entry at an index that it returns, for which there is room: one that was there, or else a new one. */
+static uint32_t put(Tree *tree, Entry entry) {
     uint32_t index = tree->vacant ? tree->vacant - 1 : tree->used++;
     if (tree->vacant) tree->vacant = (uint32_t)tree->entries[index].vacant;
-    return index;
-}
-
-/* Puts an entry at the next index, for which there is room, but not into the order. */
-static void put(Tree *tree, Entry entry) {
-    uint32_t index = take_index(tree);
     tree->entries[index] = entry;
     fill_slot(tree, index);
     tree->size++;
     tree->version++;
+    return index;
 }
 
 /* ---- The order ---- */
 
 static uint32_t index_at(const Tree *tree, Place place) { return tree->order.parts[place.part].indices[place.index]; }
 
-static Entry *entry_at(const Tree *tree, Place place) { return &tree->entries[index_at(tree, place)]; }
-
-/* Compares the last key of a part with some items. */
-static int compare_last(const Tree *tree, uint32_t part, const const_oid_octets *items) {
-    Place last = {part, tree->order.parts[part].count - 1, 1};
-    return const_oid_by_arcs(items_of(entry_at(tree, last)->key), items);
+/* The entry at a place, or NULL after all. */
+static Entry *entry_at(const Tree *tree, Place place) {
+    int is_there = place.part < tree->order.count && place.index < tree->order.parts[place.part].count;
+    return is_there ? &tree->entries[index_at(tree, place)] : NULL;
 }
 
-/* The place of the first key that is not before some items, or past all. */
-static Place find(const Tree *tree, const const_oid_octets *items) {
-    Place place = {tree->order.count, 0, 0};
-    if (!tree->size || compare_last(tree, place.part - 1, items) < 0) return place;
-    place.part = 0;
-    for (uint32_t end = tree->order.count - 1; place.part < end;) {
-        uint32_t middle = place.part + (end - place.part) / 2;
-        if (compare_last(tree, middle, items) < 0) place.part = middle + 1;
+/* A subidentifier of several octets comes after their number, which is above all single ones. If the codes of two keys
+ * differ, the keys are in their order. */
+static Code encode(const const_oid_octets *items) {
+    uint8_t room[sizeof(Code) + 5] = {0}, *out = room, *number = NULL;
+    for (size_t at = 0; at < items->len && (number || out < &room[sizeof(Code)]); at++) {
+        uint8_t octet = items->octets[at];
+        if (!number && octet > 127) *(number = out++) = 128;
+        if (number) ++*number;
+        *out++ = octet;
+        if (octet < 128) number = NULL;
+    }
+    Code code;
+    memcpy(code.octets, room, sizeof code.octets);
+    return code;
+}
+
+static const const_oid_octets *last_of(const Tree *tree, const Part *part) {
+    return items_of(tree->entries[part->indices[part->count - 1]].key);
+}
+
+/* The part for a key with some items. */
+static uint32_t find_part(const Tree *tree, const const_oid_octets *items) {
+    uint32_t first = 0;
+    Code code = encode(items);
+    for (uint32_t end = tree->order.count - 1; first < end;) {
+        uint32_t middle = (first + end) / 2;
+        const Part *part = &tree->order.parts[middle];
+        int order = memcmp(part->bound.octets, code.octets, sizeof code.octets);
+        if ((order ? order : const_oid_by_arcs(last_of(tree, part), items)) < 0) first = middle + 1;
         else end = middle;
     }
-    for (uint32_t end = tree->order.parts[place.part].count; place.index < end;) {
-        Place middle = {place.part, place.index + (end - place.index) / 2, 1};
-        int order = const_oid_by_arcs(items_of(entry_at(tree, middle)->key), items);
-        if (!order) return middle;
-        if (order < 0) place.index = middle.index + 1;
-        else end = middle.index;
+    return first;
+}
+
+/* The place of some items: after all keys that are before them. */
+static Place find(const Tree *tree, const const_oid_octets *items) {
+    if (!tree->size) return (Place){0, 0, 0};
+    Place place = {find_part(tree, items), 0, 0};
+    const Part *part = &tree->order.parts[place.part];
+    for (uint32_t end = part->count; place.index < end;) {
+        uint32_t middle = (place.index + end) / 2;
+        int order = const_oid_by_arcs(items_of(tree->entries[part->indices[middle]].key), items);
+        if (!order) return (Place){place.part, middle, 1};
+        if (order < 0) place.index = middle + 1;
+        else end = middle;
     }
     return place;
 }
 
-/* Moves a place to the next entry. Whether there is one. */
-static int step(const Tree *tree, Place *place) {
-    if (++place->index == tree->order.parts[place->part].count) *place = (Place){place->part + 1, 0, 0};
-    return place->part < tree->order.count;
+/* The place of an entry that is there. */
+static Place place_of(const Tree *tree, const Entry *entry) {
+    Place place = {find_part(tree, items_of(entry->key)), 0, 1};
+    while (index_at(tree, place) != entry - tree->entries) place.index++;
+    return place;
+}
+
+/* Moves a place from the end of a part to the next one. */
+static void settle(const Tree *tree, Place *place) {
+    if (place->part + 1 >= tree->order.count || place->index < tree->order.parts[place->part].count) return;
+    *place = (Place){place->part + 1, 0, 0};
 }
 
 /* Moves a place back. Whether there is an entry. */
 static int step_back(const Tree *tree, Place *place) {
-    if (!tree->size || (!place->part && !place->index)) return 0;
+    if (!place->part && !place->index) return 0;
     if (!place->index) place->index = tree->order.parts[--place->part].count;
     place->index--;
     return 1;
 }
 
-/* Frees the parts from one on. */
-static void free_parts(Order *order, uint32_t from) {
-    while (order->with_spare > from) PyMem_Free(order->parts[--order->with_spare].indices);
+static void free_order(Order order) {
+    while (order.count) PyMem_Free(order.parts[--order.count].indices);
+    PyMem_Free(order.parts);
 }
 
-/* Makes a spare part. */
-static int add_part(Order *order, uint32_t room) {
-    uint32_t wanted = order->room + order->room / 4 + 1;
-    Part *parts = order->parts;
-    if (order->with_spare == order->room) {
-        if (!(parts = PyMem_Realloc(parts, wanted * sizeof *parts))) return -1;
+/* Puts an empty part among the others. */
+static int add_part(Order *order, uint32_t at) {
+    if (order->count == order->room) {
+        uint32_t room = order->room + order->room / 4 + 1;
+        Part *parts = PyMem_Realloc(order->parts, room * sizeof *parts);
+        if (!parts) return -1;
         order->parts = parts;
-        order->room = wanted;
+        order->room = room;
     }
-    uint32_t *indices = PyMem_Malloc(room * sizeof *indices);
+    uint32_t *indices = PyMem_Malloc(PART * sizeof *indices);
     if (!indices) return -1;
-    parts[order->with_spare++] = (Part){indices, 0, room};
+    memmove(&order->parts[at + 1], &order->parts[at], (order->count++ - at) * sizeof *order->parts);
+    order->parts[at] = (Part){.indices = indices};
     return 0;
 }
 
-/* Makes room for another index in a part: more in an only one, and else a spare part, by which it is cut. */
-static int make_room(Order *order, uint32_t at) {
-    Part *part = &order->parts[at];
-    if (!order->count) return add_part(order, PART < 4 ? PART : 4) ? -1 : (order->count++, 0);
-    if (part->count < part->room) return 0;
-    if (part->room == PART) return order->with_spare > order->count ? 0 : add_part(order, PART);
-    uint32_t room = 2 * part->room < PART ? 2 * part->room : PART;
-    uint32_t *indices = PyMem_Realloc(part->indices, room * sizeof *indices);
-    if (!indices) return -1;
-    *part = (Part){indices, part->count, room};
-    return 0;
-}
-
-/* Cuts a part in two, the second of which is a spare one. Keys that come in order fill parts. */
-static void cut_part(Order *order, uint32_t at, uint32_t kept) {
-    Part second = order->parts[order->count], *first = &order->parts[at];
-    memmove(first + 2, first + 1, (order->count++ - at - 1) * sizeof second);
-    second.count = first->count - kept;
+/* Makes room for an index at a place, in a full part by cutting it in two. Keys that come in order fill parts. */
+static int make_room(Tree *tree, Place *place) {
+    Order *order = &tree->order;
+    if (!order->count) return add_part(order, 0);
+    if (order->parts[place->part].count < PART) return 0;
+    uint32_t kept = place->part == order->count - 1 && place->index == PART ? PART : PART / 2;
+    if (add_part(order, place->part + 1)) return -1;
+    Part *first = &order->parts[place->part], *second = first + 1;
+    *second = (Part){first->bound, second->indices, PART - kept};
+    memcpy(second->indices, &first->indices[kept], second->count * sizeof *second->indices);
     first->count = kept;
-    memcpy(second.indices, &first->indices[kept], second.count * sizeof *second.indices);
-    first[1] = second;
+    first->bound = encode(last_of(tree, first));
+    if (place->index >= kept) *place = (Place){place->part + 1, place->index - kept, 0};
+    return 0;
 }
 
-/* Puts an index at a place, where there is room. */
+/* Puts the index of an entry at a place, where there is room. */
 static void put_index(Order *order, Place place, uint32_t index) {
-    if (order->parts[place.part].count == PART) {
-        int is_last = place.part == order->count - 1 && place.index == PART;
-        uint32_t kept = is_last ? PART : PART / 2;
-        cut_part(order, place.part, kept);
-        if (place.index >= kept) place = (Place){place.part + 1, place.index - kept, 0};
-    }
     Part *part = &order->parts[place.part];
     uint32_t *at = &part->indices[place.index];
-    memmove(at + 1, at, (part->count++ - place.index) * sizeof *at);
+    memmove(at + 1, at, (part->count - place.index) * sizeof *at);
     *at = index;
+    part->count++;
 }
 
-/* Takes out the index at a place. A part that has none then is a spare one, unless it is the only one. */
+/* Takes out the index at a place, and its part if that has no other. */
 static void take_out(Order *order, Place place) {
-    Part *part = &order->parts[place.part], empty;
+    Part *part = &order->parts[place.part];
     uint32_t *at = &part->indices[place.index];
     memmove(at, at + 1, (--part->count - place.index) * sizeof *at);
-    if (part->count || order->count == 1) return;
-    empty = *part;
+    if (part->count) return;
+    PyMem_Free(part->indices);
     memmove(part, part + 1, (--order->count - place.part) * sizeof *part);
-    order->parts[order->count] = empty;
-    free_parts(order, order->count + 1);
 }
 
 /* ---- Changes ---- */
 
-/* Puts an entry in, whose key is not there. It takes over its references, or raises MemoryError. */
+/* The place for a new key. One that comes after all is found at once. */
+static Place find_new(const Tree *tree, const const_oid_octets *items) {
+    const Part *last = &tree->order.parts[tree->order.count - 1];
+    int is_last = tree->size && const_oid_by_arcs(last_of(tree, last), items) < 0;
+    return is_last ? (Place){tree->order.count - 1, last->count, 0} : find(tree, items);
+}
+
+/* Puts an entry in, whose key is not there. It takes over its references, or there is no memory. */
 static int add(Tree *tree, Entry entry) {
-    Place place = find(tree, items_of(entry.key));
-    if (place.part == tree->order.count && place.part) {
-        place.part--;
-        place.index = tree->order.parts[place.part].count;
-    }
-    if (reserve(tree, 1)) return -1;
-    if (make_room(&tree->order, place.part)) return PyErr_NoMemory(), -1;
-    put_index(&tree->order, place, tree->vacant ? tree->vacant - 1 : tree->used);
-    put(tree, entry);
+    Place place = find_new(tree, items_of(entry.key));
+    if (reserve(tree, 1) || make_room(tree, &place)) return -1;
+    put_index(&tree->order, place, put(tree, entry));
     return 0;
 }
 
@@ -388,45 +412,44 @@ static Entry take(Tree *tree, Place place) {
     return entry;
 }
 
-/* Cuts indices into parts of about the same length. */
-static int cut(Order *order, const uint32_t *indices, uint32_t count) {
+/* Makes parts of about the same length for a number of indices. */
+static int make_parts(Order *order, uint32_t count) {
     uint32_t parts = (count + PART - 1) / PART, each = (count + parts - 1) / parts;
-    for (uint32_t done = 0; done < count; done += each) {
-        uint32_t here = each < count - done ? each : count - done;
-        if (add_part(order, parts == 1 ? count : PART)) return -1;
-        memcpy(order->parts[order->count].indices, &indices[done], here * sizeof *indices);
-        order->parts[order->count++].count = here;
+    while (count && !add_part(order, order->count)) {
+        uint32_t here = each < count ? each : count;
+        order->parts[order->count - 1].count = here;
+        count -= here;
     }
-    return 0;
+    return count ? -1 : 0;
 }
 
-/* Merges the order of a tree with indices that entries in order are to have. */
-static void merge(const Tree *tree, const Entry *added, uint32_t count, uint32_t *merged) {
-    Tree after = *tree;
-    Place place = {0, 0, 0};
-    uint32_t next = 0;
-    for (uint32_t left = tree->size + count, done = 0; left; left--) {
-        int is_old = done == count || (next < tree->size && compare(entry_at(tree, place), &added[done]) < 0);
-        *merged++ = is_old ? index_at(tree, place) : take_index(&after);
-        if (is_old) next++, step(tree, &place);
-        else done++;
+/* Fills a part with the next entries in order: those of a tree from a place on, and others. */
+static const Entry *fill(Tree *tree, Part *part, const Tree *before, Place *from, const Entry *added, const Entry *end) {
+    for (uint32_t at = 0; at < part->count; at++) {
+        const Entry *old = entry_at(before, *from);
+        int is_old = old && (added == end || compare(old, added) < 0);
+        part->indices[at] = is_old ? index_at(before, *from) : put(tree, *added++);
+        if (!is_old) continue;
+        from->index++;
+        settle(before, from);
     }
+    part->bound = encode(last_of(tree, part));
+    return added;
 }
 
-/* Adds many entries in order, whose keys are not there: it makes another order. */
+/* Adds many entries in order, whose keys are not there, and for which there is room. */
 static int add_many(Tree *tree, const Entry *added, uint32_t count) {
-    Order order = {0}, before = tree->order;
-    uint32_t size = tree->size + count, *merged = PyMem_Malloc(size * sizeof *merged);
-    if (!merged) return PyErr_NoMemory(), -1;
-    merge(tree, added, count, merged);
-    int error = cut(&order, merged, size);
-    PyMem_Free(merged);
-    if (error) before = order;
-    else tree->order = order;
-    for (uint32_t done = 0; !error && done < count; done++) put(tree, added[done]);
-    free_parts(&before, 0);
-    PyMem_Free(before.parts);
-    return error ? (PyErr_NoMemory(), -1) : 0;
+    Tree after = *tree;
+    Place from = {0, 0, 0};
+    const Entry *end = &added[count];
+    after.order = (Order){0};
+    if (make_parts(&after.order, tree->size + count)) return free_order(after.order), -1;
+    for (uint32_t part = 0; part < after.order.count; part++) {
+        added = fill(&after, &after.order.parts[part], tree, &from, added, end);
+    }
+    free_order(tree->order);
+    *tree = after;
+    return 0;
 }
 
 /* Adds few of them, each into its part. */
@@ -455,10 +478,7 @@ static int move_new(const Tree *tree, Run *run, Run *added) {
 static void replace_values(const Tree *tree, Run *run) {
     for (size_t index = 0; index < run->count; index++) {
         Entry *entry = &run->entries[index], *there = entry->key ? lookup(tree, entry->key) : NULL;
-        if (!there) continue;
-        PyObject *value = there->value;
-        there->value = entry->value;
-        entry->value = value;
+        if (there) swap_values(there, entry);
     }
 }
 
@@ -474,15 +494,14 @@ static int update(Tree *tree, Run *run) {
     }
     if (!error) replace_values(tree, run);
     drop(&added);
-    return error ? -1 : 0;
+    return error ? PyErr_NoMemory(), -1 : 0;
 }
 
 /* Gives up a tree that no table has any more. */
 static void drop_tree(Tree tree) {
     Run run = {tree.entries, tree.used, tree.room};
     PyMem_Free(tree.slots);
-    free_parts(&tree.order, 0);
-    PyMem_Free(tree.order.parts);
+    free_order(tree.order);
     drop(&run);
 }
 
@@ -545,10 +564,10 @@ static PyObject *table_subscript(PyObject *self, PyObject *key) {
     return entry ? Py_NewRef(entry->value) : raise_missing(key);
 }
 
-/* Takes out the entry of a key that is there. */
-static Entry take_key(PyObject *self, PyObject *key) {
+/* Takes out an entry that is there. */
+static Entry take_entry(PyObject *self, const Entry *entry) {
     Tree *tree = &((Table *)self)->tree;
-    return take(tree, find(tree, items_of(key)));
+    return take(tree, place_of(tree, entry));
 }
 
 /* Puts an entry in, whose key is not there. */
@@ -556,7 +575,7 @@ static int add_new(PyObject *self, PyObject *key, PyObject *value) {
     if (!add(&((Table *)self)->tree, held(key, value))) return 0;
     Py_DecRef(value);
     Py_DecRef(key);
-    return -1;
+    return PyErr_NoMemory(), -1;
 }
 
 static int table_set(PyObject *self, PyObject *key, PyObject *value) {
@@ -568,7 +587,7 @@ static int table_set(PyObject *self, PyObject *key, PyObject *value) {
         entry.value = there->value;
         there->value = Py_NewRef(value);
     } else {
-        entry = take_key(self, key);
+        entry = take_entry(self, there);
         Py_DecRef(entry.key);
     }
     Py_DecRef(entry.value);
@@ -614,7 +633,7 @@ WITH_KEY(table_pop) {
     READ("O|O:pop", 2, "key", "default");
     if (!find_key(self, key, &there)) return NULL;
     if (!there) return count > 1 && given[1] ? Py_NewRef(given[1]) : raise_missing(key);
-    Entry entry = take_key(self, key);
+    Entry entry = take_entry(self, there);
     Py_DecRef(entry.key);
     return entry.value;
 }
@@ -648,9 +667,8 @@ static PyObject *table_popitem(PyObject *self, PyObject *Py_UNUSED(none)) {
     OWNED *pair = PyTuple_New(2);
     if (!pair) return NULL;
     if (!tree->size) return PyErr_SetString(PyExc_KeyError, "popitem(): the map is empty"), NULL;
-    Place last = {tree->order.count, 0, 1};
-    step_back(tree, &last);
-    Entry entry = take(tree, last);
+    uint32_t part = tree->order.count - 1;
+    Entry entry = take(tree, (Place){part, tree->order.parts[part].count - 1, 1});
     PyTuple_SetItem(pair, 0, entry.key);
     PyTuple_SetItem(pair, 1, entry.value);
     return Py_NewRef(pair);
@@ -685,15 +703,17 @@ WITH_KEY(table_next_after) {
     const Tree *tree = &((Table *)self)->tree;
     if (!is_key(self, key)) return NULL;
     Place place = find(tree, items_of(key));
-    if (place.is_there) step(tree, &place);
-    return tree->size && place.part < tree->order.count ? pair_of_entry(entry_at(tree, place)) : Py_NewRef(Py_None);
+    place.index += (uint32_t)place.is_there;
+    settle(tree, &place);
+    const Entry *entry = entry_at(tree, place);
+    return entry ? pair_of_entry(entry) : Py_NewRef(Py_None);
 }
 
 /* Appends entries from a place on, whose keys begin with some octets. */
 static int append_all(const Tree *tree, Place place, const_oid_octets start, Run *run) {
-    int error = 0, is_there = tree->size && place.part < tree->order.count;
-    for (; !error && is_there; is_there = step(tree, &place)) {
-        const Entry *entry = entry_at(tree, place);
+    int error = 0;
+    settle(tree, &place);
+    for (const Entry *entry; !error && (entry = entry_at(tree, place)); place.index++, settle(tree, &place)) {
         const const_oid_octets *items = items_of(entry->key);
         if (start.len && (start.len > items->len || memcmp(start.octets, items->octets, start.len))) break;
         error = append(run, entry->key, entry->value);
@@ -746,10 +766,8 @@ static PyObject *table_sizeof(PyObject *self, PyObject *Py_UNUSED(none)) {
     const Tree *tree = &((Table *)self)->tree;
     OWNED *own = PyObject_CallMethod((PyObject *)&PyBaseObject_Type, "__sizeof__", "O", self);
     size_t size = own ? PyLong_AsSize_t(own) : 0, slots = tree->slots ? (size_t)tree->mask + 1 : 0;
-    size += tree->room * sizeof(Entry) + (size_t)tree->order.room * sizeof(Part) + slots * sizeof *tree->slots;
-    for (uint32_t part = 0; part < tree->order.with_spare; part++) {
-        size += tree->order.parts[part].room * sizeof(uint32_t);
-    }
+    size += tree->room * sizeof(Entry) + (size_t)tree->order.room * sizeof(Part);
+    size += (slots + (size_t)tree->order.count * PART) * sizeof(uint32_t);
     return own ? PyLong_FromSize_t(size) : NULL;
 }
 
@@ -837,8 +855,8 @@ typedef struct {
     PyObject *table; /* NULL after its end */
     unsigned long long version;
     const uint32_t *indices;   /* those of a part */
-    uint32_t at, here, left;   /* the next one, how many are left in the part, and in others */
-    uint32_t part, step;       /* the part's number, and 1 for forth, or UINT32_MAX, by which sums are one less */
+    uint32_t at, end, step;    /* the next one, what comes after the last, and 1, or UINT32_MAX, which is back */
+    uint32_t part, left;       /* the part's number, and how many are left in others */
     int kind;
 } Walk;
 
@@ -876,26 +894,25 @@ static __attribute__((noinline)) PyObject *walk_on(Walk *walk) {
     const Part *part = &tree->order.parts[walk->part += walk->step];
     walk->indices = part->indices;
     walk->at = walk->step == 1 ? 0 : part->count - 1;
-    walk->here = part->count;
+    walk->end = walk->at + part->count * walk->step;
     walk->left -= part->count;
     return walk_next((PyObject *)walk);
 }
 
 static PyObject *walk_next(PyObject *self) {
     Walk *walk = (Walk *)self;
-    if (!walk->here) return walk_on(walk);
+    if (walk->at == walk->end) return walk_on(walk);
     const Tree *tree = &((Table *)walk->table)->tree;
     if (tree->version != walk->version) return walk_on(walk);
     const Entry *entry = &tree->entries[walk->indices[walk->at]];
     walk->at += walk->step;
-    walk->here--;
     if (walk->kind == ENTRIES) return pair_of_entry(entry);
     return Py_NewRef(walk->kind == VALUES ? entry->value : entry->key);
 }
 
 static PyObject *walk_hint(PyObject *self, PyObject *Py_UNUSED(none)) {
     const Walk *walk = (Walk *)self;
-    return PyLong_FromUnsignedLong((unsigned long)walk->here + walk->left);
+    return PyLong_FromUnsignedLong((walk->end - walk->at) * walk->step + walk->left);
 }
 
 static PyMethodDef walk_methods[] = {{"__length_hint__", walk_hint, METH_NOARGS, NULL}, {0}};
