@@ -2,6 +2,7 @@
  * compared by their octets alone. No code of Python runs between two steps of a change: what it needs is allocated
  * before it, and what it no longer needs is given up after it, since the end of a value may change the table again. */
 #include "native.h"
+#include <endian.h>
 
 /* The most keys of a part, two or more, so that one more moves few of them. */
 #ifndef PART
@@ -25,9 +26,9 @@ typedef struct {
     size_t count, room;
 } Run;
 
-/* The start of a key, in octets whose order is that of arcs: see encode. */
+/* The start of a key, in a number whose order is that of arcs: see encode. */
 typedef struct {
-    uint8_t octets[16];
+    uint64_t high, low;
 } Code;
 
 /* The code of none of its keys is above the bound, and that of no key in a later part is below. So most searches for a
@@ -187,7 +188,7 @@ static Entry *lookup(const Tree *tree, PyObject *key) {
 }
 
 /* Gives an entry, whose key has no slot, one. */
-static void fill_slot(Tree *tree, uint32_t index) {
+static inline void fill_slot(Tree *tree, uint32_t index) {
     uint32_t hash = hash_of(tree->entries[index].key), at = hash & tree->mask;
     while (tree->slots[at] != FREE) at = (at + 1) & tree->mask;
     tree->slots[at] = (hash & ~tree->mask) | index;
@@ -236,7 +237,7 @@ static int reserve(Tree *tree, uint32_t more) {
 }
 
 /* Puts an entry at an index that it returns, for which there is room: one that was there, or else a new one. */
-static uint32_t put(Tree *tree, Entry entry) {
+static inline uint32_t put(Tree *tree, Entry entry) {
     uint32_t index = tree->vacant ? tree->vacant - 1 : tree->used++;
     if (tree->vacant) tree->vacant = (uint32_t)tree->entries[index].vacant;
     tree->entries[index] = entry;
@@ -248,12 +249,12 @@ static uint32_t put(Tree *tree, Entry entry) {
 
 /* ---- The order ---- */
 
-static uint32_t index_at(const Tree *tree, Place place) { return tree->order.parts[place.part].indices[place.index]; }
-
-/* The entry at a place, or NULL after all. */
-static Entry *entry_at(const Tree *tree, Place place) {
-    int is_there = place.part < tree->order.count && place.index < tree->order.parts[place.part].count;
-    return is_there ? &tree->entries[index_at(tree, place)] : NULL;
+/* The entry at a place, which moves on, or NULL after all. */
+static inline Entry *next_entry(const Tree *tree, Place *place) {
+    const Part *parts = tree->order.parts;
+    uint32_t count = tree->order.count;
+    if (place->part < count && place->index == parts[place->part].count) *place = (Place){place->part + 1, 0, 0};
+    return place->part < count ? &tree->entries[parts[place->part].indices[place->index++]] : NULL;
 }
 
 /* A subidentifier of several octets comes after their number, which is above all single ones. If the codes of two keys
@@ -268,13 +269,17 @@ static Code encode(const const_oid_octets *items) {
         if (octet < 128) number = NULL;
     }
     Code code;
-    memcpy(code.octets, room, sizeof code.octets);
-    return code;
+    memcpy(&code, room, sizeof code);
+    return (Code){be64toh(code.high), be64toh(code.low)};
 }
 
-static const const_oid_octets *last_of(const Tree *tree, const Part *part) {
+static const const_oid_octets *last_of(const Tree *tree, uint32_t at) {
+    const Part *part = &tree->order.parts[at];
     return items_of(tree->entries[part->indices[part->count - 1]].key);
 }
+
+/* -1, 0 or 1, as numbers compare. */
+#define ORDER(left, right) (((left) > (right)) - ((left) < (right)))
 
 /* The part for a key with some items. */
 static uint32_t find_part(const Tree *tree, const const_oid_octets *items) {
@@ -282,13 +287,17 @@ static uint32_t find_part(const Tree *tree, const const_oid_octets *items) {
     Code code = encode(items);
     for (uint32_t end = tree->order.count - 1; first < end;) {
         uint32_t middle = (first + end) / 2;
-        const Part *part = &tree->order.parts[middle];
-        int order = memcmp(part->bound.octets, code.octets, sizeof code.octets);
-        if ((order ? order : const_oid_by_arcs(last_of(tree, part), items)) < 0) first = middle + 1;
-        else end = middle;
+        Code bound = tree->order.parts[middle].bound;
+        int order = bound.high == code.high ? ORDER(bound.low, code.low) : ORDER(bound.high, code.high);
+        if (!order) order = const_oid_by_arcs(last_of(tree, middle), items);
+        first = order < 0 ? middle + 1 : first;
+        end = order < 0 ? end : middle;
     }
     return first;
 }
+
+/* Reads a key while another one is compared. */
+#define PREFETCH(tree, part, index) __builtin_prefetch((tree)->entries[(part)->indices[index]].key)
 
 /* The place of some items: after all keys that are before them. */
 static Place find(const Tree *tree, const const_oid_octets *items) {
@@ -297,6 +306,8 @@ static Place find(const Tree *tree, const const_oid_octets *items) {
     const Part *part = &tree->order.parts[place.part];
     for (uint32_t end = part->count; place.index < end;) {
         uint32_t middle = (place.index + end) / 2;
+        PREFETCH(tree, part, (place.index + middle) / 2);
+        PREFETCH(tree, part, middle + 1 < end ? (middle + 1 + end) / 2 : middle);
         int order = const_oid_by_arcs(items_of(tree->entries[part->indices[middle]].key), items);
         if (!order) return (Place){place.part, middle, 1};
         if (order < 0) place.index = middle + 1;
@@ -308,14 +319,9 @@ static Place find(const Tree *tree, const const_oid_octets *items) {
 /* The place of an entry that is there. */
 static Place place_of(const Tree *tree, const Entry *entry) {
     Place place = {find_part(tree, items_of(entry->key)), 0, 1};
-    while (index_at(tree, place) != entry - tree->entries) place.index++;
+    const uint32_t *indices = tree->order.parts[place.part].indices;
+    while (indices[place.index] != entry - tree->entries) place.index++;
     return place;
-}
-
-/* Moves a place from the end of a part to the next one. */
-static void settle(const Tree *tree, Place *place) {
-    if (place->part + 1 >= tree->order.count || place->index < tree->order.parts[place->part].count) return;
-    *place = (Place){place->part + 1, 0, 0};
 }
 
 /* Moves a place back. Whether there is an entry. */
@@ -358,53 +364,38 @@ static int make_room(Tree *tree, Place *place) {
     *second = (Part){first->bound, second->indices, PART - kept};
     memcpy(second->indices, &first->indices[kept], second->count * sizeof *second->indices);
     first->count = kept;
-    first->bound = encode(last_of(tree, first));
+    first->bound = encode(last_of(tree, place->part));
     if (place->index >= kept) *place = (Place){place->part + 1, place->index - kept, 0};
     return 0;
 }
 
-/* Puts the index of an entry at a place, where there is room. */
-static void put_index(Order *order, Place place, uint32_t index) {
-    Part *part = &order->parts[place.part];
-    uint32_t *at = &part->indices[place.index];
-    memmove(at + 1, at, (part->count - place.index) * sizeof *at);
-    *at = index;
-    part->count++;
-}
-
-/* Takes out the index at a place, and its part if that has no other. */
-static void take_out(Order *order, Place place) {
-    Part *part = &order->parts[place.part];
-    uint32_t *at = &part->indices[place.index];
-    memmove(at, at + 1, (--part->count - place.index) * sizeof *at);
-    if (part->count) return;
-    PyMem_Free(part->indices);
-    memmove(part, part + 1, (--order->count - place.part) * sizeof *part);
-}
-
 /* ---- Changes ---- */
 
-/* The place for a new key. One that comes after all is found at once. */
-static Place find_new(const Tree *tree, const const_oid_octets *items) {
-    const Part *last = &tree->order.parts[tree->order.count - 1];
-    int is_last = tree->size && const_oid_by_arcs(last_of(tree, last), items) < 0;
-    return is_last ? (Place){tree->order.count - 1, last->count, 0} : find(tree, items);
-}
-
-/* Puts an entry in, whose key is not there. It takes over its references, or there is no memory. */
+/* Puts an entry in, whose key is not there. It takes over its references, or there is no memory. A key that comes after
+ * all finds its place at once. */
 static int add(Tree *tree, Entry entry) {
-    Place place = find_new(tree, items_of(entry.key));
+    uint32_t last = tree->order.count - 1;
+    int is_last = tree->size && const_oid_by_arcs(last_of(tree, last), items_of(entry.key)) < 0;
+    Place place = is_last ? (Place){last, tree->order.parts[last].count, 0} : find(tree, items_of(entry.key));
     if (reserve(tree, 1) || make_room(tree, &place)) return -1;
-    put_index(&tree->order, place, put(tree, entry));
+    Part *part = &tree->order.parts[place.part];
+    uint32_t *at = &part->indices[place.index];
+    memmove(at + 1, at, (part->count++ - place.index) * sizeof *at);
+    *at = put(tree, entry);
     return 0;
 }
 
-/* Takes out the entry at a place, with its references. */
+/* Takes out the entry at a place, with its references, and its part if that has no other. */
 static Entry take(Tree *tree, Place place) {
-    uint32_t index = index_at(tree, place);
+    Part *part = &tree->order.parts[place.part];
+    uint32_t *at = &part->indices[place.index], index = *at;
     Entry entry = tree->entries[index];
     free_slot(tree, slot_of(tree, entry.key));
-    take_out(&tree->order, place);
+    memmove(at, at + 1, (--part->count - place.index) * sizeof *at);
+    if (!part->count) {
+        PyMem_Free(part->indices);
+        memmove(part, part + 1, (--tree->order.count - place.part) * sizeof *part);
+    }
     tree->entries[index] = (Entry){.vacant = tree->vacant};
     tree->vacant = index + 1;
     tree->size--;
@@ -424,16 +415,17 @@ static int make_parts(Order *order, uint32_t count) {
 }
 
 /* Fills a part with the next entries in order: those of a tree from a place on, and others. */
-static const Entry *fill(Tree *tree, Part *part, const Tree *before, Place *from, const Entry *added, const Entry *end) {
-    for (uint32_t at = 0; at < part->count; at++) {
-        const Entry *old = entry_at(before, *from);
+static const Entry *fill(Tree *tree, uint32_t at, const Tree *before, Place *from, const Entry *added,
+    const Entry *end) {
+    Part *part = &tree->order.parts[at];
+    for (uint32_t index = 0; index < part->count; index++) {
+        Place next = *from;
+        const Entry *old = next_entry(before, &next);
         int is_old = old && (added == end || compare(old, added) < 0);
-        part->indices[at] = is_old ? index_at(before, *from) : put(tree, *added++);
-        if (!is_old) continue;
-        from->index++;
-        settle(before, from);
+        part->indices[index] = is_old ? (uint32_t)(old - before->entries) : put(tree, *added++);
+        if (is_old) *from = next;
     }
-    part->bound = encode(last_of(tree, part));
+    part->bound = encode(last_of(tree, at));
     return added;
 }
 
@@ -444,9 +436,7 @@ static int add_many(Tree *tree, const Entry *added, uint32_t count) {
     const Entry *end = &added[count];
     after.order = (Order){0};
     if (make_parts(&after.order, tree->size + count)) return free_order(after.order), -1;
-    for (uint32_t part = 0; part < after.order.count; part++) {
-        added = fill(&after, &after.order.parts[part], tree, &from, added, end);
-    }
+    for (uint32_t part = 0; part < after.order.count; part++) added = fill(&after, part, tree, &from, added, end);
     free_order(tree->order);
     *tree = after;
     return 0;
@@ -542,55 +532,37 @@ static int is_key(PyObject *self, PyObject *key) {
     return 0;
 }
 
-/* Whether an object is a key, and its entry, or NULL. */
-static int find_key(PyObject *self, PyObject *key, Entry **entry) {
-    if (!is_key(self, key)) return 0;
-    *entry = lookup(&((Table *)self)->tree, key);
-    return 1;
-}
-
 static PyObject *raise_missing(PyObject *key) { return PyErr_SetObject(PyExc_KeyError, key), (PyObject *)NULL; }
 
 static Py_ssize_t table_len(PyObject *self) { return ((Table *)self)->tree.size; }
 
 static int table_contains(PyObject *self, PyObject *key) {
-    Entry *entry;
-    return find_key(self, key, &entry) ? entry != NULL : -1;
+    return is_key(self, key) ? lookup(&((Table *)self)->tree, key) != NULL : -1;
 }
 
 static PyObject *table_subscript(PyObject *self, PyObject *key) {
-    Entry *entry;
-    if (!find_key(self, key, &entry)) return NULL;
+    if (!is_key(self, key)) return NULL;
+    const Entry *entry = lookup(&((Table *)self)->tree, key);
     return entry ? Py_NewRef(entry->value) : raise_missing(key);
 }
 
-/* Takes out an entry that is there. */
-static Entry take_entry(PyObject *self, const Entry *entry) {
-    Tree *tree = &((Table *)self)->tree;
-    return take(tree, place_of(tree, entry));
-}
-
 /* Puts an entry in, whose key is not there. */
-static int add_new(PyObject *self, PyObject *key, PyObject *value) {
-    if (!add(&((Table *)self)->tree, held(key, value))) return 0;
+static int add_new(Tree *tree, PyObject *key, PyObject *value) {
+    if (!add(tree, held(key, value))) return 0;
     Py_DecRef(value);
     Py_DecRef(key);
     return PyErr_NoMemory(), -1;
 }
 
 static int table_set(PyObject *self, PyObject *key, PyObject *value) {
-    Entry *there, entry;
-    if (!find_key(self, key, &there)) return -1;
-    if (!there && !value) return raise_missing(key), -1;
-    if (!there) return add_new(self, key, value);
-    if (value) {
-        entry.value = there->value;
-        there->value = Py_NewRef(value);
-    } else {
-        entry = take_entry(self, there);
-        Py_DecRef(entry.key);
-    }
+    Tree *tree = &((Table *)self)->tree;
+    if (!is_key(self, key)) return -1;
+    Entry *there = lookup(tree, key), entry = {NULL, {value}};
+    if (!there) return value ? add_new(tree, key, value) : (raise_missing(key), -1);
+    if (value) swap_values(there, &entry), Py_IncRef(value);
+    else entry = take(tree, place_of(tree, there));
     Py_DecRef(entry.value);
+    Py_DecRef(entry.key);
     return 0;
 }
 
@@ -619,32 +591,31 @@ static int read_named(PyObject *const *given, Py_ssize_t count, PyObject *names,
         given = values; \
         count = most; \
     } \
-    PyObject *key = given[0]
+    PyObject *key = given[0]; \
+    Tree *tree = &((Table *)self)->tree; \
+    if (!is_key(self, key)) return NULL
 
 WITH_KEY(table_get) {
-    Entry *entry;
     READ("O|O:get", 2, "key", "default");
-    if (!find_key(self, key, &entry)) return NULL;
+    const Entry *entry = lookup(tree, key);
     return Py_NewRef(entry ? entry->value : count > 1 && given[1] ? given[1] : Py_None);
 }
 
 WITH_KEY(table_pop) {
-    Entry *there;
     READ("O|O:pop", 2, "key", "default");
-    if (!find_key(self, key, &there)) return NULL;
+    const Entry *there = lookup(tree, key);
     if (!there) return count > 1 && given[1] ? Py_NewRef(given[1]) : raise_missing(key);
-    Entry entry = take_entry(self, there);
+    Entry entry = take(tree, place_of(tree, there));
     Py_DecRef(entry.key);
     return entry.value;
 }
 
 WITH_KEY(table_setdefault) {
-    Entry *entry;
     READ("O|O:setdefault", 2, "key", "default");
-    if (!find_key(self, key, &entry)) return NULL;
+    const Entry *entry = lookup(tree, key);
     if (entry) return Py_NewRef(entry->value);
     PyObject *value = count > 1 && given[1] ? given[1] : Py_None;
-    return add_new(self, key, value) ? NULL : Py_NewRef(value);
+    return add_new(tree, key, value) ? NULL : Py_NewRef(value);
 }
 
 /* A tuple of an entry, whose references it takes over. */
@@ -683,12 +654,10 @@ static PyObject *table_clear(PyObject *self, PyObject *Py_UNUSED(none)) {
  * arc have their place in the order, too. */
 WITH_KEY(table_nearest) {
     READ("O:nearest", 1, "oid");
-    const Tree *tree = &((Table *)self)->tree;
-    if (!is_key(self, key)) return NULL;
     for (const_oid_octets above = *items_of(key); above.len;) {
         Place place = find(tree, &above);
         if (!place.is_there && !step_back(tree, &place)) break;
-        const Entry *entry = entry_at(tree, place);
+        const Entry *entry = next_entry(tree, &place);
         const const_oid_octets *last = items_of(entry->key);
         size_t common = 0;
         while (common < above.len && common < last->len && above.octets[common] == last->octets[common]) common++;
@@ -700,20 +669,16 @@ WITH_KEY(table_nearest) {
 
 WITH_KEY(table_next_after) {
     READ("O:next_after", 1, "oid");
-    const Tree *tree = &((Table *)self)->tree;
-    if (!is_key(self, key)) return NULL;
     Place place = find(tree, items_of(key));
     place.index += (uint32_t)place.is_there;
-    settle(tree, &place);
-    const Entry *entry = entry_at(tree, place);
+    const Entry *entry = next_entry(tree, &place);
     return entry ? pair_of_entry(entry) : Py_NewRef(Py_None);
 }
 
 /* Appends entries from a place on, whose keys begin with some octets. */
 static int append_all(const Tree *tree, Place place, const_oid_octets start, Run *run) {
     int error = 0;
-    settle(tree, &place);
-    for (const Entry *entry; !error && (entry = entry_at(tree, place)); place.index++, settle(tree, &place)) {
+    for (const Entry *entry; !error && (entry = next_entry(tree, &place));) {
         const const_oid_octets *items = items_of(entry->key);
         if (start.len && (start.len > items->len || memcmp(start.octets, items->octets, start.len))) break;
         error = append(run, entry->key, entry->value);
@@ -721,16 +686,18 @@ static int append_all(const Tree *tree, Place place, const_oid_octets start, Run
     return error;
 }
 
-/* A list of the tuples of a run, which it gives up. It is made last, when nothing else runs any more. */
-static PyObject *list_of(Run *run, int error) {
-    for (size_t index = 0; !error && index < run->count; index++) {
+/* A list of what a run has, which it gives up: tuples, or, of two items each, keys and values in turn. It is made last,
+ * when nothing else runs any more. */
+static PyObject *list_of(Run *run, int error, Py_ssize_t each) {
+    for (size_t index = 0; each == 1 && !error && index < run->count; index++) {
         Entry *entry = &run->entries[index], taken = *entry;
         *entry = (Entry){0};
         error = !(entry->key = pair_of(taken));
     }
-    PyObject *list = error ? NULL : PyList_New((Py_ssize_t)run->count);
-    for (size_t index = 0; list && index < run->count; index++) {
-        PyList_SetItem(list, (Py_ssize_t)index, run->entries[index].key);
+    PyObject *list = error ? NULL : PyList_New(each * (Py_ssize_t)run->count);
+    for (Py_ssize_t index = 0; list && index < (Py_ssize_t)run->count; index++) {
+        PyList_SetItem(list, each * index, run->entries[index].key);
+        if (each == 2) PyList_SetItem(list, 2 * index + 1, run->entries[index].value);
         run->entries[index].key = NULL;
     }
     drop(run);
@@ -740,26 +707,14 @@ static PyObject *list_of(Run *run, int error) {
 WITH_KEY(table_subtree) {
     READ("O:subtree", 1, "oid");
     Run run = {0};
-    const Tree *tree = &((Table *)self)->tree;
-    if (!is_key(self, key)) return NULL;
-    const_oid_octets items = *items_of(key);
-    return list_of(&run, append_all(tree, find(tree, &items), items, &run));
+    return list_of(&run, append_all(tree, find(tree, items_of(key)), *items_of(key), &run), 1);
 }
 
 static const const_oid_octets NO_OCTETS = {NULL, 0};
 
-/* A list of keys and values in turn. */
 static PyObject *table_flat(PyObject *self, PyObject *Py_UNUSED(none)) {
     Run run = {0};
-    int error = append_all(&((Table *)self)->tree, (Place){0, 0, 0}, NO_OCTETS, &run);
-    PyObject *list = error ? NULL : PyList_New(2 * (Py_ssize_t)run.count);
-    for (size_t index = 0; list && index < run.count; index++) {
-        PyList_SetItem(list, 2 * (Py_ssize_t)index, run.entries[index].key);
-        PyList_SetItem(list, 2 * (Py_ssize_t)index + 1, run.entries[index].value);
-        run.entries[index].key = NULL;
-    }
-    drop(&run);
-    return list;
+    return list_of(&run, append_all(&((Table *)self)->tree, (Place){0, 0, 0}, NO_OCTETS, &run), 2);
 }
 
 static PyObject *table_sizeof(PyObject *self, PyObject *Py_UNUSED(none)) {
@@ -825,26 +780,27 @@ static int collect(PyObject *self, PyObject *given, Run *run) {
     return collect_items(self, keys, method ? given : NULL, run);
 }
 
-static int table_init(PyObject *self, PyObject *arguments, PyObject *keywords) {
-    static char *names[] = {"entries", NULL};
-    PyObject *entries = NULL;
+/* Sets the entries of a mapping or an iterable in a tree: all, or none. */
+static int set_all(PyObject *self, Tree *tree, PyObject *given) {
     Run run = {0};
-    Tree tree = {0};
-    if (!PyArg_ParseTupleAndKeywords(arguments, keywords, "|O:SortedMap", names, &entries)) return -1;
-    int error = entries && (collect(self, entries, &run) || update(&tree, &run));
-    if (error) drop_tree(tree);
-    else replace(self, tree);
+    int error = given && (collect(self, given, &run) || update(tree, &run));
     drop(&run);
     return error ? -1 : 0;
 }
 
+static int table_init(PyObject *self, PyObject *arguments, PyObject *keywords) {
+    static char *names[] = {"entries", NULL};
+    PyObject *entries = NULL;
+    Tree tree = {0};
+    if (!PyArg_ParseTupleAndKeywords(arguments, keywords, "|O:SortedMap", names, &entries)) return -1;
+    if (set_all(self, &tree, entries)) return drop_tree(tree), -1;
+    return replace(self, tree), 0;
+}
+
 static PyObject *table_update(PyObject *self, PyObject *arguments) {
     PyObject *entries = NULL;
-    Run run = {0};
     if (!PyArg_UnpackTuple(arguments, "update", 0, 1, &entries)) return NULL;
-    int error = entries && (collect(self, entries, &run) || update(&((Table *)self)->tree, &run));
-    drop(&run);
-    return error ? NULL : Py_NewRef(Py_None);
+    return set_all(self, &((Table *)self)->tree, entries) ? NULL : Py_NewRef(Py_None);
 }
 
 /* ---- Iterators ---- */
@@ -961,38 +917,30 @@ static PyObject *table_walk(PyObject *self, PyObject *way) {
 
 static PyMethodDef table_methods[] = {
     {"get", NAMED(table_get),
-        "get($self, /, key, default=None)\n--\n\n"
-        "The value of a key, or else a default.\n\n"
-        ">>> SortedMap().get(ObjectIdentifier(\"2.5\"), 0)\n"
-        "0"},
+        "get($self, /, key, default=None)\n--\n\nThe value of a key, or else a default.\n\n"
+        ">>> SortedMap().get(ObjectIdentifier(\"2.5\"), 0)\n0"},
     {"pop", NAMED(table_pop),
         "pop($self, /, key, default=...)\n--\n\n"
         "Removes a key and returns its value, or else a default, or raises a KeyError.\n\n"
-        ">>> SortedMap().pop(ObjectIdentifier(\"2.5\"), 0)\n"
-        "0"},
+        ">>> SortedMap().pop(ObjectIdentifier(\"2.5\"), 0)\n0"},
     {"setdefault", NAMED(table_setdefault),
         "setdefault($self, /, key, default=None)\n--\n\n"
         "The value of a key, which is set to a default if it has none.\n\n"
-        ">>> SortedMap().setdefault(ObjectIdentifier(\"2.5\"), 0)\n"
-        "0"},
+        ">>> SortedMap().setdefault(ObjectIdentifier(\"2.5\"), 0)\n0"},
     {"popitem", table_popitem, METH_NOARGS,
-        "popitem($self, /)\n--\n\n"
-        "Removes the last entry and returns it, or raises a KeyError if there is none.\n\n"
+        "popitem($self, /)\n--\n\nRemoves the last entry and returns it, or raises a KeyError if there is none.\n\n"
         ">>> SortedMap({ObjectIdentifier(\"2.6\"): 2, ObjectIdentifier(\"2.5\"): 1}).popitem()\n"
         "(ObjectIdentifier('2.6'), 2)"},
     {"clear", table_clear, METH_NOARGS,
-        "clear($self, /)\n--\n\n"
-        "Removes all entries.\n\n"
+        "clear($self, /)\n--\n\nRemoves all entries.\n\n"
         ">>> table = SortedMap({ObjectIdentifier(\"2.5\"): \"directory\"})\n"
-        ">>> table.clear(), table\n"
-        "(None, SortedMap({}))"},
+        ">>> table.clear(), table\n(None, SortedMap({}))"},
     {"update", table_update, METH_VARARGS,
         "update($self, entries=(), /)\n--\n\n"
         "Sets all entries of a mapping or an iterable, or none if a key is no identifier.\n\n"
         ">>> table = SortedMap({ObjectIdentifier(\"2.5\"): 1})\n"
         ">>> table.update({ObjectIdentifier(\"2.5\"): 2, ObjectIdentifier(\"2.4\"): 3})\n"
-        ">>> table\n"
-        "SortedMap({ObjectIdentifier('2.4'): 3, ObjectIdentifier('2.5'): 2})"},
+        ">>> table\nSortedMap({ObjectIdentifier('2.4'): 3, ObjectIdentifier('2.5'): 2})"},
     {"nearest", NAMED(table_nearest),
         "nearest($self, /, oid)\n--\n\n"
         "The entry whose key is the longest prefix of an identifier, or None. A slice gives the arcs after the key.\n\n"
@@ -1000,17 +948,14 @@ static PyMethodDef table_methods[] = {
         ">>> names = SortedMap(zip(keys, [\"directory\", \"attributes\"]))\n"
         ">>> names.nearest(oid := ObjectIdentifier(\"2.5.4.3\"))\n"
         "(ObjectIdentifier('2.5.4'), 'attributes')\n"
-        ">>> oid[len(names.nearest(oid)[0]) :]\n"
-        "(3,)"},
+        ">>> oid[len(names.nearest(oid)[0]) :]\n(3,)"},
     {"next_after", NAMED(table_next_after),
         "next_after($self, /, oid)\n--\n\n"
         "The first entry after an identifier, as GetNext of SNMP returns it, or None.\n\n"
         ">>> names = SortedMap({ObjectIdentifier(\"2.5.4\"): 1, ObjectIdentifier(\"2.5.10\"): 2})\n"
-        ">>> names.next_after(ObjectIdentifier(\"2.5.4\"))\n"
-        "(ObjectIdentifier('2.5.10'), 2)"},
+        ">>> names.next_after(ObjectIdentifier(\"2.5.4\"))\n(ObjectIdentifier('2.5.10'), 2)"},
     {"subtree", NAMED(table_subtree),
-        "subtree($self, /, oid)\n--\n\n"
-        "All entries whose keys begin with an identifier, which may be a key itself.\n\n"
+        "subtree($self, /, oid)\n--\n\nAll entries whose keys begin with an identifier, which may be a key itself.\n\n"
         ">>> arcs = [(2, 5, 4), (2, 5, 4, 3), (2, 6)]\n"
         ">>> names = SortedMap(zip(map(ObjectIdentifier.from_arcs, arcs), [1, 2, 3]))\n"
         ">>> names.subtree(ObjectIdentifier(\"2.5\"))\n"

@@ -469,7 +469,7 @@ class Sorted(unittest.TestCase):
                 del table[key]
             size = tracemalloc.get_traced_memory()[0] - before
             self.assertAlmostEqual(size, sys.getsizeof(table), delta=200)
-            self.assertLess(size, 3000 * 64)
+            self.assertLess(size, 3000 * 80)
             self.assertEqual(sorted(order[:left]), [*table])
             del table
 

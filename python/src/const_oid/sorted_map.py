@@ -3,7 +3,7 @@
 import copy
 from collections.abc import ItemsView, Iterable, Iterator, KeysView, Mapping, MutableMapping, ValuesView
 from reprlib import recursive_repr
-from typing import Any, Self, TypeVar, cast
+from typing import Any, Generic, Self, TypeVar, cast
 
 from ._native import ObjectIdentifier, Table
 
@@ -122,34 +122,27 @@ class SortedMap(Table[Value], MutableMapping[ObjectIdentifier, Value]):
                 setattr(self, name, value)
 
 
-class _Keys(KeysView[ObjectIdentifier]):
+class _View(Generic[Other]):
+    """What walks in both directions: over keys, values or entries."""
+
     __slots__ = ()
     _mapping: SortedMap[Any]
+    _way: int
 
-    def __iter__(self) -> Iterator[ObjectIdentifier]:
-        return self._mapping._walk(0)
+    def __iter__(self) -> Iterator[Other]:
+        return self._mapping._walk(self._way)
 
-    def __reversed__(self) -> Iterator[ObjectIdentifier]:
-        return self._mapping._walk(3)
-
-
-class _Values(ValuesView[Value]):
-    __slots__ = ()
-    _mapping: SortedMap[Any]
-
-    def __iter__(self) -> Iterator[Value]:
-        return self._mapping._walk(1)
-
-    def __reversed__(self) -> Iterator[Value]:
-        return self._mapping._walk(4)
+    def __reversed__(self) -> Iterator[Other]:
+        return self._mapping._walk(self._way + 3)
 
 
-class _Items(ItemsView[ObjectIdentifier, Value]):
-    __slots__ = ()
-    _mapping: SortedMap[Any]
+class _Keys(_View[ObjectIdentifier], KeysView[ObjectIdentifier]):
+    __slots__, _way = (), 0
 
-    def __iter__(self) -> Iterator[tuple[ObjectIdentifier, Value]]:
-        return self._mapping._walk(2)
 
-    def __reversed__(self) -> Iterator[tuple[ObjectIdentifier, Value]]:
-        return self._mapping._walk(5)
+class _Values(_View[Value], ValuesView[Value]):
+    __slots__, _way = (), 1
+
+
+class _Items(_View[tuple[ObjectIdentifier, Value]], ItemsView[ObjectIdentifier, Value]):
+    __slots__, _way = (), 2
