@@ -278,36 +278,31 @@ static const const_oid_octets *last_of(const Tree *tree, uint32_t at) {
     return items_of(tree->entries[part->indices[part->count - 1]].key);
 }
 
-/* -1, 0 or 1, as numbers compare. */
-#define ORDER(left, right) (((left) > (right)) - ((left) < (right)))
-
 /* The part for a key with some items. */
 static uint32_t find_part(const Tree *tree, const const_oid_octets *items) {
     uint32_t first = 0;
     Code code = encode(items);
     for (uint32_t end = tree->order.count - 1; first < end;) {
         uint32_t middle = (first + end) / 2;
-        Code bound = tree->order.parts[middle].bound;
-        int order = bound.high == code.high ? ORDER(bound.low, code.low) : ORDER(bound.high, code.high);
-        if (!order) order = const_oid_by_arcs(last_of(tree, middle), items);
-        first = order < 0 ? middle + 1 : first;
-        end = order < 0 ? end : middle;
+        const Code *bound = &tree->order.parts[middle].bound;
+        int is_same = bound->high == code.high && bound->low == code.low;
+        int is_before = bound->high < code.high || (bound->high == code.high && bound->low < code.low);
+        if (is_same) is_before = const_oid_by_arcs(last_of(tree, middle), items) < 0;
+        first = is_before ? middle + 1 : first;
+        end = is_before ? end : middle;
     }
     return first;
 }
 
-/* Reads a key while another one is compared. */
-#define PREFETCH(tree, part, index) __builtin_prefetch((tree)->entries[(part)->indices[index]].key)
-
-/* The place of some items: after all keys that are before them. */
+/* The place of some items: after all keys that are before them. The next two keys to ask for are read ahead. */
 static Place find(const Tree *tree, const const_oid_octets *items) {
     if (!tree->size) return (Place){0, 0, 0};
     Place place = {find_part(tree, items), 0, 0};
     const Part *part = &tree->order.parts[place.part];
     for (uint32_t end = part->count; place.index < end;) {
-        uint32_t middle = (place.index + end) / 2;
-        PREFETCH(tree, part, (place.index + middle) / 2);
-        PREFETCH(tree, part, middle + 1 < end ? (middle + 1 + end) / 2 : middle);
+        uint32_t middle = (place.index + end) / 2, above = (middle + 1 + end) / 2;
+        __builtin_prefetch(tree->entries[part->indices[(place.index + middle) / 2]].key);
+        __builtin_prefetch(tree->entries[part->indices[above < end ? above : middle]].key);
         int order = const_oid_by_arcs(items_of(tree->entries[part->indices[middle]].key), items);
         if (!order) return (Place){place.part, middle, 1};
         if (order < 0) place.index = middle + 1;
@@ -572,11 +567,9 @@ static int read_named(PyObject *const *given, Py_ssize_t count, PyObject *names,
     Py_ssize_t named = names ? PyTuple_Size(names) : 0;
     OWNED *places = PyTuple_New(count), *keywords = PyDict_New();
     int error = !places || !keywords;
-    for (Py_ssize_t index = 0; !error && index < count; index++) {
-        error = PyTuple_SetItem(places, index, Py_NewRef(given[index]));
-    }
-    for (Py_ssize_t index = 0; !error && index < named; index++) {
-        error = PyDict_SetItem(keywords, PyTuple_GetItem(names, index), given[count + index]);
+    for (Py_ssize_t index = 0; !error && index < count + named; index++) {
+        if (index < count) error = PyTuple_SetItem(places, index, Py_NewRef(given[index]));
+        else error = PyDict_SetItem(keywords, PyTuple_GetItem(names, index - count), given[index]);
     }
     return !error && PyArg_ParseTupleAndKeywords(places, keywords, format, wanted, &values[0], &values[1]);
 }
