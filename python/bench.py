@@ -93,16 +93,18 @@ def octets_of(names):
     return size / len(made)
 
 
-def times_of(timers):
-    """The best time of each call, in short turns, since other work on the machine only adds to it."""
-    shortest = min(timer.timeit(3) / 3 for timer in timers if timer)
-    number, rounds = 1 + int(1e-4 / shortest), 400 if shortest < 0.01 else 5
-    times = [[timer and timer.timeit(number) for timer in timers] for _ in range(rounds)]
-    return [column[0] and min(column) * 1e9 / number for column in zip(*times)]
-
-
 def print_row(row, cells):
     print(f"{row:34}" + "".join(f"{cell:>20}" for cell in cells), flush=True)
+
+
+def times_of(row, timers, each=1):
+    """Prints the best time of each call, in short turns, since other work on the machine only adds to it."""
+    shortest = min(timer.timeit(3) / 3 for timer in timers if timer)
+    number, rounds = 1 + int(1e-4 / shortest), 400 if shortest < 0.01 else 5
+    turns = [[timer and timer.timeit(number) for timer in timers] for _ in range(rounds)]
+    times = [column[0] and min(column) * 1e9 / number / each for column in zip(*turns)]
+    print_row(row, ["" if time is None else format(time, ",.0f") for time in times])
+    return times
 
 
 def found(sides):
@@ -121,9 +123,7 @@ def slower_maps(count):
         exec(f"{side}\n{OF_MAP}", names)
     print_row(f"\n{count:,} keys", sides)
     for call in CALLS + OF_ALL:
-        times = times_of([timer_of(names, "", call) for names in spaces])
-        times = [time and time / (count if call in OF_ALL else 1) for time in times]
-        print_row(call, ["" if time is None else format(time, ",.0f") for time in times])
+        times = times_of(call, [timer_of(names, "", call) for names in spaces], count if call in OF_ALL else 1)
         if len(times) == 3 and times[1] and times[0] > times[1]:
             yield f"slower: {call}, {count:,} keys"
     print_row("octets a key", [format(octets_of(names), ".1f") for names in spaces])
@@ -133,8 +133,7 @@ def main():
     sides, slower = dict(found(SIDES)), []
     print_row("", sides)
     for row, (setup, call) in ROWS.items():
-        times = times_of([timer_of({}, f"{side}\n{SETUP}\n{setup}", call) for side in sides.values()])
-        print_row(row, ["" if time is None else format(time, ",.0f") for time in times])
+        times = times_of(row, [timer_of({}, f"{side}\n{SETUP}\n{setup}", call) for side in sides.values()])
         kept = "asn1crypto" if row == "identifier to text" else "tuple"
         ours, *others = [time for name, time in zip(sides, times) if time and not name.startswith(("tuple", kept))]
         if others and ours > min(others):

@@ -171,7 +171,7 @@ static uint32_t hash_of(PyObject *key) { return (uint32_t)PyObject_Hash(((Identi
 
 /* The slot of a key, or the free one where it would be. A key's slot is found from that of the low bits of its hash on,
  * before a free one. It has these bits of an index, and the others of the hash. */
-static uint32_t slot_of(const Tree *tree, PyObject *key) {
+static inline uint32_t slot_of(const Tree *tree, PyObject *key) {
     uint32_t mask = tree->mask, hash = hash_of(key), at = hash & mask;
     for (; tree->slots[at] != FREE; at = (at + 1) & mask) {
         uint32_t index = tree->slots[at] ^ (hash & ~mask);
@@ -181,7 +181,7 @@ static uint32_t slot_of(const Tree *tree, PyObject *key) {
 }
 
 /* The entry of a key, or NULL. */
-static Entry *lookup(const Tree *tree, PyObject *key) {
+static inline Entry *lookup(const Tree *tree, PyObject *key) {
     if (!tree->size) return NULL;
     uint32_t slot = tree->slots[slot_of(tree, key)];
     return slot == FREE ? NULL : &tree->entries[slot & tree->mask];
@@ -521,7 +521,7 @@ static int table_traverse(PyObject *self, visitproc visit, void *arg) {
 
 static int table_clear_all(PyObject *self) { return replace(self, (Tree){0}), 0; }
 
-static int is_key(PyObject *self, PyObject *key) {
+static inline int is_key(PyObject *self, PyObject *key) {
     if (is_identifier(key)) return 1;
     raise_wrong_type(self, "key must be an ObjectIdentifier", key);
     return 0;
