@@ -398,11 +398,10 @@ static Entry take(Tree *tree, Place place) {
     return entry;
 }
 
-/* Makes parts of about the same length for a number of indices. */
+/* Makes parts for a number of indices, all full but the last. */
 static int make_parts(Order *order, uint32_t count) {
-    uint32_t parts = (count + PART - 1) / PART, each = (count + parts - 1) / parts;
     while (count && !add_part(order, order->count)) {
-        uint32_t here = each < count ? each : count;
+        uint32_t here = count < PART ? count : PART;
         order->parts[order->count - 1].count = here;
         count -= here;
     }
@@ -668,12 +667,12 @@ WITH_KEY(table_next_after) {
     return entry ? pair_of_entry(entry) : Py_NewRef(Py_None);
 }
 
-/* Appends entries from a place on, whose keys begin with some octets. */
-static int append_all(const Tree *tree, Place place, const_oid_octets start, Run *run) {
+/* Appends entries from a place on, whose keys begin with some octets, or all. */
+static int append_all(const Tree *tree, Place place, const const_oid_octets *start, Run *run) {
     int error = 0;
     for (const Entry *entry; !error && (entry = next_entry(tree, &place));) {
         const const_oid_octets *items = items_of(entry->key);
-        if (start.len && (start.len > items->len || memcmp(start.octets, items->octets, start.len))) break;
+        if (start && (start->len > items->len || memcmp(start->octets, items->octets, start->len))) break;
         error = append(run, entry->key, entry->value);
     }
     return error;
@@ -700,14 +699,12 @@ static PyObject *list_of(Run *run, int error, Py_ssize_t each) {
 WITH_KEY(table_subtree) {
     READ("O:subtree", 1, "oid");
     Run run = {0};
-    return list_of(&run, append_all(tree, find(tree, items_of(key)), *items_of(key), &run), 1);
+    return list_of(&run, append_all(tree, find(tree, items_of(key)), items_of(key), &run), 1);
 }
-
-static const const_oid_octets NO_OCTETS = {NULL, 0};
 
 static PyObject *table_flat(PyObject *self, PyObject *Py_UNUSED(none)) {
     Run run = {0};
-    return list_of(&run, append_all(&((Table *)self)->tree, (Place){0, 0, 0}, NO_OCTETS, &run), 2);
+    return list_of(&run, append_all(&((Table *)self)->tree, (Place){0, 0, 0}, NULL, &run), 2);
 }
 
 static PyObject *table_sizeof(PyObject *self, PyObject *Py_UNUSED(none)) {
@@ -764,7 +761,7 @@ static int collect_dict(PyObject *self, PyObject *given, Run *run) {
  * with the iterator of these, as they are. */
 static int collect(PyObject *self, PyObject *given, Run *run) {
     void *iter = PyType_GetSlot(Py_TYPE(given), Py_tp_iter);
-    if (iter == (void *)table_iter) return append_all(&((Table *)given)->tree, (Place){0, 0, 0}, NO_OCTETS, run);
+    if (iter == (void *)table_iter) return append_all(&((Table *)given)->tree, (Place){0, 0, 0}, NULL, run);
     if (PyDict_Check(given) && iter == PyType_GetSlot(&PyDict_Type, Py_tp_iter)) return collect_dict(self, given, run);
     OWNED *method = attribute(given, "keys");
     if (!method && !PyErr_ExceptionMatches(PyExc_AttributeError)) return -1;
@@ -829,7 +826,7 @@ static PyObject *walk_next(PyObject *self);
 
 /* Raises an error if keys have come or gone, which stays so; goes on to the next part; or ends. */
 static __attribute__((noinline)) PyObject *walk_on(Walk *walk) {
-    OWNED *table = walk->table ? Py_NewRef(walk->table) : NULL;
+    PyObject *table = walk->table;
     const Tree *tree = table ? &((Table *)table)->tree : NULL;
     if (tree && tree->version != walk->version) {
         OWNED *name = PyType_GetName(Py_TYPE(table));
