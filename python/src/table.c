@@ -2,7 +2,6 @@
  * compared by their octets alone. No code of Python runs between two steps of a change: what it needs is allocated
  * before it, and what it no longer needs is given up after it, since the end of a value may change the table again. */
 #include "native.h"
-#include <endian.h>
 
 /* The most keys of a part, two or more, so that one more moves few of them. */
 #ifndef PART
@@ -257,6 +256,10 @@ static inline Entry *next_entry(const Tree *tree, Place *place) {
     return place->part < count ? &tree->entries[parts[place->part].indices[place->index++]] : NULL;
 }
 
+static uint64_t big_endian(uint64_t number) {
+    return __BYTE_ORDER__ == __ORDER_LITTLE_ENDIAN__ ? __builtin_bswap64(number) : number;
+}
+
 /* A subidentifier of several octets comes after their number, which is above all single ones. If the codes of two keys
  * differ, the keys are in their order. */
 static Code encode(const const_oid_octets *items) {
@@ -270,7 +273,7 @@ static Code encode(const const_oid_octets *items) {
     }
     Code code;
     memcpy(&code, room, sizeof code);
-    return (Code){be64toh(code.high), be64toh(code.low)};
+    return (Code){big_endian(code.high), big_endian(code.low)};
 }
 
 static const const_oid_octets *last_of(const Tree *tree, uint32_t at) {
