@@ -287,6 +287,7 @@ class Sorted(unittest.TestCase):
         table = SortedMap({(oid := ObjectIdentifier("2.5")): 1})
         self.assertIsInstance(table, MutableMapping)
         self.assertEqual(({oid: 1}, table), (table, SortedMap([(oid, 1)])))
+        self.assertEqual([(oid, 3), (KEYS[0], 1)][::-1], [*SortedMap([(oid, 2), (KEYS[0], 1), (oid, 3)]).items()])
         self.assertEqual([(oid, None), (oid.child(0), None)], list(SortedMap.fromkeys([oid.child(0), oid]).items()))
         made = Attributes.fromkeys(iter([oid]), [1])
         self.assertEqual((Attributes, {oid: [1]}, ()), (type(made), made, made.given))
