@@ -27,10 +27,9 @@ HERE = pathlib.Path(__file__).resolve().parent
 TOP = HERE if (HERE / "PKG-INFO").exists() else HERE.parent
 CRATE = TOP / "rust/const-oid-c/Cargo.toml"
 HEADER = TOP / "crates/const_oid_c/include/const_oid.h"
-TABLES = ("names.tsv", "common_names.tsv")
 EXTENSION = "_native.abi3.so"
 SOURCES = ("__init__.py", "_native.pyi", "_support.py", "names.py", "py.typed", "sorted_map.py")
-PACKAGE = [*(HERE / "src/const_oid" / name for name in SOURCES), *(TOP / "rust" / name for name in TABLES)]
+PACKAGE = [*(HERE / "src/const_oid" / name for name in SOURCES), TOP / "rust/names.tsv", TOP / "rust/common_names.tsv"]
 LICENCES = ("LICENSE-APACHE", "LICENSE-MIT")
 ARCHIVED = ("backend.py", "pyproject.toml", "README.md", "src/*.[ch]", *(f"src/const_oid/{name}" for name in SOURCES))
 ARCHIVED_OF_TOP = (*LICENCES, "crates/const_oid_c/include/*.h", "rust/const-oid/README.md", "rust/const-oid*/Cargo.*")
@@ -60,10 +59,6 @@ def _output(*command):
     return run.stdout
 
 
-def _is_recent(said):  # whether a rustc that says this of its version is one of those from 1.85 on
-    return tuple(map(int, re.findall(r"\d+", said)[:2])) >= (1, 85)
-
-
 def _missing(is_installed):
     """What has to be installed first."""
     if not shutil.which(COMPILER[0]):
@@ -77,28 +72,24 @@ def _missing(is_installed):
             yield "the library const_oid_c, where pkg-config finds it (see crates/const_oid_c/README.md; set PKG_CONFIG_PATH)"
     elif not (shutil.which("cargo") and shutil.which(RUSTC)):
         yield "cargo and rustc, 1.85 or later (https://rustup.rs)"
-    elif not _is_recent(_output(RUSTC, "--version")):
+    elif tuple(map(int, re.findall(r"\d+", _output(RUSTC, "--version"))[:2])) < (1, 85):
         yield "rustc 1.85 or later (https://rustup.rs)"
 
 
-def _built(temporary):
-    """The header's folder and the static library, which cargo builds for this machine."""
+def _library(is_installed, temporary):
+    """The header's folder and the static library: installed ones, or what cargo builds for this machine."""
+    if is_installed:
+        paths = (_output("pkg-config", f"--variable={name}", "const_oid_c") for name in ("includedir", "libdir"))
+        include, folder = (path.rstrip("\n").replace("\\ ", " ") for path in paths)  # a space has a backslash
+        return include, f"{folder}/libconst_oid_c.a"
     host = re.search(r"^host: (.+)$", _output(RUSTC, "-vV"), re.M)[1]
     command = ["cargo", "build", "--quiet", "--release", "--locked", "--offline", "--target", host]
     _output(*command, "--target-dir", temporary, "--manifest-path", CRATE)
     return HEADER.parent, f"{temporary}/{host}/release/libconst_oid_c.a"
 
 
-def _installed():
-    """The same of an installed library."""
-    paths = (_output("pkg-config", f"--variable={name}", "const_oid_c") for name in ("includedir", "libdir"))
-    include, folder = (path.rstrip("\n").replace("\\ ", " ") for path in paths)  # a space has a backslash
-    return include, f"{folder}/libconst_oid_c.a"
-
-
-def _compiled(config_settings):
+def _compiled(settings):
     """The extension module."""
-    settings = config_settings or {}
     is_installed = settings == {"library": "installed"}
     if settings and not is_installed:
         raise SystemExit(f"const-oid: the one setting that there is is library=installed, and these are {settings}")
@@ -107,11 +98,10 @@ def _compiled(config_settings):
     link = ["-shared", "-Wl,--exclude-libs,ALL", "-s"]
     flags = ["-std=c11", "-O2", "-fPIC", "-fno-plt", "-fvisibility=hidden", *shlex.split(os.environ.get("CFLAGS", ""))]
     with tempfile.TemporaryDirectory() as temporary:
-        include, library = _installed() if is_installed else _built(temporary)
-        made = pathlib.Path(temporary, "made")
-        files = [f"-I{INCLUDE}", f"-I{include}", *sorted(HERE.glob("src/*.c")), library, "-o", made]
+        include, library = _library(is_installed, temporary)
+        files = [f"-I{INCLUDE}", f"-I{include}", *sorted(HERE.glob("src/*.c")), library, "-o", f"{temporary}/made"]
         _output(*COMPILER, *flags, *link, *files, *shlex.split(os.environ.get("LDFLAGS", "")))
-        return made.read_bytes()
+        return pathlib.Path(temporary, "made").read_bytes()
 
 
 def _metadata():
@@ -119,8 +109,7 @@ def _metadata():
     fields = {"Name": "name", "Version": "version", "Summary": "description", "License-Expression": "license"}
     lines = ["Metadata-Version: 2.4", "Description-Content-Type: text/markdown"]
     lines += [f"{field}: {PROJECT[name]}" for field, name in {**fields, "Requires-Python": "requires-python"}.items()]
-    lines += [f"License-File: {name}" for name in LICENCES]
-    lines += [f"Classifier: {classifier}" for classifier in PROJECT["classifiers"]]
+    lines += [*map("License-File: {}".format, LICENCES), *map("Classifier: {}".format, PROJECT["classifiers"])]
     return "\n".join([*lines, "", ""]).encode() + (HERE / "README.md").read_bytes()
 
 
@@ -165,15 +154,12 @@ def build_editable(wheel_directory, config_settings=None, metadata_directory=Non
 
 def build_sdist(sdist_directory, config_settings=None):
     """Writes the source archive into a folder, and returns its name."""
-    archive, file, files = io.BytesIO(), f"{STEM}.tar.gz", {}
-    for top, patterns in ((HERE, ARCHIVED), (TOP, ARCHIVED_OF_TOP)):
-        for path in (path for pattern in patterns for path in sorted(top.glob(pattern))):
-            files[path.relative_to(top).as_posix()] = path.read_bytes()
-    files["PKG-INFO"] = _metadata()
-    with tarfile.open(mode="w", fileobj=archive, format=tarfile.PAX_FORMAT) as tar:
+    file, files = f"{STEM}.tar.gz", {"PKG-INFO": _metadata()}
+    for top, pattern in [(HERE, pattern) for pattern in ARCHIVED] + [(TOP, pattern) for pattern in ARCHIVED_OF_TOP]:
+        files |= {path.relative_to(top).as_posix(): path.read_bytes() for path in sorted(top.glob(pattern))}
+    with gzip.GzipFile(f"{sdist_directory}/{file}", "wb", mtime=0) as out, tarfile.open(mode="w", fileobj=out) as tar:
         for name, content in files.items():
             entry = tarfile.TarInfo(f"{STEM}/{name}")
             entry.size = len(content)
             tar.addfile(entry, io.BytesIO(content))
-    (pathlib.Path(sdist_directory) / file).write_bytes(gzip.compress(archive.getvalue(), mtime=0))
     return file

@@ -1,5 +1,4 @@
-"""What the functions of the extension module keep of memory, and what they do without it. Under the sanitizers of a C
-compiler, also what they read and write."""
+"""What the extension module keeps of memory, and does without it. By sanitizers, also what it reads and writes."""
 import copy
 import gc
 import itertools
@@ -16,16 +15,14 @@ from const_oid import Code, ObjectIdentifier, OidError, SortedMap, _native, _sup
 from test_tables import KEYS, _testcapi, readings, without_memory
 
 # Short and long octets, of arcs that differ and are no small integers: the last have ten digits.
-OCTETS = {
-    "short": bytes.fromhex("2A8648CE3D0201"),
-    "300 arcs": b"\x2a" + b"".join(bytes([0x82 + arc // 128, arc % 128]) for arc in range(298)),
-    "100 arcs of ten digits": b"\x2a" + b"".join(bytes([0x8F, 255, 255, 255, arc]) for arc in range(98)),
-    "300 arcs of ten digits": b"\x2a" + b"".join(bytes([0x8F, 255, 255, 253 + n % 3, n // 3]) for n in range(298)),
-}
+ARCS = {"300 arcs": range(256, 554), "100 arcs of ten digits": range(2**32 - 98, 2**32)}
+ARCS |= {"short": (840, 10045, 2, 1), "300 arcs of ten digits": range(2**32 - 298, 2**32)}
+OCTETS = {name: bytes(ObjectIdentifier.from_arcs((1, 2, *arcs))) for name, arcs in ARCS.items()}
 OTHER = ObjectIdentifier("1.2")
 WRONG = b"\x80\x01"
 # Python 3.12 counts no references to a literal.
 Under = type("".join(("Un", "der")), (ObjectIdentifier,), {})
+UnderMap = type("UnderMap", (SortedMap,), {})
 UNDER, GIVEN = Under("1.2.3"), (OTHER,)
 
 
@@ -78,10 +75,9 @@ OF_FRESH = {
     "starts_with": lambda oid: (oid.starts_with(OTHER), oid.starts_with(oid), raised(oid.starts_with, "1.2")),
     "text of": lambda oid: (str(oid), repr(oid), repr(Under(oid)), f"{oid:>9}", raised(format, oid, "d")),
     "order": lambda oid: (oid < OTHER, oid == OTHER, oid != "1.2", Under(oid) >= OTHER, raised(operator.lt, oid, 1)),
-    "hash": lambda oid: ({oid: 1}, hash(Under(oid))),
     "sequence": lambda oid: (len(oid), oid[-1], oid[1:], list(oid), oid.count(1), raised(operator.getitem, oid, "")),
     "index": lambda oid: (oid.index(oid[2], -len(oid)), raised(oid.index, 7 * 10**9), raised(oid.index)),
-    "in": lambda oid: (oid[2] in oid, int("70000") in oid, "1" in oid),
+    "in and hash": lambda oid: (oid[2] in oid, int("70000") in oid, "1" in oid, {oid: 1}, hash(Under(oid))),
     "copies": lambda oid: (copy.copy(oid), copy.deepcopy(oid)),
     "copies of a subclass": lambda oid: (copy.copy(UNDER), copy.deepcopy(UNDER), copy.deepcopy(Under(oid))),
     "finalizer": asked,
@@ -105,18 +101,26 @@ CALLS["names"] = lambda: [call(_native.parse(text)) for call in OF_OID for text 
 CALLS["by name"] = lambda: [call(text) for call, text in zip(2 * OF_TEXT, ("SHA256", "sysUpTime", "\ud800", "2.5"))]
 CALLS["wrong types"] = lambda: [raised(call, 1) for call in OF_OID + OF_TEXT]
 
+def in_a_cycle(table, *_):
+    """Makes garbage of a map, a subclass of it, its iterators and views, and a key that refers to it."""
+    key = Under("2.5")
+    key.table, held = table, (GIVEN, table, iter(table), reversed(table.items()), table.items(), table.values())
+    table.update(zip([key, *KEYS], [*held, UnderMap({OTHER: table})]))
+
+
 # Calls of a map. Without memory, Python 3.12 ends where it makes a function.
-NEW = itertools.repeat(GIVEN).__next__
-MAPS = {"readings": lambda table, *_: readings(table), **test_tables.CALLS}
-MAPS["in a cycle"] = lambda table, *_: table.update([*zip(KEYS, (table, iter(table), table.items(), reversed(table)))])
-MAPS["many"] = lambda table, *_: table.update([(KEYS[7].child(arc), GIVEN) for arc in range(600)])
-MAPS["many"] = lambda table, *_, set_many=MAPS["many"]: (set_many(table), [table.popitem() for _ in range(600)])
-MAPS |= {"wrong keys": lambda table, *_: [raised(call, "2.5") for call in (table.get, table.pop, table.nearest)]}
-MAPS |= {"wrong entries": lambda table, *_: [raised(table.update, [(OTHER, 1), it]) for it in ((1, 2), (1,), 1)]}
-MAPS["value"] = lambda table, key, _: table.setdefault(key(0))
-MAPS |= {"missing": lambda table, key, _: (table.get(key(1)), table.get(key(1), GIVEN), table.pop(key(1), GIVEN))}
-MAPS |= {"none": lambda table, key, _: (table.nearest(OTHER), table.next_after(key(7)), table.subtree(OTHER))}
-MAPS |= {"over": lambda table, *_: raised(next, iter(table.items()), table.clear())}
+NEW, MANY = itertools.repeat(GIVEN).__next__, [(KEYS[7].child(arc), GIVEN) for arc in range(600)]
+MAPS = test_tables.CALLS | {
+    "readings": lambda table, *_: readings(table),
+    "in a cycle": in_a_cycle,
+    "many": lambda table, *_: (table.update(MANY), [table.popitem() for _ in MANY]),
+    "wrong keys": lambda table, *_: [raised(call, "2.5") for call in (table.get, table.pop, table.nearest)],
+    "wrong entries": lambda table, *_: [raised(table.update, [(OTHER, 1), it]) for it in ((1, 2), (1,), 1)],
+    "value": lambda table, key, _: table.setdefault(key(0)),
+    "missing": lambda table, key, _: (table.get(key(1)), table.get(key(1), GIVEN), table.pop(key(1), GIVEN)),
+    "none": lambda table, key, _: (table.nearest(OTHER), table.next_after(key(7)), table.subtree(OTHER)),
+    "over": lambda table, *_: raised(next, iter(table.items()), table.clear()),
+}
 CALLS |= {
     f"{name}, map": lambda call=call: call(SortedMap(zip(KEYS[::2], 4 * [GIVEN])), KEYS.__getitem__, NEW)
     for name, call in MAPS.items()
@@ -125,7 +129,7 @@ CALLS |= {
 # What raises an exception in a function of Python, which may be lost where there is no memory.
 IN_PYTHON = ("copies of", "finalizer", "hooks", "pickles", "error", "wrong error")
 KEPT = [ObjectIdentifier, Under, OidError, UNDER, GIVEN, OTHER, bytes(OTHER), WRONG, str, tuple, const_oid, _support]
-KEPT += [SortedMap, type(iter(SortedMap())), *KEYS, *OCTETS.values()]
+KEPT += [SortedMap, type(iter(SortedMap())), _native.restored, *KEYS, *OCTETS.values()]
 KEPT += [ObjectIdentifier.__name__, Under.__name__, None, True, False, NotImplemented, b"*", b"", 1]
 HELD = 6000 * KEPT  # so that a reference given up too often frees none
 
@@ -148,7 +152,6 @@ def keeps_nothing(call):
 
 class Memory(unittest.TestCase):
     def test_functions_run_in_turn(self):
-        """Each call in turn with the others, also where its objects are freed in another order."""
         self.assertEqual(5 * len(CALLS), len([call() for _ in range(5) for call in CALLS.values()]))
 
     def test_functions_keep_no_memory(self):

@@ -1,4 +1,5 @@
 """The rows of the library for C, whose results this package has too: ObjectIdentifier, OidError and SortedMap."""
+import itertools
 import pathlib
 import re
 import unittest
@@ -17,11 +18,17 @@ def digits_of(oid):
     return "none" if oid is None else bytes(oid).hex().upper()
 
 
-def printed(digits):
-    oid = oid_of(digits)
-    if [digits, digits] != [digits_of(made) for made in (ObjectIdentifier(str(oid)), ObjectIdentifier.from_arcs(oid))]:
-        return "other octets are made of its text or arcs"
-    return " ".join([f"{oid},", str(len(oid)), "arcs", *map(str, oid)])
+def of_words(call, kind=oid_of):
+    return lambda words: call(*map(kind, words.split(" ")))
+
+
+def listed(arcs):
+    return f"{len(arcs)} arcs {' '.join(map(str, arcs))}".rstrip()
+
+
+def printed(oid):
+    same = ObjectIdentifier(str(oid)), ObjectIdentifier.from_arcs(oid)
+    return f"{oid}, {listed(oid)}" if [bytes(oid)] * 2 == [*map(bytes, same)] else "its text or arcs have other octets"
 
 
 def element(digits):
@@ -30,23 +37,13 @@ def element(digits):
     return f"{len(oid.der)} bytes, {digits_of(oid)}" if oid.der + rest == octets else "another element"
 
 
-def arcs_from(words):
-    digits, first, room = words.split(" ")
-    arcs = oid_of(digits)[int(first) : int(first) + int(room)]
-    return " ".join([str(len(arcs)), "arcs", *map(str, arcs)])
-
-
 def order_of(left, right):
     return "less" if left < right else "greater" if left > right else "equal"
 
 
 def in_order(*oids):
-    pairs = ((a, b) for a in range(len(oids)) for b in range(len(oids)))
-    return "in order" if all(order_of(oids[a], oids[b]) == order_of(a, b) for a, b in pairs) else "not in order"
-
-
-def of_oids(call):
-    return lambda words: call(*map(oid_of, words.split(" ")))
+    pairs = itertools.product(enumerate(oids), repeat=2)
+    return "in order" if all(order_of(a, b) == order_of(i, j) for (i, a), (j, b) in pairs) else "not in order"
 
 
 def searched(oid, *items):
@@ -61,19 +58,19 @@ def searched(oid, *items):
 CALLS = {
     "text": lambda text: digits_of(ObjectIdentifier(text)),
     "bytes": lambda digits: digits_of(ObjectIdentifier(bytes.fromhex(digits).decode("utf-8", "surrogateescape"))),
-    "octets": printed,
+    "octets": of_words(printed),
     "element": element,
     "arcs": lambda arcs: digits_of(ObjectIdentifier.from_arcs(map(int, arcs.split()))),
-    "arcs_from": arcs_from,
+    "arcs_from": of_words(lambda digits, first, room: listed(oid_of(digits)[int(first) :][: int(room)]), str),
     "component": lambda text: str(wrong_component(text.encode())).lower(),
     "parent": lambda digits: digits_of(oid_of(digits).parent),
-    "child": lambda words: digits_of(oid_of(words.split(" ")[0]).child(int(words.split(" ")[1]))),
-    "begins": of_oids(lambda oid, prefix: "yes" if oid.starts_with(prefix) else "no"),
-    "equal": of_oids(lambda left, right: "yes" if left == right else "no"),
-    "by_arcs": of_oids(order_of),
-    "by_arcs_order": of_oids(in_order),
-    "list": of_oids(searched),
-    "error": lambda words: error_text(*map(int, words.split(" "))) or "none",
+    "child": of_words(lambda digits, arc: digits_of(oid_of(digits).child(int(arc))), str),
+    "begins": of_words(lambda oid, prefix: "yes" if oid.starts_with(prefix) else "no"),
+    "equal": of_words(lambda left, right: "yes" if left == right else "no"),
+    "by_arcs": of_words(order_of),
+    "by_arcs_order": of_words(in_order),
+    "list": of_words(searched),
+    "error": of_words(lambda code, detail: error_text(code, detail) or "none", int),
 }
 
 # What this package has no call for: the other orders, whether a list is sorted, names, and outputs of a length.
@@ -89,17 +86,15 @@ def answer(call, words):
 
 class Rows(unittest.TestCase):
     def test_rows_have_their_results(self):
-        found = set()
+        found = {*LEFT_OUT}
         for line, row in enumerate(ROWS.read_text(encoding="utf-8").split("\n"), 1):
-            if row.startswith("#") or " = " not in row:
-                continue
             # {UNIT*COUNT} stands for COUNT units.
             whole = re.sub(r"\{([^*]*)\*(\d+)\}", lambda repeated: repeated[1] * int(repeated[2]), row)
-            given, _, wanted = whole.partition(" = ")
-            call, _, words = given.partition(" ")
-            found.add(call)
-            if call not in LEFT_OUT:
-                with self.subTest(f"line {line}: {row}"):
-                    # How long an element of wrong octets is, the package does not say.
-                    self.assertEqual(re.sub(r"^\d+ bytes, error", "error", wanted), answer(call, words))
-        self.assertEqual(found | LEFT_OUT, {*CALLS, *LEFT_OUT})
+            if parts := re.match("([^# ]+) ?(.*?) = (.*)", whole, re.S):
+                call, words, wanted = parts.groups()
+                found.add(call)
+                if call not in LEFT_OUT:
+                    with self.subTest(f"line {line}: {row}"):
+                        # How long an element of wrong octets is, the package does not say.
+                        self.assertEqual(re.sub(r"^\d+ bytes, error", "error", wanted), answer(call, words))
+        self.assertEqual(found, {*CALLS, *LEFT_OUT})

@@ -10,13 +10,10 @@ import pathlib
 import pickle
 import random
 import signal
-import subprocess
 import sys
-import tempfile
 import tracemalloc
 import unittest
 import weakref
-from collections.abc import MutableMapping
 from unittest import mock
 
 from const_oid import Code, ObjectIdentifier, OidError, SortedMap, names
@@ -29,9 +26,8 @@ TOP = pathlib.Path(__file__).resolve().parents[2]
 sys.path.append(str(TOP / "bench/peers"))
 lists = importlib.import_module("lists")
 # What leads elsewhere in each. asn1crypto names an HMAC as its hash.
-OTHERS = {lists.openssl: "DSA Mail deltaCRL documentSeries id-alg uid", lists.mibs: "host", lists.net_snmp: "",
-          lists.slapd: "documentSeries", lists.openssl_list: "DSA",
-          lists.cryptography: "signedCertificateTimestampList",
+OTHERS = {lists.openssl: "DSA Mail deltaCRL documentSeries id-alg uid", lists.openssl_list: "DSA", lists.net_snmp: "",
+          lists.mibs: "host", lists.slapd: "documentSeries", lists.cryptography: "signedCertificateTimestampList",
           lists.jdk: "DSA Data DiffieHellman MD5withRSA PSS RSA SHA SHA1withDSA SHA1withRSA timeStamping",
           lists.asn1crypto: "clearance data dh dsa ecdsa group rsa sha1 sha224 sha256 sha384 sha512 x509"}
 # What also does in newer releases of OpenSSL and cryptography.
@@ -40,7 +36,7 @@ SEED = 3416
 
 
 class Names(unittest.TestCase):
-    def test_each_row_is_an_entry_that_is_found(self):
+    def test_each_row_is_an_entry_that_is_found_and_no_other(self):
         names_of, first = {}, {}
         for rows, entries in zip(lists.TABLES, (names.entries(), names.common_entries())):
             self.assertEqual({tuple}, set(map(type, [entries, *entries])))
@@ -51,12 +47,14 @@ class Names(unittest.TestCase):
         for oid, wanted in names_of.items():
             self.assertEqual((tuple(wanted), next(iter(wanted))), (names.names_of(oid), names.name_of(oid)))
         for name, oid in first.items():
-            for given in (name, name.upper(), name.title()):
-                self.assertEqual(oid, names.by_name(given), given)
+            self.assertEqual([oid] * 3, [*map(names.by_name, (name, name.upper(), name.title()))], name)
+        self.assertEqual((None, ()), (names.name_of(oid := ObjectIdentifier("2.999")), names.names_of(oid)))
+        # The Kelvin sign is a k in lower case, but no ASCII letter.
+        others = "", "no name", "sha256 ", "ba\u212ae", "\ud800", "cn\0", 1000 * "cn"
+        self.assertEqual({None}, {*map(names.by_name, others)})
 
     def test_names_of_other_libraries(self):
-        """A name that another library has, too, leads where it leads there, but for those that lead elsewhere here. A
-        newer library may have more names, and `lists.py missing` counts them."""
+        """Names of both lead to the same, but for those of `elsewhere`. `lists.py missing` counts what ours lack."""
         for read, elsewhere in OTHERS.items():
             with self.subTest(read.__name__):
                 try:
@@ -74,12 +72,10 @@ class Names(unittest.TestCase):
         for row in (TOP / "rust/const-oid/tests/typed_names.tsv").read_text(encoding="utf-8").splitlines():
             typed, wanted, shown = row.split("\t")
             for given in (typed, f"\t\r\n\f {typed} \n"):
-                try:
-                    oid = names.parse(given)
-                except OidError as error:
+                if error := error_of(names.parse, given):
                     said = error_text(error.code, error.detail), str(error.piece)
                 else:
-                    said = str(oid), names.display(oid)
+                    said = str(oid := names.parse(given)), names.display(oid)
                 self.assertEqual((wanted, shown), said, given)
         draw = random.Random(SEED)
         for oid, name in names.entries() + names.common_entries():
@@ -87,24 +83,6 @@ class Names(unittest.TestCase):
             for below in (oid, oid.child(0), ObjectIdentifier.from_arcs([*oid, *draw.choices(range(2**32), k=3)])):
                 self.assertEqual(below, names.parse(names.display(below)))
         self.assertEqual(Code.NOT_UTF8, error_of(names.parse, "cn.\udcff").code)
-
-    def test_others_are_not_found(self):
-        self.assertEqual((None, ()), (names.name_of(oid := ObjectIdentifier("2.999")), names.names_of(oid)))
-        # The Kelvin sign is a k in lower case, but no ASCII letter.
-        for name in ("", "no name", "sha256 ", "ba\u212ae", "\ud800", "cn\0", 1000 * "cn"):
-            self.assertIsNone(names.by_name(name), name)
-        self.assertEqual((1, 2, 112, 0, 2, 0, 34, 101, 66), names.by_name("BaKe").arcs)
-
-    def test_a_file_of_the_user_is_not_read(self):
-        """The table is that of the package, also where the current folder has one."""
-        code = "from const_oid import names; print(names.by_name('cn'), *names.entries()[0])"
-        with tempfile.TemporaryDirectory() as folder:
-            (pathlib.Path(folder) / "names.tsv").write_text("x\tX\t1.2\tcn\n", encoding="utf-8")
-            run = subprocess.run([sys.executable, "-c", code], cwd=folder, text=True, capture_output=True)
-        self.assertEqual(("2.5.4.3 1.2.112.0.2.0.34.101.66 bake\n", ""), (run.stdout, run.stderr))
-        for given in (3, b"cn", None, ObjectIdentifier("2.5.4.3")):
-            for call, name in (names.by_name, "name"), (names.parse, "text"):
-                self.assertRegex(repr(error_of(call, given)), rf"^TypeError..{name} must be a str, not \w+'\)$")
 
 
 def drawn(draw):
@@ -129,17 +107,10 @@ class Model(dict):
         self.clear()
         self.update(entries)
 
-    def popitem(self):
-        return (last := max(self, default=None)), self.pop(last)
-
-    def nearest(self, oid):
-        return max((item for item in self.items() if oid.starts_with(item[0])), key=lambda item: item[0], default=None)
-
-    def next_after(self, oid):
-        return min((item for item in self.items() if item[0] > oid), default=None)
-
-    def subtree(self, oid):
-        return sorted(item for item in self.items() if item[0].starts_with(oid))
+    popitem = lambda self: ((last := max(self, default=None)), self.pop(last))
+    nearest = lambda self, oid: max((item for item in self.items() if oid.starts_with(item[0])), default=None)
+    next_after = lambda self, oid: min((item for item in self.items() if item[0] > oid), default=None)
+    subtree = lambda self, oid: sorted(item for item in self.items() if item[0].starts_with(oid))
 
 
 KEYS = [ObjectIdentifier(f"2.{arcs}") for arcs in "0 1 1.5 1.5.300 1.300 2 300 300.1".split()]
@@ -154,61 +125,52 @@ CHANGES = {
     "clear": lambda table, key, new: table.clear(),
     "update of few": lambda table, key, new: table.update([(key(1), new()), (key(4), new())]),
     "update of many": lambda table, key, new: table.update(zip(map(key, range(8)), iter(new, None))),
-    "|=": lambda table, key, new: (operator.ior(table, SortedMap([(key(5), new())])), None)[1],
+    "|=": lambda table, key, new: operator.ior(table, SortedMap([(key(5), new())])) is table,
     "setdefault": lambda table, key, new: table.setdefault(key(7), new()),
     "init": lambda table, key, new: table.__init__({key(0): new(), key(3): new()}),
 }
 LOOKUPS = "get", "__contains__", "__getitem__", "nearest", "next_after", "subtree"
 CALLS = CHANGES | {name: lambda table, key, _, name=name: getattr(table, name)(key(2)) for name in LOOKUPS}
 CALLS["iter"] = lambda table, *_: len([*table])
+MET = [*itertools.product(CALLS, CHANGES), *itertools.product(CHANGES, CHANGES, [*CHANGES][::2])]
+CALLS["|"] = lambda table, key, new: [table | {key(3): new(), key(4): new()}, {key(5): new(), key(6): new()} | table]
 MOST = [name for name in CALLS if name not in ("clear", "init")]
+STEP = [int]  # what is called where a value ends
 
 
 def readings(table):
     """The entries of a map by each way to read them."""
-    walk = [table.next_after(ObjectIdentifier("0.0"))]
-    while walk[-1]:
-        walk.append(table.next_after(walk[-1][0]))
+    walk = [table.next_after(key) for key in (ObjectIdentifier("0.0"), *table)]
     back = [*reversed(table.items())], [*zip(reversed(table.keys()), reversed(table.values()), strict=True)]
     found = [table.nearest(key) for key in table], [(key, table[key]) for key in table.keys()]
-    return [*table.items()], [*zip(table, table.values(), strict=True)], walk[:-1], back[0][::-1], back[1][::-1], *found
+    forth = [*table.items()], [*zip(table, table.values(), strict=True)], [*filter(None, walk)]
+    return *forth, back[0][::-1], back[1][::-1], *found
 
 
-class Ending:
-    """It calls the step at its end, also as garbage in a cycle."""
-    step = staticmethod(lambda: None)
-
-    def __init__(self, number=None):
-        self.number, self.own = number, number is None and self
+class Ending(float):
+    """A number that calls the step at its end."""
 
     def __del__(self):
-        Ending.step()
+        STEP[0]()
 
 
-Value = type("Value", (), {"__init__": lambda value, number: setattr(value, "number", number)})
-Key = type("Key", (ObjectIdentifier,), {})
-EndingKey = type("EndingKey", (Key,), {"__del__": lambda _: Ending.step()})
-
-
-def watched(made):
-    weakref.finalize(made, lambda: Ending.step())
-    return made
-
-
+EndingKey = type("EndingKey", (ObjectIdentifier,), {"__del__": Ending.__del__})
+WATCHED = {"__init__": lambda made, _: weakref.finalize(made, Ending.__del__, None) and None}
+WatchedKey, WatchedValue = type("WatchedKey", (ObjectIdentifier,), WATCHED), type("WatchedValue", (float,), WATCHED)
 # What ends within a call: values, keys, and garbage, which Python 3.11 finds where it makes an object.
 ENDS = {
     "values": (KEYS.__getitem__, Ending),
-    "keys": (lambda index: EndingKey(KEYS[index]), Value),
-    "weak references": (lambda index: watched(Key(KEYS[index])), lambda number: watched(Value(number))),
+    "keys": (lambda index: EndingKey(KEYS[index]), int),
+    "weak references": (lambda index: WatchedKey(KEYS[index]), WatchedValue),
 }
 GARBAGE = {f"garbage at {count}": (KEYS.__getitem__, int, count) for count in range(1, 9)}
 
 
 def plain(found):
-    """A result with the number of each value."""
-    if isinstance(found, (SortedMap, Model)):
-        return plain(sorted(found.items()) if isinstance(found, Model) else [*found.items()])
-    return [*map(plain, found)] if type(found) in (tuple, list) else getattr(found, "number", found)
+    """A result with plain numbers, none of which ends."""
+    if isinstance(found, (SortedMap, dict)):
+        return plain(sorted(found.items()) if isinstance(found, dict) else [*found.items()])
+    return [*map(plain, found)] if type(found) in (tuple, list) else int(found) if isinstance(found, float) else found
 
 
 def result_of(call, *given):
@@ -248,21 +210,19 @@ def outcome(calls, key=KEYS.__getitem__, new=int, garbage_at=0, kind=SortedMap):
                 assert all(plain(reading) == plain(table) for reading in readings(table)), "the map is not whole"
             found[number] = result_of(call, table, key, lambda: new(number))
 
-    Ending.step = step
+    STEP[0] = step
     if garbage_at:
-        Ending()
+        (cycle := [Ending()]).append(cycle)
+        del cycle
         gc.set_threshold(gc.get_count()[0] + garbage_at)
     while left:
         step()
     gc.set_threshold(0)
-    Ending.step = lambda: None
+    STEP[0] = int
     return found, plain(table)
 
 
-def own(*_):
-    raise AssertionError("a map calls no method that a subclass has of its own")
-
-
+own = mock.Mock(side_effect=AssertionError)  # a map calls no method that a subclass has of its own
 OWN = "__eq__ __ne__ __lt__ __gt__ __le__ __ge__ __hash__ __bytes__ __len__ __iter__".split()
 Own = type("Own", (ObjectIdentifier,), dict.fromkeys(OWN, own))
 OwnMap = type("OwnMap", (SortedMap,), {"__setitem__": own, "__delitem__": own})
@@ -279,24 +239,24 @@ class Sorted(unittest.TestCase):
                 near = [draw.choice([*model] or KEYS) for _ in range(8)]
                 oids = [draw.choice([drawn(draw), key, key.parent or key, key.child(1)]) for key in near]
                 call = CALLS[draw.choice([*CALLS] if number % 30 == 29 else MOST)]
-                found, wanted = (result_of(call, one, oids.__getitem__, lambda: number) for one in (table, model))
+                news = (itertools.count(number).__next__ for _ in range(2))
+                found, wanted = (result_of(call, one, oids.__getitem__, next(news)) for one in (table, model))
                 self.assertEqual((wanted, sorted(model.items())), (found, [*table.items()]))
                 self.assertEqual(set(map(id, model)), set(map(id, table)))
 
-    def test_a_map_is_a_mutable_mapping(self):
+    def test_a_map_is_made_and_shown_as_a_dict_is(self):
         table = SortedMap({(oid := ObjectIdentifier("2.5")): 1})
-        self.assertIsInstance(table, MutableMapping)
         self.assertEqual(({oid: 1}, table), (table, SortedMap([(oid, 1)])))
         self.assertEqual([(oid, 3), (KEYS[0], 1)][::-1], [*SortedMap([(oid, 2), (KEYS[0], 1), (oid, 3)]).items()])
+        others = {oid: 2}, {oid.child(0): 1}, {"2.5": 1}, {}, {oid: 1, oid.child(0): 1}, [oid], None
+        self.assertEqual(7 * [(True, True)], [(table != other, other != table) for other in others])
         self.assertEqual([(oid, None), (oid.child(0), None)], list(SortedMap.fromkeys([oid.child(0), oid]).items()))
         made = Attributes.fromkeys(iter([oid]), [1])
         self.assertEqual((Attributes, {oid: [1]}, ()), (type(made), made, made.given))
-        self.assertIsInstance(error_of(table.__setstate__, (None, {"_values": {"2.5": 1}})), TypeError)
         table[oid.child(1)] = table
         self.assertEqual(f"SortedMap({{{oid!r}: 1, {oid.child(1)!r}: {{...}}}})", repr(table))
         bare, table = SortedMap.__new__(SortedMap), SortedMap.fromkeys(KEYS)
-        self.assertEqual([[]] * 7, [*readings(bare)])
-        self.assertEqual((None, table), (bare.update(table), bare))
+        self.assertEqual(([[]] * 7, None, table), ([*readings(bare)], bare.update(table), bare))
         self.assertEqual((KEYS[::-1], 8), ([*reversed(table)], operator.length_hint(iter(table))))
 
     def test_copies_are_apart(self):
@@ -313,17 +273,14 @@ class Sorted(unittest.TestCase):
             made[other] = 3
             del made[one]
             self.assertEqual(([one], {one: [1]}, {one: [1]}), (list(table), table, source))
-        table.name = table
+        table.name, table[other] = table, 4
         self.assertIs((again := copy.deepcopy(table)), again.name)
-        table[other] = 4
-        self.assertEqual(({one: [1]}, [one, other]), (source, list(table)))
-        table.clear()
+        self.assertEqual(({one: [1]}, [one, other], None), (source, list(table), table.clear()))
         self.assertEqual((table, {}), (table.name, table))
         # Of version 1.5.0, by protocol 0, which makes the map by object.__new__.
         old = b"ccopy_reg\n_reconstructor\n(cconst_oid.sorted_map\nSortedMap\nc__builtin__\nobject\nNtR(N(dV_values\n("
         old += b"dcconst_oid._native\nrestored\n(c_codecs\nencode\n(VU\nVlatin1\ntRtRI1\nsstb."
-        made = pickle.loads(old)
-        self.assertEqual((SortedMap, {one: 1}), (type(made), made))
+        self.assertEqual("SortedMap({ObjectIdentifier('2.5'): 1})", repr(pickle.loads(old)))
 
     def test_a_change_ends_an_iteration(self):
         """Keys that come or go are an error at each next step, also after the last key. Other values are none."""
@@ -335,12 +292,11 @@ class Sorted(unittest.TestCase):
             entries, before = order(table), list(table)
             self.assertEqual([*order(table)][:count], [*itertools.islice(entries, count)])
             result_of(change, table, KEYS.__getitem__, int)
-            with self.subTest(name, order=order, count=count):
-                if count < 5 and (list(table) != before or name in again):
-                    errors = {repr(error_of(next, entries)) for _ in range(2)}
-                    self.assertEqual({"RuntimeError('SortedMap changed during iteration')"}, errors)
-                else:
-                    self.assertEqual([*order(table)][count:] if count < 5 else [], [*entries])
+            if count < 5 and (list(table) != before or name in again):
+                errors = {repr(error_of(next, entries)) for _ in range(2)}
+                self.assertEqual({"RuntimeError('SortedMap changed during iteration')"}, errors, (name, order, count))
+            else:
+                self.assertEqual([*order(table)][count:] if count < 5 else [], [*entries], (name, order, count))
 
     @unittest.skipUnless(_testcapi, "Python's module for tests of its C API is not installed")
     def test_a_change_is_done_or_not(self):
@@ -365,23 +321,12 @@ class Sorted(unittest.TestCase):
         errors = []
         self.enterContext(mock.patch.object(sys, "unraisablehook", lambda given: errors.append(given.exc_value)))
         self.addCleanup(gc.set_threshold, *gc.get_threshold())
-        triples = itertools.product(CHANGES, CHANGES, [*CHANGES][::2])
-        for called in (*triples, *itertools.product(CALLS, CHANGES)):
+        for called in MET:
             calls = [*enumerate(map(CALLS.get, called))]
             wanted = [outcome(order, kind=Model) for order in itertools.permutations(calls)]
             for kind, ends in (ENDS if len(called) == 3 else GARBAGE).items():
                 self.assertIn(outcome(calls, *ends), wanted, (called, kind))
         self.assertEqual([], errors)
-
-    def test_garbage_that_holds_a_map_is_freed(self):
-        """A map, its iterators and views may be in it themselves. What else holds a value, keeps it."""
-        value, table, key = [1], SortedMap(), Key("2.5")
-        key.table, ends, count = table, weakref.ref(key), sys.getrefcount(value)
-        table.update({key: value, KEYS[1]: table, KEYS[2]: iter(table), KEYS[3]: reversed(table.items())})
-        table[KEYS[4]], table[KEYS[5]] = table.values(), type("Table", (SortedMap,), {})({KEYS[0]: table})
-        del table, key
-        gc.collect()
-        self.assertEqual((count, None, [1]), (sys.getrefcount(value), ends(), value))
 
     def test_threads_and_signals_change_a_map(self):
         """Each thread, and a handler of signals, has keys of its own, which are there until it removes them."""
@@ -393,6 +338,9 @@ class Sorted(unittest.TestCase):
                 table.update({key: arc, key.child(1): own, key.child(0): arc})
                 found = table.nearest(key.child(2)), table.next_after(key), table.pop(key), table.pop(key.child(0))
                 self.assertEqual(((key, arc), (key.child(0), arc), arc, arc), found)
+                last = 2**32 - 1 - arc
+                found = str(key), key.child(last).arcs, str(key.parent), hash(key), OidError(1, arc).args
+                self.assertEqual((f"2.{own}.{arc}", (2, own, arc, last), f"2.{own}", hash(bytes(key)), (1, arc)), found)
                 wanted[key.child(1)] = own
                 keys = list(table) if arc % 50 == 0 else []
                 self.assertEqual(sorted(keys), keys)
@@ -406,8 +354,7 @@ class Sorted(unittest.TestCase):
             results = threads.map(work, range(3), 3 * [range(500)])
             while next(signals) < 100:
                 work(3, range(50))
-            signal.setitimer(signal.ITIMER_REAL, 0)
-            self.assertEqual([None] * 3, [*results])
+            self.assertEqual((1e-3, [None] * 3), (signal.setitimer(signal.ITIMER_REAL, 0)[1], [*results]))
         self.assertEqual(sorted(wanted.items()), [*table.items()])
 
     def test_no_method_of_a_key_is_called(self):
@@ -419,19 +366,21 @@ class Sorted(unittest.TestCase):
         for one in (table, *made, {} | table, table.copy(), copy.copy(table), *copies_of(table)):
             self.assertEqual([*map(str, KEYS)], [*map(str, one)])
         self.assertTrue(table == table.copy() != SortedMap(others))
+        self.assertIs(AssertionError, type(error_of(OwnMap.fromkeys, KEYS)))  # as dict does
         for name, call in CALLS.items():
-            wanted = outcome([(0, call)])
-            if name != "init":  # which makes a dict
-                found = repr(outcome([(0, call)], keys.__getitem__))
-                self.assertEqual(repr(wanted), found.replace("Own", "ObjectIdentifier"))
+            calls = [(0, call)]
+            if name not in ("init", "|"):  # which make a dict
+                found = repr(outcome(calls, keys.__getitem__))
+                self.assertEqual(repr(outcome(calls)), found.replace("Own", "ObjectIdentifier"))
             if name not in ("set", "replace", "del"):
-                self.assertEqual(wanted, outcome([(0, call)], kind=OwnMap))
+                self.assertEqual(outcome(calls), outcome(calls, kind=OwnMap))
 
     def test_errors_of_others_pass_through(self):
         """Nothing is changed then. What is given may change the map, or itself, while it is read."""
         fail, of = mock.Mock(side_effect=KeyError("of others")), lambda **calls: type("Others", (), calls)()
         others = [of(keys=fail), of(keys=lambda _: KEYS, __getitem__=fail), of(keys=lambda _: map(fail, KEYS))]
-        others += [of(__iter__=fail), of(__iter__=lambda _: itertools.chain([(KEYS[1], 1)], map(fail, KEYS)))]
+        others += [of(keys=property(fail)), of(__iter__=fail)]
+        others.append(of(__iter__=lambda _: itertools.chain([(KEYS[1], 1)], map(fail, KEYS))))
         for change in (SortedMap.update, operator.ior, SortedMap.__init__):
             table, pairs = SortedMap.fromkeys(KEYS[::2], 0), []
             for given in (*others, 5, None, [1], "ab", [(KEYS[1], 1), (KEYS[3],)], [(KEYS[1], 2, 3)], [KEYS[3], 1]):
@@ -453,11 +402,9 @@ class Sorted(unittest.TestCase):
             self.assertIsInstance(error_of(lambda: getattr(table, name)(**given, other=1)), TypeError)
             if name != "update":
                 self.assertEqual(getattr(table.copy(), name)(*given.values()), getattr(table, name)(**given))
-        self.assertEqual(["entries"], [*inspect.signature(SortedMap).parameters])
-        self.assertEqual(table, SortedMap(entries=table))
+        self.assertEqual((["entries"], table), ([*inspect.signature(SortedMap).parameters], SortedMap(entries=table)))
 
     def test_its_size_is_that_of_its_memory(self):
-        """Also where most entries went, or all."""
         keys = [ObjectIdentifier(f"2.{arc}") for arc in range(3000)]
         orders = keys, keys[::-1], random.Random(SEED).sample(keys, 3000)
         tracemalloc.start()
@@ -470,32 +417,8 @@ class Sorted(unittest.TestCase):
                 del table[key]
             size = tracemalloc.get_traced_memory()[0] - before
             self.assertAlmostEqual(size, sys.getsizeof(table), delta=200)
-            self.assertLess(size, 3000 * 80)
-            self.assertEqual(sorted(order[:left]), [*table])
+            self.assertEqual((sorted(order[:left]), True), ([*table], size < 3000 * 80))
             del table
-
-    def test_maps_join(self):
-        one, other = dict.fromkeys(KEYS[:4], 1), dict.fromkeys(KEYS[2:6], 3)
-        table, same = [SortedMap(one)] * 2
-        for left, right in ((table, other), (one, SortedMap(other)), (table, SortedMap(other))):
-            wanted = SortedMap, [*(one | other).items()], one, other
-            self.assertEqual(wanted, (type(left | right), [*(left | right).items()], left, right))
-        table |= [*other.items()]
-        self.assertEqual((True, one | other), (table is same, table))
-        for pair in ((table, [1]), ([1], table)):
-            self.assertIs(TypeError, type(error_of(operator.or_, *pair)))
-
-    def test_keys_of_other_types_are_rejected(self):
-        table = SortedMap()
-        calls = [table.nearest, table.next_after, table.subtree, table.get, table.__getitem__, table.__delitem__]
-        calls += [lambda key: SortedMap({key: 1}), lambda key: table.update({KEYS[0]: 1, key: 1})]
-        calls += [table.__contains__, lambda key: table.setdefault(key, 1), lambda key: table.pop(key, None)]
-        of_oid = names.name_of, names.names_of, names.display
-        for call, key in itertools.product((*calls, *of_oid), ("2.5", (2, 5), None)):
-            text = rf"{'oid' if call in of_oid else 'key'} must be an ObjectIdentifier, not {type(key).__name__}"
-            hint = r" \(ObjectIdentifier takes text\)" if key == "2.5" else ".*"
-            self.assertRegex(repr(error_of(call, key)), rf"^TypeError\(['\"]{text}{hint}['\"]\)$")
-        self.assertEqual(0, len(table))
 
 
 class Times(unittest.TestCase):
@@ -503,9 +426,9 @@ class Times(unittest.TestCase):
         """The search for a prefix makes not all prefixes of what it is given, nor of what that shares with a key."""
         oid, long = ObjectIdentifier.from_bytes(bytes(500_000)), ObjectIdentifier.from_bytes(bytes(499_999))
         table = SortedMap({ObjectIdentifier("0.0.0"): 1, ObjectIdentifier("0.0.1"): 2})
-        self.assertLess(seconds(lambda: self.assertEqual(1, table.nearest(oid)[1])), 1)
-        table[long.child(0)] = 3
-        self.assertLess(seconds(lambda: self.assertEqual(1, table.nearest(long.child(1))[1])), 1)
+        for given in (oid, long.child(1)):
+            self.assertLess(seconds(lambda: self.assertEqual(1, table.nearest(given)[1])), 1)
+            table[long.child(0)] = 3
 
     def test_all_entries_take_about_the_time_of_making_the_map(self):
         draw = random.Random(SEED)
@@ -520,5 +443,5 @@ class Times(unittest.TestCase):
             "next_after": (9, lambda table: [table.next_after(key) for key in entries]),
         }
         for name, (limit, call) in calls.items():
-            rounds = (seconds(call, SortedMap(entries)) / seconds(SortedMap, entries) for _ in range(5))
-            self.assertTrue(any(ratio < limit for ratio in rounds), name)
+            rounds = (seconds(call, SortedMap(entries)) / seconds(SortedMap, entries) < limit for _ in range(5))
+            self.assertTrue(any(rounds), name)

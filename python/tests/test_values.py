@@ -9,11 +9,9 @@ import ctypes
 import importlib
 import itertools
 import operator
-import os
 import pickle
 import random
 import sys
-import threading
 import time
 import timeit
 import unittest
@@ -21,56 +19,49 @@ import weakref
 from unittest import mock
 
 import const_oid
-from const_oid import Code, ObjectIdentifier, OidError, SortedMap, _native
+from const_oid import Code, ObjectIdentifier, OidError, SortedMap, _native, names
 
 from_bytes, from_der, from_arcs = ObjectIdentifier.from_bytes, ObjectIdentifier.from_der, ObjectIdentifier.from_arcs
 OID = ObjectIdentifier("1.2.840.10045.2.1")
 OCTETS = bytes.fromhex("2A8648CE3D0201")
-LONG = ObjectIdentifier.from_bytes(bytes([42] + [3] * 299))
+LONG = from_bytes(bytes([42] + [3] * 299))
 GREATEST = b"\x8f\xff\xff\xff\x7f"
+TABLE = SortedMap()
+COMPARISONS = operator.eq, operator.ne, operator.lt, operator.le, operator.gt, operator.ge
 
 # Errors: the call, the code and what it says; for each input the detail, and the index of the wrong component.
 WRONG = [
-    (ObjectIdentifier, 5, "OID value is empty", {"": (0, 0)}),
+    *((call, 5, "OID value is empty", {given: (0, piece)}) for call, given, piece in (
+        (ObjectIdentifier, "", 0), (from_bytes, b"", None), (from_der, b"\6\0", None), (from_arcs, (), None))),
     (ObjectIdentifier, 5, "an identifier has two arcs or more", {"1": (0, 0)}),
     (ObjectIdentifier, 1, "OID contains out-of-range arc: 40", {"1.40.x": (40, 1)}),
     (ObjectIdentifier, 9, "OID ends with invalid trailing '.'", {"1.": (0, 0), "3.": (0, 0), "1.2.": (0, 1)}),
-    (ObjectIdentifier, 4, "expected digit, got '.'", {".": (46, 0), "..": (46, 0)}),
-    (ObjectIdentifier, 4, "expected digit, got '.' (remove the first dot)", {".1.3.6": (46, 0)}),
-    (ObjectIdentifier, 4, "expected digit, got 'x'", {"x.2": (120, 0), "1.2.3x.y": (120, 2)}),
-    (ObjectIdentifier, 4, r"expected digit, got '\x00'", {"1.2\0.3": (0, 1)}),
-    (ObjectIdentifier, 4, r"expected digit, got '\u2028'", {"1.2.\u2028": (0xE2, 2)}),
-    (ObjectIdentifier, 4, "expected digit, got 'ü'", {"1.2.ü٣": (0xC3, 2)}),
-    (ObjectIdentifier, 4, "expected digit, got '😀'", {"1.2.😀.x": (0xF0, 2)}),
+    *((ObjectIdentifier, 4, f"expected digit, got {shown}", {given: (byte, piece)}) for shown, given, byte, piece in (
+        ("'.'", ".", 46, 0), ("'.'", "..", 46, 0), ("'.' (remove the first dot)", ".1.3.6", 46, 0),
+        ("'x'", "x.2", 120, 0), ("'x'", "1.2.3x.y", 120, 2), (r"'\x00'", "1.2\0.3", 0, 1), ("'ü'", "1.2.ü٣", 0xC3, 2),
+        (r"'\u2028'", "1.2.\u2028", 0xE2, 2), ("'😀'", "1.2.😀.x", 0xF0, 2))),
     (ObjectIdentifier, 11, "the text is not UTF-8", {"1.\ud800": (0, 1), "1.2.\ud800": (0, 2)}),
-    (from_bytes, 5, "OID value is empty", {b"": (0, None)}),
     (from_bytes, 3, "OID contains arc with invalid base 128 encoding", {b"\x2a\x80\x01": (0, None)}),
-    (from_der, 5, "OID value is empty", {b"\6\0": (0, None)}),
     (from_der, 14, "the tag is not 6", {b"": (0, None), b"\x26\1\x2a": (0, None)}),
     (from_der, 14, "octets come after the element", {b"\6\1\x2a" + bytes(count): (0, None) for count in (1, 2, 3)}),
     (ObjectIdentifier.read_der, 14, "the length is not in the form of DER, or octets are missing",
         {b"\6": (0, None), b"\6\2\x2a": (0, None), b"\6\x81\1\x2a": (0, None), b"\6\x80\x2a\0\0": (0, None)}),
-    (from_arcs, 5, "OID value is empty", {(): (0, None)}),
     (from_arcs, 5, "an identifier has two arcs or more", {(1,): (0, None)}),
-    (from_arcs, 2, "OID contains arc which is larger than 32-bits",
-        {given: (0, None) for given in ((1, 2, 2**32), (2**32,), (2**32, 40, 2**32))}),
     (from_arcs, 1, "OID contains out-of-range arc: 3", {(3, 2**32): (3, None)}),
-    (OID.child, 2, "OID contains arc which is larger than 32-bits", {2**32: (0, None)}),
+    *((call, 2, "OID contains arc which is larger than 32-bits", {given: (0, None)}) for call, given in (
+        (from_arcs, (1, 2, 2**32)), (from_arcs, (2**32,)), (from_arcs, (2**32, 40, 2**32)), (OID.child, 2**32))),
 ]
 
-
+# What an interpreter runs, where another one has a class with some id.
 INTERPRETED = """
-import os, const_oid
-for _ in range(100_000):
-    bytes(const_oid.ObjectIdentifier("1.2"))
+from const_oid import ObjectIdentifier, OidError
+made = [bytes(ObjectIdentifier("1.2")) for _ in range(100_000)]
 try:
-    const_oid.ObjectIdentifier("1.40")
-except const_oid.OidError as error:
-    parent = const_oid.ObjectIdentifier("2.999.3").parent
-    os.write({}, f"{{parent}} {{error.detail}} {{id(type(parent))}}\\n".encode())
+    ObjectIdentifier("1.40")
+except OidError as error:
+    found = made[-1], str(ObjectIdentifier("2.999.3").parent), error.detail, id(ObjectIdentifier) == {}
+assert found == (b"*", "2.999", 40, False), found
 """
-
-
 Under = type("Under", (ObjectIdentifier,), {"__slots__": ()})
 
 
@@ -90,47 +81,51 @@ def index(call=int):
 OWN_ERRORS = [mock.Mock(side_effect=kind("own")) for kind in (IndexError, ValueError)]
 RAISING = type("Raising", (), dict(zip(("__index__", "__eq__"), OWN_ERRORS)))()
 
+# What is no identifier, and calls with an argument that has to be one, by its name.
+NOT_OIDS = {"str (ObjectIdentifier takes text)": "1.2", "bytes (from_bytes takes octets)": OCTETS, "NoneType": None,
+    "tuple (from_arcs takes arcs)": (1, 2), "test_values.Arcs": type("Arcs", (), {"arcs": OID.arcs})()}
+OF_KEYS = [TABLE.nearest, TABLE.next_after, TABLE.subtree, TABLE.get, TABLE.__getitem__, TABLE.__delitem__]
+OF_KEYS += [TABLE.__contains__, lambda key: SortedMap({key: 1}), lambda key: TABLE.update({OID: 1, key: 1})]
+OF_KEYS += [lambda key: TABLE.pop(key, None), lambda key: TABLE.setdefault(key, 1)]
+OF_KEYS.append(lambda key: TABLE.__setstate__((None, {"_values": {key: 1}})))
+OF_OIDS = {"key": OF_KEYS, "oid": [names.name_of, names.names_of, names.display], "prefix": [OID.starts_with]}
+
 # Errors of Python: their type, what they say if it is of this package, the call and its inputs.
 OF_OTHERS = [("cryptography.x509", "dotted_string", "its .dotted_string"), ("asn1crypto.core", "dotted", "its .dotted")]
+NOT_TEXTS = {f"{module}.Other (ObjectIdentifier takes {hint})": type("Other", (), {"__module__": module, field: None})()
+    for module, field, hint in [*OF_OTHERS, ("pyasn1.type.univ", "isPrefixOf", "its str()")]}
+NOT_TEXTS |= {"bytes (from_bytes takes octets)": b"1", "tuple (from_arcs takes arcs)": (1, 2), "int": 1}
 REJECTED = [
     (TypeError, "", ObjectIdentifier, [b"1.2", None, 1, 1.2, ("1", "2")]),
     (TypeError, "", from_bytes, ["2.999", None, 42, [42, 3], OID, array.array("B", [42])]),
     (TypeError, "", from_der, ["2.999", None, 42, [6, 1, 42], OID, array.array("B", [6, 1, 42])]),
     (TypeError, "", from_arcs, ["", "12", b"\1\2", bytearray(b"\1"), memoryview(b"\1\2"), None, 1, [1, "2"]]),
     (TypeError, "", from_arcs, [{1: 2, 2: 3}, [1.0, 2], *((1, 2**32, arc) for arc in ("3", 2.0, None))]),
-    (TypeError, "arcs must be an iterable of int, not collections.OrderedDict", from_arcs,
-        [collections.OrderedDict({1: 2, 2: 3})]),
+    *((TypeError, f"arcs must be an iterable of int, not {text}", from_arcs, [kind({1: 2, 2: 3})]) for kind, text in (
+        (collections.OrderedDict, "collections.OrderedDict"), (set, "set (a set has no order)"),
+        (frozenset, "frozenset (a set has no order)"))),
     (TypeError, "", OID.__format__, [b"", None]),
+    (ValueError, "", OID.__format__, ["d"]),
     (TypeError, "specification must be a str, not int", OID.__format__, [5]),
-    (TypeError, "", OID.child, ["1", 1.0, None, OID]),
-    (TypeError, "", OID.starts_with, ["1.2", b"\x2a", None, (1, 2)]),
-    (TypeError, "", OID.__getitem__, ["1", None, 1.0]),
-    *((TypeError, f"text must be a str, not {module}.Other (ObjectIdentifier takes {hint})", ObjectIdentifier,
-        [type("Other", (), {"__module__": module, field: None})()])
-        for module, field, hint in [*OF_OTHERS, ("pyasn1.type.univ", "isPrefixOf", "its str()")]),
-    (TypeError, "octets must be bytes, bytearray or memoryview, not str (ObjectIdentifier takes dotted text, and "
-        "bytes.fromhex hexadecimal text)", from_bytes, ["2A03"]),
-    (TypeError, "octets must be bytes, bytearray or memoryview, not list (bytes takes octets as numbers)", from_bytes,
-        [[1]]),
-    (TypeError, "octets must be items of 1 byte, not 2: see memoryview.cast", from_bytes,
-        [memoryview(array.array("H", [42]))]),
-    (TypeError, "text must be a str, not bytes (from_bytes takes octets)", ObjectIdentifier, [b"1"]),
-    (TypeError, "text must be a str, not tuple (from_arcs takes arcs)", ObjectIdentifier, [(1, 2)]),
-    (TypeError, "text must be a str, not int", ObjectIdentifier, [1]),
-    (TypeError, "prefix must be an ObjectIdentifier, not bytes (from_bytes takes octets)", OID.starts_with, [OCTETS]),
-    (TypeError, "prefix must be an ObjectIdentifier, not str (ObjectIdentifier takes text)", OID.starts_with, ["1"]),
-    (TypeError, "arcs must be an iterable of int, not set (a set has no order)", from_arcs, [{1, 2}]),
-    (TypeError, "arcs must be an iterable of int, not frozenset (a set has no order)", from_arcs, [frozenset()]),
-    (ValueError, "an arc is negative: -2", from_arcs, [(1, -2)]),
-    (ValueError, "an arc is negative: -2", OID.child, [-2]),
+    *((TypeError, "", call, ["1", 1.0, None, OID]) for call in (OID.child, OID.__getitem__)),
+    *((TypeError, f"{name} must be an ObjectIdentifier, not {text}", call, [given])
+        for name, calls in OF_OIDS.items() for call in calls for text, given in NOT_OIDS.items()),
+    *((TypeError, f"{name} must be a str, not {type(given).__name__}", call, [given]) for given in (3, b"cn", None, OID)
+        for call, name in ((names.by_name, "name"), (names.parse, "text"))),
+    *((TypeError, f"octets must be bytes, bytearray or memoryview, not {text}", from_bytes, [given])
+        for text, given in (("list (bytes takes octets as numbers)", [1]),
+            ("str (ObjectIdentifier takes dotted text, and bytes.fromhex hexadecimal text)", "2A03"))),
+    *((TypeError, "octets must be items of 1 byte, not 2: see memoryview.cast", call,
+        [memoryview(array.array("H", [0x106, 42]))]) for call in (from_bytes, ObjectIdentifier.read_der)),
+    *((TypeError, f"text must be a str, not {text}", ObjectIdentifier, [given]) for text, given in NOT_TEXTS.items()),
+    *((ValueError, "an arc is negative: -2", call, [given]) for call, given in ((from_arcs, (1, -2)), (OID.child, -2))),
     (ValueError, "an arc is negative", OID.child, [-(10**5000)]),
     *((ValueError, f"{text} is not among the arcs", OID.index, [arc]) for text, arc in [("9", 9), ("'1'", "1")]),
     (ValueError, "2 is not among the arcs", lambda stop: OID.index(2, 0, stop), [1]),
     (TypeError, "", lambda start: OID.index(2, start), [None, "0", 1.0]),
-    *((KeyError, repr(OID), getattr(SortedMap(), name), [OID]) for name in ("__delitem__", "__getitem__", "pop")),
-    (TypeError, "", lambda pairs: SortedMap() | pairs, [[], [(OID, 1)], iter([(OID, 1)])]),
-    (TypeError, "oid must be an ObjectIdentifier, not test_values.Arcs", const_oid.names.name_of,
-        [type("Arcs", (), {"arcs": OID.arcs})()]),
+    *((KeyError, repr(OID), getattr(TABLE, name), [OID]) for name in ("__delitem__", "__getitem__", "pop")),
+    *((TypeError, "", call, [[], [1], [(OID, 1)], iter([(OID, 1)])])
+        for call in (lambda pairs: TABLE | pairs, lambda pairs: pairs | TABLE)),
     (IndexError, "", lambda index: OID[index], [6, -7, 10**50, index()]),
     *((IndexError, "own", call, [RAISING]) for call in (OID.__getitem__, OID.child)),
     *((ValueError, "own", call, [RAISING]) for call in (OID.index, OID.count)),
@@ -176,16 +171,15 @@ def copies_of(value, protocols=range(pickle.HIGHEST_PROTOCOL + 1)):
     return [*pickles, copy.deepcopy(value), copy.deepcopy([value])[0]]
 
 
-class Inputs(unittest.TestCase):
+class Identifiers(unittest.TestCase):
     def test_octets_come_from_any_buffer(self):
-        for call, octets in ((ObjectIdentifier.from_bytes, OCTETS), (ObjectIdentifier.from_der, b"\6\7" + OCTETS)):
+        for call, octets in ((from_bytes, OCTETS), (from_der, b"\6\7" + OCTETS)):
             source = bytearray(octets)
             given = [octets, source, memoryview(source), memoryview(b"\0" + octets)[1:], memoryview(octets[::-1])[::-1]]
-            taken = [call(octets) for octets in (*given, type("Octets", (bytes,), {})(octets))]
+            taken = [bytes(call(octets)) for octets in (*given, type("Octets", (bytes,), {})(octets))]
             source[:] = bytes(len(source))
-            self.assertEqual([(bytes, OCTETS)] * 6, [(type(bytes(oid)), bytes(oid)) for oid in taken])
-            errors = [error_of(call, kind(b"\x80")) for kind in (bytearray, memoryview)]
-            self.assertEqual([bytes, bytes], [type(error.given) for error in errors])
+            kept = [type(error_of(call, kind(b"\x80")).given) for kind in (bytearray, memoryview)]
+            self.assertEqual(([OCTETS] * 6, [bytes] * 8), (taken, [*map(type, taken), *kept]))
 
     def test_the_rest_after_an_element(self):
         """It has any length. That of a memoryview in a row is one, of the same memory."""
@@ -194,10 +188,9 @@ class Inputs(unittest.TestCase):
             view, wide = memoryview(bytearray(octets)), memoryview(octets).cast("B", [3, len(octets) // 3])
             kinds = [(octets, bytes), (view.obj, bytes), (view, memoryview), (wide, bytes)]
             for given, kind in [*kinds, (memoryview(octets[::-1])[::-1], memoryview)]:
-                oid, found = ObjectIdentifier.read_der(given)
+                oid, found = OID.read_der(given)
                 self.assertEqual((OID, rest, kind), (oid, bytes(found), type(found)))
-            self.assertIs(view.obj, ObjectIdentifier.read_der(view)[1].obj)
-        self.assertIs(TypeError, type(error_of(ObjectIdentifier.read_der, memoryview(array.array("H", [0x106, 42])))))
+            self.assertIs(view.obj, OID.read_der(view)[1].obj)
 
     def test_an_error_keeps_octets_of_the_element(self):
         """It has at most 128, and no buffer of the caller, and says the same of a view and of bytes."""
@@ -216,24 +209,22 @@ class Inputs(unittest.TestCase):
 
     def test_arcs_come_from_any_iterable(self):
         """Arcs are those of a list before it changes, and no other call comes between them."""
-        self.assertEqual((2, 999, 1), ObjectIdentifier.from_arcs(iter([2, index(), True])).arcs)
-        self.assertEqual((2, 5, 999), ObjectIdentifier("2.5").child(index(own := mock.Mock())).arcs)
-        self.assertEqual((2, 999), ObjectIdentifier.from_arcs([2, index(own)]).arcs)
-        self.assertEqual(2, own.call_count)
-        self.assertEqual((2, 5), ObjectIdentifier.from_arcs(ObjectIdentifier("2.5")).arcs)
+        child = ObjectIdentifier("2.5").child(index(own := mock.Mock()))
+        found = child.arcs, own.call_count, from_arcs(OID), from_arcs([1, 2, 840, 10045, 2, True])
+        self.assertEqual(((2, 5, 999), 1, OID, OID), found)
+        made = [from_arcs(iter([2, index(own), 3])), from_arcs([2, index(lambda: from_arcs((1, 2, 5))), 3])]
         for change in ("clear", "pop", "reverse"):
             arcs = [2]
-            arcs += [index(getattr(arcs, change)), 3, 4]
-            self.assertEqual((2, 999, 3, 4), ObjectIdentifier.from_arcs(arcs).arcs, change)
-        other = index(lambda: ObjectIdentifier.from_arcs((1, 2, 5)))
-        self.assertEqual((2, 999, 3, 4), ObjectIdentifier.from_arcs((2, other, 3, 4)).arcs)
+            arcs += [index(getattr(arcs, change)), 3]
+            made.append(from_arcs(arcs))
+        self.assertEqual((["2.999.3"] * 5, 2), ([*map(str, made)], own.call_count))
 
     def test_errors_of_python_say_what_to_do(self):
         for kind, text, call, inputs in REJECTED:
             for given in inputs:
-                with self.subTest(text or repr(given), call=call):
-                    error = error_of(call, given)
-                    self.assertEqual((kind, text or str(error)), (type(error), str(error)))
+                error = error_of(call, given)
+                wanted = kind, text or str(error), {}
+                self.assertEqual(wanted, (type(error), str(error), TABLE), (call, given))
 
     def test_the_callers_modules_do_not_matter(self):
         """Errors, of one class, and copies need nothing of the caller's builtins or of sys.modules."""
@@ -248,34 +239,25 @@ class Inputs(unittest.TestCase):
 
     def test_an_identifier_in_place_of_a_text(self):
         named, text = Named("2.999"), type("Text", (str,), {})(OID)
-        self.assertIs(OID, ObjectIdentifier(OID))
-        # As with tuple, another object: else its __init__ would run again.
-        self.assertIsNot(named, Named(named))
-        self.assertEqual(1, named.calls)
+        # As with tuple, another object of a subclass: else its __init__ would run again.
+        self.assertEqual((True, False, 1), (ObjectIdentifier(OID) is OID, Named(named) is named, named.calls))
         made = [Under(OID), ObjectIdentifier(Under(OID)), ObjectIdentifier(text), ObjectIdentifier(text=str(OID))]
-        self.assertEqual([Under, *[ObjectIdentifier] * 3], list(map(type, made)))
-        self.assertEqual([OCTETS] * 4, list(map(bytes, made)))
+        self.assertEqual(([Under, *[ObjectIdentifier] * 3], [OCTETS] * 4), ([*map(type, made)], [*map(bytes, made)]))
         self.assertEqual([TypeError] * 2, [type(error_of(ObjectIdentifier, *given)) for given in ((), ("1.2", "1.3"))])
 
     def test_errors_say_what_is_wrong(self):
         for call, code, text, inputs in WRONG:
             for given, (detail, piece) in inputs.items():
-                with self.subTest(call=call, given=given):
-                    error = error_of(call, given)
-                    self.assertEqual((OidError, (code, detail), given), (type(error), error.args, error.given))
-                    self.assertEqual((piece, f"{text}, given {given!r}"), (error.piece, str(error)))
-        self.assertEqual((3, 1), error_of(ObjectIdentifier.from_arcs, iter((3, 1))).given)
+                error = error_of(call, given)
+                wanted = OidError, (code, detail), given, piece, f"{text}, given {given!r}"
+                self.assertEqual(wanted, (type(error), error.args, error.given, error.piece, str(error)), call)
+        self.assertEqual((3, 1), error_of(from_arcs, iter((3, 1))).given)
 
     def test_long_inputs_are_cut(self):
         """An error shows the start of what is long, and has it whole, also if it has more digits than Python prints."""
-        longs = {
-            "'1.1.1": (ObjectIdentifier, 4000 * "1." + "x"),
-            r"b'\x00\x00": (ObjectIdentifier.from_bytes, bytes(4000) + b"\x80"),
-            "(3, 0, 1, ": (ObjectIdentifier.from_arcs, (3, *range(4000))),
-            "(1, 2, <int": (ObjectIdentifier.from_arcs, (1, 2, 10**5000)),
-            "156927543384": (OID.child, 2**190),
-            "<int": (LONG.child, 10**5000),
-        }
+        longs = {"'1.1.1": (ObjectIdentifier, 4000 * "1." + "x"), r"b'\x00\x00": (from_bytes, bytes(4000) + b"\x80"),
+                 "(3, 0, 1, ": (from_arcs, (3, *range(4000))), "(1, 2, <int": (from_arcs, (1, 2, 10**5000)),
+                 "156927543384": (OID.child, 2**190), "<int": (LONG.child, 10**5000)}
         for start, (call, given) in longs.items():
             error = error_of(call, given)
             self.assertIs(given, error.given)
@@ -285,28 +267,21 @@ class Inputs(unittest.TestCase):
     def test_identifiers_have_any_length(self):
         """Up to 350,000 octets, of the greatest arcs in one octet, whose text has four bytes for each, and of all."""
         greatest = (b"\x7f", b"\x7f", 47, 127), (b"\x90\x80\x80\x80\x4f", GREATEST, *[2**32 - 1] * 2)
-        for count in (126, 127, 128, 253, 254, 255, 256, 257, 1000, 65_534, 65_535, 70_000):
-            for first, later, second, arc in greatest:
-                with self.subTest(count=count, arc=arc):
-                    self.check_length((2, second, *[arc] * count), first + later * count)
-
-    def check_length(self, arcs, octets):
-        """Calls that have an output, and errors at the end. A difference of long values would take minutes to print."""
-        *before, last = arcs
-        text = ".".join(map(str, arcs))
-        oid, same = ObjectIdentifier(text), ObjectIdentifier.from_bytes(octets)
-        child = oid.child(2**32 - 1)
-        self.assertTrue((octets, octets) == (bytes(oid), bytes(ObjectIdentifier.from_arcs(arcs))))
-        self.assertTrue((len(arcs), arcs, text) == (len(oid), oid.arcs, str(oid)))
-        self.assertTrue((arcs[1:], arcs[::-1], arcs.count(last)) == (oid[1:], oid[::-1], oid.count(last)))
-        self.assertTrue((f"ObjectIdentifier('{text}')", same, hash(same)) == (repr(oid), oid, hash(oid)))
-        self.assertTrue((octets + GREATEST, octets) == (bytes(child), bytes(child.parent)))
-        self.assertFalse(oid == ObjectIdentifier.from_bytes(octets + bytes(256)))
-        self.assertTrue((oid, tuple(before)) == (oid.parent.child(last), oid.parent.arcs))
-        self.assertTrue((oid, (oid, b"\0")) == (oid.from_der(oid.der), oid.read_der(oid.der + b"\0")))
-        self.assertEqual((4, 120), error_of(ObjectIdentifier, text + ".x").args)
-        self.assertEqual((3, 0), error_of(ObjectIdentifier.from_bytes, octets + b"\x80").args)
-        self.assertEqual((2, 0), error_of(ObjectIdentifier.from_arcs, (*arcs, 2**32)).args)
+        counts = 126, 127, 128, 253, 254, 255, 256, 257, 1000, 65_534, 65_535, 70_000
+        for count, (first, later, second, arc) in itertools.product(counts, greatest):
+            arcs, octets = (2, second, *[arc] * count), first + later * count
+            oid, same = ObjectIdentifier(text := ".".join(map(str, arcs))), from_bytes(octets)
+            child, parent = oid.child(2**32 - 1), oid.parent
+            pairs = [(octets, bytes(oid)), (octets, bytes(from_arcs(arcs))), (len(arcs), len(oid)), (arcs, oid.arcs)]
+            pairs += [(text, str(oid)), (arcs[1:], oid[1:]), (arcs[::-1], oid[::-1]), (arcs.count(arc), oid.count(arc))]
+            pairs += [(f"ObjectIdentifier('{text}')", repr(oid)), (same, oid), (hash(same), hash(oid))]
+            pairs += [(octets + GREATEST, bytes(child)), (octets, bytes(child.parent)), (arcs[:-1], parent.arcs)]
+            pairs += [(oid, parent.child(arc)), (oid, from_der(oid.der)), ((oid, b"\0"), oid.read_der(oid.der + b"\0"))]
+            wrong = (ObjectIdentifier, text + ".x"), (from_bytes, octets + b"\x80"), (from_arcs, (*arcs, 2**32))
+            pairs += zip([(4, 120), (3, 0), (2, 0)], [error_of(*call).args for call in wrong])
+            pairs += [(False, oid == from_bytes(octets + bytes(256)))]
+            # Long values that differ would take minutes to print.
+            self.assertEqual([], [at for at, (wanted, found) in enumerate(pairs) if wanted != found], (count, arc))
 
     def test_long_inputs_take_linear_time(self):
         def read(rest):
@@ -323,46 +298,39 @@ class Inputs(unittest.TestCase):
         for call, of in ((printed, text), (piece, wrong), *zip((read, read), views)):
             self.assertTrue(is_linear(call, of))
 
-
-class Values(unittest.TestCase):
     def test_copies_are_equal_and_of_one_class(self):
         for oid in (OID, LONG, Under("2.999")):
             for other in [*copies_of(oid), copy.copy(oid)]:
-                self.assertEqual((oid, oid.arcs, hash(bytes(oid))), (other, other.arcs, hash(other)))
-                self.assertIs(type(oid), type(other))
-        self.assertEqual(("Under('2.999')", True, False), (repr(Under("2.999")), Under(OID) == OID, Under(OID) < OID))
-        self.assertEqual({OID: 1}, {Under(OID): 1})
+                found = other, other.arcs, hash(other), type(other)
+                self.assertEqual((oid, oid.arcs, hash(bytes(oid)), type(oid)), found)
+        found = repr(Under("2.999")), Under(OID) == OID, Under(OID) < OID, {Under(OID): 1}
+        self.assertEqual(("Under('2.999')", True, False, {OID: 1}), found)
 
     def test_a_subclass_is_called_with_an_identifier(self):
         source = Named("2.999")
         made = [Named.from_bytes(b"\x88\x37"), Named.from_arcs((2, 999)), Named("2.999.1").parent, Named("2.999")]
         made += [Named.read_der(source.der)[0], Named(source), Named(OID).parent.parent.parent.parent.child(3).parent]
-        for oid, text in zip(made, [*["2.999"] * 6, "1.2"]):
+        made.append(source.child(7))
+        for oid, text in zip(made, [*["2.999"] * 6, "1.2", "2.999.7"]):
             self.assertEqual((Named, text, text, 1), (type(oid), str(oid), oid.text, oid.calls))
-        self.assertEqual("2.999.7", source.child(7).text)
 
     def test_copies_of_a_subclass_have_its_attributes(self):
         oid = Named("2.999")
         oid.text, oid.slot, oid.other = "changed", [1], [oid]
         for other in copies_of(oid, range(2, 6)):
             self.assertEqual((oid, "changed", [1]), (other, other.text, other.slot))
-            self.assertIs(other, other.other[0])
-            self.assertIsNot(oid.slot, other.slot)
-            self.assertIsNot(oid, other)
+            self.assertTrue(oid is not other is other.other[0] and oid.slot is not other.slot)
         other = copy.copy(oid)
         self.assertEqual((oid, "changed"), (other, other.text))
         self.assertTrue(other is not oid and other.slot is oid.slot and other.other is oid.other)
         other.text = "again"
-        self.assertEqual("changed", oid.text)
-        self.assertTrue(copy.copy(OID) is OID and copy.deepcopy(OID) is OID)
-
-    def test_copies_are_made_as_pickles_are(self):
+        self.assertEqual(("changed", id(OID), id(OID)), (oid.text, id(copy.copy(OID)), id(copy.deepcopy(OID))))
+        # Copies are made as pickles are.
         for kind, text in {Kept: "kept", Reduced: "reduced", Listed: "listed"}.items():
-            for made in (copy.copy(kind("2.999")), *copies_of(kind("2.999"))):
-                self.assertEqual((kind, text), (type(made), made.text))
+            made = [copy.copy(kind("2.999")), *copies_of(kind("2.999"))]
+            self.assertEqual({(kind, text)}, {(type(oid), oid.text) for oid in made})
 
     def test_pickles_are_short_and_checked(self):
-        """A pickle has little more than the octets, which are checked as it is read."""
         oids = [ObjectIdentifier(f"1.3.6.1.2.1.{arc}.4.7") for arc in range(2, 102)]
         self.assertLess(len(pickle.dumps(oids)) - len(pickle.dumps(oids[:1])), 99 * (8 + 10))
         wrong = pickle.dumps(OID, 4).replace(OCTETS, OCTETS[:-1] + b"\x80")
@@ -380,39 +348,34 @@ class Values(unittest.TestCase):
 
     def test_nothing_changes_an_identifier(self):
         for name in ("arcs", "der", "parent", "_octets", "_known", "other"):
-            for call in ((setattr, OID, name, 1), (delattr, OID, name)):
-                self.assertIs(AttributeError, type(error_of(*call)), call)
+            errors = error_of(setattr, OID, name, 1), error_of(delattr, OID, name)
+            self.assertEqual([AttributeError] * 2, [*map(type, errors)], name)
         changes = [(operator.setitem, OID, 0, 1), (operator.delitem, OID, 0), (setattr, OID, "__class__", Under)]
-        for call in [*changes, (setattr, ObjectIdentifier, "other", 1), (delattr, ObjectIdentifier, "child")]:
-            self.assertIs(TypeError, type(error_of(*call)), call)
+        changes += [(setattr, ObjectIdentifier, "other", 1), (delattr, ObjectIdentifier, "child")]
+        self.assertEqual([TypeError] * 5, [type(error_of(*call)) for call in changes])
         setattr(type("Other", (ObjectIdentifier,), {}), "other", 1)
         OID.__init__("2.5")
-        self.assertEqual("1.2.840.10045.2.1", str(OID))
-        self.assertFalse(hasattr(OID, "__dict__"))
-
-    def test_no_other_value_is_equal_or_ordered(self):
-        for other in (str(OID), OCTETS, OID.arcs, None):
-            self.assertEqual((False, True, {OID}), (OID == other, OID != other, {OID} - {other}))
-            for order in (operator.lt, operator.le, operator.gt, operator.ge):
-                self.assertIs(TypeError, type(error_of(order, OID, other)))
+        self.assertEqual(("1.2.840.10045.2.1", False), (str(OID), hasattr(OID, "__dict__")))
 
     def test_pairs_compare_as_tuples_do(self):
-        """10,000 drawn pairs: equality, hashes, order and prefixes are those of tuples."""
+        for other in (str(OID), OCTETS, OID.arcs, None):
+            self.assertEqual((False, True, {OID}), (OID == other, OID != other, {OID} - {other}))
+            self.assertEqual([TypeError] * 4, [type(error_of(order, OID, other)) for order in COMPARISONS[2:]])
         draw = random.Random(8825)
         for _ in range(10_000):
             arcs = [draw.getrandbits(draw.choice([1, 7, 32])) for _ in range(draw.randint(0, 39))]
             left = (draw.randint(0, 2), draw.randint(0, 39), *arcs)
             cut = left[: draw.randint(2, len(left))]
             right = draw.choice([left, cut, (*cut, draw.getrandbits(32)), (left[0], 3, *left[2:]), (*left, 0)])
-            a, b = ObjectIdentifier.from_arcs(left), ObjectIdentifier.from_arcs(right)
-            wanted = (left == right, left != right, left < right, left <= right, left > right, left >= right)
-            self.assertEqual(wanted, (a == b, a != b, a < b, a <= b, a > b, a >= b), (left, right))
-            found = (hash(a) == hash(b), draw.choice([a, Under(a)]).starts_with(draw.choice([b, Under(b)])))
-            self.assertEqual((left == right, left[: len(right)] == right), found, (left, right))
+            a, b = from_arcs(left), from_arcs(right)
+            wanted = [left == right, left[: len(right)] == right, *(call(left, right) for call in COMPARISONS)]
+            found = [hash(a) == hash(b), draw.choice([a, Under(a)]).starts_with(draw.choice([b, Under(b)]))]
+            self.assertEqual(wanted, [*found, *(call(a, b) for call in COMPARISONS)], (left, right))
 
     def test_an_identifier_is_a_sequence(self):
-        self.assertEqual([1, 2, 840, 10045, 2, 1], list(OID))
-        self.assertEqual((6, 1, 1, (10045, 1)), (len(OID), OID[0], OID[-1], OID[3::2]))
+        kinds = isinstance(OID, collections.abc.Sequence), isinstance(TABLE, collections.abc.MutableMapping)
+        found = [*OID], [*reversed(OID)], len(OID), OID[3::2], kinds
+        self.assertEqual(([1, 2, 840, 10045, 2, 1], [1, 2, 10045, 840, 2, 1], 6, (10045, 1), (True, True)), found)
         items = [840, 841, True, 10**5000, *OCTETS[1:5], "1", None, OID, 1.0]
         self.assertEqual([0, 2, 11], [place for place, item in enumerate(items) if item in OID])
         self.assertEqual((1, 4, 2), (OID.index(2), OID.index(2, 2), OID.count(1)))
@@ -426,8 +389,6 @@ class Values(unittest.TestCase):
             own, error = ObjectIdentifier.index if call is tuple.index else call, error_of(call, OID.arcs, *given)
             self.assertIs(type(error), type(error_of(own, OID, *given)), given)
             self.assertTrue(error or call(OID.arcs, *given) == own(OID, *given), given)
-        self.assertEqual([1, 2, 10045, 840, 2, 1], list(reversed(OID)))
-        self.assertIsInstance(OID, collections.abc.Sequence)
         oid, row = ObjectIdentifier("1.2.3"), csv.writer(mock.Mock(write=str.strip)).writerow
         self.assertEqual((b"*\3", b"\1\2\3", "1,2,3", "1.2.3"), (bytes(oid), bytearray(oid), row(oid), row([oid])))
         for oid in (OID, Under(OID)):
@@ -439,7 +400,6 @@ class Values(unittest.TestCase):
 
     def test_format_is_that_of_the_text(self):
         self.assertEqual("   2.999|2.999*|2.9|2.999", "{0:>8}|{0:*<6}|{0:.3}|{0}".format(ObjectIdentifier("2.999")))
-        self.assertIs(ValueError, type(error_of(format, OID, "d")))
         said = type("Said", (ObjectIdentifier,), {"__str__": lambda oid: "said"})("2.999")
         self.assertEqual("said, said|  said", f"{said}, {said!s}|{said:>6}")
 
@@ -454,8 +414,8 @@ class Values(unittest.TestCase):
         """They may change, and are in vars and copies, also of a subclass with another base, or one that sets none."""
         given = error_of(ObjectIdentifier, "1.40")
         self.assertEqual({"code": Code.ARC_INVALID, "detail": 40, "given": "1.40"}, vars(given))
-        self.assertEqual((Code, "OidError(Code.ARC_INVALID, 40, '1.40')"), (type(given.code), repr(given)))
-        self.assertEqual("OidError(Code.DIGIT_EXPECTED, 255)", repr(OidError(4, 255)))
+        shown = ["OidError(Code.ARC_INVALID, 40, '1.40')", "OidError(Code.DIGIT_EXPECTED, 255)"]
+        self.assertEqual((Code, shown), (type(given.code), [repr(given), repr(OidError(4, 255))]))
         self.assertEqual(["expected digit, got 'ÿ'", "DIGIT_EXPECTED 256"], [str(OidError(4, n)) for n in (255, 256)])
         self.assertEqual((None, None), (OidError(4, 120).piece, OidError(4, 120, "1.2").piece))
         old = b"cconst_oid\nOidError\n(I1\nI40\ntR(dVcode\ncconst_oid\nCode\n(I3\ntRsVdetail\nI7\nsVgiven\nVx\nsb."
@@ -469,32 +429,10 @@ class Values(unittest.TestCase):
             del error.given
             self.assertFalse(hasattr(error, "given"))
 
-    def test_threads_do_not_mix_identifiers(self):
-        start = threading.Barrier(8)
-
-        def work(own):
-            start.wait()
-            for arc in range(own, 12_000, 8):
-                text = f"1.{own}.{arc}.{2**32 - 1 - arc}"
-                oid = ObjectIdentifier(text)
-                found = (str(oid), oid.child(own).arcs, str(oid.parent), hash(oid), OidError(1, arc).args)
-                wanted = (text, (1, own, arc, 2**32 - 1 - arc, own), f"1.{own}.{arc}", hash(bytes(oid)), (1, arc))
-                self.assertEqual(wanted, found)
-
-        self.addCleanup(sys.setswitchinterval, sys.getswitchinterval())
-        sys.setswitchinterval(1e-6)
-        with concurrent.futures.ThreadPoolExecutor(8) as threads:
-            list(threads.map(work, range(8)))
-
     def test_interpreters_have_their_own_class(self):
         """Four at once, which have locks of their own since Python 3.12."""
         interpreters = importlib.import_module("_xxsubinterpreters" if sys.version_info < (3, 13) else "_interpreters")
-        read, write = os.pipe()
         own = [interpreters.create() for _ in range(4)]
         with concurrent.futures.ThreadPoolExecutor(4) as threads:
-            list(threads.map(lambda one: interpreters.run_string(one, INTERPRETED.format(write)), own))
-        list(map(interpreters.destroy, own))
-        said = [line.split() for line in os.read(read, 4096).decode().splitlines()]
-        list(map(os.close, (read, write)))
-        self.assertEqual([["2.999", "40"]] * 4, [words[:-1] for words in said])
-        self.assertNotIn(str(id(ObjectIdentifier)), [words[-1] for words in said])
+            said = [*threads.map(interpreters.run_string, own, 4 * [INTERPRETED.format(id(ObjectIdentifier))])]
+        self.assertEqual(([None] * 4, [None] * 4), (said, [*map(interpreters.destroy, own)]))

@@ -22,22 +22,21 @@ from unittest import mock
 TOP = pathlib.Path(__file__).resolve().parents[2]
 sys.path.append(str(TOP / "python"))
 backend = importlib.import_module("backend")
-PROJECT = backend.PROJECT
-STEM = f"const_oid-{PROJECT['version']}"
-PACKAGE = {path.name for path in (TOP / "python/src/const_oid").glob("*.*")} | {"_native.abi3.so", *backend.TABLES}
+STEM = f"const_oid-{backend.PROJECT['version']}"
+SOURCES = [*(TOP / "python/src/const_oid").glob("*.*"), *(TOP / "rust").glob("*names.tsv")]
+PACKAGE = {path.name for path in SOURCES} | {"_native.abi3.so"}
 INFORMATION = {"licenses/LICENSE-APACHE", "licenses/LICENSE-MIT", "METADATA", "RECORD", "WHEEL"}
 FILES = {f"const_oid/{name}" for name in PACKAGE} | {f"{STEM}.dist-info/{name}" for name in INFORMATION}
 INSTALLED = {"library": "installed"}
 CC = os.environ.get("CC", "cc")
+CRATE = "rust/const-oid-c/Cargo.toml"
 
 # What a build says that is refused, and how it is called.
 FIRST = "^const-oid: to be installed first: "
 OLD = "import sys; sys.version_info, sys.version, sys.modules['tomllib'] = (3, 8, 18), '3.8.18 (of a day)', None"
-RUST = """import shutil, subprocess
-shutil.which, subprocess.run = str, lambda *_, **__: subprocess.CompletedProcess(_, 0, 'rustc 1.84.1')"""
-# How pip names the platforms of a Python whose sizes have 64 or 32 bits.
-TAGS = {64: {name: re.sub("[-.]", "_", name) for name in ("linux-x86_64", "linux-aarch64", "linux-armv7l", "a-b.c")}}
-TAGS[32] = TAGS[64] | {"linux-x86_64": "linux_i686", "linux-aarch64": "linux_armv7l"}
+# How pip names the platforms of a Python whose sizes have 64 bits, and 32.
+TAGS = {"linux-x86_64": ("linux_x86_64", "linux_i686"), "linux-aarch64": ("linux_aarch64", "linux_armv7l")}
+TAGS |= {"linux-armv7l": 2 * ("linux_armv7l",), "a-b.c": 2 * ("a_b_c",)}
 REFUSED = {
     r"^const-oid: needs Python 3\.11 or later on Linux, not 3\.8\.18 on linux$": {"before": OLD},
     "^const-oid: needs .* on win32$": {"before": "import sys; sys.platform, sys.modules['fcntl'] = 'win32', None"},
@@ -51,9 +50,7 @@ REFUSED = {
         {"before": "import sysconfig; sysconfig.get_path = lambda name: '/missing'"},
     FIRST + r"a C compiler, \S+ \(Debian: gcc\); cargo and rustc, 1": {"settings": None, "PATH": "/missing"},
     FIRST + r"a C compiler, .*; pkg-config \(Debian: pkg-config\)$": {"PATH": "/missing"},
-    FIRST + "the library const_oid_c, .* PKG_CONFIG_PATH":
-        {"PKG_CONFIG_PATH": "/missing", "PKG_CONFIG_LIBDIR": "/missing"},
-    FIRST + r"rustc 1\.85 or later \(https://rustup\.rs\)$": {"settings": None, "before": RUST},
+    FIRST + "the library const_oid_c, .* PKG_CONFIG_PATH": dict.fromkeys(("PKG_CONFIG_PATH", "PKG_CONFIG_LIBDIR"), "/"),
     "\nconst-oid: .* --no-such-option -shared .* ends with status 1$": {"CFLAGS": "--no-such-option"},
     " -o .* --no-such-option ends with status 1$": {"LDFLAGS": "--no-such-option"},
 }
@@ -78,29 +75,24 @@ class Wheel(unittest.TestCase):
         status, cls.name, wheels = built("build_wheel")
         assert status == 0, cls.name
         cls.wheel = wheels[cls.name]
-        archive = zipfile.ZipFile(io.BytesIO(cls.wheel))
-        cls.entries = archive.infolist()
-        cls.files = {entry.filename: archive.read(entry) for entry in cls.entries}
+        cls.archive = zipfile.ZipFile(io.BytesIO(cls.wheel))
+        cls.files = {name: cls.archive.read(name) for name in cls.archive.namelist()}
 
-    def test_the_wheel_has_the_package_alone(self):
+    def test_the_wheel_has_the_package_alone_and_its_digests(self):
         """Nothing but the package and what says what it is, which is installed; all may read it, none may run it."""
-        self.assertEqual((FILES, len(FILES)), (set(self.files), len(self.entries)))
-        self.assertEqual({0o100644}, {entry.external_attr >> 16 for entry in self.entries})
-        sources = [*(TOP / "python/src/const_oid").glob("*.*"), *(TOP / "rust").glob("*.tsv"), *TOP.glob("LICENSE-*")]
+        modes = [(entry.filename, entry.external_attr >> 16) for entry in self.archive.infolist()]
+        self.assertEqual(sorted((name, 0o100644) for name in FILES), sorted(modes))
         contents = {name.split("/")[-1]: content for name, content in self.files.items()}
-        for source in sources:
-            self.assertEqual(source.read_bytes(), contents[source.name])
+        sources = {path.name: path.read_bytes() for path in [*SOURCES, *TOP.glob("LICENSE-*")]}
+        self.assertEqual([], [name for name, source in sources.items() if source != contents[name]])
         installed = {str(path) for path in importlib.metadata.files("const-oid") if path.suffix != ".pyc"}
         of_pip = {f"{STEM}.dist-info/{name}" for name in ("INSTALLER", "REQUESTED", "direct_url.json")}
         self.assertEqual(FILES | of_pip, installed)
-
-    def test_the_record_has_each_digest(self):
-        rows = [row.split(",") for row in self.files[f"{STEM}.dist-info/RECORD"].decode().splitlines()]
-        self.assertEqual(sorted(FILES), sorted(name for name, _, _ in rows))
-        for name, digest, length in rows:
-            if not name.endswith("RECORD"):
-                wanted = base64.urlsafe_b64encode(hashlib.sha256(self.files[name]).digest()).decode().rstrip("=")
-                self.assertEqual((f"sha256={wanted}", str(len(self.files[name]))), (digest, length))
+        others = {name: content for name, content in self.files.items() if not name.endswith("RECORD")}
+        digests = (base64.urlsafe_b64encode(hashlib.sha256(content).digest()).decode() for content in others.values())
+        wanted = [f"{name},sha256={digest.rstrip('=')},{len(others[name])}" for name, digest in zip(others, digests)]
+        record = f"{STEM}.dist-info/RECORD"
+        self.assertEqual(sorted([*wanted, f"{record},,"]), sorted(self.files[record].decode().splitlines()))
 
     def test_the_metadata_is_that_of_the_project(self):
         """The licence is an expression, and no classifier says it again. The tag says the ABI and the machine."""
@@ -108,27 +100,27 @@ class Wheel(unittest.TestCase):
         said = email.message_from_bytes(self.files[f"{STEM}.dist-info/WHEEL"])
         self.assertEqual((self.name, "false"), (f"{STEM}-{said['Tag']}.whl", said["Root-Is-Purelib"]))
         fields = {"Name": "name", "Version": "version", "Summary": "description", "License-Expression": "license"}
-        wanted = [("Requires-Python", ">=3.11"), *((field, PROJECT[name]) for field, name in fields.items())]
-        wanted += [("License-File", "LICENSE-APACHE"), ("License-File", "LICENSE-MIT"), ("Metadata-Version", "2.4")]
-        wanted += [("Classifier", classifier) for classifier in PROJECT["classifiers"]]
+        project = backend.PROJECT
+        wanted = {field: [project[name]] for field, name in fields.items()} | {"Classifier": project["classifiers"]}
+        wanted |= {"License-File": ["LICENSE-APACHE", "LICENSE-MIT"], "Description-Content-Type": ["text/markdown"]}
         said = email.message_from_bytes(self.files[f"{STEM}.dist-info/METADATA"])
-        self.assertEqual(sorted([*wanted, ("Description-Content-Type", "text/markdown")]), sorted(said.items()))
+        found = {field: said.get_all(field) for field in said}
+        self.assertEqual(wanted | {"Requires-Python": [">=3.11"], "Metadata-Version": ["2.4"]}, found)
         self.assertEqual((TOP / "python/README.md").read_text(encoding="utf-8"), said.get_payload())
-        self.assertEqual([], [text for text in PROJECT["classifiers"] if text.startswith("License")])
+        self.assertNotIn("License ::", str(project["classifiers"]))
 
     def test_a_source_archive_builds_the_same_wheel(self):
         """The archive has all that the wheel is made from, and nothing else. Each has the same bytes each time."""
         status, name, archive = built("build_sdist")
         self.assertEqual((0, f"{STEM}.tar.gz", {f"{STEM}.tar.gz"}), (status, name, set(archive)))
-        # Two archives that differ would take minutes to print.
-        self.assertTrue(archive == built("build_sdist")[2])
+        self.assertTrue(archive == built("build_sdist")[2])  # two that differ would take minutes to print
         with tempfile.TemporaryDirectory() as folder:
             tar = tarfile.open(fileobj=io.BytesIO(archive[name]))
-            self.assertEqual({STEM}, {member.name.split("/")[0] for member in tar})
             tar.extraction_filter = getattr(tarfile, "data_filter", None)
             tar.extractall(folder)
-            source = pathlib.Path(folder) / STEM
-            self.assertEqual(self.files[f"{STEM}.dist-info/METADATA"], (source / "PKG-INFO").read_bytes())
+            (source,) = pathlib.Path(folder).iterdir()
+            found = source.name, (source / "PKG-INFO").read_bytes()
+            self.assertEqual((STEM, self.files[f"{STEM}.dist-info/METADATA"]), found)
             self.assertTrue((0, self.name, {self.name: self.wheel}) == built("build_wheel", python=source))
             for stray in ("rust/const-oid-c/target/x.rs", "rust/const-oid/src/x.rs~", "src/const_oid/x.py", "x"):
                 (source / stray).parent.mkdir(exist_ok=True)
@@ -140,21 +132,18 @@ class Wheel(unittest.TestCase):
     def check_cargo(self, source, folder):
         """For this machine whatever the configuration says, in a new home, and not in the folder of the archive."""
         rustup = os.environ.get("RUSTUP_HOME", str(pathlib.Path.home() / ".rustup"))
-        before = set(source.rglob("*"))
+        before = sorted(source.rglob("*"))
         variables = {"HOME": folder, "CARGO_HOME": f"{folder}/cargo", "RUSTUP_HOME": rustup}
         variables |= {"CARGO_TARGET_DIR": "made", "CARGO_BUILD_TARGET": "another", "PYTHONDONTWRITEBYTECODE": "1"}
         status, said, files = built("build_wheel", None, python=source, **variables)
-        self.assertEqual((0, [self.name]), (status, list(files)), said)
-        self.assertEqual(before, set(source.rglob("*")))
+        self.assertEqual((0, [self.name], before), (status, list(files), sorted(source.rglob("*"))), said)
 
-    def test_the_module_shows_its_start_alone(self):
-        """The module shows its start alone, and needs the library of C alone: that of object identifiers is in it."""
+    def test_the_module_needs_the_limited_api_alone(self):
+        """It shows its start alone, and needs the library of C alone: that of object identifiers is in it. Python's
+        headers declare what the stable ABI of 3.11 has, as the tag says; the source uses nothing else."""
         module = importlib.import_module("const_oid._native").__file__
         self.assertRegex(backend._output("nm", "-D", "--defined-only", module), r"^[0-9a-f]+ T PyInit__native$")
         self.assertEqual(["libc.so.6"], re.findall(r"\(NEEDED\).*\[(.*)\]", backend._output("readelf", "-dW", module)))
-
-    def test_the_source_asks_for_the_limited_api(self):
-        """Python's headers declare what the stable ABI of 3.11 has, as the tag says; the source uses nothing else."""
         folders = [f"-I{backend.INCLUDE}", f"-I{TOP / 'crates/const_oid_c/include'}"]
         command = [*backend.COMPILER, "-std=c11", *folders, *(TOP / "python/src").glob("*.c")]
         self.assertIn("#define Py_LIMITED_API 0x030B0000\n", backend._output(*command, "-E", "-dM"))
@@ -169,7 +158,7 @@ class Wheel(unittest.TestCase):
         with mock.patch.multiple(backend, **output), mock.patch.dict(os.environ, CFLAGS="-g", LDFLAGS="-L."):
             self.assertRaises(FileNotFoundError, backend._compiled, None)
         wanted = f"""{backend.RUSTC} -vV
-cargo build --quiet --release --locked --offline --target this --target-dir @ --manifest-path {backend.CRATE}
+cargo build --quiet --release --locked --offline --target this --target-dir @ --manifest-path {TOP / CRATE}
 {" ".join(backend.COMPILER)} -std=c11 -O2 -fPIC -fno-plt -fvisibility=hidden -g -shared -Wl,--exclude-libs,ALL -s \
 -I{backend.INCLUDE} -I{backend.HEADER.parent} {TOP}/python/src/names.c {TOP}/python/src/native.c \
 {TOP}/python/src/table.c @/this/release/libconst_oid_c.a -o @/made -L."""
@@ -177,59 +166,53 @@ cargo build --quiet --release --locked --offline --target this --target-dir @ --
         self.assertEqual(wanted.replace("@", folder).split("\n"), [" ".join(map(str, call)) for call in said])
 
     def test_a_library_below_a_space(self):
-        """The library may lie below a folder with a space and an apostrophe, and CC be empty."""
-        include, library = backend._installed()
+        include, library = backend._library(True, None)
         with tempfile.TemporaryDirectory(prefix="a' b") as folder:
             paths = "libdir=${pcfiledir}\nincludedir=${pcfiledir}\nName: a\nDescription: a\nVersion: 1\n"
             pathlib.Path(folder, "const_oid_c.pc").write_text(paths, encoding="utf-8")
             list(map(shutil.copy, (library, *pathlib.Path(include).glob("*.h")), 4 * [folder]))
             for compiler in ("", " "):
-                status, name, _ = built("build_wheel", PKG_CONFIG_PATH=folder, CC=compiler)
-                self.assertEqual((0, self.name), (status, name))
+                self.assertEqual((0, self.name), built("build_wheel", PKG_CONFIG_PATH=folder, CC=compiler)[:2])
 
-
-class Build(unittest.TestCase):
     def test_what_is_missing_is_named(self):
         """All that is missing is named before anything is built, and what fails is reported. Python 3.8 reads all."""
         ast.parse((TOP / "python/backend.py").read_text(encoding="utf-8"), feature_version=(3, 8))
         for text, call in REFUSED.items():
             with self.subTest(text):
                 status, said, files = built("build_wheel", **call)
-                self.assertEqual((1, {}), (status, files))
-                self.assertRegex(said, text)
+                self.assertEqual((1, {}, True), (status, files, bool(re.search(text, said))), said)
 
     def test_versions_and_platforms(self):
+        old = ["rustc 1.85 or later (https://rustup.rs)"]
         for said in ("1.9.0", "1.84.1 (e 2025-01-27)", "1.85.0", "1.100.0-nightly", "2.0.0"):
-            self.assertEqual(said[:4] not in ("1.9.", "1.84"), backend._is_recent(f"rustc {said}"), said)
-        for bits, name in itertools.product(TAGS, TAGS[64]):
+            with mock.patch.object(backend, "_output", lambda *_: f"rustc {said}"), mock.patch("shutil.which", str):
+                self.assertEqual(old if said[:4] in ("1.9.", "1.84") else [], [*backend._missing(False)], said)
+        for name, bits in itertools.product(TAGS, (64, 32)):
             before = f"import sys, sysconfig; sys.maxsize, sysconfig.get_platform = 2**{bits - 1}, lambda: {name!r}"
             said = ran(f"{before}; import backend; print(backend.TAG)", TOP / "python").stdout
-            self.assertEqual(f"cp311-abi3-{TAGS[bits][name]}\n", said, (bits, name))
+            self.assertEqual(f"cp311-abi3-{TAGS[name][bits == 32]}\n", said, (bits, name))
 
     def test_an_editable_install_sees_a_change(self):
         """A change of a source is seen at once, and a wrong setting removes nothing. The wheel leads to a checkout."""
         with tempfile.TemporaryDirectory() as folder:
             top = pathlib.Path(folder).resolve()
             shutil.copytree(TOP / "python", top / "python", ignore=shutil.ignore_patterns("out", "tests"))
-            missing = f"const-oid: there is no {top}/rust/const-oid-c/Cargo.toml"
-            wanted = (1, f"{missing}: install a checkout of the repository, or a source archive", {})
-            self.assertEqual(wanted, built("build_editable", python=top / "python"))
+            said = f"const-oid: there is no {top}/{CRATE}: install a checkout of the repository, or a source archive"
+            self.assertEqual((1, said, {}), built("build_editable", python=top / "python"))
             for name in ("LICENSE-APACHE", "LICENSE-MIT", "crates", "rust"):
                 (top / name).symlink_to(TOP / name)
-            # What an earlier build left goes.
-            (top / "python/out/const_oid").mkdir(parents=True)
-            (top / "python/out/const_oid/stale.py").touch()
+            (top / "python/out/const_oid/stale.py").mkdir(parents=True)  # what an earlier build left goes
             # Of two at once each waits for the other, however slow.
             slow = "import shutil, time; rm = shutil.rmtree; shutil.rmtree = lambda *_, **__: rm(*_) or time.sleep(1)"
             with concurrent.futures.ThreadPoolExecutor() as builds:
                 both = [builds.submit(built, "build_editable", python=top / "python", before=slow) for _ in range(2)]
             (status, name, files), other = (one.result() for one in both)
-            self.assertEqual((0, 0), (status, other[0]), (name, other[1]))
-            self.assertEqual(1, built("build_editable", {"library": "instaled"}, top / "python")[0])
+            wrong = built("build_editable", {"library": "instaled"}, top / "python")
+            self.assertEqual((0, 0, 1), (status, other[0], wrong[0]), (name, other[1]))
             self.assertEqual(PACKAGE, set(os.listdir(top / "python/out/const_oid")))
             archive = zipfile.ZipFile(io.BytesIO(files[name]))
-            information = {name for name in FILES if "dist-info" in name}
-            self.assertEqual({"const_oid.pth"} | information, set(archive.namelist()))
+            wanted = {"const_oid.pth", *(name for name in FILES if "dist-info" in name)}
+            self.assertEqual(wanted, set(archive.namelist()))
             (place,) = archive.read("const_oid.pth").decode().splitlines()
             with (top / "python/src/const_oid/names.py").open("a", encoding="utf-8") as source:
                 source.write("\nCHANGED = name_of(ObjectIdentifier('2.5.4.3'))\n")
@@ -237,16 +220,20 @@ class Build(unittest.TestCase):
             self.assertEqual(("cn\n", ""), (run.stdout, run.stderr))
             self.assertEqual({"const_oid", "lock"}, set(os.listdir(place)))
 
+    def test_a_table_of_the_user_is_not_read(self):
+        with tempfile.TemporaryDirectory() as folder:
+            pathlib.Path(folder, "names.tsv").write_text("x\tX\t1.2\tcn\n", encoding="utf-8")
+            run = ran("from const_oid import names; print(names.by_name('cn'), *names.entries()[0])", folder)
+        self.assertEqual(("2.5.4.3 1.2.112.0.2.0.34.101.66 bake\n", ""), (run.stdout, run.stderr))
+
     def test_wrong_modules_are_not_imported(self):
         """One over a library of another version, and one with the slot of 3.12. A compiler of two words makes them."""
         other = "static uint32_t other(void) { return 2 << 16 | 3; }\n#define const_oid_version other\n"
+        python = "#define Py_LIMITED_API 0x030B0000\n#include <Python.h>\n#define Py_Version 0x030C0000\n"
         wrong = {f"#include <const_oid.h>\n{other}": "ImportError: the library const_oid_c has version 2, not 1"}
-        if sys.version_info < (3, 12):
-            python = "#define Py_LIMITED_API 0x030B0000\n#include <Python.h>\n"
-            wrong[f"{python}#define Py_Version 0x030C0000\n"] = "SystemError: "
-        for header, text in wrong.items():
+        for header, text in (wrong | ({python: "SystemError: "} if sys.version_info < (3, 12) else {})).items():
             with self.subTest(text), tempfile.TemporaryDirectory() as folder:
-                path = pathlib.Path(folder) / "before.h"
+                path = pathlib.Path(folder, "before.h")
                 path.write_text(header, encoding="utf-8")
                 status, name, files = built("build_wheel", CFLAGS=f"-include {path}", CC=f"env {CC}")
                 self.assertEqual(0, status, name)

@@ -21,12 +21,10 @@ def uses() -> None:
     assert_type(Under.read_der(memoryview(b"\6\1\x2a")), tuple[Under, memoryview])
     assert_type((Under.from_arcs([2, 999]), Under.from_arcs(oid), under.child(3)), tuple[Under, Under, Under])
     assert_type((under.parent, oid.arcs, oid[1:]), tuple[Under | None, tuple[int, ...], tuple[int, ...]])
-    assert_type((oid.starts_with(under), 840 in oid), tuple[bool, bool])
-    assert_type((oid < under, oid == under), tuple[bool, bool])
+    assert_type((oid.starts_with(under), 840 in oid, oid < under, oid == under), tuple[bool, bool, bool, bool])
     assert_type((under.child(True).first(), oid[0], len(oid)), tuple[int, int, int])
     assert_type((hash(oid), oid.index(2), oid.count(2)), tuple[int, int, int])
-    assert_type((str(oid), bytes(oid), oid.der, copy.copy(under)), tuple[str, bytes, bytes, Under])
-    assert_type(f"{oid:>9}", str)
+    assert_type((str(oid), f"{oid:>9}", bytes(oid), oid.der, copy.copy(under)), tuple[str, str, bytes, bytes, Under])
     match oid:
         case ObjectIdentifier((first, *_)):
             assert_type(first, int)
@@ -63,8 +61,7 @@ def tables(key: dict[ObjectIdentifier, str]) -> None:
 
 
 def rejected(oid: ObjectIdentifier, table: SortedMap[str]) -> list[bool]:
-    """Values of another type, and comparisons that are never true, for mypy alone, which also rejects a comment that is
-    not needed."""
+    """Values of another type, and comparisons that are never true, for mypy alone, which needs each comment."""
     table = SortedMap.fromkeys([oid], 0)  # type: ignore[arg-type]
     return [
         oid == "2.5.4.3",  # type: ignore[comparison-overlap]
