@@ -83,6 +83,49 @@ fn is_short(octets: &[u8], error: Option<Error>) -> bool {
     all_answer(octets, error) && is_wide == (oid.is_ok() && octets.first() >= Some(&120))
 }
 
+/// Whether a capacity has this result.
+fn has<const N: usize>(octets: &[u8], wanted: Option<Error>) -> bool
+    requires { N ≤ 2 }
+{
+    ObjectIdentifier::<N>::from_bytes_sized(octets).err() == wanted
+}
+
+/// How many slices of at most two octets have a result, of those whose first octet is one from `from` to `to`. The empty
+/// slice counts as one that begins with 0.
+fn how_many<const N: usize>(from: u8, to: u8, wanted: Option<Error>) -> usize
+    requires { N ≤ 2 }
+{
+    let mut count = usize::from(from == 0 && has::<N>(&[], wanted));
+    for first in from..=to {
+        count = count.saturating_add(usize::from(has::<N>(&[first], wanted)));
+        for second in 0..=0xFF {
+            count = count.saturating_add(usize::from(has::<N>(&[first, second], wanted)));
+        }
+    }
+    count
+}
+
+/// The least first octet and the greatest, a result, and how many slices have it at the capacities 2, 1 and 0.
+const COUNTS: &[(u8, u8, Option<Error>, [usize; 3])] = &[
+    (0, 255, None, [32_768, 128, 0]),
+    (0, 255, Some(Error::Empty), [1, 1, 1]),
+    (0, 255, Some(Error::Base128), [33_024, 33_024, 33_024]),
+    (0, 255, Some(Error::Length), [0, 32_640, 32_768]),
+    (0, 119, None, [15_480, 120, 0]),
+    (0, 119, Some(Error::Base128), [15_360, 15_360, 15_360]),
+    (120, 255, None, [17_288, 8, 0]),
+    (120, 255, Some(Error::Base128), [17_664, 17_664, 17_664]),
+];
+
+#[test]
+fn counts_short_slices(rt: HostRuntime) {
+    for (from, to, wanted, counts) in COUNTS {
+        let (two, one) = (how_many::<2>(*from, *to, *wanted), how_many::<1>(*from, *to, *wanted));
+        let found = [two, one, how_many::<0>(*from, *to, *wanted)];
+        assert!(rt; found == *counts, "{wanted:?} from {from} to {to}");
+    }
+}
+
 /// Slices of at most two octets: an accepted one does not begin with 0x80, and its last octet is below.
 #[test]
 fn reads_every_short_slice(rt: HostRuntime) {
