@@ -120,7 +120,10 @@ const COUNTS: &[(u8, u8, Option<Error>, [usize; 3])] = &[
 #[test]
 fn counts_short_slices(rt: HostRuntime) {
     for (from, to, wanted, counts) in COUNTS {
-        let (two, one) = (how_many::<2>(*from, *to, *wanted), how_many::<1>(*from, *to, *wanted));
+        let (two, one) = (
+            how_many::<2>(*from, *to, *wanted),
+            how_many::<1>(*from, *to, *wanted),
+        );
         let found = [two, one, how_many::<0>(*from, *to, *wanted)];
         assert!(rt; found == *counts, "{wanted:?} from {from} to {to}");
     }
