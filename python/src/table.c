@@ -8,15 +8,25 @@
 #define PART 64
 #endif
 
+/* How many keys later memory is fetched, before it is read. */
+#define AHEAD 8
+
 /* The most entries of a table: their indices have less than 32 bits. */
 #define MOST (UINT32_C(1) << 30)
+
+/* The start of a key, in a number whose order is that of arcs: see encode. */
+typedef struct {
+    uint64_t high;
+    uint32_t low, hash; /* of an entry, that of the key's octets */
+} Code;
 
 typedef struct {
     PyObject *key; /* an identifier, or NULL where no entry is */
     union {
         PyObject *value;
-        size_t vacant; /* of no entry: one more than the index of another one, or 0 */
+        size_t vacant; /* of no entry, an index: see add and exchange */
     };
+    Code code;
 } Entry;
 
 /* Entries with references of their own. */
@@ -24,11 +34,6 @@ typedef struct {
     Entry *entries;
     size_t count, room;
 } Run;
-
-/* The start of a key, in a number whose order is that of arcs: see encode. */
-typedef struct {
-    uint64_t high, low;
-} Code;
 
 /* The code of none of its keys is above the bound, and that of no key in a later part is below. So most searches for a
  * part read no other key. The last part needs no bound. */
@@ -67,15 +72,15 @@ typedef struct {
 
 /* ---- Entries and runs ---- */
 
+static inline int is_key(PyObject *self, PyObject *key) {
+    return is_identifier(key) || raise_wrong_type(self, "key must be an ObjectIdentifier", key);
+}
+
 static const const_oid_octets *items_of(PyObject *key) { return &((Identifier *)key)->items; }
 
 static int is_same(PyObject *left, PyObject *right) {
     const const_oid_octets *one = items_of(left), *other = items_of(right);
     return left == right || (one->len == other->len && !memcmp(one->octets, other->octets, one->len));
-}
-
-static int compare(const Entry *left, const Entry *right) {
-    return const_oid_by_arcs(items_of(left->key), items_of(right->key));
 }
 
 static void swap_values(Entry *left, Entry *right) {
@@ -84,24 +89,74 @@ static void swap_values(Entry *left, Entry *right) {
     right->value = value;
 }
 
-static Entry held(PyObject *key, PyObject *value) { return (Entry){Py_NewRef(key), {Py_NewRef(value)}}; }
-
-/* Room at the end of a run, or NULL and MemoryError. */
-static Entry *one_more(Run *run) {
-    if (run->count == run->room) {
-        size_t room = run->room + run->room / 2 + 4;
-        Entry *entries = PyMem_Realloc(run->entries, room * sizeof *entries);
-        if (!entries) return PyErr_NoMemory(), (Entry *)NULL;
-        run->entries = entries;
-        run->room = room;
-    }
-    return &run->entries[run->count++];
+/* Eight octets, in a number of their order. */
+static inline uint64_t word_of(const uint8_t *octets) {
+    uint64_t word;
+    memcpy(&word, octets, sizeof word);
+    return __BYTE_ORDER__ == __ORDER_LITTLE_ENDIAN__ ? __builtin_bswap64(word) : word;
 }
 
-static int append(Run *run, PyObject *key, PyObject *value) {
-    Entry *entry = one_more(run);
-    if (!entry) return -1;
-    *entry = held(key, value);
+/* A subidentifier of several octets comes after their number, which is above all single ones. If the codes of two keys
+ * differ, the keys are in their order. The single octets that a key begins with are found by one look. */
+static Code encode(const const_oid_octets *items) {
+    uint8_t room[16 + 5] = {0}, *number = NULL;
+    size_t at = 0;
+    if (items->len >= 8) {
+        uint64_t others = word_of(items->octets) & UINT64_C(0x8080808080808080);
+        at = others ? (size_t)__builtin_clzll(others) / 8 : 8;
+        memcpy(room, items->octets, 8); /* what is not single is overwritten */
+    }
+    for (uint8_t *out = &room[at]; at < items->len && (number || out < &room[12]); at++) {
+        uint8_t octet = items->octets[at];
+        if (!number && octet > 127) *(number = out++) = 128;
+        if (number) ++*number;
+        *out++ = octet;
+        if (octet < 128) number = NULL;
+    }
+    return (Code){word_of(room), (uint32_t)(word_of(&room[8]) >> 32), 0};
+}
+
+static int compare_codes(Code left, Code right) {
+    if (left.high != right.high) return left.high < right.high ? -1 : 1;
+    return (left.low > right.low) - (left.low < right.low);
+}
+
+/* Compares the key of an entry with some items and their code. */
+static inline int compare(const Entry *entry, const const_oid_octets *items, Code code) {
+    int order = compare_codes(entry->code, code);
+    return order ? order : const_oid_by_arcs(items_of(entry->key), items);
+}
+
+static inline int compare_entries(const Entry *left, const Entry *right) {
+    return compare(left, items_of(right->key), right->code);
+}
+
+/* Python keeps the hash of bytes, which has its seed. */
+static uint32_t hash_of(PyObject *key) { return (uint32_t)PyObject_Hash(((Identifier *)key)->octets); }
+
+/* The code of an entry, with the hash. */
+static inline Code code_of(PyObject *key) {
+    Code code = encode(items_of(key));
+    code.hash = hash_of(key);
+    return code;
+}
+
+/* Makes room for more entries, or raises MemoryError. */
+static int reserve_run(Run *run, size_t more) {
+    size_t room = run->count + run->count / 2 + more;
+    Entry *entries = PyMem_Realloc(run->entries, room * sizeof *entries);
+    if (!entries) return PyErr_NoMemory(), -1;
+    run->entries = entries;
+    run->room = room;
+    return 0;
+}
+
+/* Appends an entry, whose code comes later. */
+static inline int append(Run *run, PyObject *key, PyObject *value) {
+    if (run->count == run->room && reserve_run(run, 4)) return -1;
+    Entry *entry = &run->entries[run->count++];
+    entry->key = Py_NewRef(key);
+    entry->value = Py_NewRef(value);
     return 0;
 }
 
@@ -116,57 +171,48 @@ static void drop(Run *run) {
     PyMem_Free(run->entries);
 }
 
+/* Gives entries their codes. Whether each key comes after the one before it. */
+static int encode_all(Run *run) {
+    Entry *entries = run->entries;
+    int is_in_order = 1;
+    for (size_t index = 0; index < run->count; index++) {
+        if (index + 2 * AHEAD < run->count) __builtin_prefetch(entries[index + 2 * AHEAD].key);
+        if (index + AHEAD < run->count) __builtin_prefetch(items_of(entries[index + AHEAD].key)->octets);
+        entries[index].code = code_of(entries[index].key);
+        if (index) is_in_order &= compare_entries(&entries[index - 1], &entries[index]) < 0;
+    }
+    return is_in_order;
+}
+
 /* Sorts entries, of which equal ones stay in turn, with room for half of them. */
 static void sort(Entry *entries, size_t count, Entry *room) {
     size_t half = count / 2, left = 0, right = half;
     if (count < 2) return;
     sort(entries, half, room);
     sort(&entries[half], count - half, room);
-    if (compare(&entries[half - 1], &entries[half]) <= 0) return;
+    if (compare_entries(&entries[half - 1], &entries[half]) <= 0) return;
     memcpy(room, entries, half * sizeof *entries);
     for (Entry *out = entries; left < half; out++) {
-        int is_right = right < count && compare(&entries[right], &room[left]) < 0;
+        int is_right = right < count && compare_entries(&entries[right], &room[left]) < 0;
         *out = is_right ? entries[right++] : room[left++];
     }
 }
 
-/* Moves the first of equal keys, which are neighbours, to the front, with the last of their values. How many these are:
- * the other keys and values come after them. */
-static uint32_t unite(Run *run) {
-    size_t last = 0;
-    for (size_t index = 1; index < run->count; index++) {
-        Entry *entry = &run->entries[index];
-        if (is_same(run->entries[last].key, entry->key)) {
-            swap_values(&run->entries[last], entry);
-        } else if (++last < index) {
-            Entry next = *entry;
-            *entry = run->entries[last];
-            run->entries[last] = next;
-        }
-    }
-    return (uint32_t)(run->count ? last + 1 : 0);
-}
-
-/* Sorts a run, and unites equal keys. */
-static int put_in_order(Run *run, uint32_t *count) {
-    size_t sorted = 1;
-    while (sorted < run->count && compare(&run->entries[sorted - 1], &run->entries[sorted]) < 0) sorted++;
-    if (sorted >= run->count) return *count = (uint32_t)run->count, 0;
-    Entry *room = PyMem_Malloc((run->count / 2) * sizeof *room);
-    if (!room) return -1;
+/* Sorts a run, if there is memory for it. Whether it is in order then, which it is not if two keys are equal. */
+static int put_in_order(Run *run) {
+    Entry *room = PyMem_Malloc(run->count / 2 * sizeof *room);
+    if (!room) return 0;
     sort(run->entries, run->count, room);
     PyMem_Free(room);
-    *count = unite(run);
-    return 0;
+    size_t index = 1;
+    while (index < run->count && !is_same(run->entries[index - 1].key, run->entries[index].key)) index++;
+    return index >= run->count;
 }
 
 /* ---- The hash table: open addressing, with linear probing ---- */
 
 /* No entry has it as its slot: the low bits of a slot are an index, of which there are fewer. */
 #define FREE UINT32_MAX
-
-/* Python keeps the hash of bytes, which has its seed. */
-static uint32_t hash_of(PyObject *key) { return (uint32_t)PyObject_Hash(((Identifier *)key)->octets); }
 
 /* The slot of a key, or the free one where it would be. A key's slot is found from that of the low bits of its hash on,
  * before a free one. It has these bits of an index, and the others of the hash. */
@@ -188,7 +234,7 @@ static inline Entry *lookup(const Tree *tree, PyObject *key) {
 
 /* Gives an entry, whose key has no slot, one. */
 static inline void fill_slot(Tree *tree, uint32_t index) {
-    uint32_t hash = hash_of(tree->entries[index].key), at = hash & tree->mask;
+    uint32_t hash = tree->entries[index].code.hash, at = hash & tree->mask;
     while (tree->slots[at] != FREE) at = (at + 1) & tree->mask;
     tree->slots[at] = (hash & ~tree->mask) | index;
 }
@@ -197,7 +243,7 @@ static inline void fill_slot(Tree *tree, uint32_t index) {
 static void free_slot(Tree *tree, uint32_t hole) {
     uint32_t mask = tree->mask, slot;
     for (uint32_t at = (hole + 1) & mask; (slot = tree->slots[at]) != FREE; at = (at + 1) & mask) {
-        uint32_t first = hash_of(tree->entries[slot & mask].key) & mask;
+        uint32_t first = tree->entries[slot & mask].code.hash & mask;
         if (((at - first) & mask) < ((at - hole) & mask)) continue;
         tree->slots[hole] = slot;
         hole = at;
@@ -223,8 +269,8 @@ static int reserve_slots(Tree *tree, uint32_t size) {
 }
 
 /* Makes room for more entries, which changes none. */
-static int reserve(Tree *tree, uint32_t more) {
-    size_t size = (size_t)tree->size + more, room = size + size / 8 + 3;
+static int reserve(Tree *tree, size_t more) {
+    size_t size = tree->size + more, room = size + size / 8 + 3;
     if (size > MOST) return -1;
     if (size > tree->room) {
         Entry *entries = PyMem_Realloc(tree->entries, room * sizeof *entries);
@@ -233,17 +279,6 @@ static int reserve(Tree *tree, uint32_t more) {
         tree->room = (uint32_t)room;
     }
     return reserve_slots(tree, (uint32_t)size);
-}
-
-/* Puts an entry at an index that it returns, for which there is room: one that was there, or else a new one. */
-static inline uint32_t put(Tree *tree, Entry entry) {
-    uint32_t index = tree->vacant ? tree->vacant - 1 : tree->used++;
-    if (tree->vacant) tree->vacant = (uint32_t)tree->entries[index].vacant;
-    tree->entries[index] = entry;
-    fill_slot(tree, index);
-    tree->size++;
-    tree->version++;
-    return index;
 }
 
 /* ---- The order ---- */
@@ -256,57 +291,35 @@ static inline Entry *next_entry(const Tree *tree, Place *place) {
     return place->part < count ? &tree->entries[parts[place->part].indices[place->index++]] : NULL;
 }
 
-static uint64_t big_endian(uint64_t number) {
-    return __BYTE_ORDER__ == __ORDER_LITTLE_ENDIAN__ ? __builtin_bswap64(number) : number;
-}
-
-/* A subidentifier of several octets comes after their number, which is above all single ones. If the codes of two keys
- * differ, the keys are in their order. */
-static Code encode(const const_oid_octets *items) {
-    uint8_t room[sizeof(Code) + 5] = {0}, *out = room, *number = NULL;
-    for (size_t at = 0; at < items->len && (number || out < &room[sizeof(Code)]); at++) {
-        uint8_t octet = items->octets[at];
-        if (!number && octet > 127) *(number = out++) = 128;
-        if (number) ++*number;
-        *out++ = octet;
-        if (octet < 128) number = NULL;
-    }
-    Code code;
-    memcpy(&code, room, sizeof code);
-    return (Code){big_endian(code.high), big_endian(code.low)};
-}
-
-static const const_oid_octets *last_of(const Tree *tree, uint32_t at) {
+/* The last entry of a part. */
+static Entry *last_entry(const Tree *tree, uint32_t at) {
     const Part *part = &tree->order.parts[at];
-    return items_of(tree->entries[part->indices[part->count - 1]].key);
+    return &tree->entries[part->indices[part->count - 1]];
 }
 
-/* The part for a key with some items. */
-static uint32_t find_part(const Tree *tree, const const_oid_octets *items) {
+/* The part for a key with some items and their code. */
+static uint32_t find_part(const Tree *tree, const const_oid_octets *items, Code code) {
     uint32_t first = 0;
-    Code code = encode(items);
     for (uint32_t end = tree->order.count - 1; first < end;) {
         uint32_t middle = (first + end) / 2;
-        const Code *bound = &tree->order.parts[middle].bound;
-        int is_same = bound->high == code.high && bound->low == code.low;
-        int is_before = bound->high < code.high || (bound->high == code.high && bound->low < code.low);
-        if (is_same) is_before = const_oid_by_arcs(last_of(tree, middle), items) < 0;
-        first = is_before ? middle + 1 : first;
-        end = is_before ? end : middle;
+        int order = compare_codes(tree->order.parts[middle].bound, code);
+        if (!order) order = compare(last_entry(tree, middle), items, code);
+        first = order < 0 ? middle + 1 : first;
+        end = order < 0 ? end : middle;
     }
     return first;
 }
 
-/* The place of some items: after all keys that are before them. The next two keys to ask for are read ahead. */
-static Place find(const Tree *tree, const const_oid_octets *items) {
+/* The place of some items: after all keys that are before them. That after all is found at once. */
+static Place find(const Tree *tree, const const_oid_octets *items, Code code) {
+    uint32_t last = tree->order.count - 1;
     if (!tree->size) return (Place){0, 0, 0};
-    Place place = {find_part(tree, items), 0, 0};
+    if (compare(last_entry(tree, last), items, code) < 0) return (Place){last, tree->order.parts[last].count, 0};
+    Place place = {find_part(tree, items, code), 0, 0};
     const Part *part = &tree->order.parts[place.part];
     for (uint32_t end = part->count; place.index < end;) {
-        uint32_t middle = (place.index + end) / 2, above = (middle + 1 + end) / 2;
-        __builtin_prefetch(tree->entries[part->indices[(place.index + middle) / 2]].key);
-        __builtin_prefetch(tree->entries[part->indices[above < end ? above : middle]].key);
-        int order = const_oid_by_arcs(items_of(tree->entries[part->indices[middle]].key), items);
+        uint32_t middle = (place.index + end) / 2;
+        int order = compare(&tree->entries[part->indices[middle]], items, code);
         if (!order) return (Place){place.part, middle, 1};
         if (order < 0) place.index = middle + 1;
         else end = middle;
@@ -314,13 +327,7 @@ static Place find(const Tree *tree, const const_oid_octets *items) {
     return place;
 }
 
-/* The place of an entry that is there. */
-static Place place_of(const Tree *tree, const Entry *entry) {
-    Place place = {find_part(tree, items_of(entry->key)), 0, 1};
-    const uint32_t *indices = tree->order.parts[place.part].indices;
-    while (indices[place.index] != entry - tree->entries) place.index++;
-    return place;
-}
+static Place place_of(const Tree *tree, const Entry *entry) { return find(tree, items_of(entry->key), entry->code); }
 
 /* Moves a place back. Whether there is an entry. */
 static int step_back(const Tree *tree, Place *place) {
@@ -362,28 +369,32 @@ static int make_room(Tree *tree, Place *place) {
     *second = (Part){first->bound, second->indices, PART - kept};
     memcpy(second->indices, &first->indices[kept], second->count * sizeof *second->indices);
     first->count = kept;
-    first->bound = encode(last_of(tree, place->part));
+    first->bound = last_entry(tree, place->part)->code;
     if (place->index >= kept) *place = (Place){place->part + 1, place->index - kept, 0};
     return 0;
 }
 
 /* ---- Changes ---- */
 
-/* Puts an entry in, whose key is not there. It takes over its references, or there is no memory. A key that comes after
- * all finds its place at once. */
-static int add(Tree *tree, Entry entry) {
-    uint32_t last = tree->order.count - 1;
-    int is_last = tree->size && const_oid_by_arcs(last_of(tree, last), items_of(entry.key)) < 0;
-    Place place = is_last ? (Place){last, tree->order.parts[last].count, 0} : find(tree, items_of(entry.key));
-    if (reserve(tree, 1) || make_room(tree, &place)) return -1;
+/* Puts an entry in, whose key is not there, where one was taken out, or else after all. Takes over its references and
+ * returns the index, or FREE without memory. */
+static uint32_t add(Tree *tree, Entry entry) {
+    Place place = place_of(tree, &entry);
+    if (reserve(tree, 1) || make_room(tree, &place)) return FREE;
     Part *part = &tree->order.parts[place.part];
     uint32_t *at = &part->indices[place.index];
     memmove(at + 1, at, (part->count++ - place.index) * sizeof *at);
-    *at = put(tree, entry);
-    return 0;
+    uint32_t index = *at = tree->vacant ? tree->vacant - 1 : tree->used++;
+    if (tree->vacant) tree->vacant = (uint32_t)tree->entries[index].vacant;
+    tree->entries[index] = entry;
+    fill_slot(tree, index);
+    tree->size++;
+    tree->version++;
+    return index;
 }
 
-/* Takes out the entry at a place, with its references, and its part if that has no other. */
+/* Takes out the entry at a place, with its references, and its part if that has no other. The next one that is added
+ * comes there. */
 static Entry take(Tree *tree, Place place) {
     Part *part = &tree->order.parts[place.part];
     uint32_t *at = &part->indices[place.index], index = *at;
@@ -401,95 +412,67 @@ static Entry take(Tree *tree, Place place) {
     return entry;
 }
 
-/* Makes parts for a number of indices, all full but the last. */
-static int make_parts(Order *order, uint32_t count) {
-    while (count && !add_part(order, order->count)) {
-        uint32_t here = count < PART ? count : PART;
-        order->parts[order->count - 1].count = here;
-        count -= here;
-    }
-    return count ? -1 : 0;
-}
-
-/* Fills a part with the next entries in order: those of a tree from a place on, and others. */
-static const Entry *fill(Tree *tree, uint32_t at, const Tree *before, Place *from, const Entry *added,
-    const Entry *end) {
-    Part *part = &tree->order.parts[at];
-    for (uint32_t index = 0; index < part->count; index++) {
-        Place next = *from;
-        const Entry *old = next_entry(before, &next);
-        int is_old = old && (added == end || compare(old, added) < 0);
-        part->indices[index] = is_old ? (uint32_t)(old - before->entries) : put(tree, *added++);
-        if (is_old) *from = next;
-    }
-    part->bound = encode(last_of(tree, at));
-    return added;
-}
-
-/* Adds many entries in order, whose keys are not there, and for which there is room. */
-static int add_many(Tree *tree, const Entry *added, uint32_t count) {
-    Tree after = *tree;
-    Place from = {0, 0, 0};
-    const Entry *end = &added[count];
-    after.order = (Order){0};
-    if (make_parts(&after.order, tree->size + count)) return free_order(after.order), -1;
-    for (uint32_t part = 0; part < after.order.count; part++) added = fill(&after, part, tree, &from, added, end);
-    free_order(tree->order);
-    *tree = after;
+/* Sets an entry. Gives back the value of before, or, if its key was not there, the index of what is now. */
+static int exchange(Tree *tree, Entry *entry) {
+    Entry *there = lookup(tree, entry->key);
+    if (there) return swap_values(there, entry), 0;
+    uint32_t index = add(tree, *entry);
+    if (index == FREE) return -1;
+    *entry = (Entry){.vacant = index};
     return 0;
 }
 
-/* Adds few of them, each into its part. */
-static int add_few(Tree *tree, const Entry *added, uint32_t count) {
-    uint32_t done = 0;
-    while (done < count && !add(tree, added[done])) done++;
-    if (done == count) return 0;
-    while (done--) take(tree, find(tree, items_of(added[done].key)));
-    return -1;
-}
-
-/* Moves the entries of a run whose keys a tree does not have to another one. */
-static int move_new(const Tree *tree, Run *run, Run *added) {
-    if (!tree->size) return *added = *run, *run = (Run){0}, 0;
-    for (size_t index = 0; index < run->count; index++) {
-        if (lookup(tree, run->entries[index].key)) continue;
-        Entry *entry = one_more(added);
-        if (!entry) return -1;
-        *entry = run->entries[index];
-        run->entries[index].key = NULL;
-    }
-    return 0;
-}
-
-/* Gives the keys of a run, which a tree has, their values, and the run those of before. */
-static void replace_values(const Tree *tree, Run *run) {
-    for (size_t index = 0; index < run->count; index++) {
-        Entry *entry = &run->entries[index], *there = entry->key ? lookup(tree, entry->key) : NULL;
-        if (there) swap_values(there, entry);
-    }
-}
-
-/* Sets all entries of a run, or none, with MemoryError. The run then has what is no longer needed. */
-static int update(Tree *tree, Run *run) {
-    Run added = {0};
-    uint32_t count = 0;
-    int error = move_new(tree, run, &added) || put_in_order(&added, &count) || (count && reserve(tree, count));
-    if (!error && count) {
-        int is_many = count > 1 && count > tree->size / 16;
-        error = (is_many ? add_many : add_few)(tree, added.entries, count);
-        for (uint32_t done = 0; !error && done < count; done++) added.entries[done].key = NULL;
-    }
-    if (!error) replace_values(tree, run);
-    drop(&added);
-    return error ? PyErr_NoMemory(), -1 : 0;
+/* Undoes this, for which no memory is needed. */
+static void change_back(Tree *tree, Entry *entry) {
+    if (entry->key) swap_values(lookup(tree, entry->key), entry);
+    else *entry = take(tree, place_of(tree, &tree->entries[entry->vacant]));
 }
 
 /* Gives up a tree that no table has any more. */
 static void drop_tree(Tree tree) {
-    Run run = {tree.entries, tree.used, tree.room};
+    Run run = {.entries = tree.entries, .count = tree.used};
     PyMem_Free(tree.slots);
     free_order(tree.order);
     drop(&run);
+}
+
+/* Puts entries that are in order into parts. */
+static int fill_parts(Tree *tree) {
+    for (uint32_t index = 0; index < tree->size;) {
+        Place end = {tree->order.count - 1, PART, 0};
+        if (make_room(tree, &end)) return -1;
+        Part *part = &tree->order.parts[tree->order.count - 1];
+        uint32_t left = tree->size - index, *indices = part->indices, count = left < PART ? left : PART;
+        for (uint32_t at = 0; at < count; at++) indices[at] = index + at;
+        part->count = count;
+        index += count;
+    }
+    return 0;
+}
+
+/* Gives an empty tree the entries of a run, which are in order. */
+static int fill(Tree *tree, Run *run) {
+    Entry *entries = run->count > MOST ? NULL : PyMem_Realloc(run->entries, run->count * sizeof *entries);
+    if (!entries) return -1;
+    run->entries = entries;
+    Tree other = *tree, made = {.entries = entries, .version = other.version + 1};
+    made.size = made.used = made.room = (uint32_t)run->count;
+    int error = reserve_slots(&made, made.size) || fill_parts(&made);
+    if (!error) *tree = made, *run = (Run){0};
+    else other = (Tree){.slots = made.slots, .order = made.order};
+    drop_tree(other);
+    return error;
+}
+
+/* Sets all entries of a run, or none, with MemoryError. The run then has what is no longer needed. */
+static int update(Tree *tree, Run *run) {
+    size_t done = 0;
+    int is_in_order = encode_all(run) || (!tree->size && put_in_order(run));
+    if (is_in_order && !tree->size && run->count) return fill(tree, run) ? PyErr_NoMemory(), -1 : 0;
+    while (done < run->count && !exchange(tree, &run->entries[done])) done++;
+    if (done == run->count) return 0;
+    while (done--) change_back(tree, &run->entries[done]);
+    return PyErr_NoMemory(), -1;
 }
 
 /* Puts another tree in the place of a table's, which it gives up. */
@@ -523,12 +506,6 @@ static int table_traverse(PyObject *self, visitproc visit, void *arg) {
 
 static int table_clear_all(PyObject *self) { return replace(self, (Tree){0}), 0; }
 
-static inline int is_key(PyObject *self, PyObject *key) {
-    if (is_identifier(key)) return 1;
-    raise_wrong_type(self, "key must be an ObjectIdentifier", key);
-    return 0;
-}
-
 static PyObject *raise_missing(PyObject *key) { return PyErr_SetObject(PyExc_KeyError, key), (PyObject *)NULL; }
 
 static Py_ssize_t table_len(PyObject *self) { return ((Table *)self)->tree.size; }
@@ -545,7 +522,8 @@ static PyObject *table_subscript(PyObject *self, PyObject *key) {
 
 /* Puts an entry in, whose key is not there. */
 static int add_new(Tree *tree, PyObject *key, PyObject *value) {
-    if (!add(tree, held(key, value))) return 0;
+    Entry entry = {Py_NewRef(key), {Py_NewRef(value)}, code_of(key)};
+    if (add(tree, entry) != FREE) return 0;
     Py_DecRef(value);
     Py_DecRef(key);
     return PyErr_NoMemory(), -1;
@@ -554,7 +532,7 @@ static int add_new(Tree *tree, PyObject *key, PyObject *value) {
 static int table_set(PyObject *self, PyObject *key, PyObject *value) {
     Tree *tree = &((Table *)self)->tree;
     if (!is_key(self, key)) return -1;
-    Entry *there = lookup(tree, key), entry = {NULL, {value}};
+    Entry *there = lookup(tree, key), entry = {.value = value};
     if (!there) return value ? add_new(tree, key, value) : (raise_missing(key), -1);
     if (value) swap_values(there, &entry), Py_IncRef(value);
     else entry = take(tree, place_of(tree, there));
@@ -613,18 +591,18 @@ WITH_KEY(table_setdefault) {
     return add_new(tree, key, value) ? NULL : Py_NewRef(value);
 }
 
-/* A tuple of an entry, whose references it takes over. */
-static PyObject *pair_of(Entry entry) {
+/* A tuple of a key and a value, whose references it takes over. */
+static PyObject *pair_of(PyObject *key, PyObject *value) {
     PyObject *pair = PyTuple_New(2);
-    if (!pair) return Py_DecRef(entry.value), Py_DecRef(entry.key), (PyObject *)NULL;
-    PyTuple_SetItem(pair, 0, entry.key);
-    PyTuple_SetItem(pair, 1, entry.value);
+    if (!pair) return Py_DecRef(value), Py_DecRef(key), (PyObject *)NULL;
+    PyTuple_SetItem(pair, 0, key);
+    PyTuple_SetItem(pair, 1, value);
     return pair;
 }
 
 /* The tuple of an entry that is there, which may go while the tuple is made. */
 static __attribute__((noinline)) PyObject *pair_of_entry(const Entry *entry) {
-    return pair_of(held(entry->key, entry->value));
+    return pair_of(Py_NewRef(entry->key), Py_NewRef(entry->value));
 }
 
 /* The tuple is made first, which may run code that changes the table. */
@@ -650,7 +628,7 @@ static PyObject *table_clear(PyObject *self, PyObject *Py_UNUSED(none)) {
 WITH_KEY(table_nearest) {
     READ("O:nearest", 1, "oid");
     for (const_oid_octets above = *items_of(key); above.len;) {
-        Place place = find(tree, &above);
+        Place place = find(tree, &above, encode(&above));
         if (!place.is_there && !step_back(tree, &place)) break;
         const Entry *entry = next_entry(tree, &place);
         const const_oid_octets *last = items_of(entry->key);
@@ -664,7 +642,7 @@ WITH_KEY(table_nearest) {
 
 WITH_KEY(table_next_after) {
     READ("O:next_after", 1, "oid");
-    Place place = find(tree, items_of(key));
+    Place place = find(tree, items_of(key), encode(items_of(key)));
     place.index += (uint32_t)place.is_there;
     const Entry *entry = next_entry(tree, &place);
     return entry ? pair_of_entry(entry) : Py_NewRef(Py_None);
@@ -687,7 +665,7 @@ static PyObject *list_of(Run *run, int error, Py_ssize_t each) {
     for (size_t index = 0; each == 1 && !error && index < run->count; index++) {
         Entry *entry = &run->entries[index], taken = *entry;
         *entry = (Entry){0};
-        error = !(entry->key = pair_of(taken));
+        error = !(entry->key = pair_of(taken.key, taken.value));
     }
     PyObject *list = error ? NULL : PyList_New(each * (Py_ssize_t)run->count);
     for (Py_ssize_t index = 0; list && index < (Py_ssize_t)run->count; index++) {
@@ -702,7 +680,7 @@ static PyObject *list_of(Run *run, int error, Py_ssize_t each) {
 WITH_KEY(table_subtree) {
     READ("O:subtree", 1, "oid");
     Run run = {0};
-    return list_of(&run, append_all(tree, find(tree, items_of(key)), items_of(key), &run), 1);
+    return list_of(&run, append_all(tree, find(tree, items_of(key), encode(items_of(key))), items_of(key), &run), 1);
 }
 
 static PyObject *table_flat(PyObject *self, PyObject *Py_UNUSED(none)) {
@@ -753,10 +731,9 @@ static int collect_items(PyObject *self, PyObject *items, PyObject *mapping, Run
 /* Those of a dict, while no code of Python runs. */
 static int collect_dict(PyObject *self, PyObject *given, Run *run) {
     PyObject *key, *value;
-    int error = 0;
-    for (Py_ssize_t at = 0; !error && PyDict_Next(given, &at, &key, &value);) {
-        error = !is_key(self, key) || append(run, key, value);
-    }
+    Py_ssize_t at = 0;
+    int error = reserve_run(run, (size_t)PyDict_Size(given));
+    while (!error && PyDict_Next(given, &at, &key, &value)) error = !is_key(self, key) || append(run, key, value);
     return error ? -1 : 0;
 }
 
@@ -845,6 +822,7 @@ static __attribute__((noinline)) PyObject *walk_on(Walk *walk) {
     walk->at = walk->step == 1 ? 0 : part->count - 1;
     walk->end = walk->at + part->count * walk->step;
     walk->left -= part->count;
+    for (uint32_t at = 0; at < part->count; at++) __builtin_prefetch(tree->entries[part->indices[at]].key);
     return walk_next((PyObject *)walk);
 }
 
@@ -855,8 +833,8 @@ static PyObject *walk_next(PyObject *self) {
     if (tree->version != walk->version) return walk_on(walk);
     const Entry *entry = &tree->entries[walk->indices[walk->at]];
     walk->at += walk->step;
-    if (walk->kind == ENTRIES) return pair_of_entry(entry);
-    return Py_NewRef(walk->kind == VALUES ? entry->value : entry->key);
+    if (walk->kind == KEYS) return Py_NewRef(entry->key);
+    return walk->kind == VALUES ? Py_NewRef(entry->value) : pair_of_entry(entry);
 }
 
 static PyObject *walk_hint(PyObject *self, PyObject *Py_UNUSED(none)) {

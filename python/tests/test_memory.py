@@ -136,6 +136,7 @@ HELD = 6000 * KEPT  # so that a reference given up too often frees none
 
 def measured():
     """Octets in use, references of all objects, which a debug build counts, and those of each that is kept."""
+    (getattr(sys, "_clear_internal_caches", None) or sys._clear_type_cache)()  # of names that pickles make anew
     gc.collect()
     counts = [sys.getrefcount(value) for value in KEPT]
     return tracemalloc.get_traced_memory()[0], getattr(sys, "gettotalrefcount", int)(), counts

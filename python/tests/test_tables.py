@@ -86,8 +86,8 @@ class Names(unittest.TestCase):
 
 
 def drawn(draw):
-    """A short identifier, or, with a long start, one above 255 octets."""
-    start = draw.choice([(), (), 60 * (2**32 - 1,)])
+    """An identifier: a short one, or one above 255 octets, or one with the end of its code within an arc."""
+    start = draw.choice([(), (), 60 * (2**32 - 1,), (*draw.randint(5, 16) * (1,), 2**32 - 1)])
     arcs = draw.choices([1, 2, 200, 201, 16_383, 16_384], k=draw.randint(1, 5))
     return ObjectIdentifier.from_arcs((2, *start, *arcs))
 
@@ -163,7 +163,7 @@ ENDS = {
     "keys": (lambda index: EndingKey(KEYS[index]), int),
     "weak references": (lambda index: WatchedKey(KEYS[index]), WatchedValue),
 }
-GARBAGE = {f"garbage at {count}": (KEYS.__getitem__, int, count) for count in range(1, 9)}
+GARBAGE = {f"garbage {count}": (lambda key: ObjectIdentifier(str(KEYS[key])), float, count) for count in range(1, 9)}
 
 
 def plain(found):
@@ -211,6 +211,7 @@ def outcome(calls, key=KEYS.__getitem__, new=int, garbage_at=0, kind=SortedMap):
             found[number] = result_of(call, table, key, lambda: new(number))
 
     STEP[0] = step
+    kept = [(number, left) for number in range(2100 if garbage_at else 0)]  # Python has no tuple that was used before
     if garbage_at:
         (cycle := [Ending()]).append(cycle)
         del cycle
@@ -218,7 +219,7 @@ def outcome(calls, key=KEYS.__getitem__, new=int, garbage_at=0, kind=SortedMap):
     while left:
         step()
     gc.set_threshold(0)
-    STEP[0] = int
+    STEP[0], kept = int, None
     return found, plain(table)
 
 
@@ -257,7 +258,9 @@ class Sorted(unittest.TestCase):
         self.assertEqual(f"SortedMap({{{oid!r}: 1, {oid.child(1)!r}: {{...}}}})", repr(table))
         bare, table = SortedMap.__new__(SortedMap), SortedMap.fromkeys(KEYS)
         self.assertEqual(([[]] * 7, None, table), ([*readings(bare)], bare.update(table), bare))
-        self.assertEqual((KEYS[::-1], 8), ([*reversed(table)], operator.length_hint(iter(table))))
+        self.assertEqual((KEYS[::-1], None, {}), ([*reversed(table)], bare.__init__(), bare))
+        given = type("Others", (dict,), {"__iter__": None, "keys": lambda _: KEYS[:2]})(dict(zip(KEYS, range(3))))
+        self.assertEqual(dict(given), SortedMap(given))
 
     def test_copies_are_apart(self):
         """A map is no part of what it was made from, nor of its copies, which have the attributes of a subclass."""
@@ -265,7 +268,8 @@ class Sorted(unittest.TestCase):
         source = {one: values}
         table = Attributes(source)
         table.name, table.slot = "name", [2]
-        shared, apart = [table.copy(), copy.copy(table), table | {}, {} | table], copies_of(table, range(2, 6))
+        with mock.patch.object(Attributes, "__init__", own):
+            shared, apart = [table.copy(), copy.copy(table), table | {}, {} | table], copies_of(table, range(2, 6))
         for made in shared + apart:
             self.assertEqual((Attributes, "name", [2]), (type(made), made.name, made.slot))
         for made in [*shared, SortedMap(table), *apart]:
@@ -288,19 +292,22 @@ class Sorted(unittest.TestCase):
         again["all"] = lambda table, key, new: (table.clear(), table.update(zip(map(key, range(0, 8, 2)), "abcd")))
         orders = iter, reversed, lambda table: iter(table.items()), lambda table: reversed(table.values())
         for (name, change), order, count in itertools.product((CHANGES | again).items(), orders, range(6)):
-            table = SortedMap.fromkeys(KEYS[::2])
+            table = SortedMap(dict.fromkeys(KEYS[::2]))
             entries, before = order(table), list(table)
             self.assertEqual([*order(table)][:count], [*itertools.islice(entries, count)])
+            self.assertEqual(max(4 - count, 0), operator.length_hint(entries))
             result_of(change, table, KEYS.__getitem__, int)
             if count < 5 and (list(table) != before or name in again):
                 errors = {repr(error_of(next, entries)) for _ in range(2)}
                 self.assertEqual({"RuntimeError('SortedMap changed during iteration')"}, errors, (name, order, count))
             else:
                 self.assertEqual([*order(table)][count:] if count < 5 else [], [*entries], (name, order, count))
+        entries, _ = iter(bare := SortedMap.__new__(SortedMap)), bare.update({KEYS[0]: 1})
+        self.assertIsInstance(error_of(next, entries), RuntimeError)
 
     @unittest.skipUnless(_testcapi, "Python's module for tests of its C API is not installed")
     def test_a_change_is_done_or_not(self):
-        """Without memory, a map is as before, also where a part is full, and no reference is kept."""
+        """Without memory, a map is as before, also where a part is full, and no reference is kept, nor memory."""
         kept = [*KEYS, value := (KEYS,)]
         given = KEYS.__getitem__, itertools.repeat(value).__next__
         gc.collect()  # which frees what other tests left
@@ -315,6 +322,11 @@ class Sorted(unittest.TestCase):
                 self.assertEqual((len(wanted), wanted), (len(table), [*table.items()]), call)
             table = found = wanted = None
             self.assertEqual(counts, [*map(sys.getrefcount, kept)], call)
+        entries = dict.fromkeys(KEYS), 2 * [*zip(KEYS, KEYS)]
+        for number in range(40):
+            _ = [*without_memory(lambda given: (SortedMap(given[0]), SortedMap(given[1])), lambda: entries)]
+            before = sys.getallocatedblocks() if number < 10 else before
+        self.assertLess(sys.getallocatedblocks(), before + 15)
 
     def test_changes_meet_each_other(self):
         """What ends within a change makes another, and that a third. Each is as if one came after another."""
@@ -365,7 +377,7 @@ class Sorted(unittest.TestCase):
         made = [SortedMap(others), SortedMap.fromkeys(keys), SortedMap(table), SortedMap([*table.items()]), table | {}]
         for one in (table, *made, {} | table, table.copy(), copy.copy(table), *copies_of(table)):
             self.assertEqual([*map(str, KEYS)], [*map(str, one)])
-        self.assertTrue(table == table.copy() != SortedMap(others))
+        self.assertTrue(table == SortedMap(zip(map(Own, map(str, KEYS)), range(8))) != SortedMap(others))
         self.assertIs(AssertionError, type(error_of(OwnMap.fromkeys, KEYS)))  # as dict does
         for name, call in CALLS.items():
             calls = [(0, call)]
@@ -404,24 +416,34 @@ class Sorted(unittest.TestCase):
                 self.assertEqual(getattr(table.copy(), name)(*given.values()), getattr(table, name)(**given))
         self.assertEqual((["entries"], table), ([*inspect.signature(SortedMap).parameters], SortedMap(entries=table)))
 
+    def test_keys_of_one_hash_are_apart(self):
+        """A map keeps 32 bits of a hash, which two of a million keys have in common."""
+        seen = {}
+        for oid in (ObjectIdentifier.from_arcs((2, arc)) for arc in range(2**20)):
+            if (other := seen.setdefault(hash(oid) % 2**32, oid)) is not oid:
+                break
+        table = SortedMap({oid: 1, other: 2, KEYS[0]: 3})
+        self.assertEqual((1, 2, None, 1), (table[oid], table.pop(other), table.get(other), table.pop(oid)))
+
+
+class Costs(unittest.TestCase):
     def test_its_size_is_that_of_its_memory(self):
         keys = [ObjectIdentifier(f"2.{arc}") for arc in range(3000)]
         orders = keys, keys[::-1], random.Random(SEED).sample(keys, 3000)
         tracemalloc.start()
         self.addCleanup(tracemalloc.stop)
-        for order, left in itertools.product(orders, (3000, 300, 0)):
+        for order, left, at_once in itertools.product(orders, (3000, 300, 0), (0, 3000)):
             before, table = tracemalloc.get_traced_memory()[0], SortedMap()
-            for key in order:
+            table.update((key, None) for key in order[:at_once])
+            for key in order[at_once:]:
                 table[key] = None
             for key in order[left:]:
                 del table[key]
             size = tracemalloc.get_traced_memory()[0] - before
             self.assertAlmostEqual(size, sys.getsizeof(table), delta=200)
-            self.assertEqual((sorted(order[:left]), True), ([*table], size < 3000 * 80))
+            self.assertEqual((sorted(order[:left]), True), ([*table], size < 3000 * 64))
             del table
 
-
-class Times(unittest.TestCase):
     def test_a_long_identifier_is_found_in_linear_time(self):
         """The search for a prefix makes not all prefixes of what it is given, nor of what that shares with a key."""
         oid, long = ObjectIdentifier.from_bytes(bytes(500_000)), ObjectIdentifier.from_bytes(bytes(499_999))

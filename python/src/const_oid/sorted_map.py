@@ -46,11 +46,8 @@ class SortedMap(Table[Value], MutableMapping[ObjectIdentifier, Value]):
         SortedMap({ObjectIdentifier('2.5'): 1})
         """
         made = cast("SortedMap[Other]", cls())
-        if type(made) is SortedMap:
-            made.update((key, value) for key in keys)
-        else:
-            for key in keys:
-                made[key] = value
+        for key in keys:
+            made[key] = value
         return made
 
     def keys(self) -> "_Keys":
