@@ -453,30 +453,6 @@ static PyObject *wrong_component(PyObject *Py_UNUSED(module), PyObject *text) {
     return PyLong_FromSize_t(status.len);
 }
 
-PyDoc_STRVAR(identifier_doc,
-    "ObjectIdentifier(text)\n--\n\n"
-    "An object identifier: at least two arcs of 32 bits.\n\n"
-    "The constructor parses dotted text of any length, or returns an identifier that it is given.\n\n"
-    ">>> oid = ObjectIdentifier(\"2.999.3\")\n\n"
-    "It is an immutable sequence of its arcs (collections.abc.Sequence).\n\n"
-    ">>> len(oid), oid[1], oid[-2:], list(oid), 999 in oid\n"
-    "(3, 999, (999, 3), [2, 999, 3], True)\n\n"
-    "It is hashable, and ordered by its arcs, as in SNMP. No tuple or text equals it.\n\n"
-    ">>> sorted(map(ObjectIdentifier, [\"1.10\", \"1.2.3\", \"1.2\"]))\n"
-    "[ObjectIdentifier('1.2'), ObjectIdentifier('1.2.3'), ObjectIdentifier('1.10')]\n"
-    ">>> match oid:\n"
-    "...     case ObjectIdentifier((2, 999, *rest)):\n"
-    "...         print(rest)\n"
-    "[3]\n\n"
-    "Patterns have arcs, and `in` seeks one: `case ObjectIdentifier(\"2.999.3\")` never matches.\n\n"
-    "What makes an identifier of a subclass (from_bytes, parent, a copy ..) calls it with an ObjectIdentifier, so its\n"
-    "__init__ runs. Copies and pickles then also get the attributes.\n\n"
-    ">>> class Named(ObjectIdentifier):\n"
-    "...     def __init__(self, text):\n"
-    "...         self.name = names.name_of(ObjectIdentifier(text))\n"
-    ">>> Named(\"2.5.4\").child(3).name\n"
-    "'cn'");
-
 static PyMethodDef identifier_methods[] = {
     {"from_bytes", identifier_from_bytes, METH_O | METH_CLASS,
         "from_bytes($type, octets, /)\n--\n\n"
@@ -487,8 +463,7 @@ static PyMethodDef identifier_methods[] = {
     {"from_der", identifier_from_der, METH_O | METH_CLASS,
         "from_der($type, octets, /)\n--\n\n"
         "Decodes a whole element of DER: the tag 6, the length and the contents octets, with nothing after them.\n\n"
-        ">>> ObjectIdentifier.from_der(b\"\\x06\\x03\\x2a\\x86\\x48\")\n"
-        "ObjectIdentifier('1.2.840')"},
+        ">>> ObjectIdentifier.from_der(b\"\\x06\\x03\\x2a\\x86\\x48\")\nObjectIdentifier('1.2.840')"},
     {"read_der", identifier_read_der, METH_O | METH_CLASS,
         "read_der($type, octets, /)\n--\n\n"
         "Decodes the element that octets begin with, and returns the identifier and the octets after it. Those of a\n"
@@ -500,13 +475,10 @@ static PyMethodDef identifier_methods[] = {
         "from_arcs($type, arcs, /)\n--\n\n"
         "Encodes arcs. One past 32 bits has the same error as in text, and a negative one is a ValueError. All arcs\n"
         "are read first, so those without an end take all memory.\n\n"
-        ">>> ObjectIdentifier.from_arcs([1, 2, 840])\n"
-        "ObjectIdentifier('1.2.840')"},
+        ">>> ObjectIdentifier.from_arcs([1, 2, 840])\nObjectIdentifier('1.2.840')"},
     {"child", identifier_child, METH_O,
-        "child($self, arc, /)\n--\n\n"
-        "The child with one more arc, which is its last.\n\n"
-        ">>> ObjectIdentifier(\"1.2\").child(840)\n"
-        "ObjectIdentifier('1.2.840')"},
+        "child($self, arc, /)\n--\n\nThe child with one more arc, which is its last.\n\n"
+        ">>> ObjectIdentifier(\"1.2\").child(840)\nObjectIdentifier('1.2.840')"},
     {"starts_with", identifier_starts_with, METH_O,
         "starts_with($self, prefix, /)\n--\n\n"
         "Whether the arcs begin with those of a prefix: whether it is this identifier or an ancestor.\n\n"
@@ -514,15 +486,11 @@ static PyMethodDef identifier_methods[] = {
         ">>> [oid.starts_with(ObjectIdentifier(text)) for text in (\"1.2\", \"1.2.840\", \"1.28\")]\n"
         "[True, True, False]"},
     {"index", identifier_index, METH_VARARGS,
-        "index($self, arc, start=0, stop=sys.maxsize, /)\n--\n\n"
-        "The first index of an arc, or a ValueError.\n\n"
-        ">>> ObjectIdentifier(\"1.2.840.2\").index(2)\n"
-        "1"},
+        "index($self, arc, start=0, stop=sys.maxsize, /)\n--\n\nThe first index of an arc, or a ValueError.\n\n"
+        ">>> ObjectIdentifier(\"1.2.840.2\").index(2)\n1"},
     {"count", identifier_count, METH_O,
-        "count($self, arc, /)\n--\n\n"
-        "How often an arc occurs.\n\n"
-        ">>> ObjectIdentifier(\"1.2.840.2\").count(2)\n"
-        "2"},
+        "count($self, arc, /)\n--\n\nHow often an arc occurs.\n\n"
+        ">>> ObjectIdentifier(\"1.2.840.2\").count(2)\n2"},
     {"__bytes__", identifier_bytes, METH_NOARGS, "__bytes__($self, /)\n--\n\nThe contents octets."},
     {"__format__", identifier_format, METH_O, "__format__($self, specification, /)\n--\n\nFormats str(self)."},
     {"__copy__", identifier_copied, METH_NOARGS, "__copy__($self, /)\n--\n\nItself, unless of a subclass."},
@@ -537,17 +505,13 @@ static PyMethodDef identifier_methods[] = {
 
 static PyGetSetDef identifier_properties[] = {
     {"arcs", identifier_arcs, NULL,
-        "All arcs, as a tuple.\n\n"
-        ">>> ObjectIdentifier(\"2.999\").arcs\n"
-        "(2, 999)", NULL},
+        "All arcs, as a tuple.\n\n>>> ObjectIdentifier(\"2.999\").arcs\n(2, 999)", NULL},
     {"der", identifier_der, NULL,
         "The element of DER: the tag 6, the length and the contents octets.\n\n"
-        ">>> ObjectIdentifier(\"1.2.840\").der\n"
-        "b'\\x06\\x03*\\x86H'", NULL},
+        ">>> ObjectIdentifier(\"1.2.840\").der\nb'\\x06\\x03*\\x86H'", NULL},
     {"parent", identifier_parent, NULL,
         "The parent: all arcs except the last. None if there are only two.\n\n"
-        ">>> ObjectIdentifier(\"1.2.840\").parent\n"
-        "ObjectIdentifier('1.2')", NULL},
+        ">>> ObjectIdentifier(\"1.2.840\").parent\nObjectIdentifier('1.2')", NULL},
     {0},
 };
 
@@ -557,7 +521,23 @@ static PyMemberDef identifier_members[] = {
 };
 
 static PyType_Slot identifier_slots[] = {
-    {Py_tp_doc, (void *)identifier_doc},
+    {Py_tp_doc,
+        "ObjectIdentifier(text)\n--\n\nAn object identifier: at least two arcs of 32 bits.\n\n"
+        "The constructor parses dotted text of any length, or returns an identifier that it is given.\n\n"
+        ">>> oid = ObjectIdentifier(\"2.999.3\")\n\n"
+        "It is an immutable sequence of its arcs (collections.abc.Sequence).\n\n"
+        ">>> len(oid), oid[1], oid[-2:], list(oid), 999 in oid\n(3, 999, (999, 3), [2, 999, 3], True)\n\n"
+        "It is hashable, and ordered by its arcs, as in SNMP. No tuple or text equals it.\n\n"
+        ">>> sorted(map(ObjectIdentifier, [\"1.10\", \"1.2.3\", \"1.2\"]))\n"
+        "[ObjectIdentifier('1.2'), ObjectIdentifier('1.2.3'), ObjectIdentifier('1.10')]\n"
+        ">>> match oid:\n...     case ObjectIdentifier((2, 999, *rest)):\n...         print(rest)\n[3]\n\n"
+        "Patterns have arcs, and `in` seeks one: `case ObjectIdentifier(\"2.999.3\")` never matches.\n\n"
+        "What makes an identifier of a subclass (from_bytes, parent, a copy ..) calls it with an ObjectIdentifier, so "
+        "its\n__init__ runs. Copies and pickles then also get the attributes.\n\n"
+        ">>> class Named(ObjectIdentifier):\n"
+        "...     def __init__(self, text):\n"
+        "...         self.name = names.name_of(ObjectIdentifier(text))\n"
+        ">>> Named(\"2.5.4\").child(3).name\n'cn'"},
     {Py_tp_new, (void *)identifier_new},
     {Py_tp_dealloc, (void *)identifier_dealloc},
     {Py_tp_str, (void *)identifier_str},
